@@ -1,0 +1,9 @@
+pub mod TextLemmas
+pub mod TableLemmas
+pub mod ComponentLemmas
+pub mod StarLemmas
+pub mod NameLemmas
+pub mod SideLemmas
+pub mod PartsLemmas
+pub mod ReasonLemmas
+pub mod ReadsLemmas

@@ -1,0 +1,63 @@
+-- How many stars a text has.
+use Rattle.std.proofs.Common.{◌≡◌, ◌≢◌, ℕ, ◌+◌, ◌==◌, cond, List, [], ◌∷◌, refl, sym, ap, ◌∙◌, inl, inr, zero-add, arith}
+use Rattle.std.specs.List.{count_by}
+use Rattle.std.proofs.lemmas.Bool.{cases_eq, eq-eqb, ne_eqb}
+use Rattle.std.proofs.lemmas.List.Sums.{sum_by-append}
+use Rattle.gix_refspec.specs.Text.{Lacks}
+use Rattle.gix_refspec.specs.Name.{star, letter, HasOneStar}
+
+stars : List ℕ → ℕ
+stars x = count_by (λ b. b == star) x
+
+stars-cons : (b : ℕ) (x : List ℕ) → stars (b ∷ x) ≡ cond (b == star) 1 0 + stars x
+unfolding stars
+stars-cons b x = sum_by-append (λ c. cond (c == star) 1 0) (b ∷ []) x ∙ ap (λ n. n + stars x) (zero-add (cond (b == star) 1 0))
+
+stars-star : (b : ℕ) (x : List ℕ) → b ≡ star → stars (b ∷ x) ≡ 1 + stars x
+stars-star b x same = stars-cons b x ∙ ap (λ t. cond t 1 0 + stars x) (eq-eqb b star same)
+
+stars-other : (b : ℕ) (x : List ℕ) → b ≢ star → stars (b ∷ x) ≡ stars x
+stars-other b x other = let one_more : stars (b ∷ x) ≡ 0 + stars x = stars-cons b x ∙ ap (λ t. cond t 1 0 + stars x) (ne_eqb b star other) in omega (arith, one_more)
+
+Lacks-no_stars : (x : List ℕ) → stars x ≡ 0 → Lacks star x
+Lacks-no_stars [] none = tt
+Lacks-no_stars (b ∷ x) none =
+    elim (cases_eq b star) [
+      | inl same ↦ let more = stars-star b x same in absurd (omega (arith, more, none))
+      | inr other ↦ (other, Lacks-no_stars x (sym (stars-other b x other) ∙ none))
+    ]
+
+-- a star in front of a text without one
+star_in_front : (b : ℕ) (x : List ℕ) → b ≡ star → stars (b ∷ x) ≡ 1 → HasOneStar (b ∷ x)
+star_in_front b x same one =
+    let more = stars-star b x same in
+    let none : stars x ≡ 0 = omega (arith, more, one) in
+    (letter ∷ x, record { before = []; after = x; starred = ap (λ c. c ∷ x) same; replaced = refl; first = tt; last = Lacks-no_stars x none })
+
+-- another byte in front of a text with one star
+one_behind : (b : ℕ) (x : List ℕ) → b ≢ star → HasOneStar x → HasOneStar (b ∷ x)
+one_behind b x other one = (
+  b ∷ one.0,
+  record {
+    before = b ∷ one.1.before;
+    after = one.1.after;
+    starred = ap (λ y. b ∷ y) one.1.starred;
+    replaced = ap (λ y. b ∷ y) one.1.replaced;
+    first = (other, one.1.first);
+    last = one.1.last;
+  },
+)
+
+one_star : (x : List ℕ) → stars x ≡ 1 → HasOneStar x
+unfolding stars
+one_star [] one = absurd (omega (arith, one))
+one_star (b ∷ x) one =
+    elim (cases_eq b star) [
+      | inl same ↦ star_in_front b x same one
+      | inr other ↦ one_behind b x other (one_star x (sym (stars-other b x other) ∙ one))
+    ]
+
+-- a text in which one star is counted has one
+pub HasOneStar-count_by : (x : List ℕ) → count_by (λ b. b == star) x ≡ 1 → HasOneStar x
+unfolding stars
+HasOneStar-count_by x one = one_star x one

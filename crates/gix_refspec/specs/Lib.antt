@@ -1,0 +1,12 @@
+pub mod Text
+pub mod Name
+pub mod PatternError
+pub mod Scan
+pub mod Reading
+pub mod Grammar
+pub mod Refusal
+pub mod Meaning
+pub mod Views
+pub mod Spec
+pub mod Pieces
+pub mod Sides

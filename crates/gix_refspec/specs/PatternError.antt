@@ -1,0 +1,10 @@
+-- Why a text with one star is no pattern.
+use Rattle.std.specs.Prelude.{◌<◌, ℕ, List, length}
+use Rattle.gix_refspec.specs.declared.name.PatternError.{PatternError}
+use Rattle.gix_refspec.specs.declared.name.PatternError.TheVariants.{Name, Memory}
+use Rattle.gix_refspec.specs.Name.{HasFault, ReplacesStar}
+
+-- the text with the letter for its star has the fault; or it is too long to be copied without memory
+abbrev pub Explains : PatternError → List ℕ → Type 0
+Explains (Name fault) x = (y : List ℕ) × ReplacesStar x y × HasFault y fault
+Explains Memory x = 256 < length x

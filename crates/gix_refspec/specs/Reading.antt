@@ -1,0 +1,28 @@
+-- What a refspec is read as, and why one is refused, apart from where the bytes lie.
+use Rattle.std.specs.Prelude.{ℕ, List, Option}
+use Rattle.gix_refspec.specs.declared.name.Error.{Error}
+use Rattle.gix_refspec.specs.declared.parsing.Operation.{Operation}
+
+-- what the sign says: none, `+` or `^`
+pub data Mode : Type 0 where
+  Normal : Mode
+  Forced : Mode
+  Negative : Mode
+
+-- each side is a text, or missing
+pub record Reading : Type 0 where
+  pub operation : Operation
+  pub mode : Mode
+  pub source : Option (List ℕ)
+  pub destination : Option (List ℕ)
+
+-- a refusal of the grammar
+pub data Refusal : Type 0 where
+  Empty : Refusal
+  NegativeWithDestination : Refusal
+  PushToEmpty : Refusal
+  PatternUnsupported : List ℕ → Refusal
+  ReferenceName : Error → Refusal
+  PatternUnbalanced : Refusal
+  NegativeEmpty : Refusal
+  NegativeObjectHash : Refusal

@@ -1,0 +1,10 @@
+-- What a clause reads of a refspec.
+use Rattle.std.specs.Prelude.{option_map}
+use Rattle.bstr.specs.BStr.{bstr_bytes}
+use Rattle.gix_refspec.specs.declared.spec.RefSpecRef.{RefSpecRef}
+use Rattle.gix_refspec.specs.Reading.{Reading}
+use Rattle.gix_refspec.specs.Views.{mode_of}
+
+-- what the spec was read as
+abbrev pub reading_of : RefSpecRef → Reading
+reading_of s = record { operation = s.op; mode = mode_of s.mode; source = option_map bstr_bytes s.src; destination = option_map bstr_bytes s.dst }

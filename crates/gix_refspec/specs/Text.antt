@@ -1,0 +1,29 @@
+-- Texts are lists of bytes. Which words stand in them, and where.
+use Rattle.std.specs.Prelude.{◌≡◌, ◌≢◌, ℕ, List, ◌++◌}
+use Rattle.std.specs.List.{AllByRecursion, join_with_byte}
+
+-- the byte b doesn't stand in x
+abbrev pub Lacks : ℕ → List ℕ → Type 0
+Lacks b x = AllByRecursion (λ c. c ≢ b) x
+
+-- the word w stands in x
+pub record Holds (w x : List ℕ) : Type 0 where
+  pub before : List ℕ
+  pub after : List ℕ
+  pub here : x ≡ before ++ (w ++ after)
+
+-- x begins with the word w
+pub record Begins (w x : List ℕ) : Type 0 where
+  pub after : List ℕ
+  pub here : x ≡ w ++ after
+
+-- x ends with the word w
+pub record Ends (w x : List ℕ) : Type 0 where
+  pub before : List ℕ
+  pub here : x ≡ before ++ w
+
+-- joined by the byte b, which stands in none of them, the parts are x. The empty text is both no part
+-- and one empty part
+pub record ArePartsAt (b : ℕ) (parts : List (List ℕ)) (x : List ℕ) : Type 0 where
+  pub joined : join_with_byte b parts ≡ x
+  pub whole : AllByRecursion (Lacks b) parts

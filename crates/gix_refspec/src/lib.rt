@@ -1,0 +1,16 @@
+//! Git refspecs: read from bytes, and printed.
+//!
+//! A refspec such as `+refs/heads/*:refs/remotes/origin/*` says which refs a fetch or a push takes
+//! and what they become.
+#![tactic(auto)]
+
+pub mod instruction;
+pub mod name;
+pub mod parsing;
+mod spec;
+mod types;
+mod write;
+
+pub use parsing::function::parse;
+pub use spec::RefSpecRef;
+pub use types::Instruction;

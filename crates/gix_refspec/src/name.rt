@@ -1,0 +1,164 @@
+//! The names of refs and the patterns over them, by git-check-ref-format(1).
+
+ghost use Rattle.std.specs.Prelude.{MatchOption, MatchResult, ◌∷◌, []};
+ghost use Rattle.bstr.specs.BStr.{bstr_bytes};
+ghost use Rattle.gix_refspec.specs.Text.{Ends};
+ghost use Rattle.gix_refspec.specs.Name.{IsName, HasFault, IsPattern, HasOneStar, ReplacesStar, slash};
+ghost use Rattle.gix_refspec.specs.PatternError.{Explains};
+ghost use Rattle.gix_refspec.specs.Scan.{AddsFault, LeavesFault, Finds};
+
+mod class;
+
+use self::class::{Class, class_of};
+use bstr::{BStr, ByteSlice};
+use smallvec::SmallVec;
+use std::alloc::Global;
+
+/// Why a text is no name of a ref. With several faults, which one is reported is left open.
+#[derive(Clone, Copy, Debug, PartialEq, Eq, thiserror::Error)]
+pub enum Error {
+    /// The text is empty.
+    #[error("Empty")]
+    Empty,
+    /// A slash stands first, last or beside another.
+    #[error("EmptyComponent")]
+    EmptyComponent,
+    /// A component begins with a dot.
+    #[error("StartsWithDot")]
+    StartsWithDot,
+    /// A component ends with `.lock`.
+    #[error("LockSuffix")]
+    LockSuffix,
+    /// The text ends with a dot.
+    #[error("EndsWithDot")]
+    EndsWithDot,
+    /// Two dots stand side by side.
+    #[error("RepeatedDot")]
+    RepeatedDot,
+    /// `@{` stands in the text.
+    #[error("ReflogPortion")]
+    ReflogPortion,
+    /// A star stands in the text.
+    #[error("Asterisk")]
+    Asterisk,
+    /// A control character, a space or one of `~ ^ : ? [ \` stands in the text.
+    #[error("InvalidByte")]
+    InvalidByte { byte: u8 },
+}
+
+/// Why a text with one star is no pattern.
+#[derive(Clone, Copy, Debug, PartialEq, Eq, thiserror::Error)]
+pub enum PatternError {
+    /// With a letter for its star the text is no name.
+    #[error("{0}")]
+    Name(Error),
+    /// The text has more than 256 bytes, and there was no memory to copy it.
+    #[error("out of memory")]
+    Memory,
+}
+
+/// Whether a text is the name of a ref, of one level or more, after git-check-ref-format(1). Other
+/// than there, the single `@` is a name.
+///
+/// Refused are the empty text, a component that is empty, begins with a dot or ends with `.lock`,
+/// a dot at the end, `..`, `@{`, a star, and the bytes that `Error::InvalidByte` lists. A text with
+/// several of these faults is reported by one of them. The text is read once, and nothing is kept
+/// of it or asked of an allocator.
+pub fn name_partial(name: BStr<'_>) -> Result<(), Error>
+    ensures { MatchResult result (λ _. IsName (bstr_bytes name.entry)) (λ e. HasFault (bstr_bytes name.entry) e) }
+{
+    match fault_of(name.as_bytes()) {
+        None => Ok(()),
+        Some(fault) => Err(fault),
+    }
+}
+
+/// Whether a text with one star is a pattern: a name, by git-check-ref-format(1), once a letter
+/// stands in place of the star, as under its `--refspec-pattern`.
+///
+/// `Name` says which fault that name has. The text is copied: up to 256 bytes the copy lies in the
+/// call itself, and no memory is asked for; a longer one is copied to the heap until the call ends,
+/// and `Memory` says that there was no room.
+pub fn pattern_partial(alloc: Global, pattern: BStr<'_>) -> Result<(), PatternError>
+    requires { HasOneStar (bstr_bytes pattern) }
+    ensures { MatchResult result (λ _. IsPattern (bstr_bytes pattern.entry)) (λ e. Explains e (bstr_bytes pattern.entry)) }
+{
+    let text = pattern.as_bytes();
+    let Ok(mut with_letter) = SmallVec::<u8, 256>::from_slice(alloc, text) else {
+        return Err(PatternError::Memory);
+    };
+    replace_star(with_letter.as_mut_slice());
+    match fault_of(with_letter.as_slice()) {
+        None => Ok(()),
+        Some(fault) => Err(PatternError::Name(fault)),
+    }
+}
+
+// A fault of the text, or `None` where the text is a name.
+pub(crate) fn fault_of(text: &[u8]) -> Option<Error>
+    ensures { MatchOption result (IsName text.now) (λ e. HasFault text.now e) }
+{
+    if text.is_empty() {
+        return Some(Error::Empty);
+    }
+    // The first component begins as if a slash stood before it.
+    let mut previous = b'/';
+    for (index, byte) in text.iter().enumerate() {
+        if let Some(fault) = added_fault(&text[..index], previous, *byte) {
+            return Some(fault);
+        }
+        previous = *byte;
+    }
+    left_fault(text, previous)
+}
+
+// The fault that a byte adds to the text before it. The previous byte is the last one there.
+#[inline(always)]
+fn added_fault(before: &[u8], previous: u8, byte: u8) -> Option<Error>
+    requires { Ends (previous ∷ []) (slash ∷ before.now) }
+    ensures { Finds result (AddsFault (slash ∷ before.now) byte) }
+{
+    match class_of(byte) {
+        Class::Plain => None,
+        Class::Slash => {
+            if previous == b'/' {
+                Some(Error::EmptyComponent)
+            } else if before.ends_with(b".lock") {
+                Some(Error::LockSuffix)
+            } else {
+                None
+            }
+        }
+        Class::Dot => match previous {
+            b'/' => Some(Error::StartsWithDot),
+            b'.' => Some(Error::RepeatedDot),
+            _ => None,
+        },
+        Class::Brace => (previous == b'@').then_some(Error::ReflogPortion),
+        Class::Star => Some(Error::Asterisk),
+        Class::Refused => Some(Error::InvalidByte { byte }),
+    }
+}
+
+// The fault that shows at the end of a text. The previous byte is the last one there.
+fn left_fault(text: &[u8], previous: u8) -> Option<Error>
+    requires { Ends (previous ∷ []) (slash ∷ text.now) }
+    ensures { Finds result (LeavesFault (slash ∷ text.now)) }
+{
+    match previous {
+        b'/' => Some(Error::EmptyComponent),
+        b'.' => Some(Error::EndsWithDot),
+        _ if text.ends_with(b".lock") => Some(Error::LockSuffix),
+        _ => None,
+    }
+}
+
+// Puts the letter where the star is.
+fn replace_star(text: &mut [u8])
+    requires { HasOneStar text.old }
+    ensures { ReplacesStar text.old text.new }
+{
+    if let Some(place) = (&*text).find_byte(b'*') {
+        text[place] = b'a';
+    }
+}

@@ -1,0 +1,56 @@
+// The classes of bytes that the check of a name tells apart.
+
+ghost use Rattle.std.specs.Prelude.{◌≡◌};
+ghost use Rattle.gix_refspec.specs.Scan.{class_at};
+
+use self::Class::*;
+
+/// What a byte may be to a name.
+#[derive(Clone, Copy)]
+pub(super) enum Class {
+    /// It may stand anywhere.
+    Plain,
+    /// It ends a component.
+    Slash,
+    /// It may stand neither first in a component nor beside another.
+    Dot,
+    /// It may not stand behind an at sign.
+    Brace,
+    /// It may stand nowhere, except in a pattern.
+    Star,
+    /// It may stand nowhere.
+    Refused,
+}
+
+// The class of each byte, at the place of its number.
+static CLASSES: [Class; 256] = [
+    Refused, Refused, Refused, Refused, Refused, Refused, Refused, Refused, Refused, Refused,
+    Refused, Refused, Refused, Refused, Refused, Refused, Refused, Refused, Refused, Refused,
+    Refused, Refused, Refused, Refused, Refused, Refused, Refused, Refused, Refused, Refused,
+    Refused, Refused, Refused, Plain, Plain, Plain, Plain, Plain, Plain, Plain, Plain, Plain, Star,
+    Plain, Plain, Plain, Dot, Slash, Plain, Plain, Plain, Plain, Plain, Plain, Plain, Plain, Plain,
+    Plain, Refused, Plain, Plain, Plain, Plain, Refused, Plain, Plain, Plain, Plain, Plain, Plain,
+    Plain, Plain, Plain, Plain, Plain, Plain, Plain, Plain, Plain, Plain, Plain, Plain, Plain,
+    Plain, Plain, Plain, Plain, Plain, Plain, Plain, Plain, Refused, Refused, Plain, Refused,
+    Plain, Plain, Plain, Plain, Plain, Plain, Plain, Plain, Plain, Plain, Plain, Plain, Plain,
+    Plain, Plain, Plain, Plain, Plain, Plain, Plain, Plain, Plain, Plain, Plain, Plain, Plain,
+    Plain, Plain, Brace, Plain, Plain, Refused, Refused, Plain, Plain, Plain, Plain, Plain, Plain,
+    Plain, Plain, Plain, Plain, Plain, Plain, Plain, Plain, Plain, Plain, Plain, Plain, Plain,
+    Plain, Plain, Plain, Plain, Plain, Plain, Plain, Plain, Plain, Plain, Plain, Plain, Plain,
+    Plain, Plain, Plain, Plain, Plain, Plain, Plain, Plain, Plain, Plain, Plain, Plain, Plain,
+    Plain, Plain, Plain, Plain, Plain, Plain, Plain, Plain, Plain, Plain, Plain, Plain, Plain,
+    Plain, Plain, Plain, Plain, Plain, Plain, Plain, Plain, Plain, Plain, Plain, Plain, Plain,
+    Plain, Plain, Plain, Plain, Plain, Plain, Plain, Plain, Plain, Plain, Plain, Plain, Plain,
+    Plain, Plain, Plain, Plain, Plain, Plain, Plain, Plain, Plain, Plain, Plain, Plain, Plain,
+    Plain, Plain, Plain, Plain, Plain, Plain, Plain, Plain, Plain, Plain, Plain, Plain, Plain,
+    Plain, Plain, Plain, Plain, Plain, Plain, Plain, Plain, Plain, Plain, Plain, Plain, Plain,
+    Plain, Plain, Plain, Plain, Plain,
+];
+
+// The class of a byte.
+#[inline(always)]
+pub(super) fn class_of(byte: u8) -> Class
+    ensures { result ≡ class_at byte }
+{
+    CLASSES[byte as usize]
+}

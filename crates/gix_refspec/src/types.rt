@@ -1,0 +1,23 @@
+//! How a refspec counts, and what it says to do.
+
+use crate::instruction;
+
+/// What the sign of a refspec says.
+#[derive(Clone, Copy, Debug, PartialEq, Eq)]
+pub(crate) enum Mode {
+    /// No sign.
+    Normal,
+    /// `+`: refs may also move where that is no fast-forward.
+    Force,
+    /// `^`: matching refs are left out.
+    Negative,
+}
+
+/// What a refspec says to do.
+#[derive(Clone, Copy, Debug)]
+pub enum Instruction<'a> {
+    /// For a push.
+    Push(instruction::Push<'a>),
+    /// For a fetch.
+    Fetch(instruction::Fetch<'a>),
+}

@@ -1,0 +1,146 @@
+//! Instructions and refspecs as canonical text.
+
+ghost use Rattle.std.specs.Prelude.{◌≡◌, ◌∷◌, ◌++◌, IfOk};
+ghost use Rattle.bstr.specs.Owned.{bstring_bytes};
+ghost use Rattle.gix_refspec.specs.Grammar.{colon};
+ghost use Rattle.gix_refspec.specs.Meaning.{sign as sign_of, text_of};
+ghost use Rattle.gix_refspec.specs.Views.{shown, shown_push, shown_fetch};
+ghost use Rattle.gix_refspec.specs.Pieces.{joined};
+
+use crate::instruction::{Fetch, Push};
+use crate::spec::RefSpecRef;
+use crate::types::Instruction;
+use bstr::BString;
+use std::alloc::{AllocError, Global};
+
+// What the text of an instruction is made of, in this order.
+#[derive(Clone, Copy)]
+pub(crate) struct Pieces<'a> {
+    pub(crate) sign: &'static [u8],
+    pub(crate) source: &'a [u8],
+    pub(crate) colon: &'static [u8],
+    pub(crate) destination: &'a [u8],
+}
+
+// `+` where forced.
+fn sign(forced: bool) -> &'static [u8]
+    ensures { result.now ≡ sign_of forced }
+{
+    if forced { b"+" } else { b"" }
+}
+
+impl<'a> Instruction<'a> {
+    /// The canonical text of the instruction.
+    pub fn to_bstring(&self, alloc: Global) -> Result<BString, AllocError>
+        ensures { IfOk result (λ text. bstring_bytes text ≡ text_of (shown self.now)) }
+    {
+        let pieces = self.pieces();
+        let mut text = Vec::with_capacity(alloc, pieces.len())?;
+        text.extend_from_slice(pieces.sign)?;
+        text.extend_from_slice(pieces.source)?;
+        text.extend_from_slice(pieces.colon)?;
+        text.extend_from_slice(pieces.destination)?;
+        Ok(BString::new(text))
+    }
+
+    // The pieces whose text is the instruction's.
+    fn pieces(&self) -> Pieces<'a>
+        ensures { joined result ≡ text_of (shown self.now) }
+    {
+        match *self {
+            Instruction::Push(push) => push.pieces(),
+            Instruction::Fetch(fetch) => fetch.pieces(),
+        }
+    }
+}
+
+impl<'a> Push<'a> {
+    fn pieces(self) -> Pieces<'a>
+        ensures { joined result ≡ text_of (shown_push self.entry) }
+    {
+        match self {
+            Push::AllMatchingBranches {
+                allow_non_fast_forward,
+            } => Pieces::of_two(allow_non_fast_forward, b"", b""),
+            Push::Delete { ref_or_pattern } => Pieces::of_two(
+                false,
+                b"",
+                ref_or_pattern.as_bytes(),
+            ),
+            Push::Matching {
+                src,
+                dst,
+                allow_non_fast_forward,
+            } => Pieces::of_two(allow_non_fast_forward, src.as_bytes(), dst.as_bytes()),
+            Push::Exclude { src } => Pieces::of_one(b"^", src.as_bytes()),
+        }
+    }
+}
+
+impl<'a> Fetch<'a> {
+    fn pieces(self) -> Pieces<'a>
+        ensures { joined result ≡ text_of (shown_fetch self.entry) }
+    {
+        match self {
+            // A source that begins with `+` would lose it as a sign.
+            Fetch::Only { src } => {
+                let source = src.as_bytes();
+                Pieces::of_one(sign(source.first() == Some(&b'+')), source)
+            }
+            Fetch::Exclude { src } => Pieces::of_one(b"^", src.as_bytes()),
+            Fetch::AndUpdate {
+                src,
+                dst,
+                allow_non_fast_forward,
+            } => Pieces::of_two(allow_non_fast_forward, src.as_bytes(), dst.as_bytes()),
+        }
+    }
+}
+
+impl<'a> Pieces<'a> {
+    // One side behind a sign.
+    fn of_one(sign: &'static [u8], source: &'a [u8]) -> Pieces<'a>
+        ensures { joined result ≡ sign.now ++ source.now }
+    {
+        Pieces {
+            sign,
+            source,
+            colon: b"",
+            destination: b"",
+        }
+    }
+
+    // Two sides round a colon.
+    fn of_two(forced: bool, source: &'a [u8], destination: &'a [u8]) -> Pieces<'a>
+        ensures { joined result ≡ sign_of forced ++ (source.now ++ (colon ∷ destination.now)) }
+    {
+        Pieces {
+            sign: sign(forced),
+            source,
+            colon: b":",
+            destination,
+        }
+    }
+
+    // How many bytes the text has, where it can be told.
+    fn len(self) -> usize {
+        self.sign
+            .len()
+            .saturating_add(self.source.len())
+            .saturating_add(self.colon.len())
+            .saturating_add(self.destination.len())
+    }
+}
+
+impl<'a> RefSpecRef<'a> {
+    ghost use Rattle.std.specs.Prelude.{Some};
+    ghost use Rattle.gix_refspec.specs.Meaning.{printed};
+    ghost use Rattle.gix_refspec.specs.Spec.{reading_of};
+
+    /// The canonical text of the spec.
+    pub fn to_bstring(&self, alloc: Global) -> Result<BString, AllocError>
+        ensures { IfOk result (λ text. printed (reading_of self.now) ≡ Some (bstring_bytes text)) }
+    {
+        self.instruction().to_bstring(alloc)
+    }
+}
