@@ -1,0 +1,43 @@
+-- Bytes that several reads took.
+use Rattle.std.proofs.Common.{◌≡◌, ◌≢◌, ◌<◌, ◌≤◌, ℕ, Bool, true, false, MatchBool, List, [], ◌∷◌, ◌++◌, Option, None, Some, length, take, drop, refl, sym, ap, ◌∙◌, append_assoc, length-append, arith}
+use Rattle.std.proofs.lemmas.List.{length-take}
+use Rattle.std.proofs.lemmas.Bool.{false≢true}
+use Rattle.std.specs.Io.KnownBytes.{Consumes}
+use Rattle.refspec_map.specs.declared.fault.Fault.{Fault}
+use Rattle.refspec_map.specs.declared.fault.Fault.TheVariants as fault
+use Rattle.refspec_map.specs.Run.{Explains, IsReadOrMemory}
+
+-- what one read took and what the next took are taken together
+pub Consumes-append : (x y z : Option (List ℕ)) (front back : List ℕ) → Consumes x y front → Consumes y z back → Consumes x z (front ++ back)
+Consumes-append None y z front back a b = tt
+Consumes-append (Some x) None z front back a b = absurd a
+Consumes-append (Some x) (Some y) None front back a b = absurd b
+Consumes-append (Some x) (Some y) (Some z) front back a b = a ∙ (ap (λ r. front ++ r) b ∙ sym (append_assoc front back z))
+
+-- nothing taken
+pub Consumes-none : (x : Option (List ℕ)) → Consumes x x []
+Consumes-none None = tt
+Consumes-none (Some x) = refl
+
+-- some bytes are at least one
+pub some_bytes : (x : List ℕ) → x ≢ [] → 0 < length x
+some_bytes [] some = absurd (some refl)
+some_bytes (b ∷ x) some = omega arith
+
+-- a fault of the reader or of memory needs no more
+pub explained : (x y : Option (List ℕ)) (f : Fault) → IsReadOrMemory f → Explains x y f
+explained x y fault.Read h = tt
+explained x y fault.Memory h = tt
+explained x y fault.TooLong h = absurd h
+explained x y (fault.Line n) h = absurd h
+explained x y (fault.Spec n e) h = absurd h
+explained x y fault.Write h = absurd h
+
+-- a buffer that was written keeps its room
+pub kept_room : (n : ℕ) (new items : List ℕ) → length new ≡ n → 0 < n → 0 < length (take n (new ++ drop (length new) items))
+kept_room n new items same room = omega (arith, length-take n (new ++ drop (length new) items), length-append new (drop (length new) items))
+
+-- a read that says so found the end
+pub ends : (P Q : Type 0) (more : Bool) → more ≡ false → MatchBool more P Q → Q
+ends P Q true none h = absurd (false≢true (sym none))
+ends P Q false none h = h

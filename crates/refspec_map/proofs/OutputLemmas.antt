@@ -1,0 +1,103 @@
+-- The lines of an input, and the answers to them, one after another.
+use Rattle.std.proofs.Common.{◌≡◌, ◌≢◌, ◌⊎◌, inl, inr, ℕ, ◌<◌, ◌+◌, ◌==◌, Bool, true, false, ◌||◌, List, [], ◌∷◌, ◌++◌, flat_map, length, refl, sym, ap, ◌∙◌, subst, append_assoc, length-append, arith}
+use Rattle.std.specs.List.{AllZip}
+use Rattle.gix_refspec.specs.declared.parsing.Operation.{Operation}
+use Rattle.gix_refspec.specs.declared.parsing.Error.{Error}
+use Rattle.gix_refspec.specs.declared.parsing.Error.TheVariants as error
+use Rattle.std.proofs.lemmas.Bool.{false≢true, eqb-true}
+use Rattle.std.proofs.lemmas.List.{append-nil}
+use Rattle.gix_refspec.specs.Text.{Lacks}
+use Rattle.gix_refspec.specs.Reading.{Refusal}
+use Rattle.gix_refspec.specs.Views.{IsShownAs, MemoryOr}
+use Rattle.refspec_map.specs.Input.{newline, AreLines, IsFirstLine}
+use Rattle.refspec_map.specs.Output.{Answer, IsAnswer, line_of, is_refused, any_refused, IsCanon, PutsAnswer}
+
+-- whatever answers the rest of an input completes the output so far
+abbrev pub Completes : Operation → List ℕ → List ℕ → Bool → List ℕ → Type 0
+Completes op input output refusal rest =
+    (lines : List (List ℕ)) (answers : List Answer) → AreLines lines rest → AllZip (IsAnswer op) lines answers
+    → IsCanon op input (output ++ flat_map line_of answers) (refusal || any_refused answers)
+
+-- at the start the whole input is the rest
+pub Completes-start : (op : Operation) (input output : List ℕ) → output ≡ [] → Completes op input output false input
+Completes-start op input output empty lines answers cut told = record { lines = lines; answers = answers; cut = cut; told = told; written = ap (λ x. x ++ flat_map line_of answers) empty; tells = refl }
+
+-- a newline doesn't stand in nothing
+nothing_ends : (line rest : List ℕ) → [] ≡ line ++ (newline ∷ rest) → ⊥
+nothing_ends line rest same = omega (arith, ap length same, length-append line (newline ∷ rest))
+
+-- nor is a line of nothing
+not_of_nothing : (line : List ℕ) (lines : List (List ℕ)) → ((rest : List ℕ) × ([] ≡ line ++ (newline ∷ rest)) × AreLines lines rest) ⊎ ((line ≢ []) × (lines ≡ []) × ([] ≡ line)) → ⊥
+not_of_nothing line lines (inl cut) = nothing_ends line cut.0 cut.1
+not_of_nothing line lines (inr cut) = cut.0 (sym cut.2)
+
+-- nothing has no lines
+no_lines : (lines : List (List ℕ)) → AreLines lines [] → lines ≡ []
+no_lines [] cut = refl
+no_lines (line ∷ lines) cut = absurd (not_of_nothing line lines cut.1)
+
+lines_more_by : (text line rest : List ℕ) (lines : List (List ℕ)) → text ≢ [] → Lacks newline line → AreLines lines rest → ((text ≡ line ++ (newline ∷ rest)) ⊎ ((text ≡ line) × (rest ≡ []))) → (all : List (List ℕ)) × AreLines all text × (all ≡ line ∷ lines)
+lines_more_by text line rest lines full lacks cut (inl ended) = (line ∷ lines, (lacks, inl (rest, ended, cut)), refl)
+lines_more_by text line rest lines full lacks cut (inr last) =
+    let none = no_lines lines (subst (AreLines lines) last.1 cut) in
+    (line ∷ lines, (lacks, inr (λ empty. full (last.0 ∙ empty), none, last.0)), refl)
+
+-- whether some line is refused, with one line more
+or_more : (a b c d : Bool) → c ≡ b → (a || (b || d)) ≡ ((a || c) || d)
+or_more true b c d same = refl
+or_more false b c d same = ap (λ x. x || d) (sym same)
+
+-- the first line and the lines of the rest are those of the text
+lines_more : (text line rest : List ℕ) (lines : List (List ℕ)) → text ≢ [] → IsFirstLine text line rest → AreLines lines rest → (all : List (List ℕ)) × AreLines all text × (all ≡ line ∷ lines)
+lines_more text line rest lines full first cut = lines_more_by text line rest lines full first.0 cut first.1
+
+-- one line more
+pub Completes-line : (op : Operation) (input old new text line rest : List ℕ) (before refusal : Bool) → text ≢ [] → IsFirstLine text line rest → PutsAnswer op line old new refusal → Completes op input old before text → Completes op input new (before || refusal) rest
+Completes-line op input old new text line rest before refusal full first put completes lines answers cut told =
+    let lines_of_text = lines_more text line rest lines full first cut in
+    let whole = completes lines_of_text.0 (put.answer ∷ answers) lines_of_text.1 (subst (λ (ls : List (List ℕ)). AllZip (IsAnswer op) ls (put.answer ∷ answers)) (sym lines_of_text.2) (put.is, told)) in
+    let output : old ++ (line_of put.answer ++ flat_map line_of answers) ≡ new ++ flat_map line_of answers =
+    sym (append_assoc old (line_of put.answer) (flat_map line_of answers)) ∙ ap (λ x. x ++ flat_map line_of answers) (sym put.put) in
+    let tells : (before || (is_refused put.answer || any_refused answers)) ≡ ((before || refusal) || any_refused answers) =
+    or_more before (is_refused put.answer) refusal (any_refused answers) put.tells in
+    subst (λ (x : List ℕ). IsCanon op input x ((before || refusal) || any_refused answers)) output
+    (subst (λ (b : Bool). IsCanon op input (old ++ (line_of put.answer ++ flat_map line_of answers)) b) tells whole)
+
+-- an error that isn't want of memory is a refusal
+pub refusal_from_error : (M : Type 0) (P : Refusal → Type 0) (e : Error) → (e ≡ error.Memory → ⊥) → MemoryOr M P e → (f : Refusal) × IsShownAs e f × P f
+refusal_from_error M P error.Memory other told = absurd (other refl)
+refusal_from_error M P error.Empty other told = told
+refusal_from_error M P error.NegativeWithDestination other told = told
+refusal_from_error M P error.NegativeEmpty other told = told
+refusal_from_error M P error.NegativeObjectHash other told = told
+refusal_from_error M P error.NegativePartialName other told = told
+refusal_from_error M P error.NegativeGlobPattern other told = told
+refusal_from_error M P error.InvalidFetchDestination other told = told
+refusal_from_error M P error.PushToEmpty other told = told
+refusal_from_error M P (error.PatternUnsupported pattern) other told = told
+refusal_from_error M P error.PatternUnbalanced other told = told
+refusal_from_error M P (error.ReferenceName fault) other told = told
+
+-- a refusal that was seen stays seen; else the next line tells
+pub refusal_stays : (before refusal : Bool) → before ≡ true → (before || refusal) ≡ before
+refusal_stays before refusal seen = subst (λ (b : Bool). (b || refusal) ≡ b) (sym seen) refl
+
+pub refusal_shows : (before refusal : Bool) → before ≡ false → (before || refusal) ≡ refusal
+refusal_shows before refusal unseen = subst (λ (b : Bool). (b || refusal) ≡ refusal) (sym unseen) refl
+
+-- no line more, no refusal more
+or_false : (b : Bool) → (b || false) ≡ b
+or_false true = refl
+or_false false = refl
+
+-- at the end nothing is left
+pub Completes-end : (op : Operation) (input output : List ℕ) (refusal : Bool) (rest : List ℕ) → rest ≡ [] → Completes op input output refusal rest → IsCanon op input output refusal
+Completes-end op input output refusal rest empty completes =
+    let whole = completes [] [] empty tt in
+    subst (λ (x : List ℕ). IsCanon op input x refusal) (append-nil output)
+    (subst (λ (b : Bool). IsCanon op input (output ++ []) b) (or_false refusal) whole)
+
+-- what a test for emptiness tells
+pub empty_from_test : (x : List ℕ) → true ≡ (length x == 0) → x ≡ []
+empty_from_test [] test = refl
+empty_from_test (b ∷ x) test = absurd (omega (arith, eqb-true (length (b ∷ x)) 0 (sym test)))

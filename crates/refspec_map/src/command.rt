@@ -1,0 +1,27 @@
+//! The commands of the program.
+
+ghost use Rattle.std.specs.Prelude.{◌≡◌};
+ghost use Rattle.refspec_map.specs.Run.{operation_of};
+
+use gix_refspec::parsing::Operation;
+
+/// What the program does with its input.
+#[derive(Clone, Copy, Debug, PartialEq, Eq)]
+pub enum Command {
+    /// Prints the canonical text of each line as a spec for a fetch.
+    CanonFetch,
+    /// Prints the canonical text of each line as a spec for a push.
+    CanonPush,
+}
+
+impl Command {
+    // What the command reads its specs for.
+    pub(crate) fn operation(self) -> Operation
+        ensures { result ≡ operation_of self }
+    {
+        match self {
+            Command::CanonFetch => Operation::Fetch,
+            Command::CanonPush => Operation::Push,
+        }
+    }
+}

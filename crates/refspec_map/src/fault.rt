@@ -1,0 +1,50 @@
+//! Why a run ended early.
+
+use crate::canon::variant_name;
+use gix_refspec::parsing;
+use std::{error, fmt};
+
+/// Why a run ended early.
+#[derive(Debug, Drop)]
+pub enum Fault {
+    /// The input has more than 1,048,576 bytes.
+    TooLong,
+    /// The input could not be read to its end.
+    Read,
+    /// The line with this number, counted from 1, has no form that the command takes.
+    Line(usize),
+    /// The line with this number, counted from 1, holds a spec that is refused.
+    Spec { line: usize, error: parsing::Error },
+    /// There was no memory.
+    Memory,
+    /// The output could not be written.
+    Write,
+}
+
+impl Fault {
+    /// The status that the program ends with: 1 where a line is at fault, else 3.
+    pub fn status(&self) -> u8 {
+        match self {
+            Fault::Line(_) | Fault::Spec { .. } => 1,
+            Fault::TooLong | Fault::Read | Fault::Memory | Fault::Write => 3,
+        }
+    }
+}
+
+impl fmt::Display for Fault {
+    fn fmt<W: fmt::Write>(&self, f: &mut fmt::Formatter<W>) -> fmt::Result {
+        match self {
+            Fault::TooLong => write!(f, "input too long"),
+            Fault::Read => write!(f, "read failed"),
+            Fault::Line(number) => write!(f, "line {number} is malformed"),
+            Fault::Spec { line, error } => {
+                let name = variant_name(error);
+                write!(f, "line {line}: {name}")
+            }
+            Fault::Memory => write!(f, "out of memory"),
+            Fault::Write => write!(f, "write failed"),
+        }
+    }
+}
+
+impl error::Error for Fault {}

@@ -1,0 +1,47 @@
+//! The input, read whole.
+
+ghost use Rattle.std.specs.Prelude.{◌<◌, IfOk, IfErr, length};
+ghost use Rattle.refspec_map.specs.Run.{ReadsToEnd, Explains, ReadsSome, IsReadOrMemory};
+
+use crate::fault::Fault;
+use std::alloc::Global;
+use std::io::Read;
+
+/// The most bytes that an input may have.
+pub const INPUT_LIMIT: usize = 1_048_576;
+
+/// The most bytes that are asked for at once.
+const CHUNK: usize = 65_536;
+
+/// All that the reader has left. It is read in chunks, until a read brings no byte or the limit is
+/// passed.
+pub(crate) fn read_input<R: Read>(alloc: Global, reader: &mut R) -> Result<Vec<u8>, Fault>
+    ensures ok { IfOk result (λ input. ReadsToEnd (R.remaining reader.old) (R.remaining reader.new) input.items) }
+    ensures err { IfErr result (Explains (R.remaining reader.old) (R.remaining reader.new)) }
+{
+    let Ok(mut buffer) = vec![in alloc; 0; CHUNK] else {
+        return Err(Fault::Memory);
+    };
+    let mut input = Vec::new(alloc);
+    while read_some(reader, buffer.as_mut_slice(), &mut input)? {
+        if input.len() > INPUT_LIMIT {
+            return Err(Fault::TooLong);
+        }
+    }
+    Ok(input)
+}
+
+// Reads once, and puts what came at the end of the input; false where nothing was left.
+fn read_some<R: Read>(reader: &mut R, buffer: &mut [u8], input: &mut Vec<u8>) -> Result<bool, Fault>
+    requires { 0 < length buffer.old }
+    ensures ok { IfOk result (λ more. ReadsSome more (R.remaining reader.old) (R.remaining reader.new) input.old.items input.new.items) }
+    ensures err { IfErr result IsReadOrMemory }
+{
+    let Ok(count) = reader.read(buffer) else {
+        return Err(Fault::Read);
+    };
+    match input.extend_from_slice(&buffer[..count]) {
+        Ok(()) => Ok(count > 0),
+        Err(_) => Err(Fault::Memory),
+    }
+}

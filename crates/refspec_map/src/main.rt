@@ -1,0 +1,67 @@
+//! Reads refspecs, one a line, and prints their canonical texts.
+#![tactic(auto)]
+
+mod canon;
+mod command;
+mod fault;
+mod input;
+mod run;
+
+use crate::command::Command;
+use crate::fault::Fault;
+use crate::run::run;
+use std::process::ExitCode;
+use std::{env, io};
+
+const USAGE: &str = "usage: refspec_map canon fetch | canon push | lhs | rhs | plan";
+
+// The status where the words are no command.
+const USAGE_STATUS: u8 = 2;
+
+fn main(rt: HostRuntime) -> ExitCode {
+    let status = match named_command(&rt) {
+        Ok(Some(command)) => run_command(&rt, command),
+        Ok(None) => {
+            // Where the line can't be printed, the status still tells.
+            let _ = println!(rt; "{USAGE}");
+            USAGE_STATUS
+        }
+        Err(_) => report(&rt, &Fault::Memory),
+    };
+    ExitCode::from(status)
+}
+
+// The command that the words of the call name.
+fn named_command<R: env::Env + AllocGlobal>(rt: &R) -> io::Result<Option<Command>> {
+    let mut words = Vec::new(rt.alloc());
+    for word in env::args(rt)?.skip(1) {
+        words.push(word)?;
+    }
+    Ok(command_of(words.as_slice()))
+}
+
+// The command that two words name.
+fn command_of(words: &[String]) -> Option<Command> {
+    match words {
+        [first, second] if first.as_str() == "canon" => match second.as_str() {
+            "fetch" => Some(Command::CanonFetch),
+            "push" => Some(Command::CanonPush),
+            _ => None,
+        },
+        _ => None,
+    }
+}
+
+// Runs a command from the standard input to the standard output.
+fn run_command(rt: &HostRuntime, command: Command) -> u8 {
+    match run(rt.alloc(), command, &mut rt.stdin(), &mut rt.stdout()) {
+        Ok(status) => status,
+        Err(fault) => report(rt, &fault),
+    }
+}
+
+// Prints the line of a fault. Where it can't be printed, the status still tells.
+fn report(rt: &HostRuntime, fault: &Fault) -> u8 {
+    let _ = println!(rt; "{fault}");
+    fault.status()
+}

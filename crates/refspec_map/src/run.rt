@@ -1,0 +1,43 @@
+//! A command, from its reader to its writer.
+
+ghost use Rattle.std.specs.Prelude.{IfOk, IfErr, OnOk};
+ghost use Rattle.std.specs.Io.KnownBytes.{Appends};
+ghost use Rattle.refspec_map.specs.Run.{Answers, Explains, Leaves, IsWrite};
+
+use crate::canon::canon;
+use crate::command::Command;
+use crate::fault::Fault;
+use crate::input::read_input;
+use std::alloc::Global;
+use std::io::{Read, Write};
+
+/// Reads the input to its end, and writes the output of the command for it at once. Answers the
+/// status: 1 where some line is refused, else 0.
+pub fn run<R: Read, W: Write>(
+    alloc: Global,
+    command: Command,
+    reader: &mut R,
+    writer: &mut W,
+) -> Result<u8, Fault>
+    ensures ok { IfOk result (Answers command (R.remaining reader.old) (R.remaining reader.new) (W.contents writer.old) (W.contents writer.new)) }
+    ensures err { IfErr result (Explains (R.remaining reader.old) (R.remaining reader.new)) }
+
+    // Nothing was written before a fault, but where the writer failed.
+    ensures unwritten { IfErr result (Leaves (W.contents writer.old) (W.contents writer.new)) }
+{
+    let input = read_input(alloc, reader)?;
+    let (output, refusal) = canon(alloc, command.operation(), input.as_slice())?;
+    write_output(writer, output.as_slice())?;
+    Ok(u8::from(refusal))
+}
+
+// Writes the output in one call, and flushes the writer.
+fn write_output<W: Write>(writer: &mut W, output: &[u8]) -> Result<(), Fault>
+    ensures ok { OnOk result (Appends (W.contents writer.old) (W.contents writer.new) output.now) }
+    ensures err { IfErr result IsWrite }
+{
+    if writer.write_all(output).is_err() || writer.flush().is_err() {
+        return Err(Fault::Write);
+    }
+    Ok(())
+}
