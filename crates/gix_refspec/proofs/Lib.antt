@@ -7,3 +7,5 @@ pub mod SideLemmas
 pub mod PartsLemmas
 pub mod ReasonLemmas
 pub mod ReadsLemmas
+pub mod ObjectIdLemmas
+pub mod ObjectIdFacts

@@ -10,3 +10,4 @@ pub mod Views
 pub mod Spec
 pub mod Pieces
 pub mod Sides
+pub mod ObjectId

@@ -6,6 +6,7 @@
 
 pub mod instruction;
 pub mod name;
+pub mod oid;
 pub mod parsing;
 mod spec;
 mod types;
@@ -14,3 +15,6 @@ mod write;
 pub use parsing::function::parse;
 pub use spec::RefSpecRef;
 pub use types::Instruction;
+
+#[cfg(test)]
+mod tests;

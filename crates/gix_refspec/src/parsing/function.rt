@@ -11,6 +11,7 @@ ghost use Rattle.gix_refspec.specs.Spec.{reading_of};
 ghost use Rattle.gix_refspec.specs.Sides.{AreStarsOf, IsSide, IsCheckedSide, IsBadSide, IsReason, PartsRead, read_as, named_or_head as named_or_head_of, side_of as side_bytes};
 
 use crate::name::{PatternError, name_partial, pattern_partial};
+use crate::oid::Kind;
 use crate::parsing::{Error, Operation};
 use crate::spec::RefSpecRef;
 use crate::types::Mode;
@@ -39,7 +40,13 @@ pub(crate) struct Sides<'a> {
     pub(crate) destination: Option<BStr<'a>>,
 }
 
-/// Reads a refspec for an operation.
+/// Reads a refspec for an operation, by git-fetch(1) and git-push(1) under `<refspec>`. The sides
+/// borrow the text for its life, or are the constant `HEAD`.
+///
+/// A text that is none is refused by the first reason in the order of [`Error`]; in `ReferenceName`
+/// stands some fault of the side, its one star read as a letter. The time is linear in the text.
+/// Memory is asked for, and `Memory` answered, only where a side has several stars, which is reported
+/// whole, or one star and more than 256 bytes, and no earlier reason applies.
 pub fn parse<'a>(
     alloc: Global,
     spec: BStr<'a>,
@@ -326,5 +333,5 @@ fn pushes_nowhere(source: &[u8], target: &[u8]) -> bool
 fn looks_like_object_hash(text: &[u8]) -> bool
     ensures { IsTrue result ↔ LooksLikeObjectHash text.now }
 {
-    text.len() >= 40 && text.iter().all(|b| b.is_ascii_hexdigit())
+    text.len() >= Kind::shortest().len_in_hex() && text.iter().all(|b| b.is_ascii_hexdigit())
 }

@@ -1,0 +1,2 @@
+mod name;
+mod oid;

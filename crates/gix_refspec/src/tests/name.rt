@@ -1,0 +1,217 @@
+ghost use Rattle.std.specs.Bool.{OnTrue};
+ghost use Rattle.gix_refspec.specs.Name.{HasOneStar};
+
+use crate::name::{Error, PatternError, name_partial, pattern_partial};
+use bstr::BStr;
+use std::alloc::{AllocError, Global};
+use std::test::Fail;
+
+// Whether exactly one star stands in a text.
+fn has_one_star(text: &[u8]) -> bool
+    ensures { OnTrue result (HasOneStar text.now) }
+{
+    text.iter().filter(|byte| **byte == b'*').count() == 1
+}
+
+// What a text is as a pattern. One without a star, or with more of them, has the fault of the star.
+fn checked_pattern(alloc: Global, text: &[u8]) -> Result<(), PatternError> {
+    if has_one_star(text) {
+        pattern_partial(alloc, BStr::new(text))
+    } else {
+        Err(PatternError::Name(Error::Asterisk))
+    }
+}
+
+// A text of `x` that is as long as asked for with the end behind it.
+fn filled(alloc: Global, len: usize, end: &str) -> Result<String, AllocError> {
+    let mut text = String::new(alloc);
+    for _ in end.len()..len {
+        text.push('x')?;
+    }
+    text.push_str(end)?;
+    Ok(text)
+}
+
+#[test]
+fn accepts_names(rt: HostRuntime) {
+    let names = [
+        "a",
+        "@",
+        "a]b",
+        "a.lockx",
+        "a./b",
+        "a@b",
+        "a{b",
+        "{",
+        "@/{",
+        "a.b.c",
+        "lock",
+        "a.lo",
+        "refs/heads/main",
+        "HEAD",
+        "é",
+        "\u{80}",
+        "-",
+        "a.LOCK",
+    ];
+    for name in names {
+        assert_eq!(rt;
+            name_partial(BStr::new(name.as_bytes())),
+            Ok(()),
+            "at {name}"
+        );
+    }
+    // Bytes from 128 up need not be text.
+    for byte in 128..=255u8 {
+        assert_eq!(rt; name_partial(BStr::new(&[byte])), Ok(()), "at {byte}");
+    }
+}
+
+#[test]
+fn refuses_what_is_no_name(rt: HostRuntime) {
+    let cases = [
+        ("", Error::Empty),
+        ("a//b", Error::EmptyComponent),
+        ("/a", Error::EmptyComponent),
+        ("a/", Error::EmptyComponent),
+        ("/", Error::EmptyComponent),
+        (".a", Error::StartsWithDot),
+        ("a/.b", Error::StartsWithDot),
+        ("a.lock", Error::LockSuffix),
+        ("a.lock/b", Error::LockSuffix),
+        ("a/b.lock", Error::LockSuffix),
+        ("a.", Error::EndsWithDot),
+        ("a/b.", Error::EndsWithDot),
+        ("a..b", Error::RepeatedDot),
+        ("a@{b", Error::ReflogPortion),
+        ("@{", Error::ReflogPortion),
+        ("*", Error::Asterisk),
+        ("a*b*", Error::Asterisk),
+    ];
+    for (text, fault) in cases {
+        assert_eq!(rt;
+            name_partial(BStr::new(text.as_bytes())),
+            Err(fault),
+            "at {text}"
+        );
+    }
+}
+
+#[test]
+fn reports_one_of_two_faults(rt: HostRuntime) {
+    let fault = name_partial(BStr::new(b"a.."));
+    assert!(rt;
+        matches!(fault, Err(Error::EndsWithDot | Error::RepeatedDot)),
+        "{fault:?}"
+    );
+}
+
+#[test]
+fn names_the_refused_byte(rt: HostRuntime) {
+    let cases = [
+        ("a b", b' '),
+        ("a:b", b':'),
+        ("a^b", b'^'),
+        ("a~b", b'~'),
+        ("a?b", b'?'),
+        ("a[b", b'['),
+        ("a\\b", b'\\'),
+        ("a\tb", b'\t'),
+        ("\x7f", 127),
+        ("\0", 0),
+        ("a\x1f", 31),
+    ];
+    for (text, byte) in cases {
+        assert_eq!(rt;
+            name_partial(BStr::new(text.as_bytes())),
+            Err(Error::InvalidByte { byte }),
+            "at {text:?}"
+        );
+    }
+}
+
+#[test]
+fn accepts_patterns(rt: HostRuntime) {
+    let patterns = [
+        "*",
+        "a.*",
+        "@*",
+        "refs/heads/*",
+        "refs/*/main",
+        "*.lockx",
+        "a/*",
+        "*/a",
+    ];
+    for pattern in patterns {
+        assert_eq!(rt;
+            checked_pattern(rt.alloc(), pattern.as_bytes()),
+            Ok(()),
+            "at {pattern}"
+        );
+    }
+}
+
+#[test]
+fn refuses_what_is_no_pattern(rt: HostRuntime) {
+    let cases = [
+        ("*.", Error::EndsWithDot),
+        (".*", Error::StartsWithDot),
+        ("refs/heads/*.lock", Error::LockSuffix),
+        ("x*.lock", Error::LockSuffix),
+        ("*//", Error::EmptyComponent),
+        ("a*..b", Error::RepeatedDot),
+        ("*@{", Error::ReflogPortion),
+        ("* ", Error::InvalidByte { byte: b' ' }),
+        ("a**", Error::Asterisk),
+    ];
+    for (text, fault) in cases {
+        assert_eq!(rt;
+            checked_pattern(rt.alloc(), text.as_bytes()),
+            Err(PatternError::Name(fault)),
+            "at {text}"
+        );
+    }
+}
+
+#[test]
+fn checks_patterns_of_any_length(rt: HostRuntime) -> Result<(), Fail> {
+    let alloc = rt.alloc();
+    let short = filled(alloc, 256, "*")?;
+    assert_eq!(rt; checked_pattern(alloc, short.as_bytes()), Ok(()));
+    let long = filled(alloc, 257, "*")?;
+    assert_eq!(rt; checked_pattern(alloc, long.as_bytes()), Ok(()));
+    let locked = filled(alloc, 257, "*.lock")?;
+    assert_eq!(rt;
+        checked_pattern(alloc, locked.as_bytes()),
+        Err(PatternError::Name(Error::LockSuffix))
+    );
+    Ok(())
+}
+
+#[test]
+fn prints_errors(rt: HostRuntime) -> Result<(), Fail> {
+    let cases = [
+        (Error::Empty, "Empty"),
+        (Error::EmptyComponent, "EmptyComponent"),
+        (Error::StartsWithDot, "StartsWithDot"),
+        (Error::LockSuffix, "LockSuffix"),
+        (Error::EndsWithDot, "EndsWithDot"),
+        (Error::RepeatedDot, "RepeatedDot"),
+        (Error::ReflogPortion, "ReflogPortion"),
+        (Error::Asterisk, "Asterisk"),
+        (Error::InvalidByte { byte: b' ' }, "InvalidByte"),
+    ];
+    let alloc = rt.alloc();
+    for (fault, text) in cases {
+        assert_eq!(rt; format!(in alloc; "{fault}")?.as_str(), text);
+        assert_eq!(rt;
+            format!(in alloc; "{}", PatternError::Name(fault))?.as_str(),
+            text
+        );
+    }
+    assert_eq!(rt;
+        format!(in alloc; "{}", PatternError::Memory)?.as_str(),
+        "out of memory"
+    );
+    Ok(())
+}
