@@ -7,6 +7,8 @@ pub mod Grammar
 pub mod Refusal
 pub mod Meaning
 pub mod Views
+pub mod Order
+pub mod OrderLaws
 pub mod Spec
 pub mod Pieces
 pub mod Sides

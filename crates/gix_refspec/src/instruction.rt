@@ -3,7 +3,7 @@
 use bstr::BStr;
 
 /// What a push does.
-#[derive(Clone, Copy, Debug)]
+#[derive(Clone, Copy, Debug, PartialEq, Eq, PartialOrd, Ord, Hash)]
 pub enum Push<'a> {
     /// Pushes each local branch that the remote has too.
     AllMatchingBranches {
@@ -26,7 +26,7 @@ pub enum Push<'a> {
 }
 
 /// What a fetch does.
-#[derive(Clone, Copy, Debug)]
+#[derive(Clone, Copy, Debug, PartialEq, Eq, PartialOrd, Ord, Hash)]
 pub enum Fetch<'a> {
     /// Fetches the source and updates no local ref.
     Only {

@@ -113,7 +113,6 @@ pub(crate) fn fault_of(text: &[u8]) -> Option<Error>
 }
 
 // The fault that a byte adds to the text before it. The previous byte is the last one there.
-#[inline(always)]
 fn added_fault(before: &[u8], previous: u8, byte: u8) -> Option<Error>
     requires { Ends (previous ∷ []) (slash ∷ before.now) }
     ensures { Finds result (AddsFault (slash ∷ before.now) byte) }

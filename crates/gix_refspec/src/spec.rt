@@ -5,6 +5,8 @@ ghost use Rattle.bstr.specs.BStr.{bstr_bytes};
 ghost use Rattle.gix_refspec.specs.Grammar.{IsAccepted};
 ghost use Rattle.gix_refspec.specs.Views.{mode_of};
 
+mod comparisons;
+
 use crate::instruction::{Fetch, Push};
 use crate::parsing::Operation;
 use crate::types::{Instruction, Mode};

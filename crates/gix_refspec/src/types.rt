@@ -14,7 +14,7 @@ pub(crate) enum Mode {
 }
 
 /// What a refspec says to do.
-#[derive(Clone, Copy, Debug)]
+#[derive(Clone, Copy, Debug, PartialEq, Eq, PartialOrd, Ord, Hash)]
 pub enum Instruction<'a> {
     /// For a push.
     Push(instruction::Push<'a>),

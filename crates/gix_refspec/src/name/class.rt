@@ -12,7 +12,7 @@ pub(super) enum Class {
     Plain,
     /// It ends a component.
     Slash,
-    /// It may stand neither first in a component nor beside another.
+    /// It may stand neither first in a component, nor last in a text, nor beside another.
     Dot,
     /// It may not stand behind an at sign.
     Brace,
@@ -48,7 +48,6 @@ static CLASSES: [Class; 256] = [
 ];
 
 // The class of a byte.
-#[inline(always)]
 pub(super) fn class_of(byte: u8) -> Class
     ensures { result ≡ class_at byte }
 {

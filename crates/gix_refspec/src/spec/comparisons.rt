@@ -1,0 +1,85 @@
+//! Specs compare and hash as what they say to do.
+
+ghost use Rattle.std.specs.Prelude.{◌≡◌, nat_eq, refl, Some, fold};
+ghost use Rattle.std.specs.Ordering.{nat_cmp};
+ghost use Rattle.std.specs.Cmp.Lexicographic.{pointwise, slice_cmp, lists_ties, texts_ties};
+ghost use Rattle.std.specs.Cmp.{partial_equiv_from_equiv, on_per, on_equiv, on_po, on_total};
+ghost use Rattle.gix_refspec.specs.Meaning.{meaning_of};
+ghost use Rattle.gix_refspec.specs.Order.{is_same as is_same_of, order, writes, writes_of};
+ghost use Rattle.gix_refspec.specs.Views.{shown};
+ghost use Rattle.gix_refspec.specs.Spec.{key_of_spec, reading_of};
+ghost use Rattle.gix_refspec.specs.OrderLaws.{keys_equiv, keys_total, keys_po, meanings_alike};
+
+use crate::spec::RefSpecRef;
+use crate::types::Instruction;
+use std::cmp::Ordering;
+use std::hash::{Hash, Hasher};
+
+// Whether two instructions are the same.
+fn is_same(a: Instruction<'_>, b: Instruction<'_>) -> bool
+    ensures { result ≡ is_same_of (shown a.entry) (shown b.entry) }
+{
+    a == b
+}
+
+// Which of two instructions stands first.
+fn compare(a: Instruction<'_>, b: Instruction<'_>) -> Ordering
+    ensures { result ≡ order (shown a.entry) (shown b.entry) }
+{
+    a.cmp(&b)
+}
+
+impl<'a> PartialEq for RefSpecRef<'a> {
+    ghost eq = { λ x y. pointwise (pointwise nat_eq) (key_of_spec x) (key_of_spec y) };
+
+    ghost laws = { on_per key_of_spec (partial_equiv_from_equiv keys_equiv) };
+
+    fn eq(&self, other: &Self) -> bool {
+        is_same(self.instruction(), other.instruction())
+    }
+}
+
+impl<'a> Eq for RefSpecRef<'a> {
+    ghost laws = { on_equiv key_of_spec keys_equiv };
+}
+
+impl<'a> PartialOrd for RefSpecRef<'a> {
+    ghost partial_cmp = { λ x y. Some (slice_cmp (slice_cmp nat_cmp) (key_of_spec x) (key_of_spec y)) };
+
+    ghost laws = { on_po key_of_spec keys_po };
+
+    fn partial_cmp(&self, other: &Self) -> Option<Ordering> {
+        Some(self.cmp(other))
+    }
+}
+
+impl<'a> Ord for RefSpecRef<'a> {
+    ghost cmp = { λ x y. slice_cmp (slice_cmp nat_cmp) (key_of_spec x) (key_of_spec y) };
+
+    ghost total = { on_total key_of_spec keys_total };
+
+    ghost matches_partial_cmp = { λ x y. refl };
+
+    ghost matches_eq = { λ x y. lists_ties (slice_cmp nat_cmp) texts_ties (key_of_spec x) (key_of_spec y) };
+
+    fn cmp(&self, other: &Self) -> Ordering {
+        compare(self.instruction(), other.instruction())
+    }
+}
+
+impl<'a> Hash for RefSpecRef<'a> {
+    ghost hash_input = { λ s. writes (meaning_of (reading_of s)) };
+
+    ghost respects_eq = { λ x y same. meanings_alike.fed (meaning_of (reading_of x)) (meaning_of (reading_of y)) same };
+
+    fn hash<H: Hasher>(&self, state: &mut H) {
+        feed(self.instruction(), state);
+    }
+}
+
+// Hashes an instruction.
+fn feed<H: Hasher>(a: Instruction<'_>, state: &mut H)
+    ensures { state.new ≡ fold H.write state.old (writes_of (shown a.entry)) }
+{
+    a.hash(state);
+}
