@@ -1,5 +1,6 @@
 -- What a reading says to do, by git-fetch(1) and git-push(1), and the text of that.
-use Rattle.std.specs.Prelude.{ℕ, Bool, true, false, ◌==◌, List, [], ◌∷◌, ◌++◌, Option, None, Some, option_map, if◌then◌else◌}
+use Rattle.std.specs.Prelude.{◌≡◌, ℕ, Bool, true, false, ◌==◌, List, [], ◌∷◌, ◌++◌, Option, None, Some, option_map, if◌then◌else◌}
+use Rattle.std.specs.Io.KnownBytes.{Appends}
 use Rattle.gix_refspec.specs.declared.parsing.Operation.{Operation}
 use Rattle.gix_refspec.specs.declared.parsing.Operation.TheVariants.{Push, Fetch}
 use Rattle.gix_refspec.specs.Reading.{Mode, Normal, Forced, Negative, Reading}
@@ -66,3 +67,9 @@ text_of (fetch_and_update s d forced) = sign forced ++ (s ++ (colon ∷ d))
 -- the canonical text of a reading
 abbrev pub printed : Reading → Option (List ℕ)
 printed r = option_map text_of (meaning_of r)
+
+-- a writer's known bytes grew by the canonical text of the reading
+pub record WritesPrinted (r : Reading) (old new : Option (List ℕ)) : Type 0 where
+  pub text : List ℕ
+  pub is : printed r ≡ Some text
+  pub grown : Appends old new text

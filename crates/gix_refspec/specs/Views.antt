@@ -10,6 +10,8 @@ use Rattle.gix_refspec.specs.declared.instruction.Push.{Push}
 use Rattle.gix_refspec.specs.declared.instruction.Push.TheVariants as push
 use Rattle.gix_refspec.specs.declared.instruction.Fetch.{Fetch}
 use Rattle.gix_refspec.specs.declared.instruction.Fetch.TheVariants as fetch
+use Rattle.gix_refspec.specs.declared.parsing.Operation.{Operation}
+use Rattle.gix_refspec.specs.declared.parsing.Operation.TheVariants as operation
 use Rattle.gix_refspec.specs.declared.parsing.Error.{Error}
 use Rattle.gix_refspec.specs.declared.parsing.Error.TheVariants as error
 use Rattle.gix_refspec.specs.Reading.{Mode, Normal, Forced, Negative, Refusal, Empty, NegativeWithDestination, PushToEmpty, PatternUnsupported, ReferenceName, PatternUnbalanced, NegativeEmpty, NegativeObjectHash}
@@ -38,6 +40,16 @@ shown_fetch (fetch.AndUpdate s d forced) = fetch_and_update (bstr_bytes s) (bstr
 abbrev pub shown : Instruction → Meaning
 shown (instruction.Push p) = shown_push p
 shown (instruction.Fetch f) = shown_fetch f
+
+-- what a meaning is for
+abbrev pub operation_of : Meaning → Operation
+operation_of (push_all_matching forced) = operation.Push
+operation_of (push_delete d) = operation.Push
+operation_of (push_matching s d forced) = operation.Push
+operation_of (push_exclude s) = operation.Push
+operation_of (fetch_only s) = operation.Fetch
+operation_of (fetch_exclude s) = operation.Fetch
+operation_of (fetch_and_update s d forced) = operation.Fetch
 
 -- the error is this refusal of the grammar; the other variants are none
 abbrev pub IsShownAs : Error → Refusal → Type 0

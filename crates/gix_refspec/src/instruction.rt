@@ -1,5 +1,10 @@
 //! What a refspec says to do, by operation.
 
+ghost use Rattle.std.specs.Prelude.{◌≡◌};
+ghost use Rattle.gix_refspec.specs.Views.{shown, operation_of};
+
+use crate::parsing::Operation;
+use crate::types::Instruction;
 use bstr::BStr;
 
 /// What a push does.
@@ -42,4 +47,16 @@ pub enum Fetch<'a> {
         dst: BStr<'a>,
         allow_non_fast_forward: bool,
     },
+}
+
+impl Instruction<'_> {
+    /// What the instruction is for.
+    pub fn operation(&self) -> Operation
+        ensures { result ≡ operation_of (shown self.now) }
+    {
+        match self {
+            Instruction::Push(_) => Operation::Push,
+            Instruction::Fetch(_) => Operation::Fetch,
+        }
+    }
 }

@@ -13,7 +13,7 @@ mod types;
 mod write;
 
 pub use parsing::function::parse;
-pub use spec::RefSpecRef;
+pub use spec::{RefSpec, RefSpecRef};
 pub use types::Instruction;
 
 #[cfg(test)]

@@ -1,7 +1,8 @@
 //! Refspecs as they were read.
 
-ghost use Rattle.std.specs.Prelude.{◌≡◌, option_map};
+ghost use Rattle.std.specs.Prelude.{◌≡◌, option_map, IfOk};
 ghost use Rattle.bstr.specs.BStr.{bstr_bytes};
+ghost use Rattle.bstr.specs.Owned.{bstring_bytes};
 ghost use Rattle.gix_refspec.specs.Grammar.{IsAccepted};
 ghost use Rattle.gix_refspec.specs.Views.{mode_of};
 
@@ -10,7 +11,8 @@ mod comparisons;
 use crate::instruction::{Fetch, Push};
 use crate::parsing::Operation;
 use crate::types::{Instruction, Mode};
-use bstr::BStr;
+use bstr::{BStr, BString};
+use std::alloc::{AllocError, Global};
 
 /// A refspec that borrows its sides from the text that it was read from.
 #[derive(Clone, Copy, Debug)]
@@ -22,11 +24,69 @@ pub struct RefSpecRef<'a> {
     ghost accepted: { ∥ IsAccepted (record { operation = op; mode = mode_of mode; source = option_map bstr_bytes src; destination = option_map bstr_bytes dst }) ∥₁ },
 }
 
+/// A refspec that owns its sides.
+#[derive(Debug, Drop)]
+pub struct RefSpec {
+    op: Operation,
+    mode: Mode,
+    src: Option<BString>,
+    dst: Option<BString>,
+    ghost accepted: { ∥ IsAccepted (record { operation = op; mode = mode_of mode; source = option_map bstring_bytes src; destination = option_map bstring_bytes dst }) ∥₁ },
+}
+
 impl<'a> RefSpecRef<'a> {
     ghost use Rattle.std.specs.Prelude.{Some};
     ghost use Rattle.gix_refspec.specs.Meaning.{meaning_of};
     ghost use Rattle.gix_refspec.specs.Views.{shown};
-    ghost use Rattle.gix_refspec.specs.Spec.{reading_of};
+    ghost use Rattle.gix_refspec.specs.Spec.{reading_of, owned_reading_of, local_of, remote_of};
+
+    /// The left side, as it was read: a lone `@` stands as `HEAD`. None for a push that deletes a ref
+    /// or takes all matching branches.
+    pub fn source(&self) -> Option<BStr<'a>>
+        ensures { option_map bstr_bytes result ≡ (reading_of self.now).source }
+    {
+        self.src
+    }
+
+    /// The right side, as it was read. None for a spec of a source alone, though a push of one has it as
+    /// its destination too.
+    pub fn destination(&self) -> Option<BStr<'a>>
+        ensures { option_map bstr_bytes result ≡ (reading_of self.now).destination }
+    {
+        self.dst
+    }
+
+    /// The side on the remote: the source of a fetch, the destination of a push.
+    pub fn remote(&self) -> Option<BStr<'a>>
+        ensures { option_map bstr_bytes result ≡ remote_of (reading_of self.now) }
+    {
+        match self.op {
+            Operation::Push => self.dst,
+            Operation::Fetch => self.src,
+        }
+    }
+
+    /// The local side: the destination of a fetch, the source of a push.
+    pub fn local(&self) -> Option<BStr<'a>>
+        ensures { option_map bstr_bytes result ≡ local_of (reading_of self.now) }
+    {
+        match self.op {
+            Operation::Push => self.src,
+            Operation::Fetch => self.dst,
+        }
+    }
+
+    /// A copy that owns its sides.
+    pub fn to_owned(&self, alloc: Global) -> Result<RefSpec, AllocError>
+        ensures { IfOk result (λ owned. owned_reading_of owned ≡ reading_of self.now) }
+    {
+        Ok(RefSpec {
+            op: self.op,
+            mode: self.mode,
+            src: owned_side(alloc, self.src)?,
+            dst: owned_side(alloc, self.dst)?,
+        })
+    }
 
     /// What the spec says to do. The sides live as long as the text that the spec was read from.
     pub fn instruction(&self) -> Instruction<'a>
@@ -76,5 +136,57 @@ impl<'a> RefSpecRef<'a> {
             },
             _ => unreachable!(),
         }
+    }
+}
+
+impl RefSpec {
+    ghost use Rattle.std.specs.Prelude.{◌↔◌, IsTrue};
+    ghost use Rattle.gix_refspec.specs.Reading.{Forced};
+    ghost use Rattle.gix_refspec.specs.Spec.{reading_of, owned_reading_of};
+
+    /// The same spec, with sides that are borrowed from this one.
+    pub fn to_ref(&self) -> RefSpecRef<'_>
+        ensures { reading_of result ≡ owned_reading_of self.now }
+    {
+        RefSpecRef {
+            op: self.op,
+            mode: self.mode,
+            src: borrowed_side(&self.src),
+            dst: borrowed_side(&self.dst),
+        }
+    }
+
+    /// Whether a `+` stood before the spec, also where its instruction doesn't say so.
+    pub fn allow_non_fast_forward(&self) -> bool
+        ensures { IsTrue result ↔ ((owned_reading_of self.now).mode ≡ Forced) }
+    {
+        self.mode == Mode::Force
+    }
+
+    /// A copy with sides of its own.
+    pub fn clone(&self, alloc: Global) -> Result<RefSpec, AllocError>
+        ensures { IfOk result (λ copy. owned_reading_of copy ≡ owned_reading_of self.now) }
+    {
+        self.to_ref().to_owned(alloc)
+    }
+}
+
+// A side that owns its bytes.
+fn owned_side(alloc: Global, side: Option<BStr<'_>>) -> Result<Option<BString>, AllocError>
+    ensures { IfOk result (λ owned. option_map bstring_bytes owned ≡ option_map bstr_bytes side.entry) }
+{
+    match side {
+        None => Ok(None),
+        Some(side) => Ok(Some(BString::from_slice(alloc, side)?)),
+    }
+}
+
+// A side that borrows its bytes.
+fn borrowed_side(side: &Option<BString>) -> Option<BStr<'_>>
+    ensures { option_map bstr_bytes result ≡ option_map bstring_bytes side.now }
+{
+    match side {
+        None => None,
+        Some(side) => Some(side.as_bstr()),
     }
 }

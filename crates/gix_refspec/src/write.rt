@@ -1,6 +1,7 @@
 //! Instructions and refspecs as canonical text.
 
-ghost use Rattle.std.specs.Prelude.{◌≡◌, ◌∷◌, ◌++◌, IfOk};
+ghost use Rattle.std.specs.Prelude.{◌≡◌, ◌∷◌, ◌++◌, IfOk, OnOk};
+ghost use Rattle.std.specs.Io.KnownBytes.{Appends};
 ghost use Rattle.bstr.specs.Owned.{bstring_bytes};
 ghost use Rattle.gix_refspec.specs.Grammar.{colon};
 ghost use Rattle.gix_refspec.specs.Meaning.{sign as sign_of, text_of};
@@ -12,6 +13,8 @@ use crate::spec::RefSpecRef;
 use crate::types::Instruction;
 use bstr::BString;
 use std::alloc::{AllocError, Global};
+use std::io;
+use std::io::Write;
 
 // What the text of an instruction is made of, in this order.
 #[derive(Clone, Copy)]
@@ -41,6 +44,18 @@ impl<'a> Instruction<'a> {
         text.extend_from_slice(pieces.colon)?;
         text.extend_from_slice(pieces.destination)?;
         Ok(BString::new(text))
+    }
+
+    /// Writes the canonical text of the instruction, and asks for no memory itself. After a fault, which
+    /// is the writer's, a part of the text may have gone out.
+    pub fn write_to<W: Write>(&self, out: &mut W) -> io::Result<()>
+        ensures { OnOk result (Appends (W.contents out.old) (W.contents out.new) (text_of (shown self.now))) }
+    {
+        let pieces = self.pieces();
+        out.write_all(pieces.sign)?;
+        out.write_all(pieces.source)?;
+        out.write_all(pieces.colon)?;
+        out.write_all(pieces.destination)
     }
 
     // The pieces whose text is the instruction's.
@@ -134,7 +149,7 @@ impl<'a> Pieces<'a> {
 
 impl<'a> RefSpecRef<'a> {
     ghost use Rattle.std.specs.Prelude.{Some};
-    ghost use Rattle.gix_refspec.specs.Meaning.{printed};
+    ghost use Rattle.gix_refspec.specs.Meaning.{printed, WritesPrinted};
     ghost use Rattle.gix_refspec.specs.Spec.{reading_of};
 
     /// The canonical text of the spec.
@@ -142,5 +157,13 @@ impl<'a> RefSpecRef<'a> {
         ensures { IfOk result (λ text. printed (reading_of self.now) ≡ Some (bstring_bytes text)) }
     {
         self.instruction().to_bstring(alloc)
+    }
+
+    /// Writes the canonical text of the spec, and asks for no memory itself. After a fault, which is the
+    /// writer's, a part of the text may have gone out.
+    pub fn write_to<W: Write>(&self, out: &mut W) -> io::Result<()>
+        ensures { OnOk result (WritesPrinted (reading_of self.now) (W.contents out.old) (W.contents out.new)) }
+    {
+        self.instruction().write_to(out)
     }
 }

@@ -7,10 +7,10 @@ ghost use Rattle.std.specs.Cmp.{partial_equiv_from_equiv, on_per, on_equiv, on_p
 ghost use Rattle.gix_refspec.specs.Meaning.{meaning_of};
 ghost use Rattle.gix_refspec.specs.Order.{is_same as is_same_of, order, writes, writes_of};
 ghost use Rattle.gix_refspec.specs.Views.{shown};
-ghost use Rattle.gix_refspec.specs.Spec.{key_of_spec, reading_of};
+ghost use Rattle.gix_refspec.specs.Spec.{key_of_spec, key_of_owned, reading_of, owned_reading_of};
 ghost use Rattle.gix_refspec.specs.OrderLaws.{keys_equiv, keys_total, keys_po, meanings_alike};
 
-use crate::spec::RefSpecRef;
+use crate::spec::{RefSpec, RefSpecRef};
 use crate::types::Instruction;
 use std::cmp::Ordering;
 use std::hash::{Hash, Hasher};
@@ -74,6 +74,54 @@ impl<'a> Hash for RefSpecRef<'a> {
 
     fn hash<H: Hasher>(&self, state: &mut H) {
         feed(self.instruction(), state);
+    }
+}
+
+impl PartialEq for RefSpec {
+    ghost eq = { λ x y. pointwise (pointwise nat_eq) (key_of_owned x) (key_of_owned y) };
+
+    ghost laws = { on_per key_of_owned (partial_equiv_from_equiv keys_equiv) };
+
+    fn eq(&self, other: &Self) -> bool {
+        self.to_ref() == other.to_ref()
+    }
+}
+
+impl Eq for RefSpec {
+    ghost laws = { on_equiv key_of_owned keys_equiv };
+}
+
+impl PartialOrd for RefSpec {
+    ghost partial_cmp = { λ x y. Some (slice_cmp (slice_cmp nat_cmp) (key_of_owned x) (key_of_owned y)) };
+
+    ghost laws = { on_po key_of_owned keys_po };
+
+    fn partial_cmp(&self, other: &Self) -> Option<Ordering> {
+        Some(self.cmp(other))
+    }
+}
+
+impl Ord for RefSpec {
+    ghost cmp = { λ x y. slice_cmp (slice_cmp nat_cmp) (key_of_owned x) (key_of_owned y) };
+
+    ghost total = { on_total key_of_owned keys_total };
+
+    ghost matches_partial_cmp = { λ x y. refl };
+
+    ghost matches_eq = { λ x y. lists_ties (slice_cmp nat_cmp) texts_ties (key_of_owned x) (key_of_owned y) };
+
+    fn cmp(&self, other: &Self) -> Ordering {
+        self.to_ref().cmp(&other.to_ref())
+    }
+}
+
+impl Hash for RefSpec {
+    ghost hash_input = { λ s. writes (meaning_of (owned_reading_of s)) };
+
+    ghost respects_eq = { λ x y same. meanings_alike.fed (meaning_of (owned_reading_of x)) (meaning_of (owned_reading_of y)) same };
+
+    fn hash<H: Hasher>(&self, state: &mut H) {
+        self.to_ref().hash(state);
     }
 }
 
