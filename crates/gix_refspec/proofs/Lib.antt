@@ -9,3 +9,5 @@ pub mod ReasonLemmas
 pub mod ReadsLemmas
 pub mod ObjectIdLemmas
 pub mod ObjectIdFacts
+pub mod DecideLemmas
+pub mod SettleLemmas

@@ -231,7 +231,7 @@ found_fault x Asterisk some fault = inl (record { before = slash ∷ fault.befor
 found_fault x (InvalidByte c) some fault = inl (record { before = slash ∷ fault.0.before; byte = c; after = fault.0.after; here = ap (λ z. slash ∷ z) fault.0.here; fault = (refl, fault.1) })
 
 -- a text of which no fault is found is a name
-IsName-from_clean : (x : List ℕ) → x ≢ [] → IsClean (slash ∷ x) → ((e : Error) → ¬ (LeavesFault (slash ∷ x) e)) → IsName x
+pub IsName-from_clean : (x : List ℕ) → x ≢ [] → IsClean (slash ∷ x) → ((e : Error) → ¬ (LeavesFault (slash ∷ x) e)) → IsName x
 IsName-from_clean x some clean none e fault = elim (found_fault x e some fault) [ inl added ↦ clean e added | inr left ↦ none e left ]
 
 -- the answer at the end of a text in which no fault is found before

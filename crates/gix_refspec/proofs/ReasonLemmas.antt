@@ -149,7 +149,7 @@ error_at_destination op m s d e before source =
     (λ f h. reason_at_destination op m s d f before source (bad_destination d f h))
 
 -- the reasons before the source's, against a negative spec without a colon
-negative_reaches : (op : Operation) (s : List ℕ) → NoReasonBeforeSource op Negative s None
+pub negative_reaches : (op : Operation) (s : List ℕ) → NoReasonBeforeSource op Negative s None
 negative_reaches op s = (λ e h. let i = h.unsigned in absurd (cc), λ e h. let i = h.colon in absurd (cc), λ e h. let i = h.nowhere in absurd (cc))
 
 -- the reason against a negative spec of an object
@@ -157,3 +157,21 @@ pub reason_against_object : (op : Operation) (s : List ℕ) (k : Side) → s ≢
 reason_against_object op s k full a hash =
     let before = negative_reaches op s in
     inr (before.0, inr (before.1, inr (before.2, inr (alone_fine op s k a, inr (λ e h. let i = h.is in absurd (cc), inr (λ e h. h.positive, inr (λ e h. full h.no_source, record { negative = refl; hash = hash; refusal = refl })))))))
+
+-- the reason against a negative spec of nothing
+pub reason_against_nothing : (op : Operation) (s : List ℕ) (k : Side) → s ≡ [] → IsCheckedSide s k → IsFirstReason op Negative s None NegativeEmpty
+reason_against_nothing op s k empty a =
+    let before = negative_reaches op s in
+    inr (before.0, inr (before.1, inr (before.2, inr (alone_fine op s k a, inr (λ e h. let i = h.is in absurd (cc), inr (λ e h. h.positive, inl (record { negative = refl; no_source = empty; refusal = refl })))))))
+
+-- a bad side alone is a bad source
+pub bad_negative : (op : Operation) (s : List ℕ) (e : Refusal) → IsBadSide s e → HasBadSource op s None e
+bad_negative Push s e bad = record { source = bad.0; refusal = bad.1 }
+bad_negative Fetch s e bad = record { source = bad.0; refusal = bad.1 }
+
+-- the reason against a push of sides of two kinds
+pub unbalanced_push : (m : Mode) (s t : List ℕ) (j k : Side) → IsPositive m → (s ≢ [] → t ≡ [] → ⊥) → IsSide s j → IsCheckedSide t k → j ≢ k → IsFirstReason Push m s (Some t) PatternUnbalanced
+unbalanced_push m s t j k pos somewhere source target differ =
+    let one = sides_unbalanced s t j k source (checked_starred t k target) differ in
+    reason_of_balance Push m s (Some t) PatternUnbalanced (push_reaches m s t pos somewhere) (push_source_fine s t j source) (destination_fine (Some t) k target)
+    (record { positive = pos; one = one; has_destination = λ _. unbalanced_somewhere s t one somewhere; refusal = refl })
