@@ -47,7 +47,7 @@ abbrev pub Found : (Error → Type 0) → Type 0
 Found P = ((e : Error) × P e) ⊎ ((e : Error) → ¬ (P e))
 
 -- no fault but these is added by a byte
-no_added : (y : List ℕ) (b : ℕ) → ¬ ((b ≡ slash) × Ends (codes "/") y) → ¬ ((b ≡ dot) × Ends (codes "/") y) → ¬ ((b ≡ slash) × Ends (codes ".lock") y) → ¬ ((b ≡ dot) × Ends (codes ".") y) → ¬ ((b ≡ brace) × Ends (codes "@") y) → ¬ (b ≡ star) → ¬ (IsTrue (is_refused_byte b)) → (e : Error) → ¬ (AddsFault y b e)
+pub no_added : (y : List ℕ) (b : ℕ) → ¬ ((b ≡ slash) × Ends (codes "/") y) → ¬ ((b ≡ dot) × Ends (codes "/") y) → ¬ ((b ≡ slash) × Ends (codes ".lock") y) → ¬ ((b ≡ dot) × Ends (codes ".") y) → ¬ ((b ≡ brace) × Ends (codes "@") y) → ¬ (b ≡ star) → ¬ (IsTrue (is_refused_byte b)) → (e : Error) → ¬ (AddsFault y b e)
 no_added y b component start lock dots reflog starless fine Empty h = h
 no_added y b component start lock dots reflog starless fine EmptyComponent h = component h
 no_added y b component start lock dots reflog starless fine StartsWithDot h = start h
@@ -61,48 +61,48 @@ no_added y b component start lock dots reflog starless fine (InvalidByte c) h = 
 -- whether a byte adds a fault
 added_fault : (y : List ℕ) (b : ℕ) → Found (AddsFault y b)
 added_fault y b = elim (both (decided_byte b slash) (decided_end (codes "/") y)) [
-    | inl found ↦ inl (EmptyComponent, found)
-    | inr no_component ↦ elim (both (decided_byte b dot) (decided_end (codes "/") y)) [
-      | inl found ↦ inl (StartsWithDot, found)
-      | inr no_start ↦ elim (both (decided_byte b slash) (decided_end (codes ".lock") y)) [
-        | inl found ↦ inl (LockSuffix, found)
-        | inr no_lock ↦ elim (both (decided_byte b dot) (decided_end (codes ".") y)) [
-          | inl found ↦ inl (RepeatedDot, found)
-          | inr no_dots ↦ elim (both (decided_byte b brace) (decided_end (codes "@") y)) [
-            | inl found ↦ inl (ReflogPortion, found)
-            | inr no_reflog ↦ elim (decided_byte b star) [
-              | inl found ↦ inl (Asterisk, found)
-              | inr no_star ↦ elim (decided_refused b) [
-                | inl found ↦ inl (InvalidByte b, (refl, found))
-                | inr fine ↦ inr (no_added y b no_component no_start no_lock no_dots no_reflog no_star fine)
-              ]
+  | inl found ↦ inl (EmptyComponent, found)
+  | inr no_component ↦ elim (both (decided_byte b dot) (decided_end (codes "/") y)) [
+    | inl found ↦ inl (StartsWithDot, found)
+    | inr no_start ↦ elim (both (decided_byte b slash) (decided_end (codes ".lock") y)) [
+      | inl found ↦ inl (LockSuffix, found)
+      | inr no_lock ↦ elim (both (decided_byte b dot) (decided_end (codes ".") y)) [
+        | inl found ↦ inl (RepeatedDot, found)
+        | inr no_dots ↦ elim (both (decided_byte b brace) (decided_end (codes "@") y)) [
+          | inl found ↦ inl (ReflogPortion, found)
+          | inr no_reflog ↦ elim (decided_byte b star) [
+            | inl found ↦ inl (Asterisk, found)
+            | inr no_star ↦ elim (decided_refused b) [
+              | inl found ↦ inl (InvalidByte b, (refl, found))
+              | inr fine ↦ inr (no_added y b no_component no_start no_lock no_dots no_reflog no_star fine)
             ]
           ]
         ]
       ]
     ]
   ]
+]
 
 -- whether the end leaves a fault
 left_fault : (y : List ℕ) → Found (LeavesFault y)
 left_fault y = elim (decided_end (codes "/") y) [
-    | inl found ↦ inl (EmptyComponent, found)
-    | inr whole ↦ elim (decided_end (codes ".") y) [
-      | inl found ↦ inl (EndsWithDot, found)
-      | inr undotted ↦ elim (decided_end (codes ".lock") y) [
-        | inl found ↦ inl (LockSuffix, found)
-        | inr unlocked ↦ inr (λ e left. end_leaves y e whole undotted unlocked left)
-      ]
+  | inl found ↦ inl (EmptyComponent, found)
+  | inr whole ↦ elim (decided_end (codes ".") y) [
+    | inl found ↦ inl (EndsWithDot, found)
+    | inr undotted ↦ elim (decided_end (codes ".lock") y) [
+      | inl found ↦ inl (LockSuffix, found)
+      | inr unlocked ↦ inr (λ e left. end_leaves y e whole undotted unlocked left)
     ]
   ]
+]
 
 -- whether some byte behind clean ones adds a fault
 scanned : (y rest : List ℕ) → IsClean y → ((e : Error) × Added (y ++ rest) e) ⊎ IsClean (y ++ rest)
 scanned y [] clean = inr (subst IsClean (sym (append-nil y)) clean)
 scanned y (b ∷ rest) clean = elim (added_fault y b) [
-    | inl found ↦ inl (found.0, record { before = y; byte = b; after = rest; here = refl; fault = found.1 })
-    | inr none ↦ subst (λ (x : List ℕ). ((e : Error) × Added x e) ⊎ IsClean x) (append_assoc y (b ∷ []) rest) (scanned (y ++ (b ∷ [])) rest (IsClean-more y b clean none))
-  ]
+  | inl found ↦ inl (found.0, record { before = y; byte = b; after = rest; here = refl; fault = found.1 })
+  | inr none ↦ subst (λ (x : List ℕ). ((e : Error) × Added x e) ⊎ IsClean x) (append_assoc y (b ∷ []) rest) (scanned (y ++ (b ∷ [])) rest (IsClean-more y b clean none))
+]
 
 -- each text is a name or has a fault
 pub name_or_fault : (x : List ℕ) → IsName x ⊎ ((e : Error) × HasFault x e)
@@ -127,12 +127,12 @@ pub record FirstPlace (b : ℕ) (x : List ℕ) : Type 0 where
 pub lacks_or_first : (b : ℕ) (x : List ℕ) → Lacks b x ⊎ FirstPlace b x
 lacks_or_first b [] = inl tt
 lacks_or_first b (c ∷ x) = elim (decided_byte c b) [
-    | inl same ↦ inr (record { before = []; after = x; here = ap (λ d. d ∷ x) same; first = tt })
-    | inr other ↦ elim (lacks_or_first b x) [
-      | inl lacks ↦ inl (other, lacks)
-      | inr place ↦ inr (record { before = c ∷ place.before; after = place.after; here = ap (λ y. c ∷ y) place.here; first = (other, place.first) })
-    ]
+  | inl same ↦ inr (record { before = []; after = x; here = ap (λ d. d ∷ x) same; first = tt })
+  | inr other ↦ elim (lacks_or_first b x) [
+    | inl lacks ↦ inl (other, lacks)
+    | inr place ↦ inr (record { before = c ∷ place.before; after = place.after; here = ap (λ y. c ∷ y) place.here; first = (other, place.first) })
   ]
+]
 
 -- the last place of a byte
 pub record LastPlace (b : ℕ) (x : List ℕ) : Type 0 where
@@ -144,9 +144,9 @@ pub record LastPlace (b : ℕ) (x : List ℕ) : Type 0 where
 pub lacks_or_last : (b : ℕ) (x : List ℕ) → Lacks b x ⊎ LastPlace b x
 lacks_or_last b [] = inl tt
 lacks_or_last b (c ∷ x) = elim (lacks_or_last b x) [
-    | inr place ↦ inr (record { before = c ∷ place.before; after = place.after; here = ap (λ y. c ∷ y) place.here; last = place.last })
-    | inl lacks ↦ elim (decided_byte c b) [
-      | inl same ↦ inr (record { before = []; after = x; here = ap (λ d. d ∷ x) same; last = lacks })
-      | inr other ↦ inl (other, lacks)
-    ]
+  | inr place ↦ inr (record { before = c ∷ place.before; after = place.after; here = ap (λ y. c ∷ y) place.here; last = place.last })
+  | inl lacks ↦ elim (decided_byte c b) [
+    | inl same ↦ inr (record { before = []; after = x; here = ap (λ d. d ∷ x) same; last = lacks })
+    | inr other ↦ inl (other, lacks)
   ]
+]

@@ -11,3 +11,7 @@ pub mod ObjectIdLemmas
 pub mod ObjectIdFacts
 pub mod DecideLemmas
 pub mod SettleLemmas
+pub mod ReadOnceLemmas
+pub mod HeadLemmas
+pub mod ReadBackLemmas
+pub mod FormsBackLemmas

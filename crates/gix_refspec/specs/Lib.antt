@@ -10,6 +10,7 @@ pub mod Views
 pub mod Order
 pub mod OrderLaws
 pub mod Spec
+pub mod Laws
 pub mod Pieces
 pub mod Sides
 pub mod ObjectId

@@ -5,6 +5,7 @@
 #![tactic(auto)]
 
 pub mod instruction;
+pub mod laws;
 pub mod name;
 pub mod oid;
 pub mod parsing;

@@ -1,0 +1,6 @@
+-- A canonical text has one reading.
+use Rattle.gix_refspec.proofs.FormsBackLemmas.{equal_texts}
+use Rattle.gix_refspec.proofs.laws.equal_texts.Goals as goal
+
+pub returns : goal.returns
+returns c = equal_texts c.args.operation c.args.a.now c.args.b.now
