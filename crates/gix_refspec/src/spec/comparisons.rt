@@ -1,6 +1,6 @@
 //! Specs compare and hash as what they say to do.
 
-ghost use Rattle.std.specs.Prelude.{◌≡◌, nat_eq, refl, Some, fold};
+ghost use Rattle.std.specs.Prelude.{◌≡◌, ◌↔◌, nat_eq, refl, Some, IsTrue, fold};
 ghost use Rattle.std.specs.Ordering.{nat_cmp};
 ghost use Rattle.std.specs.Cmp.Lexicographic.{pointwise, slice_cmp, lists_ties, texts_ties};
 ghost use Rattle.std.specs.Cmp.{partial_equiv_from_equiv, on_per, on_equiv, on_po, on_total};
@@ -34,7 +34,10 @@ impl<'a> PartialEq for RefSpecRef<'a> {
 
     ghost laws = { on_per key_of_spec (partial_equiv_from_equiv keys_equiv) };
 
-    fn eq(&self, other: &Self) -> bool {
+    fn eq(&self, other: &Self) -> bool
+        ensures keys { result ≡ pointwise (pointwise nat_eq) (key_of_spec self.now) (key_of_spec other.now) }
+        ensures same { IsTrue result ↔ (meaning_of (reading_of self.now) ≡ meaning_of (reading_of other.now)) }
+    {
         is_same(self.instruction(), other.instruction())
     }
 }
@@ -82,7 +85,10 @@ impl PartialEq for RefSpec {
 
     ghost laws = { on_per key_of_owned (partial_equiv_from_equiv keys_equiv) };
 
-    fn eq(&self, other: &Self) -> bool {
+    fn eq(&self, other: &Self) -> bool
+        ensures keys { result ≡ pointwise (pointwise nat_eq) (key_of_owned self.now) (key_of_owned other.now) }
+        ensures same { IsTrue result ↔ (meaning_of (owned_reading_of self.now) ≡ meaning_of (owned_reading_of other.now)) }
+    {
         self.to_ref() == other.to_ref()
     }
 }
