@@ -15,3 +15,4 @@ pub mod ReadOnceLemmas
 pub mod HeadLemmas
 pub mod ReadBackLemmas
 pub mod FormsBackLemmas
+pub mod PrefixLemmas

@@ -9,6 +9,8 @@ pub mod Meaning
 pub mod Views
 pub mod Order
 pub mod OrderLaws
+pub mod Match
+pub mod Prefix
 pub mod Spec
 pub mod Laws
 pub mod Pieces

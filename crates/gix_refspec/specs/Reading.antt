@@ -2,6 +2,7 @@
 use Rattle.std.specs.Prelude.{ℕ, List, Option}
 use Rattle.gix_refspec.specs.declared.name.Error.{Error}
 use Rattle.gix_refspec.specs.declared.parsing.Operation.{Operation}
+use Rattle.gix_refspec.specs.declared.parsing.Operation.TheVariants.{Push, Fetch}
 
 -- what the sign says: none, `+` or `^`
 pub data Mode : Type 0 where
@@ -26,3 +27,15 @@ pub data Refusal : Type 0 where
   PatternUnbalanced : Refusal
   NegativeEmpty : Refusal
   NegativeObjectHash : Refusal
+
+-- a fetch has its source on the remote, a push its destination
+abbrev pub side_on_remote : Operation → Option (List ℕ) → Option (List ℕ) → Option (List ℕ)
+side_on_remote Push s d = d
+side_on_remote Fetch s d = s
+
+-- the side on the remote, and the local one
+abbrev pub remote_of : Reading → Option (List ℕ)
+remote_of r = side_on_remote r.operation r.source r.destination
+
+abbrev pub local_of : Reading → Option (List ℕ)
+local_of r = side_on_remote r.operation r.destination r.source

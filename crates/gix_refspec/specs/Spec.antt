@@ -1,20 +1,13 @@
 -- What a clause reads of a refspec.
-use Rattle.std.specs.Prelude.{ℕ, List, Option, option_map}
+use Rattle.std.specs.Prelude.{ℕ, List, option_map}
 use Rattle.bstr.specs.BStr.{bstr_bytes}
 use Rattle.bstr.specs.Owned.{bstring_bytes}
-use Rattle.gix_refspec.specs.declared.parsing.Operation.{Operation}
-use Rattle.gix_refspec.specs.declared.parsing.Operation.TheVariants.{Push, Fetch}
 use Rattle.gix_refspec.specs.declared.spec.RefSpecRef.{RefSpecRef}
 use Rattle.gix_refspec.specs.declared.spec.RefSpec.{RefSpec}
 use Rattle.gix_refspec.specs.Reading.{Reading}
 use Rattle.gix_refspec.specs.Meaning.{meaning_of}
 use Rattle.gix_refspec.specs.Order.{keys}
 use Rattle.gix_refspec.specs.Views.{mode_of}
-
--- a fetch has its source on the remote, a push its destination
-abbrev pub side_on_remote : Operation → Option (List ℕ) → Option (List ℕ) → Option (List ℕ)
-side_on_remote Push s d = d
-side_on_remote Fetch s d = s
 
 -- what the spec was read as
 abbrev pub reading_of : RefSpecRef → Reading
@@ -27,13 +20,6 @@ key_of_spec s = keys (meaning_of (reading_of s))
 -- what an owned spec was read as
 abbrev pub owned_reading_of : RefSpec → Reading
 owned_reading_of s = record { operation = s.op; mode = mode_of s.mode; source = option_map bstring_bytes s.src; destination = option_map bstring_bytes s.dst }
-
--- the side on the remote, and the local one
-abbrev pub remote_of : Reading → Option (List ℕ)
-remote_of r = side_on_remote r.operation r.source r.destination
-
-abbrev pub local_of : Reading → Option (List ℕ)
-local_of r = side_on_remote r.operation r.destination r.source
 
 -- the key by which owned specs compare
 abbrev pub key_of_owned : RefSpec → List (List ℕ)

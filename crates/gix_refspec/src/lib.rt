@@ -4,11 +4,13 @@
 //! and what they become.
 #![tactic(auto)]
 
+mod cut;
 pub mod instruction;
 pub mod laws;
 pub mod name;
 pub mod oid;
 pub mod parsing;
+mod prefix;
 mod spec;
 mod types;
 mod write;

@@ -38,7 +38,8 @@ impl<'a> RefSpecRef<'a> {
     ghost use Rattle.std.specs.Prelude.{Some};
     ghost use Rattle.gix_refspec.specs.Meaning.{meaning_of};
     ghost use Rattle.gix_refspec.specs.Views.{shown};
-    ghost use Rattle.gix_refspec.specs.Spec.{reading_of, owned_reading_of, local_of, remote_of};
+    ghost use Rattle.gix_refspec.specs.Spec.{reading_of, owned_reading_of};
+    ghost use Rattle.gix_refspec.specs.Reading.{local_of, remote_of};
 
     /// The left side, as it was read: a lone `@` stands as `HEAD`. None for a push that deletes a ref
     /// or takes all matching branches.

@@ -1,8 +1,7 @@
 //! The reading of a refspec.
 
-ghost use Rattle.std.specs.Prelude.{◌≡◌, ◌≢◌, ◌↔◌, [], ◌∷◌, ◌++◌, option_map, MatchOption, IfOk, IfErr, IsTrue};
+ghost use Rattle.std.specs.Prelude.{◌≡◌, ◌≢◌, ◌↔◌, [], option_map, IfOk, IfErr, IsTrue};
 ghost use Rattle.bstr.specs.BStr.{bstr_bytes};
-ghost use Rattle.gix_refspec.specs.Text.{Lacks};
 ghost use Rattle.gix_refspec.specs.Reading.{Mode as ModeOf, Normal, Negative};
 ghost use Rattle.gix_refspec.specs.Grammar.{IsSigned, IsPositive, LooksLikeObjectHash, Reads, with_colon, LastLacksColon, named_by};
 ghost use Rattle.gix_refspec.specs.Refusal.{IsBadPattern, IsRefused, MayWantMemory, WantsMemory};
@@ -10,12 +9,13 @@ ghost use Rattle.gix_refspec.specs.Views.{mode_of, MemoryOr};
 ghost use Rattle.gix_refspec.specs.Spec.{reading_of};
 ghost use Rattle.gix_refspec.specs.Sides.{AreStarsOf, IsSide, IsCheckedSide, IsBadSide, IsReason, PartsRead, read_as, named_or_head as named_or_head_of, side_of as side_bytes};
 
+use crate::cut::{split_at_first, split_at_last};
 use crate::name::{PatternError, name_partial, pattern_partial};
 use crate::oid::Kind;
 use crate::parsing::{Error, Operation};
 use crate::spec::RefSpecRef;
 use crate::types::Mode;
-use bstr::{BStr, BString, ByteSlice};
+use bstr::{BStr, BString};
 use std::alloc::Global;
 
 // How many stars a side has.
@@ -88,28 +88,6 @@ fn cut_at_last_colon(rest: &[u8]) -> (&[u8], Option<&[u8]>)
         None => (rest, None),
         Some((source, destination)) => (source, Some(destination)),
     }
-}
-
-// What stands before and behind the last place of a byte.
-fn split_at_last(text: &[u8], byte: u8) -> Option<(&[u8], &[u8])>
-    ensures { MatchOption result
-        (Lacks byte text.now)
-        (λ parts. (text.now ≡ parts.0.now ++ (byte ∷ parts.1.now)) × Lacks byte parts.1.now) }
-{
-    let at = text.rfind_byte(byte)?;
-    let (front, back) = text.split_at(at);
-    Some((front, &back[1..]))
-}
-
-// What stands before and behind the first place of a byte.
-fn split_at_first(text: &[u8], byte: u8) -> Option<(&[u8], &[u8])>
-    ensures { MatchOption result
-        (Lacks byte text.now)
-        (λ parts. (text.now ≡ parts.0.now ++ (byte ∷ parts.1.now)) × Lacks byte parts.0.now) }
-{
-    let at = text.find_byte(byte)?;
-    let (front, back) = text.split_at(at);
-    Some((front, &back[1..]))
 }
 
 // How many stars a side has.

@@ -1,0 +1,38 @@
+//! Texts that are cut at a byte.
+
+ghost use Rattle.std.specs.Prelude.{◌≡◌, [], ◌∷◌, ◌++◌, MatchOption, MatchBool};
+ghost use Rattle.gix_refspec.specs.Text.{Lacks, Holds};
+
+use bstr::ByteSlice;
+
+// What stands before and behind the last place of a byte.
+pub(crate) fn split_at_last(text: &[u8], byte: u8) -> Option<(&[u8], &[u8])>
+    ensures { MatchOption result
+        (Lacks byte text.now)
+        (λ parts. (text.now ≡ parts.0.now ++ (byte ∷ parts.1.now)) × Lacks byte parts.1.now) }
+{
+    let at = text.rfind_byte(byte)?;
+    let (front, back) = text.split_at(at);
+    Some((front, &back[1..]))
+}
+
+// What stands before and behind the first place of a byte.
+pub(crate) fn split_at_first(text: &[u8], byte: u8) -> Option<(&[u8], &[u8])>
+    ensures { MatchOption result
+        (Lacks byte text.now)
+        (λ parts. (text.now ≡ parts.0.now ++ (byte ∷ parts.1.now)) × Lacks byte parts.0.now) }
+{
+    let at = text.find_byte(byte)?;
+    let (front, back) = text.split_at(at);
+    Some((front, &back[1..]))
+}
+
+// Whether a byte stands in a text.
+pub(crate) fn holds(text: &[u8], byte: u8) -> bool
+    ensures { MatchBool result (Holds (byte ∷ []) text.now) (Lacks byte text.now) }
+{
+    match split_at_first(text, byte) {
+        None => false,
+        Some(_) => true,
+    }
+}
