@@ -1,2 +1,3 @@
 mod name;
 mod oid;
+mod parsing;

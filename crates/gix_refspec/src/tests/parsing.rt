@@ -1,0 +1,261 @@
+//! Which texts are read, how they print, what they say to do, and why others are refused.
+
+use crate::instruction::Fetch;
+use crate::parsing::{Error, Operation};
+use crate::{Instruction, parse};
+use bstr::{BStr, ByteSlice};
+use std::alloc::{AllocError, Global};
+use std::process::Abort;
+use std::test::Fail;
+
+// `^` and hex digits: one less than an id of an object has, as many, and one more.
+const DIGITS_39: &str = "^aaaaaaaaaaaaaaaaaaaaaaaaaaaaaaaaaaaaaaa";
+
+const DIGITS_40: &str = "^aaaaaaaaaaaaaaaaaaaaaaaaaaaaaaaaaaaaaaaa";
+
+const DIGITS_41: &str = "^aaaaaaaaaaaaaaaaaaaaaaaaaaaaaaaaaaaaaaaaa";
+
+const UPPER_40: &str = "^AAAAAAAAAAAAAAAAAAAAAAAAAAAAAAAAAAAAAAAA";
+
+// The name of a refusal, with what it holds.
+fn variant(alloc: Global, error: &Error) -> Result<String, AllocError> {
+    format!(in alloc; "{error:?}")
+}
+
+// The canonical text of a spec, or why it is refused.
+fn canon(alloc: Global, text: &str, operation: Operation) -> Result<String, AllocError> {
+    match parse(alloc, BStr::new(text.as_bytes()), operation) {
+        Ok(spec) => {
+            let printed = spec.to_bstring(alloc)?;
+            format!(in alloc; "{printed}")
+        }
+        Err(error) => variant(alloc, &error),
+    }
+}
+
+// What a text says to do. The spec ends with the call, and the text outlives it.
+fn instruction_of<'a>(
+    alloc: Global,
+    text: BStr<'a>,
+    operation: Operation,
+) -> Result<Instruction<'a>, Error> {
+    let spec = parse(alloc, text, operation)?;
+    Ok(spec.instruction())
+}
+
+// A spec with two equal sides: `refs/heads/`, as many `b` as asked for, a star and the end.
+fn doubled(alloc: Global, letters: usize, end: &str) -> Result<String, AllocError> {
+    let mut side = String::new(alloc);
+    side.push_str("refs/heads/")?;
+    for _ in 0..letters {
+        side.push('b')?;
+    }
+    side.push('*')?;
+    side.push_str(end)?;
+    format!(in alloc; "{side}:{side}")
+}
+
+// Whether each text of a table prints as is written beside it, or is refused so.
+fn check_rows(
+    rt: &impl Abort,
+    alloc: Global,
+    operation: Operation,
+    rows: &[(&str, &str)],
+) -> Result<(), AllocError> {
+    for (text, want) in rows {
+        let found = canon(alloc, text, operation)?;
+        assert_eq!(rt; found.as_str(), *want, "{operation:?} at {text}");
+    }
+    Ok(())
+}
+
+#[test]
+fn reads_fetches(rt: HostRuntime) -> Result<(), Fail> {
+    let rows = [
+        ("", "HEAD"),
+        ("+", "HEAD"),
+        (":", "HEAD"),
+        ("+:", "HEAD"),
+        ("@", "HEAD"),
+        ("HEAD:", "HEAD"),
+        ("+HEAD", "HEAD"),
+        (":d", "HEAD:d"),
+        ("@:@", "HEAD:@"),
+        ("++", "++"),
+        ("++foo", "++foo"),
+        ("+a:b", "+a:b"),
+        (
+            "refs/heads/*:refs/remotes/origin/*",
+            "refs/heads/*:refs/remotes/origin/*",
+        ),
+    ];
+    check_rows(&rt, rt.alloc(), Operation::Fetch, &rows)?;
+    Ok(())
+}
+
+#[test]
+fn reads_pushes(rt: HostRuntime) -> Result<(), Fail> {
+    let rows = [
+        (":", ":"),
+        ("+", "+:"),
+        ("+:", "+:"),
+        ("@", "HEAD:HEAD"),
+        ("@:x", "HEAD:x"),
+        ("main", "main:main"),
+        ("refs/heads/*", "refs/heads/*:refs/heads/*"),
+        ("+:x", ":x"),
+        (":+x", ":+x"),
+        ("::x", "::x"),
+        (":/message:refs/heads/x", ":/message:refs/heads/x"),
+        ("+^x:y", "+^x:y"),
+        ("++", "++:+"),
+    ];
+    check_rows(&rt, rt.alloc(), Operation::Push, &rows)?;
+    Ok(())
+}
+
+#[test]
+fn refuses_fetches(rt: HostRuntime) -> Result<(), Fail> {
+    let rows = [
+        ("::", "ReferenceName(InvalidByte { byte: 58 })"),
+        ("x*.lock:y*", "ReferenceName(LockSuffix)"),
+        ("a*:b*c*", "PatternUnsupported { pattern: \"b*c*\" }"),
+        ("a*:b", "PatternUnbalanced"),
+        (":a*", "PatternUnbalanced"),
+        ("a*", "PatternUnbalanced"),
+        ("a*:", "PatternUnbalanced"),
+        ("refs/heads/*", "PatternUnbalanced"),
+    ];
+    check_rows(&rt, rt.alloc(), Operation::Fetch, &rows)?;
+    Ok(())
+}
+
+#[test]
+fn refuses_pushes(rt: HostRuntime) -> Result<(), Fail> {
+    let rows = [
+        ("", "Empty"),
+        ("::", "PushToEmpty"),
+        ("a*b*:", "PushToEmpty"),
+        (":a*b*", "PatternUnsupported { pattern: \"a*b*\" }"),
+        (":*.lock", "ReferenceName(LockSuffix)"),
+        (":a*", "PatternUnbalanced"),
+        ("x:a*", "PatternUnbalanced"),
+    ];
+    check_rows(&rt, rt.alloc(), Operation::Push, &rows)?;
+    Ok(())
+}
+
+#[test]
+fn answers_both_operations_alike(rt: HostRuntime) -> Result<(), Fail> {
+    let rows = [
+        ("^@", "^HEAD"),
+        ("^+x", "^+x"),
+        (DIGITS_39, DIGITS_39),
+        (DIGITS_40, "NegativeObjectHash"),
+        (DIGITS_41, "NegativeObjectHash"),
+        (UPPER_40, "NegativeObjectHash"),
+        ("^", "NegativeEmpty"),
+        ("^a:b", "NegativeWithDestination"),
+        ("^x:y", "NegativeWithDestination"),
+        ("^a..b", "ReferenceName(RepeatedDot)"),
+        ("+^x", "ReferenceName(InvalidByte { byte: 94 })"),
+        ("a\tb", "ReferenceName(InvalidByte { byte: 9 })"),
+    ];
+    check_rows(&rt, rt.alloc(), Operation::Fetch, &rows)?;
+    check_rows(&rt, rt.alloc(), Operation::Push, &rows)?;
+    Ok(())
+}
+
+#[test]
+fn says_what_to_do(rt: HostRuntime) -> Result<(), Fail> {
+    let push = Operation::Push;
+    let fetch = Operation::Fetch;
+    let rows = [
+        (
+            push,
+            ":",
+            "Push(AllMatchingBranches { allow_non_fast_forward: false })",
+        ),
+        (
+            push,
+            "+:",
+            "Push(AllMatchingBranches { allow_non_fast_forward: true })",
+        ),
+        (push, ":x", "Push(Delete { ref_or_pattern: \"x\" })"),
+        // A forced deletion is one like any other.
+        (push, "+:x", "Push(Delete { ref_or_pattern: \"x\" })"),
+        (
+            push,
+            "main",
+            "Push(Matching { src: \"main\", dst: \"main\", allow_non_fast_forward: false })",
+        ),
+        (
+            push,
+            "+a:b",
+            "Push(Matching { src: \"a\", dst: \"b\", allow_non_fast_forward: true })",
+        ),
+        (
+            push,
+            ":/message:refs/heads/x",
+            "Push(Matching { src: \":/message\", dst: \"refs/heads/x\", allow_non_fast_forward: false })",
+        ),
+        (
+            push,
+            "::x",
+            "Push(Matching { src: \":\", dst: \"x\", allow_non_fast_forward: false })",
+        ),
+        (push, "^main", "Push(Exclude { src: \"main\" })"),
+        (fetch, "main", "Fetch(Only { src: \"main\" })"),
+        // Where no local ref is updated there is nothing to force.
+        (fetch, "+main", "Fetch(Only { src: \"main\" })"),
+        (fetch, "^main", "Fetch(Exclude { src: \"main\" })"),
+        (
+            fetch,
+            "a:b",
+            "Fetch(AndUpdate { src: \"a\", dst: \"b\", allow_non_fast_forward: false })",
+        ),
+        (
+            fetch,
+            "+a:b",
+            "Fetch(AndUpdate { src: \"a\", dst: \"b\", allow_non_fast_forward: true })",
+        ),
+    ];
+    let alloc = rt.alloc();
+    for (operation, text, said) in rows {
+        let found = instruction_of(alloc, BStr::new(text.as_bytes()), operation)?;
+        let found = format!(in alloc; "{found:?}")?;
+        assert_eq!(rt; found.as_str(), said, "{operation:?} at {text}");
+    }
+    Ok(())
+}
+
+#[test]
+fn sides_outlive_the_spec(rt: HostRuntime) -> Result<(), Fail> {
+    let text = BStr::new(b"main:topic");
+    let Instruction::Fetch(Fetch::AndUpdate { src, dst, .. }) = instruction_of(
+        rt.alloc(),
+        text,
+        Operation::Fetch,
+    )?
+    else {
+        return Err(Fail::new("no update of a local ref"));
+    };
+    assert_eq!(rt; src, BStr::new(b"main"));
+    assert_eq!(rt; dst, BStr::new(b"topic"));
+    Ok(())
+}
+
+#[test]
+fn checks_long_patterns(rt: HostRuntime) -> Result<(), Fail> {
+    let alloc = rt.alloc();
+    // With 244 letters a side has 256 bytes.
+    for letters in [244, 245] {
+        let text = doubled(alloc, letters, "")?;
+        let found = canon(alloc, text.as_str(), Operation::Fetch)?;
+        assert_eq!(rt; found.as_str(), text.as_str(), "at {letters} letters");
+    }
+    let text = doubled(alloc, 245, ".lock")?;
+    let found = canon(alloc, text.as_str(), Operation::Fetch)?;
+    assert_eq!(rt; found.as_str(), "ReferenceName(LockSuffix)");
+    Ok(())
+}
