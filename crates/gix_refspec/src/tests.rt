@@ -1,3 +1,4 @@
 mod name;
 mod oid;
 mod parsing;
+mod printing;
