@@ -1,3 +1,4 @@
+mod errors;
 mod name;
 mod oid;
 mod parsing;
