@@ -16,3 +16,4 @@ pub mod HeadLemmas
 pub mod ReadBackLemmas
 pub mod FormsBackLemmas
 pub mod PrefixLemmas
+pub mod ManualFacts
