@@ -65,3 +65,6 @@ fn report(rt: &HostRuntime, fault: &Fault) -> u8 {
     let _ = println!(rt; "{fault}");
     fault.status()
 }
+
+#[cfg(test)]
+mod tests;

@@ -1,0 +1,38 @@
+//! The commands that words name.
+
+use crate::command::Command;
+use crate::command_of;
+use std::alloc::{AllocError, Global};
+use std::test::Fail;
+
+// The command that these words name.
+fn named(alloc: Global, words: &[&str]) -> Result<Option<Command>, AllocError> {
+    let mut owned = Vec::new(alloc);
+    for word in words {
+        owned.push(word.to_string(alloc)?)?;
+    }
+    Ok(command_of(owned.as_slice()))
+}
+
+#[test]
+fn names_the_commands(rt: HostRuntime) -> Result<(), Fail> {
+    let rows = [
+        (["canon", "fetch"].as_slice(), Some(Command::CanonFetch)),
+        (["canon", "push"].as_slice(), Some(Command::CanonPush)),
+        ([].as_slice(), None),
+        (["canon"].as_slice(), None),
+        (["canon fetch"].as_slice(), None),
+        (["canon", "fetch", ""].as_slice(), None),
+        (["canon", "push", "push"].as_slice(), None),
+        (["canon", "Fetch"].as_slice(), None),
+        (["CANON", "push"].as_slice(), None),
+        (["canon", "pull"].as_slice(), None),
+        (["push", "canon"].as_slice(), None),
+        (["", "fetch"].as_slice(), None),
+        (["canon ", "push"].as_slice(), None),
+    ];
+    for (words, command) in rows {
+        assert_eq!(rt; named(rt.alloc(), words)?, command, "at {words:?}");
+    }
+    Ok(())
+}
