@@ -4,20 +4,22 @@ use crate::canon::variant_name;
 use gix_refspec::parsing;
 use std::{error, fmt};
 
-/// Why a run ended early.
+/// Why a run ended early. Nothing was written, but where the writer failed.
 #[derive(Debug, Drop)]
 pub enum Fault {
     /// The input has more than 1,048,576 bytes.
     TooLong,
     /// The input could not be read to its end.
     Read,
-    /// The line with this number, counted from 1, has no form that the command takes.
+    /// The line with this number, counted from 1, has no form that the command takes. A canon
+    /// command takes every line, and never gives it.
     Line(usize),
-    /// The line with this number, counted from 1, holds a spec that is refused.
+    /// The line with this number, counted from 1, holds a spec that is refused. A canon command
+    /// writes the refusal as the answer to the line, and never gives it.
     Spec { line: usize, error: parsing::Error },
-    /// There was no memory.
+    /// There was no memory for the input, a spec or the output.
     Memory,
-    /// The output could not be written.
+    /// The output could not be written or flushed. A part of it may have been written.
     Write,
 }
 

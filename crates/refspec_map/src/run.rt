@@ -11,8 +11,16 @@ use crate::input::read_input;
 use std::alloc::Global;
 use std::io::{Read, Write};
 
-/// Reads the input to its end, and writes the output of the command for it at once. Answers the
-/// status: 1 where some line is refused, else 0.
+/// Reads the input to its end, and writes the output of the command for it, by one `write_all` and
+/// one `flush`. Answers the status: 1 where some line is refused, else 0.
+///
+/// - `Fault::TooLong` comes as soon as more than 1,048,576 bytes are read.
+/// - `Fault::Read` comes at the first read that fails. One that was interrupted isn't tried again.
+/// - `Fault::Memory` comes where a growth is refused.
+/// - `Fault::Write` comes where the writer fails. It may then have taken a part of the output.
+///
+/// After any fault but the last nothing is written, and what was read is gone from the reader. Time
+/// and memory are linear in the length of the input.
 pub fn run<R: Read, W: Write>(
     alloc: Global,
     command: Command,

@@ -33,7 +33,7 @@ impl<'a> Read for ByteReader<'a> {
     }
 }
 
-// Gives its bytes, and fails where they end.
+// Gives its bytes, and is interrupted where they end.
 #[derive(Drop)]
 struct CutReader<'a> {
     rest: &'a [u8],
@@ -42,7 +42,7 @@ struct CutReader<'a> {
 impl<'a> Read for CutReader<'a> {
     fn read(&mut self, buf: &mut [u8]) -> io::Result<usize> {
         if self.rest.is_empty() {
-            return Err(io::ErrorKind::Other.into());
+            return Err(io::ErrorKind::Interrupted.into());
         }
         self.rest.read(buf)
     }

@@ -40,7 +40,7 @@ fn reads_one_byte_a_call(rt: HostRuntime) -> Result<(), Fail> {
 }
 
 #[test]
-fn writes_nothing_where_a_read_fails(rt: HostRuntime) -> Result<(), Fail> {
+fn ends_at_a_read_that_is_interrupted(rt: HostRuntime) -> Result<(), Fail> {
     let mut reader = CutReader { rest: b"main\n" };
     let mut output = Vec::new(rt.alloc());
     let ended = run(rt.alloc(), Command::CanonPush, &mut reader, &mut output);
