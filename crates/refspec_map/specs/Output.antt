@@ -1,6 +1,6 @@
 -- What a canon command writes: a line for each line of its input, with the canonical text of the spec
 -- that it reads as, or the name of the reason why it is none.
-use Rattle.std.specs.Prelude.{◌≡◌, ℕ, Bool, true, false, ◌||◌, List, [], ◌∷◌, ◌++◌, Some, codes, if◌then◌else◌}
+use Rattle.std.specs.Prelude.{◌≡◌, ℕ, Bool, true, false, ◌||◌, List, [], ◌∷◌, ◌++◌, Some, codes}
 use Rattle.std.specs.List.{AllZip, flat_map}
 use Rattle.gix_refspec.specs.declared.parsing.Operation.{Operation}
 use Rattle.gix_refspec.specs.Reading.{Reading, Refusal, Empty, NegativeWithDestination, PushToEmpty, PatternUnsupported, ReferenceName, PatternUnbalanced, NegativeEmpty, NegativeObjectHash}

@@ -1,6 +1,5 @@
 -- Each turn answers the first line of the rest; in the end nothing is left to answer.
-use Rattle.std.proofs.Common.{◌≡◌, ◌++◌, ◌||◌, ℕ, Bool, List, [], ◌∷◌, ap, sym, ◌∙◌, subst, refl}
-use Rattle.refspec_map.specs.Output.{IsCanon}
+use Rattle.std.proofs.Common.{Bool, subst}
 use Rattle.refspec_map.proofs.OutputLemmas.{Completes, Completes-line, refusal_stays, refusal_shows, Completes-end, empty_from_test}
 use Rattle.gix_refspec.proofs.SideLemmas.{full_from_test}
 use Rattle.refspec_map.proofs.canon.canon.Goals as goal

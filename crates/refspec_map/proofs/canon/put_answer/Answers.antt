@@ -1,5 +1,5 @@
 -- What the line reads as is what its text is made from.
-use Rattle.std.proofs.Common.{◌≡◌, List, ℕ, subst}
+use Rattle.std.proofs.Common.{List, ℕ, subst}
 use Rattle.std.proofs.lemmas.Result.{IfOk-weaker}
 use Rattle.gix_refspec.specs.Grammar.{Reads}
 use Rattle.gix_refspec.specs.Spec.{reading_of}

@@ -1,5 +1,5 @@
 -- An error that isn't want of memory is a refusal, whose name was put.
-use Rattle.std.proofs.Common.{◌≡◌, ◌++◌, ◌∷◌, [], List, ℕ, ap, sym, ◌∙◌, refl, inl, inr}
+use Rattle.std.proofs.Common.{◌≡◌, ◌++◌, ◌∷◌, [], List, ℕ, ap, sym, ◌∙◌, refl}
 use Rattle.std.proofs.lemmas.Bool.{false≢true}
 use Rattle.gix_refspec.specs.Refusal.{IsRefused, MayWantMemory}
 use Rattle.gix_refspec.specs.declared.parsing.Error.TheVariants as error

@@ -1,8 +1,8 @@
 -- The canonical text of what a line reads as is the answer to it.
-use Rattle.std.proofs.Common.{◌≡◌, ◌++◌, ◌∷◌, [], List, ℕ, ap, sym, ◌∙◌, refl}
+use Rattle.std.proofs.Common.{◌++◌, ◌∷◌, [], List, ℕ, ap, ◌∙◌, refl}
 use Rattle.gix_refspec.specs.Spec.{reading_of}
 use Rattle.bstr.specs.Owned.{bstring_bytes}
-use Rattle.refspec_map.specs.Output.{accepted, line_of}
+use Rattle.refspec_map.specs.Output.{accepted}
 use Rattle.refspec_map.proofs.canon.put_text.Goals as goal
 
 pub returns-in-Ok-put_line-clause-ok : goal.returns-in-Ok-put_line-clause-ok

@@ -1,5 +1,5 @@
 -- Each read takes some bytes more, or finds the end.
-use Rattle.std.proofs.Common.{◌≡◌, ◌<◌, ◌≤◌, ℕ, List, [], ◌++◌, length, ap, sym, ◌∙◌, subst, refl, lit≤, length-append, arith}
+use Rattle.std.proofs.Common.{◌<◌, ℕ, List, ◌++◌, length, ap, sym, subst, lit≤, length-append, arith}
 use Rattle.std.proofs.lemmas.Result.{err_from_is_err_and}
 use Rattle.std.specs.Io.KnownBytes.{Consumes}
 use Rattle.refspec_map.proofs.InputLemmas.{Consumes-append, Consumes-none, explained, kept_room, ends}
