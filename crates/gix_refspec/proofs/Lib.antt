@@ -16,4 +16,5 @@ pub mod HeadLemmas
 pub mod ReadBackLemmas
 pub mod FormsBackLemmas
 pub mod PrefixLemmas
+pub mod MatchLemmas
 pub mod ManualFacts

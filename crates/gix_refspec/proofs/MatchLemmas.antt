@@ -1,0 +1,82 @@
+-- What sides match, and their prefixes and candidates.
+use Rattle.std.proofs.Common.{◌≡◌, ◌≢◌, ◌⊎◌, inl, inr, ℕ, List, [], ◌∷◌, ◌++◌, codes, Option, None, Some, refl, sym, ap, ◌∙◌, subst, append_assoc, arith}
+use Rattle.std.proofs.lemmas.List.{append-nil, append_cancel_left, append_cancel_right}
+use Rattle.gix_refspec.specs.Text.{Lacks, Begins}
+use Rattle.gix_refspec.specs.Name.{star}
+use Rattle.gix_refspec.specs.Grammar.{head}
+use Rattle.gix_refspec.specs.Match.{Ref, Kind, pattern, full_name, object, partial, HasKind, IsId, candidates, IsOneOf, Covers, MatchesAs, Matches}
+use Rattle.gix_refspec.specs.Prefix.{IsPrefix, of_head, of_name, of_pattern, HasNoPrefix, Expands, to_prefix, to_itself, below_refs, of_object, to_candidates}
+use Rattle.gix_refspec.specs.Laws.{OneWord, PrefixBegins, HasCandidates, Candidates}
+use Rattle.gix_refspec.proofs.TextLemmas.{Lacks-here, first_once}
+
+-- two words between the same texts are one
+pub one_word : (before after n : List ℕ) → OneWord before after n
+one_word before after n v w by_v by_w = append_cancel_right v w after (append_cancel_left before (v ++ after) (w ++ after) (sym by_v ∙ by_w))
+
+-- what lacks the star is no pattern
+lacks_no_pattern : (x before after : List ℕ) → Lacks star x → x ≡ before ++ (star ∷ after) → ⊥
+lacks_no_pattern x before after lacks is = Lacks-here star before after (subst (Lacks star) is lacks)
+
+-- the whole text begins with itself
+begins_itself : (x n : List ℕ) → n ≡ x → Begins x n
+begins_itself x n same = record { after = []; here = same ∙ sym (append-nil x) }
+
+-- a full name, of which the side is its own prefix
+name_begins : (x : List ℕ) (k : Kind) (r : Ref) (word : Option (List ℕ)) → Begins (codes "refs/") x → Lacks star x → HasKind x k → MatchesAs k x r word → Begins x r.name
+name_begins x (pattern before after) r word begins lacks kind fits = absurd (lacks_no_pattern x before after lacks kind.0)
+name_begins x full_name r word begins lacks kind fits = begins_itself x r.name fits.1
+name_begins x (object id) r word begins lacks kind fits = absurd (kind.1 begins)
+name_begins x partial r word begins lacks kind fits = absurd (kind.1 begins)
+
+-- a pattern, of which what stands before its star is the prefix
+pattern_begins : (x fixed rest : List ℕ) (k : Kind) (r : Ref) (word : Option (List ℕ)) → x ≡ fixed ++ (star ∷ rest) → Lacks star fixed → HasKind x k → MatchesAs k x r word → Begins fixed r.name
+pattern_begins x fixed rest (pattern before after) r None is lacks kind fits = absurd fits
+pattern_begins x fixed rest (pattern before after) r (Some word) is lacks kind fits =
+    let once = first_once star before fixed after rest kind.1 lacks (sym kind.0 ∙ is) in
+    record { after = word ++ after; here = fits ∙ ap (λ (y : List ℕ). y ++ (word ++ after)) once.0 }
+pattern_begins x fixed rest full_name r word is lacks kind fits = absurd (lacks_no_pattern x fixed rest kind.0 is)
+pattern_begins x fixed rest (object id) r word is lacks kind fits = absurd (lacks_no_pattern x fixed rest kind.0 is)
+pattern_begins x fixed rest partial r word is lacks kind fits = absurd (lacks_no_pattern x fixed rest kind.0 is)
+
+-- the five bytes of `refs/` are no stars
+refs_lack : (before : List ℕ) → Lacks star before → Lacks star (codes "refs/" ++ before)
+refs_lack before lacks = ((λ h. omega arith), ((λ h. omega arith), ((λ h. omega arith), ((λ h. omega arith), ((λ h. omega arith), lacks)))))
+
+-- each ref that a side matches begins with its prefix
+pub prefix_begins : (x : List ℕ) → PrefixBegins x
+prefix_begins x p r word (of_head is_head _) other matches = absurd (other is_head)
+prefix_begins x p r word (of_name begins lacks same) other matches = subst (λ (y : List ℕ). Begins y r.name) (sym same) (name_begins x matches.kind r word begins lacks matches.of matches.is)
+prefix_begins x p r word (of_pattern before after is lacks full unbracketed same) other matches =
+    subst (λ (y : List ℕ). Begins y r.name) (sym same) (pattern_begins x (codes "refs/" ++ before) after matches.kind r word is (refs_lack before lacks) matches.of matches.is)
+
+-- a side outside `refs/` other than `HEAD` has no prefix
+outside_none : (x : List ℕ) → x ≢ head → ¬ (Begins (codes "refs/") x) → HasNoPrefix x
+outside_none x other outside p (of_head is_head _) = other is_head
+outside_none x other outside p (of_name begins _ _) = outside begins
+outside_none x other outside p (of_pattern before after is _ _ _ _) = outside (record { after = before ++ (star ∷ after); here = is })
+
+-- nothing but the candidates
+only_candidates : (x : List ℕ) → x ≢ head → ¬ (Begins (codes "refs/") x) → ¬ (IsId x) → (list : List (List ℕ)) → Expands x list → list ≡ candidates x
+only_candidates x other outside no_id list (to_prefix p prefix _) = absurd (outside_none x other outside p prefix)
+only_candidates x other outside no_id list (to_itself rest _ below _ _) = absurd (outside (record { after = rest; here = below }))
+only_candidates x other outside no_id list (below_refs rest _ below _ _) = absurd (outside (record { after = rest; here = below }))
+only_candidates x other outside no_id list (of_object _ _ id _) = absurd (no_id id)
+only_candidates x other outside no_id list (to_candidates _ _ _ is) = is
+
+-- a name that is given short matches as one
+short_matches : (x : List ℕ) (k : Kind) (r : Ref) (word : Option (List ℕ)) → Lacks star x → ¬ (Begins (codes "refs/") x) → ¬ (IsId x) → HasKind x k → MatchesAs k x r word → IsOneOf (candidates x) r.name
+short_matches x (pattern before after) r word lacks outside no_id kind fits = absurd (lacks_no_pattern x before after lacks kind.0)
+short_matches x full_name r word lacks outside no_id kind fits = absurd (outside kind.1)
+short_matches x (object id) r word lacks outside no_id kind fits = absurd (no_id (id, kind.2))
+short_matches x partial r word lacks outside no_id kind fits = fits.1
+
+-- a side that is given short is expanded to its candidates, and matches them
+pub has_candidates : (x : List ℕ) → Candidates x
+has_candidates x lacks other outside no_id = record {
+  expands = to_candidates (outside_none x other outside) outside no_id refl;
+  only = only_candidates x other outside no_id;
+  matches = λ r. (
+    λ found. short_matches x found.1.kind r found.0 lacks outside no_id found.1.of found.1.is,
+    λ one. (None, record { kind = partial; of = (lacks, outside, no_id); is = (refl, one) }),
+  );
+}

@@ -1,0 +1,6 @@
+-- Such a side is a name that is given short.
+use Rattle.gix_refspec.proofs.MatchLemmas.{has_candidates}
+use Rattle.gix_refspec.proofs.laws.candidates.Goals as goal
+
+pub returns : goal.returns
+returns c = has_candidates c.args.side.now

@@ -1,0 +1,6 @@
+-- The texts round the word cancel.
+use Rattle.gix_refspec.proofs.MatchLemmas.{one_word}
+use Rattle.gix_refspec.proofs.laws.one_word.Goals as goal
+
+pub returns : goal.returns
+returns c = one_word c.args.before.now c.args.after.now c.args.name.now

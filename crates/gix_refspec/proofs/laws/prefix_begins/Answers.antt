@@ -1,0 +1,6 @@
+-- By the kind of the side.
+use Rattle.gix_refspec.proofs.MatchLemmas.{prefix_begins}
+use Rattle.gix_refspec.proofs.laws.prefix_begins.Goals as goal
+
+pub returns : goal.returns
+returns c = prefix_begins c.args.side.now
