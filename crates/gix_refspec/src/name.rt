@@ -1,6 +1,8 @@
 //! The names of refs and the patterns over them, by git-check-ref-format(1).
 
-ghost use Rattle.std.specs.Prelude.{MatchOption, MatchResult, ◌∷◌, []};
+ghost use Rattle.std.specs.Prelude.{MatchOption, MatchResult, ◌∷◌, [], List, ℕ};
+ghost use Rattle.std.specs.Bool.{OnTrue};
+ghost use Rattle.gix_refspec.specs.declared.name.Error.{Error};
 ghost use Rattle.bstr.specs.BStr.{bstr_bytes};
 ghost use Rattle.gix_refspec.specs.Text.{Ends};
 ghost use Rattle.gix_refspec.specs.Name.{IsName, HasFault, IsPattern, HasOneStar, ReplacesStar, slash};
@@ -113,7 +115,28 @@ pub(crate) fn fault_of(text: &[u8]) -> Option<Error>
 }
 
 // The fault that a byte adds to the text before it. The previous byte is the last one there.
+#[inline(always)]
 fn added_fault(before: &[u8], previous: u8, byte: u8) -> Option<Error>
+    requires { Ends (previous ∷ []) (slash ∷ before.now) }
+    ensures { Finds result (AddsFault (slash ∷ before.now) byte) }
+{
+    // Most bytes are plain, and are done with here.
+    if is_plain(byte) {
+        return None;
+    }
+    special_fault(before, previous, byte)
+}
+
+// Whether a byte may stand anywhere.
+#[inline(always)]
+fn is_plain(byte: u8) -> bool
+    ensures { OnTrue result ((y : List ℕ) (e : Error) → ¬ (AddsFault y byte e)) }
+{
+    matches!(class_of(byte), Class::Plain)
+}
+
+// The fault that a byte that need not be plain adds to the text before it.
+fn special_fault(before: &[u8], previous: u8, byte: u8) -> Option<Error>
     requires { Ends (previous ∷ []) (slash ∷ before.now) }
     ensures { Finds result (AddsFault (slash ∷ before.now) byte) }
 {

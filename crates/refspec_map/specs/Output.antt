@@ -60,3 +60,9 @@ pub record PutsAnswer (op : Operation) (line old new : List ℕ) (refusal : Bool
   pub is : IsAnswer op line answer
   pub put : new ≡ old ++ line_of answer
   pub tells : refusal ≡ is_refused answer
+
+-- the line of the canonical text of a reading was put behind the old output
+pub record PutsText (r : Reading) (old new : List ℕ) : Type 0 where
+  pub text : List ℕ
+  pub is : printed r ≡ Some text
+  pub put : new ≡ old ++ line_of (accepted text)

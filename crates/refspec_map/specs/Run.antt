@@ -7,8 +7,11 @@ use Rattle.refspec_map.specs.declared.command.Command.{Command}
 use Rattle.refspec_map.specs.declared.command.Command.TheVariants as command
 use Rattle.refspec_map.specs.declared.fault.Fault.{Fault}
 use Rattle.refspec_map.specs.declared.fault.Fault.TheVariants as fault
-use Rattle.refspec_map.specs.declared.input.TheConstants.{INPUT_LIMIT}
 use Rattle.refspec_map.specs.Output.{IsCanon}
+
+-- the most bytes that an input may have
+abbrev pub input_limit : ℕ
+input_limit = 1048576
 
 -- what a command reads its specs for
 abbrev pub operation_of : Command → Operation
@@ -23,7 +26,7 @@ IsOutput command = IsCanon (operation_of command)
 pub record ReadsToEnd (old new : Option (List ℕ)) (input : List ℕ) : Type 0 where
   pub taken : Consumes old new input
   pub ended : IsAtEnd new
-  pub within : length input ≤ INPUT_LIMIT
+  pub within : length input ≤ input_limit
 
 -- the input was read to its end, and its output was written
 pub record Answers (command : Command) (reader_old reader_new writer_old writer_new : Option (List ℕ)) (status : ℕ) : Type 0 where
@@ -37,12 +40,18 @@ pub record Answers (command : Command) (reader_old reader_new writer_old writer_
 
 -- when a fault comes. A canon command takes every line
 abbrev pub Explains : Option (List ℕ) → Option (List ℕ) → Fault → Type 0
-Explains old new fault.TooLong = (input : List ℕ) × Consumes old new input × (INPUT_LIMIT < length input)
+Explains old new fault.TooLong = (input : List ℕ) × Consumes old new input × (input_limit < length input)
 Explains old new fault.Read = ⊤
 Explains old new (fault.Line number) = ⊥
 Explains old new (fault.Spec number error) = ⊥
 Explains old new fault.Memory = ⊤
 Explains old new fault.Write = ⊤
+
+-- the status of a fault: 1 where a line is at fault, else 3
+abbrev pub status_of : Fault → ℕ
+status_of (fault.Line number) = 1
+status_of (fault.Spec number error) = 1
+status_of _ = 3
 
 -- the fault is want of memory
 abbrev pub IsMemory : Fault → Type 0

@@ -8,7 +8,7 @@ ghost use Rattle.gix_refspec.specs.Refusal.{IsRefused, MayWantMemory};
 ghost use Rattle.gix_refspec.specs.Views.{IsShownAs, MemoryOr};
 ghost use Rattle.gix_refspec.specs.Spec.{reading_of};
 ghost use Rattle.refspec_map.specs.Input.{IsFirstLine, newline};
-ghost use Rattle.refspec_map.specs.Output.{IsCanon, name_of, PutsAnswer};
+ghost use Rattle.refspec_map.specs.Output.{IsCanon, name_of, PutsAnswer, PutsText};
 ghost use Rattle.refspec_map.specs.Run.{IsMemory};
 
 use crate::fault::Fault;
@@ -16,6 +16,8 @@ use bstr::{BStr, ByteSlice};
 use gix_refspec::parsing::{Error, Operation};
 use gix_refspec::{RefSpecRef, parse};
 use std::alloc::{AllocError, Global};
+use std::io;
+use std::io::Write;
 
 /// The answers to the lines of an input, and whether some line is refused.
 pub(crate) fn canon(
@@ -62,23 +64,30 @@ fn put_answer(
     ensures err { IfErr result IsMemory }
 {
     match parse(alloc, BStr::new(line), operation) {
-        Ok(spec) => put_text(alloc, &spec, output),
+        Ok(spec) => put_text(&spec, output),
         Err(error) => put_refusal(&error, output),
     }
 }
 
 // Appends the canonical text of a spec.
-fn put_text(alloc: Global, spec: &RefSpecRef<'_>, output: &mut Vec<u8>) -> Result<bool, Fault>
+fn put_text(spec: &RefSpecRef<'_>, output: &mut Vec<u8>) -> Result<bool, Fault>
     ensures ok { IfOk result (λ refused. (op : Operation) (line : List ℕ) → Reads op line (reading_of spec.now) → PutsAnswer op line output.old.items output.new.items refused) }
     ensures err { IfErr result IsMemory }
 {
-    let Ok(text) = spec.to_bstring(alloc) else {
-        return Err(Fault::Memory);
-    };
-    match put_line(b"ok ", text.as_bytes(), output) {
+    // A vector that is written to fails for want of memory alone.
+    match write_text(spec, output) {
         Ok(()) => Ok(false),
         Err(_) => Err(Fault::Memory),
     }
+}
+
+// Writes the line of a spec that was accepted.
+fn write_text(spec: &RefSpecRef<'_>, output: &mut Vec<u8>) -> io::Result<()>
+    ensures { OnOk result (PutsText (reading_of spec.now) output.old.items output.new.items) }
+{
+    output.write_all(b"ok ")?;
+    spec.write_to(output)?;
+    output.write_all(b"\n")
 }
 
 // Appends the name of a refusal.

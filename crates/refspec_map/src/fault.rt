@@ -1,5 +1,8 @@
 //! Why a run ended early.
 
+ghost use Rattle.std.specs.Prelude.{◌≡◌};
+ghost use Rattle.refspec_map.specs.Run.{status_of};
+
 use crate::canon::variant_name;
 use gix_refspec::parsing;
 use std::{error, fmt};
@@ -25,7 +28,9 @@ pub enum Fault {
 
 impl Fault {
     /// The status that the program ends with: 1 where a line is at fault, else 3.
-    pub fn status(&self) -> u8 {
+    pub fn status(&self) -> u8
+        ensures { result ≡ status_of self.now }
+    {
         match self {
             Fault::Line(_) | Fault::Spec { .. } => 1,
             Fault::TooLong | Fault::Read | Fault::Memory | Fault::Write => 3,

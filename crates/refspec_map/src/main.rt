@@ -21,14 +21,18 @@ const USAGE_STATUS: u8 = 2;
 fn main(rt: HostRuntime) -> ExitCode {
     let status = match named_command(&rt) {
         Ok(Some(command)) => run_command(&rt, command),
-        Ok(None) => {
-            // Where the line can't be printed, the status still tells.
-            let _ = println!(rt; "{USAGE}");
-            USAGE_STATUS
-        }
+        Ok(None) => report_usage(&rt),
+        // A word that is no text is another word.
+        Err(error) if error.kind() == io::ErrorKind::InvalidData => report_usage(&rt),
         Err(_) => report(&rt, &Fault::Memory),
     };
     ExitCode::from(status)
+}
+
+// Prints the usage line. Where it can't be printed, the status still tells.
+fn report_usage(rt: &HostRuntime) -> u8 {
+    let _ = println!(rt; "{USAGE}");
+    USAGE_STATUS
 }
 
 // The command that the words of the call name.

@@ -5,7 +5,7 @@ use Rattle.gix_refspec.specs.Text.{Ends}
 use Rattle.gix_refspec.specs.Name.{slash}
 use Rattle.gix_refspec.specs.Scan.{AddsFault}
 use Rattle.gix_refspec.proofs.NameLemmas.{slash_adds, last_byte, locked_behind_slash}
-use Rattle.gix_refspec.proofs.name.added_fault.Goals as goal
+use Rattle.gix_refspec.proofs.name.special_fault.Goals as goal
 
 pub returns-then-ends_with : goal.returns-then-ends_with
 returns-then-ends_with c =
