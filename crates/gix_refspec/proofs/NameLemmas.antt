@@ -1,5 +1,5 @@
 -- What one pass over the bytes finds, a byte at a time, against the faults of a name.
-use Rattle.std.proofs.Common.{◌≡◌, ◌≢◌, ℕ, List, [], ◌∷◌, ◌++◌, codes, length, take, drop, get_or, ◌==◌, ◌+◌, ◌<◌, Option, Some, None, MatchOption, false, true, IsTrue, refl, sym, ap, ◌∙◌, subst, inl, inr, append_assoc, arith, add-one, drop-cons, take-append-drop, Bool, ◌-◌, nat_eq, Decides}
+use Rattle.std.proofs.Common.{◌≡◌, ◌≢◌, ℕ, List, [], ◌∷◌, ◌++◌, codes, length, take, drop, get_or, ◌==◌, ◌+◌, ◌<◌, ◌≤◌, suc, Option, Some, None, MatchOption, false, true, IsTrue, refl, sym, ap, ◌∙◌, subst, inl, inr, append_assoc, arith, add-one, drop-cons, take-append-drop, Bool, ◌-◌, nat_eq, Decides}
 use Rattle.std.specs.List.{ends_with}
 use Rattle.std.proofs.lemmas.Slice.Eq.{ends_is}
 use Rattle.std.proofs.lemmas.Bool.Decides.{Decides-eqb}
@@ -11,6 +11,8 @@ use Rattle.gix_refspec.specs.declared.name.Error.TheVariants.{Empty, EmptyCompon
 use Rattle.gix_refspec.specs.Text.{Lacks, Holds, Begins, Ends}
 use Rattle.gix_refspec.specs.Name.{slash, star, is_refused_byte, SomeComponent, HasFault, IsName}
 use Rattle.gix_refspec.specs.Scan.{dot, brace, AddsFault, LeavesFault, Finds}
+use Rattle.std.proofs.Math.ListN.{drop_of_length-le}
+use Rattle.gix_refspec.proofs.TextLemmas.{cut_at}
 use Rattle.gix_refspec.proofs.ComponentLemmas.{IsEnd, IsComponent, Pieces, pieces_of, fenced, fenced-IsEnd, LastSlash, last_slash_behind_one, SomeComponent-from, SomeComponent-place, AllByRecursion-append}
 
 drop_at : (x : List ℕ) (i : ℕ) → i < length x → drop i x ≡ get_or x i 0 ∷ drop (i + 1) x
@@ -283,3 +285,12 @@ locked_behind_slash x tested by_test =
       (λ yes. record { before = slash ∷ take (length x - 5) x; here = ap (λ z. slash ∷ z) (ends.0 yes) }),
       (λ locked. let found : InText x (codes ".lock") = behind_slash x locked.before (codes "lock") dot dot_no_slash locked.here in ends.1 found.before found.here),
     )
+
+-- a text that isn't empty ends with its last byte
+pub ends_last : (x : List ℕ) → 1 ≤ length x → Ends (get_or x (length x - 1) 0 ∷ []) (slash ∷ x)
+ends_last x some =
+    let k = length x - 1 in
+    let inside : k < length x = omega arith in
+    let rest : drop (suc k) x ≡ [] = drop_of_length-le x {i = suc k} (omega arith) in
+    let whole : x ≡ take k x ++ (get_or x k 0 ∷ []) = cut_at x k (get_or x k 0) inside refl ∙ ap (λ y. take k x ++ (get_or x k 0 ∷ y)) rest in
+    record { before = slash ∷ take k x; here = ap (λ y. slash ∷ y) whole }

@@ -103,28 +103,34 @@ pub(crate) fn fault_of(text: &[u8]) -> Option<Error>
     if text.is_empty() {
         return Some(Error::Empty);
     }
-    // The first component begins as if a slash stood before it.
-    let mut previous = b'/';
     for (index, byte) in text.iter().enumerate() {
-        if let Some(fault) = added_fault(&text[..index], previous, *byte) {
+        if let Some(fault) = added_fault(&text[..index], *byte) {
             return Some(fault);
         }
-        previous = *byte;
     }
-    left_fault(text, previous)
+    left_fault(text, last_of(text))
 }
 
-// The fault that a byte adds to the text before it. The previous byte is the last one there.
+// The last byte of a text, or a slash: the first component begins as if one stood before it.
+fn last_of(text: &[u8]) -> u8
+    ensures { Ends (result ∷ []) (slash ∷ text.now) }
+{
+    match text {
+        [.., last] => *last,
+        [] => b'/',
+    }
+}
+
+// The fault that a byte adds to the text before it.
 #[inline(always)]
-fn added_fault(before: &[u8], previous: u8, byte: u8) -> Option<Error>
-    requires { Ends (previous ∷ []) (slash ∷ before.now) }
+fn added_fault(before: &[u8], byte: u8) -> Option<Error>
     ensures { Finds result (AddsFault (slash ∷ before.now) byte) }
 {
     // Most bytes are plain, and are done with here.
     if is_plain(byte) {
         return None;
     }
-    special_fault(before, previous, byte)
+    special_fault(before, last_of(before), byte)
 }
 
 // Whether a byte may stand anywhere.
@@ -135,7 +141,8 @@ fn is_plain(byte: u8) -> bool
     matches!(class_of(byte), Class::Plain)
 }
 
-// The fault that a byte that need not be plain adds to the text before it.
+// The fault that a byte that need not be plain adds to the text before it. The previous byte is the last
+// one there.
 fn special_fault(before: &[u8], previous: u8, byte: u8) -> Option<Error>
     requires { Ends (previous ∷ []) (slash ∷ before.now) }
     ensures { Finds result (AddsFault (slash ∷ before.now) byte) }

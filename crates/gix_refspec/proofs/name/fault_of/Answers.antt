@@ -5,7 +5,7 @@ use Rattle.gix_refspec.proofs.NameLemmas.{IsClean, IsClean-start, IsClean-more, 
 use Rattle.gix_refspec.proofs.name.fault_of.Goals as goal
 
 pub loop-index-init : goal.loop-index-init
-loop-index-init c = record { last = record { before = []; here = refl }; clean = IsClean-start }
+loop-index-init c = IsClean-start
 
 -- the byte at the index adds the fault
 pub returns-in-Some : goal.returns-in-Some
@@ -19,14 +19,11 @@ loop-index-preserved c =
     let x = c.args.text.now in
     let i = c.loop-index.index in
     let one_more : slash ∷ take (i + 1) x ≡ (slash ∷ take i x) ++ (get_or x i 0 ∷ []) = ap (λ z. slash ∷ z) (take_more x i 0 (omega arith)) in
-    record {
-      last = record { before = slash ∷ take i x; here = one_more };
-      clean = subst IsClean (sym one_more) (IsClean-more (slash ∷ take i x) (get_or x i 0) c.loop-index.invariant.clean c.in_default.ensures);
-    }
+    subst IsClean (sym one_more) (IsClean-more (slash ∷ take i x) (get_or x i 0) c.loop-index.invariant c.in_default.ensures)
 
 -- no byte adds a fault, so the end decides
 pub returns : goal.returns
 returns c =
     let x = c.args.text.now in
     let whole : take c.loop-index.index x ≡ x = take_all c.loop-index.index x (omega arith) in
-    answer_at_end x c.left_fault.result (some_text x c.if-is_empty.ensures) (subst (λ z. IsClean (slash ∷ z)) whole c.loop-index.invariant.clean) c.left_fault.ensures
+    answer_at_end x c.left_fault.result (some_text x c.if-is_empty.ensures) (subst (λ z. IsClean (slash ∷ z)) whole c.loop-index.invariant) c.left_fault.ensures
