@@ -1,6 +1,6 @@
 -- Each text is a name or has a fault, and each side is fine or bad for a reason.
-use Rattle.std.proofs.Common.{◌≡◌, ◌≢◌, ◌⊎◌, inl, inr, ℕ, ◌==◌, Bool, true, false, List, [], ◌∷◌, ◌++◌, codes, nat_eq, IsTrue, refl, sym, ap, ◌∙◌, subst, append_assoc, arith, length, take, eq-eqb, ◌-◌}
-use Rattle.std.specs.List.{ends_with, AllPass, list_all}
+use Rattle.std.proofs.Common.{◌≡◌, ◌≢◌, ◌⊎◌, inl, inr, ℕ, ◌==◌, Bool, true, false, List, [], ◌∷◌, ◌++◌, codes, nat_eq, IsTrue, refl, sym, ap, ◌∙◌, subst, append_assoc, length, take, eq-eqb, ◌-◌}
+use Rattle.std.specs.List.{ends_with}
 use Rattle.std.proofs.lemmas.Slice.Eq.{ends_is}
 use Rattle.std.proofs.lemmas.Bool.{false≢true, eqb-true}
 use Rattle.std.proofs.lemmas.List.{append-nil}
@@ -8,7 +8,7 @@ use Rattle.std.proofs.lemmas.Bool.Decides.{Decides-eqb}
 use Rattle.gix_refspec.specs.declared.name.Error.{Error}
 use Rattle.gix_refspec.specs.declared.name.Error.TheVariants.{Empty, EmptyComponent, StartsWithDot, LockSuffix, EndsWithDot, RepeatedDot, ReflogPortion, Asterisk, InvalidByte}
 use Rattle.gix_refspec.specs.Text.{Lacks, Ends}
-use Rattle.gix_refspec.specs.Name.{slash, star, letter, is_refused_byte, HasFault, IsName, IsPattern, ReplacesStar, HasOneStar, HasSeveralStars}
+use Rattle.gix_refspec.specs.Name.{slash, star, is_refused_byte, HasFault, IsName}
 use Rattle.gix_refspec.specs.Scan.{dot, brace, AddsFault, LeavesFault}
 use Rattle.gix_refspec.proofs.NameLemmas.{Added, IsClean, IsClean-more, IsClean-start, HasFault-added, HasFault-left, IsName-from_clean, end_leaves}
 

@@ -1,14 +1,14 @@
 -- `HEAD` is a name, and what names do without.
-use Rattle.std.proofs.Common.{◌≡◌, ◌≢◌, ◌==◌, ℕ, Bool, true, false, List, [], ◌∷◌, ◌++◌, codes, IsTrue, refl, sym, ap, ◌∙◌, subst, append_assoc, arith, eq-eqb}
+use Rattle.std.proofs.Common.{◌≡◌, ◌≢◌, ℕ, false, List, [], ◌∷◌, ◌++◌, codes, refl, sym, ap, ◌∙◌, subst, append_assoc, arith, eq-eqb}
 use Rattle.std.proofs.lemmas.Bool.{false≢true}
 use Rattle.gix_refspec.specs.declared.name.Error.{Error}
 use Rattle.gix_refspec.specs.declared.name.Error.TheVariants.{InvalidByte}
 use Rattle.gix_refspec.specs.Text.{Lacks, Ends}
-use Rattle.gix_refspec.specs.Name.{slash, star, letter, is_refused_byte, IsName, IsPattern, ReplacesStar}
+use Rattle.gix_refspec.specs.Name.{slash, star, letter, is_refused_byte, IsName, IsPattern}
 use Rattle.gix_refspec.specs.Grammar.{plus, caret, colon, head, IsUnsigned}
 use Rattle.gix_refspec.specs.Meaning.{begins_with_plus}
 use Rattle.gix_refspec.specs.Scan.{dot, brace, AddsFault}
-use Rattle.gix_refspec.proofs.TextLemmas.{Lacks-from_absent, Lacks-here}
+use Rattle.gix_refspec.proofs.TextLemmas.{Lacks-from_absent}
 use Rattle.gix_refspec.proofs.NameLemmas.{IsClean, IsClean-more, IsClean-start, IsName-from_clean, end_leaves, last_byte}
 use Rattle.gix_refspec.proofs.DecideLemmas.{no_added}
 

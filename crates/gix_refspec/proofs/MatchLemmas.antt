@@ -1,12 +1,12 @@
 -- What sides match, and their prefixes and candidates.
-use Rattle.std.proofs.Common.{◌≡◌, ◌≢◌, ◌⊎◌, inl, inr, ℕ, List, [], ◌∷◌, ◌++◌, codes, Option, None, Some, refl, sym, ap, ◌∙◌, subst, append_assoc, arith}
+use Rattle.std.proofs.Common.{◌≡◌, ◌≢◌, ℕ, List, [], ◌∷◌, ◌++◌, codes, Option, None, Some, refl, sym, ap, ◌∙◌, subst, arith}
 use Rattle.std.proofs.lemmas.List.{append-nil, append_cancel_left, append_cancel_right}
 use Rattle.gix_refspec.specs.Text.{Lacks, Begins}
 use Rattle.gix_refspec.specs.Name.{star}
 use Rattle.gix_refspec.specs.Grammar.{head}
-use Rattle.gix_refspec.specs.Match.{Ref, Kind, pattern, full_name, object, partial, HasKind, IsId, candidates, IsOneOf, Covers, MatchesAs, Matches}
-use Rattle.gix_refspec.specs.Prefix.{IsPrefix, of_head, of_name, of_pattern, HasNoPrefix, Expands, to_prefix, to_itself, below_refs, of_object, to_candidates}
-use Rattle.gix_refspec.specs.Laws.{OneWord, PrefixBegins, HasCandidates, Candidates}
+use Rattle.gix_refspec.specs.Match.{Ref, Kind, pattern, full_name, object, partial, HasKind, IsId, candidates, IsOneOf, MatchesAs}
+use Rattle.gix_refspec.specs.Prefix.{of_head, of_name, of_pattern, HasNoPrefix, Expands, to_prefix, to_itself, below_refs, of_object, to_candidates}
+use Rattle.gix_refspec.specs.Laws.{OneWord, PrefixBegins, Candidates}
 use Rattle.gix_refspec.proofs.TextLemmas.{Lacks-here, first_once}
 
 -- two words between the same texts are one

@@ -1,5 +1,5 @@
 -- A text has its sign, source and destination in one way.
-use Rattle.std.proofs.Common.{◌≡◌, ◌≢◌, ℕ, List, [], ◌∷◌, ◌++◌, Option, None, Some, refl, sym, ap, ◌∙◌, subst, arith}
+use Rattle.std.proofs.Common.{◌≡◌, ◌≢◌, ℕ, List, ◌∷◌, Option, None, Some, refl, sym, ap, ◌∙◌, subst, arith}
 use Rattle.gix_refspec.specs.Text.{Lacks}
 use Rattle.gix_refspec.specs.Reading.{Mode, Normal, Forced, Negative}
 use Rattle.gix_refspec.specs.Grammar.{plus, caret, colon, IsUnsigned, IsSigned, with_colon, LastLacksColon, AreParts}

@@ -1,5 +1,5 @@
 -- Prefixes of sides, and what sides are expanded to.
-use Rattle.std.proofs.Common.{◌≡◌, ◌≢◌, ◌⊎◌, inl, inr, ◌+◌, ℕ, Bool, true, false, if◌then◌else◌, List, [], ◌∷◌, ◌++◌, codes, map, length, take, get_or, is_ok, Result, Ok, Err, OnOk, MatchResult, refl, sym, ap, ◌∙◌, subst, append_assoc, length-append, arith}
+use Rattle.std.proofs.Common.{◌≡◌, ◌≢◌, ◌⊎◌, inl, inr, ◌+◌, ℕ, true, if◌then◌else◌, List, [], ◌∷◌, ◌++◌, codes, map, length, take, get_or, is_ok, Result, Ok, Err, OnOk, MatchResult, refl, sym, ap, ◌∙◌, subst, length-append, arith}
 use Rattle.std.specs.Prelude.{⊤}
 use Rattle.std.proofs.Math.Seq.{take-append_seam}
 use Rattle.std.proofs.lemmas.List.{append_cancel_left, map-append}
@@ -7,9 +7,9 @@ use Rattle.std.proofs.lemmas.Bool.{false≢true}
 use Rattle.gix_refspec.specs.declared.oid.Error.{Error}
 use Rattle.gix_refspec.specs.declared.oid.ObjectId.{ObjectId}
 use Rattle.gix_refspec.specs.ObjectId.{IsIdText, HasFault, id_bytes}
-use Rattle.gix_refspec.specs.Text.{Lacks, Holds, Begins}
+use Rattle.gix_refspec.specs.Text.{Lacks, Holds}
 use Rattle.gix_refspec.specs.Name.{star}
-use Rattle.gix_refspec.specs.Reading.{Reading, remote_of}
+use Rattle.gix_refspec.specs.Reading.{Reading}
 use Rattle.gix_refspec.specs.Grammar.{head}
 use Rattle.gix_refspec.specs.Match.{IsId}
 use Rattle.gix_refspec.specs.Prefix.{bracket, IsPrefix, of_head, of_name, of_pattern, HasNoPrefix, IsAsked}

@@ -1,20 +1,18 @@
 -- The canonical text of each form reads as what it means.
 use Rattle.std.proofs.Common.{◌≡◌, ◌≢◌, ◌⊎◌, inl, inr, ◌==◌, ℕ, Bool, true, false, if◌then◌else◌, List, [], ◌∷◌, ◌++◌, Option, None, Some, option_map, refl, sym, ap, ◌∙◌, subst, arith}
 use Rattle.gix_refspec.specs.declared.parsing.Operation.{Operation}
-use Rattle.gix_refspec.specs.declared.parsing.Operation.TheVariants.{Push, Fetch}
 use Rattle.gix_refspec.specs.Text.{Lacks}
 use Rattle.gix_refspec.specs.Name.{IsName, IsPattern, star}
 use Rattle.gix_refspec.specs.Reading.{Mode, Normal, Forced, Negative, Reading}
-use Rattle.gix_refspec.specs.Grammar.{plus, caret, colon, at, head, named_by, IsUnsigned, IsPositive, IsNameOrPattern, AreAlike, AreParts, LooksLikeObjectHash, with_colon, fetched, pushed, Reads, fetches_nothing_named, fetches_colon, fetches, updates, updates_from_head, fetch_excludes, pushes_plus, pushes_colon, pushes, deletes, pushes_pattern, pushes_to, push_excludes}
-use Rattle.gix_refspec.specs.Meaning.{Meaning, meaning_of, printed, text_of, sign, begins_with_plus, push_all_matching, push_delete, push_matching, push_exclude, fetch_only, fetch_exclude, fetch_and_update}
-use Rattle.gix_refspec.specs.Laws.{ReadsOnce, IsPrintedBack}
+use Rattle.gix_refspec.specs.Grammar.{plus, caret, colon, at, head, named_by, IsUnsigned, IsPositive, IsNameOrPattern, AreAlike, AreParts, with_colon, Reads}
+use Rattle.gix_refspec.specs.Meaning.{Meaning, meaning_of, text_of, sign}
+use Rattle.gix_refspec.specs.Laws.{IsPrintedBack}
 use Rattle.std.proofs.lemmas.Bool.{eqb-true}
 use Rattle.gix_refspec.proofs.TextLemmas.{Lacks-Holds}
-use Rattle.gix_refspec.proofs.SideLemmas.{Lacks-name, HasStar-pattern}
+use Rattle.gix_refspec.proofs.SideLemmas.{HasStar-pattern}
 use Rattle.gix_refspec.proofs.DecideLemmas.{tested}
-use Rattle.gix_refspec.proofs.HeadLemmas.{IsName-head, Lacks-colon_name, Lacks-colon_pattern, unsigned_name}
-use Rattle.gix_refspec.proofs.ReadsLemmas.{name_not_empty, pattern_not_empty}
-use Rattle.gix_refspec.proofs.ReadOnceLemmas.{reads_once, either_full}
+use Rattle.gix_refspec.proofs.HeadLemmas.{IsName-head, Lacks-colon_name, Lacks-colon_pattern}
+use Rattle.gix_refspec.proofs.ReadOnceLemmas.{reads_once}
 
 -- a reading prints as a text that reads with the same meaning
 pub printed_back : (op : Operation) (r : Reading) (m : Meaning) (text : List ℕ) (q : Reading) → meaning_of r ≡ Some m → text_of m ≡ text → Reads op text q → meaning_of q ≡ Some m → IsPrintedBack op r

@@ -1,17 +1,16 @@
 -- Parts whose sides are fine read as what the sides make, and what reads has such parts.
-use Rattle.std.proofs.Common.{◌≡◌, ◌≢◌, ◌⊎◌, inl, inr, ℕ, ◌==◌, Bool, true, false, if◌then◌else◌, List, [], ◌∷◌, Option, None, Some, unwrap_or, refl, sym, ap, ◌∙◌, subst}
+use Rattle.std.proofs.Common.{◌≡◌, ◌≢◌, ◌⊎◌, inl, inr, ℕ, ◌==◌, true, false, if◌then◌else◌, List, [], ◌∷◌, Option, None, Some, unwrap_or, refl, sym, ap, subst}
 use Rattle.gix_refspec.specs.declared.name.Error.TheVariants.{Empty}
 use Rattle.gix_refspec.specs.declared.parsing.Operation.{Operation}
 use Rattle.gix_refspec.specs.declared.parsing.Operation.TheVariants.{Push, Fetch}
 use Rattle.gix_refspec.specs.declared.parsing.function.Side.{Side}
 use Rattle.gix_refspec.specs.declared.parsing.function.Side.TheVariants.{Plain, Pattern}
-use Rattle.gix_refspec.specs.Text.{Lacks}
-use Rattle.gix_refspec.specs.Name.{IsName, IsPattern, star}
+use Rattle.gix_refspec.specs.Name.{IsName, IsPattern}
 use Rattle.gix_refspec.specs.Reading.{Mode, Normal, Forced, Negative, Reading, Refusal}
 use Rattle.gix_refspec.specs.Grammar.{head, named_by, IsPositive, IsNameOrPattern, LooksLikeObjectHash, AreAlike, AreParts, fetched, pushed, Reads, fetches_nothing_named, fetches_colon, fetches, updates, updates_from_head, fetch_excludes, pushes_plus, pushes_colon, pushes, deletes, pushes_pattern, pushes_to, push_excludes}
-use Rattle.gix_refspec.specs.Refusal.{IsEmptyPush, HasNegativeDestination, PushesNowhere, HasBadSource, HasBadDestination, IsUnbalanced, ExcludesNothing, ExcludesObject, Never, IsFirstReason, IsRefused, NoReasonBeforeSource}
+use Rattle.gix_refspec.specs.Refusal.{Never, IsFirstReason, IsRefused}
 use Rattle.gix_refspec.specs.Sides.{IsSide, IsCheckedSide, side_of, named_or_head}
-use Rattle.gix_refspec.proofs.SideLemmas.{Never-or, checked_starred, empty_no_pattern, Lacks-name}
+use Rattle.gix_refspec.proofs.SideLemmas.{Never-or, checked_starred, empty_no_pattern}
 use Rattle.gix_refspec.proofs.PartsLemmas.{parts_once}
 use Rattle.gix_refspec.proofs.ReasonLemmas.{positive, no_empty_fetch, no_negative, no_fetch_nowhere, fetch_source_fine, push_source_fine, alone_fine, destination_fine, sides_balanced}
 

@@ -1,20 +1,19 @@
 -- The first reason against parts, and that there is none against fine ones.
-use Rattle.std.proofs.Common.{◌≡◌, ◌≢◌, ◌⊎◌, inl, inr, ℕ, List, [], ◌∷◌, Option, None, Some, unwrap_or, refl, sym, ap, ◌∙◌, subst}
+use Rattle.std.proofs.Common.{◌≡◌, ◌≢◌, inl, inr, ℕ, List, [], Option, None, Some, unwrap_or, refl, ap, subst}
 use Rattle.gix_refspec.specs.declared.parsing.Operation.{Operation}
 use Rattle.gix_refspec.specs.declared.parsing.Operation.TheVariants.{Push, Fetch}
 use Rattle.gix_refspec.specs.declared.parsing.function.Side.{Side}
 use Rattle.gix_refspec.specs.declared.parsing.function.Side.TheVariants.{Plain, Pattern}
 use Rattle.gix_refspec.specs.declared.parsing.Error.{Error}
 use Rattle.gix_refspec.specs.declared.parsing.Error.TheVariants as error
-use Rattle.gix_refspec.specs.Text.{Lacks}
 use Rattle.gix_refspec.specs.Name.{HasStar, star}
-use Rattle.gix_refspec.specs.Reading.{Mode, Normal, Forced, Negative, Refusal, Empty, NegativeWithDestination, PushToEmpty, PatternUnsupported, ReferenceName, PatternUnbalanced, NegativeEmpty, NegativeObjectHash}
+use Rattle.gix_refspec.specs.Reading.{Mode, Normal, Negative, Refusal, PatternUnbalanced, NegativeEmpty, NegativeObjectHash}
 use Rattle.gix_refspec.specs.Grammar.{IsPositive, LooksLikeObjectHash}
-use Rattle.gix_refspec.specs.Refusal.{IsBadName, IsBadPattern, IsEmptyPush, HasNegativeDestination, PushesNowhere, HasBadSource, HasBadDestination, IsUnbalanced, IsOneStarred, ExcludesNothing, ExcludesObject, Never, OrElse, IsFirstReason, WantsMemory, NoReasonBeforeSource, ReachesMemory}
-use Rattle.gix_refspec.specs.Views.{IsShownAs, MemoryOr}
+use Rattle.gix_refspec.specs.Refusal.{IsBadPattern, IsEmptyPush, HasNegativeDestination, PushesNowhere, HasBadSource, HasBadDestination, IsUnbalanced, IsOneStarred, Never, IsFirstReason, WantsMemory, NoReasonBeforeSource, ReachesMemory}
+use Rattle.gix_refspec.specs.Views.{MemoryOr}
 use Rattle.gix_refspec.specs.Sides.{IsSide, IsCheckedSide, IsBadSide, IsReason}
 use Rattle.gix_refspec.proofs.TextLemmas.{Lacks-Holds}
-use Rattle.gix_refspec.proofs.SideLemmas.{Never-or, checked_fine, starred_fine, checked_plain, checked_pattern, checked_starred, HasStar-pattern, HasStar-bad}
+use Rattle.gix_refspec.proofs.SideLemmas.{checked_fine, starred_fine, checked_starred, HasStar-pattern, HasStar-bad}
 
 -- an error that tells of P and memory tells of what follows from them
 pub MemoryOr-map : (M N : Type 0) (P Q : Refusal → Type 0) (e : Error) → (M → N) → ((f : Refusal) → P f → Q f) → MemoryOr M P e → MemoryOr N Q e

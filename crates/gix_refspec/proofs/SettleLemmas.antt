@@ -1,6 +1,6 @@
 -- Each text has parts, and parts read or have a first reason against them.
-use Rattle.std.proofs.Common.{◌≡◌, ◌≢◌, ◌⊎◌, inl, inr, ℕ, ◌==◌, ◌≤◌, Bool, true, false, List, [], ◌∷◌, ◌++◌, Option, None, Some, unwrap_or, length, nat_le, refl, sym, ap, ◌∙◌, subst, arith, eq-eqb}
-use Rattle.std.specs.List.{AllPass, AllByRecursion}
+use Rattle.std.proofs.Common.{◌≡◌, ◌≢◌, ◌⊎◌, inl, inr, ℕ, true, List, [], ◌∷◌, ◌++◌, Option, None, Some, unwrap_or, length, nat_le, refl, sym, ap, ◌∙◌, subst}
+use Rattle.std.specs.List.{AllByRecursion}
 use Rattle.std.specs.Char.{is_ascii_hexdigit}
 use Rattle.std.proofs.lemmas.Bool.{false≢true, leb-true, le-leb}
 use Rattle.std.proofs.lemmas.List.Elements.{All-from_recursion, recursion_from_All}
@@ -9,15 +9,14 @@ use Rattle.gix_refspec.specs.declared.parsing.Operation.TheVariants.{Push, Fetch
 use Rattle.gix_refspec.specs.declared.parsing.function.Side.{Side}
 use Rattle.gix_refspec.specs.declared.parsing.function.Side.TheVariants.{Plain, Pattern}
 use Rattle.gix_refspec.specs.Text.{Lacks}
-use Rattle.gix_refspec.specs.Name.{star, letter, IsName, IsPattern, ReplacesStar, HasSeveralStars}
+use Rattle.gix_refspec.specs.Name.{star, letter, ReplacesStar}
 use Rattle.gix_refspec.specs.Reading.{Mode, Normal, Forced, Negative, Reading, Refusal, Empty, NegativeWithDestination, PushToEmpty, PatternUnsupported, ReferenceName, PatternUnbalanced, NegativeEmpty, NegativeObjectHash}
-use Rattle.gix_refspec.specs.Grammar.{plus, caret, colon, head, named_by, IsUnsigned, IsSigned, IsPositive, AreParts, LooksLikeObjectHash, Reads, fetched, pushed}
-use Rattle.gix_refspec.specs.Refusal.{HasBadSource, IsBadPattern, IsFirstReason, IsRefused}
+use Rattle.gix_refspec.specs.Grammar.{plus, caret, colon, named_by, IsSigned, IsPositive, AreParts, LooksLikeObjectHash, Reads, fetched, pushed}
+use Rattle.gix_refspec.specs.Refusal.{IsBadPattern, IsFirstReason, IsRefused}
 use Rattle.gix_refspec.specs.Sides.{IsSide, IsCheckedSide, IsBadSide, PartsRead, side_of, named_or_head}
-use Rattle.gix_refspec.proofs.DecideLemmas.{Decided, FirstPlace, LastPlace, tested, decided_byte, name_or_fault, lacks_or_first, lacks_or_last}
+use Rattle.gix_refspec.proofs.DecideLemmas.{Decided, FirstPlace, tested, decided_byte, name_or_fault, lacks_or_first, lacks_or_last}
 use Rattle.gix_refspec.proofs.SideLemmas.{checked_starred}
-use Rattle.gix_refspec.proofs.PartsLemmas.{signed_once}
-use Rattle.gix_refspec.proofs.ReasonLemmas.{fetch_reaches, push_reaches, push_alone_reaches, negative_reaches, reason_at_source, reason_at_destination, reason_of_balance, reason_against_object, reason_against_nothing, fetch_source_fine, push_source_fine, push_alone_fine, destination_fine, bad_destination, bad_source_of_push, sides_unbalanced, unbalanced_push, bad_negative, no_negative}
+use Rattle.gix_refspec.proofs.ReasonLemmas.{fetch_reaches, push_reaches, push_alone_reaches, negative_reaches, reason_at_source, reason_at_destination, reason_of_balance, reason_against_object, reason_against_nothing, fetch_source_fine, push_source_fine, destination_fine, bad_destination, bad_source_of_push, sides_unbalanced, unbalanced_push, bad_negative, no_negative}
 use Rattle.gix_refspec.proofs.ReadsLemmas.{fetch_reads, push_alone_reads, push_reads, negative_reads, refused}
 
 -- a text without a star or a pattern, or a bad pattern

@@ -6,7 +6,7 @@ use Rattle.std.specs.Hash.{Alike}
 use lib.Pointwise.{pointwise_decides, bytes_decides}
 use Rattle.gix_refspec.specs.Meaning.{Meaning, push_all_matching, push_delete, push_matching, push_exclude, fetch_only, fetch_exclude, fetch_and_update}
 use Rattle.gix_refspec.specs.Order.{key_of, keys, writes}
-use Rattle.std.specs.Cmp.Lexicographic.{pointwise, slice_cmp, slice_partial_cmp, lists_po, lists_agrees, lists_total, lists_equiv, lists_ties, texts_po, texts_ties, nat_list_cmp_total, nat_list_eq_equiv}
+use Rattle.std.specs.Cmp.Lexicographic.{pointwise, slice_cmp, slice_partial_cmp, lists_po, lists_agrees, lists_total, lists_equiv, texts_po, nat_list_cmp_total, nat_list_eq_equiv}
 
 -- keys are equal or not as an equivalence says
 pub keys_equiv : IsEquivalence (pointwise (pointwise nat_eq))

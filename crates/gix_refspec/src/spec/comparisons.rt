@@ -51,7 +51,7 @@ impl<'a> PartialOrd for RefSpecRef<'a> {
 
     ghost laws = { on_po key_of_spec keys_po };
 
-    fn partial_cmp(&self, other: &Self) -> Option<Ordering> {
+    fn partial_cmp(&self, other: &RefSpecRef<'a>) -> Option<Ordering> {
         Some(self.cmp(other))
     }
 }
@@ -102,7 +102,7 @@ impl PartialOrd for RefSpec {
 
     ghost laws = { on_po key_of_owned keys_po };
 
-    fn partial_cmp(&self, other: &Self) -> Option<Ordering> {
+    fn partial_cmp(&self, other: &RefSpec) -> Option<Ordering> {
         Some(self.cmp(other))
     }
 }

@@ -1,4 +1,4 @@
-use Rattle.std.proofs.Common.{List, ℕ, ◌∷◌, take}
+use Rattle.std.proofs.Common.{◌∷◌, take}
 use Rattle.gix_refspec.specs.Name.{slash}
 use Rattle.gix_refspec.proofs.NameLemmas.{IsClean}
 use Rattle.gix_refspec.proofs.name.fault_of.Given as goal

@@ -1,5 +1,5 @@
 -- The prefix where there is one, the side itself, or nothing.
-use Rattle.std.proofs.Common.{◌≡◌, ap, map}
+use Rattle.std.proofs.Common.{ap, map}
 use Rattle.std.proofs.lemmas.Result.{IfOk-weaker}
 use Rattle.bstr.specs.Owned.{bstring_bytes}
 use Rattle.gix_refspec.specs.Prefix.{to_prefix, to_itself, below_refs}

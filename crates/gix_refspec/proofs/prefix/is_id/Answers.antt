@@ -1,5 +1,5 @@
 -- Reading succeeds exactly for the texts of ids.
-use Rattle.std.proofs.Common.{◌≡◌, sym, ◌∙◌}
+use Rattle.std.proofs.Common.{sym, ◌∙◌}
 use Rattle.gix_refspec.proofs.PrefixLemmas.{id_tested}
 use Rattle.gix_refspec.proofs.prefix.is_id.Goals as goal
 

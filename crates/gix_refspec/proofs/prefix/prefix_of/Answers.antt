@@ -1,5 +1,4 @@
 -- A side below `refs/` with a star: what stands before the star decides.
-use Rattle.std.proofs.Common.{◌≡◌, List, ℕ}
 use Rattle.gix_refspec.proofs.PrefixLemmas.{no_prefix, pattern_prefix}
 use Rattle.gix_refspec.proofs.prefix.prefix_of.Goals as goal
 

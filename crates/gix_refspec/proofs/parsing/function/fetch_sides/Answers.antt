@@ -1,11 +1,11 @@
 -- Nothing before the source is against a positive fetch; the reasons at its sides are told by the checks.
-use Rattle.std.proofs.Common.{◌≡◌, ℕ, List, [], Option, Some, option_map, unwrap_or, Bor, refl, sym, ap, ◌∙◌, subst, rules}
+use Rattle.std.proofs.Common.{ℕ, List, [], Some, option_map, unwrap_or, Bor, refl, sym, ap, ◌∙◌, subst, rules}
 use Rattle.std.proofs.lemmas.Result.{err_from_is_err_and}
 use denote.Enum.Bare.{differs_true, differs_false}
 use Rattle.gix_refspec.specs.contracts.parsing.function.Side.{the_type}
 use Rattle.gix_refspec.specs.declared.parsing.Operation.TheVariants.{Fetch}
 use Rattle.gix_refspec.specs.Grammar.{Reads}
-use Rattle.gix_refspec.specs.Reading.{Refusal, PatternUnbalanced}
+use Rattle.gix_refspec.specs.Reading.{PatternUnbalanced}
 use Rattle.gix_refspec.specs.Refusal.{WantsMemory}
 use Rattle.gix_refspec.specs.Views.{MemoryOr}
 use Rattle.gix_refspec.specs.Sides.{IsCheckedSide, IsBadSide, named_or_head, side_of}

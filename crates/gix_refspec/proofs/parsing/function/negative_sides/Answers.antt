@@ -1,5 +1,5 @@
 -- A negative spec with a source that was checked, is there and doesn't look like an object hash.
-use Rattle.std.proofs.Common.{◌≡◌, ◌≢◌, ℕ, List, [], Option, None, Some, option_map, true, Bor, refl, ap, sym, ◌∙◌, subst}
+use Rattle.std.proofs.Common.{ℕ, List, Option, None, refl, ap, sym, ◌∙◌, subst}
 use Rattle.std.proofs.lemmas.Bool.{false≢true}
 use Rattle.gix_refspec.specs.Grammar.{Reads, AreParts, LooksLikeObjectHash, named_by}
 use Rattle.gix_refspec.specs.Reading.{Negative, NegativeObjectHash}

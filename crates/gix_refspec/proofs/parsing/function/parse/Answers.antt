@@ -1,8 +1,7 @@
 -- The text has the sign, source and destination that were cut; what was told of these holds of it.
-use Rattle.std.proofs.Common.{◌≡◌, ℕ, List, Option, option_map, Bor, refl, ap, sym, ◌∙◌, subst}
+use Rattle.std.proofs.Common.{ℕ, List, option_map, Bor}
 use Rattle.std.proofs.lemmas.Result.{err_from_is_err_and}
 use Rattle.bstr.specs.BStr.{bstr_bytes}
-use Rattle.gix_refspec.specs.Grammar.{AreParts, IsSigned, with_colon}
 use Rattle.gix_refspec.specs.Refusal.{IsFirstReason, ReachesMemory, IsRefused, MayWantMemory}
 use Rattle.gix_refspec.specs.Views.{mode_of}
 use Rattle.gix_refspec.proofs.PartsLemmas.{parts_from_cut}

@@ -1,5 +1,4 @@
 -- Each kind of positive spec is looked at by a function of its own.
-use Rattle.std.proofs.Common.{◌≡◌, ℕ, List, Option, None, Some, option_map, Bor, ap, sym, ◌∙◌, subst, refl}
 use Rattle.std.proofs.lemmas.Result.{IfOk-weaker, IfErr-weaker}
 use Rattle.gix_refspec.specs.Views.{mode_of}
 use Rattle.gix_refspec.proofs.parsing.function.positive_sides.Goals as goal

@@ -1,5 +1,4 @@
 -- A negative mode is the one that the clause names.
-use Rattle.std.proofs.Common.{◌≡◌}
 use Rattle.gix_refspec.proofs.parsing.function.sides_for.Goals as goal
 
 pub returns-in-Negative-clause-ok : goal.returns-in-Negative-clause-ok

@@ -1,5 +1,5 @@
 -- The entries of the side that is asked for were appended.
-use Rattle.std.proofs.Common.{◌≡◌, inl, map}
+use Rattle.std.proofs.Common.{inl, map}
 use Rattle.std.proofs.lemmas.Result.{on_ok_weaker}
 use Rattle.bstr.specs.Owned.{bstring_bytes}
 use Rattle.gix_refspec.proofs.PrefixLemmas.{appended_ok}

@@ -1,5 +1,5 @@
 -- The side that is asked for has no prefix.
-use Rattle.std.proofs.Common.{◌≡◌, List, ℕ, subst}
+use Rattle.std.proofs.Common.{List, ℕ, subst}
 use Rattle.gix_refspec.specs.Prefix.{IsPrefix}
 use Rattle.gix_refspec.specs.Spec.{reading_of}
 use Rattle.gix_refspec.proofs.PrefixLemmas.{one_asked}
