@@ -1,5 +1,7 @@
 -- The grammar of refspecs, by git-fetch(1) and git-push(1) under `<refspec>`: the thirteen forms of
--- a text, and what each is read as.
+-- a text, and what each is read as. The empty source of a fetch, a lone `+` in a push, negative specs in
+-- a push and a push of two patterns are what Git does without its manual saying so, or this project's
+-- own rule.
 use Rattle.std.specs.Prelude.{◌≡◌, ◌≢◌, ◌⊎◌, ◌≤◌, ℕ, ◌==◌, if◌then◌else◌, List, [], ◌∷◌, ◌++◌, Option, None, Some, length, codes}
 use Rattle.std.specs.List.{AllPass}
 use Rattle.std.specs.Char.{is_ascii_hexdigit}
@@ -62,7 +64,7 @@ IsPositive Normal = Unit {0}
 IsPositive Forced = Unit {0}
 IsPositive Negative = ⊥
 
--- what a source word names: a lone `@` is short for `HEAD`
+-- what a source word names: a lone `@` is short for `HEAD`, by gitrevisions(7)
 abbrev pub named_by : List ℕ → List ℕ
 named_by [] = []
 named_by (b ∷ []) = if b == at then head else b ∷ []

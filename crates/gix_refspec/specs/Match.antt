@@ -41,7 +41,7 @@ candidates x =
     ∷ (codes "refs/remotes/" ++ (x ++ codes "/HEAD"))
     ∷ []
 
--- n is one of the names
+-- n is one of the texts of a list
 abbrev pub IsOneOf : List (List ℕ) → List ℕ → Type 0
 IsOneOf [] n = ⊥
 IsOneOf (x ∷ xs) n = (n ≡ x) ⊎ IsOneOf xs n

@@ -1,4 +1,5 @@
--- What a reading says to do, by git-fetch(1) and git-push(1), and the text of that.
+-- What a reading says to do, by git-fetch(1) and git-push(1), and the text of that, by this project's own
+-- rule.
 use Rattle.std.specs.Prelude.{◌≡◌, ℕ, Bool, true, false, ◌==◌, List, [], ◌∷◌, ◌++◌, Option, None, Some, option_map}
 use Rattle.std.specs.Io.KnownBytes.{Appends}
 use Rattle.gix_refspec.specs.declared.parsing.Operation.{Operation}
@@ -53,8 +54,8 @@ abbrev pub begins_with_plus : List ℕ → Bool
 begins_with_plus [] = false
 begins_with_plus (b ∷ bs) = b == plus
 
--- the canonical text. The lone source of a fetch that begins with `+` gets one more, since the first
--- would be read as a sign
+-- the canonical text: this project's own rule. The lone source of a fetch that begins with `+` gets one
+-- more, since the first would be read as a sign
 abbrev pub text_of : Meaning → List ℕ
 text_of (push_all_matching forced) = sign forced ++ (colon ∷ [])
 text_of (push_delete d) = colon ∷ d

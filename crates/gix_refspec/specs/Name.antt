@@ -67,7 +67,8 @@ pub record ReplacesStar (x y : List ℕ) : Type 0 where
   pub first : Lacks star before
   pub last : Lacks star after
 
--- x is a pattern: it has one star, and with the letter in its place it is a name
+-- x is a pattern: it has one star, and with the letter in its place it is a name. So no pattern ends
+-- with a slash
 pub record IsPattern (x : List ℕ) : Type 0 where
   pub with_letter : List ℕ
   pub replaces : ReplacesStar x with_letter

@@ -28,15 +28,17 @@ unflag : List ℕ → Bool
 unflag [] = false
 unflag (b ∷ bs) = b == 1
 
--- the instructions without fields, with one text, and with two and a flag
+-- the instruction that has a flag alone
 flagged : List (List ℕ) → Option Meaning
 flagged (f ∷ []) = Some (push_all_matching (unflag f))
 flagged _ = None
 
+-- the instruction that has one text
 one_text : (List ℕ → Meaning) → List (List ℕ) → Option Meaning
 one_text make (s ∷ []) = Some (make s)
 one_text make _ = None
 
+-- the instruction that has two texts and a flag
 two_texts : (List ℕ → List ℕ → Bool → Meaning) → List (List ℕ) → Option Meaning
 two_texts make (s ∷ d ∷ f ∷ []) = Some (make s d (unflag f))
 two_texts make _ = None
@@ -72,6 +74,7 @@ of_key-key_of (fetch_exclude s) = refl
 of_key-key_of (fetch_and_update s d true) = refl
 of_key-key_of (fetch_and_update s d false) = refl
 
+-- so does the key of what a reading means
 of_key-keys : (m : Option Meaning) → of_key (keys m) ≡ m
 unfolding of_key
 of_key-keys None = refl

@@ -33,9 +33,10 @@ abbrev pub side_on_remote : Operation → Option (List ℕ) → Option (List ℕ
 side_on_remote Push s d = d
 side_on_remote Fetch s d = s
 
--- the side on the remote, and the local one
+-- the side on the remote
 abbrev pub remote_of : Reading → Option (List ℕ)
 remote_of r = side_on_remote r.operation r.source r.destination
 
+-- the local side
 abbrev pub local_of : Reading → Option (List ℕ)
 local_of r = side_on_remote r.operation r.destination r.source

@@ -47,10 +47,12 @@ IsBadSourceFor Push (Some d) s e = IsBadPattern s e
 IsBadSourceFor Push None s e = IsBadName s e ⊎ IsBadPattern s e
 IsBadSourceFor Fetch d s e = IsBadName s e ⊎ IsBadPattern s e
 
+-- a source that is not what it must be, as `a..b` in a fetch
 pub record HasBadSource (op : Operation) (s : List ℕ) (d : Option (List ℕ)) (e : Refusal) : Type 0 where
   pub source : s ≢ []
   pub refusal : IsBadSourceFor op d s e
 
+-- a destination that is neither a name nor a pattern, as in `a:b..c`
 pub record HasBadDestination (d : Option (List ℕ)) (e : Refusal) : Type 0 where
   pub word : List ℕ
   pub is : d ≡ Some word
@@ -69,7 +71,7 @@ pub record IsUnbalanced (op : Operation) (mode : Mode) (s : List ℕ) (d : Optio
   pub has_destination : op ≡ Push → unwrap_or d [] ≢ []
   pub refusal : e ≡ PatternUnbalanced
 
--- `^`
+-- `^` and nothing more
 pub record ExcludesNothing (mode : Mode) (s : List ℕ) (e : Refusal) : Type 0 where
   pub negative : mode ≡ Negative
   pub no_source : s ≡ []

@@ -1,7 +1,13 @@
-//! Git refspecs: read from bytes, and printed.
+//! Git refspecs: read from bytes, compared, and printed.
 //!
 //! A refspec such as `+refs/heads/*:refs/remotes/origin/*` says which refs a fetch or a push takes
-//! and what they become.
+//! and what they become. From text to canonical text:
+//!
+//! ```rust
+//! let text = BStr::new(b"+@:refs/remotes/origin/HEAD");
+//! let spec = gix_refspec::parse(alloc, text, Operation::Fetch)?;
+//! let printed = spec.to_bstring(alloc)?;    // +HEAD:refs/remotes/origin/HEAD
+//! ```
 #![tactic(auto)]
 
 mod cut;

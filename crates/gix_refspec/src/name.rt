@@ -76,7 +76,8 @@ pub fn name_partial(name: BStr<'_>) -> Result<(), Error>
 }
 
 /// Whether a text with one star is a pattern: a name, by git-check-ref-format(1), once a letter
-/// stands in place of the star, as under its `--refspec-pattern`.
+/// stands in place of the star, as under its `--refspec-pattern`. Other than an example there, a text
+/// that ends with a slash is refused, as Git's command refuses it too.
 ///
 /// `Name` says which fault that name has. The text is copied: up to 256 bytes the copy lies in the
 /// call itself, and no memory is asked for; a longer one is copied to the heap until the call ends,

@@ -16,12 +16,13 @@ use bstr::{BStr, BString};
 use std::alloc::{AllocError, Global};
 
 impl<'a> RefSpecRef<'a> {
-    /// The text with which every ref begins that the spec names on the remote: of the source of a fetch,
-    /// or the destination of a push.
+    /// What the names begin with that the spec names on the remote: by the source of a fetch, or the
+    /// destination of a push.
     ///
-    /// It is `HEAD` for `HEAD`, a side that begins `refs/` where it has no star, else what stands before
-    /// the star. There is none for a negative spec, a missing side, a side outside `refs/`, a star
-    /// directly behind `refs/`, and a pattern that holds a `]`. It borrows the text of the spec.
+    /// It is `HEAD` for `HEAD`, though that may also be short for a longer name. It is the side itself
+    /// where that begins `refs/` and has no star, else what stands before the star. There is none for a
+    /// negative spec, a missing side, another side outside `refs/`, a star directly behind `refs/`, and a
+    /// pattern with a `]`. It borrows the text of the spec, or is the constant `HEAD`.
     pub fn prefix(&self) -> Option<BStr<'a>>
         ensures { MatchOption result ((p : List ℕ) → ¬ (HasPrefix (reading_of self.now) p)) (λ p. HasPrefix (reading_of self.now) (bstr_bytes p)) }
     {
@@ -35,9 +36,11 @@ impl<'a> RefSpecRef<'a> {
     /// Appends what a client may ask a server to advertise for the spec: its prefix; or, for a name that
     /// is given short, the six names that gitrevisions(7) tries.
     ///
-    /// A star outside `refs/`, or directly behind it, stands in the entries as it is, and a pattern with
-    /// a `]` and a further slash has none: a client must not limit what it asks for where a positive
-    /// spec has no entry, or one with a star. Negative specs and ids of objects have none.
+    /// Entries of a side that begins with `refs/` and is a pattern without prefix are the side itself,
+    /// star and all, as `refs/*`, or, with a slash behind `refs/`, none, as for `refs/*/head` and
+    /// `refs/a]/*`. A pattern outside `refs/` gives six names with the star in them. So a client must not
+    /// limit what it asks for where a positive spec gives no entry, or one with a star. Negative specs,
+    /// missing sides and ids of objects give none.
     ///
     /// Where there is no memory, the vector is as it was.
     pub fn expand_prefixes(&self, alloc: Global, out: &mut Vec<BString>) -> Result<(), AllocError>

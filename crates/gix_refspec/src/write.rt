@@ -70,6 +70,7 @@ impl<'a> Instruction<'a> {
 }
 
 impl<'a> Push<'a> {
+    // The pieces whose text is the push's.
     fn pieces(self) -> Pieces<'a>
         ensures { joined result ≡ text_of (shown_push self.entry) }
     {
@@ -93,6 +94,7 @@ impl<'a> Push<'a> {
 }
 
 impl<'a> Fetch<'a> {
+    // The pieces whose text is the fetch's.
     fn pieces(self) -> Pieces<'a>
         ensures { joined result ≡ text_of (shown_fetch self.entry) }
     {
