@@ -1,5 +1,6 @@
 -- What a side of a refspec matches among the refs of a repository, by git-fetch(1) for patterns and by
--- gitrevisions(7) for names that are given short.
+-- gitrevisions(7) for names that are given short. That such a name matches all of its candidates, and not
+-- the first alone, is this project's own rule.
 use Rattle.std.specs.Prelude.{◌≡◌, ◌⊎◌, ℕ, List, [], ◌∷◌, ◌++◌, Option, None, Some, codes}
 use Rattle.gix_refspec.specs.Text.{Lacks, Begins}
 use Rattle.gix_refspec.specs.Name.{star}

@@ -1,4 +1,4 @@
--- Why a text with one star is no pattern.
+-- Why a text with one star is no pattern: this project's own rule.
 use Rattle.std.specs.Prelude.{◌<◌, ℕ, List, length}
 use Rattle.gix_refspec.specs.declared.name.PatternError.{PatternError}
 use Rattle.gix_refspec.specs.declared.name.PatternError.TheVariants.{Name, Memory}

@@ -10,7 +10,7 @@ pub data Mode : Type 0 where
   Forced : Mode
   Negative : Mode
 
--- each side is a text, or missing
+-- what a text is read as; each side is a text, or missing
 pub record Reading : Type 0 where
   pub operation : Operation
   pub mode : Mode

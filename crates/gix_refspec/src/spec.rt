@@ -49,15 +49,16 @@ impl<'a> RefSpecRef<'a> {
         self.src
     }
 
-    /// The right side, as it was read. None for a spec of a source alone, though a push of one has it as
-    /// its destination too.
+    /// The right side, as it was read. None where nothing stands behind a colon, though a push of a source
+    /// alone has it as its destination too.
     pub fn destination(&self) -> Option<BStr<'a>>
         ensures { option_map bstr_bytes result ≡ (reading_of self.now).destination }
     {
         self.dst
     }
 
-    /// The side on the remote: the source of a fetch, the destination of a push.
+    /// The side on the remote: the source of a fetch, the destination of a push. None for a push of a
+    /// source alone.
     pub fn remote(&self) -> Option<BStr<'a>>
         ensures { option_map bstr_bytes result ≡ remote_of (reading_of self.now) }
     {
