@@ -1,5 +1,6 @@
 //! Which texts are read, how they print, what they say to do, and why others are refused.
 
+use super::canonical;
 use crate::instruction::Fetch;
 use crate::parsing::{Error, Operation};
 use crate::{Instruction, parse};
@@ -25,10 +26,7 @@ fn variant(alloc: Global, error: &Error) -> Result<String, AllocError> {
 // The canonical text of a spec, or why it is refused.
 fn canon(alloc: Global, text: &str, operation: Operation) -> Result<String, AllocError> {
     match parse(alloc, BStr::new(text.as_bytes()), operation) {
-        Ok(spec) => {
-            let printed = spec.to_bstring(alloc)?;
-            format!(in alloc; "{printed}")
-        }
+        Ok(spec) => canonical(alloc, spec),
         Err(error) => variant(alloc, &error),
     }
 }

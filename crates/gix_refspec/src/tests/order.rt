@@ -1,0 +1,129 @@
+//! Which specs are equal, and in which order others stand.
+
+use super::canonical;
+use crate::parsing::Operation;
+use crate::{RefSpecRef, parse};
+use bstr::BStr;
+use std::alloc::{AllocError, Global};
+use std::cmp::Ordering;
+use std::fmt::Debug;
+use std::hash::{DefaultHasher, Hash, Hasher};
+use std::process::Abort;
+use std::test::Fail;
+
+// What a value hashes to.
+fn hash_of<T: Hash>(value: &T) -> u64 {
+    let mut state = DefaultHasher::new();
+    value.hash(&mut state);
+    state.finish()
+}
+
+// Whether two values are equal, and hash alike, or neither.
+fn check_equal<T: Hash + Debug>(rt: &impl Abort, a: &T, b: &T, wanted: bool) {
+    assert_eq!(rt; *a == *b, wanted, "at {a:?} and {b:?}");
+    assert_eq!(rt;
+        hash_of(a) == hash_of(b),
+        wanted,
+        "hashes at {a:?} and {b:?}"
+    );
+}
+
+// Whether two values compare so.
+fn check_order<T: Ord + Hash + Debug>(rt: &impl Abort, a: &T, b: &T, wanted: Ordering) {
+    assert_eq!(rt; a.cmp(b), wanted, "at {a:?} and {b:?}");
+    assert_eq!(rt; a.partial_cmp(b), Some(wanted), "at {a:?} and {b:?}");
+    assert_eq!(rt; *a < *b, wanted == Ordering::Less, "at {a:?} and {b:?}");
+    check_equal(rt, a, b, wanted == Ordering::Equal);
+}
+
+// Whether two specs compare so, and also their instructions, and copies that own their sides.
+fn check_specs(
+    rt: &impl Abort,
+    alloc: Global,
+    a: RefSpecRef<'_>,
+    b: RefSpecRef<'_>,
+    wanted: Ordering,
+) -> Result<(), AllocError> {
+    check_order(rt, &a, &b, wanted);
+    check_order(rt, &a.instruction(), &b.instruction(), wanted);
+    let owned_a = a.to_owned(alloc)?;
+    let owned_b = b.to_owned(alloc)?;
+    check_order(rt, &owned_a, &owned_b, wanted);
+    Ok(())
+}
+
+#[test]
+fn rises_by_operation_kind_and_sides(rt: HostRuntime) -> Result<(), Fail> {
+    let push = Operation::Push;
+    let fetch = Operation::Fetch;
+    let rows = [
+        (push, ":"),
+        (push, "+"),
+        (push, ":x"),
+        (push, "a"),
+        (push, "+a"),
+        (push, "a:b"),
+        (push, "^a"),
+        (fetch, "a"),
+        (fetch, "^a"),
+        (fetch, "a:b"),
+        (fetch, "+a:b"),
+    ];
+    let alloc = rt.alloc();
+    for (i, (operation, text)) in rows.iter().enumerate() {
+        let a = parse(alloc, BStr::new(text.as_bytes()), *operation)?;
+        for (j, (operation, text)) in rows.iter().enumerate() {
+            let b = parse(alloc, BStr::new(text.as_bytes()), *operation)?;
+            check_specs(&rt, alloc, a, b, i.cmp(&j))?;
+        }
+    }
+    Ok(())
+}
+
+#[test]
+fn equals_what_says_the_same(rt: HostRuntime) -> Result<(), Fail> {
+    let push = Operation::Push;
+    let fetch = Operation::Fetch;
+    // A canonical text, and texts that say the same. Specs of different rows are not equal.
+    let rows = [
+        (
+            fetch,
+            "HEAD",
+            ["HEAD", "", "+", ":", "+:", "@", "HEAD:", "+HEAD"].as_slice(),
+        ),
+        (fetch, "++foo", ["++foo", "++foo:"].as_slice()),
+        (fetch, "HEAD:@", ["@:@"].as_slice()),
+        (fetch, "^HEAD", ["^@"].as_slice()),
+        (fetch, "^a", ["^a"].as_slice()),
+        (push, "^a", ["^a"].as_slice()),
+        (push, "^HEAD", ["^@"].as_slice()),
+        (push, "main:main", ["main", "main:main"].as_slice()),
+        (push, ":x", [":x", "+:x"].as_slice()),
+        (push, "HEAD:HEAD", ["@", "HEAD", "HEAD:HEAD"].as_slice()),
+        (push, "a:a", ["a", "a:a"].as_slice()),
+        (push, "+a:a", ["+a", "+a:a"].as_slice()),
+        (push, ":+x", [":+x"].as_slice()),
+        (push, "::x", ["::x"].as_slice()),
+    ];
+    let alloc = rt.alloc();
+    for (i, (operation, printed, texts)) in rows.iter().enumerate() {
+        let again = parse(alloc, BStr::new(printed.as_bytes()), *operation)?;
+        let found = canonical(alloc, again)?;
+        assert_eq!(rt;
+            found.as_str(),
+            *printed,
+            "{operation:?} again at {printed}"
+        );
+        for text in *texts {
+            let spec = parse(alloc, BStr::new(text.as_bytes()), *operation)?;
+            let found = canonical(alloc, spec)?;
+            assert_eq!(rt; found.as_str(), *printed, "{operation:?} at {text:?}");
+            check_specs(&rt, alloc, spec, again, Ordering::Equal)?;
+        }
+        for (j, (operation, printed, _)) in rows.iter().enumerate() {
+            let other = parse(alloc, BStr::new(printed.as_bytes()), *operation)?;
+            check_equal(&rt, &again, &other, i == j);
+        }
+    }
+    Ok(())
+}

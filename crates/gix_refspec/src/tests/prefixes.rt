@@ -1,0 +1,104 @@
+//! What a client asks a server to advertise.
+
+use crate::parse;
+use crate::parsing::Operation;
+use bstr::{BStr, BString};
+use std::alloc::{AllocError, Global};
+use std::process::Abort;
+use std::test::Fail;
+
+const ID: &str = "aaaaaaaaaaaaaaaaaaaaaaaaaaaaaaaaaaaaaaaa";
+
+const ID_PUSHED: &str = "main:aaaaaaaaaaaaaaaaaaaaaaaaaaaaaaaaaaaaaaaa";
+
+// What the entries are, one a line.
+fn lines(alloc: Global, entries: &[BString]) -> Result<String, AllocError> {
+    let mut text = String::new(alloc);
+    for entry in entries {
+        let line = format!(in alloc; "{entry}\n")?;
+        text.push_str(line.as_str())?;
+    }
+    Ok(text)
+}
+
+// Whether the prefix of each spec and what it is expanded to are as written beside it. The entries
+// stand behind one that was there.
+fn check_rows(
+    rt: &impl Abort,
+    alloc: Global,
+    operation: Operation,
+    rows: &[(&str, Option<&str>, &str)],
+) -> Result<(), Fail> {
+    for (text, prefix, entries) in rows {
+        let spec = parse(alloc, BStr::new(text.as_bytes()), operation)?;
+        let found = match spec.prefix() {
+            None => None,
+            Some(found) => Some(found.as_bytes()),
+        };
+        let wanted = match prefix {
+            None => None,
+            Some(wanted) => Some(wanted.as_bytes()),
+        };
+        assert_eq!(rt; found, wanted, "{operation:?} at {text}");
+        let mut out = Vec::new(alloc);
+        out.push(BString::from_slice(alloc, b"kept")?)?;
+        spec.expand_prefixes(alloc, &mut out)?;
+        let found = lines(alloc, out.as_slice())?;
+        let wanted = format!(in alloc; "kept\n{entries}")?;
+        assert_eq!(rt; found.as_str(), wanted.as_str(), "{operation:?} at {text}");
+    }
+    Ok(())
+}
+
+#[test]
+fn asks_for_a_fetch(rt: HostRuntime) -> Result<(), Fail> {
+    let rows = [
+        ("HEAD", Some("HEAD"), "HEAD\n"),
+        (
+            "main",
+            None,
+            "main\nrefs/main\nrefs/tags/main\nrefs/heads/main\nrefs/remotes/main\nrefs/remotes/main/HEAD\n",
+        ),
+        ("refs/a]b", Some("refs/a]b"), "refs/a]b\n"),
+        (
+            "refs/heads/*:refs/remotes/origin/*",
+            Some("refs/heads/"),
+            "refs/heads/\n",
+        ),
+        (
+            "refs/heads/*/suffix:refs/x/*",
+            Some("refs/heads/"),
+            "refs/heads/\n",
+        ),
+        ("refs/a*/b:refs/x/*", Some("refs/a"), "refs/a\n"),
+        // A `]` in a pattern leaves no prefix, and with a further slash no entry.
+        ("refs/a]*:refs/b*", None, "refs/a]*\n"),
+        ("refs/a]*/b:refs/x/*", None, ""),
+        ("refs/*:refs/x/*", None, "refs/*\n"),
+        (
+            "*:refs/x/*",
+            None,
+            "*\nrefs/*\nrefs/tags/*\nrefs/heads/*\nrefs/remotes/*\nrefs/remotes/*/HEAD\n",
+        ),
+        (ID, None, ""),
+        ("^main", None, ""),
+    ];
+    check_rows(&rt, rt.alloc(), Operation::Fetch, &rows)?;
+    Ok(())
+}
+
+#[test]
+fn asks_for_a_push(rt: HostRuntime) -> Result<(), Fail> {
+    let rows = [
+        (
+            "a:x",
+            None,
+            "x\nrefs/x\nrefs/tags/x\nrefs/heads/x\nrefs/remotes/x\nrefs/remotes/x/HEAD\n",
+        ),
+        ("main", None, ""),
+        (":", None, ""),
+        (ID_PUSHED, None, ""),
+    ];
+    check_rows(&rt, rt.alloc(), Operation::Push, &rows)?;
+    Ok(())
+}
