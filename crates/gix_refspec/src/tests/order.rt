@@ -53,6 +53,16 @@ fn check_specs(
 }
 
 #[test]
+fn puts_push_before_fetch(rt: HostRuntime) {
+    let operations = [Operation::Push, Operation::Fetch];
+    for (i, a) in operations.iter().enumerate() {
+        for (j, b) in operations.iter().enumerate() {
+            check_order(&rt, a, b, i.cmp(&j));
+        }
+    }
+}
+
+#[test]
 fn rises_by_operation_kind_and_sides(rt: HostRuntime) -> Result<(), Fail> {
     let push = Operation::Push;
     let fetch = Operation::Fetch;
