@@ -1,4 +1,4 @@
-//! Git refspecs: read from bytes, compared, and printed.
+//! Git refspecs: read from bytes, compared, printed, and made into what a client asks a server for.
 //!
 //! A refspec such as `+refs/heads/*:refs/remotes/origin/*` says which refs a fetch or a push takes
 //! and what they become. From text to canonical text:

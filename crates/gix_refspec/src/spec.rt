@@ -78,7 +78,7 @@ impl<'a> RefSpecRef<'a> {
         }
     }
 
-    /// A copy that owns its sides.
+    /// A copy that owns its sides. `AllocError` comes where there is no memory for them.
     pub fn to_owned(&self, alloc: Global) -> Result<RefSpec, AllocError>
         ensures { IfOk result (λ owned. owned_reading_of owned ≡ reading_of self.now) }
     {
@@ -165,7 +165,7 @@ impl RefSpec {
         self.mode == Mode::Force
     }
 
-    /// A copy with sides of its own.
+    /// A copy with sides of its own. `AllocError` comes where there is no memory for them.
     pub fn clone(&self, alloc: Global) -> Result<RefSpec, AllocError>
         ensures { IfOk result (λ copy. owned_reading_of copy ≡ owned_reading_of self.now) }
     {
