@@ -1,9 +1,16 @@
-//! Laws of the definitions alone. Each function has no effect: its contract states the law of what it is
-//! given.
+//! Laws of the definitions alone, and of the comparisons that are derived. Each function has no effect:
+//! its contract states the law of what it is given.
 
+ghost use Rattle.std.specs.Prelude.{◌≡◌, ◌↔◌, IsTrue};
+ghost use Rattle.std.specs.Ordering.{nat_cmp};
 ghost use Rattle.gix_refspec.specs.Laws.{ReadsOrRefused, ReadsBack, EqualTexts, OneWord, PrefixBegins, Candidates};
+ghost use Rattle.gix_refspec.specs.Order.{is_same, order, place_of};
+ghost use Rattle.gix_refspec.specs.Views.{shown_fetch, shown_push};
 
+use crate::instruction::{Fetch, Push};
+use crate::oid::Kind;
 use crate::parsing::Operation;
+use crate::{name, oid};
 
 /// A text has exactly one reading, or it is refused.
 pub fn reads_or_refused(operation: Operation, text: &[u8])
@@ -34,4 +41,37 @@ pub fn prefix_begins(side: &[u8])
 /// and matches just the refs with one of these names.
 pub fn candidates(side: &[u8])
     ensures { Candidates side.now }
+{}
+
+/// Two kinds of ids are equal exactly where they are the same.
+pub fn equal_kinds(a: Kind, b: Kind)
+    ensures { IsTrue (⟦<Kind as PartialEq>⟧.eq a b) ↔ (a ≡ b) }
+{}
+
+/// Two faults of ids are equal exactly where they are the same variant with equal fields.
+pub fn equal_id_faults(a: oid::Error, b: oid::Error)
+    ensures { IsTrue (⟦<oid::Error as PartialEq>⟧.eq a b) ↔ (a ≡ b) }
+{}
+
+/// Two faults of names are equal exactly where they are the same variant with equal fields.
+pub fn equal_name_faults(a: name::Error, b: name::Error)
+    ensures { IsTrue (⟦<name::Error as PartialEq>⟧.eq a b) ↔ (a ≡ b) }
+{}
+
+/// Push stands before fetch.
+pub fn push_before_fetch(a: Operation, b: Operation)
+    ensures order { ⟦<Operation as Ord>⟧.cmp a b ≡ nat_cmp (place_of a) (place_of b) }
+    ensures same { IsTrue (⟦<Operation as PartialEq>⟧.eq a b) ↔ (a ≡ b) }
+{}
+
+/// Pushes are compared as what they say.
+pub fn compared_pushes<'a>(a: Push<'a>, b: Push<'a>)
+    ensures order { ⟦<Push<'a> as Ord>⟧.cmp a.entry b.entry ≡ order (shown_push a.entry) (shown_push b.entry) }
+    ensures same { ⟦<Push<'a> as PartialEq>⟧.eq a.entry b.entry ≡ is_same (shown_push a.entry) (shown_push b.entry) }
+{}
+
+/// Fetches are compared as what they say.
+pub fn compared_fetches<'a>(a: Fetch<'a>, b: Fetch<'a>)
+    ensures order { ⟦<Fetch<'a> as Ord>⟧.cmp a.entry b.entry ≡ order (shown_fetch a.entry) (shown_fetch b.entry) }
+    ensures same { ⟦<Fetch<'a> as PartialEq>⟧.eq a.entry b.entry ≡ is_same (shown_fetch a.entry) (shown_fetch b.entry) }
 {}

@@ -72,6 +72,22 @@ fn refuses_other_bytes(rt: HostRuntime) {
 }
 
 #[test]
+fn tells_kinds_and_faults_apart(rt: HostRuntime) {
+    assert!(rt; Kind::Sha1 == Kind::Sha1);
+    assert!(rt; Kind::Sha1 != Kind::Sha256);
+    let faults = [
+        Error::Length { len: 39 },
+        Error::Length { len: 41 },
+        Error::Digit,
+    ];
+    for (i, a) in faults.iter().enumerate() {
+        for (j, b) in faults.iter().enumerate() {
+            assert_eq!(rt; *a == *b, i == j, "at {a:?} and {b:?}");
+        }
+    }
+}
+
+#[test]
 fn reads_the_bytes_from_the_front(rt: HostRuntime) -> Result<(), Fail> {
     let cases = [
         (EMPTY_BLOB, [0xe6, 0x9d], 0x91, Kind::Sha1, 20),
