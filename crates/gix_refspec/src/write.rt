@@ -1,6 +1,6 @@
 //! Instructions and refspecs as canonical text.
 
-ghost use Rattle.std.specs.Prelude.{◌≡◌, ◌∷◌, ◌++◌, IfOk, OnOk};
+ghost use Rattle.std.specs.Prelude.{◌≡◌, ◌∷◌, ◌++◌, ◌≤◌, IfOk, OnOk, length};
 ghost use Rattle.std.specs.Io.KnownBytes.{Appends};
 ghost use Rattle.bstr.specs.Owned.{bstring_bytes};
 ghost use Rattle.gix_refspec.specs.Grammar.{colon};
@@ -140,7 +140,9 @@ impl<'a> Pieces<'a> {
     }
 
     // How many bytes the text has, where it can be told.
-    fn len(self) -> usize {
+    fn len(self) -> usize
+        ensures { length (joined self.entry) ≤ 18446744073709551615 → result ≡ length (joined self.entry) }
+    {
         self.sign
             .len()
             .saturating_add(self.source.len())
