@@ -1,5 +1,6 @@
 -- The words on names and refspecs at the examples of git-check-ref-format(1), git-fetch(1) and
--- git-push(1), so that a wrong rule in the specs does not check. That a text is a name is a premise.
+-- git-push(1), and at some like them, so that a wrong rule in the specs does not check. That a text is a
+-- name is a premise.
 use Rattle.std.proofs.Common.{◌≡◌, ◌≢◌, ◌≤◌, ℕ, ◌==◌, ◌||◌, true, false, List, [], ◌∷◌, ◌++◌, None, Some, map, codes, refl, inl, inr, arith}
 use Rattle.std.specs.List.{list_any}
 use Rattle.std.proofs.lemmas.Bool.{eqb-false, true≢false}
@@ -147,7 +148,7 @@ pushes_matching_branches =
     let parts : AreParts Normal [] (Some []) (codes ":") = record { signed = no_sign colon [] refl refl; last = tt } in
     (pushed Normal None None, pushes_colon Normal refl tt parts refl, refl)
 
--- git push origin with the exclusion ^refs/heads/dev-*
+-- an exclusion as in git-fetch(1), given to a push
 pub leaves_out_dev : IsName (codes "refs/heads/dev-a") → Says Push (codes "^refs/heads/dev-*") (push_exclude (codes "refs/heads/dev-*"))
 leaves_out_dev name =
     let s = codes "refs/heads/dev-*" in

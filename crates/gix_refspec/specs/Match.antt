@@ -31,6 +31,13 @@ HasKind x full_name = Lacks star x × Begins (codes "refs/") x
 HasKind x (object id) = Lacks star x × ¬ (Begins (codes "refs/") x) × IsIdText x id
 HasKind x partial = Lacks star x × ¬ (Begins (codes "refs/") x) × ¬ (IsId x)
 
+-- the kind of the source of a negative spec: without a star it is a full name, whatever it looks like
+abbrev pub HasNegativeKind : List ℕ → Kind → Type 0
+HasNegativeKind x (pattern before after) = HasKind x (pattern before after)
+HasNegativeKind x full_name = Lacks star x
+HasNegativeKind x (object id) = ⊥
+HasNegativeKind x partial = ⊥
+
 -- the names that a short one may stand for, in the order in which gitrevisions(7) tries them
 abbrev pub candidates : List ℕ → List (List ℕ)
 candidates x =

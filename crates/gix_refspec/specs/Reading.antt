@@ -1,5 +1,5 @@
 -- What a refspec is read as, and why one is refused, apart from where the bytes lie.
-use Rattle.std.specs.Prelude.{ℕ, List, Option}
+use Rattle.std.specs.Prelude.{◌⊎◌, ℕ, List, Option, IsSome}
 use Rattle.gix_refspec.specs.declared.name.Error.{Error}
 use Rattle.gix_refspec.specs.declared.parsing.Operation.{Operation}
 use Rattle.gix_refspec.specs.declared.parsing.Operation.TheVariants.{Push, Fetch}
@@ -16,6 +16,10 @@ pub record Reading : Type 0 where
   pub mode : Mode
   pub source : Option (List ℕ)
   pub destination : Option (List ℕ)
+
+-- one of the sides is there, or both
+abbrev pub HasSide : Reading → Type 0
+HasSide r = IsSome r.source ⊎ IsSome r.destination
 
 -- a refusal of the grammar
 pub data Refusal : Type 0 where

@@ -27,10 +27,8 @@ impl<'a> RefSpecRef<'a> {
         ensures { MatchOption result ((p : List ℕ) → ¬ (HasPrefix (reading_of self.now) p)) (λ p. HasPrefix (reading_of self.now) (bstr_bytes p)) }
     {
         let side = self.asked_side()?;
-        match prefix_of(side) {
-            Some(prefix) => Some(BStr::new(prefix)),
-            None => None,
-        }
+        let prefix = prefix_of(side)?;
+        Some(BStr::new(prefix))
     }
 
     /// Appends what a client may ask a server to advertise for the spec: its prefix; or, for a name that
@@ -42,10 +40,12 @@ impl<'a> RefSpecRef<'a> {
     /// limit what it asks for where a positive spec gives no entry, or one with a star. Negative specs,
     /// missing sides and ids of objects give none.
     ///
-    /// Where there is no memory, the vector is as it was.
+    /// `AllocError` comes where there is no memory, and never where the spec gives no entry. The vector is
+    /// then as it was.
     pub fn expand_prefixes(&self, alloc: Global, out: &mut Vec<BString>) -> Result<(), AllocError>
         ensures ok { OnOk result (AppendsExpansion (reading_of self.now) (map bstring_bytes out.old.items) (map bstring_bytes out.new.items)) }
         ensures err { OnErr result (out.new.items ≡ out.old.items) }
+        ensures memory { OnErr result (¬ (IsExpansion (reading_of self.now) [])) }
     {
         let Some(side) = self.asked_side() else {
             return Ok(());
@@ -61,10 +61,8 @@ impl<'a> RefSpecRef<'a> {
         if self.mode == Mode::Negative {
             return None;
         }
-        match self.remote() {
-            Some(side) => Some(side.as_bytes()),
-            None => None,
-        }
+        let side = self.remote()?;
+        Some(side.as_bytes())
     }
 }
 
@@ -108,7 +106,8 @@ fn is_id(text: &[u8]) -> bool
 
 // What a side is expanded to.
 fn expansions_of(alloc: Global, side: &[u8]) -> Result<Vec<BString>, AllocError>
-    ensures { IfOk result (λ list. Expands side.now (map bstring_bytes list.items)) }
+    ensures ok { IfOk result (λ list. Expands side.now (map bstring_bytes list.items)) }
+    ensures memory { OnErr result (¬ (Expands side.now [])) }
 {
     if let Some(prefix) = prefix_of(side) {
         return one_entry(alloc, prefix);

@@ -1,6 +1,6 @@
 //! Refspecs as they were read.
 
-ghost use Rattle.std.specs.Prelude.{◌≡◌, option_map, IfOk};
+ghost use Rattle.std.specs.Prelude.{◌≡◌, option_map, IfOk, OnErr, IsSome};
 ghost use Rattle.bstr.specs.BStr.{bstr_bytes};
 ghost use Rattle.bstr.specs.Owned.{bstring_bytes};
 ghost use Rattle.gix_refspec.specs.Grammar.{IsAccepted};
@@ -39,7 +39,7 @@ impl<'a> RefSpecRef<'a> {
     ghost use Rattle.gix_refspec.specs.Meaning.{meaning_of};
     ghost use Rattle.gix_refspec.specs.Views.{shown};
     ghost use Rattle.gix_refspec.specs.Spec.{reading_of, owned_reading_of};
-    ghost use Rattle.gix_refspec.specs.Reading.{local_of, remote_of};
+    ghost use Rattle.gix_refspec.specs.Reading.{local_of, remote_of, HasSide};
 
     /// The left side, as it was read: a lone `@` stands as `HEAD`. None for a push that deletes a ref
     /// or takes all matching branches.
@@ -57,8 +57,8 @@ impl<'a> RefSpecRef<'a> {
         self.dst
     }
 
-    /// The side on the remote: the source of a fetch, the destination of a push. None for a push of a
-    /// source alone.
+    /// The side on the remote: the source of a fetch, the destination of a push. None for a push that is
+    /// negative, of a source alone, or of all matching branches.
     pub fn remote(&self) -> Option<BStr<'a>>
         ensures { option_map bstr_bytes result ≡ remote_of (reading_of self.now) }
     {
@@ -68,7 +68,8 @@ impl<'a> RefSpecRef<'a> {
         }
     }
 
-    /// The local side: the destination of a fetch, the source of a push.
+    /// The local side: the destination of a fetch, the source of a push. None for a fetch that is
+    /// negative or of a source alone, and for a push that deletes a ref or takes all matching branches.
     pub fn local(&self) -> Option<BStr<'a>>
         ensures { option_map bstr_bytes result ≡ local_of (reading_of self.now) }
     {
@@ -78,9 +79,11 @@ impl<'a> RefSpecRef<'a> {
         }
     }
 
-    /// A copy that owns its sides. `AllocError` comes where there is no memory for them.
+    /// A copy that owns its sides. `AllocError` comes where there is no memory for them, and never where
+    /// both are missing.
     pub fn to_owned(&self, alloc: Global) -> Result<RefSpec, AllocError>
-        ensures { IfOk result (λ owned. owned_reading_of owned ≡ reading_of self.now) }
+        ensures keeps { IfOk result (λ owned. owned_reading_of owned ≡ reading_of self.now) }
+        ensures memory { OnErr result (HasSide (reading_of self.now)) }
     {
         Ok(RefSpec {
             op: self.op,
@@ -143,7 +146,7 @@ impl<'a> RefSpecRef<'a> {
 
 impl RefSpec {
     ghost use Rattle.std.specs.Prelude.{◌↔◌, IsTrue};
-    ghost use Rattle.gix_refspec.specs.Reading.{Forced};
+    ghost use Rattle.gix_refspec.specs.Reading.{Forced, HasSide};
     ghost use Rattle.gix_refspec.specs.Spec.{reading_of, owned_reading_of};
 
     /// The same spec, with sides that are borrowed from this one.
@@ -165,9 +168,11 @@ impl RefSpec {
         self.mode == Mode::Force
     }
 
-    /// A copy with sides of its own. `AllocError` comes where there is no memory for them.
+    /// A copy with sides of its own. `AllocError` comes where there is no memory for them, and never where
+    /// both are missing.
     pub fn clone(&self, alloc: Global) -> Result<RefSpec, AllocError>
-        ensures { IfOk result (λ copy. owned_reading_of copy ≡ owned_reading_of self.now) }
+        ensures keeps { IfOk result (λ copy. owned_reading_of copy ≡ owned_reading_of self.now) }
+        ensures memory { OnErr result (HasSide (owned_reading_of self.now)) }
     {
         self.to_ref().to_owned(alloc)
     }
@@ -175,7 +180,8 @@ impl RefSpec {
 
 // A side that owns its bytes.
 fn owned_side(alloc: Global, side: Option<BStr<'_>>) -> Result<Option<BString>, AllocError>
-    ensures { IfOk result (λ owned. option_map bstring_bytes owned ≡ option_map bstr_bytes side.entry) }
+    ensures keeps { IfOk result (λ owned. option_map bstring_bytes owned ≡ option_map bstr_bytes side.entry) }
+    ensures memory { OnErr result (IsSome (option_map bstr_bytes side.entry)) }
 {
     match side {
         None => Ok(None),
