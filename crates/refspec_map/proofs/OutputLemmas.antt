@@ -4,7 +4,7 @@ use Rattle.std.specs.List.{AllZip}
 use Rattle.gix_refspec.specs.declared.parsing.Operation.{Operation}
 use Rattle.gix_refspec.specs.declared.parsing.Error.{Error}
 use Rattle.gix_refspec.specs.declared.parsing.Error.TheVariants as error
-use Rattle.std.proofs.lemmas.Bool.{eqb-true}
+use Rattle.std.proofs.lemmas.Bool.{eqb-true, false≢true}
 use Rattle.std.proofs.lemmas.List.{append-nil}
 use Rattle.gix_refspec.specs.Text.{Lacks}
 use Rattle.gix_refspec.specs.Reading.{Refusal}
@@ -101,3 +101,7 @@ Completes-end op input output refusal rest empty completes =
 pub empty_from_test : (x : List ℕ) → true ≡ (length x == 0) → x ≡ []
 empty_from_test [] test = refl
 empty_from_test (b ∷ x) test = absurd (omega (arith, eqb-true (length (b ∷ x)) 0 (sym test)))
+
+-- and for bytes
+pub full_from_test : (x : List ℕ) → false ≡ (length x == 0) → x ≢ []
+full_from_test x test empty = false≢true (test ∙ ap (λ y. length y == 0) empty)

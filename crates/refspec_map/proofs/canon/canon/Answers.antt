@@ -1,7 +1,6 @@
 -- Each turn answers the first line of the rest; in the end nothing is left to answer.
 use Rattle.std.proofs.Common.{Bool, subst}
-use Rattle.refspec_map.proofs.OutputLemmas.{Completes, Completes-line, refusal_stays, refusal_shows, Completes-end, empty_from_test}
-use Rattle.gix_refspec.proofs.SideLemmas.{full_from_test}
+use Rattle.refspec_map.proofs.OutputLemmas.{Completes, Completes-line, refusal_stays, refusal_shows, Completes-end, empty_from_test, full_from_test}
 use Rattle.refspec_map.proofs.canon.canon.Goals as goal
 
 pub loop-rest-preserved-then-refusal : goal.loop-rest-preserved-then-refusal
