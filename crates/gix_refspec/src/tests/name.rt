@@ -106,6 +106,36 @@ fn reports_one_of_two_faults(rt: HostRuntime) {
     );
 }
 
+// A pattern is no name, whatever else is wrong with it.
+#[test]
+fn refuses_patterns_as_names(rt: HostRuntime) {
+    for pattern in ["a.*", "*.", ".*", "refs/heads/*.lock", "@*"] {
+        let found = name_partial(BStr::new(pattern.as_bytes()));
+        assert!(rt; found.is_err(), "at {pattern}");
+    }
+}
+
+#[test]
+fn tells_faults_apart(rt: HostRuntime) {
+    let faults = [
+        Error::Empty,
+        Error::EmptyComponent,
+        Error::StartsWithDot,
+        Error::LockSuffix,
+        Error::EndsWithDot,
+        Error::RepeatedDot,
+        Error::ReflogPortion,
+        Error::Asterisk,
+        Error::InvalidByte { byte: b' ' },
+        Error::InvalidByte { byte: b'~' },
+    ];
+    for (i, a) in faults.iter().enumerate() {
+        for (j, b) in faults.iter().enumerate() {
+            assert_eq!(rt; *a == *b, i == j, "at {a:?} and {b:?}");
+        }
+    }
+}
+
 #[test]
 fn names_the_refused_byte(rt: HostRuntime) {
     let cases = [

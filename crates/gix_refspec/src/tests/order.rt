@@ -114,6 +114,8 @@ fn equals_what_says_the_same(rt: HostRuntime) -> Result<(), Fail> {
         (push, "+a:a", ["+a", "+a:a"].as_slice()),
         (push, ":+x", [":+x"].as_slice()),
         (push, "::x", ["::x"].as_slice()),
+        (push, ":", [":"].as_slice()),
+        (push, "+:", ["+", "+:"].as_slice()),
     ];
     let alloc = rt.alloc();
     for (i, (operation, printed, texts)) in rows.iter().enumerate() {

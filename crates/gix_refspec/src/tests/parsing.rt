@@ -164,67 +164,110 @@ fn answers_both_operations_alike(rt: HostRuntime) -> Result<(), Fail> {
     Ok(())
 }
 
+// The examples of git-fetch(1), git-push(1) and git-check-ref-format(1).
 #[test]
-fn says_what_to_do(rt: HostRuntime) -> Result<(), Fail> {
-    let push = Operation::Push;
-    let fetch = Operation::Fetch;
+fn reads_the_examples_of_the_manuals(rt: HostRuntime) -> Result<(), Fail> {
+    let fetches = [
+        ("+seen:seen", "+seen:seen"),
+        ("maint:tmp", "maint:tmp"),
+        (
+            "+refs/heads/*:refs/remotes/origin/*",
+            "+refs/heads/*:refs/remotes/origin/*",
+        ),
+        ("refs/heads/*:refs/foo/*", "refs/heads/*:refs/foo/*"),
+        ("master", "master"),
+        ("foo..bar", "ReferenceName(RepeatedDot)"),
+        ("foo.lock/bar", "ReferenceName(LockSuffix)"),
+    ];
+    check_rows(&rt, rt.alloc(), Operation::Fetch, &fetches)?;
+    let pushes = [
+        (":", ":"),
+        ("master", "master:master"),
+        ("HEAD", "HEAD:HEAD"),
+        ("HEAD:master", "HEAD:master"),
+        (
+            "master:refs/heads/experimental",
+            "master:refs/heads/experimental",
+        ),
+        (":experimental", ":experimental"),
+        ("+dev:master", "+dev:master"),
+        ("master:satellite/master", "master:satellite/master"),
+    ];
+    check_rows(&rt, rt.alloc(), Operation::Push, &pushes)?;
+    Ok(())
+}
+
+// Whether each text of a table says to do what is written beside it.
+fn check_said(
+    rt: &impl Abort,
+    alloc: Global,
+    operation: Operation,
+    rows: &[(&str, &str)],
+) -> Result<(), Fail> {
+    for (text, said) in rows {
+        let found = instruction_of(alloc, BStr::new(text.as_bytes()), operation)?;
+        let found = format!(in alloc; "{found:?}")?;
+        assert_eq!(rt; found.as_str(), *said, "{operation:?} at {text}");
+    }
+    Ok(())
+}
+
+#[test]
+fn says_what_a_push_does(rt: HostRuntime) -> Result<(), Fail> {
     let rows = [
         (
-            push,
             ":",
             "Push(AllMatchingBranches { allow_non_fast_forward: false })",
         ),
         (
-            push,
             "+:",
             "Push(AllMatchingBranches { allow_non_fast_forward: true })",
         ),
-        (push, ":x", "Push(Delete { ref_or_pattern: \"x\" })"),
+        (":x", "Push(Delete { ref_or_pattern: \"x\" })"),
+        (":+x", "Push(Delete { ref_or_pattern: \"+x\" })"),
         // A forced deletion is one like any other.
-        (push, "+:x", "Push(Delete { ref_or_pattern: \"x\" })"),
+        ("+:x", "Push(Delete { ref_or_pattern: \"x\" })"),
         (
-            push,
             "main",
             "Push(Matching { src: \"main\", dst: \"main\", allow_non_fast_forward: false })",
         ),
         (
-            push,
             "+a:b",
             "Push(Matching { src: \"a\", dst: \"b\", allow_non_fast_forward: true })",
         ),
         (
-            push,
             ":/message:refs/heads/x",
             "Push(Matching { src: \":/message\", dst: \"refs/heads/x\", allow_non_fast_forward: false })",
         ),
         (
-            push,
             "::x",
             "Push(Matching { src: \":\", dst: \"x\", allow_non_fast_forward: false })",
         ),
-        (push, "^main", "Push(Exclude { src: \"main\" })"),
-        (fetch, "main", "Fetch(Only { src: \"main\" })"),
+        ("^main", "Push(Exclude { src: \"main\" })"),
+    ];
+    check_said(&rt, rt.alloc(), Operation::Push, &rows)
+}
+
+#[test]
+fn says_what_a_fetch_does(rt: HostRuntime) -> Result<(), Fail> {
+    let rows = [
+        ("", "Fetch(Only { src: \"HEAD\" })"),
+        ("main", "Fetch(Only { src: \"main\" })"),
         // Where no local ref is updated there is nothing to force.
-        (fetch, "+main", "Fetch(Only { src: \"main\" })"),
-        (fetch, "^main", "Fetch(Exclude { src: \"main\" })"),
+        ("+main", "Fetch(Only { src: \"main\" })"),
+        ("++foo", "Fetch(Only { src: \"+foo\" })"),
+        ("++", "Fetch(Only { src: \"+\" })"),
+        ("^main", "Fetch(Exclude { src: \"main\" })"),
         (
-            fetch,
             "a:b",
             "Fetch(AndUpdate { src: \"a\", dst: \"b\", allow_non_fast_forward: false })",
         ),
         (
-            fetch,
             "+a:b",
             "Fetch(AndUpdate { src: \"a\", dst: \"b\", allow_non_fast_forward: true })",
         ),
     ];
-    let alloc = rt.alloc();
-    for (operation, text, said) in rows {
-        let found = instruction_of(alloc, BStr::new(text.as_bytes()), operation)?;
-        let found = format!(in alloc; "{found:?}")?;
-        assert_eq!(rt; found.as_str(), said, "{operation:?} at {text}");
-    }
-    Ok(())
+    check_said(&rt, rt.alloc(), Operation::Fetch, &rows)
 }
 
 #[test]

@@ -1,7 +1,8 @@
 //! What a client asks a server to advertise.
 
-use crate::parse;
+use crate::instruction::Fetch;
 use crate::parsing::Operation;
+use crate::{Instruction, parse};
 use bstr::{BStr, BString};
 use std::alloc::{AllocError, Global};
 use std::process::Abort;
@@ -100,5 +101,65 @@ fn asks_for_a_push(rt: HostRuntime) -> Result<(), Fail> {
         (ID_PUSHED, None, ""),
     ];
     check_rows(&rt, rt.alloc(), Operation::Push, &rows)?;
+    Ok(())
+}
+
+// The names to ask for, or `None` where all refs have to be asked for.
+fn names_to_ask(alloc: Global, texts: &[&str]) -> Result<Option<Vec<BString>>, Fail> {
+    let mut names = Vec::new(alloc);
+    for text in texts {
+        let spec = parse(alloc, BStr::new(text.as_bytes()), Operation::Fetch)?;
+        if matches!(
+            spec.instruction(),
+            Instruction::Fetch(Fetch::Exclude { .. })
+        ) {
+            continue;
+        }
+        let mut entries = Vec::new(alloc);
+        spec.expand_prefixes(alloc, &mut entries)?;
+        if entries.is_empty()
+            || entries
+                .iter()
+                .any(|name: &BString| name.as_bytes().contains(&b'*'))
+        {
+            return Ok(None);
+        }
+        names.append(&mut entries)?;
+    }
+    Ok(Some(names))
+}
+
+#[test]
+fn gathers_what_a_group_asks_for(rt: HostRuntime) -> Result<(), Fail> {
+    let rows = [
+        (
+            ["+refs/heads/*:refs/remotes/origin/*", "^refs/heads/wip/*"].as_slice(),
+            Some("refs/heads/\n"),
+        ),
+        (
+            ["refs/tags/v1:refs/tags/v1", "HEAD"].as_slice(),
+            Some("refs/tags/v1\nHEAD\n"),
+        ),
+        (
+            ["main"].as_slice(),
+            Some(
+                "main\nrefs/main\nrefs/tags/main\nrefs/heads/main\nrefs/remotes/main\nrefs/remotes/main/HEAD\n",
+            ),
+        ),
+        (["main", "*:refs/x/*"].as_slice(), None),
+        (["refs/a]/*:refs/x/*"].as_slice(), None),
+    ];
+    let alloc = rt.alloc();
+    for (texts, wanted) in rows {
+        let found = match names_to_ask(alloc, texts)? {
+            None => None,
+            Some(names) => Some(lines(alloc, names.as_slice())?),
+        };
+        let found = match &found {
+            None => None,
+            Some(names) => Some(names.as_str()),
+        };
+        assert_eq!(rt; found, wanted, "at {texts:?}");
+    }
     Ok(())
 }
