@@ -164,7 +164,7 @@ fn answers_both_operations_alike(rt: HostRuntime) -> Result<(), Fail> {
     Ok(())
 }
 
-// The examples of git-fetch(1), git-push(1) and git-check-ref-format(1).
+// Examples of git-fetch(1) and git-push(1), and what git-check-ref-format(1) says of names and patterns.
 #[test]
 fn reads_the_examples_of_the_manuals(rt: HostRuntime) -> Result<(), Fail> {
     let fetches = [
@@ -174,8 +174,11 @@ fn reads_the_examples_of_the_manuals(rt: HostRuntime) -> Result<(), Fail> {
             "+refs/heads/*:refs/remotes/origin/*",
             "+refs/heads/*:refs/remotes/origin/*",
         ),
-        ("refs/heads/*:refs/foo/*", "refs/heads/*:refs/foo/*"),
-        ("master", "master"),
+        ("foo/bar*/baz:foo/bar*/baz", "foo/bar*/baz:foo/bar*/baz"),
+        (
+            "foo/bar*/baz*:foo/bar*/baz*",
+            "PatternUnsupported { pattern: \"foo/bar*/baz*\" }",
+        ),
         ("foo..bar", "ReferenceName(RepeatedDot)"),
         ("foo.lock/bar", "ReferenceName(LockSuffix)"),
     ];
