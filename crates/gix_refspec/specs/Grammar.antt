@@ -1,7 +1,7 @@
 -- The grammar of refspecs, by git-fetch(1) and git-push(1) under `<refspec>`: the thirteen forms of
--- a text, and what each is read as. The empty source of a fetch, a lone `+` in a push, negative specs in
--- a push and a push of two patterns are what Git does without its manual saying so, or this project's
--- own rule.
+-- a text, and what each is read as. A push of two patterns is by git-push(1) under `--prune`. The empty
+-- source of a fetch, a lone `+` in a push and negative specs in a push are what Git does without its
+-- manual saying so, or this project's own rule.
 use Rattle.std.specs.Prelude.{◌≡◌, ◌≢◌, ◌⊎◌, ◌≤◌, ℕ, ◌==◌, if◌then◌else◌, List, [], ◌∷◌, ◌++◌, Option, None, Some, length, codes}
 use Rattle.std.specs.List.{AllPass}
 use Rattle.std.specs.Char.{is_ascii_hexdigit}

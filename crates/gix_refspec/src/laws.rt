@@ -58,19 +58,19 @@ pub fn equal_name_faults(a: name::Error, b: name::Error)
     ensures { IsTrue (⟦<name::Error as PartialEq>⟧.eq a b) ↔ (a ≡ b) }
 {}
 
-/// Push stands before fetch.
+/// Two operations are equal exactly where they are the same, and push stands before fetch.
 pub fn push_before_fetch(a: Operation, b: Operation)
     ensures order { ⟦<Operation as Ord>⟧.cmp a b ≡ nat_cmp (place_of a) (place_of b) }
     ensures same { IsTrue (⟦<Operation as PartialEq>⟧.eq a b) ↔ (a ≡ b) }
 {}
 
-/// Pushes are compared as what they say.
+/// Two pushes are equal, and ordered, as what they say is.
 pub fn compared_pushes<'a>(a: Push<'a>, b: Push<'a>)
     ensures order { ⟦<Push<'a> as Ord>⟧.cmp a.entry b.entry ≡ order (shown_push a.entry) (shown_push b.entry) }
     ensures same { ⟦<Push<'a> as PartialEq>⟧.eq a.entry b.entry ≡ is_same (shown_push a.entry) (shown_push b.entry) }
 {}
 
-/// Fetches are compared as what they say.
+/// Two fetches are equal, and ordered, as what they say is.
 pub fn compared_fetches<'a>(a: Fetch<'a>, b: Fetch<'a>)
     ensures order { ⟦<Fetch<'a> as Ord>⟧.cmp a.entry b.entry ≡ order (shown_fetch a.entry) (shown_fetch b.entry) }
     ensures same { ⟦<Fetch<'a> as PartialEq>⟧.eq a.entry b.entry ≡ is_same (shown_fetch a.entry) (shown_fetch b.entry) }

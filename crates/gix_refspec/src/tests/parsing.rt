@@ -195,6 +195,7 @@ fn reads_the_examples_of_the_manuals(rt: HostRuntime) -> Result<(), Fail> {
         (":experimental", ":experimental"),
         ("+dev:master", "+dev:master"),
         ("master:satellite/master", "master:satellite/master"),
+        ("refs/heads/*:refs/tmp/*", "refs/heads/*:refs/tmp/*"),
     ];
     check_rows(&rt, rt.alloc(), Operation::Push, &pushes)?;
     Ok(())
