@@ -15,6 +15,7 @@ pub mod ReadOnceLemmas
 pub mod HeadLemmas
 pub mod ReadBackLemmas
 pub mod FormsBackLemmas
-pub mod PrefixLemmas
+pub mod AcceptedLemmas
 pub mod MatchLemmas
+pub mod PrefixLemmas
 pub mod ManualFacts

@@ -61,8 +61,8 @@ faults = (
 -- one star may stand in a component of a pattern, but not two
 pub one_star : ReplacesStar (codes "foo/bar*/baz") (codes "foo/bara/baz") × ReplacesStar (codes "foo/bar*baz") (codes "foo/barabaz")
 one_star = (
-  record { before = codes "foo/bar"; after = codes "/baz"; starred = refl; replaced = refl; first = Lacks-tested star (codes "foo/bar") refl; last = Lacks-tested star (codes "/baz") refl },
-  record { before = codes "foo/bar"; after = codes "baz"; starred = refl; replaced = refl; first = Lacks-tested star (codes "foo/bar") refl; last = Lacks-tested star (codes "baz") refl },
+  record { before = codes "foo/bar"; after = codes "/baz"; cut = record { starred = refl; first = Lacks-tested star (codes "foo/bar") refl; last = Lacks-tested star (codes "/baz") refl }; replaced = refl },
+  record { before = codes "foo/bar"; after = codes "baz"; cut = record { starred = refl; first = Lacks-tested star (codes "foo/bar") refl; last = Lacks-tested star (codes "baz") refl }; replaced = refl },
 )
 
 pub two_stars : HasSeveralStars (codes "foo/bar*/baz*")
@@ -72,7 +72,7 @@ two_stars = record { before = codes "foo/bar"; between = codes "/baz"; after = [
 ends_with_star : (before : List ℕ) → list_any (λ c. c == star) before ≡ false → IsName (before ++ codes "a") → IsPattern (before ++ codes "*")
 ends_with_star before none name = record {
   with_letter = before ++ codes "a";
-  replaces = record { before = before; after = []; starred = refl; replaced = refl; first = Lacks-tested star before none; last = tt };
+  replaces = record { before = before; after = []; cut = record { starred = refl; first = Lacks-tested star before none; last = tt }; replaced = refl };
   name = name;
 }
 

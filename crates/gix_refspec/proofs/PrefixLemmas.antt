@@ -1,51 +1,64 @@
 -- Prefixes of sides, and what sides are expanded to.
-use Rattle.std.proofs.Common.{◌≡◌, ◌≢◌, ◌⊎◌, inl, inr, ◌+◌, ℕ, true, if◌then◌else◌, List, [], ◌∷◌, ◌++◌, codes, map, length, take, get_or, is_ok, Result, Ok, Err, OnOk, OnErr, MatchResult, refl, sym, ap, ◌∙◌, subst, length-append, arith}
+use Rattle.std.proofs.Common.{◌≡◌, ◌≢◌, inl, inr, ◌≤◌, ◌<◌, ℕ, Bool, true, false, not, ◌↔◌, IsTrue, MatchBool, MatchOption, Bor, if◌then◌else◌, List, [], ◌∷◌, ◌++◌, codes, map, length, get_or, is_ok, Result, Ok, Err, OnOk, OnErr, MatchResult, refl, sym, ap, ◌∙◌, subst, length-append, arith}
 use Rattle.std.specs.Prelude.{⊤}
-use Rattle.std.proofs.Math.Seq.{take-append_seam}
+use Rattle.std.specs.Bool.{then_some}
+use Rattle.std.proofs.Math.Seq.{get_or-append_seam}
 use Rattle.std.proofs.lemmas.List.{append_cancel_left, length-map, map-append}
 use Rattle.std.proofs.lemmas.Bool.{false≢true}
 use Rattle.gix_refspec.specs.declared.oid.Error.{Error}
 use Rattle.gix_refspec.specs.declared.oid.ObjectId.{ObjectId}
-use Rattle.gix_refspec.specs.ObjectId.{IsIdText, HasFault, id_bytes}
+use Rattle.gix_refspec.specs.ObjectId.{IsIdText, HasFault, digits_of, id_bytes}
 use Rattle.gix_refspec.specs.Text.{Lacks, Holds, Begins}
-use Rattle.gix_refspec.specs.Name.{star, slash}
+use Rattle.gix_refspec.specs.Name.{IsCut, HasOneStar, star, slash}
+use Rattle.gix_refspec.specs.declared.oid.Kind.{Kind}
+use Rattle.gix_refspec.specs.declared.oid.Kind.TheVariants.{Sha1, Sha256}
 use Rattle.gix_refspec.specs.Reading.{Reading}
 use Rattle.gix_refspec.specs.Grammar.{head}
-use Rattle.gix_refspec.specs.Match.{IsId}
-use Rattle.gix_refspec.specs.Prefix.{bracket, IsPrefix, of_head, of_name, of_pattern, HasNoPrefix, Expands, to_prefix, to_itself, below_refs, of_object, to_candidates, IsAsked, IsExpansion}
-use Rattle.gix_refspec.proofs.TextLemmas.{Lacks-here, Lacks-Holds, first_once}
-use Rattle.gix_refspec.proofs.ObjectIdLemmas.{IsIdText-sound}
+use Rattle.gix_refspec.specs.Side.{HasKind, object, partial, IsId}
+use Rattle.gix_refspec.specs.Prefix.{bracket, TellsPrefix, IsPrefix, of_head, of_name, of_pattern, HasNoPrefix, Expands, to_prefix, to_itself, below_refs, of_object, to_candidates, IsAsked, IsExpansion}
+use Rattle.gix_refspec.proofs.TextLemmas.{Lacks-Holds}
+use Rattle.gix_refspec.proofs.SideLemmas.{Lacks-name}
+use Rattle.gix_refspec.proofs.HeadLemmas.{IsName-head}
+use Rattle.gix_refspec.proofs.MatchLemmas.{lacks_no_pattern, cut_once, outside_none}
+use Rattle.gix_refspec.proofs.ObjectIdLemmas.{IsIdText-sound, AllPass-IsIdText}
+use Rattle.hex.specs.Hex.{is_hex_digit}
 
--- `r` isn't `H`
-apart : (a b : ℕ) → a ≡ 114 → b ≡ 72 → a ≡ b → ⊥
-apart a b is_r is_h same = omega arith
+-- four digits are too few for an id
+short : (kind : Kind) → 4 ≡ digits_of kind → ⊥
+short Sha1 same = omega (arith, same)
+short Sha256 same = omega (arith, same)
 
--- `HEAD` doesn't begin `refs/`
-pub refs_not_head : (rest : List ℕ) → codes "refs/" ++ rest ≡ head → ⊥
-refs_not_head rest same = apart 114 72 refl refl (ap (λ (y : List ℕ). get_or y 0 0) same)
+-- the id of an object isn't `HEAD`, which is too short
+pub id_not_head : (x id : List ℕ) → IsIdText x id → x ≢ head
+id_not_head x id text is = short text.kind (sym (ap length is) ∙ text.digits)
 
--- a side below `refs/` with a star that has no prefix to ask for
-pub no_prefix : (x rest before after : List ℕ) → x ≡ codes "refs/" ++ rest → rest ≡ before ++ (star ∷ after) → Lacks star before → (before ≡ []) ⊎ Holds (bracket ∷ []) rest → HasNoPrefix x
-no_prefix x rest before after below starred lacks vague p (of_head is_head _) = refs_not_head rest (sym below ∙ is_head)
-no_prefix x rest before after below starred lacks vague p (of_name begins none _) =
-    let whole : Lacks star (codes "refs/" ++ rest) = subst (Lacks star) below none in
-    Lacks-here star before after (subst (Lacks star) starred whole.1.1.1.1.1)
-no_prefix x rest before after below starred lacks vague p (of_pattern before2 after2 is lacks2 full unbracketed _) =
-    let same : rest ≡ before2 ++ (star ∷ after2) = append_cancel_left (codes "refs/") rest (before2 ++ (star ∷ after2)) (sym below ∙ is) in
-    let once = first_once star before before2 after after2 lacks lacks2 (sym starred ∙ same) in
-    elim vague [
-      | inl empty ↦ full (sym once.0 ∙ empty)
-      | inr holds ↦ Lacks-Holds bracket rest (subst (Lacks bracket) (sym same) unbracketed) holds
-    ]
+-- a pattern with these two ends has no prefix where they tell none
+pub no_prefix : (x before after : List ℕ) → IsCut before after x → ¬ (TellsPrefix before after) → HasNoPrefix x
+no_prefix x before after cut vague p (of_head is _) = lacks_no_pattern x before after (subst (Lacks star) (sym is) (Lacks-name head IsName-head)) cut
+no_prefix x before after cut vague p (of_name begins lacks _) = lacks_no_pattern x before after lacks cut
+no_prefix x before after cut vague p (of_pattern first last other tells _) =
+    let once = cut_once x first last before after other cut in
+    let same_first : first ≡ before = once.0 in
+    let same_last : last ≡ after = once.1 in
+    vague (subst (λ (a : List ℕ). TellsPrefix before a) same_last (subst (λ (b : List ℕ). TellsPrefix b last) same_first tells))
 
--- a side below `refs/` with a star and a prefix
-pub pattern_prefix : (x rest before after : List ℕ) → x ≡ codes "refs/" ++ rest → rest ≡ before ++ (star ∷ after) → Lacks star before → (before ≢ []) × Lacks bracket rest → IsPrefix x (take (5 + length before) x)
-pattern_prefix x rest before after below starred lacks clear =
-    let is : x ≡ codes "refs/" ++ (before ++ (star ∷ after)) = below ∙ ap (λ (y : List ℕ). codes "refs/" ++ y) starred in
-    let fixed = codes "refs/" ++ before in
-    let size : 5 + length before ≡ length fixed = omega (arith, length-append (codes "refs/") before) in
-    let cut : take (5 + length before) x ≡ fixed = ap (λ (n : ℕ). take n x) size ∙ (ap (λ (y : List ℕ). take (length fixed) y) is ∙ take-append_seam fixed (star ∷ after)) in
-    of_pattern before after is lacks clear.0 (subst (Lacks bracket) starred clear.1) cut
+-- what stands before a star tells a prefix where it goes on below `refs/` and no bracket is there
+pub tells : (before after rest : List ℕ) → before ≡ codes "refs/" ++ rest → 1 ≤ length rest → Lacks bracket before → Lacks bracket after → TellsPrefix before after
+tells before after rest below full first last = record {
+  below = record { after = rest; here = below };
+  further = λ same. let none : rest ≡ [] = append_cancel_left (codes "refs/") rest [] (sym below ∙ same) in let size = ap length none in omega (arith, size, full);
+  first = first;
+  last = last;
+}
+
+-- what a look for brackets tells of a pattern below `refs/`
+pub told_clear : (before after rest : List ℕ) → before ≡ codes "refs/" ++ rest → 1 ≤ length rest → Lacks bracket before → (r : Bool) → MatchBool r (Holds (bracket ∷ []) after) (Lacks bracket after) → IsTrue (not r) ↔ TellsPrefix before after
+told_clear before after rest below full first true holds = ((λ so. absurd (false≢true so)), (λ told. absurd (Lacks-Holds bracket after told.last holds)))
+told_clear before after rest below full first false lacks = ((λ _. tells before after rest below full first lacks), (λ _. refl))
+
+pub told_bracket : (before after : List ℕ) (r : Bool) → MatchBool r (Holds (bracket ∷ []) before) (Lacks bracket before) → Holds (bracket ∷ []) before → IsTrue (not r) ↔ TellsPrefix before after
+told_bracket before after true told holds = ((λ so. absurd (false≢true so)), (λ tells. absurd (Lacks-Holds bracket before tells.first holds)))
+told_bracket before after false lacks holds = absurd (Lacks-Holds bracket before lacks holds)
 
 -- a side with a prefix expands to something
 pub prefix_expands : (x p : List ℕ) → IsPrefix x p → ¬ (Expands x [])
@@ -65,13 +78,13 @@ itself_expands x rest below lacks (below_refs rest2 none below2 holds empty) =
 itself_expands x rest below lacks (of_object none outside id empty) = outside (record { after = rest; here = below })
 itself_expands x rest below lacks (to_candidates none outside unlike six) = absurd (cc)
 
--- and a name that is given short
-pub short_expands : (x : List ℕ) → ¬ (Begins (codes "refs/") x) → ¬ (IsId x) → ¬ (Expands x [])
-short_expands x outside unlike (to_prefix q has one) = absurd (cc)
-short_expands x outside unlike (to_itself rest none below lacks one) = absurd (cc)
-short_expands x outside unlike (below_refs rest none below holds empty) = outside (record { after = rest; here = below })
-short_expands x outside unlike (of_object none outside2 id empty) = unlike id
-short_expands x outside unlike (to_candidates none outside2 unlike2 six) = absurd (cc)
+-- and a partial name
+pub partial_expands : (x : List ℕ) → ¬ (Begins (codes "refs/") x) → ¬ (IsId x) → ¬ (Expands x [])
+partial_expands x outside unlike (to_prefix q has one) = absurd (cc)
+partial_expands x outside unlike (to_itself rest none below lacks one) = absurd (cc)
+partial_expands x outside unlike (below_refs rest none below holds empty) = outside (record { after = rest; here = below })
+partial_expands x outside unlike (of_object none outside2 id empty) = unlike id
+partial_expands x outside unlike (to_candidates none outside2 unlike2 six) = absurd (cc)
 
 -- a side that expands to nothing expands to no other list
 pub nothing_else : (x : List ℕ) (list : List (List ℕ)) → Expands x list → Expands x [] → list ≡ []
@@ -79,7 +92,7 @@ nothing_else x list (to_prefix p is one) nothing = absurd (prefix_expands x p is
 nothing_else x list (to_itself rest none below lacks one) nothing = absurd (itself_expands x rest below lacks nothing)
 nothing_else x list (below_refs rest none below holds empty) nothing = empty
 nothing_else x list (of_object none outside id empty) nothing = empty
-nothing_else x list (to_candidates none outside unlike six) nothing = absurd (short_expands x outside unlike nothing)
+nothing_else x list (to_candidates none outside unlike six) nothing = absurd (partial_expands x outside unlike nothing)
 
 -- what reading an id tells
 pub id_tested : (t : List ℕ) (r : Result ObjectId Error) → MatchResult r (λ id. IsIdText t (id_bytes id)) (λ e. HasFault t e) → (is_ok r ≡ true → IsId t) × (IsId t → is_ok r ≡ true)
@@ -108,3 +121,24 @@ no_entries f r x entries asked expands nothing = sym (length-map entries f) ∙ 
 pub appended_ok : {X : Type 0} {E : Type 0} (f : X → List ℕ) (r : Result ⊤ E) (old more new : List X) → new ≡ (if is_ok r then old ++ more else old) → OnOk r (map f new ≡ map f old ++ map f more)
 appended_ok f (Ok u) old more new is = ap (map f) is ∙ map-append f old more
 appended_ok f (Err e) old more new is = tt
+
+-- a text with one star is no id
+pub starred_no_id : (x : List ℕ) → HasOneStar x → ¬ (IsId x)
+starred_no_id x (before, after, cut) id =
+    let all = AllPass-IsIdText x id.0 id.1 in
+    let size = ap length cut.starred ∙ length-append before (star ∷ after) in
+    let inside : length before < length x = omega (arith, size) in
+    let here : get_or x (length before) 0 ≡ star = ap (λ (y : List ℕ). get_or y (length before) 0) cut.starred ∙ get_or-append_seam before star after 0 in
+    false≢true (ap is_hex_digit (sym here) ∙ all (length before) 0 inside)
+
+-- a side of a kind that tells no prefix has none: one outside `refs/` that isn't `HEAD`
+pub object_no_prefix : (x id : List ℕ) → HasKind x (object id) → HasNoPrefix x
+object_no_prefix x id kind = outside_none x (id_not_head x id kind.2) kind.1
+
+pub partial_no_prefix : (x n : List ℕ) → HasKind x (partial n) → n ≢ head → HasNoPrefix x
+partial_no_prefix x n kind other = outside_none x (λ same. other (kind.0 ∙ same)) kind.2
+
+-- the prefix of a pattern is what stands before its star, where that tells one
+pub pattern_prefix : (x : List ℕ) (before after : Bor (List ℕ)) (r : Bool) → IsCut before.now after.now x → IsTrue r ↔ TellsPrefix before.now after.now → MatchOption (then_some r before) (HasNoPrefix x) (λ p. IsPrefix x p.now)
+pattern_prefix x before after true cut told = of_pattern before.now after.now cut (told.0 refl) refl
+pattern_prefix x before after false cut told = no_prefix x before.now after.now cut (λ tells. false≢true (told.1 tells))

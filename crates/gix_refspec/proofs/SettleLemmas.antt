@@ -26,7 +26,7 @@ Starred x = ((k : Side) × IsSide x k) ⊎ ((e : Refusal) × IsBadPattern x e)
 one_star : (x : List ℕ) (place : FirstPlace star x) → Lacks star place.after → Starred x
 one_star x place lacks =
     let y = place.before ++ (letter ∷ place.after) in
-    let replaces : ReplacesStar x y = record { before = place.before; after = place.after; starred = place.here; replaced = refl; first = place.first; last = lacks } in
+    let replaces : ReplacesStar x y = record { before = place.before; after = place.after; cut = record { starred = place.here; first = place.first; last = lacks }; replaced = refl } in
     elim (name_or_fault y) [
       | inl name ↦ inl (Pattern, record { with_letter = y; replaces = replaces; name = name })
       | inr fault ↦ inr (ReferenceName fault.0, (y, replaces, fault.1))

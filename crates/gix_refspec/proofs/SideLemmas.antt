@@ -22,7 +22,7 @@ Lacks-name x name = Lacks-from_absent star x (name Asterisk)
 
 -- a text whose star is replaced has one
 pub HasStar-replaced : (x y : List ℕ) → ReplacesStar x y → HasStar x
-HasStar-replaced x y replaces = record { before = replaces.before; after = replaces.after; here = replaces.starred }
+HasStar-replaced x y replaces = record { before = replaces.before; after = replaces.after; here = replaces.cut.starred }
 
 pub HasStar-pattern : (x : List ℕ) → IsPattern x → HasStar x
 HasStar-pattern x pattern = HasStar-replaced x pattern.with_letter pattern.replaces
@@ -33,7 +33,7 @@ HasStar-stars x stars = record { before = stars.before; after = stars.between ++
 -- one star is replaced in one way
 pub replaced_once : (x y z : List ℕ) → ReplacesStar x y → ReplacesStar x z → y ≡ z
 replaced_once x y z a b =
-    let same = first_once star a.before b.before a.after b.after a.first b.first (sym a.starred ∙ b.starred) in
+    let same = first_once star a.before b.before a.after b.after a.cut.first b.cut.first (sym a.cut.starred ∙ b.cut.starred) in
     let fronts : a.before ≡ b.before = same.0 in
     let backs : a.after ≡ b.after = same.1 in
     let of_y = a.replaced in
@@ -42,7 +42,7 @@ replaced_once x y z a b =
 
 -- a text with one star doesn't have several
 pub HasSeveralStars-replaced : (x y : List ℕ) → ReplacesStar x y → HasSeveralStars x → ⊥
-HasSeveralStars-replaced x y replaces stars = one_not_two star replaces.before replaces.after stars.before stars.between stars.after replaces.first replaces.last (sym replaces.starred ∙ stars.here)
+HasSeveralStars-replaced x y replaces stars = one_not_two star replaces.before replaces.after stars.before stars.between stars.after replaces.cut.first replaces.cut.last (sym replaces.cut.starred ∙ stars.here)
 
 -- what is against a pattern shows a star
 pub HasStar-bad : (x : List ℕ) (e : Refusal) → IsBadPattern x e → HasStar x

@@ -1,10 +1,10 @@
 -- How many stars a text has.
-use Rattle.std.proofs.Common.{◌≡◌, ◌≢◌, ℕ, ◌+◌, ◌==◌, cond, List, [], ◌∷◌, refl, sym, ap, ◌∙◌, inl, inr, zero-add, arith}
+use Rattle.std.proofs.Common.{◌≡◌, ◌≢◌, ℕ, ◌+◌, ◌==◌, cond, List, [], ◌∷◌, sym, ap, ◌∙◌, inl, inr, zero-add, arith}
 use Rattle.std.specs.List.{count_by}
 use Rattle.std.proofs.lemmas.Bool.{cases_eq, eq-eqb, ne_eqb}
 use Rattle.std.proofs.lemmas.List.Sums.{sum_by-append}
 use Rattle.gix_refspec.specs.Text.{Lacks}
-use Rattle.gix_refspec.specs.Name.{star, letter, HasOneStar}
+use Rattle.gix_refspec.specs.Name.{star, HasOneStar}
 
 stars : List ℕ → ℕ
 stars x = count_by (λ b. b == star) x
@@ -32,21 +32,11 @@ star_in_front : (b : ℕ) (x : List ℕ) → b ≡ star → stars (b ∷ x) ≡ 
 star_in_front b x same one =
     let more = stars-star b x same in
     let none : stars x ≡ 0 = omega (arith, more, one) in
-    (letter ∷ x, record { before = []; after = x; starred = ap (λ c. c ∷ x) same; replaced = refl; first = tt; last = Lacks-no_stars x none })
+    ([], x, record { starred = ap (λ c. c ∷ x) same; first = tt; last = Lacks-no_stars x none })
 
 -- another byte in front of a text with one star
 one_behind : (b : ℕ) (x : List ℕ) → b ≢ star → HasOneStar x → HasOneStar (b ∷ x)
-one_behind b x other one = (
-  b ∷ one.0,
-  record {
-    before = b ∷ one.1.before;
-    after = one.1.after;
-    starred = ap (λ y. b ∷ y) one.1.starred;
-    replaced = ap (λ y. b ∷ y) one.1.replaced;
-    first = (other, one.1.first);
-    last = one.1.last;
-  },
-)
+one_behind b x other one = (b ∷ one.0, one.1, record { starred = ap (λ y. b ∷ y) one.2.starred; first = (other, one.2.first); last = one.2.last })
 
 one_star : (x : List ℕ) → stars x ≡ 1 → HasOneStar x
 unfolding stars

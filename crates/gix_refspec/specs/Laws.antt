@@ -7,7 +7,8 @@ use Rattle.gix_refspec.specs.Name.{star}
 use Rattle.gix_refspec.specs.Grammar.{head, Reads}
 use Rattle.gix_refspec.specs.Refusal.{IsRefused}
 use Rattle.gix_refspec.specs.Meaning.{meaning_of, printed}
-use Rattle.gix_refspec.specs.Match.{Ref, IsId, candidates, IsOneOf, Covers, Matches}
+use Rattle.gix_refspec.specs.Side.{IsId, candidates, IsCandidate, Fits}
+use Rattle.gix_refspec.specs.Match.{Ref, Matches}
 use Rattle.gix_refspec.specs.Prefix.{IsPrefix, Expands}
 
 -- for the operation, the text has a reading, and no other
@@ -38,7 +39,7 @@ EqualTexts op a b = (r q : Reading) → Reads op a r → Reads op b q → (meani
 
 -- a name has one word at the most between two texts
 abbrev pub OneWord : List ℕ → List ℕ → List ℕ → Type 0
-OneWord before after n = (v w : List ℕ) → Covers before after n v → Covers before after n w → v ≡ w
+OneWord before after n = (v w : List ℕ) → Fits before after n v → Fits before after n w → v ≡ w
 
 -- each ref that the side matches begins with the prefix of the side, but for `HEAD`
 abbrev pub PrefixBegins : List ℕ → Type 0
@@ -49,7 +50,7 @@ PrefixBegins x = (p : List ℕ) (r : Ref) (word : Option (List ℕ)) → IsPrefi
 pub record HasCandidates (x : List ℕ) : Type 0 where
   pub expands : Expands x (candidates x)
   pub only : (list : List (List ℕ)) → Expands x list → list ≡ candidates x
-  pub matches : (r : Ref) → ((word : Option (List ℕ)) × Matches x r word) ↔ IsOneOf (candidates x) r.name
+  pub matches : (r : Ref) → ((word : Option (List ℕ)) × Matches x r word) ↔ IsCandidate x r.name
 
 -- so is a side without a star that isn't `HEAD`, begins no `refs/` and is no id
 abbrev pub Candidates : List ℕ → Type 0

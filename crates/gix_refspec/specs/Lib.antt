@@ -9,10 +9,12 @@ pub mod Meaning
 pub mod Views
 pub mod Order
 pub mod OrderLaws
+pub mod Side
 pub mod Match
 pub mod Prefix
 pub mod Spec
 pub mod Laws
 pub mod Pieces
+pub mod SideViews
 pub mod Sides
 pub mod ObjectId

@@ -58,14 +58,22 @@ pub record HasSeveralStars (x : List ℕ) : Type 0 where
   pub after : List ℕ
   pub here : x ≡ before ++ (star ∷ (between ++ (star ∷ after)))
 
+-- x has one star, between these two texts
+pub record IsCut (before after x : List ℕ) : Type 0 where
+  pub starred : x ≡ before ++ (star ∷ after)
+  pub first : Lacks star before
+  pub last : Lacks star after
+
+-- x has exactly one star
+abbrev pub HasOneStar : List ℕ → Type 0
+HasOneStar x = (before : List ℕ) × (after : List ℕ) × IsCut before after x
+
 -- x has one star, and y is x with the letter in its place
 pub record ReplacesStar (x y : List ℕ) : Type 0 where
   pub before : List ℕ
   pub after : List ℕ
-  pub starred : x ≡ before ++ (star ∷ after)
+  pub cut : IsCut before after x
   pub replaced : y ≡ before ++ (letter ∷ after)
-  pub first : Lacks star before
-  pub last : Lacks star after
 
 -- x is a pattern: it has one star, and with the letter in its place it is a name. So no pattern ends
 -- with a slash
@@ -73,7 +81,3 @@ pub record IsPattern (x : List ℕ) : Type 0 where
   pub with_letter : List ℕ
   pub replaces : ReplacesStar x with_letter
   pub name : IsName with_letter
-
--- x has exactly one star
-abbrev pub HasOneStar : List ℕ → Type 0
-HasOneStar x = (y : List ℕ) × ReplacesStar x y

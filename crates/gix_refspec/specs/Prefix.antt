@@ -3,14 +3,21 @@
 -- side has a star outside `refs/`, a star directly behind `refs/`, or a star and a `]`.
 use Rattle.std.specs.Prelude.{◌≡◌, ◌≢◌, ◌⊎◌, ℕ, List, [], ◌∷◌, ◌++◌, Some, codes}
 use Rattle.gix_refspec.specs.Text.{Lacks, Holds, Begins}
-use Rattle.gix_refspec.specs.Name.{star, slash}
+use Rattle.gix_refspec.specs.Name.{IsCut, star, slash}
 use Rattle.gix_refspec.specs.Grammar.{head, IsPositive}
-use Rattle.gix_refspec.specs.Match.{IsId, candidates}
+use Rattle.gix_refspec.specs.Side.{IsId, candidates}
 use Rattle.gix_refspec.specs.Reading.{Reading, remote_of}
 
 -- `]`
 abbrev pub bracket : ℕ
 bracket = 93
+
+-- a pattern with these two ends tells a prefix: the first goes on below `refs/`, and no `]` stands in them
+pub record TellsPrefix (before after : List ℕ) : Type 0 where
+  pub below : Begins (codes "refs/") before
+  pub further : before ≢ codes "refs/"
+  pub first : Lacks bracket before
+  pub last : Lacks bracket after
 
 -- p is the prefix of the names that the side x stands for
 pub data IsPrefix (x p : List ℕ) : Type 0 where
@@ -19,7 +26,7 @@ pub data IsPrefix (x p : List ℕ) : Type 0 where
   -- so does what begins `refs/` and has no star
   of_name : Begins (codes "refs/") x → Lacks star x → p ≡ x → IsPrefix x p
   -- a pattern below `refs/` has what stands before its star
-  of_pattern : (before after : List ℕ) → x ≡ codes "refs/" ++ (before ++ (star ∷ after)) → Lacks star before → before ≢ [] → Lacks bracket (before ++ (star ∷ after)) → p ≡ codes "refs/" ++ before → IsPrefix x p
+  of_pattern : (before after : List ℕ) → IsCut before after x → TellsPrefix before after → p ≡ before → IsPrefix x p
 
 -- the side has no prefix
 abbrev pub HasNoPrefix : List ℕ → Type 0

@@ -2,24 +2,16 @@
 use Rattle.std.specs.Prelude.{◌≢◌, ◌⊎◌, ℕ, List, [], ◌∷◌, Option, None, Some, option_map}
 use Rattle.gix_refspec.specs.declared.parsing.function.Side.{Side}
 use Rattle.gix_refspec.specs.declared.parsing.function.Side.TheVariants as side
-use Rattle.gix_refspec.specs.declared.parsing.function.Stars.{Stars}
-use Rattle.gix_refspec.specs.declared.parsing.function.Stars.TheVariants as stars
 use Rattle.gix_refspec.specs.declared.parsing.function.Sides.{Sides}
 use Rattle.gix_refspec.specs.declared.parsing.Operation.{Operation}
 use Rattle.gix_refspec.specs.declared.parsing.Error.{Error}
 use Rattle.bstr.specs.BStr.{bstr_bytes}
 use Rattle.gix_refspec.specs.Text.{Lacks}
-use Rattle.gix_refspec.specs.Name.{IsName, IsPattern, HasOneStar, HasSeveralStars, star}
+use Rattle.gix_refspec.specs.Name.{IsName, IsPattern, star}
 use Rattle.gix_refspec.specs.Reading.{Mode, Reading, Refusal}
 use Rattle.gix_refspec.specs.Grammar.{head, named_by, AreParts, Reads}
 use Rattle.gix_refspec.specs.Refusal.{IsBadName, IsBadPattern, IsFirstReason, ReachesMemory}
 use Rattle.gix_refspec.specs.Views.{MemoryOr}
-
--- how many stars x has
-abbrev pub AreStarsOf : List ℕ → Stars → Type 0
-AreStarsOf x stars.No = Lacks star x
-AreStarsOf x stars.One = HasOneStar x
-AreStarsOf x stars.Several = HasSeveralStars x
 
 -- x has no star, or is a pattern
 abbrev pub IsSide : List ℕ → Side → Type 0

@@ -17,6 +17,7 @@ pub mod name;
 pub mod oid;
 pub mod parsing;
 mod prefix;
+mod side;
 mod spec;
 mod types;
 mod write;

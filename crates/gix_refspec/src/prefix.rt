@@ -1,15 +1,15 @@
 //! What a client asks a server to advertise for a refspec.
 
-ghost use Rattle.std.specs.Prelude.{◌≡◌, ◌≢◌, ◌⊎◌, ◌++◌, ◌↔◌, [], ◌∷◌, ℕ, List, codes, map, MatchOption, MatchBool, IsTrue, IfOk, OnOk, OnErr};
+ghost use Rattle.std.specs.Prelude.{◌≡◌, ◌↔◌, [], ◌∷◌, ℕ, List, map, MatchOption, IsTrue, IfOk, OnOk, OnErr};
 ghost use Rattle.bstr.specs.BStr.{bstr_bytes};
 ghost use Rattle.bstr.specs.Owned.{bstring_bytes};
-ghost use Rattle.gix_refspec.specs.Text.{Begins, Holds, Lacks};
-ghost use Rattle.gix_refspec.specs.Match.{IsId, candidates as candidates_of};
-ghost use Rattle.gix_refspec.specs.Prefix.{bracket, HasNoPrefix, IsPrefix, Expands, HasPrefix, IsExpansion, AppendsExpansion, IsAsked};
+ghost use Rattle.gix_refspec.specs.Name.{HasOneStar, HasSeveralStars};
+ghost use Rattle.gix_refspec.specs.Grammar.{head};
+ghost use Rattle.gix_refspec.specs.Prefix.{TellsPrefix, HasNoPrefix, IsPrefix, Expands, HasPrefix, IsExpansion, AppendsExpansion, IsAsked};
 ghost use Rattle.gix_refspec.specs.Spec.{reading_of};
 
-use crate::cut::{holds, split_at_first};
-use crate::oid::ObjectId;
+use crate::cut::holds;
+use crate::side::{SideKind, below_refs, candidates, kind_of};
 use crate::spec::RefSpecRef;
 use crate::types::Mode;
 use bstr::{BStr, BString};
@@ -56,7 +56,9 @@ impl<'a> RefSpecRef<'a> {
 
     // The side that names refs of the remote, of a positive spec.
     fn asked_side(&self) -> Option<&'a [u8]>
-        ensures { MatchOption result ((x : List ℕ) → ¬ (IsAsked (reading_of self.now) x)) (λ side. IsAsked (reading_of self.now) side.now) }
+        ensures { MatchOption result
+            ((x : List ℕ) → ¬ (IsAsked (reading_of self.now) x))
+            (λ side. IsAsked (reading_of self.now) side.now × ¬ (HasSeveralStars side.now)) }
     {
         if self.mode == Mode::Negative {
             return None;
@@ -68,54 +70,61 @@ impl<'a> RefSpecRef<'a> {
 
 // The prefix of a side.
 fn prefix_of(side: &[u8]) -> Option<&[u8]>
+    requires { ¬ (HasSeveralStars side.now) }
     ensures { MatchOption result (HasNoPrefix side.now) (λ p. IsPrefix side.now p.now) }
 {
-    if side == b"HEAD".as_slice() {
-        return Some(side);
+    match kind_of(side) {
+        SideKind::Pattern { before, after } => tells_prefix(before, after).then_some(before),
+        SideKind::FullName(name) => Some(name),
+        SideKind::Partial(name) => is_head(name).then_some(name),
+        SideKind::Object(_) => None,
     }
-    let rest = below_refs(side)?;
-    let Some((before, _)) = split_at_first(rest, b'*') else {
-        return Some(side);
-    };
-    if is_vague(before, rest) {
-        return None;
+}
+
+// Whether a side is `HEAD`.
+fn is_head(side: &[u8]) -> bool
+    ensures { IsTrue result ↔ (side.now ≡ head) }
+{
+    side == b"HEAD".as_slice()
+}
+
+// Whether what stands before the star of a pattern is a prefix to ask for.
+fn tells_prefix(before: &[u8], after: &[u8]) -> bool
+    ensures { IsTrue result ↔ TellsPrefix before.now after.now }
+{
+    match below_refs(before) {
+        None | Some([]) => false,
+        Some(_) => !holds(before, b']') && !holds(after, b']'),
     }
-    Some(&side[..b"refs/".len() + before.len()])
-}
-
-// Whether what stands before a star below `refs/` is no prefix to ask for.
-fn is_vague(before: &[u8], rest: &[u8]) -> bool
-    ensures { MatchBool result ((before.now ≡ []) ⊎ Holds (bracket ∷ []) rest.now) ((before.now ≢ []) × Lacks bracket rest.now) }
-{
-    before.is_empty() || holds(rest, b']')
-}
-
-// What follows `refs/`.
-fn below_refs(side: &[u8]) -> Option<&[u8]>
-    ensures { MatchOption result (¬ (Begins (codes "refs/") side.now)) (λ rest. side.now ≡ codes "refs/" ++ rest.now) }
-{
-    side.strip_prefix(b"refs/")
-}
-
-// Whether a text is the id of an object.
-fn is_id(text: &[u8]) -> bool
-    ensures { IsTrue result ↔ IsId text.now }
-{
-    ObjectId::from_hex(text).is_ok()
 }
 
 // What a side is expanded to.
 fn expansions_of(alloc: Global, side: &[u8]) -> Result<Vec<BString>, AllocError>
+    requires { ¬ (HasSeveralStars side.now) }
     ensures ok { IfOk result (λ list. Expands side.now (map bstring_bytes list.items)) }
     ensures memory { OnErr result (¬ (Expands side.now [])) }
 {
-    if let Some(prefix) = prefix_of(side) {
-        return one_entry(alloc, prefix);
+    match kind_of(side) {
+        SideKind::Pattern { before, after } if tells_prefix(before, after) => {
+            one_entry(alloc, before)
+        }
+        SideKind::Pattern { .. } => pattern_expansions(alloc, side),
+        SideKind::FullName(name) => one_entry(alloc, name),
+        SideKind::Partial(name) if is_head(name) => one_entry(alloc, name),
+        SideKind::Partial(name) => candidates(alloc, name),
+        SideKind::Object(_) => Ok(Vec::new(alloc)),
     }
+}
+
+// What a pattern without a prefix is expanded to.
+fn pattern_expansions(alloc: Global, side: &[u8]) -> Result<Vec<BString>, AllocError>
+    requires { HasNoPrefix side.now × HasOneStar side.now }
+    ensures ok { IfOk result (λ list. Expands side.now (map bstring_bytes list.items)) }
+    ensures memory { OnErr result (¬ (Expands side.now [])) }
+{
     match below_refs(side) {
         Some(rest) if holds(rest, b'/') => Ok(Vec::new(alloc)),
         Some(_) => one_entry(alloc, side),
-        None if is_id(side) => Ok(Vec::new(alloc)),
         None => candidates(alloc, side),
     }
 }
@@ -127,29 +136,4 @@ fn one_entry(alloc: Global, entry: &[u8]) -> Result<Vec<BString>, AllocError>
     let mut entries = Vec::new(alloc);
     entries.push(BString::from_slice(alloc, entry)?)?;
     Ok(entries)
-}
-
-// The six names that a name given short may stand for.
-pub(crate) fn candidates(alloc: Global, name: &[u8]) -> Result<Vec<BString>, AllocError>
-    ensures { IfOk result (λ list. map bstring_bytes list.items ≡ candidates_of name.now) }
-{
-    let mut names = Vec::with_capacity(alloc, 6)?;
-    names.push(joined(alloc, b"", name, b"")?)?;
-    names.push(joined(alloc, b"refs/", name, b"")?)?;
-    names.push(joined(alloc, b"refs/tags/", name, b"")?)?;
-    names.push(joined(alloc, b"refs/heads/", name, b"")?)?;
-    names.push(joined(alloc, b"refs/remotes/", name, b"")?)?;
-    names.push(joined(alloc, b"refs/remotes/", name, b"/HEAD")?)?;
-    Ok(names)
-}
-
-// A name between two texts.
-fn joined(alloc: Global, before: &[u8], name: &[u8], after: &[u8]) -> Result<BString, AllocError>
-    ensures { IfOk result (λ text. bstring_bytes text ≡ before.now ++ (name.now ++ after.now)) }
-{
-    let mut text = Vec::new(alloc);
-    text.extend_from_slice(before)?;
-    text.extend_from_slice(name)?;
-    text.extend_from_slice(after)?;
-    Ok(BString::new(text))
 }

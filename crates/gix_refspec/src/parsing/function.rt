@@ -2,29 +2,23 @@
 
 ghost use Rattle.std.specs.Prelude.{◌≡◌, ◌≢◌, ◌↔◌, [], option_map, IfOk, IfErr, IsTrue};
 ghost use Rattle.bstr.specs.BStr.{bstr_bytes};
+ghost use Rattle.gix_refspec.specs.Name.{HasSeveralStars};
 ghost use Rattle.gix_refspec.specs.Reading.{Mode as ModeOf, Normal, Negative};
 ghost use Rattle.gix_refspec.specs.Grammar.{IsSigned, IsPositive, LooksLikeObjectHash, Reads, with_colon, LastLacksColon, named_by};
 ghost use Rattle.gix_refspec.specs.Refusal.{IsBadPattern, IsRefused, MayWantMemory, WantsMemory};
 ghost use Rattle.gix_refspec.specs.Views.{mode_of, MemoryOr};
 ghost use Rattle.gix_refspec.specs.Spec.{reading_of};
-ghost use Rattle.gix_refspec.specs.Sides.{AreStarsOf, IsSide, IsCheckedSide, IsBadSide, IsReason, PartsRead, read_as, named_or_head as named_or_head_of, side_of as side_bytes};
+ghost use Rattle.gix_refspec.specs.Sides.{IsSide, IsCheckedSide, IsBadSide, IsReason, PartsRead, read_as, named_or_head as named_or_head_of, side_of as side_bytes};
 
-use crate::cut::{split_at_first, split_at_last};
+use crate::cut::split_at_last;
 use crate::name::{PatternError, name_partial, pattern_partial};
 use crate::oid::Kind;
 use crate::parsing::{Error, Operation};
+use crate::side::{Stars, stars_of};
 use crate::spec::RefSpecRef;
 use crate::types::Mode;
 use bstr::{BStr, BString};
 use std::alloc::Global;
-
-// How many stars a side has.
-#[derive(Clone, Copy)]
-pub(crate) enum Stars {
-    No,
-    One,
-    Several,
-}
 
 // Whether a side has a star.
 #[derive(Clone, Copy, PartialEq, Eq)]
@@ -90,19 +84,6 @@ fn cut_at_last_colon(rest: &[u8]) -> (&[u8], Option<&[u8]>)
     }
 }
 
-// How many stars a side has.
-fn stars_of(side: &[u8]) -> Stars
-    ensures { AreStarsOf side.now result }
-{
-    let Some((_, back)) = split_at_first(side, b'*') else {
-        return Stars::No;
-    };
-    match split_at_first(back, b'*') {
-        None => Stars::One,
-        Some(_) => Stars::Several,
-    }
-}
-
 // Whether a side has a star; if so it has to be a pattern.
 fn starred(alloc: Global, side: &[u8]) -> Result<Side, Error>
     ensures ok { IfOk result (IsSide side.now) }
@@ -110,7 +91,7 @@ fn starred(alloc: Global, side: &[u8]) -> Result<Side, Error>
 {
     match stars_of(side) {
         Stars::No => Ok(Side::Plain),
-        Stars::One => match pattern_partial(alloc, BStr::new(side)) {
+        Stars::One { .. } => match pattern_partial(alloc, BStr::new(side)) {
             Ok(()) => Ok(Side::Pattern),
             Err(PatternError::Name(fault)) => Err(Error::ReferenceName(fault)),
             Err(PatternError::Memory) => Err(Error::Memory),
@@ -121,7 +102,7 @@ fn starred(alloc: Global, side: &[u8]) -> Result<Side, Error>
 
 // The refusal of a side with several stars.
 fn several_stars(alloc: Global, side: &[u8]) -> Error
-    requires { AreStarsOf side.now Stars.Several }
+    requires { HasSeveralStars side.now }
     ensures { MemoryOr (WantsMemory side.now) (IsBadPattern side.now) result }
 {
     match BString::from_slice(alloc, side) {

@@ -1,22 +1,37 @@
--- The prefix where there is one, the side itself, or nothing. Only entries want memory.
-use Rattle.std.proofs.Common.{ap, map}
+-- The kind of the side decides. Only entries want memory.
+use Rattle.std.proofs.Common.{refl, sym, ◌∙◌}
 use Rattle.std.proofs.lemmas.Result.{IfOk-weaker}
-use Rattle.bstr.specs.Owned.{bstring_bytes}
-use Rattle.gix_refspec.specs.Prefix.{to_prefix, to_itself, below_refs}
-use Rattle.gix_refspec.proofs.PrefixLemmas.{prefix_expands, itself_expands, on_any_error}
+use Rattle.std.proofs.lemmas.Bool.{false≢true}
+use Rattle.gix_refspec.specs.Prefix.{of_head, of_name, of_pattern, to_prefix}
+use Rattle.gix_refspec.proofs.PrefixLemmas.{no_prefix, prefix_expands, on_any_error}
 use Rattle.gix_refspec.proofs.prefix.expansions_of.Goals as goal
 
-pub returns-in-Some-clause-ok : goal.returns-in-Some-clause-ok
-returns-in-Some-clause-ok c = IfOk-weaker c.one_entry.result _ _ (λ list is. to_prefix c.in-Some.prefix.now c.in-Some.ensures is) c.one_entry.ensures
+pub pattern_expansions-requires : goal.pattern_expansions-requires
+pattern_expansions-requires c =
+    let k = c.in-Pattern in
+    (no_prefix c.args.side.now k.before.now k.after.now k.ensures (λ tells. false≢true (c.if-tells_prefix.ensures.1 tells)), (k.before.now, k.after.now, k.ensures))
 
-pub returns-in-Some-clause-memory : goal.returns-in-Some-clause-memory
-returns-in-Some-clause-memory c = on_any_error c.one_entry.result (prefix_expands c.args.side.now c.in-Some.prefix.now c.in-Some.ensures)
+pub returns-in-Pattern-clause-ok : goal.returns-in-Pattern-clause-ok
+returns-in-Pattern-clause-ok c =
+    let k = c.in-Pattern in
+    IfOk-weaker c.one_entry.result _ _ (λ list is. to_prefix k.before.now (of_pattern k.before.now k.after.now k.ensures (c.if-tells_prefix.ensures.0 refl) refl) is) c.one_entry.ensures
 
-pub returns-in-Some-below_refs-clause-ok : goal.returns-in-Some-below_refs-clause-ok
-returns-in-Some-below_refs-clause-ok c = below_refs c.in-Some-below_refs.rest.now c.in_default.ensures c.in-Some-below_refs.ensures c.if-holds.ensures (ap (map bstring_bytes) c.new.ensures.items)
+pub returns-in-Pattern-clause-memory : goal.returns-in-Pattern-clause-memory
+returns-in-Pattern-clause-memory c =
+    let k = c.in-Pattern in
+    on_any_error c.one_entry.result (prefix_expands c.args.side.now k.before.now (of_pattern k.before.now k.after.now k.ensures (c.if-tells_prefix.ensures.0 refl) refl))
 
-pub returns-in-Some-2-clause-ok : goal.returns-in-Some-2-clause-ok
-returns-in-Some-2-clause-ok c = IfOk-weaker c.one_entry-in-Some-2.result _ _ (λ list is. to_itself c.in-Some-below_refs.rest.now c.in_default.ensures c.in-Some-below_refs.ensures c.if-holds.ensures is) c.one_entry-in-Some-2.ensures
+pub returns-in-FullName-clause-ok : goal.returns-in-FullName-clause-ok
+returns-in-FullName-clause-ok c =
+    let k = c.in-FullName in
+    IfOk-weaker c.one_entry-in-FullName.result _ _ (λ list is. to_prefix k.name.now (of_name k.ensures.2 k.ensures.1 k.ensures.0) is) c.one_entry-in-FullName.ensures
 
-pub returns-in-Some-2-clause-memory : goal.returns-in-Some-2-clause-memory
-returns-in-Some-2-clause-memory c = on_any_error c.one_entry-in-Some-2.result (itself_expands c.args.side.now c.in-Some-below_refs.rest.now c.in-Some-below_refs.ensures c.if-holds.ensures)
+pub returns-in-FullName-clause-memory : goal.returns-in-FullName-clause-memory
+returns-in-FullName-clause-memory c =
+    let k = c.in-FullName in
+    on_any_error c.one_entry-in-FullName.result (prefix_expands c.args.side.now k.name.now (of_name k.ensures.2 k.ensures.1 k.ensures.0))
+
+pub returns-in-Partial-clause-ok : goal.returns-in-Partial-clause-ok
+returns-in-Partial-clause-ok c =
+    let k = c.in-Partial in
+    IfOk-weaker c.one_entry-in-Partial.result _ _ (λ list is. to_prefix k.name.now (of_head (sym k.ensures.0 ∙ c.if-is_head.ensures.0 refl) k.ensures.0) is) c.one_entry-in-Partial.ensures

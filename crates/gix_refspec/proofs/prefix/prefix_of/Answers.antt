@@ -1,9 +1,11 @@
--- A side below `refs/` with a star: what stands before the star decides.
-use Rattle.gix_refspec.proofs.PrefixLemmas.{no_prefix, pattern_prefix}
+-- A pattern has what stands before its star, where that tells a prefix.
+use Rattle.std.proofs.Common.{subst, sym, MatchOption}
+use Rattle.gix_refspec.specs.Prefix.{HasNoPrefix, IsPrefix}
+use Rattle.gix_refspec.proofs.PrefixLemmas.{pattern_prefix}
 use Rattle.gix_refspec.proofs.prefix.prefix_of.Goals as goal
 
-pub returns-then-is_vague : goal.returns-then-is_vague
-returns-then-is_vague c = no_prefix c.args.side.now c.in_ok-rest.rest.now c.in-Some.before.now c.in-Some.field-0-1.now c.in_ok-rest.ensures c.in-Some.ensures.0 c.in-Some.ensures.1 c.if-is_vague.ensures
-
-pub returns : goal.returns
-returns c = pattern_prefix c.args.side.now c.in_ok-rest.rest.now c.in-Some.before.now c.in-Some.field-0-1.now c.in_ok-rest.ensures c.in-Some.ensures.0 c.in-Some.ensures.1 c.if-is_vague.ensures
+pub returns-in-Pattern : goal.returns-in-Pattern
+returns-in-Pattern c =
+    let x = c.args.side.now in
+    let k = c.in-Pattern in
+    subst (λ r. MatchOption r (HasNoPrefix x) (λ p. IsPrefix x p.now)) (sym c.then_some.ensures) (pattern_prefix x k.before k.after c.tells_prefix.result k.ensures c.tells_prefix.ensures)

@@ -9,17 +9,17 @@ use Rattle.gix_refspec.proofs.spec.RefSpecRef.expand_prefixes.Goals as goal
 pub returns-clause-ok : goal.returns-clause-ok
 returns-clause-ok c =
     on_ok_weaker c.append.result
-    (λ appended. record { list = map bstring_bytes c.in_ok-entries.entries.items; is = inl (c.in-Some.side.now, c.in-Some.ensures, c.in_ok-entries.ensures.ok); appended = appended })
+    (λ appended. record { list = map bstring_bytes c.in_ok-entries.entries.items; is = inl (c.in-Some.side.now, c.in-Some.ensures.0, c.in_ok-entries.ensures.ok); appended = appended })
     (appended_ok bstring_bytes c.append.result c.args.out.now.items c.in_ok-entries.entries.items c.append.new.self.items c.append.ensures.items)
 
 pub returns-in_err-entries-clause-memory : goal.returns-in_err-entries-clause-memory
 returns-in_err-entries-clause-memory c =
-    on_any_error c.from_residual.result (λ nothing. c.in_err-entries.ensures.memory (asked_nothing (reading_of c.args.self.now) c.in-Some.side.now c.in-Some.ensures nothing))
+    on_any_error c.from_residual.result (λ nothing. c.in_err-entries.ensures.memory (asked_nothing (reading_of c.args.self.now) c.in-Some.side.now c.in-Some.ensures.0 nothing))
 
 pub returns-clause-memory : goal.returns-clause-memory
 returns-clause-memory c =
     let out = c.args.out.now in
     let entries = c.in_ok-entries.entries in
     on_err_weaker c.append.result
-    (λ full nothing. omega (arith, full, out.ok.1, entries.ok.0, no_entries bstring_bytes (reading_of c.args.self.now) c.in-Some.side.now entries.items c.in-Some.ensures c.in_ok-entries.ensures.ok nothing))
+    (λ full nothing. omega (arith, full, out.ok.1, entries.ok.0, no_entries bstring_bytes (reading_of c.args.self.now) c.in-Some.side.now entries.items c.in-Some.ensures.0 c.in_ok-entries.ensures.ok nothing))
     c.append.ensures.full

@@ -1,0 +1,11 @@
+-- No side of an accepted spec has several stars.
+use Rattle.std.proofs.Common.{rules}
+use Rattle.gix_refspec.specs.Prefix.{IsAsked}
+use Rattle.gix_refspec.specs.Spec.{reading_of}
+use Rattle.gix_refspec.proofs.AcceptedLemmas.{remote_few}
+use Rattle.gix_refspec.proofs.spec.RefSpecRef.asked_side.Goals as goal
+
+pub returns : goal.returns
+returns c =
+    let asked : IsAsked (reading_of c.args.self.now) c.as_bytes.result.now = search rules in
+    (asked, remote_few (reading_of c.args.self.now) c.as_bytes.result.now c.args.self.now.accepted asked.side)

@@ -1,0 +1,23 @@
+-- What a clause reads of the private types of a side. Only private functions cite this.
+use Rattle.std.specs.Prelude.{ℕ, List}
+use Rattle.gix_refspec.specs.declared.side.Stars.{Stars}
+use Rattle.gix_refspec.specs.declared.side.Stars.TheVariants as stars
+use Rattle.gix_refspec.specs.declared.side.SideKind.{SideKind as DeclaredKind}
+use Rattle.gix_refspec.specs.declared.side.SideKind.TheVariants as declared_kind
+use Rattle.gix_refspec.specs.Text.{Lacks}
+use Rattle.gix_refspec.specs.Name.{IsCut, HasSeveralStars, star}
+use Rattle.gix_refspec.specs.ObjectId.{id_bytes}
+use Rattle.gix_refspec.specs.Side.{SideKind, pattern, full_name, object, partial}
+
+-- how many stars x has, and where the only one cuts it
+abbrev pub AreStarsOf : List ℕ → Stars → Type 0
+AreStarsOf x stars.No = Lacks star x
+AreStarsOf x (stars.One before after) = IsCut before.now after.now x
+AreStarsOf x stars.Several = HasSeveralStars x
+
+-- the kind that the private type shows
+abbrev pub shown_kind : DeclaredKind → SideKind
+shown_kind (declared_kind.Pattern before after) = pattern before.now after.now
+shown_kind (declared_kind.FullName name) = full_name name.now
+shown_kind (declared_kind.Object id) = object (id_bytes id)
+shown_kind (declared_kind.Partial name) = partial name.now

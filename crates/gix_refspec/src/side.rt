@@ -1,0 +1,101 @@
+//! A side of a refspec: how many stars it has and where they cut it, its kind, and its candidates.
+
+ghost use Rattle.std.specs.Prelude.{◌≡◌, ◌++◌, codes, map, MatchOption, IfOk};
+ghost use Rattle.bstr.specs.Owned.{bstring_bytes};
+ghost use Rattle.gix_refspec.specs.Text.{Begins};
+ghost use Rattle.gix_refspec.specs.Name.{HasSeveralStars};
+ghost use Rattle.gix_refspec.specs.Side.{HasKind, candidates as candidates_of};
+ghost use Rattle.gix_refspec.specs.SideViews.{AreStarsOf, shown_kind};
+
+use crate::cut::split_at_first;
+use crate::oid::ObjectId;
+use bstr::BString;
+use std::alloc::{AllocError, Global};
+
+// How many stars a text has, and what stands before and after the only one.
+#[derive(Clone, Copy)]
+pub(crate) enum Stars<'a> {
+    No,
+    One { before: &'a [u8], after: &'a [u8] },
+    Several,
+}
+
+// What a side is.
+#[derive(Clone, Copy)]
+pub(crate) enum SideKind<'a> {
+    // One star between two texts.
+    Pattern { before: &'a [u8], after: &'a [u8] },
+    // A name that begins `refs/`.
+    FullName(&'a [u8]),
+    // The id of an object.
+    Object(ObjectId),
+    // Any other name.
+    Partial(&'a [u8]),
+}
+
+// How many stars a side has, and where the only one cuts it.
+pub(crate) fn stars_of(side: &[u8]) -> Stars<'_>
+    ensures { AreStarsOf side.now result }
+{
+    let Some((before, after)) = split_at_first(side, b'*') else {
+        return Stars::No;
+    };
+    match split_at_first(after, b'*') {
+        None => Stars::One { before, after },
+        Some(_) => Stars::Several,
+    }
+}
+
+// The kind of a side.
+pub(crate) fn kind_of(side: &[u8]) -> SideKind<'_>
+    requires { ¬ (HasSeveralStars side.now) }
+    ensures { HasKind side.now (shown_kind result) }
+{
+    if let Stars::One { before, after } = stars_of(side) {
+        return SideKind::Pattern { before, after };
+    }
+    if below_refs(side).is_some() {
+        return SideKind::FullName(side);
+    }
+    match ObjectId::from_hex(side) {
+        Ok(id) => SideKind::Object(id),
+        Err(_) => SideKind::Partial(side),
+    }
+}
+
+// What follows `refs/`.
+pub(crate) fn below_refs(side: &[u8]) -> Option<&[u8]>
+    ensures { MatchOption result (¬ (Begins (codes "refs/") side.now)) (λ rest. side.now ≡ codes "refs/" ++ rest.now) }
+{
+    side.strip_prefix(b"refs/")
+}
+
+// The six names that a partial one may stand for.
+pub(crate) fn candidates(alloc: Global, name: &[u8]) -> Result<Vec<BString>, AllocError>
+    ensures { IfOk result (λ list. map bstring_bytes list.items ≡ candidates_of name.now) }
+{
+    let mut names = Vec::with_capacity(alloc, 6)?;
+    names.push(joined(alloc, b"", name, b"")?)?;
+    names.push(joined(alloc, b"refs/", name, b"")?)?;
+    names.push(joined(alloc, b"refs/tags/", name, b"")?)?;
+    names.push(joined(alloc, b"refs/heads/", name, b"")?)?;
+    names.push(joined(alloc, b"refs/remotes/", name, b"")?)?;
+    names.push(joined(alloc, b"refs/remotes/", name, b"/HEAD")?)?;
+    Ok(names)
+}
+
+// A name between two texts.
+pub(crate) fn joined(
+    alloc: Global,
+    before: &[u8],
+    name: &[u8],
+    after: &[u8],
+) -> Result<BString, AllocError>
+    ensures { IfOk result (λ text. bstring_bytes text ≡ before.now ++ (name.now ++ after.now)) }
+{
+    let mut text = Vec::new(alloc);
+    text.extend_from_slice(before)?;
+    text.extend_from_slice(name)?;
+    text.extend_from_slice(after)?;
+    Ok(BString::new(text))
+}
