@@ -15,6 +15,8 @@ pub mod ReadOnceLemmas
 pub mod HeadLemmas
 pub mod ReadBackLemmas
 pub mod FormsBackLemmas
+pub mod SpecLemmas
+pub mod RefusalLemmas
 pub mod PrefixLemmas
 pub mod MatchLemmas
 pub mod ManualFacts
