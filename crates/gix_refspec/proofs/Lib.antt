@@ -6,6 +6,7 @@ pub mod NameLemmas
 pub mod SideLemmas
 pub mod PartsLemmas
 pub mod ReasonLemmas
+pub mod MemoryLemmas
 pub mod ReadsLemmas
 pub mod ObjectIdLemmas
 pub mod ObjectIdFacts
