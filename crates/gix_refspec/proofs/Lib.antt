@@ -19,5 +19,6 @@ pub mod FormsBackLemmas
 pub mod SpecLemmas
 pub mod RefusalLemmas
 pub mod PrefixLemmas
+pub mod OnePrefixLemmas
 pub mod MatchLemmas
 pub mod ManualFacts

@@ -86,6 +86,11 @@ OneWord before after n = (v w : List ℕ) → Covers before after n v → Covers
 abbrev pub PrefixBegins : List ℕ → Type 0
 PrefixBegins x = (p : List ℕ) (r : Ref) (word : Option (List ℕ)) → IsPrefix x p → x ≢ head → Matches x r word → Begins p r.name
 
+-- a side has one prefix at the most, and is expanded to one list
+pub record OnePrefix (x : List ℕ) : Type 0 where
+  pub prefix : (p q : List ℕ) → IsPrefix x p → IsPrefix x q → p ≡ q
+  pub expanded : (list other : List (List ℕ)) → Expands x list → Expands x other → list ≡ other
+
 -- a side is expanded to its six candidates, and to nothing else, and matches just the refs with one of
 -- these names
 pub record HasCandidates (x : List ℕ) : Type 0 where

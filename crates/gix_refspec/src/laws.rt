@@ -3,7 +3,7 @@
 
 ghost use Rattle.std.specs.Prelude.{◌≡◌, ◌↔◌, IsTrue};
 ghost use Rattle.std.specs.Ordering.{nat_cmp};
-ghost use Rattle.gix_refspec.specs.Laws.{ReadsOrRefused, OneRefusal, ReadsBack, IsPrintedBack, KeepsOperation, SaysForOperation, EqualTexts, EqualReadings, OneId, OneLowerText, NothingAgainst, OneWord, PrefixBegins, Candidates};
+ghost use Rattle.gix_refspec.specs.Laws.{ReadsOrRefused, OneRefusal, ReadsBack, IsPrintedBack, KeepsOperation, SaysForOperation, EqualTexts, EqualReadings, OneId, OneLowerText, NothingAgainst, OneWord, PrefixBegins, OnePrefix, Candidates};
 ghost use Rattle.gix_refspec.specs.Meaning.{meaning_of};
 ghost use Rattle.gix_refspec.specs.ObjectId.{id_bytes};
 ghost use Rattle.gix_refspec.specs.Order.{is_same, order, place_of};
@@ -90,6 +90,11 @@ pub fn one_word(before: &[u8], after: &[u8], name: &[u8])
 /// Each ref that a side matches begins with the prefix of the side, but for the side `HEAD`.
 pub fn prefix_begins(side: &[u8])
     ensures { PrefixBegins side.now }
+{}
+
+/// A side has one prefix at the most, and is expanded to one list.
+pub fn one_prefix(side: &[u8])
+    ensures { OnePrefix side.now }
 {}
 
 /// A side without a star that isn't `HEAD`, begins no `refs/` and is no id expands to its six candidates,
