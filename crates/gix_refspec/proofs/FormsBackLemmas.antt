@@ -155,7 +155,7 @@ once_or_refused op text = elim (read_or_refused op text) [
   | inr refusal ↦ inr refusal
 ]
 
-some_once : (x y : List ℕ) → Some x ≡ Some y → x ≡ y
+pub some_once : (x y : List ℕ) → Some x ≡ Some y → x ≡ y
 some_once x y same = cc
 
 -- readings with one canonical text mean the same, since that text has one reading

@@ -6,6 +6,7 @@ pub mod NameLemmas
 pub mod SideLemmas
 pub mod PartsLemmas
 pub mod ReasonLemmas
+pub mod MemoryLemmas
 pub mod ReadsLemmas
 pub mod ObjectIdLemmas
 pub mod ObjectIdFacts
@@ -16,6 +17,9 @@ pub mod HeadLemmas
 pub mod ReadBackLemmas
 pub mod FormsBackLemmas
 pub mod AcceptedLemmas
+pub mod SpecLemmas
+pub mod RefusalLemmas
 pub mod MatchLemmas
 pub mod PrefixLemmas
+pub mod OnePrefixLemmas
 pub mod ManualFacts

@@ -19,6 +19,7 @@ use Rattle.gix_refspec.specs.declared.oid.Error.TheVariants.{Digit, Length}
 use Rattle.gix_refspec.specs.declared.oid.Kind.{Kind}
 use Rattle.gix_refspec.specs.declared.oid.Kind.TheVariants.{Sha1, Sha256}
 use Rattle.gix_refspec.specs.ObjectId.{HasFault, IsIdLength, IsIdText, IsLowerText, IsSpelledBy, Spells, bytes_of, digits_of, is_lower_digit, lower_of}
+use Rattle.gix_refspec.specs.Laws.{OneId, OneLowerText}
 
 -- an id has two digits for each byte
 pub digits_of-twice : (kind : Kind) → digits_of kind ≡ 2 * bytes_of kind
@@ -141,6 +142,17 @@ IsIdText-digits t (kind, digits) all =
 pub IsIdText-sound : (t i : List ℕ) (e : Error) → IsIdText t i → HasFault t e → ⊥
 IsIdText-sound t i (Length len) text (same, other) = other (text.kind, text.digits)
 IsIdText-sound t i Digit text (len, place) = cc (sym place.2 ∙ AllPass-IsIdText t i text place.0 0 place.1)
+
+-- a text has one fault
+one_fault : (t : List ℕ) (e f : Error) → HasFault t e → HasFault t f → e ≡ f
+one_fault t (Length n) (Length m) a b = ap Length (a.0 ∙ sym b.0)
+one_fault t (Length n) Digit a b = absurd (a.1 b.0)
+one_fault t Digit (Length m) a b = absurd (b.1 a.0)
+one_fault t Digit Digit a b = refl
+
+-- a text is that of one id and has no fault, or it has one fault
+pub one_id : (t : List ℕ) → OneId t
+one_id t = record { id = IsIdText-unique t; sound = IsIdText-sound t; fault = one_fault t }
 
 -- a text as long as that of an id, which does not decode, has a byte that is no digit
 HasFault-undecoded : (kind : Kind) (t : List ℕ) (e : FromHexError) → length t ≡ digits_of kind
@@ -305,6 +317,20 @@ IsLowerText-unique t u i (text_t, lower_t) (text_u, lower_u) =
     let two_t = digits_of-twice text_t.kind in
     let two_u = digits_of-twice text_u.kind in
     lower_texts-same t u i (omega arith) (omega arith) lower_t lower_u text_t.spelled text_u.spelled
+
+-- bytes from the front of bytes are bytes
+IsBytes-take : (n : ℕ) (x : List ℕ) → IsBytes x → IsBytes (take n x)
+IsBytes-take zero x fits k = omega arith
+IsBytes-take (suc n) [] fits k = omega arith
+IsBytes-take (suc n) (b ∷ x) fits zero = fits 0
+IsBytes-take (suc n) (b ∷ x) fits (suc k) = IsBytes-take n x (λ j. fits (suc j)) k
+
+-- the text that the id at the front of a buffer prints as is its only one in lower case
+pub one_lower_text : (kind : Kind) (buffer : List ℕ) → length buffer ≡ 32 → IsBytes buffer → OneLowerText (take (bytes_of kind) buffer)
+one_lower_text kind buffer room fits =
+    let i = take (bytes_of kind) buffer in
+    let lower = IsLowerText-lower_of kind i (length-room kind (bytes_of kind) buffer refl room) (IsBytes-take (bytes_of kind) buffer fits) in
+    record { lower = lower; only = λ t is. IsLowerText-unique t (lower_of i) i is lower }
 
 -- ---- what calls answer
 

@@ -32,9 +32,13 @@ short Sha256 same = omega (arith, same)
 pub id_not_head : (x id : List ℕ) → IsIdText x id → x ≢ head
 id_not_head x id text is = short text.kind (sym (ap length is) ∙ text.digits)
 
+-- `HEAD` has no star
+pub head_no_cut : (x before after : List ℕ) → x ≡ head → IsCut before after x → ⊥
+head_no_cut x before after is cut = lacks_no_pattern x before after (subst (Lacks star) (sym is) (Lacks-name head IsName-head)) cut
+
 -- a pattern with these two ends has no prefix where they tell none
 pub no_prefix : (x before after : List ℕ) → IsCut before after x → ¬ (TellsPrefix before after) → HasNoPrefix x
-no_prefix x before after cut vague p (of_head is _) = lacks_no_pattern x before after (subst (Lacks star) (sym is) (Lacks-name head IsName-head)) cut
+no_prefix x before after cut vague p (of_head is _) = head_no_cut x before after is cut
 no_prefix x before after cut vague p (of_name begins lacks _) = lacks_no_pattern x before after lacks cut
 no_prefix x before after cut vague p (of_pattern first last other tells _) =
     let once = cut_once x first last before after other cut in

@@ -2,6 +2,7 @@
 use Rattle.std.proofs.Common.{◌≡◌, ◌≢◌, ◌⊎◌, inl, inr, ℕ, List, [], ◌∷◌, ◌++◌, Option, None, Some, option_map, unwrap_or, is_some, Bor, ◌==◌, false, length, refl, sym, ap, ◌∙◌, subst}
 use Rattle.std.proofs.lemmas.Bool.{false≢true}
 use Rattle.gix_refspec.specs.declared.name.Error.TheVariants.{Asterisk}
+use Rattle.gix_refspec.specs.declared.name.PatternError.TheVariants as found
 use Rattle.gix_refspec.specs.declared.parsing.function.Side.{Side}
 use Rattle.gix_refspec.specs.declared.parsing.function.Side.TheVariants.{Plain, Pattern}
 use Rattle.gix_refspec.specs.Text.{Lacks}
@@ -9,6 +10,7 @@ use Rattle.gix_refspec.specs.Name.{IsName, IsPattern, HasStar, HasSeveralStars, 
 use Rattle.gix_refspec.specs.Reading.{Refusal, Empty, NegativeWithDestination, PushToEmpty, PatternUnsupported, ReferenceName, PatternUnbalanced, NegativeEmpty, NegativeObjectHash}
 use Rattle.gix_refspec.specs.Refusal.{IsBadName, IsBadPattern, Never, OrElse}
 use Rattle.gix_refspec.specs.Sides.{IsSide, IsCheckedSide, IsBadSide}
+use Rattle.gix_refspec.specs.Laws.{NothingAgainst}
 use Rattle.gix_refspec.proofs.TextLemmas.{Lacks-Holds, Lacks-from_absent, first_once, one_not_two}
 
 -- neither P nor, behind it, Q
@@ -66,6 +68,11 @@ pattern_fine x pattern PushToEmpty bad = bad
 pattern_fine x pattern PatternUnbalanced bad = bad
 pattern_fine x pattern NegativeEmpty bad = bad
 pattern_fine x pattern NegativeObjectHash bad = bad
+
+-- nor does a look at a pattern find anything, but want of memory
+pub nothing_against : (x : List ℕ) → NothingAgainst x
+nothing_against x pattern (found.Name fault) told = absurd (pattern_fine x pattern (ReferenceName fault) told)
+nothing_against x pattern found.Memory long = (refl, long)
 
 -- a text that lacks the star isn't a bad pattern
 pub plain_fine : (x : List ℕ) → Lacks star x → Never (IsBadPattern x)

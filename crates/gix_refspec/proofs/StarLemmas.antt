@@ -1,5 +1,5 @@
 -- How many stars a text has.
-use Rattle.std.proofs.Common.{◌≡◌, ◌≢◌, ℕ, ◌+◌, ◌==◌, cond, List, [], ◌∷◌, sym, ap, ◌∙◌, inl, inr, zero-add, arith}
+use Rattle.std.proofs.Common.{◌≡◌, ◌≢◌, ℕ, ◌+◌, ◌==◌, cond, List, [], ◌∷◌, ◌++◌, refl, sym, ap, ◌∙◌, inl, inr, zero-add, arith}
 use Rattle.std.specs.List.{count_by}
 use Rattle.std.proofs.lemmas.Bool.{cases_eq, eq-eqb, ne_eqb}
 use Rattle.std.proofs.lemmas.List.Sums.{sum_by-append}
@@ -51,3 +51,22 @@ one_star (b ∷ x) one =
 pub HasOneStar-count_by : (x : List ℕ) → count_by (λ b. b == star) x ≡ 1 → HasOneStar x
 unfolding stars
 HasOneStar-count_by x one = one_star x one
+
+stars-append : (x y : List ℕ) → stars (x ++ y) ≡ stars x + stars y
+unfolding stars
+stars-append x y = sum_by-append (λ c. cond (c == star) 1 0) x y
+
+no_stars : (x : List ℕ) → Lacks star x → stars x ≡ 0
+unfolding stars
+no_stars [] lacks = refl
+no_stars (b ∷ x) lacks = stars-other b x lacks.0 ∙ no_stars x lacks.1
+
+counted : (x : List ℕ) → HasOneStar x → stars x ≡ 1
+counted x (before, after, cut) =
+    let whole : stars x ≡ stars before + stars (star ∷ after) = ap stars cut.starred ∙ stars-append before (star ∷ after) in
+    omega (arith, whole, no_stars before cut.first, stars-star star after refl, no_stars after cut.last)
+
+-- and in a text with one star one is counted
+pub count_by-HasOneStar : (x : List ℕ) → HasOneStar x → count_by (λ b. b == star) x ≡ 1
+unfolding stars
+count_by-HasOneStar x one = counted x one

@@ -1,12 +1,19 @@
--- Laws of the definitions alone, on readings, canonical texts and prefixes.
-use Rattle.std.specs.Prelude.{◌≡◌, ◌≢◌, ◌⊎◌, ◌↔◌, ℕ, List, Option, Some, codes}
+-- Laws of the definitions alone, on readings, refusals, canonical texts, ids, patterns and prefixes.
+use Rattle.std.specs.Prelude.{◌≡◌, ◌≢◌, ◌⊎◌, ◌↔◌, ◌<◌, ℕ, List, Option, Some, codes, length}
+use Rattle.gix_refspec.specs.declared.name.Error.{Error as NameError}
+use Rattle.gix_refspec.specs.declared.name.PatternError.{PatternError}
+use Rattle.gix_refspec.specs.declared.name.PatternError.TheVariants.{Memory}
+use Rattle.gix_refspec.specs.declared.oid.Error.{Error as IdError}
 use Rattle.gix_refspec.specs.declared.parsing.Operation.{Operation}
-use Rattle.gix_refspec.specs.Reading.{Reading, Refusal}
+use Rattle.gix_refspec.specs.Reading.{Reading, Refusal, ReferenceName}
 use Rattle.gix_refspec.specs.Text.{Lacks, Begins}
-use Rattle.gix_refspec.specs.Name.{star}
+use Rattle.gix_refspec.specs.Name.{IsPattern, star}
+use Rattle.gix_refspec.specs.PatternError.{Explains}
+use Rattle.gix_refspec.specs.ObjectId.{HasFault, IsIdText, IsLowerText, lower_of}
 use Rattle.gix_refspec.specs.Grammar.{head, Reads}
 use Rattle.gix_refspec.specs.Refusal.{IsRefused}
-use Rattle.gix_refspec.specs.Meaning.{meaning_of, printed}
+use Rattle.gix_refspec.specs.Meaning.{Meaning, meaning_of, printed}
+use Rattle.gix_refspec.specs.Views.{operation_of}
 use Rattle.gix_refspec.specs.Side.{IsId, candidates, IsCandidate, Fits}
 use Rattle.gix_refspec.specs.Match.{Ref, Matches}
 use Rattle.gix_refspec.specs.Prefix.{IsPrefix, Expands}
@@ -20,6 +27,22 @@ pub record ReadsOnce (op : Operation) (text : List ℕ) : Type 0 where
 -- a text has exactly one reading, or it is refused; never both, since a refused text has no reading
 abbrev pub ReadsOrRefused : Operation → List ℕ → Type 0
 ReadsOrRefused op text = ReadsOnce op text ⊎ ((e : Refusal) × IsRefused op text e)
+
+-- two refusals are the same, or both are for the fault of a name
+abbrev pub IsSameReason : Refusal → Refusal → Type 0
+IsSameReason e f = (e ≡ f) ⊎ ((a : NameError) × (b : NameError) × (e ≡ ReferenceName a) × (f ≡ ReferenceName b))
+
+-- a text is refused for one reason
+abbrev pub OneRefusal : Operation → List ℕ → Type 0
+OneRefusal op text = (e f : Refusal) → IsRefused op text e → IsRefused op text f → IsSameReason e f
+
+-- what a text reads as for an operation is for that operation
+abbrev pub KeepsOperation : Operation → List ℕ → Type 0
+KeepsOperation op text = (r : Reading) → Reads op text r → r.operation ≡ op
+
+-- what a reading says to do is for the operation of the reading
+abbrev pub SaysForOperation : Reading → Type 0
+SaysForOperation r = (m : Meaning) → meaning_of r ≡ Some m → operation_of m ≡ r.operation
 
 -- a reading has a canonical text, which has exactly one reading, with the same meaning: so that text is
 -- canonical itself
@@ -37,6 +60,25 @@ ReadsBack op text = (r : Reading) → Reads op text r → IsPrintedBack op r
 abbrev pub EqualTexts : Operation → List ℕ → List ℕ → Type 0
 EqualTexts op a b = (r q : Reading) → Reads op a r → Reads op b q → (meaning_of r ≡ meaning_of q) ↔ (printed r ≡ printed q)
 
+-- two readings mean the same exactly where they are for one operation and their canonical texts are equal
+abbrev pub EqualReadings : Reading → Reading → Type 0
+EqualReadings r q = (meaning_of r ≡ meaning_of q) ↔ ((r.operation ≡ q.operation) × (printed r ≡ printed q))
+
+-- a text is that of one id at the most, and has no fault then; else it has one fault at the most
+pub record OneId (t : List ℕ) : Type 0 where
+  pub id : (i j : List ℕ) → IsIdText t i → IsIdText t j → i ≡ j
+  pub sound : (i : List ℕ) (e : IdError) → IsIdText t i → ¬ (HasFault t e)
+  pub fault : (e f : IdError) → HasFault t e → HasFault t f → e ≡ f
+
+-- the id with the bytes i has one text in lower case, which is the one that it prints as
+pub record OneLowerText (i : List ℕ) : Type 0 where
+  pub lower : IsLowerText (lower_of i) i
+  pub only : (t : List ℕ) → IsLowerText t i → t ≡ lower_of i
+
+-- nothing is against a pattern, but want of memory where it has more than 256 bytes
+abbrev pub NothingAgainst : List ℕ → Type 0
+NothingAgainst x = IsPattern x → (e : PatternError) → Explains e x → (e ≡ Memory) × (256 < length x)
+
 -- a name has one word at the most between two texts
 abbrev pub OneWord : List ℕ → List ℕ → List ℕ → Type 0
 OneWord before after n = (v w : List ℕ) → Fits before after n v → Fits before after n w → v ≡ w
@@ -44,6 +86,11 @@ OneWord before after n = (v w : List ℕ) → Fits before after n v → Fits bef
 -- each ref that the side matches begins with the prefix of the side, but for `HEAD`
 abbrev pub PrefixBegins : List ℕ → Type 0
 PrefixBegins x = (p : List ℕ) (r : Ref) (word : Option (List ℕ)) → IsPrefix x p → x ≢ head → Matches x r word → Begins p r.name
+
+-- a side has one prefix at the most, and is expanded to one list
+pub record OnePrefix (x : List ℕ) : Type 0 where
+  pub prefix : (p q : List ℕ) → IsPrefix x p → IsPrefix x q → p ≡ q
+  pub expanded : (list other : List (List ℕ)) → Expands x list → Expands x other → list ≡ other
 
 -- a side is expanded to its six candidates, and to nothing else, and matches just the refs with one of
 -- these names

@@ -63,7 +63,11 @@ IsShownAs error.NegativeEmpty f = f ≡ NegativeEmpty
 IsShownAs error.NegativeObjectHash f = f ≡ NegativeObjectHash
 IsShownAs _ f = ⊥
 
+-- the error is a refusal as P says
+abbrev pub ShowsRefusal : (Refusal → Type 0) → Error → Type 0
+ShowsRefusal P e = (f : Refusal) × IsShownAs e f × P f
+
 -- the error is want of memory where that may be, or else a refusal as P says
 abbrev pub MemoryOr : Type 0 → (Refusal → Type 0) → Error → Type 0
 MemoryOr memory P error.Memory = memory
-MemoryOr memory P e = (f : Refusal) × IsShownAs e f × P f
+MemoryOr memory P e = ShowsRefusal P e

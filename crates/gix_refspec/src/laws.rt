@@ -3,18 +3,31 @@
 
 ghost use Rattle.std.specs.Prelude.{◌≡◌, ◌↔◌, IsTrue};
 ghost use Rattle.std.specs.Ordering.{nat_cmp};
-ghost use Rattle.gix_refspec.specs.Laws.{ReadsOrRefused, ReadsBack, EqualTexts, OneWord, PrefixBegins, Candidates};
+ghost use Rattle.gix_refspec.specs.Laws.{ReadsOrRefused, OneRefusal, ReadsBack, IsPrintedBack, KeepsOperation, SaysForOperation, EqualTexts, EqualReadings, OneId, OneLowerText, NothingAgainst, OneWord, PrefixBegins, OnePrefix, Candidates};
+ghost use Rattle.gix_refspec.specs.Meaning.{meaning_of};
+ghost use Rattle.gix_refspec.specs.ObjectId.{id_bytes};
 ghost use Rattle.gix_refspec.specs.Order.{is_same, order, place_of};
+ghost use Rattle.gix_refspec.specs.Spec.{reading_of, owned_reading_of};
 ghost use Rattle.gix_refspec.specs.Views.{shown_fetch, shown_push};
 
 use crate::instruction::{Fetch, Push};
-use crate::oid::Kind;
+use crate::oid::{Kind, ObjectId};
 use crate::parsing::Operation;
-use crate::{name, oid};
+use crate::{RefSpec, RefSpecRef, name, oid};
 
 /// A text has exactly one reading, or it is refused.
 pub fn reads_or_refused(operation: Operation, text: &[u8])
     ensures { ReadsOrRefused operation text.now }
+{}
+
+/// A text is refused for one reason, but any fault of a name may be told.
+pub fn one_refusal(operation: Operation, text: &[u8])
+    ensures { OneRefusal operation text.now }
+{}
+
+/// What a text reads as for an operation is for that operation.
+pub fn keeps_operation(operation: Operation, text: &[u8])
+    ensures { KeepsOperation operation text.now }
 {}
 
 /// What a text reads as has a canonical text, which has exactly one reading, with the same meaning.
@@ -27,6 +40,48 @@ pub fn equal_texts(operation: Operation, a: &[u8], b: &[u8])
     ensures { EqualTexts operation a.now b.now }
 {}
 
+/// Two specs are equal exactly where they are for one operation and their canonical texts are equal.
+pub fn equal_specs<'a>(a: &RefSpecRef<'a>, b: &RefSpecRef<'a>)
+    ensures same { IsTrue (⟦<RefSpecRef<'a> as PartialEq>⟧.eq a.now b.now) ↔ (meaning_of (reading_of a.now) ≡ meaning_of (reading_of b.now)) }
+    ensures text { EqualReadings (reading_of a.now) (reading_of b.now) }
+{}
+
+/// Two owned specs are equal exactly where they are for one operation and their canonical texts are equal.
+pub fn equal_owned_specs(a: &RefSpec, b: &RefSpec)
+    ensures same { IsTrue (⟦<RefSpec as PartialEq>⟧.eq a.now b.now) ↔ (meaning_of (owned_reading_of a.now) ≡ meaning_of (owned_reading_of b.now)) }
+    ensures text { EqualReadings (owned_reading_of a.now) (owned_reading_of b.now) }
+{}
+
+/// A spec has a canonical text, which has exactly one reading, with the same meaning.
+pub fn spec_reads_back(spec: &RefSpecRef<'_>)
+    ensures { IsPrintedBack (reading_of spec.now).operation (reading_of spec.now) }
+{}
+
+/// An owned spec has a canonical text, which has exactly one reading, with the same meaning.
+pub fn owned_spec_reads_back(spec: &RefSpec)
+    ensures { IsPrintedBack (owned_reading_of spec.now).operation (owned_reading_of spec.now) }
+{}
+
+/// The instruction of a spec is for the operation of the spec.
+pub fn says_for_operation(spec: &RefSpecRef<'_>)
+    ensures { SaysForOperation (reading_of spec.now) }
+{}
+
+/// A text is that of one id and has no fault, or it has one fault.
+pub fn one_id(text: &[u8])
+    ensures { OneId text.now }
+{}
+
+/// An id prints as its text in lower case, of which there is one, and from which it is read again.
+pub fn one_lower_text(id: ObjectId)
+    ensures { OneLowerText (id_bytes id) }
+{}
+
+/// A pattern of up to 256 bytes is accepted.
+pub fn nothing_against(pattern: &[u8])
+    ensures { NothingAgainst pattern.now }
+{}
+
 /// A name has one word at the most between what stands before and behind the star of a pattern.
 pub fn one_word(before: &[u8], after: &[u8], name: &[u8])
     ensures { OneWord before.now after.now name.now }
@@ -35,6 +90,11 @@ pub fn one_word(before: &[u8], after: &[u8], name: &[u8])
 /// Each ref that a side matches begins with the prefix of the side, but for the side `HEAD`.
 pub fn prefix_begins(side: &[u8])
     ensures { PrefixBegins side.now }
+{}
+
+/// A side has one prefix at the most, and is expanded to one list.
+pub fn one_prefix(side: &[u8])
+    ensures { OnePrefix side.now }
 {}
 
 /// A side without a star that isn't `HEAD`, begins no `refs/` and is no id expands to its six candidates,

@@ -1,6 +1,6 @@
 //! The names of refs and the patterns over them, by git-check-ref-format(1).
 
-ghost use Rattle.std.specs.Prelude.{MatchOption, MatchResult, ◌∷◌, [], List, ℕ};
+ghost use Rattle.std.specs.Prelude.{◌↔◌, IsTrue, MatchOption, MatchResult, ◌∷◌, [], List, ℕ};
 ghost use Rattle.std.specs.Bool.{OnTrue};
 ghost use Rattle.gix_refspec.specs.declared.name.Error.{Error};
 ghost use Rattle.bstr.specs.BStr.{bstr_bytes};
@@ -75,13 +75,20 @@ pub fn name_partial(name: BStr<'_>) -> Result<(), Error>
     }
 }
 
+/// Whether exactly one star stands in a text, as `pattern_partial` requires it.
+pub fn has_one_star(text: BStr<'_>) -> bool
+    ensures { IsTrue result ↔ HasOneStar (bstr_bytes text.entry) }
+{
+    text.as_bytes().iter().filter(|byte| **byte == b'*').count() == 1
+}
+
 /// Whether a text with one star is a pattern: a name, by git-check-ref-format(1), once a letter
 /// stands in place of the star, as under its `--refspec-pattern`. Other than an example there, a text
 /// that ends with a slash is refused, as Git's command refuses it too.
 ///
 /// `Name` says which fault that name has. The text is copied: up to 256 bytes the copy lies in the
 /// call itself, and no memory is asked for; a longer one is copied to the heap until the call ends,
-/// and `Memory` says that there was no room.
+/// and `Memory` says that there was no room. [`has_one_star`] tells whether a text may be asked about.
 pub fn pattern_partial(alloc: Global, pattern: BStr<'_>) -> Result<(), PatternError>
     requires { HasOneStar (bstr_bytes pattern) }
     ensures { MatchResult result (λ _. IsPattern (bstr_bytes pattern.entry)) (λ e. Explains e (bstr_bytes pattern.entry)) }

@@ -2,13 +2,9 @@
 use Rattle.std.proofs.Common.{◌≡◌, ◌≢◌, ◌⊎◌, inl, inr, ℕ, ◌==◌, Bool, true, false, ◌||◌, List, [], ◌∷◌, ◌++◌, flat_map, length, refl, sym, ap, ◌∙◌, subst, append_assoc, length-append, arith}
 use Rattle.std.specs.List.{AllZip}
 use Rattle.gix_refspec.specs.declared.parsing.Operation.{Operation}
-use Rattle.gix_refspec.specs.declared.parsing.Error.{Error}
-use Rattle.gix_refspec.specs.declared.parsing.Error.TheVariants as error
 use Rattle.std.proofs.lemmas.Bool.{eqb-true, false≢true}
 use Rattle.std.proofs.lemmas.List.{append-nil}
 use Rattle.gix_refspec.specs.Text.{Lacks}
-use Rattle.gix_refspec.specs.Reading.{Refusal}
-use Rattle.gix_refspec.specs.Views.{IsShownAs, MemoryOr}
 use Rattle.refspec_map.specs.Input.{newline, AreLines, IsFirstLine}
 use Rattle.refspec_map.specs.Output.{Answer, IsAnswer, line_of, is_refused, any_refused, IsCanon, PutsAnswer}
 
@@ -62,21 +58,6 @@ Completes-line op input old new text line rest before refusal full first put com
     or_more before (is_refused put.answer) refusal (any_refused answers) put.tells in
     subst (λ (x : List ℕ). IsCanon op input x ((before || refusal) || any_refused answers)) output
     (subst (λ (b : Bool). IsCanon op input (old ++ (line_of put.answer ++ flat_map line_of answers)) b) tells whole)
-
--- an error that isn't want of memory is a refusal
-pub refusal_from_error : (M : Type 0) (P : Refusal → Type 0) (e : Error) → (e ≡ error.Memory → ⊥) → MemoryOr M P e → (f : Refusal) × IsShownAs e f × P f
-refusal_from_error M P error.Memory other told = absurd (other refl)
-refusal_from_error M P error.Empty other told = told
-refusal_from_error M P error.NegativeWithDestination other told = told
-refusal_from_error M P error.NegativeEmpty other told = told
-refusal_from_error M P error.NegativeObjectHash other told = told
-refusal_from_error M P error.NegativePartialName other told = told
-refusal_from_error M P error.NegativeGlobPattern other told = told
-refusal_from_error M P error.InvalidFetchDestination other told = told
-refusal_from_error M P error.PushToEmpty other told = told
-refusal_from_error M P (error.PatternUnsupported pattern) other told = told
-refusal_from_error M P error.PatternUnbalanced other told = told
-refusal_from_error M P (error.ReferenceName fault) other told = told
 
 -- a refusal that was seen stays seen; else the next line tells
 pub refusal_stays : (before refusal : Bool) → before ≡ true → (before || refusal) ≡ before

@@ -1,11 +1,11 @@
 //! The canonical text of each line, or the name of the reason why it is no spec.
 
-ghost use Rattle.std.specs.Prelude.{◌≡◌, ◌++◌, ◌∷◌, [], List, ℕ, IfOk, IfErr, OnOk};
+ghost use Rattle.std.specs.Prelude.{◌≡◌, ◌≢◌, ◌++◌, ◌∷◌, [], List, ℕ, IfOk, IfErr, OnOk};
 ghost use Rattle.gix_refspec.specs.declared.parsing.Operation.{Operation};
 ghost use Rattle.gix_refspec.specs.Reading.{Refusal};
 ghost use Rattle.gix_refspec.specs.Grammar.{Reads};
-ghost use Rattle.gix_refspec.specs.Refusal.{IsRefused, MayWantMemory};
-ghost use Rattle.gix_refspec.specs.Views.{IsShownAs, MemoryOr};
+ghost use Rattle.gix_refspec.specs.Refusal.{IsRefused};
+ghost use Rattle.gix_refspec.specs.Views.{IsShownAs, ShowsRefusal};
 ghost use Rattle.gix_refspec.specs.Spec.{reading_of};
 ghost use Rattle.refspec_map.specs.Input.{IsFirstLine, newline};
 ghost use Rattle.refspec_map.specs.Output.{IsCanon, name_of, PutsAnswer, PutsText};
@@ -92,7 +92,7 @@ fn write_text(spec: &RefSpecRef<'_>, output: &mut Vec<u8>) -> io::Result<()>
 
 // Appends the name of a refusal.
 fn put_refusal(error: &Error, output: &mut Vec<u8>) -> Result<bool, Fault>
-    ensures ok { IfOk result (λ refused. (op : Operation) (line : List ℕ) → MemoryOr (MayWantMemory op line) (IsRefused op line) error.now → PutsAnswer op line output.old.items output.new.items refused) }
+    ensures ok { IfOk result (λ refused. (op : Operation) (line : List ℕ) → (error.now ≢ Error.Memory → ShowsRefusal (IsRefused op line) error.now) → PutsAnswer op line output.old.items output.new.items refused) }
     ensures err { IfErr result IsMemory }
 {
     if matches!(error, Error::Memory) {

@@ -6,7 +6,7 @@ ghost use Rattle.gix_refspec.specs.Name.{HasSeveralStars};
 ghost use Rattle.gix_refspec.specs.Reading.{Mode as ModeOf, Normal, Negative};
 ghost use Rattle.gix_refspec.specs.Grammar.{IsSigned, IsPositive, LooksLikeObjectHash, Reads, with_colon, LastLacksColon, named_by};
 ghost use Rattle.gix_refspec.specs.Refusal.{IsBadPattern, IsRefused, MayWantMemory, WantsMemory};
-ghost use Rattle.gix_refspec.specs.Views.{mode_of, MemoryOr};
+ghost use Rattle.gix_refspec.specs.Views.{mode_of, MemoryOr, ShowsRefusal};
 ghost use Rattle.gix_refspec.specs.Spec.{reading_of};
 ghost use Rattle.gix_refspec.specs.Sides.{IsSide, IsCheckedSide, IsBadSide, IsReason, PartsRead, read_as, named_or_head as named_or_head_of, side_of as side_bytes};
 
@@ -48,8 +48,9 @@ pub fn parse<'a>(
 ) -> Result<RefSpecRef<'a>, Error>
     ensures ok { IfOk result (λ s. Reads operation (bstr_bytes spec.entry) (reading_of s)) }
 
-    // The first reason that applies, or want of memory where a side may want it.
-    ensures refused { IfErr result (MemoryOr (MayWantMemory operation (bstr_bytes spec.entry)) (IsRefused operation (bstr_bytes spec.entry))) }
+    // The first reason that applies; or want of memory, only where a side may want it.
+    ensures refused { IfErr result (λ e. e ≢ Error.Memory → ShowsRefusal (IsRefused operation (bstr_bytes spec.entry)) e) }
+    ensures memory { IfErr result (λ e. e ≡ Error.Memory → MayWantMemory operation (bstr_bytes spec.entry)) }
 {
     let (mode, rest) = take_sign(spec.as_bytes());
     let (source, destination) = cut_at_last_colon(rest);

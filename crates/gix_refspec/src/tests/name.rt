@@ -1,22 +1,13 @@
-ghost use Rattle.std.specs.Bool.{OnTrue};
-ghost use Rattle.gix_refspec.specs.Name.{HasOneStar};
-
-use crate::name::{Error, PatternError, name_partial, pattern_partial};
+use crate::name::{Error, PatternError, has_one_star, name_partial, pattern_partial};
 use bstr::BStr;
 use std::alloc::{AllocError, Global};
 use std::test::Fail;
 
-// Whether exactly one star stands in a text.
-fn has_one_star(text: &[u8]) -> bool
-    ensures { OnTrue result (HasOneStar text.now) }
-{
-    text.iter().filter(|byte| **byte == b'*').count() == 1
-}
-
 // What a text is as a pattern. One without a star, or with more of them, has the fault of the star.
 fn checked_pattern(alloc: Global, text: &[u8]) -> Result<(), PatternError> {
+    let text = BStr::new(text);
     if has_one_star(text) {
-        pattern_partial(alloc, BStr::new(text))
+        pattern_partial(alloc, text)
     } else {
         Err(PatternError::Name(Error::Asterisk))
     }

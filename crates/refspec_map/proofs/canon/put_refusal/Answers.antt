@@ -1,17 +1,15 @@
 -- An error that isn't want of memory is a refusal, whose name was put.
 use Rattle.std.proofs.Common.{◌≡◌, ◌++◌, ◌∷◌, [], List, ℕ, ap, sym, ◌∙◌, refl}
 use Rattle.std.proofs.lemmas.Bool.{false≢true}
-use Rattle.gix_refspec.specs.Refusal.{IsRefused, MayWantMemory}
 use Rattle.gix_refspec.specs.declared.parsing.Error.TheVariants as error
 use Rattle.refspec_map.specs.Output.{refused}
-use Rattle.refspec_map.proofs.OutputLemmas.{refusal_from_error}
 use Rattle.refspec_map.proofs.canon.put_refusal.Goals as goal
 use Rattle.refspec_map.proofs.canon.put_refusal.Goals.{in-Memory, in_default}
 
 pub returns-in-Ok-clause-ok : goal.returns-in-Ok-clause-ok
 returns-in-Ok-clause-ok c = λ op line told.
     let other : (c.args.error.now ≡ error.Memory → ⊥) = elim c.match-matches.branch [ in-Memory w ↦ λ same. false≢true (sym c.if-matches.false ∙ w.matches-is) | in_default w ↦ w.in_default.not-Memory ] in
-    let refusal = refusal_from_error (MayWantMemory op line) (IsRefused op line) c.args.error.now other told in
+    let refusal = told other in
     record {
       answer = refused refusal.0;
       is = refusal.2;

@@ -1,0 +1,7 @@
+-- The digits of the table are in lower case, and tell their values.
+use Rattle.std.proofs.Common.{rules}
+use Rattle.gix_refspec.proofs.ObjectIdLemmas.{one_lower_text}
+use Rattle.gix_refspec.proofs.laws.one_lower_text.Goals as goal
+
+pub returns : goal.returns
+returns c = one_lower_text c.args.id.kind c.args.id.buffer (search rules) (search rules)

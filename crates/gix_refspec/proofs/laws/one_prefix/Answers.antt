@@ -1,0 +1,6 @@
+-- By the cases of a prefix, and of what a side is expanded to.
+use Rattle.gix_refspec.proofs.OnePrefixLemmas.{one_prefix}
+use Rattle.gix_refspec.proofs.laws.one_prefix.Goals as goal
+
+pub returns : goal.returns
+returns c = one_prefix c.args.side.now

@@ -1,0 +1,6 @@
+-- The parts of a text are its only ones, and the first reason against them is one.
+use Rattle.gix_refspec.proofs.RefusalLemmas.{one_refusal}
+use Rattle.gix_refspec.proofs.laws.one_refusal.Goals as goal
+
+pub returns : goal.returns
+returns c = one_refusal c.args.operation c.args.text.now

@@ -1,0 +1,7 @@
+-- By the forms of what a reading says.
+use Rattle.gix_refspec.specs.Spec.{reading_of}
+use Rattle.gix_refspec.proofs.SpecLemmas.{says_for_operation}
+use Rattle.gix_refspec.proofs.laws.says_for_operation.Goals as goal
+
+pub returns : goal.returns
+returns c = says_for_operation (reading_of c.args.spec.now)
