@@ -7,6 +7,7 @@ pub mod Grammar
 pub mod Refusal
 pub mod Meaning
 pub mod Views
+pub mod ParseError
 pub mod Order
 pub mod OrderLaws
 pub mod Match
