@@ -48,7 +48,3 @@ parts_once m n s t d e text a b =
     let signed = signed_once m n text (with_colon s d) (with_colon t e) a.signed b.signed in
     let cut = cut_once s t d e a.last b.last signed.1 in
     record { mode = signed.0; source = cut.0; destination = cut.1 }
-
--- a text that was cut behind its sign has the parts that it was cut into
-pub parts_from_cut : (m : Mode) (s : List ℕ) (d : Option (List ℕ)) (text bytes rest : List ℕ) → bytes ≡ text → IsSigned m bytes rest → rest ≡ with_colon s d → LastLacksColon s d → AreParts m s d text
-parts_from_cut m s d text bytes rest same signed whole last = record { signed = subst (λ (x : List ℕ). IsSigned m x (with_colon s d)) same (subst (IsSigned m bytes) whole signed); last = last }

@@ -1,22 +1,34 @@
 -- Parts whose sides are fine read as what the sides make, and what reads has such parts.
-use Rattle.std.proofs.Common.{◌≡◌, ◌≢◌, ◌⊎◌, inl, inr, ℕ, ◌==◌, true, false, if◌then◌else◌, List, [], ◌∷◌, Option, None, Some, unwrap_or, refl, sym, ap, subst}
+use Rattle.std.proofs.Common.{◌≡◌, ◌≢◌, ◌⊎◌, inl, inr, ℕ, ◌==◌, true, false, if◌then◌else◌, List, [], ◌∷◌, Option, None, Some, option_map, unwrap_or, refl, sym, ap, subst}
 use Rattle.gix_refspec.specs.declared.name.Error.TheVariants.{Empty}
+use Rattle.gix_refspec.specs.declared.parsing.Error.{Error}
 use Rattle.gix_refspec.specs.declared.parsing.Operation.{Operation}
 use Rattle.gix_refspec.specs.declared.parsing.Operation.TheVariants.{Push, Fetch}
 use Rattle.gix_refspec.specs.declared.parsing.function.Side.{Side}
 use Rattle.gix_refspec.specs.declared.parsing.function.Side.TheVariants.{Plain, Pattern}
+use Rattle.gix_refspec.specs.declared.parsing.function.Parts.{Parts}
+use Rattle.gix_refspec.specs.declared.parsing.function.Sides.{Sides}
+use Rattle.bstr.specs.BStr.{bstr_bytes}
 use Rattle.gix_refspec.specs.Name.{IsName, IsPattern}
 use Rattle.gix_refspec.specs.Reading.{Mode, Normal, Forced, Negative, Reading, Refusal}
 use Rattle.gix_refspec.specs.Grammar.{head, named_by, IsPositive, IsNameOrPattern, LooksLikeObjectHash, AreAlike, AreParts, fetched, pushed, Reads, fetches_nothing_named, fetches_colon, fetches, updates, updates_from_head, fetch_excludes, pushes_plus, pushes_colon, pushes, deletes, pushes_pattern, pushes_to, push_excludes}
-use Rattle.gix_refspec.specs.Refusal.{Never, IsFirstReason, IsRefused}
-use Rattle.gix_refspec.specs.Sides.{IsSide, IsCheckedSide, side_of, named_or_head}
+use Rattle.gix_refspec.specs.Refusal.{Never, IsFirstReason, IsRefused, ReachesMemory, MayWantMemory}
+use Rattle.gix_refspec.specs.Views.{mode_of}
+use Rattle.gix_refspec.specs.Sides.{IsErrorOf, IsSide, IsCheckedSide, side_of, named_or_head, destination_of, HasParts, read_as, IsReasonAgainst}
 use Rattle.gix_refspec.proofs.SideLemmas.{Never-or, checked_starred, empty_no_pattern}
 use Rattle.gix_refspec.proofs.PartsLemmas.{parts_once}
-use Rattle.gix_refspec.proofs.ReasonLemmas.{positive, no_empty_fetch, no_negative, no_fetch_nowhere, fetch_source_fine, push_source_fine, alone_fine, destination_fine, sides_balanced}
+use Rattle.gix_refspec.proofs.ReasonLemmas.{MemoryOr-map, positive, no_empty_fetch, no_negative, no_fetch_nowhere, fetch_source_fine, push_source_fine, alone_fine, destination_fine, sides_balanced}
 
 -- readings with equal sides are equal
 pub same_reading : (op : Operation) (m : Mode) (s t d e : Option (List ℕ)) → s ≡ t → d ≡ e → ◌≡◌ {A = Reading} (record { operation = op; mode = m; source = s; destination = d }) (record { operation = op; mode = m; source = t; destination = e })
 same_reading op m s t d e same_source same_destination = cc
+
+-- what reads with the operation, the mode and the sides of a reading reads as it
+pub read_with : (p : Parts) (sides : Sides) (text : List ℕ) (op : Operation) (m : Mode) (s d : Option (List ℕ)) → p.operation ≡ op → mode_of p.mode ≡ m → option_map bstr_bytes sides.source ≡ s → option_map bstr_bytes sides.destination ≡ d → Reads op text (record { operation = op; mode = m; source = s; destination = d }) → Reads p.operation text (read_as p sides)
+read_with p sides text op m s d same_op same_mode same_source same_destination reads =
+    let made : Reading = record { operation = op; mode = m; source = s; destination = d } in
+    let same : read_as p sides ≡ made = cc in
+    subst (λ o. Reads o text (read_as p sides)) (sym same_op) (subst (Reads op text) (sym same) reads)
 
 -- a source that isn't empty names a text that isn't
 pub side_of-named : (b : ℕ) (bs : List ℕ) → side_of (named_by (b ∷ bs)) ≡ Some (named_by (b ∷ bs))
@@ -202,3 +214,14 @@ unread op m s d text e r parts first reads =
 -- a reason against a text's parts refuses it
 pub refused : (op : Operation) (m : Mode) (s : List ℕ) (d : Option (List ℕ)) (text : List ℕ) (e : Refusal) → AreParts m s d text → IsFirstReason op m s d e → IsRefused op text e
 refused op m s d text e parts first = record { unread = λ r. unread op m s d text e r parts first; mode = m; source = s; destination = d; parts = parts; first = first }
+
+-- an error of the parts of a text is one of the text
+pub error_of_text : (p : Parts) (text : List ℕ) (e : Error) → HasParts text p → IsReasonAgainst p e → IsErrorOf p.operation text e
+error_of_text p text e parts =
+    let op = p.operation in
+    let m = mode_of p.mode in
+    let s = p.source.now in
+    let d = destination_of p in
+    MemoryOr-map (ReachesMemory op m s d) (MayWantMemory op text) (IsFirstReason op m s d) (IsRefused op text) e
+    (λ reaches. record { mode = m; source = s; destination = d; parts = parts; reaches = reaches })
+    (λ f first. refused op m s d text f parts first)

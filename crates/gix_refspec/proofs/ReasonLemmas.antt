@@ -168,6 +168,14 @@ pub bad_negative : (op : Operation) (s : List ℕ) (e : Refusal) → IsBadSide s
 bad_negative Push s e bad = record { source = bad.0; refusal = bad.1 }
 bad_negative Fetch s e bad = record { source = bad.0; refusal = bad.1 }
 
+-- the reason against a fetch of sides of two kinds
+pub unbalanced_fetch : (m : Mode) (s : List ℕ) (d : Option (List ℕ)) (j k : Side) → IsPositive m → IsCheckedSide s j → IsCheckedSide (unwrap_or d []) k → j ≢ k → IsFirstReason Fetch m s d PatternUnbalanced
+unbalanced_fetch m s d j k pos source target differ =
+    let t = unwrap_or d [] in
+    let one = sides_unbalanced s t j k (checked_starred s j source) (checked_starred t k target) differ in
+    reason_of_balance Fetch m s d PatternUnbalanced (fetch_reaches m s d pos) (fetch_source_fine s d j source) (destination_fine d k target)
+    (record { positive = pos; one = one; has_destination = λ push. absurd (cc); refusal = refl })
+
 -- the reason against a push of sides of two kinds
 pub unbalanced_push : (m : Mode) (s t : List ℕ) (j k : Side) → IsPositive m → (s ≢ [] → t ≡ [] → ⊥) → IsSide s j → IsCheckedSide t k → j ≢ k → IsFirstReason Push m s (Some t) PatternUnbalanced
 unbalanced_push m s t j k pos somewhere source target differ =

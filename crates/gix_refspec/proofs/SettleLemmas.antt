@@ -13,10 +13,9 @@ use Rattle.gix_refspec.specs.Name.{star, letter, ReplacesStar}
 use Rattle.gix_refspec.specs.Reading.{Mode, Normal, Forced, Negative, Reading, Refusal, Empty, NegativeWithDestination, PushToEmpty, PatternUnsupported, ReferenceName, PatternUnbalanced, NegativeEmpty, NegativeObjectHash}
 use Rattle.gix_refspec.specs.Grammar.{plus, caret, colon, named_by, IsSigned, IsPositive, AreParts, LooksLikeObjectHash, Reads, fetched, pushed}
 use Rattle.gix_refspec.specs.Refusal.{IsBadPattern, IsFirstReason, IsRefused}
-use Rattle.gix_refspec.specs.Sides.{IsSide, IsCheckedSide, IsBadSide, PartsRead, side_of, named_or_head}
+use Rattle.gix_refspec.specs.Sides.{IsSide, IsCheckedSide, IsBadSide, side_of, named_or_head}
 use Rattle.gix_refspec.proofs.DecideLemmas.{Decided, FirstPlace, tested, decided_byte, name_or_fault, lacks_or_first, lacks_or_last}
-use Rattle.gix_refspec.proofs.SideLemmas.{checked_starred}
-use Rattle.gix_refspec.proofs.ReasonLemmas.{fetch_reaches, push_reaches, push_alone_reaches, negative_reaches, reason_at_source, reason_at_destination, reason_of_balance, reason_against_object, reason_against_nothing, fetch_source_fine, push_source_fine, destination_fine, bad_destination, bad_source_of_push, sides_unbalanced, unbalanced_push, bad_negative, no_negative}
+use Rattle.gix_refspec.proofs.ReasonLemmas.{fetch_reaches, push_reaches, push_alone_reaches, negative_reaches, reason_at_source, reason_at_destination, reason_against_object, reason_against_nothing, fetch_source_fine, push_source_fine, bad_destination, bad_source_of_push, unbalanced_fetch, unbalanced_push, bad_negative, no_negative}
 use Rattle.gix_refspec.proofs.ReadsLemmas.{fetch_reads, push_alone_reads, push_reads, negative_reads, refused}
 
 -- a text without a star or a pattern, or a bad pattern
@@ -88,6 +87,10 @@ decided_hash x = elim (tested (nat_le 40 (length x))) [
   ]
 ]
 
+-- each text with these parts reads as r
+abbrev pub PartsRead : Operation → Mode → List ℕ → Option (List ℕ) → Reading → Type 0
+PartsRead op m s d r = (text : List ℕ) → AreParts m s d text → Reads op text r
+
 -- parts read, or there is a first reason against them
 abbrev pub Settled : Operation → Mode → List ℕ → Option (List ℕ) → Type 0
 Settled op m s d = ((r : Reading) × PartsRead op m s d r) ⊎ ((e : Refusal) × IsFirstReason op m s d e)
@@ -102,16 +105,7 @@ settled_fetch m s d pos = elim (checked s) [
         fetched m (named_or_head s) (side_of (unwrap_or d [])),
         λ text parts. fetch_reads m s d source.0 text pos source.1 (subst (λ (k : Side). IsCheckedSide (unwrap_or d []) k) (sym same) target.1) parts,
       )
-      | inr differ ↦ inr (
-        PatternUnbalanced,
-        reason_of_balance Fetch m s d PatternUnbalanced (fetch_reaches m s d pos) (fetch_source_fine s d source.0 source.1) (destination_fine d target.0 target.1)
-            (record {
-              positive = pos;
-              one = sides_unbalanced s (unwrap_or d []) source.0 target.0 (checked_starred s source.0 source.1) (checked_starred (unwrap_or d []) target.0 target.1) differ;
-              has_destination = λ push. absurd (cc);
-              refusal = refl;
-            }),
-      )
+      | inr differ ↦ inr (PatternUnbalanced, unbalanced_fetch m s d source.0 target.0 pos source.1 target.1 differ)
     ]
   ]
 ]
@@ -192,14 +186,14 @@ signs (b ∷ x) = elim (decided_byte b plus) [
 ]
 
 -- each text has parts
-pub record HasParts (text : List ℕ) : Type 0 where
+pub record Parted (text : List ℕ) : Type 0 where
   pub mode : Mode
   pub source : List ℕ
   pub destination : Option (List ℕ)
   pub parts : AreParts mode source destination text
 
-pub has_parts : (text : List ℕ) → HasParts text
-has_parts text =
+pub parted : (text : List ℕ) → Parted text
+parted text =
     let s = signs text in
     elim (lacks_or_last colon s.rest) [
       | inl lacks ↦ record { mode = s.mode; source = s.rest; destination = None; parts = record { signed = s.signed; last = lacks } }
@@ -209,7 +203,7 @@ has_parts text =
 -- each text reads, or is refused
 pub read_or_refused : (op : Operation) (text : List ℕ) → ((r : Reading) × Reads op text r) ⊎ ((e : Refusal) × IsRefused op text e)
 read_or_refused op text =
-    let p = has_parts text in
+    let p = parted text in
     elim (settled op p.mode p.source p.destination) [
       | inl reading ↦ inl (reading.0, reading.1 text p.parts)
       | inr reason ↦ inr (reason.0, refused op p.mode p.source p.destination text reason.0 p.parts reason.1)

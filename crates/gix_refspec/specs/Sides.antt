@@ -1,7 +1,8 @@
--- How the sides of a spec are looked at, one by one. Only private functions cite this.
-use Rattle.std.specs.Prelude.{◌≢◌, ◌⊎◌, ℕ, List, [], ◌∷◌, Option, None, Some, option_map}
+-- How the parts of a text are looked at, and which sides they make. Only private functions cite this.
+use Rattle.std.specs.Prelude.{◌≡◌, ◌≢◌, ◌⊎◌, ℕ, List, [], ◌∷◌, Option, None, Some, option_map}
 use Rattle.gix_refspec.specs.declared.parsing.function.Side.{Side}
 use Rattle.gix_refspec.specs.declared.parsing.function.Side.TheVariants as side
+use Rattle.gix_refspec.specs.declared.parsing.function.Parts.{Parts}
 use Rattle.gix_refspec.specs.declared.parsing.function.Sides.{Sides}
 use Rattle.gix_refspec.specs.declared.parsing.Operation.{Operation}
 use Rattle.gix_refspec.specs.declared.parsing.Error.{Error}
@@ -9,9 +10,9 @@ use Rattle.bstr.specs.BStr.{bstr_bytes}
 use Rattle.gix_refspec.specs.Text.{Lacks}
 use Rattle.gix_refspec.specs.Name.{IsName, IsPattern, star}
 use Rattle.gix_refspec.specs.Reading.{Mode, Reading, Refusal}
-use Rattle.gix_refspec.specs.Grammar.{head, named_by, AreParts, Reads}
-use Rattle.gix_refspec.specs.Refusal.{IsBadName, IsBadPattern, IsFirstReason, ReachesMemory}
-use Rattle.gix_refspec.specs.Views.{MemoryOr}
+use Rattle.gix_refspec.specs.Grammar.{head, named_by, AreParts, IsPositive, Reads}
+use Rattle.gix_refspec.specs.Refusal.{IsBadName, IsBadPattern, IsFirstReason, IsRefused, ReachesMemory, MayWantMemory}
+use Rattle.gix_refspec.specs.Views.{mode_of, MemoryOr}
 
 -- x has no star, or is a pattern
 abbrev pub IsSide : List ℕ → Side → Type 0
@@ -38,14 +39,35 @@ abbrev pub named_or_head : List ℕ → List ℕ
 named_or_head [] = head
 named_or_head (b ∷ bs) = named_by (b ∷ bs)
 
--- what the sides make for the operation and the mode
-abbrev pub read_as : Operation → Mode → Sides → Reading
-read_as op mode sides = record { operation = op; mode = mode; source = option_map bstr_bytes sides.source; destination = option_map bstr_bytes sides.destination }
+-- the destination of parts, if there is one
+abbrev pub destination_of : Parts → Option (List ℕ)
+destination_of p = option_map (λ d. d.now) p.destination
 
--- each text with these parts reads as r
-abbrev pub PartsRead : Operation → Mode → List ℕ → Option (List ℕ) → Reading → Type 0
-PartsRead op mode s d r = (text : List ℕ) → AreParts mode s d text → Reads op text r
+-- the text has these parts
+abbrev pub HasParts : List ℕ → Parts → Type 0
+HasParts text p = AreParts (mode_of p.mode) p.source.now (destination_of p) text
 
--- why parts are refused, or that reading them came to want of memory
+-- the parts of a positive spec for the operation
+pub record ArePositive (op : Operation) (p : Parts) : Type 0 where
+  pub operation : p.operation ≡ op
+  pub positive : IsPositive (mode_of p.mode)
+
+-- what the sides make, for the operation and the mode of the parts
+abbrev pub read_as : Parts → Sides → Reading
+read_as p sides = record { operation = p.operation; mode = mode_of p.mode; source = option_map bstr_bytes sides.source; destination = option_map bstr_bytes sides.destination }
+
+-- each text with these parts reads as the sides make
+abbrev pub AreSidesOf : Parts → Sides → Type 0
+AreSidesOf p sides = (text : List ℕ) → HasParts text p → Reads p.operation text (read_as p sides)
+
+-- the first reason against parts, or out of memory where a side of them may need it
 abbrev pub IsReason : Operation → Mode → List ℕ → Option (List ℕ) → Error → Type 0
 IsReason op mode s d = MemoryOr (ReachesMemory op mode s d) (IsFirstReason op mode s d)
+
+-- the same, of these parts
+abbrev pub IsReasonAgainst : Parts → Error → Type 0
+IsReasonAgainst p = IsReason p.operation (mode_of p.mode) p.source.now (destination_of p)
+
+-- out of memory where a side may need it, or else the first reason against the text
+abbrev pub IsErrorOf : Operation → List ℕ → Error → Type 0
+IsErrorOf op text = MemoryOr (MayWantMemory op text) (IsRefused op text)

@@ -1,14 +1,31 @@
 //! The reading of a refspec.
 
-ghost use Rattle.std.specs.Prelude.{◌≡◌, ◌≢◌, ◌↔◌, [], option_map, IfOk, IfErr, IsTrue};
+ghost use Rattle.std.specs.Prelude.{◌≡◌, ◌≢◌, ◌↔◌, option_map, IfOk, IfErr, IsTrue};
 ghost use Rattle.bstr.specs.BStr.{bstr_bytes};
 ghost use Rattle.gix_refspec.specs.Name.{HasSeveralStars};
-ghost use Rattle.gix_refspec.specs.Reading.{Mode as ModeOf, Normal, Negative};
-ghost use Rattle.gix_refspec.specs.Grammar.{IsSigned, IsPositive, LooksLikeObjectHash, Reads, with_colon, LastLacksColon, named_by};
+ghost use Rattle.gix_refspec.specs.Grammar.{
+  IsSigned,
+  LooksLikeObjectHash,
+  Reads,
+  with_colon,
+  LastLacksColon,
+  named_by,
+};
 ghost use Rattle.gix_refspec.specs.Refusal.{IsBadPattern, IsRefused, MayWantMemory, WantsMemory};
 ghost use Rattle.gix_refspec.specs.Views.{mode_of, MemoryOr, ShowsRefusal};
 ghost use Rattle.gix_refspec.specs.Spec.{reading_of};
-ghost use Rattle.gix_refspec.specs.Sides.{IsSide, IsCheckedSide, IsBadSide, IsReason, PartsRead, read_as, named_or_head as named_or_head_of, side_of as side_bytes};
+ghost use Rattle.gix_refspec.specs.Sides.{
+  IsSide,
+  IsCheckedSide,
+  IsBadSide,
+  HasParts,
+  destination_of,
+  ArePositive,
+  AreSidesOf,
+  IsReasonAgainst,
+  named_or_head as named_or_head_of,
+  side_of as side_bytes,
+};
 
 use crate::cut::split_at_last;
 use crate::name::{PatternError, name_partial, pattern_partial};
@@ -22,25 +39,35 @@ use std::alloc::Global;
 
 // Whether a side has a star.
 #[derive(Clone, Copy, PartialEq, Eq)]
-pub(crate) enum Side {
+enum Side {
     Plain,
     Pattern,
 }
 
-// The sides of a spec.
+// The parts of a text, and the operation that it is read for. Without a colon there is no
+// destination.
 #[derive(Clone, Copy)]
-pub(crate) struct Sides<'a> {
-    pub(crate) source: Option<BStr<'a>>,
-    pub(crate) destination: Option<BStr<'a>>,
+struct Parts<'a> {
+    operation: Operation,
+    mode: Mode,
+    source: &'a [u8],
+    destination: Option<&'a [u8]>,
+}
+
+// The sides that a spec gets.
+#[derive(Clone, Copy)]
+struct Sides<'a> {
+    source: Option<BStr<'a>>,
+    destination: Option<BStr<'a>>,
 }
 
 /// Reads a refspec for an operation, by git-fetch(1) and git-push(1) under `<refspec>`. The sides
-/// borrow the text for its life, or are the constant `HEAD`.
+/// borrow from the text for its life, or are the constant `HEAD`. The time is linear in the text.
 ///
-/// A text that is none is refused by the first reason in the order of [`Error`]; in `ReferenceName`
-/// stands some fault of the side, its one star read as a letter. The time is linear in the text.
-/// Memory is asked for, and `Memory` answered, only where a side has several stars, which is reported
-/// whole, or one star and more than 256 bytes, and no earlier reason applies.
+/// Any other text is refused with the first reason that applies, in the order listed at [`Error`].
+/// `ReferenceName` holds one fault of the side, its one star read as a letter. Memory is needed
+/// only for a side with several stars, which is reported whole, or with one star and more than 256
+/// bytes, and only if no earlier reason applies. `Memory` says that it ran out.
 pub fn parse<'a>(
     alloc: Global,
     spec: BStr<'a>,
@@ -48,19 +75,37 @@ pub fn parse<'a>(
 ) -> Result<RefSpecRef<'a>, Error>
     ensures ok { IfOk result (λ s. Reads operation (bstr_bytes spec.entry) (reading_of s)) }
 
-    // The first reason that applies; or want of memory, only where a side may want it.
-    ensures refused { IfErr result (λ e. e ≢ Error.Memory → ShowsRefusal (IsRefused operation (bstr_bytes spec.entry)) e) }
-    ensures memory { IfErr result (λ e. e ≡ Error.Memory → MayWantMemory operation (bstr_bytes spec.entry)) }
+    // The first reason that applies; or out of memory, only where a side may need it.
+    ensures refused { IfErr result (λ e. e ≢ Error.Memory →
+        ShowsRefusal (IsRefused operation (bstr_bytes spec.entry)) e) }
+    ensures memory { IfErr result (λ e. e ≡ Error.Memory →
+        MayWantMemory operation (bstr_bytes spec.entry)) }
 {
-    let (mode, rest) = take_sign(spec.as_bytes());
-    let (source, destination) = cut_at_last_colon(rest);
-    let sides = sides_for(alloc, operation, mode, source, destination)?;
+    let parts = Parts::new(operation, spec.as_bytes());
+    let sides = sides_of(alloc, parts)?;
     Ok(RefSpecRef {
         op: operation,
-        mode,
+        mode: parts.mode,
         src: sides.source,
         dst: sides.destination,
     })
+}
+
+impl<'a> Parts<'a> {
+    // The text is cut after its sign and at its last colon.
+    fn new(operation: Operation, text: &'a [u8]) -> Parts<'a>
+        ensures operation { result.operation ≡ operation }
+        ensures parts { HasParts text.now result }
+    {
+        let (mode, rest) = take_sign(text);
+        let (source, destination) = cut_at_last_colon(rest);
+        Parts {
+            operation,
+            mode,
+            source,
+            destination,
+        }
+    }
 }
 
 // The mode that the sign says, and what follows the sign.
@@ -150,14 +195,14 @@ fn named(source: &[u8]) -> &[u8]
 }
 
 impl<'a> Sides<'a> {
-    // An empty word is a missing side.
-    fn new(source: &'a [u8], destination: &'a [u8]) -> Sides<'a>
+    // The sides that two words make.
+    fn new(source: &'a [u8], target: &'a [u8]) -> Sides<'a>
         ensures source { option_map bstr_bytes result.source ≡ side_bytes source.now }
-        ensures destination { option_map bstr_bytes result.destination ≡ side_bytes destination.now }
+        ensures destination { option_map bstr_bytes result.destination ≡ side_bytes target.now }
     {
         Sides {
             source: side_of(source),
-            destination: side_of(destination),
+            destination: side_of(target),
         }
     }
 }
@@ -172,121 +217,80 @@ fn side_of(word: &[u8]) -> Option<BStr<'_>>
     }
 }
 
-// The sides of a spec.
-fn sides_for<'a>(
-    alloc: Global,
-    operation: Operation,
-    mode: Mode,
-    source: &'a [u8],
-    destination: Option<&'a [u8]>,
-) -> Result<Sides<'a>, Error>
-    ensures ok { IfOk result (λ sides. PartsRead operation (mode_of mode) source.now (option_map (λ d. d.now) destination.entry) (read_as operation (mode_of mode) sides)) }
-    ensures err { IfErr result (IsReason operation (mode_of mode) source.now (option_map (λ d. d.now) destination.entry)) }
+// The sides that the parts make, or the first reason against them.
+fn sides_of<'a>(alloc: Global, parts: Parts<'a>) -> Result<Sides<'a>, Error>
+    ensures ok { IfOk result (AreSidesOf parts.entry) }
+    ensures err { IfErr result (IsReasonAgainst parts.entry) }
 {
-    match mode {
-        Mode::Negative => negative_sides(alloc, operation, source, destination),
-        _ => positive_sides(alloc, operation, mode, source, destination),
+    match (parts.mode, parts.operation, parts.destination) {
+        (Mode::Negative, _, _) => negative_sides(alloc, parts),
+        (_, Operation::Fetch, _) => fetch_sides(alloc, parts),
+        (_, Operation::Push, None) => push_alone_sides(alloc, parts),
+        (_, Operation::Push, Some(target)) => push_sides(alloc, parts, target),
     }
 }
 
 // The sides of a negative spec.
-fn negative_sides<'a>(
-    alloc: Global,
-    operation: Operation,
-    source: &'a [u8],
-    destination: Option<&'a [u8]>,
-) -> Result<Sides<'a>, Error>
-    ensures ok { IfOk result (λ sides. PartsRead operation Negative source.now (option_map (λ d. d.now) destination.entry) (read_as operation Negative sides)) }
-    ensures err { IfErr result (IsReason operation Negative source.now (option_map (λ d. d.now) destination.entry)) }
+fn negative_sides<'a>(alloc: Global, parts: Parts<'a>) -> Result<Sides<'a>, Error>
+    requires { parts.mode ≡ Mode.Negative }
+    ensures ok { IfOk result (AreSidesOf parts.entry) }
+    ensures err { IfErr result (IsReasonAgainst parts.entry) }
 {
-    if destination.is_some() {
+    if parts.destination.is_some() {
         return Err(Error::NegativeWithDestination);
     }
-    let _ = checked(alloc, source)?;
-    if source.is_empty() {
+    let _ = checked(alloc, parts.source)?;
+    if parts.source.is_empty() {
         return Err(Error::NegativeEmpty);
     }
-    if looks_like_object_hash(source) {
+    if looks_like_object_hash(parts.source) {
         return Err(Error::NegativeObjectHash);
     }
-    Ok(Sides::new(named(source), b""))
-}
-
-// The sides of a positive spec.
-fn positive_sides<'a>(
-    alloc: Global,
-    operation: Operation,
-    mode: Mode,
-    source: &'a [u8],
-    destination: Option<&'a [u8]>,
-) -> Result<Sides<'a>, Error>
-    requires { IsPositive (mode_of mode) }
-    ensures ok { IfOk result (λ sides. PartsRead operation (mode_of mode) source.now (option_map (λ d. d.now) destination.entry) (read_as operation (mode_of mode) sides)) }
-    ensures err { IfErr result (IsReason operation (mode_of mode) source.now (option_map (λ d. d.now) destination.entry)) }
-{
-    match (operation, destination) {
-        (Operation::Fetch, _) => fetch_sides(alloc, source, destination),
-        (Operation::Push, None) => push_alone_sides(alloc, mode, source),
-        (Operation::Push, Some(target)) => push_sides(alloc, source, target),
-    }
+    Ok(Sides::new(named(parts.source), b""))
 }
 
 // The sides of a positive fetch. With no source it is one of `HEAD`.
-fn fetch_sides<'a>(
-    alloc: Global,
-    source: &'a [u8],
-    destination: Option<&'a [u8]>,
-) -> Result<Sides<'a>, Error>
-    ensures ok { IfOk result (λ sides. (mode : ModeOf) → IsPositive mode → PartsRead Operation.Fetch mode source.now (option_map (λ d. d.now) destination.entry) (read_as Operation.Fetch mode sides)) }
-    ensures err { IfErr result (λ e. (mode : ModeOf) → IsPositive mode → IsReason Operation.Fetch mode source.now (option_map (λ d. d.now) destination.entry) e) }
+fn fetch_sides<'a>(alloc: Global, parts: Parts<'a>) -> Result<Sides<'a>, Error>
+    requires { ArePositive Operation.Fetch parts }
+    ensures ok { IfOk result (AreSidesOf parts.entry) }
+    ensures err { IfErr result (IsReasonAgainst parts.entry) }
 {
-    let target = destination.unwrap_or(b"");
-    if checked(alloc, source)? != checked(alloc, target)? {
+    let target = parts.destination.unwrap_or(b"");
+    if checked(alloc, parts.source)? != checked(alloc, target)? {
         return Err(Error::PatternUnbalanced);
     }
-    Ok(Sides::new(named_or_head(source), target))
+    Ok(Sides::new(named_or_head(parts.source), target))
 }
 
 // The sides of a positive push of a source alone, which is its own destination.
-fn push_alone_sides<'a>(alloc: Global, mode: Mode, source: &'a [u8]) -> Result<Sides<'a>, Error>
-    requires { IsPositive (mode_of mode) }
-    ensures ok { IfOk result (λ sides. PartsRead Operation.Push (mode_of mode) source.now None (read_as Operation.Push (mode_of mode) sides)) }
-    ensures err { IfErr result (IsReason Operation.Push (mode_of mode) source.now None) }
+fn push_alone_sides<'a>(alloc: Global, parts: Parts<'a>) -> Result<Sides<'a>, Error>
+    requires positive { ArePositive Operation.Push parts }
+    requires alone { destination_of parts ≡ None }
+    ensures ok { IfOk result (AreSidesOf parts.entry) }
+    ensures err { IfErr result (IsReasonAgainst parts.entry) }
 {
-    if is_empty_text(mode, source) {
+    if parts.mode == Mode::Normal && parts.source.is_empty() {
         return Err(Error::Empty);
     }
-    let _ = checked(alloc, source)?;
-    Ok(Sides::new(named(source), b""))
+    let _ = checked(alloc, parts.source)?;
+    Ok(Sides::new(named(parts.source), b""))
 }
 
 // The sides of a positive push to a destination. The source may be any expression that names an
 // object.
-fn push_sides<'a>(alloc: Global, source: &'a [u8], target: &'a [u8]) -> Result<Sides<'a>, Error>
-    ensures ok { IfOk result (λ sides. (mode : ModeOf) → IsPositive mode → PartsRead Operation.Push mode source.now (Some target.now) (read_as Operation.Push mode sides)) }
-    ensures err { IfErr result (λ e. (mode : ModeOf) → IsPositive mode → IsReason Operation.Push mode source.now (Some target.now) e) }
+fn push_sides<'a>(alloc: Global, parts: Parts<'a>, target: &'a [u8]) -> Result<Sides<'a>, Error>
+    requires positive { ArePositive Operation.Push parts }
+    requires target { destination_of parts ≡ Some target.now }
+    ensures ok { IfOk result (AreSidesOf parts.entry) }
+    ensures err { IfErr result (IsReasonAgainst parts.entry) }
 {
-    if pushes_nowhere(source, target) {
+    if target.is_empty() && !parts.source.is_empty() {
         return Err(Error::PushToEmpty);
     }
-    if starred(alloc, source)? != checked(alloc, target)? {
+    if starred(alloc, parts.source)? != checked(alloc, target)? {
         return Err(Error::PatternUnbalanced);
     }
-    Ok(Sides::new(named(source), target))
-}
-
-// Whether a text without a colon is empty.
-fn is_empty_text(mode: Mode, source: &[u8]) -> bool
-    ensures { IsTrue result ↔ ((source.now ≡ []) × (mode_of mode ≡ Normal)) }
-{
-    mode == Mode::Normal && source.is_empty()
-}
-
-// Whether something is pushed to an empty destination.
-fn pushes_nowhere(source: &[u8], target: &[u8]) -> bool
-    ensures { IsTrue result ↔ ((source.now ≢ []) × (target.now ≡ [])) }
-{
-    target.is_empty() && !source.is_empty()
+    Ok(Sides::new(named(parts.source), target))
 }
 
 // Whether a text is made of as many hex digits as the id of an object, or more.
