@@ -6,7 +6,8 @@ use Rattle.std.specs.List.{AllByRecursion, join_with_byte}
 use Rattle.std.proofs.lemmas.Bool.{cases_eq}
 use Rattle.std.proofs.lemmas.List.{append-nil}
 use Rattle.gix_refspec.specs.Text.{Lacks}
-use Rattle.gix_refspec.specs.Name.{slash, SomeComponent}
+use Rattle.gix_refspec.specs.Bytes.{slash}
+use Rattle.gix_refspec.specs.Name.{SomeComponent}
 
 -- nothing, or what begins with a slash: what may stand behind a component
 abbrev pub IsEnd : List ℕ → Type 0

@@ -8,8 +8,9 @@ use Rattle.std.proofs.lemmas.Bool.Decides.{Decides-eqb}
 use Rattle.gix_refspec.specs.declared.name.Error.{Error}
 use Rattle.gix_refspec.specs.declared.name.Error.TheVariants.{Empty, EmptyComponent, StartsWithDot, LockSuffix, EndsWithDot, RepeatedDot, ReflogPortion, Asterisk, InvalidByte}
 use Rattle.gix_refspec.specs.Text.{Lacks, Ends}
-use Rattle.gix_refspec.specs.Name.{slash, star, is_refused_byte, HasFault, IsName}
-use Rattle.gix_refspec.specs.Scan.{dot, brace, AddsFault, LeavesFault}
+use Rattle.gix_refspec.specs.Bytes.{slash, star, dot, brace}
+use Rattle.gix_refspec.specs.Name.{is_refused_byte, HasFault, IsName}
+use Rattle.gix_refspec.specs.Private.Scan.{AddsFault, LeavesFault}
 use Rattle.gix_refspec.proofs.NameLemmas.{Added, IsClean, IsClean-more, IsClean-start, HasFault-added, HasFault-left, IsName-from_clean, end_leaves}
 
 -- P holds, or it doesn't

@@ -3,9 +3,10 @@ use Rattle.std.proofs.Common.{◌≡◌, ◌≢◌, ◌⊎◌, inl, inr, ℕ, Bo
 use Rattle.gix_refspec.specs.declared.parsing.Operation.{Operation}
 use Rattle.gix_refspec.specs.declared.parsing.Operation.TheVariants.{Push, Fetch}
 use Rattle.gix_refspec.specs.Text.{Lacks}
-use Rattle.gix_refspec.specs.Name.{IsName, IsPattern, star}
+use Rattle.gix_refspec.specs.Name.{IsName, IsPattern}
+use Rattle.gix_refspec.specs.Bytes.{star, plus, caret, colon, head}
 use Rattle.gix_refspec.specs.Reading.{Mode, Normal, Forced, Negative, Reading}
-use Rattle.gix_refspec.specs.Grammar.{plus, caret, colon, head, named_by, IsPositive, IsNameOrPattern, AreAlike, AreParts, LooksLikeObjectHash, fetched, pushed, Reads, fetches_nothing_named, fetches_colon, fetches, updates, updates_from_head, fetch_excludes, pushes_plus, pushes_colon, pushes, deletes, pushes_pattern, pushes_to, push_excludes}
+use Rattle.gix_refspec.specs.Grammar.{named_by, IsPositive, IsNameOrPattern, AreAlike, AreParts, LooksLikeObjectHash, fetched, pushed, Reads, fetches_nothing_named, fetches_colon, fetches, updates, updates_from_head, fetch_excludes, pushes_plus, pushes_colon, pushes, deletes, pushes_pattern, pushes_to, push_excludes}
 use Rattle.gix_refspec.specs.Meaning.{meaning, meaning_of, included, printed, text_of, sign, begins_with_plus, push_all_matching, push_delete, push_matching, push_exclude, fetch_only, fetch_exclude, fetch_and_update}
 use Rattle.gix_refspec.specs.Laws.{IsPrintedBack, ReadsOrRefused, EqualTexts}
 use Rattle.gix_refspec.proofs.SideLemmas.{Lacks-name}

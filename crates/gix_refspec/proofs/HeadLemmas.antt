@@ -4,10 +4,11 @@ use Rattle.std.proofs.lemmas.Bool.{false≢true}
 use Rattle.gix_refspec.specs.declared.name.Error.{Error}
 use Rattle.gix_refspec.specs.declared.name.Error.TheVariants.{InvalidByte}
 use Rattle.gix_refspec.specs.Text.{Lacks, Ends}
-use Rattle.gix_refspec.specs.Name.{slash, star, letter, is_refused_byte, IsName, IsPattern}
-use Rattle.gix_refspec.specs.Grammar.{plus, caret, colon, head, IsUnsigned}
+use Rattle.gix_refspec.specs.Bytes.{slash, star, letter, plus, caret, colon, head, dot, brace}
+use Rattle.gix_refspec.specs.Name.{is_refused_byte, IsName, IsPattern}
+use Rattle.gix_refspec.specs.Grammar.{IsUnsigned}
 use Rattle.gix_refspec.specs.Meaning.{begins_with_plus}
-use Rattle.gix_refspec.specs.Scan.{dot, brace, AddsFault}
+use Rattle.gix_refspec.specs.Private.Scan.{AddsFault}
 use Rattle.gix_refspec.proofs.TextLemmas.{Lacks-from_absent}
 use Rattle.gix_refspec.proofs.NameLemmas.{IsClean, IsClean-more, IsClean-start, IsName-from_clean, end_leaves, last_byte}
 use Rattle.gix_refspec.proofs.DecideLemmas.{no_added}

@@ -8,9 +8,10 @@ use Rattle.gix_refspec.specs.declared.name.Error.TheVariants.{LockSuffix, Repeat
 use Rattle.gix_refspec.specs.declared.parsing.Operation.{Operation}
 use Rattle.gix_refspec.specs.declared.parsing.Operation.TheVariants.{Push, Fetch}
 use Rattle.gix_refspec.specs.Text.{Lacks}
-use Rattle.gix_refspec.specs.Name.{is_refused_byte, slash, star, HasFault, HasSeveralStars, ReplacesStar, IsName, IsPattern}
+use Rattle.gix_refspec.specs.Name.{is_refused_byte, HasFault, HasSeveralStars, ReplacesStar, IsName, IsPattern}
+use Rattle.gix_refspec.specs.Bytes.{slash, star, plus, caret, colon}
 use Rattle.gix_refspec.specs.Reading.{Normal, Forced, Negative, Reading}
-use Rattle.gix_refspec.specs.Grammar.{plus, caret, colon, named_by, IsSigned, AreParts, LooksLikeObjectHash, Reads, updates, pushes_colon, pushes, deletes, pushes_to, push_excludes, pushed, fetched}
+use Rattle.gix_refspec.specs.Grammar.{named_by, IsSigned, AreParts, LooksLikeObjectHash, Reads, updates, pushes_colon, pushes, deletes, pushes_to, push_excludes, pushed, fetched}
 use Rattle.gix_refspec.specs.Meaning.{Meaning, push_all_matching, push_delete, push_matching, push_exclude, fetch_and_update, meaning_of, text_of}
 
 -- a test of each byte tells that a text lacks one

@@ -2,8 +2,8 @@
 use Rattle.std.proofs.Common.{◌≡◌, ◌≢◌, ℕ, List, [], ◌∷◌, ◌++◌, codes, Option, None, Some, refl, sym, ap, ◌∙◌, subst}
 use Rattle.std.proofs.lemmas.List.{append-nil, append_cancel_left, append_cancel_right}
 use Rattle.gix_refspec.specs.Text.{Lacks, Begins}
-use Rattle.gix_refspec.specs.Name.{IsCut, star}
-use Rattle.gix_refspec.specs.Grammar.{head}
+use Rattle.gix_refspec.specs.Name.{IsCut}
+use Rattle.gix_refspec.specs.Bytes.{star, head}
 use Rattle.gix_refspec.specs.Side.{SideKind, pattern, full_name, object, partial, HasKind, IsId, candidates, IsCandidate}
 use Rattle.gix_refspec.specs.Match.{Ref, MatchesAs}
 use Rattle.gix_refspec.specs.Prefix.{of_head, of_name, of_pattern, HasNoPrefix, Expands, to_prefix, to_itself, below_refs, of_object, to_candidates}

@@ -2,7 +2,7 @@
 use Rattle.std.proofs.Common.{◌≡◌, ◌≢◌, refl, subst}
 use Rattle.gix_refspec.specs.declared.parsing.Error.{Error}
 use Rattle.gix_refspec.specs.declared.parsing.Error.TheVariants as error
-use Rattle.gix_refspec.specs.Reading.{Refusal}
+use Rattle.gix_refspec.specs.Refusal.{Refusal}
 use Rattle.gix_refspec.specs.Views.{MemoryOr, ShowsRefusal}
 
 -- an error that isn't want of memory is a refusal

@@ -9,8 +9,9 @@ use Rattle.std.proofs.lemmas.Bool.{false≢true}
 use Rattle.gix_refspec.specs.declared.name.Error.{Error}
 use Rattle.gix_refspec.specs.declared.name.Error.TheVariants.{Empty, EmptyComponent, StartsWithDot, LockSuffix, EndsWithDot, RepeatedDot, ReflogPortion, Asterisk, InvalidByte}
 use Rattle.gix_refspec.specs.Text.{Lacks, Holds, Begins, Ends}
-use Rattle.gix_refspec.specs.Name.{slash, star, is_refused_byte, SomeComponent, HasFault, IsName}
-use Rattle.gix_refspec.specs.Scan.{dot, brace, AddsFault, LeavesFault, Finds}
+use Rattle.gix_refspec.specs.Bytes.{slash, star, dot, brace}
+use Rattle.gix_refspec.specs.Name.{is_refused_byte, SomeComponent, HasFault, IsName}
+use Rattle.gix_refspec.specs.Private.Scan.{AddsFault, LeavesFault, Finds}
 use Rattle.std.proofs.Math.ListN.{drop_of_length-le}
 use Rattle.gix_refspec.proofs.TextLemmas.{cut_at}
 use Rattle.gix_refspec.proofs.ComponentLemmas.{IsEnd, IsComponent, Pieces, pieces_of, fenced, fenced-IsEnd, LastSlash, last_slash_behind_one, SomeComponent-from, SomeComponent-place, AllByRecursion-append}

@@ -18,7 +18,7 @@ use Rattle.gix_refspec.specs.declared.oid.Error.{Error}
 use Rattle.gix_refspec.specs.declared.oid.Error.TheVariants.{Digit, Length}
 use Rattle.gix_refspec.specs.declared.oid.Kind.{Kind}
 use Rattle.gix_refspec.specs.declared.oid.Kind.TheVariants.{Sha1, Sha256}
-use Rattle.gix_refspec.specs.ObjectId.{HasFault, IsIdLength, IsIdText, IsLowerText, IsSpelledBy, Spells, bytes_of, digits_of, is_lower_digit, lower_of}
+use Rattle.gix_refspec.specs.ObjectId.{HasIdFault, IsIdLength, IsIdText, IsLowerText, IsSpelledBy, Spells, bytes_of, digits_of, is_lower_digit, lower_of}
 use Rattle.gix_refspec.specs.Laws.{OneId, OneLowerText}
 
 -- an id has two digits for each byte
@@ -139,12 +139,12 @@ IsIdText-digits t (kind, digits) all =
     (made.0, record { kind = kind; digits = digits; bytes = made.1; spelled = made.2 })
 
 -- the text of an id has no fault
-pub IsIdText-sound : (t i : List ℕ) (e : Error) → IsIdText t i → HasFault t e → ⊥
+pub IsIdText-sound : (t i : List ℕ) (e : Error) → IsIdText t i → HasIdFault t e → ⊥
 IsIdText-sound t i (Length len) text (same, other) = other (text.kind, text.digits)
 IsIdText-sound t i Digit text (len, place) = cc (sym place.2 ∙ AllPass-IsIdText t i text place.0 0 place.1)
 
 -- a text has one fault
-one_fault : (t : List ℕ) (e f : Error) → HasFault t e → HasFault t f → e ≡ f
+one_fault : (t : List ℕ) (e f : Error) → HasIdFault t e → HasIdFault t f → e ≡ f
 one_fault t (Length n) (Length m) a b = ap Length (a.0 ∙ sym b.0)
 one_fault t (Length n) Digit a b = absurd (a.1 b.0)
 one_fault t Digit (Length m) a b = absurd (b.1 a.0)
@@ -156,7 +156,7 @@ one_id t = record { id = IsIdText-unique t; sound = IsIdText-sound t; fault = on
 
 -- a text as long as that of an id, which does not decode, has a byte that is no digit
 HasFault-undecoded : (kind : Kind) (t : List ℕ) (e : FromHexError) → length t ≡ digits_of kind
-    → decode_sized t (bytes_of kind) ≡ Err e → HasFault t Digit
+    → decode_sized t (bytes_of kind) ≡ Err e → HasIdFault t Digit
 HasFault-undecoded kind t e digits undecoded =
     let two = digits_of-twice kind in
     let pairs = sym (decode_sized-pairs t (bytes_of kind) (omega arith) (omega arith)) ∙ undecoded in
@@ -184,7 +184,7 @@ IsIdText-filled kind n buffer t out rest size room digits decoded =
 
 -- where it does not decode, some byte is no digit
 pub HasFault-unfilled : (kind : Kind) (n : ℕ) (buffer t : List ℕ) (e : FromHexError) → n ≡ bytes_of kind → length buffer ≡ 32
-    → length t ≡ digits_of kind → decode_sized t (length (take n buffer)) ≡ Err e → HasFault t Digit
+    → length t ≡ digits_of kind → decode_sized t (length (take n buffer)) ≡ Err e → HasIdFault t Digit
 HasFault-unfilled kind n buffer t e size room digits undecoded =
     HasFault-undecoded kind t e digits (rw (length-room kind n buffer size room) at undecoded)
 

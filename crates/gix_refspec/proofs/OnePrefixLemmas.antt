@@ -2,7 +2,7 @@
 use Rattle.std.proofs.Common.{◌≡◌, ℕ, List, [], ◌∷◌, ◌++◌, codes, sym, ap, ◌∙◌, subst}
 use Rattle.std.proofs.lemmas.List.{append_cancel_left}
 use Rattle.gix_refspec.specs.Text.{Lacks, Holds, Begins}
-use Rattle.gix_refspec.specs.Name.{slash}
+use Rattle.gix_refspec.specs.Bytes.{slash}
 use Rattle.gix_refspec.specs.Prefix.{IsPrefix, of_head, of_name, of_pattern, Expands, to_prefix, to_itself, below_refs, of_object, to_candidates}
 use Rattle.gix_refspec.specs.Laws.{OnePrefix}
 use Rattle.gix_refspec.proofs.TextLemmas.{Lacks-Holds}

@@ -2,7 +2,8 @@
 use Rattle.std.proofs.Common.{◌≡◌, ◌≢◌, ℕ, List, ◌∷◌, Option, None, Some, refl, sym, ap, ◌∙◌, subst, arith}
 use Rattle.gix_refspec.specs.Text.{Lacks}
 use Rattle.gix_refspec.specs.Reading.{Mode, Normal, Forced, Negative}
-use Rattle.gix_refspec.specs.Grammar.{plus, caret, colon, IsUnsigned, IsSigned, with_colon, LastLacksColon, AreParts}
+use Rattle.gix_refspec.specs.Bytes.{plus, caret, colon}
+use Rattle.gix_refspec.specs.Grammar.{IsUnsigned, IsSigned, with_colon, LastLacksColon, AreParts}
 use Rattle.gix_refspec.proofs.TextLemmas.{Lacks-here, last_once}
 
 -- a text that begins with a sign isn't unsigned

@@ -7,15 +7,15 @@ use Rattle.std.proofs.lemmas.List.{append_cancel_left, length-map, map-append}
 use Rattle.std.proofs.lemmas.Bool.{false≢true}
 use Rattle.gix_refspec.specs.declared.oid.Error.{Error}
 use Rattle.gix_refspec.specs.declared.oid.ObjectId.{ObjectId}
-use Rattle.gix_refspec.specs.ObjectId.{IsIdText, HasFault, digits_of, id_bytes}
+use Rattle.gix_refspec.specs.ObjectId.{IsIdText, HasIdFault, digits_of, id_bytes}
 use Rattle.gix_refspec.specs.Text.{Lacks, Holds, Begins}
-use Rattle.gix_refspec.specs.Name.{IsCut, HasOneStar, star, slash}
+use Rattle.gix_refspec.specs.Name.{IsCut, HasOneStar}
+use Rattle.gix_refspec.specs.Bytes.{star, slash, head, bracket}
+use Rattle.gix_refspec.specs.Reading.{Reading}
+use Rattle.gix_refspec.specs.Side.{HasKind, object, partial, IsId}
+use Rattle.gix_refspec.specs.Prefix.{TellsPrefix, IsPrefix, of_head, of_name, of_pattern, HasNoPrefix, Expands, to_prefix, to_itself, below_refs, of_object, to_candidates, IsAsked, IsExpansion}
 use Rattle.gix_refspec.specs.declared.oid.Kind.{Kind}
 use Rattle.gix_refspec.specs.declared.oid.Kind.TheVariants.{Sha1, Sha256}
-use Rattle.gix_refspec.specs.Reading.{Reading}
-use Rattle.gix_refspec.specs.Grammar.{head}
-use Rattle.gix_refspec.specs.Side.{HasKind, object, partial, IsId}
-use Rattle.gix_refspec.specs.Prefix.{bracket, TellsPrefix, IsPrefix, of_head, of_name, of_pattern, HasNoPrefix, Expands, to_prefix, to_itself, below_refs, of_object, to_candidates, IsAsked, IsExpansion}
 use Rattle.gix_refspec.proofs.TextLemmas.{Lacks-Holds}
 use Rattle.gix_refspec.proofs.SideLemmas.{Lacks-name}
 use Rattle.gix_refspec.proofs.HeadLemmas.{IsName-head}
@@ -99,7 +99,7 @@ nothing_else x list (of_object none outside id empty) nothing = empty
 nothing_else x list (to_candidates none outside unlike six) nothing = absurd (partial_expands x outside unlike nothing)
 
 -- what reading an id tells
-pub id_tested : (t : List ℕ) (r : Result ObjectId Error) → MatchResult r (λ id. IsIdText t (id_bytes id)) (λ e. HasFault t e) → (is_ok r ≡ true → IsId t) × (IsId t → is_ok r ≡ true)
+pub id_tested : (t : List ℕ) (r : Result ObjectId Error) → MatchResult r (λ id. IsIdText t (id_bytes id)) (λ e. HasIdFault t e) → (is_ok r ≡ true → IsId t) × (IsId t → is_ok r ≡ true)
 id_tested t (Ok id) told = ((λ _. (id_bytes id, told)), (λ _. refl))
 id_tested t (Err e) told = ((λ so. absurd (false≢true so)), (λ id. absurd (IsIdText-sound t id.0 e id.1 told)))
 

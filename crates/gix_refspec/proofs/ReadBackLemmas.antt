@@ -2,9 +2,10 @@
 use Rattle.std.proofs.Common.{◌≡◌, ◌≢◌, ◌⊎◌, inl, inr, ◌==◌, ℕ, Bool, true, false, if◌then◌else◌, List, [], ◌∷◌, ◌++◌, Option, None, Some, option_map, refl, sym, ap, ◌∙◌, subst, arith}
 use Rattle.gix_refspec.specs.declared.parsing.Operation.{Operation}
 use Rattle.gix_refspec.specs.Text.{Lacks}
-use Rattle.gix_refspec.specs.Name.{IsName, IsPattern, star}
+use Rattle.gix_refspec.specs.Name.{IsName, IsPattern}
+use Rattle.gix_refspec.specs.Bytes.{star, plus, caret, colon, at, head}
 use Rattle.gix_refspec.specs.Reading.{Mode, Normal, Forced, Negative, Reading}
-use Rattle.gix_refspec.specs.Grammar.{plus, caret, colon, at, head, named_by, IsUnsigned, IsPositive, IsNameOrPattern, AreAlike, AreParts, with_colon, Reads}
+use Rattle.gix_refspec.specs.Grammar.{named_by, IsUnsigned, IsPositive, IsNameOrPattern, AreAlike, AreParts, with_colon, Reads}
 use Rattle.gix_refspec.specs.Meaning.{Meaning, meaning_of, text_of, sign}
 use Rattle.gix_refspec.specs.Laws.{IsPrintedBack}
 use Rattle.std.proofs.lemmas.Bool.{eqb-true}

@@ -4,7 +4,7 @@ use Rattle.gix_refspec.specs.declared.parsing.Operation.{Operation}
 use Rattle.gix_refspec.specs.declared.parsing.Operation.TheVariants.{Push, Fetch}
 use Rattle.gix_refspec.specs.Reading.{Mode, Forced, Negative, Reading}
 use Rattle.gix_refspec.specs.Grammar.{named_by, IsNameOrPattern, AreAlike, AreParts, fetched, pushed, Reads, fetches_nothing_named, fetches_colon, fetches, updates, updates_from_head, fetch_excludes, pushes_plus, pushes_colon, pushes, deletes, pushes_pattern, pushes_to, push_excludes}
-use Rattle.gix_refspec.specs.Sides.{side_of, named_or_head}
+use Rattle.gix_refspec.specs.Private.Sides.{side_of, named_or_head}
 use Rattle.gix_refspec.proofs.PartsLemmas.{parts_once}
 use Rattle.gix_refspec.proofs.ReadsLemmas.{side_of-named, name_not_empty, pattern_not_empty}
 

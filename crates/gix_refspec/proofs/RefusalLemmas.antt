@@ -4,9 +4,10 @@ use Rattle.gix_refspec.specs.declared.name.Error.{Error}
 use Rattle.gix_refspec.specs.declared.parsing.Operation.{Operation}
 use Rattle.gix_refspec.specs.declared.parsing.Operation.TheVariants.{Push, Fetch}
 use Rattle.gix_refspec.specs.Text.{Lacks}
-use Rattle.gix_refspec.specs.Name.{HasSeveralStars, ReplacesStar, star}
-use Rattle.gix_refspec.specs.Reading.{Mode, Refusal, Empty, NegativeWithDestination, PushToEmpty, PatternUnsupported, ReferenceName, PatternUnbalanced, NegativeEmpty, NegativeObjectHash}
-use Rattle.gix_refspec.specs.Refusal.{IsBadName, IsBadPattern, IsBadSourceFor, HasBadDestination, OrElse, IsFirstReason}
+use Rattle.gix_refspec.specs.Name.{HasSeveralStars, ReplacesStar}
+use Rattle.gix_refspec.specs.Bytes.{star}
+use Rattle.gix_refspec.specs.Reading.{Mode}
+use Rattle.gix_refspec.specs.Refusal.{Refusal, Empty, NegativeWithDestination, PushToEmpty, PatternUnsupported, ReferenceName, PatternUnbalanced, NegativeEmpty, NegativeObjectHash, IsBadName, IsBadPattern, IsBadSourceFor, HasBadDestination, OrElse, IsFirstReason}
 use Rattle.gix_refspec.specs.Laws.{IsSameReason, OneRefusal}
 use Rattle.gix_refspec.proofs.TextLemmas.{Lacks-Holds}
 use Rattle.gix_refspec.proofs.SideLemmas.{HasStar-bad, HasSeveralStars-replaced}

@@ -9,11 +9,12 @@ use Rattle.gix_refspec.specs.declared.parsing.Operation.TheVariants.{Push, Fetch
 use Rattle.gix_refspec.specs.declared.parsing.function.Side.{Side}
 use Rattle.gix_refspec.specs.declared.parsing.function.Side.TheVariants.{Plain, Pattern}
 use Rattle.gix_refspec.specs.Text.{Lacks}
-use Rattle.gix_refspec.specs.Name.{star, letter, ReplacesStar}
-use Rattle.gix_refspec.specs.Reading.{Mode, Normal, Forced, Negative, Reading, Refusal, Empty, NegativeWithDestination, PushToEmpty, PatternUnsupported, ReferenceName, PatternUnbalanced, NegativeEmpty, NegativeObjectHash}
-use Rattle.gix_refspec.specs.Grammar.{plus, caret, colon, named_by, IsSigned, IsPositive, AreParts, LooksLikeObjectHash, Reads, fetched, pushed}
-use Rattle.gix_refspec.specs.Refusal.{IsBadPattern, IsFirstReason, IsRefused}
-use Rattle.gix_refspec.specs.Sides.{IsSide, IsCheckedSide, IsBadSide, side_of, named_or_head}
+use Rattle.gix_refspec.specs.Bytes.{star, letter, plus, caret, colon}
+use Rattle.gix_refspec.specs.Name.{ReplacesStar}
+use Rattle.gix_refspec.specs.Reading.{Mode, Normal, Forced, Negative, Reading}
+use Rattle.gix_refspec.specs.Refusal.{Refusal, Empty, NegativeWithDestination, PushToEmpty, PatternUnsupported, ReferenceName, PatternUnbalanced, NegativeEmpty, NegativeObjectHash, IsBadPattern, IsFirstReason, IsRefused}
+use Rattle.gix_refspec.specs.Grammar.{named_by, IsSigned, IsPositive, AreParts, LooksLikeObjectHash, Reads, fetched, pushed}
+use Rattle.gix_refspec.specs.Private.Sides.{IsSide, IsCheckedSide, IsBadSide, side_of, named_or_head}
 use Rattle.gix_refspec.proofs.DecideLemmas.{Decided, FirstPlace, tested, decided_byte, name_or_fault, lacks_or_first, lacks_or_last}
 use Rattle.gix_refspec.proofs.ReasonLemmas.{fetch_reaches, push_reaches, push_alone_reaches, negative_reaches, reason_at_source, reason_at_destination, reason_against_object, reason_against_nothing, fetch_source_fine, push_source_fine, bad_destination, bad_source_of_push, unbalanced_fetch, unbalanced_push, bad_negative, no_negative}
 use Rattle.gix_refspec.proofs.ReadsLemmas.{fetch_reads, push_alone_reads, push_reads, negative_reads, refused}

@@ -10,11 +10,12 @@ use Rattle.gix_refspec.specs.declared.name.PatternError.TheVariants as found
 use Rattle.gix_refspec.specs.declared.parsing.function.Side.{Side}
 use Rattle.gix_refspec.specs.declared.parsing.function.Side.TheVariants.{Plain, Pattern}
 use Rattle.gix_refspec.specs.Text.{Lacks}
-use Rattle.gix_refspec.specs.Name.{IsName, IsPattern, HasStar, HasSeveralStars, ReplacesStar, HasFault, star}
-use Rattle.gix_refspec.specs.Reading.{Normal, Refusal, Empty, NegativeWithDestination, PushToEmpty, PatternUnsupported, ReferenceName, PatternUnbalanced, NegativeEmpty, NegativeObjectHash}
-use Rattle.gix_refspec.specs.Refusal.{IsBadName, IsBadPattern, Never, OrElse}
+use Rattle.gix_refspec.specs.Name.{IsName, IsPattern, HasStar, HasSeveralStars, ReplacesStar, HasFault}
+use Rattle.gix_refspec.specs.Bytes.{star}
+use Rattle.gix_refspec.specs.Reading.{Normal}
+use Rattle.gix_refspec.specs.Refusal.{Refusal, Empty, NegativeWithDestination, PushToEmpty, PatternUnsupported, ReferenceName, PatternUnbalanced, NegativeEmpty, NegativeObjectHash, IsBadName, IsBadPattern, Never, OrElse}
 use Rattle.gix_refspec.specs.Views.{mode_of}
-use Rattle.gix_refspec.specs.Sides.{IsSide, IsCheckedSide, IsBadSide}
+use Rattle.gix_refspec.specs.Private.Sides.{IsSide, IsCheckedSide, IsBadSide}
 use Rattle.gix_refspec.specs.Laws.{NothingAgainst}
 use Rattle.gix_refspec.proofs.TextLemmas.{Lacks-Holds, Lacks-from_absent, first_once, one_not_two}
 

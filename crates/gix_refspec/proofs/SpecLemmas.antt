@@ -11,7 +11,7 @@ use Rattle.gix_refspec.specs.Grammar.{Reads, fetches_nothing_named, fetches_colo
 use Rattle.gix_refspec.specs.Meaning.{Meaning, included, excluded, meaning, meaning_of, text_of, printed}
 use Rattle.gix_refspec.specs.Order.{keys}
 use Rattle.gix_refspec.specs.OrderLaws.{same_meaning, same_keys}
-use Rattle.gix_refspec.specs.Views.{operation_of}
+use Rattle.gix_refspec.specs.Views.{meant_for}
 use Rattle.gix_refspec.specs.Laws.{IsPrintedBack, KeepsOperation, SaysForOperation, EqualReadings}
 use Rattle.gix_refspec.proofs.FormsBackLemmas.{read_back, once_or_refused, equal_texts, some_once}
 
@@ -39,7 +39,7 @@ keeps_operation op text r (push_excludes s push parts either hash is) = of_opera
 -- what a meaning is for, or else this
 abbrev operation_or : Operation → Option Meaning → Operation
 operation_or op None = op
-operation_or op (Some m) = operation_of m
+operation_or op (Some m) = meant_for m
 
 included_for : (op : Operation) (forced : Bool) (s d : Option (List ℕ)) → operation_or op (included op forced s d) ≡ op
 included_for Push forced None None = refl

@@ -4,7 +4,8 @@ use Rattle.std.specs.List.{count_by}
 use Rattle.std.proofs.lemmas.Bool.{cases_eq, eq-eqb, ne_eqb}
 use Rattle.std.proofs.lemmas.List.Sums.{sum_by-append}
 use Rattle.gix_refspec.specs.Text.{Lacks}
-use Rattle.gix_refspec.specs.Name.{star, HasOneStar}
+use Rattle.gix_refspec.specs.Bytes.{star}
+use Rattle.gix_refspec.specs.Name.{HasOneStar}
 
 stars : List ℕ → ℕ
 stars x = count_by (λ b. b == star) x

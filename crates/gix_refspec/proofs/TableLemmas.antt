@@ -4,7 +4,7 @@ use Rattle.std.proofs.lemmas.Bool.{eqb-true, agree_below_at}
 use Rattle.gix_refspec.specs.declared.name.class.TheConstants.{CLASSES}
 use Rattle.gix_refspec.specs.declared.name.class.Class.{Class}
 use Rattle.gix_refspec.specs.declared.name.class.Class.TheVariants.{Plain, Slash, Dot, Brace, Star, Refused}
-use Rattle.gix_refspec.specs.Scan.{class_at}
+use Rattle.gix_refspec.specs.Private.Scan.{class_at}
 
 abbrev number_of : Class → ℕ
 number_of Plain = 0

@@ -2,34 +2,15 @@
 -- a text, and what each is read as. A push of two patterns is by git-push(1) under `--prune`. The empty
 -- source of a fetch, a lone `+` in a push and negative specs in a push are what Git does without its
 -- manual saying so, or this project's own rule.
-use Rattle.std.specs.Prelude.{◌≡◌, ◌≢◌, ◌⊎◌, ◌≤◌, ℕ, ◌==◌, if◌then◌else◌, List, [], ◌∷◌, ◌++◌, Option, None, Some, length, codes}
+use Rattle.std.specs.Prelude.{◌≡◌, ◌≢◌, ◌⊎◌, ◌≤◌, ℕ, ◌==◌, if◌then◌else◌, List, [], ◌∷◌, ◌++◌, Option, None, Some, length}
 use Rattle.std.specs.List.{AllPass}
 use Rattle.std.specs.Char.{is_ascii_hexdigit}
 use Rattle.gix_refspec.specs.declared.parsing.Operation.{Operation}
 use Rattle.gix_refspec.specs.declared.parsing.Operation.TheVariants.{Push, Fetch}
 use Rattle.gix_refspec.specs.Text.{Lacks}
-use Rattle.gix_refspec.specs.Name.{IsName, IsPattern, star}
+use Rattle.gix_refspec.specs.Name.{IsName, IsPattern}
+use Rattle.gix_refspec.specs.Bytes.{star, plus, caret, colon, at, head}
 use Rattle.gix_refspec.specs.Reading.{Mode, Normal, Forced, Negative, Reading}
-
--- `+`
-abbrev pub plus : ℕ
-plus = 43
-
--- `^`
-abbrev pub caret : ℕ
-caret = 94
-
--- `:`
-abbrev pub colon : ℕ
-colon = 58
-
--- `@`
-abbrev pub at : ℕ
-at = 64
-
--- `HEAD`
-abbrev pub head : List ℕ
-head = codes "HEAD"
 
 -- the first byte is no sign
 abbrev pub IsUnsigned : List ℕ → Type 0

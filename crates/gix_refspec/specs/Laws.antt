@@ -5,15 +5,16 @@ use Rattle.gix_refspec.specs.declared.name.PatternError.{PatternError}
 use Rattle.gix_refspec.specs.declared.name.PatternError.TheVariants.{Memory}
 use Rattle.gix_refspec.specs.declared.oid.Error.{Error as IdError}
 use Rattle.gix_refspec.specs.declared.parsing.Operation.{Operation}
-use Rattle.gix_refspec.specs.Reading.{Reading, Refusal, ReferenceName}
+use Rattle.gix_refspec.specs.Reading.{Reading}
+use Rattle.gix_refspec.specs.Refusal.{Refusal, ReferenceName, IsRefused}
 use Rattle.gix_refspec.specs.Text.{Lacks, Begins}
-use Rattle.gix_refspec.specs.Name.{IsPattern, star}
-use Rattle.gix_refspec.specs.PatternError.{Explains}
-use Rattle.gix_refspec.specs.ObjectId.{HasFault, IsIdText, IsLowerText, lower_of}
-use Rattle.gix_refspec.specs.Grammar.{head, Reads}
-use Rattle.gix_refspec.specs.Refusal.{IsRefused}
+use Rattle.gix_refspec.specs.Name.{IsPattern}
+use Rattle.gix_refspec.specs.Bytes.{star, head}
+use Rattle.gix_refspec.specs.PatternError.{IsPatternFault}
+use Rattle.gix_refspec.specs.ObjectId.{HasIdFault, IsIdText, IsLowerText, lower_of}
+use Rattle.gix_refspec.specs.Grammar.{Reads}
 use Rattle.gix_refspec.specs.Meaning.{Meaning, meaning_of, printed}
-use Rattle.gix_refspec.specs.Views.{operation_of}
+use Rattle.gix_refspec.specs.Views.{meant_for}
 use Rattle.gix_refspec.specs.Side.{IsId, candidates, IsCandidate, Fits}
 use Rattle.gix_refspec.specs.Match.{Ref, Matches}
 use Rattle.gix_refspec.specs.Prefix.{IsPrefix, Expands}
@@ -42,7 +43,7 @@ KeepsOperation op text = (r : Reading) → Reads op text r → r.operation ≡ o
 
 -- what a reading says to do is for the operation of the reading
 abbrev pub SaysForOperation : Reading → Type 0
-SaysForOperation r = (m : Meaning) → meaning_of r ≡ Some m → operation_of m ≡ r.operation
+SaysForOperation r = (m : Meaning) → meaning_of r ≡ Some m → meant_for m ≡ r.operation
 
 -- a reading has a canonical text, which has exactly one reading, with the same meaning: so that text is
 -- canonical itself
@@ -67,8 +68,8 @@ EqualReadings r q = (meaning_of r ≡ meaning_of q) ↔ ((r.operation ≡ q.oper
 -- a text is that of one id at the most, and has no fault then; else it has one fault at the most
 pub record OneId (t : List ℕ) : Type 0 where
   pub id : (i j : List ℕ) → IsIdText t i → IsIdText t j → i ≡ j
-  pub sound : (i : List ℕ) (e : IdError) → IsIdText t i → ¬ (HasFault t e)
-  pub fault : (e f : IdError) → HasFault t e → HasFault t f → e ≡ f
+  pub sound : (i : List ℕ) (e : IdError) → IsIdText t i → ¬ (HasIdFault t e)
+  pub fault : (e f : IdError) → HasIdFault t e → HasIdFault t f → e ≡ f
 
 -- the id with the bytes i has one text in lower case, which is the one that it prints as
 pub record OneLowerText (i : List ℕ) : Type 0 where
@@ -77,7 +78,7 @@ pub record OneLowerText (i : List ℕ) : Type 0 where
 
 -- nothing is against a pattern, but want of memory where it has more than 256 bytes
 abbrev pub NothingAgainst : List ℕ → Type 0
-NothingAgainst x = IsPattern x → (e : PatternError) → Explains e x → (e ≡ Memory) × (256 < length x)
+NothingAgainst x = IsPattern x → (e : PatternError) → IsPatternFault e x → (e ≡ Memory) × (256 < length x)
 
 -- a name has one word at the most between two texts
 abbrev pub OneWord : List ℕ → List ℕ → List ℕ → Type 0

@@ -1,7 +1,7 @@
+pub mod Bytes
 pub mod Text
 pub mod Name
 pub mod PatternError
-pub mod Scan
 pub mod Reading
 pub mod Grammar
 pub mod Refusal
@@ -14,7 +14,5 @@ pub mod Match
 pub mod Prefix
 pub mod Spec
 pub mod Laws
-pub mod Pieces
-pub mod SideViews
-pub mod Sides
 pub mod ObjectId
+pub mod Private

@@ -5,7 +5,7 @@ use Rattle.std.specs.Io.KnownBytes.{Appends}
 use Rattle.gix_refspec.specs.declared.parsing.Operation.{Operation}
 use Rattle.gix_refspec.specs.declared.parsing.Operation.TheVariants.{Push, Fetch}
 use Rattle.gix_refspec.specs.Reading.{Mode, Normal, Forced, Negative, Reading}
-use Rattle.gix_refspec.specs.Grammar.{plus, caret, colon}
+use Rattle.gix_refspec.specs.Bytes.{plus, caret, colon}
 
 -- a flag says whether refs may also move where that is no fast-forward
 pub data Meaning : Type 0 where

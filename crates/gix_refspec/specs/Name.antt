@@ -5,19 +5,8 @@ use Rattle.std.specs.Prelude.{◌≡◌, ◌≢◌, ℕ, Bool, ◌||◌, ◌==�
 use Rattle.std.specs.List.{list_any}
 use Rattle.gix_refspec.specs.declared.name.Error.{Error}
 use Rattle.gix_refspec.specs.declared.name.Error.TheVariants.{Empty, EmptyComponent, StartsWithDot, LockSuffix, EndsWithDot, RepeatedDot, ReflogPortion, Asterisk, InvalidByte}
+use Rattle.gix_refspec.specs.Bytes.{slash, star, letter}
 use Rattle.gix_refspec.specs.Text.{Lacks, Holds, Begins, Ends, ArePartsAt}
-
--- `/`
-abbrev pub slash : ℕ
-slash = 47
-
--- `*`
-abbrev pub star : ℕ
-star = 42
-
--- `a`, which stands in for a star
-abbrev pub letter : ℕ
-letter = 97
 
 -- a control character, or one of these seven, the space among them
 abbrev pub is_refused_byte : ℕ → Bool

@@ -46,9 +46,9 @@ pub record IsIdText (t i : List ℕ) : Type 0 where
   pub spelled : Spells t i
 
 -- what keeps a text from being the text of an id
-abbrev pub HasFault : List ℕ → Error → Type 0
-HasFault t (Length len) = (len ≡ length t) × ¬ (IsIdLength (length t))
-HasFault t Digit = IsIdLength (length t) × SomeIndex t (λ k. is_hex_digit (slice_index t k) ≡ false)
+abbrev pub HasIdFault : List ℕ → Error → Type 0
+HasIdFault t (Length len) = (len ≡ length t) × ¬ (IsIdLength (length t))
+HasIdFault t Digit = IsIdLength (length t) × SomeIndex t (λ k. is_hex_digit (slice_index t k) ≡ false)
 
 -- a digit of `0` to `9` or `a` to `f`
 abbrev pub is_lower_digit : ℕ → Bool

@@ -5,6 +5,6 @@ use Rattle.gix_refspec.specs.declared.name.PatternError.TheVariants.{Name, Memor
 use Rattle.gix_refspec.specs.Name.{HasFault, ReplacesStar}
 
 -- the text with the letter for its star has the fault; or it is too long to be copied without memory
-abbrev pub Explains : PatternError → List ℕ → Type 0
-Explains (Name fault) x = (y : List ℕ) × ReplacesStar x y × HasFault y fault
-Explains Memory x = 256 < length x
+abbrev pub IsPatternFault : PatternError → List ℕ → Type 0
+IsPatternFault (Name fault) x = (y : List ℕ) × ReplacesStar x y × HasFault y fault
+IsPatternFault Memory x = 256 < length x

@@ -3,14 +3,11 @@
 -- side has a star outside `refs/`, a star directly behind `refs/`, or a star and a `]`.
 use Rattle.std.specs.Prelude.{◌≡◌, ◌≢◌, ◌⊎◌, ℕ, List, [], ◌∷◌, ◌++◌, Some, codes}
 use Rattle.gix_refspec.specs.Text.{Lacks, Holds, Begins}
-use Rattle.gix_refspec.specs.Name.{IsCut, star, slash}
-use Rattle.gix_refspec.specs.Grammar.{head, IsPositive}
+use Rattle.gix_refspec.specs.Name.{IsCut}
+use Rattle.gix_refspec.specs.Bytes.{star, slash, head, bracket}
+use Rattle.gix_refspec.specs.Grammar.{IsPositive}
 use Rattle.gix_refspec.specs.Side.{IsId, candidates}
 use Rattle.gix_refspec.specs.Reading.{Reading, remote_of}
-
--- `]`
-abbrev pub bracket : ℕ
-bracket = 93
 
 -- a pattern with these two ends tells a prefix: the first goes on below `refs/`, and no `]` stands in them
 pub record TellsPrefix (before after : List ℕ) : Type 0 where

@@ -1,6 +1,5 @@
--- What a refspec is read as, and why one is refused, apart from where the bytes lie.
+-- What a refspec is read as, apart from where the bytes lie.
 use Rattle.std.specs.Prelude.{◌⊎◌, ℕ, List, Option, IsSome}
-use Rattle.gix_refspec.specs.declared.name.Error.{Error}
 use Rattle.gix_refspec.specs.declared.parsing.Operation.{Operation}
 use Rattle.gix_refspec.specs.declared.parsing.Operation.TheVariants.{Push, Fetch}
 
@@ -20,17 +19,6 @@ pub record Reading : Type 0 where
 -- one of the sides is there, or both
 abbrev pub HasSide : Reading → Type 0
 HasSide r = IsSome r.source ⊎ IsSome r.destination
-
--- a refusal of the grammar
-pub data Refusal : Type 0 where
-  Empty : Refusal
-  NegativeWithDestination : Refusal
-  PushToEmpty : Refusal
-  PatternUnsupported : List ℕ → Refusal
-  ReferenceName : Error → Refusal
-  PatternUnbalanced : Refusal
-  NegativeEmpty : Refusal
-  NegativeObjectHash : Refusal
 
 -- a fetch has its source on the remote, a push its destination
 abbrev pub side_on_remote : Operation → Option (List ℕ) → Option (List ℕ) → Option (List ℕ)

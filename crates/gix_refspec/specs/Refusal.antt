@@ -1,11 +1,24 @@
 -- Which texts are no refspecs, and the first reason in the order that this project fixes.
 use Rattle.std.specs.Prelude.{◌≡◌, ◌≢◌, ◌⊎◌, ◌<◌, ℕ, List, [], Option, None, Some, IsSome, unwrap_or, length}
+use Rattle.gix_refspec.specs.declared.name.Error.{Error}
 use Rattle.gix_refspec.specs.declared.parsing.Operation.{Operation}
 use Rattle.gix_refspec.specs.declared.parsing.Operation.TheVariants.{Push, Fetch}
 use Rattle.gix_refspec.specs.Text.{Lacks}
-use Rattle.gix_refspec.specs.Name.{HasFault, HasStar, HasSeveralStars, ReplacesStar, star}
-use Rattle.gix_refspec.specs.Reading.{Mode, Normal, Negative, Reading, Refusal, Empty, NegativeWithDestination, PushToEmpty, PatternUnsupported, ReferenceName, PatternUnbalanced, NegativeEmpty, NegativeObjectHash}
+use Rattle.gix_refspec.specs.Name.{HasFault, HasStar, HasSeveralStars, ReplacesStar}
+use Rattle.gix_refspec.specs.Bytes.{star}
+use Rattle.gix_refspec.specs.Reading.{Mode, Normal, Negative, Reading}
 use Rattle.gix_refspec.specs.Grammar.{IsPositive, LooksLikeObjectHash, AreParts, Reads}
+
+-- a refusal of the grammar
+pub data Refusal : Type 0 where
+  Empty : Refusal
+  NegativeWithDestination : Refusal
+  PushToEmpty : Refusal
+  PatternUnsupported : List ℕ → Refusal
+  ReferenceName : Error → Refusal
+  PatternUnbalanced : Refusal
+  NegativeEmpty : Refusal
+  NegativeObjectHash : Refusal
 
 -- x is no pattern though it has a star, for this reason
 abbrev pub IsBadPattern : List ℕ → Refusal → Type 0

@@ -4,7 +4,8 @@
 use Rattle.std.specs.Prelude.{◌≡◌, ℕ, ◌||◌, if◌then◌else◌, List, [], ◌∷◌, ◌++◌, Option, None, Some, codes, nat_eq}
 use Rattle.std.specs.List.{starts_with}
 use Rattle.gix_refspec.specs.Text.{Lacks, Begins}
-use Rattle.gix_refspec.specs.Name.{IsCut, star}
+use Rattle.gix_refspec.specs.Name.{IsCut}
+use Rattle.gix_refspec.specs.Bytes.{star}
 use Rattle.gix_refspec.specs.ObjectId.{IsIdText, lower_of}
 
 -- the kind of a side, with its text: a pattern by what stands before and behind its star, the full name

@@ -14,7 +14,8 @@ use Rattle.gix_refspec.specs.declared.parsing.Operation.{Operation}
 use Rattle.gix_refspec.specs.declared.parsing.Operation.TheVariants as operation
 use Rattle.gix_refspec.specs.declared.parsing.Error.{Error}
 use Rattle.gix_refspec.specs.declared.parsing.Error.TheVariants as error
-use Rattle.gix_refspec.specs.Reading.{Mode, Normal, Forced, Negative, Refusal, Empty, NegativeWithDestination, PushToEmpty, PatternUnsupported, ReferenceName, PatternUnbalanced, NegativeEmpty, NegativeObjectHash}
+use Rattle.gix_refspec.specs.Reading.{Mode, Normal, Forced, Negative}
+use Rattle.gix_refspec.specs.Refusal.{Refusal, Empty, NegativeWithDestination, PushToEmpty, PatternUnsupported, ReferenceName, PatternUnbalanced, NegativeEmpty, NegativeObjectHash}
 use Rattle.gix_refspec.specs.Meaning.{Meaning, push_all_matching, push_delete, push_matching, push_exclude, fetch_only, fetch_exclude, fetch_and_update}
 
 -- the mode that the private type shows
@@ -42,14 +43,14 @@ shown (instruction.Push p) = shown_push p
 shown (instruction.Fetch f) = shown_fetch f
 
 -- what a meaning is for
-abbrev pub operation_of : Meaning → Operation
-operation_of (push_all_matching forced) = operation.Push
-operation_of (push_delete d) = operation.Push
-operation_of (push_matching s d forced) = operation.Push
-operation_of (push_exclude s) = operation.Push
-operation_of (fetch_only s) = operation.Fetch
-operation_of (fetch_exclude s) = operation.Fetch
-operation_of (fetch_and_update s d forced) = operation.Fetch
+abbrev pub meant_for : Meaning → Operation
+meant_for (push_all_matching forced) = operation.Push
+meant_for (push_delete d) = operation.Push
+meant_for (push_matching s d forced) = operation.Push
+meant_for (push_exclude s) = operation.Push
+meant_for (fetch_only s) = operation.Fetch
+meant_for (fetch_exclude s) = operation.Fetch
+meant_for (fetch_and_update s d forced) = operation.Fetch
 
 -- the error is this refusal of the grammar; the other variants are none
 abbrev pub IsShownAs : Error → Refusal → Type 0

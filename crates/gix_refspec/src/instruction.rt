@@ -1,7 +1,7 @@
 //! What a refspec says to do, by operation.
 
 ghost use Rattle.std.specs.Prelude.{◌≡◌};
-ghost use Rattle.gix_refspec.specs.Views.{shown, operation_of};
+ghost use Rattle.gix_refspec.specs.Views.{shown, meant_for};
 
 use crate::parsing::Operation;
 use crate::types::Instruction;
@@ -52,7 +52,7 @@ pub enum Fetch<'a> {
 impl Instruction<'_> {
     /// What the instruction is for.
     pub fn operation(&self) -> Operation
-        ensures { result ≡ operation_of (shown self.now) }
+        ensures { result ≡ meant_for (shown self.now) }
     {
         match self {
             Instruction::Push(_) => Operation::Push,

@@ -5,9 +5,10 @@ ghost use Rattle.std.specs.Bool.{OnTrue};
 ghost use Rattle.gix_refspec.specs.declared.name.Error.{Error};
 ghost use Rattle.bstr.specs.BStr.{bstr_bytes};
 ghost use Rattle.gix_refspec.specs.Text.{Ends};
-ghost use Rattle.gix_refspec.specs.Name.{IsName, HasFault, IsPattern, HasOneStar, ReplacesStar, slash};
-ghost use Rattle.gix_refspec.specs.PatternError.{Explains};
-ghost use Rattle.gix_refspec.specs.Scan.{AddsFault, LeavesFault, Finds};
+ghost use Rattle.gix_refspec.specs.Name.{IsName, HasFault, IsPattern, HasOneStar, ReplacesStar};
+ghost use Rattle.gix_refspec.specs.Bytes.{slash};
+ghost use Rattle.gix_refspec.specs.PatternError.{IsPatternFault};
+ghost use Rattle.gix_refspec.specs.Private.Scan.{AddsFault, LeavesFault, Finds};
 
 mod class;
 
@@ -91,7 +92,7 @@ pub fn has_one_star(text: BStr<'_>) -> bool
 /// and `Memory` says that there was no room. [`has_one_star`] tells whether a text may be asked about.
 pub fn pattern_partial(alloc: Global, pattern: BStr<'_>) -> Result<(), PatternError>
     requires { HasOneStar (bstr_bytes pattern) }
-    ensures { MatchResult result (λ _. IsPattern (bstr_bytes pattern.entry)) (λ e. Explains e (bstr_bytes pattern.entry)) }
+    ensures { MatchResult result (λ _. IsPattern (bstr_bytes pattern.entry)) (λ e. IsPatternFault e (bstr_bytes pattern.entry)) }
 {
     let text = pattern.as_bytes();
     let Ok(mut with_letter) = SmallVec::<u8, 256>::from_slice(alloc, text) else {

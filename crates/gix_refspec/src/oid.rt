@@ -7,7 +7,7 @@ ghost use Rattle.std.specs.Cmp.Lexicographic.{pointwise, slice_cmp, nat_list_eq_
 ghost use Rattle.std.specs.Cmp.{partial_equiv_from_equiv, on_per, on_equiv, on_po, on_total};
 ghost use Rattle.std.specs.Cmp.Rules.{hashing};
 ghost use Rattle.std.proofs.Common.{rules};
-ghost use Rattle.gix_refspec.specs.ObjectId.{HasFault, IsIdLength, IsIdText, bytes_of, digits_of, fault_name, lower_of};
+ghost use Rattle.gix_refspec.specs.ObjectId.{HasIdFault, IsIdLength, IsIdText, bytes_of, digits_of, fault_name, lower_of};
 
 use std::cmp::Ordering;
 use std::hash::{Hash, Hasher};
@@ -109,7 +109,7 @@ impl ObjectId {
     /// `Error::Length` comes wherever the text has neither 40 nor 64 bytes, whatever they are, and
     /// `Error::Digit` where it has, and one of them is no hexadecimal digit.
     pub fn from_hex(hex: &[u8]) -> Result<ObjectId, Error>
-        ensures { MatchResult result (λ id. IsIdText hex.now (id_bytes id)) (λ e. HasFault hex.now e) }
+        ensures { MatchResult result (λ id. IsIdText hex.now (id_bytes id)) (λ e. HasIdFault hex.now e) }
     {
         let Some(kind) = Kind::from_hex_len(hex.len()) else {
             return Err(Error::Length { len: hex.len() });

@@ -1,6 +1,6 @@
 //! What a refspec is read for, and why a text is none.
 
-ghost use Rattle.gix_refspec.specs.Reading.{ReferenceName};
+ghost use Rattle.gix_refspec.specs.Refusal.{ReferenceName};
 ghost use Rattle.gix_refspec.specs.Views.{IsShownAs};
 
 use crate::name;

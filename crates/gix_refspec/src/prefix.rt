@@ -4,7 +4,7 @@ ghost use Rattle.std.specs.Prelude.{◌≡◌, ◌↔◌, [], ◌∷◌, ℕ, Li
 ghost use Rattle.bstr.specs.BStr.{bstr_bytes};
 ghost use Rattle.bstr.specs.Owned.{bstring_bytes};
 ghost use Rattle.gix_refspec.specs.Name.{HasOneStar, HasSeveralStars};
-ghost use Rattle.gix_refspec.specs.Grammar.{head};
+ghost use Rattle.gix_refspec.specs.Bytes.{head};
 ghost use Rattle.gix_refspec.specs.Prefix.{TellsPrefix, HasNoPrefix, IsPrefix, Expands, HasPrefix, IsExpansion, AppendsExpansion, IsAsked};
 ghost use Rattle.gix_refspec.specs.Spec.{reading_of};
 

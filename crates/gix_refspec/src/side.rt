@@ -5,7 +5,7 @@ ghost use Rattle.bstr.specs.Owned.{bstring_bytes};
 ghost use Rattle.gix_refspec.specs.Text.{Begins};
 ghost use Rattle.gix_refspec.specs.Name.{HasSeveralStars};
 ghost use Rattle.gix_refspec.specs.Side.{HasKind, candidates as candidates_of};
-ghost use Rattle.gix_refspec.specs.SideViews.{AreStarsOf, shown_kind};
+ghost use Rattle.gix_refspec.specs.Private.SideViews.{AreStarsOf, shown_kind};
 
 use crate::cut::split_at_first;
 use crate::oid::ObjectId;

@@ -3,10 +3,10 @@
 ghost use Rattle.std.specs.Prelude.{◌≡◌, ◌∷◌, ◌++◌, ◌≤◌, IfOk, OnOk, length};
 ghost use Rattle.std.specs.Io.KnownBytes.{Appends};
 ghost use Rattle.bstr.specs.Owned.{bstring_bytes};
-ghost use Rattle.gix_refspec.specs.Grammar.{colon};
+ghost use Rattle.gix_refspec.specs.Bytes.{colon};
 ghost use Rattle.gix_refspec.specs.Meaning.{sign as sign_of, text_of};
 ghost use Rattle.gix_refspec.specs.Views.{shown, shown_push, shown_fetch};
-ghost use Rattle.gix_refspec.specs.Pieces.{joined};
+ghost use Rattle.gix_refspec.specs.Private.Pieces.{joined};
 
 use crate::instruction::{Fetch, Push};
 use crate::spec::RefSpecRef;

@@ -3,9 +3,9 @@
 use Rattle.std.specs.Prelude.{◌≡◌, ℕ, Bool, true, false, ◌||◌, List, [], ◌∷◌, ◌++◌, Some, codes}
 use Rattle.std.specs.List.{AllZip, flat_map}
 use Rattle.gix_refspec.specs.declared.parsing.Operation.{Operation}
-use Rattle.gix_refspec.specs.Reading.{Reading, Refusal, Empty, NegativeWithDestination, PushToEmpty, PatternUnsupported, ReferenceName, PatternUnbalanced, NegativeEmpty, NegativeObjectHash}
+use Rattle.gix_refspec.specs.Reading.{Reading}
+use Rattle.gix_refspec.specs.Refusal.{Refusal, Empty, NegativeWithDestination, PushToEmpty, PatternUnsupported, ReferenceName, PatternUnbalanced, NegativeEmpty, NegativeObjectHash, IsRefused}
 use Rattle.gix_refspec.specs.Grammar.{Reads}
-use Rattle.gix_refspec.specs.Refusal.{IsRefused}
 use Rattle.gix_refspec.specs.Meaning.{printed}
 use Rattle.refspec_map.specs.Input.{newline, AreLines}
 

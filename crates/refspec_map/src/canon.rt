@@ -2,9 +2,8 @@
 
 ghost use Rattle.std.specs.Prelude.{◌≡◌, ◌≢◌, ◌++◌, ◌∷◌, [], List, ℕ, IfOk, IfErr, OnOk};
 ghost use Rattle.gix_refspec.specs.declared.parsing.Operation.{Operation};
-ghost use Rattle.gix_refspec.specs.Reading.{Refusal};
+ghost use Rattle.gix_refspec.specs.Refusal.{Refusal, IsRefused};
 ghost use Rattle.gix_refspec.specs.Grammar.{Reads};
-ghost use Rattle.gix_refspec.specs.Refusal.{IsRefused};
 ghost use Rattle.gix_refspec.specs.Views.{IsShownAs, ShowsRefusal};
 ghost use Rattle.gix_refspec.specs.Spec.{reading_of};
 ghost use Rattle.refspec_map.specs.Input.{IsFirstLine, newline};

@@ -1,7 +1,7 @@
 // The classes of bytes that the check of a name tells apart.
 
 ghost use Rattle.std.specs.Prelude.{◌≡◌};
-ghost use Rattle.gix_refspec.specs.Scan.{class_at};
+ghost use Rattle.gix_refspec.specs.Private.Scan.{class_at};
 
 use self::Class::*;
 

@@ -2,8 +2,8 @@ use Rattle.std.proofs.Common.{◌≡◌, ◌∷◌, codes, sym, subst, arith}
 use Rattle.std.proofs.lemmas.Bool.{both_ways}
 use Rattle.std.proofs.lemmas.Grind.{common_steps}
 use Rattle.gix_refspec.specs.Text.{Ends}
-use Rattle.gix_refspec.specs.Name.{slash}
-use Rattle.gix_refspec.specs.Scan.{AddsFault}
+use Rattle.gix_refspec.specs.Bytes.{slash}
+use Rattle.gix_refspec.specs.Private.Scan.{AddsFault}
 use Rattle.gix_refspec.proofs.NameLemmas.{slash_adds, last_byte, locked_behind_slash}
 use Rattle.gix_refspec.proofs.name.special_fault.Goals as goal
 

@@ -2,10 +2,10 @@
 use Rattle.std.proofs.Common.{◌≢◌, List, ℕ, subst}
 use Rattle.std.proofs.lemmas.Result.{IfOk-weaker}
 use Rattle.gix_refspec.specs.Grammar.{Reads}
-use Rattle.gix_refspec.specs.declared.parsing.Error.TheVariants as error
 use Rattle.gix_refspec.specs.Refusal.{IsRefused}
 use Rattle.gix_refspec.specs.Views.{ShowsRefusal}
 use Rattle.gix_refspec.specs.Spec.{reading_of}
+use Rattle.gix_refspec.specs.declared.parsing.Error.TheVariants as error
 use Rattle.refspec_map.proofs.canon.put_answer.Goals as goal
 
 pub returns-in-Ok-clause-ok : goal.returns-in-Ok-clause-ok

@@ -4,9 +4,9 @@ use Rattle.std.proofs.lemmas.Result.{err_from_is_err_and}
 use denote.Enum.Bare.{differs_true, differs_false}
 use Rattle.gix_refspec.specs.contracts.parsing.function.Side.{the_type}
 use Rattle.gix_refspec.specs.declared.parsing.Operation.TheVariants.{Fetch}
-use Rattle.gix_refspec.specs.Reading.{PatternUnbalanced}
+use Rattle.gix_refspec.specs.Refusal.{PatternUnbalanced}
 use Rattle.gix_refspec.specs.Views.{mode_of}
-use Rattle.gix_refspec.specs.Sides.{IsCheckedSide, destination_of, named_or_head, side_of}
+use Rattle.gix_refspec.specs.Private.Sides.{IsCheckedSide, destination_of, named_or_head, side_of}
 use Rattle.gix_refspec.proofs.SideLemmas.{now-unwrap_or}
 use Rattle.gix_refspec.proofs.ReasonLemmas.{fetch_reaches, error_at_destination, fetch_source_fine, unbalanced_fetch}
 use Rattle.gix_refspec.proofs.ReadsLemmas.{read_with, fetch_reads, side_of-named_or_head}

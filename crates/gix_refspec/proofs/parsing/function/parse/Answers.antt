@@ -3,7 +3,7 @@ use Rattle.std.proofs.Common.{sym, subst}
 use Rattle.std.proofs.lemmas.Result.{err_from_is_err_and}
 use Rattle.bstr.specs.BStr.{bstr_bytes}
 use Rattle.gix_refspec.specs.Refusal.{IsRefused, MayWantMemory}
-use Rattle.gix_refspec.specs.Sides.{HasParts}
+use Rattle.gix_refspec.specs.Private.Sides.{HasParts}
 use Rattle.gix_refspec.proofs.MemoryLemmas.{shows_refusal, wants_memory}
 use Rattle.gix_refspec.proofs.ReadsLemmas.{error_of_text}
 use Rattle.gix_refspec.proofs.parsing.function.parse.Goals as goal

@@ -5,16 +5,9 @@ use Rattle.gix_refspec.specs.declared.name.class.Class.{Class}
 use Rattle.gix_refspec.specs.declared.name.class.Class.TheVariants.{Plain, Slash, Dot, Brace, Star, Refused}
 use Rattle.gix_refspec.specs.declared.name.Error.{Error}
 use Rattle.gix_refspec.specs.declared.name.Error.TheVariants.{Empty, EmptyComponent, StartsWithDot, LockSuffix, EndsWithDot, RepeatedDot, ReflogPortion, Asterisk, InvalidByte}
-use Rattle.gix_refspec.specs.Name.{slash, star, is_refused_byte}
+use Rattle.gix_refspec.specs.Bytes.{slash, star, dot, brace}
+use Rattle.gix_refspec.specs.Name.{is_refused_byte}
 use Rattle.gix_refspec.specs.Text.{Ends}
-
--- `.`
-abbrev pub dot : ℕ
-dot = 46
-
--- `{`
-abbrev pub brace : ℕ
-brace = 123
 
 -- the class of the byte b
 abbrev pub class_at : ℕ → Class

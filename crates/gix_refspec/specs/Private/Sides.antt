@@ -8,10 +8,11 @@ use Rattle.gix_refspec.specs.declared.parsing.Operation.{Operation}
 use Rattle.gix_refspec.specs.declared.parsing.Error.{Error}
 use Rattle.bstr.specs.BStr.{bstr_bytes}
 use Rattle.gix_refspec.specs.Text.{Lacks}
-use Rattle.gix_refspec.specs.Name.{IsName, IsPattern, star}
-use Rattle.gix_refspec.specs.Reading.{Mode, Reading, Refusal}
-use Rattle.gix_refspec.specs.Grammar.{head, named_by, AreParts, IsPositive, Reads}
-use Rattle.gix_refspec.specs.Refusal.{IsBadName, IsBadPattern, IsFirstReason, IsRefused, ReachesMemory, MayWantMemory}
+use Rattle.gix_refspec.specs.Name.{IsName, IsPattern}
+use Rattle.gix_refspec.specs.Bytes.{star, head}
+use Rattle.gix_refspec.specs.Reading.{Mode, Reading}
+use Rattle.gix_refspec.specs.Refusal.{Refusal, IsBadName, IsBadPattern, IsFirstReason, IsRefused, ReachesMemory, MayWantMemory}
+use Rattle.gix_refspec.specs.Grammar.{named_by, AreParts, IsPositive, Reads}
 use Rattle.gix_refspec.specs.Views.{mode_of, MemoryOr}
 
 -- x has no star, or is a pattern

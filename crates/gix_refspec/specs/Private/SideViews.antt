@@ -5,7 +5,8 @@ use Rattle.gix_refspec.specs.declared.side.Stars.TheVariants as stars
 use Rattle.gix_refspec.specs.declared.side.SideKind.{SideKind as DeclaredKind}
 use Rattle.gix_refspec.specs.declared.side.SideKind.TheVariants as declared_kind
 use Rattle.gix_refspec.specs.Text.{Lacks}
-use Rattle.gix_refspec.specs.Name.{IsCut, HasSeveralStars, star}
+use Rattle.gix_refspec.specs.Name.{IsCut, HasSeveralStars}
+use Rattle.gix_refspec.specs.Bytes.{star}
 use Rattle.gix_refspec.specs.ObjectId.{id_bytes}
 use Rattle.gix_refspec.specs.Side.{SideKind, pattern, full_name, object, partial}
 

@@ -1,0 +1,5 @@
+-- The words that only private functions cite, for their steps.
+pub mod Scan
+pub mod Pieces
+pub mod SideViews
+pub mod Sides
