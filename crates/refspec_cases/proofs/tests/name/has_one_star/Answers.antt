@@ -3,7 +3,7 @@ use Rattle.std.proofs.lemmas.Bool.{OnTrue_from, eqb-true}
 use Rattle.std.specs.List.{count_by}
 use Rattle.gix_refspec.specs.Name.{star}
 use Rattle.gix_refspec.proofs.StarLemmas.{HasOneStar-count_by}
-use Rattle.gix_refspec.proofs.tests.name.has_one_star.Goals as goal
+use Rattle.refspec_cases.proofs.tests.name.has_one_star.Goals as goal
 
 pub returns : goal.returns
 returns c =

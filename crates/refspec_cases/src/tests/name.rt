@@ -1,8 +1,8 @@
 ghost use Rattle.std.specs.Bool.{OnTrue};
 ghost use Rattle.gix_refspec.specs.Name.{HasOneStar};
 
-use crate::name::{Error, PatternError, name_partial, pattern_partial};
 use bstr::BStr;
+use gix_refspec::name::{Error, PatternError, name_partial, pattern_partial};
 use std::alloc::{AllocError, Global};
 use std::test::Fail;
 
