@@ -1,0 +1,21 @@
+-- What the line reads as is what its text is read as; an error that isn't want of memory is a reason.
+use Rattle.std.proofs.Common.{◌≡◌, List, ℕ, subst, sym, ◌∙◌}
+use Rattle.std.proofs.lemmas.Bool.{false≢true}
+use Rattle.gix_refspec.specs.Grammar.{Reads}
+use Rattle.gix_refspec.specs.Refusal.{IsRefused, MayWantMemory}
+use Rattle.gix_refspec.specs.Spec.{reading_of}
+use Rattle.gix_refspec.specs.Views.{MemoryOr}
+use Rattle.gix_refspec.specs.declared.parsing.Error.TheVariants as error
+use Rattle.refspec_map.proofs.OutputLemmas.{refusal_from_error}
+use Rattle.refspec_map.proofs.canon.answer_to.Goals as goal
+use Rattle.refspec_map.proofs.canon.answer_to.Goals.{in-Memory, in_default}
+
+pub returns-in-Ok-clause-ok : goal.returns-in-Ok-clause-ok
+returns-in-Ok-clause-ok c = subst (λ (x : List ℕ). Reads c.args.operation x (reading_of c.in-Ok.spec)) c.new.ensures c.in-Ok.ensures.ok
+
+pub returns-else-matches-clause-ok : goal.returns-else-matches-clause-ok
+returns-else-matches-clause-ok c =
+    let told = subst (λ (x : List ℕ). MemoryOr (MayWantMemory c.args.operation x) (IsRefused c.args.operation x) c.in-Err.error) c.new.ensures c.in-Err.ensures.refused in
+    let other : (c.in-Err.error ≡ error.Memory → ⊥) = elim c.match-matches.branch [ in-Memory w ↦ λ same. false≢true (sym c.if-matches.false ∙ w.matches-is) | in_default w ↦ w.in_default.not-Memory ] in
+    let refusal = refusal_from_error (MayWantMemory c.args.operation c.args.line.now) (IsRefused c.args.operation c.args.line.now) c.in-Err.error other told in
+    (refusal.0, refusal.2, c.variant_name.ensures refusal.0 refusal.1)
