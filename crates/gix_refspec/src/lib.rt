@@ -25,6 +25,3 @@ mod write;
 pub use parsing::function::parse;
 pub use spec::{RefSpec, RefSpecRef};
 pub use types::Instruction;
-
-#[cfg(test)]
-mod tests;

@@ -5,7 +5,8 @@ use Rattle.std.proofs.lemmas.Bool.{false≢true}
 use Rattle.std.specs.Io.KnownBytes.{Consumes}
 use Rattle.refspec_map.specs.declared.fault.Fault.{Fault}
 use Rattle.refspec_map.specs.declared.fault.Fault.TheVariants as fault
-use Rattle.refspec_map.specs.Run.{Explains, IsReadOrMemory}
+use Rattle.refspec_map.specs.Fault.{IsReadOrMemory}
+use Rattle.refspec_map.specs.Run.{Explains}
 
 -- what one read took and what the next took are taken together
 pub Consumes-append : (x y z : Option (List ℕ)) (front back : List ℕ) → Consumes x y front → Consumes y z back → Consumes x z (front ++ back)

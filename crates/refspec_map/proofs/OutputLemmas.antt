@@ -5,8 +5,18 @@ use Rattle.gix_refspec.specs.declared.parsing.Operation.{Operation}
 use Rattle.std.proofs.lemmas.Bool.{eqb-true, false≢true}
 use Rattle.std.proofs.lemmas.List.{append-nil}
 use Rattle.gix_refspec.specs.Text.{Lacks}
+use Rattle.gix_refspec.specs.Spec.{reading_of}
 use Rattle.refspec_map.specs.Input.{newline, AreLines, IsFirstLine}
-use Rattle.refspec_map.specs.Output.{Answer, IsAnswer, line_of, is_refused, any_refused, IsCanon, PutsAnswer}
+use Rattle.refspec_map.specs.declared.output.Answer.{Answer as Made}
+use Rattle.refspec_map.specs.declared.output.Answer.TheVariants as made
+use Rattle.refspec_map.specs.Output.{Answer, accepted, refused, IsAnswer, line_of, is_refused, any_refused, IsCanon, IsAnsweredBy, PutsLine, is_refusal}
+
+-- the answer to a line was put behind the old output, and refusal says whether it is refused
+record PutsAnswer (op : Operation) (line old new : List ℕ) (refusal : Bool) : Type 0 where
+  answer : Answer
+  is : IsAnswer op line answer
+  put : new ≡ old ++ line_of answer
+  tells : refusal ≡ is_refused answer
 
 -- whatever answers the rest of an input completes the output so far
 abbrev pub Completes : Operation → List ℕ → List ℕ → Bool → List ℕ → Type 0
@@ -47,9 +57,14 @@ or_more false b c d same = ap (λ x. x || d) (sym same)
 lines_more : (text line rest : List ℕ) (lines : List (List ℕ)) → text ≢ [] → IsFirstLine text line rest → AreLines lines rest → (all : List (List ℕ)) × AreLines all text × (all ≡ line ∷ lines)
 lines_more text line rest lines full first cut = lines_more_by text line rest lines full first.0 cut first.1
 
+-- what the program made of a line, and the line of it, are an answer
+answer_put : (op : Operation) (line old new : List ℕ) (m : Made) → IsAnsweredBy op line m → PutsLine m old new → PutsAnswer op line old new (is_refusal m)
+answer_put op line old new (made.Accepted s) is put = record { answer = accepted put.0; is = (reading_of s, is, put.1); put = put.2; tells = refl }
+answer_put op line old new (made.Refused name) is put = record { answer = refused is.0; is = is.1; put = put is.0 is.2; tells = refl }
+
 -- one line more
-pub Completes-line : (op : Operation) (input old new text line rest : List ℕ) (before refusal : Bool) → text ≢ [] → IsFirstLine text line rest → PutsAnswer op line old new refusal → Completes op input old before text → Completes op input new (before || refusal) rest
-Completes-line op input old new text line rest before refusal full first put completes lines answers cut told =
+Completes-answer : (op : Operation) (input old new text line rest : List ℕ) (before refusal : Bool) → text ≢ [] → IsFirstLine text line rest → PutsAnswer op line old new refusal → Completes op input old before text → Completes op input new (before || refusal) rest
+Completes-answer op input old new text line rest before refusal full first put completes lines answers cut told =
     let lines_of_text = lines_more text line rest lines full first cut in
     let whole = completes lines_of_text.0 (put.answer ∷ answers) lines_of_text.1 (subst (λ (ls : List (List ℕ)). AllZip (IsAnswer op) ls (put.answer ∷ answers)) (sym lines_of_text.2) (put.is, told)) in
     let output : old ++ (line_of put.answer ++ flat_map line_of answers) ≡ new ++ flat_map line_of answers =
@@ -59,12 +74,11 @@ Completes-line op input old new text line rest before refusal full first put com
     subst (λ (x : List ℕ). IsCanon op input x ((before || refusal) || any_refused answers)) output
     (subst (λ (b : Bool). IsCanon op input (old ++ (line_of put.answer ++ flat_map line_of answers)) b) tells whole)
 
--- a refusal that was seen stays seen; else the next line tells
-pub refusal_stays : (before refusal : Bool) → before ≡ true → (before || refusal) ≡ before
-refusal_stays before refusal seen = subst (λ (b : Bool). (b || refusal) ≡ b) (sym seen) refl
-
-pub refusal_shows : (before refusal : Bool) → before ≡ false → (before || refusal) ≡ refusal
-refusal_shows before refusal unseen = subst (λ (b : Bool). (b || refusal) ≡ refusal) (sym unseen) refl
+-- one line more, of which the program made an answer, and put it
+pub Completes-line : (op : Operation) (input old new text line rest : List ℕ) (before refusal : Bool) (m : Made) → text ≢ [] → IsFirstLine text line rest → IsAnsweredBy op line m → PutsLine m old new → refusal ≡ is_refusal m → Completes op input old before text → Completes op input new (before || refusal) rest
+Completes-line op input old new text line rest before refusal m full first is put tells completes =
+    subst (λ (b : Bool). Completes op input new (before || b) rest) (sym tells)
+    (Completes-answer op input old new text line rest before (is_refusal m) full first (answer_put op line old new m is put) completes)
 
 -- no line more, no refusal more
 or_false : (b : Bool) → (b || false) ≡ b

@@ -1,7 +1,25 @@
--- The lines of an input. This project's own rule: a newline ends a line, and every other byte, a
--- carriage return too, is a byte of it.
-use Rattle.std.specs.Prelude.{◌≡◌, ◌≢◌, ◌⊎◌, ℕ, List, [], ◌∷◌, ◌++◌}
+-- An input that is read to its end, and its lines. This project's own rule: a newline ends a line, and
+-- every other byte, a carriage return too, is a byte of it.
+use Rattle.std.specs.Prelude.{◌≡◌, ◌≢◌, ◌≤◌, ◌⊎◌, ℕ, Bool, List, [], ◌∷◌, ◌++◌, Option, length, MatchBool}
+use Rattle.std.specs.Io.KnownBytes.{Consumes, IsAtEnd}
 use Rattle.gix_refspec.specs.Text.{Lacks}
+
+-- the most bytes that an input may have
+abbrev pub input_limit : ℕ
+input_limit = 1048576
+
+-- one read took some bytes and put them behind the old input, or found the end
+pub record ReadsSome (more : Bool) (reader_old reader_new : Option (List ℕ)) (old new : List ℕ) : Type 0 where
+  pub came : List ℕ
+  pub taken : Consumes reader_old reader_new came
+  pub put : new ≡ old ++ came
+  pub tells : MatchBool more (came ≢ []) ((came ≡ []) × IsAtEnd reader_new)
+
+-- the input was read from old to its end, and is within the limit
+pub record ReadsToEnd (old new : Option (List ℕ)) (input : List ℕ) : Type 0 where
+  pub taken : Consumes old new input
+  pub ended : IsAtEnd new
+  pub within : length input ≤ input_limit
 
 -- the newline
 abbrev pub newline : ℕ

@@ -4,9 +4,13 @@ use Rattle.std.specs.Prelude.{◌≡◌, ℕ, Bool, true, false, ◌||◌, List,
 use Rattle.std.specs.List.{AllZip, flat_map}
 use Rattle.gix_refspec.specs.declared.parsing.Operation.{Operation}
 use Rattle.gix_refspec.specs.Reading.{Reading}
-use Rattle.gix_refspec.specs.Refusal.{Refusal, Empty, NegativeWithDestination, PushToEmpty, PatternUnsupported, ReferenceName, PatternUnbalanced, NegativeEmpty, NegativeObjectHash, IsRefused}
+use Rattle.gix_refspec.specs.Refusal.{IsRefused, Refusal}
 use Rattle.gix_refspec.specs.Grammar.{Reads}
 use Rattle.gix_refspec.specs.Meaning.{printed}
+use Rattle.gix_refspec.specs.Spec.{reading_of}
+use Rattle.refspec_map.specs.declared.output.Answer.{Answer as Made}
+use Rattle.refspec_map.specs.declared.output.Answer.TheVariants as made
+use Rattle.refspec_map.specs.Fault.{name_of}
 use Rattle.refspec_map.specs.Input.{newline, AreLines}
 
 -- a canonical text, or a refusal
@@ -18,17 +22,6 @@ pub data Answer : Type 0 where
 abbrev pub IsAnswer : Operation → List ℕ → Answer → Type 0
 IsAnswer op line (accepted text) = (r : Reading) × Reads op line r × (printed r ≡ Some text)
 IsAnswer op line (refused e) = IsRefused op line e
-
--- the name of a reason, alone
-abbrev pub name_of : Refusal → List ℕ
-name_of Empty = codes "Empty"
-name_of NegativeWithDestination = codes "NegativeWithDestination"
-name_of PushToEmpty = codes "PushToEmpty"
-name_of (PatternUnsupported pattern) = codes "PatternUnsupported"
-name_of (ReferenceName fault) = codes "ReferenceName"
-name_of PatternUnbalanced = codes "PatternUnbalanced"
-name_of NegativeEmpty = codes "NegativeEmpty"
-name_of NegativeObjectHash = codes "NegativeObjectHash"
 
 -- the line of an answer
 abbrev pub line_of : Answer → List ℕ
@@ -54,15 +47,17 @@ pub record IsCanon (op : Operation) (input output : List ℕ) (refusal : Bool) :
   pub written : output ≡ flat_map line_of answers
   pub tells : refusal ≡ any_refused answers
 
--- the answer to a line was put behind the old output, and refusal says whether it is refused
-pub record PutsAnswer (op : Operation) (line old new : List ℕ) (refusal : Bool) : Type 0 where
-  pub answer : Answer
-  pub is : IsAnswer op line answer
-  pub put : new ≡ old ++ line_of answer
-  pub tells : refusal ≡ is_refused answer
+-- what the program made of a line, read for the operation: a reading that it has, or the name of the first reason
+abbrev pub IsAnsweredBy : Operation → List ℕ → Made → Type 0
+IsAnsweredBy op line (made.Accepted s) = Reads op line (reading_of s)
+IsAnsweredBy op line (made.Refused name) = (e : Refusal) × IsRefused op line e × (name.now ≡ name_of e)
 
--- the line of the canonical text of a reading was put behind the old output
-pub record PutsText (r : Reading) (old new : List ℕ) : Type 0 where
-  pub text : List ℕ
-  pub is : printed r ≡ Some text
-  pub put : new ≡ old ++ line_of (accepted text)
+-- the line of what the program made was put behind the old output
+abbrev pub PutsLine : Made → List ℕ → List ℕ → Type 0
+PutsLine (made.Accepted s) old new = (text : List ℕ) × (printed (reading_of s) ≡ Some text) × (new ≡ old ++ line_of (accepted text))
+PutsLine (made.Refused name) old new = (e : Refusal) → name.now ≡ name_of e → new ≡ old ++ line_of (refused e)
+
+-- whether what the program made is a refusal
+abbrev pub is_refusal : Made → Bool
+is_refusal (made.Accepted s) = false
+is_refusal (made.Refused name) = true

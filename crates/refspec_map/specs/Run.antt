@@ -1,17 +1,14 @@
 -- What a run of a command does to its reader and its writer.
-use Rattle.std.specs.Prelude.{◌≡◌, ◌≢◌, ◌<◌, ◌≤◌, ℕ, Bool, List, [], ◌++◌, Option, length, if◌then◌else◌, MatchBool, ⊤}
-use Rattle.std.specs.Io.KnownBytes.{Appends, Consumes, IsAtEnd, Keeps}
+use Rattle.std.specs.Prelude.{◌≡◌, ◌<◌, ℕ, Bool, List, Option, length, if◌then◌else◌, ⊤}
+use Rattle.std.specs.Io.KnownBytes.{Appends, Consumes, Keeps}
 use Rattle.gix_refspec.specs.declared.parsing.Operation.{Operation}
 use Rattle.gix_refspec.specs.declared.parsing.Operation.TheVariants.{Push, Fetch}
 use Rattle.refspec_map.specs.declared.command.Command.{Command}
 use Rattle.refspec_map.specs.declared.command.Command.TheVariants as command
 use Rattle.refspec_map.specs.declared.fault.Fault.{Fault}
 use Rattle.refspec_map.specs.declared.fault.Fault.TheVariants as fault
+use Rattle.refspec_map.specs.Input.{input_limit, ReadsToEnd}
 use Rattle.refspec_map.specs.Output.{IsCanon}
-
--- the most bytes that an input may have
-abbrev pub input_limit : ℕ
-input_limit = 1048576
 
 -- what a command reads its specs for
 abbrev pub operation_of : Command → Operation
@@ -21,12 +18,6 @@ operation_of command.CanonPush = Push
 -- the output of a command for an input, and whether some line is refused
 abbrev pub IsOutput : Command → List ℕ → List ℕ → Bool → Type 0
 IsOutput command = IsCanon (operation_of command)
-
--- the input was read from old to its end, and is within the limit
-pub record ReadsToEnd (old new : Option (List ℕ)) (input : List ℕ) : Type 0 where
-  pub taken : Consumes old new input
-  pub ended : IsAtEnd new
-  pub within : length input ≤ input_limit
 
 -- the input was read to its end, and its output was written
 pub record Answers (command : Command) (reader_old reader_new writer_old writer_new : Option (List ℕ)) (status : ℕ) : Type 0 where
@@ -46,35 +37,6 @@ Explains old new (fault.Line number) = ⊥
 Explains old new (fault.Spec number error) = ⊥
 Explains old new fault.Memory = ⊤
 Explains old new fault.Write = ⊤
-
--- the status of a fault: 1 where a line is at fault, else 3
-abbrev pub status_of : Fault → ℕ
-status_of (fault.Line number) = 1
-status_of (fault.Spec number error) = 1
-status_of _ = 3
-
--- the fault is want of memory
-abbrev pub IsMemory : Fault → Type 0
-IsMemory fault.Memory = ⊤
-IsMemory _ = ⊥
-
--- the fault is of the reader, or want of memory
-abbrev pub IsReadOrMemory : Fault → Type 0
-IsReadOrMemory fault.Read = ⊤
-IsReadOrMemory fault.Memory = ⊤
-IsReadOrMemory _ = ⊥
-
--- the fault is of the writer
-abbrev pub IsWrite : Fault → Type 0
-IsWrite fault.Write = ⊤
-IsWrite _ = ⊥
-
--- one read took some bytes and put them behind the old input, or found the end
-pub record ReadsSome (more : Bool) (reader_old reader_new : Option (List ℕ)) (old new : List ℕ) : Type 0 where
-  pub came : List ℕ
-  pub taken : Consumes reader_old reader_new came
-  pub put : new ≡ old ++ came
-  pub tells : MatchBool more (came ≢ []) ((came ≡ []) × IsAtEnd reader_new)
 
 -- what was written before a fault: nothing, but where the writer failed
 abbrev pub Leaves : Option (List ℕ) → Option (List ℕ) → Fault → Type 0

@@ -1,10 +1,11 @@
 //! Why a run ended early.
 
 ghost use Rattle.std.specs.Prelude.{◌≡◌};
-ghost use Rattle.refspec_map.specs.Run.{status_of};
+ghost use Rattle.gix_refspec.specs.Refusal.{Refusal};
+ghost use Rattle.gix_refspec.specs.Views.{IsShownAs};
+ghost use Rattle.refspec_map.specs.Fault.{name_of, status_of};
 
-use crate::canon::variant_name;
-use gix_refspec::parsing;
+use gix_refspec::parsing::Error;
 use std::{error, fmt};
 
 /// Why a run ended early. Nothing was written, but where the writer failed.
@@ -19,7 +20,7 @@ pub enum Fault {
     Line(usize),
     /// The line with this number, counted from 1, holds a spec that is refused. A canon command
     /// writes the refusal as the answer to the line, and never gives it.
-    Spec { line: usize, error: parsing::Error },
+    Spec { line: usize, error: Error },
     /// There was no memory for the input, a spec or the output.
     Memory,
     /// The output could not be written or flushed. A part of it may have been written.
@@ -55,3 +56,23 @@ impl fmt::Display for Fault {
 }
 
 impl error::Error for Fault {}
+
+/// The name of a refusal, alone.
+pub(crate) fn variant_name(error: &Error) -> &'static str
+    ensures { (f : Refusal) → IsShownAs error.now f → result.now ≡ name_of f }
+{
+    match error {
+        Error::Empty => "Empty",
+        Error::NegativeWithDestination => "NegativeWithDestination",
+        Error::NegativeEmpty => "NegativeEmpty",
+        Error::NegativeObjectHash => "NegativeObjectHash",
+        Error::NegativePartialName => "NegativePartialName",
+        Error::NegativeGlobPattern => "NegativeGlobPattern",
+        Error::InvalidFetchDestination => "InvalidFetchDestination",
+        Error::PushToEmpty => "PushToEmpty",
+        Error::PatternUnsupported { .. } => "PatternUnsupported",
+        Error::PatternUnbalanced => "PatternUnbalanced",
+        Error::ReferenceName(_) => "ReferenceName",
+        Error::Memory => "Memory",
+    }
+}

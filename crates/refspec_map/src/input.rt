@@ -1,9 +1,12 @@
-//! The input, read whole.
+//! The input, read whole, and cut into lines.
 
 ghost use Rattle.std.specs.Prelude.{◌<◌, IfOk, IfErr, length};
-ghost use Rattle.refspec_map.specs.Run.{ReadsToEnd, Explains, ReadsSome, IsReadOrMemory};
+ghost use Rattle.refspec_map.specs.Fault.{IsReadOrMemory};
+ghost use Rattle.refspec_map.specs.Input.{ReadsToEnd, ReadsSome, IsFirstLine};
+ghost use Rattle.refspec_map.specs.Run.{Explains};
 
 use crate::fault::Fault;
+use bstr::ByteSlice;
 use std::alloc::Global;
 use std::io::Read;
 
@@ -43,5 +46,18 @@ fn read_some<R: Read>(reader: &mut R, buffer: &mut [u8], input: &mut Vec<u8>) ->
     match input.extend_from_slice(&buffer[..count]) {
         Ok(()) => Ok(count > 0),
         Err(_) => Err(Fault::Memory),
+    }
+}
+
+/// The first line of a text, and what follows its newline.
+pub(crate) fn first_line(text: &[u8]) -> (&[u8], &[u8])
+    ensures { IsFirstLine text.now result.0.now result.1.now }
+{
+    match text.find_byte(b'\n') {
+        None => (text, b""),
+        Some(end) => {
+            let (line, back) = text.split_at(end);
+            (line, &back[1..])
+        }
     }
 }

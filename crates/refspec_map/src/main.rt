@@ -5,6 +5,7 @@ mod canon;
 mod command;
 mod fault;
 mod input;
+mod output;
 mod run;
 
 use crate::command::Command;

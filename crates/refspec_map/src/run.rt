@@ -2,7 +2,8 @@
 
 ghost use Rattle.std.specs.Prelude.{IfOk, IfErr, OnOk};
 ghost use Rattle.std.specs.Io.KnownBytes.{Appends};
-ghost use Rattle.refspec_map.specs.Run.{Answers, Explains, Leaves, IsWrite};
+ghost use Rattle.refspec_map.specs.Fault.{IsWrite};
+ghost use Rattle.refspec_map.specs.Run.{Answers, Explains, Leaves};
 
 use crate::canon::canon;
 use crate::command::Command;

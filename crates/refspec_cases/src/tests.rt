@@ -10,7 +10,7 @@ mod printing;
 mod spec;
 mod writing;
 
-use crate::RefSpecRef;
+use gix_refspec::RefSpecRef;
 use std::alloc::{AllocError, Global};
 use std::io;
 use std::io::Write;

@@ -1,10 +1,10 @@
 //! Which texts are read, how they print, what they say to do, and why others are refused.
 
 use super::canonical;
-use crate::instruction::Fetch;
-use crate::parsing::{Error, Operation};
-use crate::{Instruction, parse};
 use bstr::{BStr, ByteSlice};
+use gix_refspec::instruction::Fetch;
+use gix_refspec::parsing::{Error, Operation};
+use gix_refspec::{Instruction, parse};
 use std::alloc::{AllocError, Global};
 use std::process::Abort;
 use std::test::Fail;

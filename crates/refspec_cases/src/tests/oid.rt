@@ -1,6 +1,6 @@
 //! Ids from outside, what they print, how they are ordered, and which texts are refused.
 
-use crate::oid::{Error, Kind, ObjectId};
+use gix_refspec::oid::{Error, Kind, ObjectId};
 use std::test::Fail;
 
 // The ids that Git gives the empty blob, under either hash function.

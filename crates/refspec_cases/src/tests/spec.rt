@@ -1,9 +1,9 @@
 //! The sides of specs, their copies, and what they are for.
 
 use super::canonical;
-use crate::parse;
-use crate::parsing::Operation;
 use bstr::BStr;
+use gix_refspec::parse;
+use gix_refspec::parsing::Operation;
 use std::test::Fail;
 
 // A side as a row writes it.

@@ -1,8 +1,8 @@
 //! What the refusals print, and that the fault of a name becomes one.
 
-use crate::name::{self, name_partial};
-use crate::parsing::Error;
 use bstr::{BStr, BString};
+use gix_refspec::name::{self, name_partial};
+use gix_refspec::parsing::Error;
 use std::test::Fail;
 
 // Refuses what is no name, through `?`.

@@ -1,9 +1,9 @@
 //! What a client asks a server to advertise.
 
-use crate::instruction::Fetch;
-use crate::parsing::Operation;
-use crate::{Instruction, parse};
 use bstr::{BStr, BString};
+use gix_refspec::instruction::Fetch;
+use gix_refspec::parsing::Operation;
+use gix_refspec::{Instruction, parse};
 use std::alloc::{AllocError, Global};
 use std::process::Abort;
 use std::test::Fail;

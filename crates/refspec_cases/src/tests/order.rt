@@ -1,9 +1,9 @@
 //! Which specs are equal, and in which order others stand.
 
 use super::canonical;
-use crate::parsing::Operation;
-use crate::{RefSpecRef, parse};
 use bstr::BStr;
+use gix_refspec::parsing::Operation;
+use gix_refspec::{RefSpecRef, parse};
 use std::alloc::{AllocError, Global};
 use std::cmp::Ordering;
 use std::fmt::Debug;

@@ -1,9 +1,9 @@
 //! What goes out to a writer, and what a writer's fault leaves.
 
 use super::TightWriter;
-use crate::parsing::Operation;
-use crate::{RefSpecRef, parse};
 use bstr::BStr;
+use gix_refspec::parsing::Operation;
+use gix_refspec::{RefSpecRef, parse};
 use std::alloc::Global;
 use std::io;
 use std::io::ErrorKind;

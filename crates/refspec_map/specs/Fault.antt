@@ -1,0 +1,38 @@
+-- Why a run ends early, and what the program calls the reason why a text is no spec.
+use Rattle.std.specs.Prelude.{ℕ, List, codes, ⊤}
+use Rattle.gix_refspec.specs.Refusal.{Refusal, Empty, NegativeWithDestination, PushToEmpty, PatternUnsupported, ReferenceName, PatternUnbalanced, NegativeEmpty, NegativeObjectHash}
+use Rattle.refspec_map.specs.declared.fault.Fault.{Fault}
+use Rattle.refspec_map.specs.declared.fault.Fault.TheVariants as fault
+
+-- the name of a reason, alone
+abbrev pub name_of : Refusal → List ℕ
+name_of Empty = codes "Empty"
+name_of NegativeWithDestination = codes "NegativeWithDestination"
+name_of PushToEmpty = codes "PushToEmpty"
+name_of (PatternUnsupported pattern) = codes "PatternUnsupported"
+name_of (ReferenceName fault) = codes "ReferenceName"
+name_of PatternUnbalanced = codes "PatternUnbalanced"
+name_of NegativeEmpty = codes "NegativeEmpty"
+name_of NegativeObjectHash = codes "NegativeObjectHash"
+
+-- the status of a fault: 1 where a line is at fault, else 3
+abbrev pub status_of : Fault → ℕ
+status_of (fault.Line number) = 1
+status_of (fault.Spec number error) = 1
+status_of _ = 3
+
+-- the fault is want of memory
+abbrev pub IsMemory : Fault → Type 0
+IsMemory fault.Memory = ⊤
+IsMemory _ = ⊥
+
+-- the fault is of the reader, or want of memory
+abbrev pub IsReadOrMemory : Fault → Type 0
+IsReadOrMemory fault.Read = ⊤
+IsReadOrMemory fault.Memory = ⊤
+IsReadOrMemory _ = ⊥
+
+-- the fault is of the writer
+abbrev pub IsWrite : Fault → Type 0
+IsWrite fault.Write = ⊤
+IsWrite _ = ⊥
