@@ -41,7 +41,7 @@ pub fn equal_texts(operation: Operation, a: &[u8], b: &[u8])
 {}
 
 /// Two specs are equal exactly where they are for one operation and their canonical texts are equal.
-pub fn equal_specs<'a>(a: &RefSpecRef<'a>, b: &RefSpecRef<'a>)
+pub fn equal_specs<'a>(a: &RefSpecRef<'a>, b: &RefSpecRef<'_>)
     ensures same { IsTrue (⟦<RefSpecRef<'a> as PartialEq>⟧.eq a.now b.now) ↔ (meaning_of (reading_of a.now) ≡ meaning_of (reading_of b.now)) }
     ensures text { EqualReadings (reading_of a.now) (reading_of b.now) }
 {}
