@@ -3,7 +3,7 @@
 
 ghost use Rattle.std.specs.Prelude.{◌≡◌, ◌↔◌, IsTrue};
 ghost use Rattle.std.specs.Ordering.{nat_cmp};
-ghost use Rattle.gix_refspec.specs.Laws.{ReadsOrRefused, OneRefusal, ReadsBack, IsPrintedBack, KeepsOperation, SaysForOperation, EqualTexts, EqualReadings, OneId, OneLowerText, NothingAgainst, OneWord, PrefixBegins, OnePrefix, Candidates};
+ghost use Rattle.gix_refspec.specs.Laws.{ReadsOrRefused, OneRefusal, ReadsBack, IsPrintedBack, KeepsOperation, SaysForOperation, EqualTexts, EqualReadings, IdOrFault, OneLowerText, NothingAgainst, OneWord, PrefixBegins, OnePrefix, Candidates};
 ghost use Rattle.gix_refspec.specs.Meaning.{meaning_of};
 ghost use Rattle.gix_refspec.specs.ObjectId.{id_bytes};
 ghost use Rattle.gix_refspec.specs.Order.{is_same, order, place_of};
@@ -20,7 +20,7 @@ pub fn reads_or_refused(operation: Operation, text: &[u8])
     ensures { ReadsOrRefused operation text.now }
 {}
 
-/// A text is refused for one reason, but any fault of a name may be told.
+/// A text is refused for one reason. Where that is a fault of a name, any of its faults may be reported.
 pub fn one_refusal(operation: Operation, text: &[u8])
     ensures { OneRefusal operation text.now }
 {}
@@ -67,17 +67,17 @@ pub fn says_for_operation(spec: &RefSpecRef<'_>)
     ensures { SaysForOperation (reading_of spec.now) }
 {}
 
-/// A text is that of one id and has no fault, or it has one fault.
-pub fn one_id(text: &[u8])
-    ensures { OneId text.now }
+/// A text is that of one id, or it has one fault; never both.
+pub fn id_or_fault(text: &[u8])
+    ensures { IdOrFault text.now }
 {}
 
-/// An id prints as its text in lower case, of which there is one, and from which it is read again.
+/// An id prints as its one text in lower case, from which it is read again.
 pub fn one_lower_text(id: ObjectId)
     ensures { OneLowerText (id_bytes id) }
 {}
 
-/// A pattern of up to 256 bytes is accepted.
+/// Nothing is against a pattern, unless it has more than 256 bytes and memory runs out.
 pub fn nothing_against(pattern: &[u8])
     ensures { NothingAgainst pattern.now }
 {}
@@ -92,7 +92,7 @@ pub fn prefix_begins(side: &[u8])
     ensures { PrefixBegins side.now }
 {}
 
-/// A side has one prefix at the most, and is expanded to one list.
+/// A side has no two prefixes, and is not expanded to two lists.
 pub fn one_prefix(side: &[u8])
     ensures { OnePrefix side.now }
 {}
