@@ -20,7 +20,7 @@ pub fn reads_or_refused(operation: Operation, text: &[u8])
     ensures { ReadsOrRefused operation text.now }
 {}
 
-/// A text is refused for one reason. Where that is a fault of a name, any of its faults may be reported.
+/// A text is refused for one reason. For a bad name any of its faults may be reported.
 pub fn one_refusal(operation: Operation, text: &[u8])
     ensures { OneRefusal operation text.now }
 {}
@@ -40,13 +40,13 @@ pub fn equal_texts(operation: Operation, a: &[u8], b: &[u8])
     ensures { EqualTexts operation a.now b.now }
 {}
 
-/// Two specs are equal exactly where they are for one operation and their canonical texts are equal.
+/// Two specs are equal exactly where they are for one operation and have one canonical text.
 pub fn equal_specs<'a>(a: &RefSpecRef<'a>, b: &RefSpecRef<'_>)
     ensures same { IsTrue (⟦<RefSpecRef<'a> as PartialEq>⟧.eq a.now b.now) ↔ (meaning_of (reading_of a.now) ≡ meaning_of (reading_of b.now)) }
     ensures text { EqualReadings (reading_of a.now) (reading_of b.now) }
 {}
 
-/// Two owned specs are equal exactly where they are for one operation and their canonical texts are equal.
+/// As `equal_specs`, of owned specs.
 pub fn equal_owned_specs(a: &RefSpec, b: &RefSpec)
     ensures same { IsTrue (⟦<RefSpec as PartialEq>⟧.eq a.now b.now) ↔ (meaning_of (owned_reading_of a.now) ≡ meaning_of (owned_reading_of b.now)) }
     ensures text { EqualReadings (owned_reading_of a.now) (owned_reading_of b.now) }
@@ -57,7 +57,7 @@ pub fn spec_reads_back(spec: &RefSpecRef<'_>)
     ensures { IsPrintedBack (reading_of spec.now).operation (reading_of spec.now) }
 {}
 
-/// An owned spec has a canonical text, which has exactly one reading, with the same meaning.
+/// As `spec_reads_back`, of an owned spec.
 pub fn owned_spec_reads_back(spec: &RefSpec)
     ensures { IsPrintedBack (owned_reading_of spec.now).operation (owned_reading_of spec.now) }
 {}

@@ -1,7 +1,9 @@
-//! What a caller can prove of refspecs, from the public words, contracts and laws of `gix_refspec` alone.
+//! What a caller can prove of refspecs, from the public words, contracts and laws of `gix_refspec`
+//! alone.
 //!
-//! Unless memory runs out, `parse` takes just the texts of the grammar, two specs are equal just where they
-//! are for one operation and print the same, and what a spec prints is read again as an equal spec.
+//! Unless memory runs out, `parse` takes just the texts of the grammar, two specs are equal just
+//! where they are for one operation and print the same, and what a spec prints is read again as an
+//! equal spec.
 #![tactic(auto)]
 
 ghost use Rattle.std.specs.Prelude.{◌≡◌, ◌≢◌, IsTrue, IfOk, OnOk, OnErr, MatchOption};
@@ -16,7 +18,8 @@ use gix_refspec::parsing::{Error, Operation};
 use gix_refspec::{RefSpec, RefSpecRef, laws, parse};
 use std::alloc::{AllocError, Global};
 
-/// The refspec that a text is for an operation. `None` comes just where it is none.
+/// The refspec that a text is for an operation. `None` comes just where it is none. Fails if memory
+/// runs out, which it may only for a side with several stars or with a star and more than 256 bytes.
 pub fn read<'a>(
     alloc: Global,
     text: BStr<'a>,
@@ -48,7 +51,8 @@ fn unless_memory(error: &Error) -> Result<(), AllocError>
     }
 }
 
-/// Whether two specs are for one operation and print the same text: that is what `==` tells.
+/// Whether two specs are for one operation and print the same text: that is what `==` tells. Fails
+/// if memory runs out.
 pub fn same_text<'a>(
     alloc: Global,
     a: &RefSpecRef<'a>,
@@ -65,14 +69,15 @@ pub fn same_text<'a>(
     Ok(one_operation && text_of_a.as_bytes() == text_of_b.as_bytes())
 }
 
-/// The same of owned specs.
+/// As [`same_text`], of owned specs.
 pub fn same_owned_text(alloc: Global, a: &RefSpec, b: &RefSpec) -> Result<bool, AllocError>
     ensures { IfOk result (λ same. same ≡ ⟦<RefSpec as PartialEq>⟧.eq a.now b.now) }
 {
     same_text(alloc, &a.to_ref(), &b.to_ref())
 }
 
-/// Prints a spec, and reads for its operation what it printed: an equal spec.
+/// Prints a spec, and reads what it printed for its operation: an equal spec, with sides of its own.
+/// Fails if memory runs out, and never because the text is refused.
 pub fn reread(alloc: Global, spec: &RefSpecRef<'_>) -> Result<RefSpec, AllocError>
     ensures { IfOk result (λ again. AreEqual (owned_reading_of again) (reading_of spec.now)) }
 {
@@ -88,7 +93,7 @@ pub fn reread(alloc: Global, spec: &RefSpecRef<'_>) -> Result<RefSpec, AllocErro
     }
 }
 
-/// The same of an owned spec.
+/// As [`reread`], of an owned spec.
 pub fn reread_owned(alloc: Global, spec: &RefSpec) -> Result<RefSpec, AllocError>
     ensures { IfOk result (λ again. IsTrue (⟦<RefSpec as PartialEq>⟧.eq again spec.now)) }
 {
@@ -97,8 +102,8 @@ pub fn reread_owned(alloc: Global, spec: &RefSpec) -> Result<RefSpec, AllocError
     Ok(again)
 }
 
-/// The canonical text of a refspec, which is its own canonical text. `None` comes just where the text is
-/// no refspec.
+/// The canonical text of a refspec, which is its own canonical text. `None` comes just where the
+/// text is no refspec. Fails if memory runs out.
 pub fn canonical(
     alloc: Global,
     text: BStr<'_>,
