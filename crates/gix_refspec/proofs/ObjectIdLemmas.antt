@@ -1,10 +1,10 @@
 -- Facts on the texts of ids: which texts they are, that each is the text of one id, and that decoding finds it.
-use Rattle.std.proofs.Common.{◌≡◌, ℕ, zero, suc, ◌+◌, ◌-◌, ◌*◌, ◌/◌, ◌%◌, ◌<◌, ◌≤◌, Bool, List, [], ◌∷◌, length, slice_index, take, ◌++◌, nat_le, nat_lt, ◌&&◌, ◌⊎◌, inl, inr, Option, Some, None, unwrap_or, is_some, true, Result, Ok, Err, refl, sym, ap, ◌∙◌, subst, arith}
+use Rattle.std.proofs.Common.{◌≡◌, ℕ, zero, suc, ◌+◌, ◌-◌, ◌*◌, ◌/◌, ◌%◌, ◌<◌, ◌≤◌, Bool, List, [], ◌∷◌, length, slice_index, take, ◌++◌, nat_le, nat_lt, ◌&&◌, ◌⊎◌, inl, inr, Option, Some, None, unwrap_or, is_some, true, false, Result, Ok, Err, refl, sym, ap, ◌∙◌, subst, arith}
 use Rattle.std.specs.Prelude.{IsOk, MatchResult, ⊤}
-use Rattle.std.specs.List.{AllPass}
+use Rattle.std.specs.List.{AllPass, SomeIndex}
 use Rattle.std.specs.Result.{result_unwrap_or}
 use Rattle.std.specs.Str.{IsAscii, IsUtf8}
-use Rattle.std.proofs.lemmas.Bool.{and_parts, leb-true, ltb-true, or_cases}
+use Rattle.std.proofs.lemmas.Bool.{and_parts, cases_Bool, cases_eq, leb-true, ltb-true, or_cases}
 use Rattle.std.proofs.lemmas.List.{length-take-le, take_at}
 use Rattle.std.proofs.lemmas.List.Elements.{All-cons, All-head, All-nil, All-tail, All-weaker}
 use Rattle.std.proofs.lemmas.List.Sums.{AllPass-from_list_all}
@@ -19,7 +19,7 @@ use Rattle.gix_refspec.specs.declared.oid.Error.TheVariants.{Digit, Length}
 use Rattle.gix_refspec.specs.declared.oid.Kind.{Kind}
 use Rattle.gix_refspec.specs.declared.oid.Kind.TheVariants.{Sha1, Sha256}
 use Rattle.gix_refspec.specs.ObjectId.{HasIdFault, IsIdLength, IsIdText, IsLowerText, IsSpelledBy, Spells, bytes_of, digits_of, is_lower_digit, lower_of}
-use Rattle.gix_refspec.specs.Laws.{OneId, OneLowerText}
+use Rattle.gix_refspec.specs.Laws.{HasOneId, HasOneFault, IdOrFault, OneLowerText}
 
 -- an id has two digits for each byte
 pub digits_of-twice : (kind : Kind) → digits_of kind ≡ 2 * bytes_of kind
@@ -150,9 +150,46 @@ one_fault t (Length n) Digit a b = absurd (a.1 b.0)
 one_fault t Digit (Length m) a b = absurd (b.1 a.0)
 one_fault t Digit Digit a b = refl
 
--- a text is that of one id and has no fault, or it has one fault
-pub one_id : (t : List ℕ) → OneId t
-one_id t = record { id = IsIdText-unique t; sound = IsIdText-sound t; fault = one_fault t }
+has_one_id : (t i : List ℕ) → IsIdText t i → HasOneId t
+has_one_id t i text = record { id = i; text = text; only = λ j other. IsIdText-unique t j i other text; sound = λ e. IsIdText-sound t i e text }
+
+has_one_fault : (t : List ℕ) (e : Error) → HasIdFault t e → HasOneFault t
+has_one_fault t e fault = record { fault = e; has = fault; only = λ f other. one_fault t f e other fault; unread = λ i text. IsIdText-sound t i e text fault }
+
+-- a text is made of digits, or some byte is none
+digits_or_not : (t : List ℕ) → AllPass is_hex_digit t ⊎ SomeIndex t (λ k. is_hex_digit (slice_index t k) ≡ false)
+digits_or_not [] = inl (All-nil (λ c. is_hex_digit c ≡ true))
+digits_or_not (c ∷ t) = elim (cases_Bool (is_hex_digit c)) [
+  | inr other ↦ inr (0, omega arith, other)
+  | inl digit ↦ elim (digits_or_not t) [
+    | inl digits ↦ inl (All-cons (λ c. is_hex_digit c ≡ true) c t digit digits)
+    | inr place ↦ inr (suc place.0, (let below = place.1 in omega arith), place.2)
+  ]
+]
+
+no_kind : (n : ℕ) → (n ≡ 40 → ⊥) → (n ≡ 64 → ⊥) → ¬ (IsIdLength n)
+no_kind n other another (Sha1, same) = other same
+no_kind n other another (Sha256, same) = another same
+
+-- a length is that of an id, or not
+length_or_not : (n : ℕ) → IsIdLength n ⊎ ¬ (IsIdLength n)
+length_or_not n = elim (cases_eq n 40) [
+  | inl same ↦ inl (Sha1, same)
+  | inr other ↦ elim (cases_eq n 64) [
+    | inl same ↦ inl (Sha256, same)
+    | inr another ↦ inr (no_kind n other another)
+  ]
+]
+
+-- a text is that of one id, or it has one fault
+pub id_or_fault : (t : List ℕ) → IdOrFault t
+id_or_fault t = elim (length_or_not (length t)) [
+  | inr other ↦ inr (has_one_fault t (Length (length t)) (refl, other))
+  | inl len ↦ elim (digits_or_not t) [
+    | inl digits ↦ let id = IsIdText-digits t len digits in inl (has_one_id t id.0 id.1)
+    | inr place ↦ inr (has_one_fault t Digit (len, place))
+  ]
+]
 
 -- a text as long as that of an id, which does not decode, has a byte that is no digit
 HasFault-undecoded : (kind : Kind) (t : List ℕ) (e : FromHexError) → length t ≡ digits_of kind

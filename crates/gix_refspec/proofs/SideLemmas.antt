@@ -15,8 +15,8 @@ use Rattle.gix_refspec.specs.Bytes.{star}
 use Rattle.gix_refspec.specs.Reading.{Normal}
 use Rattle.gix_refspec.specs.Refusal.{Refusal, Empty, NegativeWithDestination, PushToEmpty, PatternUnsupported, ReferenceName, PatternUnbalanced, NegativeEmpty, NegativeObjectHash, IsBadName, IsBadPattern, Never, OrElse}
 use Rattle.gix_refspec.specs.Views.{mode_of}
-use Rattle.gix_refspec.specs.Private.Sides.{IsSide, IsCheckedSide, IsBadSide}
 use Rattle.gix_refspec.specs.Laws.{NothingAgainst}
+use Rattle.gix_refspec.specs.Private.Sides.{IsSide, IsCheckedSide, IsBadSide}
 use Rattle.gix_refspec.proofs.TextLemmas.{Lacks-Holds, Lacks-from_absent, first_once, one_not_two}
 
 -- neither P nor, behind it, Q

@@ -65,11 +65,23 @@ EqualTexts op a b = (r q : Reading) → Reads op a r → Reads op b q → (meani
 abbrev pub EqualReadings : Reading → Reading → Type 0
 EqualReadings r q = (meaning_of r ≡ meaning_of q) ↔ ((r.operation ≡ q.operation) × (printed r ≡ printed q))
 
--- a text is that of one id at the most, and has no fault then; else it has one fault at the most
-pub record OneId (t : List ℕ) : Type 0 where
-  pub id : (i j : List ℕ) → IsIdText t i → IsIdText t j → i ≡ j
-  pub sound : (i : List ℕ) (e : IdError) → IsIdText t i → ¬ (HasIdFault t e)
-  pub fault : (e f : IdError) → HasIdFault t e → HasIdFault t f → e ≡ f
+-- a text is that of the id with the bytes id, and of no other, and has no fault
+pub record HasOneId (t : List ℕ) : Type 0 where
+  pub id : List ℕ
+  pub text : IsIdText t id
+  pub only : (i : List ℕ) → IsIdText t i → i ≡ id
+  pub sound : (e : IdError) → ¬ (HasIdFault t e)
+
+-- a text is that of no id, and has one fault
+pub record HasOneFault (t : List ℕ) : Type 0 where
+  pub fault : IdError
+  pub has : HasIdFault t fault
+  pub only : (e : IdError) → HasIdFault t e → e ≡ fault
+  pub unread : (i : List ℕ) → ¬ (IsIdText t i)
+
+-- a text is that of one id, or it has one fault; never both
+abbrev pub IdOrFault : List ℕ → Type 0
+IdOrFault t = HasOneId t ⊎ HasOneFault t
 
 -- the id with the bytes i has one text in lower case, which is the one that it prints as
 pub record OneLowerText (i : List ℕ) : Type 0 where
@@ -88,7 +100,7 @@ OneWord before after n = (v w : List ℕ) → Fits before after n v → Fits bef
 abbrev pub PrefixBegins : List ℕ → Type 0
 PrefixBegins x = (p : List ℕ) (r : Ref) (word : Option (List ℕ)) → IsPrefix x p → x ≢ head → Matches x r word → Begins p r.name
 
--- a side has one prefix at the most, and is expanded to one list
+-- a side has one prefix at the most, and is expanded to one list at the most
 pub record OnePrefix (x : List ℕ) : Type 0 where
   pub prefix : (p q : List ℕ) → IsPrefix x p → IsPrefix x q → p ≡ q
   pub expanded : (list other : List (List ℕ)) → Expands x list → Expands x other → list ≡ other

@@ -3,7 +3,7 @@
 
 ghost use Rattle.std.specs.Prelude.{◌≡◌, ◌↔◌, IsTrue};
 ghost use Rattle.std.specs.Ordering.{nat_cmp};
-ghost use Rattle.gix_refspec.specs.Laws.{ReadsOrRefused, OneRefusal, ReadsBack, IsPrintedBack, KeepsOperation, SaysForOperation, EqualTexts, EqualReadings, OneId, OneLowerText, NothingAgainst, OneWord, PrefixBegins, OnePrefix, Candidates};
+ghost use Rattle.gix_refspec.specs.Laws.{ReadsOrRefused, OneRefusal, ReadsBack, IsPrintedBack, KeepsOperation, SaysForOperation, EqualTexts, EqualReadings, IdOrFault, OneLowerText, NothingAgainst, OneWord, PrefixBegins, OnePrefix, Candidates};
 ghost use Rattle.gix_refspec.specs.Meaning.{meaning_of};
 ghost use Rattle.gix_refspec.specs.ObjectId.{id_bytes};
 ghost use Rattle.gix_refspec.specs.Order.{is_same, order, place_of};
@@ -20,7 +20,7 @@ pub fn reads_or_refused(operation: Operation, text: &[u8])
     ensures { ReadsOrRefused operation text.now }
 {}
 
-/// A text is refused for one reason, but any fault of a name may be told.
+/// A text is refused for one reason. For a bad name any of its faults may be reported.
 pub fn one_refusal(operation: Operation, text: &[u8])
     ensures { OneRefusal operation text.now }
 {}
@@ -40,13 +40,13 @@ pub fn equal_texts(operation: Operation, a: &[u8], b: &[u8])
     ensures { EqualTexts operation a.now b.now }
 {}
 
-/// Two specs are equal exactly where they are for one operation and their canonical texts are equal.
-pub fn equal_specs<'a>(a: &RefSpecRef<'a>, b: &RefSpecRef<'a>)
+/// Two specs are equal exactly where they are for one operation and have one canonical text.
+pub fn equal_specs<'a>(a: &RefSpecRef<'a>, b: &RefSpecRef<'_>)
     ensures same { IsTrue (⟦<RefSpecRef<'a> as PartialEq>⟧.eq a.now b.now) ↔ (meaning_of (reading_of a.now) ≡ meaning_of (reading_of b.now)) }
     ensures text { EqualReadings (reading_of a.now) (reading_of b.now) }
 {}
 
-/// Two owned specs are equal exactly where they are for one operation and their canonical texts are equal.
+/// As `equal_specs`, of owned specs.
 pub fn equal_owned_specs(a: &RefSpec, b: &RefSpec)
     ensures same { IsTrue (⟦<RefSpec as PartialEq>⟧.eq a.now b.now) ↔ (meaning_of (owned_reading_of a.now) ≡ meaning_of (owned_reading_of b.now)) }
     ensures text { EqualReadings (owned_reading_of a.now) (owned_reading_of b.now) }
@@ -57,7 +57,7 @@ pub fn spec_reads_back(spec: &RefSpecRef<'_>)
     ensures { IsPrintedBack (reading_of spec.now).operation (reading_of spec.now) }
 {}
 
-/// An owned spec has a canonical text, which has exactly one reading, with the same meaning.
+/// As `spec_reads_back`, of an owned spec.
 pub fn owned_spec_reads_back(spec: &RefSpec)
     ensures { IsPrintedBack (owned_reading_of spec.now).operation (owned_reading_of spec.now) }
 {}
@@ -67,17 +67,17 @@ pub fn says_for_operation(spec: &RefSpecRef<'_>)
     ensures { SaysForOperation (reading_of spec.now) }
 {}
 
-/// A text is that of one id and has no fault, or it has one fault.
-pub fn one_id(text: &[u8])
-    ensures { OneId text.now }
+/// A text is that of one id, or it has one fault; never both.
+pub fn id_or_fault(text: &[u8])
+    ensures { IdOrFault text.now }
 {}
 
-/// An id prints as its text in lower case, of which there is one, and from which it is read again.
+/// An id prints as its one text in lower case, from which it is read again.
 pub fn one_lower_text(id: ObjectId)
     ensures { OneLowerText (id_bytes id) }
 {}
 
-/// A pattern of up to 256 bytes is accepted.
+/// Nothing is against a pattern, unless it has more than 256 bytes and memory runs out.
 pub fn nothing_against(pattern: &[u8])
     ensures { NothingAgainst pattern.now }
 {}
@@ -92,7 +92,7 @@ pub fn prefix_begins(side: &[u8])
     ensures { PrefixBegins side.now }
 {}
 
-/// A side has one prefix at the most, and is expanded to one list.
+/// A side has no two prefixes, and is not expanded to two lists.
 pub fn one_prefix(side: &[u8])
     ensures { OnePrefix side.now }
 {}

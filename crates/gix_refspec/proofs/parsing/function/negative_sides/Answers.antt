@@ -4,8 +4,8 @@ use Rattle.std.proofs.lemmas.Bool.{false≢true}
 use Rattle.gix_refspec.specs.Grammar.{LooksLikeObjectHash, AreParts, named_by}
 use Rattle.gix_refspec.specs.Reading.{Negative}
 use Rattle.gix_refspec.specs.Refusal.{NegativeObjectHash}
-use Rattle.gix_refspec.specs.Private.Sides.{side_of}
 use Rattle.gix_refspec.specs.Views.{mode_of}
+use Rattle.gix_refspec.specs.Private.Sides.{side_of}
 use Rattle.gix_refspec.proofs.SideLemmas.{full_from_test, none_from_test}
 use Rattle.gix_refspec.proofs.ReasonLemmas.{reason_against_object}
 use Rattle.gix_refspec.proofs.ReadsLemmas.{read_with, negative_reads}

@@ -3,8 +3,8 @@ use Rattle.std.proofs.Common.{◌≡◌, [], None, refl, ap, ◌∙◌}
 use Rattle.gix_refspec.specs.declared.parsing.Operation.TheVariants.{Push}
 use Rattle.gix_refspec.specs.Grammar.{AreParts, named_by}
 use Rattle.gix_refspec.specs.Reading.{Normal}
-use Rattle.gix_refspec.specs.Private.Sides.{side_of}
 use Rattle.gix_refspec.specs.Views.{mode_of}
+use Rattle.gix_refspec.specs.Private.Sides.{side_of}
 use Rattle.gix_refspec.proofs.SideLemmas.{full_from_test, signed_from_test}
 use Rattle.gix_refspec.proofs.ReadsLemmas.{read_with, push_alone_reads}
 use Rattle.gix_refspec.proofs.parsing.function.push_alone_sides.Goals as goal

@@ -6,8 +6,8 @@ use Rattle.gix_refspec.specs.contracts.parsing.function.Side.{the_type}
 use Rattle.gix_refspec.specs.declared.parsing.Operation.TheVariants.{Push}
 use Rattle.gix_refspec.specs.Grammar.{AreParts, named_by}
 use Rattle.gix_refspec.specs.Refusal.{PatternUnbalanced, IsBadPattern}
-use Rattle.gix_refspec.specs.Private.Sides.{IsCheckedSide, side_of}
 use Rattle.gix_refspec.specs.Views.{mode_of}
+use Rattle.gix_refspec.specs.Private.Sides.{IsCheckedSide, side_of}
 use Rattle.gix_refspec.proofs.SideLemmas.{full_from_test, empty_from_test}
 use Rattle.gix_refspec.proofs.ReasonLemmas.{push_reaches, bad_source_of_push, error_at_source, error_at_destination, push_source_fine, unbalanced_push}
 use Rattle.gix_refspec.proofs.ReadsLemmas.{read_with, push_reads}

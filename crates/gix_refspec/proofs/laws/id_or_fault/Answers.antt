@@ -1,0 +1,6 @@
+-- The length decides, and then the digits.
+use Rattle.gix_refspec.proofs.ObjectIdLemmas.{id_or_fault}
+use Rattle.gix_refspec.proofs.laws.id_or_fault.Goals as goal
+
+pub returns : goal.returns
+returns c = id_or_fault c.args.text.now

@@ -1,0 +1,31 @@
+-- What a caller shows of refspecs, in the words of the library.
+use Rattle.std.specs.Prelude.{◌≡◌, ℕ, List, Some}
+use Rattle.gix_refspec.specs.declared.parsing.Operation.{Operation}
+use Rattle.gix_refspec.specs.Reading.{Reading}
+use Rattle.gix_refspec.specs.Grammar.{Reads}
+use Rattle.gix_refspec.specs.Meaning.{meaning_of, printed}
+
+-- the text is a refspec for the operation
+abbrev pub IsRefspec : Operation → List ℕ → Type 0
+IsRefspec op text = (r : Reading) × Reads op text r
+
+-- for the operation, the text reads as r, and as nothing else
+pub record ReadsOnlyAs (op : Operation) (text : List ℕ) (r : Reading) : Type 0 where
+  pub reads : Reads op text r
+  pub only : (q : Reading) → Reads op text q → q ≡ r
+
+-- two specs are equal: they are for one operation, say the same and print the same
+pub record AreEqual (r q : Reading) : Type 0 where
+  pub operation : r.operation ≡ q.operation
+  pub meaning : meaning_of r ≡ meaning_of q
+  pub text : printed r ≡ printed q
+
+-- c is the canonical text of a refspec, and is a refspec that says the same, with itself as canonical text
+pub record IsCanonicalText (op : Operation) (text c : List ℕ) : Type 0 where
+  pub reading : Reading
+  pub reads : Reads op text reading
+  pub is : printed reading ≡ Some c
+  pub again : Reading
+  pub reads_again : Reads op c again
+  pub same : meaning_of again ≡ meaning_of reading
+  pub fixed : printed again ≡ Some c

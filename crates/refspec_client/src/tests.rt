@@ -1,0 +1,75 @@
+//! Each function once, on texts that Git's manuals show.
+
+use crate::{canonical, read, reread, reread_owned, same_owned_text, same_text};
+use bstr::BStr;
+use gix_refspec::parsing::Operation;
+use std::test::Fail;
+
+#[test]
+fn reads_what_is_a_refspec(rt: HostRuntime) -> Result<(), Fail> {
+    let cases = [
+        ("+refs/heads/*:refs/remotes/origin/*", true),
+        ("^refs/heads/dev-*", true),
+        ("refs/heads/*:refs/heads/main", false),
+        ("a..b", false),
+    ];
+    for (text, taken) in cases {
+        let spec = read(rt.alloc(), BStr::new(text.as_bytes()), Operation::Fetch)?;
+        assert_eq!(rt; spec.is_some(), taken, "at {text}");
+    }
+    Ok(())
+}
+
+#[test]
+fn compares_by_text(rt: HostRuntime) -> Result<(), Fail> {
+    let alloc = rt.alloc();
+    let cases = [
+        ("main", Operation::Push, "main:main", Operation::Push, true),
+        ("@:a", Operation::Fetch, "HEAD:a", Operation::Fetch, true),
+        ("a:b", Operation::Fetch, "a:c", Operation::Fetch, false),
+        ("a:b", Operation::Fetch, "a:b", Operation::Push, false),
+    ];
+    for (a, for_a, b, for_b, same) in cases {
+        let a_spec = gix_refspec::parse(alloc, BStr::new(a.as_bytes()), for_a)?;
+        let b_spec = gix_refspec::parse(alloc, BStr::new(b.as_bytes()), for_b)?;
+        assert_eq!(rt; same_text(alloc, &a_spec, &b_spec)?, same, "at {a} and {b}");
+        let a_owned = a_spec.to_owned(alloc)?;
+        let b_owned = b_spec.to_owned(alloc)?;
+        assert_eq!(rt;
+            same_owned_text(alloc, &a_owned, &b_owned)?,
+            same,
+            "at {a} and {b}"
+        );
+    }
+    Ok(())
+}
+
+#[test]
+fn rereads_what_was_printed(rt: HostRuntime) -> Result<(), Fail> {
+    let alloc = rt.alloc();
+    for text in ["main", "+", ":", "^a*", "+@:a", ":gone"] {
+        let spec = gix_refspec::parse(alloc, BStr::new(text.as_bytes()), Operation::Push)?;
+        let again = reread(alloc, &spec)?;
+        assert!(rt; again.to_ref() == spec, "at {text}");
+        assert!(rt; reread_owned(alloc, &again)? == again, "at {text}");
+    }
+    Ok(())
+}
+
+#[test]
+fn gives_canonical_texts(rt: HostRuntime) -> Result<(), Fail> {
+    let alloc = rt.alloc();
+    let cases = [
+        ("", "HEAD"),
+        ("+@:", "HEAD"),
+        ("++a", "++a"),
+        ("+a:b", "+a:b"),
+    ];
+    for (text, expected) in cases {
+        let Some(made) = canonical(alloc, BStr::new(text.as_bytes()), Operation::Fetch)? else {
+            return Err(Fail::new("no refspec"));
+        };
+        assert_eq!(rt; made.as_bytes(), expected.as_bytes(), "at {text}");
+    }
+    Ok(())
+}
