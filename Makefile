@@ -1,28 +1,49 @@
+# make help    prints these lines
 # make build   the program, at crates/refspec_map/out/refspec_map
 # make run     its stored run: what it prints, its status, and whether they are as stored
-# make test    the gate and the scripts of tests/ over the built program
+# make test    the gate, and then the scripts of tests/ over the built program
+# make clean   removes the program, what is kept of proofs, and the logs
 
 SHELL := /bin/bash
 .SHELLFLAGS := -eu -o pipefail -c
-.PHONY: build run test
+.PHONY: help build run test clean kit
 
+LIBRARY := crates/gix_refspec
 FOLDER := crates/refspec_map
 PROGRAM := $(FOLDER)/out/refspec_map
 LOGS := out
+SOURCES := crates.txt $(shell find $(LIBRARY) $(FOLDER) \( -name out -o -name must-fail \) -prune -o -type f -print)
 
-# rt builds what has changed, and runs it: on an empty input it ends with status 0.
-build:
+help:
+	@sed -n 's/^# make/make/p' Makefile
+
+build: $(PROGRAM)
+
+# rt builds only what it has proved, and rt check says how far it is. On an empty input the program ends with
+# status 0. The pipe keeps the status of rt, by pipefail.
+$(PROGRAM): $(SOURCES) | kit
 	@mkdir -p $(LOGS)
-	@(cd $(FOLDER) && rt run -- canon push </dev/null) >$(LOGS)/build.log 2>&1 \
-	|| { cat $(LOGS)/build.log >&2; echo "make build: failed" >&2; exit 1; }
+	@echo "make: proves the library and the program, and builds it: some minutes the first time, then less;" \
+	    "log: $(LOGS)/build.log" >&2
+	@{ (cd $(LIBRARY) && rt check) && (cd $(FOLDER) && rt check && rt run -- canon push); } </dev/null 2>&1 \
+	| tee $(LOGS)/build.log >&2 \
+	|| { echo "make: not built, as $(LOGS)/build.log says" >&2; exit 1; }
+	@touch $@
 
 run: build
 	@tools/stored $(FOLDER)
 
-# The pipe keeps the status of rt ci, by pipefail.
-test:
+# The gate leaves the program that it proved and built, so that build has nothing to do.
+test: kit
 	@mkdir -p $(LOGS)
 	@rt ci 2>&1 </dev/null | tee $(LOGS)/gate.log
 	@$(MAKE) --no-print-directory build
 	@tests/run $(PROGRAM)
 	@grep -E '^[0-9]+ passed, 0 failed' $(LOGS)/gate.log | tail -n 1
+
+clean:
+	rm -rf $(LOGS) crates/*/out
+
+kit:
+	@command -v rt >/dev/null \
+	|| { echo "make: there is no command rt: the kit's folder bin/ has to be on the PATH" >&2; exit 1; }
