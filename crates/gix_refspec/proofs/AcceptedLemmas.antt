@@ -3,15 +3,16 @@ use Rattle.std.proofs.Common.{◌≡◌, ◌⊎◌, inl, inr, ℕ, List, [], Opt
 use Rattle.std.proofs.Math.Logic.{∥∥₁_elim}
 use Rattle.gix_refspec.specs.declared.parsing.Operation.{Operation}
 use Rattle.gix_refspec.specs.Text.{Lacks}
-use Rattle.gix_refspec.specs.Name.{IsName, IsPattern, HasSeveralStars}
+use Rattle.gix_refspec.specs.Name.{IsName, IsPattern, HasStar, HasSeveralStars}
 use Rattle.gix_refspec.specs.Bytes.{star, head}
 use Rattle.gix_refspec.specs.Reading.{Reading, side_on_remote, remote_of}
 use Rattle.gix_refspec.specs.Grammar.{named_by, IsNameOrPattern, AreAlike, Reads, IsAccepted, fetches_nothing_named, fetches_colon, fetches, updates, updates_from_head, fetch_excludes, pushes_plus, pushes_colon, pushes, deletes, pushes_pattern, pushes_to, push_excludes}
 use Rattle.gix_refspec.specs.declared.parsing.Operation.TheVariants.{Push, Fetch}
+use Rattle.gix_refspec.specs.Refusal.{IsOneStarred}
 use Rattle.gix_refspec.proofs.TextLemmas.{Lacks-Holds}
-use Rattle.gix_refspec.proofs.SideLemmas.{Lacks-name, HasStar-stars, HasSeveralStars-replaced}
+use Rattle.gix_refspec.proofs.SideLemmas.{Lacks-name, HasStar-pattern, HasStar-stars, HasSeveralStars-replaced}
 use Rattle.gix_refspec.proofs.HeadLemmas.{IsName-head}
-use Rattle.gix_refspec.proofs.ReadBackLemmas.{named_so}
+use Rattle.gix_refspec.proofs.ReadBackLemmas.{named_so, named_name, named_pattern}
 
 -- a side that is there has one star at the most
 abbrev pub HasFew : Option (List ℕ) → Type 0
@@ -78,3 +79,46 @@ remote_is Fetch s d x is = inl is
 
 pub remote_few : (r : Reading) (x : List ℕ) → ∥ IsAccepted r ∥₁ → remote_of r ≡ Some x → ¬ (HasSeveralStars x)
 remote_few r x accepted is = accepted_few r x accepted (remote_is r.operation r.source r.destination x is)
+
+-- two texts without a star, or two patterns, are alike in their stars
+neither_starred : (s d : List ℕ) → Lacks star s → Lacks star d → ¬ (IsOneStarred s d)
+neither_starred s d lacks_s lacks_d (inl one) = Lacks-Holds star s lacks_s one.0
+neither_starred s d lacks_s lacks_d (inr one) = Lacks-Holds star d lacks_d one.1
+
+both_starred : (s d : List ℕ) → HasStar s → HasStar d → ¬ (IsOneStarred s d)
+both_starred s d has_s has_d (inl one) = Lacks-Holds star d one.1 has_d
+both_starred s d has_s has_d (inr one) = Lacks-Holds star s one.0 has_s
+
+alike_balanced : (s d : List ℕ) → AreAlike s d → ¬ (IsOneStarred (named_by s) d)
+alike_balanced s d (inl names) = neither_starred (named_by s) d (Lacks-name (named_by s) (named_name s names.0)) (Lacks-name d names.1)
+alike_balanced s d (inr patterns) = both_starred (named_by s) d (subst HasStar (sym (named_pattern s patterns.0)) (HasStar-pattern s patterns.0)) (HasStar-pattern d patterns.1)
+
+-- two sides of which not just one has a star
+abbrev pub AreBalanced : Option (List ℕ) → Option (List ℕ) → Type 0
+AreBalanced None d = Unit {0}
+AreBalanced (Some s) None = Unit {0}
+AreBalanced (Some s) (Some d) = ¬ (IsOneStarred s d)
+
+-- the sides of a reading that is this one
+for_sides : (r q : Reading) → r ≡ q → AreBalanced q.source q.destination → AreBalanced r.source r.destination
+for_sides r q same balanced = subst (λ (x : Reading). AreBalanced x.source x.destination) (sym same) balanced
+
+reads_balanced : (op : Operation) (text : List ℕ) (r : Reading) → Reads op text r → AreBalanced r.source r.destination
+reads_balanced op text r (fetches_nothing_named mode _ _ _ is) = for_sides r _ is tt
+reads_balanced op text r (fetches_colon mode _ _ _ is) = for_sides r _ is tt
+reads_balanced op text r (fetches mode s _ _ _ name is) = for_sides r _ is tt
+reads_balanced op text r (updates mode s d _ _ _ alike is) = for_sides r _ is (alike_balanced s d alike)
+reads_balanced op text r (updates_from_head mode d _ _ _ name is) = for_sides r _ is (neither_starred head d (Lacks-name head IsName-head) (Lacks-name d name))
+reads_balanced op text r (fetch_excludes s _ _ either _ is) = for_sides r _ is tt
+reads_balanced op text r (pushes_plus _ _ is) = for_sides r _ is tt
+reads_balanced op text r (pushes_colon mode _ _ _ is) = for_sides r _ is tt
+reads_balanced op text r (pushes mode s _ _ _ either is) = for_sides r _ is tt
+reads_balanced op text r (deletes mode d _ _ _ name is) = for_sides r _ is tt
+reads_balanced op text r (pushes_pattern mode s d _ _ _ of_s of_d is) = for_sides r _ is (alike_balanced s d (inr (of_s, of_d)))
+reads_balanced op text r (pushes_to mode s d _ _ _ full lacks name is) = for_sides r _ is (neither_starred (named_by s) d (named_so (Lacks star) s (Lacks-name head IsName-head) lacks) (Lacks-name d name))
+reads_balanced op text r (push_excludes s _ _ either _ is) = for_sides r _ is tt
+
+-- of the two sides of a reading that some text has, both have a star or neither
+pub accepted_balanced : (r : Reading) (s d : List ℕ) → ∥ IsAccepted r ∥₁ → r.source ≡ Some s → r.destination ≡ Some d → ¬ (IsOneStarred s d)
+accepted_balanced r s d accepted source destination =
+    ∥∥₁_elim accepted (hlevel []) (λ by. subst (λ y. AreBalanced (Some s) y) destination (subst (λ x. AreBalanced x r.destination) source (reads_balanced r.operation by.0 r by.1)))
