@@ -42,13 +42,15 @@ pub fn equal_texts(operation: Operation, a: &[u8], b: &[u8])
 
 /// Two specs are equal exactly where they are for one operation and have one canonical text.
 pub fn equal_specs<'a>(a: &RefSpecRef<'a>, b: &RefSpecRef<'_>)
-    ensures same { IsTrue (⟦<RefSpecRef<'a> as PartialEq>⟧.eq a.now b.now) ↔ (meaning_of (reading_of a.now) ≡ meaning_of (reading_of b.now)) }
+    ensures same { IsTrue (⟦<RefSpecRef<'a> as PartialEq>⟧.eq a.now b.now) ↔
+        (meaning_of (reading_of a.now) ≡ meaning_of (reading_of b.now)) }
     ensures text { EqualReadings (reading_of a.now) (reading_of b.now) }
 {}
 
 /// As `equal_specs`, of owned specs.
 pub fn equal_owned_specs(a: &RefSpec, b: &RefSpec)
-    ensures same { IsTrue (⟦<RefSpec as PartialEq>⟧.eq a.now b.now) ↔ (meaning_of (owned_reading_of a.now) ≡ meaning_of (owned_reading_of b.now)) }
+    ensures same { IsTrue (⟦<RefSpec as PartialEq>⟧.eq a.now b.now) ↔
+        (meaning_of (owned_reading_of a.now) ≡ meaning_of (owned_reading_of b.now)) }
     ensures text { EqualReadings (owned_reading_of a.now) (owned_reading_of b.now) }
 {}
 
@@ -126,12 +128,16 @@ pub fn push_before_fetch(a: Operation, b: Operation)
 
 /// Two pushes are equal, and ordered, as what they say is.
 pub fn compared_pushes<'a>(a: Push<'a>, b: Push<'a>)
-    ensures order { ⟦<Push<'a> as Ord>⟧.cmp a.entry b.entry ≡ order (shown_push a.entry) (shown_push b.entry) }
-    ensures same { ⟦<Push<'a> as PartialEq>⟧.eq a.entry b.entry ≡ is_same (shown_push a.entry) (shown_push b.entry) }
+    ensures order { ⟦<Push<'a> as Ord>⟧.cmp a.entry b.entry ≡
+        order (shown_push a.entry) (shown_push b.entry) }
+    ensures same { ⟦<Push<'a> as PartialEq>⟧.eq a.entry b.entry ≡
+        is_same (shown_push a.entry) (shown_push b.entry) }
 {}
 
 /// Two fetches are equal, and ordered, as what they say is.
 pub fn compared_fetches<'a>(a: Fetch<'a>, b: Fetch<'a>)
-    ensures order { ⟦<Fetch<'a> as Ord>⟧.cmp a.entry b.entry ≡ order (shown_fetch a.entry) (shown_fetch b.entry) }
-    ensures same { ⟦<Fetch<'a> as PartialEq>⟧.eq a.entry b.entry ≡ is_same (shown_fetch a.entry) (shown_fetch b.entry) }
+    ensures order { ⟦<Fetch<'a> as Ord>⟧.cmp a.entry b.entry ≡
+        order (shown_fetch a.entry) (shown_fetch b.entry) }
+    ensures same { ⟦<Fetch<'a> as PartialEq>⟧.eq a.entry b.entry ≡
+        is_same (shown_fetch a.entry) (shown_fetch b.entry) }
 {}

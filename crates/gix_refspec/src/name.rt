@@ -68,7 +68,9 @@ pub enum PatternError {
 /// several of these faults is reported by one of them. The text is read once, and nothing is kept
 /// of it or asked of an allocator.
 pub fn name_partial(name: BStr<'_>) -> Result<(), Error>
-    ensures { MatchResult result (λ _. IsName (bstr_bytes name.entry)) (λ e. HasFault (bstr_bytes name.entry) e) }
+    ensures { MatchResult result
+        (λ _. IsName (bstr_bytes name.entry))
+        (λ e. HasFault (bstr_bytes name.entry) e) }
 {
     match fault_of(name.as_bytes()) {
         None => Ok(()),
@@ -92,7 +94,9 @@ pub fn has_one_star(text: BStr<'_>) -> bool
 /// and `Memory` says that there was no room. [`has_one_star`] tells whether a text may be asked about.
 pub fn pattern_partial(alloc: Global, pattern: BStr<'_>) -> Result<(), PatternError>
     requires { HasOneStar (bstr_bytes pattern) }
-    ensures { MatchResult result (λ _. IsPattern (bstr_bytes pattern.entry)) (λ e. IsPatternFault e (bstr_bytes pattern.entry)) }
+    ensures { MatchResult result
+        (λ _. IsPattern (bstr_bytes pattern.entry))
+        (λ e. IsPatternFault e (bstr_bytes pattern.entry)) }
 {
     let text = pattern.as_bytes();
     let Ok(mut with_letter) = SmallVec::<u8, 256>::from_slice(alloc, text) else {

@@ -109,7 +109,9 @@ impl ObjectId {
     /// `Error::Length` comes wherever the text has neither 40 nor 64 bytes, whatever they are, and
     /// `Error::Digit` where it has, and one of them is no hexadecimal digit.
     pub fn from_hex(hex: &[u8]) -> Result<ObjectId, Error>
-        ensures { MatchResult result (λ id. IsIdText hex.now (id_bytes id)) (λ e. HasIdFault hex.now e) }
+        ensures { MatchResult result
+            (λ id. IsIdText hex.now (id_bytes id))
+            (λ e. HasIdFault hex.now e) }
     {
         let Some(kind) = Kind::from_hex_len(hex.len()) else {
             return Err(Error::Length { len: hex.len() });

@@ -24,7 +24,9 @@ impl<'a> RefSpecRef<'a> {
     /// negative spec, a missing side, another side outside `refs/`, a star directly behind `refs/`, and a
     /// pattern with a `]`. It borrows the text of the spec, or is the constant `HEAD`.
     pub fn prefix(&self) -> Option<BStr<'a>>
-        ensures { MatchOption result ((p : List ℕ) → ¬ (HasPrefix (reading_of self.now) p)) (λ p. HasPrefix (reading_of self.now) (bstr_bytes p)) }
+        ensures { MatchOption result
+            ((p : List ℕ) → ¬ (HasPrefix (reading_of self.now) p))
+            (λ p. HasPrefix (reading_of self.now) (bstr_bytes p)) }
     {
         let side = self.asked_side()?;
         let prefix = prefix_of(side)?;
@@ -43,7 +45,9 @@ impl<'a> RefSpecRef<'a> {
     /// `AllocError` comes where there is no memory, and never where the spec gives no entry. The vector is
     /// then as it was.
     pub fn expand_prefixes(&self, alloc: Global, out: &mut Vec<BString>) -> Result<(), AllocError>
-        ensures ok { OnOk result (AppendsExpansion (reading_of self.now) (map bstring_bytes out.old.items) (map bstring_bytes out.new.items)) }
+        ensures ok { OnOk result (AppendsExpansion
+            (reading_of self.now) (map bstring_bytes out.old.items)
+            (map bstring_bytes out.new.items)) }
         ensures err { OnErr result (out.new.items ≡ out.old.items) }
         ensures memory { OnErr result (¬ (IsExpansion (reading_of self.now) [])) }
     {

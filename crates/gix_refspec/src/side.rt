@@ -65,7 +65,9 @@ pub(crate) fn kind_of(side: &[u8]) -> SideKind<'_>
 
 // What follows `refs/`.
 pub(crate) fn below_refs(side: &[u8]) -> Option<&[u8]>
-    ensures { MatchOption result (¬ (Begins (codes "refs/") side.now)) (λ rest. side.now ≡ codes "refs/" ++ rest.now) }
+    ensures { MatchOption result
+        (¬ (Begins (codes "refs/") side.now))
+        (λ rest. side.now ≡ codes "refs/" ++ rest.now) }
 {
     side.strip_prefix(b"refs/")
 }

@@ -180,7 +180,8 @@ impl RefSpec {
 
 // A side that owns its bytes.
 fn owned_side(alloc: Global, side: Option<BStr<'_>>) -> Result<Option<BString>, AllocError>
-    ensures keeps { IfOk result (λ owned. option_map bstring_bytes owned ≡ option_map bstr_bytes side.entry) }
+    ensures keeps { IfOk result (λ owned.
+        option_map bstring_bytes owned ≡ option_map bstr_bytes side.entry) }
     ensures memory { OnErr result (IsSome (option_map bstr_bytes side.entry)) }
 {
     match side {

@@ -49,7 +49,8 @@ impl<'a> Instruction<'a> {
     /// Writes the canonical text of the instruction, and asks for no memory itself. After a fault, which
     /// is the writer's, a part of the text may have gone out.
     pub fn write_to<W: Write>(&self, out: &mut W) -> io::Result<()>
-        ensures { OnOk result (Appends (W.contents out.old) (W.contents out.new) (text_of (shown self.now))) }
+        ensures { OnOk result (Appends
+            (W.contents out.old) (W.contents out.new) (text_of (shown self.now))) }
     {
         let pieces = self.pieces();
         out.write_all(pieces.sign)?;
@@ -141,7 +142,8 @@ impl<'a> Pieces<'a> {
 
     // How many bytes the text has, where it can be told.
     fn len(self) -> usize
-        ensures { length (joined self.entry) ≤ 18446744073709551615 → result ≡ length (joined self.entry) }
+        ensures { length (joined self.entry) ≤ 18446744073709551615 →
+            result ≡ length (joined self.entry) }
     {
         self.sign
             .len()
@@ -166,7 +168,8 @@ impl<'a> RefSpecRef<'a> {
     /// Writes the canonical text of the spec, and asks for no memory itself. After a fault, which is the
     /// writer's, a part of the text may have gone out.
     pub fn write_to<W: Write>(&self, out: &mut W) -> io::Result<()>
-        ensures { OnOk result (WritesPrinted (reading_of self.now) (W.contents out.old) (W.contents out.new)) }
+        ensures { OnOk result (WritesPrinted
+            (reading_of self.now) (W.contents out.old) (W.contents out.new)) }
     {
         self.instruction().write_to(out)
     }

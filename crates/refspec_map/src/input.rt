@@ -19,7 +19,8 @@ const CHUNK: usize = 65_536;
 /// All that the reader has left. It is read in chunks, until a read brings no byte or the limit is
 /// passed.
 pub(crate) fn read_input<R: Read>(alloc: Global, reader: &mut R) -> Result<Vec<u8>, Fault>
-    ensures ok { IfOk result (λ input. ReadsToEnd (R.remaining reader.old) (R.remaining reader.new) input.items) }
+    ensures ok { IfOk result (λ input.
+        ReadsToEnd (R.remaining reader.old) (R.remaining reader.new) input.items) }
     ensures err { IfErr result (Explains (R.remaining reader.old) (R.remaining reader.new)) }
 {
     let Ok(mut buffer) = vec![in alloc; 0; CHUNK] else {
@@ -37,7 +38,8 @@ pub(crate) fn read_input<R: Read>(alloc: Global, reader: &mut R) -> Result<Vec<u
 // Reads once, and puts what came at the end of the input; false where nothing was left.
 fn read_some<R: Read>(reader: &mut R, buffer: &mut [u8], input: &mut Vec<u8>) -> Result<bool, Fault>
     requires { 0 < length buffer.old }
-    ensures ok { IfOk result (λ more. ReadsSome more (R.remaining reader.old) (R.remaining reader.new) input.old.items input.new.items) }
+    ensures ok { IfOk result (λ more. ReadsSome more
+        (R.remaining reader.old) (R.remaining reader.new) input.old.items input.new.items) }
     ensures err { IfErr result IsReadOrMemory }
 {
     let Ok(count) = reader.read(buffer) else {

@@ -28,7 +28,9 @@ pub fn run<R: Read, W: Write>(
     reader: &mut R,
     writer: &mut W,
 ) -> Result<u8, Fault>
-    ensures ok { IfOk result (Answers command (R.remaining reader.old) (R.remaining reader.new) (W.contents writer.old) (W.contents writer.new)) }
+    ensures ok { IfOk result (Answers command
+        (R.remaining reader.old) (R.remaining reader.new) (W.contents writer.old)
+        (W.contents writer.new)) }
     ensures err { IfErr result (Explains (R.remaining reader.old) (R.remaining reader.new)) }
 
     // Nothing was written before a fault, but where the writer failed.

@@ -36,8 +36,10 @@ impl<'a> PartialEq for RefSpecRef<'a> {
     ghost laws = { on_per key_of_spec (partial_equiv_from_equiv keys_equiv) };
 
     fn eq(&self, other: &Self) -> bool
-        ensures keys { result ≡ pointwise (pointwise nat_eq) (key_of_spec self.now) (key_of_spec other.now) }
-        ensures same { IsTrue result ↔ (meaning_of (reading_of self.now) ≡ meaning_of (reading_of other.now)) }
+        ensures keys { result ≡
+            pointwise (pointwise nat_eq) (key_of_spec self.now) (key_of_spec other.now) }
+        ensures same { IsTrue result ↔
+            (meaning_of (reading_of self.now) ≡ meaning_of (reading_of other.now)) }
     {
         is_same(self.instruction(), other.instruction())
     }
@@ -87,8 +89,10 @@ impl PartialEq for RefSpec {
     ghost laws = { on_per key_of_owned (partial_equiv_from_equiv keys_equiv) };
 
     fn eq(&self, other: &Self) -> bool
-        ensures keys { result ≡ pointwise (pointwise nat_eq) (key_of_owned self.now) (key_of_owned other.now) }
-        ensures same { IsTrue result ↔ (meaning_of (owned_reading_of self.now) ≡ meaning_of (owned_reading_of other.now)) }
+        ensures keys { result ≡
+            pointwise (pointwise nat_eq) (key_of_owned self.now) (key_of_owned other.now) }
+        ensures same { IsTrue result ↔
+            (meaning_of (owned_reading_of self.now) ≡ meaning_of (owned_reading_of other.now)) }
     {
         self.to_ref() == other.to_ref()
     }
