@@ -16,3 +16,6 @@ pub mod Laws
 pub mod Pieces
 pub mod Sides
 pub mod ObjectId
+pub mod Lists
+pub mod Mappings
+pub mod Group
