@@ -18,3 +18,6 @@ pub mod Pieces
 pub mod SideViews
 pub mod Sides
 pub mod ObjectId
+pub mod Lists
+pub mod Mappings
+pub mod Group

@@ -1,0 +1,3 @@
+//! The parts of matching.
+
+pub(crate) mod kept;
