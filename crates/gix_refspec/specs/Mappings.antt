@@ -4,7 +4,7 @@ use Rattle.std.specs.Prelude.{◌≡◌, ◌⊎◌, ℕ, List, [], ◌∷◌, �
 use Rattle.gix_refspec.specs.Text.{Lacks}
 use Rattle.gix_refspec.specs.Name.{star}
 use Rattle.gix_refspec.specs.Reading.{Reading, Negative}
-use Rattle.gix_refspec.specs.Match.{Covers}
+use Rattle.gix_refspec.specs.Side.{Fits}
 use Rattle.gix_refspec.specs.Lists.{IsMadeFrom}
 
 -- what a mapping begins with: the name of a ref, or the id of an object
@@ -24,7 +24,7 @@ pub record Mapped : Type 0 where
 -- word for its star makes it n. Without a star it is a full name, whatever it looks like
 pub data Excludes (source n : List ℕ) : Type 0 where
   as_name : Lacks star source → n ≡ source → Excludes source n
-  as_pattern : (before after word : List ℕ) → source ≡ before ++ (star ∷ after) → Lacks star before → Lacks star after → Covers before after n word → Excludes source n
+  as_pattern : (before after word : List ℕ) → source ≡ before ++ (star ∷ after) → Lacks star before → Lacks star after → Fits before after n word → Excludes source n
 
 -- the reading is negative, and its source excludes the name
 pub record IsExcludedBy (n : List ℕ) (r : Reading) : Type 0 where
