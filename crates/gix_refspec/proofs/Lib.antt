@@ -19,3 +19,4 @@ pub mod AcceptedLemmas
 pub mod MatchLemmas
 pub mod PrefixLemmas
 pub mod ManualFacts
+pub mod HitLemmas

@@ -22,3 +22,4 @@ pub mod Lists
 pub mod Mappings
 pub mod Group
 pub mod Hits
+pub mod HitViews
