@@ -1,8 +1,36 @@
 -- What specs match, and what becomes of it.
-use Rattle.std.proofs.Common.{◌≡◌, ◌≢◌, ℕ, List, [], ◌∷◌, ◌++◌, Option, None, Some, MatchOption, Bor, Bool, nat_eq, true, false, length, take, drop, refl, sym, ap, ◌∙◌, subst, append_assoc, ◌⊎◌, inl, inr, codes}
-use Rattle.std.proofs.lemmas.List.{append_cancel_left}
-use Rattle.gix_refspec.specs.Side.{Fits, IsCandidate, candidates}
-use Rattle.gix_refspec.specs.HitViews.{IsPlace}
+use Rattle.std.proofs.Common.{◌≡◌, ◌≢◌, ◌⊎◌, inl, inr, ℕ, suc, ◌+◌, ◌<◌, ◌≤◌, List, [], ◌∷◌, ◌++◌, codes, map, take, drop, get_or, Option, None, Some, option_map, MatchOption, Bor, length, refl, sym, ap, ◌∙◌, subst, append_assoc, arith}
+use Rattle.std.proofs.lemmas.List.{append-nil, append_cancel_left, map-append, length-map, length-take-le, take_more, take-append-drop}
+use Rattle.std.proofs.Math.Seq.{drop-cons}
+use Rattle.bstr.specs.declared.bstr.BStr.{BStr}
+use Rattle.bstr.specs.BStr.{bstr_bytes}
+use Rattle.gix_refspec.specs.declared.match_group.types.Item.{Item}
+use Rattle.gix_refspec.specs.declared.match_group.types.NameRef.{NameRef}
+use Rattle.gix_refspec.specs.declared.match_group.util.matched.Match.{Match}
+use Rattle.gix_refspec.specs.declared.match_group.util.hits.Direction.{Direction}
+use Rattle.gix_refspec.specs.declared.match_group.util.hits.Direction.TheVariants.{Forward, Backward}
+use Rattle.gix_refspec.specs.declared.match_group.util.hits.Ends.{Ends as DeclaredEnds}
+use Rattle.gix_refspec.specs.declared.match_group.util.hits.Made.{Made}
+use Rattle.gix_refspec.specs.declared.side.SideKind.{SideKind as DeclaredKind}
+use Rattle.gix_refspec.specs.declared.side.SideKind.TheVariants.{Pattern, FullName, Object, Partial}
+use Rattle.gix_refspec.specs.declared.oid.ObjectId.{ObjectId}
+use Rattle.gix_refspec.specs.declared.spec.RefSpecRef.{RefSpecRef}
+use Rattle.gix_refspec.specs.ObjectId.{id_bytes}
+use Rattle.gix_refspec.specs.Name.{HasSeveralStars}
+use Rattle.gix_refspec.specs.Reading.{Reading}
+use Rattle.gix_refspec.specs.Grammar.{IsAccepted, IsPositive}
+use Rattle.gix_refspec.specs.Spec.{reading_of}
+use Rattle.gix_refspec.specs.Side.{SideKind, pattern, full_name, object, partial, HasKind, Fits, IsCandidate, candidates}
+use Rattle.gix_refspec.specs.SideViews.{shown_kind}
+use Rattle.gix_refspec.specs.Match.{Ref, MatchesAs, Matches}
+use Rattle.gix_refspec.specs.Lists.{IsMadeFrom}
+use Rattle.gix_refspec.specs.Group.{name_bytes, ref_of}
+use Rattle.gix_refspec.specs.Hits.{Ends, AreForwardEnds, AreBackwardEnds, AreSpecHits, AreHits, Hit, IsHit, IsFilled}
+use Rattle.gix_refspec.specs.HitViews.{word_of, IsPlace, HasKindShown, HaveKinds, HasEnds, filled_end, AreHitsOfKinds, HasHit, mapping_of, made_in, AddsHits}
+use Rattle.gix_refspec.proofs.ObjectIdLemmas.{IsIdText-unique}
+use Rattle.gix_refspec.proofs.AcceptedLemmas.{accepted_few}
+use Rattle.gix_refspec.proofs.MatchLemmas.{one_word, lacks_no_pattern, cut_once}
+use Rattle.gix_refspec.proofs.ListLemmas.{made_next, nothing_made, joined_next, nothing_joined, map_more, map_long, map_cut}
 
 -- a name that doesn't begin as a pattern does has no word
 pub no_front_no_word : (before after n : List ℕ) → ((rest : List ℕ) → n ≢ before ++ rest) → (word : List ℕ) → ¬ (Fits before after n word)
@@ -62,3 +90,209 @@ placed_candidate x n before place same = candidate_at x n (of_place x n before p
 
 pub remote_candidate : (x n : List ℕ) → n ≡ codes "refs/remotes/" ++ (x ++ codes "/HEAD") → IsCandidate x n
 remote_candidate x n same = candidate_at x n (inr (inr (inr (inr (inr (inl same))))))
+
+-- a side has one kind
+pub one_kind : (x : List ℕ) (k l : SideKind) → HasKind x k → HasKind x l → k ≡ l
+one_kind x (pattern before after) (pattern fixed rest) a b = let once = cut_once x before after fixed rest a b in let front : before ≡ fixed = once.0 in let back : after ≡ rest = once.1 in cc
+one_kind x (pattern before after) (full_name n) a b = absurd (lacks_no_pattern x before after b.1 a)
+one_kind x (pattern before after) (object id) a b = absurd (lacks_no_pattern x before after b.0 a)
+one_kind x (pattern before after) (partial n) a b = absurd (lacks_no_pattern x before after b.1 a)
+one_kind x (full_name n) (pattern before after) a b = absurd (lacks_no_pattern x before after a.1 b)
+one_kind x (full_name n) (full_name m) a b = ap full_name (a.0 ∙ sym b.0)
+one_kind x (full_name n) (object id) a b = absurd (b.1 a.2)
+one_kind x (full_name n) (partial m) a b = absurd (b.2 a.2)
+one_kind x (object id) (pattern before after) a b = absurd (lacks_no_pattern x before after a.0 b)
+one_kind x (object id) (full_name n) a b = absurd (a.1 b.2)
+one_kind x (object id) (object other) a b = ap object (IsIdText-unique x id other a.2 b.2)
+one_kind x (object id) (partial n) a b = absurd (b.3 (id, a.2))
+one_kind x (partial n) (pattern before after) a b = absurd (lacks_no_pattern x before after a.1 b)
+one_kind x (partial n) (full_name m) a b = absurd (a.2 b.2)
+one_kind x (partial n) (object id) a b = absurd (a.3 (id, b.2))
+one_kind x (partial n) (partial m) a b = ap partial (a.0 ∙ sym b.0)
+
+-- a side of the kind matches with one word at the most
+same_word : (k : SideKind) (r : Ref) (v w : Option (List ℕ)) → MatchesAs k r v → MatchesAs k r w → v ≡ w
+same_word (pattern before after) r None w of_v of_w = absurd of_v
+same_word (pattern before after) r (Some v) None of_v of_w = absurd of_w
+same_word (pattern before after) r (Some v) (Some w) of_v of_w = ap Some (one_word before after r.name v w of_v of_w)
+same_word (full_name n) r v w of_v of_w = of_v.0 ∙ sym of_w.0
+same_word (object id) r v w of_v of_w = of_v.0 ∙ sym of_w.0
+same_word (partial n) r v w of_v of_w = of_v.0 ∙ sym of_w.0
+
+-- a side that has the kind matches as that
+pub matches_as : (x : List ℕ) (k : SideKind) (r : Ref) (word : Option (List ℕ)) → HasKind x k → Matches x r word → MatchesAs k r word
+matches_as x k r word kind matches = subst (λ l. MatchesAs l r word) (one_kind x matches.kind k matches.of kind) matches.is
+
+-- a far end becomes what its kind says
+far_filled : (x : Option (List ℕ)) (k : Option DeclaredKind) (word n : Option (List ℕ)) → HasKindShown x k → n ≡ filled_end k word → IsFilled x word n
+far_filled None None word n kind same = same
+far_filled None (Some k) word n kind same = absurd kind
+far_filled (Some x) None word n kind same = absurd kind
+far_filled (Some x) (Some k) word n kind same = (shown_kind k, kind, same)
+
+-- what is made where an end of the kinds matches
+pub is_hit : (items : List Ref) (ends : Ends) (kinds : DeclaredEnds) (k j : ℕ) (r : Ref) (word : Option (List ℕ)) (hit : Hit) → HaveKinds ends kinds → MatchesAs (shown_kind kinds.near) r word → hit.far ≡ filled_end kinds.far word → hit.near ≡ r.name → hit.spec ≡ k → hit.item ≡ j → IsHit items ends k j r hit
+is_hit items ends kinds k j r word hit have matches far near spec item = record {
+  word = word;
+  takes = record { kind = shown_kind kinds.near; of = have.near; is = matches };
+  far = far_filled ends.far kinds.far word hit.far have.far far;
+  near = near;
+  spec = spec;
+  item = item;
+}
+
+-- one more item, which is hit
+pub hit_added : (kinds : DeclaredEnds) (k : ℕ) (items : List Ref) (i : ℕ) (so_far : List Ref) (r : Ref) (hits : List Hit) (word : Option (List ℕ)) (hit : Hit) → length so_far ≡ i → AreHitsOfKinds kinds k items so_far hits → MatchesAs (shown_kind kinds.near) r word → hit.far ≡ filled_end kinds.far word → hit.near ≡ r.name → hit.spec ≡ k → hit.item ≡ i → AreHitsOfKinds kinds k items (so_far ++ r ∷ []) (hits ++ hit ∷ [])
+hit_added kinds k items i so_far r hits word hit long are matches far near spec item = λ ends have.
+    made_next (IsHit items ends k) i so_far r hits (Some hit) long (are ends have) (is_hit items ends kinds k i r word hit have matches far near spec item)
+
+-- one more item, which isn't hit
+pub hit_missed : (kinds : DeclaredEnds) (k : ℕ) (items : List Ref) (i : ℕ) (so_far : List Ref) (r : Ref) (hits : List Hit) → length so_far ≡ i → AreHitsOfKinds kinds k items so_far hits → ((word : Option (List ℕ)) → ¬ (MatchesAs (shown_kind kinds.near) r word)) → AreHitsOfKinds kinds k items (so_far ++ r ∷ []) hits
+hit_missed kinds k items i so_far r hits long are none = λ ends have.
+    subst (IsMadeFrom (IsHit items ends k) 0 (so_far ++ r ∷ [])) (append-nil hits)
+    (made_next (IsHit items ends k) i so_far r hits None long (are ends have) (λ hit is. none is.word (matches_as ends.near (shown_kind kinds.near) r is.word have.near is.takes)))
+
+-- an item that matches is hit
+pub some_hit : (kinds : DeclaredEnds) (before : List Ref) (r : Ref) (after : List Ref) (word : Option (List ℕ)) → MatchesAs (shown_kind kinds.near) r word → HasHit kinds (before ++ (r ∷ after))
+some_hit kinds before r after word matches = λ ends k have none.
+    let items = before ++ (r ∷ after) in
+    let hit : Hit = record { spec = k; item = 0 + length before; near = r.name; far = filled_end kinds.far word } in
+    nothing_made (IsHit items ends k) 0 before r after hit none (is_hit items ends kinds k (0 + length before) r word hit have matches refl refl refl refl)
+
+-- an item that matches adds its hit
+pub adds_hit : (direction : Direction) (kinds : DeclaredEnds) (k : ℕ) (xs : List Item) (i : ℕ) (d : Item) (old mid new : Made) (found : Match) (far : Option NameRef) → i < length xs
+    → AddsHits direction (AreHitsOfKinds kinds k (map ref_of xs) (map ref_of (take i xs))) old mid
+    → MatchesAs (shown_kind kinds.near) (ref_of (get_or xs i d)) (word_of found)
+    → option_map name_bytes far ≡ filled_end kinds.far (word_of found)
+    → made_in direction new ≡ made_in direction mid ++ mapping_of direction (record { spec = k; item = i; near = bstr_bytes ((get_or xs i d).full_ref_name); far = option_map name_bytes far }) ∷ []
+    → AddsHits direction (AreHitsOfKinds kinds k (map ref_of xs) (map ref_of (take (i + 1) xs))) old new
+adds_hit direction kinds k xs i d old mid new found far below so_far matches filled more =
+    let r : Ref = ref_of (get_or xs i d) in
+    let hit : Hit = record { spec = k; item = i; near = r.name; far = option_map name_bytes far } in
+    let items = map ref_of xs in
+    let are : AreHitsOfKinds kinds k items (map ref_of (take i xs) ++ r ∷ []) (so_far.hits ++ hit ∷ []) = hit_added kinds k items i (map ref_of (take i xs)) r so_far.hits (word_of found) hit (map_long ref_of xs i below) so_far.are matches filled refl refl refl in
+    record {
+      hits = so_far.hits ++ hit ∷ [];
+      are = subst (λ l. AreHitsOfKinds kinds k items l (so_far.hits ++ hit ∷ [])) (sym (map_more ref_of xs i d below)) are;
+      all = more ∙ ap (λ l. l ++ mapping_of direction hit ∷ []) so_far.all ∙ append_assoc (made_in direction old) (map (mapping_of direction) so_far.hits) (mapping_of direction hit ∷ []) ∙ ap (λ l. made_in direction old ++ l) (sym (map-append (mapping_of direction) so_far.hits (hit ∷ [])));
+    }
+
+-- another item adds nothing
+pub adds_nothing : (direction : Direction) (kinds : DeclaredEnds) (k : ℕ) (xs : List Item) (i : ℕ) (d : Item) (old mid : Made) → i < length xs
+    → AddsHits direction (AreHitsOfKinds kinds k (map ref_of xs) (map ref_of (take i xs))) old mid
+    → ((word : Option (List ℕ)) → ¬ (MatchesAs (shown_kind kinds.near) (ref_of (get_or xs i d)) word))
+    → AddsHits direction (AreHitsOfKinds kinds k (map ref_of xs) (map ref_of (take (i + 1) xs))) old mid
+adds_nothing direction kinds k xs i d old mid below so_far none =
+    let r : Ref = ref_of (get_or xs i d) in
+    let items = map ref_of xs in
+    record {
+      hits = so_far.hits;
+      are = subst (λ l. AreHitsOfKinds kinds k items l so_far.hits) (sym (map_more ref_of xs i d below)) (hit_missed kinds k items i (map ref_of (take i xs)) r so_far.hits (map_long ref_of xs i below) so_far.are none);
+      all = so_far.all;
+    }
+
+-- the item at a place is hit
+pub item_hit : (kinds : DeclaredEnds) (xs : List Item) (i : ℕ) (d : Item) (found : Match) → i < length xs → MatchesAs (shown_kind kinds.near) (ref_of (get_or xs i d)) (word_of found) → HasHit kinds (map ref_of xs)
+item_hit kinds xs i d found below matches = subst (HasHit kinds) (sym (map_cut ref_of xs i d below)) (some_hit kinds (map ref_of (take i xs)) (ref_of (get_or xs i d)) (map ref_of (drop (suc i) xs)) (word_of found) matches)
+
+-- each side of an accepted reading has one star at the most
+pub few_side : (r : Reading) (side : Option BStr) → ∥ IsAccepted r ∥₁ → ((x : List ℕ) → option_map bstr_bytes side ≡ Some x → (r.source ≡ Some x) ⊎ (r.destination ≡ Some x)) → MatchOption side (Unit {0}) (λ s. ¬ (HasSeveralStars (bstr_bytes s)))
+few_side r None accepted one = tt
+few_side r (Some s) accepted one = accepted_few r (bstr_bytes s) accepted (one (bstr_bytes s) refl)
+
+-- the side that has a kind
+side_shown : (side : Option (List ℕ)) (k : DeclaredKind) → HasKindShown side (Some k) → (text : List ℕ) × (side ≡ Some text) × HasKind text (shown_kind k)
+side_shown None k kind = absurd kind
+side_shown (Some text) k kind = (text, refl, kind)
+
+same_side : (side : Option (List ℕ)) (x y : List ℕ) → side ≡ Some x → side ≡ Some y → x ≡ y
+same_side side x y of_x of_y = cc
+
+-- the source is an id
+pub no_forward_ends : (r : Reading) (ends : Ends) (id : ObjectId) → HasKindShown r.source (Some (Object id)) → AreForwardEnds r ends → ⊥
+no_forward_ends r ends id kind are =
+    let side = side_shown r.source (Object id) kind in
+    are.no_object (id_bytes id) (subst (λ x. HasKind x (object (id_bytes id))) (same_side r.source side.0 ends.near side.1 are.near) side.2)
+
+-- no other kind is shown as an id
+only_object : (k : DeclaredKind) (bytes : List ℕ) → ((id : ObjectId) → k ≢ Object id) → shown_kind k ≡ object bytes → ⊥
+only_object (Pattern before after) bytes other same = cc
+only_object (FullName n) bytes other same = cc
+only_object (Object id) bytes other same = other id refl
+only_object (Partial n) bytes other same = cc
+
+pub forward_ends : (r : Reading) (k : DeclaredKind) (far : Option DeclaredKind) → IsPositive r.mode → HasKindShown r.source (Some k) → HasKindShown r.destination far → ((id : ObjectId) → k ≢ Object id) → (ends : Ends) × AreForwardEnds r ends × HaveKinds ends (record { near = k; far = far })
+forward_ends r k far positive source destination other =
+    let side = side_shown r.source k source in
+    let ends : Ends = record { near = side.0; far = r.destination } in
+    (ends, record { positive = positive; near = side.1; far = refl; no_object = λ id kind. only_object k id other (one_kind side.0 (shown_kind k) (object id) side.2 kind) }, record { near = side.2; far = destination })
+
+pub backward_ends : (r : Reading) (k far : DeclaredKind) → IsPositive r.mode → HasKindShown r.destination (Some k) → HasKindShown r.source (Some far) → (ends : Ends) × AreBackwardEnds r ends × HaveKinds ends (record { near = k; far = Some far })
+backward_ends r k far positive destination source =
+    let side = side_shown r.destination k destination in
+    let other = side_shown r.source far source in
+    let ends : Ends = record { near = side.0; far = Some other.0 } in
+    (ends, record { positive = positive; near = side.1; far = other.1; both = refl }, record { near = side.2; far = other.2 })
+
+-- a reading has one pair of ends
+same_ends : (a b : Ends) → a.near ≡ b.near → a.far ≡ b.far → a ≡ b
+same_ends a b near far =
+    let build : List ℕ → Option (List ℕ) → Ends = λ n f. record { near = n; far = f } in
+    ap (λ n. build n a.far) near ∙ ap (build b.near) far
+
+pub one_pair : (direction : Direction) (r : Reading) (a b : Ends) → HasEnds direction r a → HasEnds direction r b → a ≡ b
+one_pair Forward r a b of_a of_b = same_ends a b (same_side r.source a.near b.near of_a.near of_b.near) (sym of_a.far ∙ of_b.far)
+one_pair Backward r a b of_a of_b = same_ends a b (same_side r.destination a.near b.near of_a.near of_b.near) (sym of_a.far ∙ of_b.far)
+
+-- two lots of hits, one behind the other
+adds_both : (direction : Direction) (P Q R : List Hit → Type 0) (old mid new : Made) → ((g h : List Hit) → P g → Q h → R (g ++ h)) → AddsHits direction P old mid → AddsHits direction Q mid new → AddsHits direction R old new
+adds_both direction P Q R old mid new join first then = record {
+  hits = first.hits ++ then.hits;
+  are = join first.hits then.hits first.are then.are;
+  all = then.all ∙ ap (λ l. l ++ map (mapping_of direction) then.hits) first.all ∙ append_assoc (made_in direction old) (map (mapping_of direction) first.hits) (map (mapping_of direction) then.hits) ∙ ap (λ l. made_in direction old ++ l) (sym (map-append (mapping_of direction) first.hits then.hits));
+}
+
+-- the specs up to a place, with the one there
+specs_more : (specs : List RefSpecRef) (i : ℕ) (s : RefSpecRef) → i < length specs → s ≡ get_or specs i s → map reading_of (take (i + 1) specs) ≡ map reading_of (take i specs) ++ reading_of s ∷ []
+specs_more specs i s below is = map_more reading_of specs i s below ∙ ap (λ t. map reading_of (take i specs) ++ reading_of t ∷ []) (sym is)
+
+specs_cut : (specs : List RefSpecRef) (i : ℕ) (s : RefSpecRef) → i < length specs → s ≡ get_or specs i s → map reading_of specs ≡ map reading_of (take i specs) ++ (reading_of s ∷ map reading_of (drop (suc i) specs))
+specs_cut specs i s below is = map_cut reading_of specs i s below ∙ ap (λ t. map reading_of (take i specs) ++ (reading_of t ∷ map reading_of (drop (suc i) specs))) (sym is)
+
+-- one more spec
+spec_hits : (direction : Direction) (specs : List RefSpecRef) (items : List Ref) (i : ℕ) (s : RefSpecRef) (g h : List Hit) → i < length specs → s ≡ get_or specs i s → AreHits (HasEnds direction) (map reading_of (take i specs)) items g → AreSpecHits (HasEnds direction) items i (reading_of s) h → AreHits (HasEnds direction) (map reading_of (take (i + 1) specs)) items (g ++ h)
+spec_hits direction specs items i s g h below is so_far here =
+    subst (λ rs. AreHits (HasEnds direction) rs items (g ++ h)) (sym (specs_more specs i s below is))
+    (joined_next (AreSpecHits (HasEnds direction) items) i (map reading_of (take i specs)) (reading_of s) g h (map_long reading_of specs i below) so_far here)
+
+-- a spec adds its hits
+pub adds_spec : (direction : Direction) (specs : List RefSpecRef) (items : List Ref) (i : ℕ) (s : RefSpecRef) (kinds : DeclaredEnds) (old mid new : Made) → i < length specs → s ≡ get_or specs i s
+    → AddsHits direction (AreHits (HasEnds direction) (map reading_of (take i specs)) items) old mid
+    → (ends : Ends) × HasEnds direction (reading_of s) ends × HaveKinds ends kinds
+    → AddsHits direction (AreHitsOfKinds kinds i items items) mid new
+    → AddsHits direction (AreHits (HasEnds direction) (map reading_of (take (i + 1) specs)) items) old new
+adds_spec direction specs items i s kinds old mid new below is so_far found here =
+    adds_both direction (AreHits (HasEnds direction) (map reading_of (take i specs)) items) (AreHitsOfKinds kinds i items items) (AreHits (HasEnds direction) (map reading_of (take (i + 1) specs)) items) old mid new (λ g h are_g are_h. spec_hits direction specs items i s g h below is are_g (inl (found.0, found.1, are_h found.0 found.2))) so_far here
+
+-- a spec without such ends adds nothing
+pub adds_no_spec : (direction : Direction) (specs : List RefSpecRef) (items : List Ref) (i : ℕ) (s : RefSpecRef) (old mid : Made) → i < length specs → s ≡ get_or specs i s
+    → AddsHits direction (AreHits (HasEnds direction) (map reading_of (take i specs)) items) old mid
+    → ((ends : Ends) → ¬ (HasEnds direction (reading_of s) ends))
+    → AddsHits direction (AreHits (HasEnds direction) (map reading_of (take (i + 1) specs)) items) old mid
+adds_no_spec direction specs items i s old mid below is so_far none = record {
+  hits = so_far.hits;
+  are = subst (AreHits (HasEnds direction) (map reading_of (take (i + 1) specs)) items) (append-nil so_far.hits) (spec_hits direction specs items i s so_far.hits [] below is so_far.are (inr (none, refl)));
+  all = so_far.all;
+}
+
+-- a spec that hits some item
+no_spec_hits : (direction : Direction) (items : List Ref) (k : ℕ) (r : Reading) (ends : Ends) (kinds : DeclaredEnds) → HasEnds direction r ends → HaveKinds ends kinds → HasHit kinds items → AreSpecHits (HasEnds direction) items k r [] → ⊥
+no_spec_hits direction items k r ends kinds has have some (inl (others, of_others, none)) = some others k (subst (λ e. HaveKinds e kinds) (one_pair direction r ends others has of_others) have) none
+no_spec_hits direction items k r ends kinds has have some (inr (none, _)) = none ends has
+
+pub specs_hit : (direction : Direction) (specs : List RefSpecRef) (items : List Ref) (i : ℕ) (s : RefSpecRef) (kinds : DeclaredEnds) → i < length specs → s ≡ get_or specs i s → (ends : Ends) × HasEnds direction (reading_of s) ends × HaveKinds ends kinds → HasHit kinds items → ¬ (AreHits (HasEnds direction) (map reading_of specs) items [])
+specs_hit direction specs items i s kinds below is found some none =
+    let before = map reading_of (take i specs) in
+    let after = map reading_of (drop (suc i) specs) in
+    no_spec_hits direction items (0 + length before) (reading_of s) found.0 kinds found.1 found.2 some
+    (nothing_joined (AreSpecHits (HasEnds direction) items) 0 before (reading_of s) after (subst (λ rs. AreHits (HasEnds direction) rs items []) (specs_cut specs i s below is) none))

@@ -19,4 +19,5 @@ pub mod AcceptedLemmas
 pub mod MatchLemmas
 pub mod PrefixLemmas
 pub mod ManualFacts
+pub mod ListLemmas
 pub mod HitLemmas
