@@ -1,7 +1,7 @@
 -- What specs match, and what becomes of it.
-use Rattle.std.proofs.Common.{◌≡◌, ◌≢◌, ◌⊎◌, inl, inr, ℕ, suc, ◌+◌, ◌<◌, ◌≤◌, List, [], ◌∷◌, ◌++◌, codes, map, take, drop, get_or, Option, None, Some, option_map, MatchOption, Bor, length, refl, sym, ap, ◌∙◌, subst, append_assoc, arith}
-use Rattle.std.proofs.lemmas.List.{append-nil, append_cancel_left, map-append, length-map, length-take-le, take_more, take-append-drop}
-use Rattle.std.proofs.Math.Seq.{drop-cons}
+use Rattle.std.proofs.Common.{◌≡◌, ◌≢◌, ◌⊎◌, inl, inr, ℕ, suc, ◌+◌, ◌<◌, ◌≤◌, List, [], ◌∷◌, ◌++◌, codes, map, take, drop, get_or, Option, None, Some, option_map, option_to_list, is_some, true, MatchOption, Bor, length, refl, sym, ap, ◌∙◌, subst, append_assoc, arith}
+use Rattle.std.proofs.lemmas.List.{append-nil, append_cancel_left, map-append}
+use Rattle.std.proofs.lemmas.Bool.{cases_eq, false≢true}
 use Rattle.bstr.specs.declared.bstr.BStr.{BStr}
 use Rattle.bstr.specs.BStr.{bstr_bytes}
 use Rattle.gix_refspec.specs.declared.match_group.types.Item.{Item}
@@ -11,6 +11,9 @@ use Rattle.gix_refspec.specs.declared.match_group.util.hits.Direction.{Direction
 use Rattle.gix_refspec.specs.declared.match_group.util.hits.Direction.TheVariants.{Forward, Backward}
 use Rattle.gix_refspec.specs.declared.match_group.util.hits.Ends.{Ends as DeclaredEnds}
 use Rattle.gix_refspec.specs.declared.match_group.util.hits.Made.{Made}
+use Rattle.gix_refspec.specs.declared.match_group.util.hits.Asked.{Asked}
+use Rattle.gix_refspec.specs.declared.match_group.types.Mapping.{Mapping}
+use Rattle.gix_refspec.specs.declared.match_group.types.SourceRef.TheVariants as source_ref
 use Rattle.gix_refspec.specs.declared.side.SideKind.{SideKind as DeclaredKind}
 use Rattle.gix_refspec.specs.declared.side.SideKind.TheVariants.{Pattern, FullName, Object, Partial}
 use Rattle.gix_refspec.specs.declared.oid.ObjectId.{ObjectId}
@@ -23,14 +26,16 @@ use Rattle.gix_refspec.specs.Spec.{reading_of}
 use Rattle.gix_refspec.specs.Side.{SideKind, pattern, full_name, object, partial, HasKind, Fits, IsCandidate, candidates}
 use Rattle.gix_refspec.specs.SideViews.{shown_kind}
 use Rattle.gix_refspec.specs.Match.{Ref, MatchesAs, Matches}
-use Rattle.gix_refspec.specs.Lists.{IsMadeFrom}
-use Rattle.gix_refspec.specs.Group.{name_bytes, ref_of}
-use Rattle.gix_refspec.specs.Hits.{Ends, AreForwardEnds, AreBackwardEnds, AreSpecHits, AreHits, Hit, IsHit, IsFilled}
-use Rattle.gix_refspec.specs.HitViews.{word_of, IsPlace, HasKindShown, HaveKinds, HasEnds, filled_end, AreHitsOfKinds, HasHit, mapping_of, made_in, AddsHits}
+use Rattle.gix_refspec.specs.Lists.{MakesOf, IsMadeFrom}
+use Rattle.gix_refspec.specs.Mappings as mappings
+use Rattle.gix_refspec.specs.Mappings.{Mapped}
+use Rattle.gix_refspec.specs.Group.{name_bytes, mapped_of, ref_of}
+use Rattle.gix_refspec.specs.Hits.{Ends, IsIdMapping, AreForward, AreBackward, forward_of, backward_of, AreForwardEnds, AreBackwardEnds, AreSpecHits, AreHits, Hit, IsHit, IsFilled}
+use Rattle.gix_refspec.specs.HitViews.{AsksForId, word_of, IsPlace, HasKindShown, HaveKinds, HasEnds, filled_end, AreHitsOfKinds, HasHit, mapping_of, made_in, AddsHits}
 use Rattle.gix_refspec.proofs.ObjectIdLemmas.{IsIdText-unique}
 use Rattle.gix_refspec.proofs.AcceptedLemmas.{accepted_few}
 use Rattle.gix_refspec.proofs.MatchLemmas.{one_word, lacks_no_pattern, cut_once}
-use Rattle.gix_refspec.proofs.ListLemmas.{made_next, nothing_made, joined_next, nothing_joined, map_more, map_long, map_cut}
+use Rattle.gix_refspec.proofs.ListLemmas.{empty_both, made_next, nothing_made, joined_next, nothing_joined, map_more, map_long, map_cut}
 
 -- a name that doesn't begin as a pattern does has no word
 pub no_front_no_word : (before after n : List ℕ) → ((rest : List ℕ) → n ≢ before ++ rest) → (word : List ℕ) → ¬ (Fits before after n word)
@@ -296,3 +301,91 @@ specs_hit direction specs items i s kinds below is found some none =
     let after = map reading_of (drop (suc i) specs) in
     no_spec_hits direction items (0 + length before) (reading_of s) found.0 kinds found.1 found.2 some
     (nothing_joined (AreSpecHits (HasEnds direction) items) 0 before (reading_of s) after (subst (λ rs. AreHits (HasEnds direction) rs items []) (specs_cut specs i s below is) none))
+
+-- what a spec makes that asks for an id
+is_id_mapping : (k : ℕ) (r : Reading) (bytes : List ℕ) (kind : Option DeclaredKind) (m : Mapped) → AsksForId r bytes → HasKindShown r.destination kind → m.item ≡ None → m.source ≡ mappings.id bytes → m.destination ≡ filled_end kind None → m.spec ≡ k → IsIdMapping k r m
+is_id_mapping k r bytes kind m asks destination item source becomes spec = record {
+  positive = asks.positive;
+  text = asks.text;
+  bytes = bytes;
+  side = asks.side;
+  object = asks.kind;
+  item = item;
+  source = source;
+  destination = far_filled r.destination kind None m.destination destination becomes;
+  spec = spec;
+}
+
+-- one more spec, and what it makes
+specs_made : (specs : List RefSpecRef) (i : ℕ) (s : RefSpecRef) (list : List Mapped) (made : Option Mapped) → i < length specs → s ≡ get_or specs i s → IsMadeFrom IsIdMapping 0 (map reading_of (take i specs)) list → MakesOf IsIdMapping i (reading_of s) made → IsMadeFrom IsIdMapping 0 (map reading_of (take (i + 1) specs)) (list ++ option_to_list made)
+specs_made specs i s list made below is so_far here =
+    subst (λ rs. IsMadeFrom IsIdMapping 0 rs (list ++ option_to_list made)) (sym (specs_more specs i s below is))
+    (made_next IsIdMapping i (map reading_of (take i specs)) (reading_of s) list made (map_long reading_of specs i below) so_far here)
+
+-- a spec that asks for an id adds a mapping
+pub adds_id : (specs : List RefSpecRef) (i : ℕ) (s : RefSpecRef) (asked : Asked) (far : Option NameRef) (old new : List Mapping) → i < length specs → s ≡ get_or specs i s
+    → IsMadeFrom IsIdMapping 0 (map reading_of (take i specs)) (map mapped_of old)
+    → AsksForId (reading_of s) (id_bytes asked.id) × HasKindShown (reading_of s).destination asked.destination
+    → option_map name_bytes far ≡ filled_end asked.destination None
+    → new ≡ old ++ (record { item_index = None; lhs = source_ref.ObjectId asked.id; rhs = far; spec_index = i }) ∷ []
+    → IsMadeFrom IsIdMapping 0 (map reading_of (take (i + 1) specs)) (map mapped_of new)
+adds_id specs i s asked far old new below is so_far asks filled more =
+    let mapping : Mapping = record { item_index = None; lhs = source_ref.ObjectId asked.id; rhs = far; spec_index = i } in
+    let m : Mapped = mapped_of mapping in
+    subst (λ l. IsMadeFrom IsIdMapping 0 (map reading_of (take (i + 1) specs)) l) (sym (ap (map mapped_of) more ∙ map-append mapped_of old (mapping ∷ [])))
+    (specs_made specs i s (map mapped_of old) (Some m) below is so_far (is_id_mapping i (reading_of s) (id_bytes asked.id) asked.destination m asks.0 asks.1 refl refl filled refl))
+
+-- another spec adds nothing
+pub adds_no_id : (specs : List RefSpecRef) (i : ℕ) (s : RefSpecRef) (list : List Mapped) → i < length specs → s ≡ get_or specs i s
+    → IsMadeFrom IsIdMapping 0 (map reading_of (take i specs)) list
+    → ((bytes : List ℕ) → ¬ (AsksForId (reading_of s) bytes))
+    → IsMadeFrom IsIdMapping 0 (map reading_of (take (i + 1) specs)) list
+adds_no_id specs i s list below is so_far none =
+    subst (IsMadeFrom IsIdMapping 0 (map reading_of (take (i + 1) specs))) (append-nil list) (specs_made specs i s list None below is so_far (λ m makes. none makes.bytes (record { positive = makes.positive; text = makes.text; side = makes.side; kind = makes.object })))
+
+-- a spec that asks for an id makes some mapping
+pub some_id : (specs : List RefSpecRef) (i : ℕ) (s : RefSpecRef) (asked : Asked) → i < length specs → s ≡ get_or specs i s → AsksForId (reading_of s) (id_bytes asked.id) × HasKindShown (reading_of s).destination asked.destination → ¬ (IsMadeFrom IsIdMapping 0 (map reading_of specs) [])
+some_id specs i s asked below is asks none =
+    let before = map reading_of (take i specs) in
+    let after = map reading_of (drop (suc i) specs) in
+    let m : Mapped = record { item = None; source = mappings.id (id_bytes asked.id); destination = filled_end asked.destination None; spec = 0 + length before } in
+    nothing_made IsIdMapping 0 before (reading_of s) after m (subst (λ rs. IsMadeFrom IsIdMapping 0 rs []) (specs_cut specs i s below is) none) (is_id_mapping (0 + length before) (reading_of s) (id_bytes asked.id) asked.destination m asks.0 asks.1 refl refl refl refl)
+
+-- what was found
+pub found_some : {A : Type 0} (P : Type 0) (Q : A → Type 0) (found : Option A) → is_some found ≡ true → MatchOption found P Q → (x : A) × Q x
+found_some P Q None some is = absurd (false≢true some)
+found_some P Q (Some x) some is = (x, is)
+
+-- an item that is counted is hit
+pub item_counted : (kinds : DeclaredEnds) (xs : List Item) (i : ℕ) (d : Item) (found : Option Match) → i < length xs → is_some found ≡ true → MatchOption found ((word : Option (List ℕ)) → ¬ (MatchesAs (shown_kind kinds.near) (ref_of (get_or xs i d)) word)) (λ m. MatchesAs (shown_kind kinds.near) (ref_of (get_or xs i d)) (word_of m)) → HasHit kinds (map ref_of xs)
+item_counted kinds xs i d None below some is = absurd (false≢true some)
+item_counted kinds xs i d (Some m) below some is = item_hit kinds xs i d m below is
+
+-- a source of another kind is no id
+pub no_id : (r : Reading) (k : DeclaredKind) → HasKindShown r.source (Some k) → ((id : ObjectId) → k ≢ Object id) → (bytes : List ℕ) → ¬ (AsksForId r bytes)
+no_id r k kind other bytes asks =
+    let side = side_shown r.source k kind in
+    let text : asks.text ≡ side.0 = same_side r.source asks.text side.0 asks.side side.1 in
+    only_object k bytes other (one_kind side.0 (shown_kind k) (object bytes) side.2 (subst (λ x. HasKind x (object bytes)) text asks.kind))
+
+-- where there are no mappings, nothing made one
+map_nothing : {A B : Type 0} (f : A → B) (xs : List A) → map f xs ≡ [] → xs ≡ []
+map_nothing f [] none = refl
+map_nothing f (x ∷ xs) none = absurd (cc)
+
+pub no_ids : (g : List Reading) (items : List Ref) → AreForward g items [] → IsMadeFrom IsIdMapping 0 g []
+no_ids g items none = subst (IsMadeFrom IsIdMapping 0 g) (empty_both none.ids (map forward_of none.hits) none.all).0 none.are_ids
+
+pub no_forward_hits : (g : List Reading) (items : List Ref) → AreForward g items [] → AreHits AreForwardEnds g items []
+no_forward_hits g items none = subst (AreHits AreForwardEnds g items) (map_nothing forward_of none.hits (empty_both none.ids (map forward_of none.hits) none.all).1) none.are_hits
+
+pub no_backward_hits : (g : List Reading) (items : List Ref) → AreBackward g items [] → AreHits AreBackwardEnds g items []
+no_backward_hits g items none = subst (AreHits AreBackwardEnds g items) (map_nothing backward_of none.hits (sym none.all)) none.are_hits
+
+-- room that is asked for serves an id or a hit
+pub some_forward : (g : List Reading) (items : List Ref) (ids hits room : ℕ) → (ids ≢ 0 → ¬ (IsMadeFrom IsIdMapping 0 g [])) → (hits ≢ 0 → ¬ (AreHits AreForwardEnds g items [])) → (ids ≡ 0 → hits ≡ 0 → room ≡ 0) → room ≢ 0 → ¬ (AreForward g items [])
+some_forward g items ids hits room of_ids of_hits none some empty =
+    elim (cases_eq ids 0) [
+      | inl no_id ↦ of_hits (λ no_hit. some (none no_id no_hit)) (no_forward_hits g items empty)
+      | inr id ↦ of_ids id (no_ids g items empty)
+    ]

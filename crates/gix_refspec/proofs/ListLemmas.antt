@@ -59,7 +59,7 @@ nothing_made {X} {Y} R k (b ∷ bs) x after y (made, rest, here, more, same) mak
     let none = empty_first made rest same in
     nothing_made R (k + 1) bs x after y (subst (λ l. IsMadeFrom R (k + 1) (bs ++ (x ∷ after)) l) none.1 more) (subst (λ n. R n x y) at makes)
 
-empty_both : {Y : Type 0} (made rest : List Y) → [] ≡ made ++ rest → (made ≡ []) × (rest ≡ [])
+pub empty_both : {Y : Type 0} (made rest : List Y) → [] ≡ made ++ rest → (made ≡ []) × (rest ≡ [])
 empty_both [] rest same = (refl, sym same)
 empty_both (y ∷ ys) rest same = absurd (cc)
 

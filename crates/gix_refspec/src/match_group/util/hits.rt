@@ -37,6 +37,13 @@ struct Ends<'spec> {
     far: Option<SideKind<'spec>>,
 }
 
+// An object that a spec asks for by its id, and the kind of the spec's destination.
+#[derive(Clone, Copy)]
+struct Asked<'spec> {
+    id: ObjectId,
+    destination: Option<SideKind<'spec>>,
+}
+
 // That a spec matched an item: the places of both, the item's name, and what the far end becomes.
 #[derive(Drop)]
 struct Hit<'spec, 'item> {
@@ -137,14 +144,14 @@ fn add_ids<'spec, 'item>(
     ensures memory { OnErr result (¬ (IsMadeFrom IsIdMapping 0 (map reading_of specs.now) [])) }
 {
     for (place, spec) in specs.iter().enumerate() {
-        if let Some(id) = asked_id(spec) {
-            let destination = filled_end(alloc, side_kind(spec.dst), None)?;
-            mappings.push(Mapping {
+        if let Some(asked) = asked_of(spec) {
+            let mapping = Mapping {
                 item_index: None,
-                lhs: SourceRef::ObjectId(id),
-                rhs: destination,
+                lhs: SourceRef::ObjectId(asked.id),
+                rhs: filled_end(alloc, asked.destination, None)?,
                 spec_index: place,
-            })?;
+            };
+            mappings.push(mapping)?;
         }
     }
     Ok(())
@@ -156,26 +163,29 @@ fn id_count(specs: &[RefSpecRef<'_>]) -> usize
 {
     let mut count: usize = 0;
     for spec in specs {
-        if asked_id(spec).is_some() {
+        if asked_of(spec).is_some() {
             count += 1;
         }
     }
     count
 }
 
-// The id that is the source of a positive spec.
-fn asked_id(spec: &RefSpecRef<'_>) -> Option<ObjectId>
+// The object that a positive spec asks for by its id, and the kind of its destination.
+fn asked_of<'spec>(spec: &RefSpecRef<'spec>) -> Option<Asked<'spec>>
     ensures { MatchOption result
         ((bytes : List ℕ) → ¬ (AsksForId (reading_of spec.now) bytes))
-        (λ id. AsksForId (reading_of spec.now) (id_bytes id)) }
+        (λ asked. AsksForId (reading_of spec.now) (id_bytes asked.id) × HasKindShown (reading_of spec.now).destination asked.destination) }
 {
     if spec.mode == Mode::Negative {
         return None;
     }
-    match side_kind(spec.src)? {
-        SideKind::Object(id) => Some(id),
-        _ => None,
-    }
+    let SideKind::Object(id) = side_kind(spec.src)? else {
+        return None;
+    };
+    Some(Asked {
+        id,
+        destination: side_kind(spec.dst),
+    })
 }
 
 // Adds what the hits of the specs make.
