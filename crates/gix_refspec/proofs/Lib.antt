@@ -18,3 +18,8 @@ pub mod FormsBackLemmas
 pub mod PrefixLemmas
 pub mod MatchLemmas
 pub mod ManualFacts
+pub mod KeptLemmas
+pub mod RepeatLemmas
+pub mod PairLemmas
+pub mod ExclusionLemmas
+pub mod ListsLemmas

@@ -19,3 +19,4 @@ pub mod ObjectId
 pub mod Lists
 pub mod Mappings
 pub mod Group
+pub mod Kept
