@@ -35,7 +35,7 @@ use Rattle.gix_refspec.specs.HitViews.{AsksForId, word_of, IsPlace, HasKindShown
 use Rattle.gix_refspec.proofs.ObjectIdLemmas.{IsIdText-unique}
 use Rattle.gix_refspec.proofs.AcceptedLemmas.{accepted_few}
 use Rattle.gix_refspec.proofs.MatchLemmas.{one_word, lacks_no_pattern, cut_once}
-use Rattle.gix_refspec.proofs.ListLemmas.{empty_both, made_next, nothing_made, joined_next, nothing_joined, map_more, map_long, map_cut}
+use Rattle.gix_refspec.proofs.JoinLemmas.{empty_both, made_next, nothing_made, joined_next, nothing_joined, map_more, map_long, map_cut}
 
 -- a name that doesn't begin as a pattern does has no word
 pub no_front_no_word : (before after n : List ℕ) → ((rest : List ℕ) → n ≢ before ++ rest) → (word : List ℕ) → ¬ (Fits before after n word)

@@ -19,5 +19,10 @@ pub mod AcceptedLemmas
 pub mod MatchLemmas
 pub mod PrefixLemmas
 pub mod ManualFacts
-pub mod ListLemmas
+pub mod KeptLemmas
+pub mod RepeatLemmas
+pub mod PairLemmas
+pub mod ExclusionLemmas
+pub mod ListsLemmas
+pub mod JoinLemmas
 pub mod HitLemmas

@@ -23,3 +23,4 @@ pub mod Mappings
 pub mod Group
 pub mod Hits
 pub mod HitViews
+pub mod Kept

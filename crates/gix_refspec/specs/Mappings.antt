@@ -1,6 +1,7 @@
 -- Mappings between the refs of two repositories, and which of them are kept, by git-fetch(1) and
 -- git-push(1) under `<refspec>`. That a mapping which stands twice is kept once is this project's own rule.
 use Rattle.std.specs.Prelude.{◌≡◌, ◌⊎◌, ℕ, List, [], ◌∷◌, ◌++◌, Option, Some, take}
+use Rattle.std.specs.List.{AllByRecursion}
 use Rattle.gix_refspec.specs.Text.{Lacks}
 use Rattle.gix_refspec.specs.Name.{star}
 use Rattle.gix_refspec.specs.Reading.{Reading, Negative}
@@ -52,6 +53,11 @@ pub record IsSamePair (m other : Mapped) : Type 0 where
 abbrev pub HasPair : List Mapped → Mapped → Type 0
 HasPair [] m = ⊥
 HasPair (x ∷ xs) m = IsSamePair x m ⊎ HasPair xs m
+
+-- no two of the mappings have the same pair
+abbrev pub AreApart : List Mapped → Type 0
+AreApart [] = Unit {0}
+AreApart (m ∷ l) = AllByRecursion (λ x. ¬ (IsSamePair m x)) l × AreApart l
 
 -- m, which stands in the list at place k, stays: no earlier mapping has its pair, and its source isn't
 -- excluded

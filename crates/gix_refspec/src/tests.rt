@@ -2,6 +2,7 @@
 
 mod errors;
 mod mapping;
+mod matching;
 mod name;
 mod oid;
 mod order;

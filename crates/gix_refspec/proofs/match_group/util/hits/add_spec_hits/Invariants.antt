@@ -2,7 +2,6 @@
 use Rattle.std.proofs.Common.{map, take}
 use Rattle.gix_refspec.specs.Group.{ref_of}
 use Rattle.gix_refspec.specs.HitViews.{AreHitsOfKinds, AddsHits}
-use Rattle.gix_refspec.proofs.ListLemmas.{made_next}
 use Rattle.gix_refspec.proofs.match_group.util.hits.add_spec_hits.Given as goal
 
 abbrev pub invariant-loop-place : goal.invariant-loop-place

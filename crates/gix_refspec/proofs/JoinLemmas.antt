@@ -1,7 +1,8 @@
--- Lists that a relation makes of lists, element by element.
+-- Lists that are joined from lists, and lists of which nothing is made.
 use Rattle.std.proofs.Common.{◌≡◌, ℕ, suc, ◌+◌, ◌<◌, ◌≤◌, map, take, drop, get_or, take-append-drop, drop-cons, List, [], ◌∷◌, ◌++◌, Option, None, Some, option_to_list, length, refl, sym, ap, ◌∙◌, subst, append_assoc, arith}
 use Rattle.std.proofs.lemmas.List.{append-nil, map-append, length-map, length-take-le, take_more}
 use Rattle.gix_refspec.specs.Lists.{MakesOf, IsMadeFrom, IsJoinedFrom}
+use Rattle.gix_refspec.proofs.ListsLemmas.{made_push}
 
 -- the elements up to a place, with the one there
 pub map_more : {A B : Type 0} (f : A → B) (xs : List A) (i : ℕ) (d : A) → i < length xs → map f (take (i + 1) xs) ≡ map f (take i xs) ++ f (get_or xs i d) ∷ []
@@ -17,18 +18,10 @@ map_cut f xs i d below =
     ap (map f) cut ∙ map-append f (take i xs) (get_or xs i d ∷ drop (suc i) xs)
 
 -- one more element behind the others, which makes one more, or nothing
-made_behind : {X Y : Type 0} (R : ℕ → X → Y → Type 0) (k : ℕ) (xs : List X) (x : X) (ys : List Y) (made : Option Y) → IsMadeFrom R k xs ys → MakesOf R (k + length xs) x made → IsMadeFrom R k (xs ++ x ∷ []) (ys ++ option_to_list made)
-made_behind {X} {Y} R k [] x ys made none makes =
-    let at : k + length {A = X} [] ≡ k = omega arith in
-    (made, [], subst (λ n. MakesOf R n x made) at makes, refl, ap (λ l. l ++ option_to_list made) none ∙ sym (append-nil (option_to_list made)))
-made_behind {X} {Y} R k (z ∷ zs) x ys made (first, rest, here, more, same) makes =
-    let at : k + length (z ∷ zs) ≡ k + 1 + length zs = omega arith in
-    (first, rest ++ option_to_list made, here, made_behind R (k + 1) zs x rest made more (subst (λ n. MakesOf R n x made) at makes), ap (λ l. l ++ option_to_list made) same ∙ append_assoc (option_to_list first) rest (option_to_list made))
-
 pub made_next : {X Y : Type 0} (R : ℕ → X → Y → Type 0) (i : ℕ) (xs : List X) (x : X) (ys : List Y) (made : Option Y) → length xs ≡ i → IsMadeFrom R 0 xs ys → MakesOf R i x made → IsMadeFrom R 0 (xs ++ x ∷ []) (ys ++ option_to_list made)
 made_next R i xs x ys made long so_far makes =
     let at : i ≡ 0 + length xs = omega arith in
-    made_behind R 0 xs x ys made so_far (subst (λ n. MakesOf R n x made) at makes)
+    made_push R 0 xs ys x made so_far (subst (λ n. MakesOf R n x made) at makes)
 
 -- one more element behind the others, whose list is joined to theirs
 joined_behind : {X Y : Type 0} (R : ℕ → X → List Y → Type 0) (k : ℕ) (xs : List X) (x : X) (ys made : List Y) → IsJoinedFrom R k xs ys → R (k + length xs) x made → IsJoinedFrom R k (xs ++ x ∷ []) (ys ++ made)
@@ -71,24 +64,11 @@ nothing_joined {X} {Y} R k (b ∷ bs) x after (made, rest, here, more, same) =
     let at : k + 1 + length bs ≡ k + length (b ∷ bs) = omega arith in
     subst (λ n. R n x []) at (nothing_joined R (k + 1) bs x after (subst (λ l. IsJoinedFrom R (k + 1) (bs ++ (x ∷ after)) l) (empty_both made rest same).1 more))
 
--- what each element makes is at most one thing
+-- each element makes one thing at the most
 abbrev pub MakesOnce : {X Y : Type 0} → (ℕ → X → Y → Type 0) → Type 0
 MakesOnce {X} {Y} R = (k : ℕ) (x : X) (y z : Y) → R k x y → R k x z → y ≡ z
 
-same_made : {X Y : Type 0} (R : ℕ → X → Y → Type 0) → MakesOnce R → (k : ℕ) (x : X) (a b : Option Y) → MakesOf R k x a → MakesOf R k x b → a ≡ b
-same_made R once k x None None of_a of_b = refl
-same_made R once k x None (Some z) of_a of_b = absurd (of_a z of_b)
-same_made R once k x (Some y) None of_a of_b = absurd (of_b y of_a)
-same_made R once k x (Some y) (Some z) of_a of_b = ap Some (once k x y z of_a of_b)
-
 -- so the elements determine the list
-pub one_made : {X Y : Type 0} (R : ℕ → X → Y → Type 0) → MakesOnce R → (k : ℕ) (xs : List X) (ys zs : List Y) → IsMadeFrom R k xs ys → IsMadeFrom R k xs zs → ys ≡ zs
-one_made R once k [] ys zs of_ys of_zs = of_ys ∙ sym of_zs
-one_made R once k (x ∷ xs) ys zs (a, rest, a_here, a_more, a_same) (b, others, b_here, b_more, b_same) =
-    let here : a ≡ b = same_made R once k x a b a_here b_here in
-    let more : rest ≡ others = one_made R once (k + 1) xs rest others a_more b_more in
-    cc
-
 pub one_joined : {X Y : Type 0} (R : ℕ → X → List Y → Type 0) → MakesOnce R → (k : ℕ) (xs : List X) (ys zs : List Y) → IsJoinedFrom R k xs ys → IsJoinedFrom R k xs zs → ys ≡ zs
 one_joined R once k [] ys zs of_ys of_zs = of_ys ∙ sym of_zs
 one_joined R once k (x ∷ xs) ys zs (a, rest, a_here, a_more, a_same) (b, others, b_here, b_more, b_same) =
