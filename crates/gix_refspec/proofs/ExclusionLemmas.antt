@@ -17,7 +17,7 @@ use Rattle.gix_refspec.specs.Grammar.{IsAccepted, IsNameOrPattern, IsPositive, R
 use Rattle.gix_refspec.specs.Side.{Fits}
 use Rattle.gix_refspec.specs.Mappings.{Excludes, as_name, as_pattern, IsExcluded, IsExcludedBy}
 use Rattle.gix_refspec.specs.Spec.{reading_of}
-use Rattle.gix_refspec.specs.Kept.{AreExclusionsOf, IsTaken, Takes}
+use Rattle.gix_refspec.specs.Kept.{AreExclusionsOf, HasNegative, IsTaken, Takes}
 use Rattle.gix_refspec.proofs.TextLemmas.{Lacks-here, first_once}
 use Rattle.gix_refspec.proofs.SideLemmas.{Lacks-name}
 use Rattle.gix_refspec.proofs.ReadBackLemmas.{named_either}
@@ -214,3 +214,9 @@ untaken_more es i d n below free before taken =
       | inl old ↦ before old
       | inr last ↦ free last
     ]
+
+-- a spec that is negative
+pub HasNegative-at : (specs : List RefSpecRef) (i : ℕ) (d : RefSpecRef) → i < length specs → (reading_of (get_or specs i d)).mode ≡ Negative → HasNegative (map reading_of specs)
+HasNegative-at [] i d below negative = absurd (omega arith)
+HasNegative-at (s ∷ specs) zero d below negative = inl negative
+HasNegative-at (s ∷ specs) (suc i) d below negative = inr (HasNegative-at specs i d (omega arith) negative)

@@ -1,6 +1,7 @@
 -- What a clause reads of groups, items and mappings.
 use Rattle.std.specs.Prelude.{◌≡◌, ◌⊎◌, ℕ, Bool, true, false, List, map, Option, None, Some, option_map, MatchOption, encode_utf8_all}
-use Rattle.std.specs.List.{AllZip}
+use Rattle.std.specs.List.{AllZip, filter}
+use Rattle.std.specs.Iterator.{Drains}
 use Rattle.bstr.specs.BStr.{bstr_bytes}
 use Rattle.bstr.specs.Owned.{bstring_bytes}
 use Rattle.gix_refspec.specs.declared.match_group.types.Item.{Item}
@@ -52,6 +53,10 @@ is_same_operation Fetch Fetch = true
 -- whether the spec is for the operation
 abbrev pub is_for : Operation → RefSpecRef → Bool
 is_for operation s = is_same_operation operation s.op
+
+-- the group has the specs of the operation among those that a source of specs gives, in order
+abbrev pub IsGathered : {U T : Type 0} → (U → T → Type 0) → (T → Option RefSpecRef → T → Type 0) → Operation → U → MatchGroup → Type 0
+IsGathered {U} {T} becomes steps op source group = (it : T) × (all : List RefSpecRef) × becomes source it × Drains steps it all × (group.specs.items ≡ filter (is_for op) all)
 
 -- the name is lent
 abbrev pub IsBorrowed : NameRef → Type 0

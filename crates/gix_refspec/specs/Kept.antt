@@ -10,7 +10,7 @@ use Rattle.gix_refspec.specs.declared.match_group.util.kept.exclusions.Exclusion
 use Rattle.gix_refspec.specs.declared.match_group.util.kept.exclusions.Exclusion.TheVariants as exclusion
 use Rattle.gix_refspec.specs.declared.match_group.util.kept.repeats.Hashed.{Hashed}
 use Rattle.gix_refspec.specs.declared.match_group.util.kept.repeats.Pair.{Pair}
-use Rattle.gix_refspec.specs.Reading.{Reading}
+use Rattle.gix_refspec.specs.Reading.{Reading, Negative}
 use Rattle.gix_refspec.specs.Side.{Fits}
 use Rattle.gix_refspec.specs.Mappings.{Start, name, id, Mapped, IsSamePair, IsExcluded}
 use Rattle.gix_refspec.specs.Group.{mapped_of}
@@ -33,6 +33,11 @@ IsStartTaken es (id i) = ⊥
 -- these exclude what the readings exclude
 abbrev pub AreExclusionsOf : List Reading → List Exclusion → Type 0
 AreExclusionsOf g es = (n : List ℕ) → IsTaken es n ↔ IsExcluded g n
+
+-- one of the readings is negative
+abbrev pub HasNegative : List Reading → Type 0
+HasNegative [] = ⊥
+HasNegative (r ∷ rs) = (r.mode ≡ Negative) ⊎ HasNegative rs
 
 -- the mappings at two places have the same pair
 abbrev pub IsSameAt : List Mapping → ℕ → ℕ → Type 0

@@ -1,6 +1,6 @@
 //! Groups of specs, the items that they match, and the mappings that they give.
 
-ghost use Rattle.std.specs.Prelude.{◌≡◌, ◌↔◌, ℕ, List, [], ◌∷◌, ◌++◌, refl, nat_eq, encode_utf8_all, Some, None, IfOk, OnErr, IsTrue};
+ghost use Rattle.std.specs.Prelude.{◌≡◌, ◌↔◌, [], ◌∷◌, refl, nat_eq, Some, IfOk, OnErr, IsTrue};
 ghost use Rattle.std.specs.Cmp.Lexicographic.{pointwise, nat_list_eq_equiv};
 ghost use Rattle.std.specs.Cmp.{partial_equiv_from_equiv, on_per, on_equiv};
 ghost use Rattle.std.specs.Cmp.Rules.{hashing};
@@ -226,10 +226,8 @@ pub struct MatchGroup<'a> {
 }
 
 impl<'a> MatchGroup<'a> {
-    ghost use Rattle.std.specs.Iterator.{IsFiniteIterable, Drains};
-    ghost use Rattle.std.specs.List.{filter};
-    ghost use Rattle.gix_refspec.specs.declared.spec.RefSpecRef.{RefSpecRef};
-    ghost use Rattle.gix_refspec.specs.Group.{is_for};
+    ghost use Rattle.std.specs.Iterator.{IsFiniteIterable};
+    ghost use Rattle.gix_refspec.specs.Group.{IsGathered};
 
     /// A group of no specs, which takes no memory.
     pub fn new(alloc: Global) -> Self
@@ -248,7 +246,7 @@ impl<'a> MatchGroup<'a> {
     where
         I::IntoIter: Drop,
         requires { IsFiniteIterable I.into_iter_gives I.IntoIter.can_next I.IntoIter.remaining specs }
-        ensures { IfOk result (λ group. (it : I.IntoIter) × (all : List RefSpecRef) × I.into_iter_gives specs it × Drains I.IntoIter.next_gives it all × (group.specs.items ≡ filter (is_for Operation.Fetch) all)) }
+        ensures { IfOk result (IsGathered I.into_iter_gives I.IntoIter.next_gives Operation.Fetch specs) }
     {
         Self::of(alloc, Operation::Fetch, specs)
     }
@@ -261,7 +259,7 @@ impl<'a> MatchGroup<'a> {
     where
         I::IntoIter: Drop,
         requires { IsFiniteIterable I.into_iter_gives I.IntoIter.can_next I.IntoIter.remaining specs }
-        ensures { IfOk result (λ group. (it : I.IntoIter) × (all : List RefSpecRef) × I.into_iter_gives specs it × Drains I.IntoIter.next_gives it all × (group.specs.items ≡ filter (is_for Operation.Push) all)) }
+        ensures { IfOk result (IsGathered I.into_iter_gives I.IntoIter.next_gives Operation.Push specs) }
     {
         Self::of(alloc, Operation::Push, specs)
     }
@@ -275,7 +273,7 @@ impl<'a> MatchGroup<'a> {
     where
         I::IntoIter: Drop,
         requires { IsFiniteIterable I.into_iter_gives I.IntoIter.can_next I.IntoIter.remaining specs }
-        ensures { IfOk result (λ group. (it : I.IntoIter) × (all : List RefSpecRef) × I.into_iter_gives specs it × Drains I.IntoIter.next_gives it all × (group.specs.items ≡ filter (is_for operation) all)) }
+        ensures { IfOk result (IsGathered I.into_iter_gives I.IntoIter.next_gives operation specs) }
     {
         let mut group = MatchGroup::new(alloc);
         for spec in specs {

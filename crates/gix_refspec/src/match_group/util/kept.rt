@@ -5,7 +5,7 @@ ghost use Rattle.std.specs.Prelude.{◌≡◌, ◌⊎◌, ◌↔◌, ◌<◌, �
 ghost use Rattle.gix_refspec.specs.Spec.{reading_of};
 ghost use Rattle.gix_refspec.specs.Group.{mapped_of};
 ghost use Rattle.gix_refspec.specs.Mappings.{IsKept};
-ghost use Rattle.gix_refspec.specs.Kept.{IsFlagged, Remains};
+ghost use Rattle.gix_refspec.specs.Kept.{HasNegative, IsFlagged, Remains};
 ghost use Rattle.gix_refspec.specs.Lists.{IsMadeFrom};
 
 mod exclusions;
@@ -18,7 +18,8 @@ use repeats::repeats_of;
 use std::alloc::{AllocError, Global};
 
 // Drops the mappings that have the same source and destination as an earlier one, and those whose source a
-// negative spec excludes. The others stay in order.
+// negative spec excludes. The others stay in order. Fails if memory runs out, which it doesn't want for one
+// mapping and no negative spec, and leaves them all.
 pub(crate) fn keep<'a, 'b>(
     alloc: Global,
     specs: &[RefSpecRef<'_>],
@@ -26,6 +27,7 @@ pub(crate) fn keep<'a, 'b>(
 ) -> Result<(), AllocError>
     ensures ok { OnOk result (IsKept (map reading_of specs.now) (map mapped_of mappings.old.items) (map mapped_of mappings.new.items)) }
     ensures err { OnErr result (mappings.new.items ≡ mappings.old.items) }
+    ensures memory { OnErr result ((1 < length mappings.old.items) ⊎ HasNegative (map reading_of specs.now)) }
 {
     let exclusions = exclusions_of(alloc, specs)?;
     let repeats = repeats_of(alloc, mappings.as_slice())?;

@@ -1,10 +1,11 @@
 //! What the negative specs of a group exclude.
 
-ghost use Rattle.std.specs.Prelude.{◌↔◌, ℕ, List, map, MatchOption, IfOk, IsTrue};
+ghost use Rattle.std.specs.Prelude.{◌≡◌, ◌↔◌, ℕ, List, map, MatchOption, OnSome, IfOk, OnErr, IsTrue};
 ghost use Rattle.gix_refspec.specs.Spec.{reading_of};
 ghost use Rattle.gix_refspec.specs.Group.{mapped_of};
 ghost use Rattle.gix_refspec.specs.Mappings.{IsExcludedBy};
-ghost use Rattle.gix_refspec.specs.Kept.{AreExclusionsOf, IsStartTaken, IsTaken};
+ghost use Rattle.gix_refspec.specs.Kept.{AreExclusionsOf, HasNegative, IsStartTaken, IsTaken};
+ghost use Rattle.gix_refspec.specs.Reading.{Negative};
 
 use crate::cut::split_at_first;
 use crate::match_group::types::{Mapping, SourceRef};
@@ -26,7 +27,8 @@ impl<'a> Exclusion<'a> {
 
     // What a spec excludes, where it is negative.
     fn of(spec: RefSpecRef<'a>) -> Option<Exclusion<'a>>
-        ensures { MatchOption result ((n : List ℕ) → ¬ (IsExcludedBy n (reading_of spec.entry))) (λ exclusion. (n : List ℕ) → Takes exclusion n ↔ IsExcludedBy n (reading_of spec.entry)) }
+        ensures excludes { MatchOption result ((n : List ℕ) → ¬ (IsExcludedBy n (reading_of spec.entry))) (λ exclusion. (n : List ℕ) → Takes exclusion n ↔ IsExcludedBy n (reading_of spec.entry)) }
+        ensures negative { OnSome result ((reading_of spec.entry).mode ≡ Negative) }
     {
         if spec.mode != Mode::Negative {
             return None;
@@ -57,7 +59,8 @@ pub(crate) fn exclusions_of<'a>(
     alloc: Global,
     specs: &[RefSpecRef<'a>],
 ) -> Result<Vec<Exclusion<'a>>, AllocError>
-    ensures { IfOk result (λ exclusions. AreExclusionsOf (map reading_of specs.now) exclusions.items) }
+    ensures ok { IfOk result (λ exclusions. AreExclusionsOf (map reading_of specs.now) exclusions.items) }
+    ensures memory { OnErr result (HasNegative (map reading_of specs.now)) }
 {
     let mut exclusions = Vec::new(alloc);
     for spec in specs {

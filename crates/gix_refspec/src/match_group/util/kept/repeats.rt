@@ -3,7 +3,7 @@
 //! They are found by sorting, so that no names make it slow: first by a hash, and then, only where
 //! different pairs have the same hash, by the pairs themselves.
 
-ghost use Rattle.std.specs.Prelude.{◌≡◌, ◌≢◌, ◌⊎◌, ◌↔◌, ◌<◌, ◌≤◌, [], ℕ, length, take, slice_index_or, option_map, IfOk, OnOk, IsTrue};
+ghost use Rattle.std.specs.Prelude.{◌≡◌, ◌≢◌, ◌⊎◌, ◌↔◌, ◌<◌, ◌≤◌, [], ℕ, length, take, slice_index_or, option_map, IfOk, OnOk, OnErr, IsTrue};
 ghost use Rattle.std.specs.List.{AllByRecursion};
 ghost use Rattle.std.specs.List.Sorted.{IsSorted};
 ghost use Rattle.gix_refspec.specs.Group.{mapped_of, name_bytes};
@@ -73,9 +73,13 @@ pub(crate) fn repeats_of(
     alloc: Global,
     mappings: &[Mapping<'_, '_>],
 ) -> Result<Vec<bool>, AllocError>
-    ensures { IfOk result (λ flags. FlagsRepeats mappings.now flags.items) }
+    ensures ok { IfOk result (λ flags. FlagsRepeats mappings.now flags.items) }
+    ensures memory { OnErr result (1 < length mappings.now) }
 {
     let mut flags = Vec::new(alloc);
+    if mappings.len() < 2 {
+        return Ok(flags);
+    }
     let hashes = hashes_in_order(alloc, mappings)?;
     let mut rest = hashes.as_slice();
     while !rest.is_empty() {

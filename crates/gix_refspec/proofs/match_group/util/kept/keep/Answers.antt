@@ -17,8 +17,8 @@ returns-then-is_empty-2-clause-ok c =
     let no_exclusions : es.items ≡ [] = no_elements es.items (let none = eqb-true _ _ (sym c.if-is_empty.ensures) in omega (arith, none, es.ok.0, es.ok.1)) in
     let no_flags : flags.items ≡ [] = no_elements flags.items (let none = eqb-true _ _ (sym c.if-is_empty-2.ensures) in omega (arith, none, flags.ok.0, flags.ok.1)) in
     kept_from_remains (map reading_of c.args.specs.now) ms ms [] []
-    (subst (λ (xs : List Exclusion). AreExclusionsOf (map reading_of c.args.specs.now) xs) no_exclusions c.in_ok-exclusions.ensures)
-    (subst (λ (xs : List Bool). FlagsRepeats ms xs) no_flags (subst (λ (xs : List Mapping). FlagsRepeats xs flags.items) c.as_slice.ensures.value c.in_ok-repeats.ensures))
+    (subst (λ (xs : List Exclusion). AreExclusionsOf (map reading_of c.args.specs.now) xs) no_exclusions c.in_ok-exclusions.ensures.ok)
+    (subst (λ (xs : List Bool). FlagsRepeats ms xs) no_flags (subst (λ (xs : List Mapping). FlagsRepeats xs flags.items) c.as_slice.ensures.value c.in_ok-repeats.ensures.ok))
     (all_remain ms)
 
 pub returns-clause-ok : goal.returns-clause-ok
@@ -28,6 +28,6 @@ returns-clause-ok c =
     let flags = c.in_ok-repeats.repeats.items in
     let rest = c.drop_others.new.mappings.items in
     kept_from_remains (map reading_of c.args.specs.now) ms rest es flags
-    c.in_ok-exclusions.ensures
-    (subst (λ (xs : List Mapping). FlagsRepeats xs flags) c.as_slice.ensures.value c.in_ok-repeats.ensures)
+    c.in_ok-exclusions.ensures.ok
+    (subst (λ (xs : List Mapping). FlagsRepeats xs flags) c.as_slice.ensures.value c.in_ok-repeats.ensures.ok)
     (subst (λ (xs : List Exclusion). IsMadeFrom (Remains xs flags) 0 ms rest) c.as_slice-2.ensures.value (subst (λ (xs : List Bool). IsMadeFrom (Remains c.as_slice-2.result.now xs) 0 ms rest) c.as_slice-3.ensures.value c.drop_others.ensures))

@@ -11,8 +11,8 @@ use Rattle.gix_refspec.proofs.ExclusionLemmas.{name_excludes, pattern_excludes}
 use Rattle.gix_refspec.proofs.match_group.util.kept.exclusions.Exclusion.of.Goals as goal
 use Rattle.gix_refspec.proofs.match_group.util.kept.exclusions.Exclusion.of.Goals.{in-None, in-Some}
 
-pub returns : goal.returns
-returns c n =
+pub returns-clause-excludes : goal.returns-clause-excludes
+returns-clause-excludes c n =
     let r = reading_of c.args.spec in
     let x = c.as_bytes-source.result.now in
     let negative : mode_of c.args.spec.mode ≡ Negative = search rules in
