@@ -23,19 +23,20 @@ use Rattle.gix_refspec.specs.Name.{HasSeveralStars}
 use Rattle.gix_refspec.specs.Reading.{Reading}
 use Rattle.gix_refspec.specs.Grammar.{IsAccepted, IsPositive}
 use Rattle.gix_refspec.specs.Spec.{reading_of}
-use Rattle.gix_refspec.specs.Side.{SideKind, pattern, full_name, object, partial, HasKind, Fits, IsCandidate, candidates}
+use Rattle.gix_refspec.specs.Side.{SideKind, pattern, full_name, object, partial, HasKind, Fits, IsCandidate, candidates, filled}
 use Rattle.gix_refspec.specs.SideViews.{shown_kind}
 use Rattle.gix_refspec.specs.Match.{Ref, MatchesAs, Matches}
 use Rattle.gix_refspec.specs.Lists.{MakesOf, IsMadeFrom}
 use Rattle.gix_refspec.specs.Mappings as mappings
-use Rattle.gix_refspec.specs.Mappings.{Mapped}
+use Rattle.gix_refspec.specs.Mappings.{Mapped, IsKept, Stays}
 use Rattle.gix_refspec.specs.Group.{name_bytes, mapped_of, ref_of}
-use Rattle.gix_refspec.specs.Hits.{Ends, IsIdMapping, AreForward, AreBackward, forward_of, backward_of, AreForwardEnds, AreBackwardEnds, AreSpecHits, AreHits, Hit, IsHit, IsFilled}
+use Rattle.gix_refspec.specs.Hits.{Ends, OneForward, OneBackward, AreKeptForward, AreKeptBackward, IsIdMapping, AreForward, AreBackward, forward_of, backward_of, AreForwardEnds, AreBackwardEnds, AreSpecHits, AreHits, Hit, IsHit, IsFilled}
 use Rattle.gix_refspec.specs.HitViews.{AsksForId, word_of, IsPlace, HasKindShown, HaveKinds, HasEnds, filled_end, AreHitsOfKinds, HasHit, mapping_of, made_in, AddsHits}
 use Rattle.gix_refspec.proofs.ObjectIdLemmas.{IsIdText-unique}
 use Rattle.gix_refspec.proofs.AcceptedLemmas.{accepted_few}
 use Rattle.gix_refspec.proofs.MatchLemmas.{one_word, lacks_no_pattern, cut_once}
-use Rattle.gix_refspec.proofs.JoinLemmas.{empty_both, made_next, nothing_made, joined_next, nothing_joined, map_more, map_long, map_cut}
+use Rattle.gix_refspec.proofs.ListsLemmas.{made_once}
+use Rattle.gix_refspec.proofs.JoinLemmas.{MakesOnce, one_joined, empty_both, made_next, nothing_made, joined_next, nothing_joined, map_more, map_long, map_cut}
 
 -- a name that doesn't begin as a pattern does has no word
 pub no_front_no_word : (before after n : List ℕ) → ((rest : List ℕ) → n ≢ before ++ rest) → (word : List ℕ) → ¬ (Fits before after n word)
@@ -389,3 +390,74 @@ some_forward g items ids hits room of_ids of_hits none some empty =
       | inl no_id ↦ of_hits (λ no_hit. some (none no_id no_hit)) (no_forward_hits g items empty)
       | inr id ↦ of_ids id (no_ids g items empty)
     ]
+
+-- a far end becomes one name
+filled_once : (x : Option (List ℕ)) (word n m : Option (List ℕ)) → IsFilled x word n → IsFilled x word m → n ≡ m
+filled_once None word n m a b = a ∙ sym b
+filled_once (Some x) word n m a b = a.2 ∙ ap (λ k. Some (filled k word)) (one_kind x a.0 b.0 a.1 b.1) ∙ sym b.2
+
+-- a side takes a ref with one word
+word_once : (x : List ℕ) (r : Ref) (v w : Option (List ℕ)) → Matches x r v → Matches x r w → v ≡ w
+word_once x r v w a b = same_word a.kind r v w a.is (matches_as x a.kind r w a.of b)
+
+same_hit : (g h : Hit) → g.spec ≡ h.spec → g.item ≡ h.item → g.near ≡ h.near → g.far ≡ h.far → g ≡ h
+same_hit g h spec item near far =
+    let build : ℕ → ℕ → List ℕ → Option (List ℕ) → Hit = λ s i n f. record { spec = s; item = i; near = n; far = f } in
+    ap (λ s. build s g.item g.near g.far) spec ∙ ap (λ i. build h.spec i g.near g.far) item ∙ ap (λ n. build h.spec h.item n g.far) near ∙ ap (build h.spec h.item h.near) far
+
+hit_once : (items : List Ref) (ends : Ends) (k : ℕ) → MakesOnce (IsHit items ends k)
+hit_once items ends k j r g h a b =
+    let word : b.word ≡ a.word = word_once ends.near r b.word a.word b.takes a.takes in
+    same_hit g h (a.spec ∙ sym b.spec) (a.item ∙ sym b.item) (a.near ∙ sym b.near) (filled_once ends.far a.word g.far h.far a.far (subst (λ w. IsFilled ends.far w h.far) word b.far))
+
+spec_hits_once : (direction : Direction) (items : List Ref) → MakesOnce (AreSpecHits (HasEnds direction) items)
+spec_hits_once direction items k r g h (inl (ends, has, a)) (inl (others, have, b)) =
+    made_once (IsHit items ends k) (hit_once items ends k) 0 items g h a (subst (λ e. IsMadeFrom (IsHit items e k) 0 items h) (one_pair direction r others ends have has) b)
+spec_hits_once direction items k r g h (inl (ends, has, a)) (inr (none, b)) = absurd (none ends has)
+spec_hits_once direction items k r g h (inr (none, a)) (inl (others, have, b)) = absurd (none others have)
+spec_hits_once direction items k r g h (inr (none, a)) (inr (_, b)) = a ∙ sym b
+
+hits_once : (direction : Direction) (rs : List Reading) (items : List Ref) (g h : List Hit) → AreHits (HasEnds direction) rs items g → AreHits (HasEnds direction) rs items h → g ≡ h
+hits_once direction rs items g h a b = one_joined (AreSpecHits (HasEnds direction) items) (spec_hits_once direction items) 0 rs g h a b
+
+same_mapped : (m n : Mapped) → m.item ≡ n.item → m.source ≡ n.source → m.destination ≡ n.destination → m.spec ≡ n.spec → m ≡ n
+same_mapped m n item source destination spec =
+    let build : Option ℕ → mappings.Start → Option (List ℕ) → ℕ → Mapped = λ i s d k. record { item = i; source = s; destination = d; spec = k } in
+    ap (λ i. build i m.source m.destination m.spec) item ∙ ap (λ s. build n.item s m.destination m.spec) source ∙ ap (λ d. build n.item n.source d m.spec) destination ∙ ap (build n.item n.source n.destination) spec
+
+-- a spec asks for one id
+bytes_once : (x : List ℕ) (a b : List ℕ) → HasKind x (object a) → HasKind x (object b) → a ≡ b
+bytes_once x a b of_a of_b = IsIdText-unique x a b of_a.2 of_b.2
+
+id_once : MakesOnce IsIdMapping
+id_once k r m n a b =
+    let text : b.text ≡ a.text = same_side r.source b.text a.text b.side a.side in
+    let bytes : a.bytes ≡ b.bytes = bytes_once a.text a.bytes b.bytes a.object (subst (λ x. HasKind x (object b.bytes)) text b.object) in
+    same_mapped m n (a.item ∙ sym b.item) (a.source ∙ ap mappings.id bytes ∙ sym b.source) (filled_once r.destination None m.destination n.destination a.destination b.destination) (a.spec ∙ sym b.spec)
+
+forward_once : (rs : List Reading) (items : List Ref) (l m : List Mapped) → AreForward rs items l → AreForward rs items m → l ≡ m
+forward_once rs items l m a b =
+    let ids : a.ids ≡ b.ids = made_once IsIdMapping id_once 0 rs a.ids b.ids a.are_ids b.are_ids in
+    let hits : a.hits ≡ b.hits = hits_once Forward rs items a.hits b.hits a.are_hits b.are_hits in
+    a.all ∙ ap (λ g. g ++ map forward_of a.hits) ids ∙ ap (λ h. b.ids ++ map forward_of h) hits ∙ sym b.all
+
+backward_once : (rs : List Reading) (items : List Ref) (l m : List Mapped) → AreBackward rs items l → AreBackward rs items m → l ≡ m
+backward_once rs items l m a b = a.all ∙ ap (map backward_of) (hits_once Backward rs items a.hits b.hits a.are_hits b.are_hits) ∙ sym b.all
+
+-- so the group and the items determine what is kept
+kept_once : (rs : List Reading) (all other l m : List Mapped) → all ≡ other → IsKept rs all l → IsKept rs other m → l ≡ m
+kept_once rs all other l m same a b =
+    made_once (λ k x made. (made ≡ x) × Stays rs all k x) (λ k x y z of_y of_z. of_y.0 ∙ sym of_z.0) 0 all l m a (subst (λ list. IsKept rs list m) (sym same) b)
+
+pub one_forward : (rs : List Reading) (items : List Ref) → OneForward rs items
+one_forward rs items l m a b = kept_once rs a.all b.all l m (forward_once rs items a.all b.all a.forward b.forward) a.is b.is
+
+pub one_backward : (rs : List Reading) (items : List Ref) → OneBackward rs items
+one_backward rs items l m a b = kept_once rs a.all b.all l m (backward_once rs items a.all b.all a.backward b.backward) a.is b.is
+
+-- where some mapping was made, there is no way to make none
+pub made_forward : (rs : List Reading) (items : List Ref) (l : List Mapping) → AreForward rs items (map mapped_of l) → l ≢ [] → ¬ (AreForward rs items [])
+made_forward rs items l are some none = some (map_nothing mapped_of l (forward_once rs items (map mapped_of l) [] are none))
+
+pub made_backward : (rs : List Reading) (items : List Ref) (l : List Mapping) → AreBackward rs items (map mapped_of l) → l ≢ [] → ¬ (AreBackward rs items [])
+made_backward rs items l are some none = some (map_nothing mapped_of l (backward_once rs items (map mapped_of l) [] are none))

@@ -109,3 +109,11 @@ pub record AreKeptBackward (g : List Reading) (items : List Ref) (kept : List Ma
   pub all : List Mapped
   pub backward : AreBackward g items all
   pub is : IsKept g all kept
+
+-- a group and items have one list of mappings from left to right that stay
+abbrev pub OneForward : List Reading → List Ref → Type 0
+OneForward g items = (l m : List Mapped) → AreKeptForward g items l → AreKeptForward g items m → l ≡ m
+
+-- and one from right to left
+abbrev pub OneBackward : List Reading → List Ref → Type 0
+OneBackward g items = (l m : List Mapped) → AreKeptBackward g items l → AreKeptBackward g items m → l ≡ m
