@@ -93,7 +93,10 @@ pub(crate) fn joined(
 ) -> Result<BString, AllocError>
     ensures { IfOk result (λ text. bstring_bytes text ≡ before.now ++ (name.now ++ after.now)) }
 {
-    let room = before.len().saturating_add(name.len()).saturating_add(after.len());
+    let room = before
+        .len()
+        .saturating_add(name.len())
+        .saturating_add(after.len());
     let mut text = Vec::with_capacity(alloc, room)?;
     text.extend_from_slice(before)?;
     text.extend_from_slice(name)?;

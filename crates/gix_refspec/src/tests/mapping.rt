@@ -20,7 +20,9 @@ fn group_of<'a>(
 ) -> Result<MatchGroup<'a>, Fail> {
     let mut group = MatchGroup::new(alloc);
     for spec in specs.split(' ') {
-        group.specs.push(parse(alloc, BStr::new(spec.as_bytes()), operation)?)?;
+        group
+            .specs
+            .push(parse(alloc, BStr::new(spec.as_bytes()), operation)?)?;
     }
     Ok(group)
 }
@@ -42,8 +44,8 @@ fn items_of<'a>(
     Ok(items)
 }
 
-// A mapping as rows write it: the places of item and spec, source and destination, with `-` for what
-// is missing and a `=` before a name that is owned.
+// A mapping as rows write it: the places of item and spec, source and destination, with `-` for
+// what is missing and a `=` before a name that is owned.
 fn line(alloc: Global, mapping: &Mapping<'_, '_>) -> Result<String, AllocError> {
     let source = match &mapping.lhs {
         SourceRef::FullName(name) => shown(alloc, name)?,
@@ -95,11 +97,7 @@ fn check_forward(
 }
 
 // Whether fetch specs map items from right to left as is written beside them.
-fn check_backward(
-    rt: &impl Abort,
-    alloc: Global,
-    rows: &[(&str, &str, &str)],
-) -> Result<(), Fail> {
+fn check_backward(rt: &impl Abort, alloc: Global, rows: &[(&str, &str, &str)]) -> Result<(), Fail> {
     let target = ObjectId::from_hex(TARGET.as_bytes())?;
     for (specs, names, wanted) in rows {
         let items = items_of(alloc, names, &target)?;
@@ -155,7 +153,11 @@ fn maps_from_left_to_right(rt: HostRuntime) -> Result<(), Fail> {
 fn maps_pushes_without_a_destination(rt: HostRuntime) -> Result<(), Fail> {
     let rows = [
         ("main", "refs/heads/main", "0 0 refs/heads/main -\n"),
-        ("main:main", "refs/heads/main", "0 0 refs/heads/main =refs/heads/main\n"),
+        (
+            "main:main",
+            "refs/heads/main",
+            "0 0 refs/heads/main =refs/heads/main\n",
+        ),
     ];
     check_forward(&rt, rt.alloc(), Operation::Push, &rows)
 }
@@ -163,7 +165,11 @@ fn maps_pushes_without_a_destination(rt: HostRuntime) -> Result<(), Fail> {
 #[test]
 fn fills_destinations(rt: HostRuntime) -> Result<(), Fail> {
     let rows = [
-        ("refs/q:refs/heads/main", "refs/q", "0 0 refs/q refs/heads/main\n"),
+        (
+            "refs/q:refs/heads/main",
+            "refs/q",
+            "0 0 refs/q refs/heads/main\n",
+        ),
         ("refs/q:main", "refs/q", "0 0 refs/q =refs/heads/main\n"),
         ("refs/q:HEAD", "refs/q", "0 0 refs/q =refs/heads/HEAD\n"),
         ("refs/q:tags/x", "refs/q", "0 0 refs/q =refs/tags/x\n"),
@@ -174,7 +180,11 @@ fn fills_destinations(rt: HostRuntime) -> Result<(), Fail> {
             "refs/q",
             "0 0 refs/q =refs/heads/aaaaaaaaaaaaaaaaaaaaaaaaaaaaaaaaaaaaaaaa\n",
         ),
-        ("refs/q/*:refs/x/*", "refs/q/a/b", "0 0 refs/q/a/b =refs/x/a/b\n"),
+        (
+            "refs/q/*:refs/x/*",
+            "refs/q/a/b",
+            "0 0 refs/q/a/b =refs/x/a/b\n",
+        ),
         ("refs/q*:refs/x/b*", "refs/q", "0 0 refs/q =refs/x/b\n"),
         ("*:*", "HEAD", "0 0 HEAD =HEAD\n"),
     ];
@@ -217,6 +227,10 @@ fn matches_tags_by_their_objects(rt: HostRuntime) -> Result<(), Fail> {
     let specs = "main:aaaaaaaaaaaaaaaaaaaaaaaaaaaaaaaaaaaaaaaa";
     let outcome = group_of(alloc, Operation::Fetch, specs)?.match_rhs(alloc, &items)?;
     let found = lines(alloc, outcome.mappings.as_slice())?;
-    assert_eq!(&rt; found.as_str(), "0 0 =refs/heads/main refs/q\n", "by the object");
+    assert_eq!(&rt;
+        found.as_str(),
+        "0 0 =refs/heads/main refs/q\n",
+        "by the object"
+    );
     Ok(())
 }

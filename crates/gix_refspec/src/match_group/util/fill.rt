@@ -13,14 +13,15 @@ use crate::side::{SideKind, joined};
 use bstr::{BStr, BString};
 use std::alloc::{AllocError, Global};
 
-// What a side becomes where the other side matched with this word, or with none. A full name is borrowed
-// from the spec.
+// What a side becomes where the other side matched with this word, or with none. A full name is
+// borrowed from the spec.
 pub(crate) fn filled<'spec>(
     alloc: Global,
     side: SideKind<'spec>,
     word: Option<&[u8]>,
 ) -> Result<NameRef<'spec>, AllocError>
-    ensures { IfOk result (λ name. name_bytes name ≡ filled_by (shown_kind side.entry) (option_map (λ w. w.now) word.entry)) }
+    ensures { IfOk result (λ name. name_bytes name ≡
+        filled_by (shown_kind side.entry) (option_map (λ w. w.now) word.entry)) }
 {
     Ok(match side {
         SideKind::FullName(name) => NameRef::Borrowed(BStr::new(name)),
@@ -35,7 +36,8 @@ pub(crate) fn filled<'spec>(
 
 // The branch that is named by an id.
 fn branch_of(alloc: Global, id: &ObjectId) -> Result<BString, AllocError>
-    ensures { IfOk result (λ name. bstring_bytes name ≡ codes "refs/heads/" ++ lower_of (id_bytes id.now)) }
+    ensures { IfOk result (λ name. bstring_bytes name ≡
+        codes "refs/heads/" ++ lower_of (id_bytes id.now)) }
 {
     let mut buffer = [0; 64];
     let digits = &mut buffer[..id.kind().len_in_hex()];

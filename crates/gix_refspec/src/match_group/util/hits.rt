@@ -1,5 +1,5 @@
-//! Which items the specs of a group match, and the mappings that these make. A direction only chooses which
-//! end of a spec is near, and matches items, and which is far, and is filled.
+//! Which items the specs of a group match, and the mappings that these make. A direction only
+//! chooses which end of a spec is near, and matches items, and which is far, and is filled.
 
 ghost use Rattle.std.specs.Prelude.{◌≡◌, ◌≢◌, ℕ, List, [], Option, None, Some, map, option_map, MatchOption, IfOk, OnOk, OnErr};
 ghost use Rattle.bstr.specs.BStr.{bstr_bytes};
@@ -66,8 +66,10 @@ pub(crate) fn forward<'spec, 'item>(
     specs: &[RefSpecRef<'spec>],
     items: &[Item<'item>],
 ) -> Result<Vec<Mapping<'item, 'spec>>, AllocError>
-    ensures ok { IfOk result (λ list. AreForward (map reading_of specs.now) (map ref_of items.now) (map mapped_of list.items)) }
-    ensures memory { OnErr result (¬ (AreForward (map reading_of specs.now) (map ref_of items.now) [])) }
+    ensures ok { IfOk result (λ list. AreForward
+        (map reading_of specs.now) (map ref_of items.now) (map mapped_of list.items)) }
+    ensures memory { OnErr result (¬ (AreForward
+        (map reading_of specs.now) (map ref_of items.now) [])) }
 {
     let room = id_count(specs).saturating_add(hit_count(Direction::Forward, specs, items));
     let mut made = Made {
@@ -85,8 +87,10 @@ pub(crate) fn backward<'spec, 'item>(
     specs: &[RefSpecRef<'spec>],
     items: &[Item<'item>],
 ) -> Result<Vec<Mapping<'spec, 'item>>, AllocError>
-    ensures ok { IfOk result (λ list. AreBackward (map reading_of specs.now) (map ref_of items.now) (map mapped_of list.items)) }
-    ensures memory { OnErr result (¬ (AreBackward (map reading_of specs.now) (map ref_of items.now) [])) }
+    ensures ok { IfOk result (λ list. AreBackward
+        (map reading_of specs.now) (map ref_of items.now) (map mapped_of list.items)) }
+    ensures memory { OnErr result (¬ (AreBackward
+        (map reading_of specs.now) (map ref_of items.now) [])) }
 {
     let room = hit_count(Direction::Backward, specs, items);
     let mut made = Made {
@@ -140,7 +144,8 @@ fn add_ids<'spec, 'item>(
     mappings: &mut Vec<Mapping<'item, 'spec>>,
 ) -> Result<(), AllocError>
     requires { mappings.old.items ≡ [] }
-    ensures ok { OnOk result (IsMadeFrom IsIdMapping 0 (map reading_of specs.now) (map mapped_of mappings.new.items)) }
+    ensures ok { OnOk result (IsMadeFrom
+        IsIdMapping 0 (map reading_of specs.now) (map mapped_of mappings.new.items)) }
     ensures memory { OnErr result (¬ (IsMadeFrom IsIdMapping 0 (map reading_of specs.now) [])) }
 {
     for (place, spec) in specs.iter().enumerate() {
@@ -174,7 +179,8 @@ fn id_count(specs: &[RefSpecRef<'_>]) -> usize
 fn asked_of<'spec>(spec: &RefSpecRef<'spec>) -> Option<Asked<'spec>>
     ensures { MatchOption result
         ((bytes : List ℕ) → ¬ (AsksForId (reading_of spec.now) bytes))
-        (λ asked. AsksForId (reading_of spec.now) (id_bytes asked.id) × HasKindShown (reading_of spec.now).destination asked.destination) }
+        (λ asked. AsksForId (reading_of spec.now) (id_bytes asked.id)
+        × HasKindShown (reading_of spec.now).destination asked.destination) }
 {
     if spec.mode == Mode::Negative {
         return None;
@@ -196,8 +202,11 @@ fn add_hits<'spec, 'item>(
     items: &[Item<'item>],
     made: &mut Made<'spec, 'item>,
 ) -> Result<(), AllocError>
-    ensures ok { OnOk result (AddsHits direction (AreHits (HasEnds direction) (map reading_of specs.now) (map ref_of items.now)) made.old made.new) }
-    ensures memory { OnErr result (¬ (AreHits (HasEnds direction) (map reading_of specs.now) (map ref_of items.now) [])) }
+    ensures ok { OnOk result (AddsHits
+        direction (AreHits (HasEnds direction) (map reading_of specs.now) (map ref_of items.now))
+        made.old made.new) }
+    ensures memory { OnErr result (¬ (AreHits
+        (HasEnds direction) (map reading_of specs.now) (map ref_of items.now) [])) }
 {
     for (place, spec) in specs.iter().enumerate() {
         if let Some(ends) = ends_of(direction, spec) {
@@ -216,7 +225,9 @@ fn add_spec_hits<'spec, 'item>(
     items: &[Item<'item>],
     made: &mut Made<'spec, 'item>,
 ) -> Result<(), AllocError>
-    ensures ok { OnOk result (AddsHits direction (AreHitsOfKinds ends.entry spec (map ref_of items.now) (map ref_of items.now)) made.old made.new) }
+    ensures ok { OnOk result (AddsHits
+        direction (AreHitsOfKinds ends.entry spec (map ref_of items.now) (map ref_of items.now))
+        made.old made.new) }
     ensures memory { OnErr result (HasHit ends.entry (map ref_of items.now)) }
 {
     for (place, item) in items.iter().enumerate() {
@@ -239,7 +250,8 @@ impl<'spec, 'item> Made<'spec, 'item> {
 
     // Adds what a hit makes.
     fn add(&mut self, direction: Direction, hit: Hit<'spec, 'item>) -> Result<(), AllocError>
-        ensures { OnOk result (made_in direction self.new ≡ made_in direction self.old ++ mapping_of direction (shown_hit hit.entry) ∷ []) }
+        ensures { OnOk result (made_in direction self.new ≡
+            made_in direction self.old ++ mapping_of direction (shown_hit hit.entry) ∷ []) }
     {
         match direction {
             Direction::Forward => self.forward.push(forward_mapping(hit))?,
@@ -251,7 +263,8 @@ impl<'spec, 'item> Made<'spec, 'item> {
 
 // How many hits the specs have.
 fn hit_count(direction: Direction, specs: &[RefSpecRef<'_>], items: &[Item<'_>]) -> usize
-    ensures { result ≢ 0 → ¬ (AreHits (HasEnds direction) (map reading_of specs.now) (map ref_of items.now) []) }
+    ensures { result ≢ 0 →
+        ¬ (AreHits (HasEnds direction) (map reading_of specs.now) (map ref_of items.now) []) }
 {
     let mut count: usize = 0;
     for spec in specs {
@@ -279,7 +292,8 @@ fn spec_hit_count(ends: Ends<'_>, items: &[Item<'_>]) -> usize
 fn ends_of<'spec>(direction: Direction, spec: &RefSpecRef<'spec>) -> Option<Ends<'spec>>
     ensures { MatchOption result
         ((ends : EndsOf) → ¬ (HasEnds direction (reading_of spec.now) ends))
-        (λ found. (ends : EndsOf) × HasEnds direction (reading_of spec.now) ends × HaveKinds ends found) }
+        (λ found. (ends : EndsOf)
+        × HasEnds direction (reading_of spec.now) ends × HaveKinds ends found) }
 {
     if spec.mode == Mode::Negative {
         return None;
@@ -289,9 +303,15 @@ fn ends_of<'spec>(direction: Direction, spec: &RefSpecRef<'spec>) -> Option<Ends
     match direction {
         Direction::Forward => match source {
             SideKind::Object(_) => None,
-            near => Some(Ends { near, far: destination }),
+            near => Some(Ends {
+                near,
+                far: destination,
+            }),
         },
-        Direction::Backward => Some(Ends { near: destination?, far: Some(source) }),
+        Direction::Backward => Some(Ends {
+            near: destination?,
+            far: Some(source),
+        }),
     }
 }
 
@@ -312,7 +332,8 @@ fn filled_end<'spec>(
     end: Option<SideKind<'spec>>,
     word: Option<&[u8]>,
 ) -> Result<Option<NameRef<'spec>>, AllocError>
-    ensures { IfOk result (λ name. option_map name_bytes name ≡ end_filled end.entry (option_map (λ w. w.now) word.entry)) }
+    ensures { IfOk result (λ name. option_map name_bytes name ≡
+        end_filled end.entry (option_map (λ w. w.now) word.entry)) }
 {
     match end {
         None => Ok(None),

@@ -48,7 +48,9 @@ fn word_between<'a>(before: &[u8], after: &[u8], name: &'a [u8]) -> Option<&'a [
 
 // Whether an item points to an object, or to a tag of it.
 fn points_to(item: &Item<'_>, id: &ObjectId) -> bool
-    ensures { IsTrue result ↔ (((ref_of item.now).target ≡ id_bytes id.now) ⊎ ((ref_of item.now).object ≡ Some (id_bytes id.now))) }
+    ensures { IsTrue result ↔
+        (((ref_of item.now).target ≡ id_bytes id.now)
+        ⊎ ((ref_of item.now).object ≡ Some (id_bytes id.now))) }
 {
     if item.target == id {
         return true;
@@ -68,7 +70,8 @@ fn is_candidate(partial: &[u8], name: &[u8]) -> bool
 
 // Whether a name is a partial one behind one of the places where that is looked for.
 fn is_placed(partial: &[u8], name: &[u8]) -> bool
-    ensures { IsTrue result ↔ ((before : List ℕ) × IsPlace before × (name.now ≡ before ++ partial.now)) }
+    ensures { IsTrue result ↔
+        ((before : List ℕ) × IsPlace before × (name.now ≡ before ++ partial.now)) }
 {
     match name.strip_suffix(partial) {
         None => false,
@@ -78,7 +81,8 @@ fn is_placed(partial: &[u8], name: &[u8]) -> bool
 
 // Whether a name is the head of the remote that a partial name names.
 fn is_remote_head(partial: &[u8], name: &[u8]) -> bool
-    ensures { IsTrue result ↔ (name.now ≡ codes "refs/remotes/" ++ (partial.now ++ codes "/HEAD")) }
+    ensures { IsTrue result ↔
+        (name.now ≡ codes "refs/remotes/" ++ (partial.now ++ codes "/HEAD")) }
 {
     match word_between(b"refs/remotes/", b"/HEAD", name) {
         None => false,

@@ -18,11 +18,11 @@ loop-place-preserved c =
     let spec = c.index-specs-place in
     elim c.match-ends_of.branch [
       | in-Some+in_ok-add_spec_hits w ↦
-        subst (AddsHits direction (AreHits (HasEnds direction) (map reading_of (take (i + 1) specs)) items) c.args.made.now) (sym w.made-is)
-        (adds_spec direction specs items i spec.result w.in-Some.ends c.args.made.now c.loop-place.made w.add_spec_hits.new.made c.loop-place-test.true spec.is c.loop-place.invariant w.in-Some.ensures w.in_ok-add_spec_hits.ensures.ok)
+          subst (AddsHits direction (AreHits (HasEnds direction) (map reading_of (take (i + 1) specs)) items) c.args.made.now) (sym w.made-is)
+          (adds_spec direction specs items i spec.result w.in-Some.ends c.args.made.now c.loop-place.made w.add_spec_hits.new.made c.loop-place-test.true spec.is c.loop-place.invariant w.in-Some.ensures w.in_ok-add_spec_hits.ensures.ok)
       | in_default w ↦
-        subst (AddsHits direction (AreHits (HasEnds direction) (map reading_of (take (i + 1) specs)) items) c.args.made.now) (sym w.made-is)
-        (adds_no_spec direction specs items i spec.result c.args.made.now c.loop-place.made c.loop-place-test.true spec.is c.loop-place.invariant w.in_default.ensures)
+          subst (AddsHits direction (AreHits (HasEnds direction) (map reading_of (take (i + 1) specs)) items) c.args.made.now) (sym w.made-is)
+          (adds_no_spec direction specs items i spec.result c.args.made.now c.loop-place.made c.loop-place-test.true spec.is c.loop-place.invariant w.in_default.ensures)
     ]
 
 pub returns-in_err-add_spec_hits-clause-memory : goal.returns-in_err-add_spec_hits-clause-memory

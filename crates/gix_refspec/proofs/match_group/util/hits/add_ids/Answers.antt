@@ -18,11 +18,11 @@ loop-place-preserved c =
     let spec = c.index-specs-place in
     elim c.match-asked_of.branch [
       | in-Some+in_ok-filled_end+in_ok-push w ↦
-        subst (λ (v : Vec Mapping Global). IsMadeFrom IsIdMapping 0 (map reading_of (take (i + 1) specs)) (map mapped_of v.items)) (sym w.mappings-is)
-        (adds_id specs i spec.result w.in-Some.asked w.in_ok-filled_end.field-0 c.loop-place.mappings.items w.push.new.self.items c.loop-place-test.true spec.is c.loop-place.invariant w.in-Some.ensures w.in_ok-filled_end.ensures w.in_ok-push.ensures.items)
+          subst (λ (v : Vec Mapping Global). IsMadeFrom IsIdMapping 0 (map reading_of (take (i + 1) specs)) (map mapped_of v.items)) (sym w.mappings-is)
+          (adds_id specs i spec.result w.in-Some.asked w.in_ok-filled_end.field-0 c.loop-place.mappings.items w.push.new.self.items c.loop-place-test.true spec.is c.loop-place.invariant w.in-Some.ensures w.in_ok-filled_end.ensures w.in_ok-push.ensures.items)
       | in_default w ↦
-        subst (λ (v : Vec Mapping Global). IsMadeFrom IsIdMapping 0 (map reading_of (take (i + 1) specs)) (map mapped_of v.items)) (sym w.mappings-is)
-        (adds_no_id specs i spec.result (map mapped_of c.loop-place.mappings.items) c.loop-place-test.true spec.is c.loop-place.invariant w.in_default.ensures)
+          subst (λ (v : Vec Mapping Global). IsMadeFrom IsIdMapping 0 (map reading_of (take (i + 1) specs)) (map mapped_of v.items)) (sym w.mappings-is)
+          (adds_no_id specs i spec.result (map mapped_of c.loop-place.mappings.items) c.loop-place-test.true spec.is c.loop-place.invariant w.in_default.ensures)
     ]
 
 pub returns-in_err-filled_end-clause-memory : goal.returns-in_err-filled_end-clause-memory

@@ -8,6 +8,6 @@ pub loop-item-preserved : goal.loop-item-preserved
 loop-item-preserved c =
     elim c.if-is_some.branch [
       | then-is_some w ↦
-        record { within = omega arith; hit = λ _. item_counted c.args.ends c.args.items.now c.loop-item.item-index _ c.matched.result c.loop-item-test.true (sym c.is_some.ensures ∙ w.if-is_some.true) c.matched.ensures }
+          record { within = omega arith; hit = λ _. item_counted c.args.ends c.args.items.now c.loop-item.item-index _ c.matched.result c.loop-item-test.true (sym c.is_some.ensures ∙ w.if-is_some.true) c.matched.ensures }
       | else-is_some w ↦ record { within = omega arith; hit = λ some. c.loop-item.invariant.hit (λ none. some (w.count-is ∙ none)) }
     ]

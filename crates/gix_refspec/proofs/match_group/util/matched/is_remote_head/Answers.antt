@@ -15,6 +15,7 @@ returns-in-Some c =
     let partial = c.args.partial.now in
     let front = codes "refs/remotes/" in
     let end = codes "/HEAD" in
-    let same = slice_eq-Decides Decides-eqb remote partial c.eq.result c.eq.ensures in
-    (λ yes. c.in-Some.ensures ∙ ap (λ x. front ++ (x ++ end)) (same.0 yes),
-    λ head. same.1 (one_word front end c.args.name.now remote partial c.in-Some.ensures head))
+    let same = slice_eq-Decides Decides-eqb remote partial c.eq.result c.eq.ensures in (
+      λ yes. c.in-Some.ensures ∙ ap (λ x. front ++ (x ++ end)) (same.0 yes),
+      λ head. same.1 (one_word front end c.args.name.now remote partial c.in-Some.ensures head),
+    )
