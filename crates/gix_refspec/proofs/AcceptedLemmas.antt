@@ -7,8 +7,8 @@ use Rattle.gix_refspec.specs.Name.{IsName, IsPattern, HasStar, HasSeveralStars}
 use Rattle.gix_refspec.specs.Bytes.{star, head}
 use Rattle.gix_refspec.specs.Reading.{Reading, side_on_remote, remote_of}
 use Rattle.gix_refspec.specs.Grammar.{named_by, IsNameOrPattern, AreAlike, Reads, IsAccepted, fetches_nothing_named, fetches_colon, fetches, updates, updates_from_head, fetch_excludes, pushes_plus, pushes_colon, pushes, deletes, pushes_pattern, pushes_to, push_excludes}
-use Rattle.gix_refspec.specs.declared.parsing.Operation.TheVariants.{Push, Fetch}
 use Rattle.gix_refspec.specs.Refusal.{IsOneStarred}
+use Rattle.gix_refspec.specs.declared.parsing.Operation.TheVariants.{Push, Fetch}
 use Rattle.gix_refspec.proofs.TextLemmas.{Lacks-Holds}
 use Rattle.gix_refspec.proofs.SideLemmas.{Lacks-name, HasStar-pattern, HasStar-stars, HasSeveralStars-replaced}
 use Rattle.gix_refspec.proofs.HeadLemmas.{IsName-head}

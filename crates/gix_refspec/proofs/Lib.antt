@@ -23,3 +23,10 @@ pub mod MatchLemmas
 pub mod PrefixLemmas
 pub mod OnePrefixLemmas
 pub mod ManualFacts
+pub mod KeptLemmas
+pub mod RepeatLemmas
+pub mod PairLemmas
+pub mod ExclusionLemmas
+pub mod ListsLemmas
+pub mod JoinLemmas
+pub mod HitLemmas

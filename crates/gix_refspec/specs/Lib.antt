@@ -15,4 +15,8 @@ pub mod Prefix
 pub mod Spec
 pub mod Laws
 pub mod ObjectId
+pub mod Lists
+pub mod Mappings
+pub mod Group
+pub mod Hits
 pub mod Private

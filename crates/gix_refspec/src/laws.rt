@@ -1,19 +1,22 @@
 //! Laws of the definitions alone, and of the comparisons that are derived. Each function has no effect:
 //! its contract states the law of what it is given.
 
-ghost use Rattle.std.specs.Prelude.{◌≡◌, ◌↔◌, IsTrue};
+ghost use Rattle.std.specs.Prelude.{◌≡◌, ◌↔◌, map, IsTrue};
 ghost use Rattle.std.specs.Ordering.{nat_cmp};
 ghost use Rattle.gix_refspec.specs.Laws.{ReadsOrRefused, OneRefusal, ReadsBack, IsPrintedBack, KeepsOperation, SaysForOperation, EqualTexts, EqualReadings, IdOrFault, OneLowerText, NothingAgainst, OneWord, PrefixBegins, OnePrefix, Candidates};
 ghost use Rattle.gix_refspec.specs.Meaning.{meaning_of};
 ghost use Rattle.gix_refspec.specs.ObjectId.{id_bytes};
 ghost use Rattle.gix_refspec.specs.Order.{is_same, order, place_of};
+ghost use Rattle.gix_refspec.specs.Group.{ref_of, readings_of};
+ghost use Rattle.gix_refspec.specs.Hits.{OneForward, OneBackward};
 ghost use Rattle.gix_refspec.specs.Spec.{reading_of, owned_reading_of};
 ghost use Rattle.gix_refspec.specs.Views.{shown_fetch, shown_push};
 
 use crate::instruction::{Fetch, Push};
+use crate::match_group::Item;
 use crate::oid::{Kind, ObjectId};
 use crate::parsing::Operation;
-use crate::{RefSpec, RefSpecRef, name, oid};
+use crate::{MatchGroup, RefSpec, RefSpecRef, name, oid};
 
 /// A text has exactly one reading, or it is refused.
 pub fn reads_or_refused(operation: Operation, text: &[u8])
@@ -103,6 +106,16 @@ pub fn one_prefix(side: &[u8])
 /// and matches just the refs with one of these names.
 pub fn candidates(side: &[u8])
     ensures { Candidates side.now }
+{}
+
+/// A group and items have exactly one list of mappings from left to right that stay.
+pub fn one_forward(group: &MatchGroup<'_>, items: &[Item<'_>])
+    ensures { OneForward (readings_of group.now) (map ref_of items.now) }
+{}
+
+/// A group and items have exactly one list of mappings from right to left that stay.
+pub fn one_backward(group: &MatchGroup<'_>, items: &[Item<'_>])
+    ensures { OneBackward (readings_of group.now) (map ref_of items.now) }
 {}
 
 /// Two kinds of ids are equal exactly where they are the same.

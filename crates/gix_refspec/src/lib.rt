@@ -13,6 +13,7 @@
 mod cut;
 pub mod instruction;
 pub mod laws;
+pub mod match_group;
 pub mod name;
 pub mod oid;
 pub mod parsing;
@@ -22,6 +23,7 @@ mod spec;
 mod types;
 mod write;
 
+pub use match_group::types::MatchGroup;
 pub use parsing::function::parse;
 pub use spec::{RefSpec, RefSpecRef};
 pub use types::Instruction;

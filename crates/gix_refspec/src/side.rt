@@ -95,7 +95,11 @@ pub(crate) fn joined(
 ) -> Result<BString, AllocError>
     ensures { IfOk result (λ text. bstring_bytes text ≡ before.now ++ (name.now ++ after.now)) }
 {
-    let mut text = Vec::new(alloc);
+    let room = before
+        .len()
+        .saturating_add(name.len())
+        .saturating_add(after.len());
+    let mut text = Vec::with_capacity(alloc, room)?;
     text.extend_from_slice(before)?;
     text.extend_from_slice(name)?;
     text.extend_from_slice(after)?;

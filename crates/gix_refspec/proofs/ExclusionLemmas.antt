@@ -1,0 +1,222 @@
+-- What negative specs exclude.
+use Rattle.std.proofs.Common.{◌≡◌, ◌≢◌, ◌⊎◌, inl, inr, ◌↔◌, ℕ, zero, suc, ◌+◌, ◌-◌, ◌<◌, List, [], ◌∷◌, ◌++◌, Some, length, take, drop, get_or, map, refl, sym, ap, ◌∙◌, subst, Bool, false, Bor, IsTrue, nat_eq, arith}
+use Rattle.std.specs.Cmp.Lexicographic.{pointwise}
+use Rattle.std.proofs.Math.Logic.{∥∥₁_elim}
+use Rattle.std.proofs.lemmas.Bool.{false≢true}
+use Rattle.std.proofs.lemmas.Bool.Decides.{Decides-eqb}
+use Rattle.std.proofs.lemmas.List.{append_cancel_left, map-append, take_more}
+use Rattle.std.proofs.lemmas.Slice.Eq.{ends_is}
+use Rattle.gix_refspec.specs.declared.match_group.util.kept.exclusions.Exclusion.{Exclusion}
+use Rattle.gix_refspec.specs.declared.match_group.util.kept.exclusions.Exclusion.TheVariants as exclusion
+use Rattle.gix_refspec.specs.declared.spec.RefSpecRef.{RefSpecRef}
+use Rattle.gix_refspec.specs.declared.parsing.Operation.{Operation}
+use Rattle.gix_refspec.specs.Text.{Lacks}
+use Rattle.gix_refspec.specs.Bytes.{star}
+use Rattle.gix_refspec.specs.Reading.{Mode, Forced, Negative, Reading}
+use Rattle.gix_refspec.specs.Grammar.{IsAccepted, IsNameOrPattern, IsPositive, Reads, fetches_nothing_named, fetches_colon, fetches, updates, updates_from_head, fetch_excludes, pushes_plus, pushes_colon, pushes, deletes, pushes_pattern, pushes_to, push_excludes, named_by}
+use Rattle.gix_refspec.specs.Side.{Fits, Excludes, the_name, by_pattern}
+use Rattle.gix_refspec.specs.Mappings.{IsExcluded, IsExcludedBy}
+use Rattle.gix_refspec.specs.Spec.{reading_of}
+use Rattle.gix_refspec.specs.Private.Kept.{AreExclusionsOf, HasNegative, IsTaken, Takes}
+use Rattle.gix_refspec.proofs.TextLemmas.{Lacks-here, first_once}
+use Rattle.gix_refspec.proofs.SideLemmas.{Lacks-name}
+use Rattle.gix_refspec.proofs.ReadBackLemmas.{named_either}
+
+-- a name that doesn't begin as a pattern does isn't excluded by it
+pub takes_none : (e : Exclusion) (before after : Bor (List ℕ)) (n : List ℕ) → e ≡ exclusion.Pattern before after → ((rest : List ℕ) → n ≢ before.now ++ rest) → IsTrue false ↔ Takes e n
+takes_none e before after n is none = subst (λ (x : Exclusion). IsTrue false ↔ Takes x n) (sym is) (
+  λ so. absurd (false≢true so),
+  λ covers. absurd (none (covers.0 ++ after.now) covers.1),
+)
+
+-- one that does is excluded where the rest ends as the pattern does
+pub takes_rest : (e : Exclusion) (before after rest : Bor (List ℕ)) (n : List ℕ) (r : Bool) → e ≡ exclusion.Pattern before after → n ≡ before.now ++ rest.now → r ≡ pointwise nat_eq after.now (drop (length rest.now - length after.now) rest.now) → IsTrue r ↔ Takes e n
+takes_rest e before after rest n r is begins value =
+    let ends = ends_is Decides-eqb rest.now after.now r value in
+    subst (λ (x : Exclusion). IsTrue r ↔ Takes x n) (sym is) (
+      λ so. (take (length rest.now - length after.now) rest.now, begins ∙ ap (λ (y : List ℕ). before.now ++ y) (ends.0 so)),
+      λ covers. ends.1 covers.0 (append_cancel_left before.now rest.now (covers.0 ++ after.now) (sym begins ∙ covers.1)),
+    )
+
+-- a reading with a positive mode isn't negative
+not_positive : (mode : Mode) → IsPositive mode → mode ≡ Negative → ⊥
+not_positive mode positive same = subst (λ (m : Mode). IsPositive m) same positive
+
+-- the source of a negative reading
+negative_source : (s : List ℕ) (r : Reading) (x : List ℕ) → IsNameOrPattern s → Some (named_by s) ≡ r.source → r.source ≡ Some x → IsNameOrPattern x
+negative_source s r x either is source =
+    let same : Some (named_by s) ≡ Some x = is ∙ source in
+    let e : named_by s ≡ x = cc in
+    subst (λ (y : List ℕ). IsNameOrPattern y) e (named_either s either)
+
+-- the source of a negative spec is a name or a pattern
+source_by_form : (op : Operation) (text : List ℕ) (r : Reading) (x : List ℕ) → Reads op text r → r.mode ≡ Negative → r.source ≡ Some x → IsNameOrPattern x
+source_by_form op text r x (fetches_nothing_named mode fetch positive parts is) negative source = absurd (not_positive mode positive (sym (ap (λ (q : Reading). q.mode) is) ∙ negative))
+source_by_form op text r x (fetches_colon mode fetch positive parts is) negative source = absurd (not_positive mode positive (sym (ap (λ (q : Reading). q.mode) is) ∙ negative))
+source_by_form op text r x (fetches mode s fetch positive parts fine is) negative source = absurd (not_positive mode positive (sym (ap (λ (q : Reading). q.mode) is) ∙ negative))
+source_by_form op text r x (updates mode s d fetch positive parts fine is) negative source = absurd (not_positive mode positive (sym (ap (λ (q : Reading). q.mode) is) ∙ negative))
+source_by_form op text r x (updates_from_head mode d fetch positive parts fine is) negative source = absurd (not_positive mode positive (sym (ap (λ (q : Reading). q.mode) is) ∙ negative))
+source_by_form op text r x (fetch_excludes s fetch parts either hash is) negative source = negative_source s r x either (sym (ap (λ (q : Reading). q.source) is)) source
+source_by_form op text r x (pushes_plus push parts is) negative source = absurd (not_positive Forced tt (sym (ap (λ (q : Reading). q.mode) is) ∙ negative))
+source_by_form op text r x (pushes_colon mode push positive parts is) negative source = absurd (not_positive mode positive (sym (ap (λ (q : Reading). q.mode) is) ∙ negative))
+source_by_form op text r x (pushes mode s push positive parts fine is) negative source = absurd (not_positive mode positive (sym (ap (λ (q : Reading). q.mode) is) ∙ negative))
+source_by_form op text r x (deletes mode d push positive parts fine is) negative source = absurd (not_positive mode positive (sym (ap (λ (q : Reading). q.mode) is) ∙ negative))
+source_by_form op text r x (pushes_pattern mode s d push positive parts fine also is) negative source = absurd (not_positive mode positive (sym (ap (λ (q : Reading). q.mode) is) ∙ negative))
+source_by_form op text r x (pushes_to mode s d push positive parts full lacks fine is) negative source = absurd (not_positive mode positive (sym (ap (λ (q : Reading). q.mode) is) ∙ negative))
+source_by_form op text r x (push_excludes s push parts either hash is) negative source = negative_source s r x either (sym (ap (λ (q : Reading). q.source) is)) source
+
+-- that a text lacks a byte has one proof at the most
+Lacks-prop : (b : ℕ) (x : List ℕ) (p q : Lacks b x) → p ≡ q
+Lacks-prop b [] p q = refl
+Lacks-prop b (c ∷ x) p q = λ i. ((λ same. (let z : p.0 same ≡ q.0 same = absurd (p.0 same) in z) i), Lacks-prop b x p.1 q.1 i)
+
+-- behind the first star of a name or a pattern there is no other
+one_star : (x before after : List ℕ) → IsNameOrPattern x → x ≡ before ++ (star ∷ after) → Lacks star before → Lacks star after
+one_star x before after (inl is_name) starred lacks = absurd (Lacks-here star before after (subst (Lacks star) starred (Lacks-name x is_name)))
+one_star x before after (inr pattern) starred lacks =
+    let r = pattern.replaces in
+    let once = first_once star before r.before after r.after lacks r.cut.first (sym starred ∙ r.cut.starred) in
+    subst (Lacks star) (sym once.1) r.cut.last
+
+-- so it is for the source of a negative spec
+source_star : (r : Reading) (x before after : List ℕ) → ∥ IsAccepted r ∥₁ → r.mode ≡ Negative → r.source ≡ Some x → x ≡ before ++ (star ∷ after) → Lacks star before → Lacks star after
+source_star r x before after accepted negative source starred lacks =
+    ∥∥₁_elim accepted (Lacks-prop star after) (λ reads. one_star x before after (source_by_form r.operation reads.0 r x reads.1 negative source) starred lacks)
+
+-- a source without a star excludes its name
+pub name_excludes : (r : Reading) (x : List ℕ) → r.mode ≡ Negative → r.source ≡ Some x → Lacks star x → (n : List ℕ) → (n ≡ x) ↔ IsExcludedBy n r
+name_excludes r x negative source lacks n = (
+  λ same. record { negative = negative; text = x; source = source; excludes = the_name lacks same },
+  λ by. only_name by.text (let a = sym source ∙ by.source in let e : x ≡ by.text = cc in e) by.excludes,
+)
+  where
+    only_name : (t : List ℕ) → x ≡ t → Excludes t n → n ≡ x
+    only_name t is (the_name _ same) = same ∙ sym is
+    only_name t is (by_pattern before after word cut covers) = absurd (Lacks-here star before after (subst (Lacks star) (is ∙ cut.starred) lacks))
+
+-- one with a star excludes the names of its pattern
+pub pattern_excludes : (r : Reading) (x before after : List ℕ) → ∥ IsAccepted r ∥₁ → r.mode ≡ Negative → r.source ≡ Some x → x ≡ before ++ (star ∷ after) → Lacks star before → (n : List ℕ) → ((word : List ℕ) × Fits before after n word) ↔ IsExcludedBy n r
+pattern_excludes r x before after accepted negative source starred lacks n = (
+  λ covers. record { negative = negative; text = x; source = source; excludes = by_pattern before after covers.0 (record { starred = starred; first = lacks; last = source_star r x before after accepted negative source starred lacks }) covers.1 },
+  λ by. only_pattern by.text (let a = sym source ∙ by.source in let e : x ≡ by.text = cc in e) by.excludes,
+)
+  where
+    only_pattern : (t : List ℕ) → x ≡ t → Excludes t n → (word : List ℕ) × Fits before after n word
+    only_pattern t is (the_name none same) = absurd (Lacks-here star before after (subst (Lacks star) (sym is ∙ starred) none))
+    only_pattern t is (by_pattern before2 after2 word cut covers) =
+        let once = first_once star before before2 after after2 lacks cut.first (sym starred ∙ is ∙ cut.starred) in
+        (word, covers ∙ sym (λ i. once.0 i ++ (word ++ once.1 i)))
+
+-- one more reading excludes what it does
+pub IsExcluded-push : (g : List Reading) (r : Reading) (n : List ℕ) → IsExcluded (g ++ r ∷ []) n ↔ (IsExcluded g n ⊎ IsExcludedBy n r)
+IsExcluded-push [] r n = (
+  only r,
+  λ either. elim either [
+    | inl none ↦ absurd none
+    | inr last ↦ inl last
+  ],
+)
+  where
+    only : (r : Reading) → IsExcludedBy n r ⊎ ⊥ → ⊥ ⊎ IsExcludedBy n r
+    only r (inl by) = inr by
+    only r (inr none) = absurd none
+IsExcluded-push (q ∷ g) r n =
+    let rest = IsExcluded-push g r n in (
+      (λ by. elim by [
+        | inl first ↦ inl (inl first)
+        | inr later ↦ elim (rest.0 later) [
+          | inl inner ↦ inl (inr inner)
+          | inr last ↦ inr last
+        ]
+      ]),
+      (λ either. elim either [
+        | inl by ↦ elim by [
+          | inl first ↦ inl first
+          | inr later ↦ inr (rest.1 (inl later))
+        ]
+        | inr last ↦ inr (rest.1 (inr last))
+      ]),
+    )
+
+pub IsTaken-push : (es : List Exclusion) (e : Exclusion) (n : List ℕ) → IsTaken (es ++ e ∷ []) n ↔ (IsTaken es n ⊎ Takes e n)
+IsTaken-push [] e n = (
+  only,
+  λ either. elim either [
+    | inl none ↦ absurd none
+    | inr last ↦ inl last
+  ],
+)
+  where
+    only : Takes e n ⊎ ⊥ → ⊥ ⊎ Takes e n
+    only (inl by) = inr by
+    only (inr none) = absurd none
+IsTaken-push (q ∷ es) e n =
+    let rest = IsTaken-push es e n in (
+      (λ by. elim by [
+        | inl first ↦ inl (inl first)
+        | inr later ↦ elim (rest.0 later) [
+          | inl inner ↦ inl (inr inner)
+          | inr last ↦ inr last
+        ]
+      ]),
+      (λ either. elim either [
+        | inl by ↦ elim by [
+          | inl first ↦ inl first
+          | inr later ↦ inr (rest.1 (inl later))
+        ]
+        | inr last ↦ inr (rest.1 (inr last))
+      ]),
+    )
+
+readings_more : (specs : List RefSpecRef) (i : ℕ) (s : RefSpecRef) → i < length specs → s ≡ get_or specs i s → map reading_of (take (i + 1) specs) ≡ map reading_of (take i specs) ++ reading_of s ∷ []
+readings_more specs i s below is = ap (map reading_of) (take_more specs i s below ∙ ap (λ (x : RefSpecRef). take i specs ++ x ∷ []) (sym is)) ∙ map-append reading_of (take i specs) (s ∷ [])
+
+-- one more spec, which excludes something
+pub exclusions_more : (specs : List RefSpecRef) (i : ℕ) (s : RefSpecRef) (es new : List Exclusion) (e : Exclusion) → i < length specs → s ≡ get_or specs i s → AreExclusionsOf (map reading_of (take i specs)) es → ((n : List ℕ) → Takes e n ↔ IsExcludedBy n (reading_of s)) → new ≡ es ++ e ∷ [] → AreExclusionsOf (map reading_of (take (i + 1) specs)) new
+exclusions_more specs i s es new e below is before told added n =
+    let g = map reading_of (take i specs) in
+    let taken = IsTaken-push es e n in
+    let excluded = IsExcluded-push g (reading_of s) n in
+    subst (λ (rs : List Reading). IsTaken new n ↔ IsExcluded rs n) (sym (readings_more specs i s below is)) (subst (λ (xs : List Exclusion). IsTaken xs n ↔ IsExcluded (g ++ reading_of s ∷ []) n) (sym added) (
+      (λ by. elim (taken.0 by) [
+        | inl old ↦ excluded.1 (inl ((before n).0 old))
+        | inr last ↦ excluded.1 (inr ((told n).0 last))
+      ]),
+      (λ by. elim (excluded.0 by) [
+        | inl old ↦ taken.1 (inl ((before n).1 old))
+        | inr last ↦ taken.1 (inr ((told n).1 last))
+      ]),
+    ))
+
+-- one more spec, which excludes nothing
+pub exclusions_same : (specs : List RefSpecRef) (i : ℕ) (s : RefSpecRef) (es : List Exclusion) → i < length specs → s ≡ get_or specs i s → AreExclusionsOf (map reading_of (take i specs)) es → ((n : List ℕ) → ¬ (IsExcludedBy n (reading_of s))) → AreExclusionsOf (map reading_of (take (i + 1) specs)) es
+exclusions_same specs i s es below is before none n =
+    let g = map reading_of (take i specs) in
+    let excluded = IsExcluded-push g (reading_of s) n in
+    subst (λ (rs : List Reading). IsTaken es n ↔ IsExcluded rs n) (sym (readings_more specs i s below is)) (
+      (λ by. excluded.1 (inl ((before n).0 by))),
+      (λ by. elim (excluded.0 by) [
+        | inl old ↦ (before n).1 old
+        | inr last ↦ absurd (none n last)
+      ]),
+    )
+
+-- one of these that takes the name
+pub IsTaken-at : (es : List Exclusion) (i : ℕ) (d : Exclusion) (n : List ℕ) → i < length es → Takes (get_or es i d) n → IsTaken es n
+IsTaken-at [] i d n below takes = absurd (omega arith)
+IsTaken-at (x ∷ es) zero d n below takes = inl takes
+IsTaken-at (x ∷ es) (suc i) d n below takes = inr (IsTaken-at es i d n (omega arith) takes)
+
+-- one more that doesn't take the name
+pub untaken_more : (es : List Exclusion) (i : ℕ) (d : Exclusion) (n : List ℕ) → i < length es → ¬ (Takes (get_or es i d) n) → ¬ (IsTaken (take i es) n) → ¬ (IsTaken (take (i + 1) es) n)
+untaken_more es i d n below free before taken =
+    elim ((IsTaken-push (take i es) (get_or es i d) n).0 (subst (λ (xs : List Exclusion). IsTaken xs n) (take_more es i d below) taken)) [
+      | inl old ↦ before old
+      | inr last ↦ free last
+    ]
+
+-- a spec that is negative
+pub HasNegative-at : (specs : List RefSpecRef) (i : ℕ) (d : RefSpecRef) → i < length specs → (reading_of (get_or specs i d)).mode ≡ Negative → HasNegative (map reading_of specs)
+HasNegative-at [] i d below negative = absurd (omega arith)
+HasNegative-at (s ∷ specs) zero d below negative = inl negative
+HasNegative-at (s ∷ specs) (suc i) d below negative = inr (HasNegative-at specs i d (omega arith) negative)

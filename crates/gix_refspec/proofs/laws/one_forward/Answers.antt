@@ -1,0 +1,8 @@
+-- Each part of the list is determined.
+use Rattle.std.proofs.Common.{map}
+use Rattle.gix_refspec.specs.Group.{ref_of, readings_of}
+use Rattle.gix_refspec.proofs.HitLemmas.{one_forward}
+use Rattle.gix_refspec.proofs.laws.one_forward.Goals as goal
+
+pub returns : goal.returns
+returns c = one_forward (readings_of c.args.group.now) (map ref_of c.args.items.now)

@@ -1,0 +1,28 @@
+-- An item that matches adds its hit, and another adds nothing.
+use Rattle.std.proofs.Common.{map, take, sym, subst, ◌+◌}
+use Rattle.gix_refspec.specs.Group.{ref_of}
+use Rattle.gix_refspec.specs.Private.HitViews.{AreHitsOfKinds, AddsHits}
+use Rattle.gix_refspec.proofs.HitLemmas.{adds_hit, adds_nothing, item_hit}
+use Rattle.gix_refspec.proofs.PrefixLemmas.{on_any_error}
+use Rattle.gix_refspec.proofs.match_group.util.hits.add_spec_hits.Goals as goal
+use Rattle.gix_refspec.proofs.match_group.util.hits.add_spec_hits.Goals.{in-Some+in_ok-filled_end+in_ok-add, in_default}
+
+pub loop-place-preserved : goal.loop-place-preserved
+loop-place-preserved c =
+    let xs = c.args.items.now in
+    let i = c.loop-place.place in
+    let kinds = c.args.ends in
+    elim c.match-matched.branch [
+      | in-Some+in_ok-filled_end+in_ok-add w ↦
+          subst (AddsHits c.args.direction (AreHitsOfKinds kinds c.args.spec (map ref_of xs) (map ref_of (take (i + 1) xs))) c.args.made.now) (sym w.made-is)
+          (adds_hit c.args.direction kinds c.args.spec xs i _ c.args.made.now c.loop-place.made w.add.new.self w.in-Some.found w.in_ok-filled_end.field-0 c.loop-place-test.true c.loop-place.invariant w.in-Some.ensures w.in_ok-filled_end.ensures w.in_ok-add.ensures)
+      | in_default w ↦
+          subst (AddsHits c.args.direction (AreHitsOfKinds kinds c.args.spec (map ref_of xs) (map ref_of (take (i + 1) xs))) c.args.made.now) (sym w.made-is)
+          (adds_nothing c.args.direction kinds c.args.spec xs i _ c.args.made.now c.loop-place.made c.loop-place-test.true c.loop-place.invariant w.in_default.ensures)
+    ]
+
+pub returns-in_err-filled_end-clause-memory : goal.returns-in_err-filled_end-clause-memory
+returns-in_err-filled_end-clause-memory c = on_any_error c.from_residual.result (item_hit c.args.ends c.args.items.now c.loop-place.place _ c.in-Some.found c.loop-place-test.true c.in-Some.ensures)
+
+pub returns-in_err-add-clause-memory : goal.returns-in_err-add-clause-memory
+returns-in_err-add-clause-memory c = on_any_error c.from_residual-in_err-add.result (item_hit c.args.ends c.args.items.now c.loop-place.place _ c.in-Some.found c.loop-place-test.true c.in-Some.ensures)

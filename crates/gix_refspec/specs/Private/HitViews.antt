@@ -1,0 +1,84 @@
+-- What a clause reads of the private types of matching. Only private functions cite this.
+use Rattle.std.specs.Prelude.{◌≡◌, ◌⊎◌, ℕ, List, [], ◌++◌, Option, None, Some, map, option_map, codes}
+use Rattle.bstr.specs.BStr.{bstr_bytes}
+use Rattle.gix_refspec.specs.declared.match_group.util.matched.Match.{Match}
+use Rattle.gix_refspec.specs.declared.match_group.util.hits.Direction.{Direction}
+use Rattle.gix_refspec.specs.declared.match_group.util.hits.Direction.TheVariants.{Forward, Backward}
+use Rattle.gix_refspec.specs.declared.match_group.util.hits.Ends.{Ends as DeclaredEnds}
+use Rattle.gix_refspec.specs.declared.match_group.util.hits.Hit.{Hit as DeclaredHit}
+use Rattle.gix_refspec.specs.declared.match_group.util.hits.Made.{Made}
+use Rattle.gix_refspec.specs.declared.side.SideKind.{SideKind as DeclaredKind}
+use Rattle.gix_refspec.specs.Reading.{Reading}
+use Rattle.gix_refspec.specs.Grammar.{IsPositive}
+use Rattle.gix_refspec.specs.Side.{HasKind, object, filled}
+use Rattle.gix_refspec.specs.Private.SideViews.{shown_kind}
+use Rattle.gix_refspec.specs.Match.{Ref}
+use Rattle.gix_refspec.specs.Lists.{IsMadeFrom}
+use Rattle.gix_refspec.specs.Mappings.{Mapped}
+use Rattle.gix_refspec.specs.Hits.{Ends, AreForwardEnds, AreBackwardEnds, Hit, IsHit, forward_of, backward_of}
+use Rattle.gix_refspec.specs.Group.{name_bytes, mapped_of}
+
+-- the word that stands for the star of a side that matched
+abbrev pub word_of : Match → Option (List ℕ)
+word_of m = option_map (λ w. w.now) m.word
+
+-- in a candidate these bytes may stand before the partial name, and nothing behind it
+abbrev pub IsPlace : List ℕ → Type 0
+IsPlace x = (x ≡ []) ⊎ (x ≡ codes "refs/") ⊎ (x ≡ codes "refs/tags/") ⊎ (x ≡ codes "refs/heads/") ⊎ (x ≡ codes "refs/remotes/")
+
+-- the side, where it is there, has the kind
+abbrev pub HasKindShown : Option (List ℕ) → Option DeclaredKind → Type 0
+HasKindShown None None = Unit {0}
+HasKindShown None (Some k) = ⊥
+HasKindShown (Some x) None = ⊥
+HasKindShown (Some x) (Some k) = HasKind x (shown_kind k)
+
+-- the ends have these kinds
+pub record HaveKinds (ends : Ends) (kinds : DeclaredEnds) : Type 0 where
+  pub near : HasKind ends.near (shown_kind kinds.near)
+  pub far : HasKindShown ends.far kinds.far
+
+-- the ends of a reading, as the direction sees them
+abbrev pub HasEnds : Direction → Reading → Ends → Type 0
+HasEnds Forward r ends = AreForwardEnds r ends
+HasEnds Backward r ends = AreBackwardEnds r ends
+
+-- what an end of the kind becomes, where there is one
+abbrev pub filled_end : Option DeclaredKind → Option (List ℕ) → Option (List ℕ)
+filled_end None word = None
+filled_end (Some k) word = Some (filled (shown_kind k) word)
+
+-- the reading is positive, and its source is the id with these bytes
+pub record AsksForId (r : Reading) (bytes : List ℕ) : Type 0 where
+  pub positive : IsPositive r.mode
+  pub text : List ℕ
+  pub side : r.source ≡ Some text
+  pub kind : HasKind text (object bytes)
+
+-- the hit that the private type shows
+abbrev pub shown_hit : DeclaredHit → Hit
+shown_hit h = record { spec = h.spec; item = h.item; near = bstr_bytes h.near; far = option_map name_bytes h.far }
+
+-- the hits of the spec at place k, whose ends have these kinds
+abbrev pub AreHitsOfKinds : DeclaredEnds → ℕ → List Ref → List Ref → List Hit → Type 0
+AreHitsOfKinds kinds k items refs hits = (ends : Ends) → HaveKinds ends kinds → IsMadeFrom (IsHit items ends k) 0 refs hits
+
+-- a spec whose ends have these kinds hits some item
+abbrev pub HasHit : DeclaredEnds → List Ref → Type 0
+HasHit kinds items = (ends : Ends) (k : ℕ) → HaveKinds ends kinds → ¬ (IsMadeFrom (IsHit items ends k) 0 items [])
+
+-- what a hit makes in the direction
+abbrev pub mapping_of : Direction → Hit → Mapped
+mapping_of Forward hit = forward_of hit
+mapping_of Backward hit = backward_of hit
+
+-- the mappings that were made in the direction
+abbrev pub made_in : Direction → Made → List Mapped
+made_in Forward made = map mapped_of made.forward.items
+made_in Backward made = map mapped_of made.backward.items
+
+-- behind the old mappings stand those that hits make, and the hits are as P says
+pub record AddsHits (direction : Direction) (P : List Hit → Type 0) (old new : Made) : Type 0 where
+  pub hits : List Hit
+  pub are : P hits
+  pub all : made_in direction new ≡ made_in direction old ++ map (mapping_of direction) hits

@@ -1,0 +1,145 @@
+-- How repeats and exclusions are found. Only private functions cite these words.
+use Rattle.std.specs.Prelude.{◌≡◌, ◌⊎◌, ◌↔◌, ◌<◌, ℕ, Bool, true, false, List, [], ◌∷◌, ◌++◌, length, map, pos, option_map, slice_index_or}
+use Rattle.std.specs.List.{AllByRecursion, fold}
+use Rattle.std.specs.List.Sorted.{IsPermutation}
+use Rattle.std.specs.Hash as fed
+use Rattle.std.specs.Hash.{HashWrites}
+use Rattle.std.specs.Hash.FoldHasher as folding
+use Rattle.gix_refspec.specs.declared.match_group.types.Mapping.{Mapping}
+use Rattle.gix_refspec.specs.declared.match_group.util.kept.exclusions.Exclusion.{Exclusion}
+use Rattle.gix_refspec.specs.declared.match_group.util.kept.exclusions.Exclusion.TheVariants as exclusion
+use Rattle.gix_refspec.specs.declared.match_group.util.kept.repeats.Hashed.{Hashed}
+use Rattle.gix_refspec.specs.declared.match_group.util.kept.repeats.Pair.{Pair}
+use Rattle.gix_refspec.specs.Reading.{Reading, Negative}
+use Rattle.gix_refspec.specs.Side.{Fits}
+use Rattle.gix_refspec.specs.Mappings.{Start, name, id, Mapped, IsSamePair, IsExcluded}
+use Rattle.gix_refspec.specs.Group.{mapped_of}
+
+-- the name is excluded
+abbrev pub Takes : Exclusion → List ℕ → Type 0
+Takes (exclusion.Name source) n = n ≡ source.now
+Takes (exclusion.Pattern before after) n = (word : List ℕ) × Fits before.now after.now n word
+
+-- one of these excludes the name
+abbrev pub IsTaken : List Exclusion → List ℕ → Type 0
+IsTaken [] n = ⊥
+IsTaken (e ∷ es) n = Takes e n ⊎ IsTaken es n
+
+-- one of these excludes the start, which none does to an id
+abbrev pub IsStartTaken : List Exclusion → Start → Type 0
+IsStartTaken es (name n) = IsTaken es n
+IsStartTaken es (id i) = ⊥
+
+-- these exclude what the readings exclude
+abbrev pub AreExclusionsOf : List Reading → List Exclusion → Type 0
+AreExclusionsOf g es = (n : List ℕ) → IsTaken es n ↔ IsExcluded g n
+
+-- one of the readings is negative
+abbrev pub HasNegative : List Reading → Type 0
+HasNegative [] = ⊥
+HasNegative (r ∷ rs) = (r.mode ≡ Negative) ⊎ HasNegative rs
+
+-- the mappings at two places have the same pair
+abbrev pub IsSameAt : List Mapping → ℕ → ℕ → Type 0
+IsSameAt ms j k = (d : Mapping) → IsSamePair (mapped_of (slice_index_or ms j d)) (mapped_of (slice_index_or ms k d))
+
+-- the mapping at a place has the same pair as an earlier one
+abbrev pub IsRepeat : List Mapping → ℕ → Type 0
+IsRepeat ms k = (j : ℕ) × (j < k) × IsSameAt ms j k
+
+-- the place is flagged; no flags at all flag no place
+abbrev pub IsFlagged : List Bool → ℕ → Type 0
+IsFlagged flags k = slice_index_or flags k false ≡ true
+
+-- there are no flags, or one for each mapping
+abbrev pub FlagsFit : List Mapping → List Bool → Type 0
+FlagsFit ms flags = (flags ≡ []) ⊎ (length flags ≡ length ms)
+
+-- just the repeats are flagged
+abbrev pub FlagsRepeats : List Mapping → List Bool → Type 0
+FlagsRepeats ms flags = (k : ℕ) → k < length ms → IsFlagged flags k ↔ IsRepeat ms k
+
+-- what hashing a source writes: its kind and then its bytes
+abbrev pub source_writes : Start → HashWrites
+source_writes (name n) = fed.isize (pos 0) ++ (n ∷ [])
+source_writes (id i) = fed.isize (pos 1) ++ fed.slice fed.u8 i
+
+-- what hashing a mapping writes
+abbrev pub pair_writes : Mapped → HashWrites
+pair_writes m = source_writes m.source ++ fed.option (λ d. d ∷ []) m.destination
+
+-- the hash of a mapping
+abbrev pub pair_hash : Mapped → ℕ
+pair_hash m = folding.finish (fold folding.write folding.initial (pair_writes m))
+
+-- k is one of the numbers
+abbrev pub Has : List ℕ → ℕ → Type 0
+Has [] k = ⊥
+Has (n ∷ ns) k = (n ≡ k) ⊎ Has ns k
+
+-- each number is below all later ones
+abbrev pub Rises : List ℕ → Type 0
+Rises [] = Unit {0}
+Rises (n ∷ ns) = AllByRecursion (λ m. n < m) ns × Rises ns
+
+-- it has a place among the mappings, and the hash of the mapping there
+abbrev pub IsHashed : List Mapping → Hashed → Type 0
+IsHashed ms h = (h.place < length ms) × ((d : Mapping) → h.hash ≡ pair_hash (mapped_of (slice_index_or ms h.place d)))
+
+-- the places of these
+abbrev pub places_of : List Hashed → List ℕ
+places_of hs = map (λ h. h.place) hs
+
+-- h comes before x: by the hash, and where hashes are the same by the place
+abbrev pub IsBefore : Hashed → Hashed → Type 0
+IsBefore h x = (h.hash < x.hash) ⊎ ((h.hash ≡ x.hash) × (h.place < x.place))
+
+-- each comes before all later ones
+abbrev pub AreInOrder : List Hashed → Type 0
+AreInOrder [] = Unit {0}
+AreInOrder (h ∷ hs) = AllByRecursion (IsBefore h) hs × AreInOrder hs
+
+-- the hashes of all the mappings
+pub record AreHashesOf (ms : List Mapping) (hs : List Hashed) : Type 0 where
+  pub each : AllByRecursion (IsHashed ms) hs
+  pub every : (k : ℕ) → k < length ms → Has (places_of hs) k
+
+-- the places of some of the mappings, which rise
+pub record IsRun (ms : List Mapping) (run : List Hashed) : Type 0 where
+  pub some : 0 < length run
+  pub below : AllByRecursion (λ h. h.place < length ms) run
+  pub rises : Rises (places_of run)
+
+-- the mapping at a place that stands in the run repeats another one whose place does
+abbrev pub IsRepeatIn : List Mapping → List ℕ → ℕ → Type 0
+IsRepeatIn ms places k = Has places k × ((j : ℕ) × Has places j × (j < k) × IsSameAt ms j k)
+
+-- besides the old flags, the repeats in the run are flagged
+pub record FlagsAlso (ms : List Mapping) (places : List ℕ) (old new : List Bool) : Type 0 where
+  pub fits : FlagsFit ms new
+  pub flagged : (k : ℕ) → IsFlagged new k ↔ (IsFlagged old k ⊎ IsRepeatIn ms places k)
+
+-- the source that the pair has
+abbrev pub start_made : Bool → List ℕ → Start
+start_made false n = name n
+start_made true i = id i
+
+-- the pair is that of the mapping
+pub record IsPairOf (m : Mapped) (p : Pair) : Type 0 where
+  pub source : m.source ≡ start_made p.is_id p.source.now
+  pub destination : m.destination ≡ option_map (λ d. d.now) p.destination
+
+-- the places of these
+abbrev pub pair_places : List Pair → List ℕ
+pair_places ps = map (λ p. p.place) ps
+
+-- the pairs of the mappings of a run
+pub record ArePairsOf (ms : List Mapping) (run : List Hashed) (ps : List Pair) : Type 0 where
+  pub each : AllByRecursion (λ p. (p.place < length ms) × ((d : Mapping) → IsPairOf (mapped_of (slice_index_or ms p.place d)) p)) ps
+  pub places : IsPermutation (places_of run) (pair_places ps)
+
+-- the mapping at place k, which is m, stays as made: it isn't flagged, and its source isn't excluded
+pub record Remains (es : List Exclusion) (flags : List Bool) (k : ℕ) (m made : Mapping) : Type 0 where
+  pub same : made ≡ m
+  pub unflagged : ¬ (IsFlagged flags k)
+  pub included : ¬ (IsStartTaken es (mapped_of m).source)

@@ -1,0 +1,140 @@
+//! Groups of refspecs, and what they match among the refs of two repositories.
+
+ghost use Rattle.std.specs.Prelude.{◌≡◌, ◌≢◌, [], map, IfOk, IfErr, OnOk, OnErr};
+ghost use Rattle.gix_refspec.specs.Spec.{reading_of};
+ghost use Rattle.gix_refspec.specs.Mappings.{IsKept};
+ghost use Rattle.gix_refspec.specs.Group.{ref_of, mapped_of, readings_of};
+ghost use Rattle.gix_refspec.specs.Hits.{AreForward, AreBackward, AreKeptForward, AreKeptBackward};
+
+pub(crate) mod types;
+pub(crate) mod util;
+
+use crate::spec::RefSpecRef;
+use std::alloc::{AllocError, Global};
+use types::MatchGroup;
+pub use types::{Item, Mapping, NameRef, NoRoom, Source, SourceRef, match_lhs, match_rhs};
+use util::hits::{backward, forward};
+use util::kept::keep;
+
+/// Matching, from left to right and from right to left.
+impl<'spec> MatchGroup<'spec> {
+    /// Matches items by the sources of the specs, and maps them to their destinations, as
+    /// git-fetch(1) does with the refs of a remote.
+    ///
+    /// First come the ids that specs ask for, one mapping for each positive spec whose source is an
+    /// id: it has no item, and its source is the id. Then come, spec by spec and for each in the
+    /// order of the items, the items that the source of a positive spec matches. A pattern matches
+    /// a name with one word for its star, a full name only itself, and a partial name each of its
+    /// six candidates. A mapping has no destination where its spec has none. Of mappings with the
+    /// same source and destination the first one is kept, and no mapping whose source is a name
+    /// that a negative spec excludes.
+    ///
+    /// Names of items are borrowed from the items, and destinations that are full names from the
+    /// specs. Other destinations are owned: a pattern with the word for its star, and the names of
+    /// branches, tags or remote refs that ids and partial names become.
+    ///
+    /// `NoRoom` comes where memory ran out, and never where no spec matches anything. It holds the
+    /// group as it was.
+    pub fn match_lhs<'item>(
+        self,
+        alloc: Global,
+        items: &[Item<'item>],
+    ) -> Result<match_lhs::Outcome<'spec, 'item>, NoRoom<'spec>>
+        ensures ok { IfOk result (λ o. (o.group ≡ self.entry) × AreKeptForward
+            (readings_of self.entry) (map ref_of items.now)
+            (map mapped_of o.mappings.items)) }
+        ensures err { IfErr result (λ e. e.group ≡ self.entry) }
+        ensures memory { OnErr result (¬ (AreForward
+            (readings_of self.entry) (map ref_of items.now) [])) }
+    {
+        match kept_forward(alloc, self.specs.as_slice(), items) {
+            Ok(mappings) => Ok(match_lhs::Outcome {
+                group: self,
+                mappings,
+            }),
+            Err(_) => Err(NoRoom { group: self }),
+        }
+    }
+
+    /// Matches items by the destinations of the specs, and maps them back to their sources: which
+    /// refs of a remote belong to these tracking refs.
+    ///
+    /// Only positive specs with both sides take part. Mappings are in the order of the specs, and
+    /// for each in that of the items. The sides change their roles, and else all is as in
+    /// `match_lhs`: the destination is the name of an item, borrowed from it, and the source is
+    /// filled in by the spec. A destination that is an id matches items whose target or object it
+    /// is, and a source that is an id becomes the name of a branch. Negative specs exclude by the
+    /// source.
+    ///
+    /// `NoRoom` comes where memory ran out, and never where no spec matches anything. It holds the
+    /// group as it was.
+    pub fn match_rhs<'item>(
+        self,
+        alloc: Global,
+        items: &[Item<'item>],
+    ) -> Result<match_rhs::Outcome<'spec, 'item>, NoRoom<'spec>>
+        ensures ok { IfOk result (λ o. (o.group ≡ self.entry) × AreKeptBackward
+            (readings_of self.entry) (map ref_of items.now)
+            (map mapped_of o.mappings.items)) }
+        ensures err { IfErr result (λ e. e.group ≡ self.entry) }
+        ensures memory { OnErr result (¬ (AreBackward
+            (readings_of self.entry) (map ref_of items.now) [])) }
+    {
+        match kept_backward(alloc, self.specs.as_slice(), items) {
+            Ok(mappings) => Ok(match_rhs::Outcome {
+                group: self,
+                mappings,
+            }),
+            Err(_) => Err(NoRoom { group: self }),
+        }
+    }
+}
+
+// The mappings from left to right that are kept.
+fn kept_forward<'spec, 'item>(
+    alloc: Global,
+    specs: &[RefSpecRef<'spec>],
+    items: &[Item<'item>],
+) -> Result<Vec<Mapping<'item, 'spec>>, AllocError>
+    ensures ok { IfOk result (λ list. AreKeptForward
+        (map reading_of specs.now) (map ref_of items.now) (map mapped_of list.items)) }
+    ensures memory { OnErr result (¬ (AreForward
+        (map reading_of specs.now) (map ref_of items.now) [])) }
+{
+    let mut mappings = forward(alloc, specs, items)?;
+    keep_some(alloc, specs, &mut mappings)?;
+    Ok(mappings)
+}
+
+// The mappings from right to left that are kept.
+fn kept_backward<'spec, 'item>(
+    alloc: Global,
+    specs: &[RefSpecRef<'spec>],
+    items: &[Item<'item>],
+) -> Result<Vec<Mapping<'spec, 'item>>, AllocError>
+    ensures ok { IfOk result (λ list. AreKeptBackward
+        (map reading_of specs.now) (map ref_of items.now) (map mapped_of list.items)) }
+    ensures memory { OnErr result (¬ (AreBackward
+        (map reading_of specs.now) (map ref_of items.now) [])) }
+{
+    let mut mappings = backward(alloc, specs, items)?;
+    keep_some(alloc, specs, &mut mappings)?;
+    Ok(mappings)
+}
+
+// Drops the mappings that are not kept. Without mappings that takes no memory.
+fn keep_some<'a, 'b>(
+    alloc: Global,
+    specs: &[RefSpecRef<'_>],
+    mappings: &mut Vec<Mapping<'a, 'b>>,
+) -> Result<(), AllocError>
+    ensures ok { OnOk result (IsKept
+        (map reading_of specs.now) (map mapped_of mappings.old.items)
+        (map mapped_of mappings.new.items)) }
+    ensures memory { OnErr result (mappings.old.items ≢ []) }
+{
+    if mappings.is_empty() {
+        return Ok(());
+    }
+    keep(alloc, specs, mappings)
+}

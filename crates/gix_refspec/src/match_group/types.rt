@@ -1,0 +1,370 @@
+//! Groups of specs, the items that they match, and the mappings that they give.
+
+ghost use Rattle.std.specs.Prelude.{◌≡◌, ◌↔◌, [], ◌∷◌, refl, nat_eq, Some, IfOk, OnErr, IsTrue};
+ghost use Rattle.std.specs.Cmp.Lexicographic.{pointwise, nat_list_eq_equiv};
+ghost use Rattle.std.specs.Cmp.{partial_equiv_from_equiv, on_per, on_equiv};
+ghost use Rattle.std.specs.Cmp.Rules.{hashing};
+ghost use Rattle.std.proofs.Common.{rules};
+ghost use Rattle.bstr.specs.BStr.{bstr_bytes};
+ghost use Rattle.bstr.specs.Owned.{bstring_bytes};
+ghost use Rattle.gix_refspec.specs.Group.{AreMappingCopies};
+
+use crate::oid::ObjectId;
+use crate::parsing::Operation;
+use crate::spec::RefSpecRef;
+use bstr::{BStr, BString};
+use std::alloc::{AllocError, Global};
+use std::hash::{Hash, Hasher};
+use std::{error, fmt};
+
+/// A ref of a repository, as it is matched.
+#[derive(Clone, Copy, Debug)]
+pub struct Item<'a> {
+    /// The full name of the ref, like `refs/heads/main`. Any bytes may be a name.
+    pub full_ref_name: BStr<'a>,
+    /// The object that the ref points to.
+    pub target: &'a ObjectId,
+    /// The object that was tagged, where the target is an annotated tag.
+    pub object: Option<&'a ObjectId>,
+}
+
+/// The name of a ref, borrowed where it stands somewhere already. Names are compared and hashed by their
+/// bytes.
+#[derive(Debug, Drop)]
+pub enum NameRef<'a> {
+    /// A name that is lent, by an item or by a spec.
+    Borrowed(BStr<'a>),
+    /// A name of its own, such as one that was filled in.
+    Owned(BString),
+}
+
+impl<'a> NameRef<'a> {
+    ghost use Rattle.gix_refspec.specs.Group.{name_bytes, IsBorrowed, IsOwned, IsNameCopy};
+
+    /// The bytes of the name, borrowed from it.
+    pub fn as_bstr(&self) -> BStr<'_>
+        ensures { bstr_bytes result ≡ name_bytes self.now }
+    {
+        match self {
+            NameRef::Borrowed(name) => *name,
+            NameRef::Owned(name) => name.as_bstr(),
+        }
+    }
+
+    /// The bytes of the name, owned. Fails if memory runs out, and then the name is given up; never for a
+    /// name that is owned already.
+    pub fn into_owned(self, alloc: Global) -> Result<BString, AllocError>
+        ensures keeps { IfOk result (λ owned. bstring_bytes owned ≡ name_bytes self.entry) }
+        ensures memory { OnErr result (IsBorrowed self.entry) }
+    {
+        match self {
+            NameRef::Borrowed(name) => BString::from_slice(alloc, name),
+            NameRef::Owned(name) => Ok(name),
+        }
+    }
+
+    /// A copy of the name, which borrows what this one borrows. Fails if memory runs out, and never for a
+    /// name that is borrowed.
+    pub fn clone(&self, alloc: Global) -> Result<NameRef<'a>, AllocError>
+        ensures keeps { IfOk result (IsNameCopy self.now) }
+        ensures memory { OnErr result (IsOwned self.now) }
+    {
+        Ok(match self {
+            NameRef::Borrowed(name) => NameRef::Borrowed(*name),
+            NameRef::Owned(name) => NameRef::Owned(BString::from_slice(alloc, name.as_bstr())?),
+        })
+    }
+}
+
+impl<'a> PartialEq for NameRef<'a> {
+    ghost use Rattle.gix_refspec.specs.Group.{name_bytes};
+
+    ghost eq = { λ x y. pointwise nat_eq (name_bytes x) (name_bytes y) };
+
+    ghost laws = { on_per name_bytes (partial_equiv_from_equiv nat_list_eq_equiv) };
+
+    fn eq(&self, other: &Self) -> bool
+        ensures test { result ≡ pointwise nat_eq (name_bytes self.now) (name_bytes other.now) }
+        ensures same { IsTrue result ↔ (name_bytes self.now ≡ name_bytes other.now) }
+    {
+        self.as_bstr() == other.as_bstr()
+    }
+}
+
+impl<'a> Eq for NameRef<'a> {
+    ghost use Rattle.gix_refspec.specs.Group.{name_bytes};
+
+    ghost laws = { on_equiv name_bytes nat_list_eq_equiv };
+}
+
+impl<'a> Hash for NameRef<'a> {
+    ghost use Rattle.gix_refspec.specs.Group.{name_bytes};
+
+    ghost hash_input = { λ s. name_bytes s ∷ [] };
+
+    ghost respects_eq = { Prim.search (hashing, rules) };
+
+    // One write, since a hasher takes many bytes at once faster than one by one.
+    fn hash<H: Hasher>(&self, state: &mut H) {
+        state.write(self.as_bstr().as_bytes());
+    }
+}
+
+/// The source of a mapping: the left side, for a fetch and for a push.
+#[derive(Debug, Drop, PartialEq, Eq, Hash)]
+pub enum SourceRef<'a> {
+    /// The full name of a ref. That it is one isn't checked.
+    FullName(NameRef<'a>),
+    /// An object that is asked for by its id. The remote may have it without a ref to it.
+    ObjectId(ObjectId),
+}
+
+/// A source that borrows nothing.
+pub type Source = SourceRef<'static>;
+
+impl<'a> SourceRef<'a> {
+    ghost use Rattle.gix_refspec.specs.Group.{start_of, IsLent, IsOwnedSource, IsSourceCopy};
+
+    /// The same source, owned. Fails if memory runs out, and then the source is given up; never for a name
+    /// that is owned already or for an id.
+    pub fn into_owned(self, alloc: Global) -> Result<Source, AllocError>
+        ensures keeps { IfOk result (λ owned. start_of owned ≡ start_of self.entry) }
+        ensures memory { OnErr result (IsLent self.entry) }
+    {
+        Ok(match self {
+            SourceRef::FullName(name) => {
+                SourceRef::FullName(NameRef::Owned(name.into_owned(alloc)?))
+            }
+            SourceRef::ObjectId(id) => SourceRef::ObjectId(id),
+        })
+    }
+
+    /// A copy of the source, which borrows what this one borrows. Fails if memory runs out, and only for a
+    /// name that is owned.
+    pub fn clone(&self, alloc: Global) -> Result<SourceRef<'a>, AllocError>
+        ensures keeps { IfOk result (IsSourceCopy self.now) }
+        ensures memory { OnErr result (IsOwnedSource self.now) }
+    {
+        Ok(match self {
+            SourceRef::FullName(name) => SourceRef::FullName(name.clone(alloc)?),
+            SourceRef::ObjectId(id) => SourceRef::ObjectId(*id),
+        })
+    }
+}
+
+impl<'a> fmt::Display for SourceRef<'a> {
+    ghost use Rattle.gix_refspec.specs.Group.{shown_source};
+
+    ghost output = { λ s. Some (shown_source s) };
+
+    fn fmt<W: fmt::Write>(&self, f: &mut fmt::Formatter<W>) -> fmt::Result {
+        match self {
+            SourceRef::FullName(name) => name.as_bstr().fmt(f),
+            SourceRef::ObjectId(id) => id.fmt(f),
+        }
+    }
+}
+
+/// A ref or an object, and the ref on the other side that it belongs to. Mappings are compared and hashed
+/// by their source and destination alone.
+#[derive(Debug, Drop)]
+#[derive_where(PartialEq, Eq, Hash)]
+pub struct Mapping<'a, 'b> {
+    /// The place of the item that was matched, among all items. None for an object that is asked for by its
+    /// id.
+    #[derive_where(skip(EqHashOrd))]
+    pub item_index: Option<usize>,
+    /// The source: on the remote for a fetch, local for a push.
+    pub lhs: SourceRef<'a>,
+    /// The destination: local for a fetch, on the remote for a push. None where the spec has none.
+    pub rhs: Option<NameRef<'b>>,
+    /// The place of the spec in the group.
+    #[derive_where(skip(EqHashOrd))]
+    pub spec_index: usize,
+}
+
+impl<'a, 'b> Mapping<'a, 'b> {
+    ghost use Rattle.gix_refspec.specs.Group.{IsMappingCopy, HasOwned};
+
+    /// A copy of the mapping, which borrows what this one borrows. Fails if memory runs out, and only where
+    /// a name of it is owned.
+    pub fn clone(&self, alloc: Global) -> Result<Mapping<'a, 'b>, AllocError>
+        ensures keeps { IfOk result (IsMappingCopy self.now) }
+        ensures memory { OnErr result (HasOwned self.now) }
+    {
+        Ok(Mapping {
+            item_index: self.item_index,
+            lhs: self.lhs.clone(alloc)?,
+            rhs: match &self.rhs {
+                None => None,
+                Some(name) => Some(name.clone(alloc)?),
+            },
+            spec_index: self.spec_index,
+        })
+    }
+}
+
+// Copies of mappings, in order.
+fn clone_all<'a, 'b>(
+    alloc: Global,
+    mappings: &[Mapping<'a, 'b>],
+) -> Result<Vec<Mapping<'a, 'b>>, AllocError>
+    ensures { IfOk result (λ copies. AreMappingCopies mappings.now copies.items) }
+{
+    let mut copies = Vec::with_capacity(alloc, mappings.len())?;
+    for mapping in mappings {
+        copies.push(mapping.clone(alloc)?)?;
+    }
+    Ok(copies)
+}
+
+/// Specs that are matched together.
+#[derive(Debug, Drop)]
+pub struct MatchGroup<'a> {
+    /// The specs, in the order that decides the order of mappings.
+    pub specs: Vec<RefSpecRef<'a>>,
+}
+
+impl<'a> MatchGroup<'a> {
+    ghost use Rattle.std.specs.Iterator.{IsFiniteIterable};
+    ghost use Rattle.gix_refspec.specs.Group.{IsGathered};
+
+    /// A group of no specs, which takes no memory.
+    pub fn new(alloc: Global) -> Self
+        ensures { result.specs.items ≡ [] }
+    {
+        MatchGroup {
+            specs: Vec::new(alloc),
+        }
+    }
+
+    /// The fetch specs among these, in order. Fails if memory runs out.
+    pub fn from_fetch_specs<I: IntoIterator<Item = RefSpecRef<'a>>>(
+        alloc: Global,
+        specs: I,
+    ) -> Result<Self, AllocError>
+    where
+        I::IntoIter: Drop,
+        requires { IsFiniteIterable I.into_iter_gives I.IntoIter.can_next I.IntoIter.remaining specs }
+        ensures { IfOk result (IsGathered I.into_iter_gives I.IntoIter.next_gives Operation.Fetch specs) }
+    {
+        Self::of(alloc, Operation::Fetch, specs)
+    }
+
+    /// The push specs among these, in order. Fails if memory runs out.
+    pub fn from_push_specs<I: IntoIterator<Item = RefSpecRef<'a>>>(
+        alloc: Global,
+        specs: I,
+    ) -> Result<Self, AllocError>
+    where
+        I::IntoIter: Drop,
+        requires { IsFiniteIterable I.into_iter_gives I.IntoIter.can_next I.IntoIter.remaining specs }
+        ensures { IfOk result (IsGathered I.into_iter_gives I.IntoIter.next_gives Operation.Push specs) }
+    {
+        Self::of(alloc, Operation::Push, specs)
+    }
+
+    // The specs of an operation among these, in order.
+    fn of<I: IntoIterator<Item = RefSpecRef<'a>>>(
+        alloc: Global,
+        operation: Operation,
+        specs: I,
+    ) -> Result<Self, AllocError>
+    where
+        I::IntoIter: Drop,
+        requires { IsFiniteIterable I.into_iter_gives I.IntoIter.can_next I.IntoIter.remaining specs }
+        ensures { IfOk result (IsGathered I.into_iter_gives I.IntoIter.next_gives operation specs) }
+    {
+        let mut group = MatchGroup::new(alloc);
+        for spec in specs {
+            if spec.op == operation {
+                group.specs.push(spec)?;
+            }
+        }
+        Ok(group)
+    }
+
+    /// A copy of the group, whose specs borrow what these borrow. Fails if memory runs out.
+    pub fn clone(&self, alloc: Global) -> Result<MatchGroup<'a>, AllocError>
+        ensures { IfOk result (λ copy. copy.specs.items ≡ self.now.specs.items) }
+    {
+        Ok(MatchGroup {
+            specs: Vec::from_slice(alloc, self.specs.as_slice())?,
+        })
+    }
+}
+
+/// Memory ran out while a group was matched. The group is handed back as it was.
+#[derive(Debug, Drop)]
+pub struct NoRoom<'a> {
+    /// The group that was to be matched.
+    pub group: MatchGroup<'a>,
+}
+
+impl<'a> fmt::Display for NoRoom<'a> {
+    ghost use Rattle.std.specs.Prelude.{codes};
+
+    ghost output = { λ _. Some (codes "out of memory") };
+
+    fn fmt<W: fmt::Write>(&self, f: &mut fmt::Formatter<W>) -> fmt::Result {
+        f.write_str("out of memory")
+    }
+}
+
+impl<'a> error::Error for NoRoom<'a> {}
+
+/// What matching the left sides of specs gives.
+pub mod match_lhs {
+    use super::{Mapping, MatchGroup, clone_all};
+    use std::alloc::{AllocError, Global};
+
+    /// A group, and the mappings that its left sides gave.
+    #[derive(Debug, Drop)]
+    pub struct Outcome<'spec, 'item> {
+        /// The group that was matched.
+        pub group: MatchGroup<'spec>,
+        /// What was matched. Sources are names of items, destinations are by the specs.
+        pub mappings: Vec<Mapping<'item, 'spec>>,
+    }
+
+    impl<'spec, 'item> Outcome<'spec, 'item> {
+        /// A copy, which borrows what this one borrows. Fails if memory runs out.
+        pub fn clone(&self, alloc: Global) -> Result<Outcome<'spec, 'item>, AllocError>
+            ensures specs { IfOk result (λ copy. copy.group.specs.items ≡ self.now.group.specs.items) }
+            ensures mappings { IfOk result (λ copy. AreMappingCopies self.now.mappings.items copy.mappings.items) }
+        {
+            Ok(Outcome {
+                group: self.group.clone(alloc)?,
+                mappings: clone_all(alloc, self.mappings.as_slice())?,
+            })
+        }
+    }
+}
+
+/// What matching the right sides of specs gives.
+pub mod match_rhs {
+    use super::{Mapping, MatchGroup, clone_all};
+    use std::alloc::{AllocError, Global};
+
+    /// A group, and the mappings that its right sides gave.
+    #[derive(Debug, Drop)]
+    pub struct Outcome<'spec, 'item> {
+        /// The group that was matched.
+        pub group: MatchGroup<'spec>,
+        /// What was matched. Sources are by the specs, destinations are names of items.
+        pub mappings: Vec<Mapping<'spec, 'item>>,
+    }
+
+    impl<'spec, 'item> Outcome<'spec, 'item> {
+        /// A copy, which borrows what this one borrows. Fails if memory runs out.
+        pub fn clone(&self, alloc: Global) -> Result<Outcome<'spec, 'item>, AllocError>
+            ensures specs { IfOk result (λ copy. copy.group.specs.items ≡ self.now.group.specs.items) }
+            ensures mappings { IfOk result (λ copy. AreMappingCopies self.now.mappings.items copy.mappings.items) }
+        {
+            Ok(Outcome {
+                group: self.group.clone(alloc)?,
+                mappings: clone_all(alloc, self.mappings.as_slice())?,
+            })
+        }
+    }
+}

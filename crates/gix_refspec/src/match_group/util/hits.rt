@@ -1,0 +1,342 @@
+//! Which items the specs of a group match, and the mappings that these make. A direction only
+//! chooses which end of a spec is near, and matches items, and which is far, and is filled.
+
+ghost use Rattle.std.specs.Prelude.{◌≡◌, ◌≢◌, ℕ, List, [], Option, None, Some, map, option_map, MatchOption, IfOk, OnOk, OnErr};
+ghost use Rattle.bstr.specs.BStr.{bstr_bytes};
+ghost use Rattle.gix_refspec.specs.Name.{HasSeveralStars};
+ghost use Rattle.gix_refspec.specs.Spec.{reading_of};
+ghost use Rattle.gix_refspec.specs.Lists.{IsMadeFrom};
+ghost use Rattle.gix_refspec.specs.Group.{name_bytes, ref_of, mapped_of};
+ghost use Rattle.gix_refspec.specs.ObjectId.{id_bytes};
+ghost use Rattle.gix_refspec.specs.Hits.{Ends as EndsOf, AreHits, forward_of, backward_of, IsIdMapping, AreForward, AreBackward};
+ghost use Rattle.gix_refspec.specs.Private.HitViews.{AsksForId, HasKindShown, HaveKinds, HasEnds, filled_end as end_filled, shown_hit, AreHitsOfKinds, HasHit, AddsHits};
+
+use super::fill::filled;
+use super::matched::matched;
+use crate::match_group::types::{Item, Mapping, NameRef, SourceRef};
+use crate::oid::ObjectId;
+use crate::side::{SideKind, kind_of};
+use crate::spec::RefSpecRef;
+use crate::types::Mode;
+use bstr::BStr;
+use std::alloc::{AllocError, Global};
+
+// The direction of matching.
+#[derive(Clone, Copy)]
+enum Direction {
+    // Sources match, and destinations are filled.
+    Forward,
+    // Destinations match, and sources are filled.
+    Backward,
+}
+
+// The ends of a spec, as a direction sees them.
+#[derive(Clone, Copy)]
+struct Ends<'spec> {
+    near: SideKind<'spec>,
+    far: Option<SideKind<'spec>>,
+}
+
+// An object that a spec asks for by its id, and the kind of the spec's destination.
+#[derive(Clone, Copy)]
+struct Asked<'spec> {
+    id: ObjectId,
+    destination: Option<SideKind<'spec>>,
+}
+
+// That a spec matched an item: the places of both, the item's name, and what the far end becomes.
+#[derive(Drop)]
+struct Hit<'spec, 'item> {
+    spec: usize,
+    item: usize,
+    near: BStr<'item>,
+    far: Option<NameRef<'spec>>,
+}
+
+// The mappings that are made, in the list of their direction. The other list stays empty.
+#[derive(Drop)]
+struct Made<'spec, 'item> {
+    forward: Vec<Mapping<'item, 'spec>>,
+    backward: Vec<Mapping<'spec, 'item>>,
+}
+
+// The mappings from left to right: those of ids by spec, then those of items by spec and item.
+pub(crate) fn forward<'spec, 'item>(
+    alloc: Global,
+    specs: &[RefSpecRef<'spec>],
+    items: &[Item<'item>],
+) -> Result<Vec<Mapping<'item, 'spec>>, AllocError>
+    ensures ok { IfOk result (λ list. AreForward
+        (map reading_of specs.now) (map ref_of items.now) (map mapped_of list.items)) }
+    ensures memory { OnErr result (¬ (AreForward
+        (map reading_of specs.now) (map ref_of items.now) [])) }
+{
+    let room = id_count(specs).saturating_add(hit_count(Direction::Forward, specs, items));
+    let mut made = Made {
+        forward: with_room(alloc, room)?,
+        backward: Vec::new(alloc),
+    };
+    add_ids(alloc, specs, &mut made.forward)?;
+    add_hits(alloc, Direction::Forward, specs, items, &mut made)?;
+    Ok(made.forward)
+}
+
+// The mappings from right to left, by spec and item.
+pub(crate) fn backward<'spec, 'item>(
+    alloc: Global,
+    specs: &[RefSpecRef<'spec>],
+    items: &[Item<'item>],
+) -> Result<Vec<Mapping<'spec, 'item>>, AllocError>
+    ensures ok { IfOk result (λ list. AreBackward
+        (map reading_of specs.now) (map ref_of items.now) (map mapped_of list.items)) }
+    ensures memory { OnErr result (¬ (AreBackward
+        (map reading_of specs.now) (map ref_of items.now) [])) }
+{
+    let room = hit_count(Direction::Backward, specs, items);
+    let mut made = Made {
+        forward: Vec::new(alloc),
+        backward: with_room(alloc, room)?,
+    };
+    add_hits(alloc, Direction::Backward, specs, items, &mut made)?;
+    Ok(made.backward)
+}
+
+// An empty list with room for so many. No room takes no memory.
+fn with_room<M>(alloc: Global, room: usize) -> Result<Vec<M>, AllocError>
+    ensures empty { IfOk result (λ list. list.items ≡ []) }
+    ensures memory { OnErr result (room ≢ 0) }
+{
+    if room == 0 {
+        return Ok(Vec::new(alloc));
+    }
+    Vec::with_capacity(alloc, room)
+}
+
+// From left to right an item's name is the source.
+fn forward_mapping<'spec, 'item>(hit: Hit<'spec, 'item>) -> Mapping<'item, 'spec>
+    ensures { mapped_of result ≡ forward_of (shown_hit hit.entry) }
+{
+    Mapping {
+        item_index: Some(hit.item),
+        lhs: SourceRef::FullName(NameRef::Borrowed(hit.near)),
+        rhs: hit.far,
+        spec_index: hit.spec,
+    }
+}
+
+// From right to left an item's name is the destination. The far end is there.
+fn backward_mapping<'spec, 'item>(hit: Hit<'spec, 'item>) -> Mapping<'spec, 'item>
+    ensures { mapped_of result ≡ backward_of (shown_hit hit.entry) }
+{
+    let source = hit.far.unwrap_or(NameRef::Borrowed(BStr::new(b"")));
+    Mapping {
+        item_index: Some(hit.item),
+        lhs: SourceRef::FullName(source),
+        rhs: Some(NameRef::Borrowed(hit.near)),
+        spec_index: hit.spec,
+    }
+}
+
+// Adds a mapping for each positive spec whose source is an id.
+fn add_ids<'spec, 'item>(
+    alloc: Global,
+    specs: &[RefSpecRef<'spec>],
+    mappings: &mut Vec<Mapping<'item, 'spec>>,
+) -> Result<(), AllocError>
+    requires { mappings.old.items ≡ [] }
+    ensures ok { OnOk result (IsMadeFrom
+        IsIdMapping 0 (map reading_of specs.now) (map mapped_of mappings.new.items)) }
+    ensures memory { OnErr result (¬ (IsMadeFrom IsIdMapping 0 (map reading_of specs.now) [])) }
+{
+    for (place, spec) in specs.iter().enumerate() {
+        if let Some(asked) = asked_of(spec) {
+            let mapping = Mapping {
+                item_index: None,
+                lhs: SourceRef::ObjectId(asked.id),
+                rhs: filled_end(alloc, asked.destination, None)?,
+                spec_index: place,
+            };
+            mappings.push(mapping)?;
+        }
+    }
+    Ok(())
+}
+
+// How many positive specs have an id as their source.
+fn id_count(specs: &[RefSpecRef<'_>]) -> usize
+    ensures { result ≢ 0 → ¬ (IsMadeFrom IsIdMapping 0 (map reading_of specs.now) []) }
+{
+    let mut count: usize = 0;
+    for spec in specs {
+        if asked_of(spec).is_some() {
+            count += 1;
+        }
+    }
+    count
+}
+
+// The object that a positive spec asks for by its id, and the kind of its destination.
+fn asked_of<'spec>(spec: &RefSpecRef<'spec>) -> Option<Asked<'spec>>
+    ensures { MatchOption result
+        ((bytes : List ℕ) → ¬ (AsksForId (reading_of spec.now) bytes))
+        (λ asked. AsksForId (reading_of spec.now) (id_bytes asked.id)
+        × HasKindShown (reading_of spec.now).destination asked.destination) }
+{
+    if spec.mode == Mode::Negative {
+        return None;
+    }
+    let SideKind::Object(id) = side_kind(spec.src)? else {
+        return None;
+    };
+    Some(Asked {
+        id,
+        destination: side_kind(spec.dst),
+    })
+}
+
+// Adds what the hits of the specs make.
+fn add_hits<'spec, 'item>(
+    alloc: Global,
+    direction: Direction,
+    specs: &[RefSpecRef<'spec>],
+    items: &[Item<'item>],
+    made: &mut Made<'spec, 'item>,
+) -> Result<(), AllocError>
+    ensures ok { OnOk result (AddsHits
+        direction (AreHits (HasEnds direction) (map reading_of specs.now) (map ref_of items.now))
+        made.old made.new) }
+    ensures memory { OnErr result (¬ (AreHits
+        (HasEnds direction) (map reading_of specs.now) (map ref_of items.now) [])) }
+{
+    for (place, spec) in specs.iter().enumerate() {
+        if let Some(ends) = ends_of(direction, spec) {
+            add_spec_hits(alloc, direction, place, ends, items, made)?;
+        }
+    }
+    Ok(())
+}
+
+// Adds what the hits of the spec at a place make, which has these ends.
+fn add_spec_hits<'spec, 'item>(
+    alloc: Global,
+    direction: Direction,
+    spec: usize,
+    ends: Ends<'spec>,
+    items: &[Item<'item>],
+    made: &mut Made<'spec, 'item>,
+) -> Result<(), AllocError>
+    ensures ok { OnOk result (AddsHits
+        direction (AreHitsOfKinds ends.entry spec (map ref_of items.now) (map ref_of items.now))
+        made.old made.new) }
+    ensures memory { OnErr result (HasHit ends.entry (map ref_of items.now)) }
+{
+    for (place, item) in items.iter().enumerate() {
+        if let Some(found) = matched(ends.near, item) {
+            let hit = Hit {
+                spec,
+                item: place,
+                near: item.full_ref_name,
+                far: filled_end(alloc, ends.far, found.word)?,
+            };
+            made.add(direction, hit)?;
+        }
+    }
+    Ok(())
+}
+
+impl<'spec, 'item> Made<'spec, 'item> {
+    ghost use Rattle.std.specs.Prelude.{◌∷◌, ◌++◌};
+    ghost use Rattle.gix_refspec.specs.Private.HitViews.{made_in, mapping_of};
+
+    // Adds what a hit makes.
+    fn add(&mut self, direction: Direction, hit: Hit<'spec, 'item>) -> Result<(), AllocError>
+        ensures { OnOk result (made_in direction self.new ≡
+            made_in direction self.old ++ mapping_of direction (shown_hit hit.entry) ∷ []) }
+    {
+        match direction {
+            Direction::Forward => self.forward.push(forward_mapping(hit))?,
+            Direction::Backward => self.backward.push(backward_mapping(hit))?,
+        }
+        Ok(())
+    }
+}
+
+// How many hits the specs have.
+fn hit_count(direction: Direction, specs: &[RefSpecRef<'_>], items: &[Item<'_>]) -> usize
+    ensures { result ≢ 0 →
+        ¬ (AreHits (HasEnds direction) (map reading_of specs.now) (map ref_of items.now) []) }
+{
+    let mut count: usize = 0;
+    for spec in specs {
+        if let Some(ends) = ends_of(direction, spec) {
+            count = count.saturating_add(spec_hit_count(ends, items));
+        }
+    }
+    count
+}
+
+// How many items a spec with these ends matches.
+fn spec_hit_count(ends: Ends<'_>, items: &[Item<'_>]) -> usize
+    ensures { result ≢ 0 → HasHit ends.entry (map ref_of items.now) }
+{
+    let mut count: usize = 0;
+    for item in items {
+        if matched(ends.near, item).is_some() {
+            count += 1;
+        }
+    }
+    count
+}
+
+// The ends of a spec.
+fn ends_of<'spec>(direction: Direction, spec: &RefSpecRef<'spec>) -> Option<Ends<'spec>>
+    ensures { MatchOption result
+        ((ends : EndsOf) → ¬ (HasEnds direction (reading_of spec.now) ends))
+        (λ found. (ends : EndsOf)
+        × HasEnds direction (reading_of spec.now) ends × HaveKinds ends found) }
+{
+    if spec.mode == Mode::Negative {
+        return None;
+    }
+    let source = side_kind(spec.src)?;
+    let destination = side_kind(spec.dst);
+    match direction {
+        Direction::Forward => match source {
+            SideKind::Object(_) => None,
+            near => Some(Ends {
+                near,
+                far: destination,
+            }),
+        },
+        Direction::Backward => Some(Ends {
+            near: destination?,
+            far: Some(source),
+        }),
+    }
+}
+
+// The kind of a side that is there.
+fn side_kind(side: Option<BStr<'_>>) -> Option<SideKind<'_>>
+    requires { MatchOption side (Unit {0}) (λ s. ¬ (HasSeveralStars (bstr_bytes s))) }
+    ensures { HasKindShown (option_map bstr_bytes side.entry) result }
+{
+    match side {
+        None => None,
+        Some(side) => Some(kind_of(side.as_bytes())),
+    }
+}
+
+// What the far end becomes, where there is one.
+fn filled_end<'spec>(
+    alloc: Global,
+    end: Option<SideKind<'spec>>,
+    word: Option<&[u8]>,
+) -> Result<Option<NameRef<'spec>>, AllocError>
+    ensures { IfOk result (λ name. option_map name_bytes name ≡
+        end_filled end.entry (option_map (λ w. w.now) word.entry)) }
+{
+    match end {
+        None => Ok(None),
+        Some(side) => Ok(Some(filled(alloc, side, word)?)),
+    }
+}

@@ -1,0 +1,236 @@
+//! What groups match.
+
+use gix_refspec::match_group::{Item, Mapping, NameRef, SourceRef};
+use gix_refspec::oid::ObjectId;
+use gix_refspec::parsing::Operation;
+use gix_refspec::{MatchGroup, parse};
+use bstr::BStr;
+use std::alloc::{AllocError, Global};
+use std::process::Abort;
+use std::test::Fail;
+
+// What items point to.
+const TARGET: &str = "1111111111111111111111111111111111111111";
+
+// The group of these specs, one a word.
+fn group_of<'a>(
+    alloc: Global,
+    operation: Operation,
+    specs: &'a str,
+) -> Result<MatchGroup<'a>, Fail> {
+    let mut group = MatchGroup::new(alloc);
+    for spec in specs.split(' ') {
+        group
+            .specs
+            .push(parse(alloc, BStr::new(spec.as_bytes()), operation)?)?;
+    }
+    Ok(group)
+}
+
+// Items with these names, one a word.
+fn items_of<'a>(
+    alloc: Global,
+    names: &'a str,
+    target: &'a ObjectId,
+) -> Result<Vec<Item<'a>>, AllocError> {
+    let mut items = Vec::new(alloc);
+    for name in names.split(' ') {
+        items.push(Item {
+            full_ref_name: BStr::new(name.as_bytes()),
+            target,
+            object: None,
+        })?;
+    }
+    Ok(items)
+}
+
+// A mapping as rows write it: the places of item and spec, source and destination, with `-` for
+// what is missing and a `=` before a name that is owned.
+fn line(alloc: Global, mapping: &Mapping<'_, '_>) -> Result<String, AllocError> {
+    let source = match &mapping.lhs {
+        SourceRef::FullName(name) => shown(alloc, name)?,
+        SourceRef::ObjectId(id) => format!(in alloc; "{id}")?,
+    };
+    let destination = match &mapping.rhs {
+        None => format!(in alloc; "-")?,
+        Some(name) => shown(alloc, name)?,
+    };
+    let spec = mapping.spec_index;
+    match mapping.item_index {
+        None => format!(in alloc; "- {spec} {source} {destination}\n"),
+        Some(item) => format!(in alloc; "{item} {spec} {source} {destination}\n"),
+    }
+}
+
+// A name, with a `=` before one that is owned.
+fn shown(alloc: Global, name: &NameRef<'_>) -> Result<String, AllocError> {
+    match name {
+        NameRef::Borrowed(name) => format!(in alloc; "{name}"),
+        NameRef::Owned(name) => format!(in alloc; "={name}"),
+    }
+}
+
+// Mappings as rows write them, one a line.
+fn lines(alloc: Global, mappings: &[Mapping<'_, '_>]) -> Result<String, AllocError> {
+    let mut text = String::new(alloc);
+    for mapping in mappings {
+        text.push_str(line(alloc, mapping)?.as_str())?;
+    }
+    Ok(text)
+}
+
+// Whether specs map items from left to right as is written beside them.
+fn check_forward(
+    rt: &impl Abort,
+    alloc: Global,
+    operation: Operation,
+    rows: &[(&str, &str, &str)],
+) -> Result<(), Fail> {
+    let target = ObjectId::from_hex(TARGET.as_bytes())?;
+    for (specs, names, wanted) in rows {
+        let items = items_of(alloc, names, &target)?;
+        let outcome = group_of(alloc, operation, specs)?.match_lhs(alloc, items.as_slice())?;
+        let found = lines(alloc, outcome.mappings.as_slice())?;
+        assert_eq!(rt; found.as_str(), *wanted, "{specs} over {names}");
+    }
+    Ok(())
+}
+
+// Whether fetch specs map items from right to left as is written beside them.
+fn check_backward(rt: &impl Abort, alloc: Global, rows: &[(&str, &str, &str)]) -> Result<(), Fail> {
+    let target = ObjectId::from_hex(TARGET.as_bytes())?;
+    for (specs, names, wanted) in rows {
+        let items = items_of(alloc, names, &target)?;
+        let group = group_of(alloc, Operation::Fetch, specs)?;
+        let outcome = group.match_rhs(alloc, items.as_slice())?;
+        let found = lines(alloc, outcome.mappings.as_slice())?;
+        assert_eq!(rt; found.as_str(), *wanted, "{specs} back over {names}");
+    }
+    Ok(())
+}
+
+#[test]
+fn maps_from_left_to_right(rt: HostRuntime) -> Result<(), Fail> {
+    let rows = [
+        (
+            "refs/heads/a*a:refs/x/b*",
+            "refs/heads/a refs/heads/aa",
+            "1 0 refs/heads/aa =refs/x/b\n",
+        ),
+        (
+            "refs/heads/*:refs/remotes/origin/* ^refs/heads/x* ^main",
+            "refs/heads/main refs/heads/x1 refs/heads/main",
+            "0 0 refs/heads/main =refs/remotes/origin/main\n",
+        ),
+        (
+            "main:refs/remotes/origin/main",
+            "refs/tags/main refs/heads/main",
+            "0 0 refs/tags/main refs/remotes/origin/main\n\
+             1 0 refs/heads/main refs/remotes/origin/main\n",
+        ),
+        (
+            "refs/heads/a:refs/y/a AAAAAAAAAAAAAAAAAAAAAAAAAAAAAAAAAAAAAAAA:x",
+            "refs/heads/a",
+            "- 1 aaaaaaaaaaaaaaaaaaaaaaaaaaaaaaaaaaaaaaaa =refs/heads/x\n0 0 refs/heads/a refs/y/a\n",
+        ),
+        (
+            "AAAAAAAAAAAAAAAAAAAAAAAAAAAAAAAAAAAAAAAA:refs/heads/x ^refs/heads/aaaaaaaaaaaaaaaaaaaaaaaaaaaaaaaaaaaaaaaa",
+            "refs/heads/x",
+            "- 0 aaaaaaaaaaaaaaaaaaaaaaaaaaaaaaaaaaaaaaaa refs/heads/x\n",
+        ),
+        // A matcher that told names apart by a 64-bit hash would take these for one.
+        (
+            "refs/heads/*:refs/x/*",
+            "refs/heads/ce9518687c2ca417 refs/heads/4b2c557329ca4bff",
+            "0 0 refs/heads/ce9518687c2ca417 =refs/x/ce9518687c2ca417\n\
+             1 0 refs/heads/4b2c557329ca4bff =refs/x/4b2c557329ca4bff\n",
+        ),
+    ];
+    check_forward(&rt, rt.alloc(), Operation::Fetch, &rows)
+}
+
+#[test]
+fn maps_pushes_without_a_destination(rt: HostRuntime) -> Result<(), Fail> {
+    let rows = [
+        ("main", "refs/heads/main", "0 0 refs/heads/main -\n"),
+        (
+            "main:main",
+            "refs/heads/main",
+            "0 0 refs/heads/main =refs/heads/main\n",
+        ),
+    ];
+    check_forward(&rt, rt.alloc(), Operation::Push, &rows)
+}
+
+#[test]
+fn fills_destinations(rt: HostRuntime) -> Result<(), Fail> {
+    let rows = [
+        (
+            "refs/q:refs/heads/main",
+            "refs/q",
+            "0 0 refs/q refs/heads/main\n",
+        ),
+        ("refs/q:main", "refs/q", "0 0 refs/q =refs/heads/main\n"),
+        ("refs/q:HEAD", "refs/q", "0 0 refs/q =refs/heads/HEAD\n"),
+        ("refs/q:tags/x", "refs/q", "0 0 refs/q =refs/tags/x\n"),
+        ("refs/q:remotes/x", "refs/q", "0 0 refs/q =refs/remotes/x\n"),
+        ("refs/q:tagsx", "refs/q", "0 0 refs/q =refs/heads/tagsx\n"),
+        (
+            "refs/q:AAAAAAAAAAAAAAAAAAAAAAAAAAAAAAAAAAAAAAAA",
+            "refs/q",
+            "0 0 refs/q =refs/heads/aaaaaaaaaaaaaaaaaaaaaaaaaaaaaaaaaaaaaaaa\n",
+        ),
+        (
+            "refs/q/*:refs/x/*",
+            "refs/q/a/b",
+            "0 0 refs/q/a/b =refs/x/a/b\n",
+        ),
+        ("refs/q*:refs/x/b*", "refs/q", "0 0 refs/q =refs/x/b\n"),
+        ("*:*", "HEAD", "0 0 HEAD =HEAD\n"),
+    ];
+    check_forward(&rt, rt.alloc(), Operation::Fetch, &rows)
+}
+
+#[test]
+fn maps_from_right_to_left(rt: HostRuntime) -> Result<(), Fail> {
+    let rows = [
+        (
+            "refs/heads/*:refs/remotes/origin/* ^refs/heads/x",
+            "refs/remotes/origin/x refs/remotes/origin/y",
+            "1 0 =refs/heads/y refs/remotes/origin/y\n",
+        ),
+        (
+            "refs/heads/main:main",
+            "refs/tags/main refs/heads/main",
+            "0 0 refs/heads/main refs/tags/main\n1 0 refs/heads/main refs/heads/main\n",
+        ),
+        ("main", "refs/heads/main", ""),
+        (
+            "AAAAAAAAAAAAAAAAAAAAAAAAAAAAAAAAAAAAAAAA:refs/heads/x ^refs/heads/aaaaaaaaaaaaaaaaaaaaaaaaaaaaaaaaaaaaaaaa",
+            "refs/heads/x",
+            "",
+        ),
+    ];
+    check_backward(&rt, rt.alloc(), &rows)
+}
+
+#[test]
+fn matches_tags_by_their_objects(rt: HostRuntime) -> Result<(), Fail> {
+    let alloc = rt.alloc();
+    let target = ObjectId::from_hex(TARGET.as_bytes())?;
+    let object = ObjectId::from_hex(b"aaaaaaaaaaaaaaaaaaaaaaaaaaaaaaaaaaaaaaaa")?;
+    let items = [Item {
+        full_ref_name: BStr::new(b"refs/q"),
+        target: &target,
+        object: Some(&object),
+    }];
+    let specs = "main:aaaaaaaaaaaaaaaaaaaaaaaaaaaaaaaaaaaaaaaa";
+    let outcome = group_of(alloc, Operation::Fetch, specs)?.match_rhs(alloc, &items)?;
+    let found = lines(alloc, outcome.mappings.as_slice())?;
+    assert_eq!(&rt;
+        found.as_str(),
+        "0 0 =refs/heads/main refs/q\n",
+        "by the object"
+    );
+    Ok(())
+}
