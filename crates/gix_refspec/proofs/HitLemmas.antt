@@ -7,11 +7,11 @@ use Rattle.bstr.specs.BStr.{bstr_bytes}
 use Rattle.gix_refspec.specs.declared.match_group.types.Item.{Item}
 use Rattle.gix_refspec.specs.declared.match_group.types.NameRef.{NameRef}
 use Rattle.gix_refspec.specs.declared.match_group.util.matched.Match.{Match}
-use Rattle.gix_refspec.specs.declared.match_group.util.hits.Direction.{Direction}
-use Rattle.gix_refspec.specs.declared.match_group.util.hits.Direction.TheVariants.{Forward, Backward}
-use Rattle.gix_refspec.specs.declared.match_group.util.hits.Ends.{Ends as DeclaredEnds}
+use Rattle.gix_refspec.specs.declared.match_group.util.ends.Direction.{Direction}
+use Rattle.gix_refspec.specs.declared.match_group.util.ends.Direction.TheVariants.{Forward, Backward}
+use Rattle.gix_refspec.specs.declared.match_group.util.ends.Ends.{Ends as DeclaredEnds}
 use Rattle.gix_refspec.specs.declared.match_group.util.hits.Made.{Made}
-use Rattle.gix_refspec.specs.declared.match_group.util.hits.Asked.{Asked}
+use Rattle.gix_refspec.specs.declared.match_group.util.ends.Asked.{Asked}
 use Rattle.gix_refspec.specs.declared.match_group.types.Mapping.{Mapping}
 use Rattle.gix_refspec.specs.declared.match_group.types.SourceRef.TheVariants as source_ref
 use Rattle.gix_refspec.specs.declared.side.SideKind.{SideKind as DeclaredKind}

@@ -33,8 +33,8 @@ impl<'spec> MatchGroup<'spec> {
     /// specs. Other destinations are owned: a pattern with the word for its star, and the names of
     /// branches, tags or remote refs that ids and partial names become.
     ///
-    /// `NoRoom` comes where memory ran out, and never where no spec matches anything. It holds the
-    /// group as it was.
+    /// Fails with `NoRoom` if memory runs out, and never where the specs ask for no id and match no
+    /// item. It holds the group as it was.
     pub fn match_lhs<'item>(
         self,
         alloc: Global,
@@ -66,8 +66,8 @@ impl<'spec> MatchGroup<'spec> {
     /// is, and a source that is an id becomes the name of a branch. Negative specs exclude by the
     /// source.
     ///
-    /// `NoRoom` comes where memory ran out, and never where no spec matches anything. It holds the
-    /// group as it was.
+    /// Fails with `NoRoom` if memory runs out, and never where the specs ask for no id and match no
+    /// item. It holds the group as it was.
     pub fn match_rhs<'item>(
         self,
         alloc: Global,

@@ -2,9 +2,9 @@
 use Rattle.std.specs.Prelude.{◌≡◌, ◌⊎◌, ℕ, List, [], ◌++◌, Option, None, Some, map, option_map, codes}
 use Rattle.bstr.specs.BStr.{bstr_bytes}
 use Rattle.gix_refspec.specs.declared.match_group.util.matched.Match.{Match}
-use Rattle.gix_refspec.specs.declared.match_group.util.hits.Direction.{Direction}
-use Rattle.gix_refspec.specs.declared.match_group.util.hits.Direction.TheVariants.{Forward, Backward}
-use Rattle.gix_refspec.specs.declared.match_group.util.hits.Ends.{Ends as DeclaredEnds}
+use Rattle.gix_refspec.specs.declared.match_group.util.ends.Direction.{Direction}
+use Rattle.gix_refspec.specs.declared.match_group.util.ends.Direction.TheVariants.{Forward, Backward}
+use Rattle.gix_refspec.specs.declared.match_group.util.ends.Ends.{Ends as DeclaredEnds}
 use Rattle.gix_refspec.specs.declared.match_group.util.hits.Hit.{Hit as DeclaredHit}
 use Rattle.gix_refspec.specs.declared.match_group.util.hits.Made.{Made}
 use Rattle.gix_refspec.specs.declared.side.SideKind.{SideKind as DeclaredKind}

@@ -1,5 +1,6 @@
 //! The parts of matching.
 
+mod ends;
 mod fill;
 pub(crate) mod hits;
 pub(crate) mod kept;

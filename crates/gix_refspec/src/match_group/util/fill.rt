@@ -6,6 +6,7 @@ ghost use Rattle.gix_refspec.specs.ObjectId.{id_bytes, lower_of};
 ghost use Rattle.gix_refspec.specs.Side.{filled as filled_by, full_name_of};
 ghost use Rattle.gix_refspec.specs.Private.SideViews.{shown_kind};
 ghost use Rattle.gix_refspec.specs.Group.{name_bytes};
+ghost use Rattle.gix_refspec.specs.HitViews.{filled_end as end_filled};
 
 use crate::match_group::types::NameRef;
 use crate::oid::ObjectId;
@@ -13,9 +14,24 @@ use crate::side::{SideKind, joined};
 use bstr::{BStr, BString};
 use std::alloc::{AllocError, Global};
 
+// What the far end becomes, where there is one.
+pub(crate) fn filled_end<'spec>(
+    alloc: Global,
+    end: Option<SideKind<'spec>>,
+    word: Option<&[u8]>,
+) -> Result<Option<NameRef<'spec>>, AllocError>
+    ensures { IfOk result (λ name. option_map name_bytes name ≡
+        end_filled end.entry (option_map (λ w. w.now) word.entry)) }
+{
+    match end {
+        None => Ok(None),
+        Some(side) => Ok(Some(filled(alloc, side, word)?)),
+    }
+}
+
 // What a side becomes where the other side matched with this word, or with none. A full name is
 // borrowed from the spec.
-pub(crate) fn filled<'spec>(
+fn filled<'spec>(
     alloc: Global,
     side: SideKind<'spec>,
     word: Option<&[u8]>,

@@ -1,48 +1,20 @@
 //! Which items the specs of a group match, and the mappings that these make. A direction only
 //! chooses which end of a spec is near, and matches items, and which is far, and is filled.
 
-ghost use Rattle.std.specs.Prelude.{◌≡◌, ◌≢◌, ℕ, List, [], Option, None, Some, map, option_map, MatchOption, IfOk, OnOk, OnErr};
-ghost use Rattle.bstr.specs.BStr.{bstr_bytes};
-ghost use Rattle.gix_refspec.specs.Name.{HasSeveralStars};
+ghost use Rattle.std.specs.Prelude.{◌≡◌, ◌≢◌, [], map, IfOk, OnOk, OnErr};
 ghost use Rattle.gix_refspec.specs.Spec.{reading_of};
 ghost use Rattle.gix_refspec.specs.Lists.{IsMadeFrom};
-ghost use Rattle.gix_refspec.specs.Group.{name_bytes, ref_of, mapped_of};
-ghost use Rattle.gix_refspec.specs.ObjectId.{id_bytes};
-ghost use Rattle.gix_refspec.specs.Hits.{Ends as EndsOf, AreHits, forward_of, backward_of, IsIdMapping, AreForward, AreBackward};
-ghost use Rattle.gix_refspec.specs.Private.HitViews.{AsksForId, HasKindShown, HaveKinds, HasEnds, filled_end as end_filled, shown_hit, AreHitsOfKinds, HasHit, AddsHits};
+ghost use Rattle.gix_refspec.specs.Group.{ref_of, mapped_of};
+ghost use Rattle.gix_refspec.specs.Hits.{AreHits, forward_of, backward_of, IsIdMapping, AreForward, AreBackward};
+ghost use Rattle.gix_refspec.specs.HitViews.{HasEnds, shown_hit, AreHitsOfKinds, HasHit, AddsHits};
 
-use super::fill::filled;
+use super::ends::{Direction, Ends, asked_of, ends_of};
+use super::fill::filled_end;
 use super::matched::matched;
 use crate::match_group::types::{Item, Mapping, NameRef, SourceRef};
-use crate::oid::ObjectId;
-use crate::side::{SideKind, kind_of};
 use crate::spec::RefSpecRef;
-use crate::types::Mode;
 use bstr::BStr;
 use std::alloc::{AllocError, Global};
-
-// The direction of matching.
-#[derive(Clone, Copy)]
-enum Direction {
-    // Sources match, and destinations are filled.
-    Forward,
-    // Destinations match, and sources are filled.
-    Backward,
-}
-
-// The ends of a spec, as a direction sees them.
-#[derive(Clone, Copy)]
-struct Ends<'spec> {
-    near: SideKind<'spec>,
-    far: Option<SideKind<'spec>>,
-}
-
-// An object that a spec asks for by its id, and the kind of the spec's destination.
-#[derive(Clone, Copy)]
-struct Asked<'spec> {
-    id: ObjectId,
-    destination: Option<SideKind<'spec>>,
-}
 
 // That a spec matched an item: the places of both, the item's name, and what the far end becomes.
 #[derive(Drop)]
@@ -175,25 +147,6 @@ fn id_count(specs: &[RefSpecRef<'_>]) -> usize
     count
 }
 
-// The object that a positive spec asks for by its id, and the kind of its destination.
-fn asked_of<'spec>(spec: &RefSpecRef<'spec>) -> Option<Asked<'spec>>
-    ensures { MatchOption result
-        ((bytes : List ℕ) → ¬ (AsksForId (reading_of spec.now) bytes))
-        (λ asked. AsksForId (reading_of spec.now) (id_bytes asked.id)
-        × HasKindShown (reading_of spec.now).destination asked.destination) }
-{
-    if spec.mode == Mode::Negative {
-        return None;
-    }
-    let SideKind::Object(id) = side_kind(spec.src)? else {
-        return None;
-    };
-    Some(Asked {
-        id,
-        destination: side_kind(spec.dst),
-    })
-}
-
 // Adds what the hits of the specs make.
 fn add_hits<'spec, 'item>(
     alloc: Global,
@@ -286,57 +239,4 @@ fn spec_hit_count(ends: Ends<'_>, items: &[Item<'_>]) -> usize
         }
     }
     count
-}
-
-// The ends of a spec.
-fn ends_of<'spec>(direction: Direction, spec: &RefSpecRef<'spec>) -> Option<Ends<'spec>>
-    ensures { MatchOption result
-        ((ends : EndsOf) → ¬ (HasEnds direction (reading_of spec.now) ends))
-        (λ found. (ends : EndsOf)
-        × HasEnds direction (reading_of spec.now) ends × HaveKinds ends found) }
-{
-    if spec.mode == Mode::Negative {
-        return None;
-    }
-    let source = side_kind(spec.src)?;
-    let destination = side_kind(spec.dst);
-    match direction {
-        Direction::Forward => match source {
-            SideKind::Object(_) => None,
-            near => Some(Ends {
-                near,
-                far: destination,
-            }),
-        },
-        Direction::Backward => Some(Ends {
-            near: destination?,
-            far: Some(source),
-        }),
-    }
-}
-
-// The kind of a side that is there.
-fn side_kind(side: Option<BStr<'_>>) -> Option<SideKind<'_>>
-    requires { MatchOption side (Unit {0}) (λ s. ¬ (HasSeveralStars (bstr_bytes s))) }
-    ensures { HasKindShown (option_map bstr_bytes side.entry) result }
-{
-    match side {
-        None => None,
-        Some(side) => Some(kind_of(side.as_bytes())),
-    }
-}
-
-// What the far end becomes, where there is one.
-fn filled_end<'spec>(
-    alloc: Global,
-    end: Option<SideKind<'spec>>,
-    word: Option<&[u8]>,
-) -> Result<Option<NameRef<'spec>>, AllocError>
-    ensures { IfOk result (λ name. option_map name_bytes name ≡
-        end_filled end.entry (option_map (λ w. w.now) word.entry)) }
-{
-    match end {
-        None => Ok(None),
-        Some(side) => Ok(Some(filled(alloc, side, word)?)),
-    }
 }

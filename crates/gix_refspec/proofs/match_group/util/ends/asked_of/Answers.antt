@@ -2,7 +2,7 @@
 use Rattle.std.proofs.Common.{inl, inr}
 use Rattle.gix_refspec.specs.Spec.{reading_of}
 use Rattle.gix_refspec.proofs.HitLemmas.{few_side, no_id}
-use Rattle.gix_refspec.proofs.match_group.util.hits.asked_of.Goals as goal
+use Rattle.gix_refspec.proofs.match_group.util.ends.asked_of.Goals as goal
 
 pub side_kind-requires : goal.side_kind-requires
 side_kind-requires c = few_side (reading_of c.args.spec.now) c.args.spec.now.src c.args.spec.now.accepted (λ x is. inl is)

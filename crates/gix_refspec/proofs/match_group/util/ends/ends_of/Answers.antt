@@ -5,7 +5,7 @@ use Rattle.gix_refspec.specs.Grammar.{IsPositive}
 use Rattle.gix_refspec.specs.Spec.{reading_of}
 use Rattle.gix_refspec.specs.Private.HitViews.{HasEnds, HasKindShown}
 use Rattle.gix_refspec.proofs.HitLemmas.{few_side, no_forward_ends, forward_ends, backward_ends}
-use Rattle.gix_refspec.proofs.match_group.util.hits.ends_of.Goals as goal
+use Rattle.gix_refspec.proofs.match_group.util.ends.ends_of.Goals as goal
 
 pub side_kind-requires : goal.side_kind-requires
 side_kind-requires c = few_side (reading_of c.args.spec.now) c.args.spec.now.src c.args.spec.now.accepted (λ x is. inl is)
