@@ -23,11 +23,11 @@ build: $(PROGRAM)
 # status 0. The pipe keeps the status of rt, by pipefail.
 $(PROGRAM): $(SOURCES) | kit
 	@mkdir -p $(LOGS)
-	@echo "make: proves the library and the program, and builds it: some minutes the first time, then less;" \
+	@echo "make: proving and building the library and the program: 5 to 15 minutes the first time, then less;" \
 	    "log: $(LOGS)/build.log" >&2
 	@{ (cd $(LIBRARY) && rt check) && (cd $(FOLDER) && rt check && rt run -- canon push); } </dev/null 2>&1 \
 	| tee $(LOGS)/build.log >&2 \
-	|| { echo "make: not built, as $(LOGS)/build.log says" >&2; exit 1; }
+	|| { status=$$?; echo "make: not built, as $(LOGS)/build.log says" >&2; exit $$status; }
 	@touch $@
 
 run: build

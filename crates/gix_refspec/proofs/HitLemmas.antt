@@ -24,14 +24,14 @@ use Rattle.gix_refspec.specs.Reading.{Reading}
 use Rattle.gix_refspec.specs.Grammar.{IsAccepted, IsPositive}
 use Rattle.gix_refspec.specs.Spec.{reading_of}
 use Rattle.gix_refspec.specs.Side.{SideKind, pattern, full_name, object, partial, HasKind, Fits, IsCandidate, candidates, filled}
-use Rattle.gix_refspec.specs.Private.SideViews.{shown_kind}
 use Rattle.gix_refspec.specs.Match.{Ref, MatchesAs, Matches}
 use Rattle.gix_refspec.specs.Lists.{MakesOf, IsMadeFrom}
 use Rattle.gix_refspec.specs.Mappings.{Mapped, IsKept, Stays}
 use Rattle.gix_refspec.specs.Group.{name_bytes, mapped_of, ref_of}
 use Rattle.gix_refspec.specs.Hits.{Ends, OneForward, OneBackward, IsIdMapping, AreForward, AreBackward, forward_of, backward_of, AreForwardEnds, AreBackwardEnds, AreSpecHits, AreHits, Hit, IsHit, IsFilled}
-use Rattle.gix_refspec.specs.Mappings as mappings
+use Rattle.gix_refspec.specs.Private.SideViews.{shown_kind}
 use Rattle.gix_refspec.specs.Private.HitViews.{AsksForId, word_of, IsPlace, HasKindShown, HaveKinds, HasEnds, filled_end, AreHitsOfKinds, HasHit, mapping_of, made_in, AddsHits}
+use Rattle.gix_refspec.specs.Mappings as mappings
 use Rattle.gix_refspec.proofs.ObjectIdLemmas.{IsIdText-unique}
 use Rattle.gix_refspec.proofs.AcceptedLemmas.{accepted_few}
 use Rattle.gix_refspec.proofs.MatchLemmas.{one_word, lacks_no_pattern, cut_once}

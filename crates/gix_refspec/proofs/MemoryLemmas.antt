@@ -1,9 +1,10 @@
 -- Errors that are want of memory, and the others.
 use Rattle.std.proofs.Common.{◌≡◌, ◌≢◌, refl, subst}
 use Rattle.gix_refspec.specs.declared.parsing.Error.{Error}
-use Rattle.gix_refspec.specs.declared.parsing.Error.TheVariants as error
 use Rattle.gix_refspec.specs.Refusal.{Refusal}
-use Rattle.gix_refspec.specs.Views.{MemoryOr, ShowsRefusal}
+use Rattle.gix_refspec.specs.Private.Sides.{MemoryOr}
+use Rattle.gix_refspec.specs.Views.{ShowsRefusal}
+use Rattle.gix_refspec.specs.declared.parsing.Error.TheVariants as error
 
 -- an error that isn't want of memory is a refusal
 pub shows_refusal : (M : Type 0) (P : Refusal → Type 0) (e : Error) → MemoryOr M P e → e ≢ error.Memory → ShowsRefusal P e

@@ -8,7 +8,6 @@ use Rattle.gix_refspec.specs.declared.parsing.function.Side.{Side}
 use Rattle.gix_refspec.specs.declared.parsing.function.Side.TheVariants.{Plain, Pattern}
 use Rattle.gix_refspec.specs.declared.parsing.function.Parts.{Parts}
 use Rattle.gix_refspec.specs.declared.parsing.function.Sides.{Sides}
-use Rattle.bstr.specs.BStr.{bstr_bytes}
 use Rattle.gix_refspec.specs.Name.{IsName, IsPattern}
 use Rattle.gix_refspec.specs.Reading.{Mode, Normal, Forced, Negative, Reading}
 use Rattle.gix_refspec.specs.Refusal.{Refusal, Never, IsFirstReason, IsRefused, ReachesMemory, MayWantMemory}
@@ -16,6 +15,7 @@ use Rattle.gix_refspec.specs.Bytes.{head}
 use Rattle.gix_refspec.specs.Grammar.{named_by, IsPositive, IsNameOrPattern, LooksLikeObjectHash, AreAlike, AreParts, fetched, pushed, Reads, fetches_nothing_named, fetches_colon, fetches, updates, updates_from_head, fetch_excludes, pushes_plus, pushes_colon, pushes, deletes, pushes_pattern, pushes_to, push_excludes}
 use Rattle.gix_refspec.specs.Views.{mode_of}
 use Rattle.gix_refspec.specs.Private.Sides.{IsErrorOf, IsSide, IsCheckedSide, side_of, named_or_head, destination_of, HasParts, read_as, IsReasonAgainst}
+use Rattle.bstr.specs.BStr.{bstr_bytes}
 use Rattle.gix_refspec.proofs.SideLemmas.{Never-or, checked_starred, empty_no_pattern}
 use Rattle.gix_refspec.proofs.PartsLemmas.{parts_once}
 use Rattle.gix_refspec.proofs.ReasonLemmas.{MemoryOr-map, positive, no_empty_fetch, no_negative, no_fetch_nowhere, fetch_source_fine, push_source_fine, alone_fine, destination_fine, sides_balanced}

@@ -5,14 +5,13 @@ use Rattle.gix_refspec.specs.declared.parsing.Operation.TheVariants.{Push, Fetch
 use Rattle.gix_refspec.specs.declared.parsing.function.Side.{Side}
 use Rattle.gix_refspec.specs.declared.parsing.function.Side.TheVariants.{Plain, Pattern}
 use Rattle.gix_refspec.specs.declared.parsing.Error.{Error}
-use Rattle.gix_refspec.specs.declared.parsing.Error.TheVariants as error
 use Rattle.gix_refspec.specs.Name.{HasStar}
 use Rattle.gix_refspec.specs.Bytes.{star}
 use Rattle.gix_refspec.specs.Reading.{Mode, Normal, Negative}
 use Rattle.gix_refspec.specs.Refusal.{Refusal, PatternUnbalanced, NegativeEmpty, NegativeObjectHash, IsBadPattern, IsEmptyPush, HasNegativeDestination, PushesNowhere, HasBadSource, HasBadDestination, IsUnbalanced, IsOneStarred, Never, IsFirstReason, WantsMemory, NoReasonBeforeSource, ReachesMemory}
 use Rattle.gix_refspec.specs.Grammar.{IsPositive, LooksLikeObjectHash}
-use Rattle.gix_refspec.specs.Views.{MemoryOr}
-use Rattle.gix_refspec.specs.Private.Sides.{IsSide, IsCheckedSide, IsBadSide, IsReason}
+use Rattle.gix_refspec.specs.Private.Sides.{MemoryOr, IsSide, IsCheckedSide, IsBadSide, IsReason}
+use Rattle.gix_refspec.specs.declared.parsing.Error.TheVariants as error
 use Rattle.gix_refspec.proofs.TextLemmas.{Lacks-Holds}
 use Rattle.gix_refspec.proofs.SideLemmas.{checked_fine, starred_fine, checked_starred, HasStar-pattern, HasStar-bad}
 

@@ -4,9 +4,7 @@ use Rattle.std.proofs.lemmas.Bool.{false≢true, eqb-true}
 use denote.Enum.Bare.{sameb}
 use Rattle.gix_refspec.specs.contracts.types.Mode.{the_type as the_mode}
 use Rattle.gix_refspec.specs.declared.types.Mode.{Mode as DeclaredMode}
-use Rattle.gix_refspec.specs.declared.types.Mode.TheVariants as declared_mode
 use Rattle.gix_refspec.specs.declared.name.Error.TheVariants.{Asterisk}
-use Rattle.gix_refspec.specs.declared.name.PatternError.TheVariants as found
 use Rattle.gix_refspec.specs.declared.parsing.function.Side.{Side}
 use Rattle.gix_refspec.specs.declared.parsing.function.Side.TheVariants.{Plain, Pattern}
 use Rattle.gix_refspec.specs.Text.{Lacks}
@@ -17,6 +15,8 @@ use Rattle.gix_refspec.specs.Refusal.{Refusal, Empty, NegativeWithDestination, P
 use Rattle.gix_refspec.specs.Views.{mode_of}
 use Rattle.gix_refspec.specs.Laws.{NothingAgainst}
 use Rattle.gix_refspec.specs.Private.Sides.{IsSide, IsCheckedSide, IsBadSide}
+use Rattle.gix_refspec.specs.declared.types.Mode.TheVariants as declared_mode
+use Rattle.gix_refspec.specs.declared.name.PatternError.TheVariants as found
 use Rattle.gix_refspec.proofs.TextLemmas.{Lacks-Holds, Lacks-from_absent, first_once, one_not_two}
 
 -- neither P nor, behind it, Q

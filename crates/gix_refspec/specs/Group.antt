@@ -14,12 +14,12 @@ use Rattle.gix_refspec.specs.declared.match_group.types.MatchGroup.{MatchGroup}
 use Rattle.gix_refspec.specs.declared.parsing.Operation.{Operation}
 use Rattle.gix_refspec.specs.declared.parsing.Operation.TheVariants.{Push, Fetch}
 use Rattle.gix_refspec.specs.declared.spec.RefSpecRef.{RefSpecRef}
-use Rattle.bstr.specs.Utf8.{lossy_chars}
 use Rattle.gix_refspec.specs.ObjectId.{id_bytes, lower_of}
 use Rattle.gix_refspec.specs.Reading.{Reading}
 use Rattle.gix_refspec.specs.Spec.{reading_of}
 use Rattle.gix_refspec.specs.Match.{Ref}
 use Rattle.gix_refspec.specs.Mappings.{Start, name, id, Mapped}
+use Rattle.bstr.specs.Utf8.{lossy_chars}
 
 -- the bytes of a name
 abbrev pub name_bytes : NameRef → List ℕ

@@ -112,6 +112,6 @@ pub record HasCandidates (x : List ℕ) : Type 0 where
   pub only : (list : List (List ℕ)) → Expands x list → list ≡ candidates x
   pub matches : (r : Ref) → ((word : Option (List ℕ)) × Matches x r word) ↔ IsCandidate x r.name
 
--- so is a side without a star that isn't `HEAD`, begins no `refs/` and is no id
+-- this holds of a side that has no star, isn't `HEAD`, begins no `refs/` and is no id
 abbrev pub Candidates : List ℕ → Type 0
 Candidates x = Lacks star x → x ≢ head → ¬ (Begins (codes "refs/") x) → ¬ (IsId x) → HasCandidates x

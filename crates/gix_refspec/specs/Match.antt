@@ -1,5 +1,6 @@
 -- What a side of a refspec matches among the refs of a repository. That a partial name matches all of
--- its candidates, and not the first alone, is this project's own rule, and so is that an id matches.
+-- its candidates, and not the first alone, is this project's own rule, and so is that an id matches each
+-- ref that points to it.
 use Rattle.std.specs.Prelude.{◌≡◌, ◌⊎◌, ℕ, List, Option, None, Some}
 use Rattle.gix_refspec.specs.Side.{SideKind, pattern, full_name, object, partial, HasKind, IsCandidate, Fits}
 

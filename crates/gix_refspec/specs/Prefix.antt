@@ -1,5 +1,5 @@
 -- What a client asks a server to advertise for a refspec: prefixes of names, by gitprotocol-v2(5) under
--- `ls-refs`, and for a name that is given short those of gitrevisions(7). This project's own rule where a
+-- `ls-refs`, and for a partial name those of gitrevisions(7). This project's own rule where a
 -- side has a star outside `refs/`, a star directly behind `refs/`, or a star and a `]`.
 use Rattle.std.specs.Prelude.{◌≡◌, ◌≢◌, ◌⊎◌, ℕ, List, [], ◌∷◌, ◌++◌, Some, codes}
 use Rattle.gix_refspec.specs.Text.{Lacks, Holds, Begins}

@@ -16,11 +16,11 @@ pub data SideKind : Type 0 where
   object : List ℕ → SideKind
   partial : List ℕ → SideKind
 
--- the text of an id
+-- x is the text of an id
 abbrev pub IsId : List ℕ → Type 0
 IsId x = (id : List ℕ) × IsIdText x id
 
--- the kind of a side. One with several stars has none
+-- k is the kind of the side x. A side with several stars has none
 abbrev pub HasKind : List ℕ → SideKind → Type 0
 HasKind x (pattern before after) = IsCut before after x
 HasKind x (full_name n) = (n ≡ x) × Lacks star x × Begins (codes "refs/") x
@@ -55,7 +55,8 @@ pub data Excludes (x n : List ℕ) : Type 0 where
   -- a pattern each name that it fits
   by_pattern : (before after word : List ℕ) → IsCut before after x → Fits before after n word → Excludes x n
 
--- the full name that a partial one becomes
+-- the full name that a partial one becomes: with `refs/` before it where it begins `tags/` or `remotes/`,
+-- else with `refs/heads/`
 abbrev pub full_name_of : List ℕ → List ℕ
 full_name_of x =
     if starts_with nat_eq x (codes "tags/") || starts_with nat_eq x (codes "remotes/")
@@ -63,8 +64,8 @@ full_name_of x =
     else codes "refs/heads/" ++ x
 
 -- the name that a side becomes, where the other side matched with this word or with none: a pattern gets
--- the word for its star, and keeps the star without one; a full name stays; an id and a partial name become
--- names of branches, but for tags and remote refs
+-- the word for its star, and keeps the star without one; a full name stays; an id in lower case gets
+-- `refs/heads/` before it, and a partial name becomes a full one
 abbrev pub filled : SideKind → Option (List ℕ) → List ℕ
 filled (pattern before after) None = before ++ (star ∷ after)
 filled (pattern before after) (Some word) = before ++ (word ++ after)

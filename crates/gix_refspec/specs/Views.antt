@@ -3,20 +3,20 @@ use Rattle.std.specs.Prelude.{◌≡◌}
 use Rattle.bstr.specs.BStr.{bstr_bytes}
 use Rattle.bstr.specs.Owned.{bstring_bytes}
 use Rattle.gix_refspec.specs.declared.types.Mode.{Mode as DeclaredMode}
-use Rattle.gix_refspec.specs.declared.types.Mode.TheVariants as declared_mode
 use Rattle.gix_refspec.specs.declared.types.Instruction.{Instruction}
-use Rattle.gix_refspec.specs.declared.types.Instruction.TheVariants as instruction
 use Rattle.gix_refspec.specs.declared.instruction.Push.{Push}
-use Rattle.gix_refspec.specs.declared.instruction.Push.TheVariants as push
 use Rattle.gix_refspec.specs.declared.instruction.Fetch.{Fetch}
-use Rattle.gix_refspec.specs.declared.instruction.Fetch.TheVariants as fetch
 use Rattle.gix_refspec.specs.declared.parsing.Operation.{Operation}
-use Rattle.gix_refspec.specs.declared.parsing.Operation.TheVariants as operation
 use Rattle.gix_refspec.specs.declared.parsing.Error.{Error}
-use Rattle.gix_refspec.specs.declared.parsing.Error.TheVariants as error
 use Rattle.gix_refspec.specs.Reading.{Mode, Normal, Forced, Negative}
 use Rattle.gix_refspec.specs.Refusal.{Refusal, Empty, NegativeWithDestination, PushToEmpty, PatternUnsupported, ReferenceName, PatternUnbalanced, NegativeEmpty, NegativeObjectHash}
 use Rattle.gix_refspec.specs.Meaning.{Meaning, push_all_matching, push_delete, push_matching, push_exclude, fetch_only, fetch_exclude, fetch_and_update}
+use Rattle.gix_refspec.specs.declared.types.Mode.TheVariants as declared_mode
+use Rattle.gix_refspec.specs.declared.types.Instruction.TheVariants as instruction
+use Rattle.gix_refspec.specs.declared.instruction.Push.TheVariants as push
+use Rattle.gix_refspec.specs.declared.instruction.Fetch.TheVariants as fetch
+use Rattle.gix_refspec.specs.declared.parsing.Operation.TheVariants as operation
+use Rattle.gix_refspec.specs.declared.parsing.Error.TheVariants as error
 
 -- the mode that the private type shows
 abbrev pub mode_of : DeclaredMode → Mode
@@ -67,8 +67,3 @@ IsShownAs _ f = ⊥
 -- the error is a refusal as P says
 abbrev pub ShowsRefusal : (Refusal → Type 0) → Error → Type 0
 ShowsRefusal P e = (f : Refusal) × IsShownAs e f × P f
-
--- the error is want of memory where that may be, or else a refusal as P says
-abbrev pub MemoryOr : Type 0 → (Refusal → Type 0) → Error → Type 0
-MemoryOr memory P error.Memory = memory
-MemoryOr memory P e = ShowsRefusal P e

@@ -1,5 +1,5 @@
-//! Laws of the definitions alone, and of the comparisons that are derived. Each function has no effect:
-//! its contract states the law of what it is given.
+//! Laws of the definitions alone, and of the comparisons that are derived. Each function has no
+//! effect: its contract states the law of what it is given.
 
 ghost use Rattle.std.specs.Prelude.{◌≡◌, ◌↔◌, map, IsTrue};
 ghost use Rattle.std.specs.Ordering.{nat_cmp};
@@ -38,7 +38,8 @@ pub fn reads_back(operation: Operation, text: &[u8])
     ensures { ReadsBack operation text.now }
 {}
 
-/// Two texts that read for one operation mean the same exactly where their canonical texts are equal.
+/// Two texts that read for one operation mean the same exactly where their canonical texts are
+/// equal.
 pub fn equal_texts(operation: Operation, a: &[u8], b: &[u8])
     ensures { EqualTexts operation a.now b.now }
 {}
@@ -102,8 +103,8 @@ pub fn one_prefix(side: &[u8])
     ensures { OnePrefix side.now }
 {}
 
-/// A side without a star that isn't `HEAD`, begins no `refs/` and is no id expands to its six candidates,
-/// and matches just the refs with one of these names.
+/// A side without a star that isn't `HEAD`, begins no `refs/` and is no id expands to its six
+/// candidates, and matches just the refs with one of these names.
 pub fn candidates(side: &[u8])
     ensures { Candidates side.now }
 {}

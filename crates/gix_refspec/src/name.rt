@@ -3,12 +3,12 @@
 ghost use Rattle.std.specs.Prelude.{◌↔◌, IsTrue, MatchOption, MatchResult, ◌∷◌, [], List, ℕ};
 ghost use Rattle.std.specs.Bool.{OnTrue};
 ghost use Rattle.gix_refspec.specs.declared.name.Error.{Error};
-ghost use Rattle.bstr.specs.BStr.{bstr_bytes};
 ghost use Rattle.gix_refspec.specs.Text.{Ends};
 ghost use Rattle.gix_refspec.specs.Name.{IsName, HasFault, IsPattern, HasOneStar, ReplacesStar};
 ghost use Rattle.gix_refspec.specs.Bytes.{slash};
 ghost use Rattle.gix_refspec.specs.PatternError.{IsPatternFault};
 ghost use Rattle.gix_refspec.specs.Private.Scan.{AddsFault, LeavesFault, Finds};
+ghost use Rattle.bstr.specs.BStr.{bstr_bytes};
 
 mod class;
 
@@ -86,12 +86,13 @@ pub fn has_one_star(text: BStr<'_>) -> bool
 }
 
 /// Whether a text with one star is a pattern: a name, by git-check-ref-format(1), once a letter
-/// stands in place of the star, as under its `--refspec-pattern`. Other than an example there, a text
-/// that ends with a slash is refused, as Git's command refuses it too.
+/// stands in place of the star, as under its `--refspec-pattern`. Other than an example there, a
+/// text that ends with a slash is refused, as Git's command refuses it too.
 ///
 /// `Name` says which fault that name has. The text is copied: up to 256 bytes the copy lies in the
 /// call itself, and no memory is asked for; a longer one is copied to the heap until the call ends,
-/// and `Memory` says that there was no room. [`has_one_star`] tells whether a text may be asked about.
+/// and `Memory` says that there was no room. [`has_one_star`] tells whether a text may be asked
+/// about.
 pub fn pattern_partial(alloc: Global, pattern: BStr<'_>) -> Result<(), PatternError>
     requires { HasOneStar (bstr_bytes pattern) }
     ensures { MatchResult result
@@ -154,8 +155,8 @@ fn is_plain(byte: u8) -> bool
     matches!(class_of(byte), Class::Plain)
 }
 
-// The fault that a byte that need not be plain adds to the text before it. The previous byte is the last
-// one there.
+// The fault that a byte that need not be plain adds to the text before it. The previous byte is the
+// last one there.
 fn special_fault(before: &[u8], previous: u8, byte: u8) -> Option<Error>
     requires { Ends (previous ∷ []) (slash ∷ before.now) }
     ensures { Finds result (AddsFault (slash ∷ before.now) byte) }

@@ -154,7 +154,8 @@ impl fmt::Display for ObjectId {
     ghost output = { λ id. Some (lower_of (id_bytes id)) };
 
     fn fmt<W: fmt::Write>(&self, f: &mut fmt::Formatter<W>) -> fmt::Result {
-        // The buffer has just the room for the digits, and digits are ASCII: neither call is refused.
+        // The buffer has just the room for the digits, and digits are ASCII: neither call is
+        // refused.
         let mut buffer = [0; 64];
         let digits = &mut buffer[..self.kind.len_in_hex()];
         hex::encode_to_slice(self.as_slice(), digits).unwrap();

@@ -18,8 +18,9 @@ pub enum Operation {
 }
 
 /// Why a text is refused. Where several reasons apply, the first of them in this order is given:
-/// `Empty`, `NegativeWithDestination`, `PushToEmpty`, then `PatternUnsupported` or `ReferenceName` of
-/// the source, then of the destination, `PatternUnbalanced`, `NegativeEmpty`, `NegativeObjectHash`.
+/// `Empty`, `NegativeWithDestination`, `PushToEmpty`, then `PatternUnsupported` or `ReferenceName`
+/// of the source, then of the destination, `PatternUnbalanced`, `NegativeEmpty`,
+/// `NegativeObjectHash`.
 #[derive(Debug, Drop, thiserror::Error)]
 pub enum Error {
     /// Nothing is to be pushed.

@@ -16,13 +16,14 @@ use bstr::{BStr, BString};
 use std::alloc::{AllocError, Global};
 
 impl<'a> RefSpecRef<'a> {
-    /// What the names begin with that the spec names on the remote: by the source of a fetch, or the
-    /// destination of a push.
+    /// What the names begin with that the spec names on the remote: by the source of a fetch, or
+    /// the destination of a push.
     ///
-    /// It is `HEAD` for `HEAD`, though that may also be short for a longer name. It is the side itself
-    /// where that begins `refs/` and has no star, else what stands before the star. There is none for a
-    /// negative spec, a missing side, another side outside `refs/`, a star directly behind `refs/`, and a
-    /// pattern with a `]`. It borrows the text of the spec, or is the constant `HEAD`.
+    /// It is `HEAD` for `HEAD`, though that may also be short for a longer name. It is the side
+    /// itself where that begins `refs/` and has no star, else what stands before the star. There is
+    /// none for a negative spec, a missing side, another side outside `refs/`, a star directly
+    /// behind `refs/`, and a pattern with a `]`. It borrows the text of the spec, or is the
+    /// constant `HEAD`.
     pub fn prefix(&self) -> Option<BStr<'a>>
         ensures { MatchOption result
             ((p : List ℕ) → ¬ (HasPrefix (reading_of self.now) p))
@@ -33,17 +34,17 @@ impl<'a> RefSpecRef<'a> {
         Some(BStr::new(prefix))
     }
 
-    /// Appends what a client may ask a server to advertise for the spec: its prefix; or, for a name that
-    /// is given short, the six names that gitrevisions(7) tries.
+    /// Appends what a client may ask a server to advertise for the spec: its prefix; or, for a name
+    /// that is given short, the six names that gitrevisions(7) tries.
     ///
-    /// Entries of a side that begins with `refs/` and is a pattern without prefix are the side itself,
-    /// star and all, as `refs/*`, or, with a slash behind `refs/`, none, as for `refs/*/head` and
-    /// `refs/a]/*`. A pattern outside `refs/` gives six names with the star in them. So a client must not
-    /// limit what it asks for where a positive spec gives no entry, or one with a star. Negative specs,
-    /// missing sides and ids of objects give none.
+    /// Entries of a side that begins with `refs/` and is a pattern without prefix are the side
+    /// itself, star and all, as `refs/*`, or, with a slash behind `refs/`, none, as for
+    /// `refs/*/head` and `refs/a]/*`. A pattern outside `refs/` gives six names with the star in
+    /// them. So a client must not limit what it asks for where a positive spec gives no entry, or
+    /// one with a star. Negative specs, missing sides and ids of objects give none.
     ///
-    /// `AllocError` comes where there is no memory, and never where the spec gives no entry. The vector is
-    /// then as it was.
+    /// `AllocError` comes where there is no memory, and never where the spec gives no entry. The
+    /// vector is then as it was.
     pub fn expand_prefixes(&self, alloc: Global, out: &mut Vec<BString>) -> Result<(), AllocError>
         ensures ok { OnOk result (AppendsExpansion
             (reading_of self.now) (map bstring_bytes out.old.items)

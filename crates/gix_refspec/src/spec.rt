@@ -41,24 +41,24 @@ impl<'a> RefSpecRef<'a> {
     ghost use Rattle.gix_refspec.specs.Spec.{reading_of, owned_reading_of};
     ghost use Rattle.gix_refspec.specs.Reading.{local_of, remote_of, HasSide};
 
-    /// The left side, as it was read: a lone `@` stands as `HEAD`. None for a push that deletes a ref
-    /// or takes all matching branches.
+    /// The left side, as it was read: a lone `@` stands as `HEAD`. None for a push that deletes a
+    /// ref or takes all matching branches.
     pub fn source(&self) -> Option<BStr<'a>>
         ensures { option_map bstr_bytes result ≡ (reading_of self.now).source }
     {
         self.src
     }
 
-    /// The right side, as it was read. None where nothing stands behind a colon, though a push of a source
-    /// alone has it as its destination too.
+    /// The right side, as it was read. None where nothing stands behind a colon, though a push of a
+    /// source alone has it as its destination too.
     pub fn destination(&self) -> Option<BStr<'a>>
         ensures { option_map bstr_bytes result ≡ (reading_of self.now).destination }
     {
         self.dst
     }
 
-    /// The side on the remote: the source of a fetch, the destination of a push. None for a push that is
-    /// negative, of a source alone, or of all matching branches.
+    /// The side on the remote: the source of a fetch, the destination of a push. None for a push
+    /// that is negative, of a source alone, or of all matching branches.
     pub fn remote(&self) -> Option<BStr<'a>>
         ensures { option_map bstr_bytes result ≡ remote_of (reading_of self.now) }
     {
@@ -69,7 +69,8 @@ impl<'a> RefSpecRef<'a> {
     }
 
     /// The local side: the destination of a fetch, the source of a push. None for a fetch that is
-    /// negative or of a source alone, and for a push that deletes a ref or takes all matching branches.
+    /// negative or of a source alone, and for a push that deletes a ref or takes all matching
+    /// branches.
     pub fn local(&self) -> Option<BStr<'a>>
         ensures { option_map bstr_bytes result ≡ local_of (reading_of self.now) }
     {
@@ -79,8 +80,8 @@ impl<'a> RefSpecRef<'a> {
         }
     }
 
-    /// A copy that owns its sides. `AllocError` comes where there is no memory for them, and never where
-    /// both are missing.
+    /// A copy that owns its sides. `AllocError` comes where there is no memory for them, and never
+    /// where both are missing.
     pub fn to_owned(&self, alloc: Global) -> Result<RefSpec, AllocError>
         ensures keeps { IfOk result (λ owned. owned_reading_of owned ≡ reading_of self.now) }
         ensures memory { OnErr result (HasSide (reading_of self.now)) }
@@ -168,8 +169,8 @@ impl RefSpec {
         self.mode == Mode::Force
     }
 
-    /// A copy with sides of its own. `AllocError` comes where there is no memory for them, and never where
-    /// both are missing.
+    /// A copy with sides of its own. `AllocError` comes where there is no memory for them, and
+    /// never where both are missing.
     pub fn clone(&self, alloc: Global) -> Result<RefSpec, AllocError>
         ensures keeps { IfOk result (λ copy. owned_reading_of copy ≡ owned_reading_of self.now) }
         ensures memory { OnErr result (HasSide (owned_reading_of self.now)) }

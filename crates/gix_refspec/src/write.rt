@@ -46,8 +46,8 @@ impl<'a> Instruction<'a> {
         Ok(BString::new(text))
     }
 
-    /// Writes the canonical text of the instruction, and asks for no memory itself. After a fault, which
-    /// is the writer's, a part of the text may have gone out.
+    /// Writes the canonical text of the instruction, and asks for no memory itself. After a fault,
+    /// which is the writer's, a part of the text may have gone out.
     pub fn write_to<W: Write>(&self, out: &mut W) -> io::Result<()>
         ensures { OnOk result (Appends
             (W.contents out.old) (W.contents out.new) (text_of (shown self.now))) }
@@ -165,8 +165,8 @@ impl<'a> RefSpecRef<'a> {
         self.instruction().to_bstring(alloc)
     }
 
-    /// Writes the canonical text of the spec, and asks for no memory itself. After a fault, which is the
-    /// writer's, a part of the text may have gone out.
+    /// Writes the canonical text of the spec, and asks for no memory itself. After a fault, which
+    /// is the writer's, a part of the text may have gone out.
     pub fn write_to<W: Write>(&self, out: &mut W) -> io::Result<()>
         ensures { OnOk result (WritesPrinted
             (reading_of self.now) (W.contents out.old) (W.contents out.new)) }

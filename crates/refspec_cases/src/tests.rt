@@ -1,6 +1,7 @@
 //! What a spec prints, and a writer with little room.
 
 mod errors;
+mod groups;
 mod mapping;
 mod name;
 mod oid;

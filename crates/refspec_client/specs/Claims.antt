@@ -29,3 +29,14 @@ pub record IsCanonicalText (op : Operation) (text c : List ℕ) : Type 0 where
   pub reads_again : Reads op c again
   pub same : meaning_of again ≡ meaning_of reading
   pub fixed : printed again ≡ Some c
+
+-- two readings are for one operation and print the same text
+abbrev pub PrintsSame : Reading → Reading → Type 0
+PrintsSame r q = (r.operation ≡ q.operation) × (printed r ≡ printed q)
+
+-- what a spec of the reading r prints reads for its operation as q, and as nothing else; q is equal to r
+pub record IsReadAgain (r q : Reading) : Type 0 where
+  pub text : List ℕ
+  pub is : printed r ≡ Some text
+  pub reads : ReadsOnlyAs r.operation text q
+  pub equal : AreEqual q r

@@ -6,20 +6,20 @@
 //! equal spec.
 #![tactic(auto)]
 
-ghost use Rattle.std.specs.Prelude.{◌≡◌, ◌≢◌, IsTrue, IfOk, OnOk, OnErr, MatchOption};
+ghost use Rattle.std.specs.Prelude.{◌≡◌, ◌≢◌, ◌↔◌, IsTrue, IfOk, OnOk, OnErr, MatchOption};
 ghost use Rattle.bstr.specs.BStr.{bstr_bytes};
 ghost use Rattle.bstr.specs.Owned.{bstring_bytes};
 ghost use Rattle.gix_refspec.specs.Refusal.{MayWantMemory};
 ghost use Rattle.gix_refspec.specs.Spec.{reading_of, owned_reading_of};
-ghost use Rattle.refspec_client.specs.Claims.{IsRefspec, ReadsOnlyAs, AreEqual, IsCanonicalText};
+ghost use Rattle.refspec_client.specs.Claims.{IsRefspec, ReadsOnlyAs, PrintsSame, IsReadAgain, IsCanonicalText};
 
 use bstr::{BStr, BString};
 use gix_refspec::parsing::{Error, Operation};
 use gix_refspec::{RefSpec, RefSpecRef, laws, parse};
 use std::alloc::{AllocError, Global};
 
-/// The refspec that a text is for an operation. `None` comes just where it is none. Fails if memory
-/// runs out, which it may only for a side with several stars or with a star and more than 256 bytes.
+/// Reads a text for an operation. `None` exactly if it is no refspec. Fails if memory runs out,
+/// which can only happen for a side with several stars, or with one star and more than 256 bytes.
 pub fn read<'a>(
     alloc: Global,
     text: BStr<'a>,
@@ -40,7 +40,7 @@ pub fn read<'a>(
     }
 }
 
-// Fails where the error is want of memory.
+// Fails if the error is `Memory`.
 fn unless_memory(error: &Error) -> Result<(), AllocError>
     ensures ok { OnOk result (error.now ≢ Error.Memory) }
     ensures err { OnErr result (error.now ≡ Error.Memory) }
@@ -58,7 +58,9 @@ pub fn same_text<'a>(
     a: &RefSpecRef<'a>,
     b: &RefSpecRef<'a>,
 ) -> Result<bool, AllocError>
-    ensures { IfOk result (λ same. same ≡ ⟦<RefSpecRef<'a> as PartialEq>⟧.eq a.now b.now) }
+    ensures equal { IfOk result (λ same. same ≡ ⟦<RefSpecRef<'a> as PartialEq>⟧.eq a.now b.now) }
+    ensures text { IfOk result (λ same. IsTrue same ↔
+        PrintsSame (reading_of a.now) (reading_of b.now)) }
 {
     laws::equal_specs(a, b);
     laws::says_for_operation(a);
@@ -71,15 +73,17 @@ pub fn same_text<'a>(
 
 /// As [`same_text`], of owned specs.
 pub fn same_owned_text(alloc: Global, a: &RefSpec, b: &RefSpec) -> Result<bool, AllocError>
-    ensures { IfOk result (λ same. same ≡ ⟦<RefSpec as PartialEq>⟧.eq a.now b.now) }
+    ensures equal { IfOk result (λ same. same ≡ ⟦<RefSpec as PartialEq>⟧.eq a.now b.now) }
+    ensures text { IfOk result (λ same. IsTrue same ↔
+        PrintsSame (owned_reading_of a.now) (owned_reading_of b.now)) }
 {
     same_text(alloc, &a.to_ref(), &b.to_ref())
 }
 
-/// Prints a spec, and reads what it printed for its operation: an equal spec, with sides of its own.
-/// Fails if memory runs out, and never because the text is refused.
+/// Prints a spec, and reads what it printed for its operation: an equal spec, with sides of its
+/// own. Fails if memory runs out, and never because the text is refused.
 pub fn reread(alloc: Global, spec: &RefSpecRef<'_>) -> Result<RefSpec, AllocError>
-    ensures { IfOk result (λ again. AreEqual (owned_reading_of again) (reading_of spec.now)) }
+    ensures { IfOk result (λ again. IsReadAgain (reading_of spec.now) (owned_reading_of again)) }
 {
     laws::spec_reads_back(spec);
     laws::says_for_operation(spec);
@@ -95,7 +99,9 @@ pub fn reread(alloc: Global, spec: &RefSpecRef<'_>) -> Result<RefSpec, AllocErro
 
 /// As [`reread`], of an owned spec.
 pub fn reread_owned(alloc: Global, spec: &RefSpec) -> Result<RefSpec, AllocError>
-    ensures { IfOk result (λ again. IsTrue (⟦<RefSpec as PartialEq>⟧.eq again spec.now)) }
+    ensures equal { IfOk result (λ again. IsTrue (⟦<RefSpec as PartialEq>⟧.eq again spec.now)) }
+    ensures text { IfOk result (λ again.
+        IsReadAgain (owned_reading_of spec.now) (owned_reading_of again)) }
 {
     let again = reread(alloc, &spec.to_ref())?;
     laws::equal_owned_specs(&again, spec);

@@ -8,8 +8,8 @@ use gix_refspec::parsing::Operation;
 /// What the program does with its input.
 #[derive(Clone, Copy, Debug, PartialEq, Eq)]
 pub enum Command {
-    /// Reads each line as a spec for a fetch, and writes `ok` and its canonical text, or `err` and the
-    /// name of the reason why it is none.
+    /// Reads each line as a spec for a fetch, and writes `ok` and its canonical text, or `err` and
+    /// the name of the reason why it is none.
     CanonFetch,
     /// The same as a spec for a push.
     CanonPush,

@@ -27,7 +27,8 @@ impl<'a> Answer<'a> {
         matches!(self, Answer::Refused(_))
     }
 
-    /// Appends the answer as a line: `ok` and the canonical text, or `err` and the name of the reason.
+    /// Appends the answer as a line: `ok` and the canonical text, or `err` and the name of the
+    /// reason.
     pub(crate) fn put(&self, output: &mut Vec<u8>) -> Result<(), Fault>
         ensures ok { OnOk result (PutsLine self.now output.old.items output.new.items) }
         ensures err { IfErr result IsMemory }

@@ -11,12 +11,12 @@ use Rattle.gix_refspec.specs.declared.side.SideKind.{SideKind as DeclaredKind}
 use Rattle.gix_refspec.specs.Reading.{Reading}
 use Rattle.gix_refspec.specs.Grammar.{IsPositive}
 use Rattle.gix_refspec.specs.Side.{HasKind, object, filled}
-use Rattle.gix_refspec.specs.Private.SideViews.{shown_kind}
 use Rattle.gix_refspec.specs.Match.{Ref}
 use Rattle.gix_refspec.specs.Lists.{IsMadeFrom}
 use Rattle.gix_refspec.specs.Mappings.{Mapped}
 use Rattle.gix_refspec.specs.Hits.{Ends, AreForwardEnds, AreBackwardEnds, Hit, IsHit, forward_of, backward_of}
 use Rattle.gix_refspec.specs.Group.{name_bytes, mapped_of}
+use Rattle.gix_refspec.specs.Private.SideViews.{shown_kind}
 
 -- the word that stands for the star of a side that matched
 abbrev pub word_of : Match → Option (List ℕ)

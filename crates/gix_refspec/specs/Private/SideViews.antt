@@ -1,14 +1,14 @@
 -- What a clause reads of the private types of a side. Only private functions cite this.
 use Rattle.std.specs.Prelude.{ℕ, List}
 use Rattle.gix_refspec.specs.declared.side.Stars.{Stars}
-use Rattle.gix_refspec.specs.declared.side.Stars.TheVariants as stars
 use Rattle.gix_refspec.specs.declared.side.SideKind.{SideKind as DeclaredKind}
-use Rattle.gix_refspec.specs.declared.side.SideKind.TheVariants as declared_kind
 use Rattle.gix_refspec.specs.Text.{Lacks}
 use Rattle.gix_refspec.specs.Name.{IsCut, HasSeveralStars}
 use Rattle.gix_refspec.specs.Bytes.{star}
 use Rattle.gix_refspec.specs.ObjectId.{id_bytes}
 use Rattle.gix_refspec.specs.Side.{SideKind, pattern, full_name, object, partial}
+use Rattle.gix_refspec.specs.declared.side.Stars.TheVariants as stars
+use Rattle.gix_refspec.specs.declared.side.SideKind.TheVariants as declared_kind
 
 -- how many stars x has, and where the only one cuts it
 abbrev pub AreStarsOf : List ℕ → Stars → Type 0

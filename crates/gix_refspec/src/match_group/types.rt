@@ -28,8 +28,8 @@ pub struct Item<'a> {
     pub object: Option<&'a ObjectId>,
 }
 
-/// The name of a ref, borrowed where it stands somewhere already. Names are compared and hashed by their
-/// bytes.
+/// The name of a ref, borrowed where it stands somewhere already. Names are compared and hashed by
+/// their bytes.
 #[derive(Debug, Drop)]
 pub enum NameRef<'a> {
     /// A name that is lent, by an item or by a spec.
@@ -51,8 +51,8 @@ impl<'a> NameRef<'a> {
         }
     }
 
-    /// The bytes of the name, owned. Fails if memory runs out, and then the name is given up; never for a
-    /// name that is owned already.
+    /// The bytes of the name, owned. Fails if memory runs out, and then the name is given up; never
+    /// for a name that is owned already.
     pub fn into_owned(self, alloc: Global) -> Result<BString, AllocError>
         ensures keeps { IfOk result (λ owned. bstring_bytes owned ≡ name_bytes self.entry) }
         ensures memory { OnErr result (IsBorrowed self.entry) }
@@ -63,8 +63,8 @@ impl<'a> NameRef<'a> {
         }
     }
 
-    /// A copy of the name, which borrows what this one borrows. Fails if memory runs out, and never for a
-    /// name that is borrowed.
+    /// A copy of the name, which borrows what this one borrows. Fails if memory runs out, and never
+    /// for a name that is borrowed.
     pub fn clone(&self, alloc: Global) -> Result<NameRef<'a>, AllocError>
         ensures keeps { IfOk result (IsNameCopy self.now) }
         ensures memory { OnErr result (IsOwned self.now) }
@@ -125,8 +125,8 @@ pub type Source = SourceRef<'static>;
 impl<'a> SourceRef<'a> {
     ghost use Rattle.gix_refspec.specs.Group.{start_of, IsLent, IsOwnedSource, IsSourceCopy};
 
-    /// The same source, owned. Fails if memory runs out, and then the source is given up; never for a name
-    /// that is owned already or for an id.
+    /// The same source, owned. Fails if memory runs out, and then the source is given up; never for
+    /// a name that is owned already or for an id.
     pub fn into_owned(self, alloc: Global) -> Result<Source, AllocError>
         ensures keeps { IfOk result (λ owned. start_of owned ≡ start_of self.entry) }
         ensures memory { OnErr result (IsLent self.entry) }
@@ -139,8 +139,8 @@ impl<'a> SourceRef<'a> {
         })
     }
 
-    /// A copy of the source, which borrows what this one borrows. Fails if memory runs out, and only for a
-    /// name that is owned.
+    /// A copy of the source, which borrows what this one borrows. Fails if memory runs out, and
+    /// only for a name that is owned.
     pub fn clone(&self, alloc: Global) -> Result<SourceRef<'a>, AllocError>
         ensures keeps { IfOk result (IsSourceCopy self.now) }
         ensures memory { OnErr result (IsOwnedSource self.now) }
@@ -165,13 +165,13 @@ impl<'a> fmt::Display for SourceRef<'a> {
     }
 }
 
-/// A ref or an object, and the ref on the other side that it belongs to. Mappings are compared and hashed
-/// by their source and destination alone.
+/// A ref or an object, and the ref on the other side that it belongs to. Mappings are compared and
+/// hashed by their source and destination alone.
 #[derive(Debug, Drop)]
 #[derive_where(PartialEq, Eq, Hash)]
 pub struct Mapping<'a, 'b> {
-    /// The place of the item that was matched, among all items. None for an object that is asked for by its
-    /// id.
+    /// The place of the item that was matched, among all items. None for an object that is asked
+    /// for by its id.
     #[derive_where(skip(EqHashOrd))]
     pub item_index: Option<usize>,
     /// The source: on the remote for a fetch, local for a push.
@@ -186,8 +186,8 @@ pub struct Mapping<'a, 'b> {
 impl<'a, 'b> Mapping<'a, 'b> {
     ghost use Rattle.gix_refspec.specs.Group.{IsMappingCopy, HasOwned};
 
-    /// A copy of the mapping, which borrows what this one borrows. Fails if memory runs out, and only where
-    /// a name of it is owned.
+    /// A copy of the mapping, which borrows what this one borrows. Fails if memory runs out, and
+    /// only where a name of it is owned.
     pub fn clone(&self, alloc: Global) -> Result<Mapping<'a, 'b>, AllocError>
         ensures keeps { IfOk result (IsMappingCopy self.now) }
         ensures memory { OnErr result (HasOwned self.now) }
@@ -330,8 +330,10 @@ pub mod match_lhs {
     impl<'spec, 'item> Outcome<'spec, 'item> {
         /// A copy, which borrows what this one borrows. Fails if memory runs out.
         pub fn clone(&self, alloc: Global) -> Result<Outcome<'spec, 'item>, AllocError>
-            ensures specs { IfOk result (λ copy. copy.group.specs.items ≡ self.now.group.specs.items) }
-            ensures mappings { IfOk result (λ copy. AreMappingCopies self.now.mappings.items copy.mappings.items) }
+            ensures specs { IfOk result (λ copy.
+                copy.group.specs.items ≡ self.now.group.specs.items) }
+            ensures mappings { IfOk result (λ copy.
+                AreMappingCopies self.now.mappings.items copy.mappings.items) }
         {
             Ok(Outcome {
                 group: self.group.clone(alloc)?,
@@ -358,8 +360,10 @@ pub mod match_rhs {
     impl<'spec, 'item> Outcome<'spec, 'item> {
         /// A copy, which borrows what this one borrows. Fails if memory runs out.
         pub fn clone(&self, alloc: Global) -> Result<Outcome<'spec, 'item>, AllocError>
-            ensures specs { IfOk result (λ copy. copy.group.specs.items ≡ self.now.group.specs.items) }
-            ensures mappings { IfOk result (λ copy. AreMappingCopies self.now.mappings.items copy.mappings.items) }
+            ensures specs { IfOk result (λ copy.
+                copy.group.specs.items ≡ self.now.group.specs.items) }
+            ensures mappings { IfOk result (λ copy.
+                AreMappingCopies self.now.mappings.items copy.mappings.items) }
         {
             Ok(Outcome {
                 group: self.group.clone(alloc)?,

@@ -5,9 +5,9 @@ ghost use Rattle.bstr.specs.BStr.{bstr_bytes};
 ghost use Rattle.gix_refspec.specs.Name.{HasSeveralStars};
 ghost use Rattle.gix_refspec.specs.Grammar.{IsSigned, LooksLikeObjectHash, Reads, with_colon, LastLacksColon, named_by};
 ghost use Rattle.gix_refspec.specs.Refusal.{IsBadPattern, IsRefused, MayWantMemory, WantsMemory};
-ghost use Rattle.gix_refspec.specs.Views.{mode_of, MemoryOr, ShowsRefusal};
+ghost use Rattle.gix_refspec.specs.Views.{mode_of, ShowsRefusal};
+ghost use Rattle.gix_refspec.specs.Private.Sides.{MemoryOr, IsSide, IsCheckedSide, IsBadSide, HasParts, destination_of, ArePositive, AreSidesOf, IsReasonAgainst, named_or_head as named_or_head_of, side_of as side_bytes};
 ghost use Rattle.gix_refspec.specs.Spec.{reading_of};
-ghost use Rattle.gix_refspec.specs.Private.Sides.{IsSide, IsCheckedSide, IsBadSide, HasParts, destination_of, ArePositive, AreSidesOf, IsReasonAgainst, named_or_head as named_or_head_of, side_of as side_bytes};
 
 use crate::cut::split_at_last;
 use crate::name::{PatternError, name_partial, pattern_partial};

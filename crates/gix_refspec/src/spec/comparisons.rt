@@ -1,5 +1,5 @@
-//! Specs compare and hash as what they say to do: a push of `main` equals one of `main:main`, and no push
-//! equals a fetch.
+//! Specs compare and hash as what they say to do: a push of `main` equals one of `main:main`, and
+//! no push equals a fetch.
 
 ghost use Rattle.std.specs.Prelude.{◌≡◌, ◌↔◌, nat_eq, refl, Some, IsTrue, fold};
 ghost use Rattle.std.specs.Ordering.{nat_cmp};

@@ -1,10 +1,10 @@
 //! What groups match.
 
+use bstr::BStr;
 use gix_refspec::match_group::{Item, Mapping, NameRef, SourceRef};
 use gix_refspec::oid::ObjectId;
 use gix_refspec::parsing::Operation;
 use gix_refspec::{MatchGroup, parse};
-use bstr::BStr;
 use std::alloc::{AllocError, Global};
 use std::process::Abort;
 use std::test::Fail;

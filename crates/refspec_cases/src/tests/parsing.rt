@@ -164,7 +164,8 @@ fn answers_both_operations_alike(rt: HostRuntime) -> Result<(), Fail> {
     Ok(())
 }
 
-// Examples of git-fetch(1) and git-push(1), and what git-check-ref-format(1) says of names and patterns.
+// Examples of git-fetch(1) and git-push(1), and what git-check-ref-format(1) says of names and
+// patterns.
 #[test]
 fn reads_the_examples_of_the_manuals(rt: HostRuntime) -> Result<(), Fail> {
     let fetches = [

@@ -2,11 +2,12 @@
 use Rattle.std.proofs.Common.{◌≡◌, ◌∙◌, Some, sym, ap, subst}
 use Rattle.std.proofs.lemmas.Result.{IfOk-weaker}
 use Rattle.bstr.specs.BStr.{bstr_bytes}
+use Rattle.gix_refspec.specs.declared.parsing.Operation.{Operation}
 use Rattle.gix_refspec.specs.Reading.{Reading}
 use Rattle.gix_refspec.specs.Meaning.{printed}
 use Rattle.gix_refspec.specs.Views.{shown}
 use Rattle.gix_refspec.specs.Spec.{reading_of}
-use Rattle.refspec_client.specs.Claims.{IsRefspec, ReadsOnlyAs, AreEqual}
+use Rattle.refspec_client.specs.Claims.{IsRefspec, ReadsOnlyAs, IsReadAgain}
 use Rattle.refspec_client.proofs.ClaimLemmas.{printed_is_refspec, printed_is_equal}
 use Rattle.refspec_client.proofs.reread.Goals as goal
 
@@ -28,4 +29,5 @@ returns c =
     let is : printed r ≡ Some text = c.in_ok-text.ensures ∙ ap Some (sym c.as_bstr.ensures) in
     let reads : ReadsOnlyAs c.operation.result text q = rw c.in-Some.is at c.in_ok-again.ensures.ok in
     let equal = printed_is_equal c.operation.result r q text c.spec_reads_back.ensures same is reads c.equal_specs.ensures.text in
-    IfOk-weaker c.to_owned.result _ _ (λ owned keeps. subst (λ (x : Reading). AreEqual x r) (sym keeps) equal) c.to_owned.ensures.keeps
+    let again : IsReadAgain r q = record { text = text; is = is; reads = subst (λ (o : Operation). ReadsOnlyAs o text q) same reads; equal = equal } in
+    IfOk-weaker c.to_owned.result _ _ (λ owned keeps. subst (λ (x : Reading). IsReadAgain r x) (sym keeps) again) c.to_owned.ensures.keeps

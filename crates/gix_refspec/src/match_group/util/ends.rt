@@ -6,7 +6,7 @@ ghost use Rattle.gix_refspec.specs.Name.{HasSeveralStars};
 ghost use Rattle.gix_refspec.specs.ObjectId.{id_bytes};
 ghost use Rattle.gix_refspec.specs.Spec.{reading_of};
 ghost use Rattle.gix_refspec.specs.Hits.{Ends as EndsOf};
-ghost use Rattle.gix_refspec.specs.HitViews.{AsksForId, HasKindShown, HaveKinds, HasEnds};
+ghost use Rattle.gix_refspec.specs.Private.HitViews.{AsksForId, HasKindShown, HaveKinds, HasEnds};
 
 use crate::oid::ObjectId;
 use crate::side::{SideKind, kind_of};

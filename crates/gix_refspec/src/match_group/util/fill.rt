@@ -4,9 +4,9 @@ ghost use Rattle.std.specs.Prelude.{◌≡◌, ◌++◌, codes, option_map, IfOk
 ghost use Rattle.bstr.specs.Owned.{bstring_bytes};
 ghost use Rattle.gix_refspec.specs.ObjectId.{id_bytes, lower_of};
 ghost use Rattle.gix_refspec.specs.Side.{filled as filled_by, full_name_of};
-ghost use Rattle.gix_refspec.specs.Private.SideViews.{shown_kind};
 ghost use Rattle.gix_refspec.specs.Group.{name_bytes};
-ghost use Rattle.gix_refspec.specs.HitViews.{filled_end as end_filled};
+ghost use Rattle.gix_refspec.specs.Private.SideViews.{shown_kind};
+ghost use Rattle.gix_refspec.specs.Private.HitViews.{filled_end as end_filled};
 
 use crate::match_group::types::NameRef;
 use crate::oid::ObjectId;

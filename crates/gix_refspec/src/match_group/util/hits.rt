@@ -6,7 +6,7 @@ ghost use Rattle.gix_refspec.specs.Spec.{reading_of};
 ghost use Rattle.gix_refspec.specs.Lists.{IsMadeFrom};
 ghost use Rattle.gix_refspec.specs.Group.{ref_of, mapped_of};
 ghost use Rattle.gix_refspec.specs.Hits.{AreHits, forward_of, backward_of, IsIdMapping, AreForward, AreBackward};
-ghost use Rattle.gix_refspec.specs.HitViews.{HasEnds, shown_hit, AreHitsOfKinds, HasHit, AddsHits};
+ghost use Rattle.gix_refspec.specs.Private.HitViews.{HasEnds, shown_hit, AreHitsOfKinds, HasHit, AddsHits};
 
 use super::ends::{Direction, Ends, asked_of, ends_of};
 use super::fill::filled_end;

@@ -1,5 +1,5 @@
-//! Which mappings are kept: each pair of a source and a destination once, and no source that a negative
-//! spec excludes.
+//! Which mappings are kept: each pair of a source and a destination once, and no source that a
+//! negative spec excludes.
 
 ghost use Rattle.std.specs.Prelude.{◌≡◌, ◌⊎◌, ◌↔◌, ◌<◌, ◌≤◌, length, map, IfOk, OnOk, OnErr, IsTrue};
 ghost use Rattle.gix_refspec.specs.Spec.{reading_of};
@@ -17,17 +17,20 @@ use exclusions::{Exclusion, exclusions_of, is_excluded};
 use repeats::repeats_of;
 use std::alloc::{AllocError, Global};
 
-// Drops the mappings that have the same source and destination as an earlier one, and those whose source a
-// negative spec excludes. The others stay in order. Fails if memory runs out, which it doesn't want for one
-// mapping and no negative spec, and leaves them all.
+// Drops the mappings that have the same source and destination as an earlier one, and those whose
+// source a negative spec excludes. The others stay in order. Fails if memory runs out, which it
+// doesn't want for one mapping and no negative spec, and leaves them all.
 pub(crate) fn keep<'a, 'b>(
     alloc: Global,
     specs: &[RefSpecRef<'_>],
     mappings: &mut Vec<Mapping<'a, 'b>>,
 ) -> Result<(), AllocError>
-    ensures ok { OnOk result (IsKept (map reading_of specs.now) (map mapped_of mappings.old.items) (map mapped_of mappings.new.items)) }
+    ensures ok { OnOk result (IsKept
+        (map reading_of specs.now) (map mapped_of mappings.old.items)
+        (map mapped_of mappings.new.items)) }
     ensures err { OnErr result (mappings.new.items ≡ mappings.old.items) }
-    ensures memory { OnErr result ((1 < length mappings.old.items) ⊎ HasNegative (map reading_of specs.now)) }
+    ensures memory { OnErr result ((1 < length mappings.old.items) ⊎ HasNegative
+        (map reading_of specs.now)) }
 {
     let exclusions = exclusions_of(alloc, specs)?;
     let repeats = repeats_of(alloc, mappings.as_slice())?;

@@ -27,7 +27,9 @@ impl<'a> Exclusion<'a> {
 
     // What a spec excludes, where it is negative.
     fn of(spec: RefSpecRef<'a>) -> Option<Exclusion<'a>>
-        ensures excludes { MatchOption result ((n : List ℕ) → ¬ (IsExcludedBy n (reading_of spec.entry))) (λ exclusion. (n : List ℕ) → Takes exclusion n ↔ IsExcludedBy n (reading_of spec.entry)) }
+        ensures excludes { MatchOption result
+            ((n : List ℕ) → ¬ (IsExcludedBy n (reading_of spec.entry)))
+            (λ exclusion. (n : List ℕ) → Takes exclusion n ↔ IsExcludedBy n (reading_of spec.entry)) }
         ensures negative { OnSome result ((reading_of spec.entry).mode ≡ Negative) }
     {
         if spec.mode != Mode::Negative {
@@ -59,7 +61,8 @@ pub(crate) fn exclusions_of<'a>(
     alloc: Global,
     specs: &[RefSpecRef<'a>],
 ) -> Result<Vec<Exclusion<'a>>, AllocError>
-    ensures ok { IfOk result (λ exclusions. AreExclusionsOf (map reading_of specs.now) exclusions.items) }
+    ensures ok { IfOk result (λ exclusions.
+        AreExclusionsOf (map reading_of specs.now) exclusions.items) }
     ensures memory { OnErr result (HasNegative (map reading_of specs.now)) }
 {
     let mut exclusions = Vec::new(alloc);

@@ -127,8 +127,10 @@ fn len_of_run(hashes: &[Hashed]) -> usize
     requires { 0 < length hashes.now }
     ensures some { 0 < result }
     ensures fits { result ≤ length hashes.now }
-    ensures same { (d : Hashed) → AllByRecursion (λ h. h.hash ≡ (slice_index_or hashes.now 0 d).hash) (take result hashes.now) }
-    ensures end { (d : Hashed) → result < length hashes.now → (slice_index_or hashes.now result d).hash ≢ (slice_index_or hashes.now 0 d).hash }
+    ensures same { (d : Hashed) →
+        AllByRecursion (λ h. h.hash ≡ (slice_index_or hashes.now 0 d).hash) (take result hashes.now) }
+    ensures end { (d : Hashed) →
+        result < length hashes.now → (slice_index_or hashes.now result d).hash ≢ (slice_index_or hashes.now 0 d).hash }
 {
     let first = hashes[0].hash;
     let mut len = 1;
@@ -147,7 +149,8 @@ fn flag_run(
 ) -> Result<(), AllocError>
     requires run { IsRun mappings.now run.now }
     requires fits { FlagsFit mappings.now flags.old.items }
-    ensures { OnOk result (FlagsAlso mappings.now (places_of run.now) flags.old.items flags.new.items) }
+    ensures { OnOk result (FlagsAlso mappings.now
+        (places_of run.now) flags.old.items flags.new.items) }
 {
     if run.len() == 1 {
         return Ok(());
@@ -162,7 +165,8 @@ fn flag_run(
 // Whether the mappings all have one pair.
 fn is_one_pair(mappings: &[Mapping<'_, '_>], run: &[Hashed]) -> bool
     requires { IsRun mappings.now run.now }
-    ensures { IsTrue result → (d : Hashed) → AllByRecursion (λ h. IsSameAt mappings.now (slice_index_or run.now 0 d).place h.place) run.now }
+    ensures { IsTrue result →
+        (d : Hashed) → AllByRecursion (λ h. IsSameAt mappings.now (slice_index_or run.now 0 d).place h.place) run.now }
 {
     let first = &mappings[run[0].place];
     for hashed in run {
@@ -180,9 +184,11 @@ fn flag_all_but_the_first(
     flags: &mut Vec<bool>,
 ) -> Result<(), AllocError>
     requires run { IsRun mappings.now run.now }
-    requires one { (d : Hashed) → AllByRecursion (λ h. IsSameAt mappings.now (slice_index_or run.now 0 d).place h.place) run.now }
+    requires one { (d : Hashed) →
+        AllByRecursion (λ h. IsSameAt mappings.now (slice_index_or run.now 0 d).place h.place) run.now }
     requires fits { FlagsFit mappings.now flags.old.items }
-    ensures { OnOk result (FlagsAlso mappings.now (places_of run.now) flags.old.items flags.new.items) }
+    ensures { OnOk result (FlagsAlso mappings.now
+        (places_of run.now) flags.old.items flags.new.items) }
 {
     for hashed in &run[1..] {
         raise(flags, mappings.len(), hashed.place)?;
@@ -199,7 +205,8 @@ fn flag_by_pair(
 ) -> Result<(), AllocError>
     requires run { IsRun mappings.now run.now }
     requires fits { FlagsFit mappings.now flags.old.items }
-    ensures { OnOk result (FlagsAlso mappings.now (places_of run.now) flags.old.items flags.new.items) }
+    ensures { OnOk result (FlagsAlso mappings.now
+        (places_of run.now) flags.old.items flags.new.items) }
 {
     let pairs = pairs_in_order(alloc, mappings, run)?;
     for at in 1..pairs.len() {
@@ -234,7 +241,8 @@ fn raise(flags: &mut Vec<bool>, len: usize, place: usize) -> Result<(), AllocErr
     requires below { place < len }
     requires fits { (flags.old.items ≡ []) ⊎ (length flags.old.items ≡ len) }
     ensures fits { OnOk result (length flags.new.items ≡ len) }
-    ensures raised { OnOk result ((k : ℕ) → IsFlagged flags.new.items k ↔ (IsFlagged flags.old.items k ⊎ (place ≡ k))) }
+    ensures raised { OnOk result ((k : ℕ) → IsFlagged flags.new.items k ↔
+        (IsFlagged flags.old.items k ⊎ (place ≡ k))) }
 {
     if flags.is_empty() {
         flags.resize(len, false)?;

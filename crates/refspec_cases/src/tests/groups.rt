@@ -1,0 +1,159 @@
+//! Groups, mappings, and which of these are kept.
+
+use bstr::{BStr, BString};
+use gix_refspec::match_group::{Item, Mapping, NameRef, NoRoom, Source, SourceRef};
+use gix_refspec::oid::ObjectId;
+use gix_refspec::parsing::Operation;
+use gix_refspec::{MatchGroup, parse};
+use std::alloc::{AllocError, Global};
+use std::hash::{FoldHasher, Hash, Hasher};
+use std::test::Fail;
+
+// Two names, each with its destination below `refs/remotes/origin/`. The two pairs have one hash.
+const COLLIDING: [(&[u8], &[u8]); 2] = [
+    (
+        b"refs/heads/0MvFc4\xd2\xba\xab\xf23\xeda\xd8a\x8a\xee>d\xcdaaaaaaaaaaaaaaaaa",
+        b"refs/remotes/origin/0MvFc4\xd2\xba\xab\xf23\xeda\xd8a\x8a\xee>d\xcdaaaaaaaaaaaaaaaaa",
+    ),
+    (
+        b"refs/heads/FtOkcaa\x85\xcb\x9b\xb1\xc12\x9e08z\x99(\xb6aaaaaaaaaaaaaaaaa",
+        b"refs/remotes/origin/FtOkcaa\x85\xcb\x9b\xb1\xc12\x9e08z\x99(\xb6aaaaaaaaaaaaaaaaa",
+    ),
+];
+
+// Mappings as rows write them: a source may be the digits of an id, and `-` is a missing destination.
+fn mappings_of<'a>(
+    alloc: Global,
+    rows: &[(&'a str, &'a str)],
+) -> Result<Vec<Mapping<'a, 'a>>, AllocError> {
+    let mut mappings = Vec::new(alloc);
+    for (place, (source, destination)) in rows.iter().enumerate() {
+        mappings.push(Mapping {
+            item_index: Some(place),
+            lhs: source_of(source),
+            rhs: match *destination {
+                "-" => None,
+                name => Some(NameRef::Owned(BString::from_slice(alloc, name.as_bytes())?)),
+            },
+            spec_index: 0,
+        })?;
+    }
+    Ok(mappings)
+}
+
+// A source as a row writes it.
+fn source_of<'a>(text: &'a str) -> SourceRef<'a> {
+    match ObjectId::from_hex(text.as_bytes()) {
+        Ok(id) => SourceRef::ObjectId(id),
+        Err(_) => SourceRef::FullName(NameRef::Borrowed(BStr::new(text.as_bytes()))),
+    }
+}
+
+// The hash that a mapping has.
+fn hash_of(mapping: &Mapping<'_, '_>) -> u64 {
+    let mut state = FoldHasher::default();
+    mapping.hash(&mut state);
+    state.finish()
+}
+
+#[test]
+fn tells_pairs_of_one_hash_apart(rt: HostRuntime) -> Result<(), Fail> {
+    let alloc = rt.alloc();
+    let mut hashes = Vec::new(alloc);
+    for (source, destination) in COLLIDING {
+        hashes.push(hash_of(&Mapping {
+            item_index: None,
+            lhs: SourceRef::FullName(NameRef::Borrowed(BStr::new(source))),
+            rhs: Some(NameRef::Borrowed(BStr::new(destination))),
+            spec_index: 0,
+        }))?;
+    }
+    assert_eq!(rt; hashes[0], hashes[1]);
+    let id = ObjectId::from_hex(b"e69de29bb2d1d6434b8b29ae775ad8c2e48c5391")?;
+    let mut items = Vec::new(alloc);
+    for index in [1, 0, 1, 0, 1] {
+        items.push(Item {
+            full_ref_name: BStr::new(COLLIDING[index].0),
+            target: &id,
+            object: None,
+        })?;
+    }
+    let text = BStr::new(b"refs/heads/*:refs/remotes/origin/*");
+    let group = MatchGroup::from_fetch_specs(alloc, [parse(alloc, text, Operation::Fetch)?])?;
+    let outcome = group.match_lhs(alloc, items.as_slice())?;
+    let mut places = String::new(alloc);
+    for mapping in &outcome.mappings {
+        places.push_str(format!(in alloc; "{:?} ", mapping.item_index)?.as_str())?;
+    }
+    assert_eq!(rt; places.as_str(), "Some(0) Some(1) ");
+    Ok(())
+}
+
+#[test]
+fn compares_mappings_by_their_pairs(rt: HostRuntime) -> Result<(), Fail> {
+    let alloc = rt.alloc();
+    // Whether the mapping of a row equals the first row's.
+    let rows = [
+        ("a", "x", true),
+        ("a", "x", true),
+        ("b", "x", false),
+        ("a", "y", false),
+        ("a", "-", false),
+    ];
+    let first = Mapping {
+        item_index: None,
+        lhs: SourceRef::FullName(NameRef::Owned(BString::from_slice(alloc, b"a".as_slice())?)),
+        rhs: Some(NameRef::Borrowed(BStr::new(b"x"))),
+        spec_index: 7,
+    };
+    for (source, destination, same) in rows {
+        let mappings = mappings_of(alloc, &[(source, destination)])?;
+        for mapping in &mappings {
+            assert_eq!(rt; *mapping == first, same, "at {source}:{destination}");
+            assert_eq!(rt;
+                hash_of(mapping) == hash_of(&first),
+                same,
+                "hash at {source}:{destination}"
+            );
+        }
+    }
+    Ok(())
+}
+
+#[test]
+fn copies_and_prints_sources(rt: HostRuntime) -> Result<(), Fail> {
+    let alloc = rt.alloc();
+    let id = "E69DE29BB2D1D6434B8B29AE775AD8C2E48C5391";
+    let rows = [
+        ("refs/heads/main", "refs/heads/main"),
+        (id, "e69de29bb2d1d6434b8b29ae775ad8c2e48c5391"),
+    ];
+    for (text, printed) in rows {
+        let copy = source_of(text).clone(alloc)?;
+        assert_eq!(rt; format!(in alloc; "{copy}")?.as_str(), printed);
+        let owned: Source = copy.into_owned(alloc)?;
+        assert_eq!(rt; owned, source_of(text), "at {text}");
+    }
+    Ok(())
+}
+
+#[test]
+fn gathers_specs_of_an_operation(rt: HostRuntime) -> Result<(), Fail> {
+    let alloc = rt.alloc();
+    let specs = [
+        parse(alloc, BStr::new(b"a:b"), Operation::Fetch)?,
+        parse(alloc, BStr::new(b"main"), Operation::Push)?,
+        parse(alloc, BStr::new(b"^a"), Operation::Fetch)?,
+    ];
+    let fetches = MatchGroup::from_fetch_specs(alloc, specs)?;
+    let pushes = MatchGroup::from_push_specs(alloc, specs)?;
+    assert_eq!(rt; MatchGroup::new(alloc).specs.len(), 0);
+    assert_eq!(rt;
+        fetches.clone(alloc)?.specs.as_slice(),
+        [specs[0], specs[2]].as_slice()
+    );
+    assert_eq!(rt; pushes.specs.as_slice(), [specs[1]].as_slice());
+    let refused = NoRoom { group: pushes };
+    assert_eq!(rt; format!(in alloc; "{refused}")?.as_str(), "out of memory");
+    Ok(())
+}
