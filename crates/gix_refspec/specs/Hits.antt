@@ -7,7 +7,7 @@ use Rattle.gix_refspec.specs.Grammar.{IsPositive}
 use Rattle.gix_refspec.specs.Side.{SideKind, object, HasKind, filled}
 use Rattle.gix_refspec.specs.Match.{Ref, Matches}
 use Rattle.gix_refspec.specs.Lists.{IsMadeFrom, IsJoinedFrom}
-use Rattle.gix_refspec.specs.Mappings.{name, id, Mapped, IsKept}
+use Rattle.gix_refspec.specs.Mappings.{name, id, Mapped, AreApart, IsKept}
 
 -- the sides of a spec as one direction sees them: the near one matches items, and the far one, where there
 -- is one, is filled
@@ -110,10 +110,14 @@ pub record AreKeptBackward (g : List Reading) (items : List Ref) (kept : List Ma
   pub backward : AreBackward g items all
   pub is : IsKept g all kept
 
--- a group and items have one list of mappings from left to right that stay
+-- a group and items have one list of mappings from left to right that stay, at the most
 abbrev pub OneForward : List Reading → List Ref → Type 0
 OneForward g items = (l m : List Mapped) → AreKeptForward g items l → AreKeptForward g items m → l ≡ m
 
 -- and one from right to left
 abbrev pub OneBackward : List Reading → List Ref → Type 0
 OneBackward g items = (l m : List Mapped) → AreKeptBackward g items l → AreKeptBackward g items m → l ≡ m
+
+-- no two of the mappings that stay have the same pair, in either direction
+abbrev pub KeptOnce : List Reading → List Ref → Type 0
+KeptOnce g items = (list : List Mapped) → AreKeptForward g items list ⊎ AreKeptBackward g items list → AreApart list

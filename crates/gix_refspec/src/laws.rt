@@ -1,5 +1,5 @@
-//! Laws of the definitions alone, and of the comparisons that are derived. Each function has no
-//! effect: its contract states the law of what it is given.
+//! Laws of the definitions, of specs at hand, and of comparisons. Each function has no effect: its
+//! contract states the law of what it is given.
 
 ghost use Rattle.std.specs.Prelude.{◌≡◌, ◌↔◌, map, IsTrue};
 ghost use Rattle.std.specs.Ordering.{nat_cmp};
@@ -7,13 +7,13 @@ ghost use Rattle.gix_refspec.specs.Laws.{ReadsOrRefused, OneRefusal, ReadsBack, 
 ghost use Rattle.gix_refspec.specs.Meaning.{meaning_of};
 ghost use Rattle.gix_refspec.specs.ObjectId.{id_bytes};
 ghost use Rattle.gix_refspec.specs.Order.{is_same, order, place_of};
-ghost use Rattle.gix_refspec.specs.Group.{ref_of, readings_of};
-ghost use Rattle.gix_refspec.specs.Hits.{OneForward, OneBackward};
+ghost use Rattle.gix_refspec.specs.Group.{ref_of, readings_of, start_of};
+ghost use Rattle.gix_refspec.specs.Hits.{KeptOnce, OneForward, OneBackward};
 ghost use Rattle.gix_refspec.specs.Spec.{reading_of, owned_reading_of};
 ghost use Rattle.gix_refspec.specs.Views.{shown_fetch, shown_push};
 
 use crate::instruction::{Fetch, Push};
-use crate::match_group::Item;
+use crate::match_group::{Item, SourceRef};
 use crate::oid::{Kind, ObjectId};
 use crate::parsing::Operation;
 use crate::{MatchGroup, RefSpec, RefSpecRef, name, oid};
@@ -109,14 +109,26 @@ pub fn candidates(side: &[u8])
     ensures { Candidates side.now }
 {}
 
-/// A group and items have exactly one list of mappings from left to right that stay.
+/// A group and items have no two lists of mappings from left to right that stay: the contract of
+/// `match_lhs` determines what it lists.
 pub fn one_forward(group: &MatchGroup<'_>, items: &[Item<'_>])
     ensures { OneForward (readings_of group.now) (map ref_of items.now) }
 {}
 
-/// A group and items have exactly one list of mappings from right to left that stay.
+/// As `one_forward`, from right to left: the contract of `match_rhs` determines what it lists.
 pub fn one_backward(group: &MatchGroup<'_>, items: &[Item<'_>])
     ensures { OneBackward (readings_of group.now) (map ref_of items.now) }
+{}
+
+/// No two mappings that stay have the same source and the same destination, in either direction.
+pub fn kept_once(group: &MatchGroup<'_>, items: &[Item<'_>])
+    ensures { KeptOnce (readings_of group.now) (map ref_of items.now) }
+{}
+
+/// Two sources are equal exactly where they are the same name or the same id.
+pub fn equal_sources<'a>(a: &SourceRef<'a>, b: &SourceRef<'a>)
+    ensures { IsTrue (⟦<SourceRef<'a> as PartialEq>⟧.eq a.now b.now) ↔
+        (start_of a.now ≡ start_of b.now) }
 {}
 
 /// Two kinds of ids are equal exactly where they are the same.

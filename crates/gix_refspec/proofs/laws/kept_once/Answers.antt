@@ -1,0 +1,10 @@
+-- What stays in either direction is kept of some list.
+use Rattle.std.proofs.Common.{inl, inr}
+use Rattle.gix_refspec.proofs.KeptLemmas.{kept_once}
+use Rattle.gix_refspec.proofs.laws.kept_once.Goals as goal
+
+pub returns : goal.returns
+returns c = λ list stays. elim stays [
+  | inl forward ↦ kept_once _ forward.all list forward.is
+  | inr backward ↦ kept_once _ backward.all list backward.is
+]
