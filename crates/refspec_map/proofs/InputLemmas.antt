@@ -6,7 +6,7 @@ use Rattle.std.specs.Io.KnownBytes.{Consumes}
 use Rattle.refspec_map.specs.declared.fault.Fault.{Fault}
 use Rattle.refspec_map.specs.declared.fault.Fault.TheVariants as fault
 use Rattle.refspec_map.specs.Fault.{IsReadOrMemory}
-use Rattle.refspec_map.specs.Run.{Explains}
+use Rattle.refspec_map.specs.Input.{IsReadFault}
 
 -- what one read took and what the next took are taken together
 pub Consumes-append : (x y z : Option (List ℕ)) (front back : List ℕ) → Consumes x y front → Consumes y z back → Consumes x z (front ++ back)
@@ -26,7 +26,7 @@ some_bytes [] some = absurd (some refl)
 some_bytes (b ∷ x) some = omega arith
 
 -- a fault of the reader or of memory needs no more
-pub explained : (x y : Option (List ℕ)) (f : Fault) → IsReadOrMemory f → Explains x y f
+pub explained : (x y : Option (List ℕ)) (f : Fault) → IsReadOrMemory f → IsReadFault x y f
 explained x y fault.Read h = tt
 explained x y fault.Memory h = tt
 explained x y fault.TooLong h = absurd h

@@ -1,2 +1,5 @@
+pub mod EntryLemmas
 pub mod InputLemmas
+pub mod LineLemmas
+pub mod MatchingLemmas
 pub mod OutputLemmas

@@ -54,7 +54,7 @@ or_more true b c d same = refl
 or_more false b c d same = ap (λ x. x || d) (sym same)
 
 -- the first line and the lines of the rest are those of the text
-lines_more : (text line rest : List ℕ) (lines : List (List ℕ)) → text ≢ [] → IsFirstLine text line rest → AreLines lines rest → (all : List (List ℕ)) × AreLines all text × (all ≡ line ∷ lines)
+pub lines_more : (text line rest : List ℕ) (lines : List (List ℕ)) → text ≢ [] → IsFirstLine text line rest → AreLines lines rest → (all : List (List ℕ)) × AreLines all text × (all ≡ line ∷ lines)
 lines_more text line rest lines full first cut = lines_more_by text line rest lines full first.0 cut first.1
 
 -- what the program made of a line, and the line of it, are an answer

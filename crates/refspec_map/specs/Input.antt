@@ -1,8 +1,10 @@
 -- An input that is read to its end, and its lines. This project's own rule: a newline ends a line, and
 -- every other byte, a carriage return too, is a byte of it.
-use Rattle.std.specs.Prelude.{◌≡◌, ◌≢◌, ◌≤◌, ◌⊎◌, ℕ, Bool, List, [], ◌∷◌, ◌++◌, Option, length, MatchBool}
+use Rattle.std.specs.Prelude.{◌≡◌, ◌≢◌, ◌<◌, ◌≤◌, ◌⊎◌, ℕ, Bool, List, [], ◌∷◌, ◌++◌, Option, length, MatchBool, ⊤}
 use Rattle.std.specs.Io.KnownBytes.{Consumes, IsAtEnd}
 use Rattle.gix_refspec.specs.Text.{Lacks}
+use Rattle.refspec_map.specs.declared.fault.Fault.{Fault}
+use Rattle.refspec_map.specs.declared.fault.Fault.TheVariants as fault
 
 -- the most bytes that an input may have
 abbrev pub input_limit : ℕ
@@ -20,6 +22,17 @@ pub record ReadsToEnd (old new : Option (List ℕ)) (input : List ℕ) : Type 0 
   pub taken : Consumes old new input
   pub ended : IsAtEnd new
   pub within : length input ≤ input_limit
+
+-- more bytes than the limit were read
+abbrev pub IsTooLong : Option (List ℕ) → Option (List ℕ) → Type 0
+IsTooLong old new = (input : List ℕ) × Consumes old new input × (input_limit < length input)
+
+-- when an input isn't read to its end
+abbrev pub IsReadFault : Option (List ℕ) → Option (List ℕ) → Fault → Type 0
+IsReadFault old new fault.TooLong = IsTooLong old new
+IsReadFault old new fault.Read = ⊤
+IsReadFault old new fault.Memory = ⊤
+IsReadFault old new _ = ⊥
 
 -- the newline
 abbrev pub newline : ℕ

@@ -1,4 +1,7 @@
 pub mod Fault
 pub mod Input
+pub mod Line
+pub mod Matching
 pub mod Output
 pub mod Run
+pub mod Told

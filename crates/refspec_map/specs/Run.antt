@@ -1,23 +1,30 @@
 -- What a run of a command does to its reader and its writer.
-use Rattle.std.specs.Prelude.{◌≡◌, ◌<◌, ℕ, Bool, List, Option, length, if◌then◌else◌, ⊤}
-use Rattle.std.specs.Io.KnownBytes.{Appends, Consumes, Keeps}
-use Rattle.gix_refspec.specs.declared.parsing.Operation.{Operation}
+use Rattle.std.specs.Prelude.{◌≡◌, ℕ, Bool, false, List, Option, if◌then◌else◌, ⊤}
+use Rattle.std.specs.Io.KnownBytes.{Appends, Keeps}
 use Rattle.gix_refspec.specs.declared.parsing.Operation.TheVariants.{Push, Fetch}
 use Rattle.refspec_map.specs.declared.command.Command.{Command}
 use Rattle.refspec_map.specs.declared.command.Command.TheVariants as command
 use Rattle.refspec_map.specs.declared.fault.Fault.{Fault}
 use Rattle.refspec_map.specs.declared.fault.Fault.TheVariants as fault
-use Rattle.refspec_map.specs.Input.{input_limit, ReadsToEnd}
+use Rattle.gix_refspec.specs.Hits.{AreKeptForward, AreKeptBackward}
+use Rattle.refspec_map.specs.Input.{IsTooLong, ReadsToEnd}
+use Rattle.refspec_map.specs.Line.{IsFirstFault}
+use Rattle.refspec_map.specs.Matching.{IsMatching}
 use Rattle.refspec_map.specs.Output.{IsCanon}
-
--- what a command reads its specs for
-abbrev pub operation_of : Command → Operation
-operation_of command.CanonFetch = Fetch
-operation_of command.CanonPush = Push
 
 -- the output of a command for an input, and whether some line is refused
 abbrev pub IsOutput : Command → List ℕ → List ℕ → Bool → Type 0
-IsOutput command = IsCanon (operation_of command)
+IsOutput command.CanonFetch input output refusal = IsCanon Fetch input output refusal
+IsOutput command.CanonPush input output refusal = IsCanon Push input output refusal
+IsOutput command.Lhs input output refusal = IsMatching AreKeptForward input output × (refusal ≡ false)
+IsOutput command.Rhs input output refusal = IsMatching AreKeptBackward input output × (refusal ≡ false)
+
+-- what is wrong with an input: the fault of the first bad line. A canon command takes every line
+abbrev pub IsBad : Command → List ℕ → Fault → Type 0
+IsBad command.CanonFetch input f = ⊥
+IsBad command.CanonPush input f = ⊥
+IsBad command.Lhs input f = IsFirstFault input f
+IsBad command.Rhs input f = IsFirstFault input f
 
 -- the input was read to its end, and its output was written
 pub record Answers (command : Command) (reader_old reader_new writer_old writer_new : Option (List ℕ)) (status : ℕ) : Type 0 where
@@ -29,14 +36,14 @@ pub record Answers (command : Command) (reader_old reader_new writer_old writer_
   pub written : Appends writer_old writer_new output
   pub tells : status ≡ (if refusal then 1 else 0)
 
--- when a fault comes. A canon command takes every line
-abbrev pub Explains : Option (List ℕ) → Option (List ℕ) → Fault → Type 0
-Explains old new fault.TooLong = (input : List ℕ) × Consumes old new input × (input_limit < length input)
-Explains old new fault.Read = ⊤
-Explains old new (fault.Line number) = ⊥
-Explains old new (fault.Spec number error) = ⊥
-Explains old new fault.Memory = ⊤
-Explains old new fault.Write = ⊤
+-- when a fault comes
+abbrev pub Explains : Command → Option (List ℕ) → Option (List ℕ) → Fault → Type 0
+Explains command old new fault.TooLong = IsTooLong old new
+Explains command old new fault.Read = ⊤
+Explains command old new (fault.Line number) = (input : List ℕ) × ReadsToEnd old new input × IsBad command input (fault.Line number)
+Explains command old new (fault.Spec number error) = (input : List ℕ) × ReadsToEnd old new input × IsBad command input (fault.Spec number error)
+Explains command old new fault.Memory = ⊤
+Explains command old new fault.Write = ⊤
 
 -- what was written before a fault: nothing, but where the writer failed
 abbrev pub Leaves : Option (List ℕ) → Option (List ℕ) → Fault → Type 0

@@ -1,10 +1,5 @@
 //! The commands of the program.
 
-ghost use Rattle.std.specs.Prelude.{◌≡◌};
-ghost use Rattle.refspec_map.specs.Run.{operation_of};
-
-use gix_refspec::parsing::Operation;
-
 /// What the program does with its input.
 #[derive(Clone, Copy, Debug, PartialEq, Eq)]
 pub enum Command {
@@ -13,16 +8,8 @@ pub enum Command {
     CanonFetch,
     /// The same as a spec for a push.
     CanonPush,
-}
-
-impl Command {
-    // What the command reads its specs for.
-    pub(crate) fn operation(self) -> Operation
-        ensures { result ≡ operation_of self }
-    {
-        match self {
-            Command::CanonFetch => Operation::Fetch,
-            Command::CanonPush => Operation::Push,
-        }
-    }
+    /// Reads specs for a fetch and the refs of a remote, and writes what the left sides match.
+    Lhs,
+    /// Reads specs for a fetch and local refs, and writes what the right sides match.
+    Rhs,
 }

@@ -2,8 +2,7 @@
 
 ghost use Rattle.std.specs.Prelude.{◌<◌, IfOk, IfErr, length};
 ghost use Rattle.refspec_map.specs.Fault.{IsReadOrMemory};
-ghost use Rattle.refspec_map.specs.Input.{ReadsToEnd, ReadsSome, IsFirstLine};
-ghost use Rattle.refspec_map.specs.Run.{Explains};
+ghost use Rattle.refspec_map.specs.Input.{IsReadFault, ReadsToEnd, ReadsSome, IsFirstLine};
 
 use crate::fault::Fault;
 use bstr::ByteSlice;
@@ -21,7 +20,7 @@ const CHUNK: usize = 65_536;
 pub(crate) fn read_input<R: Read>(alloc: Global, reader: &mut R) -> Result<Vec<u8>, Fault>
     ensures ok { IfOk result (λ input.
         ReadsToEnd (R.remaining reader.old) (R.remaining reader.new) input.items) }
-    ensures err { IfErr result (Explains (R.remaining reader.old) (R.remaining reader.new)) }
+    ensures err { IfErr result (IsReadFault (R.remaining reader.old) (R.remaining reader.new)) }
 {
     let Ok(mut buffer) = vec![in alloc; 0; CHUNK] else {
         return Err(Fault::Memory);

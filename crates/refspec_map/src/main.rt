@@ -1,10 +1,13 @@
-//! Reads refspecs, one a line, and prints their canonical texts.
+//! Reads refspecs, one a line, and prints their canonical texts; or reads refspecs and refs, and prints
+//! what the specs map.
 #![tactic(auto)]
 
 mod canon;
 mod command;
 mod fault;
 mod input;
+mod line;
+mod matching;
 mod output;
 mod run;
 
@@ -45,12 +48,17 @@ fn named_command<R: env::Env + AllocGlobal>(rt: &R) -> io::Result<Option<Command
     Ok(command_of(words.as_slice()))
 }
 
-// The command that two words name.
+// The command that words name.
 fn command_of(words: &[String]) -> Option<Command> {
     match words {
         [first, second] if first.as_str() == "canon" => match second.as_str() {
             "fetch" => Some(Command::CanonFetch),
             "push" => Some(Command::CanonPush),
+            _ => None,
+        },
+        [only] => match only.as_str() {
+            "lhs" => Some(Command::Lhs),
+            "rhs" => Some(Command::Rhs),
             _ => None,
         },
         _ => None,

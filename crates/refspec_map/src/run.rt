@@ -1,22 +1,27 @@
 //! A command, from its reader to its writer.
 
-ghost use Rattle.std.specs.Prelude.{IfOk, IfErr, OnOk};
+ghost use Rattle.std.specs.Prelude.{◌⊎◌, IfOk, IfErr, OnOk};
 ghost use Rattle.std.specs.Io.KnownBytes.{Appends};
-ghost use Rattle.refspec_map.specs.Fault.{IsWrite};
-ghost use Rattle.refspec_map.specs.Run.{Answers, Explains, Leaves};
+ghost use Rattle.refspec_map.specs.Fault.{IsMemory, IsWrite};
+ghost use Rattle.refspec_map.specs.Run.{Answers, Explains, IsBad, IsOutput, Leaves};
 
 use crate::canon::canon;
 use crate::command::Command;
 use crate::fault::Fault;
 use crate::input::read_input;
+use crate::matching::{lhs, rhs};
+use gix_refspec::parsing::Operation;
 use std::alloc::Global;
 use std::io::{Read, Write};
 
 /// Reads the input to its end, and writes the output of the command for it, by one `write_all` and
-/// one `flush`. Answers the status: 1 where some line is refused, else 0.
+/// one `flush`. Answers the status: 1 where a canon command refuses
+/// some line, else 0.
 ///
 /// - `Fault::TooLong` comes as soon as more than 1,048,576 bytes are read.
 /// - `Fault::Read` comes at the first read that fails. One that was interrupted isn't tried again.
+/// - `Fault::Line` and `Fault::Spec` come at the first line that has no form, or whose spec is
+///   refused, in a matching command. The whole input was read then. Memory may run out before.
 /// - `Fault::Memory` comes where a growth is refused.
 /// - `Fault::Write` comes where the writer fails. It may then have taken a part of the output.
 ///
@@ -31,15 +36,28 @@ pub fn run<R: Read, W: Write>(
     ensures ok { IfOk result (Answers command
         (R.remaining reader.old) (R.remaining reader.new) (W.contents writer.old)
         (W.contents writer.new)) }
-    ensures err { IfErr result (Explains (R.remaining reader.old) (R.remaining reader.new)) }
+    ensures err { IfErr result (Explains command (R.remaining reader.old) (R.remaining reader.new)) }
 
     // Nothing was written before a fault, but where the writer failed.
     ensures unwritten { IfErr result (Leaves (W.contents writer.old) (W.contents writer.new)) }
 {
     let input = read_input(alloc, reader)?;
-    let (output, refusal) = canon(alloc, command.operation(), input.as_slice())?;
+    let (output, refusal) = output_of(alloc, command, input.as_slice())?;
     write_output(writer, output.as_slice())?;
     Ok(u8::from(refusal))
+}
+
+// The output of a command for an input, and whether some line is refused.
+fn output_of(alloc: Global, command: Command, input: &[u8]) -> Result<(Vec<u8>, bool), Fault>
+    ensures ok { IfOk result (λ made. IsOutput command input.now made.0.items made.1) }
+    ensures err { IfErr result (λ f. IsMemory f ⊎ IsBad command input.now f) }
+{
+    match command {
+        Command::CanonFetch => canon(alloc, Operation::Fetch, input),
+        Command::CanonPush => canon(alloc, Operation::Push, input),
+        Command::Lhs => Ok((lhs(alloc, input)?, false)),
+        Command::Rhs => Ok((rhs(alloc, input)?, false)),
+    }
 }
 
 // Writes the output in one call, and flushes the writer.

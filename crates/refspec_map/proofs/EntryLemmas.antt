@@ -1,0 +1,152 @@
+-- What the lines of an input give, one after another.
+use Rattle.std.proofs.Common.{◌≡◌, ◌≢◌, ◌⊎◌, inl, inr, ℕ, ◌+◌, ◌<◌, ◌≤◌, ◌==◌, Bool, true, false, List, [], ◌∷◌, ◌++◌, map, length, refl, sym, ap, ◌∙◌, subst, append_assoc, length-append, eq-eqb, Result, OnOk, arith}
+use Rattle.std.specs.List.{AllZip}
+use Rattle.std.proofs.lemmas.Bool.{eqb-true, false≢true}
+use Rattle.std.proofs.lemmas.List.{append-nil, map-append}
+use Rattle.std.proofs.lemmas.Result.{on_ok_weaker}
+use Rattle.gix_refspec.specs.Reading.{Reading}
+use Rattle.gix_refspec.specs.declared.parsing.Operation.TheVariants.{Fetch}
+use Rattle.gix_refspec.specs.declared.spec.RefSpecRef.{RefSpecRef}
+use Rattle.gix_refspec.specs.Grammar.{Reads}
+use Rattle.gix_refspec.specs.Match.{Ref}
+use Rattle.gix_refspec.specs.Spec.{reading_of}
+use Rattle.refspec_map.specs.declared.fault.Fault.{Fault}
+use Rattle.refspec_map.specs.declared.line.ToldRef.{ToldRef}
+use Rattle.refspec_map.specs.declared.line.Entries.{Entries}
+use Rattle.refspec_map.specs.Fault.{IsMemory}
+use Rattle.refspec_map.specs.Input.{newline, AreLines, IsFirstLine}
+use Rattle.refspec_map.specs.Line.{Entry, reading, ref, spec, item, Says, Gives, readings_in, refs_in, IsReached, IsFaultOf, IsFirstFault}
+use Rattle.refspec_map.specs.Told.{told, Adds, AreEntries}
+use Rattle.refspec_map.proofs.OutputLemmas.{lines_more}
+
+-- a ref was put behind the entries
+pub Adds-ref : {T E : Type 0} (r : Result T E) (line : List ℕ) (old new : Entries) (t : ToldRef) → Says line (item (told t)) → new.specs.items ≡ old.specs.items → OnOk r (new.refs.items ≡ old.refs.items ++ t ∷ []) → OnOk r (Adds line old new)
+Adds-ref r line old new t says same pushed = on_ok_weaker r (λ put. record {
+  entry = ref (told t);
+  gives = says;
+  specs = ap (map reading_of) same ∙ sym (append-nil (map reading_of old.specs.items));
+  refs = ap (map told) put ∙ map-append told old.refs.items (t ∷ []);
+}) pushed
+
+-- a spec was put behind the entries
+pub Adds-spec : {T E : Type 0} (r : Result T E) (line text : List ℕ) (old new : Entries) (s : RefSpecRef) → Says line (spec text) → Reads Fetch text (reading_of s) → new.refs.items ≡ old.refs.items → OnOk r (new.specs.items ≡ old.specs.items ++ s ∷ []) → OnOk r (Adds line old new)
+Adds-spec r line text old new s says reads same pushed = on_ok_weaker r (λ put. record {
+  entry = reading (reading_of s);
+  gives = (text, says, reads);
+  specs = ap (map reading_of) put ∙ map-append reading_of old.specs.items (s ∷ []);
+  refs = ap (map told) same ∙ sym (append-nil (map told old.refs.items));
+}) pushed
+
+-- so many lines of the input gave these entries, and the rest is left
+pub record Reaches (input : List ℕ) (made : Entries) (count : ℕ) (rest : List ℕ) : Type 0 where
+  pub before : List (List ℕ)
+  pub entries : List Entry
+  pub cut : (lines : List (List ℕ)) → AreLines lines rest → AreLines (before ++ lines) input
+  pub given : AllZip Gives before entries
+  pub specs : map reading_of made.specs.items ≡ readings_in entries
+  pub refs : map told made.refs.items ≡ refs_in entries
+  pub counted : count ≡ length before
+  pub room : count + length rest ≤ length input
+
+-- at the start the whole input is left
+pub Reaches-start : (input : List ℕ) (made : Entries) → made.specs.items ≡ [] → made.refs.items ≡ [] → Reaches input made 0 input
+Reaches-start input made no_specs no_refs = record {
+  before = [];
+  entries = [];
+  cut = λ lines is. is;
+  given = tt;
+  specs = ap (map reading_of) no_specs;
+  refs = ap (map told) no_refs;
+  counted = refl;
+  room = omega arith;
+}
+
+-- at the end the entries are all
+pub Reaches-end : (input : List ℕ) (made : Entries) (count : ℕ) (rest : List ℕ) → rest ≡ [] → Reaches input made count rest → AreEntries input made
+Reaches-end input made count rest empty reaches = record {
+  lines = reaches.before;
+  entries = reaches.entries;
+  cut = subst (λ (ls : List (List ℕ)). AreLines ls input) (append-nil reaches.before) (reaches.cut [] empty);
+  given = reaches.given;
+  specs = reaches.specs;
+  refs = reaches.refs;
+}
+
+readings_in-append : (xs ys : List Entry) → readings_in (xs ++ ys) ≡ readings_in xs ++ readings_in ys
+readings_in-append [] ys = refl
+readings_in-append (reading r ∷ xs) ys = ap (λ l. r ∷ l) (readings_in-append xs ys)
+readings_in-append (ref r ∷ xs) ys = readings_in-append xs ys
+
+refs_in-append : (xs ys : List Entry) → refs_in (xs ++ ys) ≡ refs_in xs ++ refs_in ys
+refs_in-append [] ys = refl
+refs_in-append (reading r ∷ xs) ys = refs_in-append xs ys
+refs_in-append (ref r ∷ xs) ys = ap (λ l. r ∷ l) (refs_in-append xs ys)
+
+given_more : (lines : List (List ℕ)) (entries : List Entry) (line : List ℕ) (e : Entry) → AllZip Gives lines entries → Gives line e → AllZip Gives (lines ++ line ∷ []) (entries ++ e ∷ [])
+given_more [] [] line e given one = (one, tt)
+given_more [] (f ∷ entries) line e given one = absurd given
+given_more (l ∷ lines) [] line e given one = absurd given
+given_more (l ∷ lines) (f ∷ entries) line e given one = (given.0, given_more lines entries line e given.1 one)
+
+-- lines of what follows the first line, and those before it, are lines of the input
+cut_more : (input text line rest : List ℕ) (before lines : List (List ℕ)) → text ≢ [] → IsFirstLine text line rest → ((all : List (List ℕ)) → AreLines all text → AreLines (before ++ all) input) → AreLines lines rest → AreLines (before ++ (line ∷ lines)) input
+cut_more input text line rest before lines full first cut of_rest =
+    let all = lines_more text line rest lines full first of_rest in
+    subst (λ (ls : List (List ℕ)). AreLines (before ++ ls) input) all.2 (cut all.0 all.1)
+
+-- what follows the first line of a text is shorter
+shorter_by : (text line rest : List ℕ) → text ≢ [] → (text ≡ line ++ (newline ∷ rest)) ⊎ ((text ≡ line) × (rest ≡ [])) → 1 + length rest ≤ length text
+shorter_by text line rest full (inl ended) = omega (arith, ap length ended, length-append line (newline ∷ rest))
+shorter_by [] line rest full (inr last) = absurd (full refl)
+shorter_by (b ∷ text) line rest full (inr last) = omega (arith, ap length last.1)
+
+-- one line more
+pub Reaches-line : (input : List ℕ) (old new : Entries) (count : ℕ) (text line rest : List ℕ) → text ≢ [] → IsFirstLine text line rest → Adds line old new → Reaches input old count text → Reaches input new (count + 1) rest
+Reaches-line input old new count text line rest full first adds reaches = record {
+  before = reaches.before ++ line ∷ [];
+  entries = reaches.entries ++ adds.entry ∷ [];
+  cut = λ lines is. subst (λ (ls : List (List ℕ)). AreLines ls input) (sym (append_assoc reaches.before (line ∷ []) lines)) (cut_more input text line rest reaches.before lines full first reaches.cut is);
+  given = given_more reaches.before reaches.entries line adds.entry reaches.given adds.gives;
+  specs = adds.specs ∙ (ap (λ l. l ++ readings_in (adds.entry ∷ [])) reaches.specs ∙ sym (readings_in-append reaches.entries (adds.entry ∷ [])));
+  refs = adds.refs ∙ (ap (λ l. l ++ refs_in (adds.entry ∷ [])) reaches.refs ∙ sym (refs_in-append reaches.entries (adds.entry ∷ [])));
+  counted = omega (arith, reaches.counted, length-append reaches.before (line ∷ []));
+  room = omega (arith, reaches.room, shorter_by text line rest full first.1);
+}
+
+-- a list that begins with something isn't empty
+some_byte : (b : ℕ) (x : List ℕ) → b ∷ x ≢ []
+some_byte b x none = omega (arith, ap length none)
+
+-- a byte that is no newline stands at the front of the first line
+longer_by : (b : ℕ) (text line : List ℕ) (lines : List (List ℕ)) → ((rest : List ℕ) × (text ≡ line ++ (newline ∷ rest)) × AreLines lines rest) ⊎ ((line ≢ []) × (lines ≡ []) × (text ≡ line)) → ((rest : List ℕ) × (b ∷ text ≡ (b ∷ line) ++ (newline ∷ rest)) × AreLines lines rest) ⊎ ((b ∷ line ≢ []) × (lines ≡ []) × (b ∷ text ≡ b ∷ line))
+longer_by b text line lines (inl cut) = inl (cut.0, ap (λ t. b ∷ t) cut.1, cut.2)
+longer_by b text line lines (inr cut) = inr (some_byte b line, cut.1, ap (λ t. b ∷ t) cut.2)
+
+has_lines_by : (b : ℕ) (text : List ℕ) (lines : List (List ℕ)) (ends : Bool) → (b == newline) ≡ ends → AreLines lines text → (all : List (List ℕ)) × AreLines all (b ∷ text)
+has_lines_by b text lines true is cut = ([] ∷ lines, (tt, inl (text, ap (λ c. c ∷ text) (eqb-true b newline is), cut)))
+has_lines_by b text [] false is cut = ((b ∷ []) ∷ [], ((λ same. false≢true (sym is ∙ eq-eqb b newline same), tt), inr (some_byte b [], refl, ap (λ t. b ∷ t) cut)))
+has_lines_by b text (line ∷ lines) false is cut = ((b ∷ line) ∷ lines, ((λ same. false≢true (sym is ∙ eq-eqb b newline same), cut.0), longer_by b text line lines cut.1))
+
+-- every text has lines
+has_lines : (text : List ℕ) → (lines : List (List ℕ)) × AreLines lines text
+has_lines [] = ([], refl)
+has_lines (b ∷ text) = let lines = has_lines text in has_lines_by b text lines.0 (b == newline) refl lines.1
+
+-- the fault of the first bad line
+pub Reaches-fault : (input : List ℕ) (made : Entries) (count : ℕ) (text line rest : List ℕ) (f : Fault) → text ≢ [] → IsFirstLine text line rest → IsMemory f ⊎ IsFaultOf (count + 1) line f → Reaches input made count text → IsMemory f ⊎ IsFirstFault input f
+Reaches-fault input made count text line rest f full first (inl memory) reaches = inl memory
+Reaches-fault input made count text line rest f full first (inr fault) reaches =
+    let lines = has_lines rest in
+    inr (
+      count + 1,
+      line,
+      record {
+        before = reaches.before;
+        after = lines.0;
+        entries = reaches.entries;
+        cut = cut_more input text line rest reaches.before lines.0 full first reaches.cut lines.1;
+        good = reaches.given;
+        counted = ap (λ n. n + 1) reaches.counted;
+      },
+      fault,
+    )

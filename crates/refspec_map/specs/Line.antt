@@ -1,0 +1,98 @@
+-- What the lines of a matching command say: specs that are read for a fetch, and the refs of a
+-- repository. The forms of these lines are this project's own rule.
+use Rattle.std.specs.Prelude.{◌≡◌, ◌⊎◌, ℕ, ◌+◌, List, [], ◌∷◌, ◌++◌, None, Some, codes, length}
+use Rattle.std.specs.List.{AllZip}
+use Rattle.gix_refspec.specs.declared.parsing.Operation.TheVariants.{Fetch}
+use Rattle.gix_refspec.specs.Text.{Lacks}
+use Rattle.gix_refspec.specs.ObjectId.{IsIdText}
+use Rattle.gix_refspec.specs.Reading.{Reading}
+use Rattle.gix_refspec.specs.Grammar.{Reads}
+use Rattle.gix_refspec.specs.Refusal.{IsRefused}
+use Rattle.gix_refspec.specs.Views.{ShowsRefusal}
+use Rattle.gix_refspec.specs.Match.{Ref}
+use Rattle.refspec_map.specs.declared.fault.Fault.{Fault}
+use Rattle.refspec_map.specs.declared.fault.Fault.TheVariants as fault
+use Rattle.refspec_map.specs.Input.{AreLines}
+
+-- the space
+abbrev pub space : ℕ
+space = 32
+
+-- the first word of the text ends at its first space and spells the id, and the rest follows that space
+pub record IsIdThen (text id rest : List ℕ) : Type 0 where
+  pub word : List ℕ
+  pub ends : Lacks space word
+  pub spelled : IsIdText word id
+  pub here : text ≡ word ++ (space ∷ rest)
+
+-- `ref <id> <name>`: a ref and the id that it points to
+pub record IsRefLine (line : List ℕ) (r : Ref) : Type 0 where
+  pub words : List ℕ
+  pub here : line ≡ codes "ref " ++ words
+  pub target : IsIdThen words r.target r.name
+  pub object : r.object ≡ None
+
+-- `tag <id> <id> <name>`: a ref, the id that it points to, and the id of what was tagged
+pub record IsTagLine (line : List ℕ) (r : Ref) : Type 0 where
+  pub words : List ℕ
+  pub rest : List ℕ
+  pub id : List ℕ
+  pub here : line ≡ codes "tag " ++ words
+  pub target : IsIdThen words r.target rest
+  pub tagged : IsIdThen rest id r.name
+  pub object : r.object ≡ Some id
+
+-- what a line says: the text of a spec, or a ref
+pub data Line : Type 0 where
+  spec : List ℕ → Line
+  item : Ref → Line
+
+-- the line has the form of what it says: `spec <text>`, whose text may be empty, or that of a ref
+abbrev pub Says : List ℕ → Line → Type 0
+Says line (spec text) = line ≡ codes "spec " ++ text
+Says line (item r) = IsRefLine line r ⊎ IsTagLine line r
+
+-- the line has no form
+abbrev pub IsMalformed : List ℕ → Type 0
+IsMalformed line = (said : Line) → ¬ (Says line said)
+
+-- what a line gives to a group and its items: the reading of a spec, or a ref
+pub data Entry : Type 0 where
+  reading : Reading → Entry
+  ref : Ref → Entry
+
+-- the line gives this
+abbrev pub Gives : List ℕ → Entry → Type 0
+Gives line (reading r) = (text : List ℕ) × Says line (spec text) × Reads Fetch text r
+Gives line (ref r) = Says line (item r)
+
+-- the readings among the entries, in order
+abbrev pub readings_in : List Entry → List Reading
+readings_in [] = []
+readings_in (reading r ∷ entries) = r ∷ readings_in entries
+readings_in (ref r ∷ entries) = readings_in entries
+
+-- the refs among the entries, in order
+abbrev pub refs_in : List Entry → List Ref
+refs_in [] = []
+refs_in (reading r ∷ entries) = refs_in entries
+refs_in (ref r ∷ entries) = r ∷ refs_in entries
+
+-- the input has a line with this number, counted from 1, and each line before it gives something
+pub record IsReached (input : List ℕ) (number : ℕ) (line : List ℕ) : Type 0 where
+  pub before : List (List ℕ)
+  pub after : List (List ℕ)
+  pub entries : List Entry
+  pub cut : AreLines (before ++ (line ∷ after)) input
+  pub good : AllZip Gives before entries
+  pub counted : number ≡ length before + 1
+
+-- what is wrong with the line with this number: it has no form, or its spec is refused
+abbrev pub IsFaultOf : ℕ → List ℕ → Fault → Type 0
+IsFaultOf number line (fault.Line n) = (n ≡ number) × IsMalformed line
+IsFaultOf number line (fault.Spec n error) = (text : List ℕ) × (n ≡ number) × Says line (spec text) × ShowsRefusal (IsRefused Fetch text) error
+IsFaultOf number line _ = ⊥
+
+-- what is wrong with the first bad line of the input
+abbrev pub IsFirstFault : List ℕ → Fault → Type 0
+IsFirstFault input f = (number : ℕ) × (line : List ℕ) × IsReached input number line × IsFaultOf number line f

@@ -1,0 +1,44 @@
+-- What a matching command writes: a line for each mapping that is kept. The form of the line is this
+-- project's own rule.
+use Rattle.std.specs.Prelude.{◌≡◌, ℕ, List, [], ◌∷◌, ◌++◌, Option, None, Some, codes, decimal}
+use Rattle.std.specs.List.{AllZip, flat_map}
+use Rattle.gix_refspec.specs.ObjectId.{lower_of}
+use Rattle.gix_refspec.specs.Reading.{Reading}
+use Rattle.gix_refspec.specs.Match.{Ref}
+use Rattle.gix_refspec.specs.Mappings.{Start, name, id, Mapped}
+use Rattle.refspec_map.specs.Input.{newline, AreLines}
+use Rattle.refspec_map.specs.Line.{Entry, Gives, readings_in, refs_in}
+
+-- the tab
+abbrev pub tab : ℕ
+tab = 9
+
+-- the place of an item, or `-` where there is none
+abbrev pub item_text : Option ℕ → List ℕ
+item_text None = codes "-"
+item_text (Some place) = decimal place
+
+-- a name, or an id in lower case
+abbrev pub source_text : Start → List ℕ
+source_text (name n) = n
+source_text (id i) = lower_of i
+
+-- a tab and the destination, where there is one
+abbrev pub destination_text : Option (List ℕ) → List ℕ
+destination_text None = []
+destination_text (Some d) = tab ∷ d
+
+-- the line of a mapping: `map`, the places of its spec and its item, its source and its destination, with
+-- tabs between
+abbrev pub map_line : Mapped → List ℕ
+map_line m = codes "map\t" ++ (decimal m.spec ++ (tab ∷ (item_text m.item ++ (tab ∷ (source_text m.source ++ (destination_text m.destination ++ (newline ∷ [])))))))
+
+-- the output for an input whose lines all give something: a line for each mapping that is kept
+pub record IsMatching (AreKept : List Reading → List Ref → List Mapped → Type 0) (input output : List ℕ) : Type 0 where
+  pub lines : List (List ℕ)
+  pub entries : List Entry
+  pub mappings : List Mapped
+  pub cut : AreLines lines input
+  pub given : AllZip Gives lines entries
+  pub kept : AreKept (readings_in entries) (refs_in entries) mappings
+  pub written : output ≡ flat_map map_line mappings

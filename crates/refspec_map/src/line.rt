@@ -1,0 +1,211 @@
+//! The lines that a matching command reads: specs, and the refs of a repository.
+
+ghost use Rattle.std.specs.Prelude.{◌≡◌, ◌≢◌, ◌⊎◌, List, ℕ, [], ◌∷◌, ◌++◌, IfOk, IfErr, OnOk, MatchOption, map};
+ghost use Rattle.bstr.specs.BStr.{bstr_bytes};
+ghost use Rattle.gix_refspec.specs.declared.parsing.Operation.TheVariants.{Fetch};
+ghost use Rattle.gix_refspec.specs.Text.{Lacks};
+ghost use Rattle.gix_refspec.specs.Grammar.{Reads};
+ghost use Rattle.gix_refspec.specs.Refusal.{IsRefused};
+ghost use Rattle.gix_refspec.specs.Views.{ShowsRefusal};
+ghost use Rattle.gix_refspec.specs.Match.{Ref};
+ghost use Rattle.gix_refspec.specs.ObjectId.{id_bytes};
+ghost use Rattle.gix_refspec.specs.Spec.{reading_of};
+ghost use Rattle.gix_refspec.specs.Group.{ref_of};
+ghost use Rattle.refspec_map.specs.Fault.{IsMemory};
+ghost use Rattle.refspec_map.specs.Line.{space, IsFaultOf, IsFirstFault, IsIdThen, IsMalformed, IsRefLine, IsTagLine, Says, spec};
+ghost use Rattle.refspec_map.specs.Told.{line_of, told};
+
+use crate::fault::Fault;
+use crate::input::first_line;
+use bstr::{BStr, ByteSlice};
+use gix_refspec::match_group::Item;
+use gix_refspec::oid::ObjectId;
+use gix_refspec::parsing::{Error, Operation};
+use gix_refspec::{RefSpecRef, laws, parse};
+use std::alloc::Global;
+
+/// A ref that a line told of. It holds the ids, which an item borrows.
+#[derive(Clone, Copy)]
+pub(crate) struct ToldRef<'a> {
+    name: BStr<'a>,
+    target: ObjectId,
+    object: Option<ObjectId>,
+}
+
+impl<'a> ToldRef<'a> {
+    /// The ref as an item.
+    pub(crate) fn as_item(&self) -> Item<'_>
+        ensures { ref_of result ≡ told self.now }
+    {
+        Item {
+            full_ref_name: self.name,
+            target: &self.target,
+            object: match &self.object {
+                None => None,
+                Some(id) => Some(id),
+            },
+        }
+    }
+}
+
+// What a line says.
+#[derive(Clone, Copy)]
+enum Said<'a> {
+    // The text of a spec.
+    Spec(BStr<'a>),
+    Ref(ToldRef<'a>),
+}
+
+/// What the lines of an input give, each kind in order.
+#[derive(Drop)]
+pub(crate) struct Entries<'a> {
+    pub(crate) specs: Vec<RefSpecRef<'a>>,
+    pub(crate) refs: Vec<ToldRef<'a>>,
+}
+
+impl<'a> Entries<'a> {
+    ghost use Rattle.refspec_map.specs.Told.{Adds, AreEntries};
+
+    /// Reads the lines of an input, up to the first bad one.
+    pub(crate) fn read(alloc: Global, input: &'a [u8]) -> Result<Entries<'a>, Fault>
+        ensures ok { IfOk result (AreEntries input.now) }
+        ensures err { IfErr result (λ f. IsMemory f ⊎ IsFirstFault input.now f) }
+    {
+        let mut entries = Entries {
+            specs: Vec::new(alloc),
+            refs: Vec::new(alloc),
+        };
+        let mut number = 0;
+        let mut rest = input;
+        while !rest.is_empty() {
+            let (line, after) = first_line(rest);
+            number += 1;
+            entries.add(alloc, number, line)?;
+            rest = after;
+        }
+        Ok(entries)
+    }
+
+    // Adds what a line gives, which has this number.
+    fn add(&mut self, alloc: Global, number: usize, line: &'a [u8]) -> Result<(), Fault>
+        ensures ok { OnOk result (Adds line.now self.old self.new) }
+        ensures err { IfErr result (λ f. IsMemory f ⊎ IsFaultOf number line.now f) }
+    {
+        match said_by(line) {
+            None => Err(Fault::Line(number)),
+            Some(Said::Ref(told)) => push(&mut self.refs, told),
+            Some(Said::Spec(text)) => {
+                let spec = spec_of(alloc, number, text)?;
+                push(&mut self.specs, spec)
+            }
+        }
+    }
+}
+
+/// Puts a value at the end of a list.
+pub(crate) fn push<T: Drop>(list: &mut Vec<T>, value: T) -> Result<(), Fault>
+    ensures ok { OnOk result (list.new.items ≡ list.old.items ++ value ∷ []) }
+    ensures err { IfErr result IsMemory }
+{
+    match list.push(value) {
+        Ok(()) => Ok(()),
+        Err(_) => Err(Fault::Memory),
+    }
+}
+
+// The spec that the text of a line is for a fetch. The line has this number.
+fn spec_of(alloc: Global, number: usize, text: BStr<'_>) -> Result<RefSpecRef<'_>, Fault>
+    ensures ok { IfOk result (λ s. Reads Fetch (bstr_bytes text.entry) (reading_of s)) }
+    ensures err { IfErr result (λ f. IsMemory f
+        ⊎ ((line : List ℕ) → Says line (spec (bstr_bytes text.entry)) → IsFaultOf number line f)) }
+{
+    match parse(alloc, text, Operation::Fetch) {
+        Ok(spec) => Ok(spec),
+        Err(error) => {
+            if matches!(error, Error::Memory) {
+                return Err(Fault::Memory);
+            }
+            Err(Fault::Spec {
+                line: number,
+                error,
+            })
+        }
+    }
+}
+
+// What a line says, where it has a form.
+fn said_by(line: &[u8]) -> Option<Said<'_>>
+    ensures { MatchOption result (IsMalformed line.now) (λ said. Says line.now (line_of said)) }
+{
+    if let Some(text) = behind(line, b"spec ") {
+        return Some(Said::Spec(BStr::new(text)));
+    }
+    if let Some(told) = ref_line(line) {
+        return Some(Said::Ref(told));
+    }
+    match tag_line(line) {
+        Some(told) => Some(Said::Ref(told)),
+        None => None,
+    }
+}
+
+// The ref of a line `ref <id> <name>`.
+fn ref_line(line: &[u8]) -> Option<ToldRef<'_>>
+    ensures { MatchOption result ((r : Ref) → ¬ (IsRefLine line.now r)) (λ r. IsRefLine line.now (told r)) }
+{
+    let words = behind(line, b"ref ")?;
+    let (target, name) = id_then(words)?;
+    Some(ToldRef {
+        name: BStr::new(name),
+        target,
+        object: None,
+    })
+}
+
+// The ref of a line `tag <id> <id> <name>`.
+fn tag_line(line: &[u8]) -> Option<ToldRef<'_>>
+    ensures { MatchOption result ((r : Ref) → ¬ (IsTagLine line.now r)) (λ r. IsTagLine line.now (told r)) }
+{
+    let words = behind(line, b"tag ")?;
+    let (target, rest) = id_then(words)?;
+    let (object, name) = id_then(rest)?;
+    Some(ToldRef {
+        name: BStr::new(name),
+        target,
+        object: Some(object),
+    })
+}
+
+// The id that the first word of a text spells, and what follows the space behind it.
+fn id_then(text: &[u8]) -> Option<(ObjectId, &[u8])>
+    ensures { MatchOption result
+        ((id rest : List ℕ) → ¬ (IsIdThen text.now id rest))
+        (λ parts. IsIdThen text.now (id_bytes parts.0) parts.1.now) }
+{
+    let (word, rest) = first_word(text)?;
+    laws::id_or_fault(word);
+    match ObjectId::from_hex(word) {
+        Ok(id) => Some((id, rest)),
+        Err(_) => None,
+    }
+}
+
+// The first word of a text, which ends at its first space, and what follows that space.
+fn first_word(text: &[u8]) -> Option<(&[u8], &[u8])>
+    ensures { MatchOption result
+        (Lacks space text.now)
+        (λ parts. (text.now ≡ parts.0.now ++ (space ∷ parts.1.now)) × Lacks space parts.0.now) }
+{
+    let end = text.find_byte(b' ')?;
+    let (word, back) = text.split_at(end);
+    Some((word, &back[1..]))
+}
+
+// What stands behind a keyword.
+fn behind<'a>(line: &'a [u8], keyword: &[u8]) -> Option<&'a [u8]>
+    ensures { MatchOption result
+        ((rest : List ℕ) → line.now ≢ keyword.now ++ rest)
+        (λ rest. line.now ≡ keyword.now ++ rest.now) }
+{
+    line.strip_prefix(keyword)
+}
