@@ -1,21 +1,19 @@
 -- What the lines of an input give, one after another.
-use Rattle.std.proofs.Common.{◌≡◌, ◌≢◌, ◌⊎◌, inl, inr, ℕ, ◌+◌, ◌<◌, ◌≤◌, ◌==◌, Bool, true, false, List, [], ◌∷◌, ◌++◌, map, length, refl, sym, ap, ◌∙◌, subst, append_assoc, length-append, eq-eqb, Result, OnOk, arith}
+use Rattle.std.proofs.Common.{◌≡◌, ◌≢◌, ◌⊎◌, inl, inr, ℕ, ◌+◌, ◌≤◌, ◌==◌, Bool, true, false, List, [], ◌∷◌, ◌++◌, map, length, refl, sym, ap, ◌∙◌, subst, append_assoc, length-append, eq-eqb, Result, OnOk, arith}
 use Rattle.std.specs.List.{AllZip}
 use Rattle.std.proofs.lemmas.Bool.{eqb-true, false≢true}
 use Rattle.std.proofs.lemmas.List.{append-nil, map-append}
 use Rattle.std.proofs.lemmas.Result.{on_ok_weaker}
-use Rattle.gix_refspec.specs.Reading.{Reading}
 use Rattle.gix_refspec.specs.declared.parsing.Operation.TheVariants.{Fetch}
 use Rattle.gix_refspec.specs.declared.spec.RefSpecRef.{RefSpecRef}
 use Rattle.gix_refspec.specs.Grammar.{Reads}
-use Rattle.gix_refspec.specs.Match.{Ref}
 use Rattle.gix_refspec.specs.Spec.{reading_of}
 use Rattle.refspec_map.specs.declared.fault.Fault.{Fault}
 use Rattle.refspec_map.specs.declared.line.ToldRef.{ToldRef}
 use Rattle.refspec_map.specs.declared.line.Entries.{Entries}
 use Rattle.refspec_map.specs.Fault.{IsMemory}
 use Rattle.refspec_map.specs.Input.{newline, AreLines, IsFirstLine}
-use Rattle.refspec_map.specs.Line.{Entry, reading, ref, spec, item, Says, Gives, readings_in, refs_in, IsReached, IsFaultOf, IsFirstFault}
+use Rattle.refspec_map.specs.Line.{Entry, reading, ref, spec, item, Says, Gives, readings_in, refs_in, IsFaultOf, IsFirstFault}
 use Rattle.refspec_map.specs.Told.{told, Adds, AreEntries}
 use Rattle.refspec_map.proofs.OutputLemmas.{lines_more}
 

@@ -1,12 +1,12 @@
 -- The forms of lines: what an id and the rest of a line are is settled by the first space.
-use Rattle.std.proofs.Common.{◌≡◌, ◌≢◌, ◌⊎◌, inl, inr, ℕ, List, [], ◌∷◌, ◌++◌, get_or, drop, codes, sym, ap, ◌∙◌, subst, refl, None, Some, Option}
+use Rattle.std.proofs.Common.{◌≡◌, ◌≢◌, inl, inr, ℕ, List, [], ◌∷◌, ◌++◌, get_or, drop, codes, sym, ap, ◌∙◌, subst, refl}
 use Rattle.std.proofs.lemmas.List.{append_cancel_left}
 use Rattle.gix_refspec.specs.declared.oid.Error.{Error as IdError}
 use Rattle.gix_refspec.specs.Text.{Lacks}
 use Rattle.gix_refspec.specs.ObjectId.{IsIdText, HasIdFault}
 use Rattle.gix_refspec.specs.Laws.{IdOrFault}
 use Rattle.gix_refspec.specs.Match.{Ref}
-use Rattle.refspec_map.specs.Line.{space, IsIdThen, IsRefLine, IsTagLine, spec, item, Line, Says, IsMalformed}
+use Rattle.refspec_map.specs.Line.{space, IsIdThen, IsRefLine, IsTagLine, spec, item, IsMalformed}
 
 -- a text that lacks a byte has no place with it
 Lacks-here : (b : ℕ) (front back : List ℕ) → Lacks b (front ++ (b ∷ back)) → ⊥
