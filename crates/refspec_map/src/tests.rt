@@ -3,6 +3,7 @@
 mod canon;
 mod devices;
 mod faults;
+mod matching;
 mod words;
 
 use crate::command::Command;

@@ -19,6 +19,8 @@ fn names_the_commands(rt: HostRuntime) -> Result<(), Fail> {
     let rows = [
         (["canon", "fetch"].as_slice(), Some(Command::CanonFetch)),
         (["canon", "push"].as_slice(), Some(Command::CanonPush)),
+        (["lhs"].as_slice(), Some(Command::Lhs)),
+        (["rhs"].as_slice(), Some(Command::Rhs)),
         ([].as_slice(), None),
         (["canon"].as_slice(), None),
         (["canon fetch"].as_slice(), None),
@@ -30,6 +32,12 @@ fn names_the_commands(rt: HostRuntime) -> Result<(), Fail> {
         (["push", "canon"].as_slice(), None),
         (["", "fetch"].as_slice(), None),
         (["canon ", "push"].as_slice(), None),
+        (["Lhs"].as_slice(), None),
+        (["lhs", "x"].as_slice(), None),
+        (["lhs", ""].as_slice(), None),
+        (["rhs", "lhs"].as_slice(), None),
+        (["canon", "rhs"].as_slice(), None),
+        ([" rhs"].as_slice(), None),
     ];
     for (words, command) in rows {
         assert_eq!(rt; named(rt.alloc(), words)?, command, "at {words:?}");
