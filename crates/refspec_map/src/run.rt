@@ -15,8 +15,7 @@ use std::alloc::Global;
 use std::io::{Read, Write};
 
 /// Reads the input to its end, and writes the output of the command for it, by one `write_all` and
-/// one `flush`. Answers the status: 1 where a canon command refuses
-/// some line, else 0.
+/// one `flush`. Returns the status: 1 where a canon command refuses some line, else 0.
 ///
 /// - `Fault::TooLong` comes as soon as more than 1,048,576 bytes are read.
 /// - `Fault::Read` comes at the first read that fails. One that was interrupted isn't tried again.
@@ -26,7 +25,8 @@ use std::io::{Read, Write};
 /// - `Fault::Write` comes where the writer fails. It may then have taken a part of the output.
 ///
 /// After any fault but the last nothing is written, and what was read is gone from the reader. Time
-/// and memory are linear in the length of the input.
+/// and memory of a canon command are linear in the length of the input. A matching command looks at
+/// each ref for each spec.
 pub fn run<R: Read, W: Write>(
     alloc: Global,
     command: Command,
