@@ -35,7 +35,7 @@ key_of (fetch_and_update s d forced) = (6 ∷ []) ∷ s ∷ d ∷ flag forced �
 abbrev pub is_same : Meaning → Meaning → Bool
 is_same a b = pointwise (pointwise nat_eq) (key_of a) (key_of b)
 
--- which of two instructions stands first
+-- how two instructions compare
 abbrev pub order : Meaning → Meaning → Ordering
 order a b = slice_cmp (slice_cmp nat_cmp) (key_of a) (key_of b)
 

@@ -88,7 +88,7 @@ pub fn nothing_against(pattern: &[u8])
     ensures { NothingAgainst pattern.now }
 {}
 
-/// A name has one word at the most between what stands before and behind the star of a pattern.
+/// A pattern's star matches at most one word of a name.
 pub fn one_word(before: &[u8], after: &[u8], name: &[u8])
     ensures { OneWord before.now after.now name.now }
 {}
@@ -98,7 +98,7 @@ pub fn prefix_begins(side: &[u8])
     ensures { PrefixBegins side.now }
 {}
 
-/// A side has no two prefixes, and is not expanded to two lists.
+/// A side has at most one prefix and one expansion.
 pub fn one_prefix(side: &[u8])
     ensures { OnePrefix side.now }
 {}

@@ -78,7 +78,7 @@ pub fn name_partial(name: BStr<'_>) -> Result<(), Error>
     }
 }
 
-/// Whether exactly one star stands in a text, as `pattern_partial` requires it.
+/// Whether a text has exactly one star: the condition of [`pattern_partial`].
 pub fn has_one_star(text: BStr<'_>) -> bool
     ensures { IsTrue result ↔ HasOneStar (bstr_bytes text.entry) }
 {

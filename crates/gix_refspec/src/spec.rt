@@ -49,8 +49,8 @@ impl<'a> RefSpecRef<'a> {
         self.src
     }
 
-    /// The right side, as it was read. None where nothing stands behind a colon, though a push of a
-    /// source alone has it as its destination too.
+    /// The right side, as it was read. `None` without a destination. For a push of `main` too,
+    /// although it pushes to `main`.
     pub fn destination(&self) -> Option<BStr<'a>>
         ensures { option_map bstr_bytes result ≡ (reading_of self.now).destination }
     {
@@ -80,8 +80,8 @@ impl<'a> RefSpecRef<'a> {
         }
     }
 
-    /// A copy that owns its sides. `AllocError` comes where there is no memory for them, and never
-    /// where both are missing.
+    /// A copy that owns its sides. Fails if memory runs out, and never where both are
+    /// missing.
     pub fn to_owned(&self, alloc: Global) -> Result<RefSpec, AllocError>
         ensures keeps { IfOk result (λ owned. owned_reading_of owned ≡ reading_of self.now) }
         ensures memory { OnErr result (HasSide (reading_of self.now)) }
@@ -169,8 +169,8 @@ impl RefSpec {
         self.mode == Mode::Force
     }
 
-    /// A copy with sides of its own. `AllocError` comes where there is no memory for them, and
-    /// never where both are missing.
+    /// A copy with sides of its own. Fails if memory runs out, and never where
+    /// both are missing.
     pub fn clone(&self, alloc: Global) -> Result<RefSpec, AllocError>
         ensures keeps { IfOk result (λ copy. owned_reading_of copy ≡ owned_reading_of self.now) }
         ensures memory { OnErr result (HasSide (owned_reading_of self.now)) }

@@ -1,4 +1,4 @@
-//! How a refspec counts, and what it says to do.
+//! The mode of a refspec, and its instruction.
 
 use crate::instruction;
 

@@ -33,7 +33,7 @@ fn sign(forced: bool) -> &'static [u8]
 }
 
 impl<'a> Instruction<'a> {
-    /// The canonical text of the instruction. `AllocError` comes where there is no memory for it.
+    /// The canonical text of the instruction. Fails if memory runs out.
     pub fn to_bstring(&self, alloc: Global) -> Result<BString, AllocError>
         ensures { IfOk result (λ text. bstring_bytes text ≡ text_of (shown self.now)) }
     {
@@ -158,7 +158,7 @@ impl<'a> RefSpecRef<'a> {
     ghost use Rattle.gix_refspec.specs.Meaning.{printed, WritesPrinted};
     ghost use Rattle.gix_refspec.specs.Spec.{reading_of};
 
-    /// The canonical text of the spec. `AllocError` comes where there is no memory for it.
+    /// The canonical text of the spec. Fails if memory runs out.
     pub fn to_bstring(&self, alloc: Global) -> Result<BString, AllocError>
         ensures { IfOk result (λ text. printed (reading_of self.now) ≡ Some (bstring_bytes text)) }
     {

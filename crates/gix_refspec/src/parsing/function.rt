@@ -57,7 +57,7 @@ pub fn parse<'a>(
 ) -> Result<RefSpecRef<'a>, Error>
     ensures ok { IfOk result (λ s. Reads operation (bstr_bytes spec.entry) (reading_of s)) }
 
-    // The first reason that applies; or out of memory, only where a side may need it.
+    // The first reason that applies. Out of memory only if a side may need it.
     ensures refused { IfErr result (λ e. e ≢ Error.Memory →
         ShowsRefusal (IsRefused operation (bstr_bytes spec.entry)) e) }
     ensures memory { IfErr result (λ e. e ≡ Error.Memory →

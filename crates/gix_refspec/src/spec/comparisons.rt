@@ -23,7 +23,7 @@ fn is_same(a: Instruction<'_>, b: Instruction<'_>) -> bool
     a == b
 }
 
-// Which of two instructions stands first.
+// How two instructions compare.
 fn compare(a: Instruction<'_>, b: Instruction<'_>) -> Ordering
     ensures { result ≡ order (shown a.entry) (shown b.entry) }
 {
