@@ -1,6 +1,6 @@
 -- Which items the specs of a group match, and the mappings that these make in each direction, by
--- git-fetch(1) and git-push(1) under `<refspec>`. The order of mappings, and what an id as a source or a
--- destination gives, are this project's own rules.
+-- git-fetch(1) and git-push(1) under `<refspec>`. The order of mappings, matching from right to left, and
+-- what an id as a source or a destination gives, are this project's own rules.
 use Rattle.std.specs.Prelude.{◌≡◌, ◌⊎◌, ℕ, List, [], ◌++◌, Option, None, Some, IsSome, map, unwrap_or}
 use Rattle.gix_refspec.specs.Reading.{Reading}
 use Rattle.gix_refspec.specs.Grammar.{IsPositive}

@@ -1,5 +1,6 @@
 -- Mappings between the refs of two repositories, and which of them are kept, by git-fetch(1) and
--- git-push(1) under `<refspec>`. That a mapping which stands twice is kept once is this project's own rule.
+-- git-push(1) under `<refspec>`. That a mapping which stands twice is kept
+-- once, and that a push excludes as a fetch does, are this project's own rules.
 use Rattle.std.specs.Prelude.{◌≡◌, ◌⊎◌, ℕ, List, [], ◌∷◌, Option, Some, take}
 use Rattle.std.specs.List.{AllByRecursion}
 use Rattle.gix_refspec.specs.Reading.{Reading, Negative}
