@@ -1,4 +1,5 @@
 pub mod EntryLemmas
+pub mod FaultLemmas
 pub mod InputLemmas
 pub mod LineLemmas
 pub mod MatchingLemmas

@@ -9,7 +9,7 @@ use Rattle.gix_refspec.specs.Match.{Ref}
 use Rattle.refspec_map.specs.Line.{space, IsIdThen, IsRefLine, IsTagLine, spec, item, IsMalformed}
 
 -- a text that lacks a byte has no place with it
-Lacks-here : (b : ℕ) (front back : List ℕ) → Lacks b (front ++ (b ∷ back)) → ⊥
+pub Lacks-here : (b : ℕ) (front back : List ℕ) → Lacks b (front ++ (b ∷ back)) → ⊥
 Lacks-here b [] back lacks = lacks.0 refl
 Lacks-here b (c ∷ front) back lacks = Lacks-here b front back lacks.1
 

@@ -38,7 +38,7 @@ not_of_nothing line lines (inl cut) = nothing_ends line cut.0 cut.1
 not_of_nothing line lines (inr cut) = cut.0 (sym cut.2)
 
 -- nothing has no lines
-no_lines : (lines : List (List ℕ)) → AreLines lines [] → lines ≡ []
+pub no_lines : (lines : List (List ℕ)) → AreLines lines [] → lines ≡ []
 no_lines [] cut = refl
 no_lines (line ∷ lines) cut = absurd (not_of_nothing line lines cut.1)
 

@@ -36,6 +36,12 @@ pub record Answers (command : Command) (reader_old reader_new writer_old writer_
   pub written : Appends writer_old writer_new output
   pub tells : status ≡ (if refusal then 1 else 0)
 
+-- the input was read to its end, and nothing is wrong with it
+pub record IsGood (command : Command) (old new : Option (List ℕ)) : Type 0 where
+  pub input : List ℕ
+  pub read : ReadsToEnd old new input
+  pub good : (f : Fault) → ¬ (IsBad command input f)
+
 -- when a fault comes
 abbrev pub Explains : Command → Option (List ℕ) → Option (List ℕ) → Fault → Type 0
 Explains command old new fault.TooLong = IsTooLong old new

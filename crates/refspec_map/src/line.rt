@@ -1,12 +1,10 @@
 //! The lines that a matching command reads: specs, and the refs of a repository.
 
-ghost use Rattle.std.specs.Prelude.{◌≡◌, ◌≢◌, ◌⊎◌, List, ℕ, [], ◌∷◌, ◌++◌, IfOk, IfErr, OnOk, MatchOption, map};
+ghost use Rattle.std.specs.Prelude.{◌≡◌, ◌≢◌, ◌⊎◌, List, ℕ, [], ◌∷◌, ◌++◌, IfOk, IfErr, OnOk, MatchOption};
 ghost use Rattle.bstr.specs.BStr.{bstr_bytes};
 ghost use Rattle.gix_refspec.specs.declared.parsing.Operation.TheVariants.{Fetch};
 ghost use Rattle.gix_refspec.specs.Text.{Lacks};
 ghost use Rattle.gix_refspec.specs.Grammar.{Reads};
-ghost use Rattle.gix_refspec.specs.Refusal.{IsRefused};
-ghost use Rattle.gix_refspec.specs.Views.{ShowsRefusal};
 ghost use Rattle.gix_refspec.specs.Match.{Ref};
 ghost use Rattle.gix_refspec.specs.ObjectId.{id_bytes};
 ghost use Rattle.gix_refspec.specs.Spec.{reading_of};
@@ -151,7 +149,9 @@ fn said_by(line: &[u8]) -> Option<Said<'_>>
 
 // The ref of a line `ref <id> <name>`.
 fn ref_line(line: &[u8]) -> Option<ToldRef<'_>>
-    ensures { MatchOption result ((r : Ref) → ¬ (IsRefLine line.now r)) (λ r. IsRefLine line.now (told r)) }
+    ensures { MatchOption result
+        ((r : Ref) → ¬ (IsRefLine line.now r))
+        (λ r. IsRefLine line.now (told r)) }
 {
     let words = behind(line, b"ref ")?;
     let (target, name) = id_then(words)?;
@@ -164,7 +164,9 @@ fn ref_line(line: &[u8]) -> Option<ToldRef<'_>>
 
 // The ref of a line `tag <id> <id> <name>`.
 fn tag_line(line: &[u8]) -> Option<ToldRef<'_>>
-    ensures { MatchOption result ((r : Ref) → ¬ (IsTagLine line.now r)) (λ r. IsTagLine line.now (told r)) }
+    ensures { MatchOption result
+        ((r : Ref) → ¬ (IsTagLine line.now r))
+        (λ r. IsTagLine line.now (told r)) }
 {
     let words = behind(line, b"tag ")?;
     let (target, rest) = id_then(words)?;

@@ -1,5 +1,5 @@
-//! Reads refspecs, one a line, and prints their canonical texts; or reads refspecs and refs, and prints
-//! what the specs map.
+//! Reads refspecs, one a line, and prints their canonical texts; or reads refspecs and refs, and
+//! prints what the specs map.
 #![tactic(auto)]
 
 mod canon;

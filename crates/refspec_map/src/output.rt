@@ -78,7 +78,8 @@ pub(crate) fn mapping_lines(alloc: Global, mappings: &[Mapping<'_, '_>]) -> Resu
 
 // Appends the line of a mapping.
 fn put_mapping(output: &mut Vec<u8>, mapping: &Mapping<'_, '_>) -> Result<(), Fault>
-    ensures ok { OnOk result (output.new.items ≡ output.old.items ++ map_line (mapped_of mapping.now)) }
+    ensures ok { OnOk result (output.new.items ≡
+        output.old.items ++ map_line (mapped_of mapping.now)) }
     ensures err { IfErr result IsMemory }
 {
     // A vector that is written to fails for want of memory alone.
@@ -90,7 +91,8 @@ fn put_mapping(output: &mut Vec<u8>, mapping: &Mapping<'_, '_>) -> Result<(), Fa
 
 // Writes the line of a mapping.
 fn write_mapping(output: &mut Vec<u8>, mapping: &Mapping<'_, '_>) -> io::Result<()>
-    ensures { OnOk result (output.new.items ≡ output.old.items ++ map_line (mapped_of mapping.now)) }
+    ensures { OnOk result (output.new.items ≡
+        output.old.items ++ map_line (mapped_of mapping.now)) }
 {
     write!(output, "map\t{}\t", mapping.spec_index)?;
     write_item(output, mapping.item_index)?;
@@ -112,7 +114,8 @@ fn write_item(output: &mut Vec<u8>, item: Option<usize>) -> io::Result<()>
 
 // Writes a source: a name by its bytes, or an id in lower case.
 fn write_source(output: &mut Vec<u8>, source: &SourceRef<'_>) -> io::Result<()>
-    ensures { OnOk result (output.new.items ≡ output.old.items ++ source_text (start_of source.now)) }
+    ensures { OnOk result (output.new.items ≡
+        output.old.items ++ source_text (start_of source.now)) }
 {
     match source {
         SourceRef::FullName(name) => output.write_all(name.as_bstr().as_bytes()),

@@ -3,7 +3,7 @@
 ghost use Rattle.std.specs.Prelude.{◌⊎◌, IfOk, IfErr, OnOk};
 ghost use Rattle.std.specs.Io.KnownBytes.{Appends};
 ghost use Rattle.refspec_map.specs.Fault.{IsMemory, IsWrite};
-ghost use Rattle.refspec_map.specs.Run.{Answers, Explains, IsBad, IsOutput, Leaves};
+ghost use Rattle.refspec_map.specs.Run.{Answers, Explains, IsBad, IsGood, IsOutput, Leaves};
 
 use crate::canon::canon;
 use crate::command::Command;
@@ -36,7 +36,10 @@ pub fn run<R: Read, W: Write>(
     ensures ok { IfOk result (Answers command
         (R.remaining reader.old) (R.remaining reader.new) (W.contents writer.old)
         (W.contents writer.new)) }
-    ensures err { IfErr result (Explains command (R.remaining reader.old) (R.remaining reader.new)) }
+    ensures good { IfOk result (λ _.
+        IsGood command (R.remaining reader.old) (R.remaining reader.new)) }
+    ensures err { IfErr result (Explains command
+        (R.remaining reader.old) (R.remaining reader.new)) }
 
     // Nothing was written before a fault, but where the writer failed.
     ensures unwritten { IfErr result (Leaves (W.contents writer.old) (W.contents writer.new)) }
