@@ -1,0 +1,82 @@
+//! What a benchmark calls to time matching within its own process.
+#![tactic(auto)]
+
+use bstr::BStr;
+use gix_refspec::match_group::Item;
+use gix_refspec::oid::{Kind, ObjectId};
+use gix_refspec::parsing::Operation;
+use gix_refspec::{MatchGroup, parse};
+use std::alloc::{AllocError, Global};
+
+/// Reads fetch specs and the names of refs, one in each line, and matches them from left to right
+/// as often as `times` says. The last byte of either text is no newline.
+///
+/// Returns 0, and sets `count` to how many mappings there were in all; or returns 1, where a spec
+/// is refused or memory runs out. All refs point to one object.
+#[unsafe(no_mangle)]
+pub extern "C" fn refspec_bench_match_lhs(
+    alloc: Global,
+    specs: &[u8],
+    names: &[u8],
+    times: usize,
+    count: &mut usize,
+) -> u8 {
+    let target = ObjectId::null(Kind::Sha1);
+    match match_often(alloc, specs, names, &target, times) {
+        None => 1,
+        Some(mappings) => {
+            *count = mappings;
+            0
+        }
+    }
+}
+
+// How many mappings there were in all.
+fn match_often(
+    alloc: Global,
+    specs: &[u8],
+    names: &[u8],
+    target: &ObjectId,
+    times: usize,
+) -> Option<usize> {
+    let mut group = group_of(alloc, specs)?;
+    let items = items_of(alloc, names, target).ok()?;
+    let mut mappings: usize = 0;
+    for _ in 0..times {
+        let outcome = group.match_lhs(alloc, items.as_slice()).ok()?;
+        mappings = mappings.saturating_add(outcome.mappings.len());
+        group = outcome.group;
+    }
+    Some(mappings)
+}
+
+// The specs of the lines, where none is refused.
+fn group_of(alloc: Global, lines: &[u8]) -> Option<MatchGroup<'_>> {
+    let mut group = MatchGroup::new(alloc);
+    for line in lines.split(|b| *b == b'\n') {
+        let spec = parse(alloc, BStr::new(line), Operation::Fetch).ok()?;
+        group.specs.push(spec).ok()?;
+    }
+    Some(group)
+}
+
+// A ref for each line, which is its name. They are counted first, so that they are never moved.
+fn items_of<'a>(
+    alloc: Global,
+    lines: &'a [u8],
+    target: &'a ObjectId,
+) -> Result<Vec<Item<'a>>, AllocError> {
+    let mut count: usize = 0;
+    for _ in lines.split(|b| *b == b'\n') {
+        count = count.saturating_add(1);
+    }
+    let mut items = Vec::with_capacity(alloc, count)?;
+    for line in lines.split(|b| *b == b'\n') {
+        items.push(Item {
+            full_ref_name: BStr::new(line),
+            target,
+            object: None,
+        })?;
+    }
+    Ok(items)
+}

@@ -1,0 +1,42 @@
+"""Specs and names of refs for the measures of matching, from a fixed seed."""
+import random
+
+ONE_PATTERN = [b"+refs/heads/*:refs/remotes/origin/*"]
+WITH_NEGATIVES = [
+    b"+refs/heads/*:refs/remotes/origin/*", b"^refs/heads/topic-1*", b"refs/tags/*:refs/tags/*",
+    b"+refs/pull/*:refs/remotes/pull/*", b"^refs/pull/*/merge",
+]
+UNFORCED = [b"refs/heads/*:refs/remotes/origin/*"]
+
+
+def short(random_, number):
+    return b"topic-%d/%d" % (random_.randrange(50), number)
+
+
+def advertised(count, seed):
+    """What a server shows, in random order: of ten refs seven are branches, two are tags and one is a pull request."""
+    random_ = random.Random(seed)
+    names = []
+    for number in range(count):
+        if number % 10 < 7:
+            names.append(b"refs/heads/" + short(random_, number))
+        elif number % 10 < 9:
+            names.append(b"refs/tags/" + short(random_, number))
+        else:
+            names.append(b"refs/pull/%d/%s" % (number, random_.choice([b"head", b"merge"])))
+    random_.shuffle(names)
+    return names
+
+
+def repeated(count, each, seed):
+    """Names of branches in random order, each of which stands there so many times."""
+    random_ = random.Random(seed)
+    names = [b"refs/heads/" + short(random_, number) for number in range(count // each)] * each
+    random_.shuffle(names)
+    return names
+
+
+def in_file(path):
+    """The names in the lines of a file."""
+    with open(path, "rb") as file:
+        return [name for name in file.read().split(b"\n") if name]
