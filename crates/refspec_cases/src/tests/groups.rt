@@ -56,24 +56,27 @@ fn hash_of(mapping: &Mapping<'_, '_>) -> u64 {
     state.finish()
 }
 
+// The mapping of a source to a destination.
+fn mapping_of<'a>(pair: (&'a [u8], &'a [u8])) -> Mapping<'a, 'a> {
+    Mapping {
+        item_index: None,
+        lhs: SourceRef::FullName(NameRef::Borrowed(BStr::new(pair.0))),
+        rhs: Some(NameRef::Borrowed(BStr::new(pair.1))),
+        spec_index: 0,
+    }
+}
+
 #[test]
 fn tells_pairs_of_one_hash_apart(rt: HostRuntime) -> Result<(), Fail> {
     let alloc = rt.alloc();
-    let mut hashes = Vec::new(alloc);
-    for (source, destination) in COLLIDING {
-        hashes.push(hash_of(&Mapping {
-            item_index: None,
-            lhs: SourceRef::FullName(NameRef::Borrowed(BStr::new(source))),
-            rhs: Some(NameRef::Borrowed(BStr::new(destination))),
-            spec_index: 0,
-        }))?;
-    }
-    assert_eq!(rt; hashes[0], hashes[1]);
+    let first = COLLIDING[0];
+    let second = COLLIDING[1];
+    assert_eq!(rt; hash_of(&mapping_of(first)), hash_of(&mapping_of(second)));
     let id = ObjectId::from_hex(b"e69de29bb2d1d6434b8b29ae775ad8c2e48c5391")?;
     let mut items = Vec::new(alloc);
-    for index in [1, 0, 1, 0, 1] {
+    for pair in [second, first, second, first, second] {
         items.push(Item {
-            full_ref_name: BStr::new(COLLIDING[index].0),
+            full_ref_name: BStr::new(pair.0),
             target: &id,
             object: None,
         })?;
