@@ -25,6 +25,7 @@ pub mod OnePrefixLemmas
 pub mod ManualFacts
 pub mod KeptLemmas
 pub mod RepeatLemmas
+pub mod KeyLemmas
 pub mod PairLemmas
 pub mod ExclusionLemmas
 pub mod ListsLemmas

@@ -1,5 +1,5 @@
 -- Pairs that are sorted, so that the same ones follow one another.
-use Rattle.std.proofs.Common.{◌≡◌, ◌≢◌, ◌⊎◌, inl, inr, ◌↔◌, ℕ, ◌+◌, ◌-◌, ◌<◌, ◌≤◌, List, [], ◌∷◌, Option, None, Some, length, take, get_or, refl, sym, ap, ◌∙◌, subst, Bool, true, false, Bor, option_map, arith}
+use Rattle.std.proofs.Common.{◌≡◌, ◌≢◌, ◌⊎◌, inl, inr, ◌↔◌, ℕ, ◌+◌, ◌-◌, ◌<◌, ◌≤◌, List, [], ◌∷◌, ◌++◌, Option, None, Some, length, get_or, refl, sym, ap, ◌∙◌, subst, Bool, true, false, Bor, option_map, arith}
 use Rattle.std.specs.List.{AllByRecursion}
 use Rattle.std.specs.List.Sorted.{IsPermutation, IsSorted}
 use Rattle.std.specs.declared.cmp.Ordering.{Ordering}
@@ -10,24 +10,61 @@ use Rattle.std.specs.Cmp.{IsTotalOrder, IsStrictWeakOrder, bool_cmp_total}
 use Rattle.std.specs.Cmp.Lexicographic.{slice_cmp, nat_list_cmp_total, options_total, texts_ties}
 use Rattle.std.proofs.lemmas.Bool.{cases_lt, false≢true}
 use Rattle.std.proofs.lemmas.Cmp.{by_ranked, nat_cmp_total, on_total, ranked, then_total, tied_itself}
-use Rattle.std.proofs.lemmas.List.{get_or-map, get_or_read, length-map, take_all}
+use Rattle.std.proofs.lemmas.List.{get_or-map, get_or_read, length-map, map-append}
 use Rattle.std.proofs.lemmas.List.Elements.{All-from_recursion}
-use Rattle.std.proofs.lemmas.List.Sorted.{IsPermutation-map, IsPermutation-sym, length_permutation, ranks_by, sorted_far}
+use Rattle.std.proofs.lemmas.List.Sorted.{IsPermutation-map, ranks_by, sorted_far}
 use Rattle.std.proofs.lemmas.Slice.Eq.{bytes_eq-Decides}
 use Rattle.gix_refspec.specs.declared.match_group.types.Mapping.{Mapping}
-use Rattle.gix_refspec.specs.declared.match_group.util.kept.repeats.Hashed.{Hashed}
 use Rattle.gix_refspec.specs.declared.match_group.util.kept.repeats.Pair.{Pair}
 use Rattle.gix_refspec.specs.Mappings.{Mapped, IsSamePair}
 use Rattle.gix_refspec.specs.Group.{mapped_of}
-use Rattle.gix_refspec.specs.Private.Kept.{ArePairsOf, FlagsAlso, FlagsFit, Has, IsFlagged, IsPairOf, IsRepeatIn, IsRun, IsSameAt, pair_places, places_of, start_made}
-use Rattle.gix_refspec.proofs.RepeatLemmas.{Contains-from_Has, FollowsSame, Has-from_place, Has-permuted, all_permuted, apart_places, some_mapping}
+use Rattle.gix_refspec.specs.Private.Kept.{ArePairsOf, FlagsRepeats, Has, IsFlagged, IsPairOf, IsRepeat, IsSameAt, Rises, pair_places, start_made}
+use Rattle.gix_refspec.proofs.RepeatLemmas.{Contains-from_Has, FollowsSame, Has-left, Has-permuted, Has-right, Rises-push, all_join, all_permuted, all_weaker, apart_places, some_mapping}
 
--- the pairs of a run, in another order
-pub pairs_permuted : (ms : List Mapping) (run : List Hashed) (ps qs : List Pair) (i : ℕ) → length run ≤ i → AllByRecursion (λ p. (p.place < length ms) × ((d : Mapping) → IsPairOf (mapped_of (get_or ms p.place d)) p)) ps → pair_places ps ≡ places_of (take i run) → IsPermutation ps qs → ArePairsOf ms run qs
-pairs_permuted ms run ps qs i past each places moved = record {
-  each = all_permuted (λ p. (p.place < length ms) × ((d : Mapping) → IsPairOf (mapped_of (get_or ms p.place d)) p)) ps qs moved each;
-  places = subst (λ (ns : List ℕ). IsPermutation ns (pair_places qs)) (places ∙ ap places_of (take_all i run past)) (IsPermutation-map (λ (p : Pair). p.place) ps qs moved);
-}
+-- the pair has a place among the mappings, and is that of the mapping there
+abbrev pub FitsPair : List Mapping → Pair → Type 0
+FitsPair ms p = (p.place < length ms) × ((d : Mapping) → IsPairOf (mapped_of (get_or ms p.place d)) p)
+
+upto : (k n : ℕ) → k < n + 1 → (k < n) ⊎ (k ≡ n)
+upto k n under = elim (cases_lt k n) [
+  | inl lower ↦ inl lower
+  | inr above ↦ inr (omega arith)
+]
+
+-- one more pair, at its place
+pub pairs_more : (ms : List Mapping) (ps new : List Pair) (p : Pair) → new ≡ ps ++ p ∷ [] → FitsPair ms p → AllByRecursion (FitsPair ms) ps → ((k : ℕ) → k < p.place → Has (pair_places ps) k) → Rises (pair_places ps) → AllByRecursion (λ n. n < p.place) (pair_places ps) → AllByRecursion (FitsPair ms) new × ((k : ℕ) → k < p.place + 1 → Has (pair_places new) k) × Rises (pair_places new) × AllByRecursion (λ n. n < p.place + 1) (pair_places new)
+pairs_more ms ps new p is one each every rises below =
+    let places : pair_places new ≡ pair_places ps ++ p.place ∷ [] = ap pair_places is ∙ map-append (λ (x : Pair). x.place) ps (p ∷ []) in (
+      subst (λ (xs : List Pair). AllByRecursion (FitsPair ms) xs) (sym is) (all_join (FitsPair ms) ps (p ∷ []) each (one, tt)),
+      λ k under. subst (λ (ns : List ℕ). Has ns k) (sym places) (elim (upto k p.place under) [
+        | inl less ↦ Has-left (pair_places ps) (p.place ∷ []) k (every k less)
+        | inr last ↦ Has-right (pair_places ps) (p.place ∷ []) k (inl (sym last))
+      ]),
+      subst (λ (ns : List ℕ). Rises ns) (sym places) (Rises-push (pair_places ps) p.place rises below),
+      subst (λ (ns : List ℕ). AllByRecursion (λ n. n < p.place + 1) ns) (sym places) (all_join (λ n. n < p.place + 1) (pair_places ps) (p.place ∷ []) (all_weaker (λ n. n < p.place) (λ n. n < p.place + 1) (λ n less. omega arith) (pair_places ps) below) (omega arith, tt)),
+    )
+
+-- and where the place is known
+pub pairs_more_at : (ms : List Mapping) (ps new : List Pair) (p : Pair) (place : ℕ) → new ≡ ps ++ p ∷ [] → p.place ≡ place → FitsPair ms p → AllByRecursion (FitsPair ms) ps → ((k : ℕ) → k < place → Has (pair_places ps) k) → Rises (pair_places ps) → AllByRecursion (λ n. n < place) (pair_places ps) → AllByRecursion (FitsPair ms) new × ((k : ℕ) → k < place + 1 → Has (pair_places new) k) × Rises (pair_places new) × AllByRecursion (λ n. n < place + 1) (pair_places new)
+pairs_more_at ms ps new p place is here one each every rises below =
+    subst (λ (n : ℕ). AllByRecursion (FitsPair ms) new × ((k : ℕ) → k < n + 1 → Has (pair_places new) k) × Rises (pair_places new) × AllByRecursion (λ m. m < n + 1) (pair_places new)) here
+    (pairs_more ms ps new p is one each (λ k under. every k (omega (arith, under, here))) rises (subst (λ (n : ℕ). AllByRecursion (λ m. m < n) (pair_places ps)) (sym here) below))
+
+-- the pair of the mapping at its place
+pub fits_made : (ms : List Mapping) (p : Pair) (place : ℕ) (m : Mapping) → place < length ms → p.place ≡ place → IsPairOf (mapped_of m) p → ((d : Mapping) → m ≡ get_or ms place d) → FitsPair ms p
+fits_made ms p place m below here is read = (
+  subst (λ (n : ℕ). n < length ms) (sym here) below,
+  λ d. subst (λ (n : ℕ). IsPairOf (mapped_of (get_or ms n d)) p) (sym here) (subst (λ (x : Mapping). IsPairOf (mapped_of x) p) (read d) is),
+)
+
+-- all pairs, in another order
+pub pairs_permuted : (ms : List Mapping) (ps qs : List Pair) (i : ℕ) → length ms ≤ i → AllByRecursion (FitsPair ms) ps → ((k : ℕ) → k < i → Has (pair_places ps) k) → Rises (pair_places ps) → IsPermutation ps qs → ArePairsOf ms qs
+pairs_permuted ms ps qs i past each every rises moved =
+    let places : IsPermutation (pair_places ps) (pair_places qs) = IsPermutation-map (λ (p : Pair). p.place) ps qs moved in record {
+      each = all_permuted (FitsPair ms) ps qs moved each;
+      every = λ k below. Has-permuted (pair_places ps) (pair_places qs) k places (every k (omega arith));
+      apart = λ j k d before below. apart_places (pair_places ps) (pair_places qs) places rises j k d before (omega (arith, length-map qs (λ (p : Pair). p.place)));
+    }
 
 -- the order of pairs, without their places
 abbrev key_cmp : Pair → Pair → Ordering
@@ -145,18 +182,18 @@ key_from_pair m other p q is_m is_other same =
     (λ i. ordering_then (starts.0 i) (ordering_then (source i) (destination i)))
 
 -- the pair at a place, and its mapping
-at_pair : (ms : List Mapping) (run : List Hashed) (ps : List Pair) (i : ℕ) (d : Pair) → ArePairsOf ms run ps → i < length ps → ((get_or ps i d).place < length ms) × ((m : Mapping) → IsPairOf (mapped_of (get_or ms (get_or ps i d).place m)) (get_or ps i d))
-at_pair ms run ps i d are below = All-from_recursion (λ p. (p.place < length ms) × ((m : Mapping) → IsPairOf (mapped_of (get_or ms p.place m)) p)) ps are.each i d below
+at_pair : (ms : List Mapping) (ps : List Pair) (i : ℕ) (d : Pair) → ArePairsOf ms ps → i < length ps → ((get_or ps i d).place < length ms) × ((m : Mapping) → IsPairOf (mapped_of (get_or ms (get_or ps i d).place m)) (get_or ps i d))
+at_pair ms ps i d are below = All-from_recursion (FitsPair ms) ps are.each i d below
 
 -- the place of a pair that was read
-pub pair_fits : (ms : List Mapping) (run : List Hashed) (ps : List Pair) (i : ℕ) (p : Pair) → ArePairsOf ms run ps → i < length ps → p ≡ get_or ps i p → p.place < length ms
-pair_fits ms run ps i p are below is = subst (λ (q : Pair). q.place < length ms) (sym is) (at_pair ms run ps i p are below).0
+pub pair_fits : (ms : List Mapping) (ps : List Pair) (i : ℕ) (p : Pair) → ArePairsOf ms ps → i < length ps → p ≡ get_or ps i p → p.place < length ms
+pair_fits ms ps i p are below is = subst (λ (q : Pair). q.place < length ms) (sym is) (at_pair ms ps i p are below).0
 
 -- two pairs that stand in a list have one key just where their mappings have the same pair
-key_at : (ms : List Mapping) (run : List Hashed) (ps : List Pair) (i j : ℕ) (d : Pair) → ArePairsOf ms run ps → i < length ps → j < length ps → IsSameAt ms (get_or ps i d).place (get_or ps j d).place ↔ (key_cmp (get_or ps i d) (get_or ps j d) ≡ Equal)
-key_at ms run ps i j d are first second =
-    let a = at_pair ms run ps i d are first in
-    let b = at_pair ms run ps j d are second in
+key_at : (ms : List Mapping) (ps : List Pair) (i j : ℕ) (d : Pair) → ArePairsOf ms ps → i < length ps → j < length ps → IsSameAt ms (get_or ps i d).place (get_or ps j d).place ↔ (key_cmp (get_or ps i d) (get_or ps j d) ≡ Equal)
+key_at ms ps i j d are first second =
+    let a = at_pair ms ps i d are first in
+    let b = at_pair ms ps j d are second in
     let m = some_mapping ms (get_or ps i d).place a.0 in (
       λ same. key_from_pair (mapped_of (get_or ms (get_or ps i d).place m)) (mapped_of (get_or ms (get_or ps j d).place m)) (get_or ps i d) (get_or ps j d) (a.1 m) (b.1 m) (same m),
       λ same n. pair_from_key (mapped_of (get_or ms (get_or ps i d).place n)) (mapped_of (get_or ms (get_or ps j d).place n)) (get_or ps i d) (get_or ps j d) (a.1 n) (b.1 n) same,
@@ -172,40 +209,30 @@ some_pair : (ps : List Pair) (k : ℕ) → k < length ps → Pair
 some_pair [] k below = absurd (omega arith)
 some_pair (p ∷ ps) k below = p
 
--- the place of a pair stands in the run
-place_in_run : (ms : List Mapping) (run : List Hashed) (ps : List Pair) (i : ℕ) (d : Pair) → ArePairsOf ms run ps → i < length ps → Has (places_of run) (get_or ps i d).place
-place_in_run ms run ps i d are below =
-    Has-permuted (pair_places ps) (places_of run) (get_or ps i d).place (IsPermutation-sym (places_of run) (pair_places ps) are.places)
-    (Has-from_place (pair_places ps) i (get_or ps i d).place 0 (omega (arith, length-map ps (λ (p : Pair). p.place))) (get_or-map (λ (p : Pair). p.place) ps i d 0 below))
-
--- a place of the run has a pair
-pair_of_place : (ms : List Mapping) (run : List Hashed) (ps : List Pair) (k : ℕ) → ArePairsOf ms run ps → Has (places_of run) k → (i : ℕ) × (i < length ps) × ((d : Pair) → (get_or ps i d).place ≡ k)
-pair_of_place ms run ps k are has =
-    let at = Contains-from_Has (pair_places ps) k (Has-permuted (places_of run) (pair_places ps) k are.places has) in
+-- a place of the mappings has a pair
+pair_of_place : (ms : List Mapping) (ps : List Pair) (k : ℕ) → ArePairsOf ms ps → k < length ms → (i : ℕ) × (i < length ps) × ((d : Pair) → (get_or ps i d).place ≡ k)
+pair_of_place ms ps k are has =
+    let at = Contains-from_Has (pair_places ps) k (are.every k has) in
     let below : at.0 < length ps = let inside = at.1 in omega (arith, inside, length-map ps (λ (p : Pair). p.place)) in
     (at.0, below, λ d. sym (get_or-map (λ (p : Pair). p.place) ps at.0 d k below) ∙ at.2)
 
 -- a pair that follows the same one repeats
-repeat_from_follows : (ms : List Mapping) (run : List Hashed) (ps : List Pair) (at k : ℕ) → IsRun ms run → ArePairsOf ms run ps → IsSorted pair_cmp ps → (1 ≤ length ps → at ≤ length ps) → FollowsSame ms ps at k → IsRepeatIn ms (places_of run) k
-repeat_from_follows ms run ps at k is_run are sorted fits follows =
+repeat_from_follows : (ms : List Mapping) (ps : List Pair) (at k : ℕ) → ArePairsOf ms ps → IsSorted pair_cmp ps → (1 ≤ length ps → at ≤ length ps) → 1 ≤ length ps → FollowsSame ms ps at k → IsRepeat ms k
+repeat_from_follows ms ps at k are sorted fits full follows =
     let i = follows.0 in
     let some = follows.1 in
     let under = follows.2 in
-    let size = length_permutation (places_of run) (pair_places ps) are.places in
-    let full : 1 ≤ length ps = let some_run = is_run.some in omega (arith, size, some_run, length-map ps (λ (p : Pair). p.place), length-map run (λ (h : Hashed). h.place)) in
     let fit = fits full in
     let below : i < length ps = omega (arith, under, fit) in
     let d = some_pair ps i below in
     let told = follows.3 d in
     let here : (get_or ps i d).place ≡ k = told.0 in
     let pair : IsSameAt ms (get_or ps (i - 1) d).place (get_or ps i d).place = subst (λ (n : ℕ). IsSameAt ms (get_or ps (i - 1) d).place n) (sym here) told.1 in
-    let key : key_cmp (get_or ps i d) (get_or ps (i - 1) d) ≡ Equal = key_total.antisymm (get_or ps i d) (get_or ps (i - 1) d) ∙ ap ordering_reverse ((key_at ms run ps (i - 1) i d are (omega arith) below).0 pair) in
+    let key : key_cmp (get_or ps i d) (get_or ps (i - 1) d) ≡ Equal = key_total.antisymm (get_or ps i d) (get_or ps (i - 1) d) ∙ ap ordering_reverse ((key_at ms ps (i - 1) i d are (omega arith) below).0 pair) in
     let rise : (get_or ps (i - 1) d).place ≤ (get_or ps i d).place = places_by_key (get_or ps i d) (get_or ps (i - 1) d) (not_fallen ps (i - 1) i d sorted (omega arith) below) key in
-    let apart : (get_or ps (i - 1) d).place ≢ (get_or ps i d).place = λ same. apart_places (places_of run) (pair_places ps) are.places is_run.rises (i - 1) i 0 (omega arith) (omega (arith, length-map ps (λ (p : Pair). p.place)))
-    (get_or-map (λ (p : Pair). p.place) ps (i - 1) d 0 (omega arith) ∙ same ∙ sym (get_or-map (λ (p : Pair). p.place) ps i d 0 below)) in (
-      subst (λ (n : ℕ). Has (places_of run) n) here (place_in_run ms run ps i d are below),
-      ((get_or ps (i - 1) d).place, place_in_run ms run ps (i - 1) d are (omega arith), strict (get_or ps (i - 1) d).place (get_or ps i d).place k rise apart here, told.1),
-    )
+    let apart : (get_or ps (i - 1) d).place ≢ (get_or ps i d).place = λ same. are.apart (i - 1) i 0 (omega arith) below
+    (get_or-map (λ (p : Pair). p.place) ps (i - 1) d 0 (omega arith) ∙ same ∙ sym (get_or-map (λ (p : Pair). p.place) ps i d 0 below)) in
+    ((get_or ps (i - 1) d).place, strict (get_or ps (i - 1) d).place (get_or ps i d).place k rise apart here, told.1)
   where
     strict : (a b k : ℕ) → a ≤ b → a ≢ b → b ≡ k → a < k
     strict a b k le ne is = elim (cases_lt a b) [
@@ -214,13 +241,13 @@ repeat_from_follows ms run ps at k is_run are sorted fits follows =
     ]
 
 -- a pair that repeats follows the same one
-follows_from_repeat : (ms : List Mapping) (run : List Hashed) (ps : List Pair) (at k : ℕ) → ArePairsOf ms run ps → IsSorted pair_cmp ps → length ps ≤ at → IsRepeatIn ms (places_of run) k → FollowsSame ms ps at k
-follows_from_repeat ms run ps at k are sorted past (has_k, (j, has_j, before, pair)) =
-    let b = pair_of_place ms run ps k are has_k in
-    let a = pair_of_place ms run ps j are has_j in
+follows_from_repeat : (ms : List Mapping) (ps : List Pair) (at k : ℕ) → ArePairsOf ms ps → IsSorted pair_cmp ps → length ps ≤ at → k < length ms → IsRepeat ms k → FollowsSame ms ps at k
+follows_from_repeat ms ps at k are sorted past has_k (j, before, pair) =
+    let b = pair_of_place ms ps k are has_k in
+    let a = pair_of_place ms ps j are (omega (arith, before, has_k)) in
     let below : b.0 < length ps = b.1 in
     let below_a : a.0 < length ps = a.1 in
-    let same : (d : Pair) → key_cmp (get_or ps a.0 d) (get_or ps b.0 d) ≡ Equal = λ d. (key_at ms run ps a.0 b.0 d are below_a below).0 (subst (λ (n : ℕ). IsSameAt ms n (get_or ps b.0 d).place) (sym (a.2 d)) (subst (λ (n : ℕ). IsSameAt ms j n) (sym (b.2 d)) pair)) in
+    let same : (d : Pair) → key_cmp (get_or ps a.0 d) (get_or ps b.0 d) ≡ Equal = λ d. (key_at ms ps a.0 b.0 d are below_a below).0 (subst (λ (n : ℕ). IsSameAt ms n (get_or ps b.0 d).place) (sym (a.2 d)) (subst (λ (n : ℕ). IsSameAt ms j n) (sym (b.2 d)) pair)) in
     let d0 = some_pair ps b.0 below in
     let order : a.0 < b.0 = elim (cases_lt a.0 b.0) [
       | inl less ↦ less
@@ -237,41 +264,26 @@ follows_from_repeat ms run ps at k are sorted past (has_k, (j, has_j, before, pa
         b.2 d,
         let middle = squeezed (get_or ps a.0 d) (get_or ps (b.0 - 1) d) (get_or ps b.0 d) (not_fallen ps a.0 (b.0 - 1) d sorted (omega arith) (omega arith)) (not_fallen ps (b.0 - 1) b.0 d sorted (omega arith) below) (same d) in
             let back : key_cmp (get_or ps (b.0 - 1) d) (get_or ps b.0 d) ≡ Equal = key_total.antisymm (get_or ps (b.0 - 1) d) (get_or ps b.0 d) ∙ ap ordering_reverse middle in
-            subst (λ (n : ℕ). IsSameAt ms (get_or ps (b.0 - 1) d).place n) (b.2 d) ((key_at ms run ps (b.0 - 1) b.0 d are (omega arith) below).1 back),
+            subst (λ (n : ℕ). IsSameAt ms (get_or ps (b.0 - 1) d).place n) (b.2 d) ((key_at ms ps (b.0 - 1) b.0 d are (omega arith) below).1 back),
       ),
     )
 
 -- once all pairs were looked at, the repeats are flagged
-pub flags_followers : (ms : List Mapping) (run : List Hashed) (ps : List Pair) (at : ℕ) (old new : List Bool) → IsRun ms run → ArePairsOf ms run ps → IsSorted pair_cmp ps → length ps ≤ at → (1 ≤ length ps → at ≤ length ps) → FlagsFit ms new → ((k : ℕ) → IsFlagged new k ↔ (IsFlagged old k ⊎ FollowsSame ms ps at k)) → FlagsAlso ms (places_of run) old new
-flags_followers ms run ps at old new is_run are sorted past fits fit flagged = record {
-  fits = fit;
-  flagged = λ k. (
-    (λ now. elim ((flagged k).0 now) [
-      | inl was ↦ inl was
-      | inr follows ↦ inr (repeat_from_follows ms run ps at k is_run are sorted fits follows)
-    ]),
-    (λ either. elim either [
-      | inl was ↦ (flagged k).1 (inl was)
-      | inr repeat ↦ (flagged k).1 (inr (follows_from_repeat ms run ps at k are sorted past repeat))
-    ]),
-  );
-}
-
-upto : (k n : ℕ) → k < n + 1 → (k < n) ⊎ (k ≡ n)
-upto k n under = elim (cases_lt k n) [
-  | inl lower ↦ inl lower
-  | inr above ↦ inr (omega arith)
-]
+pub flags_followers : (ms : List Mapping) (ps : List Pair) (at : ℕ) (flags : List Bool) → ArePairsOf ms ps → IsSorted pair_cmp ps → length ps ≤ at → (1 ≤ length ps → at ≤ length ps) → ((k : ℕ) → IsFlagged flags k ↔ FollowsSame ms ps at k) → FlagsRepeats ms flags
+flags_followers ms ps at flags are sorted past fits flagged k below = (
+  (λ now. repeat_from_follows ms ps at k are sorted fits full ((flagged k).0 now)),
+  (λ repeat. (flagged k).1 (follows_from_repeat ms ps at k are sorted past below repeat)),
+)
+  where
+    full : 1 ≤ length ps
+    full = let one = pair_of_place ms ps k are below in let some = one.1 in omega (arith, some)
 
 -- one more pair, which is that of the one before it
-pub flagged_next : (ms : List Mapping) (ps : List Pair) (at : ℕ) (p q : Pair) (a b : Mapping) (old mid new : List Bool) → 0 < at → at < length ps → p ≡ get_or ps at p → q ≡ get_or ps (at - 1) q → p.place < length ms → q.place < length ms → a ≡ get_or ms q.place a → b ≡ get_or ms p.place b → IsSamePair (mapped_of a) (mapped_of b) → ((k : ℕ) → IsFlagged mid k ↔ (IsFlagged old k ⊎ FollowsSame ms ps at k)) → ((k : ℕ) → IsFlagged new k ↔ (IsFlagged mid k ⊎ (p.place ≡ k))) → (k : ℕ) → IsFlagged new k ↔ (IsFlagged old k ⊎ FollowsSame ms ps (at + 1) k)
-flagged_next ms ps at p q a b old mid new some below is_p is_q fit_p fit_q is_a is_b same before raised k = (
+pub flagged_next : (ms : List Mapping) (ps : List Pair) (at : ℕ) (p q : Pair) (a b : Mapping) (mid new : List Bool) → 0 < at → at < length ps → p ≡ get_or ps at p → q ≡ get_or ps (at - 1) q → p.place < length ms → q.place < length ms → a ≡ get_or ms q.place a → b ≡ get_or ms p.place b → IsSamePair (mapped_of a) (mapped_of b) → ((k : ℕ) → IsFlagged mid k ↔ FollowsSame ms ps at k) → ((k : ℕ) → IsFlagged new k ↔ (IsFlagged mid k ⊎ (p.place ≡ k))) → (k : ℕ) → IsFlagged new k ↔ FollowsSame ms ps (at + 1) k
+flagged_next ms ps at p q a b mid new some below is_p is_q fit_p fit_q is_a is_b same before raised k = (
   (λ now. elim ((raised k).0 now) [
-    | inl was ↦ elim ((before k).0 was) [
-      | inl old_flag ↦ inl old_flag
-      | inr follows ↦ inr (follows.0, follows.1, (let under = follows.2 in omega (arith, under)), follows.3)
-    ]
-    | inr here ↦ inr (
+    | inl was ↦ let follows = (before k).0 was in (follows.0, follows.1, (let under = follows.2 in omega (arith, under)), follows.3)
+    | inr here ↦ (
       at,
       some,
       omega arith,
@@ -281,12 +293,9 @@ flagged_next ms ps at p q a b old mid new some below is_p is_q fit_p fit_q is_a 
       ),
     )
   ]),
-  (λ either. elim either [
-    | inl old_flag ↦ (raised k).1 (inl ((before k).1 (inl old_flag)))
-    | inr follows ↦ elim (upto follows.0 at follows.2) [
-      | inl lower ↦ (raised k).1 (inl ((before k).1 (inr (follows.0, follows.1, lower, follows.3))))
-      | inr last ↦ (raised k).1 (inr (ap (λ (x : Pair). x.place) (get_or_read ps at p below is_p p) ∙ ap (λ (n : ℕ). (get_or ps n p).place) (sym last) ∙ (follows.3 p).0))
-    ]
+  (λ follows. elim (upto follows.0 at follows.2) [
+    | inl lower ↦ (raised k).1 (inl ((before k).1 (follows.0, follows.1, lower, follows.3)))
+    | inr last ↦ (raised k).1 (inr (ap (λ (x : Pair). x.place) (get_or_read ps at p below is_p p) ∙ ap (λ (n : ℕ). (get_or ps n p).place) (sym last) ∙ (follows.3 p).0))
   ]),
 )
   where
@@ -294,18 +303,12 @@ flagged_next ms ps at p q a b old mid new some below is_p is_q fit_p fit_q is_a 
     pair m = subst (λ (x : Mapping). IsSamePair (mapped_of x) (mapped_of (get_or ms p.place m))) (get_or_read ms q.place a fit_q is_a m) (subst (λ (y : Mapping). IsSamePair (mapped_of a) (mapped_of y)) (get_or_read ms p.place b fit_p is_b m) same)
 
 -- one more pair, which isn't that of the one before it
-pub unflagged_next : (ms : List Mapping) (ps : List Pair) (at : ℕ) (p q : Pair) (a b : Mapping) (old new : List Bool) → 0 < at → at < length ps → p ≡ get_or ps at p → q ≡ get_or ps (at - 1) q → p.place < length ms → q.place < length ms → a ≡ get_or ms q.place a → b ≡ get_or ms p.place b → ¬ (IsSamePair (mapped_of a) (mapped_of b)) → ((k : ℕ) → IsFlagged new k ↔ (IsFlagged old k ⊎ FollowsSame ms ps at k)) → (k : ℕ) → IsFlagged new k ↔ (IsFlagged old k ⊎ FollowsSame ms ps (at + 1) k)
-unflagged_next ms ps at p q a b old new some below is_p is_q fit_p fit_q is_a is_b other before k = (
-  (λ now. elim ((before k).0 now) [
-    | inl old_flag ↦ inl old_flag
-    | inr follows ↦ inr (follows.0, follows.1, (let under = follows.2 in omega (arith, under)), follows.3)
-  ]),
-  (λ either. elim either [
-    | inl old_flag ↦ (before k).1 (inl old_flag)
-    | inr follows ↦ elim (upto follows.0 at follows.2) [
-      | inl lower ↦ (before k).1 (inr (follows.0, follows.1, lower, follows.3))
-      | inr last ↦ absurd (other (same follows.0 last (follows.3 p)))
-    ]
+pub unflagged_next : (ms : List Mapping) (ps : List Pair) (at : ℕ) (p q : Pair) (a b : Mapping) (flags : List Bool) → 0 < at → at < length ps → p ≡ get_or ps at p → q ≡ get_or ps (at - 1) q → p.place < length ms → q.place < length ms → a ≡ get_or ms q.place a → b ≡ get_or ms p.place b → ¬ (IsSamePair (mapped_of a) (mapped_of b)) → ((k : ℕ) → IsFlagged flags k ↔ FollowsSame ms ps at k) → (k : ℕ) → IsFlagged flags k ↔ FollowsSame ms ps (at + 1) k
+unflagged_next ms ps at p q a b flags some below is_p is_q fit_p fit_q is_a is_b other before k = (
+  (λ now. let follows = (before k).0 now in (follows.0, follows.1, (let under = follows.2 in omega (arith, under)), follows.3)),
+  (λ follows. elim (upto follows.0 at follows.2) [
+    | inl lower ↦ (before k).1 (follows.0, follows.1, lower, follows.3)
+    | inr last ↦ absurd (other (same follows.0 last (follows.3 p)))
   ]),
 )
   where

@@ -1,14 +1,12 @@
 -- How repeats and exclusions are found. Only private functions cite these words.
-use Rattle.std.specs.Prelude.{◌≡◌, ◌⊎◌, ◌↔◌, ◌<◌, ℕ, Bool, true, false, List, [], ◌∷◌, ◌++◌, length, map, pos, option_map, slice_index_or}
+use Rattle.std.specs.Prelude.{◌≡◌, ◌≢◌, ◌⊎◌, ◌↔◌, ◌<◌, ◌≤◌, ◌-◌, ◌/◌, ◌%◌, ◌^◌, ℕ, Bool, true, false, List, [], ◌∷◌, ◌++◌, length, map, pos, option_map, slice_index_or}
 use Rattle.std.specs.List.{AllByRecursion, fold}
-use Rattle.std.specs.List.Sorted.{IsPermutation}
 use Rattle.std.specs.Hash as fed
 use Rattle.std.specs.Hash.{HashWrites}
 use Rattle.std.specs.Hash.FoldHasher as folding
 use Rattle.gix_refspec.specs.declared.match_group.types.Mapping.{Mapping}
 use Rattle.gix_refspec.specs.declared.match_group.util.kept.exclusions.Exclusion.{Exclusion}
 use Rattle.gix_refspec.specs.declared.match_group.util.kept.exclusions.Exclusion.TheVariants as exclusion
-use Rattle.gix_refspec.specs.declared.match_group.util.kept.repeats.Hashed.{Hashed}
 use Rattle.gix_refspec.specs.declared.match_group.util.kept.repeats.Pair.{Pair}
 use Rattle.gix_refspec.specs.Reading.{Reading, Negative}
 use Rattle.gix_refspec.specs.Side.{Fits}
@@ -51,10 +49,6 @@ IsRepeat ms k = (j : ℕ) × (j < k) × IsSameAt ms j k
 abbrev pub IsFlagged : List Bool → ℕ → Type 0
 IsFlagged flags k = slice_index_or flags k false ≡ true
 
--- there are no flags, or one for each mapping
-abbrev pub FlagsFit : List Mapping → List Bool → Type 0
-FlagsFit ms flags = (flags ≡ []) ⊎ (length flags ≡ length ms)
-
 -- just the repeats are flagged
 abbrev pub FlagsRepeats : List Mapping → List Bool → Type 0
 FlagsRepeats ms flags = (k : ℕ) → k < length ms → IsFlagged flags k ↔ IsRepeat ms k
@@ -82,42 +76,34 @@ abbrev pub Rises : List ℕ → Type 0
 Rises [] = Unit {0}
 Rises (n ∷ ns) = AllByRecursion (λ m. n < m) ns × Rises ns
 
--- it has a place among the mappings, and the hash of the mapping there
-abbrev pub IsHashed : List Mapping → Hashed → Type 0
-IsHashed ms h = (h.place < length ms) × ((d : Mapping) → h.hash ≡ pair_hash (mapped_of (slice_index_or ms h.place d)))
+-- the places in some keys: what their lower bits say
+abbrev pub places_of : ℕ → List ℕ → List ℕ
+places_of bits keys = map (λ key. key % 2 ^ bits) keys
 
--- the places of these
-abbrev pub places_of : List Hashed → List ℕ
-places_of hs = map (λ h. h.place) hs
+-- the key has a place among the mappings, and the upper bits of the hash of the mapping there
+abbrev pub IsKey : List Mapping → ℕ → ℕ → Type 0
+IsKey ms bits key = (key % 2 ^ bits < length ms) × ((d : Mapping) → key / 2 ^ bits ≡ pair_hash (mapped_of (slice_index_or ms (key % 2 ^ bits) d)) / 2 ^ bits)
 
--- h comes before x: by the hash, and where hashes are the same by the place
-abbrev pub IsBefore : Hashed → Hashed → Type 0
-IsBefore h x = (h.hash < x.hash) ⊎ ((h.hash ≡ x.hash) × (h.place < x.place))
+-- the keys of all the mappings
+pub record AreKeysOf (ms : List Mapping) (bits : ℕ) (keys : List ℕ) : Type 0 where
+  pub each : AllByRecursion (IsKey ms bits) keys
+  pub every : (k : ℕ) → k < length ms → Has (places_of bits keys) k
+  pub count : length keys ≡ length ms
 
--- each comes before all later ones
-abbrev pub AreInOrder : List Hashed → Type 0
-AreInOrder [] = Unit {0}
-AreInOrder (h ∷ hs) = AllByRecursion (IsBefore h) hs × AreInOrder hs
+-- the key at a place of the list has the upper bits of the one before it
+pub record IsSecond (bits : ℕ) (keys : List ℕ) (at : ℕ) : Type 0 where
+  pub later : 0 < at
+  pub inside : at < length keys
+  pub same : slice_index_or keys (at - 1) 0 / 2 ^ bits ≡ slice_index_or keys at 0 / 2 ^ bits
 
--- the hashes of all the mappings
-pub record AreHashesOf (ms : List Mapping) (hs : List Hashed) : Type 0 where
-  pub each : AllByRecursion (IsHashed ms) hs
-  pub every : (k : ℕ) → k < length ms → Has (places_of hs) k
+-- an earlier place is given for the place k
+abbrev pub PointsBack : List ℕ → ℕ → Type 0
+PointsBack earlier k = slice_index_or earlier k k < k
 
--- the places of some of the mappings, which rise
-pub record IsRun (ms : List Mapping) (run : List Hashed) : Type 0 where
-  pub some : 0 < length run
-  pub below : AllByRecursion (λ h. h.place < length ms) run
-  pub rises : Rises (places_of run)
-
--- the mapping at a place that stands in the run repeats another one whose place does
-abbrev pub IsRepeatIn : List Mapping → List ℕ → ℕ → Type 0
-IsRepeatIn ms places k = Has places k × ((j : ℕ) × Has places j × (j < k) × IsSameAt ms j k)
-
--- besides the old flags, the repeats in the run are flagged
-pub record FlagsAlso (ms : List Mapping) (places : List ℕ) (old new : List Bool) : Type 0 where
-  pub fits : FlagsFit ms new
-  pub flagged : (k : ℕ) → IsFlagged new k ↔ (IsFlagged old k ⊎ IsRepeatIn ms places k)
+-- an earlier place is given for each repeat
+pub record FindsRepeats (ms : List Mapping) (earlier : List ℕ) : Type 0 where
+  pub fits : length earlier ≤ length ms
+  pub finds : (k : ℕ) → k < length ms → IsRepeat ms k → PointsBack earlier k
 
 -- the source that the pair has
 abbrev pub start_made : Bool → List ℕ → Start
@@ -133,10 +119,11 @@ pub record IsPairOf (m : Mapped) (p : Pair) : Type 0 where
 abbrev pub pair_places : List Pair → List ℕ
 pair_places ps = map (λ p. p.place) ps
 
--- the pairs of the mappings of a run
-pub record ArePairsOf (ms : List Mapping) (run : List Hashed) (ps : List Pair) : Type 0 where
+-- the pairs of all the mappings
+pub record ArePairsOf (ms : List Mapping) (ps : List Pair) : Type 0 where
   pub each : AllByRecursion (λ p. (p.place < length ms) × ((d : Mapping) → IsPairOf (mapped_of (slice_index_or ms p.place d)) p)) ps
-  pub places : IsPermutation (places_of run) (pair_places ps)
+  pub every : (k : ℕ) → k < length ms → Has (pair_places ps) k
+  pub apart : (i j d : ℕ) → i < j → j < length ps → slice_index_or (pair_places ps) i d ≢ slice_index_or (pair_places ps) j d
 
 -- the mapping at place k, which is m, stays as made: it isn't flagged, and its source isn't excluded
 pub record Remains (es : List Exclusion) (flags : List Bool) (k : ℕ) (m made : Mapping) : Type 0 where

@@ -18,7 +18,8 @@ pub(crate) struct Match<'item> {
     pub(crate) word: Option<&'item [u8]>,
 }
 
-// How a side matches an item.
+// How a side matches an item. It is inlined, since it is called for each item of each spec.
+#[inline(always)]
 pub(crate) fn matched<'item>(side: SideKind<'_>, item: &Item<'item>) -> Option<Match<'item>>
     ensures { MatchOption result
         ((word : Option (List ℕ)) → ¬ (MatchesAs (shown_kind side.entry) (ref_of item.now) word))
@@ -38,6 +39,7 @@ pub(crate) fn matched<'item>(side: SideKind<'_>, item: &Item<'item>) -> Option<M
 }
 
 // What stands in a name between two texts that never overlap.
+#[inline(always)]
 fn word_between<'a>(before: &[u8], after: &[u8], name: &'a [u8]) -> Option<&'a [u8]>
     ensures { MatchOption result
         ((word : List ℕ) → ¬ (Fits before.now after.now name.now word))

@@ -1,25 +1,20 @@
 //! Which mappings have the same source and destination as an earlier one.
 //!
-//! They are found by sorting, so that no names make it slow: first by a hash, and then, only where
-//! different pairs have the same hash, by the pairs themselves.
+//! They are found by sorting, so that no names make it slow. Each mapping gets a key, of the upper
+//! bits of its pair's hash and, behind them, its place. In a sorted list of keys mappings of the same
+//! pair follow one another, and each is compared with the one before it. Only where different pairs
+//! have the same upper bits are the pairs themselves sorted.
 
-ghost use Rattle.std.specs.Prelude.{◌≡◌, ◌≢◌, ◌⊎◌, ◌↔◌, ◌<◌, ◌≤◌, [], ℕ, length, take, slice_index_or, option_map, IfOk, OnOk, OnErr, IsTrue};
+ghost use Rattle.std.specs.Prelude.{◌≡◌, ◌≢◌, ◌⊎◌, ◌↔◌, ◌<◌, ◌≤◌, ◌/◌, ◌%◌, ◌^◌, [], ℕ, length, slice_index_or, option_map, MatchOption, IfOk, OnOk, OnErr, IsTrue};
 ghost use Rattle.std.specs.List.{AllByRecursion};
 ghost use Rattle.std.specs.List.Sorted.{IsSorted};
 ghost use Rattle.gix_refspec.specs.Group.{mapped_of, name_bytes};
 ghost use Rattle.gix_refspec.specs.Mappings.{IsSamePair};
-ghost use Rattle.gix_refspec.specs.Private.Kept.{AreHashesOf, AreInOrder, ArePairsOf, FlagsAlso, FlagsFit, FlagsRepeats, IsFlagged, IsRun, IsSameAt, Rises, pair_hash, places_of};
+ghost use Rattle.gix_refspec.specs.Private.Kept.{AreKeysOf, ArePairsOf, FindsRepeats, FlagsRepeats, IsFlagged, IsSecond, PointsBack, Rises, pair_hash, places_of};
 
 use crate::match_group::types::{Mapping, NameRef, SourceRef};
 use std::alloc::{AllocError, Global};
 use std::hash::{FoldHasher, Hash, Hasher};
-
-// A mapping, by its place, and the hash of its pair.
-#[derive(Clone, Copy, PartialEq, Eq, PartialOrd, Ord)]
-struct Hashed {
-    hash: u64,
-    place: usize,
-}
 
 // A pair, and the place of its mapping.
 #[derive(Clone, Copy, PartialEq, Eq, PartialOrd, Ord)]
@@ -68,7 +63,7 @@ fn is_same_pair(a: &Mapping<'_, '_>, b: &Mapping<'_, '_>) -> bool
     a.lhs == b.lhs && a.rhs == b.rhs
 }
 
-// Flags the places of the repeats. There are no flags at all where nothing repeats.
+// Flags the places of the repeats. There may be no flags at all where nothing repeats.
 pub(crate) fn repeats_of(
     alloc: Global,
     mappings: &[Mapping<'_, '_>],
@@ -76,41 +71,62 @@ pub(crate) fn repeats_of(
     ensures ok { IfOk result (λ flags. FlagsRepeats mappings.now flags.items) }
     ensures memory { OnErr result (1 < length mappings.now) }
 {
-    let mut flags = Vec::new(alloc);
     if mappings.len() < 2 {
-        return Ok(flags);
+        return Ok(Vec::new(alloc));
     }
-    let hashes = hashes_in_order(alloc, mappings)?;
-    let mut rest = hashes.as_slice();
-    while !rest.is_empty() {
-        let (run, others) = rest.split_at(len_of_run(rest));
-        flag_run(alloc, mappings, run, &mut flags)?;
-        rest = others;
+    let earlier = earlier_of(alloc, mappings)?;
+    match flags_by_earlier(alloc, mappings, earlier.as_slice())? {
+        Some(flags) => Ok(flags),
+        None => flags_by_pair(alloc, mappings),
     }
-    Ok(flags)
 }
 
-// The hashes of all pairs, in order.
-fn hashes_in_order(alloc: Global, mappings: &[Mapping<'_, '_>]) -> Result<Vec<Hashed>, AllocError>
-    ensures all { IfOk result (λ hashes. AreHashesOf mappings.now hashes.items) }
-    ensures order { IfOk result (λ hashes. AreInOrder hashes.items) }
+// For each place an earlier one that may have the same pair. There is none for the first of a pair.
+fn earlier_of(alloc: Global, mappings: &[Mapping<'_, '_>]) -> Result<Vec<usize>, AllocError>
+    ensures { IfOk result (λ earlier. FindsRepeats mappings.now earlier.items) }
 {
-    let mut hashes = hashes_of(alloc, mappings)?;
-    hashes.sort_unstable();
-    Ok(hashes)
+    let bits = bits_for(mappings.len());
+    let keys = keys_in_order(alloc, mappings, bits)?;
+    earlier_by_key(alloc, keys.as_slice(), bits)
 }
 
-// The hashes of all pairs, by their places.
-fn hashes_of(alloc: Global, mappings: &[Mapping<'_, '_>]) -> Result<Vec<Hashed>, AllocError>
-    ensures all { IfOk result (λ hashes. AreHashesOf mappings.now hashes.items) }
-    ensures rises { IfOk result (λ hashes. Rises (places_of hashes.items)) }
+// How many bits a place takes among so many.
+fn bits_for(len: usize) -> u32
+    requires { len < 2 ^ 63 }
+    ensures few { result < 64 }
+    ensures fit { len ≤ 2 ^ result }
 {
-    let mut hashes = Vec::with_capacity(alloc, mappings.len())?;
+    usize::BITS - len.leading_zeros()
+}
+
+// The keys of all mappings, in order.
+fn keys_in_order(
+    alloc: Global,
+    mappings: &[Mapping<'_, '_>],
+    bits: u32,
+) -> Result<Vec<u64>, AllocError>
+    requires few { bits < 64 }
+    requires fit { length mappings.now ≤ 2 ^ bits }
+    ensures all { IfOk result (λ keys. AreKeysOf mappings.now bits keys.items) }
+    ensures rises { IfOk result (λ keys. Rises keys.items) }
+{
+    let mut keys = keys_of(alloc, mappings, bits)?;
+    keys.sort_unstable();
+    Ok(keys)
+}
+
+// The keys of all mappings, by their places.
+fn keys_of(alloc: Global, mappings: &[Mapping<'_, '_>], bits: u32) -> Result<Vec<u64>, AllocError>
+    requires few { bits < 64 }
+    requires fit { length mappings.now ≤ 2 ^ bits }
+    ensures all { IfOk result (λ keys. AreKeysOf mappings.now bits keys.items) }
+    ensures rises { IfOk result (λ keys. Rises (places_of bits keys.items)) }
+{
+    let mut keys = Vec::with_capacity(alloc, mappings.len())?;
     for (place, mapping) in mappings.iter().enumerate() {
-        let hash = hash_of(mapping);
-        hashes.push(Hashed { hash, place })?;
+        keys.push(key_of(hash_of(mapping), place, bits))?;
     }
-    Ok(hashes)
+    Ok(keys)
 }
 
 // The hash of a pair.
@@ -122,115 +138,121 @@ fn hash_of(mapping: &Mapping<'_, '_>) -> u64
     state.finish()
 }
 
-// How many of these, from the first on, have its hash.
-fn len_of_run(hashes: &[Hashed]) -> usize
-    requires { 0 < length hashes.now }
-    ensures some { 0 < result }
-    ensures fits { result ≤ length hashes.now }
-    ensures same { (d : Hashed) →
-        AllByRecursion (λ h. h.hash ≡ (slice_index_or hashes.now 0 d).hash) (take result hashes.now) }
-    ensures end { (d : Hashed) →
-        result < length hashes.now → (slice_index_or hashes.now result d).hash ≢ (slice_index_or hashes.now 0 d).hash }
+// A key: the upper bits of a hash, and a place in the lower ones.
+fn key_of(hash: u64, place: usize, bits: u32) -> u64
+    requires few { bits < 64 }
+    requires fits { place < 2 ^ bits }
+    ensures bucket { result / 2 ^ bits ≡ hash / 2 ^ bits }
+    ensures place { result % 2 ^ bits ≡ place }
 {
-    let first = hashes[0].hash;
-    let mut len = 1;
-    while len < hashes.len() && hashes[len].hash == first {
-        len += 1;
-    }
-    len
+    (hash >> bits << bits) | place as u64
 }
 
-// Flags the repeats among some mappings, whose pairs have one hash.
-fn flag_run(
-    alloc: Global,
-    mappings: &[Mapping<'_, '_>],
-    run: &[Hashed],
-    flags: &mut Vec<bool>,
-) -> Result<(), AllocError>
-    requires run { IsRun mappings.now run.now }
-    requires fits { FlagsFit mappings.now flags.old.items }
-    ensures { OnOk result (FlagsAlso mappings.now
-        (places_of run.now) flags.old.items flags.new.items) }
+// The upper bits of the hash in a key.
+fn bucket_of(key: u64, bits: u32) -> u64
+    requires { bits < 64 }
+    ensures { result ≡ key / 2 ^ bits }
 {
-    if run.len() == 1 {
-        return Ok(());
-    }
-    if is_one_pair(mappings, run) {
-        flag_all_but_the_first(mappings, run, flags)
-    } else {
-        flag_by_pair(alloc, mappings, run, flags)
-    }
+    key >> bits
 }
 
-// Whether the mappings all have one pair.
-fn is_one_pair(mappings: &[Mapping<'_, '_>], run: &[Hashed]) -> bool
-    requires { IsRun mappings.now run.now }
-    ensures { IsTrue result →
-        (d : Hashed) → AllByRecursion (λ h. IsSameAt mappings.now (slice_index_or run.now 0 d).place h.place) run.now }
+// The place in a key.
+fn place_of(key: u64, bits: u32) -> usize
+    requires { bits < 64 }
+    ensures { result ≡ key % 2 ^ bits }
 {
-    let first = &mappings[run[0].place];
-    for hashed in run {
-        if !is_same_pair(first, &mappings[hashed.place]) {
-            return false;
+    (key & ((1 << bits) - 1)) as usize
+}
+
+// For each place the one in the key before its own, where that has the same bucket.
+fn earlier_by_key(alloc: Global, keys: &[u64], bits: u32) -> Result<Vec<usize>, AllocError>
+    requires few { bits < 64 }
+    requires below { AllByRecursion (λ key. key % 2 ^ bits < length keys.now) keys.now }
+    requires rises { Rises keys.now }
+    ensures fits { IfOk result (λ earlier. length earlier.items ≤ length keys.now) }
+    ensures finds { IfOk result (λ earlier.
+        (at : ℕ) → IsSecond bits keys.now at → PointsBack earlier.items (slice_index_or keys.now at 0 % 2 ^ bits)) }
+{
+    let mut earlier = Vec::new(alloc);
+    for at in 1..keys.len() {
+        let (before, key) = (keys[at - 1], keys[at]);
+        if bucket_of(before, bits) == bucket_of(key, bits) {
+            let place = place_of(key, bits);
+            point_back(&mut earlier, keys.len(), place, place_of(before, bits))?;
         }
     }
-    true
+    Ok(earlier)
 }
 
-// Flags all but the first of some mappings that have one pair.
-fn flag_all_but_the_first(
-    mappings: &[Mapping<'_, '_>],
-    run: &[Hashed],
-    flags: &mut Vec<bool>,
+// Gives an earlier place for one among so many. Till then it is the number of them that is given.
+fn point_back(
+    earlier: &mut Vec<usize>,
+    len: usize,
+    place: usize,
+    before: usize,
 ) -> Result<(), AllocError>
-    requires run { IsRun mappings.now run.now }
-    requires one { (d : Hashed) →
-        AllByRecursion (λ h. IsSameAt mappings.now (slice_index_or run.now 0 d).place h.place) run.now }
-    requires fits { FlagsFit mappings.now flags.old.items }
-    ensures { OnOk result (FlagsAlso mappings.now
-        (places_of run.now) flags.old.items flags.new.items) }
+    requires below { place < len }
+    requires fits { (earlier.old.items ≡ []) ⊎ (length earlier.old.items ≡ len) }
+    ensures fits { OnOk result (length earlier.new.items ≡ len) }
+    ensures here { OnOk result (slice_index_or earlier.new.items place place ≡ before) }
+    ensures others { OnOk result ((k : ℕ) →
+        k ≢ place → PointsBack earlier.old.items k → PointsBack earlier.new.items k) }
 {
-    for hashed in &run[1..] {
-        raise(flags, mappings.len(), hashed.place)?;
+    if earlier.is_empty() {
+        earlier.resize(len, len)?;
     }
+    earlier[place] = before;
     Ok(())
 }
 
-// Flags the repeats among some mappings.
-fn flag_by_pair(
+// Flags the places that have the same pair as the earlier one that is given for them. None where
+// one has another pair.
+fn flags_by_earlier(
     alloc: Global,
     mappings: &[Mapping<'_, '_>],
-    run: &[Hashed],
-    flags: &mut Vec<bool>,
-) -> Result<(), AllocError>
-    requires run { IsRun mappings.now run.now }
-    requires fits { FlagsFit mappings.now flags.old.items }
-    ensures { OnOk result (FlagsAlso mappings.now
-        (places_of run.now) flags.old.items flags.new.items) }
+    earlier: &[usize],
+) -> Result<Option<Vec<bool>>, AllocError>
+    requires { FindsRepeats mappings.now earlier.now }
+    ensures { IfOk result (λ told. MatchOption told
+        (Unit {0}) (λ flags. FlagsRepeats mappings.now flags.items)) }
 {
-    let pairs = pairs_in_order(alloc, mappings, run)?;
+    let mut flags = Vec::with_capacity(alloc, earlier.len())?;
+    for (place, before) in earlier.iter().enumerate() {
+        let repeats = *before < place;
+        if repeats && !is_same_pair(&mappings[*before], &mappings[place]) {
+            return Ok(None);
+        }
+        flags.push(repeats)?;
+    }
+    Ok(Some(flags))
+}
+
+// Flags the repeats, by sorting the pairs themselves.
+fn flags_by_pair(alloc: Global, mappings: &[Mapping<'_, '_>]) -> Result<Vec<bool>, AllocError>
+    ensures { IfOk result (λ flags. FlagsRepeats mappings.now flags.items) }
+{
+    let pairs = pairs_in_order(alloc, mappings)?;
+    let mut flags = Vec::new(alloc);
     for at in 1..pairs.len() {
         let place = pairs[at].place;
         if is_same_pair(&mappings[pairs[at - 1].place], &mappings[place]) {
-            raise(flags, mappings.len(), place)?;
+            raise(&mut flags, mappings.len(), place)?;
         }
     }
-    Ok(())
+    Ok(flags)
 }
 
-// The pairs of some mappings, in order.
+// The pairs of all mappings, in order.
 fn pairs_in_order<'m>(
     alloc: Global,
     mappings: &'m [Mapping<'_, '_>],
-    run: &[Hashed],
 ) -> Result<Vec<Pair<'m>>, AllocError>
-    requires { IsRun mappings.now run.now }
-    ensures all { IfOk result (λ pairs. ArePairsOf mappings.now run.now pairs.items) }
+    ensures all { IfOk result (λ pairs. ArePairsOf mappings.now pairs.items) }
     ensures order { IfOk result (λ pairs. IsSorted ⟦<Pair<'m> as Ord>⟧.cmp pairs.items) }
 {
-    let mut pairs = Vec::with_capacity(alloc, run.len())?;
-    for hashed in run {
-        pairs.push(Pair::of(&mappings[hashed.place], hashed.place))?;
+    let mut pairs = Vec::with_capacity(alloc, mappings.len())?;
+    for (place, mapping) in mappings.iter().enumerate() {
+        pairs.push(Pair::of(mapping, place))?;
     }
     pairs.sort_unstable();
     Ok(pairs)
