@@ -405,7 +405,7 @@ same_hit g h spec item near far =
     let build : ℕ → ℕ → List ℕ → Option (List ℕ) → Hit = λ s i n f. record { spec = s; item = i; near = n; far = f } in
     ap (λ s. build s g.item g.near g.far) spec ∙ ap (λ i. build h.spec i g.near g.far) item ∙ ap (λ n. build h.spec h.item n g.far) near ∙ ap (build h.spec h.item h.near) far
 
-hit_once : (items : List Ref) (ends : Ends) (k : ℕ) → MakesOnce (IsHit items ends k)
+pub hit_once : (items : List Ref) (ends : Ends) (k : ℕ) → MakesOnce (IsHit items ends k)
 hit_once items ends k j r g h a b =
     let word : b.word ≡ a.word = word_once ends.near r b.word a.word b.takes a.takes in
     same_hit g h (a.spec ∙ sym b.spec) (a.item ∙ sym b.item) (a.near ∙ sym b.near) (filled_once ends.far a.word g.far h.far a.far (subst (λ w. IsFilled ends.far w h.far) word b.far))

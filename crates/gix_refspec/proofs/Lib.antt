@@ -31,3 +31,6 @@ pub mod ExclusionLemmas
 pub mod ListsLemmas
 pub mod JoinLemmas
 pub mod HitLemmas
+pub mod SomeLemmas
+pub mod KeptPairLemmas
+pub mod TransposeLemmas

@@ -9,6 +9,7 @@ ghost use Rattle.gix_refspec.specs.ObjectId.{id_bytes};
 ghost use Rattle.gix_refspec.specs.Order.{is_same, order, place_of};
 ghost use Rattle.gix_refspec.specs.Group.{ref_of, readings_of, start_of};
 ghost use Rattle.gix_refspec.specs.Hits.{KeptOnce, OneForward, OneBackward};
+ghost use Rattle.gix_refspec.specs.MatchLaws.{Transpose};
 ghost use Rattle.gix_refspec.specs.Spec.{reading_of, owned_reading_of};
 ghost use Rattle.gix_refspec.specs.Views.{shown_fetch, shown_push};
 
@@ -123,6 +124,13 @@ pub fn one_backward(group: &MatchGroup<'_>, items: &[Item<'_>])
 /// No two mappings that stay have the same source and the same destination, in either direction.
 pub fn kept_once(group: &MatchGroup<'_>, items: &[Item<'_>])
     ensures { KeptOnce (readings_of group.now) (map ref_of items.now) }
+{}
+
+/// Both directions agree where each positive spec with two sides has two patterns, or two sides that
+/// begin `refs/`: between the names of `left` and of `right`, `match_lhs` over `left` maps the same
+/// pairs as `match_rhs` over `right`.
+pub fn transpose(group: &MatchGroup<'_>, left: &[Item<'_>], right: &[Item<'_>])
+    ensures { Transpose (readings_of group.now) (map ref_of left.now) (map ref_of right.now) }
 {}
 
 /// Two sources are equal exactly where they are the same name or the same id.

@@ -13,7 +13,7 @@ use std::test::Fail;
 const TARGET: &str = "1111111111111111111111111111111111111111";
 
 // The group of these specs, one a word.
-fn group_of<'a>(
+pub(super) fn group_of<'a>(
     alloc: Global,
     operation: Operation,
     specs: &'a str,
@@ -28,7 +28,7 @@ fn group_of<'a>(
 }
 
 // Items with these names, one a word.
-fn items_of<'a>(
+pub(super) fn items_of<'a>(
     alloc: Global,
     names: &'a str,
     target: &'a ObjectId,

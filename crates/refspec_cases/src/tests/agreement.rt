@@ -1,0 +1,94 @@
+//! Both directions of matching agree on the names of two lists, where specs go both ways.
+
+use super::mapping::{group_of, items_of};
+use gix_refspec::laws;
+use gix_refspec::match_group::{Item, Mapping, SourceRef};
+use gix_refspec::oid::ObjectId;
+use gix_refspec::parsing::Operation;
+use std::alloc::{AllocError, Global};
+use std::test::Fail;
+
+// Whether one of the items has the name.
+fn has_name(items: &[Item<'_>], name: &[u8]) -> bool {
+    items
+        .iter()
+        .any(|item: &Item<'_>| item.full_ref_name.as_bytes() == name)
+}
+
+// The pairs of mappings from these items to those, one a line.
+fn pairs(
+    alloc: Global,
+    mappings: &[Mapping<'_, '_>],
+    from: &[Item<'_>],
+    to: &[Item<'_>],
+) -> Result<String, AllocError> {
+    let mut text = String::new(alloc);
+    for mapping in mappings {
+        if let (SourceRef::FullName(source), Some(destination)) = (&mapping.lhs, &mapping.rhs) {
+            let source = source.as_bstr();
+            let destination = destination.as_bstr();
+            if has_name(from, source.as_bytes()) && has_name(to, destination.as_bytes()) {
+                let line = format!(in alloc; "{source} {destination}\n")?;
+                text.push_str(line.as_str())?;
+            }
+        }
+    }
+    Ok(text)
+}
+
+// Specs, items on the left, items on the right, and the pairs of these that are mapped from left to
+// right, and from right to left.
+const ROWS: [(&str, &str, &str, &str, &str); 4] = [
+    (
+        "refs/heads/*:refs/x/* refs/heads/a:refs/y/a ^refs/heads/b",
+        "refs/heads/a refs/heads/b refs/heads/a",
+        "refs/x/a refs/x/b refs/y/a",
+        "refs/heads/a refs/x/a\nrefs/heads/a refs/y/a\n",
+        "refs/heads/a refs/x/a\nrefs/heads/a refs/y/a\n",
+    ),
+    // These three don't go both ways.
+    (
+        "main:refs/x/main",
+        "refs/tags/main",
+        "refs/x/main",
+        "refs/tags/main refs/x/main\n",
+        "",
+    ),
+    ("HEAD:refs/x/h", "HEAD", "refs/x/h", "HEAD refs/x/h\n", ""),
+    (
+        "refs/heads/a:b",
+        "refs/heads/a",
+        "refs/tags/b",
+        "",
+        "refs/heads/a refs/tags/b\n",
+    ),
+];
+
+#[test]
+fn agrees_in_both_directions(rt: HostRuntime) -> Result<(), Fail> {
+    let alloc = rt.alloc();
+    let target = ObjectId::from_hex(b"1111111111111111111111111111111111111111")?;
+    for (specs, left, right, forward, backward) in ROWS {
+        let left = items_of(alloc, left, &target)?;
+        let right = items_of(alloc, right, &target)?;
+        let group = group_of(alloc, Operation::Fetch, specs)?;
+        laws::transpose(&group, left.as_slice(), right.as_slice());
+        let outcome = group.match_lhs(alloc, left.as_slice())?;
+        let found = pairs(
+            alloc,
+            outcome.mappings.as_slice(),
+            left.as_slice(),
+            right.as_slice(),
+        )?;
+        assert_eq!(&rt; found.as_str(), forward, "{specs}");
+        let outcome = outcome.group.match_rhs(alloc, right.as_slice())?;
+        let found = pairs(
+            alloc,
+            outcome.mappings.as_slice(),
+            left.as_slice(),
+            right.as_slice(),
+        )?;
+        assert_eq!(&rt; found.as_str(), backward, "{specs} back");
+    }
+    Ok(())
+}
