@@ -30,3 +30,5 @@ pub mod ExclusionLemmas
 pub mod ListsLemmas
 pub mod JoinLemmas
 pub mod HitLemmas
+pub mod CoverLemmas
+pub mod AlikeLemmas

@@ -19,4 +19,5 @@ pub mod Lists
 pub mod Mappings
 pub mod Group
 pub mod Hits
+pub mod MatchLaws
 pub mod Private
