@@ -1,5 +1,6 @@
 //! What a spec prints, and a writer with little room.
 
+mod alike;
 mod errors;
 mod groups;
 mod mapping;

@@ -10,10 +10,10 @@ use std::process::Abort;
 use std::test::Fail;
 
 // What items point to.
-const TARGET: &str = "1111111111111111111111111111111111111111";
+pub(crate) const TARGET: &str = "1111111111111111111111111111111111111111";
 
 // The group of these specs, one a word.
-fn group_of<'a>(
+pub(crate) fn group_of<'a>(
     alloc: Global,
     operation: Operation,
     specs: &'a str,
@@ -28,7 +28,7 @@ fn group_of<'a>(
 }
 
 // Items with these names, one a word.
-fn items_of<'a>(
+pub(crate) fn items_of<'a>(
     alloc: Global,
     names: &'a str,
     target: &'a ObjectId,
@@ -71,7 +71,7 @@ fn shown(alloc: Global, name: &NameRef<'_>) -> Result<String, AllocError> {
 }
 
 // Mappings as rows write them, one a line.
-fn lines(alloc: Global, mappings: &[Mapping<'_, '_>]) -> Result<String, AllocError> {
+pub(crate) fn lines(alloc: Global, mappings: &[Mapping<'_, '_>]) -> Result<String, AllocError> {
     let mut text = String::new(alloc);
     for mapping in mappings {
         text.push_str(line(alloc, mapping)?.as_str())?;
