@@ -54,7 +54,7 @@ pub record HasCoveringSource (r : Reading) : Type 0 where
 abbrev pub BeginsWithOne : List (List ℕ) → List ℕ → Type 0
 BeginsWithOne entries n = Any (λ entry. Begins entry n) entries
 
--- the name begins with an entry of what the reading expands to
+-- the name begins with an entry of what the reading expands to, which is positive then
 pub record IsCoveredBy (n : List ℕ) (r : Reading) : Type 0 where
   pub entries : List (List ℕ)
   pub expansion : IsExpansion r entries
@@ -68,7 +68,8 @@ AreExpansions g entries = IsJoinedFrom (λ k r list. IsExpansion r list) 0 g ent
 abbrev pub EachSource : List Reading → List Ref → (List ℕ → Type 0) → Type 0
 EachSource g items P = (kept : List Mapped) → AreKeptForward g items kept → AllByRecursion (λ m. (n : List ℕ) → m.source ≡ name n → P n) kept
 
--- where each source is covering, each name that a group maps begins with an entry of what some spec expands to
+-- where each source is covering, each name that a group of fetches maps from left to right begins with an
+-- entry of what some spec expands to
 abbrev pub Cover : List Reading → List Ref → Type 0
 Cover g items = AllByRecursion HasCoveringSource g → EachSource g items (λ n. Any (IsCoveredBy n) g)
 
