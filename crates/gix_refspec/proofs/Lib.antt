@@ -34,3 +34,5 @@ pub mod HitLemmas
 pub mod SomeLemmas
 pub mod KeptPairLemmas
 pub mod TransposeLemmas
+pub mod CoverLemmas
+pub mod AlikeLemmas

@@ -88,7 +88,7 @@ says_by r None is accepted = absurd (not_there accepted (λ a.
 says_by r (Some m) is accepted = (m, is)
 
 -- an accepted reading says something
-says : (r : Reading) → ∥ IsAccepted r ∥₁ → (m : Meaning) × (meaning_of r ≡ Some m)
+pub says : (r : Reading) → ∥ IsAccepted r ∥₁ → (m : Meaning) × (meaning_of r ≡ Some m)
 says r accepted = says_by r (meaning_of r) refl accepted
 
 same_by_text : (r q : Reading) → ∥ IsAccepted r ∥₁ → ∥ IsAccepted q ∥₁ → r.operation ≡ q.operation → printed r ≡ printed q → meaning_of r ≡ meaning_of q

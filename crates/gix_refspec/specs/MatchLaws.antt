@@ -1,14 +1,21 @@
--- Laws of matching: both directions agree. They follow from the words of Mappings and Hits, and settle
--- nothing.
-use Rattle.std.specs.Prelude.{◌≡◌, ◌⊎◌, ◌↔◌, ℕ, List, [], ◌∷◌, codes, Option, None, Some}
-use Rattle.std.specs.List.{AllByRecursion}
-use Rattle.gix_refspec.specs.Text.{Begins}
+-- Laws of matching: both directions agree, groups that map alike, and what covers the sources of a group.
+-- They follow from the words of Mappings and Hits, and settle nothing.
+use Rattle.std.specs.Prelude.{◌≡◌, ◌≢◌, ◌⊎◌, ◌↔◌, ℕ, List, [], ◌∷◌, codes, Option, None, Some}
+use Rattle.std.specs.List.{AllByRecursion, AllZip, Any}
+use Rattle.gix_refspec.specs.declared.parsing.Operation.TheVariants.{Fetch}
+use Rattle.gix_refspec.specs.Text.{Lacks, Begins}
 use Rattle.gix_refspec.specs.Name.{HasStar}
+use Rattle.gix_refspec.specs.Bytes.{star, head}
 use Rattle.gix_refspec.specs.Reading.{Reading}
-use Rattle.gix_refspec.specs.Grammar.{IsPositive}
+use Rattle.gix_refspec.specs.Grammar.{IsPositive, Reads}
+use Rattle.gix_refspec.specs.Meaning.{printed}
 use Rattle.gix_refspec.specs.Match.{Ref}
+use Rattle.gix_refspec.specs.Prefix.{IsPrefix, IsAsked, IsExpansion}
+use Rattle.gix_refspec.specs.Lists.{IsJoinedFrom}
 use Rattle.gix_refspec.specs.Mappings.{Start, name, id, Mapped, HasPair}
 use Rattle.gix_refspec.specs.Hits.{AreKeptForward, AreKeptBackward}
+
+-- ---- both directions
 
 -- one of the refs has the name n
 abbrev pub HasName : List Ref → List ℕ → Type 0
@@ -38,3 +45,67 @@ abbrev pub Transpose : List Reading → List Ref → List Ref → Type 0
 Transpose g A B =
     AllByRecursion GoesBothWays g → (l m : List Mapped) → AreKeptForward g A l → AreKeptBackward g B m → (pair : Mapped)
     → (HasPair l pair × IsDestinationAmong B pair.destination) ↔ (HasPair m pair × IsSourceAmong A pair.source)
+
+-- ---- groups that map alike
+
+-- the canonical text of the fetch r reads as the fetch q: that of `+main` is `main`, which isn't forced. Pushes fall
+-- outside: that of `main` is `main:main`, which has a destination where `main` has none
+pub record ReadsAgainAs (r q : Reading) : Type 0 where
+  pub fetch : r.operation ≡ Fetch
+  pub text : List ℕ
+  pub is : printed r ≡ Some text
+  pub reads : Reads Fetch text q
+
+-- each reading of h is that of the canonical text of the reading of g at its place
+abbrev pub AreReadAgain : List Reading → List Reading → Type 0
+AreReadAgain g h = AllZip ReadsAgainAs g h
+
+-- over the items the same mappings stay of both groups, from left to right and from right to left
+pub record MapAlike (g h : List Reading) (items : List Ref) : Type 0 where
+  pub forward : (kept : List Mapped) → AreKeptForward g items kept ↔ AreKeptForward h items kept
+  pub backward : (kept : List Mapped) → AreKeptBackward g items kept ↔ AreKeptBackward h items kept
+
+-- a group of fetches maps as the group that its canonical texts read as
+abbrev pub FetchGroupReadsBack : List Reading → List Reading → List Ref → Type 0
+FetchGroupReadsBack g h items = AreReadAgain g h → MapAlike g h items
+
+-- ---- what covers the sources of a group
+
+-- the side begins `refs/` and has a prefix, or it is a partial name other than `HEAD`, or an id. Outside fall
+-- `HEAD`, which matches `refs/heads/HEAD` too and is expanded to `HEAD` alone; `*` and `refs/*`, which are
+-- expanded with the star as it is; and `refs/*/head`, which is expanded to nothing
+pub data IsCovering (x : List ℕ) : Type 0 where
+  by_prefix : (p : List ℕ) → Begins (codes "refs/") x → IsPrefix x p → IsCovering x
+  by_candidates : Lacks star x → x ≢ head → ¬ (Begins (codes "refs/") x) → IsCovering x
+
+-- the reading is a fetch, and its source is such a side, unless it is negative
+pub record HasCoveringSource (r : Reading) : Type 0 where
+  pub fetch : r.operation ≡ Fetch
+  pub source : (x : List ℕ) → IsAsked r x → IsCovering x
+
+-- the name begins with one of the entries
+abbrev pub BeginsWithOne : List (List ℕ) → List ℕ → Type 0
+BeginsWithOne entries n = Any (λ entry. Begins entry n) entries
+
+-- the name begins with an entry of what the reading expands to, which is positive then
+pub record IsCoveredBy (n : List ℕ) (r : Reading) : Type 0 where
+  pub entries : List (List ℕ)
+  pub expansion : IsExpansion r entries
+  pub one : BeginsWithOne entries n
+
+-- the entries are what the readings expand to, one behind the other
+abbrev pub AreExpansions : List Reading → List (List ℕ) → Type 0
+AreExpansions g entries = IsJoinedFrom (λ k r list. IsExpansion r list) 0 g entries
+
+-- of the mappings from left to right that stay, each name that is a source is as P says
+abbrev pub EachSource : List Reading → List Ref → (List ℕ → Type 0) → Type 0
+EachSource g items P = (kept : List Mapped) → AreKeptForward g items kept → AllByRecursion (λ m. (n : List ℕ) → m.source ≡ name n → P n) kept
+
+-- where each source is covering, each name that a group of fetches maps from left to right begins with an
+-- entry of what some spec expands to
+abbrev pub Cover : List Reading → List Ref → Type 0
+Cover g items = AllByRecursion HasCoveringSource g → EachSource g items (λ n. Any (IsCoveredBy n) g)
+
+-- and so with one of the entries of all specs
+abbrev pub CoverTogether : List Reading → List Ref → Type 0
+CoverTogether g items = AllByRecursion HasCoveringSource g → (entries : List (List ℕ)) → AreExpansions g entries → EachSource g items (BeginsWithOne entries)

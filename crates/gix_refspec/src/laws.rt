@@ -9,7 +9,7 @@ ghost use Rattle.gix_refspec.specs.ObjectId.{id_bytes};
 ghost use Rattle.gix_refspec.specs.Order.{is_same, order, place_of};
 ghost use Rattle.gix_refspec.specs.Group.{ref_of, readings_of, start_of};
 ghost use Rattle.gix_refspec.specs.Hits.{KeptOnce, OneForward, OneBackward};
-ghost use Rattle.gix_refspec.specs.MatchLaws.{Transpose};
+ghost use Rattle.gix_refspec.specs.MatchLaws.{Transpose, FetchGroupReadsBack, Cover, CoverTogether};
 ghost use Rattle.gix_refspec.specs.Spec.{reading_of, owned_reading_of};
 ghost use Rattle.gix_refspec.specs.Views.{shown_fetch, shown_push};
 
@@ -131,6 +131,21 @@ pub fn kept_once(group: &MatchGroup<'_>, items: &[Item<'_>])
 /// pairs as `match_rhs` over `right`.
 pub fn transpose(group: &MatchGroup<'_>, left: &[Item<'_>], right: &[Item<'_>])
     ensures { Transpose (readings_of group.now) (map ref_of left.now) (map ref_of right.now) }
+{}
+
+/// A group of fetches maps as the group that its canonical texts read as, in both directions and
+/// over all items.
+pub fn fetch_group_reads_back(group: &MatchGroup<'_>, again: &MatchGroup<'_>, items: &[Item<'_>])
+    ensures { FetchGroupReadsBack
+        (readings_of group.now) (readings_of again.now) (map ref_of items.now) }
+{}
+
+/// Each name that a group of fetches maps from left to right begins with an entry of what its specs
+/// expand to. Each positive source has to begin `refs/` and have a prefix, or to be a partial name
+/// other than `HEAD`, or an id.
+pub fn cover(group: &MatchGroup<'_>, items: &[Item<'_>])
+    ensures some { Cover (readings_of group.now) (map ref_of items.now) }
+    ensures together { CoverTogether (readings_of group.now) (map ref_of items.now) }
 {}
 
 /// Two sources are equal exactly where they are the same name or the same id.

@@ -1,6 +1,7 @@
 //! What a spec prints, and a writer with little room.
 
 mod agreement;
+mod alike;
 mod errors;
 mod groups;
 mod mapping;

@@ -10,7 +10,7 @@ use std::process::Abort;
 use std::test::Fail;
 
 // What items point to.
-const TARGET: &str = "1111111111111111111111111111111111111111";
+pub(super) const TARGET: &str = "1111111111111111111111111111111111111111";
 
 // The group of these specs, one a word.
 pub(super) fn group_of<'a>(
@@ -71,7 +71,7 @@ fn shown(alloc: Global, name: &NameRef<'_>) -> Result<String, AllocError> {
 }
 
 // Mappings as rows write them, one a line.
-fn lines(alloc: Global, mappings: &[Mapping<'_, '_>]) -> Result<String, AllocError> {
+pub(super) fn lines(alloc: Global, mappings: &[Mapping<'_, '_>]) -> Result<String, AllocError> {
     let mut text = String::new(alloc);
     for mapping in mappings {
         text.push_str(line(alloc, mapping)?.as_str())?;

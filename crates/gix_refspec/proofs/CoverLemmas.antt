@@ -1,0 +1,155 @@
+-- What the specs of a group expand to covers the names that they match.
+use Rattle.std.proofs.Common.{◌≡◌, ◌≢◌, inl, inr, ℕ, zero, suc, ◌+◌, List, [], ◌∷◌, ◌++◌, codes, map, Option, None, Some, get_or, refl, sym, ap, ◌∙◌, subst, length-append, arith}
+use Rattle.std.proofs.lemmas.List.{append-nil, get_or_append_left}
+use Rattle.std.specs.List.{AllByRecursion, Any}
+use Rattle.gix_refspec.specs.declared.parsing.Operation.{Operation}
+use Rattle.gix_refspec.specs.declared.parsing.Operation.TheVariants.{Fetch}
+use Rattle.gix_refspec.specs.Text.{Lacks, Begins}
+use Rattle.gix_refspec.specs.Bytes.{star, head}
+use Rattle.gix_refspec.specs.Reading.{Reading, side_on_remote}
+use Rattle.gix_refspec.specs.Side.{SideKind, pattern, full_name, object, partial, HasKind, IsId, IsCandidate, candidates}
+use Rattle.gix_refspec.specs.Match.{Ref, Matches}
+use Rattle.gix_refspec.specs.Prefix.{IsAsked, Expands, to_prefix, IsExpansion}
+use Rattle.gix_refspec.specs.Lists.{IsMadeFrom, IsJoinedFrom}
+use Rattle.gix_refspec.specs.Mappings.{name, id, Mapped, Stays}
+use Rattle.gix_refspec.specs.Hits.{Ends, AreForwardEnds, Hit, IsHit, AreSpecHits, AreHits, IsIdMapping, forward_of, AreForward}
+use Rattle.gix_refspec.specs.MatchLaws.{IsCovering, by_prefix, by_candidates, HasCoveringSource, BeginsWithOne, IsCoveredBy, Cover, CoverTogether}
+use Rattle.gix_refspec.proofs.MatchLemmas.{lacks_no_pattern, prefix_begins, has_candidates}
+use Rattle.gix_refspec.proofs.OnePrefixLemmas.{one_prefix}
+use Rattle.gix_refspec.proofs.PrefixLemmas.{one_asked}
+use Rattle.gix_refspec.proofs.RepeatLemmas.{all_join, all_weaker}
+
+-- ---- some element of a list
+
+any_here : {X : Type 0} (P : X → Type 0) (x : X) (xs : List X) → P x → Any P (x ∷ xs)
+any_here P x xs holds = (0, x, omega arith, refl, holds)
+
+any_there : {X : Type 0} (P : X → Type 0) (x : X) (xs : List X) → Any P xs → Any P (x ∷ xs)
+any_there P x xs (k, y, below, is, holds) = (suc k, y, omega (arith, below), is, holds)
+
+any_left : {X : Type 0} (P : X → Type 0) (xs ys : List X) → Any P xs → Any P (xs ++ ys)
+any_left P xs ys (k, y, below, is, holds) = (k, y, omega (arith, below, length-append xs ys), get_or_append_left xs ys y k below ∙ is, holds)
+
+any_right : {X : Type 0} (P : X → Type 0) (xs ys : List X) → Any P ys → Any P (xs ++ ys)
+any_right P [] ys some = some
+any_right P (x ∷ xs) ys some = any_there P x (xs ++ ys) (any_right P xs ys some)
+
+-- ---- one side
+
+-- what begins `refs/` isn't `HEAD`
+below_not_head : (x : List ℕ) → Begins (codes "refs/") x → x ≢ head
+below_not_head x below is = let first : 114 ≡ 72 = ap (λ (y : List ℕ). get_or y 0 0) (sym below.here ∙ is) in omega (arith, first)
+
+-- a side that matches and asks for no id looks like none
+matched_no_id : (x : List ℕ) (k : SideKind) → Lacks star x → ¬ (Begins (codes "refs/") x) → ((bytes : List ℕ) → ¬ (HasKind x (object bytes))) → HasKind x k → ¬ (IsId x)
+matched_no_id x (pattern before after) lacks outside none kind = absurd (lacks_no_pattern x before after lacks kind)
+matched_no_id x (full_name n) lacks outside none kind = absurd (outside kind.2)
+matched_no_id x (object bytes) lacks outside none kind = absurd (none bytes kind)
+matched_no_id x (partial n) lacks outside none kind = kind.3
+
+-- a candidate begins with itself
+candidate_begins : (x n : List ℕ) → IsCandidate x n → BeginsWithOne (candidates x) n
+candidate_begins x n one = subst (λ (names : List (List ℕ)). BeginsWithOne names n) (sym one.here)
+    (any_right (λ entry. Begins entry n) one.earlier (n ∷ one.later) (any_here (λ entry. Begins entry n) n one.later (record { after = []; here = sym (append-nil n) })))
+
+-- a covering side expands to an entry with which each name that it matches begins
+side_covers : (x : List ℕ) (r : Ref) (word : Option (List ℕ)) → IsCovering x → ((bytes : List ℕ) → ¬ (HasKind x (object bytes))) → Matches x r word → (entries : List (List ℕ)) × Expands x entries × BeginsWithOne entries r.name
+side_covers x r word (by_prefix p below is) no_object matches = (
+  p ∷ [],
+  to_prefix p is refl,
+  any_here (λ entry. Begins entry r.name) p [] (prefix_begins x p r word is (below_not_head x below) matches),
+)
+side_covers x r word (by_candidates lacks other outside) no_object matches =
+    let has = has_candidates x lacks other outside (matched_no_id x matches.kind lacks outside no_object matches.of) in
+    (candidates x, has.expands, candidate_begins x r.name ((has.matches r).0 (word, matches)))
+
+-- ---- one spec
+
+-- the source of a positive fetch is what it asks for
+source_asked : (r : Reading) (ends : Ends) → r.operation ≡ Fetch → AreForwardEnds r ends → IsAsked r ends.near
+source_asked r ends fetch are = record { positive = are.positive; side = ap (λ (op : Operation). side_on_remote op r.source r.destination) fetch ∙ are.near }
+
+-- a spec whose source is covering covers each name that it takes
+hit_covered : (r : Reading) (ends : Ends) (items : List Ref) (k j : ℕ) (item : Ref) (hit : Hit) → HasCoveringSource r → AreForwardEnds r ends → IsHit items ends k j item hit → IsCoveredBy hit.near r
+hit_covered r ends items k j item hit covering are is =
+    let asked = source_asked r ends covering.fetch are in
+    let covers = side_covers ends.near item is.word (covering.source ends.near asked) are.no_object is.takes in
+    record {
+      entries = covers.0;
+      expansion = inl (ends.near, asked, covers.1);
+      one = subst (BeginsWithOne covers.0) (sym is.near) covers.2;
+    }
+
+-- what is so of whatever is made is so of each that was made
+made_each : {X Y : Type 0} (R : ℕ → X → Y → Type 0) (Q : Y → Type 0) → ((k : ℕ) (x : X) (y : Y) → R k x y → Q y) → (k : ℕ) (xs : List X) (ys : List Y) → IsMadeFrom R k xs ys → AllByRecursion Q ys
+made_each R Q each k [] ys none = subst (AllByRecursion Q) (sym none) tt
+made_each R Q each k (x ∷ xs) ys (None, rest, here, more, is) = subst (AllByRecursion Q) (sym is) (made_each R Q each (k + 1) xs rest more)
+made_each R Q each k (x ∷ xs) ys (Some y, rest, here, more, is) = subst (AllByRecursion Q) (sym is) (each k x y here, made_each R Q each (k + 1) xs rest more)
+
+spec_covers : (r : Reading) (items : List Ref) (k : ℕ) (hits : List Hit) → HasCoveringSource r → AreSpecHits AreForwardEnds items k r hits → AllByRecursion (λ hit. IsCoveredBy hit.near r) hits
+spec_covers r items k hits covering (inl (ends, are, made)) = made_each (IsHit items ends k) (λ hit. IsCoveredBy hit.near r) (λ j item hit is. hit_covered r ends items k j item hit covering are is) 0 items hits made
+spec_covers r items k hits covering (inr (none, empty)) = subst (AllByRecursion (λ hit. IsCoveredBy hit.near r)) (sym empty) tt
+
+-- ---- a group
+
+-- so some spec covers each name that is taken
+hits_covered : (g : List Reading) (items : List Ref) (k : ℕ) (hits : List Hit) → AllByRecursion HasCoveringSource g → IsJoinedFrom (AreSpecHits AreForwardEnds items) k g hits → AllByRecursion (λ hit. Any (IsCoveredBy hit.near) g) hits
+hits_covered [] items k hits covering none = subst (AllByRecursion (λ hit. Any (IsCoveredBy hit.near) [])) (sym none) tt
+hits_covered (r ∷ g) items k hits covering (first, rest, here, more, is) =
+    subst (AllByRecursion (λ hit. Any (IsCoveredBy hit.near) (r ∷ g))) (sym is)
+    (all_join (λ hit. Any (IsCoveredBy hit.near) (r ∷ g)) first rest
+    (all_weaker (λ hit. IsCoveredBy hit.near r) (λ hit. Any (IsCoveredBy hit.near) (r ∷ g)) (λ hit covered. any_here (IsCoveredBy hit.near) r g covered) first (spec_covers r items k first covering.0 here))
+    (all_weaker (λ hit. Any (IsCoveredBy hit.near) g) (λ hit. Any (IsCoveredBy hit.near) (r ∷ g)) (λ hit covered. any_there (IsCoveredBy hit.near) r g covered) rest (hits_covered g items (k + 1) rest covering.1 more)))
+
+-- the names that mappings have as sources are as P says
+abbrev SourcesAre : (List ℕ → Type 0) → List Mapped → Type 0
+SourcesAre P list = AllByRecursion (λ m. (n : List ℕ) → m.source ≡ name n → P n) list
+
+same_name : (n m : List ℕ) → name n ≡ name m → n ≡ m
+same_name n m same = cc
+
+id_no_name : (n bytes : List ℕ) → name n ≡ id bytes → ⊥
+id_no_name n bytes same = cc
+
+hit_sources : (P : List ℕ → Type 0) (hits : List Hit) → AllByRecursion (λ hit. P hit.near) hits → SourcesAre P (map forward_of hits)
+hit_sources P [] all = tt
+hit_sources P (hit ∷ hits) all = ((λ n is. subst P (same_name hit.near n is) all.0), hit_sources P hits all.1)
+
+-- what is so of all mappings is so of those that stay
+kept_each : (Q : Mapped → Type 0) (g : List Reading) (all : List Mapped) (k : ℕ) (xs ys : List Mapped) → AllByRecursion Q xs → IsMadeFrom (λ j m made. (made ≡ m) × Stays g all j m) k xs ys → AllByRecursion Q ys
+kept_each Q g all k [] ys each none = subst (AllByRecursion Q) (sym none) tt
+kept_each Q g all k (x ∷ xs) ys each (None, rest, here, more, is) = subst (AllByRecursion Q) (sym is) (kept_each Q g all (k + 1) xs rest each.1 more)
+kept_each Q g all k (x ∷ xs) ys each (Some y, rest, here, more, is) = subst (AllByRecursion Q) (sym is) (subst Q (sym here.0) each.0, kept_each Q g all (k + 1) xs rest each.1 more)
+
+forward_sources : (P : List ℕ → Type 0) (g : List Reading) (items : List Ref) (all : List Mapped) → ((hits : List Hit) → AreHits AreForwardEnds g items hits → AllByRecursion (λ hit. P hit.near) hits) → AreForward g items all → SourcesAre P all
+forward_sources P g items all covered are =
+    subst (SourcesAre P) (sym are.all)
+    (all_join (λ m. (n : List ℕ) → m.source ≡ name n → P n) are.ids (map forward_of are.hits)
+    (made_each IsIdMapping (λ m. (n : List ℕ) → m.source ≡ name n → P n) (λ k r m is n same. absurd (id_no_name n is.bytes (sym same ∙ is.source))) 0 g are.ids are.are_ids)
+    (hit_sources P are.hits (covered are.hits are.are_hits)))
+
+-- each name that is a source is covered by some spec
+pub cover : (g : List Reading) (items : List Ref) → Cover g items
+cover g items covering kept stays =
+    kept_each (λ m. (n : List ℕ) → m.source ≡ name n → Any (IsCoveredBy n) g) g stays.all 0 stays.all kept
+    (forward_sources (λ n. Any (IsCoveredBy n) g) g items stays.all (λ hits are. hits_covered g items 0 hits covering are) stays.forward) stays.is
+
+-- a spec expands to one list
+expansion_once : (r : Reading) (list other : List (List ℕ)) → IsExpansion r list → IsExpansion r other → list ≡ other
+expansion_once r list other (inl (x, asked, a)) (inl (y, also, b)) = (one_prefix x).expanded list other a (subst (λ (z : List ℕ). Expands z other) (one_asked r y x also asked) b)
+expansion_once r list other (inl (x, asked, a)) (inr (unasked, b)) = absurd (unasked x asked)
+expansion_once r list other (inr (unasked, a)) (inl (y, asked, b)) = absurd (unasked y asked)
+expansion_once r list other (inr (unasked, a)) (inr (_, b)) = a ∙ sym b
+
+-- so what some spec covers, the entries of all do
+joined_covers : (n : List ℕ) (g : List Reading) (k : ℕ) (entries : List (List ℕ)) → Any (IsCoveredBy n) g → IsJoinedFrom (λ i r list. IsExpansion r list) k g entries → BeginsWithOne entries n
+joined_covers n [] k entries (i, r, below, here, covered) joined = absurd (omega (arith, below))
+joined_covers n (s ∷ g) k entries (zero, r, below, here, covered) (first, rest, expands, more, is) =
+    let same : covered.entries ≡ first = expansion_once r covered.entries first covered.expansion (subst (λ (q : Reading). IsExpansion q first) here expands) in
+    subst (λ (names : List (List ℕ)). BeginsWithOne names n) (sym is) (any_left (λ entry. Begins entry n) first rest (subst (λ (names : List (List ℕ)). BeginsWithOne names n) same covered.one))
+joined_covers n (s ∷ g) k entries (suc i, r, below, here, covered) (first, rest, expands, more, is) =
+    subst (λ (names : List (List ℕ)). BeginsWithOne names n) (sym is) (any_right (λ entry. Begins entry n) first rest (joined_covers n g (k + 1) rest (i, r, omega (arith, below), here, covered) more))
+
+pub cover_together : (g : List Reading) (items : List Ref) → CoverTogether g items
+cover_together g items covering entries joined kept stays =
+    all_weaker (λ m. (n : List ℕ) → m.source ≡ name n → Any (IsCoveredBy n) g) (λ m. (n : List ℕ) → m.source ≡ name n → BeginsWithOne entries n) (λ m covered n is. joined_covers n g 0 entries (covered n is) joined) kept (cover g items covering kept stays)

@@ -1,0 +1,11 @@
+-- A side that matches begins with what it expands to, and what stays is a part of what is matched.
+use Rattle.std.proofs.Common.{map}
+use Rattle.gix_refspec.specs.Group.{ref_of, readings_of}
+use Rattle.gix_refspec.proofs.CoverLemmas.{cover, cover_together}
+use Rattle.gix_refspec.proofs.laws.cover.Goals as goal
+
+pub returns-clause-some : goal.returns-clause-some
+returns-clause-some c = cover (readings_of c.args.group.now) (map ref_of c.args.items.now)
+
+pub returns-clause-together : goal.returns-clause-together
+returns-clause-together c = cover_together (readings_of c.args.group.now) (map ref_of c.args.items.now)

@@ -1,0 +1,8 @@
+-- Fetches of one meaning have the same sides, and both are negative or neither.
+use Rattle.std.proofs.Common.{map}
+use Rattle.gix_refspec.specs.Group.{ref_of, readings_of}
+use Rattle.gix_refspec.proofs.AlikeLemmas.{reads_back}
+use Rattle.gix_refspec.proofs.laws.fetch_group_reads_back.Goals as goal
+
+pub returns : goal.returns
+returns c = reads_back c.args.group.now.specs.items (readings_of c.args.again.now) (map ref_of c.args.items.now)

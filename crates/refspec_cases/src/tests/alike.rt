@@ -1,0 +1,144 @@
+//! Groups that map alike, and what covers the sources of a group.
+
+use super::mapping::{TARGET, group_of, items_of, lines};
+use bstr::BString;
+use gix_refspec::match_group::{Item, Mapping, SourceRef};
+use gix_refspec::oid::ObjectId;
+use gix_refspec::parsing::Operation;
+use gix_refspec::{MatchGroup, laws};
+use std::alloc::{AllocError, Global};
+use std::process::Abort;
+use std::test::Fail;
+
+// The canonical texts of the specs of a group, one a word.
+fn printed(alloc: Global, group: &MatchGroup<'_>) -> Result<String, AllocError> {
+    let mut words = String::new(alloc);
+    for spec in &group.specs {
+        let text = spec.to_bstring(alloc)?;
+        if !words.is_empty() {
+            words.push(' ')?;
+        }
+        words.push_str(format!(in alloc; "{text}")?.as_str())?;
+    }
+    Ok(words)
+}
+
+// Whether a group maps items in both directions as is written.
+fn check_mappings(
+    rt: &impl Abort,
+    alloc: Global,
+    group: MatchGroup<'_>,
+    items: &[Item<'_>],
+    wanted: (&str, &str),
+) -> Result<(), Fail> {
+    let outcome = group.clone(alloc)?.match_lhs(alloc, items)?;
+    let found = lines(alloc, outcome.mappings.as_slice())?;
+    assert_eq!(rt; found.as_str(), wanted.0);
+    let outcome = group.match_rhs(alloc, items)?;
+    let found = lines(alloc, outcome.mappings.as_slice())?;
+    assert_eq!(rt; found.as_str(), wanted.1);
+    Ok(())
+}
+
+#[test]
+fn maps_as_the_canonical_texts(rt: HostRuntime) -> Result<(), Fail> {
+    // Specs and what they print, names, and the mappings in both directions.
+    let rows = [
+        (
+            "+main @:refs/x/h refs/tags/*:refs/y/*",
+            "main HEAD:refs/x/h refs/tags/*:refs/y/*",
+            "refs/heads/main HEAD refs/tags/t refs/x/h",
+            "0 0 refs/heads/main -\n1 1 HEAD refs/x/h\n2 2 refs/tags/t =refs/y/t\n",
+            "3 1 =refs/heads/HEAD refs/x/h\n",
+        ),
+        (
+            "+refs/heads/*:refs/x/* ^@",
+            "+refs/heads/*:refs/x/* ^HEAD",
+            "refs/heads/a HEAD refs/x/b",
+            "0 0 refs/heads/a =refs/x/a\n",
+            "2 0 =refs/heads/b refs/x/b\n",
+        ),
+    ];
+    let alloc = rt.alloc();
+    let target = ObjectId::from_hex(TARGET.as_bytes())?;
+    for (specs, texts, names, forward, backward) in rows {
+        let items = items_of(alloc, names, &target)?;
+        let group = group_of(alloc, Operation::Fetch, specs)?;
+        let again = group_of(alloc, Operation::Fetch, texts)?;
+        let words = printed(alloc, &group)?;
+        assert_eq!(rt; words.as_str(), texts, "{specs}");
+        laws::fetch_group_reads_back(&group, &again, items.as_slice());
+        check_mappings(&rt, alloc, group, items.as_slice(), (forward, backward))?;
+        check_mappings(&rt, alloc, again, items.as_slice(), (forward, backward))?;
+    }
+    Ok(())
+}
+
+// Whether a mapping's source is an id, or begins with one of the entries.
+fn is_covered(mapping: &Mapping<'_, '_>, entries: &[BString]) -> bool {
+    match &mapping.lhs {
+        SourceRef::ObjectId(_) => true,
+        SourceRef::FullName(name) => entries.iter().any(|entry: &BString| name
+            .as_bstr()
+            .as_bytes()
+            .starts_with(entry.as_bytes())),
+    }
+}
+
+#[test]
+fn covers_the_sources(rt: HostRuntime) -> Result<(), Fail> {
+    // Specs, names, the mappings, and whether entries cover their sources.
+    let rows = [
+        (
+            "main refs/heads/*:refs/x/*",
+            "refs/remotes/main/HEAD refs/heads/z",
+            "0 0 refs/remotes/main/HEAD -\n1 1 refs/heads/z =refs/x/z\n",
+            true,
+        ),
+        (
+            "1111111111111111111111111111111111111111 refs/a]b ^refs/heads/*",
+            "refs/a]b refs/heads/z",
+            "- 0 1111111111111111111111111111111111111111 -\n0 1 refs/a]b -\n",
+            true,
+        ),
+        // Outside what the law asks of the sources.
+        ("HEAD", "refs/heads/HEAD", "0 0 refs/heads/HEAD -\n", false),
+        (
+            "*:refs/x/*",
+            "refs/heads/z",
+            "0 0 refs/heads/z =refs/x/refs/heads/z\n",
+            false,
+        ),
+        (
+            "refs/*:refs/x/*",
+            "refs/heads/z",
+            "0 0 refs/heads/z =refs/x/heads/z\n",
+            false,
+        ),
+        (
+            "refs/*/head:refs/x/*",
+            "refs/a/head",
+            "0 0 refs/a/head =refs/x/a\n",
+            false,
+        ),
+    ];
+    let alloc = rt.alloc();
+    let target = ObjectId::from_hex(TARGET.as_bytes())?;
+    for (specs, names, wanted, covered) in rows {
+        let items = items_of(alloc, names, &target)?;
+        let group = group_of(alloc, Operation::Fetch, specs)?;
+        let mut entries = Vec::new(alloc);
+        for spec in &group.specs {
+            spec.expand_prefixes(alloc, &mut entries)?;
+        }
+        laws::cover(&group, items.as_slice());
+        let outcome = group.match_lhs(alloc, items.as_slice())?;
+        let found = lines(alloc, outcome.mappings.as_slice())?;
+        assert_eq!(rt; found.as_str(), wanted, "{specs} over {names}");
+        for mapping in &outcome.mappings {
+            let is = is_covered(mapping, entries.as_slice());
+            assert_eq!(rt; is, covered, "{specs} over {names}");
+        }
+    }
+    Ok(())
+}
