@@ -1,20 +1,21 @@
 //! Laws of the definitions, of specs at hand, and of comparisons. Each function has no effect: its
 //! contract states the law of what it is given.
 
-ghost use Rattle.std.specs.Prelude.{◌≡◌, ◌↔◌, map, IsTrue};
+ghost use Rattle.std.specs.Prelude.{◌≡◌, ◌↔◌, map, option_map, IsTrue};
 ghost use Rattle.std.specs.Ordering.{nat_cmp};
 ghost use Rattle.gix_refspec.specs.Laws.{ReadsOrRefused, OneRefusal, ReadsBack, IsPrintedBack, KeepsOperation, SaysForOperation, EqualTexts, EqualReadings, IdOrFault, OneLowerText, NothingAgainst, OneWord, PrefixBegins, OnePrefix, Candidates};
 ghost use Rattle.gix_refspec.specs.Meaning.{meaning_of};
 ghost use Rattle.gix_refspec.specs.ObjectId.{id_bytes};
 ghost use Rattle.gix_refspec.specs.Order.{is_same, order, place_of};
-ghost use Rattle.gix_refspec.specs.Group.{ref_of, readings_of, start_of};
+ghost use Rattle.gix_refspec.specs.Group.{mapped_of, name_bytes, ref_of, readings_of, start_of};
+ghost use Rattle.gix_refspec.specs.Mappings.{IsSamePair};
 ghost use Rattle.gix_refspec.specs.Hits.{KeptOnce, OneForward, OneBackward};
 ghost use Rattle.gix_refspec.specs.MatchLaws.{Transpose, FetchGroupReadsBack, Cover, CoverTogether};
 ghost use Rattle.gix_refspec.specs.Spec.{reading_of, owned_reading_of};
 ghost use Rattle.gix_refspec.specs.Views.{shown_fetch, shown_push};
 
 use crate::instruction::{Fetch, Push};
-use crate::match_group::{Item, SourceRef};
+use crate::match_group::{Item, Mapping, NameRef, SourceRef};
 use crate::oid::{Kind, ObjectId};
 use crate::parsing::Operation;
 use crate::{MatchGroup, RefSpec, RefSpecRef, name, oid};
@@ -152,6 +153,22 @@ pub fn cover(group: &MatchGroup<'_>, items: &[Item<'_>])
 pub fn equal_sources<'a>(a: &SourceRef<'a>, b: &SourceRef<'a>)
     ensures { IsTrue (⟦<SourceRef<'a> as PartialEq>⟧.eq a.now b.now) ↔
         (start_of a.now ≡ start_of b.now) }
+{}
+
+/// Two mappings are equal exactly where they have the same source and the same destination, wherever
+/// they come from.
+pub fn equal_mappings<'a, 'b>(a: &Mapping<'a, 'b>, b: &Mapping<'a, 'b>)
+    ensures { IsTrue (⟦<Mapping<'a, 'b> as PartialEq>⟧.eq a.now b.now) ↔
+        IsSamePair (mapped_of a.now) (mapped_of b.now) }
+{
+    equal_sources(&a.lhs, &b.lhs);
+    equal_destinations(&a.rhs, &b.rhs);
+}
+
+// Two destinations are equal exactly where both are there with the same bytes, or neither is there.
+fn equal_destinations<'a>(a: &Option<NameRef<'a>>, b: &Option<NameRef<'a>>)
+    ensures { IsTrue (⟦<Option<NameRef<'a>> as PartialEq>⟧.eq a.now b.now) ↔
+        (option_map name_bytes a.now ≡ option_map name_bytes b.now) }
 {}
 
 /// Two kinds of ids are equal exactly where they are the same.
