@@ -1,5 +1,7 @@
 -- What specs match, and what becomes of it.
-use Rattle.std.proofs.Common.{◌≡◌, ◌≢◌, ◌⊎◌, inl, inr, ℕ, suc, ◌+◌, ◌<◌, List, [], ◌∷◌, ◌++◌, codes, map, take, drop, get_or, Option, None, Some, option_map, option_to_list, is_some, true, MatchOption, Bor, length, refl, sym, ap, ◌∙◌, subst, append_assoc}
+use Rattle.std.proofs.Common.{◌≡◌, ◌≢◌, ◌⊎◌, inl, inr, ℕ, suc, ◌+◌, ◌<◌, List, [], ◌∷◌, ◌++◌, codes, map, take, drop, get_or, Option, None, Some, option_map, option_to_list, is_some, true, MatchOption, Result, Ok, Err, Vec, Global, Bor, length, refl, sym, ap, ◌∙◌, subst, append_assoc}
+use Rattle.std.specs.declared.alloc.AllocError.{AllocError}
+use Rattle.std.specs.Prelude.{IfOk, OnErr}
 use Rattle.std.proofs.lemmas.List.{append-nil, append_cancel_left, map-append}
 use Rattle.std.proofs.lemmas.Bool.{cases_eq, false≢true}
 use Rattle.bstr.specs.declared.bstr.BStr.{BStr}
@@ -461,3 +463,8 @@ made_forward rs items l are some none = some (map_nothing mapped_of l (forward_o
 
 pub made_backward : (rs : List Reading) (items : List Ref) (l : List Mapping) → AreBackward rs items (map mapped_of l) → l ≢ [] → ¬ (AreBackward rs items [])
 made_backward rs items l are some none = some (map_nothing mapped_of l (backward_once rs items (map mapped_of l) [] are none))
+
+-- where some mapping was made, or memory ran out over one, there is no way to make none
+pub none_made : (F : List Mapped → Type 0) → ((l : List Mapping) → F (map mapped_of l) → l ≢ [] → ¬ (F [])) → (r : Result (Vec Mapping Global) AllocError) → IfOk r (λ v. F (map mapped_of v.items)) → OnErr r (¬ (F [])) → IfOk r (λ v. v.items ≢ []) → ¬ (F [])
+none_made F made (Ok v) are refused some = made v.items are some
+none_made F made (Err e) are refused some = refused

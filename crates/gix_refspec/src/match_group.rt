@@ -1,6 +1,6 @@
 //! Groups of refspecs, and what they match among the refs of two repositories.
 
-ghost use Rattle.std.specs.Prelude.{◌≡◌, ◌≢◌, [], map, IfOk, IfErr, OnOk, OnErr};
+ghost use Rattle.std.specs.Prelude.{◌≡◌, ◌≢◌, [], map, IsOkAnd, IfOk, IfErr, OnOk, OnErr};
 ghost use Rattle.gix_refspec.specs.Spec.{reading_of};
 ghost use Rattle.gix_refspec.specs.Mappings.{IsKept};
 ghost use Rattle.gix_refspec.specs.Group.{ref_of, mapped_of, readings_of};
@@ -47,7 +47,8 @@ impl<'spec> MatchGroup<'spec> {
         ensures memory { OnErr result (¬ (AreForward
             (readings_of self.entry) (map ref_of items.now) [])) }
     {
-        match kept_forward(alloc, self.specs.as_slice(), items) {
+        let specs = self.specs.as_slice();
+        match kept(alloc, specs, forward(alloc, specs, items)) {
             Ok(mappings) => Ok(match_lhs::Outcome {
                 group: self,
                 mappings,
@@ -80,7 +81,8 @@ impl<'spec> MatchGroup<'spec> {
         ensures memory { OnErr result (¬ (AreBackward
             (readings_of self.entry) (map ref_of items.now) [])) }
     {
-        match kept_backward(alloc, self.specs.as_slice(), items) {
+        let specs = self.specs.as_slice();
+        match kept(alloc, specs, backward(alloc, specs, items)) {
             Ok(mappings) => Ok(match_rhs::Outcome {
                 group: self,
                 mappings,
@@ -90,34 +92,17 @@ impl<'spec> MatchGroup<'spec> {
     }
 }
 
-// The mappings from left to right that are kept.
-fn kept_forward<'spec, 'item>(
+// Those of the mappings that are kept, where memory sufficed to make them.
+fn kept<'a, 'b>(
     alloc: Global,
-    specs: &[RefSpecRef<'spec>],
-    items: &[Item<'item>],
-) -> Result<Vec<Mapping<'item, 'spec>>, AllocError>
-    ensures ok { IfOk result (λ list. AreKeptForward
-        (map reading_of specs.now) (map ref_of items.now) (map mapped_of list.items)) }
-    ensures memory { OnErr result (¬ (AreForward
-        (map reading_of specs.now) (map ref_of items.now) [])) }
+    specs: &[RefSpecRef<'_>],
+    made: Result<Vec<Mapping<'a, 'b>>, AllocError>,
+) -> Result<Vec<Mapping<'a, 'b>>, AllocError>
+    ensures ok { IfOk result (λ list. IsOkAnd made.entry (λ all. IsKept
+        (map reading_of specs.now) (map mapped_of all.items) (map mapped_of list.items))) }
+    ensures memory { OnErr result (IfOk made.entry (λ all. all.items ≢ [])) }
 {
-    let mut mappings = forward(alloc, specs, items)?;
-    keep_some(alloc, specs, &mut mappings)?;
-    Ok(mappings)
-}
-
-// The mappings from right to left that are kept.
-fn kept_backward<'spec, 'item>(
-    alloc: Global,
-    specs: &[RefSpecRef<'spec>],
-    items: &[Item<'item>],
-) -> Result<Vec<Mapping<'spec, 'item>>, AllocError>
-    ensures ok { IfOk result (λ list. AreKeptBackward
-        (map reading_of specs.now) (map ref_of items.now) (map mapped_of list.items)) }
-    ensures memory { OnErr result (¬ (AreBackward
-        (map reading_of specs.now) (map ref_of items.now) [])) }
-{
-    let mut mappings = backward(alloc, specs, items)?;
+    let mut mappings = made?;
     keep_some(alloc, specs, &mut mappings)?;
     Ok(mappings)
 }
