@@ -1,7 +1,5 @@
 -- What specs match, and what becomes of it.
-use Rattle.std.proofs.Common.{◌≡◌, ◌≢◌, ◌⊎◌, inl, inr, ℕ, suc, ◌+◌, ◌<◌, List, [], ◌∷◌, ◌++◌, codes, map, take, drop, get_or, Option, None, Some, option_map, option_to_list, is_some, true, MatchOption, Result, Ok, Err, Vec, Global, Bor, length, refl, sym, ap, ◌∙◌, subst, append_assoc}
-use Rattle.std.specs.declared.alloc.AllocError.{AllocError}
-use Rattle.std.specs.Prelude.{IfOk, OnErr}
+use Rattle.std.proofs.Common.{◌≡◌, ◌≢◌, ◌⊎◌, inl, inr, ℕ, suc, ◌+◌, ◌<◌, List, [], ◌∷◌, ◌++◌, codes, map, take, drop, get_or, Option, None, Some, option_map, option_to_list, is_some, true, MatchOption, Bor, length, refl, sym, ap, ◌∙◌, subst, append_assoc}
 use Rattle.std.proofs.lemmas.List.{append-nil, append_cancel_left, map-append}
 use Rattle.std.proofs.lemmas.Bool.{cases_eq, false≢true}
 use Rattle.bstr.specs.declared.bstr.BStr.{BStr}
@@ -32,7 +30,7 @@ use Rattle.gix_refspec.specs.Mappings.{Mapped, IsKept, Stays}
 use Rattle.gix_refspec.specs.Group.{name_bytes, mapped_of, ref_of}
 use Rattle.gix_refspec.specs.Hits.{Ends, OneForward, OneBackward, IsIdMapping, AreForward, AreBackward, forward_of, backward_of, AreForwardEnds, AreBackwardEnds, AreSpecHits, AreHits, Hit, IsHit, IsFilled}
 use Rattle.gix_refspec.specs.Private.SideViews.{shown_kind}
-use Rattle.gix_refspec.specs.Private.HitViews.{AsksForId, word_of, IsPlace, HasKindShown, HaveKinds, HasEnds, filled_end, AreHitsOfKinds, HasHit, mapping_of, made_in, AddsHits}
+use Rattle.gix_refspec.specs.Private.HitViews.{AsksForId, word_of, IsPlace, HasKindShown, HaveKinds, HasEnds, filled_end, AreHitsOfKinds, HasHit, mapping_of, made_in, AddsHits, AreFirst, AreMade}
 use Rattle.gix_refspec.specs.Mappings as mappings
 use Rattle.gix_refspec.proofs.ObjectIdLemmas.{IsIdText-unique}
 use Rattle.gix_refspec.proofs.AcceptedLemmas.{accepted_few}
@@ -464,7 +462,21 @@ made_forward rs items l are some none = some (map_nothing mapped_of l (forward_o
 pub made_backward : (rs : List Reading) (items : List Ref) (l : List Mapping) → AreBackward rs items (map mapped_of l) → l ≢ [] → ¬ (AreBackward rs items [])
 made_backward rs items l are some none = some (map_nothing mapped_of l (backward_once rs items (map mapped_of l) [] are none))
 
--- where some mapping was made, or memory ran out over one, there is no way to make none
-pub none_made : (F : List Mapped → Type 0) → ((l : List Mapping) → F (map mapped_of l) → l ≢ [] → ¬ (F [])) → (r : Result (Vec Mapping Global) AllocError) → IfOk r (λ v. F (map mapped_of v.items)) → OnErr r (¬ (F [])) → IfOk r (λ v. v.items ≢ []) → ¬ (F [])
-none_made F made (Ok v) are refused some = made v.items are some
-none_made F made (Err e) are refused some = refused
+-- what comes first, and the hits behind it, are all the mappings of a direction
+pub all_made : (direction : Direction) (g : List Reading) (items : List Ref) (old new : Made) → AreFirst direction g (made_in direction old) → AddsHits direction (AreHits (HasEnds direction) g items) old new → AreMade direction g items (made_in direction new)
+all_made Forward g items old new first adds = record { ids = made_in Forward old; hits = adds.hits; are_ids = first; are_hits = adds.are; all = adds.all }
+all_made Backward g items old new first adds = record { hits = adds.hits; are_hits = adds.are; all = adds.all ∙ ap (λ (l : List Mapped). l ++ map (mapping_of Backward) adds.hits) first }
+
+-- where none is made, none comes first
+pub none_first : (direction : Direction) (g : List Reading) (items : List Ref) → AreMade direction g items [] → AreFirst direction g []
+none_first Forward g items none = no_ids g items none
+none_first Backward g items none = refl
+
+-- and there is no hit
+pub none_hit : (direction : Direction) (g : List Reading) (items : List Ref) → AreMade direction g items [] → AreHits (HasEnds direction) g items []
+none_hit Forward g items none = no_forward_hits g items none
+none_hit Backward g items none = no_backward_hits g items none
+
+-- where the direction is known
+pub made_some : (g : List Reading) (items : List Ref) (direction known : Direction) → direction ≡ known → (made : Made) → (AreMade known g items (made_in known made) → ¬ (AreMade known g items [])) → AreMade direction g items (made_in direction made) → ¬ (AreMade direction g items [])
+made_some g items direction known is made there are = subst (λ (d : Direction). ¬ (AreMade d g items [])) (sym is) (there (subst (λ (d : Direction). AreMade d g items (made_in d made)) is are))

@@ -1,9 +1,10 @@
 //! Groups of refspecs, and what they match among the refs of two repositories.
 
-ghost use Rattle.std.specs.Prelude.{◌≡◌, ◌≢◌, [], map, IsOkAnd, IfOk, IfErr, OnOk, OnErr};
+ghost use Rattle.std.specs.Prelude.{◌≡◌, ◌≢◌, [], map, IfOk, IfErr, OnOk, OnErr};
 ghost use Rattle.gix_refspec.specs.Spec.{reading_of};
 ghost use Rattle.gix_refspec.specs.Mappings.{IsKept};
 ghost use Rattle.gix_refspec.specs.Group.{ref_of, mapped_of, readings_of};
+ghost use Rattle.gix_refspec.specs.Private.HitViews.{AreKept, AreMade, made_in};
 ghost use Rattle.gix_refspec.specs.Hits.{AreForward, AreBackward, AreKeptForward, AreKeptBackward};
 
 pub(crate) mod types;
@@ -13,7 +14,8 @@ use crate::spec::RefSpecRef;
 use std::alloc::{AllocError, Global};
 use types::MatchGroup;
 pub use types::{Item, Mapping, NameRef, NoRoom, Source, SourceRef, match_lhs, match_rhs};
-use util::hits::{backward, forward};
+use util::ends::Direction;
+use util::hits::{Made, mappings_of};
 use util::kept::keep;
 
 /// Matching, from left to right and from right to left.
@@ -47,11 +49,10 @@ impl<'spec> MatchGroup<'spec> {
         ensures memory { OnErr result (¬ (AreForward
             (readings_of self.entry) (map ref_of items.now) [])) }
     {
-        let specs = self.specs.as_slice();
-        match kept(alloc, specs, forward(alloc, specs, items)) {
-            Ok(mappings) => Ok(match_lhs::Outcome {
+        match kept(alloc, Direction::Forward, self.specs.as_slice(), items) {
+            Ok(made) => Ok(match_lhs::Outcome {
                 group: self,
-                mappings,
+                mappings: made.forward,
             }),
             Err(_) => Err(NoRoom { group: self }),
         }
@@ -81,30 +82,34 @@ impl<'spec> MatchGroup<'spec> {
         ensures memory { OnErr result (¬ (AreBackward
             (readings_of self.entry) (map ref_of items.now) [])) }
     {
-        let specs = self.specs.as_slice();
-        match kept(alloc, specs, backward(alloc, specs, items)) {
-            Ok(mappings) => Ok(match_rhs::Outcome {
+        match kept(alloc, Direction::Backward, self.specs.as_slice(), items) {
+            Ok(made) => Ok(match_rhs::Outcome {
                 group: self,
-                mappings,
+                mappings: made.backward,
             }),
             Err(_) => Err(NoRoom { group: self }),
         }
     }
 }
 
-// Those of the mappings that are kept, where memory sufficed to make them.
-fn kept<'a, 'b>(
+// The mappings of a direction that are kept.
+fn kept<'spec, 'item>(
     alloc: Global,
-    specs: &[RefSpecRef<'_>],
-    made: Result<Vec<Mapping<'a, 'b>>, AllocError>,
-) -> Result<Vec<Mapping<'a, 'b>>, AllocError>
-    ensures ok { IfOk result (λ list. IsOkAnd made.entry (λ all. IsKept
-        (map reading_of specs.now) (map mapped_of all.items) (map mapped_of list.items))) }
-    ensures memory { OnErr result (IfOk made.entry (λ all. all.items ≢ [])) }
+    direction: Direction,
+    specs: &[RefSpecRef<'spec>],
+    items: &[Item<'item>],
+) -> Result<Made<'spec, 'item>, AllocError>
+    ensures ok { IfOk result (λ made. AreKept
+        direction (map reading_of specs.now) (map ref_of items.now) (made_in direction made)) }
+    ensures memory { OnErr result (¬ (AreMade
+        direction (map reading_of specs.now) (map ref_of items.now) [])) }
 {
-    let mut mappings = made?;
-    keep_some(alloc, specs, &mut mappings)?;
-    Ok(mappings)
+    let mut made = mappings_of(alloc, direction, specs, items)?;
+    match direction {
+        Direction::Forward => keep_some(alloc, specs, &mut made.forward)?,
+        Direction::Backward => keep_some(alloc, specs, &mut made.backward)?,
+    }
+    Ok(made)
 }
 
 // Drops the mappings that are not kept. Without mappings that takes no memory.

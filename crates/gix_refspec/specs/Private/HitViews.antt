@@ -14,7 +14,7 @@ use Rattle.gix_refspec.specs.Side.{HasKind, object, filled}
 use Rattle.gix_refspec.specs.Match.{Ref}
 use Rattle.gix_refspec.specs.Lists.{IsMadeFrom}
 use Rattle.gix_refspec.specs.Mappings.{Mapped}
-use Rattle.gix_refspec.specs.Hits.{Ends, AreForwardEnds, AreBackwardEnds, Hit, IsHit, forward_of, backward_of}
+use Rattle.gix_refspec.specs.Hits.{Ends, AreForwardEnds, AreBackwardEnds, Hit, IsHit, IsIdMapping, AreForward, AreBackward, AreKeptForward, AreKeptBackward, forward_of, backward_of}
 use Rattle.gix_refspec.specs.Group.{name_bytes, mapped_of}
 use Rattle.gix_refspec.specs.Private.SideViews.{shown_kind}
 
@@ -82,3 +82,18 @@ pub record AddsHits (direction : Direction) (P : List Hit → Type 0) (old new :
   pub hits : List Hit
   pub are : P hits
   pub all : made_in direction new ≡ made_in direction old ++ map (mapping_of direction) hits
+
+-- the mappings of the direction that take no item: those of ids, from left to right alone
+abbrev pub AreFirst : Direction → List Reading → List Mapped → Type 0
+AreFirst Forward g ids = IsMadeFrom IsIdMapping 0 g ids
+AreFirst Backward g ids = ids ≡ []
+
+-- the mappings of the direction
+abbrev pub AreMade : Direction → List Reading → List Ref → List Mapped → Type 0
+AreMade Forward g items list = AreForward g items list
+AreMade Backward g items list = AreBackward g items list
+
+-- those of them that stay
+abbrev pub AreKept : Direction → List Reading → List Ref → List Mapped → Type 0
+AreKept Forward g items kept = AreKeptForward g items kept
+AreKept Backward g items kept = AreKeptBackward g items kept

@@ -1,6 +1,6 @@
 //! The parts of matching.
 
-mod ends;
+pub(crate) mod ends;
 mod fill;
 pub(crate) mod hits;
 pub(crate) mod kept;

@@ -1,12 +1,12 @@
 //! Which items the specs of a group match, and the mappings that these make. A direction only
 //! chooses which end of a spec is near, and matches items, and which is far, and is filled.
 
-ghost use Rattle.std.specs.Prelude.{◌≡◌, ◌≢◌, [], map, IfOk, OnOk, OnErr};
+ghost use Rattle.std.specs.Prelude.{◌≡◌, ◌≢◌, ◌⊎◌, [], map, IfOk, OnOk, OnErr};
 ghost use Rattle.gix_refspec.specs.Spec.{reading_of};
 ghost use Rattle.gix_refspec.specs.Lists.{IsMadeFrom};
 ghost use Rattle.gix_refspec.specs.Group.{ref_of, mapped_of};
-ghost use Rattle.gix_refspec.specs.Hits.{AreHits, forward_of, backward_of, IsIdMapping, AreForward, AreBackward};
-ghost use Rattle.gix_refspec.specs.Private.HitViews.{HasEnds, shown_hit, AreHitsOfKinds, HasHit, AddsHits};
+ghost use Rattle.gix_refspec.specs.Hits.{AreHits, forward_of, backward_of, IsIdMapping};
+ghost use Rattle.gix_refspec.specs.Private.HitViews.{HasEnds, shown_hit, AreHitsOfKinds, HasHit, AddsHits, AreFirst, AreMade, made_in};
 
 use super::ends::{Direction, Ends, asked_of, ends_of};
 use super::fill::filled_end;
@@ -27,50 +27,80 @@ struct Hit<'spec, 'item> {
 
 // The mappings that are made, in the list of their direction. The other list stays empty.
 #[derive(Drop)]
-struct Made<'spec, 'item> {
-    forward: Vec<Mapping<'item, 'spec>>,
-    backward: Vec<Mapping<'spec, 'item>>,
+pub(crate) struct Made<'spec, 'item> {
+    pub(crate) forward: Vec<Mapping<'item, 'spec>>,
+    pub(crate) backward: Vec<Mapping<'spec, 'item>>,
 }
 
-// The mappings from left to right: those of ids by spec, then those of items by spec and item.
-pub(crate) fn forward<'spec, 'item>(
+// The mappings of a direction: those of ids by spec, from left to right alone, and then those of
+// items by spec and item.
+pub(crate) fn mappings_of<'spec, 'item>(
     alloc: Global,
+    direction: Direction,
     specs: &[RefSpecRef<'spec>],
     items: &[Item<'item>],
+) -> Result<Made<'spec, 'item>, AllocError>
+    ensures ok { IfOk result (λ made. AreMade
+        direction (map reading_of specs.now) (map ref_of items.now) (made_in direction made)) }
+    ensures memory { OnErr result (¬ (AreMade
+        direction (map reading_of specs.now) (map ref_of items.now) [])) }
+{
+    let room = room_for(direction, specs, items);
+    let mut made = started(alloc, direction, specs, room)?;
+    add_hits(alloc, direction, specs, items, &mut made)?;
+    Ok(made)
+}
+
+// How many mappings a direction makes.
+fn room_for(direction: Direction, specs: &[RefSpecRef<'_>], items: &[Item<'_>]) -> usize
+    ensures { result ≢ 0 → ¬ (AreMade
+        direction (map reading_of specs.now) (map ref_of items.now) []) }
+{
+    let hits = hit_count(direction, specs, items);
+    match direction {
+        Direction::Forward => id_count(specs).saturating_add(hits),
+        Direction::Backward => hits,
+    }
+}
+
+// The mappings of a direction that take no item, with room for so many.
+fn started<'spec, 'item>(
+    alloc: Global,
+    direction: Direction,
+    specs: &[RefSpecRef<'spec>],
+    room: usize,
+) -> Result<Made<'spec, 'item>, AllocError>
+    ensures ok { IfOk result (λ made. AreFirst
+        direction (map reading_of specs.now) (made_in direction made)) }
+    ensures memory { OnErr result ((room ≢ 0) ⊎ ¬ (AreFirst
+        direction (map reading_of specs.now) [])) }
+{
+    Ok(match direction {
+        Direction::Forward => Made {
+            forward: ids_of(alloc, specs, room)?,
+            backward: Vec::new(alloc),
+        },
+        Direction::Backward => Made {
+            forward: Vec::new(alloc),
+            backward: with_room(alloc, room)?,
+        },
+    })
+}
+
+// A mapping for each positive spec whose source is an id, with room for so many.
+fn ids_of<'spec, 'item>(
+    alloc: Global,
+    specs: &[RefSpecRef<'spec>],
+    room: usize,
 ) -> Result<Vec<Mapping<'item, 'spec>>, AllocError>
-    ensures ok { IfOk result (λ list. AreForward
-        (map reading_of specs.now) (map ref_of items.now) (map mapped_of list.items)) }
-    ensures memory { OnErr result (¬ (AreForward
-        (map reading_of specs.now) (map ref_of items.now) [])) }
+    ensures ok { IfOk result (λ ids. IsMadeFrom
+        IsIdMapping 0 (map reading_of specs.now) (map mapped_of ids.items)) }
+    ensures memory { OnErr result ((room ≢ 0) ⊎ ¬ (IsMadeFrom
+        IsIdMapping 0 (map reading_of specs.now) [])) }
 {
-    let room = id_count(specs).saturating_add(hit_count(Direction::Forward, specs, items));
-    let mut made = Made {
-        forward: with_room(alloc, room)?,
-        backward: Vec::new(alloc),
-    };
-    add_ids(alloc, specs, &mut made.forward)?;
-    add_hits(alloc, Direction::Forward, specs, items, &mut made)?;
-    Ok(made.forward)
-}
-
-// The mappings from right to left, by spec and item.
-pub(crate) fn backward<'spec, 'item>(
-    alloc: Global,
-    specs: &[RefSpecRef<'spec>],
-    items: &[Item<'item>],
-) -> Result<Vec<Mapping<'spec, 'item>>, AllocError>
-    ensures ok { IfOk result (λ list. AreBackward
-        (map reading_of specs.now) (map ref_of items.now) (map mapped_of list.items)) }
-    ensures memory { OnErr result (¬ (AreBackward
-        (map reading_of specs.now) (map ref_of items.now) [])) }
-{
-    let room = hit_count(Direction::Backward, specs, items);
-    let mut made = Made {
-        forward: Vec::new(alloc),
-        backward: with_room(alloc, room)?,
-    };
-    add_hits(alloc, Direction::Backward, specs, items, &mut made)?;
-    Ok(made.backward)
+    let mut ids = with_room(alloc, room)?;
+    add_ids(alloc, specs, &mut ids)?;
+    Ok(ids)
 }
 
 // An empty list with room for so many. No room takes no memory.
