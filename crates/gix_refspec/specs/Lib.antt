@@ -19,4 +19,6 @@ pub mod Lists
 pub mod Mappings
 pub mod Group
 pub mod Hits
+pub mod Validation
+pub mod Issue
 pub mod Private

@@ -9,10 +9,13 @@ ghost use Rattle.gix_refspec.specs.ObjectId.{id_bytes};
 ghost use Rattle.gix_refspec.specs.Order.{is_same, order, place_of};
 ghost use Rattle.gix_refspec.specs.Group.{ref_of, readings_of, start_of};
 ghost use Rattle.gix_refspec.specs.Hits.{KeptOnce, OneForward, OneBackward};
+ghost use Rattle.gix_refspec.specs.Validation.{ForwardFits, ValidatedOnce};
+ghost use Rattle.gix_refspec.specs.Issue.{IsSameFix, conflict_of};
 ghost use Rattle.gix_refspec.specs.Spec.{reading_of, owned_reading_of};
 ghost use Rattle.gix_refspec.specs.Views.{shown_fetch, shown_push};
 
 use crate::instruction::{Fetch, Push};
+use crate::match_group::validate::{Fix, Issue};
 use crate::match_group::{Item, SourceRef};
 use crate::oid::{Kind, ObjectId};
 use crate::parsing::Operation;
@@ -123,6 +126,28 @@ pub fn one_backward(group: &MatchGroup<'_>, items: &[Item<'_>])
 /// No two mappings that stay have the same source and the same destination, in either direction.
 pub fn kept_once(group: &MatchGroup<'_>, items: &[Item<'_>])
     ensures { KeptOnce (readings_of group.now) (map ref_of items.now) }
+{}
+
+/// Each mapping that `match_lhs` lists has a spec of the group: so `validated` may be called.
+pub fn forward_fits(group: &MatchGroup<'_>, items: &[Item<'_>])
+    ensures { ForwardFits (readings_of group.now) (map ref_of items.now) }
+{}
+
+/// After a validation, mappings with one destination have one source. If the mappings came from
+/// `match_lhs`, no two have one destination.
+pub fn validated_once(group: &MatchGroup<'_>, items: &[Item<'_>])
+    ensures { ValidatedOnce (readings_of group.now) (map ref_of items.now) }
+{}
+
+/// Two issues are equal exactly where they report the same conflict.
+pub fn equal_issues(a: &Issue, b: &Issue)
+    ensures { IsTrue (⟦<Issue as PartialEq>⟧.eq a.now b.now) ↔
+        (conflict_of a.now ≡ conflict_of b.now) }
+{}
+
+/// Two fixes are equal exactly where they have the same destination, and specs that say the same.
+pub fn equal_fixes(a: &Fix, b: &Fix)
+    ensures { IsTrue (⟦<Fix as PartialEq>⟧.eq a.now b.now) ↔ IsSameFix a.now b.now }
 {}
 
 /// Two sources are equal exactly where they are the same name or the same id.

@@ -10,6 +10,7 @@ mod parsing;
 mod prefixes;
 mod printing;
 mod spec;
+mod validation;
 mod writing;
 
 use gix_refspec::RefSpecRef;
