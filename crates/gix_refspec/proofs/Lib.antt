@@ -30,3 +30,6 @@ pub mod ExclusionLemmas
 pub mod ListsLemmas
 pub mod JoinLemmas
 pub mod HitLemmas
+pub mod ClaimLemmas
+pub mod FirstLemmas
+pub mod ConflictLemmas

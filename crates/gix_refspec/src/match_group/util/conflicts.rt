@@ -2,11 +2,15 @@
 //!
 //! They are found by sorting, so that no names make it slow.
 
-ghost use Rattle.std.specs.Prelude.{◌≡◌, ◌≢◌, ◌↔◌, ◌<◌, ◌≤◌, [], ℕ, List, length, map, IfOk, OnErr, IsTrue};
+ghost use Rattle.std.specs.Prelude.{◌≢◌, ◌<◌, ◌≤◌, [], length, map, take, drop, IfOk, OnOk, OnErr, IsTrue};
+ghost use Rattle.std.specs.Ordering.{nat_cmp};
+ghost use Rattle.std.specs.Cmp.Lexicographic.{slice_cmp};
+ghost use Rattle.std.specs.List.Sorted.{IsStrictlySortedBy};
 ghost use Rattle.gix_refspec.specs.Spec.{reading_of};
 ghost use Rattle.gix_refspec.specs.Group.{mapped_of};
-ghost use Rattle.gix_refspec.specs.Validation.{IndexesFit, IsContested, AreConflicts};
+ghost use Rattle.gix_refspec.specs.Validation.{IndexesFit, AreConflicts};
 ghost use Rattle.gix_refspec.specs.Issue.{conflict_of};
+ghost use Rattle.gix_refspec.specs.Private.Claims.{AddsConflict, AreClaims, AreFirsts, AreRivals, IsCut, IsOver, claim_cmp, destinations_of};
 
 use crate::match_group::types::Mapping;
 use crate::match_group::util::kept::is_flagged;
@@ -51,7 +55,9 @@ fn claims_in_order<'m>(
     alloc: Global,
     mappings: &'m [Mapping<'_, '_>],
     flags: &[bool],
-) -> Result<Vec<Claim<'m>>, AllocError> {
+) -> Result<Vec<Claim<'m>>, AllocError>
+    ensures { IfOk result (λ claims. AreClaims (map mapped_of mappings.now) flags.now claims.items) }
+{
     let mut claims = Vec::with_capacity(alloc, mappings.len())?;
     for (place, mapping) in mappings.iter().enumerate() {
         let Some(name) = &mapping.rhs else {
@@ -68,8 +74,11 @@ fn claims_in_order<'m>(
     Ok(claims)
 }
 
-// Whether no two claims that follow one another have one destination.
-fn are_apart(claims: &[Claim<'_>]) -> bool {
+// Whether no two of some claims in order have one destination.
+fn are_apart(claims: &[Claim<'_>]) -> bool
+    requires { IsStrictlySortedBy claim_cmp claims.now }
+    ensures { IsTrue result → IsStrictlySortedBy (slice_cmp nat_cmp) (destinations_of claims.now) }
+{
     for at in 1..claims.len() {
         if claims[at - 1].destination == claims[at].destination {
             return false;
@@ -84,22 +93,50 @@ fn issues_among(
     specs: &[RefSpecRef<'_>],
     mappings: &[Mapping<'_, '_>],
     firsts: &[Claim<'_>],
-) -> Result<Vec<Issue>, AllocError> {
+) -> Result<Vec<Issue>, AllocError>
+    requires fits { IndexesFit (map reading_of specs.now) (map mapped_of mappings.now) }
+    requires firsts { AreFirsts (map mapped_of mappings.now) firsts.now }
+    ensures { IfOk result (λ issues. AreConflicts
+        (map reading_of specs.now) (map mapped_of mappings.now) (map conflict_of issues.items)) }
+{
     let mut issues = Vec::new(alloc);
-    let mut rest = firsts;
-    while !rest.is_empty() {
-        let (run, others) = rest.split_at(len_of_run(rest));
-        if run.len() > 1 {
-            issues.push(issue_of(alloc, specs, mappings, run)?)?;
-        }
-        rest = others;
+    let mut at = 0;
+    while at < firsts.len() {
+        let rest = &firsts[at..];
+        let len = len_of_run(rest);
+        add_issue(alloc, specs, mappings, &rest[..len], &mut issues)?;
+        at += len;
     }
     Ok(issues)
 }
 
-// How many claims, from the first on, have its destination.
+// Adds the conflict of all claims to one destination, where there are several.
+fn add_issue(
+    alloc: Global,
+    specs: &[RefSpecRef<'_>],
+    mappings: &[Mapping<'_, '_>],
+    run: &[Claim<'_>],
+    issues: &mut Vec<Issue>,
+) -> Result<(), AllocError>
+    requires fits { IndexesFit (map reading_of specs.now) (map mapped_of mappings.now) }
+    requires rivals { 1 < length run.now → AreRivals (map mapped_of mappings.now) run.now }
+    ensures { OnOk result (AddsConflict
+        (map reading_of specs.now) (map mapped_of mappings.now) run.now
+        (map conflict_of issues.old.items) (map conflict_of issues.new.items)) }
+{
+    if run.len() > 1 {
+        issues.push(issue_of(alloc, specs, mappings, run)?)?;
+    }
+    Ok(())
+}
+
+// How many of some claims in order, from the first on, have its destination.
 fn len_of_run(claims: &[Claim<'_>]) -> usize
-    requires { 0 < length claims.now }
+    requires some { 0 < length claims.now }
+    requires order { IsStrictlySortedBy claim_cmp claims.now }
+    ensures some { 0 < result }
+    ensures fits { result ≤ length claims.now }
+    ensures cut { IsCut (take result claims.now) (drop result claims.now) }
 {
     for (len, claim) in claims.iter().enumerate() {
         if claim.destination != claims[0].destination {
@@ -109,13 +146,18 @@ fn len_of_run(claims: &[Claim<'_>]) -> usize
     claims.len()
 }
 
-// The conflict of claims to one destination.
+// The conflict of the claims to one destination.
 fn issue_of(
     alloc: Global,
     specs: &[RefSpecRef<'_>],
     mappings: &[Mapping<'_, '_>],
     run: &[Claim<'_>],
-) -> Result<Issue, AllocError> {
+) -> Result<Issue, AllocError>
+    requires fits { IndexesFit (map reading_of specs.now) (map mapped_of mappings.now) }
+    requires rivals { AreRivals (map mapped_of mappings.now) run.now }
+    ensures { IfOk result (λ issue. IsOver
+        (map reading_of specs.now) (map mapped_of mappings.now) run.now (conflict_of issue)) }
+{
     let mut sources = Vec::with_capacity(alloc, run.len())?;
     let mut texts = Vec::with_capacity(alloc, run.len())?;
     for claim in run {
