@@ -33,3 +33,5 @@ pub mod HitLemmas
 pub mod ClaimLemmas
 pub mod FirstLemmas
 pub mod ConflictLemmas
+pub mod ValidationLemmas
+pub mod AfterLemmas

@@ -156,7 +156,7 @@ impl<'spec, 'item> match_lhs::Outcome<'spec, 'item> {
         mut self,
         alloc: Global,
     ) -> Result<(match_lhs::Outcome<'spec, 'item>, Vec<Fix>), Refusal<'spec, 'item>>
-        requires { IndexesFit (readings_of self.entry.group) (mappings_of self.entry) }
+        requires { IndexesFit (readings_of self.group) (mappings_of self) }
         ensures ok { IfOk result (λ v. (v.0.group ≡ self.entry.group) × IsValidated
             (readings_of self.entry.group) (mappings_of self.entry)
             (mappings_of v.0) (map removed_of v.1.items)) }
