@@ -35,3 +35,4 @@ pub mod FirstLemmas
 pub mod ConflictLemmas
 pub mod ValidationLemmas
 pub mod AfterLemmas
+pub mod EqualLemmas
