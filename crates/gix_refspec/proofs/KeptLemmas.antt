@@ -45,7 +45,7 @@ HasPair-take (x ∷ l) (suc n) (suc k) m fits (inl same) = inl same
 HasPair-take (x ∷ l) (suc n) (suc k) m fits (inr has) = inr (HasPair-take l n k m (omega arith) has)
 
 -- the mapping at a place repeats an earlier one just where an earlier one has its pair
-repeats_at : (ms : List Mapping) (k : ℕ) (d : Mapping) → k < length ms → IsRepeat ms k ↔ HasPair (take k (map mapped_of ms)) (mapped_of (get_or ms k d))
+pub repeats_at : (ms : List Mapping) (k : ℕ) (d : Mapping) → k < length ms → IsRepeat ms k ↔ HasPair (take k (map mapped_of ms)) (mapped_of (get_or ms k d))
 repeats_at ms k d below =
     let size : length (take k (map mapped_of ms)) ≡ k = length-take-le k (map mapped_of ms) (omega (arith, length-map ms mapped_of)) in (
       (λ repeat.

@@ -36,3 +36,9 @@ pub mod KeptPairLemmas
 pub mod TransposeLemmas
 pub mod CoverLemmas
 pub mod AlikeLemmas
+pub mod ClaimLemmas
+pub mod FirstLemmas
+pub mod ConflictLemmas
+pub mod ValidationLemmas
+pub mod AfterLemmas
+pub mod EqualLemmas

@@ -126,7 +126,7 @@ squeezed a m b after before same =
     (first_not_less (key_cmp m a) (nat_cmp m.place a.place) (sym (ap is_lt (by_key m a)) ∙ after))
     (first_not_less (key_cmp b m) (nat_cmp b.place m.place) (sym (ap is_lt (by_key b m)) ∙ before))
 
-both_equal : (a b : Ordering) → ordering_then a b ≡ Equal → (a ≡ Equal) × (b ≡ Equal)
+pub both_equal : (a b : Ordering) → ordering_then a b ≡ Equal → (a ≡ Equal) × (b ≡ Equal)
 both_equal Less b is = absurd (cc)
 both_equal Equal b is = (refl, is)
 both_equal Greater b is = absurd (cc)
@@ -137,7 +137,7 @@ same_bits true false is = absurd (cc)
 same_bits false true is = absurd (cc)
 same_bits false false is = refl
 
-same_texts : (xs ys : List ℕ) → slice_cmp nat_cmp xs ys ≡ Equal → xs ≡ ys
+pub same_texts : (xs ys : List ℕ) → slice_cmp nat_cmp xs ys ≡ Equal → xs ≡ ys
 same_texts xs ys is = (bytes_eq-Decides xs ys).0 (texts_ties xs ys ∙ ap is_eq is)
 
 same_destinations : (x y : Option (Bor (List ℕ))) → option_cmp (λ (a : Bor (List ℕ)) (b : Bor (List ℕ)). slice_cmp nat_cmp a.now b.now) x y ≡ Equal → option_map (λ (d : Bor (List ℕ)). d.now) x ≡ option_map (λ (d : Bor (List ℕ)). d.now) y

@@ -52,6 +52,12 @@ pub all_weaker : {X : Type 0} (P Q : X → Type 0) → ((x : X) → P x → Q x)
 all_weaker P Q weaker [] all = tt
 all_weaker P Q weaker (x ∷ xs) all = (weaker x all.0, all_weaker P Q weaker xs all.1)
 
+-- a number that is below all is not there
+pub not_below : (ns : List ℕ) (n k : ℕ) → AllByRecursion (λ m. n < m) ns → Has ns k → n < k
+not_below [] n k all has = absurd has
+not_below (m ∷ ns) n k all (inl same) = subst (λ (x : ℕ). n < x) same all.0
+not_below (m ∷ ns) n k all (inr has) = not_below ns n k all.1 has
+
 pub all_more : {X : Type 0} (P : X → Type 0) (xs : List X) (i : ℕ) (d : X) → i < length xs → AllByRecursion P (take i xs) → P (get_or xs i d) → AllByRecursion P (take (i + 1) xs)
 all_more {X} P xs i d below all one = subst (λ (ys : List X). AllByRecursion P ys) (sym (take_more xs i d below)) (all_join P (take i xs) (get_or xs i d ∷ []) all (one, tt))
 

@@ -20,4 +20,6 @@ pub mod Mappings
 pub mod Group
 pub mod Hits
 pub mod MatchLaws
+pub mod Validation
+pub mod Issue
 pub mod Private

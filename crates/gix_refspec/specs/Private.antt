@@ -5,3 +5,4 @@ pub mod SideViews
 pub mod Sides
 pub mod HitViews
 pub mod Kept
+pub mod Claims

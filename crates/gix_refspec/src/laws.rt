@@ -11,10 +11,13 @@ ghost use Rattle.gix_refspec.specs.Group.{mapped_of, name_bytes, ref_of, reading
 ghost use Rattle.gix_refspec.specs.Mappings.{IsSamePair};
 ghost use Rattle.gix_refspec.specs.Hits.{KeptOnce, OneForward, OneBackward};
 ghost use Rattle.gix_refspec.specs.MatchLaws.{Transpose, FetchGroupReadsBack, Cover, CoverTogether};
+ghost use Rattle.gix_refspec.specs.Validation.{ForwardFits, ValidatedOnce};
+ghost use Rattle.gix_refspec.specs.Issue.{IsSameFix, conflict_of};
 ghost use Rattle.gix_refspec.specs.Spec.{reading_of, owned_reading_of};
 ghost use Rattle.gix_refspec.specs.Views.{shown_fetch, shown_push};
 
 use crate::instruction::{Fetch, Push};
+use crate::match_group::validate::{Fix, Issue};
 use crate::match_group::{Item, Mapping, NameRef, SourceRef};
 use crate::oid::{Kind, ObjectId};
 use crate::parsing::Operation;
@@ -147,6 +150,28 @@ pub fn fetch_group_reads_back(group: &MatchGroup<'_>, again: &MatchGroup<'_>, it
 pub fn cover(group: &MatchGroup<'_>, items: &[Item<'_>])
     ensures some { Cover (readings_of group.now) (map ref_of items.now) }
     ensures together { CoverTogether (readings_of group.now) (map ref_of items.now) }
+{}
+
+/// Each mapping that `match_lhs` lists has a spec of the group: so `validated` may be called.
+pub fn forward_fits(group: &MatchGroup<'_>, items: &[Item<'_>])
+    ensures { ForwardFits (readings_of group.now) (map ref_of items.now) }
+{}
+
+/// After a validation, mappings with one destination have one source. If the mappings came from
+/// `match_lhs`, no two have one destination.
+pub fn validated_once(group: &MatchGroup<'_>, items: &[Item<'_>])
+    ensures { ValidatedOnce (readings_of group.now) (map ref_of items.now) }
+{}
+
+/// Two issues are equal exactly where they report the same conflict.
+pub fn equal_issues(a: &Issue, b: &Issue)
+    ensures { IsTrue (⟦<Issue as PartialEq>⟧.eq a.now b.now) ↔
+        (conflict_of a.now ≡ conflict_of b.now) }
+{}
+
+/// Two fixes are equal exactly where they have the same destination, and specs that say the same.
+pub fn equal_fixes(a: &Fix, b: &Fix)
+    ensures { IsTrue (⟦<Fix as PartialEq>⟧.eq a.now b.now) ↔ IsSameFix a.now b.now }
 {}
 
 /// Two sources are equal exactly where they are the same name or the same id.

@@ -9,6 +9,7 @@ ghost use Rattle.gix_refspec.specs.Hits.{AreForward, AreBackward, AreKeptForward
 
 pub(crate) mod types;
 pub(crate) mod util;
+pub mod validate;
 
 use crate::spec::RefSpecRef;
 use std::alloc::{AllocError, Global};

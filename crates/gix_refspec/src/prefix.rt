@@ -87,7 +87,7 @@ fn prefix_of(side: &[u8]) -> Option<&[u8]>
 }
 
 // Whether a side is `HEAD`.
-fn is_head(side: &[u8]) -> bool
+pub(crate) fn is_head(side: &[u8]) -> bool
     ensures { IsTrue result ↔ (side.now ≡ head) }
 {
     side == b"HEAD".as_slice()

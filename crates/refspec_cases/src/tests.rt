@@ -12,6 +12,7 @@ mod parsing;
 mod prefixes;
 mod printing;
 mod spec;
+mod validation;
 mod writing;
 
 use gix_refspec::RefSpecRef;

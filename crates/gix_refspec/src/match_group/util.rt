@@ -1,5 +1,6 @@
 //! The parts of matching.
 
+pub(crate) mod conflicts;
 pub(crate) mod ends;
 mod fill;
 pub(crate) mod hits;

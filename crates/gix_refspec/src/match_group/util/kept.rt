@@ -9,7 +9,7 @@ ghost use Rattle.gix_refspec.specs.Lists.{IsMadeFrom};
 ghost use Rattle.gix_refspec.specs.Private.Kept.{HasNegative, IsFlagged, Remains};
 
 mod exclusions;
-mod repeats;
+pub(crate) mod repeats;
 
 use crate::match_group::types::Mapping;
 use crate::spec::RefSpecRef;
@@ -72,7 +72,7 @@ fn remains(
 }
 
 // Whether a place is flagged. No flags at all flag no place.
-fn is_flagged(flags: &[bool], place: usize) -> bool
+pub(crate) fn is_flagged(flags: &[bool], place: usize) -> bool
     ensures { IsTrue result ↔ IsFlagged flags.now place }
 {
     match flags.get(place) {

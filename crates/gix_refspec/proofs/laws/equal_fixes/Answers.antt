@@ -1,0 +1,24 @@
+-- Names by their bytes, specs by what they say.
+use Rattle.std.proofs.Common.{◌↔◌, IsTrue}
+use Rattle.bstr.specs.Owned.{bstring_bytes}
+use Rattle.std.proofs.lemmas.Slice.Eq.{bytes_eq-Decides}
+use Rattle.gix_refspec.specs.contracts.match_group.validate.FixPartialEq.TheImpl.{ghosts}
+use Rattle.gix_refspec.specs.declared.match_group.validate.Fix.{Fix}
+use Rattle.gix_refspec.specs.declared.match_group.validate.Fix.TheVariants as fix
+use Rattle.gix_refspec.specs.Meaning.{meaning_of}
+use Rattle.gix_refspec.specs.Spec.{owned_reading_of}
+use Rattle.gix_refspec.specs.Issue.{IsSameFix}
+use Rattle.gix_refspec.proofs.EqualLemmas.{both_true, true_of_both}
+use Rattle.gix_refspec.proofs.SpecLemmas.{equal_keys}
+use Rattle.gix_refspec.proofs.laws.equal_fixes.Goals as goal
+
+same_fix : (a b : Fix) → IsTrue (ghosts.eq a b) ↔ IsSameFix a b
+same_fix (fix.MappingWithPartialDestinationRemoved n s) (fix.MappingWithPartialDestinationRemoved m t) =
+    let names = bytes_eq-Decides (bstring_bytes n) (bstring_bytes m) in
+    let specs = equal_keys (meaning_of (owned_reading_of s)) (meaning_of (owned_reading_of t)) in (
+      (λ told. let both = both_true _ _ told in record { destination = names.0 both.0; spec = specs.0 both.1 }),
+      (λ same. true_of_both _ _ (names.1 same.destination) (specs.1 same.spec)),
+    )
+
+pub returns : goal.returns
+returns c = same_fix c.args.a.now c.args.b.now

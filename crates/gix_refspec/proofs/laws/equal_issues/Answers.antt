@@ -1,0 +1,39 @@
+-- Destinations and texts by their bytes, sources as names and ids.
+use Rattle.std.proofs.Common.{◌≡◌, ◌↔◌, true, map, ap, IsTrue}
+use Rattle.bstr.specs.Owned.{bstring_bytes}
+use Rattle.bstr.specs.contracts.bstring.BStringPartialEq.TheImpl.{ghosts as compared_texts}
+use Rattle.std.proofs.lemmas.Slice.Eq.{bytes_eq-Decides}
+use Rattle.gix_refspec.specs.contracts.match_group.types.SourceRefPartialEq.TheImpl.{ghosts as compared_sources}
+use Rattle.gix_refspec.specs.contracts.match_group.validate.IssuePartialEq.TheImpl.{ghosts}
+use Rattle.gix_refspec.specs.declared.match_group.types.SourceRef.{SourceRef}
+use Rattle.gix_refspec.specs.declared.match_group.types.SourceRef.TheVariants as source_ref
+use Rattle.gix_refspec.specs.declared.match_group.validate.Issue.{Issue}
+use Rattle.gix_refspec.specs.declared.match_group.validate.Issue.TheVariants as issue
+use Rattle.gix_refspec.specs.Mappings.{name, id}
+use Rattle.gix_refspec.specs.ObjectId.{id_bytes}
+use Rattle.gix_refspec.specs.Group.{name_bytes, start_of}
+use Rattle.gix_refspec.specs.Validation.{Conflict}
+use Rattle.gix_refspec.specs.Issue.{conflict_of}
+use Rattle.gix_refspec.proofs.EqualLemmas.{both_true, same_keys, true_of_both}
+use Rattle.gix_refspec.proofs.laws.equal_issues.Goals as goal
+
+same_source : (a b : SourceRef) → (compared_sources.eq a b ≡ true) ↔ (start_of a ≡ start_of b)
+same_source (source_ref.FullName n) (source_ref.FullName m) = let names = bytes_eq-Decides (name_bytes n) (name_bytes m) in ((λ told. ap name (names.0 told)), (λ same. names.1 (cc)))
+same_source (source_ref.FullName n) (source_ref.ObjectId j) = ((λ told. absurd (cc)), (λ same. absurd (cc)))
+same_source (source_ref.ObjectId i) (source_ref.FullName m) = ((λ told. absurd (cc)), (λ same. absurd (cc)))
+same_source (source_ref.ObjectId i) (source_ref.ObjectId j) = let ids = bytes_eq-Decides (id_bytes i) (id_bytes j) in ((λ told. ap id (ids.0 told)), (λ same. ids.1 (cc)))
+
+same_issue : (a b : Issue) → IsTrue (ghosts.eq a b) ↔ (conflict_of a ≡ conflict_of b)
+same_issue (issue.Conflict d sources specs) (issue.Conflict e others texts) =
+    let names = bytes_eq-Decides (bstring_bytes d) (bstring_bytes e) in
+    let starts = same_keys compared_sources.eq start_of same_source sources.items others.items in
+    let words = same_keys compared_texts.eq bstring_bytes (λ n m. let told = bytes_eq-Decides (bstring_bytes n) (bstring_bytes m) in (told.0, told.1)) specs.items texts.items in (
+      (λ told.
+          let first = both_true _ _ told in
+          let rest = both_true _ _ first.1 in
+          (λ i. record { destination = names.0 first.0 i; sources = starts.0 rest.0 i; texts = words.0 rest.1 i })),
+      (λ same. true_of_both _ _ (names.1 (ap (λ (c : Conflict). c.destination) same)) (true_of_both _ _ (starts.1 (ap (λ (c : Conflict). c.sources) same)) (words.1 (ap (λ (c : Conflict). c.texts) same)))),
+    )
+
+pub returns : goal.returns
+returns c = same_issue c.args.a.now c.args.b.now

@@ -1,0 +1,8 @@
+-- What is left was there before, when nothing was contested.
+use Rattle.std.proofs.Common.{map}
+use Rattle.gix_refspec.specs.Group.{ref_of, readings_of}
+use Rattle.gix_refspec.proofs.AfterLemmas.{validated_once}
+use Rattle.gix_refspec.proofs.laws.validated_once.Goals as goal
+
+pub returns : goal.returns
+returns c = validated_once (readings_of c.args.group.now) (map ref_of c.args.items.now)

@@ -1,0 +1,20 @@
+-- a mapping whose spec has no place is against the claim
+use Rattle.std.proofs.Common.{List, map, sym, subst, arith}
+use Rattle.gix_refspec.specs.declared.match_group.types.Mapping.{Mapping}
+use Rattle.gix_refspec.specs.Group.{mapped_of, readings_of}
+use Rattle.gix_refspec.specs.Validation.{IndexesFit}
+use Rattle.gix_refspec.proofs.ConflictLemmas.{spec_fits}
+use Rattle.gix_refspec.proofs.match_group.types.match_lhs.Outcome.indexes_fit.Goals as goal
+
+pub returns-then-mapping-len : goal.returns-then-mapping-len
+returns-then-mapping-len c = (
+  λ none. absurd (cc),
+  λ fits.
+      let specs = c.args.self.now.group.specs in
+      let ms = c.deref-mapping-items.result.now in
+      let told = subst (λ (xs : List Mapping). IndexesFit (readings_of c.args.self.now.group) (map mapped_of xs)) (sym c.deref-mapping-items.ensures.value) fits in
+      let inside = spec_fits specs.items ms c.loop-mapping.mapping-index c.mapping-item.result told c.loop-mapping-test.true c.mapping-item.is in
+      let past = c.if-mapping-len.true in
+      let len = c.len.ensures in
+      absurd (omega (arith, inside, past, len, specs.ok.0, specs.ok.1)),
+)

@@ -1,0 +1,39 @@
+-- a mapping that can't be written has a fix
+use Rattle.std.proofs.Common.{◌∷◌, [], ◌++◌, ◌+◌, ◌≡◌, List, Vec, Global, map, take, sym, ap, ◌∙◌, subst, rules}
+use Rattle.std.proofs.lemmas.Bool.{false≢true}
+use Rattle.std.proofs.lemmas.List.{map-append}
+use Rattle.gix_refspec.specs.declared.match_group.validate.Fix.{Fix}
+use Rattle.gix_refspec.specs.declared.match_group.validate.Fix.TheVariants as fix
+use Rattle.gix_refspec.specs.Spec.{reading_of}
+use Rattle.gix_refspec.specs.Group.{mapped_of}
+use Rattle.gix_refspec.specs.Validation.{AreFixes, Removed}
+use Rattle.gix_refspec.specs.Issue.{removed_of}
+use Rattle.gix_refspec.proofs.ConflictLemmas.{spec_fits}
+use Rattle.gix_refspec.proofs.ValidationLemmas.{fix_of, fixes_more, fixes_same, no_fix_nowhere, no_fix_written}
+use Rattle.gix_refspec.proofs.match_group.validate.fixes_of.Goals as goal
+use Rattle.gix_refspec.proofs.match_group.validate.fixes_of.Goals.{in-Some+then-not-is_writable+in_ok-from_slice+in_ok-to_owned+in_ok-push, in-Some+else-not-is_writable, in_default}
+
+pub bounds-specs-mapping : goal.bounds-specs-mapping
+bounds-specs-mapping c = spec_fits c.args.specs.now c.args.mappings.now c.loop-mapping.mapping-index c.mapping-item.result c.requires c.loop-mapping-test.true c.mapping-item.is
+
+pub offset_bounds-specs-mapping : goal.offset_bounds-specs-mapping
+offset_bounds-specs-mapping c = let below = bounds-specs-mapping c in search rules
+
+pub loop-mapping-preserved : goal.loop-mapping-preserved
+loop-mapping-preserved c =
+    let specs = c.args.specs.now in
+    let ms = c.args.mappings.now in
+    let g = map reading_of specs in
+    let i = c.loop-mapping.mapping-index in
+    let m = c.mapping-item.result in
+    let fixes = map removed_of c.loop-mapping.fixes.items in
+    let stays : Vec Fix Global → Type 0 = λ v. AreFixes g (map mapped_of (take (i + 1) ms)) (map removed_of v.items) in
+    elim c.match-mapping.branch [
+      | in-Some+then-not-is_writable+in_ok-from_slice+in_ok-to_owned+in_ok-push w ↦
+          let one : Fix = fix.MappingWithPartialDestinationRemoved w.in_ok-from_slice.field-0 w.in_ok-to_owned.field-0 in
+          let pushed : map removed_of w.push.new.self.items ≡ fixes ++ removed_of one ∷ [] = ap (map removed_of) w.in_ok-push.ensures.items ∙ map-append removed_of c.loop-mapping.fixes.items (one ∷ []) in
+          let is = fix_of specs m w.in-Some.name w.index-specs-mapping.result (removed_of one) w.in-Some.is (λ writable. false≢true (sym w.if-not-is_writable.true ∙ w.is_writable.ensures.1 writable)) (spec_fits specs ms i m c.requires c.loop-mapping-test.true c.mapping-item.is) w.index-specs-mapping.is (w.in_ok-from_slice.ensures ∙ w.as_bstr.ensures) w.in_ok-to_owned.ensures.keeps in
+          subst stays (sym w.fixes-is) (fixes_more g ms i m fixes (map removed_of w.push.new.self.items) (removed_of one) c.loop-mapping-test.true c.mapping-item.is pushed is c.loop-mapping.invariant)
+      | in-Some+else-not-is_writable w ↦ subst stays (sym w.fixes-is) (fixes_same g ms i m fixes c.loop-mapping-test.true c.mapping-item.is (no_fix_written g m w.in-Some.name w.in-Some.is (w.is_writable.ensures.0 w.if-not-is_writable.false)) c.loop-mapping.invariant)
+      | in_default w ↦ subst stays (sym w.fixes-is) (fixes_same g ms i m fixes c.loop-mapping-test.true c.mapping-item.is (no_fix_nowhere g m w.in_default.is) c.loop-mapping.invariant)
+    ]

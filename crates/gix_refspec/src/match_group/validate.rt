@@ -1,0 +1,225 @@
+//! Whether the mappings of an outcome can be written.
+
+ghost use Rattle.std.specs.Prelude.{◌≡◌, ◌≢◌, ◌↔◌, [], map, IfOk, IfErr, OnErr, IsTrue};
+ghost use Rattle.gix_refspec.specs.Spec.{reading_of};
+ghost use Rattle.gix_refspec.specs.Group.{mapped_of, name_bytes, readings_of};
+ghost use Rattle.gix_refspec.specs.Validation.{IndexesFit, AreConflicts, AreFixes, IsValidated, IsWritable, Survives};
+ghost use Rattle.gix_refspec.specs.Issue.{mappings_of, removed_of};
+
+use crate::match_group::types::{Mapping, NameRef, Source, match_lhs};
+use crate::match_group::util::conflicts::issues_of;
+use crate::prefix::is_head;
+use crate::spec::{RefSpec, RefSpecRef};
+use bstr::BString;
+use std::alloc::{AllocError, Global};
+use std::{error, fmt};
+
+/// Why mappings can't be written: at least one issue.
+#[derive(Debug, Drop)]
+pub struct Error {
+    /// The issues, in the byte order of their destinations.
+    pub issues: Vec<Issue>,
+}
+
+impl fmt::Display for Error {
+    fn fmt<W: fmt::Write>(&self, f: &mut fmt::Formatter<W>) -> fmt::Result {
+        let count = self.issues.len();
+        let noun = if count == 1 {
+            "issue that prevents"
+        } else {
+            "issues that prevent"
+        };
+        write!(
+            f,
+            "Found {count} {noun} the refspec mapping to be used: \n\t"
+        )?;
+        for (at, issue) in self.issues.iter().enumerate() {
+            if at > 0 {
+                f.write_str("\n\t")?;
+            }
+            write!(f, "{issue}")?;
+        }
+        Ok(())
+    }
+}
+
+impl error::Error for Error {}
+
+/// Something that keeps mappings from being written.
+#[derive(Debug, Drop, PartialEq, Eq)]
+pub enum Issue {
+    /// Several sources are mapped to one destination, even if they have the same object.
+    Conflict {
+        /// The destination, which is no full name where a spec says so.
+        destination_full_ref_name: BString,
+        /// The sources, in the order of their first mappings to the destination.
+        sources: Vec<Source>,
+        /// For each source the canonical text of the spec of that first mapping.
+        specs: Vec<BString>,
+    },
+}
+
+impl fmt::Display for Issue {
+    fn fmt<W: fmt::Write>(&self, f: &mut fmt::Formatter<W>) -> fmt::Result {
+        let Issue::Conflict {
+            destination_full_ref_name,
+            sources,
+            specs,
+        } = self;
+        write!(
+            f,
+            "Conflicting destination {destination_full_ref_name:?} would be written by "
+        )?;
+        for (at, (source, spec)) in sources.iter().zip(specs).enumerate() {
+            if at > 0 {
+                f.write_str(", ")?;
+            }
+            write!(f, "{source} ({spec:?})")?;
+        }
+        Ok(())
+    }
+}
+
+/// What was changed so that the mappings can be written.
+#[derive(Debug, Drop, PartialEq, Eq)]
+pub enum Fix {
+    /// A mapping was removed, since its destination neither begins `refs/` nor is `HEAD`.
+    MappingWithPartialDestinationRemoved {
+        /// The destination.
+        name: BString,
+        /// The spec of the mapping.
+        spec: RefSpec,
+    },
+}
+
+impl Fix {
+    /// A copy of the fix. Fails if memory runs out.
+    pub fn clone(&self, alloc: Global) -> Result<Fix, AllocError>
+        ensures { IfOk result (λ copy. removed_of copy ≡ removed_of self.now) }
+    {
+        let Fix::MappingWithPartialDestinationRemoved { name, spec } = self;
+        Ok(Fix::MappingWithPartialDestinationRemoved {
+            name: BString::from_slice(alloc, name.as_bstr())?,
+            spec: spec.clone(alloc)?,
+        })
+    }
+}
+
+/// Why no mappings come from a validation.
+#[derive(Debug, Drop)]
+pub enum Refusal<'spec, 'item> {
+    /// They can't be written. The outcome is given up.
+    Conflicts(Error),
+    /// Memory ran out. The outcome is handed back as it was.
+    Memory(match_lhs::Outcome<'spec, 'item>),
+}
+
+impl<'spec, 'item> fmt::Display for Refusal<'spec, 'item> {
+    fn fmt<W: fmt::Write>(&self, f: &mut fmt::Formatter<W>) -> fmt::Result {
+        match self {
+            Refusal::Conflicts(error) => write!(f, "{error}"),
+            Refusal::Memory(_) => f.write_str("out of memory"),
+        }
+    }
+}
+
+impl<'spec, 'item> error::Error for Refusal<'spec, 'item> {}
+
+/// Validation.
+impl<'spec, 'item> match_lhs::Outcome<'spec, 'item> {
+    ghost use Rattle.gix_refspec.specs.Issue.{IfConflicts, IfMemory};
+
+    /// Whether the spec of each mapping has a place in the group. It has, unless the outcome was
+    /// changed by hand.
+    pub fn indexes_fit(&self) -> bool
+        ensures { IsTrue result ↔ IndexesFit (readings_of self.now.group) (mappings_of self.now) }
+    {
+        for mapping in &self.mappings {
+            if mapping.spec_index >= self.group.specs.len() {
+                return false;
+            }
+        }
+        true
+    }
+
+    /// Removes the mappings whose destination neither begins `refs/` nor is `HEAD`, and lists them as
+    /// fixes, both in order. Mappings without a destination stay.
+    ///
+    /// Fails with `Conflicts` if several sources are mapped to one destination, of mappings that
+    /// would be removed too. There is an issue for each such destination, in the byte order of the
+    /// destinations. It lists each source once, in the order of their first mappings to this
+    /// destination, with the canonical text of the spec of that mapping.
+    ///
+    /// Fails with `Memory` if memory runs out, and never without mappings. It holds the outcome as
+    /// it was.
+    pub fn validated(
+        mut self,
+        alloc: Global,
+    ) -> Result<(match_lhs::Outcome<'spec, 'item>, Vec<Fix>), Refusal<'spec, 'item>>
+        requires { IndexesFit (readings_of self.group) (mappings_of self) }
+        ensures ok { IfOk result (λ v. (v.0.group ≡ self.entry.group) × IsValidated
+            (readings_of self.entry.group) (mappings_of self.entry)
+            (mappings_of v.0) (map removed_of v.1.items)) }
+        ensures conflicts { IfErr result (λ e. IfConflicts e (λ conflicts.
+            (conflicts ≢ []) × AreConflicts
+            (readings_of self.entry.group) (mappings_of self.entry) conflicts)) }
+        ensures memory { IfErr result (λ e. IfMemory e (λ o.
+            (o ≡ self.entry) × (mappings_of self.entry ≢ []))) }
+    {
+        let specs = self.group.specs.as_slice();
+        let Ok(issues) = issues_of(alloc, specs, self.mappings.as_slice()) else {
+            return Err(Refusal::Memory(self));
+        };
+        if !issues.is_empty() {
+            return Err(Refusal::Conflicts(Error { issues }));
+        }
+        let Ok(fixes) = fixes_of(alloc, specs, self.mappings.as_slice()) else {
+            return Err(Refusal::Memory(self));
+        };
+        self.mappings.retain(|mapping| survives(mapping));
+        Ok((self, fixes))
+    }
+}
+
+// Fixes for the mappings that don't survive, in order.
+fn fixes_of(
+    alloc: Global,
+    specs: &[RefSpecRef<'_>],
+    mappings: &[Mapping<'_, '_>],
+) -> Result<Vec<Fix>, AllocError>
+    requires { IndexesFit (map reading_of specs.now) (map mapped_of mappings.now) }
+    ensures ok { IfOk result (λ fixes. AreFixes
+        (map reading_of specs.now) (map mapped_of mappings.now) (map removed_of fixes.items)) }
+    ensures memory { OnErr result (map mapped_of mappings.now ≢ []) }
+{
+    let mut fixes = Vec::new(alloc);
+    for mapping in mappings {
+        if let Some(name) = &mapping.rhs {
+            if !is_writable(name) {
+                fixes.push(Fix::MappingWithPartialDestinationRemoved {
+                    name: BString::from_slice(alloc, name.as_bstr())?,
+                    spec: specs[mapping.spec_index].to_owned(alloc)?,
+                })?;
+            }
+        }
+    }
+    Ok(fixes)
+}
+
+// Whether a mapping survives.
+fn survives(mapping: &Mapping<'_, '_>) -> bool
+    ensures { IsTrue result ↔ Survives (mapped_of mapping.now) }
+{
+    match &mapping.rhs {
+        None => true,
+        Some(name) => is_writable(name),
+    }
+}
+
+// Whether a destination begins `refs/` or is `HEAD`.
+fn is_writable(name: &NameRef<'_>) -> bool
+    ensures { IsTrue result ↔ IsWritable (name_bytes name.now) }
+{
+    let bytes = name.as_bstr().as_bytes();
+    bytes.starts_with(b"refs/") || is_head(bytes)
+}

@@ -1,0 +1,212 @@
+//! Conflicts, fixes, and outcomes that were changed by hand.
+
+use bstr::{BStr, BString};
+use gix_refspec::match_group::validate::{Fix, Issue, Refusal};
+use gix_refspec::match_group::{Item, Mapping, NameRef, SourceRef, match_lhs};
+use gix_refspec::oid::ObjectId;
+use gix_refspec::parsing::Operation;
+use gix_refspec::{MatchGroup, parse};
+use std::alloc::Global;
+use std::test::Fail;
+
+// The id that each item points to.
+const ID: &[u8] = b"1111111111111111111111111111111111111111";
+
+// A group of fetches of these texts, parted by blanks.
+fn group_of<'a>(alloc: Global, texts: &'a str) -> Result<MatchGroup<'a>, Fail> {
+    let mut group = MatchGroup::new(alloc);
+    for text in texts.split(' ') {
+        group.specs.push(parse(alloc, BStr::new(text.as_bytes()), Operation::Fetch)?)?;
+    }
+    Ok(group)
+}
+
+// What a validation answers of what a group of these texts gives over items of these names.
+fn validated_matches(alloc: Global, texts: &str, names: &str) -> Result<String, Fail> {
+    let id = ObjectId::from_hex(ID)?;
+    let mut items = Vec::new(alloc);
+    for name in names.split(' ') {
+        items.push(Item {
+            full_ref_name: BStr::new(name.as_bytes()),
+            target: &id,
+            object: None,
+        })?;
+    }
+    validated(
+        alloc,
+        group_of(alloc, texts)?.match_lhs(alloc, items.as_slice())?,
+    )
+}
+
+// What a validation answers, line by line: `source:destination` for each mapping that is left and
+// `fix name spec` for each fix, or the issues as they print.
+fn validated(alloc: Global, outcome: match_lhs::Outcome<'_, '_>) -> Result<String, Fail> {
+    let mut told = String::new(alloc);
+    if !outcome.indexes_fit() {
+        told.push_str("no such spec")?;
+        return Ok(told);
+    }
+    match outcome.validated(alloc) {
+        Ok((left, fixes)) => {
+            for mapping in &left.mappings {
+                let source = &mapping.lhs;
+                told.push_str(format!(in alloc; "{source}")?.as_str())?;
+                if let Some(name) = &mapping.rhs {
+                    let name = name.as_bstr();
+                    told.push_str(format!(in alloc; ":{name}")?.as_str())?;
+                }
+                told.push_str("\n")?;
+            }
+            for fix in &fixes {
+                let Fix::MappingWithPartialDestinationRemoved { name, spec } = fix;
+                let text = spec.to_ref().to_bstring(alloc)?;
+                told.push_str(format!(in alloc; "fix {name} {text}\n")?.as_str())?;
+            }
+        }
+        Err(Refusal::Conflicts(error)) => {
+            for issue in &error.issues {
+                told.push_str(format!(in alloc; "{issue}\n")?.as_str())?;
+            }
+        }
+        Err(Refusal::Memory(_)) => told.push_str("out of memory")?,
+    }
+    Ok(told)
+}
+
+#[test]
+fn validates_what_was_matched(rt: HostRuntime) -> Result<(), Fail> {
+    let alloc = rt.alloc();
+    // Specs, names of items, and what a validation answers.
+    let rows = [
+        (
+            "refs/heads/*:refs/x/* refs/heads/a",
+            "refs/heads/a HEAD",
+            "refs/heads/a:refs/x/a\nrefs/heads/a\n",
+        ),
+        // Several sources of one destination, each with the text of its own spec.
+        (
+            "main:refs/remotes/origin/main",
+            "refs/tags/main refs/heads/main",
+            "Conflicting destination \"refs/remotes/origin/main\" would be written by refs/tags/main (\"main:refs/remotes/origin/main\"), refs/heads/main (\"main:refs/remotes/origin/main\")\n",
+        ),
+        (
+            "refs/heads/*:refs/x/* refs/tags/*:refs/x/* refs/notes/a:refs/x/a",
+            "refs/tags/a refs/heads/a refs/notes/a",
+            "Conflicting destination \"refs/x/a\" would be written by refs/heads/a (\"refs/heads/*:refs/x/*\"), refs/tags/a (\"refs/tags/*:refs/x/*\"), refs/notes/a (\"refs/notes/a:refs/x/a\")\n",
+        ),
+        // Issues are in the order of the destinations, whatever that of the mappings is.
+        (
+            "refs/heads/*:refs/x/* refs/tags/*:refs/x/*",
+            "refs/heads/b refs/heads/a refs/tags/a refs/tags/b",
+            "Conflicting destination \"refs/x/a\" would be written by refs/heads/a (\"refs/heads/*:refs/x/*\"), refs/tags/a (\"refs/tags/*:refs/x/*\")\nConflicting destination \"refs/x/b\" would be written by refs/heads/b (\"refs/heads/*:refs/x/*\"), refs/tags/b (\"refs/tags/*:refs/x/*\")\n",
+        ),
+        // A source stands where it is first mapped to this destination, not where it first is at all.
+        (
+            "refs/heads/b:refs/y/b refs/heads/a:refs/z refs/heads/b:refs/z",
+            "refs/heads/a refs/heads/b",
+            "Conflicting destination \"refs/z\" would be written by refs/heads/a (\"refs/heads/a:refs/z\"), refs/heads/b (\"refs/heads/b:refs/z\")\n",
+        ),
+        // A source in two conflicts.
+        (
+            "refs/heads/a:refs/x refs/heads/a:refs/y refs/heads/b:refs/x refs/heads/b:refs/y",
+            "refs/heads/a refs/heads/b",
+            "Conflicting destination \"refs/x\" would be written by refs/heads/a (\"refs/heads/a:refs/x\"), refs/heads/b (\"refs/heads/b:refs/x\")\nConflicting destination \"refs/y\" would be written by refs/heads/a (\"refs/heads/a:refs/y\"), refs/heads/b (\"refs/heads/b:refs/y\")\n",
+        ),
+        // Conflicts are looked for before anything is removed.
+        (
+            "refs/heads/*:foo/* refs/tags/*:foo/*",
+            "refs/heads/a refs/tags/a",
+            "Conflicting destination \"foo/a\" would be written by refs/heads/a (\"refs/heads/*:foo/*\"), refs/tags/a (\"refs/tags/*:foo/*\")\n",
+        ),
+        (
+            "refs/heads/*:foo/*",
+            "refs/heads/b refs/heads/a",
+            "fix foo/b refs/heads/*:foo/*\nfix foo/a refs/heads/*:foo/*\n",
+        ),
+        (
+            "refs/heads/main:HEAD",
+            "refs/heads/main",
+            "refs/heads/main:refs/heads/HEAD\n",
+        ),
+        ("*:*", "HEAD main", "HEAD:HEAD\nfix main *:*\n"),
+        // An id as a source.
+        (
+            "1111111111111111111111111111111111111111:x 1111111111111111111111111111111111111111:x",
+            "refs/heads/x",
+            "1111111111111111111111111111111111111111:refs/heads/x\n",
+        ),
+    ];
+    for (texts, names, told) in rows {
+        let answer = validated_matches(alloc, texts, names)?;
+        assert_eq!(rt; answer.as_str(), told, "at {texts}");
+    }
+    Ok(())
+}
+
+// A source as a row writes it: `=` before a name that is owned, and `#` for the id.
+fn source_of<'a>(alloc: Global, text: &'a str) -> Result<SourceRef<'a>, Fail> {
+    if text == "#" {
+        return Ok(SourceRef::ObjectId(ObjectId::from_hex(ID)?));
+    }
+    Ok(SourceRef::FullName(match text.strip_prefix("=") {
+        Some(name) => NameRef::Owned(BString::from_slice(alloc, name.as_bytes())?),
+        None => NameRef::Borrowed(BStr::new(text.as_bytes())),
+    }))
+}
+
+#[test]
+fn validates_outcomes_made_by_hand(rt: HostRuntime) -> Result<(), Fail> {
+    let alloc = rt.alloc();
+    // Sources that are mapped to `refs/x`, or with a `-` to nothing, and the places of their specs,
+    // of which there are two.
+    let rows = [
+        ("", "", ""),
+        ("a a", "00", "a:refs/x\na:refs/x\n"),
+        ("a =a", "01", "a:refs/x\na:refs/x\n"),
+        (
+            "# refs/a",
+            "00",
+            "Conflicting destination \"refs/x\" would be written by 1111111111111111111111111111111111111111 (\"s:t\"), refs/a (\"s:t\")\n",
+        ),
+        (
+            "# 1111111111111111111111111111111111111111",
+            "00",
+            "Conflicting destination \"refs/x\" would be written by 1111111111111111111111111111111111111111 (\"s:t\"), 1111111111111111111111111111111111111111 (\"s:t\")\n",
+        ),
+        (
+            "b a b c a",
+            "01011",
+            "Conflicting destination \"refs/x\" would be written by b (\"s:t\"), a (\"u\"), c (\"u\")\n",
+        ),
+        ("a -b -c", "010", "a:refs/x\nb\nc\n"),
+        ("a b", "02", "no such spec"),
+        ("-a", "9", "no such spec"),
+    ];
+    for (sources, places, told) in rows {
+        let mut outcome = match_lhs::Outcome {
+            group: group_of(alloc, "s:t u")?,
+            mappings: Vec::new(alloc),
+        };
+        let words = sources.split(' ').filter(|word| !word.is_empty());
+        for (word, place) in words.zip(places.bytes()) {
+            let (name, rhs) = match word.strip_prefix("-") {
+                Some(name) => (name, None),
+                None => (word, Some(NameRef::Borrowed(BStr::new(b"refs/x")))),
+            };
+            outcome.mappings.push(Mapping {
+                item_index: None,
+                lhs: source_of(alloc, name)?,
+                rhs,
+                spec_index: match place {
+                    b'0' => 0,
+                    b'1' => 1,
+                    b'2' => 2,
+                    _ => 18_446_744_073_709_551_615,
+                },
+            })?;
+        }
+        let answer = validated(alloc, outcome)?;
+        assert_eq!(rt; answer.as_str(), told, "at {sources}");
+    }
+    Ok(())
+}
