@@ -39,7 +39,7 @@ fn validated_matches(alloc: Global, texts: &str, names: &str) -> Result<String, 
 }
 
 // What a validation answers, line by line: `source:destination` for each mapping that is left and
-// `fix name spec` for each fix, or the issues as they print.
+// `fix name spec` for each fix, or what a refusal prints.
 fn validated(alloc: Global, outcome: match_lhs::Outcome<'_, '_>) -> Result<String, Fail> {
     let mut told = String::new(alloc);
     if !outcome.indexes_fit() {
@@ -63,80 +63,76 @@ fn validated(alloc: Global, outcome: match_lhs::Outcome<'_, '_>) -> Result<Strin
                 told.push_str(format!(in alloc; "fix {name} {text}\n")?.as_str())?;
             }
         }
-        Err(Refusal::Conflicts(error)) => {
-            for issue in &error.issues {
-                told.push_str(format!(in alloc; "{issue}\n")?.as_str())?;
-            }
-        }
-        Err(Refusal::Memory(_)) => told.push_str("out of memory")?,
+        Err(refusal) => told.push_str(format!(in alloc; "{refusal}")?.as_str())?,
     }
     Ok(told)
 }
 
+// Specs, names of items, and what a validation answers.
+const MATCHED: [(&str, &str, &str); 11] = [
+    (
+        "refs/heads/*:refs/x/* refs/heads/a",
+        "refs/heads/a HEAD",
+        "refs/heads/a:refs/x/a\nrefs/heads/a\n",
+    ),
+    // Several sources of one destination, each with the text of its own spec.
+    (
+        "main:refs/remotes/origin/main",
+        "refs/tags/main refs/heads/main",
+        "Found 1 issue that prevents the refspec mapping to be used: \n\tConflicting destination \"refs/remotes/origin/main\" would be written by refs/tags/main (\"main:refs/remotes/origin/main\"), refs/heads/main (\"main:refs/remotes/origin/main\")",
+    ),
+    (
+        "refs/heads/*:refs/x/* refs/tags/*:refs/x/* refs/notes/a:refs/x/a",
+        "refs/tags/a refs/heads/a refs/notes/a",
+        "Found 1 issue that prevents the refspec mapping to be used: \n\tConflicting destination \"refs/x/a\" would be written by refs/heads/a (\"refs/heads/*:refs/x/*\"), refs/tags/a (\"refs/tags/*:refs/x/*\"), refs/notes/a (\"refs/notes/a:refs/x/a\")",
+    ),
+    // Issues are in the order of the destinations, whatever that of the mappings is.
+    (
+        "refs/heads/*:refs/x/* refs/tags/*:refs/x/*",
+        "refs/heads/b refs/heads/a refs/tags/a refs/tags/b",
+        "Found 2 issues that prevent the refspec mapping to be used: \n\tConflicting destination \"refs/x/a\" would be written by refs/heads/a (\"refs/heads/*:refs/x/*\"), refs/tags/a (\"refs/tags/*:refs/x/*\")\n\tConflicting destination \"refs/x/b\" would be written by refs/heads/b (\"refs/heads/*:refs/x/*\"), refs/tags/b (\"refs/tags/*:refs/x/*\")",
+    ),
+    // A source stands where it is first mapped to this destination, not where it first is at all.
+    (
+        "refs/heads/b:refs/y/b refs/heads/a:refs/z refs/heads/b:refs/z",
+        "refs/heads/a refs/heads/b",
+        "Found 1 issue that prevents the refspec mapping to be used: \n\tConflicting destination \"refs/z\" would be written by refs/heads/a (\"refs/heads/a:refs/z\"), refs/heads/b (\"refs/heads/b:refs/z\")",
+    ),
+    // A source in two conflicts.
+    (
+        "refs/heads/a:refs/x refs/heads/a:refs/y refs/heads/b:refs/x refs/heads/b:refs/y",
+        "refs/heads/a refs/heads/b",
+        "Found 2 issues that prevent the refspec mapping to be used: \n\tConflicting destination \"refs/x\" would be written by refs/heads/a (\"refs/heads/a:refs/x\"), refs/heads/b (\"refs/heads/b:refs/x\")\n\tConflicting destination \"refs/y\" would be written by refs/heads/a (\"refs/heads/a:refs/y\"), refs/heads/b (\"refs/heads/b:refs/y\")",
+    ),
+    // Conflicts are looked for before anything is removed.
+    (
+        "refs/heads/*:foo/* refs/tags/*:foo/*",
+        "refs/heads/a refs/tags/a",
+        "Found 1 issue that prevents the refspec mapping to be used: \n\tConflicting destination \"foo/a\" would be written by refs/heads/a (\"refs/heads/*:foo/*\"), refs/tags/a (\"refs/tags/*:foo/*\")",
+    ),
+    (
+        "refs/heads/*:foo/*",
+        "refs/heads/b refs/heads/a",
+        "fix foo/b refs/heads/*:foo/*\nfix foo/a refs/heads/*:foo/*\n",
+    ),
+    (
+        "refs/heads/main:HEAD",
+        "refs/heads/main",
+        "refs/heads/main:refs/heads/HEAD\n",
+    ),
+    ("*:*", "HEAD main", "HEAD:HEAD\nfix main *:*\n"),
+    // An id as a source.
+    (
+        "1111111111111111111111111111111111111111:x 1111111111111111111111111111111111111111:x",
+        "refs/heads/x",
+        "1111111111111111111111111111111111111111:refs/heads/x\n",
+    ),
+];
+
 #[test]
 fn validates_what_was_matched(rt: HostRuntime) -> Result<(), Fail> {
     let alloc = rt.alloc();
-    // Specs, names of items, and what a validation answers.
-    let rows = [
-        (
-            "refs/heads/*:refs/x/* refs/heads/a",
-            "refs/heads/a HEAD",
-            "refs/heads/a:refs/x/a\nrefs/heads/a\n",
-        ),
-        // Several sources of one destination, each with the text of its own spec.
-        (
-            "main:refs/remotes/origin/main",
-            "refs/tags/main refs/heads/main",
-            "Conflicting destination \"refs/remotes/origin/main\" would be written by refs/tags/main (\"main:refs/remotes/origin/main\"), refs/heads/main (\"main:refs/remotes/origin/main\")\n",
-        ),
-        (
-            "refs/heads/*:refs/x/* refs/tags/*:refs/x/* refs/notes/a:refs/x/a",
-            "refs/tags/a refs/heads/a refs/notes/a",
-            "Conflicting destination \"refs/x/a\" would be written by refs/heads/a (\"refs/heads/*:refs/x/*\"), refs/tags/a (\"refs/tags/*:refs/x/*\"), refs/notes/a (\"refs/notes/a:refs/x/a\")\n",
-        ),
-        // Issues are in the order of the destinations, whatever that of the mappings is.
-        (
-            "refs/heads/*:refs/x/* refs/tags/*:refs/x/*",
-            "refs/heads/b refs/heads/a refs/tags/a refs/tags/b",
-            "Conflicting destination \"refs/x/a\" would be written by refs/heads/a (\"refs/heads/*:refs/x/*\"), refs/tags/a (\"refs/tags/*:refs/x/*\")\nConflicting destination \"refs/x/b\" would be written by refs/heads/b (\"refs/heads/*:refs/x/*\"), refs/tags/b (\"refs/tags/*:refs/x/*\")\n",
-        ),
-        // A source stands where it is first mapped to this destination, not where it first is at all.
-        (
-            "refs/heads/b:refs/y/b refs/heads/a:refs/z refs/heads/b:refs/z",
-            "refs/heads/a refs/heads/b",
-            "Conflicting destination \"refs/z\" would be written by refs/heads/a (\"refs/heads/a:refs/z\"), refs/heads/b (\"refs/heads/b:refs/z\")\n",
-        ),
-        // A source in two conflicts.
-        (
-            "refs/heads/a:refs/x refs/heads/a:refs/y refs/heads/b:refs/x refs/heads/b:refs/y",
-            "refs/heads/a refs/heads/b",
-            "Conflicting destination \"refs/x\" would be written by refs/heads/a (\"refs/heads/a:refs/x\"), refs/heads/b (\"refs/heads/b:refs/x\")\nConflicting destination \"refs/y\" would be written by refs/heads/a (\"refs/heads/a:refs/y\"), refs/heads/b (\"refs/heads/b:refs/y\")\n",
-        ),
-        // Conflicts are looked for before anything is removed.
-        (
-            "refs/heads/*:foo/* refs/tags/*:foo/*",
-            "refs/heads/a refs/tags/a",
-            "Conflicting destination \"foo/a\" would be written by refs/heads/a (\"refs/heads/*:foo/*\"), refs/tags/a (\"refs/tags/*:foo/*\")\n",
-        ),
-        (
-            "refs/heads/*:foo/*",
-            "refs/heads/b refs/heads/a",
-            "fix foo/b refs/heads/*:foo/*\nfix foo/a refs/heads/*:foo/*\n",
-        ),
-        (
-            "refs/heads/main:HEAD",
-            "refs/heads/main",
-            "refs/heads/main:refs/heads/HEAD\n",
-        ),
-        ("*:*", "HEAD main", "HEAD:HEAD\nfix main *:*\n"),
-        // An id as a source.
-        (
-            "1111111111111111111111111111111111111111:x 1111111111111111111111111111111111111111:x",
-            "refs/heads/x",
-            "1111111111111111111111111111111111111111:refs/heads/x\n",
-        ),
-    ];
-    for (texts, names, told) in rows {
+    for (texts, names, told) in MATCHED {
         let answer = validated_matches(alloc, texts, names)?;
         assert_eq!(rt; answer.as_str(), told, "at {texts}");
     }
@@ -166,17 +162,17 @@ fn validates_outcomes_made_by_hand(rt: HostRuntime) -> Result<(), Fail> {
         (
             "# refs/a",
             "00",
-            "Conflicting destination \"refs/x\" would be written by 1111111111111111111111111111111111111111 (\"s:t\"), refs/a (\"s:t\")\n",
+            "Found 1 issue that prevents the refspec mapping to be used: \n\tConflicting destination \"refs/x\" would be written by 1111111111111111111111111111111111111111 (\"s:t\"), refs/a (\"s:t\")",
         ),
         (
             "# 1111111111111111111111111111111111111111",
             "00",
-            "Conflicting destination \"refs/x\" would be written by 1111111111111111111111111111111111111111 (\"s:t\"), 1111111111111111111111111111111111111111 (\"s:t\")\n",
+            "Found 1 issue that prevents the refspec mapping to be used: \n\tConflicting destination \"refs/x\" would be written by 1111111111111111111111111111111111111111 (\"s:t\"), 1111111111111111111111111111111111111111 (\"s:t\")",
         ),
         (
             "b a b c a",
             "01011",
-            "Conflicting destination \"refs/x\" would be written by b (\"s:t\"), a (\"u\"), c (\"u\")\n",
+            "Found 1 issue that prevents the refspec mapping to be used: \n\tConflicting destination \"refs/x\" would be written by b (\"s:t\"), a (\"u\"), c (\"u\")",
         ),
         ("a -b -c", "010", "a:refs/x\nb\nc\n"),
         ("a b", "02", "no such spec"),
@@ -207,6 +203,64 @@ fn validates_outcomes_made_by_hand(rt: HostRuntime) -> Result<(), Fail> {
         }
         let answer = validated(alloc, outcome)?;
         assert_eq!(rt; answer.as_str(), told, "at {sources}");
+    }
+    Ok(())
+}
+
+// An issue of one source, as a row writes it.
+fn issue_of<'a>(
+    alloc: Global,
+    destination: &'a str,
+    source: &'a str,
+    text: &'a str,
+) -> Result<Issue, Fail> {
+    let mut sources = Vec::new(alloc);
+    sources.push(source_of(alloc, source)?.into_owned(alloc)?)?;
+    let mut specs = Vec::new(alloc);
+    specs.push(BString::from_slice(alloc, text.as_bytes())?)?;
+    Ok(Issue::Conflict {
+        destination_full_ref_name: BString::from_slice(alloc, destination.as_bytes())?,
+        sources,
+        specs,
+    })
+}
+
+// A fix, as a row writes it.
+fn fix_of<'a>(alloc: Global, name: &'a str, text: &'a str) -> Result<Fix, Fail> {
+    let spec = parse(alloc, BStr::new(text.as_bytes()), Operation::Fetch)?;
+    Ok(Fix::MappingWithPartialDestinationRemoved {
+        name: BString::from_slice(alloc, name.as_bytes())?,
+        spec: spec.to_owned(alloc)?,
+    })
+}
+
+#[test]
+fn compares_issues_and_fixes(rt: HostRuntime) -> Result<(), Fail> {
+    let alloc = rt.alloc();
+    // Whether the issue of a row equals the first row's.
+    let issues = [
+        ("x", "a", "t", true),
+        ("x", "=a", "t", true),
+        ("y", "a", "t", false),
+        ("x", "#", "t", false),
+        ("x", "a", "u", false),
+    ];
+    let first = issue_of(alloc, "x", "a", "t")?;
+    for (destination, source, text, same) in issues {
+        let issue = issue_of(alloc, destination, source, text)?;
+        assert_eq!(rt; issue == first, same, "at {destination} {source} {text}");
+    }
+    // The same of fixes, whose specs are compared by what they say.
+    let fixes = [
+        ("x", "a", true),
+        ("x", "+a:", true),
+        ("y", "a", false),
+        ("x", "b", false),
+    ];
+    let first = fix_of(alloc, "x", "a")?;
+    for (name, text, same) in fixes {
+        let fix = fix_of(alloc, name, text)?.clone(alloc)?;
+        assert_eq!(rt; fix == first, same, "at {name} {text}");
     }
     Ok(())
 }
