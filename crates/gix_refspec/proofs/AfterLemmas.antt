@@ -1,13 +1,13 @@
 -- What holds of mappings before and after a validation.
-use Rattle.std.proofs.Common.{◌≡◌, ◌⊎◌, inl, inr, ℕ, zero, suc, ◌+◌, ◌<◌, ◌≤◌, List, [], ◌∷◌, ◌++◌, Option, None, Some, length, map, get_or, refl, sym, ap, ◌∙◌, subst, arith}
+use Rattle.std.proofs.Common.{◌≡◌, inl, inr, ℕ, suc, ◌+◌, ◌<◌, ◌≤◌, List, [], ◌∷◌, None, Some, length, map, get_or, refl, sym, ◌∙◌, subst, arith}
 use Rattle.std.specs.List.{AllByRecursion, Contains}
 use Rattle.std.proofs.lemmas.List.Elements.{All-contains_itself, All-from_recursion, Contains-get_or, recursion_from_All}
 use Rattle.gix_refspec.specs.Reading.{Reading}
-use Rattle.gix_refspec.specs.Lists.{MakesOf, IsMadeFrom, IsJoinedFrom}
+use Rattle.gix_refspec.specs.Lists.{IsMadeFrom, IsJoinedFrom}
 use Rattle.gix_refspec.specs.Match.{Ref}
 use Rattle.gix_refspec.specs.Mappings.{Mapped, IsSamePair, AreApart, Stays}
-use Rattle.gix_refspec.specs.Hits.{AreForwardEnds, AreHits, AreKeptForward, AreSpecHits, Ends, Hit, IsHit, IsIdMapping, forward_of}
-use Rattle.gix_refspec.specs.Validation.{ForwardFits, HaveOneSource, IndexesFit, IsValidated, MeetAt, NeverMeet, Survives, ValidatedOnce}
+use Rattle.gix_refspec.specs.Hits.{AreForwardEnds, AreSpecHits, Hit, IsHit, IsIdMapping, forward_of}
+use Rattle.gix_refspec.specs.Validation.{ForwardFits, HaveOneSource, MeetAt, NeverMeet, Survives, ValidatedOnce}
 use Rattle.gix_refspec.proofs.FirstLemmas.{start_cases}
 use Rattle.gix_refspec.proofs.KeptLemmas.{kept_once}
 use Rattle.gix_refspec.proofs.RepeatLemmas.{all_join}

@@ -1,5 +1,5 @@
 -- Conflicts, from claims in order.
-use Rattle.std.proofs.Common.{◌≡◌, ◌≢◌, ◌⊎◌, inl, inr, ◌↔◌, ℕ, zero, suc, ◌+◌, ◌<◌, ◌≤◌, List, [], ◌∷◌, ◌++◌, None, Some, option_map, Bool, true, false, length, map, take, drop, get_or, refl, sym, ap, ◌∙◌, subst, arith}
+use Rattle.std.proofs.Common.{◌≡◌, ◌⊎◌, inl, inr, ◌↔◌, ℕ, ◌+◌, ◌<◌, ◌≤◌, List, [], ◌∷◌, ◌++◌, Some, option_map, Bool, length, map, take, drop, get_or, refl, sym, ap, ◌∙◌, subst, arith}
 use Rattle.std.specs.List.{AllByRecursion, AllZip, Contains, slice_get}
 use Rattle.std.specs.List.Sorted.{IsStrictlySortedBy}
 use Rattle.std.specs.declared.cmp.Ordering.TheVariants.{Less}
@@ -25,7 +25,7 @@ use Rattle.gix_refspec.specs.ObjectId.{id_bytes}
 use Rattle.gix_refspec.specs.Validation.{AreConflicts, Conflict, IndexesFit, IsConflict, IsContested, IsFirstTo, IsTextAt}
 use Rattle.gix_refspec.specs.Private.Kept.{FlagsRepeats, Has, IsFlagged, IsRepeat, Rises}
 use Rattle.gix_refspec.specs.Private.Claims.{AddsConflict, AreClaims, AreFirsts, AreRivals, HasClaim, IsCut, IsFirstAt, IsOver, claim_cmp, destinations_of, places_of}
-use Rattle.gix_refspec.proofs.RepeatLemmas.{all_join, all_left, all_right, all_weaker, some_mapping}
+use Rattle.gix_refspec.proofs.RepeatLemmas.{all_join, all_right, all_weaker, some_mapping}
 use Rattle.gix_refspec.proofs.KeptLemmas.{repeats_at}
 use Rattle.gix_refspec.proofs.ClaimLemmas.{HasClaim-cases, HasClaim-left, HasClaim-right, later, mapped_at, not_below_itself, strict_left, strict_right}
 use Rattle.gix_refspec.proofs.FirstLemmas.{IsOfPlace, at_contained, contested_from_firsts, made_at_places, one_mapping, two_firsts}

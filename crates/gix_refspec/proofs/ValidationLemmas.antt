@@ -1,6 +1,5 @@
 -- What a validation removes, and what holds of the rest.
-use Rattle.std.proofs.Common.{◌≡◌, ◌≢◌, ◌⊎◌, inl, inr, ◌↔◌, ℕ, zero, suc, ◌+◌, ◌<◌, ◌≤◌, List, [], ◌∷◌, ◌++◌, Option, None, Some, option_map, option_to_list, Bool, true, false, length, map, take, get_or, refl, sym, ap, ◌∙◌, subst, arith}
-use Rattle.std.specs.List.{AllByRecursion, Contains, slice_get}
+use Rattle.std.proofs.Common.{◌≡◌, ◌↔◌, ℕ, ◌+◌, ◌<◌, List, [], ◌∷◌, ◌++◌, Option, None, Some, option_map, option_to_list, Bool, true, false, length, map, take, get_or, refl, sym, ap, ◌∙◌, subst, arith}
 use Rattle.std.specs.List.Retain.{ReturnsInTurn, IsFiltered}
 use Rattle.std.specs.List.{items_where_true}
 use Rattle.std.proofs.lemmas.Bool.{false≢true}
@@ -16,7 +15,6 @@ use Rattle.gix_refspec.specs.Mappings.{Mapped}
 use Rattle.gix_refspec.specs.Group.{mapped_of, name_bytes}
 use Rattle.gix_refspec.specs.Validation.{AreFixes, AreSurvivors, IndexesFit, IsFix, IsWritable, Removed, Survives}
 use Rattle.gix_refspec.proofs.RepeatLemmas.{all_join}
-use Rattle.gix_refspec.proofs.ConflictLemmas.{spec_fits}
 use Rattle.gix_refspec.proofs.JoinLemmas.{made_next, map_long, map_more}
 
 -- one more mapping whose spec has a place in the group

@@ -2,7 +2,7 @@
 -- a destination that is no full name. Git refuses the first as well, and git-fetch(1) under `<refspec>` has
 -- no word on either. In which order conflicts and their sources are listed, that a destination outside
 -- `refs/` is left out, and that `HEAD` is not, are this project's own rules.
-use Rattle.std.specs.Prelude.{◌≡◌, ◌≢◌, ◌⊎◌, ◌<◌, ℕ, List, [], ◌∷◌, length, map, take, Option, Some, MatchOption, codes}
+use Rattle.std.specs.Prelude.{◌≡◌, ◌≢◌, ◌⊎◌, ◌<◌, ℕ, List, [], ◌∷◌, length, map, take, Some, MatchOption, codes}
 use Rattle.std.specs.Ordering.{nat_cmp}
 use Rattle.std.specs.Cmp.Lexicographic.{slice_cmp}
 use Rattle.std.specs.List.{AllByRecursion, Contains, slice_get}

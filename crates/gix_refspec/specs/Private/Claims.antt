@@ -1,15 +1,15 @@
 -- How conflicts are found. Only private functions cite these words.
-use Rattle.std.specs.Prelude.{◌≡◌, ◌≢◌, ◌⊎◌, ◌↔◌, ◌<◌, ◌≤◌, ◌++◌, ℕ, Bool, List, [], ◌∷◌, length, map, Some, take, drop}
+use Rattle.std.specs.Prelude.{◌≡◌, ◌⊎◌, ◌↔◌, ◌<◌, ◌≤◌, ◌++◌, ℕ, Bool, List, [], ◌∷◌, length, map, Some}
 use Rattle.std.specs.declared.cmp.Ordering.{Ordering}
 use Rattle.std.specs.Ordering.{nat_cmp, ordering_then}
 use Rattle.std.specs.Cmp.Lexicographic.{slice_cmp}
 use Rattle.std.specs.declared.cmp.Ordering.TheVariants.{Less}
-use Rattle.std.specs.List.{AllByRecursion, Contains, slice_get}
+use Rattle.std.specs.List.{AllByRecursion, slice_get}
 use Rattle.std.specs.List.Sorted.{IsStrictlySortedBy}
 use Rattle.gix_refspec.specs.declared.match_group.util.conflicts.Claim.{Claim}
 use Rattle.gix_refspec.specs.Reading.{Reading}
 use Rattle.gix_refspec.specs.Mappings.{Mapped}
-use Rattle.gix_refspec.specs.Validation.{Conflict, IsConflict, IsContested, IsFirstTo}
+use Rattle.gix_refspec.specs.Validation.{Conflict, IsConflict, IsFirstTo}
 use Rattle.gix_refspec.specs.Private.Kept.{IsFlagged}
 
 -- one of the claims is that of place k to the destination d

@@ -1,5 +1,5 @@
 -- Destinations and texts by their bytes, sources as names and ids.
-use Rattle.std.proofs.Common.{◌≡◌, ◌↔◌, true, map, ap, IsTrue}
+use Rattle.std.proofs.Common.{◌≡◌, ◌↔◌, true, ap, IsTrue}
 use Rattle.bstr.specs.Owned.{bstring_bytes}
 use Rattle.bstr.specs.contracts.bstring.BStringPartialEq.TheImpl.{ghosts as compared_texts}
 use Rattle.std.proofs.lemmas.Slice.Eq.{bytes_eq-Decides}

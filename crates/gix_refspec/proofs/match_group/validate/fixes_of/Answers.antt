@@ -1,12 +1,12 @@
 -- a mapping that can't be written has a fix
-use Rattle.std.proofs.Common.{◌∷◌, [], ◌++◌, ◌+◌, ◌≡◌, List, Vec, Global, map, take, sym, ap, ◌∙◌, subst, rules}
+use Rattle.std.proofs.Common.{◌∷◌, [], ◌++◌, ◌+◌, ◌≡◌, Vec, Global, map, take, sym, ap, ◌∙◌, subst, rules}
 use Rattle.std.proofs.lemmas.Bool.{false≢true}
 use Rattle.std.proofs.lemmas.List.{map-append}
 use Rattle.gix_refspec.specs.declared.match_group.validate.Fix.{Fix}
 use Rattle.gix_refspec.specs.declared.match_group.validate.Fix.TheVariants as fix
 use Rattle.gix_refspec.specs.Spec.{reading_of}
 use Rattle.gix_refspec.specs.Group.{mapped_of}
-use Rattle.gix_refspec.specs.Validation.{AreFixes, Removed}
+use Rattle.gix_refspec.specs.Validation.{AreFixes}
 use Rattle.gix_refspec.specs.Issue.{removed_of}
 use Rattle.gix_refspec.proofs.ConflictLemmas.{spec_fits}
 use Rattle.gix_refspec.proofs.ValidationLemmas.{fix_of, fixes_more, fixes_same, no_fix_nowhere, no_fix_written}

@@ -1,5 +1,5 @@
 -- a mapping with a destination makes a claim, unless it is flagged
-use Rattle.std.proofs.Common.{ℕ, List, Vec, Global, ◌+◌, map, sym, ap, ◌∙◌, subst, arith}
+use Rattle.std.proofs.Common.{ℕ, List, Vec, Global, ◌+◌, map, sym, ◌∙◌, subst, arith}
 use Rattle.std.proofs.lemmas.Bool.{false≢true}
 use Rattle.std.proofs.lemmas.List.{length-map}
 use Rattle.gix_refspec.specs.declared.match_group.util.conflicts.Claim.{Claim}

@@ -1,5 +1,5 @@
 -- what begins the rest is settled
-use Rattle.std.proofs.Common.{◌≡◌, ◌+◌, ◌-◌, ◌<◌, ◌≤◌, List, length, map, take, drop, sym, ap, ◌∙◌, subst, arith}
+use Rattle.std.proofs.Common.{◌≡◌, ◌-◌, ◌<◌, ◌≤◌, List, length, map, take, drop, sym, ap, subst, arith}
 use Rattle.std.proofs.lemmas.List.{drop-drop, length-drop, take_all}
 use Rattle.gix_refspec.specs.declared.match_group.util.conflicts.Claim.{Claim}
 use Rattle.gix_refspec.specs.Spec.{reading_of}

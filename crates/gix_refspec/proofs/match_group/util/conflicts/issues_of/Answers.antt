@@ -1,5 +1,5 @@
 -- where claims are apart nothing is contested, and else those that aren't repeated are the first ones
-use Rattle.std.proofs.Common.{◌≡◌, [], List, Bool, length, map, sym, ap, ◌∙◌, subst, arith}
+use Rattle.std.proofs.Common.{List, Bool, map, sym, ap, ◌∙◌, subst}
 use Rattle.std.proofs.lemmas.Bool.{eqb-true}
 use Rattle.std.specs.List.Sorted.{IsStrictlySortedBy}
 use Rattle.std.specs.Ordering.{nat_cmp}
