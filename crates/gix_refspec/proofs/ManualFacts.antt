@@ -1,18 +1,29 @@
 -- The words on names and refspecs at the examples of git-check-ref-format(1), git-fetch(1) and
 -- git-push(1), and at some like them, so that a wrong rule in the specs does not check. That a text is a
 -- name is a premise.
-use Rattle.std.proofs.Common.{◌≡◌, ◌≢◌, ◌≤◌, ℕ, ◌==◌, ◌||◌, true, false, List, [], ◌∷◌, ◌++◌, None, Some, map, codes, refl, inl, inr, arith}
-use Rattle.std.specs.List.{list_any}
-use Rattle.std.proofs.lemmas.Bool.{eqb-false, true≢false}
+use Rattle.std.proofs.Common.{◌≡◌, ◌≢◌, ◌≤◌, ℕ, ◌==◌, ◌||◌, true, false, List, [], ◌∷◌, ◌++◌, Option, None, Some, map, length, get_or, codes, refl, ap, subst, inl, inr, arith}
+use Rattle.std.specs.Prelude.{replicate}
+use Rattle.std.specs.List.{list_any, filter, range_with_len}
+use Rattle.std.proofs.lemmas.List.{length-replicate}
+use Rattle.std.proofs.lemmas.Bool.{eqb-false, true≢false, false≢true}
 use Rattle.gix_refspec.specs.declared.name.Error.TheVariants.{LockSuffix, RepeatedDot, ReflogPortion}
 use Rattle.gix_refspec.specs.declared.parsing.Operation.{Operation}
 use Rattle.gix_refspec.specs.declared.parsing.Operation.TheVariants.{Push, Fetch}
+use Rattle.gix_refspec.specs.declared.name.PatternError.TheVariants.{Memory}
 use Rattle.gix_refspec.specs.Text.{Lacks}
-use Rattle.gix_refspec.specs.Name.{is_refused_byte, HasFault, HasSeveralStars, ReplacesStar, IsName, IsPattern}
-use Rattle.gix_refspec.specs.Bytes.{slash, star, plus, caret, colon}
+use Rattle.gix_refspec.specs.Name.{is_refused_byte, HasFault, HasSeveralStars, IsCut, ReplacesStar, IsName, IsPattern}
+use Rattle.gix_refspec.specs.PatternError.{IsPatternFault}
+use Rattle.gix_refspec.specs.Bytes.{slash, star, letter, plus, caret, colon}
 use Rattle.gix_refspec.specs.Reading.{Normal, Forced, Negative, Reading}
 use Rattle.gix_refspec.specs.Grammar.{named_by, IsSigned, AreParts, LooksLikeObjectHash, Reads, updates, pushes_colon, pushes, deletes, pushes_to, push_excludes, pushed, fetched}
 use Rattle.gix_refspec.specs.Meaning.{Meaning, push_all_matching, push_delete, push_matching, push_exclude, fetch_and_update, meaning_of, text_of}
+use Rattle.gix_refspec.specs.Refusal.{PatternUnsupported, IsBadPattern, WantsMemory, ReachesMemory, MayWantMemory}
+use Rattle.gix_refspec.specs.Side.{pattern, full_name, object, partial, HasKind, filled}
+use Rattle.gix_refspec.specs.Match.{Ref, Matches, MatchesAs}
+use Rattle.gix_refspec.proofs.TextLemmas.{Lacks-here}
+use Rattle.gix_refspec.proofs.SideLemmas.{HasSeveralStars-replaced}
+use Rattle.gix_refspec.proofs.PartsLemmas.{parts_once}
+use Rattle.gix_refspec.proofs.FormsBackLemmas.{some_once}
 
 -- a test of each byte tells that a text lacks one
 Lacks-tested : (b : ℕ) (x : List ℕ) → list_any (λ c. c == b) x ≡ false → Lacks b x
@@ -26,17 +37,28 @@ Lacks-tested b (c ∷ x) none = elim (c == b) as (λ v. (c == b) ≡ v → (v ||
 full : (b : ℕ) (bs : List ℕ) → b ∷ bs ≢ []
 full b bs = λ e. cc
 
+-- a missing word is no word
+none_some : (x : List ℕ) → None ≢ Some x
+none_some x same = cc
+
+some_none : (x : List ℕ) → Some x ≢ None
+some_none x same = cc
+
+-- texts of different lengths, and texts with different first bytes, differ
+other_length : (x y : List ℕ) → length x ≢ length y → x ≢ y
+other_length x y differ same = differ (ap length same)
+
+first_byte : (b c : ℕ) (x : List ℕ) → b ≢ c → b ∷ x ≢ c ∷ x
+first_byte b c x differ same = differ (ap (λ (y : List ℕ). get_or y 0 0) same)
+
 -- for the operation, the text reads as what says m
 abbrev Says : Operation → List ℕ → Meaning → Type 0
 Says op text m = (r : Reading) × Reads op text r × (meaning_of r ≡ Some m)
 
--- control characters, DEL, and space, tilde, caret, colon, question mark, bracket and backslash
-pub refused_bytes : map is_refused_byte (0 ∷ 31 ∷ 127 ∷ codes " ~^:?[\\") ≡ true ∷ true ∷ true ∷ true ∷ true ∷ true ∷ true ∷ true ∷ true ∷ true ∷ []
+-- of the 256 bytes, the control characters, space, colon, question mark, bracket, backslash, caret, tilde and
+-- DEL, and no other
+pub refused_bytes : filter is_refused_byte (range_with_len 0 256) ≡ 0 ∷ 1 ∷ 2 ∷ 3 ∷ 4 ∷ 5 ∷ 6 ∷ 7 ∷ 8 ∷ 9 ∷ 10 ∷ 11 ∷ 12 ∷ 13 ∷ 14 ∷ 15 ∷ 16 ∷ 17 ∷ 18 ∷ 19 ∷ 20 ∷ 21 ∷ 22 ∷ 23 ∷ 24 ∷ 25 ∷ 26 ∷ 27 ∷ 28 ∷ 29 ∷ 30 ∷ 31 ∷ (codes " :?[\\^~" ++ (127 ∷ []))
 refused_bytes = refl
-
--- the bytes beside them
-pub other_bytes : map is_refused_byte (33 ∷ 128 ∷ codes "]{}@/.-") ≡ false ∷ false ∷ false ∷ false ∷ false ∷ false ∷ false ∷ false ∷ false ∷ []
-other_bytes = refl
 
 -- two dots anywhere, and `.lock` at the end of a component
 pub faults : HasFault (codes "foo..bar") RepeatedDot × HasFault (codes "foo.lock") LockSuffix × HasFault (codes "foo.lock/bar") LockSuffix × HasFault (codes "foo@{bar") ReflogPortion
@@ -166,3 +188,100 @@ pub texts : (text_of (push_matching (codes "master") (codes "master") false) ≡
     × (text_of (push_exclude (codes "refs/heads/dev-*")) ≡ codes "^refs/heads/dev-*")
     × (text_of (fetch_and_update (codes "seen") (codes "seen") true) ≡ codes "+seen:seen")
 texts = (refl, refl, refl, refl, refl, refl)
+
+-- ---- sides and what they match
+
+-- a ref of this name
+abbrev named : List ℕ → Ref
+named n = record { name = n; target = 1 ∷ []; object = None }
+
+-- a full name matches the ref of this name alone, and no word stands for a star
+pub full_name_matches : Matches (codes "refs/heads/main") (named (codes "refs/heads/main")) None
+full_name_matches = record {
+  kind = full_name (codes "refs/heads/main");
+  of = (refl, Lacks-tested star (codes "refs/heads/main") refl, record { after = codes "heads/main"; here = refl });
+  is = (refl, refl);
+}
+
+pub full_name_has_no_word : (word : List ℕ) → ¬ (MatchesAs (full_name (codes "refs/heads/main")) (named (codes "refs/heads/main")) (Some word))
+full_name_has_no_word word matches = some_none word matches.0
+
+pub longer_name_differs : ¬ (MatchesAs (full_name (codes "refs/heads/main")) (named (codes "refs/heads/main2")) None)
+longer_name_differs matches = other_length _ _ (λ same. omega (arith, same)) matches.1
+
+pub shorter_name_differs : ¬ (MatchesAs (full_name (codes "refs/heads/main")) (named (codes "refs/heads/mai")) None)
+shorter_name_differs matches = other_length _ _ (λ same. omega (arith, same)) matches.1
+
+-- a tag that points to the first id, of an object with the second
+abbrev tag : Ref
+tag = record { name = codes "refs/tags/v1"; target = 1 ∷ []; object = Some (2 ∷ []) }
+
+-- an id matches a ref that points to it, and a tag of what has it, and no other
+pub id_matches : MatchesAs (object (1 ∷ [])) tag None × MatchesAs (object (2 ∷ [])) tag None
+id_matches = ((refl, inl refl), (refl, inr refl))
+
+pub other_id_differs : ¬ (MatchesAs (object (3 ∷ [])) tag None)
+other_id_differs (none, inl target) = first_byte 1 3 [] (λ same. omega (arith, same)) target
+other_id_differs (none, inr tagged) = first_byte 2 3 [] (λ same. omega (arith, same)) (some_once _ _ tagged)
+
+-- what stands behind the star of a pattern has no other star, nor what stands before it
+pub two_stars_no_pattern : ¬ (HasKind (codes "a*b*") (pattern (codes "a") (codes "b*"))) × ¬ (HasKind (codes "a*b*") (pattern (codes "a*b") []))
+two_stars_no_pattern = (λ cut. Lacks-here star (codes "b") [] cut.last, λ cut. Lacks-here star (codes "a") (codes "b") cut.first)
+
+-- a pattern gets a word for its star, or keeps the star, between what stands before and behind it
+pub filled_patterns : (filled (pattern (codes "refs/x/") (codes "/y")) (Some (codes "main")) ≡ codes "refs/x/main/y") × (filled (pattern (codes "refs/x/") (codes "/y")) None ≡ codes "refs/x/*/y")
+filled_patterns = (refl, refl)
+
+pub filled_names : map (λ x. filled (partial x) None) (codes "main" ∷ codes "tags/v1" ∷ codes "remotes/o/main" ∷ codes "tagsv" ∷ [])
+    ≡ codes "refs/heads/main" ∷ codes "refs/tags/v1" ∷ codes "refs/remotes/o/main" ∷ codes "refs/heads/tagsv" ∷ []
+filled_names = refl
+
+-- ---- refusals and memory
+
+-- a source with two stars is reported whole
+pub reports_the_source : IsBadPattern (codes "a*b*") (PatternUnsupported (codes "a*b*"))
+reports_the_source = (record { before = codes "a"; between = codes "b"; after = []; here = refl }, refl)
+
+pub reports_no_other : ¬ (IsBadPattern (codes "a*b*") (PatternUnsupported (codes "a*b")))
+reports_no_other bad = other_length _ _ (λ same. omega (arith, same)) bad.1
+
+-- a star and then so many letters
+abbrev starred : ℕ → List ℕ
+starred n = star ∷ replicate n letter
+
+-- a side with a star and 257 bytes may want memory
+pub wants_memory : WantsMemory (starred 256)
+wants_memory = inr (record { before = []; after = replicate 256 letter; here = refl }, omega (arith, length-replicate 256 letter))
+
+-- one with 256 bytes never does
+wants_no_memory : ¬ (WantsMemory (starred 255))
+wants_no_memory (inl several) =
+    let cut : IsCut [] (replicate 255 letter) (starred 255) = record { starred = refl; first = tt; last = Lacks-tested star (replicate 255 letter) refl } in
+    HasSeveralStars-replaced (starred 255) (letter ∷ replicate 255 letter) (record { before = []; after = replicate 255 letter; cut = cut; replaced = refl }) several
+wants_no_memory (inr (starry, long)) = omega (arith, length-replicate 255 letter, long)
+
+-- the text is a source alone
+starred_parts : (n : ℕ) → list_any (λ c. c == colon) (starred n) ≡ false → AreParts Normal (starred n) None (starred n)
+starred_parts n none = record { signed = no_sign star (replicate n letter) refl refl; last = Lacks-tested colon (starred n) none }
+
+pub text_may_want_memory : MayWantMemory Fetch (starred 256)
+text_may_want_memory = record {
+  mode = Normal;
+  source = starred 256;
+  destination = None;
+  parts = starred_parts 256 refl;
+  reaches = (
+    (λ e empty. full star (replicate 256 letter) empty.no_source, λ e negative. false≢true negative.colon, λ e nowhere. none_some [] nowhere.nowhere),
+    wants_memory,
+  );
+}
+
+pub text_wants_no_memory : ¬ (MayWantMemory Fetch (starred 255))
+text_wants_no_memory may =
+    let once = parts_once may.mode Normal may.source (starred 255) may.destination None (starred 255) may.parts (starred_parts 255 refl) in
+    let reaches : ReachesMemory Fetch may.mode may.source None = subst (λ (d : Option (List ℕ)). ReachesMemory Fetch may.mode may.source d) once.destination may.reaches in
+    wants_no_memory (subst WantsMemory once.source reaches.1)
+
+-- a pattern of 257 bytes may be too long to be copied, and one of 256 is not
+pub pattern_too_long : IsPatternFault Memory (starred 256) × ¬ (IsPatternFault Memory (starred 255))
+pattern_too_long = (omega (arith, length-replicate 256 letter), λ long. omega (arith, length-replicate 255 letter, long))

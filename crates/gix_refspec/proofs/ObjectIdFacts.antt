@@ -1,8 +1,9 @@
--- The words on ids, computed at the ids that git hash-object prints for the empty blob.
-use Rattle.std.proofs.Common.{◌≡◌, ℕ, List, [], ◌∷◌, codes, refl}
+-- The words on ids, at the ids that git hash-object prints for the empty blob, and at other lengths.
+use Rattle.std.proofs.Common.{◌≡◌, ℕ, List, [], ◌∷◌, codes, refl, arith}
 use Rattle.hex.proofs.OnLiterals.{hex_on_literals}
+use Rattle.gix_refspec.specs.declared.oid.Error.TheVariants.{Length}
 use Rattle.gix_refspec.specs.declared.oid.Kind.TheVariants.{Sha1, Sha256}
-use Rattle.gix_refspec.specs.ObjectId.{IsIdText, lower_of}
+use Rattle.gix_refspec.specs.ObjectId.{IsIdText, IsIdLength, HasIdFault, lower_of}
 use Rattle.gix_refspec.proofs.ObjectIdLemmas.{IsIdText-decoded}
 
 -- the bytes of the id under SHA-1
@@ -28,3 +29,16 @@ IsIdText-empty_blob_sha256 = IsIdText-decoded Sha256 (codes "473a0f4c3be8a93681a
 pub lower_of-empty_blob : lower_of empty_blob ≡ codes "e69de29bb2d1d6434b8b29ae775ad8c2e48c5391"
 unfolding hex_on_literals
 lower_of-empty_blob = refl
+
+-- six is how many digits of no id there are
+no_length : ¬ (IsIdLength 6)
+no_length (Sha1, same) = omega (arith, same)
+no_length (Sha256, same) = omega (arith, same)
+
+-- a fault of a length tells the length of the text
+pub HasIdFault-length : HasIdFault (codes "e69de2") (Length 6) × ¬ (HasIdFault (codes "e69de2") (Length 5))
+HasIdFault-length = ((refl, no_length), λ fault. omega (arith, fault.0))
+
+-- and is no fault of a text of 40 digits
+pub HasIdFault-none : ¬ (HasIdFault (codes "e69de29bb2d1d6434b8b29ae775ad8c2e48c5391") (Length 40))
+HasIdFault-none fault = fault.1 (Sha1, refl)

@@ -115,3 +115,8 @@ pub record HasCandidates (x : List ℕ) : Type 0 where
 -- this holds of a side that has no star, isn't `HEAD`, begins no `refs/` and is no id
 abbrev pub Candidates : List ℕ → Type 0
 Candidates x = Lacks star x → x ≢ head → ¬ (Begins (codes "refs/") x) → ¬ (IsId x) → HasCandidates x
+
+-- of a type by which values clones are, and from which values they always come: they come from each value, and
+-- are that value
+abbrev pub ClonesExactly : {T : Type 0} → (T → T → Type 0) → (T → Type 0) → Type 0
+ClonesExactly {T} is_clone is_infallible = (x : T) → is_infallible x × ((y : T) → is_clone x y → y ≡ x)

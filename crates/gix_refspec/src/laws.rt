@@ -3,7 +3,7 @@
 
 ghost use Rattle.std.specs.Prelude.{◌≡◌, ◌↔◌, map, option_map, IsTrue};
 ghost use Rattle.std.specs.Ordering.{nat_cmp};
-ghost use Rattle.gix_refspec.specs.Laws.{ReadsOrRefused, OneRefusal, ReadsBack, IsPrintedBack, KeepsOperation, SaysForOperation, EqualTexts, EqualReadings, IdOrFault, OneLowerText, NothingAgainst, OneWord, PrefixBegins, OnePrefix, Candidates};
+ghost use Rattle.gix_refspec.specs.Laws.{ReadsOrRefused, OneRefusal, ReadsBack, IsPrintedBack, KeepsOperation, SaysForOperation, EqualTexts, EqualReadings, IdOrFault, OneLowerText, NothingAgainst, OneWord, PrefixBegins, OnePrefix, Candidates, ClonesExactly};
 ghost use Rattle.gix_refspec.specs.Meaning.{meaning_of};
 ghost use Rattle.gix_refspec.specs.ObjectId.{id_bytes};
 ghost use Rattle.gix_refspec.specs.Order.{is_same, order, place_of};
@@ -19,9 +19,10 @@ ghost use Rattle.gix_refspec.specs.Views.{shown_fetch, shown_push};
 use crate::instruction::{Fetch, Push};
 use crate::match_group::validate::{Fix, Issue};
 use crate::match_group::{Item, Mapping, NameRef, SourceRef};
+use crate::name::PatternError;
 use crate::oid::{Kind, ObjectId};
 use crate::parsing::Operation;
-use crate::{MatchGroup, RefSpec, RefSpecRef, name, oid};
+use crate::{Instruction, MatchGroup, RefSpec, RefSpecRef, name, oid};
 
 /// A text has exactly one reading, or it is refused.
 pub fn reads_or_refused(operation: Operation, text: &[u8])
@@ -209,6 +210,31 @@ pub fn equal_id_faults(a: oid::Error, b: oid::Error)
 /// Two faults of names are equal exactly where they are the same variant with equal fields.
 pub fn equal_name_faults(a: name::Error, b: name::Error)
     ensures { IsTrue (⟦<name::Error as PartialEq>⟧.eq a b) ↔ (a ≡ b) }
+{}
+
+/// Two faults of patterns are equal exactly where they are the same variant with equal fields.
+pub fn equal_pattern_errors(a: PatternError, b: PatternError)
+    ensures { IsTrue (⟦<PatternError as PartialEq>⟧.eq a b) ↔ (a ≡ b) }
+{}
+
+/// A clone of any value of these types always comes, and is that value.
+pub fn same_clones<'a>()
+    ensures operation { ClonesExactly ⟦<Operation as Clone>⟧.is_clone ⟦<Operation as Clone>⟧.is_infallible }
+    ensures push { ClonesExactly ⟦<Push<'a> as Clone>⟧.is_clone ⟦<Push<'a> as Clone>⟧.is_infallible }
+    ensures fetch { ClonesExactly ⟦<Fetch<'a> as Clone>⟧.is_clone ⟦<Fetch<'a> as Clone>⟧.is_infallible }
+    ensures instruction { ClonesExactly
+        ⟦<Instruction<'a> as Clone>⟧.is_clone ⟦<Instruction<'a> as Clone>⟧.is_infallible }
+    ensures spec { ClonesExactly
+        ⟦<RefSpecRef<'a> as Clone>⟧.is_clone ⟦<RefSpecRef<'a> as Clone>⟧.is_infallible }
+    ensures item { ClonesExactly ⟦<Item<'a> as Clone>⟧.is_clone ⟦<Item<'a> as Clone>⟧.is_infallible }
+    ensures kind { ClonesExactly ⟦<Kind as Clone>⟧.is_clone ⟦<Kind as Clone>⟧.is_infallible }
+    ensures id { ClonesExactly ⟦<ObjectId as Clone>⟧.is_clone ⟦<ObjectId as Clone>⟧.is_infallible }
+    ensures id_fault { ClonesExactly
+        ⟦<oid::Error as Clone>⟧.is_clone ⟦<oid::Error as Clone>⟧.is_infallible }
+    ensures name_fault { ClonesExactly
+        ⟦<name::Error as Clone>⟧.is_clone ⟦<name::Error as Clone>⟧.is_infallible }
+    ensures pattern_error { ClonesExactly
+        ⟦<PatternError as Clone>⟧.is_clone ⟦<PatternError as Clone>⟧.is_infallible }
 {}
 
 /// Two operations are equal exactly where they are the same, and push stands before fetch.
