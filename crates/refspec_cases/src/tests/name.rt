@@ -127,27 +127,39 @@ fn tells_faults_apart(rt: HostRuntime) {
     }
 }
 
+// The bytes that git-check-ref-format(1) refuses wherever they stand, other than the star: control
+// characters, space, tilde, caret, colon, question mark, open bracket and backslash.
+const REFUSED: [u8; 40] = [
+    0, 1, 2, 3, 4, 5, 6, 7, 8, 9, 10, 11, 12, 13, 14, 15, 16, 17, 18, 19, 20, 21, 22, 23, 24, 25,
+    26, 27, 28, 29, 30, 31, 127, b' ', b'~', b'^', b':', b'?', b'[', b'\\',
+];
+
+// What is wrong with a byte wherever it stands.
+fn fault_of(byte: u8) -> Result<(), Error> {
+    if byte == b'*' {
+        Err(Error::Asterisk)
+    } else if REFUSED.contains(&byte) {
+        Err(Error::InvalidByte { byte })
+    } else {
+        Ok(())
+    }
+}
+
 #[test]
-fn names_the_refused_byte(rt: HostRuntime) {
-    let cases = [
-        ("a b", b' '),
-        ("a:b", b':'),
-        ("a^b", b'^'),
-        ("a~b", b'~'),
-        ("a?b", b'?'),
-        ("a[b", b'['),
-        ("a\\b", b'\\'),
-        ("a\tb", b'\t'),
-        ("\x7f", 127),
-        ("\0", 0),
-        ("a\x1f", 31),
-    ];
-    for (text, byte) in cases {
-        assert_eq!(rt;
-            name_partial(BStr::new(text.as_bytes())),
-            Err(Error::InvalidByte { byte }),
-            "at {text:?}"
-        );
+fn takes_each_byte_where_it_may_stand(rt: HostRuntime) {
+    for byte in 0..=255u8 {
+        let anywhere = fault_of(byte);
+        let (first, last) = match byte {
+            b'/' => (Err(Error::EmptyComponent), Err(Error::EmptyComponent)),
+            b'.' => (Err(Error::StartsWithDot), Err(Error::EndsWithDot)),
+            _ => (anywhere, anywhere),
+        };
+        let found = name_partial(BStr::new(&[byte, b'a']));
+        assert_eq!(rt; found, first, "{byte} before a letter");
+        let found = name_partial(BStr::new(&[b'a', byte, b'b']));
+        assert_eq!(rt; found, anywhere, "{byte} between letters");
+        let found = name_partial(BStr::new(&[b'a', byte]));
+        assert_eq!(rt; found, last, "{byte} behind a letter");
     }
 }
 
