@@ -20,15 +20,15 @@ use Rattle.gix_refspec.specs.declared.match_group.types.NameRef.{NameRef}
 use Rattle.gix_refspec.specs.Mappings.{Mapped}
 use Rattle.gix_refspec.specs.Group.{mapped_of, name_bytes}
 use Rattle.gix_refspec.specs.Private.Kept.{IsFlagged, Rises}
-use Rattle.gix_refspec.specs.Private.Claims.{AreClaims, GoesTo, HasClaim, IsCut, claim_cmp, destinations_of, places_of}
+use Rattle.gix_refspec.specs.Private.Claims.{AreClaims, GoesTo, HasClaim, IsCut, claim_cmp, destinations_of, claimed_places}
 use Rattle.gix_refspec.proofs.PairLemmas.{both_equal, same_texts}
 use Rattle.gix_refspec.proofs.RepeatLemmas.{Rises-push, all_join, all_left, all_right, all_weaker, apart_places}
 
 -- there are the claims of the mappings before place p that have a destination and aren't flagged, by place
 pub record AreClaimsUpto (l : List Mapped) (flags : List Bool) (p : ℕ) (cs : List Claim) : Type 0 where
   pub are : (k : ℕ) (d : List ℕ) → HasClaim cs k d ↔ ((k < p) × (GoesTo l k d × ¬ (IsFlagged flags k)))
-  pub rises : Rises (places_of cs)
-  pub below : AllByRecursion (λ n. n < p) (places_of cs)
+  pub rises : Rises (claimed_places cs)
+  pub below : AllByRecursion (λ n. n < p) (claimed_places cs)
 
 unequal : Less ≡ Equal → ⊥
 unequal same = absurd (cc)
@@ -94,7 +94,7 @@ turned Equal r is told apart = absurd (apart refl)
 turned Greater r is told apart = is
 
 -- claims that are sorted are strictly so, since their places differ
-strict_from_sorted : (xs ys : List Claim) → IsPermutation xs ys → Rises (places_of xs) → IsSorted claim_cmp ys → IsStrictlySortedBy claim_cmp ys
+strict_from_sorted : (xs ys : List Claim) → IsPermutation xs ys → Rises (claimed_places xs) → IsSorted claim_cmp ys → IsStrictlySortedBy claim_cmp ys
 strict_from_sorted xs ys moved rises sorted =
     let weak : IsStrictWeakOrder (λ (x : Claim) (y : Claim). is_lt (claim_cmp x y)) = ranks_by claim_total (λ (c : Claim). c) in
     strict_from_places claim_cmp ys (λ i j d before below.
@@ -102,7 +102,7 @@ strict_from_sorted xs ys moved rises sorted =
     let y = get_or ys j d in
     turned (claim_cmp y x) (claim_cmp x y) (claim_total.antisymm x y)
     (sorted_far (λ (a : Claim) (b : Claim). is_lt (claim_cmp a b)) weak ys sorted i j d (omega arith) below)
-    (λ tied. apart_places (places_of xs) (places_of ys) (IsPermutation-map (λ (c : Claim). c.place) xs ys moved) rises i j 0 before (omega (arith, length-map ys (λ (c : Claim). c.place)))
+    (λ tied. apart_places (claimed_places xs) (claimed_places ys) (IsPermutation-map (λ (c : Claim). c.place) xs ys moved) rises i j 0 before (omega (arith, length-map ys (λ (c : Claim). c.place)))
     (get_or-map (λ (c : Claim). c.place) ys i d 0 (omega arith) ∙ sym (same_from_cmp y.place x.place (both_equal (slice_cmp nat_cmp y.destination.now x.destination.now) (nat_cmp y.place x.place) tied).1) ∙ sym (get_or-map (λ (c : Claim). c.place) ys j d 0 below))))
 
 -- a claim of some, as one that they contain
@@ -165,7 +165,7 @@ one_place l k d e (m, is_m, to_d) (n, is_n, to_e) =
 -- one more claim
 pub claims_more : (l : List Mapped) (flags : List Bool) (cs new : List Claim) (c : Claim) → new ≡ cs ++ c ∷ [] → GoesTo l c.place c.destination.now → ¬ (IsFlagged flags c.place) → AreClaimsUpto l flags c.place cs → AreClaimsUpto l flags (c.place + 1) new
 claims_more l flags cs new c is goes unflagged made =
-    let places : places_of new ≡ places_of cs ++ c.place ∷ [] = ap places_of is ∙ map-append (λ (x : Claim). x.place) cs (c ∷ []) in record {
+    let places : claimed_places new ≡ claimed_places cs ++ c.place ∷ [] = ap claimed_places is ∙ map-append (λ (x : Claim). x.place) cs (c ∷ []) in record {
       are = λ k d. subst (λ (xs : List Claim). HasClaim xs k d ↔ ((k < c.place + 1) × (GoesTo l k d × ¬ (IsFlagged flags k)))) (sym is) (
         (λ has. elim (HasClaim-cases cs (c ∷ []) k d has) [
           | inl old ↦ let told = (made.are k d).0 old in ((let less = told.0 in omega (arith, less)), told.1)
@@ -176,8 +176,8 @@ claims_more l flags cs new c is goes unflagged made =
           | inr here ↦ HasClaim-right cs (c ∷ []) k d (inl (sym here, one_place l k c.destination.now d (subst (λ (n : ℕ). GoesTo l n c.destination.now) (sym here) goes) told.1.0))
         ]),
       );
-      rises = subst Rises (sym places) (Rises-push (places_of cs) c.place made.rises made.below);
-      below = subst (λ (ns : List ℕ). AllByRecursion (λ n. n < c.place + 1) ns) (sym places) (all_join (λ n. n < c.place + 1) (places_of cs) (c.place ∷ []) (all_weaker (λ n. n < c.place) (λ n. n < c.place + 1) (λ n less. omega arith) (places_of cs) made.below) (omega arith, tt));
+      rises = subst Rises (sym places) (Rises-push (claimed_places cs) c.place made.rises made.below);
+      below = subst (λ (ns : List ℕ). AllByRecursion (λ n. n < c.place + 1) ns) (sym places) (all_join (λ n. n < c.place + 1) (claimed_places cs) (c.place ∷ []) (all_weaker (λ n. n < c.place) (λ n. n < c.place + 1) (λ n less. omega arith) (claimed_places cs) made.below) (omega arith, tt));
     }
   where
     only : {k : ℕ} {d : List ℕ} → HasClaim (c ∷ []) k d → (k < c.place + 1) × (GoesTo l k d × ¬ (IsFlagged flags k))
@@ -198,7 +198,7 @@ claims_same l flags p cs none made = record {
     ]),
   );
   rises = made.rises;
-  below = all_weaker (λ n. n < p) (λ n. n < p + 1) (λ n less. omega arith) (places_of cs) made.below;
+  below = all_weaker (λ n. n < p) (λ n. n < p + 1) (λ n less. omega arith) (claimed_places cs) made.below;
 }
 
 -- no claim is made at first

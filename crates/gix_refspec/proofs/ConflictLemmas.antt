@@ -24,7 +24,7 @@ use Rattle.gix_refspec.specs.Group.{mapped_of, name_bytes, start_of, IsNameCopy,
 use Rattle.gix_refspec.specs.ObjectId.{id_bytes}
 use Rattle.gix_refspec.specs.Validation.{AreConflicts, Conflict, IndexesFit, IsConflict, IsContested, IsFirstTo, IsTextAt}
 use Rattle.gix_refspec.specs.Private.Kept.{FlagsRepeats, Has, IsFlagged, IsRepeat, Rises}
-use Rattle.gix_refspec.specs.Private.Claims.{AddsConflict, AreClaims, AreFirsts, AreRivals, HasClaim, IsCut, IsFirstAt, IsOver, claim_cmp, destinations_of, places_of}
+use Rattle.gix_refspec.specs.Private.Claims.{AddsConflict, AreClaims, AreFirsts, AreRivals, HasClaim, IsCut, IsFirstAt, IsOver, claim_cmp, destinations_of, claimed_places}
 use Rattle.gix_refspec.proofs.RepeatLemmas.{all_join, all_right, all_weaker, some_mapping}
 use Rattle.gix_refspec.proofs.KeptLemmas.{repeats_at}
 use Rattle.gix_refspec.proofs.ClaimLemmas.{HasClaim-cases, HasClaim-left, HasClaim-right, later, mapped_at, not_below_itself, strict_left, strict_right}
@@ -43,7 +43,7 @@ zip_more R (a ∷ xs) [] x y zip one = absurd zip
 zip_more R (a ∷ xs) (b ∷ ys) x y zip one = (zip.0, zip_more R xs ys x y zip.1 one)
 
 -- claims to one destination have the places of the claims to it
-pub places_to_one : (x : List ℕ) (cs : List Claim) (k : ℕ) → AllByRecursion (λ c. c.destination.now ≡ x) cs → Has (places_of cs) k ↔ HasClaim cs k x
+pub places_to_one : (x : List ℕ) (cs : List Claim) (k : ℕ) → AllByRecursion (λ c. c.destination.now ≡ x) cs → Has (claimed_places cs) k ↔ HasClaim cs k x
 places_to_one x [] k same = ((λ none. none), (λ none. none))
 places_to_one x (c ∷ cs) k same = (
   (λ has. elim has [
@@ -57,12 +57,12 @@ places_to_one x (c ∷ cs) k same = (
 )
 
 -- and in order these rise
-pub places_rise : (x : List ℕ) (cs : List Claim) → AllByRecursion (λ c. c.destination.now ≡ x) cs → IsStrictlySortedBy claim_cmp cs → Rises (places_of cs)
+pub places_rise : (x : List ℕ) (cs : List Claim) → AllByRecursion (λ c. c.destination.now ≡ x) cs → IsStrictlySortedBy claim_cmp cs → Rises (claimed_places cs)
 unfolding IsStrictlySortedBy
 places_rise x [] same strict = tt
 places_rise x (c ∷ cs) same strict = (each cs same.1 strict.0, places_rise x cs same.1 strict.1)
   where
-    each : (ys : List Claim) → AllByRecursion (λ y. y.destination.now ≡ x) ys → AllByRecursion (λ y. claim_cmp c y ≡ Less) ys → AllByRecursion (λ n. c.place < n) (places_of ys)
+    each : (ys : List Claim) → AllByRecursion (λ y. y.destination.now ≡ x) ys → AllByRecursion (λ y. claim_cmp c y ≡ Less) ys → AllByRecursion (λ n. c.place < n) (claimed_places ys)
     each [] same2 less = tt
     each (y ∷ ys) same2 less = (one y same2.0 less.0, each ys same2.1 less.1)
       where
@@ -84,12 +84,12 @@ rival_fits ms run i d rivals below = All-from_recursion (λ (c : Claim). c.place
         (omega (arith, below, length-map ms mapped_of), each cs same.1 (λ k has. told k (inr has)))
 
 -- what the claims of all sources of a destination tell is its conflict
-pub conflict_from_rivals : (g : List Reading) (l : List Mapped) (run : List Claim) (d : List ℕ) (sources : List Start) (texts : List (List ℕ)) → (rivals : AreRivals l run) → AreTold g l (places_of run) sources texts → d ≡ rivals.destination → IsOver g l run (record { destination = d; sources = sources; texts = texts })
+pub conflict_from_rivals : (g : List Reading) (l : List Mapped) (run : List Claim) (d : List ℕ) (sources : List Start) (texts : List (List ℕ)) → (rivals : AreRivals l run) → AreTold g l (claimed_places run) sources texts → d ≡ rivals.destination → IsOver g l run (record { destination = d; sources = sources; texts = texts })
 conflict_from_rivals g l run d sources texts rivals told to = subst (λ (e : List ℕ). IsOver g l run (record { destination = e; sources = sources; texts = texts })) (sym to) (record {
   is = record {
     contested = two run rivals.several rises (λ k has. (rivals.are k).0 ((places_to_one x run k rivals.same).0 has));
-    sources = made_at_places (λ k m. IsFirstTo x l k m) (λ m source. source ≡ m.source) l 0 l (places_of run) sources at has rises (any_above (places_of run)) told.sources_are;
-    texts = made_at_places (λ k m. IsFirstTo x l k m) (λ m text. IsTextAt g m.spec text) l 0 l (places_of run) texts at has rises (any_above (places_of run)) told.texts_are;
+    sources = made_at_places (λ k m. IsFirstTo x l k m) (λ m source. source ≡ m.source) l 0 l (claimed_places run) sources at has rises (any_above (claimed_places run)) told.sources_are;
+    texts = made_at_places (λ k m. IsFirstTo x l k m) (λ m text. IsTextAt g m.spec text) l 0 l (claimed_places run) texts at has rises (any_above (claimed_places run)) told.texts_are;
   };
   same = rivals.same;
 })
@@ -97,7 +97,7 @@ conflict_from_rivals g l run d sources texts rivals told to = subst (λ (e : Lis
     x : List ℕ
     x = rivals.destination
 
-    rises : Rises (places_of run)
+    rises : Rises (claimed_places run)
     rises = places_rise x run rivals.same rivals.order
 
     at : (j : ℕ) → slice_get l j ≡ slice_get l (0 + j)
@@ -107,13 +107,13 @@ conflict_from_rivals g l run d sources texts rivals told to = subst (λ (e : Lis
     any_above [] = tt
     any_above (n ∷ ns) = (omega arith, any_above ns)
 
-    has : (j : ℕ) (m : Mapped) → 0 ≤ j → slice_get l j ≡ Some m → Has (places_of run) j ↔ IsFirstTo x l j m
+    has : (j : ℕ) (m : Mapped) → 0 ≤ j → slice_get l j ≡ Some m → Has (claimed_places run) j ↔ IsFirstTo x l j m
     has j m low is = (
       (λ there. let first = (rivals.are j).0 ((places_to_one x run j rivals.same).0 there) in subst (λ (n : Mapped). IsFirstTo x l j n) (one_mapping l j first.0 m first.1 is) first.2),
       (λ first. (places_to_one x run j rivals.same).1 ((rivals.are j).1 (m, is, first))),
     )
 
-    two : (cs : List Claim) → 1 < length cs → Rises (places_of cs) → ((k : ℕ) → Has (places_of cs) k → IsFirstAt l k x) → IsContested l x
+    two : (cs : List Claim) → 1 < length cs → Rises (claimed_places cs) → ((k : ℕ) → Has (claimed_places cs) k → IsFirstAt l k x) → IsContested l x
     two [] several up first = absurd (omega arith)
     two (c ∷ []) several up first = absurd (omega arith)
     two (c ∷ y ∷ cs) several up first = contested_from_firsts l x c.place y.place up.0.0 (first c.place (inl refl)) (first y.place (inr (inl refl)))
@@ -136,14 +136,14 @@ pub text_at : (specs : List RefSpecRef) (k : ℕ) (spec : RefSpecRef) (text : Li
 text_at specs k spec text below is prints = (reading_of spec, slice_get-map reading_of specs k ∙ ap (option_map reading_of) (slice_get_read specs (length specs) k spec refl below is), prints)
 
 -- one more claim has given its source and its text
-pub told_more : (g : List Reading) (ms : List Mapping) (run : List Claim) (i : ℕ) (d : Claim) (m : Mapping) (source : Start) (text : List ℕ) (sources : List Start) (texts : List (List ℕ)) → i < length run → (get_or run i d).place < length ms → m ≡ get_or ms (get_or run i d).place m → source ≡ start_of m.lhs → IsTextAt g m.spec_index text → AreTold g (map mapped_of ms) (places_of (take i run)) sources texts → AreTold g (map mapped_of ms) (places_of (take (i + 1) run)) (sources ++ source ∷ []) (texts ++ text ∷ [])
+pub told_more : (g : List Reading) (ms : List Mapping) (run : List Claim) (i : ℕ) (d : Claim) (m : Mapping) (source : Start) (text : List ℕ) (sources : List Start) (texts : List (List ℕ)) → i < length run → (get_or run i d).place < length ms → m ≡ get_or ms (get_or run i d).place m → source ≡ start_of m.lhs → IsTextAt g m.spec_index text → AreTold g (map mapped_of ms) (claimed_places (take i run)) sources texts → AreTold g (map mapped_of ms) (claimed_places (take (i + 1) run)) (sources ++ source ∷ []) (texts ++ text ∷ [])
 told_more g ms run i d m source text sources texts below fits is is_source is_text told =
     let l = map mapped_of ms in
     let here : slice_get l (get_or run i d).place ≡ Some (mapped_of m) = mapped_at ms (get_or run i d).place m fits is in
-    let places : places_of (take (i + 1) run) ≡ places_of (take i run) ++ (get_or run i d).place ∷ [] = ap places_of (take_more run i d below) ∙ map-append (λ (c : Claim). c.place) (take i run) (get_or run i d ∷ []) in
+    let places : claimed_places (take (i + 1) run) ≡ claimed_places (take i run) ++ (get_or run i d).place ∷ [] = ap claimed_places (take_more run i d below) ∙ map-append (λ (c : Claim). c.place) (take i run) (get_or run i d ∷ []) in
     subst (λ (ns : List ℕ). AreTold g l ns (sources ++ source ∷ []) (texts ++ text ∷ [])) (sym places) (record {
-      sources_are = zip_more (IsOfPlace (λ m s. s ≡ m.source) l) (places_of (take i run)) sources (get_or run i d).place source told.sources_are (mapped_of m, here, is_source);
-      texts_are = zip_more (IsOfPlace (λ m t. IsTextAt g m.spec t) l) (places_of (take i run)) texts (get_or run i d).place text told.texts_are (mapped_of m, here, is_text);
+      sources_are = zip_more (IsOfPlace (λ m s. s ≡ m.source) l) (claimed_places (take i run)) sources (get_or run i d).place source told.sources_are (mapped_of m, here, is_source);
+      texts_are = zip_more (IsOfPlace (λ m t. IsTextAt g m.spec t) l) (claimed_places (take i run)) texts (get_or run i d).place text told.texts_are (mapped_of m, here, is_text);
     })
 
 -- the spec of a mapping has a place among the specs
@@ -154,7 +154,7 @@ spec_fits specs ms k m fits below is =
     omega (arith, told, here, length-map specs reading_of)
 
 -- the conflicts of the first mappings whose claims aren't among the rest
-pub record IsSettled (g : List Reading) (l : List Mapped) (rest : List Claim) (cs : List Conflict) : Type 0 where
+pub record AreReported (g : List Reading) (l : List Mapped) (rest : List Claim) (cs : List Conflict) : Type 0 where
   pub left : (k : ℕ) (d : List ℕ) → HasClaim rest k d → IsFirstAt l k d
   pub all : (k : ℕ) (d : List ℕ) → IsFirstAt l k d → HasClaim rest k d ⊎ AllByRecursion (λ c. slice_cmp nat_cmp d c.destination.now ≡ Less) rest
   pub order : IsStrictlySortedBy claim_cmp rest
@@ -164,9 +164,9 @@ pub record IsSettled (g : List Reading) (l : List Mapped) (rest : List Claim) (c
   pub every : (d : List ℕ) → IsContested l d → Contains (map (λ c. c.destination) cs) d ⊎ ((k : ℕ) × HasClaim rest k d)
 
 -- at first all claims are left
-pub settled_none : (g : List Reading) (l : List Mapped) (firsts : List Claim) → AreFirsts l firsts → IsSettled g l firsts []
+pub reported_none : (g : List Reading) (l : List Mapped) (firsts : List Claim) → AreFirsts l firsts → AreReported g l firsts []
 unfolding IsStrictlySortedBy
-settled_none g l firsts are = record {
+reported_none g l firsts are = record {
   left = λ k d. (are.are k d).0;
   all = λ k d first. inl ((are.are k d).1 first);
   order = are.order;
@@ -177,8 +177,8 @@ settled_none g l firsts are = record {
 }
 
 -- and at last none
-pub conflicts_settled : (g : List Reading) (l : List Mapped) (rest : List Claim) (cs : List Conflict) → length rest ≡ 0 → IsSettled g l rest cs → AreConflicts g l cs
-conflicts_settled g l [] cs empty settled = record {
+pub all_reported : (g : List Reading) (l : List Mapped) (rest : List Claim) (cs : List Conflict) → length rest ≡ 0 → AreReported g l rest cs → AreConflicts g l cs
+all_reported g l [] cs empty settled = record {
   each = settled.each;
   every = λ d contested. elim (settled.every d contested) [
     | inl told ↦ told
@@ -186,7 +186,7 @@ conflicts_settled g l [] cs empty settled = record {
   ];
   order = settled.rise;
 }
-conflicts_settled g l (c ∷ rest) cs empty settled = absurd (omega arith)
+all_reported g l (c ∷ rest) cs empty settled = absurd (omega arith)
 
 not_beyond : (x : List ℕ) (cs : List Claim) (k : ℕ) → AllByRecursion (λ c. slice_cmp nat_cmp x c.destination.now ≡ Less) cs → HasClaim cs k x → ⊥
 not_beyond x [] k beyond has = has
@@ -199,7 +199,7 @@ to_same x (c ∷ cs) k d same (inl is) = sym is.1 ∙ same.0
 to_same x (c ∷ cs) k d same (inr has) = to_same x cs k d same.1 has
 
 -- what begins the rest has all first mappings to its destination
-firsts_of_run : (g : List Reading) (l : List Mapped) (run others : List Claim) (cs : List Conflict) → 0 < length run → (cut : IsCut run others) → IsSettled g l (run ++ others) cs → (k : ℕ) → HasClaim run k cut.destination ↔ IsFirstAt l k cut.destination
+firsts_of_run : (g : List Reading) (l : List Mapped) (run others : List Claim) (cs : List Conflict) → 0 < length run → (cut : IsCut run others) → AreReported g l (run ++ others) cs → (k : ℕ) → HasClaim run k cut.destination ↔ IsFirstAt l k cut.destination
 firsts_of_run g l [] others cs some cut settled k = absurd (omega arith)
 firsts_of_run g l (c ∷ run) others cs some cut settled k = (
   (λ has. settled.left k cut.destination (HasClaim-left (c ∷ run) others k cut.destination has)),
@@ -213,13 +213,13 @@ firsts_of_run g l (c ∷ run) others cs some cut settled k = (
 )
 
 -- several claims of a run are rivals
-pub rivals_of_run : (g : List Reading) (l : List Mapped) (rest : List Claim) (n : ℕ) (cs : List Conflict) → 1 < length (take n rest) → (cut : IsCut (take n rest) (drop n rest)) → IsSettled g l rest cs → AreRivals l (take n rest)
+pub rivals_of_run : (g : List Reading) (l : List Mapped) (rest : List Claim) (n : ℕ) (cs : List Conflict) → 1 < length (take n rest) → (cut : IsCut (take n rest) (drop n rest)) → AreReported g l rest cs → AreRivals l (take n rest)
 rivals_of_run g l rest n cs several cut settled =
     let whole : take n rest ++ drop n rest ≡ rest = take-append-drop n rest in record {
       several = several;
       destination = cut.destination;
       same = cut.same;
-      are = firsts_of_run g l (take n rest) (drop n rest) cs (omega (arith, several)) cut (subst (λ (xs : List Claim). IsSettled g l xs cs) (sym whole) settled);
+      are = firsts_of_run g l (take n rest) (drop n rest) cs (omega (arith, several)) cut (subst (λ (xs : List Claim). AreReported g l xs cs) (sym whole) settled);
       order = strict_left claim_cmp (take n rest) (drop n rest) (subst (λ (xs : List Claim). IsStrictlySortedBy claim_cmp xs) (sym whole) settled.order);
     }
 
@@ -242,7 +242,7 @@ one_claim_only x (c ∷ []) j k few (inr none) also = absurd none
 one_claim_only x (c ∷ y ∷ run) j k few has also = absurd (omega arith)
 
 -- a run of one claim has no conflict
-skipped : (g : List Reading) (l : List Mapped) (run others : List Claim) (cs : List Conflict) → 0 < length run → length run ≤ 1 → IsCut run others → IsSettled g l (run ++ others) cs → IsSettled g l others cs
+skipped : (g : List Reading) (l : List Mapped) (run others : List Claim) (cs : List Conflict) → 0 < length run → length run ≤ 1 → IsCut run others → AreReported g l (run ++ others) cs → AreReported g l others cs
 skipped g l run others cs some few cut settled = record {
   left = λ k d has. settled.left k d (HasClaim-right run others k d has);
   all = λ k d first. behind_run l run others k d cut (settled.all k d first);
@@ -270,7 +270,7 @@ rise_more [] x strict below = (tt, tt)
 rise_more (d ∷ ds) x strict below = (all_join (λ y. slice_cmp nat_cmp d y ≡ Less) ds (x ∷ []) strict.0 (below.0, tt), rise_more ds x strict.1 below.1)
 
 -- a run of several claims has one
-reported : (g : List Reading) (l : List Mapped) (run others : List Claim) (cs : List Conflict) (c : Conflict) → 1 < length run → IsCut run others → IsOver g l run c → IsSettled g l (run ++ others) cs → IsSettled g l others (cs ++ c ∷ [])
+reported : (g : List Reading) (l : List Mapped) (run others : List Claim) (cs : List Conflict) (c : Conflict) → 1 < length run → IsCut run others → IsOver g l run c → AreReported g l (run ++ others) cs → AreReported g l others (cs ++ c ∷ [])
 reported g l [] others cs c several cut over settled = absurd (omega arith)
 reported g l (r ∷ run) others cs c several cut over settled =
     let x = cut.destination in
@@ -303,12 +303,12 @@ unfolding IsStrictlySortedBy
 no_conflicts g l free = record { each = tt; every = λ d contested. absurd (free d contested); order = tt }
 
 -- a loop's step: once a run has added what it adds, the others are left
-pub settled_more : (g : List Reading) (l : List Mapped) (rest : List Claim) (n : ℕ) (cs new : List Conflict) → 0 < n → n ≤ length rest → IsCut (take n rest) (drop n rest) → AddsConflict g l (take n rest) cs new → IsSettled g l rest cs → IsSettled g l (drop n rest) new
-settled_more g l rest n cs new some fits cut added settled =
-    let whole : IsSettled g l (take n rest ++ drop n rest) cs = subst (λ (xs : List Claim). IsSettled g l xs cs) (sym (take-append-drop n rest)) settled in
+pub reported_more : (g : List Reading) (l : List Mapped) (rest : List Claim) (n : ℕ) (cs new : List Conflict) → 0 < n → n ≤ length rest → IsCut (take n rest) (drop n rest) → AddsConflict g l (take n rest) cs new → AreReported g l rest cs → AreReported g l (drop n rest) new
+reported_more g l rest n cs new some fits cut added settled =
+    let whole : AreReported g l (take n rest ++ drop n rest) cs = subst (λ (xs : List Claim). AreReported g l xs cs) (sym (take-append-drop n rest)) settled in
     elim added [
-      | inl few ↦ subst (λ (ds : List Conflict). IsSettled g l (drop n rest) ds) (sym few.1) (skipped g l (take n rest) (drop n rest) cs (omega (arith, some, length-take-le n rest fits)) few.0 cut whole)
-      | inr more ↦ subst (λ (ds : List Conflict). IsSettled g l (drop n rest) ds) (sym more.3) (reported g l (take n rest) (drop n rest) cs more.0 more.1 cut more.2 whole)
+      | inl few ↦ subst (λ (ds : List Conflict). AreReported g l (drop n rest) ds) (sym few.1) (skipped g l (take n rest) (drop n rest) cs (omega (arith, some, length-take-le n rest fits)) few.0 cut whole)
+      | inr more ↦ subst (λ (ds : List Conflict). AreReported g l (drop n rest) ds) (sym more.3) (reported g l (take n rest) (drop n rest) cs more.0 more.1 cut more.2 whole)
     ]
 
 -- a claim to a destination behind all these

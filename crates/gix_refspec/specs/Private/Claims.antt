@@ -26,8 +26,8 @@ abbrev pub destinations_of : List Claim → List (List ℕ)
 destinations_of cs = map (λ c. c.destination.now) cs
 
 -- the places of claims
-abbrev pub places_of : List Claim → List ℕ
-places_of cs = map (λ c. c.place) cs
+abbrev pub claimed_places : List Claim → List ℕ
+claimed_places cs = map (λ c. c.place) cs
 
 -- the mapping at place k of the list has the destination d
 abbrev pub GoesTo : List Mapped → ℕ → List ℕ → Type 0

@@ -7,7 +7,7 @@ use Rattle.gix_refspec.specs.declared.match_group.util.conflicts.Claim.{Claim}
 use Rattle.gix_refspec.specs.Spec.{reading_of}
 use Rattle.gix_refspec.specs.Mappings.{Start}
 use Rattle.gix_refspec.specs.Group.{mapped_of, start_of}
-use Rattle.gix_refspec.specs.Private.Claims.{places_of}
+use Rattle.gix_refspec.specs.Private.Claims.{claimed_places}
 use Rattle.gix_refspec.proofs.ConflictLemmas.{AreTold, conflict_from_rivals, copied_source, rival_fits, spec_fits, text_at, told_more}
 use Rattle.gix_refspec.proofs.match_group.util.conflicts.issue_of.Goals as goal
 
@@ -48,8 +48,8 @@ loop-claim-preserved c =
     (c.in_ok-into_owned.ensures.keeps ∙ copied_source m.lhs c.in_ok-clone.field-0 c.in_ok-clone.ensures.keeps)
     (text_at c.args.specs.now m.spec_index c.index-specs-mapping.result (bstring_bytes text) (spec_fits c.args.specs.now ms (get_or run i none).place m c.requires.fits fits c.index-mappings-claim.is) c.index-specs-mapping.is c.in_ok-to_bstring.ensures)
     c.loop-claim.invariant in
-    subst (λ (ss : List Start). AreTold g (map mapped_of ms) (places_of (take (i + 1) run)) ss (map bstring_bytes c.push-in-loop-claim.new.self.items)) (sym sources)
-    (subst (λ (ts : List (List ℕ)). AreTold g (map mapped_of ms) (places_of (take (i + 1) run)) (map start_of c.loop-claim.sources.items ++ start_of source ∷ []) ts) (sym texts) told)
+    subst (λ (ss : List Start). AreTold g (map mapped_of ms) (claimed_places (take (i + 1) run)) ss (map bstring_bytes c.push-in-loop-claim.new.self.items)) (sym sources)
+    (subst (λ (ts : List (List ℕ)). AreTold g (map mapped_of ms) (claimed_places (take (i + 1) run)) (map start_of c.loop-claim.sources.items ++ start_of source ∷ []) ts) (sym texts) told)
 
 pub returns : goal.returns
 unfolding none
@@ -61,5 +61,5 @@ returns c =
     let several = rivals.several in
     let first : (get_or run 0 none).destination.now ≡ rivals.destination = All-from_recursion (λ (x : Claim). x.destination.now ≡ rivals.destination) run rivals.same 0 none (omega (arith, several)) in
     conflict_from_rivals g l run (bstring_bytes c.in_ok-from_slice.field-0) (map start_of c.loop-claim.sources.items) (map bstring_bytes c.loop-claim.texts.items) rivals
-    (subst (λ (cs : List Claim). AreTold g l (places_of cs) (map start_of c.loop-claim.sources.items) (map bstring_bytes c.loop-claim.texts.items)) (take_all c.loop-claim.claim-index run (omega arith)) c.loop-claim.invariant)
+    (subst (λ (cs : List Claim). AreTold g l (claimed_places cs) (map start_of c.loop-claim.sources.items) (map bstring_bytes c.loop-claim.texts.items)) (take_all c.loop-claim.claim-index run (omega arith)) c.loop-claim.invariant)
     (c.in_ok-from_slice.ensures ∙ c.new.ensures ∙ first)

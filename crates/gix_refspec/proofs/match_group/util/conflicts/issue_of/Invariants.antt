@@ -3,9 +3,9 @@ use Rattle.std.proofs.Common.{map, take}
 use Rattle.bstr.specs.Owned.{bstring_bytes}
 use Rattle.gix_refspec.specs.Spec.{reading_of}
 use Rattle.gix_refspec.specs.Group.{mapped_of, start_of}
-use Rattle.gix_refspec.specs.Private.Claims.{places_of}
+use Rattle.gix_refspec.specs.Private.Claims.{claimed_places}
 use Rattle.gix_refspec.proofs.ConflictLemmas.{AreTold}
 use Rattle.gix_refspec.proofs.match_group.util.conflicts.issue_of.Given as goal
 
 abbrev pub invariant-loop-claim : goal.invariant-loop-claim
-invariant-loop-claim l = AreTold (map reading_of l.specs) (map mapped_of l.mappings) (places_of (take l.claim-index l.run)) (map start_of l.sources.items) (map bstring_bytes l.texts.items)
+invariant-loop-claim l = AreTold (map reading_of l.specs) (map mapped_of l.mappings) (claimed_places (take l.claim-index l.run)) (map start_of l.sources.items) (map bstring_bytes l.texts.items)

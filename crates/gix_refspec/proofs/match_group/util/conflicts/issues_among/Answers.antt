@@ -7,13 +7,13 @@ use Rattle.gix_refspec.specs.Group.{mapped_of}
 use Rattle.gix_refspec.specs.Validation.{Conflict}
 use Rattle.gix_refspec.specs.Issue.{conflict_of}
 use Rattle.gix_refspec.specs.Private.Claims.{AddsConflict, AreRivals, IsCut}
-use Rattle.gix_refspec.proofs.ConflictLemmas.{IsSettled, conflicts_settled, rivals_of_run, settled_more, settled_none}
+use Rattle.gix_refspec.proofs.ConflictLemmas.{AreReported, all_reported, rivals_of_run, reported_more, reported_none}
 use Rattle.gix_refspec.proofs.match_group.util.conflicts.issues_among.Goals as goal
 
 pub loop-at-init : goal.loop-at-init
 loop-at-init c = (
   omega arith,
-  subst (λ (cs : List Conflict). IsSettled (map reading_of c.args.specs.now) (map mapped_of c.args.mappings.now) c.args.firsts.now cs) (sym (ap (map conflict_of) c.new-issues.ensures.items)) (settled_none (map reading_of c.args.specs.now) (map mapped_of c.args.mappings.now) c.args.firsts.now c.requires.firsts),
+  subst (λ (cs : List Conflict). AreReported (map reading_of c.args.specs.now) (map mapped_of c.args.mappings.now) c.args.firsts.now cs) (sym (ap (map conflict_of) c.new-issues.ensures.items)) (reported_none (map reading_of c.args.specs.now) (map mapped_of c.args.mappings.now) c.args.firsts.now c.requires.firsts),
 )
 
 pub add_issue-requires-clause-rivals : goal.add_issue-requires-clause-rivals
@@ -41,9 +41,9 @@ loop-at-preserved c =
     let rest : take (length firsts - at) (drop at firsts) ≡ drop at firsts = take_all (length firsts - at) (drop at firsts) (omega (arith, length-drop at firsts)) in
     let fits : n ≤ length (drop at firsts) = subst (λ (xs : List Claim). n ≤ length xs) rest told.fits in (
       omega (arith, fits, length-drop at firsts),
-      subst (λ (xs : List Claim). IsSettled g l xs new) (drop-drop n at firsts)
-          (settled_more g l (drop at firsts) n cs new told.some fits (subst (λ (xs : List Claim). IsCut (take n xs) (drop n xs)) rest told.cut) (subst (λ (xs : List Claim). AddsConflict g l (take n xs) cs new) rest c.in_ok-add_issue.ensures) c.loop-at.invariant.1),
+      subst (λ (xs : List Claim). AreReported g l xs new) (drop-drop n at firsts)
+          (reported_more g l (drop at firsts) n cs new told.some fits (subst (λ (xs : List Claim). IsCut (take n xs) (drop n xs)) rest told.cut) (subst (λ (xs : List Claim). AddsConflict g l (take n xs) cs new) rest c.in_ok-add_issue.ensures) c.loop-at.invariant.1),
     )
 
 pub returns : goal.returns
-returns c = conflicts_settled (map reading_of c.args.specs.now) (map mapped_of c.args.mappings.now) (drop c.loop-at.at c.args.firsts.now) (map conflict_of c.loop-at.issues.items) (omega (arith, length-drop c.loop-at.at c.args.firsts.now)) c.loop-at.invariant.1
+returns c = all_reported (map reading_of c.args.specs.now) (map mapped_of c.args.mappings.now) (drop c.loop-at.at c.args.firsts.now) (map conflict_of c.loop-at.issues.items) (omega (arith, length-drop c.loop-at.at c.args.firsts.now)) c.loop-at.invariant.1

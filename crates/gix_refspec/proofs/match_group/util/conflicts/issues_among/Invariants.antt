@@ -3,13 +3,13 @@ use Rattle.std.proofs.Common.{◌≤◌, ◌-◌, length, map, drop}
 use Rattle.gix_refspec.specs.Spec.{reading_of}
 use Rattle.gix_refspec.specs.Group.{mapped_of}
 use Rattle.gix_refspec.specs.Issue.{conflict_of}
-use Rattle.gix_refspec.proofs.ConflictLemmas.{IsSettled}
+use Rattle.gix_refspec.proofs.ConflictLemmas.{AreReported}
 use Rattle.gix_refspec.proofs.match_group.util.conflicts.issues_among.Given as goal
 
 abbrev pub invariant-loop-at : goal.invariant-loop-at
 invariant-loop-at l =
     (l.at ≤ length l.firsts)
-    × IsSettled (map reading_of l.specs) (map mapped_of l.mappings) (drop l.at l.firsts) (map conflict_of l.issues.items)
+    × AreReported (map reading_of l.specs) (map mapped_of l.mappings) (drop l.at l.firsts) (map conflict_of l.issues.items)
 
 abbrev pub decreases-loop-at : goal.decreases-loop-at
 decreases-loop-at l = length l.firsts - l.at
