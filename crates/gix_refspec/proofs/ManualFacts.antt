@@ -1,6 +1,6 @@
 -- The words on names and refspecs at the examples of git-check-ref-format(1), git-fetch(1) and
--- git-push(1), and at some like them, so that a wrong rule in the specs does not check. That a text is a
--- name is a premise.
+-- git-push(1), and at some like them, on both sides of a border, so that a wrong rule in the specs does
+-- not check. That a text is a name is a premise.
 use Rattle.std.proofs.Common.{◌≡◌, ◌≢◌, ◌≤◌, ℕ, ◌==◌, ◌||◌, true, false, List, [], ◌∷◌, ◌++◌, Option, None, Some, map, length, get_or, codes, refl, ap, subst, inl, inr, arith}
 use Rattle.std.specs.Prelude.{replicate}
 use Rattle.std.specs.List.{list_any, filter, range_with_len}
@@ -18,7 +18,7 @@ use Rattle.gix_refspec.specs.Reading.{Normal, Forced, Negative, Reading}
 use Rattle.gix_refspec.specs.Grammar.{named_by, IsSigned, AreParts, LooksLikeObjectHash, Reads, updates, pushes_colon, pushes, deletes, pushes_to, push_excludes, pushed, fetched}
 use Rattle.gix_refspec.specs.Meaning.{Meaning, push_all_matching, push_delete, push_matching, push_exclude, fetch_and_update, meaning_of, text_of}
 use Rattle.gix_refspec.specs.Refusal.{PatternUnsupported, IsBadPattern, WantsMemory, ReachesMemory, MayWantMemory}
-use Rattle.gix_refspec.specs.Side.{pattern, full_name, object, partial, HasKind, filled}
+use Rattle.gix_refspec.specs.Side.{pattern, full_name, object, partial, HasKind, candidates, filled}
 use Rattle.gix_refspec.specs.Match.{Ref, Matches, MatchesAs}
 use Rattle.gix_refspec.proofs.TextLemmas.{Lacks-here}
 use Rattle.gix_refspec.proofs.SideLemmas.{HasSeveralStars-replaced}
@@ -223,6 +223,15 @@ id_matches = ((refl, inl refl), (refl, inr refl))
 pub other_id_differs : ¬ (MatchesAs (object (3 ∷ [])) tag None)
 other_id_differs (none, inl target) = first_byte 1 3 [] (λ same. omega (arith, same)) target
 other_id_differs (none, inr tagged) = first_byte 2 3 [] (λ same. omega (arith, same)) (some_once _ _ tagged)
+
+-- nor does a word stand for a star where an id or a partial name matches
+pub others_have_no_word : (word : List ℕ) → ¬ (MatchesAs (object (1 ∷ [])) tag (Some word)) × ¬ (MatchesAs (partial (codes "main")) (named (codes "main")) (Some word))
+others_have_no_word word = (λ matches. some_none word matches.0, λ matches. some_none word matches.0)
+
+-- the names that `main` may stand for, in the order of gitrevisions(7)
+pub candidates_of_main : candidates (codes "main")
+    ≡ codes "main" ∷ codes "refs/main" ∷ codes "refs/tags/main" ∷ codes "refs/heads/main" ∷ codes "refs/remotes/main" ∷ codes "refs/remotes/main/HEAD" ∷ []
+candidates_of_main = refl
 
 -- what stands behind the star of a pattern has no other star, nor what stands before it
 pub two_stars_no_pattern : ¬ (HasKind (codes "a*b*") (pattern (codes "a") (codes "b*"))) × ¬ (HasKind (codes "a*b*") (pattern (codes "a*b") []))
