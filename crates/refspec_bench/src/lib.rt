@@ -1,8 +1,10 @@
-//! What a benchmark calls to time matching within its own process.
+//! What a benchmark calls to time matching and validation within its own process.
 #![tactic(auto)]
 
 use bstr::BStr;
 use gix_refspec::match_group::Item;
+use gix_refspec::match_group::match_lhs::Outcome;
+use gix_refspec::match_group::validate::Refusal;
 use gix_refspec::oid::{Kind, ObjectId};
 use gix_refspec::parsing::Operation;
 use gix_refspec::{MatchGroup, parse};
@@ -28,6 +30,57 @@ pub extern "C" fn refspec_bench_match_lhs(
             *count = mappings;
             0
         }
+    }
+}
+
+/// As `refspec_bench_match_lhs`, but each outcome is validated too, and `count` is set to how many
+/// mappings were left, how many were removed, and how many conflicts there were, in all.
+#[unsafe(no_mangle)]
+pub extern "C" fn refspec_bench_plan(
+    alloc: Global,
+    specs: &[u8],
+    names: &[u8],
+    times: usize,
+    count: &mut usize,
+) -> u8 {
+    let target = ObjectId::null(Kind::Sha1);
+    match plan_often(alloc, specs, names, &target, times) {
+        None => 1,
+        Some(results) => {
+            *count = results;
+            0
+        }
+    }
+}
+
+// How many mappings were left or removed, and how many conflicts there were, in all.
+fn plan_often(
+    alloc: Global,
+    specs: &[u8],
+    names: &[u8],
+    target: &ObjectId,
+    times: usize,
+) -> Option<usize> {
+    let group = group_of(alloc, specs)?;
+    let items = items_of(alloc, names, target).ok()?;
+    let mut results: usize = 0;
+    for _ in 0..times {
+        let copy = group.clone(alloc).ok()?;
+        let outcome = copy.match_lhs(alloc, items.as_slice()).ok()?;
+        results = results.saturating_add(result_count(alloc, outcome)?);
+    }
+    Some(results)
+}
+
+// How many mappings a validation left or removed, or how many conflicts it found.
+fn result_count(alloc: Global, outcome: Outcome<'_, '_>) -> Option<usize> {
+    if !outcome.indexes_fit() {
+        return None;
+    }
+    match outcome.validated(alloc) {
+        Ok((rest, fixes)) => Some(rest.mappings.len().saturating_add(fixes.len())),
+        Err(Refusal::Conflicts(error)) => Some(error.issues.len()),
+        Err(Refusal::Memory(_)) => None,
     }
 }
 

@@ -1,5 +1,5 @@
 -- No room is asked for where nothing is mapped.
-use Rattle.std.proofs.Common.{◌≢◌, ℕ, [], map, sym, subst, arith}
+use Rattle.std.proofs.Common.{◌≢◌, [], map, sym, subst, arith}
 use Rattle.gix_refspec.specs.declared.match_group.util.ends.Direction.{Direction}
 use Rattle.gix_refspec.specs.Spec.{reading_of}
 use Rattle.gix_refspec.specs.Group.{ref_of}
