@@ -1,5 +1,5 @@
-//! Laws of the definitions, of specs at hand, and of comparisons. Each function has no effect: its
-//! contract states the law of what it is given.
+//! Laws of the definitions, of specs at hand, of comparisons and of clones. Each function has no
+//! effect: its contract states the law of what it is given.
 
 ghost use Rattle.std.specs.Prelude.{◌≡◌, ◌↔◌, map, option_map, IsTrue};
 ghost use Rattle.std.specs.Ordering.{nat_cmp};
