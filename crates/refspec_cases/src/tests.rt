@@ -1,4 +1,4 @@
-//! What a spec prints, and a writer with little room.
+//! What a spec prints, whether values are equal and hash alike, and a writer with little room.
 
 mod agreement;
 mod alike;
@@ -17,13 +17,33 @@ mod writing;
 
 use gix_refspec::RefSpecRef;
 use std::alloc::{AllocError, Global};
+use std::fmt::Debug;
+use std::hash::{DefaultHasher, Hash, Hasher};
 use std::io;
 use std::io::Write;
+use std::process::Abort;
 
 // What a spec prints.
 fn canonical(alloc: Global, spec: RefSpecRef<'_>) -> Result<String, AllocError> {
     let printed = spec.to_bstring(alloc)?;
     format!(in alloc; "{printed}")
+}
+
+// What a value hashes to.
+fn hash_of<T: Hash>(value: &T) -> u64 {
+    let mut state = DefaultHasher::new();
+    value.hash(&mut state);
+    state.finish()
+}
+
+// Whether two values are equal, and hash alike, or neither.
+fn check_equal<T: Hash + Debug>(rt: &impl Abort, a: &T, b: &T, wanted: bool) {
+    assert_eq!(rt; *a == *b, wanted, "at {a:?} and {b:?}");
+    assert_eq!(rt;
+        hash_of(a) == hash_of(b),
+        wanted,
+        "hashes at {a:?} and {b:?}"
+    );
 }
 
 // Takes one byte a call, and refuses the next where its room is used up.

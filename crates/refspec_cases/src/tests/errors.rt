@@ -48,6 +48,10 @@ fn prints_refusals(rt: HostRuntime) -> Result<(), Fail> {
             "Both sides of a two-sided specification need a pattern, like 'a/*:b/*'",
         ),
         (Error::ReferenceName(name::Error::LockSuffix), "LockSuffix"),
+        (
+            Error::ReferenceName(name::Error::InvalidByte { byte: b' ' }),
+            "InvalidByte",
+        ),
         (Error::Memory, "out of memory"),
     ];
     for (error, text) in cases {

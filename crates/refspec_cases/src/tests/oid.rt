@@ -1,5 +1,6 @@
 //! Ids from outside, what they print, how they are ordered, and which texts are refused.
 
+use super::check_equal;
 use gix_refspec::oid::{Error, Kind, ObjectId};
 use std::test::Fail;
 
@@ -135,10 +136,12 @@ fn compares_by_the_bytes_alone(rt: HostRuntime) -> Result<(), Fail> {
             let left = ObjectId::from_hex(low.as_bytes())?;
             let right = ObjectId::from_hex(high.as_bytes())?;
             assert_eq!(rt; left.cmp(&right), i.cmp(&j), "{low} and {high}");
+            check_equal(&rt, &left, &right, i == j);
         }
     }
     let upper = ObjectId::from_hex(UPPER_40.as_bytes())?;
-    assert_eq!(rt; upper, ObjectId::from_hex(LOWER_40.as_bytes())?);
+    let lower = ObjectId::from_hex(LOWER_40.as_bytes())?;
+    check_equal(&rt, &upper, &lower, true);
     Ok(())
 }
 

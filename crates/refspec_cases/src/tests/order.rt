@@ -1,32 +1,15 @@
 //! Which specs are equal, and in which order others stand.
 
-use super::canonical;
+use super::{canonical, check_equal};
 use bstr::BStr;
 use gix_refspec::parsing::Operation;
-use gix_refspec::{RefSpecRef, parse};
+use gix_refspec::{Instruction, RefSpecRef, parse};
 use std::alloc::{AllocError, Global};
 use std::cmp::Ordering;
 use std::fmt::Debug;
-use std::hash::{DefaultHasher, Hash, Hasher};
+use std::hash::Hash;
 use std::process::Abort;
 use std::test::Fail;
-
-// What a value hashes to.
-fn hash_of<T: Hash>(value: &T) -> u64 {
-    let mut state = DefaultHasher::new();
-    value.hash(&mut state);
-    state.finish()
-}
-
-// Whether two values are equal, and hash alike, or neither.
-fn check_equal<T: Hash + Debug>(rt: &impl Abort, a: &T, b: &T, wanted: bool) {
-    assert_eq!(rt; *a == *b, wanted, "at {a:?} and {b:?}");
-    assert_eq!(rt;
-        hash_of(a) == hash_of(b),
-        wanted,
-        "hashes at {a:?} and {b:?}"
-    );
-}
 
 // Whether two values compare so.
 fn check_order<T: Ord + Hash + Debug>(rt: &impl Abort, a: &T, b: &T, wanted: Ordering) {
@@ -46,6 +29,11 @@ fn check_specs(
 ) -> Result<(), AllocError> {
     check_order(rt, &a, &b, wanted);
     check_order(rt, &a.instruction(), &b.instruction(), wanted);
+    match (a.instruction(), b.instruction()) {
+        (Instruction::Push(a), Instruction::Push(b)) => check_order(rt, &a, &b, wanted),
+        (Instruction::Fetch(a), Instruction::Fetch(b)) => check_order(rt, &a, &b, wanted),
+        _ => {}
+    }
     let owned_a = a.to_owned(alloc)?;
     let owned_b = b.to_owned(alloc)?;
     check_order(rt, &owned_a, &owned_b, wanted);
@@ -66,18 +54,42 @@ fn puts_push_before_fetch(rt: HostRuntime) {
 fn rises_by_operation_kind_and_sides(rt: HostRuntime) -> Result<(), Fail> {
     let push = Operation::Push;
     let fetch = Operation::Fetch;
+    // The source is looked at before the destination, and the sign last. Sides rise byte by byte,
+    // whatever their lengths.
     let rows = [
         (push, ":"),
         (push, "+"),
+        (push, ":a"),
+        (push, ":aa"),
         (push, ":x"),
         (push, "a"),
         (push, "+a"),
+        (push, "a:aa"),
+        (push, "a:ab"),
         (push, "a:b"),
+        (push, "+a:b"),
+        (push, "aa:a"),
+        (push, "aa:b"),
+        (push, "b:a"),
+        (push, "é:a"),
         (push, "^a"),
+        (push, "^aa"),
+        (push, "^b"),
         (fetch, "a"),
+        (fetch, "aa"),
+        (fetch, "b"),
+        (fetch, "é"),
         (fetch, "^a"),
+        (fetch, "^aa"),
+        (fetch, "^b"),
+        (fetch, "a:aa"),
+        (fetch, "a:ab"),
         (fetch, "a:b"),
         (fetch, "+a:b"),
+        (fetch, "aa:a"),
+        (fetch, "aa:b"),
+        (fetch, "b:a"),
+        (fetch, "+b:a"),
     ];
     let alloc = rt.alloc();
     for (i, (operation, text)) in rows.iter().enumerate() {

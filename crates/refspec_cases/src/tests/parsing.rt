@@ -9,12 +9,15 @@ use std::alloc::{AllocError, Global};
 use std::process::Abort;
 use std::test::Fail;
 
-// `^` and hex digits: one less than an id of an object has, as many, and one more.
+// `^` and hex digits: one less than an id of an object has, as many, and one more. Then as many with
+// a destination.
 const DIGITS_39: &str = "^aaaaaaaaaaaaaaaaaaaaaaaaaaaaaaaaaaaaaaa";
 
 const DIGITS_40: &str = "^aaaaaaaaaaaaaaaaaaaaaaaaaaaaaaaaaaaaaaaa";
 
 const DIGITS_41: &str = "^aaaaaaaaaaaaaaaaaaaaaaaaaaaaaaaaaaaaaaaaa";
+
+const DIGITS_40_TO: &str = "^aaaaaaaaaaaaaaaaaaaaaaaaaaaaaaaaaaaaaaaa:b";
 
 const UPPER_40: &str = "^AAAAAAAAAAAAAAAAAAAAAAAAAAAAAAAAAAAAAAAA";
 
@@ -39,6 +42,28 @@ fn instruction_of<'a>(
 ) -> Result<Instruction<'a>, Error> {
     let spec = parse(alloc, text, operation)?;
     Ok(spec.instruction())
+}
+
+// What a spec tells of its sides.
+#[derive(Clone, Copy)]
+struct Sides<'a> {
+    source: Option<BStr<'a>>,
+    destination: Option<BStr<'a>>,
+    local: Option<BStr<'a>>,
+    remote: Option<BStr<'a>>,
+    prefix: Option<BStr<'a>>,
+}
+
+// The sides in a text. The spec ends with the call, and the text outlives it.
+fn sides_of<'a>(alloc: Global, text: BStr<'a>, operation: Operation) -> Result<Sides<'a>, Error> {
+    let spec = parse(alloc, text, operation)?;
+    Ok(Sides {
+        source: spec.source(),
+        destination: spec.destination(),
+        local: spec.local(),
+        remote: spec.remote(),
+        prefix: spec.prefix(),
+    })
 }
 
 // A spec with two equal sides: `refs/heads/`, as many `b` as asked for, a star and the end.
@@ -123,6 +148,28 @@ fn refuses_fetches(rt: HostRuntime) -> Result<(), Fail> {
         ("a*", "PatternUnbalanced"),
         ("a*:", "PatternUnbalanced"),
         ("refs/heads/*", "PatternUnbalanced"),
+        // Two reasons each. Several stars come before a bad name on the same side.
+        ("a..b**:c", "PatternUnsupported { pattern: \"a..b**\" }"),
+        ("a:b..c**", "PatternUnsupported { pattern: \"b..c**\" }"),
+        // The source comes before the destination.
+        ("a*b*:c*d*", "PatternUnsupported { pattern: \"a*b*\" }"),
+        ("a*b*:c..d", "PatternUnsupported { pattern: \"a*b*\" }"),
+        ("a..b:c*d*", "ReferenceName(RepeatedDot)"),
+        ("a*.lock:c*d*", "ReferenceName(LockSuffix)"),
+        ("a..b:c.lock", "ReferenceName(RepeatedDot)"),
+        ("a*.lock:c..d", "ReferenceName(LockSuffix)"),
+        // Both come before a star on one side alone.
+        ("a*b*", "PatternUnsupported { pattern: \"a*b*\" }"),
+        ("a*b*:", "PatternUnsupported { pattern: \"a*b*\" }"),
+        ("+a*b*:c", "PatternUnsupported { pattern: \"a*b*\" }"),
+        ("a:b*c*", "PatternUnsupported { pattern: \"b*c*\" }"),
+        (":b*c*", "PatternUnsupported { pattern: \"b*c*\" }"),
+        ("a*.lock", "ReferenceName(LockSuffix)"),
+        ("+a*.lock:b", "ReferenceName(LockSuffix)"),
+        ("a..b:c*", "ReferenceName(RepeatedDot)"),
+        ("a:b*.lock", "ReferenceName(LockSuffix)"),
+        (":b*.lock", "ReferenceName(LockSuffix)"),
+        ("a*:b..c", "ReferenceName(RepeatedDot)"),
     ];
     check_rows(&rt, rt.alloc(), Operation::Fetch, &rows)?;
     Ok(())
@@ -138,6 +185,31 @@ fn refuses_pushes(rt: HostRuntime) -> Result<(), Fail> {
         (":*.lock", "ReferenceName(LockSuffix)"),
         (":a*", "PatternUnbalanced"),
         ("x:a*", "PatternUnbalanced"),
+        // Two reasons each. No destination comes before what is wrong with the source.
+        ("+a*b*:", "PushToEmpty"),
+        ("a..b*:", "PushToEmpty"),
+        ("a*.lock:", "PushToEmpty"),
+        ("a..b:", "PushToEmpty"),
+        ("a*:", "PushToEmpty"),
+        // Several stars come before a bad name on the same side.
+        ("a..b**", "PatternUnsupported { pattern: \"a..b**\" }"),
+        ("a..b**:c*", "PatternUnsupported { pattern: \"a..b**\" }"),
+        ("a:b..c**", "PatternUnsupported { pattern: \"b..c**\" }"),
+        // The source comes before the destination.
+        ("a*b*:c*d*", "PatternUnsupported { pattern: \"a*b*\" }"),
+        ("a*b*:c..d", "PatternUnsupported { pattern: \"a*b*\" }"),
+        ("a*.lock:c*d*", "ReferenceName(LockSuffix)"),
+        ("a*.lock:c..d", "ReferenceName(LockSuffix)"),
+        // Both come before a star on one side alone.
+        ("+a*b*:c", "PatternUnsupported { pattern: \"a*b*\" }"),
+        ("a:b*c*", "PatternUnsupported { pattern: \"b*c*\" }"),
+        ("+a*.lock:b", "ReferenceName(LockSuffix)"),
+        ("a:b*.lock", "ReferenceName(LockSuffix)"),
+        ("a*:b..c", "ReferenceName(RepeatedDot)"),
+        // A source without a star need not be a name where there is a destination.
+        ("a..b:c*d*", "PatternUnsupported { pattern: \"c*d*\" }"),
+        ("a..b:c.lock", "ReferenceName(LockSuffix)"),
+        ("a..b:c*", "PatternUnbalanced"),
     ];
     check_rows(&rt, rt.alloc(), Operation::Push, &rows)?;
     Ok(())
@@ -157,7 +229,28 @@ fn answers_both_operations_alike(rt: HostRuntime) -> Result<(), Fail> {
         ("^x:y", "NegativeWithDestination"),
         ("^a..b", "ReferenceName(RepeatedDot)"),
         ("+^x", "ReferenceName(InvalidByte { byte: 94 })"),
+        ("a\x07b", "ReferenceName(InvalidByte { byte: 7 })"),
         ("a\tb", "ReferenceName(InvalidByte { byte: 9 })"),
+        ("a\x0bb", "ReferenceName(InvalidByte { byte: 11 })"),
+        ("a\x1eb", "ReferenceName(InvalidByte { byte: 30 })"),
+        ("^a\"b", "^a\"b"),
+        ("a\"b:\"c", "a\"b:\"c"),
+        // Two reasons each. A destination of a negative spec comes before all else.
+        ("^:", "NegativeWithDestination"),
+        ("^:b", "NegativeWithDestination"),
+        ("^a:", "NegativeWithDestination"),
+        (DIGITS_40_TO, "NegativeWithDestination"),
+        ("^a*b*:c", "NegativeWithDestination"),
+        ("^a..b:c", "NegativeWithDestination"),
+        ("^a*.lock:c", "NegativeWithDestination"),
+        ("^a:b*c*", "NegativeWithDestination"),
+        ("^a:b..c", "NegativeWithDestination"),
+        ("^a*:b", "NegativeWithDestination"),
+        ("^a..b**", "PatternUnsupported { pattern: \"a..b**\" }"),
+        ("^a*b*", "PatternUnsupported { pattern: \"a*b*\" }"),
+        ("^a*.lock", "ReferenceName(LockSuffix)"),
+        // Without a destination no side is wanting its star.
+        ("^a*", "^a*"),
     ];
     check_rows(&rt, rt.alloc(), Operation::Fetch, &rows)?;
     check_rows(&rt, rt.alloc(), Operation::Push, &rows)?;
@@ -288,6 +381,15 @@ fn sides_outlive_the_spec(rt: HostRuntime) -> Result<(), Fail> {
     };
     assert_eq!(rt; src, BStr::new(b"main"));
     assert_eq!(rt; dst, BStr::new(b"topic"));
+    let text = BStr::new(b"refs/tags/*:refs/heads/*");
+    let sides = sides_of(rt.alloc(), text, Operation::Push)?;
+    let tags = Some(BStr::new(b"refs/tags/*"));
+    let heads = Some(BStr::new(b"refs/heads/*"));
+    assert_eq!(rt; sides.source, tags);
+    assert_eq!(rt; sides.destination, heads);
+    assert_eq!(rt; sides.local, tags);
+    assert_eq!(rt; sides.remote, heads);
+    assert_eq!(rt; sides.prefix, Some(BStr::new(b"refs/heads/")));
     Ok(())
 }
 

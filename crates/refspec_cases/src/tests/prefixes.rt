@@ -10,7 +10,30 @@ use std::test::Fail;
 
 const ID: &str = "aaaaaaaaaaaaaaaaaaaaaaaaaaaaaaaaaaaaaaaa";
 
+const ID_UPPER: &str = "AAAAAAAAAAAAAAAAAAAAAAAAAAAAAAAAAAAAAAAA";
+
+const ID_MIXED: &str = "0123456789abcdefABCDEF0123456789abcdefAB";
+
+const ID_64: &str = "0123456789abcdef0123456789abcdef0123456789abcdef0123456789abcdef";
+
+const ID_64_UPPER: &str = "FFFFFFFFFFFFFFFFFFFFFFFFFFFFFFFFFFFFFFFFFFFFFFFFFFFFFFFFFFFFFFFF";
+
 const ID_PUSHED: &str = "main:aaaaaaaaaaaaaaaaaaaaaaaaaaaaaaaaaaaaaaaa";
+
+const ID_PUSHED_UPPER: &str = "main:FFFFFFFFFFFFFFFFFFFFFFFFFFFFFFFFFFFFFFFF";
+
+const ID_64_PUSHED: &str = "main:ffffffffffffffffffffffffffffffffffffffffffffffffffffffffffffffff";
+
+// What is nearly an id, and the names that it may be short for.
+const DIGITS_41: &str = "11111111111111111111111111111111111111111";
+
+const CANDIDATES_41: &str =
+    "11111111111111111111111111111111111111111\nrefs/11111111111111111111111111111111111111111\nrefs/tags/11111111111111111111111111111111111111111\nrefs/heads/11111111111111111111111111111111111111111\nrefs/remotes/11111111111111111111111111111111111111111\nrefs/remotes/11111111111111111111111111111111111111111/HEAD\n";
+
+const NO_DIGIT: &str = "aaaaaaaaaaaaaaaaaaaaaaaaaaaaaaaaaaaaaaag";
+
+const CANDIDATES_NO_DIGIT: &str =
+    "aaaaaaaaaaaaaaaaaaaaaaaaaaaaaaaaaaaaaaag\nrefs/aaaaaaaaaaaaaaaaaaaaaaaaaaaaaaaaaaaaaaag\nrefs/tags/aaaaaaaaaaaaaaaaaaaaaaaaaaaaaaaaaaaaaaag\nrefs/heads/aaaaaaaaaaaaaaaaaaaaaaaaaaaaaaaaaaaaaaag\nrefs/remotes/aaaaaaaaaaaaaaaaaaaaaaaaaaaaaaaaaaaaaaag\nrefs/remotes/aaaaaaaaaaaaaaaaaaaaaaaaaaaaaaaaaaaaaaag/HEAD\n";
 
 // What the entries are, one a line.
 fn lines(alloc: Global, entries: &[BString]) -> Result<String, AllocError> {
@@ -82,7 +105,24 @@ fn asks_for_a_fetch(rt: HostRuntime) -> Result<(), Fail> {
             "*\nrefs/*\nrefs/tags/*\nrefs/heads/*\nrefs/remotes/*\nrefs/remotes/*/HEAD\n",
         ),
         (ID, None, ""),
+        (ID_UPPER, None, ""),
+        (ID_MIXED, None, ""),
+        (ID_64, None, ""),
+        (ID_64_UPPER, None, ""),
+        // One digit too many, and a letter that is no digit.
+        (DIGITS_41, None, CANDIDATES_41),
+        (NO_DIGIT, None, CANDIDATES_NO_DIGIT),
+        // Quotes may stand in a name.
+        (
+            "refs/heads/\"x\"",
+            Some("refs/heads/\"x\""),
+            "refs/heads/\"x\"\n",
+        ),
+        ("", Some("HEAD"), "HEAD\n"),
+        (":x", Some("HEAD"), "HEAD\n"),
         ("^main", None, ""),
+        ("^refs/heads/main", None, ""),
+        ("^refs/heads/*", None, ""),
     ];
     check_rows(&rt, rt.alloc(), Operation::Fetch, &rows)?;
     Ok(())
@@ -99,6 +139,36 @@ fn asks_for_a_push(rt: HostRuntime) -> Result<(), Fail> {
         ("main", None, ""),
         (":", None, ""),
         (ID_PUSHED, None, ""),
+        (ID_PUSHED_UPPER, None, ""),
+        (ID_64_PUSHED, None, ""),
+        // The source of a push is not asked for.
+        ("main:HEAD", Some("HEAD"), "HEAD\n"),
+        (":HEAD", Some("HEAD"), "HEAD\n"),
+        ("HEAD:refs/heads/x", Some("refs/heads/x"), "refs/heads/x\n"),
+        (":refs/heads/x", Some("refs/heads/x"), "refs/heads/x\n"),
+        ("HEAD", None, ""),
+        (
+            "refs/heads/*:refs/remotes/origin/*",
+            Some("refs/remotes/origin/"),
+            "refs/remotes/origin/\n",
+        ),
+        ("a*:refs/x*/b", Some("refs/x"), "refs/x\n"),
+        ("refs/heads/*:refs/*", None, "refs/*\n"),
+        ("refs/heads/*:refs/a]*", None, "refs/a]*\n"),
+        ("refs/heads/*:refs/a]/*", None, ""),
+        (
+            "refs/a]*:refs/heads/*",
+            Some("refs/heads/"),
+            "refs/heads/\n",
+        ),
+        (
+            "refs/heads/*:*",
+            None,
+            "*\nrefs/*\nrefs/tags/*\nrefs/heads/*\nrefs/remotes/*\nrefs/remotes/*/HEAD\n",
+        ),
+        ("refs/heads/*", None, ""),
+        ("^HEAD", None, ""),
+        ("^refs/heads/*", None, ""),
     ];
     check_rows(&rt, rt.alloc(), Operation::Push, &rows)?;
     Ok(())
