@@ -1,6 +1,6 @@
 -- What a matching command writes: a line for each mapping that is kept. The form of the line is this
 -- project's own rule.
-use Rattle.std.specs.Prelude.{◌≡◌, ℕ, List, [], ◌∷◌, ◌++◌, Option, None, Some, codes, decimal}
+use Rattle.std.specs.Prelude.{◌≡◌, ℕ, Bool, false, List, [], ◌∷◌, ◌++◌, Option, None, Some, codes, decimal}
 use Rattle.std.specs.List.{AllZip, flat_map}
 use Rattle.gix_refspec.specs.ObjectId.{lower_of}
 use Rattle.gix_refspec.specs.Reading.{Reading}
@@ -33,12 +33,17 @@ destination_text (Some d) = tab ∷ d
 abbrev pub map_line : Mapped → List ℕ
 map_line m = codes "map\t" ++ (decimal m.spec ++ (tab ∷ (item_text m.item ++ (tab ∷ (source_text m.source ++ (destination_text m.destination ++ (newline ∷ [])))))))
 
--- the output for an input whose lines all give something: a line for each mapping that is kept
-pub record IsMatching (AreKept : List Reading → List Ref → List Mapped → Type 0) (input output : List ℕ) : Type 0 where
+-- the output for the specs and refs of an input: a line for each mapping that is kept, and nothing is refused
+pub record AreMapLines (AreKept : List Reading → List Ref → List Mapped → Type 0) (g : List Reading) (items : List Ref) (output : List ℕ) (refusal : Bool) : Type 0 where
+  pub mappings : List Mapped
+  pub kept : AreKept g items mappings
+  pub written : output ≡ flat_map map_line mappings
+  pub tells : refusal ≡ false
+
+-- each line of the input gives something, and of these specs and refs the output is what Writes says
+pub record IsMatching (Writes : List Reading → List Ref → List ℕ → Bool → Type 0) (input output : List ℕ) (refusal : Bool) : Type 0 where
   pub lines : List (List ℕ)
   pub entries : List Entry
-  pub mappings : List Mapped
   pub cut : AreLines lines input
   pub given : AllZip Gives lines entries
-  pub kept : AreKept (readings_in entries) (refs_in entries) mappings
-  pub written : output ≡ flat_map map_line mappings
+  pub is : Writes (readings_in entries) (refs_in entries) output refusal

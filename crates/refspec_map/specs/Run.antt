@@ -1,5 +1,5 @@
 -- What a run of a command does to its reader and its writer.
-use Rattle.std.specs.Prelude.{◌≡◌, ℕ, Bool, false, List, Option, if◌then◌else◌, ⊤}
+use Rattle.std.specs.Prelude.{◌≡◌, ℕ, Bool, List, Option, if◌then◌else◌, ⊤}
 use Rattle.std.specs.Io.KnownBytes.{Appends, Keeps}
 use Rattle.gix_refspec.specs.declared.parsing.Operation.TheVariants.{Push, Fetch}
 use Rattle.refspec_map.specs.declared.command.Command.{Command}
@@ -9,15 +9,17 @@ use Rattle.refspec_map.specs.declared.fault.Fault.TheVariants as fault
 use Rattle.gix_refspec.specs.Hits.{AreKeptForward, AreKeptBackward}
 use Rattle.refspec_map.specs.Input.{IsTooLong, ReadsToEnd}
 use Rattle.refspec_map.specs.Line.{IsFirstFault}
-use Rattle.refspec_map.specs.Matching.{IsMatching}
+use Rattle.refspec_map.specs.Matching.{AreMapLines, IsMatching}
 use Rattle.refspec_map.specs.Output.{IsCanon}
+use Rattle.refspec_map.specs.Plan.{IsPlan}
 
--- the output of a command for an input, and whether some line is refused
+-- the output of a command for an input, and whether a line or the plan is refused
 abbrev pub IsOutput : Command → List ℕ → List ℕ → Bool → Type 0
 IsOutput command.CanonFetch input output refusal = IsCanon Fetch input output refusal
 IsOutput command.CanonPush input output refusal = IsCanon Push input output refusal
-IsOutput command.Lhs input output refusal = IsMatching AreKeptForward input output × (refusal ≡ false)
-IsOutput command.Rhs input output refusal = IsMatching AreKeptBackward input output × (refusal ≡ false)
+IsOutput command.Lhs input output refusal = IsMatching (AreMapLines AreKeptForward) input output refusal
+IsOutput command.Rhs input output refusal = IsMatching (AreMapLines AreKeptBackward) input output refusal
+IsOutput command.Plan input output refusal = IsMatching IsPlan input output refusal
 
 -- what is wrong with an input: the fault of the first bad line. A canon command takes every line
 abbrev pub IsBad : Command → List ℕ → Fault → Type 0
@@ -25,6 +27,7 @@ IsBad command.CanonFetch input f = ⊥
 IsBad command.CanonPush input f = ⊥
 IsBad command.Lhs input f = IsFirstFault input f
 IsBad command.Rhs input f = IsFirstFault input f
+IsBad command.Plan input f = IsFirstFault input f
 
 -- the input was read to its end, and its output was written
 pub record Answers (command : Command) (reader_old reader_new writer_old writer_new : Option (List ℕ)) (status : ℕ) : Type 0 where

@@ -5,6 +5,7 @@ ghost use Rattle.gix_refspec.specs.Refusal.{Refusal};
 ghost use Rattle.gix_refspec.specs.Views.{IsShownAs};
 ghost use Rattle.refspec_map.specs.Fault.{name_of, status_of};
 
+use gix_refspec::match_group::NoRoom;
 use gix_refspec::parsing::Error;
 use std::{error, fmt};
 
@@ -56,6 +57,16 @@ impl fmt::Display for Fault {
 }
 
 impl error::Error for Fault {}
+
+impl<'a> From<NoRoom<'a>> for Fault {
+    ghost use Rattle.refspec_map.specs.Fault.{IsMemory};
+
+    ghost from_gives = { λ _ fault. IsMemory fault };
+
+    fn from(_: NoRoom<'a>) -> Fault {
+        Fault::Memory
+    }
+}
 
 /// The name of a refusal, alone.
 pub(crate) fn variant_name(error: &Error) -> &'static str

@@ -1,5 +1,5 @@
 //! Reads refspecs, one a line, and prints their canonical texts; or reads refspecs and refs, and
-//! prints what the specs map.
+//! prints what the specs map, or what of it can be written.
 #![tactic(auto)]
 
 mod canon;
@@ -9,6 +9,7 @@ mod input;
 mod line;
 mod matching;
 mod output;
+mod plan;
 mod run;
 
 use crate::command::Command;
@@ -59,6 +60,7 @@ fn command_of(words: &[String]) -> Option<Command> {
         [only] => match only.as_str() {
             "lhs" => Some(Command::Lhs),
             "rhs" => Some(Command::Rhs),
+            "plan" => Some(Command::Plan),
             _ => None,
         },
         _ => None,

@@ -2,44 +2,53 @@
 
 ghost use Rattle.std.specs.Prelude.{◌≡◌, ◌⊎◌, map, IfOk, IfErr};
 ghost use Rattle.gix_refspec.specs.Group.{ref_of};
-ghost use Rattle.gix_refspec.specs.Hits.{AreKeptBackward, AreKeptForward};
 ghost use Rattle.refspec_map.specs.Fault.{IsMemory};
 ghost use Rattle.refspec_map.specs.Line.{IsFirstFault};
 ghost use Rattle.refspec_map.specs.Matching.{IsMatching};
-ghost use Rattle.refspec_map.specs.Told.{told};
+ghost use Rattle.refspec_map.specs.Told.{IsOutputOf, told};
 
 use crate::fault::Fault;
 use crate::line::{Entries, ToldRef, push};
 use crate::output::mapping_lines;
+use crate::plan::plan;
 use gix_refspec::MatchGroup;
 use gix_refspec::match_group::Item;
 use std::alloc::Global;
 
-/// The lines of the mappings that the left sides of the specs give.
-pub(crate) fn lhs(alloc: Global, input: &[u8]) -> Result<Vec<u8>, Fault>
-    ensures ok { IfOk result (λ output. IsMatching AreKeptForward input.now output.items) }
-    ensures err { IfErr result (λ f. IsMemory f ⊎ IsFirstFault input.now f) }
-{
-    let Entries { specs, refs } = Entries::read(alloc, input)?;
-    let items = items_of(alloc, refs.as_slice())?;
-    let group = MatchGroup { specs };
-    match group.match_lhs(alloc, items.as_slice()) {
-        Ok(outcome) => mapping_lines(alloc, outcome.mappings.as_slice()),
-        Err(_) => Err(Fault::Memory),
-    }
+/// A command that matches.
+#[derive(Clone, Copy)]
+pub(crate) enum Matching {
+    /// Writes what the left sides match.
+    Lhs,
+    /// Writes what the right sides match.
+    Rhs,
+    /// Writes what of the first can be written.
+    Plan,
 }
 
-/// The lines of the mappings that the right sides of the specs give.
-pub(crate) fn rhs(alloc: Global, input: &[u8]) -> Result<Vec<u8>, Fault>
-    ensures ok { IfOk result (λ output. IsMatching AreKeptBackward input.now output.items) }
+/// The output of a matching command, and whether it is a plan with conflicts.
+pub(crate) fn matched(
+    alloc: Global,
+    command: Matching,
+    input: &[u8],
+) -> Result<(Vec<u8>, bool), Fault>
+    ensures ok { IfOk result (λ made.
+        IsMatching (IsOutputOf command) input.now made.0.items made.1) }
     ensures err { IfErr result (λ f. IsMemory f ⊎ IsFirstFault input.now f) }
 {
     let Entries { specs, refs } = Entries::read(alloc, input)?;
     let items = items_of(alloc, refs.as_slice())?;
     let group = MatchGroup { specs };
-    match group.match_rhs(alloc, items.as_slice()) {
-        Ok(outcome) => mapping_lines(alloc, outcome.mappings.as_slice()),
-        Err(_) => Err(Fault::Memory),
+    match command {
+        Matching::Lhs => {
+            let outcome = group.match_lhs(alloc, items.as_slice())?;
+            Ok((mapping_lines(alloc, outcome.mappings.as_slice())?, false))
+        }
+        Matching::Rhs => {
+            let outcome = group.match_rhs(alloc, items.as_slice())?;
+            Ok((mapping_lines(alloc, outcome.mappings.as_slice())?, false))
+        }
+        Matching::Plan => plan(alloc, group, items.as_slice()),
     }
 }
 

@@ -1,14 +1,19 @@
 //! The lines of the output.
 
-ghost use Rattle.std.specs.Prelude.{◌≡◌, ◌++◌, map, option_map, IfErr, IfOk, OnOk};
-ghost use Rattle.std.specs.List.{flat_map};
+ghost use Rattle.std.specs.Prelude.{◌≡◌, ◌++◌, map, option_map, IfErr, IfOk, IsOk, OnOk};
+ghost use Rattle.std.specs.List.{flat_map, zip};
+ghost use Rattle.bstr.specs.Owned.{bstring_bytes};
 ghost use Rattle.gix_refspec.specs.Group.{mapped_of, name_bytes, start_of};
+ghost use Rattle.gix_refspec.specs.Issue.{conflict_of, removed_of};
 ghost use Rattle.refspec_map.specs.Fault.{IsMemory};
 ghost use Rattle.refspec_map.specs.Matching.{destination_text, item_text, map_line, source_text};
+ghost use Rattle.refspec_map.specs.Plan.{PutsFix, PutsFixes, claim_text, conflict_line};
 
 use crate::fault::Fault;
+use bstr::BString;
 use gix_refspec::RefSpecRef;
-use gix_refspec::match_group::{Mapping, NameRef, SourceRef};
+use gix_refspec::match_group::validate::{Fix, Issue};
+use gix_refspec::match_group::{Mapping, NameRef, Source, SourceRef};
 use std::alloc::Global;
 use std::io;
 use std::io::Write;
@@ -38,11 +43,7 @@ impl<'a> Answer<'a> {
         ensures ok { OnOk result (PutsLine self.now output.old.items output.new.items) }
         ensures err { IfErr result IsMemory }
     {
-        // A vector that is written to fails for want of memory alone.
-        match self.write_to(output) {
-            Ok(()) => Ok(()),
-            Err(_) => Err(Fault::Memory),
-        }
+        grown(self.write_to(output))
     }
 
     // Writes the answer as a line.
@@ -71,19 +72,42 @@ pub(crate) fn mapping_lines(alloc: Global, mappings: &[Mapping<'_, '_>]) -> Resu
 {
     let mut lines = Vec::new(alloc);
     for mapping in mappings {
-        put_mapping(&mut lines, mapping)?;
+        grown(write_mapping(&mut lines, mapping))?;
     }
     Ok(lines)
 }
 
-// Appends the line of a mapping.
-fn put_mapping(output: &mut Vec<u8>, mapping: &Mapping<'_, '_>) -> Result<(), Fault>
-    ensures ok { OnOk result (output.new.items ≡
-        output.old.items ++ map_line (mapped_of mapping.now)) }
+/// The lines of conflicts, in order.
+pub(crate) fn conflict_lines(alloc: Global, issues: &[Issue]) -> Result<Vec<u8>, Fault>
+    ensures ok { IfOk result (λ lines.
+        lines.items ≡ flat_map conflict_line (map conflict_of issues.now)) }
     ensures err { IfErr result IsMemory }
 {
-    // A vector that is written to fails for want of memory alone.
-    match write_mapping(output, mapping) {
+    let mut lines = Vec::new(alloc);
+    for issue in issues {
+        grown(write_conflict(&mut lines, issue))?;
+    }
+    Ok(lines)
+}
+
+/// Appends the lines of fixes, in order.
+pub(crate) fn put_fixes(output: &mut Vec<u8>, fixes: &[Fix]) -> Result<(), Fault>
+    ensures ok { OnOk result (PutsFixes
+        (map removed_of fixes.now) output.old.items output.new.items) }
+    ensures err { IfErr result IsMemory }
+{
+    for fix in fixes {
+        grown(write_fix(output, fix))?;
+    }
+    Ok(())
+}
+
+// How writing to a vector ended: it fails for want of memory alone.
+fn grown(written: io::Result<()>) -> Result<(), Fault>
+    ensures ok { OnOk result (IsOk written.entry) }
+    ensures err { IfErr result IsMemory }
+{
+    match written {
         Ok(()) => Ok(()),
         Err(_) => Err(Fault::Memory),
     }
@@ -135,4 +159,46 @@ fn write_destination(output: &mut Vec<u8>, destination: &Option<NameRef<'_>>) ->
         }
         None => Ok(()),
     }
+}
+
+// Writes the line of a conflict.
+fn write_conflict(output: &mut Vec<u8>, issue: &Issue) -> io::Result<()>
+    ensures { OnOk result (output.new.items ≡
+        output.old.items ++ conflict_line (conflict_of issue.now)) }
+{
+    let Issue::Conflict {
+        destination_full_ref_name,
+        sources,
+        specs,
+    } = issue;
+    output.write_all(b"conflict\t")?;
+    output.write_all(destination_full_ref_name.as_bytes())?;
+    write_claims(output, sources.as_slice(), specs.as_slice())?;
+    output.write_all(b"\n")
+}
+
+// Writes sources and the texts of their specs, with a tab before each.
+fn write_claims(output: &mut Vec<u8>, sources: &[Source], specs: &[BString]) -> io::Result<()>
+    ensures { OnOk result (output.new.items ≡ output.old.items
+        ++ flat_map claim_text (zip (map start_of sources.now) (map bstring_bytes specs.now))) }
+{
+    for (source, spec) in sources.iter().zip(specs) {
+        output.write_all(b"\t")?;
+        write_source(output, source)?;
+        output.write_all(b"\t")?;
+        output.write_all(spec.as_bytes())?;
+    }
+    Ok(())
+}
+
+// Writes the line of a fix.
+fn write_fix(output: &mut Vec<u8>, fix: &Fix) -> io::Result<()>
+    ensures { OnOk result (PutsFix (removed_of fix.now) output.old.items output.new.items) }
+{
+    let Fix::MappingWithPartialDestinationRemoved { name, spec } = fix;
+    output.write_all(b"fix\t")?;
+    output.write_all(name.as_bytes())?;
+    output.write_all(b"\t")?;
+    spec.to_ref().write_to(output)?;
+    output.write_all(b"\n")
 }

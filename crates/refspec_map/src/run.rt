@@ -9,13 +9,14 @@ use crate::canon::canon;
 use crate::command::Command;
 use crate::fault::Fault;
 use crate::input::read_input;
-use crate::matching::{lhs, rhs};
+use crate::matching::{Matching, matched};
 use gix_refspec::parsing::Operation;
 use std::alloc::Global;
 use std::io::{Read, Write};
 
 /// Reads the input to its end, and writes the output of the command for it, by one `write_all` and
-/// one `flush`. Returns the status: 1 where a canon command refuses some line, else 0.
+/// one `flush`. Returns the status: 1 where a canon command refuses some line, or a plan has
+/// conflicts, else 0.
 ///
 /// - `Fault::TooLong` comes as soon as more than 1,048,576 bytes are read.
 /// - `Fault::Read` comes at the first read that fails. One that was interrupted isn't tried again.
@@ -50,7 +51,7 @@ pub fn run<R: Read, W: Write>(
     Ok(u8::from(refusal))
 }
 
-// The output of a command for an input, and whether some line is refused.
+// The output of a command for an input, and whether some line is refused or a plan has conflicts.
 fn output_of(alloc: Global, command: Command, input: &[u8]) -> Result<(Vec<u8>, bool), Fault>
     ensures ok { IfOk result (λ made. IsOutput command input.now made.0.items made.1) }
     ensures err { IfErr result (λ f. IsMemory f ⊎ IsBad command input.now f) }
@@ -58,8 +59,9 @@ fn output_of(alloc: Global, command: Command, input: &[u8]) -> Result<(Vec<u8>, 
     match command {
         Command::CanonFetch => canon(alloc, Operation::Fetch, input),
         Command::CanonPush => canon(alloc, Operation::Push, input),
-        Command::Lhs => Ok((lhs(alloc, input)?, false)),
-        Command::Rhs => Ok((rhs(alloc, input)?, false)),
+        Command::Lhs => matched(alloc, Matching::Lhs, input),
+        Command::Rhs => matched(alloc, Matching::Rhs, input),
+        Command::Plan => matched(alloc, Matching::Plan, input),
     }
 }
 

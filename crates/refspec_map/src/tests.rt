@@ -4,6 +4,7 @@ mod canon;
 mod devices;
 mod faults;
 mod matching;
+mod plan;
 mod words;
 
 use crate::command::Command;

@@ -22,10 +22,11 @@ fn filled(alloc: Global, row: &str) -> Result<Vec<u8>, AllocError> {
     Ok(input)
 }
 
-// Runs a command on the inputs of rows, and compares what it wrote.
-fn check_output<R: Abort + AllocGlobal>(
+// Runs a command on the inputs of rows, and compares what it wrote and the status.
+pub(super) fn check_output<R: Abort + AllocGlobal>(
     rt: &R,
     command: Command,
+    wanted_status: u8,
     rows: &[(&str, &str)],
 ) -> Result<(), Fail> {
     for (row, wanted) in rows {
@@ -36,7 +37,7 @@ fn check_output<R: Abort + AllocGlobal>(
             BStr::new(wanted.as_bytes()),
             "at {row:?}"
         );
-        assert_eq!(rt; status, 0, "at {row:?}");
+        assert_eq!(rt; status, wanted_status, "at {row:?}");
     }
     Ok(())
 }
@@ -96,7 +97,7 @@ fn maps_from_left_to_right(rt: HostRuntime) -> Result<(), Fail> {
             "map\t0\t0\t refs/x\trefs/x/ refs/x\nmap\t0\t1\t\trefs/x/\n",
         ),
     ];
-    check_output(&rt, Command::Lhs, rows.as_slice())
+    check_output(&rt, Command::Lhs, 0, rows.as_slice())
 }
 
 #[test]
@@ -119,7 +120,7 @@ fn maps_from_right_to_left(rt: HostRuntime) -> Result<(), Fail> {
         ),
         ("spec main\nref $ refs/heads/main\n", ""),
     ];
-    check_output(&rt, Command::Rhs, rows.as_slice())
+    check_output(&rt, Command::Rhs, 0, rows.as_slice())
 }
 
 #[test]
@@ -156,5 +157,6 @@ fn ends_at_the_first_bad_line(rt: HostRuntime) -> Result<(), Fail> {
         ),
     ];
     check_faults(&rt, Command::Lhs, rows.as_slice())?;
-    check_faults(&rt, Command::Rhs, rows.as_slice())
+    check_faults(&rt, Command::Rhs, rows.as_slice())?;
+    check_faults(&rt, Command::Plan, rows.as_slice())
 }

@@ -21,6 +21,7 @@ fn names_the_commands(rt: HostRuntime) -> Result<(), Fail> {
         (["canon", "push"].as_slice(), Some(Command::CanonPush)),
         (["lhs"].as_slice(), Some(Command::Lhs)),
         (["rhs"].as_slice(), Some(Command::Rhs)),
+        (["plan"].as_slice(), Some(Command::Plan)),
         ([].as_slice(), None),
         (["canon"].as_slice(), None),
         (["canon fetch"].as_slice(), None),
@@ -38,6 +39,10 @@ fn names_the_commands(rt: HostRuntime) -> Result<(), Fail> {
         (["rhs", "lhs"].as_slice(), None),
         (["canon", "rhs"].as_slice(), None),
         ([" rhs"].as_slice(), None),
+        (["Plan"].as_slice(), None),
+        (["plan", "lhs"].as_slice(), None),
+        (["canon", "plan"].as_slice(), None),
+        (["plans"].as_slice(), None),
     ];
     for (words, command) in rows {
         assert_eq!(rt; named(rt.alloc(), words)?, command, "at {words:?}");

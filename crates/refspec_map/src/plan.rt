@@ -1,0 +1,39 @@
+//! What a fetch can write of what its specs match, or why it can write nothing.
+
+ghost use Rattle.std.specs.Prelude.{map, IfOk, IfErr};
+ghost use Rattle.gix_refspec.specs.Group.{readings_of, ref_of};
+ghost use Rattle.refspec_map.specs.Fault.{IsMemory};
+ghost use Rattle.refspec_map.specs.Plan.{IsPlan};
+
+use crate::fault::Fault;
+use crate::output::{conflict_lines, mapping_lines, put_fixes};
+use gix_refspec::match_group::Item;
+use gix_refspec::match_group::validate::Refusal;
+use gix_refspec::{MatchGroup, laws};
+use std::alloc::Global;
+
+/// The lines of the conflicts of what the left sides match, and true; or, without conflicts, those of
+/// the mappings that survive and of the fixes, and false.
+pub(crate) fn plan(
+    alloc: Global,
+    group: MatchGroup<'_>,
+    items: &[Item<'_>],
+) -> Result<(Vec<u8>, bool), Fault>
+    ensures ok { IfOk result (λ made. IsPlan
+        (readings_of group.entry) (map ref_of items.now) made.0.items made.1) }
+    ensures err { IfErr result IsMemory }
+{
+    let outcome = group.match_lhs(alloc, items)?;
+    laws::forward_fits(&outcome.group, items);
+    match outcome.validated(alloc) {
+        Ok((valid, fixes)) => {
+            let mut lines = mapping_lines(alloc, valid.mappings.as_slice())?;
+            put_fixes(&mut lines, fixes.as_slice())?;
+            Ok((lines, false))
+        }
+        Err(Refusal::Conflicts(error)) => {
+            Ok((conflict_lines(alloc, error.issues.as_slice())?, true))
+        }
+        Err(Refusal::Memory(_)) => Err(Fault::Memory),
+    }
+}
