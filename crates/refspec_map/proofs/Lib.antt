@@ -4,3 +4,4 @@ pub mod InputLemmas
 pub mod LineLemmas
 pub mod MatchingLemmas
 pub mod OutputLemmas
+pub mod PlanLemmas

@@ -1,13 +1,20 @@
 -- Items and lines that are made one after another.
-use Rattle.std.proofs.Common.{◌≡◌, ℕ, ◌+◌, ◌<◌, List, [], ◌∷◌, ◌++◌, map, flat_map, length, take, get_or, sym, ap, ◌∙◌}
+use Rattle.std.proofs.Common.{◌≡◌, ℕ, ◌+◌, ◌<◌, Bool, false, List, [], ◌∷◌, ◌++◌, map, flat_map, length, take, get_or, refl, sym, ap, ◌∙◌, subst, Result, Ok, Err, IsOk, OnOk}
+use Rattle.std.proofs.lemmas.Bool.{false≢true}
 use Rattle.std.proofs.lemmas.List.{append-nil, map-append, take_more}
 use Rattle.std.proofs.lemmas.Grind.{flat_map-append}
 use Rattle.gix_refspec.specs.declared.match_group.types.Item.{Item}
 use Rattle.gix_refspec.specs.declared.match_group.types.Mapping.{Mapping}
+use Rattle.gix_refspec.specs.Reading.{Reading}
+use Rattle.gix_refspec.specs.Match.{Ref}
+use Rattle.gix_refspec.specs.Mappings.{Mapped}
+use Rattle.gix_refspec.specs.Spec.{reading_of}
 use Rattle.gix_refspec.specs.Group.{mapped_of, ref_of}
 use Rattle.refspec_map.specs.declared.line.ToldRef.{ToldRef}
-use Rattle.refspec_map.specs.Matching.{map_line}
-use Rattle.refspec_map.specs.Told.{told}
+use Rattle.refspec_map.specs.declared.line.Entries.{Entries}
+use Rattle.refspec_map.specs.Line.{refs_in}
+use Rattle.refspec_map.specs.Matching.{map_line, AreMapLines, IsMatching}
+use Rattle.refspec_map.specs.Told.{told, AreEntries}
 
 -- one item more
 pub items_more : (refs : List ToldRef) (k : ℕ) (t : ToldRef) (old new : List Item) (i : Item) → k < length refs → ref_of i ≡ told (get_or refs k t) → new ≡ old ++ i ∷ [] → map ref_of old ≡ map told (take k refs) → map ref_of new ≡ map told (take (k + 1) refs)
@@ -17,11 +24,37 @@ items_more refs k t old new i below is put so_far =
     items ∙ (ap (λ l. l ++ ref_of i ∷ []) so_far ∙ (ap (λ r. map told (take k refs) ++ r ∷ []) is ∙ sym told_refs))
 
 -- one line more
-pub lines_more : (mappings : List Mapping) (k : ℕ) (m : Mapping) (old new : List ℕ) → k < length mappings → m ≡ get_or mappings k m → new ≡ old ++ map_line (mapped_of m) → old ≡ flat_map map_line (map mapped_of (take k mappings)) → new ≡ flat_map map_line (map mapped_of (take (k + 1) mappings))
-lines_more mappings k m old new below is put so_far =
-    let before = map mapped_of (take k mappings) in
-    let step : take (k + 1) mappings ≡ take k mappings ++ m ∷ [] = take_more mappings k m below ∙ ap (λ x. take k mappings ++ x ∷ []) (sym is) in
-    let all : map mapped_of (take (k + 1) mappings) ≡ before ++ mapped_of m ∷ [] = ap (map mapped_of) step ∙ map-append mapped_of (take k mappings) (m ∷ []) in
-    let lines : flat_map map_line (before ++ mapped_of m ∷ []) ≡ flat_map map_line before ++ map_line (mapped_of m) =
-    flat_map-append map_line before (mapped_of m ∷ []) ∙ ap (λ l. flat_map map_line before ++ l) (append-nil (map_line (mapped_of m))) in
-    put ∙ (ap (λ l. l ++ map_line (mapped_of m)) so_far ∙ (sym lines ∙ ap (flat_map map_line) (sym all)))
+pub lines_more : {X Y : Type 0} (f : X → Y) (line : Y → List ℕ) (xs : List X) (k : ℕ) (x : X) (old new : List ℕ) → k < length xs → x ≡ get_or xs k x → new ≡ old ++ line (f x) → old ≡ flat_map line (map f (take k xs)) → new ≡ flat_map line (map f (take (k + 1) xs))
+lines_more f line xs k x old new below is put so_far =
+    let before = map f (take k xs) in
+    let step : take (k + 1) xs ≡ take k xs ++ x ∷ [] = take_more xs k x below ∙ ap (λ y. take k xs ++ y ∷ []) (sym is) in
+    let all : map f (take (k + 1) xs) ≡ before ++ f x ∷ [] = ap (map f) step ∙ map-append f (take k xs) (x ∷ []) in
+    let lines : flat_map line (before ++ f x ∷ []) ≡ flat_map line before ++ line (f x) =
+    flat_map-append line before (f x ∷ []) ∙ ap (λ l. flat_map line before ++ l) (append-nil (line (f x))) in
+    put ∙ (ap (λ l. l ++ line (f x)) so_far ∙ (sym lines ∙ ap (flat_map line) (sym all)))
+
+-- what a call ensures of a success holds where it had one
+pub on_success : {T E : Type 0} (r : Result T E) (P : Type 0) → OnOk r P → IsOk r → P
+on_success (Ok x) P holds one = holds
+on_success (Err e) P holds one = absurd (false≢true one)
+
+-- the lines of the mappings that are kept
+pub AreMapLines-of : (AreKept : List Reading → List Ref → List Mapped → Type 0) (g : List Reading) (items slice : List Item) (mappings lent : List Mapping) (output : List ℕ) → slice ≡ items → lent ≡ mappings → AreKept g (map ref_of slice) (map mapped_of mappings) → output ≡ flat_map map_line (map mapped_of lent) → AreMapLines AreKept g (map ref_of items) output false
+AreMapLines-of AreKept g items slice mappings lent output of_items of_mappings kept written = record {
+  mappings = map mapped_of mappings;
+  kept = subst (λ (is : List Item). AreKept g (map ref_of is) (map mapped_of mappings)) of_items kept;
+  written = written ∙ ap (λ ms. flat_map map_line (map mapped_of ms)) of_mappings;
+  tells = refl;
+}
+
+-- what is written for the specs and refs that were read is written for the input
+pub IsMatching-of : (Writes : List Reading → List Ref → List ℕ → Bool → Type 0) (input output : List ℕ) (refusal : Bool) (made : Entries) (items : List Item) (refs : List ToldRef) → AreEntries input made → refs ≡ made.refs.items → map ref_of items ≡ map told refs → Writes (map reading_of made.specs.items) (map ref_of items) output refusal → IsMatching Writes input output refusal
+IsMatching-of Writes input output refusal made items refs are lent same is =
+    let all = same ∙ (ap (map told) lent ∙ are.refs) in
+    record {
+      lines = are.lines;
+      entries = are.entries;
+      cut = are.cut;
+      given = are.given;
+      is = subst (λ (g : List Reading). Writes g (refs_in are.entries) output refusal) are.specs (subst (λ (rs : List Ref). Writes (map reading_of made.specs.items) rs output refusal) all is);
+    }

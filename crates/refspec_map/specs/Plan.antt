@@ -1,7 +1,7 @@
 -- What a plan writes: where several sources are mapped to one destination, a line for each such
 -- destination, and else a line for each mapping that survives and for each that is removed. The forms of
 -- these lines are this project's own rule.
-use Rattle.std.specs.Prelude.{◌≡◌, ◌≢◌, ◌×◌, ℕ, Bool, List, [], ◌∷◌, ◌++◌, Some, MatchBool, codes}
+use Rattle.std.specs.Prelude.{◌≡◌, ◌≢◌, ℕ, Bool, List, [], ◌∷◌, ◌++◌, Some, MatchBool, codes}
 use Rattle.std.specs.List.{flat_map, zip}
 use Rattle.gix_refspec.specs.Reading.{Reading}
 use Rattle.gix_refspec.specs.Meaning.{printed}

@@ -104,7 +104,7 @@ pub(crate) fn put_fixes(output: &mut Vec<u8>, fixes: &[Fix]) -> Result<(), Fault
 
 // How writing to a vector ended: it fails for want of memory alone.
 fn grown(written: io::Result<()>) -> Result<(), Fault>
-    ensures ok { OnOk result (IsOk written.entry) }
+    ensures ok { OnOk result (IsOk written) }
     ensures err { IfErr result IsMemory }
 {
     match written {
