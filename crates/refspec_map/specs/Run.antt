@@ -13,7 +13,7 @@ use Rattle.refspec_map.specs.Matching.{AreMapLines, IsMatching}
 use Rattle.refspec_map.specs.Output.{IsCanon}
 use Rattle.refspec_map.specs.Plan.{IsPlan}
 
--- the output of a command for an input, and whether a line or the plan is refused
+-- the output of a command for an input, and whether some line is refused, or a plan for its conflicts
 abbrev pub IsOutput : Command → List ℕ → List ℕ → Bool → Type 0
 IsOutput command.CanonFetch input output refusal = IsCanon Fetch input output refusal
 IsOutput command.CanonPush input output refusal = IsCanon Push input output refusal
