@@ -1,6 +1,6 @@
 """Groups of specs for a fetch, and refs to match with them, from a fixed seed: for comparisons.
 
-A group is an input of the commands `lhs` and `rhs`, and ends with a newline.
+A group is an input of the commands `lhs`, `rhs` and `plan`, and ends with a newline.
 """
 import itertools
 import random

@@ -31,8 +31,8 @@ def lines(texts, *refs):
 
 
 def mappings(answer):
-    """The fields of each line but the first; no generated name holds a tab."""
-    return [line.split(b"\t")[1:] for line in answer.split(b"\n")[:-1]]
+    """The fields of each line of a mapping, but the first; no generated name holds a tab."""
+    return [line.split(b"\t")[1:] for line in answer.split(b"\n") if line.startswith(b"map\t")]
 
 
 class Group:
