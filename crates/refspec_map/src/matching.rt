@@ -22,7 +22,7 @@ pub(crate) enum Matching {
     Lhs,
     /// Writes what the right sides match.
     Rhs,
-    /// Writes what of the first can be written.
+    /// Writes what survives of what the left sides match, and the fixes, or the conflicts.
     Plan,
 }
 
