@@ -12,8 +12,9 @@ pub enum Command {
     Lhs,
     /// Reads specs for a fetch and local refs, and writes what the right sides match.
     Rhs,
-    /// Reads what `Lhs` reads, and writes what a fetch can write of it: what the left sides match, and
-    /// the mappings that were removed since their destination is no full name. If several sources are
-    /// mapped to one destination, it writes each such conflict instead.
+    /// Reads what `Lhs` reads, and writes what a fetch can write of it: the mappings that survive a
+    /// validation, and those that were removed since their destination neither begins `refs/` nor
+    /// is `HEAD`. If several sources are mapped to one destination, it writes each such conflict
+    /// instead.
     Plan,
 }

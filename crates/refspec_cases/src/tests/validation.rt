@@ -1,41 +1,21 @@
 //! Conflicts, fixes, and outcomes that were changed by hand.
 
+use super::mapping::{TARGET, group_of, items_of};
 use bstr::{BStr, BString};
 use gix_refspec::match_group::validate::{Fix, Issue, Refusal};
-use gix_refspec::match_group::{Item, Mapping, NameRef, SourceRef, match_lhs};
+use gix_refspec::match_group::{Mapping, NameRef, SourceRef, match_lhs};
 use gix_refspec::oid::ObjectId;
+use gix_refspec::parse;
 use gix_refspec::parsing::Operation;
-use gix_refspec::{MatchGroup, parse};
 use std::alloc::Global;
 use std::test::Fail;
 
-// The id that each item points to.
-const ID: &[u8] = b"1111111111111111111111111111111111111111";
-
-// A group of fetches of these texts, parted by blanks.
-fn group_of<'a>(alloc: Global, texts: &'a str) -> Result<MatchGroup<'a>, Fail> {
-    let mut group = MatchGroup::new(alloc);
-    for text in texts.split(' ') {
-        group.specs.push(parse(alloc, BStr::new(text.as_bytes()), Operation::Fetch)?)?;
-    }
-    Ok(group)
-}
-
 // What a validation answers of what a group of these texts gives over items of these names.
 fn validated_matches(alloc: Global, texts: &str, names: &str) -> Result<String, Fail> {
-    let id = ObjectId::from_hex(ID)?;
-    let mut items = Vec::new(alloc);
-    for name in names.split(' ') {
-        items.push(Item {
-            full_ref_name: BStr::new(name.as_bytes()),
-            target: &id,
-            object: None,
-        })?;
-    }
-    validated(
-        alloc,
-        group_of(alloc, texts)?.match_lhs(alloc, items.as_slice())?,
-    )
+    let target = ObjectId::from_hex(TARGET.as_bytes())?;
+    let items = items_of(alloc, names, &target)?;
+    let group = group_of(alloc, Operation::Fetch, texts)?;
+    validated(alloc, group.match_lhs(alloc, items.as_slice())?)
 }
 
 // What a validation answers, line by line: `source:destination` for each mapping that is left and
@@ -142,7 +122,7 @@ fn validates_what_was_matched(rt: HostRuntime) -> Result<(), Fail> {
 // A source as a row writes it: `=` before a name that is owned, and `#` for the id.
 fn source_of<'a>(alloc: Global, text: &'a str) -> Result<SourceRef<'a>, Fail> {
     if text == "#" {
-        return Ok(SourceRef::ObjectId(ObjectId::from_hex(ID)?));
+        return Ok(SourceRef::ObjectId(ObjectId::from_hex(TARGET.as_bytes())?));
     }
     Ok(SourceRef::FullName(match text.strip_prefix("=") {
         Some(name) => NameRef::Owned(BString::from_slice(alloc, name.as_bytes())?),
@@ -180,7 +160,7 @@ fn validates_outcomes_made_by_hand(rt: HostRuntime) -> Result<(), Fail> {
     ];
     for (sources, places, told) in rows {
         let mut outcome = match_lhs::Outcome {
-            group: group_of(alloc, "s:t u")?,
+            group: group_of(alloc, Operation::Fetch, "s:t u")?,
             mappings: Vec::new(alloc),
         };
         let words = sources.split(' ').filter(|word| !word.is_empty());
