@@ -1,13 +1,14 @@
-//! Times matching in this process: the library, behind the archive of `refspec_bench`, and the
-//! original crate, in turns on the same specs and names. `tools/bench` builds it, and once more with
-//! `--cfg counting`, to count memory instead.
+//! Times matching and validation in this process: the library, behind the archive of
+//! `refspec_bench`, and the original crate, in turns on the same specs and names. `tools/bench`
+//! builds it, and once more with `--cfg counting`, to count memory instead.
 //!
-//!     matching SPECS NAMES TIMES RUNS
+//!     matching WORK SPECS NAMES TIMES RUNS
 //!
-//! SPECS and NAMES are files with a fetch spec or the name of a ref in each line. A run is a line of
-//! two numbers, for the library and for the original: the processor time of one matching in
-//! nanoseconds, its result released; or where memory is counted the most bytes that one matching
-//! held at once, and then how many mappings there were.
+//! WORK is `match` or `validate`. SPECS and NAMES are files with a fetch spec or the name of a ref
+//! in each line. A run is a line of two numbers, for the library and for the original: the processor
+//! time of one matching in nanoseconds, its result released, or what a validation adds to it; or
+//! where memory is counted the most bytes that were held at once by one matching, with or without
+//! its validation, and then how many results there were.
 
 use bstr::ByteSlice;
 use gix_hash::{Kind, ObjectId};
@@ -15,8 +16,19 @@ use gix_refspec::match_group::Item;
 use gix_refspec::parse::Operation;
 use gix_refspec::MatchGroup;
 
+/// What the library does, as its archive has it.
+type Exported = unsafe extern "C" fn(*const u8, usize, *const u8, usize, usize, &mut usize) -> u8;
+
 extern "C" {
     fn refspec_bench_match_lhs(
+        specs: *const u8,
+        specs_len: usize,
+        names: *const u8,
+        names_len: usize,
+        times: usize,
+        count: &mut usize,
+    ) -> u8;
+    fn refspec_bench_plan(
         specs: *const u8,
         specs_len: usize,
         names: *const u8,
@@ -28,28 +40,51 @@ extern "C" {
     fn clock_gettime(clock: i32, time: &mut [i64; 2]) -> i32;
 }
 
-/// What either of the two does, and then how many mappings there were in all.
-type Matching = fn(&[u8], &[u8], usize) -> usize;
+/// What either of the two does, and then how many results there were in all.
+type Work = fn(&[u8], &[u8], usize) -> usize;
 
-fn ours(specs: &[u8], names: &[u8], times: usize) -> usize {
+/// The work of the library, and that of the original.
+type Both = [Work; 2];
+
+const MATCH: Both = [our_matching, their_matching];
+const PLAN: Both = [our_plan, their_plan];
+
+fn ours(exported: Exported, specs: &[u8], names: &[u8], times: usize) -> usize {
     let mut count = 0;
     // SAFETY: the texts and the count are lent for the call, and don't overlap.
-    let status = unsafe {
-        refspec_bench_match_lhs(specs.as_ptr(), specs.len(), names.as_ptr(), names.len(), times, &mut count)
-    };
+    let status = unsafe { exported(specs.as_ptr(), specs.len(), names.as_ptr(), names.len(), times, &mut count) };
     assert_eq!(status, 0, "the library refused a spec, or had no memory");
     count
 }
 
-/// The same work in the same steps as that of the library.
-fn original(specs: &[u8], names: &[u8], times: usize) -> usize {
+fn our_matching(specs: &[u8], names: &[u8], times: usize) -> usize {
+    ours(refspec_bench_match_lhs, specs, names, times)
+}
+
+fn our_plan(specs: &[u8], names: &[u8], times: usize) -> usize {
+    ours(refspec_bench_plan, specs, names, times)
+}
+
+/// The specs of the lines, as the library reads them.
+fn group_of(specs: &[u8]) -> MatchGroup<'_> {
     let parsed = specs.split(|b| *b == b'\n').map(|line| gix_refspec::parse(line.as_bstr(), Operation::Fetch));
-    let mut group = MatchGroup::from_fetch_specs(parsed.map(|spec| spec.expect("a spec for a fetch")));
-    let target: ObjectId = Kind::Sha1.null();
+    MatchGroup::from_fetch_specs(parsed.map(|spec| spec.expect("a spec for a fetch")))
+}
+
+/// A ref for each line, as the library makes them.
+fn items_of<'a>(names: &'a [u8], target: &'a ObjectId) -> Vec<Item<'a>> {
     let mut items = Vec::with_capacity(names.split(|b| *b == b'\n').count());
     for name in names.split(|b| *b == b'\n') {
-        items.push(Item { full_ref_name: name.as_bstr(), target: &target, object: None });
+        items.push(Item { full_ref_name: name.as_bstr(), target, object: None });
     }
+    items
+}
+
+/// The same work in the same steps as that of the library.
+fn their_matching(specs: &[u8], names: &[u8], times: usize) -> usize {
+    let mut group = group_of(specs);
+    let target: ObjectId = Kind::Sha1.null();
+    let items = items_of(names, &target);
     let mut count = 0;
     for _ in 0..times {
         let outcome = group.match_lhs(items.iter().copied());
@@ -59,9 +94,24 @@ fn original(specs: &[u8], names: &[u8], times: usize) -> usize {
     count
 }
 
+/// Likewise.
+fn their_plan(specs: &[u8], names: &[u8], times: usize) -> usize {
+    let group = group_of(specs);
+    let target: ObjectId = Kind::Sha1.null();
+    let items = items_of(names, &target);
+    let mut count = 0;
+    for _ in 0..times {
+        count += match group.clone().match_lhs(items.iter().copied()).validated() {
+            Ok((outcome, fixes)) => outcome.mappings.len() + fixes.len(),
+            Err(error) => error.issues.len(),
+        };
+    }
+    count
+}
+
 #[cfg(not(counting))]
 mod measure {
-    use super::{clock_gettime, ours, original, Matching};
+    use super::{clock_gettime, Both, Work, MATCH, PLAN};
 
     /// The processor time of this thread, in nanoseconds.
     fn now() -> i64 {
@@ -72,33 +122,39 @@ mod measure {
         time[0] * 1_000_000_000 + time[1]
     }
 
-    fn taken(run: Matching, specs: &[u8], names: &[u8], times: usize) -> i64 {
+    fn taken(work: Work, specs: &[u8], names: &[u8], times: usize) -> i64 {
         let began = now();
-        std::hint::black_box(run(specs, names, times));
+        std::hint::black_box(work(specs, names, times));
         now() - began
     }
 
-    /// What one matching takes, without the reading of the texts.
-    fn one(run: Matching, specs: &[u8], names: &[u8], times: usize) -> i64 {
-        let reading = taken(run, specs, names, 0);
-        (taken(run, specs, names, times) - reading) / times as i64
+    /// What one time of the work takes, without the reading of the texts.
+    fn one(work: Work, specs: &[u8], names: &[u8], times: usize) -> i64 {
+        let reading = taken(work, specs, names, 0);
+        (taken(work, specs, names, times) - reading) / times as i64
     }
 
-    pub fn run(specs: &[u8], names: &[u8], times: usize, number: usize) {
-        let (a, b) = if number % 2 == 0 {
-            let a = one(ours, specs, names, times);
-            (a, one(original, specs, names, times))
-        } else {
-            let b = one(original, specs, names, times);
-            (one(ours, specs, names, times), b)
-        };
-        println!("{a} {b}");
+    fn in_turns(works: Both, specs: &[u8], names: &[u8], times: usize, number: usize) -> [i64; 2] {
+        let mut took = [0; 2];
+        for side in if number % 2 == 0 { [0, 1] } else { [1, 0] } {
+            took[side] = one(works[side], specs, names, times);
+        }
+        took
+    }
+
+    pub fn run(validates: bool, specs: &[u8], names: &[u8], times: usize, number: usize) {
+        let mut took = in_turns(if validates { PLAN } else { MATCH }, specs, names, times, number);
+        if validates {
+            let matching = in_turns(MATCH, specs, names, times, number);
+            took = [took[0] - matching[0], took[1] - matching[1]];
+        }
+        println!("{} {}", took[0], took[1]);
     }
 }
 
 #[cfg(counting)]
 mod measure {
-    use super::{ours, original, Matching};
+    use super::{Work, MATCH, PLAN};
     use std::alloc::{GlobalAlloc, Layout, System};
     use std::sync::atomic::{AtomicUsize, Ordering::Relaxed};
 
@@ -176,17 +232,17 @@ mod measure {
     }
 
     /// The most bytes that were held at once beyond those held at first.
-    fn most(run: Matching, specs: &[u8], names: &[u8], times: usize) -> (usize, usize) {
+    fn most(work: Work, specs: &[u8], names: &[u8], times: usize) -> (usize, usize) {
         let first = LIVE.load(Relaxed);
         MOST.store(first, Relaxed);
-        let count = run(specs, names, times);
+        let count = work(specs, names, times);
         (MOST.load(Relaxed) - first, count)
     }
 
-    pub fn run(specs: &[u8], names: &[u8], _times: usize, _number: usize) {
-        for side in [ours, original] as [Matching; 2] {
-            let (reading, _) = most(side, specs, names, 0);
-            let (all, count) = most(side, specs, names, 1);
+    pub fn run(validates: bool, specs: &[u8], names: &[u8], _times: usize, _number: usize) {
+        for work in if validates { PLAN } else { MATCH } {
+            let (reading, _) = most(work, specs, names, 0);
+            let (all, count) = most(work, specs, names, 1);
             print!("{} {count} ", all - reading);
         }
         println!();
@@ -204,10 +260,12 @@ fn lines(path: &str) -> Vec<u8> {
 
 fn main() {
     let words: Vec<String> = std::env::args().collect();
-    let [_, specs, names, times, runs] = &words[..] else { panic!("usage: matching SPECS NAMES TIMES RUNS") };
+    let [_, work, specs, names, times, runs] = &words[..] else {
+        panic!("usage: matching WORK SPECS NAMES TIMES RUNS")
+    };
     let (specs, names) = (lines(specs), lines(names));
     let times = times.parse().expect("a number of times");
     for number in 0..runs.parse().expect("a number of runs") {
-        measure::run(&specs, &names, times, number);
+        measure::run(work == "validate", &specs, &names, times, number);
     }
 }

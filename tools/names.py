@@ -36,6 +36,11 @@ def repeated(count, each, seed):
     return names
 
 
+def to_one_destination(count):
+    """Specs that ask for so many objects by their ids, all for one destination: so these take no matching."""
+    return [b"%040x:refs/x" % number for number in range(count)]
+
+
 def in_file(path):
     """The names in the lines of a file."""
     with open(path, "rb") as file:
