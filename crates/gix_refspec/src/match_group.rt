@@ -69,8 +69,8 @@ impl<'spec> MatchGroup<'spec> {
     /// is, and a source that is an id becomes the name of a branch. Negative specs exclude by the
     /// source.
     ///
-    /// Fails with `NoRoom` if memory runs out, and never where the specs ask for no id and match no
-    /// item. It holds the group as it was.
+    /// Fails with `NoRoom` if memory runs out, and never where no item matches. It holds the group as
+    /// it was.
     pub fn match_rhs<'item>(
         self,
         alloc: Global,

@@ -22,7 +22,7 @@ pub enum Fault {
     /// The line with this number, counted from 1, holds a spec that is refused. A canon command
     /// writes the refusal as the answer to the line, and never gives it.
     Spec { line: usize, error: Error },
-    /// There was no memory for the input, a spec or the output.
+    /// There was no memory for the input, a spec, what is matched, or the output.
     Memory,
     /// The output could not be written or flushed. A part of it may have been written.
     Write,

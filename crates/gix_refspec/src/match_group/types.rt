@@ -238,7 +238,8 @@ impl<'a> MatchGroup<'a> {
         }
     }
 
-    /// The fetch specs among these, in order. Fails if memory runs out.
+    /// The fetch specs among these, in order. The iterator has to end. Fails if memory runs out, and
+    /// then the iterator is given up.
     pub fn from_fetch_specs<I: IntoIterator<Item = RefSpecRef<'a>>>(
         alloc: Global,
         specs: I,
@@ -251,7 +252,8 @@ impl<'a> MatchGroup<'a> {
         Self::of(alloc, Operation::Fetch, specs)
     }
 
-    /// The push specs among these, in order. Fails if memory runs out.
+    /// The push specs among these, in order. The iterator has to end. Fails if memory runs out, and
+    /// then the iterator is given up.
     pub fn from_push_specs<I: IntoIterator<Item = RefSpecRef<'a>>>(
         alloc: Global,
         specs: I,
@@ -323,7 +325,8 @@ pub mod match_lhs {
     pub struct Outcome<'spec, 'item> {
         /// The group that was matched.
         pub group: MatchGroup<'spec>,
-        /// What was matched. Sources are names of items, destinations are by the specs.
+        /// What was matched. Sources are names of items, or ids that specs ask for; destinations
+        /// are by the specs.
         pub mappings: Vec<Mapping<'item, 'spec>>,
     }
 

@@ -148,7 +148,10 @@ impl<'spec, 'item> match_lhs::Outcome<'spec, 'item> {
     /// Fails with `Conflicts` if several sources are mapped to one destination, of mappings that
     /// would be removed too. There is an issue for each such destination, in the byte order of the
     /// destinations. It lists each source once, in the order of their first mappings to this
-    /// destination, with the canonical text of the spec of that mapping.
+    /// destination, with the canonical text of the spec of that mapping. The outcome is given up.
+    ///
+    /// The spec of each mapping has to have a place in the group, as `indexes_fit` tells. It has in
+    /// what `match_lhs` answers.
     ///
     /// Fails with `Memory` if memory runs out, and never without mappings. It holds the outcome as
     /// it was.
