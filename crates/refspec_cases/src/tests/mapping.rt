@@ -199,6 +199,12 @@ fn maps_from_right_to_left(rt: HostRuntime) -> Result<(), Fail> {
             "refs/remotes/origin/x refs/remotes/origin/y",
             "1 0 =refs/heads/y refs/remotes/origin/y\n",
         ),
+        // The name of an item excludes nothing.
+        (
+            "refs/heads/*:refs/x/* ^refs/x/y",
+            "refs/x/y",
+            "0 0 =refs/heads/y refs/x/y\n",
+        ),
         (
             "refs/heads/main:main",
             "refs/tags/main refs/heads/main",
