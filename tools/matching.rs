@@ -19,24 +19,21 @@ use gix_refspec::MatchGroup;
 /// What the library does, as its archive has it.
 type Exported = unsafe extern "C" fn(*const u8, usize, *const u8, usize, usize, &mut usize) -> u8;
 
+/// Declares functions of the archive: each takes the specs and the names, how often, and where to put the count.
+macro_rules! exported {
+    ($($name:ident)*) => {
+        extern "C" {
+            $(fn $name(
+                specs: *const u8, specs_len: usize, names: *const u8, names_len: usize, times: usize, count: &mut usize,
+            ) -> u8;)*
+        }
+    };
+}
+
+exported! { refspec_bench_match_lhs refspec_bench_plan }
+
+#[cfg(not(counting))]
 extern "C" {
-    fn refspec_bench_match_lhs(
-        specs: *const u8,
-        specs_len: usize,
-        names: *const u8,
-        names_len: usize,
-        times: usize,
-        count: &mut usize,
-    ) -> u8;
-    fn refspec_bench_plan(
-        specs: *const u8,
-        specs_len: usize,
-        names: *const u8,
-        names_len: usize,
-        times: usize,
-        count: &mut usize,
-    ) -> u8;
-    #[cfg(not(counting))]
     fn clock_gettime(clock: i32, time: &mut [i64; 2]) -> i32;
 }
 

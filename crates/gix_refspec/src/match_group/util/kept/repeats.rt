@@ -81,7 +81,8 @@ pub(crate) fn repeats_of(
     }
 }
 
-// For each place an earlier one that may have the same pair. There is none for the first of a pair.
+// For each repeat an earlier place, which may have the same pair. Another place may have one too, with
+// another pair.
 fn earlier_of(alloc: Global, mappings: &[Mapping<'_, '_>]) -> Result<Vec<usize>, AllocError>
     ensures { IfOk result (λ earlier. FindsRepeats mappings.now earlier.items) }
 {
