@@ -24,13 +24,7 @@ pub extern "C" fn refspec_bench_match_lhs(
     count: &mut usize,
 ) -> u8 {
     let target = ObjectId::null(Kind::Sha1);
-    match match_often(alloc, specs, names, &target, times) {
-        None => 1,
-        Some(mappings) => {
-            *count = mappings;
-            0
-        }
-    }
+    status_of(match_often(alloc, specs, names, &target, times), count)
 }
 
 /// As `refspec_bench_match_lhs`, but each outcome is validated too, and `count` is set to how many
@@ -44,10 +38,15 @@ pub extern "C" fn refspec_bench_plan(
     count: &mut usize,
 ) -> u8 {
     let target = ObjectId::null(Kind::Sha1);
-    match plan_often(alloc, specs, names, &target, times) {
+    status_of(plan_often(alloc, specs, names, &target, times), count)
+}
+
+// 0, with the count set to how many there were; or 1, where there is no such number.
+fn status_of(many: Option<usize>, count: &mut usize) -> u8 {
+    match many {
         None => 1,
-        Some(results) => {
-            *count = results;
+        Some(many) => {
+            *count = many;
             0
         }
     }
