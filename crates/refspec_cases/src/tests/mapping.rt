@@ -79,7 +79,8 @@ pub(super) fn lines(alloc: Global, mappings: &[Mapping<'_, '_>]) -> Result<Strin
     Ok(text)
 }
 
-// Whether specs map items from left to right as is written beside them.
+// Whether specs map items from left to right as is written beside them, and a copy of the outcome says
+// the same.
 fn check_forward(
     rt: &impl Abort,
     alloc: Global,
@@ -92,11 +93,15 @@ fn check_forward(
         let outcome = group_of(alloc, operation, specs)?.match_lhs(alloc, items.as_slice())?;
         let found = lines(alloc, outcome.mappings.as_slice())?;
         assert_eq!(rt; found.as_str(), *wanted, "{specs} over {names}");
+        let copy = outcome.clone(alloc)?;
+        let copied = lines(alloc, copy.mappings.as_slice())?;
+        assert_eq!(rt; copied.as_str(), *wanted, "{specs} over {names}");
     }
     Ok(())
 }
 
-// Whether fetch specs map items from right to left as is written beside them.
+// Whether fetch specs map items from right to left as is written beside them, and a copy of the outcome
+// says the same.
 fn check_backward(rt: &impl Abort, alloc: Global, rows: &[(&str, &str, &str)]) -> Result<(), Fail> {
     let target = ObjectId::from_hex(TARGET.as_bytes())?;
     for (specs, names, wanted) in rows {
@@ -105,6 +110,9 @@ fn check_backward(rt: &impl Abort, alloc: Global, rows: &[(&str, &str, &str)]) -
         let outcome = group.match_rhs(alloc, items.as_slice())?;
         let found = lines(alloc, outcome.mappings.as_slice())?;
         assert_eq!(rt; found.as_str(), *wanted, "{specs} back over {names}");
+        let copy = outcome.clone(alloc)?;
+        let copied = lines(alloc, copy.mappings.as_slice())?;
+        assert_eq!(rt; copied.as_str(), *wanted, "{specs} back over {names}");
     }
     Ok(())
 }
