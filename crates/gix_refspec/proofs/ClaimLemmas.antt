@@ -1,5 +1,5 @@
 -- Claims in order, and where they are cut.
-use Rattle.std.proofs.Common.{◌≡◌, ◌≢◌, ◌⊎◌, inl, inr, ◌↔◌, ℕ, zero, suc, ◌+◌, ◌-◌, ◌<◌, ◌≤◌, List, [], ◌∷◌, ◌++◌, None, Some, option_map, Bool, true, false, not, length, map, take, drop, get_or, refl, sym, ap, ◌∙◌, subst, arith}
+use Rattle.std.proofs.Common.{◌≡◌, ◌≢◌, ◌⊎◌, inl, inr, ◌↔◌, ℕ, zero, suc, ◌+◌, ◌<◌, ◌≤◌, List, [], ◌∷◌, ◌++◌, None, Some, option_map, Bool, true, false, not, length, map, take, drop, get_or, refl, sym, ap, ◌∙◌, subst, arith}
 use Rattle.std.specs.List.{AllByRecursion, Contains, slice_get}
 use Rattle.std.specs.List.Sorted.{IsPermutation, IsSorted, IsStrictlySortedBy}
 use Rattle.std.specs.declared.cmp.Ordering.{Ordering}
@@ -11,7 +11,7 @@ use Rattle.std.proofs.lemmas.Bool.{cases_lt, false≢true, not-false, not-true}
 use Rattle.std.proofs.lemmas.Slice.Eq.{bytes_eq-Decides}
 use Rattle.std.specs.Str.{bytes_eq}
 use Rattle.std.proofs.lemmas.Cmp.{by_ranked, nat_cmp_total, on_total, ranked, then_total, tied_itself}
-use Rattle.std.proofs.lemmas.List.{get_or-map, get_or_default, length-map, map-append, take-append-drop, drop_more, length-drop}
+use Rattle.std.proofs.lemmas.List.{get_or-map, length-map, map-append, take-append-drop, drop_more, length-drop}
 use Rattle.std.proofs.lemmas.List.Sorted.{Contains-permutation, IsPermutation-map, IsPermutation-sym, ranks_by, sorted_far}
 use Rattle.std.proofs.lemmas.Option.{slice_get-map, slice_get_read, slice_get_within}
 use Rattle.gix_refspec.specs.declared.match_group.util.conflicts.Claim.{Claim}
@@ -20,7 +20,7 @@ use Rattle.gix_refspec.specs.declared.match_group.types.NameRef.{NameRef}
 use Rattle.gix_refspec.specs.Mappings.{Mapped}
 use Rattle.gix_refspec.specs.Group.{mapped_of, name_bytes}
 use Rattle.gix_refspec.specs.Private.Kept.{IsFlagged, Rises}
-use Rattle.gix_refspec.specs.Private.Claims.{AreClaims, GoesTo, HasClaim, IsCut, claim_cmp, destinations_of, claimed_places}
+use Rattle.gix_refspec.specs.Private.Claims.{AreClaims, GoesTo, HasClaim, IsCut, claim_cmp, claimed_places}
 use Rattle.gix_refspec.proofs.PairLemmas.{both_equal, same_texts}
 use Rattle.gix_refspec.proofs.RepeatLemmas.{Rises-push, all_join, all_left, all_right, all_weaker, apart_places}
 
@@ -215,19 +215,6 @@ differ_from_test xs ys b is told same = false≢true (sym (not-true (bytes_eq xs
 pub same_from_test : (xs ys : List ℕ) (b : Bool) → b ≡ not (bytes_eq xs ys) → b ≡ false → xs ≡ ys
 same_from_test xs ys b is told = (bytes_eq-Decides xs ys).0 (not-false (bytes_eq xs ys) (sym is ∙ told))
 
--- where none is to the destination of the one before it, the destinations rise
-pub destinations_rise : (cs : List Claim) → IsStrictlySortedBy claim_cmp cs → ((i : ℕ) (d : Claim) → suc i < length cs → (get_or cs i d).destination.now ≢ (get_or cs (suc i) d).destination.now) → IsStrictlySortedBy (slice_cmp nat_cmp) (destinations_of cs)
-unfolding IsStrictlySortedBy
-destinations_rise [] strict other = tt
-destinations_rise (c ∷ []) strict other = (tt, tt)
-destinations_rise (c ∷ x ∷ cs) strict other =
-    let more = destinations_rise (x ∷ cs) strict.1 (λ i d below. other (suc i) d (omega arith)) in
-    let first : slice_cmp nat_cmp c.destination.now x.destination.now ≡ Less = elim (later c x strict.0.0) [
-      | inl less ↦ less
-      | inr tied ↦ absurd (other 0 c (omega arith) tied.0)
-    ] in
-    ((first, all_weaker (λ d. slice_cmp nat_cmp x.destination.now d ≡ Less) (λ d. slice_cmp nat_cmp c.destination.now d ≡ Less) (λ d less. below_trans c.destination.now x.destination.now d first less) (destinations_of cs) more.0), more)
-
 -- what comes after a claim to a destination behind x is to one behind x too
 behind : (x : List ℕ) (o y : Claim) → slice_cmp nat_cmp x o.destination.now ≡ Less → claim_cmp o y ≡ Less → slice_cmp nat_cmp x y.destination.now ≡ Less
 behind x o y first is = elim (later o y is) [
@@ -272,14 +259,6 @@ cut_at (h ∷ cs) (suc n) d some strict same end =
       | inl less ↦ inl less
       | inr tied ↦ inr tied.0
     ]
-
--- a claim that was found to be to another destination than the one before it
-pub apart_next : (cs : List Claim) (at i : ℕ) (d e : Claim) (b : Bool) → at < length cs → suc i ≡ at → b ≡ bytes_eq (get_or cs (at - 1) e).destination.now (get_or cs at e).destination.now → b ≡ false → (get_or cs i d).destination.now ≢ (get_or cs (suc i) d).destination.now
-apart_next cs at i d e b below next is told same =
-    let before : at - 1 ≡ i = omega arith in
-    let first : (get_or cs (at - 1) e).destination.now ≡ (get_or cs i d).destination.now = ap (λ (n : ℕ). (get_or cs n e).destination.now) before ∙ ap (λ (c : Claim). c.destination.now) (get_or_default cs i e d (omega arith)) in
-    let second : (get_or cs at e).destination.now ≡ (get_or cs (suc i) d).destination.now = ap (λ (n : ℕ). (get_or cs n e).destination.now) (sym next) ∙ ap (λ (c : Claim). c.destination.now) (get_or_default cs (suc i) e d (omega arith)) in
-    false≢true (sym told ∙ is ∙ (bytes_eq-Decides (get_or cs (at - 1) e).destination.now (get_or cs at e).destination.now).1 (first ∙ same ∙ sym second))
 
 -- the mapping at a place, as plain data
 pub mapped_at : (ms : List Mapping) (k : ℕ) (m : Mapping) → k < length ms → m ≡ get_or ms k m → slice_get (map mapped_of ms) k ≡ Some (mapped_of m)

@@ -5,7 +5,6 @@ use Rattle.std.specs.List.Sorted.{IsStrictlySortedBy}
 use Rattle.std.specs.declared.cmp.Ordering.TheVariants.{Less}
 use Rattle.std.specs.Ordering.{nat_cmp}
 use Rattle.std.specs.Cmp.Lexicographic.{slice_cmp}
-use Rattle.std.proofs.lemmas.Bool.{false≢true}
 use Rattle.std.proofs.lemmas.List.{get_or-map, length-map, length-take-le, map-append, take-append-drop, take_more}
 use Rattle.std.proofs.lemmas.List.Elements.{All-from_recursion, Contains-append_left, Contains-push}
 use Rattle.std.proofs.lemmas.Option.{slice_get-get_or, slice_get-map, slice_get_read, slice_get_within}
@@ -24,11 +23,11 @@ use Rattle.gix_refspec.specs.Group.{mapped_of, name_bytes, start_of, IsNameCopy,
 use Rattle.gix_refspec.specs.ObjectId.{id_bytes}
 use Rattle.gix_refspec.specs.Validation.{AreConflicts, Conflict, IndexesFit, IsConflict, IsContested, IsFirstTo, IsTextAt}
 use Rattle.gix_refspec.specs.Private.Kept.{FlagsRepeats, Has, IsFlagged, IsRepeat, Rises}
-use Rattle.gix_refspec.specs.Private.Claims.{AddsConflict, AreClaims, AreFirsts, AreRivals, HasClaim, IsCut, IsFirstAt, IsOver, claim_cmp, destinations_of, claimed_places}
+use Rattle.gix_refspec.specs.Private.Claims.{AddsConflict, AreClaims, AreFirsts, AreRivals, HasClaim, IsCut, IsFirstAt, IsOver, claim_cmp, claimed_places}
 use Rattle.gix_refspec.proofs.RepeatLemmas.{all_join, all_right, all_weaker, some_mapping}
 use Rattle.gix_refspec.proofs.KeptLemmas.{repeats_at}
 use Rattle.gix_refspec.proofs.ClaimLemmas.{HasClaim-cases, HasClaim-left, HasClaim-right, later, mapped_at, not_below_itself, strict_left, strict_right}
-use Rattle.gix_refspec.proofs.FirstLemmas.{IsOfPlace, at_contained, contested_from_firsts, made_at_places, one_mapping, two_firsts}
+use Rattle.gix_refspec.proofs.FirstLemmas.{IsOfPlace, contested_from_firsts, made_at_places, one_mapping, two_firsts}
 
 -- the mappings at the places have these sources, and their specs these texts
 pub record AreTold (g : List Reading) (l : List Mapped) (ns : List ℕ) (sources : List Start) (texts : List (List ℕ)) : Type 0 where
@@ -311,31 +310,7 @@ reported_more g l rest n cs new some fits cut added settled =
       | inr more ↦ subst (λ (ds : List Conflict). AreReported g l (drop n rest) ds) (sym more.3) (reported g l (take n rest) (drop n rest) cs more.0 more.1 cut more.2 whole)
     ]
 
--- a claim to a destination behind all these
-above_all : (x : List ℕ) (cs : List Claim) (k : ℕ) (d : List ℕ) → AllByRecursion (λ y. slice_cmp nat_cmp x y ≡ Less) (destinations_of cs) → HasClaim cs k d → slice_cmp nat_cmp x d ≡ Less
-above_all x [] k d below has = absurd has
-above_all x (c ∷ cs) k d below (inl is) = subst (λ (y : List ℕ). slice_cmp nat_cmp x y ≡ Less) is.1 below.0
-above_all x (c ∷ cs) k d below (inr has) = above_all x cs k d below.1 has
-
--- where destinations rise, one claim is to each
-one_to_each : (cs : List Claim) (j k : ℕ) (d : List ℕ) → IsStrictlySortedBy (slice_cmp nat_cmp) (destinations_of cs) → HasClaim cs j d → HasClaim cs k d → j ≡ k
-unfolding IsStrictlySortedBy
-one_to_each [] j k d strict has also = absurd has
-one_to_each (c ∷ cs) j k d strict (inl is) (inl also) = sym is.0 ∙ also.0
-one_to_each (c ∷ cs) j k d strict (inl is) (inr also) = absurd (not_below_itself d (subst (λ (x : List ℕ). slice_cmp nat_cmp x d ≡ Less) is.1 (above_all c.destination.now cs k d strict.0 also)))
-one_to_each (c ∷ cs) j k d strict (inr has) (inl also) = absurd (not_below_itself d (subst (λ (x : List ℕ). slice_cmp nat_cmp x d ≡ Less) also.1 (above_all c.destination.now cs j d strict.0 has)))
-one_to_each (c ∷ cs) j k d strict (inr has) (inr also) = one_to_each cs j k d strict.1 has also
-
--- so nothing is contested
-pub free_apart : (g : List Reading) (l : List Mapped) (cs : List Claim) → AreClaims l [] cs → IsStrictlySortedBy (slice_cmp nat_cmp) (destinations_of cs) → AreConflicts g l []
-free_apart g l cs made strict = no_conflicts g l (λ d c.
-    let one = at_contained l c.one c.has_one in
-    let other = at_contained l c.other c.has_other in
-    let unflagged : (k : ℕ) → ¬ (IsFlagged [] k) = λ k flagged. false≢true flagged in
-    let same : one.0 ≡ other.0 = one_to_each cs one.0 other.0 d strict ((made.are one.0 d).1 ((c.one, one.1, c.one_to), unflagged one.0)) ((made.are other.0 d).1 ((c.other, other.1, c.other_to), unflagged other.0)) in
-    c.differ (ap (λ (m : Mapped). m.source) (one_mapping l other.0 c.one c.other (subst (λ (k : ℕ). slice_get l k ≡ Some c.one) same one.1) other.1)))
-
--- nor where there are no mappings
+-- where there are no mappings nothing is contested
 pub free_empty : (g : List Reading) (ms : List Mapping) → length ms ≡ 0 → AreConflicts g (map mapped_of ms) []
 free_empty g [] empty = no_conflicts g [] (λ d c. let inside = c.has_one.1 in omega (arith, inside))
 free_empty g (m ∷ ms) empty = absurd (omega arith)

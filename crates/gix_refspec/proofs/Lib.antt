@@ -42,3 +42,4 @@ pub mod ConflictLemmas
 pub mod ValidationLemmas
 pub mod AfterLemmas
 pub mod EqualLemmas
+pub mod ApartLemmas

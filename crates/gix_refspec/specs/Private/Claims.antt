@@ -1,10 +1,11 @@
 -- How conflicts are found. Only private functions cite these words.
-use Rattle.std.specs.Prelude.{◌≡◌, ◌⊎◌, ◌↔◌, ◌<◌, ◌≤◌, ◌++◌, ℕ, Bool, List, [], ◌∷◌, length, map, Some}
+use Rattle.std.specs.Prelude.{◌≡◌, ◌⊎◌, ◌↔◌, ◌<◌, ◌≤◌, ◌++◌, ℕ, Bool, List, [], ◌∷◌, length, map, Some, option_map, option_to_list}
 use Rattle.std.specs.declared.cmp.Ordering.{Ordering}
 use Rattle.std.specs.Ordering.{nat_cmp, ordering_then}
 use Rattle.std.specs.Cmp.Lexicographic.{slice_cmp}
 use Rattle.std.specs.declared.cmp.Ordering.TheVariants.{Less}
-use Rattle.std.specs.List.{AllByRecursion, slice_get}
+use Rattle.std.specs.Hash.FoldHasher as folding
+use Rattle.std.specs.List.{AllByRecursion, flat_map, fold, slice_get}
 use Rattle.std.specs.List.Sorted.{IsStrictlySortedBy}
 use Rattle.gix_refspec.specs.declared.match_group.util.conflicts.Claim.{Claim}
 use Rattle.gix_refspec.specs.Reading.{Reading}
@@ -20,10 +21,6 @@ HasClaim (c ∷ cs) k d = ((c.place ≡ k) × (c.destination.now ≡ d)) ⊎ Has
 -- by the destination, and then by the place
 abbrev pub claim_cmp : Claim → Claim → Ordering
 claim_cmp x y = ordering_then (slice_cmp nat_cmp x.destination.now y.destination.now) (nat_cmp x.place y.place)
-
--- the destinations of claims
-abbrev pub destinations_of : List Claim → List (List ℕ)
-destinations_of cs = map (λ c. c.destination.now) cs
 
 -- the places of claims
 abbrev pub claimed_places : List Claim → List ℕ
@@ -69,3 +66,11 @@ pub record IsOver (g : List Reading) (l : List Mapped) (run : List Claim) (c : C
 -- one claim to a destination adds no conflict, and several add theirs behind the others
 abbrev pub AddsConflict : List Reading → List Mapped → List Claim → List Conflict → List Conflict → Type 0
 AddsConflict g l run old new = ((length run ≤ 1) × (new ≡ old)) ⊎ ((c : Conflict) × (1 < length run) × IsOver g l run c × (new ≡ old ++ c ∷ []))
+
+-- the hash of a name
+abbrev pub name_hash : List ℕ → ℕ
+name_hash n = folding.finish (fold folding.write folding.initial (n ∷ []))
+
+-- the hashes of the destinations that are there
+abbrev pub destination_hashes : List Mapped → List ℕ
+destination_hashes l = flat_map (λ m. option_to_list (option_map name_hash m.destination)) l

@@ -1,24 +1,25 @@
 //! Destinations that several sources are mapped to.
 //!
-//! They are found by sorting, so that no names make it slow.
+//! They are found by sorting, so that no names make it slow. Mostly no two destinations have one hash,
+//! and nothing else is sorted.
 
-ghost use Rattle.std.specs.Prelude.{◌≢◌, ◌<◌, ◌≤◌, [], length, map, take, drop, IfOk, OnOk, OnErr, IsTrue};
-ghost use Rattle.std.specs.Ordering.{nat_cmp};
-ghost use Rattle.std.specs.Cmp.Lexicographic.{slice_cmp};
+ghost use Rattle.std.specs.Prelude.{◌≡◌, ◌≢◌, ◌<◌, ◌≤◌, [], List, ℕ, length, map, take, drop, IfOk, OnOk, OnErr, IsTrue};
 ghost use Rattle.std.specs.List.Sorted.{IsStrictlySortedBy};
 ghost use Rattle.gix_refspec.specs.Spec.{reading_of};
-ghost use Rattle.gix_refspec.specs.Group.{mapped_of};
-ghost use Rattle.gix_refspec.specs.Validation.{IndexesFit, AreConflicts};
+ghost use Rattle.gix_refspec.specs.Group.{mapped_of, name_bytes};
+ghost use Rattle.gix_refspec.specs.Validation.{IndexesFit, IsContested, AreConflicts};
 ghost use Rattle.gix_refspec.specs.Issue.{conflict_of};
-ghost use Rattle.gix_refspec.specs.Private.Claims.{AddsConflict, AreClaims, AreFirsts, AreRivals, IsCut, IsOver, claim_cmp, destinations_of};
+ghost use Rattle.gix_refspec.specs.Private.Kept.{Rises};
+ghost use Rattle.gix_refspec.specs.Private.Claims.{AddsConflict, AreClaims, AreFirsts, AreRivals, IsCut, IsOver, claim_cmp, destination_hashes, name_hash};
 
-use crate::match_group::types::Mapping;
+use crate::match_group::types::{Mapping, NameRef};
 use crate::match_group::util::kept::is_flagged;
 use crate::match_group::util::kept::repeats::repeats_of;
 use crate::match_group::validate::Issue;
 use crate::spec::RefSpecRef;
 use bstr::{BStr, BString};
 use std::alloc::{AllocError, Global};
+use std::hash::{FoldHasher, Hash, Hasher};
 
 // A destination, and the place of a mapping to it.
 #[derive(Clone, Copy, PartialEq, Eq, PartialOrd, Ord)]
@@ -41,13 +42,58 @@ pub(crate) fn issues_of(
     if mappings.is_empty() {
         return Ok(Vec::new(alloc));
     }
-    let claims = claims_in_order(alloc, mappings, &[])?;
-    if are_apart(claims.as_slice()) {
+    if destinations_differ(alloc, mappings)? {
         return Ok(Vec::new(alloc));
     }
     let repeats = repeats_of(alloc, mappings)?;
     let firsts = claims_in_order(alloc, mappings, repeats.as_slice())?;
     issues_among(alloc, specs, mappings, firsts.as_slice())
+}
+
+// Whether the destinations all have different hashes, as different names mostly have. Numbers are
+// sorted faster than names.
+fn destinations_differ(alloc: Global, mappings: &[Mapping<'_, '_>]) -> Result<bool, AllocError>
+    ensures { IfOk result (λ differ. IsTrue differ →
+        (d : List ℕ) → ¬ (IsContested (map mapped_of mappings.now) d)) }
+{
+    let mut hashes = hashes_of(alloc, mappings)?;
+    hashes.sort_unstable();
+    Ok(rise(hashes.as_slice()))
+}
+
+// Whether each number is below the next one.
+fn rise(numbers: &[u64]) -> bool
+    ensures { IsTrue result → Rises numbers.now }
+{
+    for at in 1..numbers.len() {
+        if numbers[at - 1] >= numbers[at] {
+            return false;
+        }
+    }
+    true
+}
+
+// The hashes of the destinations that are there.
+fn hashes_of(alloc: Global, mappings: &[Mapping<'_, '_>]) -> Result<Vec<u64>, AllocError>
+    ensures { IfOk result (λ hashes. hashes.items ≡
+        destination_hashes (map mapped_of mappings.now)) }
+{
+    let mut hashes = Vec::with_capacity(alloc, mappings.len())?;
+    for mapping in mappings {
+        if let Some(name) = &mapping.rhs {
+            hashes.push(hash_of(name))?;
+        }
+    }
+    Ok(hashes)
+}
+
+// The hash of a name.
+fn hash_of(name: &NameRef<'_>) -> u64
+    ensures { result ≡ name_hash (name_bytes name.now) }
+{
+    let mut state = FoldHasher::default();
+    name.hash(&mut state);
+    state.finish()
 }
 
 // The claims of the mappings that have a destination and aren't flagged, in order.
@@ -72,19 +118,6 @@ fn claims_in_order<'m>(
     }
     claims.sort_unstable();
     Ok(claims)
-}
-
-// Whether no two of some claims in order have one destination.
-fn are_apart(claims: &[Claim<'_>]) -> bool
-    requires { IsStrictlySortedBy claim_cmp claims.now }
-    ensures { IsTrue result → IsStrictlySortedBy (slice_cmp nat_cmp) (destinations_of claims.now) }
-{
-    for at in 1..claims.len() {
-        if claims[at - 1].destination == claims[at].destination {
-            return false;
-        }
-    }
-    true
 }
 
 // The conflicts of claims that are each the first of its source.
