@@ -5,8 +5,8 @@ use Rattle.std.specs.List.Sorted.{IsPermutation}
 use Rattle.std.proofs.lemmas.List.Sorted.{IsPermutation-sym}
 use Rattle.gix_refspec.specs.Mappings.{Mapped}
 use Rattle.gix_refspec.specs.Validation.{IsContested}
-use Rattle.gix_refspec.specs.Private.Kept.{Has, Rises}
-use Rattle.gix_refspec.specs.Private.Claims.{destination_hashes, name_hash}
+use Rattle.gix_refspec.specs.Private.Kept.{Has, Rises, name_hash}
+use Rattle.gix_refspec.specs.Private.Claims.{destination_hashes}
 use Rattle.gix_refspec.proofs.FirstLemmas.{at_contained}
 use Rattle.gix_refspec.proofs.RepeatLemmas.{Contains-from_Has, Has-left, Has-right, apart_places}
 

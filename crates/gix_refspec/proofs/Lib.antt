@@ -43,3 +43,6 @@ pub mod ValidationLemmas
 pub mod AfterLemmas
 pub mod EqualLemmas
 pub mod ApartLemmas
+pub mod PlacesLemmas
+pub mod MarkLemmas
+pub mod IndexLemmas

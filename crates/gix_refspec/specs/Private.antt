@@ -4,5 +4,6 @@ pub mod Pieces
 pub mod SideViews
 pub mod Sides
 pub mod HitViews
+pub mod Index
 pub mod Kept
 pub mod Claims

@@ -4,14 +4,13 @@ use Rattle.std.specs.declared.cmp.Ordering.{Ordering}
 use Rattle.std.specs.Ordering.{nat_cmp, ordering_then}
 use Rattle.std.specs.Cmp.Lexicographic.{slice_cmp}
 use Rattle.std.specs.declared.cmp.Ordering.TheVariants.{Less}
-use Rattle.std.specs.Hash.FoldHasher as folding
-use Rattle.std.specs.List.{AllByRecursion, flat_map, fold, slice_get}
+use Rattle.std.specs.List.{AllByRecursion, flat_map, slice_get}
 use Rattle.std.specs.List.Sorted.{IsStrictlySortedBy}
 use Rattle.gix_refspec.specs.declared.match_group.util.conflicts.Claim.{Claim}
 use Rattle.gix_refspec.specs.Reading.{Reading}
 use Rattle.gix_refspec.specs.Mappings.{Mapped}
 use Rattle.gix_refspec.specs.Validation.{Conflict, IsConflict, IsFirstTo}
-use Rattle.gix_refspec.specs.Private.Kept.{IsFlagged}
+use Rattle.gix_refspec.specs.Private.Kept.{IsFlagged, name_hash}
 
 -- one of the claims is that of place k to the destination d
 abbrev pub HasClaim : List Claim → ℕ → List ℕ → Type 0
@@ -66,10 +65,6 @@ pub record IsOver (g : List Reading) (l : List Mapped) (run : List Claim) (c : C
 -- one claim to a destination adds no conflict, and several add theirs behind the others
 abbrev pub AddsConflict : List Reading → List Mapped → List Claim → List Conflict → List Conflict → Type 0
 AddsConflict g l run old new = ((length run ≤ 1) × (new ≡ old)) ⊎ ((c : Conflict) × (1 < length run) × IsOver g l run c × (new ≡ old ++ c ∷ []))
-
--- the hash of a name
-abbrev pub name_hash : List ℕ → ℕ
-name_hash n = folding.finish (fold folding.write folding.initial (n ∷ []))
 
 -- the hashes of the destinations that are there
 abbrev pub destination_hashes : List Mapped → List ℕ

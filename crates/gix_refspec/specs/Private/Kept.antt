@@ -66,6 +66,10 @@ pair_writes m = source_writes m.source ++ fed.option (λ d. d ∷ []) m.destinat
 abbrev pub pair_hash : Mapped → ℕ
 pair_hash m = folding.finish (fold folding.write folding.initial (pair_writes m))
 
+-- the hash of a name
+abbrev pub name_hash : List ℕ → ℕ
+name_hash n = folding.finish (fold folding.write folding.initial (n ∷ []))
+
 -- k is one of the numbers
 abbrev pub Has : List ℕ → ℕ → Type 0
 Has [] k = ⊥

@@ -3,6 +3,8 @@
 pub(crate) mod conflicts;
 pub(crate) mod ends;
 mod fill;
+mod hashes;
 pub(crate) mod hits;
+pub(crate) mod index;
 pub(crate) mod kept;
 mod matched;

@@ -6,20 +6,20 @@
 ghost use Rattle.std.specs.Prelude.{◌≡◌, ◌≢◌, ◌<◌, ◌≤◌, [], List, ℕ, length, map, take, drop, IfOk, OnOk, OnErr, IsTrue};
 ghost use Rattle.std.specs.List.Sorted.{IsStrictlySortedBy};
 ghost use Rattle.gix_refspec.specs.Spec.{reading_of};
-ghost use Rattle.gix_refspec.specs.Group.{mapped_of, name_bytes};
+ghost use Rattle.gix_refspec.specs.Group.{mapped_of};
 ghost use Rattle.gix_refspec.specs.Validation.{IndexesFit, IsContested, AreConflicts};
 ghost use Rattle.gix_refspec.specs.Issue.{conflict_of};
 ghost use Rattle.gix_refspec.specs.Private.Kept.{Rises};
-ghost use Rattle.gix_refspec.specs.Private.Claims.{AddsConflict, AreClaims, AreFirsts, AreRivals, IsCut, IsOver, claim_cmp, destination_hashes, name_hash};
+ghost use Rattle.gix_refspec.specs.Private.Claims.{AddsConflict, AreClaims, AreFirsts, AreRivals, IsCut, IsOver, claim_cmp, destination_hashes};
 
-use crate::match_group::types::{Mapping, NameRef};
+use crate::match_group::types::Mapping;
+use crate::match_group::util::hashes::hash_of;
 use crate::match_group::util::kept::is_flagged;
 use crate::match_group::util::kept::repeats::repeats_of;
 use crate::match_group::validate::Issue;
 use crate::spec::RefSpecRef;
 use bstr::{BStr, BString};
 use std::alloc::{AllocError, Global};
-use std::hash::{FoldHasher, Hash, Hasher};
 
 // A destination, and the place of a mapping to it.
 #[derive(Clone, Copy, PartialEq, Eq, PartialOrd, Ord)]
@@ -81,19 +81,10 @@ fn hashes_of(alloc: Global, mappings: &[Mapping<'_, '_>]) -> Result<Vec<u64>, Al
     let mut hashes = Vec::with_capacity(alloc, mappings.len())?;
     for mapping in mappings {
         if let Some(name) = &mapping.rhs {
-            hashes.push(hash_of(name))?;
+            hashes.push(hash_of(name.as_bstr().as_bytes()))?;
         }
     }
     Ok(hashes)
-}
-
-// The hash of a name.
-fn hash_of(name: &NameRef<'_>) -> u64
-    ensures { result ≡ name_hash (name_bytes name.now) }
-{
-    let mut state = FoldHasher::default();
-    name.hash(&mut state);
-    state.finish()
 }
 
 // The claims of the mappings that have a destination and aren't flagged, in order.

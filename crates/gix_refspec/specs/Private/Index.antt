@@ -1,0 +1,79 @@
+-- How full names and partial ones are looked up. Only private functions cite these words.
+use Rattle.std.specs.Prelude.{◌≡◌, ℕ, ◌%◌, Bool, true, false, List, [], ◌∷◌, Option, None, Some, length, slice_index_or, unwrap_or, option_map, bytes_eq}
+use Rattle.std.specs.Borrow.{Bor}
+use Rattle.std.specs.List.{AllByRecursion, Contains}
+use Rattle.std.specs.HashMap as hash
+use Rattle.std.specs.HashMap.{HashMap}
+use Rattle.std.specs.Global.{Vec}
+use Rattle.gix_refspec.specs.declared.match_group.util.ends.Direction.{Direction}
+use Rattle.gix_refspec.specs.declared.match_group.util.index.NameIndex.{NameIndex}
+use Rattle.gix_refspec.specs.Reading.{Reading}
+use Rattle.gix_refspec.specs.Side.{SideKind, pattern, full_name, object, partial, HasKind, IsCandidate, candidates}
+use Rattle.gix_refspec.specs.Match.{Ref, MatchesAs}
+use Rattle.gix_refspec.specs.Lists.{IsMadeFrom}
+use Rattle.gix_refspec.specs.Hits.{Ends}
+use Rattle.gix_refspec.specs.Private.Kept.{name_hash}
+use Rattle.gix_refspec.specs.Private.HitViews.{HasEnds}
+
+-- a side of the kind asks for the name: a full name for itself, and a partial one for its candidates
+abbrev pub AsksForName : SideKind → List ℕ → Type 0
+AsksForName (pattern before after) n = ⊥
+AsksForName (full_name x) n = n ≡ x
+AsksForName (object id) n = ⊥
+AsksForName (partial x) n = IsCandidate x n
+
+-- the names that a side of the kind asks for, in order
+abbrev pub names_asked_by : SideKind → List (List ℕ)
+names_asked_by (pattern before after) = []
+names_asked_by (full_name x) = x ∷ []
+names_asked_by (object id) = []
+names_asked_by (partial x) = candidates x
+
+-- the places of the refs that a side of the kind matches without a word, in order
+abbrev pub ArePlacesTaken : SideKind → List Ref → List ℕ → Type 0
+ArePlacesTaken kind refs places = IsMadeFrom (λ k r place. MatchesAs kind r None × (place ≡ k)) 0 refs places
+
+-- the places of the refs of a name, in order
+abbrev pub ArePlacesOf : List ℕ → List Ref → List ℕ → Type 0
+ArePlacesOf n refs places = ArePlacesTaken (full_name n) refs places
+
+-- what the map has for a name
+abbrev pub list_of : {X S : Type 0} → HashMap (Bor (List ℕ)) X S → List ℕ → Option X
+list_of m n = hash.get_by (λ k. bytes_eq n k.now) m
+
+-- just these names are listed, each with its places
+pub record HavePlaces (names : List (List ℕ)) (refs : List Ref) (listed : List ℕ → Option (Vec ℕ)) : Type 0 where
+  pub each : (n : List ℕ) → Contains names n → (v : Vec ℕ) × (listed n ≡ Some v) × ArePlacesOf n refs v.items
+  pub others : (n : List ℕ) → ¬ (Contains names n) → listed n ≡ None
+
+-- the mark of the name is there
+abbrev pub IsMarked : List Bool → List ℕ → Type 0
+IsMarked marks n = slice_index_or marks (name_hash n % length marks) false ≡ true
+
+-- the places that the index has for a name
+abbrev pub places_in : NameIndex → List ℕ → List ℕ
+places_in index n = unwrap_or (option_map (λ v. v.items) (list_of index.places n)) []
+
+-- the index has the places of these names, and of no other
+pub record IsIndexOf (names : List (List ℕ)) (refs : List Ref) (index : NameIndex) : Type 0 where
+  pub each : (n : List ℕ) → Contains names n → ArePlacesOf n refs (places_in index n)
+  pub others : (n : List ℕ) → ¬ (Contains names n) → places_in index n ≡ []
+
+-- a side of the kind matches names with no word for a star
+abbrev pub MatchesWhole : SideKind → Type 0
+MatchesWhole (pattern before after) = ⊥
+MatchesWhole (full_name x) = Unit {0}
+MatchesWhole (object id) = Unit {0}
+MatchesWhole (partial x) = Unit {0}
+
+-- the index has the places of each name that a side of the kind asks for
+abbrev pub IsIndexOfSide : SideKind → List Ref → NameIndex → Type 0
+IsIndexOfSide kind refs index = (n : List ℕ) → AsksForName kind n → ArePlacesOf n refs (places_in index n)
+
+-- P holds of each name that the specs ask for in the direction
+abbrev pub AllAsked : (List ℕ → Type 0) → Direction → List Reading → Type 0
+AllAsked P direction g = AllByRecursion (λ r. (ends : Ends) (kind : SideKind) (n : List ℕ) → HasEnds direction r ends → HasKind ends.near kind → AsksForName kind n → P n) g
+
+-- the index has the places of each name that the specs ask for in the direction
+abbrev pub IsIndexFor : Direction → List Reading → List Ref → NameIndex → Type 0
+IsIndexFor direction g refs index = AllAsked (λ n. ArePlacesOf n refs (places_in index n)) direction g

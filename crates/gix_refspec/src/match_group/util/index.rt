@@ -1,0 +1,170 @@
+//! Where the names that specs ask for stand among the items. A full name asks for itself, and a
+//! partial one for its candidates. Names that no spec asks for take no memory and are no keys, since
+//! a server chooses them.
+
+ghost use Rattle.std.specs.Prelude.{◌≡◌, ◌↔◌, ◌<◌, ◌%◌, ◌++◌, [], List, ℕ, length, map, IfOk, OnOk, IsTrue};
+ghost use Rattle.std.specs.List.{AllByRecursion, Contains};
+ghost use Rattle.bstr.specs.Owned.{bstring_bytes};
+ghost use Rattle.gix_refspec.specs.Spec.{reading_of};
+ghost use Rattle.gix_refspec.specs.Side.{IsCandidate, partial as partial_kind};
+ghost use Rattle.gix_refspec.specs.Match.{Ref};
+ghost use Rattle.gix_refspec.specs.Group.{ref_of};
+ghost use Rattle.gix_refspec.specs.Private.SideViews.{shown_kind};
+ghost use Rattle.gix_refspec.specs.Private.Kept.{name_hash};
+ghost use Rattle.gix_refspec.specs.Private.Index.{AllAsked, HavePlaces, IsMarked, list_of, names_asked_by};
+
+use super::ends::{Direction, ends_of};
+use super::hashes::hash_of;
+use crate::match_group::types::Item;
+use crate::side::{SideKind, candidates, joined};
+use crate::spec::RefSpecRef;
+use bstr::BString;
+use std::alloc::{AllocError, Global};
+use std::collections::HashMap;
+
+// Of sixteen names that aren't asked for one has a mark.
+const MARKS_A_NAME: usize = 16;
+
+// For each of some names all its places among the items, rising.
+#[derive(Drop)]
+pub(crate) struct NameIndex<'n> {
+    places: HashMap<&'n [u8], Vec<usize>>,
+}
+
+// The names that specs ask for in a direction.
+pub(crate) fn names_asked(
+    alloc: Global,
+    direction: Direction,
+    specs: &[RefSpecRef<'_>],
+) -> Result<Vec<BString>, AllocError>
+    ensures { IfOk result (λ names. AllAsked
+        (Contains (map bstring_bytes names.items)) direction (map reading_of specs.now)) }
+{
+    let mut names = Vec::new(alloc);
+    for spec in specs {
+        if let Some(ends) = ends_of(direction, spec) {
+            add_names(alloc, ends.near, &mut names)?;
+        }
+    }
+    Ok(names)
+}
+
+// Adds the names that a side asks for.
+fn add_names(alloc: Global, near: SideKind<'_>, names: &mut Vec<BString>) -> Result<(), AllocError>
+    ensures { OnOk result (map bstring_bytes names.new.items ≡
+        map bstring_bytes names.old.items ++ names_asked_by (shown_kind near.entry)) }
+{
+    match near {
+        SideKind::FullName(name) => names.push(joined(alloc, b"", name, b"")?)?,
+        SideKind::Partial(name) => names.append(&mut candidates(alloc, name)?)?,
+        SideKind::Pattern { .. } | SideKind::Object(_) => {}
+    }
+    Ok(())
+}
+
+// A map whose keys are just these names, each without a place.
+fn without_places<'n>(
+    alloc: Global,
+    names: &'n [BString],
+) -> Result<HashMap<&'n [u8], Vec<usize>>, AllocError>
+    ensures { IfOk result (λ places. HavePlaces
+        (map bstring_bytes names.now) [] (list_of places)) }
+{
+    let mut places = HashMap::new(alloc);
+    for name in names {
+        places.insert(name.as_bstr().as_bytes(), Vec::new(alloc))?;
+    }
+    Ok(places)
+}
+
+// Marks for the hashes of some names. Most other names have none.
+fn marks_of(alloc: Global, names: &[BString]) -> Result<Vec<bool>, AllocError>
+    requires { 0 < length names.now }
+    ensures some { IfOk result (λ marks. 0 < length marks.items) }
+    ensures all { IfOk result (λ marks. AllByRecursion
+        (IsMarked marks.items) (map bstring_bytes names.now)) }
+{
+    let mut marks = Vec::new(alloc);
+    marks.resize(names.len().saturating_mul(MARKS_A_NAME), false)?;
+    for name in names {
+        let place = mark_place(name.as_bstr().as_bytes(), marks.as_slice().len());
+        marks[place] = true;
+    }
+    Ok(marks)
+}
+
+// Where among so many marks that of a name stands.
+fn mark_place(name: &[u8], len: usize) -> usize
+    requires { 0 < len }
+    ensures below { result < len }
+    ensures value { result ≡ name_hash name.now % len }
+{
+    (hash_of(name) % len as u64) as usize
+}
+
+// Whether the mark of a name is there.
+fn is_marked(marks: &[bool], name: &[u8]) -> bool
+    requires { 0 < length marks.now }
+    ensures { IsTrue result ↔ IsMarked marks.now name.now }
+{
+    marks[mark_place(name, marks.len())]
+}
+
+impl<'n> NameIndex<'n> {
+    ghost use Rattle.gix_refspec.specs.Private.Index.{ArePlacesOf, ArePlacesTaken, IsIndexOf, places_in};
+
+    // The index of some names.
+    pub(crate) fn of(
+        alloc: Global,
+        names: &'n [BString],
+        items: &[Item<'_>],
+    ) -> Result<NameIndex<'n>, AllocError>
+        ensures { IfOk result (λ index. IsIndexOf
+            (map bstring_bytes names.now) (map ref_of items.now) index) }
+    {
+        let mut places = without_places(alloc, names)?;
+        if names.is_empty() {
+            return Ok(NameIndex { places });
+        }
+        let marks = marks_of(alloc, names)?;
+        for (place, item) in items.iter().enumerate() {
+            let name = item.full_ref_name.as_bytes();
+            // Most names are told apart by their marks, which is cheaper than to look for them.
+            if !is_marked(marks.as_slice(), name) {
+                continue;
+            }
+            if let Some(list) = places.get_mut(name) {
+                list.push(place)?;
+            }
+        }
+        Ok(NameIndex { places })
+    }
+
+    // The places of a name.
+    pub(crate) fn places(&self, name: &[u8]) -> &[usize]
+        ensures { result.now ≡ places_in self.now name.now }
+    {
+        match self.places.get(name) {
+            None => &[],
+            Some(places) => places.as_slice(),
+        }
+    }
+
+    // The places of the candidates of a partial name, rising.
+    pub(crate) fn candidate_places(
+        &self,
+        alloc: Global,
+        partial: &[u8],
+    ) -> Result<Vec<usize>, AllocError>
+        ensures { IfOk result (λ places. (refs : List Ref)
+            → ((n : List ℕ) → IsCandidate partial.now n → ArePlacesOf n refs (places_in self.now n))
+            → ArePlacesTaken (partial_kind partial.now) refs places.items) }
+    {
+        let mut places = Vec::new(alloc);
+        for name in &candidates(alloc, partial)? {
+            places.extend_from_slice(self.places(name.as_bstr().as_bytes()))?;
+        }
+        places.sort_unstable();
+        Ok(places)
+    }
+}
