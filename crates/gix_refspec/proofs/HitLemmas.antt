@@ -1,7 +1,7 @@
 -- What specs match, and what becomes of it.
 use Rattle.std.proofs.Common.{◌≡◌, ◌≢◌, ◌⊎◌, inl, inr, ℕ, suc, ◌+◌, ◌<◌, List, [], ◌∷◌, ◌++◌, codes, map, take, drop, get_or, Option, None, Some, option_map, option_to_list, is_some, true, MatchOption, Bor, length, refl, sym, ap, ◌∙◌, subst, append_assoc}
 use Rattle.std.proofs.lemmas.List.{append-nil, append_cancel_left, map-append}
-use Rattle.std.proofs.lemmas.Bool.{cases_eq, false≢true}
+use Rattle.std.proofs.lemmas.Bool.{false≢true}
 use Rattle.bstr.specs.declared.bstr.BStr.{BStr}
 use Rattle.bstr.specs.BStr.{bstr_bytes}
 use Rattle.gix_refspec.specs.declared.match_group.types.Item.{Item}
@@ -266,7 +266,7 @@ specs_cut : (specs : List RefSpecRef) (i : ℕ) (s : RefSpecRef) → i < length 
 specs_cut specs i s below is = map_cut reading_of specs i s below ∙ ap (λ t. map reading_of (take i specs) ++ (reading_of t ∷ map reading_of (drop (suc i) specs))) (sym is)
 
 -- one more spec
-spec_hits : (direction : Direction) (specs : List RefSpecRef) (items : List Ref) (i : ℕ) (s : RefSpecRef) (g h : List Hit) → i < length specs → s ≡ get_or specs i s → AreHits (HasEnds direction) (map reading_of (take i specs)) items g → AreSpecHits (HasEnds direction) items i (reading_of s) h → AreHits (HasEnds direction) (map reading_of (take (i + 1) specs)) items (g ++ h)
+pub spec_hits : (direction : Direction) (specs : List RefSpecRef) (items : List Ref) (i : ℕ) (s : RefSpecRef) (g h : List Hit) → i < length specs → s ≡ get_or specs i s → AreHits (HasEnds direction) (map reading_of (take i specs)) items g → AreSpecHits (HasEnds direction) items i (reading_of s) h → AreHits (HasEnds direction) (map reading_of (take (i + 1) specs)) items (g ++ h)
 spec_hits direction specs items i s g h below is so_far here =
     subst (λ rs. AreHits (HasEnds direction) rs items (g ++ h)) (sym (specs_more specs i s below is))
     (joined_next (AreSpecHits (HasEnds direction) items) i (map reading_of (take i specs)) (reading_of s) g h (map_long reading_of specs i below) so_far here)
@@ -383,14 +383,6 @@ no_forward_hits g items none = subst (AreHits AreForwardEnds g items) (map_nothi
 pub no_backward_hits : (g : List Reading) (items : List Ref) → AreBackward g items [] → AreHits AreBackwardEnds g items []
 no_backward_hits g items none = subst (AreHits AreBackwardEnds g items) (map_nothing backward_of none.hits (sym none.all)) none.are_hits
 
--- room that is asked for serves an id or a hit
-pub some_forward : (g : List Reading) (items : List Ref) (ids hits room : ℕ) → (ids ≢ 0 → ¬ (IsMadeFrom IsIdMapping 0 g [])) → (hits ≢ 0 → ¬ (AreHits AreForwardEnds g items [])) → (ids ≡ 0 → hits ≡ 0 → room ≡ 0) → room ≢ 0 → ¬ (AreForward g items [])
-some_forward g items ids hits room of_ids of_hits none some empty =
-    elim (cases_eq ids 0) [
-      | inl no_id ↦ of_hits (λ no_hit. some (none no_id no_hit)) (no_forward_hits g items empty)
-      | inr id ↦ of_ids id (no_ids g items empty)
-    ]
-
 -- a far end becomes one name
 filled_once : (x : Option (List ℕ)) (word n m : Option (List ℕ)) → IsFilled x word n → IsFilled x word m → n ≡ m
 filled_once None word n m a b = a ∙ sym b
@@ -467,12 +459,7 @@ pub all_made : (direction : Direction) (g : List Reading) (items : List Ref) (ol
 all_made Forward g items old new first adds = record { ids = made_in Forward old; hits = adds.hits; are_ids = first; are_hits = adds.are; all = adds.all }
 all_made Backward g items old new first adds = record { hits = adds.hits; are_hits = adds.are; all = adds.all ∙ ap (λ (l : List Mapped). l ++ map (mapping_of Backward) adds.hits) first }
 
--- where none is made, none comes first
-pub none_first : (direction : Direction) (g : List Reading) (items : List Ref) → AreMade direction g items [] → AreFirst direction g []
-none_first Forward g items none = no_ids g items none
-none_first Backward g items none = refl
-
--- and there is no hit
+-- where nothing is made, there is no hit
 pub none_hit : (direction : Direction) (g : List Reading) (items : List Ref) → AreMade direction g items [] → AreHits (HasEnds direction) g items []
 none_hit Forward g items none = no_forward_hits g items none
 none_hit Backward g items none = no_backward_hits g items none

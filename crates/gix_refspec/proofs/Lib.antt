@@ -43,6 +43,8 @@ pub mod ValidationLemmas
 pub mod AfterLemmas
 pub mod EqualLemmas
 pub mod ApartLemmas
+pub mod PlacedLemmas
+pub mod NoHitLemmas
 pub mod PlacesLemmas
 pub mod MarkLemmas
 pub mod IndexLemmas

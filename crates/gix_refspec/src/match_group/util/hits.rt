@@ -1,17 +1,21 @@
 //! Which items the specs of a group match, and the mappings that these make. A direction only
 //! chooses which end of a spec is near, and matches items, and which is far, and is filled.
 
-ghost use Rattle.std.specs.Prelude.{◌≡◌, ◌≢◌, ◌⊎◌, [], map, IfOk, OnOk, OnErr};
+ghost use Rattle.std.specs.Prelude.{◌≡◌, ℕ, [], map, MatchBool, IfOk, OnOk, OnErr};
 ghost use Rattle.gix_refspec.specs.Spec.{reading_of};
 ghost use Rattle.gix_refspec.specs.Lists.{IsMadeFrom};
 ghost use Rattle.gix_refspec.specs.Group.{ref_of, mapped_of};
 ghost use Rattle.gix_refspec.specs.Hits.{AreHits, forward_of, backward_of, IsIdMapping};
+ghost use Rattle.gix_refspec.specs.Private.SideViews.{shown_kind};
+ghost use Rattle.gix_refspec.specs.Private.Index.{ArePlacesTaken, IsIndexFor, IsIndexOfSide, MatchesWhole};
 ghost use Rattle.gix_refspec.specs.Private.HitViews.{HasEnds, shown_hit, AreHitsOfKinds, HasHit, AddsHits, AreFirst, AreMade, made_in};
 
 use super::ends::{Direction, Ends, asked_of, ends_of};
 use super::fill::filled_end;
+use super::index::{NameIndex, names_asked};
 use super::matched::matched;
 use crate::match_group::types::{Item, Mapping, NameRef, SourceRef};
+use crate::side::SideKind;
 use crate::spec::RefSpecRef;
 use bstr::BStr;
 use std::alloc::{AllocError, Global};
@@ -45,22 +49,137 @@ pub(crate) fn mappings_of<'spec, 'item>(
     ensures memory { OnErr result (¬ (AreMade
         direction (map reading_of specs.now) (map ref_of items.now) [])) }
 {
+    match looked_up(alloc, direction, specs, items) {
+        Ok(made) => Ok(made),
+        Err(error) => none_or(error, alloc, direction, specs, items),
+    }
+}
+
+// No mappings, where none are made, or else the error. Without memory there is no index, so all items
+// are gone through for each spec.
+fn none_or<'spec, 'item>(
+    error: AllocError,
+    alloc: Global,
+    direction: Direction,
+    specs: &[RefSpecRef<'spec>],
+    items: &[Item<'item>],
+) -> Result<Made<'spec, 'item>, AllocError>
+    ensures ok { IfOk result (λ made. AreMade
+        direction (map reading_of specs.now) (map ref_of items.now) (made_in direction made)) }
+    ensures memory { OnErr result (¬ (AreMade
+        direction (map reading_of specs.now) (map ref_of items.now) [])) }
+{
+    if makes_some(direction, specs, items) {
+        return Err(error);
+    }
+    Ok(Made {
+        forward: Vec::new(alloc),
+        backward: Vec::new(alloc),
+    })
+}
+
+// Whether a direction makes some mapping.
+fn makes_some(direction: Direction, specs: &[RefSpecRef<'_>], items: &[Item<'_>]) -> bool
+    ensures { MatchBool result
+        (¬ (AreMade direction (map reading_of specs.now) (map ref_of items.now) []))
+        (AreMade direction (map reading_of specs.now) (map ref_of items.now) []) }
+{
+    let hits = has_hit(direction, specs, items);
+    match direction {
+        Direction::Forward => hits || has_id(specs),
+        Direction::Backward => hits,
+    }
+}
+
+// Whether some positive spec has an id as its source.
+fn has_id(specs: &[RefSpecRef<'_>]) -> bool
+    ensures { MatchBool result
+        (¬ (IsMadeFrom IsIdMapping 0 (map reading_of specs.now) []))
+        (IsMadeFrom IsIdMapping 0 (map reading_of specs.now) []) }
+{
+    for spec in specs {
+        if asked_of(spec).is_some() {
+            return true;
+        }
+    }
+    false
+}
+
+// Whether some spec hits some item.
+fn has_hit(direction: Direction, specs: &[RefSpecRef<'_>], items: &[Item<'_>]) -> bool
+    ensures { MatchBool result
+        (¬ (AreHits (HasEnds direction) (map reading_of specs.now) (map ref_of items.now) []))
+        (AreHits (HasEnds direction) (map reading_of specs.now) (map ref_of items.now) []) }
+{
+    for spec in specs {
+        if let Some(ends) = ends_of(direction, spec) {
+            if hits_some(ends, items) {
+                return true;
+            }
+        }
+    }
+    false
+}
+
+// Whether a spec with these ends hits some item.
+fn hits_some(ends: Ends<'_>, items: &[Item<'_>]) -> bool
+    ensures { MatchBool result
+        (HasHit ends.entry (map ref_of items.now))
+        ((spec : ℕ) → AreHitsOfKinds
+        ends.entry spec (map ref_of items.now) (map ref_of items.now) []) }
+{
+    for item in items {
+        if matched(ends.near, item).is_some() {
+            return true;
+        }
+    }
+    false
+}
+
+// The mappings of a direction, with an index of the names that the specs ask for.
+fn looked_up<'spec, 'item>(
+    alloc: Global,
+    direction: Direction,
+    specs: &[RefSpecRef<'spec>],
+    items: &[Item<'item>],
+) -> Result<Made<'spec, 'item>, AllocError>
+    ensures { IfOk result (λ made. AreMade
+        direction (map reading_of specs.now) (map ref_of items.now) (made_in direction made)) }
+{
+    let names = names_asked(alloc, direction, specs)?;
+    let index = NameIndex::of(alloc, names.as_slice(), items)?;
     let room = room_for(direction, specs, items);
     let mut made = started(alloc, direction, specs, room)?;
-    add_hits(alloc, direction, specs, items, &mut made)?;
+    add_hits(alloc, direction, specs, &index, items, &mut made)?;
     Ok(made)
 }
 
-// How many mappings a direction makes.
-fn room_for(direction: Direction, specs: &[RefSpecRef<'_>], items: &[Item<'_>]) -> usize
-    ensures { result ≢ 0 → ¬ (AreMade
-        direction (map reading_of specs.now) (map ref_of items.now) []) }
-{
-    let hits = hit_count(direction, specs, items);
-    match direction {
-        Direction::Forward => id_count(specs).saturating_add(hits),
-        Direction::Backward => hits,
+// How many mappings a direction makes of ids and of sides that are no names. The list grows for
+// those of names, as these are looked up.
+fn room_for(direction: Direction, specs: &[RefSpecRef<'_>], items: &[Item<'_>]) -> usize {
+    let mut room: usize = 0;
+    for spec in specs {
+        if let Some(ends) = ends_of(direction, spec) {
+            room = room.saturating_add(match_count(ends.near, items));
+        } else if asked_of(spec).is_some() {
+            room = room.saturating_add(1);
+        }
     }
+    room
+}
+
+// How many items a side matches that is no name.
+fn match_count(near: SideKind<'_>, items: &[Item<'_>]) -> usize {
+    if let SideKind::FullName(_) | SideKind::Partial(_) = near {
+        return 0;
+    }
+    let mut count: usize = 0;
+    for item in items {
+        if matched(near, item).is_some() {
+            count = count.saturating_add(1);
+        }
+    }
+    count
 }
 
 // The mappings of a direction that take no item, with room for so many.
@@ -70,10 +189,8 @@ fn started<'spec, 'item>(
     specs: &[RefSpecRef<'spec>],
     room: usize,
 ) -> Result<Made<'spec, 'item>, AllocError>
-    ensures ok { IfOk result (λ made. AreFirst
+    ensures { IfOk result (λ made. AreFirst
         direction (map reading_of specs.now) (made_in direction made)) }
-    ensures memory { OnErr result ((room ≢ 0) ⊎ ¬ (AreFirst
-        direction (map reading_of specs.now) [])) }
 {
     Ok(match direction {
         Direction::Forward => Made {
@@ -82,7 +199,7 @@ fn started<'spec, 'item>(
         },
         Direction::Backward => Made {
             forward: Vec::new(alloc),
-            backward: with_room(alloc, room)?,
+            backward: Vec::with_capacity(alloc, room)?,
         },
     })
 }
@@ -93,25 +210,21 @@ fn ids_of<'spec, 'item>(
     specs: &[RefSpecRef<'spec>],
     room: usize,
 ) -> Result<Vec<Mapping<'item, 'spec>>, AllocError>
-    ensures ok { IfOk result (λ ids. IsMadeFrom
+    ensures { IfOk result (λ ids. IsMadeFrom
         IsIdMapping 0 (map reading_of specs.now) (map mapped_of ids.items)) }
-    ensures memory { OnErr result ((room ≢ 0) ⊎ ¬ (IsMadeFrom
-        IsIdMapping 0 (map reading_of specs.now) [])) }
 {
-    let mut ids = with_room(alloc, room)?;
-    add_ids(alloc, specs, &mut ids)?;
-    Ok(ids)
-}
-
-// An empty list with room for so many. No room takes no memory.
-fn with_room<M>(alloc: Global, room: usize) -> Result<Vec<M>, AllocError>
-    ensures empty { IfOk result (λ list. list.items ≡ []) }
-    ensures memory { OnErr result (room ≢ 0) }
-{
-    if room == 0 {
-        return Ok(Vec::new(alloc));
+    let mut ids = Vec::with_capacity(alloc, room)?;
+    for (place, spec) in specs.iter().enumerate() {
+        if let Some(asked) = asked_of(spec) {
+            ids.push(Mapping {
+                item_index: None,
+                lhs: SourceRef::ObjectId(asked.id),
+                rhs: filled_end(alloc, asked.destination, None)?,
+                spec_index: place,
+            })?;
+        }
     }
-    Vec::with_capacity(alloc, room)
+    Ok(ids)
 }
 
 // From left to right an item's name is the source.
@@ -139,61 +252,23 @@ fn backward_mapping<'spec, 'item>(hit: Hit<'spec, 'item>) -> Mapping<'spec, 'ite
     }
 }
 
-// Adds a mapping for each positive spec whose source is an id.
-fn add_ids<'spec, 'item>(
-    alloc: Global,
-    specs: &[RefSpecRef<'spec>],
-    mappings: &mut Vec<Mapping<'item, 'spec>>,
-) -> Result<(), AllocError>
-    requires { mappings.old.items ≡ [] }
-    ensures ok { OnOk result (IsMadeFrom
-        IsIdMapping 0 (map reading_of specs.now) (map mapped_of mappings.new.items)) }
-    ensures memory { OnErr result (¬ (IsMadeFrom IsIdMapping 0 (map reading_of specs.now) [])) }
-{
-    for (place, spec) in specs.iter().enumerate() {
-        if let Some(asked) = asked_of(spec) {
-            let mapping = Mapping {
-                item_index: None,
-                lhs: SourceRef::ObjectId(asked.id),
-                rhs: filled_end(alloc, asked.destination, None)?,
-                spec_index: place,
-            };
-            mappings.push(mapping)?;
-        }
-    }
-    Ok(())
-}
-
-// How many positive specs have an id as their source.
-fn id_count(specs: &[RefSpecRef<'_>]) -> usize
-    ensures { result ≢ 0 → ¬ (IsMadeFrom IsIdMapping 0 (map reading_of specs.now) []) }
-{
-    let mut count: usize = 0;
-    for spec in specs {
-        if asked_of(spec).is_some() {
-            count += 1;
-        }
-    }
-    count
-}
-
 // Adds what the hits of the specs make.
 fn add_hits<'spec, 'item>(
     alloc: Global,
     direction: Direction,
     specs: &[RefSpecRef<'spec>],
+    index: &NameIndex<'_>,
     items: &[Item<'item>],
     made: &mut Made<'spec, 'item>,
 ) -> Result<(), AllocError>
-    ensures ok { OnOk result (AddsHits
+    requires { IsIndexFor direction (map reading_of specs.now) (map ref_of items.now) index.now }
+    ensures { OnOk result (AddsHits
         direction (AreHits (HasEnds direction) (map reading_of specs.now) (map ref_of items.now))
         made.old made.new) }
-    ensures memory { OnErr result (¬ (AreHits
-        (HasEnds direction) (map reading_of specs.now) (map ref_of items.now) [])) }
 {
     for (place, spec) in specs.iter().enumerate() {
         if let Some(ends) = ends_of(direction, spec) {
-            add_spec_hits(alloc, direction, place, ends, items, made)?;
+            add_spec_hits(alloc, direction, place, ends, index, items, made)?;
         }
     }
     Ok(())
@@ -205,13 +280,77 @@ fn add_spec_hits<'spec, 'item>(
     direction: Direction,
     spec: usize,
     ends: Ends<'spec>,
+    index: &NameIndex<'_>,
     items: &[Item<'item>],
     made: &mut Made<'spec, 'item>,
 ) -> Result<(), AllocError>
-    ensures ok { OnOk result (AddsHits
+    requires { IsIndexOfSide (shown_kind ends.near) (map ref_of items.now) index.now }
+    ensures { OnOk result (AddsHits
         direction (AreHitsOfKinds ends.entry spec (map ref_of items.now) (map ref_of items.now))
         made.old made.new) }
-    ensures memory { OnErr result (HasHit ends.entry (map ref_of items.now)) }
+{
+    match ends.near {
+        SideKind::FullName(name) => {
+            add_places(
+                alloc,
+                direction,
+                spec,
+                ends,
+                index.places(name),
+                items,
+                made,
+            )
+        }
+        SideKind::Partial(name) => {
+            let places = index.candidate_places(alloc, name)?;
+            add_places(alloc, direction, spec, ends, places.as_slice(), items, made)
+        }
+        SideKind::Pattern { .. } | SideKind::Object(_) => {
+            add_matches(alloc, direction, spec, ends, items, made)
+        }
+    }
+}
+
+// Adds what the hits of a spec make, which are those at the places.
+fn add_places<'spec, 'item>(
+    alloc: Global,
+    direction: Direction,
+    spec: usize,
+    ends: Ends<'spec>,
+    places: &[usize],
+    items: &[Item<'item>],
+    made: &mut Made<'spec, 'item>,
+) -> Result<(), AllocError>
+    requires whole { MatchesWhole (shown_kind ends.near) }
+    requires places { ArePlacesTaken (shown_kind ends.near) (map ref_of items.now) places.now }
+    ensures { OnOk result (AddsHits
+        direction (AreHitsOfKinds ends.entry spec (map ref_of items.now) (map ref_of items.now))
+        made.old made.new) }
+{
+    for place in places {
+        let hit = Hit {
+            spec,
+            item: *place,
+            near: items[*place].full_ref_name,
+            far: filled_end(alloc, ends.far, None)?,
+        };
+        made.add(direction, hit)?;
+    }
+    Ok(())
+}
+
+// Adds what the hits of a spec make, going through all items.
+fn add_matches<'spec, 'item>(
+    alloc: Global,
+    direction: Direction,
+    spec: usize,
+    ends: Ends<'spec>,
+    items: &[Item<'item>],
+    made: &mut Made<'spec, 'item>,
+) -> Result<(), AllocError>
+    ensures { OnOk result (AddsHits
+        direction (AreHitsOfKinds ends.entry spec (map ref_of items.now) (map ref_of items.now))
+        made.old made.new) }
 {
     for (place, item) in items.iter().enumerate() {
         if let Some(found) = matched(ends.near, item) {
@@ -242,31 +381,4 @@ impl<'spec, 'item> Made<'spec, 'item> {
         }
         Ok(())
     }
-}
-
-// How many hits the specs have.
-fn hit_count(direction: Direction, specs: &[RefSpecRef<'_>], items: &[Item<'_>]) -> usize
-    ensures { result ≢ 0 →
-        ¬ (AreHits (HasEnds direction) (map reading_of specs.now) (map ref_of items.now) []) }
-{
-    let mut count: usize = 0;
-    for spec in specs {
-        if let Some(ends) = ends_of(direction, spec) {
-            count = count.saturating_add(spec_hit_count(ends, items));
-        }
-    }
-    count
-}
-
-// How many items a spec with these ends matches.
-fn spec_hit_count(ends: Ends<'_>, items: &[Item<'_>]) -> usize
-    ensures { result ≢ 0 → HasHit ends.entry (map ref_of items.now) }
-{
-    let mut count: usize = 0;
-    for item in items {
-        if matched(ends.near, item).is_some() {
-            count += 1;
-        }
-    }
-    count
 }

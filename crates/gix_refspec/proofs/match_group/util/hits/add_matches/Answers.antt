@@ -2,10 +2,9 @@
 use Rattle.std.proofs.Common.{map, take, sym, subst, ◌+◌}
 use Rattle.gix_refspec.specs.Group.{ref_of}
 use Rattle.gix_refspec.specs.Private.HitViews.{AreHitsOfKinds, AddsHits}
-use Rattle.gix_refspec.proofs.HitLemmas.{adds_hit, adds_nothing, item_hit}
-use Rattle.gix_refspec.proofs.PrefixLemmas.{on_any_error}
-use Rattle.gix_refspec.proofs.match_group.util.hits.add_spec_hits.Goals as goal
-use Rattle.gix_refspec.proofs.match_group.util.hits.add_spec_hits.Goals.{in-Some+in_ok-filled_end+in_ok-add, in_default}
+use Rattle.gix_refspec.proofs.HitLemmas.{adds_hit, adds_nothing}
+use Rattle.gix_refspec.proofs.match_group.util.hits.add_matches.Goals as goal
+use Rattle.gix_refspec.proofs.match_group.util.hits.add_matches.Goals.{in-Some+in_ok-filled_end+in_ok-add, in_default}
 
 pub loop-place-preserved : goal.loop-place-preserved
 loop-place-preserved c =
@@ -20,9 +19,3 @@ loop-place-preserved c =
           subst (AddsHits c.args.direction (AreHitsOfKinds kinds c.args.spec (map ref_of xs) (map ref_of (take (i + 1) xs))) c.args.made.now) (sym w.made-is)
           (adds_nothing c.args.direction kinds c.args.spec xs i _ c.args.made.now c.loop-place.made c.loop-place-test.true c.loop-place.invariant w.in_default.ensures)
     ]
-
-pub returns-in_err-filled_end-clause-memory : goal.returns-in_err-filled_end-clause-memory
-returns-in_err-filled_end-clause-memory c = on_any_error c.from_residual.result (item_hit c.args.ends c.args.items.now c.loop-place.place _ c.in-Some.found c.loop-place-test.true c.in-Some.ensures)
-
-pub returns-in_err-add-clause-memory : goal.returns-in_err-add-clause-memory
-returns-in_err-add-clause-memory c = on_any_error c.from_residual-in_err-add.result (item_hit c.args.ends c.args.items.now c.loop-place.place _ c.in-Some.found c.loop-place-test.true c.in-Some.ensures)

@@ -2,7 +2,7 @@
 use Rattle.std.proofs.Common.{map, take}
 use Rattle.gix_refspec.specs.Group.{ref_of}
 use Rattle.gix_refspec.specs.Private.HitViews.{AreHitsOfKinds, AddsHits}
-use Rattle.gix_refspec.proofs.match_group.util.hits.add_spec_hits.Given as goal
+use Rattle.gix_refspec.proofs.match_group.util.hits.add_matches.Given as goal
 
 abbrev pub invariant-loop-place : goal.invariant-loop-place
 invariant-loop-place l = AddsHits l.direction (AreHitsOfKinds l.ends l.spec (map ref_of l.items) (map ref_of (take l.place l.items))) l.initial.made l.made

@@ -1,0 +1,11 @@
+-- An item that matches is hit, and another isn't.
+use Rattle.std.proofs.Common.{sym, ◌∙◌}
+use Rattle.gix_refspec.proofs.HitLemmas.{item_counted}
+use Rattle.gix_refspec.proofs.NoHitLemmas.{found_none, item_missed}
+use Rattle.gix_refspec.proofs.match_group.util.hits.hits_some.Goals as goal
+
+pub returns-then-is_some : goal.returns-then-is_some
+returns-then-is_some c = item_counted c.args.ends c.args.items.now c.loop-item.item-index _ c.matched.result c.loop-item-test.true (sym c.is_some.ensures ∙ c.if-is_some.true) c.matched.ensures
+
+pub loop-item-preserved : goal.loop-item-preserved
+loop-item-preserved c = item_missed c.args.ends c.args.items.now c.loop-item.item-index _ c.loop-item-test.true c.loop-item.invariant (found_none _ _ c.matched.result (sym c.is_some.ensures ∙ c.if-is_some.false) c.matched.ensures)
