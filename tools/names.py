@@ -7,6 +7,11 @@ WITH_NEGATIVES = [
     b"+refs/pull/*:refs/remotes/pull/*", b"^refs/pull/*/merge",
 ]
 UNFORCED = [b"refs/heads/*:refs/remotes/origin/*"]
+ONE_NAME = [b"refs/heads/main:refs/remotes/origin/main"]
+USUAL = [
+    b"+refs/heads/*:refs/remotes/origin/*", b"refs/heads/main:refs/x/main", b"refs/heads/next:refs/x/next",
+    b"refs/notes/commits:refs/notes/origin", b"tags/v1.0:refs/tags/v1.0",
+]
 
 
 def short(random_, number):
@@ -39,6 +44,26 @@ def repeated(count, each, seed):
 def to_one_destination(count):
     """Specs that ask for so many objects by their ids, all for one destination: so these take no matching."""
     return [b"%040x:refs/x" % number for number in range(count)]
+
+
+def full(names, count, seed):
+    """Specs for so many full names, half of them among the names."""
+    random_ = random.Random(seed)
+    there = random_.sample(names, count // 2)
+    others = [b"refs/heads/other-%d/%d" % (random_.randrange(50), number) for number in range(count - count // 2)]
+    asked = there + others
+    random_.shuffle(asked)
+    return [name + b":refs/x/" + name[len(b"refs/"):] for name in asked]
+
+
+def partial(names, count, seed):
+    """Specs for so many partial names, half of them of branches among the names."""
+    random_ = random.Random(seed)
+    prefix = b"refs/heads/"
+    branches = [name[len(prefix):] for name in names if name.startswith(prefix)]
+    asked = random_.sample(branches, count // 2) + [b"other-%d" % number for number in range(count - count // 2)]
+    random_.shuffle(asked)
+    return [name + b":refs/x/" + name for name in asked]
 
 
 def in_file(path):
