@@ -6,3 +6,4 @@ pub mod Output
 pub mod Plan
 pub mod Run
 pub mod Told
+pub mod Words

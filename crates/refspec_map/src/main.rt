@@ -2,6 +2,9 @@
 //! prints what the specs map, or what of it can be written.
 #![tactic(auto)]
 
+ghost use Rattle.std.specs.Prelude.{map, string_bytes};
+ghost use Rattle.refspec_map.specs.Words.{AreWordsOf};
+
 mod canon;
 mod command;
 mod fault;
@@ -50,11 +53,13 @@ fn named_command<R: env::Env + AllocGlobal>(rt: &R) -> io::Result<Option<Command
 }
 
 // The command that words name.
-fn command_of(words: &[String]) -> Option<Command> {
+fn command_of(words: &[String]) -> Option<Command>
+    ensures { AreWordsOf (map string_bytes words.now) result }
+{
     match words {
-        [first, second] if first.as_str() == "canon" => match second.as_str() {
-            "fetch" => Some(Command::CanonFetch),
-            "push" => Some(Command::CanonPush),
+        [first, second] => match (first.as_str(), second.as_str()) {
+            ("canon", "fetch") => Some(Command::CanonFetch),
+            ("canon", "push") => Some(Command::CanonPush),
             _ => None,
         },
         [only] => match only.as_str() {
