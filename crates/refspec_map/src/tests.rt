@@ -14,16 +14,22 @@ use std::alloc::{AllocError, Global};
 use std::io;
 use std::io::{Read, Write};
 
-// Gives one byte a call, and counts its calls.
+// Gives one byte a call and counts its calls. The call with the number of its fault fails so, and
+// those after it would give the rest.
 #[derive(Drop)]
 struct ByteReader<'a> {
     rest: &'a [u8],
     calls: usize,
+    fault: Option<(usize, io::ErrorKind)>,
 }
 
 impl<'a> Read for ByteReader<'a> {
     fn read(&mut self, buf: &mut [u8]) -> io::Result<usize> {
         self.calls = self.calls.saturating_add(1);
+        match self.fault {
+            Some((number, kind)) if number == self.calls => return Err(kind.into()),
+            _ => {}
+        }
         match (self.rest.split_first(), buf.first_mut()) {
             (Some((byte, rest)), Some(place)) => {
                 *place = *byte;
@@ -35,81 +41,60 @@ impl<'a> Read for ByteReader<'a> {
     }
 }
 
-// Gives its bytes, and is interrupted where they end.
+// Takes at most some bytes a call, and fails at the call with one number. Keeps what it took, and a
+// letter for each call: `w` for a write, `f` for a flush.
 #[derive(Drop)]
-struct CutReader<'a> {
-    rest: &'a [u8],
+struct FaultyWriter {
+    most: usize,
+    fails_at: usize,
+    taken: Vec<u8>,
+    calls: Vec<u8>,
 }
 
-impl<'a> Read for CutReader<'a> {
-    fn read(&mut self, buf: &mut [u8]) -> io::Result<usize> {
-        if self.rest.is_empty() {
-            return Err(io::ErrorKind::Interrupted.into());
+impl FaultyWriter {
+    // Notes a call, and fails if it is the one.
+    fn note(&mut self, call: u8) -> io::Result<()> {
+        self.calls.push(call)?;
+        if self.calls.len() == self.fails_at {
+            return Err(io::ErrorKind::Other.into());
         }
-        self.rest.read(buf)
-    }
-}
-
-// Fails on its first write.
-#[derive(Drop)]
-struct NoWriter;
-
-impl Write for NoWriter {
-    fn write(&mut self, _buf: &[u8]) -> io::Result<usize> {
-        Err(io::ErrorKind::Other.into())
-    }
-
-    fn flush(&mut self) -> io::Result<()> {
         Ok(())
     }
 }
 
-// Takes all that is written, and fails on its flush.
-#[derive(Drop)]
-struct UnflushedWriter;
-
-impl Write for UnflushedWriter {
+impl Write for FaultyWriter {
     fn write(&mut self, buf: &[u8]) -> io::Result<usize> {
+        self.note(b'w')?;
+        let count = buf.len().min(self.most);
+        self.taken.extend_from_slice(&buf[..count])?;
+        Ok(count)
+    }
+
+    fn flush(&mut self) -> io::Result<()> {
+        self.note(b'f')
+    }
+}
+
+// Takes all that is written, and keeps a letter for each call of its caller: `w` for a write, `a`
+// for one of all bytes, `f` for a flush.
+#[derive(Drop)]
+struct CallWriter {
+    calls: Vec<u8>,
+}
+
+impl Write for CallWriter {
+    fn write(&mut self, buf: &[u8]) -> io::Result<usize> {
+        self.calls.push(b'w')?;
         Ok(buf.len())
     }
 
-    fn flush(&mut self) -> io::Result<()> {
-        Err(io::ErrorKind::Other.into())
-    }
-}
-
-// Takes no byte of what is written.
-#[derive(Drop)]
-struct FullWriter;
-
-impl Write for FullWriter {
-    fn write(&mut self, _buf: &[u8]) -> io::Result<usize> {
-        Ok(0)
-    }
-
-    fn flush(&mut self) -> io::Result<()> {
+    fn write_all(&mut self, _buf: &[u8]) -> io::Result<()> {
+        self.calls.push(b'a')?;
         Ok(())
     }
-}
-
-// Takes one byte a call.
-#[derive(Drop)]
-struct ByteWriter {
-    taken: Vec<u8>,
-}
-
-impl Write for ByteWriter {
-    fn write(&mut self, buf: &[u8]) -> io::Result<usize> {
-        match buf.first() {
-            Some(byte) => {
-                self.taken.push(*byte)?;
-                Ok(1)
-            }
-            None => Ok(0),
-        }
-    }
 
     fn flush(&mut self) -> io::Result<()> {
+        self.calls.push(b'f')?;
         Ok(())
     }
 }

@@ -187,6 +187,17 @@ fn validates_outcomes_made_by_hand(rt: HostRuntime) -> Result<(), Fail> {
     Ok(())
 }
 
+#[test]
+fn prints_a_refusal_for_memory(rt: HostRuntime) -> Result<(), Fail> {
+    let alloc = rt.alloc();
+    let refusal = Refusal::Memory(match_lhs::Outcome {
+        group: group_of(alloc, Operation::Fetch, "s:t")?,
+        mappings: Vec::new(alloc),
+    });
+    assert_eq!(rt; format!(in alloc; "{refusal}")?.as_str(), "out of memory");
+    Ok(())
+}
+
 // An issue of one source, as a row writes it.
 fn issue_of<'a>(
     alloc: Global,

@@ -1,35 +1,28 @@
 //! Readers that give little or fail, writers that take little or fail, and the limit of an input.
 
-use super::{
-    ByteReader, ByteWriter, CutReader, FullWriter, NoWriter, UnflushedWriter, answer, end_of,
-};
+use super::{ByteReader, CallWriter, FaultyWriter, answer, end_of};
 use crate::command::Command;
 use crate::input::INPUT_LIMIT;
 use crate::run::run;
-use std::io::Write;
+use bstr::BStr;
+use std::io;
 use std::process::Abort;
 use std::test::Fail;
 
 const INPUT: &[u8] = b"main\n\n+:x";
 
-const OUTPUT: &[u8] = b"ok main:main\nerr Empty\nok :x\n";
-
-// Runs on the input above, and tells how the run ended.
-fn end_with<R: AllocGlobal, W: Write>(rt: &R, writer: &mut W) -> Result<String, Fail> {
-    let mut reader = INPUT;
-    let ended = run(rt.alloc(), Command::CanonPush, &mut reader, writer);
-    Ok(end_of(rt.alloc(), ended)?)
-}
+const OUTPUT: &str = "ok main:main\nerr Empty\nok :x\n";
 
 #[test]
 fn reads_one_byte_a_call(rt: HostRuntime) -> Result<(), Fail> {
     let mut reader = ByteReader {
         rest: INPUT,
         calls: 0,
+        fault: None,
     };
     let mut output = Vec::new(rt.alloc());
     let status = run(rt.alloc(), Command::CanonPush, &mut reader, &mut output)?;
-    assert_eq!(rt; output.as_slice(), OUTPUT);
+    assert_eq!(rt; BStr::new(output.as_slice()), BStr::new(OUTPUT.as_bytes()));
     assert_eq!(rt; status, 1);
     assert_eq!(rt;
         reader.calls,
@@ -39,13 +32,35 @@ fn reads_one_byte_a_call(rt: HostRuntime) -> Result<(), Fail> {
     Ok(())
 }
 
+// The reader of a row would give the rest of the input, or its end, at the next call.
 #[test]
-fn ends_at_a_read_that_is_interrupted(rt: HostRuntime) -> Result<(), Fail> {
-    let mut reader = CutReader { rest: b"main\n" };
-    let mut output = Vec::new(rt.alloc());
-    let ended = run(rt.alloc(), Command::CanonPush, &mut reader, &mut output);
-    assert_eq!(rt; end_of(rt.alloc(), ended)?.as_str(), "read failed");
-    assert!(rt; output.is_empty(), "nothing is written");
+fn tries_no_read_again(rt: HostRuntime) -> Result<(), Fail> {
+    let rows = [
+        (1, io::ErrorKind::Interrupted),
+        (6, io::ErrorKind::Interrupted),
+        (10, io::ErrorKind::Interrupted),
+        (1, io::ErrorKind::WouldBlock),
+        (6, io::ErrorKind::Other),
+        (10, io::ErrorKind::UnexpectedEof),
+    ];
+    for (number, kind) in rows {
+        let mut reader = ByteReader {
+            rest: INPUT,
+            calls: 0,
+            fault: Some((number, kind)),
+        };
+        let mut writer = CallWriter {
+            calls: Vec::new(rt.alloc()),
+        };
+        let ended = run(rt.alloc(), Command::CanonPush, &mut reader, &mut writer);
+        assert_eq!(rt;
+            end_of(rt.alloc(), ended)?.as_str(),
+            "read failed",
+            "at read {number}"
+        );
+        assert_eq!(rt; reader.calls, number, "no read after the fault");
+        assert!(rt; writer.calls.is_empty(), "no write at read {number}");
+    }
     Ok(())
 }
 
@@ -64,49 +79,115 @@ fn takes_an_input_at_the_limit(rt: HostRuntime) -> Result<(), Fail> {
 #[test]
 fn refuses_an_input_past_the_limit(rt: HostRuntime) -> Result<(), Fail> {
     let input = vec![in rt.alloc(); b'a'; INPUT_LIMIT + 1]?;
+    let mut writer = CallWriter {
+        calls: Vec::new(rt.alloc()),
+    };
     let mut reader = input.as_slice();
-    let mut output = Vec::new(rt.alloc());
-    let ended = run(rt.alloc(), Command::CanonFetch, &mut reader, &mut output);
+    let ended = run(rt.alloc(), Command::CanonFetch, &mut reader, &mut writer);
     assert_eq!(rt; end_of(rt.alloc(), ended)?.as_str(), "input too long");
-    assert!(rt; output.is_empty(), "nothing is written");
+    assert!(rt; writer.calls.is_empty(), "nothing is written");
 
     let mut reader = ByteReader {
         rest: input.as_slice(),
         calls: 0,
+        fault: None,
     };
-    let ended = run(rt.alloc(), Command::CanonFetch, &mut reader, &mut output);
+    let ended = run(rt.alloc(), Command::CanonFetch, &mut reader, &mut writer);
     assert_eq!(rt; end_of(rt.alloc(), ended)?.as_str(), "input too long");
-    assert!(rt; output.is_empty(), "nothing is written one byte a call");
+    assert!(rt;
+        writer.calls.is_empty(),
+        "nothing is written one byte a call"
+    );
     assert_eq!(rt; reader.calls, 1_048_577);
     Ok(())
 }
 
 #[test]
-fn writes_one_byte_a_call(rt: HostRuntime) -> Result<(), Fail> {
-    let mut writer = ByteWriter {
-        taken: Vec::new(rt.alloc()),
-    };
-    assert_eq!(rt; end_with(&rt, &mut writer)?.as_str(), "status 1");
-    assert_eq!(rt; writer.taken.as_slice(), OUTPUT);
+fn writes_nothing_at_a_bad_line(rt: HostRuntime) -> Result<(), Fail> {
+    let rows = [
+        (Command::Lhs, "main\n", "line 1 is malformed"),
+        (Command::Rhs, "spec main\n\n", "line 2 is malformed"),
+        (
+            Command::Plan,
+            "spec main\nspec a\nspec a*",
+            "line 3: PatternUnbalanced",
+        ),
+    ];
+    for (command, input, fault) in rows {
+        let mut reader = input.as_bytes();
+        let mut writer = CallWriter {
+            calls: Vec::new(rt.alloc()),
+        };
+        let ended = run(rt.alloc(), command, &mut reader, &mut writer);
+        assert_eq!(rt; end_of(rt.alloc(), ended)?.as_str(), fault);
+        assert!(rt;
+            writer.calls.is_empty(),
+            "nothing is written at {command:?}"
+        );
+    }
     Ok(())
 }
 
 #[test]
-fn reports_a_writer_that_fails(rt: HostRuntime) -> Result<(), Fail> {
-    assert_eq!(rt;
-        end_with(&rt, &mut NoWriter)?.as_str(),
-        "write failed",
-        "at a write"
-    );
-    assert_eq!(rt;
-        end_with(&rt, &mut UnflushedWriter)?.as_str(),
-        "write failed",
-        "at a flush"
-    );
-    assert_eq!(rt;
-        end_with(&rt, &mut FullWriter)?.as_str(),
-        "write failed",
-        "at no byte"
-    );
+fn writes_all_by_one_call_and_flushes_once(rt: HostRuntime) -> Result<(), Fail> {
+    let long = vec![in rt.alloc(); b'\n'; 100_000]?;
+    let rows = [
+        (Command::CanonFetch, b"".as_slice()),
+        (Command::CanonFetch, long.as_slice()),
+        (Command::CanonPush, INPUT),
+        (Command::Lhs, b"spec main\n".as_slice()),
+        (Command::Rhs, b"".as_slice()),
+        (Command::Plan, b"".as_slice()),
+    ];
+    for (command, input) in rows {
+        let mut reader = input;
+        let mut writer = CallWriter {
+            calls: Vec::new(rt.alloc()),
+        };
+        run(rt.alloc(), command, &mut reader, &mut writer)?;
+        assert_eq!(rt; writer.calls.as_slice(), b"af".as_slice(), "at {command:?}");
+    }
+    Ok(())
+}
+
+#[test]
+fn stops_where_the_writer_fails(rt: HostRuntime) -> Result<(), Fail> {
+    // The most bytes that a write takes, the number of the call that fails, how the run ends, all
+    // calls, and what was taken.
+    let rows = [
+        (100, 0, "status 1", "wf", OUTPUT),
+        (10, 0, "status 1", "wwwf", OUTPUT),
+        (1, 0, "status 1", "wwwwwwwwwwwwwwwwwwwwwwwwwwwwwf", OUTPUT),
+        (0, 0, "write failed", "w", ""),
+        (100, 1, "write failed", "w", ""),
+        (10, 2, "write failed", "ww", "ok main:ma"),
+        (100, 2, "write failed", "wf", OUTPUT),
+        (10, 4, "write failed", "wwwf", OUTPUT),
+    ];
+    for (most, fails_at, end, calls, taken) in rows {
+        let mut reader = INPUT;
+        let mut writer = FaultyWriter {
+            most,
+            fails_at,
+            taken: Vec::new(rt.alloc()),
+            calls: Vec::new(rt.alloc()),
+        };
+        let ended = run(rt.alloc(), Command::CanonPush, &mut reader, &mut writer);
+        assert_eq!(rt;
+            end_of(rt.alloc(), ended)?.as_str(),
+            end,
+            "at {most} and {fails_at}"
+        );
+        assert_eq!(rt;
+            BStr::new(writer.calls.as_slice()),
+            BStr::new(calls.as_bytes()),
+            "calls at {most} and {fails_at}"
+        );
+        assert_eq!(rt;
+            BStr::new(writer.taken.as_slice()),
+            BStr::new(taken.as_bytes()),
+            "at {most} and {fails_at}"
+        );
+    }
     Ok(())
 }

@@ -2,25 +2,50 @@
 
 use crate::fault::Fault;
 use gix_refspec::parsing::Error;
+use std::process::Abort;
 use std::test::Fail;
+
+// Compares what a fault prints, and its status.
+fn check_fault<R: Abort + AllocGlobal>(
+    rt: &R,
+    fault: &Fault,
+    text: &str,
+    status: u8,
+) -> Result<(), Fail> {
+    assert_eq!(rt; format!(in rt.alloc(); "{fault}")?.as_str(), text);
+    assert_eq!(rt; fault.status(), status, "at {text}");
+    Ok(())
+}
 
 #[test]
 fn prints_faults(rt: HostRuntime) -> Result<(), Fail> {
-    let unbalanced = Fault::Spec {
-        line: 1,
-        error: Error::PatternUnbalanced,
-    };
-    let rows = [
+    let faults = [
         (Fault::TooLong, "input too long", 3),
         (Fault::Read, "read failed", 3),
         (Fault::Line(2), "line 2 is malformed", 1),
-        (unbalanced, "line 1: PatternUnbalanced", 1),
+        (Fault::Line(30), "line 30 is malformed", 1),
         (Fault::Memory, "out of memory", 3),
         (Fault::Write, "write failed", 3),
     ];
-    for (fault, text, status) in rows {
-        assert_eq!(rt; format!(in rt.alloc(); "{fault}")?.as_str(), text);
-        assert_eq!(rt; fault.status(), status, "at {text}");
+    for (fault, text, status) in faults {
+        check_fault(&rt, &fault, text, status)?;
+    }
+    // The three behind the first two are kept for callers, and never given. Nor is the last, since
+    // a run then ends for memory.
+    let refused = [
+        (1, Error::PatternUnbalanced, "line 1: PatternUnbalanced"),
+        (42, Error::NegativeEmpty, "line 42: NegativeEmpty"),
+        (5, Error::NegativePartialName, "line 5: NegativePartialName"),
+        (6, Error::NegativeGlobPattern, "line 6: NegativeGlobPattern"),
+        (
+            7,
+            Error::InvalidFetchDestination,
+            "line 7: InvalidFetchDestination",
+        ),
+        (8, Error::Memory, "line 8: Memory"),
+    ];
+    for (line, error, text) in refused {
+        check_fault(&rt, &Fault::Spec { line, error }, text, 1)?;
     }
     Ok(())
 }
