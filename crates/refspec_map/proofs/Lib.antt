@@ -5,3 +5,6 @@ pub mod LineLemmas
 pub mod MatchingLemmas
 pub mod OutputLemmas
 pub mod PlanLemmas
+pub mod LineFacts
+pub mod RunFacts
+pub mod TextFacts

@@ -81,7 +81,7 @@ Completes-line op input old new text line rest before refusal m full first is pu
     (Completes-answer op input old new text line rest before (is_refusal m) full first (answer_put op line old new m is put) completes)
 
 -- no line more, no refusal more
-or_false : (b : Bool) → (b || false) ≡ b
+pub or_false : (b : Bool) → (b || false) ≡ b
 or_false true = refl
 or_false false = refl
 

@@ -1,0 +1,144 @@
+-- Whole runs, from the bytes of an input to those of its output, and that no other run answers such an
+-- input. So a wrong rule in specs/ doesn't check.
+use Rattle.std.proofs.Common.{◌≡◌, ◌≢◌, inl, inr, ℕ, Bool, true, List, [], ◌∷◌, ◌++◌, None, Some, flat_map, codes, refl, sym, ap, ◌∙◌, subst, arith}
+use Rattle.std.specs.Prelude.{if◌then◌else◌}
+use Rattle.std.specs.List.{AllZip}
+use Rattle.std.proofs.lemmas.Bool.{eqb-false}
+use Rattle.std.proofs.lemmas.List.{append-nil}
+use Rattle.gix_refspec.specs.declared.parsing.Operation.{Operation}
+use Rattle.gix_refspec.specs.declared.parsing.Operation.TheVariants.{Push, Fetch}
+use Rattle.gix_refspec.specs.Bytes.{plus, caret, head}
+use Rattle.gix_refspec.specs.Text.{Lacks}
+use Rattle.gix_refspec.specs.Reading.{Normal, Negative, Reading}
+use Rattle.gix_refspec.specs.Laws.{IsSameReason}
+use Rattle.gix_refspec.specs.Grammar.{Reads, fetched, fetches_nothing_named, fetches_colon}
+use Rattle.gix_refspec.specs.Refusal.{Refusal, Empty, NegativeEmpty, IsFirstReason, IsRefused}
+use Rattle.gix_refspec.specs.Meaning.{printed}
+use Rattle.gix_refspec.proofs.FormsBackLemmas.{some_once}
+use Rattle.gix_refspec.proofs.ReasonLemmas.{negative_reaches}
+use Rattle.gix_refspec.proofs.ReadsLemmas.{refused as refused_by}
+use Rattle.gix_refspec.proofs.ReadOnceLemmas.{reads_once}
+use Rattle.gix_refspec.proofs.RefusalLemmas.{one_refusal}
+use Rattle.refspec_map.specs.declared.command.Command.TheVariants as command
+use Rattle.refspec_map.specs.Fault.{name_of}
+use Rattle.refspec_map.specs.Input.{newline, ReadsToEnd}
+use Rattle.refspec_map.specs.Output.{Answer, accepted, refused, IsAnswer, line_of, is_refused, any_refused, IsCanon}
+use Rattle.refspec_map.specs.Run.{Answers}
+use Rattle.refspec_map.proofs.LineFacts.{Lacks-tested, lines_once}
+use Rattle.refspec_map.proofs.OutputLemmas.{or_false}
+
+-- a missing word is no word
+none_some : (x : List ℕ) → None ≢ Some x
+none_some x same = cc
+
+-- ---- canon fetch
+
+-- a line of nothing, and a colon, are specs of a fetch of `HEAD`
+nothing_reads : Reads Fetch [] (fetched Normal head None)
+nothing_reads = fetches_nothing_named Normal refl tt (record { signed = (refl, tt); last = tt }) refl
+
+colon_reads : Reads Fetch (codes ":") (fetched Normal head None)
+colon_reads = fetches_colon Normal refl tt (record { signed = (refl, (eqb-false 58 plus refl, eqb-false 58 caret refl)); last = tt }) refl
+
+-- a caret alone excludes nothing
+caret_reason : IsFirstReason Fetch Negative [] None NegativeEmpty
+caret_reason =
+    let before = negative_reaches Fetch [] in
+    inr (before.0, inr (before.1, inr (before.2, inr (λ e bad. bad.source refl, inr (λ e bad. none_some bad.word bad.is, inr (λ e bad. bad.positive, inl (record { negative = refl; no_source = refl; refusal = refl })))))))
+
+caret_refused : IsRefused Fetch (codes "^") NegativeEmpty
+caret_refused = refused_by Fetch Negative [] None (codes "^") NegativeEmpty (record { signed = refl; last = tt }) caret_reason
+
+-- three lines, of which the last has no newline, behind what was written before
+pub answers_for_a_fetch : Answers command.CanonFetch (Some (codes "\n^\n:")) (Some []) (Some (codes "old\n")) (Some (codes "old\nok HEAD\nerr NegativeEmpty\nok HEAD\n")) 1
+answers_for_a_fetch = record {
+  input = codes "\n^\n:";
+  output = codes "ok HEAD\nerr NegativeEmpty\nok HEAD\n";
+  refusal = true;
+  read = record { taken = refl; ended = refl; within = omega arith };
+  is = record {
+    lines = [] ∷ codes "^" ∷ codes ":" ∷ [];
+    answers = accepted (codes "HEAD") ∷ refused NegativeEmpty ∷ accepted (codes "HEAD") ∷ [];
+    cut = (tt, inl (codes "^\n:", refl, (Lacks-tested newline (codes "^") refl, inl (codes ":", refl, (Lacks-tested newline (codes ":") refl, inr (λ none. cc, refl, refl))))));
+    told = ((fetched Normal head None, nothing_reads, refl), (caret_refused, ((fetched Normal head None, colon_reads, refl), tt)));
+    written = refl;
+    tells = refl;
+  };
+  written = refl;
+  tells = refl;
+}
+
+-- ---- that a run has one answer
+
+-- the answer to the only line of an input
+record OneAnswer (op : Operation) (line output : List ℕ) (refusal : Bool) : Type 0 where
+  answer : Answer
+  is : IsAnswer op line answer
+  written : output ≡ line_of answer
+  tells : refusal ≡ is_refused answer
+
+one_answer_by : (op : Operation) (line output : List ℕ) (refusal : Bool) (answers : List Answer) → AllZip (IsAnswer op) (line ∷ []) answers → output ≡ flat_map line_of answers → refusal ≡ any_refused answers → OneAnswer op line output refusal
+one_answer_by op line output refusal [] told written tells = absurd told
+one_answer_by op line output refusal (a ∷ []) told written tells = record { answer = a; is = told.0; written = written ∙ append-nil (line_of a); tells = tells ∙ or_false (is_refused a) }
+one_answer_by op line output refusal (a ∷ b ∷ answers) told written tells = absurd told.1
+
+one_answer : (op : Operation) (line output : List ℕ) (refusal : Bool) → Lacks newline line → IsCanon op (line ++ (newline ∷ [])) output refusal → OneAnswer op line output refusal
+one_answer op line output refusal lacks is =
+    let one = lines_once is.lines (line ∷ []) (line ++ (newline ∷ [])) is.cut (lacks, inl ([], refl, refl)) in
+    one_answer_by op line output refusal is.answers (subst (λ (ls : List (List ℕ)). AllZip (IsAnswer op) ls is.answers) one is.told) is.written is.tells
+
+-- every answer to the line is written as this one
+abbrev IsOnly : Operation → List ℕ → Answer → Type 0
+IsOnly op line a = (b : Answer) → IsAnswer op line b → (line_of b ≡ line_of a) × (is_refused b ≡ is_refused a)
+
+only_read : (op : Operation) (line : List ℕ) (r : Reading) (text : List ℕ) → Reads op line r → printed r ≡ Some text → IsOnly op line (accepted text)
+only_read op line r text reads prints (accepted other) (q, also, prints_other) =
+    let same = some_once other text (sym prints_other ∙ (ap printed (reads_once op line q r also reads) ∙ prints)) in
+    (ap (λ t. line_of (accepted t)) same, refl)
+only_read op line r text reads prints (refused e) is = absurd (is.unread r reads)
+
+same_name : (e f : Refusal) → IsSameReason e f → name_of e ≡ name_of f
+same_name e f (inl same) = ap name_of same
+same_name e f (inr (a, b, first, second)) = ap name_of first ∙ sym (ap name_of second)
+
+only_refused : (op : Operation) (line : List ℕ) (e : Refusal) → IsRefused op line e → IsOnly op line (refused e)
+only_refused op line e is (accepted other) (r, reads, prints) = absurd (is.unread r reads)
+only_refused op line e is (refused f) also = (ap (λ n. codes "err " ++ (n ++ (newline ∷ []))) (same_name f e (one_refusal op line f e also is)), refl)
+
+-- what a run over an input of one line leaves and writes, and its status
+record Ends (rest before after : List ℕ) (status : ℕ) (a : Answer) : Type 0 where
+  pub left : rest ≡ []
+  pub written : after ≡ before ++ line_of a
+  pub tells : status ≡ (if is_refused a then 1 else 0)
+
+ends_by : (op : Operation) (line : List ℕ) (a : Answer) (input output rest before after : List ℕ) (refusal : Bool) (status : ℕ) → Lacks newline line → IsOnly op line a → ReadsToEnd (Some (line ++ (newline ∷ []))) (Some rest) input → IsCanon op input output refusal → after ≡ before ++ output → status ≡ (if refusal then 1 else 0) → Ends rest before after status a
+ends_by op line a input output rest before after refusal status lacks only read is written tells =
+    let whole : input ≡ line ++ (newline ∷ []) = sym (read.taken ∙ (ap (λ x. input ++ x) read.ended ∙ append-nil input)) in
+    let one = one_answer op line output refusal lacks (subst (λ (x : List ℕ). IsCanon op x output refusal) whole is) in
+    let same = only one.answer one.is in
+    record {
+      left = read.ended;
+      written = written ∙ ap (λ x. before ++ x) (one.written ∙ same.0);
+      tells = tells ∙ ap (λ (b : Bool). if b then 1 else 0) (one.tells ∙ same.1);
+    }
+
+-- for a fetch the empty line gives this output and status, and no other
+pub empty_line_fetched : (rest before after : List ℕ) (status : ℕ) → Answers command.CanonFetch (Some (codes "\n")) (Some rest) (Some before) (Some after) status → (rest ≡ []) × (after ≡ before ++ codes "ok HEAD\n") × (status ≡ 0)
+empty_line_fetched rest before after status a =
+    let ends = ends_by Fetch [] (accepted (codes "HEAD")) a.input a.output rest before after a.refusal status tt (only_read Fetch [] (fetched Normal head None) (codes "HEAD") nothing_reads refl) a.read a.is a.written a.tells in
+    (ends.left, ends.written, ends.tells)
+
+-- and so does a caret
+pub caret_fetched : (rest before after : List ℕ) (status : ℕ) → Answers command.CanonFetch (Some (codes "^\n")) (Some rest) (Some before) (Some after) status → (rest ≡ []) × (after ≡ before ++ codes "err NegativeEmpty\n") × (status ≡ 1)
+caret_fetched rest before after status a =
+    let ends = ends_by Fetch (codes "^") (refused NegativeEmpty) a.input a.output rest before after a.refusal status (Lacks-tested newline (codes "^") refl) (only_refused Fetch (codes "^") NegativeEmpty caret_refused) a.read a.is a.written a.tells in
+    (ends.left, ends.written, ends.tells)
+
+-- a push of the empty line is refused
+nothing_refused : IsRefused Push [] Empty
+nothing_refused = refused_by Push Normal [] None [] Empty (record { signed = (refl, tt); last = tt }) (inl (record { push = refl; unsigned = refl; no_source = refl; no_colon = refl; refusal = refl }))
+
+pub empty_line_pushed : (rest before after : List ℕ) (status : ℕ) → Answers command.CanonPush (Some (codes "\n")) (Some rest) (Some before) (Some after) status → (rest ≡ []) × (after ≡ before ++ codes "err Empty\n") × (status ≡ 1)
+empty_line_pushed rest before after status a =
+    let ends = ends_by Push [] (refused Empty) a.input a.output rest before after a.refusal status tt (only_refused Push [] Empty nothing_refused) a.read a.is a.written a.tells in
+    (ends.left, ends.written, ends.tells)
