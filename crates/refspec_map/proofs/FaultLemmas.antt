@@ -43,7 +43,7 @@ no_spec line text r says (inl is) = omega (arith, ap (λ l. get_or l 0 0) (sym s
 no_spec line text r says (inr is) = omega (arith, ap (λ l. get_or l 0 0) (sym says ∙ is.here))
 
 -- a line that gives something has no fault
-no_fault : (line : List ℕ) (e : Entry) (n : ℕ) (f : Fault) → Gives line e → IsFaultOf n line f → ⊥
+pub no_fault : (line : List ℕ) (e : Entry) (n : ℕ) (f : Fault) → Gives line e → IsFaultOf n line f → ⊥
 no_fault line (reading r) n (fault.Line m) given bad = bad.1 (spec given.0) given.1
 no_fault line (ref r) n (fault.Line m) given bad = bad.1 (item r) given
 no_fault line (reading r) n (fault.Spec m error) given bad =

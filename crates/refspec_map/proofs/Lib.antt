@@ -8,3 +8,5 @@ pub mod PlanLemmas
 pub mod LineFacts
 pub mod RunFacts
 pub mod TextFacts
+pub mod FaultFacts
+pub mod MatchFacts

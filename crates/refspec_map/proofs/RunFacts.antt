@@ -28,13 +28,13 @@ use Rattle.refspec_map.proofs.LineFacts.{Lacks-tested, lines_once}
 use Rattle.refspec_map.proofs.OutputLemmas.{or_false}
 
 -- a missing word is no word
-none_some : (x : List ℕ) → None ≢ Some x
+pub none_some : (x : List ℕ) → None ≢ Some x
 none_some x same = cc
 
 -- ---- canon fetch
 
 -- a line of nothing, and a colon, are specs of a fetch of `HEAD`
-nothing_reads : Reads Fetch [] (fetched Normal head None)
+pub nothing_reads : Reads Fetch [] (fetched Normal head None)
 nothing_reads = fetches_nothing_named Normal refl tt (record { signed = (refl, tt); last = tt }) refl
 
 colon_reads : Reads Fetch (codes ":") (fetched Normal head None)
@@ -46,7 +46,7 @@ caret_reason =
     let before = negative_reaches Fetch [] in
     inr (before.0, inr (before.1, inr (before.2, inr (λ e bad. bad.source refl, inr (λ e bad. none_some bad.word bad.is, inr (λ e bad. bad.positive, inl (record { negative = refl; no_source = refl; refusal = refl })))))))
 
-caret_refused : IsRefused Fetch (codes "^") NegativeEmpty
+pub caret_refused : IsRefused Fetch (codes "^") NegativeEmpty
 caret_refused = refused_by Fetch Negative [] None (codes "^") NegativeEmpty (record { signed = refl; last = tt }) caret_reason
 
 -- three lines, of which the last has no newline, behind what was written before

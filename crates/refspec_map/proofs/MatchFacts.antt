@@ -1,0 +1,261 @@
+-- Whole runs of the matching commands, from the bytes of an input to those of its output, and runs that none
+-- of them has, so that a wrong rule in specs/ doesn't check.
+use Rattle.std.proofs.Common.{◌≡◌, ◌≢◌, inl, inr, ℕ, zero, suc, MatchBool, Bool, true, false, List, [], ◌∷◌, ◌++◌, Option, None, Some, length, codes, refl, sym, ap, ◌∙◌, subst, length-append, arith}
+use Rattle.std.specs.Fmt.{digits}
+use Rattle.std.specs.Prelude.{if◌then◌else◌}
+use Rattle.std.specs.List.{Contains}
+use Rattle.std.specs.List.Sorted.{IsStrictlySortedBy}
+use Rattle.std.specs.List.{flat_map}
+use Rattle.gix_refspec.specs.declared.oid.Kind.{Kind}
+use Rattle.gix_refspec.specs.declared.oid.Kind.TheVariants.{Sha1, Sha256}
+use Rattle.gix_refspec.specs.Bytes.{star, head}
+use Rattle.gix_refspec.specs.ObjectId.{digits_of, IsIdText}
+use Rattle.gix_refspec.specs.Reading.{Normal, Negative, Reading}
+use Rattle.gix_refspec.specs.Grammar.{fetched}
+use Rattle.gix_refspec.specs.Side.{partial, HasKind}
+use Rattle.gix_refspec.specs.Match.{Ref}
+use Rattle.gix_refspec.specs.Mappings.{name, Mapped, IsExcluded}
+use Rattle.gix_refspec.specs.Hits.{Ends, AreForwardEnds, AreBackwardEnds, Hit, AreForward, AreKeptForward, IsIdMapping}
+use Rattle.gix_refspec.specs.Validation.{Conflict, IsContested, IsValidated}
+use Rattle.gix_refspec.proofs.FormsBackLemmas.{some_once}
+use Rattle.gix_refspec.proofs.ObjectIdFacts.{IsIdText-empty_blob}
+use Rattle.refspec_map.specs.declared.command.Command.TheVariants as command
+use Rattle.refspec_map.specs.Input.{newline, AreLines}
+use Rattle.refspec_map.specs.Line.{space, Entry, reading, ref, Gives, readings_in}
+use Rattle.refspec_map.specs.Plan.{conflict_line, ShowsConflicts}
+use Rattle.refspec_map.specs.Run.{Answers}
+use Rattle.refspec_map.proofs.LineFacts.{Lacks-tested}
+use Rattle.refspec_map.proofs.RunFacts.{none_some, nothing_reads}
+
+-- ---- an empty input
+
+-- maps nothing
+pub nothing_mapped : Answers command.Lhs (Some []) (Some []) (Some []) (Some []) 0
+nothing_mapped = record {
+  input = [];
+  output = [];
+  refusal = false;
+  read = record { taken = refl; ended = refl; within = omega arith };
+  is = record {
+    lines = [];
+    entries = [];
+    cut = refl;
+    given = tt;
+    is = record { mappings = []; kept = record { all = []; forward = record { ids = []; hits = []; are_ids = refl; are_hits = refl; all = refl }; is = refl }; written = refl; tells = refl };
+  };
+  written = refl;
+  tells = refl;
+}
+
+-- `lhs` and `rhs` refuse nothing
+pub lhs_ends_well : (old new before after : Option (List ℕ)) (status : ℕ) → Answers command.Lhs old new before after status → status ≡ 0
+lhs_ends_well old new before after status a = a.tells ∙ ap (λ (b : Bool). if b then 1 else 0) a.is.is.tells
+
+pub rhs_ends_well : (old new before after : Option (List ℕ)) (status : ℕ) → Answers command.Rhs old new before after status → status ≡ 0
+rhs_ends_well old new before after status a = a.tells ∙ ap (λ (b : Bool). if b then 1 else 0) a.is.is.tells
+
+-- ---- a spec and a ref
+
+-- the digits of an id, and its bytes
+abbrev digits_of_blob : List ℕ
+digits_of_blob = codes "e69de29bb2d1d6434b8b29ae775ad8c2e48c5391"
+
+abbrev blob : List ℕ
+blob = 0xe6 ∷ 0x9d ∷ 0xe2 ∷ 0x9b ∷ 0xb2 ∷ 0xd1 ∷ 0xd6 ∷ 0x43 ∷ 0x4b ∷ 0x8b ∷ 0x29 ∷ 0xae ∷ 0x77 ∷ 0x5a ∷ 0xd8 ∷ 0xc2 ∷ 0xe4 ∷ 0x8c ∷ 0x53 ∷ 0x91 ∷ []
+
+-- a fetch of `HEAD`, and the ref of this name
+abbrev the_spec : Reading
+the_spec = fetched Normal head None
+
+abbrev the_ref : Ref
+the_ref = record { name = head; target = blob; object = None }
+
+abbrev the_input : List ℕ
+the_input = codes "spec \nref e69de29bb2d1d6434b8b29ae775ad8c2e48c5391 HEAD\n"
+
+abbrev the_entries : List Entry
+the_entries = reading the_spec ∷ ref the_ref ∷ []
+
+abbrev the_lines : List (List ℕ)
+the_lines = codes "spec " ∷ codes "ref e69de29bb2d1d6434b8b29ae775ad8c2e48c5391 HEAD" ∷ []
+
+lines_cut : AreLines the_lines the_input
+lines_cut = (
+  Lacks-tested newline (codes "spec ") refl,
+  inl (codes "ref e69de29bb2d1d6434b8b29ae775ad8c2e48c5391 HEAD\n", refl, (Lacks-tested newline (codes "ref e69de29bb2d1d6434b8b29ae775ad8c2e48c5391 HEAD") refl, inl ([], refl, refl))),
+)
+
+ref_given : Gives (codes "ref e69de29bb2d1d6434b8b29ae775ad8c2e48c5391 HEAD") (ref the_ref)
+ref_given = inl (record {
+  words = codes "e69de29bb2d1d6434b8b29ae775ad8c2e48c5391 HEAD";
+  here = refl;
+  target = record { word = digits_of_blob; ends = Lacks-tested space digits_of_blob refl; spelled = IsIdText-empty_blob; here = refl };
+  object = refl;
+})
+
+-- what has 4 bytes is no id
+no_length : (kind : Kind) → 4 ≢ digits_of kind
+no_length Sha1 same = omega (arith, same)
+no_length Sha256 same = omega (arith, same)
+
+not_refs : (after : List ℕ) → head ≢ codes "refs/" ++ after
+not_refs after same = cc
+
+-- `HEAD` is no id, and a partial name
+no_id : (i : List ℕ) → ¬ (IsIdText head i)
+no_id i is = no_length is.kind is.digits
+
+head_kind : HasKind head (partial head)
+head_kind = (refl, Lacks-tested star head refl, λ begins. not_refs begins.after begins.here, λ is. no_id is.0 is.1)
+
+-- the ref is mapped, by the only spec and the only item
+abbrev the_mapping : Mapped
+the_mapping = record { item = Some 0; source = name head; destination = None; spec = 0 }
+
+abbrev the_hit : Hit
+the_hit = record { spec = 0; item = 0; near = head; far = None }
+
+no_id_mapped : (m : Mapped) → ¬ (IsIdMapping 0 the_spec m)
+no_id_mapped m is = no_id is.bytes (subst (λ (x : List ℕ). IsIdText x is.bytes) (sym (some_once head is.text is.side)) is.object.2)
+
+ends : AreForwardEnds the_spec (record { near = head; far = None })
+ends = record { positive = tt; near = refl; far = refl; no_object = λ i kind. no_id i kind.2 }
+
+mapped : AreForward (the_spec ∷ []) (the_ref ∷ []) (the_mapping ∷ [])
+mapped = record {
+  ids = [];
+  hits = the_hit ∷ [];
+  are_ids = (None, [], no_id_mapped, refl, refl);
+  are_hits = (
+    the_hit ∷ [],
+    [],
+    inl (
+      record { near = head; far = None },
+      ends,
+      (
+        Some the_hit,
+        [],
+        record {
+          word = None;
+          takes = record { kind = partial head; of = head_kind; is = (refl, record { earlier = []; later = codes "refs/HEAD" ∷ codes "refs/tags/HEAD" ∷ codes "refs/heads/HEAD" ∷ codes "refs/remotes/HEAD" ∷ codes "refs/remotes/HEAD/HEAD" ∷ []; here = refl }) };
+          far = refl;
+          near = refl;
+          spec = refl;
+          item = refl;
+        },
+        refl,
+        refl,
+      ),
+    ),
+    refl,
+    refl,
+  );
+  all = refl;
+}
+
+not_negative : Normal ≢ Negative
+not_negative same = cc
+
+-- no negative spec excludes it
+not_excluded : ¬ (IsExcluded (the_spec ∷ []) head)
+not_excluded (inl by) = not_negative by.negative
+not_excluded (inr none) = none
+
+kept : AreKeptForward (the_spec ∷ []) (the_ref ∷ []) (the_mapping ∷ [])
+kept = record { all = the_mapping ∷ []; forward = mapped; is = (Some the_mapping, [], (refl, record { first = λ pair. pair; included = not_excluded }), refl, refl) }
+
+-- `lhs` writes the line of the mapping
+pub head_mapped : Answers command.Lhs (Some the_input) (Some []) (Some []) (Some (codes "map\t0\t0\tHEAD\n")) 0
+unfolding digits
+head_mapped = record {
+  input = the_input;
+  output = codes "map\t0\t0\tHEAD\n";
+  refusal = false;
+  read = record { taken = refl; ended = refl; within = omega arith };
+  is = record {
+    lines = the_lines;
+    entries = the_entries;
+    cut = lines_cut;
+    given = (([], refl, nothing_reads), (ref_given, tt));
+    is = record { mappings = the_mapping ∷ []; kept = kept; written = refl; tells = refl };
+  };
+  written = refl;
+  tells = refl;
+}
+
+-- and `rhs` writes nothing, since the spec has no destination
+no_backward_ends : (e : Ends) → ¬ (AreBackwardEnds the_spec e)
+no_backward_ends e is = none_some e.near is.near
+
+pub nothing_mapped_back : Answers command.Rhs (Some the_input) (Some []) (Some []) (Some []) 0
+nothing_mapped_back = record {
+  input = the_input;
+  output = [];
+  refusal = false;
+  read = record { taken = refl; ended = refl; within = omega arith };
+  is = record {
+    lines = the_lines;
+    entries = the_entries;
+    cut = lines_cut;
+    given = (([], refl, nothing_reads), (ref_given, tt));
+    is = record { mappings = []; kept = record { all = []; backward = record { hits = []; are_hits = ([], [], inr (no_backward_ends, refl), refl, refl); all = refl }; is = refl }; written = refl; tells = refl };
+  };
+  written = refl;
+  tells = refl;
+}
+
+-- ---- a plan
+
+-- a list of one holds nothing else
+only : (m : Mapped) → Contains (the_mapping ∷ []) m → the_mapping ≡ m
+only m (zero, below, is) = is
+only m (suc k, below, is) = absurd (omega (arith, below))
+
+-- one mapping meets no other, and without a destination it survives
+not_contested : (d : List ℕ) → ¬ (IsContested (the_mapping ∷ []) d)
+not_contested d is = none_some d (ap (λ (m : Mapped). m.destination) (only is.one is.has_one) ∙ is.one_to)
+
+validated : IsValidated (the_spec ∷ []) (the_mapping ∷ []) (the_mapping ∷ []) []
+unfolding IsStrictlySortedBy
+validated = record {
+  free = record { each = tt; every = λ d is. absurd (not_contested d is); order = tt };
+  survive = (Some the_mapping, [], (refl, tt), refl, refl);
+  fixed = (None, [], λ fix is. none_some fix.destination is.goes, refl, refl);
+}
+
+-- so a plan writes the same line
+pub head_planned : Answers command.Plan (Some the_input) (Some []) (Some []) (Some (codes "map\t0\t0\tHEAD\n")) 0
+unfolding digits
+head_planned = record {
+  input = the_input;
+  output = codes "map\t0\t0\tHEAD\n";
+  refusal = false;
+  read = record { taken = refl; ended = refl; within = omega arith };
+  is = record {
+    lines = the_lines;
+    entries = the_entries;
+    cut = lines_cut;
+    given = (([], refl, nothing_reads), (ref_given, tt));
+    is = record { mappings = the_mapping ∷ []; kept = kept; shows = record { rest = the_mapping ∷ []; fixes = []; fixed = []; is = validated; are = refl; written = refl } };
+  };
+  written = refl;
+  tells = refl;
+}
+
+-- a plan has the status 1 only where it writes conflicts
+nothing_more : (b : ℕ) (rest output before : List ℕ) → output ≡ b ∷ rest → before ≢ before ++ output
+nothing_more b rest output before is same = omega (arith, ap length is, ap length same, length-append before output)
+
+no_conflict : (conflicts : List Conflict) (output before : List ℕ) → conflicts ≢ [] → output ≡ flat_map conflict_line conflicts → before ≢ before ++ output
+no_conflict [] output before some written same = some refl
+no_conflict (c ∷ conflicts) output before some written same = nothing_more 99 _ output before written same
+
+of_status : (conflicting : Bool) (P Q : Type 0) → ◌≡◌ {A = ℕ} 1 (if conflicting then 1 else 0) → MatchBool conflicting P Q → P
+of_status true P Q tells shows = shows
+of_status false P Q tells shows = absurd (omega (arith, tells))
+
+pub no_plan_of_nothing : (old new : Option (List ℕ)) (before : List ℕ) → ¬ (Answers command.Plan old new (Some before) (Some before) 1)
+no_plan_of_nothing old new before a =
+    let plan = a.is.is in
+    let shows = of_status a.refusal (ShowsConflicts (readings_in a.is.entries) plan.mappings a.output) _ a.tells plan.shows in
+    no_conflict shows.conflicts a.output before shows.some shows.written a.written
