@@ -1,6 +1,7 @@
 -- When a run ends with a fault, and what was written then, at examples on both sides of a border, so that a
 -- wrong rule in specs/ doesn't check.
 use Rattle.std.proofs.Common.{◌≡◌, ◌≢◌, ◌⊎◌, inl, inr, ℕ, ◌+◌, List, [], ◌∷◌, ◌++◌, Option, None, Some, length, get_or, codes, refl, sym, ap, ◌∙◌, subst, length-append, arith}
+use Rattle.std.proofs.lemmas.Bool.{eqb-false}
 use Rattle.std.proofs.lemmas.List.{append-nil}
 use Rattle.gix_refspec.specs.declared.parsing.Error.TheVariants as error
 use Rattle.gix_refspec.specs.Bytes.{head}
@@ -15,7 +16,8 @@ use Rattle.refspec_map.specs.Input.{newline, AreLines, ReadsToEnd}
 use Rattle.refspec_map.specs.Line.{IsMalformed, reading, Gives, IsFaultOf, IsFirstFault}
 use Rattle.refspec_map.specs.Run.{Explains, IsGood, Leaves}
 use Rattle.refspec_map.proofs.FaultLemmas.{no_fault}
-use Rattle.refspec_map.proofs.LineLemmas.{malformed, no_ref_keyword, no_tag_keyword}
+use Rattle.refspec_map.proofs.LineLemmas.{malformed}
+use Rattle.refspec_map.proofs.FormFacts.{no_spec_first, no_ref_first, no_tag_first}
 use Rattle.refspec_map.proofs.LineFacts.{Lacks-tested, lines_once, too_long, not_too_long}
 use Rattle.refspec_map.proofs.RunFacts.{nothing_reads, caret_refused}
 
@@ -25,22 +27,12 @@ use Rattle.refspec_map.proofs.RunFacts.{nothing_reads, caret_refused}
 abbrev two : List ℕ
 two = codes "spec \nmain\n"
 
--- texts that begin with different bytes differ
-other_first : (b c : ℕ) (x y : List ℕ) → b ≢ c → b ∷ x ≢ c ∷ y
-other_first b c x y differ same = differ (ap (λ (l : List ℕ). get_or l 0 0) same)
-
 -- `main` has none of the words that a line begins with
 not_spec : (text : List ℕ) → codes "main" ≢ codes "spec " ++ text
-not_spec text = other_first 109 115 _ _ (λ same. omega (arith, same))
-
-not_ref : (words : List ℕ) → codes "main" ≢ codes "ref " ++ words
-not_ref words = other_first 109 114 _ _ (λ same. omega (arith, same))
-
-not_tag : (words : List ℕ) → codes "main" ≢ codes "tag " ++ words
-not_tag words = other_first 109 116 _ _ (λ same. omega (arith, same))
+not_spec = no_spec_first 109 _ (eqb-false 109 115 refl)
 
 main_malformed : IsMalformed (codes "main")
-main_malformed = malformed (codes "main") not_spec (no_ref_keyword (codes "main") not_ref) (no_tag_keyword (codes "main") not_tag)
+main_malformed = malformed (codes "main") not_spec (no_ref_first 109 _ (eqb-false 109 114 refl)) (no_tag_first 109 _ (eqb-false 109 116 refl))
 
 spec_gives : Gives (codes "spec ") (reading (fetched Normal head None))
 spec_gives = ([], refl, nothing_reads)

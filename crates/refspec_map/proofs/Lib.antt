@@ -6,6 +6,7 @@ pub mod MatchingLemmas
 pub mod OutputLemmas
 pub mod PlanLemmas
 pub mod LineFacts
+pub mod FormFacts
 pub mod RunFacts
 pub mod TextFacts
 pub mod FaultFacts

@@ -18,12 +18,12 @@ use Rattle.gix_refspec.specs.Mappings.{name, Mapped, IsExcluded}
 use Rattle.gix_refspec.specs.Hits.{Ends, AreForwardEnds, AreBackwardEnds, Hit, AreForward, AreKeptForward, IsIdMapping}
 use Rattle.gix_refspec.specs.Validation.{Conflict, IsContested, IsValidated}
 use Rattle.gix_refspec.proofs.FormsBackLemmas.{some_once}
-use Rattle.gix_refspec.proofs.ObjectIdFacts.{IsIdText-empty_blob}
 use Rattle.refspec_map.specs.declared.command.Command.TheVariants as command
 use Rattle.refspec_map.specs.Input.{newline, AreLines}
-use Rattle.refspec_map.specs.Line.{space, Entry, reading, ref, Gives, readings_in}
+use Rattle.refspec_map.specs.Line.{Entry, reading, ref, readings_in}
 use Rattle.refspec_map.specs.Plan.{conflict_line, ShowsConflicts}
 use Rattle.refspec_map.specs.Run.{Answers}
+use Rattle.refspec_map.proofs.FormFacts.{blob, ref_lines}
 use Rattle.refspec_map.proofs.LineFacts.{Lacks-tested}
 use Rattle.refspec_map.proofs.RunFacts.{none_some, nothing_reads}
 
@@ -56,13 +56,6 @@ rhs_ends_well old new before after status a = a.tells ∙ ap (λ (b : Bool). if 
 
 -- ---- a spec and a ref
 
--- the digits of an id, and its bytes
-abbrev digits_of_blob : List ℕ
-digits_of_blob = codes "e69de29bb2d1d6434b8b29ae775ad8c2e48c5391"
-
-abbrev blob : List ℕ
-blob = 0xe6 ∷ 0x9d ∷ 0xe2 ∷ 0x9b ∷ 0xb2 ∷ 0xd1 ∷ 0xd6 ∷ 0x43 ∷ 0x4b ∷ 0x8b ∷ 0x29 ∷ 0xae ∷ 0x77 ∷ 0x5a ∷ 0xd8 ∷ 0xc2 ∷ 0xe4 ∷ 0x8c ∷ 0x53 ∷ 0x91 ∷ []
-
 -- a fetch of `HEAD`, and the ref of this name
 abbrev the_spec : Reading
 the_spec = fetched Normal head None
@@ -84,14 +77,6 @@ lines_cut = (
   Lacks-tested newline (codes "spec ") refl,
   inl (codes "ref e69de29bb2d1d6434b8b29ae775ad8c2e48c5391 HEAD\n", refl, (Lacks-tested newline (codes "ref e69de29bb2d1d6434b8b29ae775ad8c2e48c5391 HEAD") refl, inl ([], refl, refl))),
 )
-
-ref_given : Gives (codes "ref e69de29bb2d1d6434b8b29ae775ad8c2e48c5391 HEAD") (ref the_ref)
-ref_given = inl (record {
-  words = codes "e69de29bb2d1d6434b8b29ae775ad8c2e48c5391 HEAD";
-  here = refl;
-  target = record { word = digits_of_blob; ends = Lacks-tested space digits_of_blob refl; spelled = IsIdText-empty_blob; here = refl };
-  object = refl;
-})
 
 -- what has 4 bytes is no id
 no_length : (kind : Kind) → 4 ≢ digits_of kind
@@ -176,7 +161,7 @@ head_mapped = record {
     lines = the_lines;
     entries = the_entries;
     cut = lines_cut;
-    given = (([], refl, nothing_reads), (ref_given, tt));
+    given = (([], refl, nothing_reads), (ref_lines head, tt));
     is = record { mappings = the_mapping ∷ []; kept = kept; written = refl; tells = refl };
   };
   written = refl;
@@ -197,7 +182,7 @@ nothing_mapped_back = record {
     lines = the_lines;
     entries = the_entries;
     cut = lines_cut;
-    given = (([], refl, nothing_reads), (ref_given, tt));
+    given = (([], refl, nothing_reads), (ref_lines head, tt));
     is = record { mappings = []; kept = record { all = []; backward = record { hits = []; are_hits = ([], [], inr (no_backward_ends, refl), refl, refl); all = refl }; is = refl }; written = refl; tells = refl };
   };
   written = refl;
@@ -235,7 +220,7 @@ head_planned = record {
     lines = the_lines;
     entries = the_entries;
     cut = lines_cut;
-    given = (([], refl, nothing_reads), (ref_given, tt));
+    given = (([], refl, nothing_reads), (ref_lines head, tt));
     is = record { mappings = the_mapping ∷ []; kept = kept; shows = record { rest = the_mapping ∷ []; fixes = []; fixed = []; is = validated; are = refl; written = refl } };
   };
   written = refl;
