@@ -11,3 +11,4 @@ pub mod RunFacts
 pub mod TextFacts
 pub mod FaultFacts
 pub mod MatchFacts
+pub mod ConflictFacts

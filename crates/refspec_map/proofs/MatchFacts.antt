@@ -79,7 +79,7 @@ lines_cut = (
 )
 
 -- what has 4 bytes is no id
-no_length : (kind : Kind) → 4 ≢ digits_of kind
+pub no_length : (kind : Kind) → 4 ≢ digits_of kind
 no_length Sha1 same = omega (arith, same)
 no_length Sha256 same = omega (arith, same)
 
@@ -138,7 +138,7 @@ mapped = record {
   all = refl;
 }
 
-not_negative : Normal ≢ Negative
+pub not_negative : Normal ≢ Negative
 not_negative same = cc
 
 -- no negative spec excludes it
