@@ -12,7 +12,7 @@ use Rattle.gix_refspec.specs.Validation.{Removed}
 use Rattle.gix_refspec.specs.ObjectId.{lower_of}
 use Rattle.refspec_map.specs.declared.command.Command.TheVariants as command
 use Rattle.refspec_map.specs.declared.fault.Fault.TheVariants as fault
-use Rattle.refspec_map.specs.Fault.{name_of, status_of}
+use Rattle.refspec_map.specs.Fault.{name_of, status_of, IsMemory}
 use Rattle.refspec_map.specs.Matching.{map_line}
 use Rattle.refspec_map.specs.Output.{accepted, refused, line_of, any_refused}
 use Rattle.refspec_map.specs.Plan.{conflict_line, IsFixLine}
@@ -47,6 +47,10 @@ names = refl
 
 pub statuses : map status_of (fault.TooLong ∷ fault.Read ∷ fault.Line 2 ∷ fault.Spec 2 error.NegativeEmpty ∷ fault.Memory ∷ fault.Write ∷ []) ≡ 3 ∷ 3 ∷ 1 ∷ 1 ∷ 3 ∷ 3 ∷ []
 statuses = refl
+
+-- a match call without memory ends a run by this fault alone
+pub memory : IsMemory fault.Memory × ¬ (IsMemory fault.Read) × ¬ (IsMemory fault.Write)
+memory = (tt, λ is. is, λ is. is)
 
 -- ---- lines that are printed
 
