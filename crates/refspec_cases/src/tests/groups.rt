@@ -1,5 +1,6 @@
 //! Groups, mappings, and which of these are kept.
 
+use super::check_equal;
 use bstr::{BStr, BString};
 use gix_refspec::match_group::{Item, Mapping, NameRef, NoRoom, Source, SourceRef};
 use gix_refspec::oid::ObjectId;
@@ -41,12 +42,28 @@ fn mappings_of<'a>(
     Ok(mappings)
 }
 
-// A source as a row writes it.
+// A name as a row writes it, with a `=` before one that is owned.
+fn name_of<'a>(alloc: Global, text: &'a str) -> Result<NameRef<'a>, AllocError> {
+    Ok(match text.strip_prefix("=") {
+        Some(name) => NameRef::Owned(BString::from_slice(alloc, name.as_bytes())?),
+        None => NameRef::Borrowed(BStr::new(text.as_bytes())),
+    })
+}
+
+// A source as a row writes it: the digits of an id, or a name.
 fn source_of<'a>(text: &'a str) -> SourceRef<'a> {
     match ObjectId::from_hex(text.as_bytes()) {
         Ok(id) => SourceRef::ObjectId(id),
         Err(_) => SourceRef::FullName(NameRef::Borrowed(BStr::new(text.as_bytes()))),
     }
+}
+
+// The same, or a name that is owned.
+fn source_in<'a>(alloc: Global, text: &'a str) -> Result<SourceRef<'a>, AllocError> {
+    Ok(match text.strip_prefix("=") {
+        Some(_) => SourceRef::FullName(name_of(alloc, text)?),
+        None => source_of(text),
+    })
 }
 
 // The hash that a mapping has.
@@ -118,6 +135,69 @@ fn compares_mappings_by_their_pairs(rt: HostRuntime) -> Result<(), Fail> {
                 same,
                 "hash at {source}:{destination}"
             );
+        }
+    }
+    Ok(())
+}
+
+#[test]
+fn compares_names_by_their_bytes(rt: HostRuntime) -> Result<(), Fail> {
+    // The names of a row are equal, and those of different rows are not.
+    let rows = [
+        ["", "="],
+        ["a", "=a"],
+        ["A", "=A"],
+        ["aa", "=aa"],
+        ["aaaaaaaa", "=aaaaaaaa"],
+        ["refs/heads/a", "=refs/heads/a"],
+        ["refs/heads/a\0", "=refs/heads/a\0"],
+        ["refs/heads/é", "=refs/heads/é"],
+    ];
+    let alloc = rt.alloc();
+    for (i, row) in rows.iter().enumerate() {
+        for (j, other) in rows.iter().enumerate() {
+            for (a, b) in [(row[0], other[0]), (row[0], other[1]), (row[1], other[1])] {
+                check_equal(&rt, &name_of(alloc, a)?, &name_of(alloc, b)?, i == j);
+            }
+        }
+    }
+    Ok(())
+}
+
+#[test]
+fn compares_sources_by_names_and_ids(rt: HostRuntime) -> Result<(), Fail> {
+    // The sources of a row are equal, and those of different rows are not. Names may be the digits
+    // of an id, or its bytes.
+    let rows = [
+        ["refs/heads/a", "=refs/heads/a"],
+        [
+            "e69de29bb2d1d6434b8b29ae775ad8c2e48c5391",
+            "E69DE29BB2D1D6434B8B29AE775AD8C2E48C5391",
+        ],
+        [
+            "=e69de29bb2d1d6434b8b29ae775ad8c2e48c5391",
+            "=e69de29bb2d1d6434b8b29ae775ad8c2e48c5391",
+        ],
+        [
+            "6161616161616161616161616161616161616161",
+            "6161616161616161616161616161616161616161",
+        ],
+        ["aaaaaaaaaaaaaaaaaaaa", "=aaaaaaaaaaaaaaaaaaaa"],
+        [
+            "0000000000000000000000000000000000000000",
+            "0000000000000000000000000000000000000000",
+        ],
+        [
+            "0000000000000000000000000000000000000000000000000000000000000000",
+            "0000000000000000000000000000000000000000000000000000000000000000",
+        ],
+    ];
+    let alloc = rt.alloc();
+    for (i, row) in rows.iter().enumerate() {
+        for (j, other) in rows.iter().enumerate() {
+            for (a, b) in [(row[0], other[0]), (row[0], other[1]), (row[1], other[1])] {
+                check_equal(&rt, &source_in(alloc, a)?, &source_in(alloc, b)?, i == j);
+            }
         }
     }
     Ok(())
