@@ -100,14 +100,18 @@ fn check_forward(
     Ok(())
 }
 
-// Whether fetch specs map items from right to left as is written beside them, and a copy of the outcome
-// says the same.
-fn check_backward(rt: &impl Abort, alloc: Global, rows: &[(&str, &str, &str)]) -> Result<(), Fail> {
+// Whether specs map items from right to left as is written beside them, and a copy of the outcome says
+// the same.
+fn check_backward(
+    rt: &impl Abort,
+    alloc: Global,
+    operation: Operation,
+    rows: &[(&str, &str, &str)],
+) -> Result<(), Fail> {
     let target = ObjectId::from_hex(TARGET.as_bytes())?;
     for (specs, names, wanted) in rows {
         let items = items_of(alloc, names, &target)?;
-        let group = group_of(alloc, Operation::Fetch, specs)?;
-        let outcome = group.match_rhs(alloc, items.as_slice())?;
+        let outcome = group_of(alloc, operation, specs)?.match_rhs(alloc, items.as_slice())?;
         let found = lines(alloc, outcome.mappings.as_slice())?;
         assert_eq!(rt; found.as_str(), *wanted, "{specs} back over {names}");
         let copy = outcome.clone(alloc)?;
@@ -146,6 +150,55 @@ fn maps_from_left_to_right(rt: HostRuntime) -> Result<(), Fail> {
             "refs/heads/x",
             "- 0 aaaaaaaaaaaaaaaaaaaaaaaaaaaaaaaaaaaaaaaa refs/heads/x\n",
         ),
+        // By spec, and for each by item.
+        (
+            "refs/heads/*:refs/x/* refs/tags/*:refs/y/*",
+            "refs/tags/b refs/heads/b refs/tags/a refs/heads/a",
+            "1 0 refs/heads/b =refs/x/b\n3 0 refs/heads/a =refs/x/a\n\
+             0 1 refs/tags/b =refs/y/b\n2 1 refs/tags/a =refs/y/a\n",
+        ),
+        // The ids stand first. One that an item points to doesn't map this item.
+        (
+            "refs/heads/*:refs/x/* 1111111111111111111111111111111111111111:refs/a aaaaaaaaaaaaaaaaaaaaaaaaaaaaaaaaaaaaaaaa",
+            "refs/heads/b refs/a",
+            "- 1 1111111111111111111111111111111111111111 refs/a\n\
+             - 2 aaaaaaaaaaaaaaaaaaaaaaaaaaaaaaaaaaaaaaaa -\n\
+             0 0 refs/heads/b =refs/x/b\n",
+        ),
+        // The six names that a partial one may stand for, and names near them.
+        (
+            "main",
+            "xmain main/HEAD refs/remotes/main/HEAD refs/remotes/main refs/heads/main refs/tags/main refs/main main refs/heads/main/HEAD refs/x/main heads/main",
+            "2 0 refs/remotes/main/HEAD -\n3 0 refs/remotes/main -\n4 0 refs/heads/main -\n\
+             5 0 refs/tags/main -\n6 0 refs/main -\n7 0 main -\n",
+        ),
+        (
+            "refs/heads/main",
+            "refs/heads/main2 refs/heads/mai refs/refs/heads/main heads/main refs/heads/main",
+            "4 0 refs/heads/main -\n",
+        ),
+        (
+            "refs/heads/a*b/c:refs/x/d*e/f",
+            "refs/heads/ab/c refs/heads/axyb/c refs/heads/axb/cc xrefs/heads/axb/c refs/heads/axb/",
+            "0 0 refs/heads/ab/c =refs/x/de/f\n1 0 refs/heads/axyb/c =refs/x/dxye/f\n",
+        ),
+        // The ends of a pattern don't overlap where it excludes either.
+        (
+            "refs/heads/*:refs/x/* ^refs/heads/a*a ^refs/heads/c",
+            "refs/heads/a refs/heads/aa refs/heads/aba refs/heads/ab refs/heads/c refs/heads/cc",
+            "0 0 refs/heads/a =refs/x/a\n3 0 refs/heads/ab =refs/x/ab\n5 0 refs/heads/cc =refs/x/cc\n",
+        ),
+        (
+            "HEAD:refs/x ^@",
+            "HEAD refs/heads/HEAD",
+            "1 0 refs/heads/HEAD refs/x\n",
+        ),
+        // A pair is a source and a destination, and its first mapping stays.
+        (
+            "refs/heads/a refs/heads/a:refs/x refs/heads/a:refs/y refs/heads/b:refs/x +refs/heads/a:refs/x",
+            "refs/heads/b refs/heads/a refs/heads/a",
+            "1 0 refs/heads/a -\n1 1 refs/heads/a refs/x\n1 2 refs/heads/a refs/y\n0 3 refs/heads/b refs/x\n",
+        ),
         // A matcher that told names apart by a 64-bit hash would take these for one.
         (
             "refs/heads/*:refs/x/*",
@@ -165,6 +218,12 @@ fn maps_pushes_without_a_destination(rt: HostRuntime) -> Result<(), Fail> {
             "main:main",
             "refs/heads/main",
             "0 0 refs/heads/main =refs/heads/main\n",
+        ),
+        // What is deleted, and all matching branches, have no source.
+        (
+            ":refs/heads/x : refs/heads/* ^refs/heads/x",
+            "refs/heads/x refs/heads/a",
+            "1 2 refs/heads/a -\n",
         ),
     ];
     check_forward(&rt, rt.alloc(), Operation::Push, &rows)
@@ -224,8 +283,43 @@ fn maps_from_right_to_left(rt: HostRuntime) -> Result<(), Fail> {
             "refs/heads/x",
             "",
         ),
+        // By spec, and for each by item.
+        (
+            "refs/heads/*:refs/x/* refs/tags/*:refs/y/*",
+            "refs/y/b refs/x/b refs/y/a refs/x/a",
+            "1 0 =refs/heads/b refs/x/b\n3 0 =refs/heads/a refs/x/a\n\
+             0 1 =refs/tags/b refs/y/b\n2 1 =refs/tags/a refs/y/a\n",
+        ),
+        // What a source becomes, of which pairs the first stay, and which of them are excluded.
+        (
+            "tags/v:refs/x main:refs/x main:refs/x HEAD:refs/x refs/q:refs/x ^refs/heads/HEAD",
+            "refs/x refs/x",
+            "0 0 =refs/tags/v refs/x\n0 1 =refs/heads/main refs/x\n0 4 refs/q refs/x\n",
+        ),
+        (
+            "refs/heads/a*b:refs/x/c*d",
+            "refs/x/cd refs/x/c refs/x/d refs/x/cxdd",
+            "0 0 =refs/heads/ab refs/x/cd\n3 0 =refs/heads/axdb refs/x/cxdd\n",
+        ),
+        // Each item that points to an id.
+        (
+            "main:1111111111111111111111111111111111111111",
+            "refs/a refs/b",
+            "0 0 =refs/heads/main refs/a\n1 0 =refs/heads/main refs/b\n",
+        ),
     ];
-    check_backward(&rt, rt.alloc(), &rows)
+    check_backward(&rt, rt.alloc(), Operation::Fetch, &rows)
+}
+
+#[test]
+fn maps_pushes_from_right_to_left(rt: HostRuntime) -> Result<(), Fail> {
+    // Only the last one has both sides.
+    let rows = [(
+        ":refs/heads/x : refs/heads/x ^refs/heads/a refs/heads/*:refs/heads/*",
+        "refs/heads/x refs/heads/a",
+        "0 4 =refs/heads/x refs/heads/x\n",
+    )];
+    check_backward(&rt, rt.alloc(), Operation::Push, &rows)
 }
 
 #[test]

@@ -49,7 +49,7 @@ fn validated(alloc: Global, outcome: match_lhs::Outcome<'_, '_>) -> Result<Strin
 }
 
 // Specs, names of items, and what a validation answers.
-const MATCHED: [(&str, &str, &str); 11] = [
+const MATCHED: [(&str, &str, &str); 15] = [
     (
         "refs/heads/*:refs/x/* refs/heads/a",
         "refs/heads/a HEAD",
@@ -101,6 +101,32 @@ const MATCHED: [(&str, &str, &str); 11] = [
         "refs/heads/main:refs/heads/HEAD\n",
     ),
     ("*:*", "HEAD main", "HEAD:HEAD\nfix main *:*\n"),
+    // On each side of what can be written.
+    (
+        "*:*",
+        "refs refs/ HEADS HEA Refs/heads/x heads/refs/ HEAD refs/x FETCH_HEAD",
+        "refs/:refs/\nHEAD:HEAD\nrefs/x:refs/x\n\
+         fix refs *:*\nfix HEADS *:*\nfix HEA *:*\nfix Refs/heads/x *:*\nfix heads/refs/ *:*\nfix FETCH_HEAD *:*\n",
+    ),
+    // Each fix has its own spec.
+    (
+        "+refs/heads/*:foo/* @:bar refs/heads/*:refs/x/* refs/tags/*:foo/t*",
+        "refs/heads/b HEAD refs/heads/a refs/tags/a",
+        "HEAD:refs/heads/bar\nrefs/heads/b:refs/x/b\nrefs/heads/a:refs/x/a\n\
+         fix foo/b +refs/heads/*:foo/*\nfix foo/a +refs/heads/*:foo/*\nfix foo/ta refs/tags/*:foo/t*\n",
+    ),
+    // The texts are canonical ones.
+    (
+        "+@:refs/z refs/heads/a:refs/z",
+        "HEAD refs/heads/a",
+        "Found 1 issue that prevents the refspec mapping to be used: \n\tConflicting destination \"refs/z\" would be written by HEAD (\"+HEAD:refs/z\"), refs/heads/a (\"refs/heads/a:refs/z\")",
+    ),
+    // By the bytes of destinations, whatever their lengths.
+    (
+        "refs/heads/*:refs/x/* refs/tags/*:refs/x/*",
+        "refs/heads/b refs/heads/aa refs/heads/Z refs/tags/b refs/tags/aa refs/tags/Z",
+        "Found 3 issues that prevent the refspec mapping to be used: \n\tConflicting destination \"refs/x/Z\" would be written by refs/heads/Z (\"refs/heads/*:refs/x/*\"), refs/tags/Z (\"refs/tags/*:refs/x/*\")\n\tConflicting destination \"refs/x/aa\" would be written by refs/heads/aa (\"refs/heads/*:refs/x/*\"), refs/tags/aa (\"refs/tags/*:refs/x/*\")\n\tConflicting destination \"refs/x/b\" would be written by refs/heads/b (\"refs/heads/*:refs/x/*\"), refs/tags/b (\"refs/tags/*:refs/x/*\")",
+    ),
     // An id as a source.
     (
         "1111111111111111111111111111111111111111:x 1111111111111111111111111111111111111111:x",
