@@ -48,3 +48,5 @@ pub mod NoHitLemmas
 pub mod PlacesLemmas
 pub mod MarkLemmas
 pub mod IndexLemmas
+pub mod MatchFacts
+pub mod ValidationFacts

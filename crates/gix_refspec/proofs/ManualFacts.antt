@@ -26,7 +26,7 @@ use Rattle.gix_refspec.proofs.PartsLemmas.{parts_once}
 use Rattle.gix_refspec.proofs.FormsBackLemmas.{some_once}
 
 -- a test of each byte tells that a text lacks one
-Lacks-tested : (b : ℕ) (x : List ℕ) → list_any (λ c. c == b) x ≡ false → Lacks b x
+pub Lacks-tested : (b : ℕ) (x : List ℕ) → list_any (λ c. c == b) x ≡ false → Lacks b x
 Lacks-tested b [] none = tt
 Lacks-tested b (c ∷ x) none = elim (c == b) as (λ v. (c == b) ≡ v → (v || list_any (λ c. c == b) x) ≡ false → Lacks b (c ∷ x)) [
   | true ↦ λ same found. absurd (true≢false found)
@@ -38,14 +38,14 @@ full : (b : ℕ) (bs : List ℕ) → b ∷ bs ≢ []
 full b bs = λ e. cc
 
 -- a missing word is no word
-none_some : (x : List ℕ) → None ≢ Some x
+pub none_some : (x : List ℕ) → None ≢ Some x
 none_some x same = cc
 
-some_none : (x : List ℕ) → Some x ≢ None
+pub some_none : (x : List ℕ) → Some x ≢ None
 some_none x same = cc
 
 -- texts of different lengths, and texts with different first bytes, differ
-other_length : (x y : List ℕ) → length x ≢ length y → x ≢ y
+pub other_length : (x y : List ℕ) → length x ≢ length y → x ≢ y
 other_length x y differ same = differ (ap length same)
 
 first_byte : (b c : ℕ) (x : List ℕ) → b ≢ c → b ∷ x ≢ c ∷ x
@@ -192,7 +192,7 @@ texts = (refl, refl, refl, refl, refl, refl)
 -- ---- sides and what they match
 
 -- a ref of this name
-abbrev named : List ℕ → Ref
+abbrev pub named : List ℕ → Ref
 named n = record { name = n; target = 1 ∷ []; object = None }
 
 -- a full name matches the ref of this name alone, and no word stands for a star

@@ -7,7 +7,7 @@ use Rattle.gix_refspec.specs.ObjectId.{IsIdText, IsIdLength, HasIdFault, lower_o
 use Rattle.gix_refspec.proofs.ObjectIdLemmas.{IsIdText-decoded}
 
 -- the bytes of the id under SHA-1
-abbrev empty_blob : List ℕ
+abbrev pub empty_blob : List ℕ
 empty_blob = 0xe6 ∷ 0x9d ∷ 0xe2 ∷ 0x9b ∷ 0xb2 ∷ 0xd1 ∷ 0xd6 ∷ 0x43 ∷ 0x4b ∷ 0x8b ∷ 0x29 ∷ 0xae ∷ 0x77 ∷ 0x5a ∷ 0xd8 ∷ 0xc2 ∷ 0xe4 ∷ 0x8c ∷ 0x53 ∷ 0x91 ∷ []
 
 -- the bytes of the id under SHA-256
