@@ -50,3 +50,4 @@ pub mod MarkLemmas
 pub mod IndexLemmas
 pub mod MatchFacts
 pub mod ValidationFacts
+pub mod LawFacts

@@ -107,7 +107,7 @@ pub at_sign : (named_by (codes "@") ≡ codes "HEAD") × (named_by (codes "HEAD"
 at_sign = (refl, refl)
 
 -- a text with another byte first has no sign
-no_sign : (b : ℕ) (bs : List ℕ) → (b == plus) ≡ false → (b == caret) ≡ false → IsSigned Normal (b ∷ bs) (b ∷ bs)
+pub no_sign : (b : ℕ) (bs : List ℕ) → (b == plus) ≡ false → (b == caret) ≡ false → IsSigned Normal (b ∷ bs) (b ∷ bs)
 no_sign b bs no_plus no_caret = (refl, (eqb-false b plus no_plus, eqb-false b caret no_caret))
 
 -- git fetch origin +refs/heads/*:refs/remotes/origin/*

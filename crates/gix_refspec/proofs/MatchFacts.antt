@@ -1,5 +1,5 @@
--- The words on matching at groups like those of git-fetch(1) under `<refspec>`: what is mapped, and what
--- is not by a word or a place. So a wrong rule in the specs does not check.
+-- The words on matching at groups like those of git-fetch(1) under `<refspec>`: what is mapped, and
+-- what is not by a word or a place. So a wrong rule in the specs does not check.
 use Rattle.std.proofs.Common.{◌≡◌, ◌≢◌, ℕ, zero, suc, ◌==◌, ◌<◌, false, List, [], ◌∷◌, ◌++◌, Option, None, Some, length, get_or, codes, refl, sym, ap, ◌∙◌, subst, inl, inr, arith}
 use Rattle.std.specs.List.{AllByRecursion, Contains, list_any}
 use Rattle.std.proofs.lemmas.List.{append-nil, length-append}
@@ -43,7 +43,7 @@ pub ends_apart : (word : List ℕ) → ¬ (Fits (codes "a") (codes "a") (codes "
 ends_apart word fits = let size : 1 ≡ suc (length (word ++ codes "a")) = ap length fits in omega (arith, size, length-append word (codes "a"))
 
 -- what stands before the star of a pattern, and behind it
-cut_at_end : (before : List ℕ) → list_any (λ c. c == star) before ≡ false → IsCut before [] (before ++ codes "*")
+pub cut_at_end : (before : List ℕ) → list_any (λ c. c == star) before ≡ false → IsCut before [] (before ++ codes "*")
 cut_at_end before none = record { starred = refl; first = Lacks-tested star before none; last = tt }
 
 -- a negative spec excludes the name that it is, and none that this is short for
@@ -71,7 +71,7 @@ excludes_no_main (by_pattern before after word cut fits) =
 abbrev pub every : Reading
 every = fetched Forced (codes "refs/heads/*") (Some (codes "refs/remotes/origin/*"))
 
-abbrev no_dev : Reading
+abbrev pub no_dev : Reading
 no_dev = fetched Negative (codes "refs/heads/dev-*") None
 
 -- the mapping that such a spec at place 0 gives of a branch at a place
@@ -345,7 +345,7 @@ short_no_id bytes text = no_digits text.kind text.digits
     no_digits Sha1 same = omega (arith, same)
     no_digits Sha256 same = omega (arith, same)
 
-short_kind : HasKind (codes "main") (partial (codes "main"))
+pub short_kind : HasKind (codes "main") (partial (codes "main"))
 short_kind = (
   refl,
   Lacks-tested star (codes "main") refl,

@@ -1,5 +1,5 @@
--- The words on validation at mappings to one destination and to others: which conflicts, survivors and
--- fixes there are, and which are none.
+-- The words on validation at mappings to one destination and to others: which conflicts, survivors
+-- and fixes there are, and which are none.
 use Rattle.std.proofs.Common.{◌≡◌, ◌≢◌, ◌⊎◌, ℕ, suc, ◌<◌, List, [], ◌∷◌, ◌++◌, None, Some, length, codes, refl, sym, ap, ◌∙◌, subst, inl, inr, arith}
 use Rattle.std.specs.List.{Contains}
 use Rattle.std.specs.List.Sorted.{IsStrictlySortedBy}

@@ -1,0 +1,175 @@
+-- The words that only laws cite, on each side of what they ask: which specs go both ways, which
+-- sources are covering, what a spec reads as again, and what a group expands to.
+use Rattle.std.proofs.Common.{◌≡◌, ◌≢◌, ℕ, zero, suc, List, [], ◌∷◌, ◌++◌, Option, None, Some, codes, refl, sym, ap, ◌∙◌, subst, inl, inr, arith}
+use Rattle.gix_refspec.specs.declared.parsing.Operation.TheVariants.{Push, Fetch}
+use Rattle.gix_refspec.specs.Text.{Begins}
+use Rattle.gix_refspec.specs.Name.{IsName, HasStar}
+use Rattle.gix_refspec.specs.Bytes.{star, bracket, colon}
+use Rattle.gix_refspec.specs.Reading.{Normal, Forced, Reading}
+use Rattle.gix_refspec.specs.Grammar.{AreParts, Reads, fetches, fetched, pushed}
+use Rattle.gix_refspec.specs.Side.{candidates}
+use Rattle.gix_refspec.specs.Mappings.{name, id}
+use Rattle.gix_refspec.specs.Prefix.{IsPrefix, of_head, of_name, of_pattern, to_prefix, to_candidates}
+use Rattle.gix_refspec.specs.MatchLaws.{HasName, IsSourceAmong, IsDestinationAmong, GoesBothWays, ReadsAgainAs, IsCovering, by_prefix, by_candidates, HasCoveringSource, BeginsWithOne, AreExpansions}
+use Rattle.gix_refspec.proofs.TextLemmas.{Lacks-here, Lacks-Holds}
+use Rattle.gix_refspec.proofs.MatchLemmas.{cut_once, outside_none}
+use Rattle.gix_refspec.proofs.ReadOnceLemmas.{reads_once}
+use Rattle.gix_refspec.proofs.FormsBackLemmas.{some_once}
+use Rattle.gix_refspec.proofs.ManualFacts.{Lacks-tested, other_length, none_some, named, no_sign}
+use Rattle.gix_refspec.proofs.MatchFacts.{cut_at_end, every, no_dev, short, short_kind, other_byte}
+
+-- ---- both directions
+
+-- a side with a star at its end
+starred_end : (before : List ℕ) → HasStar (before ++ codes "*")
+starred_end before = record { before = before; after = []; here = refl }
+
+-- the spec of `git clone`, two full names, a source alone, and a negative spec go both ways
+pub go_both_ways : GoesBothWays every × GoesBothWays (fetched Normal (codes "refs/heads/a") (Some (codes "refs/x/a"))) × GoesBothWays short × GoesBothWays no_dev
+go_both_ways = (
+  (λ positive s d is_s is_d. inl (
+    subst HasStar (some_once (codes "refs/heads/*") s is_s) (starred_end (codes "refs/heads/")),
+    subst HasStar (some_once (codes "refs/remotes/origin/*") d is_d) (starred_end (codes "refs/remotes/origin/")),
+  )),
+  (λ positive s d is_s is_d. inr (
+    subst (Begins (codes "refs/")) (some_once (codes "refs/heads/a") s is_s) (record { after = codes "heads/a"; here = refl }),
+    subst (Begins (codes "refs/")) (some_once (codes "refs/x/a") d is_d) (record { after = codes "x/a"; here = refl }),
+  )),
+  (λ positive s d is_s is_d. absurd (none_some d is_d)),
+  (λ positive. absurd positive),
+)
+
+-- what doesn't begin so at its first byte
+other_first : (b : ℕ) (x : List ℕ) → b ≢ 114 → ¬ (Begins (codes "refs/") (b ∷ x))
+other_first b x differ begins = other_byte 0 (b ∷ x) (codes "refs/" ++ begins.after) differ begins.here
+
+-- a partial name on one side keeps a spec from this
+pub go_one_way : ¬ (GoesBothWays (fetched Normal (codes "main") (Some (codes "refs/x/main")))) × ¬ (GoesBothWays (fetched Normal (codes "refs/heads/a") (Some (codes "b"))))
+go_one_way = (from_partial, to_partial)
+  where
+    from_partial : ¬ (GoesBothWays (fetched Normal (codes "main") (Some (codes "refs/x/main"))))
+    from_partial goes = elim (goes tt (codes "main") (codes "refs/x/main") refl refl) [
+      | inl stars ↦ Lacks-Holds star (codes "main") (Lacks-tested star (codes "main") refl) stars.0
+      | inr below ↦ other_first 109 (codes "ain") (λ same. omega (arith, same)) below.0
+    ]
+
+    to_partial : ¬ (GoesBothWays (fetched Normal (codes "refs/heads/a") (Some (codes "b"))))
+    to_partial goes = elim (goes tt (codes "refs/heads/a") (codes "b") refl refl) [
+      | inl stars ↦ Lacks-Holds star (codes "b") (Lacks-tested star (codes "b") refl) stars.1
+      | inr below ↦ other_first 98 [] (λ same. omega (arith, same)) below.1
+    ]
+
+-- of two refs the second has a name, which an id is not, nor what is missing
+pub among : IsSourceAmong (named (codes "a") ∷ named (codes "b") ∷ []) (name (codes "b")) × ¬ (IsSourceAmong (named (codes "a") ∷ []) (id (codes "a"))) × IsDestinationAmong (named (codes "a") ∷ []) (Some (codes "a")) × ¬ (IsDestinationAmong (named (codes "a") ∷ []) None) × ¬ (HasName (named (codes "a") ∷ []) (codes "aa"))
+among = (inr (inl refl), (λ none. none), inl refl, (λ none. none), longer)
+  where
+    longer : ¬ (HasName (named (codes "a") ∷ []) (codes "aa"))
+    longer (inl same) = other_length _ _ (λ size. omega (arith, size)) same
+    longer (inr none) = none
+
+-- ---- groups that map alike
+
+-- a forced fetch without a destination reads again as one that isn't forced
+pub reads_unforced : IsName (codes "main") → ReadsAgainAs (fetched Forced (codes "main") None) short
+reads_unforced is_name =
+    let s = codes "main" in
+    let parts : AreParts Normal s None s = record { signed = no_sign 109 (codes "ain") refl refl; last = Lacks-tested colon s refl } in
+    record { fetch = refl; text = s; is = refl; reads = fetches Normal s refl tt (inl parts) is_name refl }
+
+pub reads_no_force : IsName (codes "main") → ¬ (ReadsAgainAs (fetched Forced (codes "main") None) (fetched Forced (codes "main") None))
+unfolding reads_unforced
+reads_no_force is_name again =
+    let reads = subst (λ (x : List ℕ). Reads Fetch x (fetched Forced (codes "main") None)) (sym (some_once (codes "main") again.text again.is)) again.reads in
+    forced_no_normal (ap (λ (r : Reading). r.mode) (reads_once Fetch (codes "main") (fetched Forced (codes "main") None) short reads (reads_unforced is_name).reads))
+  where
+    forced_no_normal : Forced ≢ Normal
+    forced_no_normal same = cc
+
+push_is_none : Push ≢ Fetch
+push_is_none same = cc
+
+-- no push reads again as anything
+pub no_push_again : (s d : Option (List ℕ)) (q : Reading) → ¬ (ReadsAgainAs (pushed Normal s d) q)
+no_push_again s d q again = push_is_none again.fetch
+
+-- ---- what covers sources
+
+below_heads : IsPrefix (codes "refs/heads/*") (codes "refs/heads/")
+below_heads = of_pattern (codes "refs/heads/") [] (cut_at_end (codes "refs/heads/") refl) (record {
+  below = record { after = codes "heads/"; here = refl };
+  further = other_length _ _ (λ size. omega (arith, size));
+  first = Lacks-tested bracket (codes "refs/heads/") refl;
+  last = tt;
+}) refl
+
+-- a pattern below `refs/heads/`, a full name and a partial one are covering
+pub covering : IsCovering (codes "refs/heads/*") × IsCovering (codes "refs/heads/main") × IsCovering (codes "main")
+covering = (
+  by_prefix (codes "refs/heads/") (record { after = codes "heads/*"; here = refl }) below_heads,
+  by_prefix (codes "refs/heads/main") (record { after = codes "heads/main"; here = refl }) (of_name (record { after = codes "heads/main"; here = refl }) (Lacks-tested star (codes "refs/heads/main") refl) refl),
+  by_candidates short_kind.1 (other_byte 0 (codes "main") (codes "HEAD") (λ same. omega (arith, same))) short_kind.2,
+)
+
+-- `HEAD` isn't, nor are all names, nor all those below `refs/`
+pub not_covering : ¬ (IsCovering (codes "HEAD")) × ¬ (IsCovering (codes "*")) × ¬ (IsCovering (codes "refs/*"))
+not_covering = (no_head, no_star, no_refs)
+  where
+    no_head : ¬ (IsCovering (codes "HEAD"))
+    no_head (by_prefix p begins prefix) = other_first 72 (codes "EAD") (λ same. omega (arith, same)) begins
+    no_head (by_candidates lacks other outside) = other refl
+
+    no_star : ¬ (IsCovering (codes "*"))
+    no_star (by_prefix p begins prefix) = other_first 42 [] (λ same. omega (arith, same)) begins
+    no_star (by_candidates lacks other outside) = Lacks-here star [] [] lacks
+
+    no_prefix : (p : List ℕ) → ¬ (IsPrefix (codes "refs/*") p)
+    no_prefix p (of_head is_head same) = other_length _ _ (λ size. omega (arith, size)) is_head
+    no_prefix p (of_name begins lacks same) = Lacks-here star (codes "refs/") [] lacks
+    no_prefix p (of_pattern before after cut tells same) = tells.further ((cut_once (codes "refs/*") before after (codes "refs/") [] cut (cut_at_end (codes "refs/") refl)).0)
+
+    no_refs : ¬ (IsCovering (codes "refs/*"))
+    no_refs (by_prefix p begins prefix) = no_prefix p prefix
+    no_refs (by_candidates lacks other outside) = Lacks-here star (codes "refs/") [] lacks
+
+-- a negative spec asks for nothing; a push isn't covering, whatever its source
+pub covering_sources : HasCoveringSource no_dev × HasCoveringSource short × ¬ (HasCoveringSource (pushed Normal (Some (codes "main")) None))
+covering_sources = (
+  record { fetch = refl; source = λ x asked. absurd asked.positive },
+  record { fetch = refl; source = λ x asked. subst IsCovering (some_once (codes "main") x asked.side) covering.2 },
+  λ has. push_is_none has.fetch,
+)
+
+-- a name begins with an entry, and not only holds it
+pub begins_with_one : BeginsWithOne (codes "refs/tags/" ∷ codes "refs/heads/" ∷ []) (codes "refs/heads/main") × ¬ (BeginsWithOne (codes "heads/" ∷ []) (codes "refs/heads/main"))
+begins_with_one = (
+  (1, codes "refs/heads/", omega arith, refl, record { after = codes "main"; here = refl }),
+  none,
+)
+  where
+    none : ¬ (BeginsWithOne (codes "heads/" ∷ []) (codes "refs/heads/main"))
+    none (zero, entry, below, is, begins) =
+        let here : codes "refs/heads/main" ≡ codes "heads/" ++ begins.after = begins.here ∙ ap (λ (y : List ℕ). y ++ begins.after) (sym is) in
+        other_byte 0 (codes "refs/heads/main") (codes "heads/" ++ begins.after) (λ same. omega (arith, same)) here
+    none (suc k, entry, below, is, begins) = absurd (omega (arith, below))
+
+-- what the specs of a group expand to, one behind the other; a negative one to nothing
+pub expanded : AreExpansions (every ∷ no_dev ∷ short ∷ []) (codes "refs/heads/" ∷ candidates (codes "main"))
+expanded = (
+  codes "refs/heads/" ∷ [],
+  candidates (codes "main"),
+  inl (codes "refs/heads/*", record { positive = tt; side = refl }, to_prefix (codes "refs/heads/") below_heads refl),
+  (
+    [],
+    candidates (codes "main"),
+    inr ((λ x asked. asked.positive), refl),
+    (
+      candidates (codes "main"),
+      [],
+      inl (codes "main", record { positive = tt; side = refl }, to_candidates (outside_none (codes "main") (other_byte 0 (codes "main") (codes "HEAD") (λ same. omega (arith, same))) short_kind.2) short_kind.2 short_kind.3 refl),
+      refl,
+      refl,
+    ),
+    refl,
+  ),
+  refl,
+)
