@@ -165,6 +165,14 @@ def small():
         yield b"spec %s\n%s" % (WIDE, refs)
 
 
+def rows():
+    """The groups of tests, where each ref points to one id."""
+    for line in specs.stored(b"= "):
+        texts, names = line.split(b"\t")
+        yield b"".join([*(b"spec %s\n" % text for text in texts.split(b" ")),
+                        *(b"ref %s %s\n" % (b"1" * 40, name_) for name_ in names.split(b" "))])
+
+
 def generated(count, seed):
     """The small groups, and so many random ones."""
     yield from small()

@@ -1,7 +1,10 @@
 """Texts that look like refspecs, from a fixed seed: for comparisons and measures."""
 import itertools
+import os
 import random
+import re
 
+HERE = os.path.dirname(os.path.abspath(__file__))
 # Pieces of names and specs that some rule of the grammar speaks of.
 PIECES = [
     b"refs/heads/", b"refs/tags/", b"refs/remotes/origin/", b"refs/", b"heads/", b"main", b"feature/one", b"v1.0",
@@ -88,6 +91,21 @@ def mutated(random_):
         else:
             text[at:at] = text[max(0, at - random_.randint(1, 4)):at]
     return bytes(text)
+
+
+def stored(mark):
+    """The lines of the file rows beside this script that begin so, without that."""
+    with open(os.path.join(HERE, "rows"), "rb") as file:
+        for line in file:
+            if line.startswith(mark):
+                yield re.sub(rb"\\x([0-9a-f]{2})", lambda found: bytes([int(found[1], 16)]), line[len(mark):].rstrip(b"\n"))
+
+
+def rows():
+    """The texts of tests: those of rows, and each byte but the newline before, between and behind letters."""
+    yield from stored(b"< ")
+    for byte in (bytes([code]) for code in range(256) if code != 10):
+        yield from (byte + b"a", b"a" + byte + b"b", b"a" + byte)
 
 
 def generated(count, seed):
