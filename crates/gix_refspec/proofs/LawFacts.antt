@@ -1,22 +1,33 @@
 -- The words that only laws cite, on each side of what they ask: which specs go both ways, which
 -- sources are covering, what a spec reads as again, and what a group expands to.
 use Rattle.std.proofs.Common.{◌≡◌, ◌≢◌, ℕ, zero, suc, List, [], ◌∷◌, ◌++◌, Option, None, Some, codes, refl, sym, ap, ◌∙◌, subst, inl, inr, arith}
+use Rattle.std.specs.List.{Any}
 use Rattle.gix_refspec.specs.declared.parsing.Operation.TheVariants.{Push, Fetch}
 use Rattle.gix_refspec.specs.Text.{Begins}
 use Rattle.gix_refspec.specs.Name.{IsName, HasStar}
 use Rattle.gix_refspec.specs.Bytes.{star, bracket, colon}
 use Rattle.gix_refspec.specs.Reading.{Normal, Forced, Reading}
 use Rattle.gix_refspec.specs.Grammar.{AreParts, Reads, fetches, fetched, pushed}
-use Rattle.gix_refspec.specs.Side.{candidates}
-use Rattle.gix_refspec.specs.Mappings.{name, id}
-use Rattle.gix_refspec.specs.Prefix.{IsPrefix, of_head, of_name, of_pattern, to_prefix, to_candidates}
-use Rattle.gix_refspec.specs.MatchLaws.{HasName, IsSourceAmong, IsDestinationAmong, GoesBothWays, ReadsAgainAs, IsCovering, by_prefix, by_candidates, HasCoveringSource, BeginsWithOne, AreExpansions}
+use Rattle.gix_refspec.specs.Side.{candidates, IsCandidate, Fits}
+use Rattle.gix_refspec.specs.Mappings.{name, id, Mapped, HasPair, AreApart}
+use Rattle.gix_refspec.specs.Hits.{AreKeptForward, AreKeptBackward, OneForward, OneBackward, KeptOnce}
+use Rattle.gix_refspec.specs.Match.{Ref, Matches}
+use Rattle.gix_refspec.specs.Validation.{ValidatedOnce, HaveOneSource, NeverMeet}
+use Rattle.gix_refspec.specs.Laws.{OneWord, PrefixBegins, OnePrefix, Candidates, IdOrFault, OneLowerText, OneRefusal}
+use Rattle.gix_refspec.specs.Refusal.{PatternUnbalanced, NegativeEmpty, ReferenceName, IsRefused}
+use Rattle.gix_refspec.specs.ObjectId.{IsIdText, IsLowerText, HasIdFault}
+use Rattle.gix_refspec.specs.declared.name.Error.{Error as NameError}
+use Rattle.gix_refspec.specs.declared.oid.Error.{Error as IdError}
+use Rattle.gix_refspec.specs.Prefix.{IsPrefix, Expands, of_head, of_name, of_pattern, to_prefix, to_candidates}
+use Rattle.gix_refspec.specs.MatchLaws.{Transpose, Cover, CoverTogether, FetchGroupReadsBack, IsCoveredBy, HasName, IsSourceAmong, IsDestinationAmong, GoesBothWays, ReadsAgainAs, IsCovering, by_prefix, by_candidates, HasCoveringSource, BeginsWithOne, AreExpansions}
 use Rattle.gix_refspec.proofs.TextLemmas.{Lacks-here, Lacks-Holds}
 use Rattle.gix_refspec.proofs.MatchLemmas.{cut_once, outside_none}
 use Rattle.gix_refspec.proofs.ReadOnceLemmas.{reads_once}
 use Rattle.gix_refspec.proofs.FormsBackLemmas.{some_once}
 use Rattle.gix_refspec.proofs.ManualFacts.{Lacks-tested, other_length, none_some, named, no_sign}
-use Rattle.gix_refspec.proofs.MatchFacts.{cut_at_end, every, no_dev, short, short_kind, other_byte}
+use Rattle.gix_refspec.proofs.ObjectIdFacts.{empty_blob, IsIdText-empty_blob, lower_of-empty_blob}
+use Rattle.gix_refspec.proofs.ValidationFacts.{both_to_x, foo_fix, validated}
+use Rattle.gix_refspec.proofs.MatchFacts.{tracked, fetches_all_but_dev, tracks_all_but_dev, tracks_nothing, tag_to_x, tag_to_foo, tag_alone, cut_at_end, every, no_dev, short, short_kind, other_byte}
 
 -- ---- both directions
 
@@ -173,3 +184,90 @@ expanded = (
   ),
   refl,
 )
+
+-- ---- what laws say of these
+
+-- the refs of the remote, and the tracking refs
+abbrev remote_refs : List Ref
+remote_refs = named (codes "refs/heads/dev-a") ∷ named (codes "refs/tags/v1") ∷ named (codes "refs/heads/main") ∷ named (codes "refs/heads/main") ∷ []
+
+abbrev tracking_refs : List Ref
+tracking_refs = named (codes "refs/remotes/origin/dev-a") ∷ named (codes "refs/remotes/origin/main") ∷ []
+
+-- the branch stands in the answer of each direction, if it does in that of the other
+pub looked_up : Transpose (every ∷ no_dev ∷ []) remote_refs tracking_refs → (m : List Mapped) → AreKeptBackward (every ∷ no_dev ∷ []) tracking_refs m → HasPair m (tracked 0 (codes "main"))
+looked_up law m back = ((law (go_both_ways.0, (go_both_ways.3, tt)) (tracked 2 (codes "main") ∷ []) m fetches_all_but_dev back (tracked 0 (codes "main"))).0 (inl (record { source = refl; destination = refl }), inr (inl refl))).0
+
+pub looked_back : Transpose (every ∷ no_dev ∷ []) remote_refs tracking_refs → (l : List Mapped) → AreKeptForward (every ∷ no_dev ∷ []) remote_refs l → HasPair l (tracked 0 (codes "main"))
+looked_back law l forward = ((law (go_both_ways.0, (go_both_ways.3, tt)) l (tracked 1 (codes "main") ∷ []) forward tracks_all_but_dev (tracked 0 (codes "main"))).1 (inl (record { source = refl; destination = refl }), inr (inr (inl refl)))).0
+
+every_covering : HasCoveringSource every
+every_covering = record { fetch = refl; source = λ x asked. subst IsCovering (some_once (codes "refs/heads/*") x asked.side) covering.0 }
+
+-- the branch begins with an entry of some spec, and with one of those of all
+pub covered : Cover (every ∷ no_dev ∷ []) remote_refs → Any (IsCoveredBy (codes "refs/heads/main")) (every ∷ no_dev ∷ [])
+covered law = (law (every_covering, (covering_sources.0, tt)) (tracked 2 (codes "main") ∷ []) fetches_all_but_dev).0 (codes "refs/heads/main") refl
+
+pub covered_together : CoverTogether (every ∷ no_dev ∷ []) remote_refs → (entries : List (List ℕ)) → AreExpansions (every ∷ no_dev ∷ []) entries → BeginsWithOne entries (codes "refs/heads/main")
+covered_together law entries are = (law (every_covering, (covering_sources.0, tt)) entries are (tracked 2 (codes "main") ∷ []) fetches_all_but_dev).0 (codes "refs/heads/main") refl
+
+-- a group maps in both directions as the one that was read from its texts
+pub mapped_alike : IsName (codes "main") → FetchGroupReadsBack (fetched Forced (codes "main") None ∷ []) (short ∷ []) (named (codes "refs/heads/main") ∷ []) → (kept : List Mapped)
+    → (AreKeptForward (fetched Forced (codes "main") None ∷ []) (named (codes "refs/heads/main") ∷ []) kept → AreKeptForward (short ∷ []) (named (codes "refs/heads/main") ∷ []) kept) × AreKeptBackward (fetched Forced (codes "main") None ∷ []) (named (codes "refs/heads/main") ∷ []) []
+mapped_alike is_name law kept = let alike = law (reads_unforced is_name, tt) in ((alike.forward kept).0, (alike.backward []).1 tracks_nothing)
+
+-- a group and refs have one answer in each direction
+pub one_answer : OneForward (every ∷ no_dev ∷ []) remote_refs → (l : List Mapped) → AreKeptForward (every ∷ no_dev ∷ []) remote_refs l → l ≡ tracked 2 (codes "main") ∷ []
+one_answer law l kept = law l (tracked 2 (codes "main") ∷ []) kept fetches_all_but_dev
+
+pub one_answer_back : OneBackward (every ∷ no_dev ∷ []) tracking_refs → (l : List Mapped) → AreKeptBackward (every ∷ no_dev ∷ []) tracking_refs l → l ≡ tracked 1 (codes "main") ∷ []
+one_answer_back law l kept = law l (tracked 1 (codes "main") ∷ []) kept tracks_all_but_dev
+
+-- what is answered in either direction is apart
+pub answered_apart : (g : List Reading) (items : List Ref) → KeptOnce g items → (l m : List Mapped) → AreKeptForward g items l → AreKeptBackward g items m → AreApart l × AreApart m
+answered_apart g items law l m forward back = (law l (inl forward), law m (inr back))
+
+-- after a validation one source goes to each destination, and what came from items doesn't meet
+pub validated_apart : ValidatedOnce both_to_x remote_refs → HaveOneSource (tag_to_x ∷ tag_alone ∷ []) × (AreKeptForward both_to_x remote_refs (tag_to_x ∷ tag_to_foo ∷ tag_alone ∷ []) → NeverMeet (tag_to_x ∷ tag_alone ∷ []))
+validated_apart law = law (tag_to_x ∷ tag_to_foo ∷ tag_alone ∷ []) (tag_to_x ∷ tag_alone ∷ []) (foo_fix ∷ []) validated
+
+-- one word stands for a star
+pub word_of_ab : OneWord (codes "a") [] (codes "ab") → (word : List ℕ) → Fits (codes "a") [] (codes "ab") word → word ≡ codes "b"
+word_of_ab law word fits = law word (codes "b") fits refl
+
+-- a ref that a pattern matches begins with its prefix, and the pattern has no other, nor another expansion
+pub begins_below : PrefixBegins (codes "refs/heads/*") → (r : Ref) (word : Option (List ℕ)) → Matches (codes "refs/heads/*") r word → Begins (codes "refs/heads/") r.name
+begins_below law r word matches = law (codes "refs/heads/") r word below_heads (other_length _ _ (λ size. omega (arith, size))) matches
+
+pub one_below : OnePrefix (codes "refs/heads/*") → ((p : List ℕ) → IsPrefix (codes "refs/heads/*") p → p ≡ codes "refs/heads/") × ((list : List (List ℕ)) → Expands (codes "refs/heads/*") list → list ≡ codes "refs/heads/" ∷ [])
+one_below law = (
+  (λ p prefix. law.prefix p (codes "refs/heads/") prefix below_heads),
+  (λ list expands. law.expanded list (codes "refs/heads/" ∷ []) expands (to_prefix (codes "refs/heads/") below_heads refl)),
+)
+
+-- a partial name is expanded to its candidates and nothing else, and matches each
+pub candidates_asked : Candidates (codes "main") → Expands (codes "main") (candidates (codes "main")) × ((list : List (List ℕ)) → Expands (codes "main") list → list ≡ candidates (codes "main")) × ((r : Ref) → IsCandidate (codes "main") r.name → (word : Option (List ℕ)) × Matches (codes "main") r word)
+candidates_asked law =
+    let all = law short_kind.1 (other_byte 0 (codes "main") (codes "HEAD") (λ same. omega (arith, same))) short_kind.2 short_kind.3 in
+    (all.expands, all.only, λ r one. (all.matches r).1 one)
+
+-- the id of the empty blob is that of its text alone, without a fault, and prints as it
+pub one_id : IdOrFault (codes "e69de29bb2d1d6434b8b29ae775ad8c2e48c5391") → ((i : List ℕ) → IsIdText (codes "e69de29bb2d1d6434b8b29ae775ad8c2e48c5391") i → i ≡ empty_blob) × ((e : IdError) → ¬ (HasIdFault (codes "e69de29bb2d1d6434b8b29ae775ad8c2e48c5391") e))
+one_id (inl one) = ((λ i text. one.only i text ∙ sym (one.only empty_blob IsIdText-empty_blob)), one.sound)
+one_id (inr fault) = absurd (fault.unread empty_blob IsIdText-empty_blob)
+
+pub one_text : OneLowerText empty_blob → (t : List ℕ) → IsLowerText t empty_blob → t ≡ codes "e69de29bb2d1d6434b8b29ae775ad8c2e48c5391"
+one_text law t lower = law.only t lower ∙ lower_of-empty_blob
+
+-- a text has one reason against it, but for which fault of a name
+pub one_reason : OneRefusal Fetch (codes "a*") → IsRefused Fetch (codes "a*") PatternUnbalanced → ¬ (IsRefused Fetch (codes "a*") NegativeEmpty)
+one_reason law unbalanced empty = elim (law PatternUnbalanced NegativeEmpty unbalanced empty) [
+  | inl same ↦ apart same
+  | inr (a, b, is_name, also) ↦ no_name a is_name
+]
+  where
+    apart : PatternUnbalanced ≢ NegativeEmpty
+    apart same = cc
+
+    no_name : (a : NameError) → PatternUnbalanced ≢ ReferenceName a
+    no_name a same = cc

@@ -75,7 +75,7 @@ abbrev pub no_dev : Reading
 no_dev = fetched Negative (codes "refs/heads/dev-*") None
 
 -- the mapping that such a spec at place 0 gives of a branch at a place
-abbrev tracked : ℕ → List ℕ → Mapped
+abbrev pub tracked : ℕ → List ℕ → Mapped
 tracked item branch = record { item = Some item; source = name (codes "refs/heads/" ++ branch); destination = Some (codes "refs/remotes/origin/" ++ branch); spec = 0 }
 
 -- the names of what the other side has
@@ -225,7 +225,7 @@ takes_back items j branch = record {
 abbrev pub short : Reading
 short = fetched Normal (codes "main") None
 
-pub tracks_all_but_dev : AreKeptBackward (every ∷ no_dev ∷ short ∷ []) (named (codes "refs/remotes/origin/dev-a") ∷ named (codes "refs/remotes/origin/main") ∷ []) (tracked 1 (codes "main") ∷ [])
+pub tracks_all_but_dev : AreKeptBackward (every ∷ no_dev ∷ []) (named (codes "refs/remotes/origin/dev-a") ∷ named (codes "refs/remotes/origin/main") ∷ []) (tracked 1 (codes "main") ∷ [])
 tracks_all_but_dev =
     let items = named (codes "refs/remotes/origin/dev-a") ∷ named (codes "refs/remotes/origin/main") ∷ [] in
     let dev = back_hit 0 (codes "dev-a") in
@@ -245,7 +245,7 @@ tracks_all_but_dev =
           dev ∷ main ∷ [],
           [],
           inl (backward_ends, record { positive = tt; near = refl; far = refl; both = refl }, taken),
-          ([], [], inr (λ ends has. has.positive, refl), ([], [], inr (λ ends has. none_some ends.near has.near, refl), refl, refl), refl),
+          ([], [], inr (λ ends has. has.positive, refl), refl, refl),
           refl,
         );
         all = refl;
@@ -254,7 +254,7 @@ tracks_all_but_dev =
         None,
         tracked 1 (codes "main") ∷ [],
         (λ m stays. stays.1.included (inr (inl (record { negative = refl; text = codes "refs/heads/dev-*"; source = refl; excludes = excludes_dev })))),
-        (Some (tracked 1 (codes "main")), [], (refl, record { first = only_dev; included = included }), refl, refl),
+        (Some (tracked 1 (codes "main")), [], (refl, record { first = only_dev; included = main_stays }), refl, refl),
         refl,
       );
     }
@@ -263,14 +263,13 @@ tracks_all_but_dev =
     only_dev (inl same) = other_length _ _ (λ length_same. omega (arith, length_same)) (ap bytes_in same.source)
     only_dev (inr none) = none
 
-    normal_no_negative : Normal ≢ Negative
-    normal_no_negative same = cc
-
-    included : ¬ (IsStartExcluded (every ∷ no_dev ∷ short ∷ []) (name (codes "refs/heads/main")))
-    included (inl by) = absurd (forced_no_negative by.negative)
-    included (inr (inl by)) = excludes_no_main (subst (λ (x : List ℕ). Excludes x (codes "refs/heads/main")) (sym (some_once (codes "refs/heads/dev-*") by.text by.source)) by.excludes)
-    included (inr (inr (inl by))) = absurd (normal_no_negative by.negative)
-    included (inr (inr (inr none))) = none
+-- a spec without a destination takes nothing from right to left
+pub tracks_nothing : AreKeptBackward (short ∷ []) (main_ref ∷ []) []
+tracks_nothing = record {
+  all = [];
+  backward = record { hits = []; are_hits = ([], [], inr ((λ ends has. none_some ends.near has.near), refl), refl, refl); all = refl };
+  is = refl;
+}
 
 -- ---- pairs
 

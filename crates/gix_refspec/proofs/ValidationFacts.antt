@@ -16,7 +16,7 @@ use Rattle.gix_refspec.proofs.ManualFacts.{other_length, none_some}
 use Rattle.gix_refspec.proofs.MatchFacts.{other_byte, of_element, bytes_in, mapping, tag_to_x, branch_to_x, tag_again, tag_to_foo, tag_alone, pairs}
 
 -- specs whose patterns meet below `refs/x/`, the second of which is forced
-abbrev both_to_x : List Reading
+abbrev pub both_to_x : List Reading
 both_to_x = fetched Normal (codes "refs/tags/*") (Some (codes "refs/x/*")) ∷ fetched Forced (codes "refs/heads/*") (Some (codes "refs/x/*")) ∷ []
 
 abbrev branch_to_y : Mapped
@@ -169,7 +169,7 @@ writable = (inl (record { after = codes "x"; here = refl }), inr refl, no_slash,
     no_foo (inr is_head) = other_length _ _ (λ size. omega (arith, size)) is_head
 
 -- what a fix tells of a mapping to a partial name by the second spec
-abbrev foo_fix : Removed
+abbrev pub foo_fix : Removed
 foo_fix = record { destination = codes "foo"; spec = fetched Forced (codes "refs/heads/*") (Some (codes "refs/x/*")) }
 
 -- of mappings from one source, the one to a partial name goes
