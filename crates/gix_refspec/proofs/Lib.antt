@@ -51,3 +51,4 @@ pub mod IndexLemmas
 pub mod MatchFacts
 pub mod ValidationFacts
 pub mod LawFacts
+pub mod CopyFacts

@@ -1,7 +1,7 @@
 -- The words on names and refspecs at the examples of git-check-ref-format(1), git-fetch(1) and
 -- git-push(1), and at some like them, on both sides of a border, so that a wrong rule in the specs does
 -- not check. That a text is a name is a premise.
-use Rattle.std.proofs.Common.{◌≡◌, ◌≢◌, ◌≤◌, ℕ, ◌==◌, ◌||◌, true, false, List, [], ◌∷◌, ◌++◌, Option, None, Some, map, length, get_or, codes, refl, ap, subst, inl, inr, arith}
+use Rattle.std.proofs.Common.{◌≡◌, ◌≢◌, ◌≤◌, ℕ, ◌==◌, ◌||◌, true, false, List, [], ◌∷◌, ◌++◌, Option, None, Some, map, length, get_or, codes, refl, sym, ap, ◌∙◌, is_some, subst, inl, inr, arith}
 use Rattle.std.specs.Prelude.{replicate}
 use Rattle.std.specs.List.{list_any, filter, range_with_len}
 use Rattle.std.proofs.lemmas.List.{length-replicate}
@@ -14,14 +14,14 @@ use Rattle.gix_refspec.specs.Text.{Lacks}
 use Rattle.gix_refspec.specs.Name.{is_refused_byte, HasFault, HasSeveralStars, IsCut, ReplacesStar, IsName, IsPattern}
 use Rattle.gix_refspec.specs.PatternError.{IsPatternFault}
 use Rattle.gix_refspec.specs.Bytes.{slash, star, letter, plus, caret, colon}
-use Rattle.gix_refspec.specs.Reading.{Normal, Forced, Negative, Reading}
+use Rattle.gix_refspec.specs.Reading.{Mode, Normal, Forced, Negative, Reading, HasSide, remote_of, local_of}
 use Rattle.gix_refspec.specs.Grammar.{named_by, IsSigned, AreParts, LooksLikeObjectHash, Reads, updates, pushes_colon, pushes, deletes, pushes_to, push_excludes, pushed, fetched}
 use Rattle.gix_refspec.specs.Meaning.{Meaning, push_all_matching, push_delete, push_matching, push_exclude, fetch_and_update, meaning_of, text_of}
-use Rattle.gix_refspec.specs.Refusal.{PatternUnsupported, IsBadPattern, WantsMemory, ReachesMemory, MayWantMemory}
+use Rattle.gix_refspec.specs.Refusal.{PatternUnsupported, PushToEmpty, NegativeWithDestination, ReferenceName, IsBadPattern, WantsMemory, NoReasonBeforeSource, ReachesMemory, MayWantMemory}
 use Rattle.gix_refspec.specs.Side.{pattern, full_name, object, partial, HasKind, candidates, filled}
 use Rattle.gix_refspec.specs.Match.{Ref, Matches, MatchesAs}
-use Rattle.gix_refspec.proofs.TextLemmas.{Lacks-here}
-use Rattle.gix_refspec.proofs.SideLemmas.{HasSeveralStars-replaced}
+use Rattle.gix_refspec.proofs.TextLemmas.{Lacks-here, Lacks-Holds}
+use Rattle.gix_refspec.proofs.SideLemmas.{HasSeveralStars-replaced, HasStar-stars, HasStar-bad}
 use Rattle.gix_refspec.proofs.PartsLemmas.{parts_once}
 use Rattle.gix_refspec.proofs.FormsBackLemmas.{some_once}
 
@@ -294,3 +294,52 @@ text_wants_no_memory may =
 -- a pattern of 257 bytes may be too long to be copied, and one of 256 is not
 pub pattern_too_long : IsPatternFault Memory (starred 256) × ¬ (IsPatternFault Memory (starred 255))
 pattern_too_long = (omega (arith, length-replicate 256 letter), λ long. omega (arith, length-replicate 255 letter, long))
+
+-- no reason comes before the source where there is none like these three
+before_source : (op : Operation) (mode : Mode) (s : List ℕ) (d : Option (List ℕ)) → s ≢ [] → (mode ≡ Negative → d ≡ None) → d ≢ Some [] → NoReasonBeforeSource op mode s d
+before_source op mode s d not_empty alone somewhere = (
+  (λ e empty. not_empty empty.no_source),
+  (λ e negative. false≢true (ap is_some (sym (alone negative.negative)) ∙ negative.colon)),
+  (λ e nowhere. somewhere nowhere.nowhere),
+)
+
+-- so a destination may want memory too
+pub destination_wants_memory : ReachesMemory Push Normal (codes "a..b") (Some (codes "c*d*"))
+destination_wants_memory = (
+  before_source Push Normal (codes "a..b") (Some (codes "c*d*")) (full _ _) (λ negative. absurd (normal_no_negative negative)) (λ same. full 99 (codes "*d*") (some_once (codes "c*d*") [] same)),
+  inr (
+    (λ e bad. Lacks-Holds star (codes "a..b") (Lacks-tested star (codes "a..b") refl) (HasStar-bad (codes "a..b") e bad.refusal)),
+    inl (record { before = codes "c"; between = codes "d"; after = []; here = refl }),
+  ),
+)
+  where
+    normal_no_negative : Normal ≢ Negative
+    normal_no_negative same = cc
+
+-- but not behind a bad source, nor does the source of a push to nowhere, or of a negative spec with a colon
+pub memory_behind_reasons : ¬ (ReachesMemory Fetch Normal (codes "a..b") (Some (codes "c*d*"))) × ¬ (ReachesMemory Push Normal (codes "a*b*") (Some [])) × ¬ (ReachesMemory Fetch Negative (codes "a*b*") (Some (codes "c")))
+memory_behind_reasons = (
+  (λ reaches. elim reaches.1 [
+    | inl wants ↦ elim wants [
+      | inl several ↦ Lacks-Holds star (codes "a..b") (Lacks-tested star (codes "a..b") refl) (HasStar-stars (codes "a..b") several)
+      | inr long ↦ Lacks-Holds star (codes "a..b") (Lacks-tested star (codes "a..b") refl) long.0
+    ]
+    | inr behind ↦ behind.0 (ReferenceName RepeatedDot) (record { source = full _ _; refusal = inl (Lacks-tested star (codes "a..b") refl, record { before = codes "a"; after = codes "b"; here = refl }) })
+  ]),
+  (λ reaches. reaches.0.2 PushToEmpty (record { push = refl; source = full _ _; nowhere = refl; refusal = refl })),
+  (λ reaches. reaches.0.1 NegativeWithDestination (record { negative = refl; colon = refl; refusal = refl })),
+)
+
+-- ---- sides of readings
+
+-- one side is enough, and it may be either
+pub sides : HasSide (pushed Normal (Some (codes "a")) None) × HasSide (pushed Normal None (Some (codes "a"))) × ¬ (HasSide (pushed Normal None None))
+sides = (inl refl, inr refl, none)
+  where
+    none : ¬ (HasSide (pushed Normal None None))
+    none (inl source) = false≢true source
+    none (inr destination) = false≢true destination
+
+-- a fetch has its source on the remote, and a push its destination
+pub remote_sides : (remote_of (fetched Normal (codes "a") (Some (codes "b"))) ≡ Some (codes "a")) × (local_of (fetched Normal (codes "a") (Some (codes "b"))) ≡ Some (codes "b")) × (remote_of (pushed Normal (Some (codes "a")) (Some (codes "b"))) ≡ Some (codes "b")) × (local_of (pushed Normal (Some (codes "a")) (Some (codes "b"))) ≡ Some (codes "a"))
+remote_sides = (refl, refl, refl, refl)
