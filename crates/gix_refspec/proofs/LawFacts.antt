@@ -1,10 +1,10 @@
 -- The words that only laws cite, on each side of what they ask: which specs go both ways, which
 -- sources are covering, what a spec reads as again, and what a group expands to.
-use Rattle.std.proofs.Common.{◌≡◌, ◌≢◌, ℕ, zero, suc, List, [], ◌∷◌, ◌++◌, Option, None, Some, codes, refl, sym, ap, ◌∙◌, subst, inl, inr, arith}
+use Rattle.std.proofs.Common.{◌≡◌, ◌≢◌, ◌<◌, ℕ, zero, suc, List, [], ◌∷◌, ◌++◌, Option, None, Some, codes, refl, sym, ap, ◌∙◌, subst, inl, inr, arith}
 use Rattle.std.specs.List.{Any}
 use Rattle.gix_refspec.specs.declared.parsing.Operation.TheVariants.{Push, Fetch}
 use Rattle.gix_refspec.specs.Text.{Begins}
-use Rattle.gix_refspec.specs.Name.{IsName, HasStar}
+use Rattle.gix_refspec.specs.Name.{IsName, IsPattern, HasStar}
 use Rattle.gix_refspec.specs.Bytes.{star, bracket, colon}
 use Rattle.gix_refspec.specs.Reading.{Normal, Forced, Reading}
 use Rattle.gix_refspec.specs.Grammar.{AreParts, Reads, fetches, fetched, pushed}
@@ -13,7 +13,10 @@ use Rattle.gix_refspec.specs.Mappings.{name, id, Mapped, HasPair, AreApart}
 use Rattle.gix_refspec.specs.Hits.{AreKeptForward, AreKeptBackward, OneForward, OneBackward, KeptOnce}
 use Rattle.gix_refspec.specs.Match.{Ref, Matches}
 use Rattle.gix_refspec.specs.Validation.{ValidatedOnce, HaveOneSource, NeverMeet}
-use Rattle.gix_refspec.specs.Laws.{OneWord, PrefixBegins, OnePrefix, Candidates, IdOrFault, OneLowerText, OneRefusal}
+use Rattle.gix_refspec.specs.Laws.{KeepsOperation, EqualTexts, NothingAgainst, ClonesExactly, OneWord, PrefixBegins, OnePrefix, Candidates, IdOrFault, OneLowerText, OneRefusal}
+use Rattle.gix_refspec.specs.Meaning.{printed, meaning_of}
+use Rattle.gix_refspec.specs.PatternError.{IsPatternFault}
+use Rattle.gix_refspec.specs.declared.name.PatternError.{PatternError}
 use Rattle.gix_refspec.specs.Refusal.{PatternUnbalanced, NegativeEmpty, ReferenceName, IsRefused}
 use Rattle.gix_refspec.specs.ObjectId.{IsIdText, IsLowerText, HasIdFault}
 use Rattle.gix_refspec.specs.declared.name.Error.{Error as NameError}
@@ -271,3 +274,19 @@ one_reason law unbalanced empty = elim (law PatternUnbalanced NegativeEmpty unba
 
     no_name : (a : NameError) → PatternUnbalanced ≢ ReferenceName a
     no_name a same = cc
+
+-- what reads for an operation is for it
+pub reads_for_fetch : KeepsOperation Fetch (codes "main") → (r : Reading) → Reads Fetch (codes "main") r → r.operation ≡ Fetch
+reads_for_fetch law r reads = law r reads
+
+-- texts that print alike mean the same, and the other way round
+pub texts_alike : EqualTexts Fetch (codes "+main") (codes "main") → (r q : Reading) → Reads Fetch (codes "+main") r → Reads Fetch (codes "main") q → (printed r ≡ printed q → meaning_of r ≡ meaning_of q) × (meaning_of r ≡ meaning_of q → printed r ≡ printed q)
+texts_alike law r q reads_r reads_q = ((law r q reads_r reads_q).1, (law r q reads_r reads_q).0)
+
+-- nothing is against a pattern of one byte, not even want of memory
+pub nothing_wrong : NothingAgainst (codes "*") → IsPattern (codes "*") → (e : PatternError) → ¬ (IsPatternFault e (codes "*"))
+nothing_wrong law pattern e fault = let long : 256 < 1 = (law pattern e fault).1 in omega (arith, long)
+
+-- a clone always comes, and is its value
+pub cloned : {T : Type 0} (is_clone : T → T → Type 0) (is_infallible : T → Type 0) → ClonesExactly is_clone is_infallible → (x y : T) → is_infallible x × (is_clone x y → y ≡ x)
+cloned is_clone is_infallible law x y = ((law x).0, (law x).1 y)
