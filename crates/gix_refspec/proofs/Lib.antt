@@ -52,3 +52,5 @@ pub mod MatchFacts
 pub mod ValidationFacts
 pub mod LawFacts
 pub mod CopyFacts
+pub mod MeaningFacts
+pub mod PrefixFacts

@@ -330,7 +330,7 @@ blob_mapping = record { item = None; source = id empty_blob; destination = Some 
 below_tags : HasKind (codes "refs/tags/blob") (full_name (codes "refs/tags/blob"))
 below_tags = (refl, Lacks-tested star (codes "refs/tags/blob") refl, record { after = codes "tags/blob"; here = refl })
 
-blob_kind : HasKind (codes "e69de29bb2d1d6434b8b29ae775ad8c2e48c5391") (object empty_blob)
+pub blob_kind : HasKind (codes "e69de29bb2d1d6434b8b29ae775ad8c2e48c5391") (object empty_blob)
 blob_kind = (
   Lacks-tested star (codes "e69de29bb2d1d6434b8b29ae775ad8c2e48c5391") refl,
   (λ begins. other_byte 0 (codes "e69de29bb2d1d6434b8b29ae775ad8c2e48c5391") (codes "refs/" ++ begins.after) (λ byte. omega (arith, byte)) begins.here),
