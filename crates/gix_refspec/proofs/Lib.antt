@@ -54,3 +54,4 @@ pub mod LawFacts
 pub mod CopyFacts
 pub mod MeaningFacts
 pub mod PrefixFacts
+pub mod RefusalFacts

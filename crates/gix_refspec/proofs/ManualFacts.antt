@@ -34,7 +34,7 @@ Lacks-tested b (c ∷ x) none = elim (c == b) as (λ v. (c == b) ≡ v → (v ||
 ] refl none
 
 -- a text with a byte isn't empty
-full : (b : ℕ) (bs : List ℕ) → b ∷ bs ≢ []
+pub full : (b : ℕ) (bs : List ℕ) → b ∷ bs ≢ []
 full b bs = λ e. cc
 
 -- a missing word is no word
@@ -296,7 +296,7 @@ pub pattern_too_long : IsPatternFault Memory (starred 256) × ¬ (IsPatternFault
 pattern_too_long = (omega (arith, length-replicate 256 letter), λ long. omega (arith, length-replicate 255 letter, long))
 
 -- no reason comes before the source where there is none like these three
-before_source : (op : Operation) (mode : Mode) (s : List ℕ) (d : Option (List ℕ)) → s ≢ [] → (mode ≡ Negative → d ≡ None) → d ≢ Some [] → NoReasonBeforeSource op mode s d
+pub before_source : (op : Operation) (mode : Mode) (s : List ℕ) (d : Option (List ℕ)) → s ≢ [] → (mode ≡ Negative → d ≡ None) → d ≢ Some [] → NoReasonBeforeSource op mode s d
 before_source op mode s d not_empty alone somewhere = (
   (λ e empty. not_empty empty.no_source),
   (λ e negative. false≢true (ap is_some (sym (alone negative.negative)) ∙ negative.colon)),
