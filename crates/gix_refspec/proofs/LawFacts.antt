@@ -238,7 +238,8 @@ validated_apart law = law (tag_to_x ∷ tag_to_foo ∷ tag_alone ∷ []) (tag_to
 pub word_of_ab : OneWord (codes "a") [] (codes "ab") → (word : List ℕ) → Fits (codes "a") [] (codes "ab") word → word ≡ codes "b"
 word_of_ab law word fits = law word (codes "b") fits refl
 
--- a ref that a pattern matches begins with its prefix, and the pattern has no other, nor another expansion
+-- a ref that a pattern matches begins with its prefix, and the pattern has no other, nor another
+-- expansion
 pub begins_below : PrefixBegins (codes "refs/heads/*") → (r : Ref) (word : Option (List ℕ)) → Matches (codes "refs/heads/*") r word → Begins (codes "refs/heads/") r.name
 begins_below law r word matches = law (codes "refs/heads/") r word below_heads (other_length _ _ (λ size. omega (arith, size))) matches
 

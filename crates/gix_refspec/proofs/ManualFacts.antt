@@ -269,6 +269,11 @@ wants_no_memory (inl several) =
     HasSeveralStars-replaced (starred 255) (letter ∷ replicate 255 letter) (record { before = []; after = replicate 255 letter; cut = cut; replaced = refl }) several
 wants_no_memory (inr (starry, long)) = omega (arith, length-replicate 255 letter, long)
 
+-- nor does one of 257 bytes without a star
+pub long_name_wants_none : ¬ (WantsMemory (replicate 257 letter))
+long_name_wants_none (inl several) = Lacks-Holds star (replicate 257 letter) (Lacks-tested star (replicate 257 letter) refl) (HasStar-stars (replicate 257 letter) several)
+long_name_wants_none (inr (starry, long)) = Lacks-Holds star (replicate 257 letter) (Lacks-tested star (replicate 257 letter) refl) starry
+
 -- the text is a source alone
 starred_parts : (n : ℕ) → list_any (λ c. c == colon) (starred n) ≡ false → AreParts Normal (starred n) None (starred n)
 starred_parts n none = record { signed = no_sign star (replicate n letter) refl refl; last = Lacks-tested colon (starred n) none }

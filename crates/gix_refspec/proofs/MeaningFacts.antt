@@ -1,5 +1,5 @@
--- The words on meanings, canonical texts, order and reasons at the examples of this project's own rules:
--- what a sign says, which text has one more, and what stands before what.
+-- The words on meanings, canonical texts, order and reasons at the examples of this project's own
+-- rules: what a sign says, which text has one more, and what stands before what.
 use Rattle.std.proofs.Common.{◌≡◌, true, false, [], None, Some, codes, refl}
 use Rattle.std.specs.declared.cmp.Ordering.TheVariants.{Less, Equal, Greater}
 use Rattle.gix_refspec.specs.declared.parsing.Operation.TheVariants.{Push, Fetch}

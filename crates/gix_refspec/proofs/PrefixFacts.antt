@@ -48,7 +48,8 @@ no_prefixes = (bare, before_star, behind_star, outside_none (codes "heads/*") (o
     behind_star p (of_name begins lacks same) = Lacks-here star (codes "refs/a") (codes "/]") lacks
     behind_star p (of_pattern before after cut tells same) = Lacks-here bracket (codes "/") [] (subst (Lacks bracket) ((cut_once (codes "refs/a*/]") before after (codes "refs/a") (codes "/]") cut suffix_cut).1) tells.last)
 
--- without a prefix, what has one name behind `refs/` is expanded to itself, and with a further slash to nothing
+-- without a prefix, what has one name behind `refs/` is expanded to itself, and with a further slash
+-- to nothing
 pub expansions_below : Expands (codes "refs/*") (codes "refs/*" ∷ []) × Expands (codes "refs/a]*") (codes "refs/a]*" ∷ []) × Expands (codes "refs/a*/]") []
 expansions_below = (
   to_itself (codes "*") no_prefixes.0 refl (Lacks-tested slash (codes "*") refl) refl,

@@ -1,4 +1,5 @@
--- The order of refusals: texts with two reasons, of which the first question's is given, and the other isn't.
+-- The order of refusals: texts with two reasons, of which the first question's is given, and the other
+-- isn't.
 use Rattle.std.proofs.Common.{◌≢◌, ◌⊎◌, ℕ, List, [], Option, None, Some, codes, refl, inl, inr, arith}
 use Rattle.std.specs.Prelude.{replicate}
 use Rattle.std.proofs.lemmas.List.{length-replicate}
