@@ -165,6 +165,18 @@ fn maps_from_left_to_right(rt: HostRuntime) -> Result<(), Fail> {
              - 2 aaaaaaaaaaaaaaaaaaaaaaaaaaaaaaaaaaaaaaaa -\n\
              0 0 refs/heads/b =refs/x/b\n",
         ),
+        // By item, whichever candidate of a partial name it is; and of equal names the first.
+        (
+            "main:refs/x/main",
+            "refs/heads/main main refs/tags/main refs/heads/main",
+            "0 0 refs/heads/main refs/x/main\n1 0 main refs/x/main\n2 0 refs/tags/main refs/x/main\n",
+        ),
+        (
+            "refs/heads/b:refs/x/b refs/heads/a:refs/x/a refs/heads/c:refs/x/c main:refs/y refs/heads/b",
+            "refs/heads/a refs/heads/main refs/heads/b main",
+            "2 0 refs/heads/b refs/x/b\n0 1 refs/heads/a refs/x/a\n1 3 refs/heads/main refs/y\n\
+             3 3 main refs/y\n2 4 refs/heads/b -\n",
+        ),
         // The six names that a partial one may stand for, and names near them.
         (
             "main",
@@ -276,6 +288,16 @@ fn maps_from_right_to_left(rt: HostRuntime) -> Result<(), Fail> {
             "refs/heads/main:main",
             "refs/tags/main refs/heads/main",
             "0 0 refs/heads/main refs/tags/main\n1 0 refs/heads/main refs/heads/main\n",
+        ),
+        (
+            "refs/heads/main:refs/q",
+            "refs/r refs/q refs/q",
+            "1 0 refs/heads/main refs/q\n",
+        ),
+        (
+            "refs/heads/main:main",
+            "refs/heads/main main",
+            "0 0 refs/heads/main refs/heads/main\n1 0 refs/heads/main main\n",
         ),
         ("main", "refs/heads/main", ""),
         (
