@@ -165,30 +165,6 @@ fn maps_from_left_to_right(rt: HostRuntime) -> Result<(), Fail> {
              - 2 aaaaaaaaaaaaaaaaaaaaaaaaaaaaaaaaaaaaaaaa -\n\
              0 0 refs/heads/b =refs/x/b\n",
         ),
-        // By item, whichever candidate of a partial name it is; and of equal names the first.
-        (
-            "main:refs/x/main",
-            "refs/heads/main main refs/tags/main refs/heads/main",
-            "0 0 refs/heads/main refs/x/main\n1 0 main refs/x/main\n2 0 refs/tags/main refs/x/main\n",
-        ),
-        (
-            "refs/heads/b:refs/x/b refs/heads/a:refs/x/a refs/heads/c:refs/x/c main:refs/y refs/heads/b",
-            "refs/heads/a refs/heads/main refs/heads/b main",
-            "2 0 refs/heads/b refs/x/b\n0 1 refs/heads/a refs/x/a\n1 3 refs/heads/main refs/y\n\
-             3 3 main refs/y\n2 4 refs/heads/b -\n",
-        ),
-        // The six names that a partial one may stand for, and names near them.
-        (
-            "main",
-            "xmain main/HEAD refs/remotes/main/HEAD refs/remotes/main refs/heads/main refs/tags/main refs/main main refs/heads/main/HEAD refs/x/main heads/main",
-            "2 0 refs/remotes/main/HEAD -\n3 0 refs/remotes/main -\n4 0 refs/heads/main -\n\
-             5 0 refs/tags/main -\n6 0 refs/main -\n7 0 main -\n",
-        ),
-        (
-            "refs/heads/main",
-            "refs/heads/main2 refs/heads/mai refs/refs/heads/main heads/main refs/heads/main",
-            "4 0 refs/heads/main -\n",
-        ),
         (
             "refs/heads/a*b/c:refs/x/d*e/f",
             "refs/heads/ab/c refs/heads/axyb/c refs/heads/axb/cc xrefs/heads/axb/c refs/heads/axb/",
@@ -205,6 +181,13 @@ fn maps_from_left_to_right(rt: HostRuntime) -> Result<(), Fail> {
             "HEAD refs/heads/HEAD",
             "1 0 refs/heads/HEAD refs/x\n",
         ),
+    ];
+    check_forward(&rt, rt.alloc(), Operation::Fetch, &rows)
+}
+
+#[test]
+fn keeps_each_pair_once(rt: HostRuntime) -> Result<(), Fail> {
+    let rows = [
         // A pair is a source and a destination, and its first mapping stays.
         (
             "refs/heads/a refs/heads/a:refs/x refs/heads/a:refs/y refs/heads/b:refs/x +refs/heads/a:refs/x",
@@ -220,6 +203,50 @@ fn maps_from_left_to_right(rt: HostRuntime) -> Result<(), Fail> {
         ),
     ];
     check_forward(&rt, rt.alloc(), Operation::Fetch, &rows)
+}
+
+#[test]
+fn looks_full_and_partial_names_up(rt: HostRuntime) -> Result<(), Fail> {
+    let forward = [
+        // The six names that a partial one may stand for, and names near them.
+        (
+            "main",
+            "xmain main/HEAD refs/remotes/main/HEAD refs/remotes/main refs/heads/main refs/tags/main refs/main main refs/heads/main/HEAD refs/x/main heads/main",
+            "2 0 refs/remotes/main/HEAD -\n3 0 refs/remotes/main -\n4 0 refs/heads/main -\n\
+             5 0 refs/tags/main -\n6 0 refs/main -\n7 0 main -\n",
+        ),
+        (
+            "refs/heads/main",
+            "refs/heads/main2 refs/heads/mai refs/refs/heads/main heads/main refs/heads/main",
+            "4 0 refs/heads/main -\n",
+        ),
+        // By item, whichever candidate of a partial name it is; and of equal names the first.
+        (
+            "main:refs/x/main",
+            "refs/heads/main main refs/tags/main refs/heads/main",
+            "0 0 refs/heads/main refs/x/main\n1 0 main refs/x/main\n2 0 refs/tags/main refs/x/main\n",
+        ),
+        (
+            "refs/heads/b:refs/x/b refs/heads/a:refs/x/a refs/heads/c:refs/x/c main:refs/y refs/heads/b",
+            "refs/heads/a refs/heads/main refs/heads/b main",
+            "2 0 refs/heads/b refs/x/b\n0 1 refs/heads/a refs/x/a\n1 3 refs/heads/main refs/y\n\
+             3 3 main refs/y\n2 4 refs/heads/b -\n",
+        ),
+    ];
+    check_forward(&rt, rt.alloc(), Operation::Fetch, &forward)?;
+    let backward = [
+        (
+            "refs/heads/main:refs/q",
+            "refs/r refs/q refs/q",
+            "1 0 refs/heads/main refs/q\n",
+        ),
+        (
+            "refs/heads/main:main",
+            "refs/heads/main main",
+            "0 0 refs/heads/main refs/heads/main\n1 0 refs/heads/main main\n",
+        ),
+    ];
+    check_backward(&rt, rt.alloc(), Operation::Fetch, &backward)
 }
 
 #[test]
@@ -288,16 +315,6 @@ fn maps_from_right_to_left(rt: HostRuntime) -> Result<(), Fail> {
             "refs/heads/main:main",
             "refs/tags/main refs/heads/main",
             "0 0 refs/heads/main refs/tags/main\n1 0 refs/heads/main refs/heads/main\n",
-        ),
-        (
-            "refs/heads/main:refs/q",
-            "refs/r refs/q refs/q",
-            "1 0 refs/heads/main refs/q\n",
-        ),
-        (
-            "refs/heads/main:main",
-            "refs/heads/main main",
-            "0 0 refs/heads/main refs/heads/main\n1 0 refs/heads/main main\n",
         ),
         ("main", "refs/heads/main", ""),
         (
