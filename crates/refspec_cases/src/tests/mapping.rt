@@ -135,12 +135,6 @@ fn maps_from_left_to_right(rt: HostRuntime) -> Result<(), Fail> {
             "0 0 refs/heads/main =refs/remotes/origin/main\n",
         ),
         (
-            "main:refs/remotes/origin/main",
-            "refs/tags/main refs/heads/main",
-            "0 0 refs/tags/main refs/remotes/origin/main\n\
-             1 0 refs/heads/main refs/remotes/origin/main\n",
-        ),
-        (
             "refs/heads/a:refs/y/a AAAAAAAAAAAAAAAAAAAAAAAAAAAAAAAAAAAAAAAA:x",
             "refs/heads/a",
             "- 1 aaaaaaaaaaaaaaaaaaaaaaaaaaaaaaaaaaaaaaaa =refs/heads/x\n0 0 refs/heads/a refs/y/a\n",
@@ -219,6 +213,12 @@ fn looks_full_and_partial_names_up(rt: HostRuntime) -> Result<(), Fail> {
             "refs/heads/main",
             "refs/heads/main2 refs/heads/mai refs/refs/heads/main heads/main refs/heads/main",
             "4 0 refs/heads/main -\n",
+        ),
+        (
+            "main:refs/remotes/origin/main",
+            "refs/tags/main refs/heads/main",
+            "0 0 refs/tags/main refs/remotes/origin/main\n\
+             1 0 refs/heads/main refs/remotes/origin/main\n",
         ),
         // By item, whichever candidate of a partial name it is; and of equal names the first.
         (
