@@ -1,19 +1,20 @@
 //! Which items the specs of a group match, and the mappings that these make. A direction only
 //! chooses which end of a spec is near, and matches items, and which is far, and is filled.
 
-ghost use Rattle.std.specs.Prelude.{◌≡◌, ℕ, [], map, MatchBool, IfOk, OnOk, OnErr};
+ghost use Rattle.std.specs.Prelude.{◌≡◌, [], map, IfOk, OnOk, OnErr};
 ghost use Rattle.gix_refspec.specs.Spec.{reading_of};
-ghost use Rattle.gix_refspec.specs.Lists.{IsMadeFrom};
 ghost use Rattle.gix_refspec.specs.Group.{ref_of, mapped_of};
-ghost use Rattle.gix_refspec.specs.Hits.{AreHits, forward_of, backward_of, IsIdMapping};
+ghost use Rattle.gix_refspec.specs.Hits.{AreHits, forward_of, backward_of};
 ghost use Rattle.gix_refspec.specs.Private.SideViews.{shown_kind};
 ghost use Rattle.gix_refspec.specs.Private.Index.{ArePlacesTaken, IsIndexFor, IsIndexOfSide, MatchesWhole};
-ghost use Rattle.gix_refspec.specs.Private.HitViews.{HasEnds, shown_hit, AreHitsOfKinds, HasHit, AddsHits, AreFirst, AreMade, made_in};
+ghost use Rattle.gix_refspec.specs.Private.HitViews.{HasEnds, shown_hit, AreHitsOfKinds, AddsHits, AreFirst, AreMade, made_in};
 
 use super::ends::{Direction, Ends, asked_of, ends_of};
 use super::fill::filled_end;
+use super::ids::ids_of;
 use super::index::{NameIndex, names_asked};
 use super::matched::matched;
+use super::presence::makes_some;
 use crate::match_group::types::{Item, Mapping, NameRef, SourceRef};
 use crate::side::SideKind;
 use crate::spec::RefSpecRef;
@@ -55,8 +56,7 @@ pub(crate) fn mappings_of<'spec, 'item>(
     }
 }
 
-// No mappings, where none are made, or else the error. Without memory there is no index, so all items
-// are gone through for each spec.
+// No mappings, where none are made, or else the error: the index wants memory before that is known.
 fn none_or<'spec, 'item>(
     error: AllocError,
     alloc: Global,
@@ -76,64 +76,6 @@ fn none_or<'spec, 'item>(
         forward: Vec::new(alloc),
         backward: Vec::new(alloc),
     })
-}
-
-// Whether a direction makes some mapping.
-fn makes_some(direction: Direction, specs: &[RefSpecRef<'_>], items: &[Item<'_>]) -> bool
-    ensures { MatchBool result
-        (¬ (AreMade direction (map reading_of specs.now) (map ref_of items.now) []))
-        (AreMade direction (map reading_of specs.now) (map ref_of items.now) []) }
-{
-    let hits = has_hit(direction, specs, items);
-    match direction {
-        Direction::Forward => hits || has_id(specs),
-        Direction::Backward => hits,
-    }
-}
-
-// Whether some positive spec has an id as its source.
-fn has_id(specs: &[RefSpecRef<'_>]) -> bool
-    ensures { MatchBool result
-        (¬ (IsMadeFrom IsIdMapping 0 (map reading_of specs.now) []))
-        (IsMadeFrom IsIdMapping 0 (map reading_of specs.now) []) }
-{
-    for spec in specs {
-        if asked_of(spec).is_some() {
-            return true;
-        }
-    }
-    false
-}
-
-// Whether some spec hits some item.
-fn has_hit(direction: Direction, specs: &[RefSpecRef<'_>], items: &[Item<'_>]) -> bool
-    ensures { MatchBool result
-        (¬ (AreHits (HasEnds direction) (map reading_of specs.now) (map ref_of items.now) []))
-        (AreHits (HasEnds direction) (map reading_of specs.now) (map ref_of items.now) []) }
-{
-    for spec in specs {
-        if let Some(ends) = ends_of(direction, spec) {
-            if hits_some(ends, items) {
-                return true;
-            }
-        }
-    }
-    false
-}
-
-// Whether a spec with these ends hits some item.
-fn hits_some(ends: Ends<'_>, items: &[Item<'_>]) -> bool
-    ensures { MatchBool result
-        (HasHit ends.entry (map ref_of items.now))
-        ((spec : ℕ) → AreHitsOfKinds
-        ends.entry spec (map ref_of items.now) (map ref_of items.now) []) }
-{
-    for item in items {
-        if matched(ends.near, item).is_some() {
-            return true;
-        }
-    }
-    false
 }
 
 // The mappings of a direction, with an index of the names that the specs ask for.
@@ -202,29 +144,6 @@ fn started<'spec, 'item>(
             backward: Vec::with_capacity(alloc, room)?,
         },
     })
-}
-
-// A mapping for each positive spec whose source is an id, with room for so many.
-fn ids_of<'spec, 'item>(
-    alloc: Global,
-    specs: &[RefSpecRef<'spec>],
-    room: usize,
-) -> Result<Vec<Mapping<'item, 'spec>>, AllocError>
-    ensures { IfOk result (λ ids. IsMadeFrom
-        IsIdMapping 0 (map reading_of specs.now) (map mapped_of ids.items)) }
-{
-    let mut ids = Vec::with_capacity(alloc, room)?;
-    for (place, spec) in specs.iter().enumerate() {
-        if let Some(asked) = asked_of(spec) {
-            ids.push(Mapping {
-                item_index: None,
-                lhs: SourceRef::ObjectId(asked.id),
-                rhs: filled_end(alloc, asked.destination, None)?,
-                spec_index: place,
-            })?;
-        }
-    }
-    Ok(ids)
 }
 
 // From left to right an item's name is the source.

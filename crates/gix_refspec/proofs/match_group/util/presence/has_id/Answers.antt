@@ -2,7 +2,7 @@
 use Rattle.std.proofs.Common.{[], sym, ◌∙◌}
 use Rattle.gix_refspec.proofs.HitLemmas.{adds_no_id, found_some, some_id}
 use Rattle.gix_refspec.proofs.NoHitLemmas.{found_none}
-use Rattle.gix_refspec.proofs.match_group.util.hits.has_id.Goals as goal
+use Rattle.gix_refspec.proofs.match_group.util.presence.has_id.Goals as goal
 
 pub returns-then-is_some : goal.returns-then-is_some
 returns-then-is_some c =

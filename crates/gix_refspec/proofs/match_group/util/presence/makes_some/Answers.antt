@@ -3,7 +3,7 @@ use Rattle.std.proofs.Common.{map}
 use Rattle.gix_refspec.specs.Spec.{reading_of}
 use Rattle.gix_refspec.specs.Group.{ref_of}
 use Rattle.gix_refspec.proofs.NoHitLemmas.{told_backward, told_by_hit, told_by_id}
-use Rattle.gix_refspec.proofs.match_group.util.hits.makes_some.Goals as goal
+use Rattle.gix_refspec.proofs.match_group.util.presence.makes_some.Goals as goal
 
 pub returns-then-hits : goal.returns-then-hits
 returns-then-hits c = told_by_hit c.args.direction (map reading_of c.args.specs.now) (map ref_of c.args.items.now) c.has_hit-hits.result c.if-hits.true c.if-hits.ensures

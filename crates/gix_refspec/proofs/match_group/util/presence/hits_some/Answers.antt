@@ -2,7 +2,7 @@
 use Rattle.std.proofs.Common.{sym, ◌∙◌}
 use Rattle.gix_refspec.proofs.HitLemmas.{item_counted}
 use Rattle.gix_refspec.proofs.NoHitLemmas.{found_none, item_missed}
-use Rattle.gix_refspec.proofs.match_group.util.hits.hits_some.Goals as goal
+use Rattle.gix_refspec.proofs.match_group.util.presence.hits_some.Goals as goal
 
 pub returns-then-is_some : goal.returns-then-is_some
 returns-then-is_some c = item_counted c.args.ends c.args.items.now c.loop-item.item-index _ c.matched.result c.loop-item-test.true (sym c.is_some.ensures ∙ c.if-is_some.true) c.matched.ensures

@@ -3,8 +3,8 @@ use Rattle.std.proofs.Common.{map}
 use Rattle.gix_refspec.specs.Group.{ref_of}
 use Rattle.gix_refspec.proofs.HitLemmas.{specs_hit}
 use Rattle.gix_refspec.proofs.NoHitLemmas.{spec_endless, spec_missed}
-use Rattle.gix_refspec.proofs.match_group.util.hits.has_hit.Goals as goal
-use Rattle.gix_refspec.proofs.match_group.util.hits.has_hit.Goals.{in-Some+else-hits_some, in_default}
+use Rattle.gix_refspec.proofs.match_group.util.presence.has_hit.Goals as goal
+use Rattle.gix_refspec.proofs.match_group.util.presence.has_hit.Goals.{in-Some+else-hits_some, in_default}
 
 pub returns-then-hits_some : goal.returns-then-hits_some
 returns-then-hits_some c = specs_hit c.args.direction c.args.specs.now (map ref_of c.args.items.now) c.loop-spec.spec-index c.spec-item.result c.in-Some.ends c.loop-spec-test.true c.spec-item.is c.in-Some.ensures c.if-hits_some.ensures
