@@ -7,8 +7,6 @@ use Rattle.std.proofs.lemmas.Bool.{false≢true}
 use Rattle.std.proofs.lemmas.List.{append-nil}
 use Rattle.std.proofs.lemmas.List.Elements.{Contains-append_left, Contains-append_right, Contains-push, Contains-push_cases}
 use Rattle.std.proofs.lemmas.Slice.Eq.{bytes_eq-Decides}
-use Rattle.bstr.specs.declared.bstring.BString.{BString}
-use Rattle.bstr.specs.Owned.{bstring_bytes}
 use Rattle.bstr.specs.BStr.{bstr_bytes}
 use Rattle.gix_refspec.specs.declared.match_group.types.Item.{Item}
 use Rattle.gix_refspec.specs.declared.match_group.util.ends.Direction.{Direction}
@@ -30,8 +28,8 @@ use Rattle.gix_refspec.proofs.PlacesLemmas.{within_candidates}
 use Rattle.gix_refspec.proofs.RepeatLemmas.{all_join, all_weaker}
 
 -- the names up to a place, with the one there
-pub names_more : (names : List BString) (i : ℕ) (s : BString) (n : List ℕ) → i < length names → s ≡ get_or names i s → n ≡ bstring_bytes s → map bstring_bytes (take (i + 1) names) ≡ map bstring_bytes (take i names) ++ n ∷ []
-names_more names i s n below is bytes = map_more bstring_bytes names i s below ∙ ap (λ (t : BString). map bstring_bytes (take i names) ++ bstring_bytes t ∷ []) (sym is) ∙ ap (λ (m : List ℕ). map bstring_bytes (take i names) ++ m ∷ []) (sym bytes)
+pub names_more : {A : Type 0} (f : A → List ℕ) (names : List A) (i : ℕ) (s : A) (n : List ℕ) → i < length names → s ≡ get_or names i s → n ≡ f s → map f (take (i + 1) names) ≡ map f (take i names) ++ n ∷ []
+names_more {A} f names i s n below is bytes = map_more f names i s below ∙ ap (λ (t : A). map f (take i names) ++ f t ∷ []) (sym is) ∙ ap (λ (m : List ℕ). map f (take i names) ++ m ∷ []) (sym bytes)
 
 -- the new list is put at the name n
 abbrev pub Puts : List ℕ → Vec ℕ → (List ℕ → Option (Vec ℕ)) → (List ℕ → Option (Vec ℕ)) → Type 0

@@ -4,21 +4,20 @@
 
 ghost use Rattle.std.specs.Prelude.{◌≡◌, ◌↔◌, ◌<◌, ◌%◌, ◌++◌, [], List, ℕ, length, map, IfOk, OnOk, IsTrue};
 ghost use Rattle.std.specs.List.{AllByRecursion, Contains};
-ghost use Rattle.bstr.specs.Owned.{bstring_bytes};
 ghost use Rattle.gix_refspec.specs.Spec.{reading_of};
 ghost use Rattle.gix_refspec.specs.Side.{IsCandidate, partial as partial_kind};
 ghost use Rattle.gix_refspec.specs.Match.{Ref};
-ghost use Rattle.gix_refspec.specs.Group.{ref_of};
+ghost use Rattle.gix_refspec.specs.Group.{name_bytes, ref_of};
 ghost use Rattle.gix_refspec.specs.Private.SideViews.{shown_kind};
 ghost use Rattle.gix_refspec.specs.Private.Kept.{name_hash};
 ghost use Rattle.gix_refspec.specs.Private.Index.{AllAsked, HavePlaces, IsMarked, list_of, names_asked_by};
 
 use super::ends::{Direction, ends_of};
 use super::hashes::hash_of;
-use crate::match_group::types::Item;
-use crate::side::{SideKind, candidates, joined};
+use crate::match_group::types::{Item, NameRef};
+use crate::side::{SideKind, candidates};
 use crate::spec::RefSpecRef;
-use bstr::BString;
+use bstr::BStr;
 use std::alloc::{AllocError, Global};
 use std::collections::HashMap;
 
@@ -32,13 +31,13 @@ pub(crate) struct NameIndex<'n> {
 }
 
 // The names that specs ask for in a direction.
-pub(crate) fn names_asked(
+pub(crate) fn names_asked<'spec>(
     alloc: Global,
     direction: Direction,
-    specs: &[RefSpecRef<'_>],
-) -> Result<Vec<BString>, AllocError>
+    specs: &[RefSpecRef<'spec>],
+) -> Result<Vec<NameRef<'spec>>, AllocError>
     ensures { IfOk result (λ names. AllAsked
-        (Contains (map bstring_bytes names.items)) direction (map reading_of specs.now)) }
+        (Contains (map name_bytes names.items)) direction (map reading_of specs.now)) }
 {
     let mut names = Vec::new(alloc);
     for spec in specs {
@@ -50,13 +49,21 @@ pub(crate) fn names_asked(
 }
 
 // Adds the names that a side asks for.
-fn add_names(alloc: Global, near: SideKind<'_>, names: &mut Vec<BString>) -> Result<(), AllocError>
-    ensures { OnOk result (map bstring_bytes names.new.items ≡
-        map bstring_bytes names.old.items ++ names_asked_by (shown_kind near.entry)) }
+fn add_names<'spec>(
+    alloc: Global,
+    near: SideKind<'spec>,
+    names: &mut Vec<NameRef<'spec>>,
+) -> Result<(), AllocError>
+    ensures { OnOk result (map name_bytes names.new.items ≡
+        map name_bytes names.old.items ++ names_asked_by (shown_kind near.entry)) }
 {
     match near {
-        SideKind::FullName(name) => names.push(joined(alloc, b"", name, b"")?)?,
-        SideKind::Partial(name) => names.append(&mut candidates(alloc, name)?)?,
+        SideKind::FullName(name) => names.push(NameRef::Borrowed(BStr::new(name)))?,
+        SideKind::Partial(name) => {
+            for candidate in candidates(alloc, name)? {
+                names.push(NameRef::Owned(candidate))?;
+            }
+        }
         SideKind::Pattern { .. } | SideKind::Object(_) => {}
     }
     Ok(())
@@ -65,10 +72,10 @@ fn add_names(alloc: Global, near: SideKind<'_>, names: &mut Vec<BString>) -> Res
 // A map whose keys are just these names, each without a place.
 fn without_places<'n>(
     alloc: Global,
-    names: &'n [BString],
+    names: &'n [NameRef<'_>],
 ) -> Result<HashMap<&'n [u8], Vec<usize>>, AllocError>
     ensures { IfOk result (λ places. HavePlaces
-        (map bstring_bytes names.now) [] (list_of places)) }
+        (map name_bytes names.now) [] (list_of places)) }
 {
     let mut places = HashMap::new(alloc);
     for name in names {
@@ -78,11 +85,11 @@ fn without_places<'n>(
 }
 
 // Marks for the hashes of some names. Most other names have none.
-fn marks_of(alloc: Global, names: &[BString]) -> Result<Vec<bool>, AllocError>
+fn marks_of(alloc: Global, names: &[NameRef<'_>]) -> Result<Vec<bool>, AllocError>
     requires { 0 < length names.now }
     ensures some { IfOk result (λ marks. 0 < length marks.items) }
     ensures all { IfOk result (λ marks. AllByRecursion
-        (IsMarked marks.items) (map bstring_bytes names.now)) }
+        (IsMarked marks.items) (map name_bytes names.now)) }
 {
     let mut marks = Vec::new(alloc);
     marks.resize(names.len().saturating_mul(MARKS_A_NAME), false)?;
@@ -116,11 +123,11 @@ impl<'n> NameIndex<'n> {
     // The index of some names.
     pub(crate) fn of(
         alloc: Global,
-        names: &'n [BString],
+        names: &'n [NameRef<'_>],
         items: &[Item<'_>],
     ) -> Result<NameIndex<'n>, AllocError>
         ensures { IfOk result (λ index. IsIndexOf
-            (map bstring_bytes names.now) (map ref_of items.now) index) }
+            (map name_bytes names.now) (map ref_of items.now) index) }
     {
         let mut places = without_places(alloc, names)?;
         if names.is_empty() {

@@ -1,9 +1,8 @@
 -- The index has all names that the specs ask for.
 use Rattle.std.proofs.Common.{List, map, subst}
-use Rattle.bstr.specs.declared.bstring.BString.{BString}
-use Rattle.bstr.specs.Owned.{bstring_bytes}
+use Rattle.gix_refspec.specs.declared.match_group.types.NameRef.{NameRef}
 use Rattle.gix_refspec.specs.Spec.{reading_of}
-use Rattle.gix_refspec.specs.Group.{ref_of}
+use Rattle.gix_refspec.specs.Group.{name_bytes, ref_of}
 use Rattle.gix_refspec.specs.Private.Index.{IsIndexOf}
 use Rattle.gix_refspec.proofs.HitLemmas.{all_made}
 use Rattle.gix_refspec.proofs.PlacedLemmas.{index_serves}
@@ -12,8 +11,8 @@ use Rattle.gix_refspec.proofs.match_group.util.hits.looked_up.Goals as goal
 pub add_hits-requires : goal.add_hits-requires
 add_hits-requires c =
     let refs = map ref_of c.args.items.now in
-    index_serves c.args.direction (map reading_of c.args.specs.now) refs (map bstring_bytes c.in_ok-names.names.items) c.in_ok-index.index c.in_ok-names.ensures
-    (subst (λ (ns : List BString). IsIndexOf (map bstring_bytes ns) refs c.in_ok-index.index) c.as_slice.ensures.value c.in_ok-index.ensures)
+    index_serves c.args.direction (map reading_of c.args.specs.now) refs (map name_bytes c.in_ok-names.names.items) c.in_ok-index.index c.in_ok-names.ensures
+    (subst (λ (ns : List NameRef). IsIndexOf (map name_bytes ns) refs c.in_ok-index.index) c.as_slice.ensures.value c.in_ok-index.ensures)
 
 pub returns : goal.returns
 returns c = all_made c.args.direction (map reading_of c.args.specs.now) (map ref_of c.args.items.now) c.in_ok-made.made c.add_hits.new.made c.in_ok-made.ensures c.in_ok-add_hits.ensures

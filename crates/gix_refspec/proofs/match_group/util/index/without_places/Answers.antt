@@ -1,7 +1,7 @@
 -- the name is put in, and others stay
 use Rattle.std.proofs.Common.{◌∙◌, [], List, ℕ, Some, map, take, sym, subst}
 use Rattle.std.proofs.lemmas.Map.Text.{hash_map_updates_str}
-use Rattle.bstr.specs.Owned.{bstring_bytes}
+use Rattle.gix_refspec.specs.Group.{name_bytes}
 use Rattle.gix_refspec.specs.Private.Index.{HavePlaces, list_of}
 use Rattle.gix_refspec.proofs.IndexLemmas.{names_more, one_more_name}
 use Rattle.gix_refspec.proofs.match_group.util.index.without_places.Goals as goal
@@ -13,5 +13,5 @@ loop-name-preserved c =
     let old = c.loop-name.places in
     let new = c.insert.new.self in
     let n = c.as_bytes.result.now in
-    subst (λ (l : List (List ℕ)). HavePlaces l [] (list_of new)) (sym (names_more names i c.name-item.result n c.loop-name-test.true c.name-item.is (c.as_bytes.ensures ∙ c.as_bstr.ensures)))
-    (one_more_name (map bstring_bytes (take i names)) n c.new.result (list_of old) (list_of new) c.new.ensures.items (λ q. hash_map_updates_str n old new (Some c.new.result) c.in_ok-insert.ensures.updates q) c.loop-name.invariant)
+    subst (λ (l : List (List ℕ)). HavePlaces l [] (list_of new)) (sym (names_more name_bytes names i c.name-item.result n c.loop-name-test.true c.name-item.is (c.as_bytes.ensures ∙ c.as_bstr.ensures)))
+    (one_more_name (map name_bytes (take i names)) n c.new.result (list_of old) (list_of new) c.new.ensures.items (λ q. hash_map_updates_str n old new (Some c.new.result) c.in_ok-insert.ensures.updates q) c.loop-name.invariant)

@@ -18,7 +18,7 @@ loop-name-preserved c =
     ∙ ap (λ (l : List ℕ). c.loop-name.places.items ++ l) c.places.ensures
     ∙ ap (λ (l : List ℕ). l ++ f n) c.loop-name.invariant
     ∙ sym (places_more f so_far n)
-    ∙ ap (all_places f) (sym (names_more names i c.name-item.result n c.loop-name-test.true c.name-item.is (c.as_bytes.ensures ∙ c.as_bstr.ensures)))
+    ∙ ap (all_places f) (sym (names_more bstring_bytes names i c.name-item.result n c.loop-name-test.true c.name-item.is (c.as_bytes.ensures ∙ c.as_bstr.ensures)))
 
 pub returns : goal.returns
 returns c =

@@ -3,9 +3,8 @@ use Rattle.std.proofs.Common.{◌∙◌, ◌+◌, take_all, refl, Bool, List, �
 use Rattle.std.specs.List.{AllByRecursion}
 use Rattle.std.proofs.lemmas.Bool.{false≢true}
 use Rattle.std.proofs.lemmas.Map.Text.{hash_map_updates_str}
-use Rattle.bstr.specs.Owned.{bstring_bytes}
 use Rattle.gix_refspec.specs.declared.match_group.types.Item.{Item}
-use Rattle.gix_refspec.specs.Group.{ref_of}
+use Rattle.gix_refspec.specs.Group.{name_bytes, ref_of}
 use Rattle.gix_refspec.specs.Private.Index.{HavePlaces, IsMarked, list_of}
 use Rattle.gix_refspec.proofs.IndexLemmas.{index_made, item_listed, item_unlisted, not_listed}
 use Rattle.gix_refspec.proofs.PlacesLemmas.{all_at}
@@ -14,7 +13,7 @@ use Rattle.gix_refspec.proofs.match_group.util.index.NameIndex.of.Goals.{in-Some
 
 pub loop-place-preserved-then-not-is_marked : goal.loop-place-preserved-then-not-is_marked
 loop-place-preserved-then-not-is_marked c =
-    let ns = map bstring_bytes c.args.names.now in
+    let ns = map name_bytes c.args.names.now in
     let n = c.as_bytes-name.result.now in
     let all : AllByRecursion (IsMarked c.as_slice.result.now) ns = subst (λ (marks : List Bool). AllByRecursion (IsMarked marks) ns) (sym c.as_slice.ensures.value) c.in_ok-marks.ensures.all in
     item_unlisted ns c.args.items.now c.loop-place.place _ n (list_of c.loop-place.places) c.loop-place-test.true c.as_bytes-name.ensures
@@ -23,7 +22,7 @@ loop-place-preserved-then-not-is_marked c =
 
 pub loop-place-preserved : goal.loop-place-preserved
 loop-place-preserved c =
-    let ns = map bstring_bytes c.args.names.now in
+    let ns = map name_bytes c.args.names.now in
     let items = c.args.items.now in
     let i = c.loop-place.place in
     let n = c.as_bytes-name.result.now in
@@ -44,6 +43,6 @@ loop-place-preserved c =
 
 pub returns : goal.returns
 returns c =
-    let ns = map bstring_bytes c.args.names.now in
+    let ns = map name_bytes c.args.names.now in
     let items = c.args.items.now in
     index_made ns (map ref_of items) (record { places = c.loop-place.places }) (subst (λ (l : List Item). HavePlaces ns (map ref_of l) (list_of c.loop-place.places)) (take_all c.loop-place.place items c.loop-place-test.false) c.loop-place.invariant)
