@@ -154,20 +154,10 @@ same_zip (x ∷ xs) = (refl, same_zip xs)
 
 -- readings that are alike have the same ends
 forward_ends : (r q : Reading) (ends : Ends) → AreAlike r q → AreForwardEnds r ends → AreForwardEnds q ends
-forward_ends r q ends alike are = record {
-  positive = alike_positive r q alike are.positive;
-  near = sym alike.source ∙ are.near;
-  far = sym alike.destination ∙ are.far;
-  no_object = are.no_object;
-}
+forward_ends r q ends alike are = record { positive = alike_positive r q alike are.positive; near = sym alike.source ∙ are.near; far = sym alike.destination ∙ are.far; no_object = are.no_object }
 
 backward_ends : (r q : Reading) (ends : Ends) → AreAlike r q → AreBackwardEnds r ends → AreBackwardEnds q ends
-backward_ends r q ends alike are = record {
-  positive = alike_positive r q alike are.positive;
-  near = sym alike.destination ∙ are.near;
-  far = sym alike.source ∙ are.far;
-  both = are.both;
-}
+backward_ends r q ends alike are = record { positive = alike_positive r q alike are.positive; near = sym alike.destination ∙ are.near; far = sym alike.source ∙ are.far; both = are.both }
 
 -- readings that are alike have the same ends, as the direction sees them
 abbrev KeepsEnds : (Reading → Ends → Type 0) → Type 0

@@ -111,20 +111,26 @@ forward_ends = record { near = codes "refs/heads/*"; far = Some (codes "refs/rem
 are_forward_ends : AreForwardEnds every forward_ends
 are_forward_ends = record { positive = tt; near = refl; far = refl; no_object = λ bytes kind. kind.1 heads_below }
 
--- that the spec at place 0 takes a branch at a place
-abbrev branch_hit : ℕ → List ℕ → Hit
-branch_hit item branch = record { spec = 0; item = item; near = codes "refs/heads/" ++ branch; far = Some (codes "refs/remotes/origin/" ++ (branch ++ [])) }
+-- that the spec at place 0 takes what is below a folder, at a place
+abbrev hit_below : List ℕ → List ℕ → ℕ → List ℕ → Hit
+hit_below near far item branch = record { spec = 0; item = item; near = near ++ branch; far = Some (far ++ (branch ++ [])) }
 
--- each branch is taken
-takes_branch : (items : List Ref) (j : ℕ) (branch : List ℕ) → IsHit items forward_ends 0 j (named (codes "refs/heads/" ++ branch)) (branch_hit j branch)
-takes_branch items j branch = record {
+takes_below : (near far : List ℕ) → IsCut near [] (near ++ codes "*") → IsCut far [] (far ++ codes "*") → (items : List Ref) (j : ℕ) (branch : List ℕ) → IsHit items (record { near = near ++ codes "*"; far = Some (far ++ codes "*") }) 0 j (named (near ++ branch)) (hit_below near far j branch)
+takes_below near far near_cut far_cut items j branch = record {
   word = Some branch;
-  takes = record { kind = pattern (codes "refs/heads/") []; of = heads_cut; is = ap (λ (y : List ℕ). codes "refs/heads/" ++ y) (sym (append-nil branch)) };
-  far = (pattern (codes "refs/remotes/origin/") [], origin_cut, refl);
+  takes = record { kind = pattern near []; of = near_cut; is = ap (λ (y : List ℕ). near ++ y) (sym (append-nil branch)) };
+  far = (pattern far [], far_cut, refl);
   near = refl;
   spec = refl;
   item = refl;
 }
+
+-- each branch is taken
+abbrev branch_hit : ℕ → List ℕ → Hit
+branch_hit item branch = hit_below (codes "refs/heads/") (codes "refs/remotes/origin/") item branch
+
+takes_branch : (items : List Ref) (j : ℕ) (branch : List ℕ) → IsHit items forward_ends 0 j (named (codes "refs/heads/" ++ branch)) (branch_hit j branch)
+takes_branch items j branch = takes_below (codes "refs/heads/") (codes "refs/remotes/origin/") heads_cut origin_cut items j branch
 
 -- and no tag
 takes_no_tag : (items : List Ref) (j : ℕ) (hit : Hit) → ¬ (IsHit items forward_ends 0 j tag_ref hit)
@@ -209,17 +215,10 @@ abbrev backward_ends : Ends
 backward_ends = record { near = codes "refs/remotes/origin/*"; far = Some (codes "refs/heads/*") }
 
 abbrev back_hit : ℕ → List ℕ → Hit
-back_hit item branch = record { spec = 0; item = item; near = codes "refs/remotes/origin/" ++ branch; far = Some (codes "refs/heads/" ++ (branch ++ [])) }
+back_hit item branch = hit_below (codes "refs/remotes/origin/") (codes "refs/heads/") item branch
 
 takes_back : (items : List Ref) (j : ℕ) (branch : List ℕ) → IsHit items backward_ends 0 j (named (codes "refs/remotes/origin/" ++ branch)) (back_hit j branch)
-takes_back items j branch = record {
-  word = Some branch;
-  takes = record { kind = pattern (codes "refs/remotes/origin/") []; of = origin_cut; is = ap (λ (y : List ℕ). codes "refs/remotes/origin/" ++ y) (sym (append-nil branch)) };
-  far = (pattern (codes "refs/heads/") [], heads_cut, refl);
-  near = refl;
-  spec = refl;
-  item = refl;
-}
+takes_back items j branch = takes_below (codes "refs/remotes/origin/") (codes "refs/heads/") origin_cut heads_cut items j branch
 
 -- a spec with a source alone, which is a partial name
 abbrev pub short : Reading

@@ -158,6 +158,9 @@ record Carries (r : Reading) (pair : Mapped) : Type 0 where
   is_source : pair.source ≡ name start
   is_destination : pair.destination ≡ Some goal
 
+carried : (r : Reading) (pair : Mapped) (left right start goal : List ℕ) → IsPositive r.mode → r.source ≡ Some left → r.destination ≡ Some right → AreMirrored left right start goal → pair.source ≡ name start → pair.destination ≡ Some goal → Carries r pair
+carried r pair left right start goal positive source destination mirrored is_source is_destination = record { positive = positive; left = left; right = right; source = source; destination = destination; start = start; goal = goal; mirrored = mirrored; is_source = is_source; is_destination = is_destination }
+
 -- the reading is accepted, and goes both ways
 abbrev IsFine : Reading → Type 0
 IsFine r = ∥ IsAccepted r ∥₁ × GoesBothWays r
@@ -212,18 +215,7 @@ forward_carries A B pair to r fine (ends, has, any) =
     let there = far_there ends.far word goal.0 filled_far in
     let right_is : r.destination ≡ Some there.0 = has.far ∙ there.1 in
     let twin : AreTwins ends.near there.0 = fine_twins r ends.near there.0 fine has.positive has.near right_is in (
-      record {
-        positive = has.positive;
-        left = ends.near;
-        right = there.0;
-        source = has.near;
-        destination = right_is;
-        start = i.name;
-        goal = goal.0;
-        mirrored = taken_mirrored ends.near there.0 goal.0 i word twin takes (subst (λ (o : Option (List ℕ)). IsFilled o word (Some goal.0)) there.1 filled_far);
-        is_source = sym source;
-        is_destination = goal.1;
-      },
+      carried r pair ends.near there.0 i.name goal.0 has.positive has.near right_is (taken_mirrored ends.near there.0 goal.0 i word twin takes (subst (λ (o : Option (List ℕ)). IsFilled o word (Some goal.0)) there.1 filled_far)) (sym source) goal.1,
       subst (IsSourceAmong A) source found.2,
     )
 
@@ -246,19 +238,9 @@ backward_carries B pair r fine (ends, has, any) =
     let left_is : r.source ≡ Some there.0 = has.far ∙ there.1 in
     let filled_far : IsFilled (Some there.0) word far = subst (λ (o : Option (List ℕ)). IsFilled o word far) there.1 becomes in
     let start = becomes_some there.0 word far filled_far in
-    let twin : AreTwins there.0 ends.near = fine_twins r there.0 ends.near fine has.positive left_is has.near in (
-      record {
-        positive = has.positive;
-        left = there.0;
-        right = ends.near;
-        source = left_is;
-        destination = has.near;
-        start = start.0;
-        goal = i.name;
-        mirrored = mirrored_back ends.near there.0 i.name start.0 (taken_mirrored ends.near there.0 start.0 i word (twins_back there.0 ends.near twin) takes (subst (IsFilled (Some there.0) word) start.1 filled_far));
-        is_source = sym source ∙ ap (λ (o : Option (List ℕ)). name (unwrap_or o [])) start.1;
-        is_destination = sym destination;
-      },
+    let twin : AreTwins there.0 ends.near = fine_twins r there.0 ends.near fine has.positive left_is has.near in
+    let back = taken_mirrored ends.near there.0 start.0 i word (twins_back there.0 ends.near twin) takes (subst (IsFilled (Some there.0) word) start.1 filled_far) in (
+      carried r pair there.0 ends.near start.0 i.name has.positive left_is has.near (mirrored_back ends.near there.0 i.name start.0 back) (sym source ∙ ap (λ (o : Option (List ℕ)). name (unwrap_or o [])) start.1) (sym destination),
       subst (IsDestinationAmong B) destination found.2,
     )
 
