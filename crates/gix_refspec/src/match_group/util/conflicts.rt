@@ -1,7 +1,7 @@
 //! Destinations that several sources are mapped to.
 //!
-//! They are found by sorting, so that no names make it slow. Mostly no two destinations have one hash,
-//! and nothing else is sorted.
+//! They are found by sorting, so that no names make it slow. Mostly no two destinations have one
+//! hash, and nothing else is sorted.
 
 ghost use Rattle.std.specs.Prelude.{◌≡◌, ◌≢◌, ◌<◌, ◌≤◌, [], List, ℕ, length, map, take, drop, IfOk, OnOk, OnErr, IsTrue};
 ghost use Rattle.std.specs.List.Sorted.{IsStrictlySortedBy};

@@ -1,5 +1,5 @@
-//! The hash of a name. It only tells names apart: no table is keyed by it, since its seed is fixed, and
-//! a server could choose names of one hash.
+//! The hash of a name. It only tells names apart. Its seed is fixed, and a server could choose names of
+//! one hash: so no table is keyed by it but the marks of the names that specs ask for.
 
 ghost use Rattle.std.specs.Prelude.{◌≡◌};
 ghost use Rattle.gix_refspec.specs.Private.Kept.{name_hash};

@@ -101,13 +101,20 @@ fn looked_up<'spec, 'item>(
 fn room_for(direction: Direction, specs: &[RefSpecRef<'_>], items: &[Item<'_>]) -> usize {
     let mut room: usize = 0;
     for spec in specs {
-        if let Some(ends) = ends_of(direction, spec) {
-            room = room.saturating_add(match_count(ends.near, items));
-        } else if asked_of(spec).is_some() {
-            room = room.saturating_add(1);
-        }
+        room = room.saturating_add(room_of(direction, spec, items));
     }
     room
+}
+
+// How many of them one spec makes.
+fn room_of(direction: Direction, spec: &RefSpecRef<'_>, items: &[Item<'_>]) -> usize {
+    if let Some(ends) = ends_of(direction, spec) {
+        return match_count(ends.near, items);
+    }
+    match direction {
+        Direction::Forward => usize::from(asked_of(spec).is_some()),
+        Direction::Backward => 0,
+    }
 }
 
 // How many items a side matches that is no name.
