@@ -448,11 +448,9 @@ pub one_backward : (rs : List Reading) (items : List Ref) → OneBackward rs ite
 one_backward rs items l m a b = kept_once rs a.all b.all l m (backward_once rs items a.all b.all a.backward b.backward) a.is b.is
 
 -- where some mapping was made, there is no way to make none
-pub made_forward : (rs : List Reading) (items : List Ref) (l : List Mapping) → AreForward rs items (map mapped_of l) → l ≢ [] → ¬ (AreForward rs items [])
-made_forward rs items l are some none = some (map_nothing mapped_of l (forward_once rs items (map mapped_of l) [] are none))
-
-pub made_backward : (rs : List Reading) (items : List Ref) (l : List Mapping) → AreBackward rs items (map mapped_of l) → l ≢ [] → ¬ (AreBackward rs items [])
-made_backward rs items l are some none = some (map_nothing mapped_of l (backward_once rs items (map mapped_of l) [] are none))
+pub made_nothing : (direction : Direction) (g : List Reading) (items : List Ref) (l : List Mapped) → AreMade direction g items l → AreMade direction g items [] → l ≡ []
+made_nothing Forward g items l are none = forward_once g items l [] are none
+made_nothing Backward g items l are none = backward_once g items l [] are none
 
 -- what comes first, and the hits behind it, are all the mappings of a direction
 pub all_made : (direction : Direction) (g : List Reading) (items : List Ref) (old new : Made) → AreFirst direction g (made_in direction old) → AddsHits direction (AreHits (HasEnds direction) g items) old new → AreMade direction g items (made_in direction new)
@@ -464,6 +462,6 @@ pub none_hit : (direction : Direction) (g : List Reading) (items : List Ref) →
 none_hit Forward g items none = no_forward_hits g items none
 none_hit Backward g items none = no_backward_hits g items none
 
--- where the direction is known
-pub made_some : (g : List Reading) (items : List Ref) (direction known : Direction) → direction ≡ known → (made : Made) → (AreMade known g items (made_in known made) → ¬ (AreMade known g items [])) → AreMade direction g items (made_in direction made) → ¬ (AreMade direction g items [])
-made_some g items direction known is made there are = subst (λ (d : Direction). ¬ (AreMade d g items [])) (sym is) (there (subst (λ (d : Direction). AreMade d g items (made_in d made)) is are))
+-- where the direction is known, and its list isn't empty
+pub made_some : (g : List Reading) (items : List Ref) (direction known : Direction) (made : Made) (l : List Mapping) → direction ≡ known → made_in known made ≡ map mapped_of l → l ≢ [] → AreMade direction g items (made_in direction made) → ¬ (AreMade direction g items [])
+made_some g items direction known made l is shown some are none = some (map_nothing mapped_of l (sym (ap (λ (d : Direction). made_in d made) is ∙ shown) ∙ made_nothing direction g items (made_in direction made) are none))

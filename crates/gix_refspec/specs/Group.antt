@@ -11,6 +11,7 @@ use Rattle.gix_refspec.specs.declared.match_group.types.SourceRef.{SourceRef}
 use Rattle.gix_refspec.specs.declared.match_group.types.SourceRef.TheVariants as source_ref
 use Rattle.gix_refspec.specs.declared.match_group.types.Mapping.{Mapping}
 use Rattle.gix_refspec.specs.declared.match_group.types.MatchGroup.{MatchGroup}
+use Rattle.gix_refspec.specs.declared.match_group.types.Outcome.{Outcome}
 use Rattle.gix_refspec.specs.declared.parsing.Operation.{Operation}
 use Rattle.gix_refspec.specs.declared.parsing.Operation.TheVariants.{Push, Fetch}
 use Rattle.gix_refspec.specs.declared.spec.RefSpecRef.{RefSpecRef}
@@ -42,6 +43,14 @@ ref_of i = record { name = bstr_bytes i.full_ref_name; target = id_bytes i.targe
 -- what the specs of a group were read as
 abbrev pub readings_of : MatchGroup → List Reading
 readings_of g = map reading_of g.specs.items
+
+-- a relation of readings, refs and mappings says what a group makes of items
+abbrev pub Maps : (List Reading → List Ref → List Mapped → Type 0) → MatchGroup → List Item → List Mapping → Type 0
+Maps relation group items mappings = relation (readings_of group) (map ref_of items) (map mapped_of mappings)
+
+-- the outcome has the group as it was, and the mappings of the relation
+abbrev pub IsOutcome : {forward : ℕ} → (List Reading → List Ref → List Mapped → Type 0) → MatchGroup → List Item → Outcome forward → Type 0
+IsOutcome relation group items o = (o.group ≡ group) × Maps relation group items o.mappings.items
 
 -- whether two operations are the same
 abbrev pub is_same_operation : Operation → Operation → Bool

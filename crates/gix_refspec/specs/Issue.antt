@@ -1,7 +1,7 @@
 -- What a clause reads of what a validation answers.
 use Rattle.std.specs.Prelude.{◌≡◌, List, map}
 use Rattle.bstr.specs.Owned.{bstring_bytes}
-use Rattle.gix_refspec.specs.declared.match_group.types.match_lhs.Outcome.{Outcome}
+use Rattle.gix_refspec.specs.declared.match_group.types.Outcome.{Outcome}
 use Rattle.gix_refspec.specs.declared.match_group.validate.Error.{Error}
 use Rattle.gix_refspec.specs.declared.match_group.validate.Issue.{Issue}
 use Rattle.gix_refspec.specs.declared.match_group.validate.Issue.TheVariants as issue
@@ -15,8 +15,12 @@ use Rattle.gix_refspec.specs.Group.{mapped_of, start_of}
 use Rattle.gix_refspec.specs.Meaning.{meaning_of}
 use Rattle.gix_refspec.specs.Validation.{Conflict, Removed}
 
+-- an outcome of matching from left to right
+abbrev pub ForwardOutcome : Type 0
+ForwardOutcome = Outcome 1
+
 -- the mappings of an outcome as plain data
-abbrev pub mappings_of : Outcome → List Mapped
+abbrev pub mappings_of : ForwardOutcome → List Mapped
 mappings_of o = map mapped_of o.mappings.items
 
 -- the conflict that an issue reports
@@ -42,6 +46,6 @@ IfConflicts (refusal.Conflicts e) P = P (conflicts_of e)
 IfConflicts (refusal.Memory o) P = Unit {0}
 
 -- where memory is why a validation is refused, the outcome that is handed back is as P says
-abbrev pub IfMemory : Refusal → (Outcome → Type 0) → Type 0
+abbrev pub IfMemory : Refusal → (ForwardOutcome → Type 0) → Type 0
 IfMemory (refusal.Conflicts e) P = Unit {0}
 IfMemory (refusal.Memory o) P = P o

@@ -3,7 +3,7 @@
 ghost use Rattle.std.specs.Prelude.{◌≡◌, ◌≢◌, [], map, IfOk, IfErr, OnOk, OnErr};
 ghost use Rattle.gix_refspec.specs.Spec.{reading_of};
 ghost use Rattle.gix_refspec.specs.Mappings.{IsKept};
-ghost use Rattle.gix_refspec.specs.Group.{ref_of, mapped_of, readings_of};
+ghost use Rattle.gix_refspec.specs.Group.{ref_of, mapped_of, readings_of, IsOutcome, Maps};
 ghost use Rattle.gix_refspec.specs.Private.HitViews.{AreKept, AreMade, made_in};
 ghost use Rattle.gix_refspec.specs.Hits.{AreForward, AreBackward, AreKeptForward, AreKeptBackward};
 
@@ -14,7 +14,7 @@ pub mod validate;
 use crate::spec::RefSpecRef;
 use std::alloc::{AllocError, Global};
 use types::MatchGroup;
-pub use types::{Item, Mapping, NameRef, NoRoom, Source, SourceRef, match_lhs, match_rhs};
+pub use types::{Item, Mapping, NameRef, NoRoom, Outcome, Source, SourceRef, match_lhs, match_rhs};
 use util::ends::Direction;
 use util::hits::{Made, mappings_of};
 use util::kept::keep;
@@ -38,25 +38,12 @@ impl<'spec> MatchGroup<'spec> {
     ///
     /// Fails with `NoRoom` if memory runs out, and never where the specs ask for no id and match no
     /// item. It holds the group as it was.
-    pub fn match_lhs<'item>(
-        self,
-        alloc: Global,
-        items: &[Item<'item>],
-    ) -> Result<match_lhs::Outcome<'spec, 'item>, NoRoom<'spec>>
-        ensures ok { IfOk result (λ o. (o.group ≡ self.entry) × AreKeptForward
-            (readings_of self.entry) (map ref_of items.now)
-            (map mapped_of o.mappings.items)) }
+    pub fn match_lhs<'i>(self, alloc: Global, items: &[Item<'i>]) -> match_lhs::Result<'spec, 'i>
+        ensures ok { IfOk result (IsOutcome AreKeptForward self.entry items.now) }
         ensures err { IfErr result (λ e. e.group ≡ self.entry) }
-        ensures memory { OnErr result (¬ (AreForward
-            (readings_of self.entry) (map ref_of items.now) [])) }
+        ensures memory { OnErr result (¬ (Maps AreForward self.entry items.now [])) }
     {
-        match kept(alloc, Direction::Forward, self.specs.as_slice(), items) {
-            Ok(made) => Ok(match_lhs::Outcome {
-                group: self,
-                mappings: made.forward,
-            }),
-            Err(_) => Err(NoRoom { group: self }),
-        }
+        Ok(self.kept(alloc, Direction::Forward, items)?.forward())
     }
 
     /// Matches items by the destinations of the specs, and maps them back to their sources: which
@@ -71,30 +58,66 @@ impl<'spec> MatchGroup<'spec> {
     ///
     /// Fails with `NoRoom` if memory runs out, and never where no item matches. It holds the group as
     /// it was.
-    pub fn match_rhs<'item>(
+    pub fn match_rhs<'i>(self, alloc: Global, items: &[Item<'i>]) -> match_rhs::Result<'spec, 'i>
+        ensures ok { IfOk result (IsOutcome AreKeptBackward self.entry items.now) }
+        ensures err { IfErr result (λ e. e.group ≡ self.entry) }
+        ensures memory { OnErr result (¬ (Maps AreBackward self.entry items.now [])) }
+    {
+        Ok(self.kept(alloc, Direction::Backward, items)?.backward())
+    }
+
+    // The group, with the mappings of a direction that are kept.
+    fn kept<'item>(
         self,
         alloc: Global,
+        direction: Direction,
         items: &[Item<'item>],
-    ) -> Result<match_rhs::Outcome<'spec, 'item>, NoRoom<'spec>>
-        ensures ok { IfOk result (λ o. (o.group ≡ self.entry) × AreKeptBackward
-            (readings_of self.entry) (map ref_of items.now)
-            (map mapped_of o.mappings.items)) }
+    ) -> Result<Kept<'spec, 'item>, NoRoom<'spec>>
+        ensures ok { IfOk result (λ kept. (kept.group ≡ self.entry) × AreKept
+            direction (readings_of self.entry) (map ref_of items.now)
+            (made_in direction kept.made)) }
         ensures err { IfErr result (λ e. e.group ≡ self.entry) }
-        ensures memory { OnErr result (¬ (AreBackward
-            (readings_of self.entry) (map ref_of items.now) [])) }
+        ensures memory { OnErr result (¬ (AreMade
+            direction (readings_of self.entry) (map ref_of items.now) [])) }
     {
-        match kept(alloc, Direction::Backward, self.specs.as_slice(), items) {
-            Ok(made) => Ok(match_rhs::Outcome {
-                group: self,
-                mappings: made.backward,
-            }),
+        match kept_of(alloc, direction, self.specs.as_slice(), items) {
+            Ok(made) => Ok(Kept { group: self, made }),
             Err(_) => Err(NoRoom { group: self }),
         }
     }
 }
 
+// A group, and the mappings of a direction that are kept.
+#[derive(Drop)]
+struct Kept<'spec, 'item> {
+    group: MatchGroup<'spec>,
+    made: Made<'spec, 'item>,
+}
+
+impl<'spec, 'item> Kept<'spec, 'item> {
+    // The outcome from left to right.
+    fn forward(self) -> match_lhs::Outcome<'spec, 'item>
+        ensures { (result.group ≡ self.entry.group) × (result.mappings ≡ self.entry.made.forward) }
+    {
+        Outcome {
+            group: self.group,
+            mappings: self.made.forward,
+        }
+    }
+
+    // The outcome from right to left.
+    fn backward(self) -> match_rhs::Outcome<'spec, 'item>
+        ensures { (result.group ≡ self.entry.group) × (result.mappings ≡ self.entry.made.backward) }
+    {
+        Outcome {
+            group: self.group,
+            mappings: self.made.backward,
+        }
+    }
+}
+
 // The mappings of a direction that are kept.
-fn kept<'spec, 'item>(
+fn kept_of<'spec, 'item>(
     alloc: Global,
     direction: Direction,
     specs: &[RefSpecRef<'spec>],

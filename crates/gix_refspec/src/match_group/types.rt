@@ -315,63 +315,51 @@ impl<'a> fmt::Display for NoRoom<'a> {
 
 impl<'a> error::Error for NoRoom<'a> {}
 
+/// A group, and the mappings that matching it gave: from left to right where `FORWARD` is true, else
+/// from right to left. So the outcomes of the two directions are two types.
+#[derive(Debug, Drop)]
+pub struct Outcome<'spec, 'lhs, 'rhs, const FORWARD: bool> {
+    /// The group that was matched.
+    pub group: MatchGroup<'spec>,
+    /// What was matched.
+    pub mappings: Vec<Mapping<'lhs, 'rhs>>,
+}
+
+impl<'spec, 'lhs, 'rhs, const FORWARD: bool> Outcome<'spec, 'lhs, 'rhs, FORWARD> {
+    /// A copy, which borrows what this one borrows. Fails if memory runs out.
+    pub fn clone(&self, alloc: Global) -> Result<Outcome<'spec, 'lhs, 'rhs, FORWARD>, AllocError>
+        ensures specs { IfOk result (λ copy.
+            copy.group.specs.items ≡ self.now.group.specs.items) }
+        ensures mappings { IfOk result (λ copy.
+            AreMappingCopies self.now.mappings.items copy.mappings.items) }
+    {
+        Ok(Outcome {
+            group: self.group.clone(alloc)?,
+            mappings: clone_all(alloc, self.mappings.as_slice())?,
+        })
+    }
+}
+
 /// What matching the left sides of specs gives.
 pub mod match_lhs {
-    use super::{Mapping, MatchGroup, clone_all};
-    use std::alloc::{AllocError, Global};
+    use super::NoRoom;
 
-    /// A group, and the mappings that its left sides gave.
-    #[derive(Debug, Drop)]
-    pub struct Outcome<'spec, 'item> {
-        /// The group that was matched.
-        pub group: MatchGroup<'spec>,
-        /// What was matched. Sources are names of items, or ids that specs ask for; destinations
-        /// are by the specs.
-        pub mappings: Vec<Mapping<'item, 'spec>>,
-    }
+    /// A group, and the mappings that its left sides gave. Sources are names of items, or ids that
+    /// specs ask for; destinations are by the specs.
+    pub type Outcome<'spec, 'item> = super::Outcome<'spec, 'item, 'spec, true>;
 
-    impl<'spec, 'item> Outcome<'spec, 'item> {
-        /// A copy, which borrows what this one borrows. Fails if memory runs out.
-        pub fn clone(&self, alloc: Global) -> Result<Outcome<'spec, 'item>, AllocError>
-            ensures specs { IfOk result (λ copy.
-                copy.group.specs.items ≡ self.now.group.specs.items) }
-            ensures mappings { IfOk result (λ copy.
-                AreMappingCopies self.now.mappings.items copy.mappings.items) }
-        {
-            Ok(Outcome {
-                group: self.group.clone(alloc)?,
-                mappings: clone_all(alloc, self.mappings.as_slice())?,
-            })
-        }
-    }
+    /// An outcome, or no room for it.
+    pub type Result<'spec, 'item> = std::result::Result<Outcome<'spec, 'item>, NoRoom<'spec>>;
 }
 
 /// What matching the right sides of specs gives.
 pub mod match_rhs {
-    use super::{Mapping, MatchGroup, clone_all};
-    use std::alloc::{AllocError, Global};
+    use super::NoRoom;
 
-    /// A group, and the mappings that its right sides gave.
-    #[derive(Debug, Drop)]
-    pub struct Outcome<'spec, 'item> {
-        /// The group that was matched.
-        pub group: MatchGroup<'spec>,
-        /// What was matched. Sources are by the specs, destinations are names of items.
-        pub mappings: Vec<Mapping<'spec, 'item>>,
-    }
+    /// A group, and the mappings that its right sides gave. Sources are by the specs, destinations
+    /// are names of items.
+    pub type Outcome<'spec, 'item> = super::Outcome<'spec, 'spec, 'item, false>;
 
-    impl<'spec, 'item> Outcome<'spec, 'item> {
-        /// A copy, which borrows what this one borrows. Fails if memory runs out.
-        pub fn clone(&self, alloc: Global) -> Result<Outcome<'spec, 'item>, AllocError>
-            ensures specs { IfOk result (λ copy.
-                copy.group.specs.items ≡ self.now.group.specs.items) }
-            ensures mappings { IfOk result (λ copy.
-                AreMappingCopies self.now.mappings.items copy.mappings.items) }
-        {
-            Ok(Outcome {
-                group: self.group.clone(alloc)?,
-                mappings: clone_all(alloc, self.mappings.as_slice())?,
-            })
-        }
-    }
+    /// An outcome, or no room for it.
+    pub type Result<'spec, 'item> = std::result::Result<Outcome<'spec, 'item>, NoRoom<'spec>>;
 }

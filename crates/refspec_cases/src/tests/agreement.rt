@@ -71,23 +71,14 @@ fn agrees_in_both_directions(rt: HostRuntime) -> Result<(), Fail> {
     for (specs, left, right, forward, backward) in ROWS {
         let left = items_of(alloc, left, &target)?;
         let right = items_of(alloc, right, &target)?;
+        let (left, right) = (left.as_slice(), right.as_slice());
         let group = group_of(alloc, Operation::Fetch, specs)?;
-        laws::transpose(&group, left.as_slice(), right.as_slice());
-        let outcome = group.match_lhs(alloc, left.as_slice())?;
-        let found = pairs(
-            alloc,
-            outcome.mappings.as_slice(),
-            left.as_slice(),
-            right.as_slice(),
-        )?;
+        laws::transpose(&group, left, right);
+        let there = group.match_lhs(alloc, left)?;
+        let found = pairs(alloc, there.mappings.as_slice(), left, right)?;
         assert_eq!(&rt; found.as_str(), forward, "{specs}");
-        let outcome = outcome.group.match_rhs(alloc, right.as_slice())?;
-        let found = pairs(
-            alloc,
-            outcome.mappings.as_slice(),
-            left.as_slice(),
-            right.as_slice(),
-        )?;
+        let back = there.group.match_rhs(alloc, right)?;
+        let found = pairs(alloc, back.mappings.as_slice(), left, right)?;
         assert_eq!(&rt; found.as_str(), backward, "{specs} back");
     }
     Ok(())

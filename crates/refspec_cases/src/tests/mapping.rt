@@ -1,7 +1,7 @@
 //! What groups match.
 
 use bstr::BStr;
-use gix_refspec::match_group::{Item, Mapping, NameRef, SourceRef};
+use gix_refspec::match_group::{Item, Mapping, NameRef, Outcome, SourceRef};
 use gix_refspec::oid::ObjectId;
 use gix_refspec::parsing::Operation;
 use gix_refspec::{MatchGroup, parse};
@@ -11,6 +11,15 @@ use std::test::Fail;
 
 // What items point to.
 pub(super) const TARGET: &str = "1111111111111111111111111111111111111111";
+
+// From which side specs are matched.
+#[derive(Clone, Copy)]
+enum Direction {
+    // From the left one.
+    Forward,
+    // From the right one.
+    Backward,
+}
 
 // The group of these specs, one a word.
 pub(super) fn group_of<'a>(
@@ -79,46 +88,38 @@ pub(super) fn lines(alloc: Global, mappings: &[Mapping<'_, '_>]) -> Result<Strin
     Ok(text)
 }
 
-// Whether specs map items from left to right as is written beside them, and a copy of the outcome says
-// the same.
-fn check_forward(
+// Whether specs map items as is written beside them, and a copy of the outcome says the same.
+fn check(
     rt: &impl Abort,
     alloc: Global,
+    direction: Direction,
     operation: Operation,
     rows: &[(&str, &str, &str)],
 ) -> Result<(), Fail> {
     let target = ObjectId::from_hex(TARGET.as_bytes())?;
     for (specs, names, wanted) in rows {
         let items = items_of(alloc, names, &target)?;
-        let outcome = group_of(alloc, operation, specs)?.match_lhs(alloc, items.as_slice())?;
-        let found = lines(alloc, outcome.mappings.as_slice())?;
+        let group = group_of(alloc, operation, specs)?;
+        let (found, copied) = match direction {
+            Direction::Forward => told(alloc, &group.match_lhs(alloc, items.as_slice())?)?,
+            Direction::Backward => told(alloc, &group.match_rhs(alloc, items.as_slice())?)?,
+        };
         assert_eq!(rt; found.as_str(), *wanted, "{specs} over {names}");
-        let copy = outcome.clone(alloc)?;
-        let copied = lines(alloc, copy.mappings.as_slice())?;
-        assert_eq!(rt; copied.as_str(), *wanted, "{specs} over {names}");
+        assert_eq!(rt; copied.as_str(), *wanted, "{specs} over {names}, copied");
     }
     Ok(())
 }
 
-// Whether specs map items from right to left as is written beside them, and a copy of the outcome says
-// the same.
-fn check_backward(
-    rt: &impl Abort,
+// The mappings of an outcome, and of a copy of it, as rows write them.
+fn told<const FORWARD: bool>(
     alloc: Global,
-    operation: Operation,
-    rows: &[(&str, &str, &str)],
-) -> Result<(), Fail> {
-    let target = ObjectId::from_hex(TARGET.as_bytes())?;
-    for (specs, names, wanted) in rows {
-        let items = items_of(alloc, names, &target)?;
-        let outcome = group_of(alloc, operation, specs)?.match_rhs(alloc, items.as_slice())?;
-        let found = lines(alloc, outcome.mappings.as_slice())?;
-        assert_eq!(rt; found.as_str(), *wanted, "{specs} back over {names}");
-        let copy = outcome.clone(alloc)?;
-        let copied = lines(alloc, copy.mappings.as_slice())?;
-        assert_eq!(rt; copied.as_str(), *wanted, "{specs} back over {names}");
-    }
-    Ok(())
+    outcome: &Outcome<'_, '_, '_, FORWARD>,
+) -> Result<(String, String), AllocError> {
+    let copy = outcome.clone(alloc)?;
+    Ok((
+        lines(alloc, outcome.mappings.as_slice())?,
+        lines(alloc, copy.mappings.as_slice())?,
+    ))
 }
 
 #[test]
@@ -176,7 +177,7 @@ fn maps_from_left_to_right(rt: HostRuntime) -> Result<(), Fail> {
             "1 0 refs/heads/HEAD refs/x\n",
         ),
     ];
-    check_forward(&rt, rt.alloc(), Operation::Fetch, &rows)
+    check(&rt, rt.alloc(), Direction::Forward, Operation::Fetch, &rows)
 }
 
 #[test]
@@ -196,7 +197,7 @@ fn keeps_each_pair_once(rt: HostRuntime) -> Result<(), Fail> {
              1 0 refs/heads/4b2c557329ca4bff =refs/x/4b2c557329ca4bff\n",
         ),
     ];
-    check_forward(&rt, rt.alloc(), Operation::Fetch, &rows)
+    check(&rt, rt.alloc(), Direction::Forward, Operation::Fetch, &rows)
 }
 
 #[test]
@@ -233,7 +234,13 @@ fn looks_full_and_partial_names_up(rt: HostRuntime) -> Result<(), Fail> {
              3 3 main refs/y\n2 4 refs/heads/b -\n",
         ),
     ];
-    check_forward(&rt, rt.alloc(), Operation::Fetch, &forward)?;
+    check(
+        &rt,
+        rt.alloc(),
+        Direction::Forward,
+        Operation::Fetch,
+        &forward,
+    )?;
     let backward = [
         (
             "refs/heads/main:refs/q",
@@ -246,7 +253,13 @@ fn looks_full_and_partial_names_up(rt: HostRuntime) -> Result<(), Fail> {
             "0 0 refs/heads/main refs/heads/main\n1 0 refs/heads/main main\n",
         ),
     ];
-    check_backward(&rt, rt.alloc(), Operation::Fetch, &backward)
+    check(
+        &rt,
+        rt.alloc(),
+        Direction::Backward,
+        Operation::Fetch,
+        &backward,
+    )
 }
 
 #[test]
@@ -265,7 +278,7 @@ fn maps_pushes_without_a_destination(rt: HostRuntime) -> Result<(), Fail> {
             "1 2 refs/heads/a -\n",
         ),
     ];
-    check_forward(&rt, rt.alloc(), Operation::Push, &rows)
+    check(&rt, rt.alloc(), Direction::Forward, Operation::Push, &rows)
 }
 
 #[test]
@@ -294,7 +307,7 @@ fn fills_destinations(rt: HostRuntime) -> Result<(), Fail> {
         ("refs/q*:refs/x/b*", "refs/q", "0 0 refs/q =refs/x/b\n"),
         ("*:*", "HEAD", "0 0 HEAD =HEAD\n"),
     ];
-    check_forward(&rt, rt.alloc(), Operation::Fetch, &rows)
+    check(&rt, rt.alloc(), Direction::Forward, Operation::Fetch, &rows)
 }
 
 #[test]
@@ -347,7 +360,13 @@ fn maps_from_right_to_left(rt: HostRuntime) -> Result<(), Fail> {
             "0 0 =refs/heads/main refs/a\n1 0 =refs/heads/main refs/b\n",
         ),
     ];
-    check_backward(&rt, rt.alloc(), Operation::Fetch, &rows)
+    check(
+        &rt,
+        rt.alloc(),
+        Direction::Backward,
+        Operation::Fetch,
+        &rows,
+    )
 }
 
 #[test]
@@ -358,7 +377,7 @@ fn maps_pushes_from_right_to_left(rt: HostRuntime) -> Result<(), Fail> {
         "refs/heads/x refs/heads/a",
         "0 4 =refs/heads/x refs/heads/x\n",
     )];
-    check_backward(&rt, rt.alloc(), Operation::Push, &rows)
+    check(&rt, rt.alloc(), Direction::Backward, Operation::Push, &rows)
 }
 
 #[test]

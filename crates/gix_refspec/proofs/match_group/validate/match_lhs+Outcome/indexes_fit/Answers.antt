@@ -4,7 +4,7 @@ use Rattle.gix_refspec.specs.declared.match_group.types.Mapping.{Mapping}
 use Rattle.gix_refspec.specs.Group.{mapped_of, readings_of}
 use Rattle.gix_refspec.specs.Validation.{IndexesFit}
 use Rattle.gix_refspec.proofs.ConflictLemmas.{spec_fits}
-use Rattle.gix_refspec.proofs.match_group.types.match_lhs.Outcome.indexes_fit.Goals as goal
+use Rattle.gix_refspec.proofs.match_group.validate.match_lhs+Outcome.indexes_fit.Goals as goal
 
 pub returns-then-mapping-len : goal.returns-then-mapping-len
 returns-then-mapping-len c = (

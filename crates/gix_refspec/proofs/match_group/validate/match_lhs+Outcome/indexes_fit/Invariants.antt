@@ -2,7 +2,7 @@
 use Rattle.std.proofs.Common.{map, take}
 use Rattle.gix_refspec.specs.Group.{mapped_of, readings_of}
 use Rattle.gix_refspec.specs.Validation.{IndexesFit}
-use Rattle.gix_refspec.proofs.match_group.types.match_lhs.Outcome.indexes_fit.Given as goal
+use Rattle.gix_refspec.proofs.match_group.validate.match_lhs+Outcome.indexes_fit.Given as goal
 
 abbrev pub invariant-loop-mapping : goal.invariant-loop-mapping
 invariant-loop-mapping l = IndexesFit (readings_of l.self.group) (map mapped_of (take l.mapping-index l.self.mappings.items))

@@ -10,7 +10,7 @@ use Rattle.gix_refspec.specs.Validation.{AreConflicts, AreFixes}
 use Rattle.gix_refspec.specs.Issue.{conflict_of, removed_of}
 use Rattle.gix_refspec.proofs.KeptLemmas.{no_elements}
 use Rattle.gix_refspec.proofs.ValidationLemmas.{survivors_kept}
-use Rattle.gix_refspec.proofs.match_group.types.match_lhs.Outcome.validated.Goals as goal
+use Rattle.gix_refspec.proofs.match_group.validate.match_lhs+Outcome.validated.Goals as goal
 
 pub returns-clause-ok : goal.returns-clause-ok
 returns-clause-ok c =
