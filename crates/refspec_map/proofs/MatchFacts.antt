@@ -15,14 +15,16 @@ use Rattle.gix_refspec.specs.Grammar.{fetched}
 use Rattle.gix_refspec.specs.Side.{partial, HasKind}
 use Rattle.gix_refspec.specs.Match.{Ref}
 use Rattle.gix_refspec.specs.Mappings.{name, Mapped, IsExcluded}
-use Rattle.gix_refspec.specs.Hits.{Ends, AreForwardEnds, AreBackwardEnds, Hit, AreForward, AreKeptForward, IsIdMapping}
+use Rattle.gix_refspec.specs.Hits.{Ends, AreForwardEnds, AreBackwardEnds, Hit, AreForward, AreKeptForward, AreKeptBackward, IsIdMapping}
 use Rattle.gix_refspec.specs.Validation.{Conflict, IsContested, IsValidated}
 use Rattle.gix_refspec.proofs.FormsBackLemmas.{some_once}
+use Rattle.refspec_map.specs.declared.command.Command.{Command}
 use Rattle.refspec_map.specs.declared.command.Command.TheVariants as command
 use Rattle.refspec_map.specs.Input.{newline, AreLines}
 use Rattle.refspec_map.specs.Line.{Entry, reading, ref, readings_in}
-use Rattle.refspec_map.specs.Plan.{conflict_line, ShowsConflicts}
-use Rattle.refspec_map.specs.Run.{Answers}
+use Rattle.refspec_map.specs.Matching.{AreMapLines, IsMatching}
+use Rattle.refspec_map.specs.Plan.{conflict_line, ShowsConflicts, IsPlan}
+use Rattle.refspec_map.specs.Run.{Answers, IsOutput}
 use Rattle.refspec_map.proofs.FormFacts.{blob, ref_lines}
 use Rattle.refspec_map.proofs.LineFacts.{Lacks-tested}
 use Rattle.refspec_map.proofs.RunFacts.{none_some, nothing_reads}
@@ -149,45 +151,29 @@ not_excluded (inr none) = none
 kept : AreKeptForward (the_spec ∷ []) (the_ref ∷ []) (the_mapping ∷ [])
 kept = record { all = the_mapping ∷ []; forward = mapped; is = (Some the_mapping, [], (refl, record { first = λ pair. pair; included = not_excluded }), refl, refl) }
 
--- `lhs` writes the line of the mapping
-pub head_mapped : Answers command.Lhs (Some the_input) (Some []) (Some []) (Some (codes "map\t0\t0\tHEAD\n")) 0
-unfolding digits
-head_mapped = record {
+-- a run that reads the input answers it where its output is one of the spec and the ref
+answered : (command : Command) (Writes : List Reading → List Ref → List ℕ → Bool → Type 0) (output : List ℕ) → (IsMatching Writes the_input output false → IsOutput command the_input output false) → Writes (the_spec ∷ []) (the_ref ∷ []) output false → Answers command (Some the_input) (Some []) (Some []) (Some output) 0
+answered command Writes output is_output writes = record {
   input = the_input;
-  output = codes "map\t0\t0\tHEAD\n";
+  output = output;
   refusal = false;
   read = record { taken = refl; ended = refl; within = omega arith };
-  is = record {
-    lines = the_lines;
-    entries = the_entries;
-    cut = lines_cut;
-    given = (([], refl, nothing_reads), (ref_lines head, tt));
-    is = record { mappings = the_mapping ∷ []; kept = kept; written = refl; tells = refl };
-  };
+  is = is_output (record { lines = the_lines; entries = the_entries; cut = lines_cut; given = (([], refl, nothing_reads), (ref_lines head, tt)); is = writes });
   written = refl;
   tells = refl;
 }
+
+-- `lhs` writes the line of the mapping
+pub head_mapped : Answers command.Lhs (Some the_input) (Some []) (Some []) (Some (codes "map\t0\t0\tHEAD\n")) 0
+unfolding digits
+head_mapped = answered command.Lhs (AreMapLines AreKeptForward) (codes "map\t0\t0\tHEAD\n") (λ is. is) (record { mappings = the_mapping ∷ []; kept = kept; written = refl; tells = refl })
 
 -- and `rhs` writes nothing, since the spec has no destination
 no_backward_ends : (e : Ends) → ¬ (AreBackwardEnds the_spec e)
 no_backward_ends e is = none_some e.near is.near
 
 pub nothing_mapped_back : Answers command.Rhs (Some the_input) (Some []) (Some []) (Some []) 0
-nothing_mapped_back = record {
-  input = the_input;
-  output = [];
-  refusal = false;
-  read = record { taken = refl; ended = refl; within = omega arith };
-  is = record {
-    lines = the_lines;
-    entries = the_entries;
-    cut = lines_cut;
-    given = (([], refl, nothing_reads), (ref_lines head, tt));
-    is = record { mappings = []; kept = record { all = []; backward = record { hits = []; are_hits = ([], [], inr (no_backward_ends, refl), refl, refl); all = refl }; is = refl }; written = refl; tells = refl };
-  };
-  written = refl;
-  tells = refl;
-}
+nothing_mapped_back = answered command.Rhs (AreMapLines AreKeptBackward) [] (λ is. is) (record { mappings = []; kept = record { all = []; backward = record { hits = []; are_hits = ([], [], inr (no_backward_ends, refl), refl, refl); all = refl }; is = refl }; written = refl; tells = refl })
 
 -- ---- a plan
 
@@ -211,21 +197,7 @@ validated = record {
 -- so a plan writes the same line
 pub head_planned : Answers command.Plan (Some the_input) (Some []) (Some []) (Some (codes "map\t0\t0\tHEAD\n")) 0
 unfolding digits
-head_planned = record {
-  input = the_input;
-  output = codes "map\t0\t0\tHEAD\n";
-  refusal = false;
-  read = record { taken = refl; ended = refl; within = omega arith };
-  is = record {
-    lines = the_lines;
-    entries = the_entries;
-    cut = lines_cut;
-    given = (([], refl, nothing_reads), (ref_lines head, tt));
-    is = record { mappings = the_mapping ∷ []; kept = kept; shows = record { rest = the_mapping ∷ []; fixes = []; fixed = []; is = validated; are = refl; written = refl } };
-  };
-  written = refl;
-  tells = refl;
-}
+head_planned = answered command.Plan IsPlan (codes "map\t0\t0\tHEAD\n") (λ is. is) (record { mappings = the_mapping ∷ []; kept = kept; shows = record { rest = the_mapping ∷ []; fixes = []; fixed = []; is = validated; are = refl; written = refl } })
 
 -- a plan has the status 1 only where it writes conflicts
 nothing_more : (b : ℕ) (rest output before : List ℕ) → output ≡ b ∷ rest → before ≢ before ++ output
