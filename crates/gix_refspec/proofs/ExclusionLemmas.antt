@@ -107,66 +107,39 @@ pattern_excludes r x before after accepted negative source starred lacks n = (
         let once = first_once star before before2 after after2 lacks cut.first (sym starred ∙ is ∙ cut.starred) in
         (word, covers ∙ sym (λ i. once.0 i ++ (word ++ once.1 i)))
 
+-- what some of a list do, one of the list with one more at its end does, or that one
+some_alone : (P : Type 0) → (P ⊎ ⊥) ↔ (⊥ ⊎ P)
+some_alone P = (there, back)
+  where
+    there : P ⊎ ⊥ → ⊥ ⊎ P
+    there (inl is) = inr is
+    there (inr none) = absurd none
+    back : ⊥ ⊎ P → P ⊎ ⊥
+    back (inl none) = absurd none
+    back (inr is) = inl is
+
+some_more : (F S L R : Type 0) → R ↔ (S ⊎ L) → (F ⊎ R) ↔ ((F ⊎ S) ⊎ L)
+some_more F S L R rest = (there, back)
+  where
+    there : F ⊎ R → (F ⊎ S) ⊎ L
+    there (inl first) = inl (inl first)
+    there (inr later) = elim (rest.0 later) [
+      | inl inner ↦ inl (inr inner)
+      | inr last ↦ inr last
+    ]
+    back : (F ⊎ S) ⊎ L → F ⊎ R
+    back (inl (inl first)) = inl first
+    back (inl (inr inner)) = inr (rest.1 (inl inner))
+    back (inr last) = inr (rest.1 (inr last))
+
 -- one more reading excludes what it does
 pub IsExcluded-push : (g : List Reading) (r : Reading) (n : List ℕ) → IsExcluded (g ++ r ∷ []) n ↔ (IsExcluded g n ⊎ IsExcludedBy n r)
-IsExcluded-push [] r n = (
-  only r,
-  λ either. elim either [
-    | inl none ↦ absurd none
-    | inr last ↦ inl last
-  ],
-)
-  where
-    only : (r : Reading) → IsExcludedBy n r ⊎ ⊥ → ⊥ ⊎ IsExcludedBy n r
-    only r (inl by) = inr by
-    only r (inr none) = absurd none
-IsExcluded-push (q ∷ g) r n =
-    let rest = IsExcluded-push g r n in (
-      (λ by. elim by [
-        | inl first ↦ inl (inl first)
-        | inr later ↦ elim (rest.0 later) [
-          | inl inner ↦ inl (inr inner)
-          | inr last ↦ inr last
-        ]
-      ]),
-      (λ either. elim either [
-        | inl by ↦ elim by [
-          | inl first ↦ inl first
-          | inr later ↦ inr (rest.1 (inl later))
-        ]
-        | inr last ↦ inr (rest.1 (inr last))
-      ]),
-    )
+IsExcluded-push [] r n = some_alone (IsExcludedBy n r)
+IsExcluded-push (q ∷ g) r n = some_more _ _ _ _ (IsExcluded-push g r n)
 
 pub IsTaken-push : (es : List Exclusion) (e : Exclusion) (n : List ℕ) → IsTaken (es ++ e ∷ []) n ↔ (IsTaken es n ⊎ Takes e n)
-IsTaken-push [] e n = (
-  only,
-  λ either. elim either [
-    | inl none ↦ absurd none
-    | inr last ↦ inl last
-  ],
-)
-  where
-    only : Takes e n ⊎ ⊥ → ⊥ ⊎ Takes e n
-    only (inl by) = inr by
-    only (inr none) = absurd none
-IsTaken-push (q ∷ es) e n =
-    let rest = IsTaken-push es e n in (
-      (λ by. elim by [
-        | inl first ↦ inl (inl first)
-        | inr later ↦ elim (rest.0 later) [
-          | inl inner ↦ inl (inr inner)
-          | inr last ↦ inr last
-        ]
-      ]),
-      (λ either. elim either [
-        | inl by ↦ elim by [
-          | inl first ↦ inl first
-          | inr later ↦ inr (rest.1 (inl later))
-        ]
-        | inr last ↦ inr (rest.1 (inr last))
-      ]),
-    )
+IsTaken-push [] e n = some_alone (Takes e n)
+IsTaken-push (q ∷ es) e n = some_more _ _ _ _ (IsTaken-push es e n)
 
 readings_more : (specs : List RefSpecRef) (i : ℕ) (s : RefSpecRef) → i < length specs → s ≡ get_or specs i s → map reading_of (take (i + 1) specs) ≡ map reading_of (take i specs) ++ reading_of s ∷ []
 readings_more specs i s below is = ap (map reading_of) (take_more specs i s below ∙ ap (λ (x : RefSpecRef). take i specs ++ x ∷ []) (sym is)) ∙ map-append reading_of (take i specs) (s ∷ [])
