@@ -49,6 +49,7 @@ pub mod PlacesLemmas
 pub mod MarkLemmas
 pub mod IndexLemmas
 pub mod MatchFacts
+pub mod OutcomeFacts
 pub mod ValidationFacts
 pub mod LawFacts
 pub mod CopyFacts
