@@ -56,3 +56,4 @@ pub mod CopyFacts
 pub mod MeaningFacts
 pub mod PrefixFacts
 pub mod RefusalFacts
+pub mod ViewFacts
