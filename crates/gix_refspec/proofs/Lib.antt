@@ -53,6 +53,7 @@ pub mod OutcomeFacts
 pub mod ValidationFacts
 pub mod LawFacts
 pub mod CopyFacts
+pub mod GroupFacts
 pub mod MeaningFacts
 pub mod PrefixFacts
 pub mod RefusalFacts
