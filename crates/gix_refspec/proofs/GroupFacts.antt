@@ -146,7 +146,7 @@ conflict_seen d t u sources texts come say = ap₂ (λ (xs : List SourceRef) (ys
 pub conflicts_seen : (e : Error) (i j : Issue) → e.issues.items ≡ i ∷ j ∷ [] → conflicts_of e ≡ conflict_of i ∷ conflict_of j ∷ []
 conflicts_seen e i j are = ap (map conflict_of) are
 
--- a claim on conflicts is about those of the error, and one on the outcome about that which memory hands back
+-- a claim about conflicts is one about the error's, and a claim about the outcome one about what is handed back
 pub claims : (e : Error) (o : Outcome) (P : List Conflict → Type 0) (Q : Outcome → Type 0)
     → (IfConflicts (Conflicts e) P → P (conflicts_of e)) × (P (conflicts_of e) → IfConflicts (Conflicts e) P) × (IfMemory (Memory o) Q → Q o) × (Q o → IfMemory (Memory o) Q)
 claims e o P Q = ((λ is. is), (λ is. is), (λ is. is), λ is. is)
@@ -163,7 +163,7 @@ module _
     (forced : accepted-type Fetch mode.Force (Some o) None)
     (same_name : accepted-type Push mode.Normal (Some o) None)
   where
-  -- that the mapping of a fetch, forced or not, or of a push was removed
+  -- fixes that removed a mapping of a fetch, forced or not, or of a push
   abbrev fix : BString → Fix
   fix d = MappingWithPartialDestinationRemoved d (owned_of Fetch mode.Normal (Some o) None alone)
 
@@ -177,9 +177,9 @@ module _
   pub fix_seen : removed_of forced_fix ≡ record { destination = bstring_bytes n; spec = fetched Forced (bstring_bytes o) None }
   fix_seen = refl
 
-  -- fixes are the same where their specs only mean the same
-  pub same_fixes : IsSameFix forced_fix (fix n)
-  same_fixes = record { destination = refl; spec = refl }
+  -- fixes are the same where their specs only mean the same, and where the bytes of the destinations are equal
+  pub same_fixes : IsSameFix forced_fix (fix n) × (bstring_bytes n ≡ bstring_bytes m → IsSameFix (fix n) (fix m))
+  same_fixes = (record { destination = refl; spec = refl }, λ same. record { destination = same; spec = refl })
 
   -- and differ where these mean something else, or another destination was removed
   pub other_fixes : ¬ (IsSameFix (fix n) push_fix) × (bstring_bytes n ≢ bstring_bytes m → ¬ (IsSameFix (fix n) (fix m)))

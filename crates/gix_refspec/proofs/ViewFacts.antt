@@ -1,5 +1,5 @@
 -- What a clause reads of refspecs, instructions, reasons and ids, at values whose fields differ: so none
--- is lost or taken for another. Of a spec or its owned copy it is a premise that some text reads so.
+-- is lost or taken for another. That some text reads as a spec is a premise.
 use Rattle.std.proofs.Common.{Option, ◌≡◌, ◌≢◌, ℕ, suc, List, [], ◌∷◌, ◌++◌, None, Some, true, false, map, length, get_or, replicate, option_map, codes, refl, sym, ap, ◌∙◌, inl, inr, arith}
 use Rattle.bstr.specs.declared.bstr.BStr.{BStr}
 use Rattle.bstr.specs.declared.bstring.BString.{BString}
@@ -34,7 +34,7 @@ use Rattle.gix_refspec.proofs.ObjectIdFacts.{empty_blob}
 use Rattle.gix_refspec.proofs.PrefixFacts.{whole_prefixes}
 use Rattle.gix_refspec.proofs.RefusalFacts.{empty_push}
 
--- bytes that stand somewhere
+-- a text that is borrowed
 abbrev pub lent : List ℕ → BStr
 lent x = record { bytes = record { ref_ptr = (0, 0); now = x } }
 
@@ -82,7 +82,7 @@ module _
   pub same_keys : (key_of_spec fetches_a ≡ key_of_spec (spec_of Fetch mode.Force (Some (codes "a")) None forced)) × (key_of_spec (spec_of Push mode.Normal (Some (codes "a")) None same_name) ≡ key_of_spec (spec_of Push mode.Normal (Some (codes "a")) (Some (codes "a")) to_itself))
   same_keys = (refl, refl)
 
-  -- others have not: `a` in a push, `^a`, and `a:b` beside `+a:b`
+  -- others have two: `a` in a fetch and in a push, `a` and `^a`, `+a:b` and `a:b`
   pub other_keys : (key_of_spec fetches_a ≢ key_of_spec (spec_of Push mode.Normal (Some (codes "a")) None same_name)) × (key_of_spec fetches_a ≢ key_of_spec (spec_of Fetch mode.Negative (Some (codes "a")) None exclusion)) × (key_of_spec updates_b ≢ key_of_spec (spec_of Fetch mode.Normal (Some (codes "a")) (Some (codes "b")) unforced))
   other_keys = (other_key 0 0 _ _ (λ same. omega (arith, same)), other_key 0 0 _ _ (λ same. omega (arith, same)), other_key 3 0 _ _ (λ same. omega (arith, same)))
 
@@ -126,7 +126,7 @@ instructions_of = (refl, refl)
 
 -- ---- reasons
 
--- a side with two stars is reported with its text, and a bad name with its fault
+-- the error of a side with two stars has its whole text, and that of a bad name its fault
 pub reasons_with_fields : (p : BString) → bstring_bytes p ≡ codes "a*b*" → IsShownAs (error.PatternUnsupported p) (PatternUnsupported (codes "a*b*")) × ¬ (IsShownAs (error.PatternUnsupported p) (PatternUnsupported (codes "a*b"))) × IsShownAs (error.ReferenceName LockSuffix) (ReferenceName LockSuffix) × ¬ (IsShownAs (error.ReferenceName LockSuffix) (ReferenceName RepeatedDot))
 reasons_with_fields p is = (ap PatternUnsupported (sym is), shorter, refl, λ same. cc)
   where
