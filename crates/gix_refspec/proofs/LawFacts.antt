@@ -4,7 +4,7 @@ use Rattle.std.proofs.Common.{◌≡◌, ◌≢◌, ◌<◌, ℕ, zero, suc, Lis
 use Rattle.std.specs.List.{Any}
 use Rattle.gix_refspec.specs.declared.parsing.Operation.TheVariants.{Push, Fetch}
 use Rattle.gix_refspec.specs.Text.{Begins}
-use Rattle.gix_refspec.specs.Name.{IsName, IsPattern, HasStar}
+use Rattle.gix_refspec.specs.Name.{HasStar}
 use Rattle.gix_refspec.specs.Bytes.{star, bracket, colon}
 use Rattle.gix_refspec.specs.Reading.{Normal, Forced, Reading}
 use Rattle.gix_refspec.specs.Grammar.{AreParts, Reads, fetches, fetched, pushed}
@@ -24,10 +24,11 @@ use Rattle.gix_refspec.specs.declared.oid.Error.{Error as IdError}
 use Rattle.gix_refspec.specs.Prefix.{IsPrefix, Expands, of_head, of_name, of_pattern, to_prefix, to_candidates}
 use Rattle.gix_refspec.specs.MatchLaws.{Transpose, Cover, CoverTogether, FetchGroupReadsBack, IsCoveredBy, HasName, IsSourceAmong, IsDestinationAmong, GoesBothWays, ReadsAgainAs, IsCovering, by_prefix, by_candidates, HasCoveringSource, BeginsWithOne, AreExpansions}
 use Rattle.gix_refspec.proofs.TextLemmas.{Lacks-here, Lacks-Holds}
+use Rattle.gix_refspec.proofs.TestedLemmas.{IsName-tested}
 use Rattle.gix_refspec.proofs.MatchLemmas.{cut_once, outside_none}
 use Rattle.gix_refspec.proofs.ReadOnceLemmas.{reads_once}
 use Rattle.gix_refspec.proofs.FormsBackLemmas.{some_once}
-use Rattle.gix_refspec.proofs.ManualFacts.{Lacks-tested, other_length, none_some, named, no_sign}
+use Rattle.gix_refspec.proofs.ManualFacts.{Lacks-tested, IsPattern-tested, other_length, none_some, named, no_sign}
 use Rattle.gix_refspec.proofs.ObjectIdFacts.{empty_blob, IsIdText-empty_blob, lower_of-empty_blob}
 use Rattle.gix_refspec.proofs.ValidationFacts.{both_to_x, foo_fix, validated}
 use Rattle.gix_refspec.proofs.MatchFacts.{tracked, fetches_all_but_dev, tracks_all_but_dev, tracks_nothing, tag_to_x, tag_to_foo, tag_alone, cut_at_end, every, no_dev, short, short_kind, other_byte}
@@ -84,17 +85,17 @@ among = (inr (inl refl), (λ none. none), inl refl, (λ none. none), longer)
 -- ---- groups that map alike
 
 -- a forced fetch without a destination reads again as one that isn't forced
-pub reads_unforced : IsName (codes "main") → ReadsAgainAs (fetched Forced (codes "main") None) short
-reads_unforced is_name =
+pub reads_unforced : ReadsAgainAs (fetched Forced (codes "main") None) short
+reads_unforced =
     let s = codes "main" in
     let parts : AreParts Normal s None s = record { signed = no_sign 109 (codes "ain") refl refl; last = Lacks-tested colon s refl } in
-    record { fetch = refl; text = s; is = refl; reads = fetches Normal s refl tt (inl parts) is_name refl }
+    record { fetch = refl; text = s; is = refl; reads = fetches Normal s refl tt (inl parts) (IsName-tested s refl) refl }
 
-pub reads_no_force : IsName (codes "main") → ¬ (ReadsAgainAs (fetched Forced (codes "main") None) (fetched Forced (codes "main") None))
+pub reads_no_force : ¬ (ReadsAgainAs (fetched Forced (codes "main") None) (fetched Forced (codes "main") None))
 unfolding reads_unforced
-reads_no_force is_name again =
+reads_no_force again =
     let reads = subst (λ (x : List ℕ). Reads Fetch x (fetched Forced (codes "main") None)) (sym (some_once (codes "main") again.text again.is)) again.reads in
-    forced_no_normal (ap (λ (r : Reading). r.mode) (reads_once Fetch (codes "main") (fetched Forced (codes "main") None) short reads (reads_unforced is_name).reads))
+    forced_no_normal (ap (λ (r : Reading). r.mode) (reads_once Fetch (codes "main") (fetched Forced (codes "main") None) short reads reads_unforced.reads))
   where
     forced_no_normal : Forced ≢ Normal
     forced_no_normal same = cc
@@ -215,9 +216,9 @@ pub covered_together : CoverTogether (every ∷ no_dev ∷ []) remote_refs → (
 covered_together law entries are = (law (every_covering, (covering_sources.0, tt)) entries are (tracked 2 (codes "main") ∷ []) fetches_all_but_dev).0 (codes "refs/heads/main") refl
 
 -- a group maps in both directions as the one that was read from its texts
-pub mapped_alike : IsName (codes "main") → FetchGroupReadsBack (fetched Forced (codes "main") None ∷ []) (short ∷ []) (named (codes "refs/heads/main") ∷ []) → (kept : List Mapped)
+pub mapped_alike : FetchGroupReadsBack (fetched Forced (codes "main") None ∷ []) (short ∷ []) (named (codes "refs/heads/main") ∷ []) → (kept : List Mapped)
     → (AreKeptForward (fetched Forced (codes "main") None ∷ []) (named (codes "refs/heads/main") ∷ []) kept → AreKeptForward (short ∷ []) (named (codes "refs/heads/main") ∷ []) kept) × AreKeptBackward (fetched Forced (codes "main") None ∷ []) (named (codes "refs/heads/main") ∷ []) []
-mapped_alike is_name law kept = let alike = law (reads_unforced is_name, tt) in ((alike.forward kept).0, (alike.backward []).1 tracks_nothing)
+mapped_alike law kept = let alike = law (reads_unforced, tt) in ((alike.forward kept).0, (alike.backward []).1 tracks_nothing)
 
 -- a group and refs have one answer in each direction
 pub one_answer : OneForward (every ∷ no_dev ∷ []) remote_refs → (l : List Mapped) → AreKeptForward (every ∷ no_dev ∷ []) remote_refs l → l ≡ tracked 2 (codes "main") ∷ []
@@ -285,8 +286,8 @@ pub texts_alike : EqualTexts Fetch (codes "+main") (codes "main") → (r q : Rea
 texts_alike law r q reads_r reads_q = ((law r q reads_r reads_q).1, (law r q reads_r reads_q).0)
 
 -- nothing is against a pattern of one byte, not even want of memory
-pub nothing_wrong : NothingAgainst (codes "*") → IsPattern (codes "*") → (e : PatternError) → ¬ (IsPatternFault e (codes "*"))
-nothing_wrong law pattern e fault = let long : 256 < 1 = (law pattern e fault).1 in omega (arith, long)
+pub nothing_wrong : NothingAgainst (codes "*") → (e : PatternError) → ¬ (IsPatternFault e (codes "*"))
+nothing_wrong law e fault = let long : 256 < 1 = (law (IsPattern-tested [] [] refl refl refl) e fault).1 in omega (arith, long)
 
 -- a clone always comes, and is its value
 pub cloned : {T : Type 0} (is_clone : T → T → Type 0) (is_infallible : T → Type 0) → ClonesExactly is_clone is_infallible → (x y : T) → is_infallible x × (is_clone x y → y ≡ x)

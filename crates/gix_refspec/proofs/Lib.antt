@@ -3,6 +3,7 @@ pub mod TableLemmas
 pub mod ComponentLemmas
 pub mod StarLemmas
 pub mod NameLemmas
+pub mod TestedLemmas
 pub mod SideLemmas
 pub mod PartsLemmas
 pub mod ReasonLemmas

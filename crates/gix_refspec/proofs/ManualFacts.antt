@@ -1,6 +1,6 @@
 -- The words on names and refspecs at the examples of git-check-ref-format(1), git-fetch(1) and
 -- git-push(1), and at some like them, on both sides of a border, so that a wrong rule in the specs does
--- not check. That a text is a name is a premise.
+-- not check.
 use Rattle.std.proofs.Common.{◌≡◌, ◌≢◌, ◌≤◌, ℕ, ◌==◌, ◌||◌, true, false, List, [], ◌∷◌, ◌++◌, Option, None, Some, map, length, get_or, codes, refl, sym, ap, ◌∙◌, is_some, subst, inl, inr, arith}
 use Rattle.std.specs.Prelude.{replicate}
 use Rattle.std.specs.List.{list_any, filter, range_with_len}
@@ -11,7 +11,7 @@ use Rattle.gix_refspec.specs.declared.parsing.Operation.{Operation}
 use Rattle.gix_refspec.specs.declared.parsing.Operation.TheVariants.{Push, Fetch}
 use Rattle.gix_refspec.specs.declared.name.PatternError.TheVariants.{Memory}
 use Rattle.gix_refspec.specs.Text.{Lacks}
-use Rattle.gix_refspec.specs.Name.{is_refused_byte, HasFault, HasSeveralStars, IsCut, ReplacesStar, IsName, IsPattern}
+use Rattle.gix_refspec.specs.Name.{is_refused_byte, HasFault, HasSeveralStars, IsCut, ReplacesStar, IsPattern}
 use Rattle.gix_refspec.specs.PatternError.{IsPatternFault}
 use Rattle.gix_refspec.specs.Bytes.{slash, star, letter, plus, caret, colon}
 use Rattle.gix_refspec.specs.Reading.{Mode, Normal, Forced, Negative, Reading, HasSide, remote_of, local_of}
@@ -21,6 +21,7 @@ use Rattle.gix_refspec.specs.Refusal.{PatternUnsupported, PushToEmpty, NegativeW
 use Rattle.gix_refspec.specs.Side.{pattern, full_name, object, partial, HasKind, candidates, filled}
 use Rattle.gix_refspec.specs.Match.{Ref, Matches, MatchesAs}
 use Rattle.gix_refspec.proofs.TextLemmas.{Lacks-here, Lacks-Holds}
+use Rattle.gix_refspec.proofs.TestedLemmas.{is_suspect, IsName-tested}
 use Rattle.gix_refspec.proofs.SideLemmas.{HasSeveralStars-replaced, HasStar-stars, HasStar-bad}
 use Rattle.gix_refspec.proofs.PartsLemmas.{parts_once}
 use Rattle.gix_refspec.proofs.FormsBackLemmas.{some_once}
@@ -52,7 +53,7 @@ first_byte : (b c : ℕ) (x : List ℕ) → b ≢ c → b ∷ x ≢ c ∷ x
 first_byte b c x differ same = differ (ap (λ (y : List ℕ). get_or y 0 0) same)
 
 -- for the operation, the text reads as what says m
-abbrev Says : Operation → List ℕ → Meaning → Type 0
+abbrev pub Says : Operation → List ℕ → Meaning → Type 0
 Says op text m = (r : Reading) × Reads op text r × (meaning_of r ≡ Some m)
 
 -- of the 256 bytes, the control characters, space, colon, question mark, bracket, backslash, caret, tilde and
@@ -81,26 +82,30 @@ faults = (
   record { before = codes "foo"; after = codes "bar"; here = refl },
 )
 
+-- texts that lack the star cut a text at its only one, for which the letter may stand
+pub IsCut-tested : (before after : List ℕ) → list_any (λ c. c == star) before ≡ false → list_any (λ c. c == star) after ≡ false → IsCut before after (before ++ (star ∷ after))
+IsCut-tested before after first last = record { starred = refl; first = Lacks-tested star before first; last = Lacks-tested star after last }
+
+pub ReplacesStar-tested : (before after : List ℕ) → list_any (λ c. c == star) before ≡ false → list_any (λ c. c == star) after ≡ false → ReplacesStar (before ++ (star ∷ after)) (before ++ (letter ∷ after))
+ReplacesStar-tested before after first last = record { before = before; after = after; cut = IsCut-tested before after first last; replaced = refl }
+
 -- one star may stand in a component of a pattern, but not two
 pub one_star : ReplacesStar (codes "foo/bar*/baz") (codes "foo/bara/baz") × ReplacesStar (codes "foo/bar*baz") (codes "foo/barabaz")
-one_star = (
-  record { before = codes "foo/bar"; after = codes "/baz"; cut = record { starred = refl; first = Lacks-tested star (codes "foo/bar") refl; last = Lacks-tested star (codes "/baz") refl }; replaced = refl },
-  record { before = codes "foo/bar"; after = codes "baz"; cut = record { starred = refl; first = Lacks-tested star (codes "foo/bar") refl; last = Lacks-tested star (codes "baz") refl }; replaced = refl },
-)
+one_star = (ReplacesStar-tested (codes "foo/bar") (codes "/baz") refl refl, ReplacesStar-tested (codes "foo/bar") (codes "baz") refl refl)
 
 pub two_stars : HasSeveralStars (codes "foo/bar*/baz*")
 two_stars = record { before = codes "foo/bar"; between = codes "/baz"; after = []; here = refl }
 
--- a text that is a name up to its last byte, a star, is a pattern
-ends_with_star : (before : List ℕ) → list_any (λ c. c == star) before ≡ false → IsName (before ++ codes "a") → IsPattern (before ++ codes "*")
-ends_with_star before none name = record {
-  with_letter = before ++ codes "a";
-  replaces = record { before = before; after = []; cut = record { starred = refl; first = Lacks-tested star before none; last = tt }; replaced = refl };
-  name = name;
+-- a text with one star is a pattern where it is a name with the letter for it
+pub IsPattern-tested : (before after : List ℕ) → list_any (λ c. c == star) before ≡ false → list_any (λ c. c == star) after ≡ false → is_suspect slash (before ++ (letter ∷ after)) ≡ false → IsPattern (before ++ (star ∷ after))
+IsPattern-tested before after first last sound = record {
+  with_letter = before ++ (letter ∷ after);
+  replaces = ReplacesStar-tested before after first last;
+  name = IsName-tested (before ++ (letter ∷ after)) sound;
 }
 
-pub every_branch : IsName (codes "refs/heads/a") → IsPattern (codes "refs/heads/*")
-every_branch name = ends_with_star (codes "refs/heads/") refl name
+pub every_branch : IsPattern (codes "refs/heads/*")
+every_branch = IsPattern-tested (codes "refs/heads/") [] refl refl refl
 
 -- `@` alone is short for `HEAD`
 pub at_sign : (named_by (codes "@") ≡ codes "HEAD") × (named_by (codes "HEAD") ≡ codes "HEAD")
@@ -111,59 +116,59 @@ pub no_sign : (b : ℕ) (bs : List ℕ) → (b == plus) ≡ false → (b == care
 no_sign b bs no_plus no_caret = (refl, (eqb-false b plus no_plus, eqb-false b caret no_caret))
 
 -- git fetch origin +refs/heads/*:refs/remotes/origin/*
-pub fetches_every_branch : IsName (codes "refs/heads/a") → IsName (codes "refs/remotes/origin/a")
-    → Says Fetch (codes "+refs/heads/*:refs/remotes/origin/*") (fetch_and_update (codes "refs/heads/*") (codes "refs/remotes/origin/*") true)
-fetches_every_branch source destination =
+pub fetches_every_branch : Says Fetch (codes "+refs/heads/*:refs/remotes/origin/*") (fetch_and_update (codes "refs/heads/*") (codes "refs/remotes/origin/*") true)
+fetches_every_branch =
     let s = codes "refs/heads/*" in
     let d = codes "refs/remotes/origin/*" in
     let parts : AreParts Forced s (Some d) (codes "+refs/heads/*:refs/remotes/origin/*") = record { signed = refl; last = Lacks-tested colon d refl } in
-    let alike = inr (every_branch source, ends_with_star (codes "refs/remotes/origin/") refl destination) in
+    let alike = inr (every_branch, IsPattern-tested (codes "refs/remotes/origin/") [] refl refl refl) in
     (fetched Forced s (Some d), updates Forced s d refl tt parts alike refl, refl)
 
 -- git fetch origin +seen:seen
-pub fetches_seen : IsName (codes "seen") → Says Fetch (codes "+seen:seen") (fetch_and_update (codes "seen") (codes "seen") true)
-fetches_seen name =
+pub fetches_seen : Says Fetch (codes "+seen:seen") (fetch_and_update (codes "seen") (codes "seen") true)
+fetches_seen =
     let s = codes "seen" in
+    let name = IsName-tested s refl in
     let parts : AreParts Forced s (Some s) (codes "+seen:seen") = record { signed = refl; last = Lacks-tested colon s refl } in
     (fetched Forced s (Some s), updates Forced s s refl tt parts (inl (name, name)) refl, refl)
 
 -- git push origin master
-pub pushes_master : IsName (codes "master") → Says Push (codes "master") (push_matching (codes "master") (codes "master") false)
-pushes_master name =
+pub pushes_master : Says Push (codes "master") (push_matching (codes "master") (codes "master") false)
+pushes_master =
     let s = codes "master" in
     let parts : AreParts Normal s None s = record { signed = no_sign 109 (codes "aster") refl refl; last = Lacks-tested colon s refl } in
-    (pushed Normal (Some s) None, pushes Normal s refl tt parts (inl name) refl, refl)
+    (pushed Normal (Some s) None, pushes Normal s refl tt parts (inl (IsName-tested s refl)) refl, refl)
 
 -- git push origin HEAD:master
-pub pushes_head : IsName (codes "master") → Says Push (codes "HEAD:master") (push_matching (codes "HEAD") (codes "master") false)
-pushes_head name =
+pub pushes_head : Says Push (codes "HEAD:master") (push_matching (codes "HEAD") (codes "master") false)
+pushes_head =
     let s = codes "HEAD" in
     let d = codes "master" in
     let parts : AreParts Normal s (Some d) (codes "HEAD:master") = record { signed = no_sign 72 (codes "EAD:master") refl refl; last = Lacks-tested colon d refl } in
-    (pushed Normal (Some s) (Some d), pushes_to Normal s d refl tt parts (full _ _) (Lacks-tested star s refl) name refl, refl)
+    (pushed Normal (Some s) (Some d), pushes_to Normal s d refl tt parts (full _ _) (Lacks-tested star s refl) (IsName-tested d refl) refl, refl)
 
 -- git push origin master:refs/heads/experimental
-pub pushes_experimental : IsName (codes "refs/heads/experimental") → Says Push (codes "master:refs/heads/experimental") (push_matching (codes "master") (codes "refs/heads/experimental") false)
-pushes_experimental name =
+pub pushes_experimental : Says Push (codes "master:refs/heads/experimental") (push_matching (codes "master") (codes "refs/heads/experimental") false)
+pushes_experimental =
     let s = codes "master" in
     let d = codes "refs/heads/experimental" in
     let parts : AreParts Normal s (Some d) (codes "master:refs/heads/experimental") = record { signed = no_sign 109 (codes "aster:refs/heads/experimental") refl refl; last = Lacks-tested colon d refl } in
-    (pushed Normal (Some s) (Some d), pushes_to Normal s d refl tt parts (full _ _) (Lacks-tested star s refl) name refl, refl)
+    (pushed Normal (Some s) (Some d), pushes_to Normal s d refl tt parts (full _ _) (Lacks-tested star s refl) (IsName-tested d refl) refl, refl)
 
 -- git push origin +dev:master
-pub pushes_dev : IsName (codes "master") → Says Push (codes "+dev:master") (push_matching (codes "dev") (codes "master") true)
-pushes_dev name =
+pub pushes_dev : Says Push (codes "+dev:master") (push_matching (codes "dev") (codes "master") true)
+pushes_dev =
     let s = codes "dev" in
     let d = codes "master" in
     let parts : AreParts Forced s (Some d) (codes "+dev:master") = record { signed = refl; last = Lacks-tested colon d refl } in
-    (pushed Forced (Some s) (Some d), pushes_to Forced s d refl tt parts (full _ _) (Lacks-tested star s refl) name refl, refl)
+    (pushed Forced (Some s) (Some d), pushes_to Forced s d refl tt parts (full _ _) (Lacks-tested star s refl) (IsName-tested d refl) refl, refl)
 
 -- git push origin :experimental
-pub deletes_experimental : IsName (codes "experimental") → Says Push (codes ":experimental") (push_delete (codes "experimental"))
-deletes_experimental name =
+pub deletes_experimental : Says Push (codes ":experimental") (push_delete (codes "experimental"))
+deletes_experimental =
     let d = codes "experimental" in
     let parts : AreParts Normal [] (Some d) (codes ":experimental") = record { signed = no_sign colon d refl refl; last = Lacks-tested colon d refl } in
-    (pushed Normal None (Some d), deletes Normal d refl tt parts name refl, refl)
+    (pushed Normal None (Some d), deletes Normal d refl tt parts (IsName-tested d refl) refl, refl)
 
 -- git push origin :
 pub pushes_matching_branches : Says Push (codes ":") (push_all_matching false)
@@ -172,11 +177,11 @@ pushes_matching_branches =
     (pushed Normal None None, pushes_colon Normal refl tt parts refl, refl)
 
 -- an exclusion as in git-fetch(1), given to a push
-pub leaves_out_dev : IsName (codes "refs/heads/dev-a") → Says Push (codes "^refs/heads/dev-*") (push_exclude (codes "refs/heads/dev-*"))
-leaves_out_dev name =
+pub leaves_out_dev : Says Push (codes "^refs/heads/dev-*") (push_exclude (codes "refs/heads/dev-*"))
+leaves_out_dev =
     let s = codes "refs/heads/dev-*" in
     let parts : AreParts Negative s None (codes "^refs/heads/dev-*") = record { signed = refl; last = Lacks-tested colon s refl } in
-    let pattern = ends_with_star (codes "refs/heads/dev-") refl name in
+    let pattern = IsPattern-tested (codes "refs/heads/dev-") [] refl refl refl in
     let short : ¬ (LooksLikeObjectHash s) = λ hash. let long : 40 ≤ 16 = hash.long in omega (arith, long) in
     (pushed Negative (Some s) None, push_excludes s refl parts (inr pattern) short refl, refl)
 
@@ -265,8 +270,7 @@ wants_memory = inr (record { before = []; after = replicate 256 letter; here = r
 -- one with 256 bytes never does
 wants_no_memory : ¬ (WantsMemory (starred 255))
 wants_no_memory (inl several) =
-    let cut : IsCut [] (replicate 255 letter) (starred 255) = record { starred = refl; first = tt; last = Lacks-tested star (replicate 255 letter) refl } in
-    HasSeveralStars-replaced (starred 255) (letter ∷ replicate 255 letter) (record { before = []; after = replicate 255 letter; cut = cut; replaced = refl }) several
+    HasSeveralStars-replaced (starred 255) (letter ∷ replicate 255 letter) (ReplacesStar-tested [] (replicate 255 letter) refl refl) several
 wants_no_memory (inr (starry, long)) = omega (arith, length-replicate 255 letter, long)
 
 -- nor does one of 257 bytes without a star

@@ -6,14 +6,15 @@ use Rattle.std.proofs.lemmas.List.{length-replicate}
 use Rattle.gix_refspec.specs.declared.name.Error.TheVariants.{LockSuffix}
 use Rattle.gix_refspec.specs.declared.parsing.Operation.{Operation}
 use Rattle.gix_refspec.specs.declared.parsing.Operation.TheVariants.{Push, Fetch}
-use Rattle.gix_refspec.specs.Name.{IsName, ReplacesStar, HasFault, HasSeveralStars}
-use Rattle.gix_refspec.specs.Bytes.{star, slash, letter}
+use Rattle.gix_refspec.specs.Name.{ReplacesStar, HasFault, HasSeveralStars}
+use Rattle.gix_refspec.specs.Bytes.{slash, letter}
 use Rattle.gix_refspec.specs.Reading.{Normal, Forced, Negative}
 use Rattle.gix_refspec.specs.Grammar.{LooksLikeObjectHash}
 use Rattle.gix_refspec.specs.Refusal.{IsBadName, IsBadPattern, Refusal, Empty, NegativeWithDestination, PushToEmpty, PatternUnsupported, ReferenceName, PatternUnbalanced, Never, IsEmptyPush, HasNegativeDestination, PushesNowhere, HasBadSource, HasBadDestination, IsUnbalanced, IsFirstReason}
+use Rattle.gix_refspec.proofs.TestedLemmas.{IsName-tested}
 use Rattle.gix_refspec.proofs.SideLemmas.{name_not_bad}
 use Rattle.gix_refspec.proofs.FormsBackLemmas.{some_once}
-use Rattle.gix_refspec.proofs.ManualFacts.{Lacks-tested, full}
+use Rattle.gix_refspec.proofs.ManualFacts.{Lacks-tested, ReplacesStar-tested, full}
 use Rattle.gix_refspec.proofs.MatchFacts.{other_byte}
 
 normal_positive : Normal ≢ Negative
@@ -109,11 +110,11 @@ no_empty_a e empty = full 97 [] empty.no_source
 no_nowhere_lock : Never (PushesNowhere Fetch (codes "a") (Some (codes "b*.lock")))
 no_nowhere_lock e nowhere = full 98 (codes "*.lock") (some_once (codes "b*.lock") [] nowhere.nowhere)
 
-no_bad_name : IsName (codes "a") → Never (HasBadSource Fetch (codes "a") (Some (codes "b*.lock")))
-no_bad_name name e is = name_not_bad (codes "a") name e is.refusal
+no_bad_name : Never (HasBadSource Fetch (codes "a") (Some (codes "b*.lock")))
+no_bad_name e is = name_not_bad (codes "a") (IsName-tested (codes "a") refl) e is.refusal
 
 replaces_star : ReplacesStar (codes "b*.lock") (codes "ba.lock")
-replaces_star = record { before = codes "b"; after = codes ".lock"; cut = record { starred = refl; first = Lacks-tested star (codes "b") refl; last = Lacks-tested star (codes ".lock") refl }; replaced = refl }
+replaces_star = ReplacesStar-tested (codes "b") (codes ".lock") refl refl
 
 locked : HasFault (codes "ba.lock") LockSuffix
 locked = record { before = []; component = codes "ba.lock"; after = []; components = record { joined = refl; whole = (Lacks-tested slash (codes "ba.lock") refl, tt) }; fact = record { before = codes "ba"; here = refl } }
@@ -121,20 +122,20 @@ locked = record { before = []; component = codes "ba.lock"; after = []; componen
 bad_destination : HasBadDestination (Some (codes "b*.lock")) (ReferenceName LockSuffix)
 bad_destination = record { word = codes "b*.lock"; is = refl; destination = full _ _; refusal = inr (codes "ba.lock", replaces_star, locked) }
 
-pub destination_before_balance : IsName (codes "a") → IsFirstReason Fetch Normal (codes "a") (Some (codes "b*.lock")) (ReferenceName LockSuffix)
-destination_before_balance name = inr (no_empty_a, inr (no_negative (Some (codes "b*.lock")), inr (no_nowhere_lock, inr (no_bad_name name, inl bad_destination))))
+pub destination_before_balance : IsFirstReason Fetch Normal (codes "a") (Some (codes "b*.lock")) (ReferenceName LockSuffix)
+destination_before_balance = inr (no_empty_a, inr (no_negative (Some (codes "b*.lock")), inr (no_nowhere_lock, inr (no_bad_name, inl bad_destination))))
 
-pub not_unbalanced : IsName (codes "a") → ¬ (IsFirstReason Fetch Normal (codes "a") (Some (codes "b*.lock")) PatternUnbalanced)
-not_unbalanced name (inl is) = no_empty_a PatternUnbalanced is
-not_unbalanced name (inr (_, inl is)) = no_negative (Some (codes "b*.lock")) PatternUnbalanced is
-not_unbalanced name (inr (_, inr (_, inl is))) = no_nowhere_lock PatternUnbalanced is
-not_unbalanced name (inr (_, inr (_, inr (_, inl is)))) = no_bad_name name PatternUnbalanced is
-not_unbalanced name (inr (_, inr (_, inr (_, inr (_, inl is))))) = neither is.word is.refusal
+pub not_unbalanced : ¬ (IsFirstReason Fetch Normal (codes "a") (Some (codes "b*.lock")) PatternUnbalanced)
+not_unbalanced (inl is) = no_empty_a PatternUnbalanced is
+not_unbalanced (inr (_, inl is)) = no_negative (Some (codes "b*.lock")) PatternUnbalanced is
+not_unbalanced (inr (_, inr (_, inl is))) = no_nowhere_lock PatternUnbalanced is
+not_unbalanced (inr (_, inr (_, inr (_, inl is)))) = no_bad_name PatternUnbalanced is
+not_unbalanced (inr (_, inr (_, inr (_, inr (_, inl is))))) = neither is.word is.refusal
   where
     neither : (word : List ℕ) → ¬ (IsBadName word PatternUnbalanced ⊎ IsBadPattern word PatternUnbalanced)
     neither word (inl none) = none
     neither word (inr none) = none
-not_unbalanced name (inr (_, inr (_, inr (_, inr (_, inr (never, _)))))) = never (ReferenceName LockSuffix) bad_destination
+not_unbalanced (inr (_, inr (_, inr (_, inr (_, inr (never, _)))))) = never (ReferenceName LockSuffix) bad_destination
 
 -- a source alone with a star is unbalanced in a fetch, but not in a push, nor is a negative spec
 pub unbalanced : IsUnbalanced Fetch Normal (codes "a*") None PatternUnbalanced × ((e : Refusal) → ¬ (IsUnbalanced Push Normal (codes "a*") None e)) × ((e : Refusal) → ¬ (IsUnbalanced Fetch Negative (codes "a*") None e))
