@@ -24,6 +24,7 @@ pub mod MatchLemmas
 pub mod PrefixLemmas
 pub mod OnePrefixLemmas
 pub mod ManualFacts
+pub mod NameFacts
 pub mod KeptLemmas
 pub mod RepeatLemmas
 pub mod KeyLemmas
