@@ -25,6 +25,7 @@ pub mod PrefixLemmas
 pub mod OnePrefixLemmas
 pub mod ManualFacts
 pub mod NameFacts
+pub mod GrammarFacts
 pub mod KeptLemmas
 pub mod RepeatLemmas
 pub mod KeyLemmas
