@@ -26,6 +26,7 @@ pub mod OnePrefixLemmas
 pub mod ManualFacts
 pub mod NameFacts
 pub mod GrammarFacts
+pub mod UnreadFacts
 pub mod KeptLemmas
 pub mod RepeatLemmas
 pub mod KeyLemmas
