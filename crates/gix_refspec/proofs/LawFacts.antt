@@ -29,6 +29,7 @@ use Rattle.gix_refspec.proofs.MatchLemmas.{cut_once, outside_none}
 use Rattle.gix_refspec.proofs.ReadOnceLemmas.{reads_once}
 use Rattle.gix_refspec.proofs.FormsBackLemmas.{some_once}
 use Rattle.gix_refspec.proofs.ManualFacts.{Lacks-tested, IsPattern-tested, other_length, none_some, named, no_sign}
+use Rattle.gix_refspec.proofs.UnreadFacts.{unbalanced_fetches}
 use Rattle.gix_refspec.proofs.ObjectIdFacts.{empty_blob, IsIdText-empty_blob, lower_of-empty_blob}
 use Rattle.gix_refspec.proofs.ValidationFacts.{both_to_x, foo_fix, validated}
 use Rattle.gix_refspec.proofs.MatchFacts.{tracked, fetches_all_but_dev, tracks_all_but_dev, tracks_nothing, tag_to_x, tag_to_foo, tag_alone, cut_at_end, every, no_dev, short, short_kind, other_byte}
@@ -265,8 +266,8 @@ pub one_text : OneLowerText empty_blob → (t : List ℕ) → IsLowerText t empt
 one_text law t lower = law.only t lower ∙ lower_of-empty_blob
 
 -- a text has one reason against it, but for which fault of a name
-pub one_reason : OneRefusal Fetch (codes "a*") → IsRefused Fetch (codes "a*") PatternUnbalanced → ¬ (IsRefused Fetch (codes "a*") NegativeEmpty)
-one_reason law unbalanced empty = elim (law PatternUnbalanced NegativeEmpty unbalanced empty) [
+pub one_reason : OneRefusal Fetch (codes "a*") → ¬ (IsRefused Fetch (codes "a*") NegativeEmpty)
+one_reason law empty = elim (law PatternUnbalanced NegativeEmpty unbalanced_fetches.5 empty) [
   | inl same ↦ apart same
   | inr (a, b, is_name, also) ↦ no_name a is_name
 ]

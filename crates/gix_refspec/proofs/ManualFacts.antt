@@ -53,7 +53,7 @@ first_byte : (b c : ℕ) (x : List ℕ) → b ≢ c → b ∷ x ≢ c ∷ x
 first_byte b c x differ same = differ (ap (λ (y : List ℕ). get_or y 0 0) same)
 
 -- for the operation, the text reads as what says m
-abbrev pub Says : Operation → List ℕ → Meaning → Type 0
+abbrev Says : Operation → List ℕ → Meaning → Type 0
 Says op text m = (r : Reading) × Reads op text r × (meaning_of r ≡ Some m)
 
 -- of the 256 bytes, the control characters, space, colon, question mark, bracket, backslash, caret, tilde and

@@ -8,7 +8,7 @@ use Rattle.gix_refspec.specs.declared.parsing.Operation.TheVariants.{Push, Fetch
 use Rattle.gix_refspec.specs.Bytes.{star, letter, caret, colon}
 use Rattle.gix_refspec.specs.Reading.{Mode, Normal, Forced, Negative, Reading}
 use Rattle.gix_refspec.specs.Grammar.{with_colon, IsPositive, fetched, pushed, Reads, IsAccepted}
-use Rattle.gix_refspec.specs.declared.name.Error.TheVariants.{InvalidByte}
+use Rattle.gix_refspec.specs.declared.name.Error.TheVariants.{StartsWithDot, InvalidByte}
 use Rattle.gix_refspec.specs.declared.parsing.function.Side.TheVariants.{Plain, Pattern}
 use Rattle.gix_refspec.specs.Meaning.{printed}
 use Rattle.gix_refspec.specs.Refusal.{Refusal, Empty, NegativeWithDestination, PushToEmpty, PatternUnsupported, ReferenceName, PatternUnbalanced, NegativeEmpty, NegativeObjectHash, IsBadName, IsBadPattern, HasBadDestination, IsFirstReason, IsRefused}
@@ -19,6 +19,7 @@ use Rattle.gix_refspec.proofs.AcceptedLemmas.{accepted_balanced}
 use Rattle.gix_refspec.proofs.SideLemmas.{HasStar-pattern}
 use Rattle.gix_refspec.proofs.TestedLemmas.{IsName-tested}
 use Rattle.gix_refspec.proofs.ManualFacts.{Lacks-tested, full, none_some, some_none}
+use Rattle.gix_refspec.proofs.NameFacts.{bad_patterns}
 use Rattle.gix_refspec.proofs.RefusalFacts.{empty_push}
 use Rattle.gix_refspec.proofs.GrammarFacts.{begins_signed, with_sign, parts, a_star, b_name, refused_byte, hashes, fetches_main, pushes_matching, deletes_x}
 
@@ -50,16 +51,17 @@ pushed_nowhere = (to_nothing Normal tt refl, to_nothing Forced tt refl)
     to_nothing : (mode : Mode) → IsPositive mode → begins_signed mode (codes "a:") ≡ false → IsRefused Push (with_sign mode (codes "a:")) PushToEmpty
     to_nothing mode positive unsigned = refused_for Push mode (codes "a") (Some []) PushToEmpty unsigned refl (inr ((λ e empty. full _ _ empty.no_source), inr (no_negative mode (Some []) positive, inl (record { push = refl; source = full _ _; nowhere = refl; refusal = refl }))))
 
--- a source that is no name: with a space, and an expression in a fetch
+-- a source that is no name, among them expressions that a push may have; and one that is no pattern
 bad_fetch : (b : ℕ) (s : List ℕ) (d : Option (List ℕ)) (e : Refusal) → IsBadName (b ∷ s) e ⊎ IsBadPattern (b ∷ s) e → IsFirstReason Fetch Normal (b ∷ s) d e
 bad_fetch b s d e bad = reason_at_source Fetch Normal (b ∷ s) d e (fetch_reaches Normal (b ∷ s) d tt) (record { source = full b s; refusal = bad })
 
-pub bad_sources : IsRefused Fetch (codes "a b") (ReferenceName (InvalidByte 32)) × IsRefused Fetch (codes "main~2:x") (ReferenceName (InvalidByte 126)) × IsRefused Fetch (codes ":/message:x") (ReferenceName (InvalidByte 58)) × IsRefused Fetch (codes "a*b*") (PatternUnsupported (codes "a*b*"))
+pub bad_sources : IsRefused Fetch (codes "a b") (ReferenceName (InvalidByte 32)) × IsRefused Fetch (codes "main~2:x") (ReferenceName (InvalidByte 126)) × IsRefused Fetch (codes ":/message:x") (ReferenceName (InvalidByte 58)) × IsRefused Fetch (codes "a*b*") (PatternUnsupported (codes "a*b*")) × IsRefused Fetch (codes "refs/heads/.*:x") (ReferenceName StartsWithDot)
 bad_sources = (
   refused_for Fetch Normal (codes "a b") None _ refl refl (bad_fetch 97 (codes " b") None _ (inl (Lacks-tested star (codes "a b") refl, refused_byte (codes "a") (codes "b") 32 refl))),
   refused_for Fetch Normal (codes "main~2") (Some (codes "x")) _ refl refl (bad_fetch 109 (codes "ain~2") (Some (codes "x")) _ (inl (Lacks-tested star (codes "main~2") refl, refused_byte (codes "main") (codes "2") 126 refl))),
   refused_for Fetch Normal (codes ":/message") (Some (codes "x")) _ refl refl (bad_fetch colon (codes "/message") (Some (codes "x")) _ (inl (Lacks-tested star (codes ":/message") refl, refused_byte [] (codes "/message") colon refl))),
   refused_for Fetch Normal (codes "a*b*") None _ refl refl (bad_fetch 97 (codes "*b*") None _ (inr (record { before = codes "a"; between = codes "b"; after = []; here = refl }, refl))),
+  refused_for Fetch Normal (codes "refs/heads/.*") (Some (codes "x")) _ refl refl (bad_fetch 114 (codes "efs/heads/.*") (Some (codes "x")) _ (inr bad_patterns.0)),
 )
 
 -- a push of a source alone that is no name, and of one with two stars to a destination
@@ -69,13 +71,14 @@ bad_pushes = (
   refused_for Push Normal (codes "a*b*") (Some (codes "c")) _ refl refl (reason_at_source Push Normal (codes "a*b*") (Some (codes "c")) _ (push_reaches Normal (codes "a*b*") (codes "c") tt (λ some empty. full _ _ empty)) (record { source = full _ _; refusal = (record { before = codes "a"; between = codes "b"; after = []; here = refl }, refl) })),
 )
 
--- a destination that is no name, with a source and without
-pub bad_destinations : IsRefused Fetch (codes "a:b c") (ReferenceName (InvalidByte 32)) × IsRefused Fetch (codes ":b c") (ReferenceName (InvalidByte 32)) × IsRefused Push (codes "a:b c") (ReferenceName (InvalidByte 32)) × IsRefused Push (codes ":b c") (ReferenceName (InvalidByte 32))
+-- a destination that is no name, with a source and without, and one that is no pattern
+pub bad_destinations : IsRefused Fetch (codes "a:b c") (ReferenceName (InvalidByte 32)) × IsRefused Fetch (codes ":b c") (ReferenceName (InvalidByte 32)) × IsRefused Push (codes "a:b c") (ReferenceName (InvalidByte 32)) × IsRefused Push (codes ":b c") (ReferenceName (InvalidByte 32)) × IsRefused Fetch (codes "a*:b*c*") (PatternUnsupported (codes "b*c*"))
 bad_destinations = (
   refused_for Fetch Normal (codes "a") (Some (codes "b c")) _ refl refl (reason_at_destination Fetch Normal (codes "a") (Some (codes "b c")) _ (fetch_reaches Normal (codes "a") (Some (codes "b c")) tt) (fetch_source_fine (codes "a") (Some (codes "b c")) Plain (IsName-tested (codes "a") refl)) spaced),
   refused_for Fetch Normal [] (Some (codes "b c")) _ refl refl (reason_at_destination Fetch Normal [] (Some (codes "b c")) _ (fetch_reaches Normal [] (Some (codes "b c")) tt) (fetch_source_fine [] (Some (codes "b c")) Plain tt) spaced),
   refused_for Push Normal (codes "a") (Some (codes "b c")) _ refl refl (reason_at_destination Push Normal (codes "a") (Some (codes "b c")) _ (push_reaches Normal (codes "a") (codes "b c") tt (λ some empty. full _ _ empty)) (push_source_fine (codes "a") (codes "b c") Plain (Lacks-tested star (codes "a") refl)) spaced),
   refused_for Push Normal [] (Some (codes "b c")) _ refl refl (reason_at_destination Push Normal [] (Some (codes "b c")) _ (push_reaches Normal [] (codes "b c") tt (λ some empty. full _ _ empty)) (push_source_fine [] (codes "b c") Plain tt) spaced),
+  refused_for Fetch Normal (codes "a*") (Some (codes "b*c*")) _ refl refl (reason_at_destination Fetch Normal (codes "a*") (Some (codes "b*c*")) _ (fetch_reaches Normal (codes "a*") (Some (codes "b*c*")) tt) (fetch_source_fine (codes "a*") (Some (codes "b*c*")) Pattern a_star) (record { word = codes "b*c*"; is = refl; destination = full _ _; refusal = inr (record { before = codes "b"; between = codes "c"; after = []; here = refl }, refl) })),
 )
   where
     spaced : HasBadDestination (Some (codes "b c")) (ReferenceName (InvalidByte 32))
@@ -88,13 +91,14 @@ pattern_no_plain : Pattern ≢ Plain
 pattern_no_plain same = absurd (cc)
 
 -- a star on one side alone, also where the other is missing
-pub unbalanced_fetches : IsRefused Fetch (codes "a*:b") PatternUnbalanced × IsRefused Fetch (codes "b:a*") PatternUnbalanced × IsRefused Fetch (codes ":a*") PatternUnbalanced × IsRefused Fetch (codes "a*:") PatternUnbalanced × IsRefused Fetch (codes "+a*") PatternUnbalanced
+pub unbalanced_fetches : IsRefused Fetch (codes "a*:b") PatternUnbalanced × IsRefused Fetch (codes "b:a*") PatternUnbalanced × IsRefused Fetch (codes ":a*") PatternUnbalanced × IsRefused Fetch (codes "a*:") PatternUnbalanced × IsRefused Fetch (codes "+a*") PatternUnbalanced × IsRefused Fetch (codes "a*") PatternUnbalanced
 unbalanced_fetches = (
   refused_for Fetch Normal (codes "a*") (Some (codes "b")) _ refl refl (unbalanced_fetch Normal (codes "a*") (Some (codes "b")) Pattern Plain tt a_star b_name pattern_no_plain),
   refused_for Fetch Normal (codes "b") (Some (codes "a*")) _ refl refl (unbalanced_fetch Normal (codes "b") (Some (codes "a*")) Plain Pattern tt b_name a_star plain_no_pattern),
   refused_for Fetch Normal [] (Some (codes "a*")) _ refl refl (unbalanced_fetch Normal [] (Some (codes "a*")) Plain Pattern tt tt a_star plain_no_pattern),
   refused_for Fetch Normal (codes "a*") (Some []) _ refl refl (unbalanced_fetch Normal (codes "a*") (Some []) Pattern Plain tt a_star tt pattern_no_plain),
   refused_for Fetch Forced (codes "a*") None _ refl refl (unbalanced_fetch Forced (codes "a*") None Pattern Plain tt a_star tt pattern_no_plain),
+  refused_for Fetch Normal (codes "a*") None _ refl refl (unbalanced_fetch Normal (codes "a*") None Pattern Plain tt a_star tt pattern_no_plain),
 )
 
 -- the same in a push, of which a source alone is fine
