@@ -56,9 +56,11 @@ pub mod MatchFacts
 pub mod OutcomeFacts
 pub mod ValidationFacts
 pub mod LawFacts
+pub mod ListsFacts
 pub mod CopyFacts
 pub mod GroupFacts
 pub mod MeaningFacts
+pub mod OrderFacts
 pub mod PrefixFacts
 pub mod RefusalFacts
 pub mod ViewFacts

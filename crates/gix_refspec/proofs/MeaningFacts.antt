@@ -31,14 +31,34 @@ pub negatives : (meaning_of (fetched Negative (codes "a") None) ≡ Some (fetch_
     × (meaning_of (pushed Negative None (Some (codes "b"))) ≡ None)
 negatives = (refl, refl, refl, refl)
 
+-- the sign of a push stays with it, and where none is, none is said
+pub forces : (meaning_of (pushed Forced (Some (codes "a")) None) ≡ Some (push_matching (codes "a") (codes "a") true))
+    × (meaning_of (pushed Forced (Some (codes "a")) (Some (codes "b"))) ≡ Some (push_matching (codes "a") (codes "b") true))
+    × (meaning_of (pushed Normal (Some (codes "a")) (Some (codes "b"))) ≡ Some (push_matching (codes "a") (codes "b") false))
+    × (meaning_of (fetched Normal (codes "a") (Some (codes "b"))) ≡ Some (fetch_and_update (codes "a") (codes "b") false))
+forces = (refl, refl, refl, refl)
+
+-- a fetch of nothing says nothing, nor does a negative spec without a source or with both sides, and what
+-- says nothing has no text
+pub says_nothing : (meaning_of (record { operation = Fetch; mode = Normal; source = None; destination = Some (codes "b") }) ≡ None)
+    × (meaning_of (record { operation = Fetch; mode = Forced; source = None; destination = None }) ≡ None)
+    × (meaning_of (record { operation = Fetch; mode = Negative; source = None; destination = None }) ≡ None)
+    × (meaning_of (pushed Negative None None) ≡ None)
+    × (meaning_of (pushed Negative (Some (codes "a")) (Some (codes "b"))) ≡ None)
+    × (printed (fetched Negative (codes "a") (Some (codes "b"))) ≡ None)
+says_nothing = (refl, refl, refl, refl, refl, refl)
+
 -- a lone source that begins with a plus prints one more, and no other text does
 pub pluses : (text_of (fetch_only (codes "+foo")) ≡ codes "++foo") × (text_of (fetch_only (codes "foo+")) ≡ codes "foo+")
     × (text_of (fetch_exclude (codes "+x")) ≡ codes "^+x") × (text_of (push_delete (codes "+x")) ≡ codes ":+x")
     × (text_of (fetch_and_update (codes "+a") (codes "b") false) ≡ codes "+a:b")
+    × (text_of (push_matching (codes "+a") (codes "b") false) ≡ codes "+a:b")
+    × (text_of (push_exclude (codes "+x")) ≡ codes "^+x") × (text_of (fetch_only []) ≡ [])
+    × (text_of (fetch_only (codes "^a")) ≡ codes "^a")
     × (text_of (push_all_matching true) ≡ codes "+:")
     × (printed (pushed Normal (Some (codes "main")) None) ≡ Some (codes "main:main"))
     × (printed (fetched Forced (codes "main") None) ≡ Some (codes "main"))
-pluses = (refl, refl, refl, refl, refl, refl, refl, refl)
+pluses = (refl, refl, refl, refl, refl, refl, refl, refl, refl, refl, refl, refl)
 
 -- what each meaning is for
 pub operations : (meant_for (push_exclude (codes "a")) ≡ Push) × (meant_for (fetch_exclude (codes "a")) ≡ Fetch) × (meant_for (push_delete (codes "a")) ≡ Push) × (meant_for (fetch_only (codes "a")) ≡ Fetch)
