@@ -56,6 +56,7 @@ pub mod MatchFacts
 pub mod OutcomeFacts
 pub mod ValidationFacts
 pub mod LawFacts
+pub mod FaultFacts
 pub mod ListsFacts
 pub mod CopyFacts
 pub mod GroupFacts
