@@ -65,3 +65,4 @@ pub mod OrderFacts
 pub mod PrefixFacts
 pub mod RefusalFacts
 pub mod ViewFacts
+pub mod ReasonFacts

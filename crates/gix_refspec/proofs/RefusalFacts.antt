@@ -17,7 +17,7 @@ use Rattle.gix_refspec.proofs.FormsBackLemmas.{some_once}
 use Rattle.gix_refspec.proofs.ManualFacts.{Lacks-tested, ReplacesStar-tested, full}
 use Rattle.gix_refspec.proofs.MatchFacts.{other_byte}
 
-normal_positive : Normal ≢ Negative
+pub normal_positive : Normal ≢ Negative
 normal_positive same = cc
 
 -- push `` is empty, and `+` is not
@@ -113,13 +113,13 @@ no_nowhere_lock e nowhere = full 98 (codes "*.lock") (some_once (codes "b*.lock"
 no_bad_name : Never (HasBadSource Fetch (codes "a") (Some (codes "b*.lock")))
 no_bad_name e is = name_not_bad (codes "a") (IsName-tested (codes "a") refl) e is.refusal
 
-replaces_star : ReplacesStar (codes "b*.lock") (codes "ba.lock")
+pub replaces_star : ReplacesStar (codes "b*.lock") (codes "ba.lock")
 replaces_star = ReplacesStar-tested (codes "b") (codes ".lock") refl refl
 
-locked : HasFault (codes "ba.lock") LockSuffix
+pub locked : HasFault (codes "ba.lock") LockSuffix
 locked = record { before = []; component = codes "ba.lock"; after = []; components = record { joined = refl; whole = (Lacks-tested slash (codes "ba.lock") refl, tt) }; fact = record { before = codes "ba"; here = refl } }
 
-bad_destination : HasBadDestination (Some (codes "b*.lock")) (ReferenceName LockSuffix)
+pub bad_destination : HasBadDestination (Some (codes "b*.lock")) (ReferenceName LockSuffix)
 bad_destination = record { word = codes "b*.lock"; is = refl; destination = full _ _; refusal = inr (codes "ba.lock", replaces_star, locked) }
 
 pub destination_before_balance : IsFirstReason Fetch Normal (codes "a") (Some (codes "b*.lock")) (ReferenceName LockSuffix)
