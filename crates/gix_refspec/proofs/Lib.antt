@@ -57,12 +57,14 @@ pub mod OutcomeFacts
 pub mod ValidationFacts
 pub mod LawFacts
 pub mod FaultFacts
+pub mod HitFacts
 pub mod ListsFacts
 pub mod CopyFacts
 pub mod GroupFacts
 pub mod MeaningFacts
 pub mod OrderFacts
 pub mod PrefixFacts
+pub mod SideFacts
 pub mod RefusalFacts
 pub mod ViewFacts
 pub mod ReasonFacts

@@ -79,19 +79,19 @@ abbrev pub tracked : ℕ → List ℕ → Mapped
 tracked item branch = record { item = Some item; source = name (codes "refs/heads/" ++ branch); destination = Some (codes "refs/remotes/origin/" ++ branch); spec = 0 }
 
 -- the names of what the other side has
-abbrev dev_ref : Ref
+abbrev pub dev_ref : Ref
 dev_ref = named (codes "refs/heads/dev-a")
 
-abbrev tag_ref : Ref
+abbrev pub tag_ref : Ref
 tag_ref = named (codes "refs/tags/v1")
 
-abbrev main_ref : Ref
+abbrev pub main_ref : Ref
 main_ref = named (codes "refs/heads/main")
 
-heads_cut : IsCut (codes "refs/heads/") [] (codes "refs/heads/*")
+pub heads_cut : IsCut (codes "refs/heads/") [] (codes "refs/heads/*")
 heads_cut = cut_at_end (codes "refs/heads/") refl
 
-origin_cut : IsCut (codes "refs/remotes/origin/") [] (codes "refs/remotes/origin/*")
+pub origin_cut : IsCut (codes "refs/remotes/origin/") [] (codes "refs/remotes/origin/*")
 origin_cut = cut_at_end (codes "refs/remotes/origin/") refl
 
 heads_below : Begins (codes "refs/") (codes "refs/heads/*")
@@ -105,18 +105,18 @@ no_id_negative : (k : ℕ) (r : Reading) → r.mode ≡ Negative → (m : Mapped
 no_id_negative k r negative m made = subst IsPositive negative made.positive
 
 -- the ends of a spec of two patterns, from left to right
-abbrev forward_ends : Ends
+abbrev pub forward_ends : Ends
 forward_ends = record { near = codes "refs/heads/*"; far = Some (codes "refs/remotes/origin/*") }
 
-are_forward_ends : AreForwardEnds every forward_ends
+pub are_forward_ends : AreForwardEnds every forward_ends
 are_forward_ends = record { positive = tt; near = refl; far = refl; no_object = λ bytes kind. kind.1 heads_below }
 
--- that the spec at place 0 takes what is below a folder, at a place
-abbrev hit_below : List ℕ → List ℕ → ℕ → List ℕ → Hit
-hit_below near far item branch = record { spec = 0; item = item; near = near ++ branch; far = Some (far ++ (branch ++ [])) }
+-- that the spec at a place takes what is below a folder, at a place
+abbrev hit_below : List ℕ → List ℕ → ℕ → ℕ → List ℕ → Hit
+hit_below near far spec item branch = record { spec = spec; item = item; near = near ++ branch; far = Some (far ++ (branch ++ [])) }
 
-takes_below : (near far : List ℕ) → IsCut near [] (near ++ codes "*") → IsCut far [] (far ++ codes "*") → (items : List Ref) (j : ℕ) (branch : List ℕ) → IsHit items (record { near = near ++ codes "*"; far = Some (far ++ codes "*") }) 0 j (named (near ++ branch)) (hit_below near far j branch)
-takes_below near far near_cut far_cut items j branch = record {
+takes_below : (near far : List ℕ) → IsCut near [] (near ++ codes "*") → IsCut far [] (far ++ codes "*") → (items : List Ref) (k j : ℕ) (branch : List ℕ) → IsHit items (record { near = near ++ codes "*"; far = Some (far ++ codes "*") }) k j (named (near ++ branch)) (hit_below near far k j branch)
+takes_below near far near_cut far_cut items k j branch = record {
   word = Some branch;
   takes = record { kind = pattern near []; of = near_cut; is = ap (λ (y : List ℕ). near ++ y) (sym (append-nil branch)) };
   far = (pattern far [], far_cut, refl);
@@ -126,14 +126,20 @@ takes_below near far near_cut far_cut items j branch = record {
 }
 
 -- each branch is taken
+abbrev pub hit_by : ℕ → ℕ → List ℕ → Hit
+hit_by spec item branch = hit_below (codes "refs/heads/") (codes "refs/remotes/origin/") spec item branch
+
+pub taken_by : (items : List Ref) (k j : ℕ) (branch : List ℕ) → IsHit items forward_ends k j (named (codes "refs/heads/" ++ branch)) (hit_by k j branch)
+taken_by items k j branch = takes_below (codes "refs/heads/") (codes "refs/remotes/origin/") heads_cut origin_cut items k j branch
+
 abbrev branch_hit : ℕ → List ℕ → Hit
-branch_hit item branch = hit_below (codes "refs/heads/") (codes "refs/remotes/origin/") item branch
+branch_hit item branch = hit_by 0 item branch
 
 takes_branch : (items : List Ref) (j : ℕ) (branch : List ℕ) → IsHit items forward_ends 0 j (named (codes "refs/heads/" ++ branch)) (branch_hit j branch)
-takes_branch items j branch = takes_below (codes "refs/heads/") (codes "refs/remotes/origin/") heads_cut origin_cut items j branch
+takes_branch items j branch = taken_by items 0 j branch
 
 -- and no tag
-takes_no_tag : (items : List Ref) (j : ℕ) (hit : Hit) → ¬ (IsHit items forward_ends 0 j tag_ref hit)
+pub takes_no_tag : (items : List Ref) (j : ℕ) (hit : Hit) → ¬ (IsHit items forward_ends 0 j tag_ref hit)
 takes_no_tag items j hit is =
     let prefix = of_pattern (codes "refs/heads/") [] heads_cut (record { below = record { after = codes "heads/"; here = refl }; further = other_length _ _ (λ same. omega (arith, same)); first = Lacks-tested bracket (codes "refs/heads/") refl; last = tt }) refl in
     let begins = prefix_begins (codes "refs/heads/*") (codes "refs/heads/") tag_ref is.word prefix (other_length _ _ (λ same. omega (arith, same))) is.takes in
@@ -143,12 +149,12 @@ forced_no_negative : Forced ≢ Negative
 forced_no_negative same = cc
 
 -- no spec of the group excludes a branch that doesn't begin so
-main_stays : ¬ (IsStartExcluded (every ∷ no_dev ∷ []) (name (codes "refs/heads/main")))
+pub main_stays : ¬ (IsStartExcluded (every ∷ no_dev ∷ []) (name (codes "refs/heads/main")))
 main_stays (inl by) = absurd (forced_no_negative by.negative)
 main_stays (inr (inl by)) = excludes_no_main (subst (λ (x : List ℕ). Excludes x (codes "refs/heads/main")) (sym (some_once (codes "refs/heads/dev-*") by.text by.source)) by.excludes)
 main_stays (inr (inr none)) = none
 
-dev_excluded : IsExcluded (every ∷ no_dev ∷ []) (codes "refs/heads/dev-a")
+pub dev_excluded : IsExcluded (every ∷ no_dev ∷ []) (codes "refs/heads/dev-a")
 dev_excluded = inr (inl (record { negative = refl; text = codes "refs/heads/dev-*"; source = refl; excludes = excludes_dev }))
 
 -- the bytes of a start
@@ -211,14 +217,14 @@ fetches_all_but_dev =
     only_dev (inr none) = none
 
 -- from right to left, over the tracking refs of the excluded branch and of the other one
-abbrev backward_ends : Ends
+abbrev pub backward_ends : Ends
 backward_ends = record { near = codes "refs/remotes/origin/*"; far = Some (codes "refs/heads/*") }
 
 abbrev back_hit : ℕ → List ℕ → Hit
-back_hit item branch = hit_below (codes "refs/remotes/origin/") (codes "refs/heads/") item branch
+back_hit item branch = hit_below (codes "refs/remotes/origin/") (codes "refs/heads/") 0 item branch
 
-takes_back : (items : List Ref) (j : ℕ) (branch : List ℕ) → IsHit items backward_ends 0 j (named (codes "refs/remotes/origin/" ++ branch)) (back_hit j branch)
-takes_back items j branch = takes_below (codes "refs/remotes/origin/") (codes "refs/heads/") origin_cut heads_cut items j branch
+pub takes_back : (items : List Ref) (j : ℕ) (branch : List ℕ) → IsHit items backward_ends 0 j (named (codes "refs/remotes/origin/" ++ branch)) (back_hit j branch)
+takes_back items j branch = takes_below (codes "refs/remotes/origin/") (codes "refs/heads/") origin_cut heads_cut items 0 j branch
 
 -- a spec with a source alone, which is a partial name
 abbrev pub short : Reading
@@ -320,13 +326,13 @@ pub ids_stay : ¬ (IsStartExcluded (fetched Negative (codes "a") None ∷ []) (i
 ids_stay = (λ none. none, inl (record { negative = refl; text = codes "a"; source = refl; excludes = the_name (Lacks-tested star (codes "a") refl) refl }))
 
 -- the blob of no bytes by its id, and a tag that it becomes
-abbrev blob : Reading
+abbrev pub blob : Reading
 blob = fetched Normal (codes "e69de29bb2d1d6434b8b29ae775ad8c2e48c5391") (Some (codes "refs/tags/blob"))
 
-abbrev blob_mapping : Mapped
+abbrev pub blob_mapping : Mapped
 blob_mapping = record { item = None; source = id empty_blob; destination = Some (codes "refs/tags/blob"); spec = 1 }
 
-below_tags : HasKind (codes "refs/tags/blob") (full_name (codes "refs/tags/blob"))
+pub below_tags : HasKind (codes "refs/tags/blob") (full_name (codes "refs/tags/blob"))
 below_tags = (refl, Lacks-tested star (codes "refs/tags/blob") refl, record { after = codes "tags/blob"; here = refl })
 
 pub blob_kind : HasKind (codes "e69de29bb2d1d6434b8b29ae775ad8c2e48c5391") (object empty_blob)
@@ -336,7 +342,7 @@ blob_kind = (
   IsIdText-empty_blob,
 )
 
-short_no_id : (bytes : List ℕ) → ¬ (IsIdText (codes "main") bytes)
+pub short_no_id : (bytes : List ℕ) → ¬ (IsIdText (codes "main") bytes)
 short_no_id bytes text = no_digits text.kind text.digits
   where
     no_digits : (kind : Kind) → 4 ≢ digits_of kind
