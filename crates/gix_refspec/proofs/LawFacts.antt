@@ -1,38 +1,42 @@
 -- The words that only laws cite, on each side of what they ask: which specs go both ways, which
 -- sources are covering, what a spec reads as again, and what a group expands to.
 use Rattle.std.proofs.Common.{◌≡◌, ◌≢◌, ◌<◌, ℕ, zero, suc, List, [], ◌∷◌, ◌++◌, Option, None, Some, codes, refl, sym, ap, ◌∙◌, subst, inl, inr, arith}
-use Rattle.std.specs.List.{Any}
+use Rattle.std.specs.List.{AllByRecursion, Any}
 use Rattle.gix_refspec.specs.declared.parsing.Operation.TheVariants.{Push, Fetch}
 use Rattle.gix_refspec.specs.Text.{Begins}
 use Rattle.gix_refspec.specs.Name.{HasStar}
 use Rattle.gix_refspec.specs.Bytes.{star, bracket, colon}
-use Rattle.gix_refspec.specs.Reading.{Normal, Forced, Reading}
+use Rattle.gix_refspec.specs.Reading.{Normal, Forced, Negative, Reading}
 use Rattle.gix_refspec.specs.Grammar.{AreParts, Reads, fetches, fetched, pushed}
 use Rattle.gix_refspec.specs.Side.{candidates, IsCandidate, Fits}
 use Rattle.gix_refspec.specs.Mappings.{name, id, Mapped, HasPair, AreApart}
 use Rattle.gix_refspec.specs.Hits.{AreKeptForward, AreKeptBackward, OneForward, OneBackward, KeptOnce}
 use Rattle.gix_refspec.specs.Match.{Ref, Matches}
-use Rattle.gix_refspec.specs.Validation.{ValidatedOnce, HaveOneSource, NeverMeet}
-use Rattle.gix_refspec.specs.Laws.{KeepsOperation, EqualTexts, NothingAgainst, ClonesExactly, OneWord, PrefixBegins, OnePrefix, Candidates, IdOrFault, OneLowerText, OneRefusal}
-use Rattle.gix_refspec.specs.Meaning.{printed, meaning_of}
+use Rattle.gix_refspec.specs.Validation.{ValidatedOnce, HaveOneSource, NeverMeet, ForwardFits, IndexesFit}
+use Rattle.gix_refspec.specs.Laws.{ReadsOnce, ReadsOrRefused, IsSameReason, SaysForOperation, IsPrintedBack, ReadsBack, EqualReadings, HasOneId, HasOneFault, HasCandidates, KeepsOperation, EqualTexts, NothingAgainst, ClonesExactly, OneWord, PrefixBegins, OnePrefix, Candidates, IdOrFault, OneLowerText, OneRefusal}
+use Rattle.gix_refspec.specs.Meaning.{push_delete, fetch_only, printed, meaning_of}
 use Rattle.gix_refspec.specs.PatternError.{IsPatternFault}
 use Rattle.gix_refspec.specs.declared.name.PatternError.{PatternError}
-use Rattle.gix_refspec.specs.Refusal.{PatternUnbalanced, NegativeEmpty, ReferenceName, IsRefused}
+use Rattle.gix_refspec.specs.declared.name.PatternError.TheVariants.{Name, Memory}
+use Rattle.gix_refspec.specs.Refusal.{Refusal, PatternUnbalanced, NegativeEmpty, ReferenceName, IsRefused}
 use Rattle.gix_refspec.specs.ObjectId.{IsIdText, IsLowerText, HasIdFault}
 use Rattle.gix_refspec.specs.declared.name.Error.{Error as NameError}
+use Rattle.gix_refspec.specs.declared.name.Error.TheVariants.{LockSuffix, RepeatedDot}
 use Rattle.gix_refspec.specs.declared.oid.Error.{Error as IdError}
+use Rattle.gix_refspec.specs.declared.oid.Error.TheVariants.{Length}
 use Rattle.gix_refspec.specs.Prefix.{IsPrefix, Expands, of_head, of_name, of_pattern, to_prefix, to_candidates}
-use Rattle.gix_refspec.specs.MatchLaws.{Transpose, Cover, CoverTogether, FetchGroupReadsBack, IsCoveredBy, HasName, IsSourceAmong, IsDestinationAmong, GoesBothWays, ReadsAgainAs, IsCovering, by_prefix, by_candidates, HasCoveringSource, BeginsWithOne, AreExpansions}
+use Rattle.gix_refspec.specs.MatchLaws.{MapAlike, AreReadAgain, EachSource, Transpose, Cover, CoverTogether, FetchGroupReadsBack, IsCoveredBy, HasName, IsSourceAmong, IsDestinationAmong, GoesBothWays, ReadsAgainAs, IsCovering, by_prefix, by_candidates, HasCoveringSource, BeginsWithOne, AreExpansions}
 use Rattle.gix_refspec.proofs.TextLemmas.{Lacks-here, Lacks-Holds}
 use Rattle.gix_refspec.proofs.TestedLemmas.{IsName-tested}
 use Rattle.gix_refspec.proofs.MatchLemmas.{cut_once, outside_none}
 use Rattle.gix_refspec.proofs.ReadOnceLemmas.{reads_once}
 use Rattle.gix_refspec.proofs.FormsBackLemmas.{some_once}
 use Rattle.gix_refspec.proofs.ManualFacts.{Lacks-tested, IsPattern-tested, other_length, none_some, named, no_sign}
+use Rattle.gix_refspec.proofs.FaultFacts.{begins_not}
 use Rattle.gix_refspec.proofs.UnreadFacts.{unbalanced_fetches}
-use Rattle.gix_refspec.proofs.ObjectIdFacts.{empty_blob, IsIdText-empty_blob, lower_of-empty_blob}
+use Rattle.gix_refspec.proofs.ObjectIdFacts.{empty_blob, IsIdText-empty_blob, lower_of-empty_blob, HasIdFault-length}
 use Rattle.gix_refspec.proofs.ValidationFacts.{both_to_x, foo_fix, validated}
-use Rattle.gix_refspec.proofs.MatchFacts.{tracked, fetches_all_but_dev, tracks_all_but_dev, tracks_nothing, tag_to_x, tag_to_foo, tag_alone, cut_at_end, every, no_dev, short, short_kind, other_byte}
+use Rattle.gix_refspec.proofs.MatchFacts.{bytes_in, tracked, fetches_all_but_dev, tracks_all_but_dev, tracks_nothing, tag_to_x, tag_to_foo, tag_alone, cut_at_end, every, no_dev, short, short_kind, other_byte}
 
 -- ---- both directions
 
@@ -110,7 +114,7 @@ no_push_again s d q again = push_is_none again.fetch
 
 -- ---- what covers sources
 
-below_heads : IsPrefix (codes "refs/heads/*") (codes "refs/heads/")
+pub below_heads : IsPrefix (codes "refs/heads/*") (codes "refs/heads/")
 below_heads = of_pattern (codes "refs/heads/") [] (cut_at_end (codes "refs/heads/") refl) (record {
   below = record { after = codes "heads/"; here = refl };
   further = other_length _ _ (λ size. omega (arith, size));
@@ -293,3 +297,124 @@ nothing_wrong law e fault = let long : 256 < 1 = (law (IsPattern-tested [] [] re
 -- a clone always comes, and is its value
 pub cloned : {T : Type 0} (is_clone : T → T → Type 0) (is_infallible : T → Type 0) → ClonesExactly is_clone is_infallible → (x y : T) → is_infallible x × (is_clone x y → y ≡ x)
 cloned is_clone is_infallible law x y = ((law x).0, (law x).1 y)
+
+-- ---- readings and refusals
+
+-- a text that reads has its reading and no other, and isn't refused
+pub read_once : ReadsOnce Fetch (codes "main") → Reads Fetch (codes "main") short → (r : Reading) → Reads Fetch (codes "main") r → r ≡ short
+read_once law reads r other = law.only r other ∙ sym (law.only short reads)
+
+pub read_or_refused : ReadsOrRefused Fetch (codes "main") → ((r : Reading) → ¬ (Reads Fetch (codes "main") r)) → (e : Refusal) × IsRefused Fetch (codes "main") e
+read_or_refused (inl once) unread = absurd (unread once.reading once.reads)
+read_or_refused (inr refused) unread = refused
+
+pub never_both : Reads Fetch (codes "main") short → (e : Refusal) → ¬ (IsRefused Fetch (codes "main") e)
+never_both reads e refused = refused.unread short reads
+
+-- faults of a name are one reason, but a fault and another reason, or two others, are two
+pub same_reasons : IsSameReason (ReferenceName LockSuffix) (ReferenceName RepeatedDot) × IsSameReason NegativeEmpty NegativeEmpty × ¬ (IsSameReason NegativeEmpty (ReferenceName LockSuffix)) × ¬ (IsSameReason (ReferenceName LockSuffix) PatternUnbalanced)
+same_reasons = (inr (LockSuffix, RepeatedDot, refl, refl), inl refl, empty_no_name, name_no_balance)
+  where
+    empty_no_name : ¬ (IsSameReason NegativeEmpty (ReferenceName LockSuffix))
+    empty_no_name (inl same) = cc
+    empty_no_name (inr (a, b, first, second)) = cc
+
+    name_no_balance : ¬ (IsSameReason (ReferenceName LockSuffix) PatternUnbalanced)
+    name_no_balance (inl same) = cc
+    name_no_balance (inr (a, b, first, second)) = cc
+
+-- what a push says is for a push
+pub said_for : (r : Reading) → SaysForOperation r → (d : List ℕ) → meaning_of r ≡ Some (push_delete d) → r.operation ≡ Push
+said_for r law d means = sym (law (push_delete d) means)
+
+-- the text of a forced fetch without a destination reads as what means the same, and as nothing else
+pub read_back_once : ReadsBack Fetch (codes "+main") → Reads Fetch (codes "+main") (fetched Forced (codes "main") None) → (q : Reading) → Reads Fetch (codes "main") q → meaning_of q ≡ Some (fetch_only (codes "main"))
+read_back_once law reads q again =
+    let back = law (fetched Forced (codes "main") None) reads in
+    let text = some_once (codes "main") back.text back.is in
+    ap meaning_of (back.again.only q (subst (λ (x : List ℕ). Reads Fetch x q) text again)) ∙ back.same
+
+pub reads_its_text : IsPrintedBack Fetch (fetched Forced (codes "main") None) → (q : Reading) × Reads Fetch (codes "main") q
+reads_its_text back = (back.again.reading, subst (λ (x : List ℕ). Reads Fetch x back.again.reading) (sym (some_once (codes "main") back.text back.is)) back.again.reads)
+
+-- readings with one text mean the same, where they are for one operation; a fetch and a push never do
+pub equal_by_texts : (r q : Reading) → EqualReadings r q → (r.operation ≡ q.operation → printed r ≡ printed q → meaning_of r ≡ meaning_of q) × (meaning_of r ≡ meaning_of q → (r.operation ≡ q.operation) × (printed r ≡ printed q))
+equal_by_texts r q law = ((λ operations texts. law.1 (operations, texts)), law.0)
+
+pub no_equal_operations : EqualReadings (fetched Negative (codes "a") None) (pushed Negative (Some (codes "a")) None) → meaning_of (fetched Negative (codes "a") None) ≢ meaning_of (pushed Negative (Some (codes "a")) None)
+no_equal_operations law same = push_is_none (sym (law.0 same).0)
+
+-- ---- ids and patterns
+
+-- a text of another length has one fault and no id
+pub one_length : IdOrFault (codes "e69de2") → ((e : IdError) → HasIdFault (codes "e69de2") e → e ≡ Length 6) × ((i : List ℕ) → ¬ (IsIdText (codes "e69de2") i))
+one_length (inl one) = absurd (one.sound (Length 6) HasIdFault-length.0)
+one_length (inr fault) = ((λ e has. fault.only e has ∙ sym (fault.only (Length 6) HasIdFault-length.0)), fault.unread)
+
+-- one of both is there
+pub id_there : HasOneId (codes "e69de29bb2d1d6434b8b29ae775ad8c2e48c5391") → (i : List ℕ) × IsIdText (codes "e69de29bb2d1d6434b8b29ae775ad8c2e48c5391") i
+id_there one = (one.id, one.text)
+
+pub fault_there : HasOneFault (codes "e69de2") → (e : IdError) × HasIdFault (codes "e69de2") e
+fault_there one = (one.fault, one.has)
+
+pub lower_there : OneLowerText empty_blob → IsLowerText (codes "e69de29bb2d1d6434b8b29ae775ad8c2e48c5391") empty_blob
+lower_there law = subst (λ (t : List ℕ). IsLowerText t empty_blob) lower_of-empty_blob law.lower
+
+-- a longer pattern has no fault, but may want memory
+pub no_fault_of_long : (x : List ℕ) → NothingAgainst x → IsPattern x → (fault : NameError) → ¬ (IsPatternFault (Name fault) x)
+no_fault_of_long x law pattern fault has = let same : Name fault ≡ Memory = (law pattern (Name fault) has).0 in cc
+
+-- each ref that a partial name matches is a candidate, and it has both or neither
+pub matched_asked : HasCandidates (codes "main") → (r : Ref) (word : Option (List ℕ)) → Matches (codes "main") r word → IsCandidate (codes "main") r.name
+matched_asked law r word matches = (law.matches r).0 (word, matches)
+
+-- ---- groups
+
+-- groups of different lengths, or in another order, aren't read again
+pub read_again : IsName (codes "main") → AreReadAgain (fetched Forced (codes "main") None ∷ short ∷ []) (short ∷ short ∷ []) × ¬ (AreReadAgain (short ∷ []) []) × ¬ (AreReadAgain [] (short ∷ [])) × ¬ (AreReadAgain (pushed Normal None None ∷ []) (short ∷ []))
+read_again is_name = ((reads_unforced is_name, (reads_itself, tt)), (λ none. none), (λ none. none), λ again. no_push_again None None short again.0)
+  where
+    reads_itself : ReadsAgainAs short short
+    reads_itself = let again = reads_unforced is_name in record { fetch = refl; text = codes "main"; is = refl; reads = subst (λ (x : List ℕ). Reads Fetch x short) (sym (some_once (codes "main") again.text again.is)) again.reads }
+
+-- groups map alike in both directions, each as the other does
+pub all_alike : (g h : List Reading) (items : List Ref) → MapAlike g h items → (kept : List Mapped) → (AreKeptForward h items kept → AreKeptForward g items kept) × (AreKeptBackward g items kept → AreKeptBackward h items kept)
+all_alike g h items alike kept = ((alike.forward kept).1, (alike.backward kept).0)
+
+-- what holds of each source holds of the branch, and there is no mapping beside it
+pub each_source : (P : List ℕ → Type 0) → EachSource (every ∷ no_dev ∷ []) remote_refs P → P (codes "refs/heads/main")
+each_source P each = (each (tracked 2 (codes "main") ∷ []) fetches_all_but_dev).0 (codes "refs/heads/main") refl
+
+pub no_tag_source : OneForward (every ∷ no_dev ∷ []) remote_refs → EachSource (every ∷ no_dev ∷ []) remote_refs (λ n. n ≡ codes "refs/heads/main")
+no_tag_source law kept are = subst (AllByRecursion (λ m. (n : List ℕ) → m.source ≡ name n → n ≡ codes "refs/heads/main")) (sym (law kept (tracked 2 (codes "main") ∷ []) are fetches_all_but_dev)) ((λ n is. sym (ap bytes_in is)), tt)
+
+-- a name outside what a spec expands to isn't covered by it
+pub not_covered : OnePrefix (codes "refs/heads/*") → ¬ (IsCoveredBy (codes "refs/tags/v1") every) × ¬ (IsCoveredBy (codes "refs/heads/dev-a") no_dev)
+not_covered law = (by_every, by_none)
+  where
+    outside : ¬ (BeginsWithOne (codes "refs/heads/" ∷ []) (codes "refs/tags/v1"))
+    outside (zero, entry, below, is, begins) = begins_not (codes "refs/heads/") (codes "refs/tags/v1") refl (subst (λ (x : List ℕ). Begins x (codes "refs/tags/v1")) (sym is) begins)
+    outside (suc k, entry, below, is, begins) = absurd (omega (arith, below))
+
+    by_every : ¬ (IsCoveredBy (codes "refs/tags/v1") every)
+    by_every covers = elim covers.expansion [
+      | inl (x, asked, expands) ↦
+          let of_source = subst (λ (y : List ℕ). Expands y covers.entries) (sym (some_once (codes "refs/heads/*") x asked.side)) expands in
+          let same = law.expanded covers.entries (codes "refs/heads/" ∷ []) of_source (to_prefix (codes "refs/heads/") below_heads refl) in
+          outside (subst (λ (l : List (List ℕ)). BeginsWithOne l (codes "refs/tags/v1")) same covers.one)
+      | inr (none, same) ↦ none (codes "refs/heads/*") (record { positive = tt; side = refl })
+    ]
+
+    no_entry : ¬ (BeginsWithOne [] (codes "refs/heads/dev-a"))
+    no_entry (k, entry, below, is, begins) = omega (arith, below)
+
+    by_none : ¬ (IsCoveredBy (codes "refs/heads/dev-a") no_dev)
+    by_none covers = elim covers.expansion [
+      | inl (x, asked, expands) ↦ asked.positive
+      | inr (none, same) ↦ no_entry (subst (λ (l : List (List ℕ)). BeginsWithOne l (codes "refs/heads/dev-a")) same covers.one)
+    ]
+
+-- the spec of the branch has a place in its group
+pub fits : ForwardFits (every ∷ no_dev ∷ []) remote_refs → IndexesFit (every ∷ no_dev ∷ []) (tracked 2 (codes "main") ∷ [])
+fits law = law (tracked 2 (codes "main") ∷ []) fetches_all_but_dev

@@ -1,6 +1,6 @@
 -- The words on validation at mappings to one destination and to others: which conflicts, survivors
 -- and fixes there are, and which are none.
-use Rattle.std.proofs.Common.{◌≡◌, ◌≢◌, ◌⊎◌, ℕ, suc, ◌<◌, List, [], ◌∷◌, ◌++◌, None, Some, length, codes, refl, sym, ap, ◌∙◌, subst, inl, inr, arith}
+use Rattle.std.proofs.Common.{◌≡◌, ◌≢◌, ◌⊎◌, ℕ, suc, ◌<◌, List, [], ◌∷◌, ◌++◌, Option, None, Some, option_map, length, map, codes, refl, sym, ap, ◌∙◌, subst, inl, inr, arith}
 use Rattle.std.specs.List.{Contains}
 use Rattle.std.specs.List.Sorted.{IsStrictlySortedBy}
 use Rattle.std.specs.Ordering.{nat_cmp}
@@ -8,9 +8,11 @@ use Rattle.std.specs.Cmp.Lexicographic.{slice_cmp}
 use Rattle.std.specs.declared.cmp.Ordering.TheVariants.{Less, Equal, Greater}
 use Rattle.gix_refspec.specs.Reading.{Normal, Forced, Reading}
 use Rattle.gix_refspec.specs.Grammar.{fetched}
+use Rattle.gix_refspec.specs.Meaning.{printed}
 use Rattle.gix_refspec.specs.Mappings.{name, Mapped, HasPair}
-use Rattle.gix_refspec.specs.Validation.{IndexesFit, IsContested, IsFirstTo, Conflict, IsConflict, AreConflicts, IsWritable, Removed, IsValidated, HaveOneSource, NeverMeet}
+use Rattle.gix_refspec.specs.Validation.{IndexesFit, IsContested, IsFirstTo, IsTextAt, Conflict, IsConflict, AreConflicts, IsWritable, Survives, AreSurvivors, Removed, IsFix, AreFixes, IsValidated, HaveOneSource, MeetAt, NeverMeet}
 use Rattle.gix_refspec.proofs.ConflictLemmas.{no_conflicts}
+use Rattle.gix_refspec.proofs.JoinLemmas.{nothing_made}
 use Rattle.gix_refspec.proofs.FormsBackLemmas.{some_once}
 use Rattle.gix_refspec.proofs.ManualFacts.{other_length, none_some}
 use Rattle.gix_refspec.proofs.MatchFacts.{other_byte, of_element, bytes_in, mapping, tag_to_x, branch_to_x, tag_again, tag_to_foo, tag_alone, pairs}
@@ -23,7 +25,7 @@ abbrev branch_to_y : Mapped
 branch_to_y = mapping 3 (codes "refs/heads/b") (Some (codes "refs/x/b")) 1
 
 -- two sources of one destination, the first of which comes twice, and another destination
-abbrev meeting : List Mapped
+abbrev pub meeting : List Mapped
 meeting = branch_to_y ∷ tag_to_x ∷ branch_to_x ∷ tag_again ∷ []
 
 -- the sources are in the order of the mappings, each once, with the canonical texts of their specs
@@ -226,4 +228,68 @@ meet = (
     ),
   ),
   λ never. never.0.1.0 (codes "refs/x/a", refl, refl),
+)
+
+-- ---- what is left out of a list, or put in
+
+-- the text of a spec is that of its place, and there is none behind the last one
+pub texts_at : IsTextAt both_to_x 0 (codes "refs/tags/*:refs/x/*") × IsTextAt (fetched Forced (codes "main") None ∷ []) 0 (codes "main") × ¬ (IsTextAt both_to_x 1 (codes "refs/tags/*:refs/x/*")) × ((text : List ℕ) → ¬ (IsTextAt both_to_x 2 text))
+texts_at = (
+  (fetched Normal (codes "refs/tags/*") (Some (codes "refs/x/*")), refl, refl),
+  (fetched Forced (codes "main") None, refl, refl),
+  at_one,
+  λ text is. none_reading is.0 is.1,
+)
+  where
+    none_reading : (r : Reading) → Path (Option Reading) None (Some r) → ⊥
+    none_reading r same = cc
+
+    at_one : ¬ (IsTextAt both_to_x 1 (codes "refs/tags/*:refs/x/*"))
+    at_one (r, is, prints) =
+        let r_is : fetched Forced (codes "refs/heads/*") (Some (codes "refs/x/*")) ≡ r = cc in
+        other_length _ _ (λ size. omega (arith, size)) (some_once (codes "+refs/heads/*:refs/x/*") (codes "refs/tags/*:refs/x/*") (ap printed r_is ∙ prints))
+
+-- a contested destination is a conflict, so there is no validation, and no list without it
+pub no_less : ¬ (AreConflicts both_to_x meeting []) × ((rest : List Mapped) (fixes : List Removed) → ¬ (IsValidated both_to_x meeting rest fixes))
+unfolding at_x
+no_less = ((λ are. none_in (are.every (codes "refs/x/a") at_x)), λ rest fixes is. none_in (is.free.every (codes "refs/x/a") at_x))
+  where
+    none_in : ¬ (Contains (map (λ (c : Conflict). c.destination) []) (codes "refs/x/a"))
+    none_in (k, below, is) = omega (arith, below)
+
+-- a mapping survives without a destination, and with one that can be written
+pub survivors : Survives tag_alone × Survives tag_to_x × ¬ (Survives tag_to_foo) × ¬ (AreSurvivors (tag_to_foo ∷ []) (tag_to_foo ∷ [])) × ¬ (AreSurvivors (tag_alone ∷ []) [])
+survivors = (
+  tt,
+  inl (record { after = codes "x/a"; here = refl }),
+  writable.4,
+  kept,
+  λ are. nothing_made (λ k m made. (made ≡ m) × Survives m) 0 [] tag_alone [] tag_alone are (refl, tt),
+)
+  where
+    kept : ¬ (AreSurvivors (tag_to_foo ∷ []) (tag_to_foo ∷ []))
+    kept (None, rest, none, empty, same) = let size : 1 ≡ 0 = ap length (same ∙ empty) in omega (arith, size)
+    kept (Some m, rest, made, empty, same) = writable.4 made.1
+
+-- a fix is for a destination that can't be written, with the reading of its spec
+pub fixes : IsFix both_to_x tag_to_foo foo_fix × ((fix : Removed) → ¬ (IsFix both_to_x tag_to_x fix) × ¬ (IsFix both_to_x tag_alone fix)) × ¬ (IsFix both_to_x tag_to_foo (record { destination = codes "foo"; spec = fetched Normal (codes "refs/tags/*") (Some (codes "refs/x/*")) })) × ¬ (AreFixes both_to_x (tag_to_foo ∷ []) [])
+fixes = (
+  foo,
+  (λ fix. ((λ is. is.unwritable (subst IsWritable (some_once (codes "refs/x/a") fix.destination is.goes) (inl (record { after = codes "x/a"; here = refl })))), λ is. none_some fix.destination is.goes)),
+  (λ is. forced_normal is.spec),
+  λ are. nothing_made (λ k m fix. IsFix both_to_x m fix) 0 [] tag_to_foo [] foo_fix are foo,
+)
+  where
+    foo : IsFix both_to_x tag_to_foo foo_fix
+    foo = record { goes = refl; unwritable = writable.4; spec = refl }
+
+    forced_normal : Path (Option Reading) (Some (fetched Forced (codes "refs/heads/*") (Some (codes "refs/x/*")))) (Some (fetched Normal (codes "refs/tags/*") (Some (codes "refs/x/*")))) → ⊥
+    forced_normal same = let modes : Some Forced ≡ Some Normal = ap (λ (o : Option Reading). option_map (λ (r : Reading). r.mode) o) same in cc
+
+-- mappings meet at a destination that both have
+pub meetings : MeetAt tag_to_x branch_to_x × ¬ (MeetAt tag_to_x tag_to_foo) × ¬ (MeetAt tag_alone tag_alone)
+meetings = (
+  (codes "refs/x/a", refl, refl),
+  (λ at. other_length _ _ (λ size. omega (arith, size)) (some_once (codes "refs/x/a") (codes "foo") (at.1 ∙ sym at.2))),
+  λ at. none_some at.0 at.1,
 )
