@@ -13,7 +13,6 @@ use Rattle.gix_refspec.specs.declared.match_group.types.NameRef.{NameRef}
 use Rattle.gix_refspec.specs.declared.match_group.types.NameRef.TheVariants.{Borrowed, Owned}
 use Rattle.gix_refspec.specs.declared.match_group.types.SourceRef.{SourceRef}
 use Rattle.gix_refspec.specs.declared.match_group.types.SourceRef.TheVariants.{FullName, ObjectId as IdSource}
-use Rattle.gix_refspec.specs.declared.match_group.types.match_lhs.Outcome.{Outcome}
 use Rattle.gix_refspec.specs.declared.match_group.validate.Error.{Error}
 use Rattle.gix_refspec.specs.declared.match_group.validate.Fix.{Fix}
 use Rattle.gix_refspec.specs.declared.match_group.validate.Fix.TheVariants.{MappingWithPartialDestinationRemoved}
@@ -33,7 +32,7 @@ use Rattle.gix_refspec.specs.Spec.{reading_of}
 use Rattle.gix_refspec.specs.Mappings.{name, id}
 use Rattle.gix_refspec.specs.Validation.{Conflict}
 use Rattle.gix_refspec.specs.Group.{name_bytes, start_of, mapped_of, ref_of, readings_of, is_for, is_same_operation, IsGathered, shown_source}
-use Rattle.gix_refspec.specs.Issue.{mappings_of, conflict_of, conflicts_of, removed_of, IsSameFix, IfConflicts, IfMemory}
+use Rattle.gix_refspec.specs.Issue.{ForwardOutcome, mappings_of, conflict_of, conflicts_of, removed_of, IsSameFix, IfConflicts, IfMemory}
 use Rattle.gix_refspec.proofs.MatchFacts.{mapping}
 use Rattle.gix_refspec.proofs.ObjectIdFacts.{empty_blob, lower_of-empty_blob}
 use Rattle.gix_refspec.proofs.ViewFacts.{lent, Accepted, spec_of, owned_of, blob_id}
@@ -85,7 +84,7 @@ pub mappings_seen : (mapped_of branch ≡ mapping 3 (codes "refs/heads/a") (Some
 mappings_seen = (refl, refl)
 
 -- those of an outcome are seen in order
-pub outcome_seen : (o : Outcome) → o.mappings.items ≡ branch ∷ object ∷ [] → mappings_of o ≡ mapping 3 (codes "refs/heads/a") (Some (codes "refs/x/a")) 5 ∷ record { item = None; source = id empty_blob; destination = None; spec = 1 } ∷ []
+pub outcome_seen : (o : ForwardOutcome) → o.mappings.items ≡ branch ∷ object ∷ [] → mappings_of o ≡ mapping 3 (codes "refs/heads/a") (Some (codes "refs/x/a")) 5 ∷ record { item = None; source = id empty_blob; destination = None; spec = 1 } ∷ []
 outcome_seen o are = ap (map mapped_of) are
 
 -- an operation is the same as itself alone
@@ -147,12 +146,12 @@ pub conflicts_seen : (e : Error) (i j : Issue) → e.issues.items ≡ i ∷ j �
 conflicts_seen e i j are = ap (map conflict_of) are
 
 -- a claim about conflicts is one about the error's, and a claim about the outcome one about what is handed back
-pub claims : (e : Error) (o : Outcome) (P : List Conflict → Type 0) (Q : Outcome → Type 0)
+pub claims : (e : Error) (o : ForwardOutcome) (P : List Conflict → Type 0) (Q : ForwardOutcome → Type 0)
     → (IfConflicts (Conflicts e) P → P (conflicts_of e)) × (P (conflicts_of e) → IfConflicts (Conflicts e) P) × (IfMemory (Memory o) Q → Q o) × (Q o → IfMemory (Memory o) Q)
 claims e o P Q = ((λ is. is), (λ is. is), (λ is. is), λ is. is)
 
 -- nothing is claimed where the other is the reason
-pub no_claims : (e : Error) (o : Outcome) → IfConflicts (Memory o) (λ conflicts. ⊥) × IfMemory (Conflicts e) (λ outcome. ⊥)
+pub no_claims : (e : Error) (o : ForwardOutcome) → IfConflicts (Memory o) (λ conflicts. ⊥) × IfMemory (Conflicts e) (λ outcome. ⊥)
 no_claims e o = (tt, tt)
 
 -- ---- fixes

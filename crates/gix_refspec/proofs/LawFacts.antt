@@ -4,7 +4,7 @@ use Rattle.std.proofs.Common.{◌≡◌, ◌≢◌, ◌<◌, ℕ, zero, suc, Lis
 use Rattle.std.specs.List.{AllByRecursion, Any}
 use Rattle.gix_refspec.specs.declared.parsing.Operation.TheVariants.{Push, Fetch}
 use Rattle.gix_refspec.specs.Text.{Begins}
-use Rattle.gix_refspec.specs.Name.{HasStar}
+use Rattle.gix_refspec.specs.Name.{HasStar, IsPattern}
 use Rattle.gix_refspec.specs.Bytes.{star, bracket, colon}
 use Rattle.gix_refspec.specs.Reading.{Normal, Forced, Negative, Reading}
 use Rattle.gix_refspec.specs.Grammar.{AreParts, Reads, fetches, fetched, pushed}
@@ -372,11 +372,11 @@ matched_asked law r word matches = (law.matches r).0 (word, matches)
 -- ---- groups
 
 -- groups of different lengths, or in another order, aren't read again
-pub read_again : IsName (codes "main") → AreReadAgain (fetched Forced (codes "main") None ∷ short ∷ []) (short ∷ short ∷ []) × ¬ (AreReadAgain (short ∷ []) []) × ¬ (AreReadAgain [] (short ∷ [])) × ¬ (AreReadAgain (pushed Normal None None ∷ []) (short ∷ []))
-read_again is_name = ((reads_unforced is_name, (reads_itself, tt)), (λ none. none), (λ none. none), λ again. no_push_again None None short again.0)
+pub read_again : AreReadAgain (fetched Forced (codes "main") None ∷ short ∷ []) (short ∷ short ∷ []) × ¬ (AreReadAgain (short ∷ []) []) × ¬ (AreReadAgain [] (short ∷ [])) × ¬ (AreReadAgain (pushed Normal None None ∷ []) (short ∷ []))
+read_again = ((reads_unforced, (reads_itself, tt)), (λ none. none), (λ none. none), λ again. no_push_again None None short again.0)
   where
     reads_itself : ReadsAgainAs short short
-    reads_itself = let again = reads_unforced is_name in record { fetch = refl; text = codes "main"; is = refl; reads = subst (λ (x : List ℕ). Reads Fetch x short) (sym (some_once (codes "main") again.text again.is)) again.reads }
+    reads_itself = let again = reads_unforced in record { fetch = refl; text = codes "main"; is = refl; reads = subst (λ (x : List ℕ). Reads Fetch x short) (sym (some_once (codes "main") again.text again.is)) again.reads }
 
 -- groups map alike in both directions, each as the other does
 pub all_alike : (g h : List Reading) (items : List Ref) → MapAlike g h items → (kept : List Mapped) → (AreKeptForward h items kept → AreKeptForward g items kept) × (AreKeptBackward g items kept → AreKeptBackward h items kept)
