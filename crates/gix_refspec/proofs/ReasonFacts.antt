@@ -7,9 +7,11 @@ use Rattle.std.proofs.lemmas.List.{length-replicate}
 use Rattle.std.proofs.lemmas.List.Sums.{AllPass-from_list_all}
 use Rattle.gix_refspec.specs.declared.name.Error.{Error}
 use Rattle.gix_refspec.specs.declared.name.Error.TheVariants.{LockSuffix, RepeatedDot, Asterisk, Empty as NoName}
+use Rattle.gix_refspec.specs.declared.name.PatternError.TheVariants.{Name}
 use Rattle.gix_refspec.specs.declared.parsing.Operation.{Operation}
 use Rattle.gix_refspec.specs.declared.parsing.Operation.TheVariants.{Push, Fetch}
-use Rattle.gix_refspec.specs.Name.{IsName, HasStar, HasFault, HasSeveralStars, HasOneStar, IsCut}
+use Rattle.gix_refspec.specs.Name.{IsName, HasStar, HasFault, HasOneStar, IsCut}
+use Rattle.gix_refspec.specs.PatternError.{IsPatternFault}
 use Rattle.gix_refspec.specs.Bytes.{star, letter}
 use Rattle.gix_refspec.specs.Reading.{Normal, Forced, Negative}
 use Rattle.gix_refspec.specs.Grammar.{LooksLikeObjectHash}
@@ -47,6 +49,10 @@ bad_patterns = (
   (λ bad. Lacks-Holds star (codes "b.lock") (Lacks-tested star (codes "b.lock") refl) (HasStar-replaced (codes "b.lock") bad.0 bad.1)),
   λ none. none,
 )
+
+-- and a look at a pattern finds the same
+pub pattern_faults : IsPatternFault (Name LockSuffix) (codes "b*.lock") × ¬ (IsPatternFault (Name Asterisk) (codes "b*.lock")) × ¬ (IsPatternFault (Name LockSuffix) (codes "b.lock"))
+pattern_faults = (bad_patterns.0, bad_patterns.1, bad_patterns.3)
 
 dots_bad : IsBadName (codes "a..b") (ReferenceName RepeatedDot)
 dots_bad = (Lacks-tested star (codes "a..b") refl, record { before = codes "a"; after = codes "b"; here = refl })
