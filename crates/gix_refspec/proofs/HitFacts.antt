@@ -1,10 +1,10 @@
 -- The words on hits and mappings on the other side of their border: which specs have no such ends, which
 -- items no hit, and which mappings no place.
-use Rattle.std.proofs.Common.{◌≡◌, ◌≢◌, ℕ, true, is_some, List, [], ◌∷◌, ◌++◌, Option, None, Some, codes, refl, sym, subst, inl, inr, arith}
+use Rattle.std.proofs.Common.{◌≡◌, ◌≢◌, ℕ, true, is_some, List, [], ◌∷◌, Option, None, Some, codes, refl, sym, subst, inl, inr, arith}
 use Rattle.std.proofs.lemmas.Bool.{false≢true}
 use Rattle.gix_refspec.specs.Bytes.{star}
 use Rattle.gix_refspec.specs.ObjectId.{IsIdText}
-use Rattle.gix_refspec.specs.Reading.{Normal, Forced, Negative, Reading}
+use Rattle.gix_refspec.specs.Reading.{Normal, Forced, Negative}
 use Rattle.gix_refspec.specs.Grammar.{fetched, pushed}
 use Rattle.gix_refspec.specs.Side.{pattern, full_name, object, HasKind}
 use Rattle.gix_refspec.specs.Match.{Ref, Matches}

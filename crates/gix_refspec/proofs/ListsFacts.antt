@@ -1,10 +1,9 @@
 -- The words on lists that are made element by element, at relations of numbers: nothing is left out, added
 -- or turned round, and each element has its place.
-use Rattle.std.proofs.Common.{◌≡◌, ◌≢◌, ℕ, List, [], ◌∷◌, None, Some, refl, sym, ◌∙◌, arith}
+use Rattle.std.proofs.Common.{◌≡◌, ℕ, List, [], ◌∷◌, None, Some, refl, sym, ◌∙◌, arith}
 use Rattle.gix_refspec.specs.Lists.{MakesOf, IsMadeFrom, IsJoinedFrom}
 use Rattle.gix_refspec.proofs.JoinLemmas.{one_joined}
 use Rattle.gix_refspec.proofs.ListsLemmas.{made_once}
-use Rattle.gix_refspec.proofs.MatchFacts.{other_byte}
 
 -- of the element 5 its place is made, and nothing of another element
 pub record PlaceOfFive (k x y : ℕ) : Type 0 where

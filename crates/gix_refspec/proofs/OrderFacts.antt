@@ -1,6 +1,6 @@
 -- The words on order and hash at pairs of instructions that differ in one field, and at what is fed to a
 -- hasher.
-use Rattle.std.proofs.Common.{◌≡◌, ℕ, true, false, [], ◌∷◌, ◌++◌, None, Some, codes, refl}
+use Rattle.std.proofs.Common.{◌≡◌, ℕ, true, false, [], ◌++◌, None, Some, codes, refl}
 use Rattle.std.specs.declared.cmp.Ordering.TheVariants.{Less, Equal, Greater}
 use Rattle.std.specs.Ordering.{nat_cmp}
 use Rattle.std.specs.Cmp.Lexicographic.{slice_cmp}

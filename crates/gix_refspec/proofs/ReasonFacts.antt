@@ -5,7 +5,6 @@ use Rattle.std.specs.Char.{is_ascii_hexdigit}
 use Rattle.std.proofs.lemmas.Bool.{false≢true}
 use Rattle.std.proofs.lemmas.List.{length-replicate}
 use Rattle.std.proofs.lemmas.List.Sums.{AllPass-from_list_all}
-use Rattle.gix_refspec.specs.declared.name.Error.{Error}
 use Rattle.gix_refspec.specs.declared.name.Error.TheVariants.{LockSuffix, RepeatedDot, Asterisk, Empty as NoName}
 use Rattle.gix_refspec.specs.declared.name.PatternError.TheVariants.{Name}
 use Rattle.gix_refspec.specs.declared.parsing.Operation.{Operation}
@@ -20,9 +19,8 @@ use Rattle.gix_refspec.proofs.TextLemmas.{Lacks-here, Lacks-Holds, one_not_two}
 use Rattle.gix_refspec.proofs.SideLemmas.{name_not_bad, replaced_once, HasStar-replaced, HasStar-bad}
 use Rattle.gix_refspec.proofs.FormsBackLemmas.{some_once}
 use Rattle.gix_refspec.proofs.ManualFacts.{Lacks-tested, full, none_some, some_none}
-use Rattle.gix_refspec.proofs.MatchFacts.{cut_at_end}
 use Rattle.gix_refspec.proofs.FaultFacts.{holds_not}
-use Rattle.gix_refspec.proofs.RefusalFacts.{replaces_star, locked, normal_positive, bad_destination}
+use Rattle.gix_refspec.proofs.RefusalFacts.{replaces_star, locked, normal_positive}
 
 -- ---- stars
 
