@@ -112,9 +112,9 @@ module _
   abbrev fetches : List RefSpecRef
   fetches = spec_of Fetch mode.Normal (Some (codes "a")) None a ∷ spec_of Fetch mode.Force (Some (codes "c")) (Some (codes "d")) c ∷ []
 
-  -- a spec is for its own operation
-  pub own_operation : map (is_for Fetch) all_specs ≡ true ∷ false ∷ true ∷ []
-  own_operation = refl
+  -- a spec is for its own operation alone
+  pub own_operation : (map (is_for Fetch) all_specs ≡ true ∷ false ∷ true ∷ []) × (map (is_for Push) all_specs ≡ false ∷ true ∷ false ∷ [])
+  own_operation = (refl, refl)
 
   -- the readings of a group are in the order of its specs
   pub group_seen : (g : MatchGroup) → g.specs.items ≡ all_specs → readings_of g ≡ fetched Normal (codes "a") None ∷ pushed Normal (Some (codes "b")) None ∷ fetched Forced (codes "c") (Some (codes "d")) ∷ []
