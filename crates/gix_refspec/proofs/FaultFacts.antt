@@ -102,10 +102,11 @@ dots_first = (
 )
 
 -- `.lock` ends the first component, or the last one, but not where it stands within, or without its dot
-pub locks : HasFault (codes "b.lock/a") LockSuffix × HasFault (codes "a/b.lock") LockSuffix × ¬ (HasFault (codes "a.lock.b/block") LockSuffix)
+pub locks : HasFault (codes "b.lock/a") LockSuffix × HasFault (codes "a/b.lock") LockSuffix × HasFault (codes "a/.lock") LockSuffix × ¬ (HasFault (codes "a.lock.b/block") LockSuffix)
 locks = (
   before_a (Ends (codes ".lock")) (codes "b.lock") refl (record { before = codes "b"; here = refl }),
   behind_a (Ends (codes ".lock")) (codes "b.lock") refl (record { before = codes "b"; here = refl }),
+  behind_a (Ends (codes ".lock")) (codes ".lock") refl (record { before = []; here = refl }),
   no_component (Ends (codes ".lock")) (codes "a.lock.b/block") (ends_not (codes ".lock") (codes "a.lock.b") refl, (ends_not (codes ".lock") (codes "block") refl, tt)),
 )
 

@@ -1,6 +1,6 @@
 -- The words that only laws cite, on each side of what they ask: which specs go both ways, which
 -- sources are covering, what a spec reads as again, and what a group expands to.
-use Rattle.std.proofs.Common.{◌≡◌, ◌≢◌, ◌<◌, ℕ, zero, suc, List, [], ◌∷◌, ◌++◌, Option, None, Some, codes, refl, sym, ap, ◌∙◌, subst, inl, inr, arith}
+use Rattle.std.proofs.Common.{◌≡◌, ◌≢◌, ◌<◌, ℕ, zero, suc, List, [], ◌∷◌, ◌++◌, Option, None, Some, length, codes, refl, sym, ap, ◌∙◌, subst, inl, inr, arith}
 use Rattle.std.specs.List.{AllByRecursion, Any}
 use Rattle.gix_refspec.specs.declared.parsing.Operation.TheVariants.{Push, Fetch}
 use Rattle.gix_refspec.specs.Text.{Begins}
@@ -418,3 +418,7 @@ not_covered law = (by_every, by_none)
 -- the spec of the branch has a place in its group
 pub fits : ForwardFits (every ∷ no_dev ∷ []) remote_refs → IndexesFit (every ∷ no_dev ∷ []) (tracked 2 (codes "main") ∷ [])
 fits law = law (tracked 2 (codes "main") ∷ []) fetches_all_but_dev
+
+-- and of a later mapping as of the first
+pub later_fits : (g : List Reading) (items : List Ref) (m n : Mapped) → ForwardFits g items → AreKeptForward g items (m ∷ n ∷ []) → n.spec < length g
+later_fits g items m n law kept = (law (m ∷ n ∷ []) kept).1.0

@@ -19,7 +19,7 @@ use Rattle.gix_refspec.proofs.AcceptedLemmas.{accepted_balanced}
 use Rattle.gix_refspec.proofs.SideLemmas.{HasStar-pattern}
 use Rattle.gix_refspec.proofs.TestedLemmas.{IsName-tested}
 use Rattle.gix_refspec.proofs.ManualFacts.{Lacks-tested, full, none_some, some_none}
-use Rattle.gix_refspec.proofs.NameFacts.{bad_patterns}
+use Rattle.gix_refspec.proofs.NameFacts.{stars_in_bad_names}
 use Rattle.gix_refspec.proofs.RefusalFacts.{empty_push}
 use Rattle.gix_refspec.proofs.GrammarFacts.{begins_signed, with_sign, parts, a_star, b_name, refused_byte, hashes, fetches_main, pushes_matching, deletes_x}
 
@@ -37,8 +37,8 @@ nothing_pushed = refused_for Push Normal [] None Empty refl refl empty_push.0
 negative_with : (op : Operation) (s d : List ℕ) → IsFirstReason op Negative s (Some d) NegativeWithDestination
 negative_with op s d = inr ((λ e empty. some_none d empty.no_colon), inl (record { negative = refl; colon = refl; refusal = refl }))
 
-pub negative_destinations : (op : Operation) → IsRefused op (codes "^a:b") NegativeWithDestination × IsRefused op (codes "^:") NegativeWithDestination × IsRefused op (codes "^a:") NegativeWithDestination
-negative_destinations op = (
+pub negatives_to_somewhere : (op : Operation) → IsRefused op (codes "^a:b") NegativeWithDestination × IsRefused op (codes "^:") NegativeWithDestination × IsRefused op (codes "^a:") NegativeWithDestination
+negatives_to_somewhere op = (
   refused_for op Negative (codes "a") (Some (codes "b")) NegativeWithDestination refl refl (negative_with op (codes "a") (codes "b")),
   refused_for op Negative [] (Some []) NegativeWithDestination refl refl (negative_with op [] []),
   refused_for op Negative (codes "a") (Some []) NegativeWithDestination refl refl (negative_with op (codes "a") []),
@@ -55,13 +55,13 @@ pushed_nowhere = (to_nothing Normal tt refl, to_nothing Forced tt refl)
 bad_fetch : (b : ℕ) (s : List ℕ) (d : Option (List ℕ)) (e : Refusal) → IsBadName (b ∷ s) e ⊎ IsBadPattern (b ∷ s) e → IsFirstReason Fetch Normal (b ∷ s) d e
 bad_fetch b s d e bad = reason_at_source Fetch Normal (b ∷ s) d e (fetch_reaches Normal (b ∷ s) d tt) (record { source = full b s; refusal = bad })
 
-pub bad_sources : IsRefused Fetch (codes "a b") (ReferenceName (InvalidByte 32)) × IsRefused Fetch (codes "main~2:x") (ReferenceName (InvalidByte 126)) × IsRefused Fetch (codes ":/message:x") (ReferenceName (InvalidByte 58)) × IsRefused Fetch (codes "a*b*") (PatternUnsupported (codes "a*b*")) × IsRefused Fetch (codes "refs/heads/.*:x") (ReferenceName StartsWithDot)
+pub bad_sources : IsRefused Fetch (codes "a b") (ReferenceName (InvalidByte 32)) × IsRefused Fetch (codes "main~2:x") (ReferenceName (InvalidByte 126)) × IsRefused Fetch (codes ":/message:x") (ReferenceName (InvalidByte 58)) × IsRefused Fetch (codes "a*b*") (PatternUnsupported (codes "a*b*")) × IsRefused Fetch (codes "a/.*:x") (ReferenceName StartsWithDot)
 bad_sources = (
   refused_for Fetch Normal (codes "a b") None _ refl refl (bad_fetch 97 (codes " b") None _ (inl (Lacks-tested star (codes "a b") refl, refused_byte (codes "a") (codes "b") 32 refl))),
   refused_for Fetch Normal (codes "main~2") (Some (codes "x")) _ refl refl (bad_fetch 109 (codes "ain~2") (Some (codes "x")) _ (inl (Lacks-tested star (codes "main~2") refl, refused_byte (codes "main") (codes "2") 126 refl))),
   refused_for Fetch Normal (codes ":/message") (Some (codes "x")) _ refl refl (bad_fetch colon (codes "/message") (Some (codes "x")) _ (inl (Lacks-tested star (codes ":/message") refl, refused_byte [] (codes "/message") colon refl))),
   refused_for Fetch Normal (codes "a*b*") None _ refl refl (bad_fetch 97 (codes "*b*") None _ (inr (record { before = codes "a"; between = codes "b"; after = []; here = refl }, refl))),
-  refused_for Fetch Normal (codes "refs/heads/.*") (Some (codes "x")) _ refl refl (bad_fetch 114 (codes "efs/heads/.*") (Some (codes "x")) _ (inr bad_patterns.0)),
+  refused_for Fetch Normal (codes "a/.*") (Some (codes "x")) _ refl refl (bad_fetch 97 (codes "/.*") (Some (codes "x")) _ (inr stars_in_bad_names.0)),
 )
 
 -- a push of a source alone that is no name, and of one with two stars to a destination
@@ -102,8 +102,8 @@ unbalanced_fetches = (
 )
 
 -- the same in a push, of which a source alone is fine
-pub unbalanced_pushes : IsRefused Push (codes "a*:b") PatternUnbalanced × IsRefused Push (codes "b:a*") PatternUnbalanced × IsRefused Push (codes ":a*") PatternUnbalanced
-unbalanced_pushes = (
+pub pushes_of_one_star : IsRefused Push (codes "a*:b") PatternUnbalanced × IsRefused Push (codes "b:a*") PatternUnbalanced × IsRefused Push (codes ":a*") PatternUnbalanced
+pushes_of_one_star = (
   refused_for Push Normal (codes "a*") (Some (codes "b")) _ refl refl (unbalanced_push Normal (codes "a*") (codes "b") Pattern Plain tt (λ some empty. full _ _ empty) a_star b_name pattern_no_plain),
   refused_for Push Normal (codes "b") (Some (codes "a*")) _ refl refl (unbalanced_push Normal (codes "b") (codes "a*") Plain Pattern tt (λ some empty. full _ _ empty) (Lacks-tested star (codes "b") refl) a_star plain_no_pattern),
   refused_for Push Normal [] (Some (codes "a*")) _ refl refl (unbalanced_push Normal [] (codes "a*") Plain Pattern tt (λ some empty. full _ _ empty) tt a_star plain_no_pattern),
@@ -120,7 +120,7 @@ bad_negatives op = (
 
 -- so these texts read as nothing
 pub unread : (r : Reading) → ¬ (Reads Push [] r) × ¬ (Reads Push (codes "a:") r) × ¬ (Reads Fetch (codes "^") r) × ¬ (Reads Fetch (caret ∷ replicate 40 letter) r) × ¬ (Reads Fetch (codes ":a*") r) × ¬ (Reads Push (codes "b:a*") r) × ¬ (Reads Fetch (codes "main~2:x") r) × ¬ (Reads Push (codes "^a:") r)
-unread r = (nothing_pushed.unread r, pushed_nowhere.0.unread r, (bad_negatives Fetch).0.unread r, (bad_negatives Fetch).1.unread r, unbalanced_fetches.2.unread r, unbalanced_pushes.1.unread r, bad_sources.1.unread r, (negative_destinations Push).2.unread r)
+unread r = (nothing_pushed.unread r, pushed_nowhere.0.unread r, (bad_negatives Fetch).0.unread r, (bad_negatives Fetch).1.unread r, unbalanced_fetches.2.unread r, pushes_of_one_star.1.unread r, bad_sources.1.unread r, (negatives_to_somewhere Push).2.unread r)
 
 -- ---- which readings some text has
 

@@ -8,7 +8,7 @@ use Rattle.gix_refspec.specs.declared.instruction.Fetch.TheVariants as fetch
 use Rattle.gix_refspec.specs.declared.instruction.Push.TheVariants as push
 use Rattle.gix_refspec.specs.declared.name.Error.TheVariants.{LockSuffix, RepeatedDot}
 use Rattle.gix_refspec.specs.declared.oid.Error.TheVariants.{Digit, Length}
-use Rattle.gix_refspec.specs.declared.oid.Kind.TheVariants.{Sha1, Sha256}
+use Rattle.gix_refspec.specs.declared.oid.Kind.TheVariants.{Sha1}
 use Rattle.gix_refspec.specs.declared.oid.ObjectId.{ObjectId}
 use Rattle.gix_refspec.specs.declared.parsing.Error.TheVariants as error
 use Rattle.gix_refspec.specs.declared.parsing.Operation.{Operation}
@@ -19,7 +19,7 @@ use Rattle.gix_refspec.specs.declared.types.Instruction.{Instruction}
 use Rattle.gix_refspec.specs.declared.types.Instruction.TheVariants as instruction
 use Rattle.gix_refspec.specs.declared.types.Mode.{Mode}
 use Rattle.gix_refspec.specs.declared.types.Mode.TheVariants as mode
-use Rattle.gix_refspec.specs.ObjectId.{id_bytes, fault_name}
+use Rattle.gix_refspec.specs.ObjectId.{fault_name}
 use Rattle.gix_refspec.specs.Reading.{Normal, Forced, Negative}
 use Rattle.gix_refspec.specs.Grammar.{fetched, pushed}
 use Rattle.gix_refspec.specs.Meaning.{fetch_only, meaning_of, text_of, WritesPrinted}
@@ -181,12 +181,9 @@ none_behind = (
 
 -- ---- ids
 
--- an id has the 20 or 32 bytes at the front of its buffer
+-- an id with the 20 bytes of the empty blob, and more behind them in its buffer
 abbrev pub blob_id : ObjectId
 blob_id = record { kind = Sha1; buffer = empty_blob ++ replicate 12 7 }
-
-pub front_bytes : (id_bytes blob_id ≡ empty_blob) × (id_bytes (record { kind = Sha256; buffer = empty_blob ++ replicate 12 7 }) ≡ empty_blob ++ replicate 12 7)
-front_bytes = (refl, refl)
 
 -- the two faults of a text by their names, without the length
 pub fault_names : map fault_name (Length 6 ∷ Length 39 ∷ Digit ∷ []) ≡ codes "Length" ∷ codes "Length" ∷ codes "Digit" ∷ []
