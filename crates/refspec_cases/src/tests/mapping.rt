@@ -335,6 +335,11 @@ fn maps_from_right_to_left(rt: HostRuntime) -> Result<(), Fail> {
             "refs/heads/x",
             "",
         ),
+        (
+            "AAAAAAAAAAAAAAAAAAAAAAAAAAAAAAAAAAAAAAAA:refs/heads/x",
+            "refs/heads/x",
+            "0 0 =refs/heads/aaaaaaaaaaaaaaaaaaaaaaaaaaaaaaaaaaaaaaaa refs/heads/x\n",
+        ),
         // By spec, and for each by item.
         (
             "refs/heads/*:refs/x/* refs/tags/*:refs/y/*",

@@ -10,14 +10,20 @@ use std::process::Abort;
 use std::test::Fail;
 
 // `^` and hex digits: one less than an id of an object has, as many, and one more. Then as many with
-// a destination.
+// a colon alone, and with destinations: a name, one with several stars, and no name.
 const DIGITS_39: &str = "^aaaaaaaaaaaaaaaaaaaaaaaaaaaaaaaaaaaaaaa";
 
 const DIGITS_40: &str = "^aaaaaaaaaaaaaaaaaaaaaaaaaaaaaaaaaaaaaaaa";
 
 const DIGITS_41: &str = "^aaaaaaaaaaaaaaaaaaaaaaaaaaaaaaaaaaaaaaaaa";
 
+const DIGITS_40_TO_NOTHING: &str = "^aaaaaaaaaaaaaaaaaaaaaaaaaaaaaaaaaaaaaaaa:";
+
 const DIGITS_40_TO: &str = "^aaaaaaaaaaaaaaaaaaaaaaaaaaaaaaaaaaaaaaaa:b";
+
+const DIGITS_40_TO_STARS: &str = "^aaaaaaaaaaaaaaaaaaaaaaaaaaaaaaaaaaaaaaaa:b*c*";
+
+const DIGITS_40_TO_DOTS: &str = "^aaaaaaaaaaaaaaaaaaaaaaaaaaaaaaaaaaaaaaaa:b..c";
 
 const UPPER_40: &str = "^AAAAAAAAAAAAAAAAAAAAAAAAAAAAAAAAAAAAAAAA";
 
@@ -158,6 +164,9 @@ fn refuses_fetches(rt: HostRuntime) -> Result<(), Fail> {
         ("a*.lock:c*d*", "ReferenceName(LockSuffix)"),
         ("a..b:c.lock", "ReferenceName(RepeatedDot)"),
         ("a*.lock:c..d", "ReferenceName(LockSuffix)"),
+        ("a*b*:c*.lock", "PatternUnsupported { pattern: \"a*b*\" }"),
+        ("a..b:c*.lock", "ReferenceName(RepeatedDot)"),
+        ("a*.lock:c*..d", "ReferenceName(LockSuffix)"),
         // Both come before a star on one side alone.
         ("a*b*", "PatternUnsupported { pattern: \"a*b*\" }"),
         ("a*b*:", "PatternUnsupported { pattern: \"a*b*\" }"),
@@ -200,6 +209,8 @@ fn refuses_pushes(rt: HostRuntime) -> Result<(), Fail> {
         ("a*b*:c..d", "PatternUnsupported { pattern: \"a*b*\" }"),
         ("a*.lock:c*d*", "ReferenceName(LockSuffix)"),
         ("a*.lock:c..d", "ReferenceName(LockSuffix)"),
+        ("a*b*:c*.lock", "PatternUnsupported { pattern: \"a*b*\" }"),
+        ("a*.lock:c*..d", "ReferenceName(LockSuffix)"),
         // Both come before a star on one side alone.
         ("+a*b*:c", "PatternUnsupported { pattern: \"a*b*\" }"),
         ("a:b*c*", "PatternUnsupported { pattern: \"b*c*\" }"),
@@ -235,16 +246,22 @@ fn answers_both_operations_alike(rt: HostRuntime) -> Result<(), Fail> {
         ("a\x1eb", "ReferenceName(InvalidByte { byte: 30 })"),
         ("^a\"b", "^a\"b"),
         ("a\"b:\"c", "a\"b:\"c"),
-        // Two reasons each. A destination of a negative spec comes before all else.
+        // Two reasons or more each. A destination of a negative spec comes before all else.
         ("^:", "NegativeWithDestination"),
         ("^:b", "NegativeWithDestination"),
+        ("^:b*c*", "NegativeWithDestination"),
+        ("^:b..c", "NegativeWithDestination"),
         ("^a:", "NegativeWithDestination"),
+        (DIGITS_40_TO_NOTHING, "NegativeWithDestination"),
         (DIGITS_40_TO, "NegativeWithDestination"),
+        (DIGITS_40_TO_STARS, "NegativeWithDestination"),
+        (DIGITS_40_TO_DOTS, "NegativeWithDestination"),
         ("^a*b*:c", "NegativeWithDestination"),
         ("^a..b:c", "NegativeWithDestination"),
         ("^a*.lock:c", "NegativeWithDestination"),
         ("^a:b*c*", "NegativeWithDestination"),
         ("^a:b..c", "NegativeWithDestination"),
+        ("^a:b*.lock", "NegativeWithDestination"),
         ("^a*:b", "NegativeWithDestination"),
         ("^a..b**", "PatternUnsupported { pattern: \"a..b**\" }"),
         ("^a*b*", "PatternUnsupported { pattern: \"a*b*\" }"),
