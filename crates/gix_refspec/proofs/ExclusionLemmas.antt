@@ -114,6 +114,7 @@ some_alone P = (there, back)
     there : P ⊎ ⊥ → ⊥ ⊎ P
     there (inl is) = inr is
     there (inr none) = absurd none
+
     back : ⊥ ⊎ P → P ⊎ ⊥
     back (inl none) = absurd none
     back (inr is) = inl is
@@ -127,6 +128,7 @@ some_more F S L R rest = (there, back)
       | inl inner ↦ inl (inr inner)
       | inr last ↦ inr last
     ]
+
     back : (F ⊎ S) ⊎ L → F ⊎ R
     back (inl (inl first)) = inl first
     back (inl (inr inner)) = inr (rest.1 (inl inner))

@@ -105,31 +105,31 @@ module _
     (b : Accepted Push mode.Normal (Some (codes "b")) None)
     (c : Accepted Fetch mode.Force (Some (codes "c")) (Some (codes "d")))
   where
-  -- a fetch of `a`, a push of `b`, and a fetch of `c` to `d`
-  abbrev all_specs : List RefSpecRef
-  all_specs = spec_of Fetch mode.Normal (Some (codes "a")) None a ∷ spec_of Push mode.Normal (Some (codes "b")) None b ∷ spec_of Fetch mode.Force (Some (codes "c")) (Some (codes "d")) c ∷ []
+    -- a fetch of `a`, a push of `b`, and a fetch of `c` to `d`
+    abbrev all_specs : List RefSpecRef
+    all_specs = spec_of Fetch mode.Normal (Some (codes "a")) None a ∷ spec_of Push mode.Normal (Some (codes "b")) None b ∷ spec_of Fetch mode.Force (Some (codes "c")) (Some (codes "d")) c ∷ []
 
-  abbrev fetches : List RefSpecRef
-  fetches = spec_of Fetch mode.Normal (Some (codes "a")) None a ∷ spec_of Fetch mode.Force (Some (codes "c")) (Some (codes "d")) c ∷ []
+    abbrev fetches : List RefSpecRef
+    fetches = spec_of Fetch mode.Normal (Some (codes "a")) None a ∷ spec_of Fetch mode.Force (Some (codes "c")) (Some (codes "d")) c ∷ []
 
-  -- a spec is for its own operation alone
-  pub own_operation : (map (is_for Fetch) all_specs ≡ true ∷ false ∷ true ∷ []) × (map (is_for Push) all_specs ≡ false ∷ true ∷ false ∷ [])
-  own_operation = (refl, refl)
+    -- a spec is for its own operation alone
+    pub own_operation : (map (is_for Fetch) all_specs ≡ true ∷ false ∷ true ∷ []) × (map (is_for Push) all_specs ≡ false ∷ true ∷ false ∷ [])
+    own_operation = (refl, refl)
 
-  -- the readings of a group are in the order of its specs
-  pub group_seen : (g : MatchGroup) → g.specs.items ≡ all_specs → readings_of g ≡ fetched Normal (codes "a") None ∷ pushed Normal (Some (codes "b")) None ∷ fetched Forced (codes "c") (Some (codes "d")) ∷ []
-  group_seen g are = ap (map reading_of) are
+    -- the readings of a group are in the order of its specs
+    pub group_seen : (g : MatchGroup) → g.specs.items ≡ all_specs → readings_of g ≡ fetched Normal (codes "a") None ∷ pushed Normal (Some (codes "b")) None ∷ fetched Forced (codes "c") (Some (codes "d")) ∷ []
+    group_seen g are = ap (map reading_of) are
 
-  -- of these a group of fetches takes the two fetches, in order
-  pub gathers_fetches : (g : MatchGroup) → g.specs.items ≡ fetches → Gathers all_specs g
-  gathers_fetches g are = (all_specs, all_specs, refl, ([], ([], (_, refl, (_, refl, (_, refl, refl))), (refl, refl))), are)
+    -- of these a group of fetches takes the two fetches, in order
+    pub gathers_fetches : (g : MatchGroup) → g.specs.items ≡ fetches → Gathers all_specs g
+    gathers_fetches g are = (all_specs, all_specs, refl, ([], ([], (_, refl, (_, refl, (_, refl, refl))), (refl, refl))), are)
 
-  -- and nothing else: not one alone, nor both in the other order, nor all three
-  pub gathers_no_other : (g : MatchGroup) → Gathers all_specs g → g.specs.items ≡ fetches
-  gathers_no_other g gathered = gathered.4 ∙ ap (filter (is_for Fetch)) (given gathered.0 gathered.1 gathered.3 ∙ gathered.2)
+    -- and nothing else: not one alone, nor both in the other order, nor all three
+    pub gathers_no_other : (g : MatchGroup) → Gathers all_specs g → g.specs.items ≡ fetches
+    gathers_no_other g gathered = gathered.4 ∙ ap (filter (is_for Fetch)) (given gathered.0 gathered.1 gathered.3 ∙ gathered.2)
 
-  pub gathers_not_all : (g : MatchGroup) → g.specs.items ≡ all_specs → ¬ (Gathers all_specs g)
-  gathers_not_all g are gathered = let same : 3 ≡ 2 = ap length (sym are ∙ gathers_no_other g gathered) in omega (arith, same)
+    pub gathers_not_all : (g : MatchGroup) → g.specs.items ≡ all_specs → ¬ (Gathers all_specs g)
+    gathers_not_all g are gathered = let same : 3 ≡ 2 = ap length (sym are ∙ gathers_no_other g gathered) in omega (arith, same)
 
 -- ---- conflicts
 
@@ -162,27 +162,27 @@ module _
     (forced : accepted-type Fetch mode.Force (Some o) None)
     (same_name : accepted-type Push mode.Normal (Some o) None)
   where
-  -- fixes that removed a mapping of a fetch, forced or not, or of a push
-  abbrev fix : BString → Fix
-  fix d = MappingWithPartialDestinationRemoved d (owned_of Fetch mode.Normal (Some o) None alone)
+    -- fixes that removed a mapping of a fetch, forced or not, or of a push
+    abbrev fix : BString → Fix
+    fix d = MappingWithPartialDestinationRemoved d (owned_of Fetch mode.Normal (Some o) None alone)
 
-  abbrev forced_fix : Fix
-  forced_fix = MappingWithPartialDestinationRemoved n (owned_of Fetch mode.Force (Some o) None forced)
+    abbrev forced_fix : Fix
+    forced_fix = MappingWithPartialDestinationRemoved n (owned_of Fetch mode.Force (Some o) None forced)
 
-  abbrev push_fix : Fix
-  push_fix = MappingWithPartialDestinationRemoved n (owned_of Push mode.Normal (Some o) None same_name)
+    abbrev push_fix : Fix
+    push_fix = MappingWithPartialDestinationRemoved n (owned_of Push mode.Normal (Some o) None same_name)
 
-  -- the destination is seen, and the spec as it was read
-  pub fix_seen : removed_of forced_fix ≡ record { destination = bstring_bytes n; spec = fetched Forced (bstring_bytes o) None }
-  fix_seen = refl
+    -- the destination is seen, and the spec as it was read
+    pub fix_seen : removed_of forced_fix ≡ record { destination = bstring_bytes n; spec = fetched Forced (bstring_bytes o) None }
+    fix_seen = refl
 
-  -- fixes are the same where their specs only mean the same, and where the bytes of the destinations are equal
-  pub same_fixes : IsSameFix forced_fix (fix n) × (bstring_bytes n ≡ bstring_bytes m → IsSameFix (fix n) (fix m))
-  same_fixes = (record { destination = refl; spec = refl }, λ same. record { destination = same; spec = refl })
+    -- fixes are the same where their specs only mean the same, and where the bytes of the destinations are equal
+    pub same_fixes : IsSameFix forced_fix (fix n) × (bstring_bytes n ≡ bstring_bytes m → IsSameFix (fix n) (fix m))
+    same_fixes = (record { destination = refl; spec = refl }, λ same. record { destination = same; spec = refl })
 
-  -- and differ where these mean something else, or another destination was removed
-  pub other_fixes : ¬ (IsSameFix (fix n) push_fix) × (bstring_bytes n ≢ bstring_bytes m → ¬ (IsSameFix (fix n) (fix m)))
-  other_fixes = ((λ same. other same.spec), λ differ same. differ same.destination)
-    where
-      other : Some (fetch_only (bstring_bytes o)) ≢ Some (push_matching (bstring_bytes o) (bstring_bytes o) false)
-      other same = cc
+    -- and differ where these mean something else, or another destination was removed
+    pub other_fixes : ¬ (IsSameFix (fix n) push_fix) × (bstring_bytes n ≢ bstring_bytes m → ¬ (IsSameFix (fix n) (fix m)))
+    other_fixes = ((λ same. other same.spec), λ differ same. differ same.destination)
+      where
+        other : Some (fetch_only (bstring_bytes o)) ≢ Some (push_matching (bstring_bytes o) (bstring_bytes o) false)
+        other same = cc

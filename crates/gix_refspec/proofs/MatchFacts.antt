@@ -15,7 +15,7 @@ use Rattle.gix_refspec.specs.Side.{pattern, full_name, object, partial, HasKind,
 use Rattle.gix_refspec.specs.Match.{Ref}
 use Rattle.gix_refspec.specs.Lists.{IsMadeFrom}
 use Rattle.gix_refspec.specs.Mappings.{Start, name, id, Mapped, IsExcluded, IsStartExcluded, IsSamePair, HasPair, AreApart}
-use Rattle.gix_refspec.specs.Hits.{Ends, AreForwardEnds, Hit, IsHit, IsIdMapping, AreKeptForward, AreKeptBackward}
+use Rattle.gix_refspec.specs.Hits.{Ends, AreForwardEnds, AreBackwardEnds, AreHits, Hit, IsHit, IsIdMapping, AreKeptForward, AreKeptBackward}
 use Rattle.gix_refspec.specs.Prefix.{of_pattern}
 use Rattle.gix_refspec.proofs.TextLemmas.{Lacks-here}
 use Rattle.gix_refspec.proofs.MatchLemmas.{cut_once, lacks_no_pattern, prefix_begins}
@@ -162,6 +162,15 @@ abbrev pub bytes_in : Start → List ℕ
 bytes_in (name n) = n
 bytes_in (id i) = i
 
+-- the pair of the excluded branch isn't that of another
+only_dev : (item : ℕ) → ¬ (HasPair (tracked 0 (codes "dev-a") ∷ []) (tracked item (codes "main")))
+only_dev item (inl same) = other_length _ _ (λ length_same. omega (arith, length_same)) (ap bytes_in same.source)
+only_dev item (inr none) = none
+
+-- what the group takes is what its first spec takes, since the other is negative
+hits_of_every : (HasEnds : Reading → Ends → Type 0) (items : List Ref) (hits : List Hit) (ends : Ends) → HasEnds every ends → ((e : Ends) → ¬ (HasEnds no_dev e)) → IsMadeFrom (IsHit items ends 0) 0 items hits → AreHits HasEnds (every ∷ no_dev ∷ []) items hits
+hits_of_every HasEnds items hits ends has none taken = (hits, [], inl (ends, has, taken), ([], [], inr (none, refl), refl, refl), sym (append-nil hits))
+
 -- of a branch, a tag, an excluded branch and the branch once more, the first is mapped alone
 pub fetches_all_but_dev : AreKeptForward (every ∷ no_dev ∷ []) (dev_ref ∷ tag_ref ∷ main_ref ∷ main_ref ∷ []) (tracked 2 (codes "main") ∷ [])
 fetches_all_but_dev =
@@ -188,13 +197,7 @@ fetches_all_but_dev =
         ids = [];
         hits = dev ∷ main ∷ again ∷ [];
         are_ids = (None, [], no_id_mapping 0 every (codes "refs/heads/*") refl heads_below, (None, [], no_id_negative 1 no_dev refl, refl, refl), refl);
-        are_hits = (
-          dev ∷ main ∷ again ∷ [],
-          [],
-          inl (forward_ends, are_forward_ends, taken),
-          ([], [], inr (λ ends has. has.positive, refl), refl, refl),
-          refl,
-        );
+        are_hits = hits_of_every AreForwardEnds items (dev ∷ main ∷ again ∷ []) forward_ends are_forward_ends (λ ends has. has.positive) taken;
         all = refl;
       };
       is = (
@@ -204,17 +207,13 @@ fetches_all_but_dev =
         (
           Some (tracked 2 (codes "main")),
           [],
-          (refl, record { first = only_dev; included = main_stays }),
+          (refl, record { first = only_dev 2; included = main_stays }),
           (None, [], (λ m stays. stays.1.first (inr (inl (record { source = refl; destination = refl })))), refl, refl),
           refl,
         ),
         refl,
       );
     }
-  where
-    only_dev : ¬ (HasPair (tracked 0 (codes "dev-a") ∷ []) (tracked 2 (codes "main")))
-    only_dev (inl same) = other_length _ _ (λ length_same. omega (arith, length_same)) (ap bytes_in same.source)
-    only_dev (inr none) = none
 
 -- from right to left, over the tracking refs of the excluded branch and of the other one
 abbrev pub backward_ends : Ends
@@ -246,27 +245,17 @@ tracks_all_but_dev =
       all = tracked 0 (codes "dev-a") ∷ tracked 1 (codes "main") ∷ [];
       backward = record {
         hits = dev ∷ main ∷ [];
-        are_hits = (
-          dev ∷ main ∷ [],
-          [],
-          inl (backward_ends, record { positive = tt; near = refl; far = refl; both = refl }, taken),
-          ([], [], inr (λ ends has. has.positive, refl), refl, refl),
-          refl,
-        );
+        are_hits = hits_of_every AreBackwardEnds items (dev ∷ main ∷ []) backward_ends (record { positive = tt; near = refl; far = refl; both = refl }) (λ ends has. has.positive) taken;
         all = refl;
       };
       is = (
         None,
         tracked 1 (codes "main") ∷ [],
         (λ m stays. stays.1.included (inr (inl (record { negative = refl; text = codes "refs/heads/dev-*"; source = refl; excludes = excludes_dev })))),
-        (Some (tracked 1 (codes "main")), [], (refl, record { first = only_dev; included = main_stays }), refl, refl),
+        (Some (tracked 1 (codes "main")), [], (refl, record { first = only_dev 1; included = main_stays }), refl, refl),
         refl,
       );
     }
-  where
-    only_dev : ¬ (HasPair (tracked 0 (codes "dev-a") ∷ []) (tracked 1 (codes "main")))
-    only_dev (inl same) = other_length _ _ (λ length_same. omega (arith, length_same)) (ap bytes_in same.source)
-    only_dev (inr none) = none
 
 -- a spec without a destination takes nothing from right to left
 pub tracks_nothing : AreKeptBackward (short ∷ []) (main_ref ∷ []) []

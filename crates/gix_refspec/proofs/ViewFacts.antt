@@ -67,24 +67,24 @@ module _
     (deletion : Accepted Push mode.Normal None (Some (codes "b")))
     (all_matching : Accepted Push mode.Force None None)
   where
-  abbrev fetches_a : RefSpecRef
-  fetches_a = spec_of Fetch mode.Normal (Some (codes "a")) None alone
+    abbrev fetches_a : RefSpecRef
+    fetches_a = spec_of Fetch mode.Normal (Some (codes "a")) None alone
 
-  abbrev updates_b : RefSpecRef
-  updates_b = spec_of Fetch mode.Force (Some (codes "a")) (Some (codes "b")) update
+    abbrev updates_b : RefSpecRef
+    updates_b = spec_of Fetch mode.Force (Some (codes "a")) (Some (codes "b")) update
 
-  -- `a`, `+a:b` and `^a` in a fetch, `:b` and `+:` in a push
-  pub readings : map reading_of (fetches_a ∷ updates_b ∷ spec_of Fetch mode.Negative (Some (codes "a")) None exclusion ∷ spec_of Push mode.Normal None (Some (codes "b")) deletion ∷ spec_of Push mode.Force None None all_matching ∷ [])
-      ≡ fetched Normal (codes "a") None ∷ fetched Forced (codes "a") (Some (codes "b")) ∷ fetched Negative (codes "a") None ∷ pushed Normal None (Some (codes "b")) ∷ pushed Forced None None ∷ []
-  readings = refl
+    -- `a`, `+a:b` and `^a` in a fetch, `:b` and `+:` in a push
+    pub readings : map reading_of (fetches_a ∷ updates_b ∷ spec_of Fetch mode.Negative (Some (codes "a")) None exclusion ∷ spec_of Push mode.Normal None (Some (codes "b")) deletion ∷ spec_of Push mode.Force None None all_matching ∷ [])
+        ≡ fetched Normal (codes "a") None ∷ fetched Forced (codes "a") (Some (codes "b")) ∷ fetched Negative (codes "a") None ∷ pushed Normal None (Some (codes "b")) ∷ pushed Forced None None ∷ []
+    readings = refl
 
-  -- specs that say the same have one key: `a` and `+a` in a fetch, `a` and `a:a` in a push
-  pub same_keys : (key_of_spec fetches_a ≡ key_of_spec (spec_of Fetch mode.Force (Some (codes "a")) None forced)) × (key_of_spec (spec_of Push mode.Normal (Some (codes "a")) None same_name) ≡ key_of_spec (spec_of Push mode.Normal (Some (codes "a")) (Some (codes "a")) to_itself))
-  same_keys = (refl, refl)
+    -- specs that say the same have one key: `a` and `+a` in a fetch, `a` and `a:a` in a push
+    pub same_keys : (key_of_spec fetches_a ≡ key_of_spec (spec_of Fetch mode.Force (Some (codes "a")) None forced)) × (key_of_spec (spec_of Push mode.Normal (Some (codes "a")) None same_name) ≡ key_of_spec (spec_of Push mode.Normal (Some (codes "a")) (Some (codes "a")) to_itself))
+    same_keys = (refl, refl)
 
-  -- others have two: `a` in a fetch and in a push, `a` and `^a`, `+a:b` and `a:b`
-  pub other_keys : (key_of_spec fetches_a ≢ key_of_spec (spec_of Push mode.Normal (Some (codes "a")) None same_name)) × (key_of_spec fetches_a ≢ key_of_spec (spec_of Fetch mode.Negative (Some (codes "a")) None exclusion)) × (key_of_spec updates_b ≢ key_of_spec (spec_of Fetch mode.Normal (Some (codes "a")) (Some (codes "b")) unforced))
-  other_keys = (other_key 0 0 _ _ (λ same. omega (arith, same)), other_key 0 0 _ _ (λ same. omega (arith, same)), other_key 3 0 _ _ (λ same. omega (arith, same)))
+    -- others have two: `a` in a fetch and in a push, `a` and `^a`, `+a:b` and `a:b`
+    pub other_keys : (key_of_spec fetches_a ≢ key_of_spec (spec_of Push mode.Normal (Some (codes "a")) None same_name)) × (key_of_spec fetches_a ≢ key_of_spec (spec_of Fetch mode.Negative (Some (codes "a")) None exclusion)) × (key_of_spec updates_b ≢ key_of_spec (spec_of Fetch mode.Normal (Some (codes "a")) (Some (codes "b")) unforced))
+    other_keys = (other_key 0 0 _ _ (λ same. omega (arith, same)), other_key 0 0 _ _ (λ same. omega (arith, same)), other_key 3 0 _ _ (λ same. omega (arith, same)))
 
 module _
     (n m : BString)
@@ -95,14 +95,14 @@ module _
     (same_name : owned-type Push mode.Normal (Some n) None)
     (deletion : owned-type Push mode.Normal None (Some m))
   where
-  -- owned specs are read as those that borrow
-  pub owned_readings : map owned_reading_of (owned_of Fetch mode.Force (Some n) (Some m) update ∷ owned_of Fetch mode.Negative (Some n) None exclusion ∷ owned_of Push mode.Normal None (Some m) deletion ∷ [])
-      ≡ fetched Forced (bstring_bytes n) (Some (bstring_bytes m)) ∷ fetched Negative (bstring_bytes n) None ∷ pushed Normal None (Some (bstring_bytes m)) ∷ []
-  owned_readings = refl
+    -- owned specs are read as those that borrow
+    pub owned_readings : map owned_reading_of (owned_of Fetch mode.Force (Some n) (Some m) update ∷ owned_of Fetch mode.Negative (Some n) None exclusion ∷ owned_of Push mode.Normal None (Some m) deletion ∷ [])
+        ≡ fetched Forced (bstring_bytes n) (Some (bstring_bytes m)) ∷ fetched Negative (bstring_bytes n) None ∷ pushed Normal None (Some (bstring_bytes m)) ∷ []
+    owned_readings = refl
 
-  -- and have their keys
-  pub owned_keys : (key_of_owned (owned_of Fetch mode.Force (Some n) None forced) ≡ key_of_owned (owned_of Fetch mode.Normal (Some n) None alone)) × (key_of_owned (owned_of Fetch mode.Normal (Some n) None alone) ≡ keys (Some (fetch_only (bstring_bytes n)))) × (key_of_owned (owned_of Fetch mode.Normal (Some n) None alone) ≢ key_of_owned (owned_of Push mode.Normal (Some n) None same_name))
-  owned_keys = (refl, refl, other_key 0 0 _ _ (λ same. omega (arith, same)))
+    -- and have their keys
+    pub owned_keys : (key_of_owned (owned_of Fetch mode.Force (Some n) None forced) ≡ key_of_owned (owned_of Fetch mode.Normal (Some n) None alone)) × (key_of_owned (owned_of Fetch mode.Normal (Some n) None alone) ≡ keys (Some (fetch_only (bstring_bytes n)))) × (key_of_owned (owned_of Fetch mode.Normal (Some n) None alone) ≢ key_of_owned (owned_of Push mode.Normal (Some n) None same_name))
+    owned_keys = (refl, refl, other_key 0 0 _ _ (λ same. omega (arith, same)))
 
 -- ---- instructions
 

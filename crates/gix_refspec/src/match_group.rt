@@ -99,21 +99,25 @@ impl<'spec, 'item> Kept<'spec, 'item> {
     fn forward(self) -> match_lhs::Outcome<'spec, 'item>
         ensures { (result.group ≡ self.entry.group) × (result.mappings ≡ self.entry.made.forward) }
     {
-        Outcome {
-            group: self.group,
-            mappings: self.made.forward,
-        }
+        outcome_of(self.group, self.made.forward)
     }
 
     // The outcome from right to left.
     fn backward(self) -> match_rhs::Outcome<'spec, 'item>
         ensures { (result.group ≡ self.entry.group) × (result.mappings ≡ self.entry.made.backward) }
     {
-        Outcome {
-            group: self.group,
-            mappings: self.made.backward,
-        }
+        outcome_of(self.group, self.made.backward)
     }
+}
+
+// The outcome that has this group and these mappings.
+fn outcome_of<'spec, 'lhs, 'rhs, const FORWARD: bool>(
+    group: MatchGroup<'spec>,
+    mappings: Vec<Mapping<'lhs, 'rhs>>,
+) -> Outcome<'spec, 'lhs, 'rhs, FORWARD>
+    ensures { (result.group ≡ group.entry) × (result.mappings ≡ mappings.entry) }
+{
+    Outcome { group, mappings }
 }
 
 // The mappings of a direction that are kept.
