@@ -330,16 +330,6 @@ fn maps_from_right_to_left(rt: HostRuntime) -> Result<(), Fail> {
             "0 0 refs/heads/main refs/tags/main\n1 0 refs/heads/main refs/heads/main\n",
         ),
         ("main", "refs/heads/main", ""),
-        (
-            "AAAAAAAAAAAAAAAAAAAAAAAAAAAAAAAAAAAAAAAA:refs/heads/x ^refs/heads/aaaaaaaaaaaaaaaaaaaaaaaaaaaaaaaaaaaaaaaa",
-            "refs/heads/x",
-            "",
-        ),
-        (
-            "AAAAAAAAAAAAAAAAAAAAAAAAAAAAAAAAAAAAAAAA:refs/heads/x",
-            "refs/heads/x",
-            "0 0 =refs/heads/aaaaaaaaaaaaaaaaaaaaaaaaaaaaaaaaaaaaaaaa refs/heads/x\n",
-        ),
         // By spec, and for each by item.
         (
             "refs/heads/*:refs/x/* refs/tags/*:refs/y/*",
@@ -357,6 +347,30 @@ fn maps_from_right_to_left(rt: HostRuntime) -> Result<(), Fail> {
             "refs/heads/a*b:refs/x/c*d",
             "refs/x/cd refs/x/c refs/x/d refs/x/cxdd",
             "0 0 =refs/heads/ab refs/x/cd\n3 0 =refs/heads/axdb refs/x/cxdd\n",
+        ),
+    ];
+    check(
+        &rt,
+        rt.alloc(),
+        Direction::Backward,
+        Operation::Fetch,
+        &rows,
+    )
+}
+
+#[test]
+fn maps_ids_from_right_to_left(rt: HostRuntime) -> Result<(), Fail> {
+    let rows = [
+        // As a source an id is the branch of that name, which may be excluded.
+        (
+            "AAAAAAAAAAAAAAAAAAAAAAAAAAAAAAAAAAAAAAAA:refs/heads/x ^refs/heads/aaaaaaaaaaaaaaaaaaaaaaaaaaaaaaaaaaaaaaaa",
+            "refs/heads/x",
+            "",
+        ),
+        (
+            "AAAAAAAAAAAAAAAAAAAAAAAAAAAAAAAAAAAAAAAA:refs/heads/x",
+            "refs/heads/x",
+            "0 0 =refs/heads/aaaaaaaaaaaaaaaaaaaaaaaaaaaaaaaaaaaaaaaa refs/heads/x\n",
         ),
         // Each item that points to an id.
         (
