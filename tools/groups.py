@@ -12,7 +12,7 @@ LEAVES = [b"a", b"aa", b"ab", b"ba", b"b", b"main", b"x/a", b"a/b", b"v1.0", b"H
 # What stands before and behind a star, for the most part nothing.
 EDGES = [b""] * 5 + [b"a", b"aa", b"ab", b"b", b"a/", b"/a", b"-x", b"x/"]
 BETWEEN = [b"", b"a", b"b", b"main", b"a/b", b"aa", b"\xc3\xa9", b"*", b" x"]
-# What a partial name may be short for.
+# What a partial name may be short for, in the order in which these are tried.
 CANDIDATES = [(b"", b""), (b"refs/", b""), (b"refs/tags/", b""), (b"refs/heads/", b""), (b"refs/remotes/", b""),
               (b"refs/remotes/", b"/HEAD")]
 # The original takes what a spec of WIDE makes of one of these for what it makes of the other.
@@ -42,7 +42,7 @@ def plain_side(random_, ids):
     if kind < 0.15:
         return other_case(random_, random_.choice(ids))
     if kind < 0.25:
-        return random_.choice([b"HEAD", b"@", b"main", b"tags/a", b"remotes/o/a"])
+        return random_.choice([b"HEAD", b"@", b"main", b"origin", b"heads/a", b"tags/a", b"remotes/o/a"])
     return random_.choice(BASES) + random_.choice(LEAVES)
 
 
@@ -70,13 +70,16 @@ def spec(random_, ids, earlier):
 
 def narrowed(random_, text):
     """A name that the source of a spec matches, or a narrower pattern."""
-    source = sides(text)[0] if sides(text) else b"HEAD"
+    source = sides(text)[0]
+    if b"*" not in source:
+        return fitting(random_, source)
     return source.replace(b"*", random_.choice([b"a", b"main", b"a*", b"*a", b"*"]))
 
 
 def sides(text):
-    """The sides of a spec that are there."""
-    return [side for side in text.lstrip(b"+^").split(b":") if side]
+    """The sides of a spec that are there, and the source in any case."""
+    source, *others = text.lstrip(b"+^").split(b":")
+    return [source or b"HEAD", *filter(None, others)]
 
 
 def overlapped(before, behind):

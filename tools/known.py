@@ -1,11 +1,17 @@
-"""What the original is known to answer otherwise to a group, told by the group itself."""
+"""What the original is known to answer otherwise to a group, told by the group itself, and what `plan` makes
+of mappings.
+"""
+import functools
+import re
+
 import groups  # beside this script
 
 PANIC = (b"panic\n", 101)
-FILLED = "it panics where the ends of a pattern overlap in a name (known)"
-EXCLUDED = "it excludes names in which the ends of a pattern overlap (known)"
-HASHED = "it takes two mappings with one hash for a repeat (known)"
-KINDS = (FILLED, EXCLUDED, HASHED)
+FILLED = "it panics where the ends of a pattern overlap in a name"
+EXCLUDED = "it excludes names in which the ends of a pattern overlap"
+HASHED = "it takes two mappings with one hash for a repeat"
+LATER = "it maps every candidate of a partial source, not the first alone"
+KINDS = (FILLED, EXCLUDED, HASHED, LATER)
 # Source and destination of two mappings that have one hash there.
 TWINS = [[b"refs/heads/" + twin, b"refs/x/" + twin] for twin in groups.TWINS]
 # A spec without a match, which takes the place of another.
@@ -19,11 +25,27 @@ def sides(text):
     return (source, destination) if colon else (text, b"")
 
 
+def form_of(side):
+    """How a side is written, in a word."""
+    if b"*" in side:
+        return "pattern"
+    if side.startswith(b"refs/"):
+        return "full name"
+    return "id" if re.fullmatch(rb"[0-9a-fA-F]{40}|[0-9a-fA-F]{64}", side) else "partial" if side else "none"
+
+
 def overlaps(side, name):
     """Whether a name begins and ends as a pattern does, and has no room for both."""
     before, star, behind = side.partition(b"*")
     fits = star != b"" and name.startswith(before) and name.endswith(behind)
     return fits and len(name) < len(before) + len(behind)
+
+
+def candidates(text):
+    """The names that the source of a positive spec may stand for, in order; none if it isn't partial."""
+    source = sides(text)[0]
+    name = b"HEAD" if source in (b"", b"@") else source
+    return [before + name + behind for before, behind in groups.CANDIDATES] if form_of(name) == "partial" else []
 
 
 def lines(texts, *refs):
@@ -45,19 +67,28 @@ class Group:
         self.refs = [line for line in given if not line.startswith(b"spec ")]
         self.names = [line.split(b" ", 3 if line.startswith(b"tag ") else 2)[-1] for line in self.refs]
 
-    def panics(self, text, name):
+    def panics_at(self, text, name):
         """Whether the original panics as it fills a side of a spec for a name."""
         return not text.startswith(b"^") and overlaps(sides(text)[self.command == "rhs"], name)
+
+    def panics(self):
+        return any(self.panics_at(text, name) for text in self.specs for name in self.names)
+
+    def comes_later(self, text, name):
+        """Whether a partial source has this candidate, and some ref is named as an earlier one."""
+        if self.command != "lhs" or text.startswith(b"^"):
+            return False
+        return name in [one for one in candidates(text) if one in self.names][1:]
 
     def excludes_too_much(self, name):
         return any(text.startswith(b"^") and overlaps(text[1:], name) for text in self.specs)
 
-    def pieced(self, ask):
+    def pieced(self, ask, *is_left_out):
         """The mappings of the original by pieces: those of no ref, and then of each alone, without the
-        specs that it panics at."""
+        specs that are left out for its name."""
         found = mappings(ask(self.command, lines(self.specs))[0])
         for item, (line, name) in enumerate(zip(self.refs, self.names)):
-            texts = [IDLE if self.panics(text, name) else text for text in self.specs]
+            texts = [IDLE if any(test(text, name) for test in is_left_out) else text for text in self.specs]
             answer, status = ask(self.command, lines(texts, line))
             if status != 0:
                 return None
@@ -75,23 +106,60 @@ def without_repeats(found):
     return kept
 
 
+def without_later_twin(found):
+    """The mappings without the later of the two that have one hash, or all where they aren't both there."""
+    ends = [one[2:] for one in found]
+    later = max(ends.index(twin) for twin in TWINS) if all(twin in ends for twin in TWINS) else len(found)
+    return found[:later] + found[later + 1:]
+
+
 def kinds_of(ask, command, text, theirs, ours):
     """The kinds of known differences that, together, make the original's answer of this one's; none
     where they don't. An answer is a text and a status."""
     if ours[1] != 0 or theirs[1] != 0 and theirs != PANIC:
         return []
-    group, kinds, wanted = Group(command, text), [], mappings(theirs[0])
-    if theirs == PANIC:
-        if not any(group.panics(one, name) for one in group.specs for name in group.names):
-            return []
-        wanted = group.pieced(ask)
-        kinds.append(FILLED)
+    group, kinds = Group(command, text), []
+    if group.panics() != (theirs == PANIC):
+        return []
+    ask = functools.lru_cache(None)(ask)
+    every = group.pieced(ask, group.panics_at)
+    first = group.pieced(ask, group.panics_at, group.comes_later)
     found = mappings(ours[0])
     kept = [one for one in found if one[1] == b"-" or not group.excludes_too_much(one[2])]
-    if kept != found:
-        kinds.append(EXCLUDED)
-    ends = [one[2:] for one in kept]
-    if kept != wanted and all(twin in ends for twin in TWINS):
-        kept.pop(max(ends.index(twin) for twin in TWINS))
+    if every is None or kept != first:
+        return []
+    if theirs == PANIC:
+        kinds.append(FILLED)
+    elif mappings(theirs[0]) != every:
+        if mappings(theirs[0]) != without_later_twin(every):
+            return []
         kinds.append(HASHED)
-    return kinds if kept == wanted else []
+    return kinds + [EXCLUDED] * (kept != found) + [LATER] * (first != every)
+
+
+def maps_later(ask, command, text, answer):
+    """Whether an answer, which both programs give, maps a later candidate, as only the original does."""
+    group = Group(command, text)
+    if answer[1] != 0 or not any(group.comes_later(one, name) for one in group.specs for name in group.names):
+        return False
+    return mappings(answer[0]) != group.pieced(ask, group.comes_later)
+
+
+def is_writable(destination):
+    return destination.startswith(b"refs/") or destination == b"HEAD"
+
+
+def plan_of(found, texts):
+    """The answer of `plan` to mappings, with the canonical texts of the specs."""
+    to = {}
+    for spec, item, source, *destination in found:
+        for one in destination:
+            to.setdefault(one, {}).setdefault((item == b"-", source), texts[int(spec)])
+    made = [[b"conflict", one, *(field for (_, source), text in claims.items() for field in (source, text))]
+            for one, claims in sorted(to.items()) if len(claims) > 1]
+    status = int(made != [])
+    if not made:
+        removed = [one for one in found if not all(map(is_writable, one[3:]))]
+        made = [[b"map", *one] for one in found if one not in removed]
+        made += [[b"fix", one[3], texts[int(one[0])]] for one in removed]
+    return b"".join(b"\t".join(fields) + b"\n" for fields in made), status

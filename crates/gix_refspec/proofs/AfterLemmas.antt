@@ -4,7 +4,7 @@ use Rattle.std.specs.List.{AllByRecursion, Contains}
 use Rattle.std.proofs.lemmas.List.Elements.{All-contains_itself, All-from_recursion, Contains-get_or, recursion_from_All}
 use Rattle.gix_refspec.specs.Reading.{Reading}
 use Rattle.gix_refspec.specs.Lists.{IsMadeFrom, IsJoinedFrom}
-use Rattle.gix_refspec.specs.Match.{Ref}
+use Rattle.gix_refspec.specs.Match.{Ref, Takes}
 use Rattle.gix_refspec.specs.Mappings.{Mapped, IsSamePair, AreApart, Stays}
 use Rattle.gix_refspec.specs.Hits.{AreForwardEnds, AreSpecHits, Hit, IsHit, IsIdMapping, forward_of}
 use Rattle.gix_refspec.specs.Validation.{ForwardFits, HaveOneSource, MeetAt, NeverMeet, Survives, ValidatedOnce}
@@ -29,8 +29,8 @@ stays_each S P k (x ∷ xs) ys all (None, rest, none, more, is) = subst (AllByRe
 stays_each S P k (x ∷ xs) ys all (Some y, rest, one, more, is) = subst (AllByRecursion P) (sym is) (subst P (sym one.0) all.0, stays_each S P (k + 1) xs rest all.1 more)
 
 -- the hits of a spec have its place
-spec_of_hits : (items : List Ref) (k n : ℕ) (r : Reading) (hits : List Hit) → k < n → AreSpecHits AreForwardEnds items k r hits → AllByRecursion (λ h. h.spec < n) hits
-spec_of_hits items k n r hits below (inl (ends, has, made)) = made_each (IsHit items ends k) (λ h. h.spec < n) (0 + length items) (λ j item h inside hit. subst (λ (s : ℕ). s < n) (sym hit.spec) below) 0 items hits (omega arith) made
+spec_of_hits : (items : List Ref) (k n : ℕ) (r : Reading) (hits : List Hit) → k < n → AreSpecHits AreForwardEnds (Takes items) items k r hits → AllByRecursion (λ h. h.spec < n) hits
+spec_of_hits items k n r hits below (inl (ends, has, made)) = made_each (IsHit (Takes items) ends k) (λ h. h.spec < n) (0 + length items) (λ j item h inside hit. subst (λ (s : ℕ). s < n) (sym hit.spec) below) 0 items hits (omega arith) made
 spec_of_hits items k n r hits below (inr (none, empty)) = subst (AllByRecursion (λ h. h.spec < n)) (sym empty) tt
 
 map_forward : (n : ℕ) (hits : List Hit) → AllByRecursion (λ h. h.spec < n) hits → AllByRecursion (λ m. m.spec < n) (map forward_of hits)
@@ -43,7 +43,7 @@ forward_fits g items l kept =
     let all = kept.forward in
     let n = length g in
     let ids = made_each IsIdMapping (λ m. m.spec < n) n (λ k r m below is. subst (λ (s : ℕ). s < n) (sym is.spec) below) 0 g all.ids (omega arith) all.are_ids in
-    let hits = joined_each (AreSpecHits AreForwardEnds items) (λ h. h.spec < n) n (λ k r hs below are. spec_of_hits items k n r hs below are) 0 g all.hits (omega arith) all.are_hits in
+    let hits = joined_each (AreSpecHits AreForwardEnds (Takes items) items) (λ h. h.spec < n) n (λ k r hs below are. spec_of_hits items k n r hs below are) 0 g all.hits (omega arith) all.are_hits in
     let both = subst (AllByRecursion (λ m. m.spec < n)) (sym all.all) (all_join (λ m. m.spec < n) all.ids (map forward_of all.hits) ids (map_forward n all.hits hits)) in
     stays_each (λ k m. Stays g kept.all k m) (λ m. m.spec < n) 0 kept.all l both kept.is
 

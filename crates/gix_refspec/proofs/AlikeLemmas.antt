@@ -9,7 +9,7 @@ use Rattle.gix_refspec.specs.Reading.{Mode, Normal, Forced, Negative, Reading}
 use Rattle.gix_refspec.specs.Grammar.{IsPositive, IsAccepted, Reads}
 use Rattle.gix_refspec.specs.Meaning.{Meaning, fetch_only, fetch_exclude, fetch_and_update, meaning, meaning_of}
 use Rattle.gix_refspec.specs.Spec.{reading_of}
-use Rattle.gix_refspec.specs.Match.{Ref}
+use Rattle.gix_refspec.specs.Match.{Ref, Matches, Takes}
 use Rattle.gix_refspec.specs.Lists.{MakesOf, IsMadeFrom, IsJoinedFrom}
 use Rattle.gix_refspec.specs.Mappings.{Start, name, id, Mapped, IsExcludedBy, IsExcluded, IsStartExcluded, Stays, IsKept}
 use Rattle.gix_refspec.specs.Hits.{Ends, AreForwardEnds, AreBackwardEnds, Hit, IsFilled, AreSpecHits, AreHits, IsIdMapping, AreKeptForward, AreKeptBackward}
@@ -164,12 +164,12 @@ abbrev KeepsEnds : (Reading → Ends → Type 0) → Type 0
 KeepsEnds HasEnds = (r q : Reading) (ends : Ends) → AreAlike r q → HasEnds r ends → HasEnds q ends
 
 -- and so hit the same items
-spec_hits : (HasEnds : Reading → Ends → Type 0) → KeepsEnds HasEnds → (items : List Ref) (k : ℕ) (r q : Reading) (hits : List Hit) → AreAlike r q → AreSpecHits HasEnds items k r hits → AreSpecHits HasEnds items k q hits
-spec_hits HasEnds keeps items k r q hits alike (inl (ends, has, made)) = inl (ends, keeps r q ends alike has, made)
-spec_hits HasEnds keeps items k r q hits alike (inr (none, empty)) = inr (λ ends has. none ends (keeps q r ends (alike_back r q alike) has), empty)
+spec_hits : (HasEnds : Reading → Ends → Type 0) (Taken : List ℕ → Ref → Option (List ℕ) → Type 0) → KeepsEnds HasEnds → (items : List Ref) (k : ℕ) (r q : Reading) (hits : List Hit) → AreAlike r q → AreSpecHits HasEnds Taken items k r hits → AreSpecHits HasEnds Taken items k q hits
+spec_hits HasEnds Taken keeps items k r q hits alike (inl (ends, has, made)) = inl (ends, keeps r q ends alike has, made)
+spec_hits HasEnds Taken keeps items k r q hits alike (inr (none, empty)) = inr (λ ends has. none ends (keeps q r ends (alike_back r q alike) has), empty)
 
-group_hits : (HasEnds : Reading → Ends → Type 0) → KeepsEnds HasEnds → (g h : List Reading) (items : List Ref) (hits : List Hit) → AllZip AreAlike g h → AreHits HasEnds g items hits → AreHits HasEnds h items hits
-group_hits HasEnds keeps g h items hits alike are = joined_zip AreAlike (AreSpecHits HasEnds items) (AreSpecHits HasEnds items) (spec_hits HasEnds keeps items) 0 g h hits alike are
+group_hits : (HasEnds : Reading → Ends → Type 0) (Taken : List ℕ → Ref → Option (List ℕ) → Type 0) → KeepsEnds HasEnds → (g h : List Reading) (items : List Ref) (hits : List Hit) → AllZip AreAlike g h → AreHits HasEnds Taken g items hits → AreHits HasEnds Taken h items hits
+group_hits HasEnds Taken keeps g h items hits alike are = joined_zip AreAlike (AreSpecHits HasEnds Taken items) (AreSpecHits HasEnds Taken items) (spec_hits HasEnds Taken keeps items) 0 g h hits alike are
 
 -- they ask for the same ids
 id_mapping : (k : ℕ) (r q : Reading) (m : Mapped) → AreAlike r q → IsIdMapping k r m → IsIdMapping k q m
@@ -225,7 +225,7 @@ forward g h items list alike are = record {
     ids = are.forward.ids;
     hits = are.forward.hits;
     are_ids = made_zip AreAlike IsIdMapping IsIdMapping (λ k r q m same. (id_mapping k r q m same, id_mapping k q r m (alike_back r q same))) 0 g h are.forward.ids alike are.forward.are_ids;
-    are_hits = group_hits AreForwardEnds forward_ends g h items are.forward.hits alike are.forward.are_hits;
+    are_hits = group_hits AreForwardEnds (Takes items) forward_ends g h items are.forward.hits alike are.forward.are_hits;
     all = are.forward.all;
   };
   is = kept g h are.all list alike are.is;
@@ -236,7 +236,7 @@ backward g h items list alike are = record {
   all = are.all;
   backward = record {
     hits = are.backward.hits;
-    are_hits = group_hits AreBackwardEnds backward_ends g h items are.backward.hits alike are.backward.are_hits;
+    are_hits = group_hits AreBackwardEnds Matches backward_ends g h items are.backward.hits alike are.backward.are_hits;
     all = are.backward.all;
   };
   is = kept g h are.all list alike are.is;

@@ -8,7 +8,7 @@ use Rattle.gix_refspec.specs.Text.{Lacks, Begins}
 use Rattle.gix_refspec.specs.Bytes.{star, head}
 use Rattle.gix_refspec.specs.Reading.{Reading, side_on_remote}
 use Rattle.gix_refspec.specs.Side.{SideKind, pattern, full_name, object, partial, HasKind, IsId, IsCandidate, candidates}
-use Rattle.gix_refspec.specs.Match.{Ref, Matches}
+use Rattle.gix_refspec.specs.Match.{Ref, Matches, Takes}
 use Rattle.gix_refspec.specs.Prefix.{IsAsked, Expands, to_prefix, IsExpansion}
 use Rattle.gix_refspec.specs.Lists.{IsMadeFrom, IsJoinedFrom}
 use Rattle.gix_refspec.specs.Mappings.{name, id, Mapped, Stays}
@@ -70,10 +70,10 @@ source_asked : (r : Reading) (ends : Ends) → r.operation ≡ Fetch → AreForw
 source_asked r ends fetch are = record { positive = are.positive; side = ap (λ (op : Operation). side_on_remote op r.source r.destination) fetch ∙ are.near }
 
 -- a spec whose source is covering covers each name that it takes
-hit_covered : (r : Reading) (ends : Ends) (items : List Ref) (k j : ℕ) (item : Ref) (hit : Hit) → HasCoveringSource r → AreForwardEnds r ends → IsHit items ends k j item hit → IsCoveredBy hit.near r
+hit_covered : (r : Reading) (ends : Ends) (items : List Ref) (k j : ℕ) (item : Ref) (hit : Hit) → HasCoveringSource r → AreForwardEnds r ends → IsHit (Takes items) ends k j item hit → IsCoveredBy hit.near r
 hit_covered r ends items k j item hit covering are is =
     let asked = source_asked r ends covering.fetch are in
-    let covers = side_covers ends.near item is.word (covering.source ends.near asked) are.no_object is.takes in
+    let covers = side_covers ends.near item is.word (covering.source ends.near asked) are.no_object is.takes.matches in
     record {
       entries = covers.0;
       expansion = inl (ends.near, asked, covers.1);
@@ -86,14 +86,14 @@ made_each R Q each k [] ys none = subst (AllByRecursion Q) (sym none) tt
 made_each R Q each k (x ∷ xs) ys (None, rest, here, more, is) = subst (AllByRecursion Q) (sym is) (made_each R Q each (k + 1) xs rest more)
 made_each R Q each k (x ∷ xs) ys (Some y, rest, here, more, is) = subst (AllByRecursion Q) (sym is) (each k x y here, made_each R Q each (k + 1) xs rest more)
 
-spec_covers : (r : Reading) (items : List Ref) (k : ℕ) (hits : List Hit) → HasCoveringSource r → AreSpecHits AreForwardEnds items k r hits → AllByRecursion (λ hit. IsCoveredBy hit.near r) hits
-spec_covers r items k hits covering (inl (ends, are, made)) = made_each (IsHit items ends k) (λ hit. IsCoveredBy hit.near r) (λ j item hit is. hit_covered r ends items k j item hit covering are is) 0 items hits made
+spec_covers : (r : Reading) (items : List Ref) (k : ℕ) (hits : List Hit) → HasCoveringSource r → AreSpecHits AreForwardEnds (Takes items) items k r hits → AllByRecursion (λ hit. IsCoveredBy hit.near r) hits
+spec_covers r items k hits covering (inl (ends, are, made)) = made_each (IsHit (Takes items) ends k) (λ hit. IsCoveredBy hit.near r) (λ j item hit is. hit_covered r ends items k j item hit covering are is) 0 items hits made
 spec_covers r items k hits covering (inr (none, empty)) = subst (AllByRecursion (λ hit. IsCoveredBy hit.near r)) (sym empty) tt
 
 -- ---- a group
 
 -- so some spec covers each name that is taken
-hits_covered : (g : List Reading) (items : List Ref) (k : ℕ) (hits : List Hit) → AllByRecursion HasCoveringSource g → IsJoinedFrom (AreSpecHits AreForwardEnds items) k g hits → AllByRecursion (λ hit. Any (IsCoveredBy hit.near) g) hits
+hits_covered : (g : List Reading) (items : List Ref) (k : ℕ) (hits : List Hit) → AllByRecursion HasCoveringSource g → IsJoinedFrom (AreSpecHits AreForwardEnds (Takes items) items) k g hits → AllByRecursion (λ hit. Any (IsCoveredBy hit.near) g) hits
 hits_covered [] items k hits covering none = subst (AllByRecursion (λ hit. Any (IsCoveredBy hit.near) [])) (sym none) tt
 hits_covered (r ∷ g) items k hits covering (first, rest, here, more, is) =
     subst (AllByRecursion (λ hit. Any (IsCoveredBy hit.near) (r ∷ g))) (sym is)
@@ -121,7 +121,7 @@ kept_each Q g all k [] ys each none = subst (AllByRecursion Q) (sym none) tt
 kept_each Q g all k (x ∷ xs) ys each (None, rest, here, more, is) = subst (AllByRecursion Q) (sym is) (kept_each Q g all (k + 1) xs rest each.1 more)
 kept_each Q g all k (x ∷ xs) ys each (Some y, rest, here, more, is) = subst (AllByRecursion Q) (sym is) (subst Q (sym here.0) each.0, kept_each Q g all (k + 1) xs rest each.1 more)
 
-forward_sources : (P : List ℕ → Type 0) (g : List Reading) (items : List Ref) (all : List Mapped) → ((hits : List Hit) → AreHits AreForwardEnds g items hits → AllByRecursion (λ hit. P hit.near) hits) → AreForward g items all → SourcesAre P all
+forward_sources : (P : List ℕ → Type 0) (g : List Reading) (items : List Ref) (all : List Mapped) → ((hits : List Hit) → AreHits AreForwardEnds (Takes items) g items hits → AllByRecursion (λ hit. P hit.near) hits) → AreForward g items all → SourcesAre P all
 forward_sources P g items all covered are =
     subst (SourcesAre P) (sym are.all)
     (all_join (λ m. (n : List ℕ) → m.source ≡ name n → P n) are.ids (map forward_of are.hits)

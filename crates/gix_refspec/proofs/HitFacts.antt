@@ -6,20 +6,19 @@ use Rattle.gix_refspec.specs.Bytes.{star}
 use Rattle.gix_refspec.specs.ObjectId.{IsIdText}
 use Rattle.gix_refspec.specs.Reading.{Normal, Forced, Negative}
 use Rattle.gix_refspec.specs.Grammar.{fetched, pushed}
-use Rattle.gix_refspec.specs.Side.{pattern, full_name, object, HasKind}
-use Rattle.gix_refspec.specs.Match.{Ref, Matches}
+use Rattle.gix_refspec.specs.Side.{pattern, object, HasKind}
+use Rattle.gix_refspec.specs.Match.{Ref, Matches, Takes}
 use Rattle.gix_refspec.specs.Lists.{IsMadeFrom}
 use Rattle.gix_refspec.specs.Mappings.{name, id, Mapped, IsExcludedBy, IsExcluded, Stays, IsKept}
-use Rattle.gix_refspec.specs.Hits.{Ends, AreForwardEnds, AreBackwardEnds, Takes, IsFilled, Hit, IsHit, AreSpecHits, AreHits, forward_of, backward_of, IsIdMapping, AreBackward}
+use Rattle.gix_refspec.specs.Hits.{Ends, AreForwardEnds, AreBackwardEnds, IsFilled, Hit, IsHit, AreSpecHits, AreHits, forward_of, backward_of, IsIdMapping, AreBackward}
 use Rattle.gix_refspec.specs.Prefix.{of_name}
 use Rattle.gix_refspec.proofs.MatchLemmas.{prefix_begins}
 use Rattle.gix_refspec.proofs.FormsBackLemmas.{some_once}
-use Rattle.gix_refspec.proofs.ManualFacts.{Lacks-tested, other_length, none_some, some_none, named}
+use Rattle.gix_refspec.proofs.ManualFacts.{Lacks-tested, other_length, none_some, some_none}
 use Rattle.gix_refspec.proofs.JoinLemmas.{nothing_made}
 use Rattle.gix_refspec.proofs.FaultFacts.{begins_not}
 use Rattle.gix_refspec.proofs.ObjectIdFacts.{empty_blob}
-use Rattle.gix_refspec.proofs.MatchFacts.{every, no_dev, short, blob, blob_kind, blob_mapping, below_tags, short_no_id, mapping, tag_to_x, tag_again, dev_ref, main_ref, dev_excluded, forward_ends, backward_ends, are_forward_ends, hit_by, taken_by}
-use Rattle.gix_refspec.proofs.SideFacts.{partial_matches}
+use Rattle.gix_refspec.proofs.MatchFacts.{every, no_dev, short, blob, blob_kind, blob_mapping, short_no_id, mapping, tag_to_x, tag_again, dev_ref, main_ref, dev_excluded, forward_ends, backward_ends, are_forward_ends, hit_by, taken_by}
 
 -- ---- exclusions
 
@@ -93,10 +92,6 @@ backward_ends_of = (
 
 -- ---- hits
 
--- a side takes what it matches, whatever the items are, and nothing else
-pub takes : Takes [] (codes "refs/tags/blob") (named (codes "refs/tags/blob")) None × ((word : Option (List ℕ)) → ¬ (Takes (named (codes "refs/x/main") ∷ []) (codes "main") (named (codes "refs/x/main")) word))
-takes = (record { kind = full_name (codes "refs/tags/blob"); of = below_tags; is = (refl, refl) }, partial_matches.2)
-
 abbrev pub x_side : List ℕ
 x_side = codes "refs/x/*"
 
@@ -114,7 +109,7 @@ fills = (
 )
 
 -- a hit has the places of its spec and of its item, and not these swapped
-pub places_of_hits : IsHit [] forward_ends 5 3 main_ref (hit_by 5 3 (codes "main")) × ¬ (IsHit [] forward_ends 5 3 main_ref (hit_by 3 5 (codes "main"))) × ¬ (IsHit [] forward_ends 5 3 main_ref (hit_by 5 3 (codes "mai")))
+pub places_of_hits : IsHit (Takes []) forward_ends 5 3 main_ref (hit_by 5 3 (codes "main")) × ¬ (IsHit (Takes []) forward_ends 5 3 main_ref (hit_by 3 5 (codes "main"))) × ¬ (IsHit (Takes []) forward_ends 5 3 main_ref (hit_by 5 3 (codes "mai")))
 places_of_hits = (taken_by [] 5 3 (codes "main"), (λ is. omega (arith, is.spec)), λ is. other_length _ _ (λ size. omega (arith, size)) is.near)
 
 abbrev pub branches : List Ref
@@ -123,11 +118,11 @@ branches = dev_ref ∷ main_ref ∷ []
 abbrev pub of_spec : ℕ → List Hit
 of_spec k = hit_by k 0 (codes "dev-a") ∷ hit_by k 1 (codes "main") ∷ []
 
-taken : (k : ℕ) → IsMadeFrom (IsHit branches forward_ends k) 0 branches (of_spec k)
+taken : (k : ℕ) → IsMadeFrom (IsHit (Takes branches) forward_ends k) 0 branches (of_spec k)
 taken k = (Some (hit_by k 0 (codes "dev-a")), hit_by k 1 (codes "main") ∷ [], taken_by branches k 0 (codes "dev-a"), (Some (hit_by k 1 (codes "main")), [], taken_by branches k 1 (codes "main"), refl, refl), refl)
 
 -- two specs that take two branches have four hits: both of the first spec, and then both of the second
-pub hits_by_spec : AreHits AreForwardEnds (every ∷ every ∷ []) branches (hit_by 0 0 (codes "dev-a") ∷ hit_by 0 1 (codes "main") ∷ hit_by 1 0 (codes "dev-a") ∷ hit_by 1 1 (codes "main") ∷ [])
+pub hits_by_spec : AreHits AreForwardEnds (Takes branches) (every ∷ every ∷ []) branches (hit_by 0 0 (codes "dev-a") ∷ hit_by 0 1 (codes "main") ∷ hit_by 1 0 (codes "dev-a") ∷ hit_by 1 1 (codes "main") ∷ [])
 hits_by_spec = (
   of_spec 0,
   of_spec 1,
@@ -137,16 +132,16 @@ hits_by_spec = (
 )
 
 -- a spec that takes an item has its hit, and one without such ends has none
-pub spec_hits : ¬ (AreSpecHits AreForwardEnds (main_ref ∷ []) 0 every []) × AreSpecHits AreForwardEnds branches 0 no_dev [] × ¬ (AreSpecHits AreForwardEnds branches 0 no_dev (of_spec 0))
+pub spec_hits : ¬ (AreSpecHits AreForwardEnds (Takes (main_ref ∷ [])) (main_ref ∷ []) 0 every []) × AreSpecHits AreForwardEnds (Takes branches) branches 0 no_dev [] × ¬ (AreSpecHits AreForwardEnds (Takes branches) branches 0 no_dev (of_spec 0))
 spec_hits = (missing, inr ((λ ends are. are.positive), refl), added)
   where
-    missing : ¬ (AreSpecHits AreForwardEnds (main_ref ∷ []) 0 every [])
+    missing : ¬ (AreSpecHits AreForwardEnds (Takes (main_ref ∷ [])) (main_ref ∷ []) 0 every [])
     missing (inl (ends, are, made)) =
         let near = some_once (codes "refs/heads/*") ends.near are.near in
-        let is = taken_by [] 0 0 (codes "main") in
-        nothing_made (IsHit (main_ref ∷ []) ends 0) 0 [] main_ref [] (hit_by 0 0 (codes "main")) made (record {
+        let is = taken_by (main_ref ∷ []) 0 0 (codes "main") in
+        nothing_made (IsHit (Takes (main_ref ∷ [])) ends 0) 0 [] main_ref [] (hit_by 0 0 (codes "main")) made (record {
           word = is.word;
-          takes = subst (λ (x : List ℕ). Matches x main_ref is.word) near is.takes;
+          takes = subst (λ (x : List ℕ). Takes (main_ref ∷ []) x main_ref is.word) near is.takes;
           far = subst (λ (far : Option (List ℕ)). IsFilled far is.word (Some (codes "refs/remotes/origin/main"))) are.far is.far;
           near = refl;
           spec = refl;
@@ -154,7 +149,7 @@ spec_hits = (missing, inr ((λ ends are. are.positive), refl), added)
         })
     missing (inr (no_ends, same)) = no_ends forward_ends are_forward_ends
 
-    added : ¬ (AreSpecHits AreForwardEnds branches 0 no_dev (of_spec 0))
+    added : ¬ (AreSpecHits AreForwardEnds (Takes branches) branches 0 no_dev (of_spec 0))
     added (inl (ends, are, made)) = are.positive
     added (inr (no_ends, same)) = cc
 
@@ -193,7 +188,7 @@ no_id_back = record {
   all = refl;
 }
   where
-    not_taken : (hit : Hit) → ¬ (IsHit (main_ref ∷ []) blob_back 0 0 main_ref hit)
+    not_taken : (hit : Hit) → ¬ (IsHit Matches blob_back 0 0 main_ref hit)
     not_taken hit is =
         let prefix = of_name (record { after = codes "tags/blob"; here = refl }) (Lacks-tested star (codes "refs/tags/blob") refl) refl in
         let begins = prefix_begins (codes "refs/tags/blob") (codes "refs/tags/blob") main_ref is.word prefix (other_length _ _ (λ same. omega (arith, same))) is.takes in

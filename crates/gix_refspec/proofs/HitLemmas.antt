@@ -24,16 +24,17 @@ use Rattle.gix_refspec.specs.Reading.{Reading}
 use Rattle.gix_refspec.specs.Grammar.{IsAccepted, IsPositive}
 use Rattle.gix_refspec.specs.Spec.{reading_of}
 use Rattle.gix_refspec.specs.Side.{SideKind, pattern, full_name, object, partial, HasKind, Fits, IsCandidate, candidates, filled}
-use Rattle.gix_refspec.specs.Match.{Ref, MatchesAs, Matches}
+use Rattle.gix_refspec.specs.Match.{Ref, MatchesAs, Matches, HasName, IsFirstCandidate, Takes}
 use Rattle.gix_refspec.specs.Lists.{MakesOf, IsMadeFrom}
 use Rattle.gix_refspec.specs.Mappings.{Mapped, IsKept, Stays}
 use Rattle.gix_refspec.specs.Group.{name_bytes, mapped_of, ref_of}
 use Rattle.gix_refspec.specs.Hits.{Ends, OneForward, OneBackward, IsIdMapping, AreForward, AreBackward, forward_of, backward_of, AreForwardEnds, AreBackwardEnds, AreSpecHits, AreHits, Hit, IsHit, IsFilled}
 use Rattle.gix_refspec.specs.Private.SideViews.{shown_kind}
-use Rattle.gix_refspec.specs.Private.HitViews.{AsksForId, word_of, IsPlace, HasKindShown, HaveKinds, HasEnds, filled_end, AreHitsOfKinds, HasHit, mapping_of, made_in, AddsHits, AreFirst, AreMade}
+use Rattle.gix_refspec.specs.Private.HitViews.{AsksForId, word_of, IsPlace, HasKindShown, HaveKinds, HasEnds, TakesIn, IsFirstIn, TakesEach, filled_end, AreHitsOfKinds, HasHit, mapping_of, made_in, AddsHits, AreFirst, AreMade}
 use Rattle.gix_refspec.specs.Mappings as mappings
 use Rattle.gix_refspec.proofs.ObjectIdLemmas.{IsIdText-unique}
 use Rattle.gix_refspec.proofs.AcceptedLemmas.{accepted_few}
+use Rattle.gix_refspec.proofs.CandidateLemmas.{first_candidate, some_first}
 use Rattle.gix_refspec.proofs.MatchLemmas.{one_word, lacks_no_pattern, cut_once}
 use Rattle.gix_refspec.proofs.ListsLemmas.{made_once}
 use Rattle.gix_refspec.proofs.JoinLemmas.{MakesOnce, one_joined, empty_both, made_next, nothing_made, joined_next, nothing_joined, map_more, map_long, map_cut}
@@ -129,6 +130,70 @@ same_word (partial n) r v w of_v of_w = of_v.0 ∙ sym of_w.0
 pub matches_as : (x : List ℕ) (k : SideKind) (r : Ref) (word : Option (List ℕ)) → HasKind x k → Matches x r word → MatchesAs k r word
 matches_as x k r word kind matches = subst (λ l. MatchesAs l r word) (one_kind x matches.kind k matches.of kind) matches.is
 
+-- what a side of the kind takes in a direction is what it matches, and a partial source by its first candidate
+takes_in : (direction : Direction) (items : List Ref) (x : List ℕ) (k : SideKind) (r : Ref) (word : Option (List ℕ)) → HasKind x k → MatchesAs k r word → IsFirstIn k direction items r.name → TakesIn direction items x r word
+takes_in Forward items x k r word of is first = record {
+  matches = record { kind = k; of = of; is = is };
+  first = λ n partial_n. subst (λ l. IsFirstIn l Forward items r.name) (one_kind x k (partial n) of partial_n) first;
+}
+takes_in Backward items x k r word of is first = record { kind = k; of = of; is = is }
+
+pub taken_matches : (direction : Direction) (items : List Ref) (x : List ℕ) (r : Ref) (word : Option (List ℕ)) → TakesIn direction items x r word → Matches x r word
+taken_matches Forward items x r word takes = takes.matches
+taken_matches Backward items x r word takes = takes
+
+pub taken_first : (direction : Direction) (items : List Ref) (x : List ℕ) (k : SideKind) (r : Ref) (word : Option (List ℕ)) → HasKind x k → TakesIn direction items x r word → IsFirstIn k direction items r.name
+taken_first direction items x (pattern before after) r word of takes = tt
+taken_first direction items x (full_name n) r word of takes = tt
+taken_first direction items x (object id) r word of takes = tt
+taken_first Forward items x (partial n) r word of takes = takes.first n of
+taken_first Backward items x (partial n) r word of takes = tt
+
+-- a side of another kind takes each item that it matches
+each_first : (k : SideKind) (direction : Direction) (items : List Ref) (n : List ℕ) → TakesEach k → IsFirstIn k direction items n
+each_first (pattern before after) direction items n each = tt
+each_first (full_name x) direction items n each = tt
+each_first (object id) direction items n each = tt
+each_first (partial x) direction items n each = absurd each
+
+pub takes_each : (direction : Direction) (items : List Ref) (x : List ℕ) (k : SideKind) (r : Ref) (word : Option (List ℕ)) → TakesEach k → HasKind x k → MatchesAs k r word → TakesIn direction items x r word
+takes_each direction items x k r word each of is = takes_in direction items x k r word of is (each_first k direction items r.name each)
+
+-- a name that is there, and the first ref that has it
+has_at : (items : List Ref) (before : List Ref) (r : Ref) (after : List Ref) → items ≡ before ++ (r ∷ after) → HasName items r.name
+has_at items before r after here = subst (λ l. HasName l r.name) (sym here) (behind before)
+  where
+    behind : (before : List Ref) → HasName (before ++ (r ∷ after)) r.name
+    behind [] = inl refl
+    behind (b ∷ before) = inr (behind before)
+
+named_at : (items : List Ref) (n : List ℕ) → HasName items n → (before : List Ref) × (r : Ref) × (after : List Ref) × (items ≡ before ++ (r ∷ after)) × (r.name ≡ n)
+named_at [] n has = absurd has
+named_at (r ∷ items) n (inl same) = ([], r, items, refl, same)
+named_at (r ∷ items) n (inr has) = let (before, s, after, here, same) = named_at items n has in (r ∷ before, s, after, ap (λ l. r ∷ l) here, same)
+
+-- an item that a side of the kind takes in the direction
+record IsTakenAmong (direction : Direction) (k : SideKind) (items : List Ref) : Type 0 where
+  before : List Ref
+  ref : Ref
+  after : List Ref
+  here : items ≡ before ++ (ref ∷ after)
+  word : Option (List ℕ)
+  matches : MatchesAs k ref word
+  first : IsFirstIn k direction items ref.name
+
+-- where an item is matched, one is taken
+matched_taken : (direction : Direction) (k : SideKind) (items before : List Ref) (r : Ref) (after : List Ref) (word : Option (List ℕ)) → items ≡ before ++ (r ∷ after) → MatchesAs k r word → IsTakenAmong direction k items
+matched_taken direction (pattern front back) items before r after word here matches = record { before = before; ref = r; after = after; here = here; word = word; matches = matches; first = tt }
+matched_taken direction (full_name n) items before r after word here matches = record { before = before; ref = r; after = after; here = here; word = word; matches = matches; first = tt }
+matched_taken direction (object id) items before r after word here matches = record { before = before; ref = r; after = after; here = here; word = word; matches = matches; first = tt }
+matched_taken Forward (partial x) items before r after word here matches =
+    let first = some_first items x r.name matches.1 (has_at items before r after here) in
+    let at = named_at items first.0 first.1.present in
+    let is_first : IsFirstCandidate items x at.1.name = subst (IsFirstCandidate items x) (sym at.4) first.1 in
+    record { before = at.0; ref = at.1; after = at.2; here = at.3; word = None; matches = (refl, first_candidate items x at.1.name is_first); first = is_first }
+matched_taken Backward (partial x) items before r after word here matches = record { before = before; ref = r; after = after; here = here; word = word; matches = matches; first = tt }
+
 -- a far end becomes what its kind says
 far_filled : (x : Option (List ℕ)) (k : Option DeclaredKind) (word n : Option (List ℕ)) → HasKindShown x k → n ≡ filled_end k word → IsFilled x word n
 far_filled None None word n kind same = same
@@ -136,11 +201,11 @@ far_filled None (Some k) word n kind same = absurd kind
 far_filled (Some x) None word n kind same = absurd kind
 far_filled (Some x) (Some k) word n kind same = (shown_kind k, kind, same)
 
--- what is made where an end of the kinds matches
-pub is_hit : (items : List Ref) (ends : Ends) (kinds : DeclaredEnds) (k j : ℕ) (r : Ref) (word : Option (List ℕ)) (hit : Hit) → HaveKinds ends kinds → MatchesAs (shown_kind kinds.near) r word → hit.far ≡ filled_end kinds.far word → hit.near ≡ r.name → hit.spec ≡ k → hit.item ≡ j → IsHit items ends k j r hit
-is_hit items ends kinds k j r word hit have matches far near spec item = record {
+-- what is made where an end of the kinds takes an item
+pub is_hit : (direction : Direction) (items : List Ref) (ends : Ends) (kinds : DeclaredEnds) (k j : ℕ) (r : Ref) (word : Option (List ℕ)) (hit : Hit) → HaveKinds ends kinds → MatchesAs (shown_kind kinds.near) r word → IsFirstIn (shown_kind kinds.near) direction items r.name → hit.far ≡ filled_end kinds.far word → hit.near ≡ r.name → hit.spec ≡ k → hit.item ≡ j → IsHit (TakesIn direction items) ends k j r hit
+is_hit direction items ends kinds k j r word hit have matches first far near spec item = record {
   word = word;
-  takes = record { kind = shown_kind kinds.near; of = have.near; is = matches };
+  takes = takes_in direction items ends.near (shown_kind kinds.near) r word have.near matches first;
   far = far_filled ends.far kinds.far word hit.far have.far far;
   near = near;
   spec = spec;
@@ -148,56 +213,58 @@ is_hit items ends kinds k j r word hit have matches far near spec item = record 
 }
 
 -- one more item, which is hit
-pub hit_added : (kinds : DeclaredEnds) (k : ℕ) (items : List Ref) (i : ℕ) (so_far : List Ref) (r : Ref) (hits : List Hit) (word : Option (List ℕ)) (hit : Hit) → length so_far ≡ i → AreHitsOfKinds kinds k items so_far hits → MatchesAs (shown_kind kinds.near) r word → hit.far ≡ filled_end kinds.far word → hit.near ≡ r.name → hit.spec ≡ k → hit.item ≡ i → AreHitsOfKinds kinds k items (so_far ++ r ∷ []) (hits ++ hit ∷ [])
-hit_added kinds k items i so_far r hits word hit long are matches far near spec item = λ ends have.
-    made_next (IsHit items ends k) i so_far r hits (Some hit) long (are ends have) (is_hit items ends kinds k i r word hit have matches far near spec item)
+pub hit_added : (direction : Direction) (kinds : DeclaredEnds) (k : ℕ) (items : List Ref) (i : ℕ) (so_far : List Ref) (r : Ref) (hits : List Hit) (word : Option (List ℕ)) (hit : Hit) → length so_far ≡ i → AreHitsOfKinds direction kinds k items so_far hits → MatchesAs (shown_kind kinds.near) r word → IsFirstIn (shown_kind kinds.near) direction items r.name → hit.far ≡ filled_end kinds.far word → hit.near ≡ r.name → hit.spec ≡ k → hit.item ≡ i → AreHitsOfKinds direction kinds k items (so_far ++ r ∷ []) (hits ++ hit ∷ [])
+hit_added direction kinds k items i so_far r hits word hit long are matches first far near spec item = λ ends have.
+    made_next (IsHit (TakesIn direction items) ends k) i so_far r hits (Some hit) long (are ends have) (is_hit direction items ends kinds k i r word hit have matches first far near spec item)
 
 -- one more item, which isn't hit
-pub hit_missed : (kinds : DeclaredEnds) (k : ℕ) (items : List Ref) (i : ℕ) (so_far : List Ref) (r : Ref) (hits : List Hit) → length so_far ≡ i → AreHitsOfKinds kinds k items so_far hits → ((word : Option (List ℕ)) → ¬ (MatchesAs (shown_kind kinds.near) r word)) → AreHitsOfKinds kinds k items (so_far ++ r ∷ []) hits
-hit_missed kinds k items i so_far r hits long are none = λ ends have.
-    subst (IsMadeFrom (IsHit items ends k) 0 (so_far ++ r ∷ [])) (append-nil hits)
-    (made_next (IsHit items ends k) i so_far r hits None long (are ends have) (λ hit is. none is.word (matches_as ends.near (shown_kind kinds.near) r is.word have.near is.takes)))
+pub hit_missed : (direction : Direction) (kinds : DeclaredEnds) (k : ℕ) (items : List Ref) (i : ℕ) (so_far : List Ref) (r : Ref) (hits : List Hit) → length so_far ≡ i → AreHitsOfKinds direction kinds k items so_far hits → ((word : Option (List ℕ)) → ¬ (MatchesAs (shown_kind kinds.near) r word)) → AreHitsOfKinds direction kinds k items (so_far ++ r ∷ []) hits
+hit_missed direction kinds k items i so_far r hits long are none = λ ends have.
+    subst (IsMadeFrom (IsHit (TakesIn direction items) ends k) 0 (so_far ++ r ∷ [])) (append-nil hits)
+    (made_next (IsHit (TakesIn direction items) ends k) i so_far r hits None long (are ends have) (λ hit is. none is.word (matches_as ends.near (shown_kind kinds.near) r is.word have.near (taken_matches direction items ends.near r is.word is.takes))))
 
--- an item that matches is hit
+-- where an item is matched, one is hit
 pub some_hit : (kinds : DeclaredEnds) (before : List Ref) (r : Ref) (after : List Ref) (word : Option (List ℕ)) → MatchesAs (shown_kind kinds.near) r word → HasHit kinds (before ++ (r ∷ after))
-some_hit kinds before r after word matches = λ ends k have none.
+some_hit kinds before r after word matches = λ direction ends k have none.
     let items = before ++ (r ∷ after) in
-    let hit : Hit = record { spec = k; item = 0 + length before; near = r.name; far = filled_end kinds.far word } in
-    nothing_made (IsHit items ends k) 0 before r after hit none (is_hit items ends kinds k (0 + length before) r word hit have matches refl refl refl refl)
+    let at = matched_taken direction (shown_kind kinds.near) items before r after word refl matches in
+    let hit : Hit = record { spec = k; item = 0 + length at.before; near = at.ref.name; far = filled_end kinds.far at.word } in
+    let taken : List Ref → Type 0 = λ l. IsMadeFrom (IsHit (TakesIn direction items) ends k) 0 l [] in
+    nothing_made (IsHit (TakesIn direction items) ends k) 0 at.before at.ref at.after hit (subst taken at.here none) (is_hit direction items ends kinds k (0 + length at.before) at.ref at.word hit have at.matches at.first refl refl refl refl)
 
--- an item that matches adds its hit
-pub adds_hit : (direction : Direction) (kinds : DeclaredEnds) (k : ℕ) (xs : List Item) (i : ℕ) (d : Item) (old mid new : Made) (found : Match) (far : Option NameRef) → i < length xs
-    → AddsHits direction (AreHitsOfKinds kinds k (map ref_of xs) (map ref_of (take i xs))) old mid
+-- an item that matches adds its hit, where the side takes each such item
+pub adds_hit : (direction : Direction) (kinds : DeclaredEnds) (k : ℕ) (xs : List Item) (i : ℕ) (d : Item) (old mid new : Made) (found : Match) (far : Option NameRef) → TakesEach (shown_kind kinds.near) → i < length xs
+    → AddsHits direction (AreHitsOfKinds direction kinds k (map ref_of xs) (map ref_of (take i xs))) old mid
     → MatchesAs (shown_kind kinds.near) (ref_of (get_or xs i d)) (word_of found)
     → option_map name_bytes far ≡ filled_end kinds.far (word_of found)
     → made_in direction new ≡ made_in direction mid ++ mapping_of direction (record { spec = k; item = i; near = bstr_bytes ((get_or xs i d).full_ref_name); far = option_map name_bytes far }) ∷ []
-    → AddsHits direction (AreHitsOfKinds kinds k (map ref_of xs) (map ref_of (take (i + 1) xs))) old new
-adds_hit direction kinds k xs i d old mid new found far below so_far matches filled more =
+    → AddsHits direction (AreHitsOfKinds direction kinds k (map ref_of xs) (map ref_of (take (i + 1) xs))) old new
+adds_hit direction kinds k xs i d old mid new found far each below so_far matches filled more =
     let r : Ref = ref_of (get_or xs i d) in
     let hit : Hit = record { spec = k; item = i; near = r.name; far = option_map name_bytes far } in
     let items = map ref_of xs in
-    let are : AreHitsOfKinds kinds k items (map ref_of (take i xs) ++ r ∷ []) (so_far.hits ++ hit ∷ []) = hit_added kinds k items i (map ref_of (take i xs)) r so_far.hits (word_of found) hit (map_long ref_of xs i below) so_far.are matches filled refl refl refl in
+    let are : AreHitsOfKinds direction kinds k items (map ref_of (take i xs) ++ r ∷ []) (so_far.hits ++ hit ∷ []) = hit_added direction kinds k items i (map ref_of (take i xs)) r so_far.hits (word_of found) hit (map_long ref_of xs i below) so_far.are matches (each_first (shown_kind kinds.near) direction items r.name each) filled refl refl refl in
     record {
       hits = so_far.hits ++ hit ∷ [];
-      are = subst (λ l. AreHitsOfKinds kinds k items l (so_far.hits ++ hit ∷ [])) (sym (map_more ref_of xs i d below)) are;
+      are = subst (λ l. AreHitsOfKinds direction kinds k items l (so_far.hits ++ hit ∷ [])) (sym (map_more ref_of xs i d below)) are;
       all = more ∙ ap (λ l. l ++ mapping_of direction hit ∷ []) so_far.all ∙ append_assoc (made_in direction old) (map (mapping_of direction) so_far.hits) (mapping_of direction hit ∷ []) ∙ ap (λ l. made_in direction old ++ l) (sym (map-append (mapping_of direction) so_far.hits (hit ∷ [])));
     }
 
 -- another item adds nothing
 pub adds_nothing : (direction : Direction) (kinds : DeclaredEnds) (k : ℕ) (xs : List Item) (i : ℕ) (d : Item) (old mid : Made) → i < length xs
-    → AddsHits direction (AreHitsOfKinds kinds k (map ref_of xs) (map ref_of (take i xs))) old mid
+    → AddsHits direction (AreHitsOfKinds direction kinds k (map ref_of xs) (map ref_of (take i xs))) old mid
     → ((word : Option (List ℕ)) → ¬ (MatchesAs (shown_kind kinds.near) (ref_of (get_or xs i d)) word))
-    → AddsHits direction (AreHitsOfKinds kinds k (map ref_of xs) (map ref_of (take (i + 1) xs))) old mid
+    → AddsHits direction (AreHitsOfKinds direction kinds k (map ref_of xs) (map ref_of (take (i + 1) xs))) old mid
 adds_nothing direction kinds k xs i d old mid below so_far none =
     let r : Ref = ref_of (get_or xs i d) in
     let items = map ref_of xs in
     record {
       hits = so_far.hits;
-      are = subst (λ l. AreHitsOfKinds kinds k items l so_far.hits) (sym (map_more ref_of xs i d below)) (hit_missed kinds k items i (map ref_of (take i xs)) r so_far.hits (map_long ref_of xs i below) so_far.are none);
+      are = subst (λ l. AreHitsOfKinds direction kinds k items l so_far.hits) (sym (map_more ref_of xs i d below)) (hit_missed direction kinds k items i (map ref_of (take i xs)) r so_far.hits (map_long ref_of xs i below) so_far.are none);
       all = so_far.all;
     }
 
--- the item at a place is hit
+-- where the item at a place is matched, one is hit
 pub item_hit : (kinds : DeclaredEnds) (xs : List Item) (i : ℕ) (d : Item) (found : Match) → i < length xs → MatchesAs (shown_kind kinds.near) (ref_of (get_or xs i d)) (word_of found) → HasHit kinds (map ref_of xs)
 item_hit kinds xs i d found below matches = subst (HasHit kinds) (sym (map_cut ref_of xs i d below)) (some_hit kinds (map ref_of (take i xs)) (ref_of (get_or xs i d)) (map ref_of (drop (suc i) xs)) (word_of found) matches)
 
@@ -266,42 +333,42 @@ specs_cut : (specs : List RefSpecRef) (i : ℕ) (s : RefSpecRef) → i < length 
 specs_cut specs i s below is = map_cut reading_of specs i s below ∙ ap (λ t. map reading_of (take i specs) ++ (reading_of t ∷ map reading_of (drop (suc i) specs))) (sym is)
 
 -- one more spec
-pub spec_hits : (direction : Direction) (specs : List RefSpecRef) (items : List Ref) (i : ℕ) (s : RefSpecRef) (g h : List Hit) → i < length specs → s ≡ get_or specs i s → AreHits (HasEnds direction) (map reading_of (take i specs)) items g → AreSpecHits (HasEnds direction) items i (reading_of s) h → AreHits (HasEnds direction) (map reading_of (take (i + 1) specs)) items (g ++ h)
+pub spec_hits : (direction : Direction) (specs : List RefSpecRef) (items : List Ref) (i : ℕ) (s : RefSpecRef) (g h : List Hit) → i < length specs → s ≡ get_or specs i s → AreHits (HasEnds direction) (TakesIn direction items) (map reading_of (take i specs)) items g → AreSpecHits (HasEnds direction) (TakesIn direction items) items i (reading_of s) h → AreHits (HasEnds direction) (TakesIn direction items) (map reading_of (take (i + 1) specs)) items (g ++ h)
 spec_hits direction specs items i s g h below is so_far here =
-    subst (λ rs. AreHits (HasEnds direction) rs items (g ++ h)) (sym (specs_more specs i s below is))
-    (joined_next (AreSpecHits (HasEnds direction) items) i (map reading_of (take i specs)) (reading_of s) g h (map_long reading_of specs i below) so_far here)
+    subst (λ rs. AreHits (HasEnds direction) (TakesIn direction items) rs items (g ++ h)) (sym (specs_more specs i s below is))
+    (joined_next (AreSpecHits (HasEnds direction) (TakesIn direction items) items) i (map reading_of (take i specs)) (reading_of s) g h (map_long reading_of specs i below) so_far here)
 
 -- a spec adds its hits
 pub adds_spec : (direction : Direction) (specs : List RefSpecRef) (items : List Ref) (i : ℕ) (s : RefSpecRef) (kinds : DeclaredEnds) (old mid new : Made) → i < length specs → s ≡ get_or specs i s
-    → AddsHits direction (AreHits (HasEnds direction) (map reading_of (take i specs)) items) old mid
+    → AddsHits direction (AreHits (HasEnds direction) (TakesIn direction items) (map reading_of (take i specs)) items) old mid
     → (ends : Ends) × HasEnds direction (reading_of s) ends × HaveKinds ends kinds
-    → AddsHits direction (AreHitsOfKinds kinds i items items) mid new
-    → AddsHits direction (AreHits (HasEnds direction) (map reading_of (take (i + 1) specs)) items) old new
+    → AddsHits direction (AreHitsOfKinds direction kinds i items items) mid new
+    → AddsHits direction (AreHits (HasEnds direction) (TakesIn direction items) (map reading_of (take (i + 1) specs)) items) old new
 adds_spec direction specs items i s kinds old mid new below is so_far found here =
-    adds_both direction (AreHits (HasEnds direction) (map reading_of (take i specs)) items) (AreHitsOfKinds kinds i items items) (AreHits (HasEnds direction) (map reading_of (take (i + 1) specs)) items) old mid new (λ g h are_g are_h. spec_hits direction specs items i s g h below is are_g (inl (found.0, found.1, are_h found.0 found.2))) so_far here
+    adds_both direction (AreHits (HasEnds direction) (TakesIn direction items) (map reading_of (take i specs)) items) (AreHitsOfKinds direction kinds i items items) (AreHits (HasEnds direction) (TakesIn direction items) (map reading_of (take (i + 1) specs)) items) old mid new (λ g h are_g are_h. spec_hits direction specs items i s g h below is are_g (inl (found.0, found.1, are_h found.0 found.2))) so_far here
 
 -- a spec without such ends adds nothing
 pub adds_no_spec : (direction : Direction) (specs : List RefSpecRef) (items : List Ref) (i : ℕ) (s : RefSpecRef) (old mid : Made) → i < length specs → s ≡ get_or specs i s
-    → AddsHits direction (AreHits (HasEnds direction) (map reading_of (take i specs)) items) old mid
+    → AddsHits direction (AreHits (HasEnds direction) (TakesIn direction items) (map reading_of (take i specs)) items) old mid
     → ((ends : Ends) → ¬ (HasEnds direction (reading_of s) ends))
-    → AddsHits direction (AreHits (HasEnds direction) (map reading_of (take (i + 1) specs)) items) old mid
+    → AddsHits direction (AreHits (HasEnds direction) (TakesIn direction items) (map reading_of (take (i + 1) specs)) items) old mid
 adds_no_spec direction specs items i s old mid below is so_far none = record {
   hits = so_far.hits;
-  are = subst (AreHits (HasEnds direction) (map reading_of (take (i + 1) specs)) items) (append-nil so_far.hits) (spec_hits direction specs items i s so_far.hits [] below is so_far.are (inr (none, refl)));
+  are = subst (AreHits (HasEnds direction) (TakesIn direction items) (map reading_of (take (i + 1) specs)) items) (append-nil so_far.hits) (spec_hits direction specs items i s so_far.hits [] below is so_far.are (inr (none, refl)));
   all = so_far.all;
 }
 
 -- a spec that hits some item
-no_spec_hits : (direction : Direction) (items : List Ref) (k : ℕ) (r : Reading) (ends : Ends) (kinds : DeclaredEnds) → HasEnds direction r ends → HaveKinds ends kinds → HasHit kinds items → AreSpecHits (HasEnds direction) items k r [] → ⊥
-no_spec_hits direction items k r ends kinds has have some (inl (others, of_others, none)) = some others k (subst (λ e. HaveKinds e kinds) (one_pair direction r ends others has of_others) have) none
+no_spec_hits : (direction : Direction) (items : List Ref) (k : ℕ) (r : Reading) (ends : Ends) (kinds : DeclaredEnds) → HasEnds direction r ends → HaveKinds ends kinds → HasHit kinds items → AreSpecHits (HasEnds direction) (TakesIn direction items) items k r [] → ⊥
+no_spec_hits direction items k r ends kinds has have some (inl (others, of_others, none)) = some direction others k (subst (λ e. HaveKinds e kinds) (one_pair direction r ends others has of_others) have) none
 no_spec_hits direction items k r ends kinds has have some (inr (none, _)) = none ends has
 
-pub specs_hit : (direction : Direction) (specs : List RefSpecRef) (items : List Ref) (i : ℕ) (s : RefSpecRef) (kinds : DeclaredEnds) → i < length specs → s ≡ get_or specs i s → (ends : Ends) × HasEnds direction (reading_of s) ends × HaveKinds ends kinds → HasHit kinds items → ¬ (AreHits (HasEnds direction) (map reading_of specs) items [])
+pub specs_hit : (direction : Direction) (specs : List RefSpecRef) (items : List Ref) (i : ℕ) (s : RefSpecRef) (kinds : DeclaredEnds) → i < length specs → s ≡ get_or specs i s → (ends : Ends) × HasEnds direction (reading_of s) ends × HaveKinds ends kinds → HasHit kinds items → ¬ (AreHits (HasEnds direction) (TakesIn direction items) (map reading_of specs) items [])
 specs_hit direction specs items i s kinds below is found some none =
     let before = map reading_of (take i specs) in
     let after = map reading_of (drop (suc i) specs) in
     no_spec_hits direction items (0 + length before) (reading_of s) found.0 kinds found.1 found.2 some
-    (nothing_joined (AreSpecHits (HasEnds direction) items) 0 before (reading_of s) after (subst (λ rs. AreHits (HasEnds direction) rs items []) (specs_cut specs i s below is) none))
+    (nothing_joined (AreSpecHits (HasEnds direction) (TakesIn direction items) items) 0 before (reading_of s) after (subst (λ rs. AreHits (HasEnds direction) (TakesIn direction items) rs items []) (specs_cut specs i s below is) none))
 
 -- what a spec makes that asks for an id
 is_id_mapping : (k : ℕ) (r : Reading) (bytes : List ℕ) (kind : Option DeclaredKind) (m : Mapped) → AsksForId r bytes → HasKindShown r.destination kind → m.item ≡ None → m.source ≡ mappings.id bytes → m.destination ≡ filled_end kind None → m.spec ≡ k → IsIdMapping k r m
@@ -377,11 +444,11 @@ map_nothing f (x ∷ xs) none = absurd (cc)
 pub no_ids : (g : List Reading) (items : List Ref) → AreForward g items [] → IsMadeFrom IsIdMapping 0 g []
 no_ids g items none = subst (IsMadeFrom IsIdMapping 0 g) (empty_both none.ids (map forward_of none.hits) none.all).0 none.are_ids
 
-pub no_forward_hits : (g : List Reading) (items : List Ref) → AreForward g items [] → AreHits AreForwardEnds g items []
-no_forward_hits g items none = subst (AreHits AreForwardEnds g items) (map_nothing forward_of none.hits (empty_both none.ids (map forward_of none.hits) none.all).1) none.are_hits
+pub no_forward_hits : (g : List Reading) (items : List Ref) → AreForward g items [] → AreHits AreForwardEnds (Takes items) g items []
+no_forward_hits g items none = subst (AreHits AreForwardEnds (Takes items) g items) (map_nothing forward_of none.hits (empty_both none.ids (map forward_of none.hits) none.all).1) none.are_hits
 
-pub no_backward_hits : (g : List Reading) (items : List Ref) → AreBackward g items [] → AreHits AreBackwardEnds g items []
-no_backward_hits g items none = subst (AreHits AreBackwardEnds g items) (map_nothing backward_of none.hits (sym none.all)) none.are_hits
+pub no_backward_hits : (g : List Reading) (items : List Ref) → AreBackward g items [] → AreHits AreBackwardEnds Matches g items []
+no_backward_hits g items none = subst (AreHits AreBackwardEnds Matches g items) (map_nothing backward_of none.hits (sym none.all)) none.are_hits
 
 -- a far end becomes one name
 filled_once : (x : Option (List ℕ)) (word n m : Option (List ℕ)) → IsFilled x word n → IsFilled x word m → n ≡ m
@@ -397,20 +464,21 @@ same_hit g h spec item near far =
     let build : ℕ → ℕ → List ℕ → Option (List ℕ) → Hit = λ s i n f. record { spec = s; item = i; near = n; far = f } in
     ap (λ s. build s g.item g.near g.far) spec ∙ ap (λ i. build h.spec i g.near g.far) item ∙ ap (λ n. build h.spec h.item n g.far) near ∙ ap (build h.spec h.item h.near) far
 
-pub hit_once : (items : List Ref) (ends : Ends) (k : ℕ) → MakesOnce (IsHit items ends k)
-hit_once items ends k j r g h a b =
-    let word : b.word ≡ a.word = word_once ends.near r b.word a.word b.takes a.takes in
+pub hit_once : (direction : Direction) (items : List Ref) (ends : Ends) (k : ℕ) → MakesOnce (IsHit (TakesIn direction items) ends k)
+hit_once direction items ends k j r g h a b =
+    let matches : (w : Option (List ℕ)) → TakesIn direction items ends.near r w → Matches ends.near r w = taken_matches direction items ends.near r in
+    let word : b.word ≡ a.word = word_once ends.near r b.word a.word (matches b.word b.takes) (matches a.word a.takes) in
     same_hit g h (a.spec ∙ sym b.spec) (a.item ∙ sym b.item) (a.near ∙ sym b.near) (filled_once ends.far a.word g.far h.far a.far (subst (λ w. IsFilled ends.far w h.far) word b.far))
 
-spec_hits_once : (direction : Direction) (items : List Ref) → MakesOnce (AreSpecHits (HasEnds direction) items)
+spec_hits_once : (direction : Direction) (items : List Ref) → MakesOnce (AreSpecHits (HasEnds direction) (TakesIn direction items) items)
 spec_hits_once direction items k r g h (inl (ends, has, a)) (inl (others, have, b)) =
-    made_once (IsHit items ends k) (hit_once items ends k) 0 items g h a (subst (λ e. IsMadeFrom (IsHit items e k) 0 items h) (one_pair direction r others ends have has) b)
+    made_once (IsHit (TakesIn direction items) ends k) (hit_once direction items ends k) 0 items g h a (subst (λ e. IsMadeFrom (IsHit (TakesIn direction items) e k) 0 items h) (one_pair direction r others ends have has) b)
 spec_hits_once direction items k r g h (inl (ends, has, a)) (inr (none, b)) = absurd (none ends has)
 spec_hits_once direction items k r g h (inr (none, a)) (inl (others, have, b)) = absurd (none others have)
 spec_hits_once direction items k r g h (inr (none, a)) (inr (_, b)) = a ∙ sym b
 
-hits_once : (direction : Direction) (rs : List Reading) (items : List Ref) (g h : List Hit) → AreHits (HasEnds direction) rs items g → AreHits (HasEnds direction) rs items h → g ≡ h
-hits_once direction rs items g h a b = one_joined (AreSpecHits (HasEnds direction) items) (spec_hits_once direction items) 0 rs g h a b
+hits_once : (direction : Direction) (rs : List Reading) (items : List Ref) (g h : List Hit) → AreHits (HasEnds direction) (TakesIn direction items) rs items g → AreHits (HasEnds direction) (TakesIn direction items) rs items h → g ≡ h
+hits_once direction rs items g h a b = one_joined (AreSpecHits (HasEnds direction) (TakesIn direction items) items) (spec_hits_once direction items) 0 rs g h a b
 
 same_mapped : (m n : Mapped) → m.item ≡ n.item → m.source ≡ n.source → m.destination ≡ n.destination → m.spec ≡ n.spec → m ≡ n
 same_mapped m n item source destination spec =
@@ -453,12 +521,12 @@ made_nothing Forward g items l are none = forward_once g items l [] are none
 made_nothing Backward g items l are none = backward_once g items l [] are none
 
 -- what comes first, and the hits behind it, are all the mappings of a direction
-pub all_made : (direction : Direction) (g : List Reading) (items : List Ref) (old new : Made) → AreFirst direction g (made_in direction old) → AddsHits direction (AreHits (HasEnds direction) g items) old new → AreMade direction g items (made_in direction new)
+pub all_made : (direction : Direction) (g : List Reading) (items : List Ref) (old new : Made) → AreFirst direction g (made_in direction old) → AddsHits direction (AreHits (HasEnds direction) (TakesIn direction items) g items) old new → AreMade direction g items (made_in direction new)
 all_made Forward g items old new first adds = record { ids = made_in Forward old; hits = adds.hits; are_ids = first; are_hits = adds.are; all = adds.all }
 all_made Backward g items old new first adds = record { hits = adds.hits; are_hits = adds.are; all = adds.all ∙ ap (λ (l : List Mapped). l ++ map (mapping_of Backward) adds.hits) first }
 
 -- where nothing is made, there is no hit
-pub none_hit : (direction : Direction) (g : List Reading) (items : List Ref) → AreMade direction g items [] → AreHits (HasEnds direction) g items []
+pub none_hit : (direction : Direction) (g : List Reading) (items : List Ref) → AreMade direction g items [] → AreHits (HasEnds direction) (TakesIn direction items) g items []
 none_hit Forward g items none = no_forward_hits g items none
 none_hit Backward g items none = no_backward_hits g items none
 

@@ -1,6 +1,6 @@
 -- The words that only laws cite, on each side of what they ask: which specs go both ways, which
 -- sources are covering, what a spec reads as again, and what a group expands to.
-use Rattle.std.proofs.Common.{◌≡◌, ◌≢◌, ◌<◌, ℕ, zero, suc, List, [], ◌∷◌, ◌++◌, Option, None, Some, length, codes, refl, sym, ap, ◌∙◌, subst, inl, inr, arith}
+use Rattle.std.proofs.Common.{◌≡◌, ◌≢◌, ◌⊎◌, ◌<◌, ℕ, zero, suc, List, [], ◌∷◌, ◌++◌, Option, None, Some, length, codes, refl, sym, ap, ◌∙◌, subst, inl, inr, arith}
 use Rattle.std.specs.List.{AllByRecursion, Any}
 use Rattle.gix_refspec.specs.declared.parsing.Operation.TheVariants.{Push, Fetch}
 use Rattle.gix_refspec.specs.Text.{Begins}
@@ -11,7 +11,7 @@ use Rattle.gix_refspec.specs.Grammar.{AreParts, Reads, fetches, fetched, pushed}
 use Rattle.gix_refspec.specs.Side.{candidates, IsCandidate, Fits}
 use Rattle.gix_refspec.specs.Mappings.{name, id, Mapped, HasPair, AreApart}
 use Rattle.gix_refspec.specs.Hits.{AreKeptForward, AreKeptBackward, OneForward, OneBackward, KeptOnce}
-use Rattle.gix_refspec.specs.Match.{Ref, Matches}
+use Rattle.gix_refspec.specs.Match.{Ref, Matches, HasName, Takes}
 use Rattle.gix_refspec.specs.Validation.{ValidatedOnce, HaveOneSource, NeverMeet, ForwardFits, IndexesFit}
 use Rattle.gix_refspec.specs.Laws.{ReadsOnce, ReadsOrRefused, IsSameReason, SaysForOperation, IsPrintedBack, ReadsBack, EqualReadings, HasOneId, HasOneFault, HasCandidates, KeepsOperation, EqualTexts, NothingAgainst, ClonesExactly, OneWord, PrefixBegins, OnePrefix, Candidates, IdOrFault, OneLowerText, OneRefusal}
 use Rattle.gix_refspec.specs.Meaning.{push_delete, fetch_only, printed, meaning_of}
@@ -25,7 +25,7 @@ use Rattle.gix_refspec.specs.declared.name.Error.TheVariants.{LockSuffix, Repeat
 use Rattle.gix_refspec.specs.declared.oid.Error.{Error as IdError}
 use Rattle.gix_refspec.specs.declared.oid.Error.TheVariants.{Length}
 use Rattle.gix_refspec.specs.Prefix.{IsPrefix, Expands, of_head, of_name, of_pattern, to_prefix, to_candidates}
-use Rattle.gix_refspec.specs.MatchLaws.{MapAlike, AreReadAgain, EachSource, Transpose, Cover, CoverTogether, FetchGroupReadsBack, IsCoveredBy, HasName, IsSourceAmong, IsDestinationAmong, GoesBothWays, ReadsAgainAs, IsCovering, by_prefix, by_candidates, HasCoveringSource, BeginsWithOne, AreExpansions}
+use Rattle.gix_refspec.specs.MatchLaws.{MapAlike, AreReadAgain, EachSource, Transpose, Cover, CoverTogether, FetchGroupReadsBack, IsCoveredBy, IsSourceAmong, IsDestinationAmong, GoesBothWays, ReadsAgainAs, IsCovering, by_prefix, by_candidates, HasCoveringSource, BeginsWithOne, AreExpansions}
 use Rattle.gix_refspec.proofs.TextLemmas.{Lacks-here, Lacks-Holds}
 use Rattle.gix_refspec.proofs.TestedLemmas.{IsName-tested}
 use Rattle.gix_refspec.proofs.MatchLemmas.{cut_once, outside_none}
@@ -255,11 +255,11 @@ one_below law = (
   (λ list expands. law.expanded list (codes "refs/heads/" ∷ []) expands (to_prefix (codes "refs/heads/") below_heads refl)),
 )
 
--- a partial name is expanded to its candidates and nothing else, and matches each
-pub candidates_asked : Candidates (codes "main") → Expands (codes "main") (candidates (codes "main")) × ((list : List (List ℕ)) → Expands (codes "main") list → list ≡ candidates (codes "main")) × ((r : Ref) → IsCandidate (codes "main") r.name → (word : Option (List ℕ)) × Matches (codes "main") r word)
+-- a partial name is expanded to its candidates and nothing else, and matches each. Over one ref it takes each
+pub candidates_asked : Candidates (codes "main") → Expands (codes "main") (candidates (codes "main")) × ((list : List (List ℕ)) → Expands (codes "main") list → list ≡ candidates (codes "main")) × ((r : Ref) → IsCandidate (codes "main") r.name → ((word : Option (List ℕ)) × Matches (codes "main") r word) × ((word : Option (List ℕ)) × Takes (r ∷ []) (codes "main") r word))
 candidates_asked law =
     let all = law short_kind.1 (other_byte 0 (codes "main") (codes "HEAD") (λ same. omega (arith, same))) short_kind.2 short_kind.3 in
-    (all.expands, all.only, λ r one. (all.matches r).1 one)
+    (all.expands, all.only, λ r one. ((all.matches r).1 one, (all.takes r).1 one))
 
 -- the id of the empty blob is that of its text alone, without a fault, and prints as it
 pub one_id : IdOrFault (codes "e69de29bb2d1d6434b8b29ae775ad8c2e48c5391") → ((i : List ℕ) → IsIdText (codes "e69de29bb2d1d6434b8b29ae775ad8c2e48c5391") i → i ≡ empty_blob) × ((e : IdError) → ¬ (HasIdFault (codes "e69de29bb2d1d6434b8b29ae775ad8c2e48c5391") e))
@@ -365,9 +365,10 @@ lower_there law = subst (λ (t : List ℕ). IsLowerText t empty_blob) lower_of-e
 pub no_fault_of_long : (x : List ℕ) → NothingAgainst x → IsPattern x → (fault : NameError) → ¬ (IsPatternFault (Name fault) x)
 no_fault_of_long x law pattern fault has = let same : Name fault ≡ Memory = (law pattern (Name fault) has).0 in cc
 
--- each ref that a partial name matches is a candidate, and it has both or neither
-pub matched_asked : HasCandidates (codes "main") → (r : Ref) (word : Option (List ℕ)) → Matches (codes "main") r word → IsCandidate (codes "main") r.name
-matched_asked law r word matches = (law.matches r).0 (word, matches)
+-- each ref that a partial name matches, or takes over it alone, is a candidate
+pub matched_asked : HasCandidates (codes "main") → (r : Ref) (word : Option (List ℕ)) → Matches (codes "main") r word ⊎ Takes (r ∷ []) (codes "main") r word → IsCandidate (codes "main") r.name
+matched_asked law r word (inl matches) = (law.matches r).0 (word, matches)
+matched_asked law r word (inr takes) = (law.takes r).0 (word, takes)
 
 -- ---- groups
 

@@ -20,6 +20,7 @@ pub mod FormsBackLemmas
 pub mod AcceptedLemmas
 pub mod SpecLemmas
 pub mod RefusalLemmas
+pub mod CandidateLemmas
 pub mod MatchLemmas
 pub mod PrefixLemmas
 pub mod OnePrefixLemmas
@@ -50,6 +51,7 @@ pub mod ApartLemmas
 pub mod PlacedLemmas
 pub mod NoHitLemmas
 pub mod PlacesLemmas
+pub mod FirstPlacesLemmas
 pub mod MarkLemmas
 pub mod IndexLemmas
 pub mod MatchFacts
@@ -58,6 +60,7 @@ pub mod ValidationFacts
 pub mod LawFacts
 pub mod FaultFacts
 pub mod HitFacts
+pub mod CandidateFacts
 pub mod ListsFacts
 pub mod CopyFacts
 pub mod GroupFacts

@@ -12,12 +12,13 @@ use Rattle.gix_refspec.specs.ObjectId.{IsIdText, digits_of}
 use Rattle.gix_refspec.specs.Reading.{Normal, Forced, Negative, Reading}
 use Rattle.gix_refspec.specs.Grammar.{fetched, IsPositive}
 use Rattle.gix_refspec.specs.Side.{pattern, full_name, object, partial, HasKind, Fits, Excludes, the_name, by_pattern, filled}
-use Rattle.gix_refspec.specs.Match.{Ref}
+use Rattle.gix_refspec.specs.Match.{Ref, Matches, Takes}
 use Rattle.gix_refspec.specs.Lists.{IsMadeFrom}
 use Rattle.gix_refspec.specs.Mappings.{Start, name, id, Mapped, IsExcluded, IsStartExcluded, IsSamePair, HasPair, AreApart}
 use Rattle.gix_refspec.specs.Hits.{Ends, AreForwardEnds, AreBackwardEnds, AreHits, Hit, IsHit, IsIdMapping, AreKeptForward, AreKeptBackward}
 use Rattle.gix_refspec.specs.Prefix.{of_pattern}
 use Rattle.gix_refspec.proofs.TextLemmas.{Lacks-here}
+use Rattle.gix_refspec.proofs.CandidateLemmas.{first_of_one, taken_by_first}
 use Rattle.gix_refspec.proofs.MatchLemmas.{cut_once, lacks_no_pattern, prefix_begins}
 use Rattle.gix_refspec.proofs.FormsBackLemmas.{some_once}
 use Rattle.gix_refspec.proofs.ManualFacts.{Lacks-tested, other_length, none_some, some_none, named}
@@ -115,10 +116,10 @@ are_forward_ends = record { positive = tt; near = refl; far = refl; no_object = 
 abbrev hit_below : List ℕ → List ℕ → ℕ → ℕ → List ℕ → Hit
 hit_below near far spec item branch = record { spec = spec; item = item; near = near ++ branch; far = Some (far ++ (branch ++ [])) }
 
-takes_below : (near far : List ℕ) → IsCut near [] (near ++ codes "*") → IsCut far [] (far ++ codes "*") → (items : List Ref) (k j : ℕ) (branch : List ℕ) → IsHit items (record { near = near ++ codes "*"; far = Some (far ++ codes "*") }) k j (named (near ++ branch)) (hit_below near far k j branch)
-takes_below near far near_cut far_cut items k j branch = record {
+takes_below : (near far : List ℕ) → IsCut near [] (near ++ codes "*") → IsCut far [] (far ++ codes "*") → (Taken : List ℕ → Ref → Option (List ℕ) → Type 0) → ((r : Ref) (word : Option (List ℕ)) → Matches (near ++ codes "*") r word → Taken (near ++ codes "*") r word) → (k j : ℕ) (branch : List ℕ) → IsHit Taken (record { near = near ++ codes "*"; far = Some (far ++ codes "*") }) k j (named (near ++ branch)) (hit_below near far k j branch)
+takes_below near far near_cut far_cut Taken taken k j branch = record {
   word = Some branch;
-  takes = record { kind = pattern near []; of = near_cut; is = ap (λ (y : List ℕ). near ++ y) (sym (append-nil branch)) };
+  takes = taken (named (near ++ branch)) (Some branch) (record { kind = pattern near []; of = near_cut; is = ap (λ (y : List ℕ). near ++ y) (sym (append-nil branch)) });
   far = (pattern far [], far_cut, refl);
   near = refl;
   spec = refl;
@@ -129,20 +130,22 @@ takes_below near far near_cut far_cut items k j branch = record {
 abbrev pub hit_by : ℕ → ℕ → List ℕ → Hit
 hit_by spec item branch = hit_below (codes "refs/heads/") (codes "refs/remotes/origin/") spec item branch
 
-pub taken_by : (items : List Ref) (k j : ℕ) (branch : List ℕ) → IsHit items forward_ends k j (named (codes "refs/heads/" ++ branch)) (hit_by k j branch)
-taken_by items k j branch = takes_below (codes "refs/heads/") (codes "refs/remotes/origin/") heads_cut origin_cut items k j branch
+pub taken_by : (items : List Ref) (k j : ℕ) (branch : List ℕ) → IsHit (Takes items) forward_ends k j (named (codes "refs/heads/" ++ branch)) (hit_by k j branch)
+taken_by items k j branch = takes_below (codes "refs/heads/") (codes "refs/remotes/origin/") heads_cut origin_cut (Takes items)
+    (λ r word matches. record { matches = matches; first = λ n kind. absurd (lacks_no_pattern (codes "refs/heads/*") (codes "refs/heads/") [] kind.1 heads_cut) })
+    k j branch
 
 abbrev branch_hit : ℕ → List ℕ → Hit
 branch_hit item branch = hit_by 0 item branch
 
-takes_branch : (items : List Ref) (j : ℕ) (branch : List ℕ) → IsHit items forward_ends 0 j (named (codes "refs/heads/" ++ branch)) (branch_hit j branch)
+takes_branch : (items : List Ref) (j : ℕ) (branch : List ℕ) → IsHit (Takes items) forward_ends 0 j (named (codes "refs/heads/" ++ branch)) (branch_hit j branch)
 takes_branch items j branch = taken_by items 0 j branch
 
 -- and no tag
-pub takes_no_tag : (items : List Ref) (j : ℕ) (hit : Hit) → ¬ (IsHit items forward_ends 0 j tag_ref hit)
+pub takes_no_tag : (items : List Ref) (j : ℕ) (hit : Hit) → ¬ (IsHit (Takes items) forward_ends 0 j tag_ref hit)
 takes_no_tag items j hit is =
     let prefix = of_pattern (codes "refs/heads/") [] heads_cut (record { below = record { after = codes "heads/"; here = refl }; further = other_length _ _ (λ same. omega (arith, same)); first = Lacks-tested bracket (codes "refs/heads/") refl; last = tt }) refl in
-    let begins = prefix_begins (codes "refs/heads/*") (codes "refs/heads/") tag_ref is.word prefix (other_length _ _ (λ same. omega (arith, same))) is.takes in
+    let begins = prefix_begins (codes "refs/heads/*") (codes "refs/heads/") tag_ref is.word prefix (other_length _ _ (λ same. omega (arith, same))) is.takes.matches in
     other_byte 5 (codes "refs/tags/v1") (codes "refs/heads/" ++ begins.after) (λ same. omega (arith, same)) begins.here
 
 forced_no_negative : Forced ≢ Negative
@@ -168,8 +171,8 @@ only_dev item (inl same) = other_length _ _ (λ length_same. omega (arith, lengt
 only_dev item (inr none) = none
 
 -- what the group takes is what its first spec takes, since the other is negative
-hits_of_every : (HasEnds : Reading → Ends → Type 0) (items : List Ref) (hits : List Hit) (ends : Ends) → HasEnds every ends → ((e : Ends) → ¬ (HasEnds no_dev e)) → IsMadeFrom (IsHit items ends 0) 0 items hits → AreHits HasEnds (every ∷ no_dev ∷ []) items hits
-hits_of_every HasEnds items hits ends has none taken = (hits, [], inl (ends, has, taken), ([], [], inr (none, refl), refl, refl), sym (append-nil hits))
+hits_of_every : (HasEnds : Reading → Ends → Type 0) (Taken : List ℕ → Ref → Option (List ℕ) → Type 0) (items : List Ref) (hits : List Hit) (ends : Ends) → HasEnds every ends → ((e : Ends) → ¬ (HasEnds no_dev e)) → IsMadeFrom (IsHit Taken ends 0) 0 items hits → AreHits HasEnds Taken (every ∷ no_dev ∷ []) items hits
+hits_of_every HasEnds Taken items hits ends has none taken = (hits, [], inl (ends, has, taken), ([], [], inr (none, refl), refl, refl), sym (append-nil hits))
 
 -- of a branch, a tag, an excluded branch and the branch once more, the first is mapped alone
 pub fetches_all_but_dev : AreKeptForward (every ∷ no_dev ∷ []) (dev_ref ∷ tag_ref ∷ main_ref ∷ main_ref ∷ []) (tracked 2 (codes "main") ∷ [])
@@ -178,7 +181,7 @@ fetches_all_but_dev =
     let dev = branch_hit 0 (codes "dev-a") in
     let main = branch_hit 2 (codes "main") in
     let again = branch_hit 3 (codes "main") in
-    let taken : IsMadeFrom (IsHit items forward_ends 0) 0 items (dev ∷ main ∷ again ∷ []) = (
+    let taken : IsMadeFrom (IsHit (Takes items) forward_ends 0) 0 items (dev ∷ main ∷ again ∷ []) = (
       Some dev,
       main ∷ again ∷ [],
       takes_branch items 0 (codes "dev-a"),
@@ -197,7 +200,7 @@ fetches_all_but_dev =
         ids = [];
         hits = dev ∷ main ∷ again ∷ [];
         are_ids = (None, [], no_id_mapping 0 every (codes "refs/heads/*") refl heads_below, (None, [], no_id_negative 1 no_dev refl, refl, refl), refl);
-        are_hits = hits_of_every AreForwardEnds items (dev ∷ main ∷ again ∷ []) forward_ends are_forward_ends (λ ends has. has.positive) taken;
+        are_hits = hits_of_every AreForwardEnds (Takes items) items (dev ∷ main ∷ again ∷ []) forward_ends are_forward_ends (λ ends has. has.positive) taken;
         all = refl;
       };
       is = (
@@ -222,8 +225,8 @@ backward_ends = record { near = codes "refs/remotes/origin/*"; far = Some (codes
 abbrev back_hit : ℕ → List ℕ → Hit
 back_hit item branch = hit_below (codes "refs/remotes/origin/") (codes "refs/heads/") 0 item branch
 
-pub takes_back : (items : List Ref) (j : ℕ) (branch : List ℕ) → IsHit items backward_ends 0 j (named (codes "refs/remotes/origin/" ++ branch)) (back_hit j branch)
-takes_back items j branch = takes_below (codes "refs/remotes/origin/") (codes "refs/heads/") origin_cut heads_cut items 0 j branch
+pub takes_back : (j : ℕ) (branch : List ℕ) → IsHit Matches backward_ends 0 j (named (codes "refs/remotes/origin/" ++ branch)) (back_hit j branch)
+takes_back j branch = takes_below (codes "refs/remotes/origin/") (codes "refs/heads/") origin_cut heads_cut Matches (λ r word matches. matches) 0 j branch
 
 -- a spec with a source alone, which is a partial name
 abbrev pub short : Reading
@@ -234,18 +237,18 @@ tracks_all_but_dev =
     let items = named (codes "refs/remotes/origin/dev-a") ∷ named (codes "refs/remotes/origin/main") ∷ [] in
     let dev = back_hit 0 (codes "dev-a") in
     let main = back_hit 1 (codes "main") in
-    let taken : IsMadeFrom (IsHit items backward_ends 0) 0 items (dev ∷ main ∷ []) = (
+    let taken : IsMadeFrom (IsHit Matches backward_ends 0) 0 items (dev ∷ main ∷ []) = (
       Some dev,
       main ∷ [],
-      takes_back items 0 (codes "dev-a"),
-      (Some main, [], takes_back items 1 (codes "main"), refl, refl),
+      takes_back 0 (codes "dev-a"),
+      (Some main, [], takes_back 1 (codes "main"), refl, refl),
       refl,
     ) in
     record {
       all = tracked 0 (codes "dev-a") ∷ tracked 1 (codes "main") ∷ [];
       backward = record {
         hits = dev ∷ main ∷ [];
-        are_hits = hits_of_every AreBackwardEnds items (dev ∷ main ∷ []) backward_ends (record { positive = tt; near = refl; far = refl; both = refl }) (λ ends has. has.positive) taken;
+        are_hits = hits_of_every AreBackwardEnds Matches items (dev ∷ main ∷ []) backward_ends (record { positive = tt; near = refl; far = refl; both = refl }) (λ ends has. has.positive) taken;
         all = refl;
       };
       is = (
@@ -380,7 +383,7 @@ asks_for_ids_first =
               [],
               record {
                 word = None;
-                takes = record { kind = partial (codes "main"); of = short_kind; is = (refl, record { earlier = codes "main" ∷ codes "refs/main" ∷ codes "refs/tags/main" ∷ []; later = codes "refs/remotes/main" ∷ codes "refs/remotes/main/HEAD" ∷ []; here = refl }) };
+                takes = taken_by_first (main_ref ∷ []) (codes "main") main_ref short_kind (first_of_one (codes "main") main_ref (record { earlier = codes "main" ∷ codes "refs/main" ∷ codes "refs/tags/main" ∷ []; later = codes "refs/remotes/main" ∷ codes "refs/remotes/main/HEAD" ∷ []; here = refl }));
                 far = refl;
                 near = refl;
                 spec = refl;

@@ -8,6 +8,7 @@ use Rattle.gix_refspec.specs.Side.{SideKind, pattern, full_name, object, partial
 use Rattle.gix_refspec.specs.Match.{Ref, MatchesAs}
 use Rattle.gix_refspec.specs.Prefix.{of_head, of_name, of_pattern, HasNoPrefix, Expands, to_prefix, to_itself, below_refs, of_object, to_candidates}
 use Rattle.gix_refspec.specs.Laws.{OneWord, PrefixBegins, Candidates}
+use Rattle.gix_refspec.proofs.CandidateLemmas.{first_candidate, first_of_one, takes_first}
 use Rattle.gix_refspec.proofs.TextLemmas.{Lacks-here, first_once}
 
 -- two words between the same texts are one
@@ -84,4 +85,9 @@ has_candidates x lacks other outside no_id = record {
     λ found. short_matches x found.1.kind r found.0 lacks outside no_id found.1.of found.1.is,
     λ one. (None, record { kind = partial x; of = (refl, lacks, outside, no_id); is = (refl, one) }),
   );
+  takes = λ r.
+      let first = (takes_first x (r ∷ []) lacks outside no_id).takes r in (
+        λ found. first_candidate (r ∷ []) x r.name (first.0 found),
+        λ one. first.1 (first_of_one x r one),
+      );
 }

@@ -7,6 +7,7 @@ use Rattle.bstr.specs.BStr.{bstr_bytes}
 use Rattle.gix_refspec.specs.declared.match_group.types.Item.{Item}
 use Rattle.gix_refspec.specs.declared.match_group.types.NameRef.{NameRef}
 use Rattle.gix_refspec.specs.declared.match_group.util.ends.Direction.{Direction}
+use Rattle.gix_refspec.specs.declared.match_group.util.ends.Direction.TheVariants.{Forward, Backward}
 use Rattle.gix_refspec.specs.declared.match_group.util.ends.Ends.{Ends as DeclaredEnds}
 use Rattle.gix_refspec.specs.declared.match_group.util.hits.Made.{Made}
 use Rattle.gix_refspec.specs.declared.match_group.util.index.NameIndex.{NameIndex}
@@ -19,9 +20,10 @@ use Rattle.gix_refspec.specs.Lists.{MakesOf, IsMadeFrom}
 use Rattle.gix_refspec.specs.Group.{name_bytes, ref_of}
 use Rattle.gix_refspec.specs.Hits.{Ends, Hit, IsHit}
 use Rattle.gix_refspec.specs.Private.SideViews.{shown_kind}
-use Rattle.gix_refspec.specs.Private.HitViews.{HasEnds, HaveKinds, filled_end, AreHitsOfKinds, mapping_of, made_in, AddsHits}
-use Rattle.gix_refspec.specs.Private.Index.{AllAsked, ArePlacesOf, ArePlacesTaken, AsksForName, IsIndexFor, IsIndexOf, IsIndexOfSide, MatchesWhole, places_in}
-use Rattle.gix_refspec.proofs.HitLemmas.{is_hit, matches_as}
+use Rattle.gix_refspec.specs.Private.HitViews.{HasEnds, HaveKinds, TakesIn, IsFirstIn, filled_end, AreHitsOfKinds, mapping_of, made_in, AddsHits}
+use Rattle.gix_refspec.specs.Private.Index.{AllAsked, ArePlacesOf, ArePlacesTaken, AsksForName, IsIndexFor, IsIndexOf, IsIndexOfSide, MatchesWhole, TakesWhole, places_in}
+use Rattle.gix_refspec.proofs.CandidateLemmas.{first_candidate}
+use Rattle.gix_refspec.proofs.HitLemmas.{is_hit, matches_as, taken_first, taken_matches}
 use Rattle.gix_refspec.proofs.RepeatLemmas.{all_weaker}
 
 -- what a read past the end gives
@@ -32,16 +34,31 @@ blank = record { name = []; target = []; object = None }
 abbrev hit_at : ℕ → Option (List ℕ) → List Ref → ℕ → Hit
 hit_at k far items place = record { spec = k; item = place; near = (get_or items place blank).name; far = far }
 
--- a side that matches whole names has no word
-no_word : (kind : SideKind) (r : Ref) (word : Option (List ℕ)) → MatchesWhole kind → MatchesAs kind r word → MatchesAs kind r None
-no_word (pattern before after) r word whole is = absurd whole
-no_word (full_name n) r word whole is = (refl, is.1)
-no_word (object id) r word whole is = (refl, is.1)
-no_word (partial n) r word whole is = (refl, is.1)
+-- what matches and is first, where one alone is taken, is taken
+taken_whole : (kind : SideKind) (direction : Direction) (items : List Ref) (r : Ref) (word : Option (List ℕ)) → MatchesWhole kind → MatchesAs kind r word → IsFirstIn kind direction items r.name → TakesWhole kind direction items r
+taken_whole (pattern before after) direction items r word whole is first = absurd whole
+taken_whole (full_name n) direction items r word whole is first = (refl, is.1)
+taken_whole (object id) direction items r word whole is first = (refl, is.1)
+taken_whole (partial n) Forward items r word whole is first = first
+taken_whole (partial n) Backward items r word whole is first = (refl, is.1)
+
+whole_matches : (kind : SideKind) (direction : Direction) (items : List Ref) (r : Ref) → TakesWhole kind direction items r → MatchesAs kind r None
+whole_matches (pattern before after) direction items r taken = absurd taken
+whole_matches (full_name n) direction items r taken = taken
+whole_matches (object id) direction items r taken = taken
+whole_matches (partial n) Forward items r taken = (refl, first_candidate items n r.name taken)
+whole_matches (partial n) Backward items r taken = taken
+
+whole_first : (kind : SideKind) (direction : Direction) (items : List Ref) (r : Ref) → TakesWhole kind direction items r → IsFirstIn kind direction items r.name
+whole_first (pattern before after) direction items r taken = tt
+whole_first (full_name n) direction items r taken = tt
+whole_first (object id) direction items r taken = tt
+whole_first (partial n) Forward items r taken = taken
+whole_first (partial n) Backward items r taken = tt
 
 -- what is taken at a place
-abbrev TakenAt : SideKind → ℕ → Ref → ℕ → Type 0
-TakenAt kind k r place = MatchesAs kind r None × (place ≡ k)
+abbrev TakenAt : SideKind → Direction → List Ref → ℕ → Ref → ℕ → Type 0
+TakenAt kind direction items k r place = TakesWhole kind direction items r × (place ≡ k)
 
 -- the items from place j on are the rest
 abbrev StandAt : List Ref → ℕ → List Ref → Type 0
@@ -51,20 +68,25 @@ later : (items : List Ref) (j : ℕ) (r : Ref) (rest : List Ref) → StandAt ite
 later items j r rest at i below = let next : j + 1 + i ≡ j + suc i = omega arith in ap (λ (n : ℕ). get_or items n blank) next ∙ at (suc i) (omega arith)
 
 -- the hits of the items from place j on
-hits_from : (kinds : DeclaredEnds) (k : ℕ) (items : List Ref) (ends : Ends) (j : ℕ) (rest : List Ref) (places : List ℕ) → MatchesWhole (shown_kind kinds.near) → HaveKinds ends kinds → StandAt items j rest → IsMadeFrom (TakenAt (shown_kind kinds.near)) j rest places → IsMadeFrom (IsHit items ends k) j rest (map (hit_at k (filled_end kinds.far None) items) places)
-hits_from kinds k items ends j [] places whole have at none = ap (map (hit_at k (filled_end kinds.far None) items)) none
-hits_from kinds k items ends j (r ∷ rest) places whole have at (None, others, here, more, same) = (
+hits_from : (direction : Direction) (kinds : DeclaredEnds) (k : ℕ) (items : List Ref) (ends : Ends) (j : ℕ) (rest : List Ref) (places : List ℕ) → MatchesWhole (shown_kind kinds.near) → HaveKinds ends kinds → StandAt items j rest → IsMadeFrom (TakenAt (shown_kind kinds.near) direction items) j rest places → IsMadeFrom (IsHit (TakesIn direction items) ends k) j rest (map (hit_at k (filled_end kinds.far None) items) places)
+hits_from direction kinds k items ends j [] places whole have at none = ap (map (hit_at k (filled_end kinds.far None) items)) none
+hits_from direction kinds k items ends j (r ∷ rest) places whole have at (None, others, here, more, same) = (
   None,
   map (hit_at k (filled_end kinds.far None) items) others,
-  (λ hit is. here j (no_word (shown_kind kinds.near) r is.word whole (matches_as ends.near (shown_kind kinds.near) r is.word have.near is.takes), refl)),
-  hits_from kinds k items ends (j + 1) rest others whole have (later items j r rest at) more,
+  (λ hit is. here j (whole_taken is.word is.takes, refl)),
+  hits_from direction kinds k items ends (j + 1) rest others whole have (later items j r rest at) more,
   ap (map (hit_at k (filled_end kinds.far None) items)) same,
 )
-hits_from kinds k items ends j (r ∷ rest) places whole have at (Some place, others, here, more, same) = (
+  where
+    whole_taken : (word : Option (List ℕ)) → TakesIn direction items ends.near r word → TakesWhole (shown_kind kinds.near) direction items r
+    whole_taken word takes = taken_whole (shown_kind kinds.near) direction items r word whole
+        (matches_as ends.near (shown_kind kinds.near) r word have.near (taken_matches direction items ends.near r word takes))
+        (taken_first direction items ends.near (shown_kind kinds.near) r word have.near takes)
+hits_from direction kinds k items ends j (r ∷ rest) places whole have at (Some place, others, here, more, same) = (
   Some (hit_at k (filled_end kinds.far None) items place),
   map (hit_at k (filled_end kinds.far None) items) others,
-  is_hit items ends kinds k j r None (hit_at k (filled_end kinds.far None) items place) have here.0 refl (near items j r rest place at here.1) refl here.1,
-  hits_from kinds k items ends (j + 1) rest others whole have (later items j r rest at) more,
+  is_hit direction items ends kinds k j r None (hit_at k (filled_end kinds.far None) items place) have (whole_matches (shown_kind kinds.near) direction items r here.0) (whole_first (shown_kind kinds.near) direction items r here.0) refl (near items j r rest place at here.1) refl here.1,
+  hits_from direction kinds k items ends (j + 1) rest others whole have (later items j r rest at) more,
   ap (map (hit_at k (filled_end kinds.far None) items)) same,
 )
   where
@@ -72,30 +94,30 @@ hits_from kinds k items ends j (r ∷ rest) places whole have at (Some place, ot
     near items j r rest place at is = let here : place ≡ j + 0 = omega (arith, is) in ap (λ (n : ℕ). (get_or items n blank).name) here ∙ ap (λ (x : Ref). x.name) (at 0 (omega arith))
 
 -- the hits at the places that a side takes are its hits
-pub placed_hits : (kinds : DeclaredEnds) (k : ℕ) (items : List Ref) (places : List ℕ) → MatchesWhole (shown_kind kinds.near) → ArePlacesTaken (shown_kind kinds.near) items places → AreHitsOfKinds kinds k items items (map (hit_at k (filled_end kinds.far None) items) places)
-placed_hits kinds k items places whole taken ends have = hits_from kinds k items ends 0 items places whole have (λ i below. let same : 0 + i ≡ i = omega arith in ap (λ (n : ℕ). get_or items n blank) same) taken
+pub placed_hits : (direction : Direction) (kinds : DeclaredEnds) (k : ℕ) (items : List Ref) (places : List ℕ) → MatchesWhole (shown_kind kinds.near) → ArePlacesTaken (shown_kind kinds.near) direction items places → AreHitsOfKinds direction kinds k items items (map (hit_at k (filled_end kinds.far None) items) places)
+placed_hits direction kinds k items places whole taken ends have = hits_from direction kinds k items ends 0 items places whole have (λ i below. let same : 0 + i ≡ i = omega arith in ap (λ (n : ℕ). get_or items n blank) same) taken
 
 -- each place is one of an item
-places_below : (kind : SideKind) (j : ℕ) (rest : List Ref) (places : List ℕ) → IsMadeFrom (TakenAt kind) j rest places → AllByRecursion (λ place. place < j + length rest) places
-places_below kind j [] places none = subst (λ (ns : List ℕ). AllByRecursion (λ place. place < j + length {A = Ref} []) ns) (sym none) tt
-places_below kind j (r ∷ rest) places (made, others, here, more, same) =
-    subst (λ (ns : List ℕ). AllByRecursion (λ place. place < j + length (r ∷ rest)) ns) (sym same) (behind kind j r rest made others here (places_below kind (j + 1) rest others more))
+places_below : (kind : SideKind) (direction : Direction) (items : List Ref) (j : ℕ) (rest : List Ref) (places : List ℕ) → IsMadeFrom (TakenAt kind direction items) j rest places → AllByRecursion (λ place. place < j + length rest) places
+places_below kind direction items j [] places none = subst (λ (ns : List ℕ). AllByRecursion (λ place. place < j + length {A = Ref} []) ns) (sym none) tt
+places_below kind direction items j (r ∷ rest) places (made, others, here, more, same) =
+    subst (λ (ns : List ℕ). AllByRecursion (λ place. place < j + length (r ∷ rest)) ns) (sym same) (behind j r rest made others here (places_below kind direction items (j + 1) rest others more))
   where
     wider : (j : ℕ) (r : Ref) (rest : List Ref) (ns : List ℕ) → AllByRecursion (λ place. place < j + 1 + length rest) ns → AllByRecursion (λ place. place < j + length (r ∷ rest)) ns
     wider j r rest [] all = tt
     wider j r rest (n ∷ ns) all = let first : n < j + 1 + length rest = all.0 in (omega (arith, first), wider j r rest ns all.1)
 
-    behind : (kind : SideKind) (j : ℕ) (r : Ref) (rest : List Ref) (made : Option ℕ) (others : List ℕ) → MakesOf (TakenAt kind) j r made → AllByRecursion (λ place. place < j + 1 + length rest) others → AllByRecursion (λ place. place < j + length (r ∷ rest)) (option_to_list made ++ others)
-    behind kind j r rest None others here all = wider j r rest others all
-    behind kind j r rest (Some place) others here all = let is : place ≡ j = here.1 in (omega (arith, is), wider j r rest others all)
+    behind : (j : ℕ) (r : Ref) (rest : List Ref) (made : Option ℕ) (others : List ℕ) → MakesOf (TakenAt kind direction items) j r made → AllByRecursion (λ place. place < j + 1 + length rest) others → AllByRecursion (λ place. place < j + length (r ∷ rest)) (option_to_list made ++ others)
+    behind j r rest None others here all = wider j r rest others all
+    behind j r rest (Some place) others here all = let is : place ≡ j = here.1 in (omega (arith, is), wider j r rest others all)
 
 read_below : (bound : ℕ) (places : List ℕ) (i d : ℕ) → AllByRecursion (λ place. place < bound) places → i < length places → get_or places i d < bound
 read_below bound [] i d all below = absurd (omega arith)
 read_below bound (n ∷ ns) zero d all below = all.0
 read_below bound (n ∷ ns) (suc i) d all below = read_below bound ns i d all.1 (omega arith)
 
-pub place_fits : (kind : SideKind) (xs : List Item) (places : List ℕ) (i d : ℕ) → ArePlacesTaken kind (map ref_of xs) places → i < length places → get_or places i d < length xs
-place_fits kind xs places i d taken below = let fits : get_or places i d < 0 + length (map ref_of xs) = read_below (0 + length (map ref_of xs)) places i d (places_below kind 0 (map ref_of xs) places taken) below in omega (arith, fits, length-map xs ref_of)
+pub place_fits : (kind : SideKind) (direction : Direction) (xs : List Item) (places : List ℕ) (i d : ℕ) → ArePlacesTaken kind direction (map ref_of xs) places → i < length places → get_or places i d < length xs
+place_fits kind direction xs places i d taken below = let fits : get_or places i d < 0 + length (map ref_of xs) = read_below (0 + length (map ref_of xs)) places i d (places_below kind direction (map ref_of xs) 0 (map ref_of xs) places taken) below in omega (arith, fits, length-map xs ref_of)
 
 -- the mappings of the hits at some places stand behind the old ones
 pub record AddsPlaces (direction : Direction) (k : ℕ) (kinds : DeclaredEnds) (items : List Ref) (places : List ℕ) (old new : Made) : Type 0 where
@@ -126,10 +148,10 @@ place_added direction k kinds xs places i e d far old mid new below fits filled 
     }
 
 -- at all places
-pub places_added : (direction : Direction) (k : ℕ) (kinds : DeclaredEnds) (items : List Ref) (places : List ℕ) (old new : Made) → MatchesWhole (shown_kind kinds.near) → ArePlacesTaken (shown_kind kinds.near) items places → AddsPlaces direction k kinds items places old new → AddsHits direction (AreHitsOfKinds kinds k items items) old new
+pub places_added : (direction : Direction) (k : ℕ) (kinds : DeclaredEnds) (items : List Ref) (places : List ℕ) (old new : Made) → MatchesWhole (shown_kind kinds.near) → ArePlacesTaken (shown_kind kinds.near) direction items places → AddsPlaces direction k kinds items places old new → AddsHits direction (AreHitsOfKinds direction kinds k items items) old new
 places_added direction k kinds items places old new whole taken adds = record {
   hits = map (hit_at k (filled_end kinds.far None) items) places;
-  are = placed_hits kinds k items places whole taken;
+  are = placed_hits direction kinds k items places whole taken;
   all = adds.all;
 }
 

@@ -11,6 +11,7 @@ use Rattle.std.proofs.lemmas.List.Elements.{recursion_from_All}
 use Rattle.std.proofs.lemmas.List.Kept.{AllPairs-from_increasing}
 use Rattle.std.proofs.lemmas.List.Sorted.{IsNonDecreasingBy-from_sort, IsPermutation-sym}
 use Rattle.std.proofs.lemmas.Map.Keys.{IsDistinct-IsPermutation, IsDistinct-cons, IsDistinct-head, IsDistinct-tail, IsStrictlyIncreasing-from_distinct}
+use Rattle.gix_refspec.specs.declared.match_group.util.ends.Direction.TheVariants.{Backward}
 use Rattle.gix_refspec.specs.Side.{full_name, partial, IsCandidate, candidates}
 use Rattle.gix_refspec.specs.Match.{Ref, MatchesAs}
 use Rattle.gix_refspec.specs.Lists.{IsMadeFrom}
@@ -223,7 +224,7 @@ pub within_candidates : (x n : List ℕ) → IsCandidate x n → Contains (candi
 within_candidates x n one = subst (λ (l : List (List ℕ)). Contains l n) (sym one.here) (Contains-append_right one.earlier (n ∷ one.later) n (0, omega arith, refl))
 
 -- the places of the candidates, in order
-pub candidates_taken : (x : List ℕ) (f : List ℕ → List ℕ) (found sorted : List ℕ) → found ≡ all_places f (candidates x) → IsPermutation found sorted → IsSortedByKey (λ (p : ℕ). p) nat_cmp sorted → (refs : List Ref) → ((n : List ℕ) → IsCandidate x n → ArePlacesOf n refs (f n)) → ArePlacesTaken (partial x) refs sorted
+pub candidates_taken : (x : List ℕ) (f : List ℕ → List ℕ) (found sorted : List ℕ) → found ≡ all_places f (candidates x) → IsPermutation found sorted → IsSortedByKey (λ (p : ℕ). p) nat_cmp sorted → (refs : List Ref) → ((n : List ℕ) → IsCandidate x n → ArePlacesOf n refs (f n)) → ArePlacesTaken (partial x) Backward refs sorted
 candidates_taken x f found sorted is moved ascends refs are =
     let ns = candidates x in
     let each : (n : List ℕ) → Contains ns n → ArePlacesOf n refs (f n) = λ n there. are n (candidate_within x n there) in

@@ -14,13 +14,13 @@ use Rattle.gix_refspec.specs.Reading.{Reading}
 use Rattle.gix_refspec.specs.Grammar.{IsAccepted, IsPositive}
 use Rattle.gix_refspec.specs.Refusal.{IsOneStarred}
 use Rattle.gix_refspec.specs.Spec.{reading_of}
-use Rattle.gix_refspec.specs.Side.{SideKind, pattern, full_name, object, HasKind, Fits, filled}
-use Rattle.gix_refspec.specs.Match.{Ref, MatchesAs, Matches}
+use Rattle.gix_refspec.specs.Side.{SideKind, pattern, full_name, object, partial, HasKind, Fits, filled}
+use Rattle.gix_refspec.specs.Match.{Ref, MatchesAs, Matches, HasName, Takes}
 use Rattle.gix_refspec.specs.Lists.{IsMadeFrom}
 use Rattle.gix_refspec.specs.Mappings.{name, Mapped, IsSamePair, HasPair}
 use Rattle.gix_refspec.specs.Hits.{Ends, AreForwardEnds, AreBackwardEnds, IsFilled, Hit, IsHit, AreSpecHits, AreHits, forward_of, backward_of, IsIdMapping, AreForward, AreBackward}
-use Rattle.gix_refspec.specs.MatchLaws.{HasName, IsSourceAmong, IsDestinationAmong, GoesBothWays, Transpose}
-use Rattle.gix_refspec.specs.Private.HitViews.{HasEnds}
+use Rattle.gix_refspec.specs.MatchLaws.{IsSourceAmong, IsDestinationAmong, GoesBothWays, Transpose}
+use Rattle.gix_refspec.specs.Private.HitViews.{HasEnds, TakesIn}
 use Rattle.gix_refspec.proofs.TextLemmas.{Lacks-Holds}
 use Rattle.gix_refspec.proofs.DecideLemmas.{FirstPlace, lacks_or_first}
 use Rattle.gix_refspec.proofs.AcceptedLemmas.{accepted_few, accepted_balanced}
@@ -109,39 +109,44 @@ no_object : (x y bytes : List ℕ) → AreTwins x y → ¬ (HasKind x (object by
 no_object x y bytes (patterns (before, after, of_x) of_y) is = let same : pattern before after ≡ object bytes = one_kind x (pattern before after) (object bytes) of_x is in cc
 no_object x y bytes (names of_x of_y) is = let same : full_name x ≡ object bytes = one_kind x (full_name x) (object bytes) of_x is in cc
 
+-- nor a partial name
+no_partial : (x y n : List ℕ) → AreTwins x y → ¬ (HasKind x (partial n))
+no_partial x y n (patterns (before, after, of_x) of_y) is = let same : pattern before after ≡ partial n = one_kind x (pattern before after) (partial n) of_x is in cc
+no_partial x y n (names of_x of_y) is = let same : full_name x ≡ partial n = one_kind x (full_name x) (partial n) of_x is in cc
+
 -- ---- what a reading takes and fills, among items
 
 -- with these ends, the reading takes some item and fills the other side, so that P holds of both names
-abbrev Reaches : (Reading → Ends → Type 0) → List Ref → (List ℕ → Option (List ℕ) → Type 0) → Reading → Type 0
-Reaches HasEnds items P r = (ends : Ends) × HasEnds r ends × Any (λ (i : Ref). (word : Option (List ℕ)) × (far : Option (List ℕ)) × Matches ends.near i word × IsFilled ends.far word far × P i.name far) items
+abbrev Reaches : (Reading → Ends → Type 0) → (List ℕ → Ref → Option (List ℕ) → Type 0) → List Ref → (List ℕ → Option (List ℕ) → Type 0) → Reading → Type 0
+Reaches HasEnds Taken items P r = (ends : Ends) × HasEnds r ends × Any (λ (i : Ref). (word : Option (List ℕ)) × (far : Option (List ℕ)) × Taken ends.near i word × IsFilled ends.far word far × P i.name far) items
 
 -- the hits are what readings reach
-hits_reach : (direction : Direction) (g : List Reading) (items : List Ref) (hits : List Hit) (P : List ℕ → Option (List ℕ) → Type 0) → AreHits (HasEnds direction) g items hits → Any (λ (h : Hit). P h.near h.far) hits → Any (Reaches (HasEnds direction) items P) g
+hits_reach : (direction : Direction) (g : List Reading) (items : List Ref) (hits : List Hit) (P : List ℕ → Option (List ℕ) → Type 0) → AreHits (HasEnds direction) (TakesIn direction items) g items hits → Any (λ (h : Hit). P h.near h.far) hits → Any (Reaches (HasEnds direction) (TakesIn direction items) items P) g
 hits_reach direction g items hits P are any =
-    Any-weaker _ _ of_reading g (joined_any (AreSpecHits (HasEnds direction) items) (λ (h : Hit). P h.near h.far) 0 g hits are any)
+    Any-weaker _ _ of_reading g (joined_any (AreSpecHits (HasEnds direction) (TakesIn direction items) items) (λ (h : Hit). P h.near h.far) 0 g hits are any)
   where
-    of_item : (ends : Ends) (k : ℕ) (i : Ref) → (j : ℕ) × (h : Hit) × IsHit items ends k j i h × P h.near h.far → (word : Option (List ℕ)) × (far : Option (List ℕ)) × Matches ends.near i word × IsFilled ends.far word far × P i.name far
+    of_item : (ends : Ends) (k : ℕ) (i : Ref) → (j : ℕ) × (h : Hit) × IsHit (TakesIn direction items) ends k j i h × P h.near h.far → (word : Option (List ℕ)) × (far : Option (List ℕ)) × TakesIn direction items ends.near i word × IsFilled ends.far word far × P i.name far
     of_item ends k i (j, h, is, holds) = (is.word, h.far, is.takes, is.far, subst (λ (n : List ℕ). P n h.far) is.near holds)
 
-    of_reading : (r : Reading) → (k : ℕ) × (made : List Hit) × AreSpecHits (HasEnds direction) items k r made × Any (λ (h : Hit). P h.near h.far) made → Reaches (HasEnds direction) items P r
-    of_reading r (k, made, inl (ends, has, is), some) = (ends, has, Any-weaker _ _ (of_item ends k) items (made_any (IsHit items ends k) (λ (h : Hit). P h.near h.far) 0 items made is some))
+    of_reading : (r : Reading) → (k : ℕ) × (made : List Hit) × AreSpecHits (HasEnds direction) (TakesIn direction items) items k r made × Any (λ (h : Hit). P h.near h.far) made → Reaches (HasEnds direction) (TakesIn direction items) items P r
+    of_reading r (k, made, inl (ends, has, is), some) = (ends, has, Any-weaker _ _ (of_item ends k) items (made_any (IsHit (TakesIn direction items) ends k) (λ (h : Hit). P h.near h.far) 0 items made is some))
     of_reading r (k, made, inr (none, empty), some) = absurd (subst (Any (λ (h : Hit). P h.near h.far)) empty some)
 
-reach_hits : (direction : Direction) (g : List Reading) (items : List Ref) (hits : List Hit) (P : List ℕ → Option (List ℕ) → Type 0) → AreHits (HasEnds direction) g items hits → Any (Reaches (HasEnds direction) items P) g → Any (λ (h : Hit). P h.near h.far) hits
+reach_hits : (direction : Direction) (g : List Reading) (items : List Ref) (hits : List Hit) (P : List ℕ → Option (List ℕ) → Type 0) → AreHits (HasEnds direction) (TakesIn direction items) g items hits → Any (Reaches (HasEnds direction) (TakesIn direction items) items P) g → Any (λ (h : Hit). P h.near h.far) hits
 reach_hits direction g items hits P are any =
-    any_joined (AreSpecHits (HasEnds direction) items) (λ (h : Hit). P h.near h.far) 0 g hits are (Any-weaker _ _ of_reading g any)
+    any_joined (AreSpecHits (HasEnds direction) (TakesIn direction items) items) (λ (h : Hit). P h.near h.far) 0 g hits are (Any-weaker _ _ of_reading g any)
   where
-    of_item : (ends : Ends) (k : ℕ) (i : Ref) → (word : Option (List ℕ)) × (far : Option (List ℕ)) × Matches ends.near i word × IsFilled ends.far word far × P i.name far → MakesOnly (IsHit items ends k) (λ (h : Hit). P h.near h.far) i
+    of_item : (ends : Ends) (k : ℕ) (i : Ref) → (word : Option (List ℕ)) × (far : Option (List ℕ)) × TakesIn direction items ends.near i word × IsFilled ends.far word far × P i.name far → MakesOnly (IsHit (TakesIn direction items) ends k) (λ (h : Hit). P h.near h.far) i
     of_item ends k i (word, far, takes, becomes, holds) j =
         let hit : Hit = record { spec = k; item = j; near = i.name; far = far } in
-        let is : IsHit items ends k j i hit = record { word = word; takes = takes; far = becomes; near = refl; spec = refl; item = refl } in
-        (hit, is, λ z also. subst (λ (h : Hit). P h.near h.far) (hit_once items ends k j i hit z is also) holds)
+        let is : IsHit (TakesIn direction items) ends k j i hit = record { word = word; takes = takes; far = becomes; near = refl; spec = refl; item = refl } in
+        (hit, is, λ z also. subst (λ (h : Hit). P h.near h.far) (hit_once direction items ends k j i hit z is also) holds)
 
-    of_reading : (r : Reading) → Reaches (HasEnds direction) items P r → (k : ℕ) (made : List Hit) → AreSpecHits (HasEnds direction) items k r made → Any (λ (h : Hit). P h.near h.far) made
+    of_reading : (r : Reading) → Reaches (HasEnds direction) (TakesIn direction items) items P r → (k : ℕ) (made : List Hit) → AreSpecHits (HasEnds direction) (TakesIn direction items) items k r made → Any (λ (h : Hit). P h.near h.far) made
     of_reading r (ends, has, some) k made (inr (none, empty)) = absurd (none ends has)
     of_reading r (ends, has, some) k made (inl (others, have, is)) =
         let same : ends ≡ others = one_pair direction r ends others has have in
-        any_made (IsHit items ends k) (λ (h : Hit). P h.near h.far) 0 items made (subst (λ (e : Ends). IsMadeFrom (IsHit items e k) 0 items made) (sym same) is) (Any-weaker _ _ (of_item ends k) items some)
+        any_made (IsHit (TakesIn direction items) ends k) (λ (h : Hit). P h.near h.far) 0 items made (subst (λ (e : Ends). IsMadeFrom (IsHit (TakesIn direction items) e k) 0 items made) (sym same) is) (Any-weaker _ _ (of_item ends k) items some)
 
 -- ---- one pair
 
@@ -205,7 +210,7 @@ IsForwardPair pair near far = (name near ≡ pair.source) × (far ≡ pair.desti
 abbrev IsBackwardPair : Mapped → List ℕ → Option (List ℕ) → Type 0
 IsBackwardPair pair near far = (name (unwrap_or far []) ≡ pair.source) × (Some near ≡ pair.destination)
 
-forward_carries : (A B : List Ref) (pair : Mapped) → IsDestinationAmong B pair.destination → (r : Reading) → IsFine r → Reaches AreForwardEnds A (IsForwardPair pair) r → Carries r pair × IsSourceAmong A pair.source
+forward_carries : (A B : List Ref) (pair : Mapped) → IsDestinationAmong B pair.destination → (r : Reading) → IsFine r → Reaches AreForwardEnds (Takes A) A (IsForwardPair pair) r → Carries r pair × IsSourceAmong A pair.source
 forward_carries A B pair to r fine (ends, has, any) =
     let found = some_item _ A any in
     let i : Ref = found.0 in
@@ -215,21 +220,21 @@ forward_carries A B pair to r fine (ends, has, any) =
     let there = far_there ends.far word goal.0 filled_far in
     let right_is : r.destination ≡ Some there.0 = has.far ∙ there.1 in
     let twin : AreTwins ends.near there.0 = fine_twins r ends.near there.0 fine has.positive has.near right_is in (
-      carried r pair ends.near there.0 i.name goal.0 has.positive has.near right_is (taken_mirrored ends.near there.0 goal.0 i word twin takes (subst (λ (o : Option (List ℕ)). IsFilled o word (Some goal.0)) there.1 filled_far)) (sym source) goal.1,
+      carried r pair ends.near there.0 i.name goal.0 has.positive has.near right_is (taken_mirrored ends.near there.0 goal.0 i word twin takes.matches (subst (λ (o : Option (List ℕ)). IsFilled o word (Some goal.0)) there.1 filled_far)) (sym source) goal.1,
       subst (IsSourceAmong A) source found.2,
     )
 
-carries_forward : (A : List Ref) (pair : Mapped) → IsSourceAmong A pair.source → (r : Reading) → Carries r pair → Reaches AreForwardEnds A (IsForwardPair pair) r
+carries_forward : (A : List Ref) (pair : Mapped) → IsSourceAmong A pair.source → (r : Reading) → Carries r pair → Reaches AreForwardEnds (Takes A) A (IsForwardPair pair) r
 carries_forward A pair from r c =
     let ends : Ends = record { near = c.left; far = Some c.right } in
     (ends, record { positive = c.positive; near = c.source; far = c.destination; no_object = λ bytes. no_object c.left c.right bytes (mirrored_twins c.left c.right c.start c.goal c.mirrored) }, Any-weaker _ _ of_item A (named_item A c.start (subst (IsSourceAmong A) c.is_source from)))
   where
-    of_item : (i : Ref) → i.name ≡ c.start → (word : Option (List ℕ)) × (far : Option (List ℕ)) × Matches c.left i word × IsFilled (Some c.right) word far × IsForwardPair pair i.name far
+    of_item : (i : Ref) → i.name ≡ c.start → (word : Option (List ℕ)) × (far : Option (List ℕ)) × Takes A c.left i word × IsFilled (Some c.right) word far × IsForwardPair pair i.name far
     of_item i same =
         let taken = mirrored_taken c.left c.right c.start c.goal i c.mirrored same in
-        (taken.0, Some c.goal, taken.1, taken.2, (ap name same ∙ sym c.is_source, sym c.is_destination))
+        (taken.0, Some c.goal, record { matches = taken.1; first = λ n kind. absurd (no_partial c.left c.right n (mirrored_twins c.left c.right c.start c.goal c.mirrored) kind) }, taken.2, (ap name same ∙ sym c.is_source, sym c.is_destination))
 
-backward_carries : (B : List Ref) (pair : Mapped) → (r : Reading) → IsFine r → Reaches AreBackwardEnds B (IsBackwardPair pair) r → Carries r pair × IsDestinationAmong B pair.destination
+backward_carries : (B : List Ref) (pair : Mapped) → (r : Reading) → IsFine r → Reaches AreBackwardEnds Matches B (IsBackwardPair pair) r → Carries r pair × IsDestinationAmong B pair.destination
 backward_carries B pair r fine (ends, has, any) =
     let found = some_item _ B any in
     let i : Ref = found.0 in
@@ -244,7 +249,7 @@ backward_carries B pair r fine (ends, has, any) =
       subst (IsDestinationAmong B) destination found.2,
     )
 
-carries_backward : (B : List Ref) (pair : Mapped) → IsDestinationAmong B pair.destination → (r : Reading) → Carries r pair → Reaches AreBackwardEnds B (IsBackwardPair pair) r
+carries_backward : (B : List Ref) (pair : Mapped) → IsDestinationAmong B pair.destination → (r : Reading) → Carries r pair → Reaches AreBackwardEnds Matches B (IsBackwardPair pair) r
 carries_backward B pair to r c =
     let ends : Ends = record { near = c.right; far = Some c.left } in
     (ends, record { positive = c.positive; near = c.destination; far = c.source; both = refl }, Any-weaker _ _ of_item B (named_item B c.goal (subst (IsDestinationAmong B) c.is_destination to)))

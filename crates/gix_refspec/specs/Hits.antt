@@ -1,15 +1,15 @@
--- Which items the specs of a group match, and the mappings that these make in each direction, by
+-- Which items the specs of a group take, and the mappings that these make in each direction, by
 -- git-fetch(1) and git-push(1) under `<refspec>`. The order of mappings, matching from right to left, and
 -- what an id as a source or a destination gives, are this project's own rules.
 use Rattle.std.specs.Prelude.{◌≡◌, ◌⊎◌, ℕ, List, [], ◌++◌, Option, None, Some, IsSome, map, unwrap_or}
 use Rattle.gix_refspec.specs.Reading.{Reading}
 use Rattle.gix_refspec.specs.Grammar.{IsPositive}
 use Rattle.gix_refspec.specs.Side.{SideKind, object, HasKind, filled}
-use Rattle.gix_refspec.specs.Match.{Ref, Matches}
+use Rattle.gix_refspec.specs.Match.{Ref, Matches, Takes}
 use Rattle.gix_refspec.specs.Lists.{IsMadeFrom, IsJoinedFrom}
 use Rattle.gix_refspec.specs.Mappings.{name, id, Mapped, AreApart, IsKept}
 
--- the sides of a spec as one direction sees them: the near one matches items, and the far one, where there
+-- the sides of a spec as one direction sees them: the near one takes items, and the far one, where there
 -- is one, is filled
 pub record Ends : Type 0 where
   pub near : List ℕ
@@ -29,10 +29,6 @@ pub record AreBackwardEnds (r : Reading) (ends : Ends) : Type 0 where
   pub far : r.source ≡ ends.far
   pub both : IsSome ends.far
 
--- among the items, the side takes the ref, a pattern with this word for its star
-abbrev pub Takes : List Ref → List ℕ → Ref → Option (List ℕ) → Type 0
-Takes items x r word = Matches x r word
-
 -- what the far side becomes, where there is one
 abbrev pub IsFilled : Option (List ℕ) → Option (List ℕ) → Option (List ℕ) → Type 0
 IsFilled None word n = n ≡ None
@@ -45,24 +41,25 @@ pub record Hit : Type 0 where
   pub near : List ℕ
   pub far : Option (List ℕ)
 
--- the spec at place k, which has these ends, takes the ref at place j of the items
-pub record IsHit (items : List Ref) (ends : Ends) (k j : ℕ) (r : Ref) (hit : Hit) : Type 0 where
+-- the spec at place k, which has these ends, takes the ref at place j of the items. Taken says which refs a
+-- near side takes, a pattern with which word for its star
+pub record IsHit (Taken : List ℕ → Ref → Option (List ℕ) → Type 0) (ends : Ends) (k j : ℕ) (r : Ref) (hit : Hit) : Type 0 where
   pub word : Option (List ℕ)
-  pub takes : Takes items ends.near r word
+  pub takes : Taken ends.near r word
   pub far : IsFilled ends.far word hit.far
   pub near : hit.near ≡ r.name
   pub spec : hit.spec ≡ k
   pub item : hit.item ≡ j
 
 -- the items that the spec at place k takes, in order, and none where it has no such ends
-abbrev pub AreSpecHits : (Reading → Ends → Type 0) → List Ref → ℕ → Reading → List Hit → Type 0
-AreSpecHits HasEnds items k r hits =
-    ((ends : Ends) × HasEnds r ends × IsMadeFrom (IsHit items ends k) 0 items hits)
+abbrev pub AreSpecHits : (Reading → Ends → Type 0) → (List ℕ → Ref → Option (List ℕ) → Type 0) → List Ref → ℕ → Reading → List Hit → Type 0
+AreSpecHits HasEnds Taken items k r hits =
+    ((ends : Ends) × HasEnds r ends × IsMadeFrom (IsHit Taken ends k) 0 items hits)
     ⊎ (((ends : Ends) → ¬ (HasEnds r ends)) × (hits ≡ []))
 
 -- the items that the specs of a group take, by spec, and for each by item
-abbrev pub AreHits : (Reading → Ends → Type 0) → List Reading → List Ref → List Hit → Type 0
-AreHits HasEnds g items hits = IsJoinedFrom (AreSpecHits HasEnds items) 0 g hits
+abbrev pub AreHits : (Reading → Ends → Type 0) → (List ℕ → Ref → Option (List ℕ) → Type 0) → List Reading → List Ref → List Hit → Type 0
+AreHits HasEnds Taken g items hits = IsJoinedFrom (AreSpecHits HasEnds Taken items) 0 g hits
 
 -- from left to right an item's name is the source
 abbrev pub forward_of : Hit → Mapped
@@ -84,18 +81,19 @@ pub record IsIdMapping (k : ℕ) (r : Reading) (m : Mapped) : Type 0 where
   pub destination : IsFilled r.destination None m.destination
   pub spec : m.spec ≡ k
 
--- the mappings from left to right: first those of ids, by spec; then those of items, by spec and item
+-- the mappings from left to right: first those of ids, by spec; then those of the items that sources take, by
+-- spec and item
 pub record AreForward (g : List Reading) (items : List Ref) (list : List Mapped) : Type 0 where
   pub ids : List Mapped
   pub hits : List Hit
   pub are_ids : IsMadeFrom IsIdMapping 0 g ids
-  pub are_hits : AreHits AreForwardEnds g items hits
+  pub are_hits : AreHits AreForwardEnds (Takes items) g items hits
   pub all : list ≡ ids ++ map forward_of hits
 
--- the mappings from right to left, by spec and item
+-- the mappings from right to left: those of the items that destinations match, by spec and item
 pub record AreBackward (g : List Reading) (items : List Ref) (list : List Mapped) : Type 0 where
   pub hits : List Hit
-  pub are_hits : AreHits AreBackwardEnds g items hits
+  pub are_hits : AreHits AreBackwardEnds Matches g items hits
   pub all : list ≡ map backward_of hits
 
 -- those of the mappings from left to right that stay

@@ -1,5 +1,5 @@
 -- Laws of the definitions alone, on readings, refusals, canonical texts, ids, patterns and prefixes.
-use Rattle.std.specs.Prelude.{◌≡◌, ◌≢◌, ◌⊎◌, ◌↔◌, ◌<◌, ℕ, List, Option, Some, codes, length}
+use Rattle.std.specs.Prelude.{◌≡◌, ◌≢◌, ◌⊎◌, ◌↔◌, ◌<◌, ℕ, List, [], ◌∷◌, Option, Some, codes, length}
 use Rattle.gix_refspec.specs.declared.name.Error.{Error as NameError}
 use Rattle.gix_refspec.specs.declared.name.PatternError.{PatternError}
 use Rattle.gix_refspec.specs.declared.name.PatternError.TheVariants.{Memory}
@@ -16,7 +16,7 @@ use Rattle.gix_refspec.specs.Grammar.{Reads}
 use Rattle.gix_refspec.specs.Meaning.{Meaning, meaning_of, printed}
 use Rattle.gix_refspec.specs.Views.{meant_for}
 use Rattle.gix_refspec.specs.Side.{IsId, candidates, IsCandidate, Fits}
-use Rattle.gix_refspec.specs.Match.{Ref, Matches}
+use Rattle.gix_refspec.specs.Match.{Ref, Matches, HasName, IsFirstCandidate, Takes}
 use Rattle.gix_refspec.specs.Prefix.{IsPrefix, Expands}
 
 -- for the operation, the text has a reading, and no other
@@ -106,15 +106,27 @@ pub record OnePrefix (x : List ℕ) : Type 0 where
   pub expanded : (list other : List (List ℕ)) → Expands x list → Expands x other → list ≡ other
 
 -- a side is expanded to its six candidates, and to nothing else, and matches just the refs with one of
--- these names
+-- these names. As a source it takes the one ref of a list exactly where that has one of them
 pub record HasCandidates (x : List ℕ) : Type 0 where
   pub expands : Expands x (candidates x)
   pub only : (list : List (List ℕ)) → Expands x list → list ≡ candidates x
   pub matches : (r : Ref) → ((word : Option (List ℕ)) × Matches x r word) ↔ IsCandidate x r.name
+  pub takes : (r : Ref) → ((word : Option (List ℕ)) × Takes (r ∷ []) x r word) ↔ IsCandidate x r.name
 
 -- this holds of a side that has no star, isn't `HEAD`, begins no `refs/` and is no id
 abbrev pub Candidates : List ℕ → Type 0
 Candidates x = Lacks star x → x ≢ head → ¬ (Begins (codes "refs/") x) → ¬ (IsId x) → HasCandidates x
+
+-- among the refs, a source takes just those whose name is the first of its candidates that is there. It is one
+-- name, and there is one where some candidate is
+pub record TakesFirst (x : List ℕ) (refs : List Ref) : Type 0 where
+  pub takes : (r : Ref) → ((word : Option (List ℕ)) × Takes refs x r word) ↔ IsFirstCandidate refs x r.name
+  pub one : (n m : List ℕ) → IsFirstCandidate refs x n → IsFirstCandidate refs x m → n ≡ m
+  pub some : (n : List ℕ) → IsCandidate x n → HasName refs n → (m : List ℕ) × IsFirstCandidate refs x m
+
+-- this holds of a source that has no star, begins no `refs/` and is no id
+abbrev pub FirstCandidate : List ℕ → List Ref → Type 0
+FirstCandidate x refs = Lacks star x → ¬ (Begins (codes "refs/") x) → ¬ (IsId x) → TakesFirst x refs
 
 -- of a type by which values clones are, and from which values they always come: they come from each value, and
 -- are that value

@@ -1,6 +1,6 @@
 -- Laws of matching: both directions agree, groups that map alike, and what covers the sources of a group.
 -- They follow from the words of Mappings and Hits, and settle nothing.
-use Rattle.std.specs.Prelude.{◌≡◌, ◌≢◌, ◌⊎◌, ◌↔◌, ℕ, List, [], ◌∷◌, codes, Option, None, Some}
+use Rattle.std.specs.Prelude.{◌≡◌, ◌≢◌, ◌⊎◌, ◌↔◌, ℕ, List, codes, Option, None, Some}
 use Rattle.std.specs.List.{AllByRecursion, AllZip, Any}
 use Rattle.gix_refspec.specs.declared.parsing.Operation.TheVariants.{Fetch}
 use Rattle.gix_refspec.specs.Text.{Lacks, Begins}
@@ -9,18 +9,13 @@ use Rattle.gix_refspec.specs.Bytes.{star, head}
 use Rattle.gix_refspec.specs.Reading.{Reading}
 use Rattle.gix_refspec.specs.Grammar.{IsPositive, Reads}
 use Rattle.gix_refspec.specs.Meaning.{printed}
-use Rattle.gix_refspec.specs.Match.{Ref}
+use Rattle.gix_refspec.specs.Match.{Ref, HasName}
 use Rattle.gix_refspec.specs.Prefix.{IsPrefix, IsAsked, IsExpansion}
 use Rattle.gix_refspec.specs.Lists.{IsJoinedFrom}
 use Rattle.gix_refspec.specs.Mappings.{Start, name, id, Mapped, HasPair}
 use Rattle.gix_refspec.specs.Hits.{AreKeptForward, AreKeptBackward}
 
 -- ---- both directions
-
--- one of the refs has the name n
-abbrev pub HasName : List Ref → List ℕ → Type 0
-HasName [] n = ⊥
-HasName (r ∷ rs) n = (r.name ≡ n) ⊎ HasName rs n
 
 -- the source of a mapping is the name of one of the refs
 abbrev pub IsSourceAmong : List Ref → Start → Type 0

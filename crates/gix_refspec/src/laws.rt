@@ -3,7 +3,7 @@
 
 ghost use Rattle.std.specs.Prelude.{◌≡◌, ◌↔◌, map, option_map, IsTrue};
 ghost use Rattle.std.specs.Ordering.{nat_cmp};
-ghost use Rattle.gix_refspec.specs.Laws.{ReadsOrRefused, OneRefusal, ReadsBack, IsPrintedBack, KeepsOperation, SaysForOperation, EqualTexts, EqualReadings, IdOrFault, OneLowerText, NothingAgainst, OneWord, PrefixBegins, OnePrefix, Candidates, ClonesExactly};
+ghost use Rattle.gix_refspec.specs.Laws.{ReadsOrRefused, OneRefusal, ReadsBack, IsPrintedBack, KeepsOperation, SaysForOperation, EqualTexts, EqualReadings, IdOrFault, OneLowerText, NothingAgainst, OneWord, PrefixBegins, OnePrefix, Candidates, FirstCandidate, ClonesExactly};
 ghost use Rattle.gix_refspec.specs.Meaning.{meaning_of};
 ghost use Rattle.gix_refspec.specs.ObjectId.{id_bytes};
 ghost use Rattle.gix_refspec.specs.Order.{is_same, order, place_of};
@@ -110,9 +110,17 @@ pub fn one_prefix(side: &[u8])
 {}
 
 /// A side without a star that isn't `HEAD`, begins no `refs/` and is no id expands to its six
-/// candidates, and matches just the refs with one of these names.
+/// candidates, and matches just the refs with one of these names. As the source of a spec, over a list
+/// of one ref, it takes that exactly where its name is one of them.
 pub fn candidates(side: &[u8])
     ensures { Candidates side.now }
+{}
+
+/// Among items, a source without a star that begins no `refs/` and is no id takes just those whose
+/// name is the first of its candidates that is there. That is one name, and there is one wherever
+/// some candidate is there.
+pub fn first_candidate(side: &[u8], items: &[Item<'_>])
+    ensures { FirstCandidate side.now (map ref_of items.now) }
 {}
 
 /// A group and items have no two lists of mappings from left to right that stay: the contract of

@@ -26,11 +26,13 @@ impl<'spec> MatchGroup<'spec> {
     ///
     /// First come the ids that specs ask for, one mapping for each positive spec whose source is an
     /// id: it has no item, and its source is the id. Then come, spec by spec and for each in the
-    /// order of the items, the items that the source of a positive spec matches. A pattern matches
-    /// a name with one word for its star, a full name only itself, and a partial name each of its
-    /// six candidates. A mapping has no destination where its spec has none. Of mappings with the
-    /// same source and destination the first one is kept, and no mapping whose source is a name
-    /// that a negative spec excludes.
+    /// order of the items, the items that the source of a positive spec takes. A pattern takes each
+    /// name that it matches with one word for its star, and a full name only itself. Of the six names
+    /// that gitrevisions(7) tries for a partial one, it takes the first that some item has: the tag
+    /// `refs/tags/main` for `main`, where there is a branch of that name too. This choice comes first:
+    /// if a negative spec excludes that name, the partial source maps nothing. A mapping has no
+    /// destination where its spec has none. Of mappings with the same source and destination the
+    /// first one is kept, and no mapping whose source is a name that a negative spec excludes.
     ///
     /// Names of items are borrowed from the items, and destinations that are full names from the
     /// specs. Other destinations are owned: a pattern with the word for its star, and the names of
@@ -52,9 +54,9 @@ impl<'spec> MatchGroup<'spec> {
     /// Only positive specs with both sides take part. Mappings are in the order of the specs, and
     /// for each in that of the items. The sides change their roles, and else all is as in
     /// `match_lhs`: the destination is the name of an item, borrowed from it, and the source is
-    /// filled in by the spec. A destination that is an id matches items whose target or object it
-    /// is, and a source that is an id becomes the name of a branch. Negative specs exclude by the
-    /// source.
+    /// filled in by the spec. But a partial destination takes all items that have one of its six
+    /// names. A destination that is an id matches items whose target or object it is, and a source
+    /// that is an id becomes the name of a branch. Negative specs exclude by the source.
     ///
     /// Fails with `NoRoom` if memory runs out, and never where no item matches. It holds the group as
     /// it was.

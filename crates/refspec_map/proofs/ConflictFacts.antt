@@ -1,139 +1,144 @@
 -- A whole run of `plan` whose mappings have a conflict, from the bytes of its input to those of its output.
--- That a text is a name is a premise.
 use Rattle.std.proofs.Common.{◌≡◌, ◌≢◌, inl, inr, ℕ, zero, suc, true, List, [], ◌∷◌, ◌++◌, None, Some, length, codes, refl, sym, ap, ◌∙◌, subst, arith}
 use Rattle.std.proofs.lemmas.Bool.{eqb-false}
 use Rattle.std.specs.List.{Contains}
 use Rattle.std.specs.List.Sorted.{IsStrictlySortedBy}
 use Rattle.gix_refspec.specs.declared.parsing.Operation.TheVariants.{Fetch}
+use Rattle.gix_refspec.specs.Text.{Begins}
 use Rattle.gix_refspec.specs.Bytes.{star, plus, caret, colon}
-use Rattle.gix_refspec.specs.ObjectId.{IsIdText}
-use Rattle.gix_refspec.specs.Name.{IsName}
 use Rattle.gix_refspec.specs.Reading.{Normal, Reading}
 use Rattle.gix_refspec.specs.Grammar.{Reads, fetched, updates}
-use Rattle.gix_refspec.specs.Side.{full_name, partial, HasKind}
-use Rattle.gix_refspec.specs.Match.{Ref}
+use Rattle.gix_refspec.specs.Side.{full_name, HasKind}
+use Rattle.gix_refspec.specs.Match.{Ref, Takes}
 use Rattle.gix_refspec.specs.Mappings.{Start, name, id, Mapped, HasPair, IsExcluded}
-use Rattle.gix_refspec.specs.Hits.{AreForwardEnds, Hit, IsHit, AreForward, AreKeptForward, IsIdMapping}
+use Rattle.gix_refspec.specs.Hits.{Ends, AreForwardEnds, Hit, IsHit, AreForward, AreKeptForward, IsIdMapping}
 use Rattle.gix_refspec.specs.Validation.{Conflict, IsContested, IsFirstTo, IsConflict, AreConflicts}
 use Rattle.gix_refspec.proofs.FormsBackLemmas.{some_once}
+use Rattle.gix_refspec.proofs.HitLemmas.{matches_as}
+use Rattle.gix_refspec.proofs.TestedLemmas.{IsName-tested}
 use Rattle.refspec_map.specs.declared.command.Command.TheVariants as command
 use Rattle.refspec_map.specs.Input.{newline, AreLines}
 use Rattle.refspec_map.specs.Line.{reading, ref}
 use Rattle.refspec_map.specs.Run.{Answers}
 use Rattle.refspec_map.proofs.FormFacts.{blob, ref_lines}
 use Rattle.refspec_map.proofs.LineFacts.{Lacks-tested}
-use Rattle.refspec_map.proofs.MatchFacts.{no_length, not_negative}
+use Rattle.refspec_map.proofs.MatchFacts.{not_negative}
 
--- a short name, and two refs that it may stand for
-abbrev main : List ℕ
-main = codes "main"
-
-abbrev the_tag : List ℕ
+-- a tag and a branch, and a spec for each of them
+abbrev pub the_tag : List ℕ
 the_tag = codes "refs/tags/main"
 
-abbrev the_head : List ℕ
+abbrev pub the_head : List ℕ
 the_head = codes "refs/heads/main"
 
-abbrev target : List ℕ
+abbrev pub target : List ℕ
 target = codes "refs/x"
 
-abbrev the_spec : Reading
-the_spec = fetched Normal main (Some target)
+abbrev spec_of : List ℕ → Reading
+spec_of n = fetched Normal n (Some target)
 
-abbrev named : List ℕ → Ref
+abbrev both_specs : List Reading
+both_specs = spec_of the_tag ∷ spec_of the_head ∷ []
+
+abbrev pub named : List ℕ → Ref
 named n = record { name = n; target = blob; object = None }
 
-abbrev the_refs : List Ref
+abbrev pub the_refs : List Ref
 the_refs = named the_tag ∷ named the_head ∷ []
 
 -- ---- both are mapped to one destination
 
-abbrev tag_hit : Hit
-tag_hit = record { spec = 0; item = 0; near = the_tag; far = Some target }
+abbrev hit_of : ℕ → List ℕ → Hit
+hit_of k n = record { spec = k; item = k; near = n; far = Some target }
 
-abbrev head_hit : Hit
-head_hit = record { spec = 0; item = 1; near = the_head; far = Some target }
+abbrev pub mapping_of : ℕ → List ℕ → Mapped
+mapping_of k n = record { item = Some k; source = name n; destination = Some target; spec = k }
 
-abbrev tag_mapping : Mapped
-tag_mapping = record { item = Some 0; source = name the_tag; destination = Some target; spec = 0 }
+abbrev pub tag_mapping : Mapped
+tag_mapping = mapping_of 0 the_tag
 
 abbrev head_mapping : Mapped
-head_mapping = record { item = Some 1; source = name the_head; destination = Some target; spec = 0 }
+head_mapping = mapping_of 1 the_head
 
 abbrev both : List Mapped
 both = tag_mapping ∷ head_mapping ∷ []
 
-main_no_id : (i : List ℕ) → ¬ (IsIdText main i)
-main_no_id i is = no_length is.kind is.digits
+tag_kind : HasKind the_tag (full_name the_tag)
+tag_kind = (refl, Lacks-tested star the_tag refl, record { after = codes "tags/main"; here = refl })
 
-not_refs : (after : List ℕ) → main ≢ codes "refs/" ++ after
-not_refs after same = cc
+head_kind : HasKind the_head (full_name the_head)
+head_kind = (refl, Lacks-tested star the_head refl, record { after = codes "heads/main"; here = refl })
 
-main_kind : HasKind main (partial main)
-main_kind = (refl, Lacks-tested star main refl, λ begins. not_refs begins.after begins.here, λ is. main_no_id is.0 is.1)
-
-target_kind : HasKind target (full_name target)
+pub target_kind : HasKind target (full_name target)
 target_kind = (refl, Lacks-tested star target refl, record { after = codes "x"; here = refl })
 
-the_ends : AreForwardEnds the_spec (record { near = main; far = Some target })
-the_ends = record { positive = tt; near = refl; far = refl; no_object = λ i kind. main_no_id i kind.2 }
+abbrev ends_of : List ℕ → Ends
+ends_of n = record { near = n; far = Some target }
 
-tag_taken : IsHit the_refs (record { near = main; far = Some target }) 0 0 (named the_tag) tag_hit
-tag_taken = record {
+are_ends : (n : List ℕ) → HasKind n (full_name n) → AreForwardEnds (spec_of n) (ends_of n)
+are_ends n kind = record { positive = tt; near = refl; far = refl; no_object = λ i object. object.1 kind.2 }
+
+-- each spec takes the ref of its name
+taken : (k : ℕ) (n : List ℕ) → HasKind n (full_name n) → IsHit (Takes the_refs) (ends_of n) k k (named n) (hit_of k n)
+taken k n kind = record {
   word = None;
-  takes = record { kind = partial main; of = main_kind; is = (refl, record { earlier = main ∷ codes "refs/main" ∷ []; later = the_head ∷ codes "refs/remotes/main" ∷ codes "refs/remotes/main/HEAD" ∷ []; here = refl }) };
+  takes = record { matches = record { kind = full_name n; of = kind; is = (refl, refl) }; first = λ m partial. absurd (partial.2 kind.2) };
   far = (full_name target, target_kind, refl);
   near = refl;
   spec = refl;
   item = refl;
 }
 
-head_taken : IsHit the_refs (record { near = main; far = Some target }) 0 1 (named the_head) head_hit
-head_taken = record {
-  word = None;
-  takes = record { kind = partial main; of = main_kind; is = (refl, record { earlier = main ∷ codes "refs/main" ∷ the_tag ∷ []; later = codes "refs/remotes/main" ∷ codes "refs/remotes/main/HEAD" ∷ []; here = refl }) };
-  far = (full_name target, target_kind, refl);
-  near = refl;
-  spec = refl;
-  item = refl;
-}
+-- and not the other one
+other_taken : (k j : ℕ) (n m : List ℕ) (hit : Hit) → HasKind n (full_name n) → IsHit (Takes the_refs) (ends_of n) k j (named m) hit → m ≡ n
+other_taken k j n m hit kind is = let matches = matches_as n (full_name n) (named m) is.word kind is.takes.matches in matches.1
 
-no_id_mapped : (m : Mapped) → ¬ (IsIdMapping 0 the_spec m)
-no_id_mapped m is = main_no_id is.bytes (subst (λ (x : List ℕ). IsIdText x is.bytes) (sym (some_once main is.text is.side)) is.object.2)
+no_id_mapped : (k : ℕ) (n : List ℕ) → HasKind n (full_name n) → (m : Mapped) → ¬ (IsIdMapping k (spec_of n) m)
+no_id_mapped k n kind m is = is.object.1 (subst (Begins (codes "refs/")) (some_once n is.text is.side) kind.2)
 
-mapped : AreForward (the_spec ∷ []) the_refs both
-mapped = record {
-  ids = [];
-  hits = tag_hit ∷ head_hit ∷ [];
-  are_ids = (None, [], no_id_mapped, refl, refl);
-  are_hits = (
-    tag_hit ∷ head_hit ∷ [],
-    [],
-    inl (record { near = main; far = Some target }, the_ends, (Some tag_hit, head_hit ∷ [], tag_taken, (Some head_hit, [], head_taken, refl, refl), refl)),
-    refl,
-    refl,
-  );
-  all = refl;
-}
+-- their names differ, and so do their starts
+pub apart : the_tag ≢ the_head
+apart same = omega (arith, ap length same)
 
-not_excluded : (n : List ℕ) → ¬ (IsExcluded (the_spec ∷ []) n)
-not_excluded n (inl by) = not_negative by.negative
-not_excluded n (inr none) = none
-
--- their sources differ
 text_of_start : Start → List ℕ
 text_of_start (name n) = n
 text_of_start (id i) = i
 
 differ : name the_tag ≢ name the_head
 unfolding text_of_start
-differ same = omega (arith, ap (λ s. length (text_of_start s)) same)
+differ same = apart (ap text_of_start same)
+
+mapped : AreForward both_specs the_refs both
+mapped = record {
+  ids = [];
+  hits = hit_of 0 the_tag ∷ hit_of 1 the_head ∷ [];
+  are_ids = (None, [], no_id_mapped 0 the_tag tag_kind, (None, [], no_id_mapped 1 the_head head_kind, refl, refl), refl);
+  are_hits = (
+    hit_of 0 the_tag ∷ [],
+    hit_of 1 the_head ∷ [],
+    inl (ends_of the_tag, are_ends the_tag tag_kind, (Some (hit_of 0 the_tag), [], taken 0 the_tag tag_kind, (None, [], (λ hit is. apart (sym (other_taken 0 1 the_tag the_head hit tag_kind is))), refl, refl), refl)),
+    (
+      hit_of 1 the_head ∷ [],
+      [],
+      inl (ends_of the_head, are_ends the_head head_kind, (None, hit_of 1 the_head ∷ [], (λ hit is. apart (other_taken 1 0 the_head the_tag hit head_kind is)), (Some (hit_of 1 the_head), [], taken 1 the_head head_kind, refl, refl), refl)),
+      refl,
+      refl,
+    ),
+    refl,
+  );
+  all = refl;
+}
+
+not_excluded : (n : List ℕ) → ¬ (IsExcluded both_specs n)
+not_excluded n (inl by) = not_negative by.negative
+not_excluded n (inr (inl by)) = not_negative by.negative
+not_excluded n (inr (inr none)) = none
 
 no_pair_before : ¬ (HasPair (tag_mapping ∷ []) head_mapping)
 no_pair_before (inl same) = differ same.source
 no_pair_before (inr none) = none
 
-kept : AreKeptForward (the_spec ∷ []) the_refs both
+kept : AreKeptForward both_specs the_refs both
 kept = record {
   all = both;
   forward = mapped;
@@ -149,7 +154,7 @@ kept = record {
 -- ---- so they are one conflict
 
 abbrev the_conflict : Conflict
-the_conflict = record { destination = target; sources = name the_tag ∷ name the_head ∷ []; texts = codes "main:refs/x" ∷ codes "main:refs/x" ∷ [] }
+the_conflict = record { destination = target; sources = name the_tag ∷ name the_head ∷ []; texts = codes "refs/tags/main:refs/x" ∷ codes "refs/heads/main:refs/x" ∷ [] }
 
 tag_first : IsFirstTo target both 0 tag_mapping
 tag_first = record { goes = refl; first = λ pair. pair }
@@ -157,15 +162,15 @@ tag_first = record { goes = refl; first = λ pair. pair }
 head_first : IsFirstTo target both 1 head_mapping
 head_first = record { goes = refl; first = no_pair_before }
 
-is_conflict : IsConflict (the_spec ∷ []) both the_conflict
+is_conflict : IsConflict both_specs both the_conflict
 is_conflict = record {
   contested = record { one = tag_mapping; other = head_mapping; has_one = (0, omega arith, refl); has_other = (1, omega arith, refl); one_to = refl; other_to = refl; differ = differ };
   sources = (Some (name the_tag), name the_head ∷ [], (tag_first, refl), (Some (name the_head), [], (head_first, refl), refl, refl), refl);
   texts = (
-    Some (codes "main:refs/x"),
-    codes "main:refs/x" ∷ [],
-    (tag_first, (the_spec, refl, refl)),
-    (Some (codes "main:refs/x"), [], (head_first, (the_spec, refl, refl)), refl, refl),
+    Some (codes "refs/tags/main:refs/x"),
+    codes "refs/heads/main:refs/x" ∷ [],
+    (tag_first, (spec_of the_tag, refl, refl)),
+    (Some (codes "refs/heads/main:refs/x"), [], (head_first, (spec_of the_head, refl, refl)), refl, refl),
     refl,
   );
 }
@@ -179,41 +184,51 @@ goes m (suc (suc k), below, is) = absurd (omega (arith, below))
 no_other : (d : List ℕ) → IsContested both d → target ≡ d
 no_other d is = some_once target d (sym (goes is.one is.has_one) ∙ is.one_to)
 
-conflicts : AreConflicts (the_spec ∷ []) both (the_conflict ∷ [])
+conflicts : AreConflicts both_specs both (the_conflict ∷ [])
 unfolding IsStrictlySortedBy
 conflicts = record { each = (is_conflict, tt); every = λ d is. (0, omega arith, no_other d is); order = (tt, tt) }
 
 -- ---- which is what `plan` writes
 
+abbrev pub spec_line : List ℕ → List ℕ
+spec_line n = codes "spec " ++ (n ++ codes ":refs/x")
+
+abbrev pub ref_line : List ℕ → List ℕ
+ref_line n = codes "ref e69de29bb2d1d6434b8b29ae775ad8c2e48c5391 " ++ n
+
 abbrev the_input : List ℕ
-the_input = codes "spec main:refs/x\nref e69de29bb2d1d6434b8b29ae775ad8c2e48c5391 refs/tags/main\nref e69de29bb2d1d6434b8b29ae775ad8c2e48c5391 refs/heads/main\n"
+the_input = codes "spec refs/tags/main:refs/x\nspec refs/heads/main:refs/x\nref e69de29bb2d1d6434b8b29ae775ad8c2e48c5391 refs/tags/main\nref e69de29bb2d1d6434b8b29ae775ad8c2e48c5391 refs/heads/main\n"
 
-abbrev tag_line : List ℕ
-tag_line = codes "ref e69de29bb2d1d6434b8b29ae775ad8c2e48c5391 refs/tags/main"
+-- the lines of both refs, which end an input
+abbrev pub refs_after : List ℕ
+refs_after = codes "ref e69de29bb2d1d6434b8b29ae775ad8c2e48c5391 refs/tags/main\nref e69de29bb2d1d6434b8b29ae775ad8c2e48c5391 refs/heads/main\n"
 
-abbrev head_line : List ℕ
-head_line = codes "ref e69de29bb2d1d6434b8b29ae775ad8c2e48c5391 refs/heads/main"
+pub refs_cut : AreLines (ref_line the_tag ∷ ref_line the_head ∷ []) refs_after
+refs_cut = (Lacks-tested newline (ref_line the_tag) refl, inl (ref_line the_head ++ (newline ∷ []), refl, (Lacks-tested newline (ref_line the_head) refl, inl ([], refl, refl))))
 
-lines_cut : AreLines (codes "spec main:refs/x" ∷ tag_line ∷ head_line ∷ []) the_input
+lines_cut : AreLines (spec_line the_tag ∷ spec_line the_head ∷ ref_line the_tag ∷ ref_line the_head ∷ []) the_input
 lines_cut = (
-  Lacks-tested newline (codes "spec main:refs/x") refl,
-  inl (tag_line ++ (newline ∷ (head_line ++ (newline ∷ []))), refl, (Lacks-tested newline tag_line refl, inl (head_line ++ (newline ∷ []), refl, (Lacks-tested newline head_line refl, inl ([], refl, refl))))),
+  Lacks-tested newline (spec_line the_tag) refl,
+  inl (spec_line the_head ++ (newline ∷ refs_after), refl, (Lacks-tested newline (spec_line the_head) refl, inl (refs_after, refl, refs_cut))),
 )
 
-spec_reads : IsName main → IsName target → Reads Fetch (codes "main:refs/x") the_spec
-spec_reads short full = updates Normal main target refl tt (record { signed = (refl, (eqb-false 109 plus refl, eqb-false 109 caret refl)); last = Lacks-tested colon target refl }) (inl (short, full)) refl
+tag_reads : Reads Fetch (codes "refs/tags/main:refs/x") (spec_of the_tag)
+tag_reads = updates Normal the_tag target refl tt (record { signed = (refl, (eqb-false 114 plus refl, eqb-false 114 caret refl)); last = Lacks-tested colon target refl }) (inl (IsName-tested the_tag refl, IsName-tested target refl)) refl
 
-pub conflict_planned : IsName main → IsName target → Answers command.Plan (Some the_input) (Some []) (Some []) (Some (codes "conflict\trefs/x\trefs/tags/main\tmain:refs/x\trefs/heads/main\tmain:refs/x\n")) 1
-conflict_planned short full = record {
+head_reads : Reads Fetch (codes "refs/heads/main:refs/x") (spec_of the_head)
+head_reads = updates Normal the_head target refl tt (record { signed = (refl, (eqb-false 114 plus refl, eqb-false 114 caret refl)); last = Lacks-tested colon target refl }) (inl (IsName-tested the_head refl, IsName-tested target refl)) refl
+
+pub conflict_planned : Answers command.Plan (Some the_input) (Some []) (Some []) (Some (codes "conflict\trefs/x\trefs/tags/main\trefs/tags/main:refs/x\trefs/heads/main\trefs/heads/main:refs/x\n")) 1
+conflict_planned = record {
   input = the_input;
-  output = codes "conflict\trefs/x\trefs/tags/main\tmain:refs/x\trefs/heads/main\tmain:refs/x\n";
+  output = codes "conflict\trefs/x\trefs/tags/main\trefs/tags/main:refs/x\trefs/heads/main\trefs/heads/main:refs/x\n";
   refusal = true;
   read = record { taken = refl; ended = refl; within = omega arith };
   is = record {
-    lines = codes "spec main:refs/x" ∷ tag_line ∷ head_line ∷ [];
-    entries = reading the_spec ∷ ref (named the_tag) ∷ ref (named the_head) ∷ [];
+    lines = spec_line the_tag ∷ spec_line the_head ∷ ref_line the_tag ∷ ref_line the_head ∷ [];
+    entries = reading (spec_of the_tag) ∷ reading (spec_of the_head) ∷ ref (named the_tag) ∷ ref (named the_head) ∷ [];
     cut = lines_cut;
-    given = ((codes "main:refs/x", refl, spec_reads short full), (ref_lines the_tag, (ref_lines the_head, tt)));
+    given = ((codes "refs/tags/main:refs/x", refl, tag_reads), ((codes "refs/heads/main:refs/x", refl, head_reads), (ref_lines the_tag, (ref_lines the_head, tt))));
     is = record { mappings = both; kept = kept; shows = record { conflicts = the_conflict ∷ []; are = conflicts; some = λ none. cc; written = refl } };
   };
   written = refl;

@@ -12,3 +12,4 @@ pub mod TextFacts
 pub mod FaultFacts
 pub mod MatchFacts
 pub mod ConflictFacts
+pub mod CandidateFacts

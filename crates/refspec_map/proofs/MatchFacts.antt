@@ -17,6 +17,7 @@ use Rattle.gix_refspec.specs.Match.{Ref}
 use Rattle.gix_refspec.specs.Mappings.{name, Mapped, IsExcluded}
 use Rattle.gix_refspec.specs.Hits.{Ends, AreForwardEnds, AreBackwardEnds, Hit, AreForward, AreKeptForward, AreKeptBackward, IsIdMapping}
 use Rattle.gix_refspec.specs.Validation.{Conflict, IsContested, IsValidated}
+use Rattle.gix_refspec.proofs.CandidateLemmas.{first_of_one, taken_by_first}
 use Rattle.gix_refspec.proofs.FormsBackLemmas.{some_once}
 use Rattle.refspec_map.specs.declared.command.Command.{Command}
 use Rattle.refspec_map.specs.declared.command.Command.TheVariants as command
@@ -124,7 +125,7 @@ mapped = record {
         [],
         record {
           word = None;
-          takes = record { kind = partial head; of = head_kind; is = (refl, record { earlier = []; later = codes "refs/HEAD" ∷ codes "refs/tags/HEAD" ∷ codes "refs/heads/HEAD" ∷ codes "refs/remotes/HEAD" ∷ codes "refs/remotes/HEAD/HEAD" ∷ []; here = refl }) };
+          takes = taken_by_first (the_ref ∷ []) head the_ref head_kind (first_of_one head the_ref (record { earlier = []; later = codes "refs/HEAD" ∷ codes "refs/tags/HEAD" ∷ codes "refs/heads/HEAD" ∷ codes "refs/remotes/HEAD" ∷ codes "refs/remotes/HEAD/HEAD" ∷ []; here = refl }));
           far = refl;
           near = refl;
           spec = refl;

@@ -8,7 +8,7 @@ pub enum Command {
     CanonFetch,
     /// The same as a spec for a push.
     CanonPush,
-    /// Reads specs for a fetch and the refs of a remote, and writes what the left sides match.
+    /// Reads specs for a fetch and the refs of a remote, and writes what the left sides take.
     Lhs,
     /// Reads specs for a fetch and local refs, and writes what the right sides match.
     Rhs,

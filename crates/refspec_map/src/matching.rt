@@ -18,11 +18,11 @@ use std::alloc::Global;
 /// A command that matches.
 #[derive(Clone, Copy)]
 pub(crate) enum Matching {
-    /// Writes what the left sides match.
+    /// Writes what the left sides take.
     Lhs,
     /// Writes what the right sides match.
     Rhs,
-    /// Writes what survives of what the left sides match, and the fixes, or the conflicts.
+    /// Writes what survives of what the left sides take, and the fixes, or the conflicts.
     Plan,
 }
 

@@ -12,7 +12,7 @@ use gix_refspec::match_group::validate::Refusal;
 use gix_refspec::{MatchGroup, laws};
 use std::alloc::Global;
 
-/// The lines of the conflicts of what the left sides match, and true; or, without conflicts, those
+/// The lines of the conflicts of what the left sides take, and true; or, without conflicts, those
 /// of the mappings that survive and of the fixes, and false.
 pub(crate) fn plan(
     alloc: Global,

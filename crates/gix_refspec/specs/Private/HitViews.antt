@@ -10,8 +10,8 @@ use Rattle.gix_refspec.specs.declared.match_group.util.hits.Made.{Made}
 use Rattle.gix_refspec.specs.declared.side.SideKind.{SideKind as DeclaredKind}
 use Rattle.gix_refspec.specs.Reading.{Reading}
 use Rattle.gix_refspec.specs.Grammar.{IsPositive}
-use Rattle.gix_refspec.specs.Side.{HasKind, object, filled}
-use Rattle.gix_refspec.specs.Match.{Ref}
+use Rattle.gix_refspec.specs.Side.{SideKind, pattern, full_name, object, partial, HasKind, filled}
+use Rattle.gix_refspec.specs.Match.{Ref, Matches, IsFirstCandidate, Takes}
 use Rattle.gix_refspec.specs.Lists.{IsMadeFrom}
 use Rattle.gix_refspec.specs.Mappings.{Mapped}
 use Rattle.gix_refspec.specs.Hits.{Ends, AreForwardEnds, AreBackwardEnds, Hit, IsHit, IsIdMapping, AreForward, AreBackward, AreKeptForward, AreKeptBackward, forward_of, backward_of}
@@ -43,6 +43,26 @@ abbrev pub HasEnds : Direction → Reading → Ends → Type 0
 HasEnds Forward r ends = AreForwardEnds r ends
 HasEnds Backward r ends = AreBackwardEnds r ends
 
+-- which refs a near end takes in the direction, among the items
+abbrev pub TakesIn : Direction → List Ref → List ℕ → Ref → Option (List ℕ) → Type 0
+TakesIn Forward items x r word = Takes items x r word
+TakesIn Backward items x r word = Matches x r word
+
+-- where the direction takes one candidate alone, n is that one
+abbrev pub IsFirstIn : SideKind → Direction → List Ref → List ℕ → Type 0
+IsFirstIn (pattern before after) direction items n = Unit {0}
+IsFirstIn (full_name x) direction items n = Unit {0}
+IsFirstIn (object id) direction items n = Unit {0}
+IsFirstIn (partial x) Forward items n = IsFirstCandidate items x n
+IsFirstIn (partial x) Backward items n = Unit {0}
+
+-- a side of the kind takes each item that it matches, in both directions
+abbrev pub TakesEach : SideKind → Type 0
+TakesEach (pattern before after) = Unit {0}
+TakesEach (full_name x) = Unit {0}
+TakesEach (object id) = Unit {0}
+TakesEach (partial x) = ⊥
+
 -- what an end of the kind becomes, where there is one
 abbrev pub filled_end : Option DeclaredKind → Option (List ℕ) → Option (List ℕ)
 filled_end None word = None
@@ -59,13 +79,17 @@ pub record AsksForId (r : Reading) (bytes : List ℕ) : Type 0 where
 abbrev pub shown_hit : DeclaredHit → Hit
 shown_hit h = record { spec = h.spec; item = h.item; near = bstr_bytes h.near; far = option_map name_bytes h.far }
 
--- the hits of the spec at place k, whose ends have these kinds
-abbrev pub AreHitsOfKinds : DeclaredEnds → ℕ → List Ref → List Ref → List Hit → Type 0
-AreHitsOfKinds kinds k items refs hits = (ends : Ends) → HaveKinds ends kinds → IsMadeFrom (IsHit items ends k) 0 refs hits
+-- in the direction, the hits among the refs of the spec at place k, whose ends have these kinds
+abbrev pub AreHitsOfKinds : Direction → DeclaredEnds → ℕ → List Ref → List Ref → List Hit → Type 0
+AreHitsOfKinds direction kinds k items refs hits = (ends : Ends) → HaveKinds ends kinds → IsMadeFrom (IsHit (TakesIn direction items) ends k) 0 refs hits
 
--- a spec whose ends have these kinds hits some item
+-- a spec whose ends have these kinds hits some item, in both directions
 abbrev pub HasHit : DeclaredEnds → List Ref → Type 0
-HasHit kinds items = (ends : Ends) (k : ℕ) → HaveKinds ends kinds → ¬ (IsMadeFrom (IsHit items ends k) 0 items [])
+HasHit kinds items = (direction : Direction) (ends : Ends) (k : ℕ) → HaveKinds ends kinds → ¬ (IsMadeFrom (IsHit (TakesIn direction items) ends k) 0 items [])
+
+-- it hits none of the refs, in both directions
+abbrev pub HasNoHit : DeclaredEnds → List Ref → List Ref → Type 0
+HasNoHit kinds items refs = (direction : Direction) (k : ℕ) → AreHitsOfKinds direction kinds k items refs []
 
 -- what a hit makes in the direction
 abbrev pub mapping_of : Direction → Hit → Mapped

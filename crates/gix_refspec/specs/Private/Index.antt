@@ -6,10 +6,11 @@ use Rattle.std.specs.HashMap as hash
 use Rattle.std.specs.HashMap.{HashMap}
 use Rattle.std.specs.Global.{Vec}
 use Rattle.gix_refspec.specs.declared.match_group.util.ends.Direction.{Direction}
+use Rattle.gix_refspec.specs.declared.match_group.util.ends.Direction.TheVariants.{Forward, Backward}
 use Rattle.gix_refspec.specs.declared.match_group.util.index.NameIndex.{NameIndex}
 use Rattle.gix_refspec.specs.Reading.{Reading}
 use Rattle.gix_refspec.specs.Side.{SideKind, pattern, full_name, object, partial, HasKind, IsCandidate, candidates}
-use Rattle.gix_refspec.specs.Match.{Ref, MatchesAs}
+use Rattle.gix_refspec.specs.Match.{Ref, MatchesAs, IsFirstCandidate}
 use Rattle.gix_refspec.specs.Lists.{IsMadeFrom}
 use Rattle.gix_refspec.specs.Hits.{Ends}
 use Rattle.gix_refspec.specs.Private.Kept.{name_hash}
@@ -29,13 +30,21 @@ names_asked_by (full_name x) = x ∷ []
 names_asked_by (object id) = []
 names_asked_by (partial x) = candidates x
 
--- the places of the refs that a side of the kind matches without a word, in order
-abbrev pub ArePlacesTaken : SideKind → List Ref → List ℕ → Type 0
-ArePlacesTaken kind refs places = IsMadeFrom (λ k r place. MatchesAs kind r None × (place ≡ k)) 0 refs places
+-- in the direction, a side of the kind takes the ref without a word, among the items
+abbrev pub TakesWhole : SideKind → Direction → List Ref → Ref → Type 0
+TakesWhole (pattern before after) direction items r = ⊥
+TakesWhole (full_name x) direction items r = MatchesAs (full_name x) r None
+TakesWhole (object id) direction items r = MatchesAs (object id) r None
+TakesWhole (partial x) Forward items r = IsFirstCandidate items x r.name
+TakesWhole (partial x) Backward items r = MatchesAs (partial x) r None
+
+-- the places of the refs that a side of the kind takes in the direction, in order
+abbrev pub ArePlacesTaken : SideKind → Direction → List Ref → List ℕ → Type 0
+ArePlacesTaken kind direction refs places = IsMadeFrom (λ k r place. TakesWhole kind direction refs r × (place ≡ k)) 0 refs places
 
 -- the places of the refs of a name, in order
 abbrev pub ArePlacesOf : List ℕ → List Ref → List ℕ → Type 0
-ArePlacesOf n refs places = ArePlacesTaken (full_name n) refs places
+ArePlacesOf n refs places = IsMadeFrom (λ k r place. MatchesAs (full_name n) r None × (place ≡ k)) 0 refs places
 
 -- what the map has for a name
 abbrev pub list_of : {X S : Type 0} → HashMap (Bor (List ℕ)) X S → List ℕ → Option X

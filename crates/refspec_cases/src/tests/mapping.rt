@@ -172,9 +172,9 @@ fn maps_from_left_to_right(rt: HostRuntime) -> Result<(), Fail> {
             "0 0 refs/heads/a =refs/x/a\n3 0 refs/heads/ab =refs/x/ab\n5 0 refs/heads/cc =refs/x/cc\n",
         ),
         (
-            "HEAD:refs/x ^@",
+            "HEAD:refs/x heads/HEAD:refs/y ^@",
             "HEAD refs/heads/HEAD",
-            "1 0 refs/heads/HEAD refs/x\n",
+            "1 1 refs/heads/HEAD refs/y\n",
         ),
     ];
     check(&rt, rt.alloc(), Direction::Forward, Operation::Fetch, &rows)
@@ -203,35 +203,15 @@ fn keeps_each_pair_once(rt: HostRuntime) -> Result<(), Fail> {
 #[test]
 fn looks_full_and_partial_names_up(rt: HostRuntime) -> Result<(), Fail> {
     let forward = [
-        // The six names that a partial one may stand for, and names near them.
-        (
-            "main",
-            "xmain main/HEAD refs/remotes/main/HEAD refs/remotes/main refs/heads/main refs/tags/main refs/main main refs/heads/main/HEAD refs/x/main heads/main",
-            "2 0 refs/remotes/main/HEAD -\n3 0 refs/remotes/main -\n4 0 refs/heads/main -\n\
-             5 0 refs/tags/main -\n6 0 refs/main -\n7 0 main -\n",
-        ),
         (
             "refs/heads/main",
             "refs/heads/main2 refs/heads/mai refs/refs/heads/main heads/main refs/heads/main",
             "4 0 refs/heads/main -\n",
         ),
         (
-            "main:refs/remotes/origin/main",
-            "refs/tags/main refs/heads/main",
-            "0 0 refs/tags/main refs/remotes/origin/main\n\
-             1 0 refs/heads/main refs/remotes/origin/main\n",
-        ),
-        // By item, whichever candidate of a partial name it is; and of equal names the first.
-        (
-            "main:refs/x/main",
-            "refs/heads/main main refs/tags/main refs/heads/main",
-            "0 0 refs/heads/main refs/x/main\n1 0 main refs/x/main\n2 0 refs/tags/main refs/x/main\n",
-        ),
-        (
             "refs/heads/b:refs/x/b refs/heads/a:refs/x/a refs/heads/c:refs/x/c main:refs/y refs/heads/b",
             "refs/heads/a refs/heads/main refs/heads/b main",
-            "2 0 refs/heads/b refs/x/b\n0 1 refs/heads/a refs/x/a\n1 3 refs/heads/main refs/y\n\
-             3 3 main refs/y\n2 4 refs/heads/b -\n",
+            "2 0 refs/heads/b refs/x/b\n0 1 refs/heads/a refs/x/a\n3 3 main refs/y\n2 4 refs/heads/b -\n",
         ),
     ];
     check(
@@ -247,10 +227,18 @@ fn looks_full_and_partial_names_up(rt: HostRuntime) -> Result<(), Fail> {
             "refs/r refs/q refs/q",
             "1 0 refs/heads/main refs/q\n",
         ),
+        // By item, whichever candidate of a partial name it is.
         (
             "refs/heads/main:main",
             "refs/heads/main main",
             "0 0 refs/heads/main refs/heads/main\n1 0 refs/heads/main main\n",
+        ),
+        // The six names that a partial one may stand for, and names near them.
+        (
+            "refs/q:main",
+            "xmain main/HEAD refs/remotes/main/HEAD refs/remotes/main refs/heads/main refs/tags/main refs/main main refs/heads/main/HEAD refs/x/main heads/main",
+            "2 0 refs/q refs/remotes/main/HEAD\n3 0 refs/q refs/remotes/main\n4 0 refs/q refs/heads/main\n\
+             5 0 refs/q refs/tags/main\n6 0 refs/q refs/main\n7 0 refs/q main\n",
         ),
     ];
     check(
@@ -259,6 +247,88 @@ fn looks_full_and_partial_names_up(rt: HostRuntime) -> Result<(), Fail> {
         Direction::Backward,
         Operation::Fetch,
         &backward,
+    )
+}
+
+// Specs whose source is partial, names of items, and what is mapped from left to right.
+const FIRST: [(&str, &str, &str); 14] = [
+    // The tag, wherever it stands.
+    (
+        "main:refs/remotes/origin/main",
+        "refs/tags/main refs/heads/main",
+        "0 0 refs/tags/main refs/remotes/origin/main\n",
+    ),
+    (
+        "main:refs/x/main",
+        "refs/heads/main refs/tags/main",
+        "1 0 refs/tags/main refs/x/main\n",
+    ),
+    // Of the six names each where those before it are missing, among names near them.
+    (
+        "main",
+        "xmain main/HEAD refs/remotes/main/HEAD refs/remotes/main refs/heads/main refs/tags/main refs/main main refs/heads/main/HEAD",
+        "7 0 main -\n",
+    ),
+    (
+        "main",
+        "refs/x/main refs/remotes/main/HEAD refs/remotes/main refs/heads/main refs/tags/main refs/main heads/main",
+        "5 0 refs/main -\n",
+    ),
+    (
+        "main",
+        "refs/remotes/main/HEAD refs/remotes/main refs/heads/main refs/tags/main",
+        "3 0 refs/tags/main -\n",
+    ),
+    (
+        "main",
+        "refs/remotes/main/HEAD refs/remotes/main refs/heads/main",
+        "2 0 refs/heads/main -\n",
+    ),
+    (
+        "main",
+        "refs/remotes/main/HEAD refs/remotes/main",
+        "1 0 refs/remotes/main -\n",
+    ),
+    (
+        "x:refs/y",
+        "refs/remotes/x/HEAD",
+        "0 0 refs/remotes/x/HEAD refs/y\n",
+    ),
+    ("main", "xmain main/HEAD refs/x/main heads/main", ""),
+    ("HEAD", "refs/heads/HEAD HEAD", "1 0 HEAD -\n"),
+    (
+        "main:refs/x/main",
+        "refs/heads/main main refs/tags/main refs/heads/main",
+        "1 0 main refs/x/main\n",
+    ),
+    // Of equal names the first is kept.
+    (
+        "main",
+        "refs/heads/main refs/heads/main",
+        "0 0 refs/heads/main -\n",
+    ),
+    // Where the first one is excluded, none of the others is taken.
+    (
+        "main:refs/x/main ^refs/tags/main",
+        "refs/tags/main refs/heads/main",
+        "",
+    ),
+    // Each spec by itself.
+    (
+        "main:refs/x/a main:refs/x/b",
+        "refs/heads/main refs/tags/main",
+        "1 0 refs/tags/main refs/x/a\n1 1 refs/tags/main refs/x/b\n",
+    ),
+];
+
+#[test]
+fn takes_the_first_candidate(rt: HostRuntime) -> Result<(), Fail> {
+    check(
+        &rt,
+        rt.alloc(),
+        Direction::Forward,
+        Operation::Fetch,
+        &FIRST,
     )
 }
 

@@ -2,7 +2,7 @@
 
 use super::mapping::{TARGET, group_of, items_of};
 use bstr::{BStr, BString};
-use gix_refspec::match_group::validate::{Fix, Issue, Refusal};
+use gix_refspec::match_group::validate::{Error, Fix, Issue, Refusal};
 use gix_refspec::match_group::{Mapping, NameRef, SourceRef, match_lhs};
 use gix_refspec::oid::ObjectId;
 use gix_refspec::parse;
@@ -49,22 +49,33 @@ fn validated(alloc: Global, outcome: match_lhs::Outcome<'_, '_>) -> Result<Strin
 }
 
 // Specs, names of items, and what a validation answers.
-const MATCHED: [(&str, &str, &str); 15] = [
+const MATCHED: [(&str, &str, &str); 17] = [
     (
         "refs/heads/*:refs/x/* refs/heads/a",
         "refs/heads/a HEAD",
         "refs/heads/a:refs/x/a\nrefs/heads/a\n",
     ),
-    // Several sources of one destination, each with the text of its own spec.
+    // A partial name has one source.
     (
         "main:refs/remotes/origin/main",
         "refs/tags/main refs/heads/main",
-        "Found 1 issue that prevents the refspec mapping to be used: \n\tConflicting destination \"refs/remotes/origin/main\" would be written by refs/tags/main (\"main:refs/remotes/origin/main\"), refs/heads/main (\"main:refs/remotes/origin/main\")",
+        "refs/tags/main:refs/remotes/origin/main\n",
+    ),
+    // Several sources of one destination, each with the text of its own spec.
+    (
+        "tags/main:refs/remotes/origin/main heads/main:refs/remotes/origin/main",
+        "refs/tags/main refs/heads/main",
+        "Found 1 issue that prevents the refspec mapping to be used: \n\tConflicting destination \"refs/remotes/origin/main\" would be written by refs/tags/main (\"tags/main:refs/remotes/origin/main\"), refs/heads/main (\"heads/main:refs/remotes/origin/main\")",
     ),
     (
         "refs/heads/*:refs/x/* refs/tags/*:refs/x/* refs/notes/a:refs/x/a",
         "refs/tags/a refs/heads/a refs/notes/a",
         "Found 1 issue that prevents the refspec mapping to be used: \n\tConflicting destination \"refs/x/a\" would be written by refs/heads/a (\"refs/heads/*:refs/x/*\"), refs/tags/a (\"refs/tags/*:refs/x/*\"), refs/notes/a (\"refs/notes/a:refs/x/a\")",
+    ),
+    (
+        "refs/a:refs/x refs/b:refs/x refs/c:refs/x refs/d:refs/x",
+        "refs/d refs/c refs/b refs/a",
+        "Found 1 issue that prevents the refspec mapping to be used: \n\tConflicting destination \"refs/x\" would be written by refs/a (\"refs/a:refs/x\"), refs/b (\"refs/b:refs/x\"), refs/c (\"refs/c:refs/x\"), refs/d (\"refs/d:refs/x\")",
     ),
     // Issues are in the order of the destinations, whatever that of the mappings is.
     (
@@ -214,13 +225,21 @@ fn validates_outcomes_made_by_hand(rt: HostRuntime) -> Result<(), Fail> {
 }
 
 #[test]
-fn prints_a_refusal_for_memory(rt: HostRuntime) -> Result<(), Fail> {
+fn prints_a_refusal_for_memory_and_an_error_without_issues(rt: HostRuntime) -> Result<(), Fail> {
     let alloc = rt.alloc();
     let refusal = Refusal::Memory(match_lhs::Outcome {
         group: group_of(alloc, Operation::Fetch, "s:t")?,
         mappings: Vec::new(alloc),
     });
     assert_eq!(rt; format!(in alloc; "{refusal}")?.as_str(), "out of memory");
+    // No validation gives an error without an issue, but it can be made.
+    let error = Error {
+        issues: Vec::new(alloc),
+    };
+    assert_eq!(rt;
+        format!(in alloc; "{error}")?.as_str(),
+        "Found 0 issues that prevent the refspec mapping to be used: \n\t"
+    );
     Ok(())
 }
 

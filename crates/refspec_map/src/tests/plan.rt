@@ -9,6 +9,11 @@ fn writes_what_survives_and_the_fixes(rt: HostRuntime) -> Result<(), Fail> {
     let rows = [
         ("", ""),
         ("spec main\n", ""),
+        // The tag, as git fetches it.
+        (
+            "spec main:refs/remotes/origin/main\nref $ refs/tags/main\nref $ refs/heads/main\n",
+            "map\t0\t0\trefs/tags/main\trefs/remotes/origin/main\n",
+        ),
         (
             "spec *:*\nref $ HEAD\nref $ main\n",
             "map\t0\t0\tHEAD\tHEAD\nfix\tmain\t*:*\n",
@@ -48,9 +53,10 @@ fn writes_what_survives_and_the_fixes(rt: HostRuntime) -> Result<(), Fail> {
 fn writes_only_conflicts(rt: HostRuntime) -> Result<(), Fail> {
     let rows = [
         (
-            "spec main:refs/remotes/origin/main\nref $ refs/tags/main\nref $ refs/heads/main\n",
-            "conflict\trefs/remotes/origin/main\trefs/tags/main\tmain:refs/remotes/origin/main\t\
-             refs/heads/main\tmain:refs/remotes/origin/main\n",
+            "spec tags/main:refs/remotes/origin/main\nspec heads/main:refs/remotes/origin/main\n\
+             ref $ refs/tags/main\nref $ refs/heads/main\n",
+            "conflict\trefs/remotes/origin/main\trefs/tags/main\ttags/main:refs/remotes/origin/main\t\
+             refs/heads/main\theads/main:refs/remotes/origin/main\n",
         ),
         (
             "spec refs/heads/*:refs/x/*\nspec refs/tags/*:refs/x/*\n\

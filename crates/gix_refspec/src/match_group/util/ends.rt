@@ -17,9 +17,9 @@ use bstr::BStr;
 // The direction of matching.
 #[derive(Clone, Copy)]
 pub(crate) enum Direction {
-    // Sources match, and destinations are filled.
+    // Sources take items, and destinations are filled.
     Forward,
-    // Destinations match, and sources are filled.
+    // Destinations match items, and sources are filled.
     Backward,
 }
 

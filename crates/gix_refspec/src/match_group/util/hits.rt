@@ -1,5 +1,6 @@
-//! Which items the specs of a group match, and the mappings that these make. A direction only
-//! chooses which end of a spec is near, and matches items, and which is far, and is filled.
+//! Which items the specs of a group take, and the mappings that these make. A direction only
+//! chooses which end of a spec is near and takes items, which is far and is filled, and whether a
+//! partial near end takes all of its candidates or the first that is there.
 
 ghost use Rattle.std.specs.Prelude.{◌≡◌, [], map, IfOk, OnOk, OnErr};
 ghost use Rattle.gix_refspec.specs.Spec.{reading_of};
@@ -7,7 +8,7 @@ ghost use Rattle.gix_refspec.specs.Group.{ref_of, mapped_of};
 ghost use Rattle.gix_refspec.specs.Hits.{AreHits, forward_of, backward_of};
 ghost use Rattle.gix_refspec.specs.Private.SideViews.{shown_kind};
 ghost use Rattle.gix_refspec.specs.Private.Index.{ArePlacesTaken, IsIndexFor, IsIndexOfSide, MatchesWhole};
-ghost use Rattle.gix_refspec.specs.Private.HitViews.{HasEnds, shown_hit, AreHitsOfKinds, AddsHits, AreFirst, AreMade, made_in};
+ghost use Rattle.gix_refspec.specs.Private.HitViews.{HasEnds, TakesEach, TakesIn, shown_hit, AreHitsOfKinds, AddsHits, AreFirst, AreMade, made_in};
 
 use super::ends::{Direction, Ends, asked_of, ends_of};
 use super::fill::filled_end;
@@ -21,7 +22,7 @@ use crate::spec::RefSpecRef;
 use bstr::BStr;
 use std::alloc::{AllocError, Global};
 
-// That a spec matched an item: the places of both, the item's name, and what the far end becomes.
+// That a spec takes an item: the places of both, the item's name, and what the far end becomes.
 #[derive(Drop)]
 struct Hit<'spec, 'item> {
     spec: usize,
@@ -189,8 +190,8 @@ fn add_hits<'spec, 'item>(
 ) -> Result<(), AllocError>
     requires { IsIndexFor direction (map reading_of specs.now) (map ref_of items.now) index.now }
     ensures { OnOk result (AddsHits
-        direction (AreHits (HasEnds direction) (map reading_of specs.now) (map ref_of items.now))
-        made.old made.new) }
+        direction (AreHits (HasEnds direction) (TakesIn direction (map ref_of items.now))
+        (map reading_of specs.now) (map ref_of items.now)) made.old made.new) }
 {
     for (place, spec) in specs.iter().enumerate() {
         if let Some(ends) = ends_of(direction, spec) {
@@ -212,7 +213,8 @@ fn add_spec_hits<'spec, 'item>(
 ) -> Result<(), AllocError>
     requires { IsIndexOfSide (shown_kind ends.near) (map ref_of items.now) index.now }
     ensures { OnOk result (AddsHits
-        direction (AreHitsOfKinds ends.entry spec (map ref_of items.now) (map ref_of items.now))
+        direction (AreHitsOfKinds direction ends.entry spec
+        (map ref_of items.now) (map ref_of items.now))
         made.old made.new) }
 {
     match ends.near {
@@ -227,10 +229,16 @@ fn add_spec_hits<'spec, 'item>(
                 made,
             )
         }
-        SideKind::Partial(name) => {
-            let places = index.candidate_places(alloc, name)?;
-            add_places(alloc, direction, spec, ends, places.as_slice(), items, made)
-        }
+        SideKind::Partial(name) => match direction {
+            Direction::Forward => {
+                let places = index.first_places(alloc, name)?;
+                add_places(alloc, direction, spec, ends, places, items, made)
+            }
+            Direction::Backward => {
+                let places = index.candidate_places(alloc, name)?;
+                add_places(alloc, direction, spec, ends, places.as_slice(), items, made)
+            }
+        },
         SideKind::Pattern { .. } | SideKind::Object(_) => {
             add_matches(alloc, direction, spec, ends, items, made)
         }
@@ -248,9 +256,11 @@ fn add_places<'spec, 'item>(
     made: &mut Made<'spec, 'item>,
 ) -> Result<(), AllocError>
     requires whole { MatchesWhole (shown_kind ends.near) }
-    requires places { ArePlacesTaken (shown_kind ends.near) (map ref_of items.now) places.now }
+    requires places { ArePlacesTaken
+        (shown_kind ends.near) direction (map ref_of items.now) places.now }
     ensures { OnOk result (AddsHits
-        direction (AreHitsOfKinds ends.entry spec (map ref_of items.now) (map ref_of items.now))
+        direction (AreHitsOfKinds direction ends.entry spec
+        (map ref_of items.now) (map ref_of items.now))
         made.old made.new) }
 {
     for place in places {
@@ -265,7 +275,7 @@ fn add_places<'spec, 'item>(
     Ok(())
 }
 
-// Adds what the hits of a spec make, going through all items.
+// Adds what the hits of a spec make whose near end is no partial name, going through all items.
 fn add_matches<'spec, 'item>(
     alloc: Global,
     direction: Direction,
@@ -274,8 +284,10 @@ fn add_matches<'spec, 'item>(
     items: &[Item<'item>],
     made: &mut Made<'spec, 'item>,
 ) -> Result<(), AllocError>
+    requires { TakesEach (shown_kind ends.near) }
     ensures { OnOk result (AddsHits
-        direction (AreHitsOfKinds ends.entry spec (map ref_of items.now) (map ref_of items.now))
+        direction (AreHitsOfKinds direction ends.entry spec
+        (map ref_of items.now) (map ref_of items.now))
         made.old made.new) }
 {
     for (place, item) in items.iter().enumerate() {

@@ -118,6 +118,7 @@ fn is_marked(marks: &[bool], name: &[u8]) -> bool
 }
 
 impl<'n> NameIndex<'n> {
+    ghost use Rattle.gix_refspec.specs.declared.match_group.util.ends.Direction.TheVariants.{Forward, Backward};
     ghost use Rattle.gix_refspec.specs.Private.Index.{ArePlacesOf, ArePlacesTaken, IsIndexOf, places_in};
 
     // The index of some names.
@@ -157,7 +158,22 @@ impl<'n> NameIndex<'n> {
         }
     }
 
-    // The places of the candidates of a partial name, rising.
+    // The places of the first candidate of a partial name that has any, rising.
+    pub(crate) fn first_places(&self, alloc: Global, partial: &[u8]) -> Result<&[usize], AllocError>
+        ensures { IfOk result (λ places. (refs : List Ref)
+            → ((n : List ℕ) → IsCandidate partial.now n → ArePlacesOf n refs (places_in self.now n))
+            → ArePlacesTaken (partial_kind partial.now) Forward refs places.now) }
+    {
+        for name in &candidates(alloc, partial)? {
+            let places = self.places(name.as_bstr().as_bytes());
+            if !places.is_empty() {
+                return Ok(places);
+            }
+        }
+        Ok(&[])
+    }
+
+    // The places of all candidates of a partial name, rising.
     pub(crate) fn candidate_places(
         &self,
         alloc: Global,
@@ -165,7 +181,7 @@ impl<'n> NameIndex<'n> {
     ) -> Result<Vec<usize>, AllocError>
         ensures { IfOk result (λ places. (refs : List Ref)
             → ((n : List ℕ) → IsCandidate partial.now n → ArePlacesOf n refs (places_in self.now n))
-            → ArePlacesTaken (partial_kind partial.now) refs places.items) }
+            → ArePlacesTaken (partial_kind partial.now) Backward refs places.items) }
     {
         let mut places = Vec::new(alloc);
         for name in &candidates(alloc, partial)? {

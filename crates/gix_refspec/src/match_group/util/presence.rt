@@ -1,12 +1,12 @@
 //! Whether a direction makes any mapping at all. It is told without memory, and so without an index:
 //! all items are gone through for each spec.
 
-ghost use Rattle.std.specs.Prelude.{ℕ, [], map, MatchBool};
+ghost use Rattle.std.specs.Prelude.{[], map, MatchBool};
 ghost use Rattle.gix_refspec.specs.Spec.{reading_of};
 ghost use Rattle.gix_refspec.specs.Lists.{IsMadeFrom};
 ghost use Rattle.gix_refspec.specs.Group.{ref_of};
 ghost use Rattle.gix_refspec.specs.Hits.{AreHits, IsIdMapping};
-ghost use Rattle.gix_refspec.specs.Private.HitViews.{AreHitsOfKinds, AreMade, HasEnds, HasHit};
+ghost use Rattle.gix_refspec.specs.Private.HitViews.{AreMade, HasEnds, HasHit, HasNoHit, TakesIn};
 
 use super::ends::{Direction, Ends, asked_of, ends_of};
 use super::matched::matched;
@@ -43,8 +43,10 @@ fn has_id(specs: &[RefSpecRef<'_>]) -> bool
 // Whether some spec hits some item.
 fn has_hit(direction: Direction, specs: &[RefSpecRef<'_>], items: &[Item<'_>]) -> bool
     ensures { MatchBool result
-        (¬ (AreHits (HasEnds direction) (map reading_of specs.now) (map ref_of items.now) []))
-        (AreHits (HasEnds direction) (map reading_of specs.now) (map ref_of items.now) []) }
+        (¬ (AreHits (HasEnds direction) (TakesIn direction (map ref_of items.now))
+        (map reading_of specs.now) (map ref_of items.now) []))
+        (AreHits (HasEnds direction) (TakesIn direction (map ref_of items.now))
+        (map reading_of specs.now) (map ref_of items.now) []) }
 {
     for spec in specs {
         if let Some(ends) = ends_of(direction, spec) {
@@ -56,12 +58,12 @@ fn has_hit(direction: Direction, specs: &[RefSpecRef<'_>], items: &[Item<'_>]) -
     false
 }
 
-// Whether a spec with these ends hits some item.
+// Whether a spec with these ends hits some item. Where it matches one it does, since a partial name
+// that has a candidate there takes the first of them.
 fn hits_some(ends: Ends<'_>, items: &[Item<'_>]) -> bool
     ensures { MatchBool result
         (HasHit ends.entry (map ref_of items.now))
-        ((spec : ℕ) → AreHitsOfKinds ends.entry spec
-        (map ref_of items.now) (map ref_of items.now) []) }
+        (HasNoHit ends.entry (map ref_of items.now) (map ref_of items.now)) }
 {
     for item in items {
         if matched(ends.near, item).is_some() {

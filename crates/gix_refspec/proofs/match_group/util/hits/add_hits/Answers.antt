@@ -3,7 +3,7 @@ use Rattle.std.proofs.Common.{◌+◌, map, take, sym, subst}
 use Rattle.gix_refspec.specs.Spec.{reading_of}
 use Rattle.gix_refspec.specs.Group.{ref_of}
 use Rattle.gix_refspec.specs.Hits.{AreHits}
-use Rattle.gix_refspec.specs.Private.HitViews.{HasEnds, AddsHits}
+use Rattle.gix_refspec.specs.Private.HitViews.{HasEnds, TakesIn, AddsHits}
 use Rattle.gix_refspec.proofs.HitLemmas.{adds_spec, adds_no_spec}
 use Rattle.gix_refspec.proofs.PlacedLemmas.{side_served}
 use Rattle.gix_refspec.proofs.match_group.util.hits.add_hits.Goals as goal
@@ -18,10 +18,10 @@ loop-place-preserved c =
     let spec = c.index-specs-place in
     elim c.match-ends_of.branch [
       | in-Some+in_ok-add_spec_hits w ↦
-          subst (AddsHits direction (AreHits (HasEnds direction) (map reading_of (take (i + 1) specs)) items) c.args.made.now) (sym w.made-is)
+          subst (AddsHits direction (AreHits (HasEnds direction) (TakesIn direction items) (map reading_of (take (i + 1) specs)) items) c.args.made.now) (sym w.made-is)
           (adds_spec direction specs items i spec.result w.in-Some.ends c.args.made.now c.loop-place.made w.add_spec_hits.new.made c.loop-place-test.true spec.is c.loop-place.invariant w.in-Some.ensures w.in_ok-add_spec_hits.ensures)
       | in_default w ↦
-          subst (AddsHits direction (AreHits (HasEnds direction) (map reading_of (take (i + 1) specs)) items) c.args.made.now) (sym w.made-is)
+          subst (AddsHits direction (AreHits (HasEnds direction) (TakesIn direction items) (map reading_of (take (i + 1) specs)) items) c.args.made.now) (sym w.made-is)
           (adds_no_spec direction specs items i spec.result c.args.made.now c.loop-place.made c.loop-place-test.true spec.is c.loop-place.invariant w.in_default.ensures)
     ]
 

@@ -5,4 +5,4 @@ use Rattle.gix_refspec.specs.Private.HitViews.{AreHitsOfKinds, AddsHits}
 use Rattle.gix_refspec.proofs.match_group.util.hits.add_matches.Given as goal
 
 abbrev pub invariant-loop-place : goal.invariant-loop-place
-invariant-loop-place l = AddsHits l.direction (AreHitsOfKinds l.ends l.spec (map ref_of l.items) (map ref_of (take l.place l.items))) l.initial.made l.made
+invariant-loop-place l = AddsHits l.direction (AreHitsOfKinds l.direction l.ends l.spec (map ref_of l.items) (map ref_of (take l.place l.items))) l.initial.made l.made

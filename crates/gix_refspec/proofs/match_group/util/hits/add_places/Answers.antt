@@ -7,7 +7,7 @@ use Rattle.gix_refspec.proofs.PlacedLemmas.{AddsPlaces, place_fits, places_added
 use Rattle.gix_refspec.proofs.match_group.util.hits.add_places.Goals as goal
 
 pub bounds-items-place : goal.bounds-items-place
-bounds-items-place c = place_fits (shown_kind c.args.ends.near) c.args.items.now c.args.places.now c.loop-place.place-index 0 c.requires.places c.loop-place-test.true
+bounds-items-place c = place_fits (shown_kind c.args.ends.near) c.args.direction c.args.items.now c.args.places.now c.loop-place.place-index 0 c.requires.places c.loop-place-test.true
 
 pub offset_bounds-items-place : goal.offset_bounds-items-place
 offset_bounds-items-place c = let below = bounds-items-place c in search rules

@@ -3,8 +3,8 @@ use Rattle.std.proofs.Common.{[], map, take}
 use Rattle.gix_refspec.specs.Spec.{reading_of}
 use Rattle.gix_refspec.specs.Group.{ref_of}
 use Rattle.gix_refspec.specs.Hits.{AreHits}
-use Rattle.gix_refspec.specs.Private.HitViews.{HasEnds}
+use Rattle.gix_refspec.specs.Private.HitViews.{HasEnds, TakesIn}
 use Rattle.gix_refspec.proofs.match_group.util.presence.has_hit.Given as goal
 
 abbrev pub invariant-loop-spec : goal.invariant-loop-spec
-invariant-loop-spec l = AreHits (HasEnds l.direction) (map reading_of (take l.spec-index l.specs)) (map ref_of l.items) []
+invariant-loop-spec l = AreHits (HasEnds l.direction) (TakesIn l.direction (map ref_of l.items)) (map reading_of (take l.spec-index l.specs)) (map ref_of l.items) []

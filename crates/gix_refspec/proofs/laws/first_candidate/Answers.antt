@@ -1,0 +1,8 @@
+-- A partial source takes the first of its candidates that is there.
+use Rattle.std.proofs.Common.{map}
+use Rattle.gix_refspec.specs.Group.{ref_of}
+use Rattle.gix_refspec.proofs.CandidateLemmas.{takes_first}
+use Rattle.gix_refspec.proofs.laws.first_candidate.Goals as goal
+
+pub returns : goal.returns
+returns c = takes_first c.args.side.now (map ref_of c.args.items.now)
