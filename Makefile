@@ -1,6 +1,6 @@
 # make help    prints these lines
-# make build   the program, at crates/refspec_map/out/refspec_map
-# make run     its stored run: what it prints, its status, and whether they are as stored
+# make build   proves and builds the program, at crates/refspec_map/out/refspec_map
+# make run     its stored run, compared with what is stored; without proof where no program of these sources is built
 # make test    the gate, and then the scripts of tests/ over the built program
 # make clean   removes the program, what is kept of proofs, and the logs
 
@@ -12,6 +12,7 @@ LIBRARY := crates/gix_refspec
 FOLDER := crates/refspec_map
 PROGRAM := $(FOLDER)/out/refspec_map
 LOGS := out
+FIRST := 8 minutes the first time on 4 idle processors, half an hour on busy ones
 SOURCES := crates.txt $(shell find $(LIBRARY) $(FOLDER) \( -name out -o -name must-fail \) -prune -o -type f -print)
 
 help:
@@ -23,15 +24,22 @@ build: $(PROGRAM)
 # status 0. The pipe keeps the status of rt, by pipefail.
 $(PROGRAM): $(SOURCES) | kit
 	@mkdir -p $(LOGS)
-	@echo "make: proving and building the library and the program: 5 to 15 minutes the first time, then less;" \
-	    "log: $(LOGS)/build.log" >&2
+	@echo "make: proving and building the library and the program: $(FIRST), then less; log: $(LOGS)/build.log" >&2
 	@{ (cd $(LIBRARY) && rt check) && (cd $(FOLDER) && rt check && rt run -- canon push); } </dev/null 2>&1 \
-	| tee $(LOGS)/build.log >&2 \
+	| tee $(LOGS)/build.log | tools/progress >&2 \
 	|| { status=$$?; echo "make: not built, as $(LOGS)/build.log says" >&2; exit $$status; }
 	@touch $@
 
-run: build
-	@tools/stored $(FOLDER)
+# Where no program of these sources was proved yet, rt try runs them without proof.
+run: kit
+	@mkdir -p $(LOGS)
+	@if [ -x $(PROGRAM) ] && [ -z "$$(find $(SOURCES) -newer $(PROGRAM) -print -quit)" ]; then \
+	    tools/stored $(FOLDER); \
+	else \
+	    echo "make: a quick look without proof, within a minute; make build proves and builds" \
+	        "($(FIRST); log: $(LOGS)/build.log)" >&2; \
+	    tools/stored $(FOLDER) rt try -- 2>$(LOGS)/run.log || { cat $(LOGS)/run.log >&2; exit 1; }; \
+	fi
 
 # The gate leaves the program that it proved and built, so that build has nothing to do.
 test: kit
