@@ -5,6 +5,7 @@ use crate::command::Command;
 use crate::input::INPUT_LIMIT;
 use crate::run::run;
 use bstr::BStr;
+use std::alloc::AllocGlobal;
 use std::io;
 use std::process::Abort;
 use std::test::Fail;
@@ -13,23 +14,47 @@ const INPUT: &[u8] = b"main\n\n+:x";
 
 const OUTPUT: &str = "ok main:main\nerr Empty\nok :x\n";
 
-#[test]
-fn reads_one_byte_a_call(rt: HostRuntime) -> Result<(), Fail> {
+// An input for the matching commands.
+const LINES: &[u8] = b"spec refs/heads/*:x/*\nspec x:y\n\
+    ref 1111111111111111111111111111111111111111 refs/heads/a\n\
+    ref 1111111111111111111111111111111111111111 x/b";
+
+// Runs a command on an input that comes one byte a call: each byte is read once, and then the end.
+fn check_by_bytes<R: Abort + AllocGlobal>(
+    rt: &R,
+    command: Command,
+    input: &[u8],
+    wanted: &str,
+    wanted_status: u8,
+) -> Result<(), Fail> {
     let mut reader = ByteReader {
-        rest: INPUT,
+        rest: input,
         calls: 0,
         fault: None,
     };
     let mut output = Vec::new(rt.alloc());
-    let status = run(rt.alloc(), Command::CanonPush, &mut reader, &mut output)?;
-    assert_eq!(rt; BStr::new(output.as_slice()), BStr::new(OUTPUT.as_bytes()));
-    assert_eq!(rt; status, 1);
+    let status = run(rt.alloc(), command, &mut reader, &mut output)?;
     assert_eq!(rt;
-        reader.calls,
-        10,
-        "one call a byte, and one that finds the end"
+        BStr::new(output.as_slice()),
+        BStr::new(wanted.as_bytes()),
+        "at {command:?}"
     );
+    assert_eq!(rt; status, wanted_status, "at {command:?}");
+    assert_eq!(rt; reader.calls, input.len() + 1, "at {command:?}");
     Ok(())
+}
+
+#[test]
+fn reads_one_byte_a_call(rt: HostRuntime) -> Result<(), Fail> {
+    check_by_bytes(&rt, Command::CanonPush, INPUT, OUTPUT, 1)?;
+    let fetched = "ok main\nok HEAD\nok +HEAD:x\n";
+    check_by_bytes(&rt, Command::CanonFetch, INPUT, fetched, 0)?;
+    let mapped = "map\t0\t0\trefs/heads/a\tx/a\n";
+    check_by_bytes(&rt, Command::Lhs, LINES, mapped, 0)?;
+    let tracked = "map\t0\t1\trefs/heads/b\tx/b\n";
+    check_by_bytes(&rt, Command::Rhs, LINES, tracked, 0)?;
+    let planned = "fix\tx/a\trefs/heads/*:x/*\n";
+    check_by_bytes(&rt, Command::Plan, LINES, planned, 0)
 }
 
 // The reader of a row would give the rest of the input, or its end, at the next call.

@@ -1,0 +1,51 @@
+/* Loaded before a program, this library tells of its reads of the standard input and its writes to the
+   standard output: a letter for each, `r` or `w`, and `R` or `W` for one that it fails, to the descriptor in
+   CALLS_TELL. It fails the read or the write whose number, from 1, stands in CALLS_READ or CALLS_WRITE, and
+   only that one. */
+#define _GNU_SOURCE
+#include <dlfcn.h>
+#include <errno.h>
+#include <stdlib.h>
+#include <unistd.h>
+
+static ssize_t (*real_read)(int, void *, size_t);
+static ssize_t (*real_write)(int, const void *, size_t);
+static int tell = -1;
+static long failing_read, failing_write;
+static long reads, writes;
+
+static long number_in(const char *name) {
+    const char *text = getenv(name);
+    return text ? atol(text) : 0;
+}
+
+__attribute__((constructor)) static void start(void) {
+    real_read = (ssize_t (*)(int, void *, size_t))dlsym(RTLD_NEXT, "read");
+    real_write = (ssize_t (*)(int, const void *, size_t))dlsym(RTLD_NEXT, "write");
+    tell = (int)number_in("CALLS_TELL");
+    failing_read = number_in("CALLS_READ");
+    failing_write = number_in("CALLS_WRITE");
+}
+
+/* Tells of a call, and whether it fails. */
+static int fails(long number, long failing, const char *letters) {
+    if (real_write(tell, &letters[number == failing], 1) != 1)
+        _exit(99);
+    return number == failing;
+}
+
+ssize_t read(int file, void *room, size_t size) {
+    if (file == STDIN_FILENO && fails(++reads, failing_read, "rR")) {
+        errno = EIO;
+        return -1;
+    }
+    return real_read(file, room, size);
+}
+
+ssize_t write(int file, const void *bytes, size_t size) {
+    if (file == STDOUT_FILENO && fails(++writes, failing_write, "wW")) {
+        errno = EIO;
+        return -1;
+    }
+    return real_write(file, bytes, size);
+}
