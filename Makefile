@@ -1,7 +1,7 @@
 # make help    prints these lines
 # make build   proves and builds the program, at crates/refspec_map/out/refspec_map
 # make run     its stored run, compared with what is stored; without proof where no program of these sources is built
-# make test    the gate, and then the scripts of tests/ over the built program
+# make test    the gate, and then the scripts of tests/ over what it built
 # make clean   removes the program, what is kept of proofs, and the logs
 
 SHELL := /bin/bash
@@ -11,6 +11,7 @@ SHELL := /bin/bash
 LIBRARY := crates/gix_refspec
 FOLDER := crates/refspec_map
 PROGRAM := $(FOLDER)/out/refspec_map
+TESTS := crates/refspec_cases/out/refspec_cases_tests
 LOGS := out
 FIRST := 8 minutes the first time on 4 idle processors, half an hour on busy ones
 SOURCES := crates.txt $(shell find $(LIBRARY) $(FOLDER) \( -name out -o -name must-fail \) -prune -o -type f -print)
@@ -41,12 +42,12 @@ run: kit
 	    tools/stored $(FOLDER) rt try -- 2>$(LOGS)/run.log || { cat $(LOGS)/run.log >&2; exit 1; }; \
 	fi
 
-# The gate leaves the program that it proved and built, so that build has nothing to do.
+# The gate leaves the program and the tests that it proved and built, so that build has nothing to do.
 test: kit
 	@mkdir -p $(LOGS)
 	@rt ci 2>&1 </dev/null | tee $(LOGS)/gate.log
 	@$(MAKE) --no-print-directory build
-	@tests/run $(PROGRAM)
+	@tests/run $(PROGRAM) $(TESTS)
 	@grep -E '^[0-9]+ passed, 0 failed' $(LOGS)/gate.log | tail -n 1
 
 clean:

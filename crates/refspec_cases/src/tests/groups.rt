@@ -11,7 +11,7 @@ use std::hash::{FoldHasher, Hash, Hasher};
 use std::test::Fail;
 
 // Two names, each with its destination below `refs/remotes/origin/`. The two pairs have one hash.
-const COLLIDING: [(&[u8], &[u8]); 2] = [
+pub(super) const COLLIDING: [(&[u8], &[u8]); 2] = [
     (
         b"refs/heads/0MvFc4\xd2\xba\xab\xf23\xeda\xd8a\x8a\xee>d\xcdaaaaaaaaaaaaaaaaa",
         b"refs/remotes/origin/0MvFc4\xd2\xba\xab\xf23\xeda\xd8a\x8a\xee>d\xcdaaaaaaaaaaaaaaaaa",

@@ -1,0 +1,45 @@
+//! Calls in which growths of memory are refused. Each test makes one call between two marks, and looks at
+//! what it answered and what it left. `tests/growths` has the growths between the marks refused in turn;
+//! in any other run there is memory for all.
+
+mod alike;
+mod copies;
+mod matching;
+mod texts;
+
+use std::alloc::{AllocError, Global};
+use std::test::Fail;
+
+// A room that nothing else asks for: by it the library that refuses growths knows the marks.
+const MARK: usize = 1_048_573;
+
+// Where a call begins, or ends.
+fn mark(alloc: Global) -> Result<(), AllocError> {
+    let mut room: Vec<u8> = Vec::with_capacity(alloc, MARK)?;
+    room.push(0)?;
+    Ok(())
+}
+
+// What a call answers, between two marks.
+macro_rules! marked {
+    ($alloc:expr, $call:expr) => {{
+        mark($alloc)?;
+        let answer = $call;
+        mark($alloc)?;
+        answer
+    }};
+}
+
+use marked;
+
+// Says that a call answered as it does with ample memory.
+fn say_answered(rt: &HostRuntime) -> Result<(), Fail> {
+    println!(rt; "answered")?;
+    Ok(())
+}
+
+// Says that a call refused for want of memory.
+fn say_refused(rt: &HostRuntime) -> Result<(), Fail> {
+    println!(rt; "refused")?;
+    Ok(())
+}

@@ -1,0 +1,166 @@
+//! Matching in both directions, clones of outcomes, and validation.
+
+use super::super::mapping::{TARGET, group_of, items_of, lines};
+use super::{mark, marked, say_answered, say_refused};
+use gix_refspec::match_group::match_lhs;
+use gix_refspec::match_group::validate::Refusal;
+use gix_refspec::oid::ObjectId;
+use gix_refspec::parsing::Operation;
+use std::alloc::Global;
+use std::test::Fail;
+
+// Patterns, full and partial names and an id on both sides, repeats, and negative names and patterns.
+const SPECS: &str =
+    "refs/heads/*:refs/x/* refs/heads/a:refs/y/a v:refs/z/v v:w 1111111111111111111111111111111111111111:refs/i refs/heads/a:refs/y/a refs/q:u refs/tags/t:2222222222222222222222222222222222222222 ^refs/heads/n ^refs/heads/p*";
+// Names that the left sides take, some twice; and names that the right sides take.
+const LEFT: &str =
+    "refs/heads/a refs/heads/n refs/heads/p1 refs/heads/a refs/heads/v refs/tags/v refs/q refs/heads/o";
+
+const MAPPED: &str = "- 4 1111111111111111111111111111111111111111 refs/i\n\
+    0 0 refs/heads/a =refs/x/a\n4 0 refs/heads/v =refs/x/v\n7 0 refs/heads/o =refs/x/o\n\
+    0 1 refs/heads/a refs/y/a\n5 2 refs/tags/v refs/z/v\n5 3 refs/tags/v =refs/heads/w\n\
+    6 6 refs/q =refs/heads/u\n";
+
+const RIGHT: &str =
+    "refs/x/a refs/y/a refs/x/n refs/z/v w refs/heads/w refs/tags/w refs/heads/u refs/x/a refs/i";
+
+const TRACKED: &str = "0 0 =refs/heads/a refs/x/a\n1 1 refs/heads/a refs/y/a\n\
+    3 2 =refs/heads/v refs/z/v\n4 3 =refs/heads/v w\n5 3 =refs/heads/v refs/heads/w\n\
+    6 3 =refs/heads/v refs/tags/w\n9 4 =refs/heads/1111111111111111111111111111111111111111 refs/i\n\
+    7 6 refs/q refs/heads/u\n";
+
+#[test]
+fn maps_from_left_to_right(rt: HostRuntime) -> Result<(), Fail> {
+    let alloc = rt.alloc();
+    let target = ObjectId::from_hex(TARGET.as_bytes())?;
+    let items = items_of(alloc, LEFT, &target)?;
+    let given = group_of(alloc, Operation::Fetch, SPECS)?;
+    let group = given.clone(alloc)?;
+    match marked!(alloc, group.match_lhs(alloc, items.as_slice())) {
+        Ok(outcome) => {
+            assert_eq!(&rt; lines(alloc, outcome.mappings.as_slice())?.as_str(), MAPPED);
+            assert!(&rt; outcome.group.specs.as_slice() == given.specs.as_slice());
+            say_answered(&rt)
+        }
+        Err(refused) => {
+            assert!(&rt; refused.group.specs.as_slice() == given.specs.as_slice());
+            let again = refused.group.match_lhs(alloc, items.as_slice())?;
+            assert_eq!(&rt; lines(alloc, again.mappings.as_slice())?.as_str(), MAPPED);
+            say_refused(&rt)
+        }
+    }
+}
+
+#[test]
+fn maps_from_right_to_left(rt: HostRuntime) -> Result<(), Fail> {
+    let alloc = rt.alloc();
+    let target = ObjectId::from_hex(TARGET.as_bytes())?;
+    let items = items_of(alloc, RIGHT, &target)?;
+    let given = group_of(alloc, Operation::Fetch, SPECS)?;
+    let group = given.clone(alloc)?;
+    match marked!(alloc, group.match_rhs(alloc, items.as_slice())) {
+        Ok(outcome) => {
+            assert_eq!(&rt;
+                lines(alloc, outcome.mappings.as_slice())?.as_str(),
+                TRACKED
+            );
+            assert!(&rt; outcome.group.specs.as_slice() == given.specs.as_slice());
+            say_answered(&rt)
+        }
+        Err(refused) => {
+            assert!(&rt; refused.group.specs.as_slice() == given.specs.as_slice());
+            let again = refused.group.match_rhs(alloc, items.as_slice())?;
+            assert_eq!(&rt; lines(alloc, again.mappings.as_slice())?.as_str(), TRACKED);
+            say_refused(&rt)
+        }
+    }
+}
+
+#[test]
+fn maps_nothing(rt: HostRuntime) -> Result<(), Fail> {
+    let alloc = rt.alloc();
+    let target = ObjectId::from_hex(TARGET.as_bytes())?;
+    let items = items_of(alloc, "refs/notes/a refs/notes/b", &target)?;
+    let specs = "refs/heads/a:refs/x/a refs/heads/*:refs/y/* v:refs/z/v ^refs/heads/n";
+    let forward = group_of(alloc, Operation::Fetch, specs)?;
+    let backward = forward.clone(alloc)?;
+    let there = marked!(alloc, forward.match_lhs(alloc, items.as_slice()))?;
+    assert!(&rt; there.mappings.is_empty());
+    let back = marked!(alloc, backward.match_rhs(alloc, items.as_slice()))?;
+    assert!(&rt; back.mappings.is_empty());
+    say_answered(&rt)
+}
+
+#[test]
+fn clones_outcomes(rt: HostRuntime) -> Result<(), Fail> {
+    let alloc = rt.alloc();
+    let target = ObjectId::from_hex(TARGET.as_bytes())?;
+    let items = items_of(alloc, LEFT, &target)?;
+    let outcome = group_of(alloc, Operation::Fetch, SPECS)?.match_lhs(alloc, items.as_slice())?;
+    match marked!(alloc, outcome.clone(alloc)) {
+        Ok(copy) => {
+            assert_eq!(&rt; lines(alloc, copy.mappings.as_slice())?.as_str(), MAPPED);
+            say_answered(&rt)
+        }
+        Err(_) => say_refused(&rt),
+    }
+}
+
+// What the specs map over names, from left to right.
+fn mapped<'a>(
+    alloc: Global,
+    specs: &'a str,
+    names: &'a str,
+    target: &'a ObjectId,
+) -> Result<match_lhs::Outcome<'a, 'a>, Fail> {
+    let items = items_of(alloc, names, target)?;
+    Ok(group_of(alloc, Operation::Fetch, specs)?.match_lhs(alloc, items.as_slice())?)
+}
+
+#[test]
+fn validates_and_fixes(rt: HostRuntime) -> Result<(), Fail> {
+    let alloc = rt.alloc();
+    let target = ObjectId::from_hex(TARGET.as_bytes())?;
+    let specs = "refs/heads/*:foo/* +refs/heads/*:refs/x/*";
+    let given = mapped(alloc, specs, "refs/heads/a refs/heads/b", &target)?;
+    let before = lines(alloc, given.mappings.as_slice())?;
+    assert!(&rt; given.indexes_fit());
+    match marked!(alloc, given.validated(alloc)) {
+        Ok((left, fixes)) => {
+            let wanted = "0 1 refs/heads/a =refs/x/a\n1 1 refs/heads/b =refs/x/b\n";
+            assert_eq!(&rt; lines(alloc, left.mappings.as_slice())?.as_str(), wanted);
+            assert_eq!(&rt; fixes.len(), 2);
+            say_answered(&rt)
+        }
+        Err(Refusal::Memory(outcome)) => {
+            assert!(&rt; outcome.group.specs.len() == 2);
+            let after = lines(alloc, outcome.mappings.as_slice())?;
+            assert_eq!(&rt; after.as_str(), before.as_str());
+            say_refused(&rt)
+        }
+        Err(refusal) => Err(refusal.into()),
+    }
+}
+
+#[test]
+fn validates_and_reports(rt: HostRuntime) -> Result<(), Fail> {
+    let alloc = rt.alloc();
+    let target = ObjectId::from_hex(TARGET.as_bytes())?;
+    let specs = "refs/heads/*:refs/x/* refs/tags/*:refs/x/*";
+    let given = mapped(alloc, specs, "refs/heads/a refs/tags/a", &target)?;
+    let before = lines(alloc, given.mappings.as_slice())?;
+    assert!(&rt; given.indexes_fit());
+    match marked!(alloc, given.validated(alloc)) {
+        Err(Refusal::Conflicts(error)) => {
+            assert_eq!(&rt; error.issues.len(), 1);
+            say_answered(&rt)
+        }
+        Err(Refusal::Memory(outcome)) => {
+            assert!(&rt; outcome.group.specs.len() == 2);
+            let after = lines(alloc, outcome.mappings.as_slice())?;
+            assert_eq!(&rt; after.as_str(), before.as_str());
+            say_refused(&rt)
+        }
+        Ok(_) => Err("no conflict".into()),
+    }
+}

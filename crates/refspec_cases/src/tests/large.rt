@@ -1,0 +1,99 @@
+//! Thousands of names at once, for which `tests/large` gives little time and memory.
+
+use super::mapping::TARGET;
+use bstr::BStr;
+use gix_refspec::match_group::{Item, Mapping};
+use gix_refspec::oid::ObjectId;
+use gix_refspec::parsing::Operation;
+use gix_refspec::{MatchGroup, parse};
+use std::alloc::{AllocError, Global};
+use std::process::Abort;
+use std::test::Fail;
+
+// So many names, each with this in front of a number of its own.
+fn numbered(alloc: Global, start: &str, count: usize) -> Result<Vec<String>, AllocError> {
+    let mut names = Vec::with_capacity(alloc, count)?;
+    for number in 0..count {
+        names.push(format!(in alloc; "{start}{number:05}")?)?;
+    }
+    Ok(names)
+}
+
+// Items with these names.
+fn items_of<'a>(
+    alloc: Global,
+    names: &'a [String],
+    target: &'a ObjectId,
+) -> Result<Vec<Item<'a>>, AllocError> {
+    let mut items = Vec::with_capacity(alloc, names.len())?;
+    for name in names {
+        items.push(Item {
+            full_ref_name: BStr::new(name.as_bytes()),
+            target,
+            object: None,
+        })?;
+    }
+    Ok(items)
+}
+
+// The group of these fetches.
+fn group_of(alloc: Global, specs: &[String]) -> Result<MatchGroup<'_>, Fail> {
+    let mut group = MatchGroup::new(alloc);
+    for spec in specs {
+        let spec = parse(alloc, BStr::new(spec.as_bytes()), Operation::Fetch)?;
+        group.specs.push(spec)?;
+    }
+    Ok(group)
+}
+
+// Looks whether the mappings are those of all items in order, each by the spec at the place of its item.
+fn check_names(rt: &impl Abort, mappings: &[Mapping<'_, '_>], count: usize) {
+    assert_eq!(rt; mappings.len(), count);
+    for (place, mapping) in mappings.iter().enumerate() {
+        assert_eq!(rt; mapping.item_index, Some(place));
+        assert_eq!(rt; mapping.spec_index, place);
+    }
+}
+
+#[test]
+fn maps_many_full_names(rt: HostRuntime) -> Result<(), Fail> {
+    let alloc = rt.alloc();
+    let target = ObjectId::from_hex(TARGET.as_bytes())?;
+    let count = 30_000;
+    let left = numbered(alloc, "refs/heads/", count)?;
+    let right = numbered(alloc, "refs/x/", count)?;
+    let mut specs = Vec::with_capacity(alloc, count)?;
+    for (source, destination) in left.iter().zip(&right) {
+        specs.push(format!(in alloc; "{source}:{destination}")?)?;
+    }
+    let group = group_of(alloc, specs.as_slice())?;
+    let remote = items_of(alloc, left.as_slice(), &target)?;
+    let there = group.clone(alloc)?.match_lhs(alloc, remote.as_slice())?;
+    check_names(&rt, there.mappings.as_slice(), count);
+    assert!(rt; there.indexes_fit());
+    let (kept, fixes) = there.validated(alloc)?;
+    check_names(&rt, kept.mappings.as_slice(), count);
+    assert!(rt; fixes.is_empty());
+    let local = items_of(alloc, right.as_slice(), &target)?;
+    let back = group.match_rhs(alloc, local.as_slice())?;
+    check_names(&rt, back.mappings.as_slice(), count);
+    Ok(())
+}
+
+#[test]
+fn maps_many_refs(rt: HostRuntime) -> Result<(), Fail> {
+    let alloc = rt.alloc();
+    let target = ObjectId::from_hex(TARGET.as_bytes())?;
+    let count = 50_000;
+    let names = numbered(alloc, "refs/heads/", count)?;
+    let remote = items_of(alloc, names.as_slice(), &target)?;
+    let text = BStr::new(b"refs/heads/*:refs/x/*");
+    let group = MatchGroup::from_fetch_specs(alloc, [parse(alloc, text, Operation::Fetch)?])?;
+    let outcome = group.match_lhs(alloc, remote.as_slice())?;
+    assert_eq!(rt; outcome.mappings.len(), count);
+    for (place, mapping) in outcome.mappings.iter().enumerate() {
+        assert_eq!(rt; mapping.item_index, Some(place));
+        assert_eq!(rt; mapping.spec_index, 0);
+    }
+    Ok(())
+}
