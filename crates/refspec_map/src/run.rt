@@ -27,7 +27,8 @@ use std::io::{Read, Write};
 ///
 /// After any fault but the last nothing is written, and what was read is gone from the reader. Time
 /// and memory of a canon command are linear in the length of the input. A matching command looks at
-/// each ref for each spec.
+/// each ref for each pattern, looks full and partial names up, and needs memory for each ref that
+/// each spec takes.
 pub fn run<R: Read, W: Write>(
     alloc: Global,
     command: Command,
