@@ -1,13 +1,17 @@
 -- What negative specs exclude.
-use Rattle.std.proofs.Common.{◌≡◌, ◌≢◌, ◌⊎◌, inl, inr, ◌↔◌, ℕ, zero, suc, ◌+◌, ◌-◌, ◌<◌, List, [], ◌∷◌, ◌++◌, Some, length, take, drop, get_or, map, refl, sym, ap, ◌∙◌, subst, Bool, false, Bor, IsTrue, nat_eq, arith}
-use Rattle.std.specs.Cmp.Lexicographic.{pointwise}
+use Rattle.std.proofs.Common.{◌≡◌, ◌⊎◌, inl, inr, ◌↔◌, ℕ, zero, suc, ◌+◌, ◌<◌, List, [], ◌∷◌, ◌++◌, Option, None, Some, MatchOption, is_some, length, take, get_or, map, refl, sym, ap, ◌∙◌, subst, true, false, Bor, IsTrue, bytes_eq, arith}
+use Rattle.std.specs.Cmp.Lexicographic.{bytes_decides, nat_list_eq_equiv}
+use Rattle.std.specs.HashSet as bag
+use Rattle.std.specs.HashSet.{HashSet}
+use Rattle.std.specs.Set.{KeepsOthers}
 use Rattle.std.proofs.Math.Logic.{∥∥₁_elim}
-use Rattle.std.proofs.lemmas.Bool.{false≢true}
-use Rattle.std.proofs.lemmas.Bool.Decides.{Decides-eqb}
-use Rattle.std.proofs.lemmas.List.{append_cancel_left, map-append, take_more}
-use Rattle.std.proofs.lemmas.Slice.Eq.{ends_is}
+use Rattle.std.proofs.lemmas.Bool.{cases_Bool, false≢true}
+use Rattle.std.proofs.lemmas.List.{map-append, take_more}
 use Rattle.gix_refspec.specs.declared.match_group.util.kept.exclusions.Exclusion.{Exclusion}
 use Rattle.gix_refspec.specs.declared.match_group.util.kept.exclusions.Exclusion.TheVariants as exclusion
+use Rattle.gix_refspec.specs.declared.match_group.util.kept.exclusions.Exclusions.{Exclusions}
+use Rattle.gix_refspec.specs.declared.match_group.util.kept.exclusions.Pattern.{Pattern}
+use Rattle.gix_refspec.specs.declared.match_group.types.NameRef.{NameRef}
 use Rattle.gix_refspec.specs.declared.spec.RefSpecRef.{RefSpecRef}
 use Rattle.gix_refspec.specs.declared.parsing.Operation.{Operation}
 use Rattle.gix_refspec.specs.Text.{Lacks}
@@ -17,26 +21,11 @@ use Rattle.gix_refspec.specs.Grammar.{IsAccepted, IsNameOrPattern, IsPositive, R
 use Rattle.gix_refspec.specs.Side.{Fits, Excludes, the_name, by_pattern}
 use Rattle.gix_refspec.specs.Mappings.{IsExcluded, IsExcludedBy}
 use Rattle.gix_refspec.specs.Spec.{reading_of}
-use Rattle.gix_refspec.specs.Private.Kept.{AreExclusionsOf, HasNegative, IsTaken, Takes}
+use Rattle.gix_refspec.specs.Group.{name_bytes}
+use Rattle.gix_refspec.specs.Private.Kept.{AreExclusionsOf, FitsName, HasNegative, IsFitted, IsTaken, Takes, has_name}
 use Rattle.gix_refspec.proofs.TextLemmas.{Lacks-here, first_once}
 use Rattle.gix_refspec.proofs.SideLemmas.{Lacks-name}
 use Rattle.gix_refspec.proofs.ReadBackLemmas.{named_either}
-
--- a name that doesn't begin as a pattern does isn't excluded by it
-pub takes_none : (e : Exclusion) (before after : Bor (List ℕ)) (n : List ℕ) → e ≡ exclusion.Pattern before after → ((rest : List ℕ) → n ≢ before.now ++ rest) → IsTrue false ↔ Takes e n
-takes_none e before after n is none = subst (λ (x : Exclusion). IsTrue false ↔ Takes x n) (sym is) (
-  λ so. absurd (false≢true so),
-  λ covers. absurd (none (covers.0 ++ after.now) covers.1),
-)
-
--- one that does is excluded where the rest ends as the pattern does
-pub takes_rest : (e : Exclusion) (before after rest : Bor (List ℕ)) (n : List ℕ) (r : Bool) → e ≡ exclusion.Pattern before after → n ≡ before.now ++ rest.now → r ≡ pointwise nat_eq after.now (drop (length rest.now - length after.now) rest.now) → IsTrue r ↔ Takes e n
-takes_rest e before after rest n r is begins value =
-    let ends = ends_is Decides-eqb rest.now after.now r value in
-    subst (λ (x : Exclusion). IsTrue r ↔ Takes x n) (sym is) (
-      λ so. (take (length rest.now - length after.now) rest.now, begins ∙ ap (λ (y : List ℕ). before.now ++ y) (ends.0 so)),
-      λ covers. ends.1 covers.0 (append_cancel_left before.now rest.now (covers.0 ++ after.now) (sym begins ∙ covers.1)),
-    )
 
 -- a reading with a positive mode isn't negative
 not_positive : (mode : Mode) → IsPositive mode → mode ≡ Negative → ⊥
@@ -139,20 +128,20 @@ pub IsExcluded-push : (g : List Reading) (r : Reading) (n : List ℕ) → IsExcl
 IsExcluded-push [] r n = some_alone (IsExcludedBy n r)
 IsExcluded-push (q ∷ g) r n = some_more _ _ _ _ (IsExcluded-push g r n)
 
-pub IsTaken-push : (es : List Exclusion) (e : Exclusion) (n : List ℕ) → IsTaken (es ++ e ∷ []) n ↔ (IsTaken es n ⊎ Takes e n)
-IsTaken-push [] e n = some_alone (Takes e n)
-IsTaken-push (q ∷ es) e n = some_more _ _ _ _ (IsTaken-push es e n)
+pub IsFitted-push : (ps : List Pattern) (p : Pattern) (n : List ℕ) → IsFitted (ps ++ p ∷ []) n ↔ (IsFitted ps n ⊎ FitsName p n)
+IsFitted-push [] p n = some_alone (FitsName p n)
+IsFitted-push (q ∷ ps) p n = some_more _ _ _ _ (IsFitted-push ps p n)
 
 readings_more : (specs : List RefSpecRef) (i : ℕ) (s : RefSpecRef) → i < length specs → s ≡ get_or specs i s → map reading_of (take (i + 1) specs) ≡ map reading_of (take i specs) ++ reading_of s ∷ []
 readings_more specs i s below is = ap (map reading_of) (take_more specs i s below ∙ ap (λ (x : RefSpecRef). take i specs ++ x ∷ []) (sym is)) ∙ map-append reading_of (take i specs) (s ∷ [])
 
 -- one more spec, which excludes something
-pub exclusions_more : (specs : List RefSpecRef) (i : ℕ) (s : RefSpecRef) (es new : List Exclusion) (e : Exclusion) → i < length specs → s ≡ get_or specs i s → AreExclusionsOf (map reading_of (take i specs)) es → ((n : List ℕ) → Takes e n ↔ IsExcludedBy n (reading_of s)) → new ≡ es ++ e ∷ [] → AreExclusionsOf (map reading_of (take (i + 1) specs)) new
+pub exclusions_more : (specs : List RefSpecRef) (i : ℕ) (s : RefSpecRef) (es new : Exclusions) (e : Exclusion) → i < length specs → s ≡ get_or specs i s → AreExclusionsOf (map reading_of (take i specs)) es → ((n : List ℕ) → Takes e n ↔ IsExcludedBy n (reading_of s)) → ((n : List ℕ) → IsTaken new n ↔ (IsTaken es n ⊎ Takes e n)) → AreExclusionsOf (map reading_of (take (i + 1) specs)) new
 exclusions_more specs i s es new e below is before told added n =
     let g = map reading_of (take i specs) in
-    let taken = IsTaken-push es e n in
+    let taken = added n in
     let excluded = IsExcluded-push g (reading_of s) n in
-    subst (λ (rs : List Reading). IsTaken new n ↔ IsExcluded rs n) (sym (readings_more specs i s below is)) (subst (λ (xs : List Exclusion). IsTaken xs n ↔ IsExcluded (g ++ reading_of s ∷ []) n) (sym added) (
+    subst (λ (rs : List Reading). IsTaken new n ↔ IsExcluded rs n) (sym (readings_more specs i s below is)) (
       (λ by. elim (taken.0 by) [
         | inl old ↦ excluded.1 (inl ((before n).0 old))
         | inr last ↦ excluded.1 (inr ((told n).0 last))
@@ -161,10 +150,10 @@ exclusions_more specs i s es new e below is before told added n =
         | inl old ↦ taken.1 (inl ((before n).1 old))
         | inr last ↦ taken.1 (inr ((told n).1 last))
       ]),
-    ))
+    )
 
 -- one more spec, which excludes nothing
-pub exclusions_same : (specs : List RefSpecRef) (i : ℕ) (s : RefSpecRef) (es : List Exclusion) → i < length specs → s ≡ get_or specs i s → AreExclusionsOf (map reading_of (take i specs)) es → ((n : List ℕ) → ¬ (IsExcludedBy n (reading_of s))) → AreExclusionsOf (map reading_of (take (i + 1) specs)) es
+pub exclusions_same : (specs : List RefSpecRef) (i : ℕ) (s : RefSpecRef) (es : Exclusions) → i < length specs → s ≡ get_or specs i s → AreExclusionsOf (map reading_of (take i specs)) es → ((n : List ℕ) → ¬ (IsExcludedBy n (reading_of s))) → AreExclusionsOf (map reading_of (take (i + 1) specs)) es
 exclusions_same specs i s es below is before none n =
     let g = map reading_of (take i specs) in
     let excluded = IsExcluded-push g (reading_of s) n in
@@ -176,16 +165,85 @@ exclusions_same specs i s es below is before none n =
       ]),
     )
 
--- one of these that takes the name
-pub IsTaken-at : (es : List Exclusion) (i : ℕ) (d : Exclusion) (n : List ℕ) → i < length es → Takes (get_or es i d) n → IsTaken es n
-IsTaken-at [] i d n below takes = absurd (omega arith)
-IsTaken-at (x ∷ es) zero d n below takes = inl takes
-IsTaken-at (x ∷ es) (suc i) d n below takes = inr (IsTaken-at es i d n (omega arith) takes)
+-- the bytes of one name and not those of another
+apart : (x n k : List ℕ) → bytes_eq x n ≡ false → bytes_eq x k ≡ true → bytes_eq n k ≡ false
+apart x n k differ same = nat_list_eq_equiv.symm n k ∙ sym (nat_list_eq_equiv.congr x k n same) ∙ differ
 
--- one more that doesn't take the name
-pub untaken_more : (es : List Exclusion) (i : ℕ) (d : Exclusion) (n : List ℕ) → i < length es → ¬ (Takes (get_or es i d) n) → ¬ (IsTaken (take i es) n) → ¬ (IsTaken (take (i + 1) es) n)
-untaken_more es i d n below free before taken =
-    elim ((IsTaken-push (take i es) (get_or es i d) n).0 (subst (λ (xs : List Exclusion). IsTaken xs n) (take_more es i d below) taken)) [
+-- a set with one more name
+module _ {S : Type 0} (old new : HashSet NameRef S) (key : NameRef) (n : List ℕ) (updates : bag.UpdatesBy (λ a b. bytes_eq (name_bytes a) (name_bytes b)) (λ k. bytes_eq (name_bytes key) (name_bytes k)) old new true) where
+  has_others : bytes_eq (name_bytes key) n ≡ false → has_name new n ≡ has_name old n
+  unfolding KeepsOthers
+  has_others differ = updates.3 (λ k. bytes_eq n (name_bytes k)) (λ a b. nat_list_eq_equiv.congr n (name_bytes a) (name_bytes b)) (λ k. apart (name_bytes key) n (name_bytes k) differ)
+
+  has_it : name_bytes key ≡ n → IsTrue (has_name new n)
+  has_it same = subst (λ (x : List ℕ). bag.contains_by (λ k. bytes_eq x (name_bytes k)) new ≡ true) same updates.1
+
+  pub has_more : IsTrue (has_name new n) ↔ (IsTrue (has_name old n) ⊎ (n ≡ name_bytes key))
+  has_more = (there (cases_Bool (bytes_eq (name_bytes key) n)), back (cases_Bool (bytes_eq (name_bytes key) n)))
+    where
+      there : (bytes_eq (name_bytes key) n ≡ true) ⊎ (bytes_eq (name_bytes key) n ≡ false) → IsTrue (has_name new n) → IsTrue (has_name old n) ⊎ (n ≡ name_bytes key)
+      there (inl same) has = inr (sym ((bytes_decides (name_bytes key) n).0 same))
+      there (inr differ) has = inl (sym (has_others differ) ∙ has)
+
+      back : (bytes_eq (name_bytes key) n ≡ true) ⊎ (bytes_eq (name_bytes key) n ≡ false) → IsTrue (has_name old n) ⊎ (n ≡ name_bytes key) → IsTrue (has_name new n)
+      back (inl same) has = has_it ((bytes_decides (name_bytes key) n).0 same)
+      back (inr differ) (inl before) = has_others differ ∙ before
+      back (inr differ) (inr same) = has_it (sym same)
+
+-- whether a word is found says whether the pattern fits
+pub found_fits : (o : Option (Bor (List ℕ))) (p : Pattern) (n : List ℕ) → MatchOption o ((word : List ℕ) → ¬ (Fits p.before.now p.after.now n word)) (λ w. Fits p.before.now p.after.now n w.now) → is_some o ≡ true → FitsName p n
+found_fits None p n fits so = absurd (false≢true so)
+found_fits (Some w) p n fits so = (w.now, fits)
+
+pub unfound_fits : (o : Option (Bor (List ℕ))) (p : Pattern) (n : List ℕ) → MatchOption o ((word : List ℕ) → ¬ (Fits p.before.now p.after.now n word)) (λ w. Fits p.before.now p.after.now n w.now) → is_some o ≡ false → ¬ (FitsName p n)
+unfound_fits None p n fits so found = fits found.0 found.1
+unfound_fits (Some w) p n fits so found = absurd (false≢true (sym so))
+
+-- one more name is excluded
+pub taken_by_name : (es new : Exclusions) (e : Exclusion) (x : Bor (List ℕ)) (n : List ℕ) → e ≡ exclusion.Name x → new.patterns.items ≡ es.patterns.items → IsTrue (has_name new.names n) ↔ (IsTrue (has_name es.names n) ⊎ (n ≡ x.now)) → IsTaken new n ↔ (IsTaken es n ⊎ Takes e n)
+taken_by_name es new e x n is same has = subst (λ (f : Exclusion). IsTaken new n ↔ (IsTaken es n ⊎ Takes f n)) (sym is) (there, back)
+  where
+    there : IsTaken new n → IsTaken es n ⊎ (n ≡ x.now)
+    there (inl named) = elim (has.0 named) [
+      | inl old ↦ inl (inl old)
+      | inr last ↦ inr last
+    ]
+    there (inr fitted) = inl (inr (subst (λ (ps : List Pattern). IsFitted ps n) same fitted))
+
+    back : IsTaken es n ⊎ (n ≡ x.now) → IsTaken new n
+    back (inl (inl named)) = inl (has.1 (inl named))
+    back (inl (inr fitted)) = inr (subst (λ (ps : List Pattern). IsFitted ps n) (sym same) fitted)
+    back (inr last) = inl (has.1 (inr last))
+
+-- one more pattern is
+pub taken_by_pattern : (es new : Exclusions) (e : Exclusion) (p : Pattern) (n : List ℕ) → e ≡ exclusion.Pattern p → has_name new.names n ≡ has_name es.names n → new.patterns.items ≡ es.patterns.items ++ p ∷ [] → IsTaken new n ↔ (IsTaken es n ⊎ Takes e n)
+taken_by_pattern es new e p n is same more = subst (λ (f : Exclusion). IsTaken new n ↔ (IsTaken es n ⊎ Takes f n)) (sym is) (there, back)
+  where
+    fits : IsFitted new.patterns.items n ↔ (IsFitted es.patterns.items n ⊎ FitsName p n)
+    fits = subst (λ (ps : List Pattern). IsFitted ps n ↔ (IsFitted es.patterns.items n ⊎ FitsName p n)) (sym more) (IsFitted-push es.patterns.items p n)
+
+    there : IsTaken new n → IsTaken es n ⊎ FitsName p n
+    there (inl named) = inl (inl (sym same ∙ named))
+    there (inr fitted) = elim (fits.0 fitted) [
+      | inl old ↦ inl (inr old)
+      | inr last ↦ inr last
+    ]
+
+    back : IsTaken es n ⊎ FitsName p n → IsTaken new n
+    back (inl (inl named)) = inl (same ∙ named)
+    back (inl (inr fitted)) = inr (fits.1 (inl fitted))
+    back (inr last) = inr (fits.1 (inr last))
+
+-- one of these that fits the name
+pub IsFitted-at : (ps : List Pattern) (i : ℕ) (d : Pattern) (n : List ℕ) → i < length ps → FitsName (get_or ps i d) n → IsFitted ps n
+IsFitted-at [] i d n below fits = absurd (omega arith)
+IsFitted-at (x ∷ ps) zero d n below fits = inl fits
+IsFitted-at (x ∷ ps) (suc i) d n below fits = inr (IsFitted-at ps i d n (omega arith) fits)
+
+-- one more that doesn't fit the name
+pub unfitted_more : (ps : List Pattern) (i : ℕ) (d : Pattern) (n : List ℕ) → i < length ps → ¬ (FitsName (get_or ps i d) n) → ¬ (IsFitted (take i ps) n) → ¬ (IsFitted (take (i + 1) ps) n)
+unfitted_more ps i d n below free before fitted =
+    elim ((IsFitted-push (take i ps) (get_or ps i d) n).0 (subst (λ (xs : List Pattern). IsFitted xs n) (take_more ps i d below) fitted)) [
       | inl old ↦ before old
       | inr last ↦ free last
     ]

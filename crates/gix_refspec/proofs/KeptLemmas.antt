@@ -4,12 +4,12 @@ use Rattle.std.specs.List.{AllByRecursion}
 use Rattle.std.proofs.lemmas.Bool.{false≢true}
 use Rattle.std.proofs.lemmas.List.{drop_more, get_or_default, get_or-map, get_or-take, length-map, length-take-le, take_more}
 use Rattle.gix_refspec.specs.declared.match_group.types.Mapping.{Mapping}
-use Rattle.gix_refspec.specs.declared.match_group.util.kept.exclusions.Exclusion.{Exclusion}
+use Rattle.gix_refspec.specs.declared.match_group.util.kept.exclusions.Exclusions.{Exclusions}
 use Rattle.gix_refspec.specs.Reading.{Reading}
 use Rattle.gix_refspec.specs.Lists.{MakesOf, IsMadeFrom}
 use Rattle.gix_refspec.specs.Mappings.{Start, name, id, Mapped, IsSamePair, HasPair, AreApart, IsStartExcluded, Stays, IsKept}
 use Rattle.gix_refspec.specs.Group.{mapped_of}
-use Rattle.gix_refspec.specs.Private.Kept.{AreExclusionsOf, FlagsRepeats, IsRepeat, IsStartTaken, Remains}
+use Rattle.gix_refspec.specs.Private.Kept.{AreExclusionsOf, FlagsRepeats, IsRepeat, IsStartTaken, IsTaken, Remains}
 use Rattle.gix_refspec.proofs.ListsLemmas.{made_all, made_map, made_once}
 
 -- what is kept of a list is one list
@@ -68,12 +68,12 @@ repeats_at ms k d below =
     )
 
 -- the same starts are excluded
-starts_agree : (g : List Reading) (es : List Exclusion) (s : Start) → AreExclusionsOf g es → IsStartTaken es s ↔ IsStartExcluded g s
+starts_agree : (g : List Reading) (es : Exclusions) (s : Start) → AreExclusionsOf g es → IsStartTaken es s ↔ IsStartExcluded g s
 starts_agree g es (name n) are = are n
 starts_agree g es (id i) are = ((λ none. none), (λ none. none))
 
 -- a mapping remains just where it stays
-remains_stays : (g : List Reading) (ms : List Mapping) (es : List Exclusion) (flags : List Bool) (k : ℕ) (d : Mapping) → AreExclusionsOf g es → FlagsRepeats ms flags → k < length ms → Remains es flags k (get_or ms k d) (get_or ms k d) ↔ Stays g (map mapped_of ms) k (mapped_of (get_or ms k d))
+remains_stays : (g : List Reading) (ms : List Mapping) (es : Exclusions) (flags : List Bool) (k : ℕ) (d : Mapping) → AreExclusionsOf g es → FlagsRepeats ms flags → k < length ms → Remains es flags k (get_or ms k d) (get_or ms k d) ↔ Stays g (map mapped_of ms) k (mapped_of (get_or ms k d))
 remains_stays g ms es flags k d are repeats below =
     let at = repeats_at ms k d below in
     let flag = repeats k below in
@@ -83,7 +83,7 @@ remains_stays g ms es flags k d are repeats below =
     )
 
 -- what remains of mappings is what is kept of them
-pub kept_from_remains : (g : List Reading) (ms rest : List Mapping) (es : List Exclusion) (flags : List Bool) → AreExclusionsOf g es → FlagsRepeats ms flags → IsMadeFrom (Remains es flags) 0 ms rest → IsKept g (map mapped_of ms) (map mapped_of rest)
+pub kept_from_remains : (g : List Reading) (ms rest : List Mapping) (es : Exclusions) (flags : List Bool) → AreExclusionsOf g es → FlagsRepeats ms flags → IsMadeFrom (Remains es flags) 0 ms rest → IsKept g (map mapped_of ms) (map mapped_of rest)
 kept_from_remains g ms rest es flags are repeats made =
     made_map mapped_of mapped_of (Remains es flags) (λ k m y. (y ≡ m) × Stays g (map mapped_of ms) k m) 0 ms rest (λ i d below x makes. one i d below x (subst (λ (n : ℕ). MakesOf (Remains es flags) n (get_or ms i d) x) (zero-add i) makes)) made
   where
@@ -95,11 +95,11 @@ kept_from_remains g ms rest es flags are repeats made =
     )
 
 -- without flags and exclusions all remain
-pub all_remain : (ms : List Mapping) → IsMadeFrom (Remains [] []) 0 ms ms
-all_remain ms = made_all (Remains [] []) (λ k m. record { same = refl; unflagged = λ flagged. false≢true flagged; included = none (mapped_of m).source }) 0 ms
+pub all_remain : (ms : List Mapping) (es : Exclusions) → ((n : List ℕ) → ¬ (IsTaken es n)) → IsMadeFrom (Remains es []) 0 ms ms
+all_remain ms es free = made_all (Remains es []) (λ k m. record { same = refl; unflagged = λ flagged. false≢true flagged; included = none (mapped_of m).source }) 0 ms
   where
-    none : (s : Start) → ¬ (IsStartTaken [] s)
-    none (name n) taken = taken
+    none : (s : Start) → ¬ (IsStartTaken es s)
+    none (name n) taken = free n taken
     none (id i) taken = taken
 
 -- what is kept from a place on has no pair from before it

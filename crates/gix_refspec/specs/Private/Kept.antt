@@ -1,35 +1,51 @@
 -- How repeats and exclusions are found. Only private functions cite these words.
-use Rattle.std.specs.Prelude.{◌≡◌, ◌≢◌, ◌⊎◌, ◌↔◌, ◌<◌, ◌≤◌, ◌-◌, ◌/◌, ◌%◌, ◌^◌, ℕ, Bool, true, false, List, [], ◌∷◌, ◌++◌, length, map, pos, option_map, slice_index_or}
+use Rattle.std.specs.Prelude.{◌≡◌, ◌≢◌, ◌⊎◌, ◌↔◌, ◌<◌, ◌≤◌, ◌-◌, ◌/◌, ◌%◌, ◌^◌, ℕ, Bool, true, false, List, [], ◌∷◌, ◌++◌, length, map, pos, option_map, slice_index_or, bytes_eq, IsTrue}
 use Rattle.std.specs.List.{AllByRecursion, fold}
 use Rattle.std.specs.Hash as fed
+use Rattle.std.specs.HashSet as bag
+use Rattle.std.specs.HashSet.{HashSet}
 use Rattle.std.specs.Hash.{HashWrites}
 use Rattle.std.specs.Hash.FoldHasher as folding
 use Rattle.gix_refspec.specs.declared.match_group.types.Mapping.{Mapping}
+use Rattle.gix_refspec.specs.declared.match_group.types.NameRef.{NameRef}
 use Rattle.gix_refspec.specs.declared.match_group.util.kept.exclusions.Exclusion.{Exclusion}
 use Rattle.gix_refspec.specs.declared.match_group.util.kept.exclusions.Exclusion.TheVariants as exclusion
+use Rattle.gix_refspec.specs.declared.match_group.util.kept.exclusions.Exclusions.{Exclusions}
+use Rattle.gix_refspec.specs.declared.match_group.util.kept.exclusions.Pattern.{Pattern}
 use Rattle.gix_refspec.specs.declared.match_group.util.kept.repeats.Pair.{Pair}
 use Rattle.gix_refspec.specs.Reading.{Reading, Negative}
 use Rattle.gix_refspec.specs.Side.{Fits}
 use Rattle.gix_refspec.specs.Mappings.{Start, name, id, Mapped, IsSamePair, IsExcluded}
-use Rattle.gix_refspec.specs.Group.{mapped_of}
+use Rattle.gix_refspec.specs.Group.{mapped_of, name_bytes}
+
+-- one of the patterns fits the name
+abbrev pub FitsName : Pattern → List ℕ → Type 0
+FitsName p n = (word : List ℕ) × Fits p.before.now p.after.now n word
+
+abbrev pub IsFitted : List Pattern → List ℕ → Type 0
+IsFitted [] n = ⊥
+IsFitted (p ∷ ps) n = FitsName p n ⊎ IsFitted ps n
 
 -- the name is excluded
 abbrev pub Takes : Exclusion → List ℕ → Type 0
 Takes (exclusion.Name source) n = n ≡ source.now
-Takes (exclusion.Pattern before after) n = (word : List ℕ) × Fits before.now after.now n word
+Takes (exclusion.Pattern p) n = FitsName p n
 
--- one of these excludes the name
-abbrev pub IsTaken : List Exclusion → List ℕ → Type 0
-IsTaken [] n = ⊥
-IsTaken (e ∷ es) n = Takes e n ⊎ IsTaken es n
+-- the set has the name
+abbrev pub has_name : {S : Type 0} → HashSet NameRef S → List ℕ → Bool
+has_name s n = bag.contains_by (λ k. bytes_eq n (name_bytes k)) s
 
--- one of these excludes the start, which none does to an id
-abbrev pub IsStartTaken : List Exclusion → Start → Type 0
+-- these exclude the name
+abbrev pub IsTaken : Exclusions → List ℕ → Type 0
+IsTaken es n = IsTrue (has_name es.names n) ⊎ IsFitted es.patterns.items n
+
+-- these exclude the start, which they don't where it is an id
+abbrev pub IsStartTaken : Exclusions → Start → Type 0
 IsStartTaken es (name n) = IsTaken es n
 IsStartTaken es (id i) = ⊥
 
 -- these exclude what the readings exclude
-abbrev pub AreExclusionsOf : List Reading → List Exclusion → Type 0
+abbrev pub AreExclusionsOf : List Reading → Exclusions → Type 0
 AreExclusionsOf g es = (n : List ℕ) → IsTaken es n ↔ IsExcluded g n
 
 -- one of the readings is negative
@@ -130,7 +146,7 @@ pub record ArePairsOf (ms : List Mapping) (ps : List Pair) : Type 0 where
   pub apart : (i j d : ℕ) → i < j → j < length ps → slice_index_or (pair_places ps) i d ≢ slice_index_or (pair_places ps) j d
 
 -- the mapping at place k, which is m, stays as made: it isn't flagged, and its source isn't excluded
-pub record Remains (es : List Exclusion) (flags : List Bool) (k : ℕ) (m made : Mapping) : Type 0 where
+pub record Remains (es : Exclusions) (flags : List Bool) (k : ℕ) (m made : Mapping) : Type 0 where
   pub same : made ≡ m
   pub unflagged : ¬ (IsFlagged flags k)
   pub included : ¬ (IsStartTaken es (mapped_of m).source)

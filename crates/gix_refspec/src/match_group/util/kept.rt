@@ -13,7 +13,7 @@ pub(crate) mod repeats;
 
 use crate::match_group::types::Mapping;
 use crate::spec::RefSpecRef;
-use exclusions::{Exclusion, exclusions_of, is_excluded};
+use exclusions::Exclusions;
 use repeats::repeats_of;
 use std::alloc::{AllocError, Global};
 
@@ -32,18 +32,18 @@ pub(crate) fn keep<'a, 'b>(
     ensures memory { OnErr result ((1 < length mappings.old.items) ⊎ HasNegative
         (map reading_of specs.now)) }
 {
-    let exclusions = exclusions_of(alloc, specs)?;
+    let exclusions = Exclusions::of(alloc, specs)?;
     let repeats = repeats_of(alloc, mappings.as_slice())?;
     if exclusions.is_empty() && repeats.is_empty() {
         return Ok(());
     }
-    drop_others(exclusions.as_slice(), repeats.as_slice(), mappings);
+    drop_others(&exclusions, repeats.as_slice(), mappings);
     Ok(())
 }
 
 // Drops the mappings that are flagged or excluded. The others stay in order.
 fn drop_others<'a, 'b>(
-    exclusions: &[Exclusion<'_>],
+    exclusions: &Exclusions<'_>,
     repeats: &[bool],
     mappings: &mut Vec<Mapping<'a, 'b>>,
 )
@@ -61,14 +61,14 @@ fn drop_others<'a, 'b>(
 
 // Whether the mapping at a place is neither flagged nor excluded.
 fn remains(
-    exclusions: &[Exclusion<'_>],
+    exclusions: &Exclusions<'_>,
     repeats: &[bool],
     place: usize,
     mapping: &Mapping<'_, '_>,
 ) -> bool
     ensures { IsTrue result ↔ Remains exclusions.now repeats.now place mapping.now mapping.now }
 {
-    !is_flagged(repeats, place) && !is_excluded(exclusions, mapping)
+    !is_flagged(repeats, place) && !exclusions.excludes(mapping)
 }
 
 // Whether a place is flagged. No flags at all flag no place.

@@ -40,7 +40,7 @@ pub(crate) fn matched<'item>(side: SideKind<'_>, item: &Item<'item>) -> Option<M
 
 // What stands in a name between two texts that never overlap.
 #[inline(always)]
-fn word_between<'a>(before: &[u8], after: &[u8], name: &'a [u8]) -> Option<&'a [u8]>
+pub(crate) fn word_between<'a>(before: &[u8], after: &[u8], name: &'a [u8]) -> Option<&'a [u8]>
     ensures { MatchOption result
         ((word : List ℕ) → ¬ (Fits before.now after.now name.now word))
         (λ word. Fits before.now after.now name.now word.now) }

@@ -2,7 +2,7 @@
 use Rattle.std.proofs.Common.{take, map}
 use Rattle.gix_refspec.specs.Spec.{reading_of}
 use Rattle.gix_refspec.specs.Private.Kept.{AreExclusionsOf}
-use Rattle.gix_refspec.proofs.match_group.util.kept.exclusions.exclusions_of.Given as goal
+use Rattle.gix_refspec.proofs.match_group.util.kept.exclusions.Exclusions.of.Given as goal
 
 abbrev pub invariant-loop-spec : goal.invariant-loop-spec
-invariant-loop-spec l = AreExclusionsOf (map reading_of (take l.spec-index l.specs)) l.exclusions.items
+invariant-loop-spec l = AreExclusionsOf (map reading_of (take l.spec-index l.specs)) l.exclusions
