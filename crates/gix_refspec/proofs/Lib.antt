@@ -52,7 +52,6 @@ pub mod PlacedLemmas
 pub mod NoHitLemmas
 pub mod PlacesLemmas
 pub mod FirstPlacesLemmas
-pub mod MarkLemmas
 pub mod IndexLemmas
 pub mod MatchFacts
 pub mod OutcomeFacts

@@ -6,4 +6,5 @@ pub mod Sides
 pub mod HitViews
 pub mod Index
 pub mod Kept
+pub mod Filter
 pub mod Claims

@@ -1,5 +1,5 @@
 -- How full names and partial ones are looked up. Only private functions cite these words.
-use Rattle.std.specs.Prelude.{◌≡◌, ℕ, ◌%◌, Bool, true, false, List, [], ◌∷◌, Option, None, Some, length, slice_index_or, unwrap_or, option_map, bytes_eq}
+use Rattle.std.specs.Prelude.{◌≡◌, ℕ, List, [], ◌∷◌, Option, None, Some, unwrap_or, option_map, bytes_eq}
 use Rattle.std.specs.Borrow.{Bor}
 use Rattle.std.specs.List.{AllByRecursion, Contains}
 use Rattle.std.specs.HashMap as hash
@@ -13,7 +13,6 @@ use Rattle.gix_refspec.specs.Side.{SideKind, pattern, full_name, object, partial
 use Rattle.gix_refspec.specs.Match.{Ref, MatchesAs, IsFirstCandidate}
 use Rattle.gix_refspec.specs.Lists.{IsMadeFrom}
 use Rattle.gix_refspec.specs.Hits.{Ends}
-use Rattle.gix_refspec.specs.Private.Kept.{name_hash}
 use Rattle.gix_refspec.specs.Private.HitViews.{HasEnds}
 
 -- a side of the kind asks for the name: a full name for itself, and a partial one for its candidates
@@ -54,10 +53,6 @@ list_of m n = hash.get_by (λ k. bytes_eq n k.now) m
 pub record HavePlaces (names : List (List ℕ)) (refs : List Ref) (listed : List ℕ → Option (Vec ℕ)) : Type 0 where
   pub each : (n : List ℕ) → Contains names n → (v : Vec ℕ) × (listed n ≡ Some v) × ArePlacesOf n refs v.items
   pub others : (n : List ℕ) → ¬ (Contains names n) → listed n ≡ None
-
--- the mark of the name is there
-abbrev pub IsMarked : List Bool → List ℕ → Type 0
-IsMarked marks n = slice_index_or marks (name_hash n % length marks) false ≡ true
 
 -- the places that the index has for a name
 abbrev pub places_in : NameIndex → List ℕ → List ℕ

@@ -2,27 +2,25 @@
 //! partial one for its candidates. Names that no spec asks for take no memory and are no keys, since
 //! a server chooses them.
 
-ghost use Rattle.std.specs.Prelude.{◌≡◌, ◌↔◌, ◌<◌, ◌%◌, ◌++◌, [], List, ℕ, length, map, IfOk, OnOk, IsTrue};
-ghost use Rattle.std.specs.List.{AllByRecursion, Contains};
+ghost use Rattle.std.specs.Prelude.{◌≡◌, ◌++◌, [], List, ℕ, map, IfOk, OnOk};
+ghost use Rattle.std.specs.List.{Contains};
 ghost use Rattle.gix_refspec.specs.Spec.{reading_of};
 ghost use Rattle.gix_refspec.specs.Side.{IsCandidate, partial as partial_kind};
 ghost use Rattle.gix_refspec.specs.Match.{Ref};
 ghost use Rattle.gix_refspec.specs.Group.{name_bytes, ref_of};
 ghost use Rattle.gix_refspec.specs.Private.SideViews.{shown_kind};
-ghost use Rattle.gix_refspec.specs.Private.Kept.{name_hash};
-ghost use Rattle.gix_refspec.specs.Private.Index.{AllAsked, HavePlaces, IsMarked, list_of, names_asked_by};
+ghost use Rattle.gix_refspec.specs.Private.Index.{AllAsked, HavePlaces, list_of, names_asked_by};
+
+mod filter;
 
 use super::ends::{Direction, ends_of};
-use super::hashes::hash_of;
 use crate::match_group::types::{Item, NameRef};
 use crate::side::{SideKind, candidates};
 use crate::spec::RefSpecRef;
 use bstr::BStr;
+use filter::Filter;
 use std::alloc::{AllocError, Global};
 use std::collections::HashMap;
-
-// Of sixteen names that aren't asked for one has a mark.
-const MARKS_A_NAME: usize = 16;
 
 // For each of some names all its places among the items, rising.
 #[derive(Drop)]
@@ -84,39 +82,6 @@ fn without_places<'n>(
     Ok(places)
 }
 
-// Marks for the hashes of some names. Most other names have none.
-fn marks_of(alloc: Global, names: &[NameRef<'_>]) -> Result<Vec<bool>, AllocError>
-    requires { 0 < length names.now }
-    ensures some { IfOk result (λ marks. 0 < length marks.items) }
-    ensures all { IfOk result (λ marks. AllByRecursion
-        (IsMarked marks.items) (map name_bytes names.now)) }
-{
-    let mut marks = Vec::new(alloc);
-    marks.resize(names.len().saturating_mul(MARKS_A_NAME), false)?;
-    for name in names {
-        let place = mark_place(name.as_bstr().as_bytes(), marks.as_slice().len());
-        marks[place] = true;
-    }
-    Ok(marks)
-}
-
-// Where among so many marks that of a name stands.
-fn mark_place(name: &[u8], len: usize) -> usize
-    requires { 0 < len }
-    ensures below { result < len }
-    ensures value { result ≡ name_hash name.now % len }
-{
-    (hash_of(name) % len as u64) as usize
-}
-
-// Whether the mark of a name is there.
-fn is_marked(marks: &[bool], name: &[u8]) -> bool
-    requires { 0 < length marks.now }
-    ensures { IsTrue result ↔ IsMarked marks.now name.now }
-{
-    marks[mark_place(name, marks.len())]
-}
-
 impl<'n> NameIndex<'n> {
     ghost use Rattle.gix_refspec.specs.declared.match_group.util.ends.Direction.TheVariants.{Forward, Backward};
     ghost use Rattle.gix_refspec.specs.Private.Index.{ArePlacesOf, ArePlacesTaken, IsIndexOf, places_in};
@@ -134,11 +99,10 @@ impl<'n> NameIndex<'n> {
         if names.is_empty() {
             return Ok(NameIndex { places });
         }
-        let marks = marks_of(alloc, names)?;
+        let filter = Filter::of(alloc, names)?;
         for (place, item) in items.iter().enumerate() {
             let name = item.full_ref_name.as_bytes();
-            // Most names are told apart by their marks, which is cheaper than to look for them.
-            if !is_marked(marks.as_slice(), name) {
+            if !filter.passes(name) {
                 continue;
             }
             if let Some(list) = places.get_mut(name) {

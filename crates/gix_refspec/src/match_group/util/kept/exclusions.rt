@@ -65,10 +65,7 @@ impl<'a> Exclusions<'a> {
     ghost use Rattle.gix_refspec.specs.Private.Kept.{Takes};
 
     // What the negative specs among these exclude.
-    pub(crate) fn of(
-        alloc: Global,
-        specs: &[RefSpecRef<'a>],
-    ) -> Result<Exclusions<'a>, AllocError>
+    pub(crate) fn of(alloc: Global, specs: &[RefSpecRef<'a>]) -> Result<Exclusions<'a>, AllocError>
         ensures ok { IfOk result (AreExclusionsOf (map reading_of specs.now)) }
         ensures memory { OnErr result (HasNegative (map reading_of specs.now)) }
     {

@@ -1,23 +1,22 @@
--- A name without a mark is no key, and to the list of a key the place is added.
-use Rattle.std.proofs.Common.{◌∙◌, ◌+◌, take_all, refl, Bool, List, ℕ, Option, Some, Vec, Global, IsSome, map, take, sym, subst}
-use Rattle.std.specs.List.{AllByRecursion}
+-- A name that doesn't pass is no key, and to the list of a key the place is added.
+use Rattle.std.proofs.Common.{◌∙◌, ◌+◌, take_all, refl, List, ℕ, Option, Some, Vec, Global, IsSome, map, take, sym, subst}
 use Rattle.std.proofs.lemmas.Bool.{false≢true}
 use Rattle.std.proofs.lemmas.Map.Text.{hash_map_updates_str}
 use Rattle.gix_refspec.specs.declared.match_group.types.Item.{Item}
 use Rattle.gix_refspec.specs.Group.{name_bytes, ref_of}
-use Rattle.gix_refspec.specs.Private.Index.{HavePlaces, IsMarked, list_of}
+use Rattle.gix_refspec.specs.Private.Index.{HavePlaces, list_of}
+use Rattle.gix_refspec.specs.Private.Filter.{Passes}
 use Rattle.gix_refspec.proofs.IndexLemmas.{index_made, item_listed, item_unlisted, not_listed}
 use Rattle.gix_refspec.proofs.PlacesLemmas.{all_at}
 use Rattle.gix_refspec.proofs.match_group.util.index.NameIndex.of.Goals as goal
 use Rattle.gix_refspec.proofs.match_group.util.index.NameIndex.of.Goals.{in-Some+in_ok-push, in_default}
 
-pub loop-place-preserved-then-not-is_marked : goal.loop-place-preserved-then-not-is_marked
-loop-place-preserved-then-not-is_marked c =
+pub loop-place-preserved-then-not-passes : goal.loop-place-preserved-then-not-passes
+loop-place-preserved-then-not-passes c =
     let ns = map name_bytes c.args.names.now in
     let n = c.as_bytes-name.result.now in
-    let all : AllByRecursion (IsMarked c.as_slice.result.now) ns = subst (λ (marks : List Bool). AllByRecursion (IsMarked marks) ns) (sym c.as_slice.ensures.value) c.in_ok-marks.ensures.all in
     item_unlisted ns c.args.items.now c.loop-place.place _ n (list_of c.loop-place.places) c.loop-place-test.true c.as_bytes-name.ensures
-    (λ there. false≢true (sym c.if-not-is_marked.true ∙ c.is_marked.ensures.1 (all_at (IsMarked c.as_slice.result.now) ns n all there)))
+    (λ there. false≢true (sym c.if-not-passes.true ∙ c.passes.ensures.1 (all_at (Passes c.in_ok-filter.filter) ns n c.in_ok-filter.ensures.all there)))
     c.loop-place.invariant
 
 pub loop-place-preserved : goal.loop-place-preserved
