@@ -115,20 +115,20 @@ tag_taken_by_law law = ((law short_kind.1 short_kind.2 short_kind.3).takes main_
 -- ---- what is mapped
 
 -- a partial source with a destination
-abbrev main_to_x : Reading
+abbrev pub main_to_x : Reading
 main_to_x = fetched Normal (codes "main") (Some (codes "refs/x"))
 
-abbrev main_ends : Ends
+abbrev pub main_ends : Ends
 main_ends = record { near = codes "main"; far = Some (codes "refs/x") }
 
 abbrev tag_hit : Hit
 tag_hit = record { spec = 0; item = 1; near = codes "refs/tags/main"; far = Some (codes "refs/x") }
 
 -- without the tags
-abbrev no_tags : Reading
+abbrev pub no_tags : Reading
 no_tags = fetched Negative (codes "refs/tags/*") None
 
-x_kind : HasKind (codes "refs/x") (full_name (codes "refs/x"))
+pub x_kind : HasKind (codes "refs/x") (full_name (codes "refs/x"))
 x_kind = (refl, Lacks-tested star (codes "refs/x") refl, record { after = codes "x"; here = refl })
 
 branch_not_taken : (hit : Hit) → ¬ (IsHit (Takes branch_and_tag) main_ends 0 0 main_branch hit)
@@ -146,7 +146,7 @@ no_main_id m made = short_no_id made.bytes (subst (λ (x : List ℕ). IsIdText x
 normal_no_negative : Normal ≢ Negative
 normal_no_negative same = cc
 
-not_excluded : (n : List ℕ) → ¬ (IsExcluded (main_to_x ∷ []) n)
+pub not_excluded : (n : List ℕ) → ¬ (IsExcluded (main_to_x ∷ []) n)
 not_excluded n (inl by) = absurd (normal_no_negative by.negative)
 not_excluded n (inr none) = none
 
@@ -158,7 +158,7 @@ maps_the_tag = record {
   is = (Some (mapping 1 (codes "refs/tags/main") (Some (codes "refs/x")) 0), [], (refl, record { first = λ none. none; included = not_excluded (codes "refs/tags/main") }), refl, refl);
 }
 
-tags_excluded : Excludes (codes "refs/tags/*") (codes "refs/tags/main")
+pub tags_excluded : Excludes (codes "refs/tags/*") (codes "refs/tags/main")
 tags_excluded = by_pattern (codes "refs/tags/") [] (codes "main") (record { starred = refl; first = Lacks-tested star (codes "refs/tags/") refl; last = tt }) refl
 
 -- the choice is made before exclusions: where the tag is left out, the branch isn't mapped in its place

@@ -489,7 +489,7 @@ same_mapped m n item source destination spec =
 bytes_once : (x : List ℕ) (a b : List ℕ) → HasKind x (object a) → HasKind x (object b) → a ≡ b
 bytes_once x a b of_a of_b = IsIdText-unique x a b of_a.2 of_b.2
 
-id_once : MakesOnce IsIdMapping
+pub id_once : MakesOnce IsIdMapping
 id_once k r m n a b =
     let text : b.text ≡ a.text = same_side r.source b.text a.text b.side a.side in
     let bytes : a.bytes ≡ b.bytes = bytes_once a.text a.bytes b.bytes a.object (subst (λ x. HasKind x (object b.bytes)) text b.object) in

@@ -38,7 +38,9 @@ pub mod JoinLemmas
 pub mod HitLemmas
 pub mod SomeLemmas
 pub mod KeptPairLemmas
+pub mod ReachLemmas
 pub mod TransposeLemmas
+pub mod PairMadeLemmas
 pub mod CoverLemmas
 pub mod AlikeLemmas
 pub mod ClaimLemmas
@@ -60,6 +62,7 @@ pub mod LawFacts
 pub mod FaultFacts
 pub mod HitFacts
 pub mod CandidateFacts
+pub mod KeptFacts
 pub mod ListsFacts
 pub mod CopyFacts
 pub mod GroupFacts

@@ -1,5 +1,6 @@
 -- That some element is as P says, in lists that are made or joined from others.
-use Rattle.std.proofs.Common.{◌⊎◌, inl, inr, ℕ, ◌+◌, List, [], ◌∷◌, ◌++◌, None, Some, map, sym, subst}
+use Rattle.std.proofs.Common.{◌⊎◌, inl, inr, ℕ, zero, suc, ◌+◌, List, [], ◌∷◌, ◌++◌, None, Some, map, refl, sym, subst, arith}
+use Rattle.std.specs.List as lists
 use Rattle.std.specs.List.{AllByRecursion}
 use Rattle.gix_refspec.specs.Lists.{IsMadeFrom, IsJoinedFrom}
 
@@ -7,6 +8,17 @@ use Rattle.gix_refspec.specs.Lists.{IsMadeFrom, IsJoinedFrom}
 abbrev pub Any : {X : Type 0} → (X → Type 0) → List X → Type 0
 Any P [] = ⊥
 Any P (x ∷ xs) = P x ⊎ Any P xs
+
+-- so it is by a place
+pub some_at : {X : Type 0} (P : X → Type 0) (xs : List X) → Any P xs → lists.Any P xs
+some_at P [] any = absurd any
+some_at P (x ∷ xs) (inl here) = (0, x, omega arith, refl, here)
+some_at P (x ∷ xs) (inr later) = let at = some_at P xs later in (suc at.0, at.1, omega (arith, at.2), at.3, at.4)
+
+pub some_of : {X : Type 0} (P : X → Type 0) (xs : List X) → lists.Any P xs → Any P xs
+some_of P [] (i, x, below, at, is) = absurd (omega (arith, below))
+some_of P (y ∷ xs) (zero, x, below, at, is) = inl (subst P (sym at) is)
+some_of P (y ∷ xs) (suc i, x, below, at, is) = inr (some_of P xs (i, x, omega (arith, below), at, is))
 
 pub Any-left : {X : Type 0} (P : X → Type 0) (xs ys : List X) → Any P xs → Any P (xs ++ ys)
 Any-left P [] ys any = absurd any

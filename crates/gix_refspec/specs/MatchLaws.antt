@@ -1,4 +1,5 @@
--- Laws of matching: both directions agree, groups that map alike, and what covers the sources of a group.
+-- Laws of matching: both directions agree, exactly where a pair stays, groups that map alike, and what covers the
+-- sources of a group.
 -- They follow from the words of Mappings and Hits, and settle nothing.
 use Rattle.std.specs.Prelude.{◌≡◌, ◌≢◌, ◌⊎◌, ◌↔◌, ℕ, List, codes, Option, None, Some}
 use Rattle.std.specs.List.{AllByRecursion, AllZip, Any}
@@ -9,11 +10,12 @@ use Rattle.gix_refspec.specs.Bytes.{star, head}
 use Rattle.gix_refspec.specs.Reading.{Reading}
 use Rattle.gix_refspec.specs.Grammar.{IsPositive, Reads}
 use Rattle.gix_refspec.specs.Meaning.{printed}
-use Rattle.gix_refspec.specs.Match.{Ref, HasName}
+use Rattle.gix_refspec.specs.Side.{object, HasKind}
+use Rattle.gix_refspec.specs.Match.{Ref, HasName, Matches, Takes}
 use Rattle.gix_refspec.specs.Prefix.{IsPrefix, IsAsked, IsExpansion}
 use Rattle.gix_refspec.specs.Lists.{IsJoinedFrom}
-use Rattle.gix_refspec.specs.Mappings.{Start, name, id, Mapped, HasPair}
-use Rattle.gix_refspec.specs.Hits.{AreKeptForward, AreKeptBackward}
+use Rattle.gix_refspec.specs.Mappings.{Start, name, id, Mapped, HasPair, IsStartExcluded}
+use Rattle.gix_refspec.specs.Hits.{Ends, AreForwardEnds, AreBackwardEnds, IsFilled, AreKeptForward, AreKeptBackward}
 
 -- ---- both directions
 
@@ -40,6 +42,52 @@ abbrev pub Transpose : List Reading → List Ref → List Ref → Type 0
 Transpose g A B =
     AllByRecursion GoesBothWays g → (l m : List Mapped) → AreKeptForward g A l → AreKeptBackward g B m → (pair : Mapped)
     → (HasPair l pair × IsDestinationAmong B pair.destination) ↔ (HasPair m pair × IsSourceAmong A pair.source)
+
+-- ---- exactly where a pair stays
+
+-- a side takes the ref r, whose name is n, and the other side becomes far
+pub record IsPaired (Taken : List ℕ → Ref → Option (List ℕ) → Type 0) (ends : Ends) (n : List ℕ) (far : Option (List ℕ)) (r : Ref) : Type 0 where
+  pub word : Option (List ℕ)
+  pub name : r.name ≡ n
+  pub takes : Taken ends.near r word
+  pub becomes : IsFilled ends.far word far
+
+-- the reading takes one of the items, whose name is n, and its other side becomes far
+pub record PairsItem (HasEnds : Reading → Ends → Type 0) (Taken : List ℕ → Ref → Option (List ℕ) → Type 0) (items : List Ref) (n : List ℕ) (far : Option (List ℕ)) (r : Reading) : Type 0 where
+  pub ends : Ends
+  pub has : HasEnds r ends
+  pub one : Any (IsPaired Taken ends n far) items
+
+-- the reading asks for the object with this id, and its destination becomes far
+pub record PairsId (bytes : List ℕ) (far : Option (List ℕ)) (r : Reading) : Type 0 where
+  pub positive : IsPositive r.mode
+  pub text : List ℕ
+  pub side : r.source ≡ Some text
+  pub object : HasKind text (object bytes)
+  pub becomes : IsFilled r.destination None far
+
+-- from left to right the reading makes the pair of this start and this destination
+abbrev pub MakesForward : List Ref → Start → Option (List ℕ) → Reading → Type 0
+MakesForward items (name n) far r = PairsItem AreForwardEnds (Takes items) items n far r
+MakesForward items (id bytes) far r = PairsId bytes far r
+
+-- from right to left the reading makes it: the destination is the name of an item, and the source a name
+abbrev pub MakesBackward : List Ref → Start → Option (List ℕ) → Reading → Type 0
+MakesBackward items (name n) (Some d) r = PairsItem AreBackwardEnds Matches items d (Some n) r
+MakesBackward items (name n) None r = ⊥
+MakesBackward items (id bytes) far r = ⊥
+
+-- a pair stays exactly where some reading makes it, and none excludes its source
+pub record KeptExactly (g : List Reading) (items : List Ref) : Type 0 where
+  pub forward : (kept : List Mapped) → AreKeptForward g items kept → (pair : Mapped)
+      → HasPair kept pair ↔ (Any (MakesForward items pair.source pair.destination) g × ¬ (IsStartExcluded g pair.source))
+  pub backward : (kept : List Mapped) → AreKeptBackward g items kept → (pair : Mapped)
+      → HasPair kept pair ↔ (Any (MakesBackward items pair.source pair.destination) g × ¬ (IsStartExcluded g pair.source))
+
+-- no mapping that stays, in either direction, has a source that some reading excludes; and none excludes an id
+pub record NothingExcluded (g : List Reading) (items : List Ref) : Type 0 where
+  pub names : (list : List Mapped) → AreKeptForward g items list ⊎ AreKeptBackward g items list → AllByRecursion (λ m. ¬ (IsStartExcluded g m.source)) list
+  pub ids : (bytes : List ℕ) → ¬ (IsStartExcluded g (id bytes))
 
 -- ---- groups that map alike
 

@@ -10,7 +10,7 @@ ghost use Rattle.gix_refspec.specs.Order.{is_same, order, place_of};
 ghost use Rattle.gix_refspec.specs.Group.{mapped_of, name_bytes, ref_of, readings_of, start_of};
 ghost use Rattle.gix_refspec.specs.Mappings.{IsSamePair};
 ghost use Rattle.gix_refspec.specs.Hits.{KeptOnce, OneForward, OneBackward};
-ghost use Rattle.gix_refspec.specs.MatchLaws.{Transpose, FetchGroupReadsBack, Cover, CoverTogether};
+ghost use Rattle.gix_refspec.specs.MatchLaws.{Transpose, KeptExactly, NothingExcluded, FetchGroupReadsBack, Cover, CoverTogether};
 ghost use Rattle.gix_refspec.specs.Validation.{ForwardFits, ValidatedOnce};
 ghost use Rattle.gix_refspec.specs.Issue.{IsSameFix, conflict_of};
 ghost use Rattle.gix_refspec.specs.Spec.{reading_of, owned_reading_of};
@@ -144,6 +144,18 @@ pub fn kept_once(group: &MatchGroup<'_>, items: &[Item<'_>])
 /// pairs as `match_rhs` over `right`.
 pub fn transpose(group: &MatchGroup<'_>, left: &[Item<'_>], right: &[Item<'_>])
     ensures { Transpose (readings_of group.now) (map ref_of left.now) (map ref_of right.now) }
+{}
+
+/// A pair stays exactly where some spec makes it and none excludes its source: from left to right of an
+/// item that the source takes, or of an id; from right to left of an item that the destination matches.
+pub fn kept_exactly(group: &MatchGroup<'_>, items: &[Item<'_>])
+    ensures { KeptExactly (readings_of group.now) (map ref_of items.now) }
+{}
+
+/// No mapping that stays has a source that a negative spec excludes, in either direction, and none
+/// excludes an id.
+pub fn nothing_excluded(group: &MatchGroup<'_>, items: &[Item<'_>])
+    ensures { NothingExcluded (readings_of group.now) (map ref_of items.now) }
 {}
 
 /// A group of fetches maps as the group that its canonical texts read as, in both directions and

@@ -1,0 +1,93 @@
+-- What a caller concludes from the laws on what stays: that a pair is there, that one isn't, and where it comes from.
+use Rattle.std.proofs.Common.{◌≡◌, inl, inr, ℕ, zero, suc, List, [], ◌∷◌, None, Some, codes, refl, sym, subst, arith}
+use Rattle.std.specs.List.{Any}
+use Rattle.gix_refspec.specs.Reading.{Reading}
+use Rattle.gix_refspec.specs.Side.{partial, full_name, HasKind}
+use Rattle.gix_refspec.specs.Match.{Ref, IsFirstCandidate}
+use Rattle.gix_refspec.specs.Mappings.{name, Mapped, HasPair, IsExcluded}
+use Rattle.gix_refspec.specs.Hits.{AreKeptForward, AreKeptBackward}
+use Rattle.gix_refspec.specs.MatchLaws.{MakesForward, MakesBackward, KeptExactly, NothingExcluded}
+use Rattle.gix_refspec.proofs.CandidateFacts.{branch_and_tag, main_tag, main_ends, main_to_x, no_tags, no_other_first, not_excluded, tags_excluded, takes_the_tag, x_kind}
+use Rattle.gix_refspec.proofs.FormsBackLemmas.{some_once}
+use Rattle.gix_refspec.proofs.ManualFacts.{named}
+use Rattle.gix_refspec.proofs.MatchFacts.{below_tags, blob, blob_kind, blob_mapping, mapping, short_kind, short_no_id}
+
+-- whatever its places are
+abbrev tag_pair : Mapped
+tag_pair = mapping 7 (codes "refs/tags/main") (Some (codes "refs/x")) 5
+
+abbrev branch_pair : Mapped
+branch_pair = mapping 0 (codes "refs/heads/main") (Some (codes "refs/x")) 0
+
+-- the spec takes the tag and makes the pair
+pub tag_made : MakesForward branch_and_tag (name (codes "refs/tags/main")) (Some (codes "refs/x")) main_to_x
+tag_made = record {
+  ends = main_ends;
+  has = record { positive = tt; near = refl; far = refl; no_object = λ bytes kind. short_no_id bytes kind.2 };
+  one = (1, main_tag, omega arith, refl, record { word = None; name = refl; takes = takes_the_tag.0; becomes = (full_name (codes "refs/x"), x_kind, refl) });
+}
+
+-- so by the law the pair is there
+pub pair_there : KeptExactly (main_to_x ∷ []) branch_and_tag → (kept : List Mapped) → AreKeptForward (main_to_x ∷ []) branch_and_tag kept → HasPair kept tag_pair
+pair_there law kept are = (law.forward kept are tag_pair).1 ((0, main_to_x, omega arith, refl, tag_made), not_excluded (codes "refs/tags/main"))
+
+-- the spec makes no pair of the branch
+pub branch_unmade : ¬ (MakesForward branch_and_tag (name (codes "refs/heads/main")) (Some (codes "refs/x")) main_to_x)
+branch_unmade made =
+    let (at, item, below, is, paired) = made.one in
+    let near : made.ends.near ≡ codes "main" = sym (some_once (codes "main") made.ends.near made.has.near) in
+    let first : IsFirstCandidate branch_and_tag (codes "main") item.name = paired.takes.first (codes "main") (subst (λ (x : List ℕ). HasKind x (partial (codes "main"))) (sym near) short_kind) in
+    no_other_first.0 (subst (IsFirstCandidate branch_and_tag (codes "main")) paired.name first)
+
+-- what some reading of a list of one makes, that one makes
+of_one : (P : Reading → Type 0) (r : Reading) → Any P (r ∷ []) → P r
+of_one P r (zero, x, below, is, holds) = subst P (sym is) holds
+of_one P r (suc at, x, below, is, holds) = absurd (omega (arith, below))
+
+-- so by the law it isn't there
+pub pair_not_there : KeptExactly (main_to_x ∷ []) branch_and_tag → (kept : List Mapped) → AreKeptForward (main_to_x ∷ []) branch_and_tag kept → ¬ (HasPair kept branch_pair)
+pair_not_there law kept are has = branch_unmade (of_one _ main_to_x ((law.forward kept are branch_pair).0 has).0)
+
+tag_excluded : IsExcluded (main_to_x ∷ no_tags ∷ []) (codes "refs/tags/main")
+tag_excluded = inr (inl (record { negative = refl; text = codes "refs/tags/*"; source = refl; excludes = tags_excluded }))
+
+-- a pair whose source is excluded isn't there, though a spec makes it
+pub pair_excluded : KeptExactly (main_to_x ∷ no_tags ∷ []) branch_and_tag → (kept : List Mapped) → AreKeptForward (main_to_x ∷ no_tags ∷ []) branch_and_tag kept → ¬ (HasPair kept tag_pair)
+pair_excluded law kept are has = ((law.forward kept are tag_pair).0 has).1 tag_excluded
+
+branch_made_back : MakesBackward (named (codes "refs/x") ∷ []) (name (codes "refs/heads/main")) (Some (codes "refs/x")) main_to_x
+branch_made_back = record {
+  ends = record { near = codes "refs/x"; far = Some (codes "main") };
+  has = record { positive = tt; near = refl; far = refl; both = refl };
+  one = (0, named (codes "refs/x"), omega arith, refl, record { word = None; name = refl; takes = record { kind = full_name (codes "refs/x"); of = x_kind; is = (refl, refl) }; becomes = (partial (codes "main"), short_kind, refl) });
+}
+
+-- from right to left the destination takes a local ref, and the source is the branch
+pub pair_back : KeptExactly (main_to_x ∷ []) (named (codes "refs/x") ∷ []) → (kept : List Mapped) → AreKeptBackward (main_to_x ∷ []) (named (codes "refs/x") ∷ []) kept → HasPair kept branch_pair
+pair_back law kept are = (law.backward kept are branch_pair).1 ((0, main_to_x, omega arith, refl, branch_made_back), not_excluded (codes "refs/heads/main"))
+
+-- an id that is asked for is there, whatever the items are
+pub id_there : (items : List Ref) → KeptExactly (blob ∷ []) items → (kept : List Mapped) → AreKeptForward (blob ∷ []) items kept → HasPair kept blob_mapping
+id_there items law kept are = (law.forward kept are blob_mapping).1 (
+  (
+    0,
+    blob,
+    omega arith,
+    refl,
+    record {
+      positive = tt;
+      text = codes "e69de29bb2d1d6434b8b29ae775ad8c2e48c5391";
+      side = refl;
+      object = blob_kind;
+      becomes = (full_name (codes "refs/tags/blob"), below_tags, refl);
+    },
+  ),
+  λ none. none,
+)
+
+-- no list of what stays begins with a mapping of what is excluded, in either direction
+pub none_of_a_tag : (items : List Ref) → NothingExcluded (main_to_x ∷ no_tags ∷ []) items → (rest : List Mapped) → ¬ (AreKeptForward (main_to_x ∷ no_tags ∷ []) items (tag_pair ∷ rest)) × ¬ (AreKeptBackward (main_to_x ∷ no_tags ∷ []) items (tag_pair ∷ rest))
+none_of_a_tag items law rest = (
+  (λ are. (law.names (tag_pair ∷ rest) (inl are)).0 tag_excluded),
+  λ are. (law.names (tag_pair ∷ rest) (inr are)).0 tag_excluded,
+)

@@ -1,0 +1,8 @@
+-- What stays was looked at.
+use Rattle.std.proofs.Common.{map}
+use Rattle.gix_refspec.specs.Group.{readings_of, ref_of}
+use Rattle.gix_refspec.proofs.PairMadeLemmas.{nothing_excluded}
+use Rattle.gix_refspec.proofs.laws.nothing_excluded.Goals as goal
+
+pub returns : goal.returns
+returns c = nothing_excluded (readings_of c.args.group.now) (map ref_of c.args.items.now)
