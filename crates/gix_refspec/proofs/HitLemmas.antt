@@ -495,13 +495,13 @@ id_once k r m n a b =
     let bytes : a.bytes ≡ b.bytes = bytes_once a.text a.bytes b.bytes a.object (subst (λ x. HasKind x (object b.bytes)) text b.object) in
     same_mapped m n (a.item ∙ sym b.item) (a.source ∙ ap mappings.id bytes ∙ sym b.source) (filled_once r.destination None m.destination n.destination a.destination b.destination) (a.spec ∙ sym b.spec)
 
-forward_once : (rs : List Reading) (items : List Ref) (l m : List Mapped) → AreForward rs items l → AreForward rs items m → l ≡ m
+pub forward_once : (rs : List Reading) (items : List Ref) (l m : List Mapped) → AreForward rs items l → AreForward rs items m → l ≡ m
 forward_once rs items l m a b =
     let ids : a.ids ≡ b.ids = made_once IsIdMapping id_once 0 rs a.ids b.ids a.are_ids b.are_ids in
     let hits : a.hits ≡ b.hits = hits_once Forward rs items a.hits b.hits a.are_hits b.are_hits in
     a.all ∙ ap (λ g. g ++ map forward_of a.hits) ids ∙ ap (λ h. b.ids ++ map forward_of h) hits ∙ sym b.all
 
-backward_once : (rs : List Reading) (items : List Ref) (l m : List Mapped) → AreBackward rs items l → AreBackward rs items m → l ≡ m
+pub backward_once : (rs : List Reading) (items : List Ref) (l m : List Mapped) → AreBackward rs items l → AreBackward rs items m → l ≡ m
 backward_once rs items l m a b = a.all ∙ ap (map backward_of) (hits_once Backward rs items a.hits b.hits a.are_hits b.are_hits) ∙ sym b.all
 
 -- so the group and the items determine what is kept

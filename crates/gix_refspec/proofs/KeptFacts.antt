@@ -1,16 +1,16 @@
 -- What a caller concludes from the laws on what stays: that a pair is there, that one isn't, and where it comes from.
-use Rattle.std.proofs.Common.{◌≡◌, inl, inr, ℕ, zero, suc, List, [], ◌∷◌, None, Some, codes, refl, sym, subst, arith}
-use Rattle.std.specs.List.{Any}
+use Rattle.std.proofs.Common.{◌≡◌, inl, inr, ℕ, zero, suc, List, [], ◌∷◌, ◌++◌, Option, None, Some, codes, refl, sym, ap, subst, arith}
+use Rattle.std.specs.List.{Any, Contains}
 use Rattle.gix_refspec.specs.Reading.{Reading}
 use Rattle.gix_refspec.specs.Side.{partial, full_name, HasKind}
 use Rattle.gix_refspec.specs.Match.{Ref, IsFirstCandidate}
 use Rattle.gix_refspec.specs.Mappings.{name, Mapped, HasPair, IsExcluded}
 use Rattle.gix_refspec.specs.Hits.{AreKeptForward, AreKeptBackward}
-use Rattle.gix_refspec.specs.MatchLaws.{MakesForward, MakesBackward, KeptExactly, NothingExcluded}
+use Rattle.gix_refspec.specs.MatchLaws.{MakesForward, MakesBackward, KeptExactly, FirstStays, NothingExcluded}
 use Rattle.gix_refspec.proofs.CandidateFacts.{branch_and_tag, main_tag, main_ends, main_to_x, no_tags, no_other_first, not_excluded, tags_excluded, takes_the_tag, x_kind}
 use Rattle.gix_refspec.proofs.FormsBackLemmas.{some_once}
 use Rattle.gix_refspec.proofs.ManualFacts.{named}
-use Rattle.gix_refspec.proofs.MatchFacts.{below_tags, blob, blob_kind, blob_mapping, mapping, short_kind, short_no_id}
+use Rattle.gix_refspec.proofs.MatchFacts.{below_tags, blob, blob_kind, blob_mapping, dev_excluded, dev_ref, every, main_ref, main_stays, mapping, maps_all, no_dev, only_dev, short_kind, short_no_id, tag_ref, tracked, tracks_all}
 
 -- whatever its places are
 abbrev tag_pair : Mapped
@@ -91,3 +91,44 @@ none_of_a_tag items law rest = (
   (λ are. (law.names (tag_pair ∷ rest) (inl are)).0 tag_excluded),
   λ are. (law.names (tag_pair ∷ rest) (inr are)).0 tag_excluded,
 )
+
+-- ---- which of several stays
+
+-- of an excluded branch, a tag, a branch and the same once more
+abbrev listed : List Ref
+listed = dev_ref ∷ tag_ref ∷ main_ref ∷ main_ref ∷ []
+
+abbrev mapped : List Mapped
+mapped = tracked 0 (codes "dev-a") ∷ tracked 2 (codes "main") ∷ tracked 3 (codes "main") ∷ []
+
+-- by the law the first mapping of the branch stays, with its place
+pub first_there : FirstStays (every ∷ no_dev ∷ []) listed → (kept : List Mapped) → AreKeptForward (every ∷ no_dev ∷ []) listed kept → Contains kept (tracked 2 (codes "main"))
+first_there law kept are = (law.forward mapped kept maps_all are (tracked 2 (codes "main"))).1 (record { before = tracked 0 (codes "dev-a") ∷ []; after = tracked 3 (codes "main") ∷ []; here = refl; first = only_dev 2; included = main_stays })
+
+abbrev place_in : Option ℕ → ℕ
+place_in None = 0
+place_in (Some place) = place
+
+-- the other has its pair, and so isn't the first
+no_first : (before after : List Mapped) → mapped ≡ before ++ (tracked 3 (codes "main") ∷ after) → ¬ (HasPair before (tracked 3 (codes "main"))) → ⊥
+no_first [] after here new = let same : tracked 0 (codes "dev-a") ≡ tracked 3 (codes "main") = cc in let places : 0 ≡ 3 = ap (λ (m : Mapped). place_in m.item) same in absurd (omega (arith, places))
+no_first (x ∷ []) after here new = let same : tracked 2 (codes "main") ≡ tracked 3 (codes "main") = cc in let places : 2 ≡ 3 = ap (λ (m : Mapped). place_in m.item) same in absurd (omega (arith, places))
+no_first (x ∷ y ∷ before) after here new = let same : y ≡ tracked 2 (codes "main") = cc in new (inr (inl (record { source = ap (λ (m : Mapped). m.source) same; destination = ap (λ (m : Mapped). m.destination) same })))
+
+-- so by the law the other doesn't stay, nor does what is excluded
+pub later_not_there : FirstStays (every ∷ no_dev ∷ []) listed → (kept : List Mapped) → AreKeptForward (every ∷ no_dev ∷ []) listed kept → ¬ (Contains kept (tracked 3 (codes "main"))) × ¬ (Contains kept (tracked 0 (codes "dev-a")))
+later_not_there law kept are = (
+  (λ has. let first = (law.forward mapped kept maps_all are (tracked 3 (codes "main"))).0 has in no_first first.before first.after first.here first.first),
+  λ has. ((law.forward mapped kept maps_all are (tracked 0 (codes "dev-a"))).0 has).included dev_excluded,
+)
+
+-- and so from right to left
+abbrev tracking : List Ref
+tracking = named (codes "refs/remotes/origin/dev-a") ∷ named (codes "refs/remotes/origin/main") ∷ []
+
+pub first_back : FirstStays (every ∷ no_dev ∷ []) tracking → (kept : List Mapped) → AreKeptBackward (every ∷ no_dev ∷ []) tracking kept → Contains kept (tracked 1 (codes "main")) × ¬ (Contains kept (tracked 0 (codes "dev-a")))
+first_back law kept are =
+    let all : List Mapped = tracked 0 (codes "dev-a") ∷ tracked 1 (codes "main") ∷ [] in (
+      (law.backward all kept tracks_all are (tracked 1 (codes "main"))).1 (record { before = tracked 0 (codes "dev-a") ∷ []; after = []; here = refl; first = only_dev 1; included = main_stays }),
+      λ has. ((law.backward all kept tracks_all are (tracked 0 (codes "dev-a"))).0 has).included dev_excluded,
+    )

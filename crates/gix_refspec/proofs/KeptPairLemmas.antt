@@ -55,7 +55,7 @@ decided_pair pair m = elim (decided_start m.source pair.source) [
 ]
 
 -- m, at place k of the list, stays as made
-abbrev Keeps : List Reading → List Mapped → ℕ → Mapped → Mapped → Type 0
+abbrev pub Keeps : List Reading → List Mapped → ℕ → Mapped → Mapped → Type 0
 Keeps g l k m made = (made ≡ m) × Stays g l k m
 
 -- the first mapping with a pair whose source isn't excluded stays

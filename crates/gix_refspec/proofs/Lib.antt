@@ -41,6 +41,7 @@ pub mod KeptPairLemmas
 pub mod ReachLemmas
 pub mod TransposeLemmas
 pub mod PairMadeLemmas
+pub mod FirstStaysLemmas
 pub mod CoverLemmas
 pub mod AlikeLemmas
 pub mod ClaimLemmas

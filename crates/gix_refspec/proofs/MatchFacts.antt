@@ -15,7 +15,7 @@ use Rattle.gix_refspec.specs.Side.{pattern, full_name, object, partial, HasKind,
 use Rattle.gix_refspec.specs.Match.{Ref, Matches, Takes}
 use Rattle.gix_refspec.specs.Lists.{IsMadeFrom}
 use Rattle.gix_refspec.specs.Mappings.{Start, name, id, Mapped, IsExcluded, IsStartExcluded, IsSamePair, HasPair, AreApart}
-use Rattle.gix_refspec.specs.Hits.{Ends, AreForwardEnds, AreBackwardEnds, AreHits, Hit, IsHit, IsIdMapping, AreKeptForward, AreKeptBackward}
+use Rattle.gix_refspec.specs.Hits.{Ends, AreForwardEnds, AreBackwardEnds, AreHits, Hit, IsHit, IsIdMapping, AreForward, AreBackward, AreKeptForward, AreKeptBackward}
 use Rattle.gix_refspec.specs.Prefix.{of_pattern}
 use Rattle.gix_refspec.proofs.TextLemmas.{Lacks-here}
 use Rattle.gix_refspec.proofs.CandidateLemmas.{first_of_one, taken_by_first}
@@ -166,7 +166,7 @@ bytes_in (name n) = n
 bytes_in (id i) = i
 
 -- the pair of the excluded branch isn't that of another
-only_dev : (item : ℕ) → ¬ (HasPair (tracked 0 (codes "dev-a") ∷ []) (tracked item (codes "main")))
+pub only_dev : (item : ℕ) → ¬ (HasPair (tracked 0 (codes "dev-a") ∷ []) (tracked item (codes "main")))
 only_dev item (inl same) = other_length _ _ (λ length_same. omega (arith, length_same)) (ap bytes_in same.source)
 only_dev item (inr none) = none
 
@@ -218,6 +218,11 @@ fetches_all_but_dev =
       );
     }
 
+-- before that, all three are
+pub maps_all : AreForward (every ∷ no_dev ∷ []) (dev_ref ∷ tag_ref ∷ main_ref ∷ main_ref ∷ []) (tracked 0 (codes "dev-a") ∷ tracked 2 (codes "main") ∷ tracked 3 (codes "main") ∷ [])
+unfolding fetches_all_but_dev
+maps_all = fetches_all_but_dev.forward
+
 -- from right to left, over the tracking refs of the excluded branch and of the other one
 abbrev pub backward_ends : Ends
 backward_ends = record { near = codes "refs/remotes/origin/*"; far = Some (codes "refs/heads/*") }
@@ -259,6 +264,11 @@ tracks_all_but_dev =
         refl,
       );
     }
+
+-- before that, both are
+pub tracks_all : AreBackward (every ∷ no_dev ∷ []) (named (codes "refs/remotes/origin/dev-a") ∷ named (codes "refs/remotes/origin/main") ∷ []) (tracked 0 (codes "dev-a") ∷ tracked 1 (codes "main") ∷ [])
+unfolding tracks_all_but_dev
+tracks_all = tracks_all_but_dev.backward
 
 -- a spec without a destination takes nothing from right to left
 pub tracks_nothing : AreKeptBackward (short ∷ []) (main_ref ∷ []) []

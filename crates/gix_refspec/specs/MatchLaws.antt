@@ -1,8 +1,8 @@
 -- Laws of matching: both directions agree, exactly where a pair stays, groups that map alike, and what covers the
 -- sources of a group.
 -- They follow from the words of Mappings and Hits, and settle nothing.
-use Rattle.std.specs.Prelude.{◌≡◌, ◌≢◌, ◌⊎◌, ◌↔◌, ℕ, List, codes, Option, None, Some}
-use Rattle.std.specs.List.{AllByRecursion, AllZip, Any}
+use Rattle.std.specs.Prelude.{◌≡◌, ◌≢◌, ◌⊎◌, ◌↔◌, ℕ, List, ◌∷◌, ◌++◌, codes, Option, None, Some}
+use Rattle.std.specs.List.{AllByRecursion, AllZip, Any, Contains}
 use Rattle.gix_refspec.specs.declared.parsing.Operation.TheVariants.{Fetch}
 use Rattle.gix_refspec.specs.Text.{Lacks, Begins}
 use Rattle.gix_refspec.specs.Name.{HasStar}
@@ -15,7 +15,7 @@ use Rattle.gix_refspec.specs.Match.{Ref, HasName, Matches, Takes}
 use Rattle.gix_refspec.specs.Prefix.{IsPrefix, IsAsked, IsExpansion}
 use Rattle.gix_refspec.specs.Lists.{IsJoinedFrom}
 use Rattle.gix_refspec.specs.Mappings.{Start, name, id, Mapped, HasPair, IsStartExcluded}
-use Rattle.gix_refspec.specs.Hits.{Ends, AreForwardEnds, AreBackwardEnds, IsFilled, AreKeptForward, AreKeptBackward}
+use Rattle.gix_refspec.specs.Hits.{Ends, AreForwardEnds, AreBackwardEnds, IsFilled, AreForward, AreBackward, AreKeptForward, AreKeptBackward}
 
 -- ---- both directions
 
@@ -83,6 +83,19 @@ pub record KeptExactly (g : List Reading) (items : List Ref) : Type 0 where
       → HasPair kept pair ↔ (Any (MakesForward items pair.source pair.destination) g × ¬ (IsStartExcluded g pair.source))
   pub backward : (kept : List Mapped) → AreKeptBackward g items kept → (pair : Mapped)
       → HasPair kept pair ↔ (Any (MakesBackward items pair.source pair.destination) g × ¬ (IsStartExcluded g pair.source))
+
+-- the mapping stands in the list, none before it has its pair, and no reading excludes its source
+pub record IsFirstOfPair (g : List Reading) (l : List Mapped) (m : Mapped) : Type 0 where
+  pub before : List Mapped
+  pub after : List Mapped
+  pub here : l ≡ before ++ (m ∷ after)
+  pub first : ¬ (HasPair before m)
+  pub included : ¬ (IsStartExcluded g m.source)
+
+-- of the mappings with one pair just the first stays, as it is, where no reading excludes its source
+pub record FirstStays (g : List Reading) (items : List Ref) : Type 0 where
+  pub forward : (all kept : List Mapped) → AreForward g items all → AreKeptForward g items kept → (m : Mapped) → Contains kept m ↔ IsFirstOfPair g all m
+  pub backward : (all kept : List Mapped) → AreBackward g items all → AreKeptBackward g items kept → (m : Mapped) → Contains kept m ↔ IsFirstOfPair g all m
 
 -- no mapping that stays, in either direction, has a source that some reading excludes; and none excludes an id
 pub record NothingExcluded (g : List Reading) (items : List Ref) : Type 0 where

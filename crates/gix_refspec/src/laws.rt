@@ -10,7 +10,7 @@ ghost use Rattle.gix_refspec.specs.Order.{is_same, order, place_of};
 ghost use Rattle.gix_refspec.specs.Group.{mapped_of, name_bytes, ref_of, readings_of, start_of};
 ghost use Rattle.gix_refspec.specs.Mappings.{IsSamePair};
 ghost use Rattle.gix_refspec.specs.Hits.{KeptOnce, OneForward, OneBackward};
-ghost use Rattle.gix_refspec.specs.MatchLaws.{Transpose, KeptExactly, NothingExcluded, FetchGroupReadsBack, Cover, CoverTogether};
+ghost use Rattle.gix_refspec.specs.MatchLaws.{Transpose, KeptExactly, FirstStays, NothingExcluded, FetchGroupReadsBack, Cover, CoverTogether};
 ghost use Rattle.gix_refspec.specs.Validation.{ForwardFits, ValidatedOnce};
 ghost use Rattle.gix_refspec.specs.Issue.{IsSameFix, conflict_of};
 ghost use Rattle.gix_refspec.specs.Spec.{reading_of, owned_reading_of};
@@ -150,6 +150,12 @@ pub fn transpose(group: &MatchGroup<'_>, left: &[Item<'_>], right: &[Item<'_>])
 /// item that the source takes, or of an id; from right to left of an item that the destination matches.
 pub fn kept_exactly(group: &MatchGroup<'_>, items: &[Item<'_>])
     ensures { KeptExactly (readings_of group.now) (map ref_of items.now) }
+{}
+
+/// Of the mappings with one pair just the first stays, with its places, where no negative spec excludes
+/// its source, in both directions.
+pub fn first_stays(group: &MatchGroup<'_>, items: &[Item<'_>])
+    ensures { FirstStays (readings_of group.now) (map ref_of items.now) }
 {}
 
 /// No mapping that stays has a source that a negative spec excludes, in either direction, and none
