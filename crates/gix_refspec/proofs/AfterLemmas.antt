@@ -13,17 +13,17 @@ use Rattle.gix_refspec.proofs.KeptLemmas.{kept_once}
 use Rattle.gix_refspec.proofs.RepeatLemmas.{all_join}
 
 -- what is made of each element, where what a relation makes has P
-made_each : {X Y : Type 0} (R : ℕ → X → Y → Type 0) (P : Y → Type 0) (n : ℕ) → ((k : ℕ) (x : X) (y : Y) → k < n → R k x y → P y) → (k : ℕ) (xs : List X) (ys : List Y) → k + length xs ≤ n → IsMadeFrom R k xs ys → AllByRecursion P ys
+pub made_each : {X Y : Type 0} (R : ℕ → X → Y → Type 0) (P : Y → Type 0) (n : ℕ) → ((k : ℕ) (x : X) (y : Y) → k < n → R k x y → P y) → (k : ℕ) (xs : List X) (ys : List Y) → k + length xs ≤ n → IsMadeFrom R k xs ys → AllByRecursion P ys
 made_each R P n makes k [] ys fits empty = subst (AllByRecursion P) (sym empty) tt
 made_each R P n makes k (x ∷ xs) ys fits (None, rest, none, more, is) = subst (AllByRecursion P) (sym is) (made_each R P n makes (k + 1) xs rest (omega arith) more)
 made_each R P n makes k (x ∷ xs) ys fits (Some y, rest, one, more, is) = subst (AllByRecursion P) (sym is) (makes k x y (omega arith) one, made_each R P n makes (k + 1) xs rest (omega arith) more)
 
-joined_each : {X Y : Type 0} (R : ℕ → X → List Y → Type 0) (P : Y → Type 0) (n : ℕ) → ((k : ℕ) (x : X) (ys : List Y) → k < n → R k x ys → AllByRecursion P ys) → (k : ℕ) (xs : List X) (ys : List Y) → k + length xs ≤ n → IsJoinedFrom R k xs ys → AllByRecursion P ys
+pub joined_each : {X Y : Type 0} (R : ℕ → X → List Y → Type 0) (P : Y → Type 0) (n : ℕ) → ((k : ℕ) (x : X) (ys : List Y) → k < n → R k x ys → AllByRecursion P ys) → (k : ℕ) (xs : List X) (ys : List Y) → k + length xs ≤ n → IsJoinedFrom R k xs ys → AllByRecursion P ys
 joined_each R P n makes k [] ys fits empty = subst (AllByRecursion P) (sym empty) tt
 joined_each R P n makes k (x ∷ xs) ys fits (made, rest, one, more, is) = subst (AllByRecursion P) (sym is) (all_join P made rest (makes k x made (omega arith) one) (joined_each R P n makes (k + 1) xs rest (omega arith) more))
 
 -- what stays of a list has what the list has
-stays_each : {X : Type 0} (S : ℕ → X → Type 0) (P : X → Type 0) (k : ℕ) (xs ys : List X) → AllByRecursion P xs → IsMadeFrom (λ j x y. (y ≡ x) × S j x) k xs ys → AllByRecursion P ys
+pub stays_each : {X : Type 0} (S : ℕ → X → Type 0) (P : X → Type 0) (k : ℕ) (xs ys : List X) → AllByRecursion P xs → IsMadeFrom (λ j x y. (y ≡ x) × S j x) k xs ys → AllByRecursion P ys
 stays_each S P k [] ys all empty = subst (AllByRecursion P) (sym empty) tt
 stays_each S P k (x ∷ xs) ys all (None, rest, none, more, is) = subst (AllByRecursion P) (sym is) (stays_each S P (k + 1) xs rest all.1 more)
 stays_each S P k (x ∷ xs) ys all (Some y, rest, one, more, is) = subst (AllByRecursion P) (sym is) (subst P (sym one.0) all.0, stays_each S P (k + 1) xs rest all.1 more)

@@ -1,16 +1,17 @@
 -- What a caller concludes from the laws on what stays: that a pair is there, that one isn't, and where it comes from.
-use Rattle.std.proofs.Common.{◌≡◌, inl, inr, ℕ, zero, suc, List, [], ◌∷◌, ◌++◌, Option, None, Some, codes, refl, sym, ap, subst, arith}
-use Rattle.std.specs.List.{Any, Contains}
+use Rattle.std.proofs.Common.{◌≡◌, inl, inr, ℕ, zero, suc, List, [], ◌∷◌, ◌++◌, Option, None, Some, codes, refl, sym, ap, ◌∙◌, subst, arith}
+use Rattle.std.specs.List.{AllByRecursion, Any, Contains, slice_get}
 use Rattle.gix_refspec.specs.Reading.{Reading}
 use Rattle.gix_refspec.specs.Side.{partial, full_name, HasKind}
 use Rattle.gix_refspec.specs.Match.{Ref, IsFirstCandidate}
 use Rattle.gix_refspec.specs.Mappings.{name, Mapped, HasPair, IsExcluded}
 use Rattle.gix_refspec.specs.Hits.{AreKeptForward, AreKeptBackward}
 use Rattle.gix_refspec.specs.MatchLaws.{MakesForward, MakesBackward, KeptExactly, FirstStays, NothingExcluded}
+use Rattle.gix_refspec.specs.Validation.{ForwardPlaces, IsValidated, PlacesFit, Removed}
 use Rattle.gix_refspec.proofs.CandidateFacts.{branch_and_tag, main_tag, main_ends, main_to_x, no_tags, no_other_first, not_excluded, tags_excluded, takes_the_tag, x_kind}
 use Rattle.gix_refspec.proofs.FormsBackLemmas.{some_once}
-use Rattle.gix_refspec.proofs.ManualFacts.{named}
-use Rattle.gix_refspec.proofs.MatchFacts.{below_tags, blob, blob_kind, blob_mapping, dev_excluded, dev_ref, every, main_ref, main_stays, mapping, maps_all, no_dev, only_dev, short_kind, short_no_id, tag_ref, tracked, tracks_all}
+use Rattle.gix_refspec.proofs.ManualFacts.{named, other_length}
+use Rattle.gix_refspec.proofs.MatchFacts.{below_tags, blob, blob_kind, blob_mapping, bytes_in, dev_excluded, dev_ref, every, main_ref, main_stays, mapping, maps_all, no_dev, only_dev, short_kind, short_no_id, tag_ref, tracked, tracks_all}
 
 -- whatever its places are
 abbrev tag_pair : Mapped
@@ -132,3 +133,32 @@ first_back law kept are =
       (law.backward all kept tracks_all are (tracked 1 (codes "main"))).1 (record { before = tracked 0 (codes "dev-a") ∷ []; after = []; here = refl; first = only_dev 1; included = main_stays }),
       λ has. ((law.backward all kept tracks_all are (tracked 0 (codes "dev-a"))).0 has).included dev_excluded,
     )
+
+-- ---- the places of what stays
+
+-- by the law a mapping of the branch doesn't have the place of the tag
+pub no_other_item : PlacesFit (every ∷ no_dev ∷ []) listed → (rest : List Mapped) → ¬ (AreKeptForward (every ∷ no_dev ∷ []) listed (tracked 1 (codes "main") ∷ rest))
+no_other_item law rest are =
+    let (r, stands, named) = (law.forward (tracked 1 (codes "main") ∷ rest) are).0.item 1 refl in
+    let is : tag_ref ≡ r = cc in
+    other_length (codes "refs/heads/main") (codes "refs/tags/v1") (λ size. omega (arith, size)) (ap bytes_in named ∙ ap (λ (x : Ref). x.name) (sym is))
+
+-- nor the place of a third spec, where there are two
+pub no_other_spec : PlacesFit (every ∷ no_dev ∷ []) listed → (rest : List Mapped) → ¬ (AreKeptForward (every ∷ no_dev ∷ []) listed (mapping 2 (codes "refs/heads/main") (Some (codes "refs/remotes/origin/main")) 2 ∷ rest))
+no_other_spec law rest are =
+    let below = (law.forward (mapping 2 (codes "refs/heads/main") (Some (codes "refs/remotes/origin/main")) 2 ∷ rest) are).0.spec in
+    absurd (omega (arith, below))
+
+-- and one from right to left doesn't have the place of another tracking ref
+pub no_other_item_back : PlacesFit (every ∷ no_dev ∷ []) tracking → (rest : List Mapped) → ¬ (AreKeptBackward (every ∷ no_dev ∷ []) tracking (tracked 0 (codes "main") ∷ rest))
+no_other_item_back law rest are =
+    let fits = (law.backward (tracked 0 (codes "main") ∷ rest) are).0 in
+    let place : 0 ≡ fits.place = ap place_in fits.item in
+    let stands : slice_get tracking 0 ≡ Some fits.ref = subst (λ (j : ℕ). slice_get tracking j ≡ Some fits.ref) (sym place) fits.stands in
+    let is : named (codes "refs/remotes/origin/dev-a") ≡ fits.ref = cc in
+    let same : codes "refs/remotes/origin/main" ≡ fits.ref.name = some_once (codes "refs/remotes/origin/main") fits.ref.name fits.named in
+    other_length (codes "refs/remotes/origin/main") (codes "refs/remotes/origin/dev-a") (λ size. omega (arith, size)) (same ∙ ap (λ (x : Ref). x.name) (sym is))
+
+-- what remains after a validation has places that fit, where they fitted before
+pub still_fits : (items : List Ref) → PlacesFit (every ∷ []) items → (rest : List Mapped) (fixes : List Removed) → IsValidated (every ∷ []) [] rest fixes → AllByRecursion (ForwardPlaces (every ∷ []) items) rest
+still_fits items law rest fixes valid = law.validated [] rest fixes valid tt

@@ -49,6 +49,7 @@ pub mod FirstLemmas
 pub mod ConflictLemmas
 pub mod ValidationLemmas
 pub mod AfterLemmas
+pub mod PlaceFitLemmas
 pub mod EqualLemmas
 pub mod ApartLemmas
 pub mod PlacedLemmas

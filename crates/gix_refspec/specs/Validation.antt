@@ -2,7 +2,7 @@
 -- a destination that is no full name. Git refuses the first as well, and git-fetch(1) under `<refspec>` has
 -- no word on either. In which order conflicts and their sources are listed, that a destination outside
 -- `refs/` is left out, and that `HEAD` is not, are this project's own rules.
-use Rattle.std.specs.Prelude.{◌≡◌, ◌≢◌, ◌⊎◌, ◌<◌, ℕ, List, [], ◌∷◌, length, map, take, Some, MatchOption, codes}
+use Rattle.std.specs.Prelude.{◌≡◌, ◌≢◌, ◌⊎◌, ◌<◌, ℕ, List, [], ◌∷◌, length, map, take, None, Some, MatchOption, codes}
 use Rattle.std.specs.Ordering.{nat_cmp}
 use Rattle.std.specs.Cmp.Lexicographic.{slice_cmp}
 use Rattle.std.specs.List.{AllByRecursion, Contains, slice_get}
@@ -13,8 +13,8 @@ use Rattle.gix_refspec.specs.Reading.{Reading}
 use Rattle.gix_refspec.specs.Meaning.{printed}
 use Rattle.gix_refspec.specs.Lists.{IsMadeFrom}
 use Rattle.gix_refspec.specs.Match.{Ref}
-use Rattle.gix_refspec.specs.Mappings.{Start, Mapped, HasPair}
-use Rattle.gix_refspec.specs.Hits.{AreKeptForward}
+use Rattle.gix_refspec.specs.Mappings.{Start, name, id, Mapped, HasPair}
+use Rattle.gix_refspec.specs.Hits.{AreKeptForward, AreKeptBackward}
 
 -- the spec of each mapping has a place in the group
 abbrev pub IndexesFit : List Reading → List Mapped → Type 0
@@ -112,3 +112,25 @@ ValidatedOnce g items = (l rest : List Mapped) (fixes : List Removed) → IsVali
 -- the specs of mappings that came from items have places in the group
 abbrev pub ForwardFits : List Reading → List Ref → Type 0
 ForwardFits g items = (l : List Mapped) → AreKeptForward g items l → IndexesFit g l
+
+-- from left to right, the places of a mapping are those of a reading and of the item whose name is its source; without
+-- an item it begins with an id
+pub record ForwardPlaces (g : List Reading) (items : List Ref) (m : Mapped) : Type 0 where
+  pub spec : m.spec < length g
+  pub item : (j : ℕ) → m.item ≡ Some j → (r : Ref) × (slice_get items j ≡ Some r) × (m.source ≡ name r.name)
+  pub start : m.item ≡ None → (bytes : List ℕ) × (m.source ≡ id bytes)
+
+-- from right to left, they are those of a reading and of the item whose name is its destination
+pub record BackwardPlaces (g : List Reading) (items : List Ref) (m : Mapped) : Type 0 where
+  pub spec : m.spec < length g
+  pub place : ℕ
+  pub ref : Ref
+  pub item : m.item ≡ Some place
+  pub stands : slice_get items place ≡ Some ref
+  pub named : m.destination ≡ Some ref.name
+
+-- so it is with each mapping that stays, and with each that remains after a validation
+pub record PlacesFit (g : List Reading) (items : List Ref) : Type 0 where
+  pub forward : (l : List Mapped) → AreKeptForward g items l → AllByRecursion (ForwardPlaces g items) l
+  pub backward : (l : List Mapped) → AreKeptBackward g items l → AllByRecursion (BackwardPlaces g items) l
+  pub validated : (l rest : List Mapped) (fixes : List Removed) → IsValidated g l rest fixes → AllByRecursion (ForwardPlaces g items) l → AllByRecursion (ForwardPlaces g items) rest

@@ -11,7 +11,7 @@ ghost use Rattle.gix_refspec.specs.Group.{mapped_of, name_bytes, ref_of, reading
 ghost use Rattle.gix_refspec.specs.Mappings.{IsSamePair};
 ghost use Rattle.gix_refspec.specs.Hits.{KeptOnce, OneForward, OneBackward};
 ghost use Rattle.gix_refspec.specs.MatchLaws.{Transpose, KeptExactly, FirstStays, NothingExcluded, FetchGroupReadsBack, Cover, CoverTogether};
-ghost use Rattle.gix_refspec.specs.Validation.{ForwardFits, ValidatedOnce};
+ghost use Rattle.gix_refspec.specs.Validation.{ForwardFits, PlacesFit, ValidatedOnce};
 ghost use Rattle.gix_refspec.specs.Issue.{IsSameFix, conflict_of};
 ghost use Rattle.gix_refspec.specs.Spec.{reading_of, owned_reading_of};
 ghost use Rattle.gix_refspec.specs.Views.{shown_fetch, shown_push};
@@ -182,6 +182,13 @@ pub fn cover(group: &MatchGroup<'_>, items: &[Item<'_>])
 /// Each mapping that `match_lhs` lists has a spec of the group: so `validated` may be called.
 pub fn forward_fits(group: &MatchGroup<'_>, items: &[Item<'_>])
     ensures { ForwardFits (readings_of group.now) (map ref_of items.now) }
+{}
+
+/// The places of a mapping that stays are those of a spec of the group and of an item, whose name is its
+/// source, or from right to left its destination; only the mapping of an id has no item. So it is with
+/// what remains after a validation.
+pub fn places_fit(group: &MatchGroup<'_>, items: &[Item<'_>])
+    ensures { PlacesFit (readings_of group.now) (map ref_of items.now) }
 {}
 
 /// After a validation, mappings with one destination have one source. If the mappings came from

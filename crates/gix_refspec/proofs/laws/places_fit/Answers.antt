@@ -1,0 +1,8 @@
+-- Whatever the readings and the refs are.
+use Rattle.std.proofs.Common.{map}
+use Rattle.gix_refspec.specs.Group.{readings_of, ref_of}
+use Rattle.gix_refspec.proofs.PlaceFitLemmas.{places_fit}
+use Rattle.gix_refspec.proofs.laws.places_fit.Goals as goal
+
+pub returns : goal.returns
+returns c = places_fit (readings_of c.args.group.now) (map ref_of c.args.items.now)
