@@ -18,7 +18,7 @@ use std::collections::HashSet;
 
 // What a negative spec excludes.
 #[derive(Clone, Copy)]
-pub(crate) enum Exclusion<'a> {
+enum Exclusion<'a> {
     // The one name that its source is.
     Name(&'a [u8]),
     // Each name of a pattern.
@@ -27,7 +27,7 @@ pub(crate) enum Exclusion<'a> {
 
 // A pattern, by what stands before its star and behind it.
 #[derive(Clone, Copy)]
-pub(crate) struct Pattern<'a> {
+struct Pattern<'a> {
     before: &'a [u8],
     after: &'a [u8],
 }
