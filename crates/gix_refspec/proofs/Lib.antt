@@ -38,6 +38,9 @@ pub mod JoinLemmas
 pub mod HitLemmas
 pub mod SomeLemmas
 pub mod KeptPairLemmas
+pub mod ThinLemmas
+pub mod PartLemmas
+pub mod PartMadeLemmas
 pub mod ReachLemmas
 pub mod TransposeLemmas
 pub mod PairMadeLemmas

@@ -16,8 +16,8 @@ use std::alloc::{AllocError, Global};
 use types::MatchGroup;
 pub use types::{Item, Mapping, NameRef, NoRoom, Outcome, Source, SourceRef, match_lhs, match_rhs};
 use util::ends::Direction;
-use util::hits::{Made, mappings_of};
-use util::kept::keep;
+use util::hits::Made;
+use util::mappings::kept_of;
 
 /// Matching, from left to right and from right to left.
 impl<'spec> MatchGroup<'spec> {
@@ -120,41 +120,4 @@ fn outcome_of<'spec, 'lhs, 'rhs, const FORWARD: bool>(
     ensures { (result.group ≡ group.entry) × (result.mappings ≡ mappings.entry) }
 {
     Outcome { group, mappings }
-}
-
-// The mappings of a direction that are kept.
-fn kept_of<'spec, 'item>(
-    alloc: Global,
-    direction: Direction,
-    specs: &[RefSpecRef<'spec>],
-    items: &[Item<'item>],
-) -> Result<Made<'spec, 'item>, AllocError>
-    ensures ok { IfOk result (λ made. AreKept
-        direction (map reading_of specs.now) (map ref_of items.now) (made_in direction made)) }
-    ensures memory { OnErr result (¬ (AreMade
-        direction (map reading_of specs.now) (map ref_of items.now) [])) }
-{
-    let mut made = mappings_of(alloc, direction, specs, items)?;
-    match direction {
-        Direction::Forward => keep_some(alloc, specs, &mut made.forward)?,
-        Direction::Backward => keep_some(alloc, specs, &mut made.backward)?,
-    }
-    Ok(made)
-}
-
-// Drops the mappings that are not kept. Without mappings that takes no memory.
-fn keep_some<'a, 'b>(
-    alloc: Global,
-    specs: &[RefSpecRef<'_>],
-    mappings: &mut Vec<Mapping<'a, 'b>>,
-) -> Result<(), AllocError>
-    ensures ok { OnOk result (IsKept
-        (map reading_of specs.now) (map mapped_of mappings.old.items)
-        (map mapped_of mappings.new.items)) }
-    ensures memory { OnErr result (mappings.old.items ≢ []) }
-{
-    if mappings.is_empty() {
-        return Ok(());
-    }
-    keep(alloc, specs, mappings)
 }

@@ -8,5 +8,7 @@ pub(crate) mod hits;
 pub(crate) mod ids;
 mod index;
 pub(crate) mod kept;
+pub(crate) mod mappings;
 mod matched;
+mod part;
 mod presence;

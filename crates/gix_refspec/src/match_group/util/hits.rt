@@ -2,20 +2,21 @@
 //! chooses which end of a spec is near and takes items, which is far and is filled, and whether a
 //! partial near end takes all of its candidates or the first that is there.
 
-ghost use Rattle.std.specs.Prelude.{◌≡◌, [], map, IfOk, OnOk, OnErr};
+ghost use Rattle.std.specs.Prelude.{◌≡◌, [], map, IfOk, OnOk};
 ghost use Rattle.gix_refspec.specs.Spec.{reading_of};
 ghost use Rattle.gix_refspec.specs.Group.{ref_of, mapped_of};
 ghost use Rattle.gix_refspec.specs.Hits.{AreHits, forward_of, backward_of};
 ghost use Rattle.gix_refspec.specs.Private.SideViews.{shown_kind};
 ghost use Rattle.gix_refspec.specs.Private.Index.{ArePlacesTaken, IsIndexFor, IsIndexOfSide, MatchesWhole};
 ghost use Rattle.gix_refspec.specs.Private.HitViews.{HasEnds, TakesEach, TakesIn, shown_hit, AreHitsOfKinds, AddsHits, AreFirst, AreMade, made_in};
+ghost use Rattle.gix_refspec.specs.Private.Part.{moved, place_among};
 
 use super::ends::{Direction, Ends, asked_of, ends_of};
 use super::fill::filled_end;
 use super::ids::ids_of;
-use super::index::{NameIndex, names_asked};
+use super::index::NameIndex;
 use super::matched::matched;
-use super::presence::makes_some;
+use super::part::among;
 use crate::match_group::types::{Item, Mapping, NameRef, SourceRef};
 use crate::side::SideKind;
 use crate::spec::RefSpecRef;
@@ -39,67 +40,31 @@ pub(crate) struct Made<'spec, 'item> {
 }
 
 // The mappings of a direction: those of ids by spec, from left to right alone, and then those of
-// items by spec and item.
+// items by spec and item. There is room for so many.
 pub(crate) fn mappings_of<'spec, 'item>(
     alloc: Global,
     direction: Direction,
     specs: &[RefSpecRef<'spec>],
+    index: &NameIndex<'_>,
     items: &[Item<'item>],
+    room: usize,
 ) -> Result<Made<'spec, 'item>, AllocError>
-    ensures ok { IfOk result (λ made. AreMade
-        direction (map reading_of specs.now) (map ref_of items.now) (made_in direction made)) }
-    ensures memory { OnErr result (¬ (AreMade
-        direction (map reading_of specs.now) (map ref_of items.now) [])) }
-{
-    match looked_up(alloc, direction, specs, items) {
-        Ok(made) => Ok(made),
-        Err(error) => none_or(error, alloc, direction, specs, items),
-    }
-}
-
-// No mappings, where none are made, or else the error: the index wants memory before that is known.
-fn none_or<'spec, 'item>(
-    error: AllocError,
-    alloc: Global,
-    direction: Direction,
-    specs: &[RefSpecRef<'spec>],
-    items: &[Item<'item>],
-) -> Result<Made<'spec, 'item>, AllocError>
-    ensures ok { IfOk result (λ made. AreMade
-        direction (map reading_of specs.now) (map ref_of items.now) (made_in direction made)) }
-    ensures memory { OnErr result (¬ (AreMade
-        direction (map reading_of specs.now) (map ref_of items.now) [])) }
-{
-    if makes_some(direction, specs, items) {
-        return Err(error);
-    }
-    Ok(Made {
-        forward: Vec::new(alloc),
-        backward: Vec::new(alloc),
-    })
-}
-
-// The mappings of a direction, with an index of the names that the specs ask for.
-fn looked_up<'spec, 'item>(
-    alloc: Global,
-    direction: Direction,
-    specs: &[RefSpecRef<'spec>],
-    items: &[Item<'item>],
-) -> Result<Made<'spec, 'item>, AllocError>
+    requires { IsIndexFor direction (map reading_of specs.now) (map ref_of items.now) index.now }
     ensures { IfOk result (λ made. AreMade
         direction (map reading_of specs.now) (map ref_of items.now) (made_in direction made)) }
 {
-    let names = names_asked(alloc, direction, specs)?;
-    let index = NameIndex::of(alloc, names.as_slice(), items)?;
-    let room = room_for(direction, specs, items);
     let mut made = started(alloc, direction, specs, room)?;
-    add_hits(alloc, direction, specs, &index, items, &mut made)?;
+    add_hits(alloc, direction, specs, index, items, &mut made)?;
     Ok(made)
 }
 
 // How many mappings a direction makes of ids and of sides that are no names. The list grows for
 // those of names, as these are looked up.
-fn room_for(direction: Direction, specs: &[RefSpecRef<'_>], items: &[Item<'_>]) -> usize {
+pub(crate) fn room_for(
+    direction: Direction,
+    specs: &[RefSpecRef<'_>],
+    items: &[Item<'_>],
+) -> usize {
     let mut room: usize = 0;
     for spec in specs {
         room = room.saturating_add(room_of(direction, spec, items));
@@ -306,6 +271,7 @@ fn add_matches<'spec, 'item>(
 
 impl<'spec, 'item> Made<'spec, 'item> {
     ghost use Rattle.std.specs.Prelude.{◌∷◌, ◌++◌};
+    ghost use Rattle.gix_refspec.specs.declared.match_group.util.ends.Direction.{Direction};
     ghost use Rattle.gix_refspec.specs.Private.HitViews.{made_in, mapping_of};
 
     // Adds what a hit makes.
@@ -318,5 +284,36 @@ impl<'spec, 'item> Made<'spec, 'item> {
             Direction::Backward => self.backward.push(backward_mapping(hit))?,
         }
         Ok(())
+    }
+
+    // No mappings.
+    pub(crate) fn none(alloc: Global) -> Made<'spec, 'item>
+        ensures { (direction : Direction) → made_in direction result ≡ [] }
+    {
+        Made {
+            forward: Vec::new(alloc),
+            backward: Vec::new(alloc),
+        }
+    }
+
+    // Gives the items, which stand at places of a part, their places among all.
+    pub(crate) fn move_items(&mut self, direction: Direction, places: &[usize])
+        ensures { made_in direction self.new ≡
+            map (moved (place_among places.now)) (made_in direction self.old) }
+    {
+        match direction {
+            Direction::Forward => move_each(self.forward.as_mut_slice(), places),
+            Direction::Backward => move_each(self.backward.as_mut_slice(), places),
+        }
+    }
+}
+
+// Gives the items of some mappings, which stand at places of a part, their places among all.
+fn move_each<'a, 'b>(mappings: &mut [Mapping<'a, 'b>], places: &[usize])
+    ensures { map mapped_of mappings.new ≡
+        map (moved (place_among places.now)) (map mapped_of mappings.old) }
+{
+    for mapping in mappings.iter_mut() {
+        mapping.item_index = among(places, mapping.item_index);
     }
 }

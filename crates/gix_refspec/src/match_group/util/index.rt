@@ -122,6 +122,11 @@ impl<'n> NameIndex<'n> {
         }
     }
 
+    // Whether some name stands at several places.
+    pub(crate) fn has_repeats(&self) -> bool {
+        self.places.values().any(|places| places.len() > 1)
+    }
+
     // The places of the first candidate of a partial name that has any, rising.
     pub(crate) fn first_places(&self, alloc: Global, partial: &[u8]) -> Result<&[usize], AllocError>
         ensures { IfOk result (λ places. (refs : List Ref)

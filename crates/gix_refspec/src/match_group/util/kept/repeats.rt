@@ -92,7 +92,7 @@ fn earlier_of(alloc: Global, mappings: &[Mapping<'_, '_>]) -> Result<Vec<usize>,
 }
 
 // How many bits a place takes among so many.
-fn bits_for(len: usize) -> u32
+pub(crate) fn bits_for(len: usize) -> u32
     requires { len < 2 ^ 63 }
     ensures few { result < 64 }
     ensures fit { len ≤ 2 ^ result }
@@ -140,7 +140,7 @@ fn hash_of(mapping: &Mapping<'_, '_>) -> u64
 }
 
 // A key: the upper bits of a hash, and a place in the lower ones.
-fn key_of(hash: u64, place: usize, bits: u32) -> u64
+pub(crate) fn key_of(hash: u64, place: usize, bits: u32) -> u64
     requires few { bits < 64 }
     requires fits { place < 2 ^ bits }
     ensures bucket { result / 2 ^ bits ≡ hash / 2 ^ bits }
@@ -150,7 +150,7 @@ fn key_of(hash: u64, place: usize, bits: u32) -> u64
 }
 
 // The upper bits of the hash in a key.
-fn bucket_of(key: u64, bits: u32) -> u64
+pub(crate) fn bucket_of(key: u64, bits: u32) -> u64
     requires { bits < 64 }
     ensures { result ≡ key / 2 ^ bits }
 {
@@ -158,7 +158,7 @@ fn bucket_of(key: u64, bits: u32) -> u64
 }
 
 // The place in a key.
-fn place_of(key: u64, bits: u32) -> usize
+pub(crate) fn place_of(key: u64, bits: u32) -> usize
     requires { bits < 64 }
     ensures { result ≡ key % 2 ^ bits }
 {
@@ -260,7 +260,7 @@ fn pairs_in_order<'m>(
 }
 
 // Flags a place among so many.
-fn raise(flags: &mut Vec<bool>, len: usize, place: usize) -> Result<(), AllocError>
+pub(crate) fn raise(flags: &mut Vec<bool>, len: usize, place: usize) -> Result<(), AllocError>
     requires below { place < len }
     requires fits { (flags.old.items ≡ []) ⊎ (length flags.old.items ≡ len) }
     ensures fits { OnOk result (length flags.new.items ≡ len) }

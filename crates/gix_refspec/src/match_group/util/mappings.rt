@@ -1,0 +1,134 @@
+//! The mappings of a direction that are kept. Where names seem to be listed again and again, each is
+//! matched once.
+
+ghost use Rattle.std.specs.Prelude.{[], List, map, IfOk, OnErr};
+ghost use Rattle.gix_refspec.specs.Spec.{reading_of};
+ghost use Rattle.gix_refspec.specs.Match.{Ref};
+ghost use Rattle.gix_refspec.specs.Group.{ref_of};
+ghost use Rattle.gix_refspec.specs.Private.HitViews.{AreKept, AreMade, made_in};
+ghost use Rattle.gix_refspec.specs.Private.Index.{IsIndexFor};
+ghost use Rattle.gix_refspec.specs.Private.Part.{HasNoNearId, IsPart};
+
+use super::ends::Direction;
+use super::hits::{Made, mappings_of, room_for};
+use super::index::{NameIndex, names_asked};
+use super::kept::keep;
+use super::part::{Part, has_near_id, seem_repeated};
+use super::presence::makes_some;
+use crate::match_group::types::Item;
+use crate::spec::RefSpecRef;
+use std::alloc::{AllocError, Global};
+
+// The mappings of a direction that are kept. Fails if memory runs out, and never where none are made.
+pub(crate) fn kept_of<'spec, 'item>(
+    alloc: Global,
+    direction: Direction,
+    specs: &[RefSpecRef<'spec>],
+    items: &[Item<'item>],
+) -> Result<Made<'spec, 'item>, AllocError>
+    ensures ok { IfOk result (λ made. AreKept
+        direction (map reading_of specs.now) (map ref_of items.now) (made_in direction made)) }
+    ensures memory { OnErr result (¬ (AreMade
+        direction (map reading_of specs.now) (map ref_of items.now) [])) }
+{
+    match kept_by_name(alloc, direction, specs, items) {
+        Ok(made) => Ok(made),
+        Err(error) => none_or(error, alloc, direction, specs, items),
+    }
+}
+
+// No mappings, where none are made, or else the error: memory is wanted before that is known.
+fn none_or<'spec, 'item>(
+    error: AllocError,
+    alloc: Global,
+    direction: Direction,
+    specs: &[RefSpecRef<'spec>],
+    items: &[Item<'item>],
+) -> Result<Made<'spec, 'item>, AllocError>
+    ensures ok { IfOk result (λ made. AreKept
+        direction (map reading_of specs.now) (map ref_of items.now) (made_in direction made)) }
+    ensures memory { OnErr result (¬ (AreMade
+        direction (map reading_of specs.now) (map ref_of items.now) [])) }
+{
+    if makes_some(direction, specs, items) {
+        return Err(error);
+    }
+    Ok(Made::none(alloc))
+}
+
+// The mappings that are kept, of a part of the items where names seem to repeat.
+fn kept_by_name<'spec, 'item>(
+    alloc: Global,
+    direction: Direction,
+    specs: &[RefSpecRef<'spec>],
+    items: &[Item<'item>],
+) -> Result<Made<'spec, 'item>, AllocError>
+    ensures { IfOk result (λ made. AreKept
+        direction (map reading_of specs.now) (map ref_of items.now) (made_in direction made)) }
+{
+    let names = names_asked(alloc, direction, specs)?;
+    let index = NameIndex::of(alloc, names.as_slice(), items)?;
+    let room = room_for(direction, specs, items);
+    if !has_near_id(direction, specs) && names_repeat(alloc, &index, room, items)? {
+        if let Some(part) = Part::of(alloc, items)? {
+            return kept_of_part(alloc, direction, specs, &part);
+        }
+    }
+    kept_with(alloc, direction, specs, &index, items, room)
+}
+
+// Whether names seem to repeat: one that is asked for is listed twice, or more mappings of patterns
+// would be made than there are items, or some of the first names repeat.
+fn names_repeat(
+    alloc: Global,
+    index: &NameIndex<'_>,
+    room: usize,
+    items: &[Item<'_>],
+) -> Result<bool, AllocError> {
+    if room == 0 {
+        return Ok(index.has_repeats());
+    }
+    Ok(index.has_repeats() || items.len() < room || seem_repeated(alloc, items)?)
+}
+
+// The mappings that are kept, of a part of some items.
+fn kept_of_part<'spec, 'item>(
+    alloc: Global,
+    direction: Direction,
+    specs: &[RefSpecRef<'spec>],
+    part: &Part<'item>,
+) -> Result<Made<'spec, 'item>, AllocError>
+    requires { HasNoNearId direction (map reading_of specs.now) }
+    ensures { IfOk result (λ made. (refs : List Ref)
+        → IsPart refs (map ref_of part.now.items.items) part.now.places.items
+        → AreKept direction (map reading_of specs.now) refs (made_in direction made)) }
+{
+    let items = part.items.as_slice();
+    let names = names_asked(alloc, direction, specs)?;
+    let index = NameIndex::of(alloc, names.as_slice(), items)?;
+    let room = room_for(direction, specs, items);
+    let mut made = kept_with(alloc, direction, specs, &index, items, room)?;
+    made.move_items(direction, part.places.as_slice());
+    Ok(made)
+}
+
+// The mappings that are kept, by an index of the names that the specs ask for.
+fn kept_with<'spec, 'item>(
+    alloc: Global,
+    direction: Direction,
+    specs: &[RefSpecRef<'spec>],
+    index: &NameIndex<'_>,
+    items: &[Item<'item>],
+    room: usize,
+) -> Result<Made<'spec, 'item>, AllocError>
+    requires { IsIndexFor direction (map reading_of specs.now) (map ref_of items.now) index.now }
+    ensures { IfOk result (λ made. AreKept
+        direction (map reading_of specs.now) (map ref_of items.now) (made_in direction made)) }
+{
+    let mut made = mappings_of(alloc, direction, specs, index, items, room)?;
+    match direction {
+        Direction::Forward => keep(alloc, specs, &mut made.forward)?,
+        Direction::Backward => keep(alloc, specs, &mut made.backward)?,
+    }
+    Ok(made)
+}
