@@ -66,6 +66,36 @@ def partial(names, count, seed):
     return [name + b":refs/x/" + name for name in asked]
 
 
+def patterns(count):
+    """Specs of so many patterns, of which each ref matches one at most."""
+    return [b"refs/heads/topic-%d/*:refs/x/%d/*" % (number, number) for number in range(count)]
+
+
+def without(names, count, seed):
+    """A spec for all refs, and negative ones for so many full names, half of them among the names."""
+    sources = [line.partition(b":")[0] for line in full(names, count, seed)]
+    return [b"refs/*:refs/x/*"] + [b"^" + name for name in sources]
+
+
+def long_names(count, length, seed):
+    """Specs for so many full and so many partial names, each of so many bytes."""
+    random_ = random.Random(seed)
+    words = [b"%030x" % random_.getrandbits(120) for _ in range(2 * count)]
+    sources = [word * (length // len(word)) for word in words]
+    sources[:count] = [b"refs/heads/" + name for name in sources[:count]]
+    return [name + b":refs/x/%d" % place for place, name in enumerate(sources)]
+
+
+def as_long_as(name, count, seed):
+    """Names of branches that are as long as a name, which isn't among them."""
+    random_ = random.Random(seed)
+    prefix = b"refs/heads/"
+    size = len(name) - len(prefix)
+    letters = b"abcdefghijklnopqrstuvwxyz"
+    made = [prefix + bytes(random_.choice(letters) for _ in range(size)) for _ in range(count)]
+    return [other for other in made if other != name]
+
+
 def in_file(path):
     """The names in the lines of a file."""
     with open(path, "rb") as file:
