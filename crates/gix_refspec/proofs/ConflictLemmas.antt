@@ -117,15 +117,16 @@ conflict_from_rivals g l run d sources texts rivals told to = subst (λ (e : Lis
     two (c ∷ []) several up first = absurd (omega arith)
     two (c ∷ y ∷ cs) several up first = contested_from_firsts l x c.place y.place up.0.0 (first c.place (inl refl)) (first y.place (inr (inl refl)))
 
+-- a copy of a name has its bytes
+pub copied_name : (n m : NameRef) → IsNameCopy n m → name_bytes m ≡ name_bytes n
+copied_name (name_ref.Borrowed n) (name_ref.Borrowed m) same = same
+copied_name (name_ref.Borrowed n) (name_ref.Owned m) same = absurd same
+copied_name (name_ref.Owned n) (name_ref.Borrowed m) same = absurd same
+copied_name (name_ref.Owned n) (name_ref.Owned m) same = same
+
 -- a copy of a source is the same
 pub copied_source : (a b : SourceRef) → IsSourceCopy a b → start_of b ≡ start_of a
 copied_source (source_ref.FullName n) (source_ref.FullName m) copy = ap name (copied_name n m copy)
-  where
-    copied_name : (n m : NameRef) → IsNameCopy n m → name_bytes m ≡ name_bytes n
-    copied_name (name_ref.Borrowed n) (name_ref.Borrowed m) same = same
-    copied_name (name_ref.Borrowed n) (name_ref.Owned m) same = absurd same
-    copied_name (name_ref.Owned n) (name_ref.Borrowed m) same = absurd same
-    copied_name (name_ref.Owned n) (name_ref.Owned m) same = same
 copied_source (source_ref.FullName n) (source_ref.ObjectId j) copy = absurd copy
 copied_source (source_ref.ObjectId i) (source_ref.FullName m) copy = absurd copy
 copied_source (source_ref.ObjectId i) (source_ref.ObjectId j) copy = ap (λ k. id (id_bytes k)) copy

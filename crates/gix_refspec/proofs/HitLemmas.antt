@@ -480,7 +480,7 @@ spec_hits_once direction items k r g h (inr (none, a)) (inr (_, b)) = a ∙ sym 
 hits_once : (direction : Direction) (rs : List Reading) (items : List Ref) (g h : List Hit) → AreHits (HasEnds direction) (TakesIn direction items) rs items g → AreHits (HasEnds direction) (TakesIn direction items) rs items h → g ≡ h
 hits_once direction rs items g h a b = one_joined (AreSpecHits (HasEnds direction) (TakesIn direction items) items) (spec_hits_once direction items) 0 rs g h a b
 
-same_mapped : (m n : Mapped) → m.item ≡ n.item → m.source ≡ n.source → m.destination ≡ n.destination → m.spec ≡ n.spec → m ≡ n
+pub same_mapped : (m n : Mapped) → m.item ≡ n.item → m.source ≡ n.source → m.destination ≡ n.destination → m.spec ≡ n.spec → m ≡ n
 same_mapped m n item source destination spec =
     let build : Option ℕ → mappings.Start → Option (List ℕ) → ℕ → Mapped = λ i s d k. record { item = i; source = s; destination = d; spec = k } in
     ap (λ i. build i m.source m.destination m.spec) item ∙ ap (λ s. build n.item s m.destination m.spec) source ∙ ap (λ d. build n.item n.source d m.spec) destination ∙ ap (build n.item n.source n.destination) spec

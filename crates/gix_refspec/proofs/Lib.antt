@@ -52,6 +52,7 @@ pub mod FirstLemmas
 pub mod ConflictLemmas
 pub mod ValidationLemmas
 pub mod AfterLemmas
+pub mod OneValidationLemmas
 pub mod PlaceFitLemmas
 pub mod EqualLemmas
 pub mod ApartLemmas
@@ -63,6 +64,7 @@ pub mod IndexLemmas
 pub mod MatchFacts
 pub mod OutcomeFacts
 pub mod ValidationFacts
+pub mod ValidationLawFacts
 pub mod LawFacts
 pub mod FaultFacts
 pub mod HitFacts

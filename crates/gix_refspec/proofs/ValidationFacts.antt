@@ -29,7 +29,7 @@ abbrev pub meeting : List Mapped
 meeting = branch_to_y ∷ tag_to_x ∷ branch_to_x ∷ tag_again ∷ []
 
 -- the sources are in the order of the mappings, each once, with the canonical texts of their specs
-abbrev conflict : Conflict
+abbrev pub conflict : Conflict
 conflict = record {
   destination = codes "refs/x/a";
   sources = name (codes "refs/tags/a") ∷ name (codes "refs/heads/a") ∷ [];

@@ -21,5 +21,6 @@ pub mod Group
 pub mod Hits
 pub mod MatchLaws
 pub mod Validation
+pub mod ValidationLaws
 pub mod Issue
 pub mod Private

@@ -12,13 +12,14 @@ ghost use Rattle.gix_refspec.specs.Mappings.{IsSamePair};
 ghost use Rattle.gix_refspec.specs.Hits.{KeptOnce, OneForward, OneBackward};
 ghost use Rattle.gix_refspec.specs.MatchLaws.{Transpose, KeptExactly, FirstStays, NothingExcluded, FetchGroupReadsBack, Cover, CoverTogether};
 ghost use Rattle.gix_refspec.specs.Validation.{ForwardFits, PlacesFit, ValidatedOnce};
-ghost use Rattle.gix_refspec.specs.Issue.{IsSameFix, conflict_of};
+ghost use Rattle.gix_refspec.specs.ValidationLaws.{OneValidation, CopiedOutcome};
+ghost use Rattle.gix_refspec.specs.Issue.{IsSameFix, conflict_of, mappings_of};
 ghost use Rattle.gix_refspec.specs.Spec.{reading_of, owned_reading_of};
 ghost use Rattle.gix_refspec.specs.Views.{shown_fetch, shown_push};
 
 use crate::instruction::{Fetch, Push};
 use crate::match_group::validate::{Fix, Issue};
-use crate::match_group::{Item, Mapping, NameRef, SourceRef};
+use crate::match_group::{Item, Mapping, NameRef, Outcome, SourceRef, match_lhs};
 use crate::name::PatternError;
 use crate::oid::{Kind, ObjectId};
 use crate::parsing::Operation;
@@ -195,6 +196,21 @@ pub fn places_fit(group: &MatchGroup<'_>, items: &[Item<'_>])
 /// `match_lhs`, no two have one destination.
 pub fn validated_once(group: &MatchGroup<'_>, items: &[Item<'_>])
     ensures { ValidatedOnce (readings_of group.now) (map ref_of items.now) }
+{}
+
+/// An outcome has one list of conflicts at the most, one of survivors and one of fixes: the contract
+/// of `validated` determines what it answers.
+pub fn one_validation(outcome: &match_lhs::Outcome<'_, '_>)
+    ensures { OneValidation (readings_of outcome.now.group) (mappings_of outcome.now) }
+{}
+
+/// An outcome and what its `clone` gave have the same specs and the same mappings. So both have the
+/// same conflicts, survivors and fixes.
+pub fn copied_outcome<'a, 'b, 'c, const FORWARD: bool>(
+    outcome: &Outcome<'a, 'b, 'c, FORWARD>,
+    copy: &Outcome<'a, 'b, 'c, FORWARD>,
+)
+    ensures { CopiedOutcome outcome.now copy.now }
 {}
 
 /// Two issues are equal exactly where they report the same conflict.

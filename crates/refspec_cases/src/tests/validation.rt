@@ -5,17 +5,22 @@ use bstr::{BStr, BString};
 use gix_refspec::match_group::validate::{Error, Fix, Issue, Refusal};
 use gix_refspec::match_group::{Mapping, NameRef, SourceRef, match_lhs};
 use gix_refspec::oid::ObjectId;
-use gix_refspec::parse;
 use gix_refspec::parsing::Operation;
+use gix_refspec::{laws, parse};
 use std::alloc::Global;
 use std::test::Fail;
 
-// What a validation answers of what a group of these texts gives over items of these names.
-fn validated_matches(alloc: Global, texts: &str, names: &str) -> Result<String, Fail> {
+// What a validation answers of what a group of these texts gives over items of these names, and of a
+// copy of that.
+fn validated_matches(alloc: Global, texts: &str, names: &str) -> Result<(String, String), Fail> {
     let target = ObjectId::from_hex(TARGET.as_bytes())?;
     let items = items_of(alloc, names, &target)?;
     let group = group_of(alloc, Operation::Fetch, texts)?;
-    validated(alloc, group.match_lhs(alloc, items.as_slice())?)
+    let outcome = group.match_lhs(alloc, items.as_slice())?;
+    let copy = outcome.clone(alloc)?;
+    laws::one_validation(&outcome);
+    laws::copied_outcome(&outcome, &copy);
+    Ok((validated(alloc, outcome)?, validated(alloc, copy)?))
 }
 
 // What a validation answers, line by line: `source:destination` for each mapping that is left and
@@ -150,8 +155,9 @@ const MATCHED: [(&str, &str, &str); 17] = [
 fn validates_what_was_matched(rt: HostRuntime) -> Result<(), Fail> {
     let alloc = rt.alloc();
     for (texts, names, told) in MATCHED {
-        let answer = validated_matches(alloc, texts, names)?;
+        let (answer, copied) = validated_matches(alloc, texts, names)?;
         assert_eq!(rt; answer.as_str(), told, "at {texts}");
+        assert_eq!(rt; copied.as_str(), told, "at {texts}, copied");
     }
     Ok(())
 }

@@ -1,0 +1,6 @@
+-- A copy of each mapping is the same as plain data.
+use Rattle.gix_refspec.proofs.OneValidationLemmas.{copied_outcome}
+use Rattle.gix_refspec.proofs.laws.copied_outcome.Goals as goal
+
+pub returns : goal.returns
+returns g c = copied_outcome c.args.outcome.now c.args.copy.now
