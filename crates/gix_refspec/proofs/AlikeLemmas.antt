@@ -1,5 +1,7 @@
--- Fetches whose canonical texts read as one another map alike.
+-- Fetches that are equal, or whose canonical texts read as one another, map alike.
 use Rattle.std.proofs.Common.{◌≡◌, inl, inr, ◌↔◌, ℕ, ◌+◌, Bool, true, false, List, [], ◌∷◌, map, Option, None, Some, refl, sym, ap, ◌∙◌, subst}
+use Rattle.std.specs.Prelude.{nat_eq}
+use Rattle.std.specs.Cmp.Lexicographic.{pointwise}
 use Rattle.std.specs.List.{AllZip}
 use Rattle.std.proofs.lemmas.Bool.{false≢true}
 use Rattle.gix_refspec.specs.declared.parsing.Operation.{Operation}
@@ -8,14 +10,15 @@ use Rattle.gix_refspec.specs.declared.spec.RefSpecRef.{RefSpecRef}
 use Rattle.gix_refspec.specs.Reading.{Mode, Normal, Forced, Negative, Reading}
 use Rattle.gix_refspec.specs.Grammar.{IsPositive, IsAccepted, Reads}
 use Rattle.gix_refspec.specs.Meaning.{Meaning, fetch_only, fetch_exclude, fetch_and_update, meaning, meaning_of}
-use Rattle.gix_refspec.specs.Spec.{reading_of}
+use Rattle.gix_refspec.specs.Spec.{key_of_spec, reading_of}
 use Rattle.gix_refspec.specs.Match.{Ref, Matches, Takes}
 use Rattle.gix_refspec.specs.Lists.{MakesOf, IsMadeFrom, IsJoinedFrom}
 use Rattle.gix_refspec.specs.Mappings.{Start, name, id, Mapped, IsExcludedBy, IsExcluded, IsStartExcluded, Stays, IsKept}
 use Rattle.gix_refspec.specs.Hits.{Ends, AreForwardEnds, AreBackwardEnds, Hit, IsFilled, AreSpecHits, AreHits, IsIdMapping, AreKeptForward, AreKeptBackward}
-use Rattle.gix_refspec.specs.MatchLaws.{ReadsAgainAs, AreReadAgain, MapAlike, FetchGroupReadsBack}
+use Rattle.gix_refspec.specs.MatchLaws.{ReadsAgainAs, AreReadAgain, MapAlike, FetchGroupReadsBack, FetchTheSame, EqualGroups, AreFetches}
+use Rattle.gix_refspec.proofs.EqualLemmas.{same_keys}
 use Rattle.gix_refspec.proofs.FormsBackLemmas.{some_once}
-use Rattle.gix_refspec.proofs.SpecLemmas.{keeps_operation, printed_back, says}
+use Rattle.gix_refspec.proofs.SpecLemmas.{equal_keys, keeps_operation, printed_back, says, says_for_operation}
 
 -- ---- readings alike
 
@@ -251,3 +254,34 @@ map_alike g h items alike = record {
 -- a group of specs maps as what its canonical texts read as
 pub reads_back : (specs : List RefSpecRef) (h : List Reading) (items : List Ref) → FetchGroupReadsBack (map reading_of specs) h items
 reads_back specs h items again = map_alike (map reading_of specs) h items (specs_alike specs h again)
+
+-- specs of one meaning are alike
+equal_alike : (s t : RefSpecRef) → FetchTheSame (reading_of s) (reading_of t) → AreAlike (reading_of s) (reading_of t)
+equal_alike s t equal =
+    let said = says (reading_of s) s.accepted in
+    let fetch = sym (says_for_operation (reading_of t) said.0 (sym equal.same ∙ said.1)) ∙ (says_for_operation (reading_of s) said.0 said.1 ∙ equal.fetch) in
+    said_alike (reading_of s) (reading_of t) said.0 equal.fetch fetch said.1 (sym equal.same)
+
+all_equal_alike : (specs other : List RefSpecRef) → AllZip FetchTheSame (map reading_of specs) (map reading_of other) → AllZip AreAlike (map reading_of specs) (map reading_of other)
+all_equal_alike [] [] equal = tt
+all_equal_alike [] (t ∷ other) equal = absurd equal
+all_equal_alike (s ∷ specs) [] equal = absurd equal
+all_equal_alike (s ∷ specs) (t ∷ other) equal = (equal_alike s t equal.0, all_equal_alike specs other equal.1)
+
+pub equal_groups : (specs other : List RefSpecRef) (items : List Ref) → EqualGroups (map reading_of specs) (map reading_of other) items
+equal_groups specs other items equal = map_alike (map reading_of specs) (map reading_of other) items (all_equal_alike specs other equal)
+
+-- lists of specs that `==` tells equal
+equal_fetches : (specs other : List RefSpecRef) → AreFetches (map reading_of specs) → map (λ (s : RefSpecRef). meaning_of (reading_of s)) specs ≡ map (λ (s : RefSpecRef). meaning_of (reading_of s)) other → AllZip FetchTheSame (map reading_of specs) (map reading_of other)
+equal_fetches [] [] fetches same = tt
+equal_fetches [] (t ∷ other) fetches same = absurd (cc)
+equal_fetches (s ∷ specs) [] fetches same = absurd (cc)
+equal_fetches (s ∷ specs) (t ∷ other) fetches same =
+    let first : meaning_of (reading_of s) ≡ meaning_of (reading_of t) = cc in
+    let rest : map (λ (x : RefSpecRef). meaning_of (reading_of x)) specs ≡ map (λ (x : RefSpecRef). meaning_of (reading_of x)) other = cc in
+    (record { fetch = fetches.0; same = first }, equal_fetches specs other fetches.1 rest)
+
+pub equal_lists : (specs other : List RefSpecRef) (items : List Ref) → pointwise (λ (a : RefSpecRef) (b : RefSpecRef). pointwise (pointwise nat_eq) (key_of_spec a) (key_of_spec b)) specs other ≡ true → AreFetches (map reading_of specs) → MapAlike (map reading_of specs) (map reading_of other) items
+equal_lists specs other items told fetches =
+    let same = (same_keys (λ (a : RefSpecRef) (b : RefSpecRef). pointwise (pointwise nat_eq) (key_of_spec a) (key_of_spec b)) (λ (s : RefSpecRef). meaning_of (reading_of s)) (λ a b. equal_keys (meaning_of (reading_of a)) (meaning_of (reading_of b))) specs other).0 told in
+    equal_groups specs other items (equal_fetches specs other fetches same)

@@ -66,6 +66,7 @@ pub mod OutcomeFacts
 pub mod ValidationFacts
 pub mod ValidationLawFacts
 pub mod LawFacts
+pub mod EqualGroupFacts
 pub mod FaultFacts
 pub mod HitFacts
 pub mod CandidateFacts

@@ -9,7 +9,7 @@ use Rattle.gix_refspec.specs.Name.{HasStar}
 use Rattle.gix_refspec.specs.Bytes.{star, head}
 use Rattle.gix_refspec.specs.Reading.{Reading}
 use Rattle.gix_refspec.specs.Grammar.{IsPositive, Reads}
-use Rattle.gix_refspec.specs.Meaning.{printed}
+use Rattle.gix_refspec.specs.Meaning.{meaning_of, printed}
 use Rattle.gix_refspec.specs.Side.{object, HasKind}
 use Rattle.gix_refspec.specs.Match.{Ref, HasName, Matches, Takes}
 use Rattle.gix_refspec.specs.Prefix.{IsPrefix, IsAsked, IsExpansion}
@@ -124,6 +124,20 @@ pub record MapAlike (g h : List Reading) (items : List Ref) : Type 0 where
 -- a group of fetches maps as the group that its canonical texts read as
 abbrev pub FetchGroupReadsBack : List Reading → List Reading → List Ref → Type 0
 FetchGroupReadsBack g h items = AreReadAgain g h → MapAlike g h items
+
+-- the readings are fetches that say the same: only the force of one without a destination may differ. Pushes fall
+-- outside: `main` and `main:main` say the same, and only the second has a destination
+pub record FetchTheSame (r q : Reading) : Type 0 where
+  pub fetch : r.operation ≡ Fetch
+  pub same : meaning_of r ≡ meaning_of q
+
+-- groups of fetches that say the same, place by place, map alike
+abbrev pub EqualGroups : List Reading → List Reading → List Ref → Type 0
+EqualGroups g h items = AllZip FetchTheSame g h → MapAlike g h items
+
+-- each reading is a fetch
+abbrev pub AreFetches : List Reading → Type 0
+AreFetches g = AllByRecursion (λ r. r.operation ≡ Fetch) g
 
 -- ---- what covers the sources of a group
 

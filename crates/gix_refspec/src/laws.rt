@@ -10,7 +10,7 @@ ghost use Rattle.gix_refspec.specs.Order.{is_same, order, place_of};
 ghost use Rattle.gix_refspec.specs.Group.{mapped_of, name_bytes, ref_of, readings_of, start_of};
 ghost use Rattle.gix_refspec.specs.Mappings.{IsSamePair};
 ghost use Rattle.gix_refspec.specs.Hits.{KeptOnce, OneForward, OneBackward};
-ghost use Rattle.gix_refspec.specs.MatchLaws.{Transpose, KeptExactly, FirstStays, NothingExcluded, FetchGroupReadsBack, Cover, CoverTogether};
+ghost use Rattle.gix_refspec.specs.MatchLaws.{Transpose, KeptExactly, FirstStays, NothingExcluded, MapAlike, FetchGroupReadsBack, EqualGroups, AreFetches, Cover, CoverTogether};
 ghost use Rattle.gix_refspec.specs.Validation.{ForwardFits, PlacesFit, ValidatedOnce};
 ghost use Rattle.gix_refspec.specs.ValidationLaws.{OneValidation, CopiedOutcome};
 ghost use Rattle.gix_refspec.specs.Issue.{IsSameFix, conflict_of, mappings_of};
@@ -170,6 +170,16 @@ pub fn nothing_excluded(group: &MatchGroup<'_>, items: &[Item<'_>])
 pub fn fetch_group_reads_back(group: &MatchGroup<'_>, again: &MatchGroup<'_>, items: &[Item<'_>])
     ensures { FetchGroupReadsBack
         (readings_of group.now) (readings_of again.now) (map ref_of items.now) }
+{}
+
+/// Two groups of fetches that are equal by `==`, spec by spec, map alike: in both directions and over
+/// all items. Only the force of a spec without a destination may differ.
+pub fn equal_groups<'a>(group: &MatchGroup<'a>, other: &MatchGroup<'a>, items: &[Item<'_>])
+    ensures meaning { EqualGroups
+        (readings_of group.now) (readings_of other.now) (map ref_of items.now) }
+    ensures equal { IsTrue (⟦<Vec<RefSpecRef<'a>> as PartialEq>⟧.eq group.now.specs other.now.specs) →
+        AreFetches (readings_of group.now) →
+        MapAlike (readings_of group.now) (readings_of other.now) (map ref_of items.now) }
 {}
 
 /// Each name that a group of fetches maps from left to right begins with an entry of what its specs

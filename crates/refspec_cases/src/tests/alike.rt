@@ -74,6 +74,61 @@ fn maps_as_the_canonical_texts(rt: HostRuntime) -> Result<(), Fail> {
     Ok(())
 }
 
+#[test]
+fn equal_fetches_map_alike(rt: HostRuntime) -> Result<(), Fail> {
+    // Two groups, whether they are equal, names, and the mappings of each from left to right.
+    let rows = [
+        (
+            "+main @:refs/x/h",
+            "main HEAD:refs/x/h",
+            true,
+            "refs/heads/main HEAD",
+            "0 0 refs/heads/main -\n1 1 HEAD refs/x/h\n",
+            "0 0 refs/heads/main -\n1 1 HEAD refs/x/h\n",
+        ),
+        (
+            "main @",
+            "@ main",
+            false,
+            "refs/heads/main HEAD",
+            "0 0 refs/heads/main -\n1 1 HEAD -\n",
+            "1 0 HEAD -\n0 1 refs/heads/main -\n",
+        ),
+        (
+            "+main:refs/x",
+            "main:refs/x",
+            false,
+            "refs/heads/main",
+            "0 0 refs/heads/main refs/x\n",
+            "0 0 refs/heads/main refs/x\n",
+        ),
+        (
+            "main ^@",
+            "main",
+            false,
+            "refs/heads/main",
+            "0 0 refs/heads/main -\n",
+            "0 0 refs/heads/main -\n",
+        ),
+    ];
+    let alloc = rt.alloc();
+    let target = ObjectId::from_hex(TARGET.as_bytes())?;
+    for (specs, others, equal, names, wanted, of_others) in rows {
+        let items = items_of(alloc, names, &target)?;
+        let group = group_of(alloc, Operation::Fetch, specs)?;
+        let other = group_of(alloc, Operation::Fetch, others)?;
+        laws::equal_groups(&group, &other, items.as_slice());
+        assert_eq!(rt; group.specs == other.specs, equal, "{specs} and {others}");
+        let group = group.match_lhs(alloc, items.as_slice())?;
+        let found = lines(alloc, group.mappings.as_slice())?;
+        assert_eq!(rt; found.as_str(), wanted, "{specs}");
+        let other = other.match_lhs(alloc, items.as_slice())?;
+        let found = lines(alloc, other.mappings.as_slice())?;
+        assert_eq!(rt; found.as_str(), of_others, "{others}");
+    }
+    Ok(())
+}
+
 // Whether a mapping's source is an id, or begins with one of the entries.
 fn is_covered(mapping: &Mapping<'_, '_>, entries: &[BString]) -> bool {
     match &mapping.lhs {

@@ -1,0 +1,11 @@
+-- Equal fetches have the same sides, and both are negative or neither.
+use Rattle.std.proofs.Common.{map}
+use Rattle.gix_refspec.specs.Group.{ref_of}
+use Rattle.gix_refspec.proofs.AlikeLemmas.{equal_groups, equal_lists}
+use Rattle.gix_refspec.proofs.laws.equal_groups.Goals as goal
+
+pub returns-clause-meaning : goal.returns-clause-meaning
+returns-clause-meaning c = equal_groups c.args.group.now.specs.items c.args.other.now.specs.items (map ref_of c.args.items.now)
+
+pub returns-clause-equal : goal.returns-clause-equal
+returns-clause-equal c = equal_lists c.args.group.now.specs.items c.args.other.now.specs.items (map ref_of c.args.items.now)
