@@ -1,7 +1,7 @@
 -- The words that only laws cite, on each side of what they ask: which specs go both ways, which
 -- sources are covering, what a spec reads as again, and what a group expands to.
 use Rattle.std.proofs.Common.{◌≡◌, ◌≢◌, ◌⊎◌, ◌<◌, ℕ, zero, suc, List, [], ◌∷◌, ◌++◌, Option, None, Some, length, codes, refl, sym, ap, ◌∙◌, subst, inl, inr, arith}
-use Rattle.std.specs.List.{AllByRecursion, Any}
+use Rattle.std.specs.List.{AllByRecursion}
 use Rattle.gix_refspec.specs.declared.parsing.Operation.TheVariants.{Push, Fetch}
 use Rattle.gix_refspec.specs.Text.{Begins}
 use Rattle.gix_refspec.specs.Name.{HasStar, IsPattern}
@@ -24,8 +24,8 @@ use Rattle.gix_refspec.specs.declared.name.Error.{Error as NameError}
 use Rattle.gix_refspec.specs.declared.name.Error.TheVariants.{LockSuffix, RepeatedDot}
 use Rattle.gix_refspec.specs.declared.oid.Error.{Error as IdError}
 use Rattle.gix_refspec.specs.declared.oid.Error.TheVariants.{Length}
-use Rattle.gix_refspec.specs.Prefix.{IsPrefix, Expands, of_head, of_name, of_pattern, to_prefix, to_candidates}
-use Rattle.gix_refspec.specs.MatchLaws.{MapAlike, AreReadAgain, EachSource, Transpose, Cover, CoverTogether, FetchGroupReadsBack, IsCoveredBy, IsSourceAmong, IsDestinationAmong, GoesBothWays, ReadsAgainAs, IsCovering, by_prefix, by_candidates, HasCoveringSource, BeginsWithOne, AreExpansions}
+use Rattle.gix_refspec.specs.Prefix.{IsAsked, IsPrefix, Expands, of_head, of_name, of_pattern, to_prefix, to_candidates}
+use Rattle.gix_refspec.specs.MatchLaws.{MapAlike, AreReadAgain, AsksFor, AtSpec, EachSource, Transpose, Cover, CoverTogether, FetchGroupReadsBack, IsCoveredBy, IsSourceAmong, IsDestinationAmong, GoesBothWays, ReadsAgainAs, IsCovering, by_prefix, by_candidates, HasCoveringSource, BeginsWithOne, AreExpansions}
 use Rattle.gix_refspec.proofs.TextLemmas.{Lacks-here, Lacks-Holds}
 use Rattle.gix_refspec.proofs.TestedLemmas.{IsName-tested}
 use Rattle.gix_refspec.proofs.MatchLemmas.{cut_once, outside_none}
@@ -36,7 +36,7 @@ use Rattle.gix_refspec.proofs.FaultFacts.{begins_not}
 use Rattle.gix_refspec.proofs.UnreadFacts.{unbalanced_fetches}
 use Rattle.gix_refspec.proofs.ObjectIdFacts.{empty_blob, IsIdText-empty_blob, lower_of-empty_blob, HasIdFault-length}
 use Rattle.gix_refspec.proofs.ValidationFacts.{both_to_x, foo_fix, validated}
-use Rattle.gix_refspec.proofs.MatchFacts.{bytes_in, tracked, fetches_all_but_dev, tracks_all_but_dev, tracks_nothing, tag_to_x, tag_to_foo, tag_alone, cut_at_end, every, no_dev, short, short_kind, other_byte}
+use Rattle.gix_refspec.proofs.MatchFacts.{bytes_in, mapping, tracked, fetches_all_but_dev, tracks_all_but_dev, tracks_nothing, tag_to_x, tag_to_foo, tag_alone, cut_at_end, every, no_dev, short, short_kind, other_byte}
 
 -- ---- both directions
 
@@ -210,15 +210,59 @@ looked_up law m back = ((law (go_both_ways.0, (go_both_ways.3, tt)) (tracked 2 (
 pub looked_back : Transpose (every ∷ no_dev ∷ []) remote_refs tracking_refs → (l : List Mapped) → AreKeptForward (every ∷ no_dev ∷ []) remote_refs l → HasPair l (tracked 0 (codes "main"))
 looked_back law l forward = ((law (go_both_ways.0, (go_both_ways.3, tt)) l (tracked 1 (codes "main") ∷ []) forward tracks_all_but_dev (tracked 0 (codes "main"))).1 (inl (record { source = refl; destination = refl }), inr (inr (inl refl)))).0
 
+one_reading : (q r : Reading) → Some q ≡ Some r → q ≡ r
+one_reading q r same = cc
+
 every_covering : HasCoveringSource every
 every_covering = record { fetch = refl; source = λ x asked. subst IsCovering (some_once (codes "refs/heads/*") x asked.side) covering.0 }
 
--- the branch begins with an entry of some spec, and with one of those of all
-pub covered : Cover (every ∷ no_dev ∷ []) remote_refs → Any (IsCoveredBy (codes "refs/heads/main")) (every ∷ no_dev ∷ [])
-covered law = (law (every_covering, (covering_sources.0, tt)) (tracked 2 (codes "main") ∷ []) fetches_all_but_dev).0 (codes "refs/heads/main") refl
+-- `HEAD` asks for the name `HEAD`, and for no other
+abbrev head_spec : Reading
+head_spec = fetched Normal (codes "HEAD") None
+
+pub head_asks : AsksFor head_spec (codes "HEAD") × ¬ (AsksFor head_spec (codes "refs/heads/HEAD"))
+head_asks = (inr (refl, asked, refl), no_branch)
+  where
+    asked : IsAsked head_spec (codes "HEAD")
+    asked = record { positive = tt; side = refl }
+
+    no_branch : ¬ (AsksFor head_spec (codes "refs/heads/HEAD"))
+    no_branch (inl has) = not_covering.0 (has.source (codes "HEAD") asked)
+    no_branch (inr (fetch, also, same)) = other_length (codes "refs/heads/HEAD") (codes "HEAD") (λ size. omega (arith, size)) same
+
+-- a covering source asks for each name, and a push for none, not even that of `HEAD`
+pub every_asks : (n : List ℕ) → AsksFor every n × ¬ (AsksFor (pushed Normal (Some (codes "HEAD")) None) n)
+every_asks n = (inl every_covering, no_push)
+  where
+    no_push : ¬ (AsksFor (pushed Normal (Some (codes "HEAD")) None) n)
+    no_push (inl has) = push_is_none has.fetch
+    no_push (inr (fetch, asked, same)) = push_is_none fetch
+
+-- the spec of a mapping is the one at its place
+pub at_its_spec : (P : Reading → Type 0) → AtSpec (no_dev ∷ every ∷ []) (mapping 0 (codes "refs/heads/main") None 1) P → P every
+at_its_spec P (r, here, holds) = subst P (sym (one_reading every r here)) holds
+
+pub no_spec_there : (P : Reading → Type 0) → ¬ (AtSpec (every ∷ []) (mapping 0 (codes "refs/heads/main") None 1) P)
+no_spec_there P (r, here, holds) = absurd (cc)
+
+-- the branch begins with an entry of its spec, and with one of those of all, whatever the other specs are
+pub covered : Cover (every ∷ no_dev ∷ []) remote_refs → IsCoveredBy (codes "refs/heads/main") every
+covered law =
+    let (r, here, covers) = (law (tracked 2 (codes "main") ∷ []) fetches_all_but_dev).0 (codes "refs/heads/main") refl in
+    let same : every ≡ r = one_reading every r here in
+    subst (IsCoveredBy (codes "refs/heads/main")) (sym same) (covers (subst (λ (q : Reading). AsksFor q (codes "refs/heads/main")) same (inl every_covering)))
+
+pub covered_among_others : (others : List Reading) (kept : List Mapped) → Cover (every ∷ others) remote_refs → AreKeptForward (every ∷ others) remote_refs (tracked 2 (codes "main") ∷ kept) → IsCoveredBy (codes "refs/heads/main") every
+covered_among_others others kept law are =
+    let (r, here, covers) = (law (tracked 2 (codes "main") ∷ kept) are).0 (codes "refs/heads/main") refl in
+    let same : every ≡ r = one_reading every r here in
+    subst (IsCoveredBy (codes "refs/heads/main")) (sym same) (covers (subst (λ (q : Reading). AsksFor q (codes "refs/heads/main")) same (inl every_covering)))
 
 pub covered_together : CoverTogether (every ∷ no_dev ∷ []) remote_refs → (entries : List (List ℕ)) → AreExpansions (every ∷ no_dev ∷ []) entries → BeginsWithOne entries (codes "refs/heads/main")
-covered_together law entries are = (law (every_covering, (covering_sources.0, tt)) entries are (tracked 2 (codes "main") ∷ []) fetches_all_but_dev).0 (codes "refs/heads/main") refl
+covered_together law entries are =
+    let (r, here, covers) = (law entries are (tracked 2 (codes "main") ∷ []) fetches_all_but_dev).0 (codes "refs/heads/main") refl in
+    let same : every ≡ r = one_reading every r here in
+    covers (subst (λ (q : Reading). AsksFor q (codes "refs/heads/main")) same (inl every_covering))
 
 -- a group maps in both directions as the one that was read from its texts
 pub mapped_alike : FetchGroupReadsBack (fetched Forced (codes "main") None ∷ []) (short ∷ []) (named (codes "refs/heads/main") ∷ []) → (kept : List Mapped)
@@ -383,12 +427,16 @@ read_again = ((reads_unforced, (reads_itself, tt)), (λ none. none), (λ none. n
 pub all_alike : (g h : List Reading) (items : List Ref) → MapAlike g h items → (kept : List Mapped) → (AreKeptForward h items kept → AreKeptForward g items kept) × (AreKeptBackward g items kept → AreKeptBackward h items kept)
 all_alike g h items alike kept = ((alike.forward kept).1, (alike.backward kept).0)
 
--- what holds of each source holds of the branch, and there is no mapping beside it
-pub each_source : (P : List ℕ → Type 0) → EachSource (every ∷ no_dev ∷ []) remote_refs P → P (codes "refs/heads/main")
-each_source P each = (each (tracked 2 (codes "main") ∷ []) fetches_all_but_dev).0 (codes "refs/heads/main") refl
+-- what holds of each source and its spec holds of the branch, and there is no mapping beside it
+pub each_source : (P : Reading → List ℕ → Type 0) → EachSource (every ∷ no_dev ∷ []) remote_refs P → P every (codes "refs/heads/main")
+each_source P each =
+    let (r, here, holds) = (each (tracked 2 (codes "main") ∷ []) fetches_all_but_dev).0 (codes "refs/heads/main") refl in
+    subst (λ (q : Reading). P q (codes "refs/heads/main")) (sym (one_reading every r here)) holds
 
-pub no_tag_source : OneForward (every ∷ no_dev ∷ []) remote_refs → EachSource (every ∷ no_dev ∷ []) remote_refs (λ n. n ≡ codes "refs/heads/main")
-no_tag_source law kept are = subst (AllByRecursion (λ m. (n : List ℕ) → m.source ≡ name n → n ≡ codes "refs/heads/main")) (sym (law kept (tracked 2 (codes "main") ∷ []) are fetches_all_but_dev)) ((λ n is. sym (ap bytes_in is)), tt)
+pub no_tag_source : OneForward (every ∷ no_dev ∷ []) remote_refs → EachSource (every ∷ no_dev ∷ []) remote_refs (λ r n. (r ≡ every) × (n ≡ codes "refs/heads/main"))
+no_tag_source law kept are =
+    subst (AllByRecursion (λ m. (n : List ℕ) → m.source ≡ name n → AtSpec (every ∷ no_dev ∷ []) m (λ r. (r ≡ every) × (n ≡ codes "refs/heads/main")))) (sym (law kept (tracked 2 (codes "main") ∷ []) are fetches_all_but_dev))
+    ((λ n is. (every, refl, (refl, sym (ap bytes_in is)))), tt)
 
 -- a name outside what a spec expands to isn't covered by it
 pub not_covered : OnePrefix (codes "refs/heads/*") → ¬ (IsCoveredBy (codes "refs/tags/v1") every) × ¬ (IsCoveredBy (codes "refs/heads/dev-a") no_dev)

@@ -46,6 +46,7 @@ pub mod TransposeLemmas
 pub mod PairMadeLemmas
 pub mod FirstStaysLemmas
 pub mod CoverLemmas
+pub mod PremiseLemmas
 pub mod AlikeLemmas
 pub mod ClaimLemmas
 pub mod FirstLemmas

@@ -21,8 +21,8 @@ record IsPlacedHit (n : ℕ) (items : List Ref) (h : Hit) : Type 0 where
   stands : slice_get items h.item ≡ Some ref
   named : h.near ≡ ref.name
 
--- the ref behind the front of a list stands at its place
-stands_behind : (before : List Ref) (r : Ref) (after : List Ref) → slice_get (before ++ (r ∷ after)) (length before) ≡ Some r
+-- what is behind the front of a list stands at its place
+pub stands_behind : {X : Type 0} (before : List X) (r : X) (after : List X) → slice_get (before ++ (r ∷ after)) (length before) ≡ Some r
 stands_behind [] r after = refl
 stands_behind (b ∷ before) r after = stands_behind before r after
 

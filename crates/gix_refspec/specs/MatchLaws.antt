@@ -2,7 +2,7 @@
 -- sources of a group.
 -- They follow from the words of Mappings and Hits, and settle nothing.
 use Rattle.std.specs.Prelude.{◌≡◌, ◌≢◌, ◌⊎◌, ◌↔◌, ℕ, List, ◌∷◌, ◌++◌, codes, Option, None, Some}
-use Rattle.std.specs.List.{AllByRecursion, AllZip, Any, Contains}
+use Rattle.std.specs.List.{AllByRecursion, AllZip, Any, Contains, slice_get}
 use Rattle.gix_refspec.specs.declared.parsing.Operation.TheVariants.{Fetch}
 use Rattle.gix_refspec.specs.Text.{Lacks, Begins}
 use Rattle.gix_refspec.specs.Name.{HasStar}
@@ -167,15 +167,24 @@ pub record IsCoveredBy (n : List ℕ) (r : Reading) : Type 0 where
 abbrev pub AreExpansions : List Reading → List (List ℕ) → Type 0
 AreExpansions g entries = IsJoinedFrom (λ k r list. IsExpansion r list) 0 g entries
 
--- of the mappings from left to right that stay, each name that is a source is as P says
-abbrev pub EachSource : List Reading → List Ref → (List ℕ → Type 0) → Type 0
-EachSource g items P = (kept : List Mapped) → AreKeptForward g items kept → AllByRecursion (λ m. (n : List ℕ) → m.source ≡ name n → P n) kept
+-- the names that the reading takes begin with what it expands to, where n is one of them: its source is covering, or it
+-- is a fetch of `HEAD` and n is `HEAD`
+abbrev pub AsksFor : Reading → List ℕ → Type 0
+AsksFor r n = HasCoveringSource r ⊎ ((r.operation ≡ Fetch) × IsAsked r head × (n ≡ head))
 
--- where each source is covering, each name that a group of fetches maps from left to right begins with an
--- entry of what some spec expands to
+-- the spec of the mapping stands at its place in the group, and its reading is as P says
+abbrev pub AtSpec : List Reading → Mapped → (Reading → Type 0) → Type 0
+AtSpec g m P = (r : Reading) × (slice_get g m.spec ≡ Some r) × P r
+
+-- of the mappings from left to right that stay, each name that is a source, with the reading of its spec, is as P says
+abbrev pub EachSource : List Reading → List Ref → (Reading → List ℕ → Type 0) → Type 0
+EachSource g items P = (kept : List Mapped) → AreKeptForward g items kept → AllByRecursion (λ m. (n : List ℕ) → m.source ≡ name n → AtSpec g m (λ r. P r n)) kept
+
+-- each name that a spec maps from left to right begins with an entry of what this spec expands to, where that asks for
+-- it, whatever the other specs are
 abbrev pub Cover : List Reading → List Ref → Type 0
-Cover g items = AllByRecursion HasCoveringSource g → EachSource g items (λ n. Any (IsCoveredBy n) g)
+Cover g items = EachSource g items (λ r n. AsksFor r n → IsCoveredBy n r)
 
 -- and so with one of the entries of all specs
 abbrev pub CoverTogether : List Reading → List Ref → Type 0
-CoverTogether g items = AllByRecursion HasCoveringSource g → (entries : List (List ℕ)) → AreExpansions g entries → EachSource g items (BeginsWithOne entries)
+CoverTogether g items = (entries : List (List ℕ)) → AreExpansions g entries → EachSource g items (λ r n. AsksFor r n → BeginsWithOne entries n)

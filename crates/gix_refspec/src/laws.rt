@@ -182,9 +182,10 @@ pub fn equal_groups<'a>(group: &MatchGroup<'a>, other: &MatchGroup<'a>, items: &
         MapAlike (readings_of group.now) (readings_of other.now) (map ref_of items.now) }
 {}
 
-/// Each name that a group of fetches maps from left to right begins with an entry of what its specs
-/// expand to. Each positive source has to begin `refs/` and have a prefix, or to be a partial name
-/// other than `HEAD`, or an id.
+/// Each name that a fetch of a group maps from left to right begins with an entry of what this spec
+/// expands to, whatever the other specs are, and so with one of the entries of all. Its source has to
+/// begin `refs/` and have a prefix, or to be a partial name other than `HEAD`, or an id. Of `HEAD` the
+/// name `HEAD` alone is covered, since it takes `refs/heads/HEAD` too where there is no `HEAD`.
 pub fn cover(group: &MatchGroup<'_>, items: &[Item<'_>])
     ensures some { Cover (readings_of group.now) (map ref_of items.now) }
     ensures together { CoverTogether (readings_of group.now) (map ref_of items.now) }

@@ -6,9 +6,11 @@ ghost use Rattle.bstr.specs.Owned.{bstring_bytes};
 ghost use Rattle.gix_refspec.specs.Name.{HasOneStar, HasSeveralStars};
 ghost use Rattle.gix_refspec.specs.Bytes.{head};
 ghost use Rattle.gix_refspec.specs.Prefix.{TellsPrefix, HasNoPrefix, IsPrefix, Expands, HasPrefix, IsExpansion, AppendsExpansion, IsAsked};
+ghost use Rattle.gix_refspec.specs.MatchLaws.{IsCovering, HasCoveringSource};
 ghost use Rattle.gix_refspec.specs.Spec.{reading_of};
 
 use crate::cut::holds;
+use crate::parsing::Operation;
 use crate::side::{SideKind, below_refs, candidates, kind_of};
 use crate::spec::RefSpecRef;
 use crate::types::Mode;
@@ -59,6 +61,21 @@ impl<'a> RefSpecRef<'a> {
         out.append(&mut entries)
     }
 
+    /// Whether each name that the spec maps from left to right begins with an entry of `expand_prefixes`,
+    /// by the law `cover`. True of a negative fetch, and of one whose source begins `refs/` and has a
+    /// prefix, or is an id or a partial name other than `HEAD`. False of each push.
+    pub fn has_covering_source(&self) -> bool
+        ensures { IsTrue result ↔ HasCoveringSource (reading_of self.now) }
+    {
+        if self.op != Operation::Fetch {
+            return false;
+        }
+        match self.asked_side() {
+            None => true,
+            Some(side) => is_covering(side),
+        }
+    }
+
     // The side that names refs of the remote, of a positive spec.
     fn asked_side(&self) -> Option<&'a [u8]>
         ensures { MatchOption result
@@ -100,6 +117,18 @@ fn tells_prefix(before: &[u8], after: &[u8]) -> bool
     match below_refs(before) {
         None | Some([]) => false,
         Some(_) => !holds(before, b']') && !holds(after, b']'),
+    }
+}
+
+// Whether each name that a source takes begins with an entry of what it is expanded to.
+fn is_covering(source: &[u8]) -> bool
+    requires { ¬ (HasSeveralStars source.now) }
+    ensures { IsTrue result ↔ IsCovering source.now }
+{
+    match kind_of(source) {
+        SideKind::Pattern { before, after } => tells_prefix(before, after),
+        SideKind::FullName(_) | SideKind::Object(_) => true,
+        SideKind::Partial(name) => !is_head(name),
     }
 }
 

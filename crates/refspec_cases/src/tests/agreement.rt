@@ -36,31 +36,49 @@ fn pairs(
     Ok(text)
 }
 
-// Specs, items on the left, items on the right, and the pairs of these that are mapped from left to
-// right, and from right to left.
-const ROWS: [(&str, &str, &str, &str, &str); 4] = [
+// Specs, whether they go both ways, items on the left, items on the right, and the pairs of these that are mapped from
+// left to right, and from right to left.
+const ROWS: [(&str, bool, &str, &str, &str, &str); 5] = [
     (
-        "refs/heads/*:refs/x/* refs/heads/a:refs/y/a ^refs/heads/b",
+        "refs/heads/*:refs/x/* refs/heads/a:refs/y/a ^refs/heads/b main",
+        true,
         "refs/heads/a refs/heads/b refs/heads/a",
         "refs/x/a refs/x/b refs/y/a",
         "refs/heads/a refs/x/a\nrefs/heads/a refs/y/a\n",
         "refs/heads/a refs/x/a\nrefs/heads/a refs/y/a\n",
     ),
-    // These three don't go both ways.
     (
         "main:refs/x/main",
+        false,
         "refs/tags/main",
         "refs/x/main",
         "refs/tags/main refs/x/main\n",
         "",
     ),
-    ("HEAD:refs/x/h", "HEAD", "refs/x/h", "HEAD refs/x/h\n", ""),
+    (
+        "HEAD:refs/x/h",
+        false,
+        "HEAD",
+        "refs/x/h",
+        "HEAD refs/x/h\n",
+        "",
+    ),
     (
         "refs/heads/a:b",
+        false,
         "refs/heads/a",
         "refs/tags/b",
         "",
         "refs/heads/a refs/tags/b\n",
+    ),
+    // One spec among others that doesn't.
+    (
+        "refs/heads/*:refs/x/* refs/heads/a:b ^refs/heads/c",
+        false,
+        "refs/heads/a",
+        "refs/x/a",
+        "refs/heads/a refs/x/a\n",
+        "refs/heads/a refs/x/a\n",
     ),
 ];
 
@@ -68,11 +86,13 @@ const ROWS: [(&str, &str, &str, &str, &str); 4] = [
 fn agrees_in_both_directions(rt: HostRuntime) -> Result<(), Fail> {
     let alloc = rt.alloc();
     let target = ObjectId::from_hex(b"1111111111111111111111111111111111111111")?;
-    for (specs, left, right, forward, backward) in ROWS {
+    for (specs, both, left, right, forward, backward) in ROWS {
         let left = items_of(alloc, left, &target)?;
         let right = items_of(alloc, right, &target)?;
         let (left, right) = (left.as_slice(), right.as_slice());
         let group = group_of(alloc, Operation::Fetch, specs)?;
+        let goes = group.goes_both_ways();
+        assert_eq!(&rt; goes, both, "{specs}");
         laws::transpose(&group, left, right);
         let there = group.match_lhs(alloc, left)?;
         let found = pairs(alloc, there.mappings.as_slice(), left, right)?;

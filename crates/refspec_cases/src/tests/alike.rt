@@ -140,52 +140,75 @@ fn is_covered(mapping: &Mapping<'_, '_>, entries: &[BString]) -> bool {
     }
 }
 
+// Specs, names, the mappings, whether each spec has a covering source, and whether entries cover the
+// sources of the mappings.
+const COVERING: [(&str, &str, &str, bool, bool); 7] = [
+    (
+        "main refs/heads/*:refs/x/*",
+        "refs/remotes/main/HEAD refs/heads/z",
+        "0 0 refs/remotes/main/HEAD -\n1 1 refs/heads/z =refs/x/z\n",
+        true,
+        true,
+    ),
+    (
+        "1111111111111111111111111111111111111111 refs/a]b ^refs/heads/*",
+        "refs/a]b refs/heads/z",
+        "- 0 1111111111111111111111111111111111111111 -\n0 1 refs/a]b -\n",
+        true,
+        true,
+    ),
+    // `HEAD` asks for that name alone, and takes nothing from the specs beside it.
+    (
+        "HEAD refs/heads/*:refs/x/*",
+        "HEAD refs/heads/z",
+        "0 0 HEAD -\n1 1 refs/heads/z =refs/x/z\n",
+        false,
+        true,
+    ),
+    // Outside what the law asks of the sources.
+    (
+        "HEAD",
+        "refs/heads/HEAD",
+        "0 0 refs/heads/HEAD -\n",
+        false,
+        false,
+    ),
+    (
+        "*:refs/x/*",
+        "refs/heads/z",
+        "0 0 refs/heads/z =refs/x/refs/heads/z\n",
+        false,
+        false,
+    ),
+    (
+        "refs/*:refs/x/*",
+        "refs/heads/z",
+        "0 0 refs/heads/z =refs/x/heads/z\n",
+        false,
+        false,
+    ),
+    (
+        "refs/*/head:refs/x/*",
+        "refs/a/head",
+        "0 0 refs/a/head =refs/x/a\n",
+        false,
+        false,
+    ),
+];
+
 #[test]
 fn covers_the_sources(rt: HostRuntime) -> Result<(), Fail> {
-    // Specs, names, the mappings, and whether entries cover their sources.
-    let rows = [
-        (
-            "main refs/heads/*:refs/x/*",
-            "refs/remotes/main/HEAD refs/heads/z",
-            "0 0 refs/remotes/main/HEAD -\n1 1 refs/heads/z =refs/x/z\n",
-            true,
-        ),
-        (
-            "1111111111111111111111111111111111111111 refs/a]b ^refs/heads/*",
-            "refs/a]b refs/heads/z",
-            "- 0 1111111111111111111111111111111111111111 -\n0 1 refs/a]b -\n",
-            true,
-        ),
-        // Outside what the law asks of the sources.
-        ("HEAD", "refs/heads/HEAD", "0 0 refs/heads/HEAD -\n", false),
-        (
-            "*:refs/x/*",
-            "refs/heads/z",
-            "0 0 refs/heads/z =refs/x/refs/heads/z\n",
-            false,
-        ),
-        (
-            "refs/*:refs/x/*",
-            "refs/heads/z",
-            "0 0 refs/heads/z =refs/x/heads/z\n",
-            false,
-        ),
-        (
-            "refs/*/head:refs/x/*",
-            "refs/a/head",
-            "0 0 refs/a/head =refs/x/a\n",
-            false,
-        ),
-    ];
     let alloc = rt.alloc();
     let target = ObjectId::from_hex(TARGET.as_bytes())?;
-    for (specs, names, wanted, covered) in rows {
+    for (specs, names, wanted, covering, covered) in COVERING {
         let items = items_of(alloc, names, &target)?;
         let group = group_of(alloc, Operation::Fetch, specs)?;
         let mut entries = Vec::new(alloc);
         for spec in &group.specs {
             spec.expand_prefixes(alloc, &mut entries)?;
         }
+        let has = group.has_covering_sources();
+        assert_eq!(rt; has, covering, "{specs}");
         laws::cover(&group, items.as_slice());
         let outcome = group.match_lhs(alloc, items.as_slice())?;
         let found = lines(alloc, outcome.mappings.as_slice())?;

@@ -1,0 +1,17 @@
+-- a spec that isn't so is against the claim
+use Rattle.std.proofs.Common.{List, map, sym, subst}
+use Rattle.std.specs.List.{AllByRecursion}
+use Rattle.gix_refspec.specs.declared.spec.RefSpecRef.{RefSpecRef}
+use Rattle.gix_refspec.specs.MatchLaws.{HasCoveringSource}
+use Rattle.gix_refspec.specs.Spec.{reading_of}
+use Rattle.std.proofs.lemmas.Bool.{false≢true}
+use Rattle.gix_refspec.proofs.PremiseLemmas.{each_reading}
+use Rattle.gix_refspec.proofs.match_group.types.MatchGroup.has_covering_sources.Goals as goal
+
+pub returns-then-not-has_covering_source : goal.returns-then-not-has_covering_source
+returns-then-not-has_covering_source c = (
+  (λ none. absurd (false≢true none)),
+  (λ all.
+      let told = subst (λ (xs : List RefSpecRef). AllByRecursion HasCoveringSource (map reading_of xs)) (sym c.deref-spec-items.ensures.value) all in
+      absurd (false≢true (c.if-not-has_covering_source.ensures.1 (each_reading HasCoveringSource c.deref-spec-items.result.now c.loop-spec.spec-index c.spec-item.result told c.loop-spec-test.true c.spec-item.is)))),
+)

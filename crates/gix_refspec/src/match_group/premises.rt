@@ -1,0 +1,74 @@
+//! Which groups are as the laws on matching ask.
+
+ghost use Rattle.std.specs.Prelude.{◌↔◌, IsTrue, codes};
+ghost use Rattle.std.specs.List.{AllByRecursion};
+ghost use Rattle.gix_refspec.specs.Text.{Begins};
+ghost use Rattle.gix_refspec.specs.Name.{HasStar};
+ghost use Rattle.gix_refspec.specs.Spec.{reading_of};
+ghost use Rattle.gix_refspec.specs.Group.{readings_of};
+ghost use Rattle.gix_refspec.specs.MatchLaws.{GoesBothWays, HasCoveringSource};
+
+use crate::cut::holds;
+use crate::match_group::types::MatchGroup;
+use crate::side::below_refs;
+use crate::spec::RefSpecRef;
+use crate::types::Mode;
+
+impl<'a> MatchGroup<'a> {
+    /// Whether both directions agree by the law `transpose`: each positive spec with two sides has two
+    /// patterns, or two sides that begin `refs/`.
+    pub fn goes_both_ways(&self) -> bool
+        ensures { IsTrue result ↔ AllByRecursion GoesBothWays (readings_of self.now) }
+    {
+        for spec in &self.specs {
+            if !goes_both_ways(spec) {
+                return false;
+            }
+        }
+        true
+    }
+
+    /// Whether each name that the group maps from left to right begins with an entry of its spec, by the
+    /// law `cover`: each spec has a covering source, as `RefSpecRef::has_covering_source` tells.
+    pub fn has_covering_sources(&self) -> bool
+        ensures { IsTrue result ↔ AllByRecursion HasCoveringSource (readings_of self.now) }
+    {
+        for spec in &self.specs {
+            if !spec.has_covering_source() {
+                return false;
+            }
+        }
+        true
+    }
+}
+
+// Whether both directions agree on what a spec maps.
+fn goes_both_ways(spec: &RefSpecRef<'_>) -> bool
+    ensures { IsTrue result ↔ GoesBothWays (reading_of spec.now) }
+{
+    if spec.mode == Mode::Negative {
+        return true;
+    }
+    match (spec.src, spec.dst) {
+        (Some(source), Some(destination)) => {
+            let (source, destination) = (source.as_bytes(), destination.as_bytes());
+            have_stars(source, destination) || are_below_refs(source, destination)
+        }
+        _ => true,
+    }
+}
+
+// Whether both sides have a star.
+fn have_stars(source: &[u8], destination: &[u8]) -> bool
+    ensures { IsTrue result ↔ (HasStar source.now × HasStar destination.now) }
+{
+    holds(source, b'*') && holds(destination, b'*')
+}
+
+// Whether both sides begin `refs/`.
+fn are_below_refs(source: &[u8], destination: &[u8]) -> bool
+    ensures { IsTrue result ↔
+        (Begins (codes "refs/") source.now × Begins (codes "refs/") destination.now) }
+{
+    below_refs(source).is_some() && below_refs(destination).is_some()
+}
