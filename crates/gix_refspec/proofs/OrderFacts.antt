@@ -1,6 +1,6 @@
 -- The words on order and hash at pairs of instructions that differ in one field, and at what is fed to a
 -- hasher.
-use Rattle.std.proofs.Common.{◌≡◌, ℕ, true, false, [], ◌++◌, None, Some, codes, refl}
+use Rattle.std.proofs.Common.{◌≡◌, ℕ, true, false, [], ◌∷◌, ◌++◌, Option, None, Some, codes, refl}
 use Rattle.std.specs.declared.cmp.Ordering.TheVariants.{Less, Equal, Greater}
 use Rattle.std.specs.Ordering.{nat_cmp}
 use Rattle.std.specs.Cmp.Lexicographic.{slice_cmp}
@@ -9,6 +9,8 @@ use Rattle.std.specs.Prelude.{pos}
 use Rattle.gix_refspec.specs.declared.parsing.Operation.TheVariants.{Push, Fetch}
 use Rattle.gix_refspec.specs.Meaning.{push_all_matching, push_delete, push_matching, push_exclude, fetch_only, fetch_exclude, fetch_and_update}
 use Rattle.gix_refspec.specs.Order.{place_of, keys, order, is_same, writes}
+use Rattle.gix_refspec.specs.Mappings.{name, id}
+use Rattle.gix_refspec.specs.Hashed.{source_writes, pair_writes}
 
 -- push stands before fetch, and each is at one place
 pub places_of : (nat_cmp (place_of Push) (place_of Fetch) ≡ Less) × (nat_cmp (place_of Fetch) (place_of Push) ≡ Greater) × (nat_cmp (place_of Fetch) (place_of Fetch) ≡ Equal)
@@ -58,3 +60,13 @@ pub hashed : (writes None ≡ [])
     × (writes (Some (fetch_exclude (codes "a"))) ≡ kind 1 1 ++ slice u8 (codes "a"))
     × (writes (Some (fetch_and_update (codes "a") (codes "b") true)) ≡ kind 1 2 ++ slice u8 (codes "a") ++ slice u8 (codes "b") ++ bool true)
 hashed = (refl, refl, refl, refl, refl, refl, refl, refl)
+
+-- of a source its kind and its bytes, those of a name in one write
+pub sources_hashed : (source_writes (name (codes "a")) ≡ isize (pos 0) ++ (codes "a" ∷ [])) × (source_writes (id (codes "a")) ≡ isize (pos 1) ++ slice u8 (codes "a"))
+sources_hashed = (refl, refl)
+
+-- of a mapping its source and its destination, and not the places of its item and its spec
+pub mappings_hashed : (item : Option ℕ) (spec : ℕ)
+    → (pair_writes (record { item = item; source = name (codes "a"); destination = None; spec = spec }) ≡ source_writes (name (codes "a")) ++ isize (pos 0))
+    × (pair_writes (record { item = item; source = name (codes "a"); destination = Some (codes "b"); spec = spec }) ≡ source_writes (name (codes "a")) ++ (isize (pos 1) ++ (codes "b" ∷ [])))
+mappings_hashed item spec = (refl, refl)

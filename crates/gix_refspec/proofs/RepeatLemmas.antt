@@ -13,7 +13,8 @@ use Rattle.std.proofs.lemmas.Bool.{eq-eqb, false≢true, ne_eqb}
 use Rattle.gix_refspec.specs.declared.match_group.types.Mapping.{Mapping}
 use Rattle.gix_refspec.specs.declared.match_group.util.kept.repeats.Pair.{Pair}
 use Rattle.gix_refspec.specs.Mappings.{Mapped, IsSamePair}
-use Rattle.gix_refspec.specs.Private.Kept.{pair_hash, source_writes, Has, Rises, IsSameAt}
+use Rattle.gix_refspec.specs.Hashed.{source_writes}
+use Rattle.gix_refspec.specs.Private.Kept.{pair_hash, Has, Rises, IsSameAt}
 
 -- some pair up to a place is for the mapping at k, which has the pair of the one before it
 abbrev pub FollowsSame : List Mapping → List Pair → ℕ → ℕ → Type 0

@@ -23,4 +23,5 @@ pub mod MatchLaws
 pub mod Validation
 pub mod ValidationLaws
 pub mod Issue
+pub mod Hashed
 pub mod Private

@@ -6,7 +6,7 @@ ghost use Rattle.std.specs.Ordering.{nat_cmp};
 ghost use Rattle.gix_refspec.specs.Laws.{ReadsOrRefused, OneRefusal, ReadsBack, IsPrintedBack, KeepsOperation, SaysForOperation, EqualTexts, EqualReadings, IdOrFault, OneLowerText, NothingAgainst, OneWord, PrefixBegins, OnePrefix, Candidates, FirstCandidate, ClonesExactly};
 ghost use Rattle.gix_refspec.specs.Meaning.{meaning_of};
 ghost use Rattle.gix_refspec.specs.ObjectId.{id_bytes};
-ghost use Rattle.gix_refspec.specs.Order.{is_same, order, place_of};
+ghost use Rattle.gix_refspec.specs.Order.{is_same, order, place_of, writes_of};
 ghost use Rattle.gix_refspec.specs.Group.{mapped_of, name_bytes, ref_of, readings_of, start_of};
 ghost use Rattle.gix_refspec.specs.Mappings.{IsSamePair};
 ghost use Rattle.gix_refspec.specs.Hits.{KeptOnce, OneForward, OneBackward};
@@ -15,7 +15,8 @@ ghost use Rattle.gix_refspec.specs.Validation.{ForwardFits, PlacesFit, Validated
 ghost use Rattle.gix_refspec.specs.ValidationLaws.{OneValidation, CopiedOutcome};
 ghost use Rattle.gix_refspec.specs.Issue.{IsSameFix, conflict_of, mappings_of};
 ghost use Rattle.gix_refspec.specs.Spec.{reading_of, owned_reading_of};
-ghost use Rattle.gix_refspec.specs.Views.{shown_fetch, shown_push};
+ghost use Rattle.gix_refspec.specs.Views.{shown, shown_fetch, shown_push};
+ghost use Rattle.gix_refspec.specs.Hashed.{source_writes, pair_writes};
 
 use crate::instruction::{Fetch, Push};
 use crate::match_group::validate::{Fix, Issue};
@@ -24,6 +25,7 @@ use crate::name::PatternError;
 use crate::oid::{Kind, ObjectId};
 use crate::parsing::Operation;
 use crate::{Instruction, MatchGroup, RefSpec, RefSpecRef, name, oid};
+use std::hash::Hash;
 
 /// A text has exactly one reading, or it is refused.
 pub fn reads_or_refused(operation: Operation, text: &[u8])
@@ -318,3 +320,41 @@ pub fn compared_fetches<'a>(a: Fetch<'a>, b: Fetch<'a>)
     ensures same { ⟦<Fetch<'a> as PartialEq>⟧.eq a.entry b.entry ≡
         is_same (shown_fetch a.entry) (shown_fetch b.entry) }
 {}
+
+/// Two instructions are equal, and ordered, as what they say is.
+pub fn compared_instructions<'a>(a: Instruction<'a>, b: Instruction<'a>)
+    ensures order { ⟦<Instruction<'a> as Ord>⟧.cmp a.entry b.entry ≡
+        order (shown a.entry) (shown b.entry) }
+    ensures same { ⟦<Instruction<'a> as PartialEq>⟧.eq a.entry b.entry ≡
+        is_same (shown a.entry) (shown b.entry) }
+{}
+
+/// Hashing an instruction writes what it says: its operation, its kind and then its fields. So equal
+/// instructions are hashed alike.
+pub fn hashed_instructions<'a>(a: Instruction<'a>, b: Instruction<'a>)
+    ensures writes { ⟦<Instruction<'a> as Hash>⟧.hash_input a.entry ≡ writes_of (shown a.entry) }
+    ensures alike { IsTrue (⟦<Instruction<'a> as PartialEq>⟧.eq a.entry b.entry) →
+        ⟦<Instruction<'a> as Hash>⟧.hash_input a.entry ≡
+        ⟦<Instruction<'a> as Hash>⟧.hash_input b.entry }
+{}
+
+/// Hashing a source writes whether it is a name or an id, and then its bytes. So equal sources are hashed
+/// alike.
+pub fn hashed_sources<'a>(a: &SourceRef<'a>, b: &SourceRef<'a>)
+    ensures writes { ⟦<SourceRef<'a> as Hash>⟧.hash_input a.now ≡ source_writes (start_of a.now) }
+    ensures alike { IsTrue (⟦<SourceRef<'a> as PartialEq>⟧.eq a.now b.now) →
+        ⟦<SourceRef<'a> as Hash>⟧.hash_input a.now ≡ ⟦<SourceRef<'a> as Hash>⟧.hash_input b.now }
+{
+    equal_sources(a, b);
+}
+
+/// Hashing a mapping writes its source and its destination alone, wherever it comes from. So equal
+/// mappings are hashed alike.
+pub fn hashed_mappings<'a, 'b>(a: &Mapping<'a, 'b>, b: &Mapping<'a, 'b>)
+    ensures writes { ⟦<Mapping<'a, 'b> as Hash>⟧.hash_input a.now ≡ pair_writes (mapped_of a.now) }
+    ensures alike { IsTrue (⟦<Mapping<'a, 'b> as PartialEq>⟧.eq a.now b.now) →
+        ⟦<Mapping<'a, 'b> as Hash>⟧.hash_input a.now ≡
+        ⟦<Mapping<'a, 'b> as Hash>⟧.hash_input b.now }
+{
+    equal_mappings(a, b);
+}

@@ -1,10 +1,8 @@
 -- How repeats and exclusions are found. Only private functions cite these words.
-use Rattle.std.specs.Prelude.{◌≡◌, ◌≢◌, ◌⊎◌, ◌↔◌, ◌<◌, ◌≤◌, ◌-◌, ◌/◌, ◌%◌, ◌^◌, ℕ, Bool, true, false, List, [], ◌∷◌, ◌++◌, length, map, pos, option_map, slice_index_or, bytes_eq, IsTrue}
+use Rattle.std.specs.Prelude.{◌≡◌, ◌≢◌, ◌⊎◌, ◌↔◌, ◌<◌, ◌≤◌, ◌-◌, ◌/◌, ◌%◌, ◌^◌, ℕ, Bool, true, false, List, [], ◌∷◌, length, map, option_map, slice_index_or, bytes_eq, IsTrue}
 use Rattle.std.specs.List.{AllByRecursion, fold}
-use Rattle.std.specs.Hash as fed
 use Rattle.std.specs.HashSet as bag
 use Rattle.std.specs.HashSet.{HashSet}
-use Rattle.std.specs.Hash.{HashWrites}
 use Rattle.std.specs.Hash.FoldHasher as folding
 use Rattle.gix_refspec.specs.declared.match_group.types.Mapping.{Mapping}
 use Rattle.gix_refspec.specs.declared.match_group.types.NameRef.{NameRef}
@@ -17,6 +15,7 @@ use Rattle.gix_refspec.specs.Reading.{Reading, Negative}
 use Rattle.gix_refspec.specs.Side.{Fits}
 use Rattle.gix_refspec.specs.Mappings.{Start, name, id, Mapped, IsSamePair, IsExcluded}
 use Rattle.gix_refspec.specs.Group.{mapped_of, name_bytes}
+use Rattle.gix_refspec.specs.Hashed.{pair_writes}
 
 -- one of the patterns fits the name
 abbrev pub FitsName : Pattern → List ℕ → Type 0
@@ -68,15 +67,6 @@ IsFlagged flags k = slice_index_or flags k false ≡ true
 -- just the repeats are flagged
 abbrev pub FlagsRepeats : List Mapping → List Bool → Type 0
 FlagsRepeats ms flags = (k : ℕ) → k < length ms → IsFlagged flags k ↔ IsRepeat ms k
-
--- what hashing a source writes: its kind and then its bytes
-abbrev pub source_writes : Start → HashWrites
-source_writes (name n) = fed.isize (pos 0) ++ (n ∷ [])
-source_writes (id i) = fed.isize (pos 1) ++ fed.slice fed.u8 i
-
--- what hashing a mapping writes
-abbrev pub pair_writes : Mapped → HashWrites
-pair_writes m = source_writes m.source ++ fed.option (λ d. d ∷ []) m.destination
 
 -- the hash of a mapping
 abbrev pub pair_hash : Mapped → ℕ
