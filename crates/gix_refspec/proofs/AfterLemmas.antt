@@ -7,7 +7,7 @@ use Rattle.gix_refspec.specs.Lists.{IsMadeFrom, IsJoinedFrom}
 use Rattle.gix_refspec.specs.Match.{Ref, Takes}
 use Rattle.gix_refspec.specs.Mappings.{Mapped, IsSamePair, AreApart, Stays}
 use Rattle.gix_refspec.specs.Hits.{AreForwardEnds, AreSpecHits, Hit, IsHit, IsIdMapping, forward_of}
-use Rattle.gix_refspec.specs.Validation.{ForwardFits, HaveOneSource, MeetAt, NeverMeet, Survives, ValidatedOnce}
+use Rattle.gix_refspec.specs.Validation.{ForwardFits, HaveOneSource, IsValidated, MeetAt, NeverMeet, Removed, Survives, ValidatedOnce}
 use Rattle.gix_refspec.proofs.FirstLemmas.{start_cases}
 use Rattle.gix_refspec.proofs.KeptLemmas.{kept_once}
 use Rattle.gix_refspec.proofs.RepeatLemmas.{all_join}
@@ -48,7 +48,7 @@ forward_fits g items l kept =
     stays_each (λ k m. Stays g kept.all k m) (λ m. m.spec < n) 0 kept.all l both kept.is
 
 -- no pair stands twice in what stays
-apart_still : (S : ℕ → Mapped → Type 0) (k : ℕ) (xs ys : List Mapped) → AreApart xs → IsMadeFrom (λ j x y. (y ≡ x) × S j x) k xs ys → AreApart ys
+pub apart_still : (S : ℕ → Mapped → Type 0) (k : ℕ) (xs ys : List Mapped) → AreApart xs → IsMadeFrom (λ j x y. (y ≡ x) × S j x) k xs ys → AreApart ys
 apart_still S k [] ys apart empty = subst AreApart (sym empty) tt
 apart_still S k (x ∷ xs) ys apart (None, rest, none, more, is) = subst AreApart (sym is) (apart_still S (k + 1) xs rest apart.1 more)
 apart_still S k (x ∷ xs) ys apart (Some y, rest, one, more, is) = subst AreApart (sym is) (
@@ -71,14 +71,18 @@ never_meet (m ∷ l) one apart = (
     within n (k, below, is) = (suc k, omega (arith, below), is)
 
 -- what is left has one source for each destination
-pub validated_once : (g : List Reading) (items : List Ref) → ValidatedOnce g items
-validated_once g items l rest fixes valid = (one_source, λ kept. never_meet rest one_source (apart_still (λ k m. Survives m) 0 l rest (kept_once g kept.all l kept.is) valid.survive))
+one_source : (g : List Reading) (l rest : List Mapped) (fixes : List Removed) → IsValidated g l rest fixes → HaveOneSource rest
+one_source g l rest fixes valid m n d has_m has_n m_to n_to = elim (start_cases m.source n.source) [
+  | inl same ↦ same
+  | inr apart ↦ let none = valid.free.every d (record { one = m; other = n; has_one = was m has_m; has_other = was n has_n; one_to = m_to; other_to = n_to; differ = apart }) in let inside = none.1 in absurd (omega (arith, inside))
+]
   where
     was : (m : Mapped) → Contains rest m → Contains l m
     was m (k, below, is) = subst (Contains l) is (All-from_recursion (Contains l) rest (stays_each (λ j x. Survives x) (Contains l) 0 l rest (recursion_from_All (Contains l) l (All-contains_itself l)) valid.survive) k m below)
 
-    one_source : HaveOneSource rest
-    one_source m n d has_m has_n m_to n_to = elim (start_cases m.source n.source) [
-      | inl same ↦ same
-      | inr apart ↦ let none = valid.free.every d (record { one = m; other = n; has_one = was m has_m; has_other = was n has_n; one_to = m_to; other_to = n_to; differ = apart }) in let inside = none.1 in absurd (omega (arith, inside))
-    ]
+-- and where no pair stood twice, no destination stands twice
+pub never_meet_after : (g : List Reading) (l rest : List Mapped) (fixes : List Removed) → IsValidated g l rest fixes → AreApart l → NeverMeet rest
+never_meet_after g l rest fixes valid apart = never_meet rest (one_source g l rest fixes valid) (apart_still (λ k m. Survives m) 0 l rest apart valid.survive)
+
+pub validated_once : (g : List Reading) (items : List Ref) → ValidatedOnce g items
+validated_once g items l rest fixes valid = (one_source g l rest fixes valid, λ kept. never_meet_after g l rest fixes valid (kept_once g kept.all l kept.is))

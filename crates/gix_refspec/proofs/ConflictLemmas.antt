@@ -117,7 +117,7 @@ conflict_from_rivals g l run d sources texts rivals told to = subst (λ (e : Lis
     two (c ∷ []) several up first = absurd (omega arith)
     two (c ∷ y ∷ cs) several up first = contested_from_firsts l x c.place y.place up.0.0 (first c.place (inl refl)) (first y.place (inr (inl refl)))
 
--- a copy of a name has its bytes
+-- a copy of a name has the same bytes
 pub copied_name : (n m : NameRef) → IsNameCopy n m → name_bytes m ≡ name_bytes n
 copied_name (name_ref.Borrowed n) (name_ref.Borrowed m) same = same
 copied_name (name_ref.Borrowed n) (name_ref.Owned m) same = absurd same

@@ -55,6 +55,7 @@ pub mod ValidationLemmas
 pub mod AfterLemmas
 pub mod OneValidationLemmas
 pub mod PlaceFitLemmas
+pub mod RefNameLemmas
 pub mod EqualLemmas
 pub mod ApartLemmas
 pub mod PlacedLemmas
@@ -66,6 +67,7 @@ pub mod MatchFacts
 pub mod OutcomeFacts
 pub mod ValidationFacts
 pub mod ValidationLawFacts
+pub mod RefNameFacts
 pub mod LawFacts
 pub mod EqualGroupFacts
 pub mod FaultFacts

@@ -13,7 +13,7 @@ use Rattle.gix_refspec.specs.Spec.{reading_of}
 use Rattle.gix_refspec.specs.Lists.{MakesOf, IsMadeFrom}
 use Rattle.gix_refspec.specs.Mappings.{Mapped}
 use Rattle.gix_refspec.specs.Group.{mapped_of, name_bytes}
-use Rattle.gix_refspec.specs.Validation.{AreFixes, AreSurvivors, IndexesFit, IsFix, IsWritable, Removed, Survives}
+use Rattle.gix_refspec.specs.Validation.{IndexesFit, IsFix, IsWritable, Removed}
 use Rattle.gix_refspec.proofs.RepeatLemmas.{all_join}
 use Rattle.gix_refspec.proofs.JoinLemmas.{made_next, map_long, map_more}
 
@@ -25,18 +25,18 @@ fits_more specs ms i m below is inside fits =
     subst (λ (l : List Mapped). IndexesFit g l) (sym (map_more mapped_of ms i m below)) (all_join (λ n. n.spec < length g) (map mapped_of (take i ms)) (mapped_of (get_or ms i m) ∷ []) fits (one, tt))
 
 -- what is made of one more mapping
-fixes_next : (g : List Reading) (ms : List Mapping) (i : ℕ) (m : Mapping) (fixes : List Removed) (made : Option Removed) → i < length ms → m ≡ get_or ms i m → AreFixes g (map mapped_of (take i ms)) fixes → MakesOf (λ k n fix. IsFix g n fix) i (mapped_of m) made → AreFixes g (map mapped_of (take (i + 1) ms)) (fixes ++ option_to_list made)
-fixes_next g ms i m fixes made below is so_far makes =
-    subst (λ (l : List Mapped). AreFixes g l (fixes ++ option_to_list made)) (ap (λ (x : Mapping). map mapped_of (take i ms) ++ mapped_of x ∷ []) is ∙ sym (map_more mapped_of ms i m below))
-    (made_next (λ k n fix. IsFix g n fix) i (map mapped_of (take i ms)) (mapped_of m) fixes made (map_long mapped_of ms i below) so_far makes)
+made_of_next : {Y : Type 0} (R : ℕ → Mapped → Y → Type 0) (ms : List Mapping) (i : ℕ) (m : Mapping) (ys : List Y) (made : Option Y) → i < length ms → m ≡ get_or ms i m → IsMadeFrom R 0 (map mapped_of (take i ms)) ys → MakesOf R i (mapped_of m) made → IsMadeFrom R 0 (map mapped_of (take (i + 1) ms)) (ys ++ option_to_list made)
+made_of_next R ms i m ys made below is so_far makes =
+    subst (λ (l : List Mapped). IsMadeFrom R 0 l (ys ++ option_to_list made)) (ap (λ (x : Mapping). map mapped_of (take i ms) ++ mapped_of x ∷ []) is ∙ sym (map_more mapped_of ms i m below))
+    (made_next R i (map mapped_of (take i ms)) (mapped_of m) ys made (map_long mapped_of ms i below) so_far makes)
 
--- a mapping that needs no fix
-pub fixes_same : (g : List Reading) (ms : List Mapping) (i : ℕ) (m : Mapping) (fixes : List Removed) → i < length ms → m ≡ get_or ms i m → ((fix : Removed) → ¬ (IsFix g (mapped_of m) fix)) → AreFixes g (map mapped_of (take i ms)) fixes → AreFixes g (map mapped_of (take (i + 1) ms)) fixes
-fixes_same g ms i m fixes below is none so_far = subst (λ (xs : List Removed). AreFixes g (map mapped_of (take (i + 1) ms)) xs) (append-nil fixes) (fixes_next g ms i m fixes None below is so_far none)
+-- a mapping of which nothing is made
+pub nothing_more : {Y : Type 0} (R : ℕ → Mapped → Y → Type 0) (ms : List Mapping) (i : ℕ) (m : Mapping) (ys : List Y) → i < length ms → m ≡ get_or ms i m → ((y : Y) → ¬ (R i (mapped_of m) y)) → IsMadeFrom R 0 (map mapped_of (take i ms)) ys → IsMadeFrom R 0 (map mapped_of (take (i + 1) ms)) ys
+nothing_more {Y} R ms i m ys below is none so_far = subst (λ (xs : List Y). IsMadeFrom R 0 (map mapped_of (take (i + 1) ms)) xs) (append-nil ys) (made_of_next R ms i m ys None below is so_far none)
 
--- and one that does
-pub fixes_more : (g : List Reading) (ms : List Mapping) (i : ℕ) (m : Mapping) (fixes new : List Removed) (fix : Removed) → i < length ms → m ≡ get_or ms i m → new ≡ fixes ++ fix ∷ [] → IsFix g (mapped_of m) fix → AreFixes g (map mapped_of (take i ms)) fixes → AreFixes g (map mapped_of (take (i + 1) ms)) new
-fixes_more g ms i m fixes new fix below is pushed one so_far = subst (λ (xs : List Removed). AreFixes g (map mapped_of (take (i + 1) ms)) xs) (sym pushed) (fixes_next g ms i m fixes (Some fix) below is so_far one)
+-- and one of which something is
+pub one_more : {Y : Type 0} (R : ℕ → Mapped → Y → Type 0) (ms : List Mapping) (i : ℕ) (m : Mapping) (ys new : List Y) (y : Y) → i < length ms → m ≡ get_or ms i m → new ≡ ys ++ y ∷ [] → R i (mapped_of m) y → IsMadeFrom R 0 (map mapped_of (take i ms)) ys → IsMadeFrom R 0 (map mapped_of (take (i + 1) ms)) new
+one_more {Y} R ms i m ys new y below is pushed one so_far = subst (λ (xs : List Y). IsMadeFrom R 0 (map mapped_of (take (i + 1) ms)) xs) (sym pushed) (made_of_next R ms i m ys (Some y) below is so_far one)
 
 pub no_fix_nowhere : (g : List Reading) (m : Mapping) → m.rhs ≡ None → (fix : Removed) → ¬ (IsFix g (mapped_of m) fix)
 no_fix_nowhere g m none fix is = let gone : None ≡ Some fix.destination = sym (ap (option_map name_bytes) none) ∙ is.goes in absurd (cc)
@@ -55,14 +55,14 @@ fix_of specs m n spec fix to unwritable below is destination reads = record {
   spec = slice_get-map reading_of specs m.spec_index ∙ ap (option_map reading_of) (slice_get_read specs (length specs) m.spec_index spec refl below is) ∙ ap Some (sym reads);
 }
 
--- what a test keeps that tells what survives
-module _ {F : Type 0} (R : F → Mapping → Bool → F → Type 0) (tells : (p : F) (m : Mapping) (b : Bool) (q : F) → R p m b q → (b ≡ true) ↔ Survives (mapped_of m)) where
-  kept_survive : (k : ℕ) (p q : F) (bs : List Bool) (ms : List Mapping) → length bs ≡ length ms → ReturnsInTurn R p bs ms q → IsMadeFrom (λ j m made. (made ≡ m) × Survives m) k (map mapped_of ms) (map mapped_of (items_where_true bs ms))
-  kept_survive k p q [] [] size told = refl
-  kept_survive k p q [] (m ∷ ms) size told = absurd (omega arith)
-  kept_survive k p q (b ∷ bs) [] size told = absurd told
-  kept_survive k p q (true ∷ bs) (m ∷ ms) size (j, is, more) = (Some (mapped_of m), map mapped_of (items_where_true bs ms), (refl, (tells p m true j is).0 refl), kept_survive (k + 1) j q bs ms (omega arith) more, refl)
-  kept_survive k p q (false ∷ bs) (m ∷ ms) size (j, is, more) = (None, map mapped_of (items_where_true bs ms), (λ made both. false≢true ((tells p m false j is).1 both.1)), kept_survive (k + 1) j q bs ms (omega arith) more, refl)
+-- what a test keeps that tells which mappings are as P says
+module _ {F : Type 0} (P : Mapped → Type 0) (R : F → Mapping → Bool → F → Type 0) (tells : (p : F) (m : Mapping) (b : Bool) (q : F) → R p m b q → (b ≡ true) ↔ P (mapped_of m)) where
+  kept_so : (k : ℕ) (p q : F) (bs : List Bool) (ms : List Mapping) → length bs ≡ length ms → ReturnsInTurn R p bs ms q → IsMadeFrom (λ j m made. (made ≡ m) × P m) k (map mapped_of ms) (map mapped_of (items_where_true bs ms))
+  kept_so k p q [] [] size told = refl
+  kept_so k p q [] (m ∷ ms) size told = absurd (omega arith)
+  kept_so k p q (b ∷ bs) [] size told = absurd told
+  kept_so k p q (true ∷ bs) (m ∷ ms) size (j, is, more) = (Some (mapped_of m), map mapped_of (items_where_true bs ms), (refl, (tells p m true j is).0 refl), kept_so (k + 1) j q bs ms (omega arith) more, refl)
+  kept_so k p q (false ∷ bs) (m ∷ ms) size (j, is, more) = (None, map mapped_of (items_where_true bs ms), (λ made both. false≢true ((tells p m false j is).1 both.1)), kept_so (k + 1) j q bs ms (omega arith) more, refl)
 
-  pub survivors_kept : (p : F) (ms rest : List Mapping) → IsFiltered R p ms rest → AreSurvivors (map mapped_of ms) (map mapped_of rest)
-  survivors_kept p ms rest (bs, q, size, told, is) = subst (λ (xs : List Mapping). AreSurvivors (map mapped_of ms) (map mapped_of xs)) (sym is) (kept_survive 0 p q bs ms size told)
+  pub filtered_so : (p : F) (ms rest : List Mapping) → IsFiltered R p ms rest → IsMadeFrom (λ j m made. (made ≡ m) × P m) 0 (map mapped_of ms) (map mapped_of rest)
+  filtered_so p ms rest (bs, q, size, told, is) = subst (λ (xs : List Mapping). IsMadeFrom (λ j m made. (made ≡ m) × P m) 0 (map mapped_of ms) (map mapped_of xs)) (sym is) (kept_so 0 p q bs ms size told)

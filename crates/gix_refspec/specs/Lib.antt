@@ -24,4 +24,5 @@ pub mod Validation
 pub mod ValidationLaws
 pub mod Issue
 pub mod Hashed
+pub mod RefNames
 pub mod Private

@@ -14,11 +14,13 @@ ghost use Rattle.gix_refspec.specs.MatchLaws.{Transpose, KeptExactly, FirstStays
 ghost use Rattle.gix_refspec.specs.Validation.{ForwardFits, PlacesFit, ValidatedOnce};
 ghost use Rattle.gix_refspec.specs.ValidationLaws.{OneValidation, CopiedOutcome};
 ghost use Rattle.gix_refspec.specs.Issue.{IsSameFix, conflict_of, mappings_of};
+ghost use Rattle.gix_refspec.specs.RefNames.{WritesRefs};
 ghost use Rattle.gix_refspec.specs.Spec.{reading_of, owned_reading_of};
 ghost use Rattle.gix_refspec.specs.Views.{shown, shown_fetch, shown_push};
 ghost use Rattle.gix_refspec.specs.Hashed.{source_writes, pair_writes};
 
 use crate::instruction::{Fetch, Push};
+use crate::match_group::names::BadSide;
 use crate::match_group::validate::{Fix, Issue};
 use crate::match_group::{Item, Mapping, NameRef, Outcome, SourceRef, match_lhs};
 use crate::name::PatternError;
@@ -226,6 +228,14 @@ pub fn copied_outcome<'a, 'b, 'c, const FORWARD: bool>(
     ensures { CopiedOutcome outcome.now copy.now }
 {}
 
+/// After `validated` and `without_bad_names`, in either order, each destination is the name of a ref. So
+/// it is `HEAD` or begins `refs/`, and no component of it is empty or begins with a dot, as `..` does,
+/// and no byte of it is a control character. If the mappings came from `match_lhs`, no two have one
+/// destination. What `without_bad_names` keeps has the places that it had: so `validated` may be called.
+pub fn writes_refs(group: &MatchGroup<'_>, items: &[Item<'_>])
+    ensures { WritesRefs (readings_of group.now) (map ref_of items.now) }
+{}
+
 /// Two issues are equal exactly where they report the same conflict.
 pub fn equal_issues(a: &Issue, b: &Issue)
     ensures { IsTrue (⟦<Issue as PartialEq>⟧.eq a.now b.now) ↔
@@ -259,6 +269,11 @@ fn equal_destinations<'a>(a: &Option<NameRef<'a>>, b: &Option<NameRef<'a>>)
         (option_map name_bytes a.now ≡ option_map name_bytes b.now) }
 {}
 
+/// Two sides of mappings are equal exactly where they are the same.
+pub fn equal_bad_sides(a: BadSide, b: BadSide)
+    ensures { IsTrue (⟦<BadSide as PartialEq>⟧.eq a b) ↔ (a ≡ b) }
+{}
+
 /// Two kinds of ids are equal exactly where they are the same.
 pub fn equal_kinds(a: Kind, b: Kind)
     ensures { IsTrue (⟦<Kind as PartialEq>⟧.eq a b) ↔ (a ≡ b) }
@@ -289,6 +304,7 @@ pub fn same_clones<'a>()
     ensures spec { ClonesExactly
         ⟦<RefSpecRef<'a> as Clone>⟧.is_clone ⟦<RefSpecRef<'a> as Clone>⟧.is_infallible }
     ensures item { ClonesExactly ⟦<Item<'a> as Clone>⟧.is_clone ⟦<Item<'a> as Clone>⟧.is_infallible }
+    ensures bad_side { ClonesExactly ⟦<BadSide as Clone>⟧.is_clone ⟦<BadSide as Clone>⟧.is_infallible }
     ensures kind { ClonesExactly ⟦<Kind as Clone>⟧.is_clone ⟦<Kind as Clone>⟧.is_infallible }
     ensures id { ClonesExactly ⟦<ObjectId as Clone>⟧.is_clone ⟦<ObjectId as Clone>⟧.is_infallible }
     ensures id_fault { ClonesExactly

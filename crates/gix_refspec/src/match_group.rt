@@ -8,6 +8,7 @@ ghost use Rattle.gix_refspec.specs.Private.HitViews.{AreKept, AreMade, made_in};
 ghost use Rattle.gix_refspec.specs.Hits.{AreForward, AreBackward, AreKeptForward, AreKeptBackward};
 
 mod premises;
+pub mod names;
 pub(crate) mod types;
 pub(crate) mod util;
 pub mod validate;
@@ -39,6 +40,9 @@ impl<'spec> MatchGroup<'spec> {
     /// specs. Other destinations are owned: a pattern with the word for its star, and the names of
     /// branches, tags or remote refs that ids and partial names become.
     ///
+    /// Names aren't checked: what a server calls a ref may be `refs/heads/../../x`. `without_bad_names`
+    /// of the outcome does that.
+    ///
     /// Fails with `NoRoom` if memory runs out, and never where the specs ask for no id and match no
     /// item. It holds the group as it was.
     pub fn match_lhs<'i>(self, alloc: Global, items: &[Item<'i>]) -> match_lhs::Result<'spec, 'i>
@@ -57,7 +61,8 @@ impl<'spec> MatchGroup<'spec> {
     /// `match_lhs`: the destination is the name of an item, borrowed from it, and the source is
     /// filled in by the spec. But a partial destination takes all items that have one of its six
     /// names. A destination that is an id matches items whose target or object it is, and a source
-    /// that is an id becomes the name of a branch. Negative specs exclude by the source.
+    /// that is an id becomes the name of a branch. Negative specs exclude by the source. Names aren't
+    /// checked here either, and the check is of outcomes of `match_lhs` alone: `name_partial` tells.
     ///
     /// Fails with `NoRoom` if memory runs out, and never where no item matches. It holds the group as
     /// it was.

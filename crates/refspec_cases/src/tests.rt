@@ -2,6 +2,7 @@
 
 mod agreement;
 mod alike;
+mod badnames;
 mod errors;
 mod groups;
 mod growths;

@@ -20,7 +20,8 @@ use std::{error, fmt};
 /// A ref of a repository, as it is matched.
 #[derive(Clone, Copy, Debug)]
 pub struct Item<'a> {
-    /// The full name of the ref, like `refs/heads/main`. Any bytes may be a name.
+    /// The full name of the ref, like `refs/heads/main`. Any bytes may be a name, and nothing checks it
+    /// but `without_bad_names`.
     pub full_ref_name: BStr<'a>,
     /// The object that the ref points to.
     pub target: &'a ObjectId,

@@ -143,7 +143,8 @@ impl<'spec, 'item> match_lhs::Outcome<'spec, 'item> {
     }
 
     /// Removes the mappings whose destination neither begins `refs/` nor is `HEAD`, and lists them as
-    /// fixes, both in order. Mappings without a destination stay.
+    /// fixes, both in order. Mappings without a destination stay. Whether a destination that begins
+    /// `refs/` may be the name of a ref isn't checked: `without_bad_names` does that.
     ///
     /// Fails with `Conflicts` if several sources are mapped to one destination, of mappings that
     /// would be removed too. There is an issue for each such destination, in the byte order of the

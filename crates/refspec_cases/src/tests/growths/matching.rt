@@ -143,6 +143,29 @@ fn validates_and_fixes(rt: HostRuntime) -> Result<(), Fail> {
 }
 
 #[test]
+fn leaves_bad_names_out(rt: HostRuntime) -> Result<(), Fail> {
+    let alloc = rt.alloc();
+    let target = ObjectId::from_hex(TARGET.as_bytes())?;
+    let names = "refs/heads/a refs/heads/../b refs/heads/c.";
+    let given = mapped(alloc, "refs/heads/*:refs/x/*", names, &target)?;
+    let before = lines(alloc, given.mappings.as_slice())?;
+    match marked!(alloc, given.without_bad_names(alloc)) {
+        Ok((left, bad)) => {
+            let wanted = "0 0 refs/heads/a =refs/x/a\n";
+            assert_eq!(&rt; lines(alloc, left.mappings.as_slice())?.as_str(), wanted);
+            assert_eq!(&rt; bad.len(), 2);
+            say_answered(&rt)
+        }
+        Err(refused) => {
+            assert!(&rt; refused.outcome.group.specs.len() == 1);
+            let after = lines(alloc, refused.outcome.mappings.as_slice())?;
+            assert_eq!(&rt; after.as_str(), before.as_str());
+            say_refused(&rt)
+        }
+    }
+}
+
+#[test]
 fn validates_and_reports(rt: HostRuntime) -> Result<(), Fail> {
     let alloc = rt.alloc();
     let target = ObjectId::from_hex(TARGET.as_bytes())?;

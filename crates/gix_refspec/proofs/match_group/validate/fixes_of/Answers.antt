@@ -6,10 +6,10 @@ use Rattle.gix_refspec.specs.declared.match_group.validate.Fix.{Fix}
 use Rattle.gix_refspec.specs.declared.match_group.validate.Fix.TheVariants as fix
 use Rattle.gix_refspec.specs.Spec.{reading_of}
 use Rattle.gix_refspec.specs.Group.{mapped_of}
-use Rattle.gix_refspec.specs.Validation.{AreFixes}
+use Rattle.gix_refspec.specs.Validation.{AreFixes, IsFix}
 use Rattle.gix_refspec.specs.Issue.{removed_of}
 use Rattle.gix_refspec.proofs.ConflictLemmas.{spec_fits}
-use Rattle.gix_refspec.proofs.ValidationLemmas.{fix_of, fixes_more, fixes_same, no_fix_nowhere, no_fix_written}
+use Rattle.gix_refspec.proofs.ValidationLemmas.{fix_of, no_fix_nowhere, no_fix_written, nothing_more, one_more}
 use Rattle.gix_refspec.proofs.match_group.validate.fixes_of.Goals as goal
 use Rattle.gix_refspec.proofs.match_group.validate.fixes_of.Goals.{in-Some+then-not-is_writable+in_ok-from_slice+in_ok-to_owned+in_ok-push, in-Some+else-not-is_writable, in_default}
 
@@ -33,7 +33,7 @@ loop-mapping-preserved c =
           let one : Fix = fix.MappingWithPartialDestinationRemoved w.in_ok-from_slice.field-0 w.in_ok-to_owned.field-0 in
           let pushed : map removed_of w.push.new.self.items ≡ fixes ++ removed_of one ∷ [] = ap (map removed_of) w.in_ok-push.ensures.items ∙ map-append removed_of c.loop-mapping.fixes.items (one ∷ []) in
           let is = fix_of specs m w.in-Some.name w.index-specs-mapping.result (removed_of one) w.in-Some.is (λ writable. false≢true (sym w.if-not-is_writable.true ∙ w.is_writable.ensures.1 writable)) (spec_fits specs ms i m c.requires c.loop-mapping-test.true c.mapping-item.is) w.index-specs-mapping.is (w.in_ok-from_slice.ensures ∙ w.as_bstr.ensures) w.in_ok-to_owned.ensures.keeps in
-          subst stays (sym w.fixes-is) (fixes_more g ms i m fixes (map removed_of w.push.new.self.items) (removed_of one) c.loop-mapping-test.true c.mapping-item.is pushed is c.loop-mapping.invariant)
-      | in-Some+else-not-is_writable w ↦ subst stays (sym w.fixes-is) (fixes_same g ms i m fixes c.loop-mapping-test.true c.mapping-item.is (no_fix_written g m w.in-Some.name w.in-Some.is (w.is_writable.ensures.0 w.if-not-is_writable.false)) c.loop-mapping.invariant)
-      | in_default w ↦ subst stays (sym w.fixes-is) (fixes_same g ms i m fixes c.loop-mapping-test.true c.mapping-item.is (no_fix_nowhere g m w.in_default.is) c.loop-mapping.invariant)
+          subst stays (sym w.fixes-is) (one_more (λ k n fix. IsFix g n fix) ms i m fixes (map removed_of w.push.new.self.items) (removed_of one) c.loop-mapping-test.true c.mapping-item.is pushed is c.loop-mapping.invariant)
+      | in-Some+else-not-is_writable w ↦ subst stays (sym w.fixes-is) (nothing_more (λ k n fix. IsFix g n fix) ms i m fixes c.loop-mapping-test.true c.mapping-item.is (no_fix_written g m w.in-Some.name w.in-Some.is (w.is_writable.ensures.0 w.if-not-is_writable.false)) c.loop-mapping.invariant)
+      | in_default w ↦ subst stays (sym w.fixes-is) (nothing_more (λ k n fix. IsFix g n fix) ms i m fixes c.loop-mapping-test.true c.mapping-item.is (no_fix_nowhere g m w.in_default.is) c.loop-mapping.invariant)
     ]

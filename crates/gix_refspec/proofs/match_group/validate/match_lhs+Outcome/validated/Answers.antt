@@ -6,10 +6,10 @@ use Rattle.gix_refspec.specs.declared.match_group.validate.Issue.{Issue}
 use Rattle.gix_refspec.specs.declared.spec.RefSpecRef.{RefSpecRef}
 use Rattle.gix_refspec.specs.Spec.{reading_of}
 use Rattle.gix_refspec.specs.Group.{mapped_of}
-use Rattle.gix_refspec.specs.Validation.{AreConflicts, AreFixes}
+use Rattle.gix_refspec.specs.Validation.{AreConflicts, AreFixes, Survives}
 use Rattle.gix_refspec.specs.Issue.{conflict_of, removed_of}
 use Rattle.gix_refspec.proofs.KeptLemmas.{no_elements}
-use Rattle.gix_refspec.proofs.ValidationLemmas.{survivors_kept}
+use Rattle.gix_refspec.proofs.ValidationLemmas.{filtered_so}
 use Rattle.gix_refspec.proofs.match_group.validate.match_lhs+Outcome.validated.Goals as goal
 
 pub returns-clause-ok : goal.returns-clause-ok
@@ -23,7 +23,7 @@ returns-clause-ok c =
         free = subst (λ (xs : List Issue). AreConflicts (map reading_of specs) (map mapped_of ms) (map conflict_of xs)) empty
             (subst (λ (xs : List RefSpecRef). AreConflicts (map reading_of xs) (map mapped_of ms) (map conflict_of issues.items)) c.as_slice-specs.ensures.value
             (subst (λ (xs : List Mapping). AreConflicts (map reading_of c.as_slice-specs.result.now) (map mapped_of xs) (map conflict_of issues.items)) c.as_slice.ensures.value c.in-Ok.ensures.ok));
-        survive = survivors_kept _ (λ p m b q told. search rules) _ ms c.retain.new.self.items c.retain.ensures.filtered;
+        survive = filtered_so Survives _ (λ p m b q told. search rules) _ ms c.retain.new.self.items c.retain.ensures.filtered;
         fixed = subst (λ (xs : List RefSpecRef). AreFixes (map reading_of xs) (map mapped_of ms) (map removed_of c.in-Ok-fixes_of.fixes.items)) c.as_slice-specs.ensures.value
             (subst (λ (xs : List Mapping). AreFixes (map reading_of c.as_slice-specs.result.now) (map mapped_of xs) (map removed_of c.in-Ok-fixes_of.fixes.items)) c.as_slice-2.ensures.value c.in-Ok-fixes_of.ensures.ok);
       },

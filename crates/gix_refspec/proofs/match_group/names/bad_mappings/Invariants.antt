@@ -1,0 +1,8 @@
+-- of the mappings so far, those of which a side is bad are there
+use Rattle.std.proofs.Common.{map, take}
+use Rattle.gix_refspec.specs.Group.{mapped_of}
+use Rattle.gix_refspec.specs.RefNames.{AreLeftOut, left_out_of}
+use Rattle.gix_refspec.proofs.match_group.names.bad_mappings.Given as goal
+
+abbrev pub invariant-loop-mapping : goal.invariant-loop-mapping
+invariant-loop-mapping l = AreLeftOut (map mapped_of (take l.mapping-index l.mappings)) (map left_out_of l.bad.items)

@@ -1,0 +1,143 @@
+//! Whether the sides of mappings are names of refs.
+
+ghost use Rattle.std.specs.Prelude.{◌≡◌, ◌↔◌, map, IfOk, IfErr, OnErr, IsTrue, MatchOption, Some};
+ghost use Rattle.std.specs.List.{AllByRecursion};
+ghost use Rattle.gix_refspec.specs.Group.{mapped_of, name_bytes, start_of};
+ghost use Rattle.gix_refspec.specs.RefNames.{AreLeftOut, IsBadAt, IsNamed, IsRefName, KeepsNamed, left_out_of};
+ghost use Rattle.gix_refspec.specs.Issue.{mappings_of};
+
+use crate::match_group::types::{Mapping, NameRef, SourceRef, match_lhs};
+use crate::name::fault_of;
+use crate::prefix::is_head;
+use std::alloc::{AllocError, Global};
+use std::{error, fmt};
+
+/// Which side of a mapping is no name of a ref.
+#[derive(Clone, Copy, Debug, PartialEq, Eq)]
+pub enum BadSide {
+    /// The source alone.
+    Source,
+    /// The destination alone.
+    Destination,
+    /// Both.
+    Both,
+}
+
+/// A mapping that was left out, as a side of it is no name of a ref.
+#[derive(Debug, Drop)]
+pub struct BadMapping<'a, 'b> {
+    /// The mapping.
+    pub mapping: Mapping<'a, 'b>,
+    /// The side that is no name.
+    pub side: BadSide,
+}
+
+/// Memory ran out while names were checked. The outcome is handed back as it was.
+#[derive(Debug, Drop)]
+pub struct NoRoom<'spec, 'item> {
+    /// The outcome whose names were to be checked.
+    pub outcome: match_lhs::Outcome<'spec, 'item>,
+}
+
+impl<'spec, 'item> fmt::Display for NoRoom<'spec, 'item> {
+    ghost use Rattle.std.specs.Prelude.{codes};
+
+    ghost output = { λ _. Some (codes "out of memory") };
+
+    fn fmt<W: fmt::Write>(&self, f: &mut fmt::Formatter<W>) -> fmt::Result {
+        f.write_str("out of memory")
+    }
+}
+
+impl<'spec, 'item> error::Error for NoRoom<'spec, 'item> {}
+
+/// The check of names.
+impl<'spec, 'item> match_lhs::Outcome<'spec, 'item> {
+    /// Removes the mappings whose source or destination is no name of a ref, and lists them, each with
+    /// the side that is none, both in order. A name of a ref is `HEAD`, or begins `refs/` and passes
+    /// `name_partial`. A source that is an id stays, and so does a mapping without a destination.
+    ///
+    /// Names of items come from a server, so a name may be `refs/heads/../../x`. The destination of
+    /// what stays is a path below `refs/`, or `HEAD`. May be called before `validated` or after it.
+    ///
+    /// Fails if memory runs out, and never where no mapping has to be removed. The error holds the
+    /// outcome as it was.
+    pub fn without_bad_names(
+        mut self,
+        alloc: Global,
+    ) -> Result<
+        (
+            match_lhs::Outcome<'spec, 'item>,
+            Vec<BadMapping<'item, 'spec>>,
+        ),
+        NoRoom<'spec, 'item>,
+    >
+        ensures ok { IfOk result (λ v. (v.0.group ≡ self.entry.group) × KeepsNamed
+            (mappings_of self.entry) (mappings_of v.0) (map left_out_of v.1.items)) }
+        ensures memory { IfErr result (λ e. (e.outcome ≡ self.entry) ×
+            ¬ (AllByRecursion IsNamed (mappings_of self.entry))) }
+    {
+        let Ok(bad) = bad_mappings(alloc, self.mappings.as_slice()) else {
+            return Err(NoRoom { outcome: self });
+        };
+        self.mappings.retain(|mapping| is_named(mapping));
+        Ok((self, bad))
+    }
+}
+
+// Copies of the mappings of which a side is no name of a ref, in order.
+fn bad_mappings<'a, 'b>(
+    alloc: Global,
+    mappings: &[Mapping<'a, 'b>],
+) -> Result<Vec<BadMapping<'a, 'b>>, AllocError>
+    ensures ok { IfOk result (λ bad. AreLeftOut
+        (map mapped_of mappings.now) (map left_out_of bad.items)) }
+    ensures memory { OnErr result (¬ (AllByRecursion IsNamed (map mapped_of mappings.now))) }
+{
+    let mut bad = Vec::new(alloc);
+    for mapping in mappings {
+        if let Some(side) = bad_side(mapping) {
+            bad.push(BadMapping {
+                mapping: mapping.clone(alloc)?,
+                side,
+            })?;
+        }
+    }
+    Ok(bad)
+}
+
+// Whether each side of a mapping is a name of a ref, as far as it is a name.
+fn is_named(mapping: &Mapping<'_, '_>) -> bool
+    ensures { IsTrue result ↔ IsNamed (mapped_of mapping.now) }
+{
+    bad_side(mapping).is_none()
+}
+
+// The side of a mapping that is no name of a ref.
+fn bad_side(mapping: &Mapping<'_, '_>) -> Option<BadSide>
+    ensures { MatchOption result
+        (IsNamed (mapped_of mapping.now)) (λ side. IsBadAt side (mapped_of mapping.now)) }
+{
+    let source = match &mapping.lhs {
+        SourceRef::FullName(name) => is_ref_name(name),
+        SourceRef::ObjectId(_) => true,
+    };
+    let destination = match &mapping.rhs {
+        None => true,
+        Some(name) => is_ref_name(name),
+    };
+    match (source, destination) {
+        (true, true) => None,
+        (false, true) => Some(BadSide::Source),
+        (true, false) => Some(BadSide::Destination),
+        (false, false) => Some(BadSide::Both),
+    }
+}
+
+// Whether a name is that of a ref: it begins `refs/` and has no fault, or is `HEAD`.
+fn is_ref_name(name: &NameRef<'_>) -> bool
+    ensures { IsTrue result ↔ IsRefName (name_bytes name.now) }
+{
+    let bytes = name.as_bstr().as_bytes();
+    is_head(bytes) || bytes.starts_with(b"refs/") && fault_of(bytes).is_none()
+}
