@@ -26,6 +26,7 @@ use Rattle.gix_refspec.specs.Meaning.{fetch_only, meaning_of, text_of, WritesPri
 use Rattle.gix_refspec.specs.Order.{keys}
 use Rattle.gix_refspec.specs.Refusal.{Refusal, Empty, NegativeWithDestination, PushToEmpty, PatternUnsupported, ReferenceName, PatternUnbalanced, NegativeEmpty, NegativeObjectHash, IsFirstReason}
 use Rattle.gix_refspec.specs.Spec.{reading_of, owned_reading_of, key_of_spec, key_of_owned}
+use Rattle.gix_refspec.specs.Errors.{IsSameError}
 use Rattle.gix_refspec.specs.Views.{shown, meant_for, IsShownAs, ShowsRefusal}
 use Rattle.gix_refspec.specs.Prefix.{AppendsExpansion, to_prefix}
 use Rattle.gix_refspec.proofs.ManualFacts.{other_length, none_some}
@@ -140,6 +141,13 @@ reasons_with_fields p is = (ap PatternUnsupported (sym is), shorter, refl, λ sa
 -- an error is not the reason of another
 pub other_reasons : (p : BString) → ¬ (IsShownAs error.Empty NegativeEmpty) × ¬ (IsShownAs error.NegativeEmpty Empty) × ¬ (IsShownAs error.NegativeWithDestination NegativeObjectHash) × ¬ (IsShownAs error.NegativeObjectHash NegativeWithDestination) × ¬ (IsShownAs error.PushToEmpty Empty) × ¬ (IsShownAs error.PatternUnbalanced (PatternUnsupported (bstring_bytes p))) × ¬ (IsShownAs (error.PatternUnsupported p) PatternUnbalanced) × ¬ (IsShownAs (error.ReferenceName LockSuffix) (PatternUnsupported (bstring_bytes p)))
 other_reasons p = ((λ same. cc), (λ same. cc), (λ same. cc), (λ same. cc), (λ same. cc), (λ same. cc), (λ same. cc), λ same. cc)
+
+-- errors are the same by variant and field, and texts with several stars by their bytes
+pub same_errors : (p q : BString) → bstring_bytes p ≡ bstring_bytes q → IsSameError (error.PatternUnsupported p) (error.PatternUnsupported q) × IsSameError error.Memory error.Memory × IsSameError (error.ReferenceName LockSuffix) (error.ReferenceName LockSuffix)
+same_errors p q is = (is, refl, refl)
+
+pub other_errors : (p q : BString) → bstring_bytes p ≢ bstring_bytes q → ¬ (IsSameError (error.PatternUnsupported p) (error.PatternUnsupported q)) × ¬ (IsSameError (error.PatternUnsupported p) error.PatternUnbalanced) × ¬ (IsSameError error.PatternUnbalanced (error.PatternUnsupported q)) × ¬ (IsSameError error.Empty error.NegativeEmpty) × ¬ (IsSameError (error.ReferenceName LockSuffix) (error.ReferenceName RepeatedDot))
+other_errors p q differ = (differ, (λ same. cc), (λ same. cc), (λ same. cc), λ same. cc)
 
 -- a push of an empty text is refused as empty
 pub refusal_shown : ShowsRefusal (IsFirstReason Push Normal [] None) error.Empty × ShowsRefusal (λ f. f ≡ PushToEmpty) error.PushToEmpty × ¬ (ShowsRefusal (λ f. f ≡ PushToEmpty) error.Empty)

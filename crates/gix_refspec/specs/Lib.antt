@@ -25,4 +25,5 @@ pub mod ValidationLaws
 pub mod Issue
 pub mod Hashed
 pub mod RefNames
+pub mod Errors
 pub mod Private

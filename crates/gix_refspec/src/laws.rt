@@ -14,6 +14,7 @@ ghost use Rattle.gix_refspec.specs.MatchLaws.{Transpose, KeptExactly, FirstStays
 ghost use Rattle.gix_refspec.specs.Validation.{ForwardFits, PlacesFit, ValidatedOnce};
 ghost use Rattle.gix_refspec.specs.ValidationLaws.{OneValidation, CopiedOutcome};
 ghost use Rattle.gix_refspec.specs.Issue.{IsSameFix, conflict_of, mappings_of};
+ghost use Rattle.gix_refspec.specs.Errors.{IsSameError};
 ghost use Rattle.gix_refspec.specs.RefNames.{WritesRefs};
 ghost use Rattle.gix_refspec.specs.Spec.{reading_of, owned_reading_of};
 ghost use Rattle.gix_refspec.specs.Views.{shown, shown_fetch, shown_push};
@@ -26,7 +27,7 @@ use crate::match_group::{Item, Mapping, NameRef, Outcome, SourceRef, match_lhs};
 use crate::name::PatternError;
 use crate::oid::{Kind, ObjectId};
 use crate::parsing::Operation;
-use crate::{Instruction, MatchGroup, RefSpec, RefSpecRef, name, oid};
+use crate::{Instruction, MatchGroup, RefSpec, RefSpecRef, name, oid, parsing};
 use std::hash::Hash;
 
 /// A text has exactly one reading, or it is refused.
@@ -287,6 +288,11 @@ pub fn equal_id_faults(a: oid::Error, b: oid::Error)
 /// Two faults of names are equal exactly where they are the same variant with equal fields.
 pub fn equal_name_faults(a: name::Error, b: name::Error)
     ensures { IsTrue (⟦<name::Error as PartialEq>⟧.eq a b) ↔ (a ≡ b) }
+{}
+
+/// Two refusals of texts are equal exactly where they are the same variant with equal fields.
+pub fn equal_errors(a: &parsing::Error, b: &parsing::Error)
+    ensures { IsTrue (⟦<parsing::Error as PartialEq>⟧.eq a.now b.now) ↔ IsSameError a.now b.now }
 {}
 
 /// Two faults of patterns are equal exactly where they are the same variant with equal fields.

@@ -49,6 +49,27 @@ pub enum Error {
     InvalidByte { byte: u8 },
 }
 
+impl Error {
+    /// What is wrong with the name, in one sentence for a user of Git.
+    pub fn explanation(&self) -> &'static str {
+        match self {
+            Error::Empty => "A ref name must not be empty.",
+            Error::EmptyComponent => {
+                "A ref name must not begin or end with a slash, or have two slashes in a row."
+            }
+            Error::StartsWithDot => "No part of a ref name between slashes may begin with a dot.",
+            Error::LockSuffix => "No part of a ref name between slashes may end with `.lock`.",
+            Error::EndsWithDot => "A ref name must not end with a dot.",
+            Error::RepeatedDot => "A ref name must not have two dots in a row.",
+            Error::ReflogPortion => "A ref name must not have `@{` in it.",
+            Error::Asterisk => "A ref name must not have a `*` in it.",
+            Error::InvalidByte { .. } => {
+                "A ref name must not have a control character, a space or one of ~ ^ : ? [ \\ in it."
+            }
+        }
+    }
+}
+
 /// Why a text with one star is no pattern.
 #[derive(Clone, Copy, Debug, PartialEq, Eq, thiserror::Error)]
 pub enum PatternError {

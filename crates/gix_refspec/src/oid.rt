@@ -38,6 +38,16 @@ impl fmt::Display for Error {
 
 impl error::Error for Error {}
 
+impl Error {
+    /// What is wrong with the id, in one sentence for a user of Git.
+    pub fn explanation(&self) -> &'static str {
+        match self {
+            Error::Length { .. } => "An object id has 40 or 64 hexadecimal digits.",
+            Error::Digit => "An object id has no characters but 0 to 9, a to f and A to F.",
+        }
+    }
+}
+
 /// The hash function that made an id, as `git init --object-format` selects it for a repository.
 #[derive(Clone, Copy, Debug, PartialEq, Eq)]
 pub enum Kind {

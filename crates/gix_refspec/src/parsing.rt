@@ -21,7 +21,7 @@ pub enum Operation {
 /// `Empty`, `NegativeWithDestination`, `PushToEmpty`, then `PatternUnsupported` or `ReferenceName`
 /// of the source, then of the destination, `PatternUnbalanced`, `NegativeEmpty`,
 /// `NegativeObjectHash`.
-#[derive(Debug, Drop, thiserror::Error)]
+#[derive(Debug, Drop, PartialEq, Eq, thiserror::Error)]
 pub enum Error {
     /// Nothing is to be pushed.
     #[error("Empty refspecs are invalid")]
@@ -59,6 +59,36 @@ pub enum Error {
     /// There was no memory to look at a long pattern, or to report a side with several stars.
     #[error("out of memory")]
     Memory,
+}
+
+impl Error {
+    /// What is wrong with the refspec, in one sentence for a user of Git.
+    pub fn explanation(&self) -> &'static str {
+        match self {
+            Error::Empty => "A refspec for a push must not be empty.",
+            Error::NegativeWithDestination => {
+                "A refspec that begins with `^` must not have a destination."
+            }
+            Error::NegativeEmpty => "A refspec that begins with `^` needs a source after the `^`.",
+            Error::NegativeObjectHash => {
+                "A refspec that begins with `^` must not have an object id as its source."
+            }
+            Error::NegativePartialName => {
+                "A refspec that begins with `^` needs a full name, which begins with `refs/`."
+            }
+            Error::NegativeGlobPattern => "A refspec that begins with `^` must not have a pattern.",
+            Error::InvalidFetchDestination =>
+                "The destination of a fetch must be the name of a ref.",
+            Error::PushToEmpty => "A push needs a destination after the colon.",
+            Error::PatternUnsupported { .. } => {
+                "A side of a refspec must not have more than one `*`."
+            }
+            Error::PatternUnbalanced =>
+                "Either both sides of a refspec have a `*`, or neither has.",
+            Error::ReferenceName(name) => name.explanation(),
+            Error::Memory => "There was not enough memory to read the refspec.",
+        }
+    }
 }
 
 impl From<name::Error> for Error {

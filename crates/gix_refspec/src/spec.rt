@@ -35,11 +35,25 @@ pub struct RefSpec {
 }
 
 impl<'a> RefSpecRef<'a> {
-    ghost use Rattle.std.specs.Prelude.{Some};
+    ghost use Rattle.std.specs.Prelude.{◌↔◌, IsTrue, Some};
     ghost use Rattle.gix_refspec.specs.Meaning.{meaning_of};
     ghost use Rattle.gix_refspec.specs.Views.{shown};
     ghost use Rattle.gix_refspec.specs.Spec.{reading_of, owned_reading_of};
-    ghost use Rattle.gix_refspec.specs.Reading.{local_of, remote_of, HasSide};
+    ghost use Rattle.gix_refspec.specs.Reading.{local_of, remote_of, Forced, HasSide};
+
+    /// What the spec was read for.
+    pub fn operation(&self) -> Operation
+        ensures { result ≡ (reading_of self.now).operation }
+    {
+        self.op
+    }
+
+    /// Whether a `+` stood before the spec, also where its instruction doesn't say so.
+    pub fn allow_non_fast_forward(&self) -> bool
+        ensures { IsTrue result ↔ ((reading_of self.now).mode ≡ Forced) }
+    {
+        self.mode == Mode::Force
+    }
 
     /// The left side, as it was read: a lone `@` stands as `HEAD`. None for a push that deletes a
     /// ref or takes all matching branches.
@@ -166,7 +180,7 @@ impl RefSpec {
     pub fn allow_non_fast_forward(&self) -> bool
         ensures { IsTrue result ↔ ((owned_reading_of self.now).mode ≡ Forced) }
     {
-        self.mode == Mode::Force
+        self.to_ref().allow_non_fast_forward()
     }
 
     /// A copy with sides of its own. Fails if memory runs out, and never where

@@ -97,6 +97,7 @@ fn copies_print_and_say_the_same(rt: HostRuntime) -> Result<(), Fail> {
             operation,
             "{operation:?} at {text}"
         );
+        assert_eq!(rt; spec.operation(), operation, "{operation:?} at {text}");
         let owned = spec.to_owned(alloc)?;
         let borrowed = owned.to_ref();
         let clone = owned.clone(alloc)?;
@@ -133,6 +134,11 @@ fn keeps_a_sign_that_no_instruction_has(rt: HostRuntime) -> Result<(), Fail> {
     let alloc = rt.alloc();
     for (operation, text, forced) in rows {
         let spec = parse(alloc, BStr::new(text.as_bytes()), operation)?;
+        assert_eq!(rt;
+            spec.allow_non_fast_forward(),
+            forced,
+            "borrowed, {operation:?} at {text}"
+        );
         let owned = spec.to_owned(alloc)?;
         assert_eq!(rt;
             owned.allow_non_fast_forward(),
