@@ -7,8 +7,8 @@ ghost use Rattle.gix_refspec.specs.Group.{ref_of, mapped_of, readings_of, IsOutc
 ghost use Rattle.gix_refspec.specs.Private.HitViews.{AreKept, AreMade, made_in};
 ghost use Rattle.gix_refspec.specs.Hits.{AreForward, AreBackward, AreKeptForward, AreKeptBackward};
 
-mod premises;
 pub mod names;
+mod premises;
 pub(crate) mod types;
 pub(crate) mod util;
 pub mod validate;

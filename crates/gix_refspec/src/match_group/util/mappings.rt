@@ -1,13 +1,12 @@
 //! The mappings of a direction that are kept. Where names seem to be listed again and again, each is
 //! matched once.
 
-ghost use Rattle.std.specs.Prelude.{[], List, map, IfOk, OnErr};
+ghost use Rattle.std.specs.Prelude.{[], map, IfOk, OnErr};
 ghost use Rattle.gix_refspec.specs.Spec.{reading_of};
-ghost use Rattle.gix_refspec.specs.Match.{Ref};
 ghost use Rattle.gix_refspec.specs.Group.{ref_of};
 ghost use Rattle.gix_refspec.specs.Private.HitViews.{AreKept, AreMade, made_in};
 ghost use Rattle.gix_refspec.specs.Private.Index.{IsIndexFor};
-ghost use Rattle.gix_refspec.specs.Private.Part.{HasNoNearId, IsPart};
+ghost use Rattle.gix_refspec.specs.Private.Part.{HasNoNearId};
 
 use super::ends::Direction;
 use super::hits::{Made, mappings_of, room_for};
@@ -69,12 +68,11 @@ fn kept_by_name<'spec, 'item>(
     let names = names_asked(alloc, direction, specs)?;
     let index = NameIndex::of(alloc, names.as_slice(), items)?;
     let room = room_for(direction, specs, items);
-    if !has_near_id(direction, specs) && names_repeat(alloc, &index, room, items)? {
-        if let Some(part) = Part::of(alloc, items)? {
-            return kept_of_part(alloc, direction, specs, &part);
-        }
+    if has_near_id(direction, specs) || !names_repeat(alloc, &index, room, items)? {
+        return kept_with(alloc, direction, specs, &index, items, room);
     }
-    kept_with(alloc, direction, specs, &index, items, room)
+    drop(index);
+    kept_once(alloc, direction, specs, items)
 }
 
 // Whether names seem to repeat: one that is asked for is listed twice, or more mappings of patterns
@@ -91,25 +89,41 @@ fn names_repeat(
     Ok(index.has_repeats() || items.len() < room || seem_repeated(alloc, items)?)
 }
 
-// The mappings that are kept, of a part of some items.
-fn kept_of_part<'spec, 'item>(
+// The mappings that are kept, of each name once.
+fn kept_once<'spec, 'item>(
     alloc: Global,
     direction: Direction,
     specs: &[RefSpecRef<'spec>],
-    part: &Part<'item>,
+    items: &[Item<'item>],
 ) -> Result<Made<'spec, 'item>, AllocError>
     requires { HasNoNearId direction (map reading_of specs.now) }
-    ensures { IfOk result (λ made. (refs : List Ref)
-        → IsPart refs (map ref_of part.now.items.items) part.now.places.items
-        → AreKept direction (map reading_of specs.now) refs (made_in direction made)) }
+    ensures { IfOk result (λ made. AreKept
+        direction (map reading_of specs.now) (map ref_of items.now) (made_in direction made)) }
 {
-    let items = part.items.as_slice();
+    match Part::of(alloc, items)? {
+        None => kept_of_all(alloc, direction, specs, items),
+        Some(part) => {
+            let mut made = kept_of_all(alloc, direction, specs, part.items.as_slice())?;
+            made.move_items(direction, part.places.as_slice());
+            Ok(made)
+        }
+    }
+}
+
+// The mappings that are kept, of all these items.
+fn kept_of_all<'spec, 'item>(
+    alloc: Global,
+    direction: Direction,
+    specs: &[RefSpecRef<'spec>],
+    items: &[Item<'item>],
+) -> Result<Made<'spec, 'item>, AllocError>
+    ensures { IfOk result (λ made. AreKept
+        direction (map reading_of specs.now) (map ref_of items.now) (made_in direction made)) }
+{
     let names = names_asked(alloc, direction, specs)?;
     let index = NameIndex::of(alloc, names.as_slice(), items)?;
     let room = room_for(direction, specs, items);
-    let mut made = kept_with(alloc, direction, specs, &index, items, room)?;
-    made.move_items(direction, part.places.as_slice());
-    Ok(made)
+    kept_with(alloc, direction, specs, &index, items, room)
 }
 
 // The mappings that are kept, by an index of the names that the specs ask for.
