@@ -38,7 +38,7 @@ any_right P (x ∷ xs) ys some = any_there P x (xs ++ ys) (any_right P xs ys som
 -- ---- one side
 
 -- what begins `refs/` isn't `HEAD`
-below_not_head : (x : List ℕ) → Begins (codes "refs/") x → x ≢ head
+pub below_not_head : (x : List ℕ) → Begins (codes "refs/") x → x ≢ head
 below_not_head x below is = let first : 114 ≡ 72 = ap (λ (y : List ℕ). get_or y 0 0) (sym below.here ∙ is) in omega (arith, first)
 
 -- a side that matches and asks for no id looks like none
@@ -54,7 +54,7 @@ candidate_begins x n one = subst (λ (names : List (List ℕ)). BeginsWithOne na
     (any_right (λ entry. Begins entry n) one.earlier (n ∷ one.later) (any_here (λ entry. Begins entry n) n one.later (record { after = []; here = sym (append-nil n) })))
 
 -- a covering side expands to an entry with which each name that it matches begins
-side_covers : (x : List ℕ) (r : Ref) (word : Option (List ℕ)) → IsCovering x → ((bytes : List ℕ) → ¬ (HasKind x (object bytes))) → Matches x r word → (entries : List (List ℕ)) × Expands x entries × BeginsWithOne entries r.name
+pub side_covers : (x : List ℕ) (r : Ref) (word : Option (List ℕ)) → IsCovering x → ((bytes : List ℕ) → ¬ (HasKind x (object bytes))) → Matches x r word → (entries : List (List ℕ)) × Expands x entries × BeginsWithOne entries r.name
 side_covers x r word (by_prefix p below is) no_object matches = (
   p ∷ [],
   to_prefix p is refl,
@@ -67,7 +67,7 @@ side_covers x r word (by_candidates lacks other outside) no_object matches =
 -- ---- one spec
 
 -- the source of a positive fetch is what it asks for
-source_asked : (r : Reading) (ends : Ends) → r.operation ≡ Fetch → AreForwardEnds r ends → IsAsked r ends.near
+pub source_asked : (r : Reading) (ends : Ends) → r.operation ≡ Fetch → AreForwardEnds r ends → IsAsked r ends.near
 source_asked r ends fetch are = record { positive = are.positive; side = ap (λ (op : Operation). side_on_remote op r.source r.destination) fetch ∙ are.near }
 
 -- a spec covers the name that it takes, where it asks for it
@@ -156,17 +156,24 @@ expansion_once r list other (inl (x, asked, a)) (inr (unasked, b)) = absurd (una
 expansion_once r list other (inr (unasked, a)) (inl (y, asked, b)) = absurd (unasked y asked)
 expansion_once r list other (inr (unasked, a)) (inr (_, b)) = a ∙ sym b
 
--- so what the spec at a place covers, the entries of all do
-joined_covers : (n : List ℕ) (g : List Reading) (k : ℕ) (entries : List (List ℕ)) (i : ℕ) (r : Reading) → slice_get g i ≡ Some r → IsCoveredBy n r → IsJoinedFrom (λ j q list. IsExpansion q list) k g entries → BeginsWithOne entries n
-joined_covers n [] k entries i r here covered joined = absurd (cc)
-joined_covers n (s ∷ g) k entries zero r here covered (first, rest, expands, more, is) =
-    let one : s ≡ r = some_reading s r here in
-    let same : covered.entries ≡ first = expansion_once r covered.entries first covered.expansion (subst (λ (q : Reading). IsExpansion q first) one expands) in
+-- so what some spec covers, the entries of all do
+pub joined_covers : (n : List ℕ) (g : List Reading) (k : ℕ) (entries : List (List ℕ)) → Any (IsCoveredBy n) g → IsJoinedFrom (λ i r list. IsExpansion r list) k g entries → BeginsWithOne entries n
+joined_covers n [] k entries (i, r, below, here, covered) joined = absurd (omega (arith, below))
+joined_covers n (s ∷ g) k entries (zero, r, below, here, covered) (first, rest, expands, more, is) =
+    let same : covered.entries ≡ first = expansion_once r covered.entries first covered.expansion (subst (λ (q : Reading). IsExpansion q first) here expands) in
     subst (λ (names : List (List ℕ)). BeginsWithOne names n) (sym is) (any_left (λ entry. Begins entry n) first rest (subst (λ (names : List (List ℕ)). BeginsWithOne names n) same covered.one))
-joined_covers n (s ∷ g) k entries (suc i) r here covered (first, rest, expands, more, is) =
-    subst (λ (names : List (List ℕ)). BeginsWithOne names n) (sym is) (any_right (λ entry. Begins entry n) first rest (joined_covers n g (k + 1) rest i r here covered more))
+joined_covers n (s ∷ g) k entries (suc i, r, below, here, covered) (first, rest, expands, more, is) =
+    subst (λ (names : List (List ℕ)). BeginsWithOne names n) (sym is) (any_right (λ entry. Begins entry n) first rest (joined_covers n g (k + 1) rest (i, r, omega (arith, below), here, covered) more))
+
+-- what holds of the one at a place holds of some
+some_at : (P : Reading → Type 0) (g : List Reading) (i : ℕ) (r : Reading) → slice_get g i ≡ Some r → P r → Any P g
+some_at P [] i r here holds = absurd (cc)
+some_at P (s ∷ g) zero r here holds = (0, r, omega arith, some_reading s r here, holds)
+some_at P (s ∷ g) (suc i) r here holds =
+    let (k, q, below, is, such) = some_at P g i r here holds in
+    (suc k, q, omega (arith, below), is, such)
 
 pub cover_together : (g : List Reading) (items : List Ref) → CoverTogether g items
 cover_together g items entries joined kept stays =
     all_weaker (λ m. (n : List ℕ) → m.source ≡ name n → IsSourceCovered g m n) (λ m. (n : List ℕ) → m.source ≡ name n → AtSpec g m (λ r. AsksFor r n → BeginsWithOne entries n))
-    (λ m covered n is. let (r, here, covers) = covered n is in (r, here, λ asks. joined_covers n g 0 entries m.spec r here (covers asks) joined)) kept (cover g items kept stays)
+    (λ m covered n is. let (r, here, covers) = covered n is in (r, here, λ asks. joined_covers n g 0 entries (some_at (IsCoveredBy n) g m.spec r here (covers asks)) joined)) kept (cover g items kept stays)

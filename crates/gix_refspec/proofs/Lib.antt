@@ -47,6 +47,7 @@ pub mod PairMadeLemmas
 pub mod FirstStaysLemmas
 pub mod CoverLemmas
 pub mod PremiseLemmas
+pub mod ItemLemmas
 pub mod AlikeLemmas
 pub mod ClaimLemmas
 pub mod FirstLemmas
@@ -70,6 +71,7 @@ pub mod ValidationLawFacts
 pub mod RefNameFacts
 pub mod LawFacts
 pub mod EqualGroupFacts
+pub mod ItemFacts
 pub mod FaultFacts
 pub mod HitFacts
 pub mod CandidateFacts

@@ -20,6 +20,7 @@ pub mod Mappings
 pub mod Group
 pub mod Hits
 pub mod MatchLaws
+pub mod ItemLaws
 pub mod Validation
 pub mod ValidationLaws
 pub mod Issue

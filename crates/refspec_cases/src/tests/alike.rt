@@ -1,4 +1,4 @@
-//! Groups that map alike, and what covers the sources of a group.
+//! Groups that map alike, what covers the sources of a group, and which items may be left out.
 
 use super::mapping::{TARGET, group_of, items_of, lines};
 use bstr::BString;
@@ -133,10 +133,7 @@ fn equal_fetches_map_alike(rt: HostRuntime) -> Result<(), Fail> {
 fn is_covered(mapping: &Mapping<'_, '_>, entries: &[BString]) -> bool {
     match &mapping.lhs {
         SourceRef::ObjectId(_) => true,
-        SourceRef::FullName(name) => entries.iter().any(|entry: &BString| name
-            .as_bstr()
-            .as_bytes()
-            .starts_with(entry.as_bytes())),
+        SourceRef::FullName(name) => begins_with_one(name.as_bstr().as_bytes(), entries),
     }
 }
 
@@ -196,6 +193,22 @@ const COVERING: [(&str, &str, &str, bool, bool); 7] = [
     ),
 ];
 
+// Whether a name begins with one of the entries.
+fn begins_with_one(name: &[u8], entries: &[BString]) -> bool {
+    entries
+        .iter()
+        .any(|entry: &BString| name.starts_with(entry.as_bytes()))
+}
+
+// What the specs of a group expand to.
+fn entries_of(alloc: Global, group: &MatchGroup<'_>) -> Result<Vec<BString>, AllocError> {
+    let mut entries = Vec::new(alloc);
+    for spec in &group.specs {
+        spec.expand_prefixes(alloc, &mut entries)?;
+    }
+    Ok(entries)
+}
+
 #[test]
 fn covers_the_sources(rt: HostRuntime) -> Result<(), Fail> {
     let alloc = rt.alloc();
@@ -203,10 +216,7 @@ fn covers_the_sources(rt: HostRuntime) -> Result<(), Fail> {
     for (specs, names, wanted, covering, covered) in COVERING {
         let items = items_of(alloc, names, &target)?;
         let group = group_of(alloc, Operation::Fetch, specs)?;
-        let mut entries = Vec::new(alloc);
-        for spec in &group.specs {
-            spec.expand_prefixes(alloc, &mut entries)?;
-        }
+        let entries = entries_of(alloc, &group)?;
         let has = group.has_covering_sources();
         assert_eq!(rt; has, covering, "{specs}");
         laws::cover(&group, items.as_slice());
@@ -217,6 +227,61 @@ fn covers_the_sources(rt: HostRuntime) -> Result<(), Fail> {
             let is = is_covered(mapping, entries.as_slice());
             assert_eq!(rt; is, covered, "{specs} over {names}");
         }
+    }
+    Ok(())
+}
+
+#[test]
+fn listed_refs_lose_no_pair(rt: HostRuntime) -> Result<(), Fail> {
+    // Specs, names, and the mappings of all, and of those that begin with an entry.
+    let rows = [
+        (
+            "refs/heads/*:refs/x/* ^refs/heads/b",
+            "refs/tags/a refs/heads/a refs/heads/b",
+            "1 0 refs/heads/a =refs/x/a\n",
+            "0 0 refs/heads/a =refs/x/a\n",
+        ),
+        (
+            "main",
+            "refs/y/main refs/heads/main refs/tags/main",
+            "2 0 refs/tags/main -\n",
+            "1 0 refs/tags/main -\n",
+        ),
+        // Where `HEAD` is there, no other candidate of it counts.
+        (
+            "@ refs/heads/*:refs/x/*",
+            "refs/tags/HEAD HEAD refs/heads/a",
+            "1 0 HEAD -\n2 1 refs/heads/a =refs/x/a\n",
+            "0 0 HEAD -\n1 1 refs/heads/a =refs/x/a\n",
+        ),
+        // Where it isn't, the pair of it is lost, and no other.
+        (
+            "@ refs/tags/*:refs/x/*",
+            "refs/heads/HEAD refs/tags/a",
+            "0 0 refs/heads/HEAD -\n1 1 refs/tags/a =refs/x/a\n",
+            "0 1 refs/tags/a =refs/x/a\n",
+        ),
+    ];
+    let alloc = rt.alloc();
+    let target = ObjectId::from_hex(TARGET.as_bytes())?;
+    for (specs, names, wanted, of_listed) in rows {
+        let items = items_of(alloc, names, &target)?;
+        let group = group_of(alloc, Operation::Fetch, specs)?;
+        let entries = entries_of(alloc, &group)?;
+        let mut listed = Vec::new(alloc);
+        for item in &items {
+            if begins_with_one(item.full_ref_name.as_bytes(), entries.as_slice()) {
+                listed.push(*item)?;
+            }
+        }
+        laws::fewer_items(&group, items.as_slice(), listed.as_slice());
+        laws::listed_items(&group, items.as_slice(), listed.as_slice());
+        let whole = group.clone(alloc)?.match_lhs(alloc, items.as_slice())?;
+        let found = lines(alloc, whole.mappings.as_slice())?;
+        assert_eq!(rt; found.as_str(), wanted, "{specs} over {names}");
+        let part = group.match_lhs(alloc, listed.as_slice())?;
+        let found = lines(alloc, part.mappings.as_slice())?;
+        assert_eq!(rt; found.as_str(), of_listed, "{specs} over {names}, listed");
     }
     Ok(())
 }

@@ -1,0 +1,61 @@
+-- Laws of matching some of the items in place of all: which ones a caller may leave out.
+-- They follow from the words of Hits and MatchLaws, and settle nothing.
+use Rattle.std.specs.Prelude.{◌≡◌, ◌⊎◌, ◌↔◌, ℕ, List, Option, Some}
+use Rattle.std.specs.List.{AllByRecursion, Any, Contains}
+use Rattle.gix_refspec.specs.declared.parsing.Operation.TheVariants.{Fetch}
+use Rattle.gix_refspec.specs.Bytes.{head}
+use Rattle.gix_refspec.specs.Reading.{Reading}
+use Rattle.gix_refspec.specs.Match.{Ref, HasName, Matches, Takes}
+use Rattle.gix_refspec.specs.Mappings.{Mapped, HasPair}
+use Rattle.gix_refspec.specs.Hits.{Ends, AreForwardEnds, AreBackwardEnds, AreKeptForward, AreKeptBackward}
+use Rattle.gix_refspec.specs.MatchLaws.{MakesForward, HasCoveringSource, BeginsWithOne, AreExpansions}
+
+-- the refs B are some of the refs A
+abbrev pub ArePart : List Ref → List Ref → Type 0
+ArePart A B = (item : Ref) → Contains B item → Contains A item
+
+-- the reading takes the item
+pub record TakesItem (HasEnds : Reading → Ends → Type 0) (Taken : List ℕ → Ref → Option (List ℕ) → Type 0) (item : Ref) (r : Reading) : Type 0 where
+  pub ends : Ends
+  pub has : HasEnds r ends
+  pub word : Option (List ℕ)
+  pub takes : Taken ends.near item word
+
+-- among B is each item of A that some reading takes
+abbrev pub HasTaken : (Reading → Ends → Type 0) → (List ℕ → Ref → Option (List ℕ) → Type 0) → List Reading → List Ref → List Ref → Type 0
+HasTaken HasEnds Taken g A B = (item : Ref) → Contains A item → Any (TakesItem HasEnds Taken item) g → Contains B item
+
+-- two lists of mappings have the same pairs
+abbrev pub HaveSamePairs : List Mapped → List Mapped → Type 0
+HaveSamePairs l m = (pair : Mapped) → HasPair l pair ↔ HasPair m pair
+
+-- where B is a part of A and has each item of A that some reading takes, the same pairs stay over B as over A. What a
+-- reading takes is what it takes among A: so the first candidate of a partial source isn't left out
+pub record FewerItems (g : List Reading) (A B : List Ref) : Type 0 where
+  pub forward : ArePart A B → HasTaken AreForwardEnds (Takes A) g A B → (kept fewer : List Mapped) → AreKeptForward g A kept → AreKeptForward g B fewer → HaveSamePairs kept fewer
+  pub backward : ArePart A B → HasTaken AreBackwardEnds Matches g A B → (kept fewer : List Mapped) → AreKeptBackward g A kept → AreKeptBackward g B fewer → HaveSamePairs kept fewer
+
+-- the reading fetches `HEAD`, and one of the refs has that name
+pub record FetchesHead (A : List Ref) (r : Reading) : Type 0 where
+  pub fetch : r.operation ≡ Fetch
+  pub source : r.source ≡ Some head
+  pub there : HasName A head
+
+-- each name that the source of the reading takes among the refs begins with an entry that the reading expands to: the
+-- source is covering, or it is `HEAD` and the refs have that name. Where they lack it, `HEAD` takes `refs/heads/HEAD`
+abbrev pub IsListed : List Ref → Reading → Type 0
+IsListed A r = HasCoveringSource r ⊎ FetchesHead A r
+
+-- B is a part of A, and has each item of A whose name begins with an entry of what the readings expand to
+pub record AreListedItems (g : List Reading) (A B : List Ref) : Type 0 where
+  pub entries : List (List ℕ)
+  pub expansions : AreExpansions g entries
+  pub part : ArePart A B
+  pub listed : (item : Ref) → Contains A item → BeginsWithOne entries item.name → Contains B item
+
+-- of such items, no pair is lost that a listed reading makes, whatever the other readings are; and where each reading
+-- is listed, the same pairs stay
+pub record ListedItems (g : List Reading) (A B : List Ref) : Type 0 where
+  pub some : AreListedItems g A B → (kept fewer : List Mapped) → AreKeptForward g A kept → AreKeptForward g B fewer → (pair : Mapped)
+      → HasPair kept pair → Any (λ r. IsListed A r × MakesForward A pair.source pair.destination r) g → HasPair fewer pair
+  pub all : AreListedItems g A B → AllByRecursion (IsListed A) g → (kept fewer : List Mapped) → AreKeptForward g A kept → AreKeptForward g B fewer → HaveSamePairs kept fewer
