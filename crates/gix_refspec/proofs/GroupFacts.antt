@@ -122,11 +122,11 @@ module _
 
     -- of these a group of fetches takes the two fetches, in order
     pub gathers_fetches : (g : MatchGroup) → g.specs.items ≡ fetches → Gathers all_specs g
-    gathers_fetches g are = (all_specs, all_specs, refl, ([], ([], (_, refl, (_, refl, (_, refl, refl))), (refl, refl))), are)
+    gathers_fetches g are = record { iterator = all_specs; all = all_specs; made = refl; given = ([], ([], (_, refl, (_, refl, (_, refl, refl))), (refl, refl))); specs = are }
 
     -- and nothing else: not one alone, nor both in the other order, nor all three
     pub gathers_no_other : (g : MatchGroup) → Gathers all_specs g → g.specs.items ≡ fetches
-    gathers_no_other g gathered = gathered.4 ∙ ap (filter (is_for Fetch)) (given gathered.0 gathered.1 gathered.3 ∙ gathered.2)
+    gathers_no_other g gathered = gathered.specs ∙ ap (filter (is_for Fetch)) (given gathered.iterator gathered.all gathered.given ∙ gathered.made)
 
     pub gathers_not_all : (g : MatchGroup) → g.specs.items ≡ all_specs → ¬ (Gathers all_specs g)
     gathers_not_all g are gathered = let same : 3 ≡ 2 = ap length (sym are ∙ gathers_no_other g gathered) in omega (arith, same)

@@ -45,6 +45,7 @@ pub mod ReachLemmas
 pub mod TransposeLemmas
 pub mod PairMadeLemmas
 pub mod FirstStaysLemmas
+pub mod GatherLemmas
 pub mod CoverLemmas
 pub mod PremiseLemmas
 pub mod ItemLemmas

@@ -63,9 +63,14 @@ is_same_operation Fetch Fetch = true
 abbrev pub is_for : Operation → RefSpecRef → Bool
 is_for operation s = is_same_operation operation s.op
 
--- the group has the specs of the operation among those that a source of specs gives, in order
-abbrev pub IsGathered : {U T : Type 0} → (U → T → Type 0) → (T → Option RefSpecRef → T → Type 0) → Operation → U → MatchGroup → Type 0
-IsGathered {U} {T} becomes steps op source group = (it : T) × (all : List RefSpecRef) × becomes source it × Drains steps it all × (group.specs.items ≡ filter (is_for op) all)
+-- the group has the specs of the operation among those that a source of specs gives, in order: what it becomes, an
+-- iterator with these steps, gives them all
+pub record IsGathered {U T : Type 0} (becomes : U → T → Type 0) (steps : T → Option RefSpecRef → T → Type 0) (op : Operation) (source : U) (group : MatchGroup) : Type 0 where
+  pub iterator : T
+  pub all : List RefSpecRef
+  pub made : becomes source iterator
+  pub given : Drains steps iterator all
+  pub specs : group.specs.items ≡ filter (is_for op) all
 
 -- the name is lent
 abbrev pub IsBorrowed : NameRef → Type 0

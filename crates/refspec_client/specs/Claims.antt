@@ -1,6 +1,9 @@
 -- What a caller shows of refspecs, in the words of the library.
-use Rattle.std.specs.Prelude.{◌≡◌, ℕ, List, Some}
+use Rattle.std.specs.Prelude.{◌≡◌, ℕ, List, Some, Result, filter_map}
+use Rattle.std.specs.Result.{result_ok}
 use Rattle.gix_refspec.specs.declared.parsing.Operation.{Operation}
+use Rattle.gix_refspec.specs.declared.parsing.Error.{Error}
+use Rattle.gix_refspec.specs.declared.spec.RefSpecRef.{RefSpecRef}
 use Rattle.gix_refspec.specs.Reading.{Reading}
 use Rattle.gix_refspec.specs.Grammar.{Reads}
 use Rattle.gix_refspec.specs.Meaning.{meaning_of, printed}
@@ -40,3 +43,7 @@ pub record IsReadAgain (r q : Reading) : Type 0 where
   pub is : printed r ≡ Some text
   pub reads : ReadsOnlyAs r.operation text q
   pub equal : AreEqual q r
+
+-- the specs among the answers of `parse`, in order
+abbrev pub specs_read : List (Result RefSpecRef Error) → List RefSpecRef
+specs_read answers = filter_map result_ok answers

@@ -13,6 +13,8 @@ ghost use Rattle.gix_refspec.specs.Refusal.{MayWantMemory};
 ghost use Rattle.gix_refspec.specs.Spec.{reading_of, owned_reading_of};
 ghost use Rattle.refspec_client.specs.Claims.{IsRefspec, ReadsOnlyAs, PrintsSame, IsReadAgain, IsCanonicalText};
 
+pub mod gather;
+
 use bstr::{BStr, BString};
 use gix_refspec::parsing::{Error, Operation};
 use gix_refspec::{RefSpec, RefSpecRef, laws, parse};

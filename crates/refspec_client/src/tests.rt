@@ -1,8 +1,9 @@
 //! Each function once, on texts that Git's manuals show.
 
+use crate::gather::{fetches_of, fetches_read, pushes_among};
 use crate::{canonical, read, reread, reread_owned, same_owned_text, same_text};
 use bstr::BStr;
-use gix_refspec::parsing::Operation;
+use gix_refspec::parsing::{Error, Operation};
 use std::test::Fail;
 
 #[test]
@@ -71,5 +72,29 @@ fn gives_canonical_texts(rt: HostRuntime) -> Result<(), Fail> {
         };
         assert_eq!(rt; made.as_bytes(), expected.as_bytes(), "at {text}");
     }
+    Ok(())
+}
+
+#[test]
+fn gathers_from_lists_slices_and_answers(rt: HostRuntime) -> Result<(), Fail> {
+    let alloc = rt.alloc();
+    let specs = [
+        gix_refspec::parse(alloc, BStr::new(b"a:b"), Operation::Fetch)?,
+        gix_refspec::parse(alloc, BStr::new(b"main"), Operation::Push)?,
+        gix_refspec::parse(alloc, BStr::new(b"^c"), Operation::Fetch)?,
+    ];
+    let wanted = [specs[0], specs[2]];
+    let mut answers = Vec::new(alloc);
+    for spec in specs {
+        answers.push(Ok(spec))?;
+        answers.push(Err(Error::Empty))?;
+    }
+    let list = Vec::from_slice(alloc, specs.as_slice())?;
+    let fetches = fetches_of(alloc, list)?;
+    assert_eq!(rt; fetches.specs.as_slice(), wanted.as_slice());
+    let pushes = pushes_among(alloc, specs.as_slice())?;
+    assert_eq!(rt; pushes.specs.as_slice(), [specs[1]].as_slice());
+    let read = fetches_read(alloc, answers.as_slice())?;
+    assert_eq!(rt; read.specs.as_slice(), wanted.as_slice());
     Ok(())
 }

@@ -239,8 +239,8 @@ impl<'a> MatchGroup<'a> {
         }
     }
 
-    /// The fetch specs among these, in order. The iterator has to end. Fails if memory runs out, and
-    /// then the iterator is given up.
+    /// The fetch specs among these, in order. The iterator has to end, and it may be asked for its next
+    /// item. Fails if memory runs out, and then the iterator is given up.
     pub fn from_fetch_specs<I: IntoIterator<Item = RefSpecRef<'a>>>(
         alloc: Global,
         specs: I,
@@ -253,8 +253,8 @@ impl<'a> MatchGroup<'a> {
         Self::of(alloc, Operation::Fetch, specs)
     }
 
-    /// The push specs among these, in order. The iterator has to end. Fails if memory runs out, and
-    /// then the iterator is given up.
+    /// The push specs among these, in order. The iterator has to end, and it may be asked for its next
+    /// item. Fails if memory runs out, and then the iterator is given up.
     pub fn from_push_specs<I: IntoIterator<Item = RefSpecRef<'a>>>(
         alloc: Global,
         specs: I,
