@@ -43,6 +43,7 @@ pub mod PartLemmas
 pub mod PartMadeLemmas
 pub mod ReachLemmas
 pub mod TransposeLemmas
+pub mod SideLawLemmas
 pub mod PairMadeLemmas
 pub mod FirstStaysLemmas
 pub mod GatherLemmas
@@ -84,6 +85,7 @@ pub mod MeaningFacts
 pub mod OrderFacts
 pub mod PrefixFacts
 pub mod SideFacts
+pub mod SideLawFacts
 pub mod RefusalFacts
 pub mod ViewFacts
 pub mod ReasonFacts

@@ -51,7 +51,7 @@ twins_back x y (patterns of_x of_y) = patterns of_y of_x
 twins_back x y (names of_x of_y) = names of_y of_x
 
 -- a text with a star, but not with several, has one
-one_star : (x : List ℕ) → HasStar x → ¬ (HasSeveralStars x) → HasOneStar x
+pub one_star : (x : List ℕ) → HasStar x → ¬ (HasSeveralStars x) → HasOneStar x
 one_star x has few = elim (lacks_or_first star x) [
   | inl lacks ↦ absurd (Lacks-Holds star x lacks has)
   | inr place ↦ cut place (lacks_or_first star place.after)
@@ -61,7 +61,7 @@ one_star x has few = elim (lacks_or_first star x) [
     cut p (inl lacks) = (p.before, p.after, record { starred = p.here; first = p.first; last = lacks })
     cut p (inr next) = absurd (few (record { before = p.before; between = next.before; after = next.after; here = p.here ∙ ap (λ (y : List ℕ). p.before ++ (star ∷ y)) next.here }))
 
-starred : (x : List ℕ) → Lacks star x ⊎ HasStar x
+pub starred : (x : List ℕ) → Lacks star x ⊎ HasStar x
 starred x = elim (lacks_or_first star x) [
   | inl lacks ↦ inl lacks
   | inr place ↦ inr (record { before = place.before; after = place.after; here = place.here })

@@ -14,6 +14,7 @@ pub mod Match
 pub mod Prefix
 pub mod Spec
 pub mod Laws
+pub mod SideLaws
 pub mod ObjectId
 pub mod Lists
 pub mod Mappings

@@ -4,6 +4,7 @@
 ghost use Rattle.std.specs.Prelude.{◌≡◌, ◌↔◌, map, option_map, IsTrue};
 ghost use Rattle.std.specs.Ordering.{nat_cmp};
 ghost use Rattle.gix_refspec.specs.Laws.{ReadsOrRefused, OneRefusal, ReadsBack, IsPrintedBack, KeepsOperation, SaysForOperation, EqualTexts, EqualReadings, IdOrFault, OneLowerText, NothingAgainst, OneWord, PrefixBegins, OnePrefix, Candidates, FirstCandidate, ClonesExactly};
+ghost use Rattle.gix_refspec.specs.SideLaws.{SidesAgree, OneKind, OneOfEach};
 ghost use Rattle.gix_refspec.specs.Meaning.{meaning_of};
 ghost use Rattle.gix_refspec.specs.ObjectId.{id_bytes};
 ghost use Rattle.gix_refspec.specs.Order.{is_same, order, place_of, writes_of};
@@ -86,6 +87,16 @@ pub fn says_for_operation(spec: &RefSpecRef<'_>)
     ensures { SaysForOperation (reading_of spec.now) }
 {}
 
+/// Each side of a spec has one star or none. Of two sides both have one, or neither has.
+pub fn sides_agree(spec: &RefSpecRef<'_>)
+    ensures { SidesAgree (reading_of spec.now) }
+{}
+
+/// As `sides_agree`, of an owned spec.
+pub fn owned_sides_agree(spec: &RefSpec)
+    ensures { SidesAgree (owned_reading_of spec.now) }
+{}
+
 /// A text is that of one id, or it has one fault; never both.
 pub fn id_or_fault(text: &[u8])
     ensures { IdOrFault text.now }
@@ -104,6 +115,18 @@ pub fn nothing_against(pattern: &[u8])
 /// A pattern's star matches at most one word of a name.
 pub fn one_word(before: &[u8], after: &[u8], name: &[u8])
     ensures { OneWord before.now after.now name.now }
+{}
+
+/// A side has at most one kind: a pattern, the full name of a ref, the id of an object, or a partial
+/// name.
+pub fn one_kind(side: &[u8])
+    ensures { OneKind side.now }
+{}
+
+/// Whatever the bytes are, a side has at most one kind, a name one word between two texts, and a text
+/// one id. `one_kind`, `one_word` and `id_or_fault` say so of slices at hand.
+pub fn one_of_each()
+    ensures { OneOfEach }
 {}
 
 /// Each ref that a side matches begins with the prefix of the side, but for the side `HEAD`.

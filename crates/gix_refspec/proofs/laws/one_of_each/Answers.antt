@@ -1,0 +1,6 @@
+-- As the laws on slices at hand.
+use Rattle.gix_refspec.proofs.SideLawLemmas.{one_of_each}
+use Rattle.gix_refspec.proofs.laws.one_of_each.Goals as goal
+
+pub returns : goal.returns
+returns c = one_of_each
