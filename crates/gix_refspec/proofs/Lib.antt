@@ -45,6 +45,7 @@ pub mod ReachLemmas
 pub mod TransposeLemmas
 pub mod SideLawLemmas
 pub mod PairMadeLemmas
+pub mod AskedLemmas
 pub mod FirstStaysLemmas
 pub mod GatherLemmas
 pub mod CoverLemmas
@@ -71,6 +72,7 @@ pub mod OutcomeFacts
 pub mod ValidationFacts
 pub mod ValidationLawFacts
 pub mod RefNameFacts
+pub mod AskedFacts
 pub mod LawFacts
 pub mod EqualGroupFacts
 pub mod ItemFacts

@@ -28,4 +28,5 @@ pub mod Issue
 pub mod Hashed
 pub mod RefNames
 pub mod Errors
+pub mod Asked
 pub mod Private

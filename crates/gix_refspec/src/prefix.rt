@@ -9,6 +9,8 @@ ghost use Rattle.gix_refspec.specs.Prefix.{TellsPrefix, HasNoPrefix, IsPrefix, E
 ghost use Rattle.gix_refspec.specs.MatchLaws.{IsCovering, HasCoveringSource};
 ghost use Rattle.gix_refspec.specs.Spec.{reading_of};
 
+mod group;
+
 use crate::cut::holds;
 use crate::parsing::Operation;
 use crate::side::{SideKind, below_refs, candidates, kind_of};

@@ -1,9 +1,8 @@
 //! What a client asks a server to advertise.
 
 use bstr::{BStr, BString};
-use gix_refspec::instruction::Fetch;
 use gix_refspec::parsing::Operation;
-use gix_refspec::{Instruction, parse};
+use gix_refspec::{MatchGroup, parse};
 use std::alloc::{AllocError, Global};
 use std::process::Abort;
 use std::test::Fail;
@@ -176,60 +175,78 @@ fn asks_for_a_push(rt: HostRuntime) -> Result<(), Fail> {
 
 // The names to ask for, or `None` where all refs have to be asked for.
 fn names_to_ask(alloc: Global, texts: &[&str]) -> Result<Option<Vec<BString>>, Fail> {
-    let mut names = Vec::new(alloc);
+    let mut specs = Vec::new(alloc);
     for text in texts {
-        let spec = parse(alloc, BStr::new(text.as_bytes()), Operation::Fetch)?;
-        if matches!(
-            spec.instruction(),
-            Instruction::Fetch(Fetch::Exclude { .. })
-        ) {
-            continue;
-        }
-        let mut entries = Vec::new(alloc);
-        spec.expand_prefixes(alloc, &mut entries)?;
-        if entries.is_empty()
-            || entries
-                .iter()
-                .any(|name: &BString| name.as_bytes().contains(&b'*'))
-        {
-            return Ok(None);
-        }
-        names.append(&mut entries)?;
+        specs.push(parse(alloc, BStr::new(text.as_bytes()), Operation::Fetch)?)?;
     }
-    Ok(Some(names))
+    Ok(MatchGroup { specs }.ref_prefixes(alloc)?)
+}
+
+// The names to ask for, one a line, or `all`.
+fn asked(alloc: Global, names: Option<Vec<BString>>) -> Result<String, AllocError> {
+    match names {
+        None => format!(in alloc; "all"),
+        Some(names) => lines(alloc, names.as_slice()),
+    }
 }
 
 #[test]
 fn gathers_what_a_group_asks_for(rt: HostRuntime) -> Result<(), Fail> {
+    let head =
+        "HEAD\nrefs/HEAD\nrefs/tags/HEAD\nrefs/heads/HEAD\nrefs/remotes/HEAD\nrefs/remotes/HEAD/HEAD\n";
     let rows = [
+        ([].as_slice(), ""),
         (
             ["+refs/heads/*:refs/remotes/origin/*", "^refs/heads/wip/*"].as_slice(),
-            Some("refs/heads/\n"),
+            "refs/heads/\n",
         ),
         (
-            ["refs/tags/v1:refs/tags/v1", "HEAD"].as_slice(),
-            Some("refs/tags/v1\nHEAD\n"),
+            ["refs/tags/v1:refs/tags/v1", "refs/heads/a"].as_slice(),
+            "refs/tags/v1\nrefs/heads/a\n",
         ),
         (
             ["main"].as_slice(),
-            Some(
-                "main\nrefs/main\nrefs/tags/main\nrefs/heads/main\nrefs/remotes/main\nrefs/remotes/main/HEAD\n",
-            ),
+            "main\nrefs/main\nrefs/tags/main\nrefs/heads/main\nrefs/remotes/main\nrefs/remotes/main/HEAD\n",
         ),
-        (["main", "*:refs/x/*"].as_slice(), None),
-        (["refs/a]/*:refs/x/*"].as_slice(), None),
+        // `HEAD` may be short for a longer name, too.
+        (["HEAD"].as_slice(), head),
+        ([":refs/x/a"].as_slice(), head),
+        // Ids and negative specs ask for nothing.
+        ([ID].as_slice(), ""),
+        (["^main", "^refs/*"].as_slice(), ""),
+        // No list serves these.
+        (["main", "*:refs/x/*"].as_slice(), "all"),
+        (["refs/*:refs/x/*"].as_slice(), "all"),
+        (["refs/*/head:refs/x/*", "main"].as_slice(), "all"),
+        (["refs/a]/*:refs/x/*"].as_slice(), "all"),
+        (["refs/a]*:refs/x/*"].as_slice(), "all"),
+        (["refs/a*]:refs/x/*"].as_slice(), "all"),
     ];
     let alloc = rt.alloc();
     for (texts, wanted) in rows {
-        let found = match names_to_ask(alloc, texts)? {
-            None => None,
-            Some(names) => Some(lines(alloc, names.as_slice())?),
-        };
-        let found = match &found {
-            None => None,
-            Some(names) => Some(names.as_str()),
-        };
-        assert_eq!(rt; found, wanted, "at {texts:?}");
+        let found = asked(alloc, names_to_ask(alloc, texts)?)?;
+        assert_eq!(rt; found.as_str(), wanted, "at {texts:?}");
+    }
+    Ok(())
+}
+
+#[test]
+fn gathers_what_a_push_asks_for(rt: HostRuntime) -> Result<(), Fail> {
+    let rows = [
+        ("main:refs/heads/x", "refs/heads/x\n"),
+        ("refs/heads/*:refs/x/*", "refs/x/\n"),
+        (":refs/heads/x", "refs/heads/x\n"),
+        ("^refs/heads/*", ""),
+        ("main", "all"),
+        (":", "all"),
+        ("refs/heads/*:refs/*", "all"),
+    ];
+    let alloc = rt.alloc();
+    for (text, wanted) in rows {
+        let mut specs = Vec::new(alloc);
+        specs.push(parse(alloc, BStr::new(text.as_bytes()), Operation::Push)?)?;
+        let found = asked(alloc, MatchGroup { specs }.ref_prefixes(alloc)?)?;
+        assert_eq!(rt; found.as_str(), wanted, "at {text}");
     }
     Ok(())
 }

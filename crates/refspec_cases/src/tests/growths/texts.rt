@@ -4,7 +4,7 @@ use super::{mark, marked, say_answered, say_refused};
 use bstr::{BStr, BString};
 use gix_refspec::name::{PatternError, has_one_star, pattern_partial};
 use gix_refspec::parsing::{Error, Operation};
-use gix_refspec::{RefSpecRef, parse};
+use gix_refspec::{MatchGroup, RefSpecRef, parse};
 use std::alloc::Global;
 use std::test::Fail;
 
@@ -134,4 +134,24 @@ fn expands_partial_names(rt: HostRuntime) -> Result<(), Fail> {
         return say_answered(&rt);
     }
     say_refused(&rt)
+}
+
+#[test]
+fn asks_for_a_group(rt: HostRuntime) -> Result<(), Fail> {
+    let alloc = rt.alloc();
+    let mut specs = Vec::new(alloc);
+    for text in ["main", "refs/heads/*:refs/x/*"] {
+        specs.push(parse(alloc, BStr::new(text.as_bytes()), Operation::Fetch)?)?;
+    }
+    let group = MatchGroup { specs };
+    match marked!(alloc, group.ref_prefixes(alloc)) {
+        Ok(Some(names)) => {
+            assert_eq!(&rt; names.len(), 7);
+            assert_eq!(&rt; names[0].as_bytes(), b"main".as_slice());
+            assert_eq!(&rt; names[6].as_bytes(), b"refs/heads/".as_slice());
+            say_answered(&rt)
+        }
+        Ok(None) => Err("no list".into()),
+        Err(_) => say_refused(&rt),
+    }
 }

@@ -1,0 +1,50 @@
+-- the list of each spec is put behind those before it
+use Rattle.std.proofs.Common.{◌≡◌, ◌<◌, List, [], length, map, get_or, sym, ap, subst, arith}
+use Rattle.std.proofs.lemmas.List.{take_all}
+use Rattle.bstr.specs.Owned.{bstring_bytes}
+use Rattle.gix_refspec.specs.declared.spec.RefSpecRef.{RefSpecRef}
+use Rattle.gix_refspec.specs.Spec.{reading_of}
+use Rattle.gix_refspec.specs.Group.{readings_of}
+use Rattle.gix_refspec.specs.Asked.{HasNoList, ListsGroup}
+use Rattle.gix_refspec.proofs.AskedLemmas.{asks_no_names, asks_something, given_list, missing_list, none_at, one_more_list, serves}
+use Rattle.gix_refspec.proofs.PrefixLemmas.{on_any_error}
+use Rattle.gix_refspec.proofs.match_group.types.MatchGroup.ref_prefixes.Goals as goal
+
+pub returns-in_err-names-clause-memory : goal.returns-in_err-names-clause-memory
+returns-in_err-names-clause-memory c =
+    let specs = c.deref-spec-items.result.now in
+    let some = asks_something specs c.loop-spec.spec-index c.spec-item.result c.loop-spec-test.true c.spec-item.is c.in_err-names.ensures.memory in
+    on_any_error c.from_residual.result (subst (λ (xs : List RefSpecRef). ¬ (ListsGroup (map reading_of xs) [])) c.deref-spec-items.ensures.value some)
+
+pub returns-in_default-clause-ok : goal.returns-in_default-clause-ok
+returns-in_default-clause-ok c =
+    let specs = c.deref-spec-items.result.now in
+    let none = missing_list (reading_of c.spec-item.result) c.in_ok-names.field-0 c.in_default.is c.in_ok-names.ensures.ok in
+    subst (λ (xs : List RefSpecRef). HasNoList (map reading_of xs)) c.deref-spec-items.ensures.value (none_at specs c.loop-spec.spec-index c.spec-item.result c.loop-spec-test.true c.spec-item.is none)
+
+pub returns-in_err-append-clause-memory : goal.returns-in_err-append-clause-memory
+returns-in_err-append-clause-memory c =
+    let specs = c.deref-spec-items.result.now in
+    let list = c.loop-spec.list in
+    let names = c.in-Some.names in
+    let given = given_list (reading_of c.spec-item.result) c.in_ok-names.field-0 names c.in-Some.is c.in_ok-names.ensures.ok in
+    on_any_error c.from_residual-in_err-append.result (λ asks.
+    let nothing = subst (λ (xs : List RefSpecRef). ListsGroup (map reading_of xs) []) (sym c.deref-spec-items.ensures.value) asks in
+    omega (arith, c.in_err-append.ensures.full, list.ok.1, names.ok.0, asks_no_names specs c.loop-spec.spec-index c.spec-item.result names.items c.loop-spec-test.true c.spec-item.is given nothing))
+
+pub loop-spec-preserved : goal.loop-spec-preserved
+loop-spec-preserved c =
+    let specs = c.args.self.now.specs.items in
+    let i = c.loop-spec.spec-index in
+    let spec = c.spec-item.result in
+    let names = c.in-Some.names in
+    let value = c.deref-spec-items.ensures.value in
+    let given = given_list (reading_of spec) c.in_ok-names.field-0 names c.in-Some.is c.in_ok-names.ensures.ok in
+    one_more_list specs i spec c.loop-spec.list.items names.items c.append.new.self.items (subst (λ (xs : List RefSpecRef). i < length xs) value c.loop-spec-test.true) (subst (λ (xs : List RefSpecRef). spec ≡ get_or xs i spec) value c.spec-item.is) c.in_ok-append.ensures.items given c.loop-spec.invariant
+
+pub returns-clause-serves : goal.returns-clause-serves
+returns-clause-serves c =
+    let specs = c.args.self.now.specs.items in
+    let list = map bstring_bytes c.loop-spec.list.items in
+    let all = take_all c.loop-spec.spec-index specs (omega (arith, c.loop-spec-test.false, ap length c.deref-spec-items.ensures.value)) in
+    serves (readings_of c.args.self.now) list (subst (λ (xs : List RefSpecRef). ListsGroup (map reading_of xs) list) all c.loop-spec.invariant)
