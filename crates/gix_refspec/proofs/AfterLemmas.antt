@@ -6,8 +6,8 @@ use Rattle.gix_refspec.specs.Reading.{Reading}
 use Rattle.gix_refspec.specs.Lists.{IsMadeFrom, IsJoinedFrom}
 use Rattle.gix_refspec.specs.Match.{Ref, Takes}
 use Rattle.gix_refspec.specs.Mappings.{Mapped, IsSamePair, AreApart, Stays}
-use Rattle.gix_refspec.specs.Hits.{AreForwardEnds, AreSpecHits, Hit, IsHit, IsIdMapping, forward_of}
-use Rattle.gix_refspec.specs.Validation.{ForwardFits, HaveOneSource, IsValidated, MeetAt, NeverMeet, Removed, Survives, ValidatedOnce}
+use Rattle.gix_refspec.specs.Hits.{AreForwardEnds, AreKeptForward, AreSpecHits, Hit, IsHit, IsIdMapping, forward_of}
+use Rattle.gix_refspec.specs.Validation.{AreConflicts, ForwardFits, HaveOneSource, IsValidated, MeetAt, NeverMeet, Removed, Survives, ValidatedOnce}
 use Rattle.gix_refspec.proofs.FirstLemmas.{start_cases}
 use Rattle.gix_refspec.proofs.KeptLemmas.{kept_once}
 use Rattle.gix_refspec.proofs.RepeatLemmas.{all_join}
@@ -70,12 +70,20 @@ never_meet (m ∷ l) one apart = (
     within : (n : Mapped) → Contains l n → Contains (m ∷ l) n
     within n (k, below, is) = (suc k, omega (arith, below), is)
 
+-- mappings of which no destination is contested have one source for each
+pub free_one_source : (g : List Reading) (l : List Mapped) → AreConflicts g l [] → HaveOneSource l
+free_one_source g l free m n d has_m has_n m_to n_to = elim (start_cases m.source n.source) [
+  | inl same ↦ same
+  | inr apart ↦ let none = free.every d (record { one = m; other = n; has_one = has_m; has_other = has_n; one_to = m_to; other_to = n_to; differ = apart }) in let inside = none.1 in absurd (omega (arith, inside))
+]
+
+-- so where they came from items, no two have one destination
+pub kept_never_meet : (g : List Reading) (items : List Ref) (l : List Mapped) → AreKeptForward g items l → AreConflicts g l [] → NeverMeet l
+kept_never_meet g items l kept free = never_meet l (free_one_source g l free) (kept_once g kept.all l kept.is)
+
 -- what is left has one source for each destination
 one_source : (g : List Reading) (l rest : List Mapped) (fixes : List Removed) → IsValidated g l rest fixes → HaveOneSource rest
-one_source g l rest fixes valid m n d has_m has_n m_to n_to = elim (start_cases m.source n.source) [
-  | inl same ↦ same
-  | inr apart ↦ let none = valid.free.every d (record { one = m; other = n; has_one = was m has_m; has_other = was n has_n; one_to = m_to; other_to = n_to; differ = apart }) in let inside = none.1 in absurd (omega (arith, inside))
-]
+one_source g l rest fixes valid m n d has_m has_n m_to n_to = free_one_source g l valid.free m n d (was m has_m) (was n has_n) m_to n_to
   where
     was : (m : Mapped) → Contains rest m → Contains l m
     was m (k, below, is) = subst (Contains l) is (All-from_recursion (Contains l) rest (stays_each (λ j x. Survives x) (Contains l) 0 l rest (recursion_from_All (Contains l) l (All-contains_itself l)) valid.survive) k m below)

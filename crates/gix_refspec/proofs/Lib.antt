@@ -60,6 +60,7 @@ pub mod AfterLemmas
 pub mod OneValidationLemmas
 pub mod PlaceFitLemmas
 pub mod RefNameLemmas
+pub mod PlacedOnceLemmas
 pub mod EqualLemmas
 pub mod ApartLemmas
 pub mod PlacedLemmas

@@ -5,6 +5,7 @@ pub mod LineLemmas
 pub mod MatchingLemmas
 pub mod OutputLemmas
 pub mod PlanLemmas
+pub mod PlanOnceLemmas
 pub mod LineFacts
 pub mod FormFacts
 pub mod RunFacts
@@ -13,3 +14,4 @@ pub mod FaultFacts
 pub mod MatchFacts
 pub mod ConflictFacts
 pub mod CandidateFacts
+pub mod PlanOnceFacts

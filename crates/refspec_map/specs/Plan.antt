@@ -1,15 +1,15 @@
 -- What a plan writes: where several sources are mapped to one destination, a line for each such
 -- destination, and else a line for each mapping that survives and for each that is removed. The forms of
 -- these lines are this project's own rule.
-use Rattle.std.specs.Prelude.{◌≡◌, ◌≢◌, ℕ, Bool, List, [], ◌∷◌, ◌++◌, Some, MatchBool, codes}
-use Rattle.std.specs.List.{flat_map, zip}
+use Rattle.std.specs.Prelude.{◌≡◌, ◌≢◌, ℕ, Bool, List, [], ◌∷◌, ◌++◌, Some, MatchBool, codes, map}
+use Rattle.std.specs.List.{AllByRecursion, AllZip, flat_map, zip}
 use Rattle.gix_refspec.specs.Reading.{Reading}
 use Rattle.gix_refspec.specs.Meaning.{printed}
 use Rattle.gix_refspec.specs.Lists.{IsJoinedFrom}
 use Rattle.gix_refspec.specs.Match.{Ref}
 use Rattle.gix_refspec.specs.Mappings.{Start, Mapped}
 use Rattle.gix_refspec.specs.Hits.{AreKeptForward}
-use Rattle.gix_refspec.specs.Validation.{Conflict, Removed, AreConflicts, IsValidated}
+use Rattle.gix_refspec.specs.Validation.{Conflict, Removed, AreConflicts, IsValidated, NeverMeet}
 use Rattle.refspec_map.specs.Input.{newline}
 use Rattle.refspec_map.specs.Matching.{tab, map_line, source_text}
 
@@ -52,6 +52,25 @@ pub record IsPlan (g : List Reading) (items : List Ref) (output : List ℕ) (con
   pub mappings : List Mapped
   pub kept : AreKeptForward g items mappings
   pub shows : MatchBool conflicting (ShowsConflicts g mappings output) (ShowsValidated g mappings output)
+
+-- no two of the lines are the same
+abbrev pub AreDistinct : List (List ℕ) → Type 0
+AreDistinct [] = Unit {0}
+AreDistinct (line ∷ lines) = AllByRecursion (λ other. other ≢ line) lines × AreDistinct lines
+
+-- the output has the lines of the mappings that survive and of the fixes. No two of these mappings have the same
+-- destination, and no two lines are the same
+pub record WritesOnce (g : List Reading) (items : List Ref) (output : List ℕ) : Type 0 where
+  pub mappings : List Mapped
+  pub rest : List Mapped
+  pub fixes : List Removed
+  pub fixed : List (List ℕ)
+  pub kept : AreKeptForward g items mappings
+  pub is : IsValidated g mappings rest fixes
+  pub are : AllZip IsFixLine fixes fixed
+  pub written : output ≡ flat_map (λ line. line) (map map_line rest ++ fixed)
+  pub apart : NeverMeet rest
+  pub once : AreDistinct (map map_line rest ++ fixed)
 
 -- the line of the fix was put behind the old output
 abbrev pub PutsFix : Removed → List ℕ → List ℕ → Type 0

@@ -1,17 +1,21 @@
 -- What a run of a command does to its reader and its writer.
-use Rattle.std.specs.Prelude.{◌≡◌, ℕ, Bool, List, Option, if◌then◌else◌, ⊤}
+use Rattle.std.specs.Prelude.{◌≡◌, ◌≢◌, ℕ, Bool, false, List, Option, if◌then◌else◌, ⊤}
 use Rattle.std.specs.Io.KnownBytes.{Appends, Keeps}
 use Rattle.gix_refspec.specs.declared.parsing.Operation.TheVariants.{Push, Fetch}
 use Rattle.refspec_map.specs.declared.command.Command.{Command}
 use Rattle.refspec_map.specs.declared.command.Command.TheVariants as command
 use Rattle.refspec_map.specs.declared.fault.Fault.{Fault}
 use Rattle.refspec_map.specs.declared.fault.Fault.TheVariants as fault
+use Rattle.gix_refspec.specs.declared.parsing.Error.{Error}
+use Rattle.gix_refspec.specs.declared.parsing.Error.TheVariants.{Memory}
+use Rattle.gix_refspec.specs.Refusal.{IsRefused}
+use Rattle.gix_refspec.specs.Views.{ShowsRefusal}
 use Rattle.gix_refspec.specs.Hits.{AreKeptForward, AreKeptBackward}
 use Rattle.refspec_map.specs.Input.{IsTooLong, ReadsToEnd}
 use Rattle.refspec_map.specs.Line.{IsFirstFault}
 use Rattle.refspec_map.specs.Matching.{AreMapLines, IsMatching}
 use Rattle.refspec_map.specs.Output.{IsCanon}
-use Rattle.refspec_map.specs.Plan.{IsPlan}
+use Rattle.refspec_map.specs.Plan.{IsPlan, WritesOnce}
 
 -- the output of a command for an input, and whether some line is refused, or a plan for its conflicts
 abbrev pub IsOutput : Command → List ℕ → List ℕ → Bool → Type 0
@@ -58,3 +62,12 @@ Explains command old new fault.Write = ⊤
 abbrev pub Leaves : Option (List ℕ) → Option (List ℕ) → Fault → Type 0
 Leaves old new fault.Write = ⊤
 Leaves old new _ = Keeps old new
+
+-- a plan that ends with status 0 writes no destination from two sources, and no line twice
+abbrev pub PlanOnce : Type 0
+PlanOnce = (reader_old reader_new writer_old writer_new : Option (List ℕ)) → Answers command.Plan reader_old reader_new writer_old writer_new 0
+    → (input : List ℕ) × (output : List ℕ) × ReadsToEnd reader_old reader_new input × Appends writer_old writer_new output × IsMatching (λ g items written refusal. WritesOnce g items written) input output false
+
+-- the error in the fault of a spec is the first reason against a text, and never want of memory
+abbrev pub SpecIsRefused : Type 0
+SpecIsRefused = (command : Command) (old new : Option (List ℕ)) (number : ℕ) (error : Error) → Explains command old new (fault.Spec number error) → (error ≢ Memory) × (text : List ℕ) × ShowsRefusal (IsRefused Fetch text) error

@@ -3,7 +3,7 @@
 ghost use Rattle.std.specs.Prelude.{◌⊎◌, IfOk, IfErr, OnOk};
 ghost use Rattle.std.specs.Io.KnownBytes.{Appends};
 ghost use Rattle.refspec_map.specs.Fault.{IsMemory, IsWrite};
-ghost use Rattle.refspec_map.specs.Run.{Answers, Explains, IsBad, IsGood, IsOutput, Leaves};
+ghost use Rattle.refspec_map.specs.Run.{Answers, Explains, IsBad, IsGood, IsOutput, Leaves, PlanOnce, SpecIsRefused};
 
 use crate::canon::canon;
 use crate::command::Command;
@@ -51,6 +51,17 @@ pub fn run<R: Read, W: Write>(
     write_output(writer, output.as_slice())?;
     Ok(u8::from(refusal))
 }
+
+/// A plan that ends with status 0 writes no destination from two sources, and no line twice. By the law a
+/// caller of [`run`] has this of what was written.
+pub fn plan_once()
+    ensures { PlanOnce }
+{}
+
+/// The error of `Fault::Spec` is the first reason against a text, and never `Error::Memory`.
+pub fn spec_is_refused()
+    ensures { SpecIsRefused }
+{}
 
 // The output of a command for an input, and whether some line is refused or a plan has conflicts.
 fn output_of(alloc: Global, command: Command, input: &[u8]) -> Result<(Vec<u8>, bool), Fault>

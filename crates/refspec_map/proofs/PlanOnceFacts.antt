@@ -1,0 +1,40 @@
+-- What a caller of a run concludes from the laws on plans and on faults of specs.
+use Rattle.std.proofs.Common.{◌≡◌, ℕ, List, [], ◌∷◌, ◌++◌, Option, Some, codes, length, get_or, map, refl, ap, subst, arith}
+use Rattle.std.specs.Io.KnownBytes.{Appends}
+use Rattle.gix_refspec.specs.declared.parsing.Error.TheVariants.{Memory}
+use Rattle.gix_refspec.specs.Reading.{Reading}
+use Rattle.gix_refspec.specs.Match.{Ref}
+use Rattle.gix_refspec.specs.Mappings.{Mapped}
+use Rattle.gix_refspec.specs.Validation.{NeverMeet}
+use Rattle.refspec_map.specs.declared.command.Command.{Command}
+use Rattle.refspec_map.specs.declared.fault.Fault.TheVariants as fault
+use Rattle.refspec_map.specs.Matching.{map_line}
+use Rattle.refspec_map.specs.Plan.{AreDistinct, WritesOnce}
+use Rattle.refspec_map.specs.Run.{Explains, PlanOnce, SpecIsRefused}
+use Rattle.refspec_map.proofs.MatchFacts.{head_planned}
+
+-- lines differ wherever they stand, and may begin alike
+pub distinct : AreDistinct (codes "a" ∷ codes "b" ∷ codes "ab" ∷ []) × ¬ (AreDistinct (codes "a" ∷ codes "b" ∷ codes "a" ∷ []))
+distinct = (
+  (((λ same. let first : 98 ≡ 97 = ap (λ (x : List ℕ). get_or x 0 0) same in omega (arith, first)), ((λ same. let size : 2 ≡ 1 = ap length same in omega (arith, size)), tt)), (((λ same. let size : 2 ≡ 1 = ap length same in omega (arith, size)), tt), (tt, tt))),
+  λ apart. apart.0.1.0 refl,
+)
+
+-- by the law no two mappings that were written have one destination
+pub no_destination_twice : (g : List Reading) (items : List Ref) (output : List ℕ) (w : WritesOnce g items output) (m n : Mapped) (d : List ℕ) → m.destination ≡ Some d → n.destination ≡ Some d → ¬ (w.rest ≡ m ∷ n ∷ [])
+no_destination_twice g items output w m n d to also is = (subst NeverMeet is w.apart).0.0 (d, to, also)
+
+-- nor is a line of a mapping or of a fix written twice
+pub no_mapping_twice : (g : List Reading) (items : List Ref) (output : List ℕ) (w : WritesOnce g items output) (m : Mapped) → ¬ (w.rest ≡ m ∷ m ∷ [])
+no_mapping_twice g items output w m is = (subst (λ (ms : List Mapped). AreDistinct (map map_line ms ++ w.fixed)) is w.once).0.0 refl
+
+pub no_fix_twice : (g : List Reading) (items : List Ref) (output : List ℕ) (w : WritesOnce g items output) (line : List ℕ) → w.rest ≡ [] → ¬ (w.fixed ≡ line ∷ line ∷ [])
+no_fix_twice g items output w line none is = (subst AreDistinct is (subst (λ (ms : List Mapped). AreDistinct (map map_line ms ++ w.fixed)) none w.once)).0.0 refl
+
+-- the law speaks of the plan that maps `HEAD`
+pub head_once : PlanOnce → (g : List Reading) × (items : List Ref) × (output : List ℕ) × Appends (Some []) (Some (codes "map\t0\t0\tHEAD\n")) output × WritesOnce g items output
+head_once law = let (input, output, read, written, matching) = law _ _ _ _ head_planned in (_, _, output, written, matching.is)
+
+-- by the law no fault of a spec holds want of memory
+pub no_memory_told : SpecIsRefused → (c : Command) (old new : Option (List ℕ)) (number : ℕ) → ¬ (Explains c old new (fault.Spec number Memory))
+no_memory_told law c old new number told = (law c old new number Memory told).0 refl

@@ -1,0 +1,283 @@
+-- A plan that ends with status 0 writes no destination from two sources, and no line twice.
+use Rattle.std.proofs.Common.{◌≡◌, ◌≢◌, inl, inr, ℕ, zero, suc, ◌+◌, ◌<◌, ◌≤◌, ◌%◌, ◌^◌, Bool, true, false, List, [], ◌∷◌, ◌++◌, Option, None, Some, flat_map, get_or, length, length-append, map, codes, refl, sym, ap, ◌∙◌, subst, append_assoc, arith}
+use Rattle.std.specs.Prelude.{decimal, if◌then◌else◌, MatchBool}
+use Rattle.std.specs.List.{AllByRecursion, AllZip, slice_get}
+use Rattle.std.proofs.lemmas.Fmt.{decimal_by_steps, decimal_injective}
+use Rattle.std.proofs.lemmas.List.{append_cancel_left, append_cancel_right}
+use Rattle.std.proofs.lemmas.Option.{slice_get_within}
+use Rattle.gix_refspec.specs.declared.parsing.Operation.TheVariants.{Fetch}
+use Rattle.gix_refspec.specs.declared.parsing.Error.{Error}
+use Rattle.gix_refspec.specs.declared.parsing.Error.TheVariants.{Memory}
+use Rattle.gix_refspec.specs.Text.{Lacks}
+use Rattle.gix_refspec.specs.Reading.{Reading}
+use Rattle.gix_refspec.specs.Grammar.{Reads}
+use Rattle.gix_refspec.specs.Refusal.{Refusal, IsRefused}
+use Rattle.gix_refspec.specs.Views.{ShowsRefusal}
+use Rattle.gix_refspec.specs.Meaning.{printed}
+use Rattle.gix_refspec.specs.Match.{Ref}
+use Rattle.gix_refspec.specs.Lists.{IsJoinedFrom}
+use Rattle.gix_refspec.specs.Mappings.{name, Mapped, IsSamePair, AreApart}
+use Rattle.gix_refspec.specs.Hits.{AreKeptForward}
+use Rattle.gix_refspec.specs.Validation.{ForwardPlaces, Removed, Survives}
+use Rattle.gix_refspec.proofs.TextLemmas.{first_once, last_once}
+use Rattle.gix_refspec.proofs.RepeatLemmas.{all_join, all_weaker}
+use Rattle.gix_refspec.proofs.KeptLemmas.{kept_once}
+use Rattle.gix_refspec.proofs.AfterLemmas.{apart_still, kept_never_meet, stays_each, validated_once}
+use Rattle.gix_refspec.proofs.PlaceFitLemmas.{places_fit}
+use Rattle.gix_refspec.proofs.PlacedOnceLemmas.{AreFixesApart, IsOfItsSpec, fixes_apart, fixes_of_group, kept_of_specs, one_id, printed_lacks}
+use Rattle.refspec_map.specs.declared.command.Command.TheVariants as command
+use Rattle.refspec_map.specs.declared.fault.Fault.TheVariants as fault
+use Rattle.refspec_map.specs.Input.{newline, AreLines, input_limit}
+use Rattle.refspec_map.specs.Line.{Entry, reading, ref, Gives, readings_in, refs_in, IsFirstFault}
+use Rattle.refspec_map.specs.Matching.{tab, item_text, source_text, destination_text, map_line}
+use Rattle.refspec_map.specs.Plan.{AreDistinct, IsFixLine, ShowsValidated, WritesOnce}
+use Rattle.refspec_map.specs.Run.{PlanOnce, SpecIsRefused}
+
+-- ---- numbers
+
+abbrev AreDigits : List ℕ → Type 0
+AreDigits ds = AllByRecursion (λ c. 48 ≤ c) ds
+
+digits : (n : ℕ) → n < 2 ^ 64 → AreDigits (decimal n)
+digits n small = decimal_by_steps (λ _ ds. AreDigits ds) (λ k below. (omega arith, tt)) (λ k ds above all. all_join (λ c. 48 ≤ c) ds ((48 + k % 10) ∷ []) all (omega arith, tt)) n small
+
+digits_lack : (ds : List ℕ) → AreDigits ds → Lacks tab ds
+digits_lack ds all = all_weaker (λ c. 48 ≤ c) (λ c. c ≢ tab) (λ c high same. omega (arith, high, same)) ds all
+
+-- the place of an item, where there is one, is written
+abbrev IsSmall : Option ℕ → Type 0
+IsSmall None = Unit {0}
+IsSmall (Some j) = j < 2 ^ 64
+
+item_lacks : (i : Option ℕ) → IsSmall i → Lacks tab (item_text i)
+item_lacks None small = ((λ same. omega (arith, same)), tt)
+item_lacks (Some j) small = digits_lack (decimal j) (digits j small)
+
+no_dash : (j : ℕ) → j < 2 ^ 64 → ¬ (decimal j ≡ 45 ∷ [])
+no_dash j small same = let all : AreDigits (45 ∷ []) = subst AreDigits same (digits j small) in let high = all.0 in absurd (omega (arith, high))
+
+item_once : (i j : Option ℕ) → IsSmall i → IsSmall j → item_text i ≡ item_text j → i ≡ j
+item_once None None small_i small_j same = refl
+item_once None (Some j) small_i small_j same = absurd (no_dash j small_j (sym same))
+item_once (Some i) None small_i small_j same = absurd (no_dash i small_i same)
+item_once (Some i) (Some j) small_i small_j same = ap Some (decimal_injective i j small_i small_j same)
+
+destination_once : (a b : Option (List ℕ)) → destination_text a ≡ destination_text b → a ≡ b
+destination_once None None same = refl
+destination_once None (Some e) same = absurd (cc)
+destination_once (Some d) None same = absurd (cc)
+destination_once (Some d) (Some e) same = let rest : d ≡ e = cc in ap Some rest
+
+-- ---- the lines of mappings
+
+-- what the mapping was made of has places, and these can be written
+record IsPlaced (g : List Reading) (items : List Ref) (m : Mapped) : Type 0 where
+  places : ForwardPlaces g items m
+  of_spec : IsOfItsSpec g m
+  spec : m.spec < 2 ^ 64
+  item : IsSmall m.item
+
+-- one line has one spec, one item and then the same text
+line_parts : (g : List Reading) (items : List Ref) (m n : Mapped) → IsPlaced g items m → IsPlaced g items n → map_line m ≡ map_line n
+    → (m.spec ≡ n.spec) × (m.item ≡ n.item) × (source_text m.source ++ (destination_text m.destination ++ (newline ∷ [])) ≡ source_text n.source ++ (destination_text n.destination ++ (newline ∷ [])))
+line_parts g items m n at_m at_n same =
+    let behind = append_cancel_left (codes "map\t") _ _ same in
+    let spec = first_once tab (decimal m.spec) (decimal n.spec) _ _ (digits_lack (decimal m.spec) (digits m.spec at_m.spec)) (digits_lack (decimal n.spec) (digits n.spec at_n.spec)) behind in
+    let item = first_once tab (item_text m.item) (item_text n.item) _ _ (item_lacks m.item at_m.item) (item_lacks n.item at_n.item) spec.1 in
+    (decimal_injective m.spec n.spec at_m.spec at_n.spec spec.0, item_once m.item n.item at_m.item at_n.item item.0, item.1)
+
+one_ref : (r q : Ref) → Some r ≡ Some q → r ≡ q
+one_ref r q same = cc
+
+source_once : (g : List Reading) (items : List Ref) (m n : Mapped) → IsPlaced g items m → IsPlaced g items n → m.spec ≡ n.spec → m.item ≡ n.item → (i : Option ℕ) → m.item ≡ i → m.source ≡ n.source
+source_once g items m n at_m at_n spec item None is = one_id g m n at_m.of_spec at_n.of_spec is (sym item ∙ is) spec
+source_once g items m n at_m at_n spec item (Some j) is =
+    let (r, here, named) = at_m.places.item j is in
+    let (q, there, also) = at_n.places.item j (sym item ∙ is) in
+    named ∙ ap (λ (x : Ref). name x.name) (one_ref r q (sym here ∙ there)) ∙ sym also
+
+-- so it has one pair
+pair_once : (g : List Reading) (items : List Ref) (m n : Mapped) → IsPlaced g items m → IsPlaced g items n → map_line m ≡ map_line n → IsSamePair m n
+pair_once g items m n at_m at_n same =
+    let (spec, item, behind) = line_parts g items m n at_m at_n same in
+    let source = source_once g items m n at_m at_n spec item m.item refl in
+    let rest = append_cancel_left (source_text n.source) _ _ (ap (λ s. source_text s ++ (destination_text m.destination ++ (newline ∷ []))) (sym source) ∙ behind) in
+    record { source = source; destination = destination_once m.destination n.destination (append_cancel_right (destination_text m.destination) (destination_text n.destination) (newline ∷ []) rest) }
+
+others_differ : (g : List Reading) (items : List Ref) (m : Mapped) (xs : List Mapped) → IsPlaced g items m → AllByRecursion (IsPlaced g items) xs → AllByRecursion (λ x. ¬ (IsSamePair m x)) xs → AllByRecursion (λ y. y ≢ map_line m) (map map_line xs)
+others_differ g items m [] at_m placed apart = tt
+others_differ g items m (x ∷ xs) at_m placed apart = ((λ same. apart.0 (pair_once g items m x at_m placed.0 (sym same))), others_differ g items m xs at_m placed.1 apart.1)
+
+maps_distinct : (g : List Reading) (items : List Ref) (xs : List Mapped) → AllByRecursion (IsPlaced g items) xs → AreApart xs → AreDistinct (map map_line xs)
+maps_distinct g items [] placed apart = tt
+maps_distinct g items (m ∷ xs) placed apart = (others_differ g items m xs placed.0 placed.1 apart.0, maps_distinct g items xs placed.1 apart.1)
+
+-- ---- the lines of fixes
+
+-- the canonical text of the fix's spec holds no tab
+abbrev HasClearText : Removed → Type 0
+HasClearText f = (t : List ℕ) → printed f.spec ≡ Some t → Lacks tab t
+
+ended_lacks : (t : List ℕ) → Lacks tab t → Lacks tab (t ++ (newline ∷ []))
+ended_lacks t lacks = all_join (λ c. c ≢ tab) t (newline ∷ []) lacks ((λ same. omega (arith, same)), tt)
+
+fix_once : (f h : Removed) (x y : List ℕ) → HasClearText f → HasClearText h → IsFixLine f x → IsFixLine h y → x ≡ y → f.destination ≡ h.destination
+fix_once f h x y clear_f clear_h (t, prints, is) (u, also, it) same =
+    let behind = append_cancel_left (codes "fix\t") _ _ (sym is ∙ same ∙ it) in
+    (last_once tab f.destination h.destination (t ++ (newline ∷ [])) (u ++ (newline ∷ [])) (ended_lacks t (clear_f t prints)) (ended_lacks u (clear_h u also)) behind).0
+
+other_fixes : (f : Removed) (x : List ℕ) → HasClearText f → IsFixLine f x → (fixes : List Removed) (lines : List (List ℕ)) → AllZip IsFixLine fixes lines → AllByRecursion (λ h. h.destination ≢ f.destination) fixes → AllByRecursion HasClearText fixes → AllByRecursion (λ y. y ≢ x) lines
+other_fixes f x clear is [] [] are apart clears = tt
+other_fixes f x clear is [] (y ∷ lines) are apart clears = absurd are
+other_fixes f x clear is (h ∷ fixes) [] are apart clears = absurd are
+other_fixes f x clear is (h ∷ fixes) (y ∷ lines) are apart clears = ((λ same. apart.0 (fix_once h f y x clears.0 clear are.0 is same)), other_fixes f x clear is fixes lines are.1 apart.1 clears.1)
+
+fixes_distinct : (fixes : List Removed) (lines : List (List ℕ)) → AllZip IsFixLine fixes lines → AreFixesApart fixes → AllByRecursion HasClearText fixes → AreDistinct lines
+fixes_distinct [] [] are apart clears = tt
+fixes_distinct [] (y ∷ lines) are apart clears = absurd are
+fixes_distinct (f ∷ fixes) [] are apart clears = absurd are
+fixes_distinct (f ∷ fixes) (x ∷ lines) are apart clears = (other_fixes f x clears.0 are.0 fixes lines are.1 apart.0 clears.1, fixes_distinct fixes lines are.1 apart.1 clears.1)
+
+-- ---- all lines
+
+no_fix : (m : Mapped) (fixes : List Removed) (lines : List (List ℕ)) → AllZip IsFixLine fixes lines → AllByRecursion (λ y. y ≢ map_line m) lines
+no_fix m [] [] are = tt
+no_fix m [] (y ∷ lines) are = absurd are
+no_fix m (f ∷ fixes) [] are = absurd are
+no_fix m (f ∷ fixes) (y ∷ lines) are = ((λ same. let first : 109 ≡ 102 = ap (λ (z : List ℕ). get_or z 0 0) (sym same ∙ are.0.2) in omega (arith, first)), no_fix m fixes lines are.1)
+
+no_fixes : (xs : List Mapped) (fixes : List Removed) (lines : List (List ℕ)) → AllZip IsFixLine fixes lines → AllByRecursion (λ x. AllByRecursion (λ y. y ≢ x) lines) (map map_line xs)
+no_fixes [] fixes lines are = tt
+no_fixes (m ∷ xs) fixes lines are = (no_fix m fixes lines are, no_fixes xs fixes lines are)
+
+distinct_join : (xs ys : List (List ℕ)) → AreDistinct xs → AreDistinct ys → AllByRecursion (λ x. AllByRecursion (λ y. y ≢ x) ys) xs → AreDistinct (xs ++ ys)
+distinct_join [] ys left right apart = right
+distinct_join (x ∷ xs) ys left right apart = (all_join (λ y. y ≢ x) xs ys left.0 apart.0, distinct_join xs ys left.1 right apart.1)
+
+joined_lines : (ms : List Mapped) (lines : List (List ℕ)) → flat_map (λ (l : List ℕ). l) (map map_line ms ++ lines) ≡ flat_map map_line ms ++ flat_map (λ (l : List ℕ). l) lines
+joined_lines [] lines = refl
+joined_lines (m ∷ ms) lines = ap (λ x. map_line m ++ x) (joined_lines ms lines) ∙ sym (append_assoc (map_line m) (flat_map map_line ms) (flat_map (λ (l : List ℕ). l) lines))
+
+fix_parts : (k : ℕ) (fixes : List Removed) (fixed : List ℕ) → IsJoinedFrom (λ j f l. IsFixLine f l) k fixes fixed → (lines : List (List ℕ)) × AllZip IsFixLine fixes lines × (fixed ≡ flat_map (λ (l : List ℕ). l) lines)
+fix_parts k [] fixed empty = ([], tt, empty)
+fix_parts k (f ∷ fixes) fixed (made, rest, of, more, is) = let (lines, are, same) = fix_parts (k + 1) fixes rest more in (made ∷ lines, (of, are), is ∙ ap (λ x. made ++ x) same)
+
+-- ---- the input
+
+size_of_full : (x : List ℕ) → x ≢ [] → 0 < length x
+size_of_full [] full = absurd (full refl)
+size_of_full (b ∷ x) full = omega arith
+
+-- an input has no more lines than bytes, and no more specs and refs than lines
+lines_fit : (lines : List (List ℕ)) (input : List ℕ) → AreLines lines input → length lines ≤ length input
+lines_fit [] input cut = omega arith
+lines_fit (line ∷ lines) input (lacks, inl (rest, is, cut)) =
+    let more = lines_fit lines rest cut in
+    let size = ap length is ∙ length-append line (newline ∷ rest) in
+    omega (arith, more, size)
+lines_fit (line ∷ lines) input (lacks, inr (full, none, is)) =
+    let size = ap length is in
+    let last = ap length none in
+    let some = size_of_full line full in
+    omega (arith, size, last, some)
+
+given_fit : (lines : List (List ℕ)) (entries : List Entry) → AllZip Gives lines entries → (length (readings_in entries) ≤ length lines) × (length (refs_in entries) ≤ length lines)
+given_fit [] [] given = (omega arith, omega arith)
+given_fit [] (e ∷ entries) given = absurd given
+given_fit (line ∷ lines) [] given = absurd given
+given_fit (line ∷ lines) (reading r ∷ entries) given = let fit = given_fit lines entries given.1 in let one = fit.0 in let other = fit.1 in (omega (arith, one), omega (arith, other))
+given_fit (line ∷ lines) (ref r ∷ entries) given = let fit = given_fit lines entries given.1 in let one = fit.0 in let other = fit.1 in (omega (arith, one), omega (arith, other))
+
+-- each spec was read from some text
+given_reads : (lines : List (List ℕ)) (entries : List Entry) → AllZip Gives lines entries → (k : ℕ) (r : Reading) → slice_get (readings_in entries) k ≡ Some r → (text : List ℕ) × Reads Fetch text r
+given_reads [] [] given k r is = absurd (cc)
+given_reads [] (e ∷ entries) given k r is = absurd given
+given_reads (line ∷ lines) [] given k r is = absurd given
+given_reads (line ∷ lines) (reading q ∷ entries) ((text, says, reads), given) zero r is = let same : q ≡ r = cc in (text, subst (Reads Fetch text) same reads)
+given_reads (line ∷ lines) (reading q ∷ entries) (gives, given) (suc k) r is = given_reads lines entries given k r is
+given_reads (line ∷ lines) (ref q ∷ entries) (gives, given) k r is = given_reads lines entries given k r is
+
+-- ---- a plan
+
+item_small : (items : List Ref) (m : Mapped) (i : Option ℕ) → length items < 2 ^ 64 → m.item ≡ i → ((j : ℕ) → m.item ≡ Some j → (r : Ref) × (slice_get items j ≡ Some r) × (m.source ≡ name r.name)) → IsSmall i
+item_small items m None few is places = tt
+item_small items m (Some j) few is places = let (r, here, named) = places j is in let below = slice_get_within items j r here in omega (arith, below, few)
+
+placed : (g : List Reading) (items : List Ref) → length g < 2 ^ 64 → length items < 2 ^ 64 → (xs : List Mapped) → AllByRecursion (ForwardPlaces g items) xs → AllByRecursion (IsOfItsSpec g) xs → AllByRecursion (IsPlaced g items) xs
+placed g items few_specs few_items [] places specs = tt
+placed g items few_specs few_items (m ∷ xs) places specs = (
+  (let below = places.0.spec in record { places = places.0; of_spec = specs.0; spec = omega (arith, below, few_specs); item = item_small items m m.item few_items refl places.0.item }),
+  placed g items few_specs few_items xs places.1 specs.1,
+)
+
+-- a plan without conflicts
+writes_once : (lines : List (List ℕ)) (entries : List Entry) (input output : List ℕ) (l : List Mapped) → AreLines lines input → AllZip Gives lines entries → length input ≤ input_limit → AreKeptForward (readings_in entries) (refs_in entries) l → ShowsValidated (readings_in entries) l output → WritesOnce (readings_in entries) (refs_in entries) output
+writes_once lines entries input output l cut given within kept shows =
+    let g = readings_in entries in
+    let items = refs_in entries in
+    let rest = shows.rest in
+    let fixes = shows.fixes in
+    let valid = shows.is in
+    let few = lines_fit lines input cut in
+    let fit = given_fit lines entries given in
+    let fit_specs = fit.0 in
+    let fit_items = fit.1 in
+    let few_specs : length g < 2 ^ 64 = omega (arith, few, within, fit_specs) in
+    let few_items : length items < 2 ^ 64 = omega (arith, few, within, fit_items) in
+    let law = places_fit g items in
+    let places = law.validated l rest fixes valid (law.forward l kept) in
+    let specs = stays_each (λ j m. Survives m) (IsOfItsSpec g) 0 l rest (kept_of_specs g items l kept) valid.survive in
+    let all = placed g items few_specs few_items rest places specs in
+    let apart = apart_still (λ j m. Survives m) 0 l rest (kept_once g kept.all l kept.is) valid.survive in
+    let (fixed, are, same) = fix_parts 0 fixes shows.fixed shows.are in
+    let reads = fixes_of_group (λ r. (text : List ℕ) × Reads Fetch text r) g (given_reads lines entries given) 0 l fixes valid.fixed in
+    let clears = all_weaker (λ (f : Removed). (text : List ℕ) × Reads Fetch text f.spec) HasClearText (λ f read t prints. printed_lacks tab (omega arith) refl read.0 f.spec t read.1 prints) fixes reads in
+    let fix_apart = fixes_apart g 0 l fixes (kept_never_meet g items l kept valid.free) valid.fixed in
+    record {
+      mappings = l;
+      rest = rest;
+      fixes = fixes;
+      fixed = fixed;
+      kept = kept;
+      is = valid;
+      are = are;
+      written = shows.written ∙ (ap (λ x. flat_map map_line rest ++ x) same ∙ sym (joined_lines rest fixed));
+      apart = (validated_once g items l rest fixes valid).1 kept;
+      once = distinct_join (map map_line rest) fixed (maps_distinct g items rest all apart) (fixes_distinct fixes fixed are fix_apart clears) (no_fixes rest fixes fixed are);
+    }
+
+-- no line is refused, and no plan has conflicts, where the status is 0
+calm : (b : Bool) → ◌≡◌ {A = ℕ} 0 (if b then 1 else 0) → b ≡ false
+calm true same = absurd (omega (arith, same))
+calm false same = refl
+
+shown_calm : (P Q : Type 0) (b : Bool) → b ≡ false → MatchBool b P Q → Q
+shown_calm P Q true same shows = absurd (cc)
+shown_calm P Q false same shows = shows
+
+pub plan_once : PlanOnce
+plan_once reader_old reader_new writer_old writer_new a =
+    let all = a.is in
+    let plan = all.is in
+    let shows = shown_calm _ _ a.refusal (calm a.refusal a.tells) plan.shows in (
+      a.input,
+      a.output,
+      a.read,
+      a.written,
+      record { lines = all.lines; entries = all.entries; cut = all.cut; given = all.given; is = writes_once all.lines all.entries a.input a.output plan.mappings all.cut all.given a.read.within plan.kept shows },
+    )
+
+-- ---- the fault of a spec
+
+never_memory : (e : Error) (P : Refusal → Type 0) → ShowsRefusal P e → e ≢ Memory
+never_memory e P shows same = let none = subst (ShowsRefusal P) same shows in none.1
+
+first_refused : (input : List ℕ) (number : ℕ) (e : Error) → IsFirstFault input (fault.Spec number e) → (e ≢ Memory) × (text : List ℕ) × ShowsRefusal (IsRefused Fetch text) e
+first_refused input number e (n, line, reached, (text, same, says, shows)) = (never_memory e (IsRefused Fetch text) shows, text, shows)
+
+pub spec_is_refused : SpecIsRefused
+spec_is_refused command.CanonFetch old new number e (input, read, bad) = absurd bad
+spec_is_refused command.CanonPush old new number e (input, read, bad) = absurd bad
+spec_is_refused command.Lhs old new number e (input, read, bad) = first_refused input number e bad
+spec_is_refused command.Rhs old new number e (input, read, bad) = first_refused input number e bad
+spec_is_refused command.Plan old new number e (input, read, bad) = first_refused input number e bad
