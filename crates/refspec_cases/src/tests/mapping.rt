@@ -200,68 +200,62 @@ fn keeps_each_pair_once(rt: HostRuntime) -> Result<(), Fail> {
     check(&rt, rt.alloc(), Direction::Forward, Operation::Fetch, &rows)
 }
 
+// Specs, names of which some repeat, and what is mapped from left to right.
+const REPEATED: [(&str, &str, &str); 5] = [
+    // Each spec takes the first item of a name, and places are those among all items.
+    (
+        "refs/heads/*:refs/x/* refs/heads/a:refs/y b:refs/z",
+        "refs/tags/b refs/heads/b refs/tags/b refs/heads/a refs/heads/b refs/heads/a refs/heads/c",
+        "1 0 refs/heads/b =refs/x/b\n3 0 refs/heads/a =refs/x/a\n6 0 refs/heads/c =refs/x/c\n\
+         3 1 refs/heads/a refs/y\n0 2 refs/tags/b refs/z\n",
+    ),
+    (
+        "refs/heads/*:refs/x/* ^refs/heads/a",
+        "refs/heads/a refs/heads/a refs/heads/b refs/heads/b",
+        "2 0 refs/heads/b =refs/x/b\n",
+    ),
+    (
+        "AAAAAAAAAAAAAAAAAAAAAAAAAAAAAAAAAAAAAAAA:refs/a refs/heads/*:refs/x/*",
+        "refs/tags/a refs/tags/a refs/heads/a refs/heads/a",
+        "- 0 aaaaaaaaaaaaaaaaaaaaaaaaaaaaaaaaaaaaaaaa refs/a\n2 1 refs/heads/a =refs/x/a\n",
+    ),
+    // More mappings than items, though no name repeats.
+    (
+        "refs/heads/*:refs/x/* refs/heads/*:refs/y/* refs/heads/*:refs/x/*",
+        "refs/heads/a",
+        "0 0 refs/heads/a =refs/x/a\n0 1 refs/heads/a =refs/y/a\n",
+    ),
+    // Two names of one 64-bit hash, each of them twice.
+    (
+        "refs/heads/*:refs/x/*",
+        "refs/heads/ce9518687c2ca417 refs/heads/4b2c557329ca4bff refs/heads/ce9518687c2ca417 refs/heads/4b2c557329ca4bff",
+        "0 0 refs/heads/ce9518687c2ca417 =refs/x/ce9518687c2ca417\n\
+         1 0 refs/heads/4b2c557329ca4bff =refs/x/4b2c557329ca4bff\n",
+    ),
+];
+
+// Likewise from right to left.
+const REPEATED_BACK: [(&str, &str, &str); 2] = [
+    (
+        "refs/heads/*:refs/x/* refs/tags/main:refs/x/main refs/q:main",
+        "refs/z refs/x/main refs/x/main refs/heads/main refs/z refs/main refs/heads/main",
+        "1 0 =refs/heads/main refs/x/main\n1 1 refs/tags/main refs/x/main\n\
+         3 2 refs/q refs/heads/main\n5 2 refs/q refs/main\n",
+    ),
+    // An id takes items by what they point to.
+    (
+        "main:1111111111111111111111111111111111111111 refs/heads/*:refs/x/*",
+        "refs/a refs/x/b refs/a refs/x/b",
+        "0 0 =refs/heads/main refs/a\n1 0 =refs/heads/main refs/x/b\n1 1 =refs/heads/b refs/x/b\n",
+    ),
+];
+
 #[test]
 fn maps_repeated_names_once(rt: HostRuntime) -> Result<(), Fail> {
-    let forward = [
-        // Each spec takes the first item of a name, and places are those among all items.
-        (
-            "refs/heads/*:refs/x/* refs/heads/a:refs/y b:refs/z",
-            "refs/tags/b refs/heads/b refs/tags/b refs/heads/a refs/heads/b refs/heads/a refs/heads/c",
-            "1 0 refs/heads/b =refs/x/b\n3 0 refs/heads/a =refs/x/a\n6 0 refs/heads/c =refs/x/c\n\
-             3 1 refs/heads/a refs/y\n0 2 refs/tags/b refs/z\n",
-        ),
-        (
-            "refs/heads/*:refs/x/* ^refs/heads/a",
-            "refs/heads/a refs/heads/a refs/heads/b refs/heads/b",
-            "2 0 refs/heads/b =refs/x/b\n",
-        ),
-        (
-            "AAAAAAAAAAAAAAAAAAAAAAAAAAAAAAAAAAAAAAAA:refs/a refs/heads/*:refs/x/*",
-            "refs/tags/a refs/tags/a refs/heads/a refs/heads/a",
-            "- 0 aaaaaaaaaaaaaaaaaaaaaaaaaaaaaaaaaaaaaaaa refs/a\n2 1 refs/heads/a =refs/x/a\n",
-        ),
-        // More mappings than items, though no name repeats.
-        (
-            "refs/heads/*:refs/x/* refs/heads/*:refs/y/* refs/heads/*:refs/x/*",
-            "refs/heads/a",
-            "0 0 refs/heads/a =refs/x/a\n0 1 refs/heads/a =refs/y/a\n",
-        ),
-        // Two names of one 64-bit hash, each of them twice.
-        (
-            "refs/heads/*:refs/x/*",
-            "refs/heads/ce9518687c2ca417 refs/heads/4b2c557329ca4bff refs/heads/ce9518687c2ca417 refs/heads/4b2c557329ca4bff",
-            "0 0 refs/heads/ce9518687c2ca417 =refs/x/ce9518687c2ca417\n\
-             1 0 refs/heads/4b2c557329ca4bff =refs/x/4b2c557329ca4bff\n",
-        ),
-    ];
-    check(
-        &rt,
-        rt.alloc(),
-        Direction::Forward,
-        Operation::Fetch,
-        &forward,
-    )?;
-    let backward = [
-        (
-            "refs/heads/*:refs/x/* refs/tags/main:refs/x/main refs/q:main",
-            "refs/z refs/x/main refs/x/main refs/heads/main refs/z refs/main refs/heads/main",
-            "1 0 =refs/heads/main refs/x/main\n1 1 refs/tags/main refs/x/main\n\
-             3 2 refs/q refs/heads/main\n5 2 refs/q refs/main\n",
-        ),
-        // An id takes items by what they point to.
-        (
-            "main:1111111111111111111111111111111111111111 refs/heads/*:refs/x/*",
-            "refs/a refs/x/b refs/a refs/x/b",
-            "0 0 =refs/heads/main refs/a\n1 0 =refs/heads/main refs/x/b\n1 1 =refs/heads/b refs/x/b\n",
-        ),
-    ];
-    check(
-        &rt,
-        rt.alloc(),
-        Direction::Backward,
-        Operation::Fetch,
-        &backward,
-    )
+    let alloc = rt.alloc();
+    let operation = Operation::Fetch;
+    check(&rt, alloc, Direction::Forward, operation, &REPEATED)?;
+    check(&rt, alloc, Direction::Backward, operation, &REPEATED_BACK)
 }
 
 // Two items of one name, of which the second one points to the id that is asked for.
