@@ -13,12 +13,12 @@ use Rattle.gix_refspec.proofs.KeptPairLemmas.{Keeps}
 use Rattle.gix_refspec.proofs.SomeLemmas.{Any, Any-right}
 
 -- an element is there by a place, or in front or behind
-there : (ys : List Mapped) (m : Mapped) → Contains ys m → Any (λ y. y ≡ m) ys
+pub there : (ys : List Mapped) (m : Mapped) → Contains ys m → Any (λ y. y ≡ m) ys
 there [] m (i, below, is) = absurd (omega (arith, below))
 there (y ∷ ys) m (zero, below, is) = inl is
 there (y ∷ ys) m (suc i, below, is) = inr (there ys m (i, omega (arith, below), is))
 
-back : (ys : List Mapped) (m : Mapped) → Any (λ y. y ≡ m) ys → Contains ys m
+pub back : (ys : List Mapped) (m : Mapped) → Any (λ y. y ≡ m) ys → Contains ys m
 back [] m any = absurd any
 back (y ∷ ys) m (inl here) = (0, omega arith, here)
 back (y ∷ ys) m (inr later) = let at = back ys m later in (suc at.0, omega (arith, at.1), at.2)

@@ -59,6 +59,7 @@ pub mod ValidationLemmas
 pub mod AfterLemmas
 pub mod OneValidationLemmas
 pub mod PlaceFitLemmas
+pub mod MadeAtLemmas
 pub mod RefNameLemmas
 pub mod PlacedOnceLemmas
 pub mod EqualLemmas
@@ -74,6 +75,7 @@ pub mod ValidationFacts
 pub mod ValidationLawFacts
 pub mod RefNameFacts
 pub mod AskedFacts
+pub mod PlaceFacts
 pub mod LawFacts
 pub mod EqualGroupFacts
 pub mod ItemFacts

@@ -41,7 +41,7 @@ reach_forward items (id bytes) d r (ends, has, some) = absurd (Any-fact ⊥ item
 forward_reach : (items : List Ref) (n : List ℕ) (d : Option (List ℕ)) (r : Reading) → MakesForward items (name n) d r → Reaches AreForwardEnds (Takes items) items (ForwardTo (name n) d) r
 forward_reach items n d r makes = (makes.ends, makes.has, Any-weaker _ _ (λ i is. (is.word, d, is.takes, is.becomes, (ap name is.name, refl))) items (some_of (IsPaired (Takes items) makes.ends n d) items makes.one))
 
-there_far : (r : Reading) (ends : Ends) (word far : Option (List ℕ)) → AreBackwardEnds r ends → IsFilled ends.far word far → (n : List ℕ) × (far ≡ Some n)
+pub there_far : (r : Reading) (ends : Ends) (word far : Option (List ℕ)) → AreBackwardEnds r ends → IsFilled ends.far word far → (n : List ℕ) × (far ≡ Some n)
 there_far r ends word far has becomes = of_far ends.far has.both becomes
   where
     of_far : (x : Option (List ℕ)) → IsSome x → IsFilled x word far → (n : List ℕ) × (far ≡ Some n)

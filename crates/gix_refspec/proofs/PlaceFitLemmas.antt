@@ -49,7 +49,7 @@ hits_of_spec direction items k n r hits below (inr (none, empty)) = subst (AllBy
 placed_hits : (direction : Direction) (g : List Reading) (items : List Ref) (hits : List Hit) → AreHits (HasEnds direction) (TakesIn direction items) g items hits → AllByRecursion (IsPlacedHit (length g) items) hits
 placed_hits direction g items hits are = joined_each (AreSpecHits (HasEnds direction) (TakesIn direction items) items) (IsPlacedHit (length g) items) (length g) (λ k r hs below of_spec. hits_of_spec direction items k (length g) r hs below of_spec) 0 g hits (omega arith) are
 
-map_each : {A B : Type 0} (P : A → Type 0) (Q : B → Type 0) (f : A → B) → ((x : A) → P x → Q (f x)) → (xs : List A) → AllByRecursion P xs → AllByRecursion Q (map f xs)
+pub map_each : {A B : Type 0} (P : A → Type 0) (Q : B → Type 0) (f : A → B) → ((x : A) → P x → Q (f x)) → (xs : List A) → AllByRecursion P xs → AllByRecursion Q (map f xs)
 map_each P Q f of [] all = tt
 map_each P Q f of (x ∷ xs) all = (of x all.0, map_each P Q f of xs all.1)
 

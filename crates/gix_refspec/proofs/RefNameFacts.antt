@@ -41,20 +41,20 @@ no_ref_names = (elsewhere, longer, faulty)
 abbrev bad : List ℕ
 bad = codes "refs/../x"
 
-abbrev good : List ℕ
+abbrev pub good : List ℕ
 good = codes "refs/heads/main"
 
 -- ids and missing destinations are good
 pub without_names : IsNamedSource (id []) × IsNamedDestination None × ¬ (IsNamedDestination (Some bad))
 without_names = (tt, tt, no_ref_names.2)
 
-abbrev kept : Mapped
+abbrev pub kept : Mapped
 kept = mapping 0 good (Some good) 0
 
 abbrev from_bad : Mapped
 from_bad = mapping 1 bad (Some good) 0
 
-abbrev to_bad : Mapped
+abbrev pub to_bad : Mapped
 to_bad = mapping 2 good (Some bad) 0
 
 abbrev all_bad : Mapped

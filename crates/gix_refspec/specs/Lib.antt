@@ -27,6 +27,7 @@ pub mod ValidationLaws
 pub mod Issue
 pub mod Hashed
 pub mod RefNames
+pub mod PlaceLaws
 pub mod Errors
 pub mod Asked
 pub mod Private

@@ -18,6 +18,7 @@ ghost use Rattle.gix_refspec.specs.ValidationLaws.{OneValidation, CopiedOutcome}
 ghost use Rattle.gix_refspec.specs.Issue.{IsSameFix, conflict_of, mappings_of};
 ghost use Rattle.gix_refspec.specs.Errors.{IsSameError};
 ghost use Rattle.gix_refspec.specs.RefNames.{WritesRefs};
+ghost use Rattle.gix_refspec.specs.PlaceLaws.{MadeAtPlaces, RemainsExactly};
 ghost use Rattle.gix_refspec.specs.Spec.{reading_of, owned_reading_of};
 ghost use Rattle.gix_refspec.specs.Views.{shown, shown_fetch, shown_push};
 ghost use Rattle.gix_refspec.specs.Hashed.{source_writes, pair_writes};
@@ -243,6 +244,18 @@ pub fn forward_fits(group: &MatchGroup<'_>, items: &[Item<'_>])
 /// what remains after a validation.
 pub fn places_fit(group: &MatchGroup<'_>, items: &[Item<'_>])
     ensures { PlacesFit (readings_of group.now) (map ref_of items.now) }
+{}
+
+/// Each mapping that stays is what the spec at its place makes: of the item at its place, or, where it has
+/// none, of an id that the spec asks for. From right to left each has an item.
+pub fn made_at_places(group: &MatchGroup<'_>, items: &[Item<'_>])
+    ensures { MadeAtPlaces (readings_of group.now) (map ref_of items.now) }
+{}
+
+/// After a validation just those mappings remain that were there and whose destination begins `refs/`, is
+/// `HEAD` or is missing; and after `without_bad_names` those between names of refs.
+pub fn remains_exactly(outcome: &match_lhs::Outcome<'_, '_>)
+    ensures { RemainsExactly (readings_of outcome.now.group) (mappings_of outcome.now) }
 {}
 
 /// After a validation, mappings with one destination have one source. If the mappings came from

@@ -1,0 +1,8 @@
+-- Whatever the mappings are.
+use Rattle.gix_refspec.specs.Group.{readings_of}
+use Rattle.gix_refspec.specs.Issue.{mappings_of}
+use Rattle.gix_refspec.proofs.MadeAtLemmas.{remains_exactly}
+use Rattle.gix_refspec.proofs.laws.remains_exactly.Goals as goal
+
+pub returns : goal.returns
+returns c = remains_exactly (readings_of c.args.outcome.now.group) (mappings_of c.args.outcome.now)
