@@ -15,8 +15,9 @@ use Rattle.gix_refspec.specs.Asked.{HasNoList, Lists, ListsGroup, ListsSide, Ser
 use Rattle.gix_refspec.proofs.AskedLemmas.{list_as, no_list}
 use Rattle.gix_refspec.proofs.ManualFacts.{Lacks-tested, other_length}
 use Rattle.gix_refspec.proofs.MatchFacts.{blob_kind, cut_at_end, every, mapping, no_dev, other_byte, short_kind}
-use Rattle.gix_refspec.proofs.PrefixFacts.{tells}
+use Rattle.gix_refspec.proofs.PrefixFacts.{bracket_cut, suffix_cut, tells}
 use Rattle.gix_refspec.proofs.PrefixLemmas.{id_not_head, one_asked}
+use Rattle.gix_refspec.proofs.TextLemmas.{Lacks-here}
 
 below_heads : TellsPrefix (codes "refs/heads/") []
 below_heads = record {
@@ -49,6 +50,25 @@ no_lists_of_sides list = (
   no_list (codes "refs/*") (codes "refs/") [] (cut_at_end (codes "refs/") refl) ((tells.1 []).0) list,
   (λ lists. let size : 1 ≡ 6 = ap length (list_as (codes "HEAD") (partial (codes "HEAD")) (codes "HEAD" ∷ []) head_kind lists) in omega (arith, size)),
   (λ lists. let size : 0 ≡ 6 = ap length (list_as (codes "main") (partial (codes "main")) [] short_kind lists) in omega (arith, size)),
+)
+
+-- a `]` behind the star does no harm, but none serves a star behind one
+pub lists_at_brackets : ListsSide (codes "refs/a*/]") (codes "refs/a" ∷ []) × ((list : List (List ℕ)) → ¬ (ListsSide (codes "refs/a]*") list))
+lists_at_brackets = (
+  record {
+    kind = pattern (codes "refs/a") (codes "/]");
+    of = suffix_cut;
+    is = (
+      record {
+        below = record { after = codes "a"; here = refl };
+        further = other_length (codes "refs/a") (codes "refs/") (λ size. omega (arith, size));
+        first = Lacks-tested bracket (codes "refs/a") refl;
+        last = tt;
+      },
+      refl,
+    );
+  },
+  no_list (codes "refs/a]*") (codes "refs/a]") [] bracket_cut (λ tells. Lacks-here bracket (codes "refs/a") [] tells.first),
 )
 
 every_lists : Lists every (codes "refs/heads/" ∷ [])

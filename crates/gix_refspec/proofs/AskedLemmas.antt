@@ -36,7 +36,7 @@ pub list_as : (x : List ℕ) (k : SideKind) (list : List (List ℕ)) → HasKind
 list_as x k list kind lists = subst (λ (l : SideKind). ListsAs l list) (one_kind x lists.kind k lists.of kind) lists.is
 
 -- none for a pattern without a prefix
-pub no_list : (x before after : List ℕ) → IsCut before after x → ¬ (TellsPrefix before after) → (list : List (List ℕ)) → ¬ (ListsSide x list)
+pub no_list : (x before after : List ℕ) → IsCut before after x → ¬ (TellsPrefix before []) → (list : List (List ℕ)) → ¬ (ListsSide x list)
 no_list x before after cut vague list lists = vague (list_as x (pattern before after) list cut lists).0
 
 some_entry : (p : List ℕ) (list : List (List ℕ)) → [] ≡ p ∷ list → ⊥

@@ -33,10 +33,10 @@ pattern_prefix = of_pattern (codes "refs/a") (codes "/b") (record { starred = re
   last = Lacks-tested bracket (codes "/b") refl;
 }) refl
 
-bracket_cut : IsCut (codes "refs/a]") [] (codes "refs/a]*")
+pub bracket_cut : IsCut (codes "refs/a]") [] (codes "refs/a]*")
 bracket_cut = cut_at_end (codes "refs/a]") refl
 
-suffix_cut : IsCut (codes "refs/a") (codes "/]") (codes "refs/a*/]")
+pub suffix_cut : IsCut (codes "refs/a") (codes "/]") (codes "refs/a*/]")
 suffix_cut = record { starred = refl; first = Lacks-tested star (codes "refs/a") refl; last = Lacks-tested star (codes "/]") refl }
 
 -- a star behind `refs/`, or a bracket before or behind the star, leaves none

@@ -1,6 +1,6 @@
 -- What a client asks a server for, by gitprotocol-v2(5) under `ls-refs`, so that it is told of each ref that a group of
 -- fetches maps. Other than an expansion, `HEAD` is asked for by its six candidates, and a side that no list serves has
--- none: a pattern whose star stands outside `refs/` or directly behind it, or with a `]`.
+-- none: a pattern whose star stands outside `refs/` or directly behind it, or behind a `]`.
 use Rattle.std.specs.Prelude.{◌≡◌, ◌⊎◌, ℕ, List, [], ◌∷◌}
 use Rattle.std.specs.List.{AllByRecursion, Any}
 use Rattle.gix_refspec.specs.declared.parsing.Operation.TheVariants.{Fetch}
@@ -13,10 +13,10 @@ use Rattle.gix_refspec.specs.Lists.{IsJoinedFrom}
 use Rattle.gix_refspec.specs.Mappings.{name, Mapped}
 use Rattle.gix_refspec.specs.Hits.{AreKeptForward}
 
--- the list for a side of the kind: what stands before the star of a pattern, where that is a prefix; a full name; no name
--- for an id; the names that a partial one may stand for
+-- the list for a side of the kind: what stands before the star of a pattern, where that is a prefix whatever follows; a full
+-- name; no name for an id; the names that a partial one may stand for
 abbrev pub ListsAs : SideKind → List (List ℕ) → Type 0
-ListsAs (pattern before after) list = TellsPrefix before after × (list ≡ before ∷ [])
+ListsAs (pattern before after) list = TellsPrefix before [] × (list ≡ before ∷ [])
 ListsAs (full_name n) list = list ≡ n ∷ []
 ListsAs (object id) list = list ≡ []
 ListsAs (partial n) list = list ≡ candidates n

@@ -24,7 +24,7 @@ impl<'a> MatchGroup<'a> {
     /// an empty list is a request for all refs.
     ///
     /// `None` where only a request for all refs is safe: some positive spec has a pattern whose star
-    /// stands outside `refs/` or directly behind it, or one with a `]`; or it is a push without a
+    /// stands outside `refs/` or directly behind it, or behind a `]`; or it is a push without a
     /// destination. Of a push the destination is asked for.
     ///
     /// Fails if memory runs out, and never where no spec asks for anything.
@@ -75,8 +75,8 @@ fn list_of(alloc: Global, side: &[u8]) -> Result<Option<Vec<BString>>, AllocErro
     ensures memory { OnErr result (¬ (ListsSide side.now [])) }
 {
     Ok(Some(match kind_of(side) {
-        SideKind::Pattern { before, after } => {
-            if !tells_prefix(before, after) {
+        SideKind::Pattern { before, .. } => {
+            if !tells_prefix(before, b"") {
                 return Ok(None);
             }
             one_entry(alloc, before)?

@@ -220,7 +220,8 @@ fn gathers_what_a_group_asks_for(rt: HostRuntime) -> Result<(), Fail> {
         (["refs/*/head:refs/x/*", "main"].as_slice(), "all"),
         (["refs/a]/*:refs/x/*"].as_slice(), "all"),
         (["refs/a]*:refs/x/*"].as_slice(), "all"),
-        (["refs/a*]:refs/x/*"].as_slice(), "all"),
+        // A `]` behind the star does no harm.
+        (["refs/a*]:refs/x/*"].as_slice(), "refs/a\n"),
     ];
     let alloc = rt.alloc();
     for (texts, wanted) in rows {
