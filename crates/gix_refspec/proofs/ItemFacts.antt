@@ -1,7 +1,10 @@
 -- Which items may be left out, and what a caller concludes from the laws on that.
-use Rattle.std.proofs.Common.{◌≡◌, ◌≢◌, inl, inr, ℕ, zero, suc, List, [], ◌∷◌, None, Some, codes, refl, sym, ap, subst, arith}
-use Rattle.std.specs.List.{Any, Contains}
+use Rattle.std.proofs.Common.{◌≡◌, ◌≢◌, inl, inr, ℕ, zero, suc, List, [], ◌∷◌, None, Some, codes, refl, sym, ap, subst, arith, Bool, true, false, map}
+use Rattle.std.specs.List.{filter, Any, Contains}
 use Rattle.gix_refspec.specs.declared.parsing.Operation.TheVariants.{Push, Fetch}
+use Rattle.bstr.specs.BStr.{bstr_bytes}
+use Rattle.std.proofs.lemmas.Bool.{false≢true}
+use Rattle.gix_refspec.specs.declared.match_group.types.Item.{Item}
 use Rattle.gix_refspec.specs.Text.{Begins}
 use Rattle.gix_refspec.specs.Bytes.{head}
 use Rattle.gix_refspec.specs.Reading.{Normal, Reading}
@@ -11,8 +14,9 @@ use Rattle.gix_refspec.specs.Prefix.{to_prefix}
 use Rattle.gix_refspec.specs.Match.{Ref, HasName, Matches, Takes}
 use Rattle.gix_refspec.specs.Mappings.{name, Mapped, HasPair}
 use Rattle.gix_refspec.specs.Hits.{AreForwardEnds, AreBackwardEnds, Hit, AreKeptForward, AreKeptBackward}
+use Rattle.gix_refspec.specs.Group.{ref_of}
 use Rattle.gix_refspec.specs.MatchLaws.{HasCoveringSource, IsCovering, BeginsWithOne, IsCoveredBy, AreExpansions, MakesForward}
-use Rattle.gix_refspec.specs.ItemLaws.{ArePart, TakesItem, HasTaken, HaveSamePairs, FewerItems, FetchesHead, IsListed, AreListedItems, ListedItems}
+use Rattle.gix_refspec.specs.ItemLaws.{ArePart, TakesItem, HasTaken, HaveSamePairs, FewerItems, FetchesHead, IsListed, AreListedItems, ListedItems, PassesTaken, FilteredItems, is_begun, FilteredByEntries}
 use Rattle.gix_refspec.proofs.CandidateFacts.{branch_and_tag, main_branch, main_tag, main_ends, main_to_x, takes_the_tag}
 use Rattle.gix_refspec.proofs.CoverLemmas.{joined_covers}
 use Rattle.gix_refspec.proofs.FaultFacts.{begins_not}
@@ -223,3 +227,31 @@ none_lost law fewer are = law.some branches_listed (tracked 2 (codes "main") ∷
 
 pub none_gained : ListedItems group all_refs branches → (fewer : List Mapped) → AreKeptForward group branches fewer → HaveSamePairs (tracked 2 (codes "main") ∷ []) fewer
 none_gained law fewer are = law.all branches_listed (inl every_covering, (inl no_dev_covering, tt)) (tracked 2 (codes "main") ∷ []) fewer fetches_all_but_dev are
+
+-- ---- what a test lets through
+
+-- a name passes that begins with some entry, and not one that only holds it
+pub begun_names : (is_begun (codes "refs/tags/" ∷ codes "refs/heads/" ∷ []) (codes "refs/heads/main") ≡ true) × (is_begun (codes "heads/" ∷ []) (codes "refs/heads/main") ≡ false) × (is_begun [] (codes "refs/heads/main") ≡ false)
+begun_names = (refl, refl, refl)
+
+-- where all items pass, those that are taken do; where none does, the branch is taken and doesn't
+pub all_pass : (items : List Item) → PassesTaken AreForwardEnds (Takes (map ref_of items)) group items (λ item. true)
+all_pass items item there taken = refl
+
+pub none_passes : (item : Item) → ref_of item ≡ main_ref → ¬ (PassesTaken AreForwardEnds (Takes (map ref_of (item ∷ []))) group (item ∷ []) (λ other. false))
+none_passes item is passes =
+    let refs : List Ref = map ref_of (item ∷ []) in
+    let hit = taken_by refs 0 0 (codes "main") in
+    let taken : TakesItem AreForwardEnds (Takes refs) main_ref every = record { ends = forward_ends; has = are_forward_ends; word = hit.word; takes = hit.takes } in
+    false≢true (passes item (0, omega arith, refl) (0, every, omega arith, refl, subst (λ (r : Ref). TakesItem AreForwardEnds (Takes refs) r every) (sym is) taken))
+
+-- by the laws what passes such a test is a part that has what is taken, in both directions, or what is listed
+pub by_test : (items some : List Item) (p : Item → Bool) → FilteredItems group items some → some ≡ filter p items → PassesTaken AreForwardEnds (Takes (map ref_of items)) group items p
+    → ArePart (map ref_of items) (map ref_of some) × HasTaken AreForwardEnds (Takes (map ref_of items)) group (map ref_of items) (map ref_of some)
+by_test items some p law is passes = (law.part p is, law.forward p is passes)
+
+pub by_test_back : (items some : List Item) (p : Item → Bool) → FilteredItems group items some → some ≡ filter p items → PassesTaken AreBackwardEnds Matches group items p → HasTaken AreBackwardEnds Matches group (map ref_of items) (map ref_of some)
+by_test_back items some p law is passes = law.backward p is passes
+
+pub by_entries : (items some : List Item) → FilteredByEntries group items some → some ≡ filter (λ item. is_begun (codes "refs/heads/" ∷ []) (bstr_bytes item.full_ref_name)) items → AreListedItems group (map ref_of items) (map ref_of some)
+by_entries items some law is = law (codes "refs/heads/" ∷ []) expanded is

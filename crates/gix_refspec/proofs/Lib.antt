@@ -51,6 +51,7 @@ pub mod GatherLemmas
 pub mod CoverLemmas
 pub mod PremiseLemmas
 pub mod ItemLemmas
+pub mod FilterLemmas
 pub mod AlikeLemmas
 pub mod ClaimLemmas
 pub mod FirstLemmas

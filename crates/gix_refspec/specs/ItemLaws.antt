@@ -1,12 +1,15 @@
 -- Laws of matching some of the items in place of all: which ones a caller may leave out.
 -- They follow from the words of Hits and MatchLaws, and settle nothing.
-use Rattle.std.specs.Prelude.{◌≡◌, ◌⊎◌, ◌↔◌, ℕ, List, Option, Some}
-use Rattle.std.specs.List.{AllByRecursion, Any, Contains}
+use Rattle.std.specs.Prelude.{◌≡◌, ◌⊎◌, ◌↔◌, ℕ, Bool, IsTrue, nat_eq, List, map, Option, Some}
+use Rattle.std.specs.List.{AllByRecursion, Any, Contains, filter, list_any, starts_with}
+use Rattle.bstr.specs.BStr.{bstr_bytes}
+use Rattle.gix_refspec.specs.declared.match_group.types.Item.{Item}
 use Rattle.gix_refspec.specs.declared.parsing.Operation.TheVariants.{Fetch}
 use Rattle.gix_refspec.specs.Bytes.{head}
 use Rattle.gix_refspec.specs.Reading.{Reading}
 use Rattle.gix_refspec.specs.Match.{Ref, HasName, Matches, Takes}
 use Rattle.gix_refspec.specs.Mappings.{Mapped, HasPair}
+use Rattle.gix_refspec.specs.Group.{ref_of}
 use Rattle.gix_refspec.specs.Hits.{Ends, AreForwardEnds, AreBackwardEnds, AreKeptForward, AreKeptBackward}
 use Rattle.gix_refspec.specs.MatchLaws.{MakesForward, HasCoveringSource, BeginsWithOne, AreExpansions}
 
@@ -59,3 +62,25 @@ pub record ListedItems (g : List Reading) (A B : List Ref) : Type 0 where
   pub some : AreListedItems g A B → (kept fewer : List Mapped) → AreKeptForward g A kept → AreKeptForward g B fewer → (pair : Mapped)
       → HasPair kept pair → Any (λ r. IsListed A r × MakesForward A pair.source pair.destination r) g → HasPair fewer pair
   pub all : AreListedItems g A B → AllByRecursion (IsListed A) g → (kept fewer : List Mapped) → AreKeptForward g A kept → AreKeptForward g B fewer → HaveSamePairs kept fewer
+
+-- ---- what a test lets through
+
+-- the test lets each item through that some reading takes
+abbrev pub PassesTaken : (Reading → Ends → Type 0) → (List ℕ → Ref → Option (List ℕ) → Type 0) → List Reading → List Item → (Item → Bool) → Type 0
+PassesTaken HasEnds Taken g items p = (item : Item) → Contains items item → Any (TakesItem HasEnds Taken (ref_of item)) g → IsTrue (p item)
+
+-- the items that a test lets through are a part of all. Where it lets each item through that is taken, each of these
+-- is among them
+pub record FilteredItems (g : List Reading) (items some : List Item) : Type 0 where
+  pub part : (p : Item → Bool) → some ≡ filter p items → ArePart (map ref_of items) (map ref_of some)
+  pub forward : (p : Item → Bool) → some ≡ filter p items → PassesTaken AreForwardEnds (Takes (map ref_of items)) g items p → HasTaken AreForwardEnds (Takes (map ref_of items)) g (map ref_of items) (map ref_of some)
+  pub backward : (p : Item → Bool) → some ≡ filter p items → PassesTaken AreBackwardEnds Matches g items p → HasTaken AreBackwardEnds Matches g (map ref_of items) (map ref_of some)
+
+-- whether the name begins with one of the entries
+abbrev pub is_begun : List (List ℕ) → List ℕ → Bool
+is_begun entries n = list_any (λ entry. starts_with nat_eq n entry) entries
+
+-- so the items whose names begin with an entry of what the readings expand to are such a part
+abbrev pub FilteredByEntries : List Reading → List Item → List Item → Type 0
+FilteredByEntries g items some =
+    (entries : List (List ℕ)) → AreExpansions g entries → some ≡ filter (λ item. is_begun entries (bstr_bytes item.full_ref_name)) items → AreListedItems g (map ref_of items) (map ref_of some)

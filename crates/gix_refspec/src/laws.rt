@@ -12,7 +12,7 @@ ghost use Rattle.gix_refspec.specs.Group.{mapped_of, name_bytes, ref_of, reading
 ghost use Rattle.gix_refspec.specs.Mappings.{IsSamePair};
 ghost use Rattle.gix_refspec.specs.Hits.{KeptOnce, OneForward, OneBackward};
 ghost use Rattle.gix_refspec.specs.MatchLaws.{Transpose, KeptExactly, FirstStays, NothingExcluded, MapAlike, FetchGroupReadsBack, EqualGroups, AreFetches, Cover, CoverTogether};
-ghost use Rattle.gix_refspec.specs.ItemLaws.{FewerItems, ListedItems};
+ghost use Rattle.gix_refspec.specs.ItemLaws.{FewerItems, FilteredItems, ListedItems, FilteredByEntries};
 ghost use Rattle.gix_refspec.specs.Validation.{ForwardFits, PlacesFit, ValidatedOnce};
 ghost use Rattle.gix_refspec.specs.ValidationLaws.{OneValidation, CopiedOutcome};
 ghost use Rattle.gix_refspec.specs.Issue.{IsSameFix, conflict_of, mappings_of};
@@ -224,14 +224,21 @@ pub fn cover(group: &MatchGroup<'_>, items: &[Item<'_>])
 /// Items that no spec takes may be left out: over a part of the items that has each one which some spec
 /// takes, the same pairs stay, in both directions. What a partial source takes is decided among all.
 pub fn fewer_items(group: &MatchGroup<'_>, items: &[Item<'_>], part: &[Item<'_>])
-    ensures { FewerItems (readings_of group.now) (map ref_of items.now) (map ref_of part.now) }
+    ensures kept { FewerItems (readings_of group.now) (map ref_of items.now) (map ref_of part.now) }
+
+    // So it is with what a test lets through.
+    ensures filtered { FilteredItems (readings_of group.now) items.now part.now }
 {}
 
 /// A client that lists only the refs whose names begin with an entry of what a group expands to loses
 /// no pair of a spec whose source is as `cover` asks, or is `HEAD` where there is such a ref. If each
 /// spec is so or negative, the same pairs stay.
 pub fn listed_items(group: &MatchGroup<'_>, items: &[Item<'_>], listed: &[Item<'_>])
-    ensures { ListedItems (readings_of group.now) (map ref_of items.now) (map ref_of listed.now) }
+    ensures kept { ListedItems
+        (readings_of group.now) (map ref_of items.now) (map ref_of listed.now) }
+
+    // So it is with what a test for the entries lets through.
+    ensures filtered { FilteredByEntries (readings_of group.now) items.now listed.now }
 {}
 
 /// Each mapping that `match_lhs` lists has a spec of the group: so `validated` may be called.

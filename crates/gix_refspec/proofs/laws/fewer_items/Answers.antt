@@ -1,8 +1,12 @@
 -- Whatever the readings and the refs are.
 use Rattle.std.proofs.Common.{map}
 use Rattle.gix_refspec.specs.Group.{readings_of, ref_of}
+use Rattle.gix_refspec.proofs.FilterLemmas.{filtered_items}
 use Rattle.gix_refspec.proofs.ItemLemmas.{fewer_items}
 use Rattle.gix_refspec.proofs.laws.fewer_items.Goals as goal
 
-pub returns : goal.returns
-returns c = fewer_items (readings_of c.args.group.now) (map ref_of c.args.items.now) (map ref_of c.args.part.now)
+pub returns-clause-kept : goal.returns-clause-kept
+returns-clause-kept c = fewer_items (readings_of c.args.group.now) (map ref_of c.args.items.now) (map ref_of c.args.part.now)
+
+pub returns-clause-filtered : goal.returns-clause-filtered
+returns-clause-filtered c = filtered_items (readings_of c.args.group.now) c.args.items.now c.args.part.now

@@ -1,8 +1,12 @@
 -- Whatever the readings and the refs are.
 use Rattle.std.proofs.Common.{map}
 use Rattle.gix_refspec.specs.Group.{readings_of, ref_of}
+use Rattle.gix_refspec.proofs.FilterLemmas.{filtered_by_entries}
 use Rattle.gix_refspec.proofs.ItemLemmas.{listed_items}
 use Rattle.gix_refspec.proofs.laws.listed_items.Goals as goal
 
-pub returns : goal.returns
-returns c = listed_items (readings_of c.args.group.now) (map ref_of c.args.items.now) (map ref_of c.args.listed.now)
+pub returns-clause-kept : goal.returns-clause-kept
+returns-clause-kept c = listed_items (readings_of c.args.group.now) (map ref_of c.args.items.now) (map ref_of c.args.listed.now)
+
+pub returns-clause-filtered : goal.returns-clause-filtered
+returns-clause-filtered c = filtered_by_entries (readings_of c.args.group.now) c.args.items.now c.args.listed.now
