@@ -63,6 +63,7 @@ pub mod PlaceFitLemmas
 pub mod MadeAtLemmas
 pub mod RefNameLemmas
 pub mod PlacedOnceLemmas
+pub mod ClearLemmas
 pub mod EqualLemmas
 pub mod ApartLemmas
 pub mod PlacedLemmas

@@ -91,6 +91,24 @@ one_id g m n of_m of_n no_m no_n spec =
 
 -- ---- canonical texts
 
+-- what is there holds no byte b
+abbrev pub LacksIn : ℕ → Option (List ℕ) → Type 0
+LacksIn b None = Unit {0}
+LacksIn b (Some d) = Lacks b d
+
+-- nor do the sides of a reading
+abbrev pub SidesLack : ℕ → Reading → Type 0
+SidesLack b r = LacksIn b r.source × LacksIn b r.destination
+
+-- a fetch, whose sides hold no byte b
+record IsClearFetch (b : ℕ) (r : Reading) : Type 0 where
+  mode : Mode
+  source : List ℕ
+  destination : Option (List ℕ)
+  first : Lacks b source
+  last : LacksIn b destination
+  is : r ≡ fetched mode source destination
+
 module _ (b : ℕ) (below : b < 32) (refused : IsTrue (is_refused_byte b)) where
   -- names and patterns hold no such byte
   name_lacks : (x : List ℕ) → IsName x → Lacks b x
@@ -118,18 +136,13 @@ module _ (b : ℕ) (below : b < 32) (refused : IsTrue (is_refused_byte b)) where
   sign_lacks true = ((λ same. omega (arith, same, below)), tt)
   sign_lacks false = tt
 
-  -- what is there lacks the byte
-  abbrev SideLacks : Option (List ℕ) → Type 0
-  SideLacks None = Unit {0}
-  SideLacks (Some d) = Lacks b d
-
   forced_lacks : (forced : Bool) (s d : List ℕ) → Lacks b s → Lacks b d → Lacks b (sign forced ++ (s ++ (colon ∷ d)))
   forced_lacks forced s d source destination = all_join (λ c. c ≢ b) (sign forced) (s ++ (colon ∷ d)) (sign_lacks forced) (all_join (λ c. c ≢ b) s (colon ∷ d) source ((λ same. omega (arith, same, below)), destination))
 
   alone_lacks : (s : List ℕ) → Lacks b s → Lacks b (sign (begins_with_plus s) ++ s)
   alone_lacks s source = all_join (λ c. c ≢ b) (sign (begins_with_plus s)) s (sign_lacks (begins_with_plus s)) source
 
-  fetch_lacks : (mode : Mode) (s : List ℕ) (d : Option (List ℕ)) (t : List ℕ) → Lacks b s → SideLacks d → printed (fetched mode s d) ≡ Some t → Lacks b t
+  fetch_lacks : (mode : Mode) (s : List ℕ) (d : Option (List ℕ)) (t : List ℕ) → Lacks b s → LacksIn b d → printed (fetched mode s d) ≡ Some t → Lacks b t
   fetch_lacks Normal s None t source destination is = subst (Lacks b) (some_once _ t is) (alone_lacks s source)
   fetch_lacks Forced s None t source destination is = subst (Lacks b) (some_once _ t is) (alone_lacks s source)
   fetch_lacks Negative s None t source destination is = subst (Lacks b) (some_once _ t is) ((λ same. omega (arith, same, below)), source)
@@ -148,21 +161,27 @@ module _ (b : ℕ) (below : b < 32) (refused : IsTrue (is_refused_byte b)) where
   fetch_not_push : Fetch ≡ Push → ⊥
   fetch_not_push same = cc
 
-  of_fetch : (mode : Mode) (s : List ℕ) (d : Option (List ℕ)) (r : Reading) (t : List ℕ) → Lacks b s → SideLacks d → r ≡ fetched mode s d → printed r ≡ Some t → Lacks b t
-  of_fetch mode s d r t source destination is prints = fetch_lacks mode s d t source destination (ap printed (sym is) ∙ prints)
+  clear : (mode : Mode) (s : List ℕ) (d : Option (List ℕ)) (r : Reading) → Lacks b s → LacksIn b d → r ≡ fetched mode s d → IsClearFetch b r
+  clear mode s d r first last is = record { mode = mode; source = s; destination = d; first = first; last = last; is = is }
 
-  -- nor do the canonical texts of fetches
+  clear_fetch : (text : List ℕ) (r : Reading) → Reads Fetch text r → IsClearFetch b r
+  clear_fetch text r (fetches_nothing_named mode op positive parts is) = clear mode head None r head_lacks tt is
+  clear_fetch text r (fetches_colon mode op positive parts is) = clear mode head None r head_lacks tt is
+  clear_fetch text r (fetches mode s op positive parts name is) = clear mode (named_by s) None r (named_lacks s (name_lacks s name)) tt is
+  clear_fetch text r (updates mode s d op positive parts alike is) = let lack = alike_lack s d alike in clear mode (named_by s) (Some d) r (named_lacks s lack.0) lack.1 is
+  clear_fetch text r (updates_from_head mode d op positive parts name is) = clear mode head (Some d) r head_lacks (name_lacks d name) is
+  clear_fetch text r (fetch_excludes s op parts either unlike is) = clear Negative (named_by s) None r (named_lacks s (either_lacks s either)) tt is
+  clear_fetch text r (pushes_plus op parts is) = absurd (fetch_not_push op)
+  clear_fetch text r (pushes_colon mode op positive parts is) = absurd (fetch_not_push op)
+  clear_fetch text r (pushes mode s op positive parts either is) = absurd (fetch_not_push op)
+  clear_fetch text r (deletes mode d op positive parts name is) = absurd (fetch_not_push op)
+  clear_fetch text r (pushes_pattern mode s d op positive parts source destination is) = absurd (fetch_not_push op)
+  clear_fetch text r (pushes_to mode s d op positive parts full lacks name is) = absurd (fetch_not_push op)
+  clear_fetch text r (push_excludes s op parts either unlike is) = absurd (fetch_not_push op)
+
+  -- nor do the sides of fetches, and their canonical texts
+  pub sides_lack : (text : List ℕ) (r : Reading) → Reads Fetch text r → SidesLack b r
+  sides_lack text r reads = let fetch = clear_fetch text r reads in subst (SidesLack b) (sym fetch.is) (fetch.first, fetch.last)
+
   pub printed_lacks : (text : List ℕ) (r : Reading) (t : List ℕ) → Reads Fetch text r → printed r ≡ Some t → Lacks b t
-  printed_lacks text r t (fetches_nothing_named mode op positive parts is) = of_fetch mode head None r t head_lacks tt is
-  printed_lacks text r t (fetches_colon mode op positive parts is) = of_fetch mode head None r t head_lacks tt is
-  printed_lacks text r t (fetches mode s op positive parts name is) = of_fetch mode (named_by s) None r t (named_lacks s (name_lacks s name)) tt is
-  printed_lacks text r t (updates mode s d op positive parts alike is) = let lack = alike_lack s d alike in of_fetch mode (named_by s) (Some d) r t (named_lacks s lack.0) lack.1 is
-  printed_lacks text r t (updates_from_head mode d op positive parts name is) = of_fetch mode head (Some d) r t head_lacks (name_lacks d name) is
-  printed_lacks text r t (fetch_excludes s op parts either unlike is) = of_fetch Negative (named_by s) None r t (named_lacks s (either_lacks s either)) tt is
-  printed_lacks text r t (pushes_plus op parts is) = absurd (fetch_not_push op)
-  printed_lacks text r t (pushes_colon mode op positive parts is) = absurd (fetch_not_push op)
-  printed_lacks text r t (pushes mode s op positive parts either is) = absurd (fetch_not_push op)
-  printed_lacks text r t (deletes mode d op positive parts name is) = absurd (fetch_not_push op)
-  printed_lacks text r t (pushes_pattern mode s d op positive parts source destination is) = absurd (fetch_not_push op)
-  printed_lacks text r t (pushes_to mode s d op positive parts full lacks name is) = absurd (fetch_not_push op)
-  printed_lacks text r t (push_excludes s op parts either unlike is) = absurd (fetch_not_push op)
+  printed_lacks text r t reads prints = let fetch = clear_fetch text r reads in fetch_lacks fetch.mode fetch.source fetch.destination t fetch.first fetch.last (ap printed (sym fetch.is) ∙ prints)

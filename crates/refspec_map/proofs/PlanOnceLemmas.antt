@@ -1,5 +1,5 @@
 -- A plan that ends with status 0 writes no destination from two sources, and no line twice.
-use Rattle.std.proofs.Common.{◌≡◌, ◌≢◌, inl, inr, ℕ, zero, suc, ◌+◌, ◌<◌, ◌≤◌, ◌%◌, ◌^◌, Bool, true, false, List, [], ◌∷◌, ◌++◌, Option, None, Some, flat_map, get_or, length, length-append, map, codes, refl, sym, ap, ◌∙◌, subst, append_assoc, arith}
+use Rattle.std.proofs.Common.{◌≡◌, ◌≢◌, ◌⊎◌, inl, inr, ℕ, zero, suc, ◌+◌, ◌<◌, ◌≤◌, ◌%◌, ◌^◌, Bool, true, false, List, [], ◌∷◌, ◌++◌, Option, None, Some, flat_map, get_or, length, length-append, map, codes, refl, sym, ap, ◌∙◌, subst, append_assoc, arith}
 use Rattle.std.specs.Prelude.{decimal, if◌then◌else◌, MatchBool}
 use Rattle.std.specs.List.{AllByRecursion, AllZip, slice_get}
 use Rattle.std.proofs.lemmas.Fmt.{decimal_by_steps, decimal_injective}
@@ -15,22 +15,23 @@ use Rattle.gix_refspec.specs.Refusal.{Refusal, IsRefused}
 use Rattle.gix_refspec.specs.Views.{ShowsRefusal}
 use Rattle.gix_refspec.specs.Meaning.{printed}
 use Rattle.gix_refspec.specs.Match.{Ref}
-use Rattle.gix_refspec.specs.Lists.{IsJoinedFrom}
-use Rattle.gix_refspec.specs.Mappings.{name, Mapped, IsSamePair, AreApart}
+use Rattle.gix_refspec.specs.Lists.{IsJoinedFrom, IsMadeFrom}
+use Rattle.gix_refspec.specs.Mappings.{name, Mapped, IsSamePair, AreApart, Start, id}
 use Rattle.gix_refspec.specs.Hits.{AreKeptForward}
-use Rattle.gix_refspec.specs.Validation.{ForwardPlaces, Removed, Survives}
+use Rattle.gix_refspec.specs.Validation.{ForwardPlaces, Removed, Survives, IsFix}
 use Rattle.gix_refspec.proofs.TextLemmas.{first_once, last_once}
-use Rattle.gix_refspec.proofs.RepeatLemmas.{all_join, all_weaker}
+use Rattle.gix_refspec.proofs.RepeatLemmas.{all_join, all_weaker, all_right}
 use Rattle.gix_refspec.proofs.KeptLemmas.{kept_once}
 use Rattle.gix_refspec.proofs.AfterLemmas.{apart_still, kept_never_meet, stays_each, validated_once}
 use Rattle.gix_refspec.proofs.PlaceFitLemmas.{places_fit}
-use Rattle.gix_refspec.proofs.PlacedOnceLemmas.{AreFixesApart, IsOfItsSpec, fixes_apart, fixes_of_group, kept_of_specs, one_id, printed_lacks}
+use Rattle.gix_refspec.proofs.PlacedOnceLemmas.{AreFixesApart, IsOfItsSpec, fixes_apart, fixes_of_group, kept_of_specs, one_id, printed_lacks, LacksIn, SidesLack, sides_lack}
+use Rattle.gix_refspec.proofs.ClearLemmas.{MappedLacks, StartLacks, kept_lacks}
 use Rattle.refspec_map.specs.declared.command.Command.TheVariants as command
 use Rattle.refspec_map.specs.declared.fault.Fault.TheVariants as fault
 use Rattle.refspec_map.specs.Input.{newline, AreLines, input_limit}
-use Rattle.refspec_map.specs.Line.{Entry, reading, ref, Gives, readings_in, refs_in, IsFirstFault}
+use Rattle.refspec_map.specs.Line.{Entry, reading, ref, Gives, readings_in, refs_in, IsFirstFault, IsIdThen, space, IsRefLine, IsTagLine}
 use Rattle.refspec_map.specs.Matching.{tab, item_text, source_text, destination_text, map_line}
-use Rattle.refspec_map.specs.Plan.{AreDistinct, IsFixLine, ShowsValidated, WritesOnce}
+use Rattle.refspec_map.specs.Plan.{AreDistinct, IsFixLine, ShowsValidated, WritesOnce, IsOneLine}
 use Rattle.refspec_map.specs.Run.{PlanOnce, SpecIsRefused}
 
 -- ---- numbers
@@ -197,6 +198,107 @@ given_reads (line ∷ lines) (reading q ∷ entries) ((text, says, reads), given
 given_reads (line ∷ lines) (reading q ∷ entries) (gives, given) (suc k) r is = given_reads lines entries given k r is
 given_reads (line ∷ lines) (ref q ∷ entries) (gives, given) k r is = given_reads lines entries given k r is
 
+-- ---- whole lines
+
+digits_whole : (ds : List ℕ) → AreDigits ds → Lacks newline ds
+digits_whole ds all = all_weaker (λ c. 48 ≤ c) (λ c. c ≢ newline) (λ c high same. omega (arith, high, same)) ds all
+
+item_whole : (i : Option ℕ) → IsSmall i → Lacks newline (item_text i)
+item_whole None small = ((λ same. omega (arith, same)), tt)
+item_whole (Some j) small = digits_whole (decimal j) (digits j small)
+
+source_whole : (s : Start) → StartLacks newline s → Lacks newline (source_text s)
+source_whole (name n) lacks = lacks
+source_whole (id i) lacks = lacks
+
+destination_whole : (d : Option (List ℕ)) → LacksIn newline d → Lacks newline (destination_text d)
+destination_whole None lacks = tt
+destination_whole (Some d) lacks = ((λ same. omega (arith, same)), lacks)
+
+-- the line of a mapping without its newline
+abbrev map_body : Mapped → List ℕ
+map_body m = codes "map\t" ++ (decimal m.spec ++ (tab ∷ (item_text m.item ++ (tab ∷ (source_text m.source ++ destination_text m.destination)))))
+
+map_is : (m : Mapped) → map_line m ≡ map_body m ++ (newline ∷ [])
+map_is m =
+    let words = source_text m.source ++ destination_text m.destination in
+    let behind = item_text m.item ++ (tab ∷ words) in
+    ap (λ z. codes "map\t" ++ (decimal m.spec ++ (tab ∷ (item_text m.item ++ (tab ∷ z))))) (sym (append_assoc (source_text m.source) (destination_text m.destination) (newline ∷ [])))
+    ∙ ap (λ z. codes "map\t" ++ (decimal m.spec ++ (tab ∷ z))) (sym (append_assoc (item_text m.item) (tab ∷ words) (newline ∷ [])))
+    ∙ ap (λ z. codes "map\t" ++ z) (sym (append_assoc (decimal m.spec) (tab ∷ behind) (newline ∷ [])))
+    ∙ sym (append_assoc (codes "map\t") (decimal m.spec ++ (tab ∷ behind)) (newline ∷ []))
+
+map_whole : (g : List Reading) (items : List Ref) (m : Mapped) → IsPlaced g items m → MappedLacks newline m → IsOneLine (map_line m)
+map_whole g items m at_m lacks =
+    let words = all_join (λ c. c ≢ newline) (source_text m.source) (destination_text m.destination) (source_whole m.source lacks.0) (destination_whole m.destination lacks.1) in
+    let item = all_join (λ c. c ≢ newline) (item_text m.item) (tab ∷ (source_text m.source ++ destination_text m.destination)) (item_whole m.item at_m.item) ((λ same. omega (arith, same)), words) in
+    let spec = all_join (λ c. c ≢ newline) (decimal m.spec) (tab ∷ (item_text m.item ++ (tab ∷ (source_text m.source ++ destination_text m.destination)))) (digits_whole (decimal m.spec) (digits m.spec at_m.spec)) ((λ same. omega (arith, same)), item) in
+    (map_body m, ((λ same. omega (arith, same)), ((λ same. omega (arith, same)), ((λ same. omega (arith, same)), ((λ same. omega (arith, same)), spec)))), map_is m)
+
+maps_whole : (g : List Reading) (items : List Ref) (xs : List Mapped) → AllByRecursion (IsPlaced g items) xs → AllByRecursion (MappedLacks newline) xs → AllByRecursion IsOneLine (map map_line xs)
+maps_whole g items [] placed lack = tt
+maps_whole g items (m ∷ xs) placed lack = (map_whole g items m placed.0 lack.0, maps_whole g items xs placed.1 lack.1)
+
+-- the canonical text of the fix's spec, and its destination, hold no newline
+record IsClearFix (f : Removed) : Type 0 where
+  text : (t : List ℕ) → printed f.spec ≡ Some t → Lacks newline t
+  destination : Lacks newline f.destination
+
+fix_whole : (f : Removed) (x : List ℕ) → IsFixLine f x → IsClearFix f → IsOneLine x
+fix_whole f x (t, prints, is) clear =
+    let words = all_join (λ c. c ≢ newline) f.destination (tab ∷ t) clear.destination ((λ same. omega (arith, same)), clear.text t prints) in (
+      codes "fix\t" ++ (f.destination ++ (tab ∷ t)),
+      ((λ same. omega (arith, same)), ((λ same. omega (arith, same)), ((λ same. omega (arith, same)), ((λ same. omega (arith, same)), words)))),
+      is ∙ ap (λ z. codes "fix\t" ++ z) (sym (append_assoc f.destination (tab ∷ t) (newline ∷ []))) ∙ sym (append_assoc (codes "fix\t") (f.destination ++ (tab ∷ t)) (newline ∷ [])),
+    )
+
+fixes_whole : (fixes : List Removed) (lines : List (List ℕ)) → AllZip IsFixLine fixes lines → AllByRecursion IsClearFix fixes → AllByRecursion IsOneLine lines
+fixes_whole [] [] are clears = tt
+fixes_whole [] (y ∷ lines) are clears = absurd are
+fixes_whole (f ∷ fixes) [] are clears = absurd are
+fixes_whole (f ∷ fixes) (x ∷ lines) are clears = (fix_whole f x are.0 clears.0, fixes_whole fixes lines are.1 clears.1)
+
+clear_fixes : (g : List Reading) → ((k : ℕ) (r : Reading) → slice_get g k ≡ Some r → (text : List ℕ) × Reads Fetch text r) → (k : ℕ) (l : List Mapped) (fixes : List Removed) → AllByRecursion (MappedLacks newline) l → IsMadeFrom (λ j m fix. IsFix g m fix) k l fixes → AllByRecursion IsClearFix fixes
+clear_fixes g reads k [] fixes lack empty = subst (AllByRecursion IsClearFix) (sym empty) tt
+clear_fixes g reads k (m ∷ l) fixes lack (None, rest, none, more, is) = subst (AllByRecursion IsClearFix) (sym is) (clear_fixes g reads (k + 1) l rest lack.1 more)
+clear_fixes g reads k (m ∷ l) fixes lack (Some f, rest, fix, more, is) = subst (AllByRecursion IsClearFix) (sym is) (
+  record {
+    text = λ t prints. let read = reads m.spec f.spec fix.spec in printed_lacks newline (omega arith) refl read.0 f.spec t read.1 prints;
+    destination = subst (LacksIn newline) fix.goes lack.0.1;
+  },
+  clear_fixes g reads (k + 1) l rest lack.1 more,
+)
+
+-- no line of the input holds a newline, and so no name and no side
+lines_whole : (lines : List (List ℕ)) (input : List ℕ) → AreLines lines input → AllByRecursion (Lacks newline) lines
+lines_whole [] input cut = tt
+lines_whole (line ∷ lines) input (lacks, inl (rest, is, cut)) = (lacks, lines_whole lines rest cut)
+lines_whole (line ∷ lines) input (lacks, inr (full, none, is)) = (lacks, subst (AllByRecursion (Lacks newline)) (sym none) tt)
+
+-- what follows the first word
+rest_whole : (text target rest : List ℕ) → IsIdThen text target rest → Lacks newline text → Lacks newline rest
+rest_whole text target rest told lacks = (all_right (λ c. c ≢ newline) told.word (space ∷ rest) (subst (Lacks newline) told.here lacks)).1
+
+ref_whole : (line : List ℕ) (r : Ref) → IsRefLine line r ⊎ IsTagLine line r → Lacks newline line → Lacks newline r.name
+ref_whole line r (inl told) lacks = rest_whole told.words r.target r.name told.target (all_right (λ c. c ≢ newline) (codes "ref ") told.words (subst (Lacks newline) told.here lacks))
+ref_whole line r (inr told) lacks =
+    rest_whole told.rest told.id r.name told.tagged
+    (rest_whole told.words r.target told.rest told.target (all_right (λ c. c ≢ newline) (codes "tag ") told.words (subst (Lacks newline) told.here lacks)))
+
+refs_whole : (lines : List (List ℕ)) (entries : List Entry) → AllZip Gives lines entries → AllByRecursion (Lacks newline) lines → AllByRecursion (λ r. Lacks newline r.name) (refs_in entries)
+refs_whole [] [] given lack = tt
+refs_whole [] (e ∷ entries) given lack = absurd given
+refs_whole (line ∷ lines) [] given lack = absurd given
+refs_whole (line ∷ lines) (reading r ∷ entries) given lack = refs_whole lines entries given.1 lack.1
+refs_whole (line ∷ lines) (ref r ∷ entries) given lack = (ref_whole line r given.0 lack.0, refs_whole lines entries given.1 lack.1)
+
+sides_whole : (lines : List (List ℕ)) (entries : List Entry) → AllZip Gives lines entries → AllByRecursion (SidesLack newline) (readings_in entries)
+sides_whole [] [] given = tt
+sides_whole [] (e ∷ entries) given = absurd given
+sides_whole (line ∷ lines) [] given = absurd given
+sides_whole (line ∷ lines) (reading r ∷ entries) ((text, says, reads), given) = (sides_lack newline (omega arith) refl text r reads, sides_whole lines entries given)
+sides_whole (line ∷ lines) (ref r ∷ entries) (gives, given) = sides_whole lines entries given
+
 -- ---- a plan
 
 item_small : (items : List Ref) (m : Mapped) (i : Option ℕ) → length items < 2 ^ 64 → m.item ≡ i → ((j : ℕ) → m.item ≡ Some j → (r : Ref) × (slice_get items j ≡ Some r) × (m.source ≡ name r.name)) → IsSmall i
@@ -233,6 +335,11 @@ writes_once lines entries input output l cut given within kept shows =
     let reads = fixes_of_group (λ r. (text : List ℕ) × Reads Fetch text r) g (given_reads lines entries given) 0 l fixes valid.fixed in
     let clears = all_weaker (λ (f : Removed). (text : List ℕ) × Reads Fetch text f.spec) HasClearText (λ f read t prints. printed_lacks tab (omega arith) refl read.0 f.spec t read.1 prints) fixes reads in
     let fix_apart = fixes_apart g 0 l fixes (kept_never_meet g items l kept valid.free) valid.fixed in
+    let sides = sides_whole lines entries given in
+    let names = refs_whole lines entries given (lines_whole lines input cut) in
+    let lack = kept_lacks newline (omega arith) refl g items l sides names kept in
+    let rest_lack = stays_each (λ j m. Survives m) (MappedLacks newline) 0 l rest lack valid.survive in
+    let clear = clear_fixes g (given_reads lines entries given) 0 l fixes lack valid.fixed in
     record {
       mappings = l;
       rest = rest;
@@ -244,6 +351,7 @@ writes_once lines entries input output l cut given within kept shows =
       written = shows.written ∙ (ap (λ x. flat_map map_line rest ++ x) same ∙ sym (joined_lines rest fixed));
       apart = (validated_once g items l rest fixes valid).1 kept;
       once = distinct_join (map map_line rest) fixed (maps_distinct g items rest all apart) (fixes_distinct fixes fixed are fix_apart clears) (no_fixes rest fixes fixed are);
+      whole = all_join IsOneLine (map map_line rest) fixed (maps_whole g items rest all rest_lack) (fixes_whole fixes fixed are clear);
     }
 
 -- no line is refused, and no plan has conflicts, where the status is 0

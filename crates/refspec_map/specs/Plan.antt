@@ -3,6 +3,7 @@
 -- these lines are this project's own rule.
 use Rattle.std.specs.Prelude.{◌≡◌, ◌≢◌, ℕ, Bool, List, [], ◌∷◌, ◌++◌, Some, MatchBool, codes, map}
 use Rattle.std.specs.List.{AllByRecursion, AllZip, flat_map, zip}
+use Rattle.gix_refspec.specs.Text.{Lacks}
 use Rattle.gix_refspec.specs.Reading.{Reading}
 use Rattle.gix_refspec.specs.Meaning.{printed}
 use Rattle.gix_refspec.specs.Lists.{IsJoinedFrom}
@@ -58,8 +59,12 @@ abbrev pub AreDistinct : List (List ℕ) → Type 0
 AreDistinct [] = Unit {0}
 AreDistinct (line ∷ lines) = AllByRecursion (λ other. other ≢ line) lines × AreDistinct lines
 
+-- the text is one line, with a newline at its end and no other
+abbrev pub IsOneLine : List ℕ → Type 0
+IsOneLine text = (line : List ℕ) × Lacks newline line × (text ≡ line ++ (newline ∷ []))
+
 -- the output has the lines of the mappings that survive and of the fixes. No two of these mappings have the same
--- destination, and no two lines are the same
+-- destination. Each of these is one line, and no two lines are the same
 pub record WritesOnce (g : List Reading) (items : List Ref) (output : List ℕ) : Type 0 where
   pub mappings : List Mapped
   pub rest : List Mapped
@@ -71,6 +76,7 @@ pub record WritesOnce (g : List Reading) (items : List Ref) (output : List ℕ) 
   pub written : output ≡ flat_map (λ line. line) (map map_line rest ++ fixed)
   pub apart : NeverMeet rest
   pub once : AreDistinct (map map_line rest ++ fixed)
+  pub whole : AllByRecursion IsOneLine (map map_line rest ++ fixed)
 
 -- the line of the fix was put behind the old output
 abbrev pub PutsFix : Removed → List ℕ → List ℕ → Type 0
