@@ -63,9 +63,9 @@ impl<'a> RefSpecRef<'a> {
         out.append(&mut entries)
     }
 
-    /// Whether each name that the spec maps from left to right begins with an entry of `expand_prefixes`,
-    /// by the law `cover`. True of a negative fetch, and of one whose source begins `refs/` and has a
-    /// prefix, or is an id or a partial name other than `HEAD`. False of each push.
+    /// Whether the spec is a negative fetch, or one whose source begins `refs/` and has a prefix, or is an
+    /// id or a partial name other than `HEAD`. Then each name that it maps from left to right begins with
+    /// an entry of `expand_prefixes`, by the law `cover`. False of each push.
     pub fn has_covering_source(&self) -> bool
         ensures { IsTrue result ↔ HasCoveringSource (reading_of self.now) }
     {

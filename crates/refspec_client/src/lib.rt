@@ -1,5 +1,5 @@
-//! What a caller can prove of refspecs, from the public words, contracts and laws of `gix_refspec`
-//! alone.
+//! What a caller can prove of refspecs, from the public words, contracts, laws and lemmas of
+//! `gix_refspec` alone.
 //!
 //! Unless memory runs out, `parse` takes just the texts of the grammar, two specs are equal just
 //! where they are for one operation and print the same, and what a spec prints is read again as an

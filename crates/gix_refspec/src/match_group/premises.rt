@@ -15,8 +15,8 @@ use crate::spec::RefSpecRef;
 use crate::types::Mode;
 
 impl<'a> MatchGroup<'a> {
-    /// Whether both directions agree by the law `transpose`: each positive spec with two sides has two
-    /// patterns, or two sides that begin `refs/`.
+    /// Whether each positive spec with two sides has two patterns, or two sides that begin `refs/`. Then
+    /// both directions agree, by the law `transpose`.
     pub fn goes_both_ways(&self) -> bool
         ensures { IsTrue result ↔ AllByRecursion GoesBothWays (readings_of self.now) }
     {
@@ -28,8 +28,8 @@ impl<'a> MatchGroup<'a> {
         true
     }
 
-    /// Whether each name that the group maps from left to right begins with an entry of its spec, by the
-    /// law `cover`: each spec has a covering source, as `RefSpecRef::has_covering_source` tells.
+    /// Whether each spec has a covering source, as `RefSpecRef::has_covering_source` tells. Then each
+    /// name that the group maps from left to right begins with an entry of its spec, by the law `cover`.
     pub fn has_covering_sources(&self) -> bool
         ensures { IsTrue result ↔ AllByRecursion HasCoveringSource (readings_of self.now) }
     {
@@ -42,7 +42,7 @@ impl<'a> MatchGroup<'a> {
     }
 }
 
-// Whether both directions agree on what a spec maps.
+// Whether a spec is negative, or has one side, or two patterns, or two sides that begin `refs/`.
 fn goes_both_ways(spec: &RefSpecRef<'_>) -> bool
     ensures { IsTrue result ↔ GoesBothWays (reading_of spec.now) }
 {
