@@ -1,1 +1,2 @@
 pub mod ClaimLemmas
+pub mod PlanLemmas

@@ -14,6 +14,7 @@ ghost use Rattle.gix_refspec.specs.Spec.{reading_of, owned_reading_of};
 ghost use Rattle.refspec_client.specs.Claims.{IsRefspec, ReadsOnlyAs, PrintsSame, IsReadAgain, IsCanonicalText};
 
 pub mod gather;
+pub mod planner;
 
 use bstr::{BStr, BString};
 use gix_refspec::parsing::{Error, Operation};

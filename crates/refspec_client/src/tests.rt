@@ -1,5 +1,7 @@
 //! Each function once, on texts that Git's manuals show.
 
+mod matching;
+
 use crate::gather::{fetches_of, fetches_read, pushes_among};
 use crate::{canonical, read, reread, reread_owned, same_owned_text, same_text};
 use bstr::BStr;

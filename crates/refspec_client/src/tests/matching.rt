@@ -1,0 +1,97 @@
+//! Plans.
+
+use crate::planner::{NoPlan, plan_fetch};
+use bstr::BStr;
+use gix_refspec::match_group::{Item, Mapping};
+use gix_refspec::oid::ObjectId;
+use gix_refspec::parsing::Operation;
+use gix_refspec::{RefSpecRef, parse};
+use std::alloc::{AllocError, Global};
+use std::test::Fail;
+
+// What items point to.
+const TARGET: &str = "1111111111111111111111111111111111111111";
+
+// The fetch specs of these texts, one a word.
+fn specs_of<'a>(alloc: Global, texts: &'a str) -> Result<Vec<RefSpecRef<'a>>, Fail> {
+    let mut specs = Vec::new(alloc);
+    for text in texts.split(' ') {
+        specs.push(parse(alloc, BStr::new(text.as_bytes()), Operation::Fetch)?)?;
+    }
+    Ok(specs)
+}
+
+// The item of a name.
+fn item<'a>(name: &'a str, target: &'a ObjectId) -> Item<'a> {
+    Item {
+        full_ref_name: BStr::new(name.as_bytes()),
+        target,
+        object: None,
+    }
+}
+
+// `source:destination` for each mapping, or `source` without a destination, one a line.
+fn lines(alloc: Global, mappings: &[Mapping<'_, '_>]) -> Result<String, AllocError> {
+    let mut told = String::new(alloc);
+    for mapping in mappings {
+        let source = &mapping.lhs;
+        told.push_str(format!(in alloc; "{source}")?.as_str())?;
+        if let Some(name) = &mapping.rhs {
+            let name = name.as_bstr();
+            told.push_str(format!(in alloc; ":{name}")?.as_str())?;
+        }
+        told.push_str("\n")?;
+    }
+    Ok(told)
+}
+
+// What a plan writes, and how many mappings it leaves out; or how many conflicts there are.
+fn planned(alloc: Global, texts: &str, names: &str) -> Result<String, Fail> {
+    let target = ObjectId::from_hex(TARGET.as_bytes())?;
+    let mut items = Vec::new(alloc);
+    for name in names.split(' ') {
+        items.push(item(name, &target))?;
+    }
+    let specs = specs_of(alloc, texts)?;
+    match plan_fetch(alloc, specs, items.as_slice()) {
+        Ok(plan) => {
+            let written = lines(alloc, plan.outcome.mappings.as_slice())?;
+            let left_out = plan.left_out.len();
+            Ok(format!(in alloc; "{written}{left_out} left out")?)
+        }
+        Err(NoPlan::Conflicts(error)) => {
+            let count = error.issues.len();
+            Ok(format!(in alloc; "{count} conflicts")?)
+        }
+        Err(NoPlan::Memory) => Err(Fail::new("no memory")),
+    }
+}
+
+#[test]
+fn plans_what_may_be_written(rt: HostRuntime) -> Result<(), Fail> {
+    let alloc = rt.alloc();
+    let cases = [
+        (
+            "+refs/heads/*:refs/remotes/origin/* ^refs/heads/dev-*",
+            "HEAD refs/heads/main refs/heads/dev-a refs/heads/../../x",
+            "refs/heads/main:refs/remotes/origin/main\n1 left out",
+        ),
+        ("main", "refs/heads/main", "refs/heads/main\n0 left out"),
+        (
+            "refs/heads/*:refs/x/* refs/tags/*:refs/x/*",
+            "refs/heads/a refs/tags/a refs/tags/b",
+            "1 conflicts",
+        ),
+        // Of what is left out nothing is in conflict.
+        (
+            "refs/heads/*:x/* refs/tags/*:x/*",
+            "refs/heads/a refs/tags/a",
+            "2 left out",
+        ),
+    ];
+    for (texts, names, told) in cases {
+        let answer = planned(alloc, texts, names)?;
+        assert_eq!(rt; answer.as_str(), told, "at {texts}");
+    }
+    Ok(())
+}
