@@ -15,6 +15,7 @@ ghost use Rattle.refspec_client.specs.Claims.{IsRefspec, ReadsOnlyAs, PrintsSame
 
 pub mod gather;
 pub mod planner;
+pub mod tracking;
 
 use bstr::{BStr, BString};
 use gix_refspec::parsing::{Error, Operation};

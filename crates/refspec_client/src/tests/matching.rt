@@ -1,11 +1,12 @@
-//! Plans.
+//! Plans and look-ups.
 
 use crate::planner::{NoPlan, plan_fetch};
+use crate::tracking::{NoLookUp, there_and_back};
 use bstr::BStr;
 use gix_refspec::match_group::{Item, Mapping};
 use gix_refspec::oid::ObjectId;
 use gix_refspec::parsing::Operation;
-use gix_refspec::{RefSpecRef, parse};
+use gix_refspec::{MatchGroup, RefSpecRef, parse};
 use std::alloc::{AllocError, Global};
 use std::test::Fail;
 
@@ -92,6 +93,57 @@ fn plans_what_may_be_written(rt: HostRuntime) -> Result<(), Fail> {
     for (texts, names, told) in cases {
         let answer = planned(alloc, texts, names)?;
         assert_eq!(rt; answer.as_str(), told, "at {texts}");
+    }
+    Ok(())
+}
+
+#[test]
+fn looks_there_and_back(rt: HostRuntime) -> Result<(), Fail> {
+    let alloc = rt.alloc();
+    let target = ObjectId::from_hex(TARGET.as_bytes())?;
+    // Specs, a remote ref and a tracking branch, and what is found there and back.
+    let cases = [
+        (
+            "refs/heads/*:refs/remotes/origin/* refs/heads/main:refs/x/main",
+            "refs/heads/main",
+            "refs/x/main",
+            "refs/heads/main:refs/remotes/origin/main\nrefs/heads/main:refs/x/main\n",
+            "refs/heads/main:refs/x/main\n",
+        ),
+        (
+            "refs/heads/*:refs/x/* refs/tags/*:refs/x/* ^refs/heads/a",
+            "refs/heads/a",
+            "refs/x/a",
+            "",
+            "refs/tags/a:refs/x/a\n",
+        ),
+        (
+            "main:refs/x/main",
+            "refs/heads/main",
+            "refs/x/main",
+            "-",
+            "-",
+        ),
+    ];
+    for (texts, remote, tracking, there, back) in cases {
+        let group = MatchGroup {
+            specs: specs_of(alloc, texts)?,
+        };
+        match there_and_back(
+            alloc,
+            group,
+            &item(remote, &target),
+            &item(tracking, &target),
+        ) {
+            Ok(found) => {
+                let found_there = lines(alloc, found.there.mappings.as_slice())?;
+                let found_back = lines(alloc, found.back.mappings.as_slice())?;
+                assert_eq!(rt; found_there.as_str(), there, "at {texts}");
+                assert_eq!(rt; found_back.as_str(), back, "at {texts}");
+            }
+            Err(NoLookUp::OneWay(_)) => assert_eq!(rt; "-", there, "at {texts}"),
+            Err(NoLookUp::Memory) => return Err(Fail::new("no memory")),
+        }
     }
     Ok(())
 }
