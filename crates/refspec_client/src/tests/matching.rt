@@ -97,6 +97,26 @@ fn plans_what_may_be_written(rt: HostRuntime) -> Result<(), Fail> {
     Ok(())
 }
 
+// What is found there, and back, or `-` where the specs don't go both ways.
+fn looked_up(
+    alloc: Global,
+    texts: &str,
+    remote: &Item<'_>,
+    tracking: &Item<'_>,
+) -> Result<(String, String), Fail> {
+    let group = MatchGroup {
+        specs: specs_of(alloc, texts)?,
+    };
+    match there_and_back(alloc, group, remote, tracking) {
+        Ok(found) => {
+            let there = lines(alloc, found.there.mappings.as_slice())?;
+            Ok((there, lines(alloc, found.back.mappings.as_slice())?))
+        }
+        Err(NoLookUp::OneWay(_)) => Ok((format!(in alloc; "-")?, format!(in alloc; "-")?)),
+        Err(NoLookUp::Memory) => Err(Fail::new("no memory")),
+    }
+}
+
 #[test]
 fn looks_there_and_back(rt: HostRuntime) -> Result<(), Fail> {
     let alloc = rt.alloc();
@@ -126,24 +146,14 @@ fn looks_there_and_back(rt: HostRuntime) -> Result<(), Fail> {
         ),
     ];
     for (texts, remote, tracking, there, back) in cases {
-        let group = MatchGroup {
-            specs: specs_of(alloc, texts)?,
-        };
-        match there_and_back(
+        let (found_there, found_back) = looked_up(
             alloc,
-            group,
+            texts,
             &item(remote, &target),
             &item(tracking, &target),
-        ) {
-            Ok(found) => {
-                let found_there = lines(alloc, found.there.mappings.as_slice())?;
-                let found_back = lines(alloc, found.back.mappings.as_slice())?;
-                assert_eq!(rt; found_there.as_str(), there, "at {texts}");
-                assert_eq!(rt; found_back.as_str(), back, "at {texts}");
-            }
-            Err(NoLookUp::OneWay(_)) => assert_eq!(rt; "-", there, "at {texts}"),
-            Err(NoLookUp::Memory) => return Err(Fail::new("no memory")),
-        }
+        )?;
+        assert_eq!(rt; found_there.as_str(), there, "at {texts}");
+        assert_eq!(rt; found_back.as_str(), back, "at {texts}");
     }
     Ok(())
 }
