@@ -65,7 +65,7 @@ kind_serves x (full_name n) list r word of no_object matches lists = subst (Begi
 kind_serves x (object bytes) list r word of no_object matches lists = absurd (no_object bytes of)
 kind_serves x (partial n) list r word of no_object matches lists = subst (BeginsWith r.name) (sym (lists ∙ matches.1.here)) (Any-right (λ p. Begins p r.name) matches.1.earlier (r.name ∷ matches.1.later) (inl (record { after = []; here = sym (append-nil r.name) })))
 
-side_serves : (x : List ℕ) (list : List (List ℕ)) (r : Ref) (word : Option (List ℕ)) → ((bytes : List ℕ) → ¬ (HasKind x (object bytes))) → Matches x r word → ListsSide x list → BeginsWith r.name list
+pub side_serves : (x : List ℕ) (list : List (List ℕ)) (r : Ref) (word : Option (List ℕ)) → ((bytes : List ℕ) → ¬ (HasKind x (object bytes))) → Matches x r word → ListsSide x list → BeginsWith r.name list
 side_serves x list r word no_object matches lists = kind_serves x matches.kind list r word matches.of no_object matches.is (list_as x matches.kind list matches.of lists)
 
 -- so does the name of an item that a fetch pairs

@@ -16,7 +16,9 @@ use Rattle.gix_refspec.specs.Mappings.{name, Mapped, HasPair}
 use Rattle.gix_refspec.specs.Hits.{AreForwardEnds, AreBackwardEnds, Hit, AreKeptForward, AreKeptBackward}
 use Rattle.gix_refspec.specs.Group.{ref_of}
 use Rattle.gix_refspec.specs.MatchLaws.{HasCoveringSource, IsCovering, BeginsWithOne, IsCoveredBy, AreExpansions, MakesForward}
-use Rattle.gix_refspec.specs.ItemLaws.{ArePart, TakesItem, HasTaken, HaveSamePairs, FewerItems, FetchesHead, IsListed, AreListedItems, ListedItems, PassesTaken, FilteredItems, is_begun, FilteredByEntries}
+use Rattle.gix_refspec.specs.ItemLaws.{AreAskedFor, ArePart, AskedItems, TakesItem, HasTaken, HaveSamePairs, FewerItems, FetchesHead, IsListed, AreListedItems, ListedItems, PassesTaken, FilteredItems, is_begun, FilteredByEntries}
+use Rattle.gix_refspec.specs.Asked.{ListsGroup}
+use Rattle.gix_refspec.proofs.AskedFacts.{lists_of_specs}
 use Rattle.gix_refspec.proofs.CandidateFacts.{branch_and_tag, main_branch, main_tag, main_ends, main_to_x, takes_the_tag}
 use Rattle.gix_refspec.proofs.CoverLemmas.{joined_covers}
 use Rattle.gix_refspec.proofs.FaultFacts.{begins_not}
@@ -255,3 +257,29 @@ by_test_back items some p law is passes = law.backward p is passes
 
 pub by_entries : (items some : List Item) → FilteredByEntries group items some → some ≡ filter (λ item. is_begun (codes "refs/heads/" ∷ []) (bstr_bytes item.full_ref_name)) items → AreListedItems group (map ref_of items) (map ref_of some)
 by_entries items some law is = law (codes "refs/heads/" ∷ []) expanded is
+
+-- ---- what is asked for
+
+group_lists : ListsGroup group (codes "refs/heads/" ∷ [])
+group_lists = (codes "refs/heads/" ∷ [], [], lists_of_specs.0, ([], [], lists_of_specs.1, refl, refl), refl)
+
+main_alone : ¬ (Contains (main_ref ∷ []) dev_ref)
+main_alone (zero, below, is) = no_dev_main (sym is)
+main_alone (suc k, below, is) = omega (arith, below)
+
+-- the branches are what a client is told of that asks for them, and one of two isn't
+pub branches_asked : AreAskedFor (codes "refs/heads/" ∷ []) all_refs branches × ¬ (AreAskedFor (codes "refs/heads/" ∷ []) all_refs (main_ref ∷ [])) × ¬ (AreAskedFor [] [] (main_ref ∷ []))
+unfolding branches_listed
+branches_asked = (
+  record { part = branches_part; asked = branches_listed.listed },
+  (λ are. main_alone (are.asked dev_ref (0, omega arith, refl) (0, codes "refs/heads/", omega arith, refl, record { after = codes "dev-a"; here = refl }))),
+  λ are. no_part.1 are.part,
+)
+
+-- so by the law it has the same pairs
+pub same_pairs_asked : AskedItems group all_refs branches → (fewer : List Mapped) → AreKeptForward group branches fewer → HaveSamePairs (tracked 2 (codes "main") ∷ []) fewer
+same_pairs_asked law fewer are = law (codes "refs/heads/" ∷ []) group_lists (refl, (refl, tt)) branches_asked.0 (tracked 2 (codes "main") ∷ []) fewer fetches_all_but_dev are
+
+-- and it can't be without them
+pub none_lost_asked : AskedItems group all_refs branches → ¬ (AreKeptForward group branches [])
+none_lost_asked law are = (same_pairs_asked law [] are (tracked 2 (codes "main"))).0 (inl (record { source = refl; destination = refl }))

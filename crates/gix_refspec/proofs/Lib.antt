@@ -46,6 +46,7 @@ pub mod TransposeLemmas
 pub mod SideLawLemmas
 pub mod PairMadeLemmas
 pub mod AskedLemmas
+pub mod AskedItemLemmas
 pub mod FirstStaysLemmas
 pub mod GatherLemmas
 pub mod CoverLemmas

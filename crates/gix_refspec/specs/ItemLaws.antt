@@ -11,7 +11,8 @@ use Rattle.gix_refspec.specs.Match.{Ref, HasName, Matches, Takes}
 use Rattle.gix_refspec.specs.Mappings.{Mapped, HasPair}
 use Rattle.gix_refspec.specs.Group.{ref_of}
 use Rattle.gix_refspec.specs.Hits.{Ends, AreForwardEnds, AreBackwardEnds, AreKeptForward, AreKeptBackward}
-use Rattle.gix_refspec.specs.MatchLaws.{MakesForward, HasCoveringSource, BeginsWithOne, AreExpansions}
+use Rattle.gix_refspec.specs.MatchLaws.{AreFetches, MakesForward, HasCoveringSource, BeginsWithOne, AreExpansions}
+use Rattle.gix_refspec.specs.Asked.{ListsGroup}
 
 -- the refs B are some of the refs A
 abbrev pub ArePart : List Ref → List Ref → Type 0
@@ -84,3 +85,15 @@ is_begun entries n = list_any (λ entry. starts_with nat_eq n entry) entries
 abbrev pub FilteredByEntries : List Reading → List Item → List Item → Type 0
 FilteredByEntries g items some =
     (entries : List (List ℕ)) → AreExpansions g entries → some ≡ filter (λ item. is_begun entries (bstr_bytes item.full_ref_name)) items → AreListedItems g (map ref_of items) (map ref_of some)
+
+-- ---- what is asked for
+
+-- B is a part of A, and has each item of A whose name begins with an entry of the list
+pub record AreAskedFor (list : List (List ℕ)) (A B : List Ref) : Type 0 where
+  pub part : ArePart A B
+  pub asked : (item : Ref) → Contains A item → BeginsWithOne list item.name → Contains B item
+
+-- where the list is what there is to ask for for a group of fetches, over such items the same pairs stay, also those of
+-- `HEAD`
+abbrev pub AskedItems : List Reading → List Ref → List Ref → Type 0
+AskedItems g A B = (list : List (List ℕ)) → ListsGroup g list → AreFetches g → AreAskedFor list A B → (kept fewer : List Mapped) → AreKeptForward g A kept → AreKeptForward g B fewer → HaveSamePairs kept fewer
