@@ -15,7 +15,7 @@ use Rattle.gix_refspec.specs.Match.{Ref, Matches, Takes}
 use Rattle.gix_refspec.specs.Hits.{Ends, AreForwardEnds, AreBackwardEnds}
 use Rattle.gix_refspec.specs.Group.{ref_of}
 use Rattle.gix_refspec.specs.MatchLaws.{BeginsWithOne}
-use Rattle.gix_refspec.specs.ItemLaws.{ArePart, TakesItem, HasTaken, PassesTaken, FilteredItems, FilteredByEntries, is_begun}
+use Rattle.gix_refspec.specs.ItemLaws.{ArePart, TakesItem, HasTaken, PassesTaken, FilteredItems, FilteredByEntries, FilteredByList, is_begun}
 
 -- ---- elements
 
@@ -85,12 +85,15 @@ begun n (entry ∷ entries) (zero, e, below, is, begins) =
     left_true (starts_with nat_eq n entry) (is_begun entries n) ((starts_is Decides-eqb n entry (starts_with nat_eq n entry) refl).1 first.after first.here)
 begun n (entry ∷ entries) (suc k, e, below, is, begins) = right_true (starts_with nat_eq n entry) (is_begun entries n) (begun n entries (k, e, omega (arith, below), is, begins))
 
-pub filtered_by_entries : (g : List Reading) (items some : List Item) → FilteredByEntries g items some
-filtered_by_entries g items some entries are is =
+pub filtered_by_list : (items some : List Item) → FilteredByList items some
+filtered_by_list items some entries is =
     let p : Item → Bool = λ item. is_begun entries (bstr_bytes item.full_ref_name) in
     record {
-      entries = entries;
-      expansions = are;
-      part = (filtered_items g items some).part p is;
-      listed = λ ref has begins. subst (λ (l : List Item). Contains (map ref_of l) ref) (sym is) (passed p items (λ (r : Ref). BeginsWithOne entries r.name) (λ item there of_item. begun (bstr_bytes item.full_ref_name) entries of_item) ref has begins);
+      part = subst (λ (l : List Item). ArePart (map ref_of items) (map ref_of l)) (sym is) (filtered_part p items);
+      asked = λ ref has begins. subst (λ (l : List Item). Contains (map ref_of l) ref) (sym is) (passed p items (λ (r : Ref). BeginsWithOne entries r.name) (λ item there of_item. begun (bstr_bytes item.full_ref_name) entries of_item) ref has begins);
     }
+
+pub filtered_by_entries : (g : List Reading) (items some : List Item) → FilteredByEntries g items some
+filtered_by_entries g items some entries are is =
+    let by_list = filtered_by_list items some entries is in
+    record { entries = entries; expansions = are; part = by_list.part; listed = by_list.asked }

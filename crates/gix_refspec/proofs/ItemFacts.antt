@@ -16,7 +16,7 @@ use Rattle.gix_refspec.specs.Mappings.{name, Mapped, HasPair}
 use Rattle.gix_refspec.specs.Hits.{AreForwardEnds, AreBackwardEnds, Hit, AreKeptForward, AreKeptBackward}
 use Rattle.gix_refspec.specs.Group.{ref_of}
 use Rattle.gix_refspec.specs.MatchLaws.{HasCoveringSource, IsCovering, BeginsWithOne, IsCoveredBy, AreExpansions, MakesForward}
-use Rattle.gix_refspec.specs.ItemLaws.{AreAskedFor, ArePart, AskedItems, TakesItem, HasTaken, HaveSamePairs, FewerItems, FetchesHead, IsListed, AreListedItems, ListedItems, PassesTaken, FilteredItems, is_begun, FilteredByEntries}
+use Rattle.gix_refspec.specs.ItemLaws.{AreAskedFor, ArePart, AskedItems, TakesItem, HasTaken, HaveSamePairs, FewerItems, FetchesHead, IsListed, AreListedItems, ListedItems, PassesTaken, FilteredItems, is_begun, FilteredByEntries, FilteredByList}
 use Rattle.gix_refspec.specs.Asked.{ListsGroup}
 use Rattle.gix_refspec.proofs.AskedFacts.{lists_of_specs}
 use Rattle.gix_refspec.proofs.CandidateFacts.{branch_and_tag, main_branch, main_tag, main_ends, main_to_x, takes_the_tag}
@@ -283,3 +283,7 @@ same_pairs_asked law fewer are = law (codes "refs/heads/" ∷ []) group_lists (r
 -- and it can't be without them
 pub none_lost_asked : AskedItems group all_refs branches → ¬ (AreKeptForward group branches [])
 none_lost_asked law are = (same_pairs_asked law [] are (tracked 2 (codes "main"))).0 (inl (record { source = refl; destination = refl }))
+
+-- and a client that filters by the list has them
+pub by_list : (items some : List Item) → FilteredByList items some → some ≡ filter (λ item. is_begun (codes "refs/heads/" ∷ []) (bstr_bytes item.full_ref_name)) items → AreAskedFor (codes "refs/heads/" ∷ []) (map ref_of items) (map ref_of some)
+by_list items some law is = law (codes "refs/heads/" ∷ []) is

@@ -97,3 +97,7 @@ pub record AreAskedFor (list : List (List ℕ)) (A B : List Ref) : Type 0 where
 -- `HEAD`
 abbrev pub AskedItems : List Reading → List Ref → List Ref → Type 0
 AskedItems g A B = (list : List (List ℕ)) → ListsGroup g list → AreFetches g → AreAskedFor list A B → (kept fewer : List Mapped) → AreKeptForward g A kept → AreKeptForward g B fewer → HaveSamePairs kept fewer
+
+-- and those whose names begin with an entry of the list are what is asked for
+abbrev pub FilteredByList : List Item → List Item → Type 0
+FilteredByList items some = (list : List (List ℕ)) → some ≡ filter (λ item. is_begun list (bstr_bytes item.full_ref_name)) items → AreAskedFor list (map ref_of items) (map ref_of some)

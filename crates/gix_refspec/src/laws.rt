@@ -12,7 +12,7 @@ ghost use Rattle.gix_refspec.specs.Group.{mapped_of, name_bytes, ref_of, reading
 ghost use Rattle.gix_refspec.specs.Mappings.{IsSamePair};
 ghost use Rattle.gix_refspec.specs.Hits.{KeptOnce, OneForward, OneBackward};
 ghost use Rattle.gix_refspec.specs.MatchLaws.{Transpose, KeptExactly, FirstStays, NothingExcluded, MapAlike, FetchGroupReadsBack, EqualGroups, AreFetches, Cover, CoverTogether};
-ghost use Rattle.gix_refspec.specs.ItemLaws.{AskedItems, FewerItems, FilteredItems, ListedItems, FilteredByEntries};
+ghost use Rattle.gix_refspec.specs.ItemLaws.{AskedItems, FewerItems, FilteredItems, ListedItems, FilteredByEntries, FilteredByList};
 ghost use Rattle.gix_refspec.specs.Validation.{ForwardFits, PlacesFit, ValidatedOnce};
 ghost use Rattle.gix_refspec.specs.ValidationLaws.{OneValidation, CopiedOutcome};
 ghost use Rattle.gix_refspec.specs.Issue.{IsSameFix, conflict_of, mappings_of};
@@ -244,7 +244,10 @@ pub fn listed_items(group: &MatchGroup<'_>, items: &[Item<'_>], listed: &[Item<'
 /// A client that lists only the refs whose names begin with an entry of `ref_prefixes` of a group of
 /// fetches loses no pair, and gets no other: over these and over all items the same pairs stay.
 pub fn asked_items(group: &MatchGroup<'_>, items: &[Item<'_>], asked: &[Item<'_>])
-    ensures { AskedItems (readings_of group.now) (map ref_of items.now) (map ref_of asked.now) }
+    ensures kept { AskedItems (readings_of group.now) (map ref_of items.now) (map ref_of asked.now) }
+
+    // So it is with what a test for the entries lets through.
+    ensures filtered { FilteredByList items.now asked.now }
 {}
 
 /// Each mapping that `match_lhs` lists has a spec of the group: so `validated` may be called.

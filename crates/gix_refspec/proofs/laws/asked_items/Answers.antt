@@ -2,7 +2,11 @@
 use Rattle.std.proofs.Common.{map}
 use Rattle.gix_refspec.specs.Group.{readings_of, ref_of}
 use Rattle.gix_refspec.proofs.AskedItemLemmas.{asked_items}
+use Rattle.gix_refspec.proofs.FilterLemmas.{filtered_by_list}
 use Rattle.gix_refspec.proofs.laws.asked_items.Goals as goal
 
-pub returns : goal.returns
-returns c = asked_items (readings_of c.args.group.now) (map ref_of c.args.items.now) (map ref_of c.args.asked.now)
+pub returns-clause-kept : goal.returns-clause-kept
+returns-clause-kept c = asked_items (readings_of c.args.group.now) (map ref_of c.args.items.now) (map ref_of c.args.asked.now)
+
+pub returns-clause-filtered : goal.returns-clause-filtered
+returns-clause-filtered c = filtered_by_list c.args.items.now c.args.asked.now
