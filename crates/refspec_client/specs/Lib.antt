@@ -1,3 +1,4 @@
 pub mod Claims
 pub mod Planned
 pub mod Tracking
+pub mod Asking

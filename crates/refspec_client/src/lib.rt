@@ -13,6 +13,7 @@ ghost use Rattle.gix_refspec.specs.Refusal.{MayWantMemory};
 ghost use Rattle.gix_refspec.specs.Spec.{reading_of, owned_reading_of};
 ghost use Rattle.refspec_client.specs.Claims.{IsRefspec, ReadsOnlyAs, PrintsSame, IsReadAgain, IsCanonicalText};
 
+pub mod asking;
 pub mod gather;
 pub mod planner;
 pub mod tracking;

@@ -1,5 +1,6 @@
-//! Plans and look-ups.
+//! Plans, look-ups, and what is asked for.
 
+use crate::asking::match_asked;
 use crate::planner::{NoPlan, plan_fetch};
 use crate::tracking::{NoLookUp, there_and_back};
 use bstr::BStr;
@@ -154,6 +155,52 @@ fn looks_there_and_back(rt: HostRuntime) -> Result<(), Fail> {
         )?;
         assert_eq!(rt; found_there.as_str(), there, "at {texts}");
         assert_eq!(rt; found_back.as_str(), back, "at {texts}");
+    }
+    Ok(())
+}
+
+// What is matched of the items that are asked for, and how many these are; or that no list is safe.
+fn asked(alloc: Global, texts: &str, names: &str) -> Result<String, Fail> {
+    let target = ObjectId::from_hex(TARGET.as_bytes())?;
+    let mut items = Vec::new(alloc);
+    for name in names.split(' ') {
+        items.push(item(name, &target))?;
+    }
+    let specs = specs_of(alloc, texts)?;
+    match match_asked(alloc, specs, items.as_slice())? {
+        Some(found) => {
+            let matched = lines(alloc, found.outcome.mappings.as_slice())?;
+            let count = found.items.len();
+            Ok(format!(in alloc; "{matched}{count} asked for")?)
+        }
+        None => Ok(format!(in alloc; "no list")?),
+    }
+}
+
+#[test]
+fn matches_what_is_asked_for(rt: HostRuntime) -> Result<(), Fail> {
+    let alloc = rt.alloc();
+    let cases = [
+        (
+            "HEAD refs/heads/*:refs/x/*",
+            "refs/tags/b refs/heads/a HEAD refs/notes/HEAD",
+            "HEAD\nrefs/heads/a:refs/x/a\n2 asked for",
+        ),
+        (
+            "refs/heads/*:refs/x/* ^refs/heads/a",
+            "refs/heads/a refs/heads/b refs/tags/b",
+            "refs/heads/b:refs/x/b\n2 asked for",
+        ),
+        (
+            "main",
+            "refs/tags/main refs/heads/main",
+            "refs/tags/main\n2 asked for",
+        ),
+        ("refs/*:refs/x/* main", "refs/heads/a", "no list"),
+    ];
+    for (texts, names, told) in cases {
+        let answer = asked(alloc, texts, names)?;
+        assert_eq!(rt; answer.as_str(), told, "at {texts}");
     }
     Ok(())
 }
