@@ -1,3 +1,2 @@
 pub mod ClaimLemmas
-pub mod PlanLemmas
 pub mod AskingLemmas
