@@ -3,7 +3,8 @@
 //!
 //! Unless memory runs out, `parse` takes just the texts of the grammar, two specs are equal just
 //! where they are for one operation and print the same, and what a spec prints is read again as an
-//! equal spec.
+//! equal spec. The modules gather groups, plan a fetch, look up tracking branches, and match only the
+//! refs that there is to ask a server for.
 #![tactic(auto)]
 
 ghost use Rattle.std.specs.Prelude.{◌≡◌, ◌≢◌, ◌↔◌, IsTrue, IfOk, OnOk, OnErr, MatchOption};
