@@ -29,5 +29,6 @@ pub mod Hashed
 pub mod RefNames
 pub mod PlaceLaws
 pub mod Errors
+pub mod Explained
 pub mod Asked
 pub mod Private

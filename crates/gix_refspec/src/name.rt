@@ -1,11 +1,12 @@
 //! The names of refs and the patterns over them, by git-check-ref-format(1).
 
-ghost use Rattle.std.specs.Prelude.{◌↔◌, IsTrue, MatchOption, MatchResult, ◌∷◌, [], List, ℕ};
+ghost use Rattle.std.specs.Prelude.{◌≡◌, ◌↔◌, IsTrue, MatchOption, MatchResult, ◌∷◌, [], List, ℕ};
 ghost use Rattle.std.specs.Bool.{OnTrue};
 ghost use Rattle.gix_refspec.specs.declared.name.Error.{Error};
 ghost use Rattle.gix_refspec.specs.Text.{Ends};
 ghost use Rattle.gix_refspec.specs.Name.{IsName, HasFault, IsPattern, HasOneStar, ReplacesStar};
 ghost use Rattle.gix_refspec.specs.Bytes.{slash};
+ghost use Rattle.gix_refspec.specs.Explained.{name_explained};
 ghost use Rattle.gix_refspec.specs.PatternError.{IsPatternFault};
 ghost use Rattle.gix_refspec.specs.Private.Scan.{AddsFault, LeavesFault, Finds};
 ghost use Rattle.bstr.specs.BStr.{bstr_bytes};
@@ -51,7 +52,9 @@ pub enum Error {
 
 impl Error {
     /// What is wrong with the name, in one sentence for a user of Git.
-    pub fn explanation(&self) -> &'static str {
+    pub fn explanation(&self) -> &'static str
+        ensures { result.now ≡ name_explained self.now }
+    {
         match self {
             Error::Empty => "A ref name must not be empty.",
             Error::EmptyComponent => {

@@ -7,6 +7,7 @@ ghost use Rattle.std.specs.Cmp.Lexicographic.{pointwise, slice_cmp, nat_list_eq_
 ghost use Rattle.std.specs.Cmp.{partial_equiv_from_equiv, on_per, on_equiv, on_po, on_total};
 ghost use Rattle.std.specs.Cmp.Rules.{hashing};
 ghost use Rattle.std.proofs.Common.{rules};
+ghost use Rattle.gix_refspec.specs.Explained.{id_explained};
 ghost use Rattle.gix_refspec.specs.ObjectId.{HasIdFault, IsIdLength, IsIdText, bytes_of, digits_of, fault_name, lower_of};
 
 use std::cmp::Ordering;
@@ -40,7 +41,9 @@ impl error::Error for Error {}
 
 impl Error {
     /// What is wrong with the id, in one sentence for a user of Git.
-    pub fn explanation(&self) -> &'static str {
+    pub fn explanation(&self) -> &'static str
+        ensures { result.now ≡ id_explained self.now }
+    {
         match self {
             Error::Length { .. } => "An object id has 40 or 64 hexadecimal digits.",
             Error::Digit => "An object id has no characters but 0 to 9, a to f and A to F.",

@@ -1,5 +1,7 @@
 //! What a refspec is read for, and why a text is none.
 
+ghost use Rattle.std.specs.Prelude.{◌≡◌};
+ghost use Rattle.gix_refspec.specs.Explained.{explained};
 ghost use Rattle.gix_refspec.specs.Refusal.{ReferenceName};
 ghost use Rattle.gix_refspec.specs.Views.{IsShownAs};
 
@@ -63,7 +65,9 @@ pub enum Error {
 
 impl Error {
     /// What is wrong with the refspec, in one sentence for a user of Git.
-    pub fn explanation(&self) -> &'static str {
+    pub fn explanation(&self) -> &'static str
+        ensures { result.now ≡ explained self.now }
+    {
         match self {
             Error::Empty => "A refspec for a push must not be empty.",
             Error::NegativeWithDestination => {
