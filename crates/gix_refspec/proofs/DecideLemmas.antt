@@ -10,8 +10,8 @@ use Rattle.gix_refspec.specs.declared.name.Error.TheVariants.{Empty, EmptyCompon
 use Rattle.gix_refspec.specs.Text.{Lacks, Ends}
 use Rattle.gix_refspec.specs.Bytes.{slash, star, dot, brace}
 use Rattle.gix_refspec.specs.Name.{is_refused_byte, HasFault, IsName}
-use Rattle.gix_refspec.specs.Private.Scan.{AddsFault, LeavesFault}
-use Rattle.gix_refspec.proofs.NameLemmas.{Added, IsClean, IsClean-more, IsClean-start, HasFault-added, HasFault-left, IsName-from_clean, end_leaves}
+use Rattle.gix_refspec.specs.Private.Scan.{AddsFault, LeavesFault, Added, IsClean}
+use Rattle.gix_refspec.proofs.NameLemmas.{IsClean-more, IsClean-start, HasFault-added, HasFault-left, IsName-from_clean, end_leaves}
 
 -- P holds, or it doesn't
 abbrev pub Decided : Type 0 → Type 0

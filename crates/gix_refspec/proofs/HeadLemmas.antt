@@ -8,9 +8,9 @@ use Rattle.gix_refspec.specs.Bytes.{slash, star, letter, plus, caret, colon, hea
 use Rattle.gix_refspec.specs.Name.{is_refused_byte, IsName, IsPattern}
 use Rattle.gix_refspec.specs.Grammar.{IsUnsigned}
 use Rattle.gix_refspec.specs.Meaning.{begins_with_plus}
-use Rattle.gix_refspec.specs.Private.Scan.{AddsFault}
+use Rattle.gix_refspec.specs.Private.Scan.{AddsFault, IsClean}
 use Rattle.gix_refspec.proofs.TextLemmas.{Lacks-from_absent}
-use Rattle.gix_refspec.proofs.NameLemmas.{IsClean, IsClean-more, IsClean-start, IsName-from_clean, end_leaves, last_byte}
+use Rattle.gix_refspec.proofs.NameLemmas.{IsClean-more, IsClean-start, IsName-from_clean, end_leaves, last_byte}
 use Rattle.gix_refspec.proofs.DecideLemmas.{no_added}
 
 -- a byte that is none of the special ones adds no fault

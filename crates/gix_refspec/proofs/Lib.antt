@@ -3,6 +3,8 @@ pub mod TableLemmas
 pub mod ComponentLemmas
 pub mod StarLemmas
 pub mod NameLemmas
+pub mod LetterLemmas
+pub mod CalmLemmas
 pub mod TestedLemmas
 pub mod SideLemmas
 pub mod PartsLemmas
@@ -10,6 +12,7 @@ pub mod ReasonLemmas
 pub mod MemoryLemmas
 pub mod ReadsLemmas
 pub mod ObjectIdLemmas
+pub mod DigitLemmas
 pub mod ObjectIdFacts
 pub mod DecideLemmas
 pub mod SettleLemmas

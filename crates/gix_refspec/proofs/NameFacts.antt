@@ -1,6 +1,6 @@
 -- Texts that are names and patterns, and texts that are not, by git-check-ref-format(1): for each of its
 -- rules one text that breaks it, and one that comes close.
-use Rattle.std.proofs.Common.{◌≡◌, ℕ, ◌==◌, false, List, [], ◌∷◌, codes, refl}
+use Rattle.std.proofs.Common.{◌≡◌, ℕ, ◌==◌, false, List, [], ◌∷◌, codes, refl, inl, inr, arith}
 use Rattle.std.specs.List.{AllByRecursion, list_any}
 use Rattle.std.proofs.lemmas.Bool.{or_parts}
 use Rattle.gix_refspec.specs.declared.name.Error.{Error}
@@ -11,6 +11,7 @@ use Rattle.gix_refspec.specs.Bytes.{slash, star}
 use Rattle.gix_refspec.specs.Name.{IsName, IsPattern}
 use Rattle.gix_refspec.specs.PatternError.{IsPatternFault}
 use Rattle.gix_refspec.specs.Refusal.{ReferenceName}
+use Rattle.gix_refspec.specs.Private.Scan.{with_letters, IsStarCount, IsCalm}
 use Rattle.gix_refspec.proofs.TextLemmas.{Lacks-here, Lacks-Holds}
 use Rattle.gix_refspec.proofs.TestedLemmas.{is_suspect, IsName-tested}
 use Rattle.gix_refspec.proofs.SideLemmas.{HasStar-pattern, HasSeveralStars-replaced, pattern_fine}
@@ -95,6 +96,34 @@ no_patterns = (
 -- nothing is wrong with a pattern
 pub no_fault_of_pattern : (e : Error) → ¬ (IsPatternFault (Name e) (codes "*"))
 no_fault_of_pattern e bad = bad_pattern (codes "*") e bad patterns.1
+
+-- ---- letters for stars
+
+-- each star becomes a letter, and no other byte does
+pub letters_for_stars : (with_letters (codes "b*c*") ≡ codes "baca") × (with_letters (codes "b+c") ≡ codes "b+c")
+letters_for_stars = (refl, refl)
+
+-- each star is counted, and no other byte is
+pub star_counts : IsStarCount (codes "b*c*") 2 × IsStarCount (codes "b+c") 0 × ¬ (IsStarCount (codes "*b") 2) × ¬ (IsStarCount (codes "**") 1)
+star_counts = (refl, refl, (λ same. omega (arith, same)), (λ same. omega (arith, same)))
+
+-- ---- calm bytes
+
+slash_behind_slash : ¬ (IsCalm 47 47)
+slash_behind_slash (inl plain) = cc
+slash_behind_slash (inr quiet) = quiet.1 refl
+
+slash_behind_k : ¬ (IsCalm 107 47)
+slash_behind_k (inl plain) = cc
+slash_behind_k (inr quiet) = quiet.2 refl
+
+dot_behind_letter : ¬ (IsCalm 97 46)
+dot_behind_letter (inl plain) = cc
+dot_behind_letter (inr quiet) = absurd (omega (arith, quiet.0))
+
+-- a letter behind a slash, and a slash behind a letter; but no slash behind a slash or a `k`, and no dot
+pub calm_bytes : IsCalm 47 97 × IsCalm 97 47 × ¬ (IsCalm 47 47) × ¬ (IsCalm 107 47) × ¬ (IsCalm 97 46)
+calm_bytes = (inl refl, inr (refl, (λ e. omega (arith, e)), (λ e. omega (arith, e))), slash_behind_slash, slash_behind_k, dot_behind_letter)
 
 -- ---- parts of texts
 

@@ -11,25 +11,13 @@ use Rattle.gix_refspec.specs.declared.name.Error.TheVariants.{Empty, EmptyCompon
 use Rattle.gix_refspec.specs.Text.{Lacks, Holds, Begins, Ends}
 use Rattle.gix_refspec.specs.Bytes.{slash, star, dot, brace}
 use Rattle.gix_refspec.specs.Name.{is_refused_byte, SomeComponent, HasFault, IsName}
-use Rattle.gix_refspec.specs.Private.Scan.{AddsFault, LeavesFault, Finds}
+use Rattle.gix_refspec.specs.Private.Scan.{AddsFault, Added, IsClean, LeavesFault, Finds}
 use Rattle.std.proofs.Math.ListN.{drop_of_length-le}
 use Rattle.gix_refspec.proofs.TextLemmas.{cut_at}
 use Rattle.gix_refspec.proofs.ComponentLemmas.{IsEnd, IsComponent, Pieces, pieces_of, fenced, fenced-IsEnd, LastSlash, last_slash_behind_one, SomeComponent-from, SomeComponent-place, AllByRecursion-append}
 
 drop_at : (x : List ℕ) (i : ℕ) → i < length x → drop i x ≡ get_or x i 0 ∷ drop (i + 1) x
 drop_at x i below = rw (add-one, drop-cons x i 0)
-
--- some byte in y adds the fault e to what is before it
-pub record Added (y : List ℕ) (e : Error) : Type 0 where
-  pub before : List ℕ
-  pub byte : ℕ
-  pub after : List ℕ
-  pub here : y ≡ before ++ (byte ∷ after)
-  pub fault : AddsFault before byte e
-
--- no byte in y adds a fault to what is before it
-abbrev pub IsClean : List ℕ → Type 0
-IsClean y = (e : Error) → ¬ (Added y e)
 
 no_middle : (p r : List ℕ) (b : ℕ) → [] ≡ p ++ (b ∷ r) → ⊥
 no_middle [] r b same = cc

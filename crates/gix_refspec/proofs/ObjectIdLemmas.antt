@@ -1,18 +1,18 @@
 -- Facts on the texts of ids: which texts they are, that each is the text of one id, and that decoding finds it.
-use Rattle.std.proofs.Common.{◌≡◌, ℕ, zero, suc, ◌+◌, ◌-◌, ◌*◌, ◌/◌, ◌%◌, ◌<◌, ◌≤◌, Bool, List, [], ◌∷◌, length, slice_index, take, ◌++◌, nat_le, nat_lt, ◌&&◌, ◌⊎◌, inl, inr, Option, Some, None, unwrap_or, is_some, true, false, Result, Ok, Err, refl, sym, ap, ◌∙◌, subst, arith}
-use Rattle.std.specs.Prelude.{IsOk, MatchResult, ⊤}
+use Rattle.std.proofs.Common.{◌≡◌, ℕ, zero, suc, ◌+◌, ◌-◌, ◌*◌, ◌/◌, ◌%◌, ◌<◌, ◌≤◌, Bool, List, [], ◌∷◌, length, slice_index, slice_set, take, nat_le, nat_lt, ◌&&◌, ◌⊎◌, inl, inr, Option, Some, None, unwrap_or, is_some, true, false, Result, Ok, Err, refl, sym, ap, ◌∙◌, subst, arith}
+use Rattle.std.specs.Prelude.{IsOk, MatchResult}
 use Rattle.std.specs.List.{AllPass, SomeIndex}
 use Rattle.std.specs.Result.{result_unwrap_or}
 use Rattle.std.specs.Str.{IsAscii, IsUtf8}
 use Rattle.std.proofs.lemmas.Bool.{and_parts, cases_Bool, cases_eq, leb-true, ltb-true, or_cases}
-use Rattle.std.proofs.lemmas.List.{length-take-le, take_at}
+use Rattle.std.proofs.lemmas.List.{get_or-set_other, get_or-set_same, get_or-take, length-take-le}
 use Rattle.std.proofs.lemmas.List.Elements.{All-cons, All-head, All-nil, All-tail, All-weaker}
 use Rattle.std.proofs.lemmas.List.Sums.{AllPass-from_list_all}
 use Rattle.std.proofs.lemmas.Str.{IsUtf8-from_ascii}
 use Rattle.std.proofs.lemmas.Str.Ascii.{IsAscii-from_all}
 use Rattle.hex.specs.Hex.{IsBytes, decode_of, decode_pairs, decode_sized, encode_with, hex_digit_value, is_hex_digit, lower_digits, pair_value}
 use Rattle.hex.specs.declared.error.FromHexError.{FromHexError}
-use Rattle.hex.proofs.HexLemmas.{IsAscii-encode_with, decode_of-ok, decode_of-same, decode_pairs-err, decode_pairs-ok, decode_sized-encode_lower, decode_sized-twice, length-encode_with}
+use Rattle.hex.proofs.HexLemmas.{IsAscii-encode_with, decode_of-ok, decode_of-same, decode_pairs-ok, decode_sized-encode_lower, decode_sized-twice, length-encode_with}
 use Rattle.hex.proofs.Pairs.{cons_byte, decode_pairs-ok_pair, decode_sized-pairs}
 use Rattle.gix_refspec.specs.declared.oid.Error.{Error}
 use Rattle.gix_refspec.specs.declared.oid.Error.TheVariants.{Digit, Length}
@@ -27,7 +27,7 @@ digits_of-twice Sha1 = refl
 digits_of-twice Sha256 = refl
 
 -- an id has at most 32 bytes
-bytes_of-fits : (kind : Kind) → bytes_of kind ≤ 32
+pub bytes_of-fits : (kind : Kind) → bytes_of kind ≤ 32
 bytes_of-fits Sha1 = omega arith
 bytes_of-fits Sha256 = omega arith
 
@@ -191,39 +191,61 @@ id_or_fault t = elim (length_or_not (length t)) [
   ]
 ]
 
--- a text as long as that of an id, which does not decode, has a byte that is no digit
-HasFault-undecoded : (kind : Kind) (t : List ℕ) (e : FromHexError) → length t ≡ digits_of kind
-    → decode_sized t (bytes_of kind) ≡ Err e → HasIdFault t Digit
-HasFault-undecoded kind t e digits undecoded =
-    let two = digits_of-twice kind in
-    let pairs = sym (decode_sized-pairs t (bytes_of kind) (omega arith) (omega arith)) ∙ undecoded in
-    let bad = decode_pairs-err 0 t e (omega arith) pairs in
-    ((kind, digits), (bad.0, bad.2, bad.3))
+-- ---- bytes that are put into a buffer, one after another
+
+-- the digits of t spell the first n bytes of a buffer
+abbrev pub SpellsFirst : ℕ → List ℕ → List ℕ → Type 0
+SpellsFirst n t buffer = (k : ℕ) → k < n → IsSpelledBy (slice_index buffer k) (slice_index t (2 * k)) (slice_index t (2 * k + 1))
+
+-- the byte that the next two digits spell is put behind those that are there
+pub SpellsFirst-more : (n : ℕ) (t buffer : List ℕ) (x : ℕ) → n < length buffer → SpellsFirst n t buffer
+    → IsSpelledBy x (slice_index t (2 * n)) (slice_index t (2 * n + 1)) → SpellsFirst (n + 1) t (slice_set buffer n x)
+SpellsFirst-more n t buffer x room first spelled k below = elim (cases_eq k n) [
+  | inl same ↦
+      let put : slice_index (slice_set buffer n x) n ≡ x = get_or-set_same buffer n x 0 room in
+      rw (same, put) spelled
+  | inr other ↦
+      let kept : slice_index (slice_set buffer n x) k ≡ slice_index buffer k = get_or-set_other buffer n k x 0 other in
+      rw kept (first k (omega arith))
+]
 
 -- a buffer of 32 bytes has room for the bytes of an id
-length-room : (kind : Kind) (n : ℕ) (buffer : List ℕ) → n ≡ bytes_of kind → length buffer ≡ 32 → length (take n buffer) ≡ bytes_of kind
-length-room kind n buffer size room =
+length-room : (kind : Kind) (buffer : List ℕ) → length buffer ≡ 32 → length (take (bytes_of kind) buffer) ≡ bytes_of kind
+length-room kind buffer room =
     let fits = bytes_of-fits kind in
-    length-take-le n buffer (omega arith) ∙ size
+    length-take-le (bytes_of kind) buffer (omega arith)
 
--- where a text as long as that of an id decodes into the front of a buffer, the front is the id
-pub IsIdText-filled : (kind : Kind) (n : ℕ) (buffer t out rest : List ℕ) → n ≡ bytes_of kind → length buffer ≡ 32
-    → length t ≡ digits_of kind → decode_sized t (length (take n buffer)) ≡ Ok out
-    → IsIdText t (take (bytes_of kind) (out ++ rest))
-IsIdText-filled kind n buffer t out rest size room digits decoded =
-    let text = IsIdText-decoded kind t out digits (rw (length-room kind n buffer size room) at decoded) in
-    let here = digits_of-twice kind in
-    let there = digits_of-twice text.kind in
-    let a = text.digits in
-    let b = text.bytes in
-    let whole : take (bytes_of kind) (out ++ rest) ≡ out = take_at out rest (bytes_of kind) (omega arith) in
-    rw whole text
+-- where all digits of a text as long as that of an id are read into a buffer, its first bytes are the id
+pub IsIdText-first : (kind : Kind) (t buffer : List ℕ) → length t ≡ digits_of kind → length buffer ≡ 32
+    → SpellsFirst (bytes_of kind) t buffer → IsIdText t (take (bytes_of kind) buffer)
+IsIdText-first kind t buffer digits room first =
+    let size = length-room kind buffer room in
+    record {
+      kind = kind;
+      digits = digits;
+      bytes = size;
+      spelled = λ k below. rw (get_or-take (bytes_of kind) buffer k 0 (omega arith)) (first k (omega arith));
+    }
 
--- where it does not decode, some byte is no digit
-pub HasFault-unfilled : (kind : Kind) (n : ℕ) (buffer t : List ℕ) (e : FromHexError) → n ≡ bytes_of kind → length buffer ≡ 32
-    → length t ≡ digits_of kind → decode_sized t (length (take n buffer)) ≡ Err e → HasIdFault t Digit
-HasFault-unfilled kind n buffer t e size room digits undecoded =
-    HasFault-undecoded kind t e digits (rw (length-room kind n buffer size room) at undecoded)
+-- of two bytes that aren't both digits, some is none
+HasFault-either : (t : List ℕ) (k : ℕ) → k + 1 < length t
+    → ¬ ((is_hex_digit (slice_index t k) ≡ true) × (is_hex_digit (slice_index t (k + 1)) ≡ true))
+    → SomeIndex t (λ j. is_hex_digit (slice_index t j) ≡ false)
+HasFault-either t k below fault = elim (cases_Bool (is_hex_digit (slice_index t k))) [
+  | inr high ↦ (k, omega arith, high)
+  | inl digit ↦ elim (cases_Bool (is_hex_digit (slice_index t (k + 1)))) [
+    | inr low ↦ (k + 1, below, low)
+    | inl another ↦ absurd (fault (digit, another))
+  ]
+]
+
+-- a text as long as that of an id has a fault where two of its bytes don't spell one
+pub HasFault-pair : (kind : Kind) (t : List ℕ) (k : ℕ) → length t ≡ digits_of kind → k < bytes_of kind
+    → ¬ ((is_hex_digit (slice_index t (2 * k)) ≡ true) × (is_hex_digit (slice_index t (2 * k + 1)) ≡ true))
+    → HasIdFault t Digit
+HasFault-pair kind t k digits below fault =
+    let two = digits_of-twice kind in
+    ((kind, digits), HasFault-either t (2 * k) (omega arith) fault)
 
 -- ---- texts in lower case
 
@@ -277,7 +299,7 @@ hex_digit_value-letter : (c : ℕ) → 97 ≤ c → c ≤ 102 → hex_digit_valu
 hex_digit_value-letter c low high = grind arith
 
 -- a digit's value is below 16
-hex_digit_value-small : (c v : ℕ) → hex_digit_value c ≡ Some v → v < 16
+pub hex_digit_value-small : (c v : ℕ) → hex_digit_value c ≡ Some v → v < 16
 hex_digit_value-small c v read = grind arith
 
 -- the two ranges of the digits in lower case
@@ -366,19 +388,10 @@ IsBytes-take (suc n) (b ∷ x) fits (suc k) = IsBytes-take n x (λ j. fits (suc 
 pub one_lower_text : (kind : Kind) (buffer : List ℕ) → length buffer ≡ 32 → IsBytes buffer → OneLowerText (take (bytes_of kind) buffer)
 one_lower_text kind buffer room fits =
     let i = take (bytes_of kind) buffer in
-    let lower = IsLowerText-lower_of kind i (length-room kind (bytes_of kind) buffer refl room) (IsBytes-take (bytes_of kind) buffer fits) in
+    let lower = IsLowerText-lower_of kind i (length-room kind buffer room) (IsBytes-take (bytes_of kind) buffer fits) in
     record { lower = lower; only = λ t is. IsLowerText-unique t (lower_of i) i is lower }
 
 -- ---- what calls answer
-
--- `hex::decode_to_slice` answers what the text decodes to
-pub decoded_into : (d : Result (List ℕ) FromHexError) (r : Result ⊤ FromHexError) (out : List ℕ)
-    → MatchResult d (λ bytes. (r ≡ Ok tt) × (out ≡ bytes)) (λ e. r ≡ Err e)
-    → MatchResult r (λ _. d ≡ Ok out) (λ e. d ≡ Err e)
-decoded_into (Ok bytes) (Ok done) out (ok, same) = ap Ok (sym same)
-decoded_into (Ok bytes) (Err e) out (ok, same) = cc ok
-decoded_into (Err e) (Ok done) out same = cc same
-decoded_into (Err e) (Err d) out same = cc same
 
 -- a result is `Ok` where each error speaks against a fact
 pub IsOk-unless : {T E : Type 0} {R : Type 0} (r : Result T E) (P : T → Type 0) (Q : E → Type 0) → R

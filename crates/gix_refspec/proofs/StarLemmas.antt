@@ -5,7 +5,7 @@ use Rattle.std.proofs.lemmas.Bool.{cases_eq, eq-eqb, ne_eqb}
 use Rattle.std.proofs.lemmas.List.Sums.{sum_by-append}
 use Rattle.gix_refspec.specs.Text.{Lacks}
 use Rattle.gix_refspec.specs.Bytes.{star}
-use Rattle.gix_refspec.specs.Name.{HasOneStar}
+use Rattle.gix_refspec.specs.Name.{HasOneStar, HasStar, HasSeveralStars}
 
 stars : List ℕ → ℕ
 stars x = count_by (λ b. b == star) x
@@ -71,3 +71,38 @@ counted x (before, after, cut) =
 pub count_by-HasOneStar : (x : List ℕ) → HasOneStar x → count_by (λ b. b == star) x ≡ 1
 unfolding stars
 count_by-HasOneStar x one = counted x one
+
+-- a text in which no star is counted lacks it
+pub Lacks-count_by : (x : List ℕ) → count_by (λ b. b == star) x ≡ 0 → Lacks star x
+unfolding stars
+Lacks-count_by x none = Lacks-no_stars x none
+
+-- two stars, of which the first stands in front
+several_in_front : (b : ℕ) (x : List ℕ) → b ≡ star → HasStar x → HasSeveralStars (b ∷ x)
+several_in_front b x same more = record { before = []; between = more.before; after = more.after; here = ap (λ c. c ∷ x) same ∙ ap (λ y. star ∷ y) more.here }
+
+some_star : (x : List ℕ) → stars x ≢ 0 → HasStar x
+unfolding stars
+some_star [] some = absurd (some refl)
+some_star (b ∷ x) some =
+    elim (cases_eq b star) [
+      | inl same ↦ record { before = []; after = x; here = ap (λ c. c ∷ x) same }
+      | inr other ↦ let more = some_star x (λ none. some (stars-other b x other ∙ none)) in record { before = b ∷ more.before; after = more.after; here = ap (λ y. b ∷ y) more.here }
+    ]
+
+several_stars : (x : List ℕ) → stars x ≢ 0 → stars x ≢ 1 → HasSeveralStars x
+unfolding stars
+several_stars [] some two = absurd (some refl)
+several_stars (b ∷ x) some two =
+    elim (cases_eq b star) [
+      | inl same ↦ several_in_front b x same (some_star x (λ none. two (stars-star b x same ∙ ap (λ n. 1 + n) none)))
+      | inr other ↦
+          let one_less = stars-other b x other in
+          let more = several_stars x (λ none. some (one_less ∙ none)) (λ one. two (one_less ∙ one)) in
+          record { before = b ∷ more.before; between = more.between; after = more.after; here = ap (λ y. b ∷ y) more.here }
+    ]
+
+-- a text in which two stars or more are counted has several
+pub HasSeveralStars-count_by : (x : List ℕ) → count_by (λ b. b == star) x ≢ 0 → count_by (λ b. b == star) x ≢ 1 → HasSeveralStars x
+unfolding stars
+HasSeveralStars-count_by x some two = several_stars x some two

@@ -8,8 +8,8 @@ use Rattle.gix_refspec.specs.declared.name.Error.TheVariants.{Empty, EmptyCompon
 use Rattle.gix_refspec.specs.Text.{Ends}
 use Rattle.gix_refspec.specs.Bytes.{slash, star, dot, at, brace}
 use Rattle.gix_refspec.specs.Name.{is_refused_byte, IsName}
-use Rattle.gix_refspec.specs.Private.Scan.{LeavesFault}
-use Rattle.gix_refspec.proofs.NameLemmas.{IsClean, IsName-from_clean}
+use Rattle.gix_refspec.specs.Private.Scan.{LeavesFault, IsClean}
+use Rattle.gix_refspec.proofs.NameLemmas.{IsName-from_clean}
 
 -- `k`, with which `.lock` ends
 abbrev pub lock_end : ℕ

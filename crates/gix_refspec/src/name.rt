@@ -1,6 +1,6 @@
 //! The names of refs and the patterns over them, by git-check-ref-format(1).
 
-ghost use Rattle.std.specs.Prelude.{◌≡◌, ◌↔◌, IsTrue, MatchOption, MatchResult, ◌∷◌, [], List, ℕ};
+ghost use Rattle.std.specs.Prelude.{◌≡◌, ◌↔◌, IsTrue, MatchOption, MatchResult, ◌∷◌, ◌≤◌, [], List, ℕ, length};
 ghost use Rattle.std.specs.Bool.{OnTrue};
 ghost use Rattle.gix_refspec.specs.declared.name.Error.{Error};
 ghost use Rattle.gix_refspec.specs.Text.{Ends};
@@ -8,11 +8,13 @@ ghost use Rattle.gix_refspec.specs.Name.{IsName, HasFault, IsPattern, HasOneStar
 ghost use Rattle.gix_refspec.specs.Bytes.{slash};
 ghost use Rattle.gix_refspec.specs.Explained.{name_explained};
 ghost use Rattle.gix_refspec.specs.PatternError.{IsPatternFault};
-ghost use Rattle.gix_refspec.specs.Private.Scan.{AddsFault, LeavesFault, Finds};
+ghost use Rattle.gix_refspec.specs.Private.Scan.{AddsFault, LeavesFault, Finds, IsScanned, IsStarCount, with_letters};
 ghost use Rattle.bstr.specs.BStr.{bstr_bytes};
 
+mod calm;
 mod class;
 
+use self::calm::{LANES, are_calm};
 use self::class::{Class, class_of};
 use bstr::{BStr, ByteSlice};
 use smallvec::SmallVec;
@@ -147,6 +149,55 @@ pub(crate) fn fault_of(text: &[u8]) -> Option<Error>
         }
     }
     left_fault(text, last_of(text))
+}
+
+// How many stars a text has, if with letters for its stars it is a name; else a fault that it has so.
+#[inline(never)]
+pub(crate) fn stars_of_name(text: &[u8]) -> Result<usize, Error>
+    ensures { MatchResult result
+        (λ stars. IsStarCount text.now stars × IsName (with_letters text.now))
+        (λ e. HasFault (with_letters text.now) e) }
+{
+    if text.is_empty() {
+        return Err(Error::Empty);
+    }
+    let mut stars = stars_up_to(text, 0, 1, 0)?;
+    let mut index = 1;
+    while text.len() - index >= LANES {
+        if !are_calm(text, index) {
+            stars = stars_up_to(text, index, index + LANES, stars)?;
+        }
+        index += LANES;
+    }
+    stars = stars_up_to(text, index, text.len(), stars)?;
+    if let Some(fault) = left_fault(text, last_of(text)) {
+        return Err(fault);
+    }
+    Ok(stars)
+}
+
+// How many stars a text has before a place, where they are known up to an earlier place; or a fault
+// that a byte between adds.
+#[inline(always)]
+fn stars_up_to(text: &[u8], from: usize, to: usize, known: usize) -> Result<usize, Error>
+    requires { (from ≤ to) × (to ≤ length text.now) × IsScanned text.now from known }
+    ensures { MatchResult result
+        (λ stars. IsScanned text.now to stars)
+        (λ e. HasFault (with_letters text.now) e) }
+{
+    let mut stars = known;
+    for index in from..to {
+        let byte = text[index];
+        if is_plain(byte) {
+            continue;
+        }
+        if byte == b'*' {
+            stars += 1;
+        } else if let Some(fault) = added_fault(&text[..index], byte) {
+            return Err(fault);
+        }
+    }
+    Ok(stars)
 }
 
 // The last byte of a text, or a slash: the first component begins as if one stood before it.

@@ -10,6 +10,9 @@ ghost use Rattle.std.proofs.Common.{rules};
 ghost use Rattle.gix_refspec.specs.Explained.{id_explained};
 ghost use Rattle.gix_refspec.specs.ObjectId.{HasIdFault, IsIdLength, IsIdText, bytes_of, digits_of, fault_name, lower_of};
 
+mod digit;
+
+use self::digit::byte_of;
 use std::cmp::Ordering;
 use std::hash::{Hash, Hasher};
 use std::{error, fmt};
@@ -130,10 +133,13 @@ impl ObjectId {
             return Err(Error::Length { len: hex.len() });
         };
         let mut buffer = [0; 32];
-        match hex::decode_to_slice(hex, &mut buffer[..kind.len_in_bytes()]) {
-            Ok(()) => Ok(ObjectId { kind, buffer }),
-            Err(_) => Err(Error::Digit),
+        for place in 0..kind.len_in_bytes() {
+            let Some(byte) = byte_of(hex[2 * place], hex[2 * place + 1]) else {
+                return Err(Error::Digit);
+            };
+            buffer[place] = byte;
         }
+        Ok(ObjectId { kind, buffer })
     }
 
     /// The id whose bytes are all 0, which stands for no object.

@@ -58,7 +58,7 @@ pub enum Error {
     /// A side is neither a name nor a pattern, with a fault of it, its one star read as a letter.
     #[error(transparent)]
     ReferenceName(name::Error),
-    /// There was no memory to look at a long pattern, or to report a side with several stars.
+    /// There was no memory to report a side with several stars.
     #[error("out of memory")]
     Memory,
 }

@@ -6,7 +6,7 @@ ghost use Rattle.bstr.specs.Owned.{bstring_bytes};
 ghost use Rattle.gix_refspec.specs.Bytes.{colon};
 ghost use Rattle.gix_refspec.specs.Meaning.{sign as sign_of, text_of};
 ghost use Rattle.gix_refspec.specs.Views.{shown, shown_push, shown_fetch};
-ghost use Rattle.gix_refspec.specs.Private.Pieces.{joined};
+ghost use Rattle.gix_refspec.specs.Private.Pieces.{joined, optional_byte};
 
 use crate::instruction::{Fetch, Push};
 use crate::spec::RefSpecRef;
@@ -16,20 +16,19 @@ use std::alloc::{AllocError, Global};
 use std::io;
 use std::io::Write;
 
-// What the text of an instruction is made of, in this order.
+// What the text of an instruction is made of, in this order. A colon stands before a destination.
 #[derive(Clone, Copy)]
 pub(crate) struct Pieces<'a> {
-    pub(crate) sign: &'static [u8],
+    pub(crate) sign: Option<u8>,
     pub(crate) source: &'a [u8],
-    pub(crate) colon: &'static [u8],
-    pub(crate) destination: &'a [u8],
+    pub(crate) destination: Option<&'a [u8]>,
 }
 
 // `+` where forced.
-fn sign(forced: bool) -> &'static [u8]
-    ensures { result.now ≡ sign_of forced }
+fn sign(forced: bool) -> Option<u8>
+    ensures { optional_byte result ≡ sign_of forced }
 {
-    if forced { b"+" } else { b"" }
+    if forced { Some(b'+') } else { None }
 }
 
 impl<'a> Instruction<'a> {
@@ -39,10 +38,14 @@ impl<'a> Instruction<'a> {
     {
         let pieces = self.pieces();
         let mut text = Vec::with_capacity(alloc, pieces.len())?;
-        text.extend_from_slice(pieces.sign)?;
+        if let Some(sign) = pieces.sign {
+            text.push(sign)?;
+        }
         text.extend_from_slice(pieces.source)?;
-        text.extend_from_slice(pieces.colon)?;
-        text.extend_from_slice(pieces.destination)?;
+        if let Some(destination) = pieces.destination {
+            text.push(b':')?;
+            text.extend_from_slice(destination)?;
+        }
         Ok(BString::new(text))
     }
 
@@ -53,10 +56,15 @@ impl<'a> Instruction<'a> {
             (W.contents out.old) (W.contents out.new) (text_of (shown self.now))) }
     {
         let pieces = self.pieces();
-        out.write_all(pieces.sign)?;
+        if let Some(sign) = pieces.sign {
+            out.write_all(&[sign])?;
+        }
         out.write_all(pieces.source)?;
-        out.write_all(pieces.colon)?;
-        out.write_all(pieces.destination)
+        if let Some(destination) = pieces.destination {
+            out.write_all(b":")?;
+            out.write_all(destination)?;
+        }
+        Ok(())
     }
 
     // The pieces whose text is the instruction's.
@@ -89,7 +97,7 @@ impl<'a> Push<'a> {
                 dst,
                 allow_non_fast_forward,
             } => Pieces::of_two(allow_non_fast_forward, src.as_bytes(), dst.as_bytes()),
-            Push::Exclude { src } => Pieces::of_one(b"^", src.as_bytes()),
+            Push::Exclude { src } => Pieces::of_one(Some(b'^'), src.as_bytes()),
         }
     }
 }
@@ -105,7 +113,7 @@ impl<'a> Fetch<'a> {
                 let source = src.as_bytes();
                 Pieces::of_one(sign(source.first() == Some(&b'+')), source)
             }
-            Fetch::Exclude { src } => Pieces::of_one(b"^", src.as_bytes()),
+            Fetch::Exclude { src } => Pieces::of_one(Some(b'^'), src.as_bytes()),
             Fetch::AndUpdate {
                 src,
                 dst,
@@ -117,14 +125,13 @@ impl<'a> Fetch<'a> {
 
 impl<'a> Pieces<'a> {
     // One side behind a sign.
-    fn of_one(sign: &'static [u8], source: &'a [u8]) -> Pieces<'a>
-        ensures { joined result ≡ sign.now ++ source.now }
+    fn of_one(sign: Option<u8>, source: &'a [u8]) -> Pieces<'a>
+        ensures { joined result ≡ optional_byte sign ++ source.now }
     {
         Pieces {
             sign,
             source,
-            colon: b"",
-            destination: b"",
+            destination: None,
         }
     }
 
@@ -135,8 +142,7 @@ impl<'a> Pieces<'a> {
         Pieces {
             sign: sign(forced),
             source,
-            colon: b":",
-            destination,
+            destination: Some(destination),
         }
     }
 
@@ -145,11 +151,15 @@ impl<'a> Pieces<'a> {
         ensures { length (joined self.entry) ≤ 18446744073709551615 →
             result ≡ length (joined self.entry) }
     {
-        self.sign
+        let sign = if self.sign.is_some() { 1 } else { 0 };
+        let destination = match self.destination {
+            None => 0,
+            Some(destination) => destination.len().saturating_add(1),
+        };
+        self.source
             .len()
-            .saturating_add(self.source.len())
-            .saturating_add(self.colon.len())
-            .saturating_add(self.destination.len())
+            .saturating_add(sign)
+            .saturating_add(destination)
     }
 }
 

@@ -1,7 +1,19 @@
 -- The pieces that a text is printed from. Only private functions cite this.
-use Rattle.std.specs.Prelude.{ℕ, List, ◌++◌}
+use Rattle.std.specs.Prelude.{ℕ, List, [], ◌∷◌, ◌++◌, Option, None, Some}
+use Rattle.std.specs.Borrow.{Bor}
 use Rattle.gix_refspec.specs.declared.write.Pieces.{Pieces}
+use Rattle.gix_refspec.specs.Bytes.{colon}
+
+-- a byte that may be missing
+abbrev pub optional_byte : Option ℕ → List ℕ
+optional_byte None = []
+optional_byte (Some b) = b ∷ []
+
+-- a destination that may be missing, behind a colon
+abbrev pub behind_colon : Option (Bor (List ℕ)) → List ℕ
+behind_colon None = []
+behind_colon (Some d) = colon ∷ d.now
 
 -- the text that the pieces make
 abbrev pub joined : Pieces → List ℕ
-joined p = p.sign.now ++ (p.source.now ++ (p.colon.now ++ p.destination.now))
+joined p = optional_byte p.sign ++ (p.source.now ++ behind_colon p.destination)

@@ -1,11 +1,12 @@
 -- How one pass over the bytes finds a fault of a name. Only private functions cite these words. A text
 -- is looked at with a slash put before it, so that each of its components stands behind a slash.
-use Rattle.std.specs.Prelude.{◌≡◌, ℕ, ◌==◌, List, Option, MatchOption, codes, IsTrue, if◌then◌else◌}
+use Rattle.std.specs.Prelude.{◌≡◌, ◌≢◌, ◌⊎◌, ◌≤◌, ◌<◌, ◌-◌, ◌∷◌, ◌++◌, take, ℕ, ◌==◌, List, Option, MatchOption, codes, IsTrue, if◌then◌else◌, map, slice_index}
+use Rattle.std.specs.List.{count_by}
 use Rattle.gix_refspec.specs.declared.name.class.Class.{Class}
 use Rattle.gix_refspec.specs.declared.name.class.Class.TheVariants.{Plain, Slash, Dot, Brace, Star, Refused}
 use Rattle.gix_refspec.specs.declared.name.Error.{Error}
 use Rattle.gix_refspec.specs.declared.name.Error.TheVariants.{Empty, EmptyComponent, StartsWithDot, LockSuffix, EndsWithDot, RepeatedDot, ReflogPortion, Asterisk, InvalidByte}
-use Rattle.gix_refspec.specs.Bytes.{slash, star, dot, brace}
+use Rattle.gix_refspec.specs.Bytes.{slash, star, letter, dot, brace}
 use Rattle.gix_refspec.specs.Name.{is_refused_byte}
 use Rattle.gix_refspec.specs.Text.{Ends}
 
@@ -25,6 +26,18 @@ AddsFault y b ReflogPortion = (b ≡ brace) × Ends (codes "@") y
 AddsFault y b Asterisk = b ≡ star
 AddsFault y b (InvalidByte c) = (b ≡ c) × IsTrue (is_refused_byte c)
 
+-- some byte in y adds the fault e to what is before it
+pub record Added (y : List ℕ) (e : Error) : Type 0 where
+  pub before : List ℕ
+  pub byte : ℕ
+  pub after : List ℕ
+  pub here : y ≡ before ++ (byte ∷ after)
+  pub fault : AddsFault before byte e
+
+-- no byte in y adds a fault to what is before it
+abbrev pub IsClean : List ℕ → Type 0
+IsClean y = (e : Error) → ¬ (Added y e)
+
 -- y has the fault e where nothing comes behind it
 abbrev pub LeavesFault : List ℕ → Error → Type 0
 LeavesFault y Empty = ⊥
@@ -40,3 +53,27 @@ LeavesFault y (InvalidByte c) = ⊥
 -- the answer is a fault as F says, or None where there is no such fault
 abbrev pub Finds : Option Error → (Error → Type 0) → Type 0
 Finds answer F = MatchOption answer ((e : Error) → ¬ (F e)) F
+
+-- the letter for a star, and any other byte as it is
+abbrev pub letter_for : ℕ → ℕ
+letter_for b = if b == star then letter else b
+
+-- x with the letter in place of each star
+abbrev pub with_letters : List ℕ → List ℕ
+with_letters x = map letter_for x
+
+-- n stars stand in x
+abbrev pub IsStarCount : List ℕ → ℕ → Type 0
+IsStarCount x n = count_by (λ b. b == star) x ≡ n
+
+-- with letters for the stars no byte of x before the place i adds a fault, and n of these are stars
+abbrev pub IsScanned : List ℕ → ℕ → ℕ → Type 0
+IsScanned x i n = IsClean (with_letters (slash ∷ take i x)) × IsStarCount (take i x) n
+
+-- behind p the byte b is plain, or a slash that neither a slash nor the end of `.lock` is behind
+abbrev pub IsCalm : ℕ → ℕ → Type 0
+IsCalm p b = (class_at b ≡ Plain) ⊎ ((b ≡ slash) × (p ≢ slash) × (p ≢ 107))
+
+-- each byte of x from the place a up to b is calm behind the one before it
+abbrev pub AreCalm : List ℕ → ℕ → ℕ → Type 0
+AreCalm x a b = (k : ℕ) → a ≤ k → k < b → IsCalm (slice_index x (k - 1)) (slice_index x k)

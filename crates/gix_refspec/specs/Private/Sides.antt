@@ -1,17 +1,19 @@
 -- How the parts of a text are looked at, and which sides they make. Only private functions cite this.
 use Rattle.std.specs.Prelude.{◌≡◌, ◌≢◌, ◌⊎◌, ℕ, List, [], ◌∷◌, Option, None, Some, option_map}
+use Rattle.gix_refspec.specs.declared.parsing.function.Look.{Look}
 use Rattle.gix_refspec.specs.declared.parsing.function.Side.{Side}
 use Rattle.gix_refspec.specs.declared.parsing.function.Parts.{Parts}
 use Rattle.gix_refspec.specs.declared.parsing.function.Sides.{Sides}
 use Rattle.gix_refspec.specs.declared.parsing.Operation.{Operation}
 use Rattle.gix_refspec.specs.declared.parsing.Error.{Error}
 use Rattle.gix_refspec.specs.Text.{Lacks}
-use Rattle.gix_refspec.specs.Name.{IsName, IsPattern}
+use Rattle.gix_refspec.specs.Name.{IsName, HasFault, IsPattern}
 use Rattle.gix_refspec.specs.Bytes.{star, head}
 use Rattle.gix_refspec.specs.Reading.{Mode, Reading}
 use Rattle.gix_refspec.specs.Refusal.{Refusal, IsBadName, IsBadPattern, IsFirstReason, IsRefused, ReachesMemory, MayWantMemory}
 use Rattle.gix_refspec.specs.Grammar.{named_by, AreParts, IsPositive, Reads}
 use Rattle.gix_refspec.specs.Views.{mode_of, ShowsRefusal}
+use Rattle.gix_refspec.specs.declared.parsing.function.Look.TheVariants as look
 use Rattle.gix_refspec.specs.declared.parsing.function.Side.TheVariants as side
 use Rattle.gix_refspec.specs.declared.parsing.Error.TheVariants as error
 use Rattle.bstr.specs.BStr.{bstr_bytes}
@@ -20,6 +22,12 @@ use Rattle.bstr.specs.BStr.{bstr_bytes}
 abbrev pub MemoryOr : Type 0 → (Refusal → Type 0) → Error → Type 0
 MemoryOr memory P error.Memory = memory
 MemoryOr memory P e = ShowsRefusal P e
+
+-- x is a name, a pattern, or else without a star and with this fault
+abbrev pub IsLook : List ℕ → Look → Type 0
+IsLook x look.Name = IsName x
+IsLook x look.Pattern = IsPattern x
+IsLook x (look.Other fault) = Lacks star x × HasFault x fault
 
 -- x has no star, or is a pattern
 abbrev pub IsSide : List ℕ → Side → Type 0

@@ -2,15 +2,17 @@
 
 ghost use Rattle.std.specs.Prelude.{◌≡◌, ◌≢◌, ◌↔◌, option_map, IfOk, IfErr, IsTrue};
 ghost use Rattle.bstr.specs.BStr.{bstr_bytes};
-ghost use Rattle.gix_refspec.specs.Name.{HasSeveralStars};
+ghost use Rattle.gix_refspec.specs.Name.{HasFault, HasSeveralStars};
 ghost use Rattle.gix_refspec.specs.Grammar.{IsSigned, LooksLikeObjectHash, Reads, with_colon, LastLacksColon, named_by};
 ghost use Rattle.gix_refspec.specs.Refusal.{IsBadPattern, IsRefused, MayWantMemory, WantsMemory};
 ghost use Rattle.gix_refspec.specs.Views.{mode_of, ShowsRefusal};
-ghost use Rattle.gix_refspec.specs.Private.Sides.{MemoryOr, IsSide, IsCheckedSide, IsBadSide, HasParts, destination_of, ArePositive, AreSidesOf, IsReasonAgainst, named_or_head as named_or_head_of, side_of as side_bytes};
+ghost use Rattle.gix_refspec.specs.Private.Scan.{with_letters};
+ghost use Rattle.gix_refspec.specs.Private.Sides.{MemoryOr, IsLook, IsSide, IsCheckedSide, IsBadSide, HasParts, destination_of, ArePositive, AreSidesOf, IsReasonAgainst, named_or_head as named_or_head_of, side_of as side_bytes};
 ghost use Rattle.gix_refspec.specs.Spec.{reading_of};
 
 use crate::cut::split_at_last;
-use crate::name::{PatternError, name_partial, pattern_partial};
+use crate::name;
+use crate::name::stars_of_name;
 use crate::oid::Kind;
 use crate::parsing::{Error, Operation};
 use crate::side::{Stars, stars_of};
@@ -18,6 +20,15 @@ use crate::spec::RefSpecRef;
 use crate::types::Mode;
 use bstr::{BStr, BString};
 use std::alloc::Global;
+
+// What a look at a side tells.
+#[derive(Clone, Copy)]
+enum Look {
+    Name,
+    Pattern,
+    // No star, and a fault of it as a name.
+    Other(name::Error),
+}
 
 // Whether a side has a star.
 #[derive(Clone, Copy, PartialEq, Eq)]
@@ -48,8 +59,9 @@ struct Sides<'a> {
 ///
 /// Any other text is refused with the first reason that applies, in the order listed at [`Error`].
 /// `ReferenceName` holds one fault of the side, its one star read as a letter. Memory is needed
-/// only for a side with several stars, which is reported whole, or with one star and more than 256
-/// bytes, and only if no earlier reason applies. `Memory` says that it ran out.
+/// only for a side with several stars, which is reported whole, and only if no earlier reason
+/// applies. `Memory` says that it ran out. The contract leaves it open for a side with one star and
+/// more than 256 bytes too.
 pub fn parse<'a>(
     alloc: Global,
     spec: BStr<'a>,
@@ -112,23 +124,36 @@ fn cut_at_last_colon(rest: &[u8]) -> (&[u8], Option<&[u8]>)
     }
 }
 
-// Whether a side has a star; if so it has to be a pattern.
-fn starred(alloc: Global, side: &[u8]) -> Result<Side, Error>
-    ensures ok { IfOk result (IsSide side.now) }
+// What a side is. Its stars are counted and its name is checked in one look.
+#[inline(always)]
+fn look_at(alloc: Global, side: &[u8]) -> Result<Look, Error>
+    ensures ok { IfOk result (IsLook side.now) }
+    ensures err { IfErr result (MemoryOr (WantsMemory side.now) (IsBadPattern side.now)) }
+{
+    match stars_of_name(side) {
+        Ok(0) => Ok(Look::Name),
+        Ok(1) => Ok(Look::Pattern),
+        Ok(_) => Err(several_stars(alloc, side)),
+        Err(fault) => with_fault(alloc, side, fault),
+    }
+}
+
+// What a side is that has a fault with letters for its stars.
+#[inline(never)]
+fn with_fault(alloc: Global, side: &[u8], fault: name::Error) -> Result<Look, Error>
+    requires { HasFault (with_letters side.now) fault }
+    ensures ok { IfOk result (IsLook side.now) }
     ensures err { IfErr result (MemoryOr (WantsMemory side.now) (IsBadPattern side.now)) }
 {
     match stars_of(side) {
-        Stars::No => Ok(Side::Plain),
-        Stars::One { .. } => match pattern_partial(alloc, BStr::new(side)) {
-            Ok(()) => Ok(Side::Pattern),
-            Err(PatternError::Name(fault)) => Err(Error::ReferenceName(fault)),
-            Err(PatternError::Memory) => Err(Error::Memory),
-        },
+        Stars::No => Ok(Look::Other(fault)),
+        Stars::One { .. } => Err(Error::ReferenceName(fault)),
         Stars::Several => Err(several_stars(alloc, side)),
     }
 }
 
 // The refusal of a side with several stars.
+#[inline(never)]
 fn several_stars(alloc: Global, side: &[u8]) -> Error
     requires { HasSeveralStars side.now }
     ensures { MemoryOr (WantsMemory side.now) (IsBadPattern side.now) result }
@@ -136,6 +161,17 @@ fn several_stars(alloc: Global, side: &[u8]) -> Error
     match BString::from_slice(alloc, side) {
         Ok(pattern) => Error::PatternUnsupported { pattern },
         Err(_) => Error::Memory,
+    }
+}
+
+// Whether a side has a star; if so it has to be a pattern.
+fn starred(alloc: Global, side: &[u8]) -> Result<Side, Error>
+    ensures ok { IfOk result (IsSide side.now) }
+    ensures err { IfErr result (MemoryOr (WantsMemory side.now) (IsBadPattern side.now)) }
+{
+    match look_at(alloc, side)? {
+        Look::Name | Look::Other(_) => Ok(Side::Plain),
+        Look::Pattern => Ok(Side::Pattern),
     }
 }
 
@@ -147,12 +183,10 @@ fn checked(alloc: Global, side: &[u8]) -> Result<Side, Error>
     if side.is_empty() {
         return Ok(Side::Plain);
     }
-    match name_partial(BStr::new(side)) {
-        Ok(()) => Ok(Side::Plain),
-        Err(fault) => match starred(alloc, side)? {
-            Side::Plain => Err(Error::ReferenceName(fault)),
-            Side::Pattern => Ok(Side::Pattern),
-        },
+    match look_at(alloc, side)? {
+        Look::Name => Ok(Side::Plain),
+        Look::Pattern => Ok(Side::Pattern),
+        Look::Other(fault) => Err(Error::ReferenceName(fault)),
     }
 }
 

@@ -1,6 +1,6 @@
 use Rattle.std.proofs.Common.{◌∷◌, take}
 use Rattle.gix_refspec.specs.Bytes.{slash}
-use Rattle.gix_refspec.proofs.NameLemmas.{IsClean}
+use Rattle.gix_refspec.specs.Private.Scan.{IsClean}
 use Rattle.gix_refspec.proofs.name.fault_of.Given as goal
 
 -- no fault so far
