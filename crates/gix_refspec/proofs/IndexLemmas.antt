@@ -21,7 +21,7 @@ use Rattle.gix_refspec.specs.Side.{SideKind, pattern, full_name, object, partial
 use Rattle.gix_refspec.specs.Hits.{Ends}
 use Rattle.gix_refspec.specs.Private.SideViews.{shown_kind}
 use Rattle.gix_refspec.specs.Private.HitViews.{HasEnds, HaveKinds}
-use Rattle.gix_refspec.specs.Private.Index.{AllAsked, ArePlacesOf, AsksForName, HavePlaces, IsIndexOf, list_of, names_asked_by}
+use Rattle.gix_refspec.specs.Private.Index.{AllAsked, ArePlacesOf, AsksForName, HavePlaces, IsFrontIndexOf, IsIndexOf, list_of, names_asked_by}
 use Rattle.gix_refspec.proofs.HitLemmas.{one_kind, one_pair}
 use Rattle.gix_refspec.proofs.JoinLemmas.{made_next, map_long, map_more}
 use Rattle.gix_refspec.proofs.PlacesLemmas.{within_candidates}
@@ -36,7 +36,7 @@ abbrev pub Puts : List ℕ → Vec ℕ → (List ℕ → Option (Vec ℕ)) → (
 Puts n v old new = (q : List ℕ) → new q ≡ cond (bytes_eq n q) (Some v) (old q)
 
 -- the name itself, and another one
-put_cases : (n : List ℕ) (v : Vec ℕ) (old new : List ℕ → Option (Vec ℕ)) → Puts n v old new → (q : List ℕ) → ((n ≡ q) × (new q ≡ Some v)) ⊎ ((n ≢ q) × (new q ≡ old q))
+pub put_cases : (n : List ℕ) (v : Vec ℕ) (old new : List ℕ → Option (Vec ℕ)) → Puts n v old new → (q : List ℕ) → ((n ≡ q) × (new q ≡ Some v)) ⊎ ((n ≢ q) × (new q ≡ old q))
 put_cases n v old new puts q = go (bytes_eq n q) refl
   where
     go : (b : Bool) → b ≡ bytes_eq n q → ((n ≡ q) × (new q ≡ Some v)) ⊎ ((n ≢ q) × (new q ≡ old q))
@@ -111,14 +111,22 @@ item_listed ns items i d n v w old new below is was more puts have =
     (one_listed ns i (map ref_of (take i items)) (ref_of (get_or items i d)) v w old new (map_long ref_of items i below) (ap old (sym is) ∙ was) more (subst (λ (m : List ℕ). Puts m w old new) is puts) have)
 
 -- what is listed is what the index has
-pub index_made : (ns : List (List ℕ)) (refs : List Ref) (index : NameIndex) → HavePlaces ns refs (list_of index.places) → IsIndexOf ns refs index
-index_made ns refs index have = record {
+pub index_made : (ns : List (List ℕ)) (refs : List Ref) (index : NameIndex) → HavePlaces ns refs (list_of index.places) → IsFrontIndexOf refs index.fronts → IsIndexOf ns refs index
+index_made ns refs index have fronts = record {
   each = λ n there. let at = have.each n there in subst (λ (l : List ℕ). ArePlacesOf n refs l) (sym (ap items at.1)) at.2;
   others = λ n none. ap items (have.others n none);
+  fronts = fronts;
 }
   where
     items : Option (Vec ℕ) → List ℕ
     items listed = unwrap_or (option_map (λ v. v.items) listed) []
+
+-- where no name is asked for, there is nothing to find
+pub nothing_asked : (ns : List (List ℕ)) (refs : List Ref) (listed : List ℕ → Option (Vec ℕ)) → ns ≡ [] → HavePlaces ns [] listed → HavePlaces ns refs listed
+nothing_asked ns refs listed none have = record {
+  each = λ n there. let (k, inside, is) = subst (λ (l : List (List ℕ)). Contains l n) none there in absurd (omega (arith, inside));
+  others = have.others;
+}
 
 -- P holds of each name that a reading asks for in the direction
 abbrev IsAsked : (List ℕ → Type 0) → Direction → Reading → Type 0

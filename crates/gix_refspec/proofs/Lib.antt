@@ -42,6 +42,7 @@ pub mod HitLemmas
 pub mod SomeLemmas
 pub mod KeptPairLemmas
 pub mod ThinLemmas
+pub mod EqualSpecLemmas
 pub mod PartLemmas
 pub mod PartMadeLemmas
 pub mod ReachLemmas
@@ -75,6 +76,9 @@ pub mod NoHitLemmas
 pub mod PlacesLemmas
 pub mod FirstPlacesLemmas
 pub mod IndexLemmas
+pub mod FrontLemmas
+pub mod FrontHitLemmas
+pub mod IndexFacts
 pub mod MatchFacts
 pub mod OutcomeFacts
 pub mod ValidationFacts

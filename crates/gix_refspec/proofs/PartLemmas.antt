@@ -10,11 +10,12 @@ use Rattle.gix_refspec.specs.Match.{Ref, HasName, MatchesAs}
 use Rattle.gix_refspec.specs.Lists.{IsMadeFrom, IsJoinedFrom}
 use Rattle.gix_refspec.specs.Mappings.{Mapped, IsSamePair, HasPair}
 use Rattle.gix_refspec.specs.Hits.{Ends, IsFilled, Hit, IsHit, AreSpecHits, IsIdMapping, forward_of, backward_of}
+use Rattle.gix_refspec.specs.Private.EqualSpecs.{Thins}
 use Rattle.gix_refspec.specs.Private.HitViews.{HasEnds, TakesIn, mapping_of, AreKept}
 use Rattle.gix_refspec.specs.Private.Part.{IsPartBehind, IsPart, moved, place_among, HasNoNearId}
 use Rattle.gix_refspec.proofs.KeptLemmas.{HasPair-left, HasPair-last}
 use Rattle.gix_refspec.proofs.RepeatLemmas.{all_weaker}
-use Rattle.gix_refspec.proofs.ThinLemmas.{Thins, thins_all, thins_both, pair_alike, kept_thinned, kept_moved}
+use Rattle.gix_refspec.proofs.ThinLemmas.{thins_all, thins_both, pair_alike, kept_thinned, kept_moved}
 
 -- ---- names of the part
 

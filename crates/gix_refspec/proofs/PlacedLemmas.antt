@@ -27,7 +27,7 @@ use Rattle.gix_refspec.proofs.HitLemmas.{is_hit, matches_as, taken_first, taken_
 use Rattle.gix_refspec.proofs.RepeatLemmas.{all_weaker}
 
 -- what a read past the end gives
-abbrev blank : Ref
+abbrev pub blank : Ref
 blank = record { name = []; target = []; object = None }
 
 -- the hit of an item at a place
@@ -61,10 +61,10 @@ abbrev TakenAt : SideKind → Direction → List Ref → ℕ → Ref → ℕ →
 TakenAt kind direction items k r place = TakesWhole kind direction items r × (place ≡ k)
 
 -- the items from place j on are the rest
-abbrev StandAt : List Ref → ℕ → List Ref → Type 0
+abbrev pub StandAt : List Ref → ℕ → List Ref → Type 0
 StandAt items j rest = (i : ℕ) → i < length rest → get_or items (j + i) blank ≡ get_or rest i blank
 
-later : (items : List Ref) (j : ℕ) (r : Ref) (rest : List Ref) → StandAt items j (r ∷ rest) → StandAt items (j + 1) rest
+pub later : (items : List Ref) (j : ℕ) (r : Ref) (rest : List Ref) → StandAt items j (r ∷ rest) → StandAt items (j + 1) rest
 later items j r rest at i below = let next : j + 1 + i ≡ j + suc i = omega arith in ap (λ (n : ℕ). get_or items n blank) next ∙ at (suc i) (omega arith)
 
 -- the hits of the items from place j on
@@ -157,16 +157,22 @@ places_added direction k kinds items places old new whole taken adds = record {
 
 -- the index serves each spec of the group
 pub side_served : (direction : Direction) (specs : List RefSpecRef) (refs : List Ref) (index : NameIndex) (i : ℕ) (s : RefSpecRef) (kinds : DeclaredEnds) → i < length specs → s ≡ get_or specs i s → IsIndexFor direction (map reading_of specs) refs index → (ends : Ends) × HasEnds direction (reading_of s) ends × HaveKinds ends kinds → IsIndexOfSide (shown_kind kinds.near) refs index
-side_served direction specs refs index i s kinds below is all found n asks =
-    let here : (ends : Ends) (kind : SideKind) (m : List ℕ) → HasEnds direction (reading_of s) ends → HasKind ends.near kind → AsksForName kind m → ArePlacesOf m refs (places_in index m) =
-    subst (λ (r : Reading). (ends : Ends) (kind : SideKind) (m : List ℕ) → HasEnds direction r ends → HasKind ends.near kind → AsksForName kind m → ArePlacesOf m refs (places_in index m))
-    (get_or-map reading_of specs i s (reading_of s) below ∙ ap reading_of (sym is))
-    (All-from_recursion (λ r. (ends : Ends) (kind : SideKind) (m : List ℕ) → HasEnds direction r ends → HasKind ends.near kind → AsksForName kind m → ArePlacesOf m refs (places_in index m)) (map reading_of specs) all i (reading_of s) (omega (arith, length-map specs reading_of))) in
-    here found.0 (shown_kind kinds.near) n found.1 found.2.near asks
+side_served direction specs refs index i s kinds below is serves found = record {
+  names = λ n asks.
+      let here : (ends : Ends) (kind : SideKind) (m : List ℕ) → HasEnds direction (reading_of s) ends → HasKind ends.near kind → AsksForName kind m → ArePlacesOf m refs (places_in index m) =
+      subst (λ (r : Reading). (ends : Ends) (kind : SideKind) (m : List ℕ) → HasEnds direction r ends → HasKind ends.near kind → AsksForName kind m → ArePlacesOf m refs (places_in index m))
+      (get_or-map reading_of specs i s (reading_of s) below ∙ ap reading_of (sym is))
+      (All-from_recursion (λ r. (ends : Ends) (kind : SideKind) (m : List ℕ) → HasEnds direction r ends → HasKind ends.near kind → AsksForName kind m → ArePlacesOf m refs (places_in index m)) (map reading_of specs) serves.names i (reading_of s) (omega (arith, length-map specs reading_of))) in
+      here found.0 (shown_kind kinds.near) n found.1 found.2.near asks;
+  fronts = serves.fronts;
+}
 
 -- the names that are asked for are in the index
 pub index_serves : (direction : Direction) (g : List Reading) (refs : List Ref) (names : List (List ℕ)) (index : NameIndex) → AllAsked (Contains names) direction g → IsIndexOf names refs index → IsIndexFor direction g refs index
-index_serves direction g refs names index asked of_names = all_weaker
-    (λ r. (ends : Ends) (kind : SideKind) (n : List ℕ) → HasEnds direction r ends → HasKind ends.near kind → AsksForName kind n → Contains names n)
-    (λ r. (ends : Ends) (kind : SideKind) (n : List ℕ) → HasEnds direction r ends → HasKind ends.near kind → AsksForName kind n → ArePlacesOf n refs (places_in index n))
-    (λ r told ends kind n has of asks. of_names.each n (told ends kind n has of asks)) g asked
+index_serves direction g refs names index asked of_names = record {
+  names = all_weaker
+      (λ r. (ends : Ends) (kind : SideKind) (n : List ℕ) → HasEnds direction r ends → HasKind ends.near kind → AsksForName kind n → Contains names n)
+      (λ r. (ends : Ends) (kind : SideKind) (n : List ℕ) → HasEnds direction r ends → HasKind ends.near kind → AsksForName kind n → ArePlacesOf n refs (places_in index n))
+      (λ r told ends kind n has of asks. of_names.each n (told ends kind n has of asks)) g asked;
+  fronts = of_names.fronts;
+}

@@ -25,7 +25,7 @@ all_places places [] = []
 all_places places (n ∷ ns) = places n ++ all_places places ns
 
 -- the places of the refs of which P holds, the first one's being k
-abbrev AreWhere : (Ref → Type 0) → ℕ → List Ref → List ℕ → Type 0
+abbrev pub AreWhere : (Ref → Type 0) → ℕ → List Ref → List ℕ → Type 0
 AreWhere P k refs ps = IsMadeFrom (λ j r place. P r × (place ≡ j)) k refs ps
 
 places_above : (P : Ref → Type 0) (k : ℕ) (refs : List Ref) (ps : List ℕ) → AreWhere P k refs ps → AllByRecursion (λ p. k ≤ p) ps
@@ -44,13 +44,13 @@ places_rise P k (r ∷ refs) ps (Some q, rest, of, more, is) =
     subst Rises (sym is) (all_weaker (λ p. k + 1 ≤ p) (λ p. q < p) (λ p above. omega (arith, above, same)) rest (places_above P (k + 1) refs rest more), places_rise P (k + 1) refs rest more)
 
 -- P holds of the ref at place j, where the first one's is k
-abbrev IsAt : (Ref → Type 0) → ℕ → List Ref → ℕ → Type 0
+abbrev pub IsAt : (Ref → Type 0) → ℕ → List Ref → ℕ → Type 0
 IsAt P k refs j = (i : ℕ) × (r : Ref) × (j ≡ k + i) × (slice_get refs i ≡ Some r) × P r
 
 one_behind : (P : Ref → Type 0) (k : ℕ) (r : Ref) (refs : List Ref) (j : ℕ) → IsAt P (k + 1) refs j → IsAt P k (r ∷ refs) j
 one_behind P k r refs j (i, s, place, is, holds) = (suc i, s, omega (arith, place), is, holds)
 
-has_only : (P : Ref → Type 0) (k : ℕ) (refs : List Ref) (ps : List ℕ) (j : ℕ) → AreWhere P k refs ps → Has ps j → IsAt P k refs j
+pub has_only : (P : Ref → Type 0) (k : ℕ) (refs : List Ref) (ps : List ℕ) (j : ℕ) → AreWhere P k refs ps → Has ps j → IsAt P k refs j
 has_only P k [] ps j empty has = absurd (subst (λ (l : List ℕ). Has l j) empty has)
 has_only P k (r ∷ refs) ps j (None, rest, of, more, is) has = one_behind P k r refs j (has_only P (k + 1) refs rest j more (subst (λ (l : List ℕ). Has l j) is has))
 has_only P k (r ∷ refs) ps j (Some q, rest, of, more, is) has = elim (subst (λ (l : List ℕ). Has l j) is has) [

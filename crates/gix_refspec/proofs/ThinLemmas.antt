@@ -4,15 +4,9 @@ use Rattle.std.proofs.lemmas.List.{append-nil, length-append}
 use Rattle.gix_refspec.specs.Reading.{Reading}
 use Rattle.gix_refspec.specs.Lists.{MakesOf, IsMadeFrom}
 use Rattle.gix_refspec.specs.Mappings.{Mapped, IsSamePair, HasPair, Stays, IsKept}
+use Rattle.gix_refspec.specs.Private.EqualSpecs.{Thins}
 use Rattle.gix_refspec.specs.Private.Part.{moved}
 use Rattle.gix_refspec.proofs.KeptLemmas.{HasPair-left, HasPair-last}
-
--- some of the mappings, behind others: each one that is left out has the pair of one before it
-abbrev pub Thins : List Mapped → List Mapped → List Mapped → Type 0
-Thins before [] some = some ≡ []
-Thins before (m ∷ l) some =
-    ((rest : List Mapped) × (some ≡ m ∷ rest) × Thins (before ++ m ∷ []) l rest)
-    ⊎ (HasPair before m × Thins (before ++ m ∷ []) l some)
 
 pub thins_all : (before l : List Mapped) → Thins before l l
 thins_all before [] = refl

@@ -4,6 +4,7 @@ pub mod Pieces
 pub mod SideViews
 pub mod Sides
 pub mod HitViews
+pub mod EqualSpecs
 pub mod Part
 pub mod Index
 pub mod Kept

@@ -2,6 +2,7 @@
 
 pub(crate) mod conflicts;
 pub(crate) mod ends;
+mod equal_specs;
 mod fill;
 mod hashes;
 pub(crate) mod hits;

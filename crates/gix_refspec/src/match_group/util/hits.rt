@@ -7,14 +7,17 @@ ghost use Rattle.gix_refspec.specs.Spec.{reading_of};
 ghost use Rattle.gix_refspec.specs.Group.{ref_of, mapped_of};
 ghost use Rattle.gix_refspec.specs.Hits.{AreHits, forward_of, backward_of};
 ghost use Rattle.gix_refspec.specs.Private.SideViews.{shown_kind};
-ghost use Rattle.gix_refspec.specs.Private.Index.{ArePlacesTaken, IsIndexFor, IsIndexOfSide, MatchesWhole};
-ghost use Rattle.gix_refspec.specs.Private.HitViews.{HasEnds, TakesEach, TakesIn, shown_hit, AreHitsOfKinds, AddsHits, AreFirst, AreMade, made_in};
+ghost use Rattle.gix_refspec.specs.Private.Index.{ArePlacesFor, ArePlacesTaken, IsIndexFor, IsIndexOfSide, MatchesWhole};
+ghost use Rattle.gix_refspec.specs.Private.HitViews.{HasEnds, TakesEach, TakesIn, shown_hit, AreHitsOfKinds, AddsHits, AreFirst, made_in};
+ghost use Rattle.gix_refspec.specs.Private.EqualSpecs.{AddsMost, AreMostMade, FlagsEqual};
 ghost use Rattle.gix_refspec.specs.Private.Part.{moved, place_among};
 
 use super::ends::{Direction, Ends, asked_of, ends_of};
+use super::equal_specs::equal_specs;
 use super::fill::filled_end;
 use super::ids::ids_of;
 use super::index::NameIndex;
+use super::kept::is_flagged;
 use super::matched::matched;
 use super::part::among;
 use crate::match_group::types::{Item, Mapping, NameRef, SourceRef};
@@ -32,6 +35,15 @@ struct Hit<'spec, 'item> {
     far: Option<NameRef<'spec>>,
 }
 
+// What a first look at specs and items finds: which specs have the sides of an earlier one, and how
+// many mappings the others make of ids and of sides that are no names. The list of mappings grows for
+// those of names, as these are looked up.
+#[derive(Drop)]
+pub(crate) struct Survey {
+    pub(crate) equal: Vec<bool>,
+    pub(crate) room: usize,
+}
+
 // The mappings that are made, in the list of their direction. The other list stays empty.
 #[derive(Drop)]
 pub(crate) struct Made<'spec, 'item> {
@@ -40,42 +52,57 @@ pub(crate) struct Made<'spec, 'item> {
 }
 
 // The mappings of a direction: those of ids by spec, from left to right alone, and then those of
-// items by spec and item. There is room for so many.
+// items by spec and item, without those of specs that equal an earlier one.
 pub(crate) fn mappings_of<'spec, 'item>(
     alloc: Global,
     direction: Direction,
     specs: &[RefSpecRef<'spec>],
     index: &NameIndex<'_>,
     items: &[Item<'item>],
-    room: usize,
+    survey: &Survey,
 ) -> Result<Made<'spec, 'item>, AllocError>
-    requires { IsIndexFor direction (map reading_of specs.now) (map ref_of items.now) index.now }
-    ensures { IfOk result (λ made. AreMade
+    requires index { IsIndexFor direction (map reading_of specs.now) (map ref_of items.now) index.now }
+    requires equal { FlagsEqual (map reading_of specs.now) survey.now.equal.items }
+    ensures { IfOk result (λ made. AreMostMade
         direction (map reading_of specs.now) (map ref_of items.now) (made_in direction made)) }
 {
-    let mut made = started(alloc, direction, specs, room)?;
-    add_hits(alloc, direction, specs, index, items, &mut made)?;
+    let mut made = started(alloc, direction, specs, survey.room)?;
+    let equal = survey.equal.as_slice();
+    add_hits(alloc, direction, specs, equal, index, items, &mut made)?;
     Ok(made)
 }
 
-// How many mappings a direction makes of ids and of sides that are no names. The list grows for
-// those of names, as these are looked up.
-pub(crate) fn room_for(
-    direction: Direction,
-    specs: &[RefSpecRef<'_>],
-    items: &[Item<'_>],
-) -> usize {
-    let mut room: usize = 0;
-    for spec in specs {
-        room = room.saturating_add(room_of(direction, spec, items));
+impl Survey {
+    // Looks at the specs.
+    pub(crate) fn of(
+        alloc: Global,
+        direction: Direction,
+        specs: &[RefSpecRef<'_>],
+        index: &NameIndex<'_>,
+        items: &[Item<'_>],
+    ) -> Result<Survey, AllocError>
+        ensures { IfOk result (λ survey. FlagsEqual (map reading_of specs.now) survey.equal.items) }
+    {
+        let equal = equal_specs(alloc, specs)?;
+        let mut room: usize = 0;
+        for (place, spec) in specs.iter().enumerate() {
+            if !is_flagged(equal.as_slice(), place) {
+                room = room.saturating_add(room_of(direction, spec, index, items));
+            }
+        }
+        Ok(Survey { equal, room })
     }
-    room
 }
 
 // How many of them one spec makes.
-fn room_of(direction: Direction, spec: &RefSpecRef<'_>, items: &[Item<'_>]) -> usize {
+fn room_of(
+    direction: Direction,
+    spec: &RefSpecRef<'_>,
+    index: &NameIndex<'_>,
+    items: &[Item<'_>],
+) -> usize {
     if let Some(ends) = ends_of(direction, spec) {
-        return match_count(ends.near, items);
+        return match_count(ends.near, index, items);
     }
     match direction {
         Direction::Forward => usize::from(asked_of(spec).is_some()),
@@ -84,10 +111,32 @@ fn room_of(direction: Direction, spec: &RefSpecRef<'_>, items: &[Item<'_>]) -> u
 }
 
 // How many items a side matches that is no name.
-fn match_count(near: SideKind<'_>, items: &[Item<'_>]) -> usize {
-    if let SideKind::FullName(_) | SideKind::Partial(_) = near {
-        return 0;
+fn match_count(near: SideKind<'_>, index: &NameIndex<'_>, items: &[Item<'_>]) -> usize {
+    match near {
+        SideKind::FullName(_) | SideKind::Partial(_) => 0,
+        SideKind::Pattern { before, .. } => match index.places_behind(before) {
+            Some(places) => count_at(near, places, items),
+            None => count_among(near, items),
+        },
+        SideKind::Object(_) => count_among(near, items),
     }
+}
+
+// How many of the items at some places a side matches.
+fn count_at(near: SideKind<'_>, places: &[usize], items: &[Item<'_>]) -> usize {
+    let mut count: usize = 0;
+    for place in places {
+        if let Some(item) = items.get(*place) {
+            if matched(near, item).is_some() {
+                count = count.saturating_add(1);
+            }
+        }
+    }
+    count
+}
+
+// How many of the items a side matches.
+fn count_among(near: SideKind<'_>, items: &[Item<'_>]) -> usize {
     let mut count: usize = 0;
     for item in items {
         if matched(near, item).is_some() {
@@ -144,21 +193,26 @@ fn backward_mapping<'spec, 'item>(hit: Hit<'spec, 'item>) -> Mapping<'spec, 'ite
     }
 }
 
-// Adds what the hits of the specs make.
+// Adds what the hits of the specs make that aren't flagged as equal to an earlier one.
 fn add_hits<'spec, 'item>(
     alloc: Global,
     direction: Direction,
     specs: &[RefSpecRef<'spec>],
+    equal: &[bool],
     index: &NameIndex<'_>,
     items: &[Item<'item>],
     made: &mut Made<'spec, 'item>,
 ) -> Result<(), AllocError>
-    requires { IsIndexFor direction (map reading_of specs.now) (map ref_of items.now) index.now }
-    ensures { OnOk result (AddsHits
+    requires index { IsIndexFor direction (map reading_of specs.now) (map ref_of items.now) index.now }
+    requires equal { FlagsEqual (map reading_of specs.now) equal.now }
+    ensures { OnOk result (AddsMost
         direction (AreHits (HasEnds direction) (TakesIn direction (map ref_of items.now))
         (map reading_of specs.now) (map ref_of items.now)) made.old made.new) }
 {
     for (place, spec) in specs.iter().enumerate() {
+        if is_flagged(equal, place) {
+            continue;
+        }
         if let Some(ends) = ends_of(direction, spec) {
             add_spec_hits(alloc, direction, place, ends, index, items, made)?;
         }
@@ -204,9 +258,11 @@ fn add_spec_hits<'spec, 'item>(
                 add_places(alloc, direction, spec, ends, places.as_slice(), items, made)
             }
         },
-        SideKind::Pattern { .. } | SideKind::Object(_) => {
-            add_matches(alloc, direction, spec, ends, items, made)
-        }
+        SideKind::Pattern { before, .. } => match index.places_behind(before) {
+            Some(places) => add_matches_at(alloc, direction, spec, ends, places, items, made),
+            None => add_matches(alloc, direction, spec, ends, items, made),
+        },
+        SideKind::Object(_) => add_matches(alloc, direction, spec, ends, items, made),
     }
 }
 
@@ -236,6 +292,38 @@ fn add_places<'spec, 'item>(
             far: filled_end(alloc, ends.far, None)?,
         };
         made.add(direction, hit)?;
+    }
+    Ok(())
+}
+
+// Adds what the hits of a spec make whose near end is a pattern, going through the items whose names
+// begin as it does, which stand at the places.
+fn add_matches_at<'spec, 'item>(
+    alloc: Global,
+    direction: Direction,
+    spec: usize,
+    ends: Ends<'spec>,
+    places: &[usize],
+    items: &[Item<'item>],
+    made: &mut Made<'spec, 'item>,
+) -> Result<(), AllocError>
+    requires { ArePlacesFor (shown_kind ends.near) (map ref_of items.now) places.now }
+    ensures { OnOk result (AddsHits
+        direction (AreHitsOfKinds direction ends.entry spec
+        (map ref_of items.now) (map ref_of items.now))
+        made.old made.new) }
+{
+    for place in places {
+        let item = &items[*place];
+        if let Some(found) = matched(ends.near, item) {
+            let hit = Hit {
+                spec,
+                item: *place,
+                near: item.full_ref_name,
+                far: filled_end(alloc, ends.far, found.word)?,
+            };
+            made.add(direction, hit)?;
+        }
     }
     Ok(())
 }

@@ -1,8 +1,8 @@
 //! Where the names that specs ask for stand among the items. A full name asks for itself, and a
 //! partial one for its candidates. Names that no spec asks for take no memory and are no keys, since
-//! a server chooses them.
+//! a server chooses them. Many patterns have an index of their own.
 
-ghost use Rattle.std.specs.Prelude.{◌≡◌, ◌++◌, [], List, ℕ, map, IfOk, OnOk};
+ghost use Rattle.std.specs.Prelude.{◌≡◌, ◌++◌, [], List, ℕ, map, IfSome, IfOk, OnOk};
 ghost use Rattle.std.specs.List.{Contains};
 ghost use Rattle.gix_refspec.specs.Spec.{reading_of};
 ghost use Rattle.gix_refspec.specs.Side.{IsCandidate, partial as partial_kind};
@@ -12,6 +12,7 @@ ghost use Rattle.gix_refspec.specs.Private.SideViews.{shown_kind};
 ghost use Rattle.gix_refspec.specs.Private.Index.{AllAsked, HavePlaces, list_of, names_asked_by};
 
 mod filter;
+pub(crate) mod fronts;
 
 use super::ends::{Direction, ends_of};
 use crate::match_group::types::{Item, NameRef};
@@ -19,13 +20,15 @@ use crate::side::{SideKind, candidates};
 use crate::spec::RefSpecRef;
 use bstr::BStr;
 use filter::Filter;
+use fronts::FrontIndex;
 use std::alloc::{AllocError, Global};
 use std::collections::HashMap;
 
-// For each of some names all its places among the items, rising.
+// For each of some names all its places among the items, rising, and the same for fronts of patterns.
 #[derive(Drop)]
 pub(crate) struct NameIndex<'n> {
     places: HashMap<&'n [u8], Vec<usize>>,
+    fronts: FrontIndex<'n>,
 }
 
 // The names that specs ask for in a direction.
@@ -84,20 +87,22 @@ fn without_places<'n>(
 
 impl<'n> NameIndex<'n> {
     ghost use Rattle.gix_refspec.specs.declared.match_group.util.ends.Direction.TheVariants.{Forward, Backward};
-    ghost use Rattle.gix_refspec.specs.Private.Index.{ArePlacesOf, ArePlacesTaken, IsIndexOf, places_in};
+    ghost use Rattle.gix_refspec.specs.Private.Index.{ArePlacesBehind, ArePlacesOf, ArePlacesTaken, IsFrontIndexOf, IsIndexOf, places_in};
 
-    // The index of some names.
+    // The index of some names, and of some fronts.
     pub(crate) fn of(
         alloc: Global,
         names: &'n [NameRef<'_>],
+        fronts: &'n [NameRef<'_>],
         items: &[Item<'_>],
     ) -> Result<NameIndex<'n>, AllocError>
         ensures { IfOk result (λ index. IsIndexOf
             (map name_bytes names.now) (map ref_of items.now) index) }
     {
+        let fronts = FrontIndex::of(alloc, fronts, items)?;
         let mut places = without_places(alloc, names)?;
         if names.is_empty() {
-            return Ok(NameIndex { places });
+            return Ok(NameIndex { places, fronts });
         }
         let filter = Filter::of(alloc, names)?;
         for (place, item) in items.iter().enumerate() {
@@ -109,7 +114,7 @@ impl<'n> NameIndex<'n> {
                 list.push(place)?;
             }
         }
-        Ok(NameIndex { places })
+        Ok(NameIndex { places, fronts })
     }
 
     // The places of a name.
@@ -120,6 +125,14 @@ impl<'n> NameIndex<'n> {
             None => &[],
             Some(places) => places.as_slice(),
         }
+    }
+
+    // The places of the items whose names begin with a front. None where they aren't listed.
+    pub(crate) fn places_behind(&self, front: &[u8]) -> Option<&[usize]>
+        ensures { IfSome result (λ places. (refs : List Ref)
+            → IsFrontIndexOf refs self.now.fronts → ArePlacesBehind front.now refs places.now) }
+    {
+        self.fronts.places(front)
     }
 
     // Whether some name stands at several places.

@@ -4,12 +4,14 @@
 ghost use Rattle.std.specs.Prelude.{[], map, IfOk, OnErr};
 ghost use Rattle.gix_refspec.specs.Spec.{reading_of};
 ghost use Rattle.gix_refspec.specs.Group.{ref_of};
+ghost use Rattle.gix_refspec.specs.Private.EqualSpecs.{FlagsEqual};
 ghost use Rattle.gix_refspec.specs.Private.HitViews.{AreKept, AreMade, made_in};
 ghost use Rattle.gix_refspec.specs.Private.Index.{IsIndexFor};
 ghost use Rattle.gix_refspec.specs.Private.Part.{HasNoNearId};
 
 use super::ends::Direction;
-use super::hits::{Made, mappings_of, room_for};
+use super::hits::{Made, Survey, mappings_of};
+use super::index::fronts::fronts_asked;
 use super::index::{NameIndex, names_asked};
 use super::kept::keep;
 use super::part::{Part, has_near_id, seem_repeated};
@@ -66,10 +68,11 @@ fn kept_by_name<'spec, 'item>(
         direction (map reading_of specs.now) (map ref_of items.now) (made_in direction made)) }
 {
     let names = names_asked(alloc, direction, specs)?;
-    let index = NameIndex::of(alloc, names.as_slice(), items)?;
-    let room = room_for(direction, specs, items);
-    if has_near_id(direction, specs) || !names_repeat(alloc, &index, room, items)? {
-        return kept_with(alloc, direction, specs, &index, items, room);
+    let fronts = fronts_asked(alloc, direction, specs)?;
+    let index = NameIndex::of(alloc, names.as_slice(), fronts.as_slice(), items)?;
+    let survey = Survey::of(alloc, direction, specs, &index, items)?;
+    if has_near_id(direction, specs) || !names_repeat(alloc, &index, survey.room, items)? {
+        return kept_with(alloc, direction, specs, &index, items, &survey);
     }
     drop(index);
     kept_once(alloc, direction, specs, items)
@@ -121,9 +124,10 @@ fn kept_of_all<'spec, 'item>(
         direction (map reading_of specs.now) (map ref_of items.now) (made_in direction made)) }
 {
     let names = names_asked(alloc, direction, specs)?;
-    let index = NameIndex::of(alloc, names.as_slice(), items)?;
-    let room = room_for(direction, specs, items);
-    kept_with(alloc, direction, specs, &index, items, room)
+    let fronts = fronts_asked(alloc, direction, specs)?;
+    let index = NameIndex::of(alloc, names.as_slice(), fronts.as_slice(), items)?;
+    let survey = Survey::of(alloc, direction, specs, &index, items)?;
+    kept_with(alloc, direction, specs, &index, items, &survey)
 }
 
 // The mappings that are kept, by an index of the names that the specs ask for.
@@ -133,13 +137,14 @@ fn kept_with<'spec, 'item>(
     specs: &[RefSpecRef<'spec>],
     index: &NameIndex<'_>,
     items: &[Item<'item>],
-    room: usize,
+    survey: &Survey,
 ) -> Result<Made<'spec, 'item>, AllocError>
-    requires { IsIndexFor direction (map reading_of specs.now) (map ref_of items.now) index.now }
+    requires index { IsIndexFor direction (map reading_of specs.now) (map ref_of items.now) index.now }
+    requires equal { FlagsEqual (map reading_of specs.now) survey.now.equal.items }
     ensures { IfOk result (λ made. AreKept
         direction (map reading_of specs.now) (map ref_of items.now) (made_in direction made)) }
 {
-    let mut made = mappings_of(alloc, direction, specs, index, items, room)?;
+    let mut made = mappings_of(alloc, direction, specs, index, items, survey)?;
     match direction {
         Direction::Forward => keep(alloc, specs, &mut made.forward)?,
         Direction::Backward => keep(alloc, specs, &mut made.backward)?,

@@ -65,9 +65,10 @@ impl<'item> Part<'item> {
         ensures { IfOk result (λ part. IsPart
             (map ref_of items.now) (map ref_of part.items.items) part.places.items) }
     {
+        let room = unflagged(items.len(), flags);
         let mut part = Part {
-            items: Vec::new(alloc),
-            places: Vec::new(alloc),
+            items: Vec::with_capacity(alloc, room)?,
+            places: Vec::with_capacity(alloc, room)?,
         };
         for (place, item) in items.iter().enumerate() {
             if !is_flagged(flags, place) {
@@ -77,6 +78,17 @@ impl<'item> Part<'item> {
         }
         Ok(part)
     }
+}
+
+// How many of so many items aren't flagged.
+fn unflagged(len: usize, flags: &[bool]) -> usize {
+    let mut count = len;
+    for flag in flags {
+        if *flag {
+            count = count.saturating_sub(1);
+        }
+    }
+    count
 }
 
 // The place among all of what may stand at a place of a part.

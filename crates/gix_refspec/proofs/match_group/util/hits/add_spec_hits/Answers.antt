@@ -1,6 +1,7 @@
 -- A full name takes the refs of that name in both directions.
 use Rattle.std.proofs.Common.{List, ℕ, map, refl, sym, subst}
 use Rattle.gix_refspec.specs.declared.side.SideKind.{SideKind}
+use Rattle.gix_refspec.specs.declared.side.SideKind.TheVariants.{FullName}
 use Rattle.gix_refspec.specs.Group.{ref_of}
 use Rattle.gix_refspec.specs.Private.SideViews.{shown_kind}
 use Rattle.gix_refspec.specs.Private.Index.{ArePlacesOf, ArePlacesTaken, IsIndexOfSide}
@@ -10,6 +11,7 @@ pub add_places-requires-clause-places : goal.add_places-requires-clause-places
 add_places-requires-clause-places c =
     let refs = map ref_of c.args.items.now in
     let name = c.in-FullName.name.now in
-    let places = subst (λ (k : SideKind). IsIndexOfSide (shown_kind k) refs c.args.index.now) c.in-FullName.is c.requires name refl in
+    let serves : IsIndexOfSide (shown_kind (FullName c.in-FullName.name)) refs c.args.index.now = subst (λ (k : SideKind). IsIndexOfSide (shown_kind k) refs c.args.index.now) c.in-FullName.is c.requires in
+    let places = serves.names name refl in
     subst (λ (k : SideKind). ArePlacesTaken (shown_kind k) c.args.direction refs c.places.result.now) (sym c.in-FullName.is)
     (subst (λ (l : List ℕ). ArePlacesOf name refs l) (sym c.places.ensures) places)

@@ -7,8 +7,8 @@ use Rattle.gix_refspec.specs.Private.Index.{IsIndexOf}
 use Rattle.gix_refspec.proofs.PlacedLemmas.{index_serves}
 use Rattle.gix_refspec.proofs.match_group.util.mappings.kept_of_all.Goals as goal
 
-pub kept_with-requires : goal.kept_with-requires
-kept_with-requires c =
+pub kept_with-requires-clause-index : goal.kept_with-requires-clause-index
+kept_with-requires-clause-index c =
     let refs = map ref_of c.args.items.now in
     index_serves c.args.direction (map reading_of c.args.specs.now) refs (map name_bytes c.in_ok-names.names.items) c.in_ok-index.index c.in_ok-names.ensures
     (subst (λ (ns : List NameRef). IsIndexOf (map name_bytes ns) refs c.in_ok-index.index) c.as_slice.ensures.value c.in_ok-index.ensures)

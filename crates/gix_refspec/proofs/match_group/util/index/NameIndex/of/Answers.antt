@@ -1,12 +1,14 @@
 -- A name that doesn't pass is no key, and to the list of a key the place is added.
-use Rattle.std.proofs.Common.{◌∙◌, ◌+◌, take_all, refl, List, ℕ, Option, Some, Vec, Global, IsSome, map, take, sym, subst}
-use Rattle.std.proofs.lemmas.Bool.{false≢true}
+use Rattle.std.proofs.Common.{◌≡◌, [], ap, ◌∙◌, ◌+◌, take_all, refl, List, ℕ, Option, Some, Vec, Global, IsSome, map, take, sym, subst}
+use Rattle.std.proofs.lemmas.Bool.{eqb-true, false≢true}
 use Rattle.std.proofs.lemmas.Map.Text.{hash_map_updates_str}
 use Rattle.gix_refspec.specs.declared.match_group.types.Item.{Item}
+use Rattle.gix_refspec.specs.declared.match_group.types.NameRef.{NameRef}
 use Rattle.gix_refspec.specs.Group.{name_bytes, ref_of}
 use Rattle.gix_refspec.specs.Private.Index.{HavePlaces, list_of}
 use Rattle.gix_refspec.specs.Private.Filter.{Passes}
-use Rattle.gix_refspec.proofs.IndexLemmas.{index_made, item_listed, item_unlisted, not_listed}
+use Rattle.gix_refspec.proofs.IndexLemmas.{index_made, item_listed, item_unlisted, not_listed, nothing_asked}
+use Rattle.gix_refspec.proofs.KeptLemmas.{no_elements}
 use Rattle.gix_refspec.proofs.PlacesLemmas.{all_at}
 use Rattle.gix_refspec.proofs.match_group.util.index.NameIndex.of.Goals as goal
 use Rattle.gix_refspec.proofs.match_group.util.index.NameIndex.of.Goals.{in-Some+in_ok-push, in_default}
@@ -40,8 +42,16 @@ loop-place-preserved c =
           (item_unlisted ns items i _ n (list_of old) below is (not_listed ns (map ref_of (take i items)) n (list_of old) (sym w.in_default.ensures.value) c.loop-place.invariant) c.loop-place.invariant)
     ]
 
+pub returns-then-is_empty : goal.returns-then-is_empty
+returns-then-is_empty c =
+    let refs = map ref_of c.args.items.now in
+    let listed = list_of c.in_ok-places.places in
+    let none : c.args.names.now ≡ [] = no_elements c.args.names.now (eqb-true _ _ (sym c.is_empty.ensures ∙ c.if-is_empty.true)) in
+    index_made (map name_bytes c.args.names.now) refs (record { places = c.in_ok-places.places; fronts = c.in_ok-fronts.fronts })
+    (nothing_asked (map name_bytes c.args.names.now) refs listed (ap (λ (l : List NameRef). map name_bytes l) none) c.in_ok-places.ensures) c.in_ok-fronts.ensures
+
 pub returns : goal.returns
 returns c =
     let ns = map name_bytes c.args.names.now in
     let items = c.args.items.now in
-    index_made ns (map ref_of items) (record { places = c.loop-place.places }) (subst (λ (l : List Item). HavePlaces ns (map ref_of l) (list_of c.loop-place.places)) (take_all c.loop-place.place items c.loop-place-test.false) c.loop-place.invariant)
+    index_made ns (map ref_of items) (record { places = c.loop-place.places; fronts = c.in_ok-fronts.fronts }) (subst (λ (l : List Item). HavePlaces ns (map ref_of l) (list_of c.loop-place.places)) (take_all c.loop-place.place items c.loop-place-test.false) c.loop-place.invariant) c.in_ok-fronts.ensures
