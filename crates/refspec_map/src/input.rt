@@ -25,7 +25,10 @@ pub(crate) fn read_input<R: Read>(alloc: Global, reader: &mut R) -> Result<Vec<u
     let Ok(mut buffer) = vec![in alloc; 0; CHUNK] else {
         return Err(Fault::Memory);
     };
-    let mut input = Vec::new(alloc);
+    // There is room for all that may be read, so that the input is never moved.
+    let Ok(mut input) = Vec::with_capacity(alloc, INPUT_LIMIT + CHUNK) else {
+        return Err(Fault::Memory);
+    };
     while read_some(reader, buffer.as_mut_slice(), &mut input)? {
         if input.len() > INPUT_LIMIT {
             return Err(Fault::TooLong);

@@ -1,12 +1,13 @@
 //! The lines of the output.
 
-ghost use Rattle.std.specs.Prelude.{◌≡◌, ◌++◌, map, option_map, IfErr, IfOk, IsOk, OnOk};
+ghost use Rattle.std.specs.Prelude.{◌≡◌, ◌++◌, ◌∷◌, [], codes, decimal, map, option_map, IfErr, IfOk, IsOk, OnOk};
 ghost use Rattle.std.specs.List.{flat_map, zip};
 ghost use Rattle.bstr.specs.Owned.{bstring_bytes};
 ghost use Rattle.gix_refspec.specs.Group.{mapped_of, name_bytes, start_of};
 ghost use Rattle.gix_refspec.specs.Issue.{conflict_of, removed_of};
+ghost use Rattle.gix_refspec.specs.ObjectId.{id_bytes, lower_of};
 ghost use Rattle.refspec_map.specs.Fault.{IsMemory};
-ghost use Rattle.refspec_map.specs.Matching.{destination_text, item_text, map_line, source_text};
+ghost use Rattle.refspec_map.specs.Matching.{destination_text, item_text, map_line, source_text, tab};
 ghost use Rattle.refspec_map.specs.Plan.{PutsFix, PutsFixes, claim_text, conflict_line};
 
 use crate::fault::Fault;
@@ -14,7 +15,9 @@ use bstr::BString;
 use gix_refspec::RefSpecRef;
 use gix_refspec::match_group::validate::{Fix, Issue};
 use gix_refspec::match_group::{Mapping, NameRef, Source, SourceRef};
-use std::alloc::Global;
+use gix_refspec::oid::ObjectId;
+use itoa::Buffer;
+use std::alloc::{AllocError, Global};
 use std::io;
 use std::io::Write;
 
@@ -103,7 +106,7 @@ pub(crate) fn put_fixes(output: &mut Vec<u8>, fixes: &[Fix]) -> Result<(), Fault
 }
 
 // How writing to a vector ended: it fails for want of memory alone.
-fn grown(written: io::Result<()>) -> Result<(), Fault>
+fn grown<E: Drop>(written: Result<(), E>) -> Result<(), Fault>
     ensures ok { OnOk result (IsOk written) }
     ensures err { IfErr result IsMemory }
 {
@@ -114,55 +117,85 @@ fn grown(written: io::Result<()>) -> Result<(), Fault>
 }
 
 // Writes the line of a mapping.
-fn write_mapping(output: &mut Vec<u8>, mapping: &Mapping<'_, '_>) -> io::Result<()>
+fn write_mapping(output: &mut Vec<u8>, mapping: &Mapping<'_, '_>) -> Result<(), AllocError>
     ensures { OnOk result (output.new.items ≡
         output.old.items ++ map_line (mapped_of mapping.now)) }
 {
-    write!(output, "map\t{}\t", mapping.spec_index)?;
-    write_item(output, mapping.item_index)?;
-    output.write_all(b"\t")?;
+    write_places(output, mapping.spec_index, mapping.item_index)?;
     write_source(output, &mapping.lhs)?;
     write_destination(output, &mapping.rhs)?;
-    output.write_all(b"\n")
+    output.extend_from_slice(b"\n")
+}
+
+// Writes how the line of a mapping begins: the places of its spec and its item.
+fn write_places(output: &mut Vec<u8>, spec: usize, item: Option<usize>) -> Result<(), AllocError>
+    ensures { OnOk result (output.new.items ≡ output.old.items
+        ++ (codes "map\t" ++ (decimal spec ++ (tab ∷ (item_text item ++ (tab ∷ [])))))) }
+{
+    output.extend_from_slice(b"map\t")?;
+    write_number(output, spec)?;
+    output.extend_from_slice(b"\t")?;
+    write_item(output, item)?;
+    output.extend_from_slice(b"\t")
 }
 
 // Writes the place of an item, or `-` where there is none.
-fn write_item(output: &mut Vec<u8>, item: Option<usize>) -> io::Result<()>
+fn write_item(output: &mut Vec<u8>, item: Option<usize>) -> Result<(), AllocError>
     ensures { OnOk result (output.new.items ≡ output.old.items ++ item_text item) }
 {
     match item {
-        Some(place) => write!(output, "{place}"),
-        None => output.write_all(b"-"),
+        Some(place) => write_number(output, place),
+        None => output.extend_from_slice(b"-"),
     }
 }
 
+// Writes a number in decimal digits.
+fn write_number(output: &mut Vec<u8>, number: usize) -> Result<(), AllocError>
+    ensures { OnOk result (output.new.items ≡ output.old.items ++ decimal number) }
+{
+    output.extend_from_slice(Buffer::new().format(number).as_bytes())
+}
+
 // Writes a source: a name by its bytes, or an id in lower case.
-fn write_source(output: &mut Vec<u8>, source: &SourceRef<'_>) -> io::Result<()>
+fn write_source(output: &mut Vec<u8>, source: &SourceRef<'_>) -> Result<(), AllocError>
     ensures { OnOk result (output.new.items ≡
         output.old.items ++ source_text (start_of source.now)) }
 {
     match source {
-        SourceRef::FullName(name) => output.write_all(name.as_bstr().as_bytes()),
-        SourceRef::ObjectId(id) => write!(output, "{id}"),
+        SourceRef::FullName(name) => output.extend_from_slice(name.as_bstr().as_bytes()),
+        SourceRef::ObjectId(id) => write_id(output, id),
+    }
+}
+
+// Writes an id in lower case.
+fn write_id(output: &mut Vec<u8>, id: &ObjectId) -> Result<(), AllocError>
+    ensures { OnOk result (output.new.items ≡ output.old.items ++ lower_of (id_bytes id.now)) }
+{
+    match write!(output, "{id}") {
+        Ok(()) => Ok(()),
+        Err(_) => Err(AllocError),
     }
 }
 
 // Writes a tab and the destination, where there is one.
-fn write_destination(output: &mut Vec<u8>, destination: &Option<NameRef<'_>>) -> io::Result<()>
+fn write_destination(
+    output: &mut Vec<u8>,
+    destination: &Option<NameRef<'_>>,
+) -> Result<(), AllocError>
     ensures { OnOk result (output.new.items ≡
         output.old.items ++ destination_text (option_map name_bytes destination.now)) }
 {
     match destination {
         Some(name) => {
-            output.write_all(b"\t")?;
-            output.write_all(name.as_bstr().as_bytes())
+            output.extend_from_slice(b"\t")?;
+            output.extend_from_slice(name.as_bstr().as_bytes())
         }
         None => Ok(()),
     }
 }
 
 // Writes the line of a conflict.
-fn write_conflict(output: &mut Vec<u8>, issue: &Issue) -> io::Result<()>
+fn write_conflict(output: &mut Vec<u8>, issue: &Issue) -> Result<(), AllocError>
     ensures { OnOk result (output.new.items ≡
         output.old.items ++ conflict_line (conflict_of issue.now)) }
 {
@@ -171,22 +204,26 @@ fn write_conflict(output: &mut Vec<u8>, issue: &Issue) -> io::Result<()>
         sources,
         specs,
     } = issue;
-    output.write_all(b"conflict\t")?;
-    output.write_all(destination_full_ref_name.as_bytes())?;
+    output.extend_from_slice(b"conflict\t")?;
+    output.extend_from_slice(destination_full_ref_name.as_bytes())?;
     write_claims(output, sources.as_slice(), specs.as_slice())?;
-    output.write_all(b"\n")
+    output.extend_from_slice(b"\n")
 }
 
 // Writes sources and the texts of their specs, with a tab before each.
-fn write_claims(output: &mut Vec<u8>, sources: &[Source], specs: &[BString]) -> io::Result<()>
+fn write_claims(
+    output: &mut Vec<u8>,
+    sources: &[Source],
+    specs: &[BString],
+) -> Result<(), AllocError>
     ensures { OnOk result (output.new.items ≡ output.old.items
         ++ flat_map claim_text (zip (map start_of sources.now) (map bstring_bytes specs.now))) }
 {
     for (source, spec) in sources.iter().zip(specs) {
-        output.write_all(b"\t")?;
+        output.extend_from_slice(b"\t")?;
         write_source(output, source)?;
-        output.write_all(b"\t")?;
-        output.write_all(spec.as_bytes())?;
+        output.extend_from_slice(b"\t")?;
+        output.extend_from_slice(spec.as_bytes())?;
     }
     Ok(())
 }

@@ -7,7 +7,7 @@ use Rattle.refspec_map.proofs.input.read_input.Goals as goal
 
 pub loop-input-init : goal.loop-input-init
 loop-input-init g c =
-    let empty = c.new-input.ensures.items in
+    let empty = c.in-Ok-with_capacity.ensures.items in
     record {
       taken = subst (λ (x : List ℕ). Consumes (g.R.Read.remaining c.args.reader.now) (g.R.Read.remaining c.args.reader.now) x) (sym empty) (Consumes-none (g.R.Read.remaining c.args.reader.now));
       within = rw empty (lit≤ tt);
