@@ -24,7 +24,20 @@ pub extern "C" fn refspec_bench_match_lhs(
     count: &mut usize,
 ) -> u8 {
     let target = ObjectId::null(Kind::Sha1);
-    status_of(match_often(alloc, specs, names, &target, times), count)
+    status_of(lhs_often(alloc, specs, names, &target, times), count)
+}
+
+/// As `refspec_bench_match_lhs`, but from right to left: the names are those of local refs.
+#[unsafe(no_mangle)]
+pub extern "C" fn refspec_bench_match_rhs(
+    alloc: Global,
+    specs: &[u8],
+    names: &[u8],
+    times: usize,
+    count: &mut usize,
+) -> u8 {
+    let target = ObjectId::null(Kind::Sha1);
+    status_of(rhs_often(alloc, specs, names, &target, times), count)
 }
 
 /// As `refspec_bench_match_lhs`, but each outcome is validated too, and `count` is set to how many
@@ -83,8 +96,8 @@ fn result_count(alloc: Global, outcome: Outcome<'_, '_>) -> Option<usize> {
     }
 }
 
-// How many mappings there were in all.
-fn match_often(
+// How many mappings there were in all from left to right.
+fn lhs_often(
     alloc: Global,
     specs: &[u8],
     names: &[u8],
@@ -96,6 +109,25 @@ fn match_often(
     let mut mappings: usize = 0;
     for _ in 0..times {
         let outcome = group.match_lhs(alloc, items.as_slice()).ok()?;
+        mappings = mappings.saturating_add(outcome.mappings.len());
+        group = outcome.group;
+    }
+    Some(mappings)
+}
+
+// How many mappings there were in all from right to left.
+fn rhs_often(
+    alloc: Global,
+    specs: &[u8],
+    names: &[u8],
+    target: &ObjectId,
+    times: usize,
+) -> Option<usize> {
+    let mut group = group_of(alloc, specs)?;
+    let items = items_of(alloc, names, target).ok()?;
+    let mut mappings: usize = 0;
+    for _ in 0..times {
+        let outcome = group.match_rhs(alloc, items.as_slice()).ok()?;
         mappings = mappings.saturating_add(outcome.mappings.len());
         group = outcome.group;
     }

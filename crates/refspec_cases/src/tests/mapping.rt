@@ -258,6 +258,35 @@ fn maps_repeated_names_once(rt: HostRuntime) -> Result<(), Fail> {
     check(&rt, alloc, Direction::Backward, operation, &REPEATED_BACK)
 }
 
+// Of specs with the same sides the first one maps, forced or not. Of the others each maps what it did.
+const EQUAL: [(&str, &str, &str); 2] = [
+    (
+        "refs/heads/*:refs/x/* ^refs/heads/b +refs/heads/*:refs/x/* refs/heads/*:refs/y/* refs/heads/*:refs/y/*",
+        "refs/heads/a refs/heads/b refs/heads/c",
+        "0 0 refs/heads/a =refs/x/a\n2 0 refs/heads/c =refs/x/c\n0 3 refs/heads/a =refs/y/a\n2 3 refs/heads/c =refs/y/c\n",
+    ),
+    (
+        "main:refs/x refs/heads/main:refs/x main:refs/y main:refs/x refs/tags/main:refs/y main:refs/y",
+        "refs/heads/main refs/tags/main",
+        "1 0 refs/tags/main refs/x\n0 1 refs/heads/main refs/x\n1 2 refs/tags/main refs/y\n",
+    ),
+];
+
+// Likewise from right to left.
+const EQUAL_BACK: [(&str, &str, &str); 1] = [(
+    "refs/heads/*:refs/x/* refs/tags/*:refs/x/* +refs/heads/*:refs/x/* refs/tags/*:refs/x/*",
+    "refs/x/a refs/y/a refs/x/b",
+    "0 0 =refs/heads/a refs/x/a\n2 0 =refs/heads/b refs/x/b\n0 1 =refs/tags/a refs/x/a\n2 1 =refs/tags/b refs/x/b\n",
+)];
+
+#[test]
+fn maps_equal_specs_once(rt: HostRuntime) -> Result<(), Fail> {
+    let alloc = rt.alloc();
+    let operation = Operation::Fetch;
+    check(&rt, alloc, Direction::Forward, operation, &EQUAL)?;
+    check(&rt, alloc, Direction::Backward, operation, &EQUAL_BACK)
+}
+
 // Two items of one name, of which the second one points to the id that is asked for.
 #[test]
 fn takes_the_item_that_points_to_an_id(rt: HostRuntime) -> Result<(), Fail> {
@@ -401,6 +430,57 @@ const FIRST: [(&str, &str, &str); 14] = [
         "1 0 refs/tags/main refs/x/a\n1 1 refs/tags/main refs/x/b\n",
     ),
 ];
+
+// So many patterns that they are looked up by what stands before their stars. The places of items and
+// specs follow from the names, by hand.
+#[test]
+fn looks_patterns_up(rt: HostRuntime) -> Result<(), Fail> {
+    let forward = [(
+        "refs/heads/a*:refs/x0/* refs/heads/ab*:refs/x1/* refs/heads/a/*:refs/x2/* refs/heads/*:refs/x3/* \
+         refs/*:refs/x4/* refs/heads/a*b:refs/x5/* *:refs/x6/* refs/heads/abc*c:refs/x7/* \
+         refs/tags/*:refs/x8/* refs/heads/b*:refs/x9/*",
+        "refs/heads/abc refs/heads/a refs/tags/a refs/heads/a/b refs/heads/ab refs/heads/abcc HEAD refs/heads/b refs/head",
+        "0 0 refs/heads/abc =refs/x0/bc\n1 0 refs/heads/a =refs/x0/\n3 0 refs/heads/a/b =refs/x0//b\n\
+         4 0 refs/heads/ab =refs/x0/b\n5 0 refs/heads/abcc =refs/x0/bcc\n\
+         0 1 refs/heads/abc =refs/x1/c\n4 1 refs/heads/ab =refs/x1/\n5 1 refs/heads/abcc =refs/x1/cc\n\
+         3 2 refs/heads/a/b =refs/x2/b\n\
+         0 3 refs/heads/abc =refs/x3/abc\n1 3 refs/heads/a =refs/x3/a\n3 3 refs/heads/a/b =refs/x3/a/b\n\
+         4 3 refs/heads/ab =refs/x3/ab\n5 3 refs/heads/abcc =refs/x3/abcc\n7 3 refs/heads/b =refs/x3/b\n\
+         0 4 refs/heads/abc =refs/x4/heads/abc\n1 4 refs/heads/a =refs/x4/heads/a\n\
+         2 4 refs/tags/a =refs/x4/tags/a\n3 4 refs/heads/a/b =refs/x4/heads/a/b\n\
+         4 4 refs/heads/ab =refs/x4/heads/ab\n5 4 refs/heads/abcc =refs/x4/heads/abcc\n\
+         7 4 refs/heads/b =refs/x4/heads/b\n8 4 refs/head =refs/x4/head\n\
+         3 5 refs/heads/a/b =refs/x5//\n4 5 refs/heads/ab =refs/x5/\n\
+         0 6 refs/heads/abc =refs/x6/refs/heads/abc\n1 6 refs/heads/a =refs/x6/refs/heads/a\n\
+         2 6 refs/tags/a =refs/x6/refs/tags/a\n3 6 refs/heads/a/b =refs/x6/refs/heads/a/b\n\
+         4 6 refs/heads/ab =refs/x6/refs/heads/ab\n5 6 refs/heads/abcc =refs/x6/refs/heads/abcc\n\
+         6 6 HEAD =refs/x6/HEAD\n7 6 refs/heads/b =refs/x6/refs/heads/b\n8 6 refs/head =refs/x6/refs/head\n\
+         5 7 refs/heads/abcc =refs/x7/\n\
+         2 8 refs/tags/a =refs/x8/a\n\
+         7 9 refs/heads/b =refs/x9/\n",
+    )];
+    check(
+        &rt,
+        rt.alloc(),
+        Direction::Forward,
+        Operation::Fetch,
+        &forward,
+    )?;
+    let backward = [(
+        "refs/x0/*:refs/h/a* refs/x1/*:refs/h/ab* refs/x2/*:refs/h/a/* refs/x3/*:refs/h/b* refs/x4/*:refs/h/c* \
+         refs/x5/*:refs/t/* refs/x6/*:refs/h/d* refs/x7/*:refs/h/e*a",
+        "refs/h/ab refs/t/a refs/h/a/b refs/h/ea refs/h/a",
+        "0 0 =refs/x0/b refs/h/ab\n2 0 =refs/x0//b refs/h/a/b\n4 0 =refs/x0/ refs/h/a\n\
+         0 1 =refs/x1/ refs/h/ab\n2 2 =refs/x2/b refs/h/a/b\n1 5 =refs/x5/a refs/t/a\n3 7 =refs/x7/ refs/h/ea\n",
+    )];
+    check(
+        &rt,
+        rt.alloc(),
+        Direction::Backward,
+        Operation::Fetch,
+        &backward,
+    )
+}
 
 #[test]
 fn takes_the_first_candidate(rt: HostRuntime) -> Result<(), Fail> {

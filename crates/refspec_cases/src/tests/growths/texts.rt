@@ -32,25 +32,6 @@ fn prints(alloc: Global, spec: RefSpecRef<'_>, text: &[u8]) -> Result<bool, Fail
 fn reads_long_patterns(rt: HostRuntime) -> Result<(), Fail> {
     let alloc = rt.alloc();
     let text = two_patterns(alloc, 257)?;
-    let spec = BStr::new(text.as_slice());
-    match marked!(alloc, parse(alloc, spec, Operation::Fetch)) {
-        Ok(spec) => {
-            assert!(&rt; prints(alloc, spec, text.as_slice())?);
-            say_answered(&rt)
-        }
-        Err(error) => {
-            assert!(&rt; matches!(error, Error::Memory), "{error:?}");
-            let spec = parse(alloc, spec, Operation::Fetch)?;
-            assert!(&rt; prints(alloc, spec, text.as_slice())?);
-            say_refused(&rt)
-        }
-    }
-}
-
-#[test]
-fn reads_patterns_of_256_bytes(rt: HostRuntime) -> Result<(), Fail> {
-    let alloc = rt.alloc();
-    let text = two_patterns(alloc, 256)?;
     let spec = marked!(
         alloc,
         parse(alloc, BStr::new(text.as_slice()), Operation::Fetch)
