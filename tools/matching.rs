@@ -4,11 +4,13 @@
 //!
 //!     matching WORK SPECS NAMES TIMES RUNS
 //!
-//! WORK is `match` or `validate`. SPECS and NAMES are files with a fetch spec or the name of a ref
+//! WORK is `match`, from left to right, `reverse`, which matches from right to left, or `validate`. SPECS and NAMES are files with a fetch spec or the name of a ref
 //! in each line. A run is a line of two numbers, for the library and for the original: the processor
 //! time of one matching in nanoseconds, its result released, or what a validation adds to it; or
 //! where memory is counted the most bytes that were held at once by one matching, with or without
-//! its validation, and then how many results there were.
+//! its validation, and then how many results there were. Where RUNS is `ours` or `theirs`, that side
+//! does the work TIMES times, its validation with the matching, and nothing is printed: so that
+//! instructions can be counted.
 
 use bstr::ByteSlice;
 use gix_hash::{Kind, ObjectId};
@@ -30,7 +32,7 @@ macro_rules! exported {
     };
 }
 
-exported! { refspec_bench_match_lhs refspec_bench_plan }
+exported! { refspec_bench_match_lhs refspec_bench_match_rhs refspec_bench_plan }
 
 #[cfg(not(counting))]
 extern "C" {
@@ -44,7 +46,18 @@ type Work = fn(&[u8], &[u8], usize) -> usize;
 type Both = [Work; 2];
 
 const MATCH: Both = [our_matching, their_matching];
+const REVERSE: Both = [our_reverse, their_reverse];
 const PLAN: Both = [our_plan, their_plan];
+
+/// The work that a word names.
+fn named(work: &str) -> Both {
+    match work {
+        "match" => MATCH,
+        "reverse" => REVERSE,
+        "validate" => PLAN,
+        _ => panic!("matching: no work is named {work}"),
+    }
+}
 
 fn ours(exported: Exported, specs: &[u8], names: &[u8], times: usize) -> usize {
     let mut count = 0;
@@ -56,6 +69,10 @@ fn ours(exported: Exported, specs: &[u8], names: &[u8], times: usize) -> usize {
 
 fn our_matching(specs: &[u8], names: &[u8], times: usize) -> usize {
     ours(refspec_bench_match_lhs, specs, names, times)
+}
+
+fn our_reverse(specs: &[u8], names: &[u8], times: usize) -> usize {
+    ours(refspec_bench_match_rhs, specs, names, times)
 }
 
 fn our_plan(specs: &[u8], names: &[u8], times: usize) -> usize {
@@ -91,6 +108,20 @@ fn their_matching(specs: &[u8], names: &[u8], times: usize) -> usize {
     count
 }
 
+/// Likewise, from right to left.
+fn their_reverse(specs: &[u8], names: &[u8], times: usize) -> usize {
+    let mut group = group_of(specs);
+    let target: ObjectId = Kind::Sha1.null();
+    let items = items_of(names, &target);
+    let mut count = 0;
+    for _ in 0..times {
+        let outcome = group.match_rhs(items.iter().copied());
+        count += outcome.mappings.len();
+        group = outcome.group;
+    }
+    count
+}
+
 /// Likewise.
 fn their_plan(specs: &[u8], names: &[u8], times: usize) -> usize {
     let group = group_of(specs);
@@ -108,7 +139,7 @@ fn their_plan(specs: &[u8], names: &[u8], times: usize) -> usize {
 
 #[cfg(not(counting))]
 mod measure {
-    use super::{clock_gettime, Both, Work, MATCH, PLAN};
+    use super::{clock_gettime, named, Both, Work, MATCH};
 
     /// The processor time of this thread, in nanoseconds.
     fn now() -> i64 {
@@ -139,9 +170,9 @@ mod measure {
         took
     }
 
-    pub fn run(validates: bool, specs: &[u8], names: &[u8], times: usize, number: usize) {
-        let mut took = in_turns(if validates { PLAN } else { MATCH }, specs, names, times, number);
-        if validates {
+    pub fn run(work: &str, specs: &[u8], names: &[u8], times: usize, number: usize) {
+        let mut took = in_turns(named(work), specs, names, times, number);
+        if work == "validate" {
             let matching = in_turns(MATCH, specs, names, times, number);
             took = [took[0] - matching[0], took[1] - matching[1]];
         }
@@ -151,7 +182,7 @@ mod measure {
 
 #[cfg(counting)]
 mod measure {
-    use super::{Work, MATCH, PLAN};
+    use super::{named, Work};
     use std::alloc::{GlobalAlloc, Layout, System};
     use std::sync::atomic::{AtomicUsize, Ordering::Relaxed};
 
@@ -236,8 +267,8 @@ mod measure {
         (MOST.load(Relaxed) - first, count)
     }
 
-    pub fn run(validates: bool, specs: &[u8], names: &[u8], _times: usize, _number: usize) {
-        for work in if validates { PLAN } else { MATCH } {
+    pub fn run(work: &str, specs: &[u8], names: &[u8], _times: usize, _number: usize) {
+        for work in named(work) {
             let (reading, _) = most(work, specs, names, 0);
             let (all, count) = most(work, specs, names, 1);
             print!("{} {count} ", all - reading);
@@ -262,7 +293,15 @@ fn main() {
     };
     let (specs, names) = (lines(specs), lines(names));
     let times = times.parse().expect("a number of times");
-    for number in 0..runs.parse().expect("a number of runs") {
-        measure::run(work == "validate", &specs, &names, times, number);
+    match &runs[..] {
+        "ours" | "theirs" => {
+            let side = usize::from(runs == "theirs");
+            std::hint::black_box(named(work)[side](&specs, &names, times));
+        }
+        _ => {
+            for number in 0..runs.parse().expect("a number of runs, `ours` or `theirs`") {
+                measure::run(work, &specs, &names, times, number);
+            }
+        }
     }
 }

@@ -1,5 +1,6 @@
 """Specs and names of refs for the measures of matching, from a fixed seed."""
 import random
+import re
 
 ONE_PATTERN = [b"+refs/heads/*:refs/remotes/origin/*"]
 WITH_NEGATIVES = [
@@ -12,6 +13,11 @@ USUAL = [
     b"+refs/heads/*:refs/remotes/origin/*", b"refs/heads/main:refs/x/main", b"refs/heads/next:refs/x/next",
     b"refs/notes/commits:refs/notes/origin", b"tags/v1.0:refs/tags/v1.0",
 ]
+
+
+def swapped(specs):
+    """The specs with the sides of each swapped, but for the negative ones."""
+    return [re.sub(rb"^(\+?)([^:^]+):(.+)$", rb"\1\3:\2", spec) for spec in specs]
 
 
 def short(random_, number):
