@@ -236,8 +236,8 @@ calm_adds_nothing y p b last (inr quiet) = λ e fault.
 last_before : (x : List ℕ) (i : ℕ) → i < length x → Ends (get_or x i 0 ∷ []) (slash ∷ take (i + 1) x)
 last_before x i below = record { before = slash ∷ take i x; here = ap (λ z. slash ∷ z) (take_more x i 0 below) }
 
-calm_more : (x : List ℕ) (i n : ℕ) → 0 < i → i < length x → IsCalm (get_or x (i - 1) 0) (get_or x i 0) → IsScanned x i n → IsScanned x (i + 1) n
-calm_more x i n some below calm scanned =
+calm_more : (x : List ℕ) (i : ℕ) (s : Bool) → 0 < i → i < length x → IsCalm (get_or x (i - 1) 0) (get_or x i 0) → IsScanned x i s → IsScanned x (i + 1) s
+calm_more x i s some below calm scanned =
     let b = get_or x i 0 in
     let y = slash ∷ take i x in
     let back : i - 1 + 1 ≡ i = omega (arith, some) in
@@ -249,10 +249,17 @@ calm_more x i n some below calm scanned =
     )
 
 -- calm bytes add no fault and are no stars
-pub calm_scanned : (m : ℕ) (x : List ℕ) (i n : ℕ) → 0 < i → i + m ≤ length x → AreCalm x i (i + m) → IsScanned x i n → IsScanned x (i + m) n
-calm_scanned zero x i n some room calm scanned = let same : i ≡ i + 0 = omega (arith) in subst (λ j. IsScanned x j n) same scanned
-calm_scanned (suc m) x i n some room calm scanned =
-    let one = calm_more x i n some (omega (arith, room)) (calm i (omega (arith)) (omega (arith))) scanned in
-    let rest = calm_scanned m x (i + 1) n (omega (arith)) (omega (arith, room)) (λ k from to. calm k (omega (arith, from)) (omega (arith, to))) one in
+pub calm_scanned : (m : ℕ) (x : List ℕ) (i : ℕ) (s : Bool) → 0 < i → i + m ≤ length x → AreCalm x i (i + m) → IsScanned x i s → IsScanned x (i + m) s
+calm_scanned zero x i s some room calm scanned = let same : i ≡ i + 0 = omega (arith) in subst (λ j. IsScanned x j s) same scanned
+calm_scanned (suc m) x i s some room calm scanned =
+    let one = calm_more x i s some (omega (arith, room)) (calm i (omega (arith)) (omega (arith))) scanned in
+    let rest = calm_scanned m x (i + 1) s (omega (arith)) (omega (arith, room)) (λ k from to. calm k (omega (arith, from)) (omega (arith, to))) one in
     let same : i + 1 + m ≡ i + suc m = omega (arith) in
-    subst (λ j. IsScanned x j n) same rest
+    subst (λ j. IsScanned x j s) same rest
+
+-- calm bytes up to a place add none to what was looked at, of which some may be among them
+pub calm_to : (x : List ℕ) (i a b : ℕ) (s : Bool) → 0 < i → a ≤ i → i ≤ b → b ≤ length x → AreCalm x a b → IsScanned x i s → IsScanned x b s
+calm_to x i a b s some from to room calm scanned =
+    let there : i + (b - i) ≡ b = omega (arith, to) in
+    let rest = calm_scanned (b - i) x i s some (omega (arith, there, room)) (λ k above below. calm k (omega (arith, from, above)) (omega (arith, there, below))) scanned in
+    subst (λ j. IsScanned x j s) there rest

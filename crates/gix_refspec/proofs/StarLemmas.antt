@@ -1,11 +1,12 @@
 -- How many stars a text has.
-use Rattle.std.proofs.Common.{◌≡◌, ◌≢◌, ℕ, ◌+◌, ◌==◌, cond, List, [], ◌∷◌, ◌++◌, refl, sym, ap, ◌∙◌, inl, inr, zero-add, arith}
+use Rattle.std.proofs.Common.{◌≡◌, ◌≢◌, ◌<◌, ℕ, suc, ◌+◌, ◌==◌, cond, List, [], ◌∷◌, ◌++◌, take, drop, get_or, length, append_assoc, refl, sym, ap, ◌∙◌, inl, inr, zero-add, arith}
 use Rattle.std.specs.List.{count_by}
 use Rattle.std.proofs.lemmas.Bool.{cases_eq, eq-eqb, ne_eqb}
 use Rattle.std.proofs.lemmas.List.Sums.{sum_by-append}
 use Rattle.gix_refspec.specs.Text.{Lacks}
 use Rattle.gix_refspec.specs.Bytes.{star}
 use Rattle.gix_refspec.specs.Name.{HasOneStar, HasStar, HasSeveralStars}
+use Rattle.gix_refspec.proofs.TextLemmas.{cut_at}
 
 stars : List ℕ → ℕ
 stars x = count_by (λ b. b == star) x
@@ -106,3 +107,14 @@ several_stars (b ∷ x) some two =
 pub HasSeveralStars-count_by : (x : List ℕ) → count_by (λ b. b == star) x ≢ 0 → count_by (λ b. b == star) x ≢ 1 → HasSeveralStars x
 unfolding stars
 HasSeveralStars-count_by x some two = several_stars x some two
+
+-- a star behind a part of a text that has one is a second one
+pub second_star : (x : List ℕ) (i : ℕ) → i < length x → get_or x i 0 ≡ star → count_by (λ b. b == star) (take i x) ≡ 1 → HasSeveralStars x
+second_star x i below here one =
+    let (before, after, cut) = HasOneStar-count_by (take i x) one in
+    record {
+      before = before;
+      between = after;
+      after = drop (suc i) x;
+      here = cut_at x i star below here ∙ ap (λ y. y ++ (star ∷ drop (suc i) x)) cut.starred ∙ append_assoc before (star ∷ after) (star ∷ drop (suc i) x);
+    }

@@ -8,7 +8,7 @@ ghost use Rattle.gix_refspec.specs.Name.{IsName, HasFault, IsPattern, HasOneStar
 ghost use Rattle.gix_refspec.specs.Bytes.{slash};
 ghost use Rattle.gix_refspec.specs.Explained.{name_explained};
 ghost use Rattle.gix_refspec.specs.PatternError.{IsPatternFault};
-ghost use Rattle.gix_refspec.specs.Private.Scan.{AddsFault, LeavesFault, Finds, IsScanned, IsStarCount, with_letters};
+ghost use Rattle.gix_refspec.specs.Private.Scan.{AddsFault, LeavesFault, Finds, IsScanned, IsStarCount, Stops, one_if, with_letters};
 ghost use Rattle.bstr.specs.BStr.{bstr_bytes};
 
 mod calm;
@@ -151,53 +151,79 @@ pub(crate) fn fault_of(text: &[u8]) -> Option<Error>
     left_fault(text, last_of(text))
 }
 
-// How many stars a text has, if with letters for its stars it is a name; else a fault that it has so.
-#[inline(never)]
-pub(crate) fn stars_of_name(text: &[u8]) -> Result<usize, Error>
-    ensures { MatchResult result
-        (λ stars. IsStarCount text.now stars × IsName (with_letters text.now))
-        (λ e. HasFault (with_letters text.now) e) }
-{
-    if text.is_empty() {
-        return Err(Error::Empty);
-    }
-    let mut stars = stars_up_to(text, 0, 1, 0)?;
-    let mut index = 1;
-    while text.len() - index >= LANES {
-        if !are_calm(text, index) {
-            stars = stars_up_to(text, index, index + LANES, stars)?;
-        }
-        index += LANES;
-    }
-    stars = stars_up_to(text, index, text.len(), stars)?;
-    if let Some(fault) = left_fault(text, last_of(text)) {
-        return Err(fault);
-    }
-    Ok(stars)
+// Why a text is neither a name nor a pattern.
+#[derive(Clone, Copy)]
+pub(crate) enum Stop {
+    // It has a second star.
+    SecondStar,
+    // It has a fault with letters for its stars.
+    Fault(Error),
 }
 
-// How many stars a text has before a place, where they are known up to an earlier place; or a fault
-// that a byte between adds.
+// Whether a text has a star, if it is a name with a letter for its one star at the most.
+pub(crate) fn starred_name(text: &[u8]) -> Result<bool, Stop>
+    ensures { MatchResult result
+        (λ starred. IsStarCount text.now (one_if starred) × IsName (with_letters text.now))
+        (Stops text.now) }
+{
+    if text.is_empty() {
+        return Err(Stop::Fault(Error::Empty));
+    }
+    let starred = scanned(text)?;
+    match left_fault(text, last_of(text)) {
+        Some(fault) => Err(Stop::Fault(fault)),
+        None => Ok(starred),
+    }
+}
+
+// Whether a text has a star, if no byte adds a fault, nor is a second star.
 #[inline(always)]
-fn stars_up_to(text: &[u8], from: usize, to: usize, known: usize) -> Result<usize, Error>
+fn scanned(text: &[u8]) -> Result<bool, Stop>
+    ensures { MatchResult result
+        (λ starred. IsScanned text.now (length text.now) starred)
+        (Stops text.now) }
+{
+    if text.len() <= LANES {
+        return scanned_to(text, 0, text.len(), false);
+    }
+    let mut starred = scanned_to(text, 0, 1, false)?;
+    let mut index = 1;
+    while index < text.len() {
+        // The last bytes may be looked at once more.
+        let from = index.min(text.len() - LANES);
+        if !are_calm(text, from) {
+            starred = scanned_to(text, index, from + LANES, starred)?;
+        }
+        index = from + LANES;
+    }
+    Ok(starred)
+}
+
+// Whether a text has a star before a place, where that is known up to an earlier place; if no byte
+// between adds a fault, nor is a second star.
+#[inline(always)]
+fn scanned_to(text: &[u8], from: usize, to: usize, known: bool) -> Result<bool, Stop>
     requires { (from ≤ to) × (to ≤ length text.now) × IsScanned text.now from known }
     ensures { MatchResult result
-        (λ stars. IsScanned text.now to stars)
-        (λ e. HasFault (with_letters text.now) e) }
+        (λ starred. IsScanned text.now to starred)
+        (Stops text.now) }
 {
-    let mut stars = known;
+    let mut starred = known;
     for index in from..to {
         let byte = text[index];
         if is_plain(byte) {
             continue;
         }
         if byte == b'*' {
-            stars += 1;
+            if starred {
+                return Err(Stop::SecondStar);
+            }
+            starred = true;
         } else if let Some(fault) = added_fault(&text[..index], byte) {
-            return Err(fault);
+            return Err(Stop::Fault(fault));
         }
     }
-    Ok(stars)
+    Ok(starred)
 }
 
 // The last byte of a text, or a slash: the first component begins as if one stood before it.

@@ -1,13 +1,15 @@
 -- How one pass over the bytes finds a fault of a name. Only private functions cite these words. A text
 -- is looked at with a slash put before it, so that each of its components stands behind a slash.
-use Rattle.std.specs.Prelude.{◌≡◌, ◌≢◌, ◌⊎◌, ◌≤◌, ◌<◌, ◌-◌, ◌∷◌, ◌++◌, take, ℕ, ◌==◌, List, Option, MatchOption, codes, IsTrue, if◌then◌else◌, map, slice_index}
+use Rattle.std.specs.Prelude.{◌≡◌, ◌≢◌, Bool, ◌⊎◌, ◌≤◌, ◌<◌, ◌-◌, ◌∷◌, ◌++◌, take, ℕ, ◌==◌, List, Option, MatchOption, codes, IsTrue, if◌then◌else◌, map, slice_index}
 use Rattle.std.specs.List.{count_by}
 use Rattle.gix_refspec.specs.declared.name.class.Class.{Class}
 use Rattle.gix_refspec.specs.declared.name.class.Class.TheVariants.{Plain, Slash, Dot, Brace, Star, Refused}
 use Rattle.gix_refspec.specs.declared.name.Error.{Error}
+use Rattle.gix_refspec.specs.declared.name.Stop.{Stop}
+use Rattle.gix_refspec.specs.declared.name.Stop.TheVariants.{SecondStar, Fault}
 use Rattle.gix_refspec.specs.declared.name.Error.TheVariants.{Empty, EmptyComponent, StartsWithDot, LockSuffix, EndsWithDot, RepeatedDot, ReflogPortion, Asterisk, InvalidByte}
 use Rattle.gix_refspec.specs.Bytes.{slash, star, letter, dot, brace}
-use Rattle.gix_refspec.specs.Name.{is_refused_byte}
+use Rattle.gix_refspec.specs.Name.{is_refused_byte, HasFault, HasSeveralStars}
 use Rattle.gix_refspec.specs.Text.{Ends}
 
 -- the class of the byte b
@@ -66,9 +68,19 @@ with_letters x = map letter_for x
 abbrev pub IsStarCount : List ℕ → ℕ → Type 0
 IsStarCount x n = count_by (λ b. b == star) x ≡ n
 
--- with letters for the stars no byte of x before the place i adds a fault, and n of these are stars
-abbrev pub IsScanned : List ℕ → ℕ → ℕ → Type 0
-IsScanned x i n = IsClean (with_letters (slash ∷ take i x)) × IsStarCount (take i x) n
+-- one, or none
+abbrev pub one_if : Bool → ℕ
+one_if some = if some then 1 else 0
+
+-- with letters for the stars no byte of x before the place i adds a fault, and one of these or none is a
+-- star
+abbrev pub IsScanned : List ℕ → ℕ → Bool → Type 0
+IsScanned x i starred = IsClean (with_letters (slash ∷ take i x)) × IsStarCount (take i x) (one_if starred)
+
+-- x has a second star, or with letters for its stars this fault
+abbrev pub Stops : List ℕ → Stop → Type 0
+Stops x SecondStar = HasSeveralStars x
+Stops x (Fault e) = HasFault (with_letters x) e
 
 -- behind p the byte b is plain, or a slash that neither a slash nor the end of `.lock` is behind
 abbrev pub IsCalm : ℕ → ℕ → Type 0

@@ -22,29 +22,25 @@ pub(super) enum Class {
     Refused,
 }
 
-// The class of each byte, at the place of its number.
+// The class of each byte, at the place of its number: a row has sixteen of them.
+#[rattlefmt::skip]
 static CLASSES: [Class; 256] = [
-    Refused, Refused, Refused, Refused, Refused, Refused, Refused, Refused, Refused, Refused,
-    Refused, Refused, Refused, Refused, Refused, Refused, Refused, Refused, Refused, Refused,
-    Refused, Refused, Refused, Refused, Refused, Refused, Refused, Refused, Refused, Refused,
-    Refused, Refused, Refused, Plain, Plain, Plain, Plain, Plain, Plain, Plain, Plain, Plain, Star,
-    Plain, Plain, Plain, Dot, Slash, Plain, Plain, Plain, Plain, Plain, Plain, Plain, Plain, Plain,
-    Plain, Refused, Plain, Plain, Plain, Plain, Refused, Plain, Plain, Plain, Plain, Plain, Plain,
-    Plain, Plain, Plain, Plain, Plain, Plain, Plain, Plain, Plain, Plain, Plain, Plain, Plain,
-    Plain, Plain, Plain, Plain, Plain, Plain, Plain, Plain, Refused, Refused, Plain, Refused,
-    Plain, Plain, Plain, Plain, Plain, Plain, Plain, Plain, Plain, Plain, Plain, Plain, Plain,
-    Plain, Plain, Plain, Plain, Plain, Plain, Plain, Plain, Plain, Plain, Plain, Plain, Plain,
-    Plain, Plain, Brace, Plain, Plain, Refused, Refused, Plain, Plain, Plain, Plain, Plain, Plain,
-    Plain, Plain, Plain, Plain, Plain, Plain, Plain, Plain, Plain, Plain, Plain, Plain, Plain,
-    Plain, Plain, Plain, Plain, Plain, Plain, Plain, Plain, Plain, Plain, Plain, Plain, Plain,
-    Plain, Plain, Plain, Plain, Plain, Plain, Plain, Plain, Plain, Plain, Plain, Plain, Plain,
-    Plain, Plain, Plain, Plain, Plain, Plain, Plain, Plain, Plain, Plain, Plain, Plain, Plain,
-    Plain, Plain, Plain, Plain, Plain, Plain, Plain, Plain, Plain, Plain, Plain, Plain, Plain,
-    Plain, Plain, Plain, Plain, Plain, Plain, Plain, Plain, Plain, Plain, Plain, Plain, Plain,
-    Plain, Plain, Plain, Plain, Plain, Plain, Plain, Plain, Plain, Plain, Plain, Plain, Plain,
-    Plain, Plain, Plain, Plain, Plain, Plain, Plain, Plain, Plain, Plain, Plain, Plain, Plain,
-    Plain, Plain, Plain, Plain, Plain, Plain, Plain, Plain, Plain, Plain, Plain, Plain, Plain,
-    Plain, Plain, Plain, Plain, Plain,
+    Refused, Refused, Refused, Refused, Refused, Refused, Refused, Refused, Refused, Refused, Refused, Refused, Refused, Refused, Refused, Refused,
+    Refused, Refused, Refused, Refused, Refused, Refused, Refused, Refused, Refused, Refused, Refused, Refused, Refused, Refused, Refused, Refused,
+    Refused, Plain, Plain, Plain, Plain, Plain, Plain, Plain, Plain, Plain, Star, Plain, Plain, Plain, Dot, Slash,
+    Plain, Plain, Plain, Plain, Plain, Plain, Plain, Plain, Plain, Plain, Refused, Plain, Plain, Plain, Plain, Refused,
+    Plain, Plain, Plain, Plain, Plain, Plain, Plain, Plain, Plain, Plain, Plain, Plain, Plain, Plain, Plain, Plain,
+    Plain, Plain, Plain, Plain, Plain, Plain, Plain, Plain, Plain, Plain, Plain, Refused, Refused, Plain, Refused, Plain,
+    Plain, Plain, Plain, Plain, Plain, Plain, Plain, Plain, Plain, Plain, Plain, Plain, Plain, Plain, Plain, Plain,
+    Plain, Plain, Plain, Plain, Plain, Plain, Plain, Plain, Plain, Plain, Plain, Brace, Plain, Plain, Refused, Refused,
+    Plain, Plain, Plain, Plain, Plain, Plain, Plain, Plain, Plain, Plain, Plain, Plain, Plain, Plain, Plain, Plain,
+    Plain, Plain, Plain, Plain, Plain, Plain, Plain, Plain, Plain, Plain, Plain, Plain, Plain, Plain, Plain, Plain,
+    Plain, Plain, Plain, Plain, Plain, Plain, Plain, Plain, Plain, Plain, Plain, Plain, Plain, Plain, Plain, Plain,
+    Plain, Plain, Plain, Plain, Plain, Plain, Plain, Plain, Plain, Plain, Plain, Plain, Plain, Plain, Plain, Plain,
+    Plain, Plain, Plain, Plain, Plain, Plain, Plain, Plain, Plain, Plain, Plain, Plain, Plain, Plain, Plain, Plain,
+    Plain, Plain, Plain, Plain, Plain, Plain, Plain, Plain, Plain, Plain, Plain, Plain, Plain, Plain, Plain, Plain,
+    Plain, Plain, Plain, Plain, Plain, Plain, Plain, Plain, Plain, Plain, Plain, Plain, Plain, Plain, Plain, Plain,
+    Plain, Plain, Plain, Plain, Plain, Plain, Plain, Plain, Plain, Plain, Plain, Plain, Plain, Plain, Plain, Plain,
 ];
 
 // The class of a byte.

@@ -12,7 +12,7 @@ ghost use Rattle.gix_refspec.specs.Spec.{reading_of};
 
 use crate::cut::split_at_last;
 use crate::name;
-use crate::name::stars_of_name;
+use crate::name::{Stop, starred_name};
 use crate::oid::Kind;
 use crate::parsing::{Error, Operation};
 use crate::side::{Stars, stars_of};
@@ -124,22 +124,20 @@ fn cut_at_last_colon(rest: &[u8]) -> (&[u8], Option<&[u8]>)
     }
 }
 
-// What a side is. Its stars are counted and its name is checked in one look.
-#[inline(always)]
+// What a side is. Its stars are looked for and its name is checked in one look.
 fn look_at(alloc: Global, side: &[u8]) -> Result<Look, Error>
     ensures ok { IfOk result (IsLook side.now) }
     ensures err { IfErr result (MemoryOr (WantsMemory side.now) (IsBadPattern side.now)) }
 {
-    match stars_of_name(side) {
-        Ok(0) => Ok(Look::Name),
-        Ok(1) => Ok(Look::Pattern),
-        Ok(_) => Err(several_stars(alloc, side)),
-        Err(fault) => with_fault(alloc, side, fault),
+    match starred_name(side) {
+        Ok(false) => Ok(Look::Name),
+        Ok(true) => Ok(Look::Pattern),
+        Err(Stop::SecondStar) => Err(several_stars(alloc, side)),
+        Err(Stop::Fault(fault)) => with_fault(alloc, side, fault),
     }
 }
 
 // What a side is that has a fault with letters for its stars.
-#[inline(never)]
 fn with_fault(alloc: Global, side: &[u8], fault: name::Error) -> Result<Look, Error>
     requires { HasFault (with_letters side.now) fault }
     ensures ok { IfOk result (IsLook side.now) }

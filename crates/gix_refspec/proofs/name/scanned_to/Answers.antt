@@ -5,10 +5,11 @@ use Rattle.std.proofs.lemmas.List.{take_more}
 use Rattle.std.proofs.lemmas.List.Sums.{count_by_more_no, count_by_more_yes}
 use Rattle.gix_refspec.specs.declared.name.Error.TheVariants.{Asterisk}
 use Rattle.gix_refspec.specs.Bytes.{slash, star}
-use Rattle.gix_refspec.specs.Private.Scan.{IsClean, IsScanned, with_letters}
+use Rattle.gix_refspec.specs.Private.Scan.{IsClean, IsScanned, one_if, with_letters}
+use Rattle.gix_refspec.proofs.StarLemmas.{second_star}
 use Rattle.gix_refspec.proofs.LetterLemmas.{clean_behind_star, clean_behind_other, some_place, fault_with_letters}
-use Rattle.gix_refspec.proofs.name.stars_up_to.Goals as goal
-use Rattle.gix_refspec.proofs.name.stars_up_to.Goals.{then-byte-eq42, else-byte-eq42+in_default}
+use Rattle.gix_refspec.proofs.name.scanned_to.Goals as goal
+use Rattle.gix_refspec.proofs.name.scanned_to.Goals.{then-byte-eq42+else-starred, else-byte-eq42+in_default}
 
 -- a plain byte is no star, and adds no fault
 pub loop-index-preserved-then-is_plain : goal.loop-index-preserved-then-is_plain
@@ -23,6 +24,13 @@ loop-index-preserved-then-is_plain c =
       count_by_more_no (λ d. d == star) x i 0 (omega arith) (ne_eqb b star (plain y Asterisk)) ∙ c.loop-index.invariant.1,
     )
 
+-- one star was there, and this is another
+pub returns-then-starred : goal.returns-then-starred
+returns-then-starred c =
+    let x = c.args.text.now in
+    let i = c.loop-index.index in
+    second_star x i (omega arith) (grind (arith, common_steps)) (c.loop-index.invariant.1 ∙ ap one_if c.if-starred.true)
+
 -- the byte at the index adds the fault, and is no star
 pub returns-in-Some : goal.returns-in-Some
 returns-in-Some c =
@@ -31,7 +39,7 @@ returns-in-Some c =
     let other : get_or x i 0 ≢ star = grind (arith, common_steps) in
     fault_with_letters x i c.in-Some.fault (some_place x i (omega arith)) (omega arith) other c.in-Some.ensures
 
--- a star is counted, and any other byte adds no fault
+-- the first star is noted, and any other byte adds no fault
 pub loop-index-preserved : goal.loop-index-preserved
 loop-index-preserved c =
     let x = c.args.text.now in
@@ -40,15 +48,15 @@ loop-index-preserved c =
     let y = slash ∷ take i x in
     let one_more : slash ∷ take (i + 1) x ≡ y ++ (b ∷ []) = ap (λ z. slash ∷ z) (take_more x i 0 (omega arith)) in
     elim c.if-byte-eq42.branch [
-      | then-byte-eq42 w ↦
+      | then-byte-eq42+else-starred w ↦
           let same : b ≡ star = grind (arith, common_steps) in (
             subst (λ z. IsClean (with_letters z)) (sym one_more) (clean_behind_star y b same c.loop-index.invariant.0),
-            count_by_more_yes (λ d. d == star) x i 0 (omega arith) (eq-eqb b star same) ∙ ap (λ n. n + 1) c.loop-index.invariant.1 ∙ sym w.stars-is,
+            count_by_more_yes (λ d. d == star) x i 0 (omega arith) (eq-eqb b star same) ∙ ap (λ n. n + 1) (c.loop-index.invariant.1 ∙ ap one_if w.if-starred.false) ∙ sym (ap one_if w.starred-is),
           )
       | else-byte-eq42+in_default w ↦
           let none = w.in_default.ensures in (
             subst (λ z. IsClean (with_letters z)) (sym one_more) (clean_behind_other y b none c.loop-index.invariant.0),
-            count_by_more_no (λ d. d == star) x i 0 (omega arith) (ne_eqb b star (none Asterisk)) ∙ c.loop-index.invariant.1 ∙ sym w.stars-is,
+            count_by_more_no (λ d. d == star) x i 0 (omega arith) (ne_eqb b star (none Asterisk)) ∙ c.loop-index.invariant.1 ∙ sym (ap one_if w.starred-is),
           )
     ]
 
@@ -56,4 +64,4 @@ loop-index-preserved c =
 pub returns : goal.returns
 returns c =
     let done : c.loop-index.index ≡ c.args.to = omega arith in
-    subst (λ i. IsScanned c.args.text.now i c.loop-index.stars) done c.loop-index.invariant
+    subst (λ i. IsScanned c.args.text.now i c.loop-index.starred) done c.loop-index.invariant
