@@ -1,11 +1,12 @@
-//! Times matching and validation in this process: the library, behind the archive of
+//! Times parsing, matching and validation in this process: the library, behind the archive of
 //! `refspec_bench`, and the original crate, in turns on the same specs and names. `tools/bench`
 //! builds it, and once more with `--cfg counting`, to count memory instead.
 //!
 //!     matching WORK SPECS NAMES TIMES RUNS
 //!
-//! WORK is `match`, from left to right, `reverse`, which matches from right to left, or `validate`. SPECS and NAMES are files with a fetch spec or the name of a ref
-//! in each line. A run is a line of two numbers, for the library and for the original: the processor
+//! WORK is `match`, from left to right, `reverse`, which matches from right to left, or `validate`. SPECS and NAMES are
+//! files with a fetch spec or the name of a ref in each line. WORK may also be `parse`, which parses the specs, or
+//! `print`, which prints them too; these may be refused ones, and the file NAMES holds their operation. A run is a line of two numbers, for the library and for the original: the processor
 //! time of one matching in nanoseconds, its result released, or what a validation adds to it; or
 //! where memory is counted the most bytes that were held at once by one matching, with or without
 //! its validation, and then how many results there were. Where RUNS is `ours` or `theirs`, that side
@@ -32,7 +33,9 @@ macro_rules! exported {
     };
 }
 
-exported! { refspec_bench_match_lhs refspec_bench_match_rhs refspec_bench_plan }
+exported! {
+    refspec_bench_match_lhs refspec_bench_match_rhs refspec_bench_plan refspec_bench_parse refspec_bench_print
+}
 
 #[cfg(not(counting))]
 extern "C" {
@@ -48,6 +51,8 @@ type Both = [Work; 2];
 const MATCH: Both = [our_matching, their_matching];
 const REVERSE: Both = [our_reverse, their_reverse];
 const PLAN: Both = [our_plan, their_plan];
+const PARSE: Both = [our_parsing, their_parsing];
+const PRINT: Both = [our_printing, their_printing];
 
 /// The work that a word names.
 fn named(work: &str) -> Both {
@@ -55,6 +60,8 @@ fn named(work: &str) -> Both {
         "match" => MATCH,
         "reverse" => REVERSE,
         "validate" => PLAN,
+        "parse" => PARSE,
+        "print" => PRINT,
         _ => panic!("matching: no work is named {work}"),
     }
 }
@@ -77,6 +84,19 @@ fn our_reverse(specs: &[u8], names: &[u8], times: usize) -> usize {
 
 fn our_plan(specs: &[u8], names: &[u8], times: usize) -> usize {
     ours(refspec_bench_plan, specs, names, times)
+}
+
+fn our_parsing(specs: &[u8], operation: &[u8], times: usize) -> usize {
+    ours(refspec_bench_parse, specs, operation, times)
+}
+
+fn our_printing(specs: &[u8], operation: &[u8], times: usize) -> usize {
+    ours(refspec_bench_print, specs, operation, times)
+}
+
+/// The operation of a word.
+fn operation_of(word: &[u8]) -> Operation {
+    if word == b"push" { Operation::Push } else { Operation::Fetch }
 }
 
 /// The specs of the lines, as the library reads them.
@@ -135,6 +155,25 @@ fn their_plan(specs: &[u8], names: &[u8], times: usize) -> usize {
         };
     }
     count
+}
+
+/// Likewise.
+fn their_parsing(specs: &[u8], operation: &[u8], times: usize) -> usize {
+    let lines: Vec<&[u8]> = specs.split(|b| *b == b'\n').collect();
+    let operation = operation_of(operation);
+    let parsed = |line: &&[u8]| gix_refspec::parse(line.as_bstr(), operation).is_ok();
+    (0..times).map(|_| lines.iter().filter(|line| parsed(line)).count()).sum()
+}
+
+/// Likewise.
+fn their_printing(specs: &[u8], operation: &[u8], times: usize) -> usize {
+    let lines: Vec<&[u8]> = specs.split(|b| *b == b'\n').collect();
+    let operation = operation_of(operation);
+    let printed = |line: &&[u8]| match gix_refspec::parse(line.as_bstr(), operation) {
+        Ok(spec) => spec.to_bstring().len(),
+        Err(_) => 0,
+    };
+    (0..times).map(|_| lines.iter().map(printed).sum::<usize>()).sum()
 }
 
 #[cfg(not(counting))]

@@ -142,3 +142,24 @@ def realistic(count, seed):
             yield b"^refs/heads/" + one + b"*"
         else:
             yield random_.choice([b"refs/heads/" + one + b".lock", b"refs/heads/" + one + b"*:x", one + b"..x"])
+
+
+def sized(kind, size, count, seed):
+    """Specs of about as many bytes: names, patterns, or names that are refused for a byte somewhere."""
+    random_ = random.Random(f"{kind}{size}{seed}")
+
+    def side(length):
+        text = bytearray(random_.choice(b"abcdefghijlmnopqrstuvwxyz0123456789-") for _ in range(length))
+        for at in range(random_.randint(2, 6), length - 2, random_.randint(5, 9)):
+            text[at:at + 1] = b"/"
+        return text
+
+    for _ in range(count):
+        sides = [side(size // 2), side(size - size // 2 - 1)]
+        if kind == "patterns":
+            for text in sides:
+                text[-1:] = b"*"
+        if kind == "refused":
+            text = random_.choice(sides)
+            text[random_.randrange(len(text))] = random_.choice(b" ~^?[\\")
+        yield b":".join(map(bytes, sides))

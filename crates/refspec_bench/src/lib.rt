@@ -1,4 +1,4 @@
-//! What a benchmark calls to time matching and validation within its own process.
+//! What a benchmark calls to time parsing, printing, matching and validation within its own process.
 #![tactic(auto)]
 
 use bstr::BStr;
@@ -52,6 +52,40 @@ pub extern "C" fn refspec_bench_plan(
 ) -> u8 {
     let target = ObjectId::null(Kind::Sha1);
     status_of(plan_often(alloc, specs, names, &target, times), count)
+}
+
+/// Reads specs, one in each line, as often as `times` says. They are for a push where `operation` is
+/// `push`, and else for a fetch.
+///
+/// Returns 0, and sets `count` to how many were accepted in all; or returns 1, where memory runs out.
+#[unsafe(no_mangle)]
+pub extern "C" fn refspec_bench_parse(
+    alloc: Global,
+    specs: &[u8],
+    operation: &[u8],
+    times: usize,
+    count: &mut usize,
+) -> u8 {
+    status_of(
+        parse_often(alloc, specs, named(operation), times).ok(),
+        count,
+    )
+}
+
+/// As `refspec_bench_parse`, but each accepted spec is printed too, and `count` is set to how many
+/// bytes were printed in all.
+#[unsafe(no_mangle)]
+pub extern "C" fn refspec_bench_print(
+    alloc: Global,
+    specs: &[u8],
+    operation: &[u8],
+    times: usize,
+    count: &mut usize,
+) -> u8 {
+    status_of(
+        print_often(alloc, specs, named(operation), times).ok(),
+        count,
+    )
 }
 
 // 0, with the count set to how many there were; or 1, where there is no such number.
@@ -134,6 +168,69 @@ fn rhs_often(
     Some(mappings)
 }
 
+// The operation of a word.
+fn named(operation: &[u8]) -> Operation {
+    match operation {
+        b"push" => Operation::Push,
+        _ => Operation::Fetch,
+    }
+}
+
+// How many specs were accepted in all.
+fn parse_often(
+    alloc: Global,
+    specs: &[u8],
+    operation: Operation,
+    times: usize,
+) -> Result<usize, AllocError> {
+    let lines = lines_of(alloc, specs)?;
+    let mut accepted: usize = 0;
+    for _ in 0..times {
+        for line in lines.iter() {
+            if parse(alloc, *line, operation).is_ok() {
+                accepted = accepted.saturating_add(1);
+            }
+        }
+    }
+    Ok(accepted)
+}
+
+// How many bytes were printed in all.
+fn print_often(
+    alloc: Global,
+    specs: &[u8],
+    operation: Operation,
+    times: usize,
+) -> Result<usize, AllocError> {
+    let lines = lines_of(alloc, specs)?;
+    let mut printed: usize = 0;
+    for _ in 0..times {
+        for line in lines.iter() {
+            if let Ok(spec) = parse(alloc, *line, operation) {
+                printed = printed.saturating_add(spec.to_bstring(alloc)?.len());
+            }
+        }
+    }
+    Ok(printed)
+}
+
+// The lines of a text. They are counted first, so that they are never moved.
+fn lines_of(alloc: Global, text: &[u8]) -> Result<Vec<BStr<'_>>, AllocError> {
+    let mut lines = Vec::with_capacity(alloc, line_count(text))?;
+    for line in text.split(|b| *b == b'\n') {
+        lines.push(BStr::new(line))?;
+    }
+    Ok(lines)
+}
+
+fn line_count(text: &[u8]) -> usize {
+    let mut count: usize = 0;
+    for _ in text.split(|b| *b == b'\n') {
+        count = count.saturating_add(1);
+    }
+    count
+}
+
 // The specs of the lines, where none is refused.
 fn group_of(alloc: Global, lines: &[u8]) -> Option<MatchGroup<'_>> {
     let mut group = MatchGroup::new(alloc);
@@ -144,17 +241,13 @@ fn group_of(alloc: Global, lines: &[u8]) -> Option<MatchGroup<'_>> {
     Some(group)
 }
 
-// A ref for each line, which is its name. They are counted first, so that they are never moved.
+// A ref for each line, which is its name.
 fn items_of<'a>(
     alloc: Global,
     lines: &'a [u8],
     target: &'a ObjectId,
 ) -> Result<Vec<Item<'a>>, AllocError> {
-    let mut count: usize = 0;
-    for _ in lines.split(|b| *b == b'\n') {
-        count = count.saturating_add(1);
-    }
-    let mut items = Vec::with_capacity(alloc, count)?;
+    let mut items = Vec::with_capacity(alloc, line_count(lines))?;
     for line in lines.split(|b| *b == b'\n') {
         items.push(Item {
             full_ref_name: BStr::new(line),
