@@ -257,9 +257,9 @@ calm_scanned (suc m) x i s some room calm scanned =
     let same : i + 1 + m ≡ i + suc m = omega (arith) in
     subst (λ j. IsScanned x j s) same rest
 
--- calm bytes up to a place add none to what was looked at, of which some may be among them
-pub calm_to : (x : List ℕ) (i a b : ℕ) (s : Bool) → 0 < i → a ≤ i → i ≤ b → b ≤ length x → AreCalm x a b → IsScanned x i s → IsScanned x b s
-calm_to x i a b s some from to room calm scanned =
+-- calm bytes behind what was looked at add no fault, and are no stars
+pub calm_to : (x : List ℕ) (i b : ℕ) (s : Bool) → 0 < i → i ≤ b → b ≤ length x → AreCalm x i b → IsScanned x i s → IsScanned x b s
+calm_to x i b s some to room calm scanned =
     let there : i + (b - i) ≡ b = omega (arith, to) in
-    let rest = calm_scanned (b - i) x i s some (omega (arith, there, room)) (λ k above below. calm k (omega (arith, from, above)) (omega (arith, there, below))) scanned in
+    let rest = calm_scanned (b - i) x i s some (omega (arith, there, room)) (λ k above below. calm k above (omega (arith, there, below))) scanned in
     subst (λ j. IsScanned x j s) there rest

@@ -11,7 +11,8 @@ use Rattle.gix_refspec.specs.Bytes.{slash, star}
 use Rattle.gix_refspec.specs.Name.{IsName, IsPattern}
 use Rattle.gix_refspec.specs.PatternError.{IsPatternFault}
 use Rattle.gix_refspec.specs.Refusal.{ReferenceName}
-use Rattle.gix_refspec.specs.Private.Scan.{with_letters, IsStarCount, IsCalm}
+use lib.Count.{count_trailing_zeros}
+use Rattle.gix_refspec.specs.Private.Scan.{with_letters, IsStarCount, IsCalm, lowest_of}
 use Rattle.gix_refspec.proofs.TextLemmas.{Lacks-here, Lacks-Holds}
 use Rattle.gix_refspec.proofs.TestedLemmas.{is_suspect, IsName-tested}
 use Rattle.gix_refspec.proofs.SideLemmas.{HasStar-pattern, HasSeveralStars-replaced, pattern_fine}
@@ -139,3 +140,8 @@ parts_at_slashes = (
   record { joined = refl; whole = tt },
   record { joined = refl; whole = (tt, tt) },
 )
+
+-- the lowest of the bits that are set, and none
+pub lowest_bits : (lowest_of 16 8 ≡ 3) × (lowest_of 16 12 ≡ 2) × (lowest_of 16 1 ≡ 0) × (lowest_of 16 0 ≡ 16)
+unfolding count_trailing_zeros
+lowest_bits = (refl, refl, refl, refl)

@@ -14,7 +14,7 @@ ghost use Rattle.bstr.specs.BStr.{bstr_bytes};
 mod calm;
 mod class;
 
-use self::calm::{LANES, are_calm};
+use self::calm::{LANES, calm_run};
 use self::class::{Class, class_of};
 use bstr::{BStr, ByteSlice};
 use smallvec::SmallVec;
@@ -161,6 +161,7 @@ pub(crate) enum Stop {
 }
 
 // Whether a text has a star, if it is a name with a letter for its one star at the most.
+#[inline(never)]
 pub(crate) fn starred_name(text: &[u8]) -> Result<bool, Stop>
     ensures { MatchResult result
         (λ starred. IsStarCount text.now (one_if starred) × IsName (with_letters text.now))
@@ -191,9 +192,8 @@ fn scanned(text: &[u8]) -> Result<bool, Stop>
     while index < text.len() {
         // The last bytes may be looked at once more.
         let from = index.min(text.len() - LANES);
-        if !are_calm(text, from) {
-            starred = scanned_to(text, index, from + LANES, starred)?;
-        }
+        let calm = index.max(from + calm_run(text, from));
+        starred = scanned_to(text, calm, from + LANES, starred)?;
         index = from + LANES;
     }
     Ok(starred)

@@ -2,6 +2,7 @@
 -- is looked at with a slash put before it, so that each of its components stands behind a slash.
 use Rattle.std.specs.Prelude.{◌≡◌, ◌≢◌, Bool, ◌⊎◌, ◌≤◌, ◌<◌, ◌-◌, ◌∷◌, ◌++◌, take, ℕ, ◌==◌, List, Option, MatchOption, codes, IsTrue, if◌then◌else◌, map, slice_index}
 use Rattle.std.specs.List.{count_by}
+use Rattle.std.specs.Int.{w64, trailing_zeros}
 use Rattle.gix_refspec.specs.declared.name.class.Class.{Class}
 use Rattle.gix_refspec.specs.declared.name.class.Class.TheVariants.{Plain, Slash, Dot, Brace, Star, Refused}
 use Rattle.gix_refspec.specs.declared.name.Error.{Error}
@@ -89,3 +90,7 @@ IsCalm p b = (class_at b ≡ Plain) ⊎ ((b ≡ slash) × (p ≢ slash) × (p �
 -- each byte of x from the place a up to b is calm behind the one before it
 abbrev pub AreCalm : List ℕ → ℕ → ℕ → Type 0
 AreCalm x a b = (k : ℕ) → a ≤ k → k < b → IsCalm (slice_index x (k - 1)) (slice_index x k)
+
+-- the place of the lowest bit of the mask, or n where none is set
+abbrev pub lowest_of : ℕ → ℕ → ℕ
+lowest_of n mask = if mask == 0 then n else trailing_zeros w64 mask

@@ -125,6 +125,7 @@ fn cut_at_last_colon(rest: &[u8]) -> (&[u8], Option<&[u8]>)
 }
 
 // What a side is. Its stars are looked for and its name is checked in one look.
+#[inline(always)]
 fn look_at(alloc: Global, side: &[u8]) -> Result<Look, Error>
     ensures ok { IfOk result (IsLook side.now) }
     ensures err { IfErr result (MemoryOr (WantsMemory side.now) (IsBadPattern side.now)) }
@@ -138,6 +139,7 @@ fn look_at(alloc: Global, side: &[u8]) -> Result<Look, Error>
 }
 
 // What a side is that has a fault with letters for its stars.
+#[inline(never)]
 fn with_fault(alloc: Global, side: &[u8], fault: name::Error) -> Result<Look, Error>
     requires { HasFault (with_letters side.now) fault }
     ensures ok { IfOk result (IsLook side.now) }
@@ -174,6 +176,7 @@ fn starred(alloc: Global, side: &[u8]) -> Result<Side, Error>
 }
 
 // Whether a side has a star; a side that isn't empty has to be a name or a pattern.
+#[inline(always)]
 fn checked(alloc: Global, side: &[u8]) -> Result<Side, Error>
     ensures ok { IfOk result (IsCheckedSide side.now) }
     ensures err { IfErr result (MemoryOr (WantsMemory side.now) (IsBadSide side.now)) }
