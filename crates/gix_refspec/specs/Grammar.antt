@@ -1,7 +1,8 @@
 -- The grammar of refspecs, by git-fetch(1) and git-push(1) under `<refspec>`: the thirteen forms of
--- a text, and what each is read as. A push of two patterns is by git-push(1) under `--prune`. The empty
--- source of a fetch, a lone `+` in a push and negative specs in a push are what Git does without its
--- manual saying so, or this project's own rule.
+-- a text, and what each is read as. A push of two patterns is by git-push(1) under `--prune`. No form of
+-- git-push(1) of Git 2.39 are a push of a lone pattern and negative specs in a push: Git takes them without
+-- its manual saying so. Nor are the empty source of a fetch and a lone `+` in a push: the first is what Git
+-- does, and the second this project's own rule.
 use Rattle.std.specs.Prelude.{◌≡◌, ◌≢◌, ◌⊎◌, ◌≤◌, ℕ, ◌==◌, if◌then◌else◌, List, [], ◌∷◌, ◌++◌, Option, None, Some, length}
 use Rattle.std.specs.List.{AllPass}
 use Rattle.std.specs.Char.{is_ascii_hexdigit}

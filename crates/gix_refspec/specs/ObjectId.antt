@@ -1,4 +1,6 @@
--- Ids of Git objects and the texts that spell them, after git-hash-object(1) and the entry "object name" of gitglossary(7).
+-- Ids of Git objects, which gitglossary(7) calls object names, and the texts that spell them. That a text has
+-- 40 digits (SHA-1) or 64 (SHA-256), of either case where it is read and in lower case where it is printed, is this
+-- project's own rule, after what Git prints and takes.
 use Rattle.std.specs.Prelude.{◌≡◌, ℕ, ◌+◌, ◌*◌, nat_le, ◌&&◌, ◌||◌, Bool, false, List, length, take, slice_index, codes, Some}
 use Rattle.std.specs.List.{AllPass, EachIndex, SomeIndex}
 use Rattle.hex.specs.Hex.{encode_lower, hex_digit_value, is_hex_digit}
