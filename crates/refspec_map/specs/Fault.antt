@@ -21,12 +21,12 @@ status_of (fault.Line number) = 1
 status_of (fault.Spec number error) = 1
 status_of _ = 3
 
--- the fault is want of memory
+-- the fault is that memory ran out
 abbrev pub IsMemory : Fault → Type 0
 IsMemory fault.Memory = ⊤
 IsMemory _ = ⊥
 
--- the fault is of the reader, or want of memory
+-- the fault is of the reader, or that memory ran out
 abbrev pub IsReadOrMemory : Fault → Type 0
 IsReadOrMemory fault.Read = ⊤
 IsReadOrMemory fault.Memory = ⊤

@@ -68,6 +68,6 @@ abbrev pub PlanOnce : Type 0
 PlanOnce = (reader_old reader_new writer_old writer_new : Option (List ℕ)) → Answers command.Plan reader_old reader_new writer_old writer_new 0
     → (input : List ℕ) × (output : List ℕ) × ReadsToEnd reader_old reader_new input × Appends writer_old writer_new output × IsMatching (λ g items written refusal. WritesOnce g items written) input output false
 
--- the error in the fault of a spec is the first reason against a text, and never want of memory
+-- the error in the fault of a spec is the first reason against a text, and never that memory ran out
 abbrev pub SpecIsRefused : Type 0
 SpecIsRefused = (command : Command) (old new : Option (List ℕ)) (number : ℕ) (error : Error) → Explains command old new (fault.Spec number error) → (error ≢ Memory) × (text : List ℕ) × ShowsRefusal (IsRefused Fetch text) error

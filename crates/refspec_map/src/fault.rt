@@ -9,7 +9,7 @@ use gix_refspec::match_group::NoRoom;
 use gix_refspec::parsing::Error;
 use std::{error, fmt};
 
-/// Why a run ended early. Nothing was written, but where the writer failed.
+/// Why a run ended early. Nothing was written, unless the writer failed.
 #[derive(Debug, Drop)]
 pub enum Fault {
     /// The input has more than 1,048,576 bytes.
@@ -22,14 +22,14 @@ pub enum Fault {
     /// The line with this number, counted from 1, holds a spec that is refused. A canon command
     /// writes the refusal as the answer to the line, and never gives it.
     Spec { line: usize, error: Error },
-    /// There was no memory for the input, a spec, what is matched, or the output.
+    /// Memory ran out, for the input, a spec, the mappings or the output.
     Memory,
     /// The output could not be written or flushed. A part of it may have been written.
     Write,
 }
 
 impl Fault {
-    /// The status that the program ends with: 1 where a line is at fault, else 3.
+    /// The status that the program ends with: 1 if a line is at fault, otherwise 3.
     pub fn status(&self) -> u8
         ensures { result ≡ status_of self.now }
     {

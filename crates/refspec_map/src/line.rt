@@ -100,7 +100,7 @@ impl<'a> Entries<'a> {
     }
 }
 
-/// Puts a value at the end of a list.
+/// Appends a value to a list.
 pub(crate) fn push<T: Drop>(list: &mut Vec<T>, value: T) -> Result<(), Fault>
     ensures ok { OnOk result (list.new.items ≡ list.old.items ++ value ∷ []) }
     ensures err { IfErr result IsMemory }

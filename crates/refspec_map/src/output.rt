@@ -105,7 +105,7 @@ pub(crate) fn put_fixes(output: &mut Vec<u8>, fixes: &[Fix]) -> Result<(), Fault
     Ok(())
 }
 
-// How writing to a vector ended: it fails for want of memory alone.
+// How writing to a vector ended: it fails only if memory runs out.
 fn grown<E: Drop>(written: Result<(), E>) -> Result<(), Fault>
     ensures ok { OnOk result (IsOk written) }
     ensures err { IfErr result IsMemory }

@@ -18,17 +18,16 @@ use std::io::{Read, Write};
 /// one `flush`. Returns the status: 1 where a canon command refuses some line, or a plan has
 /// conflicts, else 0.
 ///
-/// - `Fault::TooLong` comes as soon as more than 1,048,576 bytes are read.
-/// - `Fault::Read` comes at the first read that fails. One that was interrupted isn't tried again.
-/// - `Fault::Line` and `Fault::Spec` come at the first line that has no form, or whose spec is
-///   refused, in a matching command. The whole input was read then. Memory may run out before.
-/// - `Fault::Memory` comes where a growth is refused.
-/// - `Fault::Write` comes where the writer fails. It may then have taken a part of the output.
+/// - `Fault::TooLong` as soon as more than 1,048,576 bytes were read.
+/// - `Fault::Read` at the first read that fails. One that was interrupted isn't tried again.
+/// - `Fault::Line` and `Fault::Spec` at the first line that has no form, or whose spec is refused, in a
+///   matching command. The whole input was read then. Memory may run out before.
+/// - `Fault::Memory` if memory runs out.
+/// - `Fault::Write` if the writer fails. It may then have taken a part of the output.
 ///
 /// After any fault but the last nothing is written, and what was read is gone from the reader. Time
-/// and memory of a canon command are linear in the length of the input. A matching command looks at
-/// each ref for each pattern, looks full and partial names up, and needs memory for each ref that
-/// each spec takes.
+/// and memory of a canon command are linear in the length of the input. Those of a matching command are
+/// in docs/SPEED.md, under "Orders of growth".
 pub fn run<R: Read, W: Write>(
     alloc: Global,
     command: Command,
@@ -43,7 +42,7 @@ pub fn run<R: Read, W: Write>(
     ensures err { IfErr result (Explains command
         (R.remaining reader.old) (R.remaining reader.new)) }
 
-    // Nothing was written before a fault, but where the writer failed.
+    // Nothing was written before a fault, unless the writer failed.
     ensures unwritten { IfErr result (Leaves (W.contents writer.old) (W.contents writer.new)) }
 {
     let input = read_input(alloc, reader)?;

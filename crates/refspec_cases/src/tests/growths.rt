@@ -38,7 +38,7 @@ fn say_answered(rt: &HostRuntime) -> Result<(), Fail> {
     Ok(())
 }
 
-// Says that a call refused for want of memory.
+// Says that memory ran out for a call.
 fn say_refused(rt: &HostRuntime) -> Result<(), Fail> {
     println!(rt; "refused")?;
     Ok(())
