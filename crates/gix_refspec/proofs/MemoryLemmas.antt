@@ -1,4 +1,4 @@
--- Errors that are want of memory, and the others.
+-- Errors that say that memory ran out, and the others.
 use Rattle.std.proofs.Common.{◌≡◌, ◌≢◌, refl, subst}
 use Rattle.gix_refspec.specs.declared.parsing.Error.{Error}
 use Rattle.gix_refspec.specs.Refusal.{Refusal}
@@ -6,7 +6,7 @@ use Rattle.gix_refspec.specs.Private.Sides.{MemoryOr}
 use Rattle.gix_refspec.specs.Views.{ShowsRefusal}
 use Rattle.gix_refspec.specs.declared.parsing.Error.TheVariants as error
 
--- an error that isn't want of memory is a refusal
+-- an error that doesn't say that memory ran out is a refusal
 pub shows_refusal : (M : Type 0) (P : Refusal → Type 0) (e : Error) → MemoryOr M P e → e ≢ error.Memory → ShowsRefusal P e
 shows_refusal M P error.Memory told other = absurd (other refl)
 shows_refusal M P error.Empty told other = told

@@ -88,7 +88,7 @@ pub record OneLowerText (i : List ℕ) : Type 0 where
   pub lower : IsLowerText (lower_of i) i
   pub only : (t : List ℕ) → IsLowerText t i → t ≡ lower_of i
 
--- nothing is against a pattern, but want of memory where it has more than 256 bytes
+-- nothing is against a pattern, unless it has more than 256 bytes and memory runs out
 abbrev pub NothingAgainst : List ℕ → Type 0
 NothingAgainst x = IsPattern x → (e : PatternError) → IsPatternFault e x → (e ≡ Memory) × (256 < length x)
 

@@ -5,7 +5,7 @@ ghost use Rattle.gix_refspec.specs.Text.{Lacks, Holds};
 
 use bstr::ByteSlice;
 
-// What stands before and behind the last place of a byte.
+// The text before and after the last occurrence of a byte.
 pub(crate) fn split_at_last(text: &[u8], byte: u8) -> Option<(&[u8], &[u8])>
     ensures { MatchOption result
         (Lacks byte text.now)
@@ -16,7 +16,7 @@ pub(crate) fn split_at_last(text: &[u8], byte: u8) -> Option<(&[u8], &[u8])>
     Some((front, &back[1..]))
 }
 
-// What stands before and behind the first place of a byte.
+// The text before and after the first occurrence of a byte.
 pub(crate) fn split_at_first(text: &[u8], byte: u8) -> Option<(&[u8], &[u8])>
     ensures { MatchOption result
         (Lacks byte text.now)

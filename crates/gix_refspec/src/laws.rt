@@ -1,5 +1,5 @@
-//! Laws of the definitions, of specs at hand, of comparisons and of clones. Each function has no
-//! effect: its contract states the law of what it is given.
+//! Laws, for proofs: the contract of each function states a law of the values that it takes. A caller
+//! that is proved calls it to get that fact. It does nothing when it runs, and no other caller needs it.
 
 ghost use Rattle.std.specs.Prelude.{◌≡◌, ◌↔◌, map, option_map, IsTrue};
 ghost use Rattle.std.specs.Ordering.{nat_cmp};
@@ -140,16 +140,16 @@ pub fn one_prefix(side: &[u8])
     ensures { OnePrefix side.now }
 {}
 
-/// A side without a star that isn't `HEAD`, begins no `refs/` and is no id expands to its six
-/// candidates, and matches just the refs with one of these names. As the source of a spec, over a list
-/// of one ref, it takes that exactly where its name is one of them.
+/// A side without a star that isn't `HEAD`, doesn't begin `refs/` and is no id expands to its six
+/// candidates, and matches exactly the refs with one of these names. As the source of a spec, over a
+/// list of one ref, it takes this ref exactly if its name is one of them.
 pub fn candidates(side: &[u8])
     ensures { Candidates side.now }
 {}
 
-/// Among items, a source without a star that begins no `refs/` and is no id takes just those whose
-/// name is the first of its candidates that is there. That is one name, and there is one wherever
-/// some candidate is there.
+/// Among items, a source without a star that doesn't begin `refs/` and is no id takes exactly those
+/// whose name is the first of its candidates that some item has. There is at most one such name, and
+/// there is one if some item has a candidate as its name.
 pub fn first_candidate(side: &[u8], items: &[Item<'_>])
     ensures { FirstCandidate side.now (map ref_of items.now) }
 {}
@@ -183,8 +183,8 @@ pub fn kept_exactly(group: &MatchGroup<'_>, items: &[Item<'_>])
     ensures { KeptExactly (readings_of group.now) (map ref_of items.now) }
 {}
 
-/// Of the mappings with one pair just the first stays, with its places, where no negative spec excludes
-/// its source, in both directions.
+/// Of the mappings with the same source and destination only the first stays, with its indexes, if no
+/// negative spec excludes its source, in both directions.
 pub fn first_stays(group: &MatchGroup<'_>, items: &[Item<'_>])
     ensures { FirstStays (readings_of group.now) (map ref_of items.now) }
 {}
@@ -250,7 +250,7 @@ pub fn asked_items(group: &MatchGroup<'_>, items: &[Item<'_>], asked: &[Item<'_>
     ensures filtered { FilteredByList items.now asked.now }
 {}
 
-/// Each mapping that `match_lhs` lists has a spec of the group: so `validated` may be called.
+/// Each mapping that `match_lhs` lists has a spec of the group: the condition of `validated`.
 pub fn forward_fits(group: &MatchGroup<'_>, items: &[Item<'_>])
     ensures { ForwardFits (readings_of group.now) (map ref_of items.now) }
 {}
@@ -268,8 +268,8 @@ pub fn made_at_places(group: &MatchGroup<'_>, items: &[Item<'_>])
     ensures { MadeAtPlaces (readings_of group.now) (map ref_of items.now) }
 {}
 
-/// After a validation just those mappings remain that were there and whose destination begins `refs/`, is
-/// `HEAD` or is missing; and after `without_bad_names` those between names of refs.
+/// After a validation exactly those mappings remain whose destination begins `refs/`, is `HEAD` or is
+/// missing; and after `without_bad_names` those between names of refs.
 pub fn remains_exactly(outcome: &match_lhs::Outcome<'_, '_>)
     ensures { RemainsExactly (readings_of outcome.now.group) (mappings_of outcome.now) }
 {}
@@ -280,8 +280,8 @@ pub fn validated_once(group: &MatchGroup<'_>, items: &[Item<'_>])
     ensures { ValidatedOnce (readings_of group.now) (map ref_of items.now) }
 {}
 
-/// An outcome has one list of conflicts at the most, one of survivors and one of fixes: the contract
-/// of `validated` determines what it answers.
+/// An outcome has at most one list of conflicts, one of survivors and one of fixes: the contract of
+/// `validated` determines what it returns.
 pub fn one_validation(outcome: &match_lhs::Outcome<'_, '_>)
     ensures { OneValidation (readings_of outcome.now.group) (mappings_of outcome.now) }
 {}
@@ -366,7 +366,7 @@ pub fn equal_pattern_errors(a: PatternError, b: PatternError)
     ensures { IsTrue (⟦<PatternError as PartialEq>⟧.eq a b) ↔ (a ≡ b) }
 {}
 
-/// A clone of any value of these types always comes, and is that value.
+/// A clone of any value of these types never fails, and is that value.
 pub fn same_clones<'a>()
     ensures operation { ClonesExactly ⟦<Operation as Clone>⟧.is_clone ⟦<Operation as Clone>⟧.is_infallible }
     ensures push { ClonesExactly ⟦<Push<'a> as Clone>⟧.is_clone ⟦<Push<'a> as Clone>⟧.is_infallible }
@@ -387,13 +387,13 @@ pub fn same_clones<'a>()
         ⟦<PatternError as Clone>⟧.is_clone ⟦<PatternError as Clone>⟧.is_infallible }
 {}
 
-/// Two operations are equal exactly where they are the same, and push stands before fetch.
+/// Two operations are equal exactly if they are the same, and a push is less than a fetch.
 pub fn push_before_fetch(a: Operation, b: Operation)
     ensures order { ⟦<Operation as Ord>⟧.cmp a b ≡ nat_cmp (place_of a) (place_of b) }
     ensures same { IsTrue (⟦<Operation as PartialEq>⟧.eq a b) ↔ (a ≡ b) }
 {}
 
-/// Two pushes are equal, and ordered, as what they say is.
+/// Two pushes are equal, and ordered, by their variant and then their fields.
 pub fn compared_pushes<'a>(a: Push<'a>, b: Push<'a>)
     ensures order { ⟦<Push<'a> as Ord>⟧.cmp a.entry b.entry ≡
         order (shown_push a.entry) (shown_push b.entry) }
@@ -401,7 +401,7 @@ pub fn compared_pushes<'a>(a: Push<'a>, b: Push<'a>)
         is_same (shown_push a.entry) (shown_push b.entry) }
 {}
 
-/// Two fetches are equal, and ordered, as what they say is.
+/// Two fetches are equal, and ordered, by their variant and then their fields.
 pub fn compared_fetches<'a>(a: Fetch<'a>, b: Fetch<'a>)
     ensures order { ⟦<Fetch<'a> as Ord>⟧.cmp a.entry b.entry ≡
         order (shown_fetch a.entry) (shown_fetch b.entry) }
@@ -409,7 +409,7 @@ pub fn compared_fetches<'a>(a: Fetch<'a>, b: Fetch<'a>)
         is_same (shown_fetch a.entry) (shown_fetch b.entry) }
 {}
 
-/// Two instructions are equal, and ordered, as what they say is.
+/// Two instructions are equal, and ordered, by their operation, their variant and then their fields.
 pub fn compared_instructions<'a>(a: Instruction<'a>, b: Instruction<'a>)
     ensures order { ⟦<Instruction<'a> as Ord>⟧.cmp a.entry b.entry ≡
         order (shown a.entry) (shown b.entry) }
@@ -417,8 +417,8 @@ pub fn compared_instructions<'a>(a: Instruction<'a>, b: Instruction<'a>)
         is_same (shown a.entry) (shown b.entry) }
 {}
 
-/// Hashing an instruction writes what it says: its operation, its kind and then its fields. So equal
-/// instructions are hashed alike.
+/// Hashing an instruction writes its operation, its variant and then its fields. So equal instructions
+/// are hashed alike.
 pub fn hashed_instructions<'a>(a: Instruction<'a>, b: Instruction<'a>)
     ensures writes { ⟦<Instruction<'a> as Hash>⟧.hash_input a.entry ≡ writes_of (shown a.entry) }
     ensures alike { IsTrue (⟦<Instruction<'a> as PartialEq>⟧.eq a.entry b.entry) →

@@ -26,25 +26,24 @@ impl<'spec> MatchGroup<'spec> {
     /// Matches items by the sources of the specs, and maps them to their destinations, as
     /// git-fetch(1) does with the refs of a remote.
     ///
-    /// First come the ids that specs ask for, one mapping for each positive spec whose source is an
-    /// id: it has no item, and its source is the id. Then come, spec by spec and for each in the
-    /// order of the items, the items that the source of a positive spec takes. A pattern takes each
-    /// name that it matches with one word for its star, and a full name only itself. Of the six names
-    /// that gitrevisions(7) tries for a partial one, it takes the first that some item has: the tag
-    /// `refs/tags/main` for `main`, where there is a branch of that name too. This choice comes first:
-    /// if a negative spec excludes that name, the partial source maps nothing. A mapping has no
-    /// destination where its spec has none. Of mappings with the same source and destination the
-    /// first one is kept, and no mapping whose source is a name that a negative spec excludes.
+    /// Mappings are in this order: first the ids that positive specs have as sources, by spec, each
+    /// without an item; then, by spec and then by item, the items that the source of a positive spec
+    /// takes. A pattern takes each name that it matches, a full name only itself. A partial name takes
+    /// the first of the six names that gitrevisions(7) tries which some item has: the tag
+    /// `refs/tags/main` for `main`, even if there is a branch of that name too. Negative specs exclude
+    /// after that choice: if one excludes the tag, `main` maps nothing. A mapping without a destination
+    /// is of a spec without one. Of mappings with the same source and destination only the first is
+    /// kept, and none whose source is a name that a negative spec excludes.
     ///
     /// Names of items are borrowed from the items, and destinations that are full names from the
-    /// specs. Other destinations are owned: a pattern with the word for its star, and the names of
-    /// branches, tags or remote refs that ids and partial names become.
+    /// specs. Other destinations are owned: a pattern with the word for its star, and the full names
+    /// that partial names and ids become.
     ///
-    /// Names aren't checked: what a server calls a ref may be `refs/heads/../../x`. `without_bad_names`
-    /// of the outcome does that.
+    /// Names aren't checked: a server may call a ref `refs/heads/../../x`. `without_bad_names` of the
+    /// outcome checks them.
     ///
-    /// Fails with `NoRoom` if memory runs out, and never where the specs ask for no id and match no
-    /// item. It holds the group as it was.
+    /// Fails with `NoRoom` if memory runs out; never if the specs ask for no id and match no item. It
+    /// holds the group as before.
     pub fn match_lhs<'i>(self, alloc: Global, items: &[Item<'i>]) -> match_lhs::Result<'spec, 'i>
         ensures ok { IfOk result (IsOutcome AreKeptForward self.entry items.now) }
         ensures err { IfErr result (λ e. e.group ≡ self.entry) }
@@ -56,16 +55,15 @@ impl<'spec> MatchGroup<'spec> {
     /// Matches items by the destinations of the specs, and maps them back to their sources: which
     /// refs of a remote belong to these tracking refs.
     ///
-    /// Only positive specs with both sides take part. Mappings are in the order of the specs, and
-    /// for each in that of the items. The sides change their roles, and else all is as in
-    /// `match_lhs`: the destination is the name of an item, borrowed from it, and the source is
-    /// filled in by the spec. But a partial destination takes all items that have one of its six
-    /// names. A destination that is an id matches items whose target or object it is, and a source
-    /// that is an id becomes the name of a branch. Negative specs exclude by the source. Names aren't
-    /// checked here either, and the check is of outcomes of `match_lhs` alone: `name_partial` tells.
+    /// Only positive specs with both sides take part. Mappings are ordered by spec and then by item.
+    /// The sides swap roles: the destination is the name of an item, borrowed from it, and the source
+    /// is filled in by the spec. A partial destination takes all items that have one of its six names.
+    /// A destination that is an id matches items that have it as target or object, and a source that is
+    /// an id becomes the name of a branch. Negative specs exclude by the source. Names aren't checked,
+    /// and `without_bad_names` is for outcomes of `match_lhs` only: see `name_partial`. Otherwise all
+    /// is as in `match_lhs`.
     ///
-    /// Fails with `NoRoom` if memory runs out, and never where no item matches. It holds the group as
-    /// it was.
+    /// Fails with `NoRoom` if memory runs out; never if no item matches. It holds the group as before.
     pub fn match_rhs<'i>(self, alloc: Global, items: &[Item<'i>]) -> match_rhs::Result<'spec, 'i>
         ensures ok { IfOk result (IsOutcome AreKeptBackward self.entry items.now) }
         ensures err { IfErr result (λ e. e.group ≡ self.entry) }

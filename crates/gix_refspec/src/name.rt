@@ -26,7 +26,7 @@ pub enum Error {
     /// The text is empty.
     #[error("Empty")]
     Empty,
-    /// A slash stands first, last or beside another.
+    /// The text begins or ends with a slash, or has two in a row.
     #[error("EmptyComponent")]
     EmptyComponent,
     /// A component begins with a dot.
@@ -38,18 +38,21 @@ pub enum Error {
     /// The text ends with a dot.
     #[error("EndsWithDot")]
     EndsWithDot,
-    /// Two dots stand side by side.
+    /// The text has two dots in a row.
     #[error("RepeatedDot")]
     RepeatedDot,
-    /// `@{` stands in the text.
+    /// The text has `@{` in it.
     #[error("ReflogPortion")]
     ReflogPortion,
-    /// A star stands in the text.
+    /// The text has a star in it.
     #[error("Asterisk")]
     Asterisk,
-    /// A control character, a space or one of `~ ^ : ? [ \` stands in the text.
+    /// The text has a control character, a space or one of `~ ^ : ? [ \` in it.
     #[error("InvalidByte")]
-    InvalidByte { byte: u8 },
+    InvalidByte {
+        /// Such a byte.
+        byte: u8,
+    },
 }
 
 impl Error {
@@ -75,24 +78,23 @@ impl Error {
     }
 }
 
-/// Why a text with one star is no pattern.
+/// Why a text with exactly one star is no pattern.
 #[derive(Clone, Copy, Debug, PartialEq, Eq, thiserror::Error)]
 pub enum PatternError {
-    /// With a letter for its star the text is no name.
+    /// With a letter for its star the text is no name, for this fault.
     #[error("{0}")]
     Name(Error),
-    /// The text has more than 256 bytes, and there was no memory to copy it.
+    /// The text has more than 256 bytes, and memory ran out for its copy.
     #[error("out of memory")]
     Memory,
 }
 
-/// Whether a text is the name of a ref, of one level or more, after git-check-ref-format(1). Other
-/// than there, the single `@` is a name.
+/// Checks a name of a ref, by git-check-ref-format(1) with `--allow-onelevel`. Unlike there, `@` alone
+/// is a name.
 ///
 /// Refused are the empty text, a component that is empty, begins with a dot or ends with `.lock`,
 /// a dot at the end, `..`, `@{`, a star, and the bytes that `Error::InvalidByte` lists. A text with
-/// several of these faults is reported by one of them. The text is read once, and nothing is kept
-/// of it or asked of an allocator.
+/// several of these faults is reported by one of them. Nothing is borrowed or allocated.
 pub fn name_partial(name: BStr<'_>) -> Result<(), Error>
     ensures { MatchResult result
         (λ _. IsName (bstr_bytes name.entry))
@@ -111,14 +113,13 @@ pub fn has_one_star(text: BStr<'_>) -> bool
     text.as_bytes().iter().filter(|byte| **byte == b'*').count() == 1
 }
 
-/// Whether a text with one star is a pattern: a name, by git-check-ref-format(1), once a letter
-/// stands in place of the star, as under its `--refspec-pattern`. Other than an example there, a
-/// text that ends with a slash is refused, as Git's command refuses it too.
+/// Checks a pattern, as git-check-ref-format(1) does with `--refspec-pattern`: it has to be a name once
+/// a letter replaces its star. A text that ends with a slash is refused, as by Git's command, although
+/// its manual has one as an example.
 ///
-/// `Name` says which fault that name has. The text is copied: up to 256 bytes the copy lies in the
-/// call itself, and no memory is asked for; a longer one is copied to the heap until the call ends,
-/// and `Memory` says that there was no room. [`has_one_star`] tells whether a text may be asked
-/// about.
+/// Requires exactly one star, as [`has_one_star`] tells. `Name` holds one fault of the name with the
+/// letter. A text of more than 256 bytes is copied to the heap until the call ends; if memory runs out
+/// there, the refusal is `Memory`.
 pub fn pattern_partial(alloc: Global, pattern: BStr<'_>) -> Result<(), PatternError>
     requires { HasOneStar (bstr_bytes pattern) }
     ensures { MatchResult result

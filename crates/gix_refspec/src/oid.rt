@@ -20,12 +20,12 @@ use std::{error, fmt};
 /// Why a text is no object id.
 #[derive(Clone, Copy, Debug, PartialEq, Eq)]
 pub enum Error {
-    /// The text has neither the 40 digits of a SHA-1 nor the 64 of a SHA-256.
+    /// The text has neither 40 bytes, as for SHA-1, nor 64, as for SHA-256.
     Length {
         /// How many bytes the text has.
         len: usize,
     },
-    /// The text is as long as an id, and some byte of it is no hexadecimal digit.
+    /// The text is as long as an id, but some byte of it is no hexadecimal digit.
     Digit,
 }
 
@@ -106,10 +106,10 @@ impl Kind {
     }
 }
 
-/// The id of a Git object: the hash of its content, called its object name in gitglossary(7).
+/// The id of a Git object, called its object name in gitglossary(7). As text it has two hexadecimal
+/// digits for each byte.
 ///
-/// `git hash-object` prints it as 40 or 64 hexadecimal digits. Ids are compared and hashed by their
-/// bytes alone, so that the one of 64 digits `0` comes before the one of 40 digits `1`.
+/// Ids are compared, ordered and hashed by their bytes alone: 64 digits `0` are less than 40 digits `1`.
 #[derive(Clone, Copy)]
 pub struct ObjectId {
     kind: Kind,
@@ -122,8 +122,8 @@ impl ObjectId {
 
     /// Reads an id from its digits, of either case.
     ///
-    /// `Error::Length` comes wherever the text has neither 40 nor 64 bytes, whatever they are, and
-    /// `Error::Digit` where it has, and one of them is no hexadecimal digit.
+    /// Fails with `Error::Length` if the text has neither 40 nor 64 bytes, whatever they are, otherwise
+    /// with `Error::Digit` if some byte is no hexadecimal digit.
     pub fn from_hex(hex: &[u8]) -> Result<ObjectId, Error>
         ensures { MatchResult result
             (λ id. IsIdText hex.now (id_bytes id))
@@ -142,7 +142,7 @@ impl ObjectId {
         Ok(ObjectId { kind, buffer })
     }
 
-    /// The id whose bytes are all 0, which stands for no object.
+    /// The id whose bytes are all 0, which Git uses for no object.
     pub fn null(kind: Kind) -> ObjectId
         ensures { id_bytes result ≡ replicate (bytes_of kind) 0 }
     {

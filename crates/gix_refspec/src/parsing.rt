@@ -19,13 +19,13 @@ pub enum Operation {
     Fetch,
 }
 
-/// Why a text is refused. Where several reasons apply, the first of them in this order is given:
-/// `Empty`, `NegativeWithDestination`, `PushToEmpty`, then `PatternUnsupported` or `ReferenceName`
-/// of the source, then of the destination, `PatternUnbalanced`, `NegativeEmpty`,
-/// `NegativeObjectHash`.
+/// Why a text is no refspec. If several reasons apply, the first in this order is given: `Empty`,
+/// `NegativeWithDestination`, `PushToEmpty`, `PatternUnsupported` or `ReferenceName` of the source,
+/// the same of the destination, `PatternUnbalanced`, `NegativeEmpty`, `NegativeObjectHash`. `Memory`
+/// is given only if none of them applies before the side that needs the memory.
 #[derive(Debug, Drop, PartialEq, Eq, thiserror::Error)]
 pub enum Error {
-    /// Nothing is to be pushed.
+    /// The text for a push is empty.
     #[error("Empty refspecs are invalid")]
     Empty,
     /// A negative spec has a colon.
@@ -46,19 +46,23 @@ pub enum Error {
     /// Kept for callers that match on it, and never given: a bad destination is a `ReferenceName`.
     #[error("Fetch destinations must be ref-names, like 'HEAD:refs/heads/branch'")]
     InvalidFetchDestination,
-    /// A push has a source and nothing after its last colon.
+    /// A push has a source, a colon, and no destination after it.
     #[error("Cannot push into an empty destination")]
     PushToEmpty,
-    /// A side has two stars or more. It is given whole.
+    /// A side has two stars or more.
     #[error("refspec patterns may only contain a single '*' character, found {pattern:?}")]
-    PatternUnsupported { pattern: BString },
-    /// Just one side has a star.
+    PatternUnsupported {
+        /// The side, whole.
+        pattern: BString,
+    },
+    /// Exactly one side has a star. A missing destination has none.
     #[error("Both sides of a two-sided specification need a pattern, like 'a/*:b/*'")]
     PatternUnbalanced,
-    /// A side is neither a name nor a pattern, with a fault of it, its one star read as a letter.
+    /// A side is neither a name nor a pattern. Holds one fault of it; its one star is read as a letter.
     #[error(transparent)]
     ReferenceName(name::Error),
-    /// There was no memory to report a side with several stars.
+    /// Memory ran out. Only for a side with several stars, which is reported whole; the contract leaves
+    /// it open for one with a star and more than 256 bytes too.
     #[error("out of memory")]
     Memory,
 }

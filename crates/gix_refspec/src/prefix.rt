@@ -20,14 +20,13 @@ use bstr::{BStr, BString};
 use std::alloc::{AllocError, Global};
 
 impl<'a> RefSpecRef<'a> {
-    /// What the names begin with that the spec names on the remote: by the source of a fetch, or
-    /// the destination of a push.
+    /// The prefix of the names that the spec has on the remote: by the source of a fetch, or the
+    /// destination of a push.
     ///
-    /// It is `HEAD` for `HEAD`, though that may also be short for a longer name. It is the side
-    /// itself where that begins `refs/` and has no star, else what stands before the star. There is
-    /// none for a negative spec, a missing side, another side outside `refs/`, a star directly
-    /// behind `refs/`, and a pattern with a `]`. It borrows the text of the spec, or is the
-    /// constant `HEAD`.
+    /// For a full name it is that name, and for a pattern below `refs/` the text before its star. For
+    /// `HEAD` it is `HEAD`, although that may also be a partial name. `None` for a negative spec, a
+    /// missing side, any other side outside `refs/`, a star directly after `refs/`, and a pattern with a
+    /// `]`. Borrows the text of the spec, or is the constant `HEAD`.
     pub fn prefix(&self) -> Option<BStr<'a>>
         ensures { MatchOption result
             ((p : List ℕ) → ¬ (HasPrefix (reading_of self.now) p))
@@ -38,17 +37,16 @@ impl<'a> RefSpecRef<'a> {
         Some(BStr::new(prefix))
     }
 
-    /// Appends what a client may ask a server to advertise for the spec: its prefix; or, for a name
-    /// that is given short, the six names that gitrevisions(7) tries.
+    /// Appends what a client may ask a server to advertise for the spec: its prefix, or, for a partial
+    /// name, the six names that gitrevisions(7) tries, in that order.
     ///
-    /// Entries of a side that begins with `refs/` and is a pattern without prefix are the side
-    /// itself, star and all, as `refs/*`, or, with a slash behind `refs/`, none, as for
-    /// `refs/*/head` and `refs/a]/*`. A pattern outside `refs/` gives six names with the star in
-    /// them. So a client must not limit what it asks for where a positive spec gives no entry, or
-    /// one with a star. Negative specs, missing sides and ids of objects give none.
+    /// A pattern without a prefix gives entries that no server can use: `refs/*` itself, none for
+    /// `refs/*/head` and `refs/a]/*`, and outside `refs/` six names with the star in them. So if a
+    /// positive spec gives no entry, or one with a star, a client has to ask for all refs.
+    /// [`MatchGroup::ref_prefixes`](crate::MatchGroup::ref_prefixes) decides that for a group. Negative
+    /// specs, missing sides and object ids give no entry.
     ///
-    /// `AllocError` comes where there is no memory, and never where the spec gives no entry. The
-    /// vector is then as it was.
+    /// Fails if memory runs out; never if the spec gives no entry. The vector is then as before.
     pub fn expand_prefixes(&self, alloc: Global, out: &mut Vec<BString>) -> Result<(), AllocError>
         ensures ok { OnOk result (AppendsExpansion
             (reading_of self.now) (map bstring_bytes out.old.items)
@@ -63,9 +61,9 @@ impl<'a> RefSpecRef<'a> {
         out.append(&mut entries)
     }
 
-    /// Whether the spec is a negative fetch, or one whose source begins `refs/` and has a prefix, or is an
-    /// id or a partial name other than `HEAD`. Then each name that it maps from left to right begins with
-    /// an entry of `expand_prefixes`, by the law `cover`. False of each push.
+    /// Whether the spec is a negative fetch, or a fetch whose source begins `refs/` and has a prefix, or
+    /// is an id or a partial name other than `HEAD`. Then each name that it maps from left to right
+    /// begins with an entry of `expand_prefixes`, by the law `cover`. False for each push.
     pub fn has_covering_source(&self) -> bool
         ensures { IsTrue result ↔ HasCoveringSource (reading_of self.now) }
     {

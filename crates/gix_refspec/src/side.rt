@@ -12,7 +12,7 @@ use crate::oid::ObjectId;
 use bstr::BString;
 use std::alloc::{AllocError, Global};
 
-// How many stars a text has, and what stands before and after the only one.
+// How many stars a text has, and the text before and after the only one.
 #[derive(Clone, Copy)]
 pub(crate) enum Stars<'a> {
     No,

@@ -14,7 +14,11 @@ use crate::types::{Instruction, Mode};
 use bstr::{BStr, BString};
 use std::alloc::{AllocError, Global};
 
-/// A refspec that borrows its sides from the text that it was read from.
+/// A refspec that borrows its sides from the text that it was read from, or from a [`RefSpec`].
+///
+/// Only [`parse`](crate::parse) makes specs, and others are copies of these. So each one is a reading of
+/// some text of the grammar. Specs are compared, ordered and hashed by meaning, which is their
+/// instruction: a push of `main` equals one of `main:main`, and no push equals a fetch.
 #[derive(Clone, Copy, Debug)]
 pub struct RefSpecRef<'a> {
     pub(crate) op: Operation,
@@ -24,7 +28,7 @@ pub struct RefSpecRef<'a> {
     ghost accepted: { ∥ IsAccepted (record { operation = op; mode = mode_of mode; source = option_map bstr_bytes src; destination = option_map bstr_bytes dst }) ∥₁ },
 }
 
-/// A refspec that owns its sides.
+/// A refspec that owns its sides: a copy of a [`RefSpecRef`], and compared, ordered and hashed like it.
 #[derive(Debug, Drop)]
 pub struct RefSpec {
     op: Operation,
@@ -41,22 +45,23 @@ impl<'a> RefSpecRef<'a> {
     ghost use Rattle.gix_refspec.specs.Spec.{reading_of, owned_reading_of};
     ghost use Rattle.gix_refspec.specs.Reading.{local_of, remote_of, Forced, HasSide};
 
-    /// What the spec was read for.
+    /// Whether the spec was read for a push or for a fetch.
     pub fn operation(&self) -> Operation
         ensures { result ≡ (reading_of self.now).operation }
     {
         self.op
     }
 
-    /// Whether a `+` stood before the spec, also where its instruction doesn't say so.
+    /// Whether the text began with the sign `+`. That is true too of a deletion and of a fetch without a
+    /// destination, whose instructions don't tell.
     pub fn allow_non_fast_forward(&self) -> bool
         ensures { IsTrue result ↔ ((reading_of self.now).mode ≡ Forced) }
     {
         self.mode == Mode::Force
     }
 
-    /// The left side, as it was read: a lone `@` stands as `HEAD`. None for a push that deletes a
-    /// ref or takes all matching branches.
+    /// The left side, with `HEAD` for a lone `@`, and for the missing source of a fetch. `None` for a
+    /// push that deletes a ref or takes all matching branches.
     pub fn source(&self) -> Option<BStr<'a>>
         ensures { option_map bstr_bytes result ≡ (reading_of self.now).source }
     {
@@ -71,7 +76,7 @@ impl<'a> RefSpecRef<'a> {
         self.dst
     }
 
-    /// The side on the remote: the source of a fetch, the destination of a push. None for a push
+    /// The side on the remote: the source of a fetch, the destination of a push. `None` for a push
     /// that is negative, of a source alone, or of all matching branches.
     pub fn remote(&self) -> Option<BStr<'a>>
         ensures { option_map bstr_bytes result ≡ remote_of (reading_of self.now) }
@@ -82,7 +87,7 @@ impl<'a> RefSpecRef<'a> {
         }
     }
 
-    /// The local side: the destination of a fetch, the source of a push. None for a fetch that is
+    /// The local side: the destination of a fetch, the source of a push. `None` for a fetch that is
     /// negative or of a source alone, and for a push that deletes a ref or takes all matching
     /// branches.
     pub fn local(&self) -> Option<BStr<'a>>
@@ -94,8 +99,7 @@ impl<'a> RefSpecRef<'a> {
         }
     }
 
-    /// A copy that owns its sides. Fails if memory runs out, and never where both are
-    /// missing.
+    /// A copy that owns its sides. Fails if memory runs out; never for a spec without sides.
     pub fn to_owned(&self, alloc: Global) -> Result<RefSpec, AllocError>
         ensures keeps { IfOk result (λ owned. owned_reading_of owned ≡ reading_of self.now) }
         ensures memory { OnErr result (HasSide (reading_of self.now)) }
@@ -108,7 +112,7 @@ impl<'a> RefSpecRef<'a> {
         })
     }
 
-    /// What the spec says to do. The sides live as long as the text that the spec was read from.
+    /// What the spec says to do. Its sides borrow what those of the spec borrow.
     pub fn instruction(&self) -> Instruction<'a>
         ensures { meaning_of (reading_of self.now) ≡ Some (shown result) }
     {
@@ -176,15 +180,14 @@ impl RefSpec {
         }
     }
 
-    /// Whether a `+` stood before the spec, also where its instruction doesn't say so.
+    /// As `RefSpecRef::allow_non_fast_forward`.
     pub fn allow_non_fast_forward(&self) -> bool
         ensures { IsTrue result ↔ ((owned_reading_of self.now).mode ≡ Forced) }
     {
         self.to_ref().allow_non_fast_forward()
     }
 
-    /// A copy with sides of its own. Fails if memory runs out, and never where
-    /// both are missing.
+    /// A copy with sides of its own. Fails if memory runs out; never for a spec without sides.
     pub fn clone(&self, alloc: Global) -> Result<RefSpec, AllocError>
         ensures keeps { IfOk result (λ copy. owned_reading_of copy ≡ owned_reading_of self.now) }
         ensures memory { OnErr result (HasSide (owned_reading_of self.now)) }

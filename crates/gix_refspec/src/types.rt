@@ -13,7 +13,9 @@ pub(crate) enum Mode {
     Negative,
 }
 
-/// What a refspec says to do.
+/// What a refspec says to do. Instructions are compared, ordered and hashed by their operation, their
+/// variant and then their fields, and so are specs, by their instructions. That of a spec is what `parse`
+/// lets through; one that a caller makes is not checked.
 #[derive(Clone, Copy, Debug, PartialEq, Eq, PartialOrd, Ord, Hash)]
 pub enum Instruction<'a> {
     /// For a push.

@@ -16,7 +16,7 @@ use std::alloc::{AllocError, Global};
 use std::io;
 use std::io::Write;
 
-// What the text of an instruction is made of, in this order. A colon stands before a destination.
+// What the text of an instruction is made of, in this order, with a colon before a destination.
 #[derive(Clone, Copy)]
 pub(crate) struct Pieces<'a> {
     pub(crate) sign: Option<u8>,
@@ -49,8 +49,8 @@ impl<'a> Instruction<'a> {
         Ok(BString::new(text))
     }
 
-    /// Writes the canonical text of the instruction, and asks for no memory itself. After a fault,
-    /// which is the writer's, a part of the text may have gone out.
+    /// Writes the canonical text of the instruction, and allocates nothing itself. Fails if the writer
+    /// fails; a part of the text may then have been written.
     pub fn write_to<W: Write>(&self, out: &mut W) -> io::Result<()>
         ensures { OnOk result (Appends
             (W.contents out.old) (W.contents out.new) (text_of (shown self.now))) }
@@ -168,15 +168,15 @@ impl<'a> RefSpecRef<'a> {
     ghost use Rattle.gix_refspec.specs.Meaning.{printed, WritesPrinted};
     ghost use Rattle.gix_refspec.specs.Spec.{reading_of};
 
-    /// The canonical text of the spec. Fails if memory runs out.
+    /// The canonical text of the spec, which `parse` reads as an equal spec. Fails if memory runs out.
     pub fn to_bstring(&self, alloc: Global) -> Result<BString, AllocError>
         ensures { IfOk result (λ text. printed (reading_of self.now) ≡ Some (bstring_bytes text)) }
     {
         self.instruction().to_bstring(alloc)
     }
 
-    /// Writes the canonical text of the spec, and asks for no memory itself. After a fault, which
-    /// is the writer's, a part of the text may have gone out.
+    /// Writes the canonical text of the spec, and allocates nothing itself. Fails if the writer fails; a
+    /// part of the text may then have been written.
     pub fn write_to<W: Write>(&self, out: &mut W) -> io::Result<()>
         ensures { OnOk result (WritesPrinted
             (reading_of self.now) (W.contents out.old) (W.contents out.new)) }

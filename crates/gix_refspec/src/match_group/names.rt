@@ -23,16 +23,16 @@ pub enum BadSide {
     Both,
 }
 
-/// A mapping that was left out, as a side of it is no name of a ref.
+/// A mapping that was left out because a side of it is no name of a ref.
 #[derive(Debug, Drop)]
 pub struct BadMapping<'a, 'b> {
     /// The mapping.
     pub mapping: Mapping<'a, 'b>,
-    /// The side that is no name.
+    /// The side that is no name of a ref.
     pub side: BadSide,
 }
 
-/// Memory ran out while names were checked. The outcome is handed back as it was.
+/// Memory ran out while names were checked. The outcome is returned as it was.
 #[derive(Debug, Drop)]
 pub struct NoRoom<'spec, 'item> {
     /// The outcome whose names were to be checked.
@@ -54,14 +54,14 @@ impl<'spec, 'item> error::Error for NoRoom<'spec, 'item> {}
 /// The check of names.
 impl<'spec, 'item> match_lhs::Outcome<'spec, 'item> {
     /// Removes the mappings whose source or destination is no name of a ref, and lists them, each with
-    /// the side that is none, both in order. A name of a ref is `HEAD`, or begins `refs/` and passes
-    /// `name_partial`. A source that is an id stays, and so does a mapping without a destination.
+    /// the bad side; both lists are in order. A name of a ref is `HEAD`, or begins `refs/` and passes
+    /// `name_partial`. An id as source is no bad side, nor is a missing destination.
     ///
-    /// Names of items come from a server, so a name may be `refs/heads/../../x`. The destination of
-    /// what stays is a path below `refs/`, or `HEAD`. May be called before `validated` or after it.
+    /// A server may call a ref `refs/heads/../../x`. After this call each destination is a path below
+    /// `refs/`, or `HEAD`. May be called before `validated` or after it.
     ///
-    /// Fails if memory runs out, and never where no mapping has to be removed. The error holds the
-    /// outcome as it was.
+    /// Fails if memory runs out; never if no mapping has to be removed. The error holds the outcome as
+    /// before.
     pub fn without_bad_names(
         mut self,
         alloc: Global,

@@ -1,4 +1,4 @@
-//! Which groups are as the laws on matching ask.
+//! Tests for the conditions of the laws on matching.
 
 ghost use Rattle.std.specs.Prelude.{◌↔◌, IsTrue, codes};
 ghost use Rattle.std.specs.List.{AllByRecursion};

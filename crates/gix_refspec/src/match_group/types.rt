@@ -17,25 +17,25 @@ use std::alloc::{AllocError, Global};
 use std::hash::{Hash, Hasher};
 use std::{error, fmt};
 
-/// A ref of a repository, as it is matched.
+/// A ref of a repository, as it is matched. Borrows all that it has.
 #[derive(Clone, Copy, Debug)]
 pub struct Item<'a> {
-    /// The full name of the ref, like `refs/heads/main`. Any bytes may be a name, and nothing checks it
-    /// but `without_bad_names`.
+    /// The full name of the ref, like `refs/heads/main`. Any bytes will do: only `without_bad_names`
+    /// checks it.
     pub full_ref_name: BStr<'a>,
     /// The object that the ref points to.
     pub target: &'a ObjectId,
-    /// The object that was tagged, where the target is an annotated tag.
+    /// The object that was tagged, if the target is an annotated tag.
     pub object: Option<&'a ObjectId>,
 }
 
-/// The name of a ref, borrowed where it stands somewhere already. Names are compared and hashed by
-/// their bytes.
+/// The name of a ref, borrowed if an item or a spec has it, otherwise owned. Names are compared and
+/// hashed by their bytes.
 #[derive(Debug, Drop)]
 pub enum NameRef<'a> {
-    /// A name that is lent, by an item or by a spec.
+    /// A name that is borrowed, from an item or from a spec.
     Borrowed(BStr<'a>),
-    /// A name of its own, such as one that was filled in.
+    /// A name with bytes of its own, such as a pattern with a word for its star.
     Owned(BString),
 }
 
@@ -52,8 +52,8 @@ impl<'a> NameRef<'a> {
         }
     }
 
-    /// The bytes of the name, owned. Fails if memory runs out, and then the name is given up; never
-    /// for a name that is owned already.
+    /// The bytes of the name, owned. Fails if memory runs out, and then the name is dropped; never for a
+    /// name that is owned already.
     pub fn into_owned(self, alloc: Global) -> Result<BString, AllocError>
         ensures keeps { IfOk result (λ owned. bstring_bytes owned ≡ name_bytes self.entry) }
         ensures memory { OnErr result (IsBorrowed self.entry) }
@@ -64,8 +64,8 @@ impl<'a> NameRef<'a> {
         }
     }
 
-    /// A copy of the name, which borrows what this one borrows. Fails if memory runs out, and never
-    /// for a name that is borrowed.
+    /// A copy of the name, which borrows what this one borrows. Fails if memory runs out; never for a
+    /// name that is borrowed.
     pub fn clone(&self, alloc: Global) -> Result<NameRef<'a>, AllocError>
         ensures keeps { IfOk result (IsNameCopy self.now) }
         ensures memory { OnErr result (IsOwned self.now) }
@@ -126,8 +126,8 @@ pub type Source = SourceRef<'static>;
 impl<'a> SourceRef<'a> {
     ghost use Rattle.gix_refspec.specs.Group.{start_of, IsLent, IsOwnedSource, IsSourceCopy};
 
-    /// The same source, owned. Fails if memory runs out, and then the source is given up; never for
-    /// a name that is owned already or for an id.
+    /// The same source, owned. Fails if memory runs out, and then the source is dropped; never for a
+    /// name that is owned already or for an id.
     pub fn into_owned(self, alloc: Global) -> Result<Source, AllocError>
         ensures keeps { IfOk result (λ owned. start_of owned ≡ start_of self.entry) }
         ensures memory { OnErr result (IsLent self.entry) }
@@ -140,8 +140,8 @@ impl<'a> SourceRef<'a> {
         })
     }
 
-    /// A copy of the source, which borrows what this one borrows. Fails if memory runs out, and
-    /// only for a name that is owned.
+    /// A copy of the source, which borrows what this one borrows. Fails if memory runs out; only for a
+    /// name that is owned.
     pub fn clone(&self, alloc: Global) -> Result<SourceRef<'a>, AllocError>
         ensures keeps { IfOk result (IsSourceCopy self.now) }
         ensures memory { OnErr result (IsOwnedSource self.now) }
@@ -171,15 +171,14 @@ impl<'a> fmt::Display for SourceRef<'a> {
 #[derive(Debug, Drop)]
 #[derive_where(PartialEq, Eq, Hash)]
 pub struct Mapping<'a, 'b> {
-    /// The place of the item that was matched, among all items. None for an object that is asked
-    /// for by its id.
+    /// The index of the item that was matched. `None` for an object that is asked for by its id.
     #[derive_where(skip(EqHashOrd))]
     pub item_index: Option<usize>,
     /// The source: on the remote for a fetch, local for a push.
     pub lhs: SourceRef<'a>,
-    /// The destination: local for a fetch, on the remote for a push. None where the spec has none.
+    /// The destination: local for a fetch, on the remote for a push. `None` if the spec has none.
     pub rhs: Option<NameRef<'b>>,
-    /// The place of the spec in the group.
+    /// The index of the spec among those of the group.
     #[derive_where(skip(EqHashOrd))]
     pub spec_index: usize,
 }
@@ -187,8 +186,8 @@ pub struct Mapping<'a, 'b> {
 impl<'a, 'b> Mapping<'a, 'b> {
     ghost use Rattle.gix_refspec.specs.Group.{IsMappingCopy, HasOwned};
 
-    /// A copy of the mapping, which borrows what this one borrows. Fails if memory runs out, and
-    /// only where a name of it is owned.
+    /// A copy of the mapping, which borrows what this one borrows. Fails if memory runs out; only if a
+    /// name of it is owned.
     pub fn clone(&self, alloc: Global) -> Result<Mapping<'a, 'b>, AllocError>
         ensures keeps { IfOk result (IsMappingCopy self.now) }
         ensures memory { OnErr result (HasOwned self.now) }
@@ -219,10 +218,11 @@ fn clone_all<'a, 'b>(
     Ok(copies)
 }
 
-/// Specs that are matched together.
+/// Specs that are matched together: their order is that of the mappings, and the negative ones exclude
+/// what any other maps.
 #[derive(Debug, Drop)]
 pub struct MatchGroup<'a> {
-    /// The specs, in the order that decides the order of mappings.
+    /// The specs, in order.
     pub specs: Vec<RefSpecRef<'a>>,
 }
 
@@ -230,7 +230,7 @@ impl<'a> MatchGroup<'a> {
     ghost use Rattle.std.specs.Iterator.{IsFiniteIterable};
     ghost use Rattle.gix_refspec.specs.Group.{IsGathered};
 
-    /// A group of no specs, which takes no memory.
+    /// A group of no specs. Allocates nothing.
     pub fn new(alloc: Global) -> Self
         ensures { result.specs.items ≡ [] }
     {
@@ -239,8 +239,9 @@ impl<'a> MatchGroup<'a> {
         }
     }
 
-    /// The fetch specs among these, in order. The iterator has to end, and it may be asked for its next
-    /// item. Fails if memory runs out, and then the iterator is given up.
+    /// The fetch specs among these, in order. Requires an iterator that ends, and that may be asked for
+    /// its next item until then, as those of `std` may. Fails if memory runs out, and then the iterator
+    /// is dropped.
     pub fn from_fetch_specs<I: IntoIterator<Item = RefSpecRef<'a>>>(
         alloc: Global,
         specs: I,
@@ -253,8 +254,8 @@ impl<'a> MatchGroup<'a> {
         Self::of(alloc, Operation::Fetch, specs)
     }
 
-    /// The push specs among these, in order. The iterator has to end, and it may be asked for its next
-    /// item. Fails if memory runs out, and then the iterator is given up.
+    /// The push specs among these, in order. Requires an iterator as `from_fetch_specs` does. Fails if
+    /// memory runs out, and then the iterator is dropped.
     pub fn from_push_specs<I: IntoIterator<Item = RefSpecRef<'a>>>(
         alloc: Global,
         specs: I,
@@ -297,7 +298,7 @@ impl<'a> MatchGroup<'a> {
     }
 }
 
-/// Memory ran out while a group was matched. The group is handed back as it was.
+/// Memory ran out while a group was matched. The group is returned as it was.
 #[derive(Debug, Drop)]
 pub struct NoRoom<'a> {
     /// The group that was to be matched.
@@ -316,13 +317,13 @@ impl<'a> fmt::Display for NoRoom<'a> {
 
 impl<'a> error::Error for NoRoom<'a> {}
 
-/// A group, and the mappings that matching it gave: from left to right where `FORWARD` is true, else
-/// from right to left. So the outcomes of the two directions are two types.
+/// A group, and its mappings: from left to right if `FORWARD` is true, otherwise from right to left. So
+/// the outcomes of the two directions are two types.
 #[derive(Debug, Drop)]
 pub struct Outcome<'spec, 'lhs, 'rhs, const FORWARD: bool> {
     /// The group that was matched.
     pub group: MatchGroup<'spec>,
-    /// What was matched.
+    /// The mappings, in the order of the match call. Each has the index of a spec of the group.
     pub mappings: Vec<Mapping<'lhs, 'rhs>>,
 }
 
@@ -345,11 +346,11 @@ impl<'spec, 'lhs, 'rhs, const FORWARD: bool> Outcome<'spec, 'lhs, 'rhs, FORWARD>
 pub mod match_lhs {
     use super::NoRoom;
 
-    /// A group, and the mappings that its left sides gave. Sources are names of items, or ids that
-    /// specs ask for; destinations are by the specs.
+    /// What `match_lhs` returns. Sources are names of items, or ids that specs ask for; destinations are
+    /// made by the specs.
     pub type Outcome<'spec, 'item> = super::Outcome<'spec, 'item, 'spec, true>;
 
-    /// An outcome, or no room for it.
+    /// An outcome, or the group if memory ran out.
     pub type Result<'spec, 'item> = std::result::Result<Outcome<'spec, 'item>, NoRoom<'spec>>;
 }
 
@@ -357,10 +358,9 @@ pub mod match_lhs {
 pub mod match_rhs {
     use super::NoRoom;
 
-    /// A group, and the mappings that its right sides gave. Sources are by the specs, destinations
-    /// are names of items.
+    /// What `match_rhs` returns. Sources are made by the specs; destinations are names of items.
     pub type Outcome<'spec, 'item> = super::Outcome<'spec, 'spec, 'item, false>;
 
-    /// An outcome, or no room for it.
+    /// An outcome, or the group if memory ran out.
     pub type Result<'spec, 'item> = std::result::Result<Outcome<'spec, 'item>, NoRoom<'spec>>;
 }

@@ -14,7 +14,7 @@ use bstr::BString;
 use std::alloc::{AllocError, Global};
 use std::{error, fmt};
 
-/// Why mappings can't be written: at least one issue.
+/// Why mappings can't be written. From `validated` it has at least one issue.
 #[derive(Debug, Drop)]
 pub struct Error {
     /// The issues, in the byte order of their destinations.
@@ -50,11 +50,11 @@ impl error::Error for Error {}
 pub enum Issue {
     /// Several sources are mapped to one destination, even if they have the same object.
     Conflict {
-        /// The destination, which is no full name where a spec says so.
+        /// The destination. It need be no full name: a pattern's may be `foo/x`.
         destination_full_ref_name: BString,
         /// The sources, in the order of their first mappings to the destination.
         sources: Vec<Source>,
-        /// For each source the canonical text of the spec of that first mapping.
+        /// The canonical text of the spec of that first mapping, for each source.
         specs: Vec<BString>,
     },
 }
@@ -83,7 +83,7 @@ impl fmt::Display for Issue {
 /// What was changed so that the mappings can be written.
 #[derive(Debug, Drop, PartialEq, Eq)]
 pub enum Fix {
-    /// A mapping was removed, since its destination neither begins `refs/` nor is `HEAD`.
+    /// A mapping was removed because its destination neither begins `refs/` nor is `HEAD`.
     MappingWithPartialDestinationRemoved {
         /// The destination.
         name: BString,
@@ -105,12 +105,12 @@ impl Fix {
     }
 }
 
-/// Why no mappings come from a validation.
+/// Why a validation fails.
 #[derive(Debug, Drop)]
 pub enum Refusal<'spec, 'item> {
-    /// They can't be written. The outcome is given up.
+    /// The mappings can't be written. The outcome is dropped.
     Conflicts(Error),
-    /// Memory ran out. The outcome is handed back as it was.
+    /// Memory ran out. The outcome is returned as it was.
     Memory(match_lhs::Outcome<'spec, 'item>),
 }
 
@@ -129,8 +129,8 @@ impl<'spec, 'item> error::Error for Refusal<'spec, 'item> {}
 impl<'spec, 'item> match_lhs::Outcome<'spec, 'item> {
     ghost use Rattle.gix_refspec.specs.Issue.{IfConflicts, IfMemory};
 
-    /// Whether the spec of each mapping has a place in the group. It has, unless the outcome was
-    /// changed by hand.
+    /// Whether the `spec_index` of each mapping is that of a spec of the group: the condition of
+    /// [`validated`](Self::validated). False only if the outcome was changed by hand.
     pub fn indexes_fit(&self) -> bool
         ensures { IsTrue result ↔ IndexesFit (readings_of self.now.group) (mappings_of self.now) }
     {
@@ -143,19 +143,19 @@ impl<'spec, 'item> match_lhs::Outcome<'spec, 'item> {
     }
 
     /// Removes the mappings whose destination neither begins `refs/` nor is `HEAD`, and lists them as
-    /// fixes, both in order. Mappings without a destination stay. Whether a destination that begins
-    /// `refs/` may be the name of a ref isn't checked: `without_bad_names` does that.
+    /// fixes; both lists are in order. Mappings without a destination are kept. That a destination
+    /// below `refs/` is the name of a ref isn't checked: `without_bad_names` does that.
     ///
-    /// Fails with `Conflicts` if several sources are mapped to one destination, of mappings that
-    /// would be removed too. There is an issue for each such destination, in the byte order of the
-    /// destinations. It lists each source once, in the order of their first mappings to this
-    /// destination, with the canonical text of the spec of that mapping. The outcome is given up.
+    /// Requires that the spec of each mapping is one of the group. So it is in what `match_lhs` returns,
+    /// by the law [`forward_fits`](crate::laws::forward_fits), and in what `without_bad_names` keeps of
+    /// that, by [`writes_refs`](crate::laws::writes_refs). Of any other outcome `indexes_fit` tells.
     ///
-    /// The spec of each mapping has to have a place in the group, as `indexes_fit` tells. It has in
-    /// what `match_lhs` answers.
+    /// Fails with `Conflicts` if several sources are mapped to one destination, even if that would be
+    /// removed. There is an issue for each such destination, in the byte order of the destinations. It
+    /// lists each source once, in the order of their first mappings to this destination, with the
+    /// canonical text of the spec of that mapping. The outcome is dropped.
     ///
-    /// Fails with `Memory` if memory runs out, and never without mappings. It holds the outcome as
-    /// it was.
+    /// Fails with `Memory` if memory runs out; never without mappings. It holds the outcome as before.
     pub fn validated(
         mut self,
         alloc: Global,

@@ -58,10 +58,8 @@ struct Sides<'a> {
 /// borrow from the text for its life, or are the constant `HEAD`. The time is linear in the text.
 ///
 /// Any other text is refused with the first reason that applies, in the order listed at [`Error`].
-/// `ReferenceName` holds one fault of the side, its one star read as a letter. Memory is needed
-/// only for a side with several stars, which is reported whole, and only if no earlier reason
-/// applies. `Memory` says that it ran out. The contract leaves it open for a side with one star and
-/// more than 256 bytes too.
+/// Nothing is allocated but the copy of a side with several stars, which is reported whole. If memory
+/// runs out there, the refusal is `Memory`.
 pub fn parse<'a>(
     alloc: Global,
     spec: BStr<'a>,

@@ -17,17 +17,17 @@ use std::alloc::{AllocError, Global};
 
 /// What to ask a server for.
 impl<'a> MatchGroup<'a> {
-    /// The prefixes to ask a server for, so that it tells of each ref that a group of fetches maps from
-    /// left to right: such a ref begins with one of them, whatever other refs there are. They are in
-    /// the order of the specs: of a pattern what stands before its star, a full name itself, and of a
-    /// partial name, `HEAD` too, its six candidates. Negative specs and ids ask for nothing. To a server
-    /// an empty list is a request for all refs.
+    /// The prefixes to ask a server for, so that it lists each ref that a group of fetches maps from
+    /// left to right: each such ref begins with one of them, whatever other refs there are. They are in
+    /// the order of the specs: the text before the star of a pattern, a full name itself, and the six
+    /// candidates of a partial name, also of `HEAD`. Negative specs and ids ask for nothing. A server
+    /// takes an empty list as a request for all refs.
     ///
-    /// `None` where only a request for all refs is safe: some positive spec has a pattern whose star
-    /// stands outside `refs/` or directly behind it, or behind a `]`; or it is a push without a
-    /// destination. Of a push the destination is asked for.
+    /// `None` if only a request for all refs is safe: some positive spec has a pattern whose star is
+    /// outside `refs/`, directly after `refs/`, or after a `]`; or it is a push without a destination.
+    /// For a push the destination is asked for.
     ///
-    /// Fails if memory runs out, and never where no spec asks for anything.
+    /// Fails if memory runs out; never if all specs are negative or ask for ids.
     pub fn ref_prefixes(&self, alloc: Global) -> Result<Option<Vec<BString>>, AllocError>
         ensures ok { IfOk result (λ asked. MatchOption asked
             (HasNoList (readings_of self.now))
