@@ -1,4 +1,4 @@
--- Hits of a pattern among the items whose names begin as it does.
+-- Hits of a pattern among items at listed places: of those whose names begin as it does, or that it fits.
 use Rattle.std.proofs.Common.{◌≡◌, ℕ, zero, suc, ◌+◌, ◌<◌, List, [], ◌∷◌, ◌++◌, Option, None, Some, option_map, length, map, take, get_or, refl, sym, ap, ◌∙◌, subst, append_assoc, arith}
 use Rattle.std.specs.List.{slice_get}
 use Rattle.std.proofs.lemmas.List.{append-nil, get_or-map, length-map, length-take-le, map-append, take_more}
@@ -8,7 +8,6 @@ use Rattle.gix_refspec.specs.declared.match_group.types.NameRef.{NameRef}
 use Rattle.gix_refspec.specs.declared.match_group.util.ends.Direction.{Direction}
 use Rattle.gix_refspec.specs.declared.match_group.util.ends.Ends.{Ends as DeclaredEnds}
 use Rattle.gix_refspec.specs.declared.match_group.util.hits.Made.{Made}
-use Rattle.gix_refspec.specs.declared.match_group.util.matched.Match.{Match}
 use Rattle.gix_refspec.specs.Text.{Begins}
 use Rattle.gix_refspec.specs.Side.{SideKind, pattern, full_name, object, partial}
 use Rattle.gix_refspec.specs.Match.{Ref, MatchesAs}
@@ -16,12 +15,12 @@ use Rattle.gix_refspec.specs.Lists.{MakesOf, IsMadeFrom}
 use Rattle.gix_refspec.specs.Group.{name_bytes, ref_of}
 use Rattle.gix_refspec.specs.Hits.{Ends, Hit, IsHit}
 use Rattle.gix_refspec.specs.Private.SideViews.{shown_kind}
-use Rattle.gix_refspec.specs.Private.HitViews.{HaveKinds, TakesIn, IsFirstIn, filled_end, word_of, AreHitsOfKinds, mapping_of, made_in, AddsHits}
-use Rattle.gix_refspec.specs.Private.Index.{ArePlacesBehind, ArePlacesFor}
+use Rattle.gix_refspec.specs.Private.HitViews.{HaveKinds, TakesIn, IsFirstIn, PatternFits, filled_end, AreHitsOfKinds, mapping_of, made_in, AddsHits}
+use Rattle.gix_refspec.specs.Private.Index.{ArePlacesFittedTo, ArePlacesFor}
 use Rattle.gix_refspec.proofs.HitLemmas.{is_hit, matches_as, taken_matches}
 use Rattle.gix_refspec.proofs.JoinLemmas.{made_next}
 use Rattle.gix_refspec.proofs.PlacedLemmas.{StandAt, blank, later}
-use Rattle.gix_refspec.proofs.PlacesLemmas.{has_only}
+use Rattle.gix_refspec.proofs.PlacesLemmas.{AreWhere, has_only}
 use Rattle.gix_refspec.proofs.RepeatLemmas.{Has-from_place}
 
 -- what a side of the kind begins with, where it is a pattern
@@ -31,25 +30,66 @@ front_of (full_name n) = []
 front_of (object id) = []
 front_of (partial n) = []
 
-behind_front : (kind : SideKind) (refs : List Ref) (places : List ℕ) → ArePlacesFor kind refs places → ArePlacesBehind (front_of kind) refs places
-behind_front (pattern before after) refs places are = are
-behind_front (full_name n) refs places are = absurd are
-behind_front (object id) refs places are = absurd are
-behind_front (partial n) refs places are = absurd are
+-- the side is a pattern
+abbrev pub IsPatternSide : SideKind → Type 0
+IsPatternSide (pattern before after) = Unit {0}
+IsPatternSide (full_name n) = ⊥
+IsPatternSide (object id) = ⊥
+IsPatternSide (partial n) = ⊥
+
+pattern_first : (kind : SideKind) (direction : Direction) (refs : List Ref) (n : List ℕ) → IsPatternSide kind → IsFirstIn kind direction refs n
+pattern_first (pattern before after) direction refs n is = tt
+pattern_first (full_name m) direction refs n is = absurd is
+pattern_first (object id) direction refs n is = absurd is
+pattern_first (partial m) direction refs n is = absurd is
+
+-- ---- the places of what begins with a front, and of what a pattern fits
+
+pub of_front : (kind : SideKind) (refs : List Ref) (places : List ℕ) → ArePlacesFor kind refs places → IsPatternSide kind
+of_front (pattern before after) refs places are = tt
+of_front (full_name n) refs places are = absurd are
+of_front (object id) refs places are = absurd are
+of_front (partial n) refs places are = absurd are
+
+-- the name begins as the side does
+abbrev pub BeginsAs : SideKind → Ref → Type 0
+BeginsAs kind r = Begins (front_of kind) r.name
+
+pub where_begins : (kind : SideKind) (refs : List Ref) (places : List ℕ) → ArePlacesFor kind refs places → AreWhere (BeginsAs kind) 0 refs places
+where_begins (pattern before after) refs places are = are
+where_begins (full_name n) refs places are = absurd are
+where_begins (object id) refs places are = absurd are
+where_begins (partial n) refs places are = absurd are
 
 -- what a pattern matches begins as it does
-matched_begins : (kind : SideKind) (refs : List Ref) (places : List ℕ) (r : Ref) (word : Option (List ℕ)) → ArePlacesFor kind refs places → MatchesAs kind r word → Begins (front_of kind) r.name
-matched_begins (pattern before after) refs places r None are matches = absurd matches
-matched_begins (pattern before after) refs places r (Some word) are matches = record { after = word ++ after; here = matches }
-matched_begins (full_name n) refs places r word are matches = absurd are
-matched_begins (object id) refs places r word are matches = absurd are
-matched_begins (partial n) refs places r word are matches = absurd are
+pub matched_begins : (kind : SideKind) (r : Ref) (word : Option (List ℕ)) → IsPatternSide kind → MatchesAs kind r word → BeginsAs kind r
+matched_begins (pattern before after) r None is matches = absurd matches
+matched_begins (pattern before after) r (Some word) is matches = record { after = word ++ after; here = matches }
+matched_begins (full_name n) r word is matches = absurd is
+matched_begins (object id) r word is matches = absurd is
+matched_begins (partial n) r word is matches = absurd is
 
-pattern_first : (kind : SideKind) (direction : Direction) (refs : List Ref) (places : List ℕ) (n : List ℕ) → ArePlacesFor kind refs places → IsFirstIn kind direction refs n
-pattern_first (pattern before after) direction refs places n are = tt
-pattern_first (full_name m) direction refs places n are = absurd are
-pattern_first (object id) direction refs places n are = absurd are
-pattern_first (partial m) direction refs places n are = absurd are
+pub of_fitted : (kind : SideKind) (refs : List Ref) (places : List ℕ) → ArePlacesFittedTo kind refs places → IsPatternSide kind
+of_fitted (pattern before after) refs places are = tt
+of_fitted (full_name n) refs places are = absurd are
+of_fitted (object id) refs places are = absurd are
+of_fitted (partial n) refs places are = absurd are
+
+pub where_fits : (kind : SideKind) (refs : List Ref) (places : List ℕ) → ArePlacesFittedTo kind refs places → AreWhere (PatternFits kind) 0 refs places
+where_fits (pattern before after) refs places are = are
+where_fits (full_name n) refs places are = absurd are
+where_fits (object id) refs places are = absurd are
+where_fits (partial n) refs places are = absurd are
+
+-- what a pattern matches it fits
+pub matched_fits : (kind : SideKind) (r : Ref) (word : Option (List ℕ)) → IsPatternSide kind → MatchesAs kind r word → PatternFits kind r
+matched_fits (pattern before after) r None is matches = absurd matches
+matched_fits (pattern before after) r (Some word) is matches = (word, matches)
+matched_fits (full_name n) r word is matches = absurd is
+matched_fits (object id) r word is matches = absurd is
+matched_fits (partial n) r word is matches = absurd is
+
+-- ---- the hits among the items at the places of all that have a property
 
 got_inside : (refs : List Ref) (i : ℕ) (r : Ref) → slice_get refs i ≡ Some r → i < length refs
 got_inside [] i r is = absurd (cc)
@@ -57,13 +97,29 @@ got_inside (s ∷ refs) zero r is = omega arith
 got_inside (s ∷ refs) (suc i) r is = let below = got_inside refs i r is in omega (arith, below)
 
 -- each place is one of an item
-pub place_inside : (kind : SideKind) (xs : List Item) (places : List ℕ) (i d : ℕ) → ArePlacesFor kind (map ref_of xs) places → i < length places → get_or places i d < length xs
-place_inside kind xs places i d are below =
+pub place_inside : (P : Ref → Type 0) (xs : List Item) (places : List ℕ) (i d : ℕ) → AreWhere P 0 (map ref_of xs) places → i < length places → get_or places i d < length xs
+place_inside P xs places i d are below =
     let place = get_or places i d in
-    let at = has_only (λ r. Begins (front_of kind) r.name) 0 (map ref_of xs) places place (behind_front kind (map ref_of xs) places are) (Has-from_place places i place d below refl) in
+    let at = has_only P 0 (map ref_of xs) places place are (Has-from_place places i place d below refl) in
     let inside : at.0 < length (map ref_of xs) = got_inside (map ref_of xs) at.0 at.1 at.3 in
     let same : place ≡ 0 + at.0 = at.2 in
     omega (arith, inside, same, length-map xs ref_of)
+
+got_at : (refs : List Ref) (i : ℕ) (r d : Ref) → slice_get refs i ≡ Some r → get_or refs i d ≡ r
+got_at [] i r d is = absurd (cc)
+got_at (s ∷ refs) zero r d is = (let same : Some s ≡ Some r = is in cc)
+got_at (s ∷ refs) (suc i) r d is = got_at refs i r d is
+
+-- and that item has the property
+pub place_has : (P : Ref → Type 0) (xs : List Item) (places : List ℕ) (i e : ℕ) (d : Item) → AreWhere P 0 (map ref_of xs) places → i < length places → P (ref_of (get_or xs (get_or places i e) d))
+place_has P xs places i e d are below =
+    let refs = map ref_of xs in
+    let place = get_or places i e in
+    let (at, r, same, is, has) = has_only P 0 refs places place are (Has-from_place places i place e below refl) in
+    let here : place ≡ at = (let zero : 0 + at ≡ at = omega arith in same ∙ zero) in
+    let one : ref_of (get_or xs place d) ≡ r =
+    sym (get_or-map ref_of xs place d blank (place_inside P xs places i e are below)) ∙ ap (λ (p : ℕ). get_or refs p blank) here ∙ got_at refs at r blank is in
+    subst P (sym one) has
 
 -- the spec at place k hits the item at a place
 abbrev HitAt : Direction → List Ref → Ends → ℕ → ℕ → ℕ → Hit → Type 0
@@ -74,17 +130,17 @@ abbrev pub AreHitsAt : Direction → DeclaredEnds → ℕ → List Ref → List 
 AreHitsAt direction kinds k items places hits = (ends : Ends) → HaveKinds ends kinds → IsMadeFrom (HitAt direction items ends k) 0 places hits
 
 -- one more place, whose item is hit
-pub hit_at_place : (direction : Direction) (kinds : DeclaredEnds) (k : ℕ) (xs : List Item) (places : List ℕ) (i e : ℕ) (d : Item) (old mid new : Made) (found : Match) (far : Option NameRef) → ArePlacesFor (shown_kind kinds.near) (map ref_of xs) places → i < length places
+pub hit_at_place : (P : Ref → Type 0) (direction : Direction) (kinds : DeclaredEnds) (k : ℕ) (xs : List Item) (places : List ℕ) (i e : ℕ) (d : Item) (old mid new : Made) (word : Option (List ℕ)) (far : Option NameRef) → IsPatternSide (shown_kind kinds.near) → AreWhere P 0 (map ref_of xs) places → i < length places
     → AddsHits direction (AreHitsAt direction kinds k (map ref_of xs) (take i places)) old mid
-    → MatchesAs (shown_kind kinds.near) (ref_of (get_or xs (get_or places i e) d)) (word_of found)
-    → option_map name_bytes far ≡ filled_end kinds.far (word_of found)
+    → MatchesAs (shown_kind kinds.near) (ref_of (get_or xs (get_or places i e) d)) word
+    → option_map name_bytes far ≡ filled_end kinds.far word
     → made_in direction new ≡ made_in direction mid ++ mapping_of direction (record { spec = k; item = get_or places i e; near = bstr_bytes ((get_or xs (get_or places i e) d).full_ref_name); far = option_map name_bytes far }) ∷ []
     → AddsHits direction (AreHitsAt direction kinds k (map ref_of xs) (take (i + 1) places)) old new
-hit_at_place direction kinds k xs places i e d old mid new found far are below so_far matches filled more =
+hit_at_place P direction kinds k xs places i e d old mid new word far is_pattern are below so_far matches filled more =
     let items = map ref_of xs in
     let place = get_or places i e in
     let r : Ref = ref_of (get_or xs place d) in
-    let at : get_or items place blank ≡ r = get_or-map ref_of xs place d blank (place_inside (shown_kind kinds.near) xs places i e are below) in
+    let at : get_or items place blank ≡ r = get_or-map ref_of xs place d blank (place_inside P xs places i e are below) in
     let hit : Hit = record { spec = k; item = place; near = r.name; far = option_map name_bytes far } in
     let long : length (take i places) ≡ i = length-take-le i places (omega (arith, below)) in
     record {
@@ -93,19 +149,19 @@ hit_at_place direction kinds k xs places i e d old mid new found far are below s
           subst (λ (ps : List ℕ). IsMadeFrom (HitAt direction items ends k) 0 ps (so_far.hits ++ hit ∷ [])) (sym (take_more places i e below))
           (made_next (HitAt direction items ends k) i (take i places) place so_far.hits (Some hit) long (so_far.are ends have)
           (subst (λ (s : Ref). IsHit (TakesIn direction items) ends k place s hit) (sym at)
-          (is_hit direction items ends kinds k place r (word_of found) hit have matches (pattern_first (shown_kind kinds.near) direction items places r.name are) filled refl refl refl)));
+          (is_hit direction items ends kinds k place r word hit have matches (pattern_first (shown_kind kinds.near) direction items r.name is_pattern) filled refl refl refl)));
       all = more ∙ ap (λ l. l ++ mapping_of direction hit ∷ []) so_far.all ∙ append_assoc (made_in direction old) (map (mapping_of direction) so_far.hits) (mapping_of direction hit ∷ []) ∙ ap (λ l. made_in direction old ++ l) (sym (map-append (mapping_of direction) so_far.hits (hit ∷ [])));
     }
 
 -- one more place, whose item isn't hit
-pub miss_at_place : (direction : Direction) (kinds : DeclaredEnds) (k : ℕ) (xs : List Item) (places : List ℕ) (i e : ℕ) (d : Item) (old mid : Made) → ArePlacesFor (shown_kind kinds.near) (map ref_of xs) places → i < length places
+pub miss_at_place : (P : Ref → Type 0) (direction : Direction) (kinds : DeclaredEnds) (k : ℕ) (xs : List Item) (places : List ℕ) (i e : ℕ) (d : Item) (old mid : Made) → AreWhere P 0 (map ref_of xs) places → i < length places
     → AddsHits direction (AreHitsAt direction kinds k (map ref_of xs) (take i places)) old mid
     → ((word : Option (List ℕ)) → ¬ (MatchesAs (shown_kind kinds.near) (ref_of (get_or xs (get_or places i e) d)) word))
     → AddsHits direction (AreHitsAt direction kinds k (map ref_of xs) (take (i + 1) places)) old mid
-miss_at_place direction kinds k xs places i e d old mid are below so_far none =
+miss_at_place P direction kinds k xs places i e d old mid are below so_far none =
     let items = map ref_of xs in
     let place = get_or places i e in
-    let at : get_or items place blank ≡ ref_of (get_or xs place d) = get_or-map ref_of xs place d blank (place_inside (shown_kind kinds.near) xs places i e are below) in
+    let at : get_or items place blank ≡ ref_of (get_or xs place d) = get_or-map ref_of xs place d blank (place_inside P xs places i e are below) in
     let long : length (take i places) ≡ i = length-take-le i places (omega (arith, below)) in
     let no_match : (word : Option (List ℕ)) → ¬ (MatchesAs (shown_kind kinds.near) (get_or items place blank) word) = subst (λ (s : Ref). (word : Option (List ℕ)) → ¬ (MatchesAs (shown_kind kinds.near) s word)) (sym at) none in
     record {
@@ -118,24 +174,24 @@ miss_at_place direction kinds k xs places i e d old mid are below so_far none =
       all = so_far.all;
     }
 
--- the hits among the items that begin with a front are all, where what is hit begins with it
-hits_through : (direction : Direction) (k : ℕ) (items : List Ref) (ends : Ends) (front : List ℕ) → ((r : Ref) (word : Option (List ℕ)) → TakesIn direction items ends.near r word → Begins front r.name)
-    → (j : ℕ) (rest : List Ref) (places : List ℕ) (i : ℕ) (hits : List Hit) → StandAt items j rest → IsMadeFrom (λ p r place. Begins front r.name × (place ≡ p)) j rest places → IsMadeFrom (HitAt direction items ends k) i places hits → IsMadeFrom (IsHit (TakesIn direction items) ends k) j rest hits
-hits_through direction k items ends front begins j [] places i hits at none over = subst (λ (ps : List ℕ). IsMadeFrom (HitAt direction items ends k) i ps hits) none over
-hits_through direction k items ends front begins j (r ∷ rest) places i hits at (None, others, here, more, same) over = (
+-- the hits among the items that have a property are all, where what is hit has it
+hits_through : (P : Ref → Type 0) (direction : Direction) (k : ℕ) (items : List Ref) (ends : Ends) → ((r : Ref) (word : Option (List ℕ)) → TakesIn direction items ends.near r word → P r)
+    → (j : ℕ) (rest : List Ref) (places : List ℕ) (i : ℕ) (hits : List Hit) → StandAt items j rest → AreWhere P j rest places → IsMadeFrom (HitAt direction items ends k) i places hits → IsMadeFrom (IsHit (TakesIn direction items) ends k) j rest hits
+hits_through P direction k items ends begins j [] places i hits at none over = subst (λ (ps : List ℕ). IsMadeFrom (HitAt direction items ends k) i ps hits) none over
+hits_through P direction k items ends begins j (r ∷ rest) places i hits at (None, others, here, more, same) over = (
   None,
   hits,
   (λ hit is. here j (begins r is.word is.takes, refl)),
-  hits_through direction k items ends front begins (j + 1) rest others i hits (later items j r rest at) more (subst (λ (ps : List ℕ). IsMadeFrom (HitAt direction items ends k) i ps hits) same over),
+  hits_through P direction k items ends begins (j + 1) rest others i hits (later items j r rest at) more (subst (λ (ps : List ℕ). IsMadeFrom (HitAt direction items ends k) i ps hits) same over),
   refl,
 )
-hits_through direction k items ends front begins j (r ∷ rest) places i hits at (Some place, others, here, more, same) over =
+hits_through P direction k items ends begins j (r ∷ rest) places i hits at (Some place, others, here, more, same) over =
     let (made, further, makes, behind, all) = subst (λ (ps : List ℕ). IsMadeFrom (HitAt direction items ends k) i ps hits) same over in (
       made,
       further,
       subst (λ (s : Ref). MakesOf (IsHit (TakesIn direction items) ends k) j s made) (stands items j r rest at)
           (subst (λ (p : ℕ). MakesOf (IsHit (TakesIn direction items) ends k) p (get_or items p blank) made) here.1 makes),
-      hits_through direction k items ends front begins (j + 1) rest others (i + 1) further (later items j r rest at) more behind,
+      hits_through P direction k items ends begins (j + 1) rest others (i + 1) further (later items j r rest at) more behind,
       all,
     )
   where
@@ -143,13 +199,13 @@ hits_through direction k items ends front begins j (r ∷ rest) places i hits at
     stands items j r rest at = let here : j ≡ j + 0 = omega arith in ap (λ (n : ℕ). get_or items n blank) here ∙ at 0 (omega arith)
 
 -- at all places
-pub all_at_places : (direction : Direction) (kinds : DeclaredEnds) (k : ℕ) (items : List Ref) (places : List ℕ) (old new : Made) → ArePlacesFor (shown_kind kinds.near) items places → AddsHits direction (AreHitsAt direction kinds k items places) old new → AddsHits direction (AreHitsOfKinds direction kinds k items items) old new
-all_at_places direction kinds k items places old new are adds = record {
+pub all_at_places : (P : Ref → Type 0) (direction : Direction) (kinds : DeclaredEnds) (k : ℕ) (items : List Ref) (places : List ℕ) (old new : Made) → ((r : Ref) (word : Option (List ℕ)) → MatchesAs (shown_kind kinds.near) r word → P r) → AreWhere P 0 items places → AddsHits direction (AreHitsAt direction kinds k items places) old new → AddsHits direction (AreHitsOfKinds direction kinds k items items) old new
+all_at_places P direction kinds k items places old new has are adds = record {
   hits = adds.hits;
   are = λ ends have.
       let kind = shown_kind kinds.near in
-      hits_through direction k items ends (front_of kind)
-      (λ r word takes. matched_begins kind items places r word are (matches_as ends.near kind r word have.near (taken_matches direction items ends.near r word takes)))
-      0 items places 0 adds.hits (λ i below. let same : 0 + i ≡ i = omega arith in ap (λ (n : ℕ). get_or items n blank) same) (behind_front kind items places are) (adds.are ends have);
+      hits_through P direction k items ends
+      (λ r word takes. has r word (matches_as ends.near kind r word have.near (taken_matches direction items ends.near r word takes)))
+      0 items places 0 adds.hits (λ i below. let same : 0 + i ≡ i = omega arith in ap (λ (n : ℕ). get_or items n blank) same) are (adds.are ends have);
   all = adds.all;
 }

@@ -77,6 +77,7 @@ pub mod PlacesLemmas
 pub mod FirstPlacesLemmas
 pub mod IndexLemmas
 pub mod FrontLemmas
+pub mod FittedLemmas
 pub mod FrontHitLemmas
 pub mod IndexFacts
 pub mod MatchFacts

@@ -10,7 +10,7 @@ use Rattle.gix_refspec.specs.declared.match_group.util.hits.Made.{Made}
 use Rattle.gix_refspec.specs.declared.side.SideKind.{SideKind as DeclaredKind}
 use Rattle.gix_refspec.specs.Reading.{Reading}
 use Rattle.gix_refspec.specs.Grammar.{IsPositive}
-use Rattle.gix_refspec.specs.Side.{SideKind, pattern, full_name, object, partial, HasKind, filled}
+use Rattle.gix_refspec.specs.Side.{SideKind, pattern, full_name, object, partial, HasKind, Fits, filled}
 use Rattle.gix_refspec.specs.Match.{Ref, Matches, IsFirstCandidate, Takes}
 use Rattle.gix_refspec.specs.Lists.{IsMadeFrom}
 use Rattle.gix_refspec.specs.Mappings.{Mapped}
@@ -21,6 +21,17 @@ use Rattle.gix_refspec.specs.Private.SideViews.{shown_kind}
 -- the word that stands for the star of a side that matched
 abbrev pub word_of : Match → Option (List ℕ)
 word_of m = option_map (λ w. w.now) m.word
+
+-- the pattern with these ends fits the name of the ref
+abbrev pub FitsRef : List ℕ → List ℕ → Ref → Type 0
+FitsRef before after r = (word : List ℕ) × Fits before after r.name word
+
+-- the side is a pattern, and fits the name of the ref
+abbrev pub PatternFits : SideKind → Ref → Type 0
+PatternFits (pattern before after) r = FitsRef before after r
+PatternFits (full_name x) r = ⊥
+PatternFits (object id) r = ⊥
+PatternFits (partial x) r = ⊥
 
 -- in a candidate these bytes may stand before the partial name, and nothing behind it
 abbrev pub IsPlace : List ℕ → Type 0

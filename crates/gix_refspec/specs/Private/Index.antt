@@ -1,5 +1,5 @@
 -- How full names, partial ones and patterns are looked up. Only private functions cite these words.
-use Rattle.std.specs.Prelude.{◌≡◌, ◌⊎◌, ℕ, List, [], ◌∷◌, ◌++◌, Bool, Option, None, Some, length, unwrap_or, option_map, bytes_eq}
+use Rattle.std.specs.Prelude.{◌≡◌, ◌⊎◌, ◌<◌, ℕ, List, [], ◌∷◌, ◌++◌, Bool, Option, None, Some, length, unwrap_or, option_map, slice_index_or, bytes_eq}
 use Rattle.std.specs.Borrow.{Bor}
 use Rattle.std.specs.List.{AllByRecursion, Contains}
 use Rattle.std.specs.HashMap as hash
@@ -15,7 +15,7 @@ use Rattle.gix_refspec.specs.Side.{SideKind, pattern, full_name, object, partial
 use Rattle.gix_refspec.specs.Match.{Ref, MatchesAs, IsFirstCandidate}
 use Rattle.gix_refspec.specs.Lists.{IsMadeFrom}
 use Rattle.gix_refspec.specs.Hits.{Ends}
-use Rattle.gix_refspec.specs.Private.HitViews.{HasEnds}
+use Rattle.gix_refspec.specs.Private.HitViews.{HasEnds, FitsRef}
 use Rattle.gix_refspec.specs.Private.Kept.{IsFlagged}
 
 -- a side of the kind asks for the name: a full name for itself, and a partial one for its candidates
@@ -84,6 +84,34 @@ ArePlacesFor (pattern before after) refs places = ArePlacesBehind before refs pl
 ArePlacesFor (full_name x) refs places = ⊥
 ArePlacesFor (object id) refs places = ⊥
 ArePlacesFor (partial x) refs places = ⊥
+
+-- the places of the refs whose names the pattern with these ends fits, in order
+abbrev pub ArePlacesFitted : List ℕ → List ℕ → List Ref → List ℕ → Type 0
+ArePlacesFitted before after refs places = IsMadeFrom (λ k r place. FitsRef before after r × (place ≡ k)) 0 refs places
+
+-- the side is a pattern, and these are the places of the refs whose names it fits
+abbrev pub ArePlacesFittedTo : SideKind → List Ref → List ℕ → Type 0
+ArePlacesFittedTo (pattern before after) refs places = ArePlacesFitted before after refs places
+ArePlacesFittedTo (full_name x) refs places = ⊥
+ArePlacesFittedTo (object id) refs places = ⊥
+ArePlacesFittedTo (partial x) refs places = ⊥
+
+-- what is listed, if anything, are these places
+abbrev pub ListsFitted : SideKind → List Ref → Option (Vec ℕ) → Type 0
+ListsFitted kind refs None = Unit {0}
+ListsFitted kind refs (Some listed) = ArePlacesFittedTo kind refs listed.items
+
+-- what is listed, if anything, are these places for the near end of the reading
+abbrev pub ListsFor : Direction → Reading → List Ref → Option (Vec ℕ) → Type 0
+ListsFor direction r refs listed = (ends : Ends) (kind : SideKind) → HasEnds direction r ends → HasKind ends.near kind → ListsFitted kind refs listed
+
+-- what is listed for each of the readings are these places for it
+abbrev pub ListEach : Direction → List Reading → List Ref → List (Option (Vec ℕ)) → Type 0
+ListEach direction g refs listed = (k : ℕ) (d : Reading) → k < length g → ListsFor direction (slice_index_or g k d) refs (slice_index_or listed k None)
+
+-- the places are listed for the spec at place k
+abbrev pub HasListed : List (Option (Vec ℕ)) → ℕ → List ℕ → Type 0
+HasListed listed k places = (v : Vec ℕ) × (slice_index_or listed k None ≡ Some v) × (places ≡ v.items)
 
 -- the places that the index has for a name
 abbrev pub places_in : NameIndex → List ℕ → List ℕ

@@ -2,12 +2,12 @@
 //! chooses which end of a spec is near and takes items, which is far and is filled, and whether a
 //! partial near end takes all of its candidates or the first that is there.
 
-ghost use Rattle.std.specs.Prelude.{◌≡◌, [], map, IfOk, OnOk};
+ghost use Rattle.std.specs.Prelude.{◌≡◌, [], map, IfOk, IfSome, None, OnOk};
 ghost use Rattle.gix_refspec.specs.Spec.{reading_of};
 ghost use Rattle.gix_refspec.specs.Group.{ref_of, mapped_of};
 ghost use Rattle.gix_refspec.specs.Hits.{AreHits, forward_of, backward_of};
 ghost use Rattle.gix_refspec.specs.Private.SideViews.{shown_kind};
-ghost use Rattle.gix_refspec.specs.Private.Index.{ArePlacesFor, ArePlacesTaken, IsIndexFor, IsIndexOfSide, MatchesWhole};
+ghost use Rattle.gix_refspec.specs.Private.Index.{ArePlacesFitted, ArePlacesFittedTo, ArePlacesFor, ArePlacesTaken, HasListed, IsIndexFor, IsIndexOfSide, ListEach, ListsFitted, ListsFor, MatchesWhole};
 ghost use Rattle.gix_refspec.specs.Private.HitViews.{HasEnds, TakesEach, TakesIn, shown_hit, AreHitsOfKinds, AddsHits, AreFirst, made_in};
 ghost use Rattle.gix_refspec.specs.Private.EqualSpecs.{AddsMost, AreMostMade, FlagsEqual};
 ghost use Rattle.gix_refspec.specs.Private.Part.{moved, place_among};
@@ -18,7 +18,7 @@ use super::fill::filled_end;
 use super::ids::ids_of;
 use super::index::NameIndex;
 use super::kept::is_flagged;
-use super::matched::matched;
+use super::matched::{fitted_word, matched, word_between};
 use super::part::among;
 use crate::match_group::types::{Item, Mapping, NameRef, SourceRef};
 use crate::side::SideKind;
@@ -35,13 +35,22 @@ struct Hit<'spec, 'item> {
     far: Option<NameRef<'spec>>,
 }
 
-// What a first look at specs and items finds: which specs have the sides of an earlier one, and how
-// many mappings the others make of ids and of sides that are no names. The list of mappings grows for
-// those of names, as these are looked up.
+// What a first look at specs and items finds: which specs have the sides of an earlier one, where the
+// items of the others' patterns are, as far as that is listed, and how many mappings these make of ids
+// and of sides that are no names. The list of mappings grows for those of names, as these are looked up.
 #[derive(Drop)]
 pub(crate) struct Survey {
     pub(crate) equal: Vec<bool>,
+    pub(crate) fitted: Vec<Option<Vec<usize>>>,
     pub(crate) room: usize,
+}
+
+// What a look at one spec finds: the places of the items that its pattern fits, if they are listed, and how
+// many mappings it makes.
+#[derive(Drop)]
+struct Look {
+    fitted: Option<Vec<usize>>,
+    count: usize,
 }
 
 // The mappings that are made, in the list of their direction. The other list stays empty.
@@ -63,17 +72,19 @@ pub(crate) fn mappings_of<'spec, 'item>(
 ) -> Result<Made<'spec, 'item>, AllocError>
     requires index { IsIndexFor direction (map reading_of specs.now) (map ref_of items.now) index.now }
     requires equal { FlagsEqual (map reading_of specs.now) survey.now.equal.items }
+    requires fitted { ListEach direction
+        (map reading_of specs.now) (map ref_of items.now) survey.now.fitted.items }
     ensures { IfOk result (λ made. AreMostMade
         direction (map reading_of specs.now) (map ref_of items.now) (made_in direction made)) }
 {
     let mut made = started(alloc, direction, specs, survey.room)?;
-    let equal = survey.equal.as_slice();
-    add_hits(alloc, direction, specs, equal, index, items, &mut made)?;
+    add_hits(alloc, direction, specs, survey, index, items, &mut made)?;
     Ok(made)
 }
 
 impl Survey {
-    // Looks at the specs.
+    // Looks at the specs. It lists no more places in all than there are items: if a server lists a name again
+    // and again, the places of patterns would take memory for each spec.
     pub(crate) fn of(
         alloc: Global,
         direction: Direction,
@@ -81,44 +92,109 @@ impl Survey {
         index: &NameIndex<'_>,
         items: &[Item<'_>],
     ) -> Result<Survey, AllocError>
-        ensures { IfOk result (λ survey. FlagsEqual (map reading_of specs.now) survey.equal.items) }
+        ensures equal { IfOk result (λ survey. FlagsEqual (map reading_of specs.now) survey.equal.items) }
+        ensures fitted { IfOk result (λ survey. ListEach direction
+            (map reading_of specs.now) (map ref_of items.now) survey.fitted.items) }
     {
         let equal = equal_specs(alloc, specs)?;
+        let mut fitted = Vec::with_capacity(alloc, specs.len())?;
+        let mut most = items.len();
         let mut room: usize = 0;
         for (place, spec) in specs.iter().enumerate() {
-            if !is_flagged(equal.as_slice(), place) {
-                room = room.saturating_add(room_of(direction, spec, index, items));
+            if is_flagged(equal.as_slice(), place) {
+                fitted.push(None)?;
+                continue;
             }
+            let look = Look::at(alloc, direction, spec, index, items, most)?;
+            room = room.saturating_add(look.count);
+            most = most.saturating_sub(listed(&look.fitted));
+            fitted.push(look.fitted)?;
         }
-        Ok(Survey { equal, room })
+        Ok(Survey {
+            equal,
+            fitted,
+            room,
+        })
+    }
+
+    // The places that are listed for the spec at a place.
+    fn places(&self, spec: usize) -> Option<&[usize]>
+        ensures { IfSome result (λ places. HasListed self.now.fitted.items spec places.now) }
+    {
+        match self.fitted.get(spec) {
+            Some(Some(places)) => Some(places.as_slice()),
+            Some(None) | None => None,
+        }
     }
 }
 
-// How many of them one spec makes.
-fn room_of(
-    direction: Direction,
-    spec: &RefSpecRef<'_>,
-    index: &NameIndex<'_>,
-    items: &[Item<'_>],
-) -> usize {
-    if let Some(ends) = ends_of(direction, spec) {
-        return match_count(ends.near, index, items);
-    }
-    match direction {
-        Direction::Forward => usize::from(asked_of(spec).is_some()),
-        Direction::Backward => 0,
+// How many places are listed.
+fn listed(places: &Option<Vec<usize>>) -> usize {
+    match places {
+        None => 0,
+        Some(places) => places.len(),
     }
 }
 
-// How many items a side matches that is no name.
-fn match_count(near: SideKind<'_>, index: &NameIndex<'_>, items: &[Item<'_>]) -> usize {
-    match near {
-        SideKind::FullName(_) | SideKind::Partial(_) => 0,
-        SideKind::Pattern { before, .. } => match index.places_behind(before) {
-            Some(places) => count_at(near, places, items),
-            None => count_among(near, items),
-        },
-        SideKind::Object(_) => count_among(near, items),
+impl Look {
+    // Looks at a spec, and lists at most so many places.
+    fn at(
+        alloc: Global,
+        direction: Direction,
+        spec: &RefSpecRef<'_>,
+        index: &NameIndex<'_>,
+        items: &[Item<'_>],
+        most: usize,
+    ) -> Result<Look, AllocError>
+        ensures { IfOk result (λ look. ListsFor direction (reading_of spec.now) (map ref_of items.now) look.fitted) }
+    {
+        if let Some(ends) = ends_of(direction, spec) {
+            return Look::through(alloc, ends.near, index, items, most);
+        }
+        let count = match direction {
+            Direction::Forward => usize::from(asked_of(spec).is_some()),
+            Direction::Backward => 0,
+        };
+        Ok(Look {
+            fitted: None,
+            count,
+        })
+    }
+
+    // Looks through the items for those that a near end matches, unless it is a name.
+    fn through(
+        alloc: Global,
+        near: SideKind<'_>,
+        index: &NameIndex<'_>,
+        items: &[Item<'_>],
+        most: usize,
+    ) -> Result<Look, AllocError>
+        ensures { IfOk result (λ look. ListsFitted (shown_kind near.entry) (map ref_of items.now) look.fitted) }
+    {
+        match near {
+            SideKind::FullName(_) | SideKind::Partial(_) => Ok(Look::counted(0)),
+            SideKind::Object(_) => Ok(Look::counted(count_among(near, items))),
+            SideKind::Pattern { before, after } => match index.places_behind(before) {
+                Some(places) => Ok(Look::counted(count_at(near, places, items))),
+                None => match fitted_places(alloc, before, after, items, most)? {
+                    None => Ok(Look::counted(count_among(near, items))),
+                    Some(places) => Ok(Look {
+                        count: places.len(),
+                        fitted: Some(places),
+                    }),
+                },
+            },
+        }
+    }
+
+    // A look that lists no places.
+    fn counted(count: usize) -> Look
+        ensures { result.fitted ≡ None }
+    {
+        Look {
+            fitted: None,
+            count,
+        }
     }
 }
 
@@ -144,6 +220,30 @@ fn count_among(near: SideKind<'_>, items: &[Item<'_>]) -> usize {
         }
     }
     count
+}
+
+// The places of the items that a pattern fits. None if there are more than so many.
+fn fitted_places(
+    alloc: Global,
+    before: &[u8],
+    after: &[u8],
+    items: &[Item<'_>],
+    most: usize,
+) -> Result<Option<Vec<usize>>, AllocError>
+    ensures { IfOk result (λ told. IfSome told (λ places.
+        ArePlacesFitted before.now after.now (map ref_of items.now) places.items)) }
+{
+    let mut places = Vec::new(alloc);
+    for (at, item) in items.iter().enumerate() {
+        let Some(_) = word_between(before, after, item.full_ref_name.as_bytes()) else {
+            continue;
+        };
+        if places.len() == most {
+            return Ok(None);
+        }
+        places.push(at)?;
+    }
+    Ok(Some(places))
 }
 
 // The mappings of a direction that take no item, with room for so many.
@@ -198,24 +298,59 @@ fn add_hits<'spec, 'item>(
     alloc: Global,
     direction: Direction,
     specs: &[RefSpecRef<'spec>],
-    equal: &[bool],
+    survey: &Survey,
     index: &NameIndex<'_>,
     items: &[Item<'item>],
     made: &mut Made<'spec, 'item>,
 ) -> Result<(), AllocError>
     requires index { IsIndexFor direction (map reading_of specs.now) (map ref_of items.now) index.now }
-    requires equal { FlagsEqual (map reading_of specs.now) equal.now }
+    requires equal { FlagsEqual (map reading_of specs.now) survey.now.equal.items }
+    requires fitted { ListEach direction
+        (map reading_of specs.now) (map ref_of items.now) survey.now.fitted.items }
     ensures { OnOk result (AddsMost
         direction (AreHits (HasEnds direction) (TakesIn direction (map ref_of items.now))
         (map reading_of specs.now) (map ref_of items.now)) made.old made.new) }
 {
     for (place, spec) in specs.iter().enumerate() {
-        if is_flagged(equal, place) {
+        if is_flagged(survey.equal.as_slice(), place) {
             continue;
         }
-        if let Some(ends) = ends_of(direction, spec) {
-            add_spec_hits(alloc, direction, place, ends, index, items, made)?;
+        let Some(ends) = ends_of(direction, spec) else {
+            continue;
+        };
+        match survey.places(place) {
+            Some(places) => add_fitted(alloc, direction, place, ends, places, items, made)?,
+            None => add_spec_hits(alloc, direction, place, ends, index, items, made)?,
         }
+    }
+    Ok(())
+}
+
+// Adds what the hits of a spec make whose near end is a pattern, which are those at the places.
+fn add_fitted<'spec, 'item>(
+    alloc: Global,
+    direction: Direction,
+    spec: usize,
+    ends: Ends<'spec>,
+    places: &[usize],
+    items: &[Item<'item>],
+    made: &mut Made<'spec, 'item>,
+) -> Result<(), AllocError>
+    requires { ArePlacesFittedTo (shown_kind ends.near) (map ref_of items.now) places.now }
+    ensures { OnOk result (AddsHits
+        direction (AreHitsOfKinds direction ends.entry spec
+        (map ref_of items.now) (map ref_of items.now))
+        made.old made.new) }
+{
+    for place in places {
+        let item = &items[*place];
+        let hit = Hit {
+            spec,
+            item: *place,
+            near: item.full_ref_name,
+            far: filled_end(alloc, ends.far, fitted_word(ends.near, item))?,
+        };
+        made.add(direction, hit)?;
     }
     Ok(())
 }

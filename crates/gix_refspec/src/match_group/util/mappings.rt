@@ -6,7 +6,7 @@ ghost use Rattle.gix_refspec.specs.Spec.{reading_of};
 ghost use Rattle.gix_refspec.specs.Group.{ref_of};
 ghost use Rattle.gix_refspec.specs.Private.EqualSpecs.{FlagsEqual};
 ghost use Rattle.gix_refspec.specs.Private.HitViews.{AreKept, AreMade, made_in};
-ghost use Rattle.gix_refspec.specs.Private.Index.{IsIndexFor};
+ghost use Rattle.gix_refspec.specs.Private.Index.{IsIndexFor, ListEach};
 ghost use Rattle.gix_refspec.specs.Private.Part.{HasNoNearId};
 
 use super::ends::Direction;
@@ -75,6 +75,7 @@ fn kept_by_name<'spec, 'item>(
         return kept_with(alloc, direction, specs, &index, items, &survey);
     }
     drop(index);
+    drop(survey);
     kept_once(alloc, direction, specs, items)
 }
 
@@ -141,6 +142,8 @@ fn kept_with<'spec, 'item>(
 ) -> Result<Made<'spec, 'item>, AllocError>
     requires index { IsIndexFor direction (map reading_of specs.now) (map ref_of items.now) index.now }
     requires equal { FlagsEqual (map reading_of specs.now) survey.now.equal.items }
+    requires fitted { ListEach direction
+        (map reading_of specs.now) (map ref_of items.now) survey.now.fitted.items }
     ensures { IfOk result (λ made. AreKept
         direction (map reading_of specs.now) (map ref_of items.now) (made_in direction made)) }
 {

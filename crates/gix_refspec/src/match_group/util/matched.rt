@@ -1,12 +1,12 @@
 //! What one side of a refspec matches.
 
-ghost use Rattle.std.specs.Prelude.{◌≡◌, ◌++◌, codes, ◌⊎◌, ◌↔◌, ℕ, List, Option, MatchOption, IsTrue, Some};
+ghost use Rattle.std.specs.Prelude.{◌≡◌, ◌++◌, codes, ◌⊎◌, ◌↔◌, ℕ, List, Option, MatchOption, option_map, IsTrue, Some};
 ghost use Rattle.gix_refspec.specs.ObjectId.{id_bytes};
 ghost use Rattle.gix_refspec.specs.Side.{Fits, IsCandidate};
 ghost use Rattle.gix_refspec.specs.Match.{MatchesAs};
 ghost use Rattle.gix_refspec.specs.Group.{ref_of};
 ghost use Rattle.gix_refspec.specs.Private.SideViews.{shown_kind};
-ghost use Rattle.gix_refspec.specs.Private.HitViews.{word_of, IsPlace};
+ghost use Rattle.gix_refspec.specs.Private.HitViews.{word_of, IsPlace, PatternFits};
 
 use crate::match_group::types::Item;
 use crate::oid::ObjectId;
@@ -46,6 +46,19 @@ pub(crate) fn word_between<'a>(before: &[u8], after: &[u8], name: &'a [u8]) -> O
         (λ word. Fits before.now after.now name.now word.now) }
 {
     name.strip_prefix(before)?.strip_suffix(after)
+}
+
+// What stands for the star of a pattern in the name of an item that it fits. It isn't compared again.
+#[inline(always)]
+pub(crate) fn fitted_word<'item>(side: SideKind<'_>, item: &Item<'item>) -> Option<&'item [u8]>
+    requires { PatternFits (shown_kind side) (ref_of item.now) }
+    ensures { MatchesAs (shown_kind side.entry) (ref_of item.now) (option_map (λ w. w.now) result) }
+{
+    let SideKind::Pattern { before, after } = side else {
+        return None;
+    };
+    let name = item.full_ref_name.as_bytes();
+    Some(&name[before.len()..name.len() - after.len()])
 }
 
 // Whether an item points to an object, or to a tag of it.
