@@ -15,6 +15,7 @@ use bstr::{BStr, BString};
 use std::alloc::{AllocError, Global};
 
 // What the far end becomes, where there is one.
+#[inline(always)]
 pub(crate) fn filled_end<'spec>(
     alloc: Global,
     end: Option<SideKind<'spec>>,
@@ -31,6 +32,7 @@ pub(crate) fn filled_end<'spec>(
 
 // What a side becomes where the other side matched with this word, or with none. A full name is
 // borrowed from the spec.
+#[inline(always)]
 fn filled<'spec>(
     alloc: Global,
     side: SideKind<'spec>,

@@ -243,6 +243,7 @@ fn fitted_places(
         }
         places.push(at)?;
     }
+    places.shrink_to_fit();
     Ok(Some(places))
 }
 
@@ -269,6 +270,7 @@ fn started<'spec, 'item>(
 }
 
 // From left to right an item's name is the source.
+#[inline(always)]
 fn forward_mapping<'spec, 'item>(hit: Hit<'spec, 'item>) -> Mapping<'item, 'spec>
     ensures { mapped_of result ≡ forward_of (shown_hit hit.entry) }
 {
@@ -281,6 +283,7 @@ fn forward_mapping<'spec, 'item>(hit: Hit<'spec, 'item>) -> Mapping<'item, 'spec
 }
 
 // From right to left an item's name is the destination. The far end is there.
+#[inline(always)]
 fn backward_mapping<'spec, 'item>(hit: Hit<'spec, 'item>) -> Mapping<'spec, 'item>
     ensures { mapped_of result ≡ backward_of (shown_hit hit.entry) }
 {
@@ -498,6 +501,7 @@ impl<'spec, 'item> Made<'spec, 'item> {
     ghost use Rattle.gix_refspec.specs.Private.HitViews.{made_in, mapping_of};
 
     // Adds what a hit makes.
+    #[inline(always)]
     fn add(&mut self, direction: Direction, hit: Hit<'spec, 'item>) -> Result<(), AllocError>
         ensures { OnOk result (made_in direction self.new ≡
             made_in direction self.old ++ mapping_of direction (shown_hit hit.entry) ∷ []) }

@@ -67,30 +67,26 @@ fn kept_by_name<'spec, 'item>(
     ensures { IfOk result (λ made. AreKept
         direction (map reading_of specs.now) (map ref_of items.now) (made_in direction made)) }
 {
+    let by_id = has_near_id(direction, specs);
     let names = names_asked(alloc, direction, specs)?;
     let fronts = fronts_asked(alloc, direction, specs)?;
+    if !by_id && !fronts.is_empty() && seem_repeated(alloc, items)? {
+        return kept_once(alloc, direction, specs, items);
+    }
     let index = NameIndex::of(alloc, names.as_slice(), fronts.as_slice(), items)?;
     let survey = Survey::of(alloc, direction, specs, &index, items)?;
-    if has_near_id(direction, specs) || !names_repeat(alloc, &index, survey.room, items)? {
-        return kept_with(alloc, direction, specs, &index, items, &survey);
+    if by_id || !names_repeat(&index, survey.room, items) {
+        return kept_with(alloc, direction, specs, &index, items, survey);
     }
     drop(index);
     drop(survey);
     kept_once(alloc, direction, specs, items)
 }
 
-// Whether names seem to repeat: one that is asked for is listed twice, or more mappings of patterns
-// would be made than there are items, or some of the first names repeat.
-fn names_repeat(
-    alloc: Global,
-    index: &NameIndex<'_>,
-    room: usize,
-    items: &[Item<'_>],
-) -> Result<bool, AllocError> {
-    if room == 0 {
-        return Ok(index.has_repeats());
-    }
-    Ok(index.has_repeats() || items.len() < room || seem_repeated(alloc, items)?)
+// Whether names repeat: one that is asked for is listed twice, or more mappings of patterns would be made
+// than there are items.
+fn names_repeat(index: &NameIndex<'_>, room: usize, items: &[Item<'_>]) -> bool {
+    index.has_repeats() || items.len() < room
 }
 
 // The mappings that are kept, of each name once.
@@ -128,7 +124,7 @@ fn kept_of_all<'spec, 'item>(
     let fronts = fronts_asked(alloc, direction, specs)?;
     let index = NameIndex::of(alloc, names.as_slice(), fronts.as_slice(), items)?;
     let survey = Survey::of(alloc, direction, specs, &index, items)?;
-    kept_with(alloc, direction, specs, &index, items, &survey)
+    kept_with(alloc, direction, specs, &index, items, survey)
 }
 
 // The mappings that are kept, by an index of the names that the specs ask for.
@@ -138,16 +134,17 @@ fn kept_with<'spec, 'item>(
     specs: &[RefSpecRef<'spec>],
     index: &NameIndex<'_>,
     items: &[Item<'item>],
-    survey: &Survey,
+    survey: Survey,
 ) -> Result<Made<'spec, 'item>, AllocError>
     requires index { IsIndexFor direction (map reading_of specs.now) (map ref_of items.now) index.now }
-    requires equal { FlagsEqual (map reading_of specs.now) survey.now.equal.items }
+    requires equal { FlagsEqual (map reading_of specs.now) survey.equal.items }
     requires fitted { ListEach direction
-        (map reading_of specs.now) (map ref_of items.now) survey.now.fitted.items }
+        (map reading_of specs.now) (map ref_of items.now) survey.fitted.items }
     ensures { IfOk result (λ made. AreKept
         direction (map reading_of specs.now) (map ref_of items.now) (made_in direction made)) }
 {
-    let mut made = mappings_of(alloc, direction, specs, index, items, survey)?;
+    let mut made = mappings_of(alloc, direction, specs, index, items, &survey)?;
+    drop(survey);
     match direction {
         Direction::Forward => keep(alloc, specs, &mut made.forward)?,
         Direction::Backward => keep(alloc, specs, &mut made.backward)?,
