@@ -1,5 +1,5 @@
 -- Keys of the upper bits of a hash and a place, and what their order says of repeats.
-use Rattle.std.proofs.Common.{◌≡◌, ◌≢◌, ◌⊎◌, inl, inr, ℕ, ◌+◌, ◌-◌, ◌*◌, ◌/◌, ◌%◌, ◌^◌, ◌<◌, ◌≤◌, List, [], ◌∷◌, ◌++◌, length, get_or, suc, sym, ap, ◌∙◌, subst, refl, bit_or, Result, Ok, Err, Bool, true, false, ◌↔◌, arith}
+use Rattle.std.proofs.Common.{◌≡◌, ◌≢◌, ◌⊎◌, inl, inr, ℕ, ◌+◌, ◌-◌, ◌*◌, ◌/◌, ◌%◌, ◌^◌, ◌<◌, ◌≤◌, List, [], ◌∷◌, ◌++◌, length, get_or, suc, sym, ap, ◌∙◌, subst, refl, bit_or, FoldHasher, Result, Ok, Err, Bool, true, false, ◌↔◌, arith}
 use Rattle.std.specs.List.{AllByRecursion, AllPairs}
 use Rattle.std.specs.List.Sorted.{IsPermutation, IsSorted}
 use Rattle.std.specs.Cmp.{IsStrictWeakOrder}
@@ -45,18 +45,18 @@ lower_rest a b bits same less =
     omega (arith, shr_split a bits, shr_split b bits, up, less)
 
 -- a key that was made of the hash of a mapping and its place
-pub key_fits : (ms : List Mapping) (bits key hash place : ℕ) (m : Mapping) → place < length ms → key / 2 ^ bits ≡ hash / 2 ^ bits → key % 2 ^ bits ≡ place → hash ≡ pair_hash (mapped_of m) → ((d : Mapping) → m ≡ get_or ms place d) → IsKey ms bits key
-key_fits ms bits key hash place m below bucket here is read = (
+pub key_fits : (seed : FoldHasher) (ms : List Mapping) (bits key hash place : ℕ) (m : Mapping) → place < length ms → key / 2 ^ bits ≡ hash / 2 ^ bits → key % 2 ^ bits ≡ place → hash ≡ pair_hash seed (mapped_of m) → ((d : Mapping) → m ≡ get_or ms place d) → IsKey seed ms bits key
+key_fits seed ms bits key hash place m below bucket here is read = (
   subst (λ (n : ℕ). n < length ms) (sym here) below,
-  λ d. bucket ∙ ap (λ (n : ℕ). n / 2 ^ bits) (is ∙ ap (λ (x : Mapping). pair_hash (mapped_of x)) (read d)) ∙ ap (λ (n : ℕ). pair_hash (mapped_of (get_or ms n d)) / 2 ^ bits) (sym here),
+  λ d. bucket ∙ ap (λ (n : ℕ). n / 2 ^ bits) (is ∙ ap (λ (x : Mapping). pair_hash seed (mapped_of x)) (read d)) ∙ ap (λ (n : ℕ). pair_hash seed (mapped_of (get_or ms n d)) / 2 ^ bits) (sym here),
 )
 
 -- one more key, at its place
-pub keys_more : (ms : List Mapping) (bits : ℕ) (keys new : List ℕ) (key place : ℕ) → new ≡ keys ++ key ∷ [] → key % 2 ^ bits ≡ place → IsKey ms bits key → AllByRecursion (IsKey ms bits) keys → length keys ≡ place → ((k : ℕ) → k < place → Has (places_of bits keys) k) → Rises (places_of bits keys) → AllByRecursion (λ n. n < place) (places_of bits keys) → AllByRecursion (IsKey ms bits) new × (length new ≡ place + 1) × ((k : ℕ) → k < place + 1 → Has (places_of bits new) k) × Rises (places_of bits new) × AllByRecursion (λ n. n < place + 1) (places_of bits new)
-keys_more ms bits keys new key place is here one each count every rises below =
+pub keys_more : (seed : FoldHasher) (ms : List Mapping) (bits : ℕ) (keys new : List ℕ) (key place : ℕ) → new ≡ keys ++ key ∷ [] → key % 2 ^ bits ≡ place → IsKey seed ms bits key → AllByRecursion (IsKey seed ms bits) keys → length keys ≡ place → ((k : ℕ) → k < place → Has (places_of bits keys) k) → Rises (places_of bits keys) → AllByRecursion (λ n. n < place) (places_of bits keys) → AllByRecursion (IsKey seed ms bits) new × (length new ≡ place + 1) × ((k : ℕ) → k < place + 1 → Has (places_of bits new) k) × Rises (places_of bits new) × AllByRecursion (λ n. n < place + 1) (places_of bits new)
+keys_more seed ms bits keys new key place is here one each count every rises below =
     let places : places_of bits new ≡ places_of bits keys ++ place ∷ [] = ap (places_of bits) is ∙ map-append (λ (x : ℕ). x % 2 ^ bits) keys (key ∷ []) ∙ ap (λ (n : ℕ). places_of bits keys ++ n ∷ []) here in
     let size : length new ≡ length keys + 1 = ap length is ∙ length-append keys (key ∷ []) in (
-      subst (λ (xs : List ℕ). AllByRecursion (IsKey ms bits) xs) (sym is) (all_join (IsKey ms bits) keys (key ∷ []) each (one, tt)),
+      subst (λ (xs : List ℕ). AllByRecursion (IsKey seed ms bits) xs) (sym is) (all_join (IsKey seed ms bits) keys (key ∷ []) each (one, tt)),
       omega (arith, size, count),
       λ k under. subst (λ (ns : List ℕ). Has ns k) (sym places) (elim (upto k place under) [
         | inl less ↦ Has-left (places_of bits keys) (place ∷ []) k (every k less)
@@ -73,9 +73,9 @@ keys_more ms bits keys new key place is here one each count every rises below =
     ]
 
 -- all keys, in another order
-pub keys_permuted : (ms : List Mapping) (bits : ℕ) (xs ys : List ℕ) → IsPermutation xs ys → AreKeysOf ms bits xs → AreKeysOf ms bits ys
-keys_permuted ms bits xs ys moved all = record {
-  each = all_permuted (IsKey ms bits) xs ys moved all.each;
+pub keys_permuted : (seed : FoldHasher) (ms : List Mapping) (bits : ℕ) (xs ys : List ℕ) → IsPermutation xs ys → AreKeysOf seed ms bits xs → AreKeysOf seed ms bits ys
+keys_permuted seed ms bits xs ys moved all = record {
+  each = all_permuted (IsKey seed ms bits) xs ys moved all.each;
   every = λ k below. Has-permuted (places_of bits xs) (places_of bits ys) k (IsPermutation-map (λ (x : ℕ). x % 2 ^ bits) xs ys moved) (all.every k below);
   count = length_permutation xs ys moved ∙ all.count;
 }
@@ -104,28 +104,28 @@ rises_from_sorted bits xs ys moved rises sorted = rises_from_pairs ys (λ i j d 
         (λ is less. less)
 
 -- where in the keys a place stands
-key_at : (ms : List Mapping) (bits : ℕ) (keys : List ℕ) (k : ℕ) → AreKeysOf ms bits keys → k < length ms → (at : ℕ) × (at < length keys) × (get_or keys at 0 % 2 ^ bits ≡ k)
-key_at ms bits keys k all below =
+key_at : (seed : FoldHasher) (ms : List Mapping) (bits : ℕ) (keys : List ℕ) (k : ℕ) → AreKeysOf seed ms bits keys → k < length ms → (at : ℕ) × (at < length keys) × (get_or keys at 0 % 2 ^ bits ≡ k)
+key_at seed ms bits keys k all below =
     let at = Contains-from_Has (places_of bits keys) k (all.every k below) in
     let inside : at.0 < length keys = let fits = at.1 in omega (arith, fits, length-map keys (λ (x : ℕ). x % 2 ^ bits)) in
     (at.0, inside, sym (get_or-map (λ (x : ℕ). x % 2 ^ bits) keys at.0 0 k inside) ∙ at.2)
 
 -- the upper bits of the key of a place are those of the hash there
-bucket_at : (ms : List Mapping) (bits : ℕ) (keys : List ℕ) (at k : ℕ) (d : Mapping) → AreKeysOf ms bits keys → at < length keys → get_or keys at 0 % 2 ^ bits ≡ k → get_or keys at 0 / 2 ^ bits ≡ pair_hash (mapped_of (get_or ms k d)) / 2 ^ bits
-bucket_at ms bits keys at k d all inside here = (All-from_recursion (IsKey ms bits) keys all.each at 0 inside).1 d ∙ ap (λ (n : ℕ). pair_hash (mapped_of (get_or ms n d)) / 2 ^ bits) here
+bucket_at : (seed : FoldHasher) (ms : List Mapping) (bits : ℕ) (keys : List ℕ) (at k : ℕ) (d : Mapping) → AreKeysOf seed ms bits keys → at < length keys → get_or keys at 0 % 2 ^ bits ≡ k → get_or keys at 0 / 2 ^ bits ≡ pair_hash seed (mapped_of (get_or ms k d)) / 2 ^ bits
+bucket_at seed ms bits keys at k d all inside here = (All-from_recursion (IsKey seed ms bits) keys all.each at 0 inside).1 d ∙ ap (λ (n : ℕ). pair_hash seed (mapped_of (get_or ms n d)) / 2 ^ bits) here
 
 -- the key of a repeat has the upper bits of the one before it
-pub second_from_repeat : (ms : List Mapping) (bits : ℕ) (keys : List ℕ) (k : ℕ) → AreKeysOf ms bits keys → Rises keys → k < length ms → IsRepeat ms k → (at : ℕ) × IsSecond bits keys at × (get_or keys at 0 % 2 ^ bits ≡ k)
-second_from_repeat ms bits keys k all rises below (j, before, pair) =
+pub second_from_repeat : (seed : FoldHasher) (ms : List Mapping) (bits : ℕ) (keys : List ℕ) (k : ℕ) → AreKeysOf seed ms bits keys → Rises keys → k < length ms → IsRepeat ms k → (at : ℕ) × IsSecond bits keys at × (get_or keys at 0 % 2 ^ bits ≡ k)
+second_from_repeat seed ms bits keys k all rises below (j, before, pair) =
     let d = some_mapping ms k below in
-    let b = key_at ms bits keys k all below in
-    let a = key_at ms bits keys j all (omega (arith, before, below)) in
+    let b = key_at seed ms bits keys k all below in
+    let a = key_at seed ms bits keys j all (omega (arith, before, below)) in
     let fits_a : a.0 < length keys = a.1 in
     let fits_b : b.0 < length keys = b.1 in
     let same : get_or keys a.0 0 / 2 ^ bits ≡ get_or keys b.0 0 / 2 ^ bits =
-    bucket_at ms bits keys a.0 j d all fits_a a.2
-    ∙ ap (λ (h : ℕ). h / 2 ^ bits) (pair_hash-same (mapped_of (get_or ms j d)) (mapped_of (get_or ms k d)) (pair d))
-    ∙ sym (bucket_at ms bits keys b.0 k d all fits_b b.2) in
+    bucket_at seed ms bits keys a.0 j d all fits_a a.2
+    ∙ ap (λ (h : ℕ). h / 2 ^ bits) (pair_hash-same seed (mapped_of (get_or ms j d)) (mapped_of (get_or ms k d)) (pair d))
+    ∙ sym (bucket_at seed ms bits keys b.0 k d all fits_b b.2) in
     let is_a : get_or keys a.0 0 % 2 ^ bits ≡ j = a.2 in
     let is_b : get_or keys b.0 0 % 2 ^ bits ≡ k = b.2 in
     let less : get_or keys a.0 0 < get_or keys b.0 0 = lower (get_or keys a.0 0) (get_or keys b.0 0) bits same (omega (arith, is_a, is_b, before)) in
@@ -189,15 +189,15 @@ given_same bits keys earlier at a b is_a is_b other before t under second = elim
 ]
 
 -- the repeats, of which each key has the upper bits of the one before it, have an earlier place
-pub finds_from_keys : (ms : List Mapping) (bits : ℕ) (keys earlier : List ℕ) → AreKeysOf ms bits keys → Rises keys → length earlier ≤ length keys → ((at : ℕ) → IsSecond bits keys at → PointsBack earlier (get_or keys at 0 % 2 ^ bits)) → FindsRepeats ms earlier
-finds_from_keys ms bits keys earlier all rises fits points = record {
+pub finds_from_keys : (seed : FoldHasher) (ms : List Mapping) (bits : ℕ) (keys earlier : List ℕ) → AreKeysOf seed ms bits keys → Rises keys → length earlier ≤ length keys → ((at : ℕ) → IsSecond bits keys at → PointsBack earlier (get_or keys at 0 % 2 ^ bits)) → FindsRepeats ms earlier
+finds_from_keys seed ms bits keys earlier all rises fits points = record {
   fits = let count = all.count in omega (arith, fits, count);
-  finds = λ k below repeat. let second = second_from_repeat ms bits keys k all rises below repeat in subst (λ (n : ℕ). PointsBack earlier n) second.2 (points second.0 second.1);
+  finds = λ k below repeat. let second = second_from_repeat seed ms bits keys k all rises below repeat in subst (λ (n : ℕ). PointsBack earlier n) second.2 (points second.0 second.1);
 }
 
 -- each place in a key is below the number of keys
-pub places_below : (ms : List Mapping) (bits : ℕ) (keys : List ℕ) → AreKeysOf ms bits keys → AllByRecursion (λ key. key % 2 ^ bits < length keys) keys
-places_below ms bits keys all = all_weaker (IsKey ms bits) (λ key. key % 2 ^ bits < length keys) (λ key is. let below = is.0 in let count = all.count in omega (arith, below, count)) keys all.each
+pub places_below : (seed : FoldHasher) (ms : List Mapping) (bits : ℕ) (keys : List ℕ) → AreKeysOf seed ms bits keys → AllByRecursion (λ key. key % 2 ^ bits < length keys) keys
+places_below seed ms bits keys all = all_weaker (IsKey seed ms bits) (λ key. key % 2 ^ bits < length keys) (λ key is. let below = is.0 in let count = all.count in omega (arith, below, count)) keys all.each
 
 -- a flag more
 pub flags_next : (ms : List Mapping) (earlier : List ℕ) (flags new : List Bool) (place v : ℕ) (flag : Bool) → new ≡ flags ++ flag ∷ [] → v ≡ get_or earlier place place → ((flag ≡ true) × (v < place) × IsSameAt ms v place) ⊎ ((flag ≡ false) × (place ≤ v)) → length flags ≡ place → ((k : ℕ) → k < place → IsFlagged flags k ↔ PointsBack earlier k) → ((k : ℕ) → k < place → PointsBack earlier k → IsSameAt ms (get_or earlier k k) k) → (length new ≡ place + 1) × ((k : ℕ) → k < place + 1 → IsFlagged new k ↔ PointsBack earlier k) × ((k : ℕ) → k < place + 1 → PointsBack earlier k → IsSameAt ms (get_or earlier k k) k)

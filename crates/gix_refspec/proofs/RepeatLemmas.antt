@@ -1,9 +1,8 @@
 -- Mappings with the same pair, by their places.
-use Rattle.std.proofs.Common.{◌≡◌, ◌≢◌, ◌⊎◌, inl, inr, ℕ, ◌+◌, ◌-◌, ◌<◌, List, [], ◌∷◌, ◌++◌, length, take, get_or, suc, zero, eqb, sym, subst, ◌∙◌, arith}
-use Rattle.std.specs.List.{AllByRecursion, Contains, IsDistinct, fold}
+use Rattle.std.proofs.Common.{◌≡◌, ◌≢◌, ◌⊎◌, inl, inr, ℕ, ◌+◌, ◌-◌, ◌<◌, List, [], ◌∷◌, ◌++◌, length, take, get_or, suc, zero, eqb, FoldHasher, sym, subst, ◌∙◌, arith}
+use Rattle.std.specs.List.{AllByRecursion, Contains, IsDistinct}
 use Rattle.std.specs.List.Sorted.{IsPermutation}
 use Rattle.std.specs.Hash as fed
-use Rattle.std.specs.Hash.FoldHasher as folding
 use Rattle.std.proofs.lemmas.List.{take_more}
 use Rattle.std.proofs.lemmas.List.Elements.{All-from_recursion, recursion_from_All}
 use Rattle.std.proofs.lemmas.List.Sorted.{Contains-permutation, All-permutation}
@@ -14,7 +13,7 @@ use Rattle.gix_refspec.specs.declared.match_group.types.Mapping.{Mapping}
 use Rattle.gix_refspec.specs.declared.match_group.util.kept.repeats.Pair.{Pair}
 use Rattle.gix_refspec.specs.Mappings.{Mapped, IsSamePair}
 use Rattle.gix_refspec.specs.Hashed.{source_writes}
-use Rattle.gix_refspec.specs.Private.Kept.{pair_hash, Has, Rises, IsSameAt}
+use Rattle.gix_refspec.specs.Private.Kept.{hash_after, pair_hash, Has, Rises, IsSameAt}
 
 -- some pair up to a place is for the mapping at k, which has the pair of the one before it
 abbrev pub FollowsSame : List Mapping → List Pair → ℕ → ℕ → Type 0
@@ -99,8 +98,8 @@ apart_places xs ys moved rises i j d before below same =
     false≢true (sym (apart_from_distinct eqb ys i j d still before below) ∙ eq-eqb (get_or ys i d) (get_or ys j d) same)
 
 -- the same pair has the same hash
-pub pair_hash-same : (a b : Mapped) → IsSamePair a b → pair_hash a ≡ pair_hash b
-pair_hash-same a b same = λ i. folding.finish (fold folding.write folding.initial (source_writes (same.source i) ++ fed.option (λ d. d ∷ []) (same.destination i)))
+pub pair_hash-same : (seed : FoldHasher) (a b : Mapped) → IsSamePair a b → pair_hash seed a ≡ pair_hash seed b
+pair_hash-same seed a b same = λ i. hash_after seed (source_writes (same.source i) ++ fed.option (λ d. d ∷ []) (same.destination i))
 
 -- some mapping of a list
 pub some_mapping : (ms : List Mapping) (k : ℕ) → k < length ms → Mapping

@@ -3,7 +3,9 @@ use Rattle.std.specs.Prelude.{◌≡◌, ◌≢◌, ◌⊎◌, ◌↔◌, ◌<�
 use Rattle.std.specs.List.{AllByRecursion, fold}
 use Rattle.std.specs.HashSet as bag
 use Rattle.std.specs.HashSet.{HashSet}
+use Rattle.std.specs.Hash.{HashWrites}
 use Rattle.std.specs.Hash.FoldHasher as folding
+use Rattle.std.specs.declared.hash.FoldHasher.{FoldHasher}
 use Rattle.gix_refspec.specs.declared.match_group.types.Mapping.{Mapping}
 use Rattle.gix_refspec.specs.declared.match_group.types.NameRef.{NameRef}
 use Rattle.gix_refspec.specs.declared.match_group.util.kept.exclusions.Exclusion.{Exclusion}
@@ -68,13 +70,17 @@ IsFlagged flags k = slice_index_or flags k false ≡ true
 abbrev pub FlagsRepeats : List Mapping → List Bool → Type 0
 FlagsRepeats ms flags = (k : ℕ) → k < length ms → IsFlagged flags k ↔ IsRepeat ms k
 
--- the hash of a mapping
-abbrev pub pair_hash : Mapped → ℕ
-pair_hash m = folding.finish (fold folding.write folding.initial (pair_writes m))
+-- the hash of some writes by a seed
+abbrev pub hash_after : FoldHasher → HashWrites → ℕ
+hash_after seed writes = folding.finish (fold folding.write seed writes)
+
+-- the hash of a mapping by a seed
+abbrev pub pair_hash : FoldHasher → Mapped → ℕ
+pair_hash seed m = hash_after seed (pair_writes m)
 
 -- the hash of a name
 abbrev pub name_hash : List ℕ → ℕ
-name_hash n = folding.finish (fold folding.write folding.initial (n ∷ []))
+name_hash n = hash_after folding.initial (n ∷ [])
 
 -- k is one of the numbers
 abbrev pub Has : List ℕ → ℕ → Type 0
@@ -91,12 +97,12 @@ abbrev pub places_of : ℕ → List ℕ → List ℕ
 places_of bits keys = map (λ key. key % 2 ^ bits) keys
 
 -- the key has a place among the mappings, and the upper bits of the hash of the mapping there
-abbrev pub IsKey : List Mapping → ℕ → ℕ → Type 0
-IsKey ms bits key = (key % 2 ^ bits < length ms) × ((d : Mapping) → key / 2 ^ bits ≡ pair_hash (mapped_of (slice_index_or ms (key % 2 ^ bits) d)) / 2 ^ bits)
+abbrev pub IsKey : FoldHasher → List Mapping → ℕ → ℕ → Type 0
+IsKey seed ms bits key = (key % 2 ^ bits < length ms) × ((d : Mapping) → key / 2 ^ bits ≡ pair_hash seed (mapped_of (slice_index_or ms (key % 2 ^ bits) d)) / 2 ^ bits)
 
 -- the keys of all the mappings
-pub record AreKeysOf (ms : List Mapping) (bits : ℕ) (keys : List ℕ) : Type 0 where
-  pub each : AllByRecursion (IsKey ms bits) keys
+pub record AreKeysOf (seed : FoldHasher) (ms : List Mapping) (bits : ℕ) (keys : List ℕ) : Type 0 where
+  pub each : AllByRecursion (IsKey seed ms bits) keys
   pub every : (k : ℕ) → k < length ms → Has (places_of bits keys) k
   pub count : length keys ≡ length ms
 

@@ -3,8 +3,9 @@
 //!
 //! Names that repeat are found by sorting, so that no names make it slow. Each item gets a key, of the
 //! upper bits of its name's hash and, behind them, its place. In a sorted list of keys items of one name
-//! follow one another. Only where different names have the same upper bits are the names themselves
-//! sorted. What is found is compared before it is left out: so a repeat may stay, but no name goes.
+//! follow one another. Where different names have the same upper bits, keys of another hash are tried. Only
+//! where that fails too are the names themselves sorted. What is found is compared before it is left out:
+//! so a repeat may stay, but no name goes.
 
 ghost use Rattle.std.specs.Prelude.{◌≡◌, ◌≢◌, ◌<◌, ◌≤◌, ◌^◌, ℕ, List, length, map, option_map, MatchBool, MatchOption, IfOk, IsTrue};
 ghost use Rattle.gix_refspec.specs.Spec.{reading_of};
@@ -14,13 +15,14 @@ ghost use Rattle.gix_refspec.specs.Private.SideViews.{shown_kind};
 ghost use Rattle.gix_refspec.specs.Private.Part.{FlagsRepeated, HasNoNearId, IsNoNearId, IsPart, IsRepeatedAt, place_among};
 
 use super::ends::{Direction, ends_of};
-use super::hashes::hash_of;
+use super::hashes::{hash_by, seeds};
 use super::kept::is_flagged;
 use super::kept::repeats::{bits_for, bucket_of, key_of, place_of, raise};
 use crate::match_group::types::Item;
 use crate::side::SideKind;
 use crate::spec::RefSpecRef;
 use std::alloc::{AllocError, Global};
+use std::hash::FoldHasher;
 
 // Of how many items the names are compared to guess whether more repeat.
 const SAMPLE: usize = 256;
@@ -148,21 +150,28 @@ fn repeated_names(alloc: Global, items: &[Item<'_>]) -> Result<Vec<bool>, AllocE
     ensures { IfOk result (λ flags. FlagsRepeated (map ref_of items.now) flags.items) }
 {
     let bits = bits_for(items.len());
-    let keys = keys_in_order(alloc, items, bits)?;
-    match flags_by_key(alloc, items, keys.as_slice(), bits)? {
-        Some(flags) => Ok(flags),
-        None => flags_by_name(alloc, items),
+    for seed in seeds() {
+        let keys = keys_in_order(alloc, items, bits, seed)?;
+        if let Some(flags) = flags_by_key(alloc, items, keys.as_slice(), bits)? {
+            return Ok(flags);
+        }
     }
+    flags_by_name(alloc, items)
 }
 
-// The keys of the names, in order.
-fn keys_in_order(alloc: Global, items: &[Item<'_>], bits: u32) -> Result<Vec<u64>, AllocError>
+// The keys of the names by a seed, in order.
+fn keys_in_order(
+    alloc: Global,
+    items: &[Item<'_>],
+    bits: u32,
+    seed: FoldHasher,
+) -> Result<Vec<u64>, AllocError>
     requires few { bits < 64 }
     requires fit { length items.now ≤ 2 ^ bits }
 {
     let mut keys = Vec::with_capacity(alloc, items.len())?;
     for (place, item) in items.iter().enumerate() {
-        keys.push(key_of(hash_of(item.full_ref_name.as_bytes()), place, bits))?;
+        keys.push(key_of(hash_by(seed, item.full_ref_name.as_bytes()), place, bits))?;
     }
     keys.sort_unstable();
     Ok(keys)

@@ -2,8 +2,9 @@
 //!
 //! They are found by sorting, so that no names make it slow. Each mapping gets a key, of the upper
 //! bits of its pair's hash and, behind them, its place. In a sorted list of keys mappings of the same
-//! pair follow one another, and each is compared with the one before it. Only where different pairs
-//! have the same upper bits are the pairs themselves sorted.
+//! pair follow one another, and each is compared with the one before it. Where different pairs have the
+//! same upper bits, keys of another hash are tried. Only where that fails too are the pairs themselves
+//! sorted.
 
 ghost use Rattle.std.specs.Prelude.{◌≡◌, ◌≢◌, ◌⊎◌, ◌↔◌, ◌<◌, ◌≤◌, ◌/◌, ◌%◌, ◌^◌, [], ℕ, length, slice_index_or, option_map, MatchOption, IfOk, OnOk, OnErr, IsTrue};
 ghost use Rattle.std.specs.List.{AllByRecursion};
@@ -13,6 +14,7 @@ ghost use Rattle.gix_refspec.specs.Mappings.{IsSamePair};
 ghost use Rattle.gix_refspec.specs.Private.Kept.{AreKeysOf, ArePairsOf, FindsRepeats, FlagsRepeats, IsFlagged, IsSecond, PointsBack, Rises, pair_hash, places_of};
 
 use crate::match_group::types::{Mapping, NameRef, SourceRef};
+use crate::match_group::util::hashes::seeds;
 use std::alloc::{AllocError, Global};
 use std::hash::{FoldHasher, Hash, Hasher};
 
@@ -74,20 +76,26 @@ pub(crate) fn repeats_of(
     if mappings.len() < 2 {
         return Ok(Vec::new(alloc));
     }
-    let earlier = earlier_of(alloc, mappings)?;
-    match flags_by_earlier(alloc, mappings, earlier.as_slice())? {
-        Some(flags) => Ok(flags),
-        None => flags_by_pair(alloc, mappings),
+    for seed in seeds() {
+        let earlier = earlier_of(alloc, mappings, seed)?;
+        if let Some(flags) = flags_by_earlier(alloc, mappings, earlier.as_slice())? {
+            return Ok(flags);
+        }
     }
+    flags_by_pair(alloc, mappings)
 }
 
 // For each repeat an earlier place, which may have the same pair. Another place may have one too, with
 // another pair.
-fn earlier_of(alloc: Global, mappings: &[Mapping<'_, '_>]) -> Result<Vec<usize>, AllocError>
+fn earlier_of(
+    alloc: Global,
+    mappings: &[Mapping<'_, '_>],
+    seed: FoldHasher,
+) -> Result<Vec<usize>, AllocError>
     ensures { IfOk result (λ earlier. FindsRepeats mappings.now earlier.items) }
 {
     let bits = bits_for(mappings.len());
-    let keys = keys_in_order(alloc, mappings, bits)?;
+    let keys = keys_in_order(alloc, mappings, bits, seed)?;
     earlier_by_key(alloc, keys.as_slice(), bits)
 }
 
@@ -100,41 +108,47 @@ pub(crate) fn bits_for(len: usize) -> u32
     usize::BITS - len.leading_zeros()
 }
 
-// The keys of all mappings, in order.
+// The keys of all mappings by a seed, in order.
 fn keys_in_order(
     alloc: Global,
     mappings: &[Mapping<'_, '_>],
     bits: u32,
+    seed: FoldHasher,
 ) -> Result<Vec<u64>, AllocError>
     requires few { bits < 64 }
     requires fit { length mappings.now ≤ 2 ^ bits }
-    ensures all { IfOk result (λ keys. AreKeysOf mappings.now bits keys.items) }
+    ensures all { IfOk result (λ keys. AreKeysOf seed mappings.now bits keys.items) }
     ensures rises { IfOk result (λ keys. Rises keys.items) }
 {
-    let mut keys = keys_of(alloc, mappings, bits)?;
+    let mut keys = keys_of(alloc, mappings, bits, seed)?;
     keys.sort_unstable();
     Ok(keys)
 }
 
-// The keys of all mappings, by their places.
-fn keys_of(alloc: Global, mappings: &[Mapping<'_, '_>], bits: u32) -> Result<Vec<u64>, AllocError>
+// The keys of all mappings by a seed, in the order of their places.
+fn keys_of(
+    alloc: Global,
+    mappings: &[Mapping<'_, '_>],
+    bits: u32,
+    seed: FoldHasher,
+) -> Result<Vec<u64>, AllocError>
     requires few { bits < 64 }
     requires fit { length mappings.now ≤ 2 ^ bits }
-    ensures all { IfOk result (λ keys. AreKeysOf mappings.now bits keys.items) }
+    ensures all { IfOk result (λ keys. AreKeysOf seed mappings.now bits keys.items) }
     ensures rises { IfOk result (λ keys. Rises (places_of bits keys.items)) }
 {
     let mut keys = Vec::with_capacity(alloc, mappings.len())?;
     for (place, mapping) in mappings.iter().enumerate() {
-        keys.push(key_of(hash_of(mapping), place, bits))?;
+        keys.push(key_of(hash_of(mapping, seed), place, bits))?;
     }
     Ok(keys)
 }
 
-// The hash of a pair.
-fn hash_of(mapping: &Mapping<'_, '_>) -> u64
-    ensures { result ≡ pair_hash (mapped_of mapping.now) }
+// The hash of a pair by a seed.
+fn hash_of(mapping: &Mapping<'_, '_>, seed: FoldHasher) -> u64
+    ensures { result ≡ pair_hash seed (mapped_of mapping.now) }
 {
-    let mut state = FoldHasher::default();
+    let mut state = seed;
     mapping.hash(&mut state);
     state.finish()
 }

@@ -6,7 +6,7 @@ use Rattle.gix_refspec.proofs.match_group.util.kept.repeats.keys_of.Given as goa
 
 abbrev pub invariant-loop-place : goal.invariant-loop-place
 invariant-loop-place l =
-    AllByRecursion (IsKey l.mappings l.bits) l.keys.items
+    AllByRecursion (IsKey l.seed l.mappings l.bits) l.keys.items
     × (length l.keys.items ≡ l.place)
     × ((k : ℕ) → k < l.place → Has (places_of l.bits l.keys.items) k)
     × Rises (places_of l.bits l.keys.items)
