@@ -1,30 +1,29 @@
 -- Where names stand among refs.
-use Rattle.std.proofs.Common.{◌≡◌, ◌≢◌, ◌⊎◌, inl, inr, ℕ, ◌+◌, ◌<◌, List, [], ◌∷◌, ◌++◌, Option, None, Some, Bool, true, false, cond, length, map, take, get_or, option_map, unwrap_or, refl, sym, ap, ◌∙◌, subst, arith}
+use Rattle.std.proofs.Common.{◌≡◌, ◌≢◌, ◌⊎◌, inl, inr, ℕ, ◌+◌, ◌<◌, List, [], ◌∷◌, ◌++◌, Option, None, Some, Bool, true, false, cond, length, map, take, get_or, refl, sym, ap, ◌∙◌, subst, arith}
 use Rattle.std.specs.Global.{Vec}
 use Rattle.std.specs.List.{Contains}
 use Rattle.std.specs.Str.{bytes_eq}
 use Rattle.std.proofs.lemmas.Bool.{false≢true}
 use Rattle.std.proofs.lemmas.List.{append-nil}
-use Rattle.std.proofs.lemmas.List.Elements.{Contains-append_left, Contains-append_right, Contains-push, Contains-push_cases}
+use Rattle.std.proofs.lemmas.List.Elements.{Contains-append_left, Contains-push, Contains-push_cases}
 use Rattle.std.proofs.lemmas.Slice.Eq.{bytes_eq-Decides}
 use Rattle.bstr.specs.BStr.{bstr_bytes}
 use Rattle.gix_refspec.specs.declared.match_group.types.Item.{Item}
 use Rattle.gix_refspec.specs.declared.match_group.util.ends.Direction.{Direction}
 use Rattle.gix_refspec.specs.declared.match_group.util.ends.Ends.{Ends as DeclaredEnds}
-use Rattle.gix_refspec.specs.declared.match_group.util.index.NameIndex.{NameIndex}
+use Rattle.gix_refspec.specs.declared.match_group.util.index.Names.{Names}
 use Rattle.gix_refspec.specs.declared.spec.RefSpecRef.{RefSpecRef}
 use Rattle.gix_refspec.specs.Reading.{Reading}
 use Rattle.gix_refspec.specs.Spec.{reading_of}
-use Rattle.gix_refspec.specs.Group.{ref_of}
+use Rattle.gix_refspec.specs.Group.{name_bytes, ref_of}
 use Rattle.gix_refspec.specs.Match.{Ref, MatchesAs}
 use Rattle.gix_refspec.specs.Side.{SideKind, pattern, full_name, object, partial, HasKind}
 use Rattle.gix_refspec.specs.Hits.{Ends}
 use Rattle.gix_refspec.specs.Private.SideViews.{shown_kind}
 use Rattle.gix_refspec.specs.Private.HitViews.{HasEnds, HaveKinds}
-use Rattle.gix_refspec.specs.Private.Index.{AllAsked, ArePlacesOf, AsksForName, HavePlaces, IsFrontIndexOf, IsIndexOf, list_of, names_asked_by}
+use Rattle.gix_refspec.specs.Private.Index.{AllNear, ArePlacesOf, HavePlaces, IsNamed, full_names_of, partial_names_of}
 use Rattle.gix_refspec.proofs.HitLemmas.{one_kind, one_pair}
 use Rattle.gix_refspec.proofs.JoinLemmas.{made_next, map_long, map_more}
-use Rattle.gix_refspec.proofs.PlacesLemmas.{within_candidates}
 use Rattle.gix_refspec.proofs.RepeatLemmas.{all_join, all_weaker}
 
 -- the names up to a place, with the one there
@@ -110,17 +109,6 @@ item_listed ns items i d n v w old new below is was more puts have =
     subst (λ (l : List Ref). HavePlaces ns l new) (sym (map_more ref_of items i d below))
     (one_listed ns i (map ref_of (take i items)) (ref_of (get_or items i d)) v w old new (map_long ref_of items i below) (ap old (sym is) ∙ was) more (subst (λ (m : List ℕ). Puts m w old new) is puts) have)
 
--- what is listed is what the index has
-pub index_made : (ns : List (List ℕ)) (refs : List Ref) (index : NameIndex) → HavePlaces ns refs (list_of index.places) → IsFrontIndexOf refs index.fronts → IsIndexOf ns refs index
-index_made ns refs index have fronts = record {
-  each = λ n there. let at = have.each n there in subst (λ (l : List ℕ). ArePlacesOf n refs l) (sym (ap items at.1)) at.2;
-  others = λ n none. ap items (have.others n none);
-  fronts = fronts;
-}
-  where
-    items : Option (Vec ℕ) → List ℕ
-    items listed = unwrap_or (option_map (λ v. v.items) listed) []
-
 -- where no name is asked for, there is nothing to find
 pub nothing_asked : (ns : List (List ℕ)) (refs : List Ref) (listed : List ℕ → Option (Vec ℕ)) → ns ≡ [] → HavePlaces ns [] listed → HavePlaces ns refs listed
 nothing_asked ns refs listed none have = record {
@@ -128,34 +116,44 @@ nothing_asked ns refs listed none have = record {
   others = have.others;
 }
 
--- P holds of each name that a reading asks for in the direction
-abbrev IsAsked : (List ℕ → Type 0) → Direction → Reading → Type 0
-IsAsked P direction r = (ends : Ends) (kind : SideKind) (n : List ℕ) → HasEnds direction r ends → HasKind ends.near kind → AsksForName kind n → P n
+-- P holds of the kind of each near end of a reading in the direction
+abbrev IsNear : (SideKind → Type 0) → Direction → Reading → Type 0
+IsNear P direction r = (ends : Ends) (kind : SideKind) → HasEnds direction r ends → HasKind ends.near kind → P kind
 
--- what a side of the kind asks for
-asked_there : (k : SideKind) (n : List ℕ) → AsksForName k n → Contains (names_asked_by k) n
-asked_there (pattern before after) n asks = absurd asks
-asked_there (full_name x) n asks = (0, omega arith, sym asks)
-asked_there (object id) n asks = absurd asks
-asked_there (partial x) n asks = within_candidates x n asks
-
-specs_more : (P : List ℕ → Type 0) (direction : Direction) (specs : List RefSpecRef) (i : ℕ) (s : RefSpecRef) → i < length specs → s ≡ get_or specs i s → AllAsked P direction (map reading_of (take i specs)) → IsAsked P direction (reading_of s) → AllAsked P direction (map reading_of (take (i + 1) specs))
+specs_more : (P : SideKind → Type 0) (direction : Direction) (specs : List RefSpecRef) (i : ℕ) (s : RefSpecRef) → i < length specs → s ≡ get_or specs i s → AllNear P direction (map reading_of (take i specs)) → IsNear P direction (reading_of s) → AllNear P direction (map reading_of (take (i + 1) specs))
 specs_more P direction specs i s below is all one =
-    subst (λ (l : List Reading). AllAsked P direction l) (sym (map_more reading_of specs i s below ∙ ap (λ (t : RefSpecRef). map reading_of (take i specs) ++ reading_of t ∷ []) (sym is)))
-    (all_join (IsAsked P direction) (map reading_of (take i specs)) (reading_of s ∷ []) all (one, tt))
+    subst (λ (l : List Reading). AllNear P direction l) (sym (map_more reading_of specs i s below ∙ ap (λ (t : RefSpecRef). map reading_of (take i specs) ++ reading_of t ∷ []) (sym is)))
+    (all_join (IsNear P direction) (map reading_of (take i specs)) (reading_of s ∷ []) all (one, tt))
 
--- one more spec, and the names that it asks for
-pub spec_asks : (direction : Direction) (specs : List RefSpecRef) (i : ℕ) (s : RefSpecRef) (kinds : DeclaredEnds) (old new : List (List ℕ)) → i < length specs → s ≡ get_or specs i s → (ends : Ends) × HasEnds direction (reading_of s) ends × HaveKinds ends kinds → new ≡ old ++ names_asked_by (shown_kind kinds.near) → AllAsked (Contains old) direction (map reading_of (take i specs)) → AllAsked (Contains new) direction (map reading_of (take (i + 1) specs))
-spec_asks direction specs i s kinds old new below is found more all =
+-- behind the old names stand those that a side of the kind asks for
+pub record AddsNames (kind : SideKind) (old new : Names) : Type 0 where
+  pub full : map name_bytes new.full.items ≡ map name_bytes old.full.items ++ full_names_of kind
+  pub partial : map name_bytes new.partial.items ≡ map name_bytes old.partial.items ++ partial_names_of kind
+
+-- what was named still is
+still_named : (added : SideKind) (old new : Names) → AddsNames added old new → (kind : SideKind) → IsNamed old kind → IsNamed new kind
+still_named added old new adds (pattern before after) named = tt
+still_named added old new adds (full_name x) named = subst (λ (l : List (List ℕ)). Contains l x) (sym adds.full) (Contains-append_left (map name_bytes old.full.items) (full_names_of added) x named)
+still_named added old new adds (object id) named = tt
+still_named added old new adds (partial x) named = subst (λ (l : List (List ℕ)). Contains l x) (sym adds.partial) (Contains-append_left (map name_bytes old.partial.items) (partial_names_of added) x named)
+
+now_named : (kind : SideKind) (old new : Names) → AddsNames kind old new → IsNamed new kind
+now_named (pattern before after) old new adds = tt
+now_named (full_name x) old new adds = subst (λ (l : List (List ℕ)). Contains l x) (sym adds.full) (Contains-push (map name_bytes old.full.items) x)
+now_named (object id) old new adds = tt
+now_named (partial x) old new adds = subst (λ (l : List (List ℕ)). Contains l x) (sym adds.partial) (Contains-push (map name_bytes old.partial.items) x)
+
+-- one more spec, and the name that it asks for
+pub spec_asks : (direction : Direction) (specs : List RefSpecRef) (i : ℕ) (s : RefSpecRef) (kinds : DeclaredEnds) (old new : Names) → i < length specs → s ≡ get_or specs i s → (ends : Ends) × HasEnds direction (reading_of s) ends × HaveKinds ends kinds → AddsNames (shown_kind kinds.near) old new → AllNear (IsNamed old) direction (map reading_of (take i specs)) → AllNear (IsNamed new) direction (map reading_of (take (i + 1) specs))
+spec_asks direction specs i s kinds old new below is found adds all =
     let k = shown_kind kinds.near in
-    subst (λ (l : List (List ℕ)). AllAsked (Contains l) direction (map reading_of (take (i + 1) specs))) (sym more)
-    (specs_more (Contains (old ++ names_asked_by k)) direction specs i s below is
-    (all_weaker (IsAsked (Contains old) direction) (IsAsked (Contains (old ++ names_asked_by k)) direction) (λ r each ends kind n has of asks. Contains-append_left old (names_asked_by k) n (each ends kind n has of asks)) (map reading_of (take i specs)) all)
-    (λ ends kind n has of asks.
+    specs_more (IsNamed new) direction specs i s below is
+    (all_weaker (IsNear (IsNamed old) direction) (IsNear (IsNamed new) direction) (λ r each ends kind has of. still_named k old new adds kind (each ends kind has of)) (map reading_of (take i specs)) all)
+    (λ ends kind has of.
     let same : ends ≡ found.0 = one_pair direction (reading_of s) ends found.0 has found.1 in
     let kinds_same : kind ≡ k = one_kind found.0.near kind k (subst (λ (e : Ends). HasKind e.near kind) same of) found.2.near in
-    Contains-append_right old (names_asked_by k) n (asked_there k n (subst (λ (l : SideKind). AsksForName l n) kinds_same asks))))
+    subst (IsNamed new) (sym kinds_same) (now_named k old new adds))
 
 -- one more spec, which asks for nothing
-pub spec_asks_nothing : (direction : Direction) (specs : List RefSpecRef) (i : ℕ) (s : RefSpecRef) (names : List (List ℕ)) → i < length specs → s ≡ get_or specs i s → ((ends : Ends) → ¬ (HasEnds direction (reading_of s) ends)) → AllAsked (Contains names) direction (map reading_of (take i specs)) → AllAsked (Contains names) direction (map reading_of (take (i + 1) specs))
-spec_asks_nothing direction specs i s names below is none all = specs_more (Contains names) direction specs i s below is all (λ ends kind n has of asks. absurd (none ends has))
+pub spec_asks_nothing : (direction : Direction) (specs : List RefSpecRef) (i : ℕ) (s : RefSpecRef) (names : Names) → i < length specs → s ≡ get_or specs i s → ((ends : Ends) → ¬ (HasEnds direction (reading_of s) ends)) → AllNear (IsNamed names) direction (map reading_of (take i specs)) → AllNear (IsNamed names) direction (map reading_of (take (i + 1) specs))
+spec_asks_nothing direction specs i s names below is none all = specs_more (IsNamed names) direction specs i s below is all (λ ends kind has of. absurd (none ends has))

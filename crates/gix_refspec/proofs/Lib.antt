@@ -75,6 +75,7 @@ pub mod PlacedLemmas
 pub mod NoHitLemmas
 pub mod PlacesLemmas
 pub mod FirstPlacesLemmas
+pub mod PartialLemmas
 pub mod IndexLemmas
 pub mod FrontLemmas
 pub mod FittedLemmas

@@ -1,6 +1,7 @@
 -- Hits at places that were looked up.
-use Rattle.std.proofs.Common.{◌≡◌, ℕ, zero, suc, ◌+◌, ◌<◌, List, [], ◌∷◌, ◌++◌, map, take, get_or, length, Option, None, Some, option_map, option_to_list, refl, sym, ap, ◌∙◌, subst, append_assoc, arith}
-use Rattle.std.specs.List.{AllByRecursion, Contains}
+use Rattle.std.proofs.Common.{◌≡◌, ℕ, zero, suc, ◌+◌, ◌<◌, List, [], ◌∷◌, ◌++◌, map, take, get_or, length, Option, None, Some, option_map, option_to_list, unwrap_or, refl, sym, ap, ◌∙◌, subst, append_assoc, arith}
+use Rattle.std.specs.Global.{Vec}
+use Rattle.std.specs.List.{AllByRecursion}
 use Rattle.std.proofs.lemmas.List.{get_or-map, length-map, map-append, take_more}
 use Rattle.std.proofs.lemmas.List.Elements.{All-from_recursion}
 use Rattle.bstr.specs.BStr.{bstr_bytes}
@@ -11,6 +12,7 @@ use Rattle.gix_refspec.specs.declared.match_group.util.ends.Direction.TheVariant
 use Rattle.gix_refspec.specs.declared.match_group.util.ends.Ends.{Ends as DeclaredEnds}
 use Rattle.gix_refspec.specs.declared.match_group.util.hits.Made.{Made}
 use Rattle.gix_refspec.specs.declared.match_group.util.index.NameIndex.{NameIndex}
+use Rattle.gix_refspec.specs.declared.match_group.util.index.Names.{Names}
 use Rattle.gix_refspec.specs.declared.spec.RefSpecRef.{RefSpecRef}
 use Rattle.gix_refspec.specs.Reading.{Reading}
 use Rattle.gix_refspec.specs.Spec.{reading_of}
@@ -21,7 +23,7 @@ use Rattle.gix_refspec.specs.Group.{name_bytes, ref_of}
 use Rattle.gix_refspec.specs.Hits.{Ends, Hit, IsHit}
 use Rattle.gix_refspec.specs.Private.SideViews.{shown_kind}
 use Rattle.gix_refspec.specs.Private.HitViews.{HasEnds, HaveKinds, TakesIn, IsFirstIn, filled_end, AreHitsOfKinds, mapping_of, made_in, AddsHits}
-use Rattle.gix_refspec.specs.Private.Index.{AllAsked, ArePlacesOf, ArePlacesTaken, AsksForName, IsIndexFor, IsIndexOf, IsIndexOfSide, MatchesWhole, TakesWhole, places_in}
+use Rattle.gix_refspec.specs.Private.Index.{AllNear, ArePlacesTaken, IsIndexFor, IsIndexOf, IsIndexOfSide, IsListed, IsNamed, MatchesWhole, TakesWhole}
 use Rattle.gix_refspec.proofs.CandidateLemmas.{first_candidate}
 use Rattle.gix_refspec.proofs.HitLemmas.{is_hit, matches_as, taken_first, taken_matches}
 use Rattle.gix_refspec.proofs.RepeatLemmas.{all_weaker}
@@ -156,23 +158,31 @@ places_added direction k kinds items places old new whole taken adds = record {
 }
 
 -- the index serves each spec of the group
-pub side_served : (direction : Direction) (specs : List RefSpecRef) (refs : List Ref) (index : NameIndex) (i : ℕ) (s : RefSpecRef) (kinds : DeclaredEnds) → i < length specs → s ≡ get_or specs i s → IsIndexFor direction (map reading_of specs) refs index → (ends : Ends) × HasEnds direction (reading_of s) ends × HaveKinds ends kinds → IsIndexOfSide (shown_kind kinds.near) refs index
-side_served direction specs refs index i s kinds below is serves found = record {
-  names = λ n asks.
-      let here : (ends : Ends) (kind : SideKind) (m : List ℕ) → HasEnds direction (reading_of s) ends → HasKind ends.near kind → AsksForName kind m → ArePlacesOf m refs (places_in index m) =
-      subst (λ (r : Reading). (ends : Ends) (kind : SideKind) (m : List ℕ) → HasEnds direction r ends → HasKind ends.near kind → AsksForName kind m → ArePlacesOf m refs (places_in index m))
-      (get_or-map reading_of specs i s (reading_of s) below ∙ ap reading_of (sym is))
-      (All-from_recursion (λ r. (ends : Ends) (kind : SideKind) (m : List ℕ) → HasEnds direction r ends → HasKind ends.near kind → AsksForName kind m → ArePlacesOf m refs (places_in index m)) (map reading_of specs) serves.names i (reading_of s) (omega (arith, length-map specs reading_of))) in
-      here found.0 (shown_kind kinds.near) n found.1 found.2.near asks;
-  fronts = serves.fronts;
-}
+pub side_served : (direction : Direction) (specs : List RefSpecRef) (refs : List Ref) (index : NameIndex) (i : ℕ) (s : RefSpecRef) (kinds : DeclaredEnds) → i < length specs → s ≡ get_or specs i s → IsIndexFor direction (map reading_of specs) refs index → (ends : Ends) × HasEnds direction (reading_of s) ends × HaveKinds ends kinds → IsIndexOfSide direction (shown_kind kinds.near) refs index
+side_served direction specs refs index i s kinds below is serves found =
+    let each : Reading → Type 0 = λ r. (ends : Ends) (kind : SideKind) → HasEnds direction r ends → HasKind ends.near kind → IsListed direction refs index kind in
+    let here : each (reading_of s) =
+    subst each (get_or-map reading_of specs i s (reading_of s) below ∙ ap reading_of (sym is))
+    (All-from_recursion each (map reading_of specs) serves.names i (reading_of s) (omega (arith, length-map specs reading_of))) in
+    record { names = here found.0 (shown_kind kinds.near) found.1 found.2.near; fronts = serves.fronts }
 
--- the names that are asked for are in the index
-pub index_serves : (direction : Direction) (g : List Reading) (refs : List Ref) (names : List (List ℕ)) (index : NameIndex) → AllAsked (Contains names) direction g → IsIndexOf names refs index → IsIndexFor direction g refs index
+-- what is named is listed
+named_listed : (direction : Direction) (refs : List Ref) (names : Names) (index : NameIndex) → IsIndexOf direction names refs index → (kind : SideKind) → IsNamed names kind → IsListed direction refs index kind
+named_listed direction refs names index of_names (pattern before after) named = tt
+named_listed direction refs names index of_names (full_name x) named =
+    let at = of_names.full.each x named in
+    subst (ArePlacesTaken (full_name x) direction refs) (sym (ap (λ (o : Option (Vec ℕ)). unwrap_or (option_map (λ v. v.items) o) []) at.1)) at.2
+named_listed direction refs names index of_names (object id) named = tt
+named_listed direction refs names index of_names (partial x) named =
+    let at = of_names.partial x named in
+    subst (ArePlacesTaken (partial x) direction refs) (sym (ap (λ (o : Option (Vec ℕ)). unwrap_or (option_map (λ v. v.items) o) []) at.1)) at.2
+
+-- what the specs ask for by name is in the index
+pub index_serves : (direction : Direction) (g : List Reading) (refs : List Ref) (names : Names) (index : NameIndex) → AllNear (IsNamed names) direction g → IsIndexOf direction names refs index → IsIndexFor direction g refs index
 index_serves direction g refs names index asked of_names = record {
   names = all_weaker
-      (λ r. (ends : Ends) (kind : SideKind) (n : List ℕ) → HasEnds direction r ends → HasKind ends.near kind → AsksForName kind n → Contains names n)
-      (λ r. (ends : Ends) (kind : SideKind) (n : List ℕ) → HasEnds direction r ends → HasKind ends.near kind → AsksForName kind n → ArePlacesOf n refs (places_in index n))
-      (λ r told ends kind n has of asks. of_names.each n (told ends kind n has of asks)) g asked;
+      (λ r. (ends : Ends) (kind : SideKind) → HasEnds direction r ends → HasKind ends.near kind → IsNamed names kind)
+      (λ r. (ends : Ends) (kind : SideKind) → HasEnds direction r ends → HasKind ends.near kind → IsListed direction refs index kind)
+      (λ r told ends kind has of. named_listed direction refs names index of_names kind (told ends kind has of)) g asked;
   fronts = of_names.fronts;
 }

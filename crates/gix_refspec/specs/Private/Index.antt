@@ -1,36 +1,49 @@
 -- How full names, partial ones and patterns are looked up. Only private functions cite these words.
-use Rattle.std.specs.Prelude.{◌≡◌, ◌⊎◌, ◌<◌, ℕ, List, [], ◌∷◌, ◌++◌, Bool, Option, None, Some, length, unwrap_or, option_map, slice_index_or, bytes_eq}
+use Rattle.std.specs.Prelude.{◌≡◌, ◌⊎◌, ◌<◌, ℕ, List, [], ◌∷◌, ◌++◌, Bool, Option, None, Some, length, map, unwrap_or, option_map, slice_index_or, bytes_eq}
 use Rattle.std.specs.Borrow.{Bor}
-use Rattle.std.specs.List.{AllByRecursion, Contains}
+use Rattle.std.specs.List.{AllByRecursion, Contains, slice_get}
 use Rattle.std.specs.HashMap as hash
 use Rattle.std.specs.HashMap.{HashMap}
 use Rattle.std.specs.Global.{Vec}
 use Rattle.gix_refspec.specs.declared.match_group.util.ends.Direction.{Direction}
 use Rattle.gix_refspec.specs.declared.match_group.util.ends.Direction.TheVariants.{Forward, Backward}
 use Rattle.gix_refspec.specs.declared.match_group.util.index.NameIndex.{NameIndex}
+use Rattle.gix_refspec.specs.declared.match_group.util.index.Names.{Names}
 use Rattle.gix_refspec.specs.declared.match_group.util.index.fronts.FrontIndex.{FrontIndex}
 use Rattle.gix_refspec.specs.Text.{Begins}
 use Rattle.gix_refspec.specs.Reading.{Reading}
-use Rattle.gix_refspec.specs.Side.{SideKind, pattern, full_name, object, partial, HasKind, IsCandidate, candidates}
+use Rattle.gix_refspec.specs.Side.{SideKind, pattern, full_name, object, partial, HasKind}
 use Rattle.gix_refspec.specs.Match.{Ref, MatchesAs, IsFirstCandidate}
 use Rattle.gix_refspec.specs.Lists.{IsMadeFrom}
 use Rattle.gix_refspec.specs.Hits.{Ends}
+use Rattle.gix_refspec.specs.Group.{name_bytes}
 use Rattle.gix_refspec.specs.Private.HitViews.{HasEnds, FitsRef}
 use Rattle.gix_refspec.specs.Private.Kept.{IsFlagged}
 
--- a side of the kind asks for the name: a full name for itself, and a partial one for its candidates
-abbrev pub AsksForName : SideKind → List ℕ → Type 0
-AsksForName (pattern before after) n = ⊥
-AsksForName (full_name x) n = n ≡ x
-AsksForName (object id) n = ⊥
-AsksForName (partial x) n = IsCandidate x n
+-- the full names that a side of the kind asks for
+abbrev pub full_names_of : SideKind → List (List ℕ)
+full_names_of (pattern before after) = []
+full_names_of (full_name x) = x ∷ []
+full_names_of (object id) = []
+full_names_of (partial x) = []
 
--- the names that a side of the kind asks for, in order
-abbrev pub names_asked_by : SideKind → List (List ℕ)
-names_asked_by (pattern before after) = []
-names_asked_by (full_name x) = x ∷ []
-names_asked_by (object id) = []
-names_asked_by (partial x) = candidates x
+-- the partial names that it asks for
+abbrev pub partial_names_of : SideKind → List (List ℕ)
+partial_names_of (pattern before after) = []
+partial_names_of (full_name x) = []
+partial_names_of (object id) = []
+partial_names_of (partial x) = x ∷ []
+
+-- what a side of the kind asks for by name is among the names
+abbrev pub IsNamed : Names → SideKind → Type 0
+IsNamed names (pattern before after) = Unit {0}
+IsNamed names (full_name x) = Contains (map name_bytes names.full.items) x
+IsNamed names (object id) = Unit {0}
+IsNamed names (partial x) = Contains (map name_bytes names.partial.items) x
+
+-- P holds of the kind of each near end of the specs in the direction
+abbrev pub AllNear : (SideKind → Type 0) → Direction → List Reading → Type 0
+AllNear P direction g = AllByRecursion (λ r. (ends : Ends) (kind : SideKind) → HasEnds direction r ends → HasKind ends.near kind → P kind) g
 
 -- in the direction, a side of the kind takes the ref without a word, among the items
 abbrev pub TakesWhole : SideKind → Direction → List Ref → Ref → Type 0
@@ -113,15 +126,51 @@ ListEach direction g refs listed = (k : ℕ) (d : Reading) → k < length g → 
 abbrev pub HasListed : List (Option (Vec ℕ)) → ℕ → List ℕ → Type 0
 HasListed listed k places = (v : Vec ℕ) × (slice_index_or listed k None ≡ Some v) × (places ≡ v.items)
 
--- the places that the index has for a name
-abbrev pub places_in : NameIndex → List ℕ → List ℕ
-places_in index n = unwrap_or (option_map (λ v. v.items) (list_of index.places n)) []
+-- what is listed for a name, and nothing where it isn't listed
+abbrev pub places_listed : (List ℕ → Option (Vec ℕ)) → List ℕ → List ℕ
+places_listed listed n = unwrap_or (option_map (λ v. v.items) (listed n)) []
 
--- the index has the places of these names, and of no other, and those of fronts
-pub record IsIndexOf (names : List (List ℕ)) (refs : List Ref) (index : NameIndex) : Type 0 where
-  pub each : (n : List ℕ) → Contains names n → ArePlacesOf n refs (places_in index n)
-  pub others : (n : List ℕ) → ¬ (Contains names n) → places_in index n ≡ []
+-- the name of the ref at a place
+abbrev pub name_at : List Ref → ℕ → List ℕ
+name_at refs place = unwrap_or (option_map (λ r. r.name) (slice_get refs place)) []
+
+-- the new places are those of the first candidate of a partial name, where the old ones were, and one more
+-- candidate stands at the place: of two candidates the shorter comes first
+abbrev pub JoinsFirst : List Ref → ℕ → List ℕ → List ℕ → Type 0
+JoinsFirst refs place [] new = new ≡ place ∷ []
+JoinsFirst refs place (first ∷ others) new =
+    (length (name_at refs first) < length (name_at refs place) × (new ≡ first ∷ others))
+    ⊎ (length (name_at refs place) < length (name_at refs first) × (new ≡ place ∷ []))
+    ⊎ ((length (name_at refs place) ≡ length (name_at refs first)) × (new ≡ (first ∷ others) ++ place ∷ []))
+
+-- the new places are those that a partial name takes in the direction, where the old ones were, and one more
+-- candidate stands at the place
+abbrev pub Joins : Direction → List Ref → ℕ → List ℕ → List ℕ → Type 0
+Joins Forward refs place old new = JoinsFirst refs place old new
+Joins Backward refs place old new = new ≡ old ++ place ∷ []
+
+-- what is listed for each name of which P holds changes as R says, and for no other. That is known of names
+-- that are as Known says
+abbrev pub AddsWhere : (List ℕ → Type 0) → (List ℕ → Type 0) → (List ℕ → List ℕ → Type 0) → (List ℕ → Option (Vec ℕ)) → (List ℕ → Option (Vec ℕ)) → Type 0
+AddsWhere Known P R old new = (x : List ℕ) (w : Vec ℕ) → Known x → old x ≡ Some w → (v : Vec ℕ) × (new x ≡ Some v)
+    × ((P x × R w.items v.items) ⊎ (¬ (P x) × (v.items ≡ w.items)))
+
+-- each of the partial names is listed, with the places of the refs that it takes in the direction
+abbrev pub ListPartials : Direction → List (List ℕ) → List Ref → (List ℕ → Option (Vec ℕ)) → Type 0
+ListPartials direction names refs listed = (x : List ℕ) → Contains names x → (v : Vec ℕ) × (listed x ≡ Some v) × ArePlacesTaken (partial x) direction refs v.items
+
+-- the index has the places of these names, and those of fronts
+pub record IsIndexOf (direction : Direction) (names : Names) (refs : List Ref) (index : NameIndex) : Type 0 where
+  pub full : HavePlaces (map name_bytes names.full.items) refs (list_of index.places)
+  pub partial : ListPartials direction (map name_bytes names.partial.items) refs (list_of index.partials.places)
   pub fronts : IsFrontIndexOf refs index.fronts
+
+-- where a side of the kind asks for a name, the index has the places of the refs that it takes in the direction
+abbrev pub IsListed : Direction → List Ref → NameIndex → SideKind → Type 0
+IsListed direction refs index (pattern before after) = Unit {0}
+IsListed direction refs index (full_name x) = ArePlacesTaken (full_name x) direction refs (places_listed (list_of index.places) x)
+IsListed direction refs index (object id) = Unit {0}
+IsListed direction refs index (partial x) = ArePlacesTaken (partial x) direction refs (places_listed (list_of index.partials.places) x)
 
 -- a side of the kind matches names with no word for a star
 abbrev pub MatchesWhole : SideKind → Type 0
@@ -130,16 +179,12 @@ MatchesWhole (full_name x) = Unit {0}
 MatchesWhole (object id) = Unit {0}
 MatchesWhole (partial x) = Unit {0}
 
--- the index has the places of each name that a side of the kind asks for, and those of fronts
-pub record IsIndexOfSide (kind : SideKind) (refs : List Ref) (index : NameIndex) : Type 0 where
-  pub names : (n : List ℕ) → AsksForName kind n → ArePlacesOf n refs (places_in index n)
+-- the index has the places of what a side of the kind asks for by name, and those of fronts
+pub record IsIndexOfSide (direction : Direction) (kind : SideKind) (refs : List Ref) (index : NameIndex) : Type 0 where
+  pub names : IsListed direction refs index kind
   pub fronts : IsFrontIndexOf refs index.fronts
 
--- P holds of each name that the specs ask for in the direction
-abbrev pub AllAsked : (List ℕ → Type 0) → Direction → List Reading → Type 0
-AllAsked P direction g = AllByRecursion (λ r. (ends : Ends) (kind : SideKind) (n : List ℕ) → HasEnds direction r ends → HasKind ends.near kind → AsksForName kind n → P n) g
-
--- the index has the places of each name that the specs ask for in the direction, and those of fronts
+-- the index has the places of all that the specs ask for by name in the direction, and those of fronts
 pub record IsIndexFor (direction : Direction) (g : List Reading) (refs : List Ref) (index : NameIndex) : Type 0 where
-  pub names : AllAsked (λ n. ArePlacesOf n refs (places_in index n)) direction g
+  pub names : AllNear (IsListed direction refs index) direction g
   pub fronts : IsFrontIndexOf refs index.fronts

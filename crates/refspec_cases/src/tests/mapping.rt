@@ -350,6 +350,13 @@ fn looks_full_and_partial_names_up(rt: HostRuntime) -> Result<(), Fail> {
             "2 0 refs/q refs/remotes/main/HEAD\n3 0 refs/q refs/remotes/main\n4 0 refs/q refs/heads/main\n\
              5 0 refs/q refs/tags/main\n6 0 refs/q refs/main\n7 0 refs/q main\n",
         ),
+        // One partial name is another with a place before it, and each name is taken by both or by one.
+        (
+            "refs/a:heads/x refs/b:x",
+            "refs/refs/heads/x refs/heads/x refs/remotes/x/HEAD refs/heads/heads/x heads/x",
+            "1 0 refs/a refs/heads/x\n3 0 refs/a refs/heads/heads/x\n4 0 refs/a heads/x\n\
+             1 1 refs/b refs/heads/x\n2 1 refs/b refs/remotes/x/HEAD\n",
+        ),
     ];
     check(
         &rt,
@@ -361,7 +368,7 @@ fn looks_full_and_partial_names_up(rt: HostRuntime) -> Result<(), Fail> {
 }
 
 // Specs whose source is partial, names of items, and what is mapped from left to right.
-const FIRST: [(&str, &str, &str); 14] = [
+const FIRST: [(&str, &str, &str); 15] = [
     // The tag, wherever it stands.
     (
         "main:refs/remotes/origin/main",
@@ -422,6 +429,12 @@ const FIRST: [(&str, &str, &str); 14] = [
         "main:refs/x/main ^refs/tags/main",
         "refs/tags/main refs/heads/main",
         "",
+    ),
+    // One partial name is another with a place before it.
+    (
+        "heads/x:refs/y/a x:refs/y/b",
+        "refs/refs/heads/x refs/remotes/x/HEAD refs/heads/heads/x refs/heads/x",
+        "3 0 refs/heads/x refs/y/a\n3 1 refs/heads/x refs/y/b\n",
     ),
     // Each spec by itself.
     (

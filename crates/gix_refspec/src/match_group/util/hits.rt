@@ -368,7 +368,7 @@ fn add_spec_hits<'spec, 'item>(
     items: &[Item<'item>],
     made: &mut Made<'spec, 'item>,
 ) -> Result<(), AllocError>
-    requires { IsIndexOfSide (shown_kind ends.near) (map ref_of items.now) index.now }
+    requires { IsIndexOfSide direction (shown_kind ends.near) (map ref_of items.now) index.now }
     ensures { OnOk result (AddsHits
         direction (AreHitsOfKinds direction ends.entry spec
         (map ref_of items.now) (map ref_of items.now))
@@ -386,16 +386,10 @@ fn add_spec_hits<'spec, 'item>(
                 made,
             )
         }
-        SideKind::Partial(name) => match direction {
-            Direction::Forward => {
-                let places = index.first_places(alloc, name)?;
-                add_places(alloc, direction, spec, ends, places, items, made)
-            }
-            Direction::Backward => {
-                let places = index.candidate_places(alloc, name)?;
-                add_places(alloc, direction, spec, ends, places.as_slice(), items, made)
-            }
-        },
+        SideKind::Partial(name) => {
+            let places = index.partial_places(name);
+            add_places(alloc, direction, spec, ends, places, items, made)
+        }
         SideKind::Pattern { before, .. } => match index.places_behind(before) {
             Some(places) => add_matches_at(alloc, direction, spec, ends, places, items, made),
             None => add_matches(alloc, direction, spec, ends, items, made),

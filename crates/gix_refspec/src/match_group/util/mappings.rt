@@ -73,7 +73,7 @@ fn kept_by_name<'spec, 'item>(
     if !by_id && !fronts.is_empty() && seem_repeated(alloc, items)? {
         return kept_once(alloc, direction, specs, items);
     }
-    let index = NameIndex::of(alloc, names.as_slice(), fronts.as_slice(), items)?;
+    let index = NameIndex::of(alloc, direction, &names, fronts.as_slice(), items)?;
     let survey = Survey::of(alloc, direction, specs, &index, items)?;
     if by_id || !names_repeat(&index, survey.room, items) {
         return kept_with(alloc, direction, specs, &index, items, survey);
@@ -122,7 +122,7 @@ fn kept_of_all<'spec, 'item>(
 {
     let names = names_asked(alloc, direction, specs)?;
     let fronts = fronts_asked(alloc, direction, specs)?;
-    let index = NameIndex::of(alloc, names.as_slice(), fronts.as_slice(), items)?;
+    let index = NameIndex::of(alloc, direction, &names, fronts.as_slice(), items)?;
     let survey = Survey::of(alloc, direction, specs, &index, items)?;
     kept_with(alloc, direction, specs, &index, items, survey)
 }

@@ -1,10 +1,8 @@
 -- the names are there that the specs so far ask for
 use Rattle.std.proofs.Common.{map, take}
-use Rattle.std.specs.List.{Contains}
-use Rattle.gix_refspec.specs.Group.{name_bytes}
 use Rattle.gix_refspec.specs.Spec.{reading_of}
-use Rattle.gix_refspec.specs.Private.Index.{AllAsked}
+use Rattle.gix_refspec.specs.Private.Index.{AllNear, IsNamed}
 use Rattle.gix_refspec.proofs.match_group.util.index.names_asked.Given as goal
 
 abbrev pub invariant-loop-spec : goal.invariant-loop-spec
-invariant-loop-spec l = AllAsked (Contains (map name_bytes l.names.items)) l.direction (map reading_of (take l.spec-index l.specs))
+invariant-loop-spec l = AllNear (IsNamed l.names) l.direction (map reading_of (take l.spec-index l.specs))

@@ -2,7 +2,7 @@
 use Rattle.std.proofs.Common.{map, take}
 use Rattle.gix_refspec.specs.Group.{name_bytes, ref_of}
 use Rattle.gix_refspec.specs.Private.Index.{HavePlaces, list_of}
-use Rattle.gix_refspec.proofs.match_group.util.index.NameIndex.of.Given as goal
+use Rattle.gix_refspec.proofs.match_group.util.index.places_of.Given as goal
 
 abbrev pub invariant-loop-place : goal.invariant-loop-place
 invariant-loop-place l = HavePlaces (map name_bytes l.names) (map ref_of (take l.place l.items)) (list_of l.places)
