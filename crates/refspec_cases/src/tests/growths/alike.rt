@@ -1,4 +1,4 @@
-//! Pairs of one hash, which the calls tell apart by sorting the pairs themselves.
+//! Pairs of one hash, which the calls tell apart by hashing them by another seed.
 
 use super::super::groups::COLLIDING;
 use super::super::mapping::{TARGET, group_of, items_of};

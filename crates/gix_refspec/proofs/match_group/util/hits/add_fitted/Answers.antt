@@ -1,5 +1,5 @@
 -- The item at each place is hit, with the word for the star.
-use Rattle.std.proofs.Common.{◌≡◌, ◌+◌, List, ℕ, map, take, take_all, option_map, subst, rules, arith}
+use Rattle.std.proofs.Common.{◌≡◌, List, ℕ, map, take, take_all, option_map, subst, rules, arith}
 use Rattle.gix_refspec.specs.Group.{ref_of}
 use Rattle.gix_refspec.specs.Private.SideViews.{shown_kind}
 use Rattle.gix_refspec.specs.Private.HitViews.{AddsHits, PatternFits}

@@ -1,7 +1,7 @@
 -- The index has the places of what a name takes.
-use Rattle.std.proofs.Common.{List, ℕ, map, sym, subst}
+use Rattle.std.proofs.Common.{map, sym, subst}
 use Rattle.gix_refspec.specs.declared.side.SideKind.{SideKind}
-use Rattle.gix_refspec.specs.declared.side.SideKind.TheVariants.{FullName, Partial}
+use Rattle.gix_refspec.specs.declared.side.SideKind.TheVariants.{FullName}
 use Rattle.gix_refspec.specs.Group.{ref_of}
 use Rattle.gix_refspec.specs.Private.SideViews.{shown_kind}
 use Rattle.gix_refspec.specs.Private.Index.{ArePlacesTaken, IsIndexOfSide}

@@ -1,5 +1,5 @@
 -- The place of the spec has these places.
-use Rattle.std.proofs.Common.{◌≡◌, List, ℕ, Option, None, get_or, sym, ap, ◌∙◌}
+use Rattle.std.proofs.Common.{List, ℕ, Option, None, get_or, sym, ap, ◌∙◌}
 use Rattle.std.specs.Global.{Vec}
 use Rattle.gix_refspec.proofs.match_group.util.hits.Survey.places.Goals as goal
 

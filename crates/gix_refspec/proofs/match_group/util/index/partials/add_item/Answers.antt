@@ -1,5 +1,5 @@
 -- The place is added for what stands between the ends of each of the six.
-use Rattle.std.proofs.Common.{[], codes, map}
+use Rattle.std.proofs.Common.{codes, map}
 use Rattle.gix_refspec.specs.Group.{ref_of}
 use Rattle.gix_refspec.specs.Side.{Fits, IsCandidate}
 use Rattle.gix_refspec.specs.Private.Filter.{Passes}
