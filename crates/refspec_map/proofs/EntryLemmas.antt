@@ -1,12 +1,14 @@
 -- What the lines of an input give, one after another.
-use Rattle.std.proofs.Common.{◌≡◌, ◌≢◌, ◌⊎◌, inl, inr, ℕ, ◌+◌, ◌≤◌, ◌==◌, Bool, true, false, List, [], ◌∷◌, ◌++◌, map, length, refl, sym, ap, ◌∙◌, subst, append_assoc, length-append, eq-eqb, Result, OnOk, arith}
+use Rattle.std.proofs.Common.{◌≡◌, ◌≢◌, ◌⊎◌, inl, inr, ℕ, ◌+◌, ◌≤◌, ◌==◌, Bool, true, false, Option, None, Some, List, [], ◌∷◌, ◌++◌, map, length, refl, sym, ap, ◌∙◌, subst, append_assoc, length-append, eq-eqb, Result, OnOk, arith}
 use Rattle.std.specs.List.{AllZip}
 use Rattle.std.proofs.lemmas.Bool.{eqb-true, false≢true}
 use Rattle.std.proofs.lemmas.List.{append-nil, map-append}
 use Rattle.std.proofs.lemmas.Result.{on_ok_weaker}
 use Rattle.gix_refspec.specs.declared.parsing.Operation.TheVariants.{Fetch}
 use Rattle.gix_refspec.specs.declared.spec.RefSpecRef.{RefSpecRef}
+use Rattle.gix_refspec.specs.declared.match_group.types.Item.{Item}
 use Rattle.gix_refspec.specs.Grammar.{Reads}
+use Rattle.gix_refspec.specs.Match.{Ref}
 use Rattle.gix_refspec.specs.Spec.{reading_of}
 use Rattle.refspec_map.specs.declared.fault.Fault.{Fault}
 use Rattle.refspec_map.specs.declared.line.ToldRef.{ToldRef}
@@ -14,54 +16,74 @@ use Rattle.refspec_map.specs.declared.line.Entries.{Entries}
 use Rattle.refspec_map.specs.Fault.{IsMemory}
 use Rattle.refspec_map.specs.Input.{newline, AreLines, IsFirstLine}
 use Rattle.refspec_map.specs.Line.{Entry, reading, ref, spec, item, Says, Gives, readings_in, refs_in, IsFaultOf, IsFirstFault}
-use Rattle.refspec_map.specs.Told.{told, Adds, AreEntries}
+use Rattle.refspec_map.specs.Told.{told, bare, named, seen, kept_refs, AddsRef, Adds, AreEntries}
 use Rattle.refspec_map.proofs.OutputLemmas.{lines_more}
 
+-- a whole ref was put behind the entries
+pub AddsRef-whole : {T E : Type 0} (A : Type 0) (r : Result T E) (old new : Entries) (t : ToldRef) → new.specs ≡ old.specs → OnOk r (new.refs.items ≡ old.refs.items ++ t ∷ []) → OnOk r (AddsRef {A = A} None (told t) old new)
+AddsRef-whole A r old new t same pushed = on_ok_weaker r (λ put. record { specs = same; refs = ap (map told) put ∙ map-append told old.refs.items (t ∷ []) }) pushed
+
+-- a name was put behind the entries
+pub AddsRef-name : {T E A : Type 0} (r : Result T E) (old new : Entries) (blank : A) (t : Ref) (i : Item) → named i ≡ bare t → new.specs ≡ old.specs → OnOk r (new.items.items ≡ old.items.items ++ i ∷ []) → OnOk r (AddsRef (Some blank) t old new)
+AddsRef-name r old new blank t i is same pushed = on_ok_weaker r (λ put. record { specs = same; refs = ap (map named) put ∙ (map-append named old.items.items (i ∷ []) ∙ ap (λ n. map named old.items.items ++ n ∷ []) is) }) pushed
+
 -- a ref was put behind the entries
-pub Adds-ref : {T E : Type 0} (r : Result T E) (line : List ℕ) (old new : Entries) (t : ToldRef) → Says line (item (told t)) → new.specs.items ≡ old.specs.items → OnOk r (new.refs.items ≡ old.refs.items ++ t ∷ []) → OnOk r (Adds line old new)
-Adds-ref r line old new t says same pushed = on_ok_weaker r (λ put. record {
-  entry = ref (told t);
+pub Adds-ref : {T E A : Type 0} (r : Result T E) (blank : Option A) (line : List ℕ) (old new : Entries) (t : Ref) → Says line (item t) → OnOk r (AddsRef blank t old new) → OnOk r (Adds blank line old new)
+Adds-ref r blank line old new t says added = on_ok_weaker r (λ is. record {
+  entry = ref t;
   gives = says;
-  specs = ap (map reading_of) same ∙ sym (append-nil (map reading_of old.specs.items));
-  refs = ap (map told) put ∙ map-append told old.refs.items (t ∷ []);
-}) pushed
+  specs = ap (λ v. map reading_of v.items) is.specs ∙ sym (append-nil (map reading_of old.specs.items));
+  refs = is.refs;
+}) added
+
+no_refs : {A : Type 0} (blank : Option A) → seen blank [] ≡ []
+no_refs None = refl
+no_refs (Some b) = refl
+
+kept_same : {A : Type 0} (blank : Option A) (old new : Entries) → new.refs ≡ old.refs → new.items ≡ old.items → kept_refs blank new ≡ kept_refs blank old
+kept_same None old new refs items = ap (λ v. map told v.items) refs
+kept_same (Some b) old new refs items = ap (λ v. map named v.items) items
 
 -- a spec was put behind the entries
-pub Adds-spec : {T E : Type 0} (r : Result T E) (line text : List ℕ) (old new : Entries) (s : RefSpecRef) → Says line (spec text) → Reads Fetch text (reading_of s) → new.refs.items ≡ old.refs.items → OnOk r (new.specs.items ≡ old.specs.items ++ s ∷ []) → OnOk r (Adds line old new)
-Adds-spec r line text old new s says reads same pushed = on_ok_weaker r (λ put. record {
+pub Adds-spec : {T E A : Type 0} (r : Result T E) (blank : Option A) (line text : List ℕ) (old new : Entries) (s : RefSpecRef) → Says line (spec text) → Reads Fetch text (reading_of s) → new.refs ≡ old.refs → new.items ≡ old.items → OnOk r (new.specs.items ≡ old.specs.items ++ s ∷ []) → OnOk r (Adds blank line old new)
+Adds-spec r blank line text old new s says reads refs items pushed = on_ok_weaker r (λ put. record {
   entry = reading (reading_of s);
   gives = (text, says, reads);
   specs = ap (map reading_of) put ∙ map-append reading_of old.specs.items (s ∷ []);
-  refs = ap (map told) same ∙ sym (append-nil (map told old.refs.items));
+  refs = kept_same blank old new refs items ∙ (sym (append-nil (kept_refs blank old)) ∙ ap (λ l. kept_refs blank old ++ l) (sym (no_refs blank)));
 }) pushed
 
 -- so many lines of the input gave these entries, and the rest is left
-pub record Reaches (input : List ℕ) (made : Entries) (count : ℕ) (rest : List ℕ) : Type 0 where
+pub record Reaches {A : Type 0} (blank : Option A) (input : List ℕ) (made : Entries) (count : ℕ) (rest : List ℕ) : Type 0 where
   pub before : List (List ℕ)
   pub entries : List Entry
   pub cut : (lines : List (List ℕ)) → AreLines lines rest → AreLines (before ++ lines) input
   pub given : AllZip Gives before entries
   pub specs : map reading_of made.specs.items ≡ readings_in entries
-  pub refs : map told made.refs.items ≡ refs_in entries
+  pub refs : kept_refs blank made ≡ seen blank (refs_in entries)
   pub counted : count ≡ length before
   pub room : count + length rest ≤ length input
 
+kept_none : {A : Type 0} (blank : Option A) (made : Entries) → made.refs.items ≡ [] → made.items.items ≡ [] → kept_refs blank made ≡ seen blank []
+kept_none None made refs items = ap (map told) refs
+kept_none (Some b) made refs items = ap (map named) items
+
 -- at the start the whole input is left
-pub Reaches-start : (input : List ℕ) (made : Entries) → made.specs.items ≡ [] → made.refs.items ≡ [] → Reaches input made 0 input
-Reaches-start input made no_specs no_refs = record {
+pub Reaches-start : {A : Type 0} (blank : Option A) (input : List ℕ) (made : Entries) → made.specs.items ≡ [] → made.refs.items ≡ [] → made.items.items ≡ [] → Reaches blank input made 0 input
+Reaches-start blank input made no_specs none no_items = record {
   before = [];
   entries = [];
   cut = λ lines is. is;
   given = tt;
   specs = ap (map reading_of) no_specs;
-  refs = ap (map told) no_refs;
+  refs = kept_none blank made none no_items;
   counted = refl;
   room = omega arith;
 }
 
 -- at the end the entries are all
-pub Reaches-end : (input : List ℕ) (made : Entries) (count : ℕ) (rest : List ℕ) → rest ≡ [] → Reaches input made count rest → AreEntries input made
-Reaches-end input made count rest empty reaches = record {
+pub Reaches-end : {A : Type 0} (blank : Option A) (input : List ℕ) (made : Entries) (count : ℕ) (rest : List ℕ) → rest ≡ [] → Reaches blank input made count rest → AreEntries blank input made
+Reaches-end blank input made count rest empty reaches = record {
   lines = reaches.before;
   entries = reaches.entries;
   cut = subst (λ (ls : List (List ℕ)). AreLines ls input) (append-nil reaches.before) (reaches.cut [] empty);
@@ -98,15 +120,23 @@ shorter_by text line rest full (inl ended) = omega (arith, ap length ended, leng
 shorter_by [] line rest full (inr last) = absurd (full refl)
 shorter_by (b ∷ text) line rest full (inr last) = omega (arith, ap length last.1)
 
+seen-append : {A : Type 0} (blank : Option A) (xs ys : List Ref) → seen blank (xs ++ ys) ≡ seen blank xs ++ seen blank ys
+seen-append None xs ys = refl
+seen-append (Some b) xs ys = map-append bare xs ys
+
 -- one line more
-pub Reaches-line : (input : List ℕ) (old new : Entries) (count : ℕ) (text line rest : List ℕ) → text ≢ [] → IsFirstLine text line rest → Adds line old new → Reaches input old count text → Reaches input new (count + 1) rest
-Reaches-line input old new count text line rest full first adds reaches = record {
+pub Reaches-line : {A : Type 0} (blank : Option A) (input : List ℕ) (old new : Entries) (count : ℕ) (text line rest : List ℕ) → text ≢ [] → IsFirstLine text line rest → Adds blank line old new → Reaches blank input old count text → Reaches blank input new (count + 1) rest
+Reaches-line blank input old new count text line rest full first adds reaches = record {
   before = reaches.before ++ line ∷ [];
   entries = reaches.entries ++ adds.entry ∷ [];
   cut = λ lines is. subst (λ (ls : List (List ℕ)). AreLines ls input) (sym (append_assoc reaches.before (line ∷ []) lines)) (cut_more input text line rest reaches.before lines full first reaches.cut is);
   given = given_more reaches.before reaches.entries line adds.entry reaches.given adds.gives;
   specs = adds.specs ∙ (ap (λ l. l ++ readings_in (adds.entry ∷ [])) reaches.specs ∙ sym (readings_in-append reaches.entries (adds.entry ∷ [])));
-  refs = adds.refs ∙ (ap (λ l. l ++ refs_in (adds.entry ∷ [])) reaches.refs ∙ sym (refs_in-append reaches.entries (adds.entry ∷ [])));
+  refs =
+      adds.refs
+      ∙ (ap (λ l. l ++ seen blank (refs_in (adds.entry ∷ []))) reaches.refs
+      ∙ (sym (seen-append blank (refs_in reaches.entries) (refs_in (adds.entry ∷ [])))
+      ∙ ap (seen blank) (sym (refs_in-append reaches.entries (adds.entry ∷ [])))));
   counted = omega (arith, reaches.counted, length-append reaches.before (line ∷ []));
   room = omega (arith, reaches.room, shorter_by text line rest full first.1);
 }
@@ -131,9 +161,9 @@ has_lines [] = ([], refl)
 has_lines (b ∷ text) = let lines = has_lines text in has_lines_by b text lines.0 (b == newline) refl lines.1
 
 -- the fault of the first bad line
-pub Reaches-fault : (input : List ℕ) (made : Entries) (count : ℕ) (text line rest : List ℕ) (f : Fault) → text ≢ [] → IsFirstLine text line rest → IsMemory f ⊎ IsFaultOf (count + 1) line f → Reaches input made count text → IsMemory f ⊎ IsFirstFault input f
-Reaches-fault input made count text line rest f full first (inl memory) reaches = inl memory
-Reaches-fault input made count text line rest f full first (inr fault) reaches =
+pub Reaches-fault : {A : Type 0} (blank : Option A) (input : List ℕ) (made : Entries) (count : ℕ) (text line rest : List ℕ) (f : Fault) → text ≢ [] → IsFirstLine text line rest → IsMemory f ⊎ IsFaultOf (count + 1) line f → Reaches blank input made count text → IsMemory f ⊎ IsFirstFault input f
+Reaches-fault blank input made count text line rest f full first (inl memory) reaches = inl memory
+Reaches-fault blank input made count text line rest f full first (inr fault) reaches =
     let lines = has_lines rest in
     inr (
       count + 1,

@@ -3,6 +3,7 @@ pub mod FaultLemmas
 pub mod InputLemmas
 pub mod LineLemmas
 pub mod MatchingLemmas
+pub mod NameLemmas
 pub mod OutputLemmas
 pub mod PlanLemmas
 pub mod PlanOnceLemmas

@@ -1,5 +1,5 @@
 -- Items and lines that are made one after another.
-use Rattle.std.proofs.Common.{◌≡◌, ℕ, ◌+◌, ◌<◌, Bool, false, List, [], ◌∷◌, ◌++◌, map, flat_map, length, take, get_or, refl, sym, ap, ◌∙◌, subst, Result, Ok, Err, IsOk, OnOk}
+use Rattle.std.proofs.Common.{◌≡◌, ℕ, ◌+◌, ◌<◌, Bool, false, List, [], ◌∷◌, ◌++◌, map, flat_map, length, take, None, Some, get_or, refl, sym, ap, ◌∙◌, subst, Result, Ok, Err, IsOk, OnOk}
 use Rattle.std.proofs.lemmas.Bool.{false≢true}
 use Rattle.std.proofs.lemmas.List.{append-nil, map-append, take_more}
 use Rattle.std.proofs.lemmas.Grind.{flat_map-append}
@@ -14,7 +14,10 @@ use Rattle.refspec_map.specs.declared.line.ToldRef.{ToldRef}
 use Rattle.refspec_map.specs.declared.line.Entries.{Entries}
 use Rattle.refspec_map.specs.Line.{refs_in}
 use Rattle.refspec_map.specs.Matching.{map_line, AreMapLines, IsMatching}
-use Rattle.refspec_map.specs.Told.{told, AreEntries}
+use Rattle.refspec_map.specs.Told.{told, bare, named, AreEntries}
+use Rattle.refspec_map.specs.Plan.{IsPlan}
+use Rattle.gix_refspec.specs.Hits.{AreKeptForward}
+use Rattle.refspec_map.proofs.NameLemmas.{kept_by_name}
 
 -- one item more
 pub items_more : (refs : List ToldRef) (k : ℕ) (t : ToldRef) (old new : List Item) (i : Item) → k < length refs → ref_of i ≡ told (get_or refs k t) → new ≡ old ++ i ∷ [] → map ref_of old ≡ map told (take k refs) → map ref_of new ≡ map told (take (k + 1) refs)
@@ -48,8 +51,8 @@ AreMapLines-of AreKept g items slice mappings lent output of_items of_mappings k
 }
 
 -- what is written for the specs and refs that were read is written for the input
-pub IsMatching-of : (Writes : List Reading → List Ref → List ℕ → Bool → Type 0) (input output : List ℕ) (refusal : Bool) (made : Entries) (items : List Item) (refs : List ToldRef) → AreEntries input made → refs ≡ made.refs.items → map ref_of items ≡ map told refs → Writes (map reading_of made.specs.items) (map ref_of items) output refusal → IsMatching Writes input output refusal
-IsMatching-of Writes input output refusal made items refs are lent same is =
+pub IsMatching-of : (A : Type 0) (Writes : List Reading → List Ref → List ℕ → Bool → Type 0) (input output : List ℕ) (refusal : Bool) (made : Entries) (items : List Item) (refs : List ToldRef) → AreEntries {A = A} None input made → refs ≡ made.refs.items → map ref_of items ≡ map told refs → Writes (map reading_of made.specs.items) (map ref_of items) output refusal → IsMatching Writes input output refusal
+IsMatching-of A Writes input output refusal made items refs are lent same is =
     let all = same ∙ (ap (map told) lent ∙ are.refs) in
     record {
       lines = are.lines;
@@ -58,3 +61,28 @@ IsMatching-of Writes input output refusal made items refs are lent same is =
       given = are.given;
       is = subst (λ (g : List Reading). Writes g (refs_in are.entries) output refusal) are.specs (subst (λ (rs : List Ref). Writes (map reading_of made.specs.items) rs output refusal) all is);
     }
+
+-- what is written for items is written for refs that have their names
+abbrev pub IsByName : (List Reading → List Ref → List ℕ → Bool → Type 0) → Type 0
+IsByName Writes = (g : List Reading) (items : List Item) (refs : List Ref) (output : List ℕ) (refusal : Bool) → map named items ≡ map bare refs → Writes g (map ref_of items) output refusal → Writes g refs output refusal
+
+pub map_lines_by_name : IsByName (AreMapLines AreKeptForward)
+map_lines_by_name g items refs output refusal same is = record {
+  mappings = is.mappings;
+  kept = kept_by_name g items refs is.mappings same is.kept;
+  written = is.written;
+  tells = is.tells;
+}
+
+pub plan_by_name : IsByName IsPlan
+plan_by_name g items refs output refusal same is = record { mappings = is.mappings; kept = kept_by_name g items refs is.mappings same is.kept; shows = is.shows }
+
+-- what is written for the specs and names that were read is written for the input
+pub IsMatching-named : {A : Type 0} (blank : A) (Writes : List Reading → List Ref → List ℕ → Bool → Type 0) → IsByName Writes → (input output : List ℕ) (refusal : Bool) (made : Entries) (items : List Item) → AreEntries (Some blank) input made → items ≡ made.items.items → Writes (map reading_of made.specs.items) (map ref_of items) output refusal → IsMatching Writes input output refusal
+IsMatching-named blank Writes by input output refusal made items are lent is = record {
+  lines = are.lines;
+  entries = are.entries;
+  cut = are.cut;
+  given = are.given;
+  is = subst (λ (g : List Reading). Writes g (refs_in are.entries) output refusal) are.specs (by (map reading_of made.specs.items) items (refs_in are.entries) output refusal (ap (map named) lent ∙ are.refs) is);
+}

@@ -1,7 +1,8 @@
 -- What a clause reads of what the program holds of its input.
-use Rattle.std.specs.Prelude.{◌≡◌, ℕ, Bool, List, [], ◌∷◌, ◌++◌, option_map, map}
+use Rattle.std.specs.Prelude.{◌≡◌, ℕ, Bool, List, [], ◌∷◌, ◌++◌, Option, None, Some, option_map, map}
 use Rattle.std.specs.List.{AllZip}
 use Rattle.bstr.specs.BStr.{bstr_bytes}
+use Rattle.gix_refspec.specs.declared.match_group.types.Item.{Item}
 use Rattle.gix_refspec.specs.ObjectId.{id_bytes}
 use Rattle.gix_refspec.specs.Match.{Ref}
 use Rattle.gix_refspec.specs.Reading.{Reading}
@@ -27,21 +28,44 @@ abbrev pub line_of : Said → Line
 line_of (said.Spec text) = spec (bstr_bytes text)
 line_of (said.Ref r) = item (told r)
 
+-- the ref with its name alone
+abbrev pub bare : Ref → Ref
+bare r = record { name = r.name; target = []; object = None }
+
+-- the ref that an item has the name of, with its name alone
+abbrev pub named : Item → Ref
+named i = record { name = bstr_bytes i.full_ref_name; target = []; object = None }
+
+-- what is kept of refs: all, or where an id is lent for their own, their names
+abbrev pub seen : {A : Type 0} → Option A → List Ref → List Ref
+seen None refs = refs
+seen (Some blank) refs = map bare refs
+
+-- the refs as they are kept
+abbrev pub kept_refs : {A : Type 0} → Option A → Entries → List Ref
+kept_refs None made = map told made.refs.items
+kept_refs (Some blank) made = map named made.items.items
+
+-- a ref was put behind the old entries, as it is kept
+pub record AddsRef {A : Type 0} (blank : Option A) (r : Ref) (old new : Entries) : Type 0 where
+  pub specs : new.specs ≡ old.specs
+  pub refs : kept_refs blank new ≡ kept_refs blank old ++ seen blank (r ∷ [])
+
 -- what the line gives was put behind the old entries
-pub record Adds (line : List ℕ) (old new : Entries) : Type 0 where
+pub record Adds {A : Type 0} (blank : Option A) (line : List ℕ) (old new : Entries) : Type 0 where
   pub entry : Entry
   pub gives : Gives line entry
   pub specs : map reading_of new.specs.items ≡ map reading_of old.specs.items ++ readings_in (entry ∷ [])
-  pub refs : map told new.refs.items ≡ map told old.refs.items ++ refs_in (entry ∷ [])
+  pub refs : kept_refs blank new ≡ kept_refs blank old ++ seen blank (refs_in (entry ∷ []))
 
 -- the entries are what the lines of the input give, all of them
-pub record AreEntries (input : List ℕ) (made : Entries) : Type 0 where
+pub record AreEntries {A : Type 0} (blank : Option A) (input : List ℕ) (made : Entries) : Type 0 where
   pub lines : List (List ℕ)
   pub entries : List Entry
   pub cut : AreLines lines input
   pub given : AllZip Gives lines entries
   pub specs : map reading_of made.specs.items ≡ readings_in entries
-  pub refs : map told made.refs.items ≡ refs_in entries
+  pub refs : kept_refs blank made ≡ seen blank (refs_in entries)
 
 -- what a matching command writes for specs and refs, and whether a plan is refused
 abbrev pub IsOutputOf : Matching → List Reading → List Ref → List ℕ → Bool → Type 0

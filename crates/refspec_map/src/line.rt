@@ -11,7 +11,7 @@ ghost use Rattle.gix_refspec.specs.Spec.{reading_of};
 ghost use Rattle.gix_refspec.specs.Group.{ref_of};
 ghost use Rattle.refspec_map.specs.Fault.{IsMemory};
 ghost use Rattle.refspec_map.specs.Line.{space, IsFaultOf, IsFirstFault, IsIdThen, IsMalformed, IsRefLine, IsTagLine, Says, spec};
-ghost use Rattle.refspec_map.specs.Told.{line_of, told};
+ghost use Rattle.refspec_map.specs.Told.{bare, line_of, named, told};
 
 use crate::fault::Fault;
 use crate::input::first_line;
@@ -44,6 +44,17 @@ impl<'a> ToldRef<'a> {
             },
         }
     }
+
+    // The ref as an item that has its name alone, and this id in the place of its own.
+    fn as_named(&self, blank: &'a ObjectId) -> Item<'a>
+        ensures { named result ≡ bare (told self.now) }
+    {
+        Item {
+            full_ref_name: self.name,
+            target: blank,
+            object: None,
+        }
+    }
 }
 
 // What a line says.
@@ -54,48 +65,73 @@ enum Said<'a> {
     Ref(ToldRef<'a>),
 }
 
-/// What the lines of an input give, each kind in order.
+/// What the lines of an input give, each kind in order. The refs are in one of the two lists: whole, or
+/// as items that have their names alone.
 #[derive(Drop)]
 pub(crate) struct Entries<'a> {
     pub(crate) specs: Vec<RefSpecRef<'a>>,
     pub(crate) refs: Vec<ToldRef<'a>>,
+    pub(crate) items: Vec<Item<'a>>,
 }
 
 impl<'a> Entries<'a> {
-    ghost use Rattle.refspec_map.specs.Told.{Adds, AreEntries};
+    ghost use Rattle.refspec_map.specs.Told.{Adds, AreEntries, AddsRef};
 
-    /// Reads the lines of an input, up to the first bad one.
-    pub(crate) fn read(alloc: Global, input: &'a [u8]) -> Result<Entries<'a>, Fault>
-        ensures ok { IfOk result (AreEntries input.now) }
+    /// Reads the lines of an input, up to the first bad one. The refs are whole; or, where an id is
+    /// lent, they are items that have their names, and this id in the place of their own.
+    pub(crate) fn read(
+        alloc: Global,
+        input: &'a [u8],
+        blank: Option<&'a ObjectId>,
+    ) -> Result<Entries<'a>, Fault>
+        ensures ok { IfOk result (AreEntries blank.entry input.now) }
         ensures err { IfErr result (λ f. IsMemory f ⊎ IsFirstFault input.now f) }
     {
         let mut entries = Entries {
             specs: Vec::new(alloc),
             refs: Vec::new(alloc),
+            items: Vec::new(alloc),
         };
         let mut number = 0;
         let mut rest = input;
         while !rest.is_empty() {
             let (line, after) = first_line(rest);
             number += 1;
-            entries.add(alloc, number, line)?;
+            entries.add(alloc, blank, number, line)?;
             rest = after;
         }
         Ok(entries)
     }
 
     // Adds what a line gives, which has this number.
-    fn add(&mut self, alloc: Global, number: usize, line: &'a [u8]) -> Result<(), Fault>
-        ensures ok { OnOk result (Adds line.now self.old self.new) }
+    fn add(
+        &mut self,
+        alloc: Global,
+        blank: Option<&'a ObjectId>,
+        number: usize,
+        line: &'a [u8],
+    ) -> Result<(), Fault>
+        ensures ok { OnOk result (Adds blank.entry line.now self.old self.new) }
         ensures err { IfErr result (λ f. IsMemory f ⊎ IsFaultOf number line.now f) }
     {
         match said_by(line) {
             None => Err(Fault::Line(number)),
-            Some(Said::Ref(told)) => push(&mut self.refs, told),
+            Some(Said::Ref(row)) => self.add_ref(blank, row),
             Some(Said::Spec(text)) => {
                 let spec = spec_of(alloc, number, text)?;
                 push(&mut self.specs, spec)
             }
+        }
+    }
+
+    // Adds a ref.
+    fn add_ref(&mut self, blank: Option<&'a ObjectId>, row: ToldRef<'a>) -> Result<(), Fault>
+        ensures ok { OnOk result (AddsRef blank.entry (told row.entry) self.old self.new) }
+        ensures err { IfErr result IsMemory }
+    {
+        match blank {
+            None => push(&mut self.refs, row),
+            Some(id) => push(&mut self.items, row.as_named(id)),
         }
     }
 }
