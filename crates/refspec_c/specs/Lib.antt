@@ -1,0 +1,5 @@
+pub mod Outcome
+pub mod Reading
+pub mod Single
+pub mod Buffer
+pub mod Explanation
