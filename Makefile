@@ -2,6 +2,9 @@
 # make build   proves and builds the program, at crates/refspec_map/out/refspec_map
 # make run     its stored run, compared with what is stored; without proof where no program of these sources is built
 # make test    the gate, and then the scripts of tests/ over what it built
+# make lib     proves and builds the library for C, at out/lib
+# make install-lib PREFIX=FOLDER, uninstall-lib: its header, archive, shared library and .pc file, below FOLDER
+# make test-bindings   tests it from C, Rust and Python
 # make clean   removes the program, what is kept of proofs, and the logs
 
 SHELL := /bin/bash
@@ -49,6 +52,31 @@ test: kit
 	@$(MAKE) --no-print-directory build
 	@tests/run $(PROGRAM) $(TESTS)
 	@grep -E '^[0-9]+ passed, 0 failed' $(LOGS)/gate.log | tail -n 1
+
+# The library for C: the archive, the shared library, and what pkg-config reads of them.
+.PHONY: lib install-lib uninstall-lib test-bindings
+PREFIX ?= /usr/local
+LIB := $(LOGS)/lib
+HEADER := crates/refspec_c/include/gix_refspec.h
+
+lib: kit
+	@mkdir -p $(LIB)
+	@(cd crates/refspec_c && rt lib) </dev/null >$(LOGS)/lib.log 2>&1 || { cat $(LOGS)/lib.log >&2; exit 1; }
+	@tools/archive $(LIB)
+
+install-lib: lib
+	@install -d $(DESTDIR)$(PREFIX)/include $(DESTDIR)$(PREFIX)/lib/pkgconfig
+	@install -m 644 $(HEADER) $(DESTDIR)$(PREFIX)/include
+	@install -m 644 $(LIB)/libgix_refspec.a $(DESTDIR)$(PREFIX)/lib
+	@install -m 755 $(LIB)/libgix_refspec.so $(DESTDIR)$(PREFIX)/lib
+	@sed 's|@PREFIX@|$(PREFIX)|' bindings/c/gix_refspec.pc.in >$(DESTDIR)$(PREFIX)/lib/pkgconfig/gix_refspec.pc
+
+uninstall-lib:
+	@rm -f $(addprefix $(DESTDIR)$(PREFIX)/,include/gix_refspec.h lib/libgix_refspec.a lib/libgix_refspec.so \
+	    lib/pkgconfig/gix_refspec.pc)
+
+test-bindings: kit
+	@tests/bindings
 
 clean:
 	rm -rf $(LOGS) crates/*/out

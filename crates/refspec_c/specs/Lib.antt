@@ -3,3 +3,4 @@ pub mod Reading
 pub mod Single
 pub mod Buffer
 pub mod Explanation
+pub mod Group

@@ -26,10 +26,9 @@ number_of failure.NameReflogPortion = 14
 number_of failure.NameAsterisk = 15
 number_of failure.NameInvalidByte = 16
 number_of failure.NoList = 17
-number_of failure.Conflict = 18
-number_of failure.TooSmall = 19
-number_of failure.NoMemory = 20
-number_of failure.NoOperation = 21
+number_of failure.TooSmall = 18
+number_of failure.NoMemory = 19
+number_of failure.NoOperation = 20
 
 -- the failure that tells of a fault of a name
 abbrev pub of_fault : NameError → Failure

@@ -63,10 +63,9 @@ fn failure_numbered(number: u32) -> Option<Failure>
         15 => Failure::NameAsterisk,
         16 => Failure::NameInvalidByte,
         17 => Failure::NoList,
-        18 => Failure::Conflict,
-        19 => Failure::TooSmall,
-        20 => Failure::NoMemory,
-        21 => Failure::NoOperation,
+        18 => Failure::TooSmall,
+        19 => Failure::NoMemory,
+        20 => Failure::NoOperation,
         _ => return None,
     })
 }
@@ -107,9 +106,8 @@ fn sentence_of(failure: Failure) -> &'static [u8]
             b"A ref name must not have a control character, a space or one of ~ ^ : ? [ \\ in it.\0"
         }
         Failure::NoList => b"Only a request for all refs is safe.\0",
-        Failure::Conflict => b"Several sources are mapped to one destination.\0",
         Failure::TooSmall => b"The buffer has no room for the answer.\0",
         Failure::NoMemory => b"Memory ran out.\0",
-        Failure::NoOperation => b"There is no such operation.\0",
+        Failure::NoOperation => b"There is no such operation, or no such outcome.\0",
     }
 }

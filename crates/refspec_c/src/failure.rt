@@ -45,13 +45,11 @@ pub enum Failure {
     NameInvalidByte,
     /// Only a request for all refs is safe.
     NoList,
-    /// A destination has several sources.
-    Conflict,
-    /// The buffer, or the list of mappings, has no room for the answer.
+    /// The buffer has no room for the answer.
     TooSmall,
     /// Memory ran out.
     NoMemory,
-    /// The number is that of no operation, no direction or no outcome.
+    /// The number is that of no operation, or of no outcome.
     NoOperation,
 }
 
@@ -78,10 +76,9 @@ impl Failure {
             Failure::NameAsterisk => 15,
             Failure::NameInvalidByte => 16,
             Failure::NoList => 17,
-            Failure::Conflict => 18,
-            Failure::TooSmall => 19,
-            Failure::NoMemory => 20,
-            Failure::NoOperation => 21,
+            Failure::TooSmall => 18,
+            Failure::NoMemory => 19,
+            Failure::NoOperation => 20,
         }
     }
 }

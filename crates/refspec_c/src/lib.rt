@@ -8,6 +8,7 @@
 pub mod explanation;
 pub mod failure;
 pub mod parts;
+pub mod prefixes;
 mod put;
 pub mod reading;
 pub mod single;

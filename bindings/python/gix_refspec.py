@@ -1,0 +1,91 @@
+"""Git refspecs over libgix_refspec: parsed, printed, compared, and made into what to ask a server for.
+
+>>> parse(b"+@:refs/remotes/origin/HEAD", Operation.FETCH).canonical
+b'+HEAD:refs/remotes/origin/HEAD'
+"""
+import ctypes
+import enum
+import os
+from dataclasses import dataclass
+from typing import Callable, Iterable, List, Optional
+
+_library = ctypes.CDLL(os.environ.get("GIX_REFSPEC_LIBRARY", "libgix_refspec.so"))
+_OK, _NO_LIST, _TOO_SMALL = 0, 17, 18
+
+
+class Operation(enum.IntEnum):
+    """What a refspec is for."""
+    FETCH = 1
+    PUSH = 2
+
+
+class _Text(ctypes.Structure):
+    _fields_ = [("bytes", ctypes.c_char_p), ("len", ctypes.c_size_t)]
+
+
+class _Parts(ctypes.Structure):
+    _fields_ = [("kind", ctypes.c_uint32), ("forced", ctypes.c_uint32),
+                ("source", ctypes.POINTER(ctypes.c_char)), ("source_len", ctypes.c_size_t),
+                ("destination", ctypes.POINTER(ctypes.c_char)), ("destination_len", ctypes.c_size_t)]
+
+
+class RefspecError(ValueError):
+    """Why a text is no refspec, or why there is no answer: a sentence, and the number of the outcome."""
+
+    def __init__(self, outcome: int) -> None:
+        sentence = _Text(b"", 0)
+        _library.gix_refspec_explanation(ctypes.c_uint32(outcome), ctypes.byref(sentence))
+        super().__init__(sentence.bytes.decode())
+        self.outcome = outcome
+
+
+@dataclass(frozen=True)
+class Spec:
+    """A refspec. Two are equal just where they are for one operation and have one canonical text. `kind` is the
+    number of its instruction in gix_refspec.h."""
+    operation: Operation
+    canonical: bytes
+    kind: int
+    forced: bool
+    source: Optional[bytes]
+    destination: Optional[bytes]
+
+
+def _filled(call: Callable[..., int]) -> bytes:
+    size, room = ctypes.c_size_t(), 256
+    while True:
+        buffer = ctypes.create_string_buffer(room)
+        outcome = call(buffer, ctypes.c_size_t(room), ctypes.byref(size))
+        if outcome == _OK:
+            return buffer.raw[:size.value]
+        if outcome != _TOO_SMALL:
+            raise RefspecError(outcome)
+        room = size.value
+
+
+def parse(text: bytes, operation: Operation) -> Spec:
+    """Parses a text. Raises RefspecError where it is no refspec."""
+    words = (text, ctypes.c_size_t(len(text)), ctypes.c_uint32(operation))
+    canonical = _filled(lambda *buffer: _library.gix_refspec_canonical(*words, *buffer))
+    empty = ctypes.create_string_buffer(1)
+    place = ctypes.cast(empty, ctypes.POINTER(ctypes.c_char))
+    parts = _Parts(0, 0, place, 0, place, 0)
+    words = (canonical, ctypes.c_size_t(len(canonical)), ctypes.c_uint32(operation))
+    outcome = _library.gix_refspec_parts(*words, ctypes.byref(parts))
+    if outcome != _OK:
+        raise RefspecError(outcome)
+    return Spec(operation, canonical, parts.kind, parts.forced == 1,
+                parts.source[:parts.source_len] or None, parts.destination[:parts.destination_len] or None)
+
+
+def prefixes(fetches: Iterable[bytes]) -> Optional[List[bytes]]:
+    """What to ask a server for, for the texts of fetches. None where only a request for all refs is safe."""
+    texts = [_Text(text, len(text)) for text in fetches]
+    words = ((_Text * max(1, len(texts)))(*texts), ctypes.c_size_t(len(texts)), ctypes.c_uint32(Operation.FETCH))
+    try:
+        lines = _filled(lambda *buffer: _library.gix_refspec_prefixes(*words, *buffer))
+    except RefspecError as error:
+        if error.outcome == _NO_LIST:
+            return None
+        raise
+    return lines.split(b"\n")[:-1]

@@ -1,0 +1,40 @@
+"""Tests of gix_refspec.py over an installed library: python3 test_gix_refspec.py"""
+import doctest
+import unittest
+
+import gix_refspec
+from gix_refspec import Operation, RefspecError, parse, prefixes
+
+
+class Calls(unittest.TestCase):
+    def test_parts(self) -> None:
+        spec = parse(b"+refs/heads/*:refs/remotes/origin/*", Operation.FETCH)
+        self.assertEqual((spec.kind, spec.forced), (7, True))
+        self.assertEqual((spec.source, spec.destination), (b"refs/heads/*", b"refs/remotes/origin/*"))
+        self.assertIsNone(parse(b":main", Operation.PUSH).source)
+
+    def test_equality(self) -> None:
+        self.assertEqual(parse(b"main", Operation.PUSH), parse(b"main:main", Operation.PUSH))
+        self.assertNotEqual(parse(b"main", Operation.PUSH), parse(b"main", Operation.FETCH))
+
+    def test_refusals(self) -> None:
+        with self.assertRaisesRegex(RefspecError, "two dots in a row"):
+            parse(b"a..b", Operation.FETCH)
+        with self.assertRaisesRegex(RefspecError, "control character"):
+            parse(b"a\0b", Operation.FETCH)
+
+    def test_prefixes(self) -> None:
+        self.assertEqual(prefixes([b"refs/heads/*:refs/x/*", b"refs/tags/v1"]), [b"refs/heads/", b"refs/tags/v1"])
+        self.assertEqual(prefixes([]), [])
+        self.assertIsNone(prefixes([b"*:refs/x/*"]))
+        name = b"refs/heads/" + b"a" * 1000
+        self.assertEqual(prefixes([name]), [name])
+
+
+def load_tests(loader, tests, pattern):
+    tests.addTests(doctest.DocTestSuite(gix_refspec))
+    return tests
+
+
+if __name__ == "__main__":
+    unittest.main()

@@ -1,0 +1,60 @@
+//! The calls of `gix_refspec.h`, which says what each does. The crate `refspec` is the safe way to them.
+#![no_std]
+
+/// The operations.
+pub const FETCH: u32 = 1;
+pub const PUSH: u32 = 2;
+
+/// The outcome of a call that has its answer, and those that aren't about a text.
+pub const OK: u32 = 0;
+pub const NO_LIST: u32 = 17;
+pub const TOO_SMALL: u32 = 18;
+pub const NO_MEMORY: u32 = 19;
+
+/// A text. The pointer is never null.
+#[repr(C)]
+#[derive(Clone, Copy, Debug)]
+pub struct Text {
+    pub bytes: *const u8,
+    pub len: usize,
+}
+
+/// What a refspec says to do. A side that it hasn't is empty.
+#[repr(C)]
+#[derive(Clone, Copy, Debug)]
+pub struct Parts {
+    pub kind: u32,
+    pub forced: u32,
+    pub source: Text,
+    pub destination: Text,
+}
+
+extern "C" {
+    pub fn gix_refspec_check(text: *const u8, text_len: usize, operation: u32) -> u32;
+    pub fn gix_refspec_parts(text: *const u8, text_len: usize, operation: u32, parts: *mut Parts) -> u32;
+    pub fn gix_refspec_canonical(
+        text: *const u8,
+        text_len: usize,
+        operation: u32,
+        buffer: *mut u8,
+        buffer_len: usize,
+        len: *mut usize,
+    ) -> u32;
+    pub fn gix_refspec_compare(
+        a: *const u8,
+        a_len: usize,
+        b: *const u8,
+        b_len: usize,
+        operation: u32,
+        order: *mut i32,
+    ) -> u32;
+    pub fn gix_refspec_prefixes(
+        texts: *const Text,
+        count: usize,
+        operation: u32,
+        buffer: *mut u8,
+        buffer_len: usize,
+        len: *mut usize,
+    ) -> u32;
+    pub fn gix_refspec_explanation(outcome: u32, sentence: *mut Text) -> u32;
+}

@@ -1,0 +1,96 @@
+/* Git refspecs: checked, taken apart, printed, compared and explained.
+ *
+ * Each call answers an outcome: GIX_REFSPEC_OK, or why not. A text is a pointer, which is never null, and a
+ * length. The caller owns all memory. Nothing is kept from call to call, and threads may call at will.
+ * What a call doesn't set, it leaves as it was. docs/C.md says what is proved, and what a caller owes. */
+#ifndef GIX_REFSPEC_H
+#define GIX_REFSPEC_H
+
+#include <stddef.h>
+#include <stdint.h>
+
+#ifdef __cplusplus
+extern "C" {
+#endif
+
+/* What a refspec is for. */
+enum { GIX_REFSPEC_FETCH = 1, GIX_REFSPEC_PUSH = 2 };
+
+/* Outcomes. Those from EMPTY to NAME_INVALID_BYTE say what is wrong with a text. */
+enum {
+    GIX_REFSPEC_OK = 0,
+    GIX_REFSPEC_EMPTY = 1,
+    GIX_REFSPEC_NEGATIVE_WITH_DESTINATION = 2,
+    GIX_REFSPEC_NEGATIVE_EMPTY = 3,
+    GIX_REFSPEC_NEGATIVE_OBJECT_HASH = 4,
+    GIX_REFSPEC_PUSH_TO_EMPTY = 5,
+    GIX_REFSPEC_PATTERN_UNSUPPORTED = 6,
+    GIX_REFSPEC_PATTERN_UNBALANCED = 7,
+    GIX_REFSPEC_NAME_EMPTY = 8, /* never given */
+    GIX_REFSPEC_NAME_EMPTY_COMPONENT = 9,
+    GIX_REFSPEC_NAME_STARTS_WITH_DOT = 10,
+    GIX_REFSPEC_NAME_LOCK_SUFFIX = 11,
+    GIX_REFSPEC_NAME_ENDS_WITH_DOT = 12,
+    GIX_REFSPEC_NAME_REPEATED_DOT = 13,
+    GIX_REFSPEC_NAME_REFLOG_PORTION = 14,
+    GIX_REFSPEC_NAME_ASTERISK = 15, /* never given */
+    GIX_REFSPEC_NAME_INVALID_BYTE = 16,
+    GIX_REFSPEC_NO_LIST = 17,
+    GIX_REFSPEC_TOO_SMALL = 18,
+    GIX_REFSPEC_NO_MEMORY = 19,
+    GIX_REFSPEC_NO_OPERATION = 20
+};
+
+/* Kinds of instructions. */
+enum {
+    GIX_REFSPEC_PUSH_ALL_MATCHING = 1,
+    GIX_REFSPEC_PUSH_DELETE = 2,
+    GIX_REFSPEC_PUSH_MATCHING = 3,
+    GIX_REFSPEC_PUSH_EXCLUDE = 4,
+    GIX_REFSPEC_FETCH_ONLY = 5,
+    GIX_REFSPEC_FETCH_EXCLUDE = 6,
+    GIX_REFSPEC_FETCH_AND_UPDATE = 7
+};
+
+typedef struct {
+    const uint8_t *bytes;
+    size_t len;
+} gix_refspec_text;
+#define GIX_REFSPEC_TEXT_INIT { (const uint8_t *)"", 0 }
+
+/* What a refspec says to do. A side that it hasn't is empty, and none that it has is. Sides are places in
+ * the text, or the constant HEAD. */
+typedef struct {
+    uint32_t kind;
+    uint32_t forced; /* 1 where refs may also move where that is no fast-forward */
+    gix_refspec_text source;
+    gix_refspec_text destination;
+} gix_refspec_parts_of;
+#define GIX_REFSPEC_PARTS_INIT { 0, 0, GIX_REFSPEC_TEXT_INIT, GIX_REFSPEC_TEXT_INIT }
+
+/* Whether a text is a refspec. */
+uint32_t gix_refspec_check(const uint8_t *text, size_t text_len, uint32_t operation);
+
+/* Its instruction. */
+uint32_t gix_refspec_parts(const uint8_t *text, size_t text_len, uint32_t operation, gix_refspec_parts_of *parts);
+
+/* Its canonical text. *len is set to what that needs, also at GIX_REFSPEC_TOO_SMALL. */
+uint32_t gix_refspec_canonical(const uint8_t *text, size_t text_len, uint32_t operation, uint8_t *buffer,
+                               size_t buffer_len, size_t *len);
+
+/* How two refspecs compare: -1, 0 or 1; 0 just where their canonical texts are equal. */
+uint32_t gix_refspec_compare(const uint8_t *a, size_t a_len, const uint8_t *b, size_t b_len, uint32_t operation,
+                             int32_t *order);
+
+/* What to ask a server for, a prefix a line. GIX_REFSPEC_NO_LIST where only a request for all refs is safe. */
+uint32_t gix_refspec_prefixes(const gix_refspec_text *texts, size_t count, uint32_t operation, uint8_t *buffer,
+                              size_t buffer_len, size_t *len);
+
+/* The sentence for an outcome. It ends with a NUL, which its length counts. */
+uint32_t gix_refspec_explanation(uint32_t outcome, gix_refspec_text *sentence);
+
+#ifdef __cplusplus
+}
+#endif
+
+#endif

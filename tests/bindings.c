@@ -1,0 +1,230 @@
+/* Calls the archive as a program in C does: bindings [canon OPERATION]
+ *
+ * Without words it makes each call with each outcome, at the exact size and one byte below, with each growth of
+ * memory refused in turn, from four threads, and on a stack of 16 kB. With words it answers the lines of its input as
+ * refspec_map does. */
+#include <gix_refspec.h>
+#include <pthread.h>
+#include <stdbool.h>
+#include <stdio.h>
+#include <stdlib.h>
+#include <string.h>
+
+/* The growth with this number is refused, and all behind it; 0 refuses none. */
+static _Thread_local long growths, refused;
+
+void *__real_malloc(size_t size);
+void *__real_realloc(void *block, size_t size);
+
+static bool grows(void)
+{
+    growths++;
+    return refused == 0 || growths < refused;
+}
+
+void *__wrap_malloc(size_t size)
+{
+    return grows() ? __real_malloc(size) : NULL;
+}
+
+void *__wrap_realloc(void *block, size_t size)
+{
+    return grows() ? __real_realloc(block, size) : NULL;
+}
+
+#define CHECK(claim) \
+    do { \
+        if (!(claim)) { \
+            fprintf(stderr, "tests/bindings.c:%d: not so: %s\n", __LINE__, #claim); \
+            exit(1); \
+        } \
+    } while (0)
+
+#define BYTES(text) (const uint8_t *)(text), strlen(text)
+
+static const struct {
+    const char *text;
+    uint32_t operation, outcome;
+} checks[] = {
+    { "main", GIX_REFSPEC_FETCH, GIX_REFSPEC_OK },
+    { "", GIX_REFSPEC_PUSH, GIX_REFSPEC_EMPTY },
+    { "^a:b", GIX_REFSPEC_FETCH, GIX_REFSPEC_NEGATIVE_WITH_DESTINATION },
+    { "^", GIX_REFSPEC_FETCH, GIX_REFSPEC_NEGATIVE_EMPTY },
+    { "^1111111111111111111111111111111111111111", GIX_REFSPEC_FETCH, GIX_REFSPEC_NEGATIVE_OBJECT_HASH },
+    { "a:", GIX_REFSPEC_PUSH, GIX_REFSPEC_PUSH_TO_EMPTY },
+    { "a*b*:c", GIX_REFSPEC_FETCH, GIX_REFSPEC_PATTERN_UNSUPPORTED },
+    { "a*:b", GIX_REFSPEC_FETCH, GIX_REFSPEC_PATTERN_UNBALANCED },
+    { "a//b", GIX_REFSPEC_FETCH, GIX_REFSPEC_NAME_EMPTY_COMPONENT },
+    { "a/.b", GIX_REFSPEC_FETCH, GIX_REFSPEC_NAME_STARTS_WITH_DOT },
+    { "a.lock", GIX_REFSPEC_FETCH, GIX_REFSPEC_NAME_LOCK_SUFFIX },
+    { "a.", GIX_REFSPEC_FETCH, GIX_REFSPEC_NAME_ENDS_WITH_DOT },
+    { "a..b", GIX_REFSPEC_FETCH, GIX_REFSPEC_NAME_REPEATED_DOT },
+    { "a@{b", GIX_REFSPEC_FETCH, GIX_REFSPEC_NAME_REFLOG_PORTION },
+    { "a b", GIX_REFSPEC_FETCH, GIX_REFSPEC_NAME_INVALID_BYTE },
+    { "main", 0, GIX_REFSPEC_NO_OPERATION },
+    { "main", 3, GIX_REFSPEC_NO_OPERATION },
+};
+
+static void check_outcomes(void)
+{
+    for (size_t i = 0; i < sizeof checks / sizeof *checks; i++)
+        CHECK(gix_refspec_check(BYTES(checks[i].text), checks[i].operation) == checks[i].outcome);
+}
+
+static bool is(gix_refspec_text text, const char *bytes)
+{
+    return text.len == strlen(bytes) && memcmp(text.bytes, bytes, text.len) == 0;
+}
+
+static void check_parts(void)
+{
+    gix_refspec_parts_of parts = GIX_REFSPEC_PARTS_INIT;
+    const char *text = "+refs/heads/*:refs/remotes/origin/*";
+    CHECK(gix_refspec_parts(BYTES(text), GIX_REFSPEC_FETCH, &parts) == GIX_REFSPEC_OK);
+    CHECK(parts.kind == GIX_REFSPEC_FETCH_AND_UPDATE && parts.forced == 1);
+    CHECK(is(parts.source, "refs/heads/*") && parts.source.bytes == (const uint8_t *)text + 1);
+    CHECK(is(parts.destination, "refs/remotes/origin/*"));
+    CHECK(gix_refspec_parts(BYTES("a b"), GIX_REFSPEC_FETCH, &parts) == GIX_REFSPEC_NAME_INVALID_BYTE);
+    CHECK(parts.kind == GIX_REFSPEC_FETCH_AND_UPDATE && is(parts.source, "refs/heads/*"));
+    CHECK(gix_refspec_parts(BYTES("@"), GIX_REFSPEC_FETCH, &parts) == GIX_REFSPEC_OK);
+    CHECK(parts.kind == GIX_REFSPEC_FETCH_ONLY && parts.forced == 0);
+    CHECK(is(parts.source, "HEAD") && parts.destination.len == 0);
+}
+
+static void check_order(void)
+{
+    int32_t order = 7;
+    CHECK(gix_refspec_compare(BYTES("main"), BYTES("main:main"), GIX_REFSPEC_PUSH, &order) == 0 && order == 0);
+    CHECK(gix_refspec_compare(BYTES("a"), BYTES("b"), GIX_REFSPEC_FETCH, &order) == 0 && order == -1);
+    CHECK(gix_refspec_compare(BYTES("b"), BYTES("a"), GIX_REFSPEC_FETCH, &order) == 0 && order == 1);
+    CHECK(gix_refspec_compare(BYTES("b"), BYTES("^"), GIX_REFSPEC_FETCH, &order) == GIX_REFSPEC_NEGATIVE_EMPTY);
+    CHECK(order == 1);
+}
+
+/* A call that fills a buffer, and its answer. */
+typedef uint32_t fills(uint8_t *buffer, size_t buffer_len, size_t *len);
+
+static uint32_t canonical(uint8_t *buffer, size_t buffer_len, size_t *len)
+{
+    return gix_refspec_canonical(BYTES("+@:refs/x"), GIX_REFSPEC_FETCH, buffer, buffer_len, len);
+}
+
+static void check_buffer(fills *fill, const char *answer)
+{
+    size_t needed = strlen(answer), len = 99;
+    uint8_t buffer[256];
+    memset(buffer, 'x', sizeof buffer);
+    CHECK(fill(buffer, needed - 1, &len) == GIX_REFSPEC_TOO_SMALL && len == needed && buffer[0] == 'x');
+    len = 99;
+    CHECK(fill(buffer, needed, &len) == GIX_REFSPEC_OK && len == needed);
+    CHECK(memcmp(buffer, answer, needed) == 0 && buffer[needed] == 'x');
+    for (refused = 1;; refused++) {
+        memset(buffer, 'x', sizeof buffer);
+        growths = 0;
+        len = 99;
+        uint32_t outcome = fill(buffer, sizeof buffer, &len);
+        if (growths < refused) {
+            CHECK(outcome == GIX_REFSPEC_OK && refused > 1);
+            break;
+        }
+        CHECK(outcome == GIX_REFSPEC_NO_MEMORY && len == 99 && buffer[0] == 'x');
+    }
+    refused = 0;
+}
+
+static void check_explanations(void)
+{
+    for (uint32_t outcome = 0; outcome <= GIX_REFSPEC_NO_OPERATION; outcome++) {
+        gix_refspec_text sentence = GIX_REFSPEC_TEXT_INIT;
+        CHECK(gix_refspec_explanation(outcome, &sentence) == GIX_REFSPEC_OK);
+        CHECK(sentence.len > 10 && sentence.len == strlen((const char *)sentence.bytes) + 1);
+    }
+    gix_refspec_text none = GIX_REFSPEC_TEXT_INIT;
+    CHECK(gix_refspec_explanation(GIX_REFSPEC_NO_OPERATION + 1, &none) == GIX_REFSPEC_NO_OPERATION && none.len == 0);
+}
+
+#define TEXT(text) { BYTES(text) }
+
+static uint32_t prefixes(uint8_t *buffer, size_t buffer_len, size_t *len)
+{
+    gix_refspec_text texts[] = { TEXT("+refs/heads/*:refs/x/*"), TEXT("^refs/heads/a"), TEXT("refs/tags/v1") };
+    return gix_refspec_prefixes(texts, 3, GIX_REFSPEC_FETCH, buffer, buffer_len, len);
+}
+
+static void check_groups(void)
+{
+    uint8_t buffer[16] = "x";
+    size_t len = 99;
+    gix_refspec_text texts[] = { TEXT("main"), TEXT("*:refs/x/*"), TEXT("a b"), TEXT("^") };
+    CHECK(gix_refspec_prefixes(texts, 2, GIX_REFSPEC_FETCH, buffer, 16, &len) == GIX_REFSPEC_NO_LIST);
+    CHECK(gix_refspec_prefixes(texts, 4, GIX_REFSPEC_FETCH, buffer, 16, &len) == GIX_REFSPEC_NAME_INVALID_BYTE);
+    CHECK(gix_refspec_prefixes(texts, 0, 0, buffer, 16, &len) == GIX_REFSPEC_NO_OPERATION);
+    CHECK(len == 99 && buffer[0] == 'x');
+    CHECK(gix_refspec_prefixes(texts, 0, GIX_REFSPEC_PUSH, buffer, 0, &len) == GIX_REFSPEC_OK && len == 0);
+}
+
+static void *check_all(void *nothing)
+{
+    check_outcomes();
+    check_parts();
+    check_order();
+    check_buffer(canonical, "+HEAD:refs/x");
+    check_buffer(prefixes, "refs/heads/\nrefs/tags/v1\n");
+    check_groups();
+    check_explanations();
+    return nothing;
+}
+
+static void check_threads(int count, size_t stack)
+{
+    pthread_t threads[4];
+    pthread_attr_t attributes;
+    pthread_attr_init(&attributes);
+    CHECK(stack == 0 || pthread_attr_setstacksize(&attributes, stack) == 0);
+    for (int i = 0; i < count; i++)
+        CHECK(pthread_create(&threads[i], &attributes, check_all, NULL) == 0);
+    for (int i = 0; i < count; i++)
+        CHECK(pthread_join(threads[i], NULL) == 0);
+    pthread_attr_destroy(&attributes);
+}
+
+static const char *variants[] = { "", "Empty", "NegativeWithDestination", "NegativeEmpty", "NegativeObjectHash",
+                                  "PushToEmpty", "PatternUnsupported", "PatternUnbalanced" };
+
+static int canon(uint32_t operation)
+{
+    char *line = NULL;
+    size_t room = 0;
+    ssize_t read;
+    int status = 0;
+    while ((read = getline(&line, &room, stdin)) > 0) {
+        size_t text_len = (size_t)read - (line[read - 1] == '\n'), len = 0;
+        uint8_t *buffer = malloc(text_len + 8);
+        uint32_t outcome = gix_refspec_canonical((uint8_t *)line, text_len, operation, buffer, text_len + 8, &len);
+        if (outcome == GIX_REFSPEC_TOO_SMALL) {
+            buffer = realloc(buffer, len);
+            outcome = gix_refspec_canonical((uint8_t *)line, text_len, operation, buffer, len, &len);
+        }
+        if (outcome == GIX_REFSPEC_OK) {
+            fputs("ok ", stdout);
+            fwrite(buffer, 1, len, stdout);
+            putchar('\n');
+        } else {
+            status = 1;
+            printf("err %s\n", outcome < GIX_REFSPEC_NAME_EMPTY ? variants[outcome] : "ReferenceName");
+        }
+        free(buffer);
+    }
+    free(line);
+    return status;
+}
+
+int main(int count, char **words)
+{
+    if (count == 3)
+        return canon(strcmp(words[2], "push") == 0 ? GIX_REFSPEC_PUSH : GIX_REFSPEC_FETCH);
+    check_all(NULL);
+    check_threads(4, 0);
+    check_threads(1, 16384);
+    return 0;
+}

@@ -1,0 +1,101 @@
+"""Holds the header against the archive and the sources: prototypes.py HEADER ARCHIVE
+Replays canon.sample over a program of the calls: prototypes.py --replay PROGRAM
+"""
+import os
+import re
+import subprocess
+import sys
+
+HERE = os.path.dirname(os.path.abspath(__file__))
+SOURCES = os.path.join(HERE, "..", "crates", "refspec_c", "src")
+# What each type of the exported functions is in C. A slice is a pointer and a length, and an allocator is nothing.
+IN_C = {
+    "Global": [],
+    "u32": ["uint32_t"],
+    "&[u8]": ["const uint8_t *", "size_t"],
+    "&mut [u8]": ["uint8_t *", "size_t"],
+    "&mut usize": ["size_t *"],
+    "&mut i32": ["int32_t *"],
+    "&[Text]": ["const gix_refspec_text *", "size_t"],
+    "&mut Text": ["gix_refspec_text *"],
+    "&mut Parts": ["gix_refspec_parts_of *"],
+}
+
+
+def exported():
+    """The exported functions and the types of their parameters."""
+    found = {}
+    for name in sorted(os.listdir(SOURCES)):
+        with open(os.path.join(SOURCES, name), encoding="utf-8") as file:
+            text = re.sub(r"'(a|static) |<'[a-z_]+>", "", file.read())
+        for function, parameters in re.findall(r'extern "C" fn (\w+)\s*\(([^)]*)\) -> u32', text):
+            found[function] = [one.split(":")[1].strip() for one in parameters.split(",") if one.strip()]
+    return found
+
+
+def declared(header):
+    """The prototypes of the header and the types of their parameters."""
+    with open(header, encoding="utf-8") as file:
+        text = re.sub(r"\s+", " ", file.read())
+    found = {}
+    for function, parameters in re.findall(r"uint32_t (gix_refspec_\w+)\(([^)]*)\);", text):
+        found[function] = [re.sub(r"\w+$", "", one.strip()).strip() for one in parameters.split(",")]
+    return found
+
+
+def globals_of(archive):
+    listed = subprocess.run(["nm", "-g", archive], stdout=subprocess.PIPE, check=True, text=True).stdout
+    return ({line.split()[-1] for line in listed.splitlines() if " T " in line or " D " in line or " B " in line},
+            {line.split()[-1] for line in listed.splitlines() if " U " in line})
+
+
+def numbers(header):
+    """The outcomes of the header that aren't those of `Failure::number`."""
+    with open(header, encoding="utf-8") as file:
+        in_header = dict(re.findall(r"GIX_REFSPEC_([A-Z_]+) = (\d+)", file.read()))
+    with open(os.path.join(SOURCES, "failure.rt"), encoding="utf-8") as file:
+        in_source = re.findall(r"Failure::(\w+) => (\d+),", file.read())
+    return [name for name, number in in_source
+            if in_header.get(re.sub(r"(?<=[a-z])(?=[A-Z])", "_", name).upper()) != number]
+
+
+def compare(header, archive):
+    functions = {name: [c for one in types for c in IN_C[one]] for name, types in exported().items()}
+    defined, wanted = globals_of(archive)
+    if declared(header) != functions:
+        sys.exit(f"bindings: the header has {declared(header)}, not {functions}")
+    if defined != set(functions):
+        sys.exit(f"bindings: the archive has the global names {defined}")
+    if not wanted <= {"malloc", "realloc", "free", "memcpy", "memmove", "memset"}:
+        sys.exit(f"bindings: the archive wants {wanted}")
+    if numbers(header):
+        sys.exit(f"bindings: the header has other numbers for {numbers(header)}")
+    print(f"bindings: {len(functions)} prototypes as the functions; the archive wants {', '.join(sorted(wanted))}")
+
+
+def replay(program):
+    count = 0
+    cases = {"fetch": [], "push": []}
+    with open(os.path.join(HERE, "canon.sample"), "rb") as file:
+        for line in file:
+            if not line.startswith(b"#"):
+                operation, text, answer = line.rstrip(b"\n").split(b"\t")[:3]
+                plain = [re.sub(rb"\\x([0-9a-f]{2})", lambda at: bytes([int(at[1], 16)]), one) for one in (text, answer)]
+                cases[operation.decode()].append(plain)
+    for operation, pairs in cases.items():
+        given = b"".join(text + b"\n" for text, _ in pairs)
+        made = subprocess.run([program, "canon", operation], input=given, stdout=subprocess.PIPE, check=False)
+        answers = made.stdout.split(b"\n")
+        for (text, answer), told in zip(pairs, answers):
+            if told != answer:
+                sys.exit(f"bindings: {operation} {text!r} is answered {told!r}, not {answer!r}")
+        if len(answers) != len(pairs) + 1:
+            sys.exit(f"bindings: {len(answers) - 1} answers to {len(pairs)} texts")
+        count += len(pairs)
+    print(f"bindings: {count} stored texts, answered as stored")
+
+
+if sys.argv[1] == "--replay":
+    replay(sys.argv[2])
+else:
+    compare(*sys.argv[1:3])
