@@ -78,7 +78,7 @@ static bool is(gix_refspec_text text, const char *bytes)
 
 static void check_parts(void)
 {
-    gix_refspec_parts_of parts = GIX_REFSPEC_PARTS_INIT;
+    gix_refspec_instruction parts = GIX_REFSPEC_PARTS_INIT;
     const char *text = "+refs/heads/*:refs/remotes/origin/*";
     CHECK(gix_refspec_parts(BYTES(text), GIX_REFSPEC_FETCH, &parts) == GIX_REFSPEC_OK);
     CHECK(parts.kind == GIX_REFSPEC_FETCH_AND_UPDATE && parts.forced == 1);

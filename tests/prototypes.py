@@ -18,7 +18,7 @@ IN_C = {
     "&mut i32": ["int32_t *"],
     "&[Text]": ["const gix_refspec_text *", "size_t"],
     "&mut Text": ["gix_refspec_text *"],
-    "&mut Parts": ["gix_refspec_parts_of *"],
+    "&mut Parts": ["gix_refspec_instruction *"],
 }
 
 

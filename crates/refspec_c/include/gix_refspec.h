@@ -65,14 +65,14 @@ typedef struct {
     uint32_t forced; /* 1 where refs may also move where that is no fast-forward */
     gix_refspec_text source;
     gix_refspec_text destination;
-} gix_refspec_parts_of;
+} gix_refspec_instruction;
 #define GIX_REFSPEC_PARTS_INIT { 0, 0, GIX_REFSPEC_TEXT_INIT, GIX_REFSPEC_TEXT_INIT }
 
 /* Whether a text is a refspec. */
 uint32_t gix_refspec_check(const uint8_t *text, size_t text_len, uint32_t operation);
 
 /* Its instruction. */
-uint32_t gix_refspec_parts(const uint8_t *text, size_t text_len, uint32_t operation, gix_refspec_parts_of *parts);
+uint32_t gix_refspec_parts(const uint8_t *text, size_t text_len, uint32_t operation, gix_refspec_instruction *parts);
 
 /* Its canonical text. *len is set to what that needs, also at GIX_REFSPEC_TOO_SMALL. */
 uint32_t gix_refspec_canonical(const uint8_t *text, size_t text_len, uint32_t operation, uint8_t *buffer,
