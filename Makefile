@@ -1,20 +1,24 @@
 # make help    prints these lines
-# make build   proves and builds the program, at crates/refspec_map/out/refspec_map
+# make build   proves and builds the programs, at crates/refspec_map/out/refspec_map and crates/refspec/out/refspec
 # make run     its stored run, compared with what is stored; without proof where no program of these sources is built
 # make test    the gate, and then the scripts of tests/ over what it built
+# make install PREFIX=FOLDER, uninstall: the programs, git-refspec, manual pages and completions, below FOLDER
 # make lib     proves and builds the library for C, at out/lib
 # make install-lib PREFIX=FOLDER, uninstall-lib: its header, archive, shared library and .pc file, below FOLDER
 # make test-bindings   tests it from C, Rust and Python
-# make clean   removes the program, what is kept of proofs, and the logs
+# make clean   removes the programs, what is kept of proofs, and the logs
 
 SHELL := /bin/bash
 .SHELLFLAGS := -eu -o pipefail -c
-.PHONY: help build run test clean kit
+.PHONY: help build run test clean kit install uninstall
 
 LIBRARY := crates/gix_refspec
 FOLDER := crates/refspec_map
 PROGRAM := $(FOLDER)/out/refspec_map
 TESTS := crates/refspec_cases/out/refspec_cases_tests
+PEOPLE := crates/refspec
+PEOPLE_PROGRAM := $(PEOPLE)/out/refspec
+PEOPLE_SOURCES := crates.txt $(shell find $(LIBRARY) $(PEOPLE) \( -name out -o -name must-fail \) -prune -o -type f -print)
 LOGS := out
 FIRST := 8 minutes the first time on 4 idle processors, half an hour on busy ones
 SOURCES := crates.txt $(shell find $(LIBRARY) $(FOLDER) \( -name out -o -name must-fail \) -prune -o -type f -print)
@@ -22,7 +26,7 @@ SOURCES := crates.txt $(shell find $(LIBRARY) $(FOLDER) \( -name out -o -name mu
 help:
 	@sed -n 's/^# make/make/p' Makefile
 
-build: $(PROGRAM)
+build: $(PROGRAM) $(PEOPLE_PROGRAM)
 
 # rt builds only what it has proved, and rt check says how far it is. On an empty input the program ends with
 # status 0. The pipe keeps the status of rt, by pipefail.
@@ -33,6 +37,25 @@ $(PROGRAM): $(SOURCES) | kit
 	| tee $(LOGS)/build.log | tools/progress >&2 \
 	|| { status=$$?; echo "make: not built, as $(LOGS)/build.log says" >&2; exit $$status; }
 	@touch $@
+
+$(PEOPLE_PROGRAM): $(PEOPLE_SOURCES) | kit $(PROGRAM)
+	@mkdir -p $(LOGS)
+	@{ (cd $(PEOPLE) && rt check) && (cd $(PEOPLE) && rt run -- canon main); } </dev/null 2>&1 \
+	| tee $(LOGS)/build-refspec.log | tools/progress >&2 \
+	|| { status=$$?; echo "make: not built, as $(LOGS)/build-refspec.log says" >&2; exit $$status; }
+	@touch $@
+
+install: build
+	install -d $(DESTDIR)$(PREFIX)/bin $(DESTDIR)$(PREFIX)/share/man/man1 \
+	    $(DESTDIR)$(PREFIX)/share/bash-completion/completions
+	install -m 755 $(PROGRAM) $(PEOPLE_PROGRAM) bin/git-refspec $(DESTDIR)$(PREFIX)/bin
+	install -m 644 man/*.1 $(DESTDIR)$(PREFIX)/share/man/man1
+	install -m 644 completions/refspec.bash $(DESTDIR)$(PREFIX)/share/bash-completion/completions/refspec
+
+uninstall:
+	rm -f $(addprefix $(DESTDIR)$(PREFIX)/bin/,refspec_map refspec git-refspec)
+	rm -f $(addprefix $(DESTDIR)$(PREFIX)/share/man/man1/,$(notdir $(wildcard man/*.1)))
+	rm -f $(DESTDIR)$(PREFIX)/share/bash-completion/completions/refspec
 
 # Where no program of these sources was proved yet, rt try runs them without proof.
 run: kit
@@ -50,7 +73,7 @@ test: kit
 	@mkdir -p $(LOGS)
 	@rt ci 2>&1 </dev/null | tee $(LOGS)/gate.log
 	@$(MAKE) --no-print-directory build
-	@tests/run $(PROGRAM) $(TESTS)
+	@tests/run $(PROGRAM) $(TESTS) $(PEOPLE_PROGRAM)
 	@grep -E '^[0-9]+ passed, 0 failed' $(LOGS)/gate.log | tail -n 1
 
 # The library for C: the archive, the shared library, and what pkg-config reads of them.

@@ -1,0 +1,37 @@
+# Completion of refspec and of git refspec, for bash.
+
+_refspec() {
+    local word=${COMP_WORDS[COMP_CWORD]} before=${COMP_WORDS[COMP_CWORD-1]} options
+    if [ "$COMP_CWORD" -eq 1 ]; then
+        mapfile -t COMPREPLY < <(compgen -W "check explain canon plan track prefixes --help --version" -- "$word")
+        return
+    fi
+    case $before in
+    --specs | --refs)
+        mapfile -t COMPREPLY < <(compgen -f -- "$word")
+        return
+        ;;
+    --ref)
+        mapfile -t COMPREPLY < <(compgen -W "$(git for-each-ref --format='%(refname)' refs/remotes 2>/dev/null)" -- "$word")
+        return
+        ;;
+    esac
+    options="--specs -z --read-z --json --help"
+    case ${COMP_WORDS[1]} in
+    check) options="$options --push --verbose -v --config" ;;
+    explain | canon) options="$options --push" ;;
+    plan) options="$options --refs" ;;
+    track) options="$options --ref" ;;
+    prefixes) options="$options --patterns" ;;
+    esac
+    mapfile -t COMPREPLY < <(compgen -W "$options" -- "$word")
+}
+complete -F _refspec refspec
+
+# Git's own completion calls this for `git refspec`.
+_git_refspec() {
+    case $cword in
+    2) __gitcomp "check plan track prefixes" ;;
+    *) __gitcomp_nl "$(__git_remotes)" ;;
+    esac
+}

@@ -1,0 +1,5 @@
+pub mod Fault
+pub mod Input
+pub mod Plan
+pub mod Read
+pub mod Run

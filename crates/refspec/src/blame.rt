@@ -1,0 +1,226 @@
+//! Which part of a refused text is wrong, and what to do about it.
+
+use crate::texts::Text;
+use bstr::{BStr, ByteSlice};
+use gix_refspec::name;
+use gix_refspec::name::PatternError;
+use gix_refspec::parsing::{Error, Operation};
+use std::alloc::Global;
+
+/// A side of a spec.
+#[derive(Clone, Copy, Debug, PartialEq, Eq)]
+pub enum Side {
+    Source,
+    Destination,
+}
+
+impl Side {
+    /// What the side is called.
+    pub fn as_str(self) -> &'static str {
+        match self {
+            Side::Source => "source",
+            Side::Destination => "destination",
+        }
+    }
+}
+
+/// The bytes of a text that are wrong.
+#[derive(Clone, Copy, Debug)]
+pub struct Blame<'a> {
+    pub side: Side,
+    pub part: &'a [u8],
+    /// Where the bytes begin in the text, counted from 1.
+    pub at: usize,
+}
+
+// A side as it stands in a text, behind so many bytes.
+#[derive(Clone, Copy)]
+struct Part<'a> {
+    side: Side,
+    bytes: &'a [u8],
+    behind: usize,
+}
+
+impl<'a> Part<'a> {
+    // Some bytes of the side, from a place on.
+    fn blame(&self, at: usize, len: usize) -> Blame<'a> {
+        let from = at.min(self.bytes.len());
+        let (_, back) = self.bytes.split_at(from);
+        let (part, _) = back.split_at(len.min(back.len()));
+        Blame {
+            side: self.side,
+            part,
+            at: self.behind.saturating_add(from).saturating_add(1),
+        }
+    }
+}
+
+/// The part of a text that is wrong, where its reason speaks of one.
+pub fn blame_of<'a>(alloc: Global, text: &Text<'a>, error: &Error) -> Option<Blame<'a>> {
+    let (source, destination) = parts_of(text.bytes);
+    match error {
+        Error::ReferenceName(fault) => {
+            let part = part_with_fault(alloc, text.operation, source, destination)?;
+            let (at, len) = place_of(part.bytes, *fault)?;
+            Some(part.blame(at, len))
+        }
+        Error::PatternUnsupported { .. } => second_star(source).or(second_star(destination?)),
+        Error::PatternUnbalanced => first_star(source).or(first_star(destination?)),
+        Error::NegativeWithDestination | Error::PushToEmpty => {
+            Some(destination?.blame(0, usize::MAX))
+        }
+        Error::NegativeObjectHash => Some(source.blame(0, usize::MAX)),
+        _ => None,
+    }
+}
+
+// The source of a text, and its destination where it has a colon.
+fn parts_of(text: &[u8]) -> (Part<'_>, Option<Part<'_>>) {
+    let (signs, rest) = match text {
+        [b'^' | b'+', rest @ ..] => (1usize, rest),
+        _ => (0usize, text),
+    };
+    let source = |bytes| Part {
+        side: Side::Source,
+        bytes,
+        behind: signs,
+    };
+    let Some(colon) = rest.rfind_byte(b':') else {
+        return (source(rest), None);
+    };
+    let (front, back) = rest.split_at(colon);
+    let destination = Part {
+        side: Side::Destination,
+        bytes: &back[1..],
+        behind: signs.saturating_add(colon).saturating_add(1),
+    };
+    (source(front), Some(destination))
+}
+
+// The first side that is neither a name nor a pattern. The source of a push to a destination may be any
+// expression without a star.
+fn part_with_fault<'a>(
+    alloc: Global,
+    operation: Operation,
+    source: Part<'a>,
+    destination: Option<Part<'a>>,
+) -> Option<Part<'a>> {
+    let is_expression = operation == Operation::Push
+        && destination.is_some()
+        && !source.bytes.contains(&b'*');
+    if !is_expression && !source.bytes.is_empty() && has_fault(alloc, source.bytes) {
+        return Some(source);
+    }
+    destination
+}
+
+// Whether a side is neither a name nor a pattern.
+fn has_fault(alloc: Global, side: &[u8]) -> bool {
+    let text = BStr::new(side);
+    if !name::has_one_star(text) {
+        return name::name_partial(text).is_err();
+    }
+    matches!(
+        name::pattern_partial(alloc, text),
+        Err(PatternError::Name(_))
+    )
+}
+
+// Where the bytes that a fault speaks of stand in a side, and how many they are.
+fn place_of(side: &[u8], fault: name::Error) -> Option<(usize, usize)> {
+    match fault {
+        name::Error::Empty => None,
+        name::Error::RepeatedDot => Some((side.find(b"..")?, 2)),
+        name::Error::ReflogPortion => Some((side.find(b"@{")?, 2)),
+        name::Error::Asterisk => Some((side.find_byte(b'*')?, 1)),
+        name::Error::InvalidByte { byte } => Some((side.find_byte(byte)?, 1)),
+        name::Error::EndsWithDot => Some((side.len().saturating_sub(1), 1)),
+        name::Error::EmptyComponent => Some(empty_component(side)),
+        name::Error::StartsWithDot => Some(starting_dot(side)),
+        name::Error::LockSuffix => Some(lock_suffix(side)),
+    }
+}
+
+// Where a slash stands that begins or ends an empty component.
+fn empty_component(side: &[u8]) -> (usize, usize) {
+    if side.starts_with(b"/") {
+        return (0, 1);
+    }
+    match side.find(b"//") {
+        Some(at) => (at, 2),
+        None => (side.len().saturating_sub(1), 1),
+    }
+}
+
+// Where a component begins with a dot.
+fn starting_dot(side: &[u8]) -> (usize, usize) {
+    match side.find(b"/.") {
+        Some(at) if !side.starts_with(b".") => (at, 2),
+        _ => (0, 1),
+    }
+}
+
+// Where a component ends with `.lock`.
+fn lock_suffix(side: &[u8]) -> (usize, usize) {
+    match side.find(b".lock/") {
+        Some(at) => (at, 5),
+        None => (side.len().saturating_sub(5), 5),
+    }
+}
+
+// The second star of a side.
+fn second_star(part: Part<'_>) -> Option<Blame<'_>> {
+    let first = part.bytes.find_byte(b'*')?;
+    let (_, back) = part.bytes.split_at(first);
+    let second = (&back[1..]).find_byte(b'*')?;
+    Some(part.blame(first.saturating_add(second).saturating_add(1), 1))
+}
+
+// The first star of a side.
+fn first_star(part: Part<'_>) -> Option<Blame<'_>> {
+    let first = part.bytes.find_byte(b'*')?;
+    Some(part.blame(first, 1))
+}
+
+/// What to do about a refused text, or nothing where the reason says it.
+pub fn advice_for(text: &[u8], error: &Error) -> &'static str {
+    match error {
+        Error::Empty => "To push all matching branches, write `:`.",
+        Error::NegativeWithDestination => "Leave out the colon and what stands behind it.",
+        Error::NegativeEmpty => "Write what to leave out, as in `^refs/heads/wip/*`.",
+        Error::NegativeObjectHash => "Write the name of the ref that is to be left out.",
+        Error::PushToEmpty => {
+            "To delete a ref, leave the source empty, as in `:main`; to push to the same name, leave out the colon."
+        }
+        Error::PatternUnsupported { .. } => {
+            "Keep one `*`, which stands for any bytes, slashes too; or write several specs."
+        }
+        Error::PatternUnbalanced => "Write a `*` into the other side too, or name one ref on both.",
+        Error::ReferenceName(fault) => advice_for_name(text, *fault),
+        _ => "",
+    }
+}
+
+// What to do about a bad name.
+fn advice_for_name(text: &[u8], fault: name::Error) -> &'static str {
+    match fault {
+        name::Error::InvalidByte { byte: b' ' } if text.starts_with(b"tag ") => {
+            "For `tag NAME` of a command line write `refs/tags/NAME:refs/tags/NAME`."
+        }
+        name::Error::InvalidByte { byte: b' ' } => "Write each spec by itself.",
+        name::Error::InvalidByte { byte: b'\r' } => {
+            "The line ends with a carriage return. End lines with a newline alone."
+        }
+        name::Error::InvalidByte { byte: b':' } => {
+            "One colon parts the source from the destination. Leave out the others."
+        }
+        name::Error::InvalidByte { byte: b'~' | b'^' } => {
+            "Expressions such as `main~2` stand only before the colon of a push."
+        }
+        name::Error::InvalidByte { byte: b'?' | b'[' } => "The only wildcard is one `*` a side.",
+        name::Error::ReflogPortion => "Name the ref itself, without what follows the `@`.",
+        name::Error::LockSuffix => "Git keeps such names for its lock files. Choose another.",
+        name::Error::EmptyComponent => "Leave out the slash that is too much.",
+        _ => "",
+    }
+}

@@ -1,0 +1,67 @@
+//! What a call of the program asks for.
+
+use gix_refspec::parsing::Operation;
+
+/// What the program does.
+#[derive(Clone, Copy, Debug, PartialEq, Eq)]
+pub enum Command {
+    /// Tells which specs are refused, and why.
+    Check,
+    /// Says in a sentence what each spec does.
+    Explain,
+    /// Prints the canonical text of each spec.
+    Canon,
+    /// Tells what a fetch writes of the refs of a remote.
+    Plan,
+    /// Tells which refs of a remote tracking refs belong to.
+    Track,
+    /// Lists what to ask a server for.
+    Prefixes,
+}
+
+/// How results are written.
+#[derive(Clone, Copy, Debug, PartialEq, Eq)]
+pub enum Form {
+    /// Lines for people, with names quoted where they have to be.
+    Lines,
+    /// Fields that end with a zero byte, each as it is.
+    Zeros,
+    /// One JSON object a line, refusals too.
+    Json,
+}
+
+/// What ends a record of the input.
+#[derive(Clone, Copy, Debug, PartialEq, Eq)]
+pub enum Ends {
+    /// A newline.
+    Newline,
+    /// A zero byte.
+    Zero,
+    /// A zero byte, and two records a setting: where it stands, and its key, a newline and its value, as
+    /// `git config --show-origin -z --get-regexp` prints them.
+    Settings,
+}
+
+/// A call.
+#[derive(Debug, Drop)]
+pub struct Call<'a> {
+    pub command: Command,
+    pub operation: Operation,
+    pub form: Form,
+    pub ends: Ends,
+    /// Good specs are shown too.
+    pub verbose: bool,
+    /// Prefixes are shown as patterns.
+    pub patterns: bool,
+    /// The specs among the words.
+    pub specs: Vec<&'a str>,
+    /// The tracking refs among the words.
+    pub refs: Vec<&'a str>,
+    /// Whether the input is read: a plan has its refs there, and other calls their specs, unless those are
+    /// all among the words.
+    pub reads_input: bool,
+    /// What the input is called in messages.
+    pub input: &'a str,
+    /// What the file of specs beside the input is called.
+    pub beside: &'a str,
+}

@@ -1,0 +1,161 @@
+//! Says whether refspecs are right, what they mean, and what a fetch with them writes.
+#![tactic(auto)]
+
+mod blame;
+mod call;
+mod checked;
+mod fault;
+mod input;
+mod json;
+mod mappings;
+mod page;
+mod plan;
+mod planning;
+mod prefixes;
+mod quote;
+mod refs;
+mod run;
+mod sentence;
+mod specs;
+mod table;
+mod texts;
+mod track;
+mod words;
+
+use crate::call::{Call, Command};
+use crate::fault::Fault;
+use crate::input::read_input;
+use crate::run::run;
+use crate::words::{call_of, command_line};
+use std::fs::File;
+use std::process::ExitCode;
+use std::{env, io};
+
+// The statuses of other words, and of files, devices and memory that fail.
+const USAGE_STATUS: u8 = 2;
+
+const FAULT_STATUS: u8 = 3;
+
+fn main(rt: HostRuntime) -> ExitCode {
+    ExitCode::from(match words_of(&rt) {
+        Ok(words) => run_words(&rt, words.as_slice()),
+        Err(error) if error.kind() == io::ErrorKind::InvalidData => {
+            let _ = eprintln!(rt;
+                "refspec: a word of the call is not UTF-8; give such specs by the standard input"
+            );
+            USAGE_STATUS
+        }
+        Err(_) => fail(&rt, Fault::Memory),
+    })
+}
+
+// The words of the call, with the name of the program.
+fn words_of<R: env::Env + AllocGlobal>(rt: &R) -> io::Result<Vec<String>> {
+    let mut words = Vec::new(rt.alloc());
+    for word in env::args(rt)? {
+        words.push(word)?;
+    }
+    Ok(words)
+}
+
+// Runs what the words say, and returns the status.
+fn run_words(rt: &HostRuntime, words: &[String]) -> u8 {
+    let Ok(command) = command_line(rt.alloc()) else {
+        return fail(rt, Fault::Memory);
+    };
+    let matches = match command.try_get_matches_from(words) {
+        Ok(matches) => matches,
+        Err(error) => return show(rt, &error),
+    };
+    match matches.subcommand() {
+        Some((name, matches)) => {
+            let Ok(call) = call_of(rt.alloc(), name, matches) else {
+                return fail(rt, Fault::Memory);
+            };
+            run_call(rt, &call)
+        }
+        None => USAGE_STATUS,
+    }
+}
+
+// Shows a page of help or what is wrong with the words.
+fn show(rt: &HostRuntime, error: &clap::Error) -> u8 {
+    if error.kind() == clap::error::ErrorKind::OutOfMemory {
+        return fail(rt, Fault::Memory);
+    }
+    if error.print(rt).is_err() {
+        return fail(rt, Fault::Write);
+    }
+    if error.use_stderr() { USAGE_STATUS } else { 0 }
+}
+
+// Runs a call from its inputs to the standard output, and its messages to the standard error.
+fn run_call(rt: &HostRuntime, call: &Call<'_>) -> u8 {
+    if call.command == Command::Plan && call.specs.is_empty() && call.beside.is_empty() {
+        let _ = eprintln!(rt;
+            "refspec: plan needs specs; give them as words, or in a file by --specs"
+        );
+        return USAGE_STATUS;
+    }
+    let beside = match beside_of(rt, call) {
+        Ok(beside) => beside,
+        Err(fault) => return fail_at(rt, fault, call.beside),
+    };
+    let made = if call.input == "-" || !call.reads_input {
+        run(
+            rt.alloc(),
+            call,
+            beside.as_slice(),
+            &mut rt.stdin(),
+            &mut rt.stdout(),
+            &mut rt.stderr(),
+        )
+    } else {
+        match File::open(rt, call.input) {
+            Ok(mut file) => {
+                run(
+                    rt.alloc(),
+                    call,
+                    beside.as_slice(),
+                    &mut file,
+                    &mut rt.stdout(),
+                    &mut rt.stderr(),
+                )
+            }
+            Err(_) => Err(Fault::Read),
+        }
+    };
+    match made {
+        Ok(status) => status,
+        Err(fault) => fail_at(rt, fault, call.input),
+    }
+}
+
+// The file of specs beside the input.
+fn beside_of(rt: &HostRuntime, call: &Call<'_>) -> Result<Vec<u8>, Fault> {
+    if call.beside.is_empty() {
+        return Ok(Vec::new(rt.alloc()));
+    }
+    if call.beside == "-" {
+        return read_input(rt.alloc(), &mut rt.stdin());
+    }
+    match File::open(rt, call.beside) {
+        Ok(mut file) => read_input(rt.alloc(), &mut file),
+        Err(_) => Err(Fault::Read),
+    }
+}
+
+// Tells of a fault, and of the file where it cannot be read.
+fn fail_at(rt: &HostRuntime, fault: Fault, file: &str) -> u8 {
+    if fault == Fault::Read && file != "-" {
+        let _ = eprintln!(rt; "refspec: cannot read {file:?}");
+        return FAULT_STATUS;
+    }
+    fail(rt, fault)
+}
+
+// Tells of a fault.
+fn fail(rt: &HostRuntime, fault: Fault) -> u8 {
+    let _ = eprintln!(rt; "refspec: {fault}");
+    FAULT_STATUS
+}

@@ -1,0 +1,105 @@
+//! A call, from its reader to its writers.
+
+ghost use Rattle.std.specs.Prelude.{IfOk, IfErr, OnOk};
+ghost use Rattle.std.specs.Io.KnownBytes.{Appends};
+ghost use Rattle.refspec.specs.Fault.{IsReadOrMemory, IsWrite};
+ghost use Rattle.refspec.specs.Run.{Leaves, ReadsWhole};
+
+use crate::call::{Call, Command};
+use crate::checked::{Checked, all_good, check_all};
+use crate::fault::Fault;
+use crate::input::read_input;
+use crate::page::Page;
+use crate::planning::tell_plan;
+use crate::prefixes::tell_prefixes;
+use crate::specs::tell_specs;
+use crate::texts::texts_of;
+use crate::track::tell_tracking;
+use std::alloc::{AllocError, Global};
+use std::io::{Read, Write};
+
+/// Reads the input to its end, where the call needs it, and writes the results to one writer and the
+/// messages to the other. Returns the status: 1 where something is refused, conflicting or not found,
+/// else 0.
+pub fn run<R: Read, W: Write, E: Write>(
+    alloc: Global,
+    call: &Call<'_>,
+    beside: &[u8],
+    reader: &mut R,
+    output: &mut W,
+    errors: &mut E,
+) -> Result<u8, Fault>
+    ensures whole { IfOk result (λ _. ReadsWhole
+        call.now.reads_input (R.remaining reader.old) (R.remaining reader.new)) }
+
+    // Nothing was written before a fault, but where a writer failed.
+    ensures unwritten { IfErr result (Leaves (W.contents output.old) (W.contents output.new)) }
+    ensures untold { IfErr result (Leaves (E.contents errors.old) (E.contents errors.new)) }
+{
+    let input = input_of(alloc, call, reader)?;
+    let page = page_of(alloc, call, beside, input.as_slice())?;
+    write_all(output, page.results.as_slice())?;
+    write_all(errors, page.messages.as_slice())?;
+    Ok(u8::from(page.refused))
+}
+
+// What the reader has left, where the call reads it.
+fn input_of<R: Read>(alloc: Global, call: &Call<'_>, reader: &mut R) -> Result<Vec<u8>, Fault>
+    ensures ok { IfOk result (λ _. ReadsWhole
+        call.now.reads_input (R.remaining reader.old) (R.remaining reader.new)) }
+    ensures err { IfErr result IsReadOrMemory }
+{
+    if call.reads_input {
+        return read_input(alloc, reader);
+    }
+    Ok(Vec::new(alloc))
+}
+
+// What a call makes of its input.
+fn page_of(
+    alloc: Global,
+    call: &Call<'_>,
+    beside: &[u8],
+    input: &[u8],
+) -> Result<Page, AllocError> {
+    let mut page = Page::new(alloc, call.form);
+    let texts = texts_of(alloc, call, beside, input)?;
+    let all = check_all(alloc, texts.as_slice())?;
+    tell_page(alloc, call, all.as_slice(), input, &mut page)?;
+    Ok(page)
+}
+
+// Tells what a call asks of its specs.
+fn tell_page(
+    alloc: Global,
+    call: &Call<'_>,
+    all: &[Checked<'_>],
+    input: &[u8],
+    page: &mut Page,
+) -> Result<(), AllocError> {
+    match call.command {
+        Command::Check | Command::Canon | Command::Explain => {
+            return tell_specs(alloc, call.command, call.verbose, all, page);
+        }
+        Command::Plan | Command::Track | Command::Prefixes => {}
+    }
+    let Some(specs) = all_good(alloc, all)? else {
+        return tell_specs(alloc, Command::Check, false, all, page);
+    };
+    match call.command {
+        Command::Plan => tell_plan(alloc, call, specs, input, page),
+        Command::Track => tell_tracking(alloc, call, specs, page),
+        _ => tell_prefixes(alloc, specs, call.patterns, page),
+    }
+}
+
+// Writes bytes in one call, and flushes the writer.
+fn write_all<W: Write>(writer: &mut W, bytes: &[u8]) -> Result<(), Fault>
+    ensures ok { OnOk result (Appends (W.contents writer.old) (W.contents writer.new) bytes.now) }
+    ensures err { IfErr result IsWrite }
+{
+    if writer.write_all(bytes).is_err() || writer.flush().is_err() {
+        return Err(Fault::Write);
+    }
+    Ok(())
+}

@@ -1,0 +1,244 @@
+//! The words of the call.
+
+use crate::call::{Call, Command, Ends, Form};
+use clap::{Arg, ArgAction, ArgMatches};
+use gix_refspec::parsing::Operation;
+use std::alloc::{AllocError, Global};
+
+/// The command line, with its pages of help.
+pub fn command_line<'a>(alloc: Global) -> Result<clap::Command<'a>, AllocError> {
+    clap::Command::new(alloc, "refspec")
+        .version("0.45.1")
+        .about(
+            "Says whether Git refspecs are right, what they mean, and what a fetch with them writes.",
+        )
+        .subcommand_required(true)
+        .arg_required_else_help(true)
+        .disable_help_subcommand(true)
+        .after_help(
+            "Results go to the standard output, messages to the standard error.\nThe status is 0 if all is well, 1 if something is refused or conflicts, 2 for other words, and 3 if a file, a device or memory fails.",
+        )
+        .subcommand(check_line(alloc)?)?
+        .subcommand(explain_line(alloc)?)?
+        .subcommand(canon_line(alloc)?)?
+        .subcommand(plan_line(alloc)?)?
+        .subcommand(track_line(alloc)?)?
+        .subcommand(prefixes_line(alloc)?)
+}
+
+// A command with the options that all have, and one that takes its specs from the input too.
+fn line<'a>(alloc: Global, name: &'a str, about: &'a str) -> Result<clap::Command<'a>, AllocError> {
+    clap::Command::new(alloc, name)
+        .about(about)
+        .arg(
+            Arg::new(alloc, "spec")
+                .value_name("SPEC")
+                .num_args(0..)
+                .action(ArgAction::Append)
+                .help("A refspec. Without any, the specs are read from the input, one a line"),
+        )?
+        .arg(
+            Arg::new(alloc, "specs")
+                .long("specs")
+                .value_name("FILE")
+                .action(ArgAction::Set)
+                .help("Reads specs from this file too, or from the standard input for `-`"),
+        )?
+        .arg(flag(
+            alloc,
+            "zero",
+            "Reads and writes records that end with a zero byte, and quotes nothing",
+        )
+        .short('z'))?
+        .arg(flag(
+            alloc,
+            "read-zero",
+            "Reads records that end with a zero byte, and writes lines",
+        )
+        .long("read-z"))?
+        .arg(flag(alloc, "json", "Writes one JSON object a line, refusals too").long("json"))
+}
+
+// An option without a value.
+fn flag<'a>(alloc: Global, id: &'a str, help: &'a str) -> Arg<'a> {
+    Arg::new(alloc, id).action(ArgAction::SetTrue).help(help)
+}
+
+// The option that reads specs for a push.
+fn push_flag<'a>(alloc: Global) -> Arg<'a> {
+    flag(
+        alloc,
+        "push",
+        "The specs are for a push, and not for a fetch",
+    )
+    .long("push")
+}
+
+fn check_line<'a>(alloc: Global) -> Result<clap::Command<'a>, AllocError> {
+    line(
+        alloc,
+        "check",
+        "Tells each refspec that is refused, with the reason",
+    )?
+    .arg(push_flag(alloc))?
+    .arg(
+        flag(
+            alloc,
+            "verbose",
+            "Tells good specs too, and which say the same as an earlier one",
+        )
+        .short('v')
+        .long("verbose"),
+    )?
+    .arg(flag(
+        alloc,
+        "config",
+        "Reads what `git config --show-origin -z --get-regexp` prints",
+    )
+    .long("config"))
+}
+
+fn explain_line<'a>(alloc: Global) -> Result<clap::Command<'a>, AllocError> {
+    line(
+        alloc,
+        "explain",
+        "Says in a sentence what each refspec does",
+    )?
+    .arg(push_flag(alloc))
+}
+
+fn canon_line<'a>(alloc: Global) -> Result<clap::Command<'a>, AllocError> {
+    line(alloc, "canon", "Prints the canonical text of each refspec")?.arg(push_flag(alloc))
+}
+
+fn plan_line<'a>(alloc: Global) -> Result<clap::Command<'a>, AllocError> {
+    line(
+        alloc,
+        "plan",
+        "Tells what a fetch with these refspecs writes",
+    )?
+    .arg(
+        Arg::new(alloc, "refs")
+            .long("refs")
+            .value_name("FILE")
+            .action(ArgAction::Set)
+            .help("Reads the refs of the remote from this file, and not from the standard input"),
+    )
+}
+
+fn track_line<'a>(alloc: Global) -> Result<clap::Command<'a>, AllocError> {
+    line(
+        alloc,
+        "track",
+        "Tells which refs of the remote tracking refs belong to",
+    )?
+    .arg(
+        Arg::new(alloc, "ref")
+            .long("ref")
+            .value_name("NAME")
+            .num_args(1..)
+            .action(ArgAction::Append)
+            .required(true)
+            .help("The full name of a tracking ref"),
+    )
+}
+
+fn prefixes_line<'a>(alloc: Global) -> Result<clap::Command<'a>, AllocError> {
+    line(alloc, "prefixes", "Lists what to ask a server for")?.arg(flag(
+        alloc,
+        "patterns",
+        "Writes patterns for `git ls-remote`, and no arguments of protocol v2",
+    )
+    .long("patterns"))
+}
+
+/// The call that the matches of a command say. Its inputs are named by the words too.
+pub fn call_of<'a>(
+    alloc: Global,
+    name: &str,
+    matches: &ArgMatches<'a>,
+) -> Result<Call<'a>, AllocError> {
+    let specs = listed(alloc, matches, "spec")?;
+    let refs = listed(alloc, matches, "ref")?;
+    let command = command_of(name);
+    let is_plan = command == Command::Plan;
+    let file = matches.get_str("specs");
+    let reads_input = is_plan || specs.is_empty() || file.is_some();
+    let specs_file = or_else(file, if is_plan { "" } else { "-" });
+    let refs_file = or_else(matches.get_str("refs"), "-");
+    let operation = if matches.get_flag("push") {
+        Operation::Push
+    } else {
+        Operation::Fetch
+    };
+    Ok(Call {
+        command,
+        operation,
+        form: form_of(matches),
+        ends: ends_of(matches),
+        verbose: matches.get_flag("verbose"),
+        patterns: matches.get_flag("patterns"),
+        specs,
+        refs,
+        reads_input,
+        input: if is_plan { refs_file } else { specs_file },
+        beside: if is_plan { specs_file } else { "" },
+    })
+}
+
+// The values of an option or of the words, in order.
+fn listed<'a>(
+    alloc: Global,
+    matches: &ArgMatches<'a>,
+    id: &str,
+) -> Result<Vec<&'a str>, AllocError> {
+    let mut all = Vec::new(alloc);
+    if let Some(values) = matches.get_strs(id) {
+        for value in values {
+            all.push(*value)?;
+        }
+    }
+    Ok(all)
+}
+
+// A word, or another where it isn't there.
+fn or_else<'a>(word: Option<&'a str>, other: &'a str) -> &'a str {
+    match word {
+        Some(word) => word,
+        None => other,
+    }
+}
+
+// The command with a name.
+fn command_of(name: &str) -> Command {
+    match name {
+        "check" => Command::Check,
+        "explain" => Command::Explain,
+        "canon" => Command::Canon,
+        "plan" => Command::Plan,
+        "track" => Command::Track,
+        _ => Command::Prefixes,
+    }
+}
+
+// How results are to be written.
+fn form_of(matches: &ArgMatches<'_>) -> Form {
+    if matches.get_flag("json") {
+        return Form::Json;
+    }
+    if matches.get_flag("zero") {
+        return Form::Zeros;
+    }
+    Form::Lines
+}
+
+// What ends a record of the input.
+fn ends_of(matches: &ArgMatches<'_>) -> Ends {
+    if matches.get_flag("config") {
+        return Ends::Settings;
+    }
+    if matches.get_flag("zero") || matches.get_flag("read-zero") {
+        return Ends::Zero;
+    }
+    Ends::Newline
+}
