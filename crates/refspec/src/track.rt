@@ -37,7 +37,7 @@ pub fn tell_tracking(
     )
 }
 
-// Refs with these names. What they point to counts for nothing, since no spec is asked for an id.
+// Refs with these names. They point to the null id: of a tracking ref the name alone is given.
 fn items_named<'a>(
     alloc: Global,
     names: &[&'a str],
