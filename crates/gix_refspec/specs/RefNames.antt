@@ -1,6 +1,6 @@
--- Which mappings are between names of refs. As git-fetch(1) does with a "funny ref", one whose destination begins `refs/`
--- and is no name by git-check-ref-format(1) is left out. That a source is looked at as well, and that `HEAD` passes, are
--- this project's own rules.
+-- Which mappings are between names of refs, which begin `refs/` and are names by git-check-ref-format(1). A fetch leaves
+-- out a "funny ref", whose destination begins `refs/` and is no name; the manual of Git 2.39 has no word on that. That a
+-- source is looked at as well, and that `HEAD` passes, are this project's own rules.
 use Rattle.std.specs.Prelude.{◌≡◌, ◌≢◌, ◌⊎◌, ◌≤◌, ℕ, List, [], Option, Some, MatchOption, codes}
 use Rattle.std.specs.List.{AllByRecursion}
 use Rattle.gix_refspec.specs.declared.match_group.names.BadSide.{BadSide}

@@ -28,7 +28,8 @@ pub struct RefSpecRef<'a> {
     ghost accepted: { ∥ IsAccepted (record { operation = op; mode = mode_of mode; source = option_map bstr_bytes src; destination = option_map bstr_bytes dst }) ∥₁ },
 }
 
-/// A refspec that owns its sides: a copy of a [`RefSpecRef`], and compared, ordered and hashed like it.
+/// A refspec that owns its sides: a copy of a [`RefSpecRef`], made by its `to_owned`, or a copy of such a
+/// copy. It is compared, ordered and hashed by meaning, as those are.
 #[derive(Debug, Drop)]
 pub struct RefSpec {
     op: Operation,

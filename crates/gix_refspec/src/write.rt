@@ -32,7 +32,8 @@ fn sign(forced: bool) -> Option<u8>
 }
 
 impl<'a> Instruction<'a> {
-    /// The canonical text of the instruction. Fails if memory runs out.
+    /// The canonical text of the instruction. Of an instruction that a caller made it need not be the
+    /// text of a refspec. Fails if memory runs out.
     pub fn to_bstring(&self, alloc: Global) -> Result<BString, AllocError>
         ensures { IfOk result (λ text. bstring_bytes text ≡ text_of (shown self.now)) }
     {

@@ -26,7 +26,7 @@ pub enum BadSide {
 /// A mapping that was left out because a side of it is no name of a ref.
 #[derive(Debug, Drop)]
 pub struct BadMapping<'a, 'b> {
-    /// The mapping.
+    /// A copy of the mapping, which borrows what the mapping that was left out did.
     pub mapping: Mapping<'a, 'b>,
     /// The side that is no name of a ref.
     pub side: BadSide,

@@ -93,7 +93,7 @@ pub enum Fix {
 }
 
 impl Fix {
-    /// A copy of the fix. Fails if memory runs out.
+    /// A copy of the fix, which borrows nothing. Fails if memory runs out.
     pub fn clone(&self, alloc: Global) -> Result<Fix, AllocError>
         ensures { IfOk result (λ copy. removed_of copy ≡ removed_of self.now) }
     {
