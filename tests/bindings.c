@@ -1,14 +1,15 @@
-/* Calls the archive as a program in C does: bindings [canon OPERATION]
+/* Calls the archive as a program in C does: bindings [canon OPERATION | lhs | rhs | measure]
  *
  * Without words it makes each call with each outcome, at the exact size and one byte below, with each growth of
  * memory refused in turn, from four threads, and on a stack of 16 kB. With words it answers the lines of its input as
- * refspec_map does. */
+ * refspec_map does, of good lines alone, and not where ids are looked back for; `measure` times a match. */
 #include <gix_refspec.h>
 #include <pthread.h>
 #include <stdbool.h>
 #include <stdio.h>
 #include <stdlib.h>
 #include <string.h>
+#include <time.h>
 
 /* The growth with this number is refused, and all behind it; 0 refuses none. */
 static _Thread_local long growths, refused;
@@ -134,13 +135,13 @@ static void check_buffer(fills *fill, const char *answer)
 
 static void check_explanations(void)
 {
-    for (uint32_t outcome = 0; outcome <= GIX_REFSPEC_NO_OPERATION; outcome++) {
+    for (uint32_t outcome = 0; outcome <= GIX_REFSPEC_NEEDS_IDS; outcome++) {
         gix_refspec_text sentence = GIX_REFSPEC_TEXT_INIT;
         CHECK(gix_refspec_explanation(outcome, &sentence) == GIX_REFSPEC_OK);
         CHECK(sentence.len > 10 && sentence.len == strlen((const char *)sentence.bytes) + 1);
     }
     gix_refspec_text none = GIX_REFSPEC_TEXT_INIT;
-    CHECK(gix_refspec_explanation(GIX_REFSPEC_NO_OPERATION + 1, &none) == GIX_REFSPEC_NO_OPERATION && none.len == 0);
+    CHECK(gix_refspec_explanation(GIX_REFSPEC_NEEDS_IDS + 1, &none) == GIX_REFSPEC_NO_OPERATION && none.len == 0);
 }
 
 #define TEXT(text) { BYTES(text) }
@@ -163,6 +164,70 @@ static void check_groups(void)
     CHECK(gix_refspec_prefixes(texts, 0, GIX_REFSPEC_PUSH, buffer, 0, &len) == GIX_REFSPEC_OK && len == 0);
 }
 
+static const gix_refspec_text names[] = { TEXT("refs/heads/a"), TEXT("refs/heads/b"), TEXT("refs/tags/b") };
+
+static uint32_t match(uint32_t direction, gix_refspec_mapping *mappings, size_t room, uint8_t *buffer,
+                      size_t buffer_len, size_t *count, size_t *len)
+{
+    gix_refspec_text texts[] = { TEXT("refs/heads/*:refs/x/*"), TEXT("^refs/heads/a"),
+                                 TEXT("1111111111111111111111111111111111111111"), TEXT("b") };
+    return gix_refspec_match(texts, 4, names, 3, direction, mappings, room, buffer, buffer_len, count, len);
+}
+
+static void check_mappings(void)
+{
+    const char *answer = "1111111111111111111111111111111111111111refs/x/b";
+    size_t needed = strlen(answer), count = 9, len = 99;
+    gix_refspec_mapping made[4];
+    uint8_t buffer[256];
+    memset(made, 'x', sizeof made);
+    memset(buffer, 'x', sizeof buffer);
+    CHECK(match(GIX_REFSPEC_FORWARD, made, 2, buffer, needed, &count, &len) == GIX_REFSPEC_TOO_SMALL);
+    CHECK(count == 3 && len == needed && buffer[0] == 'x' && *(char *)made == 'x');
+    CHECK(match(GIX_REFSPEC_FORWARD, made, 3, buffer, needed - 1, &count, &len) == GIX_REFSPEC_TOO_SMALL);
+    CHECK(count == 3 && len == needed && buffer[0] == 'x' && *(char *)made == 'x');
+    CHECK(match(GIX_REFSPEC_FORWARD, made, 3, buffer, needed, &count, &len) == GIX_REFSPEC_OK);
+    CHECK(count == 3 && len == needed && memcmp(buffer, answer, needed) == 0);
+    CHECK(buffer[needed] == 'x' && *(char *)(made + 3) == 'x');
+    CHECK(made[0].spec == 2 && made[0].item == GIX_REFSPEC_NO_ITEM && made[0].has_destination == 0);
+    CHECK(made[0].id_at == 0 && made[0].id_len == 40 && made[0].made_len == 0);
+    CHECK(made[1].spec == 0 && made[1].item == 1 && made[1].has_destination == 1 && made[1].verdict == 0);
+    CHECK(made[1].id_len == 0 && made[1].made_at == 40 && made[1].made_len == 8);
+    CHECK(made[2].spec == 3 && made[2].item == 2 && made[2].has_destination == 0 && made[2].made_len == 0);
+    for (refused = 1;; refused++) {
+        memset(buffer, 'x', sizeof buffer);
+        growths = 0;
+        count = len = 99;
+        uint32_t outcome = match(GIX_REFSPEC_FORWARD, made, 4, buffer, sizeof buffer, &count, &len);
+        if (growths < refused) {
+            CHECK(outcome == GIX_REFSPEC_OK && refused > 1);
+            break;
+        }
+        CHECK(outcome == GIX_REFSPEC_NO_MEMORY && count == 99 && len == 99 && buffer[0] == 'x');
+    }
+    refused = 0;
+}
+
+static void check_looking_back(void)
+{
+    gix_refspec_text texts[] = { TEXT("refs/x/*:refs/heads/*"), TEXT("^refs/x/a"),
+                                 TEXT("refs/x/c:1111111111111111111111111111111111111111"), TEXT("a b") };
+    gix_refspec_mapping made[4];
+    uint8_t buffer[16];
+    size_t count = 9, len = 99;
+    CHECK(gix_refspec_match(texts, 2, names, 3, GIX_REFSPEC_BACKWARD, made, 4, buffer, 16, &count, &len) == 0);
+    CHECK(count == 1 && len == 8 && memcmp(buffer, "refs/x/b", 8) == 0);
+    CHECK(made[0].spec == 0 && made[0].item == 1 && made[0].has_destination == 1 && made[0].made_at == 0);
+    CHECK(gix_refspec_match(texts, 3, names, 3, GIX_REFSPEC_BACKWARD, made, 4, buffer, 16, &count, &len)
+          == GIX_REFSPEC_NEEDS_IDS);
+    CHECK(gix_refspec_match(texts, 3, names, 3, GIX_REFSPEC_FORWARD, made, 4, buffer, 16, &count, &len) == 0);
+    CHECK(count == 0 && len == 0);
+    CHECK(gix_refspec_match(texts, 4, names, 3, GIX_REFSPEC_FORWARD, made, 4, buffer, 16, &count, &len)
+          == GIX_REFSPEC_NAME_INVALID_BYTE);
+    CHECK(gix_refspec_match(texts, 4, names, 3, 0, made, 4, buffer, 16, &count, &len) == GIX_REFSPEC_NO_OPERATION);
+    CHECK(count == 0 && len == 0);
+}
+
 static void *check_all(void *nothing)
 {
     check_outcomes();
@@ -171,6 +236,8 @@ static void *check_all(void *nothing)
     check_buffer(canonical, "+HEAD:refs/x");
     check_buffer(prefixes, "refs/heads/\nrefs/tags/v1\n");
     check_groups();
+    check_mappings();
+    check_looking_back();
     check_explanations();
     return nothing;
 }
@@ -219,8 +286,88 @@ static int canon(uint32_t operation)
     return status;
 }
 
+static void put_mapping(const gix_refspec_mapping *one, const gix_refspec_text *items, const uint8_t *buffer, bool forward)
+{
+    const uint8_t *id = buffer + one->id_at, *made = buffer + one->made_at;
+    gix_refspec_text item = { id, one->id_len }, other = { made, one->made_len };
+    if (one->item == GIX_REFSPEC_NO_ITEM)
+        printf("map\t%zu\t-", one->spec);
+    else
+        printf("map\t%zu\t%zu", one->spec, one->item), item = items[one->item];
+    const gix_refspec_text left = forward ? item : other, right = forward ? other : item;
+    putchar('\t');
+    fwrite(left.bytes, 1, left.len, stdout);
+    if (one->has_destination) {
+        putchar('\t');
+        fwrite(right.bytes, 1, right.len, stdout);
+    }
+    putchar('\n');
+}
+
+/* The mappings of lines `spec TEXT`, `ref ID NAME` and `tag ID ID NAME`, or the outcome where there are none. */
+static int mapped(uint32_t direction)
+{
+    static gix_refspec_text texts[4096], items[4096];
+    static gix_refspec_mapping made[65536];
+    static uint8_t buffer[1 << 20];
+    size_t specs = 0, refs = 0, count = 0, len = 0, room = 0;
+    char *line = NULL;
+    ssize_t read;
+    while ((read = getline(&line, &room, stdin)) > 0) {
+        size_t line_len = (size_t)read - (line[read - 1] == '\n');
+        int words = strncmp(line, "spec ", 5) == 0 ? 1 : strncmp(line, "ref ", 4) == 0 ? 2 : 3;
+        const char *at = line;
+        for (int i = 0; i < words; i++)
+            at = strchr(at, ' ') + 1;
+        CHECK(specs < 4096 && refs < 4096);
+        gix_refspec_text *to = words == 1 ? &texts[specs++] : &items[refs++];
+        to->len = line_len - (size_t)(at - line);
+        uint8_t *copy = malloc(to->len + 1);
+        memcpy(copy, at, to->len);
+        to->bytes = copy;
+    }
+    uint32_t outcome = gix_refspec_match(texts, specs, items, refs, direction, made, 65536, buffer, sizeof buffer,
+                                         &count, &len);
+    if (outcome != GIX_REFSPEC_OK)
+        printf("outcome %u\n", outcome);
+    else
+        for (size_t i = 0; i < count; i++)
+            put_mapping(&made[i], items, buffer, direction == GIX_REFSPEC_FORWARD);
+    while (specs > 0)
+        free((void *)texts[--specs].bytes);
+    while (refs > 0)
+        free((void *)items[--refs].bytes);
+    free(line);
+    return 0;
+}
+
+static int measure(void)
+{
+    static gix_refspec_text items[100000];
+    static char bytes[100000][32];
+    static gix_refspec_mapping made[100000];
+    static uint8_t buffer[8000000];
+    const gix_refspec_text pattern = TEXT("+refs/heads/*:refs/remotes/origin/*");
+    for (size_t i = 0; i < 100000; i++)
+        items[i] = (gix_refspec_text){ (uint8_t *)bytes[i], (size_t)sprintf(bytes[i], "refs/heads/topic-%zu", i) };
+    for (int i = 0; i < 7; i++) {
+        size_t count = 0, len = 0;
+        struct timespec from, to;
+        clock_gettime(CLOCK_MONOTONIC, &from);
+        CHECK(gix_refspec_match(&pattern, 1, items, 100000, GIX_REFSPEC_FORWARD, made, 100000, buffer, sizeof buffer,
+                                &count, &len) == GIX_REFSPEC_OK && count == 100000);
+        clock_gettime(CLOCK_MONOTONIC, &to);
+        printf("%.1f ms\n", (double)(to.tv_sec - from.tv_sec) * 1e3 + (double)(to.tv_nsec - from.tv_nsec) / 1e6);
+    }
+    return 0;
+}
+
 int main(int count, char **words)
 {
+    if (count == 2 && strcmp(words[1], "measure") == 0)
+        return measure();
+    if (count == 2)
+        return mapped(strcmp(words[1], "lhs") == 0 ? GIX_REFSPEC_FORWARD : GIX_REFSPEC_BACKWARD);
     if (count == 3)
         return canon(strcmp(words[2], "push") == 0 ? GIX_REFSPEC_PUSH : GIX_REFSPEC_FETCH);
     check_all(NULL);

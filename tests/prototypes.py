@@ -1,5 +1,5 @@
 """Holds the header against the archive and the sources: prototypes.py HEADER ARCHIVE
-Replays canon.sample over a program of the calls: prototypes.py --replay PROGRAM
+Replays canon.sample, lhs.sample and rhs.sample over a program of the calls: prototypes.py --replay PROGRAM
 """
 import os
 import re
@@ -19,6 +19,7 @@ IN_C = {
     "&[Text]": ["const gix_refspec_text *", "size_t"],
     "&mut Text": ["gix_refspec_text *"],
     "&mut Parts": ["gix_refspec_instruction *"],
+    "&mut [MappingOut]": ["gix_refspec_mapping *", "size_t"],
 }
 
 
@@ -93,6 +94,38 @@ def replay(program):
             sys.exit(f"bindings: {len(answers) - 1} answers to {len(pairs)} texts")
         count += len(pairs)
     print(f"bindings: {count} stored texts, answered as stored")
+    for command in ("lhs", "rhs"):
+        replay_groups(program, command)
+
+
+def groups_of(name):
+    groups = []
+    with open(os.path.join(HERE, name), "rb") as file:
+        for line in file.read().split(b"\n"):
+            if line == b"":
+                groups.append(([], []))
+            elif not line.startswith(b"#") and line[:2] in (b"< ", b"> "):
+                groups[-1][line[:2] == b"> "].append(
+                    re.sub(rb"\\x([0-9a-f]{2})", lambda at: bytes([int(at[1], 16)]), line[2:]) + b"\n")
+    return [tuple(map(b"".join, group)) for group in groups if group[0]]
+
+
+def replay_groups(program, command):
+    """Groups with a line that is refused are left out, and those that look back for an id."""
+    count = left_out = 0
+    for given, answer in groups_of(f"{command}.sample"):
+        if answer.startswith(b"line "):
+            left_out += 1
+            continue
+        made = subprocess.run([program, command], input=given, stdout=subprocess.PIPE, check=False).stdout
+        if made == b"outcome 21\n" and command == "rhs":
+            left_out += 1
+        elif made != answer:
+            sys.exit(f"bindings: {command} of {given!r} is answered {made!r}, not {answer!r}")
+        else:
+            count += 1
+    print(f"bindings: {count} stored groups for {command}, answered as stored; left out are {left_out} that are refused,"
+          " or ask back for an id")
 
 
 if sys.argv[1] == "--replay":

@@ -1,4 +1,4 @@
-"""Git refspecs over libgix_refspec: parsed, printed, compared, and made into what to ask a server for.
+"""Git refspecs over libgix_refspec: parsed, printed, compared, matched, and made into what to ask a server for.
 
 >>> parse(b"+@:refs/remotes/origin/HEAD", Operation.FETCH).canonical
 b'+HEAD:refs/remotes/origin/HEAD'
@@ -29,6 +29,18 @@ class _Parts(ctypes.Structure):
                 ("destination", ctypes.POINTER(ctypes.c_char)), ("destination_len", ctypes.c_size_t)]
 
 
+class Direction(enum.IntEnum):
+    """Which sides of fetches are matched: the sources, or the destinations."""
+    FORWARD = 1
+    BACKWARD = 2
+
+
+class _Mapping(ctypes.Structure):
+    _fields_ = [("spec", ctypes.c_size_t), ("item", ctypes.c_size_t), ("has_destination", ctypes.c_uint32),
+                ("verdict", ctypes.c_uint32), ("id_at", ctypes.c_size_t), ("id_len", ctypes.c_size_t),
+                ("made_at", ctypes.c_size_t), ("made_len", ctypes.c_size_t)]
+
+
 class RefspecError(ValueError):
     """Why a text is no refspec, or why there is no answer: a sentence, and the number of the outcome."""
 
@@ -48,6 +60,15 @@ class Spec:
     kind: int
     forced: bool
     source: Optional[bytes]
+    destination: Optional[bytes]
+
+
+@dataclass(frozen=True)
+class Mapping:
+    """A mapping: the places of its spec and of its name, None of an id that is asked for; and its sides."""
+    spec: int
+    item: Optional[int]
+    source: bytes
     destination: Optional[bytes]
 
 
@@ -89,3 +110,31 @@ def prefixes(fetches: Iterable[bytes]) -> Optional[List[bytes]]:
             return None
         raise
     return lines.split(b"\n")[:-1]
+
+
+def matches(fetches: Iterable[bytes], names: Iterable[bytes], direction: Direction) -> List[Mapping]:
+    """What the texts of fetches map of names, or back from names. Raises RefspecError where a text is no refspec, and
+    looking back where a destination is an id."""
+    named = list(names)
+    given = []
+    for texts in ([_Text(text, len(text)) for text in fetches], [_Text(name, len(name)) for name in named]):
+        given += [(_Text * max(1, len(texts)))(*texts), ctypes.c_size_t(len(texts))]
+    count, size, rooms = ctypes.c_size_t(), ctypes.c_size_t(), (len(named) + 8, 64 * len(named) + 256)
+    while True:
+        made, buffer = (_Mapping * rooms[0])(), ctypes.create_string_buffer(rooms[1])
+        outcome = _library.gix_refspec_match(
+            *given, ctypes.c_uint32(direction), made, ctypes.c_size_t(rooms[0]), buffer, ctypes.c_size_t(rooms[1]),
+            ctypes.byref(count), ctypes.byref(size))
+        if outcome == _OK:
+            return [_mapping(one, named, buffer.raw, direction) for one in made[:count.value]]
+        if outcome != _TOO_SMALL:
+            raise RefspecError(outcome)
+        rooms = (max(1, count.value), max(1, size.value))
+
+
+def _mapping(one: _Mapping, names: List[bytes], text: bytes, direction: Direction) -> Mapping:
+    item = None if one.id_len or one.item >= len(names) else one.item
+    name = text[one.id_at:one.id_at + one.id_len] if item is None else names[item]
+    made = text[one.made_at:one.made_at + one.made_len]
+    source, other = (name, made) if direction == Direction.FORWARD else (made, name)
+    return Mapping(one.spec, item, source, other if one.has_destination else None)

@@ -3,7 +3,7 @@ import doctest
 import unittest
 
 import gix_refspec
-from gix_refspec import Operation, RefspecError, parse, prefixes
+from gix_refspec import Direction, Mapping, Operation, RefspecError, matches, parse, prefixes
 
 
 class Calls(unittest.TestCase):
@@ -29,6 +29,16 @@ class Calls(unittest.TestCase):
         self.assertIsNone(prefixes([b"*:refs/x/*"]))
         name = b"refs/heads/" + b"a" * 1000
         self.assertEqual(prefixes([name]), [name])
+
+    def test_matches(self) -> None:
+        one = Mapping(0, 0, b"refs/heads/a", b"refs/x/a")
+        texts = [b"refs/heads/*:refs/x/*", b"^refs/heads/b", b"1" * 40]
+        there = matches(texts, [b"refs/heads/a", b"refs/heads/b"], Direction.FORWARD)
+        self.assertEqual(there, [Mapping(2, None, b"1" * 40, None), one])
+        self.assertEqual(matches(texts, [b"refs/x/a"], Direction.BACKWARD), [one])
+        self.assertEqual(len(matches(texts, [b"refs/heads/" + b"a" * 1000], Direction.FORWARD)), 2)
+        with self.assertRaisesRegex(RefspecError, "object id"):
+            matches([b"a:" + b"1" * 40], [b"refs/heads/a"], Direction.BACKWARD)
 
 
 def load_tests(loader, tests, pattern):

@@ -1,4 +1,4 @@
-/* Git refspecs: checked, taken apart, printed, compared and explained.
+/* Git refspecs: checked, taken apart, printed, compared, matched and explained.
  *
  * Each call answers an outcome: GIX_REFSPEC_OK, or why not. A text is a pointer, which is never null, and a
  * length. The caller owns all memory. Nothing is kept from call to call, and threads may call at will.
@@ -16,39 +16,23 @@ extern "C" {
 /* What a refspec is for. */
 enum { GIX_REFSPEC_FETCH = 1, GIX_REFSPEC_PUSH = 2 };
 
-/* Outcomes. Those from EMPTY to NAME_INVALID_BYTE say what is wrong with a text. */
+/* Outcomes. Those from EMPTY to NAME_INVALID_BYTE say what is wrong with a text; NAME_EMPTY and NAME_ASTERISK never
+ * come. */
 enum {
-    GIX_REFSPEC_OK = 0,
-    GIX_REFSPEC_EMPTY = 1,
-    GIX_REFSPEC_NEGATIVE_WITH_DESTINATION = 2,
-    GIX_REFSPEC_NEGATIVE_EMPTY = 3,
-    GIX_REFSPEC_NEGATIVE_OBJECT_HASH = 4,
-    GIX_REFSPEC_PUSH_TO_EMPTY = 5,
-    GIX_REFSPEC_PATTERN_UNSUPPORTED = 6,
-    GIX_REFSPEC_PATTERN_UNBALANCED = 7,
-    GIX_REFSPEC_NAME_EMPTY = 8, /* never given */
-    GIX_REFSPEC_NAME_EMPTY_COMPONENT = 9,
-    GIX_REFSPEC_NAME_STARTS_WITH_DOT = 10,
-    GIX_REFSPEC_NAME_LOCK_SUFFIX = 11,
-    GIX_REFSPEC_NAME_ENDS_WITH_DOT = 12,
-    GIX_REFSPEC_NAME_REPEATED_DOT = 13,
-    GIX_REFSPEC_NAME_REFLOG_PORTION = 14,
-    GIX_REFSPEC_NAME_ASTERISK = 15, /* never given */
-    GIX_REFSPEC_NAME_INVALID_BYTE = 16,
-    GIX_REFSPEC_NO_LIST = 17,
-    GIX_REFSPEC_TOO_SMALL = 18,
-    GIX_REFSPEC_NO_MEMORY = 19,
-    GIX_REFSPEC_NO_OPERATION = 20
+    GIX_REFSPEC_OK = 0, GIX_REFSPEC_EMPTY = 1, GIX_REFSPEC_NEGATIVE_WITH_DESTINATION = 2,
+    GIX_REFSPEC_NEGATIVE_EMPTY = 3, GIX_REFSPEC_NEGATIVE_OBJECT_HASH = 4, GIX_REFSPEC_PUSH_TO_EMPTY = 5,
+    GIX_REFSPEC_PATTERN_UNSUPPORTED = 6, GIX_REFSPEC_PATTERN_UNBALANCED = 7, GIX_REFSPEC_NAME_EMPTY = 8,
+    GIX_REFSPEC_NAME_EMPTY_COMPONENT = 9, GIX_REFSPEC_NAME_STARTS_WITH_DOT = 10,
+    GIX_REFSPEC_NAME_LOCK_SUFFIX = 11, GIX_REFSPEC_NAME_ENDS_WITH_DOT = 12, GIX_REFSPEC_NAME_REPEATED_DOT = 13,
+    GIX_REFSPEC_NAME_REFLOG_PORTION = 14, GIX_REFSPEC_NAME_ASTERISK = 15, GIX_REFSPEC_NAME_INVALID_BYTE = 16,
+    GIX_REFSPEC_NO_LIST = 17, GIX_REFSPEC_TOO_SMALL = 18, GIX_REFSPEC_NO_MEMORY = 19,
+    GIX_REFSPEC_NO_OPERATION = 20, GIX_REFSPEC_NEEDS_IDS = 21
 };
 
 /* Kinds of instructions. */
 enum {
-    GIX_REFSPEC_PUSH_ALL_MATCHING = 1,
-    GIX_REFSPEC_PUSH_DELETE = 2,
-    GIX_REFSPEC_PUSH_MATCHING = 3,
-    GIX_REFSPEC_PUSH_EXCLUDE = 4,
-    GIX_REFSPEC_FETCH_ONLY = 5,
-    GIX_REFSPEC_FETCH_EXCLUDE = 6,
+    GIX_REFSPEC_PUSH_ALL_MATCHING = 1, GIX_REFSPEC_PUSH_DELETE = 2, GIX_REFSPEC_PUSH_MATCHING = 3,
+    GIX_REFSPEC_PUSH_EXCLUDE = 4, GIX_REFSPEC_FETCH_ONLY = 5, GIX_REFSPEC_FETCH_EXCLUDE = 6,
     GIX_REFSPEC_FETCH_AND_UPDATE = 7
 };
 
@@ -68,6 +52,18 @@ typedef struct {
 } gix_refspec_instruction;
 #define GIX_REFSPEC_PARTS_INIT { 0, 0, GIX_REFSPEC_TEXT_INIT, GIX_REFSPEC_TEXT_INIT }
 
+/* Which sides of fetches are matched: the sources, or the destinations. */
+enum { GIX_REFSPEC_FORWARD = 1, GIX_REFSPEC_BACKWARD = 2 };
+#define GIX_REFSPEC_NO_ITEM SIZE_MAX
+
+/* A mapping: the places of its spec and of its name, GIX_REFSPEC_NO_ITEM of an id that is asked for; where in the
+ * buffer that id stands, else a length of 0; and the name that the spec makes, the destination or backward the source. */
+typedef struct {
+    size_t spec, item;
+    uint32_t has_destination, verdict; /* the verdict is 0 */
+    size_t id_at, id_len, made_at, made_len;
+} gix_refspec_mapping;
+
 /* Whether a text is a refspec. */
 uint32_t gix_refspec_check(const uint8_t *text, size_t text_len, uint32_t operation);
 
@@ -85,6 +81,11 @@ uint32_t gix_refspec_compare(const uint8_t *a, size_t a_len, const uint8_t *b, s
 /* What to ask a server for, a prefix a line. GIX_REFSPEC_NO_LIST where only a request for all refs is safe. */
 uint32_t gix_refspec_prefixes(const gix_refspec_text *texts, size_t count, uint32_t operation, uint8_t *buffer,
                               size_t buffer_len, size_t *len);
+
+/* What fetches map of names. *count and *len are set to what the lists need, also at GIX_REFSPEC_TOO_SMALL. */
+uint32_t gix_refspec_match(const gix_refspec_text *texts, size_t texts_count, const gix_refspec_text *names,
+                           size_t names_count, uint32_t direction, gix_refspec_mapping *mappings,
+                           size_t mappings_count, uint8_t *buffer, size_t buffer_len, size_t *count, size_t *len);
 
 /* The sentence for an outcome. It ends with a NUL, which its length counts. */
 uint32_t gix_refspec_explanation(uint32_t outcome, gix_refspec_text *sentence);

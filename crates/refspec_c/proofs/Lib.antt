@@ -1,3 +1,4 @@
 pub mod OutcomeLemmas
 pub mod SingleLemmas
 pub mod GroupLemmas
+pub mod MatchingLemmas

@@ -35,4 +35,5 @@ said failure.NameInvalidByte = name_explained (of_name.InvalidByte 0)
 said failure.NoList = codes "Only a request for all refs is safe."
 said failure.TooSmall = codes "The buffer has no room for the answer."
 said failure.NoMemory = codes "Memory ran out."
-said failure.NoOperation = codes "There is no such operation, or no such outcome."
+said failure.NoOperation = codes "There is no such operation, direction or outcome."
+said failure.NeedsIds = codes "A destination is an object id, and names alone don't tell which refs have it."

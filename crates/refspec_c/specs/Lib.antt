@@ -4,3 +4,5 @@ pub mod Single
 pub mod Buffer
 pub mod Explanation
 pub mod Group
+pub mod Mapping
+pub mod Matching

@@ -29,6 +29,7 @@ number_of failure.NoList = 17
 number_of failure.TooSmall = 18
 number_of failure.NoMemory = 19
 number_of failure.NoOperation = 20
+number_of failure.NeedsIds = 21
 
 -- the failure that tells of a fault of a name
 abbrev pub of_fault : NameError → Failure

@@ -66,6 +66,7 @@ fn failure_numbered(number: u32) -> Option<Failure>
         18 => Failure::TooSmall,
         19 => Failure::NoMemory,
         20 => Failure::NoOperation,
+        21 => Failure::NeedsIds,
         _ => return None,
     })
 }
@@ -108,6 +109,9 @@ fn sentence_of(failure: Failure) -> &'static [u8]
         Failure::NoList => b"Only a request for all refs is safe.\0",
         Failure::TooSmall => b"The buffer has no room for the answer.\0",
         Failure::NoMemory => b"Memory ran out.\0",
-        Failure::NoOperation => b"There is no such operation, or no such outcome.\0",
+        Failure::NoOperation => b"There is no such operation, direction or outcome.\0",
+        Failure::NeedsIds => {
+            b"A destination is an object id, and names alone don't tell which refs have it.\0"
+        }
     }
 }

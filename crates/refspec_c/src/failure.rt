@@ -49,8 +49,10 @@ pub enum Failure {
     TooSmall,
     /// Memory ran out.
     NoMemory,
-    /// The number is that of no operation, or of no outcome.
+    /// The number is that of no operation, of no direction, or of no outcome.
     NoOperation,
+    /// A destination is an id, which names don't tell of.
+    NeedsIds,
 }
 
 impl Failure {
@@ -79,6 +81,7 @@ impl Failure {
             Failure::TooSmall => 18,
             Failure::NoMemory => 19,
             Failure::NoOperation => 20,
+            Failure::NeedsIds => 21,
         }
     }
 }

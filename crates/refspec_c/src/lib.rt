@@ -7,6 +7,8 @@
 
 pub mod explanation;
 pub mod failure;
+pub mod listing;
+pub mod matching;
 pub mod parts;
 pub mod prefixes;
 mod put;

@@ -10,6 +10,14 @@ pub const OK: u32 = 0;
 pub const NO_LIST: u32 = 17;
 pub const TOO_SMALL: u32 = 18;
 pub const NO_MEMORY: u32 = 19;
+pub const NEEDS_IDS: u32 = 21;
+
+/// Which sides of fetches are matched.
+pub const FORWARD: u32 = 1;
+pub const BACKWARD: u32 = 2;
+
+/// The place of an id that is asked for among the names.
+pub const NO_ITEM: usize = usize::MAX;
 
 /// A text. The pointer is never null.
 #[repr(C)]
@@ -27,6 +35,20 @@ pub struct Parts {
     pub forced: u32,
     pub source: Text,
     pub destination: Text,
+}
+
+/// A mapping. Its texts are places in the buffer.
+#[repr(C)]
+#[derive(Clone, Copy, Debug, Default)]
+pub struct Mapping {
+    pub spec: usize,
+    pub item: usize,
+    pub has_destination: u32,
+    pub verdict: u32,
+    pub id_at: usize,
+    pub id_len: usize,
+    pub made_at: usize,
+    pub made_len: usize,
 }
 
 extern "C" {
@@ -54,6 +76,19 @@ extern "C" {
         operation: u32,
         buffer: *mut u8,
         buffer_len: usize,
+        len: *mut usize,
+    ) -> u32;
+    pub fn gix_refspec_match(
+        texts: *const Text,
+        texts_count: usize,
+        names: *const Text,
+        names_count: usize,
+        direction: u32,
+        mappings: *mut Mapping,
+        mappings_count: usize,
+        buffer: *mut u8,
+        buffer_len: usize,
+        count: *mut usize,
         len: *mut usize,
     ) -> u32;
     pub fn gix_refspec_explanation(outcome: u32, sentence: *mut Text) -> u32;

@@ -1,4 +1,4 @@
-//! Git refspecs: parsed, printed, compared, and made into what to ask a server for.
+//! Git refspecs: parsed, printed, compared, matched, and made into what to ask a server for.
 //!
 //! ```
 //! use refspec::{Operation, Spec};
@@ -174,7 +174,7 @@ pub fn prefixes(fetches: &[Spec]) -> Result<Option<Vec<Vec<u8>>>, Error> {
     let fetches: Vec<sys::Text> = fetches
         .iter()
         .filter(|spec| spec.operation == Operation::Fetch)
-        .map(|spec| sys::Text { bytes: spec.canonical.as_ptr(), len: spec.canonical.len() })
+        .map(|spec| text_of(&spec.canonical))
         .collect();
     let lines = filled(256, |buffer, len| unsafe {
         sys::gix_refspec_prefixes(
@@ -194,6 +194,95 @@ pub fn prefixes(fetches: &[Spec]) -> Result<Option<Vec<Vec<u8>>>, Error> {
         Err(error) if error.outcome == sys::NO_LIST => Ok(None),
         Err(error) => Err(error),
     }
+}
+
+/// Which sides of specs are matched.
+#[derive(Clone, Copy, Debug, PartialEq, Eq, Hash)]
+pub enum Direction {
+    /// The sources, over the names of the remote.
+    Forward,
+    /// The destinations, over local names.
+    Backward,
+}
+
+/// A mapping of a source to a destination.
+#[derive(Clone, Debug, PartialEq, Eq, Hash)]
+pub struct Mapping {
+    /// The index of the spec.
+    pub spec: usize,
+    /// The index of the name. `None` for an object that is asked for by its id.
+    pub item: Option<usize>,
+    /// A name, or an id in lower case.
+    pub source: Vec<u8>,
+    /// `None` if the spec has none.
+    pub destination: Option<Vec<u8>>,
+}
+
+/// What fetches map of names, or back from names. The canonical text of a push is read as that of a fetch. Looking back
+/// fails where a destination is an id, which names don't tell of.
+///
+/// ```
+/// use refspec::{matches, Direction, Operation, Spec};
+///
+/// let specs = [Spec::parse("refs/heads/*:refs/remotes/origin/*", Operation::Fetch)?];
+/// let found = matches(&specs, &["refs/heads/main", "refs/tags/v1"], Direction::Forward)?;
+/// assert_eq!(found.len(), 1);
+/// assert_eq!(found[0].destination.as_deref(), Some(&b"refs/remotes/origin/main"[..]));
+/// # Ok::<(), refspec::Error>(())
+/// ```
+pub fn matches<N: AsRef<[u8]>>(fetches: &[Spec], names: &[N], direction: Direction) -> Result<Vec<Mapping>, Error> {
+    let texts: Vec<sys::Text> = fetches.iter().map(|spec| text_of(&spec.canonical)).collect();
+    let items: Vec<sys::Text> = names.iter().map(|name| text_of(name.as_ref())).collect();
+    let number = match direction {
+        Direction::Forward => sys::FORWARD,
+        Direction::Backward => sys::BACKWARD,
+    };
+    let (mut mappings, mut buffer) = (vec![sys::Mapping::default(); names.len() + 8], vec![0; 64 * names.len() + 256]);
+    let (mut count, mut len) = (0, 0);
+    loop {
+        // Nothing that the call writes is behind anything that it reads.
+        let outcome = unsafe {
+            sys::gix_refspec_match(
+                texts.as_ptr(),
+                texts.len(),
+                items.as_ptr(),
+                items.len(),
+                number,
+                mappings.as_mut_ptr(),
+                mappings.len(),
+                buffer.as_mut_ptr(),
+                buffer.len(),
+                &mut count,
+                &mut len,
+            )
+        };
+        match outcome {
+            sys::OK => break,
+            sys::TOO_SMALL => {
+                mappings.resize(count.max(mappings.len()), sys::Mapping::default());
+                buffer.resize(len.max(buffer.len()), 0);
+            }
+            _ => return Err(Error { outcome }),
+        }
+    }
+    let told = mappings[..count].iter().map(|one| {
+        let item = (one.item != sys::NO_ITEM).then_some(one.item);
+        let made = buffer[one.made_at..one.made_at + one.made_len].to_vec();
+        let name = match item {
+            Some(place) => names[place].as_ref().to_vec(),
+            None => buffer[one.id_at..one.id_at + one.id_len].to_vec(),
+        };
+        let (source, other) = match direction {
+            Direction::Forward => (name, made),
+            Direction::Backward => (made, name),
+        };
+        Mapping { spec: one.spec, item, source, destination: (one.has_destination == 1).then_some(other) }
+    });
+    Ok(told.collect())
+}
+
+fn text_of(bytes: &[u8]) -> sys::Text {
+    sys::Text { bytes: bytes.as_ptr(), len: bytes.len() }
 }
 
 /// The answer of a call that fills a buffer, which is made as large as the call says that it has to be.
@@ -251,6 +340,32 @@ mod tests {
             assert_eq!(spec.kind(), Some(kind), "at {text}");
             assert_eq!(spec.is_forced(), text.starts_with('+'), "at {text}");
         }
+        Ok(())
+    }
+
+    #[test]
+    fn mappings_go_there_and_back() -> Result<(), Error> {
+        let id = "1".repeat(40);
+        let specs = [
+            Spec::parse("refs/heads/*:refs/x/*", Operation::Fetch)?,
+            Spec::parse("^refs/heads/b", Operation::Fetch)?,
+            Spec::parse(&id, Operation::Fetch)?,
+        ];
+        let there = matches(&specs, &["refs/heads/a", "refs/heads/b"], Direction::Forward)?;
+        let asked = Mapping { spec: 2, item: None, source: id.into_bytes(), destination: None };
+        let named = Mapping {
+            spec: 0,
+            item: Some(0),
+            source: b"refs/heads/a".to_vec(),
+            destination: Some(b"refs/x/a".to_vec()),
+        };
+        assert_eq!(there, [asked, named.clone()]);
+        assert_eq!(matches(&specs, &["refs/x/a", "refs/x/b"], Direction::Backward)?, [named]);
+        let long = format!("refs/heads/{}", "a".repeat(1000));
+        assert_eq!(matches(&specs, &[&long], Direction::Forward)?.len(), 2);
+        let by_id = Spec::parse(format!("a:{}", "1".repeat(40)), Operation::Fetch)?;
+        let error = matches(&[by_id], &["refs/heads/a"], Direction::Backward).unwrap_err();
+        assert_eq!(error.outcome(), sys::NEEDS_IDS);
         Ok(())
     }
 

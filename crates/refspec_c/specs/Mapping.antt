@@ -1,0 +1,135 @@
+-- What a caller is told of mappings: a struct for each, and their texts one behind the other.
+use Rattle.std.specs.Prelude.{◌≡◌, ◌⊎◌, ◌<◌, ◌≤◌, ◌+◌, ℕ, List, [], ◌∷◌, ◌++◌, length, drop, map, Option, None, Some}
+use Rattle.std.specs.List.{flat_map}
+use Rattle.gix_refspec.specs.ObjectId.{lower_of}
+use Rattle.gix_refspec.specs.Mappings.{Start, name, id, Mapped}
+use Rattle.refspec_c.specs.declared.failure.Failure.{Failure}
+use Rattle.refspec_c.specs.declared.failure.Failure.TheVariants as failure
+use Rattle.refspec_c.specs.declared.listing.MappingOut.{MappingOut}
+
+-- what there is to tell of a mapping: the places of its spec and of its name, whether it has a destination, a verdict, the
+-- text of a source that is an id, and the name that the spec makes
+pub record Entry : Type 0 where
+  pub spec : ℕ
+  pub item : ℕ
+  pub has_destination : ℕ
+  pub verdict : ℕ
+  pub id : List ℕ
+  pub made : List ℕ
+
+-- the number of no place
+abbrev pub no_place : ℕ
+no_place = 18446744073709551615
+
+-- the place of a name, where there is one
+abbrev pub place_of : Option ℕ → ℕ
+place_of None = no_place
+place_of (Some place) = place
+
+-- the text of a source that is an id
+abbrev pub id_text : Start → List ℕ
+id_text (name n) = []
+id_text (id i) = lower_of i
+
+-- the text of a source
+abbrev pub start_text : Start → List ℕ
+start_text (name n) = n
+start_text (id i) = lower_of i
+
+-- a destination, where there is one
+abbrev pub destination_text : Option (List ℕ) → List ℕ
+destination_text None = []
+destination_text (Some d) = d
+
+-- 1 where there is a destination
+abbrev pub destinations : Option (List ℕ) → ℕ
+destinations None = 0
+destinations (Some d) = 1
+
+-- what is told of a mapping from left to right, of which the spec makes the destination
+abbrev pub forward_entry : ℕ → Mapped → Entry
+forward_entry verdict m = record { spec = m.spec; item = place_of m.item; has_destination = destinations m.destination; verdict = verdict; id = id_text m.source; made = destination_text m.destination }
+
+-- and of one from right to left, of which it makes the source
+abbrev pub backward_entry : Mapped → Entry
+backward_entry m = record { spec = m.spec; item = place_of m.item; has_destination = destinations m.destination; verdict = 0; id = []; made = start_text m.source }
+
+-- the texts of a mapping
+abbrev pub text_of : Entry → List ℕ
+text_of e = e.id ++ e.made
+
+-- the texts of mappings, in order
+abbrev pub texts_of : List Entry → List ℕ
+texts_of es = flat_map text_of es
+
+-- what the struct of a mapping says: its texts are places in the buffer
+pub record Told : Type 0 where
+  pub spec : ℕ
+  pub item : ℕ
+  pub has_destination : ℕ
+  pub verdict : ℕ
+  pub id_at : ℕ
+  pub id_len : ℕ
+  pub made_at : ℕ
+  pub made_len : ℕ
+
+-- what a struct says
+abbrev pub told_by : MappingOut → Told
+told_by m = record { spec = m.spec; item = m.item; has_destination = m.has_destination; verdict = m.verdict; id_at = m.id_at; id_len = m.id_len; made_at = m.made_at; made_len = m.made_len }
+
+-- what is told of a mapping whose texts begin at a place of the buffer
+abbrev pub told_at : ℕ → Entry → Told
+told_at at e = record { spec = e.spec; item = e.item; has_destination = e.has_destination; verdict = e.verdict; id_at = at; id_len = length e.id; made_at = at + length e.id; made_len = length e.made }
+
+-- what is told of mappings whose texts stand one behind the other from a place of the buffer on
+abbrev pub told_from : ℕ → List Entry → List Told
+told_from at [] = []
+told_from at (e ∷ es) = told_at at e ∷ told_from (at + length (text_of e)) es
+
+-- the structs and the text tell of the mappings
+pub record Tells (es : List Entry) (structs : List MappingOut) (text : List ℕ) : Type 0 where
+  pub told : map told_by structs ≡ told_from 0 es
+  pub texts : text ≡ texts_of es
+
+-- what a caller gives an answer to
+pub record Room : Type 0 where
+  pub mappings : List MappingOut
+  pub buffer : List ℕ
+  pub count : ℕ
+  pub len : ℕ
+
+-- the lists of the caller begin with the structs and the text, and are as before behind them
+pub record IsPut (structs : List MappingOut) (text : List ℕ) (before after : Room) : Type 0 where
+  pub fits : length structs ≤ length before.mappings
+  pub text_fits : length text ≤ length before.buffer
+  pub mappings : after.mappings ≡ structs ++ drop (length structs) before.mappings
+  pub buffer : after.buffer ≡ text ++ drop (length text) before.buffer
+  pub count : after.count ≡ length structs
+  pub len : after.len ≡ length text
+
+-- one of the lists is too small for the structs or for the text. Both are as before, and the counts are what is needed
+pub record IsNotPut (structs : List MappingOut) (text : List ℕ) (before after : Room) : Type 0 where
+  pub small : (length before.mappings < length structs) ⊎ (length before.buffer < length text)
+  pub mappings : after.mappings ≡ before.mappings
+  pub buffer : after.buffer ≡ before.buffer
+  pub count : after.count ≡ length structs
+  pub len : after.len ≡ length text
+
+-- the caller got what tells of the mappings
+pub record HasAll (es : List Entry) (before after : Room) : Type 0 where
+  pub structs : List MappingOut
+  pub text : List ℕ
+  pub tells : Tells es structs text
+  pub put : IsPut structs text before after
+
+-- the caller has no room for it
+pub record HasNoRoom (es : List Entry) (before after : Room) : Type 0 where
+  pub structs : List MappingOut
+  pub text : List ℕ
+  pub tells : Tells es structs text
+  pub not_put : IsNotPut structs text before after
+
+-- why a caller is told of no mappings: there is no room for those that are as Is says; or for another reason, as Why says,
+-- and all is as before
+abbrev pub LacksAll : (List Entry → Type 0) → (Failure → Type 0) → Room → Room → Failure → Type 0
+LacksAll Is Why before after f = ((f ≡ failure.TooSmall) × (es : List Entry) × Is es × HasNoRoom es before after) ⊎ (Why f × (after ≡ before))

@@ -1,0 +1,215 @@
+//! What a caller is told of mappings: a struct for each, and their texts.
+
+ghost use Rattle.std.specs.Prelude.{◌≡◌, ◌++◌, ◌∷◌, [], map, length, IfErr, IfOk, OnOk};
+ghost use Rattle.std.specs.String.{string_bytes};
+ghost use Rattle.gix_refspec.specs.Group.{mapped_of, start_of};
+ghost use Rattle.refspec_c.specs.Mapping.{IsNotPut, IsPut, Room, Tells, backward_entry, forward_entry, id_text, place_of, text_of, told_at, told_by};
+
+use crate::failure::Failure;
+use gix_refspec::match_group::{Mapping, SourceRef};
+use std::alloc::{AllocError, Global};
+
+/// What C is told of a mapping. Texts are places in the buffer: where they begin, and how long they are.
+#[repr(C)]
+#[derive(Clone, Copy)]
+pub struct MappingOut {
+    /// The place of the spec among the texts.
+    pub spec: usize,
+    /// The place of the name among the names, or the greatest number for an object that is asked for by
+    /// its id.
+    pub item: usize,
+    /// 1 where there is a destination, else 0.
+    pub has_destination: u32,
+    /// What becomes of it in a plan, else 0.
+    pub verdict: u32,
+    /// The text of a source that is an id. Of another its length is 0.
+    pub id_at: usize,
+    /// Its length.
+    pub id_len: usize,
+    /// The name that the spec makes: the destination, or from right to left the source.
+    pub made_at: usize,
+    /// Its length.
+    pub made_len: usize,
+}
+
+/// What is told of mappings.
+#[derive(Drop)]
+pub(crate) struct Listing {
+    pub(crate) mappings: Vec<MappingOut>,
+    pub(crate) text: Vec<u8>,
+}
+
+impl Listing {
+    /// A listing of nothing.
+    pub(crate) fn new(alloc: Global) -> Listing
+        ensures { Tells [] result.mappings.items result.text.items }
+    {
+        Listing {
+            mappings: Vec::new(alloc),
+            text: Vec::new(alloc),
+        }
+    }
+
+    /// Tells of one more mapping from left to right.
+    pub(crate) fn add_forward(
+        &mut self,
+        alloc: Global,
+        mapping: &Mapping<'_, '_>,
+        verdict: u32,
+    ) -> Result<(), Failure>
+        ensures text { OnOk result (self.new.text.items ≡ self.old.text.items ++
+            text_of (forward_entry verdict (mapped_of mapping.now))) }
+        ensures told { OnOk result (map told_by self.new.mappings.items ≡
+            map told_by self.old.mappings.items ++
+            told_at (length self.old.text.items) (forward_entry verdict (mapped_of mapping.now)) ∷ []) }
+        ensures err { IfErr result (λ f. f ≡ Failure.NoMemory) }
+    {
+        let id = match id_digits(alloc, &mapping.lhs) {
+            Ok(id) => id,
+            Err(_) => return Err(Failure::NoMemory),
+        };
+        let (has_destination, made) = match &mapping.rhs {
+            None => (0, b"".as_slice()),
+            Some(name) => (1, name.as_bstr().as_bytes()),
+        };
+        self.add(
+            mapping.spec_index,
+            mapping.item_index,
+            has_destination,
+            verdict,
+            id.as_bytes(),
+            made,
+        )
+    }
+
+    /// Tells of one more mapping from right to left.
+    pub(crate) fn add_backward(
+        &mut self,
+        alloc: Global,
+        mapping: &Mapping<'_, '_>,
+    ) -> Result<(), Failure>
+        ensures text { OnOk result (self.new.text.items ≡ self.old.text.items ++
+            text_of (backward_entry (mapped_of mapping.now))) }
+        ensures told { OnOk result (map told_by self.new.mappings.items ≡
+            map told_by self.old.mappings.items ++
+            told_at (length self.old.text.items) (backward_entry (mapped_of mapping.now)) ∷ []) }
+        ensures err { IfErr result (λ f. f ≡ Failure.NoMemory) }
+    {
+        let has_destination = if mapping.rhs.is_some() { 1 } else { 0 };
+        match &mapping.lhs {
+            SourceRef::FullName(name) => {
+                let made = name.as_bstr().as_bytes();
+                self.add(
+                    mapping.spec_index,
+                    mapping.item_index,
+                    has_destination,
+                    0,
+                    b"",
+                    made,
+                )
+            }
+            SourceRef::ObjectId(id) => match hex::encode(alloc, id.as_slice()) {
+                Ok(digits) => {
+                    let made = digits.as_bytes();
+                    self.add(
+                        mapping.spec_index,
+                        mapping.item_index,
+                        has_destination,
+                        0,
+                        b"",
+                        made,
+                    )
+                }
+                Err(_) => Err(Failure::NoMemory),
+            },
+        }
+    }
+
+    // Tells of one more mapping.
+    fn add(
+        &mut self,
+        spec: usize,
+        item: Option<usize>,
+        has_destination: u32,
+        verdict: u32,
+        id: &[u8],
+        made: &[u8],
+    ) -> Result<(), Failure>
+        ensures text { OnOk result (self.new.text.items ≡ self.old.text.items ++ (id.now ++ made.now)) }
+        ensures told { OnOk result (map told_by self.new.mappings.items ≡
+            map told_by self.old.mappings.items ++
+            told_at (length self.old.text.items) (record { spec = spec; item = place_of item; has_destination = has_destination; verdict = verdict; id = id.now; made = made.now }) ∷ []) }
+        ensures err { IfErr result (λ f. f ≡ Failure.NoMemory) }
+    {
+        let id_at = self.text.len();
+        if self.text.extend_from_slice(id).is_err() {
+            return Err(Failure::NoMemory);
+        }
+        let made_at = self.text.len();
+        if self.text.extend_from_slice(made).is_err() {
+            return Err(Failure::NoMemory);
+        }
+        let told = MappingOut {
+            spec,
+            item: item_of(item),
+            has_destination,
+            verdict,
+            id_at,
+            id_len: id.len(),
+            made_at,
+            made_len: made.len(),
+        };
+        match self.mappings.push(told) {
+            Ok(()) => Ok(()),
+            Err(_) => Err(Failure::NoMemory),
+        }
+    }
+}
+
+// The place of an item, or the greatest number.
+fn item_of(index: Option<usize>) -> usize
+    ensures { result ≡ place_of index }
+{
+    match index {
+        Some(place) => place,
+        None => usize::MAX,
+    }
+}
+
+// The text of a source that is an id. Of another it is empty.
+fn id_digits(alloc: Global, source: &SourceRef<'_>) -> Result<String, AllocError>
+    ensures { IfOk result (λ digits. string_bytes digits ≡ id_text (start_of source.now)) }
+{
+    match source {
+        SourceRef::FullName(_) => Ok(String::new(alloc)),
+        SourceRef::ObjectId(id) => hex::encode(alloc, id.as_slice()),
+    }
+}
+
+/// Puts a listing at the front of two lists, if both have room, and sets the counts to what it needs.
+pub(crate) fn put_all(
+    listing: &Listing,
+    mappings: &mut [MappingOut],
+    buffer: &mut [u8],
+    count: &mut usize,
+    len: &mut usize,
+) -> Result<(), Failure>
+    ensures ok { OnOk result (IsPut listing.now.mappings.items listing.now.text.items
+        (record { mappings = mappings.old; buffer = buffer.old; count = count.old; len = len.old })
+        (record { mappings = mappings.new; buffer = buffer.new; count = count.new; len = len.new })) }
+    ensures small { IfErr result (λ f. (f ≡ Failure.TooSmall) × IsNotPut
+        listing.now.mappings.items listing.now.text.items
+        (record { mappings = mappings.old; buffer = buffer.old; count = count.old; len = len.old })
+        (record { mappings = mappings.new; buffer = buffer.new; count = count.new; len = len.new })) }
+{
+    let structs = listing.mappings.as_slice();
+    let text = listing.text.as_slice();
+    *count = structs.len();
+    *len = text.len();
+    if mappings.len() < structs.len() || buffer.len() < text.len() {
+        return Err(Failure::TooSmall);
+    }
+    mappings[..structs.len()].copy_from_slice(structs);
+    buffer[..text.len()].copy_from_slice(text);
+    Ok(())
+}
