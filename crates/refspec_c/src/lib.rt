@@ -1,5 +1,5 @@
 //! Refspecs for callers in C: checked, taken apart, printed, compared, made into what to ask a server
-//! for, matched, and planned by. `include/gix_refspec.h` has the prototypes.
+//! for, and matched. `include/gix_refspec.h` has the prototypes.
 //!
 //! Each call answers an outcome: 0, or the number of a [`failure::Failure`]. The caller owns every
 //! buffer, and nothing is kept from call to call.
