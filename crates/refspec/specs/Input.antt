@@ -3,6 +3,13 @@
 use Rattle.std.specs.Prelude.{◌≡◌, ◌≢◌, ◌⊎◌, ℕ, Bool, List, [], ◌∷◌, ◌++◌, Option, MatchBool}
 use Rattle.std.specs.Io.KnownBytes.{Consumes, IsAtEnd}
 use Rattle.gix_refspec.specs.Text.{Lacks}
+use Rattle.refspec.specs.declared.call.Ends.{Ends}
+use Rattle.refspec.specs.declared.call.Ends.TheVariants as ends
+
+-- the byte that ends a record
+abbrev pub end_byte : Ends → ℕ
+end_byte ends.Newline = 10
+end_byte _ = 0
 
 -- one read took some bytes and put them behind the old input, or found the end
 pub record ReadsSome (more : Bool) (reader_old reader_new : Option (List ℕ)) (old new : List ℕ) : Type 0 where

@@ -1,5 +1,9 @@
+pub mod Canon
 pub mod Fault
 pub mod Input
+pub mod Output
 pub mod Plan
 pub mod Read
 pub mod Run
+pub mod Shown
+pub mod Texts

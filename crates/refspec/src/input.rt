@@ -1,8 +1,8 @@
 //! The input, read whole, and cut into records.
 
-ghost use Rattle.std.specs.Prelude.{◌<◌, IfOk, IfErr, length, map};
+ghost use Rattle.std.specs.Prelude.{◌≡◌, ◌<◌, IfOk, IfErr, length, map};
 ghost use Rattle.refspec.specs.Fault.{IsReadOrMemory};
-ghost use Rattle.refspec.specs.Input.{AreRecords, IsFirstRecord, ReadsSome, ReadsToEnd};
+ghost use Rattle.refspec.specs.Input.{AreRecords, IsFirstRecord, end_byte, ReadsSome, ReadsToEnd};
 
 use crate::call::Ends;
 use crate::fault::Fault;
@@ -75,7 +75,9 @@ fn first_record(text: &[u8], end: u8) -> (&[u8], &[u8])
 }
 
 /// The byte that ends a record.
-pub fn end_of(ends: Ends) -> u8 {
+pub fn end_of(ends: Ends) -> u8
+    ensures { result ≡ end_byte ends }
+{
     match ends {
         Ends::Newline => b'\n',
         Ends::Zero | Ends::Settings => 0,

@@ -3,6 +3,7 @@
 
 mod blame;
 mod call;
+mod canon;
 mod checked;
 mod fault;
 mod input;

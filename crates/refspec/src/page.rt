@@ -1,5 +1,8 @@
 //! What a run writes: its results and its messages.
 
+ghost use Rattle.std.specs.Prelude.{◌≡◌, ◌∷◌, [], OnOk};
+ghost use Rattle.refspec.specs.Shown.{AddsNames, KeepsResults};
+
 use crate::blame::{advice_for, blame_of};
 use crate::call::Form;
 use crate::json;
@@ -22,7 +25,10 @@ pub struct Page {
 
 impl Page {
     /// A page with nothing on it.
-    pub fn new(alloc: Global, form: Form) -> Page {
+    pub fn new(alloc: Global, form: Form) -> Page
+        ensures form { result.form ≡ form }
+        ensures empty { result.results.items ≡ [] }
+    {
         Page {
             form,
             results: Vec::new(alloc),
@@ -38,12 +44,38 @@ impl Page {
         alloc: Global,
         text: &Text<'_>,
         error: &Error,
-    ) -> Result<(), AllocError> {
+    ) -> Result<(), AllocError>
+        ensures form { OnOk result (self.new.form ≡ self.old.form) }
+        ensures kept { OnOk result (KeepsResults self.old.form
+            self.old.results.items self.new.results.items) }
+    {
         self.refused = true;
-        if self.form == Form::Json {
-            return json::put_refusal(alloc, &mut self.results, text, error);
+        match self.form {
+            Form::Json => json::put_refusal(alloc, &mut self.results, text, error),
+            Form::Lines | Form::Zeros => put_refusal(alloc, &mut self.messages, text, error),
         }
-        put_refusal(alloc, &mut self.messages, text, error)
+    }
+
+    /// Puts a name at the end of the results: in a line behind some bytes, or ended by a zero byte. In JSON
+    /// it is no row by itself.
+    pub fn put_name(&mut self, before: &[u8], name: &[u8]) -> Result<(), AllocError>
+        ensures form { OnOk result (self.new.form ≡ self.old.form) }
+        ensures told { OnOk result (AddsNames self.old.form before.now (name.now ∷ [])
+            self.old.results.items self.new.results.items) }
+    {
+        match self.form {
+            Form::Lines => {
+                self.results.extend_from_slice(before)?;
+                put_quoted(&mut self.results, name)?;
+                self.results.push(b'\n')?;
+            }
+            Form::Zeros => {
+                self.results.extend_from_slice(name)?;
+                self.results.push(0)?;
+            }
+            Form::Json => {}
+        }
+        Ok(())
     }
 }
 

@@ -1,10 +1,15 @@
 //! Names and texts as people see them.
 
+ghost use Rattle.std.specs.Prelude.{◌≡◌, ◌++◌, ◌∷◌, [], List, OnOk, ℕ};
+ghost use Rattle.refspec.specs.Shown.{Grows, PutsQuoted};
+
 use std::alloc::AllocError;
 
 /// Puts a text at the end: as it is where it can be shown so, else in double quotes with escapes, as Git
 /// quotes paths under `core.quotePath`. The empty text is quoted too.
-pub fn put_quoted(out: &mut Vec<u8>, text: &[u8]) -> Result<(), AllocError> {
+pub fn put_quoted(out: &mut Vec<u8>, text: &[u8]) -> Result<(), AllocError>
+    ensures { OnOk result (PutsQuoted text.now out.old.items out.new.items) }
+{
     if is_plain(text) {
         return out.extend_from_slice(text);
     }
@@ -12,7 +17,10 @@ pub fn put_quoted(out: &mut Vec<u8>, text: &[u8]) -> Result<(), AllocError> {
 }
 
 /// Puts a text in double quotes at the end, with escapes.
-pub fn put_in_quotes(out: &mut Vec<u8>, text: &[u8]) -> Result<(), AllocError> {
+pub fn put_in_quotes(out: &mut Vec<u8>, text: &[u8]) -> Result<(), AllocError>
+    ensures { OnOk result ((inner : List ℕ)
+        × (out.new.items ≡ out.old.items ++ (34 ∷ (inner ++ (34 ∷ []))))) }
+{
     out.push(b'"')?;
     for byte in text {
         put_escaped(out, *byte)?;
@@ -43,7 +51,9 @@ fn is_calm(c: char) -> bool {
 }
 
 // Puts a byte of a quoted text at the end.
-fn put_escaped(out: &mut Vec<u8>, byte: u8) -> Result<(), AllocError> {
+fn put_escaped(out: &mut Vec<u8>, byte: u8) -> Result<(), AllocError>
+    ensures { OnOk result (Grows out.old.items out.new.items) }
+{
     match byte {
         7 => out.extend_from_slice(b"\\a"),
         8 => out.extend_from_slice(b"\\b"),

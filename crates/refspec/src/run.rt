@@ -3,9 +3,11 @@
 ghost use Rattle.std.specs.Prelude.{IfOk, IfErr, OnOk};
 ghost use Rattle.std.specs.Io.KnownBytes.{Appends};
 ghost use Rattle.refspec.specs.Fault.{IsReadOrMemory, IsWrite};
+ghost use Rattle.refspec.specs.Output.{Answers, IsInput, IsOutput, Tells};
 ghost use Rattle.refspec.specs.Run.{Leaves, ReadsWhole};
 
 use crate::call::{Call, Command};
+use crate::canon::tell_canon;
 use crate::checked::{Checked, all_good, check_all};
 use crate::fault::Fault;
 use crate::input::read_input;
@@ -32,6 +34,10 @@ pub fn run<R: Read, W: Write, E: Write>(
     ensures whole { IfOk result (λ _. ReadsWhole
         call.now.reads_input (R.remaining reader.old) (R.remaining reader.new)) }
 
+    ensures answers { IfOk result (λ _. Answers call.now beside.now
+        (R.remaining reader.old) (R.remaining reader.new)
+        (W.contents output.old) (W.contents output.new)) }
+
     // Nothing was written before a fault, but where a writer failed.
     ensures unwritten { IfErr result (Leaves (W.contents output.old) (W.contents output.new)) }
     ensures untold { IfErr result (Leaves (E.contents errors.old) (E.contents errors.new)) }
@@ -47,6 +53,8 @@ pub fn run<R: Read, W: Write, E: Write>(
 fn input_of<R: Read>(alloc: Global, call: &Call<'_>, reader: &mut R) -> Result<Vec<u8>, Fault>
     ensures ok { IfOk result (λ _. ReadsWhole
         call.now.reads_input (R.remaining reader.old) (R.remaining reader.new)) }
+    ensures input { IfOk result (λ input. IsInput
+        call.now.reads_input (R.remaining reader.old) (R.remaining reader.new) input.items) }
     ensures err { IfErr result IsReadOrMemory }
 {
     if call.reads_input {
@@ -56,12 +64,9 @@ fn input_of<R: Read>(alloc: Global, call: &Call<'_>, reader: &mut R) -> Result<V
 }
 
 // What a call makes of its input.
-fn page_of(
-    alloc: Global,
-    call: &Call<'_>,
-    beside: &[u8],
-    input: &[u8],
-) -> Result<Page, AllocError> {
+fn page_of(alloc: Global, call: &Call<'_>, beside: &[u8], input: &[u8]) -> Result<Page, AllocError>
+    ensures { IfOk result (λ page. IsOutput call.now beside.now input.now page.results.items) }
+{
     let mut page = Page::new(alloc, call.form);
     let texts = texts_of(alloc, call, beside, input)?;
     let all = check_all(alloc, texts.as_slice())?;
@@ -76,9 +81,13 @@ fn tell_page(
     all: &[Checked<'_>],
     input: &[u8],
     page: &mut Page,
-) -> Result<(), AllocError> {
+) -> Result<(), AllocError>
+    ensures { OnOk result (Tells call.now.command page.old.form all.now
+        page.old.results.items page.new.results.items) }
+{
     match call.command {
-        Command::Check | Command::Canon | Command::Explain => {
+        Command::Canon => return tell_canon(alloc, all, page),
+        Command::Check | Command::Explain => {
             return tell_specs(alloc, call.command, call.verbose, all, page);
         }
         Command::Plan | Command::Track | Command::Prefixes => {}

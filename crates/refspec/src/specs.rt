@@ -1,4 +1,4 @@
-//! What is shown of specs alone: whether they are good, what they mean, and their canonical texts.
+//! What is shown of specs alone: whether they are good, and what they mean.
 
 use crate::call::{Command, Form};
 use crate::checked::Checked;
@@ -27,7 +27,6 @@ pub fn tell_specs(
         match checked {
             Checked::Bad { text, error } => page.tell_refusal(alloc, text, error)?,
             Checked::Good { text, spec } => match command {
-                Command::Canon => tell_canonical(alloc, text, spec, page)?,
                 Command::Explain => tell_meaning(alloc, text, spec, page)?,
                 _ if verbose => tell_good(alloc, text, spec, &mut seen, page)?,
                 _ => {}
@@ -49,28 +48,6 @@ struct Told<'a> {
     meaning: Option<&'a str>,
     #[serde(skip_serializing_if = "Option::is_none")]
     same_as: Option<&'a str>,
-}
-
-// Tells the canonical text of a spec.
-fn tell_canonical(
-    alloc: Global,
-    text: &Text<'_>,
-    spec: &RefSpecRef<'_>,
-    page: &mut Page,
-) -> Result<(), AllocError> {
-    let canonical = spec.to_bstring(alloc)?;
-    match page.form {
-        Form::Lines => {
-            put_quoted(&mut page.results, canonical.as_bytes())?;
-            page.results.push(b'\n')?;
-        }
-        Form::Zeros => {
-            page.results.extend_from_slice(canonical.as_bytes())?;
-            page.results.push(0)?;
-        }
-        Form::Json => put_told(alloc, "canonical", text, &canonical, None, None, page)?,
-    }
-    Ok(())
 }
 
 // Tells what a spec means.
@@ -101,7 +78,7 @@ fn tell_meaning(
                 &canonical,
                 Some(sentence.as_str()),
                 None,
-                page,
+                &mut page.results,
             )?;
         }
     }
@@ -124,7 +101,15 @@ fn tell_good<'a>(
             Some(place) => Some(json::place_of(alloc, place)?),
         };
         let same_as = place.as_ref().map(|place| place.as_str());
-        return put_told(alloc, "good", text, &canonical, None, same_as, page);
+        return put_told(
+            alloc,
+            "good",
+            text,
+            &canonical,
+            None,
+            same_as,
+            &mut page.results,
+        );
     }
     put_good(alloc, text, &canonical, &earlier, page)
 }
@@ -161,15 +146,15 @@ fn put_good(
     Ok(())
 }
 
-// Puts the object of a spec at the end.
-fn put_told(
+/// Puts the object of a spec at the end.
+pub fn put_told(
     alloc: Global,
     kind: &str,
     text: &Text<'_>,
     canonical: &BString,
     meaning: Option<&str>,
     same_as: Option<&str>,
-    page: &mut Page,
+    out: &mut Vec<u8>,
 ) -> Result<(), AllocError> {
     let place = json::place_of(alloc, &text.place)?;
     let shown = json::text_of(alloc, text.bytes)?;
@@ -183,7 +168,7 @@ fn put_told(
         meaning,
         same_as,
     };
-    json::put_line(alloc, &mut page.results, &object)
+    json::put_line(alloc, out, &object)
 }
 
 // Where each canonical text stood first, by its operation and its bytes.

@@ -1,5 +1,8 @@
 //! The texts of specs, and where they stand.
 
+ghost use Rattle.std.specs.Prelude.{◌≡◌, ◌++◌, map, IfOk, OnOk};
+ghost use Rattle.refspec.specs.Texts.{AddsTexts, AreTexts, asked, said, spec_input};
+
 use crate::call::{Call, Command, Ends};
 use crate::input::{end_of, records};
 use crate::quote::put_quoted;
@@ -55,20 +58,38 @@ pub fn texts_of<'a>(
     call: &Call<'a>,
     beside: &'a [u8],
     input: &'a [u8],
-) -> Result<Vec<Text<'a>>, AllocError> {
+) -> Result<Vec<Text<'a>>, AllocError>
+    ensures { IfOk result (λ texts. AreTexts call.now.ends call.now.operation
+        (map (λ w. w.now) call.now.specs.items) beside.now
+        (spec_input call.now.command input.now) (map said texts.items)) }
+{
     let mut texts = Vec::new(alloc);
-    for (at, word) in call.specs.iter().enumerate() {
+    for word in &call.specs {
         texts.push(Text {
-            place: Place::Word(at.saturating_add(1)),
+            place: Place::Word(texts.len().saturating_add(1)),
             operation: call.operation,
             bytes: word.as_bytes(),
         })?;
     }
     add_texts(alloc, call, call.beside, beside, &mut texts)?;
-    if call.command != Command::Plan {
-        add_texts(alloc, call, call.input, input, &mut texts)?;
-    }
+    add_texts(
+        alloc,
+        call,
+        call.input,
+        spec_input(call.command, input),
+        &mut texts,
+    )?;
     Ok(texts)
+}
+
+// What a command reads of its input as specs: a plan has its refs there.
+fn spec_input(command: Command, input: &[u8]) -> &[u8]
+    ensures { result.now ≡ spec_input command input.now }
+{
+    match command {
+        Command::Plan => b"",
+        _ => input,
+    }
 }
 
 // Adds the texts of an input.
@@ -78,18 +99,38 @@ fn add_texts<'a>(
     name: &'a str,
     input: &'a [u8],
     texts: &mut Vec<Text<'a>>,
-) -> Result<(), AllocError> {
+) -> Result<(), AllocError>
+    ensures { OnOk result (AddsTexts call.now.ends call.now.operation input.now
+        texts.old.items texts.new.items) }
+{
     let records = records(alloc, input, end_of(call.ends))?;
-    if call.ends == Ends::Settings {
-        return add_settings(records.as_slice(), texts);
+    match call.ends {
+        Ends::Settings => add_settings(records.as_slice(), texts),
+        Ends::Newline | Ends::Zero => {
+            add_records(call.operation, name, records.as_slice(), texts)
+        }
     }
-    for (at, record) in records.iter().enumerate() {
+}
+
+// Adds records, each as a text.
+fn add_records<'a>(
+    operation: Operation,
+    name: &'a str,
+    records: &[&'a [u8]],
+    texts: &mut Vec<Text<'a>>,
+) -> Result<(), AllocError>
+    ensures { OnOk result (map said texts.new.items ≡ map said texts.old.items
+        ++ map (asked operation) (map (λ r. r.now) records.now)) }
+{
+    let mut number: usize = 0;
+    for record in records {
+        number = number.saturating_add(1);
         texts.push(Text {
             place: Place::Record {
                 input: name,
-                number: at.saturating_add(1),
+                number,
             },
-            operation: call.operation,
+            operation,
             bytes: record,
         })?;
     }
