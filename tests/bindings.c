@@ -1,8 +1,9 @@
-/* Calls the archive as a program in C does: bindings [canon OPERATION | lhs | rhs | measure]
+/* Calls the archive as a program in C does: bindings [canon OPERATION | lhs | rhs | plan | measure]
  *
  * Without words it makes each call with each outcome, at the exact size and one byte below, with each growth of
  * memory refused in turn, from four threads, and on a stack of 16 kB. With words it answers the lines of its input as
- * refspec_map does, of good lines alone, and not where ids are looked back for; `measure` times a match. */
+ * refspec_map does, of good lines alone, and not where ids are looked back for; before a plan it prints how many mappings
+ * have a bad name or are left out. `measure` times a match and a plan. */
 #include <gix_refspec.h>
 #include <pthread.h>
 #include <stdbool.h>
@@ -135,13 +136,13 @@ static void check_buffer(fills *fill, const char *answer)
 
 static void check_explanations(void)
 {
-    for (uint32_t outcome = 0; outcome <= GIX_REFSPEC_NEEDS_IDS; outcome++) {
+    for (uint32_t outcome = 0; outcome <= GIX_REFSPEC_IN_CONFLICT; outcome++) {
         gix_refspec_text sentence = GIX_REFSPEC_TEXT_INIT;
         CHECK(gix_refspec_explanation(outcome, &sentence) == GIX_REFSPEC_OK);
         CHECK(sentence.len > 10 && sentence.len == strlen((const char *)sentence.bytes) + 1);
     }
     gix_refspec_text none = GIX_REFSPEC_TEXT_INIT;
-    CHECK(gix_refspec_explanation(GIX_REFSPEC_NEEDS_IDS + 1, &none) == GIX_REFSPEC_NO_OPERATION && none.len == 0);
+    CHECK(gix_refspec_explanation(GIX_REFSPEC_IN_CONFLICT + 1, &none) == GIX_REFSPEC_NO_OPERATION && none.len == 0);
 }
 
 #define TEXT(text) { BYTES(text) }
@@ -228,6 +229,61 @@ static void check_looking_back(void)
     CHECK(count == 0 && len == 0);
 }
 
+static const gix_refspec_text planned[] = {
+    TEXT("refs/heads/a:refs/x/a"), TEXT("refs/tags/*:other/*"), TEXT("refs/remotes/*ck:refs/x/*"),
+    TEXT("refs/heads/b:refs/x/a.lo"), TEXT("refs/tags/b"), TEXT("1111111111111111111111111111111111111111:refs/y"),
+    TEXT("refs/heads/b:refs/y"), TEXT("a b")
+};
+
+static uint32_t plan(size_t texts, gix_refspec_mapping *mappings, size_t room, uint8_t *buffer, size_t buffer_len,
+                     size_t *count, size_t *len)
+{
+    const gix_refspec_text items[] = { names[0], names[1], names[2], TEXT("refs/remotes/a.lock") };
+    return gix_refspec_plan(planned, texts, items, 4, mappings, room, buffer, buffer_len, count, len);
+}
+
+/* A ref may not be called `refs/remotes/a.lock`. So it is no rival of `refs/heads/b`, which goes to one place with it. */
+static void check_verdicts(void)
+{
+    const uint32_t verdicts[] = { GIX_REFSPEC_CONTESTED, GIX_REFSPEC_WRITTEN, GIX_REFSPEC_LEFT_OUT, GIX_REFSPEC_BAD_NAME,
+                                  GIX_REFSPEC_WRITTEN, GIX_REFSPEC_FETCHED_ONLY, GIX_REFSPEC_CONTESTED };
+    const size_t specs[] = { 5, 0, 1, 2, 3, 4, 6 }, items[] = { GIX_REFSPEC_NO_ITEM, 0, 2, 3, 1, 2, 1 };
+    const char *answer = "1111111111111111111111111111111111111111refs/yrefs/x/aother/brefs/x/a.lorefs/x/a.lorefs/y";
+    size_t needed = strlen(answer), count = 9, len = 99;
+    gix_refspec_mapping made[8];
+    uint8_t buffer[256];
+    memset(made, 'x', sizeof made);
+    memset(buffer, 'x', sizeof buffer);
+    CHECK(plan(7, made, 6, buffer, needed, &count, &len) == GIX_REFSPEC_TOO_SMALL);
+    CHECK(count == 7 && len == needed && buffer[0] == 'x' && *(char *)made == 'x');
+    CHECK(plan(7, made, 7, buffer, needed - 1, &count, &len) == GIX_REFSPEC_TOO_SMALL);
+    CHECK(count == 7 && len == needed && buffer[0] == 'x' && *(char *)made == 'x');
+    CHECK(plan(7, made, 7, buffer, needed, &count, &len) == GIX_REFSPEC_IN_CONFLICT);
+    CHECK(count == 7 && len == needed && memcmp(buffer, answer, needed) == 0);
+    CHECK(buffer[needed] == 'x' && *(char *)(made + 7) == 'x');
+    for (size_t i = 0; i < 7; i++)
+        CHECK(made[i].verdict == verdicts[i] && made[i].spec == specs[i] && made[i].item == items[i]);
+    CHECK(made[0].id_len == 40 && made[0].made_at == 40 && made[0].made_len == 6 && made[5].has_destination == 0);
+    CHECK(plan(6, made, 8, buffer, sizeof buffer, &count, &len) == GIX_REFSPEC_OK);
+    CHECK(count == 6 && made[0].verdict == GIX_REFSPEC_WRITTEN && made[5].verdict == GIX_REFSPEC_FETCHED_ONLY);
+    count = len = 99;
+    CHECK(plan(8, made, 8, buffer, sizeof buffer, &count, &len) == GIX_REFSPEC_NAME_INVALID_BYTE);
+    CHECK(count == 99 && len == 99);
+    CHECK(plan(0, made, 0, buffer, 0, &count, &len) == GIX_REFSPEC_OK && count == 0 && len == 0);
+    for (refused = 1;; refused++) {
+        memset(buffer, 'x', sizeof buffer);
+        growths = 0;
+        count = len = 99;
+        uint32_t outcome = plan(7, made, 8, buffer, sizeof buffer, &count, &len);
+        if (growths < refused) {
+            CHECK(outcome == GIX_REFSPEC_IN_CONFLICT && refused > 1);
+            break;
+        }
+        CHECK(outcome == GIX_REFSPEC_NO_MEMORY && count == 99 && len == 99 && buffer[0] == 'x');
+    }
+    refused = 0;
+}
+
 static void *check_all(void *nothing)
 {
     check_outcomes();
@@ -238,6 +294,7 @@ static void *check_all(void *nothing)
     check_groups();
     check_mappings();
     check_looking_back();
+    check_verdicts();
     check_explanations();
     return nothing;
 }
@@ -286,30 +343,104 @@ static int canon(uint32_t operation)
     return status;
 }
 
+static void put_text(const char *before, gix_refspec_text text)
+{
+    fputs(before, stdout);
+    fwrite(text.bytes, 1, text.len, stdout);
+}
+
+static gix_refspec_text made_name(const gix_refspec_mapping *one, const uint8_t *buffer)
+{
+    return (gix_refspec_text){ buffer + one->made_at, one->made_len };
+}
+
+static gix_refspec_text other_name(const gix_refspec_mapping *one, const gix_refspec_text *items, const uint8_t *buffer)
+{
+    return one->item == GIX_REFSPEC_NO_ITEM ? (gix_refspec_text){ buffer + one->id_at, one->id_len } : items[one->item];
+}
+
 static void put_mapping(const gix_refspec_mapping *one, const gix_refspec_text *items, const uint8_t *buffer, bool forward)
 {
-    const uint8_t *id = buffer + one->id_at, *made = buffer + one->made_at;
-    gix_refspec_text item = { id, one->id_len }, other = { made, one->made_len };
+    const gix_refspec_text made = made_name(one, buffer), other = other_name(one, items, buffer);
     if (one->item == GIX_REFSPEC_NO_ITEM)
         printf("map\t%zu\t-", one->spec);
     else
-        printf("map\t%zu\t%zu", one->spec, one->item), item = items[one->item];
-    const gix_refspec_text left = forward ? item : other, right = forward ? other : item;
-    putchar('\t');
-    fwrite(left.bytes, 1, left.len, stdout);
-    if (one->has_destination) {
-        putchar('\t');
-        fwrite(right.bytes, 1, right.len, stdout);
+        printf("map\t%zu\t%zu", one->spec, one->item);
+    put_text("\t", forward ? other : made);
+    if (one->has_destination)
+        put_text("\t", forward ? made : other);
+    putchar('\n');
+}
+
+static void put_spec(gix_refspec_text spec)
+{
+    uint8_t canonical[4096];
+    size_t len = 0;
+    CHECK(gix_refspec_canonical(spec.bytes, spec.len, GIX_REFSPEC_FETCH, canonical, sizeof canonical, &len) == 0);
+    put_text("\t", (gix_refspec_text){ canonical, len });
+}
+
+static const uint8_t *told;
+
+static int by_destination(const void *left, const void *right)
+{
+    const gix_refspec_mapping *a = left, *b = right;
+    size_t len = a->made_len < b->made_len ? a->made_len : b->made_len;
+    int order = memcmp(told + a->made_at, told + b->made_at, len);
+    order = order ? order : (a->made_len > b->made_len) - (a->made_len < b->made_len);
+    return order ? order : (a->made_at > b->made_at) - (a->made_at < b->made_at);
+}
+
+/* A line for each destination with several sources, in order. Places in the buffer rise with those in the list. */
+static void put_conflicts(gix_refspec_mapping *made, size_t count, const gix_refspec_text *texts,
+                          const gix_refspec_text *items, const uint8_t *buffer)
+{
+    gix_refspec_text last = GIX_REFSPEC_TEXT_INIT;
+    told = buffer;
+    qsort(made, count, sizeof *made, by_destination);
+    for (size_t i = 0; i < count; i++) {
+        if (made[i].verdict != GIX_REFSPEC_CONTESTED)
+            continue;
+        const gix_refspec_text name = made_name(&made[i], buffer);
+        if (name.len != last.len || memcmp(name.bytes, last.bytes, name.len) != 0)
+            put_text(last.len ? "\nconflict\t" : "conflict\t", name);
+        last = name;
+        put_text("\t", other_name(&made[i], items, buffer));
+        put_spec(texts[made[i].spec]);
     }
     putchar('\n');
 }
 
+static void put_plan(uint32_t outcome, gix_refspec_mapping *made, size_t count, const gix_refspec_text *texts,
+                     const gix_refspec_text *items, const uint8_t *buffer)
+{
+    size_t aside = 0;
+    for (size_t i = 0; i < count; i++)
+        aside += made[i].verdict == GIX_REFSPEC_LEFT_OUT || made[i].verdict == GIX_REFSPEC_BAD_NAME;
+    printf("aside %zu\n", aside);
+    if (outcome == GIX_REFSPEC_IN_CONFLICT) {
+        put_conflicts(made, count, texts, items, buffer);
+        return;
+    }
+    for (size_t i = 0; i < count; i++)
+        if (made[i].verdict != GIX_REFSPEC_LEFT_OUT)
+            put_mapping(&made[i], items, buffer, true);
+    for (size_t i = 0; i < count; i++)
+        if (made[i].verdict == GIX_REFSPEC_LEFT_OUT) {
+            put_text("fix\t", made_name(&made[i], buffer));
+            put_spec(texts[made[i].spec]);
+            putchar('\n');
+        }
+}
+
 /* The mappings of lines `spec TEXT`, `ref ID NAME` and `tag ID ID NAME`, or the outcome where there are none. */
-static int mapped(uint32_t direction)
+static int mapped(const char *word)
 {
     static gix_refspec_text texts[4096], items[4096];
     static gix_refspec_mapping made[65536];
     static uint8_t buffer[1 << 20];
+    const uint32_t direction = strcmp(word, "rhs") == 0 ? GIX_REFSPEC_BACKWARD : GIX_REFSPEC_FORWARD;
+    const bool plans = strcmp(word, "plan") == 0;
     size_t specs = 0, refs = 0, count = 0, len = 0, room = 0;
     char *line = NULL;
     ssize_t read;
@@ -326,9 +457,12 @@ static int mapped(uint32_t direction)
         memcpy(copy, at, to->len);
         to->bytes = copy;
     }
-    uint32_t outcome = gix_refspec_match(texts, specs, items, refs, direction, made, 65536, buffer, sizeof buffer,
-                                         &count, &len);
-    if (outcome != GIX_REFSPEC_OK)
+    uint32_t outcome =
+        plans ? gix_refspec_plan(texts, specs, items, refs, made, 65536, buffer, sizeof buffer, &count, &len)
+              : gix_refspec_match(texts, specs, items, refs, direction, made, 65536, buffer, sizeof buffer, &count, &len);
+    if (plans && (outcome == GIX_REFSPEC_OK || outcome == GIX_REFSPEC_IN_CONFLICT))
+        put_plan(outcome, made, count, texts, items, buffer);
+    else if (outcome != GIX_REFSPEC_OK)
         printf("outcome %u\n", outcome);
     else
         for (size_t i = 0; i < count; i++)
@@ -350,14 +484,19 @@ static int measure(void)
     const gix_refspec_text pattern = TEXT("+refs/heads/*:refs/remotes/origin/*");
     for (size_t i = 0; i < 100000; i++)
         items[i] = (gix_refspec_text){ (uint8_t *)bytes[i], (size_t)sprintf(bytes[i], "refs/heads/topic-%zu", i) };
-    for (int i = 0; i < 7; i++) {
+    for (int i = 0; i < 14; i++) {
         size_t count = 0, len = 0;
         struct timespec from, to;
         clock_gettime(CLOCK_MONOTONIC, &from);
-        CHECK(gix_refspec_match(&pattern, 1, items, 100000, GIX_REFSPEC_FORWARD, made, 100000, buffer, sizeof buffer,
-                                &count, &len) == GIX_REFSPEC_OK && count == 100000);
+        if (i < 7)
+            CHECK(gix_refspec_match(&pattern, 1, items, 100000, GIX_REFSPEC_FORWARD, made, 100000, buffer,
+                                    sizeof buffer, &count, &len) == GIX_REFSPEC_OK && count == 100000);
+        else
+            CHECK(gix_refspec_plan(&pattern, 1, items, 100000, made, 100000, buffer, sizeof buffer, &count, &len)
+                  == GIX_REFSPEC_OK && count == 100000);
         clock_gettime(CLOCK_MONOTONIC, &to);
-        printf("%.1f ms\n", (double)(to.tv_sec - from.tv_sec) * 1e3 + (double)(to.tv_nsec - from.tv_nsec) / 1e6);
+        printf("%s: %.1f ms\n", i < 7 ? "match" : "plan",
+               (double)(to.tv_sec - from.tv_sec) * 1e3 + (double)(to.tv_nsec - from.tv_nsec) / 1e6);
     }
     return 0;
 }
@@ -367,7 +506,7 @@ int main(int count, char **words)
     if (count == 2 && strcmp(words[1], "measure") == 0)
         return measure();
     if (count == 2)
-        return mapped(strcmp(words[1], "lhs") == 0 ? GIX_REFSPEC_FORWARD : GIX_REFSPEC_BACKWARD);
+        return mapped(words[1]);
     if (count == 3)
         return canon(strcmp(words[2], "push") == 0 ? GIX_REFSPEC_PUSH : GIX_REFSPEC_FETCH);
     check_all(NULL);

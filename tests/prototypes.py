@@ -1,5 +1,5 @@
 """Holds the header against the archive and the sources: prototypes.py HEADER ARCHIVE
-Replays canon.sample, lhs.sample and rhs.sample over a program of the calls: prototypes.py --replay PROGRAM
+Replays canon.sample, lhs.sample, rhs.sample and plan.sample over a program of the calls: prototypes.py --replay PROGRAM
 """
 import os
 import re
@@ -51,11 +51,13 @@ def globals_of(archive):
 
 
 def numbers(header):
-    """The outcomes of the header that aren't those of `Failure::number`."""
+    """The outcomes and verdicts of the header that aren't those of `Failure::number` and `Verdict::number`."""
     with open(header, encoding="utf-8") as file:
         in_header = dict(re.findall(r"GIX_REFSPEC_([A-Z_]+) = (\d+)", file.read()))
-    with open(os.path.join(SOURCES, "failure.rt"), encoding="utf-8") as file:
-        in_source = re.findall(r"Failure::(\w+) => (\d+),", file.read())
+    in_source = []
+    for name in ("failure.rt", "planning.rt"):
+        with open(os.path.join(SOURCES, name), encoding="utf-8") as file:
+            in_source += re.findall(r"(?:Failure|Verdict)::(\w+) => (\d+),", file.read())
     return [name for name, number in in_source
             if in_header.get(re.sub(r"(?<=[a-z])(?=[A-Z])", "_", name).upper()) != number]
 
@@ -96,6 +98,7 @@ def replay(program):
     print(f"bindings: {count} stored texts, answered as stored")
     for command in ("lhs", "rhs"):
         replay_groups(program, command)
+    replay_plans(program)
 
 
 def groups_of(name):
@@ -126,6 +129,26 @@ def replay_groups(program, command):
             count += 1
     print(f"bindings: {count} stored groups for {command}, answered as stored; left out are {left_out} that are refused,"
           " or ask back for an id")
+
+
+def replay_plans(program):
+    """The stored plans look for conflicts among all mappings, also among those that the call leaves out or that have a bad
+    name: so a stored conflict is compared where the call finds none of these. Of the other plans all is."""
+    count = left_out = refused = 0
+    for given, answer in groups_of("plan.sample"):
+        if answer.startswith(b"line "):
+            refused += 1
+            continue
+        made = subprocess.run([program, "plan"], input=given, stdout=subprocess.PIPE, check=False).stdout
+        aside, _, plan = made.partition(b"\n")
+        if answer.startswith(b"conflict\t") and aside != b"aside 0":
+            left_out += 1
+        elif plan != answer or not aside.startswith(b"aside "):
+            sys.exit(f"bindings: plan of {given!r} is answered {made!r}, not {answer!r}")
+        else:
+            count += 1
+    print(f"bindings: {count} stored plans, answered as stored; left out are {refused} that are refused, and {left_out}"
+          " conflicts over names that aren't checked")
 
 
 if sys.argv[1] == "--replay":

@@ -1,4 +1,4 @@
-/* Git refspecs: checked, taken apart, printed, compared, matched and explained.
+/* Git refspecs: checked, taken apart, printed, compared, matched, planned and explained.
  *
  * Each call answers an outcome: GIX_REFSPEC_OK, or why not. A text is a pointer, which is never null, and a
  * length. The caller owns all memory. Nothing is kept from call to call, and threads may call at will.
@@ -26,29 +26,22 @@ enum {
     GIX_REFSPEC_NAME_LOCK_SUFFIX = 11, GIX_REFSPEC_NAME_ENDS_WITH_DOT = 12, GIX_REFSPEC_NAME_REPEATED_DOT = 13,
     GIX_REFSPEC_NAME_REFLOG_PORTION = 14, GIX_REFSPEC_NAME_ASTERISK = 15, GIX_REFSPEC_NAME_INVALID_BYTE = 16,
     GIX_REFSPEC_NO_LIST = 17, GIX_REFSPEC_TOO_SMALL = 18, GIX_REFSPEC_NO_MEMORY = 19,
-    GIX_REFSPEC_NO_OPERATION = 20, GIX_REFSPEC_NEEDS_IDS = 21
+    GIX_REFSPEC_NO_OPERATION = 20, GIX_REFSPEC_NEEDS_IDS = 21, GIX_REFSPEC_IN_CONFLICT = 22
 };
 
 /* Kinds of instructions. */
-enum {
-    GIX_REFSPEC_PUSH_ALL_MATCHING = 1, GIX_REFSPEC_PUSH_DELETE = 2, GIX_REFSPEC_PUSH_MATCHING = 3,
-    GIX_REFSPEC_PUSH_EXCLUDE = 4, GIX_REFSPEC_FETCH_ONLY = 5, GIX_REFSPEC_FETCH_EXCLUDE = 6,
-    GIX_REFSPEC_FETCH_AND_UPDATE = 7
-};
+enum { GIX_REFSPEC_PUSH_ALL_MATCHING = 1, GIX_REFSPEC_PUSH_DELETE = 2, GIX_REFSPEC_PUSH_MATCHING = 3,
+       GIX_REFSPEC_PUSH_EXCLUDE = 4, GIX_REFSPEC_FETCH_ONLY = 5, GIX_REFSPEC_FETCH_EXCLUDE = 6,
+       GIX_REFSPEC_FETCH_AND_UPDATE = 7 };
 
-typedef struct {
-    const uint8_t *bytes;
-    size_t len;
-} gix_refspec_text;
+typedef struct { const uint8_t *bytes; size_t len; } gix_refspec_text;
 #define GIX_REFSPEC_TEXT_INIT { (const uint8_t *)"", 0 }
 
 /* What a refspec says to do. A side that it hasn't is empty, and none that it has is. Sides are places in
  * the text, or the constant HEAD. */
 typedef struct {
-    uint32_t kind;
-    uint32_t forced; /* 1 where refs may also move where that is no fast-forward */
-    gix_refspec_text source;
-    gix_refspec_text destination;
+    uint32_t kind, forced; /* forced is 1 where refs may also move where that is no fast-forward */
+    gix_refspec_text source, destination;
 } gix_refspec_instruction;
 #define GIX_REFSPEC_PARTS_INIT { 0, 0, GIX_REFSPEC_TEXT_INIT, GIX_REFSPEC_TEXT_INIT }
 
@@ -56,11 +49,16 @@ typedef struct {
 enum { GIX_REFSPEC_FORWARD = 1, GIX_REFSPEC_BACKWARD = 2 };
 #define GIX_REFSPEC_NO_ITEM SIZE_MAX
 
+/* What a fetch does with a mapping. It writes the destination; or leaves it out, as it neither begins refs/ nor is HEAD, or
+ * as a ref may not be called so on one side; or another source has the same destination; or there is none to write. */
+enum { GIX_REFSPEC_WRITTEN = 1, GIX_REFSPEC_LEFT_OUT = 2, GIX_REFSPEC_BAD_NAME = 3, GIX_REFSPEC_CONTESTED = 4,
+       GIX_REFSPEC_FETCHED_ONLY = 5 };
+
 /* A mapping: the places of its spec and of its name, GIX_REFSPEC_NO_ITEM of an id that is asked for; where in the
  * buffer that id stands, else a length of 0; and the name that the spec makes, the destination or backward the source. */
 typedef struct {
     size_t spec, item;
-    uint32_t has_destination, verdict; /* the verdict is 0 */
+    uint32_t has_destination, verdict; /* of a match the verdict is 0 */
     size_t id_at, id_len, made_at, made_len;
 } gix_refspec_mapping;
 
@@ -86,6 +84,11 @@ uint32_t gix_refspec_prefixes(const gix_refspec_text *texts, size_t count, uint3
 uint32_t gix_refspec_match(const gix_refspec_text *texts, size_t texts_count, const gix_refspec_text *names,
                            size_t names_count, uint32_t direction, gix_refspec_mapping *mappings,
                            size_t mappings_count, uint8_t *buffer, size_t buffer_len, size_t *count, size_t *len);
+
+/* What fetches do over names. The lists are also filled at GIX_REFSPEC_IN_CONFLICT: some destination is contested. */
+uint32_t gix_refspec_plan(const gix_refspec_text *texts, size_t texts_count, const gix_refspec_text *names,
+                          size_t names_count, gix_refspec_mapping *mappings, size_t mappings_count, uint8_t *buffer,
+                          size_t buffer_len, size_t *count, size_t *len);
 
 /* The sentence for an outcome. It ends with a NUL, which its length counts. */
 uint32_t gix_refspec_explanation(uint32_t outcome, gix_refspec_text *sentence);

@@ -14,7 +14,7 @@ use Rattle.refspec_c.specs.Reading.{IsUnread}
 use Rattle.refspec_c.specs.Group.{bytes_of, AreUnread, IsFirstUnread}
 
 -- one pair more
-pair_more : {X Y : Type 0} (R : X → Y → Type 0) (xs : List X) (ys : List Y) (x : X) (y : Y) → AllZip R xs ys → R x y → AllZip R (xs ++ x ∷ []) (ys ++ y ∷ [])
+pub pair_more : {X Y : Type 0} (R : X → Y → Type 0) (xs : List X) (ys : List Y) (x : X) (y : Y) → AllZip R xs ys → R x y → AllZip R (xs ++ x ∷ []) (ys ++ y ∷ [])
 pair_more R [] [] x y all one = (one, tt)
 pair_more R [] (b ∷ ys) x y all one = absurd all
 pair_more R (a ∷ xs) [] x y all one = absurd all
@@ -56,6 +56,7 @@ are_unread op texts failure.NoList first = first
 are_unread op texts failure.TooSmall first = first
 are_unread op texts failure.NoOperation first = first
 are_unread op texts failure.NeedsIds first = first
+are_unread op texts failure.InConflict first = first
 are_unread op texts failure.NoMemory first = tt
 
 pub text_unread : (op : Operation) (texts : List Text) (k : ℕ) (d : Text) (old : List RefSpecRef) (f : Failure) → k < length texts → IsUnread op (bytes_of (get_or texts k d)) f → AllZip (Reads op) (take k (map bytes_of texts)) (map reading_of old) → AreUnread op (map bytes_of texts) f

@@ -2,3 +2,4 @@ pub mod OutcomeLemmas
 pub mod SingleLemmas
 pub mod GroupLemmas
 pub mod MatchingLemmas
+pub mod PlanningLemmas

@@ -6,3 +6,4 @@ pub mod Explanation
 pub mod Group
 pub mod Mapping
 pub mod Matching
+pub mod Planning

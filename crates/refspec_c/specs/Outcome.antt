@@ -1,6 +1,6 @@
 -- What a call answers: 0, or the number of a failure. The numbers are this project's own, and are those of
 -- include/gix_refspec.h.
-use Rattle.std.specs.Prelude.{◌≡◌, ℕ, Result, Ok, Err}
+use Rattle.std.specs.Prelude.{◌≡◌, ℕ, Result, Ok, Err, OnOk, IfErr}
 use Rattle.gix_refspec.specs.declared.name.Error.{Error as NameError}
 use Rattle.gix_refspec.specs.declared.name.Error.TheVariants as of_name
 use Rattle.gix_refspec.specs.Refusal.{Refusal, Empty, NegativeWithDestination, PushToEmpty, PatternUnsupported, ReferenceName, PatternUnbalanced, NegativeEmpty, NegativeObjectHash}
@@ -30,6 +30,7 @@ number_of failure.TooSmall = 18
 number_of failure.NoMemory = 19
 number_of failure.NoOperation = 20
 number_of failure.NeedsIds = 21
+number_of failure.InConflict = 22
 
 -- the failure that tells of a fault of a name
 abbrev pub of_fault : NameError → Failure
@@ -58,6 +59,10 @@ of_refusal NegativeObjectHash = failure.NegativeObjectHash
 abbrev pub IsNumberOf : Result (Unit {0}) Failure → ℕ → Type 0
 IsNumberOf (Ok done) n = n ≡ 0
 IsNumberOf (Err f) n = n ≡ number_of f
+
+-- the call is done as Done says, and answers 0, or fails as Fails says, and answers the number of the failure
+abbrev pub Ends : Type 0 → (Failure → Type 0) → ℕ → Type 0
+Ends Done Fails outcome = (r : Result (Unit {0}) Failure) × IsNumberOf r outcome × OnOk r Done × IfErr r Fails
 
 -- of what a number stands for, as of an operation, the call is done as Done says, and answers 0, or fails as Fails
 -- says, and answers the number of the failure; where it stands for nothing, Same holds

@@ -67,6 +67,7 @@ fn failure_numbered(number: u32) -> Option<Failure>
         19 => Failure::NoMemory,
         20 => Failure::NoOperation,
         21 => Failure::NeedsIds,
+        22 => Failure::InConflict,
         _ => return None,
     })
 }
@@ -113,5 +114,6 @@ fn sentence_of(failure: Failure) -> &'static [u8]
         Failure::NeedsIds => {
             b"A destination is an object id, and names alone don't tell which refs have it.\0"
         }
+        Failure::InConflict => b"Several refs would be written to one destination.\0",
     }
 }

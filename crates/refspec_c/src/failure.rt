@@ -53,6 +53,8 @@ pub enum Failure {
     NoOperation,
     /// A destination is an id, which names don't tell of.
     NeedsIds,
+    /// A destination has several sources.
+    InConflict,
 }
 
 impl Failure {
@@ -82,6 +84,7 @@ impl Failure {
             Failure::NoMemory => 19,
             Failure::NoOperation => 20,
             Failure::NeedsIds => 21,
+            Failure::InConflict => 22,
         }
     }
 }

@@ -10,6 +10,7 @@ pub mod failure;
 pub mod listing;
 pub mod matching;
 pub mod parts;
+pub mod planning;
 pub mod prefixes;
 mod put;
 pub mod reading;
