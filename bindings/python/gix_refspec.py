@@ -1,4 +1,4 @@
-"""Git refspecs over libgix_refspec: parsed, printed, compared, matched, and made into what to ask a server for.
+"""Git refspecs over libgix_refspec: parsed, printed, compared, matched, planned, and made into what to ask a server for.
 
 >>> parse(b"+@:refs/remotes/origin/HEAD", Operation.FETCH).canonical
 b'+HEAD:refs/remotes/origin/HEAD'
@@ -10,7 +10,7 @@ from dataclasses import dataclass
 from typing import Callable, Iterable, List, Optional
 
 _library = ctypes.CDLL(os.environ.get("GIX_REFSPEC_LIBRARY", "libgix_refspec.so"))
-_OK, _NO_LIST, _TOO_SMALL = 0, 17, 18
+_OK, _NO_LIST, _TOO_SMALL, _IN_CONFLICT = 0, 17, 18, 22
 
 
 class Operation(enum.IntEnum):
@@ -33,6 +33,16 @@ class Direction(enum.IntEnum):
     """Which sides of fetches are matched: the sources, or the destinations."""
     FORWARD = 1
     BACKWARD = 2
+
+
+class Verdict(enum.IntEnum):
+    """What a fetch does with a mapping. It writes the destination; or leaves it out, as it neither begins refs/ nor is
+    HEAD, or as a ref may not be called so on one side; or another source has the same destination; or there is none."""
+    WRITTEN = 1
+    LEFT_OUT = 2
+    BAD_NAME = 3
+    CONTESTED = 4
+    FETCHED_ONLY = 5
 
 
 class _Mapping(ctypes.Structure):
@@ -65,11 +75,13 @@ class Spec:
 
 @dataclass(frozen=True)
 class Mapping:
-    """A mapping: the places of its spec and of its name, None of an id that is asked for; and its sides."""
+    """A mapping: the places of its spec and of its name, None of an id that is asked for; its sides; and in a plan what
+    a fetch does with it."""
     spec: int
     item: Optional[int]
     source: bytes
     destination: Optional[bytes]
+    verdict: Optional[Verdict] = None
 
 
 def _filled(call: Callable[..., int]) -> bytes:
@@ -115,18 +127,32 @@ def prefixes(fetches: Iterable[bytes]) -> Optional[List[bytes]]:
 def matches(fetches: Iterable[bytes], names: Iterable[bytes], direction: Direction) -> List[Mapping]:
     """What the texts of fetches map of names, or back from names. Raises RefspecError where a text is no refspec, and
     looking back where a destination is an id."""
-    named = list(names)
+    return _listed(fetches, list(names), direction, _library.gix_refspec_match, ctypes.c_uint32(direction))
+
+
+def plan(fetches: Iterable[bytes], names: Iterable[bytes]) -> List[Mapping]:
+    """What the texts of fetches do over names: each mapping with a verdict. Where some is contested, `git fetch` writes
+    nothing. Raises RefspecError where a text is no refspec.
+
+    >>> [one.verdict.name for one in plan([b"refs/heads/*:refs/x/*", b"v1"], [b"refs/heads/main", b"refs/tags/v1"])]
+    ['WRITTEN', 'FETCHED_ONLY']
+    """
+    return _listed(fetches, list(names), Direction.FORWARD, _library.gix_refspec_plan)
+
+
+def _listed(fetches: Iterable[bytes], names: List[bytes], direction: Direction, call: Callable[..., int],
+            *more: ctypes.c_uint32) -> List[Mapping]:
     given = []
-    for texts in ([_Text(text, len(text)) for text in fetches], [_Text(name, len(name)) for name in named]):
+    for texts in ([_Text(text, len(text)) for text in fetches], [_Text(name, len(name)) for name in names]):
         given += [(_Text * max(1, len(texts)))(*texts), ctypes.c_size_t(len(texts))]
-    count, size, rooms = ctypes.c_size_t(), ctypes.c_size_t(), (len(named) + 8, 64 * len(named) + 256)
+    count, size, rooms = ctypes.c_size_t(), ctypes.c_size_t(), (len(names) + 8, 64 * len(names) + 256)
     while True:
         made, buffer = (_Mapping * rooms[0])(), ctypes.create_string_buffer(rooms[1])
-        outcome = _library.gix_refspec_match(
-            *given, ctypes.c_uint32(direction), made, ctypes.c_size_t(rooms[0]), buffer, ctypes.c_size_t(rooms[1]),
-            ctypes.byref(count), ctypes.byref(size))
-        if outcome == _OK:
-            return [_mapping(one, named, buffer.raw, direction) for one in made[:count.value]]
+        outcome = call(*given, *more, made, ctypes.c_size_t(rooms[0]), buffer, ctypes.c_size_t(rooms[1]),
+                       ctypes.byref(count), ctypes.byref(size))
+        if outcome in (_OK, _IN_CONFLICT):
+            text = buffer.raw
+            return [_mapping(one, names, text, direction) for one in made[:count.value]]
         if outcome != _TOO_SMALL:
             raise RefspecError(outcome)
         rooms = (max(1, count.value), max(1, size.value))
@@ -137,4 +163,5 @@ def _mapping(one: _Mapping, names: List[bytes], text: bytes, direction: Directio
     name = text[one.id_at:one.id_at + one.id_len] if item is None else names[item]
     made = text[one.made_at:one.made_at + one.made_len]
     source, other = (name, made) if direction == Direction.FORWARD else (made, name)
-    return Mapping(one.spec, item, source, other if one.has_destination else None)
+    return Mapping(one.spec, item, source, other if one.has_destination else None,
+                   Verdict(one.verdict) if one.verdict else None)

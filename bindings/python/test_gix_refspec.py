@@ -3,7 +3,7 @@ import doctest
 import unittest
 
 import gix_refspec
-from gix_refspec import Direction, Mapping, Operation, RefspecError, matches, parse, prefixes
+from gix_refspec import Direction, Mapping, Operation, RefspecError, Verdict, matches, parse, plan, prefixes
 
 
 class Calls(unittest.TestCase):
@@ -39,6 +39,19 @@ class Calls(unittest.TestCase):
         self.assertEqual(len(matches(texts, [b"refs/heads/" + b"a" * 1000], Direction.FORWARD)), 2)
         with self.assertRaisesRegex(RefspecError, "object id"):
             matches([b"a:" + b"1" * 40], [b"refs/heads/a"], Direction.BACKWARD)
+
+    def test_plan(self) -> None:
+        texts = [b"refs/heads/a:refs/x/a", b"refs/tags/*:other/*", b"refs/remotes/*ck:refs/x/*", b"refs/tags/b",
+                 b"refs/heads/a:refs/y", b"refs/tags/b:refs/y"]
+        names = [b"refs/heads/a", b"refs/tags/b", b"refs/remotes/a.lock"]
+        told = plan(texts, names)
+        self.assertEqual([one.verdict for one in told],
+                         [Verdict.WRITTEN, Verdict.LEFT_OUT, Verdict.BAD_NAME, Verdict.FETCHED_ONLY,
+                          Verdict.CONTESTED, Verdict.CONTESTED])
+        self.assertEqual(told[2], Mapping(2, 2, b"refs/remotes/a.lock", b"refs/x/a.lo", Verdict.BAD_NAME))
+        self.assertEqual(plan(texts[:5], names)[4].verdict, Verdict.WRITTEN)
+        with self.assertRaisesRegex(RefspecError, "control character"):
+            plan([b"a b"], names)
 
 
 def load_tests(loader, tests, pattern):

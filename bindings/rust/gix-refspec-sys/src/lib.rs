@@ -11,10 +11,18 @@ pub const NO_LIST: u32 = 17;
 pub const TOO_SMALL: u32 = 18;
 pub const NO_MEMORY: u32 = 19;
 pub const NEEDS_IDS: u32 = 21;
+pub const IN_CONFLICT: u32 = 22;
 
 /// Which sides of fetches are matched.
 pub const FORWARD: u32 = 1;
 pub const BACKWARD: u32 = 2;
+
+/// What a fetch does with a mapping.
+pub const WRITTEN: u32 = 1;
+pub const LEFT_OUT: u32 = 2;
+pub const BAD_NAME: u32 = 3;
+pub const CONTESTED: u32 = 4;
+pub const FETCHED_ONLY: u32 = 5;
 
 /// The place of an id that is asked for among the names.
 pub const NO_ITEM: usize = usize::MAX;
@@ -84,6 +92,18 @@ extern "C" {
         names: *const Text,
         names_count: usize,
         direction: u32,
+        mappings: *mut Mapping,
+        mappings_count: usize,
+        buffer: *mut u8,
+        buffer_len: usize,
+        count: *mut usize,
+        len: *mut usize,
+    ) -> u32;
+    pub fn gix_refspec_plan(
+        texts: *const Text,
+        texts_count: usize,
+        names: *const Text,
+        names_count: usize,
         mappings: *mut Mapping,
         mappings_count: usize,
         buffer: *mut u8,

@@ -1,4 +1,4 @@
-//! Git refspecs: parsed, printed, compared, matched, and made into what to ask a server for.
+//! Git refspecs: parsed, printed, compared, matched, planned, and made into what to ask a server for.
 //!
 //! ```
 //! use refspec::{Operation, Spec};
@@ -48,26 +48,48 @@ pub enum Kind {
 /// Why a text is no refspec, or why there is no answer. It prints as a sentence.
 #[derive(Clone, Copy, Debug, PartialEq, Eq, Hash)]
 pub struct Error {
-    outcome: u32,
+    reason: Reason,
+}
+
+#[derive(Clone, Copy, Debug, PartialEq, Eq, Hash)]
+enum Reason {
+    Outcome(u32),
+    Push,
 }
 
 impl Error {
-    /// The number of the outcome, as `gix_refspec.h` has it.
-    pub fn outcome(self) -> u32 {
-        self.outcome
+    fn of(outcome: u32) -> Error {
+        Error { reason: Reason::Outcome(outcome) }
+    }
+
+    /// The number of the outcome, as `gix_refspec.h` has it. `None` of a push among fetches.
+    pub fn outcome(self) -> Option<u32> {
+        match self.reason {
+            Reason::Outcome(number) => Some(number),
+            Reason::Push => None,
+        }
+    }
+
+    /// Whether a push stands where only fetches may.
+    pub fn is_push(self) -> bool {
+        self.reason == Reason::Push
     }
 
     /// Whether memory ran out.
     pub fn is_memory(self) -> bool {
-        self.outcome == sys::NO_MEMORY
+        self.outcome() == Some(sys::NO_MEMORY)
     }
 }
 
 impl fmt::Display for Error {
     fn fmt(&self, f: &mut fmt::Formatter<'_>) -> fmt::Result {
+        let outcome = match self.reason {
+            Reason::Outcome(number) => number,
+            Reason::Push => return f.write_str("A push stands among the fetches."),
+        };
         let mut sentence = no_text();
         // The text is one of the library's constants, and ends with a NUL.
-        let known = unsafe { sys::gix_refspec_explanation(self.outcome, &mut sentence) } == sys::OK;
+        let known = unsafe { sys::gix_refspec_explanation(outcome, &mut sentence) } == sys::OK;
         let said = if known { unsafe { bytes_of(&sentence) } } else { b"unknown outcome\0" };
         f.write_str(&String::from_utf8_lossy(said.strip_suffix(b"\0").unwrap_or(said)))
     }
@@ -161,7 +183,7 @@ impl fmt::Display for Spec {
 }
 
 /// What to ask a server for, so that it tells of each ref that fetches take. `None` where only a request for
-/// all refs is safe.
+/// all refs is safe. A push is refused.
 ///
 /// ```
 /// use refspec::{prefixes, Operation, Spec};
@@ -171,11 +193,7 @@ impl fmt::Display for Spec {
 /// # Ok::<(), refspec::Error>(())
 /// ```
 pub fn prefixes(fetches: &[Spec]) -> Result<Option<Vec<Vec<u8>>>, Error> {
-    let fetches: Vec<sys::Text> = fetches
-        .iter()
-        .filter(|spec| spec.operation == Operation::Fetch)
-        .map(|spec| text_of(&spec.canonical))
-        .collect();
+    let fetches = texts_of(fetches)?;
     let lines = filled(256, |buffer, len| unsafe {
         sys::gix_refspec_prefixes(
             fetches.as_ptr(),
@@ -191,7 +209,7 @@ pub fn prefixes(fetches: &[Spec]) -> Result<Option<Vec<Vec<u8>>>, Error> {
             let names = lines.split(|byte| *byte == b'\n').filter(|name| !name.is_empty());
             Ok(Some(names.map(<[u8]>::to_vec).collect()))
         }
-        Err(error) if error.outcome == sys::NO_LIST => Ok(None),
+        Err(error) if error.outcome() == Some(sys::NO_LIST) => Ok(None),
         Err(error) => Err(error),
     }
 }
@@ -218,8 +236,8 @@ pub struct Mapping {
     pub destination: Option<Vec<u8>>,
 }
 
-/// What fetches map of names, or back from names. The canonical text of a push is read as that of a fetch. Looking back
-/// fails where a destination is an id, which names don't tell of.
+/// What fetches map of names, or back from names. A push is refused. Looking back fails where a destination is an id,
+/// which names don't tell of.
 ///
 /// ```
 /// use refspec::{matches, Direction, Operation, Spec};
@@ -231,54 +249,172 @@ pub struct Mapping {
 /// # Ok::<(), refspec::Error>(())
 /// ```
 pub fn matches<N: AsRef<[u8]>>(fetches: &[Spec], names: &[N], direction: Direction) -> Result<Vec<Mapping>, Error> {
-    let texts: Vec<sys::Text> = fetches.iter().map(|spec| text_of(&spec.canonical)).collect();
+    let texts = texts_of(fetches)?;
     let items: Vec<sys::Text> = names.iter().map(|name| text_of(name.as_ref())).collect();
     let number = match direction {
         Direction::Forward => sys::FORWARD,
         Direction::Backward => sys::BACKWARD,
     };
-    let (mut mappings, mut buffer) = (vec![sys::Mapping::default(); names.len() + 8], vec![0; 64 * names.len() + 256]);
-    let (mut count, mut len) = (0, 0);
-    loop {
-        // Nothing that the call writes is behind anything that it reads.
-        let outcome = unsafe {
-            sys::gix_refspec_match(
-                texts.as_ptr(),
-                texts.len(),
-                items.as_ptr(),
-                items.len(),
-                number,
-                mappings.as_mut_ptr(),
-                mappings.len(),
-                buffer.as_mut_ptr(),
-                buffer.len(),
-                &mut count,
-                &mut len,
-            )
-        };
-        match outcome {
-            sys::OK => break,
-            sys::TOO_SMALL => {
-                mappings.resize(count.max(mappings.len()), sys::Mapping::default());
-                buffer.resize(len.max(buffer.len()), 0);
-            }
-            _ => return Err(Error { outcome }),
-        }
+    // Nothing that the call writes is behind anything that it reads.
+    let lists = listed(names.len(), |lists| unsafe {
+        sys::gix_refspec_match(
+            texts.as_ptr(),
+            texts.len(),
+            items.as_ptr(),
+            items.len(),
+            number,
+            lists.mappings.as_mut_ptr(),
+            lists.mappings.len(),
+            lists.buffer.as_mut_ptr(),
+            lists.buffer.len(),
+            &mut lists.count,
+            &mut lists.len,
+        )
+    })?;
+    Ok(lists.told().iter().map(|one| lists.mapping(one, names, direction)).collect())
+}
+
+/// What a fetch does with a mapping.
+#[derive(Clone, Copy, Debug, PartialEq, Eq, Hash)]
+#[non_exhaustive]
+pub enum Verdict {
+    /// It writes the destination.
+    Written,
+    /// It leaves the mapping out: the destination neither begins `refs/` nor is `HEAD`.
+    LeftOut,
+    /// It leaves the mapping out: the source or the destination is none that a ref may be called.
+    BadName,
+    /// Another source has the same destination.
+    Contested,
+    /// There is no destination to write.
+    FetchedOnly,
+}
+
+/// A mapping, and what a fetch does with it.
+#[derive(Clone, Debug, PartialEq, Eq, Hash)]
+pub struct Planned {
+    /// The mapping.
+    pub mapping: Mapping,
+    /// What a fetch does with it.
+    pub verdict: Verdict,
+}
+
+/// What a fetch does.
+#[derive(Clone, Debug, PartialEq, Eq, Hash)]
+pub struct Plan {
+    /// All mappings, in the order of `matches`.
+    pub mappings: Vec<Planned>,
+    /// Whether some destination is contested. `git fetch` writes nothing then.
+    pub in_conflict: bool,
+}
+
+/// What fetches do over names. A push is refused.
+///
+/// ```
+/// use refspec::{plan, Operation, Spec, Verdict};
+///
+/// let specs = [
+///     Spec::parse("refs/heads/*:refs/x/*", Operation::Fetch)?,
+///     Spec::parse("refs/tags/*:refs/x/*", Operation::Fetch)?,
+/// ];
+/// let plan = plan(&specs, &["refs/heads/main", "refs/heads/v1", "refs/tags/v1"])?;
+/// assert!(plan.in_conflict);
+/// let verdicts: Vec<Verdict> = plan.mappings.iter().map(|one| one.verdict).collect();
+/// assert_eq!(verdicts, [Verdict::Written, Verdict::Contested, Verdict::Contested]);
+/// # Ok::<(), refspec::Error>(())
+/// ```
+pub fn plan<N: AsRef<[u8]>>(fetches: &[Spec], names: &[N]) -> Result<Plan, Error> {
+    let texts = texts_of(fetches)?;
+    let items: Vec<sys::Text> = names.iter().map(|name| text_of(name.as_ref())).collect();
+    // As with `matches`.
+    let lists = listed(names.len(), |lists| unsafe {
+        sys::gix_refspec_plan(
+            texts.as_ptr(),
+            texts.len(),
+            items.as_ptr(),
+            items.len(),
+            lists.mappings.as_mut_ptr(),
+            lists.mappings.len(),
+            lists.buffer.as_mut_ptr(),
+            lists.buffer.len(),
+            &mut lists.count,
+            &mut lists.len,
+        )
+    })?;
+    let planned = lists.told().iter().map(|one| Planned {
+        mapping: lists.mapping(one, names, Direction::Forward),
+        verdict: match one.verdict {
+            sys::WRITTEN => Verdict::Written,
+            sys::LEFT_OUT => Verdict::LeftOut,
+            sys::BAD_NAME => Verdict::BadName,
+            sys::CONTESTED => Verdict::Contested,
+            _ => Verdict::FetchedOnly,
+        },
+    });
+    Ok(Plan { mappings: planned.collect(), in_conflict: lists.outcome == sys::IN_CONFLICT })
+}
+
+/// The lists of a call that tells of mappings, how much of them is told, and the outcome.
+struct Lists {
+    mappings: Vec<sys::Mapping>,
+    buffer: Vec<u8>,
+    count: usize,
+    len: usize,
+    outcome: u32,
+}
+
+impl Lists {
+    fn told(&self) -> &[sys::Mapping] {
+        &self.mappings[..self.count]
     }
-    let told = mappings[..count].iter().map(|one| {
+
+    fn text(&self, at: usize, len: usize) -> Vec<u8> {
+        self.buffer[at..at + len].to_vec()
+    }
+
+    fn mapping<N: AsRef<[u8]>>(&self, one: &sys::Mapping, names: &[N], direction: Direction) -> Mapping {
         let item = (one.item != sys::NO_ITEM).then_some(one.item);
-        let made = buffer[one.made_at..one.made_at + one.made_len].to_vec();
+        let made = self.text(one.made_at, one.made_len);
         let name = match item {
             Some(place) => names[place].as_ref().to_vec(),
-            None => buffer[one.id_at..one.id_at + one.id_len].to_vec(),
+            None => self.text(one.id_at, one.id_len),
         };
         let (source, other) = match direction {
             Direction::Forward => (name, made),
             Direction::Backward => (made, name),
         };
         Mapping { spec: one.spec, item, source, destination: (one.has_destination == 1).then_some(other) }
-    });
-    Ok(told.collect())
+    }
+}
+
+/// The lists that a call fills, which are made as large as it says that they have to be.
+fn listed(names: usize, call: impl Fn(&mut Lists) -> u32) -> Result<Lists, Error> {
+    let mut lists = Lists {
+        mappings: vec![sys::Mapping::default(); names + 8],
+        buffer: vec![0; 64 * names + 256],
+        count: 0,
+        len: 0,
+        outcome: sys::OK,
+    };
+    loop {
+        lists.outcome = call(&mut lists);
+        match lists.outcome {
+            sys::OK | sys::IN_CONFLICT => return Ok(lists),
+            sys::TOO_SMALL => {
+                lists.mappings.resize(lists.count.max(lists.mappings.len()), sys::Mapping::default());
+                lists.buffer.resize(lists.len.max(lists.buffer.len()), 0);
+            }
+            outcome => return Err(Error::of(outcome)),
+        }
+    }
+}
+
+/// The canonical texts of fetches.
+fn texts_of(fetches: &[Spec]) -> Result<Vec<sys::Text>, Error> {
+    if fetches.iter().any(|spec| spec.operation == Operation::Push) {
+        return Err(Error { reason: Reason::Push });
+    }
+    Ok(fetches.iter().map(|spec| text_of(&spec.canonical)).collect())
 }
 
 fn text_of(bytes: &[u8]) -> sys::Text {
@@ -295,7 +431,7 @@ fn filled(room: usize, call: impl Fn(&mut [u8], &mut usize) -> u32) -> Result<Ve
         outcome = call(&mut buffer, &mut len);
     }
     if outcome != sys::OK {
-        return Err(Error { outcome });
+        return Err(Error::of(outcome));
     }
     buffer.truncate(len);
     Ok(buffer)
@@ -365,7 +501,43 @@ mod tests {
         assert_eq!(matches(&specs, &[&long], Direction::Forward)?.len(), 2);
         let by_id = Spec::parse(format!("a:{}", "1".repeat(40)), Operation::Fetch)?;
         let error = matches(&[by_id], &["refs/heads/a"], Direction::Backward).unwrap_err();
-        assert_eq!(error.outcome(), sys::NEEDS_IDS);
+        assert_eq!(error.outcome(), Some(sys::NEEDS_IDS));
+        Ok(())
+    }
+
+    #[test]
+    fn pushes_are_refused() -> Result<(), Error> {
+        let specs = [Spec::parse("main", Operation::Fetch)?, Spec::parse("main", Operation::Push)?];
+        let names = ["refs/heads/main"];
+        let error = matches(&specs, &names, Direction::Forward).unwrap_err();
+        assert!(error.is_push() && error.outcome().is_none());
+        assert_eq!(error.to_string(), "A push stands among the fetches.");
+        assert_eq!(plan(&specs, &names), Err(error));
+        assert_eq!(prefixes(&specs), Err(error));
+        Ok(())
+    }
+
+    #[test]
+    fn plans_tell_each_verdict() -> Result<(), Error> {
+        let rows = [
+            ("refs/heads/a:refs/x/a", Verdict::Written),
+            ("refs/tags/*:other/*", Verdict::LeftOut),
+            ("refs/remotes/*ck:refs/x/*", Verdict::BadName),
+            ("refs/tags/b", Verdict::FetchedOnly),
+            ("refs/heads/a:refs/y", Verdict::Contested),
+            ("refs/tags/b:refs/y", Verdict::Contested),
+        ];
+        let specs = rows.iter().map(|row| Spec::parse(row.0, Operation::Fetch)).collect::<Result<Vec<_>, _>>()?;
+        let names = ["refs/heads/a", "refs/tags/b", "refs/remotes/a.lock"];
+        let all = plan(&specs, &names)?;
+        assert!(all.in_conflict);
+        for (planned, row) in all.mappings.iter().zip(rows) {
+            assert_eq!(planned.verdict, row.1, "of {}", row.0);
+        }
+        assert_eq!(all.mappings.len(), rows.len());
+        assert_eq!(all.mappings[2].mapping.destination.as_deref(), Some(&b"refs/x/a.lo"[..]));
+        let fine = plan(&specs[..5], &names)?;
+        assert!(!fine.in_conflict && fine.mappings[4].verdict == Verdict::Written);
         Ok(())
     }
 
