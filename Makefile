@@ -2,7 +2,7 @@
 # make build   proves and builds the programs, at crates/refspec_map/out/refspec_map and crates/refspec/out/refspec
 # make run     its stored run, compared with what is stored; without proof where no program of these sources is built
 # make test    the gate, and then the scripts of tests/ over what it built
-# make install PREFIX=FOLDER, uninstall: the programs, git-refspec, manual pages and completions, below FOLDER
+# make install PREFIX=FOLDER, uninstall: programs, git-refspec, manual pages, completions, and what install-lib puts there
 # make lib     proves and builds the library for C, at out/lib
 # make install-lib PREFIX=FOLDER, uninstall-lib: its header, archive, shared library and .pc file, below FOLDER
 # make test-bindings   tests it from C, Rust and Python
@@ -20,7 +20,7 @@ PEOPLE := crates/refspec
 PEOPLE_PROGRAM := $(PEOPLE)/out/refspec
 PEOPLE_SOURCES := crates.txt $(shell find $(LIBRARY) $(PEOPLE) \( -name out -o -name must-fail \) -prune -o -type f -print)
 LOGS := out
-FIRST := 8 minutes the first time on 4 idle processors, half an hour on busy ones
+FIRST := half an hour the first time, with refspec, on 4 processors
 SOURCES := crates.txt $(shell find $(LIBRARY) $(FOLDER) \( -name out -o -name must-fail \) -prune -o -type f -print)
 
 help:
@@ -45,14 +45,14 @@ $(PEOPLE_PROGRAM): $(PEOPLE_SOURCES) | kit $(PROGRAM)
 	|| { status=$$?; echo "make: not built, as $(LOGS)/build-refspec.log says" >&2; exit $$status; }
 	@touch $@
 
-install: build
+install: build install-lib
 	install -d $(DESTDIR)$(PREFIX)/bin $(DESTDIR)$(PREFIX)/share/man/man1 \
 	    $(DESTDIR)$(PREFIX)/share/bash-completion/completions
 	install -m 755 $(PROGRAM) $(PEOPLE_PROGRAM) bin/git-refspec $(DESTDIR)$(PREFIX)/bin
 	install -m 644 man/*.1 $(DESTDIR)$(PREFIX)/share/man/man1
 	install -m 644 completions/refspec.bash $(DESTDIR)$(PREFIX)/share/bash-completion/completions/refspec
 
-uninstall:
+uninstall: uninstall-lib
 	rm -f $(addprefix $(DESTDIR)$(PREFIX)/bin/,refspec_map refspec git-refspec)
 	rm -f $(addprefix $(DESTDIR)$(PREFIX)/share/man/man1/,$(notdir $(wildcard man/*.1)))
 	rm -f $(DESTDIR)$(PREFIX)/share/bash-completion/completions/refspec
