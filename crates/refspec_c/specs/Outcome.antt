@@ -61,8 +61,8 @@ IsNumberOf (Ok done) n = n ≡ 0
 IsNumberOf (Err f) n = n ≡ number_of f
 
 -- the call is done as Done says, and answers 0, or fails as Fails says, and answers the number of the failure
-abbrev pub Ends : Type 0 → (Failure → Type 0) → ℕ → Type 0
-Ends Done Fails outcome = (r : Result (Unit {0}) Failure) × IsNumberOf r outcome × OnOk r Done × IfErr r Fails
+abbrev pub Concludes : Type 0 → (Failure → Type 0) → ℕ → Type 0
+Concludes Done Fails outcome = (r : Result (Unit {0}) Failure) × IsNumberOf r outcome × OnOk r Done × IfErr r Fails
 
 -- of what a number stands for, as of an operation, the call is done as Done says, and answers 0, or fails as Fails
 -- says, and answers the number of the failure; where it stands for nothing, Same holds

@@ -12,7 +12,7 @@ ghost use Rattle.gix_refspec.specs.RefNames.{AreNamed, IsNamedSource, IsRefName}
 ghost use Rattle.gix_refspec.specs.Validation.{AreConflicts, IndexesFit, IsWritable};
 ghost use Rattle.refspec_c.specs.Group.{AreUnread, bytes_of};
 ghost use Rattle.refspec_c.specs.Mapping.{Entry, HasAll, Room, Tells};
-ghost use Rattle.refspec_c.specs.Outcome.{Ends};
+ghost use Rattle.refspec_c.specs.Outcome.{Concludes};
 ghost use Rattle.refspec_c.specs.Planning.{HasVerdict, IsJudged, IsPlan, LacksPlan, destinations_of, verdict_code};
 
 use crate::explanation::Text;
@@ -74,7 +74,7 @@ pub extern "C" fn gix_refspec_plan(
     count: &mut usize,
     len: &mut usize,
 ) -> u32
-    ensures { Ends
+    ensures { Concludes
         ((es : List Entry) × IsPlan false (map bytes_of texts.now) (map bytes_of names.now) es × HasAll es
         (record { mappings = mappings.old; buffer = buffer.old; count = count.old; len = len.old })
         (record { mappings = mappings.new; buffer = buffer.new; count = count.new; len = len.new }))
