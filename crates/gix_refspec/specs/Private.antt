@@ -9,4 +9,4 @@ pub mod Part
 pub mod Index
 pub mod Kept
 pub mod Filter
-pub mod Claims
+pub mod Updates

@@ -1,7 +1,7 @@
 //! Texts that are cut at a byte.
 
 ghost use Rattle.std.specs.Prelude.{◌≡◌, [], ◌∷◌, ◌++◌, MatchOption, MatchBool};
-ghost use Rattle.gix_refspec.specs.Text.{Lacks, Holds};
+ghost use Rattle.gix_refspec.specs.Texts.Words.{Lacks, Holds};
 
 use bstr::ByteSlice;
 

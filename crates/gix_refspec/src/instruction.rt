@@ -1,7 +1,7 @@
 //! What a refspec says to do, by operation.
 
 ghost use Rattle.std.specs.Prelude.{◌≡◌};
-ghost use Rattle.gix_refspec.specs.Views.{shown, meant_for};
+ghost use Rattle.gix_refspec.specs.Views.Instruction.{shown, meant_for};
 
 use crate::parsing::Operation;
 use crate::types::Instruction;

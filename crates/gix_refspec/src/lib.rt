@@ -17,13 +17,11 @@ pub mod match_group;
 pub mod name;
 pub mod oid;
 pub mod parsing;
-mod prefix;
 mod side;
 mod spec;
 mod types;
-mod write;
 
 pub use match_group::types::MatchGroup;
-pub use parsing::function::parse;
+pub use parsing::reading::parse;
 pub use spec::{RefSpec, RefSpecRef};
 pub use types::Instruction;

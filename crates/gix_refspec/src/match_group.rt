@@ -1,25 +1,28 @@
 //! Groups of refspecs, and what they match among the refs of two repositories.
 
 ghost use Rattle.std.specs.Prelude.{◌≡◌, ◌≢◌, [], map, IfOk, IfErr, OnOk, OnErr};
-ghost use Rattle.gix_refspec.specs.Spec.{reading_of};
-ghost use Rattle.gix_refspec.specs.Mappings.{IsKept};
-ghost use Rattle.gix_refspec.specs.Group.{ref_of, mapped_of, readings_of, IsOutcome, Maps};
+ghost use Rattle.gix_refspec.specs.Views.Spec.{reading_of};
+ghost use Rattle.gix_refspec.specs.Matching.Mappings.{IsKept};
+ghost use Rattle.gix_refspec.specs.Views.Group.{ref_of, mapped_of, readings_of, IsOutcome, Maps};
 ghost use Rattle.gix_refspec.specs.Private.HitViews.{AreKept, AreMade, made_in};
-ghost use Rattle.gix_refspec.specs.Hits.{AreForward, AreBackward, AreKeptForward, AreKeptBackward};
+ghost use Rattle.gix_refspec.specs.Matching.Hits.{AreForward, AreBackward, AreKeptForward, AreKeptBackward};
 
+mod hashes;
+pub(crate) mod hits;
+pub(crate) mod keep;
+mod mappings;
 pub mod names;
 mod premises;
 pub(crate) mod types;
-pub(crate) mod util;
 pub mod validate;
 
 use crate::spec::RefSpecRef;
+use hits::Made;
+use hits::ends::Direction;
+use mappings::kept_of;
 use std::alloc::{AllocError, Global};
 use types::MatchGroup;
 pub use types::{Item, Mapping, NameRef, NoRoom, Outcome, Source, SourceRef, match_lhs, match_rhs};
-use util::ends::Direction;
-use util::hits::Made;
-use util::mappings::kept_of;
 
 /// Matching, from left to right and from right to left.
 impl<'spec> MatchGroup<'spec> {

@@ -3,11 +3,11 @@
 ghost use Rattle.std.specs.Prelude.{◌≡◌, ◌↔◌, IsTrue, MatchOption, MatchResult, ◌∷◌, ◌≤◌, [], List, ℕ, length};
 ghost use Rattle.std.specs.Bool.{OnTrue};
 ghost use Rattle.gix_refspec.specs.declared.name.Error.{Error};
-ghost use Rattle.gix_refspec.specs.Text.{Ends};
-ghost use Rattle.gix_refspec.specs.Name.{IsName, HasFault, IsPattern, HasOneStar, ReplacesStar};
-ghost use Rattle.gix_refspec.specs.Bytes.{slash};
-ghost use Rattle.gix_refspec.specs.Explained.{name_explained};
-ghost use Rattle.gix_refspec.specs.PatternError.{IsPatternFault};
+ghost use Rattle.gix_refspec.specs.Texts.Words.{Ends};
+ghost use Rattle.gix_refspec.specs.Texts.Name.{IsName, HasFault, IsPattern, HasOneStar, ReplacesStar};
+ghost use Rattle.gix_refspec.specs.Texts.Bytes.{slash};
+ghost use Rattle.gix_refspec.specs.Specs.Explained.{name_explained};
+ghost use Rattle.gix_refspec.specs.Texts.PatternError.{IsPatternFault};
 ghost use Rattle.gix_refspec.specs.Private.Scan.{AddsFault, LeavesFault, Finds, IsScanned, IsStarCount, Stops, one_if, with_letters};
 ghost use Rattle.bstr.specs.BStr.{bstr_bytes};
 

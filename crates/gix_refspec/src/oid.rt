@@ -7,8 +7,8 @@ ghost use Rattle.std.specs.Cmp.Lexicographic.{pointwise, slice_cmp, nat_list_eq_
 ghost use Rattle.std.specs.Cmp.{partial_equiv_from_equiv, on_per, on_equiv, on_po, on_total};
 ghost use Rattle.std.specs.Cmp.Rules.{hashing};
 ghost use Rattle.std.proofs.Common.{rules};
-ghost use Rattle.gix_refspec.specs.Explained.{id_explained};
-ghost use Rattle.gix_refspec.specs.ObjectId.{HasIdFault, IsIdLength, IsIdText, bytes_of, digits_of, fault_name, lower_of};
+ghost use Rattle.gix_refspec.specs.Specs.Explained.{id_explained};
+ghost use Rattle.gix_refspec.specs.Texts.ObjectId.{HasIdFault, IsIdLength, IsIdText, bytes_of, digits_of, fault_name, lower_of};
 
 mod digit;
 
@@ -118,7 +118,7 @@ pub struct ObjectId {
 }
 
 impl ObjectId {
-    ghost use Rattle.gix_refspec.specs.ObjectId.{id_bytes};
+    ghost use Rattle.gix_refspec.specs.Texts.ObjectId.{id_bytes};
 
     /// Reads an id from its digits, of either case.
     ///
@@ -168,7 +168,7 @@ impl ObjectId {
 }
 
 impl fmt::Display for ObjectId {
-    ghost use Rattle.gix_refspec.specs.ObjectId.{id_bytes};
+    ghost use Rattle.gix_refspec.specs.Texts.ObjectId.{id_bytes};
 
     ghost output = { λ id. Some (lower_of (id_bytes id)) };
 
@@ -189,7 +189,7 @@ impl fmt::Debug for ObjectId {
 }
 
 impl PartialEq for ObjectId {
-    ghost use Rattle.gix_refspec.specs.ObjectId.{id_bytes};
+    ghost use Rattle.gix_refspec.specs.Texts.ObjectId.{id_bytes};
 
     ghost eq = { λ x y. pointwise nat_eq (id_bytes x) (id_bytes y) };
 
@@ -201,13 +201,13 @@ impl PartialEq for ObjectId {
 }
 
 impl Eq for ObjectId {
-    ghost use Rattle.gix_refspec.specs.ObjectId.{id_bytes};
+    ghost use Rattle.gix_refspec.specs.Texts.ObjectId.{id_bytes};
 
     ghost laws = { on_equiv id_bytes nat_list_eq_equiv };
 }
 
 impl PartialOrd for ObjectId {
-    ghost use Rattle.gix_refspec.specs.ObjectId.{id_bytes};
+    ghost use Rattle.gix_refspec.specs.Texts.ObjectId.{id_bytes};
 
     ghost partial_cmp = { λ x y. Some (slice_cmp nat_cmp (id_bytes x) (id_bytes y)) };
 
@@ -219,7 +219,7 @@ impl PartialOrd for ObjectId {
 }
 
 impl Ord for ObjectId {
-    ghost use Rattle.gix_refspec.specs.ObjectId.{id_bytes};
+    ghost use Rattle.gix_refspec.specs.Texts.ObjectId.{id_bytes};
 
     ghost cmp = { λ x y. slice_cmp nat_cmp (id_bytes x) (id_bytes y) };
 
@@ -235,7 +235,7 @@ impl Ord for ObjectId {
 }
 
 impl Hash for ObjectId {
-    ghost use Rattle.gix_refspec.specs.ObjectId.{id_bytes};
+    ghost use Rattle.gix_refspec.specs.Texts.ObjectId.{id_bytes};
 
     ghost hash_input = { λ id. fed.slice fed.u8 (id_bytes id) };
 

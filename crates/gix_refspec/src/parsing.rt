@@ -1,14 +1,14 @@
 //! What a refspec is read for, and why a text is none.
 
 ghost use Rattle.std.specs.Prelude.{◌≡◌};
-ghost use Rattle.gix_refspec.specs.Explained.{explained};
-ghost use Rattle.gix_refspec.specs.Refusal.{ReferenceName};
-ghost use Rattle.gix_refspec.specs.Views.{IsShownAs};
+ghost use Rattle.gix_refspec.specs.Specs.Explained.{explained};
+ghost use Rattle.gix_refspec.specs.Specs.Refusal.{ReferenceName};
+ghost use Rattle.gix_refspec.specs.Views.Instruction.{IsShownAs};
 
 use crate::name;
 use bstr::BString;
 
-pub(crate) mod function;
+pub(crate) mod reading;
 
 /// What a refspec is used for.
 #[derive(Clone, Copy, Debug, PartialEq, Eq, PartialOrd, Ord, Hash)]

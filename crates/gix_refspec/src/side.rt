@@ -2,9 +2,9 @@
 
 ghost use Rattle.std.specs.Prelude.{◌≡◌, ◌++◌, codes, map, MatchOption, IfOk};
 ghost use Rattle.bstr.specs.Owned.{bstring_bytes};
-ghost use Rattle.gix_refspec.specs.Text.{Begins};
-ghost use Rattle.gix_refspec.specs.Name.{HasSeveralStars};
-ghost use Rattle.gix_refspec.specs.Side.{HasKind, candidates as candidates_of};
+ghost use Rattle.gix_refspec.specs.Texts.Words.{Begins};
+ghost use Rattle.gix_refspec.specs.Texts.Name.{HasSeveralStars};
+ghost use Rattle.gix_refspec.specs.Matching.Side.{HasKind, candidates as candidates_of};
 ghost use Rattle.gix_refspec.specs.Private.SideViews.{AreStarsOf, shown_kind};
 
 use crate::cut::split_at_first;

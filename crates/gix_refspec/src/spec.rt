@@ -3,10 +3,12 @@
 ghost use Rattle.std.specs.Prelude.{◌≡◌, option_map, IfOk, OnErr, IsSome};
 ghost use Rattle.bstr.specs.BStr.{bstr_bytes};
 ghost use Rattle.bstr.specs.Owned.{bstring_bytes};
-ghost use Rattle.gix_refspec.specs.Grammar.{IsAccepted};
-ghost use Rattle.gix_refspec.specs.Views.{mode_of};
+ghost use Rattle.gix_refspec.specs.Specs.Grammar.{IsAccepted};
+ghost use Rattle.gix_refspec.specs.Views.Instruction.{mode_of};
 
 mod comparisons;
+pub(crate) mod prefix;
+mod write;
 
 use crate::instruction::{Fetch, Push};
 use crate::parsing::Operation;
@@ -41,10 +43,10 @@ pub struct RefSpec {
 
 impl<'a> RefSpecRef<'a> {
     ghost use Rattle.std.specs.Prelude.{◌↔◌, IsTrue, Some};
-    ghost use Rattle.gix_refspec.specs.Meaning.{meaning_of};
-    ghost use Rattle.gix_refspec.specs.Views.{shown};
-    ghost use Rattle.gix_refspec.specs.Spec.{reading_of, owned_reading_of};
-    ghost use Rattle.gix_refspec.specs.Reading.{local_of, remote_of, Forced, HasSide};
+    ghost use Rattle.gix_refspec.specs.Specs.Meaning.{meaning_of};
+    ghost use Rattle.gix_refspec.specs.Views.Instruction.{shown};
+    ghost use Rattle.gix_refspec.specs.Views.Spec.{reading_of, owned_reading_of};
+    ghost use Rattle.gix_refspec.specs.Specs.Reading.{local_of, remote_of, Forced, HasSide};
 
     /// Whether the spec was read for a push or for a fetch.
     pub fn operation(&self) -> Operation
@@ -166,8 +168,8 @@ impl<'a> RefSpecRef<'a> {
 
 impl RefSpec {
     ghost use Rattle.std.specs.Prelude.{◌↔◌, IsTrue};
-    ghost use Rattle.gix_refspec.specs.Reading.{Forced, HasSide};
-    ghost use Rattle.gix_refspec.specs.Spec.{reading_of, owned_reading_of};
+    ghost use Rattle.gix_refspec.specs.Specs.Reading.{Forced, HasSide};
+    ghost use Rattle.gix_refspec.specs.Views.Spec.{reading_of, owned_reading_of};
 
     /// The same spec, with sides that are borrowed from this one.
     pub fn to_ref(&self) -> RefSpecRef<'_>

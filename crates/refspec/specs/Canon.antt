@@ -1,11 +1,11 @@
 -- What `canon` writes, in the words of the library.
 use Rattle.std.specs.Prelude.{◌≡◌, ◌⊎◌, ℕ, List, [], ◌∷◌, Some}
 use Rattle.gix_refspec.specs.declared.parsing.Operation.{Operation}
-use Rattle.gix_refspec.specs.Grammar.{Reads}
-use Rattle.gix_refspec.specs.Meaning.{printed}
-use Rattle.gix_refspec.specs.Reading.{Reading}
-use Rattle.gix_refspec.specs.Refusal.{IsRefused, Refusal}
-use Rattle.gix_refspec.specs.Spec.{reading_of}
+use Rattle.gix_refspec.specs.Specs.Grammar.{Reads}
+use Rattle.gix_refspec.specs.Specs.Meaning.{printed}
+use Rattle.gix_refspec.specs.Specs.Reading.{Reading}
+use Rattle.gix_refspec.specs.Specs.Refusal.{IsRefused, Refusal}
+use Rattle.gix_refspec.specs.Views.Spec.{reading_of}
 use Rattle.refspec.specs.declared.call.Form.{Form}
 use Rattle.refspec.specs.declared.checked.Checked.{Checked}
 use Rattle.refspec.specs.declared.checked.Checked.TheVariants as checked

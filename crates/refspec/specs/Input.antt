@@ -2,7 +2,7 @@
 -- other byte is a byte of it.
 use Rattle.std.specs.Prelude.{◌≡◌, ◌≢◌, ◌⊎◌, ℕ, Bool, List, [], ◌∷◌, ◌++◌, Option, MatchBool}
 use Rattle.std.specs.Io.KnownBytes.{Consumes, IsAtEnd}
-use Rattle.gix_refspec.specs.Text.{Lacks}
+use Rattle.gix_refspec.specs.Texts.Words.{Lacks}
 use Rattle.refspec.specs.declared.call.Ends.{Ends}
 use Rattle.refspec.specs.declared.call.Ends.TheVariants as ends
 

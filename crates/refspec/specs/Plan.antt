@@ -1,12 +1,12 @@
 -- What a fetch writes, in the words of the library.
 use Rattle.std.specs.Prelude.{◌≢◌, List, []}
-use Rattle.gix_refspec.specs.Reading.{Reading}
-use Rattle.gix_refspec.specs.Match.{Ref}
-use Rattle.gix_refspec.specs.Mappings.{Mapped}
-use Rattle.gix_refspec.specs.Hits.{AreKeptForward}
-use Rattle.gix_refspec.specs.Issue.{conflicts_of, mappings_of}
-use Rattle.gix_refspec.specs.RefNames.{KeepsNamed, LeftOut}
-use Rattle.gix_refspec.specs.Validation.{AreConflicts, IsValidated, Removed}
+use Rattle.gix_refspec.specs.Specs.Reading.{Reading}
+use Rattle.gix_refspec.specs.Matching.Match.{Ref}
+use Rattle.gix_refspec.specs.Matching.Mappings.{Mapped}
+use Rattle.gix_refspec.specs.Matching.Hits.{AreKeptForward}
+use Rattle.gix_refspec.specs.Views.Issue.{conflicts_of, mappings_of}
+use Rattle.gix_refspec.specs.Matching.RefNames.{KeepsNamed, LeftOut}
+use Rattle.gix_refspec.specs.Matching.Validation.{AreConflicts, IsValidated, Removed}
 use Rattle.refspec.specs.declared.plan.Written.{Written}
 use Rattle.refspec.specs.declared.plan.Written.TheVariants as written
 

@@ -1,8 +1,8 @@
 -- What a text is, in the words of the library.
-use Rattle.gix_refspec.specs.Grammar.{Reads}
-use Rattle.gix_refspec.specs.Refusal.{IsRefused}
-use Rattle.gix_refspec.specs.Spec.{reading_of}
-use Rattle.gix_refspec.specs.Views.{ShowsRefusal}
+use Rattle.gix_refspec.specs.Specs.Grammar.{Reads}
+use Rattle.gix_refspec.specs.Specs.Refusal.{IsRefused}
+use Rattle.gix_refspec.specs.Views.Spec.{reading_of}
+use Rattle.gix_refspec.specs.Views.Instruction.{ShowsRefusal}
 use Rattle.refspec.specs.declared.checked.Checked.{Checked}
 use Rattle.refspec.specs.declared.checked.Checked.TheVariants as checked
 use Rattle.refspec.specs.declared.texts.Text.{Text}

@@ -1,8 +1,8 @@
 //! The canonical texts of specs.
 
 ghost use Rattle.std.specs.Prelude.{◌≡◌, ◌∷◌, [], List, OnOk, Some, ℕ};
-ghost use Rattle.gix_refspec.specs.Meaning.{printed};
-ghost use Rattle.gix_refspec.specs.Spec.{reading_of};
+ghost use Rattle.gix_refspec.specs.Specs.Meaning.{printed};
+ghost use Rattle.gix_refspec.specs.Views.Spec.{reading_of};
 ghost use Rattle.refspec.specs.Canon.{AddsCanonical};
 ghost use Rattle.refspec.specs.Shown.{AddsNames};
 

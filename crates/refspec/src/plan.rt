@@ -1,9 +1,9 @@
 //! What a fetch writes of the refs of a remote.
 
 ghost use Rattle.std.specs.Prelude.{map, IfOk};
-ghost use Rattle.gix_refspec.specs.Group.{ref_of};
-ghost use Rattle.gix_refspec.specs.RefNames.{left_out_of};
-ghost use Rattle.gix_refspec.specs.Spec.{reading_of};
+ghost use Rattle.gix_refspec.specs.Views.Group.{ref_of};
+ghost use Rattle.gix_refspec.specs.Matching.RefNames.{left_out_of};
+ghost use Rattle.gix_refspec.specs.Views.Spec.{reading_of};
 ghost use Rattle.refspec.specs.Plan.{IsPlan};
 
 use gix_refspec::match_group::names::BadMapping;

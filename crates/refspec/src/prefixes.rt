@@ -2,8 +2,8 @@
 
 ghost use Rattle.std.specs.Prelude.{map, IfOk, IfSome, MatchOption};
 ghost use Rattle.bstr.specs.Owned.{bstring_bytes};
-ghost use Rattle.gix_refspec.specs.Asked.{HasNoList, ListsGroup, Serves};
-ghost use Rattle.gix_refspec.specs.Group.{readings_of};
+ghost use Rattle.gix_refspec.specs.Matching.Asked.{HasNoList, ListsGroup, Serves};
+ghost use Rattle.gix_refspec.specs.Views.Group.{readings_of};
 
 use crate::call::Form;
 use crate::json;

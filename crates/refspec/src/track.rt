@@ -1,9 +1,9 @@
 //! Which refs of a remote tracking refs belong to.
 
 ghost use Rattle.std.specs.Prelude.{map, IfOk};
-ghost use Rattle.gix_refspec.specs.Group.{mapped_of, ref_of};
-ghost use Rattle.gix_refspec.specs.Hits.{AreKeptBackward};
-ghost use Rattle.gix_refspec.specs.Spec.{reading_of};
+ghost use Rattle.gix_refspec.specs.Views.Group.{mapped_of, ref_of};
+ghost use Rattle.gix_refspec.specs.Matching.Hits.{AreKeptBackward};
+ghost use Rattle.gix_refspec.specs.Views.Spec.{reading_of};
 
 use crate::call::{Call, Form};
 use crate::json;

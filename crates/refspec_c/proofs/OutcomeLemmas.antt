@@ -5,8 +5,8 @@ use Rattle.gix_refspec.specs.declared.parsing.Error.{Error}
 use Rattle.gix_refspec.specs.declared.parsing.Error.TheVariants as error
 use Rattle.gix_refspec.specs.declared.name.Error.{Error as NameError}
 use Rattle.gix_refspec.specs.declared.name.Error.TheVariants as of_name
-use Rattle.gix_refspec.specs.Refusal.{Refusal, Empty, NegativeWithDestination, PushToEmpty, PatternUnsupported, ReferenceName, PatternUnbalanced, NegativeEmpty, NegativeObjectHash, IsRefused, MayWantMemory}
-use Rattle.gix_refspec.specs.Views.{IsShownAs, ShowsRefusal}
+use Rattle.gix_refspec.specs.Specs.Refusal.{Refusal, Empty, NegativeWithDestination, PushToEmpty, PatternUnsupported, ReferenceName, PatternUnbalanced, NegativeEmpty, NegativeObjectHash, IsRefused, MayWantMemory}
+use Rattle.gix_refspec.specs.Views.Instruction.{IsShownAs, ShowsRefusal}
 use Rattle.refspec_c.specs.declared.failure.Failure.{Failure}
 use Rattle.refspec_c.specs.declared.failure.Failure.TheVariants as failure
 use Rattle.refspec_c.specs.Outcome.{Answers, done, fails, IsNumberOf, of_fault, of_refusal}

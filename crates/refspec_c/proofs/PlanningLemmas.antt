@@ -21,15 +21,15 @@ use Rattle.std.proofs.Math.Logic.{⊎_elim}
 use Rattle.gix_refspec.specs.declared.parsing.Operation.TheVariants.{Fetch}
 use Rattle.gix_refspec.specs.declared.match_group.types.Mapping.{Mapping}
 use Rattle.gix_refspec.specs.declared.match_group.validate.Issue.{Issue}
-use Rattle.gix_refspec.specs.Reading.{Reading}
-use Rattle.gix_refspec.specs.Grammar.{Reads}
-use Rattle.gix_refspec.specs.Match.{Ref}
-use Rattle.gix_refspec.specs.Mappings.{Mapped}
-use Rattle.gix_refspec.specs.Group.{mapped_of}
-use Rattle.gix_refspec.specs.Hits.{AreKeptForward}
-use Rattle.gix_refspec.specs.Issue.{conflict_of}
-use Rattle.gix_refspec.specs.RefNames.{AreNamed, IsNamed, IsNamedDestination, IsNamedSource, IsRefName}
-use Rattle.gix_refspec.specs.Validation.{AreConflicts, IsConflict, IsContested}
+use Rattle.gix_refspec.specs.Specs.Reading.{Reading}
+use Rattle.gix_refspec.specs.Specs.Grammar.{Reads}
+use Rattle.gix_refspec.specs.Matching.Match.{Ref}
+use Rattle.gix_refspec.specs.Matching.Mappings.{Mapped}
+use Rattle.gix_refspec.specs.Views.Group.{mapped_of}
+use Rattle.gix_refspec.specs.Matching.Hits.{AreKeptForward}
+use Rattle.gix_refspec.specs.Views.Issue.{conflict_of}
+use Rattle.gix_refspec.specs.Matching.RefNames.{AreNamed, IsNamed, IsNamedDestination, IsNamedSource, IsRefName}
+use Rattle.gix_refspec.specs.Matching.Validation.{AreConflicts, IsConflict, IsContested}
 use Rattle.refspec_c.specs.declared.planning.Verdict.{Verdict}
 use Rattle.refspec_c.specs.declared.planning.Verdict.TheVariants.{Written, LeftOut, BadName, Contested, FetchedOnly}
 use Rattle.refspec_c.specs.Mapping.{Entry}

@@ -6,10 +6,10 @@ use Rattle.std.specs.Ordering.{nat_cmp}
 use Rattle.std.specs.Cmp.{Equal-is}
 use Rattle.std.specs.Cmp.Lexicographic.{pointwise, slice_cmp, lists_ties, texts_ties}
 use Rattle.gix_refspec.specs.declared.parsing.Operation.{Operation}
-use Rattle.gix_refspec.specs.Reading.{Reading}
-use Rattle.gix_refspec.specs.Grammar.{Reads}
-use Rattle.gix_refspec.specs.Meaning.{meaning_of, printed}
-use Rattle.gix_refspec.specs.Order.{keys}
+use Rattle.gix_refspec.specs.Specs.Reading.{Reading}
+use Rattle.gix_refspec.specs.Specs.Grammar.{Reads}
+use Rattle.gix_refspec.specs.Specs.Meaning.{meaning_of, printed}
+use Rattle.gix_refspec.specs.Specs.Order.{keys}
 use Rattle.refspec_c.specs.declared.failure.Failure.{Failure}
 use Rattle.refspec_c.specs.declared.failure.Failure.TheVariants as failure
 use Rattle.refspec_c.specs.Buffer.{HoldsNone, IsTooSmall}

@@ -1,8 +1,8 @@
 -- What a caller is told of mappings: a struct for each, and their texts one behind the other.
 use Rattle.std.specs.Prelude.{◌≡◌, ◌⊎◌, ◌<◌, ◌≤◌, ◌+◌, ℕ, List, [], ◌∷◌, ◌++◌, length, drop, map, Option, None, Some}
 use Rattle.std.specs.List.{flat_map}
-use Rattle.gix_refspec.specs.ObjectId.{lower_of}
-use Rattle.gix_refspec.specs.Mappings.{Start, name, id, Mapped}
+use Rattle.gix_refspec.specs.Texts.ObjectId.{lower_of}
+use Rattle.gix_refspec.specs.Matching.Mappings.{Start, name, id, Mapped}
 use Rattle.refspec_c.specs.declared.failure.Failure.{Failure}
 use Rattle.refspec_c.specs.declared.failure.Failure.TheVariants as failure
 use Rattle.refspec_c.specs.declared.listing.MappingOut.{MappingOut}

@@ -2,12 +2,12 @@
 use Rattle.std.specs.Prelude.{◌≡◌, ◌⊎◌, ℕ, List, map, None, Some, replicate}
 use Rattle.std.specs.List.{AllByRecursion, AllZip}
 use Rattle.gix_refspec.specs.declared.parsing.Operation.TheVariants.{Fetch}
-use Rattle.gix_refspec.specs.Reading.{Reading}
-use Rattle.gix_refspec.specs.Grammar.{Reads}
-use Rattle.gix_refspec.specs.Side.{IsId}
-use Rattle.gix_refspec.specs.Match.{Ref}
-use Rattle.gix_refspec.specs.Mappings.{Mapped}
-use Rattle.gix_refspec.specs.Hits.{AreKeptForward, AreKeptBackward}
+use Rattle.gix_refspec.specs.Specs.Reading.{Reading}
+use Rattle.gix_refspec.specs.Specs.Grammar.{Reads}
+use Rattle.gix_refspec.specs.Matching.Side.{IsId}
+use Rattle.gix_refspec.specs.Matching.Match.{Ref}
+use Rattle.gix_refspec.specs.Matching.Mappings.{Mapped}
+use Rattle.gix_refspec.specs.Matching.Hits.{AreKeptForward, AreKeptBackward}
 use Rattle.refspec_c.specs.declared.failure.Failure.{Failure}
 use Rattle.refspec_c.specs.declared.failure.Failure.TheVariants as failure
 use Rattle.refspec_c.specs.declared.matching.Direction.{Direction}

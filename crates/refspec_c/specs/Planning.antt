@@ -3,14 +3,14 @@
 use Rattle.std.specs.Prelude.{◌≡◌, ◌⊎◌, ℕ, Bool, true, MatchBool, List, map, None, Some}
 use Rattle.std.specs.List.{AllZip}
 use Rattle.gix_refspec.specs.declared.parsing.Operation.TheVariants.{Fetch}
-use Rattle.gix_refspec.specs.Reading.{Reading}
-use Rattle.gix_refspec.specs.Grammar.{Reads}
-use Rattle.gix_refspec.specs.Mappings.{Mapped}
+use Rattle.gix_refspec.specs.Specs.Reading.{Reading}
+use Rattle.gix_refspec.specs.Specs.Grammar.{Reads}
+use Rattle.gix_refspec.specs.Matching.Mappings.{Mapped}
 use Rattle.gix_refspec.specs.declared.match_group.validate.Issue.{Issue}
-use Rattle.gix_refspec.specs.Issue.{conflict_of}
-use Rattle.gix_refspec.specs.Hits.{AreKeptForward}
-use Rattle.gix_refspec.specs.Validation.{IsContested, Survives}
-use Rattle.gix_refspec.specs.RefNames.{IsNamed, AreNamed}
+use Rattle.gix_refspec.specs.Views.Issue.{conflict_of}
+use Rattle.gix_refspec.specs.Matching.Hits.{AreKeptForward}
+use Rattle.gix_refspec.specs.Matching.Validation.{IsContested, Survives}
+use Rattle.gix_refspec.specs.Matching.RefNames.{IsNamed, AreNamed}
 use Rattle.refspec_c.specs.declared.failure.Failure.{Failure}
 use Rattle.refspec_c.specs.declared.failure.Failure.TheVariants as failure
 use Rattle.refspec_c.specs.declared.planning.Verdict.{Verdict}

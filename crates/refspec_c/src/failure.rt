@@ -1,8 +1,8 @@
 //! Why a call gives no answer, or what is to be said of it.
 
 ghost use Rattle.std.specs.Prelude.{◌≡◌};
-ghost use Rattle.gix_refspec.specs.Refusal.{Refusal};
-ghost use Rattle.gix_refspec.specs.Views.{IsShownAs};
+ghost use Rattle.gix_refspec.specs.Specs.Refusal.{Refusal};
+ghost use Rattle.gix_refspec.specs.Views.Instruction.{IsShownAs};
 ghost use Rattle.refspec_c.specs.Outcome.{IsNumberOf, number_of, of_fault, of_refusal};
 
 use gix_refspec::name;

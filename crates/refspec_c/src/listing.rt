@@ -2,7 +2,7 @@
 
 ghost use Rattle.std.specs.Prelude.{◌≡◌, ◌++◌, ◌∷◌, [], map, length, IfErr, IfOk, OnOk};
 ghost use Rattle.std.specs.String.{string_bytes};
-ghost use Rattle.gix_refspec.specs.Group.{mapped_of, start_of};
+ghost use Rattle.gix_refspec.specs.Views.Group.{mapped_of, start_of};
 ghost use Rattle.refspec_c.specs.Mapping.{IsNotPut, IsPut, Room, Tells, backward_entry, forward_entry, id_text, place_of, text_of, told_at, told_by};
 
 use crate::failure::Failure;

@@ -2,11 +2,11 @@
 
 ghost use Rattle.std.specs.Prelude.{◌≡◌, ◌↔◌, ℕ, List, map, replicate, IfErr, IfOk, IsTrue, MatchOption, OnOk};
 ghost use Rattle.std.specs.List.{AllByRecursion, AllZip};
-ghost use Rattle.gix_refspec.specs.Grammar.{Reads};
-ghost use Rattle.gix_refspec.specs.Group.{readings_of, ref_of};
-ghost use Rattle.gix_refspec.specs.ObjectId.{id_bytes};
-ghost use Rattle.gix_refspec.specs.Spec.{reading_of};
-ghost use Rattle.gix_refspec.specs.Group.{mapped_of};
+ghost use Rattle.gix_refspec.specs.Specs.Grammar.{Reads};
+ghost use Rattle.gix_refspec.specs.Views.Group.{readings_of, ref_of};
+ghost use Rattle.gix_refspec.specs.Texts.ObjectId.{id_bytes};
+ghost use Rattle.gix_refspec.specs.Views.Spec.{reading_of};
+ghost use Rattle.gix_refspec.specs.Views.Group.{mapped_of};
 ghost use Rattle.refspec_c.specs.Group.{bytes_of};
 ghost use Rattle.refspec_c.specs.Mapping.{Entry, HasAll, LacksAll, Room, Tells, backward_entry, forward_entry};
 ghost use Rattle.refspec_c.specs.Matching.{AreMatched, AreUnmatched, GoesByName, direction_code, nameless};

@@ -1,7 +1,7 @@
 //! What an instruction consists of, as C sees it.
 
 ghost use Rattle.std.specs.Prelude.{◌≡◌};
-ghost use Rattle.gix_refspec.specs.Views.{shown, shown_fetch, shown_push};
+ghost use Rattle.gix_refspec.specs.Views.Instruction.{shown, shown_fetch, shown_push};
 ghost use Rattle.refspec_c.specs.Single.{bit, told_by, told_of};
 
 use gix_refspec::Instruction;

@@ -2,9 +2,9 @@
 
 ghost use Rattle.std.specs.Prelude.{◌≡◌, ◌++◌, ◌∷◌, [], map, IfOk, IfErr, OnOk, MatchOption};
 ghost use Rattle.std.specs.List.{AllZip};
-ghost use Rattle.gix_refspec.specs.Grammar.{Reads};
-ghost use Rattle.gix_refspec.specs.Spec.{reading_of};
-ghost use Rattle.gix_refspec.specs.Group.{readings_of};
+ghost use Rattle.gix_refspec.specs.Specs.Grammar.{Reads};
+ghost use Rattle.gix_refspec.specs.Views.Spec.{reading_of};
+ghost use Rattle.gix_refspec.specs.Views.Group.{readings_of};
 ghost use Rattle.refspec_c.specs.Group.{AreUnread, bytes_of};
 ghost use Rattle.refspec_c.specs.Reading.{IsUnread, code_of};
 

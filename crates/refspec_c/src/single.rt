@@ -3,7 +3,7 @@
 ghost use Rattle.std.specs.Prelude.{◌≡◌, ℕ, List, OnOk, IfErr};
 ghost use Rattle.std.specs.Ordering.{nat_cmp};
 ghost use Rattle.std.specs.Cmp.Lexicographic.{slice_cmp};
-ghost use Rattle.gix_refspec.specs.Order.{keys};
+ghost use Rattle.gix_refspec.specs.Specs.Order.{keys};
 ghost use Rattle.refspec_c.specs.Buffer.{Holds, HoldsNone};
 ghost use Rattle.refspec_c.specs.Outcome.{Answers};
 ghost use Rattle.refspec_c.specs.Reading.{IsRefspec, IsUnread, code_of};

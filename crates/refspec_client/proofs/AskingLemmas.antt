@@ -5,9 +5,9 @@ use Rattle.std.proofs.lemmas.List.Elements.{All-map, All-weaker, filter_passes, 
 use Rattle.gix_refspec.specs.declared.parsing.Operation.{Operation}
 use Rattle.gix_refspec.specs.declared.parsing.Operation.TheVariants.{Push, Fetch}
 use Rattle.gix_refspec.specs.declared.spec.RefSpecRef.{RefSpecRef}
-use Rattle.gix_refspec.specs.Spec.{reading_of}
-use Rattle.gix_refspec.specs.Group.{is_for, is_same_operation}
-use Rattle.gix_refspec.specs.MatchLaws.{AreFetches}
+use Rattle.gix_refspec.specs.Views.Spec.{reading_of}
+use Rattle.gix_refspec.specs.Views.Group.{is_for, is_same_operation}
+use Rattle.gix_refspec.specs.Laws.Matching.{AreFetches}
 use Rattle.refspec_client.specs.Planned.{fetch_readings}
 
 -- the fetches among specs are fetches

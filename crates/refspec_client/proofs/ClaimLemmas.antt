@@ -1,10 +1,10 @@
 -- What the laws of the library come to.
 use Rattle.std.proofs.Common.{◌≡◌, inl, inr, ℕ, List, Some, option_map, sym, ap, ◌∙◌, subst}
 use Rattle.gix_refspec.specs.declared.parsing.Operation.{Operation}
-use Rattle.gix_refspec.specs.Reading.{Reading}
-use Rattle.gix_refspec.specs.Grammar.{Reads}
-use Rattle.gix_refspec.specs.Meaning.{meaning_of, text_of, printed}
-use Rattle.gix_refspec.specs.Laws.{ReadsOrRefused, IsPrintedBack, EqualReadings}
+use Rattle.gix_refspec.specs.Specs.Reading.{Reading}
+use Rattle.gix_refspec.specs.Specs.Grammar.{Reads}
+use Rattle.gix_refspec.specs.Specs.Meaning.{meaning_of, text_of, printed}
+use Rattle.gix_refspec.specs.Laws.Readings.{ReadsOrRefused, IsPrintedBack, EqualReadings}
 use Rattle.refspec_client.specs.Claims.{IsRefspec, ReadsOnlyAs, AreEqual, IsCanonicalText}
 
 -- a reading of a text is its only one

@@ -2,12 +2,12 @@
 use Rattle.std.specs.Prelude.{◌≡◌, ℕ, List, map, filter}
 use Rattle.bstr.specs.BStr.{bstr_bytes}
 use Rattle.gix_refspec.specs.declared.match_group.types.Item.{Item}
-use Rattle.gix_refspec.specs.Reading.{Reading}
-use Rattle.gix_refspec.specs.Mappings.{Mapped}
-use Rattle.gix_refspec.specs.Group.{ref_of}
-use Rattle.gix_refspec.specs.Hits.{AreKeptForward}
-use Rattle.gix_refspec.specs.Asked.{ListsGroup}
-use Rattle.gix_refspec.specs.ItemLaws.{HaveSamePairs, is_begun}
+use Rattle.gix_refspec.specs.Specs.Reading.{Reading}
+use Rattle.gix_refspec.specs.Matching.Mappings.{Mapped}
+use Rattle.gix_refspec.specs.Views.Group.{ref_of}
+use Rattle.gix_refspec.specs.Matching.Hits.{AreKeptForward}
+use Rattle.gix_refspec.specs.Matching.Asked.{ListsGroup}
+use Rattle.gix_refspec.specs.Laws.Items.{HaveSamePairs, is_begun}
 
 -- the items whose names begin with one of the entries, in order
 abbrev pub items_asked : List (List ℕ) → List Item → List Item

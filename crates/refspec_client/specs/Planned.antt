@@ -3,17 +3,17 @@ use Rattle.std.specs.Prelude.{◌≢◌, ◌↔◌, List, [], map, filter}
 use Rattle.std.specs.List.{Contains}
 use Rattle.gix_refspec.specs.declared.parsing.Operation.TheVariants.{Fetch}
 use Rattle.gix_refspec.specs.declared.spec.RefSpecRef.{RefSpecRef}
-use Rattle.gix_refspec.specs.Reading.{Reading}
-use Rattle.gix_refspec.specs.Spec.{reading_of}
-use Rattle.gix_refspec.specs.Match.{Ref}
-use Rattle.gix_refspec.specs.Mappings.{Mapped, IsStartExcluded}
-use Rattle.gix_refspec.specs.Group.{is_for}
-use Rattle.gix_refspec.specs.Hits.{AreKeptForward}
-use Rattle.gix_refspec.specs.MatchLaws.{AtSpec}
-use Rattle.gix_refspec.specs.PlaceLaws.{MakesForwardOf}
-use Rattle.gix_refspec.specs.RefNames.{LeftOut, AreLeftOut, IsNamed, KeepsNamed, WritesRef}
-use Rattle.gix_refspec.specs.Validation.{Conflict, AreConflicts, NeverMeet}
-use Rattle.gix_refspec.specs.Issue.{conflicts_of}
+use Rattle.gix_refspec.specs.Specs.Reading.{Reading}
+use Rattle.gix_refspec.specs.Views.Spec.{reading_of}
+use Rattle.gix_refspec.specs.Matching.Match.{Ref}
+use Rattle.gix_refspec.specs.Matching.Mappings.{Mapped, IsStartExcluded}
+use Rattle.gix_refspec.specs.Views.Group.{is_for}
+use Rattle.gix_refspec.specs.Matching.Hits.{AreKeptForward}
+use Rattle.gix_refspec.specs.Laws.Matching.{AtSpec}
+use Rattle.gix_refspec.specs.Laws.Places.{MakesForwardOf}
+use Rattle.gix_refspec.specs.Matching.RefNames.{LeftOut, AreLeftOut, IsNamed, KeepsNamed, WritesRef}
+use Rattle.gix_refspec.specs.Matching.Validation.{Conflict, AreConflicts, NeverMeet}
+use Rattle.gix_refspec.specs.Views.Issue.{conflicts_of}
 use Rattle.refspec_client.specs.declared.planner.NoPlan.{NoPlan}
 use Rattle.refspec_client.specs.declared.planner.NoPlan.TheVariants as no_plan
 

@@ -3,10 +3,10 @@
 use Rattle.std.specs.Prelude.{◌↔◌, ℕ, List, [], ◌∷◌, None, Some}
 use Rattle.std.specs.List.{Any}
 use Rattle.gix_refspec.specs.declared.match_group.types.MatchGroup.{MatchGroup}
-use Rattle.gix_refspec.specs.Reading.{Reading}
-use Rattle.gix_refspec.specs.Match.{Ref}
-use Rattle.gix_refspec.specs.Mappings.{name, Mapped, HasPair, IsExcluded}
-use Rattle.gix_refspec.specs.MatchLaws.{MakesForward, MakesBackward}
+use Rattle.gix_refspec.specs.Specs.Reading.{Reading}
+use Rattle.gix_refspec.specs.Matching.Match.{Ref}
+use Rattle.gix_refspec.specs.Matching.Mappings.{name, Mapped, HasPair, IsExcluded}
+use Rattle.gix_refspec.specs.Laws.Matching.{MakesForward, MakesBackward}
 use Rattle.refspec_client.specs.declared.tracking.NoLookUp.{NoLookUp}
 use Rattle.refspec_client.specs.declared.tracking.NoLookUp.TheVariants as no_look_up
 

@@ -2,9 +2,9 @@
 
 ghost use Rattle.std.specs.Prelude.{◌≡◌, map, IfOk, MatchOption};
 ghost use Rattle.bstr.specs.Owned.{bstring_bytes};
-ghost use Rattle.gix_refspec.specs.Asked.{HasNoList};
-ghost use Rattle.gix_refspec.specs.Issue.{mappings_of};
-ghost use Rattle.gix_refspec.specs.ItemLaws.{is_begun};
+ghost use Rattle.gix_refspec.specs.Matching.Asked.{HasNoList};
+ghost use Rattle.gix_refspec.specs.Views.Issue.{mappings_of};
+ghost use Rattle.gix_refspec.specs.Laws.Items.{is_begun};
 ghost use Rattle.refspec_client.specs.Asking.{LosesNothing, items_asked};
 ghost use Rattle.refspec_client.specs.Planned.{fetch_readings};
 

@@ -1,7 +1,7 @@
 //! Groups of the specs that stand in a list, in a slice, or among the answers of `parse`.
 
 ghost use Rattle.std.specs.Prelude.{◌≡◌, filter, IfOk};
-ghost use Rattle.gix_refspec.specs.Group.{is_for};
+ghost use Rattle.gix_refspec.specs.Views.Group.{is_for};
 ghost use Rattle.refspec_client.specs.Claims.{specs_read};
 
 use gix_refspec::parsing::{Error, Operation};

@@ -10,8 +10,8 @@
 ghost use Rattle.std.specs.Prelude.{◌≡◌, ◌≢◌, ◌↔◌, IsTrue, IfOk, OnOk, OnErr, MatchOption};
 ghost use Rattle.bstr.specs.BStr.{bstr_bytes};
 ghost use Rattle.bstr.specs.Owned.{bstring_bytes};
-ghost use Rattle.gix_refspec.specs.Refusal.{MayWantMemory};
-ghost use Rattle.gix_refspec.specs.Spec.{reading_of, owned_reading_of};
+ghost use Rattle.gix_refspec.specs.Specs.Refusal.{MayWantMemory};
+ghost use Rattle.gix_refspec.specs.Views.Spec.{reading_of, owned_reading_of};
 ghost use Rattle.refspec_client.specs.Claims.{IsRefspec, ReadsOnlyAs, PrintsSame, IsReadAgain, IsCanonicalText};
 
 pub mod asking;

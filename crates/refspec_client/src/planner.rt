@@ -2,9 +2,9 @@
 //! that is excluded.
 
 ghost use Rattle.std.specs.Prelude.{◌≡◌, map, filter, IfOk, IfErr};
-ghost use Rattle.gix_refspec.specs.Group.{is_for, ref_of};
-ghost use Rattle.gix_refspec.specs.Issue.{mappings_of};
-ghost use Rattle.gix_refspec.specs.RefNames.{left_out_of};
+ghost use Rattle.gix_refspec.specs.Views.Group.{is_for, ref_of};
+ghost use Rattle.gix_refspec.specs.Views.Issue.{mappings_of};
+ghost use Rattle.gix_refspec.specs.Matching.RefNames.{left_out_of};
 ghost use Rattle.refspec_client.specs.Planned.{AreInConflict, IfConflicts, IsPlan, fetch_readings};
 
 use crate::gather::fetches_of;

@@ -4,9 +4,9 @@
 ghost use Rattle.std.specs.Prelude.{◌≡◌, ◌↔◌, [], ◌∷◌, map, IfOk, IfErr};
 ghost use Rattle.std.specs.List.{AllByRecursion};
 ghost use Rattle.bstr.specs.BStr.{bstr_bytes};
-ghost use Rattle.gix_refspec.specs.Group.{IsOutcome, mapped_of, readings_of, ref_of};
-ghost use Rattle.gix_refspec.specs.Hits.{AreKeptBackward, AreKeptForward};
-ghost use Rattle.gix_refspec.specs.MatchLaws.{GoesBothWays};
+ghost use Rattle.gix_refspec.specs.Views.Group.{IsOutcome, mapped_of, readings_of, ref_of};
+ghost use Rattle.gix_refspec.specs.Matching.Hits.{AreKeptBackward, AreKeptForward};
+ghost use Rattle.gix_refspec.specs.Laws.Matching.{GoesBothWays};
 ghost use Rattle.refspec_client.specs.Tracking.{HasBoth, IfOneWay, TellsBranches, TellsRemotes};
 
 use gix_refspec::match_group::{Item, match_lhs, match_rhs};

@@ -5,18 +5,18 @@ use Rattle.std.specs.List.{Contains}
 use Rattle.std.specs.List.Sorted.{IsStrictlySortedBy}
 use Rattle.std.proofs.lemmas.Bool.{eqb-false}
 use Rattle.gix_refspec.specs.declared.parsing.Operation.TheVariants.{Fetch}
-use Rattle.gix_refspec.specs.Bytes.{star, plus, caret, colon}
-use Rattle.gix_refspec.specs.ObjectId.{IsIdText}
-use Rattle.gix_refspec.specs.Reading.{Normal, Reading}
-use Rattle.gix_refspec.specs.Grammar.{Reads, fetched, updates}
-use Rattle.gix_refspec.specs.Side.{partial, full_name, HasKind}
-use Rattle.gix_refspec.specs.Match.{HasName, IsFirstCandidate, Takes}
-use Rattle.gix_refspec.specs.Mappings.{Mapped, IsExcluded}
-use Rattle.gix_refspec.specs.Hits.{Ends, Hit, IsHit, AreForward, AreKeptForward, IsIdMapping}
-use Rattle.gix_refspec.specs.Validation.{IsContested, IsValidated, IsWritable}
-use Rattle.gix_refspec.proofs.CandidateLemmas.{first_once, taken_by_first}
-use Rattle.gix_refspec.proofs.FormsBackLemmas.{some_once}
-use Rattle.gix_refspec.proofs.TestedLemmas.{IsName-tested}
+use Rattle.gix_refspec.specs.Texts.Bytes.{star, plus, caret, colon}
+use Rattle.gix_refspec.specs.Texts.ObjectId.{IsIdText}
+use Rattle.gix_refspec.specs.Specs.Reading.{Normal, Reading}
+use Rattle.gix_refspec.specs.Specs.Grammar.{Reads, fetched, updates}
+use Rattle.gix_refspec.specs.Matching.Side.{partial, full_name, HasKind}
+use Rattle.gix_refspec.specs.Matching.Match.{HasName, IsFirstCandidate, Takes}
+use Rattle.gix_refspec.specs.Matching.Mappings.{Mapped, IsExcluded}
+use Rattle.gix_refspec.specs.Matching.Hits.{Ends, Hit, IsHit, AreForward, AreKeptForward, IsIdMapping}
+use Rattle.gix_refspec.specs.Matching.Validation.{IsContested, IsValidated, IsWritable}
+use Rattle.gix_refspec.proofs.lemmas.hits.CandidateLemmas.{first_once, taken_by_first}
+use Rattle.gix_refspec.proofs.lemmas.specs.FormsBackLemmas.{some_once}
+use Rattle.gix_refspec.proofs.lemmas.texts.TestedLemmas.{IsName-tested}
 use Rattle.refspec_map.specs.declared.command.Command.TheVariants as command
 use Rattle.refspec_map.specs.Input.{newline}
 use Rattle.refspec_map.specs.Line.{reading, ref}

@@ -4,18 +4,18 @@ use Rattle.std.proofs.lemmas.Bool.{eqb-false}
 use Rattle.std.specs.List.{Contains}
 use Rattle.std.specs.List.Sorted.{IsStrictlySortedBy}
 use Rattle.gix_refspec.specs.declared.parsing.Operation.TheVariants.{Fetch}
-use Rattle.gix_refspec.specs.Text.{Begins}
-use Rattle.gix_refspec.specs.Bytes.{star, plus, caret, colon}
-use Rattle.gix_refspec.specs.Reading.{Normal, Reading}
-use Rattle.gix_refspec.specs.Grammar.{Reads, fetched, updates}
-use Rattle.gix_refspec.specs.Side.{full_name, HasKind}
-use Rattle.gix_refspec.specs.Match.{Ref, Takes}
-use Rattle.gix_refspec.specs.Mappings.{Start, name, id, Mapped, HasPair, IsExcluded}
-use Rattle.gix_refspec.specs.Hits.{Ends, AreForwardEnds, Hit, IsHit, AreForward, AreKeptForward, IsIdMapping}
-use Rattle.gix_refspec.specs.Validation.{Conflict, IsContested, IsFirstTo, IsConflict, AreConflicts}
-use Rattle.gix_refspec.proofs.FormsBackLemmas.{some_once}
-use Rattle.gix_refspec.proofs.HitLemmas.{matches_as}
-use Rattle.gix_refspec.proofs.TestedLemmas.{IsName-tested}
+use Rattle.gix_refspec.specs.Texts.Words.{Begins}
+use Rattle.gix_refspec.specs.Texts.Bytes.{star, plus, caret, colon}
+use Rattle.gix_refspec.specs.Specs.Reading.{Normal, Reading}
+use Rattle.gix_refspec.specs.Specs.Grammar.{Reads, fetched, updates}
+use Rattle.gix_refspec.specs.Matching.Side.{full_name, HasKind}
+use Rattle.gix_refspec.specs.Matching.Match.{Ref, Takes}
+use Rattle.gix_refspec.specs.Matching.Mappings.{Start, name, id, Mapped, HasPair, IsExcluded}
+use Rattle.gix_refspec.specs.Matching.Hits.{Ends, AreForwardEnds, Hit, IsHit, AreForward, AreKeptForward, IsIdMapping}
+use Rattle.gix_refspec.specs.Matching.Validation.{Conflict, IsContested, IsFirstTo, IsConflict, AreConflicts}
+use Rattle.gix_refspec.proofs.lemmas.specs.FormsBackLemmas.{some_once}
+use Rattle.gix_refspec.proofs.lemmas.hits.HitLemmas.{matches_as}
+use Rattle.gix_refspec.proofs.lemmas.texts.TestedLemmas.{IsName-tested}
 use Rattle.refspec_map.specs.declared.command.Command.TheVariants as command
 use Rattle.refspec_map.specs.Input.{newline, AreLines}
 use Rattle.refspec_map.specs.Line.{reading, ref}

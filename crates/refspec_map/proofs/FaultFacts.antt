@@ -4,10 +4,10 @@ use Rattle.std.proofs.Common.{◌≡◌, ◌≢◌, ◌⊎◌, inl, inr, ℕ, �
 use Rattle.std.proofs.lemmas.Bool.{eqb-false}
 use Rattle.std.proofs.lemmas.List.{append-nil}
 use Rattle.gix_refspec.specs.declared.parsing.Error.TheVariants as error
-use Rattle.gix_refspec.specs.Bytes.{head}
-use Rattle.gix_refspec.specs.Reading.{Normal}
-use Rattle.gix_refspec.specs.Grammar.{fetched}
-use Rattle.gix_refspec.specs.Refusal.{NegativeEmpty}
+use Rattle.gix_refspec.specs.Texts.Bytes.{head}
+use Rattle.gix_refspec.specs.Specs.Reading.{Normal}
+use Rattle.gix_refspec.specs.Specs.Grammar.{fetched}
+use Rattle.gix_refspec.specs.Specs.Refusal.{NegativeEmpty}
 use Rattle.refspec_map.specs.declared.command.Command.{Command}
 use Rattle.refspec_map.specs.declared.command.Command.TheVariants as command
 use Rattle.refspec_map.specs.declared.fault.Fault.{Fault}

@@ -3,9 +3,9 @@ use Rattle.std.proofs.Common.{◌≡◌, ◌≢◌, ◌⊎◌, inl, inr, ℕ, Bo
 use Rattle.std.specs.List.{AllZip}
 use Rattle.std.proofs.lemmas.List.{append_cancel_left}
 use Rattle.gix_refspec.specs.declared.parsing.Operation.TheVariants.{Fetch}
-use Rattle.gix_refspec.specs.Text.{Lacks}
-use Rattle.gix_refspec.specs.Grammar.{Reads}
-use Rattle.gix_refspec.specs.Match.{Ref}
+use Rattle.gix_refspec.specs.Texts.Words.{Lacks}
+use Rattle.gix_refspec.specs.Specs.Grammar.{Reads}
+use Rattle.gix_refspec.specs.Matching.Match.{Ref}
 use Rattle.refspec_map.specs.declared.command.Command.{Command}
 use Rattle.refspec_map.specs.declared.command.Command.TheVariants as command
 use Rattle.refspec_map.specs.declared.fault.Fault.{Fault}

@@ -3,9 +3,9 @@
 use Rattle.std.proofs.Common.{◌≢◌, inl, inr, ℕ, List, [], ◌∷◌, ◌++◌, None, Some, length, get_or, codes, refl, ap, arith}
 use Rattle.std.proofs.lemmas.Bool.{eqb-false}
 use Rattle.gix_refspec.specs.declared.oid.Error.TheVariants.{Length}
-use Rattle.gix_refspec.specs.Match.{Ref}
-use Rattle.gix_refspec.proofs.ObjectIdFacts.{IsIdText-empty_blob, HasIdFault-length}
-use Rattle.gix_refspec.proofs.ObjectIdLemmas.{id_or_fault}
+use Rattle.gix_refspec.specs.Matching.Match.{Ref}
+use Rattle.gix_refspec.proofs.facts.ObjectIdFacts.{IsIdText-empty_blob, HasIdFault-length}
+use Rattle.gix_refspec.proofs.lemmas.texts.ObjectIdLemmas.{id_or_fault}
 use Rattle.refspec_map.specs.Line.{space, IsIdThen, IsRefLine, IsTagLine, spec, item, Says, IsMalformed}
 use Rattle.refspec_map.proofs.LineLemmas.{no_IsIdThen, no_IsIdThen-fault, no_ref_keyword, no_ref_id, no_tag_keyword, no_tagged_id, malformed}
 use Rattle.refspec_map.proofs.LineFacts.{Lacks-tested}

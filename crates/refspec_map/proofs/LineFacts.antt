@@ -4,7 +4,7 @@ use Rattle.std.proofs.Common.{◌≡◌, inl, inr, ℕ, ◌≤◌, ◌<◌, ◌=
 use Rattle.std.specs.List.{list_any}
 use Rattle.std.proofs.lemmas.Bool.{eqb-false, true≢false}
 use Rattle.std.proofs.lemmas.List.{append-nil}
-use Rattle.gix_refspec.specs.Text.{Lacks}
+use Rattle.gix_refspec.specs.Texts.Words.{Lacks}
 use Rattle.refspec_map.specs.Input.{newline, AreLines, ReadsToEnd, IsTooLong}
 use Rattle.refspec_map.proofs.LineLemmas.{Lacks-here, cut_once}
 use Rattle.refspec_map.proofs.OutputLemmas.{no_lines}

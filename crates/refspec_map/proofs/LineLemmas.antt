@@ -2,10 +2,10 @@
 use Rattle.std.proofs.Common.{◌≡◌, ◌≢◌, inl, inr, ℕ, List, [], ◌∷◌, ◌++◌, get_or, drop, codes, sym, ap, ◌∙◌, subst, refl}
 use Rattle.std.proofs.lemmas.List.{append_cancel_left}
 use Rattle.gix_refspec.specs.declared.oid.Error.{Error as IdError}
-use Rattle.gix_refspec.specs.Text.{Lacks}
-use Rattle.gix_refspec.specs.ObjectId.{IsIdText, HasIdFault}
-use Rattle.gix_refspec.specs.Laws.{IdOrFault}
-use Rattle.gix_refspec.specs.Match.{Ref}
+use Rattle.gix_refspec.specs.Texts.Words.{Lacks}
+use Rattle.gix_refspec.specs.Texts.ObjectId.{IsIdText, HasIdFault}
+use Rattle.gix_refspec.specs.Laws.Readings.{IdOrFault}
+use Rattle.gix_refspec.specs.Matching.Match.{Ref}
 use Rattle.refspec_map.specs.Line.{space, IsIdThen, IsRefLine, IsTagLine, spec, item, IsMalformed}
 
 -- a text that lacks a byte has no place with it

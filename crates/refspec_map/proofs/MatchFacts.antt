@@ -8,17 +8,17 @@ use Rattle.std.specs.List.Sorted.{IsStrictlySortedBy}
 use Rattle.std.specs.List.{flat_map}
 use Rattle.gix_refspec.specs.declared.oid.Kind.{Kind}
 use Rattle.gix_refspec.specs.declared.oid.Kind.TheVariants.{Sha1, Sha256}
-use Rattle.gix_refspec.specs.Bytes.{star, head}
-use Rattle.gix_refspec.specs.ObjectId.{digits_of, IsIdText}
-use Rattle.gix_refspec.specs.Reading.{Normal, Negative, Reading}
-use Rattle.gix_refspec.specs.Grammar.{fetched}
-use Rattle.gix_refspec.specs.Side.{partial, HasKind}
-use Rattle.gix_refspec.specs.Match.{Ref}
-use Rattle.gix_refspec.specs.Mappings.{name, Mapped, IsExcluded}
-use Rattle.gix_refspec.specs.Hits.{Ends, AreForwardEnds, AreBackwardEnds, Hit, AreForward, AreKeptForward, AreKeptBackward, IsIdMapping}
-use Rattle.gix_refspec.specs.Validation.{Conflict, IsContested, IsValidated}
-use Rattle.gix_refspec.proofs.CandidateLemmas.{first_of_one, taken_by_first}
-use Rattle.gix_refspec.proofs.FormsBackLemmas.{some_once}
+use Rattle.gix_refspec.specs.Texts.Bytes.{star, head}
+use Rattle.gix_refspec.specs.Texts.ObjectId.{digits_of, IsIdText}
+use Rattle.gix_refspec.specs.Specs.Reading.{Normal, Negative, Reading}
+use Rattle.gix_refspec.specs.Specs.Grammar.{fetched}
+use Rattle.gix_refspec.specs.Matching.Side.{partial, HasKind}
+use Rattle.gix_refspec.specs.Matching.Match.{Ref}
+use Rattle.gix_refspec.specs.Matching.Mappings.{name, Mapped, IsExcluded}
+use Rattle.gix_refspec.specs.Matching.Hits.{Ends, AreForwardEnds, AreBackwardEnds, Hit, AreForward, AreKeptForward, AreKeptBackward, IsIdMapping}
+use Rattle.gix_refspec.specs.Matching.Validation.{Conflict, IsContested, IsValidated}
+use Rattle.gix_refspec.proofs.lemmas.hits.CandidateLemmas.{first_of_one, taken_by_first}
+use Rattle.gix_refspec.proofs.lemmas.specs.FormsBackLemmas.{some_once}
 use Rattle.refspec_map.specs.declared.command.Command.{Command}
 use Rattle.refspec_map.specs.declared.command.Command.TheVariants as command
 use Rattle.refspec_map.specs.Input.{newline, AreLines}

@@ -5,18 +5,18 @@ use Rattle.std.proofs.lemmas.List.{append-nil, map-append, take_more}
 use Rattle.std.proofs.lemmas.Grind.{flat_map-append}
 use Rattle.gix_refspec.specs.declared.match_group.types.Item.{Item}
 use Rattle.gix_refspec.specs.declared.match_group.types.Mapping.{Mapping}
-use Rattle.gix_refspec.specs.Reading.{Reading}
-use Rattle.gix_refspec.specs.Match.{Ref}
-use Rattle.gix_refspec.specs.Mappings.{Mapped}
-use Rattle.gix_refspec.specs.Spec.{reading_of}
-use Rattle.gix_refspec.specs.Group.{mapped_of, ref_of}
+use Rattle.gix_refspec.specs.Specs.Reading.{Reading}
+use Rattle.gix_refspec.specs.Matching.Match.{Ref}
+use Rattle.gix_refspec.specs.Matching.Mappings.{Mapped}
+use Rattle.gix_refspec.specs.Views.Spec.{reading_of}
+use Rattle.gix_refspec.specs.Views.Group.{mapped_of, ref_of}
 use Rattle.refspec_map.specs.declared.line.ToldRef.{ToldRef}
 use Rattle.refspec_map.specs.declared.line.Entries.{Entries}
 use Rattle.refspec_map.specs.Line.{refs_in}
 use Rattle.refspec_map.specs.Matching.{map_line, AreMapLines, IsMatching}
 use Rattle.refspec_map.specs.Told.{told, bare, named, AreEntries}
 use Rattle.refspec_map.specs.Plan.{IsPlan}
-use Rattle.gix_refspec.specs.Hits.{AreKeptForward}
+use Rattle.gix_refspec.specs.Matching.Hits.{AreKeptForward}
 use Rattle.refspec_map.proofs.NameLemmas.{kept_by_name}
 
 -- one item more

@@ -1,14 +1,14 @@
 -- From left to right refs are taken by their names alone.
 use Rattle.std.proofs.Common.{◌≡◌, inl, inr, ℕ, ◌+◌, Option, None, Some, List, [], ◌∷◌, map, sym, ap, ◌∙◌, subst, refl}
-use Rattle.gix_refspec.proofs.RepeatLemmas.{all_weaker}
+use Rattle.gix_refspec.proofs.lemmas.keep.RepeatLemmas.{all_weaker}
 use Rattle.gix_refspec.specs.declared.match_group.types.Item.{Item}
-use Rattle.gix_refspec.specs.Reading.{Reading}
-use Rattle.gix_refspec.specs.Lists.{IsMadeFrom, IsJoinedFrom}
-use Rattle.gix_refspec.specs.Mappings.{Mapped}
-use Rattle.gix_refspec.specs.Side.{SideKind, pattern, full_name, object, partial, HasKind, IsCandidate, Fits}
-use Rattle.gix_refspec.specs.Match.{Ref, MatchesAs, HasName, IsFirstCandidate, Takes}
-use Rattle.gix_refspec.specs.Hits.{Ends, AreForwardEnds, Hit, IsHit, AreSpecHits, AreKeptForward}
-use Rattle.gix_refspec.specs.Group.{ref_of}
+use Rattle.gix_refspec.specs.Specs.Reading.{Reading}
+use Rattle.gix_refspec.specs.Matching.Lists.{IsMadeFrom, IsJoinedFrom}
+use Rattle.gix_refspec.specs.Matching.Mappings.{Mapped}
+use Rattle.gix_refspec.specs.Matching.Side.{SideKind, pattern, full_name, object, partial, HasKind, IsCandidate, Fits}
+use Rattle.gix_refspec.specs.Matching.Match.{Ref, MatchesAs, HasName, IsFirstCandidate, Takes}
+use Rattle.gix_refspec.specs.Matching.Hits.{Ends, AreForwardEnds, Hit, IsHit, AreSpecHits, AreKeptForward}
+use Rattle.gix_refspec.specs.Views.Group.{ref_of}
 use Rattle.refspec_map.specs.Told.{bare, named}
 
 -- the refs have the same names, one by one

@@ -7,11 +7,11 @@ use Rattle.bstr.specs.declared.bstring.BString.{BString}
 use Rattle.bstr.specs.Owned.{bstring_bytes}
 use Rattle.gix_refspec.specs.declared.match_group.types.SourceRef.{SourceRef}
 use Rattle.gix_refspec.specs.declared.match_group.validate.Fix.{Fix}
-use Rattle.gix_refspec.specs.Lists.{IsJoinedFrom}
-use Rattle.gix_refspec.specs.Mappings.{Start}
-use Rattle.gix_refspec.specs.Group.{start_of}
-use Rattle.gix_refspec.specs.Issue.{removed_of}
-use Rattle.gix_refspec.specs.Validation.{Removed}
+use Rattle.gix_refspec.specs.Matching.Lists.{IsJoinedFrom}
+use Rattle.gix_refspec.specs.Matching.Mappings.{Start}
+use Rattle.gix_refspec.specs.Views.Group.{start_of}
+use Rattle.gix_refspec.specs.Views.Issue.{removed_of}
+use Rattle.gix_refspec.specs.Matching.Validation.{Removed}
 use Rattle.refspec_map.specs.Plan.{IsFixLine, AreFixLines, PutsFix, PutsFixes}
 
 -- a source and the text of its spec, as plain data

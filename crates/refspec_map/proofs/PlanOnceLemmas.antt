@@ -8,24 +8,24 @@ use Rattle.std.proofs.lemmas.Option.{slice_get_within}
 use Rattle.gix_refspec.specs.declared.parsing.Operation.TheVariants.{Fetch}
 use Rattle.gix_refspec.specs.declared.parsing.Error.{Error}
 use Rattle.gix_refspec.specs.declared.parsing.Error.TheVariants.{Memory}
-use Rattle.gix_refspec.specs.Text.{Lacks}
-use Rattle.gix_refspec.specs.Reading.{Reading}
-use Rattle.gix_refspec.specs.Grammar.{Reads}
-use Rattle.gix_refspec.specs.Refusal.{Refusal, IsRefused}
-use Rattle.gix_refspec.specs.Views.{ShowsRefusal}
-use Rattle.gix_refspec.specs.Meaning.{printed}
-use Rattle.gix_refspec.specs.Match.{Ref}
-use Rattle.gix_refspec.specs.Lists.{IsJoinedFrom, IsMadeFrom}
-use Rattle.gix_refspec.specs.Mappings.{name, Mapped, IsSamePair, AreApart, Start, id}
-use Rattle.gix_refspec.specs.Hits.{AreKeptForward}
-use Rattle.gix_refspec.specs.Validation.{ForwardPlaces, Removed, Survives, IsFix}
-use Rattle.gix_refspec.proofs.TextLemmas.{first_once, last_once}
-use Rattle.gix_refspec.proofs.RepeatLemmas.{all_join, all_weaker, all_right}
-use Rattle.gix_refspec.proofs.KeptLemmas.{kept_once}
-use Rattle.gix_refspec.proofs.AfterLemmas.{apart_still, kept_never_meet, stays_each, validated_once}
-use Rattle.gix_refspec.proofs.PlaceFitLemmas.{places_fit}
-use Rattle.gix_refspec.proofs.PlacedOnceLemmas.{AreFixesApart, IsOfItsSpec, fixes_apart, fixes_of_group, kept_of_specs, one_id, printed_lacks, LacksIn, SidesLack, sides_lack}
-use Rattle.gix_refspec.proofs.ClearLemmas.{MappedLacks, StartLacks, kept_lacks}
+use Rattle.gix_refspec.specs.Texts.Words.{Lacks}
+use Rattle.gix_refspec.specs.Specs.Reading.{Reading}
+use Rattle.gix_refspec.specs.Specs.Grammar.{Reads}
+use Rattle.gix_refspec.specs.Specs.Refusal.{Refusal, IsRefused}
+use Rattle.gix_refspec.specs.Views.Instruction.{ShowsRefusal}
+use Rattle.gix_refspec.specs.Specs.Meaning.{printed}
+use Rattle.gix_refspec.specs.Matching.Match.{Ref}
+use Rattle.gix_refspec.specs.Matching.Lists.{IsJoinedFrom, IsMadeFrom}
+use Rattle.gix_refspec.specs.Matching.Mappings.{name, Mapped, IsSamePair, AreApart, Start, id}
+use Rattle.gix_refspec.specs.Matching.Hits.{AreKeptForward}
+use Rattle.gix_refspec.specs.Matching.Validation.{ForwardPlaces, Removed, Survives, IsFix}
+use Rattle.gix_refspec.proofs.lemmas.texts.TextLemmas.{first_once, last_once}
+use Rattle.gix_refspec.proofs.lemmas.keep.RepeatLemmas.{all_join, all_weaker, all_right}
+use Rattle.gix_refspec.proofs.lemmas.keep.KeptLemmas.{kept_once}
+use Rattle.gix_refspec.proofs.lemmas.validate.AfterLemmas.{apart_still, kept_never_meet, stays_each, validated_once}
+use Rattle.gix_refspec.proofs.lemmas.validate.PlaceFitLemmas.{places_fit}
+use Rattle.gix_refspec.proofs.lemmas.validate.PlacedOnceLemmas.{AreFixesApart, IsOfItsSpec, fixes_apart, fixes_of_group, kept_of_specs, one_id, printed_lacks, LacksIn, SidesLack, sides_lack}
+use Rattle.gix_refspec.proofs.lemmas.validate.ClearLemmas.{MappedLacks, StartLacks, kept_lacks}
 use Rattle.refspec_map.specs.declared.command.Command.TheVariants as command
 use Rattle.refspec_map.specs.declared.fault.Fault.TheVariants as fault
 use Rattle.refspec_map.specs.Input.{newline, AreLines, input_limit}

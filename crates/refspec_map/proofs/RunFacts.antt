@@ -7,18 +7,18 @@ use Rattle.std.proofs.lemmas.Bool.{eqb-false}
 use Rattle.std.proofs.lemmas.List.{append-nil}
 use Rattle.gix_refspec.specs.declared.parsing.Operation.{Operation}
 use Rattle.gix_refspec.specs.declared.parsing.Operation.TheVariants.{Push, Fetch}
-use Rattle.gix_refspec.specs.Bytes.{plus, caret, head}
-use Rattle.gix_refspec.specs.Text.{Lacks}
-use Rattle.gix_refspec.specs.Reading.{Normal, Negative, Reading}
-use Rattle.gix_refspec.specs.Laws.{IsSameReason}
-use Rattle.gix_refspec.specs.Grammar.{Reads, fetched, fetches_nothing_named, fetches_colon}
-use Rattle.gix_refspec.specs.Refusal.{Refusal, Empty, NegativeEmpty, IsFirstReason, IsRefused}
-use Rattle.gix_refspec.specs.Meaning.{printed}
-use Rattle.gix_refspec.proofs.FormsBackLemmas.{some_once}
-use Rattle.gix_refspec.proofs.ReasonLemmas.{negative_reaches}
-use Rattle.gix_refspec.proofs.ReadsLemmas.{refused as refused_by}
-use Rattle.gix_refspec.proofs.ReadOnceLemmas.{reads_once}
-use Rattle.gix_refspec.proofs.RefusalLemmas.{one_refusal}
+use Rattle.gix_refspec.specs.Texts.Bytes.{plus, caret, head}
+use Rattle.gix_refspec.specs.Texts.Words.{Lacks}
+use Rattle.gix_refspec.specs.Specs.Reading.{Normal, Negative, Reading}
+use Rattle.gix_refspec.specs.Laws.Readings.{IsSameReason}
+use Rattle.gix_refspec.specs.Specs.Grammar.{Reads, fetched, fetches_nothing_named, fetches_colon}
+use Rattle.gix_refspec.specs.Specs.Refusal.{Refusal, Empty, NegativeEmpty, IsFirstReason, IsRefused}
+use Rattle.gix_refspec.specs.Specs.Meaning.{printed}
+use Rattle.gix_refspec.proofs.lemmas.specs.FormsBackLemmas.{some_once}
+use Rattle.gix_refspec.proofs.lemmas.parsing.ReasonLemmas.{negative_reaches}
+use Rattle.gix_refspec.proofs.lemmas.parsing.ReadsLemmas.{refused as refused_by}
+use Rattle.gix_refspec.proofs.lemmas.parsing.ReadOnceLemmas.{reads_once}
+use Rattle.gix_refspec.proofs.lemmas.parsing.RefusalLemmas.{one_refusal}
 use Rattle.refspec_map.specs.declared.command.Command.TheVariants as command
 use Rattle.refspec_map.specs.Fault.{name_of}
 use Rattle.refspec_map.specs.Input.{newline, ReadsToEnd}

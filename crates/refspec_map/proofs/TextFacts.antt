@@ -4,12 +4,12 @@ use Rattle.std.proofs.Common.{◌≡◌, ℕ, true, false, List, [], ◌∷◌, 
 use Rattle.std.specs.Fmt.{digits}
 use Rattle.gix_refspec.specs.declared.name.Error.TheVariants.{LockSuffix}
 use Rattle.gix_refspec.specs.declared.parsing.Error.TheVariants as error
-use Rattle.gix_refspec.specs.Grammar.{fetched}
-use Rattle.gix_refspec.specs.Mappings.{name, id}
-use Rattle.gix_refspec.specs.Reading.{Forced}
-use Rattle.gix_refspec.specs.Refusal.{Empty, NegativeWithDestination, PushToEmpty, PatternUnsupported, ReferenceName, PatternUnbalanced, NegativeEmpty, NegativeObjectHash}
-use Rattle.gix_refspec.specs.Validation.{Removed}
-use Rattle.gix_refspec.specs.ObjectId.{lower_of}
+use Rattle.gix_refspec.specs.Specs.Grammar.{fetched}
+use Rattle.gix_refspec.specs.Matching.Mappings.{name, id}
+use Rattle.gix_refspec.specs.Specs.Reading.{Forced}
+use Rattle.gix_refspec.specs.Specs.Refusal.{Empty, NegativeWithDestination, PushToEmpty, PatternUnsupported, ReferenceName, PatternUnbalanced, NegativeEmpty, NegativeObjectHash}
+use Rattle.gix_refspec.specs.Matching.Validation.{Removed}
+use Rattle.gix_refspec.specs.Texts.ObjectId.{lower_of}
 use Rattle.refspec_map.specs.declared.command.Command.TheVariants as command
 use Rattle.refspec_map.specs.declared.fault.Fault.TheVariants as fault
 use Rattle.refspec_map.specs.Fault.{name_of, status_of, IsMemory}

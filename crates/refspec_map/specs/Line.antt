@@ -3,13 +3,13 @@
 use Rattle.std.specs.Prelude.{◌≡◌, ◌⊎◌, ℕ, ◌+◌, List, [], ◌∷◌, ◌++◌, None, Some, codes, length}
 use Rattle.std.specs.List.{AllZip}
 use Rattle.gix_refspec.specs.declared.parsing.Operation.TheVariants.{Fetch}
-use Rattle.gix_refspec.specs.Text.{Lacks}
-use Rattle.gix_refspec.specs.ObjectId.{IsIdText}
-use Rattle.gix_refspec.specs.Reading.{Reading}
-use Rattle.gix_refspec.specs.Grammar.{Reads}
-use Rattle.gix_refspec.specs.Refusal.{IsRefused}
-use Rattle.gix_refspec.specs.Views.{ShowsRefusal}
-use Rattle.gix_refspec.specs.Match.{Ref}
+use Rattle.gix_refspec.specs.Texts.Words.{Lacks}
+use Rattle.gix_refspec.specs.Texts.ObjectId.{IsIdText}
+use Rattle.gix_refspec.specs.Specs.Reading.{Reading}
+use Rattle.gix_refspec.specs.Specs.Grammar.{Reads}
+use Rattle.gix_refspec.specs.Specs.Refusal.{IsRefused}
+use Rattle.gix_refspec.specs.Views.Instruction.{ShowsRefusal}
+use Rattle.gix_refspec.specs.Matching.Match.{Ref}
 use Rattle.refspec_map.specs.declared.fault.Fault.{Fault}
 use Rattle.refspec_map.specs.declared.fault.Fault.TheVariants as fault
 use Rattle.refspec_map.specs.Input.{AreLines}

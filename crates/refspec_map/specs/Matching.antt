@@ -2,10 +2,10 @@
 -- project's own rule.
 use Rattle.std.specs.Prelude.{◌≡◌, ℕ, Bool, false, List, [], ◌∷◌, ◌++◌, Option, None, Some, codes, decimal}
 use Rattle.std.specs.List.{AllZip, flat_map}
-use Rattle.gix_refspec.specs.ObjectId.{lower_of}
-use Rattle.gix_refspec.specs.Reading.{Reading}
-use Rattle.gix_refspec.specs.Match.{Ref}
-use Rattle.gix_refspec.specs.Mappings.{Start, name, id, Mapped}
+use Rattle.gix_refspec.specs.Texts.ObjectId.{lower_of}
+use Rattle.gix_refspec.specs.Specs.Reading.{Reading}
+use Rattle.gix_refspec.specs.Matching.Match.{Ref}
+use Rattle.gix_refspec.specs.Matching.Mappings.{Start, name, id, Mapped}
 use Rattle.refspec_map.specs.Input.{newline, AreLines}
 use Rattle.refspec_map.specs.Line.{Entry, Gives, readings_in, refs_in}
 

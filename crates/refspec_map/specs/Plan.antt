@@ -3,14 +3,14 @@
 -- these lines are this project's own rule.
 use Rattle.std.specs.Prelude.{◌≡◌, ◌≢◌, ℕ, Bool, List, [], ◌∷◌, ◌++◌, Some, MatchBool, codes, map}
 use Rattle.std.specs.List.{AllByRecursion, AllZip, flat_map, zip}
-use Rattle.gix_refspec.specs.Text.{Lacks}
-use Rattle.gix_refspec.specs.Reading.{Reading}
-use Rattle.gix_refspec.specs.Meaning.{printed}
-use Rattle.gix_refspec.specs.Lists.{IsJoinedFrom}
-use Rattle.gix_refspec.specs.Match.{Ref}
-use Rattle.gix_refspec.specs.Mappings.{Start, Mapped}
-use Rattle.gix_refspec.specs.Hits.{AreKeptForward}
-use Rattle.gix_refspec.specs.Validation.{Conflict, Removed, AreConflicts, IsValidated, NeverMeet}
+use Rattle.gix_refspec.specs.Texts.Words.{Lacks}
+use Rattle.gix_refspec.specs.Specs.Reading.{Reading}
+use Rattle.gix_refspec.specs.Specs.Meaning.{printed}
+use Rattle.gix_refspec.specs.Matching.Lists.{IsJoinedFrom}
+use Rattle.gix_refspec.specs.Matching.Match.{Ref}
+use Rattle.gix_refspec.specs.Matching.Mappings.{Start, Mapped}
+use Rattle.gix_refspec.specs.Matching.Hits.{AreKeptForward}
+use Rattle.gix_refspec.specs.Matching.Validation.{Conflict, Removed, AreConflicts, IsValidated, NeverMeet}
 use Rattle.refspec_map.specs.Input.{newline}
 use Rattle.refspec_map.specs.Matching.{tab, map_line, source_text}
 

@@ -8,9 +8,9 @@ use Rattle.refspec_map.specs.declared.fault.Fault.{Fault}
 use Rattle.refspec_map.specs.declared.fault.Fault.TheVariants as fault
 use Rattle.gix_refspec.specs.declared.parsing.Error.{Error}
 use Rattle.gix_refspec.specs.declared.parsing.Error.TheVariants.{Memory}
-use Rattle.gix_refspec.specs.Refusal.{IsRefused}
-use Rattle.gix_refspec.specs.Views.{ShowsRefusal}
-use Rattle.gix_refspec.specs.Hits.{AreKeptForward, AreKeptBackward}
+use Rattle.gix_refspec.specs.Specs.Refusal.{IsRefused}
+use Rattle.gix_refspec.specs.Views.Instruction.{ShowsRefusal}
+use Rattle.gix_refspec.specs.Matching.Hits.{AreKeptForward, AreKeptBackward}
 use Rattle.refspec_map.specs.Input.{IsTooLong, ReadsToEnd}
 use Rattle.refspec_map.specs.Line.{IsFirstFault}
 use Rattle.refspec_map.specs.Matching.{AreMapLines, IsMatching}

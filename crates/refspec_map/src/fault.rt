@@ -1,8 +1,8 @@
 //! Why a run ended early.
 
 ghost use Rattle.std.specs.Prelude.{◌≡◌};
-ghost use Rattle.gix_refspec.specs.Refusal.{Refusal};
-ghost use Rattle.gix_refspec.specs.Views.{IsShownAs};
+ghost use Rattle.gix_refspec.specs.Specs.Refusal.{Refusal};
+ghost use Rattle.gix_refspec.specs.Views.Instruction.{IsShownAs};
 ghost use Rattle.refspec_map.specs.Fault.{name_of, status_of};
 
 use gix_refspec::match_group::NoRoom;

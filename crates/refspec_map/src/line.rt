@@ -3,12 +3,12 @@
 ghost use Rattle.std.specs.Prelude.{◌≡◌, ◌≢◌, ◌⊎◌, List, ℕ, [], ◌∷◌, ◌++◌, IfOk, IfErr, OnOk, MatchOption};
 ghost use Rattle.bstr.specs.BStr.{bstr_bytes};
 ghost use Rattle.gix_refspec.specs.declared.parsing.Operation.TheVariants.{Fetch};
-ghost use Rattle.gix_refspec.specs.Text.{Lacks};
-ghost use Rattle.gix_refspec.specs.Grammar.{Reads};
-ghost use Rattle.gix_refspec.specs.Match.{Ref};
-ghost use Rattle.gix_refspec.specs.ObjectId.{id_bytes};
-ghost use Rattle.gix_refspec.specs.Spec.{reading_of};
-ghost use Rattle.gix_refspec.specs.Group.{ref_of};
+ghost use Rattle.gix_refspec.specs.Texts.Words.{Lacks};
+ghost use Rattle.gix_refspec.specs.Specs.Grammar.{Reads};
+ghost use Rattle.gix_refspec.specs.Matching.Match.{Ref};
+ghost use Rattle.gix_refspec.specs.Texts.ObjectId.{id_bytes};
+ghost use Rattle.gix_refspec.specs.Views.Spec.{reading_of};
+ghost use Rattle.gix_refspec.specs.Views.Group.{ref_of};
 ghost use Rattle.refspec_map.specs.Fault.{IsMemory};
 ghost use Rattle.refspec_map.specs.Line.{space, IsFaultOf, IsFirstFault, IsIdThen, IsMalformed, IsRefLine, IsTagLine, Says, spec};
 ghost use Rattle.refspec_map.specs.Told.{bare, line_of, named, told};

@@ -1,8 +1,8 @@
 //! What the specs of an input match among its refs.
 
 ghost use Rattle.std.specs.Prelude.{◌≡◌, ◌⊎◌, map, IfOk, IfErr};
-ghost use Rattle.gix_refspec.specs.Group.{ref_of};
-ghost use Rattle.gix_refspec.specs.Hits.{AreKeptBackward, AreKeptForward};
+ghost use Rattle.gix_refspec.specs.Views.Group.{ref_of};
+ghost use Rattle.gix_refspec.specs.Matching.Hits.{AreKeptBackward, AreKeptForward};
 ghost use Rattle.refspec_map.specs.Fault.{IsMemory};
 ghost use Rattle.refspec_map.specs.Line.{IsFirstFault};
 ghost use Rattle.refspec_map.specs.Matching.{AreMapLines, IsMatching};

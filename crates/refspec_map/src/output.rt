@@ -3,9 +3,9 @@
 ghost use Rattle.std.specs.Prelude.{◌≡◌, ◌++◌, ◌∷◌, [], codes, decimal, map, option_map, IfErr, IfOk, IsOk, OnOk};
 ghost use Rattle.std.specs.List.{flat_map, zip};
 ghost use Rattle.bstr.specs.Owned.{bstring_bytes};
-ghost use Rattle.gix_refspec.specs.Group.{mapped_of, name_bytes, start_of};
-ghost use Rattle.gix_refspec.specs.Issue.{conflict_of, removed_of};
-ghost use Rattle.gix_refspec.specs.ObjectId.{id_bytes, lower_of};
+ghost use Rattle.gix_refspec.specs.Views.Group.{mapped_of, name_bytes, start_of};
+ghost use Rattle.gix_refspec.specs.Views.Issue.{conflict_of, removed_of};
+ghost use Rattle.gix_refspec.specs.Texts.ObjectId.{id_bytes, lower_of};
 ghost use Rattle.refspec_map.specs.Fault.{IsMemory};
 ghost use Rattle.refspec_map.specs.Matching.{destination_text, item_text, map_line, source_text, tab};
 ghost use Rattle.refspec_map.specs.Plan.{PutsFix, PutsFixes, claim_text, conflict_line};

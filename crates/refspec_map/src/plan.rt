@@ -1,7 +1,7 @@
 //! What a fetch can write of what its specs match, or why it can write nothing.
 
 ghost use Rattle.std.specs.Prelude.{map, IfOk, IfErr};
-ghost use Rattle.gix_refspec.specs.Group.{readings_of, ref_of};
+ghost use Rattle.gix_refspec.specs.Views.Group.{readings_of, ref_of};
 ghost use Rattle.refspec_map.specs.Fault.{IsMemory};
 ghost use Rattle.refspec_map.specs.Plan.{IsPlan};
 

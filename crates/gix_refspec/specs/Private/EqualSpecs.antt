@@ -1,13 +1,13 @@
 -- Specs that have the sides of an earlier one, and mappings of which some that repeat an earlier one are left out.
 -- Only private functions cite this.
 use Rattle.std.specs.Prelude.{◌≡◌, ◌⊎◌, ℕ, ◌<◌, Bool, List, [], ◌∷◌, ◌++◌, length, map, slice_index_or}
-use Rattle.gix_refspec.specs.declared.match_group.util.ends.Direction.{Direction}
-use Rattle.gix_refspec.specs.declared.match_group.util.hits.Made.{Made}
-use Rattle.gix_refspec.specs.Reading.{Reading}
-use Rattle.gix_refspec.specs.Grammar.{IsPositive}
-use Rattle.gix_refspec.specs.Match.{Ref}
-use Rattle.gix_refspec.specs.Mappings.{Mapped, HasPair}
-use Rattle.gix_refspec.specs.Hits.{Hit}
+use Rattle.gix_refspec.specs.declared.match_group.hits.ends.Direction.{Direction}
+use Rattle.gix_refspec.specs.declared.match_group.hits.Made.{Made}
+use Rattle.gix_refspec.specs.Specs.Reading.{Reading}
+use Rattle.gix_refspec.specs.Specs.Grammar.{IsPositive}
+use Rattle.gix_refspec.specs.Matching.Match.{Ref}
+use Rattle.gix_refspec.specs.Matching.Mappings.{Mapped, HasPair}
+use Rattle.gix_refspec.specs.Matching.Hits.{Hit}
 use Rattle.gix_refspec.specs.Private.HitViews.{AreMade, made_in, mapping_of}
 use Rattle.gix_refspec.specs.Private.Kept.{IsFlagged}
 

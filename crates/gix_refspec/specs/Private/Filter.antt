@@ -1,7 +1,7 @@
 -- The filter before the look-ups of names. Only private functions cite these words.
 use Rattle.std.specs.Prelude.{◌≡◌, ◌<◌, ◌%◌, ◌^◌, ℕ, true, false, List, length, slice_index_or}
-use Rattle.gix_refspec.specs.declared.match_group.util.index.filter.Marks.{Marks}
-use Rattle.gix_refspec.specs.declared.match_group.util.index.filter.Filter.{Filter}
+use Rattle.gix_refspec.specs.declared.match_group.hits.index.filter.Marks.{Marks}
+use Rattle.gix_refspec.specs.declared.match_group.hits.index.filter.Filter.{Filter}
 use Rattle.gix_refspec.specs.Private.Kept.{name_hash}
 
 -- there is a place for each number of so many bits

@@ -1,21 +1,21 @@
 -- What a clause reads of the private types of matching. Only private functions cite this.
 use Rattle.std.specs.Prelude.{◌≡◌, ◌⊎◌, ℕ, List, [], ◌++◌, Option, None, Some, map, option_map, codes}
 use Rattle.bstr.specs.BStr.{bstr_bytes}
-use Rattle.gix_refspec.specs.declared.match_group.util.matched.Match.{Match}
-use Rattle.gix_refspec.specs.declared.match_group.util.ends.Direction.{Direction}
-use Rattle.gix_refspec.specs.declared.match_group.util.ends.Direction.TheVariants.{Forward, Backward}
-use Rattle.gix_refspec.specs.declared.match_group.util.ends.Ends.{Ends as DeclaredEnds}
-use Rattle.gix_refspec.specs.declared.match_group.util.hits.Hit.{Hit as DeclaredHit}
-use Rattle.gix_refspec.specs.declared.match_group.util.hits.Made.{Made}
+use Rattle.gix_refspec.specs.declared.match_group.hits.matches.Match.{Match}
+use Rattle.gix_refspec.specs.declared.match_group.hits.ends.Direction.{Direction}
+use Rattle.gix_refspec.specs.declared.match_group.hits.ends.Direction.TheVariants.{Forward, Backward}
+use Rattle.gix_refspec.specs.declared.match_group.hits.ends.Ends.{Ends as DeclaredEnds}
+use Rattle.gix_refspec.specs.declared.match_group.hits.Hit.{Hit as DeclaredHit}
+use Rattle.gix_refspec.specs.declared.match_group.hits.Made.{Made}
 use Rattle.gix_refspec.specs.declared.side.SideKind.{SideKind as DeclaredKind}
-use Rattle.gix_refspec.specs.Reading.{Reading}
-use Rattle.gix_refspec.specs.Grammar.{IsPositive}
-use Rattle.gix_refspec.specs.Side.{SideKind, pattern, full_name, object, partial, HasKind, Fits, filled}
-use Rattle.gix_refspec.specs.Match.{Ref, Matches, IsFirstCandidate, Takes}
-use Rattle.gix_refspec.specs.Lists.{IsMadeFrom}
-use Rattle.gix_refspec.specs.Mappings.{Mapped}
-use Rattle.gix_refspec.specs.Hits.{Ends, AreForwardEnds, AreBackwardEnds, Hit, IsHit, IsIdMapping, AreForward, AreBackward, AreKeptForward, AreKeptBackward, forward_of, backward_of}
-use Rattle.gix_refspec.specs.Group.{name_bytes, mapped_of}
+use Rattle.gix_refspec.specs.Specs.Reading.{Reading}
+use Rattle.gix_refspec.specs.Specs.Grammar.{IsPositive}
+use Rattle.gix_refspec.specs.Matching.Side.{SideKind, pattern, full_name, object, partial, HasKind, Fits, filled}
+use Rattle.gix_refspec.specs.Matching.Match.{Ref, Matches, IsFirstCandidate, Takes}
+use Rattle.gix_refspec.specs.Matching.Lists.{IsMadeFrom}
+use Rattle.gix_refspec.specs.Matching.Mappings.{Mapped}
+use Rattle.gix_refspec.specs.Matching.Hits.{Ends, AreForwardEnds, AreBackwardEnds, Hit, IsHit, IsIdMapping, AreForward, AreBackward, AreKeptForward, AreKeptBackward, forward_of, backward_of}
+use Rattle.gix_refspec.specs.Views.Group.{name_bytes, mapped_of}
 use Rattle.gix_refspec.specs.Private.SideViews.{shown_kind}
 
 -- the word that stands for the star of a side that matched

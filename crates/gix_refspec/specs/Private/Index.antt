@@ -5,18 +5,18 @@ use Rattle.std.specs.List.{AllByRecursion, Contains, slice_get}
 use Rattle.std.specs.HashMap as hash
 use Rattle.std.specs.HashMap.{HashMap}
 use Rattle.std.specs.Global.{Vec}
-use Rattle.gix_refspec.specs.declared.match_group.util.ends.Direction.{Direction}
-use Rattle.gix_refspec.specs.declared.match_group.util.ends.Direction.TheVariants.{Forward, Backward}
-use Rattle.gix_refspec.specs.declared.match_group.util.index.NameIndex.{NameIndex}
-use Rattle.gix_refspec.specs.declared.match_group.util.index.Names.{Names}
-use Rattle.gix_refspec.specs.declared.match_group.util.index.fronts.FrontIndex.{FrontIndex}
-use Rattle.gix_refspec.specs.Text.{Begins}
-use Rattle.gix_refspec.specs.Reading.{Reading}
-use Rattle.gix_refspec.specs.Side.{SideKind, pattern, full_name, object, partial, HasKind}
-use Rattle.gix_refspec.specs.Match.{Ref, MatchesAs, IsFirstCandidate}
-use Rattle.gix_refspec.specs.Lists.{IsMadeFrom}
-use Rattle.gix_refspec.specs.Hits.{Ends}
-use Rattle.gix_refspec.specs.Group.{name_bytes}
+use Rattle.gix_refspec.specs.declared.match_group.hits.ends.Direction.{Direction}
+use Rattle.gix_refspec.specs.declared.match_group.hits.ends.Direction.TheVariants.{Forward, Backward}
+use Rattle.gix_refspec.specs.declared.match_group.hits.index.NameIndex.{NameIndex}
+use Rattle.gix_refspec.specs.declared.match_group.hits.index.Names.{Names}
+use Rattle.gix_refspec.specs.declared.match_group.hits.index.fronts.FrontIndex.{FrontIndex}
+use Rattle.gix_refspec.specs.Texts.Words.{Begins}
+use Rattle.gix_refspec.specs.Specs.Reading.{Reading}
+use Rattle.gix_refspec.specs.Matching.Side.{SideKind, pattern, full_name, object, partial, HasKind}
+use Rattle.gix_refspec.specs.Matching.Match.{Ref, MatchesAs, IsFirstCandidate}
+use Rattle.gix_refspec.specs.Matching.Lists.{IsMadeFrom}
+use Rattle.gix_refspec.specs.Matching.Hits.{Ends}
+use Rattle.gix_refspec.specs.Views.Group.{name_bytes}
 use Rattle.gix_refspec.specs.Private.HitViews.{HasEnds, FitsRef}
 use Rattle.gix_refspec.specs.Private.Kept.{IsFlagged}
 

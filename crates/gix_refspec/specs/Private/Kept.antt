@@ -8,16 +8,16 @@ use Rattle.std.specs.Hash.FoldHasher as folding
 use Rattle.std.specs.declared.hash.FoldHasher.{FoldHasher}
 use Rattle.gix_refspec.specs.declared.match_group.types.Mapping.{Mapping}
 use Rattle.gix_refspec.specs.declared.match_group.types.NameRef.{NameRef}
-use Rattle.gix_refspec.specs.declared.match_group.util.kept.exclusions.Exclusion.{Exclusion}
-use Rattle.gix_refspec.specs.declared.match_group.util.kept.exclusions.Exclusion.TheVariants as exclusion
-use Rattle.gix_refspec.specs.declared.match_group.util.kept.exclusions.Exclusions.{Exclusions}
-use Rattle.gix_refspec.specs.declared.match_group.util.kept.exclusions.Pattern.{Pattern}
-use Rattle.gix_refspec.specs.declared.match_group.util.kept.repeats.Pair.{Pair}
-use Rattle.gix_refspec.specs.Reading.{Reading, Negative}
-use Rattle.gix_refspec.specs.Side.{Fits}
-use Rattle.gix_refspec.specs.Mappings.{Start, name, id, Mapped, IsSamePair, IsExcluded}
-use Rattle.gix_refspec.specs.Group.{mapped_of, name_bytes}
-use Rattle.gix_refspec.specs.Hashed.{pair_writes}
+use Rattle.gix_refspec.specs.declared.match_group.keep.exclusions.Exclusion.{Exclusion}
+use Rattle.gix_refspec.specs.declared.match_group.keep.exclusions.Exclusion.TheVariants as exclusion
+use Rattle.gix_refspec.specs.declared.match_group.keep.exclusions.Exclusions.{Exclusions}
+use Rattle.gix_refspec.specs.declared.match_group.keep.exclusions.Pattern.{Pattern}
+use Rattle.gix_refspec.specs.declared.match_group.keep.repeats.Pair.{Pair}
+use Rattle.gix_refspec.specs.Specs.Reading.{Reading, Negative}
+use Rattle.gix_refspec.specs.Matching.Side.{Fits}
+use Rattle.gix_refspec.specs.Matching.Mappings.{Start, name, id, Mapped, IsSamePair, IsExcluded}
+use Rattle.gix_refspec.specs.Views.Group.{mapped_of, name_bytes}
+use Rattle.gix_refspec.specs.Views.Hashed.{pair_writes}
 
 -- one of the patterns fits the name
 abbrev pub FitsName : Pattern → List ℕ → Type 0

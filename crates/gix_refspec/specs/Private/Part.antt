@@ -2,12 +2,12 @@
 -- functions cite this.
 use Rattle.std.specs.Prelude.{◌≡◌, ◌⊎◌, ℕ, ◌<◌, Bool, List, [], ◌∷◌, ◌++◌, option_map, length, slice_index_or}
 use Rattle.std.specs.List.{AllByRecursion}
-use Rattle.gix_refspec.specs.declared.match_group.util.ends.Direction.{Direction}
-use Rattle.gix_refspec.specs.Reading.{Reading}
-use Rattle.gix_refspec.specs.Side.{object, HasKind}
-use Rattle.gix_refspec.specs.Match.{Ref, HasName}
-use Rattle.gix_refspec.specs.Mappings.{Mapped}
-use Rattle.gix_refspec.specs.Hits.{Ends}
+use Rattle.gix_refspec.specs.declared.match_group.hits.ends.Direction.{Direction}
+use Rattle.gix_refspec.specs.Specs.Reading.{Reading}
+use Rattle.gix_refspec.specs.Matching.Side.{object, HasKind}
+use Rattle.gix_refspec.specs.Matching.Match.{Ref, HasName}
+use Rattle.gix_refspec.specs.Matching.Mappings.{Mapped}
+use Rattle.gix_refspec.specs.Matching.Hits.{Ends}
 use Rattle.gix_refspec.specs.Private.HitViews.{HasEnds}
 use Rattle.gix_refspec.specs.Private.Kept.{IsFlagged}
 

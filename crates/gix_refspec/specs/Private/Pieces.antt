@@ -1,8 +1,8 @@
 -- The pieces that a text is printed from. Only private functions cite this.
 use Rattle.std.specs.Prelude.{ℕ, List, [], ◌∷◌, ◌++◌, Option, None, Some}
 use Rattle.std.specs.Borrow.{Bor}
-use Rattle.gix_refspec.specs.declared.write.Pieces.{Pieces}
-use Rattle.gix_refspec.specs.Bytes.{colon}
+use Rattle.gix_refspec.specs.declared.spec.write.Pieces.{Pieces}
+use Rattle.gix_refspec.specs.Texts.Bytes.{colon}
 
 -- a byte that may be missing
 abbrev pub optional_byte : Option ℕ → List ℕ

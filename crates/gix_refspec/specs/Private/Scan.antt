@@ -9,9 +9,9 @@ use Rattle.gix_refspec.specs.declared.name.Error.{Error}
 use Rattle.gix_refspec.specs.declared.name.Stop.{Stop}
 use Rattle.gix_refspec.specs.declared.name.Stop.TheVariants.{SecondStar, Fault}
 use Rattle.gix_refspec.specs.declared.name.Error.TheVariants.{Empty, EmptyComponent, StartsWithDot, LockSuffix, EndsWithDot, RepeatedDot, ReflogPortion, Asterisk, InvalidByte}
-use Rattle.gix_refspec.specs.Bytes.{slash, star, letter, dot, brace}
-use Rattle.gix_refspec.specs.Name.{is_refused_byte, HasFault, HasSeveralStars}
-use Rattle.gix_refspec.specs.Text.{Ends}
+use Rattle.gix_refspec.specs.Texts.Bytes.{slash, star, letter, dot, brace}
+use Rattle.gix_refspec.specs.Texts.Name.{is_refused_byte, HasFault, HasSeveralStars}
+use Rattle.gix_refspec.specs.Texts.Words.{Ends}
 
 -- the class of the byte b
 abbrev pub class_at : ℕ → Class

@@ -2,11 +2,11 @@
 use Rattle.std.specs.Prelude.{ℕ, List}
 use Rattle.gix_refspec.specs.declared.side.Stars.{Stars}
 use Rattle.gix_refspec.specs.declared.side.SideKind.{SideKind as DeclaredKind}
-use Rattle.gix_refspec.specs.Text.{Lacks}
-use Rattle.gix_refspec.specs.Name.{IsCut, HasSeveralStars}
-use Rattle.gix_refspec.specs.Bytes.{star}
-use Rattle.gix_refspec.specs.ObjectId.{id_bytes}
-use Rattle.gix_refspec.specs.Side.{SideKind, pattern, full_name, object, partial}
+use Rattle.gix_refspec.specs.Texts.Words.{Lacks}
+use Rattle.gix_refspec.specs.Texts.Name.{IsCut, HasSeveralStars}
+use Rattle.gix_refspec.specs.Texts.Bytes.{star}
+use Rattle.gix_refspec.specs.Texts.ObjectId.{id_bytes}
+use Rattle.gix_refspec.specs.Matching.Side.{SideKind, pattern, full_name, object, partial}
 use Rattle.gix_refspec.specs.declared.side.Stars.TheVariants as stars
 use Rattle.gix_refspec.specs.declared.side.SideKind.TheVariants as declared_kind
 

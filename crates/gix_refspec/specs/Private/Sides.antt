@@ -1,20 +1,20 @@
 -- How the parts of a text are looked at, and which sides they make. Only private functions cite this.
 use Rattle.std.specs.Prelude.{◌≡◌, ◌≢◌, ◌⊎◌, ℕ, List, [], ◌∷◌, Option, None, Some, option_map}
-use Rattle.gix_refspec.specs.declared.parsing.function.Look.{Look}
-use Rattle.gix_refspec.specs.declared.parsing.function.Side.{Side}
-use Rattle.gix_refspec.specs.declared.parsing.function.Parts.{Parts}
-use Rattle.gix_refspec.specs.declared.parsing.function.Sides.{Sides}
+use Rattle.gix_refspec.specs.declared.parsing.reading.Look.{Look}
+use Rattle.gix_refspec.specs.declared.parsing.reading.Side.{Side}
+use Rattle.gix_refspec.specs.declared.parsing.reading.Parts.{Parts}
+use Rattle.gix_refspec.specs.declared.parsing.reading.Sides.{Sides}
 use Rattle.gix_refspec.specs.declared.parsing.Operation.{Operation}
 use Rattle.gix_refspec.specs.declared.parsing.Error.{Error}
-use Rattle.gix_refspec.specs.Text.{Lacks}
-use Rattle.gix_refspec.specs.Name.{IsName, HasFault, IsPattern}
-use Rattle.gix_refspec.specs.Bytes.{star, head}
-use Rattle.gix_refspec.specs.Reading.{Mode, Reading}
-use Rattle.gix_refspec.specs.Refusal.{Refusal, IsBadName, IsBadPattern, IsFirstReason, IsRefused, ReachesMemory, MayWantMemory}
-use Rattle.gix_refspec.specs.Grammar.{named_by, AreParts, IsPositive, Reads}
-use Rattle.gix_refspec.specs.Views.{mode_of, ShowsRefusal}
-use Rattle.gix_refspec.specs.declared.parsing.function.Look.TheVariants as look
-use Rattle.gix_refspec.specs.declared.parsing.function.Side.TheVariants as side
+use Rattle.gix_refspec.specs.Texts.Words.{Lacks}
+use Rattle.gix_refspec.specs.Texts.Name.{IsName, HasFault, IsPattern}
+use Rattle.gix_refspec.specs.Texts.Bytes.{star, head}
+use Rattle.gix_refspec.specs.Specs.Reading.{Mode, Reading}
+use Rattle.gix_refspec.specs.Specs.Refusal.{Refusal, IsBadName, IsBadPattern, IsFirstReason, IsRefused, ReachesMemory, MayWantMemory}
+use Rattle.gix_refspec.specs.Specs.Grammar.{named_by, AreParts, IsPositive, Reads}
+use Rattle.gix_refspec.specs.Views.Instruction.{mode_of, ShowsRefusal}
+use Rattle.gix_refspec.specs.declared.parsing.reading.Look.TheVariants as look
+use Rattle.gix_refspec.specs.declared.parsing.reading.Side.TheVariants as side
 use Rattle.gix_refspec.specs.declared.parsing.Error.TheVariants as error
 use Rattle.bstr.specs.BStr.{bstr_bytes}
 

@@ -2,13 +2,13 @@
 
 ghost use Rattle.std.specs.Prelude.{◌≡◌, ◌↔◌, map, IfOk, IfErr, OnErr, IsTrue, MatchOption, Some};
 ghost use Rattle.std.specs.List.{AllByRecursion};
-ghost use Rattle.gix_refspec.specs.Group.{mapped_of, name_bytes, start_of};
-ghost use Rattle.gix_refspec.specs.RefNames.{AreLeftOut, IsBadAt, IsNamed, IsRefName, KeepsNamed, left_out_of};
-ghost use Rattle.gix_refspec.specs.Issue.{mappings_of};
+ghost use Rattle.gix_refspec.specs.Views.Group.{mapped_of, name_bytes, start_of};
+ghost use Rattle.gix_refspec.specs.Matching.RefNames.{AreLeftOut, IsBadAt, IsNamed, IsRefName, KeepsNamed, left_out_of};
+ghost use Rattle.gix_refspec.specs.Views.Issue.{mappings_of};
 
 use crate::match_group::types::{Mapping, NameRef, SourceRef, match_lhs};
 use crate::name::fault_of;
-use crate::prefix::is_head;
+use crate::spec::prefix::is_head;
 use std::alloc::{AllocError, Global};
 use std::{error, fmt};
 

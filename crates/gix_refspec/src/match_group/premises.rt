@@ -2,11 +2,11 @@
 
 ghost use Rattle.std.specs.Prelude.{◌↔◌, IsTrue, codes};
 ghost use Rattle.std.specs.List.{AllByRecursion};
-ghost use Rattle.gix_refspec.specs.Text.{Begins};
-ghost use Rattle.gix_refspec.specs.Name.{HasStar};
-ghost use Rattle.gix_refspec.specs.Spec.{reading_of};
-ghost use Rattle.gix_refspec.specs.Group.{readings_of};
-ghost use Rattle.gix_refspec.specs.MatchLaws.{GoesBothWays, HasCoveringSource};
+ghost use Rattle.gix_refspec.specs.Texts.Words.{Begins};
+ghost use Rattle.gix_refspec.specs.Texts.Name.{HasStar};
+ghost use Rattle.gix_refspec.specs.Views.Spec.{reading_of};
+ghost use Rattle.gix_refspec.specs.Views.Group.{readings_of};
+ghost use Rattle.gix_refspec.specs.Laws.Matching.{GoesBothWays, HasCoveringSource};
 
 use crate::cut::holds;
 use crate::match_group::types::MatchGroup;

@@ -7,7 +7,7 @@ ghost use Rattle.std.specs.Cmp.Rules.{hashing};
 ghost use Rattle.std.proofs.Common.{rules};
 ghost use Rattle.bstr.specs.BStr.{bstr_bytes};
 ghost use Rattle.bstr.specs.Owned.{bstring_bytes};
-ghost use Rattle.gix_refspec.specs.Group.{AreMappingCopies};
+ghost use Rattle.gix_refspec.specs.Views.Group.{AreMappingCopies};
 
 use crate::oid::ObjectId;
 use crate::parsing::Operation;
@@ -40,7 +40,7 @@ pub enum NameRef<'a> {
 }
 
 impl<'a> NameRef<'a> {
-    ghost use Rattle.gix_refspec.specs.Group.{name_bytes, IsBorrowed, IsOwned, IsNameCopy};
+    ghost use Rattle.gix_refspec.specs.Views.Group.{name_bytes, IsBorrowed, IsOwned, IsNameCopy};
 
     /// The bytes of the name, borrowed from it.
     pub fn as_bstr(&self) -> BStr<'_>
@@ -78,7 +78,7 @@ impl<'a> NameRef<'a> {
 }
 
 impl<'a> PartialEq for NameRef<'a> {
-    ghost use Rattle.gix_refspec.specs.Group.{name_bytes};
+    ghost use Rattle.gix_refspec.specs.Views.Group.{name_bytes};
 
     ghost eq = { λ x y. pointwise nat_eq (name_bytes x) (name_bytes y) };
 
@@ -93,13 +93,13 @@ impl<'a> PartialEq for NameRef<'a> {
 }
 
 impl<'a> Eq for NameRef<'a> {
-    ghost use Rattle.gix_refspec.specs.Group.{name_bytes};
+    ghost use Rattle.gix_refspec.specs.Views.Group.{name_bytes};
 
     ghost laws = { on_equiv name_bytes nat_list_eq_equiv };
 }
 
 impl<'a> Hash for NameRef<'a> {
-    ghost use Rattle.gix_refspec.specs.Group.{name_bytes};
+    ghost use Rattle.gix_refspec.specs.Views.Group.{name_bytes};
 
     ghost hash_input = { λ s. name_bytes s ∷ [] };
 
@@ -124,7 +124,7 @@ pub enum SourceRef<'a> {
 pub type Source = SourceRef<'static>;
 
 impl<'a> SourceRef<'a> {
-    ghost use Rattle.gix_refspec.specs.Group.{start_of, IsLent, IsOwnedSource, IsSourceCopy};
+    ghost use Rattle.gix_refspec.specs.Views.Group.{start_of, IsLent, IsOwnedSource, IsSourceCopy};
 
     /// The same source, owned. Fails if memory runs out, and then the source is dropped; never for a
     /// name that is owned already or for an id.
@@ -154,7 +154,7 @@ impl<'a> SourceRef<'a> {
 }
 
 impl<'a> fmt::Display for SourceRef<'a> {
-    ghost use Rattle.gix_refspec.specs.Group.{shown_source};
+    ghost use Rattle.gix_refspec.specs.Views.Group.{shown_source};
 
     ghost output = { λ s. Some (shown_source s) };
 
@@ -184,7 +184,7 @@ pub struct Mapping<'a, 'b> {
 }
 
 impl<'a, 'b> Mapping<'a, 'b> {
-    ghost use Rattle.gix_refspec.specs.Group.{IsMappingCopy, HasOwned};
+    ghost use Rattle.gix_refspec.specs.Views.Group.{IsMappingCopy, HasOwned};
 
     /// A copy of the mapping, which borrows what this one borrows. Fails if memory runs out; only if a
     /// name of it is owned.
@@ -228,7 +228,7 @@ pub struct MatchGroup<'a> {
 
 impl<'a> MatchGroup<'a> {
     ghost use Rattle.std.specs.Iterator.{IsFiniteIterable};
-    ghost use Rattle.gix_refspec.specs.Group.{IsGathered};
+    ghost use Rattle.gix_refspec.specs.Views.Group.{IsGathered};
 
     /// A group of no specs. Allocates nothing.
     pub fn new(alloc: Global) -> Self

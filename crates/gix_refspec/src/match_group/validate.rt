@@ -1,16 +1,18 @@
 //! Whether the mappings of an outcome can be written.
 
 ghost use Rattle.std.specs.Prelude.{◌≡◌, ◌≢◌, ◌↔◌, [], map, IfOk, IfErr, OnErr, IsTrue};
-ghost use Rattle.gix_refspec.specs.Spec.{reading_of};
-ghost use Rattle.gix_refspec.specs.Group.{mapped_of, name_bytes, readings_of};
-ghost use Rattle.gix_refspec.specs.Validation.{IndexesFit, AreConflicts, AreFixes, IsValidated, IsWritable, Survives};
-ghost use Rattle.gix_refspec.specs.Issue.{mappings_of, removed_of};
+ghost use Rattle.gix_refspec.specs.Views.Spec.{reading_of};
+ghost use Rattle.gix_refspec.specs.Views.Group.{mapped_of, name_bytes, readings_of};
+ghost use Rattle.gix_refspec.specs.Matching.Validation.{IndexesFit, AreConflicts, AreFixes, IsValidated, IsWritable, Survives};
+ghost use Rattle.gix_refspec.specs.Views.Issue.{mappings_of, removed_of};
+
+mod conflicts;
 
 use crate::match_group::types::{Mapping, NameRef, Source, match_lhs};
-use crate::match_group::util::conflicts::issues_of;
-use crate::prefix::is_head;
+use crate::spec::prefix::is_head;
 use crate::spec::{RefSpec, RefSpecRef};
 use bstr::BString;
+use conflicts::issues_of;
 use std::alloc::{AllocError, Global};
 use std::{error, fmt};
 
@@ -127,7 +129,7 @@ impl<'spec, 'item> error::Error for Refusal<'spec, 'item> {}
 
 /// Validation.
 impl<'spec, 'item> match_lhs::Outcome<'spec, 'item> {
-    ghost use Rattle.gix_refspec.specs.Issue.{IfConflicts, IfMemory};
+    ghost use Rattle.gix_refspec.specs.Views.Issue.{IfConflicts, IfMemory};
 
     /// Whether the `spec_index` of each mapping is that of a spec of the group: the condition of
     /// [`validated`](Self::validated). False only if the outcome was changed by hand.

@@ -2,7 +2,7 @@
 
 ghost use Rattle.std.specs.Prelude.{◌≡◌, IfSome, IfNone, true};
 ghost use Rattle.hex.specs.Hex.{hex_digit_value, is_hex_digit};
-ghost use Rattle.gix_refspec.specs.ObjectId.{IsSpelledBy};
+ghost use Rattle.gix_refspec.specs.Texts.ObjectId.{IsSpelledBy};
 
 // Stands in the table for a byte that is no digit. It is more than the value of any digit.
 const NONE: u8 = 16;

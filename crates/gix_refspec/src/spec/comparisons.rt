@@ -5,11 +5,11 @@ ghost use Rattle.std.specs.Prelude.{◌≡◌, ◌↔◌, nat_eq, refl, Some, Is
 ghost use Rattle.std.specs.Ordering.{nat_cmp};
 ghost use Rattle.std.specs.Cmp.Lexicographic.{pointwise, slice_cmp, lists_ties, texts_ties};
 ghost use Rattle.std.specs.Cmp.{partial_equiv_from_equiv, on_per, on_equiv, on_po, on_total};
-ghost use Rattle.gix_refspec.specs.Meaning.{meaning_of};
-ghost use Rattle.gix_refspec.specs.Order.{is_same as is_same_of, order, writes, writes_of};
-ghost use Rattle.gix_refspec.specs.Views.{shown};
-ghost use Rattle.gix_refspec.specs.Spec.{key_of_spec, key_of_owned, reading_of, owned_reading_of};
-ghost use Rattle.gix_refspec.specs.OrderLaws.{keys_equiv, keys_total, keys_po, meanings_alike};
+ghost use Rattle.gix_refspec.specs.Specs.Meaning.{meaning_of};
+ghost use Rattle.gix_refspec.specs.Specs.Order.{is_same as is_same_of, order, writes, writes_of};
+ghost use Rattle.gix_refspec.specs.Views.Instruction.{shown};
+ghost use Rattle.gix_refspec.specs.Views.Spec.{key_of_spec, key_of_owned, reading_of, owned_reading_of};
+ghost use Rattle.gix_refspec.specs.Laws.Order.{keys_equiv, keys_total, keys_po, meanings_alike};
 
 use crate::spec::{RefSpec, RefSpecRef};
 use crate::types::Instruction;

@@ -1,7 +1,7 @@
 -- The text of the spec reads back.
 use Rattle.bstr.specs.BStr.{bstr_bytes}
 use Rattle.bstr.specs.Owned.{bstring_bytes}
-use Rattle.gix_refspec.specs.Spec.{reading_of}
+use Rattle.gix_refspec.specs.Views.Spec.{reading_of}
 use Rattle.refspec_client.specs.Claims.{ReadsOnlyAs}
 use Rattle.refspec_client.proofs.ClaimLemmas.{canonical_text}
 use Rattle.refspec_client.proofs.canonical.Goals as goal

@@ -1,6 +1,6 @@
 -- A text has one reading, or is refused; and one that is refused has none.
 use Rattle.bstr.specs.BStr.{bstr_bytes}
-use Rattle.gix_refspec.specs.Spec.{reading_of}
+use Rattle.gix_refspec.specs.Views.Spec.{reading_of}
 use Rattle.refspec_client.proofs.ClaimLemmas.{reads_only}
 use Rattle.refspec_client.proofs.read.Goals as goal
 

@@ -3,10 +3,10 @@ use Rattle.std.proofs.Common.{◌≡◌, ◌∙◌, Some, sym, ap, subst}
 use Rattle.std.proofs.lemmas.Result.{IfOk-weaker}
 use Rattle.bstr.specs.BStr.{bstr_bytes}
 use Rattle.gix_refspec.specs.declared.parsing.Operation.{Operation}
-use Rattle.gix_refspec.specs.Reading.{Reading}
-use Rattle.gix_refspec.specs.Meaning.{printed}
-use Rattle.gix_refspec.specs.Views.{shown}
-use Rattle.gix_refspec.specs.Spec.{reading_of}
+use Rattle.gix_refspec.specs.Specs.Reading.{Reading}
+use Rattle.gix_refspec.specs.Specs.Meaning.{printed}
+use Rattle.gix_refspec.specs.Views.Instruction.{shown}
+use Rattle.gix_refspec.specs.Views.Spec.{reading_of}
 use Rattle.refspec_client.specs.Claims.{IsRefspec, ReadsOnlyAs, IsReadAgain}
 use Rattle.refspec_client.proofs.ClaimLemmas.{printed_is_refspec, printed_is_equal}
 use Rattle.refspec_client.proofs.reread.Goals as goal

@@ -1,5 +1,5 @@
 -- Such a side is a name that is given short.
-use Rattle.gix_refspec.proofs.MatchLemmas.{has_candidates}
+use Rattle.gix_refspec.proofs.lemmas.hits.MatchLemmas.{has_candidates}
 use Rattle.gix_refspec.proofs.laws.candidates.Goals as goal
 
 pub returns : goal.returns

@@ -1,7 +1,7 @@
 -- A side that matches begins with what it expands to, and what stays is a part of what is matched.
 use Rattle.std.proofs.Common.{map}
-use Rattle.gix_refspec.specs.Group.{ref_of, readings_of}
-use Rattle.gix_refspec.proofs.CoverLemmas.{cover, cover_together}
+use Rattle.gix_refspec.specs.Views.Group.{ref_of, readings_of}
+use Rattle.gix_refspec.proofs.lemmas.prefixes.CoverLemmas.{cover, cover_together}
 use Rattle.gix_refspec.proofs.laws.cover.Goals as goal
 
 pub returns-clause-some : goal.returns-clause-some

@@ -1,7 +1,7 @@
 -- Equal fetches have the same sides, and both are negative or neither.
 use Rattle.std.proofs.Common.{map}
-use Rattle.gix_refspec.specs.Group.{ref_of}
-use Rattle.gix_refspec.proofs.AlikeLemmas.{equal_groups, equal_lists}
+use Rattle.gix_refspec.specs.Views.Group.{ref_of}
+use Rattle.gix_refspec.proofs.lemmas.keep.AlikeLemmas.{equal_groups, equal_lists}
 use Rattle.gix_refspec.proofs.laws.equal_groups.Goals as goal
 
 pub returns-clause-meaning : goal.returns-clause-meaning

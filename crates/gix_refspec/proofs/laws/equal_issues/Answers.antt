@@ -9,12 +9,12 @@ use Rattle.gix_refspec.specs.declared.match_group.types.SourceRef.{SourceRef}
 use Rattle.gix_refspec.specs.declared.match_group.types.SourceRef.TheVariants as source_ref
 use Rattle.gix_refspec.specs.declared.match_group.validate.Issue.{Issue}
 use Rattle.gix_refspec.specs.declared.match_group.validate.Issue.TheVariants as issue
-use Rattle.gix_refspec.specs.Mappings.{name, id}
-use Rattle.gix_refspec.specs.ObjectId.{id_bytes}
-use Rattle.gix_refspec.specs.Group.{name_bytes, start_of}
-use Rattle.gix_refspec.specs.Validation.{Conflict}
-use Rattle.gix_refspec.specs.Issue.{conflict_of}
-use Rattle.gix_refspec.proofs.EqualLemmas.{both_true, same_keys, true_of_both}
+use Rattle.gix_refspec.specs.Matching.Mappings.{name, id}
+use Rattle.gix_refspec.specs.Texts.ObjectId.{id_bytes}
+use Rattle.gix_refspec.specs.Views.Group.{name_bytes, start_of}
+use Rattle.gix_refspec.specs.Matching.Validation.{Conflict}
+use Rattle.gix_refspec.specs.Views.Issue.{conflict_of}
+use Rattle.gix_refspec.proofs.lemmas.lists.EqualLemmas.{both_true, same_keys, true_of_both}
 use Rattle.gix_refspec.proofs.laws.equal_issues.Goals as goal
 
 same_source : (a b : SourceRef) → (compared_sources.eq a b ≡ true) ↔ (start_of a ≡ start_of b)

@@ -1,8 +1,8 @@
 -- Whatever the readings and the refs are.
 use Rattle.std.proofs.Common.{map}
-use Rattle.gix_refspec.specs.Group.{readings_of, ref_of}
-use Rattle.gix_refspec.proofs.FilterLemmas.{filtered_by_entries}
-use Rattle.gix_refspec.proofs.ItemLemmas.{listed_items}
+use Rattle.gix_refspec.specs.Views.Group.{readings_of, ref_of}
+use Rattle.gix_refspec.proofs.lemmas.index.FilterLemmas.{filtered_by_entries}
+use Rattle.gix_refspec.proofs.lemmas.keep.ItemLemmas.{listed_items}
 use Rattle.gix_refspec.proofs.laws.listed_items.Goals as goal
 
 pub returns-clause-kept : goal.returns-clause-kept

@@ -1,7 +1,7 @@
 -- What stays was looked at.
 use Rattle.std.proofs.Common.{map}
-use Rattle.gix_refspec.specs.Group.{readings_of, ref_of}
-use Rattle.gix_refspec.proofs.PairMadeLemmas.{nothing_excluded}
+use Rattle.gix_refspec.specs.Views.Group.{readings_of, ref_of}
+use Rattle.gix_refspec.proofs.lemmas.keep.PairMadeLemmas.{nothing_excluded}
 use Rattle.gix_refspec.proofs.laws.nothing_excluded.Goals as goal
 
 pub returns : goal.returns

@@ -1,6 +1,6 @@
 -- The digits of the table are in lower case, and tell their values.
 use Rattle.std.proofs.Common.{rules}
-use Rattle.gix_refspec.proofs.ObjectIdLemmas.{one_lower_text}
+use Rattle.gix_refspec.proofs.lemmas.texts.ObjectIdLemmas.{one_lower_text}
 use Rattle.gix_refspec.proofs.laws.one_lower_text.Goals as goal
 
 pub returns : goal.returns

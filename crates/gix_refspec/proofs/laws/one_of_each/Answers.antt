@@ -1,5 +1,5 @@
 -- As the laws on slices at hand.
-use Rattle.gix_refspec.proofs.SideLawLemmas.{one_of_each}
+use Rattle.gix_refspec.proofs.lemmas.specs.SideLawLemmas.{one_of_each}
 use Rattle.gix_refspec.proofs.laws.one_of_each.Goals as goal
 
 pub returns : goal.returns

@@ -1,7 +1,7 @@
 -- Whatever the readings and the mappings are.
-use Rattle.gix_refspec.specs.Group.{readings_of}
-use Rattle.gix_refspec.specs.Issue.{mappings_of}
-use Rattle.gix_refspec.proofs.OneValidationLemmas.{one_validation}
+use Rattle.gix_refspec.specs.Views.Group.{readings_of}
+use Rattle.gix_refspec.specs.Views.Issue.{mappings_of}
+use Rattle.gix_refspec.proofs.lemmas.validate.OneValidationLemmas.{one_validation}
 use Rattle.gix_refspec.proofs.laws.one_validation.Goals as goal
 
 pub returns : goal.returns

@@ -1,7 +1,7 @@
 -- Whatever the mappings are.
-use Rattle.gix_refspec.specs.Group.{readings_of}
-use Rattle.gix_refspec.specs.Issue.{mappings_of}
-use Rattle.gix_refspec.proofs.MadeAtLemmas.{remains_exactly}
+use Rattle.gix_refspec.specs.Views.Group.{readings_of}
+use Rattle.gix_refspec.specs.Views.Issue.{mappings_of}
+use Rattle.gix_refspec.proofs.lemmas.validate.MadeAtLemmas.{remains_exactly}
 use Rattle.gix_refspec.proofs.laws.remains_exactly.Goals as goal
 
 pub returns : goal.returns

@@ -1,6 +1,6 @@
 -- The spec is accepted for some text.
-use Rattle.gix_refspec.specs.Spec.{reading_of}
-use Rattle.gix_refspec.proofs.SideLawLemmas.{sides_agree}
+use Rattle.gix_refspec.specs.Views.Spec.{reading_of}
+use Rattle.gix_refspec.proofs.lemmas.specs.SideLawLemmas.{sides_agree}
 use Rattle.gix_refspec.proofs.laws.sides_agree.Goals as goal
 
 pub returns : goal.returns

@@ -1,7 +1,7 @@
 -- Each spec is accepted for some text.
 use Rattle.std.proofs.Common.{map}
-use Rattle.gix_refspec.specs.Group.{ref_of}
-use Rattle.gix_refspec.proofs.TransposeLemmas.{transpose}
+use Rattle.gix_refspec.specs.Views.Group.{ref_of}
+use Rattle.gix_refspec.proofs.lemmas.hits.TransposeLemmas.{transpose}
 use Rattle.gix_refspec.proofs.laws.transpose.Goals as goal
 
 pub returns : goal.returns

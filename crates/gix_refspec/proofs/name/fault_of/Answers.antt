@@ -1,8 +1,8 @@
 use Rattle.std.proofs.Common.{◌≡◌, ◌+◌, [], ◌∷◌, ◌++◌, take, get_or, sym, ap, subst, arith}
 use Rattle.std.proofs.lemmas.List.{take_all, take_more}
-use Rattle.gix_refspec.specs.Bytes.{slash}
+use Rattle.gix_refspec.specs.Texts.Bytes.{slash}
 use Rattle.gix_refspec.specs.Private.Scan.{IsClean}
-use Rattle.gix_refspec.proofs.NameLemmas.{IsClean-start, IsClean-more, HasFault-added, added_at, answer_at_end, some_text}
+use Rattle.gix_refspec.proofs.lemmas.texts.NameLemmas.{IsClean-start, IsClean-more, HasFault-added, added_at, answer_at_end, some_text}
 use Rattle.gix_refspec.proofs.name.fault_of.Goals as goal
 
 pub loop-index-init : goal.loop-index-init

@@ -1,5 +1,5 @@
 use Rattle.std.proofs.Common.{◌∷◌, take}
-use Rattle.gix_refspec.specs.Bytes.{slash}
+use Rattle.gix_refspec.specs.Texts.Bytes.{slash}
 use Rattle.gix_refspec.specs.Private.Scan.{IsClean}
 use Rattle.gix_refspec.proofs.name.fault_of.Given as goal
 

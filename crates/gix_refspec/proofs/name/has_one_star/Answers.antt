@@ -3,8 +3,8 @@ use Rattle.std.proofs.Common.{◌≡◌, ◌==◌, sym, ◌∙◌, rules, eq-eqb
 use Rattle.std.proofs.lemmas.Bool.{eqb-true}
 use Rattle.std.specs.List.{count_by}
 use Rattle.bstr.specs.BStr.{bstr_bytes}
-use Rattle.gix_refspec.specs.Bytes.{star}
-use Rattle.gix_refspec.proofs.StarLemmas.{HasOneStar-count_by, count_by-HasOneStar}
+use Rattle.gix_refspec.specs.Texts.Bytes.{star}
+use Rattle.gix_refspec.proofs.lemmas.texts.StarLemmas.{HasOneStar-count_by, count_by-HasOneStar}
 use Rattle.gix_refspec.proofs.name.has_one_star.Goals as goal
 
 pub returns : goal.returns

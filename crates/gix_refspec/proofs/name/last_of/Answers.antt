@@ -1,5 +1,5 @@
 -- The text is what stands before its last byte, and that byte.
-use Rattle.gix_refspec.proofs.NameLemmas.{ends_last}
+use Rattle.gix_refspec.proofs.lemmas.texts.NameLemmas.{ends_last}
 use Rattle.gix_refspec.proofs.name.last_of.Goals as goal
 
 pub returns-in-len1-up : goal.returns-in-len1-up

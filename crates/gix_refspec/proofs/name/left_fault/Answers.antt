@@ -1,8 +1,8 @@
 use Rattle.std.proofs.Common.{◌≡◌, ℕ, [], ◌∷◌, codes, arith}
 use Rattle.std.proofs.lemmas.Bool.{both_ways}
-use Rattle.gix_refspec.specs.Text.{Ends}
-use Rattle.gix_refspec.specs.Bytes.{slash}
-use Rattle.gix_refspec.proofs.NameLemmas.{end_leaves, last_byte, locked_behind_slash}
+use Rattle.gix_refspec.specs.Texts.Words.{Ends}
+use Rattle.gix_refspec.specs.Texts.Bytes.{slash}
+use Rattle.gix_refspec.proofs.lemmas.texts.NameLemmas.{end_leaves, last_byte, locked_behind_slash}
 use Rattle.gix_refspec.proofs.name.left_fault.Goals as goal
 
 pub returns-in_default : goal.returns-in_default

@@ -1,8 +1,8 @@
 -- What the calm bytes leave of sixteen is looked at one by one.
 use Rattle.std.proofs.Common.{◌≡◌, ◌+◌, ◌≤◌, length, refl, subst, arith}
 use Rattle.gix_refspec.specs.Private.Scan.{IsScanned}
-use Rattle.gix_refspec.proofs.NameLemmas.{IsClean-start}
-use Rattle.gix_refspec.proofs.LetterLemmas.{calm_to}
+use Rattle.gix_refspec.proofs.lemmas.texts.NameLemmas.{IsClean-start}
+use Rattle.gix_refspec.proofs.lemmas.texts.LetterLemmas.{calm_to}
 use Rattle.gix_refspec.proofs.name.scanned.Goals as goal
 
 pub scanned_to-requires : goal.scanned_to-requires

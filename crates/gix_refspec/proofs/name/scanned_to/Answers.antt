@@ -4,10 +4,10 @@ use Rattle.std.proofs.lemmas.Grind.{common_steps}
 use Rattle.std.proofs.lemmas.List.{take_more}
 use Rattle.std.proofs.lemmas.List.Sums.{count_by_more_no, count_by_more_yes}
 use Rattle.gix_refspec.specs.declared.name.Error.TheVariants.{Asterisk}
-use Rattle.gix_refspec.specs.Bytes.{slash, star}
+use Rattle.gix_refspec.specs.Texts.Bytes.{slash, star}
 use Rattle.gix_refspec.specs.Private.Scan.{IsClean, IsScanned, one_if, with_letters}
-use Rattle.gix_refspec.proofs.StarLemmas.{second_star}
-use Rattle.gix_refspec.proofs.LetterLemmas.{clean_behind_star, clean_behind_other, some_place, fault_with_letters}
+use Rattle.gix_refspec.proofs.lemmas.texts.StarLemmas.{second_star}
+use Rattle.gix_refspec.proofs.lemmas.texts.LetterLemmas.{clean_behind_star, clean_behind_other, some_place, fault_with_letters}
 use Rattle.gix_refspec.proofs.name.scanned_to.Goals as goal
 use Rattle.gix_refspec.proofs.name.scanned_to.Goals.{then-byte-eq42+else-starred, else-byte-eq42+in_default}
 

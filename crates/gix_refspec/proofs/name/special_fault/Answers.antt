@@ -1,10 +1,10 @@
 use Rattle.std.proofs.Common.{◌≡◌, ◌∷◌, codes, sym, subst, arith}
 use Rattle.std.proofs.lemmas.Bool.{both_ways}
 use Rattle.std.proofs.lemmas.Grind.{common_steps}
-use Rattle.gix_refspec.specs.Text.{Ends}
-use Rattle.gix_refspec.specs.Bytes.{slash}
+use Rattle.gix_refspec.specs.Texts.Words.{Ends}
+use Rattle.gix_refspec.specs.Texts.Bytes.{slash}
 use Rattle.gix_refspec.specs.Private.Scan.{AddsFault}
-use Rattle.gix_refspec.proofs.NameLemmas.{slash_adds, last_byte, locked_behind_slash}
+use Rattle.gix_refspec.proofs.lemmas.texts.NameLemmas.{slash_adds, last_byte, locked_behind_slash}
 use Rattle.gix_refspec.proofs.name.special_fault.Goals as goal
 
 pub returns-then-ends_with : goal.returns-then-ends_with

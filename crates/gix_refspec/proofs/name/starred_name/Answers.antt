@@ -1,10 +1,10 @@
 -- With letters for its stars the text has a fault where a byte adds one, or where one is left at its end.
 use Rattle.std.proofs.Common.{◌≡◌, ◌∷◌, Some, None, take, length, subst, arith}
 use Rattle.std.proofs.lemmas.List.{take_all}
-use Rattle.gix_refspec.specs.Bytes.{slash}
+use Rattle.gix_refspec.specs.Texts.Bytes.{slash}
 use Rattle.gix_refspec.specs.Private.Scan.{IsClean, IsStarCount, one_if, with_letters}
-use Rattle.gix_refspec.proofs.NameLemmas.{some_text}
-use Rattle.gix_refspec.proofs.LetterLemmas.{answer_with_letters}
+use Rattle.gix_refspec.proofs.lemmas.texts.NameLemmas.{some_text}
+use Rattle.gix_refspec.proofs.lemmas.texts.LetterLemmas.{answer_with_letters}
 use Rattle.gix_refspec.proofs.name.starred_name.Goals as goal
 
 pub returns-in-Some : goal.returns-in-Some

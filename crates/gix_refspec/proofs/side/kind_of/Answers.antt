@@ -1,6 +1,6 @@
 -- Without a star, outside `refs/` and with a fault of an id, a side is a partial name.
 use Rattle.std.proofs.Common.{refl, rules}
-use Rattle.gix_refspec.proofs.ObjectIdLemmas.{IsIdText-sound}
+use Rattle.gix_refspec.proofs.lemmas.texts.ObjectIdLemmas.{IsIdText-sound}
 use Rattle.gix_refspec.proofs.side.kind_of.Goals as goal
 
 pub returns-in-Err : goal.returns-in-Err

@@ -3,7 +3,7 @@ use Rattle.std.proofs.Common.{◌+◌, List, map, take, sym, subst}
 use Rattle.std.specs.List.{AllByRecursion}
 use Rattle.gix_refspec.specs.declared.spec.RefSpecRef.{RefSpecRef}
 use Rattle.refspec_c.specs.Matching.{GoesByName}
-use Rattle.gix_refspec.specs.Spec.{reading_of}
+use Rattle.gix_refspec.specs.Views.Spec.{reading_of}
 use Rattle.std.proofs.lemmas.Bool.{false≢true}
 use Rattle.refspec_c.proofs.MatchingLemmas.{each_reading, one_more}
 use Rattle.refspec_c.proofs.matching.goes_by_names.Goals as goal

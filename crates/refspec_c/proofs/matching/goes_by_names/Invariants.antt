@@ -1,7 +1,7 @@
 -- the specs so far go by names
 use Rattle.std.proofs.Common.{map, take}
 use Rattle.std.specs.List.{AllByRecursion}
-use Rattle.gix_refspec.specs.Spec.{reading_of}
+use Rattle.gix_refspec.specs.Views.Spec.{reading_of}
 use Rattle.refspec_c.specs.Matching.{GoesByName}
 use Rattle.refspec_c.proofs.matching.goes_by_names.Given as goal
 

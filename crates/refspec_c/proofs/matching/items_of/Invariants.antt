@@ -1,6 +1,6 @@
 -- the items so far have the names so far
 use Rattle.std.proofs.Common.{◌≡◌, map, take}
-use Rattle.gix_refspec.specs.Group.{ref_of}
+use Rattle.gix_refspec.specs.Views.Group.{ref_of}
 use Rattle.refspec_c.specs.Group.{bytes_of}
 use Rattle.refspec_c.specs.Matching.{nameless}
 use Rattle.refspec_c.proofs.matching.items_of.Given as goal

@@ -1,5 +1,5 @@
 -- One mapping more is told of.
-use Rattle.gix_refspec.specs.Group.{mapped_of}
+use Rattle.gix_refspec.specs.Views.Group.{mapped_of}
 use Rattle.refspec_c.specs.Mapping.{forward_entry}
 use Rattle.refspec_c.proofs.MatchingLemmas.{tells_more, entries_more}
 use Rattle.refspec_c.proofs.matching.listed_forward.Goals as goal

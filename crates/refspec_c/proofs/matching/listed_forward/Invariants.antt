@@ -1,6 +1,6 @@
 -- the listing tells of the mappings so far
 use Rattle.std.proofs.Common.{map, take}
-use Rattle.gix_refspec.specs.Group.{mapped_of}
+use Rattle.gix_refspec.specs.Views.Group.{mapped_of}
 use Rattle.refspec_c.specs.Mapping.{Tells, forward_entry}
 use Rattle.refspec_c.proofs.matching.listed_forward.Given as goal
 

@@ -1,8 +1,8 @@
 -- What is listed tells of what stays over names with the null id.
 use Rattle.std.proofs.Common.{List, map, sym, ap, ◌∙◌, subst}
 use Rattle.gix_refspec.specs.declared.match_group.types.Mapping.{Mapping}
-use Rattle.gix_refspec.specs.Group.{mapped_of, readings_of, ref_of}
-use Rattle.gix_refspec.specs.Hits.{AreKeptForward, AreKeptBackward}
+use Rattle.gix_refspec.specs.Views.Group.{mapped_of, readings_of, ref_of}
+use Rattle.gix_refspec.specs.Matching.Hits.{AreKeptForward, AreKeptBackward}
 use Rattle.refspec_c.specs.Group.{bytes_of}
 use Rattle.refspec_c.proofs.MatchingLemmas.{matched_forward, matched_backward}
 use Rattle.refspec_c.proofs.matching.listing_of.Goals as goal

@@ -1,7 +1,7 @@
 -- One mapping more is judged, and told of.
 use Rattle.std.proofs.Common.{ap, ◌++◌, ◌∷◌, [], refl}
 use Rattle.std.specs.List.{Contains}
-use Rattle.gix_refspec.specs.Group.{mapped_of}
+use Rattle.gix_refspec.specs.Views.Group.{mapped_of}
 use Rattle.refspec_c.specs.Mapping.{Entry, forward_entry}
 use Rattle.refspec_c.specs.Planning.{destinations_of}
 use Rattle.refspec_c.proofs.MatchingLemmas.{tells_more}

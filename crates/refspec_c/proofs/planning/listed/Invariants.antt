@@ -1,7 +1,7 @@
 -- the mappings so far are judged, and the listing tells of them
 use Rattle.std.proofs.Common.{List, map, take}
 use Rattle.std.specs.List.{AllZip, Contains}
-use Rattle.gix_refspec.specs.Group.{mapped_of}
+use Rattle.gix_refspec.specs.Views.Group.{mapped_of}
 use Rattle.refspec_c.specs.Mapping.{Entry, Tells}
 use Rattle.refspec_c.specs.Planning.{IsJudged, destinations_of}
 use Rattle.refspec_c.proofs.planning.listed.Given as goal

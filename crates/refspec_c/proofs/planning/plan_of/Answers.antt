@@ -4,9 +4,9 @@ use Rattle.std.specs.Prelude.{not}
 use Rattle.std.specs.List.{AllZip, Contains}
 use Rattle.gix_refspec.specs.declared.match_group.types.Mapping.{Mapping}
 use Rattle.gix_refspec.specs.declared.match_group.validate.Issue.{Issue}
-use Rattle.gix_refspec.specs.Group.{mapped_of, readings_of, ref_of}
-use Rattle.gix_refspec.specs.Issue.{conflict_of, mappings_of}
-use Rattle.gix_refspec.specs.Validation.{AreConflicts}
+use Rattle.gix_refspec.specs.Views.Group.{mapped_of, readings_of, ref_of}
+use Rattle.gix_refspec.specs.Views.Issue.{conflict_of, mappings_of}
+use Rattle.gix_refspec.specs.Matching.Validation.{AreConflicts}
 use Rattle.refspec_c.specs.Group.{bytes_of}
 use Rattle.refspec_c.specs.Planning.{IsJudged, destinations_of}
 use Rattle.refspec_c.proofs.PlanningLemmas.{planned}

@@ -4,7 +4,7 @@ use Rattle.std.specs.Prelude.{not}
 use Rattle.std.specs.List.{Contains}
 use Rattle.std.specs.Option.{option_map}
 use Rattle.std.proofs.lemmas.Bool.{false≢true}
-use Rattle.gix_refspec.specs.Group.{mapped_of, name_bytes}
+use Rattle.gix_refspec.specs.Views.Group.{mapped_of, name_bytes}
 use Rattle.refspec_c.specs.Planning.{destinations_of}
 use Rattle.refspec_c.proofs.PlanningLemmas.{good_sides, unless}
 use Rattle.refspec_c.proofs.planning.verdict_of.Goals as goal

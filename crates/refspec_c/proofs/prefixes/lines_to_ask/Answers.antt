@@ -1,7 +1,7 @@
 -- The lines are those of the names to ask for.
 use Rattle.std.proofs.Common.{map, ap, ◌∙◌}
 use Rattle.bstr.specs.Owned.{bstring_bytes}
-use Rattle.gix_refspec.specs.Group.{readings_of}
+use Rattle.gix_refspec.specs.Views.Group.{readings_of}
 use Rattle.refspec_c.specs.Group.{lines_of}
 use Rattle.refspec_c.proofs.prefixes.lines_to_ask.Goals as goal
 

@@ -1,8 +1,8 @@
 -- the texts so far were read, in order
 use Rattle.std.proofs.Common.{map, take}
 use Rattle.std.specs.List.{AllZip}
-use Rattle.gix_refspec.specs.Grammar.{Reads}
-use Rattle.gix_refspec.specs.Spec.{reading_of}
+use Rattle.gix_refspec.specs.Specs.Grammar.{Reads}
+use Rattle.gix_refspec.specs.Views.Spec.{reading_of}
 use Rattle.refspec_c.specs.Group.{bytes_of}
 use Rattle.refspec_c.proofs.reading.read_all.Given as goal
 

@@ -1,5 +1,5 @@
 -- What was read has a reading.
-use Rattle.gix_refspec.specs.Spec.{reading_of}
+use Rattle.gix_refspec.specs.Views.Spec.{reading_of}
 use Rattle.refspec_c.proofs.single.check.Goals as goal
 
 pub returns-clause-ok : goal.returns-clause-ok

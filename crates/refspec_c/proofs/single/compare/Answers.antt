@@ -1,6 +1,6 @@
 -- The order is that of the instructions.
 use Rattle.std.proofs.Common.{inr, refl}
-use Rattle.gix_refspec.specs.Spec.{reading_of}
+use Rattle.gix_refspec.specs.Views.Spec.{reading_of}
 use Rattle.refspec_c.proofs.SingleLemmas.{compared}
 use Rattle.refspec_c.proofs.single.compare.Goals as goal
 

@@ -1,7 +1,7 @@
 -- What is put into the buffer is the canonical text.
 use Rattle.std.proofs.Common.{Some, inr, refl, ap, sym, ◌∙◌}
 use Rattle.std.proofs.lemmas.Result.{on_ok_weaker}
-use Rattle.gix_refspec.specs.Spec.{reading_of}
+use Rattle.gix_refspec.specs.Views.Spec.{reading_of}
 use Rattle.refspec_c.specs.Single.{IsCanonical, IsUnprinted}
 use Rattle.refspec_c.proofs.SingleLemmas.{too_small}
 use Rattle.refspec_c.proofs.single.print.Goals as goal

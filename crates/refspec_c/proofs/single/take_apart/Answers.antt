@@ -1,6 +1,6 @@
 -- The parts are those of the instruction, which is the meaning of the reading.
-use Rattle.gix_refspec.specs.Spec.{reading_of}
-use Rattle.gix_refspec.specs.Views.{shown}
+use Rattle.gix_refspec.specs.Views.Spec.{reading_of}
+use Rattle.gix_refspec.specs.Views.Instruction.{shown}
 use Rattle.refspec_c.proofs.single.take_apart.Goals as goal
 
 pub returns-clause-ok : goal.returns-clause-ok

@@ -1,9 +1,9 @@
 -- What is asked for is enough, by the law.
 use Rattle.std.proofs.Common.{◌≡◌, map, ap}
 use Rattle.bstr.specs.Owned.{bstring_bytes}
-use Rattle.gix_refspec.specs.Spec.{reading_of}
-use Rattle.gix_refspec.specs.Group.{readings_of}
-use Rattle.gix_refspec.specs.Issue.{mappings_of}
+use Rattle.gix_refspec.specs.Views.Spec.{reading_of}
+use Rattle.gix_refspec.specs.Views.Group.{readings_of}
+use Rattle.gix_refspec.specs.Views.Issue.{mappings_of}
 use Rattle.refspec_client.specs.Planned.{fetch_readings}
 use Rattle.refspec_client.proofs.AskingLemmas.{are_fetches}
 use Rattle.refspec_client.proofs.asking.match_asked.Goals as goal

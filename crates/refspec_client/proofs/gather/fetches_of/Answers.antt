@@ -2,7 +2,7 @@
 use Rattle.std.proofs.Common.{◌∙◌}
 use Rattle.std.proofs.lemmas.Result.{IfOk-weaker}
 use Rattle.std.proofs.lemmas.Iterator.Adapters.{YieldsList-from_vec}
-use Rattle.gix_refspec.proofs.GatherLemmas.{gathered}
+use Rattle.gix_refspec.proofs.lemmas.hits.GatherLemmas.{gathered}
 use Rattle.refspec_client.proofs.gather.fetches_of.Goals as goal
 
 pub returns : goal.returns

@@ -5,7 +5,7 @@ use Rattle.std.specs.Result.{result_ok}
 use Rattle.std.proofs.lemmas.Result.{IfOk-weaker}
 use Rattle.std.proofs.lemmas.Iterator.{YieldsList-from_slice}
 use Rattle.std.proofs.lemmas.Iterator.Consumers.{YieldsList-from_filter_map}
-use Rattle.gix_refspec.proofs.GatherLemmas.{gathered}
+use Rattle.gix_refspec.proofs.lemmas.hits.GatherLemmas.{gathered}
 use Rattle.refspec_client.specs.Claims.{specs_read}
 use Rattle.refspec_client.proofs.gather.fetches_read.Goals as goal
 

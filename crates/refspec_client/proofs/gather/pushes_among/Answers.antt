@@ -2,7 +2,7 @@
 use Rattle.std.proofs.lemmas.Result.{IfOk-weaker}
 use Rattle.std.proofs.lemmas.Iterator.{YieldsList-from_slice}
 use Rattle.std.proofs.lemmas.Iterator.Consumers.{YieldsList-from_copied}
-use Rattle.gix_refspec.proofs.GatherLemmas.{gathered}
+use Rattle.gix_refspec.proofs.lemmas.hits.GatherLemmas.{gathered}
 use Rattle.refspec_client.proofs.gather.pushes_among.Goals as goal
 
 pub returns : goal.returns

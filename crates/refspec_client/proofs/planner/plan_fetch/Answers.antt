@@ -3,15 +3,15 @@ use Rattle.std.proofs.Common.{◌≡◌, ◌∙◌, inl, inr, ℕ, List, Option,
 use Rattle.std.specs.Prelude.{MatchOption}
 use Rattle.std.specs.List.{AllByRecursion, Contains}
 use Rattle.std.proofs.lemmas.List.Elements.{All-contains, All-from_recursion}
-use Rattle.gix_refspec.specs.Reading.{Reading}
-use Rattle.gix_refspec.specs.Spec.{reading_of}
-use Rattle.gix_refspec.specs.Mappings.{Mapped, IsStartExcluded}
-use Rattle.gix_refspec.specs.Group.{readings_of, ref_of}
-use Rattle.gix_refspec.specs.Issue.{mappings_of, removed_of}
-use Rattle.gix_refspec.specs.MatchLaws.{AtSpec}
-use Rattle.gix_refspec.specs.PlaceLaws.{MakesForwardOf}
-use Rattle.gix_refspec.specs.RefNames.{IsRefName, WritesRef, left_out_of}
-use Rattle.gix_refspec.specs.Validation.{IsValidated, IsWritable}
+use Rattle.gix_refspec.specs.Specs.Reading.{Reading}
+use Rattle.gix_refspec.specs.Views.Spec.{reading_of}
+use Rattle.gix_refspec.specs.Matching.Mappings.{Mapped, IsStartExcluded}
+use Rattle.gix_refspec.specs.Views.Group.{readings_of, ref_of}
+use Rattle.gix_refspec.specs.Views.Issue.{mappings_of, removed_of}
+use Rattle.gix_refspec.specs.Laws.Matching.{AtSpec}
+use Rattle.gix_refspec.specs.Laws.Places.{MakesForwardOf}
+use Rattle.gix_refspec.specs.Matching.RefNames.{IsRefName, WritesRef, left_out_of}
+use Rattle.gix_refspec.specs.Matching.Validation.{IsValidated, IsWritable}
 use Rattle.refspec_client.specs.Planned.{IsPlan}
 use Rattle.refspec_client.proofs.planner.plan_fetch.Goals as goal
 

@@ -1,8 +1,8 @@
 -- The copy has the specs of the group.
 use Rattle.std.proofs.Common.{List, map, ap, subst}
-use Rattle.gix_refspec.specs.Reading.{Reading}
-use Rattle.gix_refspec.specs.Spec.{reading_of}
-use Rattle.gix_refspec.specs.Group.{mapped_of, ref_of}
+use Rattle.gix_refspec.specs.Specs.Reading.{Reading}
+use Rattle.gix_refspec.specs.Views.Spec.{reading_of}
+use Rattle.gix_refspec.specs.Views.Group.{mapped_of, ref_of}
 use Rattle.refspec_client.specs.Tracking.{TellsBranches}
 use Rattle.refspec_client.proofs.tracking.there_and_back.Goals as goal
 

@@ -1,10 +1,10 @@
 -- What the line reads as is what its text is read as; an error that isn't want of memory is a reason.
 use Rattle.std.proofs.Common.{◌≡◌, List, ℕ, subst, sym, ◌∙◌}
 use Rattle.std.proofs.lemmas.Bool.{false≢true}
-use Rattle.gix_refspec.specs.Grammar.{Reads}
-use Rattle.gix_refspec.specs.Refusal.{IsRefused}
-use Rattle.gix_refspec.specs.Spec.{reading_of}
-use Rattle.gix_refspec.specs.Views.{ShowsRefusal}
+use Rattle.gix_refspec.specs.Specs.Grammar.{Reads}
+use Rattle.gix_refspec.specs.Specs.Refusal.{IsRefused}
+use Rattle.gix_refspec.specs.Views.Spec.{reading_of}
+use Rattle.gix_refspec.specs.Views.Instruction.{ShowsRefusal}
 use Rattle.gix_refspec.specs.declared.parsing.Error.TheVariants as error
 use Rattle.refspec_map.proofs.canon.answer_to.Goals as goal
 use Rattle.refspec_map.proofs.canon.answer_to.Goals.{in-Memory, in_default}

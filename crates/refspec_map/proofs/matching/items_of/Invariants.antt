@@ -1,5 +1,5 @@
 use Rattle.std.proofs.Common.{◌≡◌, map, take}
-use Rattle.gix_refspec.specs.Group.{ref_of}
+use Rattle.gix_refspec.specs.Views.Group.{ref_of}
 use Rattle.refspec_map.specs.Told.{told}
 use Rattle.refspec_map.proofs.matching.items_of.Given as goal
 

@@ -1,7 +1,7 @@
 -- What is written for the names of refs is written for the refs.
 use Rattle.std.proofs.Common.{map, refl}
-use Rattle.gix_refspec.specs.Spec.{reading_of}
-use Rattle.gix_refspec.specs.Hits.{AreKeptForward}
+use Rattle.gix_refspec.specs.Views.Spec.{reading_of}
+use Rattle.gix_refspec.specs.Matching.Hits.{AreKeptForward}
 use Rattle.refspec_map.specs.Matching.{AreMapLines}
 use Rattle.refspec_map.proofs.MatchingLemmas.{AreMapLines-of, IsMatching-named, map_lines_by_name}
 use Rattle.refspec_map.proofs.matching.lhs_lines.Goals as goal

@@ -1,7 +1,7 @@
 -- What is written for the items of refs is written for the refs.
 use Rattle.std.proofs.Common.{map}
-use Rattle.gix_refspec.specs.Spec.{reading_of}
-use Rattle.gix_refspec.specs.Hits.{AreKeptBackward}
+use Rattle.gix_refspec.specs.Views.Spec.{reading_of}
+use Rattle.gix_refspec.specs.Matching.Hits.{AreKeptBackward}
 use Rattle.refspec_map.specs.Matching.{AreMapLines}
 use Rattle.refspec_map.proofs.MatchingLemmas.{AreMapLines-of, IsMatching-of}
 use Rattle.refspec_map.proofs.matching.rhs_lines.Goals as goal

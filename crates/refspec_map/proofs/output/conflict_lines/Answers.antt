@@ -1,6 +1,6 @@
 -- Each turn puts one line behind the others.
 use Rattle.std.proofs.Common.{◌<◌, length, arith}
-use Rattle.gix_refspec.specs.Issue.{conflict_of}
+use Rattle.gix_refspec.specs.Views.Issue.{conflict_of}
 use Rattle.refspec_map.specs.Plan.{conflict_line}
 use Rattle.refspec_map.proofs.MatchingLemmas.{lines_more, on_success}
 use Rattle.refspec_map.proofs.output.conflict_lines.Goals as goal

@@ -1,5 +1,5 @@
 use Rattle.std.proofs.Common.{◌≡◌, map, take, flat_map}
-use Rattle.gix_refspec.specs.Issue.{conflict_of}
+use Rattle.gix_refspec.specs.Views.Issue.{conflict_of}
 use Rattle.refspec_map.specs.Plan.{conflict_line}
 use Rattle.refspec_map.proofs.output.conflict_lines.Given as goal
 

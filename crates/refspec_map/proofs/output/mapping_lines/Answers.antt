@@ -1,6 +1,6 @@
 -- Each turn puts one line behind the others.
 use Rattle.std.proofs.Common.{◌<◌, length, arith}
-use Rattle.gix_refspec.specs.Group.{mapped_of}
+use Rattle.gix_refspec.specs.Views.Group.{mapped_of}
 use Rattle.refspec_map.specs.Matching.{map_line}
 use Rattle.refspec_map.proofs.MatchingLemmas.{lines_more, on_success}
 use Rattle.refspec_map.proofs.output.mapping_lines.Goals as goal

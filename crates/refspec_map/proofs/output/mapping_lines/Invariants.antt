@@ -1,5 +1,5 @@
 use Rattle.std.proofs.Common.{◌≡◌, map, take, flat_map}
-use Rattle.gix_refspec.specs.Group.{mapped_of}
+use Rattle.gix_refspec.specs.Views.Group.{mapped_of}
 use Rattle.refspec_map.specs.Matching.{map_line}
 use Rattle.refspec_map.proofs.output.mapping_lines.Given as goal
 

@@ -1,5 +1,5 @@
 use Rattle.std.proofs.Common.{map, take}
-use Rattle.gix_refspec.specs.Issue.{removed_of}
+use Rattle.gix_refspec.specs.Views.Issue.{removed_of}
 use Rattle.refspec_map.specs.Plan.{PutsFixes}
 use Rattle.refspec_map.proofs.output.put_fixes.Given as goal
 

@@ -7,7 +7,7 @@ use Rattle.std.proofs.lemmas.Fn.{fronts}
 use Rattle.std.proofs.lemmas.Iterator.{zips}
 use Rattle.std.proofs.lemmas.Slice.Zip.{Zip-more, either_empty_from_Zip}
 use Rattle.bstr.specs.Owned.{bstring_bytes}
-use Rattle.gix_refspec.specs.Group.{start_of}
+use Rattle.gix_refspec.specs.Views.Group.{start_of}
 use Rattle.refspec_map.specs.Plan.{claim_text}
 use Rattle.refspec_map.proofs.PlanLemmas.{claims_of}
 use Rattle.refspec_map.proofs.output.write_claims.Goals as goal

@@ -3,10 +3,10 @@ use Rattle.std.proofs.Common.{◌≡◌, [], ◌∷◌, ◌++◌, ◌+◌, Vec, 
 use Rattle.std.specs.List.{AllByRecursion}
 use Rattle.std.proofs.lemmas.List.{map-append}
 use Rattle.gix_refspec.specs.declared.match_group.names.BadMapping.{BadMapping}
-use Rattle.gix_refspec.specs.Group.{mapped_of}
-use Rattle.gix_refspec.specs.RefNames.{AreLeftOut, IsLeftOut, IsNamed, left_out_of}
-use Rattle.gix_refspec.proofs.ValidationLemmas.{nothing_more, one_more}
-use Rattle.gix_refspec.proofs.RefNameLemmas.{bad_unnamed, copied_mapping, some_unnamed}
+use Rattle.gix_refspec.specs.Views.Group.{mapped_of}
+use Rattle.gix_refspec.specs.Matching.RefNames.{AreLeftOut, IsLeftOut, IsNamed, left_out_of}
+use Rattle.gix_refspec.proofs.lemmas.validate.ValidationLemmas.{nothing_more, one_more}
+use Rattle.gix_refspec.proofs.lemmas.validate.RefNameLemmas.{bad_unnamed, copied_mapping, some_unnamed}
 use Rattle.gix_refspec.proofs.match_group.names.bad_mappings.Goals as goal
 use Rattle.gix_refspec.proofs.match_group.names.bad_mappings.Goals.{in-Some+in_ok-clone+in_ok-push, in_default}
 

@@ -1,7 +1,7 @@
 -- of the mappings so far, those of which a side is bad are there
 use Rattle.std.proofs.Common.{map, take}
-use Rattle.gix_refspec.specs.Group.{mapped_of}
-use Rattle.gix_refspec.specs.RefNames.{AreLeftOut, left_out_of}
+use Rattle.gix_refspec.specs.Views.Group.{mapped_of}
+use Rattle.gix_refspec.specs.Matching.RefNames.{AreLeftOut, left_out_of}
 use Rattle.gix_refspec.proofs.match_group.names.bad_mappings.Given as goal
 
 abbrev pub invariant-loop-mapping : goal.invariant-loop-mapping

@@ -4,12 +4,12 @@ use Rattle.std.proofs.lemmas.Bool.{false≢true}
 use Rattle.std.proofs.lemmas.List.{map-append}
 use Rattle.gix_refspec.specs.declared.match_group.validate.Fix.{Fix}
 use Rattle.gix_refspec.specs.declared.match_group.validate.Fix.TheVariants as fix
-use Rattle.gix_refspec.specs.Spec.{reading_of}
-use Rattle.gix_refspec.specs.Group.{mapped_of}
-use Rattle.gix_refspec.specs.Validation.{AreFixes, IsFix}
-use Rattle.gix_refspec.specs.Issue.{removed_of}
-use Rattle.gix_refspec.proofs.ConflictLemmas.{spec_fits}
-use Rattle.gix_refspec.proofs.ValidationLemmas.{fix_of, no_fix_nowhere, no_fix_written, nothing_more, one_more}
+use Rattle.gix_refspec.specs.Views.Spec.{reading_of}
+use Rattle.gix_refspec.specs.Views.Group.{mapped_of}
+use Rattle.gix_refspec.specs.Matching.Validation.{AreFixes, IsFix}
+use Rattle.gix_refspec.specs.Views.Issue.{removed_of}
+use Rattle.gix_refspec.proofs.lemmas.validate.ConflictLemmas.{spec_fits}
+use Rattle.gix_refspec.proofs.lemmas.validate.ValidationLemmas.{fix_of, no_fix_nowhere, no_fix_written, nothing_more, one_more}
 use Rattle.gix_refspec.proofs.match_group.validate.fixes_of.Goals as goal
 use Rattle.gix_refspec.proofs.match_group.validate.fixes_of.Goals.{in-Some+then-not-is_writable+in_ok-from_slice+in_ok-to_owned+in_ok-push, in-Some+else-not-is_writable, in_default}
 

@@ -1,9 +1,9 @@
 -- the mappings so far have their fixes
 use Rattle.std.proofs.Common.{map, take}
-use Rattle.gix_refspec.specs.Spec.{reading_of}
-use Rattle.gix_refspec.specs.Group.{mapped_of}
-use Rattle.gix_refspec.specs.Validation.{AreFixes}
-use Rattle.gix_refspec.specs.Issue.{removed_of}
+use Rattle.gix_refspec.specs.Views.Spec.{reading_of}
+use Rattle.gix_refspec.specs.Views.Group.{mapped_of}
+use Rattle.gix_refspec.specs.Matching.Validation.{AreFixes}
+use Rattle.gix_refspec.specs.Views.Issue.{removed_of}
 use Rattle.gix_refspec.proofs.match_group.validate.fixes_of.Given as goal
 
 abbrev pub invariant-loop-mapping : goal.invariant-loop-mapping

@@ -2,7 +2,7 @@
 use Rattle.std.proofs.Common.{ℕ, ◌-◌, ltb, cond, bit_or, bit_and, arith}
 use Rattle.std.proofs.lemmas.Simd.{zip2_splat, length-chunk}
 use lib.Lanes.{chunk}
-use Rattle.gix_refspec.proofs.CalmLemmas.{joined, from_splat, calm_from_lanes}
+use Rattle.gix_refspec.proofs.lemmas.texts.CalmLemmas.{joined, from_splat, calm_from_lanes}
 use Rattle.gix_refspec.proofs.name.calm.calm_run.Goals as goal
 
 pub returns : goal.returns

@@ -1,6 +1,6 @@
 use Rattle.std.proofs.Common.{arith, refl, ◌∙◌}
 use Rattle.std.proofs.lemmas.List.{length-set}
-use Rattle.gix_refspec.proofs.ObjectIdLemmas.{HasFault-pair, IsIdText-first, SpellsFirst-more, bytes_of-fits}
+use Rattle.gix_refspec.proofs.lemmas.texts.ObjectIdLemmas.{HasFault-pair, IsIdText-first, SpellsFirst-more, bytes_of-fits}
 use Rattle.gix_refspec.proofs.oid.ObjectId.from_hex.Goals as goal
 
 -- no digit is read yet

@@ -1,5 +1,5 @@
 use Rattle.std.proofs.Common.{◌≡◌, length}
-use Rattle.gix_refspec.proofs.ObjectIdLemmas.{SpellsFirst}
+use Rattle.gix_refspec.proofs.lemmas.texts.ObjectIdLemmas.{SpellsFirst}
 use Rattle.gix_refspec.proofs.oid.ObjectId.from_hex.Given as goal
 
 -- the digits so far are read

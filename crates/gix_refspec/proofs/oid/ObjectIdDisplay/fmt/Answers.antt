@@ -1,7 +1,7 @@
 use Rattle.std.proofs.Common.{◌≡◌}
 use Rattle.std.specs.Str.{IsUtf8}
 use Rattle.hex.specs.Hex.{encode_lower}
-use Rattle.gix_refspec.proofs.ObjectIdLemmas.{IsOk-unless, IsUtf8-lower_of}
+use Rattle.gix_refspec.proofs.lemmas.texts.ObjectIdLemmas.{IsOk-unless, IsUtf8-lower_of}
 use Rattle.gix_refspec.proofs.oid.ObjectIdDisplay.fmt.Goals as goal
 
 -- the digits are ASCII

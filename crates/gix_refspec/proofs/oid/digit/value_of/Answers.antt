@@ -1,5 +1,5 @@
 use Rattle.std.proofs.Common.{arith}
-use Rattle.gix_refspec.proofs.DigitLemmas.{VALUES-none, VALUES-some}
+use Rattle.gix_refspec.proofs.lemmas.texts.DigitLemmas.{VALUES-none, VALUES-some}
 use Rattle.gix_refspec.proofs.oid.digit.value_of.Goals as goal
 
 pub returns-then-value-eq-NONE : goal.returns-then-value-eq-NONE

@@ -1,9 +1,9 @@
 -- Borrowed sides have the bytes of the owned ones, so they are accepted too.
 use Rattle.std.proofs.Common.{sym, subst}
-use Rattle.gix_refspec.specs.Reading.{Reading}
-use Rattle.gix_refspec.specs.Grammar.{IsAccepted}
-use Rattle.gix_refspec.specs.Views.{mode_of}
-use Rattle.gix_refspec.proofs.ReadsLemmas.{same_reading}
+use Rattle.gix_refspec.specs.Specs.Reading.{Reading}
+use Rattle.gix_refspec.specs.Specs.Grammar.{IsAccepted}
+use Rattle.gix_refspec.specs.Views.Instruction.{mode_of}
+use Rattle.gix_refspec.proofs.lemmas.parsing.ReadsLemmas.{same_reading}
 use Rattle.gix_refspec.proofs.spec.RefSpec.to_ref.Goals as goal
 
 pub invariant_of-result : goal.invariant_of-result

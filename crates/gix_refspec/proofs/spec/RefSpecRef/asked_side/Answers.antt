@@ -1,8 +1,8 @@
 -- No side of an accepted spec has several stars.
 use Rattle.std.proofs.Common.{rules}
-use Rattle.gix_refspec.specs.Prefix.{IsAsked}
-use Rattle.gix_refspec.specs.Spec.{reading_of}
-use Rattle.gix_refspec.proofs.AcceptedLemmas.{remote_few}
+use Rattle.gix_refspec.specs.Matching.Prefix.{IsAsked}
+use Rattle.gix_refspec.specs.Views.Spec.{reading_of}
+use Rattle.gix_refspec.proofs.lemmas.specs.AcceptedLemmas.{remote_few}
 use Rattle.gix_refspec.proofs.spec.RefSpecRef.asked_side.Goals as goal
 
 pub returns : goal.returns

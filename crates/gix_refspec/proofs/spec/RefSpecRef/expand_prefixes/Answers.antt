@@ -2,8 +2,8 @@
 use Rattle.std.proofs.Common.{inl, map, arith}
 use Rattle.std.proofs.lemmas.Result.{on_ok_weaker, on_err_weaker}
 use Rattle.bstr.specs.Owned.{bstring_bytes}
-use Rattle.gix_refspec.specs.Spec.{reading_of}
-use Rattle.gix_refspec.proofs.PrefixLemmas.{asked_nothing, on_any_error, no_entries, appended_ok}
+use Rattle.gix_refspec.specs.Views.Spec.{reading_of}
+use Rattle.gix_refspec.proofs.lemmas.prefixes.PrefixLemmas.{asked_nothing, on_any_error, no_entries, appended_ok}
 use Rattle.gix_refspec.proofs.spec.RefSpecRef.expand_prefixes.Goals as goal
 
 pub returns-clause-ok : goal.returns-clause-ok

@@ -1,6 +1,6 @@
 -- The side that a fetch asks for decides.
-use Rattle.gix_refspec.specs.Spec.{reading_of}
-use Rattle.gix_refspec.proofs.PremiseLemmas.{fetch_from_test, told_source}
+use Rattle.gix_refspec.specs.Views.Spec.{reading_of}
+use Rattle.gix_refspec.proofs.lemmas.hits.PremiseLemmas.{fetch_from_test, told_source}
 use Rattle.gix_refspec.proofs.spec.RefSpecRef.has_covering_source.Goals as goal
 
 pub returns-in-Some : goal.returns-in-Some

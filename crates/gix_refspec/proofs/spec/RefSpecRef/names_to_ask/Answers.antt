@@ -1,7 +1,7 @@
 -- the list of a positive spec is that of its side
 use Rattle.std.proofs.lemmas.Result.{IfOk-weaker}
-use Rattle.gix_refspec.specs.Spec.{reading_of}
-use Rattle.gix_refspec.proofs.AskedLemmas.{list_of_side}
+use Rattle.gix_refspec.specs.Views.Spec.{reading_of}
+use Rattle.gix_refspec.proofs.lemmas.prefixes.AskedLemmas.{list_of_side}
 use Rattle.gix_refspec.proofs.spec.RefSpecRef.names_to_ask.Goals as goal
 
 pub returns-clause-ok : goal.returns-clause-ok

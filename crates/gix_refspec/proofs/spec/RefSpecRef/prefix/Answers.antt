@@ -1,9 +1,9 @@
 -- The side that is asked for has no prefix.
 use Rattle.std.proofs.Common.{List, ℕ, subst, sym, MatchOption}
 use Rattle.bstr.specs.BStr.{bstr_bytes}
-use Rattle.gix_refspec.specs.Prefix.{HasPrefix, IsPrefix}
-use Rattle.gix_refspec.specs.Spec.{reading_of}
-use Rattle.gix_refspec.proofs.PrefixLemmas.{one_asked}
+use Rattle.gix_refspec.specs.Matching.Prefix.{HasPrefix, IsPrefix}
+use Rattle.gix_refspec.specs.Views.Spec.{reading_of}
+use Rattle.gix_refspec.proofs.lemmas.prefixes.PrefixLemmas.{one_asked}
 use Rattle.gix_refspec.proofs.spec.RefSpecRef.prefix.Goals as goal
 
 pub returns-in_err-prefix : goal.returns-in_err-prefix

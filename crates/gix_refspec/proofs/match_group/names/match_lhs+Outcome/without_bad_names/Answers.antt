@@ -1,9 +1,9 @@
 -- what the test keeps is named, and the others are listed
 use Rattle.std.proofs.Common.{List, map, refl, subst, rules}
 use Rattle.gix_refspec.specs.declared.match_group.types.Mapping.{Mapping}
-use Rattle.gix_refspec.specs.Group.{mapped_of}
-use Rattle.gix_refspec.specs.RefNames.{AreLeftOut, IsNamed, left_out_of}
-use Rattle.gix_refspec.proofs.ValidationLemmas.{filtered_so}
+use Rattle.gix_refspec.specs.Views.Group.{mapped_of}
+use Rattle.gix_refspec.specs.Matching.RefNames.{AreLeftOut, IsNamed, left_out_of}
+use Rattle.gix_refspec.proofs.lemmas.validate.ValidationLemmas.{filtered_so}
 use Rattle.gix_refspec.proofs.match_group.names.match_lhs+Outcome.without_bad_names.Goals as goal
 
 pub returns-clause-ok : goal.returns-clause-ok

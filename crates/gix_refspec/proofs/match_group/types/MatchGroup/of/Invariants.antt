@@ -1,7 +1,7 @@
 -- the group has the specs of the operation among those that were taken
 use Rattle.std.proofs.Common.{◌≡◌}
 use Rattle.std.specs.List.{filter}
-use Rattle.gix_refspec.specs.Group.{is_for}
+use Rattle.gix_refspec.specs.Views.Group.{is_for}
 use Rattle.gix_refspec.proofs.match_group.types.MatchGroup.of.Given as goal
 
 abbrev pub invariant-loop-spec : goal.invariant-loop-spec

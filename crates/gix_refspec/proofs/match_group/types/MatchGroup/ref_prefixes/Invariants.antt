@@ -1,8 +1,8 @@
 -- what there is to ask for for the specs so far
 use Rattle.std.proofs.Common.{map, take}
 use Rattle.bstr.specs.Owned.{bstring_bytes}
-use Rattle.gix_refspec.specs.Spec.{reading_of}
-use Rattle.gix_refspec.specs.Asked.{ListsGroup}
+use Rattle.gix_refspec.specs.Views.Spec.{reading_of}
+use Rattle.gix_refspec.specs.Matching.Asked.{ListsGroup}
 use Rattle.gix_refspec.proofs.match_group.types.MatchGroup.ref_prefixes.Given as goal
 
 abbrev pub invariant-loop-spec : goal.invariant-loop-spec

@@ -4,12 +4,12 @@ use Rattle.std.proofs.lemmas.Bool.{eqb-true}
 use Rattle.gix_refspec.specs.declared.match_group.types.Mapping.{Mapping}
 use Rattle.gix_refspec.specs.declared.match_group.validate.Issue.{Issue}
 use Rattle.gix_refspec.specs.declared.spec.RefSpecRef.{RefSpecRef}
-use Rattle.gix_refspec.specs.Spec.{reading_of}
-use Rattle.gix_refspec.specs.Group.{mapped_of}
-use Rattle.gix_refspec.specs.Validation.{AreConflicts, AreFixes, Survives}
-use Rattle.gix_refspec.specs.Issue.{conflict_of, removed_of}
-use Rattle.gix_refspec.proofs.KeptLemmas.{no_elements}
-use Rattle.gix_refspec.proofs.ValidationLemmas.{filtered_so}
+use Rattle.gix_refspec.specs.Views.Spec.{reading_of}
+use Rattle.gix_refspec.specs.Views.Group.{mapped_of}
+use Rattle.gix_refspec.specs.Matching.Validation.{AreConflicts, AreFixes, Survives}
+use Rattle.gix_refspec.specs.Views.Issue.{conflict_of, removed_of}
+use Rattle.gix_refspec.proofs.lemmas.keep.KeptLemmas.{no_elements}
+use Rattle.gix_refspec.proofs.lemmas.validate.ValidationLemmas.{filtered_so}
 use Rattle.gix_refspec.proofs.match_group.validate.match_lhs+Outcome.validated.Goals as goal
 
 pub returns-clause-ok : goal.returns-clause-ok

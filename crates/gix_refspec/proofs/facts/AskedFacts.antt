@@ -1,0 +1,125 @@
+-- The words on what a client asks a server for, at sides and groups like those of git-fetch(1), and what a caller
+-- concludes from them.
+use Rattle.std.proofs.Common.{◌≡◌, inl, inr, ℕ, zero, suc, List, [], ◌∷◌, ◌++◌, None, Some, codes, length, refl, sym, ap, subst, arith}
+use Rattle.std.specs.List.{Any}
+use Rattle.gix_refspec.specs.Texts.Bytes.{bracket, star}
+use Rattle.gix_refspec.specs.Texts.Words.{Begins}
+use Rattle.gix_refspec.specs.Specs.Reading.{Normal, Reading}
+use Rattle.gix_refspec.specs.Specs.Grammar.{fetched, pushed}
+use Rattle.gix_refspec.specs.Matching.Side.{pattern, partial, object, HasKind, candidates}
+use Rattle.gix_refspec.specs.Matching.Prefix.{TellsPrefix}
+use Rattle.gix_refspec.specs.Matching.Match.{Ref}
+use Rattle.gix_refspec.specs.Matching.Mappings.{Mapped}
+use Rattle.gix_refspec.specs.Matching.Hits.{AreKeptForward}
+use Rattle.gix_refspec.specs.Matching.Asked.{HasNoList, Lists, ListsGroup, ListsSide, Serves}
+use Rattle.gix_refspec.proofs.lemmas.prefixes.AskedLemmas.{list_as, no_list}
+use Rattle.gix_refspec.proofs.facts.ManualFacts.{Lacks-tested, other_length}
+use Rattle.gix_refspec.proofs.facts.MatchFacts.{blob_kind, cut_at_end, every, mapping, no_dev, other_byte, short_kind}
+use Rattle.gix_refspec.proofs.facts.PrefixFacts.{bracket_cut, suffix_cut, tells}
+use Rattle.gix_refspec.proofs.lemmas.prefixes.PrefixLemmas.{id_not_head, one_asked}
+use Rattle.gix_refspec.proofs.lemmas.texts.TextLemmas.{Lacks-here}
+
+below_heads : TellsPrefix (codes "refs/heads/") []
+below_heads = record {
+  below = record { after = codes "heads/"; here = refl };
+  further = other_length (codes "refs/heads/") (codes "refs/") (λ size. omega (arith, size));
+  first = Lacks-tested bracket (codes "refs/heads/") refl;
+  last = tt;
+}
+
+head_kind : HasKind (codes "HEAD") (partial (codes "HEAD"))
+head_kind = (
+  refl,
+  Lacks-tested star (codes "HEAD") refl,
+  (λ begins. other_byte 0 (codes "HEAD") (codes "refs/" ++ begins.after) (λ byte. omega (arith, byte)) begins.here),
+  (λ is. id_not_head (codes "HEAD") is.0 is.1 refl),
+)
+
+-- a pattern is asked for by what stands before its star, partial names and `HEAD` by their candidates, an id by nothing
+pub lists_of_sides : ListsSide (codes "refs/heads/*") (codes "refs/heads/" ∷ []) × ListsSide (codes "main") (candidates (codes "main")) × ListsSide (codes "HEAD") (candidates (codes "HEAD")) × ListsSide (codes "e69de29bb2d1d6434b8b29ae775ad8c2e48c5391") []
+lists_of_sides = (
+  record { kind = pattern (codes "refs/heads/") []; of = cut_at_end (codes "refs/heads/") refl; is = (below_heads, refl) },
+  record { kind = partial (codes "main"); of = short_kind; is = refl },
+  record { kind = partial (codes "HEAD"); of = head_kind; is = refl },
+  record { kind = object _; of = blob_kind; is = refl },
+)
+
+-- no list serves a star directly behind `refs/`, whatever follows it; `HEAD` alone doesn't serve `HEAD`
+pub no_lists_of_sides : (list : List (List ℕ)) → ¬ (ListsSide (codes "refs/*") list) × ¬ (ListsSide (codes "HEAD") (codes "HEAD" ∷ [])) × ¬ (ListsSide (codes "main") [])
+no_lists_of_sides list = (
+  no_list (codes "refs/*") (codes "refs/") [] (cut_at_end (codes "refs/") refl) ((tells.1 []).0) list,
+  (λ lists. let size : 1 ≡ 6 = ap length (list_as (codes "HEAD") (partial (codes "HEAD")) (codes "HEAD" ∷ []) head_kind lists) in omega (arith, size)),
+  (λ lists. let size : 0 ≡ 6 = ap length (list_as (codes "main") (partial (codes "main")) [] short_kind lists) in omega (arith, size)),
+)
+
+-- a `]` behind the star does no harm, but none serves a star behind one
+pub lists_at_brackets : ListsSide (codes "refs/a*/]") (codes "refs/a" ∷ []) × ((list : List (List ℕ)) → ¬ (ListsSide (codes "refs/a]*") list))
+lists_at_brackets = (
+  record {
+    kind = pattern (codes "refs/a") (codes "/]");
+    of = suffix_cut;
+    is = (
+      record {
+        below = record { after = codes "a"; here = refl };
+        further = other_length (codes "refs/a") (codes "refs/") (λ size. omega (arith, size));
+        first = Lacks-tested bracket (codes "refs/a") refl;
+        last = tt;
+      },
+      refl,
+    );
+  },
+  no_list (codes "refs/a]*") (codes "refs/a]") [] bracket_cut (λ tells. Lacks-here bracket (codes "refs/a") [] tells.first),
+)
+
+every_lists : Lists every (codes "refs/heads/" ∷ [])
+every_lists = inr (codes "refs/heads/*", record { positive = tt; side = refl }, lists_of_sides.0)
+
+-- a negative spec is asked for by nothing, and a push without a destination has no list
+pub lists_of_specs : Lists every (codes "refs/heads/" ∷ []) × Lists no_dev [] × ((list : List (List ℕ)) → ¬ (Lists (pushed Normal (Some (codes "main")) None) list))
+lists_of_specs = (every_lists, inl (refl, refl), none)
+  where
+    none : (list : List (List ℕ)) → ¬ (Lists (pushed Normal (Some (codes "main")) None) list)
+    none list lists = elim lists [
+      | inl negative ↦ let same = negative.0 in absurd (cc)
+      | inr asked ↦ let missing = asked.1.side in absurd (cc)
+    ]
+
+-- the lists of a group stand one behind the other, in order
+pub lists_of_groups : ListsGroup (fetched Normal (codes "main") None ∷ no_dev ∷ every ∷ []) (candidates (codes "main") ++ codes "refs/heads/" ∷ [])
+lists_of_groups = (
+  candidates (codes "main"),
+  codes "refs/heads/" ∷ [],
+  inr (codes "main", record { positive = tt; side = refl }, lists_of_sides.1),
+  ([], codes "refs/heads/" ∷ [], lists_of_specs.1, (codes "refs/heads/" ∷ [], [], every_lists, refl, refl), refl),
+  refl,
+)
+
+-- one side without a list is enough
+pub none_for_all : HasNoList (every ∷ fetched Normal (codes "refs/*") (Some (codes "refs/x/*")) ∷ []) × ¬ (HasNoList (every ∷ []))
+none_for_all = (
+  (
+    1,
+    fetched Normal (codes "refs/*") (Some (codes "refs/x/*")),
+    omega arith,
+    refl,
+    λ list lists. elim lists [
+      | inl negative ↦ let same = negative.0 in absurd (cc)
+      | inr asked ↦ (no_lists_of_sides list).0 (subst (λ (x : List ℕ). ListsSide x list) (one_asked (fetched Normal (codes "refs/*") (Some (codes "refs/x/*"))) asked.0 (codes "refs/*") asked.1 (record { positive = tt; side = refl })) asked.2)
+    ],
+  ),
+  (λ none. only none),
+)
+  where
+    only : ¬ (HasNoList (every ∷ []))
+    only (zero, r, below, here, missing) = missing (codes "refs/heads/" ∷ []) (subst (λ (q : Reading). Lists q (codes "refs/heads/" ∷ [])) here every_lists)
+    only (suc i, r, below, here, missing) = absurd (omega (arith, below))
+
+-- where the list serves, no tag is a source, over whatever items
+pub no_tag_served : Serves (codes "refs/heads/" ∷ []) (every ∷ []) → (items : List Ref) (d : ℕ) (rest : List Mapped) → ¬ (AreKeptForward (every ∷ []) items (mapping 0 (codes "refs/tags/v1") None d ∷ rest))
+no_tag_served serves items d rest are = one ((serves (refl, tt) items (mapping 0 (codes "refs/tags/v1") None d ∷ rest) are).0 (codes "refs/tags/v1") refl)
+  where
+    one : ¬ (Any (λ p. Begins p (codes "refs/tags/v1")) (codes "refs/heads/" ∷ []))
+    one (zero, p, below, here, begins) =
+        let is = subst (λ (q : List ℕ). Begins q (codes "refs/tags/v1")) (sym here) begins in
+        other_byte 5 (codes "refs/tags/v1") (codes "refs/heads/" ++ is.after) (λ byte. omega (arith, byte)) is.here
+    one (suc i, p, below, here, begins) = absurd (omega (arith, below))

@@ -1,0 +1,188 @@
+-- What a clause reads of names, items, mappings, groups and issues, at values whose fields differ: so
+-- none is lost or taken for another.
+use Rattle.std.proofs.Common.{Option, ◌≡◌, ◌≢◌, ℕ, List, [], ◌∷◌, ◌++◌, None, Some, true, false, map, filter, option_map, length, replicate, Vec, Global, codes, refl, sym, ap, ap₂, ◌∙◌, arith}
+use Rattle.std.specs.Char.{encode_utf8}
+use Rattle.std.specs.Iterator.{YieldsFirst, Drains}
+use Rattle.bstr.specs.declared.bstring.BString.{BString}
+use Rattle.bstr.specs.Owned.{bstring_bytes}
+use Rattle.bstr.specs.Utf8.{pieces_from}
+use Rattle.gix_refspec.specs.declared.match_group.types.Item.{Item}
+use Rattle.gix_refspec.specs.declared.match_group.types.Mapping.{Mapping}
+use Rattle.gix_refspec.specs.declared.match_group.types.MatchGroup.{MatchGroup}
+use Rattle.gix_refspec.specs.declared.match_group.types.NameRef.{NameRef}
+use Rattle.gix_refspec.specs.declared.match_group.types.NameRef.TheVariants.{Borrowed, Owned}
+use Rattle.gix_refspec.specs.declared.match_group.types.SourceRef.{SourceRef}
+use Rattle.gix_refspec.specs.declared.match_group.types.SourceRef.TheVariants.{FullName, ObjectId as IdSource}
+use Rattle.gix_refspec.specs.declared.match_group.validate.Error.{Error}
+use Rattle.gix_refspec.specs.declared.match_group.validate.Fix.{Fix}
+use Rattle.gix_refspec.specs.declared.match_group.validate.Fix.TheVariants.{MappingWithPartialDestinationRemoved}
+use Rattle.gix_refspec.specs.declared.match_group.validate.Issue.{Issue}
+use Rattle.gix_refspec.specs.declared.match_group.validate.Issue.TheVariants as issue
+use Rattle.gix_refspec.specs.declared.match_group.validate.Refusal.TheVariants.{Conflicts, Memory}
+use Rattle.gix_refspec.specs.declared.oid.Kind.TheVariants.{Sha1}
+use Rattle.gix_refspec.specs.declared.oid.ObjectId.{ObjectId}
+use Rattle.gix_refspec.specs.declared.parsing.Operation.TheVariants.{Push, Fetch}
+use Rattle.gix_refspec.specs.declared.spec.RefSpec.{accepted-type}
+use Rattle.gix_refspec.specs.declared.spec.RefSpecRef.{RefSpecRef}
+use Rattle.gix_refspec.specs.declared.types.Mode.TheVariants as mode
+use Rattle.gix_refspec.specs.Specs.Reading.{Normal, Forced}
+use Rattle.gix_refspec.specs.Specs.Grammar.{fetched, pushed}
+use Rattle.gix_refspec.specs.Specs.Meaning.{fetch_only, push_matching}
+use Rattle.gix_refspec.specs.Views.Spec.{reading_of}
+use Rattle.gix_refspec.specs.Matching.Mappings.{name, id}
+use Rattle.gix_refspec.specs.Matching.Validation.{Conflict}
+use Rattle.gix_refspec.specs.Views.Group.{name_bytes, start_of, mapped_of, ref_of, readings_of, is_for, is_same_operation, IsGathered, shown_source}
+use Rattle.gix_refspec.specs.Views.Issue.{ForwardOutcome, mappings_of, conflict_of, conflicts_of, removed_of, IsSameFix, IfConflicts, IfMemory}
+use Rattle.gix_refspec.proofs.facts.MatchFacts.{mapping}
+use Rattle.gix_refspec.proofs.facts.ObjectIdFacts.{empty_blob, lower_of-empty_blob}
+use Rattle.gix_refspec.proofs.facts.ViewFacts.{lent, Accepted, spec_of, owned_of, blob_id}
+
+-- ---- names and sources
+
+-- a name that is lent
+abbrev lent_name : List ℕ → NameRef
+lent_name x = Borrowed (lent x)
+
+-- a borrowed and an owned name are seen alike
+pub names_seen : (o : BString) → bstring_bytes o ≡ codes "main" → (name_bytes (lent_name (codes "main")) ≡ codes "main") × (name_bytes (Owned o) ≡ codes "main")
+names_seen o is = (refl, is)
+
+-- a name begins a mapping as a name, and an id as an id: a name with the bytes of an id isn't one
+pub starts : (start_of (FullName (lent_name (codes "refs/heads/main"))) ≡ name (codes "refs/heads/main")) × (start_of (IdSource blob_id) ≡ id empty_blob) × (start_of (FullName (lent_name empty_blob)) ≢ start_of (IdSource blob_id))
+starts = (refl, refl, λ same. cc)
+
+-- an id is printed in lower case
+pub id_shown : shown_source (IdSource blob_id) ≡ codes "e69de29bb2d1d6434b8b29ae775ad8c2e48c5391"
+id_shown = lower_of-empty_blob
+
+-- a name is printed as it is where it is UTF-8, like `a` with two dots, and U+FFFD stands for a byte that isn't
+pub name_shown : (shown_source (FullName (lent_name (0xC3 ∷ 0xA4 ∷ []))) ≡ 0xC3 ∷ 0xA4 ∷ []) × (shown_source (FullName (lent_name (codes "a" ++ 0xFF ∷ codes "b"))) ≡ codes "a" ++ 239 ∷ 191 ∷ 189 ∷ codes "b")
+unfolding pieces_from encode_utf8
+name_shown = (refl, refl)
+
+-- ---- items, mappings and groups
+
+-- another id
+abbrev tag_id : ObjectId
+tag_id = record { kind = Sha1; buffer = replicate 32 1 }
+
+abbrev item_of : ObjectId → Option ObjectId → Item
+item_of target object = record { full_ref_name = lent (codes "refs/tags/v1"); target = record { ref_ptr = (0, 0); now = target }; object = option_map (λ o. record { ref_ptr = (0, 0); now = o }) object }
+
+-- the object of a tag isn't its target, and may be missing
+pub items_seen : (ref_of (item_of tag_id (Some blob_id)) ≡ record { name = codes "refs/tags/v1"; target = replicate 20 1; object = Some empty_blob }) × (ref_of (item_of blob_id None) ≡ record { name = codes "refs/tags/v1"; target = empty_blob; object = None })
+items_seen = (refl, refl)
+
+abbrev branch : Mapping
+branch = record { item_index = Some 3; lhs = FullName (lent_name (codes "refs/heads/a")); rhs = Some (lent_name (codes "refs/x/a")); spec_index = 5 }
+
+abbrev object : Mapping
+object = record { item_index = None; lhs = IdSource blob_id; rhs = None; spec_index = 1 }
+
+-- the places of the item and of the spec aren't swapped, nor the source and the destination
+pub mappings_seen : (mapped_of branch ≡ mapping 3 (codes "refs/heads/a") (Some (codes "refs/x/a")) 5) × (mapped_of object ≡ record { item = None; source = id empty_blob; destination = None; spec = 1 })
+mappings_seen = (refl, refl)
+
+-- those of an outcome are seen in order
+pub outcome_seen : (o : ForwardOutcome) → o.mappings.items ≡ branch ∷ object ∷ [] → mappings_of o ≡ mapping 3 (codes "refs/heads/a") (Some (codes "refs/x/a")) 5 ∷ record { item = None; source = id empty_blob; destination = None; spec = 1 } ∷ []
+outcome_seen o are = ap (map mapped_of) are
+
+-- an operation is the same as itself alone
+pub operations_apart : is_same_operation Push Push ∷ is_same_operation Push Fetch ∷ is_same_operation Fetch Push ∷ is_same_operation Fetch Fetch ∷ [] ≡ true ∷ false ∷ false ∷ true ∷ []
+operations_apart = refl
+
+-- a list gives its elements, and then no more
+abbrev Gathers : List RefSpecRef → MatchGroup → Type 0
+Gathers = IsGathered (λ source it. it ≡ source) (YieldsFirst (λ rest. rest)) Fetch
+
+-- and no others
+given : (it all : List RefSpecRef) → Drains (YieldsFirst (λ rest. rest)) it all → all ≡ it
+given it [] (_, (_, same, none)) = sym (same ∙ none.0)
+given it (x ∷ xs) (last, (before, (rest, first, later), none)) = ap (λ (ys : List RefSpecRef). x ∷ ys) (given rest xs (last, (before, later, none))) ∙ sym first
+
+module _
+    (a : Accepted Fetch mode.Normal (Some (codes "a")) None)
+    (b : Accepted Push mode.Normal (Some (codes "b")) None)
+    (c : Accepted Fetch mode.Force (Some (codes "c")) (Some (codes "d")))
+  where
+    -- a fetch of `a`, a push of `b`, and a fetch of `c` to `d`
+    abbrev all_specs : List RefSpecRef
+    all_specs = spec_of Fetch mode.Normal (Some (codes "a")) None a ∷ spec_of Push mode.Normal (Some (codes "b")) None b ∷ spec_of Fetch mode.Force (Some (codes "c")) (Some (codes "d")) c ∷ []
+
+    abbrev fetches : List RefSpecRef
+    fetches = spec_of Fetch mode.Normal (Some (codes "a")) None a ∷ spec_of Fetch mode.Force (Some (codes "c")) (Some (codes "d")) c ∷ []
+
+    -- a spec is for its own operation alone
+    pub own_operation : (map (is_for Fetch) all_specs ≡ true ∷ false ∷ true ∷ []) × (map (is_for Push) all_specs ≡ false ∷ true ∷ false ∷ [])
+    own_operation = (refl, refl)
+
+    -- the readings of a group are in the order of its specs
+    pub group_seen : (g : MatchGroup) → g.specs.items ≡ all_specs → readings_of g ≡ fetched Normal (codes "a") None ∷ pushed Normal (Some (codes "b")) None ∷ fetched Forced (codes "c") (Some (codes "d")) ∷ []
+    group_seen g are = ap (map reading_of) are
+
+    -- of these a group of fetches takes the two fetches, in order
+    pub gathers_fetches : (g : MatchGroup) → g.specs.items ≡ fetches → Gathers all_specs g
+    gathers_fetches g are = record { iterator = all_specs; all = all_specs; made = refl; given = ([], ([], (_, refl, (_, refl, (_, refl, refl))), (refl, refl))); specs = are }
+
+    -- and nothing else: not one alone, nor both in the other order, nor all three
+    pub gathers_no_other : (g : MatchGroup) → Gathers all_specs g → g.specs.items ≡ fetches
+    gathers_no_other g gathered = gathered.specs ∙ ap (filter (is_for Fetch)) (given gathered.iterator gathered.all gathered.given ∙ gathered.made)
+
+    pub gathers_not_all : (g : MatchGroup) → g.specs.items ≡ all_specs → ¬ (Gathers all_specs g)
+    gathers_not_all g are gathered = let same : 3 ≡ 2 = ap length (sym are ∙ gathers_no_other g gathered) in omega (arith, same)
+
+-- ---- conflicts
+
+-- the sources of a conflict and the texts of specs are in order, and none is taken for another
+pub conflict_seen : (d t u : BString) (sources : Vec SourceRef Global) (texts : Vec BString Global) → sources.items ≡ FullName (lent_name (codes "refs/heads/a")) ∷ IdSource blob_id ∷ [] → texts.items ≡ t ∷ u ∷ []
+    → conflict_of (issue.Conflict d sources texts) ≡ record { destination = bstring_bytes d; sources = name (codes "refs/heads/a") ∷ id empty_blob ∷ []; texts = bstring_bytes t ∷ bstring_bytes u ∷ [] }
+conflict_seen d t u sources texts come say = ap₂ (λ (xs : List SourceRef) (ys : List BString). the_conflict xs ys) come say
+  where
+    the_conflict : List SourceRef → List BString → Conflict
+    the_conflict xs ys = record { destination = bstring_bytes d; sources = map start_of xs; texts = map bstring_bytes ys }
+
+-- all issues of an error are conflicts, in order
+pub conflicts_seen : (e : Error) (i j : Issue) → e.issues.items ≡ i ∷ j ∷ [] → conflicts_of e ≡ conflict_of i ∷ conflict_of j ∷ []
+conflicts_seen e i j are = ap (map conflict_of) are
+
+-- a claim about conflicts is one about the error's, and a claim about the outcome one about what is handed back
+pub claims : (e : Error) (o : ForwardOutcome) (P : List Conflict → Type 0) (Q : ForwardOutcome → Type 0)
+    → (IfConflicts (Conflicts e) P → P (conflicts_of e)) × (P (conflicts_of e) → IfConflicts (Conflicts e) P) × (IfMemory (Memory o) Q → Q o) × (Q o → IfMemory (Memory o) Q)
+claims e o P Q = ((λ is. is), (λ is. is), (λ is. is), λ is. is)
+
+-- nothing is claimed where the other is the reason
+pub no_claims : (e : Error) (o : ForwardOutcome) → IfConflicts (Memory o) (λ conflicts. ⊥) × IfMemory (Conflicts e) (λ outcome. ⊥)
+no_claims e o = (tt, tt)
+
+-- ---- fixes
+
+module _
+    (n m o : BString)
+    (alone : accepted-type Fetch mode.Normal (Some o) None)
+    (forced : accepted-type Fetch mode.Force (Some o) None)
+    (same_name : accepted-type Push mode.Normal (Some o) None)
+  where
+    -- fixes that removed a mapping of a fetch, forced or not, or of a push
+    abbrev fix : BString → Fix
+    fix d = MappingWithPartialDestinationRemoved d (owned_of Fetch mode.Normal (Some o) None alone)
+
+    abbrev forced_fix : Fix
+    forced_fix = MappingWithPartialDestinationRemoved n (owned_of Fetch mode.Force (Some o) None forced)
+
+    abbrev push_fix : Fix
+    push_fix = MappingWithPartialDestinationRemoved n (owned_of Push mode.Normal (Some o) None same_name)
+
+    -- the destination is seen, and the spec as it was read
+    pub fix_seen : removed_of forced_fix ≡ record { destination = bstring_bytes n; spec = fetched Forced (bstring_bytes o) None }
+    fix_seen = refl
+
+    -- fixes are the same where their specs only mean the same, and where the bytes of the destinations are equal
+    pub same_fixes : IsSameFix forced_fix (fix n) × (bstring_bytes n ≡ bstring_bytes m → IsSameFix (fix n) (fix m))
+    same_fixes = (record { destination = refl; spec = refl }, λ same. record { destination = same; spec = refl })
+
+    -- and differ where these mean something else, or another destination was removed
+    pub other_fixes : ¬ (IsSameFix (fix n) push_fix) × (bstring_bytes n ≢ bstring_bytes m → ¬ (IsSameFix (fix n) (fix m)))
+    other_fixes = ((λ same. other same.spec), λ differ same. differ same.destination)
+      where
+        other : Some (fetch_only (bstring_bytes o)) ≢ Some (push_matching (bstring_bytes o) (bstring_bytes o) false)
+        other same = cc

@@ -1,0 +1,289 @@
+-- Which items may be left out, and what a caller concludes from the laws on that.
+use Rattle.std.proofs.Common.{◌≡◌, ◌≢◌, inl, inr, ℕ, zero, suc, List, [], ◌∷◌, None, Some, codes, refl, sym, ap, subst, arith, Bool, true, false, map}
+use Rattle.std.specs.List.{filter, Any, Contains}
+use Rattle.gix_refspec.specs.declared.parsing.Operation.TheVariants.{Push, Fetch}
+use Rattle.bstr.specs.BStr.{bstr_bytes}
+use Rattle.std.proofs.lemmas.Bool.{false≢true}
+use Rattle.gix_refspec.specs.declared.match_group.types.Item.{Item}
+use Rattle.gix_refspec.specs.Texts.Words.{Begins}
+use Rattle.gix_refspec.specs.Texts.Bytes.{head}
+use Rattle.gix_refspec.specs.Specs.Reading.{Normal, Reading}
+use Rattle.gix_refspec.specs.Specs.Grammar.{fetched, pushed}
+use Rattle.gix_refspec.specs.Matching.Side.{pattern, filled}
+use Rattle.gix_refspec.specs.Matching.Prefix.{to_prefix}
+use Rattle.gix_refspec.specs.Matching.Match.{Ref, HasName, Matches, Takes}
+use Rattle.gix_refspec.specs.Matching.Mappings.{name, Mapped, HasPair}
+use Rattle.gix_refspec.specs.Matching.Hits.{AreForwardEnds, AreBackwardEnds, Hit, AreKeptForward, AreKeptBackward}
+use Rattle.gix_refspec.specs.Views.Group.{ref_of}
+use Rattle.gix_refspec.specs.Laws.Matching.{HasCoveringSource, IsCovering, BeginsWithOne, IsCoveredBy, AreExpansions, MakesForward}
+use Rattle.gix_refspec.specs.Laws.Items.{AreAskedFor, ArePart, AskedItems, TakesItem, HasTaken, HaveSamePairs, FewerItems, FetchesHead, IsListed, AreListedItems, ListedItems, PassesTaken, FilteredItems, is_begun, FilteredByEntries, FilteredByList}
+use Rattle.gix_refspec.specs.Matching.Asked.{ListsGroup}
+use Rattle.gix_refspec.proofs.facts.AskedFacts.{lists_of_specs}
+use Rattle.gix_refspec.proofs.facts.CandidateFacts.{branch_and_tag, main_branch, main_tag, main_ends, main_to_x, takes_the_tag}
+use Rattle.gix_refspec.proofs.lemmas.prefixes.CoverLemmas.{joined_covers}
+use Rattle.gix_refspec.proofs.facts.FaultFacts.{begins_not}
+use Rattle.gix_refspec.proofs.lemmas.specs.FormsBackLemmas.{some_once}
+use Rattle.gix_refspec.proofs.facts.LawFacts.{below_heads, covering, not_covering}
+use Rattle.gix_refspec.proofs.facts.ManualFacts.{named, other_length}
+use Rattle.gix_refspec.proofs.facts.MatchFacts.{are_forward_ends, bytes_in, dev_ref, every, fetches_all_but_dev, forward_ends, main_ref, no_dev, origin_cut, other_byte, short, short_no_id, tag_ref, taken_by, takes_no_tag, tracked, tracks_all_but_dev}
+
+abbrev group : List Reading
+group = every ∷ no_dev ∷ []
+
+-- what the remote has, and the branches of that, each once and in another order
+abbrev all_refs : List Ref
+all_refs = dev_ref ∷ tag_ref ∷ main_ref ∷ main_ref ∷ []
+
+abbrev branches : List Ref
+branches = main_ref ∷ dev_ref ∷ []
+
+no_dev_main : dev_ref ≢ main_ref
+no_dev_main same = other_length _ _ (λ size. omega (arith, size)) (ap (λ (r : Ref). r.name) same)
+
+-- the branches are a part, and what isn't there is none
+pub branches_part : ArePart all_refs branches
+branches_part item (zero, below, is) = (2, omega arith, is)
+branches_part item (suc zero, below, is) = (0, omega arith, is)
+branches_part item (suc (suc k), below, is) = absurd (omega (arith, below))
+
+pub no_part : ¬ (ArePart (dev_ref ∷ []) branches) × ¬ (ArePart [] (main_ref ∷ []))
+no_part = ((λ part. other (part main_ref (0, omega arith, refl))), λ part. nowhere (part main_ref (0, omega arith, refl)))
+  where
+    other : ¬ (Contains (dev_ref ∷ []) main_ref)
+    other (zero, below, is) = no_dev_main is
+    other (suc k, below, is) = omega (arith, below)
+
+    nowhere : ¬ (Contains [] main_ref)
+    nowhere (k, below, is) = omega (arith, below)
+
+-- ---- what is taken
+
+-- the spec takes the branch and no tag, and a negative one takes nothing
+pub branch_taken : TakesItem AreForwardEnds (Takes all_refs) main_ref every
+branch_taken = let hit = taken_by all_refs 0 2 (codes "main") in record { ends = forward_ends; has = are_forward_ends; word = hit.word; takes = hit.takes }
+
+no_tag_taken : ¬ (TakesItem AreForwardEnds (Takes all_refs) tag_ref every)
+no_tag_taken taken =
+    let near : taken.ends.near ≡ codes "refs/heads/*" = sym (some_once (codes "refs/heads/*") taken.ends.near taken.has.near) in
+    let hit : Hit = record { spec = 0; item = 1; near = codes "refs/tags/v1"; far = Some (filled (pattern (codes "refs/remotes/origin/") []) taken.word) } in
+    takes_no_tag all_refs 1 hit (record {
+      word = taken.word;
+      takes = subst (λ (x : List ℕ). Takes all_refs x tag_ref taken.word) near taken.takes;
+      far = (pattern (codes "refs/remotes/origin/") [], origin_cut, refl);
+      near = refl;
+      spec = refl;
+      item = refl;
+    })
+
+pub others_not_taken : ¬ (TakesItem AreForwardEnds (Takes all_refs) tag_ref every) × ¬ (TakesItem AreForwardEnds (Takes all_refs) main_ref no_dev)
+others_not_taken = (no_tag_taken, λ taken. taken.has.positive)
+
+no_tag_by_some : ¬ (Any (TakesItem AreForwardEnds (Takes all_refs) tag_ref) group)
+no_tag_by_some (zero, r, below, is, taken) = no_tag_taken (subst (TakesItem AreForwardEnds (Takes all_refs) tag_ref) (sym is) taken)
+no_tag_by_some (suc zero, r, below, is, taken) = (subst (TakesItem AreForwardEnds (Takes all_refs) tag_ref) (sym is) taken).has.positive
+no_tag_by_some (suc (suc k), r, below, is, taken) = omega (arith, below)
+
+-- so the tag may be left out
+pub branches_enough : HasTaken AreForwardEnds (Takes all_refs) group all_refs branches
+branches_enough item (zero, below, is) taken = (1, omega arith, is)
+branches_enough item (suc zero, below, is) taken = absurd (no_tag_by_some (subst (λ (r : Ref). Any (TakesItem AreForwardEnds (Takes all_refs) r) group) (sym is) taken))
+branches_enough item (suc (suc zero), below, is) taken = (0, omega arith, is)
+branches_enough item (suc (suc (suc zero)), below, is) taken = (0, omega arith, is)
+branches_enough item (suc (suc (suc (suc k))), below, is) taken = absurd (omega (arith, below))
+
+-- of a branch and a tag of one name, a partial source takes the tag: so it may not be left out
+pub tag_wanted : ¬ (HasTaken AreForwardEnds (Takes branch_and_tag) (main_to_x ∷ []) branch_and_tag (main_branch ∷ []))
+tag_wanted has = other (has main_tag (1, omega arith, refl) (0, main_to_x, omega arith, refl, record { ends = main_ends; has = record { positive = tt; near = refl; far = refl; no_object = λ bytes kind. short_no_id bytes kind.2 }; word = None; takes = takes_the_tag.0 }))
+  where
+    other : ¬ (Contains (main_branch ∷ []) main_tag)
+    other (zero, below, is) = other_length _ _ (λ size. omega (arith, size)) (ap (λ (r : Ref). r.name) is)
+    other (suc k, below, is) = omega (arith, below)
+
+-- ---- pairs
+
+-- the same pairs, whatever the places and the order are
+pub same_pairs : HaveSamePairs (tracked 2 (codes "main") ∷ []) (tracked 5 (codes "main") ∷ tracked 3 (codes "main") ∷ []) × ¬ (HaveSamePairs (tracked 2 (codes "main") ∷ []) []) × ¬ (HaveSamePairs [] (tracked 2 (codes "main") ∷ []))
+same_pairs = (
+  (λ pair. ((λ has. to_others pair has), λ has. from_others pair has)),
+  (λ same. (same (tracked 2 (codes "main"))).0 (inl (record { source = refl; destination = refl }))),
+  λ same. (same (tracked 2 (codes "main"))).1 (inl (record { source = refl; destination = refl })),
+)
+  where
+    to_others : (pair : Mapped) → HasPair (tracked 2 (codes "main") ∷ []) pair → HasPair (tracked 5 (codes "main") ∷ tracked 3 (codes "main") ∷ []) pair
+    to_others pair (inl same) = inl (record { source = same.source; destination = same.destination })
+    to_others pair (inr none) = absurd none
+
+    from_others : (pair : Mapped) → HasPair (tracked 5 (codes "main") ∷ tracked 3 (codes "main") ∷ []) pair → HasPair (tracked 2 (codes "main") ∷ []) pair
+    from_others pair (inl same) = inl (record { source = same.source; destination = same.destination })
+    from_others pair (inr (inl same)) = inl (record { source = same.source; destination = same.destination })
+    from_others pair (inr (inr none)) = absurd none
+
+-- by the law the branch is mapped over the branches alone, and the excluded one isn't
+pub mapped_still : FewerItems group all_refs branches → (fewer : List Mapped) → AreKeptForward group branches fewer → HasPair fewer (tracked 7 (codes "main")) × ¬ (HasPair fewer (tracked 0 (codes "dev-a")))
+mapped_still law fewer are =
+    let same = law.forward branches_part branches_enough (tracked 2 (codes "main") ∷ []) fewer fetches_all_but_dev are in
+    ((same (tracked 7 (codes "main"))).0 (inl (record { source = refl; destination = refl })), λ has. not_dev ((same (tracked 0 (codes "dev-a"))).1 has))
+  where
+    not_dev : ¬ (HasPair (tracked 2 (codes "main") ∷ []) (tracked 0 (codes "dev-a")))
+    not_dev (inl same) = other_length _ _ (λ size. omega (arith, size)) (ap bytes_in same.source)
+    not_dev (inr none) = none
+
+-- and so from right to left
+abbrev tracking : List Ref
+tracking = named (codes "refs/remotes/origin/dev-a") ∷ named (codes "refs/remotes/origin/main") ∷ []
+
+abbrev turned : List Ref
+turned = named (codes "refs/remotes/origin/main") ∷ named (codes "refs/remotes/origin/dev-a") ∷ []
+
+pub mapped_back : FewerItems group tracking turned → (fewer : List Mapped) → AreKeptBackward group turned fewer → HasPair fewer (tracked 7 (codes "main"))
+mapped_back law fewer are = (law.backward part enough (tracked 1 (codes "main") ∷ []) fewer tracks_all_but_dev are (tracked 7 (codes "main"))).0 (inl (record { source = refl; destination = refl }))
+  where
+    part : ArePart tracking turned
+    part item (zero, below, is) = (1, omega arith, is)
+    part item (suc zero, below, is) = (0, omega arith, is)
+    part item (suc (suc k), below, is) = absurd (omega (arith, below))
+
+    enough : HasTaken AreBackwardEnds Matches group tracking turned
+    enough item (zero, below, is) taken = (1, omega arith, is)
+    enough item (suc zero, below, is) taken = (0, omega arith, is)
+    enough item (suc (suc k), below, is) taken = absurd (omega (arith, below))
+
+-- ---- what is listed
+
+abbrev fetch_head : Reading
+fetch_head = fetched Normal head None
+
+-- `HEAD` is listed where it is there, and not where another candidate of it stands alone
+pub head_listed : FetchesHead (named head ∷ []) fetch_head × ¬ (FetchesHead (named (codes "refs/heads/HEAD") ∷ []) fetch_head) × ¬ (FetchesHead (named head ∷ []) (pushed Normal (Some head) None)) × ¬ (FetchesHead (named head ∷ []) short)
+head_listed = (
+  record { fetch = refl; source = refl; there = inl refl },
+  (λ fetches. no_head fetches.there),
+  (λ fetches. push_is_none fetches.fetch),
+  λ fetches. other_byte 0 (codes "main") head (λ same. omega (arith, same)) (some_once (codes "main") head fetches.source),
+)
+  where
+    no_head : ¬ (HasName (named (codes "refs/heads/HEAD") ∷ []) head)
+    no_head (inl same) = other_length _ _ (λ size. omega (arith, size)) same
+    no_head (inr none) = none
+
+    push_is_none : Push ≢ Fetch
+    push_is_none same = cc
+
+every_covering : HasCoveringSource every
+every_covering = record { fetch = refl; source = λ x asked. subst IsCovering (some_once (codes "refs/heads/*") x asked.side) covering.0 }
+
+no_dev_covering : HasCoveringSource no_dev
+no_dev_covering = record { fetch = refl; source = λ x asked. absurd asked.positive }
+
+-- so it is with a covering source, whatever the refs are, and not with a star outside `refs/`
+pub listed_sources : IsListed [] every × IsListed [] no_dev × IsListed (named head ∷ []) fetch_head × ¬ (IsListed [] fetch_head) × ¬ (IsListed (named head ∷ []) (fetched Normal (codes "*") None))
+listed_sources = (inl every_covering, inl no_dev_covering, inr (record { fetch = refl; source = refl; there = inl refl }), no_head, no_star)
+  where
+    no_head : ¬ (IsListed [] fetch_head)
+    no_head (inl covering) = not_covering.0 (covering.source head (record { positive = tt; side = refl }))
+    no_head (inr fetches) = fetches.there
+
+    no_star : ¬ (IsListed (named head ∷ []) (fetched Normal (codes "*") None))
+    no_star (inl covering) = not_covering.1 (covering.source (codes "*") (record { positive = tt; side = refl }))
+    no_star (inr fetches) = other_length _ _ (λ size. omega (arith, size)) (some_once (codes "*") head fetches.source)
+
+-- what the group expands to
+expanded : AreExpansions group (codes "refs/heads/" ∷ [])
+expanded = (codes "refs/heads/" ∷ [], [], inl (codes "refs/heads/*", record { positive = tt; side = refl }, to_prefix (codes "refs/heads/") below_heads refl), ([], [], inr ((λ x asked. asked.positive), refl), refl, refl), refl)
+
+tag_not_begun : ¬ (BeginsWithOne (codes "refs/heads/" ∷ []) (codes "refs/tags/v1"))
+tag_not_begun (zero, entry, below, is, begins) = begins_not (codes "refs/heads/") (codes "refs/tags/v1") refl (subst (λ (x : List ℕ). Begins x (codes "refs/tags/v1")) (sym is) begins)
+tag_not_begun (suc k, entry, below, is, begins) = absurd (omega (arith, below))
+
+-- the branches are what a client gets that asks for that
+pub branches_listed : AreListedItems group all_refs branches
+branches_listed = record { entries = codes "refs/heads/" ∷ []; expansions = expanded; part = branches_part; listed = listed }
+  where
+    listed : (item : Ref) → Contains all_refs item → BeginsWithOne (codes "refs/heads/" ∷ []) item.name → Contains branches item
+    listed item (zero, below, is) begins = (1, omega arith, is)
+    listed item (suc zero, below, is) begins = absurd (tag_not_begun (subst (λ (r : Ref). BeginsWithOne (codes "refs/heads/" ∷ []) r.name) (sym is) begins))
+    listed item (suc (suc zero), below, is) begins = (0, omega arith, is)
+    listed item (suc (suc (suc zero)), below, is) begins = (0, omega arith, is)
+    listed item (suc (suc (suc (suc k))), below, is) begins = absurd (omega (arith, below))
+
+-- it doesn't get fewer, nor what isn't there
+pub not_listed : ¬ (AreListedItems group all_refs (main_ref ∷ [])) × ¬ (AreListedItems group [] (main_ref ∷ []))
+not_listed = ((λ are. no_dev_there (are.listed dev_ref (0, omega arith, refl) (begins_with are.entries are.expansions))), λ are. no_part.1 are.part)
+  where
+    dev_covered : IsCoveredBy (codes "refs/heads/dev-a") every
+    dev_covered = record { entries = codes "refs/heads/" ∷ []; expansion = inl (codes "refs/heads/*", record { positive = tt; side = refl }, to_prefix (codes "refs/heads/") below_heads refl); one = (0, codes "refs/heads/", omega arith, refl, record { after = codes "dev-a"; here = refl }) }
+
+    begins_with : (entries : List (List ℕ)) → AreExpansions group entries → BeginsWithOne entries (codes "refs/heads/dev-a")
+    begins_with entries are = joined_covers (codes "refs/heads/dev-a") group 0 entries (0, every, omega arith, refl, dev_covered) are
+
+    no_dev_there : ¬ (Contains (main_ref ∷ []) dev_ref)
+    no_dev_there (zero, below, is) = no_dev_main (sym is)
+    no_dev_there (suc k, below, is) = omega (arith, below)
+
+-- so by the law it loses no pair: neither of one spec, nor of all
+main_made : MakesForward all_refs (name (codes "refs/heads/main")) (Some (codes "refs/remotes/origin/main")) every
+main_made = let hit = taken_by all_refs 0 2 (codes "main") in record { ends = forward_ends; has = are_forward_ends; one = (2, main_ref, omega arith, refl, record { word = hit.word; name = refl; takes = hit.takes; becomes = hit.far }) }
+
+pub none_lost : ListedItems group all_refs branches → (fewer : List Mapped) → AreKeptForward group branches fewer → HasPair fewer (tracked 7 (codes "main"))
+none_lost law fewer are = law.some branches_listed (tracked 2 (codes "main") ∷ []) fewer fetches_all_but_dev are (tracked 7 (codes "main")) (inl (record { source = refl; destination = refl })) (0, every, omega arith, refl, (inl every_covering, main_made))
+
+pub none_gained : ListedItems group all_refs branches → (fewer : List Mapped) → AreKeptForward group branches fewer → HaveSamePairs (tracked 2 (codes "main") ∷ []) fewer
+none_gained law fewer are = law.all branches_listed (inl every_covering, (inl no_dev_covering, tt)) (tracked 2 (codes "main") ∷ []) fewer fetches_all_but_dev are
+
+-- ---- what a test lets through
+
+-- a name passes that begins with some entry, and not one that only holds it
+pub begun_names : (is_begun (codes "refs/tags/" ∷ codes "refs/heads/" ∷ []) (codes "refs/heads/main") ≡ true) × (is_begun (codes "heads/" ∷ []) (codes "refs/heads/main") ≡ false) × (is_begun [] (codes "refs/heads/main") ≡ false)
+begun_names = (refl, refl, refl)
+
+-- where all items pass, those that are taken do; where none does, the branch is taken and doesn't
+pub all_pass : (items : List Item) → PassesTaken AreForwardEnds (Takes (map ref_of items)) group items (λ item. true)
+all_pass items item there taken = refl
+
+pub none_passes : (item : Item) → ref_of item ≡ main_ref → ¬ (PassesTaken AreForwardEnds (Takes (map ref_of (item ∷ []))) group (item ∷ []) (λ other. false))
+none_passes item is passes =
+    let refs : List Ref = map ref_of (item ∷ []) in
+    let hit = taken_by refs 0 0 (codes "main") in
+    let taken : TakesItem AreForwardEnds (Takes refs) main_ref every = record { ends = forward_ends; has = are_forward_ends; word = hit.word; takes = hit.takes } in
+    false≢true (passes item (0, omega arith, refl) (0, every, omega arith, refl, subst (λ (r : Ref). TakesItem AreForwardEnds (Takes refs) r every) (sym is) taken))
+
+-- by the laws what passes such a test is a part that has what is taken, in both directions, or what is listed
+pub by_test : (items some : List Item) (p : Item → Bool) → FilteredItems group items some → some ≡ filter p items → PassesTaken AreForwardEnds (Takes (map ref_of items)) group items p
+    → ArePart (map ref_of items) (map ref_of some) × HasTaken AreForwardEnds (Takes (map ref_of items)) group (map ref_of items) (map ref_of some)
+by_test items some p law is passes = (law.part p is, law.forward p is passes)
+
+pub by_test_back : (items some : List Item) (p : Item → Bool) → FilteredItems group items some → some ≡ filter p items → PassesTaken AreBackwardEnds Matches group items p → HasTaken AreBackwardEnds Matches group (map ref_of items) (map ref_of some)
+by_test_back items some p law is passes = law.backward p is passes
+
+pub by_entries : (items some : List Item) → FilteredByEntries group items some → some ≡ filter (λ item. is_begun (codes "refs/heads/" ∷ []) (bstr_bytes item.full_ref_name)) items → AreListedItems group (map ref_of items) (map ref_of some)
+by_entries items some law is = law (codes "refs/heads/" ∷ []) expanded is
+
+-- ---- what is asked for
+
+group_lists : ListsGroup group (codes "refs/heads/" ∷ [])
+group_lists = (codes "refs/heads/" ∷ [], [], lists_of_specs.0, ([], [], lists_of_specs.1, refl, refl), refl)
+
+main_alone : ¬ (Contains (main_ref ∷ []) dev_ref)
+main_alone (zero, below, is) = no_dev_main (sym is)
+main_alone (suc k, below, is) = omega (arith, below)
+
+-- the branches are what a client is told of that asks for them, and one of two isn't
+pub branches_asked : AreAskedFor (codes "refs/heads/" ∷ []) all_refs branches × ¬ (AreAskedFor (codes "refs/heads/" ∷ []) all_refs (main_ref ∷ [])) × ¬ (AreAskedFor [] [] (main_ref ∷ []))
+unfolding branches_listed
+branches_asked = (
+  record { part = branches_part; asked = branches_listed.listed },
+  (λ are. main_alone (are.asked dev_ref (0, omega arith, refl) (0, codes "refs/heads/", omega arith, refl, record { after = codes "dev-a"; here = refl }))),
+  λ are. no_part.1 are.part,
+)
+
+-- so by the law it has the same pairs
+pub same_pairs_asked : AskedItems group all_refs branches → (fewer : List Mapped) → AreKeptForward group branches fewer → HaveSamePairs (tracked 2 (codes "main") ∷ []) fewer
+same_pairs_asked law fewer are = law (codes "refs/heads/" ∷ []) group_lists (refl, (refl, tt)) branches_asked.0 (tracked 2 (codes "main") ∷ []) fewer fetches_all_but_dev are
+
+-- and it can't be without them
+pub none_lost_asked : AskedItems group all_refs branches → ¬ (AreKeptForward group branches [])
+none_lost_asked law are = (same_pairs_asked law [] are (tracked 2 (codes "main"))).0 (inl (record { source = refl; destination = refl }))
+
+-- and a client that filters by the list has them
+pub by_list : (items some : List Item) → FilteredByList items some → some ≡ filter (λ item. is_begun (codes "refs/heads/" ∷ []) (bstr_bytes item.full_ref_name)) items → AreAskedFor (codes "refs/heads/" ∷ []) (map ref_of items) (map ref_of some)
+by_list items some law is = law (codes "refs/heads/" ∷ []) is

@@ -1,0 +1,164 @@
+-- What a caller concludes from the laws on what stays: that a pair is there, that one isn't, and where it comes from.
+use Rattle.std.proofs.Common.{◌≡◌, inl, inr, ℕ, zero, suc, List, [], ◌∷◌, ◌++◌, Option, None, Some, codes, refl, sym, ap, ◌∙◌, subst, arith}
+use Rattle.std.specs.List.{AllByRecursion, Any, Contains, slice_get}
+use Rattle.gix_refspec.specs.Specs.Reading.{Reading}
+use Rattle.gix_refspec.specs.Matching.Side.{partial, full_name, HasKind}
+use Rattle.gix_refspec.specs.Matching.Match.{Ref, IsFirstCandidate}
+use Rattle.gix_refspec.specs.Matching.Mappings.{name, Mapped, HasPair, IsExcluded}
+use Rattle.gix_refspec.specs.Matching.Hits.{AreKeptForward, AreKeptBackward}
+use Rattle.gix_refspec.specs.Laws.Matching.{MakesForward, MakesBackward, KeptExactly, FirstStays, NothingExcluded}
+use Rattle.gix_refspec.specs.Matching.Validation.{ForwardPlaces, IsValidated, PlacesFit, Removed}
+use Rattle.gix_refspec.proofs.facts.CandidateFacts.{branch_and_tag, main_tag, main_ends, main_to_x, no_tags, no_other_first, not_excluded, tags_excluded, takes_the_tag, x_kind}
+use Rattle.gix_refspec.proofs.lemmas.specs.FormsBackLemmas.{some_once}
+use Rattle.gix_refspec.proofs.facts.ManualFacts.{named, other_length}
+use Rattle.gix_refspec.proofs.facts.MatchFacts.{below_tags, blob, blob_kind, blob_mapping, bytes_in, dev_excluded, dev_ref, every, main_ref, main_stays, mapping, maps_all, no_dev, only_dev, short_kind, short_no_id, tag_ref, tracked, tracks_all}
+
+-- whatever its places are
+abbrev tag_pair : Mapped
+tag_pair = mapping 7 (codes "refs/tags/main") (Some (codes "refs/x")) 5
+
+abbrev branch_pair : Mapped
+branch_pair = mapping 0 (codes "refs/heads/main") (Some (codes "refs/x")) 0
+
+-- the spec takes the tag and makes the pair
+pub tag_made : MakesForward branch_and_tag (name (codes "refs/tags/main")) (Some (codes "refs/x")) main_to_x
+tag_made = record {
+  ends = main_ends;
+  has = record { positive = tt; near = refl; far = refl; no_object = λ bytes kind. short_no_id bytes kind.2 };
+  one = (1, main_tag, omega arith, refl, record { word = None; name = refl; takes = takes_the_tag.0; becomes = (full_name (codes "refs/x"), x_kind, refl) });
+}
+
+-- so by the law the pair is there
+pub pair_there : KeptExactly (main_to_x ∷ []) branch_and_tag → (kept : List Mapped) → AreKeptForward (main_to_x ∷ []) branch_and_tag kept → HasPair kept tag_pair
+pair_there law kept are = (law.forward kept are tag_pair).1 ((0, main_to_x, omega arith, refl, tag_made), not_excluded (codes "refs/tags/main"))
+
+-- the spec makes no pair of the branch
+pub branch_unmade : ¬ (MakesForward branch_and_tag (name (codes "refs/heads/main")) (Some (codes "refs/x")) main_to_x)
+branch_unmade made =
+    let (at, item, below, is, paired) = made.one in
+    let near : made.ends.near ≡ codes "main" = sym (some_once (codes "main") made.ends.near made.has.near) in
+    let first : IsFirstCandidate branch_and_tag (codes "main") item.name = paired.takes.first (codes "main") (subst (λ (x : List ℕ). HasKind x (partial (codes "main"))) (sym near) short_kind) in
+    no_other_first.0 (subst (IsFirstCandidate branch_and_tag (codes "main")) paired.name first)
+
+-- what some reading of a list of one makes, that one makes
+of_one : (P : Reading → Type 0) (r : Reading) → Any P (r ∷ []) → P r
+of_one P r (zero, x, below, is, holds) = subst P (sym is) holds
+of_one P r (suc at, x, below, is, holds) = absurd (omega (arith, below))
+
+-- so by the law it isn't there
+pub pair_not_there : KeptExactly (main_to_x ∷ []) branch_and_tag → (kept : List Mapped) → AreKeptForward (main_to_x ∷ []) branch_and_tag kept → ¬ (HasPair kept branch_pair)
+pair_not_there law kept are has = branch_unmade (of_one _ main_to_x ((law.forward kept are branch_pair).0 has).0)
+
+tag_excluded : IsExcluded (main_to_x ∷ no_tags ∷ []) (codes "refs/tags/main")
+tag_excluded = inr (inl (record { negative = refl; text = codes "refs/tags/*"; source = refl; excludes = tags_excluded }))
+
+-- a pair whose source is excluded isn't there, though a spec makes it
+pub pair_excluded : KeptExactly (main_to_x ∷ no_tags ∷ []) branch_and_tag → (kept : List Mapped) → AreKeptForward (main_to_x ∷ no_tags ∷ []) branch_and_tag kept → ¬ (HasPair kept tag_pair)
+pair_excluded law kept are has = ((law.forward kept are tag_pair).0 has).1 tag_excluded
+
+branch_made_back : MakesBackward (named (codes "refs/x") ∷ []) (name (codes "refs/heads/main")) (Some (codes "refs/x")) main_to_x
+branch_made_back = record {
+  ends = record { near = codes "refs/x"; far = Some (codes "main") };
+  has = record { positive = tt; near = refl; far = refl; both = refl };
+  one = (0, named (codes "refs/x"), omega arith, refl, record { word = None; name = refl; takes = record { kind = full_name (codes "refs/x"); of = x_kind; is = (refl, refl) }; becomes = (partial (codes "main"), short_kind, refl) });
+}
+
+-- from right to left the destination takes a local ref, and the source is the branch
+pub pair_back : KeptExactly (main_to_x ∷ []) (named (codes "refs/x") ∷ []) → (kept : List Mapped) → AreKeptBackward (main_to_x ∷ []) (named (codes "refs/x") ∷ []) kept → HasPair kept branch_pair
+pair_back law kept are = (law.backward kept are branch_pair).1 ((0, main_to_x, omega arith, refl, branch_made_back), not_excluded (codes "refs/heads/main"))
+
+-- an id that is asked for is there, whatever the items are
+pub id_there : (items : List Ref) → KeptExactly (blob ∷ []) items → (kept : List Mapped) → AreKeptForward (blob ∷ []) items kept → HasPair kept blob_mapping
+id_there items law kept are = (law.forward kept are blob_mapping).1 (
+  (
+    0,
+    blob,
+    omega arith,
+    refl,
+    record {
+      positive = tt;
+      text = codes "e69de29bb2d1d6434b8b29ae775ad8c2e48c5391";
+      side = refl;
+      object = blob_kind;
+      becomes = (full_name (codes "refs/tags/blob"), below_tags, refl);
+    },
+  ),
+  λ none. none,
+)
+
+-- no list of what stays begins with a mapping of what is excluded, in either direction
+pub none_of_a_tag : (items : List Ref) → NothingExcluded (main_to_x ∷ no_tags ∷ []) items → (rest : List Mapped) → ¬ (AreKeptForward (main_to_x ∷ no_tags ∷ []) items (tag_pair ∷ rest)) × ¬ (AreKeptBackward (main_to_x ∷ no_tags ∷ []) items (tag_pair ∷ rest))
+none_of_a_tag items law rest = (
+  (λ are. (law.names (tag_pair ∷ rest) (inl are)).0 tag_excluded),
+  λ are. (law.names (tag_pair ∷ rest) (inr are)).0 tag_excluded,
+)
+
+-- ---- which of several stays
+
+-- of an excluded branch, a tag, a branch and the same once more
+abbrev listed : List Ref
+listed = dev_ref ∷ tag_ref ∷ main_ref ∷ main_ref ∷ []
+
+abbrev mapped : List Mapped
+mapped = tracked 0 (codes "dev-a") ∷ tracked 2 (codes "main") ∷ tracked 3 (codes "main") ∷ []
+
+-- by the law the first mapping of the branch stays, with its place
+pub first_there : FirstStays (every ∷ no_dev ∷ []) listed → (kept : List Mapped) → AreKeptForward (every ∷ no_dev ∷ []) listed kept → Contains kept (tracked 2 (codes "main"))
+first_there law kept are = (law.forward mapped kept maps_all are (tracked 2 (codes "main"))).1 (record { before = tracked 0 (codes "dev-a") ∷ []; after = tracked 3 (codes "main") ∷ []; here = refl; first = only_dev 2; included = main_stays })
+
+abbrev place_in : Option ℕ → ℕ
+place_in None = 0
+place_in (Some place) = place
+
+-- the other has its pair, and so isn't the first
+no_first : (before after : List Mapped) → mapped ≡ before ++ (tracked 3 (codes "main") ∷ after) → ¬ (HasPair before (tracked 3 (codes "main"))) → ⊥
+no_first [] after here new = let same : tracked 0 (codes "dev-a") ≡ tracked 3 (codes "main") = cc in let places : 0 ≡ 3 = ap (λ (m : Mapped). place_in m.item) same in absurd (omega (arith, places))
+no_first (x ∷ []) after here new = let same : tracked 2 (codes "main") ≡ tracked 3 (codes "main") = cc in let places : 2 ≡ 3 = ap (λ (m : Mapped). place_in m.item) same in absurd (omega (arith, places))
+no_first (x ∷ y ∷ before) after here new = let same : y ≡ tracked 2 (codes "main") = cc in new (inr (inl (record { source = ap (λ (m : Mapped). m.source) same; destination = ap (λ (m : Mapped). m.destination) same })))
+
+-- so by the law the other doesn't stay, nor does what is excluded
+pub later_not_there : FirstStays (every ∷ no_dev ∷ []) listed → (kept : List Mapped) → AreKeptForward (every ∷ no_dev ∷ []) listed kept → ¬ (Contains kept (tracked 3 (codes "main"))) × ¬ (Contains kept (tracked 0 (codes "dev-a")))
+later_not_there law kept are = (
+  (λ has. let first = (law.forward mapped kept maps_all are (tracked 3 (codes "main"))).0 has in no_first first.before first.after first.here first.first),
+  λ has. ((law.forward mapped kept maps_all are (tracked 0 (codes "dev-a"))).0 has).included dev_excluded,
+)
+
+-- and so from right to left
+abbrev tracking : List Ref
+tracking = named (codes "refs/remotes/origin/dev-a") ∷ named (codes "refs/remotes/origin/main") ∷ []
+
+pub first_back : FirstStays (every ∷ no_dev ∷ []) tracking → (kept : List Mapped) → AreKeptBackward (every ∷ no_dev ∷ []) tracking kept → Contains kept (tracked 1 (codes "main")) × ¬ (Contains kept (tracked 0 (codes "dev-a")))
+first_back law kept are =
+    let all : List Mapped = tracked 0 (codes "dev-a") ∷ tracked 1 (codes "main") ∷ [] in (
+      (law.backward all kept tracks_all are (tracked 1 (codes "main"))).1 (record { before = tracked 0 (codes "dev-a") ∷ []; after = []; here = refl; first = only_dev 1; included = main_stays }),
+      λ has. ((law.backward all kept tracks_all are (tracked 0 (codes "dev-a"))).0 has).included dev_excluded,
+    )
+
+-- ---- the places of what stays
+
+-- by the law a mapping of the branch doesn't have the place of the tag
+pub no_other_item : PlacesFit (every ∷ no_dev ∷ []) listed → (rest : List Mapped) → ¬ (AreKeptForward (every ∷ no_dev ∷ []) listed (tracked 1 (codes "main") ∷ rest))
+no_other_item law rest are =
+    let (r, stands, named) = (law.forward (tracked 1 (codes "main") ∷ rest) are).0.item 1 refl in
+    let is : tag_ref ≡ r = cc in
+    other_length (codes "refs/heads/main") (codes "refs/tags/v1") (λ size. omega (arith, size)) (ap bytes_in named ∙ ap (λ (x : Ref). x.name) (sym is))
+
+-- nor the place of a third spec, where there are two
+pub no_other_spec : PlacesFit (every ∷ no_dev ∷ []) listed → (rest : List Mapped) → ¬ (AreKeptForward (every ∷ no_dev ∷ []) listed (mapping 2 (codes "refs/heads/main") (Some (codes "refs/remotes/origin/main")) 2 ∷ rest))
+no_other_spec law rest are =
+    let below = (law.forward (mapping 2 (codes "refs/heads/main") (Some (codes "refs/remotes/origin/main")) 2 ∷ rest) are).0.spec in
+    absurd (omega (arith, below))
+
+-- and one from right to left doesn't have the place of another tracking ref
+pub no_other_item_back : PlacesFit (every ∷ no_dev ∷ []) tracking → (rest : List Mapped) → ¬ (AreKeptBackward (every ∷ no_dev ∷ []) tracking (tracked 0 (codes "main") ∷ rest))
+no_other_item_back law rest are =
+    let fits = (law.backward (tracked 0 (codes "main") ∷ rest) are).0 in
+    let place : 0 ≡ fits.place = ap place_in fits.item in
+    let stands : slice_get tracking 0 ≡ Some fits.ref = subst (λ (j : ℕ). slice_get tracking j ≡ Some fits.ref) (sym place) fits.stands in
+    let is : named (codes "refs/remotes/origin/dev-a") ≡ fits.ref = cc in
+    let same : codes "refs/remotes/origin/main" ≡ fits.ref.name = some_once (codes "refs/remotes/origin/main") fits.ref.name fits.named in
+    other_length (codes "refs/remotes/origin/main") (codes "refs/remotes/origin/dev-a") (λ size. omega (arith, size)) (same ∙ ap (λ (x : Ref). x.name) (sym is))
+
+-- what remains after a validation has places that fit, where they fitted before
+pub still_fits : (items : List Ref) → PlacesFit (every ∷ []) items → (l rest : List Mapped) (fixes : List Removed) → IsValidated (every ∷ []) l rest fixes → AllByRecursion (ForwardPlaces (every ∷ []) items) l → AllByRecursion (ForwardPlaces (every ∷ []) items) rest
+still_fits items law l rest fixes valid fit = law.validated l rest fixes valid fit

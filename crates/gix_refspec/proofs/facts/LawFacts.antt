@@ -1,0 +1,473 @@
+-- The words that only laws cite, on each side of what they ask: which specs go both ways, which
+-- sources are covering, what a spec reads as again, and what a group expands to.
+use Rattle.std.proofs.Common.{◌≡◌, ◌≢◌, ◌⊎◌, ◌<◌, ℕ, zero, suc, List, [], ◌∷◌, ◌++◌, Option, None, Some, length, codes, refl, sym, ap, ◌∙◌, subst, inl, inr, arith}
+use Rattle.std.specs.List.{AllByRecursion}
+use Rattle.gix_refspec.specs.declared.parsing.Operation.TheVariants.{Push, Fetch}
+use Rattle.gix_refspec.specs.Texts.Words.{Begins}
+use Rattle.gix_refspec.specs.Texts.Name.{HasStar, IsPattern}
+use Rattle.gix_refspec.specs.Texts.Bytes.{star, bracket, colon}
+use Rattle.gix_refspec.specs.Specs.Reading.{Normal, Forced, Negative, Reading}
+use Rattle.gix_refspec.specs.Specs.Grammar.{AreParts, Reads, fetches, fetched, pushed}
+use Rattle.gix_refspec.specs.Matching.Side.{candidates, IsCandidate, Fits}
+use Rattle.gix_refspec.specs.Matching.Mappings.{name, id, Mapped, HasPair, AreApart}
+use Rattle.gix_refspec.specs.Matching.Hits.{AreKeptForward, AreKeptBackward, OneForward, OneBackward, KeptOnce}
+use Rattle.gix_refspec.specs.Matching.Match.{Ref, Matches, HasName, Takes}
+use Rattle.gix_refspec.specs.Matching.Validation.{ValidatedOnce, HaveOneSource, NeverMeet, ForwardFits, IndexesFit}
+use Rattle.gix_refspec.specs.Laws.Readings.{ReadsOnce, ReadsOrRefused, IsSameReason, SaysForOperation, IsPrintedBack, ReadsBack, EqualReadings, HasOneId, HasOneFault, HasCandidates, KeepsOperation, EqualTexts, NothingAgainst, ClonesExactly, OneWord, PrefixBegins, OnePrefix, Candidates, IdOrFault, OneLowerText, OneRefusal}
+use Rattle.gix_refspec.specs.Specs.Meaning.{push_delete, fetch_only, printed, meaning_of}
+use Rattle.gix_refspec.specs.Texts.PatternError.{IsPatternFault}
+use Rattle.gix_refspec.specs.declared.name.PatternError.{PatternError}
+use Rattle.gix_refspec.specs.declared.name.PatternError.TheVariants.{Name, Memory}
+use Rattle.gix_refspec.specs.Specs.Refusal.{Refusal, PatternUnbalanced, NegativeEmpty, ReferenceName, IsRefused}
+use Rattle.gix_refspec.specs.Texts.ObjectId.{IsIdText, IsLowerText, HasIdFault}
+use Rattle.gix_refspec.specs.declared.name.Error.{Error as NameError}
+use Rattle.gix_refspec.specs.declared.name.Error.TheVariants.{LockSuffix, RepeatedDot}
+use Rattle.gix_refspec.specs.declared.oid.Error.{Error as IdError}
+use Rattle.gix_refspec.specs.declared.oid.Error.TheVariants.{Length}
+use Rattle.gix_refspec.specs.Matching.Prefix.{IsAsked, IsPrefix, Expands, of_head, of_name, of_pattern, to_prefix, to_candidates}
+use Rattle.gix_refspec.specs.Laws.Matching.{MapAlike, AreReadAgain, AsksFor, AtSpec, EachSource, Transpose, Cover, CoverTogether, FetchGroupReadsBack, IsCoveredBy, IsSourceAmong, IsDestinationAmong, GoesBothWays, ReadsAgainAs, IsCovering, by_prefix, by_candidates, HasCoveringSource, BeginsWithOne, AreExpansions}
+use Rattle.gix_refspec.proofs.lemmas.texts.TextLemmas.{Lacks-here, Lacks-Holds}
+use Rattle.gix_refspec.proofs.lemmas.texts.TestedLemmas.{IsName-tested}
+use Rattle.gix_refspec.proofs.lemmas.hits.MatchLemmas.{cut_once, outside_none}
+use Rattle.gix_refspec.proofs.lemmas.parsing.ReadOnceLemmas.{reads_once}
+use Rattle.gix_refspec.proofs.lemmas.specs.FormsBackLemmas.{some_once}
+use Rattle.gix_refspec.proofs.facts.ManualFacts.{Lacks-tested, IsPattern-tested, other_length, none_some, named, no_sign}
+use Rattle.gix_refspec.proofs.facts.FaultFacts.{begins_not}
+use Rattle.gix_refspec.proofs.facts.UnreadFacts.{unbalanced_fetches}
+use Rattle.gix_refspec.proofs.facts.ObjectIdFacts.{empty_blob, IsIdText-empty_blob, lower_of-empty_blob, HasIdFault-length}
+use Rattle.gix_refspec.proofs.facts.ValidationFacts.{both_to_x, foo_fix, validated}
+use Rattle.gix_refspec.proofs.facts.MatchFacts.{bytes_in, mapping, tracked, fetches_all_but_dev, tracks_all_but_dev, tracks_nothing, tag_to_x, tag_to_foo, tag_alone, cut_at_end, every, no_dev, short, short_kind, other_byte}
+
+-- ---- both directions
+
+-- a side with a star at its end
+starred_end : (before : List ℕ) → HasStar (before ++ codes "*")
+starred_end before = record { before = before; after = []; here = refl }
+
+-- the spec of `git clone`, two full names, a source alone, and a negative spec go both ways
+pub go_both_ways : GoesBothWays every × GoesBothWays (fetched Normal (codes "refs/heads/a") (Some (codes "refs/x/a"))) × GoesBothWays short × GoesBothWays no_dev
+go_both_ways = (
+  (λ positive s d is_s is_d. inl (
+    subst HasStar (some_once (codes "refs/heads/*") s is_s) (starred_end (codes "refs/heads/")),
+    subst HasStar (some_once (codes "refs/remotes/origin/*") d is_d) (starred_end (codes "refs/remotes/origin/")),
+  )),
+  (λ positive s d is_s is_d. inr (
+    subst (Begins (codes "refs/")) (some_once (codes "refs/heads/a") s is_s) (record { after = codes "heads/a"; here = refl }),
+    subst (Begins (codes "refs/")) (some_once (codes "refs/x/a") d is_d) (record { after = codes "x/a"; here = refl }),
+  )),
+  (λ positive s d is_s is_d. absurd (none_some d is_d)),
+  (λ positive. absurd positive),
+)
+
+-- what doesn't begin so at its first byte
+other_first : (b : ℕ) (x : List ℕ) → b ≢ 114 → ¬ (Begins (codes "refs/") (b ∷ x))
+other_first b x differ begins = other_byte 0 (b ∷ x) (codes "refs/" ++ begins.after) differ begins.here
+
+-- a partial name on one side keeps a spec from this
+pub go_one_way : ¬ (GoesBothWays (fetched Normal (codes "main") (Some (codes "refs/x/main")))) × ¬ (GoesBothWays (fetched Normal (codes "refs/heads/a") (Some (codes "b"))))
+go_one_way = (from_partial, to_partial)
+  where
+    from_partial : ¬ (GoesBothWays (fetched Normal (codes "main") (Some (codes "refs/x/main"))))
+    from_partial goes = elim (goes tt (codes "main") (codes "refs/x/main") refl refl) [
+      | inl stars ↦ Lacks-Holds star (codes "main") (Lacks-tested star (codes "main") refl) stars.0
+      | inr below ↦ other_first 109 (codes "ain") (λ same. omega (arith, same)) below.0
+    ]
+
+    to_partial : ¬ (GoesBothWays (fetched Normal (codes "refs/heads/a") (Some (codes "b"))))
+    to_partial goes = elim (goes tt (codes "refs/heads/a") (codes "b") refl refl) [
+      | inl stars ↦ Lacks-Holds star (codes "b") (Lacks-tested star (codes "b") refl) stars.1
+      | inr below ↦ other_first 98 [] (λ same. omega (arith, same)) below.1
+    ]
+
+-- of two refs the second has a name, which an id is not, nor what is missing
+pub among : IsSourceAmong (named (codes "a") ∷ named (codes "b") ∷ []) (name (codes "b")) × ¬ (IsSourceAmong (named (codes "a") ∷ []) (id (codes "a"))) × IsDestinationAmong (named (codes "a") ∷ []) (Some (codes "a")) × ¬ (IsDestinationAmong (named (codes "a") ∷ []) None) × ¬ (HasName (named (codes "a") ∷ []) (codes "aa"))
+among = (inr (inl refl), (λ none. none), inl refl, (λ none. none), longer)
+  where
+    longer : ¬ (HasName (named (codes "a") ∷ []) (codes "aa"))
+    longer (inl same) = other_length _ _ (λ size. omega (arith, size)) same
+    longer (inr none) = none
+
+-- ---- groups that map alike
+
+-- a forced fetch without a destination reads again as one that isn't forced
+pub reads_unforced : ReadsAgainAs (fetched Forced (codes "main") None) short
+reads_unforced =
+    let s = codes "main" in
+    let parts : AreParts Normal s None s = record { signed = no_sign 109 (codes "ain") refl refl; last = Lacks-tested colon s refl } in
+    record { fetch = refl; text = s; is = refl; reads = fetches Normal s refl tt (inl parts) (IsName-tested s refl) refl }
+
+pub reads_no_force : ¬ (ReadsAgainAs (fetched Forced (codes "main") None) (fetched Forced (codes "main") None))
+unfolding reads_unforced
+reads_no_force again =
+    let reads = subst (λ (x : List ℕ). Reads Fetch x (fetched Forced (codes "main") None)) (sym (some_once (codes "main") again.text again.is)) again.reads in
+    forced_no_normal (ap (λ (r : Reading). r.mode) (reads_once Fetch (codes "main") (fetched Forced (codes "main") None) short reads reads_unforced.reads))
+  where
+    forced_no_normal : Forced ≢ Normal
+    forced_no_normal same = cc
+
+push_is_none : Push ≢ Fetch
+push_is_none same = cc
+
+-- no push reads again as anything
+pub no_push_again : (s d : Option (List ℕ)) (q : Reading) → ¬ (ReadsAgainAs (pushed Normal s d) q)
+no_push_again s d q again = push_is_none again.fetch
+
+-- ---- what covers sources
+
+pub below_heads : IsPrefix (codes "refs/heads/*") (codes "refs/heads/")
+below_heads = of_pattern (codes "refs/heads/") [] (cut_at_end (codes "refs/heads/") refl) (record {
+  below = record { after = codes "heads/"; here = refl };
+  further = other_length _ _ (λ size. omega (arith, size));
+  first = Lacks-tested bracket (codes "refs/heads/") refl;
+  last = tt;
+}) refl
+
+-- a pattern below `refs/heads/`, a full name and a partial one are covering
+pub covering : IsCovering (codes "refs/heads/*") × IsCovering (codes "refs/heads/main") × IsCovering (codes "main")
+covering = (
+  by_prefix (codes "refs/heads/") (record { after = codes "heads/*"; here = refl }) below_heads,
+  by_prefix (codes "refs/heads/main") (record { after = codes "heads/main"; here = refl }) (of_name (record { after = codes "heads/main"; here = refl }) (Lacks-tested star (codes "refs/heads/main") refl) refl),
+  by_candidates short_kind.1 (other_byte 0 (codes "main") (codes "HEAD") (λ same. omega (arith, same))) short_kind.2,
+)
+
+-- `HEAD` isn't, nor are all names, nor all those below `refs/`
+pub not_covering : ¬ (IsCovering (codes "HEAD")) × ¬ (IsCovering (codes "*")) × ¬ (IsCovering (codes "refs/*"))
+not_covering = (no_head, no_star, no_refs)
+  where
+    no_head : ¬ (IsCovering (codes "HEAD"))
+    no_head (by_prefix p begins prefix) = other_first 72 (codes "EAD") (λ same. omega (arith, same)) begins
+    no_head (by_candidates lacks other outside) = other refl
+
+    no_star : ¬ (IsCovering (codes "*"))
+    no_star (by_prefix p begins prefix) = other_first 42 [] (λ same. omega (arith, same)) begins
+    no_star (by_candidates lacks other outside) = Lacks-here star [] [] lacks
+
+    no_prefix : (p : List ℕ) → ¬ (IsPrefix (codes "refs/*") p)
+    no_prefix p (of_head is_head same) = other_length _ _ (λ size. omega (arith, size)) is_head
+    no_prefix p (of_name begins lacks same) = Lacks-here star (codes "refs/") [] lacks
+    no_prefix p (of_pattern before after cut tells same) = tells.further ((cut_once (codes "refs/*") before after (codes "refs/") [] cut (cut_at_end (codes "refs/") refl)).0)
+
+    no_refs : ¬ (IsCovering (codes "refs/*"))
+    no_refs (by_prefix p begins prefix) = no_prefix p prefix
+    no_refs (by_candidates lacks other outside) = Lacks-here star (codes "refs/") [] lacks
+
+-- a negative spec asks for nothing; a push isn't covering, whatever its source
+pub covering_sources : HasCoveringSource no_dev × HasCoveringSource short × ¬ (HasCoveringSource (pushed Normal (Some (codes "main")) None))
+covering_sources = (
+  record { fetch = refl; source = λ x asked. absurd asked.positive },
+  record { fetch = refl; source = λ x asked. subst IsCovering (some_once (codes "main") x asked.side) covering.2 },
+  λ has. push_is_none has.fetch,
+)
+
+-- a name begins with an entry, and not only holds it
+pub begins_with_one : BeginsWithOne (codes "refs/tags/" ∷ codes "refs/heads/" ∷ []) (codes "refs/heads/main") × ¬ (BeginsWithOne (codes "heads/" ∷ []) (codes "refs/heads/main"))
+begins_with_one = (
+  (1, codes "refs/heads/", omega arith, refl, record { after = codes "main"; here = refl }),
+  none,
+)
+  where
+    none : ¬ (BeginsWithOne (codes "heads/" ∷ []) (codes "refs/heads/main"))
+    none (zero, entry, below, is, begins) =
+        let here : codes "refs/heads/main" ≡ codes "heads/" ++ begins.after = begins.here ∙ ap (λ (y : List ℕ). y ++ begins.after) (sym is) in
+        other_byte 0 (codes "refs/heads/main") (codes "heads/" ++ begins.after) (λ same. omega (arith, same)) here
+    none (suc k, entry, below, is, begins) = absurd (omega (arith, below))
+
+-- what the specs of a group expand to, one behind the other; a negative one to nothing
+pub expanded : AreExpansions (every ∷ no_dev ∷ short ∷ []) (codes "refs/heads/" ∷ candidates (codes "main"))
+expanded = (
+  codes "refs/heads/" ∷ [],
+  candidates (codes "main"),
+  inl (codes "refs/heads/*", record { positive = tt; side = refl }, to_prefix (codes "refs/heads/") below_heads refl),
+  (
+    [],
+    candidates (codes "main"),
+    inr ((λ x asked. asked.positive), refl),
+    (
+      candidates (codes "main"),
+      [],
+      inl (codes "main", record { positive = tt; side = refl }, to_candidates (outside_none (codes "main") (other_byte 0 (codes "main") (codes "HEAD") (λ same. omega (arith, same))) short_kind.2) short_kind.2 short_kind.3 refl),
+      refl,
+      refl,
+    ),
+    refl,
+  ),
+  refl,
+)
+
+-- ---- what laws say of these
+
+-- the refs of the remote, and the tracking refs
+abbrev remote_refs : List Ref
+remote_refs = named (codes "refs/heads/dev-a") ∷ named (codes "refs/tags/v1") ∷ named (codes "refs/heads/main") ∷ named (codes "refs/heads/main") ∷ []
+
+abbrev tracking_refs : List Ref
+tracking_refs = named (codes "refs/remotes/origin/dev-a") ∷ named (codes "refs/remotes/origin/main") ∷ []
+
+-- the branch stands in the answer of each direction, if it does in that of the other
+pub looked_up : Transpose (every ∷ no_dev ∷ []) remote_refs tracking_refs → (m : List Mapped) → AreKeptBackward (every ∷ no_dev ∷ []) tracking_refs m → HasPair m (tracked 0 (codes "main"))
+looked_up law m back = ((law (go_both_ways.0, (go_both_ways.3, tt)) (tracked 2 (codes "main") ∷ []) m fetches_all_but_dev back (tracked 0 (codes "main"))).0 (inl (record { source = refl; destination = refl }), inr (inl refl))).0
+
+pub looked_back : Transpose (every ∷ no_dev ∷ []) remote_refs tracking_refs → (l : List Mapped) → AreKeptForward (every ∷ no_dev ∷ []) remote_refs l → HasPair l (tracked 0 (codes "main"))
+looked_back law l forward = ((law (go_both_ways.0, (go_both_ways.3, tt)) l (tracked 1 (codes "main") ∷ []) forward tracks_all_but_dev (tracked 0 (codes "main"))).1 (inl (record { source = refl; destination = refl }), inr (inr (inl refl)))).0
+
+one_reading : (q r : Reading) → Some q ≡ Some r → q ≡ r
+one_reading q r same = cc
+
+every_covering : HasCoveringSource every
+every_covering = record { fetch = refl; source = λ x asked. subst IsCovering (some_once (codes "refs/heads/*") x asked.side) covering.0 }
+
+-- `HEAD` asks for the name `HEAD`, and for no other
+abbrev head_spec : Reading
+head_spec = fetched Normal (codes "HEAD") None
+
+pub head_asks : AsksFor head_spec (codes "HEAD") × ¬ (AsksFor head_spec (codes "refs/heads/HEAD"))
+head_asks = (inr (refl, asked, refl), no_branch)
+  where
+    asked : IsAsked head_spec (codes "HEAD")
+    asked = record { positive = tt; side = refl }
+
+    no_branch : ¬ (AsksFor head_spec (codes "refs/heads/HEAD"))
+    no_branch (inl has) = not_covering.0 (has.source (codes "HEAD") asked)
+    no_branch (inr (fetch, also, same)) = other_length (codes "refs/heads/HEAD") (codes "HEAD") (λ size. omega (arith, size)) same
+
+-- a covering source asks for each name, and a push for none, not even that of `HEAD`
+pub every_asks : (n : List ℕ) → AsksFor every n × ¬ (AsksFor (pushed Normal (Some (codes "HEAD")) None) n)
+every_asks n = (inl every_covering, no_push)
+  where
+    no_push : ¬ (AsksFor (pushed Normal (Some (codes "HEAD")) None) n)
+    no_push (inl has) = push_is_none has.fetch
+    no_push (inr (fetch, asked, same)) = push_is_none fetch
+
+-- the spec of a mapping is the one at its place
+pub at_its_spec : (P : Reading → Type 0) → AtSpec (no_dev ∷ every ∷ []) (mapping 0 (codes "refs/heads/main") None 1) P → P every
+at_its_spec P (r, here, holds) = subst P (sym (one_reading every r here)) holds
+
+pub no_spec_there : (P : Reading → Type 0) → ¬ (AtSpec (every ∷ []) (mapping 0 (codes "refs/heads/main") None 1) P)
+no_spec_there P (r, here, holds) = absurd (cc)
+
+-- the branch begins with an entry of its spec, and with one of those of all, whatever the other specs are
+pub covered : Cover (every ∷ no_dev ∷ []) remote_refs → IsCoveredBy (codes "refs/heads/main") every
+covered law =
+    let (r, here, covers) = (law (tracked 2 (codes "main") ∷ []) fetches_all_but_dev).0 (codes "refs/heads/main") refl in
+    let same : every ≡ r = one_reading every r here in
+    subst (IsCoveredBy (codes "refs/heads/main")) (sym same) (covers (subst (λ (q : Reading). AsksFor q (codes "refs/heads/main")) same (inl every_covering)))
+
+pub covered_among_others : (others : List Reading) (kept : List Mapped) → Cover (every ∷ others) remote_refs → AreKeptForward (every ∷ others) remote_refs (tracked 2 (codes "main") ∷ kept) → IsCoveredBy (codes "refs/heads/main") every
+covered_among_others others kept law are =
+    let (r, here, covers) = (law (tracked 2 (codes "main") ∷ kept) are).0 (codes "refs/heads/main") refl in
+    let same : every ≡ r = one_reading every r here in
+    subst (IsCoveredBy (codes "refs/heads/main")) (sym same) (covers (subst (λ (q : Reading). AsksFor q (codes "refs/heads/main")) same (inl every_covering)))
+
+pub covered_together : CoverTogether (every ∷ no_dev ∷ []) remote_refs → (entries : List (List ℕ)) → AreExpansions (every ∷ no_dev ∷ []) entries → BeginsWithOne entries (codes "refs/heads/main")
+covered_together law entries are =
+    let (r, here, covers) = (law entries are (tracked 2 (codes "main") ∷ []) fetches_all_but_dev).0 (codes "refs/heads/main") refl in
+    let same : every ≡ r = one_reading every r here in
+    covers (subst (λ (q : Reading). AsksFor q (codes "refs/heads/main")) same (inl every_covering))
+
+-- a group maps in both directions as the one that was read from its texts
+pub mapped_alike : FetchGroupReadsBack (fetched Forced (codes "main") None ∷ []) (short ∷ []) (named (codes "refs/heads/main") ∷ []) → (kept : List Mapped)
+    → (AreKeptForward (fetched Forced (codes "main") None ∷ []) (named (codes "refs/heads/main") ∷ []) kept → AreKeptForward (short ∷ []) (named (codes "refs/heads/main") ∷ []) kept) × AreKeptBackward (fetched Forced (codes "main") None ∷ []) (named (codes "refs/heads/main") ∷ []) []
+mapped_alike law kept = let alike = law (reads_unforced, tt) in ((alike.forward kept).0, (alike.backward []).1 tracks_nothing)
+
+-- a group and refs have one answer in each direction
+pub one_answer : OneForward (every ∷ no_dev ∷ []) remote_refs → (l : List Mapped) → AreKeptForward (every ∷ no_dev ∷ []) remote_refs l → l ≡ tracked 2 (codes "main") ∷ []
+one_answer law l kept = law l (tracked 2 (codes "main") ∷ []) kept fetches_all_but_dev
+
+pub one_answer_back : OneBackward (every ∷ no_dev ∷ []) tracking_refs → (l : List Mapped) → AreKeptBackward (every ∷ no_dev ∷ []) tracking_refs l → l ≡ tracked 1 (codes "main") ∷ []
+one_answer_back law l kept = law l (tracked 1 (codes "main") ∷ []) kept tracks_all_but_dev
+
+-- what is answered in either direction is apart
+pub answered_apart : (g : List Reading) (items : List Ref) → KeptOnce g items → (l m : List Mapped) → AreKeptForward g items l → AreKeptBackward g items m → AreApart l × AreApart m
+answered_apart g items law l m forward back = (law l (inl forward), law m (inr back))
+
+-- after a validation one source goes to each destination, and what came from items doesn't meet
+pub validated_apart : ValidatedOnce both_to_x remote_refs → HaveOneSource (tag_to_x ∷ tag_alone ∷ []) × (AreKeptForward both_to_x remote_refs (tag_to_x ∷ tag_to_foo ∷ tag_alone ∷ []) → NeverMeet (tag_to_x ∷ tag_alone ∷ []))
+validated_apart law = law (tag_to_x ∷ tag_to_foo ∷ tag_alone ∷ []) (tag_to_x ∷ tag_alone ∷ []) (foo_fix ∷ []) validated
+
+-- one word stands for a star
+pub word_of_ab : OneWord (codes "a") [] (codes "ab") → (word : List ℕ) → Fits (codes "a") [] (codes "ab") word → word ≡ codes "b"
+word_of_ab law word fits = law word (codes "b") fits refl
+
+-- a ref that a pattern matches begins with its prefix, and the pattern has no other, nor another
+-- expansion
+pub begins_below : PrefixBegins (codes "refs/heads/*") → (r : Ref) (word : Option (List ℕ)) → Matches (codes "refs/heads/*") r word → Begins (codes "refs/heads/") r.name
+begins_below law r word matches = law (codes "refs/heads/") r word below_heads (other_length _ _ (λ size. omega (arith, size))) matches
+
+pub one_below : OnePrefix (codes "refs/heads/*") → ((p : List ℕ) → IsPrefix (codes "refs/heads/*") p → p ≡ codes "refs/heads/") × ((list : List (List ℕ)) → Expands (codes "refs/heads/*") list → list ≡ codes "refs/heads/" ∷ [])
+one_below law = (
+  (λ p prefix. law.prefix p (codes "refs/heads/") prefix below_heads),
+  (λ list expands. law.expanded list (codes "refs/heads/" ∷ []) expands (to_prefix (codes "refs/heads/") below_heads refl)),
+)
+
+-- a partial name is expanded to its candidates and nothing else, and matches each. Over one ref it takes each
+pub candidates_asked : Candidates (codes "main") → Expands (codes "main") (candidates (codes "main")) × ((list : List (List ℕ)) → Expands (codes "main") list → list ≡ candidates (codes "main")) × ((r : Ref) → IsCandidate (codes "main") r.name → ((word : Option (List ℕ)) × Matches (codes "main") r word) × ((word : Option (List ℕ)) × Takes (r ∷ []) (codes "main") r word))
+candidates_asked law =
+    let all = law short_kind.1 (other_byte 0 (codes "main") (codes "HEAD") (λ same. omega (arith, same))) short_kind.2 short_kind.3 in
+    (all.expands, all.only, λ r one. ((all.matches r).1 one, (all.takes r).1 one))
+
+-- the id of the empty blob is that of its text alone, without a fault, and prints as it
+pub one_id : IdOrFault (codes "e69de29bb2d1d6434b8b29ae775ad8c2e48c5391") → ((i : List ℕ) → IsIdText (codes "e69de29bb2d1d6434b8b29ae775ad8c2e48c5391") i → i ≡ empty_blob) × ((e : IdError) → ¬ (HasIdFault (codes "e69de29bb2d1d6434b8b29ae775ad8c2e48c5391") e))
+one_id (inl one) = ((λ i text. one.only i text ∙ sym (one.only empty_blob IsIdText-empty_blob)), one.sound)
+one_id (inr fault) = absurd (fault.unread empty_blob IsIdText-empty_blob)
+
+pub one_text : OneLowerText empty_blob → (t : List ℕ) → IsLowerText t empty_blob → t ≡ codes "e69de29bb2d1d6434b8b29ae775ad8c2e48c5391"
+one_text law t lower = law.only t lower ∙ lower_of-empty_blob
+
+-- a text has one reason against it, but for which fault of a name
+pub one_reason : OneRefusal Fetch (codes "a*") → ¬ (IsRefused Fetch (codes "a*") NegativeEmpty)
+one_reason law empty = elim (law PatternUnbalanced NegativeEmpty unbalanced_fetches.5 empty) [
+  | inl same ↦ apart same
+  | inr (a, b, is_name, also) ↦ no_name a is_name
+]
+  where
+    apart : PatternUnbalanced ≢ NegativeEmpty
+    apart same = cc
+
+    no_name : (a : NameError) → PatternUnbalanced ≢ ReferenceName a
+    no_name a same = cc
+
+-- what reads for an operation is for it
+pub reads_for_fetch : KeepsOperation Fetch (codes "main") → (r : Reading) → Reads Fetch (codes "main") r → r.operation ≡ Fetch
+reads_for_fetch law r reads = law r reads
+
+-- texts that print alike mean the same, and the other way round
+pub texts_alike : EqualTexts Fetch (codes "+main") (codes "main") → (r q : Reading) → Reads Fetch (codes "+main") r → Reads Fetch (codes "main") q → (printed r ≡ printed q → meaning_of r ≡ meaning_of q) × (meaning_of r ≡ meaning_of q → printed r ≡ printed q)
+texts_alike law r q reads_r reads_q = ((law r q reads_r reads_q).1, (law r q reads_r reads_q).0)
+
+-- nothing is against a pattern of one byte, not even want of memory
+pub nothing_wrong : NothingAgainst (codes "*") → (e : PatternError) → ¬ (IsPatternFault e (codes "*"))
+nothing_wrong law e fault = let long : 256 < 1 = (law (IsPattern-tested [] [] refl refl refl) e fault).1 in omega (arith, long)
+
+-- a clone always comes, and is its value
+pub cloned : {T : Type 0} (is_clone : T → T → Type 0) (is_infallible : T → Type 0) → ClonesExactly is_clone is_infallible → (x y : T) → is_infallible x × (is_clone x y → y ≡ x)
+cloned is_clone is_infallible law x y = ((law x).0, (law x).1 y)
+
+-- ---- readings and refusals
+
+-- a text that reads has its reading and no other, and isn't refused
+pub read_once : ReadsOnce Fetch (codes "main") → Reads Fetch (codes "main") short → (r : Reading) → Reads Fetch (codes "main") r → r ≡ short
+read_once law reads r other = law.only r other ∙ sym (law.only short reads)
+
+pub read_or_refused : ReadsOrRefused Fetch (codes "main") → ((r : Reading) → ¬ (Reads Fetch (codes "main") r)) → (e : Refusal) × IsRefused Fetch (codes "main") e
+read_or_refused (inl once) unread = absurd (unread once.reading once.reads)
+read_or_refused (inr refused) unread = refused
+
+pub never_both : Reads Fetch (codes "main") short → (e : Refusal) → ¬ (IsRefused Fetch (codes "main") e)
+never_both reads e refused = refused.unread short reads
+
+-- faults of a name are one reason, but a fault and another reason, or two others, are two
+pub same_reasons : IsSameReason (ReferenceName LockSuffix) (ReferenceName RepeatedDot) × IsSameReason NegativeEmpty NegativeEmpty × ¬ (IsSameReason NegativeEmpty (ReferenceName LockSuffix)) × ¬ (IsSameReason (ReferenceName LockSuffix) PatternUnbalanced)
+same_reasons = (inr (LockSuffix, RepeatedDot, refl, refl), inl refl, empty_no_name, name_no_balance)
+  where
+    empty_no_name : ¬ (IsSameReason NegativeEmpty (ReferenceName LockSuffix))
+    empty_no_name (inl same) = cc
+    empty_no_name (inr (a, b, first, second)) = cc
+
+    name_no_balance : ¬ (IsSameReason (ReferenceName LockSuffix) PatternUnbalanced)
+    name_no_balance (inl same) = cc
+    name_no_balance (inr (a, b, first, second)) = cc
+
+-- what a push says is for a push
+pub said_for : (r : Reading) → SaysForOperation r → (d : List ℕ) → meaning_of r ≡ Some (push_delete d) → r.operation ≡ Push
+said_for r law d means = sym (law (push_delete d) means)
+
+-- the text of a forced fetch without a destination reads as what means the same, and as nothing else
+pub read_back_once : ReadsBack Fetch (codes "+main") → Reads Fetch (codes "+main") (fetched Forced (codes "main") None) → (q : Reading) → Reads Fetch (codes "main") q → meaning_of q ≡ Some (fetch_only (codes "main"))
+read_back_once law reads q again =
+    let back = law (fetched Forced (codes "main") None) reads in
+    let text = some_once (codes "main") back.text back.is in
+    ap meaning_of (back.again.only q (subst (λ (x : List ℕ). Reads Fetch x q) text again)) ∙ back.same
+
+pub reads_its_text : IsPrintedBack Fetch (fetched Forced (codes "main") None) → (q : Reading) × Reads Fetch (codes "main") q
+reads_its_text back = (back.again.reading, subst (λ (x : List ℕ). Reads Fetch x back.again.reading) (sym (some_once (codes "main") back.text back.is)) back.again.reads)
+
+-- readings with one text mean the same, where they are for one operation; a fetch and a push never do
+pub equal_by_texts : (r q : Reading) → EqualReadings r q → (r.operation ≡ q.operation → printed r ≡ printed q → meaning_of r ≡ meaning_of q) × (meaning_of r ≡ meaning_of q → (r.operation ≡ q.operation) × (printed r ≡ printed q))
+equal_by_texts r q law = ((λ operations texts. law.1 (operations, texts)), law.0)
+
+pub no_equal_operations : EqualReadings (fetched Negative (codes "a") None) (pushed Negative (Some (codes "a")) None) → meaning_of (fetched Negative (codes "a") None) ≢ meaning_of (pushed Negative (Some (codes "a")) None)
+no_equal_operations law same = push_is_none (sym (law.0 same).0)
+
+-- ---- ids and patterns
+
+-- a text of another length has one fault and no id
+pub one_length : IdOrFault (codes "e69de2") → ((e : IdError) → HasIdFault (codes "e69de2") e → e ≡ Length 6) × ((i : List ℕ) → ¬ (IsIdText (codes "e69de2") i))
+one_length (inl one) = absurd (one.sound (Length 6) HasIdFault-length.0)
+one_length (inr fault) = ((λ e has. fault.only e has ∙ sym (fault.only (Length 6) HasIdFault-length.0)), fault.unread)
+
+-- one of both is there
+pub id_there : HasOneId (codes "e69de29bb2d1d6434b8b29ae775ad8c2e48c5391") → (i : List ℕ) × IsIdText (codes "e69de29bb2d1d6434b8b29ae775ad8c2e48c5391") i
+id_there one = (one.id, one.text)
+
+pub fault_there : HasOneFault (codes "e69de2") → (e : IdError) × HasIdFault (codes "e69de2") e
+fault_there one = (one.fault, one.has)
+
+pub lower_there : OneLowerText empty_blob → IsLowerText (codes "e69de29bb2d1d6434b8b29ae775ad8c2e48c5391") empty_blob
+lower_there law = subst (λ (t : List ℕ). IsLowerText t empty_blob) lower_of-empty_blob law.lower
+
+-- a longer pattern has no fault, but may want memory
+pub no_fault_of_long : (x : List ℕ) → NothingAgainst x → IsPattern x → (fault : NameError) → ¬ (IsPatternFault (Name fault) x)
+no_fault_of_long x law pattern fault has = let same : Name fault ≡ Memory = (law pattern (Name fault) has).0 in cc
+
+-- each ref that a partial name matches, or takes over it alone, is a candidate
+pub matched_asked : HasCandidates (codes "main") → (r : Ref) (word : Option (List ℕ)) → Matches (codes "main") r word ⊎ Takes (r ∷ []) (codes "main") r word → IsCandidate (codes "main") r.name
+matched_asked law r word (inl matches) = (law.matches r).0 (word, matches)
+matched_asked law r word (inr takes) = (law.takes r).0 (word, takes)
+
+-- ---- groups
+
+-- groups of different lengths, or in another order, aren't read again
+pub read_again : AreReadAgain (fetched Forced (codes "main") None ∷ short ∷ []) (short ∷ short ∷ []) × ¬ (AreReadAgain (short ∷ []) []) × ¬ (AreReadAgain [] (short ∷ [])) × ¬ (AreReadAgain (pushed Normal None None ∷ []) (short ∷ []))
+read_again = ((reads_unforced, (reads_itself, tt)), (λ none. none), (λ none. none), λ again. no_push_again None None short again.0)
+  where
+    reads_itself : ReadsAgainAs short short
+    reads_itself = let again = reads_unforced in record { fetch = refl; text = codes "main"; is = refl; reads = subst (λ (x : List ℕ). Reads Fetch x short) (sym (some_once (codes "main") again.text again.is)) again.reads }
+
+-- groups map alike in both directions, each as the other does
+pub all_alike : (g h : List Reading) (items : List Ref) → MapAlike g h items → (kept : List Mapped) → (AreKeptForward h items kept → AreKeptForward g items kept) × (AreKeptBackward g items kept → AreKeptBackward h items kept)
+all_alike g h items alike kept = ((alike.forward kept).1, (alike.backward kept).0)
+
+-- what holds of each source and its spec holds of the branch, and there is no mapping beside it
+pub each_source : (P : Reading → List ℕ → Type 0) → EachSource (every ∷ no_dev ∷ []) remote_refs P → P every (codes "refs/heads/main")
+each_source P each =
+    let (r, here, holds) = (each (tracked 2 (codes "main") ∷ []) fetches_all_but_dev).0 (codes "refs/heads/main") refl in
+    subst (λ (q : Reading). P q (codes "refs/heads/main")) (sym (one_reading every r here)) holds
+
+pub no_tag_source : OneForward (every ∷ no_dev ∷ []) remote_refs → EachSource (every ∷ no_dev ∷ []) remote_refs (λ r n. (r ≡ every) × (n ≡ codes "refs/heads/main"))
+no_tag_source law kept are =
+    subst (AllByRecursion (λ m. (n : List ℕ) → m.source ≡ name n → AtSpec (every ∷ no_dev ∷ []) m (λ r. (r ≡ every) × (n ≡ codes "refs/heads/main")))) (sym (law kept (tracked 2 (codes "main") ∷ []) are fetches_all_but_dev))
+    ((λ n is. (every, refl, (refl, sym (ap bytes_in is)))), tt)
+
+-- a name outside what a spec expands to isn't covered by it
+pub not_covered : OnePrefix (codes "refs/heads/*") → ¬ (IsCoveredBy (codes "refs/tags/v1") every) × ¬ (IsCoveredBy (codes "refs/heads/dev-a") no_dev)
+not_covered law = (by_every, by_none)
+  where
+    outside : ¬ (BeginsWithOne (codes "refs/heads/" ∷ []) (codes "refs/tags/v1"))
+    outside (zero, entry, below, is, begins) = begins_not (codes "refs/heads/") (codes "refs/tags/v1") refl (subst (λ (x : List ℕ). Begins x (codes "refs/tags/v1")) (sym is) begins)
+    outside (suc k, entry, below, is, begins) = absurd (omega (arith, below))
+
+    by_every : ¬ (IsCoveredBy (codes "refs/tags/v1") every)
+    by_every covers = elim covers.expansion [
+      | inl (x, asked, expands) ↦
+          let of_source = subst (λ (y : List ℕ). Expands y covers.entries) (sym (some_once (codes "refs/heads/*") x asked.side)) expands in
+          let same = law.expanded covers.entries (codes "refs/heads/" ∷ []) of_source (to_prefix (codes "refs/heads/") below_heads refl) in
+          outside (subst (λ (l : List (List ℕ)). BeginsWithOne l (codes "refs/tags/v1")) same covers.one)
+      | inr (none, same) ↦ none (codes "refs/heads/*") (record { positive = tt; side = refl })
+    ]
+
+    no_entry : ¬ (BeginsWithOne [] (codes "refs/heads/dev-a"))
+    no_entry (k, entry, below, is, begins) = omega (arith, below)
+
+    by_none : ¬ (IsCoveredBy (codes "refs/heads/dev-a") no_dev)
+    by_none covers = elim covers.expansion [
+      | inl (x, asked, expands) ↦ asked.positive
+      | inr (none, same) ↦ no_entry (subst (λ (l : List (List ℕ)). BeginsWithOne l (codes "refs/heads/dev-a")) same covers.one)
+    ]
+
+-- the spec of the branch has a place in its group
+pub fits : ForwardFits (every ∷ no_dev ∷ []) remote_refs → IndexesFit (every ∷ no_dev ∷ []) (tracked 2 (codes "main") ∷ [])
+fits law = law (tracked 2 (codes "main") ∷ []) fetches_all_but_dev
+
+-- and of a later mapping as of the first
+pub later_fits : (g : List Reading) (items : List Ref) (m n : Mapped) → ForwardFits g items → AreKeptForward g items (m ∷ n ∷ []) → n.spec < length g
+later_fits g items m n law kept = (law (m ∷ n ∷ []) kept).1.0

@@ -1,0 +1,41 @@
+-- What the clauses of the match calls say of a group and items at hand: at the examples of matching, just
+-- which outcome there is, and that there is one.
+use Rattle.std.proofs.Common.{◌≡◌, List, [], ◌∷◌, map, length, codes, refl, ap, arith}
+use Rattle.gix_refspec.specs.declared.match_group.types.Item.{Item}
+use Rattle.gix_refspec.specs.declared.match_group.types.MatchGroup.{MatchGroup}
+use Rattle.gix_refspec.specs.declared.match_group.types.Outcome.{Outcome}
+use Rattle.gix_refspec.specs.Matching.Match.{Ref}
+use Rattle.gix_refspec.specs.Matching.Mappings.{Mapped}
+use Rattle.gix_refspec.specs.Matching.Hits.{AreForward, AreBackward, AreKeptForward, AreKeptBackward}
+use Rattle.gix_refspec.specs.Views.Group.{IsOutcome, Maps, mapped_of, readings_of, ref_of}
+use Rattle.gix_refspec.proofs.lemmas.hits.HitLemmas.{one_forward, one_backward}
+use Rattle.gix_refspec.proofs.facts.ManualFacts.{named}
+use Rattle.gix_refspec.proofs.facts.MatchFacts.{every, no_dev, tracked, fetches_all_but_dev, tracks_all_but_dev}
+
+-- a group with a spec for all branches and one without those that begin `dev-`
+abbrev LeavesOutDev : MatchGroup → Type 0
+LeavesOutDev g = readings_of g ≡ every ∷ no_dev ∷ []
+
+-- what the remote has, and what is tracked of it
+abbrev on_remote : List Ref
+on_remote = named (codes "refs/heads/dev-a") ∷ named (codes "refs/tags/v1") ∷ named (codes "refs/heads/main") ∷ named (codes "refs/heads/main") ∷ []
+
+abbrev is_tracked : List Ref
+is_tracked = named (codes "refs/remotes/origin/dev-a") ∷ named (codes "refs/remotes/origin/main") ∷ []
+
+-- an outcome has the group as it was, and the one branch that is left
+pub main_fetched : (g : MatchGroup) (items : List Item) (o : Outcome 1) → LeavesOutDev g → map ref_of items ≡ on_remote → IsOutcome AreKeptForward g items o → (o.group ≡ g) × (map mapped_of o.mappings.items ≡ tracked 2 (codes "main") ∷ [])
+main_fetched g items o specs refs is = (is.0, one_forward (every ∷ no_dev ∷ []) on_remote (map mapped_of o.mappings.items) _ (rw (specs, refs) at is.1) fetches_all_but_dev)
+
+pub main_tracked : (g : MatchGroup) (items : List Item) (o : Outcome 0) → LeavesOutDev g → map ref_of items ≡ is_tracked → IsOutcome AreKeptBackward g items o → (o.group ≡ g) × (map mapped_of o.mappings.items ≡ tracked 1 (codes "main") ∷ [])
+main_tracked g items o specs refs is = (is.0, one_backward (every ∷ no_dev ∷ []) is_tracked (map mapped_of o.mappings.items) _ (rw (specs, refs) at is.1) tracks_all_but_dev)
+
+-- so memory may be wanted for them
+full : (m : Mapped) (ms : List Mapped) → ¬ (m ∷ ms ≡ [])
+full m ms same = omega (arith, ap length same)
+
+pub some_fetched : (g : MatchGroup) (items : List Item) → LeavesOutDev g → map ref_of items ≡ on_remote → ¬ (Maps AreForward g items [])
+some_fetched g items specs refs none = full _ _ (one_forward (every ∷ no_dev ∷ []) on_remote _ [] fetches_all_but_dev (record { all = []; forward = rw (specs, refs) at none; is = refl }))
+
+pub some_tracked : (g : MatchGroup) (items : List Item) → LeavesOutDev g → map ref_of items ≡ is_tracked → ¬ (Maps AreBackward g items [])
+some_tracked g items specs refs none = full _ _ (one_backward (every ∷ no_dev ∷ []) is_tracked _ [] tracks_all_but_dev (record { all = []; backward = rw (specs, refs) at none; is = refl }))

@@ -1,0 +1,165 @@
+-- The words on names of refs at mappings to good names and bad ones, and what a caller concludes from their law.
+use Rattle.std.proofs.Common.{◌≡◌, inl, inr, ℕ, List, [], ◌∷◌, ◌++◌, None, Some, codes, refl, arith}
+use Rattle.std.specs.List.{AllByRecursion}
+use Rattle.gix_refspec.specs.declared.name.Error.TheVariants.{RepeatedDot}
+use Rattle.gix_refspec.specs.declared.match_group.names.BadMapping.{BadMapping}
+use Rattle.gix_refspec.specs.declared.match_group.names.BadSide.TheVariants.{Source, Destination, Both}
+use Rattle.gix_refspec.specs.Texts.Bytes.{slash}
+use Rattle.gix_refspec.specs.Specs.Reading.{Reading}
+use Rattle.gix_refspec.specs.Matching.Match.{Ref}
+use Rattle.gix_refspec.specs.Matching.Mappings.{id, Mapped}
+use Rattle.gix_refspec.specs.Views.Group.{mapped_of}
+use Rattle.gix_refspec.specs.Matching.Hits.{AreKeptForward}
+use Rattle.gix_refspec.specs.Matching.Validation.{ForwardPlaces, IndexesFit, IsValidated, Removed}
+use Rattle.gix_refspec.specs.Matching.RefNames.{AreLeftOut, AreNamed, IsBadAt, IsLeftOut, IsNamed, IsNamedDestination, IsNamedSource, IsRefName, KeepsNamed, LeftOut, StaysAmongRefs, WritesRefs, left_out_of}
+use Rattle.gix_refspec.proofs.lemmas.lists.JoinLemmas.{nothing_made}
+use Rattle.gix_refspec.proofs.facts.ManualFacts.{Lacks-tested, other_length}
+use Rattle.gix_refspec.proofs.facts.MatchFacts.{mapping, other_byte}
+use Rattle.gix_refspec.proofs.lemmas.validate.RefNameLemmas.{bad_unnamed, stays_among_refs}
+use Rattle.gix_refspec.proofs.lemmas.texts.TestedLemmas.{IsName-tested}
+
+-- what begins `refs/` and is a name, and `HEAD`
+pub ref_names : IsRefName (codes "refs/heads/main") × IsRefName (codes "HEAD")
+ref_names = (inl (record { after = codes "heads/main"; here = refl }, IsName-tested (codes "refs/heads/main") refl), inr refl)
+
+-- neither a name elsewhere, nor what has a fault
+pub no_ref_names : ¬ (IsRefName (codes "main")) × ¬ (IsRefName (codes "HEADS")) × ¬ (IsRefName (codes "refs/../x"))
+no_ref_names = (elsewhere, longer, faulty)
+  where
+    elsewhere : ¬ (IsRefName (codes "main"))
+    elsewhere (inl (begins, name)) = other_byte 0 (codes "main") (codes "refs/" ++ begins.after) (λ byte. omega (arith, byte)) begins.here
+    elsewhere (inr is_head) = other_byte 0 (codes "main") (codes "HEAD") (λ byte. omega (arith, byte)) is_head
+
+    longer : ¬ (IsRefName (codes "HEADS"))
+    longer (inl (begins, name)) = other_byte 0 (codes "HEADS") (codes "refs/" ++ begins.after) (λ byte. omega (arith, byte)) begins.here
+    longer (inr is_head) = other_length _ _ (λ size. omega (arith, size)) is_head
+
+    faulty : ¬ (IsRefName (codes "refs/../x"))
+    faulty (inl (begins, name)) = name RepeatedDot (record { before = codes "refs/"; after = codes "/x"; here = refl })
+    faulty (inr is_head) = other_length _ _ (λ size. omega (arith, size)) is_head
+
+abbrev bad : List ℕ
+bad = codes "refs/../x"
+
+abbrev pub good : List ℕ
+good = codes "refs/heads/main"
+
+-- ids and missing destinations are good
+pub without_names : IsNamedSource (id []) × IsNamedDestination None × ¬ (IsNamedDestination (Some bad))
+without_names = (tt, tt, no_ref_names.2)
+
+abbrev pub kept : Mapped
+kept = mapping 0 good (Some good) 0
+
+abbrev from_bad : Mapped
+from_bad = mapping 1 bad (Some good) 0
+
+abbrev pub to_bad : Mapped
+to_bad = mapping 2 good (Some bad) 0
+
+abbrev all_bad : Mapped
+all_bad = mapping 3 bad (Some bad) 0
+
+-- each side by itself
+pub sides : IsNamed kept × IsBadAt Source from_bad × IsBadAt Destination to_bad × IsBadAt Both all_bad
+sides = (
+  record { source = ref_names.0; destination = ref_names.0 },
+  (no_ref_names.2, ref_names.0),
+  (ref_names.0, no_ref_names.2),
+  (no_ref_names.2, no_ref_names.2),
+)
+
+pub no_other_sides : ¬ (IsBadAt Both from_bad) × ¬ (IsBadAt Source all_bad) × ¬ (IsBadAt Source to_bad) × ¬ (IsBadAt Destination all_bad) × ¬ (IsBadAt Destination kept)
+no_other_sides = (
+  (λ is. is.1 ref_names.0),
+  (λ is. no_ref_names.2 is.1),
+  (λ is. is.0 ref_names.0),
+  (λ is. no_ref_names.2 is.0),
+  (λ is. is.1 ref_names.0),
+)
+
+-- what a declared one says
+pub left_out_seen : (b : BadMapping) → ((left_out_of b).mapping ≡ mapped_of b.mapping) × ((left_out_of b).side ≡ b.side)
+left_out_seen b = (refl, refl)
+
+abbrev left : List LeftOut
+left = record { mapping = from_bad; side = Source } ∷ record { mapping = to_bad; side = Destination } ∷ record { mapping = all_bad; side = Both } ∷ []
+
+-- one of four is kept, and the others are told in order, each with its side
+pub parted : KeepsNamed (from_bad ∷ kept ∷ to_bad ∷ all_bad ∷ []) (kept ∷ []) left
+parted = record {
+  named = (
+    None,
+    kept ∷ [],
+    (λ m made. bad_unnamed Source from_bad sides.1 made.1),
+    (
+      Some kept,
+      [],
+      (refl, sides.0),
+      (None, [], (λ m made. bad_unnamed Destination to_bad sides.2 made.1), (None, [], (λ m made. bad_unnamed Both all_bad sides.3 made.1), refl, refl), refl),
+      refl,
+    ),
+    refl,
+  );
+  others = (
+    Some (record { mapping = from_bad; side = Source }),
+    record { mapping = to_bad; side = Destination } ∷ record { mapping = all_bad; side = Both } ∷ [],
+    record { same = refl; bad = sides.1 },
+    (
+      None,
+      record { mapping = to_bad; side = Destination } ∷ record { mapping = all_bad; side = Both } ∷ [],
+      (λ out is. bad_unnamed out.side kept is.bad sides.0),
+      (
+        Some (record { mapping = to_bad; side = Destination }),
+        record { mapping = all_bad; side = Both } ∷ [],
+        record { same = refl; bad = sides.2 },
+        (Some (record { mapping = all_bad; side = Both }), [], record { same = refl; bad = sides.3 }, refl, refl),
+        refl,
+      ),
+      refl,
+    ),
+    refl,
+  );
+}
+
+-- a good mapping isn't lost, and a bad one doesn't go untold
+pub none_lost : ¬ (AreNamed (kept ∷ []) []) × ¬ (AreLeftOut (to_bad ∷ []) [])
+none_lost = (
+  (λ are. nothing_made (λ k m made. (made ≡ m) × IsNamed m) 0 [] kept [] kept are (refl, sides.0)),
+  (λ are. nothing_made (λ k m made. IsLeftOut m made) 0 [] to_bad [] (record { mapping = to_bad; side = Destination }) are (record { same = refl; bad = sides.2 })),
+)
+
+-- a path that leads up, one elsewhere, and one with a control character don't stay among refs
+pub leads_away : ¬ (StaysAmongRefs (codes "refs/../x")) × ¬ (StaysAmongRefs (codes "refs//x")) × ¬ (StaysAmongRefs (codes "x")) × ¬ (StaysAmongRefs (codes "refs/" ++ 31 ∷ [])) × ¬ (StaysAmongRefs (codes "refs/" ++ 127 ∷ []))
+leads_away = (
+  (λ stays. let each = stays.components (codes "refs" ∷ codes ".." ∷ codes "x" ∷ []) (record { joined = refl; whole = (Lacks-tested slash (codes "refs") refl, (Lacks-tested slash (codes "..") refl, (Lacks-tested slash (codes "x") refl, tt))) }) in each.1.0.1 (record { after = codes "."; here = refl })),
+  (λ stays. let each = stays.components (codes "refs" ∷ [] ∷ codes "x" ∷ []) (record { joined = refl; whole = (Lacks-tested slash (codes "refs") refl, (tt, (Lacks-tested slash (codes "x") refl, tt))) }) in each.1.0.0 refl),
+  (λ stays. elim stays.below [
+    | inl begins ↦ other_byte 0 (codes "x") (codes "refs/" ++ begins.after) (λ byte. omega (arith, byte)) begins.here
+    | inr is_head ↦ other_length _ _ (λ size. omega (arith, size)) is_head
+  ]),
+  (λ stays. let low = stays.bytes.1.1.1.1.1.0.0 in omega (arith, low)),
+  (λ stays. stays.bytes.1.1.1.1.1.0.1 refl),
+)
+
+-- one below `refs/` does, and so does `HEAD`
+pub stays : StaysAmongRefs good × StaysAmongRefs (codes "HEAD")
+stays = (stays_among_refs good ref_names.0, stays_among_refs (codes "HEAD") ref_names.1)
+
+-- by the law no mapping to a bad name remains, whichever of the two calls comes first
+pub none_to_bad : (items : List Ref) (g : List Reading) → WritesRefs g items → (l named rest : List Mapped) (out : List LeftOut) (fixes : List Removed) → (KeepsNamed l named out → ¬ (IsValidated g named (to_bad ∷ rest) fixes)) × (IsValidated g l named fixes → ¬ (KeepsNamed named (to_bad ∷ rest) out))
+none_to_bad items g law l named rest out fixes = (
+  (λ keeps valid. no_ref_names.2 ((law.before l named (to_bad ∷ rest) out fixes keeps valid).0.0 bad refl).0),
+  (λ valid keeps. no_ref_names.2 ((law.after l named (to_bad ∷ rest) fixes out valid keeps).0.0 bad refl).0),
+)
+
+-- nor two to one name, where they came from items
+pub none_twice : (items : List Ref) (g : List Reading) → WritesRefs g items → (l named rest : List Mapped) (out : List LeftOut) (fixes : List Removed) → AreKeptForward g items l → (KeepsNamed l named out → ¬ (IsValidated g named (kept ∷ kept ∷ rest) fixes)) × (IsValidated g l named fixes → ¬ (KeepsNamed named (kept ∷ kept ∷ rest) out))
+none_twice items g law l named rest out fixes are = (
+  (λ keeps valid. ((law.before l named (kept ∷ kept ∷ rest) out fixes keeps valid).1 are).0.0 (good, refl, refl)),
+  (λ valid keeps. ((law.after l named (kept ∷ kept ∷ rest) fixes out valid keeps).1 are).0.0 (good, refl, refl)),
+)
+
+-- what is kept may be validated, and its places fit
+pub still_there : (items : List Ref) (g : List Reading) → WritesRefs g items → (l named : List Mapped) (out : List LeftOut) → KeepsNamed l named out → IndexesFit g l → AllByRecursion (ForwardPlaces g items) l → IndexesFit g named × AllByRecursion (ForwardPlaces g items) named
+still_there items g law l named out keeps fit places = (law.fits l named out keeps fit, law.places l named out keeps places)

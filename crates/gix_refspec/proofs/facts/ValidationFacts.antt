@@ -1,0 +1,295 @@
+-- The words on validation at mappings to one destination and to others: which conflicts, survivors
+-- and fixes there are, and which are none.
+use Rattle.std.proofs.Common.{◌≡◌, ◌≢◌, ◌⊎◌, ℕ, suc, ◌<◌, List, [], ◌∷◌, ◌++◌, Option, None, Some, option_map, length, map, codes, refl, sym, ap, ◌∙◌, subst, inl, inr, arith}
+use Rattle.std.specs.List.{Contains}
+use Rattle.std.specs.List.Sorted.{IsStrictlySortedBy}
+use Rattle.std.specs.Ordering.{nat_cmp}
+use Rattle.std.specs.Cmp.Lexicographic.{slice_cmp}
+use Rattle.std.specs.declared.cmp.Ordering.TheVariants.{Less, Equal, Greater}
+use Rattle.gix_refspec.specs.Specs.Reading.{Normal, Forced, Reading}
+use Rattle.gix_refspec.specs.Specs.Grammar.{fetched}
+use Rattle.gix_refspec.specs.Specs.Meaning.{printed}
+use Rattle.gix_refspec.specs.Matching.Mappings.{name, Mapped, HasPair}
+use Rattle.gix_refspec.specs.Matching.Validation.{IndexesFit, IsContested, IsFirstTo, IsTextAt, Conflict, IsConflict, AreConflicts, IsWritable, Survives, AreSurvivors, Removed, IsFix, AreFixes, IsValidated, HaveOneSource, MeetAt, NeverMeet}
+use Rattle.gix_refspec.proofs.lemmas.validate.ConflictLemmas.{no_conflicts}
+use Rattle.gix_refspec.proofs.lemmas.lists.JoinLemmas.{nothing_made}
+use Rattle.gix_refspec.proofs.lemmas.specs.FormsBackLemmas.{some_once}
+use Rattle.gix_refspec.proofs.facts.ManualFacts.{other_length, none_some}
+use Rattle.gix_refspec.proofs.facts.MatchFacts.{other_byte, of_element, bytes_in, mapping, tag_to_x, branch_to_x, tag_again, tag_to_foo, tag_alone, pairs}
+
+-- specs whose patterns meet below `refs/x/`, the second of which is forced
+abbrev pub both_to_x : List Reading
+both_to_x = fetched Normal (codes "refs/tags/*") (Some (codes "refs/x/*")) ∷ fetched Forced (codes "refs/heads/*") (Some (codes "refs/x/*")) ∷ []
+
+abbrev branch_to_y : Mapped
+branch_to_y = mapping 3 (codes "refs/heads/b") (Some (codes "refs/x/b")) 1
+
+-- two sources of one destination, the first of which comes twice, and another destination
+abbrev pub meeting : List Mapped
+meeting = branch_to_y ∷ tag_to_x ∷ branch_to_x ∷ tag_again ∷ []
+
+-- the sources are in the order of the mappings, each once, with the canonical texts of their specs
+abbrev pub conflict : Conflict
+conflict = record {
+  destination = codes "refs/x/a";
+  sources = name (codes "refs/tags/a") ∷ name (codes "refs/heads/a") ∷ [];
+  texts = codes "refs/tags/*:refs/x/*" ∷ codes "+refs/heads/*:refs/x/*" ∷ [];
+}
+
+-- just the one destination is contested
+at_x_or_y : (d : List ℕ) (m : Mapped) → Contains meeting m → m.destination ≡ Some d → (d ≡ codes "refs/x/a") ⊎ (m ≡ branch_to_y)
+at_x_or_y d m has to =
+    elim (of_element (λ n. (n.destination ≡ Some (codes "refs/x/a")) ⊎ (n ≡ branch_to_y)) meeting m (inr refl, (inl refl, (inl refl, (inl refl, tt)))) has) [
+      | inl x ↦ inl (some_once d (codes "refs/x/a") (sym to ∙ x))
+      | inr y ↦ inr y
+    ]
+
+pub only_x : (d : List ℕ) → IsContested meeting d → d ≡ codes "refs/x/a"
+only_x d contested = elim (at_x_or_y d contested.one contested.has_one contested.one_to) [
+  | inl x ↦ x
+  | inr y ↦ elim (at_x_or_y d contested.other contested.has_other contested.other_to) [
+    | inl x ↦ x
+    | inr z ↦ absurd (contested.differ (ap (λ (m : Mapped). m.source) (y ∙ sym z)))
+  ]
+]
+
+at_x : IsContested meeting (codes "refs/x/a")
+at_x = record {
+  one = tag_to_x;
+  other = branch_to_x;
+  has_one = (1, omega arith, refl);
+  has_other = (2, omega arith, refl);
+  one_to = refl;
+  other_to = refl;
+  differ = λ same. other_byte 5 (codes "refs/tags/a") (codes "refs/heads/a") (λ byte. omega (arith, byte)) (ap bytes_in same);
+}
+
+not_to_x : (k : ℕ) → ¬ (IsFirstTo (codes "refs/x/a") meeting k branch_to_y)
+not_to_x k first = other_byte 7 (codes "refs/x/b") (codes "refs/x/a") (λ byte. omega (arith, byte)) (some_once (codes "refs/x/b") (codes "refs/x/a") first.goes)
+
+not_first : ¬ (IsFirstTo (codes "refs/x/a") meeting 3 tag_again)
+not_first first = first.first (inr (inl pairs.0))
+
+first_tag : IsFirstTo (codes "refs/x/a") meeting 1 tag_to_x
+first_tag = record { goes = refl; first = none }
+  where
+    none : ¬ (HasPair (branch_to_y ∷ []) tag_to_x)
+    none (inl same) = other_byte 5 (codes "refs/heads/b") (codes "refs/tags/a") (λ byte. omega (arith, byte)) (ap bytes_in same.source)
+    none (inr never) = never
+
+first_branch : IsFirstTo (codes "refs/x/a") meeting 2 branch_to_x
+first_branch = record { goes = refl; first = none }
+  where
+    none : ¬ (HasPair (branch_to_y ∷ tag_to_x ∷ []) branch_to_x)
+    none (inl same) = other_byte 11 (codes "refs/heads/b") (codes "refs/heads/a") (λ byte. omega (arith, byte)) (ap bytes_in same.source)
+    none (inr (inl same)) = pairs.1 same
+    none (inr (inr never)) = never
+
+pub conflicts_at_x : AreConflicts both_to_x meeting (conflict ∷ [])
+unfolding IsStrictlySortedBy
+conflicts_at_x = record {
+  each = (
+    record {
+      contested = at_x;
+      sources = (
+        None,
+        conflict.sources,
+        (λ source made. not_to_x 0 made.0),
+        (
+          Some (name (codes "refs/tags/a")),
+          name (codes "refs/heads/a") ∷ [],
+          (first_tag, refl),
+          (Some (name (codes "refs/heads/a")), [], (first_branch, refl), (None, [], (λ source made. not_first made.0), refl, refl), refl),
+          refl,
+        ),
+        refl,
+      );
+      texts = (
+        None,
+        conflict.texts,
+        (λ text made. not_to_x 0 made.0),
+        (
+          Some (codes "refs/tags/*:refs/x/*"),
+          codes "+refs/heads/*:refs/x/*" ∷ [],
+          (first_tag, (fetched Normal (codes "refs/tags/*") (Some (codes "refs/x/*")), refl, refl)),
+          (
+            Some (codes "+refs/heads/*:refs/x/*"),
+            [],
+            (first_branch, (fetched Forced (codes "refs/heads/*") (Some (codes "refs/x/*")), refl, refl)),
+            (None, [], (λ text made. not_first made.0), refl, refl),
+            refl,
+          ),
+          refl,
+        ),
+        refl,
+      );
+    },
+    tt,
+  );
+  every = λ d contested. (0, omega arith, sym (only_x d contested));
+  order = (tt, tt);
+}
+
+-- a destination that one source is mapped to, also twice, is no conflict, whatever is said of it
+pub no_conflict : (c : Conflict) → c.destination ≡ codes "refs/x/b" → ¬ (IsConflict both_to_x meeting c)
+no_conflict c is conflicts = other_byte 7 (codes "refs/x/b") (codes "refs/x/a") (λ byte. omega (arith, byte)) (sym is ∙ only_x c.destination conflicts.contested)
+
+pub one_source : (d : List ℕ) → ¬ (IsContested (tag_to_x ∷ tag_to_foo ∷ tag_alone ∷ tag_again ∷ []) d)
+one_source d contested =
+    let l = tag_to_x ∷ tag_to_foo ∷ tag_alone ∷ tag_again ∷ [] in
+    let tag = of_element (λ n. n.source ≡ name (codes "refs/tags/a")) l in
+    contested.differ (tag contested.one (refl, (refl, (refl, (refl, tt)))) contested.has_one ∙ sym (tag contested.other (refl, (refl, (refl, (refl, tt)))) contested.has_other))
+
+-- conflicts don't fall, and none stands twice
+pub rising : (c d : Conflict) → c.destination ≡ codes "refs/x/b" → d.destination ≡ codes "refs/x/aa" → ¬ (AreConflicts both_to_x meeting (c ∷ d ∷ [])) × ¬ (AreConflicts both_to_x meeting (c ∷ c ∷ []))
+unfolding IsStrictlySortedBy
+rising c d to_b to_aa = (
+  (λ are. greater_less (subst (λ (x : List ℕ). slice_cmp nat_cmp x (codes "refs/x/aa") ≡ Less) to_b (subst (λ (x : List ℕ). slice_cmp nat_cmp c.destination x ≡ Less) to_aa are.order.0.0))),
+  (λ are. equal_less (subst (λ (x : List ℕ). slice_cmp nat_cmp x x ≡ Less) to_b are.order.0.0)),
+)
+  where
+    greater_less : Greater ≢ Less
+    greater_less same = cc
+
+    equal_less : Equal ≢ Less
+    equal_less same = cc
+
+-- what begins `refs/`, and `HEAD`, can be written
+pub writable : IsWritable (codes "refs/x") × IsWritable (codes "HEAD") × ¬ (IsWritable (codes "refs")) × ¬ (IsWritable (codes "HEADS")) × ¬ (IsWritable (codes "foo"))
+writable = (inl (record { after = codes "x"; here = refl }), inr refl, no_slash, longer, no_foo)
+  where
+    no_slash : ¬ (IsWritable (codes "refs"))
+    no_slash (inl begins) = let size : 4 ≡ suc (suc (suc (suc (suc (length begins.after))))) = ap length begins.here in omega (arith, size)
+    no_slash (inr is_head) = other_byte 0 (codes "refs") (codes "HEAD") (λ byte. omega (arith, byte)) is_head
+
+    longer : ¬ (IsWritable (codes "HEADS"))
+    longer (inl begins) = other_byte 0 (codes "HEADS") (codes "refs/" ++ begins.after) (λ byte. omega (arith, byte)) begins.here
+    longer (inr is_head) = other_length _ _ (λ size. omega (arith, size)) is_head
+
+    no_foo : ¬ (IsWritable (codes "foo"))
+    no_foo (inl begins) = other_byte 0 (codes "foo") (codes "refs/" ++ begins.after) (λ byte. omega (arith, byte)) begins.here
+    no_foo (inr is_head) = other_length _ _ (λ size. omega (arith, size)) is_head
+
+-- what a fix tells of a mapping to a partial name by the second spec
+abbrev pub foo_fix : Removed
+foo_fix = record { destination = codes "foo"; spec = fetched Forced (codes "refs/heads/*") (Some (codes "refs/x/*")) }
+
+-- of mappings from one source, the one to a partial name goes
+pub validated : IsValidated both_to_x (tag_to_x ∷ tag_to_foo ∷ tag_alone ∷ []) (tag_to_x ∷ tag_alone ∷ []) (foo_fix ∷ [])
+validated = record {
+  free = no_conflicts both_to_x (tag_to_x ∷ tag_to_foo ∷ tag_alone ∷ []) apart_all;
+  survive = (
+    Some tag_to_x,
+    tag_alone ∷ [],
+    (refl, inl (record { after = codes "x/a"; here = refl })),
+    (None, tag_alone ∷ [], (λ m made. writable.4 made.1), (Some tag_alone, [], (refl, tt), refl, refl), refl),
+    refl,
+  );
+  fixed = (
+    None,
+    foo_fix ∷ [],
+    (λ fix made. made.unwritable (subst IsWritable (some_once (codes "refs/x/a") fix.destination made.goes) (inl (record { after = codes "x/a"; here = refl })))),
+    (
+      Some foo_fix,
+      [],
+      record { goes = refl; unwritable = writable.4; spec = refl },
+      (None, [], (λ fix made. none_some fix.destination made.goes), refl, refl),
+      refl,
+    ),
+    refl,
+  );
+}
+  where
+    apart_all : (d : List ℕ) → ¬ (IsContested (tag_to_x ∷ tag_to_foo ∷ tag_alone ∷ []) d)
+    apart_all d contested =
+        let tag = of_element (λ n. n.source ≡ name (codes "refs/tags/a")) (tag_to_x ∷ tag_to_foo ∷ tag_alone ∷ []) in
+        contested.differ (tag contested.one (refl, (refl, (refl, tt))) contested.has_one ∙ sym (tag contested.other (refl, (refl, (refl, tt))) contested.has_other))
+
+-- the first spec has a place in a group, and none is behind the last one
+pub places : IndexesFit both_to_x (tag_to_x ∷ tag_again ∷ []) × ¬ (IndexesFit both_to_x (tag_to_x ∷ mapping 0 (codes "a") None 2 ∷ []))
+places = ((omega arith, (omega arith, tt)), λ fit. let below : 2 < 2 = fit.1.0 in omega (arith, below))
+
+-- what the law on validations says of mappings to one destination
+pub meet : HaveOneSource (tag_to_x ∷ tag_again ∷ []) × ¬ (HaveOneSource meeting) × NeverMeet (tag_to_x ∷ tag_to_foo ∷ tag_alone ∷ tag_alone ∷ []) × ¬ (NeverMeet (tag_to_x ∷ tag_alone ∷ tag_again ∷ []))
+unfolding at_x
+meet = (
+  (λ m n d has_m has_n to_m to_n.
+      let tag = of_element (λ x. x.source ≡ name (codes "refs/tags/a")) (tag_to_x ∷ tag_again ∷ []) in
+      tag m (refl, (refl, tt)) has_m ∙ sym (tag n (refl, (refl, tt)) has_n)),
+  (λ one. at_x.differ (one tag_to_x branch_to_x (codes "refs/x/a") at_x.has_one at_x.has_other refl refl)),
+  (
+    (
+      (λ at. other_length _ _ (λ size. omega (arith, size)) (some_once (codes "refs/x/a") (codes "foo") (at.1 ∙ sym at.2))),
+      ((λ at. none_some at.0 at.2), ((λ at. none_some at.0 at.2), tt)),
+    ),
+    (
+      ((λ at. none_some at.0 at.2), ((λ at. none_some at.0 at.2), tt)),
+      (((λ at. none_some at.0 at.2), tt), (tt, tt)),
+    ),
+  ),
+  λ never. never.0.1.0 (codes "refs/x/a", refl, refl),
+)
+
+-- ---- what is left out of a list, or put in
+
+-- the text of a spec is that of its place, and there is none behind the last one
+pub texts_at : IsTextAt both_to_x 0 (codes "refs/tags/*:refs/x/*") × IsTextAt (fetched Forced (codes "main") None ∷ []) 0 (codes "main") × ¬ (IsTextAt both_to_x 1 (codes "refs/tags/*:refs/x/*")) × ((text : List ℕ) → ¬ (IsTextAt both_to_x 2 text))
+texts_at = (
+  (fetched Normal (codes "refs/tags/*") (Some (codes "refs/x/*")), refl, refl),
+  (fetched Forced (codes "main") None, refl, refl),
+  at_one,
+  λ text is. none_reading is.0 is.1,
+)
+  where
+    none_reading : (r : Reading) → Path (Option Reading) None (Some r) → ⊥
+    none_reading r same = cc
+
+    at_one : ¬ (IsTextAt both_to_x 1 (codes "refs/tags/*:refs/x/*"))
+    at_one (r, is, prints) =
+        let r_is : fetched Forced (codes "refs/heads/*") (Some (codes "refs/x/*")) ≡ r = cc in
+        other_length _ _ (λ size. omega (arith, size)) (some_once (codes "+refs/heads/*:refs/x/*") (codes "refs/tags/*:refs/x/*") (ap printed r_is ∙ prints))
+
+-- a contested destination is a conflict, so there is no validation, and no list without it
+pub no_less : ¬ (AreConflicts both_to_x meeting []) × ((rest : List Mapped) (fixes : List Removed) → ¬ (IsValidated both_to_x meeting rest fixes))
+unfolding at_x
+no_less = ((λ are. none_in (are.every (codes "refs/x/a") at_x)), λ rest fixes is. none_in (is.free.every (codes "refs/x/a") at_x))
+  where
+    none_in : ¬ (Contains (map (λ (c : Conflict). c.destination) []) (codes "refs/x/a"))
+    none_in (k, below, is) = omega (arith, below)
+
+-- a mapping survives without a destination, and with one that can be written
+pub survivors : Survives tag_alone × Survives tag_to_x × ¬ (Survives tag_to_foo) × ¬ (AreSurvivors (tag_to_foo ∷ []) (tag_to_foo ∷ [])) × ¬ (AreSurvivors (tag_alone ∷ []) [])
+survivors = (
+  tt,
+  inl (record { after = codes "x/a"; here = refl }),
+  writable.4,
+  kept,
+  λ are. nothing_made (λ k m made. (made ≡ m) × Survives m) 0 [] tag_alone [] tag_alone are (refl, tt),
+)
+  where
+    kept : ¬ (AreSurvivors (tag_to_foo ∷ []) (tag_to_foo ∷ []))
+    kept (None, rest, none, empty, same) = let size : 1 ≡ 0 = ap length (same ∙ empty) in omega (arith, size)
+    kept (Some m, rest, made, empty, same) = writable.4 made.1
+
+-- a fix is for a destination that can't be written, with the reading of its spec
+pub fixes : IsFix both_to_x tag_to_foo foo_fix × ((fix : Removed) → ¬ (IsFix both_to_x tag_to_x fix) × ¬ (IsFix both_to_x tag_alone fix)) × ¬ (IsFix both_to_x tag_to_foo (record { destination = codes "foo"; spec = fetched Normal (codes "refs/tags/*") (Some (codes "refs/x/*")) })) × ¬ (AreFixes both_to_x (tag_to_foo ∷ []) [])
+fixes = (
+  foo,
+  (λ fix. ((λ is. is.unwritable (subst IsWritable (some_once (codes "refs/x/a") fix.destination is.goes) (inl (record { after = codes "x/a"; here = refl })))), λ is. none_some fix.destination is.goes)),
+  (λ is. forced_normal is.spec),
+  λ are. nothing_made (λ k m fix. IsFix both_to_x m fix) 0 [] tag_to_foo [] foo_fix are foo,
+)
+  where
+    foo : IsFix both_to_x tag_to_foo foo_fix
+    foo = record { goes = refl; unwritable = writable.4; spec = refl }
+
+    forced_normal : Path (Option Reading) (Some (fetched Forced (codes "refs/heads/*") (Some (codes "refs/x/*")))) (Some (fetched Normal (codes "refs/tags/*") (Some (codes "refs/x/*")))) → ⊥
+    forced_normal same = let modes : Some Forced ≡ Some Normal = ap (λ (o : Option Reading). option_map (λ (r : Reading). r.mode) o) same in cc
+
+-- mappings meet at a destination that both have
+pub meetings : MeetAt tag_to_x branch_to_x × ¬ (MeetAt tag_to_x tag_to_foo) × ¬ (MeetAt tag_alone tag_alone)
+meetings = (
+  (codes "refs/x/a", refl, refl),
+  (λ at. other_length _ _ (λ size. omega (arith, size)) (some_once (codes "refs/x/a") (codes "foo") (at.1 ∙ sym at.2))),
+  λ at. none_some at.0 at.1,
+)

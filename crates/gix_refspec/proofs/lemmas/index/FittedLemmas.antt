@@ -1,0 +1,95 @@
+-- The places of the items that patterns fit, as they are listed spec by spec.
+use Rattle.std.proofs.Common.{◌≡◌, inl, inr, ℕ, ◌+◌, ◌<◌, ◌≤◌, List, [], ◌∷◌, ◌++◌, Option, None, Some, length, map, take, get_or, Result, Ok, Err, IfOk, refl, sym, ap, ◌∙◌, subst, arith}
+use Rattle.std.specs.Global.{Vec}
+use Rattle.std.specs.declared.alloc.AllocError.{AllocError}
+use Rattle.std.proofs.Math.Seq.{get_or-append_seam}
+use Rattle.std.proofs.lemmas.Bool.{cases_lt}
+use Rattle.std.proofs.lemmas.List.{append-nil, get_or-map, get_or_append_left, length-append, length-map}
+use Rattle.gix_refspec.specs.declared.match_group.types.Item.{Item}
+use Rattle.gix_refspec.specs.declared.match_group.hits.ends.Direction.{Direction}
+use Rattle.gix_refspec.specs.declared.match_group.hits.ends.Ends.{Ends as DeclaredEnds}
+use Rattle.gix_refspec.specs.declared.match_group.hits.Look.{Look}
+use Rattle.gix_refspec.specs.declared.spec.RefSpecRef.{RefSpecRef}
+use Rattle.gix_refspec.specs.Specs.Reading.{Reading}
+use Rattle.gix_refspec.specs.Views.Spec.{reading_of}
+use Rattle.gix_refspec.specs.Matching.Side.{SideKind, Fits, HasKind}
+use Rattle.gix_refspec.specs.Matching.Match.{Ref}
+use Rattle.gix_refspec.specs.Views.Group.{ref_of}
+use Rattle.gix_refspec.specs.Matching.Hits.{Ends}
+use Rattle.gix_refspec.specs.Private.SideViews.{shown_kind}
+use Rattle.gix_refspec.specs.Private.HitViews.{FitsRef, HasEnds, HaveKinds}
+use Rattle.gix_refspec.specs.Private.Index.{ArePlacesFitted, ArePlacesFittedTo, HasListed, ListEach, ListsFitted, ListsFor}
+use Rattle.gix_refspec.proofs.lemmas.hits.HitLemmas.{one_kind, one_pair}
+use Rattle.gix_refspec.proofs.lemmas.lists.JoinLemmas.{made_next, map_long, map_more}
+
+-- one more item that the pattern fits
+pub fits_next : (before after : List ℕ) (xs : List Item) (i : ℕ) (d : Item) (places more : List ℕ) → i < length xs → ArePlacesFitted before after (map ref_of (take i xs)) places → FitsRef before after (ref_of (get_or xs i d)) → more ≡ places ++ i ∷ [] → ArePlacesFitted before after (map ref_of (take (i + 1) xs)) more
+fits_next before after xs i d places more below so_far fits is =
+    subst (λ (l : List Ref). ArePlacesFitted before after l more) (sym (map_more ref_of xs i d below))
+    (subst (ArePlacesFitted before after (map ref_of (take i xs) ++ ref_of (get_or xs i d) ∷ [])) (sym is)
+    (made_next (λ k r place. FitsRef before after r × (place ≡ k)) i (map ref_of (take i xs)) (ref_of (get_or xs i d)) places (Some i) (map_long ref_of xs i below) so_far (fits, refl)))
+
+-- one more that it doesn't fit
+pub fits_not : (before after : List ℕ) (xs : List Item) (i : ℕ) (d : Item) (places : List ℕ) → i < length xs → ArePlacesFitted before after (map ref_of (take i xs)) places → ((word : List ℕ) → ¬ (Fits before after (ref_of (get_or xs i d)).name word)) → ArePlacesFitted before after (map ref_of (take (i + 1) xs)) places
+fits_not before after xs i d places below so_far none =
+    subst (λ (l : List Ref). ArePlacesFitted before after l places) (sym (map_more ref_of xs i d below))
+    (subst (ArePlacesFitted before after (map ref_of (take i xs) ++ ref_of (get_or xs i d) ∷ [])) (append-nil places)
+    (made_next (λ k r place. FitsRef before after r × (place ≡ k)) i (map ref_of (take i xs)) (ref_of (get_or xs i d)) places None (map_long ref_of xs i below) so_far (λ place has. none has.0.0 has.0.1)))
+
+-- what is listed for the specs up to a place
+pub record ListedUpTo (direction : Direction) (specs : List RefSpecRef) (refs : List Ref) (i : ℕ) (listed : List (Option (Vec ℕ))) : Type 0 where
+  pub long : length listed ≡ i
+  pub each : (k : ℕ) (d : Reading) → k < i → ListsFor direction (get_or (map reading_of specs) k d) refs (get_or listed k None)
+
+pub nothing_listed : (direction : Direction) (specs : List RefSpecRef) (refs : List Ref) (listed : List (Option (Vec ℕ))) → listed ≡ [] → ListedUpTo direction specs refs 0 listed
+nothing_listed direction specs refs listed is = record { long = ap length is; each = λ k d below. absurd (omega (arith, below)) }
+
+-- one more spec
+pub listed_next : (direction : Direction) (specs : List RefSpecRef) (refs : List Ref) (i : ℕ) (s : RefSpecRef) (listed more : List (Option (Vec ℕ))) (x : Option (Vec ℕ)) → i < length specs → s ≡ get_or specs i s → ListedUpTo direction specs refs i listed → ListsFor direction (reading_of s) refs x → more ≡ listed ++ x ∷ [] → ListedUpTo direction specs refs (i + 1) more
+listed_next direction specs refs i s listed more x below is so_far here all = record {
+  long = ap length all ∙ length-append listed (x ∷ []) ∙ ap (λ (n : ℕ). n + 1) so_far.long;
+  each = λ k d in_all.
+      subst (λ (l : List (Option (Vec ℕ))). ListsFor direction (get_or (map reading_of specs) k d) refs (get_or l k None)) (sym all)
+      (elim (cases_lt k i) [
+        | inl early ↦
+            let inside : k < length listed = (let long = so_far.long in omega (arith, early, long)) in
+            subst (ListsFor direction (get_or (map reading_of specs) k d) refs) (sym (get_or_append_left listed (x ∷ []) None k inside)) (so_far.each k d early)
+        | inr late ↦
+            let same : k ≡ i = omega (arith, late, in_all) in
+            let seam : get_or (listed ++ x ∷ []) k None ≡ x = ap (λ (n : ℕ). get_or (listed ++ x ∷ []) n None) (same ∙ sym so_far.long) ∙ get_or-append_seam listed x [] None in
+            let reading : get_or (map reading_of specs) k d ≡ reading_of s = ap (λ (n : ℕ). get_or (map reading_of specs) n d) same ∙ get_or-map reading_of specs i s d below ∙ ap reading_of (sym is) in
+            subst (λ (r : Reading). ListsFor direction r refs (get_or (listed ++ x ∷ []) k None)) (sym reading)
+            (subst (ListsFor direction (reading_of s) refs) (sym seam) here)
+      ]);
+}
+
+-- of all specs
+pub listed_all : (direction : Direction) (specs : List RefSpecRef) (refs : List Ref) (i : ℕ) (listed : List (Option (Vec ℕ))) → length specs ≤ i → ListedUpTo direction specs refs i listed → ListEach direction (map reading_of specs) refs listed
+listed_all direction specs refs i listed long so_far k d below = so_far.each k d (let same = length-map specs reading_of in omega (arith, below, long, same))
+
+-- nothing need be listed
+pub lists_nothing : (direction : Direction) (r : Reading) (refs : List Ref) → ListsFor direction r refs None
+lists_nothing direction r refs ends kind has of = tt
+
+-- what is listed for a near end is listed for the reading that has it
+pub lists_for : (direction : Direction) (r : Reading) (refs : List Ref) (kinds : DeclaredEnds) (listed : Option (Vec ℕ)) → (ends : Ends) × HasEnds direction r ends × HaveKinds ends kinds → ListsFitted (shown_kind kinds.near) refs listed → ListsFor direction r refs listed
+lists_for direction r refs kinds listed (ends, has, have) are other kind has_other of =
+    subst (λ (k : SideKind). ListsFitted k refs listed) (same_kind direction r ends other kind kinds has has_other have of) are
+  where
+    same_kind : (direction : Direction) (r : Reading) (ends other : Ends) (kind : SideKind) (kinds : DeclaredEnds) → HasEnds direction r ends → HasEnds direction r other → HaveKinds ends kinds → HasKind other.near kind → shown_kind kinds.near ≡ kind
+    same_kind direction r ends other kind kinds has has_other have of =
+        one_kind other.near (shown_kind kinds.near) kind (subst (λ (e : Ends). HasKind e.near (shown_kind kinds.near)) (one_pair direction r ends other has has_other) have.near) of
+
+-- so is it of a look that finds it
+pub look_for : (direction : Direction) (r : Reading) (refs : List Ref) (kinds : DeclaredEnds) (looked : Result Look AllocError) → (ends : Ends) × HasEnds direction r ends × HaveKinds ends kinds → IfOk looked (λ look. ListsFitted (shown_kind kinds.near) refs look.fitted) → IfOk looked (λ look. ListsFor direction r refs look.fitted)
+look_for direction r refs kinds (Ok look) found are = lists_for direction r refs kinds look.fitted found are
+look_for direction r refs kinds (Err error) found are = tt
+
+-- the places listed for a spec are those that its near end fits
+pub listed_places : (direction : Direction) (specs : List RefSpecRef) (refs : List Ref) (i : ℕ) (s : RefSpecRef) (kinds : DeclaredEnds) (listed : List (Option (Vec ℕ))) (places : List ℕ) → i < length specs → s ≡ get_or specs i s → ListEach direction (map reading_of specs) refs listed → (ends : Ends) × HasEnds direction (reading_of s) ends × HaveKinds ends kinds → HasListed listed i places → ArePlacesFittedTo (shown_kind kinds.near) refs places
+listed_places direction specs refs i s kinds listed places below is each (ends, has, have) (v, at, same) =
+    let inside : i < length (map reading_of specs) = (let long = length-map specs reading_of in omega (arith, below, long)) in
+    let reading : get_or (map reading_of specs) i (reading_of s) ≡ reading_of s = get_or-map reading_of specs i s (reading_of s) below ∙ ap reading_of (sym is) in
+    let here : ListsFor direction (reading_of s) refs (get_or listed i None) = subst (λ (r : Reading). ListsFor direction r refs (get_or listed i None)) reading (each i (reading_of s) inside) in
+    let found : ListsFitted (shown_kind kinds.near) refs (Some v) = subst (ListsFitted (shown_kind kinds.near) refs) at (here ends (shown_kind kinds.near) has have.near) in
+    subst (ArePlacesFittedTo (shown_kind kinds.near) refs) (sym same) found

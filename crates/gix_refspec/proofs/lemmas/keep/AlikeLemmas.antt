@@ -1,0 +1,287 @@
+-- Fetches that are equal, or whose canonical texts read as one another, map alike.
+use Rattle.std.proofs.Common.{◌≡◌, inl, inr, ◌↔◌, ℕ, ◌+◌, Bool, true, false, List, [], ◌∷◌, map, Option, None, Some, refl, sym, ap, ◌∙◌, subst}
+use Rattle.std.specs.Prelude.{nat_eq}
+use Rattle.std.specs.Cmp.Lexicographic.{pointwise}
+use Rattle.std.specs.List.{AllZip}
+use Rattle.std.proofs.lemmas.Bool.{false≢true}
+use Rattle.gix_refspec.specs.declared.parsing.Operation.{Operation}
+use Rattle.gix_refspec.specs.declared.parsing.Operation.TheVariants.{Fetch}
+use Rattle.gix_refspec.specs.declared.spec.RefSpecRef.{RefSpecRef}
+use Rattle.gix_refspec.specs.Specs.Reading.{Mode, Normal, Forced, Negative, Reading}
+use Rattle.gix_refspec.specs.Specs.Grammar.{IsPositive, IsAccepted, Reads}
+use Rattle.gix_refspec.specs.Specs.Meaning.{Meaning, fetch_only, fetch_exclude, fetch_and_update, meaning, meaning_of}
+use Rattle.gix_refspec.specs.Views.Spec.{key_of_spec, reading_of}
+use Rattle.gix_refspec.specs.Matching.Match.{Ref, Matches, Takes}
+use Rattle.gix_refspec.specs.Matching.Lists.{MakesOf, IsMadeFrom, IsJoinedFrom}
+use Rattle.gix_refspec.specs.Matching.Mappings.{Start, name, id, Mapped, IsExcludedBy, IsExcluded, IsStartExcluded, Stays, IsKept}
+use Rattle.gix_refspec.specs.Matching.Hits.{Ends, AreForwardEnds, AreBackwardEnds, Hit, IsFilled, AreSpecHits, AreHits, IsIdMapping, AreKeptForward, AreKeptBackward}
+use Rattle.gix_refspec.specs.Laws.Matching.{ReadsAgainAs, AreReadAgain, MapAlike, FetchGroupReadsBack, FetchTheSame, EqualGroups, AreFetches}
+use Rattle.gix_refspec.proofs.lemmas.lists.EqualLemmas.{same_keys}
+use Rattle.gix_refspec.proofs.lemmas.specs.FormsBackLemmas.{some_once}
+use Rattle.gix_refspec.proofs.lemmas.specs.SpecLemmas.{equal_keys, keeps_operation, printed_back, says, says_for_operation}
+
+-- ---- readings alike
+
+-- whether the sign is `^`
+abbrev pub is_negative : Mode → Bool
+is_negative Negative = true
+is_negative _ = false
+
+-- the readings have the same sides, and both are negative or neither
+pub record AreAlike (r q : Reading) : Type 0 where
+  pub source : r.source ≡ q.source
+  pub destination : r.destination ≡ q.destination
+  pub negative : is_negative r.mode ≡ is_negative q.mode
+
+alike_back : (r q : Reading) → AreAlike r q → AreAlike q r
+alike_back r q alike = record { source = sym alike.source; destination = sym alike.destination; negative = sym alike.negative }
+
+zip_back : (g h : List Reading) → AllZip AreAlike g h → AllZip AreAlike h g
+zip_back [] [] alike = tt
+zip_back [] (q ∷ h) alike = absurd alike
+zip_back (r ∷ g) [] alike = absurd alike
+zip_back (r ∷ g) (q ∷ h) alike = (alike_back r q alike.0, zip_back g h alike.1)
+
+positive_sign : (mode : Mode) → IsPositive mode → is_negative mode ≡ false
+positive_sign Normal positive = refl
+positive_sign Forced positive = refl
+positive_sign Negative positive = absurd positive
+
+sign_positive : (mode : Mode) → is_negative mode ≡ false → IsPositive mode
+sign_positive Normal sign = tt
+sign_positive Forced sign = tt
+sign_positive Negative sign = absurd (false≢true (sym sign))
+
+sign_negative : (mode : Mode) → is_negative mode ≡ true → mode ≡ Negative
+sign_negative Normal sign = absurd (false≢true sign)
+sign_negative Forced sign = absurd (false≢true sign)
+sign_negative Negative sign = refl
+
+alike_positive : (r q : Reading) → AreAlike r q → IsPositive r.mode → IsPositive q.mode
+alike_positive r q alike positive = sign_positive q.mode (sym alike.negative ∙ positive_sign r.mode positive)
+
+alike_negative : (r q : Reading) → AreAlike r q → r.mode ≡ Negative → q.mode ≡ Negative
+alike_negative r q alike negative = sign_negative q.mode (sym alike.negative ∙ ap is_negative negative)
+
+-- ---- fetches with one meaning
+
+-- the sides and the sign that a fetch has which says this
+said_source : Option Meaning → Option (List ℕ)
+said_source (Some (fetch_only s)) = Some s
+said_source (Some (fetch_exclude s)) = Some s
+said_source (Some (fetch_and_update s d forced)) = Some s
+said_source _ = None
+
+said_destination : Option Meaning → Option (List ℕ)
+said_destination (Some (fetch_and_update s d forced)) = Some d
+said_destination _ = None
+
+said_negative : Option Meaning → Bool
+said_negative (Some (fetch_exclude s)) = true
+said_negative _ = false
+
+-- the reading has the sides and the sign of what it says
+record IsSaid (mode : Mode) (s d : Option (List ℕ)) (m : Option Meaning) : Type 0 where
+  pub source : s ≡ said_source m
+  pub destination : d ≡ said_destination m
+  pub negative : is_negative mode ≡ said_negative m
+
+is_said : (mode : Mode) (s d : Option (List ℕ)) (m : Meaning) → meaning Fetch mode s d ≡ Some m → IsSaid mode s d (meaning Fetch mode s d)
+unfolding said_source said_destination said_negative
+is_said Normal None d m means = absurd (cc)
+is_said Normal (Some s) None m means = record { source = refl; destination = refl; negative = refl }
+is_said Normal (Some s) (Some d) m means = record { source = refl; destination = refl; negative = refl }
+is_said Forced None d m means = absurd (cc)
+is_said Forced (Some s) None m means = record { source = refl; destination = refl; negative = refl }
+is_said Forced (Some s) (Some d) m means = record { source = refl; destination = refl; negative = refl }
+is_said Negative None d m means = absurd (cc)
+is_said Negative (Some s) None m means = record { source = refl; destination = refl; negative = refl }
+is_said Negative (Some s) (Some d) m means = absurd (cc)
+
+fetch_said : (r : Reading) (m : Meaning) → r.operation ≡ Fetch → meaning_of r ≡ Some m → IsSaid r.mode r.source r.destination (meaning_of r)
+fetch_said r m fetch means =
+    let same : meaning_of r ≡ meaning Fetch r.mode r.source r.destination = ap (λ (op : Operation). meaning op r.mode r.source r.destination) fetch in
+    subst (IsSaid r.mode r.source r.destination) (sym same) (is_said r.mode r.source r.destination m (sym same ∙ means))
+
+-- two fetches that say the same are alike: only the force of one without a destination may differ
+said_alike : (r q : Reading) (m : Meaning) → r.operation ≡ Fetch → q.operation ≡ Fetch → meaning_of r ≡ Some m → meaning_of q ≡ meaning_of r → AreAlike r q
+said_alike r q m fetch_r fetch_q means same =
+    let of_r = fetch_said r m fetch_r means in
+    let of_q = fetch_said q m fetch_q (same ∙ means) in
+    record {
+      source = of_r.source ∙ sym (of_q.source ∙ ap said_source same);
+      destination = of_r.destination ∙ sym (of_q.destination ∙ ap said_destination same);
+      negative = of_r.negative ∙ sym (of_q.negative ∙ ap said_negative same);
+    }
+
+-- what the canonical text of an accepted fetch reads as is alike
+again_alike : (r q : Reading) → ∥ IsAccepted r ∥₁ → ReadsAgainAs r q → AreAlike r q
+again_alike r q accepted again =
+    let back = printed_back r accepted in
+    let said = says r accepted in
+    let text : again.text ≡ back.text = some_once again.text back.text (sym again.is ∙ back.is) in
+    let reads : Reads r.operation back.text q = subst (λ (t : List ℕ). Reads r.operation t q) text (subst (λ (op : Operation). Reads op again.text q) (sym again.fetch) again.reads) in
+    said_alike r q said.0 again.fetch (keeps_operation Fetch again.text q again.reads) said.1 (ap meaning_of (back.again.only q reads) ∙ back.same)
+
+specs_alike : (specs : List RefSpecRef) (h : List Reading) → AreReadAgain (map reading_of specs) h → AllZip AreAlike (map reading_of specs) h
+specs_alike [] [] again = tt
+specs_alike [] (q ∷ h) again = absurd again
+specs_alike (s ∷ specs) [] again = absurd again
+specs_alike (s ∷ specs) (q ∷ h) again = (again_alike (reading_of s) q s.accepted again.0, specs_alike specs h again.1)
+
+-- ---- lists that are made alike
+
+makes_alike : {X Z Y : Type 0} (R : ℕ → X → Y → Type 0) (S : ℕ → Z → Y → Type 0) (k : ℕ) (x : X) (z : Z) (made : Option Y) → ((y : Y) → R k x y ↔ S k z y) → MakesOf R k x made → MakesOf S k z made
+makes_alike R S k x z None both none = λ y makes. none y ((both y).1 makes)
+makes_alike R S k x z (Some y) both makes = (both y).0 makes
+
+made_zip : {X Z Y : Type 0} (T : X → Z → Type 0) (R : ℕ → X → Y → Type 0) (S : ℕ → Z → Y → Type 0) → ((k : ℕ) (x : X) (z : Z) (y : Y) → T x z → R k x y ↔ S k z y) → (k : ℕ) (xs : List X) (zs : List Z) (ys : List Y) → AllZip T xs zs → IsMadeFrom R k xs ys → IsMadeFrom S k zs ys
+made_zip T R S both k [] [] ys alike made = made
+made_zip T R S both k [] (z ∷ zs) ys alike made = absurd alike
+made_zip T R S both k (x ∷ xs) [] ys alike made = absurd alike
+made_zip T R S both k (x ∷ xs) (z ∷ zs) ys alike (made, rest, here, more, is) =
+    (made, rest, makes_alike R S k x z made (λ y. both k x z y alike.0) here, made_zip T R S both (k + 1) xs zs rest alike.1 more, is)
+
+joined_zip : {X Z Y : Type 0} (T : X → Z → Type 0) (R : ℕ → X → List Y → Type 0) (S : ℕ → Z → List Y → Type 0) → ((k : ℕ) (x : X) (z : Z) (ys : List Y) → T x z → R k x ys → S k z ys) → (k : ℕ) (xs : List X) (zs : List Z) (ys : List Y) → AllZip T xs zs → IsJoinedFrom R k xs ys → IsJoinedFrom S k zs ys
+joined_zip T R S each k [] [] ys alike joined = joined
+joined_zip T R S each k [] (z ∷ zs) ys alike joined = absurd alike
+joined_zip T R S each k (x ∷ xs) [] ys alike joined = absurd alike
+joined_zip T R S each k (x ∷ xs) (z ∷ zs) ys alike (made, rest, here, more, is) =
+    (made, rest, each k x z made alike.0 here, joined_zip T R S each (k + 1) xs zs rest alike.1 more, is)
+
+same_zip : {X : Type 0} (xs : List X) → AllZip (λ x y. x ≡ y) xs xs
+same_zip [] = tt
+same_zip (x ∷ xs) = (refl, same_zip xs)
+
+-- ---- groups alike
+
+-- readings that are alike have the same ends
+forward_ends : (r q : Reading) (ends : Ends) → AreAlike r q → AreForwardEnds r ends → AreForwardEnds q ends
+forward_ends r q ends alike are = record { positive = alike_positive r q alike are.positive; near = sym alike.source ∙ are.near; far = sym alike.destination ∙ are.far; no_object = are.no_object }
+
+backward_ends : (r q : Reading) (ends : Ends) → AreAlike r q → AreBackwardEnds r ends → AreBackwardEnds q ends
+backward_ends r q ends alike are = record { positive = alike_positive r q alike are.positive; near = sym alike.destination ∙ are.near; far = sym alike.source ∙ are.far; both = are.both }
+
+-- readings that are alike have the same ends, as the direction sees them
+abbrev KeepsEnds : (Reading → Ends → Type 0) → Type 0
+KeepsEnds HasEnds = (r q : Reading) (ends : Ends) → AreAlike r q → HasEnds r ends → HasEnds q ends
+
+-- and so hit the same items
+spec_hits : (HasEnds : Reading → Ends → Type 0) (Taken : List ℕ → Ref → Option (List ℕ) → Type 0) → KeepsEnds HasEnds → (items : List Ref) (k : ℕ) (r q : Reading) (hits : List Hit) → AreAlike r q → AreSpecHits HasEnds Taken items k r hits → AreSpecHits HasEnds Taken items k q hits
+spec_hits HasEnds Taken keeps items k r q hits alike (inl (ends, has, made)) = inl (ends, keeps r q ends alike has, made)
+spec_hits HasEnds Taken keeps items k r q hits alike (inr (none, empty)) = inr (λ ends has. none ends (keeps q r ends (alike_back r q alike) has), empty)
+
+group_hits : (HasEnds : Reading → Ends → Type 0) (Taken : List ℕ → Ref → Option (List ℕ) → Type 0) → KeepsEnds HasEnds → (g h : List Reading) (items : List Ref) (hits : List Hit) → AllZip AreAlike g h → AreHits HasEnds Taken g items hits → AreHits HasEnds Taken h items hits
+group_hits HasEnds Taken keeps g h items hits alike are = joined_zip AreAlike (AreSpecHits HasEnds Taken items) (AreSpecHits HasEnds Taken items) (spec_hits HasEnds Taken keeps items) 0 g h hits alike are
+
+-- they ask for the same ids
+id_mapping : (k : ℕ) (r q : Reading) (m : Mapped) → AreAlike r q → IsIdMapping k r m → IsIdMapping k q m
+id_mapping k r q m alike is = record {
+  positive = alike_positive r q alike is.positive;
+  text = is.text;
+  bytes = is.bytes;
+  side = sym alike.source ∙ is.side;
+  object = is.object;
+  item = is.item;
+  source = is.source;
+  destination = subst (λ (d : Option (List ℕ)). IsFilled d None m.destination) alike.destination is.destination;
+  spec = is.spec;
+}
+
+-- and exclude the same names
+excluded_by : (n : List ℕ) (r q : Reading) → AreAlike r q → IsExcludedBy n r → IsExcludedBy n q
+excluded_by n r q alike by = record {
+  negative = alike_negative r q alike by.negative;
+  text = by.text;
+  source = sym alike.source ∙ by.source;
+  excludes = by.excludes;
+}
+
+excluded : (n : List ℕ) (g h : List Reading) → AllZip AreAlike g h → IsExcluded g n → IsExcluded h n
+excluded n [] h alike is = absurd is
+excluded n (r ∷ g) [] alike is = absurd alike
+excluded n (r ∷ g) (q ∷ h) alike (inl by) = inl (excluded_by n r q alike.0 by)
+excluded n (r ∷ g) (q ∷ h) alike (inr is) = inr (excluded n g h alike.1 is)
+
+start_excluded : (s : Start) (g h : List Reading) → AllZip AreAlike g h → IsStartExcluded g s → IsStartExcluded h s
+start_excluded (name n) g h alike is = excluded n g h alike is
+start_excluded (id i) g h alike is = is
+
+stays : (g h : List Reading) (all : List Mapped) (k : ℕ) (m : Mapped) → AllZip AreAlike g h → Stays g all k m → Stays h all k m
+stays g h all k m alike is = record { first = is.first; included = λ by. is.included (start_excluded m.source h g (zip_back g h alike) by) }
+
+-- so they keep the same of a list
+kept : (g h : List Reading) (all list : List Mapped) → AllZip AreAlike g h → IsKept g all list → IsKept h all list
+kept g h all list alike is =
+    made_zip (λ x y. x ≡ y) (λ k m made. (made ≡ m) × Stays g all k m) (λ k m made. (made ≡ m) × Stays h all k m) both 0 all all list (same_zip all) is
+  where
+    both : (k : ℕ) (m n made : Mapped) → m ≡ n → ((made ≡ m) × Stays g all k m) ↔ ((made ≡ n) × Stays h all k n)
+    both k m n made same = (
+      λ of_g. (of_g.0 ∙ same, stays g h all k n alike (subst (Stays g all k) same of_g.1)),
+      λ of_h. (of_h.0 ∙ sym same, stays h g all k m (zip_back g h alike) (subst (Stays h all k) (sym same) of_h.1)),
+    )
+
+forward : (g h : List Reading) (items : List Ref) (list : List Mapped) → AllZip AreAlike g h → AreKeptForward g items list → AreKeptForward h items list
+forward g h items list alike are = record {
+  all = are.all;
+  forward = record {
+    ids = are.forward.ids;
+    hits = are.forward.hits;
+    are_ids = made_zip AreAlike IsIdMapping IsIdMapping (λ k r q m same. (id_mapping k r q m same, id_mapping k q r m (alike_back r q same))) 0 g h are.forward.ids alike are.forward.are_ids;
+    are_hits = group_hits AreForwardEnds (Takes items) forward_ends g h items are.forward.hits alike are.forward.are_hits;
+    all = are.forward.all;
+  };
+  is = kept g h are.all list alike are.is;
+}
+
+backward : (g h : List Reading) (items : List Ref) (list : List Mapped) → AllZip AreAlike g h → AreKeptBackward g items list → AreKeptBackward h items list
+backward g h items list alike are = record {
+  all = are.all;
+  backward = record {
+    hits = are.backward.hits;
+    are_hits = group_hits AreBackwardEnds Matches backward_ends g h items are.backward.hits alike are.backward.are_hits;
+    all = are.backward.all;
+  };
+  is = kept g h are.all list alike are.is;
+}
+
+map_alike : (g h : List Reading) (items : List Ref) → AllZip AreAlike g h → MapAlike g h items
+map_alike g h items alike = record {
+  forward = λ list. (forward g h items list alike, forward h g items list (zip_back g h alike));
+  backward = λ list. (backward g h items list alike, backward h g items list (zip_back g h alike));
+}
+
+-- a group of specs maps as what its canonical texts read as
+pub reads_back : (specs : List RefSpecRef) (h : List Reading) (items : List Ref) → FetchGroupReadsBack (map reading_of specs) h items
+reads_back specs h items again = map_alike (map reading_of specs) h items (specs_alike specs h again)
+
+-- specs of one meaning are alike
+equal_alike : (s t : RefSpecRef) → FetchTheSame (reading_of s) (reading_of t) → AreAlike (reading_of s) (reading_of t)
+equal_alike s t equal =
+    let said = says (reading_of s) s.accepted in
+    let fetch = sym (says_for_operation (reading_of t) said.0 (sym equal.same ∙ said.1)) ∙ (says_for_operation (reading_of s) said.0 said.1 ∙ equal.fetch) in
+    said_alike (reading_of s) (reading_of t) said.0 equal.fetch fetch said.1 (sym equal.same)
+
+all_equal_alike : (specs other : List RefSpecRef) → AllZip FetchTheSame (map reading_of specs) (map reading_of other) → AllZip AreAlike (map reading_of specs) (map reading_of other)
+all_equal_alike [] [] equal = tt
+all_equal_alike [] (t ∷ other) equal = absurd equal
+all_equal_alike (s ∷ specs) [] equal = absurd equal
+all_equal_alike (s ∷ specs) (t ∷ other) equal = (equal_alike s t equal.0, all_equal_alike specs other equal.1)
+
+pub equal_groups : (specs other : List RefSpecRef) (items : List Ref) → EqualGroups (map reading_of specs) (map reading_of other) items
+equal_groups specs other items equal = map_alike (map reading_of specs) (map reading_of other) items (all_equal_alike specs other equal)
+
+-- lists of specs that `==` tells equal
+equal_fetches : (specs other : List RefSpecRef) → AreFetches (map reading_of specs) → map (λ (s : RefSpecRef). meaning_of (reading_of s)) specs ≡ map (λ (s : RefSpecRef). meaning_of (reading_of s)) other → AllZip FetchTheSame (map reading_of specs) (map reading_of other)
+equal_fetches [] [] fetches same = tt
+equal_fetches [] (t ∷ other) fetches same = absurd (cc)
+equal_fetches (s ∷ specs) [] fetches same = absurd (cc)
+equal_fetches (s ∷ specs) (t ∷ other) fetches same =
+    let first : meaning_of (reading_of s) ≡ meaning_of (reading_of t) = cc in
+    let rest : map (λ (x : RefSpecRef). meaning_of (reading_of x)) specs ≡ map (λ (x : RefSpecRef). meaning_of (reading_of x)) other = cc in
+    (record { fetch = fetches.0; same = first }, equal_fetches specs other fetches.1 rest)
+
+pub equal_lists : (specs other : List RefSpecRef) (items : List Ref) → pointwise (λ (a : RefSpecRef) (b : RefSpecRef). pointwise (pointwise nat_eq) (key_of_spec a) (key_of_spec b)) specs other ≡ true → AreFetches (map reading_of specs) → MapAlike (map reading_of specs) (map reading_of other) items
+equal_lists specs other items told fetches =
+    let same = (same_keys (λ (a : RefSpecRef) (b : RefSpecRef). pointwise (pointwise nat_eq) (key_of_spec a) (key_of_spec b)) (λ (s : RefSpecRef). meaning_of (reading_of s)) (λ a b. equal_keys (meaning_of (reading_of a)) (meaning_of (reading_of b))) specs other).0 told in
+    equal_groups specs other items (equal_fetches specs other fetches same)

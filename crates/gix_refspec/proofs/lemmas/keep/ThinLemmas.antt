@@ -1,0 +1,136 @@
+-- Mappings without some of those that repeat an earlier pair: the same ones of them stay.
+use Rattle.std.proofs.Common.{◌≡◌, ◌⊎◌, inl, inr, ◌↔◌, ℕ, zero, suc, ◌+◌, List, [], ◌∷◌, ◌++◌, Option, None, Some, length, map, take, refl, sym, ap, ◌∙◌, subst, append_assoc}
+use Rattle.std.proofs.lemmas.List.{append-nil, length-append}
+use Rattle.gix_refspec.specs.Specs.Reading.{Reading}
+use Rattle.gix_refspec.specs.Matching.Lists.{MakesOf, IsMadeFrom}
+use Rattle.gix_refspec.specs.Matching.Mappings.{Mapped, IsSamePair, HasPair, Stays, IsKept}
+use Rattle.gix_refspec.specs.Private.EqualSpecs.{Thins}
+use Rattle.gix_refspec.specs.Private.Part.{moved}
+use Rattle.gix_refspec.proofs.lemmas.keep.KeptLemmas.{HasPair-left, HasPair-last}
+
+pub thins_all : (before l : List Mapped) → Thins before l l
+thins_all before [] = refl
+thins_all before (m ∷ l) = inl (l, refl, thins_all (before ++ m ∷ []) l)
+
+pub thins_both : (before l some m rest : List Mapped) → Thins before l some → Thins (before ++ l) m rest → Thins before (l ++ m) (some ++ rest)
+thins_both before [] some m rest none more =
+    subst (λ (x : List Mapped). Thins before m (x ++ rest)) (sym none) (subst (λ (b : List Mapped). Thins b m rest) (append-nil before) more)
+thins_both before (x ∷ l) some m rest (inl (others, is, thins)) more =
+    let behind = subst (λ (b : List Mapped). Thins b m rest) (sym (append_assoc before (x ∷ []) l)) more in
+    inl (others ++ rest, ap (λ (s : List Mapped). s ++ rest) is, thins_both (before ++ x ∷ []) l others m rest thins behind)
+thins_both before (x ∷ l) some m rest (inr (has, thins)) more =
+    let behind = subst (λ (b : List Mapped). Thins b m rest) (sym (append_assoc before (x ∷ []) l)) more in
+    inr (has, thins_both (before ++ x ∷ []) l some m rest thins behind)
+
+-- mappings with one pair
+pub pair_alike : (l : List Mapped) (m n : Mapped) → IsSamePair m n → HasPair l m → HasPair l n
+pair_alike [] m n same has = absurd has
+pair_alike (x ∷ l) m n same (inl here) = inl (record { source = here.source ∙ same.source; destination = here.destination ∙ same.destination })
+pair_alike (x ∷ l) m n same (inr has) = inr (pair_alike l m n same has)
+
+last_or_before : (l : List Mapped) (x m : Mapped) → HasPair (l ++ x ∷ []) m → HasPair l m ⊎ IsSamePair x m
+last_or_before [] x m (inl same) = inr same
+last_or_before [] x m (inr has) = absurd has
+last_or_before (y ∷ l) x m (inl same) = inl (inl same)
+last_or_before (y ∷ l) x m (inr has) = elim (last_or_before l x m has) [
+  | inl there ↦ inl (inr there)
+  | inr same ↦ inr same
+]
+
+abbrev Keeps : List Reading → List Mapped → ℕ → Mapped → Mapped → Type 0
+Keeps g l k m made = (made ≡ m) × Stays g l k m
+
+-- the same pairs stand before
+abbrev SamePairs : List Mapped → List Mapped → Type 0
+SamePairs before some = (m : Mapped) → HasPair before m ↔ HasPair some m
+
+same_more : (before some : List Mapped) (x : Mapped) → SamePairs before some → SamePairs (before ++ x ∷ []) (some ++ x ∷ [])
+same_more before some x same m = (
+  (λ has. elim (last_or_before before x m has) [ inl there ↦ HasPair-left some (x ∷ []) m ((same m).0 there) | inr here ↦ HasPair-last some x m here ]),
+  (λ has. elim (last_or_before some x m has) [ inl there ↦ HasPair-left before (x ∷ []) m ((same m).1 there) | inr here ↦ HasPair-last before x m here ]),
+)
+
+same_without : (before some : List Mapped) (x : Mapped) → HasPair before x → SamePairs before some → SamePairs (before ++ x ∷ []) some
+same_without before some x repeats same m = (
+  (λ has. elim (last_or_before before x m has) [ inl there ↦ (same m).0 there | inr here ↦ (same m).0 (pair_alike before x m here repeats) ]),
+  (λ has. HasPair-left before (x ∷ []) m ((same m).1 has)),
+)
+
+taken_before : (before l : List Mapped) → take (length before) (before ++ l) ≡ before
+taken_before [] l = refl
+taken_before (x ∷ before) l = ap (λ (b : List Mapped). x ∷ b) (taken_before before l)
+
+stays_alike : (g : List Reading) (L T before some l t : List Mapped) (m : Mapped) → L ≡ before ++ l → T ≡ some ++ t → SamePairs before some → Stays g T (length some) m → Stays g L (length before) m
+stays_alike g L T before some l t m is_l is_t same stays =
+    let at_l : take (length before) L ≡ before = ap (λ (x : List Mapped). take (length before) x) is_l ∙ taken_before before l in
+    let at_t : take (length some) T ≡ some = ap (λ (x : List Mapped). take (length some) x) is_t ∙ taken_before some t in
+    record {
+      first = λ has. stays.first (subst (λ (b : List Mapped). HasPair b m) (sym at_t) ((same m).0 (subst (λ (b : List Mapped). HasPair b m) at_l has)));
+      included = stays.included;
+    }
+
+turned : (before some : List Mapped) → SamePairs before some → SamePairs some before
+turned before some same m = ((same m).1, (same m).0)
+
+makes_alike : (g : List Reading) (L T before some l t : List Mapped) (m : Mapped) (made : Option Mapped) → L ≡ before ++ l → T ≡ some ++ t → SamePairs before some → MakesOf (Keeps g T) (length some) m made → MakesOf (Keeps g L) (length before) m made
+makes_alike g L T before some l t m None is_l is_t same none = λ y keeps. none y (keeps.0, stays_alike g T L some before t l m is_t is_l (turned before some same) keeps.1)
+makes_alike g L T before some l t m (Some y) is_l is_t same keeps = (keeps.0, stays_alike g L T before some l t m is_l is_t same keeps.1)
+
+next_place : (l : List Mapped) (m : Mapped) → length l + 1 ≡ length (l ++ m ∷ [])
+next_place l m = sym (length-append l (m ∷ []))
+
+kept_from : (g : List Reading) (L T before some l t kept : List Mapped) → L ≡ before ++ l → T ≡ some ++ t → SamePairs before some → Thins before l t → IsMadeFrom (Keeps g T) (length some) t kept → IsMadeFrom (Keeps g L) (length before) l kept
+kept_from g L T before some [] t kept is_l is_t same none are = subst (λ (x : List Mapped). IsMadeFrom (Keeps g T) (length some) x kept) none are
+kept_from g L T before some (m ∷ l) t kept is_l is_t same (inl (rest, is, thins)) are =
+    let (made, others, of, more, all) = subst (λ (x : List Mapped). IsMadeFrom (Keeps g T) (length some) x kept) is are in
+    let at_l : L ≡ (before ++ m ∷ []) ++ l = is_l ∙ sym (append_assoc before (m ∷ []) l) in
+    let at_t : T ≡ (some ++ m ∷ []) ++ rest = is_t ∙ ap (λ (x : List Mapped). some ++ x) is ∙ sym (append_assoc some (m ∷ []) rest) in
+    let behind = kept_from g L T (before ++ m ∷ []) (some ++ m ∷ []) l rest others at_l at_t (same_more before some m same) thins (subst (λ (k : ℕ). IsMadeFrom (Keeps g T) k rest others) (next_place some m) more) in
+    (made, others, makes_alike g L T before some (m ∷ l) t m made is_l is_t same of, subst (λ (k : ℕ). IsMadeFrom (Keeps g L) k l others) (sym (next_place before m)) behind, all)
+kept_from g L T before some (m ∷ l) t kept is_l is_t same (inr (has, thins)) are =
+    let at_l : L ≡ (before ++ m ∷ []) ++ l = is_l ∙ sym (append_assoc before (m ∷ []) l) in
+    let taken : take (length before) L ≡ before = ap (λ (x : List Mapped). take (length before) x) is_l ∙ taken_before before (m ∷ l) in
+    let behind = kept_from g L T (before ++ m ∷ []) some l t kept at_l is_t (same_without before some m has same) thins are in
+    (None, kept, (λ y keeps. keeps.1.first (subst (λ (b : List Mapped). HasPair b m) (sym taken) has)), subst (λ (k : ℕ). IsMadeFrom (Keeps g L) k l kept) (sym (next_place before m)) behind, refl)
+
+-- what stays of some of them stays of all
+pub kept_thinned : (g : List Reading) (l some kept : List Mapped) → Thins [] l some → IsKept g some kept → IsKept g l kept
+kept_thinned g l some kept thins is = kept_from g l some [] [] l some kept refl refl (λ m. ((λ has. has), (λ has. has))) thins is
+
+-- ---- at other places
+
+pair_moved : (f : ℕ → ℕ) (l : List Mapped) (m : Mapped) → HasPair (map (moved f) l) (moved f m) ↔ HasPair l m
+pair_moved f [] m = ((λ has. has), (λ has. has))
+pair_moved f (x ∷ l) m = (
+  (λ has. elim has [ inl same ↦ inl (record { source = same.source; destination = same.destination }) | inr there ↦ inr ((pair_moved f l m).0 there) ]),
+  (λ has. elim has [ inl same ↦ inl (record { source = same.source; destination = same.destination }) | inr there ↦ inr ((pair_moved f l m).1 there) ]),
+)
+
+pub take_map : {A B : Type 0} (f : A → B) (k : ℕ) (l : List A) → take k (map f l) ≡ map f (take k l)
+take_map f zero [] = refl
+take_map f (suc k) [] = refl
+take_map f zero (x ∷ l) = refl
+take_map f (suc k) (x ∷ l) = ap (λ t. f x ∷ t) (take_map f k l)
+
+stays_moved : (g : List Reading) (f : ℕ → ℕ) (l : List Mapped) (k : ℕ) (m : Mapped) → Stays g l k m → Stays g (map (moved f) l) k (moved f m)
+stays_moved g f l k m stays = record {
+  first = λ has. stays.first ((pair_moved f (take k l) m).0 (subst (λ (b : List Mapped). HasPair b (moved f m)) (take_map (moved f) k l) has));
+  included = stays.included;
+}
+
+moved_stays : (g : List Reading) (f : ℕ → ℕ) (l : List Mapped) (k : ℕ) (m : Mapped) → Stays g (map (moved f) l) k (moved f m) → Stays g l k m
+moved_stays g f l k m stays = record {
+  first = λ has. stays.first (subst (λ (b : List Mapped). HasPair b (moved f m)) (sym (take_map (moved f) k l)) ((pair_moved f (take k l) m).1 has));
+  included = stays.included;
+}
+
+kept_moved_from : (g : List Reading) (f : ℕ → ℕ) (l : List Mapped) (k : ℕ) (xs kept : List Mapped) → IsMadeFrom (Keeps g l) k xs kept → IsMadeFrom (Keeps g (map (moved f) l)) k (map (moved f) xs) (map (moved f) kept)
+kept_moved_from g f l k [] kept none = ap (map (moved f)) none
+kept_moved_from g f l k (x ∷ xs) kept (None, rest, none, more, is) =
+    (None, map (moved f) rest, (λ y keeps. none x (refl, moved_stays g f l k x keeps.1)), kept_moved_from g f l (k + 1) xs rest more, ap (map (moved f)) is)
+kept_moved_from g f l k (x ∷ xs) kept (Some y, rest, keeps, more, is) =
+    (Some (moved f y), map (moved f) rest, (ap (moved f) keeps.0, stays_moved g f l k x keeps.1), kept_moved_from g f l (k + 1) xs rest more, ap (map (moved f)) is)
+
+-- what stays doesn't depend on the places
+pub kept_moved : (g : List Reading) (f : ℕ → ℕ) (l kept : List Mapped) → IsKept g l kept → IsKept g (map (moved f) l) (map (moved f) kept)
+kept_moved g f l kept is = kept_moved_from g f l 0 l kept is

@@ -1,0 +1,146 @@
+-- What a client asks for, and that a server then tells of each ref that a group of fetches maps.
+use Rattle.std.proofs.Common.{◌≡◌, inl, inr, ℕ, suc, ◌+◌, ◌<◌, List, [], ◌∷◌, ◌++◌, Option, None, Some, MatchOption, Vec, Global, length, map, take, drop, get_or, refl, sym, ap, ◌∙◌, subst, arith}
+use Rattle.bstr.specs.declared.bstring.BString.{BString}
+use Rattle.bstr.specs.Owned.{bstring_bytes}
+use Rattle.std.specs.List as lists
+use Rattle.std.specs.List.{AllByRecursion}
+use Rattle.std.proofs.lemmas.List.{append-nil, get_or-map, length-map, map-append}
+use Rattle.std.proofs.lemmas.List.Elements.{recursion_from_All}
+use Rattle.gix_refspec.specs.declared.parsing.Operation.{Operation}
+use Rattle.gix_refspec.specs.declared.parsing.Operation.TheVariants.{Fetch}
+use Rattle.gix_refspec.specs.declared.spec.RefSpecRef.{RefSpecRef}
+use Rattle.gix_refspec.specs.Views.Spec.{reading_of}
+use Rattle.gix_refspec.specs.Texts.Words.{Begins}
+use Rattle.gix_refspec.specs.Texts.Name.{IsCut}
+use Rattle.gix_refspec.specs.Specs.Grammar.{IsPositive}
+use Rattle.gix_refspec.specs.Specs.Reading.{Reading, side_on_remote}
+use Rattle.gix_refspec.specs.Matching.Side.{SideKind, pattern, full_name, object, partial, HasKind}
+use Rattle.gix_refspec.specs.Matching.Match.{Ref, Matches, MatchesAs, Takes}
+use Rattle.gix_refspec.specs.Matching.Prefix.{TellsPrefix, IsAsked}
+use Rattle.gix_refspec.specs.Matching.Lists.{IsJoinedFrom}
+use Rattle.gix_refspec.specs.Matching.Mappings.{Start, name}
+use Rattle.gix_refspec.specs.Matching.Hits.{AreForwardEnds}
+use Rattle.gix_refspec.specs.Laws.Matching.{MakesForward, PairsItem}
+use Rattle.gix_refspec.specs.Matching.Asked.{HasNoList, Lists, ListsAs, ListsGroup, ListsSide, Serves}
+use Rattle.gix_refspec.proofs.lemmas.hits.HitLemmas.{one_kind}
+use Rattle.gix_refspec.proofs.lemmas.lists.JoinLemmas.{joined_next, map_cut, map_long, map_more, nothing_joined}
+use Rattle.gix_refspec.proofs.lemmas.keep.KeptLemmas.{HasPair-from_place}
+use Rattle.gix_refspec.proofs.lemmas.keep.PairMadeLemmas.{kept_exactly}
+use Rattle.gix_refspec.proofs.lemmas.prefixes.PrefixLemmas.{one_asked}
+use Rattle.gix_refspec.proofs.lemmas.lists.SomeLemmas.{Any, Any-left, Any-right, some_at, some_of}
+
+-- ---- where there is no list, and where it isn't empty
+
+-- the list of a side by its kind
+pub list_as : (x : List ℕ) (k : SideKind) (list : List (List ℕ)) → HasKind x k → ListsSide x list → ListsAs k list
+list_as x k list kind lists = subst (λ (l : SideKind). ListsAs l list) (one_kind x lists.kind k lists.of kind) lists.is
+
+-- none for a pattern without a prefix
+pub no_list : (x before after : List ℕ) → IsCut before after x → ¬ (TellsPrefix before []) → (list : List (List ℕ)) → ¬ (ListsSide x list)
+no_list x before after cut vague list lists = vague (list_as x (pattern before after) list cut lists).0
+
+some_entry : (p : List ℕ) (list : List (List ℕ)) → [] ≡ p ∷ list → ⊥
+some_entry p list same = absurd (cc)
+
+-- only for an id it is empty
+pub pattern_asks : (x before after : List ℕ) → IsCut before after x → ¬ (ListsSide x [])
+pattern_asks x before after cut lists = some_entry before [] (list_as x (pattern before after) [] cut lists).1
+
+pub name_asks : (x n : List ℕ) → HasKind x (full_name n) → ¬ (ListsSide x [])
+name_asks x n kind lists = some_entry n [] (list_as x (full_name n) [] kind lists)
+
+pub partial_asks : (x n : List ℕ) → HasKind x (partial n) → ¬ (ListsSide x [])
+partial_asks x n kind lists = some_entry _ _ (list_as x (partial n) [] kind lists)
+
+-- ---- what begins with an entry
+
+abbrev BeginsWith : List ℕ → List (List ℕ) → Type 0
+BeginsWith n list = Any (λ p. Begins p n) list
+
+-- a ref that a side of the kind matches begins with one of its list, unless the side is an id
+kind_serves : (x : List ℕ) (k : SideKind) (list : List (List ℕ)) (r : Ref) (word : Option (List ℕ)) → HasKind x k → ((bytes : List ℕ) → ¬ (HasKind x (object bytes))) → MatchesAs k r word → ListsAs k list → BeginsWith r.name list
+kind_serves x (pattern before after) list r None of no_object matches lists = absurd matches
+kind_serves x (pattern before after) list r (Some word) of no_object matches lists = subst (BeginsWith r.name) (sym lists.1) (inl (record { after = word ++ after; here = matches }))
+kind_serves x (full_name n) list r word of no_object matches lists = subst (BeginsWith r.name) (sym lists) (inl (record { after = []; here = matches.1 ∙ sym (append-nil n) }))
+kind_serves x (object bytes) list r word of no_object matches lists = absurd (no_object bytes of)
+kind_serves x (partial n) list r word of no_object matches lists = subst (BeginsWith r.name) (sym (lists ∙ matches.1.here)) (Any-right (λ p. Begins p r.name) matches.1.earlier (r.name ∷ matches.1.later) (inl (record { after = []; here = sym (append-nil r.name) })))
+
+pub side_serves : (x : List ℕ) (list : List (List ℕ)) (r : Ref) (word : Option (List ℕ)) → ((bytes : List ℕ) → ¬ (HasKind x (object bytes))) → Matches x r word → ListsSide x list → BeginsWith r.name list
+side_serves x list r word no_object matches lists = kind_serves x matches.kind list r word matches.of no_object matches.is (list_as x matches.kind list matches.of lists)
+
+-- so does the name of an item that a fetch pairs
+reading_serves : (r : Reading) (items : List Ref) (n : List ℕ) (far : Option (List ℕ)) (list : List (List ℕ)) → r.operation ≡ Fetch → PairsItem AreForwardEnds (Takes items) items n far r → Lists r list → BeginsWith n list
+reading_serves r items n far list fetch pairs (inl (negative, empty)) = absurd (subst IsPositive negative pairs.has.positive)
+reading_serves r items n far list fetch pairs (inr (x, asked, lists)) =
+    let near : IsAsked r pairs.ends.near = record { positive = pairs.has.positive; side = ap (λ (op : Operation). side_on_remote op r.source r.destination) fetch ∙ pairs.has.near } in
+    let (place, item, below, at, one) = pairs.one in
+    subst (λ (m : List ℕ). BeginsWith m list) one.name
+    (side_serves pairs.ends.near list item one.word pairs.has.no_object one.takes.matches (subst (λ (y : List ℕ). ListsSide y list) (one_asked r x pairs.ends.near asked near) lists))
+
+group_serves : (g : List Reading) (items : List Ref) (n : List ℕ) (far : Option (List ℕ)) (k : ℕ) (list : List (List ℕ)) → AllByRecursion (λ r. r.operation ≡ Fetch) g → Any (PairsItem AreForwardEnds (Takes items) items n far) g → IsJoinedFrom (λ i r names. Lists r names) k g list → BeginsWith n list
+group_serves [] items n far k list fetches any joined = absurd any
+group_serves (r ∷ g) items n far k list fetches (inl pairs) (first, rest, lists, more, is) = subst (BeginsWith n) (sym is) (Any-left (λ p. Begins p n) first rest (reading_serves r items n far first fetches.0 pairs lists))
+group_serves (r ∷ g) items n far k list fetches (inr later) (first, rest, lists, more, is) = subst (BeginsWith n) (sym is) (Any-right (λ p. Begins p n) first rest (group_serves g items n far (k + 1) rest fetches.1 later more))
+
+pub serves : (g : List Reading) (list : List (List ℕ)) → ListsGroup g list → Serves list g
+serves g list joined fetches items kept are =
+    recursion_from_All (λ m. (n : List ℕ) → m.source ≡ name n → lists.Any (λ p. Begins p n) list) kept (λ k d below n is.
+    let m = get_or kept k d in
+    let made = (((kept_exactly g items).forward kept are m).0 (HasPair-from_place kept k d m below (record { source = refl; destination = refl }))).0 in
+    let pairs : lists.Any (MakesForward items (name n) m.destination) g = subst (λ (s : Start). lists.Any (MakesForward items s m.destination) g) is made in
+    some_at (λ p. Begins p n) list (group_serves g items n m.destination 0 list fetches (some_of (MakesForward items (name n) m.destination) g pairs) joined))
+
+-- ---- what the code answers
+
+-- the list of the side that a spec asks for is that of the spec
+pub list_of_side : (r : Reading) (x : List ℕ) (asked : Option (Vec BString Global)) → IsAsked r x → MatchOption asked ((list : List (List ℕ)) → ¬ (ListsSide x list)) (λ v. ListsSide x (map bstring_bytes v.items)) → MatchOption asked ((list : List (List ℕ)) → ¬ (Lists r list)) (λ v. Lists r (map bstring_bytes v.items))
+list_of_side r x None is none = λ list lists. elim lists [
+  | inl negative ↦ subst IsPositive negative.0 is.positive
+  | inr other ↦ none list (subst (λ (z : List ℕ). ListsSide z list) (one_asked r other.0 x other.1 is) other.2)
+]
+list_of_side r x (Some v) is lists = inr (x, is, lists)
+
+-- a reading has one list
+as_once : (k : SideKind) (a b : List (List ℕ)) → ListsAs k a → ListsAs k b → a ≡ b
+as_once (pattern before after) a b one other = one.1 ∙ sym other.1
+as_once (full_name n) a b one other = one ∙ sym other
+as_once (object bytes) a b one other = one ∙ sym other
+as_once (partial n) a b one other = one ∙ sym other
+
+lists_once : (r : Reading) (a b : List (List ℕ)) → Lists r a → Lists r b → a ≡ b
+lists_once r a b (inl (negative, empty)) (inl (also, other)) = empty ∙ sym other
+lists_once r a b (inl (negative, empty)) (inr (x, asked, lists)) = absurd (subst IsPositive negative asked.positive)
+lists_once r a b (inr (x, asked, lists)) (inl (negative, empty)) = absurd (subst IsPositive negative asked.positive)
+lists_once r a b (inr (x, asked, one)) (inr (y, also, other)) = as_once one.kind a b one.is (list_as x one.kind b one.of (subst (λ (z : List ℕ). ListsSide z b) (one_asked r y x also asked) other))
+
+-- where a group asks for nothing, so does each of its specs
+nothing_at : (specs : List RefSpecRef) (i : ℕ) (spec : RefSpecRef) → i < length specs → spec ≡ get_or specs i spec → ListsGroup (map reading_of specs) [] → Lists (reading_of spec) []
+nothing_at specs i spec below is asks =
+    nothing_joined (λ k r names. Lists r names) 0 (map reading_of (take i specs)) (reading_of spec) (map reading_of (drop (suc i) specs))
+    (subst (λ (g : List Reading). ListsGroup g []) (map_cut reading_of specs i spec below ∙ ap (λ (s : RefSpecRef). map reading_of (take i specs) ++ (reading_of s ∷ map reading_of (drop (suc i) specs))) (sym is)) asks)
+
+pub asks_something : (specs : List RefSpecRef) (i : ℕ) (spec : RefSpecRef) → i < length specs → spec ≡ get_or specs i spec → ¬ (Lists (reading_of spec) []) → ¬ (ListsGroup (map reading_of specs) [])
+asks_something specs i spec below is some asks = some (nothing_at specs i spec below is asks)
+
+pub asks_no_names : (specs : List RefSpecRef) (i : ℕ) (spec : RefSpecRef) (names : List BString) → i < length specs → spec ≡ get_or specs i spec → Lists (reading_of spec) (map bstring_bytes names) → ListsGroup (map reading_of specs) [] → length names ≡ 0
+asks_no_names specs i spec names below is lists asks = sym (length-map names bstring_bytes) ∙ ap length (lists_once (reading_of spec) (map bstring_bytes names) [] lists (nothing_at specs i spec below is asks))
+
+-- the list of one more spec stands behind the others
+pub one_more_list : (specs : List RefSpecRef) (i : ℕ) (spec : RefSpecRef) (list names new : List BString) → i < length specs → spec ≡ get_or specs i spec → new ≡ list ++ names → Lists (reading_of spec) (map bstring_bytes names) → ListsGroup (map reading_of (take i specs)) (map bstring_bytes list) → ListsGroup (map reading_of (take (i + 1) specs)) (map bstring_bytes new)
+one_more_list specs i spec list names new below is appended lists so_far =
+    subst (ListsGroup (map reading_of (take (i + 1) specs))) (sym (map-append bstring_bytes list names) ∙ ap (map bstring_bytes) (sym appended))
+    (subst (λ (g : List Reading). ListsGroup g (map bstring_bytes list ++ map bstring_bytes names)) (ap (λ (s : RefSpecRef). map reading_of (take i specs) ++ reading_of s ∷ []) is ∙ sym (map_more reading_of specs i spec below))
+    (joined_next (λ k r found. Lists r found) i (map reading_of (take i specs)) (reading_of spec) (map bstring_bytes list) (map bstring_bytes names) (map_long reading_of specs i below) so_far lists))
+
+-- one spec without a list
+pub none_at : (specs : List RefSpecRef) (i : ℕ) (spec : RefSpecRef) → i < length specs → spec ≡ get_or specs i spec → ((list : List (List ℕ)) → ¬ (Lists (reading_of spec) list)) → HasNoList (map reading_of specs)
+none_at specs i spec below is none = (i, reading_of spec, omega (arith, below, length-map specs reading_of), get_or-map reading_of specs i spec (reading_of spec) below ∙ ap reading_of (sym is), none)
+
+-- what a list that is there, or missing, says
+pub missing_list : (r : Reading) (asked : Option (Vec BString Global)) → asked ≡ None → MatchOption asked ((list : List (List ℕ)) → ¬ (Lists r list)) (λ v. Lists r (map bstring_bytes v.items)) → (list : List (List ℕ)) → ¬ (Lists r list)
+missing_list r None none told = told
+missing_list r (Some v) none told = absurd (cc)
+
+pub given_list : (r : Reading) (asked : Option (Vec BString Global)) (v : Vec BString Global) → asked ≡ Some v → MatchOption asked ((list : List (List ℕ)) → ¬ (Lists r list)) (λ w. Lists r (map bstring_bytes w.items)) → Lists r (map bstring_bytes v.items)
+given_list r None v some told = absurd (cc)
+given_list r (Some w) v some told = let same : w ≡ v = cc in subst (λ (u : Vec BString Global). Lists r (map bstring_bytes u.items)) same told

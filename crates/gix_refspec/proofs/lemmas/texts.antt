@@ -1,0 +1,12 @@
+-- Lemmas on bytes, names, patterns and ids.
+pub mod TextLemmas
+pub mod ComponentLemmas
+pub mod StarLemmas
+pub mod NameLemmas
+pub mod LetterLemmas
+pub mod CalmLemmas
+pub mod TestedLemmas
+pub mod TableLemmas
+pub mod DigitLemmas
+pub mod ObjectIdLemmas
+pub mod HeadLemmas

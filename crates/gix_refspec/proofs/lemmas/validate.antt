@@ -1,0 +1,13 @@
+-- Lemmas on conflicts, on validation and on names of refs.
+pub mod UpdateLemmas
+pub mod FirstLemmas
+pub mod ConflictLemmas
+pub mod ApartLemmas
+pub mod ValidationLemmas
+pub mod OneValidationLemmas
+pub mod AfterLemmas
+pub mod PlaceFitLemmas
+pub mod MadeAtLemmas
+pub mod PlacedOnceLemmas
+pub mod ClearLemmas
+pub mod RefNameLemmas

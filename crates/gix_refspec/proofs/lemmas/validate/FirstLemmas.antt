@@ -1,0 +1,174 @@
+-- The first mappings from each source to each destination, by their places.
+use Rattle.std.proofs.Common.{◌≡◌, ◌≢◌, ◌⊎◌, inl, inr, ◌↔◌, ℕ, zero, suc, ◌+◌, ◌-◌, ◌<◌, ◌≤◌, List, [], ◌∷◌, Option, None, Some, Bool, true, false, take, refl, sym, ap, ◌∙◌, subst, arith}
+use Rattle.std.specs.List.{AllByRecursion, AllZip, Contains, slice_get}
+use Rattle.std.specs.Str.{bytes_eq}
+use Rattle.std.proofs.lemmas.Bool.{cases_lt, false≢true}
+use Rattle.std.proofs.lemmas.Option.{get_or_from_slice_get, slice_get-get_or, slice_get_within}
+use Rattle.std.proofs.lemmas.Slice.Eq.{bytes_eq-Decides}
+use Rattle.gix_refspec.specs.Matching.Lists.{IsMadeFrom}
+use Rattle.gix_refspec.specs.Matching.Mappings.{Start, name, id, Mapped, IsSamePair, HasPair}
+use Rattle.gix_refspec.specs.Matching.Validation.{IsContested}
+use Rattle.gix_refspec.specs.Private.Kept.{Has, Rises}
+use Rattle.gix_refspec.specs.Private.Updates.{IsFirstAt}
+use Rattle.gix_refspec.proofs.lemmas.keep.RepeatLemmas.{all_weaker, not_below}
+
+-- the mapping at place n is one of which Q makes y
+abbrev pub IsOfPlace : {Y : Type 0} → (Mapped → Y → Type 0) → List Mapped → ℕ → Y → Type 0
+IsOfPlace Q l n y = (m : Mapped) × (slice_get l n ≡ Some m) × Q m y
+
+-- two readings of one place
+pub one_mapping : (l : List Mapped) (k : ℕ) (m n : Mapped) → slice_get l k ≡ Some m → slice_get l k ≡ Some n → m ≡ n
+one_mapping l k m n is_m is_n = let same : Some m ≡ Some n = sym is_m ∙ is_n in cc
+
+pub contains_at : (l : List Mapped) (k : ℕ) (m : Mapped) → slice_get l k ≡ Some m → Contains l m
+contains_at l k m is = (k, slice_get_within l k m is, get_or_from_slice_get l k m m is)
+
+pub at_contained : (l : List Mapped) (m : Mapped) → Contains l m → (k : ℕ) × (slice_get l k ≡ Some m)
+at_contained l m (k, below, is) = (k, slice_get-get_or l k m below ∙ ap Some is)
+
+here_at : (l : List Mapped) (k : ℕ) (x : Mapped) (rest : List Mapped) → ((j : ℕ) → slice_get (x ∷ rest) j ≡ slice_get l (k + j)) → slice_get l k ≡ Some x
+here_at l k x rest at = let same : k ≡ k + 0 = omega arith in ap (slice_get l) same ∙ sym (at 0)
+
+tail_at : (l : List Mapped) (k : ℕ) (x : Mapped) (rest : List Mapped) → ((j : ℕ) → slice_get (x ∷ rest) j ≡ slice_get l (k + j)) → (j : ℕ) → slice_get rest j ≡ slice_get l ((k + 1) + j)
+tail_at l k x rest at j = let same : k + suc j ≡ (k + 1) + j = omega arith in at (suc j) ∙ ap (slice_get l) same
+
+-- what is made of the mappings at some places, which rise and are those where P holds
+pub made_at_places : {Y : Type 0} (P : ℕ → Mapped → Type 0) (Q : Mapped → Y → Type 0) (l : List Mapped) (k : ℕ) (rest : List Mapped) (ns : List ℕ) (ys : List Y) → ((j : ℕ) → slice_get rest j ≡ slice_get l (k + j)) → ((j : ℕ) (m : Mapped) → k ≤ j → slice_get l j ≡ Some m → Has ns j ↔ P j m) → Rises ns → AllByRecursion (λ n. k ≤ n) ns → AllZip (IsOfPlace Q l) ns ys → IsMadeFrom (λ j m y. P j m × Q m y) k rest ys
+made_at_places P Q l k [] [] [] at has rises above zip = refl
+made_at_places P Q l k [] [] (y ∷ ys) at has rises above zip = absurd zip
+made_at_places P Q l k [] (n ∷ ns) [] at has rises above zip = absurd zip
+made_at_places P Q l k [] (n ∷ ns) (y ∷ ys) at has rises above zip =
+    let same : k + (n - k) ≡ n = (let low = above.0 in omega (arith, low)) in
+    let none : None ≡ Some zip.0.0 = at (n - k) ∙ ap (slice_get l) same ∙ zip.0.1 in
+    absurd (cc)
+made_at_places {Y} P Q l k (x ∷ rest) [] ys at has rises above zip =
+    (None, ys, (λ y both. (has k x (omega arith) (here_at l k x rest at)).1 both.0), made_at_places P Q l (k + 1) rest [] ys (tail_at l k x rest at) (λ j m low is. has j m (omega arith) is) rises tt zip, refl)
+made_at_places {Y} P Q l k (x ∷ rest) (n ∷ ns) [] at has rises above zip = absurd zip
+made_at_places {Y} P Q l k (x ∷ rest) (n ∷ ns) (y ∷ ys) at has rises above zip = elim (cases_lt k n) [
+  | inl less ↦ (
+    None,
+    y ∷ ys,
+    (λ z both. not_there less ((has k x (omega arith) (here_at l k x rest at)).1 both.0)),
+    made_at_places P Q l (k + 1) rest (n ∷ ns) (y ∷ ys) (tail_at l k x rest at) (λ j m low is. has j m (omega arith) is) rises ((omega (arith, less)), all_weaker (λ m. n < m) (λ m. k + 1 ≤ m) (λ m below. omega (arith, below, less)) ns rises.0) zip,
+    refl,
+  )
+  | inr more ↦
+      let same : n ≡ k = (let low = above.0 in omega (arith, low, more)) in
+      let is_x : slice_get l k ≡ Some x = here_at l k x rest at in
+      let one : zip.0.0 ≡ x = one_mapping l k zip.0.0 x (subst (λ (i : ℕ). slice_get l i ≡ Some zip.0.0) same zip.0.1) is_x in (
+        Some y,
+        ys,
+        ((has k x (omega arith) is_x).0 (inl same), subst (λ (m : Mapped). Q m y) one zip.0.2),
+        made_at_places P Q l (k + 1) rest ns ys (tail_at l k x rest at) (later same) rises.1 (all_weaker (λ m. n < m) (λ m. k + 1 ≤ m) (λ m below. omega (arith, below, same)) ns rises.0) zip.1,
+        refl,
+      )
+]
+  where
+    not_there : k < n → Has (n ∷ ns) k → ⊥
+    not_there less (inl same) = omega (arith, less, same)
+    not_there less (inr in_rest) = let past = not_below ns n k rises.0 in_rest in omega (arith, less, past)
+
+    later : n ≡ k → (j : ℕ) (m : Mapped) → k + 1 ≤ j → slice_get l j ≡ Some m → Has ns j ↔ P j m
+    later same j m low is = (
+      (λ there. (has j m (omega arith) is).0 (inr there)),
+      (λ holds. elim ((has j m (omega arith) is).1 holds) [
+        | inl first ↦ absurd (omega (arith, first, same, low))
+        | inr there ↦ there
+      ]),
+    )
+
+-- a pair that stands at an earlier place
+pub earlier_pair : (l : List Mapped) (j k : ℕ) (m n : Mapped) → slice_get l j ≡ Some m → j < k → IsSamePair m n → HasPair (take k l) n
+earlier_pair [] j k m n is before same = absurd (cc)
+earlier_pair (x ∷ l) j zero m n is before same = absurd (omega arith)
+earlier_pair (x ∷ l) zero (suc k) m n is before same = let one : x ≡ m = cc in inl (subst (λ (y : Mapped). IsSamePair y n) (sym one) same)
+earlier_pair (x ∷ l) (suc j) (suc k) m n is before same = inr (earlier_pair l j k m n is (omega arith) same)
+
+text_cases : (x y : List ℕ) → (x ≡ y) ⊎ (x ≢ y)
+text_cases x y = go (bytes_eq x y) refl
+  where
+    go : (b : Bool) → b ≡ bytes_eq x y → (x ≡ y) ⊎ (x ≢ y)
+    go true is = inl ((bytes_eq-Decides x y).0 (sym is))
+    go false is = inr (λ same. false≢true (is ∙ (bytes_eq-Decides x y).1 same))
+
+pub start_cases : (a b : Start) → (a ≡ b) ⊎ (a ≢ b)
+start_cases (name x) (name y) = elim (text_cases x y) [
+  | inl same ↦ inl (ap name same)
+  | inr apart ↦ inr (λ same. apart (cc))
+]
+start_cases (name x) (id y) = inr (λ same. absurd (cc))
+start_cases (id x) (name y) = inr (λ same. absurd (cc))
+start_cases (id x) (id y) = elim (text_cases x y) [
+  | inl same ↦ inl (ap id same)
+  | inr apart ↦ inr (λ same. apart (cc))
+]
+
+destination_cases : (o : Option (List ℕ)) (d : List ℕ) → (o ≡ Some d) ⊎ (o ≢ Some d)
+destination_cases None d = inr (λ same. absurd (cc))
+destination_cases (Some e) d = elim (text_cases e d) [
+  | inl same ↦ inl (ap Some same)
+  | inr apart ↦ inr (λ same. apart (cc))
+]
+
+-- the mapping goes from the source to the destination
+abbrev Links : Start → List ℕ → Mapped → Type 0
+Links source d m = (m.source ≡ source) × (m.destination ≡ Some d)
+
+links_cases : (source : Start) (d : List ℕ) (m : Mapped) → Links source d m ⊎ ¬ (Links source d m)
+links_cases source d m = elim (start_cases m.source source) [
+  | inl from ↦ elim (destination_cases m.destination d) [
+    | inl to ↦ inl (from, to)
+    | inr apart ↦ inr (λ both. apart both.1)
+  ]
+  | inr apart ↦ inr (λ both. apart both.0)
+]
+
+-- of the mappings from a source to a destination, the first
+first_link : (source : Start) (d : List ℕ) (l : List Mapped) (i : ℕ) (m : Mapped) → slice_get l i ≡ Some m → Links source d m → (j : ℕ) × (n : Mapped) × (slice_get l j ≡ Some n) × Links source d n × ¬ (HasPair (take j l) n)
+first_link source d [] i m is links = absurd (cc)
+first_link source d (x ∷ l) i m is links = elim (links_cases source d x) [
+  | inl here ↦ (0, x, refl, here, λ none. none)
+  | inr apart ↦ behind i is apart (λ k is_m. first_link source d l k m is_m links)
+]
+  where
+    behind : (i : ℕ) → slice_get (x ∷ l) i ≡ Some m → ¬ (Links source d x) → ((k : ℕ) → slice_get l k ≡ Some m → (j : ℕ) × (n : Mapped) × (slice_get l j ≡ Some n) × Links source d n × ¬ (HasPair (take j l) n)) → (j : ℕ) × (n : Mapped) × (slice_get (x ∷ l) j ≡ Some n) × Links source d n × ¬ (HasPair (take j (x ∷ l)) n)
+    behind zero is_x apart in_rest = let one : x ≡ m = cc in absurd (apart (subst (λ (y : Mapped). Links source d y) (sym one) links))
+    behind (suc k) is_m apart in_rest =
+        let at = in_rest k is_m in (
+          suc at.0,
+          at.1,
+          at.2,
+          at.3,
+          λ has. elim has [
+            | inl same ↦ apart (same.source ∙ at.3.0, same.destination ∙ at.3.1)
+            | inr there ↦ at.4 there
+          ],
+        )
+
+-- a contested destination has first mappings at two places
+pub two_firsts : (l : List Mapped) (d : List ℕ) → IsContested l d → (j : ℕ) × (k : ℕ) × (j ≢ k) × IsFirstAt l j d × IsFirstAt l k d
+two_firsts l d c =
+    let one = at_contained l c.one c.has_one in
+    let other = at_contained l c.other c.has_other in
+    let a = first_link c.one.source d l one.0 c.one one.1 (refl, c.one_to) in
+    let b = first_link c.other.source d l other.0 c.other other.1 (refl, c.other_to) in (
+      a.0,
+      b.0,
+      (λ same.
+          let both : a.1 ≡ b.1 = one_mapping l b.0 a.1 b.1 (subst (λ (k : ℕ). slice_get l k ≡ Some a.1) same a.2) b.2 in
+          c.differ (sym a.3.0 ∙ ap (λ (m : Mapped). m.source) both ∙ b.3.0)),
+      (a.1, a.2, record { goes = a.3.1; first = a.4 }),
+      (b.1, b.2, record { goes = b.3.1; first = b.4 }),
+    )
+
+-- two places of first mappings make a destination contested
+pub contested_from_firsts : (l : List Mapped) (d : List ℕ) (j k : ℕ) → j < k → IsFirstAt l j d → IsFirstAt l k d → IsContested l d
+contested_from_firsts l d j k before (m, is_m, m_first) (n, is_n, n_first) = record {
+  one = m;
+  other = n;
+  has_one = contains_at l j m is_m;
+  has_other = contains_at l k n is_n;
+  one_to = m_first.goes;
+  other_to = n_first.goes;
+  differ = λ same. n_first.first (earlier_pair l j k m n is_m before (record { source = same; destination = m_first.goes ∙ sym n_first.goes }));
+}

@@ -1,0 +1,156 @@
+-- What a validation answers is one, and a copy of an outcome has the same.
+use Rattle.std.proofs.Common.{◌≡◌, inl, inr, ℕ, zero, suc, List, [], ◌∷◌, Option, None, Some, option_map, map, refl, sym, ap, ◌∙◌, subst, arith}
+use Rattle.std.specs.List.{AllByRecursion, Contains}
+use Rattle.std.specs.List.Sorted.{IsStrictlySortedBy}
+use Rattle.std.specs.declared.cmp.Ordering.TheVariants.{Less}
+use Rattle.std.specs.Ordering.{nat_cmp}
+use Rattle.std.specs.Cmp.Lexicographic.{slice_cmp}
+use Rattle.gix_refspec.specs.declared.match_group.types.Mapping.{Mapping}
+use Rattle.gix_refspec.specs.declared.match_group.types.NameRef.{NameRef}
+use Rattle.gix_refspec.specs.declared.match_group.types.Outcome.{Outcome}
+use Rattle.gix_refspec.specs.Specs.Reading.{Reading}
+use Rattle.gix_refspec.specs.Views.Spec.{reading_of}
+use Rattle.gix_refspec.specs.Matching.Lists.{IsMadeFrom}
+use Rattle.gix_refspec.specs.Specs.Meaning.{printed}
+use Rattle.gix_refspec.specs.Matching.Mappings.{Start, Mapped}
+use Rattle.gix_refspec.specs.Views.Group.{mapped_of, name_bytes, readings_of, IsDestinationCopy, IsMappingCopy, AreMappingCopies}
+use Rattle.gix_refspec.specs.Matching.Validation.{IsFirstTo, IsTextAt, Conflict, IsConflict, AreConflicts, Survives, Removed, IsFix}
+use Rattle.gix_refspec.specs.Laws.Validation.{ValidateAlike, OneValidation, CopiedOutcome}
+use Rattle.gix_refspec.proofs.lemmas.validate.UpdateLemmas.{not_below_itself, below_trans}
+use Rattle.gix_refspec.proofs.lemmas.validate.ConflictLemmas.{copied_name, copied_source}
+use Rattle.gix_refspec.proofs.lemmas.specs.FormsBackLemmas.{some_once}
+use Rattle.gix_refspec.proofs.lemmas.hits.HitLemmas.{same_mapped}
+use Rattle.gix_refspec.proofs.lemmas.lists.ListsLemmas.{made_once}
+use Rattle.gix_refspec.proofs.lemmas.lists.SomeLemmas.{Any}
+
+-- ---- conflicts
+
+-- a text is among others by a place, or in front or behind
+among : (xs : List (List ℕ)) (d : List ℕ) → Contains xs d → Any (λ x. x ≡ d) xs
+among [] d (k, below, is) = absurd (omega (arith, below))
+among (x ∷ xs) d (zero, below, is) = inl is
+among (x ∷ xs) d (suc k, below, is) = inr (among xs d (k, omega (arith, below), is))
+
+placed : (xs : List (List ℕ)) (d : List ℕ) → Any (λ x. x ≡ d) xs → Contains xs d
+placed [] d any = absurd any
+placed (x ∷ xs) d (inl here) = (0, omega arith, here)
+placed (x ∷ xs) d (inr later) = let at = placed xs d later in (suc at.0, omega (arith, at.1), at.2)
+
+-- what stands behind a text in order is above it
+above : (x d : List ℕ) (xs : List (List ℕ)) → AllByRecursion (λ y. slice_cmp nat_cmp x y ≡ Less) xs → Any (λ y. y ≡ d) xs → slice_cmp nat_cmp x d ≡ Less
+above x d [] all any = absurd any
+above x d (y ∷ xs) all (inl here) = subst (λ (z : List ℕ). slice_cmp nat_cmp x z ≡ Less) here all.0
+above x d (y ∷ xs) all (inr later) = above x d xs all.1 later
+
+-- two lists in order that begin with texts of each other begin alike
+same_first : (x y : List ℕ) (xs ys : List (List ℕ)) → AllByRecursion (λ z. slice_cmp nat_cmp x z ≡ Less) xs → AllByRecursion (λ z. slice_cmp nat_cmp y z ≡ Less) ys → Any (λ z. z ≡ x) (y ∷ ys) → Any (λ z. z ≡ y) (x ∷ xs) → x ≡ y
+same_first x y xs ys over_x over_y (inl here) back = sym here
+same_first x y xs ys over_x over_y (inr later) (inl here) = here
+same_first x y xs ys over_x over_y (inr later) (inr also) = absurd (not_below_itself x (below_trans x y x (above x y xs over_x also) (above y x ys over_y later)))
+
+-- what is behind the first of one list is behind that of the other
+behind : (x y d : List ℕ) (xs ys : List (List ℕ)) → x ≡ y → AllByRecursion (λ z. slice_cmp nat_cmp x z ≡ Less) xs → Any (λ z. z ≡ d) xs → Any (λ z. z ≡ d) (y ∷ ys) → Any (λ z. z ≡ d) ys
+behind x y d xs ys same over any (inl here) = absurd (not_below_itself x (subst (λ (z : List ℕ). slice_cmp nat_cmp x z ≡ Less) (sym (same ∙ here)) (above x d xs over any)))
+behind x y d xs ys same over any (inr later) = later
+
+-- two lists in order that have the same texts are one
+one_order : (xs ys : List (List ℕ)) → IsStrictlySortedBy (slice_cmp nat_cmp) xs → IsStrictlySortedBy (slice_cmp nat_cmp) ys → ((d : List ℕ) → Any (λ x. x ≡ d) xs → Any (λ x. x ≡ d) ys) → ((d : List ℕ) → Any (λ x. x ≡ d) ys → Any (λ x. x ≡ d) xs) → xs ≡ ys
+unfolding IsStrictlySortedBy
+one_order [] [] rise also to back = refl
+one_order [] (y ∷ ys) rise also to back = absurd (back y (inl refl))
+one_order (x ∷ xs) [] rise also to back = absurd (to x (inl refl))
+one_order (x ∷ xs) (y ∷ ys) rise also to back =
+    let first : x ≡ y = same_first x y xs ys rise.0 also.0 (to x (inl refl)) (back y (inl refl)) in
+    let rest : xs ≡ ys = one_order xs ys rise.1 also.1 (λ d any. behind x y d xs ys first rise.0 any (to d (inr any))) (λ d any. behind y x d ys xs (sym first) also.0 any (back d (inr any))) in
+    ap (λ (z : List ℕ). z ∷ xs) first ∙ ap (λ (zs : List (List ℕ)). y ∷ zs) rest
+
+-- the destinations of conflicts are among those of all conflicts
+contested : (g : List Reading) (l : List Mapped) (cs other : List Conflict) (d : List ℕ) → AllByRecursion (IsConflict g l) cs → AreConflicts g l other → Any (λ x. x ≡ d) (map (λ (c : Conflict). c.destination) cs) → Any (λ x. x ≡ d) (map (λ (c : Conflict). c.destination) other)
+contested g l [] other d each are any = absurd any
+contested g l (c ∷ cs) other d each are (inl here) = subst (λ (z : List ℕ). Any (λ x. x ≡ z) (map (λ (e : Conflict). e.destination) other)) here (among (map (λ (e : Conflict). e.destination) other) c.destination (are.every c.destination each.0.contested))
+contested g l (c ∷ cs) other d each are (inr later) = contested g l cs other d each.1 are later
+
+one_reading : (r q : Reading) → Some r ≡ Some q → r ≡ q
+one_reading r q same = cc
+
+-- a place has one text
+one_text : (g : List Reading) (place : ℕ) (text other : List ℕ) → IsTextAt g place text → IsTextAt g place other → text ≡ other
+one_text g place text other (r, stands, prints) (q, stood, also) =
+    let reading : q ≡ r = one_reading q r (sym stood ∙ stands) in
+    some_once text other (sym prints ∙ subst (λ (z : Reading). printed z ≡ Some other) reading also)
+
+same_conflict : (c e : Conflict) → c.destination ≡ e.destination → c.sources ≡ e.sources → c.texts ≡ e.texts → c ≡ e
+same_conflict c e destination sources texts =
+    let build : List ℕ → List Start → List (List ℕ) → Conflict = λ d s t. record { destination = d; sources = s; texts = t } in
+    ap (λ (d : List ℕ). build d c.sources c.texts) destination ∙ ap (λ (s : List Start). build e.destination s c.texts) sources ∙ ap (build e.destination e.sources) texts
+
+-- a destination has one conflict
+one_conflict : (g : List Reading) (l : List Mapped) (c e : Conflict) → c.destination ≡ e.destination → IsConflict g l c → IsConflict g l e → c ≡ e
+one_conflict g l c e same a b =
+    let to = c.destination in
+    let sources = subst (λ (d : List ℕ). IsMadeFrom (λ k m source. IsFirstTo d l k m × (source ≡ m.source)) 0 l e.sources) (sym same) b.sources in
+    let texts = subst (λ (d : List ℕ). IsMadeFrom (λ k m text. IsFirstTo d l k m × IsTextAt g m.spec text) 0 l e.texts) (sym same) b.texts in
+    same_conflict c e same
+    (made_once (λ k m source. IsFirstTo to l k m × (source ≡ m.source)) (λ k m x y is_x is_y. is_x.1 ∙ sym is_y.1) 0 l c.sources e.sources a.sources sources)
+    (made_once (λ k m text. IsFirstTo to l k m × IsTextAt g m.spec text) (λ k m x y is_x is_y. one_text g m.spec x y is_x.1 is_y.1) 0 l c.texts e.texts a.texts texts)
+
+-- so lists of conflicts with the same destinations are one
+one_list : (g : List Reading) (l : List Mapped) (cs other : List Conflict) → AllByRecursion (IsConflict g l) cs → AllByRecursion (IsConflict g l) other → map (λ (c : Conflict). c.destination) cs ≡ map (λ (c : Conflict). c.destination) other → cs ≡ other
+one_list g l [] [] a b same = refl
+one_list g l [] (e ∷ other) a b same = absurd (cc)
+one_list g l (c ∷ cs) [] a b same = absurd (cc)
+one_list g l (c ∷ cs) (e ∷ other) a b same =
+    let first : c.destination ≡ e.destination = cc in
+    let rest : map (λ (x : Conflict). x.destination) cs ≡ map (λ (x : Conflict). x.destination) other = cc in
+    ap (λ (x : Conflict). x ∷ cs) (one_conflict g l c e first a.0 b.0) ∙ ap (λ (xs : List Conflict). e ∷ xs) (one_list g l cs other a.1 b.1 rest)
+
+one_conflicts : (g : List Reading) (l : List Mapped) (cs other : List Conflict) → AreConflicts g l cs → AreConflicts g l other → cs ≡ other
+one_conflicts g l cs other a b = one_list g l cs other a.each b.each (one_order (map (λ (c : Conflict). c.destination) cs) (map (λ (c : Conflict). c.destination) other) a.order b.order (λ d any. contested g l cs other d a.each b any) (λ d any. contested g l other cs d b.each a any))
+
+-- ---- survivors and fixes
+
+same_removed : (a b : Removed) → a.destination ≡ b.destination → a.spec ≡ b.spec → a ≡ b
+same_removed a b destination spec =
+    let build : List ℕ → Reading → Removed = λ d r. record { destination = d; spec = r } in
+    ap (λ (d : List ℕ). build d a.spec) destination ∙ ap (build b.destination) spec
+
+-- a mapping has one fix
+one_fix : (g : List Reading) (m : Mapped) (a b : Removed) → IsFix g m a → IsFix g m b → a ≡ b
+one_fix g m a b is_a is_b = same_removed a b (some_once a.destination b.destination (sym is_a.goes ∙ is_b.goes)) (one_reading a.spec b.spec (sym is_a.spec ∙ is_b.spec))
+
+pub one_validation : (g : List Reading) (l : List Mapped) → OneValidation g l
+one_validation g l = record {
+  conflicts = λ cs other a b. one_conflicts g l cs other a b;
+  survivors = λ rest other a b. made_once (λ k m made. (made ≡ m) × Survives m) (λ k m x y is_x is_y. is_x.0 ∙ sym is_y.0) 0 l rest other a b;
+  fixes = λ fixes other a b. made_once (λ k m fix. IsFix g m fix) (λ k m x y is_x is_y. one_fix g m x y is_x is_y) 0 l fixes other a b;
+}
+
+-- ---- copies
+
+copied_destination : (x y : Option NameRef) → IsDestinationCopy x y → option_map name_bytes y ≡ option_map name_bytes x
+copied_destination None None copy = refl
+copied_destination None (Some m) copy = absurd copy
+copied_destination (Some n) None copy = absurd copy
+copied_destination (Some n) (Some m) copy = ap Some (copied_name n m copy)
+
+copied_mapping : (m copy : Mapping) → IsMappingCopy m copy → mapped_of copy ≡ mapped_of m
+copied_mapping m copy is = same_mapped (mapped_of copy) (mapped_of m) is.item (copied_source m.lhs copy.lhs is.source) (copied_destination m.rhs copy.rhs is.destination) is.spec
+
+copied_mappings : (ms copies : List Mapping) → AreMappingCopies ms copies → map mapped_of copies ≡ map mapped_of ms
+copied_mappings [] [] are = refl
+copied_mappings [] (c ∷ copies) are = absurd are
+copied_mappings (m ∷ ms) [] are = absurd are
+copied_mappings (m ∷ ms) (c ∷ copies) are = ap (λ (x : Mapped). x ∷ map mapped_of copies) (copied_mapping m c are.0) ∙ ap (λ (xs : List Mapped). mapped_of m ∷ xs) (copied_mappings ms copies are.1)
+
+validate_alike : (g h : List Reading) (l m : List Mapped) → h ≡ g → m ≡ l → ValidateAlike g l h m
+validate_alike g h l m readings mappings = subst (λ (z : List Reading). ValidateAlike g l z m) (sym readings) (subst (λ (z : List Mapped). ValidateAlike g l g z) (sym mappings) (one_validation g l))
+
+pub copied_outcome : {forward : ℕ} (o copy : Outcome forward) → CopiedOutcome o copy
+copied_outcome o copy is =
+    let readings : readings_of copy.group ≡ readings_of o.group = ap (map reading_of) is.specs in
+    let mappings : map mapped_of copy.mappings.items ≡ map mapped_of o.mappings.items = copied_mappings o.mappings.items copy.mappings.items is.mappings in
+    record {
+      readings = readings;
+      mappings = mappings;
+      validated = validate_alike (readings_of o.group) (readings_of copy.group) (map mapped_of o.mappings.items) (map mapped_of copy.mappings.items) readings mappings;
+    }

@@ -1,0 +1,132 @@
+-- Mappings that are parted by their names, and what holds of those that are kept.
+use Rattle.std.proofs.Common.{◌≡◌, ◌≢◌, inl, inr, ℕ, ◌+◌, ◌<◌, ◌≤◌, List, [], ◌∷◌, ◌++◌, Option, None, Some, length, map, get_or, option_map, codes, refl, sym, ap, ◌∙◌, subst, append_assoc, arith}
+use Rattle.std.specs.List.{AllByRecursion}
+use Rattle.std.specs.List.{list_any}
+use Rattle.std.specs.Prelude.{◌⊎◌, ◌||◌, ◌==◌, IsTrue}
+use Rattle.std.proofs.lemmas.Bool.{cases_lt, lt-ltb}
+use Rattle.std.proofs.lemmas.List.{get_or-map, length-map}
+use Rattle.std.proofs.lemmas.List.Elements.{All-from_recursion}
+use Rattle.gix_refspec.specs.declared.match_group.types.Mapping.{Mapping}
+use Rattle.gix_refspec.specs.declared.match_group.types.NameRef.{NameRef}
+use Rattle.gix_refspec.specs.declared.match_group.names.BadSide.{BadSide}
+use Rattle.gix_refspec.specs.declared.match_group.names.BadSide.TheVariants.{Source, Destination, Both}
+use Rattle.gix_refspec.specs.declared.name.Error.TheVariants.{Empty, EmptyComponent, StartsWithDot, InvalidByte}
+use Rattle.gix_refspec.specs.Texts.Bytes.{head, slash}
+use Rattle.gix_refspec.specs.Texts.Words.{ArePartsAt, Begins}
+use Rattle.gix_refspec.specs.Texts.Name.{is_refused_byte, IsName}
+use Rattle.gix_refspec.specs.Specs.Reading.{Reading}
+use Rattle.gix_refspec.specs.Matching.Lists.{IsMadeFrom}
+use Rattle.gix_refspec.specs.Matching.Match.{Ref}
+use Rattle.gix_refspec.specs.Matching.Mappings.{Mapped}
+use Rattle.gix_refspec.specs.Views.Group.{mapped_of, name_bytes, IsMappingCopy, IsDestinationCopy}
+use Rattle.gix_refspec.specs.Matching.Validation.{ForwardPlaces, MeetAt, NeverMeet, Survives}
+use Rattle.gix_refspec.specs.Matching.RefNames.{AreNamed, IsBadAt, IsNamed, IsNamedDestination, IsRefName, StaysAmongRefs, WritesRef, WritesRefs}
+use Rattle.gix_refspec.proofs.lemmas.validate.AfterLemmas.{apart_still, made_each, never_meet_after, stays_each, validated_once}
+use Rattle.gix_refspec.proofs.lemmas.validate.ConflictLemmas.{copied_name, copied_source}
+use Rattle.gix_refspec.proofs.lemmas.texts.HeadLemmas.{IsName-head}
+use Rattle.gix_refspec.proofs.lemmas.keep.KeptLemmas.{kept_once}
+
+-- a mapping of which a side is bad isn't named
+pub bad_unnamed : (side : BadSide) (m : Mapped) → IsBadAt side m → ¬ (IsNamed m)
+bad_unnamed Source m bad named = bad.0 named.source
+bad_unnamed Destination m bad named = bad.1 named.destination
+bad_unnamed Both m bad named = bad.0 named.source
+
+-- nor are all of a list that has it
+pub some_unnamed : (ms : List Mapping) (i : ℕ) (m : Mapping) (side : BadSide) → i < length ms → m ≡ get_or ms i m → IsBadAt side (mapped_of m) → ¬ (AllByRecursion IsNamed (map mapped_of ms))
+some_unnamed ms i m side below is bad all =
+    let named = All-from_recursion IsNamed (map mapped_of ms) all i (mapped_of m) (omega (arith, below, length-map ms mapped_of)) in
+    bad_unnamed side (mapped_of m) bad (subst IsNamed (get_or-map mapped_of ms i m (mapped_of m) below ∙ ap mapped_of (sym is)) named)
+
+copied_destination : (d e : Option NameRef) → IsDestinationCopy d e → option_map name_bytes e ≡ option_map name_bytes d
+copied_destination None None copy = refl
+copied_destination None (Some m) copy = absurd copy
+copied_destination (Some n) None copy = absurd copy
+copied_destination (Some n) (Some m) copy = ap Some (copied_name n m copy)
+
+-- a copy of a mapping is the same as plain data
+pub copied_mapping : (m copy : Mapping) → IsMappingCopy m copy → mapped_of copy ≡ mapped_of m
+copied_mapping m copy is =
+    let source = copied_source m.lhs copy.lhs is.source in
+    let destination = copied_destination m.rhs copy.rhs is.destination in
+    λ i. record { item = is.item i; source = source i; destination = destination i; spec = is.spec i }
+
+-- ---- names and paths
+
+name_of_ref : (n : List ℕ) → IsRefName n → IsName n
+name_of_ref n (inl full) = full.1
+name_of_ref n (inr is) = subst IsName (sym is) IsName-head
+
+below_refs : (n : List ℕ) → IsRefName n → Begins (codes "refs/") n ⊎ (n ≡ head)
+below_refs n (inl full) = inl full.0
+below_refs n (inr is) = inr is
+
+-- each component of a name is there, and begins with no dot
+components_fine : (n : List ℕ) → IsName n → (before parts : List (List ℕ)) → ArePartsAt slash (before ++ parts) n → AllByRecursion (λ w. (w ≢ []) × ¬ (Begins (codes ".") w)) parts
+components_fine n is before [] are = tt
+components_fine n is before (w ∷ after) are = (
+  (
+    (λ empty. is EmptyComponent ((λ nothing. is Empty nothing), record { before = before; component = w; after = after; components = are; fact = empty })),
+    λ dot. is StartsWithDot (record { before = before; component = w; after = after; components = are; fact = dot }),
+  ),
+  components_fine n is (before ++ w ∷ []) after (subst (λ (parts : List (List ℕ)). ArePartsAt slash parts n) (sym (append_assoc before (w ∷ []) after)) are),
+)
+
+plain_byte : (b : ℕ) → ¬ (IsTrue (is_refused_byte b)) → (32 ≤ b) × (b ≢ 127)
+plain_byte b fine = (
+  elim (cases_lt b 32) [
+    | inl less ↦ absurd (fine (ap (λ t. t || b == 127 || list_any (λ c. b == c) (codes " ~^:?[\\")) (lt-ltb b 32 less)))
+    | inr fits ↦ fits
+  ],
+  λ delete. fine (subst (λ c. IsTrue (is_refused_byte c)) (sym delete) refl),
+)
+
+-- no byte of a name is a control character
+bytes_fine : (n : List ℕ) → IsName n → (before rest : List ℕ) → n ≡ before ++ rest → AllByRecursion (λ b. (32 ≤ b) × (b ≢ 127)) rest
+bytes_fine n is before [] here = tt
+bytes_fine n is before (b ∷ rest) here = (
+  plain_byte b (λ refused. is (InvalidByte b) (record { before = before; after = rest; here = here }, refused)),
+  bytes_fine n is (before ++ b ∷ []) rest (here ∙ sym (append_assoc before (b ∷ []) rest)),
+)
+
+pub stays_among_refs : (n : List ℕ) → IsRefName n → StaysAmongRefs n
+stays_among_refs n ref =
+    let is = name_of_ref n ref in
+    record { below = below_refs n ref; components = λ parts are. components_fine n is [] parts are; bytes = bytes_fine n is [] n refl }
+
+-- ---- what is kept
+
+named_writes : (m : Mapped) → IsNamed m → WritesRef m
+named_writes m named d to =
+    let ref : IsRefName d = subst IsNamedDestination to named.destination in
+    (ref, stays_among_refs d ref)
+
+each_named : (l named : List Mapped) → AreNamed l named → AllByRecursion IsNamed named
+each_named l named are = made_each (λ k m made. (made ≡ m) × IsNamed m) IsNamed (length l) (λ k m made below one. subst IsNamed (sym one.0) one.1) 0 l named (omega arith) are
+
+each_writes : (l : List Mapped) → AllByRecursion IsNamed l → AllByRecursion WritesRef l
+each_writes [] all = tt
+each_writes (m ∷ l) all = (named_writes m all.0, each_writes l all.1)
+
+-- what is kept of mappings that never meet doesn't either
+never_meets : (k : ℕ) (l named : List Mapped) → NeverMeet l → IsMadeFrom (λ j m made. (made ≡ m) × IsNamed m) k l named → NeverMeet named
+never_meets k [] named apart empty = subst NeverMeet (sym empty) tt
+never_meets k (m ∷ l) named apart (None, rest, none, more, is) = subst NeverMeet (sym is) (never_meets (k + 1) l rest apart.1 more)
+never_meets k (m ∷ l) named apart (Some made, rest, one, more, is) = subst NeverMeet (sym is) (
+  subst (λ (x : Mapped). AllByRecursion (λ y. ¬ (MeetAt x y)) rest) (sym one.0) (stays_each (λ j x. IsNamed x) (λ y. ¬ (MeetAt m y)) (k + 1) l rest apart.0 more),
+  never_meets (k + 1) l rest apart.1 more,
+)
+
+pub writes_refs : (g : List Reading) (items : List Ref) → WritesRefs g items
+writes_refs g items = record {
+  before = λ l named rest out fixes keeps valid. (
+    each_writes rest (stays_each (λ j x. Survives x) IsNamed 0 named rest (each_named l named keeps.named) valid.survive),
+    λ kept. never_meet_after g named rest fixes valid (apart_still (λ j x. IsNamed x) 0 l named (kept_once g kept.all l kept.is) keeps.named),
+  );
+  after = λ l rest named fixes out valid keeps. (
+    each_writes named (each_named rest named keeps.named),
+    λ kept. never_meets 0 rest named ((validated_once g items l rest fixes valid).1 kept) keeps.named,
+  );
+  fits = λ l named out keeps fit. stays_each (λ j x. IsNamed x) (λ m. m.spec < length g) 0 l named fit keeps.named;
+  places = λ l named out keeps fit. stays_each (λ j x. IsNamed x) (ForwardPlaces g items) 0 l named fit keeps.named;
+}

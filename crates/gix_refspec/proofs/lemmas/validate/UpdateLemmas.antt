@@ -1,0 +1,276 @@
+-- Claims in order, and where they are cut.
+use Rattle.std.proofs.Common.{◌≡◌, ◌≢◌, ◌⊎◌, inl, inr, ◌↔◌, ℕ, zero, suc, ◌+◌, ◌<◌, ◌≤◌, List, [], ◌∷◌, ◌++◌, None, Some, option_map, Bool, true, false, not, length, map, take, drop, get_or, refl, sym, ap, ◌∙◌, subst, arith}
+use Rattle.std.specs.List.{AllByRecursion, Contains, slice_get}
+use Rattle.std.specs.List.Sorted.{IsPermutation, IsSorted, IsStrictlySortedBy}
+use Rattle.std.specs.declared.cmp.Ordering.{Ordering}
+use Rattle.std.specs.declared.cmp.Ordering.TheVariants.{Less, Equal, Greater}
+use Rattle.std.specs.Ordering.{is_lt, nat_cmp, ordering_then, ordering_reverse}
+use Rattle.std.specs.Cmp.{IsTotalOrder, IsStrictWeakOrder}
+use Rattle.std.specs.Cmp.Lexicographic.{slice_cmp, nat_list_cmp_total}
+use Rattle.std.proofs.lemmas.Bool.{cases_lt, false≢true, not-false, not-true}
+use Rattle.std.proofs.lemmas.Slice.Eq.{bytes_eq-Decides}
+use Rattle.std.specs.Str.{bytes_eq}
+use Rattle.std.proofs.lemmas.Cmp.{by_ranked, nat_cmp_total, on_total, ranked, then_total, tied_itself}
+use Rattle.std.proofs.lemmas.List.{get_or-map, length-map, map-append, take-append-drop, drop_more, length-drop}
+use Rattle.std.proofs.lemmas.List.Sorted.{Contains-permutation, IsPermutation-map, IsPermutation-sym, ranks_by, sorted_far}
+use Rattle.std.proofs.lemmas.Option.{slice_get-map, slice_get_read, slice_get_within}
+use Rattle.gix_refspec.specs.declared.match_group.validate.conflicts.Claim.{Claim}
+use Rattle.gix_refspec.specs.declared.match_group.types.Mapping.{Mapping}
+use Rattle.gix_refspec.specs.declared.match_group.types.NameRef.{NameRef}
+use Rattle.gix_refspec.specs.Matching.Mappings.{Mapped}
+use Rattle.gix_refspec.specs.Views.Group.{mapped_of, name_bytes}
+use Rattle.gix_refspec.specs.Private.Kept.{IsFlagged, Rises}
+use Rattle.gix_refspec.specs.Private.Updates.{AreClaims, GoesTo, HasClaim, IsCut, claim_cmp, claimed_places}
+use Rattle.gix_refspec.proofs.lemmas.keep.PairLemmas.{both_equal, same_texts}
+use Rattle.gix_refspec.proofs.lemmas.keep.RepeatLemmas.{Rises-push, all_join, all_left, all_right, all_weaker, apart_places}
+
+-- there are the claims of the mappings before place p that have a destination and aren't flagged, by place
+pub record AreClaimsUpto (l : List Mapped) (flags : List Bool) (p : ℕ) (cs : List Claim) : Type 0 where
+  pub are : (k : ℕ) (d : List ℕ) → HasClaim cs k d ↔ ((k < p) × (GoesTo l k d × ¬ (IsFlagged flags k)))
+  pub rises : Rises (claimed_places cs)
+  pub below : AllByRecursion (λ n. n < p) (claimed_places cs)
+
+unequal : Less ≡ Equal → ⊥
+unequal same = absurd (cc)
+
+-- no text is below itself
+pub not_below_itself : (x : List ℕ) → slice_cmp nat_cmp x x ≡ Less → ⊥
+not_below_itself x less = unequal (sym less ∙ tied_itself nat_list_cmp_total x)
+
+pub below_trans : (x y z : List ℕ) → slice_cmp nat_cmp x y ≡ Less → slice_cmp nat_cmp y z ≡ Less → slice_cmp nat_cmp x z ≡ Less
+below_trans = nat_list_cmp_total.trans
+
+less_from_cmp : (a b : ℕ) → nat_cmp a b ≡ Less → a < b
+less_from_cmp a b is =
+    by_ranked (a < b) (a ≡ b) (b < a) (nat_cmp a b) (ranked a b (nat_cmp a b) refl)
+    (λ told less. less)
+    (λ told same. absurd (unequal (sym is ∙ told)))
+    (λ told more. absurd (cc))
+
+same_from_cmp : (a b : ℕ) → nat_cmp a b ≡ Equal → a ≡ b
+same_from_cmp a b is =
+    by_ranked (a < b) (a ≡ b) (b < a) (nat_cmp a b) (ranked a b (nat_cmp a b) refl)
+    (λ told less. absurd (unequal (sym told ∙ is)))
+    (λ told same. same)
+    (λ told more. absurd (cc))
+
+less_of_two : (a b : Ordering) → ordering_then a b ≡ Less → (a ≡ Less) ⊎ ((a ≡ Equal) × (b ≡ Less))
+less_of_two Less b is = inl refl
+less_of_two Equal b is = inr (refl, is)
+less_of_two Greater b is = absurd (cc)
+
+-- what comes later is to a later destination, or to the same one from a later place
+pub later : (x y : Claim) → claim_cmp x y ≡ Less → (slice_cmp nat_cmp x.destination.now y.destination.now ≡ Less) ⊎ ((x.destination.now ≡ y.destination.now) × (x.place < y.place))
+later x y is = elim (less_of_two (slice_cmp nat_cmp x.destination.now y.destination.now) (nat_cmp x.place y.place) is) [
+  | inl less ↦ inl less
+  | inr tied ↦ inr (same_texts x.destination.now y.destination.now tied.0, less_from_cmp x.place y.place tied.1)
+]
+
+claim_total : IsTotalOrder claim_cmp
+claim_total = then_total (on_total (λ (c : Claim). c.destination.now) nat_list_cmp_total) (on_total (λ (c : Claim). c.place) nat_cmp_total)
+
+pub strict_left : {X : Type 0} (cmp : X → X → Ordering) (xs ys : List X) → IsStrictlySortedBy cmp (xs ++ ys) → IsStrictlySortedBy cmp xs
+unfolding IsStrictlySortedBy
+strict_left cmp [] ys strict = tt
+strict_left cmp (x ∷ xs) ys strict = (all_left (λ y. cmp x y ≡ Less) xs ys strict.0, strict_left cmp xs ys strict.1)
+
+pub strict_right : {X : Type 0} (cmp : X → X → Ordering) (xs ys : List X) → IsStrictlySortedBy cmp (xs ++ ys) → IsStrictlySortedBy cmp ys
+unfolding IsStrictlySortedBy
+strict_right cmp [] ys strict = strict
+strict_right cmp (x ∷ xs) ys strict = strict_right cmp xs ys strict.1
+
+strict_from_places : {X : Type 0} (cmp : X → X → Ordering) (xs : List X) → ((i j : ℕ) (d : X) → i < j → j < length xs → cmp (get_or xs i d) (get_or xs j d) ≡ Less) → IsStrictlySortedBy cmp xs
+unfolding IsStrictlySortedBy
+strict_from_places cmp [] each = tt
+strict_from_places {X} cmp (x ∷ xs) each = (first xs (λ j d below. each 0 (suc j) d (omega arith) (omega arith)), strict_from_places cmp xs (λ i j d before below. each (suc i) (suc j) d (omega arith) (omega arith)))
+  where
+    first : (ys : List X) → ((j : ℕ) (d : X) → j < length ys → cmp x (get_or ys j d) ≡ Less) → AllByRecursion (λ y. cmp x y ≡ Less) ys
+    first [] told = tt
+    first (y ∷ ys) told = (told 0 y (omega arith), first ys (λ j d below. told (suc j) d (omega arith)))
+
+turned : (o r : Ordering) → r ≡ ordering_reverse o → is_lt o ≡ false → o ≢ Equal → r ≡ Less
+turned Less r is told apart = absurd (false≢true (sym told))
+turned Equal r is told apart = absurd (apart refl)
+turned Greater r is told apart = is
+
+-- claims that are sorted are strictly so, since their places differ
+strict_from_sorted : (xs ys : List Claim) → IsPermutation xs ys → Rises (claimed_places xs) → IsSorted claim_cmp ys → IsStrictlySortedBy claim_cmp ys
+strict_from_sorted xs ys moved rises sorted =
+    let weak : IsStrictWeakOrder (λ (x : Claim) (y : Claim). is_lt (claim_cmp x y)) = ranks_by claim_total (λ (c : Claim). c) in
+    strict_from_places claim_cmp ys (λ i j d before below.
+    let x = get_or ys i d in
+    let y = get_or ys j d in
+    turned (claim_cmp y x) (claim_cmp x y) (claim_total.antisymm x y)
+    (sorted_far (λ (a : Claim) (b : Claim). is_lt (claim_cmp a b)) weak ys sorted i j d (omega arith) below)
+    (λ tied. apart_places (claimed_places xs) (claimed_places ys) (IsPermutation-map (λ (c : Claim). c.place) xs ys moved) rises i j 0 before (omega (arith, length-map ys (λ (c : Claim). c.place)))
+    (get_or-map (λ (c : Claim). c.place) ys i d 0 (omega arith) ∙ sym (same_from_cmp y.place x.place (both_equal (slice_cmp nat_cmp y.destination.now x.destination.now) (nat_cmp y.place x.place) tied).1) ∙ sym (get_or-map (λ (c : Claim). c.place) ys j d 0 below))))
+
+-- a claim of some, as one that they contain
+claim_within : (cs : List Claim) (k : ℕ) (d : List ℕ) → HasClaim cs k d → (c : Claim) × Contains cs c × (c.place ≡ k) × (c.destination.now ≡ d)
+claim_within [] k d has = absurd has
+claim_within (c ∷ cs) k d (inl is) = (c, (0, omega arith, refl), is.0, is.1)
+claim_within (c ∷ cs) k d (inr has) = let at = claim_within cs k d has in (at.0, (suc at.1.0, (let below = at.1.1 in omega (arith, below)), at.1.2), at.2, at.3)
+
+claim_at : (cs : List Claim) (i : ℕ) (c : Claim) (k : ℕ) (d : List ℕ) → i < length cs → get_or cs i c ≡ c → c.place ≡ k → c.destination.now ≡ d → HasClaim cs k d
+claim_at [] i c k d below is place to = absurd (omega arith)
+claim_at (x ∷ cs) zero c k d below is place to = inl (ap (λ (y : Claim). y.place) is ∙ place, ap (λ (y : Claim). y.destination.now) is ∙ to)
+claim_at (x ∷ cs) (suc i) c k d below is place to = inr (claim_at cs i c k d (omega arith) is place to)
+
+HasClaim-permuted : (xs ys : List Claim) (k : ℕ) (d : List ℕ) → IsPermutation xs ys → HasClaim xs k d → HasClaim ys k d
+HasClaim-permuted xs ys k d moved has =
+    let c = claim_within xs k d has in
+    let at = Contains-permutation xs ys c.0 moved c.1 in
+    claim_at ys at.0 c.0 k d at.1 at.2 c.2 c.3
+
+pub HasClaim-left : (xs ys : List Claim) (k : ℕ) (d : List ℕ) → HasClaim xs k d → HasClaim (xs ++ ys) k d
+HasClaim-left [] ys k d has = absurd has
+HasClaim-left (x ∷ xs) ys k d (inl is) = inl is
+HasClaim-left (x ∷ xs) ys k d (inr has) = inr (HasClaim-left xs ys k d has)
+
+pub HasClaim-right : (xs ys : List Claim) (k : ℕ) (d : List ℕ) → HasClaim ys k d → HasClaim (xs ++ ys) k d
+HasClaim-right [] ys k d has = has
+HasClaim-right (x ∷ xs) ys k d has = inr (HasClaim-right xs ys k d has)
+
+pub HasClaim-cases : (xs ys : List Claim) (k : ℕ) (d : List ℕ) → HasClaim (xs ++ ys) k d → HasClaim xs k d ⊎ HasClaim ys k d
+HasClaim-cases [] ys k d has = inr has
+HasClaim-cases (x ∷ xs) ys k d (inl is) = inl (inl is)
+HasClaim-cases (x ∷ xs) ys k d (inr has) = elim (HasClaim-cases xs ys k d has) [
+  | inl left ↦ inl (inr left)
+  | inr right ↦ inr right
+]
+
+-- all claims that were made, in order, are those of all mappings
+pub claims_sorted : (l : List Mapped) (flags : List Bool) (p : ℕ) (cs new : List Claim) → length l ≤ p → AreClaimsUpto l flags p cs → IsPermutation cs new → IsSorted (λ (x : Claim) (y : Claim). ordering_then (slice_cmp nat_cmp x.destination.now y.destination.now) (nat_cmp x.place y.place)) new → AreClaims l flags new
+claims_sorted l flags p cs new past made moved sorted = record {
+  are = λ k d. (
+    (λ has. ((made.are k d).0 (HasClaim-permuted new cs k d (IsPermutation-sym cs new moved) has)).1),
+    (λ goes. HasClaim-permuted cs new k d moved ((made.are k d).1 ((let below = slice_get_within l k goes.0.0 goes.0.1 in omega (arith, below, past)), goes))),
+  );
+  order = strict_from_sorted cs new moved made.rises sorted;
+}
+
+upto : (k p : ℕ) → k < p + 1 → (k < p) ⊎ (k ≡ p)
+upto k p under = elim (cases_lt k p) [
+  | inl less ↦ inl less
+  | inr more ↦ inr (omega arith)
+]
+
+one_place : (l : List Mapped) (k : ℕ) (d e : List ℕ) → GoesTo l k d → GoesTo l k e → d ≡ e
+one_place l k d e (m, is_m, to_d) (n, is_n, to_e) =
+    let same : Some m ≡ Some n = sym is_m ∙ is_n in
+    let one : m ≡ n = cc in
+    let both : Some d ≡ Some e = sym to_d ∙ ap (λ (x : Mapped). x.destination) one ∙ to_e in
+    cc
+
+-- one more claim
+pub claims_more : (l : List Mapped) (flags : List Bool) (cs new : List Claim) (c : Claim) → new ≡ cs ++ c ∷ [] → GoesTo l c.place c.destination.now → ¬ (IsFlagged flags c.place) → AreClaimsUpto l flags c.place cs → AreClaimsUpto l flags (c.place + 1) new
+claims_more l flags cs new c is goes unflagged made =
+    let places : claimed_places new ≡ claimed_places cs ++ c.place ∷ [] = ap claimed_places is ∙ map-append (λ (x : Claim). x.place) cs (c ∷ []) in record {
+      are = λ k d. subst (λ (xs : List Claim). HasClaim xs k d ↔ ((k < c.place + 1) × (GoesTo l k d × ¬ (IsFlagged flags k)))) (sym is) (
+        (λ has. elim (HasClaim-cases cs (c ∷ []) k d has) [
+          | inl old ↦ let told = (made.are k d).0 old in ((let less = told.0 in omega (arith, less)), told.1)
+          | inr last ↦ only last
+        ]),
+        (λ told. elim (upto k c.place told.0) [
+          | inl less ↦ HasClaim-left cs (c ∷ []) k d ((made.are k d).1 (less, told.1))
+          | inr here ↦ HasClaim-right cs (c ∷ []) k d (inl (sym here, one_place l k c.destination.now d (subst (λ (n : ℕ). GoesTo l n c.destination.now) (sym here) goes) told.1.0))
+        ]),
+      );
+      rises = subst Rises (sym places) (Rises-push (claimed_places cs) c.place made.rises made.below);
+      below = subst (λ (ns : List ℕ). AllByRecursion (λ n. n < c.place + 1) ns) (sym places) (all_join (λ n. n < c.place + 1) (claimed_places cs) (c.place ∷ []) (all_weaker (λ n. n < c.place) (λ n. n < c.place + 1) (λ n less. omega arith) (claimed_places cs) made.below) (omega arith, tt));
+    }
+  where
+    only : {k : ℕ} {d : List ℕ} → HasClaim (c ∷ []) k d → (k < c.place + 1) × (GoesTo l k d × ¬ (IsFlagged flags k))
+    only {k} {d} (inl at) = (
+      (let place = at.0 in omega (arith, place)),
+      (subst (λ (n : ℕ). GoesTo l n d) at.0 (subst (λ (x : List ℕ). GoesTo l c.place x) at.1 goes), subst (λ (n : ℕ). ¬ (IsFlagged flags n)) at.0 unflagged),
+    )
+    only (inr none) = absurd none
+
+-- a mapping that makes no claim
+pub claims_same : (l : List Mapped) (flags : List Bool) (p : ℕ) (cs : List Claim) → ((d : List ℕ) → GoesTo l p d → ¬ (IsFlagged flags p) → ⊥) → AreClaimsUpto l flags p cs → AreClaimsUpto l flags (p + 1) cs
+claims_same l flags p cs none made = record {
+  are = λ k d. (
+    (λ has. let told = (made.are k d).0 has in ((let less = told.0 in omega (arith, less)), told.1)),
+    (λ told. elim (upto k p told.0) [
+      | inl less ↦ (made.are k d).1 (less, told.1)
+      | inr here ↦ absurd (none d (subst (λ (n : ℕ). GoesTo l n d) here told.1.0) (subst (λ (n : ℕ). ¬ (IsFlagged flags n)) here told.1.1))
+    ]),
+  );
+  rises = made.rises;
+  below = all_weaker (λ n. n < p) (λ n. n < p + 1) (λ n less. omega arith) (claimed_places cs) made.below;
+}
+
+-- no claim is made at first
+pub claims_none : (l : List Mapped) (flags : List Bool) → AreClaimsUpto l flags 0 []
+claims_none l flags = record {
+  are = λ k d. ((λ has. absurd has), (λ told. absurd (let less = told.0 in omega (arith, less))));
+  rises = tt;
+  below = tt;
+}
+
+pub differ_from_test : (xs ys : List ℕ) (b : Bool) → b ≡ not (bytes_eq xs ys) → b ≡ true → xs ≢ ys
+differ_from_test xs ys b is told same = false≢true (sym (not-true (bytes_eq xs ys) (sym is ∙ told)) ∙ (bytes_eq-Decides xs ys).1 same)
+
+pub same_from_test : (xs ys : List ℕ) (b : Bool) → b ≡ not (bytes_eq xs ys) → b ≡ false → xs ≡ ys
+same_from_test xs ys b is told = (bytes_eq-Decides xs ys).0 (not-false (bytes_eq xs ys) (sym is ∙ told))
+
+-- what comes after a claim to a destination behind x is to one behind x too
+behind : (x : List ℕ) (o y : Claim) → slice_cmp nat_cmp x o.destination.now ≡ Less → claim_cmp o y ≡ Less → slice_cmp nat_cmp x y.destination.now ≡ Less
+behind x o y first is = elim (later o y is) [
+  | inl less ↦ below_trans x o.destination.now y.destination.now first less
+  | inr tied ↦ subst (λ (d : List ℕ). slice_cmp nat_cmp x d ≡ Less) tied.0 first
+]
+
+all_behind : (x : List ℕ) (cs : List Claim) → IsStrictlySortedBy claim_cmp cs → AllByRecursion (λ c. (slice_cmp nat_cmp x c.destination.now ≡ Less) ⊎ (x ≡ c.destination.now)) cs → ((c : Claim) (rest : List Claim) → cs ≡ c ∷ rest → x ≢ c.destination.now) → AllByRecursion (λ c. slice_cmp nat_cmp x c.destination.now ≡ Less) cs
+unfolding IsStrictlySortedBy
+all_behind x [] strict from other = tt
+all_behind x (c ∷ cs) strict from other =
+    let first : slice_cmp nat_cmp x c.destination.now ≡ Less = elim from.0 [
+      | inl less ↦ less
+      | inr same ↦ absurd (other c cs refl same)
+    ] in
+    (first, all_weaker (λ y. claim_cmp c y ≡ Less) (λ y. slice_cmp nat_cmp x y.destination.now ≡ Less) (λ y is. behind x c y first is) cs strict.0)
+
+-- where the claims before a place are to the first one's destination, and that there is not, the place cuts them
+pub cut_at : (cs : List Claim) (n : ℕ) (d : Claim) → 0 < length cs → IsStrictlySortedBy claim_cmp cs → AllByRecursion (λ c. c.destination.now ≡ (get_or cs 0 d).destination.now) (take n cs) → (n < length cs → (get_or cs n d).destination.now ≢ (get_or cs 0 d).destination.now) → IsCut (take n cs) (drop n cs)
+unfolding IsStrictlySortedBy
+cut_at [] n d some strict same end = absurd (omega arith)
+cut_at (h ∷ cs) zero d some strict same end = absurd (end (omega arith) refl)
+cut_at (h ∷ cs) (suc n) d some strict same end =
+    let cut : take n cs ++ drop n cs ≡ cs = take-append-drop n cs in record {
+      destination = h.destination.now;
+      same = same;
+      beyond = all_behind h.destination.now (drop n cs)
+          (strict_right claim_cmp (take n cs) (drop n cs) (subst (λ (xs : List Claim). IsStrictlySortedBy claim_cmp xs) (sym cut) strict.1))
+          (all_weaker (λ y. claim_cmp h y ≡ Less) (λ y. (slice_cmp nat_cmp h.destination.now y.destination.now ≡ Less) ⊎ (h.destination.now ≡ y.destination.now)) not_before (drop n cs)
+          (all_right (λ y. claim_cmp h y ≡ Less) (take n cs) (drop n cs) (subst (λ (xs : List Claim). AllByRecursion (λ y. claim_cmp h y ≡ Less) xs) (sym cut) strict.0)))
+          (λ c rest is same2. elim (cases_lt n (length cs)) [
+            | inl inside ↦
+                let here : get_or cs n d ∷ drop (n + 1) cs ≡ c ∷ rest = sym (drop_more cs n d inside) ∙ is in
+                let one : get_or cs n d ≡ c = cc in
+                end (omega arith) (ap (λ (x : Claim). x.destination.now) one ∙ sym same2)
+            | inr past ↦ let none : length (drop n cs) ≡ 0 = omega (arith, length-drop n cs) in let some2 : length (drop n cs) ≡ suc (length rest) = ap length is in absurd (omega (arith, none, some2))
+          ]);
+    }
+  where
+    not_before : (y : Claim) → claim_cmp h y ≡ Less → (slice_cmp nat_cmp h.destination.now y.destination.now ≡ Less) ⊎ (h.destination.now ≡ y.destination.now)
+    not_before y is = elim (later h y is) [
+      | inl less ↦ inl less
+      | inr tied ↦ inr tied.0
+    ]
+
+-- the mapping at a place, as plain data
+pub mapped_at : (ms : List Mapping) (k : ℕ) (m : Mapping) → k < length ms → m ≡ get_or ms k m → slice_get (map mapped_of ms) k ≡ Some (mapped_of m)
+mapped_at ms k m below is = slice_get-map mapped_of ms k ∙ ap (option_map mapped_of) (slice_get_read ms (length ms) k m refl below is)
+
+pub goes_nowhere : (ms : List Mapping) (k : ℕ) (m : Mapping) (d : List ℕ) → k < length ms → m ≡ get_or ms k m → m.rhs ≡ None → GoesTo (map mapped_of ms) k d → ⊥
+goes_nowhere ms k m d below is none (n, is_n, to) =
+    let same : Some (mapped_of m) ≡ Some n = sym (mapped_at ms k m below is) ∙ is_n in
+    let one : mapped_of m ≡ n = cc in
+    let both : option_map name_bytes m.rhs ≡ Some d = ap (λ (x : Mapped). x.destination) one ∙ to in
+    let gone : None ≡ Some d = sym (ap (option_map name_bytes) none) ∙ both in
+    absurd (cc)
+
+pub goes_to_name : (ms : List Mapping) (k : ℕ) (m : Mapping) (n : NameRef) → k < length ms → m ≡ get_or ms k m → m.rhs ≡ Some n → GoesTo (map mapped_of ms) k (name_bytes n)
+goes_to_name ms k m n below is to = (mapped_of m, mapped_at ms k m below is, ap (option_map name_bytes) to)

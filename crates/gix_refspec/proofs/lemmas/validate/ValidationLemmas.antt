@@ -1,0 +1,68 @@
+-- What a validation removes, and what holds of the rest.
+use Rattle.std.proofs.Common.{◌≡◌, ◌↔◌, ℕ, ◌+◌, ◌<◌, List, [], ◌∷◌, ◌++◌, Option, None, Some, option_map, option_to_list, Bool, true, false, length, map, take, get_or, refl, sym, ap, ◌∙◌, subst, arith}
+use Rattle.std.specs.List.Retain.{ReturnsInTurn, IsFiltered}
+use Rattle.std.specs.List.{items_where_true}
+use Rattle.std.proofs.lemmas.Bool.{false≢true}
+use Rattle.std.proofs.lemmas.List.{append-nil, length-map}
+use Rattle.std.proofs.lemmas.Option.{slice_get-map, slice_get_read}
+use Rattle.gix_refspec.specs.declared.match_group.types.Mapping.{Mapping}
+use Rattle.gix_refspec.specs.declared.match_group.types.NameRef.{NameRef}
+use Rattle.gix_refspec.specs.declared.spec.RefSpecRef.{RefSpecRef}
+use Rattle.gix_refspec.specs.Specs.Reading.{Reading}
+use Rattle.gix_refspec.specs.Views.Spec.{reading_of}
+use Rattle.gix_refspec.specs.Matching.Lists.{MakesOf, IsMadeFrom}
+use Rattle.gix_refspec.specs.Matching.Mappings.{Mapped}
+use Rattle.gix_refspec.specs.Views.Group.{mapped_of, name_bytes}
+use Rattle.gix_refspec.specs.Matching.Validation.{IndexesFit, IsFix, IsWritable, Removed}
+use Rattle.gix_refspec.proofs.lemmas.keep.RepeatLemmas.{all_join}
+use Rattle.gix_refspec.proofs.lemmas.lists.JoinLemmas.{made_next, map_long, map_more}
+
+-- one more mapping whose spec has a place in the group
+pub fits_more : (specs : List RefSpecRef) (ms : List Mapping) (i : ℕ) (m : Mapping) → i < length ms → m ≡ get_or ms i m → m.spec_index < length specs → IndexesFit (map reading_of specs) (map mapped_of (take i ms)) → IndexesFit (map reading_of specs) (map mapped_of (take (i + 1) ms))
+fits_more specs ms i m below is inside fits =
+    let g = map reading_of specs in
+    let one : (mapped_of (get_or ms i m)).spec < length g = subst (λ (x : Mapping). x.spec_index < length g) is (omega (arith, inside, length-map specs reading_of)) in
+    subst (λ (l : List Mapped). IndexesFit g l) (sym (map_more mapped_of ms i m below)) (all_join (λ n. n.spec < length g) (map mapped_of (take i ms)) (mapped_of (get_or ms i m) ∷ []) fits (one, tt))
+
+-- what is made of one more mapping
+made_of_next : {Y : Type 0} (R : ℕ → Mapped → Y → Type 0) (ms : List Mapping) (i : ℕ) (m : Mapping) (ys : List Y) (made : Option Y) → i < length ms → m ≡ get_or ms i m → IsMadeFrom R 0 (map mapped_of (take i ms)) ys → MakesOf R i (mapped_of m) made → IsMadeFrom R 0 (map mapped_of (take (i + 1) ms)) (ys ++ option_to_list made)
+made_of_next R ms i m ys made below is so_far makes =
+    subst (λ (l : List Mapped). IsMadeFrom R 0 l (ys ++ option_to_list made)) (ap (λ (x : Mapping). map mapped_of (take i ms) ++ mapped_of x ∷ []) is ∙ sym (map_more mapped_of ms i m below))
+    (made_next R i (map mapped_of (take i ms)) (mapped_of m) ys made (map_long mapped_of ms i below) so_far makes)
+
+-- a mapping of which nothing is made
+pub nothing_more : {Y : Type 0} (R : ℕ → Mapped → Y → Type 0) (ms : List Mapping) (i : ℕ) (m : Mapping) (ys : List Y) → i < length ms → m ≡ get_or ms i m → ((y : Y) → ¬ (R i (mapped_of m) y)) → IsMadeFrom R 0 (map mapped_of (take i ms)) ys → IsMadeFrom R 0 (map mapped_of (take (i + 1) ms)) ys
+nothing_more {Y} R ms i m ys below is none so_far = subst (λ (xs : List Y). IsMadeFrom R 0 (map mapped_of (take (i + 1) ms)) xs) (append-nil ys) (made_of_next R ms i m ys None below is so_far none)
+
+-- and one of which something is
+pub one_more : {Y : Type 0} (R : ℕ → Mapped → Y → Type 0) (ms : List Mapping) (i : ℕ) (m : Mapping) (ys new : List Y) (y : Y) → i < length ms → m ≡ get_or ms i m → new ≡ ys ++ y ∷ [] → R i (mapped_of m) y → IsMadeFrom R 0 (map mapped_of (take i ms)) ys → IsMadeFrom R 0 (map mapped_of (take (i + 1) ms)) new
+one_more {Y} R ms i m ys new y below is pushed one so_far = subst (λ (xs : List Y). IsMadeFrom R 0 (map mapped_of (take (i + 1) ms)) xs) (sym pushed) (made_of_next R ms i m ys (Some y) below is so_far one)
+
+pub no_fix_nowhere : (g : List Reading) (m : Mapping) → m.rhs ≡ None → (fix : Removed) → ¬ (IsFix g (mapped_of m) fix)
+no_fix_nowhere g m none fix is = let gone : None ≡ Some fix.destination = sym (ap (option_map name_bytes) none) ∙ is.goes in absurd (cc)
+
+pub no_fix_written : (g : List Reading) (m : Mapping) (n : NameRef) → m.rhs ≡ Some n → IsWritable (name_bytes n) → (fix : Removed) → ¬ (IsFix g (mapped_of m) fix)
+no_fix_written g m n to writable fix is =
+    let both : Some (name_bytes n) ≡ Some fix.destination = sym (ap (option_map name_bytes) to) ∙ is.goes in
+    let same : name_bytes n ≡ fix.destination = cc in
+    is.unwritable (subst IsWritable same writable)
+
+-- the fix of a mapping to a name that can't be written
+pub fix_of : (specs : List RefSpecRef) (m : Mapping) (n : NameRef) (spec : RefSpecRef) (fix : Removed) → m.rhs ≡ Some n → ¬ (IsWritable (name_bytes n)) → m.spec_index < length specs → spec ≡ get_or specs m.spec_index spec → fix.destination ≡ name_bytes n → fix.spec ≡ reading_of spec → IsFix (map reading_of specs) (mapped_of m) fix
+fix_of specs m n spec fix to unwritable below is destination reads = record {
+  goes = ap (option_map name_bytes) to ∙ ap Some (sym destination);
+  unwritable = λ writable. unwritable (subst IsWritable destination writable);
+  spec = slice_get-map reading_of specs m.spec_index ∙ ap (option_map reading_of) (slice_get_read specs (length specs) m.spec_index spec refl below is) ∙ ap Some (sym reads);
+}
+
+-- what a test keeps that tells which mappings are as P says
+module _ {F : Type 0} (P : Mapped → Type 0) (R : F → Mapping → Bool → F → Type 0) (tells : (p : F) (m : Mapping) (b : Bool) (q : F) → R p m b q → (b ≡ true) ↔ P (mapped_of m)) where
+  kept_so : (k : ℕ) (p q : F) (bs : List Bool) (ms : List Mapping) → length bs ≡ length ms → ReturnsInTurn R p bs ms q → IsMadeFrom (λ j m made. (made ≡ m) × P m) k (map mapped_of ms) (map mapped_of (items_where_true bs ms))
+  kept_so k p q [] [] size told = refl
+  kept_so k p q [] (m ∷ ms) size told = absurd (omega arith)
+  kept_so k p q (b ∷ bs) [] size told = absurd told
+  kept_so k p q (true ∷ bs) (m ∷ ms) size (j, is, more) = (Some (mapped_of m), map mapped_of (items_where_true bs ms), (refl, (tells p m true j is).0 refl), kept_so (k + 1) j q bs ms (omega arith) more, refl)
+  kept_so k p q (false ∷ bs) (m ∷ ms) size (j, is, more) = (None, map mapped_of (items_where_true bs ms), (λ made both. false≢true ((tells p m false j is).1 both.1)), kept_so (k + 1) j q bs ms (omega arith) more, refl)
+
+  pub filtered_so : (p : F) (ms rest : List Mapping) → IsFiltered R p ms rest → IsMadeFrom (λ j m made. (made ≡ m) × P m) 0 (map mapped_of ms) (map mapped_of rest)
+  filtered_so p ms rest (bs, q, size, told, is) = subst (λ (xs : List Mapping). IsMadeFrom (λ j m made. (made ≡ m) × P m) 0 (map mapped_of ms) (map mapped_of xs)) (sym is) (kept_so 0 p q bs ms size told)

@@ -1,0 +1,8 @@
+-- the hits so far are those at the places so far
+use Rattle.std.proofs.Common.{map, take}
+use Rattle.gix_refspec.specs.Views.Group.{ref_of}
+use Rattle.gix_refspec.proofs.lemmas.index.PlacedLemmas.{AddsPlaces}
+use Rattle.gix_refspec.proofs.match_group.hits.add_places.Given as goal
+
+abbrev pub invariant-loop-place : goal.invariant-loop-place
+invariant-loop-place l = AddsPlaces l.direction l.spec l.ends (map ref_of l.items) (take l.place-index l.places) l.initial.made l.made

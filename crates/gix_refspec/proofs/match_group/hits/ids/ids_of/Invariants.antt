@@ -1,0 +1,10 @@
+-- the mappings so far are those of the specs so far
+use Rattle.std.proofs.Common.{map, take}
+use Rattle.gix_refspec.specs.Views.Spec.{reading_of}
+use Rattle.gix_refspec.specs.Views.Group.{mapped_of}
+use Rattle.gix_refspec.specs.Matching.Lists.{IsMadeFrom}
+use Rattle.gix_refspec.specs.Matching.Hits.{IsIdMapping}
+use Rattle.gix_refspec.proofs.match_group.hits.ids.ids_of.Given as goal
+
+abbrev pub invariant-loop-place : goal.invariant-loop-place
+invariant-loop-place l = IsMadeFrom IsIdMapping 0 (map reading_of (take l.place l.specs)) (map mapped_of l.ids.items)

@@ -1,0 +1,15 @@
+-- What is listed of the slices is listed of the names.
+use Rattle.std.proofs.Common.{List, map, subst}
+use Rattle.gix_refspec.specs.declared.match_group.types.NameRef.{NameRef}
+use Rattle.gix_refspec.specs.Views.Group.{name_bytes, ref_of}
+use Rattle.gix_refspec.specs.Private.Index.{HavePlaces, ListPartials, list_of}
+use Rattle.gix_refspec.proofs.match_group.hits.index.NameIndex.of.Goals as goal
+
+pub returns : goal.returns
+returns c =
+    let refs = map ref_of c.args.items.now in
+    record {
+      full = subst (λ (l : List NameRef). HavePlaces (map name_bytes l) refs (list_of c.in_ok-places_of.field-0)) c.as_slice.ensures.value c.in_ok-places_of.ensures;
+      partial = subst (λ (l : List NameRef). ListPartials c.args.direction (map name_bytes l) refs (list_of c.in_ok-of.field-0.places)) c.as_slice-2.ensures.value c.in_ok-of.ensures;
+      fronts = c.in_ok-of-2.ensures;
+    }

@@ -1,0 +1,25 @@
+-- Each spec adds the name that it asks for.
+use Rattle.std.proofs.Common.{◌+◌, map, take, sym, subst}
+use Rattle.gix_refspec.specs.declared.match_group.hits.index.Names.{Names}
+use Rattle.gix_refspec.specs.Views.Spec.{reading_of}
+use Rattle.gix_refspec.specs.Private.Index.{AllNear, IsNamed}
+use Rattle.gix_refspec.proofs.lemmas.index.IndexLemmas.{spec_asks, spec_asks_nothing}
+use Rattle.gix_refspec.proofs.match_group.hits.index.names_asked.Goals as goal
+use Rattle.gix_refspec.proofs.match_group.hits.index.names_asked.Goals.{in-Some+in_ok-add, in_default}
+
+pub loop-spec-preserved : goal.loop-spec-preserved
+loop-spec-preserved c =
+    let direction = c.args.direction in
+    let specs = c.args.specs.now in
+    let i = c.loop-spec.spec-index in
+    let spec = c.spec-item in
+    let old = c.loop-spec.names in
+    let named : Names → Type 0 = λ names. AllNear (IsNamed names) direction (map reading_of (take (i + 1) specs)) in
+    elim c.match-ends_of.branch [
+      | in-Some+in_ok-add w ↦
+          subst named (sym w.names-is)
+          (spec_asks direction specs i spec.result w.in-Some.ends old w.add.new.self c.loop-spec-test.true spec.is w.in-Some.ensures (record { full = w.in_ok-add.ensures.full; partial = w.in_ok-add.ensures.partial }) c.loop-spec.invariant)
+      | in_default w ↦
+          subst named (sym w.names-is)
+          (spec_asks_nothing direction specs i spec.result old c.loop-spec-test.true spec.is w.in_default.ensures c.loop-spec.invariant)
+    ]

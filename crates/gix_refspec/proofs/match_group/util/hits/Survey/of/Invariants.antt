@@ -1,8 +1,0 @@
--- what is listed so far is so for the specs so far
-use Rattle.std.proofs.Common.{map}
-use Rattle.gix_refspec.specs.Group.{ref_of}
-use Rattle.gix_refspec.proofs.FittedLemmas.{ListedUpTo}
-use Rattle.gix_refspec.proofs.match_group.util.hits.Survey.of.Given as goal
-
-abbrev pub invariant-loop-place : goal.invariant-loop-place
-invariant-loop-place l = ListedUpTo l.direction l.specs (map ref_of l.items) l.place l.fitted.items

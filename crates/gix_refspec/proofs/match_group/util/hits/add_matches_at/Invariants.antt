@@ -1,9 +1,0 @@
--- the hits so far are those among the items at the places so far
-use Rattle.std.proofs.Common.{map, take}
-use Rattle.gix_refspec.specs.Group.{ref_of}
-use Rattle.gix_refspec.specs.Private.HitViews.{AddsHits}
-use Rattle.gix_refspec.proofs.FrontHitLemmas.{AreHitsAt}
-use Rattle.gix_refspec.proofs.match_group.util.hits.add_matches_at.Given as goal
-
-abbrev pub invariant-loop-place : goal.invariant-loop-place
-invariant-loop-place l = AddsHits l.direction (AreHitsAt l.direction l.ends l.spec (map ref_of l.items) (take l.place-index l.places)) l.initial.made l.made

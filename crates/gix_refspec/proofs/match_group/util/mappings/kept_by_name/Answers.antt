@@ -1,9 +1,0 @@
--- The index has all names that the specs ask for.
-use Rattle.std.proofs.Common.{map}
-use Rattle.gix_refspec.specs.Spec.{reading_of}
-use Rattle.gix_refspec.specs.Group.{ref_of}
-use Rattle.gix_refspec.proofs.PlacedLemmas.{index_serves}
-use Rattle.gix_refspec.proofs.match_group.util.mappings.kept_by_name.Goals as goal
-
-pub kept_with-requires-clause-index : goal.kept_with-requires-clause-index
-kept_with-requires-clause-index c = index_serves c.args.direction (map reading_of c.args.specs.now) (map ref_of c.args.items.now) c.in_ok-names.names c.in_ok-index.index c.in_ok-names.ensures c.in_ok-index.ensures

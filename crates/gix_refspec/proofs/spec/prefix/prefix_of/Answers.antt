@@ -1,0 +1,11 @@
+-- A pattern has what stands before its star, where that tells a prefix.
+use Rattle.std.proofs.Common.{subst, sym, MatchOption}
+use Rattle.gix_refspec.specs.Matching.Prefix.{HasNoPrefix, IsPrefix}
+use Rattle.gix_refspec.proofs.lemmas.prefixes.PrefixLemmas.{pattern_prefix}
+use Rattle.gix_refspec.proofs.spec.prefix.prefix_of.Goals as goal
+
+pub returns-in-Pattern : goal.returns-in-Pattern
+returns-in-Pattern c =
+    let x = c.args.side.now in
+    let k = c.in-Pattern in
+    subst (λ r. MatchOption r (HasNoPrefix x) (λ p. IsPrefix x p.now)) (sym c.then_some.ensures) (pattern_prefix x k.before k.after c.tells_prefix.result k.ensures c.tells_prefix.ensures)

@@ -1,0 +1,103 @@
+-- Laws of matching some of the items in place of all: which ones a caller may leave out.
+-- They follow from the words of Hits and MatchLaws, and settle nothing.
+use Rattle.std.specs.Prelude.{◌≡◌, ◌⊎◌, ◌↔◌, ℕ, Bool, IsTrue, nat_eq, List, map, Option, Some}
+use Rattle.std.specs.List.{AllByRecursion, Any, Contains, filter, list_any, starts_with}
+use Rattle.bstr.specs.BStr.{bstr_bytes}
+use Rattle.gix_refspec.specs.declared.match_group.types.Item.{Item}
+use Rattle.gix_refspec.specs.declared.parsing.Operation.TheVariants.{Fetch}
+use Rattle.gix_refspec.specs.Texts.Bytes.{head}
+use Rattle.gix_refspec.specs.Specs.Reading.{Reading}
+use Rattle.gix_refspec.specs.Matching.Match.{Ref, HasName, Matches, Takes}
+use Rattle.gix_refspec.specs.Matching.Mappings.{Mapped, HasPair}
+use Rattle.gix_refspec.specs.Views.Group.{ref_of}
+use Rattle.gix_refspec.specs.Matching.Hits.{Ends, AreForwardEnds, AreBackwardEnds, AreKeptForward, AreKeptBackward}
+use Rattle.gix_refspec.specs.Laws.Matching.{AreFetches, MakesForward, HasCoveringSource, BeginsWithOne, AreExpansions}
+use Rattle.gix_refspec.specs.Matching.Asked.{ListsGroup}
+
+-- the refs B are some of the refs A
+abbrev pub ArePart : List Ref → List Ref → Type 0
+ArePart A B = (item : Ref) → Contains B item → Contains A item
+
+-- the reading takes the item
+pub record TakesItem (HasEnds : Reading → Ends → Type 0) (Taken : List ℕ → Ref → Option (List ℕ) → Type 0) (item : Ref) (r : Reading) : Type 0 where
+  pub ends : Ends
+  pub has : HasEnds r ends
+  pub word : Option (List ℕ)
+  pub takes : Taken ends.near item word
+
+-- among B is each item of A that some reading takes
+abbrev pub HasTaken : (Reading → Ends → Type 0) → (List ℕ → Ref → Option (List ℕ) → Type 0) → List Reading → List Ref → List Ref → Type 0
+HasTaken HasEnds Taken g A B = (item : Ref) → Contains A item → Any (TakesItem HasEnds Taken item) g → Contains B item
+
+-- two lists of mappings have the same pairs
+abbrev pub HaveSamePairs : List Mapped → List Mapped → Type 0
+HaveSamePairs l m = (pair : Mapped) → HasPair l pair ↔ HasPair m pair
+
+-- where B is a part of A and has each item of A that some reading takes, the same pairs stay over B as over A. What a
+-- reading takes is what it takes among A: so the first candidate of a partial source isn't left out
+pub record FewerItems (g : List Reading) (A B : List Ref) : Type 0 where
+  pub forward : ArePart A B → HasTaken AreForwardEnds (Takes A) g A B → (kept fewer : List Mapped) → AreKeptForward g A kept → AreKeptForward g B fewer → HaveSamePairs kept fewer
+  pub backward : ArePart A B → HasTaken AreBackwardEnds Matches g A B → (kept fewer : List Mapped) → AreKeptBackward g A kept → AreKeptBackward g B fewer → HaveSamePairs kept fewer
+
+-- the reading fetches `HEAD`, and one of the refs has that name
+pub record FetchesHead (A : List Ref) (r : Reading) : Type 0 where
+  pub fetch : r.operation ≡ Fetch
+  pub source : r.source ≡ Some head
+  pub there : HasName A head
+
+-- each name that the source of the reading takes among the refs begins with an entry that the reading expands to: the
+-- source is covering, or it is `HEAD` and the refs have that name. Where they lack it, `HEAD` takes `refs/heads/HEAD`
+abbrev pub IsListed : List Ref → Reading → Type 0
+IsListed A r = HasCoveringSource r ⊎ FetchesHead A r
+
+-- B is a part of A, and has each item of A whose name begins with an entry of what the readings expand to
+pub record AreListedItems (g : List Reading) (A B : List Ref) : Type 0 where
+  pub entries : List (List ℕ)
+  pub expansions : AreExpansions g entries
+  pub part : ArePart A B
+  pub listed : (item : Ref) → Contains A item → BeginsWithOne entries item.name → Contains B item
+
+-- of such items, no pair is lost that a listed reading makes, whatever the other readings are; and where each reading
+-- is listed, the same pairs stay
+pub record ListedItems (g : List Reading) (A B : List Ref) : Type 0 where
+  pub some : AreListedItems g A B → (kept fewer : List Mapped) → AreKeptForward g A kept → AreKeptForward g B fewer → (pair : Mapped)
+      → HasPair kept pair → Any (λ r. IsListed A r × MakesForward A pair.source pair.destination r) g → HasPair fewer pair
+  pub all : AreListedItems g A B → AllByRecursion (IsListed A) g → (kept fewer : List Mapped) → AreKeptForward g A kept → AreKeptForward g B fewer → HaveSamePairs kept fewer
+
+-- ---- what a test lets through
+
+-- the test lets each item through that some reading takes
+abbrev pub PassesTaken : (Reading → Ends → Type 0) → (List ℕ → Ref → Option (List ℕ) → Type 0) → List Reading → List Item → (Item → Bool) → Type 0
+PassesTaken HasEnds Taken g items p = (item : Item) → Contains items item → Any (TakesItem HasEnds Taken (ref_of item)) g → IsTrue (p item)
+
+-- the items that a test lets through are a part of all. Where it lets each item through that is taken, each of these
+-- is among them
+pub record FilteredItems (g : List Reading) (items some : List Item) : Type 0 where
+  pub part : (p : Item → Bool) → some ≡ filter p items → ArePart (map ref_of items) (map ref_of some)
+  pub forward : (p : Item → Bool) → some ≡ filter p items → PassesTaken AreForwardEnds (Takes (map ref_of items)) g items p → HasTaken AreForwardEnds (Takes (map ref_of items)) g (map ref_of items) (map ref_of some)
+  pub backward : (p : Item → Bool) → some ≡ filter p items → PassesTaken AreBackwardEnds Matches g items p → HasTaken AreBackwardEnds Matches g (map ref_of items) (map ref_of some)
+
+-- whether the name begins with one of the entries
+abbrev pub is_begun : List (List ℕ) → List ℕ → Bool
+is_begun entries n = list_any (λ entry. starts_with nat_eq n entry) entries
+
+-- so the items whose names begin with an entry of what the readings expand to are such a part
+abbrev pub FilteredByEntries : List Reading → List Item → List Item → Type 0
+FilteredByEntries g items some =
+    (entries : List (List ℕ)) → AreExpansions g entries → some ≡ filter (λ item. is_begun entries (bstr_bytes item.full_ref_name)) items → AreListedItems g (map ref_of items) (map ref_of some)
+
+-- ---- what is asked for
+
+-- B is a part of A, and has each item of A whose name begins with an entry of the list
+pub record AreAskedFor (list : List (List ℕ)) (A B : List Ref) : Type 0 where
+  pub part : ArePart A B
+  pub asked : (item : Ref) → Contains A item → BeginsWithOne list item.name → Contains B item
+
+-- where the list is what there is to ask for for a group of fetches, over such items the same pairs stay, also those of
+-- `HEAD`
+abbrev pub AskedItems : List Reading → List Ref → List Ref → Type 0
+AskedItems g A B = (list : List (List ℕ)) → ListsGroup g list → AreFetches g → AreAskedFor list A B → (kept fewer : List Mapped) → AreKeptForward g A kept → AreKeptForward g B fewer → HaveSamePairs kept fewer
+
+-- and those whose names begin with an entry of the list are what is asked for
+abbrev pub FilteredByList : List Item → List Item → Type 0
+FilteredByList items some = (list : List (List ℕ)) → some ≡ filter (λ item. is_begun list (bstr_bytes item.full_ref_name)) items → AreAskedFor list (map ref_of items) (map ref_of some)

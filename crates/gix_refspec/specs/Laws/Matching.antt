@@ -1,0 +1,190 @@
+-- Laws of matching: both directions agree, exactly where a pair stays, groups that map alike, and what covers the
+-- sources of a group.
+-- They follow from the words of Mappings and Hits, and settle nothing.
+use Rattle.std.specs.Prelude.{◌≡◌, ◌≢◌, ◌⊎◌, ◌↔◌, ℕ, List, ◌∷◌, ◌++◌, codes, Option, None, Some}
+use Rattle.std.specs.List.{AllByRecursion, AllZip, Any, Contains, slice_get}
+use Rattle.gix_refspec.specs.declared.parsing.Operation.TheVariants.{Fetch}
+use Rattle.gix_refspec.specs.Texts.Words.{Lacks, Begins}
+use Rattle.gix_refspec.specs.Texts.Name.{HasStar}
+use Rattle.gix_refspec.specs.Texts.Bytes.{star, head}
+use Rattle.gix_refspec.specs.Specs.Reading.{Reading}
+use Rattle.gix_refspec.specs.Specs.Grammar.{IsPositive, Reads}
+use Rattle.gix_refspec.specs.Specs.Meaning.{meaning_of, printed}
+use Rattle.gix_refspec.specs.Matching.Side.{object, HasKind}
+use Rattle.gix_refspec.specs.Matching.Match.{Ref, HasName, Matches, Takes}
+use Rattle.gix_refspec.specs.Matching.Prefix.{IsPrefix, IsAsked, IsExpansion}
+use Rattle.gix_refspec.specs.Matching.Lists.{IsJoinedFrom}
+use Rattle.gix_refspec.specs.Matching.Mappings.{Start, name, id, Mapped, HasPair, IsStartExcluded}
+use Rattle.gix_refspec.specs.Matching.Hits.{Ends, AreForwardEnds, AreBackwardEnds, IsFilled, AreForward, AreBackward, AreKeptForward, AreKeptBackward}
+
+-- ---- both directions
+
+-- the source of a mapping is the name of one of the refs
+abbrev pub IsSourceAmong : List Ref → Start → Type 0
+IsSourceAmong refs (name n) = HasName refs n
+IsSourceAmong refs (id i) = ⊥
+
+-- the destination of a mapping is the name of one of the refs
+abbrev pub IsDestinationAmong : List Ref → Option (List ℕ) → Type 0
+IsDestinationAmong refs None = ⊥
+IsDestinationAmong refs (Some n) = HasName refs n
+
+-- the reading goes both ways: where it is positive and has two sides, both have a star, or both begin
+-- `refs/`. `main:refs/x/main` doesn't: it maps `refs/tags/main` to `refs/x/main`, but `refs/x/main` back
+-- to `refs/heads/main`
+abbrev pub GoesBothWays : Reading → Type 0
+GoesBothWays r = IsPositive r.mode → (s d : List ℕ) → r.source ≡ Some s → r.destination ≡ Some d → (HasStar s × HasStar d) ⊎ (Begins (codes "refs/") s × Begins (codes "refs/") d)
+
+-- where each reading goes both ways: a pair stays from left to right over the refs A, with its destination
+-- among the refs B, exactly where it stays from right to left over B, with its source among A. So both
+-- directions exclude the same. Of `pair` only the source and the destination count
+abbrev pub Transpose : List Reading → List Ref → List Ref → Type 0
+Transpose g A B =
+    AllByRecursion GoesBothWays g → (l m : List Mapped) → AreKeptForward g A l → AreKeptBackward g B m → (pair : Mapped)
+    → (HasPair l pair × IsDestinationAmong B pair.destination) ↔ (HasPair m pair × IsSourceAmong A pair.source)
+
+-- ---- exactly where a pair stays
+
+-- a side takes the ref r, whose name is n, and the other side becomes far
+pub record IsPaired (Taken : List ℕ → Ref → Option (List ℕ) → Type 0) (ends : Ends) (n : List ℕ) (far : Option (List ℕ)) (r : Ref) : Type 0 where
+  pub word : Option (List ℕ)
+  pub name : r.name ≡ n
+  pub takes : Taken ends.near r word
+  pub becomes : IsFilled ends.far word far
+
+-- the reading takes one of the items, whose name is n, and its other side becomes far
+pub record PairsItem (HasEnds : Reading → Ends → Type 0) (Taken : List ℕ → Ref → Option (List ℕ) → Type 0) (items : List Ref) (n : List ℕ) (far : Option (List ℕ)) (r : Reading) : Type 0 where
+  pub ends : Ends
+  pub has : HasEnds r ends
+  pub one : Any (IsPaired Taken ends n far) items
+
+-- the reading asks for the object with this id, and its destination becomes far
+pub record PairsId (bytes : List ℕ) (far : Option (List ℕ)) (r : Reading) : Type 0 where
+  pub positive : IsPositive r.mode
+  pub text : List ℕ
+  pub side : r.source ≡ Some text
+  pub object : HasKind text (object bytes)
+  pub becomes : IsFilled r.destination None far
+
+-- from left to right the reading makes the pair of this start and this destination
+abbrev pub MakesForward : List Ref → Start → Option (List ℕ) → Reading → Type 0
+MakesForward items (name n) far r = PairsItem AreForwardEnds (Takes items) items n far r
+MakesForward items (id bytes) far r = PairsId bytes far r
+
+-- from right to left the reading makes it: the destination is the name of an item, and the source a name
+abbrev pub MakesBackward : List Ref → Start → Option (List ℕ) → Reading → Type 0
+MakesBackward items (name n) (Some d) r = PairsItem AreBackwardEnds Matches items d (Some n) r
+MakesBackward items (name n) None r = ⊥
+MakesBackward items (id bytes) far r = ⊥
+
+-- a pair stays exactly where some reading makes it, and none excludes its source
+pub record KeptExactly (g : List Reading) (items : List Ref) : Type 0 where
+  pub forward : (kept : List Mapped) → AreKeptForward g items kept → (pair : Mapped)
+      → HasPair kept pair ↔ (Any (MakesForward items pair.source pair.destination) g × ¬ (IsStartExcluded g pair.source))
+  pub backward : (kept : List Mapped) → AreKeptBackward g items kept → (pair : Mapped)
+      → HasPair kept pair ↔ (Any (MakesBackward items pair.source pair.destination) g × ¬ (IsStartExcluded g pair.source))
+
+-- the mapping stands in the list, none before it has its pair, and no reading excludes its source
+pub record IsFirstOfPair (g : List Reading) (l : List Mapped) (m : Mapped) : Type 0 where
+  pub before : List Mapped
+  pub after : List Mapped
+  pub here : l ≡ before ++ (m ∷ after)
+  pub first : ¬ (HasPair before m)
+  pub included : ¬ (IsStartExcluded g m.source)
+
+-- of the mappings with one pair just the first stays, as it is, where no reading excludes its source
+pub record FirstStays (g : List Reading) (items : List Ref) : Type 0 where
+  pub forward : (all kept : List Mapped) → AreForward g items all → AreKeptForward g items kept → (m : Mapped) → Contains kept m ↔ IsFirstOfPair g all m
+  pub backward : (all kept : List Mapped) → AreBackward g items all → AreKeptBackward g items kept → (m : Mapped) → Contains kept m ↔ IsFirstOfPair g all m
+
+-- no mapping that stays, in either direction, has a source that some reading excludes; and none excludes an id
+pub record NothingExcluded (g : List Reading) (items : List Ref) : Type 0 where
+  pub names : (list : List Mapped) → AreKeptForward g items list ⊎ AreKeptBackward g items list → AllByRecursion (λ m. ¬ (IsStartExcluded g m.source)) list
+  pub ids : (bytes : List ℕ) → ¬ (IsStartExcluded g (id bytes))
+
+-- ---- groups that map alike
+
+-- the canonical text of the fetch r reads as the fetch q: that of `+main` is `main`, which isn't forced. Pushes fall
+-- outside: that of `main` is `main:main`, which has a destination where `main` has none
+pub record ReadsAgainAs (r q : Reading) : Type 0 where
+  pub fetch : r.operation ≡ Fetch
+  pub text : List ℕ
+  pub is : printed r ≡ Some text
+  pub reads : Reads Fetch text q
+
+-- each reading of h is that of the canonical text of the reading of g at its place
+abbrev pub AreReadAgain : List Reading → List Reading → Type 0
+AreReadAgain g h = AllZip ReadsAgainAs g h
+
+-- over the items the same mappings stay of both groups, from left to right and from right to left
+pub record MapAlike (g h : List Reading) (items : List Ref) : Type 0 where
+  pub forward : (kept : List Mapped) → AreKeptForward g items kept ↔ AreKeptForward h items kept
+  pub backward : (kept : List Mapped) → AreKeptBackward g items kept ↔ AreKeptBackward h items kept
+
+-- a group of fetches maps as the group that its canonical texts read as
+abbrev pub FetchGroupReadsBack : List Reading → List Reading → List Ref → Type 0
+FetchGroupReadsBack g h items = AreReadAgain g h → MapAlike g h items
+
+-- the readings are fetches that say the same: only the force of one without a destination may differ. Pushes fall
+-- outside: `main` and `main:main` say the same, and only the second has a destination
+pub record FetchTheSame (r q : Reading) : Type 0 where
+  pub fetch : r.operation ≡ Fetch
+  pub same : meaning_of r ≡ meaning_of q
+
+-- groups of fetches that say the same, place by place, map alike
+abbrev pub EqualGroups : List Reading → List Reading → List Ref → Type 0
+EqualGroups g h items = AllZip FetchTheSame g h → MapAlike g h items
+
+-- each reading is a fetch
+abbrev pub AreFetches : List Reading → Type 0
+AreFetches g = AllByRecursion (λ r. r.operation ≡ Fetch) g
+
+-- ---- what covers the sources of a group
+
+-- the side begins `refs/` and has a prefix, or it is a partial name other than `HEAD`, or an id. Outside fall
+-- `HEAD`, which matches `refs/heads/HEAD` too and is expanded to `HEAD` alone; `*` and `refs/*`, which are
+-- expanded with the star as it is; and `refs/*/head`, which is expanded to nothing
+pub data IsCovering (x : List ℕ) : Type 0 where
+  by_prefix : (p : List ℕ) → Begins (codes "refs/") x → IsPrefix x p → IsCovering x
+  by_candidates : Lacks star x → x ≢ head → ¬ (Begins (codes "refs/") x) → IsCovering x
+
+-- the reading is a fetch, and its source is such a side, unless it is negative
+pub record HasCoveringSource (r : Reading) : Type 0 where
+  pub fetch : r.operation ≡ Fetch
+  pub source : (x : List ℕ) → IsAsked r x → IsCovering x
+
+-- the name begins with one of the entries
+abbrev pub BeginsWithOne : List (List ℕ) → List ℕ → Type 0
+BeginsWithOne entries n = Any (λ entry. Begins entry n) entries
+
+-- the name begins with an entry of what the reading expands to, which is positive then
+pub record IsCoveredBy (n : List ℕ) (r : Reading) : Type 0 where
+  pub entries : List (List ℕ)
+  pub expansion : IsExpansion r entries
+  pub one : BeginsWithOne entries n
+
+-- the entries are what the readings expand to, one behind the other
+abbrev pub AreExpansions : List Reading → List (List ℕ) → Type 0
+AreExpansions g entries = IsJoinedFrom (λ k r list. IsExpansion r list) 0 g entries
+
+-- the names that the reading takes begin with what it expands to, where n is one of them: its source is covering, or it
+-- is a fetch of `HEAD` and n is `HEAD`
+abbrev pub AsksFor : Reading → List ℕ → Type 0
+AsksFor r n = HasCoveringSource r ⊎ ((r.operation ≡ Fetch) × IsAsked r head × (n ≡ head))
+
+-- the spec of the mapping stands at its place in the group, and its reading is as P says
+abbrev pub AtSpec : List Reading → Mapped → (Reading → Type 0) → Type 0
+AtSpec g m P = (r : Reading) × (slice_get g m.spec ≡ Some r) × P r
+
+-- of the mappings from left to right that stay, each name that is a source, with the reading of its spec, is as P says
+abbrev pub EachSource : List Reading → List Ref → (Reading → List ℕ → Type 0) → Type 0
+EachSource g items P = (kept : List Mapped) → AreKeptForward g items kept → AllByRecursion (λ m. (n : List ℕ) → m.source ≡ name n → AtSpec g m (λ r. P r n)) kept
+
+-- each name that a spec maps from left to right begins with an entry of what this spec expands to, where that asks for
+-- it, whatever the other specs are
+abbrev pub Cover : List Reading → List Ref → Type 0
+Cover g items = EachSource g items (λ r n. AsksFor r n → IsCoveredBy n r)
+
+-- and so with one of the entries of all specs
+abbrev pub CoverTogether : List Reading → List Ref → Type 0
+CoverTogether g items = (entries : List (List ℕ)) → AreExpansions g entries → EachSource g items (λ r n. AsksFor r n → BeginsWithOne entries n)

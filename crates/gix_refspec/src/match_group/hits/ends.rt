@@ -1,0 +1,95 @@
+//! The ends of a spec as a direction sees them, with their kinds.
+
+ghost use Rattle.std.specs.Prelude.{ℕ, List, option_map, MatchOption};
+ghost use Rattle.bstr.specs.BStr.{bstr_bytes};
+ghost use Rattle.gix_refspec.specs.Texts.Name.{HasSeveralStars};
+ghost use Rattle.gix_refspec.specs.Texts.ObjectId.{id_bytes};
+ghost use Rattle.gix_refspec.specs.Views.Spec.{reading_of};
+ghost use Rattle.gix_refspec.specs.Matching.Hits.{Ends as EndsOf};
+ghost use Rattle.gix_refspec.specs.Private.HitViews.{AsksForId, HasKindShown, HaveKinds, HasEnds};
+
+use crate::oid::ObjectId;
+use crate::side::{SideKind, kind_of};
+use crate::spec::RefSpecRef;
+use crate::types::Mode;
+use bstr::BStr;
+
+// The direction of matching.
+#[derive(Clone, Copy)]
+pub(crate) enum Direction {
+    // Sources take items, and destinations are filled.
+    Forward,
+    // Destinations match items, and sources are filled.
+    Backward,
+}
+
+// The ends of a spec, as a direction sees them.
+#[derive(Clone, Copy)]
+pub(crate) struct Ends<'spec> {
+    pub(crate) near: SideKind<'spec>,
+    pub(crate) far: Option<SideKind<'spec>>,
+}
+
+// An object that a spec asks for by its id, and the kind of the spec's destination.
+#[derive(Clone, Copy)]
+pub(crate) struct Asked<'spec> {
+    pub(crate) id: ObjectId,
+    pub(crate) destination: Option<SideKind<'spec>>,
+}
+
+// The ends of a spec.
+pub(crate) fn ends_of<'spec>(direction: Direction, spec: &RefSpecRef<'spec>) -> Option<Ends<'spec>>
+    ensures { MatchOption result
+        ((ends : EndsOf) → ¬ (HasEnds direction (reading_of spec.now) ends))
+        (λ found. (ends : EndsOf)
+        × HasEnds direction (reading_of spec.now) ends × HaveKinds ends found) }
+{
+    if spec.mode == Mode::Negative {
+        return None;
+    }
+    let source = side_kind(spec.src)?;
+    let destination = side_kind(spec.dst);
+    match direction {
+        Direction::Forward => match source {
+            SideKind::Object(_) => None,
+            near => Some(Ends {
+                near,
+                far: destination,
+            }),
+        },
+        Direction::Backward => Some(Ends {
+            near: destination?,
+            far: Some(source),
+        }),
+    }
+}
+
+// The object that a positive spec asks for by its id, and the kind of its destination.
+pub(crate) fn asked_of<'spec>(spec: &RefSpecRef<'spec>) -> Option<Asked<'spec>>
+    ensures { MatchOption result
+        ((bytes : List ℕ) → ¬ (AsksForId (reading_of spec.now) bytes))
+        (λ asked. AsksForId (reading_of spec.now) (id_bytes asked.id)
+        × HasKindShown (reading_of spec.now).destination asked.destination) }
+{
+    if spec.mode == Mode::Negative {
+        return None;
+    }
+    let SideKind::Object(id) = side_kind(spec.src)? else {
+        return None;
+    };
+    Some(Asked {
+        id,
+        destination: side_kind(spec.dst),
+    })
+}
+
+// The kind of a side that is there.
+fn side_kind(side: Option<BStr<'_>>) -> Option<SideKind<'_>>
+    requires { MatchOption side (Unit {0}) (λ s. ¬ (HasSeveralStars (bstr_bytes s))) }
+    ensures { HasKindShown (option_map bstr_bytes side.entry) result }
+{
+    match side {
+        None => None,
+        Some(side) => Some(kind_of(side.as_bytes())),
+    }
+}

@@ -1,0 +1,107 @@
+//! Which names may be asked for. Most others are told apart by their length or by the mark of their
+//! hash, which is cheaper than to look for them.
+
+ghost use Rattle.std.specs.Prelude.{◌≡◌, ◌↔◌, ◌<◌, ◌%◌, ◌^◌, ℕ, List, length, map, IfOk, IsTrue};
+ghost use Rattle.std.specs.List.{AllByRecursion};
+ghost use Rattle.gix_refspec.specs.Views.Group.{name_bytes};
+ghost use Rattle.gix_refspec.specs.Private.Filter.{HasMark, IsWhole, IsWholeFilter, Passes};
+
+use crate::match_group::hashes::hash_of;
+use crate::match_group::types::NameRef;
+use std::alloc::{AllocError, Global};
+
+// So many lengths are told apart.
+const LENGTHS: usize = 128;
+
+// Of sixteen hashes that aren't asked for at most one has a mark.
+const MARKS_A_NAME: usize = 16;
+
+// Marks of numbers by their lower bits.
+#[derive(Drop)]
+struct Marks {
+    flags: Vec<bool>,
+    bits: u32,
+}
+
+impl Marks {
+    // No marks yet, and places for at least so many.
+    fn new(alloc: Global, room: usize) -> Result<Marks, AllocError>
+        ensures { IfOk result IsWhole }
+    {
+        let bits = (usize::BITS - room.saturating_sub(1).leading_zeros()).min(62);
+        let mut flags = Vec::new(alloc);
+        flags.resize(1 << bits, false)?;
+        Ok(Marks { flags, bits })
+    }
+
+    // Where the mark of a number stands.
+    fn place(&self, number: u64) -> usize
+        requires { IsWhole self.now }
+        ensures { result ≡ number % 2 ^ self.now.bits }
+    {
+        (number & ((1 << self.bits) - 1)) as usize
+    }
+
+    // Marks a number.
+    fn add(&mut self, number: u64)
+        requires { IsWhole self.old }
+        ensures whole { IsWhole self.new }
+        ensures here { HasMark self.new number }
+        ensures others { (k : ℕ) → HasMark self.old k → HasMark self.new k }
+    {
+        let place = self.place(number);
+        self.flags[place] = true;
+    }
+
+    // Whether a number has a mark.
+    fn has(&self, number: u64) -> bool
+        requires { IsWhole self.now }
+        ensures { IsTrue result ↔ HasMark self.now number }
+    {
+        self.flags[self.place(number)]
+    }
+}
+
+// Marks of the lengths and of the hashes of some names.
+#[derive(Drop)]
+pub(crate) struct Filter {
+    lengths: Marks,
+    hashes: Marks,
+}
+
+impl Filter {
+    // The filter that some names pass.
+    pub(crate) fn of(alloc: Global, names: &[NameRef<'_>]) -> Result<Filter, AllocError>
+        ensures whole { IfOk result IsWholeFilter }
+        ensures all { IfOk result (λ filter. AllByRecursion
+            (Passes filter) (map name_bytes names.now)) }
+    {
+        let mut filter = Filter {
+            lengths: Marks::new(alloc, LENGTHS)?,
+            hashes: Marks::new(alloc, names.len().saturating_mul(MARKS_A_NAME))?,
+        };
+        for name in names {
+            filter.add(name.as_bstr().as_bytes());
+        }
+        Ok(filter)
+    }
+
+    // Lets a name pass.
+    fn add(&mut self, name: &[u8])
+        requires { IsWholeFilter self.old }
+        ensures whole { IsWholeFilter self.new }
+        ensures here { Passes self.new name.now }
+        ensures others { (n : List ℕ) → Passes self.old n → Passes self.new n }
+    {
+        self.lengths.add(name.len() as u64);
+        self.hashes.add(hash_of(name));
+    }
+
+    // Whether a name passes.
+    pub(crate) fn passes(&self, name: &[u8]) -> bool
+        requires { IsWholeFilter self.now }
+        ensures { IsTrue result ↔ Passes self.now name.now }
+    {
+        self.lengths.has(name.len() as u64) && self.hashes.has(hash_of(name))
+    }
+}

@@ -1,0 +1,197 @@
+//! Where the items stand that partial names take. The partial names are the only keys: an item's name is
+//! looked up with each place taken off where a partial name is looked for.
+
+ghost use Rattle.std.specs.Prelude.{◌≡◌, length, map, IfOk, OnOk};
+ghost use Rattle.gix_refspec.specs.Views.Group.{name_bytes, ref_of};
+ghost use Rattle.gix_refspec.specs.Matching.Side.{Fits, IsCandidate};
+ghost use Rattle.gix_refspec.specs.Private.Filter.{IsWholeFilter, Passes};
+ghost use Rattle.gix_refspec.specs.Private.Index.{AddsWhere, Joins, JoinsFirst, ListPartials, list_of, name_at, places_listed};
+
+use super::filter::Filter;
+use super::without_places;
+use crate::match_group::hits::ends::Direction;
+use crate::match_group::hits::matches::word_between;
+use crate::match_group::types::{Item, NameRef};
+use std::alloc::{AllocError, Global};
+use std::collections::HashMap;
+
+// So many names a partial one may stand for.
+const CANDIDATES: usize = 6;
+
+// For each of some partial names the places of all items that it takes in a direction, rising.
+#[derive(Drop)]
+pub(crate) struct PartialIndex<'n> {
+    direction: Direction,
+    places: HashMap<&'n [u8], Vec<usize>>,
+}
+
+impl<'n> PartialIndex<'n> {
+    // The index of some partial names.
+    pub(crate) fn of(
+        alloc: Global,
+        direction: Direction,
+        names: &'n [NameRef<'_>],
+        items: &[Item<'_>],
+    ) -> Result<PartialIndex<'n>, AllocError>
+        ensures { IfOk result (λ index. ListPartials
+            direction (map name_bytes names.now) (map ref_of items.now) (list_of index.places)) }
+    {
+        let mut places = without_places(alloc, names)?;
+        if names.is_empty() {
+            return Ok(PartialIndex { direction, places });
+        }
+        let filter = Filter::of(alloc, names)?;
+        for (place, item) in items.iter().enumerate() {
+            let name = item.full_ref_name.as_bytes();
+            add_item(direction, name, place, items, &filter, &mut places)?;
+        }
+        Ok(PartialIndex { direction, places })
+    }
+
+    // The places of the items that a partial name takes.
+    pub(crate) fn places(&self, partial: &[u8]) -> &[usize]
+        ensures { result.now ≡ places_listed (list_of self.now.places) partial.now }
+    {
+        match self.places.get(partial) {
+            None => &[],
+            Some(places) => places.as_slice(),
+        }
+    }
+
+    // Whether some partial name takes more items than it does where no name repeats.
+    pub(crate) fn has_repeats(&self) -> bool {
+        let most = match self.direction {
+            Direction::Forward => 1,
+            Direction::Backward => CANDIDATES,
+        };
+        self.places.values().any(|places| most < places.len())
+    }
+}
+
+// Adds the place of an item to those of each partial name that may stand for its name.
+fn add_item(
+    direction: Direction,
+    name: &[u8],
+    place: usize,
+    items: &[Item<'_>],
+    filter: &Filter,
+    places: &mut HashMap<&[u8], Vec<usize>>,
+) -> Result<(), AllocError>
+    requires { IsWholeFilter filter.now }
+    ensures { OnOk result (AddsWhere (Passes filter.now) (λ x. IsCandidate x name.now)
+        (Joins direction (map ref_of items.now) place) (list_of places.old) (list_of places.new)) }
+{
+    add_between(direction, b"", b"", name, place, items, filter, places)?;
+    add_between(direction, b"refs/", b"", name, place, items, filter, places)?;
+    add_between(
+        direction,
+        b"refs/tags/",
+        b"",
+        name,
+        place,
+        items,
+        filter,
+        places,
+    )?;
+    add_between(
+        direction,
+        b"refs/heads/",
+        b"",
+        name,
+        place,
+        items,
+        filter,
+        places,
+    )?;
+    add_between(
+        direction,
+        b"refs/remotes/",
+        b"",
+        name,
+        place,
+        items,
+        filter,
+        places,
+    )?;
+    add_between(
+        direction,
+        b"refs/remotes/",
+        b"/HEAD",
+        name,
+        place,
+        items,
+        filter,
+        places,
+    )
+}
+
+// Adds it for what stands in its name between two texts.
+#[inline(always)]
+fn add_between(
+    direction: Direction,
+    before: &[u8],
+    after: &[u8],
+    name: &[u8],
+    place: usize,
+    items: &[Item<'_>],
+    filter: &Filter,
+    places: &mut HashMap<&[u8], Vec<usize>>,
+) -> Result<(), AllocError>
+    requires { IsWholeFilter filter.now }
+    ensures { OnOk result (AddsWhere (Passes filter.now) (λ x. Fits before.now after.now name.now x)
+        (Joins direction (map ref_of items.now) place) (list_of places.old) (list_of places.new)) }
+{
+    let Some(partial) = word_between(before, after, name) else {
+        return Ok(());
+    };
+    if !filter.passes(partial) {
+        return Ok(());
+    }
+    match places.get_mut(partial) {
+        None => Ok(()),
+        Some(list) => join(direction, place, items, list),
+    }
+}
+
+// Adds a place to those that a partial name takes.
+fn join(
+    direction: Direction,
+    place: usize,
+    items: &[Item<'_>],
+    places: &mut Vec<usize>,
+) -> Result<(), AllocError>
+    ensures { OnOk result (Joins
+        direction (map ref_of items.now) place places.old.items places.new.items) }
+{
+    match direction {
+        Direction::Forward => join_first(place, items, places),
+        Direction::Backward => Ok(places.push(place)?),
+    }
+}
+
+// Adds a place to those of the first candidate that is there. The earlier of two is the shorter one.
+fn join_first(place: usize, items: &[Item<'_>], places: &mut Vec<usize>) -> Result<(), AllocError>
+    ensures { OnOk result (JoinsFirst (map ref_of items.now) place places.old.items places.new.items) }
+{
+    if let Some(first) = places.first() {
+        let least = size_at(items, *first);
+        let size = size_at(items, place);
+        if least < size {
+            return Ok(());
+        }
+        if size < least {
+            places.clear();
+        }
+    }
+    Ok(places.push(place)?)
+}
+
+// How long the name of the item at a place is.
+fn size_at(items: &[Item<'_>], place: usize) -> usize
+    ensures { result ≡ length (name_at (map ref_of items.now) place) }
+{
+    match items.get(place) {
+        None => 0,
+        Some(item) => item.full_ref_name.as_bytes().len(),
+    }
+}

@@ -1,0 +1,117 @@
+//! What one side of a refspec matches.
+
+ghost use Rattle.std.specs.Prelude.{◌≡◌, ◌++◌, codes, ◌⊎◌, ◌↔◌, ℕ, List, Option, MatchOption, option_map, IsTrue, Some};
+ghost use Rattle.gix_refspec.specs.Texts.ObjectId.{id_bytes};
+ghost use Rattle.gix_refspec.specs.Matching.Side.{Fits, IsCandidate};
+ghost use Rattle.gix_refspec.specs.Matching.Match.{MatchesAs};
+ghost use Rattle.gix_refspec.specs.Views.Group.{ref_of};
+ghost use Rattle.gix_refspec.specs.Private.SideViews.{shown_kind};
+ghost use Rattle.gix_refspec.specs.Private.HitViews.{word_of, IsPlace, PatternFits};
+
+use crate::match_group::types::Item;
+use crate::oid::ObjectId;
+use crate::side::SideKind;
+
+// That a side matched an item. A pattern did so with a word for its star.
+#[derive(Clone, Copy)]
+pub(crate) struct Match<'item> {
+    pub(crate) word: Option<&'item [u8]>,
+}
+
+// How a side matches an item. It is inlined, since it is called for each item of each spec.
+#[inline(always)]
+pub(crate) fn matched<'item>(side: SideKind<'_>, item: &Item<'item>) -> Option<Match<'item>>
+    ensures { MatchOption result
+        ((word : Option (List ℕ)) → ¬ (MatchesAs (shown_kind side.entry) (ref_of item.now) word))
+        (λ found. MatchesAs (shown_kind side.entry) (ref_of item.now) (word_of found)) }
+{
+    let name = item.full_ref_name.as_bytes();
+    let matches = match side {
+        SideKind::Pattern { before, after } => {
+            let word = word_between(before, after, name)?;
+            return Some(Match { word: Some(word) });
+        }
+        SideKind::FullName(full) => name == full,
+        SideKind::Object(id) => points_to(item, &id),
+        SideKind::Partial(partial) => is_candidate(partial, name),
+    };
+    matches.then_some(Match { word: None })
+}
+
+// What stands in a name between two texts that never overlap.
+#[inline(always)]
+pub(crate) fn word_between<'a>(before: &[u8], after: &[u8], name: &'a [u8]) -> Option<&'a [u8]>
+    ensures { MatchOption result
+        ((word : List ℕ) → ¬ (Fits before.now after.now name.now word))
+        (λ word. Fits before.now after.now name.now word.now) }
+{
+    name.strip_prefix(before)?.strip_suffix(after)
+}
+
+// What stands for the star of a pattern in the name of an item that it fits. It isn't compared again.
+#[inline(always)]
+pub(crate) fn fitted_word<'item>(side: SideKind<'_>, item: &Item<'item>) -> Option<&'item [u8]>
+    requires { PatternFits (shown_kind side) (ref_of item.now) }
+    ensures { MatchesAs (shown_kind side.entry) (ref_of item.now) (option_map (λ w. w.now) result) }
+{
+    let SideKind::Pattern { before, after } = side else {
+        return None;
+    };
+    let name = item.full_ref_name.as_bytes();
+    Some(&name[before.len()..name.len() - after.len()])
+}
+
+// Whether an item points to an object, or to a tag of it.
+fn points_to(item: &Item<'_>, id: &ObjectId) -> bool
+    ensures { IsTrue result ↔
+        (((ref_of item.now).target ≡ id_bytes id.now)
+        ⊎ ((ref_of item.now).object ≡ Some (id_bytes id.now))) }
+{
+    if item.target == id {
+        return true;
+    }
+    match item.object {
+        None => false,
+        Some(object) => object == id,
+    }
+}
+
+// Whether a name is one of those that a partial name may stand for.
+fn is_candidate(partial: &[u8], name: &[u8]) -> bool
+    ensures { IsTrue result ↔ IsCandidate partial.now name.now }
+{
+    is_placed(partial, name) || is_remote_head(partial, name)
+}
+
+// Whether a name is a partial one behind one of the places where that is looked for.
+fn is_placed(partial: &[u8], name: &[u8]) -> bool
+    ensures { IsTrue result ↔
+        ((before : List ℕ) × IsPlace before × (name.now ≡ before ++ partial.now)) }
+{
+    match name.strip_suffix(partial) {
+        None => false,
+        Some(before) => is_place(before),
+    }
+}
+
+// Whether a name is the head of the remote that a partial name names.
+fn is_remote_head(partial: &[u8], name: &[u8]) -> bool
+    ensures { IsTrue result ↔
+        (name.now ≡ codes "refs/remotes/" ++ (partial.now ++ codes "/HEAD")) }
+{
+    match word_between(b"refs/remotes/", b"/HEAD", name) {
+        None => false,
+        Some(remote) => remote == partial,
+    }
+}
+
+// Whether a candidate may have this before the partial name, and nothing behind it.
+fn is_place(before: &[u8]) -> bool
+    ensures { IsTrue result ↔ IsPlace before.now }
+{
+    before == b"".as_slice()
+        || before == b"refs/".as_slice()
+        || before == b"refs/tags/".as_slice()
+        || before == b"refs/heads/".as_slice()
+        || before == b"refs/remotes/".as_slice()
+}

@@ -1,0 +1,82 @@
+//! Which mappings are kept: each pair of a source and a destination once, and no source that a
+//! negative spec excludes.
+
+ghost use Rattle.std.specs.Prelude.{◌≡◌, ◌⊎◌, ◌↔◌, ◌<◌, ◌≤◌, length, map, IfOk, OnOk, OnErr, IsTrue};
+ghost use Rattle.gix_refspec.specs.Views.Spec.{reading_of};
+ghost use Rattle.gix_refspec.specs.Views.Group.{mapped_of};
+ghost use Rattle.gix_refspec.specs.Matching.Mappings.{IsKept};
+ghost use Rattle.gix_refspec.specs.Matching.Lists.{IsMadeFrom};
+ghost use Rattle.gix_refspec.specs.Private.Kept.{HasNegative, IsFlagged, Remains};
+
+mod exclusions;
+pub(crate) mod repeats;
+
+use crate::match_group::types::Mapping;
+use crate::spec::RefSpecRef;
+use exclusions::Exclusions;
+use repeats::repeats_of;
+use std::alloc::{AllocError, Global};
+
+// Drops the mappings that have the same source and destination as an earlier one, and those whose
+// source a negative spec excludes. The others stay in order. Fails if memory runs out, which it
+// doesn't want for one mapping and no negative spec, and leaves them all.
+pub(crate) fn keep<'a, 'b>(
+    alloc: Global,
+    specs: &[RefSpecRef<'_>],
+    mappings: &mut Vec<Mapping<'a, 'b>>,
+) -> Result<(), AllocError>
+    ensures ok { OnOk result (IsKept
+        (map reading_of specs.now) (map mapped_of mappings.old.items)
+        (map mapped_of mappings.new.items)) }
+    ensures err { OnErr result (mappings.new.items ≡ mappings.old.items) }
+    ensures memory { OnErr result ((1 < length mappings.old.items) ⊎ HasNegative
+        (map reading_of specs.now)) }
+{
+    let exclusions = Exclusions::of(alloc, specs)?;
+    let repeats = repeats_of(alloc, mappings.as_slice())?;
+    if exclusions.is_empty() && repeats.is_empty() {
+        return Ok(());
+    }
+    drop_others(&exclusions, repeats.as_slice(), mappings);
+    Ok(())
+}
+
+// Drops the mappings that are flagged or excluded. The others stay in order.
+fn drop_others<'a, 'b>(
+    exclusions: &Exclusions<'_>,
+    repeats: &[bool],
+    mappings: &mut Vec<Mapping<'a, 'b>>,
+)
+    ensures { IsMadeFrom (Remains exclusions.now repeats.now) 0 mappings.old.items mappings.new.items }
+{
+    let mut kept = 0;
+    for place in 0..mappings.len() {
+        if remains(exclusions, repeats, place, &mappings[place]) {
+            mappings.swap(kept, place);
+            kept += 1;
+        }
+    }
+    mappings.truncate(kept);
+}
+
+// Whether the mapping at a place is neither flagged nor excluded.
+fn remains(
+    exclusions: &Exclusions<'_>,
+    repeats: &[bool],
+    place: usize,
+    mapping: &Mapping<'_, '_>,
+) -> bool
+    ensures { IsTrue result ↔ Remains exclusions.now repeats.now place mapping.now mapping.now }
+{
+    !is_flagged(repeats, place) && !exclusions.excludes(mapping)
+}
+
+// Whether a place is flagged. No flags at all flag no place.
+pub(crate) fn is_flagged(flags: &[bool], place: usize) -> bool
+    ensures { IsTrue result ↔ IsFlagged flags.now place }
+{
+    match flags.get(place) {
+        None => false,
+        Some(flag) => *flag,
+    }
+}

@@ -1,0 +1,134 @@
+//! What the negative specs of a group exclude.
+
+ghost use Rattle.std.specs.Prelude.{◌≡◌, ◌⊎◌, ◌↔◌, ℕ, List, map, MatchOption, OnSome, IfOk, OnOk, OnErr, IsTrue};
+ghost use Rattle.gix_refspec.specs.Views.Spec.{reading_of};
+ghost use Rattle.gix_refspec.specs.Views.Group.{mapped_of};
+ghost use Rattle.gix_refspec.specs.Matching.Mappings.{IsExcludedBy};
+ghost use Rattle.gix_refspec.specs.Specs.Reading.{Negative};
+ghost use Rattle.gix_refspec.specs.Private.Kept.{AreExclusionsOf, HasNegative, IsFitted, IsStartTaken, IsTaken};
+
+use crate::cut::split_at_first;
+use crate::match_group::hits::matches::word_between;
+use crate::match_group::types::{Mapping, NameRef, SourceRef};
+use crate::spec::RefSpecRef;
+use crate::types::Mode;
+use bstr::BStr;
+use std::alloc::{AllocError, Global};
+use std::collections::HashSet;
+
+// What a negative spec excludes.
+#[derive(Clone, Copy)]
+enum Exclusion<'a> {
+    // The one name that its source is.
+    Name(&'a [u8]),
+    // Each name of a pattern.
+    Pattern(Pattern<'a>),
+}
+
+// A pattern, by what stands before its star and behind it.
+#[derive(Clone, Copy)]
+struct Pattern<'a> {
+    before: &'a [u8],
+    after: &'a [u8],
+}
+
+// What the negative specs of a group exclude. It is asked about each mapping, so its names are a set.
+// They are the client's: a server chooses no key of it.
+#[derive(Drop)]
+pub(crate) struct Exclusions<'a> {
+    names: HashSet<NameRef<'a>>,
+    patterns: Vec<Pattern<'a>>,
+}
+
+impl<'a> Exclusion<'a> {
+    ghost use Rattle.gix_refspec.specs.Private.Kept.{Takes};
+
+    // What a spec excludes, where it is negative.
+    fn of(spec: RefSpecRef<'a>) -> Option<Exclusion<'a>>
+        ensures excludes { MatchOption result
+            ((n : List ℕ) → ¬ (IsExcludedBy n (reading_of spec.entry)))
+            (λ exclusion. (n : List ℕ) → Takes exclusion n ↔ IsExcludedBy n (reading_of spec.entry)) }
+        ensures negative { OnSome result ((reading_of spec.entry).mode ≡ Negative) }
+    {
+        if spec.mode != Mode::Negative {
+            return None;
+        }
+        let source = spec.src?.as_bytes();
+        Some(match split_at_first(source, b'*') {
+            None => Exclusion::Name(source),
+            Some((before, after)) => Exclusion::Pattern(Pattern { before, after }),
+        })
+    }
+}
+
+impl<'a> Exclusions<'a> {
+    ghost use Rattle.gix_refspec.specs.Private.Kept.{Takes};
+
+    // What the negative specs among these exclude.
+    pub(crate) fn of(alloc: Global, specs: &[RefSpecRef<'a>]) -> Result<Exclusions<'a>, AllocError>
+        ensures ok { IfOk result (AreExclusionsOf (map reading_of specs.now)) }
+        ensures memory { OnErr result (HasNegative (map reading_of specs.now)) }
+    {
+        let mut exclusions = Exclusions {
+            names: HashSet::new(alloc),
+            patterns: Vec::new(alloc),
+        };
+        for spec in specs {
+            if let Some(exclusion) = Exclusion::of(*spec) {
+                exclusions.add(exclusion)?;
+            }
+        }
+        Ok(exclusions)
+    }
+
+    // Excludes more.
+    fn add(&mut self, exclusion: Exclusion<'a>) -> Result<(), AllocError>
+        ensures { OnOk result ((n : List ℕ) →
+            IsTaken self.new n ↔ (IsTaken self.old n ⊎ Takes exclusion.entry n)) }
+    {
+        match exclusion {
+            Exclusion::Name(name) => {
+                self.names.insert(NameRef::Borrowed(BStr::new(name)))?;
+            }
+            Exclusion::Pattern(pattern) => self.patterns.push(pattern)?,
+        }
+        Ok(())
+    }
+
+    // Whether nothing is excluded.
+    pub(crate) fn is_empty(&self) -> bool
+        ensures { IsTrue result → (n : List ℕ) → ¬ (IsTaken self.now n) }
+    {
+        self.names.is_empty() && self.patterns.is_empty()
+    }
+
+    // Whether a name is excluded.
+    fn has_name(&self, name: &[u8]) -> bool
+        ensures { IsTrue result ↔ IsTaken self.now name.now }
+    {
+        self.names.contains(&NameRef::Borrowed(BStr::new(name)))
+            || fits_some(self.patterns.as_slice(), name)
+    }
+
+    // Whether the source of a mapping is a name that is excluded.
+    pub(crate) fn excludes(&self, mapping: &Mapping<'_, '_>) -> bool
+        ensures { IsTrue result ↔ IsStartTaken self.now (mapped_of mapping.now).source }
+    {
+        match &mapping.lhs {
+            SourceRef::FullName(name) => self.has_name(name.as_bstr().as_bytes()),
+            SourceRef::ObjectId(_) => false,
+        }
+    }
+}
+
+// Whether one of these patterns fits a name.
+fn fits_some(patterns: &[Pattern<'_>], name: &[u8]) -> bool
+    ensures { IsTrue result ↔ IsFitted patterns.now name.now }
+{
+    for pattern in patterns {
+        if word_between(pattern.before, pattern.after, name).is_some() {
+            return true;
+        }
+    }
+    false
+}

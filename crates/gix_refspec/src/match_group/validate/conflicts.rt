@@ -1,0 +1,197 @@
+//! Destinations that several sources are mapped to.
+//!
+//! They are found by sorting, so that no names make it slow. Mostly no two destinations have one
+//! hash, and nothing else is sorted.
+
+ghost use Rattle.std.specs.Prelude.{◌≡◌, ◌≢◌, ◌<◌, ◌≤◌, [], List, ℕ, length, map, take, drop, IfOk, OnOk, OnErr, IsTrue};
+ghost use Rattle.std.specs.List.Sorted.{IsStrictlySortedBy};
+ghost use Rattle.gix_refspec.specs.Views.Spec.{reading_of};
+ghost use Rattle.gix_refspec.specs.Views.Group.{mapped_of};
+ghost use Rattle.gix_refspec.specs.Matching.Validation.{IndexesFit, IsContested, AreConflicts};
+ghost use Rattle.gix_refspec.specs.Views.Issue.{conflict_of};
+ghost use Rattle.gix_refspec.specs.Private.Kept.{Rises};
+ghost use Rattle.gix_refspec.specs.Private.Updates.{AddsConflict, AreClaims, AreFirsts, AreRivals, IsCut, IsOver, claim_cmp, destination_hashes};
+
+use crate::match_group::hashes::hash_of;
+use crate::match_group::keep::is_flagged;
+use crate::match_group::keep::repeats::repeats_of;
+use crate::match_group::types::Mapping;
+use crate::match_group::validate::Issue;
+use crate::spec::RefSpecRef;
+use bstr::{BStr, BString};
+use std::alloc::{AllocError, Global};
+
+// A destination, and the place of a mapping to it.
+#[derive(Clone, Copy, PartialEq, Eq, PartialOrd, Ord)]
+struct Claim<'m> {
+    destination: &'m [u8],
+    place: usize,
+}
+
+// The conflicts of some mappings. Fails if memory runs out, which it doesn't want without mappings.
+pub(crate) fn issues_of(
+    alloc: Global,
+    specs: &[RefSpecRef<'_>],
+    mappings: &[Mapping<'_, '_>],
+) -> Result<Vec<Issue>, AllocError>
+    requires { IndexesFit (map reading_of specs.now) (map mapped_of mappings.now) }
+    ensures ok { IfOk result (λ issues. AreConflicts
+        (map reading_of specs.now) (map mapped_of mappings.now) (map conflict_of issues.items)) }
+    ensures memory { OnErr result (map mapped_of mappings.now ≢ []) }
+{
+    if mappings.is_empty() {
+        return Ok(Vec::new(alloc));
+    }
+    if destinations_differ(alloc, mappings)? {
+        return Ok(Vec::new(alloc));
+    }
+    let repeats = repeats_of(alloc, mappings)?;
+    let firsts = claims_in_order(alloc, mappings, repeats.as_slice())?;
+    issues_among(alloc, specs, mappings, firsts.as_slice())
+}
+
+// Whether the destinations all have different hashes, as different names mostly have. Numbers are
+// sorted faster than names.
+fn destinations_differ(alloc: Global, mappings: &[Mapping<'_, '_>]) -> Result<bool, AllocError>
+    ensures { IfOk result (λ differ. IsTrue differ →
+        (d : List ℕ) → ¬ (IsContested (map mapped_of mappings.now) d)) }
+{
+    let mut hashes = hashes_of(alloc, mappings)?;
+    hashes.sort_unstable();
+    Ok(rise(hashes.as_slice()))
+}
+
+// Whether each number is below the next one.
+fn rise(numbers: &[u64]) -> bool
+    ensures { IsTrue result → Rises numbers.now }
+{
+    for at in 1..numbers.len() {
+        if numbers[at - 1] >= numbers[at] {
+            return false;
+        }
+    }
+    true
+}
+
+// The hashes of the destinations that are there.
+fn hashes_of(alloc: Global, mappings: &[Mapping<'_, '_>]) -> Result<Vec<u64>, AllocError>
+    ensures { IfOk result (λ hashes. hashes.items ≡
+        destination_hashes (map mapped_of mappings.now)) }
+{
+    let mut hashes = Vec::with_capacity(alloc, mappings.len())?;
+    for mapping in mappings {
+        if let Some(name) = &mapping.rhs {
+            hashes.push(hash_of(name.as_bstr().as_bytes()))?;
+        }
+    }
+    Ok(hashes)
+}
+
+// The claims of the mappings that have a destination and aren't flagged, in order.
+fn claims_in_order<'m>(
+    alloc: Global,
+    mappings: &'m [Mapping<'_, '_>],
+    flags: &[bool],
+) -> Result<Vec<Claim<'m>>, AllocError>
+    ensures { IfOk result (λ claims. AreClaims (map mapped_of mappings.now) flags.now claims.items) }
+{
+    let mut claims = Vec::with_capacity(alloc, mappings.len())?;
+    for (place, mapping) in mappings.iter().enumerate() {
+        let Some(name) = &mapping.rhs else {
+            continue;
+        };
+        if !is_flagged(flags, place) {
+            claims.push(Claim {
+                destination: name.as_bstr().as_bytes(),
+                place,
+            })?;
+        }
+    }
+    claims.sort_unstable();
+    Ok(claims)
+}
+
+// The conflicts of claims that are each the first of its source.
+fn issues_among(
+    alloc: Global,
+    specs: &[RefSpecRef<'_>],
+    mappings: &[Mapping<'_, '_>],
+    firsts: &[Claim<'_>],
+) -> Result<Vec<Issue>, AllocError>
+    requires fits { IndexesFit (map reading_of specs.now) (map mapped_of mappings.now) }
+    requires firsts { AreFirsts (map mapped_of mappings.now) firsts.now }
+    ensures { IfOk result (λ issues. AreConflicts
+        (map reading_of specs.now) (map mapped_of mappings.now) (map conflict_of issues.items)) }
+{
+    let mut issues = Vec::new(alloc);
+    let mut at = 0;
+    while at < firsts.len() {
+        let rest = &firsts[at..];
+        let len = len_of_run(rest);
+        add_issue(alloc, specs, mappings, &rest[..len], &mut issues)?;
+        at += len;
+    }
+    Ok(issues)
+}
+
+// Adds the conflict of all claims to one destination, where there are several.
+fn add_issue(
+    alloc: Global,
+    specs: &[RefSpecRef<'_>],
+    mappings: &[Mapping<'_, '_>],
+    run: &[Claim<'_>],
+    issues: &mut Vec<Issue>,
+) -> Result<(), AllocError>
+    requires fits { IndexesFit (map reading_of specs.now) (map mapped_of mappings.now) }
+    requires rivals { 1 < length run.now → AreRivals (map mapped_of mappings.now) run.now }
+    ensures { OnOk result (AddsConflict
+        (map reading_of specs.now) (map mapped_of mappings.now) run.now
+        (map conflict_of issues.old.items) (map conflict_of issues.new.items)) }
+{
+    if run.len() > 1 {
+        issues.push(issue_of(alloc, specs, mappings, run)?)?;
+    }
+    Ok(())
+}
+
+// How many of some claims in order, from the first on, have its destination.
+fn len_of_run(claims: &[Claim<'_>]) -> usize
+    requires some { 0 < length claims.now }
+    requires order { IsStrictlySortedBy claim_cmp claims.now }
+    ensures some { 0 < result }
+    ensures fits { result ≤ length claims.now }
+    ensures cut { IsCut (take result claims.now) (drop result claims.now) }
+{
+    for (len, claim) in claims.iter().enumerate() {
+        if claim.destination != claims[0].destination {
+            return len;
+        }
+    }
+    claims.len()
+}
+
+// The conflict of the claims to one destination.
+fn issue_of(
+    alloc: Global,
+    specs: &[RefSpecRef<'_>],
+    mappings: &[Mapping<'_, '_>],
+    run: &[Claim<'_>],
+) -> Result<Issue, AllocError>
+    requires fits { IndexesFit (map reading_of specs.now) (map mapped_of mappings.now) }
+    requires rivals { AreRivals (map mapped_of mappings.now) run.now }
+    ensures { IfOk result (λ issue. IsOver
+        (map reading_of specs.now) (map mapped_of mappings.now) run.now (conflict_of issue)) }
+{
+    let mut sources = Vec::with_capacity(alloc, run.len())?;
+    let mut texts = Vec::with_capacity(alloc, run.len())?;
+    for claim in run {
+        let mapping = &mappings[claim.place];
+        sources.push(mapping.lhs.clone(alloc)?.into_owned(alloc)?)?;
+        texts.push(specs[mapping.spec_index].to_bstring(alloc)?)?;
+    }
+    Ok(Issue::Conflict {
+        destination_full_ref_name: BString::from_slice(alloc, BStr::new(run[0].destination))?,
+        sources,
+        specs: texts,
+    })
+}
