@@ -1,7 +1,7 @@
 //! What a refspec says to do, by operation.
 
 ghost use Rattle.std.specs.Prelude.{◌≡◌};
-ghost use Rattle.gix_refspec.specs.Views.Instruction.{shown, meant_for};
+ghost use Rattle.gix_refspec.specs.Views.Instruction.{meaning_of_instruction, meant_for};
 
 use crate::parsing::Operation;
 use crate::types::Instruction;
@@ -65,7 +65,7 @@ pub enum Fetch<'a> {
 impl Instruction<'_> {
     /// Whether the instruction is for a push or for a fetch.
     pub fn operation(&self) -> Operation
-        ensures { result ≡ meant_for (shown self.now) }
+        ensures { result ≡ meant_for (meaning_of_instruction self.now) }
     {
         match self {
             Instruction::Push(_) => Operation::Push,

@@ -7,7 +7,7 @@ ghost use Rattle.gix_refspec.specs.Laws.Readings.{ReadsOrRefused, OneRefusal, Re
 ghost use Rattle.gix_refspec.specs.Laws.Sides.{SidesAgree, OneKind, OneOfEach};
 ghost use Rattle.gix_refspec.specs.Specs.Meaning.{meaning_of};
 ghost use Rattle.gix_refspec.specs.Texts.ObjectId.{id_bytes};
-ghost use Rattle.gix_refspec.specs.Specs.Order.{is_same, order, place_of, writes_of};
+ghost use Rattle.gix_refspec.specs.Specs.Order.{is_same, order, rank_of, writes_of};
 ghost use Rattle.gix_refspec.specs.Views.Group.{mapped_of, name_bytes, ref_of, readings_of, start_of};
 ghost use Rattle.gix_refspec.specs.Matching.Mappings.{IsSamePair};
 ghost use Rattle.gix_refspec.specs.Matching.Hits.{KeptOnce, OneForward, OneBackward};
@@ -20,7 +20,7 @@ ghost use Rattle.gix_refspec.specs.Views.Errors.{IsSameError};
 ghost use Rattle.gix_refspec.specs.Matching.RefNames.{WritesRefs};
 ghost use Rattle.gix_refspec.specs.Laws.Places.{MadeAtPlaces, RemainsExactly};
 ghost use Rattle.gix_refspec.specs.Views.Spec.{reading_of, owned_reading_of};
-ghost use Rattle.gix_refspec.specs.Views.Instruction.{shown, shown_fetch, shown_push};
+ghost use Rattle.gix_refspec.specs.Views.Instruction.{meaning_of_instruction, meaning_of_fetch, meaning_of_push};
 ghost use Rattle.gix_refspec.specs.Views.Hashed.{source_writes, pair_writes};
 
 use crate::instruction::{Fetch, Push};
@@ -389,38 +389,38 @@ pub fn same_clones<'a>()
 
 /// Two operations are equal exactly if they are the same, and a push is less than a fetch.
 pub fn push_before_fetch(a: Operation, b: Operation)
-    ensures order { ⟦<Operation as Ord>⟧.cmp a b ≡ nat_cmp (place_of a) (place_of b) }
+    ensures order { ⟦<Operation as Ord>⟧.cmp a b ≡ nat_cmp (rank_of a) (rank_of b) }
     ensures same { IsTrue (⟦<Operation as PartialEq>⟧.eq a b) ↔ (a ≡ b) }
 {}
 
 /// Two pushes are equal, and ordered, by their variant and then their fields.
 pub fn compared_pushes<'a>(a: Push<'a>, b: Push<'a>)
     ensures order { ⟦<Push<'a> as Ord>⟧.cmp a.entry b.entry ≡
-        order (shown_push a.entry) (shown_push b.entry) }
+        order (meaning_of_push a.entry) (meaning_of_push b.entry) }
     ensures same { ⟦<Push<'a> as PartialEq>⟧.eq a.entry b.entry ≡
-        is_same (shown_push a.entry) (shown_push b.entry) }
+        is_same (meaning_of_push a.entry) (meaning_of_push b.entry) }
 {}
 
 /// Two fetches are equal, and ordered, by their variant and then their fields.
 pub fn compared_fetches<'a>(a: Fetch<'a>, b: Fetch<'a>)
     ensures order { ⟦<Fetch<'a> as Ord>⟧.cmp a.entry b.entry ≡
-        order (shown_fetch a.entry) (shown_fetch b.entry) }
+        order (meaning_of_fetch a.entry) (meaning_of_fetch b.entry) }
     ensures same { ⟦<Fetch<'a> as PartialEq>⟧.eq a.entry b.entry ≡
-        is_same (shown_fetch a.entry) (shown_fetch b.entry) }
+        is_same (meaning_of_fetch a.entry) (meaning_of_fetch b.entry) }
 {}
 
 /// Two instructions are equal, and ordered, by their operation, their variant and then their fields.
 pub fn compared_instructions<'a>(a: Instruction<'a>, b: Instruction<'a>)
     ensures order { ⟦<Instruction<'a> as Ord>⟧.cmp a.entry b.entry ≡
-        order (shown a.entry) (shown b.entry) }
+        order (meaning_of_instruction a.entry) (meaning_of_instruction b.entry) }
     ensures same { ⟦<Instruction<'a> as PartialEq>⟧.eq a.entry b.entry ≡
-        is_same (shown a.entry) (shown b.entry) }
+        is_same (meaning_of_instruction a.entry) (meaning_of_instruction b.entry) }
 {}
 
 /// Hashing an instruction writes its operation, its variant and then its fields. So equal instructions
 /// are hashed alike.
 pub fn hashed_instructions<'a>(a: Instruction<'a>, b: Instruction<'a>)
-    ensures writes { ⟦<Instruction<'a> as Hash>⟧.hash_input a.entry ≡ writes_of (shown a.entry) }
+    ensures writes { ⟦<Instruction<'a> as Hash>⟧.hash_input a.entry ≡ writes_of (meaning_of_instruction a.entry) }
     ensures alike { IsTrue (⟦<Instruction<'a> as PartialEq>⟧.eq a.entry b.entry) →
         ⟦<Instruction<'a> as Hash>⟧.hash_input a.entry ≡
         ⟦<Instruction<'a> as Hash>⟧.hash_input b.entry }

@@ -4,7 +4,7 @@ ghost use Rattle.std.specs.Prelude.{◌≡◌, ◌≢◌, [], map, IfOk, IfErr, 
 ghost use Rattle.gix_refspec.specs.Views.Spec.{reading_of};
 ghost use Rattle.gix_refspec.specs.Matching.Mappings.{IsKept};
 ghost use Rattle.gix_refspec.specs.Views.Group.{ref_of, mapped_of, readings_of, IsOutcome, Maps};
-ghost use Rattle.gix_refspec.specs.Private.HitViews.{AreKept, AreMade, made_in};
+ghost use Rattle.gix_refspec.specs.Private.HitViews.{AreKept, AreMade, mapped_of_made};
 ghost use Rattle.gix_refspec.specs.Matching.Hits.{AreForward, AreBackward, AreKeptForward, AreKeptBackward};
 
 mod hashes;
@@ -84,7 +84,7 @@ impl<'spec> MatchGroup<'spec> {
     ) -> Result<Kept<'spec, 'item>, NoRoom<'spec>>
         ensures ok { IfOk result (λ kept. (kept.group ≡ self.entry) × AreKept
             direction (readings_of self.entry) (map ref_of items.now)
-            (made_in direction kept.made)) }
+            (mapped_of_made direction kept.made)) }
         ensures err { IfErr result (λ e. e.group ≡ self.entry) }
         ensures memory { OnErr result (¬ (AreMade
             direction (readings_of self.entry) (map ref_of items.now) [])) }

@@ -3,7 +3,7 @@
 ghost use Rattle.std.specs.Prelude.{◌≡◌, ◌↔◌, IsTrue, MatchOption, MatchResult, ◌∷◌, ◌≤◌, [], List, ℕ, length};
 ghost use Rattle.std.specs.Bool.{OnTrue};
 ghost use Rattle.gix_refspec.specs.declared.name.Error.{Error};
-ghost use Rattle.gix_refspec.specs.Texts.Words.{Ends};
+ghost use Rattle.gix_refspec.specs.Texts.Words.{EndsWith};
 ghost use Rattle.gix_refspec.specs.Texts.Name.{IsName, HasFault, IsPattern, HasOneStar, ReplacesStar};
 ghost use Rattle.gix_refspec.specs.Texts.Bytes.{slash};
 ghost use Rattle.gix_refspec.specs.Specs.Explained.{name_explained};
@@ -229,7 +229,7 @@ fn scanned_to(text: &[u8], from: usize, to: usize, known: bool) -> Result<bool, 
 
 // The last byte of a text, or a slash: the first component begins as if one stood before it.
 fn last_of(text: &[u8]) -> u8
-    ensures { Ends (result ∷ []) (slash ∷ text.now) }
+    ensures { EndsWith (result ∷ []) (slash ∷ text.now) }
 {
     match text {
         [.., last] => *last,
@@ -260,7 +260,7 @@ fn is_plain(byte: u8) -> bool
 // The fault that a byte that need not be plain adds to the text before it. The previous byte is the
 // last one there.
 fn special_fault(before: &[u8], previous: u8, byte: u8) -> Option<Error>
-    requires { Ends (previous ∷ []) (slash ∷ before.now) }
+    requires { EndsWith (previous ∷ []) (slash ∷ before.now) }
     ensures { Finds result (AddsFault (slash ∷ before.now) byte) }
 {
     match class_of(byte) {
@@ -287,7 +287,7 @@ fn special_fault(before: &[u8], previous: u8, byte: u8) -> Option<Error>
 
 // The fault that shows at the end of a text. The previous byte is the last one there.
 fn left_fault(text: &[u8], previous: u8) -> Option<Error>
-    requires { Ends (previous ∷ []) (slash ∷ text.now) }
+    requires { EndsWith (previous ∷ []) (slash ∷ text.now) }
     ensures { Finds result (LeavesFault (slash ∷ text.now)) }
 {
     match previous {

@@ -2,10 +2,10 @@
 
 ghost use Rattle.std.specs.Prelude.{◌≡◌, ◌++◌, codes, map, MatchOption, IfOk};
 ghost use Rattle.bstr.specs.Owned.{bstring_bytes};
-ghost use Rattle.gix_refspec.specs.Texts.Words.{Begins};
+ghost use Rattle.gix_refspec.specs.Texts.Words.{BeginsWith};
 ghost use Rattle.gix_refspec.specs.Texts.Name.{HasSeveralStars};
 ghost use Rattle.gix_refspec.specs.Matching.Side.{HasKind, candidates as candidates_of};
-ghost use Rattle.gix_refspec.specs.Private.SideViews.{AreStarsOf, shown_kind};
+ghost use Rattle.gix_refspec.specs.Private.SideViews.{AreStarsOf, kind_of_side};
 
 use crate::cut::split_at_first;
 use crate::oid::ObjectId;
@@ -49,7 +49,7 @@ pub(crate) fn stars_of(side: &[u8]) -> Stars<'_>
 // The kind of a side.
 pub(crate) fn kind_of(side: &[u8]) -> SideKind<'_>
     requires { ¬ (HasSeveralStars side.now) }
-    ensures { HasKind side.now (shown_kind result) }
+    ensures { HasKind side.now (kind_of_side result) }
 {
     if let Stars::One { before, after } = stars_of(side) {
         return SideKind::Pattern { before, after };
@@ -66,7 +66,7 @@ pub(crate) fn kind_of(side: &[u8]) -> SideKind<'_>
 // What follows `refs/`.
 pub(crate) fn below_refs(side: &[u8]) -> Option<&[u8]>
     ensures { MatchOption result
-        (¬ (Begins (codes "refs/") side.now))
+        (¬ (BeginsWith (codes "refs/") side.now))
         (λ rest. side.now ≡ codes "refs/" ++ rest.now) }
 {
     side.strip_prefix(b"refs/")

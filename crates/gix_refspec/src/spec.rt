@@ -44,7 +44,7 @@ pub struct RefSpec {
 impl<'a> RefSpecRef<'a> {
     ghost use Rattle.std.specs.Prelude.{◌↔◌, IsTrue, Some};
     ghost use Rattle.gix_refspec.specs.Specs.Meaning.{meaning_of};
-    ghost use Rattle.gix_refspec.specs.Views.Instruction.{shown};
+    ghost use Rattle.gix_refspec.specs.Views.Instruction.{meaning_of_instruction};
     ghost use Rattle.gix_refspec.specs.Views.Spec.{reading_of, owned_reading_of};
     ghost use Rattle.gix_refspec.specs.Specs.Reading.{local_of, remote_of, Forced, HasSide};
 
@@ -117,7 +117,7 @@ impl<'a> RefSpecRef<'a> {
 
     /// What the spec says to do. Its sides borrow what those of the spec borrow.
     pub fn instruction(&self) -> Instruction<'a>
-        ensures { meaning_of (reading_of self.now) ≡ Some (shown result) }
+        ensures { meaning_of (reading_of self.now) ≡ Some (meaning_of_instruction result) }
     {
         match self.op {
             Operation::Fetch => Instruction::Fetch(self.fetch()),
@@ -128,7 +128,7 @@ impl<'a> RefSpecRef<'a> {
     // What a fetch spec says to do.
     fn fetch(&self) -> Fetch<'a>
         requires { self.now.op ≡ Operation.Fetch }
-        ensures { meaning_of (reading_of self.now) ≡ Some (shown (Instruction.Fetch result)) }
+        ensures { meaning_of (reading_of self.now) ≡ Some (meaning_of_instruction (Instruction.Fetch result)) }
     {
         match (self.mode, self.src, self.dst) {
             (Mode::Negative, Some(src), None) => Fetch::Exclude { src },
@@ -145,7 +145,7 @@ impl<'a> RefSpecRef<'a> {
     // What a push spec says to do.
     fn push(&self) -> Push<'a>
         requires { self.now.op ≡ Operation.Push }
-        ensures { meaning_of (reading_of self.now) ≡ Some (shown (Instruction.Push result)) }
+        ensures { meaning_of (reading_of self.now) ≡ Some (meaning_of_instruction (Instruction.Push result)) }
     {
         let allow_non_fast_forward = self.mode == Mode::Force;
         match (self.mode, self.src, self.dst) {

@@ -5,7 +5,7 @@ use Rattle.gix_refspec.specs.declared.parsing.Error.{Error}
 use Rattle.gix_refspec.specs.declared.parsing.Error.TheVariants as error
 use Rattle.gix_refspec.specs.declared.name.Error.{Error as NameError}
 use Rattle.gix_refspec.specs.declared.name.Error.TheVariants as of_name
-use Rattle.gix_refspec.specs.Specs.Refusal.{Refusal, Empty, NegativeWithDestination, PushToEmpty, PatternUnsupported, ReferenceName, PatternUnbalanced, NegativeEmpty, NegativeObjectHash, IsRefused, MayWantMemory}
+use Rattle.gix_refspec.specs.Specs.Refusal.{Refusal, Empty, NegativeWithDestination, PushToEmpty, PatternUnsupported, ReferenceName, PatternUnbalanced, NegativeEmpty, NegativeObjectHash, IsRefused, MayNeedMemory}
 use Rattle.gix_refspec.specs.Views.Instruction.{IsShownAs, ShowsRefusal}
 use Rattle.refspec_c.specs.declared.failure.Failure.{Failure}
 use Rattle.refspec_c.specs.declared.failure.Failure.TheVariants as failure
@@ -44,7 +44,7 @@ by_refusal : (op : Operation) (text : List ℕ) (e : Error) (f : Failure) → ((
 by_refusal op text e f tells shows = subst (IsUnread op text) (sym (tells shows.0 shows.1)) (refused op text shows.0 shows.2)
 
 -- the failure of an error says why the text wasn't read
-pub unread : (op : Operation) (text : List ℕ) (e : Error) (f : Failure) → (e ≢ error.Memory → ShowsRefusal (IsRefused op text) e) → (e ≡ error.Memory → MayWantMemory op text) → ((r : Refusal) → IsShownAs e r → f ≡ of_refusal r) → (e ≡ error.Memory → f ≡ failure.NoMemory) → IsUnread op text f
+pub unread : (op : Operation) (text : List ℕ) (e : Error) (f : Failure) → (e ≢ error.Memory → ShowsRefusal (IsRefused op text) e) → (e ≡ error.Memory → MayNeedMemory op text) → ((r : Refusal) → IsShownAs e r → f ≡ of_refusal r) → (e ≡ error.Memory → f ≡ failure.NoMemory) → IsUnread op text f
 unread op text error.Memory f shows memory tells none = subst (IsUnread op text) (sym (none refl)) (memory refl)
 unread op text error.Empty f shows memory tells none = by_refusal op text error.Empty f tells (shows (λ same. cc))
 unread op text error.NegativeWithDestination f shows memory tells none = by_refusal op text error.NegativeWithDestination f tells (shows (λ same. cc))

@@ -29,7 +29,7 @@ use Rattle.gix_refspec.specs.Views.Group.{mapped_of}
 use Rattle.gix_refspec.specs.Matching.Hits.{AreKeptForward}
 use Rattle.gix_refspec.specs.Views.Issue.{conflict_of}
 use Rattle.gix_refspec.specs.Matching.RefNames.{AreNamed, IsNamed, IsNamedDestination, IsNamedSource, IsRefName}
-use Rattle.gix_refspec.specs.Matching.Validation.{AreConflicts, IsConflict, IsContested}
+use Rattle.gix_refspec.specs.Matching.Validation.{AreConflicts, IsConflict, HasConflictAt}
 use Rattle.refspec_c.specs.declared.planning.Verdict.{Verdict}
 use Rattle.refspec_c.specs.declared.planning.Verdict.TheVariants.{Written, LeftOut, BadName, Contested, FetchedOnly}
 use Rattle.refspec_c.specs.Mapping.{Entry}
@@ -129,14 +129,14 @@ same_verdicts P Q same (m ∷ l) [] all = all
 same_verdicts P Q same (m ∷ l) (e ∷ es) all = ((all.0.0, same_verdict P Q same m all.0.0 all.0.1, all.0.2), same_verdicts P Q same l es all.1)
 
 -- each conflict is over a destination with several sources
-each_contested : (g : List Reading) (l : List Mapped) (issues : List Issue) → AllByRecursion (IsConflict g l) (map conflict_of issues) → AllByRecursion (IsContested l) (destinations_of issues)
+each_contested : (g : List Reading) (l : List Mapped) (issues : List Issue) → AllByRecursion (IsConflict g l) (map conflict_of issues) → AllByRecursion (HasConflictAt l) (destinations_of issues)
 each_contested g l [] all = tt
 each_contested g l (issue ∷ issues) all = (all.0.contested, each_contested g l issues all.1)
 
 -- the destinations of all conflicts are just those with several sources
-contested : (g : List Reading) (l : List Mapped) (issues : List Issue) → AreConflicts g l (map conflict_of issues) → (d : List ℕ) → Contains (destinations_of issues) d ↔ IsContested l d
+contested : (g : List Reading) (l : List Mapped) (issues : List Issue) → AreConflicts g l (map conflict_of issues) → (d : List ℕ) → Contains (destinations_of issues) d ↔ HasConflictAt l d
 contested g l issues are d = (
-  (λ has. All-contains (IsContested l) (destinations_of issues) d (All-from_recursion (IsContested l) (destinations_of issues) (each_contested g l issues are.each)) has),
+  (λ has. All-contains (HasConflictAt l) (destinations_of issues) d (All-from_recursion (HasConflictAt l) (destinations_of issues) (each_contested g l issues are.each)) has),
   (λ is. are.every d is),
 )
 
@@ -156,6 +156,6 @@ planned texts names group g refs kept named issues es some read same stay betwee
   stay = subst (λ (rs : List Ref). AreKeptForward group rs kept) same stay;
   named = named;
   between_names = between;
-  judged = same_verdicts (Contains (destinations_of issues)) (IsContested named) (contested g named issues are) kept es judged;
+  judged = same_verdicts (Contains (destinations_of issues)) (HasConflictAt named) (contested g named issues are) kept es judged;
   conflicts = some_or_none g named issues some are none;
 }

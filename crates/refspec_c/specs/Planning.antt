@@ -9,7 +9,7 @@ use Rattle.gix_refspec.specs.Matching.Mappings.{Mapped}
 use Rattle.gix_refspec.specs.declared.match_group.validate.Issue.{Issue}
 use Rattle.gix_refspec.specs.Views.Issue.{conflict_of}
 use Rattle.gix_refspec.specs.Matching.Hits.{AreKeptForward}
-use Rattle.gix_refspec.specs.Matching.Validation.{IsContested, Survives}
+use Rattle.gix_refspec.specs.Matching.Validation.{HasConflictAt, Survives}
 use Rattle.gix_refspec.specs.Matching.RefNames.{IsNamed, AreNamed}
 use Rattle.refspec_c.specs.declared.failure.Failure.{Failure}
 use Rattle.refspec_c.specs.declared.failure.Failure.TheVariants as failure
@@ -43,11 +43,11 @@ IsJudged Met m e = (v : Verdict) × HasVerdict Met m v × (e ≡ forward_entry (
 
 -- some destination has several sources among the mappings
 abbrev pub HasConflict : List Mapped → Type 0
-HasConflict l = (d : List ℕ) × IsContested l d
+HasConflict l = (d : List ℕ) × HasConflictAt l d
 
 -- none has
 abbrev pub HasNoConflict : List Mapped → Type 0
-HasNoConflict l = (d : List ℕ) → ¬ (IsContested l d)
+HasNoConflict l = (d : List ℕ) → ¬ (HasConflictAt l d)
 
 -- the destinations of conflicts
 abbrev pub destinations_of : List Issue → List (List ℕ)
@@ -62,7 +62,7 @@ pub record IsPlan (some : Bool) (texts names : List (List ℕ)) (es : List Entry
   pub stay : AreKeptForward group (map nameless names) kept
   pub named : List Mapped
   pub between_names : AreNamed kept named
-  pub judged : AllZip (IsJudged (IsContested named)) kept es
+  pub judged : AllZip (IsJudged (HasConflictAt named)) kept es
   pub conflicts : MatchBool some (HasConflict named) (HasNoConflict named)
 
 -- why a plan isn't told, or can't be written as it is told: some destination has several sources; or there is no room for

@@ -4,7 +4,7 @@ use Rattle.gix_refspec.specs.declared.parsing.Operation.{Operation}
 use Rattle.gix_refspec.specs.declared.parsing.Operation.TheVariants.{Push, Fetch}
 use Rattle.gix_refspec.specs.Specs.Reading.{Reading}
 use Rattle.gix_refspec.specs.Specs.Grammar.{Reads}
-use Rattle.gix_refspec.specs.Specs.Refusal.{Refusal, IsRefused, MayWantMemory}
+use Rattle.gix_refspec.specs.Specs.Refusal.{Refusal, IsRefused, MayNeedMemory}
 use Rattle.refspec_c.specs.declared.failure.Failure.{Failure}
 use Rattle.refspec_c.specs.declared.failure.Failure.TheVariants as failure
 use Rattle.refspec_c.specs.Outcome.{of_refusal}
@@ -20,5 +20,5 @@ IsRefspec op text = (r : Reading) × Reads op text r
 
 -- why the text wasn't read: memory ran out where it may, or the failure tells of the first reason against the text
 abbrev pub IsUnread : Operation → List ℕ → Failure → Type 0
-IsUnread op text failure.NoMemory = MayWantMemory op text
+IsUnread op text failure.NoMemory = MayNeedMemory op text
 IsUnread op text f = (e : Refusal) × IsRefused op text e × (f ≡ of_refusal e)

@@ -10,7 +10,7 @@
 ghost use Rattle.std.specs.Prelude.{◌≡◌, ◌≢◌, ◌↔◌, IsTrue, IfOk, OnOk, OnErr, MatchOption};
 ghost use Rattle.bstr.specs.BStr.{bstr_bytes};
 ghost use Rattle.bstr.specs.Owned.{bstring_bytes};
-ghost use Rattle.gix_refspec.specs.Specs.Refusal.{MayWantMemory};
+ghost use Rattle.gix_refspec.specs.Specs.Refusal.{MayNeedMemory};
 ghost use Rattle.gix_refspec.specs.Views.Spec.{reading_of, owned_reading_of};
 ghost use Rattle.refspec_client.specs.Claims.{IsRefspec, ReadsOnlyAs, PrintsSame, IsReadAgain, IsCanonicalText};
 
@@ -34,7 +34,7 @@ pub fn read<'a>(
     ensures ok { IfOk result (λ read. MatchOption read
         (¬ (IsRefspec operation (bstr_bytes text.entry)))
         (λ spec. ReadsOnlyAs operation (bstr_bytes text.entry) (reading_of spec))) }
-    ensures memory { OnErr result (MayWantMemory operation (bstr_bytes text.entry)) }
+    ensures memory { OnErr result (MayNeedMemory operation (bstr_bytes text.entry)) }
 {
     laws::reads_or_refused(operation, text.as_bytes());
     match parse(alloc, text, operation) {

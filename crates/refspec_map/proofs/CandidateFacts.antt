@@ -13,7 +13,7 @@ use Rattle.gix_refspec.specs.Matching.Side.{partial, full_name, HasKind}
 use Rattle.gix_refspec.specs.Matching.Match.{HasName, IsFirstCandidate, Takes}
 use Rattle.gix_refspec.specs.Matching.Mappings.{Mapped, IsExcluded}
 use Rattle.gix_refspec.specs.Matching.Hits.{Ends, Hit, IsHit, AreForward, AreKeptForward, IsIdMapping}
-use Rattle.gix_refspec.specs.Matching.Validation.{IsContested, IsValidated, IsWritable}
+use Rattle.gix_refspec.specs.Matching.Validation.{HasConflictAt, IsValidated, IsWritable}
 use Rattle.gix_refspec.proofs.lemmas.hits.CandidateLemmas.{first_once, taken_by_first}
 use Rattle.gix_refspec.proofs.lemmas.specs.FormsBackLemmas.{some_once}
 use Rattle.gix_refspec.proofs.lemmas.texts.TestedLemmas.{IsName-tested}
@@ -101,7 +101,7 @@ only : (m : Mapped) → Contains (tag_mapping ∷ []) m → tag_mapping ≡ m
 only m (zero, below, is) = is
 only m (suc k, below, is) = absurd (omega (arith, below))
 
-not_contested : (d : List ℕ) → ¬ (IsContested (tag_mapping ∷ []) d)
+not_contested : (d : List ℕ) → ¬ (HasConflictAt (tag_mapping ∷ []) d)
 not_contested d is = is.differ (ap (λ (m : Mapped). m.source) (sym (only is.one is.has_one) ∙ only is.other is.has_other))
 
 writable : IsWritable target

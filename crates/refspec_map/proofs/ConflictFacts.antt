@@ -4,7 +4,7 @@ use Rattle.std.proofs.lemmas.Bool.{eqb-false}
 use Rattle.std.specs.List.{Contains}
 use Rattle.std.specs.List.Sorted.{IsStrictlySortedBy}
 use Rattle.gix_refspec.specs.declared.parsing.Operation.TheVariants.{Fetch}
-use Rattle.gix_refspec.specs.Texts.Words.{Begins}
+use Rattle.gix_refspec.specs.Texts.Words.{BeginsWith}
 use Rattle.gix_refspec.specs.Texts.Bytes.{star, plus, caret, colon}
 use Rattle.gix_refspec.specs.Specs.Reading.{Normal, Reading}
 use Rattle.gix_refspec.specs.Specs.Grammar.{Reads, fetched, updates}
@@ -12,7 +12,7 @@ use Rattle.gix_refspec.specs.Matching.Side.{full_name, HasKind}
 use Rattle.gix_refspec.specs.Matching.Match.{Ref, Takes}
 use Rattle.gix_refspec.specs.Matching.Mappings.{Start, name, id, Mapped, HasPair, IsExcluded}
 use Rattle.gix_refspec.specs.Matching.Hits.{Ends, AreForwardEnds, Hit, IsHit, AreForward, AreKeptForward, IsIdMapping}
-use Rattle.gix_refspec.specs.Matching.Validation.{Conflict, IsContested, IsFirstTo, IsConflict, AreConflicts}
+use Rattle.gix_refspec.specs.Matching.Validation.{Conflict, HasConflictAt, IsFirstTo, IsConflict, AreConflicts}
 use Rattle.gix_refspec.proofs.lemmas.specs.FormsBackLemmas.{some_once}
 use Rattle.gix_refspec.proofs.lemmas.hits.HitLemmas.{matches_as}
 use Rattle.gix_refspec.proofs.lemmas.texts.TestedLemmas.{IsName-tested}
@@ -94,7 +94,7 @@ other_taken : (k j : ℕ) (n m : List ℕ) (hit : Hit) → HasKind n (full_name 
 other_taken k j n m hit kind is = let matches = matches_as n (full_name n) (named m) is.word kind is.takes.matches in matches.1
 
 no_id_mapped : (k : ℕ) (n : List ℕ) → HasKind n (full_name n) → (m : Mapped) → ¬ (IsIdMapping k (spec_of n) m)
-no_id_mapped k n kind m is = is.object.1 (subst (Begins (codes "refs/")) (some_once n is.text is.side) kind.2)
+no_id_mapped k n kind m is = is.object.1 (subst (BeginsWith (codes "refs/")) (some_once n is.text is.side) kind.2)
 
 -- their names differ, and so do their starts
 pub apart : the_tag ≢ the_head
@@ -181,7 +181,7 @@ goes m (zero, below, is) = ap (λ (x : Mapped). x.destination) (sym is)
 goes m (suc zero, below, is) = ap (λ (x : Mapped). x.destination) (sym is)
 goes m (suc (suc k), below, is) = absurd (omega (arith, below))
 
-no_other : (d : List ℕ) → IsContested both d → target ≡ d
+no_other : (d : List ℕ) → HasConflictAt both d → target ≡ d
 no_other d is = some_once target d (sym (goes is.one is.has_one) ∙ is.one_to)
 
 conflicts : AreConflicts both_specs both (the_conflict ∷ [])

@@ -16,7 +16,7 @@ use Rattle.gix_refspec.specs.Matching.Side.{partial, HasKind}
 use Rattle.gix_refspec.specs.Matching.Match.{Ref}
 use Rattle.gix_refspec.specs.Matching.Mappings.{name, Mapped, IsExcluded}
 use Rattle.gix_refspec.specs.Matching.Hits.{Ends, AreForwardEnds, AreBackwardEnds, Hit, AreForward, AreKeptForward, AreKeptBackward, IsIdMapping}
-use Rattle.gix_refspec.specs.Matching.Validation.{Conflict, IsContested, IsValidated}
+use Rattle.gix_refspec.specs.Matching.Validation.{Conflict, HasConflictAt, IsValidated}
 use Rattle.gix_refspec.proofs.lemmas.hits.CandidateLemmas.{first_of_one, taken_by_first}
 use Rattle.gix_refspec.proofs.lemmas.specs.FormsBackLemmas.{some_once}
 use Rattle.refspec_map.specs.declared.command.Command.{Command}
@@ -184,7 +184,7 @@ only m (zero, below, is) = is
 only m (suc k, below, is) = absurd (omega (arith, below))
 
 -- one mapping meets no other, and without a destination it survives
-not_contested : (d : List ℕ) → ¬ (IsContested (the_mapping ∷ []) d)
+not_contested : (d : List ℕ) → ¬ (HasConflictAt (the_mapping ∷ []) d)
 not_contested d is = none_some d (ap (λ (m : Mapped). m.destination) (only is.one is.has_one) ∙ is.one_to)
 
 validated : IsValidated (the_spec ∷ []) (the_mapping ∷ []) (the_mapping ∷ []) []

@@ -3,7 +3,7 @@
 use Rattle.std.proofs.Common.{◌≡◌, inl, inr, ℕ, zero, suc, List, [], ◌∷◌, ◌++◌, None, Some, codes, length, refl, sym, ap, subst, arith}
 use Rattle.std.specs.List.{Any}
 use Rattle.gix_refspec.specs.Texts.Bytes.{bracket, star}
-use Rattle.gix_refspec.specs.Texts.Words.{Begins}
+use Rattle.gix_refspec.specs.Texts.Words.{BeginsWith}
 use Rattle.gix_refspec.specs.Specs.Reading.{Normal, Reading}
 use Rattle.gix_refspec.specs.Specs.Grammar.{fetched, pushed}
 use Rattle.gix_refspec.specs.Matching.Side.{pattern, partial, object, HasKind, candidates}
@@ -118,8 +118,8 @@ none_for_all = (
 pub no_tag_served : Serves (codes "refs/heads/" ∷ []) (every ∷ []) → (items : List Ref) (d : ℕ) (rest : List Mapped) → ¬ (AreKeptForward (every ∷ []) items (mapping 0 (codes "refs/tags/v1") None d ∷ rest))
 no_tag_served serves items d rest are = one ((serves (refl, tt) items (mapping 0 (codes "refs/tags/v1") None d ∷ rest) are).0 (codes "refs/tags/v1") refl)
   where
-    one : ¬ (Any (λ p. Begins p (codes "refs/tags/v1")) (codes "refs/heads/" ∷ []))
+    one : ¬ (Any (λ p. BeginsWith p (codes "refs/tags/v1")) (codes "refs/heads/" ∷ []))
     one (zero, p, below, here, begins) =
-        let is = subst (λ (q : List ℕ). Begins q (codes "refs/tags/v1")) (sym here) begins in
+        let is = subst (λ (q : List ℕ). BeginsWith q (codes "refs/tags/v1")) (sym here) begins in
         other_byte 5 (codes "refs/tags/v1") (codes "refs/heads/" ++ is.after) (λ byte. omega (arith, byte)) is.here
     one (suc i, p, below, here, begins) = absurd (omega (arith, below))

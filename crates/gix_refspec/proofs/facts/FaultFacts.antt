@@ -8,17 +8,17 @@ use Rattle.std.proofs.lemmas.Bool.Decides.{Decides-eqb}
 use Rattle.std.proofs.lemmas.Slice.Eq.{starts_is, ends_is}
 use Rattle.std.proofs.lemmas.List.Splits.{slice_split_none, slice_split_at}
 use Rattle.gix_refspec.specs.declared.name.Error.TheVariants.{Empty, EmptyComponent, StartsWithDot, LockSuffix, EndsWithDot, RepeatedDot, ReflogPortion, Asterisk, InvalidByte}
-use Rattle.gix_refspec.specs.Texts.Words.{Lacks, Holds, Begins, Ends}
+use Rattle.gix_refspec.specs.Texts.Words.{Lacks, Holds, BeginsWith, EndsWith}
 use Rattle.gix_refspec.specs.Texts.Name.{SomeComponent, HasFault, HasStar}
 use Rattle.gix_refspec.specs.Texts.Bytes.{slash}
 use Rattle.gix_refspec.proofs.lemmas.texts.ComponentLemmas.{AllByRecursion-parts}
 use Rattle.gix_refspec.proofs.facts.ManualFacts.{Lacks-tested, full}
 
 -- tests tell that a text doesn't begin or end with a word, nor hold it
-pub begins_not : (w x : List ℕ) → starts_with nat_eq x w ≡ false → ¬ (Begins w x)
+pub begins_not : (w x : List ℕ) → starts_with nat_eq x w ≡ false → ¬ (BeginsWith w x)
 begins_not w x none begins = true≢false (sym ((starts_is Decides-eqb x w (starts_with nat_eq x w) refl).1 begins.after begins.here) ∙ none)
 
-pub ends_not : (w x : List ℕ) → ends_with nat_eq x w ≡ false → ¬ (Ends w x)
+pub ends_not : (w x : List ℕ) → ends_with nat_eq x w ≡ false → ¬ (EndsWith w x)
 ends_not w x none ends = true≢false (sym ((ends_is Decides-eqb x w (ends_with nat_eq x w) refl).1 ends.before ends.here) ∙ none)
 
 -- whether a word stands in a text
@@ -96,18 +96,18 @@ empty_components = (
 -- a dot begins the first component, or the last one, but not where it stands within
 pub dots_first : HasFault (codes ".b/a") StartsWithDot × HasFault (codes "a/.b") StartsWithDot × ¬ (HasFault (codes "a./b.c") StartsWithDot)
 dots_first = (
-  before_a (Begins (codes ".")) (codes ".b") refl (record { after = codes "b"; here = refl }),
-  behind_a (Begins (codes ".")) (codes ".b") refl (record { after = codes "b"; here = refl }),
-  no_component (Begins (codes ".")) (codes "a./b.c") (begins_not (codes ".") (codes "a.") refl, (begins_not (codes ".") (codes "b.c") refl, tt)),
+  before_a (BeginsWith (codes ".")) (codes ".b") refl (record { after = codes "b"; here = refl }),
+  behind_a (BeginsWith (codes ".")) (codes ".b") refl (record { after = codes "b"; here = refl }),
+  no_component (BeginsWith (codes ".")) (codes "a./b.c") (begins_not (codes ".") (codes "a.") refl, (begins_not (codes ".") (codes "b.c") refl, tt)),
 )
 
 -- `.lock` ends the first component, or the last one, but not where it stands within, or without its dot
 pub locks : HasFault (codes "b.lock/a") LockSuffix × HasFault (codes "a/b.lock") LockSuffix × HasFault (codes "a/.lock") LockSuffix × ¬ (HasFault (codes "a.lock.b/block") LockSuffix)
 locks = (
-  before_a (Ends (codes ".lock")) (codes "b.lock") refl (record { before = codes "b"; here = refl }),
-  behind_a (Ends (codes ".lock")) (codes "b.lock") refl (record { before = codes "b"; here = refl }),
-  behind_a (Ends (codes ".lock")) (codes ".lock") refl (record { before = []; here = refl }),
-  no_component (Ends (codes ".lock")) (codes "a.lock.b/block") (ends_not (codes ".lock") (codes "a.lock.b") refl, (ends_not (codes ".lock") (codes "block") refl, tt)),
+  before_a (EndsWith (codes ".lock")) (codes "b.lock") refl (record { before = codes "b"; here = refl }),
+  behind_a (EndsWith (codes ".lock")) (codes "b.lock") refl (record { before = codes "b"; here = refl }),
+  behind_a (EndsWith (codes ".lock")) (codes ".lock") refl (record { before = []; here = refl }),
+  no_component (EndsWith (codes ".lock")) (codes "a.lock.b/block") (ends_not (codes ".lock") (codes "a.lock.b") refl, (ends_not (codes ".lock") (codes "block") refl, tt)),
 )
 
 -- a dot may end a component, but not the name

@@ -31,7 +31,7 @@ use Rattle.gix_refspec.specs.Specs.Meaning.{fetch_only, push_matching}
 use Rattle.gix_refspec.specs.Views.Spec.{reading_of}
 use Rattle.gix_refspec.specs.Matching.Mappings.{name, id}
 use Rattle.gix_refspec.specs.Matching.Validation.{Conflict}
-use Rattle.gix_refspec.specs.Views.Group.{name_bytes, start_of, mapped_of, ref_of, readings_of, is_for, is_same_operation, IsGathered, shown_source}
+use Rattle.gix_refspec.specs.Views.Group.{name_bytes, start_of, mapped_of, ref_of, readings_of, is_for, is_same_operation, IsGathered, text_of_source}
 use Rattle.gix_refspec.specs.Views.Issue.{ForwardOutcome, mappings_of, conflict_of, conflicts_of, removed_of, IsSameFix, IfConflicts, IfMemory}
 use Rattle.gix_refspec.proofs.facts.MatchFacts.{mapping}
 use Rattle.gix_refspec.proofs.facts.ObjectIdFacts.{empty_blob, lower_of-empty_blob}
@@ -52,11 +52,11 @@ pub starts : (start_of (FullName (lent_name (codes "refs/heads/main"))) ≡ name
 starts = (refl, refl, λ same. cc)
 
 -- an id is printed in lower case
-pub id_shown : shown_source (IdSource blob_id) ≡ codes "e69de29bb2d1d6434b8b29ae775ad8c2e48c5391"
+pub id_shown : text_of_source (IdSource blob_id) ≡ codes "e69de29bb2d1d6434b8b29ae775ad8c2e48c5391"
 id_shown = lower_of-empty_blob
 
 -- a name is printed as it is where it is UTF-8, like `a` with two dots, and U+FFFD stands for a byte that isn't
-pub name_shown : (shown_source (FullName (lent_name (0xC3 ∷ 0xA4 ∷ []))) ≡ 0xC3 ∷ 0xA4 ∷ []) × (shown_source (FullName (lent_name (codes "a" ++ 0xFF ∷ codes "b"))) ≡ codes "a" ++ 239 ∷ 191 ∷ 189 ∷ codes "b")
+pub name_shown : (text_of_source (FullName (lent_name (0xC3 ∷ 0xA4 ∷ []))) ≡ 0xC3 ∷ 0xA4 ∷ []) × (text_of_source (FullName (lent_name (codes "a" ++ 0xFF ∷ codes "b"))) ≡ codes "a" ++ 239 ∷ 191 ∷ 189 ∷ codes "b")
 unfolding pieces_from encode_utf8
 name_shown = (refl, refl)
 

@@ -9,7 +9,7 @@ use Rattle.gix_refspec.specs.Specs.Grammar.{fetched, pushed}
 use Rattle.gix_refspec.specs.Matching.Side.{pattern, object, HasKind}
 use Rattle.gix_refspec.specs.Matching.Match.{Ref, Matches, Takes}
 use Rattle.gix_refspec.specs.Matching.Lists.{IsMadeFrom}
-use Rattle.gix_refspec.specs.Matching.Mappings.{name, id, Mapped, IsExcludedBy, IsExcluded, Stays, IsKept}
+use Rattle.gix_refspec.specs.Matching.Mappings.{name, id, Mapped, IsExcludedBy, IsExcluded, IsKeptAt, IsKept}
 use Rattle.gix_refspec.specs.Matching.Hits.{Ends, AreForwardEnds, AreBackwardEnds, IsFilled, Hit, IsHit, AreSpecHits, AreHits, forward_of, backward_of, IsIdMapping, AreBackward}
 use Rattle.gix_refspec.specs.Matching.Prefix.{of_name}
 use Rattle.gix_refspec.proofs.lemmas.hits.MatchLemmas.{prefix_begins}
@@ -45,13 +45,13 @@ exclusions = (
     positive (inr none) = none
 
 -- of two equal pairs the first stays, and of a list only what stands before counts
-pub stays_first : Stays [] (tag_to_x ∷ tag_again ∷ []) 0 tag_to_x × ¬ (Stays [] (tag_to_x ∷ tag_again ∷ []) 1 tag_again) × IsKept [] (tag_to_x ∷ tag_again ∷ []) (tag_to_x ∷ [])
+pub stays_first : IsKeptAt [] (tag_to_x ∷ tag_again ∷ []) 0 tag_to_x × ¬ (IsKeptAt [] (tag_to_x ∷ tag_again ∷ []) 1 tag_again) × IsKept [] (tag_to_x ∷ tag_again ∷ []) (tag_to_x ∷ [])
 stays_first = (first, again, (Some tag_to_x, [], (refl, first), (None, [], (λ m made. made.1.first (inl (record { source = refl; destination = refl }))), refl, refl), refl))
   where
-    first : Stays [] (tag_to_x ∷ tag_again ∷ []) 0 tag_to_x
+    first : IsKeptAt [] (tag_to_x ∷ tag_again ∷ []) 0 tag_to_x
     first = record { first = λ none. none; included = λ none. none }
 
-    again : ¬ (Stays [] (tag_to_x ∷ tag_again ∷ []) 1 tag_again)
+    again : ¬ (IsKeptAt [] (tag_to_x ∷ tag_again ∷ []) 1 tag_again)
     again stays = stays.first (inl (record { source = refl; destination = refl }))
 
 -- ---- ends

@@ -5,7 +5,7 @@ use Rattle.gix_refspec.specs.declared.parsing.Operation.TheVariants.{Push, Fetch
 use Rattle.bstr.specs.BStr.{bstr_bytes}
 use Rattle.std.proofs.lemmas.Bool.{false≢true}
 use Rattle.gix_refspec.specs.declared.match_group.types.Item.{Item}
-use Rattle.gix_refspec.specs.Texts.Words.{Begins}
+use Rattle.gix_refspec.specs.Texts.Words.{BeginsWith}
 use Rattle.gix_refspec.specs.Texts.Bytes.{head}
 use Rattle.gix_refspec.specs.Specs.Reading.{Normal, Reading}
 use Rattle.gix_refspec.specs.Specs.Grammar.{fetched, pushed}
@@ -192,7 +192,7 @@ expanded : AreExpansions group (codes "refs/heads/" ∷ [])
 expanded = (codes "refs/heads/" ∷ [], [], inl (codes "refs/heads/*", record { positive = tt; side = refl }, to_prefix (codes "refs/heads/") below_heads refl), ([], [], inr ((λ x asked. asked.positive), refl), refl, refl), refl)
 
 tag_not_begun : ¬ (BeginsWithOne (codes "refs/heads/" ∷ []) (codes "refs/tags/v1"))
-tag_not_begun (zero, entry, below, is, begins) = begins_not (codes "refs/heads/") (codes "refs/tags/v1") refl (subst (λ (x : List ℕ). Begins x (codes "refs/tags/v1")) (sym is) begins)
+tag_not_begun (zero, entry, below, is, begins) = begins_not (codes "refs/heads/") (codes "refs/tags/v1") refl (subst (λ (x : List ℕ). BeginsWith x (codes "refs/tags/v1")) (sym is) begins)
 tag_not_begun (suc k, entry, below, is, begins) = absurd (omega (arith, below))
 
 -- the branches are what a client gets that asks for that

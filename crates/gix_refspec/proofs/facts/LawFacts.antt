@@ -3,7 +3,7 @@
 use Rattle.std.proofs.Common.{◌≡◌, ◌≢◌, ◌⊎◌, ◌<◌, ℕ, zero, suc, List, [], ◌∷◌, ◌++◌, Option, None, Some, length, codes, refl, sym, ap, ◌∙◌, subst, inl, inr, arith}
 use Rattle.std.specs.List.{AllByRecursion}
 use Rattle.gix_refspec.specs.declared.parsing.Operation.TheVariants.{Push, Fetch}
-use Rattle.gix_refspec.specs.Texts.Words.{Begins}
+use Rattle.gix_refspec.specs.Texts.Words.{BeginsWith}
 use Rattle.gix_refspec.specs.Texts.Name.{HasStar, IsPattern}
 use Rattle.gix_refspec.specs.Texts.Bytes.{star, bracket, colon}
 use Rattle.gix_refspec.specs.Specs.Reading.{Normal, Forced, Negative, Reading}
@@ -52,15 +52,15 @@ go_both_ways = (
     subst HasStar (some_once (codes "refs/remotes/origin/*") d is_d) (starred_end (codes "refs/remotes/origin/")),
   )),
   (λ positive s d is_s is_d. inr (
-    subst (Begins (codes "refs/")) (some_once (codes "refs/heads/a") s is_s) (record { after = codes "heads/a"; here = refl }),
-    subst (Begins (codes "refs/")) (some_once (codes "refs/x/a") d is_d) (record { after = codes "x/a"; here = refl }),
+    subst (BeginsWith (codes "refs/")) (some_once (codes "refs/heads/a") s is_s) (record { after = codes "heads/a"; here = refl }),
+    subst (BeginsWith (codes "refs/")) (some_once (codes "refs/x/a") d is_d) (record { after = codes "x/a"; here = refl }),
   )),
   (λ positive s d is_s is_d. absurd (none_some d is_d)),
   (λ positive. absurd positive),
 )
 
 -- what doesn't begin so at its first byte
-other_first : (b : ℕ) (x : List ℕ) → b ≢ 114 → ¬ (Begins (codes "refs/") (b ∷ x))
+other_first : (b : ℕ) (x : List ℕ) → b ≢ 114 → ¬ (BeginsWith (codes "refs/") (b ∷ x))
 other_first b x differ begins = other_byte 0 (b ∷ x) (codes "refs/" ++ begins.after) differ begins.here
 
 -- a partial name on one side keeps a spec from this
@@ -290,7 +290,7 @@ word_of_ab law word fits = law word (codes "b") fits refl
 
 -- a ref that a pattern matches begins with its prefix, and the pattern has no other, nor another
 -- expansion
-pub begins_below : PrefixBegins (codes "refs/heads/*") → (r : Ref) (word : Option (List ℕ)) → Matches (codes "refs/heads/*") r word → Begins (codes "refs/heads/") r.name
+pub begins_below : PrefixBegins (codes "refs/heads/*") → (r : Ref) (word : Option (List ℕ)) → Matches (codes "refs/heads/*") r word → BeginsWith (codes "refs/heads/") r.name
 begins_below law r word matches = law (codes "refs/heads/") r word below_heads (other_length _ _ (λ size. omega (arith, size))) matches
 
 pub one_below : OnePrefix (codes "refs/heads/*") → ((p : List ℕ) → IsPrefix (codes "refs/heads/*") p → p ≡ codes "refs/heads/") × ((list : List (List ℕ)) → Expands (codes "refs/heads/*") list → list ≡ codes "refs/heads/" ∷ [])
@@ -443,7 +443,7 @@ pub not_covered : OnePrefix (codes "refs/heads/*") → ¬ (IsCoveredBy (codes "r
 not_covered law = (by_every, by_none)
   where
     outside : ¬ (BeginsWithOne (codes "refs/heads/" ∷ []) (codes "refs/tags/v1"))
-    outside (zero, entry, below, is, begins) = begins_not (codes "refs/heads/") (codes "refs/tags/v1") refl (subst (λ (x : List ℕ). Begins x (codes "refs/tags/v1")) (sym is) begins)
+    outside (zero, entry, below, is, begins) = begins_not (codes "refs/heads/") (codes "refs/tags/v1") refl (subst (λ (x : List ℕ). BeginsWith x (codes "refs/tags/v1")) (sym is) begins)
     outside (suc k, entry, below, is, begins) = absurd (omega (arith, below))
 
     by_every : ¬ (IsCoveredBy (codes "refs/tags/v1") every)

@@ -17,7 +17,7 @@ use Rattle.gix_refspec.specs.Texts.Bytes.{slash, star, letter, plus, caret, colo
 use Rattle.gix_refspec.specs.Specs.Reading.{Mode, Normal, Forced, Negative, Reading, HasSide, remote_of, local_of}
 use Rattle.gix_refspec.specs.Specs.Grammar.{named_by, IsSigned, AreParts, LooksLikeObjectHash, Reads, updates, pushes_colon, pushes, deletes, pushes_to, push_excludes, pushed, fetched}
 use Rattle.gix_refspec.specs.Specs.Meaning.{Meaning, push_all_matching, push_delete, push_matching, push_exclude, fetch_and_update, meaning_of, text_of}
-use Rattle.gix_refspec.specs.Specs.Refusal.{PatternUnsupported, PushToEmpty, NegativeWithDestination, ReferenceName, IsBadPattern, WantsMemory, NoReasonBeforeSource, ReachesMemory, MayWantMemory}
+use Rattle.gix_refspec.specs.Specs.Refusal.{PatternUnsupported, PushToEmpty, NegativeWithDestination, ReferenceName, IsBadPattern, NeedsMemory, NoReasonBeforeSource, ReachesMemory, MayNeedMemory}
 use Rattle.gix_refspec.specs.Matching.Side.{pattern, full_name, object, partial, HasKind, candidates, filled}
 use Rattle.gix_refspec.specs.Matching.Match.{Ref, Matches, MatchesAs}
 use Rattle.gix_refspec.proofs.lemmas.texts.TextLemmas.{Lacks-here, Lacks-Holds}
@@ -264,17 +264,17 @@ abbrev starred : ℕ → List ℕ
 starred n = star ∷ replicate n letter
 
 -- a side with a star and 257 bytes may want memory
-pub wants_memory : WantsMemory (starred 256)
+pub wants_memory : NeedsMemory (starred 256)
 wants_memory = inr (record { before = []; after = replicate 256 letter; here = refl }, omega (arith, length-replicate 256 letter))
 
 -- one with 256 bytes never does
-wants_no_memory : ¬ (WantsMemory (starred 255))
+wants_no_memory : ¬ (NeedsMemory (starred 255))
 wants_no_memory (inl several) =
     HasSeveralStars-replaced (starred 255) (letter ∷ replicate 255 letter) (ReplacesStar-tested [] (replicate 255 letter) refl refl) several
 wants_no_memory (inr (starry, long)) = omega (arith, length-replicate 255 letter, long)
 
 -- nor does one of 257 bytes without a star
-pub long_name_wants_none : ¬ (WantsMemory (replicate 257 letter))
+pub long_name_wants_none : ¬ (NeedsMemory (replicate 257 letter))
 long_name_wants_none (inl several) = Lacks-Holds star (replicate 257 letter) (Lacks-tested star (replicate 257 letter) refl) (HasStar-stars (replicate 257 letter) several)
 long_name_wants_none (inr (starry, long)) = Lacks-Holds star (replicate 257 letter) (Lacks-tested star (replicate 257 letter) refl) starry
 
@@ -282,7 +282,7 @@ long_name_wants_none (inr (starry, long)) = Lacks-Holds star (replicate 257 lett
 starred_parts : (n : ℕ) → list_any (λ c. c == colon) (starred n) ≡ false → AreParts Normal (starred n) None (starred n)
 starred_parts n none = record { signed = no_sign star (replicate n letter) refl refl; last = Lacks-tested colon (starred n) none }
 
-pub text_may_want_memory : MayWantMemory Fetch (starred 256)
+pub text_may_want_memory : MayNeedMemory Fetch (starred 256)
 text_may_want_memory = record {
   mode = Normal;
   source = starred 256;
@@ -294,11 +294,11 @@ text_may_want_memory = record {
   );
 }
 
-pub text_wants_no_memory : ¬ (MayWantMemory Fetch (starred 255))
+pub text_wants_no_memory : ¬ (MayNeedMemory Fetch (starred 255))
 text_wants_no_memory may =
     let once = parts_once may.mode Normal may.source (starred 255) may.destination None (starred 255) may.parts (starred_parts 255 refl) in
     let reaches : ReachesMemory Fetch may.mode may.source None = subst (λ (d : Option (List ℕ)). ReachesMemory Fetch may.mode may.source d) once.destination may.reaches in
-    wants_no_memory (subst WantsMemory once.source reaches.1)
+    wants_no_memory (subst NeedsMemory once.source reaches.1)
 
 -- a pattern of 257 bytes may be too long to be copied, and one of 256 is not
 pub pattern_too_long : IsPatternFault Memory (starred 256) × ¬ (IsPatternFault Memory (starred 255))

@@ -5,7 +5,7 @@ use Rattle.std.specs.List.{AllByRecursion, Contains, list_any}
 use Rattle.std.proofs.lemmas.List.{append-nil, length-append}
 use Rattle.gix_refspec.specs.declared.oid.Kind.{Kind}
 use Rattle.gix_refspec.specs.declared.oid.Kind.TheVariants.{Sha1, Sha256}
-use Rattle.gix_refspec.specs.Texts.Words.{Begins}
+use Rattle.gix_refspec.specs.Texts.Words.{BeginsWith}
 use Rattle.gix_refspec.specs.Texts.Name.{IsCut}
 use Rattle.gix_refspec.specs.Texts.Bytes.{star, bracket}
 use Rattle.gix_refspec.specs.Texts.ObjectId.{IsIdText, digits_of}
@@ -95,12 +95,12 @@ heads_cut = cut_at_end (codes "refs/heads/") refl
 pub origin_cut : IsCut (codes "refs/remotes/origin/") [] (codes "refs/remotes/origin/*")
 origin_cut = cut_at_end (codes "refs/remotes/origin/") refl
 
-heads_below : Begins (codes "refs/") (codes "refs/heads/*")
+heads_below : BeginsWith (codes "refs/") (codes "refs/heads/*")
 heads_below = record { after = codes "heads/*"; here = refl }
 
 -- a source below `refs/` is no id
-no_id_mapping : (k : ℕ) (r : Reading) (x : List ℕ) → r.source ≡ Some x → Begins (codes "refs/") x → (m : Mapped) → ¬ (IsIdMapping k r m)
-no_id_mapping k r x is below m made = made.object.1 (subst (Begins (codes "refs/")) (some_once x made.text (sym is ∙ made.side)) below)
+no_id_mapping : (k : ℕ) (r : Reading) (x : List ℕ) → r.source ≡ Some x → BeginsWith (codes "refs/") x → (m : Mapped) → ¬ (IsIdMapping k r m)
+no_id_mapping k r x is below m made = made.object.1 (subst (BeginsWith (codes "refs/")) (some_once x made.text (sym is ∙ made.side)) below)
 
 no_id_negative : (k : ℕ) (r : Reading) → r.mode ≡ Negative → (m : Mapped) → ¬ (IsIdMapping k r m)
 no_id_negative k r negative m made = subst IsPositive negative made.positive

@@ -6,7 +6,7 @@ use Rattle.std.proofs.lemmas.Bool.{or_parts}
 use Rattle.gix_refspec.specs.declared.name.Error.{Error}
 use Rattle.gix_refspec.specs.declared.name.Error.TheVariants.{Empty, EmptyComponent, StartsWithDot, LockSuffix, EndsWithDot, RepeatedDot, ReflogPortion, Asterisk, InvalidByte}
 use Rattle.gix_refspec.specs.declared.name.PatternError.TheVariants.{Name}
-use Rattle.gix_refspec.specs.Texts.Words.{Lacks, Begins, Ends, ArePartsAt}
+use Rattle.gix_refspec.specs.Texts.Words.{Lacks, BeginsWith, EndsWith, ArePartsAt}
 use Rattle.gix_refspec.specs.Texts.Bytes.{slash, star}
 use Rattle.gix_refspec.specs.Texts.Name.{IsName, IsPattern}
 use Rattle.gix_refspec.specs.Texts.PatternError.{IsPatternFault}
@@ -75,9 +75,9 @@ patterns = (
 -- `a.lock` with `.lock`
 pub stars_in_bad_names : IsPatternFault (Name StartsWithDot) (codes "a/.*") × IsPatternFault (Name EmptyComponent) (codes "*/") × IsPatternFault (Name LockSuffix) (codes "a/*.lock")
 stars_in_bad_names = (
-  (codes "a/.a", ReplacesStar-tested (codes "a/.") [] refl refl, behind_a (Begins (codes ".")) (codes ".a") refl (record { after = codes "a"; here = refl })),
+  (codes "a/.a", ReplacesStar-tested (codes "a/.") [] refl refl, behind_a (BeginsWith (codes ".")) (codes ".a") refl (record { after = codes "a"; here = refl })),
   (codes "a/", ReplacesStar-tested [] (codes "/") refl refl, empty_components.1),
-  (codes "a/a.lock", ReplacesStar-tested (codes "a/") (codes ".lock") refl refl, behind_a (Ends (codes ".lock")) (codes "a.lock") refl (record { before = codes "a"; here = refl })),
+  (codes "a/a.lock", ReplacesStar-tested (codes "a/") (codes ".lock") refl refl, behind_a (EndsWith (codes ".lock")) (codes "a.lock") refl (record { before = codes "a"; here = refl })),
 )
 
 bad_pattern : (x : List ℕ) (e : Error) → IsPatternFault (Name e) x → ¬ (IsPattern x)

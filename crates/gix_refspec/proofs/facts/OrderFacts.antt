@@ -8,13 +8,13 @@ use Rattle.std.specs.Hash.{HashWrites, isize, bool, slice, u8}
 use Rattle.std.specs.Prelude.{pos}
 use Rattle.gix_refspec.specs.declared.parsing.Operation.TheVariants.{Push, Fetch}
 use Rattle.gix_refspec.specs.Specs.Meaning.{push_all_matching, push_delete, push_matching, push_exclude, fetch_only, fetch_exclude, fetch_and_update}
-use Rattle.gix_refspec.specs.Specs.Order.{place_of, keys, order, is_same, writes}
+use Rattle.gix_refspec.specs.Specs.Order.{rank_of, keys, order, is_same, writes}
 use Rattle.gix_refspec.specs.Matching.Mappings.{name, id}
 use Rattle.gix_refspec.specs.Views.Hashed.{source_writes, pair_writes}
 
 -- push stands before fetch, and each is at one place
-pub places_of : (nat_cmp (place_of Push) (place_of Fetch) ≡ Less) × (nat_cmp (place_of Fetch) (place_of Push) ≡ Greater) × (nat_cmp (place_of Fetch) (place_of Fetch) ≡ Equal)
-places_of = (refl, refl, refl)
+pub ranks_of : (nat_cmp (rank_of Push) (rank_of Fetch) ≡ Less) × (nat_cmp (rank_of Fetch) (rank_of Push) ≡ Greater) × (nat_cmp (rank_of Fetch) (rank_of Fetch) ≡ Equal)
+ranks_of = (refl, refl, refl)
 
 -- of two instructions of one kind, each field decides where those before it are equal
 pub other_fields_rise : (order (push_all_matching false) (push_all_matching true) ≡ Less)

@@ -9,7 +9,7 @@ use Rattle.gix_refspec.specs.Texts.Bytes.{star, letter, caret, colon}
 use Rattle.gix_refspec.specs.Specs.Reading.{Mode, Normal, Forced, Negative, Reading}
 use Rattle.gix_refspec.specs.Specs.Grammar.{with_colon, IsPositive, fetched, pushed, Reads, IsAccepted}
 use Rattle.gix_refspec.specs.declared.name.Error.TheVariants.{StartsWithDot, InvalidByte}
-use Rattle.gix_refspec.specs.declared.parsing.reading.Side.TheVariants.{Plain, Pattern}
+use Rattle.gix_refspec.specs.declared.parsing.reading.Shape.TheVariants.{Plain, Pattern}
 use Rattle.gix_refspec.specs.Specs.Meaning.{printed}
 use Rattle.gix_refspec.specs.Specs.Refusal.{Refusal, Empty, NegativeWithDestination, PushToEmpty, PatternUnsupported, ReferenceName, PatternUnbalanced, NegativeEmpty, NegativeObjectHash, IsBadName, IsBadPattern, HasBadDestination, IsFirstReason, IsRefused}
 use Rattle.gix_refspec.proofs.lemmas.parsing.ReasonLemmas.{no_negative, fetch_reaches, push_reaches, push_alone_reaches, negative_reaches, reason_at_source, reason_at_destination, reason_against_object, reason_against_nothing, fetch_source_fine, push_source_fine, unbalanced_fetch, unbalanced_push, bad_negative}

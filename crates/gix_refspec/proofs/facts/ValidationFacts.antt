@@ -10,7 +10,7 @@ use Rattle.gix_refspec.specs.Specs.Reading.{Normal, Forced, Reading}
 use Rattle.gix_refspec.specs.Specs.Grammar.{fetched}
 use Rattle.gix_refspec.specs.Specs.Meaning.{printed}
 use Rattle.gix_refspec.specs.Matching.Mappings.{name, Mapped, HasPair}
-use Rattle.gix_refspec.specs.Matching.Validation.{IndexesFit, IsContested, IsFirstTo, IsTextAt, Conflict, IsConflict, AreConflicts, IsWritable, Survives, AreSurvivors, Removed, IsFix, AreFixes, IsValidated, HaveOneSource, MeetAt, NeverMeet}
+use Rattle.gix_refspec.specs.Matching.Validation.{IndexesFit, HasConflictAt, IsFirstTo, IsTextAt, Conflict, IsConflict, AreConflicts, IsWritable, Survives, AreSurvivors, Removed, IsFix, AreFixes, IsValidated, HaveOneSource, MeetAt, NeverMeet}
 use Rattle.gix_refspec.proofs.lemmas.validate.ConflictLemmas.{no_conflicts}
 use Rattle.gix_refspec.proofs.lemmas.lists.JoinLemmas.{nothing_made}
 use Rattle.gix_refspec.proofs.lemmas.specs.FormsBackLemmas.{some_once}
@@ -44,7 +44,7 @@ at_x_or_y d m has to =
       | inr y ↦ inr y
     ]
 
-pub only_x : (d : List ℕ) → IsContested meeting d → d ≡ codes "refs/x/a"
+pub only_x : (d : List ℕ) → HasConflictAt meeting d → d ≡ codes "refs/x/a"
 only_x d contested = elim (at_x_or_y d contested.one contested.has_one contested.one_to) [
   | inl x ↦ x
   | inr y ↦ elim (at_x_or_y d contested.other contested.has_other contested.other_to) [
@@ -53,7 +53,7 @@ only_x d contested = elim (at_x_or_y d contested.one contested.has_one contested
   ]
 ]
 
-at_x : IsContested meeting (codes "refs/x/a")
+at_x : HasConflictAt meeting (codes "refs/x/a")
 at_x = record {
   one = tag_to_x;
   other = branch_to_x;
@@ -134,7 +134,7 @@ conflicts_at_x = record {
 pub no_conflict : (c : Conflict) → c.destination ≡ codes "refs/x/b" → ¬ (IsConflict both_to_x meeting c)
 no_conflict c is conflicts = other_byte 7 (codes "refs/x/b") (codes "refs/x/a") (λ byte. omega (arith, byte)) (sym is ∙ only_x c.destination conflicts.contested)
 
-pub one_source : (d : List ℕ) → ¬ (IsContested (tag_to_x ∷ tag_to_foo ∷ tag_alone ∷ tag_again ∷ []) d)
+pub one_source : (d : List ℕ) → ¬ (HasConflictAt (tag_to_x ∷ tag_to_foo ∷ tag_alone ∷ tag_again ∷ []) d)
 one_source d contested =
     let l = tag_to_x ∷ tag_to_foo ∷ tag_alone ∷ tag_again ∷ [] in
     let tag = of_element (λ n. n.source ≡ name (codes "refs/tags/a")) l in
@@ -200,7 +200,7 @@ validated = record {
   );
 }
   where
-    apart_all : (d : List ℕ) → ¬ (IsContested (tag_to_x ∷ tag_to_foo ∷ tag_alone ∷ []) d)
+    apart_all : (d : List ℕ) → ¬ (HasConflictAt (tag_to_x ∷ tag_to_foo ∷ tag_alone ∷ []) d)
     apart_all d contested =
         let tag = of_element (λ n. n.source ≡ name (codes "refs/tags/a")) (tag_to_x ∷ tag_to_foo ∷ tag_alone ∷ []) in
         contested.differ (tag contested.one (refl, (refl, (refl, tt))) contested.has_one ∙ sym (tag contested.other (refl, (refl, (refl, tt))) contested.has_other))

@@ -27,7 +27,7 @@ use Rattle.gix_refspec.specs.Specs.Order.{keys}
 use Rattle.gix_refspec.specs.Specs.Refusal.{Refusal, Empty, NegativeWithDestination, PushToEmpty, PatternUnsupported, ReferenceName, PatternUnbalanced, NegativeEmpty, NegativeObjectHash, IsFirstReason}
 use Rattle.gix_refspec.specs.Views.Spec.{reading_of, owned_reading_of, key_of_spec, key_of_owned}
 use Rattle.gix_refspec.specs.Views.Errors.{IsSameError}
-use Rattle.gix_refspec.specs.Views.Instruction.{shown, meant_for, IsShownAs, ShowsRefusal}
+use Rattle.gix_refspec.specs.Views.Instruction.{meaning_of_instruction, meant_for, IsShownAs, ShowsRefusal}
 use Rattle.gix_refspec.specs.Matching.Prefix.{AppendsExpansion, to_prefix}
 use Rattle.gix_refspec.proofs.facts.ManualFacts.{other_length, none_some}
 use Rattle.gix_refspec.proofs.facts.MatchFacts.{other_byte, no_dev}
@@ -114,15 +114,15 @@ abbrev fetches : List Instruction
 fetches = instruction.Fetch (fetch.Only (lent (codes "a"))) ∷ instruction.Fetch (fetch.Exclude (lent (codes "a"))) ∷ instruction.Fetch (fetch.AndUpdate (lent (codes "a")) (lent (codes "b")) true) ∷ instruction.Fetch (fetch.AndUpdate (lent (codes "a")) (lent (codes "b")) false) ∷ []
 
 -- the texts of instructions
-pub texts_shown : (map (λ i. text_of (shown i)) pushes ≡ codes "+:" ∷ codes ":" ∷ codes ":x" ∷ codes "+a:b" ∷ codes "^a" ∷ []) × (map (λ i. text_of (shown i)) fetches ≡ codes "a" ∷ codes "^a" ∷ codes "+a:b" ∷ codes "a:b" ∷ [])
+pub texts_shown : (map (λ i. text_of (meaning_of_instruction i)) pushes ≡ codes "+:" ∷ codes ":" ∷ codes ":x" ∷ codes "+a:b" ∷ codes "^a" ∷ []) × (map (λ i. text_of (meaning_of_instruction i)) fetches ≡ codes "a" ∷ codes "^a" ∷ codes "+a:b" ∷ codes "a:b" ∷ [])
 texts_shown = (refl, refl)
 
 -- and what they are for, which their texts don't tell
-pub operations_shown : (map (λ i. meant_for (shown i)) pushes ≡ Push ∷ Push ∷ Push ∷ Push ∷ Push ∷ []) × (map (λ i. meant_for (shown i)) fetches ≡ Fetch ∷ Fetch ∷ Fetch ∷ Fetch ∷ [])
+pub operations_shown : (map (λ i. meant_for (meaning_of_instruction i)) pushes ≡ Push ∷ Push ∷ Push ∷ Push ∷ Push ∷ []) × (map (λ i. meant_for (meaning_of_instruction i)) fetches ≡ Fetch ∷ Fetch ∷ Fetch ∷ Fetch ∷ [])
 operations_shown = (refl, refl)
 
 -- what was read says what its instruction says
-pub instructions_of : (meaning_of (fetched Forced (codes "a") (Some (codes "b"))) ≡ Some (shown (instruction.Fetch (fetch.AndUpdate (lent (codes "a")) (lent (codes "b")) true)))) × (meaning_of (pushed Normal (Some (codes "a")) None) ≡ Some (shown (instruction.Push (push.Matching (lent (codes "a")) (lent (codes "a")) false))))
+pub instructions_of : (meaning_of (fetched Forced (codes "a") (Some (codes "b"))) ≡ Some (meaning_of_instruction (instruction.Fetch (fetch.AndUpdate (lent (codes "a")) (lent (codes "b")) true)))) × (meaning_of (pushed Normal (Some (codes "a")) None) ≡ Some (meaning_of_instruction (instruction.Push (push.Matching (lent (codes "a")) (lent (codes "a")) false))))
 instructions_of = (refl, refl)
 
 -- ---- reasons

@@ -4,7 +4,7 @@
 use Rattle.std.specs.Prelude.{◌≡◌, ◌≢◌, ◌⊎◌, ◌↔◌, ℕ, List, ◌∷◌, ◌++◌, codes, Option, None, Some}
 use Rattle.std.specs.List.{AllByRecursion, AllZip, Any, Contains, slice_get}
 use Rattle.gix_refspec.specs.declared.parsing.Operation.TheVariants.{Fetch}
-use Rattle.gix_refspec.specs.Texts.Words.{Lacks, Begins}
+use Rattle.gix_refspec.specs.Texts.Words.{Lacks, BeginsWith}
 use Rattle.gix_refspec.specs.Texts.Name.{HasStar}
 use Rattle.gix_refspec.specs.Texts.Bytes.{star, head}
 use Rattle.gix_refspec.specs.Specs.Reading.{Reading}
@@ -33,7 +33,7 @@ IsDestinationAmong refs (Some n) = HasName refs n
 -- `refs/`. `main:refs/x/main` doesn't: it maps `refs/tags/main` to `refs/x/main`, but `refs/x/main` back
 -- to `refs/heads/main`
 abbrev pub GoesBothWays : Reading → Type 0
-GoesBothWays r = IsPositive r.mode → (s d : List ℕ) → r.source ≡ Some s → r.destination ≡ Some d → (HasStar s × HasStar d) ⊎ (Begins (codes "refs/") s × Begins (codes "refs/") d)
+GoesBothWays r = IsPositive r.mode → (s d : List ℕ) → r.source ≡ Some s → r.destination ≡ Some d → (HasStar s × HasStar d) ⊎ (BeginsWith (codes "refs/") s × BeginsWith (codes "refs/") d)
 
 -- where each reading goes both ways: a pair stays from left to right over the refs A, with its destination
 -- among the refs B, exactly where it stays from right to left over B, with its source among A. So both
@@ -145,8 +145,8 @@ AreFetches g = AllByRecursion (λ r. r.operation ≡ Fetch) g
 -- `HEAD`, which matches `refs/heads/HEAD` too and is expanded to `HEAD` alone; `*` and `refs/*`, which are
 -- expanded with the star as it is; and `refs/*/head`, which is expanded to nothing
 pub data IsCovering (x : List ℕ) : Type 0 where
-  by_prefix : (p : List ℕ) → Begins (codes "refs/") x → IsPrefix x p → IsCovering x
-  by_candidates : Lacks star x → x ≢ head → ¬ (Begins (codes "refs/") x) → IsCovering x
+  by_prefix : (p : List ℕ) → BeginsWith (codes "refs/") x → IsPrefix x p → IsCovering x
+  by_candidates : Lacks star x → x ≢ head → ¬ (BeginsWith (codes "refs/") x) → IsCovering x
 
 -- the reading is a fetch, and its source is such a side, unless it is negative
 pub record HasCoveringSource (r : Reading) : Type 0 where
@@ -155,7 +155,7 @@ pub record HasCoveringSource (r : Reading) : Type 0 where
 
 -- the name begins with one of the entries
 abbrev pub BeginsWithOne : List (List ℕ) → List ℕ → Type 0
-BeginsWithOne entries n = Any (λ entry. Begins entry n) entries
+BeginsWithOne entries n = Any (λ entry. BeginsWith entry n) entries
 
 -- the name begins with an entry of what the reading expands to, which is positive then
 pub record IsCoveredBy (n : List ℕ) (r : Reading) : Type 0 where

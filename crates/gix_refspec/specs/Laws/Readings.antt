@@ -7,7 +7,7 @@ use Rattle.gix_refspec.specs.declared.oid.Error.{Error as IdError}
 use Rattle.gix_refspec.specs.declared.parsing.Operation.{Operation}
 use Rattle.gix_refspec.specs.Specs.Reading.{Reading}
 use Rattle.gix_refspec.specs.Specs.Refusal.{Refusal, ReferenceName, IsRefused}
-use Rattle.gix_refspec.specs.Texts.Words.{Lacks, Begins}
+use Rattle.gix_refspec.specs.Texts.Words.{Lacks, BeginsWith}
 use Rattle.gix_refspec.specs.Texts.Name.{IsPattern}
 use Rattle.gix_refspec.specs.Texts.Bytes.{star, head}
 use Rattle.gix_refspec.specs.Texts.PatternError.{IsPatternFault}
@@ -98,7 +98,7 @@ OneWord before after n = (v w : List ℕ) → Fits before after n v → Fits bef
 
 -- each ref that the side matches begins with the prefix of the side, but for `HEAD`
 abbrev pub PrefixBegins : List ℕ → Type 0
-PrefixBegins x = (p : List ℕ) (r : Ref) (word : Option (List ℕ)) → IsPrefix x p → x ≢ head → Matches x r word → Begins p r.name
+PrefixBegins x = (p : List ℕ) (r : Ref) (word : Option (List ℕ)) → IsPrefix x p → x ≢ head → Matches x r word → BeginsWith p r.name
 
 -- a side has one prefix at the most, and is expanded to one list at the most
 pub record OnePrefix (x : List ℕ) : Type 0 where
@@ -115,7 +115,7 @@ pub record HasCandidates (x : List ℕ) : Type 0 where
 
 -- this holds of a side that has no star, isn't `HEAD`, begins no `refs/` and is no id
 abbrev pub Candidates : List ℕ → Type 0
-Candidates x = Lacks star x → x ≢ head → ¬ (Begins (codes "refs/") x) → ¬ (IsId x) → HasCandidates x
+Candidates x = Lacks star x → x ≢ head → ¬ (BeginsWith (codes "refs/") x) → ¬ (IsId x) → HasCandidates x
 
 -- among the refs, a source takes just those whose name is the first of its candidates that is there. It is one
 -- name, and there is one where some candidate is
@@ -126,7 +126,7 @@ pub record TakesFirst (x : List ℕ) (refs : List Ref) : Type 0 where
 
 -- this holds of a source that has no star, begins no `refs/` and is no id
 abbrev pub FirstCandidate : List ℕ → List Ref → Type 0
-FirstCandidate x refs = Lacks star x → ¬ (Begins (codes "refs/") x) → ¬ (IsId x) → TakesFirst x refs
+FirstCandidate x refs = Lacks star x → ¬ (BeginsWith (codes "refs/") x) → ¬ (IsId x) → TakesFirst x refs
 
 -- of a type by which values clones are, and from which values they always come: they come from each value, and
 -- are that value

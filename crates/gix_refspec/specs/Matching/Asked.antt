@@ -4,7 +4,7 @@
 use Rattle.std.specs.Prelude.{◌≡◌, ◌⊎◌, ℕ, List, [], ◌∷◌}
 use Rattle.std.specs.List.{AllByRecursion, Any}
 use Rattle.gix_refspec.specs.declared.parsing.Operation.TheVariants.{Fetch}
-use Rattle.gix_refspec.specs.Texts.Words.{Begins}
+use Rattle.gix_refspec.specs.Texts.Words.{BeginsWith}
 use Rattle.gix_refspec.specs.Specs.Reading.{Reading, Negative}
 use Rattle.gix_refspec.specs.Matching.Side.{SideKind, pattern, full_name, object, partial, HasKind, candidates}
 use Rattle.gix_refspec.specs.Matching.Prefix.{TellsPrefix, IsAsked}
@@ -43,4 +43,4 @@ HasNoList g = Any (λ r. (list : List (List ℕ)) → ¬ (Lists r list)) g
 abbrev pub Serves : List (List ℕ) → List Reading → Type 0
 Serves list g =
     AllByRecursion (λ r. r.operation ≡ Fetch) g → (items : List Ref) (kept : List Mapped) → AreKeptForward g items kept
-    → AllByRecursion (λ m. (n : List ℕ) → m.source ≡ name n → Any (λ p. Begins p n) list) kept
+    → AllByRecursion (λ m. (n : List ℕ) → m.source ≡ name n → Any (λ p. BeginsWith p n) list) kept

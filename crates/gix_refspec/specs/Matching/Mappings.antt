@@ -54,10 +54,10 @@ AreApart (m ∷ l) = AllByRecursion (λ x. ¬ (IsSamePair m x)) l × AreApart l
 
 -- m, which stands in the list at place k, stays: no earlier mapping has its pair, and its source isn't
 -- excluded
-pub record Stays (g : List Reading) (l : List Mapped) (k : ℕ) (m : Mapped) : Type 0 where
+pub record IsKeptAt (g : List Reading) (l : List Mapped) (k : ℕ) (m : Mapped) : Type 0 where
   pub first : ¬ (HasPair (take k l) m)
   pub included : ¬ (IsStartExcluded g m.source)
 
 -- kept has the mappings of the list that stay, in order
 abbrev pub IsKept : List Reading → List Mapped → List Mapped → Type 0
-IsKept g l kept = IsMadeFrom (λ k m made. (made ≡ m) × Stays g l k m) 0 l kept
+IsKept g l kept = IsMadeFrom (λ k m made. (made ≡ m) × IsKeptAt g l k m) 0 l kept

@@ -2,7 +2,7 @@
 -- `ls-refs`, and for a partial name those of gitrevisions(7). This project's own rule where a
 -- side has a star outside `refs/`, a star directly behind `refs/`, or a star and a `]`.
 use Rattle.std.specs.Prelude.{◌≡◌, ◌≢◌, ◌⊎◌, ℕ, List, [], ◌∷◌, ◌++◌, Some, codes}
-use Rattle.gix_refspec.specs.Texts.Words.{Lacks, Holds, Begins}
+use Rattle.gix_refspec.specs.Texts.Words.{Lacks, Holds, BeginsWith}
 use Rattle.gix_refspec.specs.Texts.Name.{IsCut}
 use Rattle.gix_refspec.specs.Texts.Bytes.{star, slash, head, bracket}
 use Rattle.gix_refspec.specs.Specs.Grammar.{IsPositive}
@@ -11,7 +11,7 @@ use Rattle.gix_refspec.specs.Specs.Reading.{Reading, remote_of}
 
 -- a pattern with these two ends tells a prefix: the first goes on below `refs/`, and no `]` stands in them
 pub record TellsPrefix (before after : List ℕ) : Type 0 where
-  pub below : Begins (codes "refs/") before
+  pub below : BeginsWith (codes "refs/") before
   pub further : before ≢ codes "refs/"
   pub first : Lacks bracket before
   pub last : Lacks bracket after
@@ -21,7 +21,7 @@ pub data IsPrefix (x p : List ℕ) : Type 0 where
   -- `HEAD` stands for itself
   of_head : x ≡ head → p ≡ x → IsPrefix x p
   -- so does what begins `refs/` and has no star
-  of_name : Begins (codes "refs/") x → Lacks star x → p ≡ x → IsPrefix x p
+  of_name : BeginsWith (codes "refs/") x → Lacks star x → p ≡ x → IsPrefix x p
   -- a pattern below `refs/` has what stands before its star
   of_pattern : (before after : List ℕ) → IsCut before after x → TellsPrefix before after → p ≡ before → IsPrefix x p
 
@@ -38,9 +38,9 @@ pub data Expands (x : List ℕ) (list : List (List ℕ)) : Type 0 where
   -- else nothing below `refs/`
   below_refs : (rest : List ℕ) → HasNoPrefix x → x ≡ codes "refs/" ++ rest → Holds (codes "/") rest → list ≡ [] → Expands x list
   -- nothing for the id of an object
-  of_object : HasNoPrefix x → ¬ (Begins (codes "refs/") x) → IsId x → list ≡ [] → Expands x list
+  of_object : HasNoPrefix x → ¬ (BeginsWith (codes "refs/") x) → IsId x → list ≡ [] → Expands x list
   -- else the names that it may stand for, in which a star stands as it is
-  to_candidates : HasNoPrefix x → ¬ (Begins (codes "refs/") x) → ¬ (IsId x) → list ≡ candidates x → Expands x list
+  to_candidates : HasNoPrefix x → ¬ (BeginsWith (codes "refs/") x) → ¬ (IsId x) → list ≡ candidates x → Expands x list
 
 -- the side of a positive reading that names refs of the remote
 pub record IsAsked (r : Reading) (x : List ℕ) : Type 0 where

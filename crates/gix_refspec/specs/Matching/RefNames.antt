@@ -7,7 +7,7 @@ use Rattle.gix_refspec.specs.declared.match_group.names.BadSide.{BadSide}
 use Rattle.gix_refspec.specs.declared.match_group.names.BadSide.TheVariants.{Source, Destination, Both}
 use Rattle.gix_refspec.specs.declared.match_group.names.BadMapping.{BadMapping}
 use Rattle.gix_refspec.specs.Texts.Bytes.{head, slash}
-use Rattle.gix_refspec.specs.Texts.Words.{Begins, ArePartsAt}
+use Rattle.gix_refspec.specs.Texts.Words.{BeginsWith, ArePartsAt}
 use Rattle.gix_refspec.specs.Texts.Name.{IsName}
 use Rattle.gix_refspec.specs.Specs.Reading.{Reading}
 use Rattle.gix_refspec.specs.Matching.Lists.{IsMadeFrom}
@@ -19,7 +19,7 @@ use Rattle.gix_refspec.specs.Matching.Validation.{IndexesFit, ForwardPlaces, IsV
 
 -- n may be the name of a ref: it begins `refs/` and is a name, or it is `HEAD`
 abbrev pub IsRefName : List ℕ → Type 0
-IsRefName n = (Begins (codes "refs/") n × IsName n) ⊎ (n ≡ head)
+IsRefName n = (BeginsWith (codes "refs/") n × IsName n) ⊎ (n ≡ head)
 
 -- the source is an id, or the name of a ref
 abbrev pub IsNamedSource : Start → Type 0
@@ -73,8 +73,8 @@ pub record KeepsNamed (l rest : List Mapped) (out : List LeftOut) : Type 0 where
 -- a path of the name stays where refs are: no component is empty or begins with a dot, as `..` does, and no byte is a
 -- control character
 pub record StaysAmongRefs (n : List ℕ) : Type 0 where
-  pub below : Begins (codes "refs/") n ⊎ (n ≡ head)
-  pub components : (parts : List (List ℕ)) → ArePartsAt slash parts n → AllByRecursion (λ w. (w ≢ []) × ¬ (Begins (codes ".") w)) parts
+  pub below : BeginsWith (codes "refs/") n ⊎ (n ≡ head)
+  pub components : (parts : List (List ℕ)) → ArePartsAt slash parts n → AllByRecursion (λ w. (w ≢ []) × ¬ (BeginsWith (codes ".") w)) parts
   pub bytes : AllByRecursion (λ b. (32 ≤ b) × (b ≢ 127)) n
 
 -- where the mapping has a destination, that is the name of a ref, and stays among them

@@ -3,7 +3,7 @@
 -- as the other side is this project's own rule.
 use Rattle.std.specs.Prelude.{◌≡◌, ℕ, ◌||◌, if◌then◌else◌, List, [], ◌∷◌, ◌++◌, Option, None, Some, codes, nat_eq}
 use Rattle.std.specs.List.{starts_with}
-use Rattle.gix_refspec.specs.Texts.Words.{Lacks, Begins}
+use Rattle.gix_refspec.specs.Texts.Words.{Lacks, BeginsWith}
 use Rattle.gix_refspec.specs.Texts.Name.{IsCut}
 use Rattle.gix_refspec.specs.Texts.Bytes.{star}
 use Rattle.gix_refspec.specs.Texts.ObjectId.{IsIdText, lower_of}
@@ -23,9 +23,9 @@ IsId x = (id : List ℕ) × IsIdText x id
 -- k is the kind of the side x. A side with several stars has none
 abbrev pub HasKind : List ℕ → SideKind → Type 0
 HasKind x (pattern before after) = IsCut before after x
-HasKind x (full_name n) = (n ≡ x) × Lacks star x × Begins (codes "refs/") x
-HasKind x (object id) = Lacks star x × ¬ (Begins (codes "refs/") x) × IsIdText x id
-HasKind x (partial n) = (n ≡ x) × Lacks star x × ¬ (Begins (codes "refs/") x) × ¬ (IsId x)
+HasKind x (full_name n) = (n ≡ x) × Lacks star x × BeginsWith (codes "refs/") x
+HasKind x (object id) = Lacks star x × ¬ (BeginsWith (codes "refs/") x) × IsIdText x id
+HasKind x (partial n) = (n ≡ x) × Lacks star x × ¬ (BeginsWith (codes "refs/") x) × ¬ (IsId x)
 
 -- the names that a partial one may stand for, in the order in which gitrevisions(7) tries them
 abbrev pub candidates : List ℕ → List (List ℕ)

@@ -8,7 +8,7 @@ use Rattle.std.specs.Cmp.Lexicographic.{slice_cmp}
 use Rattle.std.specs.List.{AllByRecursion, Contains, slice_get}
 use Rattle.std.specs.List.Sorted.{IsStrictlySortedBy}
 use Rattle.gix_refspec.specs.Texts.Bytes.{head}
-use Rattle.gix_refspec.specs.Texts.Words.{Begins}
+use Rattle.gix_refspec.specs.Texts.Words.{BeginsWith}
 use Rattle.gix_refspec.specs.Specs.Reading.{Reading}
 use Rattle.gix_refspec.specs.Specs.Meaning.{printed}
 use Rattle.gix_refspec.specs.Matching.Lists.{IsMadeFrom}
@@ -21,7 +21,7 @@ abbrev pub IndexesFit : List Reading → List Mapped → Type 0
 IndexesFit g l = AllByRecursion (λ m. m.spec < length g) l
 
 -- two mappings of the list have the destination d and different sources
-pub record IsContested (l : List Mapped) (d : List ℕ) : Type 0 where
+pub record HasConflictAt (l : List Mapped) (d : List ℕ) : Type 0 where
   pub one : Mapped
   pub other : Mapped
   pub has_one : Contains l one
@@ -48,19 +48,19 @@ pub record Conflict : Type 0 where
 -- two sources or more are mapped to the destination: these, in the order of their first mappings to it, with
 -- the canonical texts of the specs of these mappings
 pub record IsConflict (g : List Reading) (l : List Mapped) (c : Conflict) : Type 0 where
-  pub contested : IsContested l c.destination
+  pub contested : HasConflictAt l c.destination
   pub sources : IsMadeFrom (λ k m source. IsFirstTo c.destination l k m × (source ≡ m.source)) 0 l c.sources
   pub texts : IsMadeFrom (λ k m text. IsFirstTo c.destination l k m × IsTextAt g m.spec text) 0 l c.texts
 
 -- all conflicts of the mappings, in the byte order of their destinations, each once
 pub record AreConflicts (g : List Reading) (l : List Mapped) (cs : List Conflict) : Type 0 where
   pub each : AllByRecursion (IsConflict g l) cs
-  pub every : (d : List ℕ) → IsContested l d → Contains (map (λ c. c.destination) cs) d
+  pub every : (d : List ℕ) → HasConflictAt l d → Contains (map (λ c. c.destination) cs) d
   pub order : IsStrictlySortedBy (slice_cmp nat_cmp) (map (λ c. c.destination) cs)
 
 -- the destination can be written: it begins `refs/`, or it is `HEAD`
 abbrev pub IsWritable : List ℕ → Type 0
-IsWritable d = Begins (codes "refs/") d ⊎ (d ≡ head)
+IsWritable d = BeginsWith (codes "refs/") d ⊎ (d ≡ head)
 
 -- the mapping survives: it has no destination, or one that can be written
 abbrev pub Survives : Mapped → Type 0

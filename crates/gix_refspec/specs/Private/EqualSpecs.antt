@@ -8,7 +8,7 @@ use Rattle.gix_refspec.specs.Specs.Grammar.{IsPositive}
 use Rattle.gix_refspec.specs.Matching.Match.{Ref}
 use Rattle.gix_refspec.specs.Matching.Mappings.{Mapped, HasPair}
 use Rattle.gix_refspec.specs.Matching.Hits.{Hit}
-use Rattle.gix_refspec.specs.Private.HitViews.{AreMade, made_in, mapping_of}
+use Rattle.gix_refspec.specs.Private.HitViews.{AreMade, mapped_of_made, mapping_of}
 use Rattle.gix_refspec.specs.Private.Kept.{IsFlagged}
 
 -- both are positive, and have the same sides
@@ -42,7 +42,7 @@ pub record AddsMost (direction : Direction) (P : List Hit → Type 0) (old new :
   pub some : List Mapped
   pub are : P hits
   pub thins : Thins [] (map (mapping_of direction) hits) some
-  pub all : made_in direction new ≡ made_in direction old ++ some
+  pub all : mapped_of_made direction new ≡ mapped_of_made direction old ++ some
 
 -- the mappings of the direction but for some that repeat an earlier one
 pub record AreMostMade (direction : Direction) (g : List Reading) (items : List Ref) (list : List Mapped) : Type 0 where

@@ -16,7 +16,7 @@ use Rattle.gix_refspec.specs.Matching.Lists.{IsMadeFrom}
 use Rattle.gix_refspec.specs.Matching.Mappings.{Mapped}
 use Rattle.gix_refspec.specs.Matching.Hits.{Ends, AreForwardEnds, AreBackwardEnds, Hit, IsHit, IsIdMapping, AreForward, AreBackward, AreKeptForward, AreKeptBackward, forward_of, backward_of}
 use Rattle.gix_refspec.specs.Views.Group.{name_bytes, mapped_of}
-use Rattle.gix_refspec.specs.Private.SideViews.{shown_kind}
+use Rattle.gix_refspec.specs.Private.SideViews.{kind_of_side}
 
 -- the word that stands for the star of a side that matched
 abbrev pub word_of : Match → Option (List ℕ)
@@ -34,20 +34,20 @@ PatternFits (object id) r = ⊥
 PatternFits (partial x) r = ⊥
 
 -- in a candidate these bytes may stand before the partial name, and nothing behind it
-abbrev pub IsPlace : List ℕ → Type 0
-IsPlace x = (x ≡ []) ⊎ (x ≡ codes "refs/") ⊎ (x ≡ codes "refs/tags/") ⊎ (x ≡ codes "refs/heads/") ⊎ (x ≡ codes "refs/remotes/")
+abbrev pub IsFolder : List ℕ → Type 0
+IsFolder x = (x ≡ []) ⊎ (x ≡ codes "refs/") ⊎ (x ≡ codes "refs/tags/") ⊎ (x ≡ codes "refs/heads/") ⊎ (x ≡ codes "refs/remotes/")
 
 -- the side, where it is there, has the kind
-abbrev pub HasKindShown : Option (List ℕ) → Option DeclaredKind → Type 0
-HasKindShown None None = Unit {0}
-HasKindShown None (Some k) = ⊥
-HasKindShown (Some x) None = ⊥
-HasKindShown (Some x) (Some k) = HasKind x (shown_kind k)
+abbrev pub HasSideKind : Option (List ℕ) → Option DeclaredKind → Type 0
+HasSideKind None None = Unit {0}
+HasSideKind None (Some k) = ⊥
+HasSideKind (Some x) None = ⊥
+HasSideKind (Some x) (Some k) = HasKind x (kind_of_side k)
 
 -- the ends have these kinds
 pub record HaveKinds (ends : Ends) (kinds : DeclaredEnds) : Type 0 where
-  pub near : HasKind ends.near (shown_kind kinds.near)
-  pub far : HasKindShown ends.far kinds.far
+  pub near : HasKind ends.near (kind_of_side kinds.near)
+  pub far : HasSideKind ends.far kinds.far
 
 -- the ends of a reading, as the direction sees them
 abbrev pub HasEnds : Direction → Reading → Ends → Type 0
@@ -77,7 +77,7 @@ TakesEach (partial x) = ⊥
 -- what an end of the kind becomes, where there is one
 abbrev pub filled_end : Option DeclaredKind → Option (List ℕ) → Option (List ℕ)
 filled_end None word = None
-filled_end (Some k) word = Some (filled (shown_kind k) word)
+filled_end (Some k) word = Some (filled (kind_of_side k) word)
 
 -- the reading is positive, and its source is the id with these bytes
 pub record AsksForId (r : Reading) (bytes : List ℕ) : Type 0 where
@@ -87,8 +87,8 @@ pub record AsksForId (r : Reading) (bytes : List ℕ) : Type 0 where
   pub kind : HasKind text (object bytes)
 
 -- the hit that the private type shows
-abbrev pub shown_hit : DeclaredHit → Hit
-shown_hit h = record { spec = h.spec; item = h.item; near = bstr_bytes h.near; far = option_map name_bytes h.far }
+abbrev pub hit_of : DeclaredHit → Hit
+hit_of h = record { spec = h.spec; item = h.item; near = bstr_bytes h.near; far = option_map name_bytes h.far }
 
 -- in the direction, the hits among the refs of the spec at place k, whose ends have these kinds
 abbrev pub AreHitsOfKinds : Direction → DeclaredEnds → ℕ → List Ref → List Ref → List Hit → Type 0
@@ -108,20 +108,20 @@ mapping_of Forward hit = forward_of hit
 mapping_of Backward hit = backward_of hit
 
 -- the mappings that were made in the direction
-abbrev pub made_in : Direction → Made → List Mapped
-made_in Forward made = map mapped_of made.forward.items
-made_in Backward made = map mapped_of made.backward.items
+abbrev pub mapped_of_made : Direction → Made → List Mapped
+mapped_of_made Forward made = map mapped_of made.forward.items
+mapped_of_made Backward made = map mapped_of made.backward.items
 
 -- behind the old mappings stand those that hits make, and the hits are as P says
 pub record AddsHits (direction : Direction) (P : List Hit → Type 0) (old new : Made) : Type 0 where
   pub hits : List Hit
   pub are : P hits
-  pub all : made_in direction new ≡ made_in direction old ++ map (mapping_of direction) hits
+  pub all : mapped_of_made direction new ≡ mapped_of_made direction old ++ map (mapping_of direction) hits
 
 -- the mappings of the direction that take no item: those of ids, from left to right alone
-abbrev pub AreFirst : Direction → List Reading → List Mapped → Type 0
-AreFirst Forward g ids = IsMadeFrom IsIdMapping 0 g ids
-AreFirst Backward g ids = ids ≡ []
+abbrev pub AreIdMappings : Direction → List Reading → List Mapped → Type 0
+AreIdMappings Forward g ids = IsMadeFrom IsIdMapping 0 g ids
+AreIdMappings Backward g ids = ids ≡ []
 
 -- the mappings of the direction
 abbrev pub AreMade : Direction → List Reading → List Ref → List Mapped → Type 0

@@ -10,7 +10,7 @@ use Rattle.gix_refspec.specs.declared.match_group.hits.ends.Direction.TheVariant
 use Rattle.gix_refspec.specs.declared.match_group.hits.index.NameIndex.{NameIndex}
 use Rattle.gix_refspec.specs.declared.match_group.hits.index.Names.{Names}
 use Rattle.gix_refspec.specs.declared.match_group.hits.index.fronts.FrontIndex.{FrontIndex}
-use Rattle.gix_refspec.specs.Texts.Words.{Begins}
+use Rattle.gix_refspec.specs.Texts.Words.{BeginsWith}
 use Rattle.gix_refspec.specs.Specs.Reading.{Reading}
 use Rattle.gix_refspec.specs.Matching.Side.{SideKind, pattern, full_name, object, partial, HasKind}
 use Rattle.gix_refspec.specs.Matching.Match.{Ref, MatchesAs, IsFirstCandidate}
@@ -35,11 +35,11 @@ partial_names_of (object id) = []
 partial_names_of (partial x) = x ∷ []
 
 -- what a side of the kind asks for by name is among the names
-abbrev pub IsNamed : Names → SideKind → Type 0
-IsNamed names (pattern before after) = Unit {0}
-IsNamed names (full_name x) = Contains (map name_bytes names.full.items) x
-IsNamed names (object id) = Unit {0}
-IsNamed names (partial x) = Contains (map name_bytes names.partial.items) x
+abbrev pub HasNamesOf : Names → SideKind → Type 0
+HasNamesOf names (pattern before after) = Unit {0}
+HasNamesOf names (full_name x) = Contains (map name_bytes names.full.items) x
+HasNamesOf names (object id) = Unit {0}
+HasNamesOf names (partial x) = Contains (map name_bytes names.partial.items) x
 
 -- P holds of the kind of each near end of the specs in the direction
 abbrev pub AllNear : (SideKind → Type 0) → Direction → List Reading → Type 0
@@ -72,7 +72,7 @@ pub record HavePlaces (names : List (List ℕ)) (refs : List Ref) (listed : List
 
 -- the places of the refs whose names begin with the front, in order
 abbrev pub ArePlacesBehind : List ℕ → List Ref → List ℕ → Type 0
-ArePlacesBehind front refs places = IsMadeFrom (λ k r place. Begins front r.name × (place ≡ k)) 0 refs places
+ArePlacesBehind front refs places = IsMadeFrom (λ k r place. BeginsWith front r.name × (place ≡ k)) 0 refs places
 
 -- what is listed for a front are the places of the refs whose names begin with it
 abbrev pub ListFronts : List Ref → (List ℕ → Option (Vec ℕ)) → Type 0
@@ -89,7 +89,7 @@ HaveLengths lengths listed = (front : List ℕ) (v : Vec ℕ) → listed front �
 -- the place is added to what is listed for each front that the name begins with, and nothing else changes
 abbrev pub AddsPlace : List ℕ → ℕ → (List ℕ → Option (Vec ℕ)) → (List ℕ → Option (Vec ℕ)) → Type 0
 AddsPlace n place old new = (front : List ℕ) (v : Vec ℕ) → new front ≡ Some v → (w : Vec ℕ) × (old front ≡ Some w)
-    × ((Begins front n × (v.items ≡ w.items ++ place ∷ [])) ⊎ (¬ (Begins front n) × (v.items ≡ w.items)))
+    × ((BeginsWith front n × (v.items ≡ w.items ++ place ∷ [])) ⊎ (¬ (BeginsWith front n) × (v.items ≡ w.items)))
 
 -- the side is a pattern, and these are the places of the refs whose names begin with its front
 abbrev pub ArePlacesFor : SideKind → List Ref → List ℕ → Type 0

@@ -28,26 +28,26 @@ IsFitted [] n = ⊥
 IsFitted (p ∷ ps) n = FitsName p n ⊎ IsFitted ps n
 
 -- the name is excluded
-abbrev pub Takes : Exclusion → List ℕ → Type 0
-Takes (exclusion.Name source) n = n ≡ source.now
-Takes (exclusion.Pattern p) n = FitsName p n
+abbrev pub ExcludesName : Exclusion → List ℕ → Type 0
+ExcludesName (exclusion.Name source) n = n ≡ source.now
+ExcludesName (exclusion.Pattern p) n = FitsName p n
 
 -- the set has the name
 abbrev pub has_name : {S : Type 0} → HashSet NameRef S → List ℕ → Bool
 has_name s n = bag.contains_by (λ k. bytes_eq n (name_bytes k)) s
 
 -- these exclude the name
-abbrev pub IsTaken : Exclusions → List ℕ → Type 0
-IsTaken es n = IsTrue (has_name es.names n) ⊎ IsFitted es.patterns.items n
+abbrev pub ExcludeName : Exclusions → List ℕ → Type 0
+ExcludeName es n = IsTrue (has_name es.names n) ⊎ IsFitted es.patterns.items n
 
 -- these exclude the start, which they don't where it is an id
-abbrev pub IsStartTaken : Exclusions → Start → Type 0
-IsStartTaken es (name n) = IsTaken es n
-IsStartTaken es (id i) = ⊥
+abbrev pub ExcludeStart : Exclusions → Start → Type 0
+ExcludeStart es (name n) = ExcludeName es n
+ExcludeStart es (id i) = ⊥
 
 -- these exclude what the readings exclude
 abbrev pub AreExclusionsOf : List Reading → Exclusions → Type 0
-AreExclusionsOf g es = (n : List ℕ) → IsTaken es n ↔ IsExcluded g n
+AreExclusionsOf g es = (n : List ℕ) → ExcludeName es n ↔ IsExcluded g n
 
 -- one of the readings is negative
 abbrev pub HasNegative : List Reading → Type 0
@@ -93,8 +93,8 @@ Rises [] = Unit {0}
 Rises (n ∷ ns) = AllByRecursion (λ m. n < m) ns × Rises ns
 
 -- the places in some keys: what their lower bits say
-abbrev pub places_of : ℕ → List ℕ → List ℕ
-places_of bits keys = map (λ key. key % 2 ^ bits) keys
+abbrev pub places_in : ℕ → List ℕ → List ℕ
+places_in bits keys = map (λ key. key % 2 ^ bits) keys
 
 -- the key has a place among the mappings, and the upper bits of the hash of the mapping there
 abbrev pub IsKey : FoldHasher → List Mapping → ℕ → ℕ → Type 0
@@ -103,7 +103,7 @@ IsKey seed ms bits key = (key % 2 ^ bits < length ms) × ((d : Mapping) → key 
 -- the keys of all the mappings
 pub record AreKeysOf (seed : FoldHasher) (ms : List Mapping) (bits : ℕ) (keys : List ℕ) : Type 0 where
   pub each : AllByRecursion (IsKey seed ms bits) keys
-  pub every : (k : ℕ) → k < length ms → Has (places_of bits keys) k
+  pub every : (k : ℕ) → k < length ms → Has (places_in bits keys) k
   pub count : length keys ≡ length ms
 
 -- the key at a place of the list has the upper bits of the one before it
@@ -142,7 +142,7 @@ pub record ArePairsOf (ms : List Mapping) (ps : List Pair) : Type 0 where
   pub apart : (i j d : ℕ) → i < j → j < length ps → slice_index_or (pair_places ps) i d ≢ slice_index_or (pair_places ps) j d
 
 -- the mapping at place k, which is m, stays as made: it isn't flagged, and its source isn't excluded
-pub record Remains (es : Exclusions) (flags : List Bool) (k : ℕ) (m made : Mapping) : Type 0 where
+pub record IsKeptBy (es : Exclusions) (flags : List Bool) (k : ℕ) (m made : Mapping) : Type 0 where
   pub same : made ≡ m
   pub unflagged : ¬ (IsFlagged flags k)
-  pub included : ¬ (IsStartTaken es (mapped_of m).source)
+  pub included : ¬ (ExcludeStart es (mapped_of m).source)

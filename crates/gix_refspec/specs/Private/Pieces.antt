@@ -15,5 +15,5 @@ behind_colon None = []
 behind_colon (Some d) = colon ∷ d.now
 
 -- the text that the pieces make
-abbrev pub joined : Pieces → List ℕ
-joined p = optional_byte p.sign ++ (p.source.now ++ behind_colon p.destination)
+abbrev pub text_of_pieces : Pieces → List ℕ
+text_of_pieces p = optional_byte p.sign ++ (p.source.now ++ behind_colon p.destination)

@@ -11,7 +11,7 @@ use Rattle.gix_refspec.specs.declared.name.Stop.TheVariants.{SecondStar, Fault}
 use Rattle.gix_refspec.specs.declared.name.Error.TheVariants.{Empty, EmptyComponent, StartsWithDot, LockSuffix, EndsWithDot, RepeatedDot, ReflogPortion, Asterisk, InvalidByte}
 use Rattle.gix_refspec.specs.Texts.Bytes.{slash, star, letter, dot, brace}
 use Rattle.gix_refspec.specs.Texts.Name.{is_refused_byte, HasFault, HasSeveralStars}
-use Rattle.gix_refspec.specs.Texts.Words.{Ends}
+use Rattle.gix_refspec.specs.Texts.Words.{EndsWith}
 
 -- the class of the byte b
 abbrev pub class_at : ℕ → Class
@@ -20,12 +20,12 @@ class_at b = if b == slash then Slash else if b == dot then Dot else if b == bra
 -- the byte b, put behind y, makes the fault e
 abbrev pub AddsFault : List ℕ → ℕ → Error → Type 0
 AddsFault y b Empty = ⊥
-AddsFault y b EmptyComponent = (b ≡ slash) × Ends (codes "/") y
-AddsFault y b StartsWithDot = (b ≡ dot) × Ends (codes "/") y
-AddsFault y b LockSuffix = (b ≡ slash) × Ends (codes ".lock") y
+AddsFault y b EmptyComponent = (b ≡ slash) × EndsWith (codes "/") y
+AddsFault y b StartsWithDot = (b ≡ dot) × EndsWith (codes "/") y
+AddsFault y b LockSuffix = (b ≡ slash) × EndsWith (codes ".lock") y
 AddsFault y b EndsWithDot = ⊥
-AddsFault y b RepeatedDot = (b ≡ dot) × Ends (codes ".") y
-AddsFault y b ReflogPortion = (b ≡ brace) × Ends (codes "@") y
+AddsFault y b RepeatedDot = (b ≡ dot) × EndsWith (codes ".") y
+AddsFault y b ReflogPortion = (b ≡ brace) × EndsWith (codes "@") y
 AddsFault y b Asterisk = b ≡ star
 AddsFault y b (InvalidByte c) = (b ≡ c) × IsTrue (is_refused_byte c)
 
@@ -44,10 +44,10 @@ IsClean y = (e : Error) → ¬ (Added y e)
 -- y has the fault e where nothing comes behind it
 abbrev pub LeavesFault : List ℕ → Error → Type 0
 LeavesFault y Empty = ⊥
-LeavesFault y EmptyComponent = Ends (codes "/") y
+LeavesFault y EmptyComponent = EndsWith (codes "/") y
 LeavesFault y StartsWithDot = ⊥
-LeavesFault y LockSuffix = Ends (codes ".lock") y
-LeavesFault y EndsWithDot = Ends (codes ".") y
+LeavesFault y LockSuffix = EndsWith (codes ".lock") y
+LeavesFault y EndsWithDot = EndsWith (codes ".") y
 LeavesFault y RepeatedDot = ⊥
 LeavesFault y ReflogPortion = ⊥
 LeavesFault y Asterisk = ⊥

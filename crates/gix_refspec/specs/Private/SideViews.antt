@@ -17,8 +17,8 @@ AreStarsOf x (stars.One before after) = IsCut before.now after.now x
 AreStarsOf x stars.Several = HasSeveralStars x
 
 -- the kind that the private type shows
-abbrev pub shown_kind : DeclaredKind → SideKind
-shown_kind (declared_kind.Pattern before after) = pattern before.now after.now
-shown_kind (declared_kind.FullName name) = full_name name.now
-shown_kind (declared_kind.Object id) = object (id_bytes id)
-shown_kind (declared_kind.Partial name) = partial name.now
+abbrev pub kind_of_side : DeclaredKind → SideKind
+kind_of_side (declared_kind.Pattern before after) = pattern before.now after.now
+kind_of_side (declared_kind.FullName name) = full_name name.now
+kind_of_side (declared_kind.Object id) = object (id_bytes id)
+kind_of_side (declared_kind.Partial name) = partial name.now

@@ -1,7 +1,7 @@
 -- How the parts of a text are looked at, and which sides they make. Only private functions cite this.
 use Rattle.std.specs.Prelude.{◌≡◌, ◌≢◌, ◌⊎◌, ℕ, List, [], ◌∷◌, Option, None, Some, option_map}
 use Rattle.gix_refspec.specs.declared.parsing.reading.Look.{Look}
-use Rattle.gix_refspec.specs.declared.parsing.reading.Side.{Side}
+use Rattle.gix_refspec.specs.declared.parsing.reading.Shape.{Shape}
 use Rattle.gix_refspec.specs.declared.parsing.reading.Parts.{Parts}
 use Rattle.gix_refspec.specs.declared.parsing.reading.Sides.{Sides}
 use Rattle.gix_refspec.specs.declared.parsing.Operation.{Operation}
@@ -10,11 +10,11 @@ use Rattle.gix_refspec.specs.Texts.Words.{Lacks}
 use Rattle.gix_refspec.specs.Texts.Name.{IsName, HasFault, IsPattern}
 use Rattle.gix_refspec.specs.Texts.Bytes.{star, head}
 use Rattle.gix_refspec.specs.Specs.Reading.{Mode, Reading}
-use Rattle.gix_refspec.specs.Specs.Refusal.{Refusal, IsBadName, IsBadPattern, IsFirstReason, IsRefused, ReachesMemory, MayWantMemory}
+use Rattle.gix_refspec.specs.Specs.Refusal.{Refusal, IsBadName, IsBadPattern, IsFirstReason, IsRefused, ReachesMemory, MayNeedMemory}
 use Rattle.gix_refspec.specs.Specs.Grammar.{named_by, AreParts, IsPositive, Reads}
 use Rattle.gix_refspec.specs.Views.Instruction.{mode_of, ShowsRefusal}
 use Rattle.gix_refspec.specs.declared.parsing.reading.Look.TheVariants as look
-use Rattle.gix_refspec.specs.declared.parsing.reading.Side.TheVariants as side
+use Rattle.gix_refspec.specs.declared.parsing.reading.Shape.TheVariants as shape
 use Rattle.gix_refspec.specs.declared.parsing.Error.TheVariants as error
 use Rattle.bstr.specs.BStr.{bstr_bytes}
 
@@ -30,15 +30,15 @@ IsLook x look.Pattern = IsPattern x
 IsLook x (look.Other fault) = Lacks star x × HasFault x fault
 
 -- x has no star, or is a pattern
-abbrev pub IsSide : List ℕ → Side → Type 0
-IsSide x side.Plain = Lacks star x
-IsSide x side.Pattern = IsPattern x
+abbrev pub HasShape : List ℕ → Shape → Type 0
+HasShape x shape.Plain = Lacks star x
+HasShape x shape.Pattern = IsPattern x
 
 -- x is missing, a name or a pattern
-abbrev pub IsCheckedSide : List ℕ → Side → Type 0
-IsCheckedSide [] side.Plain = Unit {0}
-IsCheckedSide (b ∷ bs) side.Plain = IsName (b ∷ bs)
-IsCheckedSide x side.Pattern = IsPattern x
+abbrev pub HasCheckedShape : List ℕ → Shape → Type 0
+HasCheckedShape [] shape.Plain = Unit {0}
+HasCheckedShape (b ∷ bs) shape.Plain = IsName (b ∷ bs)
+HasCheckedShape x shape.Pattern = IsPattern x
 
 -- the text is neither a name nor a pattern, for this reason
 abbrev pub IsBadSide : List ℕ → Refusal → Type 0
@@ -85,4 +85,4 @@ IsReasonAgainst p = IsReason p.operation (mode_of p.mode) p.source.now (destinat
 
 -- out of memory where a side may need it, or else the first reason against the text
 abbrev pub IsErrorOf : Operation → List ℕ → Error → Type 0
-IsErrorOf op text = MemoryOr (MayWantMemory op text) (IsRefused op text)
+IsErrorOf op text = MemoryOr (MayNeedMemory op text) (IsRefused op text)

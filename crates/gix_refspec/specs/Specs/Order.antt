@@ -12,9 +12,9 @@ use Rattle.gix_refspec.specs.declared.parsing.Operation.TheVariants.{Push, Fetch
 use Rattle.gix_refspec.specs.Specs.Meaning.{Meaning, push_all_matching, push_delete, push_matching, push_exclude, fetch_only, fetch_exclude, fetch_and_update}
 
 -- push before fetch
-abbrev pub place_of : Operation → ℕ
-place_of Push = 0
-place_of Fetch = 1
+abbrev pub rank_of : Operation → ℕ
+rank_of Push = 0
+rank_of Fetch = 1
 
 -- false before true
 abbrev pub flag : Bool → List ℕ

@@ -126,8 +126,8 @@ pub record IsRefused (op : Operation) (text : List ℕ) (e : Refusal) : Type 0 w
   pub first : IsFirstReason op mode source destination e
 
 -- a side with several stars, which is reported whole, or one with a star and more than 256 bytes
-abbrev pub WantsMemory : List ℕ → Type 0
-WantsMemory x = HasSeveralStars x ⊎ (HasStar x × (256 < length x))
+abbrev pub NeedsMemory : List ℕ → Type 0
+NeedsMemory x = HasSeveralStars x ⊎ (HasStar x × (256 < length x))
 
 -- none of the reasons that come before the source's applies
 abbrev pub NoReasonBeforeSource : Operation → Mode → List ℕ → Option (List ℕ) → Type 0
@@ -136,11 +136,11 @@ NoReasonBeforeSource op mode s d = Never (IsEmptyPush op mode s d) × Never (Has
 -- the source may want memory and no reason before it applies, or the destination may and no reason
 -- before it or of the source applies
 abbrev pub ReachesMemory : Operation → Mode → List ℕ → Option (List ℕ) → Type 0
-ReachesMemory op mode s None = NoReasonBeforeSource op mode s None × WantsMemory s
-ReachesMemory op mode s (Some d) = NoReasonBeforeSource op mode s (Some d) × (WantsMemory s ⊎ (Never (HasBadSource op s (Some d)) × WantsMemory d))
+ReachesMemory op mode s None = NoReasonBeforeSource op mode s None × NeedsMemory s
+ReachesMemory op mode s (Some d) = NoReasonBeforeSource op mode s (Some d) × (NeedsMemory s ⊎ (Never (HasBadSource op s (Some d)) × NeedsMemory d))
 
 -- for the operation, the text has a side that may want memory before any reason applies
-pub record MayWantMemory (op : Operation) (text : List ℕ) : Type 0 where
+pub record MayNeedMemory (op : Operation) (text : List ℕ) : Type 0 where
   pub mode : Mode
   pub source : List ℕ
   pub destination : Option (List ℕ)

@@ -6,7 +6,7 @@ use Rattle.std.specs.List.{list_any}
 use Rattle.gix_refspec.specs.declared.name.Error.{Error}
 use Rattle.gix_refspec.specs.declared.name.Error.TheVariants.{Empty, EmptyComponent, StartsWithDot, LockSuffix, EndsWithDot, RepeatedDot, ReflogPortion, Asterisk, InvalidByte}
 use Rattle.gix_refspec.specs.Texts.Bytes.{slash, star, letter}
-use Rattle.gix_refspec.specs.Texts.Words.{Lacks, Holds, Begins, Ends, ArePartsAt}
+use Rattle.gix_refspec.specs.Texts.Words.{Lacks, Holds, BeginsWith, EndsWith, ArePartsAt}
 
 -- a control character, or one of these seven, the space among them
 abbrev pub is_refused_byte : ℕ → Bool
@@ -28,9 +28,9 @@ HasStar x = Holds (codes "*") x
 abbrev pub HasFault : List ℕ → Error → Type 0
 HasFault x Empty = x ≡ []
 HasFault x EmptyComponent = (x ≢ []) × SomeComponent (λ w. w ≡ []) x
-HasFault x StartsWithDot = SomeComponent (Begins (codes ".")) x
-HasFault x LockSuffix = SomeComponent (Ends (codes ".lock")) x
-HasFault x EndsWithDot = Ends (codes ".") x
+HasFault x StartsWithDot = SomeComponent (BeginsWith (codes ".")) x
+HasFault x LockSuffix = SomeComponent (EndsWith (codes ".lock")) x
+HasFault x EndsWithDot = EndsWith (codes ".") x
 HasFault x RepeatedDot = Holds (codes "..") x
 HasFault x ReflogPortion = Holds (codes "@{") x
 HasFault x Asterisk = HasStar x

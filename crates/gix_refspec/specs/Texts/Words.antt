@@ -13,12 +13,12 @@ pub record Holds (w x : List ℕ) : Type 0 where
   pub here : x ≡ before ++ (w ++ after)
 
 -- x begins with the word w
-pub record Begins (w x : List ℕ) : Type 0 where
+pub record BeginsWith (w x : List ℕ) : Type 0 where
   pub after : List ℕ
   pub here : x ≡ w ++ after
 
 -- x ends with the word w
-pub record Ends (w x : List ℕ) : Type 0 where
+pub record EndsWith (w x : List ℕ) : Type 0 where
   pub before : List ℕ
   pub here : x ≡ before ++ w
 

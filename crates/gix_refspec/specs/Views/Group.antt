@@ -129,6 +129,6 @@ abbrev pub AreMappingCopies : List Mapping → List Mapping → Type 0
 AreMappingCopies ms copies = AllZip IsMappingCopy ms copies
 
 -- the text of a source: its name, with U+FFFD for what isn't UTF-8, or its id in lower case
-abbrev pub shown_source : SourceRef → List ℕ
-shown_source (source_ref.FullName n) = encode_utf8_all (lossy_chars (name_bytes n))
-shown_source (source_ref.ObjectId i) = lower_of (id_bytes i)
+abbrev pub text_of_source : SourceRef → List ℕ
+text_of_source (source_ref.FullName n) = encode_utf8_all (lossy_chars (name_bytes n))
+text_of_source (source_ref.ObjectId i) = lower_of (id_bytes i)

@@ -25,22 +25,22 @@ mode_of declared_mode.Force = Forced
 mode_of declared_mode.Negative = Negative
 
 -- what a push says
-abbrev pub shown_push : Push → Meaning
-shown_push (push.AllMatchingBranches forced) = push_all_matching forced
-shown_push (push.Delete d) = push_delete (bstr_bytes d)
-shown_push (push.Matching s d forced) = push_matching (bstr_bytes s) (bstr_bytes d) forced
-shown_push (push.Exclude s) = push_exclude (bstr_bytes s)
+abbrev pub meaning_of_push : Push → Meaning
+meaning_of_push (push.AllMatchingBranches forced) = push_all_matching forced
+meaning_of_push (push.Delete d) = push_delete (bstr_bytes d)
+meaning_of_push (push.Matching s d forced) = push_matching (bstr_bytes s) (bstr_bytes d) forced
+meaning_of_push (push.Exclude s) = push_exclude (bstr_bytes s)
 
 -- what a fetch says
-abbrev pub shown_fetch : Fetch → Meaning
-shown_fetch (fetch.Only s) = fetch_only (bstr_bytes s)
-shown_fetch (fetch.Exclude s) = fetch_exclude (bstr_bytes s)
-shown_fetch (fetch.AndUpdate s d forced) = fetch_and_update (bstr_bytes s) (bstr_bytes d) forced
+abbrev pub meaning_of_fetch : Fetch → Meaning
+meaning_of_fetch (fetch.Only s) = fetch_only (bstr_bytes s)
+meaning_of_fetch (fetch.Exclude s) = fetch_exclude (bstr_bytes s)
+meaning_of_fetch (fetch.AndUpdate s d forced) = fetch_and_update (bstr_bytes s) (bstr_bytes d) forced
 
 -- what an instruction says
-abbrev pub shown : Instruction → Meaning
-shown (instruction.Push p) = shown_push p
-shown (instruction.Fetch f) = shown_fetch f
+abbrev pub meaning_of_instruction : Instruction → Meaning
+meaning_of_instruction (instruction.Push p) = meaning_of_push p
+meaning_of_instruction (instruction.Fetch f) = meaning_of_fetch f
 
 -- what a meaning is for
 abbrev pub meant_for : Meaning → Operation

@@ -19,7 +19,7 @@ pub(crate) fn seeds() -> [FoldHasher; 2] {
 }
 
 // The hash of a name by the first seed.
-pub(crate) fn hash_of(name: &[u8]) -> u64
+pub(crate) fn hash_of_name(name: &[u8]) -> u64
     ensures { result ≡ name_hash name.now }
 {
     hash_by(FoldHasher::default(), name)

@@ -6,9 +6,9 @@ ghost use Rattle.std.specs.Prelude.{◌≡◌, [], map, IfOk, IfSome, None, OnOk
 ghost use Rattle.gix_refspec.specs.Views.Spec.{reading_of};
 ghost use Rattle.gix_refspec.specs.Views.Group.{ref_of, mapped_of};
 ghost use Rattle.gix_refspec.specs.Matching.Hits.{AreHits, forward_of, backward_of};
-ghost use Rattle.gix_refspec.specs.Private.SideViews.{shown_kind};
+ghost use Rattle.gix_refspec.specs.Private.SideViews.{kind_of_side};
 ghost use Rattle.gix_refspec.specs.Private.Index.{ArePlacesFitted, ArePlacesFittedTo, ArePlacesFor, ArePlacesTaken, HasListed, IsIndexFor, IsIndexOfSide, ListEach, ListsFitted, ListsFor, MatchesWhole};
-ghost use Rattle.gix_refspec.specs.Private.HitViews.{HasEnds, TakesEach, TakesIn, shown_hit, AreHitsOfKinds, AddsHits, AreFirst, made_in};
+ghost use Rattle.gix_refspec.specs.Private.HitViews.{HasEnds, TakesEach, TakesIn, hit_of, AreHitsOfKinds, AddsHits, AreIdMappings, mapped_of_made};
 ghost use Rattle.gix_refspec.specs.Private.EqualSpecs.{AddsMost, AreMostMade, FlagsEqual};
 ghost use Rattle.gix_refspec.specs.Private.Part.{moved, place_among};
 
@@ -28,9 +28,9 @@ use bstr::BStr;
 use ends::{Direction, Ends, asked_of, ends_of};
 use equal_specs::equal_specs;
 use fill::filled_end;
-use ids::ids_of;
+use ids::id_mappings;
 use index::NameIndex;
-use matches::{fitted_word, matched, word_between};
+use matches::{fitted_word, match_of, word_between};
 use std::alloc::{AllocError, Global};
 
 // That a spec takes an item: the places of both, the item's name, and what the far end becomes.
@@ -82,7 +82,7 @@ pub(crate) fn mappings_of<'spec, 'item>(
     requires fitted { ListEach direction
         (map reading_of specs.now) (map ref_of items.now) survey.now.fitted.items }
     ensures { IfOk result (λ made. AreMostMade
-        direction (map reading_of specs.now) (map ref_of items.now) (made_in direction made)) }
+        direction (map reading_of specs.now) (map ref_of items.now) (mapped_of_made direction made)) }
 {
     let mut made = started(alloc, direction, specs, survey.room)?;
     add_hits(alloc, direction, specs, survey, index, items, &mut made)?;
@@ -176,7 +176,7 @@ impl Look {
         items: &[Item<'_>],
         most: usize,
     ) -> Result<Look, AllocError>
-        ensures { IfOk result (λ look. ListsFitted (shown_kind near.entry) (map ref_of items.now) look.fitted) }
+        ensures { IfOk result (λ look. ListsFitted (kind_of_side near.entry) (map ref_of items.now) look.fitted) }
     {
         match near {
             SideKind::FullName(_) | SideKind::Partial(_) => Ok(Look::counted(0)),
@@ -210,7 +210,7 @@ fn count_at(near: SideKind<'_>, places: &[usize], items: &[Item<'_>]) -> usize {
     let mut count: usize = 0;
     for place in places {
         if let Some(item) = items.get(*place) {
-            if matched(near, item).is_some() {
+            if match_of(near, item).is_some() {
                 count = count.saturating_add(1);
             }
         }
@@ -222,7 +222,7 @@ fn count_at(near: SideKind<'_>, places: &[usize], items: &[Item<'_>]) -> usize {
 fn count_among(near: SideKind<'_>, items: &[Item<'_>]) -> usize {
     let mut count: usize = 0;
     for item in items {
-        if matched(near, item).is_some() {
+        if match_of(near, item).is_some() {
             count = count.saturating_add(1);
         }
     }
@@ -261,12 +261,12 @@ fn started<'spec, 'item>(
     specs: &[RefSpecRef<'spec>],
     room: usize,
 ) -> Result<Made<'spec, 'item>, AllocError>
-    ensures { IfOk result (λ made. AreFirst
-        direction (map reading_of specs.now) (made_in direction made)) }
+    ensures { IfOk result (λ made. AreIdMappings
+        direction (map reading_of specs.now) (mapped_of_made direction made)) }
 {
     Ok(match direction {
         Direction::Forward => Made {
-            forward: ids_of(alloc, specs, room)?,
+            forward: id_mappings(alloc, specs, room)?,
             backward: Vec::new(alloc),
         },
         Direction::Backward => Made {
@@ -279,7 +279,7 @@ fn started<'spec, 'item>(
 // From left to right an item's name is the source.
 #[inline(always)]
 fn forward_mapping<'spec, 'item>(hit: Hit<'spec, 'item>) -> Mapping<'item, 'spec>
-    ensures { mapped_of result ≡ forward_of (shown_hit hit.entry) }
+    ensures { mapped_of result ≡ forward_of (hit_of hit.entry) }
 {
     Mapping {
         item_index: Some(hit.item),
@@ -292,7 +292,7 @@ fn forward_mapping<'spec, 'item>(hit: Hit<'spec, 'item>) -> Mapping<'item, 'spec
 // From right to left an item's name is the destination. The far end is there.
 #[inline(always)]
 fn backward_mapping<'spec, 'item>(hit: Hit<'spec, 'item>) -> Mapping<'spec, 'item>
-    ensures { mapped_of result ≡ backward_of (shown_hit hit.entry) }
+    ensures { mapped_of result ≡ backward_of (hit_of hit.entry) }
 {
     let source = hit.far.unwrap_or(NameRef::Borrowed(BStr::new(b"")));
     Mapping {
@@ -346,7 +346,7 @@ fn add_fitted<'spec, 'item>(
     items: &[Item<'item>],
     made: &mut Made<'spec, 'item>,
 ) -> Result<(), AllocError>
-    requires { ArePlacesFittedTo (shown_kind ends.near) (map ref_of items.now) places.now }
+    requires { ArePlacesFittedTo (kind_of_side ends.near) (map ref_of items.now) places.now }
     ensures { OnOk result (AddsHits
         direction (AreHitsOfKinds direction ends.entry spec
         (map ref_of items.now) (map ref_of items.now))
@@ -375,7 +375,7 @@ fn add_spec_hits<'spec, 'item>(
     items: &[Item<'item>],
     made: &mut Made<'spec, 'item>,
 ) -> Result<(), AllocError>
-    requires { IsIndexOfSide direction (shown_kind ends.near) (map ref_of items.now) index.now }
+    requires { IsIndexOfSide direction (kind_of_side ends.near) (map ref_of items.now) index.now }
     ensures { OnOk result (AddsHits
         direction (AreHitsOfKinds direction ends.entry spec
         (map ref_of items.now) (map ref_of items.now))
@@ -415,9 +415,9 @@ fn add_places<'spec, 'item>(
     items: &[Item<'item>],
     made: &mut Made<'spec, 'item>,
 ) -> Result<(), AllocError>
-    requires whole { MatchesWhole (shown_kind ends.near) }
+    requires whole { MatchesWhole (kind_of_side ends.near) }
     requires places { ArePlacesTaken
-        (shown_kind ends.near) direction (map ref_of items.now) places.now }
+        (kind_of_side ends.near) direction (map ref_of items.now) places.now }
     ensures { OnOk result (AddsHits
         direction (AreHitsOfKinds direction ends.entry spec
         (map ref_of items.now) (map ref_of items.now))
@@ -446,7 +446,7 @@ fn add_matches_at<'spec, 'item>(
     items: &[Item<'item>],
     made: &mut Made<'spec, 'item>,
 ) -> Result<(), AllocError>
-    requires { ArePlacesFor (shown_kind ends.near) (map ref_of items.now) places.now }
+    requires { ArePlacesFor (kind_of_side ends.near) (map ref_of items.now) places.now }
     ensures { OnOk result (AddsHits
         direction (AreHitsOfKinds direction ends.entry spec
         (map ref_of items.now) (map ref_of items.now))
@@ -454,7 +454,7 @@ fn add_matches_at<'spec, 'item>(
 {
     for place in places {
         let item = &items[*place];
-        if let Some(found) = matched(ends.near, item) {
+        if let Some(found) = match_of(ends.near, item) {
             let hit = Hit {
                 spec,
                 item: *place,
@@ -476,14 +476,14 @@ fn add_matches<'spec, 'item>(
     items: &[Item<'item>],
     made: &mut Made<'spec, 'item>,
 ) -> Result<(), AllocError>
-    requires { TakesEach (shown_kind ends.near) }
+    requires { TakesEach (kind_of_side ends.near) }
     ensures { OnOk result (AddsHits
         direction (AreHitsOfKinds direction ends.entry spec
         (map ref_of items.now) (map ref_of items.now))
         made.old made.new) }
 {
     for (place, item) in items.iter().enumerate() {
-        if let Some(found) = matched(ends.near, item) {
+        if let Some(found) = match_of(ends.near, item) {
             let hit = Hit {
                 spec,
                 item: place,
@@ -499,13 +499,13 @@ fn add_matches<'spec, 'item>(
 impl<'spec, 'item> Made<'spec, 'item> {
     ghost use Rattle.std.specs.Prelude.{◌∷◌, ◌++◌};
     ghost use Rattle.gix_refspec.specs.declared.match_group.hits.ends.Direction.{Direction};
-    ghost use Rattle.gix_refspec.specs.Private.HitViews.{made_in, mapping_of};
+    ghost use Rattle.gix_refspec.specs.Private.HitViews.{mapped_of_made, mapping_of};
 
     // Adds what a hit makes.
     #[inline(always)]
     fn add(&mut self, direction: Direction, hit: Hit<'spec, 'item>) -> Result<(), AllocError>
-        ensures { OnOk result (made_in direction self.new ≡
-            made_in direction self.old ++ mapping_of direction (shown_hit hit.entry) ∷ []) }
+        ensures { OnOk result (mapped_of_made direction self.new ≡
+            mapped_of_made direction self.old ++ mapping_of direction (hit_of hit.entry) ∷ []) }
     {
         match direction {
             Direction::Forward => self.forward.push(forward_mapping(hit))?,
@@ -516,7 +516,7 @@ impl<'spec, 'item> Made<'spec, 'item> {
 
     // No mappings.
     pub(crate) fn none(alloc: Global) -> Made<'spec, 'item>
-        ensures { (direction : Direction) → made_in direction result ≡ [] }
+        ensures { (direction : Direction) → mapped_of_made direction result ≡ [] }
     {
         Made {
             forward: Vec::new(alloc),
@@ -526,8 +526,8 @@ impl<'spec, 'item> Made<'spec, 'item> {
 
     // Gives the items, which stand at places of a part, their places among all.
     pub(crate) fn move_items(&mut self, direction: Direction, places: &[usize])
-        ensures { made_in direction self.new ≡
-            map (moved (place_among places.now)) (made_in direction self.old) }
+        ensures { mapped_of_made direction self.new ≡
+            map (moved (place_among places.now)) (mapped_of_made direction self.old) }
     {
         match direction {
             Direction::Forward => move_each(self.forward.as_mut_slice(), places),

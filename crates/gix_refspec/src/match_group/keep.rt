@@ -6,7 +6,7 @@ ghost use Rattle.gix_refspec.specs.Views.Spec.{reading_of};
 ghost use Rattle.gix_refspec.specs.Views.Group.{mapped_of};
 ghost use Rattle.gix_refspec.specs.Matching.Mappings.{IsKept};
 ghost use Rattle.gix_refspec.specs.Matching.Lists.{IsMadeFrom};
-ghost use Rattle.gix_refspec.specs.Private.Kept.{HasNegative, IsFlagged, Remains};
+ghost use Rattle.gix_refspec.specs.Private.Kept.{HasNegative, IsFlagged, IsKeptBy};
 
 mod exclusions;
 pub(crate) mod repeats;
@@ -47,11 +47,11 @@ fn drop_others<'a, 'b>(
     repeats: &[bool],
     mappings: &mut Vec<Mapping<'a, 'b>>,
 )
-    ensures { IsMadeFrom (Remains exclusions.now repeats.now) 0 mappings.old.items mappings.new.items }
+    ensures { IsMadeFrom (IsKeptBy exclusions.now repeats.now) 0 mappings.old.items mappings.new.items }
 {
     let mut kept = 0;
     for place in 0..mappings.len() {
-        if remains(exclusions, repeats, place, &mappings[place]) {
+        if is_kept(exclusions, repeats, place, &mappings[place]) {
             mappings.swap(kept, place);
             kept += 1;
         }
@@ -60,13 +60,13 @@ fn drop_others<'a, 'b>(
 }
 
 // Whether the mapping at a place is neither flagged nor excluded.
-fn remains(
+fn is_kept(
     exclusions: &Exclusions<'_>,
     repeats: &[bool],
     place: usize,
     mapping: &Mapping<'_, '_>,
 ) -> bool
-    ensures { IsTrue result ↔ Remains exclusions.now repeats.now place mapping.now mapping.now }
+    ensures { IsTrue result ↔ IsKeptBy exclusions.now repeats.now place mapping.now mapping.now }
 {
     !is_flagged(repeats, place) && !exclusions.excludes(mapping)
 }

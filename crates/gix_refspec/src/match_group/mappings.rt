@@ -5,7 +5,7 @@ ghost use Rattle.std.specs.Prelude.{[], map, IfOk, OnErr};
 ghost use Rattle.gix_refspec.specs.Views.Spec.{reading_of};
 ghost use Rattle.gix_refspec.specs.Views.Group.{ref_of};
 ghost use Rattle.gix_refspec.specs.Private.EqualSpecs.{FlagsEqual};
-ghost use Rattle.gix_refspec.specs.Private.HitViews.{AreKept, AreMade, made_in};
+ghost use Rattle.gix_refspec.specs.Private.HitViews.{AreKept, AreMade, mapped_of_made};
 ghost use Rattle.gix_refspec.specs.Private.Index.{IsIndexFor, ListEach};
 ghost use Rattle.gix_refspec.specs.Private.Part.{HasNoNearId};
 
@@ -31,7 +31,7 @@ pub(crate) fn kept_of<'spec, 'item>(
     items: &[Item<'item>],
 ) -> Result<Made<'spec, 'item>, AllocError>
     ensures ok { IfOk result (λ made. AreKept
-        direction (map reading_of specs.now) (map ref_of items.now) (made_in direction made)) }
+        direction (map reading_of specs.now) (map ref_of items.now) (mapped_of_made direction made)) }
     ensures memory { OnErr result (¬ (AreMade
         direction (map reading_of specs.now) (map ref_of items.now) [])) }
 {
@@ -50,7 +50,7 @@ fn none_or<'spec, 'item>(
     items: &[Item<'item>],
 ) -> Result<Made<'spec, 'item>, AllocError>
     ensures ok { IfOk result (λ made. AreKept
-        direction (map reading_of specs.now) (map ref_of items.now) (made_in direction made)) }
+        direction (map reading_of specs.now) (map ref_of items.now) (mapped_of_made direction made)) }
     ensures memory { OnErr result (¬ (AreMade
         direction (map reading_of specs.now) (map ref_of items.now) [])) }
 {
@@ -68,7 +68,7 @@ fn kept_by_name<'spec, 'item>(
     items: &[Item<'item>],
 ) -> Result<Made<'spec, 'item>, AllocError>
     ensures { IfOk result (λ made. AreKept
-        direction (map reading_of specs.now) (map ref_of items.now) (made_in direction made)) }
+        direction (map reading_of specs.now) (map ref_of items.now) (mapped_of_made direction made)) }
 {
     let by_id = has_near_id(direction, specs);
     let names = names_asked(alloc, direction, specs)?;
@@ -101,7 +101,7 @@ fn kept_once<'spec, 'item>(
 ) -> Result<Made<'spec, 'item>, AllocError>
     requires { HasNoNearId direction (map reading_of specs.now) }
     ensures { IfOk result (λ made. AreKept
-        direction (map reading_of specs.now) (map ref_of items.now) (made_in direction made)) }
+        direction (map reading_of specs.now) (map ref_of items.now) (mapped_of_made direction made)) }
 {
     match Part::of(alloc, items)? {
         None => kept_of_all(alloc, direction, specs, items),
@@ -121,7 +121,7 @@ fn kept_of_all<'spec, 'item>(
     items: &[Item<'item>],
 ) -> Result<Made<'spec, 'item>, AllocError>
     ensures { IfOk result (λ made. AreKept
-        direction (map reading_of specs.now) (map ref_of items.now) (made_in direction made)) }
+        direction (map reading_of specs.now) (map ref_of items.now) (mapped_of_made direction made)) }
 {
     let names = names_asked(alloc, direction, specs)?;
     let fronts = fronts_asked(alloc, direction, specs)?;
@@ -144,7 +144,7 @@ fn kept_with<'spec, 'item>(
     requires fitted { ListEach direction
         (map reading_of specs.now) (map ref_of items.now) survey.fitted.items }
     ensures { IfOk result (λ made. AreKept
-        direction (map reading_of specs.now) (map ref_of items.now) (made_in direction made)) }
+        direction (map reading_of specs.now) (map ref_of items.now) (mapped_of_made direction made)) }
 {
     let mut made = mappings_of(alloc, direction, specs, index, items, &survey)?;
     drop(survey);

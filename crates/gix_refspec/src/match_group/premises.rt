@@ -2,7 +2,7 @@
 
 ghost use Rattle.std.specs.Prelude.{◌↔◌, IsTrue, codes};
 ghost use Rattle.std.specs.List.{AllByRecursion};
-ghost use Rattle.gix_refspec.specs.Texts.Words.{Begins};
+ghost use Rattle.gix_refspec.specs.Texts.Words.{BeginsWith};
 ghost use Rattle.gix_refspec.specs.Texts.Name.{HasStar};
 ghost use Rattle.gix_refspec.specs.Views.Spec.{reading_of};
 ghost use Rattle.gix_refspec.specs.Views.Group.{readings_of};
@@ -68,7 +68,7 @@ fn have_stars(source: &[u8], destination: &[u8]) -> bool
 // Whether both sides begin `refs/`.
 fn are_below_refs(source: &[u8], destination: &[u8]) -> bool
     ensures { IsTrue result ↔
-        (Begins (codes "refs/") source.now × Begins (codes "refs/") destination.now) }
+        (BeginsWith (codes "refs/") source.now × BeginsWith (codes "refs/") destination.now) }
 {
     below_refs(source).is_some() && below_refs(destination).is_some()
 }

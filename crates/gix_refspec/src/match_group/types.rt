@@ -154,9 +154,9 @@ impl<'a> SourceRef<'a> {
 }
 
 impl<'a> fmt::Display for SourceRef<'a> {
-    ghost use Rattle.gix_refspec.specs.Views.Group.{shown_source};
+    ghost use Rattle.gix_refspec.specs.Views.Group.{text_of_source};
 
-    ghost output = { λ s. Some (shown_source s) };
+    ghost output = { λ s. Some (text_of_source s) };
 
     fn fmt<W: fmt::Write>(&self, f: &mut fmt::Formatter<W>) -> fmt::Result {
         match self {

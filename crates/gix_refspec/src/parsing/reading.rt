@@ -4,10 +4,10 @@ ghost use Rattle.std.specs.Prelude.{◌≡◌, ◌≢◌, ◌↔◌, option_map,
 ghost use Rattle.bstr.specs.BStr.{bstr_bytes};
 ghost use Rattle.gix_refspec.specs.Texts.Name.{HasFault, HasSeveralStars};
 ghost use Rattle.gix_refspec.specs.Specs.Grammar.{IsSigned, LooksLikeObjectHash, Reads, with_colon, LastLacksColon, named_by};
-ghost use Rattle.gix_refspec.specs.Specs.Refusal.{IsBadPattern, IsRefused, MayWantMemory, WantsMemory};
+ghost use Rattle.gix_refspec.specs.Specs.Refusal.{IsBadPattern, IsRefused, MayNeedMemory, NeedsMemory};
 ghost use Rattle.gix_refspec.specs.Views.Instruction.{mode_of, ShowsRefusal};
 ghost use Rattle.gix_refspec.specs.Private.Scan.{with_letters};
-ghost use Rattle.gix_refspec.specs.Private.Sides.{MemoryOr, IsLook, IsSide, IsCheckedSide, IsBadSide, HasParts, destination_of, ArePositive, AreSidesOf, IsReasonAgainst, named_or_head as named_or_head_of, side_of as side_bytes};
+ghost use Rattle.gix_refspec.specs.Private.Sides.{MemoryOr, IsLook, HasShape, HasCheckedShape, IsBadSide, HasParts, destination_of, ArePositive, AreSidesOf, IsReasonAgainst, named_or_head as named_or_head_of, side_of as side_bytes};
 ghost use Rattle.gix_refspec.specs.Views.Spec.{reading_of};
 
 use crate::cut::split_at_last;
@@ -32,7 +32,7 @@ enum Look {
 
 // Whether a side has a star.
 #[derive(Clone, Copy, PartialEq, Eq)]
-enum Side {
+enum Shape {
     Plain,
     Pattern,
 }
@@ -71,7 +71,7 @@ pub fn parse<'a>(
     ensures refused { IfErr result (λ e. e ≢ Error.Memory →
         ShowsRefusal (IsRefused operation (bstr_bytes spec.entry)) e) }
     ensures memory { IfErr result (λ e. e ≡ Error.Memory →
-        MayWantMemory operation (bstr_bytes spec.entry)) }
+        MayNeedMemory operation (bstr_bytes spec.entry)) }
 {
     let parts = Parts::new(operation, spec.as_bytes());
     let sides = sides_of(alloc, parts)?;
@@ -126,7 +126,7 @@ fn cut_at_last_colon(rest: &[u8]) -> (&[u8], Option<&[u8]>)
 #[inline(always)]
 fn look_at(alloc: Global, side: &[u8]) -> Result<Look, Error>
     ensures ok { IfOk result (IsLook side.now) }
-    ensures err { IfErr result (MemoryOr (WantsMemory side.now) (IsBadPattern side.now)) }
+    ensures err { IfErr result (MemoryOr (NeedsMemory side.now) (IsBadPattern side.now)) }
 {
     match starred_name(side) {
         Ok(false) => Ok(Look::Name),
@@ -141,7 +141,7 @@ fn look_at(alloc: Global, side: &[u8]) -> Result<Look, Error>
 fn with_fault(alloc: Global, side: &[u8], fault: name::Error) -> Result<Look, Error>
     requires { HasFault (with_letters side.now) fault }
     ensures ok { IfOk result (IsLook side.now) }
-    ensures err { IfErr result (MemoryOr (WantsMemory side.now) (IsBadPattern side.now)) }
+    ensures err { IfErr result (MemoryOr (NeedsMemory side.now) (IsBadPattern side.now)) }
 {
     match stars_of(side) {
         Stars::No => Ok(Look::Other(fault)),
@@ -154,7 +154,7 @@ fn with_fault(alloc: Global, side: &[u8], fault: name::Error) -> Result<Look, Er
 #[inline(never)]
 fn several_stars(alloc: Global, side: &[u8]) -> Error
     requires { HasSeveralStars side.now }
-    ensures { MemoryOr (WantsMemory side.now) (IsBadPattern side.now) result }
+    ensures { MemoryOr (NeedsMemory side.now) (IsBadPattern side.now) result }
 {
     match BString::from_slice(alloc, side) {
         Ok(pattern) => Error::PatternUnsupported { pattern },
@@ -163,28 +163,28 @@ fn several_stars(alloc: Global, side: &[u8]) -> Error
 }
 
 // Whether a side has a star; if so it has to be a pattern.
-fn starred(alloc: Global, side: &[u8]) -> Result<Side, Error>
-    ensures ok { IfOk result (IsSide side.now) }
-    ensures err { IfErr result (MemoryOr (WantsMemory side.now) (IsBadPattern side.now)) }
+fn starred(alloc: Global, side: &[u8]) -> Result<Shape, Error>
+    ensures ok { IfOk result (HasShape side.now) }
+    ensures err { IfErr result (MemoryOr (NeedsMemory side.now) (IsBadPattern side.now)) }
 {
     match look_at(alloc, side)? {
-        Look::Name | Look::Other(_) => Ok(Side::Plain),
-        Look::Pattern => Ok(Side::Pattern),
+        Look::Name | Look::Other(_) => Ok(Shape::Plain),
+        Look::Pattern => Ok(Shape::Pattern),
     }
 }
 
 // Whether a side has a star; a side that isn't empty has to be a name or a pattern.
 #[inline(always)]
-fn checked(alloc: Global, side: &[u8]) -> Result<Side, Error>
-    ensures ok { IfOk result (IsCheckedSide side.now) }
-    ensures err { IfErr result (MemoryOr (WantsMemory side.now) (IsBadSide side.now)) }
+fn checked(alloc: Global, side: &[u8]) -> Result<Shape, Error>
+    ensures ok { IfOk result (HasCheckedShape side.now) }
+    ensures err { IfErr result (MemoryOr (NeedsMemory side.now) (IsBadSide side.now)) }
 {
     if side.is_empty() {
-        return Ok(Side::Plain);
+        return Ok(Shape::Plain);
     }
     match look_at(alloc, side)? {
-        Look::Name => Ok(Side::Plain),
-        Look::Pattern => Ok(Side::Pattern),
+        Look::Name => Ok(Shape::Plain),
+        Look::Pattern => Ok(Shape::Pattern),
         Look::Other(fault) => Err(Error::ReferenceName(fault)),
     }
 }

@@ -7,7 +7,7 @@ ghost use Rattle.std.specs.Cmp.Lexicographic.{pointwise, slice_cmp, lists_ties, 
 ghost use Rattle.std.specs.Cmp.{partial_equiv_from_equiv, on_per, on_equiv, on_po, on_total};
 ghost use Rattle.gix_refspec.specs.Specs.Meaning.{meaning_of};
 ghost use Rattle.gix_refspec.specs.Specs.Order.{is_same as is_same_of, order, writes, writes_of};
-ghost use Rattle.gix_refspec.specs.Views.Instruction.{shown};
+ghost use Rattle.gix_refspec.specs.Views.Instruction.{meaning_of_instruction};
 ghost use Rattle.gix_refspec.specs.Views.Spec.{key_of_spec, key_of_owned, reading_of, owned_reading_of};
 ghost use Rattle.gix_refspec.specs.Laws.Order.{keys_equiv, keys_total, keys_po, meanings_alike};
 
@@ -18,14 +18,14 @@ use std::hash::{Hash, Hasher};
 
 // Whether two instructions are the same.
 fn is_same(a: Instruction<'_>, b: Instruction<'_>) -> bool
-    ensures { result ≡ is_same_of (shown a.entry) (shown b.entry) }
+    ensures { result ≡ is_same_of (meaning_of_instruction a.entry) (meaning_of_instruction b.entry) }
 {
     a == b
 }
 
 // How two instructions compare.
 fn compare(a: Instruction<'_>, b: Instruction<'_>) -> Ordering
-    ensures { result ≡ order (shown a.entry) (shown b.entry) }
+    ensures { result ≡ order (meaning_of_instruction a.entry) (meaning_of_instruction b.entry) }
 {
     a.cmp(&b)
 }
@@ -138,7 +138,7 @@ impl Hash for RefSpec {
 
 // Hashes an instruction.
 fn feed<H: Hasher>(a: Instruction<'_>, state: &mut H)
-    ensures { state.new ≡ fold H.write state.old (writes_of (shown a.entry)) }
+    ensures { state.new ≡ fold H.write state.old (writes_of (meaning_of_instruction a.entry)) }
 {
     a.hash(state);
 }

@@ -5,8 +5,8 @@ ghost use Rattle.std.specs.Io.KnownBytes.{Appends};
 ghost use Rattle.bstr.specs.Owned.{bstring_bytes};
 ghost use Rattle.gix_refspec.specs.Texts.Bytes.{colon};
 ghost use Rattle.gix_refspec.specs.Specs.Meaning.{sign as sign_of, text_of};
-ghost use Rattle.gix_refspec.specs.Views.Instruction.{shown, shown_push, shown_fetch};
-ghost use Rattle.gix_refspec.specs.Private.Pieces.{joined, optional_byte};
+ghost use Rattle.gix_refspec.specs.Views.Instruction.{meaning_of_instruction, meaning_of_push, meaning_of_fetch};
+ghost use Rattle.gix_refspec.specs.Private.Pieces.{text_of_pieces, optional_byte};
 
 use crate::instruction::{Fetch, Push};
 use crate::spec::RefSpecRef;
@@ -35,7 +35,7 @@ impl<'a> Instruction<'a> {
     /// The canonical text of the instruction. Of an instruction that a caller made it need not be the
     /// text of a refspec. Fails if memory runs out.
     pub fn to_bstring(&self, alloc: Global) -> Result<BString, AllocError>
-        ensures { IfOk result (λ text. bstring_bytes text ≡ text_of (shown self.now)) }
+        ensures { IfOk result (λ text. bstring_bytes text ≡ text_of (meaning_of_instruction self.now)) }
     {
         let pieces = self.pieces();
         let mut text = Vec::with_capacity(alloc, pieces.len())?;
@@ -54,7 +54,7 @@ impl<'a> Instruction<'a> {
     /// fails; a part of the text may then have been written.
     pub fn write_to<W: Write>(&self, out: &mut W) -> io::Result<()>
         ensures { OnOk result (Appends
-            (W.contents out.old) (W.contents out.new) (text_of (shown self.now))) }
+            (W.contents out.old) (W.contents out.new) (text_of (meaning_of_instruction self.now))) }
     {
         let pieces = self.pieces();
         if let Some(sign) = pieces.sign {
@@ -70,7 +70,7 @@ impl<'a> Instruction<'a> {
 
     // The pieces whose text is the instruction's.
     fn pieces(&self) -> Pieces<'a>
-        ensures { joined result ≡ text_of (shown self.now) }
+        ensures { text_of_pieces result ≡ text_of (meaning_of_instruction self.now) }
     {
         match *self {
             Instruction::Push(push) => push.pieces(),
@@ -82,7 +82,7 @@ impl<'a> Instruction<'a> {
 impl<'a> Push<'a> {
     // The pieces whose text is the push's.
     fn pieces(self) -> Pieces<'a>
-        ensures { joined result ≡ text_of (shown_push self.entry) }
+        ensures { text_of_pieces result ≡ text_of (meaning_of_push self.entry) }
     {
         match self {
             Push::AllMatchingBranches {
@@ -106,7 +106,7 @@ impl<'a> Push<'a> {
 impl<'a> Fetch<'a> {
     // The pieces whose text is the fetch's.
     fn pieces(self) -> Pieces<'a>
-        ensures { joined result ≡ text_of (shown_fetch self.entry) }
+        ensures { text_of_pieces result ≡ text_of (meaning_of_fetch self.entry) }
     {
         match self {
             // A source that begins with `+` would lose it as a sign.
@@ -127,7 +127,7 @@ impl<'a> Fetch<'a> {
 impl<'a> Pieces<'a> {
     // One side behind a sign.
     fn of_one(sign: Option<u8>, source: &'a [u8]) -> Pieces<'a>
-        ensures { joined result ≡ optional_byte sign ++ source.now }
+        ensures { text_of_pieces result ≡ optional_byte sign ++ source.now }
     {
         Pieces {
             sign,
@@ -138,7 +138,7 @@ impl<'a> Pieces<'a> {
 
     // Two sides round a colon.
     fn of_two(forced: bool, source: &'a [u8], destination: &'a [u8]) -> Pieces<'a>
-        ensures { joined result ≡ sign_of forced ++ (source.now ++ (colon ∷ destination.now)) }
+        ensures { text_of_pieces result ≡ sign_of forced ++ (source.now ++ (colon ∷ destination.now)) }
     {
         Pieces {
             sign: sign(forced),
@@ -149,8 +149,8 @@ impl<'a> Pieces<'a> {
 
     // How many bytes the text has, where it can be told.
     fn len(self) -> usize
-        ensures { length (joined self.entry) ≤ 18446744073709551615 →
-            result ≡ length (joined self.entry) }
+        ensures { length (text_of_pieces self.entry) ≤ 18446744073709551615 →
+            result ≡ length (text_of_pieces self.entry) }
     {
         let sign = if self.sign.is_some() { 1 } else { 0 };
         let destination = match self.destination {

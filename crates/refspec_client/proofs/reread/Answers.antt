@@ -5,7 +5,7 @@ use Rattle.bstr.specs.BStr.{bstr_bytes}
 use Rattle.gix_refspec.specs.declared.parsing.Operation.{Operation}
 use Rattle.gix_refspec.specs.Specs.Reading.{Reading}
 use Rattle.gix_refspec.specs.Specs.Meaning.{printed}
-use Rattle.gix_refspec.specs.Views.Instruction.{shown}
+use Rattle.gix_refspec.specs.Views.Instruction.{meaning_of_instruction}
 use Rattle.gix_refspec.specs.Views.Spec.{reading_of}
 use Rattle.refspec_client.specs.Claims.{IsRefspec, ReadsOnlyAs, IsReadAgain}
 use Rattle.refspec_client.proofs.ClaimLemmas.{printed_is_refspec, printed_is_equal}
@@ -15,7 +15,7 @@ pub unreachable-requires : goal.unreachable-requires
 unreachable-requires c =
     let r = reading_of c.args.spec.now in
     let text = bstr_bytes c.as_bstr.result in
-    let same = c.operation.ensures ∙ c.says_for_operation.ensures (shown c.instruction.result) c.instruction.ensures in
+    let same = c.operation.ensures ∙ c.says_for_operation.ensures (meaning_of_instruction c.instruction.result) c.instruction.ensures in
     let is : printed r ≡ Some text = c.in_ok-text.ensures ∙ ap Some (sym c.as_bstr.ensures) in
     let none : ¬ (IsRefspec c.operation.result text) = rw c.in-None.is at c.in_ok-again.ensures.ok in
     none (printed_is_refspec c.operation.result r text c.spec_reads_back.ensures same is)
@@ -25,7 +25,7 @@ returns c =
     let r = reading_of c.args.spec.now in
     let q = reading_of c.in-Some.again in
     let text = bstr_bytes c.as_bstr.result in
-    let same = c.operation.ensures ∙ c.says_for_operation.ensures (shown c.instruction.result) c.instruction.ensures in
+    let same = c.operation.ensures ∙ c.says_for_operation.ensures (meaning_of_instruction c.instruction.result) c.instruction.ensures in
     let is : printed r ≡ Some text = c.in_ok-text.ensures ∙ ap Some (sym c.as_bstr.ensures) in
     let reads : ReadsOnlyAs c.operation.result text q = rw c.in-Some.is at c.in_ok-again.ensures.ok in
     let equal = printed_is_equal c.operation.result r q text c.spec_reads_back.ensures same is reads c.equal_specs.ensures.text in

@@ -12,7 +12,7 @@ use Rattle.gix_refspec.specs.Matching.Match.{Ref}
 use Rattle.gix_refspec.specs.Matching.Lists.{IsMadeFrom, IsJoinedFrom}
 use Rattle.gix_refspec.specs.Matching.Mappings.{Mapped, IsSamePair, HasPair, IsKept}
 use Rattle.gix_refspec.specs.Matching.Hits.{Ends, Hit, IsHit, AreHits, AreSpecHits}
-use Rattle.gix_refspec.specs.Private.HitViews.{HasEnds, HaveKinds, TakesIn, AreHitsOfKinds, AddsHits, AreFirst, AreKept, made_in, mapping_of}
+use Rattle.gix_refspec.specs.Private.HitViews.{HasEnds, HaveKinds, TakesIn, AreHitsOfKinds, AddsHits, AreIdMappings, AreKept, mapped_of_made, mapping_of}
 use Rattle.gix_refspec.specs.Private.Kept.{IsFlagged}
 use Rattle.gix_refspec.specs.Private.EqualSpecs.{HaveSameSides, IsEqualAt, FlagsEqual, Thins, AddsMost, AreMostMade}
 use Rattle.gix_refspec.proofs.lemmas.hits.HitLemmas.{spec_hits}
@@ -114,7 +114,7 @@ most_spec direction specs items i s kinds old mid new below is so_far (ends, has
   some = so_far.some ++ of_hits direction here.hits;
   are = spec_hits direction specs items i s so_far.hits here.hits below is so_far.are (inl (ends, has, here.are ends have));
   thins = thins_more direction so_far.hits here.hits so_far.some (of_hits direction here.hits) so_far.thins (thins_all (of_hits direction so_far.hits) (of_hits direction here.hits));
-  all = here.all ∙ ap (λ (l : List Mapped). l ++ of_hits direction here.hits) so_far.all ∙ append_assoc (made_in direction old) so_far.some (of_hits direction here.hits);
+  all = here.all ∙ ap (λ (l : List Mapped). l ++ of_hits direction here.hits) so_far.all ∙ append_assoc (mapped_of_made direction old) so_far.some (of_hits direction here.hits);
 }
 
 -- a spec without ends adds nothing
@@ -164,9 +164,9 @@ thins_behind front before (m ∷ l) some (inl (rest, is, thins)) = inl (rest, is
 thins_behind front before (m ∷ l) some (inr (has, thins)) = inr (pair_right front before m has, subst (λ (b : List Mapped). Thins b l some) (sym (append_assoc front before (m ∷ []))) (thins_behind front (before ++ m ∷ []) l some thins))
 
 -- what comes first, and the hits behind it but for some repeats
-pub most_made : (direction : Direction) (g : List Reading) (items : List Ref) (old new : Made) → AreFirst direction g (made_in direction old) → AddsMost direction (AreHits (HasEnds direction) (TakesIn direction items) g items) old new → AreMostMade direction g items (made_in direction new)
+pub most_made : (direction : Direction) (g : List Reading) (items : List Ref) (old new : Made) → AreIdMappings direction g (mapped_of_made direction old) → AddsMost direction (AreHits (HasEnds direction) (TakesIn direction items) g items) old new → AreMostMade direction g items (mapped_of_made direction new)
 most_made Forward g items old new first adds =
-    let ids = made_in Forward old in
+    let ids = mapped_of_made Forward old in
     let thins : Thins ids (of_hits Forward adds.hits) adds.some = subst (λ (b : List Mapped). Thins b (of_hits Forward adds.hits) adds.some) (append-nil ids) (thins_behind ids [] (of_hits Forward adds.hits) adds.some adds.thins) in
     record {
       all = ids ++ of_hits Forward adds.hits;

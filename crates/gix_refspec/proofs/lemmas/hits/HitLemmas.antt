@@ -26,11 +26,11 @@ use Rattle.gix_refspec.specs.Views.Spec.{reading_of}
 use Rattle.gix_refspec.specs.Matching.Side.{SideKind, pattern, full_name, object, partial, HasKind, Fits, IsCandidate, candidates, filled}
 use Rattle.gix_refspec.specs.Matching.Match.{Ref, MatchesAs, Matches, HasName, IsFirstCandidate, Takes}
 use Rattle.gix_refspec.specs.Matching.Lists.{MakesOf, IsMadeFrom}
-use Rattle.gix_refspec.specs.Matching.Mappings.{Mapped, IsKept, Stays}
+use Rattle.gix_refspec.specs.Matching.Mappings.{Mapped, IsKept, IsKeptAt}
 use Rattle.gix_refspec.specs.Views.Group.{name_bytes, mapped_of, ref_of}
 use Rattle.gix_refspec.specs.Matching.Hits.{Ends, OneForward, OneBackward, IsIdMapping, AreForward, AreBackward, forward_of, backward_of, AreForwardEnds, AreBackwardEnds, AreSpecHits, AreHits, Hit, IsHit, IsFilled}
-use Rattle.gix_refspec.specs.Private.SideViews.{shown_kind}
-use Rattle.gix_refspec.specs.Private.HitViews.{AsksForId, word_of, IsPlace, HasKindShown, HaveKinds, HasEnds, TakesIn, IsFirstIn, TakesEach, filled_end, AreHitsOfKinds, HasHit, mapping_of, made_in, AddsHits, AreFirst, AreMade}
+use Rattle.gix_refspec.specs.Private.SideViews.{kind_of_side}
+use Rattle.gix_refspec.specs.Private.HitViews.{AsksForId, word_of, IsFolder, HasSideKind, HaveKinds, HasEnds, TakesIn, IsFirstIn, TakesEach, filled_end, AreHitsOfKinds, HasHit, mapping_of, mapped_of_made, AddsHits, AreIdMappings, AreMade}
 use Rattle.gix_refspec.specs.Matching.Mappings as mappings
 use Rattle.gix_refspec.proofs.lemmas.texts.ObjectIdLemmas.{IsIdText-unique}
 use Rattle.gix_refspec.proofs.lemmas.specs.AcceptedLemmas.{accepted_few}
@@ -66,7 +66,7 @@ has_place n (x ∷ xs) (inr one) = let rest = has_place n xs one in (x ∷ rest.
 
 -- one of these stands before the partial name
 abbrev IsPlaced : List ℕ → List ℕ → Type 0
-IsPlaced x n = (before : List ℕ) × IsPlace before × (n ≡ before ++ x)
+IsPlaced x n = (before : List ℕ) × IsFolder before × (n ≡ before ++ x)
 
 of_one : (x n : List ℕ) → IsOneOf n (candidates x) → IsPlaced x n ⊎ (n ≡ codes "refs/remotes/" ++ (x ++ codes "/HEAD"))
 of_one x n (inl same) = inl ([], inl refl, same)
@@ -78,21 +78,21 @@ of_one x n (inr (inr (inr (inr (inr (inl same)))))) = inr same
 of_one x n (inr (inr (inr (inr (inr (inr none)))))) = absurd none
 
 -- each candidate has the partial name at its end, or is the head of a remote
-pub candidate_cases : (x n : List ℕ) → IsCandidate x n → ((before : List ℕ) × IsPlace before × (n ≡ before ++ x)) ⊎ (n ≡ codes "refs/remotes/" ++ (x ++ codes "/HEAD"))
+pub candidate_cases : (x n : List ℕ) → IsCandidate x n → ((before : List ℕ) × IsFolder before × (n ≡ before ++ x)) ⊎ (n ≡ codes "refs/remotes/" ++ (x ++ codes "/HEAD"))
 candidate_cases x n one = of_one x n (one_at n (candidates x) one.earlier one.later one.here)
 
 -- and these are candidates
 candidate_at : (x n : List ℕ) → IsOneOf n (candidates x) → IsCandidate x n
 candidate_at x n one = let at = has_place n (candidates x) one in record { earlier = at.0; later = at.1.0; here = at.1.1 }
 
-of_place : (x n before : List ℕ) → IsPlace before → n ≡ before ++ x → IsOneOf n (candidates x)
+of_place : (x n before : List ℕ) → IsFolder before → n ≡ before ++ x → IsOneOf n (candidates x)
 of_place x n before (inl e) same = inl (same ∙ ap (λ y. y ++ x) e)
 of_place x n before (inr (inl e)) same = inr (inl (same ∙ ap (λ y. y ++ x) e))
 of_place x n before (inr (inr (inl e))) same = inr (inr (inl (same ∙ ap (λ y. y ++ x) e)))
 of_place x n before (inr (inr (inr (inl e)))) same = inr (inr (inr (inl (same ∙ ap (λ y. y ++ x) e))))
 of_place x n before (inr (inr (inr (inr e)))) same = inr (inr (inr (inr (inl (same ∙ ap (λ y. y ++ x) e)))))
 
-pub placed_candidate : (x n before : List ℕ) → IsPlace before → n ≡ before ++ x → IsCandidate x n
+pub placed_candidate : (x n before : List ℕ) → IsFolder before → n ≡ before ++ x → IsCandidate x n
 placed_candidate x n before place same = candidate_at x n (of_place x n before place same)
 
 pub remote_candidate : (x n : List ℕ) → n ≡ codes "refs/remotes/" ++ (x ++ codes "/HEAD") → IsCandidate x n
@@ -195,17 +195,17 @@ matched_taken Forward (partial x) items before r after word here matches =
 matched_taken Backward (partial x) items before r after word here matches = record { before = before; ref = r; after = after; here = here; word = word; matches = matches; first = tt }
 
 -- a far end becomes what its kind says
-far_filled : (x : Option (List ℕ)) (k : Option DeclaredKind) (word n : Option (List ℕ)) → HasKindShown x k → n ≡ filled_end k word → IsFilled x word n
+far_filled : (x : Option (List ℕ)) (k : Option DeclaredKind) (word n : Option (List ℕ)) → HasSideKind x k → n ≡ filled_end k word → IsFilled x word n
 far_filled None None word n kind same = same
 far_filled None (Some k) word n kind same = absurd kind
 far_filled (Some x) None word n kind same = absurd kind
-far_filled (Some x) (Some k) word n kind same = (shown_kind k, kind, same)
+far_filled (Some x) (Some k) word n kind same = (kind_of_side k, kind, same)
 
 -- what is made where an end of the kinds takes an item
-pub is_hit : (direction : Direction) (items : List Ref) (ends : Ends) (kinds : DeclaredEnds) (k j : ℕ) (r : Ref) (word : Option (List ℕ)) (hit : Hit) → HaveKinds ends kinds → MatchesAs (shown_kind kinds.near) r word → IsFirstIn (shown_kind kinds.near) direction items r.name → hit.far ≡ filled_end kinds.far word → hit.near ≡ r.name → hit.spec ≡ k → hit.item ≡ j → IsHit (TakesIn direction items) ends k j r hit
+pub is_hit : (direction : Direction) (items : List Ref) (ends : Ends) (kinds : DeclaredEnds) (k j : ℕ) (r : Ref) (word : Option (List ℕ)) (hit : Hit) → HaveKinds ends kinds → MatchesAs (kind_of_side kinds.near) r word → IsFirstIn (kind_of_side kinds.near) direction items r.name → hit.far ≡ filled_end kinds.far word → hit.near ≡ r.name → hit.spec ≡ k → hit.item ≡ j → IsHit (TakesIn direction items) ends k j r hit
 is_hit direction items ends kinds k j r word hit have matches first far near spec item = record {
   word = word;
-  takes = takes_in direction items ends.near (shown_kind kinds.near) r word have.near matches first;
+  takes = takes_in direction items ends.near (kind_of_side kinds.near) r word have.near matches first;
   far = far_filled ends.far kinds.far word hit.far have.far far;
   near = near;
   spec = spec;
@@ -213,47 +213,47 @@ is_hit direction items ends kinds k j r word hit have matches first far near spe
 }
 
 -- one more item, which is hit
-pub hit_added : (direction : Direction) (kinds : DeclaredEnds) (k : ℕ) (items : List Ref) (i : ℕ) (so_far : List Ref) (r : Ref) (hits : List Hit) (word : Option (List ℕ)) (hit : Hit) → length so_far ≡ i → AreHitsOfKinds direction kinds k items so_far hits → MatchesAs (shown_kind kinds.near) r word → IsFirstIn (shown_kind kinds.near) direction items r.name → hit.far ≡ filled_end kinds.far word → hit.near ≡ r.name → hit.spec ≡ k → hit.item ≡ i → AreHitsOfKinds direction kinds k items (so_far ++ r ∷ []) (hits ++ hit ∷ [])
+pub hit_added : (direction : Direction) (kinds : DeclaredEnds) (k : ℕ) (items : List Ref) (i : ℕ) (so_far : List Ref) (r : Ref) (hits : List Hit) (word : Option (List ℕ)) (hit : Hit) → length so_far ≡ i → AreHitsOfKinds direction kinds k items so_far hits → MatchesAs (kind_of_side kinds.near) r word → IsFirstIn (kind_of_side kinds.near) direction items r.name → hit.far ≡ filled_end kinds.far word → hit.near ≡ r.name → hit.spec ≡ k → hit.item ≡ i → AreHitsOfKinds direction kinds k items (so_far ++ r ∷ []) (hits ++ hit ∷ [])
 hit_added direction kinds k items i so_far r hits word hit long are matches first far near spec item = λ ends have.
     made_next (IsHit (TakesIn direction items) ends k) i so_far r hits (Some hit) long (are ends have) (is_hit direction items ends kinds k i r word hit have matches first far near spec item)
 
 -- one more item, which isn't hit
-pub hit_missed : (direction : Direction) (kinds : DeclaredEnds) (k : ℕ) (items : List Ref) (i : ℕ) (so_far : List Ref) (r : Ref) (hits : List Hit) → length so_far ≡ i → AreHitsOfKinds direction kinds k items so_far hits → ((word : Option (List ℕ)) → ¬ (MatchesAs (shown_kind kinds.near) r word)) → AreHitsOfKinds direction kinds k items (so_far ++ r ∷ []) hits
+pub hit_missed : (direction : Direction) (kinds : DeclaredEnds) (k : ℕ) (items : List Ref) (i : ℕ) (so_far : List Ref) (r : Ref) (hits : List Hit) → length so_far ≡ i → AreHitsOfKinds direction kinds k items so_far hits → ((word : Option (List ℕ)) → ¬ (MatchesAs (kind_of_side kinds.near) r word)) → AreHitsOfKinds direction kinds k items (so_far ++ r ∷ []) hits
 hit_missed direction kinds k items i so_far r hits long are none = λ ends have.
     subst (IsMadeFrom (IsHit (TakesIn direction items) ends k) 0 (so_far ++ r ∷ [])) (append-nil hits)
-    (made_next (IsHit (TakesIn direction items) ends k) i so_far r hits None long (are ends have) (λ hit is. none is.word (matches_as ends.near (shown_kind kinds.near) r is.word have.near (taken_matches direction items ends.near r is.word is.takes))))
+    (made_next (IsHit (TakesIn direction items) ends k) i so_far r hits None long (are ends have) (λ hit is. none is.word (matches_as ends.near (kind_of_side kinds.near) r is.word have.near (taken_matches direction items ends.near r is.word is.takes))))
 
 -- where an item is matched, one is hit
-pub some_hit : (kinds : DeclaredEnds) (before : List Ref) (r : Ref) (after : List Ref) (word : Option (List ℕ)) → MatchesAs (shown_kind kinds.near) r word → HasHit kinds (before ++ (r ∷ after))
+pub some_hit : (kinds : DeclaredEnds) (before : List Ref) (r : Ref) (after : List Ref) (word : Option (List ℕ)) → MatchesAs (kind_of_side kinds.near) r word → HasHit kinds (before ++ (r ∷ after))
 some_hit kinds before r after word matches = λ direction ends k have none.
     let items = before ++ (r ∷ after) in
-    let at = matched_taken direction (shown_kind kinds.near) items before r after word refl matches in
+    let at = matched_taken direction (kind_of_side kinds.near) items before r after word refl matches in
     let hit : Hit = record { spec = k; item = 0 + length at.before; near = at.ref.name; far = filled_end kinds.far at.word } in
     let taken : List Ref → Type 0 = λ l. IsMadeFrom (IsHit (TakesIn direction items) ends k) 0 l [] in
     nothing_made (IsHit (TakesIn direction items) ends k) 0 at.before at.ref at.after hit (subst taken at.here none) (is_hit direction items ends kinds k (0 + length at.before) at.ref at.word hit have at.matches at.first refl refl refl refl)
 
 -- an item that matches adds its hit, where the side takes each such item
-pub adds_hit : (direction : Direction) (kinds : DeclaredEnds) (k : ℕ) (xs : List Item) (i : ℕ) (d : Item) (old mid new : Made) (found : Match) (far : Option NameRef) → TakesEach (shown_kind kinds.near) → i < length xs
+pub adds_hit : (direction : Direction) (kinds : DeclaredEnds) (k : ℕ) (xs : List Item) (i : ℕ) (d : Item) (old mid new : Made) (found : Match) (far : Option NameRef) → TakesEach (kind_of_side kinds.near) → i < length xs
     → AddsHits direction (AreHitsOfKinds direction kinds k (map ref_of xs) (map ref_of (take i xs))) old mid
-    → MatchesAs (shown_kind kinds.near) (ref_of (get_or xs i d)) (word_of found)
+    → MatchesAs (kind_of_side kinds.near) (ref_of (get_or xs i d)) (word_of found)
     → option_map name_bytes far ≡ filled_end kinds.far (word_of found)
-    → made_in direction new ≡ made_in direction mid ++ mapping_of direction (record { spec = k; item = i; near = bstr_bytes ((get_or xs i d).full_ref_name); far = option_map name_bytes far }) ∷ []
+    → mapped_of_made direction new ≡ mapped_of_made direction mid ++ mapping_of direction (record { spec = k; item = i; near = bstr_bytes ((get_or xs i d).full_ref_name); far = option_map name_bytes far }) ∷ []
     → AddsHits direction (AreHitsOfKinds direction kinds k (map ref_of xs) (map ref_of (take (i + 1) xs))) old new
 adds_hit direction kinds k xs i d old mid new found far each below so_far matches filled more =
     let r : Ref = ref_of (get_or xs i d) in
     let hit : Hit = record { spec = k; item = i; near = r.name; far = option_map name_bytes far } in
     let items = map ref_of xs in
-    let are : AreHitsOfKinds direction kinds k items (map ref_of (take i xs) ++ r ∷ []) (so_far.hits ++ hit ∷ []) = hit_added direction kinds k items i (map ref_of (take i xs)) r so_far.hits (word_of found) hit (map_long ref_of xs i below) so_far.are matches (each_first (shown_kind kinds.near) direction items r.name each) filled refl refl refl in
+    let are : AreHitsOfKinds direction kinds k items (map ref_of (take i xs) ++ r ∷ []) (so_far.hits ++ hit ∷ []) = hit_added direction kinds k items i (map ref_of (take i xs)) r so_far.hits (word_of found) hit (map_long ref_of xs i below) so_far.are matches (each_first (kind_of_side kinds.near) direction items r.name each) filled refl refl refl in
     record {
       hits = so_far.hits ++ hit ∷ [];
       are = subst (λ l. AreHitsOfKinds direction kinds k items l (so_far.hits ++ hit ∷ [])) (sym (map_more ref_of xs i d below)) are;
-      all = more ∙ ap (λ l. l ++ mapping_of direction hit ∷ []) so_far.all ∙ append_assoc (made_in direction old) (map (mapping_of direction) so_far.hits) (mapping_of direction hit ∷ []) ∙ ap (λ l. made_in direction old ++ l) (sym (map-append (mapping_of direction) so_far.hits (hit ∷ [])));
+      all = more ∙ ap (λ l. l ++ mapping_of direction hit ∷ []) so_far.all ∙ append_assoc (mapped_of_made direction old) (map (mapping_of direction) so_far.hits) (mapping_of direction hit ∷ []) ∙ ap (λ l. mapped_of_made direction old ++ l) (sym (map-append (mapping_of direction) so_far.hits (hit ∷ [])));
     }
 
 -- another item adds nothing
 pub adds_nothing : (direction : Direction) (kinds : DeclaredEnds) (k : ℕ) (xs : List Item) (i : ℕ) (d : Item) (old mid : Made) → i < length xs
     → AddsHits direction (AreHitsOfKinds direction kinds k (map ref_of xs) (map ref_of (take i xs))) old mid
-    → ((word : Option (List ℕ)) → ¬ (MatchesAs (shown_kind kinds.near) (ref_of (get_or xs i d)) word))
+    → ((word : Option (List ℕ)) → ¬ (MatchesAs (kind_of_side kinds.near) (ref_of (get_or xs i d)) word))
     → AddsHits direction (AreHitsOfKinds direction kinds k (map ref_of xs) (map ref_of (take (i + 1) xs))) old mid
 adds_nothing direction kinds k xs i d old mid below so_far none =
     let r : Ref = ref_of (get_or xs i d) in
@@ -265,7 +265,7 @@ adds_nothing direction kinds k xs i d old mid below so_far none =
     }
 
 -- where the item at a place is matched, one is hit
-pub item_hit : (kinds : DeclaredEnds) (xs : List Item) (i : ℕ) (d : Item) (found : Match) → i < length xs → MatchesAs (shown_kind kinds.near) (ref_of (get_or xs i d)) (word_of found) → HasHit kinds (map ref_of xs)
+pub item_hit : (kinds : DeclaredEnds) (xs : List Item) (i : ℕ) (d : Item) (found : Match) → i < length xs → MatchesAs (kind_of_side kinds.near) (ref_of (get_or xs i d)) (word_of found) → HasHit kinds (map ref_of xs)
 item_hit kinds xs i d found below matches = subst (HasHit kinds) (sym (map_cut ref_of xs i d below)) (some_hit kinds (map ref_of (take i xs)) (ref_of (get_or xs i d)) (map ref_of (drop (suc i) xs)) (word_of found) matches)
 
 -- each side of an accepted reading has one star at the most
@@ -274,7 +274,7 @@ few_side r None accepted one = tt
 few_side r (Some s) accepted one = accepted_few r (bstr_bytes s) accepted (one (bstr_bytes s) refl)
 
 -- the side that has a kind
-side_shown : (side : Option (List ℕ)) (k : DeclaredKind) → HasKindShown side (Some k) → (text : List ℕ) × (side ≡ Some text) × HasKind text (shown_kind k)
+side_shown : (side : Option (List ℕ)) (k : DeclaredKind) → HasSideKind side (Some k) → (text : List ℕ) × (side ≡ Some text) × HasKind text (kind_of_side k)
 side_shown None k kind = absurd kind
 side_shown (Some text) k kind = (text, refl, kind)
 
@@ -282,25 +282,25 @@ same_side : (side : Option (List ℕ)) (x y : List ℕ) → side ≡ Some x → 
 same_side side x y of_x of_y = cc
 
 -- the source is an id
-pub no_forward_ends : (r : Reading) (ends : Ends) (id : ObjectId) → HasKindShown r.source (Some (Object id)) → AreForwardEnds r ends → ⊥
+pub no_forward_ends : (r : Reading) (ends : Ends) (id : ObjectId) → HasSideKind r.source (Some (Object id)) → AreForwardEnds r ends → ⊥
 no_forward_ends r ends id kind are =
     let side = side_shown r.source (Object id) kind in
     are.no_object (id_bytes id) (subst (λ x. HasKind x (object (id_bytes id))) (same_side r.source side.0 ends.near side.1 are.near) side.2)
 
 -- no other kind is shown as an id
-only_object : (k : DeclaredKind) (bytes : List ℕ) → ((id : ObjectId) → k ≢ Object id) → shown_kind k ≡ object bytes → ⊥
+only_object : (k : DeclaredKind) (bytes : List ℕ) → ((id : ObjectId) → k ≢ Object id) → kind_of_side k ≡ object bytes → ⊥
 only_object (Pattern before after) bytes other same = cc
 only_object (FullName n) bytes other same = cc
 only_object (Object id) bytes other same = other id refl
 only_object (Partial n) bytes other same = cc
 
-pub forward_ends : (r : Reading) (k : DeclaredKind) (far : Option DeclaredKind) → IsPositive r.mode → HasKindShown r.source (Some k) → HasKindShown r.destination far → ((id : ObjectId) → k ≢ Object id) → (ends : Ends) × AreForwardEnds r ends × HaveKinds ends (record { near = k; far = far })
+pub forward_ends : (r : Reading) (k : DeclaredKind) (far : Option DeclaredKind) → IsPositive r.mode → HasSideKind r.source (Some k) → HasSideKind r.destination far → ((id : ObjectId) → k ≢ Object id) → (ends : Ends) × AreForwardEnds r ends × HaveKinds ends (record { near = k; far = far })
 forward_ends r k far positive source destination other =
     let side = side_shown r.source k source in
     let ends : Ends = record { near = side.0; far = r.destination } in
-    (ends, record { positive = positive; near = side.1; far = refl; no_object = λ id kind. only_object k id other (one_kind side.0 (shown_kind k) (object id) side.2 kind) }, record { near = side.2; far = destination })
+    (ends, record { positive = positive; near = side.1; far = refl; no_object = λ id kind. only_object k id other (one_kind side.0 (kind_of_side k) (object id) side.2 kind) }, record { near = side.2; far = destination })
 
-pub backward_ends : (r : Reading) (k far : DeclaredKind) → IsPositive r.mode → HasKindShown r.destination (Some k) → HasKindShown r.source (Some far) → (ends : Ends) × AreBackwardEnds r ends × HaveKinds ends (record { near = k; far = Some far })
+pub backward_ends : (r : Reading) (k far : DeclaredKind) → IsPositive r.mode → HasSideKind r.destination (Some k) → HasSideKind r.source (Some far) → (ends : Ends) × AreBackwardEnds r ends × HaveKinds ends (record { near = k; far = Some far })
 backward_ends r k far positive destination source =
     let side = side_shown r.destination k destination in
     let other = side_shown r.source far source in
@@ -322,7 +322,7 @@ adds_both : (direction : Direction) (P Q R : List Hit → Type 0) (old mid new :
 adds_both direction P Q R old mid new join first then = record {
   hits = first.hits ++ then.hits;
   are = join first.hits then.hits first.are then.are;
-  all = then.all ∙ ap (λ l. l ++ map (mapping_of direction) then.hits) first.all ∙ append_assoc (made_in direction old) (map (mapping_of direction) first.hits) (map (mapping_of direction) then.hits) ∙ ap (λ l. made_in direction old ++ l) (sym (map-append (mapping_of direction) first.hits then.hits));
+  all = then.all ∙ ap (λ l. l ++ map (mapping_of direction) then.hits) first.all ∙ append_assoc (mapped_of_made direction old) (map (mapping_of direction) first.hits) (map (mapping_of direction) then.hits) ∙ ap (λ l. mapped_of_made direction old ++ l) (sym (map-append (mapping_of direction) first.hits then.hits));
 }
 
 -- the specs up to a place, with the one there
@@ -371,7 +371,7 @@ specs_hit direction specs items i s kinds below is found some none =
     (nothing_joined (AreSpecHits (HasEnds direction) (TakesIn direction items) items) 0 before (reading_of s) after (subst (λ rs. AreHits (HasEnds direction) (TakesIn direction items) rs items []) (specs_cut specs i s below is) none))
 
 -- what a spec makes that asks for an id
-is_id_mapping : (k : ℕ) (r : Reading) (bytes : List ℕ) (kind : Option DeclaredKind) (m : Mapped) → AsksForId r bytes → HasKindShown r.destination kind → m.item ≡ None → m.source ≡ mappings.id bytes → m.destination ≡ filled_end kind None → m.spec ≡ k → IsIdMapping k r m
+is_id_mapping : (k : ℕ) (r : Reading) (bytes : List ℕ) (kind : Option DeclaredKind) (m : Mapped) → AsksForId r bytes → HasSideKind r.destination kind → m.item ≡ None → m.source ≡ mappings.id bytes → m.destination ≡ filled_end kind None → m.spec ≡ k → IsIdMapping k r m
 is_id_mapping k r bytes kind m asks destination item source becomes spec = record {
   positive = asks.positive;
   text = asks.text;
@@ -393,7 +393,7 @@ specs_made specs i s list made below is so_far here =
 -- a spec that asks for an id adds a mapping
 pub adds_id : (specs : List RefSpecRef) (i : ℕ) (s : RefSpecRef) (asked : Asked) (far : Option NameRef) (old new : List Mapping) → i < length specs → s ≡ get_or specs i s
     → IsMadeFrom IsIdMapping 0 (map reading_of (take i specs)) (map mapped_of old)
-    → AsksForId (reading_of s) (id_bytes asked.id) × HasKindShown (reading_of s).destination asked.destination
+    → AsksForId (reading_of s) (id_bytes asked.id) × HasSideKind (reading_of s).destination asked.destination
     → option_map name_bytes far ≡ filled_end asked.destination None
     → new ≡ old ++ (record { item_index = None; lhs = source_ref.ObjectId asked.id; rhs = far; spec_index = i }) ∷ []
     → IsMadeFrom IsIdMapping 0 (map reading_of (take (i + 1) specs)) (map mapped_of new)
@@ -412,7 +412,7 @@ adds_no_id specs i s list below is so_far none =
     subst (IsMadeFrom IsIdMapping 0 (map reading_of (take (i + 1) specs))) (append-nil list) (specs_made specs i s list None below is so_far (λ m makes. none makes.bytes (record { positive = makes.positive; text = makes.text; side = makes.side; kind = makes.object })))
 
 -- a spec that asks for an id makes some mapping
-pub some_id : (specs : List RefSpecRef) (i : ℕ) (s : RefSpecRef) (asked : Asked) → i < length specs → s ≡ get_or specs i s → AsksForId (reading_of s) (id_bytes asked.id) × HasKindShown (reading_of s).destination asked.destination → ¬ (IsMadeFrom IsIdMapping 0 (map reading_of specs) [])
+pub some_id : (specs : List RefSpecRef) (i : ℕ) (s : RefSpecRef) (asked : Asked) → i < length specs → s ≡ get_or specs i s → AsksForId (reading_of s) (id_bytes asked.id) × HasSideKind (reading_of s).destination asked.destination → ¬ (IsMadeFrom IsIdMapping 0 (map reading_of specs) [])
 some_id specs i s asked below is asks none =
     let before = map reading_of (take i specs) in
     let after = map reading_of (drop (suc i) specs) in
@@ -425,16 +425,16 @@ found_some P Q None some is = absurd (false≢true some)
 found_some P Q (Some x) some is = (x, is)
 
 -- an item that is counted is hit
-pub item_counted : (kinds : DeclaredEnds) (xs : List Item) (i : ℕ) (d : Item) (found : Option Match) → i < length xs → is_some found ≡ true → MatchOption found ((word : Option (List ℕ)) → ¬ (MatchesAs (shown_kind kinds.near) (ref_of (get_or xs i d)) word)) (λ m. MatchesAs (shown_kind kinds.near) (ref_of (get_or xs i d)) (word_of m)) → HasHit kinds (map ref_of xs)
+pub item_counted : (kinds : DeclaredEnds) (xs : List Item) (i : ℕ) (d : Item) (found : Option Match) → i < length xs → is_some found ≡ true → MatchOption found ((word : Option (List ℕ)) → ¬ (MatchesAs (kind_of_side kinds.near) (ref_of (get_or xs i d)) word)) (λ m. MatchesAs (kind_of_side kinds.near) (ref_of (get_or xs i d)) (word_of m)) → HasHit kinds (map ref_of xs)
 item_counted kinds xs i d None below some is = absurd (false≢true some)
 item_counted kinds xs i d (Some m) below some is = item_hit kinds xs i d m below is
 
 -- a source of another kind is no id
-pub no_id : (r : Reading) (k : DeclaredKind) → HasKindShown r.source (Some k) → ((id : ObjectId) → k ≢ Object id) → (bytes : List ℕ) → ¬ (AsksForId r bytes)
+pub no_id : (r : Reading) (k : DeclaredKind) → HasSideKind r.source (Some k) → ((id : ObjectId) → k ≢ Object id) → (bytes : List ℕ) → ¬ (AsksForId r bytes)
 no_id r k kind other bytes asks =
     let side = side_shown r.source k kind in
     let text : asks.text ≡ side.0 = same_side r.source asks.text side.0 asks.side side.1 in
-    only_object k bytes other (one_kind side.0 (shown_kind k) (object bytes) side.2 (subst (λ x. HasKind x (object bytes)) text asks.kind))
+    only_object k bytes other (one_kind side.0 (kind_of_side k) (object bytes) side.2 (subst (λ x. HasKind x (object bytes)) text asks.kind))
 
 -- where there are no mappings, nothing made one
 map_nothing : {A B : Type 0} (f : A → B) (xs : List A) → map f xs ≡ [] → xs ≡ []
@@ -507,7 +507,7 @@ backward_once rs items l m a b = a.all ∙ ap (map backward_of) (hits_once Backw
 -- so the group and the items determine what is kept
 kept_once : (rs : List Reading) (all other l m : List Mapped) → all ≡ other → IsKept rs all l → IsKept rs other m → l ≡ m
 kept_once rs all other l m same a b =
-    made_once (λ k x made. (made ≡ x) × Stays rs all k x) (λ k x y z of_y of_z. of_y.0 ∙ sym of_z.0) 0 all l m a (subst (λ list. IsKept rs list m) (sym same) b)
+    made_once (λ k x made. (made ≡ x) × IsKeptAt rs all k x) (λ k x y z of_y of_z. of_y.0 ∙ sym of_z.0) 0 all l m a (subst (λ list. IsKept rs list m) (sym same) b)
 
 pub one_forward : (rs : List Reading) (items : List Ref) → OneForward rs items
 one_forward rs items l m a b = kept_once rs a.all b.all l m (forward_once rs items a.all b.all a.forward b.forward) a.is b.is
@@ -521,8 +521,8 @@ made_nothing Forward g items l are none = forward_once g items l [] are none
 made_nothing Backward g items l are none = backward_once g items l [] are none
 
 -- what comes first, and the hits behind it, are all the mappings of a direction
-pub all_made : (direction : Direction) (g : List Reading) (items : List Ref) (old new : Made) → AreFirst direction g (made_in direction old) → AddsHits direction (AreHits (HasEnds direction) (TakesIn direction items) g items) old new → AreMade direction g items (made_in direction new)
-all_made Forward g items old new first adds = record { ids = made_in Forward old; hits = adds.hits; are_ids = first; are_hits = adds.are; all = adds.all }
+pub all_made : (direction : Direction) (g : List Reading) (items : List Ref) (old new : Made) → AreIdMappings direction g (mapped_of_made direction old) → AddsHits direction (AreHits (HasEnds direction) (TakesIn direction items) g items) old new → AreMade direction g items (mapped_of_made direction new)
+all_made Forward g items old new first adds = record { ids = mapped_of_made Forward old; hits = adds.hits; are_ids = first; are_hits = adds.are; all = adds.all }
 all_made Backward g items old new first adds = record { hits = adds.hits; are_hits = adds.are; all = adds.all ∙ ap (λ (l : List Mapped). l ++ map (mapping_of Backward) adds.hits) first }
 
 -- where nothing is made, there is no hit
@@ -531,5 +531,5 @@ none_hit Forward g items none = no_forward_hits g items none
 none_hit Backward g items none = no_backward_hits g items none
 
 -- where the direction is known, and its list isn't empty
-pub made_some : (g : List Reading) (items : List Ref) (direction known : Direction) (made : Made) (l : List Mapping) → direction ≡ known → made_in known made ≡ map mapped_of l → l ≢ [] → AreMade direction g items (made_in direction made) → ¬ (AreMade direction g items [])
-made_some g items direction known made l is shown some are none = some (map_nothing mapped_of l (sym (ap (λ (d : Direction). made_in d made) is ∙ shown) ∙ made_nothing direction g items (made_in direction made) are none))
+pub made_some : (g : List Reading) (items : List Ref) (direction known : Direction) (made : Made) (l : List Mapping) → direction ≡ known → mapped_of_made known made ≡ map mapped_of l → l ≢ [] → AreMade direction g items (mapped_of_made direction made) → ¬ (AreMade direction g items [])
+made_some g items direction known made l is shown some are none = some (map_nothing mapped_of l (sym (ap (λ (d : Direction). mapped_of_made d made) is ∙ shown) ∙ made_nothing direction g items (mapped_of_made direction made) are none))

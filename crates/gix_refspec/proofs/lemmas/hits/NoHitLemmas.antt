@@ -12,7 +12,7 @@ use Rattle.gix_refspec.specs.Matching.Match.{Ref, MatchesAs}
 use Rattle.gix_refspec.specs.Matching.Lists.{IsMadeFrom}
 use Rattle.gix_refspec.specs.Views.Group.{ref_of}
 use Rattle.gix_refspec.specs.Matching.Hits.{Ends, AreHits, IsIdMapping}
-use Rattle.gix_refspec.specs.Private.SideViews.{shown_kind}
+use Rattle.gix_refspec.specs.Private.SideViews.{kind_of_side}
 use Rattle.gix_refspec.specs.Private.HitViews.{HaveKinds, HasEnds, TakesIn, HasNoHit, AreHitsOfKinds, AreMade}
 use Rattle.gix_refspec.proofs.lemmas.lists.JoinLemmas.{map_long, map_more}
 use Rattle.gix_refspec.proofs.lemmas.hits.HitLemmas.{hit_missed, no_backward_hits, no_ids, none_hit, spec_hits}
@@ -25,7 +25,7 @@ found_none P Q (Some x) none is = absurd (false≢true (sym none))
 -- one more item that isn't hit
 pub item_missed : (kinds : DeclaredEnds) (xs : List Item) (i : ℕ) (d : Item) → i < length xs
     → HasNoHit kinds (map ref_of xs) (map ref_of (take i xs))
-    → ((word : Option (List ℕ)) → ¬ (MatchesAs (shown_kind kinds.near) (ref_of (get_or xs i d)) word))
+    → ((word : Option (List ℕ)) → ¬ (MatchesAs (kind_of_side kinds.near) (ref_of (get_or xs i d)) word))
     → HasNoHit kinds (map ref_of xs) (map ref_of (take (i + 1) xs))
 item_missed kinds xs i d below so_far none direction spec =
     subst (λ l. AreHitsOfKinds direction kinds spec (map ref_of xs) l []) (sym (map_more ref_of xs i d below))

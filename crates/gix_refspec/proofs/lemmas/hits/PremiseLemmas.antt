@@ -11,14 +11,14 @@ use Rattle.gix_refspec.specs.declared.oid.ObjectId.{ObjectId}
 use Rattle.gix_refspec.specs.declared.side.SideKind.{SideKind as DeclaredKind}
 use Rattle.gix_refspec.specs.declared.side.SideKind.TheVariants as kind
 use Rattle.gix_refspec.specs.declared.spec.RefSpecRef.{RefSpecRef}
-use Rattle.gix_refspec.specs.Texts.Words.{Lacks, Holds, Begins}
+use Rattle.gix_refspec.specs.Texts.Words.{Lacks, Holds, BeginsWith}
 use Rattle.gix_refspec.specs.Texts.Bytes.{star}
 use Rattle.gix_refspec.specs.Texts.Name.{IsCut, HasStar}
 use Rattle.gix_refspec.specs.Specs.Reading.{Reading}
 use Rattle.gix_refspec.specs.Views.Spec.{reading_of}
 use Rattle.gix_refspec.specs.Texts.ObjectId.{id_bytes}
 use Rattle.gix_refspec.specs.Matching.Side.{HasKind}
-use Rattle.gix_refspec.specs.Private.SideViews.{shown_kind}
+use Rattle.gix_refspec.specs.Private.SideViews.{kind_of_side}
 use Rattle.gix_refspec.specs.Matching.Prefix.{TellsPrefix, of_name, of_pattern, IsAsked}
 use Rattle.gix_refspec.specs.Laws.Matching.{IsCovering, by_prefix, by_candidates, HasCoveringSource}
 use Rattle.gix_refspec.proofs.lemmas.texts.TextLemmas.{Lacks-Holds}
@@ -38,7 +38,7 @@ told_no_star x y false lacks _ = ((λ so. absurd (false≢true so)), (λ both. a
 pub told_pattern : (x before after : List ℕ) (r : Bool) → IsCut before after x → IsTrue r ↔ TellsPrefix before after → IsTrue r ↔ IsCovering x
 told_pattern x before after true cut told =
     let tells = told.0 refl in
-    let below : Begins (codes "refs/") x = record { after = tells.below.after ++ (star ∷ after); here = cut.starred ∙ ap (λ (y : List ℕ). y ++ (star ∷ after)) tells.below.here ∙ append_assoc (codes "refs/") tells.below.after (star ∷ after) } in
+    let below : BeginsWith (codes "refs/") x = record { after = tells.below.after ++ (star ∷ after); here = cut.starred ∙ ap (λ (y : List ℕ). y ++ (star ∷ after)) tells.below.here ∙ append_assoc (codes "refs/") tells.below.after (star ∷ after) } in
     ((λ _. by_prefix before below (of_pattern before after cut tells refl)), (λ _. refl))
 told_pattern x before after false cut told = ((λ so. absurd (false≢true so)), never)
   where
@@ -74,7 +74,7 @@ fetch_from_test Fetch test = refl
 fetch_from_test Push test = absurd (false≢true test)
 
 -- a full name and an id are covering
-pub told_name : (x : List ℕ) (k : DeclaredKind) → HasKind x (shown_kind k) → ((n : Bor (List ℕ)) × (k ≡ kind.FullName n)) ⊎ ((i : ObjectId) × (k ≡ kind.Object i)) → IsCovering x
+pub told_name : (x : List ℕ) (k : DeclaredKind) → HasKind x (kind_of_side k) → ((n : Bor (List ℕ)) × (k ≡ kind.FullName n)) ⊎ ((i : ObjectId) × (k ≡ kind.Object i)) → IsCovering x
 told_name x (kind.FullName n) has one = by_prefix x has.2 (of_name has.2 has.1 refl)
 told_name x (kind.Object i) has one = by_candidates has.0 (id_not_head x (id_bytes i) has.2) has.1
 told_name x (kind.Pattern before after) has (inl (n, same)) = absurd (cc)

@@ -6,7 +6,7 @@ use Rattle.std.specs.Prelude.{IsSome}
 use Rattle.std.proofs.lemmas.Bool.{false≢true}
 use Rattle.gix_refspec.specs.declared.match_group.hits.ends.Direction.TheVariants.{Forward, Backward}
 use Rattle.gix_refspec.specs.declared.spec.RefSpecRef.{RefSpecRef}
-use Rattle.gix_refspec.specs.Texts.Words.{Lacks, Begins}
+use Rattle.gix_refspec.specs.Texts.Words.{Lacks, BeginsWith}
 use Rattle.gix_refspec.specs.Texts.Bytes.{star}
 use Rattle.gix_refspec.specs.Texts.Name.{HasStar, HasSeveralStars, HasOneStar, IsCut}
 use Rattle.gix_refspec.specs.Specs.Reading.{Reading}
@@ -68,7 +68,7 @@ starred x = elim (lacks_or_first star x) [
 ]
 
 -- two sides that both begin `refs/`, or both have a star
-twins : (x y : List ℕ) → ¬ (HasSeveralStars x) → ¬ (HasSeveralStars y) → ¬ (IsOneStarred x y) → (HasStar x × HasStar y) ⊎ (Begins (codes "refs/") x × Begins (codes "refs/") y) → AreTwins x y
+twins : (x y : List ℕ) → ¬ (HasSeveralStars x) → ¬ (HasSeveralStars y) → ¬ (IsOneStarred x y) → (HasStar x × HasStar y) ⊎ (BeginsWith (codes "refs/") x × BeginsWith (codes "refs/") y) → AreTwins x y
 twins x y few_x few_y balanced (inl stars) = patterns (one_star x stars.0 few_x) (one_star y stars.1 few_y)
 twins x y few_x few_y balanced (inr below) = by_stars (starred x) (starred y)
   where

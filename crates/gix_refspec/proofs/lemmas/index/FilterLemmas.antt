@@ -9,7 +9,7 @@ use Rattle.std.proofs.lemmas.List.Elements.{All-contains_itself, All-filter}
 use Rattle.std.proofs.lemmas.Slice.Eq.{starts_is}
 use Rattle.bstr.specs.BStr.{bstr_bytes}
 use Rattle.gix_refspec.specs.declared.match_group.types.Item.{Item}
-use Rattle.gix_refspec.specs.Texts.Words.{Begins}
+use Rattle.gix_refspec.specs.Texts.Words.{BeginsWith}
 use Rattle.gix_refspec.specs.Specs.Reading.{Reading}
 use Rattle.gix_refspec.specs.Matching.Match.{Ref, Matches, Takes}
 use Rattle.gix_refspec.specs.Matching.Hits.{Ends, AreForwardEnds, AreBackwardEnds}
@@ -81,7 +81,7 @@ right_true false b is = is
 begun : (n : List ℕ) (entries : List (List ℕ)) → BeginsWithOne entries n → is_begun entries n ≡ true
 begun n [] (k, e, below, is, begins) = absurd (omega (arith, below))
 begun n (entry ∷ entries) (zero, e, below, is, begins) =
-    let first : Begins entry n = subst (λ (x : List ℕ). Begins x n) (sym is) begins in
+    let first : BeginsWith entry n = subst (λ (x : List ℕ). BeginsWith x n) (sym is) begins in
     left_true (starts_with nat_eq n entry) (is_begun entries n) ((starts_is Decides-eqb n entry (starts_with nat_eq n entry) refl).1 first.after first.here)
 begun n (entry ∷ entries) (suc k, e, below, is, begins) = right_true (starts_with nat_eq n entry) (is_begun entries n) (begun n entries (k, e, omega (arith, below), is, begins))
 

@@ -16,7 +16,7 @@ use Rattle.gix_refspec.specs.Matching.Side.{SideKind, Fits, HasKind}
 use Rattle.gix_refspec.specs.Matching.Match.{Ref}
 use Rattle.gix_refspec.specs.Views.Group.{ref_of}
 use Rattle.gix_refspec.specs.Matching.Hits.{Ends}
-use Rattle.gix_refspec.specs.Private.SideViews.{shown_kind}
+use Rattle.gix_refspec.specs.Private.SideViews.{kind_of_side}
 use Rattle.gix_refspec.specs.Private.HitViews.{FitsRef, HasEnds, HaveKinds}
 use Rattle.gix_refspec.specs.Private.Index.{ArePlacesFitted, ArePlacesFittedTo, HasListed, ListEach, ListsFitted, ListsFor}
 use Rattle.gix_refspec.proofs.lemmas.hits.HitLemmas.{one_kind, one_pair}
@@ -72,24 +72,24 @@ pub lists_nothing : (direction : Direction) (r : Reading) (refs : List Ref) → 
 lists_nothing direction r refs ends kind has of = tt
 
 -- what is listed for a near end is listed for the reading that has it
-pub lists_for : (direction : Direction) (r : Reading) (refs : List Ref) (kinds : DeclaredEnds) (listed : Option (Vec ℕ)) → (ends : Ends) × HasEnds direction r ends × HaveKinds ends kinds → ListsFitted (shown_kind kinds.near) refs listed → ListsFor direction r refs listed
+pub lists_for : (direction : Direction) (r : Reading) (refs : List Ref) (kinds : DeclaredEnds) (listed : Option (Vec ℕ)) → (ends : Ends) × HasEnds direction r ends × HaveKinds ends kinds → ListsFitted (kind_of_side kinds.near) refs listed → ListsFor direction r refs listed
 lists_for direction r refs kinds listed (ends, has, have) are other kind has_other of =
     subst (λ (k : SideKind). ListsFitted k refs listed) (same_kind direction r ends other kind kinds has has_other have of) are
   where
-    same_kind : (direction : Direction) (r : Reading) (ends other : Ends) (kind : SideKind) (kinds : DeclaredEnds) → HasEnds direction r ends → HasEnds direction r other → HaveKinds ends kinds → HasKind other.near kind → shown_kind kinds.near ≡ kind
+    same_kind : (direction : Direction) (r : Reading) (ends other : Ends) (kind : SideKind) (kinds : DeclaredEnds) → HasEnds direction r ends → HasEnds direction r other → HaveKinds ends kinds → HasKind other.near kind → kind_of_side kinds.near ≡ kind
     same_kind direction r ends other kind kinds has has_other have of =
-        one_kind other.near (shown_kind kinds.near) kind (subst (λ (e : Ends). HasKind e.near (shown_kind kinds.near)) (one_pair direction r ends other has has_other) have.near) of
+        one_kind other.near (kind_of_side kinds.near) kind (subst (λ (e : Ends). HasKind e.near (kind_of_side kinds.near)) (one_pair direction r ends other has has_other) have.near) of
 
 -- so is it of a look that finds it
-pub look_for : (direction : Direction) (r : Reading) (refs : List Ref) (kinds : DeclaredEnds) (looked : Result Look AllocError) → (ends : Ends) × HasEnds direction r ends × HaveKinds ends kinds → IfOk looked (λ look. ListsFitted (shown_kind kinds.near) refs look.fitted) → IfOk looked (λ look. ListsFor direction r refs look.fitted)
+pub look_for : (direction : Direction) (r : Reading) (refs : List Ref) (kinds : DeclaredEnds) (looked : Result Look AllocError) → (ends : Ends) × HasEnds direction r ends × HaveKinds ends kinds → IfOk looked (λ look. ListsFitted (kind_of_side kinds.near) refs look.fitted) → IfOk looked (λ look. ListsFor direction r refs look.fitted)
 look_for direction r refs kinds (Ok look) found are = lists_for direction r refs kinds look.fitted found are
 look_for direction r refs kinds (Err error) found are = tt
 
 -- the places listed for a spec are those that its near end fits
-pub listed_places : (direction : Direction) (specs : List RefSpecRef) (refs : List Ref) (i : ℕ) (s : RefSpecRef) (kinds : DeclaredEnds) (listed : List (Option (Vec ℕ))) (places : List ℕ) → i < length specs → s ≡ get_or specs i s → ListEach direction (map reading_of specs) refs listed → (ends : Ends) × HasEnds direction (reading_of s) ends × HaveKinds ends kinds → HasListed listed i places → ArePlacesFittedTo (shown_kind kinds.near) refs places
+pub listed_places : (direction : Direction) (specs : List RefSpecRef) (refs : List Ref) (i : ℕ) (s : RefSpecRef) (kinds : DeclaredEnds) (listed : List (Option (Vec ℕ))) (places : List ℕ) → i < length specs → s ≡ get_or specs i s → ListEach direction (map reading_of specs) refs listed → (ends : Ends) × HasEnds direction (reading_of s) ends × HaveKinds ends kinds → HasListed listed i places → ArePlacesFittedTo (kind_of_side kinds.near) refs places
 listed_places direction specs refs i s kinds listed places below is each (ends, has, have) (v, at, same) =
     let inside : i < length (map reading_of specs) = (let long = length-map specs reading_of in omega (arith, below, long)) in
     let reading : get_or (map reading_of specs) i (reading_of s) ≡ reading_of s = get_or-map reading_of specs i s (reading_of s) below ∙ ap reading_of (sym is) in
     let here : ListsFor direction (reading_of s) refs (get_or listed i None) = subst (λ (r : Reading). ListsFor direction r refs (get_or listed i None)) reading (each i (reading_of s) inside) in
-    let found : ListsFitted (shown_kind kinds.near) refs (Some v) = subst (ListsFitted (shown_kind kinds.near) refs) at (here ends (shown_kind kinds.near) has have.near) in
-    subst (ArePlacesFittedTo (shown_kind kinds.near) refs) (sym same) found
+    let found : ListsFitted (kind_of_side kinds.near) refs (Some v) = subst (ListsFitted (kind_of_side kinds.near) refs) at (here ends (kind_of_side kinds.near) has have.near) in
+    subst (ArePlacesFittedTo (kind_of_side kinds.near) refs) (sym same) found

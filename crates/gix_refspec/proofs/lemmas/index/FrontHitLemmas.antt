@@ -8,14 +8,14 @@ use Rattle.gix_refspec.specs.declared.match_group.types.NameRef.{NameRef}
 use Rattle.gix_refspec.specs.declared.match_group.hits.ends.Direction.{Direction}
 use Rattle.gix_refspec.specs.declared.match_group.hits.ends.Ends.{Ends as DeclaredEnds}
 use Rattle.gix_refspec.specs.declared.match_group.hits.Made.{Made}
-use Rattle.gix_refspec.specs.Texts.Words.{Begins}
+use Rattle.gix_refspec.specs.Texts.Words.{BeginsWith}
 use Rattle.gix_refspec.specs.Matching.Side.{SideKind, pattern, full_name, object, partial}
 use Rattle.gix_refspec.specs.Matching.Match.{Ref, MatchesAs}
 use Rattle.gix_refspec.specs.Matching.Lists.{MakesOf, IsMadeFrom}
 use Rattle.gix_refspec.specs.Views.Group.{name_bytes, ref_of}
 use Rattle.gix_refspec.specs.Matching.Hits.{Ends, Hit, IsHit}
-use Rattle.gix_refspec.specs.Private.SideViews.{shown_kind}
-use Rattle.gix_refspec.specs.Private.HitViews.{HaveKinds, TakesIn, IsFirstIn, PatternFits, filled_end, AreHitsOfKinds, mapping_of, made_in, AddsHits}
+use Rattle.gix_refspec.specs.Private.SideViews.{kind_of_side}
+use Rattle.gix_refspec.specs.Private.HitViews.{HaveKinds, TakesIn, IsFirstIn, PatternFits, filled_end, AreHitsOfKinds, mapping_of, mapped_of_made, AddsHits}
 use Rattle.gix_refspec.specs.Private.Index.{ArePlacesFittedTo, ArePlacesFor}
 use Rattle.gix_refspec.proofs.lemmas.hits.HitLemmas.{is_hit, matches_as, taken_matches}
 use Rattle.gix_refspec.proofs.lemmas.lists.JoinLemmas.{made_next}
@@ -53,7 +53,7 @@ of_front (partial n) refs places are = absurd are
 
 -- the name begins as the side does
 abbrev pub BeginsAs : SideKind → Ref → Type 0
-BeginsAs kind r = Begins (front_of kind) r.name
+BeginsAs kind r = BeginsWith (front_of kind) r.name
 
 pub where_begins : (kind : SideKind) (refs : List Ref) (places : List ℕ) → ArePlacesFor kind refs places → AreWhere (BeginsAs kind) 0 refs places
 where_begins (pattern before after) refs places are = are
@@ -130,11 +130,11 @@ abbrev pub AreHitsAt : Direction → DeclaredEnds → ℕ → List Ref → List 
 AreHitsAt direction kinds k items places hits = (ends : Ends) → HaveKinds ends kinds → IsMadeFrom (HitAt direction items ends k) 0 places hits
 
 -- one more place, whose item is hit
-pub hit_at_place : (P : Ref → Type 0) (direction : Direction) (kinds : DeclaredEnds) (k : ℕ) (xs : List Item) (places : List ℕ) (i e : ℕ) (d : Item) (old mid new : Made) (word : Option (List ℕ)) (far : Option NameRef) → IsPatternSide (shown_kind kinds.near) → AreWhere P 0 (map ref_of xs) places → i < length places
+pub hit_at_place : (P : Ref → Type 0) (direction : Direction) (kinds : DeclaredEnds) (k : ℕ) (xs : List Item) (places : List ℕ) (i e : ℕ) (d : Item) (old mid new : Made) (word : Option (List ℕ)) (far : Option NameRef) → IsPatternSide (kind_of_side kinds.near) → AreWhere P 0 (map ref_of xs) places → i < length places
     → AddsHits direction (AreHitsAt direction kinds k (map ref_of xs) (take i places)) old mid
-    → MatchesAs (shown_kind kinds.near) (ref_of (get_or xs (get_or places i e) d)) word
+    → MatchesAs (kind_of_side kinds.near) (ref_of (get_or xs (get_or places i e) d)) word
     → option_map name_bytes far ≡ filled_end kinds.far word
-    → made_in direction new ≡ made_in direction mid ++ mapping_of direction (record { spec = k; item = get_or places i e; near = bstr_bytes ((get_or xs (get_or places i e) d).full_ref_name); far = option_map name_bytes far }) ∷ []
+    → mapped_of_made direction new ≡ mapped_of_made direction mid ++ mapping_of direction (record { spec = k; item = get_or places i e; near = bstr_bytes ((get_or xs (get_or places i e) d).full_ref_name); far = option_map name_bytes far }) ∷ []
     → AddsHits direction (AreHitsAt direction kinds k (map ref_of xs) (take (i + 1) places)) old new
 hit_at_place P direction kinds k xs places i e d old mid new word far is_pattern are below so_far matches filled more =
     let items = map ref_of xs in
@@ -149,28 +149,28 @@ hit_at_place P direction kinds k xs places i e d old mid new word far is_pattern
           subst (λ (ps : List ℕ). IsMadeFrom (HitAt direction items ends k) 0 ps (so_far.hits ++ hit ∷ [])) (sym (take_more places i e below))
           (made_next (HitAt direction items ends k) i (take i places) place so_far.hits (Some hit) long (so_far.are ends have)
           (subst (λ (s : Ref). IsHit (TakesIn direction items) ends k place s hit) (sym at)
-          (is_hit direction items ends kinds k place r word hit have matches (pattern_first (shown_kind kinds.near) direction items r.name is_pattern) filled refl refl refl)));
-      all = more ∙ ap (λ l. l ++ mapping_of direction hit ∷ []) so_far.all ∙ append_assoc (made_in direction old) (map (mapping_of direction) so_far.hits) (mapping_of direction hit ∷ []) ∙ ap (λ l. made_in direction old ++ l) (sym (map-append (mapping_of direction) so_far.hits (hit ∷ [])));
+          (is_hit direction items ends kinds k place r word hit have matches (pattern_first (kind_of_side kinds.near) direction items r.name is_pattern) filled refl refl refl)));
+      all = more ∙ ap (λ l. l ++ mapping_of direction hit ∷ []) so_far.all ∙ append_assoc (mapped_of_made direction old) (map (mapping_of direction) so_far.hits) (mapping_of direction hit ∷ []) ∙ ap (λ l. mapped_of_made direction old ++ l) (sym (map-append (mapping_of direction) so_far.hits (hit ∷ [])));
     }
 
 -- one more place, whose item isn't hit
 pub miss_at_place : (P : Ref → Type 0) (direction : Direction) (kinds : DeclaredEnds) (k : ℕ) (xs : List Item) (places : List ℕ) (i e : ℕ) (d : Item) (old mid : Made) → AreWhere P 0 (map ref_of xs) places → i < length places
     → AddsHits direction (AreHitsAt direction kinds k (map ref_of xs) (take i places)) old mid
-    → ((word : Option (List ℕ)) → ¬ (MatchesAs (shown_kind kinds.near) (ref_of (get_or xs (get_or places i e) d)) word))
+    → ((word : Option (List ℕ)) → ¬ (MatchesAs (kind_of_side kinds.near) (ref_of (get_or xs (get_or places i e) d)) word))
     → AddsHits direction (AreHitsAt direction kinds k (map ref_of xs) (take (i + 1) places)) old mid
 miss_at_place P direction kinds k xs places i e d old mid are below so_far none =
     let items = map ref_of xs in
     let place = get_or places i e in
     let at : get_or items place blank ≡ ref_of (get_or xs place d) = get_or-map ref_of xs place d blank (place_inside P xs places i e are below) in
     let long : length (take i places) ≡ i = length-take-le i places (omega (arith, below)) in
-    let no_match : (word : Option (List ℕ)) → ¬ (MatchesAs (shown_kind kinds.near) (get_or items place blank) word) = subst (λ (s : Ref). (word : Option (List ℕ)) → ¬ (MatchesAs (shown_kind kinds.near) s word)) (sym at) none in
+    let no_match : (word : Option (List ℕ)) → ¬ (MatchesAs (kind_of_side kinds.near) (get_or items place blank) word) = subst (λ (s : Ref). (word : Option (List ℕ)) → ¬ (MatchesAs (kind_of_side kinds.near) s word)) (sym at) none in
     record {
       hits = so_far.hits;
       are = λ ends have.
           subst (λ (ps : List ℕ). IsMadeFrom (HitAt direction items ends k) 0 ps so_far.hits) (sym (take_more places i e below))
           (subst (IsMadeFrom (HitAt direction items ends k) 0 (take i places ++ place ∷ [])) (append-nil so_far.hits)
           (made_next (HitAt direction items ends k) i (take i places) place so_far.hits None long (so_far.are ends have)
-          (λ hit is. no_match is.word (matches_as ends.near (shown_kind kinds.near) (get_or items place blank) is.word have.near (taken_matches direction items ends.near (get_or items place blank) is.word is.takes)))));
+          (λ hit is. no_match is.word (matches_as ends.near (kind_of_side kinds.near) (get_or items place blank) is.word have.near (taken_matches direction items ends.near (get_or items place blank) is.word is.takes)))));
       all = so_far.all;
     }
 
@@ -199,11 +199,11 @@ hits_through P direction k items ends begins j (r ∷ rest) places i hits at (So
     stands items j r rest at = let here : j ≡ j + 0 = omega arith in ap (λ (n : ℕ). get_or items n blank) here ∙ at 0 (omega arith)
 
 -- at all places
-pub all_at_places : (P : Ref → Type 0) (direction : Direction) (kinds : DeclaredEnds) (k : ℕ) (items : List Ref) (places : List ℕ) (old new : Made) → ((r : Ref) (word : Option (List ℕ)) → MatchesAs (shown_kind kinds.near) r word → P r) → AreWhere P 0 items places → AddsHits direction (AreHitsAt direction kinds k items places) old new → AddsHits direction (AreHitsOfKinds direction kinds k items items) old new
+pub all_at_places : (P : Ref → Type 0) (direction : Direction) (kinds : DeclaredEnds) (k : ℕ) (items : List Ref) (places : List ℕ) (old new : Made) → ((r : Ref) (word : Option (List ℕ)) → MatchesAs (kind_of_side kinds.near) r word → P r) → AreWhere P 0 items places → AddsHits direction (AreHitsAt direction kinds k items places) old new → AddsHits direction (AreHitsOfKinds direction kinds k items items) old new
 all_at_places P direction kinds k items places old new has are adds = record {
   hits = adds.hits;
   are = λ ends have.
-      let kind = shown_kind kinds.near in
+      let kind = kind_of_side kinds.near in
       hits_through P direction k items ends
       (λ r word takes. has r word (matches_as ends.near kind r word have.near (taken_matches direction items ends.near r word takes)))
       0 items places 0 adds.hits (λ i below. let same : 0 + i ≡ i = omega arith in ap (λ (n : ℕ). get_or items n blank) same) are (adds.are ends have);

@@ -10,7 +10,7 @@ use Rattle.std.proofs.lemmas.Slice.Eq.{bytes_eq-Decides}
 use Rattle.bstr.specs.BStr.{bstr_bytes}
 use Rattle.gix_refspec.specs.declared.match_group.types.Item.{Item}
 use Rattle.gix_refspec.specs.Views.Group.{ref_of}
-use Rattle.gix_refspec.specs.Texts.Words.{Begins}
+use Rattle.gix_refspec.specs.Texts.Words.{BeginsWith}
 use Rattle.gix_refspec.specs.Matching.Match.{Ref}
 use Rattle.gix_refspec.specs.Private.Index.{AddsPlace, ArePlacesBehind, HaveLengths, HavePlaces, ListFronts}
 use Rattle.gix_refspec.specs.Private.Kept.{IsFlagged}
@@ -19,18 +19,18 @@ use Rattle.gix_refspec.proofs.lemmas.lists.JoinLemmas.{made_next, map_long, map_
 use Rattle.gix_refspec.proofs.lemmas.index.PlacesLemmas.{all_at}
 
 -- a name begins with what is taken from it, and with nothing else of that length
-begins_taken : (n : List ℕ) (l : ℕ) → Begins (take l n) n
+begins_taken : (n : List ℕ) (l : ℕ) → BeginsWith (take l n) n
 begins_taken n l = record { after = drop l n; here = sym (take-append-drop l n) }
 
-taken_begins : (front n : List ℕ) → Begins front n → take (length front) n ≡ front
+taken_begins : (front n : List ℕ) → BeginsWith front n → take (length front) n ≡ front
 taken_begins front n begins = ap (take (length front)) begins.here ∙ take-append_seam front begins.after
 
-too_short : (front n : List ℕ) → length n < length front → ¬ (Begins front n)
+too_short : (front n : List ℕ) → length n < length front → ¬ (BeginsWith front n)
 too_short front n short begins = let long : length n ≡ length front + length begins.after = ap length begins.here ∙ length-append front begins.after in omega (arith, short, long)
 
 -- what becomes of the list of a front
 abbrev Told : List ℕ → ℕ → List ℕ → Vec ℕ → Vec ℕ → Type 0
-Told n place front v w = (Begins front n × (v.items ≡ w.items ++ place ∷ [])) ⊎ (¬ (Begins front n) × (v.items ≡ w.items))
+Told n place front v w = (BeginsWith front n × (v.items ≡ w.items ++ place ∷ [])) ⊎ (¬ (BeginsWith front n) × (v.items ≡ w.items))
 
 -- the place is added for the fronts that are shorter than l, and not yet for others
 abbrev pub AddsBelow : ℕ → List ℕ → ℕ → (List ℕ → Option (Vec ℕ)) → (List ℕ → Option (Vec ℕ)) → Type 0
@@ -77,7 +77,7 @@ adds_listed l n place u x old mid new fits listed more puts so_far front v is = 
       let (w, was, before, from) = so_far front u (subst (λ (f : List ℕ). mid f ≡ Some u) here.0 listed) in
       let both : Some v ≡ Some x = sym is ∙ here.1 in
       let one : v ≡ x = cc in
-      let begins : Begins front n = subst (λ (f : List ℕ). Begins f n) here.0 (begins_taken n l) in
+      let begins : BeginsWith front n = subst (λ (f : List ℕ). BeginsWith f n) here.0 (begins_taken n l) in
       let long : length front ≡ l = ap length (sym here.0) ∙ length-take-le l n fits in
       let told : Told n place front v w = inl (begins, ap (λ (y : Vec ℕ). y.items) one ∙ more ∙ ap (λ (is : List ℕ). is ++ place ∷ []) (from (omega (arith, long)))) in
       (w, was, (λ below. told), (λ above. absurd (omega (arith, above, long))))
@@ -126,10 +126,10 @@ ref_added refs r i old new long adds listed front v is =
     elim told [
       | inl here ↦
           subst (ArePlacesBehind front (refs ++ r ∷ [])) (sym here.1)
-          (made_next (λ k s place. Begins front s.name × (place ≡ k)) i refs r w.items (Some i) long places (here.0, refl))
+          (made_next (λ k s place. BeginsWith front s.name × (place ≡ k)) i refs r w.items (Some i) long places (here.0, refl))
       | inr other ↦
           subst (ArePlacesBehind front (refs ++ r ∷ [])) (sym (other.1 ∙ sym (append-nil w.items)))
-          (made_next (λ k s place. Begins front s.name × (place ≡ k)) i refs r w.items None long places (λ place both. other.0 both.0))
+          (made_next (λ k s place. BeginsWith front s.name × (place ≡ k)) i refs r w.items None long places (λ place both. other.0 both.0))
     ]
 
 -- one more item

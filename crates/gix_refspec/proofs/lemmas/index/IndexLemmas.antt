@@ -19,9 +19,9 @@ use Rattle.gix_refspec.specs.Views.Group.{name_bytes, ref_of}
 use Rattle.gix_refspec.specs.Matching.Match.{Ref, MatchesAs}
 use Rattle.gix_refspec.specs.Matching.Side.{SideKind, pattern, full_name, object, partial, HasKind}
 use Rattle.gix_refspec.specs.Matching.Hits.{Ends}
-use Rattle.gix_refspec.specs.Private.SideViews.{shown_kind}
+use Rattle.gix_refspec.specs.Private.SideViews.{kind_of_side}
 use Rattle.gix_refspec.specs.Private.HitViews.{HasEnds, HaveKinds}
-use Rattle.gix_refspec.specs.Private.Index.{AllNear, ArePlacesOf, HavePlaces, IsNamed, full_names_of, partial_names_of}
+use Rattle.gix_refspec.specs.Private.Index.{AllNear, ArePlacesOf, HavePlaces, HasNamesOf, full_names_of, partial_names_of}
 use Rattle.gix_refspec.proofs.lemmas.hits.HitLemmas.{one_kind, one_pair}
 use Rattle.gix_refspec.proofs.lemmas.lists.JoinLemmas.{made_next, map_long, map_more}
 use Rattle.gix_refspec.proofs.lemmas.keep.RepeatLemmas.{all_join, all_weaker}
@@ -131,29 +131,29 @@ pub record AddsNames (kind : SideKind) (old new : Names) : Type 0 where
   pub partial : map name_bytes new.partial.items ≡ map name_bytes old.partial.items ++ partial_names_of kind
 
 -- what was named still is
-still_named : (added : SideKind) (old new : Names) → AddsNames added old new → (kind : SideKind) → IsNamed old kind → IsNamed new kind
+still_named : (added : SideKind) (old new : Names) → AddsNames added old new → (kind : SideKind) → HasNamesOf old kind → HasNamesOf new kind
 still_named added old new adds (pattern before after) named = tt
 still_named added old new adds (full_name x) named = subst (λ (l : List (List ℕ)). Contains l x) (sym adds.full) (Contains-append_left (map name_bytes old.full.items) (full_names_of added) x named)
 still_named added old new adds (object id) named = tt
 still_named added old new adds (partial x) named = subst (λ (l : List (List ℕ)). Contains l x) (sym adds.partial) (Contains-append_left (map name_bytes old.partial.items) (partial_names_of added) x named)
 
-now_named : (kind : SideKind) (old new : Names) → AddsNames kind old new → IsNamed new kind
+now_named : (kind : SideKind) (old new : Names) → AddsNames kind old new → HasNamesOf new kind
 now_named (pattern before after) old new adds = tt
 now_named (full_name x) old new adds = subst (λ (l : List (List ℕ)). Contains l x) (sym adds.full) (Contains-push (map name_bytes old.full.items) x)
 now_named (object id) old new adds = tt
 now_named (partial x) old new adds = subst (λ (l : List (List ℕ)). Contains l x) (sym adds.partial) (Contains-push (map name_bytes old.partial.items) x)
 
 -- one more spec, and the name that it asks for
-pub spec_asks : (direction : Direction) (specs : List RefSpecRef) (i : ℕ) (s : RefSpecRef) (kinds : DeclaredEnds) (old new : Names) → i < length specs → s ≡ get_or specs i s → (ends : Ends) × HasEnds direction (reading_of s) ends × HaveKinds ends kinds → AddsNames (shown_kind kinds.near) old new → AllNear (IsNamed old) direction (map reading_of (take i specs)) → AllNear (IsNamed new) direction (map reading_of (take (i + 1) specs))
+pub spec_asks : (direction : Direction) (specs : List RefSpecRef) (i : ℕ) (s : RefSpecRef) (kinds : DeclaredEnds) (old new : Names) → i < length specs → s ≡ get_or specs i s → (ends : Ends) × HasEnds direction (reading_of s) ends × HaveKinds ends kinds → AddsNames (kind_of_side kinds.near) old new → AllNear (HasNamesOf old) direction (map reading_of (take i specs)) → AllNear (HasNamesOf new) direction (map reading_of (take (i + 1) specs))
 spec_asks direction specs i s kinds old new below is found adds all =
-    let k = shown_kind kinds.near in
-    specs_more (IsNamed new) direction specs i s below is
-    (all_weaker (IsNear (IsNamed old) direction) (IsNear (IsNamed new) direction) (λ r each ends kind has of. still_named k old new adds kind (each ends kind has of)) (map reading_of (take i specs)) all)
+    let k = kind_of_side kinds.near in
+    specs_more (HasNamesOf new) direction specs i s below is
+    (all_weaker (IsNear (HasNamesOf old) direction) (IsNear (HasNamesOf new) direction) (λ r each ends kind has of. still_named k old new adds kind (each ends kind has of)) (map reading_of (take i specs)) all)
     (λ ends kind has of.
     let same : ends ≡ found.0 = one_pair direction (reading_of s) ends found.0 has found.1 in
     let kinds_same : kind ≡ k = one_kind found.0.near kind k (subst (λ (e : Ends). HasKind e.near kind) same of) found.2.near in
-    subst (IsNamed new) (sym kinds_same) (now_named k old new adds))
+    subst (HasNamesOf new) (sym kinds_same) (now_named k old new adds))
 
 -- one more spec, which asks for nothing
-pub spec_asks_nothing : (direction : Direction) (specs : List RefSpecRef) (i : ℕ) (s : RefSpecRef) (names : Names) → i < length specs → s ≡ get_or specs i s → ((ends : Ends) → ¬ (HasEnds direction (reading_of s) ends)) → AllNear (IsNamed names) direction (map reading_of (take i specs)) → AllNear (IsNamed names) direction (map reading_of (take (i + 1) specs))
-spec_asks_nothing direction specs i s names below is none all = specs_more (IsNamed names) direction specs i s below is all (λ ends kind has of. absurd (none ends has))
+pub spec_asks_nothing : (direction : Direction) (specs : List RefSpecRef) (i : ℕ) (s : RefSpecRef) (names : Names) → i < length specs → s ≡ get_or specs i s → ((ends : Ends) → ¬ (HasEnds direction (reading_of s) ends)) → AllNear (HasNamesOf names) direction (map reading_of (take i specs)) → AllNear (HasNamesOf names) direction (map reading_of (take (i + 1) specs))
+spec_asks_nothing direction specs i s names below is none all = specs_more (HasNamesOf names) direction specs i s below is all (λ ends kind has of. absurd (none ends has))

@@ -11,7 +11,7 @@ use Rattle.gix_refspec.specs.declared.match_group.hits.ends.Direction.TheVariant
 use Rattle.gix_refspec.specs.Matching.Side.{partial, IsCandidate, Fits}
 use Rattle.gix_refspec.specs.Matching.Match.{Ref}
 use Rattle.gix_refspec.specs.Views.Group.{ref_of}
-use Rattle.gix_refspec.specs.Private.HitViews.{IsPlace}
+use Rattle.gix_refspec.specs.Private.HitViews.{IsFolder}
 use Rattle.gix_refspec.specs.Private.Index.{AddsWhere, ArePlacesTaken, HavePlaces, Joins, ListPartials}
 use Rattle.gix_refspec.proofs.lemmas.index.FirstPlacesLemmas.{taken_joins, taken_stays}
 use Rattle.gix_refspec.proofs.lemmas.hits.HitLemmas.{candidate_cases, placed_candidate, remote_candidate}
@@ -87,7 +87,7 @@ adds_next Known P R before after n c old mid new longer so_far next = record {
 abbrev IsBetween : List ℕ → List ℕ → Type 0
 IsBetween n x = (((((⊥ ⊎ Fits [] [] n x) ⊎ Fits (codes "refs/") [] n x) ⊎ Fits (codes "refs/tags/") [] n x) ⊎ Fits (codes "refs/heads/") [] n x) ⊎ Fits (codes "refs/remotes/") [] n x) ⊎ Fits (codes "refs/remotes/") (codes "/HEAD") n x
 
-behind_place : (before n x : List ℕ) → IsPlace before → Fits before [] n x → IsCandidate x n
+behind_place : (before n x : List ℕ) → IsFolder before → Fits before [] n x → IsCandidate x n
 behind_place before n x place fits = placed_candidate x n before place (fits ∙ ap (λ (y : List ℕ). before ++ y) (append-nil x))
 
 between_candidate : (n x : List ℕ) → IsBetween n x → IsCandidate x n
@@ -99,10 +99,10 @@ between_candidate n x (inl (inl (inr fits))) = behind_place (codes "refs/heads/"
 between_candidate n x (inl (inr fits)) = behind_place (codes "refs/remotes/") n x (inr (inr (inr (inr refl)))) fits
 between_candidate n x (inr fits) = remote_candidate x n fits
 
-place_between : (before n x : List ℕ) → IsPlace before → n ≡ before ++ x → IsBetween n x
+place_between : (before n x : List ℕ) → IsFolder before → n ≡ before ++ x → IsBetween n x
 place_between before n x place is = at place (is ∙ ap (λ (y : List ℕ). before ++ y) (sym (append-nil x)))
   where
-    at : IsPlace before → Fits before [] n x → IsBetween n x
+    at : IsFolder before → Fits before [] n x → IsBetween n x
     at (inl e) fits = inl (inl (inl (inl (inl (inr (subst (λ (b : List ℕ). Fits b [] n x) e fits))))))
     at (inr (inl e)) fits = inl (inl (inl (inl (inr (subst (λ (b : List ℕ). Fits b [] n x) e fits)))))
     at (inr (inr (inl e))) fits = inl (inl (inl (inr (subst (λ (b : List ℕ). Fits b [] n x) e fits))))

@@ -21,9 +21,9 @@ use Rattle.gix_refspec.specs.Matching.Match.{Ref, MatchesAs}
 use Rattle.gix_refspec.specs.Matching.Lists.{MakesOf, IsMadeFrom}
 use Rattle.gix_refspec.specs.Views.Group.{name_bytes, ref_of}
 use Rattle.gix_refspec.specs.Matching.Hits.{Ends, Hit, IsHit}
-use Rattle.gix_refspec.specs.Private.SideViews.{shown_kind}
-use Rattle.gix_refspec.specs.Private.HitViews.{HasEnds, HaveKinds, TakesIn, IsFirstIn, filled_end, AreHitsOfKinds, mapping_of, made_in, AddsHits}
-use Rattle.gix_refspec.specs.Private.Index.{AllNear, ArePlacesTaken, IsIndexFor, IsIndexOf, IsIndexOfSide, IsListed, IsNamed, MatchesWhole, TakesWhole}
+use Rattle.gix_refspec.specs.Private.SideViews.{kind_of_side}
+use Rattle.gix_refspec.specs.Private.HitViews.{HasEnds, HaveKinds, TakesIn, IsFirstIn, filled_end, AreHitsOfKinds, mapping_of, mapped_of_made, AddsHits}
+use Rattle.gix_refspec.specs.Private.Index.{AllNear, ArePlacesTaken, IsIndexFor, IsIndexOf, IsIndexOfSide, IsListed, HasNamesOf, MatchesWhole, TakesWhole}
 use Rattle.gix_refspec.proofs.lemmas.hits.CandidateLemmas.{first_candidate}
 use Rattle.gix_refspec.proofs.lemmas.hits.HitLemmas.{is_hit, matches_as, taken_first, taken_matches}
 use Rattle.gix_refspec.proofs.lemmas.keep.RepeatLemmas.{all_weaker}
@@ -70,7 +70,7 @@ pub later : (items : List Ref) (j : ℕ) (r : Ref) (rest : List Ref) → StandAt
 later items j r rest at i below = let next : j + 1 + i ≡ j + suc i = omega arith in ap (λ (n : ℕ). get_or items n blank) next ∙ at (suc i) (omega arith)
 
 -- the hits of the items from place j on
-hits_from : (direction : Direction) (kinds : DeclaredEnds) (k : ℕ) (items : List Ref) (ends : Ends) (j : ℕ) (rest : List Ref) (places : List ℕ) → MatchesWhole (shown_kind kinds.near) → HaveKinds ends kinds → StandAt items j rest → IsMadeFrom (TakenAt (shown_kind kinds.near) direction items) j rest places → IsMadeFrom (IsHit (TakesIn direction items) ends k) j rest (map (hit_at k (filled_end kinds.far None) items) places)
+hits_from : (direction : Direction) (kinds : DeclaredEnds) (k : ℕ) (items : List Ref) (ends : Ends) (j : ℕ) (rest : List Ref) (places : List ℕ) → MatchesWhole (kind_of_side kinds.near) → HaveKinds ends kinds → StandAt items j rest → IsMadeFrom (TakenAt (kind_of_side kinds.near) direction items) j rest places → IsMadeFrom (IsHit (TakesIn direction items) ends k) j rest (map (hit_at k (filled_end kinds.far None) items) places)
 hits_from direction kinds k items ends j [] places whole have at none = ap (map (hit_at k (filled_end kinds.far None) items)) none
 hits_from direction kinds k items ends j (r ∷ rest) places whole have at (None, others, here, more, same) = (
   None,
@@ -80,14 +80,14 @@ hits_from direction kinds k items ends j (r ∷ rest) places whole have at (None
   ap (map (hit_at k (filled_end kinds.far None) items)) same,
 )
   where
-    whole_taken : (word : Option (List ℕ)) → TakesIn direction items ends.near r word → TakesWhole (shown_kind kinds.near) direction items r
-    whole_taken word takes = taken_whole (shown_kind kinds.near) direction items r word whole
-        (matches_as ends.near (shown_kind kinds.near) r word have.near (taken_matches direction items ends.near r word takes))
-        (taken_first direction items ends.near (shown_kind kinds.near) r word have.near takes)
+    whole_taken : (word : Option (List ℕ)) → TakesIn direction items ends.near r word → TakesWhole (kind_of_side kinds.near) direction items r
+    whole_taken word takes = taken_whole (kind_of_side kinds.near) direction items r word whole
+        (matches_as ends.near (kind_of_side kinds.near) r word have.near (taken_matches direction items ends.near r word takes))
+        (taken_first direction items ends.near (kind_of_side kinds.near) r word have.near takes)
 hits_from direction kinds k items ends j (r ∷ rest) places whole have at (Some place, others, here, more, same) = (
   Some (hit_at k (filled_end kinds.far None) items place),
   map (hit_at k (filled_end kinds.far None) items) others,
-  is_hit direction items ends kinds k j r None (hit_at k (filled_end kinds.far None) items place) have (whole_matches (shown_kind kinds.near) direction items r here.0) (whole_first (shown_kind kinds.near) direction items r here.0) refl (near items j r rest place at here.1) refl here.1,
+  is_hit direction items ends kinds k j r None (hit_at k (filled_end kinds.far None) items place) have (whole_matches (kind_of_side kinds.near) direction items r here.0) (whole_first (kind_of_side kinds.near) direction items r here.0) refl (near items j r rest place at here.1) refl here.1,
   hits_from direction kinds k items ends (j + 1) rest others whole have (later items j r rest at) more,
   ap (map (hit_at k (filled_end kinds.far None) items)) same,
 )
@@ -96,7 +96,7 @@ hits_from direction kinds k items ends j (r ∷ rest) places whole have at (Some
     near items j r rest place at is = let here : place ≡ j + 0 = omega (arith, is) in ap (λ (n : ℕ). (get_or items n blank).name) here ∙ ap (λ (x : Ref). x.name) (at 0 (omega arith))
 
 -- the hits at the places that a side takes are its hits
-pub placed_hits : (direction : Direction) (kinds : DeclaredEnds) (k : ℕ) (items : List Ref) (places : List ℕ) → MatchesWhole (shown_kind kinds.near) → ArePlacesTaken (shown_kind kinds.near) direction items places → AreHitsOfKinds direction kinds k items items (map (hit_at k (filled_end kinds.far None) items) places)
+pub placed_hits : (direction : Direction) (kinds : DeclaredEnds) (k : ℕ) (items : List Ref) (places : List ℕ) → MatchesWhole (kind_of_side kinds.near) → ArePlacesTaken (kind_of_side kinds.near) direction items places → AreHitsOfKinds direction kinds k items items (map (hit_at k (filled_end kinds.far None) items) places)
 placed_hits direction kinds k items places whole taken ends have = hits_from direction kinds k items ends 0 items places whole have (λ i below. let same : 0 + i ≡ i = omega arith in ap (λ (n : ℕ). get_or items n blank) same) taken
 
 -- each place is one of an item
@@ -123,13 +123,13 @@ place_fits kind direction xs places i d taken below = let fits : get_or places i
 
 -- the mappings of the hits at some places stand behind the old ones
 pub record AddsPlaces (direction : Direction) (k : ℕ) (kinds : DeclaredEnds) (items : List Ref) (places : List ℕ) (old new : Made) : Type 0 where
-  pub all : made_in direction new ≡ made_in direction old ++ map (mapping_of direction) (map (hit_at k (filled_end kinds.far None) items) places)
+  pub all : mapped_of_made direction new ≡ mapped_of_made direction old ++ map (mapping_of direction) (map (hit_at k (filled_end kinds.far None) items) places)
 
 -- at one more place
 pub place_added : (direction : Direction) (k : ℕ) (kinds : DeclaredEnds) (xs : List Item) (places : List ℕ) (i : ℕ) (e : ℕ) (d : Item) (far : Option NameRef) (old mid new : Made) → i < length places → get_or places i e < length xs
     → option_map name_bytes far ≡ filled_end kinds.far None
     → AddsPlaces direction k kinds (map ref_of xs) (take i places) old mid
-    → made_in direction new ≡ made_in direction mid ++ mapping_of direction (record { spec = k; item = get_or places i e; near = bstr_bytes ((get_or xs (get_or places i e) d).full_ref_name); far = option_map name_bytes far }) ∷ []
+    → mapped_of_made direction new ≡ mapped_of_made direction mid ++ mapping_of direction (record { spec = k; item = get_or places i e; near = bstr_bytes ((get_or xs (get_or places i e) d).full_ref_name); far = option_map name_bytes far }) ∷ []
     → AddsPlaces direction k kinds (map ref_of xs) (take (i + 1) places) old new
 place_added direction k kinds xs places i e d far old mid new below fits filled so_far more =
     let items = map ref_of xs in
@@ -143,14 +143,14 @@ place_added direction k kinds xs places i e d far old mid new below fits filled 
     let list : map (hit_at k becomes items) (take (i + 1) places) ≡ before ++ hit_at k becomes items place ∷ [] = ap (map (hit_at k becomes items)) (take_more places i e below) ∙ map-append (hit_at k becomes items) (take i places) (place ∷ []) in
     record {
       all = more ∙ ap (λ l. l ++ mapping_of direction made ∷ []) so_far.all
-          ∙ append_assoc (made_in direction old) (map (mapping_of direction) before) (mapping_of direction made ∷ [])
-          ∙ ap (λ (h : Hit). made_in direction old ++ (map (mapping_of direction) before ++ mapping_of direction h ∷ [])) same
-          ∙ ap (λ l. made_in direction old ++ l) (sym (map-append (mapping_of direction) before (hit_at k becomes items place ∷ [])))
-          ∙ ap (λ (hs : List Hit). made_in direction old ++ map (mapping_of direction) hs) (sym list);
+          ∙ append_assoc (mapped_of_made direction old) (map (mapping_of direction) before) (mapping_of direction made ∷ [])
+          ∙ ap (λ (h : Hit). mapped_of_made direction old ++ (map (mapping_of direction) before ++ mapping_of direction h ∷ [])) same
+          ∙ ap (λ l. mapped_of_made direction old ++ l) (sym (map-append (mapping_of direction) before (hit_at k becomes items place ∷ [])))
+          ∙ ap (λ (hs : List Hit). mapped_of_made direction old ++ map (mapping_of direction) hs) (sym list);
     }
 
 -- at all places
-pub places_added : (direction : Direction) (k : ℕ) (kinds : DeclaredEnds) (items : List Ref) (places : List ℕ) (old new : Made) → MatchesWhole (shown_kind kinds.near) → ArePlacesTaken (shown_kind kinds.near) direction items places → AddsPlaces direction k kinds items places old new → AddsHits direction (AreHitsOfKinds direction kinds k items items) old new
+pub places_added : (direction : Direction) (k : ℕ) (kinds : DeclaredEnds) (items : List Ref) (places : List ℕ) (old new : Made) → MatchesWhole (kind_of_side kinds.near) → ArePlacesTaken (kind_of_side kinds.near) direction items places → AddsPlaces direction k kinds items places old new → AddsHits direction (AreHitsOfKinds direction kinds k items items) old new
 places_added direction k kinds items places old new whole taken adds = record {
   hits = map (hit_at k (filled_end kinds.far None) items) places;
   are = placed_hits direction kinds k items places whole taken;
@@ -158,16 +158,16 @@ places_added direction k kinds items places old new whole taken adds = record {
 }
 
 -- the index serves each spec of the group
-pub side_served : (direction : Direction) (specs : List RefSpecRef) (refs : List Ref) (index : NameIndex) (i : ℕ) (s : RefSpecRef) (kinds : DeclaredEnds) → i < length specs → s ≡ get_or specs i s → IsIndexFor direction (map reading_of specs) refs index → (ends : Ends) × HasEnds direction (reading_of s) ends × HaveKinds ends kinds → IsIndexOfSide direction (shown_kind kinds.near) refs index
+pub side_served : (direction : Direction) (specs : List RefSpecRef) (refs : List Ref) (index : NameIndex) (i : ℕ) (s : RefSpecRef) (kinds : DeclaredEnds) → i < length specs → s ≡ get_or specs i s → IsIndexFor direction (map reading_of specs) refs index → (ends : Ends) × HasEnds direction (reading_of s) ends × HaveKinds ends kinds → IsIndexOfSide direction (kind_of_side kinds.near) refs index
 side_served direction specs refs index i s kinds below is serves found =
     let each : Reading → Type 0 = λ r. (ends : Ends) (kind : SideKind) → HasEnds direction r ends → HasKind ends.near kind → IsListed direction refs index kind in
     let here : each (reading_of s) =
     subst each (get_or-map reading_of specs i s (reading_of s) below ∙ ap reading_of (sym is))
     (All-from_recursion each (map reading_of specs) serves.names i (reading_of s) (omega (arith, length-map specs reading_of))) in
-    record { names = here found.0 (shown_kind kinds.near) found.1 found.2.near; fronts = serves.fronts }
+    record { names = here found.0 (kind_of_side kinds.near) found.1 found.2.near; fronts = serves.fronts }
 
 -- what is named is listed
-named_listed : (direction : Direction) (refs : List Ref) (names : Names) (index : NameIndex) → IsIndexOf direction names refs index → (kind : SideKind) → IsNamed names kind → IsListed direction refs index kind
+named_listed : (direction : Direction) (refs : List Ref) (names : Names) (index : NameIndex) → IsIndexOf direction names refs index → (kind : SideKind) → HasNamesOf names kind → IsListed direction refs index kind
 named_listed direction refs names index of_names (pattern before after) named = tt
 named_listed direction refs names index of_names (full_name x) named =
     let at = of_names.full.each x named in
@@ -178,10 +178,10 @@ named_listed direction refs names index of_names (partial x) named =
     subst (ArePlacesTaken (partial x) direction refs) (sym (ap (λ (o : Option (Vec ℕ)). unwrap_or (option_map (λ v. v.items) o) []) at.1)) at.2
 
 -- what the specs ask for by name is in the index
-pub index_serves : (direction : Direction) (g : List Reading) (refs : List Ref) (names : Names) (index : NameIndex) → AllNear (IsNamed names) direction g → IsIndexOf direction names refs index → IsIndexFor direction g refs index
+pub index_serves : (direction : Direction) (g : List Reading) (refs : List Ref) (names : Names) (index : NameIndex) → AllNear (HasNamesOf names) direction g → IsIndexOf direction names refs index → IsIndexFor direction g refs index
 index_serves direction g refs names index asked of_names = record {
   names = all_weaker
-      (λ r. (ends : Ends) (kind : SideKind) → HasEnds direction r ends → HasKind ends.near kind → IsNamed names kind)
+      (λ r. (ends : Ends) (kind : SideKind) → HasEnds direction r ends → HasKind ends.near kind → HasNamesOf names kind)
       (λ r. (ends : Ends) (kind : SideKind) → HasEnds direction r ends → HasKind ends.near kind → IsListed direction refs index kind)
       (λ r told ends kind has of. named_listed direction refs names index of_names kind (told ends kind has of)) g asked;
   fronts = of_names.fronts;

@@ -13,7 +13,7 @@ use Rattle.gix_refspec.specs.Specs.Meaning.{Meaning, fetch_only, fetch_exclude, 
 use Rattle.gix_refspec.specs.Views.Spec.{key_of_spec, reading_of}
 use Rattle.gix_refspec.specs.Matching.Match.{Ref, Matches, Takes}
 use Rattle.gix_refspec.specs.Matching.Lists.{MakesOf, IsMadeFrom, IsJoinedFrom}
-use Rattle.gix_refspec.specs.Matching.Mappings.{Start, name, id, Mapped, IsExcludedBy, IsExcluded, IsStartExcluded, Stays, IsKept}
+use Rattle.gix_refspec.specs.Matching.Mappings.{Start, name, id, Mapped, IsExcludedBy, IsExcluded, IsStartExcluded, IsKeptAt, IsKept}
 use Rattle.gix_refspec.specs.Matching.Hits.{Ends, AreForwardEnds, AreBackwardEnds, Hit, IsFilled, AreSpecHits, AreHits, IsIdMapping, AreKeptForward, AreKeptBackward}
 use Rattle.gix_refspec.specs.Laws.Matching.{ReadsAgainAs, AreReadAgain, MapAlike, FetchGroupReadsBack, FetchTheSame, EqualGroups, AreFetches}
 use Rattle.gix_refspec.proofs.lemmas.lists.EqualLemmas.{same_keys}
@@ -207,18 +207,18 @@ start_excluded : (s : Start) (g h : List Reading) → AllZip AreAlike g h → Is
 start_excluded (name n) g h alike is = excluded n g h alike is
 start_excluded (id i) g h alike is = is
 
-stays : (g h : List Reading) (all : List Mapped) (k : ℕ) (m : Mapped) → AllZip AreAlike g h → Stays g all k m → Stays h all k m
+stays : (g h : List Reading) (all : List Mapped) (k : ℕ) (m : Mapped) → AllZip AreAlike g h → IsKeptAt g all k m → IsKeptAt h all k m
 stays g h all k m alike is = record { first = is.first; included = λ by. is.included (start_excluded m.source h g (zip_back g h alike) by) }
 
 -- so they keep the same of a list
 kept : (g h : List Reading) (all list : List Mapped) → AllZip AreAlike g h → IsKept g all list → IsKept h all list
 kept g h all list alike is =
-    made_zip (λ x y. x ≡ y) (λ k m made. (made ≡ m) × Stays g all k m) (λ k m made. (made ≡ m) × Stays h all k m) both 0 all all list (same_zip all) is
+    made_zip (λ x y. x ≡ y) (λ k m made. (made ≡ m) × IsKeptAt g all k m) (λ k m made. (made ≡ m) × IsKeptAt h all k m) both 0 all all list (same_zip all) is
   where
-    both : (k : ℕ) (m n made : Mapped) → m ≡ n → ((made ≡ m) × Stays g all k m) ↔ ((made ≡ n) × Stays h all k n)
+    both : (k : ℕ) (m n made : Mapped) → m ≡ n → ((made ≡ m) × IsKeptAt g all k m) ↔ ((made ≡ n) × IsKeptAt h all k n)
     both k m n made same = (
-      λ of_g. (of_g.0 ∙ same, stays g h all k n alike (subst (Stays g all k) same of_g.1)),
-      λ of_h. (of_h.0 ∙ sym same, stays h g all k m (zip_back g h alike) (subst (Stays h all k) (sym same) of_h.1)),
+      λ of_g. (of_g.0 ∙ same, stays g h all k n alike (subst (IsKeptAt g all k) same of_g.1)),
+      λ of_h. (of_h.0 ∙ sym same, stays h g all k m (zip_back g h alike) (subst (IsKeptAt h all k) (sym same) of_h.1)),
     )
 
 forward : (g h : List Reading) (items : List Ref) (list : List Mapped) → AllZip AreAlike g h → AreKeptForward g items list → AreKeptForward h items list

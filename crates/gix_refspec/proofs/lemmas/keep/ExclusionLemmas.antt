@@ -22,7 +22,7 @@ use Rattle.gix_refspec.specs.Matching.Side.{Fits, Excludes, the_name, by_pattern
 use Rattle.gix_refspec.specs.Matching.Mappings.{IsExcluded, IsExcludedBy}
 use Rattle.gix_refspec.specs.Views.Spec.{reading_of}
 use Rattle.gix_refspec.specs.Views.Group.{name_bytes}
-use Rattle.gix_refspec.specs.Private.Kept.{AreExclusionsOf, FitsName, HasNegative, IsFitted, IsTaken, Takes, has_name}
+use Rattle.gix_refspec.specs.Private.Kept.{AreExclusionsOf, FitsName, HasNegative, IsFitted, ExcludeName, ExcludesName, has_name}
 use Rattle.gix_refspec.proofs.lemmas.texts.TextLemmas.{Lacks-here, first_once}
 use Rattle.gix_refspec.proofs.lemmas.parsing.SideLemmas.{Lacks-name}
 use Rattle.gix_refspec.proofs.lemmas.specs.ReadBackLemmas.{named_either}
@@ -136,12 +136,12 @@ readings_more : (specs : List RefSpecRef) (i : ℕ) (s : RefSpecRef) → i < len
 readings_more specs i s below is = ap (map reading_of) (take_more specs i s below ∙ ap (λ (x : RefSpecRef). take i specs ++ x ∷ []) (sym is)) ∙ map-append reading_of (take i specs) (s ∷ [])
 
 -- one more spec, which excludes something
-pub exclusions_more : (specs : List RefSpecRef) (i : ℕ) (s : RefSpecRef) (es new : Exclusions) (e : Exclusion) → i < length specs → s ≡ get_or specs i s → AreExclusionsOf (map reading_of (take i specs)) es → ((n : List ℕ) → Takes e n ↔ IsExcludedBy n (reading_of s)) → ((n : List ℕ) → IsTaken new n ↔ (IsTaken es n ⊎ Takes e n)) → AreExclusionsOf (map reading_of (take (i + 1) specs)) new
+pub exclusions_more : (specs : List RefSpecRef) (i : ℕ) (s : RefSpecRef) (es new : Exclusions) (e : Exclusion) → i < length specs → s ≡ get_or specs i s → AreExclusionsOf (map reading_of (take i specs)) es → ((n : List ℕ) → ExcludesName e n ↔ IsExcludedBy n (reading_of s)) → ((n : List ℕ) → ExcludeName new n ↔ (ExcludeName es n ⊎ ExcludesName e n)) → AreExclusionsOf (map reading_of (take (i + 1) specs)) new
 exclusions_more specs i s es new e below is before told added n =
     let g = map reading_of (take i specs) in
     let taken = added n in
     let excluded = IsExcluded-push g (reading_of s) n in
-    subst (λ (rs : List Reading). IsTaken new n ↔ IsExcluded rs n) (sym (readings_more specs i s below is)) (
+    subst (λ (rs : List Reading). ExcludeName new n ↔ IsExcluded rs n) (sym (readings_more specs i s below is)) (
       (λ by. elim (taken.0 by) [
         | inl old ↦ excluded.1 (inl ((before n).0 old))
         | inr last ↦ excluded.1 (inr ((told n).0 last))
@@ -157,7 +157,7 @@ pub exclusions_same : (specs : List RefSpecRef) (i : ℕ) (s : RefSpecRef) (es :
 exclusions_same specs i s es below is before none n =
     let g = map reading_of (take i specs) in
     let excluded = IsExcluded-push g (reading_of s) n in
-    subst (λ (rs : List Reading). IsTaken es n ↔ IsExcluded rs n) (sym (readings_more specs i s below is)) (
+    subst (λ (rs : List Reading). ExcludeName es n ↔ IsExcluded rs n) (sym (readings_more specs i s below is)) (
       (λ by. excluded.1 (inl ((before n).0 by))),
       (λ by. elim (excluded.0 by) [
         | inl old ↦ (before n).1 old
@@ -200,36 +200,36 @@ unfound_fits None p n fits so found = fits found.0 found.1
 unfound_fits (Some w) p n fits so found = absurd (false≢true (sym so))
 
 -- one more name is excluded
-pub taken_by_name : (es new : Exclusions) (e : Exclusion) (x : Bor (List ℕ)) (n : List ℕ) → e ≡ exclusion.Name x → new.patterns.items ≡ es.patterns.items → IsTrue (has_name new.names n) ↔ (IsTrue (has_name es.names n) ⊎ (n ≡ x.now)) → IsTaken new n ↔ (IsTaken es n ⊎ Takes e n)
-taken_by_name es new e x n is same has = subst (λ (f : Exclusion). IsTaken new n ↔ (IsTaken es n ⊎ Takes f n)) (sym is) (there, back)
+pub taken_by_name : (es new : Exclusions) (e : Exclusion) (x : Bor (List ℕ)) (n : List ℕ) → e ≡ exclusion.Name x → new.patterns.items ≡ es.patterns.items → IsTrue (has_name new.names n) ↔ (IsTrue (has_name es.names n) ⊎ (n ≡ x.now)) → ExcludeName new n ↔ (ExcludeName es n ⊎ ExcludesName e n)
+taken_by_name es new e x n is same has = subst (λ (f : Exclusion). ExcludeName new n ↔ (ExcludeName es n ⊎ ExcludesName f n)) (sym is) (there, back)
   where
-    there : IsTaken new n → IsTaken es n ⊎ (n ≡ x.now)
+    there : ExcludeName new n → ExcludeName es n ⊎ (n ≡ x.now)
     there (inl named) = elim (has.0 named) [
       | inl old ↦ inl (inl old)
       | inr last ↦ inr last
     ]
     there (inr fitted) = inl (inr (subst (λ (ps : List Pattern). IsFitted ps n) same fitted))
 
-    back : IsTaken es n ⊎ (n ≡ x.now) → IsTaken new n
+    back : ExcludeName es n ⊎ (n ≡ x.now) → ExcludeName new n
     back (inl (inl named)) = inl (has.1 (inl named))
     back (inl (inr fitted)) = inr (subst (λ (ps : List Pattern). IsFitted ps n) (sym same) fitted)
     back (inr last) = inl (has.1 (inr last))
 
 -- one more pattern is
-pub taken_by_pattern : (es new : Exclusions) (e : Exclusion) (p : Pattern) (n : List ℕ) → e ≡ exclusion.Pattern p → has_name new.names n ≡ has_name es.names n → new.patterns.items ≡ es.patterns.items ++ p ∷ [] → IsTaken new n ↔ (IsTaken es n ⊎ Takes e n)
-taken_by_pattern es new e p n is same more = subst (λ (f : Exclusion). IsTaken new n ↔ (IsTaken es n ⊎ Takes f n)) (sym is) (there, back)
+pub taken_by_pattern : (es new : Exclusions) (e : Exclusion) (p : Pattern) (n : List ℕ) → e ≡ exclusion.Pattern p → has_name new.names n ≡ has_name es.names n → new.patterns.items ≡ es.patterns.items ++ p ∷ [] → ExcludeName new n ↔ (ExcludeName es n ⊎ ExcludesName e n)
+taken_by_pattern es new e p n is same more = subst (λ (f : Exclusion). ExcludeName new n ↔ (ExcludeName es n ⊎ ExcludesName f n)) (sym is) (there, back)
   where
     fits : IsFitted new.patterns.items n ↔ (IsFitted es.patterns.items n ⊎ FitsName p n)
     fits = subst (λ (ps : List Pattern). IsFitted ps n ↔ (IsFitted es.patterns.items n ⊎ FitsName p n)) (sym more) (IsFitted-push es.patterns.items p n)
 
-    there : IsTaken new n → IsTaken es n ⊎ FitsName p n
+    there : ExcludeName new n → ExcludeName es n ⊎ FitsName p n
     there (inl named) = inl (inl (sym same ∙ named))
     there (inr fitted) = elim (fits.0 fitted) [
       | inl old ↦ inl (inr old)
       | inr last ↦ inr last
     ]
 
-    back : IsTaken es n ⊎ FitsName p n → IsTaken new n
+    back : ExcludeName es n ⊎ FitsName p n → ExcludeName new n
     back (inl (inl named)) = inl (same ∙ named)
     back (inl (inr fitted)) = inr (fits.1 (inl fitted))
     back (inr last) = inr (fits.1 (inr last))

@@ -6,7 +6,7 @@ use Rattle.std.proofs.lemmas.List.{append_assoc}
 use Rattle.gix_refspec.specs.Specs.Reading.{Reading}
 use Rattle.gix_refspec.specs.Matching.Match.{Ref}
 use Rattle.gix_refspec.specs.Matching.Lists.{IsMadeFrom}
-use Rattle.gix_refspec.specs.Matching.Mappings.{Mapped, HasPair, IsKept, IsStartExcluded, Stays}
+use Rattle.gix_refspec.specs.Matching.Mappings.{Mapped, HasPair, IsKept, IsStartExcluded, IsKeptAt}
 use Rattle.gix_refspec.specs.Laws.Matching.{IsFirstOfPair, FirstStays}
 use Rattle.gix_refspec.proofs.lemmas.hits.HitLemmas.{forward_once, backward_once}
 use Rattle.gix_refspec.proofs.lemmas.keep.KeptPairLemmas.{Keeps}
@@ -43,17 +43,17 @@ kept_first g l before (x ∷ xs) ys k m whole place (Some y, rest, keeps, more, 
 ]
 
 -- and what stays at its place is kept
-kept_at : (g : List Reading) (l : List Mapped) (k : ℕ) (before : List Mapped) (x : Mapped) (after ys : List Mapped) → IsMadeFrom (Keeps g l) k (before ++ (x ∷ after)) ys → Stays g l (k + length before) x → Any (λ y. y ≡ x) ys
-kept_at g l k [] x after ys (None, rest, none, more, is) stays = absurd (none x (refl, subst (λ (n : ℕ). Stays g l n x) (omega arith) stays))
+kept_at : (g : List Reading) (l : List Mapped) (k : ℕ) (before : List Mapped) (x : Mapped) (after ys : List Mapped) → IsMadeFrom (Keeps g l) k (before ++ (x ∷ after)) ys → IsKeptAt g l (k + length before) x → Any (λ y. y ≡ x) ys
+kept_at g l k [] x after ys (None, rest, none, more, is) stays = absurd (none x (refl, subst (λ (n : ℕ). IsKeptAt g l n x) (omega arith) stays))
 kept_at g l k [] x after ys (Some z, rest, keeps, more, is) stays = subst (Any (λ y. y ≡ x)) (sym is) (inl keeps.0)
 kept_at g l k (b ∷ before) x after ys (made, rest, makes, more, is) stays =
-    subst (Any (λ y. y ≡ x)) (sym is) (Any-right (λ y. y ≡ x) (option_to_list made) rest (kept_at g l (k + 1) before x after rest more (subst (λ (n : ℕ). Stays g l n x) (omega arith) stays)))
+    subst (Any (λ y. y ≡ x)) (sym is) (Any-right (λ y. y ≡ x) (option_to_list made) rest (kept_at g l (k + 1) before x after rest more (subst (λ (n : ℕ). IsKeptAt g l n x) (omega arith) stays)))
 
 first_kept : (g : List Reading) (l kept : List Mapped) (m : Mapped) → IsKept g l kept → IsFirstOfPair g l m → Any (λ y. y ≡ m) kept
 first_kept g l kept m is first =
     let front : take (length first.before) l ≡ first.before = ap (λ (z : List Mapped). take (length first.before) z) first.here ∙ take-append_seam first.before (m ∷ first.after) in
-    let stays : Stays g l (length first.before) m = record { first = subst (λ (z : List Mapped). ¬ (HasPair z m)) (sym front) first.first; included = first.included } in
-    kept_at g l 0 first.before m first.after kept (subst (λ (z : List Mapped). IsMadeFrom (Keeps g l) 0 z kept) first.here is) (subst (λ (n : ℕ). Stays g l n m) (omega arith) stays)
+    let stays : IsKeptAt g l (length first.before) m = record { first = subst (λ (z : List Mapped). ¬ (HasPair z m)) (sym front) first.first; included = first.included } in
+    kept_at g l 0 first.before m first.after kept (subst (λ (z : List Mapped). IsMadeFrom (Keeps g l) 0 z kept) first.here is) (subst (λ (n : ℕ). IsKeptAt g l n m) (omega arith) stays)
 
 of_list : (g : List Reading) (l all kept : List Mapped) (m : Mapped) → l ≡ all → IsKept g l kept → Contains kept m ↔ IsFirstOfPair g all m
 of_list g l all kept m same is = subst (λ (z : List Mapped). Contains kept m ↔ IsFirstOfPair g z m) same (

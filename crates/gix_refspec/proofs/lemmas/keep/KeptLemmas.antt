@@ -7,14 +7,14 @@ use Rattle.gix_refspec.specs.declared.match_group.types.Mapping.{Mapping}
 use Rattle.gix_refspec.specs.declared.match_group.keep.exclusions.Exclusions.{Exclusions}
 use Rattle.gix_refspec.specs.Specs.Reading.{Reading}
 use Rattle.gix_refspec.specs.Matching.Lists.{MakesOf, IsMadeFrom}
-use Rattle.gix_refspec.specs.Matching.Mappings.{Start, name, id, Mapped, IsSamePair, HasPair, AreApart, IsStartExcluded, Stays, IsKept}
+use Rattle.gix_refspec.specs.Matching.Mappings.{Start, name, id, Mapped, IsSamePair, HasPair, AreApart, IsStartExcluded, IsKeptAt, IsKept}
 use Rattle.gix_refspec.specs.Views.Group.{mapped_of}
-use Rattle.gix_refspec.specs.Private.Kept.{AreExclusionsOf, FlagsRepeats, IsRepeat, IsStartTaken, IsTaken, Remains}
+use Rattle.gix_refspec.specs.Private.Kept.{AreExclusionsOf, FlagsRepeats, IsRepeat, ExcludeStart, ExcludeName, IsKeptBy}
 use Rattle.gix_refspec.proofs.lemmas.lists.ListsLemmas.{made_all, made_map, made_once}
 
 -- what is kept of a list is one list
 pub kept_determined : (g : List Reading) (l kept also : List Mapped) → IsKept g l kept → IsKept g l also → kept ≡ also
-kept_determined g l kept also = made_once (λ k m made. (made ≡ m) × Stays g l k m) (λ k m y z is_y is_z. is_y.0 ∙ sym is_z.0) 0 l kept also
+kept_determined g l kept also = made_once (λ k m made. (made ≡ m) × IsKeptAt g l k m) (λ k m y z is_y is_z. is_y.0 ∙ sym is_z.0) 0 l kept also
 
 -- a pair that stands in a list, by its place
 pub HasPair-from_place : (l : List Mapped) (j : ℕ) (d m : Mapped) → j < length l → IsSamePair (get_or l j d) m → HasPair l m
@@ -68,12 +68,12 @@ repeats_at ms k d below =
     )
 
 -- the same starts are excluded
-starts_agree : (g : List Reading) (es : Exclusions) (s : Start) → AreExclusionsOf g es → IsStartTaken es s ↔ IsStartExcluded g s
+starts_agree : (g : List Reading) (es : Exclusions) (s : Start) → AreExclusionsOf g es → ExcludeStart es s ↔ IsStartExcluded g s
 starts_agree g es (name n) are = are n
 starts_agree g es (id i) are = ((λ none. none), (λ none. none))
 
 -- a mapping remains just where it stays
-remains_stays : (g : List Reading) (ms : List Mapping) (es : Exclusions) (flags : List Bool) (k : ℕ) (d : Mapping) → AreExclusionsOf g es → FlagsRepeats ms flags → k < length ms → Remains es flags k (get_or ms k d) (get_or ms k d) ↔ Stays g (map mapped_of ms) k (mapped_of (get_or ms k d))
+remains_stays : (g : List Reading) (ms : List Mapping) (es : Exclusions) (flags : List Bool) (k : ℕ) (d : Mapping) → AreExclusionsOf g es → FlagsRepeats ms flags → k < length ms → IsKeptBy es flags k (get_or ms k d) (get_or ms k d) ↔ IsKeptAt g (map mapped_of ms) k (mapped_of (get_or ms k d))
 remains_stays g ms es flags k d are repeats below =
     let at = repeats_at ms k d below in
     let flag = repeats k below in
@@ -83,27 +83,27 @@ remains_stays g ms es flags k d are repeats below =
     )
 
 -- what remains of mappings is what is kept of them
-pub kept_from_remains : (g : List Reading) (ms rest : List Mapping) (es : Exclusions) (flags : List Bool) → AreExclusionsOf g es → FlagsRepeats ms flags → IsMadeFrom (Remains es flags) 0 ms rest → IsKept g (map mapped_of ms) (map mapped_of rest)
+pub kept_from_remains : (g : List Reading) (ms rest : List Mapping) (es : Exclusions) (flags : List Bool) → AreExclusionsOf g es → FlagsRepeats ms flags → IsMadeFrom (IsKeptBy es flags) 0 ms rest → IsKept g (map mapped_of ms) (map mapped_of rest)
 kept_from_remains g ms rest es flags are repeats made =
-    made_map mapped_of mapped_of (Remains es flags) (λ k m y. (y ≡ m) × Stays g (map mapped_of ms) k m) 0 ms rest (λ i d below x makes. one i d below x (subst (λ (n : ℕ). MakesOf (Remains es flags) n (get_or ms i d) x) (zero-add i) makes)) made
+    made_map mapped_of mapped_of (IsKeptBy es flags) (λ k m y. (y ≡ m) × IsKeptAt g (map mapped_of ms) k m) 0 ms rest (λ i d below x makes. one i d below x (subst (λ (n : ℕ). MakesOf (IsKeptBy es flags) n (get_or ms i d) x) (zero-add i) makes)) made
   where
-    one : (i : ℕ) (d : Mapping) → i < length ms → (x : Option Mapping) → MakesOf (Remains es flags) i (get_or ms i d) x → MakesOf (λ k m y. (y ≡ m) × Stays g (map mapped_of ms) k m) (0 + i) (mapped_of (get_or ms i d)) (option_map mapped_of x)
-    one i d below None none = subst (λ (n : ℕ). (y : Mapped) → ¬ ((y ≡ mapped_of (get_or ms i d)) × Stays g (map mapped_of ms) n (mapped_of (get_or ms i d)))) (sym (zero-add i)) (λ y stays. none (get_or ms i d) ((remains_stays g ms es flags i d are repeats below).1 stays.1))
-    one i d below (Some y) remains = subst (λ (n : ℕ). (mapped_of y ≡ mapped_of (get_or ms i d)) × Stays g (map mapped_of ms) n (mapped_of (get_or ms i d))) (sym (zero-add i)) (
+    one : (i : ℕ) (d : Mapping) → i < length ms → (x : Option Mapping) → MakesOf (IsKeptBy es flags) i (get_or ms i d) x → MakesOf (λ k m y. (y ≡ m) × IsKeptAt g (map mapped_of ms) k m) (0 + i) (mapped_of (get_or ms i d)) (option_map mapped_of x)
+    one i d below None none = subst (λ (n : ℕ). (y : Mapped) → ¬ ((y ≡ mapped_of (get_or ms i d)) × IsKeptAt g (map mapped_of ms) n (mapped_of (get_or ms i d)))) (sym (zero-add i)) (λ y stays. none (get_or ms i d) ((remains_stays g ms es flags i d are repeats below).1 stays.1))
+    one i d below (Some y) remains = subst (λ (n : ℕ). (mapped_of y ≡ mapped_of (get_or ms i d)) × IsKeptAt g (map mapped_of ms) n (mapped_of (get_or ms i d))) (sym (zero-add i)) (
       ap mapped_of remains.same,
       (remains_stays g ms es flags i d are repeats below).0 (record { same = refl; unflagged = remains.unflagged; included = remains.included }),
     )
 
 -- without flags and exclusions all remain
-pub all_remain : (ms : List Mapping) (es : Exclusions) → ((n : List ℕ) → ¬ (IsTaken es n)) → IsMadeFrom (Remains es []) 0 ms ms
-all_remain ms es free = made_all (Remains es []) (λ k m. record { same = refl; unflagged = λ flagged. false≢true flagged; included = none (mapped_of m).source }) 0 ms
+pub all_remain : (ms : List Mapping) (es : Exclusions) → ((n : List ℕ) → ¬ (ExcludeName es n)) → IsMadeFrom (IsKeptBy es []) 0 ms ms
+all_remain ms es free = made_all (IsKeptBy es []) (λ k m. record { same = refl; unflagged = λ flagged. false≢true flagged; included = none (mapped_of m).source }) 0 ms
   where
-    none : (s : Start) → ¬ (IsStartTaken es s)
+    none : (s : Start) → ¬ (ExcludeStart es s)
     none (name n) taken = free n taken
     none (id i) taken = taken
 
 -- what is kept from a place on has no pair from before it
-later_apart : (g : List Reading) (l : List Mapped) (n k : ℕ) (xs ys : List Mapped) → n ≤ k → IsMadeFrom (λ j m made. (made ≡ m) × Stays g l j m) k xs ys → AllByRecursion (λ y. ¬ (HasPair (take n l) y)) ys
+later_apart : (g : List Reading) (l : List Mapped) (n k : ℕ) (xs ys : List Mapped) → n ≤ k → IsMadeFrom (λ j m made. (made ≡ m) × IsKeptAt g l j m) k xs ys → AllByRecursion (λ y. ¬ (HasPair (take n l) y)) ys
 later_apart g l n k [] ys fits empty = subst (λ (zs : List Mapped). AllByRecursion (λ y. ¬ (HasPair (take n l) y)) zs) (sym empty) tt
 later_apart g l n k (x ∷ xs) ys fits (None, rest, none, more, is) = subst (λ (zs : List Mapped). AllByRecursion (λ y. ¬ (HasPair (take n l) y)) zs) (sym is) (later_apart g l n (k + 1) xs rest (omega arith) more)
 later_apart g l n k (x ∷ xs) ys fits (Some y, rest, stays, more, is) = subst (λ (zs : List Mapped). AllByRecursion (λ z. ¬ (HasPair (take n l) z)) zs) (sym is) (
@@ -112,7 +112,7 @@ later_apart g l n k (x ∷ xs) ys fits (Some y, rest, stays, more, is) = subst (
 )
 
 -- no two mappings that are kept have the same pair
-apart_from : (g : List Reading) (l : List Mapped) (k : ℕ) (xs ys : List Mapped) → drop k l ≡ xs → k + length xs ≡ length l → IsMadeFrom (λ j m made. (made ≡ m) × Stays g l j m) k xs ys → AreApart ys
+apart_from : (g : List Reading) (l : List Mapped) (k : ℕ) (xs ys : List Mapped) → drop k l ≡ xs → k + length xs ≡ length l → IsMadeFrom (λ j m made. (made ≡ m) × IsKeptAt g l j m) k xs ys → AreApart ys
 apart_from g l k [] ys rest size empty = subst AreApart (sym empty) tt
 apart_from g l k (x ∷ xs) ys rest size (None, ys2, none, more, is) =
     let cut : drop k l ≡ get_or l k x ∷ drop (k + 1) l = drop_more l k x (omega arith) in

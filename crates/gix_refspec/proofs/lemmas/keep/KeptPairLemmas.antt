@@ -4,7 +4,7 @@ use Rattle.std.proofs.Math.Seq.{take-append_seam}
 use Rattle.std.proofs.lemmas.List.{append_assoc}
 use Rattle.gix_refspec.specs.Specs.Reading.{Reading}
 use Rattle.gix_refspec.specs.Matching.Lists.{MakesOf, IsMadeFrom}
-use Rattle.gix_refspec.specs.Matching.Mappings.{Start, name, id, Mapped, IsSamePair, HasPair, IsStartExcluded, Stays, IsKept}
+use Rattle.gix_refspec.specs.Matching.Mappings.{Start, name, id, Mapped, IsSamePair, HasPair, IsStartExcluded, IsKeptAt, IsKept}
 use Rattle.gix_refspec.proofs.lemmas.parsing.DecideLemmas.{Decided, decided_byte}
 use Rattle.gix_refspec.proofs.lemmas.lists.SomeLemmas.{Any, Any-right, Any-cases, Any-weaker, Any-both, made_any}
 
@@ -56,10 +56,10 @@ decided_pair pair m = elim (decided_start m.source pair.source) [
 
 -- m, at place k of the list, stays as made
 abbrev pub Keeps : List Reading → List Mapped → ℕ → Mapped → Mapped → Type 0
-Keeps g l k m made = (made ≡ m) × Stays g l k m
+Keeps g l k m made = (made ≡ m) × IsKeptAt g l k m
 
 -- the first mapping with a pair whose source isn't excluded stays
-first_stays : (g : List Reading) (before xs : List Mapped) (pair m : Mapped) → IsOfPair pair m → ¬ (Any (IsOfPair pair) before) → ¬ (IsStartExcluded g pair.source) → Stays g (before ++ xs) (length before) m
+first_stays : (g : List Reading) (before xs : List Mapped) (pair m : Mapped) → IsOfPair pair m → ¬ (Any (IsOfPair pair) before) → ¬ (IsStartExcluded g pair.source) → IsKeptAt g (before ++ xs) (length before) m
 first_stays g before xs pair m same new included = record {
   first = λ has. new (Any-weaker (IsOfPair m) (IsOfPair pair) of_pair before (Any-HasPair before m (subst (λ (l : List Mapped). HasPair l m) (take-append_seam before xs) has)));
   included = λ by. included (subst (IsStartExcluded g) same.source by);
@@ -68,7 +68,7 @@ first_stays g before xs pair m same new included = record {
     of_pair : (x : Mapped) → IsOfPair m x → IsOfPair pair x
     of_pair x is = record { source = is.source ∙ same.source; destination = is.destination ∙ same.destination }
 
-kept_here : (g : List Reading) (l : List Mapped) (k : ℕ) (pair m : Mapped) (made : Option Mapped) (rest : List Mapped) → IsOfPair pair m → Stays g l k m → MakesOf (Keeps g l) k m made → Any (IsOfPair pair) (option_to_list made ++ rest)
+kept_here : (g : List Reading) (l : List Mapped) (k : ℕ) (pair m : Mapped) (made : Option Mapped) (rest : List Mapped) → IsOfPair pair m → IsKeptAt g l k m → MakesOf (Keeps g l) k m made → Any (IsOfPair pair) (option_to_list made ++ rest)
 kept_here g l k pair m None rest same stays none = absurd (none m (refl, stays))
 kept_here g l k pair m (Some y) rest same stays keeps = inl (subst (IsOfPair pair) (sym keeps.0) same)
 
@@ -81,8 +81,8 @@ kept_from : (g : List Reading) (l before xs ys : List Mapped) (k : ℕ) (pair : 
 kept_from g l before [] ys k pair whole place new included made any = absurd any
 kept_from g l before (m ∷ xs) ys k pair whole place new included (made, rest, makes, more, is) any = subst (Any (IsOfPair pair)) (sym is) (elim (decided_pair pair m) [
   | inl same ↦
-      let first : Stays g (before ++ m ∷ xs) (length before) m = first_stays g before (m ∷ xs) pair m same new included in
-      let stays : Stays g l k m = subst (λ (n : ℕ). Stays g l n m) place (subst (λ (z : List Mapped). Stays g z (length before) m) whole first) in
+      let first : IsKeptAt g (before ++ m ∷ xs) (length before) m = first_stays g before (m ∷ xs) pair m same new included in
+      let stays : IsKeptAt g l k m = subst (λ (n : ℕ). IsKeptAt g l n m) place (subst (λ (z : List Mapped). IsKeptAt g z (length before) m) whole first) in
       kept_here g l k pair m made rest same stays makes
   | inr other ↦
       let next : length (before ++ m ∷ []) ≡ k + 1 = omega (arith, length-append before (m ∷ []), place) in

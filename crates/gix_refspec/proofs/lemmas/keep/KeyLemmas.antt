@@ -16,7 +16,7 @@ use Rattle.std.proofs.lemmas.List.Elements.{All-from_recursion, recursion_from_A
 use Rattle.std.proofs.lemmas.List.Sorted.{IsPermutation-map, length_permutation, ranks_by, sorted_far}
 use Rattle.gix_refspec.specs.declared.match_group.types.Mapping.{Mapping}
 use Rattle.gix_refspec.specs.Views.Group.{mapped_of}
-use Rattle.gix_refspec.specs.Private.Kept.{AreKeysOf, FindsRepeats, FlagsRepeats, Has, IsFlagged, IsKey, IsRepeat, IsSameAt, IsSecond, PointsBack, Rises, pair_hash, places_of}
+use Rattle.gix_refspec.specs.Private.Kept.{AreKeysOf, FindsRepeats, FlagsRepeats, Has, IsFlagged, IsKey, IsRepeat, IsSameAt, IsSecond, PointsBack, Rises, pair_hash, places_in}
 use Rattle.gix_refspec.proofs.lemmas.keep.RepeatLemmas.{Contains-from_Has, Has-left, Has-permuted, Has-right, Rises-push, all_join, all_permuted, all_weaker, apart_places, pair_hash-same, rises_at, some_mapping}
 
 packed : (hash place bits : ℕ) → hash < 18446744073709551616 → place < 2 ^ bits → bit_or (hash / 2 ^ bits * 2 ^ bits % 18446744073709551616) place ≡ hash / 2 ^ bits * 2 ^ bits + place
@@ -52,18 +52,18 @@ key_fits seed ms bits key hash place m below bucket here is read = (
 )
 
 -- one more key, at its place
-pub keys_more : (seed : FoldHasher) (ms : List Mapping) (bits : ℕ) (keys new : List ℕ) (key place : ℕ) → new ≡ keys ++ key ∷ [] → key % 2 ^ bits ≡ place → IsKey seed ms bits key → AllByRecursion (IsKey seed ms bits) keys → length keys ≡ place → ((k : ℕ) → k < place → Has (places_of bits keys) k) → Rises (places_of bits keys) → AllByRecursion (λ n. n < place) (places_of bits keys) → AllByRecursion (IsKey seed ms bits) new × (length new ≡ place + 1) × ((k : ℕ) → k < place + 1 → Has (places_of bits new) k) × Rises (places_of bits new) × AllByRecursion (λ n. n < place + 1) (places_of bits new)
+pub keys_more : (seed : FoldHasher) (ms : List Mapping) (bits : ℕ) (keys new : List ℕ) (key place : ℕ) → new ≡ keys ++ key ∷ [] → key % 2 ^ bits ≡ place → IsKey seed ms bits key → AllByRecursion (IsKey seed ms bits) keys → length keys ≡ place → ((k : ℕ) → k < place → Has (places_in bits keys) k) → Rises (places_in bits keys) → AllByRecursion (λ n. n < place) (places_in bits keys) → AllByRecursion (IsKey seed ms bits) new × (length new ≡ place + 1) × ((k : ℕ) → k < place + 1 → Has (places_in bits new) k) × Rises (places_in bits new) × AllByRecursion (λ n. n < place + 1) (places_in bits new)
 keys_more seed ms bits keys new key place is here one each count every rises below =
-    let places : places_of bits new ≡ places_of bits keys ++ place ∷ [] = ap (places_of bits) is ∙ map-append (λ (x : ℕ). x % 2 ^ bits) keys (key ∷ []) ∙ ap (λ (n : ℕ). places_of bits keys ++ n ∷ []) here in
+    let places : places_in bits new ≡ places_in bits keys ++ place ∷ [] = ap (places_in bits) is ∙ map-append (λ (x : ℕ). x % 2 ^ bits) keys (key ∷ []) ∙ ap (λ (n : ℕ). places_in bits keys ++ n ∷ []) here in
     let size : length new ≡ length keys + 1 = ap length is ∙ length-append keys (key ∷ []) in (
       subst (λ (xs : List ℕ). AllByRecursion (IsKey seed ms bits) xs) (sym is) (all_join (IsKey seed ms bits) keys (key ∷ []) each (one, tt)),
       omega (arith, size, count),
       λ k under. subst (λ (ns : List ℕ). Has ns k) (sym places) (elim (upto k place under) [
-        | inl less ↦ Has-left (places_of bits keys) (place ∷ []) k (every k less)
-        | inr last ↦ Has-right (places_of bits keys) (place ∷ []) k (inl (sym last))
+        | inl less ↦ Has-left (places_in bits keys) (place ∷ []) k (every k less)
+        | inr last ↦ Has-right (places_in bits keys) (place ∷ []) k (inl (sym last))
       ]),
-      subst (λ (ns : List ℕ). Rises ns) (sym places) (Rises-push (places_of bits keys) place rises below),
-      subst (λ (ns : List ℕ). AllByRecursion (λ n. n < place + 1) ns) (sym places) (all_join (λ n. n < place + 1) (places_of bits keys) (place ∷ []) (all_weaker (λ n. n < place) (λ n. n < place + 1) (λ n less. omega arith) (places_of bits keys) below) (omega arith, tt)),
+      subst (λ (ns : List ℕ). Rises ns) (sym places) (Rises-push (places_in bits keys) place rises below),
+      subst (λ (ns : List ℕ). AllByRecursion (λ n. n < place + 1) ns) (sym places) (all_join (λ n. n < place + 1) (places_in bits keys) (place ∷ []) (all_weaker (λ n. n < place) (λ n. n < place + 1) (λ n less. omega arith) (places_in bits keys) below) (omega arith, tt)),
     )
   where
     upto : (k n : ℕ) → k < n + 1 → (k < n) ⊎ (k ≡ n)
@@ -76,7 +76,7 @@ keys_more seed ms bits keys new key place is here one each count every rises bel
 pub keys_permuted : (seed : FoldHasher) (ms : List Mapping) (bits : ℕ) (xs ys : List ℕ) → IsPermutation xs ys → AreKeysOf seed ms bits xs → AreKeysOf seed ms bits ys
 keys_permuted seed ms bits xs ys moved all = record {
   each = all_permuted (IsKey seed ms bits) xs ys moved all.each;
-  every = λ k below. Has-permuted (places_of bits xs) (places_of bits ys) k (IsPermutation-map (λ (x : ℕ). x % 2 ^ bits) xs ys moved) (all.every k below);
+  every = λ k below. Has-permuted (places_in bits xs) (places_in bits ys) k (IsPermutation-map (λ (x : ℕ). x % 2 ^ bits) xs ys moved) (all.every k below);
   count = length_permutation xs ys moved ∙ all.count;
 }
 
@@ -88,12 +88,12 @@ rises_from_pairs (n ∷ ns) pairs = (
 )
 
 -- keys that are sorted and have places apart rise
-pub rises_from_sorted : (bits : ℕ) (xs ys : List ℕ) → IsPermutation xs ys → Rises (places_of bits xs) → IsSorted nat_cmp ys → Rises ys
+pub rises_from_sorted : (bits : ℕ) (xs ys : List ℕ) → IsPermutation xs ys → Rises (places_in bits xs) → IsSorted nat_cmp ys → Rises ys
 rises_from_sorted bits xs ys moved rises sorted = rises_from_pairs ys (λ i j d before below.
     let weak : IsStrictWeakOrder (λ (x : ℕ) (y : ℕ). is_lt (nat_cmp x y)) = ranks_by nat_cmp_total (λ (n : ℕ). n) in
     after (get_or ys i d) (get_or ys j d)
     (sorted_far (λ (x : ℕ) (y : ℕ). is_lt (nat_cmp x y)) weak ys sorted i j d (omega arith) below)
-    (λ same. apart_places (places_of bits xs) (places_of bits ys) (IsPermutation-map (λ (x : ℕ). x % 2 ^ bits) xs ys moved) rises i j 0 before (omega (arith, length-map ys (λ (x : ℕ). x % 2 ^ bits)))
+    (λ same. apart_places (places_in bits xs) (places_in bits ys) (IsPermutation-map (λ (x : ℕ). x % 2 ^ bits) xs ys moved) rises i j 0 before (omega (arith, length-map ys (λ (x : ℕ). x % 2 ^ bits)))
     (get_or-map (λ (x : ℕ). x % 2 ^ bits) ys i d 0 (omega arith) ∙ ap (λ (x : ℕ). x % 2 ^ bits) same ∙ sym (get_or-map (λ (x : ℕ). x % 2 ^ bits) ys j d 0 below))))
   where
     after : (a b : ℕ) → is_lt (nat_cmp b a) ≡ false → a ≢ b → a < b
@@ -106,7 +106,7 @@ rises_from_sorted bits xs ys moved rises sorted = rises_from_pairs ys (λ i j d 
 -- where in the keys a place stands
 key_at : (seed : FoldHasher) (ms : List Mapping) (bits : ℕ) (keys : List ℕ) (k : ℕ) → AreKeysOf seed ms bits keys → k < length ms → (at : ℕ) × (at < length keys) × (get_or keys at 0 % 2 ^ bits ≡ k)
 key_at seed ms bits keys k all below =
-    let at = Contains-from_Has (places_of bits keys) k (all.every k below) in
+    let at = Contains-from_Has (places_in bits keys) k (all.every k below) in
     let inside : at.0 < length keys = let fits = at.1 in omega (arith, fits, length-map keys (λ (x : ℕ). x % 2 ^ bits)) in
     (at.0, inside, sym (get_or-map (λ (x : ℕ). x % 2 ^ bits) keys at.0 0 k inside) ∙ at.2)
 

@@ -8,7 +8,7 @@ use Rattle.gix_refspec.specs.declared.match_group.hits.ends.Direction.TheVariant
 use Rattle.gix_refspec.specs.Specs.Reading.{Reading}
 use Rattle.gix_refspec.specs.Matching.Match.{Ref, Matches, Takes}
 use Rattle.gix_refspec.specs.Matching.Lists.{IsMadeFrom}
-use Rattle.gix_refspec.specs.Matching.Mappings.{Start, name, id, Mapped, HasPair, IsStartExcluded, Stays}
+use Rattle.gix_refspec.specs.Matching.Mappings.{Start, name, id, Mapped, HasPair, IsStartExcluded, IsKeptAt}
 use Rattle.gix_refspec.specs.Matching.Hits.{Ends, AreForwardEnds, AreBackwardEnds, IsFilled, Hit, IsIdMapping, AreForward, AreBackward, AreKeptForward, AreKeptBackward, forward_of, backward_of}
 use Rattle.gix_refspec.specs.Laws.Matching.{IsPaired, PairsId, MakesForward, MakesBackward, KeptExactly, NothingExcluded}
 use Rattle.gix_refspec.proofs.lemmas.hits.HitLemmas.{id_once}
@@ -149,7 +149,7 @@ kept_exactly g items = record {
   backward = λ kept are pair. kept_by g are.all kept pair _ (kept_pairs g are.all kept pair are.is) (placed (MakesBackward items pair.source pair.destination) g (backward_pairs g items are.all pair are.backward));
 }
 
-included : (g : List Reading) (l : List Mapped) (k : ℕ) (xs ys : List Mapped) → IsMadeFrom (λ j m made. (made ≡ m) × Stays g l j m) k xs ys → AllByRecursion (λ y. ¬ (IsStartExcluded g y.source)) ys
+included : (g : List Reading) (l : List Mapped) (k : ℕ) (xs ys : List Mapped) → IsMadeFrom (λ j m made. (made ≡ m) × IsKeptAt g l j m) k xs ys → AllByRecursion (λ y. ¬ (IsStartExcluded g y.source)) ys
 included g l k [] ys empty = subst (AllByRecursion (λ y. ¬ (IsStartExcluded g y.source))) (sym empty) tt
 included g l k (x ∷ xs) ys (None, rest, none, more, is) = subst (AllByRecursion (λ y. ¬ (IsStartExcluded g y.source))) (sym is) (included g l (k + 1) xs rest more)
 included g l k (x ∷ xs) ys (Some y, rest, stays, more, is) = subst (AllByRecursion (λ y. ¬ (IsStartExcluded g y.source))) (sym is) (

@@ -14,7 +14,7 @@ use Rattle.gix_refspec.specs.Matching.Side.{object, HasKind}
 use Rattle.gix_refspec.specs.Matching.Match.{Ref, HasName}
 use Rattle.gix_refspec.specs.Views.Group.{ref_of}
 use Rattle.gix_refspec.specs.Matching.Hits.{Ends}
-use Rattle.gix_refspec.specs.Private.SideViews.{shown_kind}
+use Rattle.gix_refspec.specs.Private.SideViews.{kind_of_side}
 use Rattle.gix_refspec.specs.Private.HitViews.{HasEnds, HaveKinds}
 use Rattle.gix_refspec.specs.Private.Kept.{IsFlagged}
 use Rattle.gix_refspec.specs.Private.Part.{FlagsRepeated, HasNoNearId, IsNoNearId, IsPart, IsPartBehind, IsRepeatedAt}
@@ -100,12 +100,12 @@ repeated_told items before place told a b less inside is so = record {
 }
 
 -- a near end of another kind is no id
-pub no_near_id : (direction : Direction) (r : Reading) (kinds : DeclaredEnds) → ((ends : Ends) × HasEnds direction r ends × HaveKinds ends kinds) → ((id : List ℕ) → shown_kind kinds.near ≢ object id) → IsNoNearId direction r
+pub no_near_id : (direction : Direction) (r : Reading) (kinds : DeclaredEnds) → ((ends : Ends) × HasEnds direction r ends × HaveKinds ends kinds) → ((id : List ℕ) → kind_of_side kinds.near ≢ object id) → IsNoNearId direction r
 no_near_id direction r kinds (ends, has, are) plain other here id kind =
-    plain id (one_kind ends.near (shown_kind kinds.near) (object id) are.near (subst (λ (e : Ends). HasKind e.near (object id)) (one_pair direction r other ends here has) kind))
+    plain id (one_kind ends.near (kind_of_side kinds.near) (object id) are.near (subst (λ (e : Ends). HasKind e.near (object id)) (one_pair direction r other ends here has) kind))
 
 -- and so it is told
-pub near_told : (direction : Direction) (r : Reading) (kinds : DeclaredEnds) (told : Bool) → ((ends : Ends) × HasEnds direction r ends × HaveKinds ends kinds) → MatchBool told (Unit {0}) ((id : List ℕ) → shown_kind kinds.near ≢ object id) → MatchBool told (Unit {0}) (IsNoNearId direction r)
+pub near_told : (direction : Direction) (r : Reading) (kinds : DeclaredEnds) (told : Bool) → ((ends : Ends) × HasEnds direction r ends × HaveKinds ends kinds) → MatchBool told (Unit {0}) ((id : List ℕ) → kind_of_side kinds.near ≢ object id) → MatchBool told (Unit {0}) (IsNoNearId direction r)
 near_told direction r kinds true found is = tt
 near_told direction r kinds false found is = no_near_id direction r kinds found is
 

@@ -3,7 +3,7 @@ use Rattle.std.proofs.Common.{◌≡◌, ◌⊎◌, inl, inr, ◌↔◌, ℕ, ze
 use Rattle.std.proofs.lemmas.List.{append-nil, length-append}
 use Rattle.gix_refspec.specs.Specs.Reading.{Reading}
 use Rattle.gix_refspec.specs.Matching.Lists.{MakesOf, IsMadeFrom}
-use Rattle.gix_refspec.specs.Matching.Mappings.{Mapped, IsSamePair, HasPair, Stays, IsKept}
+use Rattle.gix_refspec.specs.Matching.Mappings.{Mapped, IsSamePair, HasPair, IsKeptAt, IsKept}
 use Rattle.gix_refspec.specs.Private.EqualSpecs.{Thins}
 use Rattle.gix_refspec.specs.Private.Part.{moved}
 use Rattle.gix_refspec.proofs.lemmas.keep.KeptLemmas.{HasPair-left, HasPair-last}
@@ -38,7 +38,7 @@ last_or_before (y ∷ l) x m (inr has) = elim (last_or_before l x m has) [
 ]
 
 abbrev Keeps : List Reading → List Mapped → ℕ → Mapped → Mapped → Type 0
-Keeps g l k m made = (made ≡ m) × Stays g l k m
+Keeps g l k m made = (made ≡ m) × IsKeptAt g l k m
 
 -- the same pairs stand before
 abbrev SamePairs : List Mapped → List Mapped → Type 0
@@ -60,7 +60,7 @@ taken_before : (before l : List Mapped) → take (length before) (before ++ l) �
 taken_before [] l = refl
 taken_before (x ∷ before) l = ap (λ (b : List Mapped). x ∷ b) (taken_before before l)
 
-stays_alike : (g : List Reading) (L T before some l t : List Mapped) (m : Mapped) → L ≡ before ++ l → T ≡ some ++ t → SamePairs before some → Stays g T (length some) m → Stays g L (length before) m
+stays_alike : (g : List Reading) (L T before some l t : List Mapped) (m : Mapped) → L ≡ before ++ l → T ≡ some ++ t → SamePairs before some → IsKeptAt g T (length some) m → IsKeptAt g L (length before) m
 stays_alike g L T before some l t m is_l is_t same stays =
     let at_l : take (length before) L ≡ before = ap (λ (x : List Mapped). take (length before) x) is_l ∙ taken_before before l in
     let at_t : take (length some) T ≡ some = ap (λ (x : List Mapped). take (length some) x) is_t ∙ taken_before some t in
@@ -112,13 +112,13 @@ take_map f (suc k) [] = refl
 take_map f zero (x ∷ l) = refl
 take_map f (suc k) (x ∷ l) = ap (λ t. f x ∷ t) (take_map f k l)
 
-stays_moved : (g : List Reading) (f : ℕ → ℕ) (l : List Mapped) (k : ℕ) (m : Mapped) → Stays g l k m → Stays g (map (moved f) l) k (moved f m)
+stays_moved : (g : List Reading) (f : ℕ → ℕ) (l : List Mapped) (k : ℕ) (m : Mapped) → IsKeptAt g l k m → IsKeptAt g (map (moved f) l) k (moved f m)
 stays_moved g f l k m stays = record {
   first = λ has. stays.first ((pair_moved f (take k l) m).0 (subst (λ (b : List Mapped). HasPair b (moved f m)) (take_map (moved f) k l) has));
   included = stays.included;
 }
 
-moved_stays : (g : List Reading) (f : ℕ → ℕ) (l : List Mapped) (k : ℕ) (m : Mapped) → Stays g (map (moved f) l) k (moved f m) → Stays g l k m
+moved_stays : (g : List Reading) (f : ℕ → ℕ) (l : List Mapped) (k : ℕ) (m : Mapped) → IsKeptAt g (map (moved f) l) k (moved f m) → IsKeptAt g l k m
 moved_stays g f l k m stays = record {
   first = λ has. stays.first (subst (λ (b : List Mapped). HasPair b (moved f m)) (sym (take_map (moved f) k l)) ((pair_moved f (take k l) m).1 has));
   included = stays.included;

@@ -7,7 +7,7 @@ use Rattle.std.proofs.lemmas.List.{append-nil}
 use Rattle.std.proofs.lemmas.Bool.Decides.{Decides-eqb}
 use Rattle.gix_refspec.specs.declared.name.Error.{Error}
 use Rattle.gix_refspec.specs.declared.name.Error.TheVariants.{Empty, EmptyComponent, StartsWithDot, LockSuffix, EndsWithDot, RepeatedDot, ReflogPortion, Asterisk, InvalidByte}
-use Rattle.gix_refspec.specs.Texts.Words.{Lacks, Ends}
+use Rattle.gix_refspec.specs.Texts.Words.{Lacks, EndsWith}
 use Rattle.gix_refspec.specs.Texts.Bytes.{slash, star, dot, brace}
 use Rattle.gix_refspec.specs.Texts.Name.{is_refused_byte, HasFault, IsName}
 use Rattle.gix_refspec.specs.Private.Scan.{AddsFault, LeavesFault, Added, IsClean}
@@ -32,7 +32,7 @@ pub decided_byte : (b c : ℕ) → Decided (b ≡ c)
 decided_byte b c = elim (tested (b == c)) [ inl so ↦ inl (eqb-true b c so) | inr other ↦ inr (λ same. false≢true (sym other ∙ eq-eqb b c same)) ]
 
 -- whether a text ends with a word
-decided_end : (w y : List ℕ) → Decided (Ends w y)
+decided_end : (w y : List ℕ) → Decided (EndsWith w y)
 decided_end w y =
     let told = ends_is Decides-eqb y w (ends_with nat_eq y w) refl in
     elim (tested (ends_with nat_eq y w)) [
@@ -48,7 +48,7 @@ abbrev pub Found : (Error → Type 0) → Type 0
 Found P = ((e : Error) × P e) ⊎ ((e : Error) → ¬ (P e))
 
 -- no fault but these is added by a byte
-pub no_added : (y : List ℕ) (b : ℕ) → ¬ ((b ≡ slash) × Ends (codes "/") y) → ¬ ((b ≡ dot) × Ends (codes "/") y) → ¬ ((b ≡ slash) × Ends (codes ".lock") y) → ¬ ((b ≡ dot) × Ends (codes ".") y) → ¬ ((b ≡ brace) × Ends (codes "@") y) → ¬ (b ≡ star) → ¬ (IsTrue (is_refused_byte b)) → (e : Error) → ¬ (AddsFault y b e)
+pub no_added : (y : List ℕ) (b : ℕ) → ¬ ((b ≡ slash) × EndsWith (codes "/") y) → ¬ ((b ≡ dot) × EndsWith (codes "/") y) → ¬ ((b ≡ slash) × EndsWith (codes ".lock") y) → ¬ ((b ≡ dot) × EndsWith (codes ".") y) → ¬ ((b ≡ brace) × EndsWith (codes "@") y) → ¬ (b ≡ star) → ¬ (IsTrue (is_refused_byte b)) → (e : Error) → ¬ (AddsFault y b e)
 no_added y b component start lock dots reflog starless fine Empty h = h
 no_added y b component start lock dots reflog starless fine EmptyComponent h = component h
 no_added y b component start lock dots reflog starless fine StartsWithDot h = start h

@@ -4,17 +4,17 @@ use Rattle.gix_refspec.specs.declared.name.Error.TheVariants.{Empty}
 use Rattle.gix_refspec.specs.declared.parsing.Error.{Error}
 use Rattle.gix_refspec.specs.declared.parsing.Operation.{Operation}
 use Rattle.gix_refspec.specs.declared.parsing.Operation.TheVariants.{Push, Fetch}
-use Rattle.gix_refspec.specs.declared.parsing.reading.Side.{Side}
-use Rattle.gix_refspec.specs.declared.parsing.reading.Side.TheVariants.{Plain, Pattern}
+use Rattle.gix_refspec.specs.declared.parsing.reading.Shape.{Shape}
+use Rattle.gix_refspec.specs.declared.parsing.reading.Shape.TheVariants.{Plain, Pattern}
 use Rattle.gix_refspec.specs.declared.parsing.reading.Parts.{Parts}
 use Rattle.gix_refspec.specs.declared.parsing.reading.Sides.{Sides}
 use Rattle.gix_refspec.specs.Texts.Name.{IsName, IsPattern}
 use Rattle.gix_refspec.specs.Specs.Reading.{Mode, Normal, Forced, Negative, Reading}
-use Rattle.gix_refspec.specs.Specs.Refusal.{Refusal, Never, IsFirstReason, IsRefused, ReachesMemory, MayWantMemory}
+use Rattle.gix_refspec.specs.Specs.Refusal.{Refusal, Never, IsFirstReason, IsRefused, ReachesMemory, MayNeedMemory}
 use Rattle.gix_refspec.specs.Texts.Bytes.{head}
 use Rattle.gix_refspec.specs.Specs.Grammar.{named_by, IsPositive, IsNameOrPattern, LooksLikeObjectHash, AreAlike, AreParts, fetched, pushed, Reads, fetches_nothing_named, fetches_colon, fetches, updates, updates_from_head, fetch_excludes, pushes_plus, pushes_colon, pushes, deletes, pushes_pattern, pushes_to, push_excludes}
 use Rattle.gix_refspec.specs.Views.Instruction.{mode_of}
-use Rattle.gix_refspec.specs.Private.Sides.{IsErrorOf, IsSide, IsCheckedSide, side_of, named_or_head, destination_of, HasParts, read_as, IsReasonAgainst}
+use Rattle.gix_refspec.specs.Private.Sides.{IsErrorOf, HasShape, HasCheckedShape, side_of, named_or_head, destination_of, HasParts, read_as, IsReasonAgainst}
 use Rattle.bstr.specs.BStr.{bstr_bytes}
 use Rattle.gix_refspec.proofs.lemmas.parsing.SideLemmas.{Never-or, checked_starred, empty_no_pattern}
 use Rattle.gix_refspec.proofs.lemmas.parsing.PartsLemmas.{parts_once}
@@ -42,7 +42,7 @@ side_of-named_or_head [] = refl
 side_of-named_or_head (b ∷ bs) = side_of-named b bs
 
 -- the parts of a positive fetch whose sides are of one kind
-pub fetch_reads : (m : Mode) (s : List ℕ) (d : Option (List ℕ)) (k : Side) (text : List ℕ) → IsPositive m → IsCheckedSide s k → IsCheckedSide (unwrap_or d []) k → AreParts m s d text → Reads Fetch text (fetched m (named_or_head s) (side_of (unwrap_or d [])))
+pub fetch_reads : (m : Mode) (s : List ℕ) (d : Option (List ℕ)) (k : Shape) (text : List ℕ) → IsPositive m → HasCheckedShape s k → HasCheckedShape (unwrap_or d []) k → AreParts m s d text → Reads Fetch text (fetched m (named_or_head s) (side_of (unwrap_or d [])))
 fetch_reads m [] None k text pos a b parts = fetches_nothing_named m refl pos parts refl
 fetch_reads m [] (Some []) k text pos a b parts = fetches_colon m refl pos parts refl
 fetch_reads m [] (Some (c ∷ cs)) Plain text pos a b parts = updates_from_head m (c ∷ cs) refl pos parts b refl
@@ -55,19 +55,19 @@ fetch_reads m (x ∷ xs) (Some (c ∷ cs)) Plain text pos a b parts = updates m 
 fetch_reads m (x ∷ xs) (Some (c ∷ cs)) Pattern text pos a b parts = updates m (x ∷ xs) (c ∷ cs) refl pos parts (inr (a, b)) refl
 
 -- a side that isn't empty is a name or a pattern
-checked_name_or_pattern : (b : ℕ) (bs : List ℕ) (k : Side) → IsCheckedSide (b ∷ bs) k → IsNameOrPattern (b ∷ bs)
+checked_name_or_pattern : (b : ℕ) (bs : List ℕ) (k : Shape) → HasCheckedShape (b ∷ bs) k → IsNameOrPattern (b ∷ bs)
 checked_name_or_pattern b bs Plain fine = inl fine
 checked_name_or_pattern b bs Pattern fine = inr fine
 
 -- the parts of a positive push of a source alone
-pub push_alone_reads : (m : Mode) (s : List ℕ) (k : Side) (text : List ℕ) → IsPositive m → (s ≡ [] → m ≡ Normal → ⊥) → IsCheckedSide s k → AreParts m s None text → Reads Push text (pushed m (side_of (named_by s)) None)
+pub push_alone_reads : (m : Mode) (s : List ℕ) (k : Shape) (text : List ℕ) → IsPositive m → (s ≡ [] → m ≡ Normal → ⊥) → HasCheckedShape s k → AreParts m s None text → Reads Push text (pushed m (side_of (named_by s)) None)
 push_alone_reads Normal [] k text pos full a parts = absurd (full refl refl)
 push_alone_reads Forced [] k text pos full a parts = pushes_plus refl parts refl
 push_alone_reads Negative [] k text pos full a parts = absurd pos
 push_alone_reads m (x ∷ xs) k text pos full a parts = pushes m (x ∷ xs) refl pos parts (checked_name_or_pattern x xs k a) (ap (λ (s : Option (List ℕ)). pushed m s None) (side_of-named x xs))
 
 -- the parts of a positive push to a destination
-pub push_reads : (m : Mode) (s d : List ℕ) (k : Side) (text : List ℕ) → IsPositive m → (s ≢ [] → d ≡ [] → ⊥) → IsSide s k → IsCheckedSide d k → AreParts m s (Some d) text → Reads Push text (pushed m (side_of (named_by s)) (side_of d))
+pub push_reads : (m : Mode) (s d : List ℕ) (k : Shape) (text : List ℕ) → IsPositive m → (s ≢ [] → d ≡ [] → ⊥) → HasShape s k → HasCheckedShape d k → AreParts m s (Some d) text → Reads Push text (pushed m (side_of (named_by s)) (side_of d))
 push_reads m [] [] k text pos somewhere a b parts = pushes_colon m refl pos parts refl
 push_reads m [] (c ∷ cs) Plain text pos somewhere a b parts = deletes m (c ∷ cs) refl pos parts b refl
 push_reads m [] (c ∷ cs) Pattern text pos somewhere a b parts = absurd (empty_no_pattern a)
@@ -76,7 +76,7 @@ push_reads m (x ∷ xs) (c ∷ cs) Plain text pos somewhere a b parts = pushes_t
 push_reads m (x ∷ xs) (c ∷ cs) Pattern text pos somewhere a b parts = pushes_pattern m (x ∷ xs) (c ∷ cs) refl pos parts a b (ap (λ (s : Option (List ℕ)). pushed m s (Some (c ∷ cs))) (side_of-named x xs))
 
 -- the parts of a negative spec
-pub negative_reads : (op : Operation) (s : List ℕ) (k : Side) (text : List ℕ) → s ≢ [] → IsCheckedSide s k → ¬ (LooksLikeObjectHash s) → AreParts Negative s None text → Reads op text (record { operation = op; mode = Negative; source = side_of (named_by s); destination = None })
+pub negative_reads : (op : Operation) (s : List ℕ) (k : Shape) (text : List ℕ) → s ≢ [] → HasCheckedShape s k → ¬ (LooksLikeObjectHash s) → AreParts Negative s None text → Reads op text (record { operation = op; mode = Negative; source = side_of (named_by s); destination = None })
 negative_reads op [] k text full a hash parts = absurd (full refl)
 negative_reads Push (x ∷ xs) k text full a hash parts = push_excludes (x ∷ xs) refl parts (checked_name_or_pattern x xs k a) hash (ap (λ (s : Option (List ℕ)). pushed Negative s None) (side_of-named x xs))
 negative_reads Fetch (x ∷ xs) k text full a hash parts = fetch_excludes (x ∷ xs) refl parts (checked_name_or_pattern x xs k a) hash (ap (λ (s : Option (List ℕ)). record { operation = Fetch; mode = Negative; source = s; destination = None }) (side_of-named x xs))
@@ -84,22 +84,22 @@ negative_reads Fetch (x ∷ xs) k text full a hash parts = fetch_excludes (x ∷
 -- parts that read: a positive fetch with sides of one kind, a positive push of a source alone or with
 -- sides of one kind, and a negative spec with a source that is no object hash
 pub data AreFine (op : Operation) (m : Mode) (s : List ℕ) (d : Option (List ℕ)) : Type 0 where
-  fine_fetch : (k : Side) → op ≡ Fetch → IsPositive m → IsCheckedSide s k → IsCheckedSide (unwrap_or d []) k → AreFine op m s d
-  fine_alone : (k : Side) → op ≡ Push → IsPositive m → d ≡ None → (s ≡ [] → m ≡ Normal → ⊥) → IsCheckedSide s k → AreFine op m s d
-  fine_push : (k : Side) (t : List ℕ) → op ≡ Push → IsPositive m → d ≡ Some t → (s ≢ [] → t ≡ [] → ⊥) → IsSide s k → IsCheckedSide t k → AreFine op m s d
-  fine_negative : (k : Side) → m ≡ Negative → d ≡ None → s ≢ [] → IsCheckedSide s k → ¬ (LooksLikeObjectHash s) → AreFine op m s d
+  fine_fetch : (k : Shape) → op ≡ Fetch → IsPositive m → HasCheckedShape s k → HasCheckedShape (unwrap_or d []) k → AreFine op m s d
+  fine_alone : (k : Shape) → op ≡ Push → IsPositive m → d ≡ None → (s ≡ [] → m ≡ Normal → ⊥) → HasCheckedShape s k → AreFine op m s d
+  fine_push : (k : Shape) (t : List ℕ) → op ≡ Push → IsPositive m → d ≡ Some t → (s ≢ [] → t ≡ [] → ⊥) → HasShape s k → HasCheckedShape t k → AreFine op m s d
+  fine_negative : (k : Shape) → m ≡ Negative → d ≡ None → s ≢ [] → HasCheckedShape s k → ¬ (LooksLikeObjectHash s) → AreFine op m s d
 
 -- a name, and a pattern, as checked sides
-checked_name : (x : List ℕ) → IsName x → IsCheckedSide x Plain
+checked_name : (x : List ℕ) → IsName x → HasCheckedShape x Plain
 checked_name [] name = tt
 checked_name (b ∷ bs) name = name
 
-checked_from_pattern : (x : List ℕ) → IsPattern x → IsCheckedSide x Pattern
+checked_from_pattern : (x : List ℕ) → IsPattern x → HasCheckedShape x Pattern
 checked_from_pattern [] pattern = pattern
 checked_from_pattern (b ∷ bs) pattern = pattern
 
 -- a name or a pattern as a checked side of some kind
-checked_either : (x : List ℕ) → IsNameOrPattern x → (k : Side) × IsCheckedSide x k
+checked_either : (x : List ℕ) → IsNameOrPattern x → (k : Shape) × HasCheckedShape x k
 checked_either x (inl name) = (Plain, checked_name x name)
 checked_either x (inr pattern) = (Pattern, checked_from_pattern x pattern)
 
@@ -159,21 +159,21 @@ fine_parts op text r (pushes_to m s d push pos parts full plain name _) = record
 fine_parts op text r (push_excludes s push parts either hash _) = negative_fine op s text parts either hash
 
 -- no reason is against a positive fetch, a push of a source alone, a push, and a negative spec that are fine
-no_reason_fetch : (m : Mode) (s : List ℕ) (d : Option (List ℕ)) (k : Side) → IsPositive m → IsCheckedSide s k → IsCheckedSide (unwrap_or d []) k → Never (IsFirstReason Fetch m s d)
+no_reason_fetch : (m : Mode) (s : List ℕ) (d : Option (List ℕ)) (k : Shape) → IsPositive m → HasCheckedShape s k → HasCheckedShape (unwrap_or d []) k → Never (IsFirstReason Fetch m s d)
 no_reason_fetch m s d k pos a b =
     Never-or (no_empty_fetch m s d) (Never-or (no_negative m d pos) (Never-or (no_fetch_nowhere s d)
     (Never-or (fetch_source_fine s d k a) (Never-or (destination_fine d k b)
     (Never-or (λ e h. sides_balanced s (unwrap_or d []) k (checked_starred s k a) (checked_starred (unwrap_or d []) k b) h.one)
     (Never-or (λ e h. positive m pos h.negative) (λ e h. positive m pos h.negative)))))))
 
-no_reason_alone : (m : Mode) (s : List ℕ) (k : Side) → IsPositive m → (s ≡ [] → m ≡ Normal → ⊥) → IsCheckedSide s k → Never (IsFirstReason Push m s None)
+no_reason_alone : (m : Mode) (s : List ℕ) (k : Shape) → IsPositive m → (s ≡ [] → m ≡ Normal → ⊥) → HasCheckedShape s k → Never (IsFirstReason Push m s None)
 no_reason_alone m s k pos full a =
     Never-or (λ e h. full h.no_source h.unsigned) (Never-or (no_negative m None pos) (Never-or (λ e h. let i = h.nowhere in absurd (cc))
     (Never-or (alone_fine Push s k a) (Never-or (λ e h. let i = h.is in absurd (cc))
     (Never-or (λ e h. h.has_destination refl refl)
     (Never-or (λ e h. positive m pos h.negative) (λ e h. positive m pos h.negative)))))))
 
-no_reason_push : (m : Mode) (s t : List ℕ) (k : Side) → IsPositive m → (s ≢ [] → t ≡ [] → ⊥) → IsSide s k → IsCheckedSide t k → Never (IsFirstReason Push m s (Some t))
+no_reason_push : (m : Mode) (s t : List ℕ) (k : Shape) → IsPositive m → (s ≢ [] → t ≡ [] → ⊥) → HasShape s k → HasCheckedShape t k → Never (IsFirstReason Push m s (Some t))
 no_reason_push m s t k pos somewhere a b =
     Never-or (λ e h. let i = h.no_colon in absurd (cc)) (Never-or (no_negative m (Some t) pos)
     (Never-or (λ e h. let i = h.nowhere in let empty : t ≡ [] = cc in somewhere h.source empty)
@@ -181,7 +181,7 @@ no_reason_push m s t k pos somewhere a b =
     (Never-or (λ e h. sides_balanced s t k a (checked_starred t k b) h.one)
     (Never-or (λ e h. positive m pos h.negative) (λ e h. positive m pos h.negative)))))))
 
-no_reason_negative : (op : Operation) (s : List ℕ) (k : Side) → s ≢ [] → IsCheckedSide s k → ¬ (LooksLikeObjectHash s) → Never (IsFirstReason op Negative s None)
+no_reason_negative : (op : Operation) (s : List ℕ) (k : Shape) → s ≢ [] → HasCheckedShape s k → ¬ (LooksLikeObjectHash s) → Never (IsFirstReason op Negative s None)
 no_reason_negative op s k full a hash =
     Never-or (λ e h. let i = h.unsigned in absurd (cc)) (Never-or (λ e h. let i = h.colon in absurd (cc)) (Never-or (λ e h. let i = h.nowhere in absurd (cc))
     (Never-or (alone_fine op s k a) (Never-or (λ e h. let i = h.is in absurd (cc))
@@ -223,6 +223,6 @@ error_of_text p text e parts =
     let m = mode_of p.mode in
     let s = p.source.now in
     let d = destination_of p in
-    MemoryOr-map (ReachesMemory op m s d) (MayWantMemory op text) (IsFirstReason op m s d) (IsRefused op text) e
+    MemoryOr-map (ReachesMemory op m s d) (MayNeedMemory op text) (IsFirstReason op m s d) (IsRefused op text) e
     (λ reaches. record { mode = m; source = s; destination = d; parts = parts; reaches = reaches })
     (λ f first. refused op m s d text f parts first)

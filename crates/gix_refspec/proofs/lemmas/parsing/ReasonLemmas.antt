@@ -2,15 +2,15 @@
 use Rattle.std.proofs.Common.{◌≡◌, ◌≢◌, inl, inr, ℕ, List, [], Option, None, Some, unwrap_or, refl, ap, subst}
 use Rattle.gix_refspec.specs.declared.parsing.Operation.{Operation}
 use Rattle.gix_refspec.specs.declared.parsing.Operation.TheVariants.{Push, Fetch}
-use Rattle.gix_refspec.specs.declared.parsing.reading.Side.{Side}
-use Rattle.gix_refspec.specs.declared.parsing.reading.Side.TheVariants.{Plain, Pattern}
+use Rattle.gix_refspec.specs.declared.parsing.reading.Shape.{Shape}
+use Rattle.gix_refspec.specs.declared.parsing.reading.Shape.TheVariants.{Plain, Pattern}
 use Rattle.gix_refspec.specs.declared.parsing.Error.{Error}
 use Rattle.gix_refspec.specs.Texts.Name.{HasStar}
 use Rattle.gix_refspec.specs.Texts.Bytes.{star}
 use Rattle.gix_refspec.specs.Specs.Reading.{Mode, Normal, Negative}
-use Rattle.gix_refspec.specs.Specs.Refusal.{Refusal, PatternUnbalanced, NegativeEmpty, NegativeObjectHash, IsBadPattern, IsEmptyPush, HasNegativeDestination, PushesNowhere, HasBadSource, HasBadDestination, IsUnbalanced, IsOneStarred, Never, IsFirstReason, WantsMemory, NoReasonBeforeSource, ReachesMemory}
+use Rattle.gix_refspec.specs.Specs.Refusal.{Refusal, PatternUnbalanced, NegativeEmpty, NegativeObjectHash, IsBadPattern, IsEmptyPush, HasNegativeDestination, PushesNowhere, HasBadSource, HasBadDestination, IsUnbalanced, IsOneStarred, Never, IsFirstReason, NeedsMemory, NoReasonBeforeSource, ReachesMemory}
 use Rattle.gix_refspec.specs.Specs.Grammar.{IsPositive, LooksLikeObjectHash}
-use Rattle.gix_refspec.specs.Private.Sides.{MemoryOr, IsSide, IsCheckedSide, IsBadSide, IsReason}
+use Rattle.gix_refspec.specs.Private.Sides.{MemoryOr, HasShape, HasCheckedShape, IsBadSide, IsReason}
 use Rattle.gix_refspec.specs.declared.parsing.Error.TheVariants as error
 use Rattle.gix_refspec.proofs.lemmas.texts.TextLemmas.{Lacks-Holds}
 use Rattle.gix_refspec.proofs.lemmas.parsing.SideLemmas.{checked_fine, starred_fine, checked_starred, HasStar-pattern, HasStar-bad}
@@ -68,7 +68,7 @@ pub push_alone_reaches : (m : Mode) (s : List ℕ) → IsPositive m → (s ≡ [
 push_alone_reaches m s pos full = (λ e h. full h.no_source h.unsigned, no_negative m None pos, λ e h. let i = h.nowhere in absurd (cc))
 
 -- memory may be wanted at the source
-pub memory_at_source : (op : Operation) (m : Mode) (s : List ℕ) (d : Option (List ℕ)) → NoReasonBeforeSource op m s d → WantsMemory s → ReachesMemory op m s d
+pub memory_at_source : (op : Operation) (m : Mode) (s : List ℕ) (d : Option (List ℕ)) → NoReasonBeforeSource op m s d → NeedsMemory s → ReachesMemory op m s d
 memory_at_source op m s None reached wants = (reached, wants)
 memory_at_source op m s (Some d) reached wants = (reached, inl wants)
 
@@ -83,34 +83,34 @@ pub reason_of_balance : (op : Operation) (m : Mode) (s : List ℕ) (d : Option (
 reason_of_balance op m s d e before source destination bad = inr (before.0, inr (before.1, inr (before.2, inr (source, inr (destination, inl bad)))))
 
 -- nothing is against a checked source, or against the starred source of a push beside a destination
-pub fetch_source_fine : (s : List ℕ) (d : Option (List ℕ)) (k : Side) → IsCheckedSide s k → Never (HasBadSource Fetch s d)
+pub fetch_source_fine : (s : List ℕ) (d : Option (List ℕ)) (k : Shape) → HasCheckedShape s k → Never (HasBadSource Fetch s d)
 fetch_source_fine s d k fine e bad = checked_fine s k fine e (bad.source, bad.refusal)
 
-pub push_source_fine : (s d : List ℕ) (k : Side) → IsSide s k → Never (HasBadSource Push s (Some d))
+pub push_source_fine : (s d : List ℕ) (k : Shape) → HasShape s k → Never (HasBadSource Push s (Some d))
 push_source_fine s d k fine e bad = starred_fine s k fine e bad.refusal
 
-pub push_alone_fine : (s : List ℕ) (k : Side) → IsCheckedSide s k → Never (HasBadSource Push s None)
+pub push_alone_fine : (s : List ℕ) (k : Shape) → HasCheckedShape s k → Never (HasBadSource Push s None)
 push_alone_fine s k fine e bad = checked_fine s k fine e (bad.source, bad.refusal)
 
-pub alone_fine : (op : Operation) (s : List ℕ) (k : Side) → IsCheckedSide s k → Never (HasBadSource op s None)
+pub alone_fine : (op : Operation) (s : List ℕ) (k : Shape) → HasCheckedShape s k → Never (HasBadSource op s None)
 alone_fine Push s k fine = push_alone_fine s k fine
 alone_fine Fetch s k fine = fetch_source_fine s None k fine
 
 -- nothing is against a checked destination
-pub destination_fine : (d : Option (List ℕ)) (k : Side) → IsCheckedSide (unwrap_or d []) k → Never (HasBadDestination d)
+pub destination_fine : (d : Option (List ℕ)) (k : Shape) → HasCheckedShape (unwrap_or d []) k → Never (HasBadDestination d)
 destination_fine d k fine e bad =
     let here : unwrap_or d [] ≡ bad.word = ap (λ (x : Option (List ℕ)). unwrap_or x []) bad.is in
-    checked_fine bad.word k (subst (λ (x : List ℕ). IsCheckedSide x k) here fine) e (bad.destination, bad.refusal)
+    checked_fine bad.word k (subst (λ (x : List ℕ). HasCheckedShape x k) here fine) e (bad.destination, bad.refusal)
 
 -- two sides of one kind are balanced
-pub sides_balanced : (s t : List ℕ) (k : Side) → IsSide s k → IsSide t k → IsOneStarred s t → ⊥
+pub sides_balanced : (s t : List ℕ) (k : Shape) → HasShape s k → HasShape t k → IsOneStarred s t → ⊥
 sides_balanced s t Plain a b (inl h) = Lacks-Holds star s a h.0
 sides_balanced s t Plain a b (inr h) = Lacks-Holds star t b h.1
 sides_balanced s t Pattern a b (inl h) = Lacks-Holds star t h.1 (HasStar-pattern t b)
 sides_balanced s t Pattern a b (inr h) = Lacks-Holds star s h.0 (HasStar-pattern s a)
 
 -- two sides of two kinds aren't
-pub sides_unbalanced : (s t : List ℕ) (j k : Side) → IsSide s j → IsSide t k → j ≢ k → IsOneStarred s t
+pub sides_unbalanced : (s t : List ℕ) (j k : Shape) → HasShape s j → HasShape t k → j ≢ k → IsOneStarred s t
 sides_unbalanced s t Plain Plain a b differ = absurd (differ refl)
 sides_unbalanced s t Plain Pattern a b differ = inr (a, HasStar-pattern t b)
 sides_unbalanced s t Pattern Plain a b differ = inl (HasStar-pattern s a, b)
@@ -122,7 +122,7 @@ unbalanced_somewhere s t (inl h) somewhere empty = somewhere (starred_not_empty 
 unbalanced_somewhere s t (inr h) somewhere empty = starred_not_empty t h.1 empty
 
 -- the empty text never wants memory
-pub empty_wants_none : WantsMemory [] → ⊥
+pub empty_wants_none : NeedsMemory [] → ⊥
 empty_wants_none (inl several) = Lacks-Holds star [] tt (record { before = several.before; after = _; here = several.here })
 empty_wants_none (inr long) = Lacks-Holds star [] tt long.0
 
@@ -131,20 +131,20 @@ pub bad_destination : (d : Option (List ℕ)) (e : Refusal) → IsBadSide (unwra
 bad_destination None e bad = absurd (bad.0 refl)
 bad_destination (Some d) e bad = record { word = d; is = refl; destination = bad.0; refusal = bad.1 }
 
-pub memory_at_destination : (op : Operation) (m : Mode) (s : List ℕ) (d : Option (List ℕ)) → NoReasonBeforeSource op m s d → Never (HasBadSource op s d) → WantsMemory (unwrap_or d []) → ReachesMemory op m s d
+pub memory_at_destination : (op : Operation) (m : Mode) (s : List ℕ) (d : Option (List ℕ)) → NoReasonBeforeSource op m s d → Never (HasBadSource op s d) → NeedsMemory (unwrap_or d []) → ReachesMemory op m s d
 memory_at_destination op m s None before source wants = absurd (empty_wants_none wants)
 memory_at_destination op m s (Some d) before source wants = (before, inr (source, wants))
 
 -- an error at the source
-pub error_at_source : (op : Operation) (m : Mode) (s : List ℕ) (d : Option (List ℕ)) (P : Refusal → Type 0) (e : Error) → NoReasonBeforeSource op m s d → ((f : Refusal) → P f → HasBadSource op s d f) → MemoryOr (WantsMemory s) P e → IsReason op m s d e
+pub error_at_source : (op : Operation) (m : Mode) (s : List ℕ) (d : Option (List ℕ)) (P : Refusal → Type 0) (e : Error) → NoReasonBeforeSource op m s d → ((f : Refusal) → P f → HasBadSource op s d f) → MemoryOr (NeedsMemory s) P e → IsReason op m s d e
 error_at_source op m s d P e before bad =
-    MemoryOr-map (WantsMemory s) (ReachesMemory op m s d) P (IsFirstReason op m s d) e (memory_at_source op m s d before)
+    MemoryOr-map (NeedsMemory s) (ReachesMemory op m s d) P (IsFirstReason op m s d) e (memory_at_source op m s d before)
     (λ f h. reason_at_source op m s d f before (bad f h))
 
 -- an error at the destination
-pub error_at_destination : (op : Operation) (m : Mode) (s : List ℕ) (d : Option (List ℕ)) (e : Error) → NoReasonBeforeSource op m s d → Never (HasBadSource op s d) → MemoryOr (WantsMemory (unwrap_or d [])) (IsBadSide (unwrap_or d [])) e → IsReason op m s d e
+pub error_at_destination : (op : Operation) (m : Mode) (s : List ℕ) (d : Option (List ℕ)) (e : Error) → NoReasonBeforeSource op m s d → Never (HasBadSource op s d) → MemoryOr (NeedsMemory (unwrap_or d [])) (IsBadSide (unwrap_or d [])) e → IsReason op m s d e
 error_at_destination op m s d e before source =
-    MemoryOr-map (WantsMemory (unwrap_or d [])) (ReachesMemory op m s d) (IsBadSide (unwrap_or d [])) (IsFirstReason op m s d) e (memory_at_destination op m s d before source)
+    MemoryOr-map (NeedsMemory (unwrap_or d [])) (ReachesMemory op m s d) (IsBadSide (unwrap_or d [])) (IsFirstReason op m s d) e (memory_at_destination op m s d before source)
     (λ f h. reason_at_destination op m s d f before source (bad_destination d f h))
 
 -- the reasons before the source's, against a negative spec without a colon
@@ -152,13 +152,13 @@ pub negative_reaches : (op : Operation) (s : List ℕ) → NoReasonBeforeSource 
 negative_reaches op s = (λ e h. let i = h.unsigned in absurd (cc), λ e h. let i = h.colon in absurd (cc), λ e h. let i = h.nowhere in absurd (cc))
 
 -- the reason against a negative spec of an object
-pub reason_against_object : (op : Operation) (s : List ℕ) (k : Side) → s ≢ [] → IsCheckedSide s k → LooksLikeObjectHash s → IsFirstReason op Negative s None NegativeObjectHash
+pub reason_against_object : (op : Operation) (s : List ℕ) (k : Shape) → s ≢ [] → HasCheckedShape s k → LooksLikeObjectHash s → IsFirstReason op Negative s None NegativeObjectHash
 reason_against_object op s k full a hash =
     let before = negative_reaches op s in
     inr (before.0, inr (before.1, inr (before.2, inr (alone_fine op s k a, inr (λ e h. let i = h.is in absurd (cc), inr (λ e h. h.positive, inr (λ e h. full h.no_source, record { negative = refl; hash = hash; refusal = refl })))))))
 
 -- the reason against a negative spec of nothing
-pub reason_against_nothing : (op : Operation) (s : List ℕ) (k : Side) → s ≡ [] → IsCheckedSide s k → IsFirstReason op Negative s None NegativeEmpty
+pub reason_against_nothing : (op : Operation) (s : List ℕ) (k : Shape) → s ≡ [] → HasCheckedShape s k → IsFirstReason op Negative s None NegativeEmpty
 reason_against_nothing op s k empty a =
     let before = negative_reaches op s in
     inr (before.0, inr (before.1, inr (before.2, inr (alone_fine op s k a, inr (λ e h. let i = h.is in absurd (cc), inr (λ e h. h.positive, inl (record { negative = refl; no_source = empty; refusal = refl })))))))
@@ -169,7 +169,7 @@ bad_negative Push s e bad = record { source = bad.0; refusal = bad.1 }
 bad_negative Fetch s e bad = record { source = bad.0; refusal = bad.1 }
 
 -- the reason against a fetch of sides of two kinds
-pub unbalanced_fetch : (m : Mode) (s : List ℕ) (d : Option (List ℕ)) (j k : Side) → IsPositive m → IsCheckedSide s j → IsCheckedSide (unwrap_or d []) k → j ≢ k → IsFirstReason Fetch m s d PatternUnbalanced
+pub unbalanced_fetch : (m : Mode) (s : List ℕ) (d : Option (List ℕ)) (j k : Shape) → IsPositive m → HasCheckedShape s j → HasCheckedShape (unwrap_or d []) k → j ≢ k → IsFirstReason Fetch m s d PatternUnbalanced
 unbalanced_fetch m s d j k pos source target differ =
     let t = unwrap_or d [] in
     let one = sides_unbalanced s t j k (checked_starred s j source) (checked_starred t k target) differ in
@@ -177,7 +177,7 @@ unbalanced_fetch m s d j k pos source target differ =
     (record { positive = pos; one = one; has_destination = λ push. absurd (cc); refusal = refl })
 
 -- the reason against a push of sides of two kinds
-pub unbalanced_push : (m : Mode) (s t : List ℕ) (j k : Side) → IsPositive m → (s ≢ [] → t ≡ [] → ⊥) → IsSide s j → IsCheckedSide t k → j ≢ k → IsFirstReason Push m s (Some t) PatternUnbalanced
+pub unbalanced_push : (m : Mode) (s t : List ℕ) (j k : Shape) → IsPositive m → (s ≢ [] → t ≡ [] → ⊥) → HasShape s j → HasCheckedShape t k → j ≢ k → IsFirstReason Push m s (Some t) PatternUnbalanced
 unbalanced_push m s t j k pos somewhere source target differ =
     let one = sides_unbalanced s t j k source (checked_starred t k target) differ in
     reason_of_balance Push m s (Some t) PatternUnbalanced (push_reaches m s t pos somewhere) (push_source_fine s t j source) (destination_fine (Some t) k target)

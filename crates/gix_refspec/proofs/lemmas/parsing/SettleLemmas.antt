@@ -6,22 +6,22 @@ use Rattle.std.proofs.lemmas.Bool.{false≢true, leb-true, le-leb}
 use Rattle.std.proofs.lemmas.List.Elements.{All-from_recursion, recursion_from_All}
 use Rattle.gix_refspec.specs.declared.parsing.Operation.{Operation}
 use Rattle.gix_refspec.specs.declared.parsing.Operation.TheVariants.{Push, Fetch}
-use Rattle.gix_refspec.specs.declared.parsing.reading.Side.{Side}
-use Rattle.gix_refspec.specs.declared.parsing.reading.Side.TheVariants.{Plain, Pattern}
+use Rattle.gix_refspec.specs.declared.parsing.reading.Shape.{Shape}
+use Rattle.gix_refspec.specs.declared.parsing.reading.Shape.TheVariants.{Plain, Pattern}
 use Rattle.gix_refspec.specs.Texts.Words.{Lacks}
 use Rattle.gix_refspec.specs.Texts.Bytes.{star, letter, plus, caret, colon}
 use Rattle.gix_refspec.specs.Texts.Name.{ReplacesStar}
 use Rattle.gix_refspec.specs.Specs.Reading.{Mode, Normal, Forced, Negative, Reading}
 use Rattle.gix_refspec.specs.Specs.Refusal.{Refusal, Empty, NegativeWithDestination, PushToEmpty, PatternUnsupported, ReferenceName, PatternUnbalanced, NegativeEmpty, NegativeObjectHash, IsBadPattern, IsFirstReason, IsRefused}
 use Rattle.gix_refspec.specs.Specs.Grammar.{named_by, IsSigned, IsPositive, AreParts, LooksLikeObjectHash, Reads, fetched, pushed}
-use Rattle.gix_refspec.specs.Private.Sides.{IsSide, IsCheckedSide, IsBadSide, side_of, named_or_head}
+use Rattle.gix_refspec.specs.Private.Sides.{HasShape, HasCheckedShape, IsBadSide, side_of, named_or_head}
 use Rattle.gix_refspec.proofs.lemmas.parsing.DecideLemmas.{Decided, FirstPlace, tested, decided_byte, name_or_fault, lacks_or_first, lacks_or_last}
 use Rattle.gix_refspec.proofs.lemmas.parsing.ReasonLemmas.{fetch_reaches, push_reaches, push_alone_reaches, negative_reaches, reason_at_source, reason_at_destination, reason_against_object, reason_against_nothing, fetch_source_fine, push_source_fine, bad_destination, bad_source_of_push, unbalanced_fetch, unbalanced_push, bad_negative, no_negative}
 use Rattle.gix_refspec.proofs.lemmas.parsing.ReadsLemmas.{fetch_reads, push_alone_reads, push_reads, negative_reads, refused}
 
 -- a text without a star or a pattern, or a bad pattern
 abbrev pub Starred : List ℕ → Type 0
-Starred x = ((k : Side) × IsSide x k) ⊎ ((e : Refusal) × IsBadPattern x e)
+Starred x = ((k : Shape) × HasShape x k) ⊎ ((e : Refusal) × IsBadPattern x e)
 
 one_star : (x : List ℕ) (place : FirstPlace star x) → Lacks star place.after → Starred x
 one_star x place lacks =
@@ -43,9 +43,9 @@ starred x = elim (lacks_or_first star x) [
 
 -- a missing side, a name or a pattern, or a bad side
 abbrev pub Checked : List ℕ → Type 0
-Checked x = ((k : Side) × IsCheckedSide x k) ⊎ ((e : Refusal) × IsBadSide x e)
+Checked x = ((k : Shape) × HasCheckedShape x k) ⊎ ((e : Refusal) × IsBadSide x e)
 
-checked_by : (b : ℕ) (x : List ℕ) (k : Side) → IsSide (b ∷ x) k → Checked (b ∷ x)
+checked_by : (b : ℕ) (x : List ℕ) (k : Shape) → HasShape (b ∷ x) k → Checked (b ∷ x)
 checked_by b x Plain lacks = elim (name_or_fault (b ∷ x)) [
   | inl name ↦ inl (Plain, name)
   | inr fault ↦ inr (ReferenceName fault.0, ((λ same. cc), inl (lacks, fault.1)))
@@ -60,7 +60,7 @@ checked (b ∷ x) = elim (starred (b ∷ x)) [
 ]
 
 -- whether two sides are of one kind
-decided_side : (j k : Side) → Decided (j ≡ k)
+decided_side : (j k : Shape) → Decided (j ≡ k)
 decided_side Plain Plain = inl refl
 decided_side Plain Pattern = inr (λ same. absurd (cc))
 decided_side Pattern Plain = inr (λ same. absurd (cc))
@@ -104,7 +104,7 @@ settled_fetch m s d pos = elim (checked s) [
     | inl target ↦ elim (decided_side source.0 target.0) [
       | inl same ↦ inl (
         fetched m (named_or_head s) (side_of (unwrap_or d [])),
-        λ text parts. fetch_reads m s d source.0 text pos source.1 (subst (λ (k : Side). IsCheckedSide (unwrap_or d []) k) (sym same) target.1) parts,
+        λ text parts. fetch_reads m s d source.0 text pos source.1 (subst (λ (k : Shape). HasCheckedShape (unwrap_or d []) k) (sym same) target.1) parts,
       )
       | inr differ ↦ inr (PatternUnbalanced, unbalanced_fetch m s d source.0 target.0 pos source.1 target.1 differ)
     ]
@@ -131,7 +131,7 @@ settled_to m s t pos somewhere = elim (starred s) [
     | inl target ↦ elim (decided_side source.0 target.0) [
       | inl same ↦ inl (
         pushed m (side_of (named_by s)) (side_of t),
-        λ text parts. push_reads m s t source.0 text pos somewhere source.1 (subst (λ (k : Side). IsCheckedSide t k) (sym same) target.1) parts,
+        λ text parts. push_reads m s t source.0 text pos somewhere source.1 (subst (λ (k : Shape). HasCheckedShape t k) (sym same) target.1) parts,
       )
       | inr differ ↦ inr (PatternUnbalanced, unbalanced_push m s t source.0 target.0 pos somewhere source.1 target.1 differ)
     ]

@@ -5,8 +5,8 @@ use denote.Enum.Bare.{sameb}
 use Rattle.gix_refspec.specs.contracts.types.Mode.{the_type as the_mode}
 use Rattle.gix_refspec.specs.declared.types.Mode.{Mode as DeclaredMode}
 use Rattle.gix_refspec.specs.declared.name.Error.TheVariants.{Asterisk}
-use Rattle.gix_refspec.specs.declared.parsing.reading.Side.{Side}
-use Rattle.gix_refspec.specs.declared.parsing.reading.Side.TheVariants.{Plain, Pattern}
+use Rattle.gix_refspec.specs.declared.parsing.reading.Shape.{Shape}
+use Rattle.gix_refspec.specs.declared.parsing.reading.Shape.TheVariants.{Plain, Pattern}
 use Rattle.gix_refspec.specs.Texts.Words.{Lacks}
 use Rattle.gix_refspec.specs.Texts.Name.{IsName, IsPattern, HasStar, HasSeveralStars, ReplacesStar, HasFault}
 use Rattle.gix_refspec.specs.Texts.Bytes.{star}
@@ -14,7 +14,7 @@ use Rattle.gix_refspec.specs.Specs.Reading.{Normal}
 use Rattle.gix_refspec.specs.Specs.Refusal.{Refusal, Empty, NegativeWithDestination, PushToEmpty, PatternUnsupported, ReferenceName, PatternUnbalanced, NegativeEmpty, NegativeObjectHash, IsBadName, IsBadPattern, Never, OrElse}
 use Rattle.gix_refspec.specs.Views.Instruction.{mode_of}
 use Rattle.gix_refspec.specs.Laws.Readings.{NothingAgainst}
-use Rattle.gix_refspec.specs.Private.Sides.{IsSide, IsCheckedSide, IsBadSide}
+use Rattle.gix_refspec.specs.Private.Sides.{HasShape, HasCheckedShape, IsBadSide}
 use Rattle.gix_refspec.specs.declared.types.Mode.TheVariants as declared_mode
 use Rattle.gix_refspec.specs.declared.name.PatternError.TheVariants as found
 use Rattle.gix_refspec.proofs.lemmas.texts.TextLemmas.{Lacks-Holds, Lacks-from_absent, first_once, one_not_two}
@@ -104,12 +104,12 @@ pattern_not_bad x pattern e (inl bad) = Lacks-Holds star x (bad_name x e bad).0 
 pattern_not_bad x pattern e (inr bad) = pattern_fine x pattern e bad
 
 -- nothing is against a side that was found fine
-pub checked_fine : (x : List ℕ) (k : Side) → IsCheckedSide x k → Never (IsBadSide x)
+pub checked_fine : (x : List ℕ) (k : Shape) → HasCheckedShape x k → Never (IsBadSide x)
 checked_fine [] k fine e bad = bad.0 refl
 checked_fine (b ∷ bs) Plain fine e bad = name_not_bad (b ∷ bs) fine e bad.1
 checked_fine (b ∷ bs) Pattern fine e bad = pattern_not_bad (b ∷ bs) fine e bad.1
 
-pub starred_fine : (x : List ℕ) (k : Side) → IsSide x k → Never (IsBadPattern x)
+pub starred_fine : (x : List ℕ) (k : Shape) → HasShape x k → Never (IsBadPattern x)
 starred_fine x Plain fine = plain_fine x fine
 starred_fine x Pattern fine = pattern_fine x fine
 
@@ -118,16 +118,16 @@ pub empty_no_pattern : IsPattern [] → ⊥
 empty_no_pattern pattern = Lacks-Holds star [] tt (HasStar-pattern [] pattern)
 
 -- a side that is plain has no star, and one that is a pattern has one
-pub checked_plain : (x : List ℕ) → IsCheckedSide x Plain → Lacks star x
+pub checked_plain : (x : List ℕ) → HasCheckedShape x Plain → Lacks star x
 checked_plain [] fine = tt
 checked_plain (b ∷ bs) fine = Lacks-name (b ∷ bs) fine
 
-pub checked_pattern : (x : List ℕ) → IsCheckedSide x Pattern → HasStar x
+pub checked_pattern : (x : List ℕ) → HasCheckedShape x Pattern → HasStar x
 checked_pattern [] fine = HasStar-pattern [] fine
 checked_pattern (b ∷ bs) fine = HasStar-pattern (b ∷ bs) fine
 
 -- what was checked is also starred so
-pub checked_starred : (x : List ℕ) (k : Side) → IsCheckedSide x k → IsSide x k
+pub checked_starred : (x : List ℕ) (k : Shape) → HasCheckedShape x k → HasShape x k
 checked_starred x Plain fine = checked_plain x fine
 checked_starred [] Pattern fine = fine
 checked_starred (b ∷ bs) Pattern fine = fine

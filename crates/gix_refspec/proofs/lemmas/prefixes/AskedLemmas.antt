@@ -10,7 +10,7 @@ use Rattle.gix_refspec.specs.declared.parsing.Operation.{Operation}
 use Rattle.gix_refspec.specs.declared.parsing.Operation.TheVariants.{Fetch}
 use Rattle.gix_refspec.specs.declared.spec.RefSpecRef.{RefSpecRef}
 use Rattle.gix_refspec.specs.Views.Spec.{reading_of}
-use Rattle.gix_refspec.specs.Texts.Words.{Begins}
+use Rattle.gix_refspec.specs.Texts.Words.{BeginsWith}
 use Rattle.gix_refspec.specs.Texts.Name.{IsCut}
 use Rattle.gix_refspec.specs.Specs.Grammar.{IsPositive}
 use Rattle.gix_refspec.specs.Specs.Reading.{Reading, side_on_remote}
@@ -54,41 +54,41 @@ partial_asks x n kind lists = some_entry _ _ (list_as x (partial n) [] kind list
 
 -- ---- what begins with an entry
 
-abbrev BeginsWith : List ℕ → List (List ℕ) → Type 0
-BeginsWith n list = Any (λ p. Begins p n) list
+abbrev BeginsWithSome : List ℕ → List (List ℕ) → Type 0
+BeginsWithSome n list = Any (λ p. BeginsWith p n) list
 
 -- a ref that a side of the kind matches begins with one of its list, unless the side is an id
-kind_serves : (x : List ℕ) (k : SideKind) (list : List (List ℕ)) (r : Ref) (word : Option (List ℕ)) → HasKind x k → ((bytes : List ℕ) → ¬ (HasKind x (object bytes))) → MatchesAs k r word → ListsAs k list → BeginsWith r.name list
+kind_serves : (x : List ℕ) (k : SideKind) (list : List (List ℕ)) (r : Ref) (word : Option (List ℕ)) → HasKind x k → ((bytes : List ℕ) → ¬ (HasKind x (object bytes))) → MatchesAs k r word → ListsAs k list → BeginsWithSome r.name list
 kind_serves x (pattern before after) list r None of no_object matches lists = absurd matches
-kind_serves x (pattern before after) list r (Some word) of no_object matches lists = subst (BeginsWith r.name) (sym lists.1) (inl (record { after = word ++ after; here = matches }))
-kind_serves x (full_name n) list r word of no_object matches lists = subst (BeginsWith r.name) (sym lists) (inl (record { after = []; here = matches.1 ∙ sym (append-nil n) }))
+kind_serves x (pattern before after) list r (Some word) of no_object matches lists = subst (BeginsWithSome r.name) (sym lists.1) (inl (record { after = word ++ after; here = matches }))
+kind_serves x (full_name n) list r word of no_object matches lists = subst (BeginsWithSome r.name) (sym lists) (inl (record { after = []; here = matches.1 ∙ sym (append-nil n) }))
 kind_serves x (object bytes) list r word of no_object matches lists = absurd (no_object bytes of)
-kind_serves x (partial n) list r word of no_object matches lists = subst (BeginsWith r.name) (sym (lists ∙ matches.1.here)) (Any-right (λ p. Begins p r.name) matches.1.earlier (r.name ∷ matches.1.later) (inl (record { after = []; here = sym (append-nil r.name) })))
+kind_serves x (partial n) list r word of no_object matches lists = subst (BeginsWithSome r.name) (sym (lists ∙ matches.1.here)) (Any-right (λ p. BeginsWith p r.name) matches.1.earlier (r.name ∷ matches.1.later) (inl (record { after = []; here = sym (append-nil r.name) })))
 
-pub side_serves : (x : List ℕ) (list : List (List ℕ)) (r : Ref) (word : Option (List ℕ)) → ((bytes : List ℕ) → ¬ (HasKind x (object bytes))) → Matches x r word → ListsSide x list → BeginsWith r.name list
+pub side_serves : (x : List ℕ) (list : List (List ℕ)) (r : Ref) (word : Option (List ℕ)) → ((bytes : List ℕ) → ¬ (HasKind x (object bytes))) → Matches x r word → ListsSide x list → BeginsWithSome r.name list
 side_serves x list r word no_object matches lists = kind_serves x matches.kind list r word matches.of no_object matches.is (list_as x matches.kind list matches.of lists)
 
 -- so does the name of an item that a fetch pairs
-reading_serves : (r : Reading) (items : List Ref) (n : List ℕ) (far : Option (List ℕ)) (list : List (List ℕ)) → r.operation ≡ Fetch → PairsItem AreForwardEnds (Takes items) items n far r → Lists r list → BeginsWith n list
+reading_serves : (r : Reading) (items : List Ref) (n : List ℕ) (far : Option (List ℕ)) (list : List (List ℕ)) → r.operation ≡ Fetch → PairsItem AreForwardEnds (Takes items) items n far r → Lists r list → BeginsWithSome n list
 reading_serves r items n far list fetch pairs (inl (negative, empty)) = absurd (subst IsPositive negative pairs.has.positive)
 reading_serves r items n far list fetch pairs (inr (x, asked, lists)) =
     let near : IsAsked r pairs.ends.near = record { positive = pairs.has.positive; side = ap (λ (op : Operation). side_on_remote op r.source r.destination) fetch ∙ pairs.has.near } in
     let (place, item, below, at, one) = pairs.one in
-    subst (λ (m : List ℕ). BeginsWith m list) one.name
+    subst (λ (m : List ℕ). BeginsWithSome m list) one.name
     (side_serves pairs.ends.near list item one.word pairs.has.no_object one.takes.matches (subst (λ (y : List ℕ). ListsSide y list) (one_asked r x pairs.ends.near asked near) lists))
 
-group_serves : (g : List Reading) (items : List Ref) (n : List ℕ) (far : Option (List ℕ)) (k : ℕ) (list : List (List ℕ)) → AllByRecursion (λ r. r.operation ≡ Fetch) g → Any (PairsItem AreForwardEnds (Takes items) items n far) g → IsJoinedFrom (λ i r names. Lists r names) k g list → BeginsWith n list
+group_serves : (g : List Reading) (items : List Ref) (n : List ℕ) (far : Option (List ℕ)) (k : ℕ) (list : List (List ℕ)) → AllByRecursion (λ r. r.operation ≡ Fetch) g → Any (PairsItem AreForwardEnds (Takes items) items n far) g → IsJoinedFrom (λ i r names. Lists r names) k g list → BeginsWithSome n list
 group_serves [] items n far k list fetches any joined = absurd any
-group_serves (r ∷ g) items n far k list fetches (inl pairs) (first, rest, lists, more, is) = subst (BeginsWith n) (sym is) (Any-left (λ p. Begins p n) first rest (reading_serves r items n far first fetches.0 pairs lists))
-group_serves (r ∷ g) items n far k list fetches (inr later) (first, rest, lists, more, is) = subst (BeginsWith n) (sym is) (Any-right (λ p. Begins p n) first rest (group_serves g items n far (k + 1) rest fetches.1 later more))
+group_serves (r ∷ g) items n far k list fetches (inl pairs) (first, rest, lists, more, is) = subst (BeginsWithSome n) (sym is) (Any-left (λ p. BeginsWith p n) first rest (reading_serves r items n far first fetches.0 pairs lists))
+group_serves (r ∷ g) items n far k list fetches (inr later) (first, rest, lists, more, is) = subst (BeginsWithSome n) (sym is) (Any-right (λ p. BeginsWith p n) first rest (group_serves g items n far (k + 1) rest fetches.1 later more))
 
 pub serves : (g : List Reading) (list : List (List ℕ)) → ListsGroup g list → Serves list g
 serves g list joined fetches items kept are =
-    recursion_from_All (λ m. (n : List ℕ) → m.source ≡ name n → lists.Any (λ p. Begins p n) list) kept (λ k d below n is.
+    recursion_from_All (λ m. (n : List ℕ) → m.source ≡ name n → lists.Any (λ p. BeginsWith p n) list) kept (λ k d below n is.
     let m = get_or kept k d in
     let made = (((kept_exactly g items).forward kept are m).0 (HasPair-from_place kept k d m below (record { source = refl; destination = refl }))).0 in
     let pairs : lists.Any (MakesForward items (name n) m.destination) g = subst (λ (s : Start). lists.Any (MakesForward items s m.destination) g) is made in
-    some_at (λ p. Begins p n) list (group_serves g items n m.destination 0 list fetches (some_of (MakesForward items (name n) m.destination) g pairs) joined))
+    some_at (λ p. BeginsWith p n) list (group_serves g items n m.destination 0 list fetches (some_of (MakesForward items (name n) m.destination) g pairs) joined))
 
 -- ---- what the code answers
 

@@ -4,14 +4,14 @@ use Rattle.std.proofs.lemmas.List.{append-nil, append_assoc, get_or_append_left}
 use Rattle.std.specs.List.{AllByRecursion, Any, slice_get}
 use Rattle.gix_refspec.specs.declared.parsing.Operation.{Operation}
 use Rattle.gix_refspec.specs.declared.parsing.Operation.TheVariants.{Fetch}
-use Rattle.gix_refspec.specs.Texts.Words.{Lacks, Begins}
+use Rattle.gix_refspec.specs.Texts.Words.{Lacks, BeginsWith}
 use Rattle.gix_refspec.specs.Texts.Bytes.{star, head}
 use Rattle.gix_refspec.specs.Specs.Reading.{Reading, side_on_remote}
 use Rattle.gix_refspec.specs.Matching.Side.{SideKind, pattern, full_name, object, partial, HasKind, IsId, IsCandidate, candidates}
 use Rattle.gix_refspec.specs.Matching.Match.{Ref, Matches, Takes}
 use Rattle.gix_refspec.specs.Matching.Prefix.{of_head, IsAsked, Expands, to_prefix, IsExpansion}
 use Rattle.gix_refspec.specs.Matching.Lists.{IsMadeFrom, IsJoinedFrom}
-use Rattle.gix_refspec.specs.Matching.Mappings.{name, id, Mapped, Stays}
+use Rattle.gix_refspec.specs.Matching.Mappings.{name, id, Mapped, IsKeptAt}
 use Rattle.gix_refspec.specs.Matching.Hits.{Ends, AreForwardEnds, Hit, IsHit, AreSpecHits, IsIdMapping, forward_of, AreForward}
 use Rattle.gix_refspec.specs.Laws.Matching.{IsCovering, by_prefix, by_candidates, BeginsWithOne, IsCoveredBy, AsksFor, AtSpec, Cover, CoverTogether}
 use Rattle.gix_refspec.proofs.lemmas.hits.MatchLemmas.{lacks_no_pattern, prefix_begins, has_candidates}
@@ -38,11 +38,11 @@ any_right P (x ∷ xs) ys some = any_there P x (xs ++ ys) (any_right P xs ys som
 -- ---- one side
 
 -- what begins `refs/` isn't `HEAD`
-pub below_not_head : (x : List ℕ) → Begins (codes "refs/") x → x ≢ head
+pub below_not_head : (x : List ℕ) → BeginsWith (codes "refs/") x → x ≢ head
 below_not_head x below is = let first : 114 ≡ 72 = ap (λ (y : List ℕ). get_or y 0 0) (sym below.here ∙ is) in omega (arith, first)
 
 -- a side that matches and asks for no id looks like none
-matched_no_id : (x : List ℕ) (k : SideKind) → Lacks star x → ¬ (Begins (codes "refs/") x) → ((bytes : List ℕ) → ¬ (HasKind x (object bytes))) → HasKind x k → ¬ (IsId x)
+matched_no_id : (x : List ℕ) (k : SideKind) → Lacks star x → ¬ (BeginsWith (codes "refs/") x) → ((bytes : List ℕ) → ¬ (HasKind x (object bytes))) → HasKind x k → ¬ (IsId x)
 matched_no_id x (pattern before after) lacks outside none kind = absurd (lacks_no_pattern x before after lacks kind)
 matched_no_id x (full_name n) lacks outside none kind = absurd (outside kind.2)
 matched_no_id x (object bytes) lacks outside none kind = absurd (none bytes kind)
@@ -51,14 +51,14 @@ matched_no_id x (partial n) lacks outside none kind = kind.3
 -- a candidate begins with itself
 candidate_begins : (x n : List ℕ) → IsCandidate x n → BeginsWithOne (candidates x) n
 candidate_begins x n one = subst (λ (names : List (List ℕ)). BeginsWithOne names n) (sym one.here)
-    (any_right (λ entry. Begins entry n) one.earlier (n ∷ one.later) (any_here (λ entry. Begins entry n) n one.later (record { after = []; here = sym (append-nil n) })))
+    (any_right (λ entry. BeginsWith entry n) one.earlier (n ∷ one.later) (any_here (λ entry. BeginsWith entry n) n one.later (record { after = []; here = sym (append-nil n) })))
 
 -- a covering side expands to an entry with which each name that it matches begins
 pub side_covers : (x : List ℕ) (r : Ref) (word : Option (List ℕ)) → IsCovering x → ((bytes : List ℕ) → ¬ (HasKind x (object bytes))) → Matches x r word → (entries : List (List ℕ)) × Expands x entries × BeginsWithOne entries r.name
 side_covers x r word (by_prefix p below is) no_object matches = (
   p ∷ [],
   to_prefix p is refl,
-  any_here (λ entry. Begins entry r.name) p [] (prefix_begins x p r word is (below_not_head x below) matches),
+  any_here (λ entry. BeginsWith entry r.name) p [] (prefix_begins x p r word is (below_not_head x below) matches),
 )
 side_covers x r word (by_candidates lacks other outside) no_object matches =
     let has = has_candidates x lacks other outside (matched_no_id x matches.kind lacks outside no_object matches.of) in
@@ -83,7 +83,7 @@ hit_covered r ends items k j item hit are is (inl covering) =
 hit_covered r ends items k j item hit are is (inr (fetch, asked, named)) = record {
   entries = head ∷ [];
   expansion = inl (head, asked, to_prefix head (of_head refl refl) refl);
-  one = any_here (λ entry. Begins entry hit.near) head [] (record { after = []; here = named ∙ sym (append-nil head) });
+  one = any_here (λ entry. BeginsWith entry hit.near) head [] (record { after = []; here = named ∙ sym (append-nil head) });
 }
 
 -- what is so of whatever is made is so of each that was made
@@ -127,7 +127,7 @@ hit_sources P [] all = tt
 hit_sources P (hit ∷ hits) all = ((λ n is. subst (P (forward_of hit)) (same_name hit.near n is) all.0), hit_sources P hits all.1)
 
 -- what is so of all mappings is so of those that stay
-kept_each : (Q : Mapped → Type 0) (g : List Reading) (all : List Mapped) (k : ℕ) (xs ys : List Mapped) → AllByRecursion Q xs → IsMadeFrom (λ j m made. (made ≡ m) × Stays g all j m) k xs ys → AllByRecursion Q ys
+kept_each : (Q : Mapped → Type 0) (g : List Reading) (all : List Mapped) (k : ℕ) (xs ys : List Mapped) → AllByRecursion Q xs → IsMadeFrom (λ j m made. (made ≡ m) × IsKeptAt g all j m) k xs ys → AllByRecursion Q ys
 kept_each Q g all k [] ys each none = subst (AllByRecursion Q) (sym none) tt
 kept_each Q g all k (x ∷ xs) ys each (None, rest, here, more, is) = subst (AllByRecursion Q) (sym is) (kept_each Q g all (k + 1) xs rest each.1 more)
 kept_each Q g all k (x ∷ xs) ys each (Some y, rest, here, more, is) = subst (AllByRecursion Q) (sym is) (subst Q (sym here.0) each.0, kept_each Q g all (k + 1) xs rest each.1 more)
@@ -161,9 +161,9 @@ pub joined_covers : (n : List ℕ) (g : List Reading) (k : ℕ) (entries : List 
 joined_covers n [] k entries (i, r, below, here, covered) joined = absurd (omega (arith, below))
 joined_covers n (s ∷ g) k entries (zero, r, below, here, covered) (first, rest, expands, more, is) =
     let same : covered.entries ≡ first = expansion_once r covered.entries first covered.expansion (subst (λ (q : Reading). IsExpansion q first) here expands) in
-    subst (λ (names : List (List ℕ)). BeginsWithOne names n) (sym is) (any_left (λ entry. Begins entry n) first rest (subst (λ (names : List (List ℕ)). BeginsWithOne names n) same covered.one))
+    subst (λ (names : List (List ℕ)). BeginsWithOne names n) (sym is) (any_left (λ entry. BeginsWith entry n) first rest (subst (λ (names : List (List ℕ)). BeginsWithOne names n) same covered.one))
 joined_covers n (s ∷ g) k entries (suc i, r, below, here, covered) (first, rest, expands, more, is) =
-    subst (λ (names : List (List ℕ)). BeginsWithOne names n) (sym is) (any_right (λ entry. Begins entry n) first rest (joined_covers n g (k + 1) rest (i, r, omega (arith, below), here, covered) more))
+    subst (λ (names : List (List ℕ)). BeginsWithOne names n) (sym is) (any_right (λ entry. BeginsWith entry n) first rest (joined_covers n g (k + 1) rest (i, r, omega (arith, below), here, covered) more))
 
 -- what holds of the one at a place holds of some
 some_at : (P : Reading → Type 0) (g : List Reading) (i : ℕ) (r : Reading) → slice_get g i ≡ Some r → P r → Any P g

@@ -1,7 +1,7 @@
 -- A side has one prefix, and is expanded to one list.
 use Rattle.std.proofs.Common.{◌≡◌, ℕ, List, [], ◌∷◌, ◌++◌, codes, sym, ap, ◌∙◌, subst}
 use Rattle.std.proofs.lemmas.List.{append_cancel_left}
-use Rattle.gix_refspec.specs.Texts.Words.{Lacks, Holds, Begins}
+use Rattle.gix_refspec.specs.Texts.Words.{Lacks, Holds, BeginsWith}
 use Rattle.gix_refspec.specs.Texts.Bytes.{slash}
 use Rattle.gix_refspec.specs.Matching.Prefix.{IsPrefix, of_head, of_name, of_pattern, Expands, to_prefix, to_itself, below_refs, of_object, to_candidates}
 use Rattle.gix_refspec.specs.Laws.Readings.{OnePrefix}
@@ -27,7 +27,7 @@ not_both x rest other is is2 lacks holds =
     Lacks-Holds slash other (subst (Lacks slash) same lacks) holds
 
 -- what is `refs/` and more begins so
-begins : (x rest : List ℕ) → x ≡ codes "refs/" ++ rest → Begins (codes "refs/") x
+begins : (x rest : List ℕ) → x ≡ codes "refs/" ++ rest → BeginsWith (codes "refs/") x
 begins x rest is = record { after = rest; here = is }
 
 expanded_once : (x : List ℕ) (list other : List (List ℕ)) → Expands x list → Expands x other → list ≡ other

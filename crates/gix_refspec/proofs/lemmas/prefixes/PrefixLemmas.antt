@@ -8,7 +8,7 @@ use Rattle.std.proofs.lemmas.Bool.{false≢true}
 use Rattle.gix_refspec.specs.declared.oid.Error.{Error}
 use Rattle.gix_refspec.specs.declared.oid.ObjectId.{ObjectId}
 use Rattle.gix_refspec.specs.Texts.ObjectId.{IsIdText, HasIdFault, digits_of, id_bytes}
-use Rattle.gix_refspec.specs.Texts.Words.{Lacks, Holds, Begins}
+use Rattle.gix_refspec.specs.Texts.Words.{Lacks, Holds, BeginsWith}
 use Rattle.gix_refspec.specs.Texts.Name.{IsCut, HasOneStar}
 use Rattle.gix_refspec.specs.Texts.Bytes.{star, slash, head, bracket}
 use Rattle.gix_refspec.specs.Specs.Reading.{Reading}
@@ -83,7 +83,7 @@ itself_expands x rest below lacks (of_object none outside id empty) = outside (r
 itself_expands x rest below lacks (to_candidates none outside unlike six) = absurd (cc)
 
 -- and a partial name
-pub partial_expands : (x : List ℕ) → ¬ (Begins (codes "refs/") x) → ¬ (IsId x) → ¬ (Expands x [])
+pub partial_expands : (x : List ℕ) → ¬ (BeginsWith (codes "refs/") x) → ¬ (IsId x) → ¬ (Expands x [])
 partial_expands x outside unlike (to_prefix q has one) = absurd (cc)
 partial_expands x outside unlike (to_itself rest none below lacks one) = absurd (cc)
 partial_expands x outside unlike (below_refs rest none below holds empty) = outside (record { after = rest; here = below })

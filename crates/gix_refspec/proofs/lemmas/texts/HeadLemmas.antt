@@ -3,7 +3,7 @@ use Rattle.std.proofs.Common.{◌≡◌, ◌≢◌, ℕ, false, List, [], ◌∷
 use Rattle.std.proofs.lemmas.Bool.{false≢true}
 use Rattle.gix_refspec.specs.declared.name.Error.{Error}
 use Rattle.gix_refspec.specs.declared.name.Error.TheVariants.{InvalidByte}
-use Rattle.gix_refspec.specs.Texts.Words.{Lacks, Ends}
+use Rattle.gix_refspec.specs.Texts.Words.{Lacks, EndsWith}
 use Rattle.gix_refspec.specs.Texts.Bytes.{slash, star, letter, plus, caret, colon, head, dot, brace}
 use Rattle.gix_refspec.specs.Texts.Name.{is_refused_byte, IsName, IsPattern}
 use Rattle.gix_refspec.specs.Specs.Grammar.{IsUnsigned}
@@ -32,10 +32,10 @@ clean_head : IsClean (slash ∷ head)
 clean_head = IsClean-more (slash ∷ 72 ∷ 69 ∷ 65 ∷ []) 68 clean_hea (plain_adds_none (slash ∷ 72 ∷ 69 ∷ 65 ∷ []) 68 (λ h. omega arith) (λ h. omega arith) (λ h. omega arith) (λ h. omega arith) refl)
 
 -- it ends with `D`
-head_ends : Ends (68 ∷ []) (slash ∷ head)
+head_ends : EndsWith (68 ∷ []) (slash ∷ head)
 head_ends = record { before = slash ∷ 72 ∷ 69 ∷ 65 ∷ []; here = refl }
 
-head_ends_not : (b : ℕ) → b ≢ 68 → ¬ (Ends (b ∷ []) (slash ∷ head))
+head_ends_not : (b : ℕ) → b ≢ 68 → ¬ (EndsWith (b ∷ []) (slash ∷ head))
 head_ends_not b other ends = other (last_byte (slash ∷ head) b 68 ends head_ends)
 
 -- `HEAD` is a name

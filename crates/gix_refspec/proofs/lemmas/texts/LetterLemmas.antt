@@ -6,7 +6,7 @@ use Rattle.std.proofs.lemmas.List.Sums.{count_by_more_no}
 use Rattle.gix_refspec.specs.declared.name.class.Class.TheVariants.{Plain, Slash, Dot, Brace, Star, Refused}
 use Rattle.gix_refspec.specs.declared.name.Error.{Error}
 use Rattle.gix_refspec.specs.declared.name.Error.TheVariants.{Empty, EmptyComponent, StartsWithDot, LockSuffix, EndsWithDot, RepeatedDot, ReflogPortion, Asterisk, InvalidByte}
-use Rattle.gix_refspec.specs.Texts.Words.{Lacks, Ends}
+use Rattle.gix_refspec.specs.Texts.Words.{Lacks, EndsWith}
 use Rattle.gix_refspec.specs.Texts.Bytes.{slash, star, letter, dot, brace}
 use Rattle.gix_refspec.specs.Texts.Name.{is_refused_byte, HasFault, IsName, IsCut, IsPattern, HasOneStar, ReplacesStar}
 use Rattle.gix_refspec.specs.Private.Scan.{class_at, AddsFault, IsClean, LeavesFault, Finds, letter_for, with_letters, IsScanned, IsCalm, AreCalm}
@@ -39,7 +39,7 @@ same_word (b ∷ y) (c ∷ w) lacks same =
     let tails : with_letters y ≡ w = cc in
     ap (λ d. d ∷ y) (same_byte b c lacks.0 heads) ∙ ap (λ z. c ∷ z) (same_word y w lacks.1 tails)
 
-end_before : (y p w : List ℕ) → Lacks letter w → with_letters y ≡ p ++ w → Ends w y
+end_before : (y p w : List ℕ) → Lacks letter w → with_letters y ≡ p ++ w → EndsWith w y
 end_before y [] w lacks same = record { before = []; here = same_word y w lacks same }
 end_before [] (c ∷ p) w lacks same = cc
 end_before (b ∷ y) (c ∷ p) w lacks same =
@@ -48,11 +48,11 @@ end_before (b ∷ y) (c ∷ p) w lacks same =
     record { before = b ∷ end.before; here = ap (λ z. b ∷ z) end.here }
 
 -- a word without a letter ends a text with letters just where it ends the text
-Ends-before : (w y : List ℕ) → Lacks letter w → Ends w (with_letters y) → Ends w y
-Ends-before w y lacks ends = end_before y ends.before w lacks ends.here
+EndsWith-before : (w y : List ℕ) → Lacks letter w → EndsWith w (with_letters y) → EndsWith w y
+EndsWith-before w y lacks ends = end_before y ends.before w lacks ends.here
 
-Ends-letters : (w y : List ℕ) → with_letters w ≡ w → Ends w y → Ends w (with_letters y)
-Ends-letters w y kept ends = record {
+EndsWith-letters : (w y : List ℕ) → with_letters w ≡ w → EndsWith w y → EndsWith w (with_letters y)
+EndsWith-letters w y kept ends = record {
   before = with_letters ends.before;
   here = ap with_letters ends.here ∙ letters-append ends.before w ∙ ap (λ z. with_letters ends.before ++ z) kept;
 }
@@ -72,33 +72,33 @@ lock_lacks = ((λ e. omega (arith, e)), ((λ e. omega (arith, e)), ((λ e. omega
 -- a byte adds the same faults to a text and to the text with letters
 AddsFault-before : (y : List ℕ) (b : ℕ) (e : Error) → AddsFault (with_letters y) b e → AddsFault y b e
 AddsFault-before y b Empty fault = fault
-AddsFault-before y b EmptyComponent fault = (fault.0, Ends-before (codes "/") y slash_lacks fault.1)
-AddsFault-before y b StartsWithDot fault = (fault.0, Ends-before (codes "/") y slash_lacks fault.1)
-AddsFault-before y b LockSuffix fault = (fault.0, Ends-before (codes ".lock") y lock_lacks fault.1)
+AddsFault-before y b EmptyComponent fault = (fault.0, EndsWith-before (codes "/") y slash_lacks fault.1)
+AddsFault-before y b StartsWithDot fault = (fault.0, EndsWith-before (codes "/") y slash_lacks fault.1)
+AddsFault-before y b LockSuffix fault = (fault.0, EndsWith-before (codes ".lock") y lock_lacks fault.1)
 AddsFault-before y b EndsWithDot fault = fault
-AddsFault-before y b RepeatedDot fault = (fault.0, Ends-before (codes ".") y dot_lacks fault.1)
-AddsFault-before y b ReflogPortion fault = (fault.0, Ends-before (codes "@") y at_lacks fault.1)
+AddsFault-before y b RepeatedDot fault = (fault.0, EndsWith-before (codes ".") y dot_lacks fault.1)
+AddsFault-before y b ReflogPortion fault = (fault.0, EndsWith-before (codes "@") y at_lacks fault.1)
 AddsFault-before y b Asterisk fault = fault
 AddsFault-before y b (InvalidByte c) fault = fault
 
 AddsFault-letters : (y : List ℕ) (b : ℕ) (e : Error) → AddsFault y b e → AddsFault (with_letters y) b e
 AddsFault-letters y b Empty fault = fault
-AddsFault-letters y b EmptyComponent fault = (fault.0, Ends-letters (codes "/") y refl fault.1)
-AddsFault-letters y b StartsWithDot fault = (fault.0, Ends-letters (codes "/") y refl fault.1)
-AddsFault-letters y b LockSuffix fault = (fault.0, Ends-letters (codes ".lock") y refl fault.1)
+AddsFault-letters y b EmptyComponent fault = (fault.0, EndsWith-letters (codes "/") y refl fault.1)
+AddsFault-letters y b StartsWithDot fault = (fault.0, EndsWith-letters (codes "/") y refl fault.1)
+AddsFault-letters y b LockSuffix fault = (fault.0, EndsWith-letters (codes ".lock") y refl fault.1)
 AddsFault-letters y b EndsWithDot fault = fault
-AddsFault-letters y b RepeatedDot fault = (fault.0, Ends-letters (codes ".") y refl fault.1)
-AddsFault-letters y b ReflogPortion fault = (fault.0, Ends-letters (codes "@") y refl fault.1)
+AddsFault-letters y b RepeatedDot fault = (fault.0, EndsWith-letters (codes ".") y refl fault.1)
+AddsFault-letters y b ReflogPortion fault = (fault.0, EndsWith-letters (codes "@") y refl fault.1)
 AddsFault-letters y b Asterisk fault = fault
 AddsFault-letters y b (InvalidByte c) fault = fault
 
 -- and the same faults are left at their ends
 LeavesFault-before : (y : List ℕ) (e : Error) → LeavesFault (with_letters y) e → LeavesFault y e
 LeavesFault-before y Empty left = left
-LeavesFault-before y EmptyComponent left = Ends-before (codes "/") y slash_lacks left
+LeavesFault-before y EmptyComponent left = EndsWith-before (codes "/") y slash_lacks left
 LeavesFault-before y StartsWithDot left = left
-LeavesFault-before y LockSuffix left = Ends-before (codes ".lock") y lock_lacks left
-LeavesFault-before y EndsWithDot left = Ends-before (codes ".") y dot_lacks left
+LeavesFault-before y LockSuffix left = EndsWith-before (codes ".lock") y lock_lacks left
+LeavesFault-before y EndsWithDot left = EndsWith-before (codes ".") y dot_lacks left
 LeavesFault-before y RepeatedDot left = left
 LeavesFault-before y ReflogPortion left = left
 LeavesFault-before y Asterisk left = left
@@ -106,10 +106,10 @@ LeavesFault-before y (InvalidByte c) left = left
 
 LeavesFault-letters : (y : List ℕ) (e : Error) → LeavesFault y e → LeavesFault (with_letters y) e
 LeavesFault-letters y Empty left = left
-LeavesFault-letters y EmptyComponent left = Ends-letters (codes "/") y refl left
+LeavesFault-letters y EmptyComponent left = EndsWith-letters (codes "/") y refl left
 LeavesFault-letters y StartsWithDot left = left
-LeavesFault-letters y LockSuffix left = Ends-letters (codes ".lock") y refl left
-LeavesFault-letters y EndsWithDot left = Ends-letters (codes ".") y refl left
+LeavesFault-letters y LockSuffix left = EndsWith-letters (codes ".lock") y refl left
+LeavesFault-letters y EndsWithDot left = EndsWith-letters (codes ".") y refl left
 LeavesFault-letters y RepeatedDot left = left
 LeavesFault-letters y ReflogPortion left = left
 LeavesFault-letters y Asterisk left = left
@@ -222,18 +222,18 @@ plain_adds_nothing y b plain ReflogPortion fault = let no = plain_as b brace pla
 plain_adds_nothing y b plain Asterisk fault = let no = plain_as b star plain fault in absurd (cc)
 plain_adds_nothing y b plain (InvalidByte c) fault = plain_not_refused b plain (subst (λ d. is_refused_byte d ≡ true) (sym fault.0) fault.1)
 
-locked_ends : (y : List ℕ) → Ends (codes ".lock") y → Ends (107 ∷ []) y
+locked_ends : (y : List ℕ) → EndsWith (codes ".lock") y → EndsWith (107 ∷ []) y
 locked_ends y ends = record { before = ends.before ++ codes ".loc"; here = ends.here ∙ sym (append_assoc ends.before (codes ".loc") (107 ∷ [])) }
 
 -- a calm byte adds no fault
-calm_adds_nothing : (y : List ℕ) (p b : ℕ) → Ends (p ∷ []) y → IsCalm p b → (e : Error) → ¬ (AddsFault y b e)
+calm_adds_nothing : (y : List ℕ) (p b : ℕ) → EndsWith (p ∷ []) y → IsCalm p b → (e : Error) → ¬ (AddsFault y b e)
 calm_adds_nothing y p b last (inl plain) = plain_adds_nothing y b plain
 calm_adds_nothing y p b last (inr quiet) = λ e fault.
     slash_adds y e (λ ends. quiet.1 (last_byte y p slash last ends)) (λ locked. quiet.2 (last_byte y p 107 last (locked_ends y locked)))
     (subst (λ c. AddsFault y c e) quiet.0 fault)
 
 -- the last byte before a place
-last_before : (x : List ℕ) (i : ℕ) → i < length x → Ends (get_or x i 0 ∷ []) (slash ∷ take (i + 1) x)
+last_before : (x : List ℕ) (i : ℕ) → i < length x → EndsWith (get_or x i 0 ∷ []) (slash ∷ take (i + 1) x)
 last_before x i below = record { before = slash ∷ take i x; here = ap (λ z. slash ∷ z) (take_more x i 0 below) }
 
 calm_more : (x : List ℕ) (i : ℕ) (s : Bool) → 0 < i → i < length x → IsCalm (get_or x (i - 1) 0) (get_or x i 0) → IsScanned x i s → IsScanned x (i + 1) s
@@ -241,7 +241,7 @@ calm_more x i s some below calm scanned =
     let b = get_or x i 0 in
     let y = slash ∷ take i x in
     let back : i - 1 + 1 ≡ i = omega (arith, some) in
-    let last : Ends (get_or x (i - 1) 0 ∷ []) y = subst (λ j. Ends (get_or x (i - 1) 0 ∷ []) (slash ∷ take j x)) back (last_before x (i - 1) (omega (arith, some, below))) in
+    let last : EndsWith (get_or x (i - 1) 0 ∷ []) y = subst (λ j. EndsWith (get_or x (i - 1) 0 ∷ []) (slash ∷ take j x)) back (last_before x (i - 1) (omega (arith, some, below))) in
     let none = calm_adds_nothing y (get_or x (i - 1) 0) b last calm in
     let one_more : slash ∷ take (i + 1) x ≡ y ++ (b ∷ []) = ap (λ z. slash ∷ z) (take_more x i 0 below) in (
       subst (λ z. IsClean (with_letters z)) (sym one_more) (clean_behind_other y b none scanned.0),

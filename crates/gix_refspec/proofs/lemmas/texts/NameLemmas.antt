@@ -8,7 +8,7 @@ use Rattle.std.specs.Prelude.{◌⊎◌}
 use Rattle.std.proofs.lemmas.Bool.{false≢true}
 use Rattle.gix_refspec.specs.declared.name.Error.{Error}
 use Rattle.gix_refspec.specs.declared.name.Error.TheVariants.{Empty, EmptyComponent, StartsWithDot, LockSuffix, EndsWithDot, RepeatedDot, ReflogPortion, Asterisk, InvalidByte}
-use Rattle.gix_refspec.specs.Texts.Words.{Lacks, Holds, Begins, Ends}
+use Rattle.gix_refspec.specs.Texts.Words.{Lacks, Holds, BeginsWith, EndsWith}
 use Rattle.gix_refspec.specs.Texts.Bytes.{slash, star, dot, brace}
 use Rattle.gix_refspec.specs.Texts.Name.{is_refused_byte, SomeComponent, HasFault, IsName}
 use Rattle.gix_refspec.specs.Private.Scan.{AddsFault, Added, IsClean, LeavesFault, Finds}
@@ -47,7 +47,7 @@ rest_of_last p y after c b here same =
     cc
 
 -- the last byte of a text is one byte
-pub last_byte : (y : List ℕ) (c b : ℕ) → Ends (c ∷ []) y → Ends (b ∷ []) y → c ≡ b
+pub last_byte : (y : List ℕ) (c b : ℕ) → EndsWith (c ∷ []) y → EndsWith (b ∷ []) y → c ≡ b
 last_byte y c b by_c by_b =
     elim (place_with_one_more by_c.before by_b.before [] c b (sym by_c.here ∙ by_b.here)) [
       | inl same ↦ same.1
@@ -97,10 +97,10 @@ empty_component x p after here ends =
 dot_no_slash : dot ≢ slash
 dot_no_slash same = omega (arith, same)
 
-dotted_component : (x p after : List ℕ) → slash ∷ x ≡ (p ++ (slash ∷ [])) ++ (dot ∷ after) → SomeComponent (Begins (codes ".")) x
+dotted_component : (x p after : List ℕ) → slash ∷ x ≡ (p ++ (slash ∷ [])) ++ (dot ∷ after) → SomeComponent (BeginsWith (codes ".")) x
 dotted_component x p after here =
     let cut : Pieces after = pieces_of after in
-    SomeComponent-from (Begins (codes ".")) (dot ∷ cut.first) x
+    SomeComponent-from (BeginsWith (codes ".")) (dot ∷ cut.first) x
     (record {
       before = p;
       after = fenced cut.others;
@@ -116,9 +116,9 @@ dot_lock_whole = ((λ e. omega (arith, e)), ((λ e. omega (arith, e)), ((λ e. o
 regroup : (a b c d : List ℕ) → ((a ++ b) ++ c) ++ d ≡ a ++ ((b ++ c) ++ d)
 regroup a b c d = simp append_assoc
 
-locked_component_behind : (x p after : List ℕ) → LastSlash p → slash ∷ x ≡ (p ++ codes ".lock") ++ after → IsEnd after → SomeComponent (Ends (codes ".lock")) x
+locked_component_behind : (x p after : List ℕ) → LastSlash p → slash ∷ x ≡ (p ++ codes ".lock") ++ after → IsEnd after → SomeComponent (EndsWith (codes ".lock")) x
 locked_component_behind x p after cut here ends =
-    SomeComponent-from (Ends (codes ".lock")) (cut.after ++ codes ".lock") x
+    SomeComponent-from (EndsWith (codes ".lock")) (cut.after ++ codes ".lock") x
     (record {
       before = cut.before;
       after = after;
@@ -128,7 +128,7 @@ locked_component_behind x p after cut here ends =
     })
     (record { before = cut.after; here = refl })
 
-locked_component : (x p after : List ℕ) → slash ∷ x ≡ (p ++ codes ".lock") ++ after → IsEnd after → SomeComponent (Ends (codes ".lock")) x
+locked_component : (x p after : List ℕ) → slash ∷ x ≡ (p ++ codes ".lock") ++ after → IsEnd after → SomeComponent (EndsWith (codes ".lock")) x
 locked_component x [] after here ends = let first : slash ≡ dot = cc in absurd (dot_no_slash (sym first))
 locked_component x (c ∷ p) after here ends =
     let first : slash ≡ c = cc in
@@ -139,7 +139,7 @@ byte_in_text x p after b c other here same =
     let found : InText x (c ∷ after) = behind_slash x p after c other (here ∙ ap (λ d. p ++ (d ∷ after)) same) in
     record { before = found.before; after = after; here = found.here }
 
-pair_in_text : (x p after : List ℕ) (a b c : ℕ) → a ≢ slash → slash ∷ x ≡ p ++ (b ∷ after) → Ends (a ∷ []) p → b ≡ c → Holds (a ∷ c ∷ []) x
+pair_in_text : (x p after : List ℕ) (a b c : ℕ) → a ≢ slash → slash ∷ x ≡ p ++ (b ∷ after) → EndsWith (a ∷ []) p → b ≡ c → Holds (a ∷ c ∷ []) x
 pair_in_text x p after a b c other here ends same =
     let whole : slash ∷ x ≡ ends.before ++ (a ∷ (c ∷ after)) = here ∙ ap (λ d. p ++ (d ∷ after)) same ∙ ap (λ z. z ++ (c ∷ after)) ends.here ∙ append_assoc ends.before (a ∷ []) (c ∷ after) in
     let found : InText x (a ∷ c ∷ after) = behind_slash x ends.before (c ∷ after) a other whole in
@@ -179,7 +179,7 @@ shown_by_end : (y p after : List ℕ) (e : Error) → y ≡ p ++ after → IsEnd
 shown_by_end y p [] e here ends adds leaves = inr (subst (λ z. LeavesFault z e) (sym (here ∙ append-nil p)) leaves)
 shown_by_end y p (b ∷ after) e here ends adds leaves = inl (record { before = p; byte = b; after = after; here = here; fault = subst (λ c. AddsFault p c e) (sym ends) adds })
 
-pair_added : (x : List ℕ) (a b : ℕ) (e : Error) → Holds (a ∷ b ∷ []) x → ((p : List ℕ) → Ends (a ∷ []) p → AddsFault p b e) → Added (slash ∷ x) e
+pair_added : (x : List ℕ) (a b : ℕ) (e : Error) → Holds (a ∷ b ∷ []) x → ((p : List ℕ) → EndsWith (a ∷ []) p → AddsFault p b e) → Added (slash ∷ x) e
 pair_added x a b e held adds =
     let front = (slash ∷ held.before) ++ (a ∷ []) in
     record {
@@ -197,10 +197,10 @@ found_fault x EmptyComponent some fault =
     let place : IsComponent fault.1.component x = SomeComponent-place (λ w. w ≡ []) x fault.1 in
     let here : slash ∷ x ≡ (place.before ++ (slash ∷ [])) ++ place.after =
     place.here ∙ ap (λ w. place.before ++ (slash ∷ (w ++ place.after))) fault.1.fact ∙ sym (append_assoc place.before (slash ∷ []) place.after) in
-    let ends : Ends (codes "/") (place.before ++ (slash ∷ [])) = record { before = place.before; here = refl } in
+    let ends : EndsWith (codes "/") (place.before ++ (slash ∷ [])) = record { before = place.before; here = refl } in
     shown_by_end (slash ∷ x) (place.before ++ (slash ∷ [])) place.after EmptyComponent here place.ends (refl, ends) ends
 found_fault x StartsWithDot some fault =
-    let place : IsComponent fault.component x = SomeComponent-place (Begins (codes ".")) x fault in
+    let place : IsComponent fault.component x = SomeComponent-place (BeginsWith (codes ".")) x fault in
     inl (record {
       before = place.before ++ (slash ∷ []);
       byte = dot;
@@ -209,11 +209,11 @@ found_fault x StartsWithDot some fault =
       fault = (refl, record { before = place.before; here = refl });
     })
 found_fault x LockSuffix some fault =
-    let place : IsComponent fault.component x = SomeComponent-place (Ends (codes ".lock")) x fault in
+    let place : IsComponent fault.component x = SomeComponent-place (EndsWith (codes ".lock")) x fault in
     let front = place.before ++ (slash ∷ fault.fact.before) in
     let here : slash ∷ x ≡ (front ++ codes ".lock") ++ place.after =
     place.here ∙ ap (λ w. place.before ++ (slash ∷ (w ++ place.after))) fault.fact.here ∙ sym (regroup place.before (slash ∷ fault.fact.before) (codes ".lock") place.after) in
-    let ends : Ends (codes ".lock") (front ++ codes ".lock") = record { before = front; here = refl } in
+    let ends : EndsWith (codes ".lock") (front ++ codes ".lock") = record { before = front; here = refl } in
     shown_by_end (slash ∷ x) (front ++ codes ".lock") place.after LockSuffix here place.ends (refl, ends) ends
 found_fault x EndsWithDot some fault = inr (record { before = slash ∷ fault.before; here = ap (λ z. slash ∷ z) fault.here })
 found_fault x RepeatedDot some fault = inl (pair_added x dot dot RepeatedDot fault (λ p ends. (refl, ends)))
@@ -244,7 +244,7 @@ added_at x i e below fault = record {
 }
 
 -- a slash adds no other fault
-pub slash_adds : (y : List ℕ) (e : Error) → ¬ (Ends (codes "/") y) → ¬ (Ends (codes ".lock") y) → ¬ (AddsFault y slash e)
+pub slash_adds : (y : List ℕ) (e : Error) → ¬ (EndsWith (codes "/") y) → ¬ (EndsWith (codes ".lock") y) → ¬ (AddsFault y slash e)
 slash_adds y Empty whole unlocked fault = fault
 slash_adds y EmptyComponent whole unlocked fault = whole fault.1
 slash_adds y StartsWithDot whole unlocked fault = dot_no_slash (sym fault.0)
@@ -256,7 +256,7 @@ slash_adds y Asterisk whole unlocked fault = absurd (omega (arith, fault))
 slash_adds y (InvalidByte c) whole unlocked fault = refused_no_slash c fault.1 (sym fault.0)
 
 -- the end leaves no other fault
-pub end_leaves : (y : List ℕ) (e : Error) → ¬ (Ends (codes "/") y) → ¬ (Ends (codes ".") y) → ¬ (Ends (codes ".lock") y) → ¬ (LeavesFault y e)
+pub end_leaves : (y : List ℕ) (e : Error) → ¬ (EndsWith (codes "/") y) → ¬ (EndsWith (codes ".") y) → ¬ (EndsWith (codes ".lock") y) → ¬ (LeavesFault y e)
 end_leaves y Empty whole undotted unlocked left = left
 end_leaves y EmptyComponent whole undotted unlocked left = whole left
 end_leaves y StartsWithDot whole undotted unlocked left = left
@@ -268,7 +268,7 @@ end_leaves y Asterisk whole undotted unlocked left = left
 end_leaves y (InvalidByte c) whole undotted unlocked left = left
 
 -- what a test for `.lock` at the end of x says of x with a slash before it
-pub locked_behind_slash : (x : List ℕ) (tested : Bool) → tested ≡ ends_with nat_eq x (codes ".lock") → Decides tested (Ends (codes ".lock") (slash ∷ x))
+pub locked_behind_slash : (x : List ℕ) (tested : Bool) → tested ≡ ends_with nat_eq x (codes ".lock") → Decides tested (EndsWith (codes ".lock") (slash ∷ x))
 locked_behind_slash x tested by_test =
     let ends = ends_is Decides-eqb x (codes ".lock") tested by_test in (
       (λ yes. record { before = slash ∷ take (length x - 5) x; here = ap (λ z. slash ∷ z) (ends.0 yes) }),
@@ -276,7 +276,7 @@ locked_behind_slash x tested by_test =
     )
 
 -- a text that isn't empty ends with its last byte
-pub ends_last : (x : List ℕ) → 1 ≤ length x → Ends (get_or x (length x - 1) 0 ∷ []) (slash ∷ x)
+pub ends_last : (x : List ℕ) → 1 ≤ length x → EndsWith (get_or x (length x - 1) 0 ∷ []) (slash ∷ x)
 ends_last x some =
     let k = length x - 1 in
     let inside : k < length x = omega arith in

@@ -5,7 +5,7 @@ use Rattle.std.proofs.lemmas.List.{append-nil}
 use Rattle.std.proofs.lemmas.Bool.{or_parts, true≢false}
 use Rattle.gix_refspec.specs.declared.name.Error.{Error}
 use Rattle.gix_refspec.specs.declared.name.Error.TheVariants.{Empty, EmptyComponent, StartsWithDot, LockSuffix, EndsWithDot, RepeatedDot, ReflogPortion, Asterisk, InvalidByte}
-use Rattle.gix_refspec.specs.Texts.Words.{Ends}
+use Rattle.gix_refspec.specs.Texts.Words.{EndsWith}
 use Rattle.gix_refspec.specs.Texts.Bytes.{slash, star, dot, at, brace}
 use Rattle.gix_refspec.specs.Texts.Name.{is_refused_byte, IsName}
 use Rattle.gix_refspec.specs.Private.Scan.{LeavesFault, IsClean}
@@ -42,13 +42,13 @@ sound_in : (y : List ℕ) → is_suspect 0 y ≡ false → (before : List ℕ) (
 sound_in y none before b rest here = sound_at 0 b before rest (ap (is_suspect 0) (sym here) ∙ none)
 
 -- nothing behind a word is suspect, where that word ends what stands before
-behind_word : (y before rest : List ℕ) (b : ℕ) (word : List ℕ) → is_suspect 0 y ≡ false → y ≡ before ++ rest → Ends (b ∷ word) before → is_suspect b (word ++ rest) ≡ false
+behind_word : (y before rest : List ℕ) (b : ℕ) (word : List ℕ) → is_suspect 0 y ≡ false → y ≡ before ++ rest → EndsWith (b ∷ word) before → is_suspect b (word ++ rest) ≡ false
 behind_word y before rest b word none here ends =
     let whole : y ≡ ends.before ++ (b ∷ (word ++ rest)) = here ∙ ap (λ z. z ++ rest) ends.here ∙ append_assoc ends.before (b ∷ word) rest in
     (sound_in y none ends.before b (word ++ rest) whole).behind
 
 -- the same, where the byte c follows
-behind_byte : (y before after : List ℕ) (byte c b : ℕ) (word : List ℕ) → is_suspect 0 y ≡ false → y ≡ before ++ (byte ∷ after) → byte ≡ c → Ends (b ∷ word) before → is_suspect b (word ++ (c ∷ after)) ≡ false
+behind_byte : (y before after : List ℕ) (byte c b : ℕ) (word : List ℕ) → is_suspect 0 y ≡ false → y ≡ before ++ (byte ∷ after) → byte ≡ c → EndsWith (b ∷ word) before → is_suspect b (word ++ (c ∷ after)) ≡ false
 behind_byte y before after byte c b word none here same ends = behind_word y before (c ∷ after) b word none (here ∙ ap (λ d. before ++ (d ∷ after)) same) ends
 
 clean : (y : List ℕ) → is_suspect 0 y ≡ false → IsClean y

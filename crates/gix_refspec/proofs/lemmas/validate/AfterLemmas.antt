@@ -5,7 +5,7 @@ use Rattle.std.proofs.lemmas.List.Elements.{All-contains_itself, All-from_recurs
 use Rattle.gix_refspec.specs.Specs.Reading.{Reading}
 use Rattle.gix_refspec.specs.Matching.Lists.{IsMadeFrom, IsJoinedFrom}
 use Rattle.gix_refspec.specs.Matching.Match.{Ref, Takes}
-use Rattle.gix_refspec.specs.Matching.Mappings.{Mapped, IsSamePair, AreApart, Stays}
+use Rattle.gix_refspec.specs.Matching.Mappings.{Mapped, IsSamePair, AreApart, IsKeptAt}
 use Rattle.gix_refspec.specs.Matching.Hits.{AreForwardEnds, AreKeptForward, AreSpecHits, Hit, IsHit, IsIdMapping, forward_of}
 use Rattle.gix_refspec.specs.Matching.Validation.{AreConflicts, ForwardFits, HaveOneSource, IsValidated, MeetAt, NeverMeet, Removed, Survives, ValidatedOnce}
 use Rattle.gix_refspec.proofs.lemmas.validate.FirstLemmas.{start_cases}
@@ -45,7 +45,7 @@ forward_fits g items l kept =
     let ids = made_each IsIdMapping (λ m. m.spec < n) n (λ k r m below is. subst (λ (s : ℕ). s < n) (sym is.spec) below) 0 g all.ids (omega arith) all.are_ids in
     let hits = joined_each (AreSpecHits AreForwardEnds (Takes items) items) (λ h. h.spec < n) n (λ k r hs below are. spec_of_hits items k n r hs below are) 0 g all.hits (omega arith) all.are_hits in
     let both = subst (AllByRecursion (λ m. m.spec < n)) (sym all.all) (all_join (λ m. m.spec < n) all.ids (map forward_of all.hits) ids (map_forward n all.hits hits)) in
-    stays_each (λ k m. Stays g kept.all k m) (λ m. m.spec < n) 0 kept.all l both kept.is
+    stays_each (λ k m. IsKeptAt g kept.all k m) (λ m. m.spec < n) 0 kept.all l both kept.is
 
 -- no pair stands twice in what stays
 pub apart_still : (S : ℕ → Mapped → Type 0) (k : ℕ) (xs ys : List Mapped) → AreApart xs → IsMadeFrom (λ j x y. (y ≡ x) × S j x) k xs ys → AreApart ys

@@ -4,7 +4,7 @@ use Rattle.std.specs.List.{AllByRecursion, slice_get}
 use Rattle.std.specs.List.Sorted.{IsPermutation}
 use Rattle.std.proofs.lemmas.List.Sorted.{IsPermutation-sym}
 use Rattle.gix_refspec.specs.Matching.Mappings.{Mapped}
-use Rattle.gix_refspec.specs.Matching.Validation.{IsContested}
+use Rattle.gix_refspec.specs.Matching.Validation.{HasConflictAt}
 use Rattle.gix_refspec.specs.Private.Kept.{Has, Rises, name_hash}
 use Rattle.gix_refspec.specs.Private.Updates.{destination_hashes}
 use Rattle.gix_refspec.proofs.lemmas.validate.FirstLemmas.{at_contained}
@@ -68,7 +68,7 @@ rises_from_next (n ∷ m ∷ ns) next =
     all_above n m (k ∷ ns) less all = let first : m < k = all.0 in (omega (arith, first, less), all_above n m ns less all.1)
 
 -- hashes that rise once they are sorted are apart, so that no two mappings have one destination
-pub none_contested : (l : List Mapped) (sorted : List ℕ) → IsPermutation (destination_hashes l) sorted → Rises sorted → (d : List ℕ) → ¬ (IsContested l d)
+pub none_contested : (l : List Mapped) (sorted : List ℕ) → IsPermutation (destination_hashes l) sorted → Rises sorted → (d : List ℕ) → ¬ (HasConflictAt l d)
 unfolding AreApart
 none_contested l sorted moved rises d c =
     let apart : AreApart (destination_hashes l) = apart_places sorted (destination_hashes l) (IsPermutation-sym (destination_hashes l) sorted moved) rises in

@@ -9,7 +9,7 @@ use Rattle.gix_refspec.specs.Specs.Reading.{Reading}
 use Rattle.gix_refspec.specs.Matching.Side.{SideKind, pattern, full_name, object, partial, HasKind, filled}
 use Rattle.gix_refspec.specs.Matching.Match.{Ref, MatchesAs, Takes}
 use Rattle.gix_refspec.specs.Matching.Lists.{IsMadeFrom, IsJoinedFrom}
-use Rattle.gix_refspec.specs.Matching.Mappings.{Start, name, id, Mapped, Stays}
+use Rattle.gix_refspec.specs.Matching.Mappings.{Start, name, id, Mapped, IsKeptAt}
 use Rattle.gix_refspec.specs.Matching.Hits.{Ends, AreForwardEnds, AreSpecHits, IsFilled, Hit, IsHit, IsIdMapping, AreKeptForward, forward_of}
 use Rattle.gix_refspec.proofs.lemmas.texts.TextLemmas.{Lacks-from_places}
 use Rattle.gix_refspec.proofs.lemmas.texts.ObjectIdLemmas.{IsLowerText-lower_of, decode_of-IsIdText}
@@ -107,5 +107,5 @@ module _ (b : ℕ) (below : b < 32) (no_digit : is_lower_digit b ≡ false) wher
   pub kept_lacks : (g : List Reading) (items : List Ref) (l : List Mapped) → AllByRecursion (SidesLack b) g → AllByRecursion (λ r. Lacks b r.name) items → AreKeptForward g items l → AllByRecursion (MappedLacks b) l
   kept_lacks g items l sides names kept =
       let are = kept.forward in
-      stays_each (λ k m. Stays g kept.all k m) (MappedLacks b) 0 kept.all l
+      stays_each (λ k m. IsKeptAt g kept.all k m) (MappedLacks b) 0 kept.all l
       (subst (AllByRecursion (MappedLacks b)) (sym are.all) (all_join (MappedLacks b) are.ids (map forward_of are.hits) (ids_lack 0 g are.ids sides are.are_ids) (forward_lacks are.hits (group_lacks items 0 g are.hits names sides are.are_hits)))) kept.is

@@ -1,4 +1,4 @@
--- Conflicts, from claims in order.
+-- Conflicts, from updates in order.
 use Rattle.std.proofs.Common.{◌≡◌, ◌⊎◌, inl, inr, ◌↔◌, ℕ, ◌+◌, ◌<◌, ◌≤◌, List, [], ◌∷◌, ◌++◌, Some, option_map, Bool, length, map, take, drop, get_or, refl, sym, ap, ◌∙◌, subst, arith}
 use Rattle.std.specs.List.{AllByRecursion, AllZip, Contains, slice_get}
 use Rattle.std.specs.List.Sorted.{IsStrictlySortedBy}
@@ -13,7 +13,7 @@ use Rattle.gix_refspec.specs.declared.match_group.types.NameRef.{NameRef}
 use Rattle.gix_refspec.specs.declared.match_group.types.NameRef.TheVariants as name_ref
 use Rattle.gix_refspec.specs.declared.match_group.types.SourceRef.{SourceRef}
 use Rattle.gix_refspec.specs.declared.match_group.types.SourceRef.TheVariants as source_ref
-use Rattle.gix_refspec.specs.declared.match_group.validate.conflicts.Claim.{Claim}
+use Rattle.gix_refspec.specs.declared.match_group.validate.conflicts.Update.{Update}
 use Rattle.gix_refspec.specs.declared.spec.RefSpecRef.{RefSpecRef}
 use Rattle.gix_refspec.specs.Specs.Reading.{Reading}
 use Rattle.gix_refspec.specs.Specs.Meaning.{printed}
@@ -21,12 +21,12 @@ use Rattle.gix_refspec.specs.Views.Spec.{reading_of}
 use Rattle.gix_refspec.specs.Matching.Mappings.{Start, name, id, Mapped, HasPair}
 use Rattle.gix_refspec.specs.Views.Group.{mapped_of, name_bytes, start_of, IsNameCopy, IsSourceCopy}
 use Rattle.gix_refspec.specs.Texts.ObjectId.{id_bytes}
-use Rattle.gix_refspec.specs.Matching.Validation.{AreConflicts, Conflict, IndexesFit, IsConflict, IsContested, IsFirstTo, IsTextAt}
+use Rattle.gix_refspec.specs.Matching.Validation.{AreConflicts, Conflict, IndexesFit, IsConflict, HasConflictAt, IsFirstTo, IsTextAt}
 use Rattle.gix_refspec.specs.Private.Kept.{FlagsRepeats, Has, IsFlagged, IsRepeat, Rises}
-use Rattle.gix_refspec.specs.Private.Updates.{AddsConflict, AreClaims, AreFirsts, AreRivals, HasClaim, IsCut, IsFirstAt, IsOver, claim_cmp, claimed_places}
+use Rattle.gix_refspec.specs.Private.Updates.{AddsConflict, AreUpdates, AreFirstUpdates, AreConflicting, HasUpdate, IsRun, IsFirstAt, IsConflictOf, update_cmp, updated_places}
 use Rattle.gix_refspec.proofs.lemmas.keep.RepeatLemmas.{all_join, all_right, all_weaker, some_mapping}
 use Rattle.gix_refspec.proofs.lemmas.keep.KeptLemmas.{repeats_at}
-use Rattle.gix_refspec.proofs.lemmas.validate.UpdateLemmas.{HasClaim-cases, HasClaim-left, HasClaim-right, later, mapped_at, not_below_itself, strict_left, strict_right}
+use Rattle.gix_refspec.proofs.lemmas.validate.UpdateLemmas.{HasUpdate-cases, HasUpdate-left, HasUpdate-right, later, mapped_at, not_below_itself, strict_left, strict_right}
 use Rattle.gix_refspec.proofs.lemmas.validate.FirstLemmas.{IsOfPlace, contested_from_firsts, made_at_places, one_mapping, two_firsts}
 
 -- the mappings at the places have these sources, and their specs these texts
@@ -41,8 +41,8 @@ zip_more R [] (b ∷ ys) x y zip one = absurd zip
 zip_more R (a ∷ xs) [] x y zip one = absurd zip
 zip_more R (a ∷ xs) (b ∷ ys) x y zip one = (zip.0, zip_more R xs ys x y zip.1 one)
 
--- claims to one destination have the places of the claims to it
-pub places_to_one : (x : List ℕ) (cs : List Claim) (k : ℕ) → AllByRecursion (λ c. c.destination.now ≡ x) cs → Has (claimed_places cs) k ↔ HasClaim cs k x
+-- updates to one destination have the places of the updates to it
+pub places_to_one : (x : List ℕ) (cs : List Update) (k : ℕ) → AllByRecursion (λ c. c.destination.now ≡ x) cs → Has (updated_places cs) k ↔ HasUpdate cs k x
 places_to_one x [] k same = ((λ none. none), (λ none. none))
 places_to_one x (c ∷ cs) k same = (
   (λ has. elim has [
@@ -56,48 +56,48 @@ places_to_one x (c ∷ cs) k same = (
 )
 
 -- and in order these rise
-pub places_rise : (x : List ℕ) (cs : List Claim) → AllByRecursion (λ c. c.destination.now ≡ x) cs → IsStrictlySortedBy claim_cmp cs → Rises (claimed_places cs)
+pub places_rise : (x : List ℕ) (cs : List Update) → AllByRecursion (λ c. c.destination.now ≡ x) cs → IsStrictlySortedBy update_cmp cs → Rises (updated_places cs)
 unfolding IsStrictlySortedBy
 places_rise x [] same strict = tt
 places_rise x (c ∷ cs) same strict = (each cs same.1 strict.0, places_rise x cs same.1 strict.1)
   where
-    each : (ys : List Claim) → AllByRecursion (λ y. y.destination.now ≡ x) ys → AllByRecursion (λ y. claim_cmp c y ≡ Less) ys → AllByRecursion (λ n. c.place < n) (claimed_places ys)
+    each : (ys : List Update) → AllByRecursion (λ y. y.destination.now ≡ x) ys → AllByRecursion (λ y. update_cmp c y ≡ Less) ys → AllByRecursion (λ n. c.place < n) (updated_places ys)
     each [] same2 less = tt
     each (y ∷ ys) same2 less = (one y same2.0 less.0, each ys same2.1 less.1)
       where
-        one : (y : Claim) → y.destination.now ≡ x → claim_cmp c y ≡ Less → c.place < y.place
+        one : (y : Update) → y.destination.now ≡ x → update_cmp c y ≡ Less → c.place < y.place
         one y to_x is = elim (later c y is) [
           | inl below ↦ absurd (not_below_itself x (subst (λ (d : List ℕ). slice_cmp nat_cmp d x ≡ Less) same.0 (subst (λ (d : List ℕ). slice_cmp nat_cmp c.destination.now d ≡ Less) to_x below)))
           | inr tied ↦ tied.1
         ]
 
--- each rival has a place among the mappings
-pub rival_fits : (ms : List Mapping) (run : List Claim) (i : ℕ) (d : Claim) → AreRivals (map mapped_of ms) run → i < length run → (get_or run i d).place < length ms
-rival_fits ms run i d rivals below = All-from_recursion (λ (c : Claim). c.place < length ms) run (each run rivals.same (λ k has. (rivals.are k).0 has)) i d below
+-- each conflicting has a place among the mappings
+pub conflicting_fits : (ms : List Mapping) (run : List Update) (i : ℕ) (d : Update) → AreConflicting (map mapped_of ms) run → i < length run → (get_or run i d).place < length ms
+conflicting_fits ms run i d conflicting below = All-from_recursion (λ (c : Update). c.place < length ms) run (each run conflicting.same (λ k has. (conflicting.are k).0 has)) i d below
   where
-    each : (cs : List Claim) → AllByRecursion (λ c. c.destination.now ≡ rivals.destination) cs → ((k : ℕ) → HasClaim cs k rivals.destination → IsFirstAt (map mapped_of ms) k rivals.destination) → AllByRecursion (λ c. c.place < length ms) cs
+    each : (cs : List Update) → AllByRecursion (λ c. c.destination.now ≡ conflicting.destination) cs → ((k : ℕ) → HasUpdate cs k conflicting.destination → IsFirstAt (map mapped_of ms) k conflicting.destination) → AllByRecursion (λ c. c.place < length ms) cs
     each [] same told = tt
     each (c ∷ cs) same told =
         let first = told c.place (inl (refl, same.0)) in
         let below = slice_get_within (map mapped_of ms) c.place first.0 first.1 in
         (omega (arith, below, length-map ms mapped_of), each cs same.1 (λ k has. told k (inr has)))
 
--- what the claims of all sources of a destination tell is its conflict
-pub conflict_from_rivals : (g : List Reading) (l : List Mapped) (run : List Claim) (d : List ℕ) (sources : List Start) (texts : List (List ℕ)) → (rivals : AreRivals l run) → AreTold g l (claimed_places run) sources texts → d ≡ rivals.destination → IsOver g l run (record { destination = d; sources = sources; texts = texts })
-conflict_from_rivals g l run d sources texts rivals told to = subst (λ (e : List ℕ). IsOver g l run (record { destination = e; sources = sources; texts = texts })) (sym to) (record {
+-- what the updates of all sources of a destination tell is its conflict
+pub conflict_from_conflicting : (g : List Reading) (l : List Mapped) (run : List Update) (d : List ℕ) (sources : List Start) (texts : List (List ℕ)) → (conflicting : AreConflicting l run) → AreTold g l (updated_places run) sources texts → d ≡ conflicting.destination → IsConflictOf g l run (record { destination = d; sources = sources; texts = texts })
+conflict_from_conflicting g l run d sources texts conflicting told to = subst (λ (e : List ℕ). IsConflictOf g l run (record { destination = e; sources = sources; texts = texts })) (sym to) (record {
   is = record {
-    contested = two run rivals.several rises (λ k has. (rivals.are k).0 ((places_to_one x run k rivals.same).0 has));
-    sources = made_at_places (λ k m. IsFirstTo x l k m) (λ m source. source ≡ m.source) l 0 l (claimed_places run) sources at has rises (any_above (claimed_places run)) told.sources_are;
-    texts = made_at_places (λ k m. IsFirstTo x l k m) (λ m text. IsTextAt g m.spec text) l 0 l (claimed_places run) texts at has rises (any_above (claimed_places run)) told.texts_are;
+    contested = two run conflicting.several rises (λ k has. (conflicting.are k).0 ((places_to_one x run k conflicting.same).0 has));
+    sources = made_at_places (λ k m. IsFirstTo x l k m) (λ m source. source ≡ m.source) l 0 l (updated_places run) sources at has rises (any_above (updated_places run)) told.sources_are;
+    texts = made_at_places (λ k m. IsFirstTo x l k m) (λ m text. IsTextAt g m.spec text) l 0 l (updated_places run) texts at has rises (any_above (updated_places run)) told.texts_are;
   };
-  same = rivals.same;
+  same = conflicting.same;
 })
   where
     x : List ℕ
-    x = rivals.destination
+    x = conflicting.destination
 
-    rises : Rises (claimed_places run)
-    rises = places_rise x run rivals.same rivals.order
+    rises : Rises (updated_places run)
+    rises = places_rise x run conflicting.same conflicting.order
 
     at : (j : ℕ) → slice_get l j ≡ slice_get l (0 + j)
     at j = let same : j ≡ 0 + j = omega arith in ap (slice_get l) same
@@ -106,13 +106,13 @@ conflict_from_rivals g l run d sources texts rivals told to = subst (λ (e : Lis
     any_above [] = tt
     any_above (n ∷ ns) = (omega arith, any_above ns)
 
-    has : (j : ℕ) (m : Mapped) → 0 ≤ j → slice_get l j ≡ Some m → Has (claimed_places run) j ↔ IsFirstTo x l j m
+    has : (j : ℕ) (m : Mapped) → 0 ≤ j → slice_get l j ≡ Some m → Has (updated_places run) j ↔ IsFirstTo x l j m
     has j m low is = (
-      (λ there. let first = (rivals.are j).0 ((places_to_one x run j rivals.same).0 there) in subst (λ (n : Mapped). IsFirstTo x l j n) (one_mapping l j first.0 m first.1 is) first.2),
-      (λ first. (places_to_one x run j rivals.same).1 ((rivals.are j).1 (m, is, first))),
+      (λ there. let first = (conflicting.are j).0 ((places_to_one x run j conflicting.same).0 there) in subst (λ (n : Mapped). IsFirstTo x l j n) (one_mapping l j first.0 m first.1 is) first.2),
+      (λ first. (places_to_one x run j conflicting.same).1 ((conflicting.are j).1 (m, is, first))),
     )
 
-    two : (cs : List Claim) → 1 < length cs → Rises (claimed_places cs) → ((k : ℕ) → Has (claimed_places cs) k → IsFirstAt l k x) → IsContested l x
+    two : (cs : List Update) → 1 < length cs → Rises (updated_places cs) → ((k : ℕ) → Has (updated_places cs) k → IsFirstAt l k x) → HasConflictAt l x
     two [] several up first = absurd (omega arith)
     two (c ∷ []) several up first = absurd (omega arith)
     two (c ∷ y ∷ cs) several up first = contested_from_firsts l x c.place y.place up.0.0 (first c.place (inl refl)) (first y.place (inr (inl refl)))
@@ -135,15 +135,15 @@ copied_source (source_ref.ObjectId i) (source_ref.ObjectId j) copy = ap (λ k. i
 pub text_at : (specs : List RefSpecRef) (k : ℕ) (spec : RefSpecRef) (text : List ℕ) → k < length specs → spec ≡ get_or specs k spec → printed (reading_of spec) ≡ Some text → IsTextAt (map reading_of specs) k text
 text_at specs k spec text below is prints = (reading_of spec, slice_get-map reading_of specs k ∙ ap (option_map reading_of) (slice_get_read specs (length specs) k spec refl below is), prints)
 
--- one more claim has given its source and its text
-pub told_more : (g : List Reading) (ms : List Mapping) (run : List Claim) (i : ℕ) (d : Claim) (m : Mapping) (source : Start) (text : List ℕ) (sources : List Start) (texts : List (List ℕ)) → i < length run → (get_or run i d).place < length ms → m ≡ get_or ms (get_or run i d).place m → source ≡ start_of m.lhs → IsTextAt g m.spec_index text → AreTold g (map mapped_of ms) (claimed_places (take i run)) sources texts → AreTold g (map mapped_of ms) (claimed_places (take (i + 1) run)) (sources ++ source ∷ []) (texts ++ text ∷ [])
+-- one more update has given its source and its text
+pub told_more : (g : List Reading) (ms : List Mapping) (run : List Update) (i : ℕ) (d : Update) (m : Mapping) (source : Start) (text : List ℕ) (sources : List Start) (texts : List (List ℕ)) → i < length run → (get_or run i d).place < length ms → m ≡ get_or ms (get_or run i d).place m → source ≡ start_of m.lhs → IsTextAt g m.spec_index text → AreTold g (map mapped_of ms) (updated_places (take i run)) sources texts → AreTold g (map mapped_of ms) (updated_places (take (i + 1) run)) (sources ++ source ∷ []) (texts ++ text ∷ [])
 told_more g ms run i d m source text sources texts below fits is is_source is_text told =
     let l = map mapped_of ms in
     let here : slice_get l (get_or run i d).place ≡ Some (mapped_of m) = mapped_at ms (get_or run i d).place m fits is in
-    let places : claimed_places (take (i + 1) run) ≡ claimed_places (take i run) ++ (get_or run i d).place ∷ [] = ap claimed_places (take_more run i d below) ∙ map-append (λ (c : Claim). c.place) (take i run) (get_or run i d ∷ []) in
+    let places : updated_places (take (i + 1) run) ≡ updated_places (take i run) ++ (get_or run i d).place ∷ [] = ap updated_places (take_more run i d below) ∙ map-append (λ (c : Update). c.place) (take i run) (get_or run i d ∷ []) in
     subst (λ (ns : List ℕ). AreTold g l ns (sources ++ source ∷ []) (texts ++ text ∷ [])) (sym places) (record {
-      sources_are = zip_more (IsOfPlace (λ m s. s ≡ m.source) l) (claimed_places (take i run)) sources (get_or run i d).place source told.sources_are (mapped_of m, here, is_source);
-      texts_are = zip_more (IsOfPlace (λ m t. IsTextAt g m.spec t) l) (claimed_places (take i run)) texts (get_or run i d).place text told.texts_are (mapped_of m, here, is_text);
+      sources_are = zip_more (IsOfPlace (λ m s. s ≡ m.source) l) (updated_places (take i run)) sources (get_or run i d).place source told.sources_are (mapped_of m, here, is_source);
+      texts_are = zip_more (IsOfPlace (λ m t. IsTextAt g m.spec t) l) (updated_places (take i run)) texts (get_or run i d).place text told.texts_are (mapped_of m, here, is_text);
     })
 
 -- the spec of a mapping has a place among the specs
@@ -153,18 +153,18 @@ spec_fits specs ms k m fits below is =
     let here : (get_or (map mapped_of ms) k (mapped_of m)).spec ≡ m.spec_index = ap (λ (n : Mapped). n.spec) (get_or-map mapped_of ms k m (mapped_of m) below) ∙ ap (λ (n : Mapping). n.spec_index) (sym is) in
     omega (arith, told, here, length-map specs reading_of)
 
--- the conflicts of the first mappings whose claims aren't among the rest
-pub record AreReported (g : List Reading) (l : List Mapped) (rest : List Claim) (cs : List Conflict) : Type 0 where
-  pub left : (k : ℕ) (d : List ℕ) → HasClaim rest k d → IsFirstAt l k d
-  pub all : (k : ℕ) (d : List ℕ) → IsFirstAt l k d → HasClaim rest k d ⊎ AllByRecursion (λ c. slice_cmp nat_cmp d c.destination.now ≡ Less) rest
-  pub order : IsStrictlySortedBy claim_cmp rest
+-- the conflicts of the first mappings whose updates aren't among the rest
+pub record AreReported (g : List Reading) (l : List Mapped) (rest : List Update) (cs : List Conflict) : Type 0 where
+  pub left : (k : ℕ) (d : List ℕ) → HasUpdate rest k d → IsFirstAt l k d
+  pub all : (k : ℕ) (d : List ℕ) → IsFirstAt l k d → HasUpdate rest k d ⊎ AllByRecursion (λ c. slice_cmp nat_cmp d c.destination.now ≡ Less) rest
+  pub order : IsStrictlySortedBy update_cmp rest
   pub each : AllByRecursion (IsConflict g l) cs
   pub below : AllByRecursion (λ c. AllByRecursion (λ x. slice_cmp nat_cmp c.destination x.destination.now ≡ Less) rest) cs
   pub rise : IsStrictlySortedBy (slice_cmp nat_cmp) (map (λ c. c.destination) cs)
-  pub every : (d : List ℕ) → IsContested l d → Contains (map (λ c. c.destination) cs) d ⊎ ((k : ℕ) × HasClaim rest k d)
+  pub every : (d : List ℕ) → HasConflictAt l d → Contains (map (λ c. c.destination) cs) d ⊎ ((k : ℕ) × HasUpdate rest k d)
 
--- at first all claims are left
-pub reported_none : (g : List Reading) (l : List Mapped) (firsts : List Claim) → AreFirsts l firsts → AreReported g l firsts []
+-- at first all updates are left
+pub reported_none : (g : List Reading) (l : List Mapped) (firsts : List Update) → AreFirstUpdates l firsts → AreReported g l firsts []
 unfolding IsStrictlySortedBy
 reported_none g l firsts are = record {
   left = λ k d. (are.are k d).0;
@@ -177,7 +177,7 @@ reported_none g l firsts are = record {
 }
 
 -- and at last none
-pub all_reported : (g : List Reading) (l : List Mapped) (rest : List Claim) (cs : List Conflict) → length rest ≡ 0 → AreReported g l rest cs → AreConflicts g l cs
+pub all_reported : (g : List Reading) (l : List Mapped) (rest : List Update) (cs : List Conflict) → length rest ≡ 0 → AreReported g l rest cs → AreConflicts g l cs
 all_reported g l [] cs empty settled = record {
   each = settled.each;
   every = λ d contested. elim (settled.every d contested) [
@@ -188,23 +188,23 @@ all_reported g l [] cs empty settled = record {
 }
 all_reported g l (c ∷ rest) cs empty settled = absurd (omega arith)
 
-not_beyond : (x : List ℕ) (cs : List Claim) (k : ℕ) → AllByRecursion (λ c. slice_cmp nat_cmp x c.destination.now ≡ Less) cs → HasClaim cs k x → ⊥
+not_beyond : (x : List ℕ) (cs : List Update) (k : ℕ) → AllByRecursion (λ c. slice_cmp nat_cmp x c.destination.now ≡ Less) cs → HasUpdate cs k x → ⊥
 not_beyond x [] k beyond has = has
 not_beyond x (c ∷ cs) k beyond (inl is) = not_below_itself x (subst (λ (d : List ℕ). slice_cmp nat_cmp x d ≡ Less) is.1 beyond.0)
 not_beyond x (c ∷ cs) k beyond (inr has) = not_beyond x cs k beyond.1 has
 
-to_same : (x : List ℕ) (cs : List Claim) (k : ℕ) (d : List ℕ) → AllByRecursion (λ c. c.destination.now ≡ x) cs → HasClaim cs k d → d ≡ x
+to_same : (x : List ℕ) (cs : List Update) (k : ℕ) (d : List ℕ) → AllByRecursion (λ c. c.destination.now ≡ x) cs → HasUpdate cs k d → d ≡ x
 to_same x [] k d same has = absurd has
 to_same x (c ∷ cs) k d same (inl is) = sym is.1 ∙ same.0
 to_same x (c ∷ cs) k d same (inr has) = to_same x cs k d same.1 has
 
 -- what begins the rest has all first mappings to its destination
-firsts_of_run : (g : List Reading) (l : List Mapped) (run others : List Claim) (cs : List Conflict) → 0 < length run → (cut : IsCut run others) → AreReported g l (run ++ others) cs → (k : ℕ) → HasClaim run k cut.destination ↔ IsFirstAt l k cut.destination
+firsts_of_run : (g : List Reading) (l : List Mapped) (run others : List Update) (cs : List Conflict) → 0 < length run → (cut : IsRun run others) → AreReported g l (run ++ others) cs → (k : ℕ) → HasUpdate run k cut.destination ↔ IsFirstAt l k cut.destination
 firsts_of_run g l [] others cs some cut settled k = absurd (omega arith)
 firsts_of_run g l (c ∷ run) others cs some cut settled k = (
-  (λ has. settled.left k cut.destination (HasClaim-left (c ∷ run) others k cut.destination has)),
+  (λ has. settled.left k cut.destination (HasUpdate-left (c ∷ run) others k cut.destination has)),
   (λ first. elim (settled.all k cut.destination first) [
-    | inl has ↦ elim (HasClaim-cases (c ∷ run) others k cut.destination has) [
+    | inl has ↦ elim (HasUpdate-cases (c ∷ run) others k cut.destination has) [
       | inl here ↦ here
       | inr there ↦ absurd (not_beyond cut.destination others k cut.beyond there)
     ]
@@ -212,53 +212,53 @@ firsts_of_run g l (c ∷ run) others cs some cut settled k = (
   ]),
 )
 
--- several claims of a run are rivals
-pub rivals_of_run : (g : List Reading) (l : List Mapped) (rest : List Claim) (n : ℕ) (cs : List Conflict) → 1 < length (take n rest) → (cut : IsCut (take n rest) (drop n rest)) → AreReported g l rest cs → AreRivals l (take n rest)
-rivals_of_run g l rest n cs several cut settled =
+-- several updates of a run are conflicting
+pub conflicting_of_run : (g : List Reading) (l : List Mapped) (rest : List Update) (n : ℕ) (cs : List Conflict) → 1 < length (take n rest) → (cut : IsRun (take n rest) (drop n rest)) → AreReported g l rest cs → AreConflicting l (take n rest)
+conflicting_of_run g l rest n cs several cut settled =
     let whole : take n rest ++ drop n rest ≡ rest = take-append-drop n rest in record {
       several = several;
       destination = cut.destination;
       same = cut.same;
-      are = firsts_of_run g l (take n rest) (drop n rest) cs (omega (arith, several)) cut (subst (λ (xs : List Claim). AreReported g l xs cs) (sym whole) settled);
-      order = strict_left claim_cmp (take n rest) (drop n rest) (subst (λ (xs : List Claim). IsStrictlySortedBy claim_cmp xs) (sym whole) settled.order);
+      are = firsts_of_run g l (take n rest) (drop n rest) cs (omega (arith, several)) cut (subst (λ (xs : List Update). AreReported g l xs cs) (sym whole) settled);
+      order = strict_left update_cmp (take n rest) (drop n rest) (subst (λ (xs : List Update). IsStrictlySortedBy update_cmp xs) (sym whole) settled.order);
     }
 
 -- behind a run all else stays as it was
-behind_run : (l : List Mapped) (run others : List Claim) (k : ℕ) (d : List ℕ) → (cut : IsCut run others) → HasClaim (run ++ others) k d ⊎ AllByRecursion (λ c. slice_cmp nat_cmp d c.destination.now ≡ Less) (run ++ others) → HasClaim others k d ⊎ AllByRecursion (λ c. slice_cmp nat_cmp d c.destination.now ≡ Less) others
-behind_run l run others k d cut (inl has) = elim (HasClaim-cases run others k d has) [
+behind_run : (l : List Mapped) (run others : List Update) (k : ℕ) (d : List ℕ) → (cut : IsRun run others) → HasUpdate (run ++ others) k d ⊎ AllByRecursion (λ c. slice_cmp nat_cmp d c.destination.now ≡ Less) (run ++ others) → HasUpdate others k d ⊎ AllByRecursion (λ c. slice_cmp nat_cmp d c.destination.now ≡ Less) others
+behind_run l run others k d cut (inl has) = elim (HasUpdate-cases run others k d has) [
   | inl here ↦ inr (subst (λ (x : List ℕ). AllByRecursion (λ c. slice_cmp nat_cmp x c.destination.now ≡ Less) others) (sym (to_same cut.destination run k d cut.same here)) cut.beyond)
   | inr there ↦ inl there
 ]
 behind_run l run others k d cut (inr past) = inr (all_right (λ c. slice_cmp nat_cmp d c.destination.now ≡ Less) run others past)
 
-all_still_below : (run others : List Claim) (cs : List Conflict) → AllByRecursion (λ c. AllByRecursion (λ x. slice_cmp nat_cmp c.destination x.destination.now ≡ Less) (run ++ others)) cs → AllByRecursion (λ c. AllByRecursion (λ x. slice_cmp nat_cmp c.destination x.destination.now ≡ Less) others) cs
+all_still_below : (run others : List Update) (cs : List Conflict) → AllByRecursion (λ c. AllByRecursion (λ x. slice_cmp nat_cmp c.destination x.destination.now ≡ Less) (run ++ others)) cs → AllByRecursion (λ c. AllByRecursion (λ x. slice_cmp nat_cmp c.destination x.destination.now ≡ Less) others) cs
 all_still_below run others cs = all_weaker (λ c. AllByRecursion (λ x. slice_cmp nat_cmp c.destination x.destination.now ≡ Less) (run ++ others)) (λ c. AllByRecursion (λ x. slice_cmp nat_cmp c.destination x.destination.now ≡ Less) others) (λ c below. all_right (λ x. slice_cmp nat_cmp c.destination x.destination.now ≡ Less) run others below) cs
 
-one_claim_only : (x : List ℕ) (run : List Claim) (j k : ℕ) → length run ≤ 1 → HasClaim run j x → HasClaim run k x → j ≡ k
-one_claim_only x [] j k few has also = absurd has
-one_claim_only x (c ∷ []) j k few (inl is) (inl also) = sym is.0 ∙ also.0
-one_claim_only x (c ∷ []) j k few (inl is) (inr none) = absurd none
-one_claim_only x (c ∷ []) j k few (inr none) also = absurd none
-one_claim_only x (c ∷ y ∷ run) j k few has also = absurd (omega arith)
+one_update_only : (x : List ℕ) (run : List Update) (j k : ℕ) → length run ≤ 1 → HasUpdate run j x → HasUpdate run k x → j ≡ k
+one_update_only x [] j k few has also = absurd has
+one_update_only x (c ∷ []) j k few (inl is) (inl also) = sym is.0 ∙ also.0
+one_update_only x (c ∷ []) j k few (inl is) (inr none) = absurd none
+one_update_only x (c ∷ []) j k few (inr none) also = absurd none
+one_update_only x (c ∷ y ∷ run) j k few has also = absurd (omega arith)
 
--- a run of one claim has no conflict
-skipped : (g : List Reading) (l : List Mapped) (run others : List Claim) (cs : List Conflict) → 0 < length run → length run ≤ 1 → IsCut run others → AreReported g l (run ++ others) cs → AreReported g l others cs
+-- a run of one update has no conflict
+skipped : (g : List Reading) (l : List Mapped) (run others : List Update) (cs : List Conflict) → 0 < length run → length run ≤ 1 → IsRun run others → AreReported g l (run ++ others) cs → AreReported g l others cs
 skipped g l run others cs some few cut settled = record {
-  left = λ k d has. settled.left k d (HasClaim-right run others k d has);
+  left = λ k d has. settled.left k d (HasUpdate-right run others k d has);
   all = λ k d first. behind_run l run others k d cut (settled.all k d first);
-  order = strict_right claim_cmp run others settled.order;
+  order = strict_right update_cmp run others settled.order;
   each = settled.each;
   below = all_still_below run others cs settled.below;
   rise = settled.rise;
   every = λ d contested. elim (settled.every d contested) [
     | inl told ↦ inl told
-    | inr has ↦ elim (HasClaim-cases run others has.0 d has.1) [
+    | inr has ↦ elim (HasUpdate-cases run others has.0 d has.1) [
       | inl here ↦
           let x = cut.destination in
           let to : d ≡ x = to_same x run has.0 d cut.same here in
-          let two = two_firsts l x (subst (IsContested l) to contested) in
+          let two = two_firsts l x (subst (HasConflictAt l) to contested) in
           let are = firsts_of_run g l run others cs some cut settled in
-          absurd (two.2 (one_claim_only x run two.0 two.1 few ((are two.0).1 two.3) ((are two.1).1 two.4)))
+          absurd (two.2 (one_update_only x run two.0 two.1 few ((are two.0).1 two.3) ((are two.1).1 two.4)))
       | inr there ↦ inr (has.0, there)
     ]
   ];
@@ -269,22 +269,22 @@ unfolding IsStrictlySortedBy
 rise_more [] x strict below = (tt, tt)
 rise_more (d ∷ ds) x strict below = (all_join (λ y. slice_cmp nat_cmp d y ≡ Less) ds (x ∷ []) strict.0 (below.0, tt), rise_more ds x strict.1 below.1)
 
--- a run of several claims has one
-reported : (g : List Reading) (l : List Mapped) (run others : List Claim) (cs : List Conflict) (c : Conflict) → 1 < length run → IsCut run others → IsOver g l run c → AreReported g l (run ++ others) cs → AreReported g l others (cs ++ c ∷ [])
+-- a run of several updates has one
+reported : (g : List Reading) (l : List Mapped) (run others : List Update) (cs : List Conflict) (c : Conflict) → 1 < length run → IsRun run others → IsConflictOf g l run c → AreReported g l (run ++ others) cs → AreReported g l others (cs ++ c ∷ [])
 reported g l [] others cs c several cut over settled = absurd (omega arith)
 reported g l (r ∷ run) others cs c several cut over settled =
     let x = cut.destination in
     let to : c.destination ≡ x = sym over.same.0 ∙ cut.same.0 in
     let destinations : map (λ (y : Conflict). y.destination) (cs ++ c ∷ []) ≡ map (λ (y : Conflict). y.destination) cs ++ c.destination ∷ [] = map-append (λ (y : Conflict). y.destination) cs (c ∷ []) in record {
-      left = λ k d has. settled.left k d (HasClaim-right (r ∷ run) others k d has);
+      left = λ k d has. settled.left k d (HasUpdate-right (r ∷ run) others k d has);
       all = λ k d first. behind_run l (r ∷ run) others k d cut (settled.all k d first);
-      order = strict_right claim_cmp (r ∷ run) others settled.order;
+      order = strict_right update_cmp (r ∷ run) others settled.order;
       each = all_join (IsConflict g l) cs (c ∷ []) settled.each (over.is, tt);
       below = all_join (λ y. AllByRecursion (λ z. slice_cmp nat_cmp y.destination z.destination.now ≡ Less) others) cs (c ∷ []) (all_still_below (r ∷ run) others cs settled.below) (subst (λ (d : List ℕ). AllByRecursion (λ z. slice_cmp nat_cmp d z.destination.now ≡ Less) others) (sym to) cut.beyond, tt);
       rise = subst (λ (ds : List (List ℕ)). IsStrictlySortedBy (slice_cmp nat_cmp) ds) (sym destinations) (rise_more (map (λ (y : Conflict). y.destination) cs) c.destination settled.rise (lower cs settled.below));
-      every = λ d contested. subst (λ (ds : List (List ℕ)). Contains ds d ⊎ ((k : ℕ) × HasClaim others k d)) (sym destinations) (elim (settled.every d contested) [
+      every = λ d contested. subst (λ (ds : List (List ℕ)). Contains ds d ⊎ ((k : ℕ) × HasUpdate others k d)) (sym destinations) (elim (settled.every d contested) [
         | inl told ↦ inl (Contains-append_left (map (λ (y : Conflict). y.destination) cs) (c.destination ∷ []) d told)
-        | inr has ↦ elim (HasClaim-cases (r ∷ run) others has.0 d has.1) [
+        | inr has ↦ elim (HasUpdate-cases (r ∷ run) others has.0 d has.1) [
           | inl here ↦
               let same : c.destination ≡ d = to ∙ sym (to_same x (r ∷ run) has.0 d cut.same here) in
               inl (subst (λ (e : List ℕ). Contains (map (λ (y : Conflict). y.destination) cs ++ c.destination ∷ []) e) same (Contains-push (map (λ (y : Conflict). y.destination) cs) c.destination))
@@ -298,14 +298,14 @@ reported g l (r ∷ run) others cs c several cut over settled =
     lower (y ∷ ys) below = (subst (λ (d : List ℕ). slice_cmp nat_cmp y.destination d ≡ Less) over.same.0 below.0.0, lower ys below.1)
 
 -- where nothing is contested, there is no conflict
-pub no_conflicts : (g : List Reading) (l : List Mapped) → ((d : List ℕ) → ¬ (IsContested l d)) → AreConflicts g l []
+pub no_conflicts : (g : List Reading) (l : List Mapped) → ((d : List ℕ) → ¬ (HasConflictAt l d)) → AreConflicts g l []
 unfolding IsStrictlySortedBy
 no_conflicts g l free = record { each = tt; every = λ d contested. absurd (free d contested); order = tt }
 
 -- a loop's step: once a run has added what it adds, the others are left
-pub reported_more : (g : List Reading) (l : List Mapped) (rest : List Claim) (n : ℕ) (cs new : List Conflict) → 0 < n → n ≤ length rest → IsCut (take n rest) (drop n rest) → AddsConflict g l (take n rest) cs new → AreReported g l rest cs → AreReported g l (drop n rest) new
+pub reported_more : (g : List Reading) (l : List Mapped) (rest : List Update) (n : ℕ) (cs new : List Conflict) → 0 < n → n ≤ length rest → IsRun (take n rest) (drop n rest) → AddsConflict g l (take n rest) cs new → AreReported g l rest cs → AreReported g l (drop n rest) new
 reported_more g l rest n cs new some fits cut added settled =
-    let whole : AreReported g l (take n rest ++ drop n rest) cs = subst (λ (xs : List Claim). AreReported g l xs cs) (sym (take-append-drop n rest)) settled in
+    let whole : AreReported g l (take n rest ++ drop n rest) cs = subst (λ (xs : List Update). AreReported g l xs cs) (sym (take-append-drop n rest)) settled in
     elim added [
       | inl few ↦ subst (λ (ds : List Conflict). AreReported g l (drop n rest) ds) (sym few.1) (skipped g l (take n rest) (drop n rest) cs (omega (arith, some, length-take-le n rest fits)) few.0 cut whole)
       | inr more ↦ subst (λ (ds : List Conflict). AreReported g l (drop n rest) ds) (sym more.3) (reported g l (take n rest) (drop n rest) cs more.0 more.1 cut more.2 whole)
@@ -316,9 +316,9 @@ pub free_empty : (g : List Reading) (ms : List Mapping) → length ms ≡ 0 → 
 free_empty g [] empty = no_conflicts g [] (λ d c. let inside = c.has_one.1 in omega (arith, inside))
 free_empty g (m ∷ ms) empty = absurd (omega arith)
 
--- the claims that aren't repeated are the first ones
-pub firsts_from_claims : (ms : List Mapping) (flags : List Bool) (cs : List Claim) → FlagsRepeats ms flags → AreClaims (map mapped_of ms) flags cs → AreFirsts (map mapped_of ms) cs
-firsts_from_claims ms flags cs repeats made = record {
+-- the updates that aren't repeated are the first ones
+pub firsts_from_updates : (ms : List Mapping) (flags : List Bool) (cs : List Update) → FlagsRepeats ms flags → AreUpdates (map mapped_of ms) flags cs → AreFirstUpdates (map mapped_of ms) cs
+firsts_from_updates ms flags cs repeats made = record {
   are = λ k d. (
     (λ has. let told = (made.are k d).0 has in (told.0.0, told.0.1, record { goes = told.0.2; first = λ pair. told.1 ((flagged k told.0.0 told.0.1).1 pair) })),
     (λ first. (made.are k d).1 ((first.0, first.1, first.2.goes), λ is. first.2.first ((flagged k first.0 first.1).0 is))),

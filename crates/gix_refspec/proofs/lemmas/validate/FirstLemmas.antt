@@ -7,7 +7,7 @@ use Rattle.std.proofs.lemmas.Option.{get_or_from_slice_get, slice_get-get_or, sl
 use Rattle.std.proofs.lemmas.Slice.Eq.{bytes_eq-Decides}
 use Rattle.gix_refspec.specs.Matching.Lists.{IsMadeFrom}
 use Rattle.gix_refspec.specs.Matching.Mappings.{Start, name, id, Mapped, IsSamePair, HasPair}
-use Rattle.gix_refspec.specs.Matching.Validation.{IsContested}
+use Rattle.gix_refspec.specs.Matching.Validation.{HasConflictAt}
 use Rattle.gix_refspec.specs.Private.Kept.{Has, Rises}
 use Rattle.gix_refspec.specs.Private.Updates.{IsFirstAt}
 use Rattle.gix_refspec.proofs.lemmas.keep.RepeatLemmas.{all_weaker, not_below}
@@ -146,7 +146,7 @@ first_link source d (x ∷ l) i m is links = elim (links_cases source d x) [
         )
 
 -- a contested destination has first mappings at two places
-pub two_firsts : (l : List Mapped) (d : List ℕ) → IsContested l d → (j : ℕ) × (k : ℕ) × (j ≢ k) × IsFirstAt l j d × IsFirstAt l k d
+pub two_firsts : (l : List Mapped) (d : List ℕ) → HasConflictAt l d → (j : ℕ) × (k : ℕ) × (j ≢ k) × IsFirstAt l j d × IsFirstAt l k d
 two_firsts l d c =
     let one = at_contained l c.one c.has_one in
     let other = at_contained l c.other c.has_other in
@@ -162,7 +162,7 @@ two_firsts l d c =
     )
 
 -- two places of first mappings make a destination contested
-pub contested_from_firsts : (l : List Mapped) (d : List ℕ) (j k : ℕ) → j < k → IsFirstAt l j d → IsFirstAt l k d → IsContested l d
+pub contested_from_firsts : (l : List Mapped) (d : List ℕ) (j k : ℕ) → j < k → IsFirstAt l j d → IsFirstAt l k d → HasConflictAt l d
 contested_from_firsts l d j k before (m, is_m, m_first) (n, is_n, n_first) = record {
   one = m;
   other = n;

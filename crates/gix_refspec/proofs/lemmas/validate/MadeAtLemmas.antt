@@ -5,7 +5,7 @@ use Rattle.std.proofs.lemmas.List.{append_assoc}
 use Rattle.gix_refspec.specs.Specs.Reading.{Reading}
 use Rattle.gix_refspec.specs.Matching.Match.{Ref, Matches, Takes}
 use Rattle.gix_refspec.specs.Matching.Lists.{IsMadeFrom, IsJoinedFrom}
-use Rattle.gix_refspec.specs.Matching.Mappings.{Start, Mapped, Stays}
+use Rattle.gix_refspec.specs.Matching.Mappings.{Start, Mapped, IsKeptAt}
 use Rattle.gix_refspec.specs.Matching.Hits.{Ends, AreForwardEnds, AreBackwardEnds, Hit, IsHit, AreSpecHits, AreHits, IsIdMapping, AreForward, AreBackward, forward_of, backward_of}
 use Rattle.gix_refspec.specs.Laws.Matching.{AtSpec}
 use Rattle.gix_refspec.specs.Laws.Places.{TakesAt, MakesForwardOf, MakesBackwardOf, MadeAtPlaces, RemainsExactly}
@@ -97,8 +97,8 @@ backward_all g items l are = subst (AllByRecursion (BackwardAt g items)) (sym ar
 
 pub made_at_places : (g : List Reading) (items : List Ref) → MadeAtPlaces g items
 made_at_places g items = record {
-  forward = λ kept are. stays_each (λ k m. Stays g are.all k m) (ForwardAt g items) 0 are.all kept (forward_all g items are.all are.forward) are.is;
-  backward = λ kept are. stays_each (λ k m. Stays g are.all k m) (BackwardAt g items) 0 are.all kept (backward_all g items are.all are.backward) are.is;
+  forward = λ kept are. stays_each (λ k m. IsKeptAt g are.all k m) (ForwardAt g items) 0 are.all kept (forward_all g items are.all are.forward) are.is;
+  backward = λ kept are. stays_each (λ k m. IsKeptAt g are.all k m) (BackwardAt g items) 0 are.all kept (backward_all g items are.all are.backward) are.is;
 }
 
 -- ---- what remains

@@ -7,7 +7,7 @@ use Rattle.gix_refspec.specs.declared.match_group.hits.ends.Direction.TheVariant
 use Rattle.gix_refspec.specs.Specs.Reading.{Reading}
 use Rattle.gix_refspec.specs.Matching.Match.{Ref}
 use Rattle.gix_refspec.specs.Matching.Lists.{IsMadeFrom}
-use Rattle.gix_refspec.specs.Matching.Mappings.{name, Mapped, Stays}
+use Rattle.gix_refspec.specs.Matching.Mappings.{name, Mapped, IsKeptAt}
 use Rattle.gix_refspec.specs.Matching.Hits.{Ends, AreSpecHits, AreHits, Hit, IsHit, IsIdMapping, AreForward, AreBackward, forward_of, backward_of}
 use Rattle.gix_refspec.specs.Matching.Validation.{BackwardPlaces, ForwardPlaces, PlacesFit, Survives}
 use Rattle.gix_refspec.specs.Private.HitViews.{HasEnds, TakesIn}
@@ -88,7 +88,7 @@ backward_places g items l are = subst (AllByRecursion (BackwardPlaces g items)) 
 
 pub places_fit : (g : List Reading) (items : List Ref) → PlacesFit g items
 places_fit g items = record {
-  forward = λ l are. stays_each (λ k m. Stays g are.all k m) (ForwardPlaces g items) 0 are.all l (forward_places g items are.all are.forward) are.is;
-  backward = λ l are. stays_each (λ k m. Stays g are.all k m) (BackwardPlaces g items) 0 are.all l (backward_places g items are.all are.backward) are.is;
+  forward = λ l are. stays_each (λ k m. IsKeptAt g are.all k m) (ForwardPlaces g items) 0 are.all l (forward_places g items are.all are.forward) are.is;
+  backward = λ l are. stays_each (λ k m. IsKeptAt g are.all k m) (BackwardPlaces g items) 0 are.all l (backward_places g items are.all are.backward) are.is;
   validated = λ l rest fixes valid fit. stays_each (λ j x. Survives x) (ForwardPlaces g items) 0 l rest fit valid.survive;
 }

@@ -14,7 +14,7 @@ use Rattle.gix_refspec.specs.Specs.Meaning.{printed, sign, begins_with_plus}
 use Rattle.gix_refspec.specs.Matching.Match.{Ref}
 use Rattle.gix_refspec.specs.Matching.Lists.{IsMadeFrom}
 use Rattle.gix_refspec.specs.Texts.ObjectId.{IsIdText}
-use Rattle.gix_refspec.specs.Matching.Mappings.{id, Mapped, Stays}
+use Rattle.gix_refspec.specs.Matching.Mappings.{id, Mapped, IsKeptAt}
 use Rattle.gix_refspec.specs.Matching.Hits.{Hit, IsIdMapping, AreKeptForward, forward_of}
 use Rattle.gix_refspec.specs.Matching.Validation.{IsFix, MeetAt, NeverMeet, Removed}
 use Rattle.gix_refspec.proofs.lemmas.texts.TextLemmas.{Lacks-from_absent}
@@ -73,7 +73,7 @@ hits_have_items g (h ∷ hits) = ((λ none. absurd (cc)), hits_have_items g hits
 pub kept_of_specs : (g : List Reading) (items : List Ref) (l : List Mapped) → AreKeptForward g items l → AllByRecursion (IsOfItsSpec g) l
 kept_of_specs g items l kept =
     let are = kept.forward in
-    stays_each (λ k m. Stays g kept.all k m) (IsOfItsSpec g) 0 kept.all l
+    stays_each (λ k m. IsKeptAt g kept.all k m) (IsOfItsSpec g) 0 kept.all l
     (subst (AllByRecursion (IsOfItsSpec g)) (sym are.all) (all_join (IsOfItsSpec g) are.ids (map forward_of are.hits) (ids_of_specs g [] g 0 are.ids refl refl are.are_ids) (hits_have_items g are.hits))) kept.is
 
 some_reading : (q r : Reading) → Some q ≡ Some r → q ≡ r

@@ -12,7 +12,7 @@ use Rattle.gix_refspec.specs.declared.match_group.names.BadSide.{BadSide}
 use Rattle.gix_refspec.specs.declared.match_group.names.BadSide.TheVariants.{Source, Destination, Both}
 use Rattle.gix_refspec.specs.declared.name.Error.TheVariants.{Empty, EmptyComponent, StartsWithDot, InvalidByte}
 use Rattle.gix_refspec.specs.Texts.Bytes.{head, slash}
-use Rattle.gix_refspec.specs.Texts.Words.{ArePartsAt, Begins}
+use Rattle.gix_refspec.specs.Texts.Words.{ArePartsAt, BeginsWith}
 use Rattle.gix_refspec.specs.Texts.Name.{is_refused_byte, IsName}
 use Rattle.gix_refspec.specs.Specs.Reading.{Reading}
 use Rattle.gix_refspec.specs.Matching.Lists.{IsMadeFrom}
@@ -57,12 +57,12 @@ name_of_ref : (n : List ℕ) → IsRefName n → IsName n
 name_of_ref n (inl full) = full.1
 name_of_ref n (inr is) = subst IsName (sym is) IsName-head
 
-below_refs : (n : List ℕ) → IsRefName n → Begins (codes "refs/") n ⊎ (n ≡ head)
+below_refs : (n : List ℕ) → IsRefName n → BeginsWith (codes "refs/") n ⊎ (n ≡ head)
 below_refs n (inl full) = inl full.0
 below_refs n (inr is) = inr is
 
 -- each component of a name is there, and begins with no dot
-components_fine : (n : List ℕ) → IsName n → (before parts : List (List ℕ)) → ArePartsAt slash (before ++ parts) n → AllByRecursion (λ w. (w ≢ []) × ¬ (Begins (codes ".") w)) parts
+components_fine : (n : List ℕ) → IsName n → (before parts : List (List ℕ)) → ArePartsAt slash (before ++ parts) n → AllByRecursion (λ w. (w ≢ []) × ¬ (BeginsWith (codes ".") w)) parts
 components_fine n is before [] are = tt
 components_fine n is before (w ∷ after) are = (
   (

@@ -1,4 +1,4 @@
--- Claims in order, and where they are cut.
+-- Updates in order, and where they are cut.
 use Rattle.std.proofs.Common.{◌≡◌, ◌≢◌, ◌⊎◌, inl, inr, ◌↔◌, ℕ, zero, suc, ◌+◌, ◌<◌, ◌≤◌, List, [], ◌∷◌, ◌++◌, None, Some, option_map, Bool, true, false, not, length, map, take, drop, get_or, refl, sym, ap, ◌∙◌, subst, arith}
 use Rattle.std.specs.List.{AllByRecursion, Contains, slice_get}
 use Rattle.std.specs.List.Sorted.{IsPermutation, IsSorted, IsStrictlySortedBy}
@@ -14,21 +14,21 @@ use Rattle.std.proofs.lemmas.Cmp.{by_ranked, nat_cmp_total, on_total, ranked, th
 use Rattle.std.proofs.lemmas.List.{get_or-map, length-map, map-append, take-append-drop, drop_more, length-drop}
 use Rattle.std.proofs.lemmas.List.Sorted.{Contains-permutation, IsPermutation-map, IsPermutation-sym, ranks_by, sorted_far}
 use Rattle.std.proofs.lemmas.Option.{slice_get-map, slice_get_read, slice_get_within}
-use Rattle.gix_refspec.specs.declared.match_group.validate.conflicts.Claim.{Claim}
+use Rattle.gix_refspec.specs.declared.match_group.validate.conflicts.Update.{Update}
 use Rattle.gix_refspec.specs.declared.match_group.types.Mapping.{Mapping}
 use Rattle.gix_refspec.specs.declared.match_group.types.NameRef.{NameRef}
 use Rattle.gix_refspec.specs.Matching.Mappings.{Mapped}
 use Rattle.gix_refspec.specs.Views.Group.{mapped_of, name_bytes}
 use Rattle.gix_refspec.specs.Private.Kept.{IsFlagged, Rises}
-use Rattle.gix_refspec.specs.Private.Updates.{AreClaims, GoesTo, HasClaim, IsCut, claim_cmp, claimed_places}
+use Rattle.gix_refspec.specs.Private.Updates.{AreUpdates, GoesTo, HasUpdate, IsRun, update_cmp, updated_places}
 use Rattle.gix_refspec.proofs.lemmas.keep.PairLemmas.{both_equal, same_texts}
 use Rattle.gix_refspec.proofs.lemmas.keep.RepeatLemmas.{Rises-push, all_join, all_left, all_right, all_weaker, apart_places}
 
--- there are the claims of the mappings before place p that have a destination and aren't flagged, by place
-pub record AreClaimsUpto (l : List Mapped) (flags : List Bool) (p : ℕ) (cs : List Claim) : Type 0 where
-  pub are : (k : ℕ) (d : List ℕ) → HasClaim cs k d ↔ ((k < p) × (GoesTo l k d × ¬ (IsFlagged flags k)))
-  pub rises : Rises (claimed_places cs)
-  pub below : AllByRecursion (λ n. n < p) (claimed_places cs)
+-- there are the updates of the mappings before place p that have a destination and aren't flagged, by place
+pub record AreUpdatesUpto (l : List Mapped) (flags : List Bool) (p : ℕ) (cs : List Update) : Type 0 where
+  pub are : (k : ℕ) (d : List ℕ) → HasUpdate cs k d ↔ ((k < p) × (GoesTo l k d × ¬ (IsFlagged flags k)))
+  pub rises : Rises (updated_places cs)
+  pub below : AllByRecursion (λ n. n < p) (updated_places cs)
 
 unequal : Less ≡ Equal → ⊥
 unequal same = absurd (cc)
@@ -60,14 +60,14 @@ less_of_two Equal b is = inr (refl, is)
 less_of_two Greater b is = absurd (cc)
 
 -- what comes later is to a later destination, or to the same one from a later place
-pub later : (x y : Claim) → claim_cmp x y ≡ Less → (slice_cmp nat_cmp x.destination.now y.destination.now ≡ Less) ⊎ ((x.destination.now ≡ y.destination.now) × (x.place < y.place))
+pub later : (x y : Update) → update_cmp x y ≡ Less → (slice_cmp nat_cmp x.destination.now y.destination.now ≡ Less) ⊎ ((x.destination.now ≡ y.destination.now) × (x.place < y.place))
 later x y is = elim (less_of_two (slice_cmp nat_cmp x.destination.now y.destination.now) (nat_cmp x.place y.place) is) [
   | inl less ↦ inl less
   | inr tied ↦ inr (same_texts x.destination.now y.destination.now tied.0, less_from_cmp x.place y.place tied.1)
 ]
 
-claim_total : IsTotalOrder claim_cmp
-claim_total = then_total (on_total (λ (c : Claim). c.destination.now) nat_list_cmp_total) (on_total (λ (c : Claim). c.place) nat_cmp_total)
+update_total : IsTotalOrder update_cmp
+update_total = then_total (on_total (λ (c : Update). c.destination.now) nat_list_cmp_total) (on_total (λ (c : Update). c.place) nat_cmp_total)
 
 pub strict_left : {X : Type 0} (cmp : X → X → Ordering) (xs ys : List X) → IsStrictlySortedBy cmp (xs ++ ys) → IsStrictlySortedBy cmp xs
 unfolding IsStrictlySortedBy
@@ -93,58 +93,58 @@ turned Less r is told apart = absurd (false≢true (sym told))
 turned Equal r is told apart = absurd (apart refl)
 turned Greater r is told apart = is
 
--- claims that are sorted are strictly so, since their places differ
-strict_from_sorted : (xs ys : List Claim) → IsPermutation xs ys → Rises (claimed_places xs) → IsSorted claim_cmp ys → IsStrictlySortedBy claim_cmp ys
+-- updates that are sorted are strictly so, since their places differ
+strict_from_sorted : (xs ys : List Update) → IsPermutation xs ys → Rises (updated_places xs) → IsSorted update_cmp ys → IsStrictlySortedBy update_cmp ys
 strict_from_sorted xs ys moved rises sorted =
-    let weak : IsStrictWeakOrder (λ (x : Claim) (y : Claim). is_lt (claim_cmp x y)) = ranks_by claim_total (λ (c : Claim). c) in
-    strict_from_places claim_cmp ys (λ i j d before below.
+    let weak : IsStrictWeakOrder (λ (x : Update) (y : Update). is_lt (update_cmp x y)) = ranks_by update_total (λ (c : Update). c) in
+    strict_from_places update_cmp ys (λ i j d before below.
     let x = get_or ys i d in
     let y = get_or ys j d in
-    turned (claim_cmp y x) (claim_cmp x y) (claim_total.antisymm x y)
-    (sorted_far (λ (a : Claim) (b : Claim). is_lt (claim_cmp a b)) weak ys sorted i j d (omega arith) below)
-    (λ tied. apart_places (claimed_places xs) (claimed_places ys) (IsPermutation-map (λ (c : Claim). c.place) xs ys moved) rises i j 0 before (omega (arith, length-map ys (λ (c : Claim). c.place)))
-    (get_or-map (λ (c : Claim). c.place) ys i d 0 (omega arith) ∙ sym (same_from_cmp y.place x.place (both_equal (slice_cmp nat_cmp y.destination.now x.destination.now) (nat_cmp y.place x.place) tied).1) ∙ sym (get_or-map (λ (c : Claim). c.place) ys j d 0 below))))
+    turned (update_cmp y x) (update_cmp x y) (update_total.antisymm x y)
+    (sorted_far (λ (a : Update) (b : Update). is_lt (update_cmp a b)) weak ys sorted i j d (omega arith) below)
+    (λ tied. apart_places (updated_places xs) (updated_places ys) (IsPermutation-map (λ (c : Update). c.place) xs ys moved) rises i j 0 before (omega (arith, length-map ys (λ (c : Update). c.place)))
+    (get_or-map (λ (c : Update). c.place) ys i d 0 (omega arith) ∙ sym (same_from_cmp y.place x.place (both_equal (slice_cmp nat_cmp y.destination.now x.destination.now) (nat_cmp y.place x.place) tied).1) ∙ sym (get_or-map (λ (c : Update). c.place) ys j d 0 below))))
 
--- a claim of some, as one that they contain
-claim_within : (cs : List Claim) (k : ℕ) (d : List ℕ) → HasClaim cs k d → (c : Claim) × Contains cs c × (c.place ≡ k) × (c.destination.now ≡ d)
-claim_within [] k d has = absurd has
-claim_within (c ∷ cs) k d (inl is) = (c, (0, omega arith, refl), is.0, is.1)
-claim_within (c ∷ cs) k d (inr has) = let at = claim_within cs k d has in (at.0, (suc at.1.0, (let below = at.1.1 in omega (arith, below)), at.1.2), at.2, at.3)
+-- a update of some, as one that they contain
+update_within : (cs : List Update) (k : ℕ) (d : List ℕ) → HasUpdate cs k d → (c : Update) × Contains cs c × (c.place ≡ k) × (c.destination.now ≡ d)
+update_within [] k d has = absurd has
+update_within (c ∷ cs) k d (inl is) = (c, (0, omega arith, refl), is.0, is.1)
+update_within (c ∷ cs) k d (inr has) = let at = update_within cs k d has in (at.0, (suc at.1.0, (let below = at.1.1 in omega (arith, below)), at.1.2), at.2, at.3)
 
-claim_at : (cs : List Claim) (i : ℕ) (c : Claim) (k : ℕ) (d : List ℕ) → i < length cs → get_or cs i c ≡ c → c.place ≡ k → c.destination.now ≡ d → HasClaim cs k d
-claim_at [] i c k d below is place to = absurd (omega arith)
-claim_at (x ∷ cs) zero c k d below is place to = inl (ap (λ (y : Claim). y.place) is ∙ place, ap (λ (y : Claim). y.destination.now) is ∙ to)
-claim_at (x ∷ cs) (suc i) c k d below is place to = inr (claim_at cs i c k d (omega arith) is place to)
+update_at : (cs : List Update) (i : ℕ) (c : Update) (k : ℕ) (d : List ℕ) → i < length cs → get_or cs i c ≡ c → c.place ≡ k → c.destination.now ≡ d → HasUpdate cs k d
+update_at [] i c k d below is place to = absurd (omega arith)
+update_at (x ∷ cs) zero c k d below is place to = inl (ap (λ (y : Update). y.place) is ∙ place, ap (λ (y : Update). y.destination.now) is ∙ to)
+update_at (x ∷ cs) (suc i) c k d below is place to = inr (update_at cs i c k d (omega arith) is place to)
 
-HasClaim-permuted : (xs ys : List Claim) (k : ℕ) (d : List ℕ) → IsPermutation xs ys → HasClaim xs k d → HasClaim ys k d
-HasClaim-permuted xs ys k d moved has =
-    let c = claim_within xs k d has in
+HasUpdate-permuted : (xs ys : List Update) (k : ℕ) (d : List ℕ) → IsPermutation xs ys → HasUpdate xs k d → HasUpdate ys k d
+HasUpdate-permuted xs ys k d moved has =
+    let c = update_within xs k d has in
     let at = Contains-permutation xs ys c.0 moved c.1 in
-    claim_at ys at.0 c.0 k d at.1 at.2 c.2 c.3
+    update_at ys at.0 c.0 k d at.1 at.2 c.2 c.3
 
-pub HasClaim-left : (xs ys : List Claim) (k : ℕ) (d : List ℕ) → HasClaim xs k d → HasClaim (xs ++ ys) k d
-HasClaim-left [] ys k d has = absurd has
-HasClaim-left (x ∷ xs) ys k d (inl is) = inl is
-HasClaim-left (x ∷ xs) ys k d (inr has) = inr (HasClaim-left xs ys k d has)
+pub HasUpdate-left : (xs ys : List Update) (k : ℕ) (d : List ℕ) → HasUpdate xs k d → HasUpdate (xs ++ ys) k d
+HasUpdate-left [] ys k d has = absurd has
+HasUpdate-left (x ∷ xs) ys k d (inl is) = inl is
+HasUpdate-left (x ∷ xs) ys k d (inr has) = inr (HasUpdate-left xs ys k d has)
 
-pub HasClaim-right : (xs ys : List Claim) (k : ℕ) (d : List ℕ) → HasClaim ys k d → HasClaim (xs ++ ys) k d
-HasClaim-right [] ys k d has = has
-HasClaim-right (x ∷ xs) ys k d has = inr (HasClaim-right xs ys k d has)
+pub HasUpdate-right : (xs ys : List Update) (k : ℕ) (d : List ℕ) → HasUpdate ys k d → HasUpdate (xs ++ ys) k d
+HasUpdate-right [] ys k d has = has
+HasUpdate-right (x ∷ xs) ys k d has = inr (HasUpdate-right xs ys k d has)
 
-pub HasClaim-cases : (xs ys : List Claim) (k : ℕ) (d : List ℕ) → HasClaim (xs ++ ys) k d → HasClaim xs k d ⊎ HasClaim ys k d
-HasClaim-cases [] ys k d has = inr has
-HasClaim-cases (x ∷ xs) ys k d (inl is) = inl (inl is)
-HasClaim-cases (x ∷ xs) ys k d (inr has) = elim (HasClaim-cases xs ys k d has) [
+pub HasUpdate-cases : (xs ys : List Update) (k : ℕ) (d : List ℕ) → HasUpdate (xs ++ ys) k d → HasUpdate xs k d ⊎ HasUpdate ys k d
+HasUpdate-cases [] ys k d has = inr has
+HasUpdate-cases (x ∷ xs) ys k d (inl is) = inl (inl is)
+HasUpdate-cases (x ∷ xs) ys k d (inr has) = elim (HasUpdate-cases xs ys k d has) [
   | inl left ↦ inl (inr left)
   | inr right ↦ inr right
 ]
 
--- all claims that were made, in order, are those of all mappings
-pub claims_sorted : (l : List Mapped) (flags : List Bool) (p : ℕ) (cs new : List Claim) → length l ≤ p → AreClaimsUpto l flags p cs → IsPermutation cs new → IsSorted (λ (x : Claim) (y : Claim). ordering_then (slice_cmp nat_cmp x.destination.now y.destination.now) (nat_cmp x.place y.place)) new → AreClaims l flags new
-claims_sorted l flags p cs new past made moved sorted = record {
+-- all updates that were made, in order, are those of all mappings
+pub updates_sorted : (l : List Mapped) (flags : List Bool) (p : ℕ) (cs new : List Update) → length l ≤ p → AreUpdatesUpto l flags p cs → IsPermutation cs new → IsSorted (λ (x : Update) (y : Update). ordering_then (slice_cmp nat_cmp x.destination.now y.destination.now) (nat_cmp x.place y.place)) new → AreUpdates l flags new
+updates_sorted l flags p cs new past made moved sorted = record {
   are = λ k d. (
-    (λ has. ((made.are k d).0 (HasClaim-permuted new cs k d (IsPermutation-sym cs new moved) has)).1),
-    (λ goes. HasClaim-permuted cs new k d moved ((made.are k d).1 ((let below = slice_get_within l k goes.0.0 goes.0.1 in omega (arith, below, past)), goes))),
+    (λ has. ((made.are k d).0 (HasUpdate-permuted new cs k d (IsPermutation-sym cs new moved) has)).1),
+    (λ goes. HasUpdate-permuted cs new k d moved ((made.are k d).1 ((let below = slice_get_within l k goes.0.0 goes.0.1 in omega (arith, below, past)), goes))),
   );
   order = strict_from_sorted cs new moved made.rises sorted;
 }
@@ -162,34 +162,34 @@ one_place l k d e (m, is_m, to_d) (n, is_n, to_e) =
     let both : Some d ≡ Some e = sym to_d ∙ ap (λ (x : Mapped). x.destination) one ∙ to_e in
     cc
 
--- one more claim
-pub claims_more : (l : List Mapped) (flags : List Bool) (cs new : List Claim) (c : Claim) → new ≡ cs ++ c ∷ [] → GoesTo l c.place c.destination.now → ¬ (IsFlagged flags c.place) → AreClaimsUpto l flags c.place cs → AreClaimsUpto l flags (c.place + 1) new
-claims_more l flags cs new c is goes unflagged made =
-    let places : claimed_places new ≡ claimed_places cs ++ c.place ∷ [] = ap claimed_places is ∙ map-append (λ (x : Claim). x.place) cs (c ∷ []) in record {
-      are = λ k d. subst (λ (xs : List Claim). HasClaim xs k d ↔ ((k < c.place + 1) × (GoesTo l k d × ¬ (IsFlagged flags k)))) (sym is) (
-        (λ has. elim (HasClaim-cases cs (c ∷ []) k d has) [
+-- one more update
+pub updates_more : (l : List Mapped) (flags : List Bool) (cs new : List Update) (c : Update) → new ≡ cs ++ c ∷ [] → GoesTo l c.place c.destination.now → ¬ (IsFlagged flags c.place) → AreUpdatesUpto l flags c.place cs → AreUpdatesUpto l flags (c.place + 1) new
+updates_more l flags cs new c is goes unflagged made =
+    let places : updated_places new ≡ updated_places cs ++ c.place ∷ [] = ap updated_places is ∙ map-append (λ (x : Update). x.place) cs (c ∷ []) in record {
+      are = λ k d. subst (λ (xs : List Update). HasUpdate xs k d ↔ ((k < c.place + 1) × (GoesTo l k d × ¬ (IsFlagged flags k)))) (sym is) (
+        (λ has. elim (HasUpdate-cases cs (c ∷ []) k d has) [
           | inl old ↦ let told = (made.are k d).0 old in ((let less = told.0 in omega (arith, less)), told.1)
           | inr last ↦ only last
         ]),
         (λ told. elim (upto k c.place told.0) [
-          | inl less ↦ HasClaim-left cs (c ∷ []) k d ((made.are k d).1 (less, told.1))
-          | inr here ↦ HasClaim-right cs (c ∷ []) k d (inl (sym here, one_place l k c.destination.now d (subst (λ (n : ℕ). GoesTo l n c.destination.now) (sym here) goes) told.1.0))
+          | inl less ↦ HasUpdate-left cs (c ∷ []) k d ((made.are k d).1 (less, told.1))
+          | inr here ↦ HasUpdate-right cs (c ∷ []) k d (inl (sym here, one_place l k c.destination.now d (subst (λ (n : ℕ). GoesTo l n c.destination.now) (sym here) goes) told.1.0))
         ]),
       );
-      rises = subst Rises (sym places) (Rises-push (claimed_places cs) c.place made.rises made.below);
-      below = subst (λ (ns : List ℕ). AllByRecursion (λ n. n < c.place + 1) ns) (sym places) (all_join (λ n. n < c.place + 1) (claimed_places cs) (c.place ∷ []) (all_weaker (λ n. n < c.place) (λ n. n < c.place + 1) (λ n less. omega arith) (claimed_places cs) made.below) (omega arith, tt));
+      rises = subst Rises (sym places) (Rises-push (updated_places cs) c.place made.rises made.below);
+      below = subst (λ (ns : List ℕ). AllByRecursion (λ n. n < c.place + 1) ns) (sym places) (all_join (λ n. n < c.place + 1) (updated_places cs) (c.place ∷ []) (all_weaker (λ n. n < c.place) (λ n. n < c.place + 1) (λ n less. omega arith) (updated_places cs) made.below) (omega arith, tt));
     }
   where
-    only : {k : ℕ} {d : List ℕ} → HasClaim (c ∷ []) k d → (k < c.place + 1) × (GoesTo l k d × ¬ (IsFlagged flags k))
+    only : {k : ℕ} {d : List ℕ} → HasUpdate (c ∷ []) k d → (k < c.place + 1) × (GoesTo l k d × ¬ (IsFlagged flags k))
     only {k} {d} (inl at) = (
       (let place = at.0 in omega (arith, place)),
       (subst (λ (n : ℕ). GoesTo l n d) at.0 (subst (λ (x : List ℕ). GoesTo l c.place x) at.1 goes), subst (λ (n : ℕ). ¬ (IsFlagged flags n)) at.0 unflagged),
     )
     only (inr none) = absurd none
 
--- a mapping that makes no claim
-pub claims_same : (l : List Mapped) (flags : List Bool) (p : ℕ) (cs : List Claim) → ((d : List ℕ) → GoesTo l p d → ¬ (IsFlagged flags p) → ⊥) → AreClaimsUpto l flags p cs → AreClaimsUpto l flags (p + 1) cs
-claims_same l flags p cs none made = record {
+-- a mapping that makes no update
+pub updates_same : (l : List Mapped) (flags : List Bool) (p : ℕ) (cs : List Update) → ((d : List ℕ) → GoesTo l p d → ¬ (IsFlagged flags p) → ⊥) → AreUpdatesUpto l flags p cs → AreUpdatesUpto l flags (p + 1) cs
+updates_same l flags p cs none made = record {
   are = λ k d. (
     (λ has. let told = (made.are k d).0 has in ((let less = told.0 in omega (arith, less)), told.1)),
     (λ told. elim (upto k p told.0) [
@@ -198,12 +198,12 @@ claims_same l flags p cs none made = record {
     ]),
   );
   rises = made.rises;
-  below = all_weaker (λ n. n < p) (λ n. n < p + 1) (λ n less. omega arith) (claimed_places cs) made.below;
+  below = all_weaker (λ n. n < p) (λ n. n < p + 1) (λ n less. omega arith) (updated_places cs) made.below;
 }
 
--- no claim is made at first
-pub claims_none : (l : List Mapped) (flags : List Bool) → AreClaimsUpto l flags 0 []
-claims_none l flags = record {
+-- no update is made at first
+pub updates_none : (l : List Mapped) (flags : List Bool) → AreUpdatesUpto l flags 0 []
+updates_none l flags = record {
   are = λ k d. ((λ has. absurd has), (λ told. absurd (let less = told.0 in omega (arith, less))));
   rises = tt;
   below = tt;
@@ -215,14 +215,14 @@ differ_from_test xs ys b is told same = false≢true (sym (not-true (bytes_eq xs
 pub same_from_test : (xs ys : List ℕ) (b : Bool) → b ≡ not (bytes_eq xs ys) → b ≡ false → xs ≡ ys
 same_from_test xs ys b is told = (bytes_eq-Decides xs ys).0 (not-false (bytes_eq xs ys) (sym is ∙ told))
 
--- what comes after a claim to a destination behind x is to one behind x too
-behind : (x : List ℕ) (o y : Claim) → slice_cmp nat_cmp x o.destination.now ≡ Less → claim_cmp o y ≡ Less → slice_cmp nat_cmp x y.destination.now ≡ Less
+-- what comes after a update to a destination behind x is to one behind x too
+behind : (x : List ℕ) (o y : Update) → slice_cmp nat_cmp x o.destination.now ≡ Less → update_cmp o y ≡ Less → slice_cmp nat_cmp x y.destination.now ≡ Less
 behind x o y first is = elim (later o y is) [
   | inl less ↦ below_trans x o.destination.now y.destination.now first less
   | inr tied ↦ subst (λ (d : List ℕ). slice_cmp nat_cmp x d ≡ Less) tied.0 first
 ]
 
-all_behind : (x : List ℕ) (cs : List Claim) → IsStrictlySortedBy claim_cmp cs → AllByRecursion (λ c. (slice_cmp nat_cmp x c.destination.now ≡ Less) ⊎ (x ≡ c.destination.now)) cs → ((c : Claim) (rest : List Claim) → cs ≡ c ∷ rest → x ≢ c.destination.now) → AllByRecursion (λ c. slice_cmp nat_cmp x c.destination.now ≡ Less) cs
+all_behind : (x : List ℕ) (cs : List Update) → IsStrictlySortedBy update_cmp cs → AllByRecursion (λ c. (slice_cmp nat_cmp x c.destination.now ≡ Less) ⊎ (x ≡ c.destination.now)) cs → ((c : Update) (rest : List Update) → cs ≡ c ∷ rest → x ≢ c.destination.now) → AllByRecursion (λ c. slice_cmp nat_cmp x c.destination.now ≡ Less) cs
 unfolding IsStrictlySortedBy
 all_behind x [] strict from other = tt
 all_behind x (c ∷ cs) strict from other =
@@ -230,10 +230,10 @@ all_behind x (c ∷ cs) strict from other =
       | inl less ↦ less
       | inr same ↦ absurd (other c cs refl same)
     ] in
-    (first, all_weaker (λ y. claim_cmp c y ≡ Less) (λ y. slice_cmp nat_cmp x y.destination.now ≡ Less) (λ y is. behind x c y first is) cs strict.0)
+    (first, all_weaker (λ y. update_cmp c y ≡ Less) (λ y. slice_cmp nat_cmp x y.destination.now ≡ Less) (λ y is. behind x c y first is) cs strict.0)
 
--- where the claims before a place are to the first one's destination, and that there is not, the place cuts them
-pub cut_at : (cs : List Claim) (n : ℕ) (d : Claim) → 0 < length cs → IsStrictlySortedBy claim_cmp cs → AllByRecursion (λ c. c.destination.now ≡ (get_or cs 0 d).destination.now) (take n cs) → (n < length cs → (get_or cs n d).destination.now ≢ (get_or cs 0 d).destination.now) → IsCut (take n cs) (drop n cs)
+-- where the updates before a place are to the first one's destination, and that there is not, the place cuts them
+pub cut_at : (cs : List Update) (n : ℕ) (d : Update) → 0 < length cs → IsStrictlySortedBy update_cmp cs → AllByRecursion (λ c. c.destination.now ≡ (get_or cs 0 d).destination.now) (take n cs) → (n < length cs → (get_or cs n d).destination.now ≢ (get_or cs 0 d).destination.now) → IsRun (take n cs) (drop n cs)
 unfolding IsStrictlySortedBy
 cut_at [] n d some strict same end = absurd (omega arith)
 cut_at (h ∷ cs) zero d some strict same end = absurd (end (omega arith) refl)
@@ -242,19 +242,19 @@ cut_at (h ∷ cs) (suc n) d some strict same end =
       destination = h.destination.now;
       same = same;
       beyond = all_behind h.destination.now (drop n cs)
-          (strict_right claim_cmp (take n cs) (drop n cs) (subst (λ (xs : List Claim). IsStrictlySortedBy claim_cmp xs) (sym cut) strict.1))
-          (all_weaker (λ y. claim_cmp h y ≡ Less) (λ y. (slice_cmp nat_cmp h.destination.now y.destination.now ≡ Less) ⊎ (h.destination.now ≡ y.destination.now)) not_before (drop n cs)
-          (all_right (λ y. claim_cmp h y ≡ Less) (take n cs) (drop n cs) (subst (λ (xs : List Claim). AllByRecursion (λ y. claim_cmp h y ≡ Less) xs) (sym cut) strict.0)))
+          (strict_right update_cmp (take n cs) (drop n cs) (subst (λ (xs : List Update). IsStrictlySortedBy update_cmp xs) (sym cut) strict.1))
+          (all_weaker (λ y. update_cmp h y ≡ Less) (λ y. (slice_cmp nat_cmp h.destination.now y.destination.now ≡ Less) ⊎ (h.destination.now ≡ y.destination.now)) not_before (drop n cs)
+          (all_right (λ y. update_cmp h y ≡ Less) (take n cs) (drop n cs) (subst (λ (xs : List Update). AllByRecursion (λ y. update_cmp h y ≡ Less) xs) (sym cut) strict.0)))
           (λ c rest is same2. elim (cases_lt n (length cs)) [
             | inl inside ↦
                 let here : get_or cs n d ∷ drop (n + 1) cs ≡ c ∷ rest = sym (drop_more cs n d inside) ∙ is in
                 let one : get_or cs n d ≡ c = cc in
-                end (omega arith) (ap (λ (x : Claim). x.destination.now) one ∙ sym same2)
+                end (omega arith) (ap (λ (x : Update). x.destination.now) one ∙ sym same2)
             | inr past ↦ let none : length (drop n cs) ≡ 0 = omega (arith, length-drop n cs) in let some2 : length (drop n cs) ≡ suc (length rest) = ap length is in absurd (omega (arith, none, some2))
           ]);
     }
   where
-    not_before : (y : Claim) → claim_cmp h y ≡ Less → (slice_cmp nat_cmp h.destination.now y.destination.now ≡ Less) ⊎ (h.destination.now ≡ y.destination.now)
+    not_before : (y : Update) → update_cmp h y ≡ Less → (slice_cmp nat_cmp h.destination.now y.destination.now ≡ Less) ⊎ (h.destination.now ≡ y.destination.now)
     not_before y is = elim (later h y is) [
       | inl less ↦ inl less
       | inr tied ↦ inr tied.0

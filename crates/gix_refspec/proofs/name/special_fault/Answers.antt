@@ -1,7 +1,7 @@
 use Rattle.std.proofs.Common.{◌≡◌, ◌∷◌, codes, sym, subst, arith}
 use Rattle.std.proofs.lemmas.Bool.{both_ways}
 use Rattle.std.proofs.lemmas.Grind.{common_steps}
-use Rattle.gix_refspec.specs.Texts.Words.{Ends}
+use Rattle.gix_refspec.specs.Texts.Words.{EndsWith}
 use Rattle.gix_refspec.specs.Texts.Bytes.{slash}
 use Rattle.gix_refspec.specs.Private.Scan.{AddsFault}
 use Rattle.gix_refspec.proofs.lemmas.texts.NameLemmas.{slash_adds, last_byte, locked_behind_slash}
@@ -15,6 +15,6 @@ returns-then-ends_with c =
 pub returns-else-ends_with : goal.returns-else-ends_with
 returns-else-ends_with c e =
     let same : c.args.byte ≡ slash = grind (arith, common_steps) in
-    let unlocked : ¬ (Ends (codes ".lock") (slash ∷ c.args.before.now)) = λ locked. both_ways _ c.if-ends_with.false ((locked_behind_slash c.args.before.now _ c.ends_with.ensures.value).1 locked) in
+    let unlocked : ¬ (EndsWith (codes ".lock") (slash ∷ c.args.before.now)) = λ locked. both_ways _ c.if-ends_with.false ((locked_behind_slash c.args.before.now _ c.ends_with.ensures.value).1 locked) in
     subst (λ b. ¬ (AddsFault (slash ∷ c.args.before.now) b e)) (sym same)
     (slash_adds (slash ∷ c.args.before.now) e (λ ends. c.if-previous-eq47.false (last_byte _ _ _ c.requires ends)) unlocked)

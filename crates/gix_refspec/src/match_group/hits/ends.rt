@@ -6,7 +6,7 @@ ghost use Rattle.gix_refspec.specs.Texts.Name.{HasSeveralStars};
 ghost use Rattle.gix_refspec.specs.Texts.ObjectId.{id_bytes};
 ghost use Rattle.gix_refspec.specs.Views.Spec.{reading_of};
 ghost use Rattle.gix_refspec.specs.Matching.Hits.{Ends as EndsOf};
-ghost use Rattle.gix_refspec.specs.Private.HitViews.{AsksForId, HasKindShown, HaveKinds, HasEnds};
+ghost use Rattle.gix_refspec.specs.Private.HitViews.{AsksForId, HasSideKind, HaveKinds, HasEnds};
 
 use crate::oid::ObjectId;
 use crate::side::{SideKind, kind_of};
@@ -69,7 +69,7 @@ pub(crate) fn asked_of<'spec>(spec: &RefSpecRef<'spec>) -> Option<Asked<'spec>>
     ensures { MatchOption result
         ((bytes : List ℕ) → ¬ (AsksForId (reading_of spec.now) bytes))
         (λ asked. AsksForId (reading_of spec.now) (id_bytes asked.id)
-        × HasKindShown (reading_of spec.now).destination asked.destination) }
+        × HasSideKind (reading_of spec.now).destination asked.destination) }
 {
     if spec.mode == Mode::Negative {
         return None;
@@ -86,7 +86,7 @@ pub(crate) fn asked_of<'spec>(spec: &RefSpecRef<'spec>) -> Option<Asked<'spec>>
 // The kind of a side that is there.
 fn side_kind(side: Option<BStr<'_>>) -> Option<SideKind<'_>>
     requires { MatchOption side (Unit {0}) (λ s. ¬ (HasSeveralStars (bstr_bytes s))) }
-    ensures { HasKindShown (option_map bstr_bytes side.entry) result }
+    ensures { HasSideKind (option_map bstr_bytes side.entry) result }
 {
     match side {
         None => None,

@@ -5,7 +5,7 @@ ghost use Rattle.bstr.specs.Owned.{bstring_bytes};
 ghost use Rattle.gix_refspec.specs.Texts.ObjectId.{id_bytes, lower_of};
 ghost use Rattle.gix_refspec.specs.Matching.Side.{filled as filled_by, full_name_of};
 ghost use Rattle.gix_refspec.specs.Views.Group.{name_bytes};
-ghost use Rattle.gix_refspec.specs.Private.SideViews.{shown_kind};
+ghost use Rattle.gix_refspec.specs.Private.SideViews.{kind_of_side};
 ghost use Rattle.gix_refspec.specs.Private.HitViews.{filled_end as end_filled};
 
 use crate::match_group::types::NameRef;
@@ -39,7 +39,7 @@ fn filled<'spec>(
     word: Option<&[u8]>,
 ) -> Result<NameRef<'spec>, AllocError>
     ensures { IfOk result (λ name. name_bytes name ≡
-        filled_by (shown_kind side.entry) (option_map (λ w. w.now) word.entry)) }
+        filled_by (kind_of_side side.entry) (option_map (λ w. w.now) word.entry)) }
 {
     Ok(match side {
         SideKind::FullName(name) => NameRef::Borrowed(BStr::new(name)),
@@ -48,7 +48,7 @@ fn filled<'spec>(
             NameRef::Owned(joined(alloc, before, word, after)?)
         }
         SideKind::Object(id) => NameRef::Owned(branch_of(alloc, &id)?),
-        SideKind::Partial(name) => NameRef::Owned(joined(alloc, place_of(name), name, b"")?),
+        SideKind::Partial(name) => NameRef::Owned(joined(alloc, folder_of(name), name, b"")?),
     })
 }
 
@@ -64,7 +64,7 @@ fn branch_of(alloc: Global, id: &ObjectId) -> Result<BString, AllocError>
 }
 
 // What stands before a partial name in the full name that it becomes.
-fn place_of(name: &[u8]) -> &'static [u8]
+fn folder_of(name: &[u8]) -> &'static [u8]
     ensures { result.now ++ name.now ≡ full_name_of name.now }
 {
     if name.starts_with(b"tags/") || name.starts_with(b"remotes/") {

@@ -13,7 +13,7 @@ use crate::spec::RefSpecRef;
 use std::alloc::{AllocError, Global};
 
 // A mapping for each positive spec whose source is an id, with room for so many.
-pub(crate) fn ids_of<'spec, 'item>(
+pub(crate) fn id_mappings<'spec, 'item>(
     alloc: Global,
     specs: &[RefSpecRef<'spec>],
     room: usize,

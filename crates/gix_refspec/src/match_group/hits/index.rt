@@ -6,8 +6,8 @@ ghost use Rattle.std.specs.Prelude.{◌≡◌, ◌++◌, [], List, ℕ, map, IfS
 ghost use Rattle.gix_refspec.specs.Views.Spec.{reading_of};
 ghost use Rattle.gix_refspec.specs.Matching.Match.{Ref};
 ghost use Rattle.gix_refspec.specs.Views.Group.{name_bytes, ref_of};
-ghost use Rattle.gix_refspec.specs.Private.SideViews.{shown_kind};
-ghost use Rattle.gix_refspec.specs.Private.Index.{AllNear, HavePlaces, IsNamed, full_names_of, list_of, partial_names_of};
+ghost use Rattle.gix_refspec.specs.Private.SideViews.{kind_of_side};
+ghost use Rattle.gix_refspec.specs.Private.Index.{AllNear, HavePlaces, HasNamesOf, full_names_of, list_of, partial_names_of};
 
 mod filter;
 pub(crate) mod fronts;
@@ -46,7 +46,7 @@ pub(crate) fn names_asked<'spec>(
     direction: Direction,
     specs: &[RefSpecRef<'spec>],
 ) -> Result<Names<'spec>, AllocError>
-    ensures { IfOk result (λ names. AllNear (IsNamed names) direction (map reading_of specs.now)) }
+    ensures { IfOk result (λ names. AllNear (HasNamesOf names) direction (map reading_of specs.now)) }
 {
     let mut names = Names {
         full: Vec::new(alloc),
@@ -64,9 +64,9 @@ impl<'spec> Names<'spec> {
     // Adds the name that a side asks for.
     fn add(&mut self, near: SideKind<'spec>) -> Result<(), AllocError>
         ensures full { OnOk result (map name_bytes self.new.full.items ≡
-            map name_bytes self.old.full.items ++ full_names_of (shown_kind near.entry)) }
+            map name_bytes self.old.full.items ++ full_names_of (kind_of_side near.entry)) }
         ensures partial { OnOk result (map name_bytes self.new.partial.items ≡
-            map name_bytes self.old.partial.items ++ partial_names_of (shown_kind near.entry)) }
+            map name_bytes self.old.partial.items ++ partial_names_of (kind_of_side near.entry)) }
     {
         match near {
             SideKind::FullName(name) => self.full.push(NameRef::Borrowed(BStr::new(name)))?,

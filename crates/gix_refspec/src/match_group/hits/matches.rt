@@ -5,8 +5,8 @@ ghost use Rattle.gix_refspec.specs.Texts.ObjectId.{id_bytes};
 ghost use Rattle.gix_refspec.specs.Matching.Side.{Fits, IsCandidate};
 ghost use Rattle.gix_refspec.specs.Matching.Match.{MatchesAs};
 ghost use Rattle.gix_refspec.specs.Views.Group.{ref_of};
-ghost use Rattle.gix_refspec.specs.Private.SideViews.{shown_kind};
-ghost use Rattle.gix_refspec.specs.Private.HitViews.{word_of, IsPlace, PatternFits};
+ghost use Rattle.gix_refspec.specs.Private.SideViews.{kind_of_side};
+ghost use Rattle.gix_refspec.specs.Private.HitViews.{word_of, IsFolder, PatternFits};
 
 use crate::match_group::types::Item;
 use crate::oid::ObjectId;
@@ -20,10 +20,10 @@ pub(crate) struct Match<'item> {
 
 // How a side matches an item. It is inlined, since it is called for each item of each spec.
 #[inline(always)]
-pub(crate) fn matched<'item>(side: SideKind<'_>, item: &Item<'item>) -> Option<Match<'item>>
+pub(crate) fn match_of<'item>(side: SideKind<'_>, item: &Item<'item>) -> Option<Match<'item>>
     ensures { MatchOption result
-        ((word : Option (List ℕ)) → ¬ (MatchesAs (shown_kind side.entry) (ref_of item.now) word))
-        (λ found. MatchesAs (shown_kind side.entry) (ref_of item.now) (word_of found)) }
+        ((word : Option (List ℕ)) → ¬ (MatchesAs (kind_of_side side.entry) (ref_of item.now) word))
+        (λ found. MatchesAs (kind_of_side side.entry) (ref_of item.now) (word_of found)) }
 {
     let name = item.full_ref_name.as_bytes();
     let matches = match side {
@@ -51,8 +51,8 @@ pub(crate) fn word_between<'a>(before: &[u8], after: &[u8], name: &'a [u8]) -> O
 // What stands for the star of a pattern in the name of an item that it fits. It isn't compared again.
 #[inline(always)]
 pub(crate) fn fitted_word<'item>(side: SideKind<'_>, item: &Item<'item>) -> Option<&'item [u8]>
-    requires { PatternFits (shown_kind side) (ref_of item.now) }
-    ensures { MatchesAs (shown_kind side.entry) (ref_of item.now) (option_map (λ w. w.now) result) }
+    requires { PatternFits (kind_of_side side) (ref_of item.now) }
+    ensures { MatchesAs (kind_of_side side.entry) (ref_of item.now) (option_map (λ w. w.now) result) }
 {
     let SideKind::Pattern { before, after } = side else {
         return None;
@@ -80,17 +80,17 @@ fn points_to(item: &Item<'_>, id: &ObjectId) -> bool
 fn is_candidate(partial: &[u8], name: &[u8]) -> bool
     ensures { IsTrue result ↔ IsCandidate partial.now name.now }
 {
-    is_placed(partial, name) || is_remote_head(partial, name)
+    is_in_folder(partial, name) || is_remote_head(partial, name)
 }
 
 // Whether a name is a partial one behind one of the places where that is looked for.
-fn is_placed(partial: &[u8], name: &[u8]) -> bool
+fn is_in_folder(partial: &[u8], name: &[u8]) -> bool
     ensures { IsTrue result ↔
-        ((before : List ℕ) × IsPlace before × (name.now ≡ before ++ partial.now)) }
+        ((before : List ℕ) × IsFolder before × (name.now ≡ before ++ partial.now)) }
 {
     match name.strip_suffix(partial) {
         None => false,
-        Some(before) => is_place(before),
+        Some(before) => is_folder(before),
     }
 }
 
@@ -106,8 +106,8 @@ fn is_remote_head(partial: &[u8], name: &[u8]) -> bool
 }
 
 // Whether a candidate may have this before the partial name, and nothing behind it.
-fn is_place(before: &[u8]) -> bool
-    ensures { IsTrue result ↔ IsPlace before.now }
+fn is_folder(before: &[u8]) -> bool
+    ensures { IsTrue result ↔ IsFolder before.now }
 {
     before == b"".as_slice()
         || before == b"refs/".as_slice()

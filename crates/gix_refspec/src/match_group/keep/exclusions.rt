@@ -5,7 +5,7 @@ ghost use Rattle.gix_refspec.specs.Views.Spec.{reading_of};
 ghost use Rattle.gix_refspec.specs.Views.Group.{mapped_of};
 ghost use Rattle.gix_refspec.specs.Matching.Mappings.{IsExcludedBy};
 ghost use Rattle.gix_refspec.specs.Specs.Reading.{Negative};
-ghost use Rattle.gix_refspec.specs.Private.Kept.{AreExclusionsOf, HasNegative, IsFitted, IsStartTaken, IsTaken};
+ghost use Rattle.gix_refspec.specs.Private.Kept.{AreExclusionsOf, HasNegative, IsFitted, ExcludeStart, ExcludeName};
 
 use crate::cut::split_at_first;
 use crate::match_group::hits::matches::word_between;
@@ -41,13 +41,13 @@ pub(crate) struct Exclusions<'a> {
 }
 
 impl<'a> Exclusion<'a> {
-    ghost use Rattle.gix_refspec.specs.Private.Kept.{Takes};
+    ghost use Rattle.gix_refspec.specs.Private.Kept.{ExcludesName};
 
     // What a spec excludes, where it is negative.
     fn of(spec: RefSpecRef<'a>) -> Option<Exclusion<'a>>
         ensures excludes { MatchOption result
             ((n : List ℕ) → ¬ (IsExcludedBy n (reading_of spec.entry)))
-            (λ exclusion. (n : List ℕ) → Takes exclusion n ↔ IsExcludedBy n (reading_of spec.entry)) }
+            (λ exclusion. (n : List ℕ) → ExcludesName exclusion n ↔ IsExcludedBy n (reading_of spec.entry)) }
         ensures negative { OnSome result ((reading_of spec.entry).mode ≡ Negative) }
     {
         if spec.mode != Mode::Negative {
@@ -62,7 +62,7 @@ impl<'a> Exclusion<'a> {
 }
 
 impl<'a> Exclusions<'a> {
-    ghost use Rattle.gix_refspec.specs.Private.Kept.{Takes};
+    ghost use Rattle.gix_refspec.specs.Private.Kept.{ExcludesName};
 
     // What the negative specs among these exclude.
     pub(crate) fn of(alloc: Global, specs: &[RefSpecRef<'a>]) -> Result<Exclusions<'a>, AllocError>
@@ -84,7 +84,7 @@ impl<'a> Exclusions<'a> {
     // Excludes more.
     fn add(&mut self, exclusion: Exclusion<'a>) -> Result<(), AllocError>
         ensures { OnOk result ((n : List ℕ) →
-            IsTaken self.new n ↔ (IsTaken self.old n ⊎ Takes exclusion.entry n)) }
+            ExcludeName self.new n ↔ (ExcludeName self.old n ⊎ ExcludesName exclusion.entry n)) }
     {
         match exclusion {
             Exclusion::Name(name) => {
@@ -97,14 +97,14 @@ impl<'a> Exclusions<'a> {
 
     // Whether nothing is excluded.
     pub(crate) fn is_empty(&self) -> bool
-        ensures { IsTrue result → (n : List ℕ) → ¬ (IsTaken self.now n) }
+        ensures { IsTrue result → (n : List ℕ) → ¬ (ExcludeName self.now n) }
     {
         self.names.is_empty() && self.patterns.is_empty()
     }
 
     // Whether a name is excluded.
     fn has_name(&self, name: &[u8]) -> bool
-        ensures { IsTrue result ↔ IsTaken self.now name.now }
+        ensures { IsTrue result ↔ ExcludeName self.now name.now }
     {
         self.names.contains(&NameRef::Borrowed(BStr::new(name)))
             || fits_some(self.patterns.as_slice(), name)
@@ -112,7 +112,7 @@ impl<'a> Exclusions<'a> {
 
     // Whether the source of a mapping is a name that is excluded.
     pub(crate) fn excludes(&self, mapping: &Mapping<'_, '_>) -> bool
-        ensures { IsTrue result ↔ IsStartTaken self.now (mapped_of mapping.now).source }
+        ensures { IsTrue result ↔ ExcludeStart self.now (mapped_of mapping.now).source }
     {
         match &mapping.lhs {
             SourceRef::FullName(name) => self.has_name(name.as_bstr().as_bytes()),

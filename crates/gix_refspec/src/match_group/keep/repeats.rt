@@ -11,7 +11,7 @@ ghost use Rattle.std.specs.List.{AllByRecursion};
 ghost use Rattle.std.specs.List.Sorted.{IsSorted};
 ghost use Rattle.gix_refspec.specs.Views.Group.{mapped_of, name_bytes};
 ghost use Rattle.gix_refspec.specs.Matching.Mappings.{IsSamePair};
-ghost use Rattle.gix_refspec.specs.Private.Kept.{AreKeysOf, ArePairsOf, FindsRepeats, FlagsRepeats, IsFlagged, IsSecond, PointsBack, Rises, pair_hash, places_of};
+ghost use Rattle.gix_refspec.specs.Private.Kept.{AreKeysOf, ArePairsOf, FindsRepeats, FlagsRepeats, IsFlagged, IsSecond, PointsBack, Rises, pair_hash, places_in};
 
 use crate::match_group::hashes::seeds;
 use crate::match_group::types::{Mapping, NameRef, SourceRef};
@@ -135,17 +135,17 @@ fn keys_of(
     requires few { bits < 64 }
     requires fit { length mappings.now ≤ 2 ^ bits }
     ensures all { IfOk result (λ keys. AreKeysOf seed mappings.now bits keys.items) }
-    ensures rises { IfOk result (λ keys. Rises (places_of bits keys.items)) }
+    ensures rises { IfOk result (λ keys. Rises (places_in bits keys.items)) }
 {
     let mut keys = Vec::with_capacity(alloc, mappings.len())?;
     for (place, mapping) in mappings.iter().enumerate() {
-        keys.push(key_of(hash_of(mapping, seed), place, bits))?;
+        keys.push(key_of(hash_of_pair(mapping, seed), place, bits))?;
     }
     Ok(keys)
 }
 
 // The hash of a pair by a seed.
-fn hash_of(mapping: &Mapping<'_, '_>, seed: FoldHasher) -> u64
+fn hash_of_pair(mapping: &Mapping<'_, '_>, seed: FoldHasher) -> u64
     ensures { result ≡ pair_hash seed (mapped_of mapping.now) }
 {
     let mut state = seed;
@@ -172,7 +172,7 @@ pub(crate) fn bucket_of(key: u64, bits: u32) -> u64
 }
 
 // The place in a key.
-pub(crate) fn place_of(key: u64, bits: u32) -> usize
+pub(crate) fn place_in(key: u64, bits: u32) -> usize
     requires { bits < 64 }
     ensures { result ≡ key % 2 ^ bits }
 {
@@ -192,8 +192,8 @@ fn earlier_by_key(alloc: Global, keys: &[u64], bits: u32) -> Result<Vec<usize>, 
     for at in 1..keys.len() {
         let (before, key) = (keys[at - 1], keys[at]);
         if bucket_of(before, bits) == bucket_of(key, bits) {
-            let place = place_of(key, bits);
-            point_back(&mut earlier, keys.len(), place, place_of(before, bits))?;
+            let place = place_in(key, bits);
+            point_back(&mut earlier, keys.len(), place, place_in(before, bits))?;
         }
     }
     Ok(earlier)

@@ -11,13 +11,13 @@ ghost use Rattle.std.specs.Prelude.{◌≡◌, ◌≢◌, ◌<◌, ◌≤◌, �
 ghost use Rattle.gix_refspec.specs.Views.Spec.{reading_of};
 ghost use Rattle.gix_refspec.specs.Views.Group.{ref_of};
 ghost use Rattle.gix_refspec.specs.Matching.Side.{object};
-ghost use Rattle.gix_refspec.specs.Private.SideViews.{shown_kind};
+ghost use Rattle.gix_refspec.specs.Private.SideViews.{kind_of_side};
 ghost use Rattle.gix_refspec.specs.Private.Part.{FlagsRepeated, HasNoNearId, IsNoNearId, IsPart, IsRepeatedAt, place_among};
 
 use crate::match_group::hashes::{hash_by, seeds};
 use crate::match_group::hits::ends::{Direction, ends_of};
 use crate::match_group::keep::is_flagged;
-use crate::match_group::keep::repeats::{bits_for, bucket_of, key_of, place_of, raise};
+use crate::match_group::keep::repeats::{bits_for, bucket_of, key_of, place_in, raise};
 use crate::match_group::types::Item;
 use crate::side::SideKind;
 use crate::spec::RefSpecRef;
@@ -131,7 +131,7 @@ fn near_is_id(direction: Direction, spec: &RefSpecRef<'_>) -> bool
 
 // Whether a side is an id.
 fn is_id(side: SideKind<'_>) -> bool
-    ensures { MatchBool result (Unit {0}) ((id : List ℕ) → shown_kind side.entry ≢ object id) }
+    ensures { MatchBool result (Unit {0}) ((id : List ℕ) → kind_of_side side.entry ≢ object id) }
 {
     match side {
         SideKind::Object(_) => true,
@@ -193,8 +193,8 @@ fn flags_by_key(
         if bucket_of(keys[at - 1], bits) != bucket_of(keys[at], bits) {
             continue;
         }
-        let place = place_of(keys[at], bits);
-        if !is_repeated(items, place_of(keys[at - 1], bits), place) {
+        let place = place_in(keys[at], bits);
+        if !is_repeated(items, place_in(keys[at - 1], bits), place) {
             return Ok(None);
         }
         raise(&mut flags, items.len(), place)?;

@@ -9,7 +9,7 @@ ghost use Rattle.gix_refspec.specs.Matching.Hits.{AreHits, IsIdMapping};
 ghost use Rattle.gix_refspec.specs.Private.HitViews.{AreMade, HasEnds, HasHit, HasNoHit, TakesIn};
 
 use crate::match_group::hits::ends::{Direction, Ends, asked_of, ends_of};
-use crate::match_group::hits::matches::matched;
+use crate::match_group::hits::matches::match_of;
 use crate::match_group::types::Item;
 use crate::spec::RefSpecRef;
 
@@ -66,7 +66,7 @@ fn hits_some(ends: Ends<'_>, items: &[Item<'_>]) -> bool
         (HasNoHit ends.entry (map ref_of items.now) (map ref_of items.now)) }
 {
     for item in items {
-        if matched(ends.near, item).is_some() {
+        if match_of(ends.near, item).is_some() {
             return true;
         }
     }

@@ -7,12 +7,12 @@ ghost use Rattle.std.specs.Prelude.{◌≡◌, ◌≢◌, ◌<◌, ◌≤◌, []
 ghost use Rattle.std.specs.List.Sorted.{IsStrictlySortedBy};
 ghost use Rattle.gix_refspec.specs.Views.Spec.{reading_of};
 ghost use Rattle.gix_refspec.specs.Views.Group.{mapped_of};
-ghost use Rattle.gix_refspec.specs.Matching.Validation.{IndexesFit, IsContested, AreConflicts};
+ghost use Rattle.gix_refspec.specs.Matching.Validation.{IndexesFit, HasConflictAt, AreConflicts};
 ghost use Rattle.gix_refspec.specs.Views.Issue.{conflict_of};
 ghost use Rattle.gix_refspec.specs.Private.Kept.{Rises};
-ghost use Rattle.gix_refspec.specs.Private.Updates.{AddsConflict, AreClaims, AreFirsts, AreRivals, IsCut, IsOver, claim_cmp, destination_hashes};
+ghost use Rattle.gix_refspec.specs.Private.Updates.{AddsConflict, AreUpdates, AreFirstUpdates, AreConflicting, IsRun, IsConflictOf, update_cmp, destination_hashes};
 
-use crate::match_group::hashes::hash_of;
+use crate::match_group::hashes::hash_of_name;
 use crate::match_group::keep::is_flagged;
 use crate::match_group::keep::repeats::repeats_of;
 use crate::match_group::types::Mapping;
@@ -23,7 +23,7 @@ use std::alloc::{AllocError, Global};
 
 // A destination, and the place of a mapping to it.
 #[derive(Clone, Copy, PartialEq, Eq, PartialOrd, Ord)]
-struct Claim<'m> {
+struct Update<'m> {
     destination: &'m [u8],
     place: usize,
 }
@@ -46,7 +46,7 @@ pub(crate) fn issues_of(
         return Ok(Vec::new(alloc));
     }
     let repeats = repeats_of(alloc, mappings)?;
-    let firsts = claims_in_order(alloc, mappings, repeats.as_slice())?;
+    let firsts = updates_in_order(alloc, mappings, repeats.as_slice())?;
     issues_among(alloc, specs, mappings, firsts.as_slice())
 }
 
@@ -54,7 +54,7 @@ pub(crate) fn issues_of(
 // sorted faster than names.
 fn destinations_differ(alloc: Global, mappings: &[Mapping<'_, '_>]) -> Result<bool, AllocError>
     ensures { IfOk result (λ differ. IsTrue differ →
-        (d : List ℕ) → ¬ (IsContested (map mapped_of mappings.now) d)) }
+        (d : List ℕ) → ¬ (HasConflictAt (map mapped_of mappings.now) d)) }
 {
     let mut hashes = hashes_of(alloc, mappings)?;
     hashes.sort_unstable();
@@ -81,45 +81,45 @@ fn hashes_of(alloc: Global, mappings: &[Mapping<'_, '_>]) -> Result<Vec<u64>, Al
     let mut hashes = Vec::with_capacity(alloc, mappings.len())?;
     for mapping in mappings {
         if let Some(name) = &mapping.rhs {
-            hashes.push(hash_of(name.as_bstr().as_bytes()))?;
+            hashes.push(hash_of_name(name.as_bstr().as_bytes()))?;
         }
     }
     Ok(hashes)
 }
 
-// The claims of the mappings that have a destination and aren't flagged, in order.
-fn claims_in_order<'m>(
+// The updates of the mappings that have a destination and aren't flagged, in order.
+fn updates_in_order<'m>(
     alloc: Global,
     mappings: &'m [Mapping<'_, '_>],
     flags: &[bool],
-) -> Result<Vec<Claim<'m>>, AllocError>
-    ensures { IfOk result (λ claims. AreClaims (map mapped_of mappings.now) flags.now claims.items) }
+) -> Result<Vec<Update<'m>>, AllocError>
+    ensures { IfOk result (λ updates. AreUpdates (map mapped_of mappings.now) flags.now updates.items) }
 {
-    let mut claims = Vec::with_capacity(alloc, mappings.len())?;
+    let mut updates = Vec::with_capacity(alloc, mappings.len())?;
     for (place, mapping) in mappings.iter().enumerate() {
         let Some(name) = &mapping.rhs else {
             continue;
         };
         if !is_flagged(flags, place) {
-            claims.push(Claim {
+            updates.push(Update {
                 destination: name.as_bstr().as_bytes(),
                 place,
             })?;
         }
     }
-    claims.sort_unstable();
-    Ok(claims)
+    updates.sort_unstable();
+    Ok(updates)
 }
 
-// The conflicts of claims that are each the first of its source.
+// The conflicts of updates that are each the first of its source.
 fn issues_among(
     alloc: Global,
     specs: &[RefSpecRef<'_>],
     mappings: &[Mapping<'_, '_>],
-    firsts: &[Claim<'_>],
+    firsts: &[Update<'_>],
 ) -> Result<Vec<Issue>, AllocError>
     requires fits { IndexesFit (map reading_of specs.now) (map mapped_of mappings.now) }
-    requires firsts { AreFirsts (map mapped_of mappings.now) firsts.now }
+    requires firsts { AreFirstUpdates (map mapped_of mappings.now) firsts.now }
     ensures { IfOk result (λ issues. AreConflicts
         (map reading_of specs.now) (map mapped_of mappings.now) (map conflict_of issues.items)) }
 {
@@ -134,16 +134,16 @@ fn issues_among(
     Ok(issues)
 }
 
-// Adds the conflict of all claims to one destination, where there are several.
+// Adds the conflict of all updates to one destination, where there are several.
 fn add_issue(
     alloc: Global,
     specs: &[RefSpecRef<'_>],
     mappings: &[Mapping<'_, '_>],
-    run: &[Claim<'_>],
+    run: &[Update<'_>],
     issues: &mut Vec<Issue>,
 ) -> Result<(), AllocError>
     requires fits { IndexesFit (map reading_of specs.now) (map mapped_of mappings.now) }
-    requires rivals { 1 < length run.now → AreRivals (map mapped_of mappings.now) run.now }
+    requires conflicting { 1 < length run.now → AreConflicting (map mapped_of mappings.now) run.now }
     ensures { OnOk result (AddsConflict
         (map reading_of specs.now) (map mapped_of mappings.now) run.now
         (map conflict_of issues.old.items) (map conflict_of issues.new.items)) }
@@ -154,38 +154,38 @@ fn add_issue(
     Ok(())
 }
 
-// How many of some claims in order, from the first on, have its destination.
-fn len_of_run(claims: &[Claim<'_>]) -> usize
-    requires some { 0 < length claims.now }
-    requires order { IsStrictlySortedBy claim_cmp claims.now }
+// How many of some updates in order, from the first on, have its destination.
+fn len_of_run(updates: &[Update<'_>]) -> usize
+    requires some { 0 < length updates.now }
+    requires order { IsStrictlySortedBy update_cmp updates.now }
     ensures some { 0 < result }
-    ensures fits { result ≤ length claims.now }
-    ensures cut { IsCut (take result claims.now) (drop result claims.now) }
+    ensures fits { result ≤ length updates.now }
+    ensures cut { IsRun (take result updates.now) (drop result updates.now) }
 {
-    for (len, claim) in claims.iter().enumerate() {
-        if claim.destination != claims[0].destination {
+    for (len, update) in updates.iter().enumerate() {
+        if update.destination != updates[0].destination {
             return len;
         }
     }
-    claims.len()
+    updates.len()
 }
 
-// The conflict of the claims to one destination.
+// The conflict of the updates to one destination.
 fn issue_of(
     alloc: Global,
     specs: &[RefSpecRef<'_>],
     mappings: &[Mapping<'_, '_>],
-    run: &[Claim<'_>],
+    run: &[Update<'_>],
 ) -> Result<Issue, AllocError>
     requires fits { IndexesFit (map reading_of specs.now) (map mapped_of mappings.now) }
-    requires rivals { AreRivals (map mapped_of mappings.now) run.now }
-    ensures { IfOk result (λ issue. IsOver
+    requires conflicting { AreConflicting (map mapped_of mappings.now) run.now }
+    ensures { IfOk result (λ issue. IsConflictOf
         (map reading_of specs.now) (map mapped_of mappings.now) run.now (conflict_of issue)) }
 {
     let mut sources = Vec::with_capacity(alloc, run.len())?;
     let mut texts = Vec::with_capacity(alloc, run.len())?;
-    for claim in run {
-        let mapping = &mappings[claim.place];
+    for update in run {
+        let mapping = &mappings[update.place];
         sources.push(mapping.lhs.clone(alloc)?.into_owned(alloc)?)?;
         texts.push(specs[mapping.spec_index].to_bstring(alloc)?)?;
     }

@@ -11,7 +11,7 @@ loop-place-preserved c =
     let xs = c.args.items.now in
     let i = c.loop-place.place in
     let kinds = c.args.ends in
-    elim c.match-matched.branch [
+    elim c.match-match_of.branch [
       | in-Some+in_ok-filled_end+in_ok-add w ↦
           subst (AddsHits c.args.direction (AreHitsOfKinds c.args.direction kinds c.args.spec (map ref_of xs) (map ref_of (take (i + 1) xs))) c.args.made.now) (sym w.made-is)
           (adds_hit c.args.direction kinds c.args.spec xs i _ c.args.made.now c.loop-place.made w.add.new.self w.in-Some.found w.in_ok-filled_end.field-0 c.requires c.loop-place-test.true c.loop-place.invariant w.in-Some.ensures w.in_ok-filled_end.ensures w.in_ok-add.ensures)

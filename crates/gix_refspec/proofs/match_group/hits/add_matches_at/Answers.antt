@@ -1,7 +1,7 @@
 -- An item that matches adds its hit, and another adds nothing.
 use Rattle.std.proofs.Common.{◌≡◌, ◌+◌, List, ℕ, map, take, take_all, sym, subst, rules, arith}
 use Rattle.gix_refspec.specs.Views.Group.{ref_of}
-use Rattle.gix_refspec.specs.Private.SideViews.{shown_kind}
+use Rattle.gix_refspec.specs.Private.SideViews.{kind_of_side}
 use Rattle.gix_refspec.specs.Private.HitViews.{AddsHits, word_of}
 use Rattle.gix_refspec.proofs.lemmas.index.FrontHitLemmas.{AreHitsAt, BeginsAs, all_at_places, hit_at_place, matched_begins, miss_at_place, of_front, place_inside, where_begins}
 use Rattle.gix_refspec.proofs.match_group.hits.add_matches_at.Goals as goal
@@ -9,7 +9,7 @@ use Rattle.gix_refspec.proofs.match_group.hits.add_matches_at.Goals.{in-Some+in_
 
 pub bounds-items-place : goal.bounds-items-place
 bounds-items-place c =
-    let kind = shown_kind c.args.ends.near in
+    let kind = kind_of_side c.args.ends.near in
     place_inside (BeginsAs kind) c.args.items.now c.args.places.now c.loop-place.place-index 0 (where_begins kind (map ref_of c.args.items.now) c.args.places.now c.requires) c.loop-place-test.true
 
 pub offset_bounds-items-place : goal.offset_bounds-items-place
@@ -21,10 +21,10 @@ loop-place-preserved c =
     let places = c.args.places.now in
     let i = c.loop-place.place-index in
     let kinds = c.args.ends in
-    let kind = shown_kind kinds.near in
+    let kind = kind_of_side kinds.near in
     let are = where_begins kind (map ref_of xs) places c.requires in
     let so_far = AddsHits c.args.direction (AreHitsAt c.args.direction kinds c.args.spec (map ref_of xs) (take (i + 1) places)) c.args.made.now in
-    elim c.match-matched.branch [
+    elim c.match-match_of.branch [
       | in-Some+in_ok-filled_end+in_ok-add w ↦
           subst so_far (sym w.made-is)
           (hit_at_place (BeginsAs kind) c.args.direction kinds c.args.spec xs places i _ _ c.args.made.now c.loop-place.made w.add.new.self (word_of w.in-Some.found) w.in_ok-filled_end.field-0 (of_front kind (map ref_of xs) places c.requires) are c.loop-place-test.true c.loop-place.invariant w.in-Some.ensures w.in_ok-filled_end.ensures w.in_ok-add.ensures)
@@ -37,7 +37,7 @@ pub returns : goal.returns
 returns c =
     let items = map ref_of c.args.items.now in
     let all : take c.loop-place.place-index c.args.places.now ≡ c.args.places.now = take_all c.loop-place.place-index c.args.places.now (omega arith) in
-    let kind = shown_kind c.args.ends.near in
+    let kind = kind_of_side c.args.ends.near in
     all_at_places (BeginsAs kind) c.args.direction c.args.ends c.args.spec items c.args.places.now c.args.made.now c.loop-place.made
     (λ r word. matched_begins kind r word (of_front kind items c.args.places.now c.requires)) (where_begins kind items c.args.places.now c.requires)
     (subst (λ (ps : List ℕ). AddsHits c.args.direction (AreHitsAt c.args.direction c.args.ends c.args.spec items ps) c.args.made.now c.loop-place.made) all c.loop-place.invariant)

@@ -3,24 +3,24 @@ use Rattle.std.proofs.Common.{ℕ, ◌≡◌, ◌≤◌, ◌+◌, Vec, Global, l
 use Rattle.std.proofs.lemmas.Bool.{false≢true}
 use Rattle.gix_refspec.specs.declared.match_group.types.Mapping.{Mapping}
 use Rattle.gix_refspec.specs.Matching.Lists.{IsMadeFrom}
-use Rattle.gix_refspec.specs.Private.Kept.{Remains}
+use Rattle.gix_refspec.specs.Private.Kept.{IsKeptBy}
 use Rattle.gix_refspec.proofs.lemmas.lists.ListsLemmas.{remains_more, goes_more}
 use Rattle.gix_refspec.proofs.match_group.keep.drop_others.Goals as goal
-use Rattle.gix_refspec.proofs.match_group.keep.drop_others.Goals.{then-remains, else-remains}
+use Rattle.gix_refspec.proofs.match_group.keep.drop_others.Goals.{then-is_kept, else-is_kept}
 
 pub loop-place-preserved : goal.loop-place-preserved
 loop-place-preserved c =
-    let R = Remains c.args.exclusions.now c.args.repeats.now in
+    let R = IsKeptBy c.args.exclusions.now c.args.repeats.now in
     let kept = c.loop-place.invariant in
     let now = c.loop-place.mappings.items in
     let all = c.args.mappings.now.items in
     let place = c.loop-place.place in
     let m = c.index.result.now in
     let stays : Vec Mapping Global → ℕ → Type 0 = λ v n. (n ≤ place + 1) × (length v.items ≡ length all) × (drop (place + 1) v.items ≡ drop (place + 1) all) × IsMadeFrom R 0 (take (place + 1) all) (take n v.items) in
-    elim c.if-remains.branch [
-      | then-remains w ↦ subst (λ (v : Vec Mapping Global). stays v c.if-remains.kept) (sym w.mappings-is) (subst (λ (n : ℕ). stays w.swap.new.self n) (sym w.kept-is)
-          (remains_more R all now w.swap.new.self.items c.loop-place.kept place m (omega arith) kept.0 kept.1 kept.2 kept.3 c.index.ensures w.swap.ensures.by_index (c.remains.ensures.0 w.if-remains.true)))
-      | else-remains w ↦ subst (λ (v : Vec Mapping Global). stays v c.if-remains.kept) (sym w.mappings-is) (subst (λ (n : ℕ). stays c.loop-place.mappings n) (sym w.kept-is)
+    elim c.if-is_kept.branch [
+      | then-is_kept w ↦ subst (λ (v : Vec Mapping Global). stays v c.if-is_kept.kept) (sym w.mappings-is) (subst (λ (n : ℕ). stays w.swap.new.self n) (sym w.kept-is)
+          (remains_more R all now w.swap.new.self.items c.loop-place.kept place m (omega arith) kept.0 kept.1 kept.2 kept.3 c.index.ensures w.swap.ensures.by_index (c.is_kept.ensures.0 w.if-is_kept.true)))
+      | else-is_kept w ↦ subst (λ (v : Vec Mapping Global). stays v c.if-is_kept.kept) (sym w.mappings-is) (subst (λ (n : ℕ). stays c.loop-place.mappings n) (sym w.kept-is)
           (goes_more R all now c.loop-place.kept place m (omega arith) kept.0 kept.1 kept.2 kept.3 c.index.ensures
-          (λ y remains. false≢true (sym w.if-remains.false ∙ c.remains.ensures.1 (record { same = refl; unflagged = remains.unflagged; included = remains.included })))))
+          (λ y is_kept. false≢true (sym w.if-is_kept.false ∙ c.is_kept.ensures.1 (record { same = refl; unflagged = is_kept.unflagged; included = is_kept.included })))))
     ]

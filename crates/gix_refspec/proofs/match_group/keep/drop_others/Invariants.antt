@@ -1,7 +1,7 @@
 -- the mappings so far that remain stand in front, and those to come stand where they stood
 use Rattle.std.proofs.Common.{◌≡◌, ◌≤◌, length, take, drop}
 use Rattle.gix_refspec.specs.Matching.Lists.{IsMadeFrom}
-use Rattle.gix_refspec.specs.Private.Kept.{Remains}
+use Rattle.gix_refspec.specs.Private.Kept.{IsKeptBy}
 use Rattle.gix_refspec.proofs.match_group.keep.drop_others.Given as goal
 
 abbrev pub invariant-loop-place : goal.invariant-loop-place
@@ -9,4 +9,4 @@ invariant-loop-place l =
     (l.kept ≤ l.place)
     × (length l.mappings.items ≡ length l.initial.mappings.items)
     × (drop l.place l.mappings.items ≡ drop l.place l.initial.mappings.items)
-    × IsMadeFrom (Remains l.exclusions l.repeats) 0 (take l.place l.initial.mappings.items) (take l.kept l.mappings.items)
+    × IsMadeFrom (IsKeptBy l.exclusions l.repeats) 0 (take l.place l.initial.mappings.items) (take l.kept l.mappings.items)

@@ -4,7 +4,7 @@ use Rattle.std.proofs.lemmas.Bool.{eqb-true}
 use Rattle.gix_refspec.specs.declared.match_group.types.Mapping.{Mapping}
 use Rattle.gix_refspec.specs.Views.Spec.{reading_of}
 use Rattle.gix_refspec.specs.Matching.Lists.{IsMadeFrom}
-use Rattle.gix_refspec.specs.Private.Kept.{FlagsRepeats, Remains}
+use Rattle.gix_refspec.specs.Private.Kept.{FlagsRepeats, IsKeptBy}
 use Rattle.gix_refspec.proofs.lemmas.keep.KeptLemmas.{kept_from_remains, all_remain, no_elements}
 use Rattle.gix_refspec.proofs.match_group.keep.keep.Goals as goal
 
@@ -28,4 +28,4 @@ returns-clause-ok c =
     kept_from_remains (map reading_of c.args.specs.now) ms rest es flags
     c.in_ok-exclusions.ensures.ok
     (subst (λ (xs : List Mapping). FlagsRepeats xs flags) c.as_slice.ensures.value c.in_ok-repeats.ensures.ok)
-    (subst (λ (xs : List Bool). IsMadeFrom (Remains es xs) 0 ms rest) c.as_slice-2.ensures.value c.drop_others.ensures)
+    (subst (λ (xs : List Bool). IsMadeFrom (IsKeptBy es xs) 0 ms rest) c.as_slice-2.ensures.value c.drop_others.ensures)

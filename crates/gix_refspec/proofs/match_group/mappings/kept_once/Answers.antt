@@ -6,7 +6,7 @@ use Rattle.gix_refspec.specs.declared.match_group.mappings.part.Part.{Part}
 use Rattle.gix_refspec.specs.Views.Spec.{reading_of}
 use Rattle.gix_refspec.specs.Views.Group.{ref_of}
 use Rattle.gix_refspec.specs.Matching.Mappings.{Mapped}
-use Rattle.gix_refspec.specs.Private.HitViews.{AreKept, made_in}
+use Rattle.gix_refspec.specs.Private.HitViews.{AreKept, mapped_of_made}
 use Rattle.gix_refspec.specs.Private.Part.{IsPart, moved, place_among}
 use Rattle.gix_refspec.proofs.lemmas.keep.PartLemmas.{part_kept}
 use Rattle.gix_refspec.proofs.match_group.mappings.kept_once.Goals as goal
@@ -17,7 +17,7 @@ returns-in_ok-made-in-Some c =
     let g = map reading_of c.args.specs.now in
     let refs = map ref_of c.args.items.now in
     let part = c.in-Some.part in
-    let kept = made_in direction c.in_ok-made-in-Some.made in
+    let kept = mapped_of_made direction c.in_ok-made-in-Some.made in
     let is : IsPart refs (map ref_of part.items.items) part.places.items =
     subst (λ (told : Option Part). MatchOption told (Unit {0}) (λ p. IsPart refs (map ref_of p.items.items) p.places.items)) c.in-Some.is c.in_ok-of.ensures in
     let are : AreKept direction g (map ref_of part.items.items) kept = subst (λ (l : List Item). AreKept direction g (map ref_of l) kept) c.as_slice.ensures.value c.in_ok-made-in-Some.ensures in

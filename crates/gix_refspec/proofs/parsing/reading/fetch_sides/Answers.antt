@@ -2,11 +2,11 @@
 use Rattle.std.proofs.Common.{[], Some, unwrap_or, refl, sym, ap, ◌∙◌, subst, rules}
 use Rattle.std.proofs.lemmas.Result.{err_from_is_err_and}
 use denote.Enum.Bare.{differs_true, differs_false}
-use Rattle.gix_refspec.specs.contracts.parsing.reading.Side.{the_type}
+use Rattle.gix_refspec.specs.contracts.parsing.reading.Shape.{the_type}
 use Rattle.gix_refspec.specs.declared.parsing.Operation.TheVariants.{Fetch}
 use Rattle.gix_refspec.specs.Specs.Refusal.{PatternUnbalanced}
 use Rattle.gix_refspec.specs.Views.Instruction.{mode_of}
-use Rattle.gix_refspec.specs.Private.Sides.{IsCheckedSide, destination_of, named_or_head, side_of}
+use Rattle.gix_refspec.specs.Private.Sides.{HasCheckedShape, destination_of, named_or_head, side_of}
 use Rattle.gix_refspec.proofs.lemmas.parsing.SideLemmas.{now-unwrap_or}
 use Rattle.gix_refspec.proofs.lemmas.parsing.ReasonLemmas.{fetch_reaches, error_at_destination, fetch_source_fine, unbalanced_fetch}
 use Rattle.gix_refspec.proofs.lemmas.parsing.ReadsLemmas.{read_with, fetch_reads, side_of-named_or_head}
@@ -50,6 +50,6 @@ returns-clause-ok c = λ text parts.
     let k = c.in_ok-checked-2.field-0 in
     let same = differs_false the_type (search rules) j k (sym c.if-ne.ensures) in
     let destination = rw target at c.in_ok-checked-2.ensures.ok in
-    let reads = fetch_reads m s d j text c.requires.positive c.in_ok-checked.ensures.ok (subst (λ k. IsCheckedSide (unwrap_or d []) k) (sym same) destination) parts in
+    let reads = fetch_reads m s d j text c.requires.positive c.in_ok-checked.ensures.ok (subst (λ k. HasCheckedShape (unwrap_or d []) k) (sym same) destination) parts in
     let source = c.new.ensures.source ∙ (ap side_of c.named_or_head.ensures ∙ side_of-named_or_head s) in
     read_with p c.new.result text Fetch m (Some (named_or_head s)) (side_of (unwrap_or d [])) c.requires.operation refl source (c.new.ensures.destination ∙ ap side_of target) reads

@@ -2,7 +2,7 @@
 use Rattle.std.proofs.Common.{sym, subst}
 use Rattle.std.proofs.lemmas.Result.{err_from_is_err_and}
 use Rattle.bstr.specs.BStr.{bstr_bytes}
-use Rattle.gix_refspec.specs.Specs.Refusal.{IsRefused, MayWantMemory}
+use Rattle.gix_refspec.specs.Specs.Refusal.{IsRefused, MayNeedMemory}
 use Rattle.gix_refspec.specs.Private.Sides.{HasParts}
 use Rattle.gix_refspec.proofs.lemmas.parsing.MemoryLemmas.{shows_refusal, wants_memory}
 use Rattle.gix_refspec.proofs.lemmas.parsing.ReadsLemmas.{error_of_text}
@@ -16,7 +16,7 @@ returns-in_err-sides-clause-refused c =
     let parts = subst (λ x. HasParts x p) c.as_bytes.ensures c.new-parts.ensures.parts in
     let told = error_of_text p text e parts c.in_err-sides.ensures.err in
     let q = err_from_is_err_and c.from_residual.result c.from_residual.ensures.1 in
-    rw (q.1, q.2, sym c.new-parts.ensures.operation) (shows_refusal (MayWantMemory p.operation text) (IsRefused p.operation text) e told)
+    rw (q.1, q.2, sym c.new-parts.ensures.operation) (shows_refusal (MayNeedMemory p.operation text) (IsRefused p.operation text) e told)
 
 pub returns-in_err-sides-clause-memory : goal.returns-in_err-sides-clause-memory
 returns-in_err-sides-clause-memory c =
@@ -26,7 +26,7 @@ returns-in_err-sides-clause-memory c =
     let parts = subst (λ x. HasParts x p) c.as_bytes.ensures c.new-parts.ensures.parts in
     let told = error_of_text p text e parts c.in_err-sides.ensures.err in
     let q = err_from_is_err_and c.from_residual.result c.from_residual.ensures.1 in
-    rw (q.1, q.2, sym c.new-parts.ensures.operation) (wants_memory (MayWantMemory p.operation text) (IsRefused p.operation text) e told)
+    rw (q.1, q.2, sym c.new-parts.ensures.operation) (wants_memory (MayNeedMemory p.operation text) (IsRefused p.operation text) e told)
 
 pub invariant_of-result : goal.invariant_of-result
 invariant_of-result c =

@@ -2,12 +2,12 @@
 use Rattle.std.proofs.Common.{◌≡◌, ◌≢◌, [], Some, refl, sym, ap, ◌∙◌, subst, rules}
 use Rattle.std.proofs.lemmas.Result.{err_from_is_err_and}
 use denote.Enum.Bare.{differs_true, differs_false}
-use Rattle.gix_refspec.specs.contracts.parsing.reading.Side.{the_type}
+use Rattle.gix_refspec.specs.contracts.parsing.reading.Shape.{the_type}
 use Rattle.gix_refspec.specs.declared.parsing.Operation.TheVariants.{Push}
 use Rattle.gix_refspec.specs.Specs.Grammar.{AreParts, named_by}
 use Rattle.gix_refspec.specs.Specs.Refusal.{PatternUnbalanced, IsBadPattern}
 use Rattle.gix_refspec.specs.Views.Instruction.{mode_of}
-use Rattle.gix_refspec.specs.Private.Sides.{IsCheckedSide, side_of}
+use Rattle.gix_refspec.specs.Private.Sides.{HasCheckedShape, side_of}
 use Rattle.gix_refspec.proofs.lemmas.parsing.SideLemmas.{full_from_test, empty_from_test}
 use Rattle.gix_refspec.proofs.lemmas.parsing.ReasonLemmas.{push_reaches, bad_source_of_push, error_at_source, error_at_destination, push_source_fine, unbalanced_push}
 use Rattle.gix_refspec.proofs.lemmas.parsing.ReadsLemmas.{read_with, push_reads}
@@ -71,7 +71,7 @@ returns-clause-ok c = λ text parts.
     let j = c.in_ok-starred.field-0 in
     let k = c.in_ok-checked.field-0 in
     let same = differs_false the_type (search rules) j k (sym c.if-ne.ensures) in
-    let destination = subst (λ k. IsCheckedSide t k) (sym same) c.in_ok-checked.ensures.ok in
+    let destination = subst (λ k. HasCheckedShape t k) (sym same) c.in_ok-checked.ensures.ok in
     let aimed : AreParts m s (Some t) text = rw c.requires.target at parts in
     let reads = push_reads m s t j text c.requires.positive.positive somewhere c.in_ok-starred.ensures.ok destination aimed in
     let source = c.new.ensures.source ∙ ap side_of c.named.ensures in

@@ -6,7 +6,7 @@ ghost use Rattle.std.specs.List.{AllByRecursion};
 ghost use Rattle.gix_refspec.specs.Views.Group.{name_bytes};
 ghost use Rattle.gix_refspec.specs.Private.Filter.{HasMark, IsWhole, IsWholeFilter, Passes};
 
-use crate::match_group::hashes::hash_of;
+use crate::match_group::hashes::hash_of_name;
 use crate::match_group::types::NameRef;
 use std::alloc::{AllocError, Global};
 
@@ -94,7 +94,7 @@ impl Filter {
         ensures others { (n : List ℕ) → Passes self.old n → Passes self.new n }
     {
         self.lengths.add(name.len() as u64);
-        self.hashes.add(hash_of(name));
+        self.hashes.add(hash_of_name(name));
     }
 
     // Whether a name passes.
@@ -102,6 +102,6 @@ impl Filter {
         requires { IsWholeFilter self.now }
         ensures { IsTrue result ↔ Passes self.now name.now }
     {
-        self.lengths.has(name.len() as u64) && self.hashes.has(hash_of(name))
+        self.lengths.has(name.len() as u64) && self.hashes.has(hash_of_name(name))
     }
 }

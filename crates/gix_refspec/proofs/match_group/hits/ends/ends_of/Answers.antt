@@ -3,7 +3,7 @@ use Rattle.std.proofs.Common.{rules, inl, inr, sym, subst, Some}
 use Rattle.gix_refspec.specs.Specs.Reading.{Reading}
 use Rattle.gix_refspec.specs.Specs.Grammar.{IsPositive}
 use Rattle.gix_refspec.specs.Views.Spec.{reading_of}
-use Rattle.gix_refspec.specs.Private.HitViews.{HasEnds, HasKindShown}
+use Rattle.gix_refspec.specs.Private.HitViews.{HasEnds, HasSideKind}
 use Rattle.gix_refspec.proofs.lemmas.hits.HitLemmas.{few_side, no_forward_ends, forward_ends, backward_ends}
 use Rattle.gix_refspec.proofs.match_group.hits.ends.ends_of.Goals as goal
 
@@ -16,7 +16,7 @@ side_kind-destination-requires c = few_side (reading_of c.args.spec.now) c.args.
 pub returns-in-Object : goal.returns-in-Object
 returns-in-Object c = λ ends has.
     let r : Reading = reading_of c.args.spec.now in
-    no_forward_ends r ends c.in-Object.field-0 (subst (λ k. HasKindShown r.source (Some k)) c.in-Object.is c.in_ok-source.ensures) (subst (λ d. HasEnds d r ends) c.in-Forward.is has)
+    no_forward_ends r ends c.in-Object.field-0 (subst (λ k. HasSideKind r.source (Some k)) c.in-Object.is c.in_ok-source.ensures) (subst (λ d. HasEnds d r ends) c.in-Forward.is has)
 
 pub returns-in_default : goal.returns-in_default
 returns-in_default c =

@@ -2,7 +2,7 @@
 use Rattle.std.proofs.Common.{◌+◌, map, take, sym, subst}
 use Rattle.gix_refspec.specs.declared.match_group.hits.index.Names.{Names}
 use Rattle.gix_refspec.specs.Views.Spec.{reading_of}
-use Rattle.gix_refspec.specs.Private.Index.{AllNear, IsNamed}
+use Rattle.gix_refspec.specs.Private.Index.{AllNear, HasNamesOf}
 use Rattle.gix_refspec.proofs.lemmas.index.IndexLemmas.{spec_asks, spec_asks_nothing}
 use Rattle.gix_refspec.proofs.match_group.hits.index.names_asked.Goals as goal
 use Rattle.gix_refspec.proofs.match_group.hits.index.names_asked.Goals.{in-Some+in_ok-add, in_default}
@@ -14,7 +14,7 @@ loop-spec-preserved c =
     let i = c.loop-spec.spec-index in
     let spec = c.spec-item in
     let old = c.loop-spec.names in
-    let named : Names → Type 0 = λ names. AllNear (IsNamed names) direction (map reading_of (take (i + 1) specs)) in
+    let named : Names → Type 0 = λ names. AllNear (HasNamesOf names) direction (map reading_of (take (i + 1) specs)) in
     elim c.match-ends_of.branch [
       | in-Some+in_ok-add w ↦
           subst named (sym w.names-is)

@@ -12,7 +12,7 @@ loop-at-preserved c =
     elim c.if-bucket_of.branch [
       | then-bucket_of+in_ok-point_back w ↦ subst stays (ap (λ (v : Vec ℕ Global). v.items) (sym w.earlier-is)) (
         inr w.in_ok-point_back.ensures.fits,
-        given_next c.args.bits keys c.loop-at.earlier.items w.point_back.new.earlier.items c.loop-at.at _ _ w.place_of-place.result c.requires.rises (omega arith) (omega arith) refl refl (sym c.bucket_of.ensures ∙ w.if-bucket_of.true ∙ c.bucket_of-in-loop-at.ensures) w.place_of-place.ensures (w.in_ok-point_back.ensures.here ∙ w.place_of.ensures) w.in_ok-point_back.ensures.others c.loop-at.invariant.1,
+        given_next c.args.bits keys c.loop-at.earlier.items w.point_back.new.earlier.items c.loop-at.at _ _ w.place_in-place.result c.requires.rises (omega arith) (omega arith) refl refl (sym c.bucket_of.ensures ∙ w.if-bucket_of.true ∙ c.bucket_of-in-loop-at.ensures) w.place_in-place.ensures (w.in_ok-point_back.ensures.here ∙ w.place_in.ensures) w.in_ok-point_back.ensures.others c.loop-at.invariant.1,
       )
       | else-bucket_of w ↦ subst stays (ap (λ (v : Vec ℕ Global). v.items) (sym w.earlier-is)) (
         c.loop-at.invariant.0,

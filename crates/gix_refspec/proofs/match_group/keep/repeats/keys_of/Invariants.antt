@@ -1,13 +1,13 @@
 -- the places so far stand there, in order, with the hashes there
 use Rattle.std.proofs.Common.{◌≡◌, ℕ, ◌<◌, length}
 use Rattle.std.specs.List.{AllByRecursion}
-use Rattle.gix_refspec.specs.Private.Kept.{IsKey, Has, Rises, places_of}
+use Rattle.gix_refspec.specs.Private.Kept.{IsKey, Has, Rises, places_in}
 use Rattle.gix_refspec.proofs.match_group.keep.repeats.keys_of.Given as goal
 
 abbrev pub invariant-loop-place : goal.invariant-loop-place
 invariant-loop-place l =
     AllByRecursion (IsKey l.seed l.mappings l.bits) l.keys.items
     × (length l.keys.items ≡ l.place)
-    × ((k : ℕ) → k < l.place → Has (places_of l.bits l.keys.items) k)
-    × Rises (places_of l.bits l.keys.items)
-    × AllByRecursion (λ n. n < l.place) (places_of l.bits l.keys.items)
+    × ((k : ℕ) → k < l.place → Has (places_in l.bits l.keys.items) k)
+    × Rises (places_in l.bits l.keys.items)
+    × AllByRecursion (λ n. n < l.place) (places_in l.bits l.keys.items)

@@ -8,10 +8,10 @@ use Rattle.gix_refspec.proofs.lemmas.hits.NoHitLemmas.{found_none, item_missed}
 use Rattle.gix_refspec.proofs.match_group.mappings.presence.hits_some.Goals as goal
 
 pub returns-then-is_some : goal.returns-then-is_some
-returns-then-is_some c = item_counted c.args.ends c.args.items.now c.loop-item.item-index _ c.matched.result c.loop-item-test.true (sym c.is_some.ensures ∙ c.if-is_some.true) c.matched.ensures
+returns-then-is_some c = item_counted c.args.ends c.args.items.now c.loop-item.item-index _ c.match_of.result c.loop-item-test.true (sym c.is_some.ensures ∙ c.if-is_some.true) c.match_of.ensures
 
 pub loop-item-preserved : goal.loop-item-preserved
-loop-item-preserved c = item_missed c.args.ends c.args.items.now c.loop-item.item-index _ c.loop-item-test.true c.loop-item.invariant (found_none _ _ c.matched.result (sym c.is_some.ensures ∙ c.if-is_some.false) c.matched.ensures)
+loop-item-preserved c = item_missed c.args.ends c.args.items.now c.loop-item.item-index _ c.loop-item-test.true c.loop-item.invariant (found_none _ _ c.match_of.result (sym c.is_some.ensures ∙ c.if-is_some.false) c.match_of.ensures)
 
 pub returns : goal.returns
 returns c =

@@ -1,4 +1,4 @@
--- the claims so far are settled
+-- the updates so far are settled
 use Rattle.std.proofs.Common.{◌≤◌, ◌-◌, length, map, drop}
 use Rattle.gix_refspec.specs.Views.Spec.{reading_of}
 use Rattle.gix_refspec.specs.Views.Group.{mapped_of}

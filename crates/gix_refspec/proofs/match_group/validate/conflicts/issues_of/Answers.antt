@@ -1,13 +1,13 @@
 -- where destinations differ nothing is contested, and else those that aren't repeated are the first ones
 use Rattle.std.proofs.Common.{List, Bool, map, sym, ap, ◌∙◌, subst}
 use Rattle.std.proofs.lemmas.Bool.{eqb-true}
-use Rattle.gix_refspec.specs.declared.match_group.validate.conflicts.Claim.{Claim}
+use Rattle.gix_refspec.specs.declared.match_group.validate.conflicts.Update.{Update}
 use Rattle.gix_refspec.specs.Views.Spec.{reading_of}
 use Rattle.gix_refspec.specs.Views.Group.{mapped_of}
 use Rattle.gix_refspec.specs.Matching.Validation.{AreConflicts, Conflict}
 use Rattle.gix_refspec.specs.Views.Issue.{conflict_of}
-use Rattle.gix_refspec.specs.Private.Updates.{AreClaims, AreFirsts}
-use Rattle.gix_refspec.proofs.lemmas.validate.ConflictLemmas.{firsts_from_claims, free_empty, no_conflicts}
+use Rattle.gix_refspec.specs.Private.Updates.{AreUpdates, AreFirstUpdates}
+use Rattle.gix_refspec.proofs.lemmas.validate.ConflictLemmas.{firsts_from_updates, free_empty, no_conflicts}
 use Rattle.gix_refspec.proofs.match_group.validate.conflicts.issues_of.Goals as goal
 
 pub returns-then-is_empty-clause-ok : goal.returns-then-is_empty-clause-ok
@@ -24,6 +24,6 @@ pub issues_among-requires-clause-firsts : goal.issues_among-requires-clause-firs
 issues_among-requires-clause-firsts c =
     let ms = c.args.mappings.now in
     let flags = c.in_ok-repeats.repeats.items in
-    subst (λ (cs : List Claim). AreFirsts (map mapped_of ms) cs) (sym c.as_slice-2.ensures.value)
-    (firsts_from_claims ms flags c.in_ok-firsts.firsts.items c.in_ok-repeats.ensures.ok
-    (subst (λ (fs : List Bool). AreClaims (map mapped_of ms) fs c.in_ok-firsts.firsts.items) c.as_slice.ensures.value c.in_ok-firsts.ensures))
+    subst (λ (cs : List Update). AreFirstUpdates (map mapped_of ms) cs) (sym c.as_slice-2.ensures.value)
+    (firsts_from_updates ms flags c.in_ok-firsts.firsts.items c.in_ok-repeats.ensures.ok
+    (subst (λ (fs : List Bool). AreUpdates (map mapped_of ms) fs c.in_ok-firsts.firsts.items) c.as_slice.ensures.value c.in_ok-firsts.ensures))

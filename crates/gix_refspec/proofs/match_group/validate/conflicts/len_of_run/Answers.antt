@@ -1,29 +1,29 @@
--- the place of the first claim to another destination cuts the claims
+-- the place of the first update to another destination cuts the updates
 use Rattle.std.proofs.Common.{◌≡◌, ℕ, [], get_or, length, take, drop, ap, ◌∙◌, subst, arith}
 use Rattle.std.proofs.lemmas.List.{get_or_default}
-use Rattle.gix_refspec.specs.declared.match_group.validate.conflicts.Claim.{Claim}
-use Rattle.gix_refspec.specs.Private.Updates.{IsCut}
+use Rattle.gix_refspec.specs.declared.match_group.validate.conflicts.Update.{Update}
+use Rattle.gix_refspec.specs.Private.Updates.{IsRun}
 use Rattle.gix_refspec.proofs.lemmas.keep.RepeatLemmas.{all_more}
 use Rattle.gix_refspec.proofs.lemmas.validate.UpdateLemmas.{cut_at, differ_from_test, same_from_test}
 use Rattle.gix_refspec.proofs.match_group.validate.conflicts.len_of_run.Goals as goal
 
 -- what a read past the end gives
-none : Claim
+none : Update
 none = record { destination = record { ref_ptr = (0, 0); now = [] }; place = 0 }
 
 pub returns-then-ne-clause-cut : goal.returns-then-ne-clause-cut
 unfolding none
-returns-then-ne-clause-cut c = cut_at c.args.claims.now c.loop-len.len none c.requires.some c.requires.order (c.loop-len.invariant none) (λ below. differ_from_test (get_or c.args.claims.now c.loop-len.len none).destination.now (get_or c.args.claims.now 0 none).destination.now c.ne.result c.ne.ensures c.if-ne.true)
+returns-then-ne-clause-cut c = cut_at c.args.updates.now c.loop-len.len none c.requires.some c.requires.order (c.loop-len.invariant none) (λ below. differ_from_test (get_or c.args.updates.now c.loop-len.len none).destination.now (get_or c.args.updates.now 0 none).destination.now c.ne.result c.ne.ensures c.if-ne.true)
 
 pub loop-len-preserved : goal.loop-len-preserved
 unfolding none
 loop-len-preserved c d =
-    let cs = c.args.claims.now in
+    let cs = c.args.updates.now in
     let same : (get_or cs c.loop-len.len none).destination.now ≡ (get_or cs 0 none).destination.now = same_from_test (get_or cs c.loop-len.len none).destination.now (get_or cs 0 none).destination.now c.ne.result c.ne.ensures c.if-ne.false in
-    all_more (λ (x : Claim). x.destination.now ≡ (get_or cs 0 d).destination.now) cs c.loop-len.len none c.loop-len-test.true (c.loop-len.invariant d) (same ∙ ap (λ (x : Claim). x.destination.now) (get_or_default cs 0 none d (omega arith)))
+    all_more (λ (x : Update). x.destination.now ≡ (get_or cs 0 d).destination.now) cs c.loop-len.len none c.loop-len-test.true (c.loop-len.invariant d) (same ∙ ap (λ (x : Update). x.destination.now) (get_or_default cs 0 none d (omega arith)))
 
 pub returns-clause-cut : goal.returns-clause-cut
 returns-clause-cut c =
-    let cs = c.args.claims.now in
+    let cs = c.args.updates.now in
     let whole : c.loop-len.len ≡ length cs = omega arith in
-    subst (λ (n : ℕ). IsCut (take n cs) (drop n cs)) whole (cut_at cs c.loop-len.len none c.requires.some c.requires.order (c.loop-len.invariant none) (λ below. absurd (omega arith)))
+    subst (λ (n : ℕ). IsRun (take n cs) (drop n cs)) whole (cut_at cs c.loop-len.len none c.requires.some c.requires.order (c.loop-len.invariant none) (λ below. absurd (omega arith)))

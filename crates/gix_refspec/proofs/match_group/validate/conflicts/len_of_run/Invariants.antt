@@ -1,8 +1,8 @@
--- the claims so far are to the first one's destination
+-- the updates so far are to the first one's destination
 use Rattle.std.proofs.Common.{◌≡◌, take, get_or}
 use Rattle.std.specs.List.{AllByRecursion}
-use Rattle.gix_refspec.specs.declared.match_group.validate.conflicts.Claim.{Claim}
+use Rattle.gix_refspec.specs.declared.match_group.validate.conflicts.Update.{Update}
 use Rattle.gix_refspec.proofs.match_group.validate.conflicts.len_of_run.Given as goal
 
 abbrev pub invariant-loop-len : goal.invariant-loop-len
-invariant-loop-len l = (d : Claim) → AllByRecursion (λ c. c.destination.now ≡ (get_or l.claims 0 d).destination.now) (take l.len l.claims)
+invariant-loop-len l = (d : Update) → AllByRecursion (λ c. c.destination.now ≡ (get_or l.updates 0 d).destination.now) (take l.len l.updates)

@@ -6,7 +6,7 @@ use Rattle.gix_refspec.specs.Specs.Reading.{Negative}
 use Rattle.gix_refspec.specs.Views.Instruction.{mode_of}
 use Rattle.gix_refspec.specs.Views.Spec.{reading_of}
 use Rattle.gix_refspec.specs.Matching.Mappings.{IsExcludedBy}
-use Rattle.gix_refspec.specs.Private.Kept.{Takes}
+use Rattle.gix_refspec.specs.Private.Kept.{ExcludesName}
 use Rattle.gix_refspec.proofs.lemmas.keep.ExclusionLemmas.{name_excludes, pattern_excludes}
 use Rattle.gix_refspec.proofs.match_group.keep.exclusions.Exclusion.of.Goals as goal
 use Rattle.gix_refspec.proofs.match_group.keep.exclusions.Exclusion.of.Goals.{in-None, in-Some}
@@ -18,6 +18,6 @@ returns-clause-excludes c n =
     let negative : mode_of c.args.spec.mode ≡ Negative = search rules in
     let source : option_map bstr_bytes c.args.spec.src ≡ Some x = ap (option_map bstr_bytes) c.in_ok-spec.was ∙ ap Some (sym c.as_bytes-source.ensures) in
     elim c.match-split_at_first.branch [
-      | in-None w ↦ subst (λ (e : Exclusion). Takes e n ↔ IsExcludedBy n r) (sym w.result-is) (name_excludes r x negative source w.in-None.ensures n)
-      | in-Some w ↦ subst (λ (e : Exclusion). Takes e n ↔ IsExcludedBy n r) (sym w.result-is) (pattern_excludes r x w.in-Some.before.now w.in-Some.after.now c.args.spec.accepted negative source w.in-Some.ensures.0 w.in-Some.ensures.1 n)
+      | in-None w ↦ subst (λ (e : Exclusion). ExcludesName e n ↔ IsExcludedBy n r) (sym w.result-is) (name_excludes r x negative source w.in-None.ensures n)
+      | in-Some w ↦ subst (λ (e : Exclusion). ExcludesName e n ↔ IsExcludedBy n r) (sym w.result-is) (pattern_excludes r x w.in-Some.before.now w.in-Some.after.now c.args.spec.accepted negative source w.in-Some.ensures.0 w.in-Some.ensures.1 n)
     ]

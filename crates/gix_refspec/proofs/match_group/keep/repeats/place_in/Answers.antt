@@ -3,7 +3,7 @@ use Rattle.std.proofs.Common.{◌≡◌, ℕ, ◌-◌, ◌*◌, ◌%◌, ◌^◌
 use Rattle.std.proofs.Math.Nat.{mod-eq_of_lt}
 use Rattle.std.proofs.Math.Pow.{pow-lt}
 use Rattle.std.proofs.lemmas.Nat.{and_mask}
-use Rattle.gix_refspec.proofs.match_group.keep.repeats.place_of.Goals as goal
+use Rattle.gix_refspec.proofs.match_group.keep.repeats.place_in.Goals as goal
 
 pub returns : goal.returns
 returns c =

@@ -4,7 +4,7 @@ use Rattle.gix_refspec.specs.Views.Spec.{reading_of}
 use Rattle.gix_refspec.specs.Views.Group.{mapped_of}
 use Rattle.gix_refspec.specs.Matching.Lists.{IsMadeFrom}
 use Rattle.gix_refspec.specs.Matching.Hits.{IsIdMapping}
-use Rattle.gix_refspec.proofs.match_group.hits.ids.ids_of.Given as goal
+use Rattle.gix_refspec.proofs.match_group.hits.ids.id_mappings.Given as goal
 
 abbrev pub invariant-loop-place : goal.invariant-loop-place
 invariant-loop-place l = IsMadeFrom IsIdMapping 0 (map reading_of (take l.place l.specs)) (map mapped_of l.ids.items)

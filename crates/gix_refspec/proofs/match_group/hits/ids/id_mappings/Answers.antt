@@ -7,8 +7,8 @@ use Rattle.gix_refspec.specs.Views.Group.{mapped_of}
 use Rattle.gix_refspec.specs.Matching.Lists.{IsMadeFrom}
 use Rattle.gix_refspec.specs.Matching.Hits.{IsIdMapping}
 use Rattle.gix_refspec.proofs.lemmas.hits.HitLemmas.{adds_id, adds_no_id}
-use Rattle.gix_refspec.proofs.match_group.hits.ids.ids_of.Goals as goal
-use Rattle.gix_refspec.proofs.match_group.hits.ids.ids_of.Goals.{in-Some+in_ok-filled_end+in_ok-push, in_default}
+use Rattle.gix_refspec.proofs.match_group.hits.ids.id_mappings.Goals as goal
+use Rattle.gix_refspec.proofs.match_group.hits.ids.id_mappings.Goals.{in-Some+in_ok-filled_end+in_ok-push, in_default}
 
 pub loop-place-preserved : goal.loop-place-preserved
 loop-place-preserved c =

@@ -1,8 +1,0 @@
--- there are the claims of the mappings so far
-use Rattle.std.proofs.Common.{map}
-use Rattle.gix_refspec.specs.Views.Group.{mapped_of}
-use Rattle.gix_refspec.proofs.lemmas.validate.UpdateLemmas.{AreClaimsUpto}
-use Rattle.gix_refspec.proofs.match_group.validate.conflicts.claims_in_order.Given as goal
-
-abbrev pub invariant-loop-place : goal.invariant-loop-place
-invariant-loop-place l = AreClaimsUpto (map mapped_of l.mappings) l.flags l.place l.claims.items

@@ -1,0 +1,8 @@
+-- there are the updates of the mappings so far
+use Rattle.std.proofs.Common.{map}
+use Rattle.gix_refspec.specs.Views.Group.{mapped_of}
+use Rattle.gix_refspec.proofs.lemmas.validate.UpdateLemmas.{AreUpdatesUpto}
+use Rattle.gix_refspec.proofs.match_group.validate.conflicts.updates_in_order.Given as goal
+
+abbrev pub invariant-loop-place : goal.invariant-loop-place
+invariant-loop-place l = AreUpdatesUpto (map mapped_of l.mappings) l.flags l.place l.updates.items
