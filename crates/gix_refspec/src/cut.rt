@@ -27,7 +27,7 @@ pub(crate) fn split_at_first(text: &[u8], byte: u8) -> Option<(&[u8], &[u8])>
     Some((front, &back[1..]))
 }
 
-// Whether a byte stands in a text.
+// Whether a byte is in a text.
 pub(crate) fn holds(text: &[u8], byte: u8) -> bool
     ensures { MatchBool result (Holds (byte ∷ []) text.now) (Lacks byte text.now) }
 {

@@ -154,7 +154,7 @@ pub fn first_candidate(side: &[u8], items: &[Item<'_>])
     ensures { FirstCandidate side.now (map ref_of items.now) }
 {}
 
-/// A group and items have no two lists of mappings from left to right that stay: the contract of
+/// A group and items have no two lists of mappings from left to right that are kept: the contract of
 /// `match_lhs` determines what it lists.
 pub fn one_forward(group: &MatchGroup<'_>, items: &[Item<'_>])
     ensures { OneForward (readings_of group.now) (map ref_of items.now) }
@@ -165,7 +165,7 @@ pub fn one_backward(group: &MatchGroup<'_>, items: &[Item<'_>])
     ensures { OneBackward (readings_of group.now) (map ref_of items.now) }
 {}
 
-/// No two mappings that stay have the same source and the same destination, in either direction.
+/// No two mappings that are kept have the same source and the same destination, in either direction.
 pub fn kept_once(group: &MatchGroup<'_>, items: &[Item<'_>])
     ensures { KeptOnce (readings_of group.now) (map ref_of items.now) }
 {}
@@ -177,19 +177,19 @@ pub fn transpose(group: &MatchGroup<'_>, left: &[Item<'_>], right: &[Item<'_>])
     ensures { Transpose (readings_of group.now) (map ref_of left.now) (map ref_of right.now) }
 {}
 
-/// A pair stays exactly where some spec makes it and none excludes its source: from left to right of an
+/// A pair is kept exactly where some spec makes it and none excludes its source: from left to right of an
 /// item that the source takes, or of an id; from right to left of an item that the destination matches.
 pub fn kept_exactly(group: &MatchGroup<'_>, items: &[Item<'_>])
     ensures { KeptExactly (readings_of group.now) (map ref_of items.now) }
 {}
 
-/// Of the mappings with the same source and destination only the first stays, with its indexes, if no
+/// Of the mappings with the same source and destination only the first is kept, with its indexes, if no
 /// negative spec excludes its source, in both directions.
 pub fn first_stays(group: &MatchGroup<'_>, items: &[Item<'_>])
     ensures { FirstStays (readings_of group.now) (map ref_of items.now) }
 {}
 
-/// No mapping that stays has a source that a negative spec excludes, in either direction, and none
+/// No mapping that is kept has a source that a negative spec excludes, in either direction, and none
 /// excludes an id.
 pub fn nothing_excluded(group: &MatchGroup<'_>, items: &[Item<'_>])
     ensures { NothingExcluded (readings_of group.now) (map ref_of items.now) }
@@ -222,7 +222,7 @@ pub fn cover(group: &MatchGroup<'_>, items: &[Item<'_>])
 {}
 
 /// Items that no spec takes may be left out: over a part of the items that has each one which some spec
-/// takes, the same pairs stay, in both directions. What a partial source takes is decided among all.
+/// takes, the same pairs are kept, in both directions. What a partial source takes is decided among all.
 pub fn fewer_items(group: &MatchGroup<'_>, items: &[Item<'_>], part: &[Item<'_>])
     ensures kept { FewerItems (readings_of group.now) (map ref_of items.now) (map ref_of part.now) }
 
@@ -232,7 +232,7 @@ pub fn fewer_items(group: &MatchGroup<'_>, items: &[Item<'_>], part: &[Item<'_>]
 
 /// A client that lists only the refs whose names begin with an entry of what a group expands to loses
 /// no pair of a spec whose source is as `cover` asks, or is `HEAD` where there is such a ref. If each
-/// spec is so or negative, the same pairs stay.
+/// spec is so or negative, the same pairs are kept.
 pub fn listed_items(group: &MatchGroup<'_>, items: &[Item<'_>], listed: &[Item<'_>])
     ensures kept { ListedItems
         (readings_of group.now) (map ref_of items.now) (map ref_of listed.now) }
@@ -242,7 +242,7 @@ pub fn listed_items(group: &MatchGroup<'_>, items: &[Item<'_>], listed: &[Item<'
 {}
 
 /// A client that lists only the refs whose names begin with an entry of `ref_prefixes` of a group of
-/// fetches loses no pair, and gets no other: over these and over all items the same pairs stay.
+/// fetches loses no pair, and gets no other: over these and over all items the same pairs are kept.
 pub fn asked_items(group: &MatchGroup<'_>, items: &[Item<'_>], asked: &[Item<'_>])
     ensures kept { AskedItems (readings_of group.now) (map ref_of items.now) (map ref_of asked.now) }
 
@@ -255,20 +255,20 @@ pub fn forward_fits(group: &MatchGroup<'_>, items: &[Item<'_>])
     ensures { ForwardFits (readings_of group.now) (map ref_of items.now) }
 {}
 
-/// The places of a mapping that stays are those of a spec of the group and of an item, whose name is its
+/// The places of a mapping that is kept are those of a spec of the group and of an item, whose name is its
 /// source, or from right to left its destination; only the mapping of an id has no item. So it is with
-/// what remains after a validation.
+/// what survives a validation.
 pub fn places_fit(group: &MatchGroup<'_>, items: &[Item<'_>])
     ensures { PlacesFit (readings_of group.now) (map ref_of items.now) }
 {}
 
-/// Each mapping that stays is what the spec at its place makes: of the item at its place, or, where it has
+/// Each mapping that is kept is what the spec at its place makes: of the item at its place, or, where it has
 /// none, of an id that the spec asks for. From right to left each has an item.
 pub fn made_at_places(group: &MatchGroup<'_>, items: &[Item<'_>])
     ensures { MadeAtPlaces (readings_of group.now) (map ref_of items.now) }
 {}
 
-/// After a validation exactly those mappings remain whose destination begins `refs/`, is `HEAD` or is
+/// Exactly those mappings survive a validation whose destination begins `refs/`, is `HEAD` or is
 /// missing; and after `without_bad_names` those between names of refs.
 pub fn remains_exactly(outcome: &match_lhs::Outcome<'_, '_>)
     ensures { RemainsExactly (readings_of outcome.now.group) (mappings_of outcome.now) }

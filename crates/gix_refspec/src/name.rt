@@ -161,7 +161,7 @@ pub(crate) enum Stop {
     Fault(Error),
 }
 
-// Whether a text has a star, if it is a name with a letter for its one star at the most.
+// Whether a text has a star, if it is a name with a letter for its one star at most.
 #[inline(never)]
 pub(crate) fn starred_name(text: &[u8]) -> Result<bool, Stop>
     ensures { MatchResult result
@@ -227,7 +227,7 @@ fn scanned_to(text: &[u8], from: usize, to: usize, known: bool) -> Result<bool, 
     Ok(starred)
 }
 
-// The last byte of a text, or a slash: the first component begins as if one stood before it.
+// The last byte of a text, or a slash: the first component begins as if one were before it.
 fn last_of(text: &[u8]) -> u8
     ensures { EndsWith (result ∷ []) (slash ∷ text.now) }
 {
@@ -249,7 +249,7 @@ fn added_fault(before: &[u8], byte: u8) -> Option<Error>
     special_fault(before, last_of(before), byte)
 }
 
-// Whether a byte may stand anywhere.
+// Whether a byte may be anywhere.
 #[inline(always)]
 fn is_plain(byte: u8) -> bool
     ensures { OnTrue result ((y : List ℕ) (e : Error) → ¬ (AddsFault y byte e)) }

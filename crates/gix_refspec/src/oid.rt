@@ -93,7 +93,7 @@ impl Kind {
         }
     }
 
-    // The kind whose ids have so many digits.
+    // The kind whose ids have this many digits.
     fn from_hex_len(len: usize) -> Option<Kind>
         ensures some { IfSome result (λ kind. len ≡ digits_of kind) }
         ensures none { IfNone result (¬ (IsIdLength len)) }
@@ -173,7 +173,7 @@ impl fmt::Display for ObjectId {
     ghost output = { λ id. Some (lower_of (id_bytes id)) };
 
     fn fmt<W: fmt::Write>(&self, f: &mut fmt::Formatter<W>) -> fmt::Result {
-        // The buffer has just the room for the digits, and digits are ASCII: neither call is
+        // The buffer has exactly the room for the digits, and digits are ASCII: neither call is
         // refused.
         let mut buffer = [0; 64];
         let digits = &mut buffer[..self.kind.len_in_hex()];

@@ -1,4 +1,4 @@
-//! What a refspec is read for, and why a text is none.
+//! What a refspec is read for, and why a text is refused.
 
 ghost use Rattle.std.specs.Prelude.{◌≡◌};
 ghost use Rattle.gix_refspec.specs.Specs.Explained.{explained};

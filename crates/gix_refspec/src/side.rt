@@ -72,7 +72,7 @@ pub(crate) fn below_refs(side: &[u8]) -> Option<&[u8]>
     side.strip_prefix(b"refs/")
 }
 
-// The six names that a partial one may stand for.
+// The six candidates of a partial name.
 pub(crate) fn candidates(alloc: Global, name: &[u8]) -> Result<Vec<BString>, AllocError>
     ensures { IfOk result (λ list. map bstring_bytes list.items ≡ candidates_of name.now) }
 {

@@ -35,7 +35,7 @@ head_kind = (
   (λ is. id_not_head (codes "HEAD") is.0 is.1 refl),
 )
 
--- a pattern is asked for by what stands before its star, partial names and `HEAD` by their candidates, an id by nothing
+-- a pattern is asked for by what is before its star, partial names and `HEAD` by their candidates, an id by nothing
 pub lists_of_sides : ListsSide (codes "refs/heads/*") (codes "refs/heads/" ∷ []) × ListsSide (codes "main") (candidates (codes "main")) × ListsSide (codes "HEAD") (candidates (codes "HEAD")) × ListsSide (codes "e69de29bb2d1d6434b8b29ae775ad8c2e48c5391") []
 lists_of_sides = (
   record { kind = pattern (codes "refs/heads/") []; of = cut_at_end (codes "refs/heads/") refl; is = (below_heads, refl) },
@@ -44,7 +44,7 @@ lists_of_sides = (
   record { kind = object _; of = blob_kind; is = refl },
 )
 
--- no list serves a star directly behind `refs/`, whatever follows it; `HEAD` alone doesn't serve `HEAD`
+-- no list serves a star directly after `refs/`, whatever follows it; `HEAD` alone doesn't serve `HEAD`
 pub no_lists_of_sides : (list : List (List ℕ)) → ¬ (ListsSide (codes "refs/*") list) × ¬ (ListsSide (codes "HEAD") (codes "HEAD" ∷ [])) × ¬ (ListsSide (codes "main") [])
 no_lists_of_sides list = (
   no_list (codes "refs/*") (codes "refs/") [] (cut_at_end (codes "refs/") refl) ((tells.1 []).0) list,
@@ -52,7 +52,7 @@ no_lists_of_sides list = (
   (λ lists. let size : 0 ≡ 6 = ap length (list_as (codes "main") (partial (codes "main")) [] short_kind lists) in omega (arith, size)),
 )
 
--- a `]` behind the star does no harm, but none serves a star behind one
+-- a `]` after the star does no harm, but none serves a star after one
 pub lists_at_brackets : ListsSide (codes "refs/a*/]") (codes "refs/a" ∷ []) × ((list : List (List ℕ)) → ¬ (ListsSide (codes "refs/a]*") list))
 lists_at_brackets = (
   record {
@@ -84,7 +84,7 @@ lists_of_specs = (every_lists, inl (refl, refl), none)
       | inr asked ↦ let missing = asked.1.side in absurd (cc)
     ]
 
--- the lists of a group stand one behind the other, in order
+-- the lists of a group are one after the other, in order
 pub lists_of_groups : ListsGroup (fetched Normal (codes "main") None ∷ no_dev ∷ every ∷ []) (candidates (codes "main") ++ codes "refs/heads/" ∷ [])
 lists_of_groups = (
   candidates (codes "main"),

@@ -26,7 +26,7 @@ main_tag = named (codes "refs/tags/main")
 abbrev just_main : Ref
 just_main = named (codes "main")
 
--- the branch stands before the tag
+-- the branch is before the tag
 abbrev pub branch_and_tag : List Ref
 branch_and_tag = main_branch ∷ main_tag ∷ []
 
@@ -40,7 +40,7 @@ no_refs_main (inl same) = other_length _ _ (λ size. omega (arith, size)) same
 no_refs_main (inr (inl same)) = other_length _ _ (λ size. omega (arith, size)) same
 no_refs_main (inr (inr none)) = none
 
--- of a branch and a tag, the tag is the first candidate, wherever it stands
+-- of a branch and a tag, the tag is the first candidate, wherever it is
 pub tag_first : IsFirstCandidate branch_and_tag (codes "main") (codes "refs/tags/main")
 tag_first = record {
   earlier = codes "main" ∷ codes "refs/main" ∷ [];
@@ -61,7 +61,7 @@ no_other_first = (
   λ first. first.present,
 )
 
--- the name by itself stands before all others
+-- the name by itself is before all others
 pub itself_first : IsFirstCandidate (main_branch ∷ main_tag ∷ just_main ∷ []) (codes "main") (codes "main")
 itself_first = record { earlier = []; later = codes "refs/main" ∷ codes "refs/tags/main" ∷ codes "refs/heads/main" ∷ codes "refs/remotes/main" ∷ codes "refs/remotes/main/HEAD" ∷ []; here = refl; absent = tt; present = inr (inr (inl refl)) }
 
@@ -150,7 +150,7 @@ pub not_excluded : (n : List ℕ) → ¬ (IsExcluded (main_to_x ∷ []) n)
 not_excluded n (inl by) = absurd (normal_no_negative by.negative)
 not_excluded n (inr none) = none
 
--- a branch that stands before its tag isn't mapped, and the tag is
+-- a branch that is before its tag isn't mapped, and the tag is
 pub maps_the_tag : AreKeptForward (main_to_x ∷ []) branch_and_tag (mapping 1 (codes "refs/tags/main") (Some (codes "refs/x")) 0 ∷ [])
 maps_the_tag = record {
   all = mapping 1 (codes "refs/tags/main") (Some (codes "refs/x")) 0 ∷ [];

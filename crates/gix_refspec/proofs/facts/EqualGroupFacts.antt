@@ -38,7 +38,7 @@ same_fetches = (record { fetch = refl; same = refl }, λ equal. false≢true (fo
 pub no_pushes : (meaning_of push_main ≡ meaning_of push_to_main) × ¬ (FetchTheSame push_main push_to_main)
 no_pushes = (refl, λ equal. push_is_none equal.fetch)
 
--- no push is among fetches, wherever it stands
+-- no push is among fetches, wherever it is
 pub all_fetches : AreFetches (every ∷ no_dev ∷ []) × AreFetches [] × ¬ (AreFetches (push_main ∷ every ∷ [])) × ¬ (AreFetches (every ∷ push_main ∷ []))
 all_fetches = ((refl, (refl, tt)), tt, (λ are. push_is_none are.0), λ are. push_is_none are.1.0)
 

@@ -1,4 +1,4 @@
--- The faults of names, each at a text that has it and at a like one that has not: where a word stands in a
+-- The faults of names, each at a text that has it and at a like one that has not: where a word is in a
 -- text, and which of its components it is in.
 use Rattle.std.proofs.Common.{◌≡◌, ◌≢◌, ℕ, Bool, true, false, ◌==◌, ◌||◌, nat_eq, List, [], ◌∷◌, ◌++◌, codes, refl, sym, ap, ◌∙◌, subst}
 use Rattle.std.specs.List.{All, AllByRecursion, starts_with, ends_with, slice_split, join_with_byte, list_any}
@@ -21,7 +21,7 @@ begins_not w x none begins = true≢false (sym ((starts_is Decides-eqb x w (star
 pub ends_not : (w x : List ℕ) → ends_with nat_eq x w ≡ false → ¬ (EndsWith w x)
 ends_not w x none ends = true≢false (sym ((ends_is Decides-eqb x w (ends_with nat_eq x w) refl).1 ends.before ends.here) ∙ none)
 
--- whether a word stands in a text
+-- whether a word is in a text
 abbrev pub holds : List ℕ → List ℕ → Bool
 holds w [] = starts_with nat_eq [] w
 holds w (b ∷ x) = starts_with nat_eq (b ∷ x) w || holds w x
@@ -79,11 +79,11 @@ before_a P w none fact = record { before = []; component = w; after = codes "a" 
 
 -- ---- faults
 
--- just the empty text is empty
+-- only the empty text is empty
 pub just_empty : HasFault [] Empty × ¬ (HasFault (codes "/") Empty)
 just_empty = (refl, full slash [])
 
--- a slash at the front, at the end, or behind another one leaves an empty component, but the empty text has none such
+-- a slash at the front, at the end, or after another one leaves an empty component, but the empty text has none such
 pub empty_components : HasFault (codes "/a") EmptyComponent × HasFault (codes "a/") EmptyComponent × HasFault (codes "a//a") EmptyComponent × ¬ (HasFault (codes "a/b") EmptyComponent) × ¬ (HasFault [] EmptyComponent)
 empty_components = (
   (full _ _, before_a (λ w. w ≡ []) [] refl refl),
@@ -93,7 +93,7 @@ empty_components = (
   λ fault. fault.0 refl,
 )
 
--- a dot begins the first component, or the last one, but not where it stands within
+-- a dot begins the first component, or the last one, but not where it is within
 pub dots_first : HasFault (codes ".b/a") StartsWithDot × HasFault (codes "a/.b") StartsWithDot × ¬ (HasFault (codes "a./b.c") StartsWithDot)
 dots_first = (
   before_a (BeginsWith (codes ".")) (codes ".b") refl (record { after = codes "b"; here = refl }),
@@ -101,7 +101,7 @@ dots_first = (
   no_component (BeginsWith (codes ".")) (codes "a./b.c") (begins_not (codes ".") (codes "a.") refl, (begins_not (codes ".") (codes "b.c") refl, tt)),
 )
 
--- `.lock` ends the first component, or the last one, but not where it stands within, or without its dot
+-- `.lock` ends the first component, or the last one, but not where it is within, or without its dot
 pub locks : HasFault (codes "b.lock/a") LockSuffix × HasFault (codes "a/b.lock") LockSuffix × HasFault (codes "a/.lock") LockSuffix × ¬ (HasFault (codes "a.lock.b/block") LockSuffix)
 locks = (
   before_a (EndsWith (codes ".lock")) (codes "b.lock") refl (record { before = codes "b"; here = refl }),
@@ -118,7 +118,7 @@ dots_last = (record { before = codes "a/b"; here = refl }, ends_not (codes ".") 
 pub dots_side_by_side : HasFault (codes "..a") RepeatedDot × HasFault (codes "a/b..") RepeatedDot × ¬ (HasFault (codes "a.b.c./.d") RepeatedDot)
 dots_side_by_side = (record { before = []; after = codes "a"; here = refl }, record { before = codes "a/b"; after = []; here = refl }, holds_not (codes "..") (codes "a.b.c./.d") refl)
 
--- `@` right before a brace, and not apart, alone or behind it
+-- `@` right before a brace, and not apart, alone or after it
 pub reflog_portions : HasFault (codes "@{1}") ReflogPortion × ¬ (HasFault (codes "@a{/{@/@") ReflogPortion)
 reflog_portions = (record { before = []; after = codes "1}"; here = refl }, holds_not (codes "@{") (codes "@a{/{@/@") refl)
 

@@ -70,11 +70,11 @@ signed = (
 pub positive : IsPositive Normal × IsPositive Forced × ¬ (IsPositive Negative)
 positive = (tt, tt, λ none. none)
 
--- a colon stands before a destination, be it empty, and not without one
+-- a colon is before a destination, be it empty, and not without one
 pub colons : (with_colon (codes "a") None ≡ codes "a") × (with_colon (codes "a") (Some []) ≡ codes "a:") × (with_colon (codes "a:b") (Some (codes "c")) ≡ codes "a:b:c")
 colons = (refl, refl, refl)
 
--- what comes last has no colon; what comes before it may
+-- what is last has no colon; what is before it may
 pub last_lacks_colon : LastLacksColon (codes "a:b") (Some (codes "c")) × LastLacksColon (codes "a") None × ¬ (LastLacksColon (codes "a:b") None) × ¬ (LastLacksColon (codes "a") (Some (codes "b:c")))
 last_lacks_colon = (Lacks-tested colon (codes "c") refl, Lacks-tested colon (codes "a") refl, Lacks-here colon (codes "a") (codes "b"), Lacks-here colon (codes "b") (codes "c"))
 
@@ -156,7 +156,7 @@ fetches_main = (fetches_alone Normal (codes "main") tt refl refl refl, fetches_a
 fetches_to_nothing : (mode : Mode) (s : List ℕ) → IsPositive mode → begins_signed mode (s ++ codes ":") ≡ false → is_suspect slash s ≡ false → Reads Fetch (with_sign mode (s ++ codes ":")) (fetched mode (named_by s) None)
 fetches_to_nothing mode s positive unsigned sound = fetches mode s refl positive (inr (parts mode s (Some []) unsigned refl)) (IsName-tested s sound) refl
 
--- a colon behind a name changes nothing
+-- a colon after a name changes nothing
 pub fetches_main_colon : Reads Fetch (codes "main:") (fetched Normal (codes "main") None) × Reads Fetch (codes "+main:") (fetched Forced (codes "main") None) × Reads Fetch (codes "@:") (fetched Normal (codes "HEAD") None)
 fetches_main_colon = (fetches_to_nothing Normal (codes "main") tt refl refl, fetches_to_nothing Forced (codes "main") tt refl refl, fetches_to_nothing Normal (codes "@") tt refl refl)
 
@@ -227,7 +227,7 @@ pushes_alone = (
   pushes Forced (codes "refs/heads/*") refl tt (parts Forced (codes "refs/heads/*") None refl refl) (inr (IsPattern-tested (codes "refs/heads/") [] refl refl refl)) refl,
 )
 
--- a destination alone; a sign behind the colon belongs to it
+-- a destination alone; a sign after the colon belongs to it
 pub deletes_x : Reads Push (codes "+:x") (pushed Forced None (Some (codes "x"))) × Reads Push (codes ":+x") (pushed Normal None (Some (codes "+x")))
 deletes_x = (
   deletes Forced (codes "x") refl tt (parts Forced [] (Some (codes "x")) refl refl) (IsName-tested (codes "x") refl) refl,
@@ -265,14 +265,14 @@ other_source r q differ same = differ (ap (λ (x : Reading). x.source) same)
 no_other : (op : Operation) (text : List ℕ) (r q : Reading) → Reads op text r → r ≢ q → ¬ (Reads op text q)
 no_other op text r q reads differ also = differ (reads_once op text r q reads also)
 
--- a push of a name alone has no destination, nor has a fetch with a colon behind its name
+-- a push of a name alone has no destination, nor has a fetch with a colon after its name
 pub no_destination_read : ¬ (Reads Push (codes "main") (pushed Normal (Some (codes "main")) (Some (codes "main")))) × ¬ (Reads Fetch (codes "main:") (fetched Normal (codes "main") (Some [])))
 no_destination_read = (
   no_other Push (codes "main") _ _ pushes_alone.0 (other_destination _ _ (none_some (codes "main"))),
   no_other Fetch (codes "main:") _ _ fetches_main_colon.0 (other_destination _ _ (none_some [])),
 )
 
--- `@` isn't read as it stands; a sign is no part of a name; and a push isn't cut at its first colon
+-- `@` isn't read as it is; a sign is no part of a name; and a push isn't cut at its first colon
 pub no_other_source_read : ¬ (Reads Fetch (codes "@") (fetched Normal (codes "@") None)) × ¬ (Reads Fetch (codes "+main") (fetched Normal (codes "+main") None)) × ¬ (Reads Push (codes ":/message:refs/heads/x") (pushed Normal None (Some (codes "/message:refs/heads/x"))))
 no_other_source_read = (
   no_other Fetch (codes "@") _ _ fetches_main.3 (other_source _ _ (λ same. other_length (codes "HEAD") (codes "@") (λ size. omega (arith, size)) (some_once _ _ same))),

@@ -22,7 +22,7 @@ use Rattle.gix_refspec.proofs.facts.MatchFacts.{every, no_dev, short, blob, blob
 
 -- ---- exclusions
 
--- a negative spec excludes wherever it stands, and a positive one doesn't, nor one without a source
+-- a negative spec excludes wherever it is, and a positive one doesn't, nor one without a source
 pub exclusions : IsExcluded (no_dev ∷ every ∷ []) (codes "refs/heads/dev-a") × ¬ (IsExcluded (every ∷ []) (codes "refs/heads/dev-a")) × ¬ (IsExcluded [] (codes "refs/heads/dev-a")) × ¬ (IsExcludedBy (codes "a") (pushed Negative None (Some (codes "a"))))
 exclusions = (
   inl dev_excluded_by,
@@ -44,7 +44,7 @@ exclusions = (
     positive (inl by) = forced_no_negative by.negative
     positive (inr none) = none
 
--- of two equal pairs the first stays, and of a list only what stands before counts
+-- of two equal pairs the first is kept, and of a list only what is before counts
 pub stays_first : IsKeptAt [] (tag_to_x ∷ tag_again ∷ []) 0 tag_to_x × ¬ (IsKeptAt [] (tag_to_x ∷ tag_again ∷ []) 1 tag_again) × IsKept [] (tag_to_x ∷ tag_again ∷ []) (tag_to_x ∷ [])
 stays_first = (first, again, (Some tag_to_x, [], (refl, first), (None, [], (λ m made. made.1.first (inl (record { source = refl; destination = refl }))), refl, refl), refl))
   where

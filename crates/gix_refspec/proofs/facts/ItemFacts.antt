@@ -153,7 +153,7 @@ mapped_back law fewer are = (law.backward part enough (tracked 1 (codes "main") 
 abbrev fetch_head : Reading
 fetch_head = fetched Normal head None
 
--- `HEAD` is listed where it is there, and not where another candidate of it stands alone
+-- `HEAD` is listed where it is there, and not where another candidate of it is alone
 pub head_listed : FetchesHead (named head ∷ []) fetch_head × ¬ (FetchesHead (named (codes "refs/heads/HEAD") ∷ []) fetch_head) × ¬ (FetchesHead (named head ∷ []) (pushed Normal (Some head) None)) × ¬ (FetchesHead (named head ∷ []) short)
 head_listed = (
   record { fetch = refl; source = refl; there = inl refl },

@@ -1,4 +1,4 @@
--- What a caller concludes from the laws on what stays: that a pair is there, that one isn't, and where it comes from.
+-- What a caller concludes from the laws on what is kept: that a pair is there, that one isn't, and where it comes from.
 use Rattle.std.proofs.Common.{◌≡◌, inl, inr, ℕ, zero, suc, List, [], ◌∷◌, ◌++◌, Option, None, Some, codes, refl, sym, ap, ◌∙◌, subst, arith}
 use Rattle.std.specs.List.{AllByRecursion, Any, Contains, slice_get}
 use Rattle.gix_refspec.specs.Specs.Reading.{Reading}
@@ -86,14 +86,14 @@ id_there items law kept are = (law.forward kept are blob_mapping).1 (
   λ none. none,
 )
 
--- no list of what stays begins with a mapping of what is excluded, in either direction
+-- no list of what is kept begins with a mapping of what is excluded, in either direction
 pub none_of_a_tag : (items : List Ref) → NothingExcluded (main_to_x ∷ no_tags ∷ []) items → (rest : List Mapped) → ¬ (AreKeptForward (main_to_x ∷ no_tags ∷ []) items (tag_pair ∷ rest)) × ¬ (AreKeptBackward (main_to_x ∷ no_tags ∷ []) items (tag_pair ∷ rest))
 none_of_a_tag items law rest = (
   (λ are. (law.names (tag_pair ∷ rest) (inl are)).0 tag_excluded),
   λ are. (law.names (tag_pair ∷ rest) (inr are)).0 tag_excluded,
 )
 
--- ---- which of several stays
+-- ---- which of several is kept
 
 -- of an excluded branch, a tag, a branch and the same once more
 abbrev listed : List Ref
@@ -102,7 +102,7 @@ listed = dev_ref ∷ tag_ref ∷ main_ref ∷ main_ref ∷ []
 abbrev mapped : List Mapped
 mapped = tracked 0 (codes "dev-a") ∷ tracked 2 (codes "main") ∷ tracked 3 (codes "main") ∷ []
 
--- by the law the first mapping of the branch stays, with its place
+-- by the law the first mapping of the branch is kept, with its place
 pub first_there : FirstStays (every ∷ no_dev ∷ []) listed → (kept : List Mapped) → AreKeptForward (every ∷ no_dev ∷ []) listed kept → Contains kept (tracked 2 (codes "main"))
 first_there law kept are = (law.forward mapped kept maps_all are (tracked 2 (codes "main"))).1 (record { before = tracked 0 (codes "dev-a") ∷ []; after = tracked 3 (codes "main") ∷ []; here = refl; first = only_dev 2; included = main_stays })
 
@@ -116,7 +116,7 @@ no_first [] after here new = let same : tracked 0 (codes "dev-a") ≡ tracked 3 
 no_first (x ∷ []) after here new = let same : tracked 2 (codes "main") ≡ tracked 3 (codes "main") = cc in let places : 2 ≡ 3 = ap (λ (m : Mapped). place_in m.item) same in absurd (omega (arith, places))
 no_first (x ∷ y ∷ before) after here new = let same : y ≡ tracked 2 (codes "main") = cc in new (inr (inl (record { source = ap (λ (m : Mapped). m.source) same; destination = ap (λ (m : Mapped). m.destination) same })))
 
--- so by the law the other doesn't stay, nor does what is excluded
+-- so by the law the other isn't kept, nor does what is excluded
 pub later_not_there : FirstStays (every ∷ no_dev ∷ []) listed → (kept : List Mapped) → AreKeptForward (every ∷ no_dev ∷ []) listed kept → ¬ (Contains kept (tracked 3 (codes "main"))) × ¬ (Contains kept (tracked 0 (codes "dev-a")))
 later_not_there law kept are = (
   (λ has. let first = (law.forward mapped kept maps_all are (tracked 3 (codes "main"))).0 has in no_first first.before first.after first.here first.first),
@@ -134,7 +134,7 @@ first_back law kept are =
       λ has. ((law.backward all kept tracks_all are (tracked 0 (codes "dev-a"))).0 has).included dev_excluded,
     )
 
--- ---- the places of what stays
+-- ---- the places of what is kept
 
 -- by the law a mapping of the branch doesn't have the place of the tag
 pub no_other_item : PlacesFit (every ∷ no_dev ∷ []) listed → (rest : List Mapped) → ¬ (AreKeptForward (every ∷ no_dev ∷ []) listed (tracked 1 (codes "main") ∷ rest))

@@ -172,7 +172,7 @@ begins_with_one = (
         other_byte 0 (codes "refs/heads/main") (codes "heads/" ++ begins.after) (λ same. omega (arith, same)) here
     none (suc k, entry, below, is, begins) = absurd (omega (arith, below))
 
--- what the specs of a group expand to, one behind the other; a negative one to nothing
+-- what the specs of a group expand to, one after the other; a negative one to nothing
 pub expanded : AreExpansions (every ∷ no_dev ∷ short ∷ []) (codes "refs/heads/" ∷ candidates (codes "main"))
 expanded = (
   codes "refs/heads/" ∷ [],
@@ -203,7 +203,7 @@ remote_refs = named (codes "refs/heads/dev-a") ∷ named (codes "refs/tags/v1") 
 abbrev tracking_refs : List Ref
 tracking_refs = named (codes "refs/remotes/origin/dev-a") ∷ named (codes "refs/remotes/origin/main") ∷ []
 
--- the branch stands in the answer of each direction, if it does in that of the other
+-- the branch is in the answer of each direction, if it is in that of the other
 pub looked_up : Transpose (every ∷ no_dev ∷ []) remote_refs tracking_refs → (m : List Mapped) → AreKeptBackward (every ∷ no_dev ∷ []) tracking_refs m → HasPair m (tracked 0 (codes "main"))
 looked_up law m back = ((law (go_both_ways.0, (go_both_ways.3, tt)) (tracked 2 (codes "main") ∷ []) m fetches_all_but_dev back (tracked 0 (codes "main"))).0 (inl (record { source = refl; destination = refl }), inr (inl refl))).0
 
@@ -334,11 +334,11 @@ reads_for_fetch law r reads = law r reads
 pub texts_alike : EqualTexts Fetch (codes "+main") (codes "main") → (r q : Reading) → Reads Fetch (codes "+main") r → Reads Fetch (codes "main") q → (printed r ≡ printed q → meaning_of r ≡ meaning_of q) × (meaning_of r ≡ meaning_of q → printed r ≡ printed q)
 texts_alike law r q reads_r reads_q = ((law r q reads_r reads_q).1, (law r q reads_r reads_q).0)
 
--- nothing is against a pattern of one byte, not even want of memory
+-- nothing is against a pattern of one byte, not even memory
 pub nothing_wrong : NothingAgainst (codes "*") → (e : PatternError) → ¬ (IsPatternFault e (codes "*"))
 nothing_wrong law e fault = let long : 256 < 1 = (law (IsPattern-tested [] [] refl refl refl) e fault).1 in omega (arith, long)
 
--- a clone always comes, and is its value
+-- a clone never fails, and is its value
 pub cloned : {T : Type 0} (is_clone : T → T → Type 0) (is_infallible : T → Type 0) → ClonesExactly is_clone is_infallible → (x y : T) → is_infallible x × (is_clone x y → y ≡ x)
 cloned is_clone is_infallible law x y = ((law x).0, (law x).1 y)
 
@@ -405,7 +405,7 @@ fault_there one = (one.fault, one.has)
 pub lower_there : OneLowerText empty_blob → IsLowerText (codes "e69de29bb2d1d6434b8b29ae775ad8c2e48c5391") empty_blob
 lower_there law = subst (λ (t : List ℕ). IsLowerText t empty_blob) lower_of-empty_blob law.lower
 
--- a longer pattern has no fault, but may want memory
+-- a longer pattern has no fault, but may need memory
 pub no_fault_of_long : (x : List ℕ) → NothingAgainst x → IsPattern x → (fault : NameError) → ¬ (IsPatternFault (Name fault) x)
 no_fault_of_long x law pattern fault has = let same : Name fault ≡ Memory = (law pattern (Name fault) has).0 in cc
 

@@ -34,7 +34,7 @@ made_alone ys are = made_once PlaceOfFive five_once 7 (5 ∷ 6 ∷ 5 ∷ []) ys 
 pub record PlaceAndElement (k x : ℕ) (ys : List ℕ) : Type 0 where
   pub both : ys ≡ k ∷ x ∷ []
 
--- from place 7 on, the lists of each element, one behind the other
+-- from place 7 on, the lists of each element, one after the other
 pub joined : IsJoinedFrom PlaceAndElement 7 (5 ∷ 6 ∷ []) (7 ∷ 5 ∷ 8 ∷ 6 ∷ [])
 joined = (7 ∷ 5 ∷ [], 8 ∷ 6 ∷ [], record { both = refl }, (8 ∷ 6 ∷ [], [], record { both = refl }, refl, refl), refl)
 

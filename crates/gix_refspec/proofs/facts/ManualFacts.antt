@@ -82,14 +82,14 @@ faults = (
   record { before = codes "foo"; after = codes "bar"; here = refl },
 )
 
--- texts that lack the star cut a text at its only one, for which the letter may stand
+-- texts that lack the star cut a text at its only one, which the letter may replace
 pub IsCut-tested : (before after : List ℕ) → list_any (λ c. c == star) before ≡ false → list_any (λ c. c == star) after ≡ false → IsCut before after (before ++ (star ∷ after))
 IsCut-tested before after first last = record { starred = refl; first = Lacks-tested star before first; last = Lacks-tested star after last }
 
 pub ReplacesStar-tested : (before after : List ℕ) → list_any (λ c. c == star) before ≡ false → list_any (λ c. c == star) after ≡ false → ReplacesStar (before ++ (star ∷ after)) (before ++ (letter ∷ after))
 ReplacesStar-tested before after first last = record { before = before; after = after; cut = IsCut-tested before after first last; replaced = refl }
 
--- one star may stand in a component of a pattern, but not two
+-- one star may be in a component of a pattern, but not two
 pub one_star : ReplacesStar (codes "foo/bar*/baz") (codes "foo/bara/baz") × ReplacesStar (codes "foo/bar*baz") (codes "foo/barabaz")
 one_star = (ReplacesStar-tested (codes "foo/bar") (codes "/baz") refl refl, ReplacesStar-tested (codes "foo/bar") (codes "baz") refl refl)
 
@@ -238,11 +238,11 @@ pub candidates_of_main : candidates (codes "main")
     ≡ codes "main" ∷ codes "refs/main" ∷ codes "refs/tags/main" ∷ codes "refs/heads/main" ∷ codes "refs/remotes/main" ∷ codes "refs/remotes/main/HEAD" ∷ []
 candidates_of_main = refl
 
--- what stands behind the star of a pattern has no other star, nor what stands before it
+-- what is after the star of a pattern has no other star, nor what is before it
 pub two_stars_no_pattern : ¬ (HasKind (codes "a*b*") (pattern (codes "a") (codes "b*"))) × ¬ (HasKind (codes "a*b*") (pattern (codes "a*b") []))
 two_stars_no_pattern = (λ cut. Lacks-here star (codes "b") [] cut.last, λ cut. Lacks-here star (codes "a") (codes "b") cut.first)
 
--- a pattern gets a word for its star, or keeps the star, between what stands before and behind it
+-- a pattern gets a word for its star, or keeps the star, between what is before and after it
 pub filled_patterns : (filled (pattern (codes "refs/x/") (codes "/y")) (Some (codes "main")) ≡ codes "refs/x/main/y") × (filled (pattern (codes "refs/x/") (codes "/y")) None ≡ codes "refs/x/*/y")
 filled_patterns = (refl, refl)
 
@@ -263,7 +263,7 @@ reports_no_other bad = other_length _ _ (λ same. omega (arith, same)) bad.1
 abbrev starred : ℕ → List ℕ
 starred n = star ∷ replicate n letter
 
--- a side with a star and 257 bytes may want memory
+-- a side with a star and 257 bytes may need memory
 pub wants_memory : NeedsMemory (starred 256)
 wants_memory = inr (record { before = []; after = replicate 256 letter; here = refl }, omega (arith, length-replicate 256 letter))
 
@@ -304,7 +304,7 @@ text_wants_no_memory may =
 pub pattern_too_long : IsPatternFault Memory (starred 256) × ¬ (IsPatternFault Memory (starred 255))
 pattern_too_long = (omega (arith, length-replicate 256 letter), λ long. omega (arith, length-replicate 255 letter, long))
 
--- no reason comes before the source where there is none like these three
+-- no reason is before the source where there is none like these three
 pub before_source : (op : Operation) (mode : Mode) (s : List ℕ) (d : Option (List ℕ)) → s ≢ [] → (mode ≡ Negative → d ≡ None) → d ≢ Some [] → NoReasonBeforeSource op mode s d
 before_source op mode s d not_empty alone somewhere = (
   (λ e empty. not_empty empty.no_source),
@@ -312,7 +312,7 @@ before_source op mode s d not_empty alone somewhere = (
   (λ e nowhere. somewhere nowhere.nowhere),
 )
 
--- so a destination may want memory too
+-- so a destination may need memory too
 pub destination_wants_memory : ReachesMemory Push Normal (codes "a..b") (Some (codes "c*d*"))
 destination_wants_memory = (
   before_source Push Normal (codes "a..b") (Some (codes "c*d*")) (full _ _) (λ negative. absurd (normal_no_negative negative)) (λ same. full 99 (codes "*d*") (some_once (codes "c*d*") [] same)),
@@ -325,7 +325,7 @@ destination_wants_memory = (
     normal_no_negative : Normal ≢ Negative
     normal_no_negative same = cc
 
--- but not behind a bad source, nor does the source of a push to nowhere, or of a negative spec with a colon
+-- but not after a bad source, nor does the source of a push to nowhere, or of a negative spec with a colon
 pub memory_behind_reasons : ¬ (ReachesMemory Fetch Normal (codes "a..b") (Some (codes "c*d*"))) × ¬ (ReachesMemory Push Normal (codes "a*b*") (Some [])) × ¬ (ReachesMemory Fetch Negative (codes "a*b*") (Some (codes "c")))
 memory_behind_reasons = (
   (λ reaches. elim reaches.1 [

@@ -36,14 +36,14 @@ of_element P (y ∷ ys) x all (suc k, below, is) = of_element P ys x all.1 (k, o
 
 -- ---- sides
 
--- a word stands between the ends of a pattern, which never overlap
+-- a word is between the ends of a pattern, which never overlap
 pub fitting : Fits (codes "refs/heads/") [] (codes "refs/heads/main") (codes "main") × Fits (codes "refs/heads/a") (codes "a") (codes "refs/heads/aa") []
 fitting = (refl, refl)
 
 pub ends_apart : (word : List ℕ) → ¬ (Fits (codes "a") (codes "a") (codes "a") word)
 ends_apart word fits = let size : 1 ≡ suc (length (word ++ codes "a")) = ap length fits in omega (arith, size, length-append word (codes "a"))
 
--- what stands before the star of a pattern, and behind it
+-- what is before the star of a pattern, and after it
 pub cut_at_end : (before : List ℕ) → list_any (λ c. c == star) before ≡ false → IsCut before [] (before ++ codes "*")
 cut_at_end before none = record { starred = refl; first = Lacks-tested star before none; last = tt }
 
@@ -359,7 +359,7 @@ short_kind = (
   (λ is_id. short_no_id is_id.0 is_id.1),
 )
 
--- an id comes before all items, and has none. A partial name without a destination maps to nothing
+-- an id is before all items, and has none. A partial name without a destination maps to nothing
 pub asks_for_ids_first : AreKeptForward (short ∷ blob ∷ []) (main_ref ∷ []) (blob_mapping ∷ mapping 0 (codes "refs/heads/main") None 0 ∷ [])
 asks_for_ids_first =
     let hit : Hit = record { spec = 0; item = 0; near = codes "refs/heads/main"; far = None } in

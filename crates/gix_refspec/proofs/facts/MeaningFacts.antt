@@ -1,5 +1,5 @@
 -- The words on meanings, canonical texts, order and reasons at the examples of this project's own
--- rules: what a sign says, which text has one more, and what stands before what.
+-- rules: what a sign says, which text has one more, and what is before what.
 use Rattle.std.proofs.Common.{◌≡◌, true, false, [], None, Some, codes, refl}
 use Rattle.std.specs.declared.cmp.Ordering.TheVariants.{Less, Equal, Greater}
 use Rattle.gix_refspec.specs.declared.parsing.Operation.TheVariants.{Push, Fetch}
@@ -64,7 +64,7 @@ pluses = (refl, refl, refl, refl, refl, refl, refl, refl, refl, refl, refl, refl
 pub operations : (meant_for (push_exclude (codes "a")) ≡ Push) × (meant_for (fetch_exclude (codes "a")) ≡ Fetch) × (meant_for (push_delete (codes "a")) ≡ Push) × (meant_for (fetch_only (codes "a")) ≡ Fetch)
 operations = (refl, refl, refl, refl)
 
--- the kinds stand in the order of their declarations, pushes before fetches
+-- the kinds are in the order of their declarations, pushes before fetches
 pub kinds_rise : (order (push_all_matching true) (push_delete []) ≡ Less)
     × (order (push_delete (codes "z")) (push_matching (codes "a") (codes "a") false) ≡ Less)
     × (order (push_matching (codes "z") (codes "z") true) (push_exclude (codes "a")) ≡ Less)
@@ -73,7 +73,7 @@ pub kinds_rise : (order (push_all_matching true) (push_delete []) ≡ Less)
     × (order (fetch_exclude (codes "z")) (fetch_and_update (codes "a") (codes "a") false) ≡ Less)
 kinds_rise = (refl, refl, refl, refl, refl, refl)
 
--- then the source decides, the destination, and the sign last; bytes come before lengths
+-- then the source decides, the destination, and the sign last; bytes are before lengths
 pub fields_rise : (order (push_matching (codes "a") (codes "z") true) (push_matching (codes "b") (codes "a") false) ≡ Less)
     × (order (push_matching (codes "a") (codes "a") true) (push_matching (codes "a") (codes "b") false) ≡ Less)
     × (order (push_matching (codes "a") (codes "b") false) (push_matching (codes "a") (codes "b") true) ≡ Less)

@@ -1,5 +1,5 @@
 -- Texts that are names and patterns, and texts that are not, by git-check-ref-format(1): for each of its
--- rules one text that breaks it, and one that comes close.
+-- rules one text that breaks it, and one that is close.
 use Rattle.std.proofs.Common.{◌≡◌, ℕ, ◌==◌, false, List, [], ◌∷◌, codes, refl, inl, inr, arith}
 use Rattle.std.specs.List.{AllByRecursion, list_any}
 use Rattle.std.proofs.lemmas.Bool.{or_parts}
@@ -33,7 +33,7 @@ pub names : AllByRecursion IsName plain_names
 names = each_name plain_names refl
 
 -- a dot in a component, or at the end of one that isn't the last; `.lock` before more of a component; an at
--- sign and a brace apart; and the last bytes before those that are refused, with those behind them
+-- sign and a brace apart; and the last bytes before those that are refused, with those after them
 abbrev close_names : List (List ℕ)
 close_names = codes "v1.0" ∷ codes "a.b.c" ∷ codes "a./b" ∷ codes "a.lockx" ∷ codes "a.lock.b/c" ∷ codes "a@b{c}" ∷ codes "{@a" ∷ codes "!}" ∷ (128 ∷ 228 ∷ 255 ∷ []) ∷ []
 
@@ -122,7 +122,7 @@ dot_behind_letter : ¬ (IsCalm 97 46)
 dot_behind_letter (inl plain) = cc
 dot_behind_letter (inr quiet) = absurd (omega (arith, quiet.0))
 
--- a letter behind a slash, and a slash behind a letter; but no slash behind a slash or a `k`, and no dot
+-- a letter after a slash, and a slash after a letter; but no slash after a slash or a `k`, and no dot
 pub calm_bytes : IsCalm 47 97 × IsCalm 97 47 × ¬ (IsCalm 47 47) × ¬ (IsCalm 107 47) × ¬ (IsCalm 97 46)
 calm_bytes = (inl refl, inr (refl, (λ e. omega (arith, e)), (λ e. omega (arith, e))), slash_behind_slash, slash_behind_k, dot_behind_letter)
 

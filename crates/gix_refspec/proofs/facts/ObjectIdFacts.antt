@@ -66,7 +66,7 @@ two_digits = (
   λ b. ((λ by. unread by.high_value by.high_read), (λ by. unread by.low_value by.low_read)),
 )
 
--- the digits of each byte stand in its place, the last one too
+-- the digits of each byte are in its place, the last one too
 pub spelled : Spells (codes "e69d") (0xe6 ∷ 0x9d ∷ []) × ¬ (Spells (codes "e69d") (0xe6 ∷ 0x9e ∷ [])) × ¬ (Spells (codes "e69d") (0x9d ∷ 0xe6 ∷ []))
 unfolding hex_on_literals
 spelled = (
@@ -106,7 +106,7 @@ HasIdFault-length = ((refl, no_length 6 (λ same. omega (arith, same)) (λ same.
 pub HasIdFault-none : ¬ (HasIdFault (codes "e69de29bb2d1d6434b8b29ae775ad8c2e48c5391") (Length 40))
 HasIdFault-none fault = fault.1 (Sha1, refl)
 
--- the first byte or the last one may be no digit, and the length comes before it
+-- the first byte or the last one may be no digit, and the length is before it
 pub HasIdFault-digit : HasIdFault (codes "g69de29bb2d1d6434b8b29ae775ad8c2e48c5391") Digit × HasIdFault (codes "e69de29bb2d1d6434b8b29ae775ad8c2e48c539/") Digit × ¬ (HasIdFault (codes "e69de29bb2d1d6434b8b29ae775ad8c2e48c5391") Digit) × ¬ (HasIdFault (codes "g69de2") Digit)
 HasIdFault-digit = (
   ((Sha1, refl), (0, omega arith, refl)),

@@ -12,7 +12,7 @@ use Rattle.gix_refspec.specs.Specs.Order.{rank_of, keys, order, is_same, writes}
 use Rattle.gix_refspec.specs.Matching.Mappings.{name, id}
 use Rattle.gix_refspec.specs.Views.Hashed.{source_writes, pair_writes}
 
--- push stands before fetch, and each is at one place
+-- push is before fetch, and each is at one place
 pub ranks_of : (nat_cmp (rank_of Push) (rank_of Fetch) ≡ Less) × (nat_cmp (rank_of Fetch) (rank_of Push) ≡ Greater) × (nat_cmp (rank_of Fetch) (rank_of Fetch) ≡ Equal)
 ranks_of = (refl, refl, refl)
 
@@ -40,7 +40,7 @@ pub fields_differ : (is_same (push_all_matching true) (push_all_matching false) 
     × (is_same (fetch_and_update (codes "a") (codes "b") true) (fetch_and_update (codes "a") (codes "b") true) ≡ true)
 fields_differ = (refl, refl, refl, refl, refl, refl, refl, refl, refl, refl, refl)
 
--- what has no meaning stands before what has one, and the keys of meanings compare as these do
+-- what has no meaning is before what has one, and the keys of meanings compare as these do
 pub keys_rise : (slice_cmp (slice_cmp nat_cmp) (keys None) (keys (Some (push_all_matching false))) ≡ Less)
     × (slice_cmp (slice_cmp nat_cmp) (keys (Some (fetch_only (codes "a")))) (keys (Some (push_delete (codes "z")))) ≡ Greater)
     × (slice_cmp (slice_cmp nat_cmp) (keys (Some (fetch_only (codes "a")))) (keys (Some (fetch_only (codes "a")))) ≡ Equal)

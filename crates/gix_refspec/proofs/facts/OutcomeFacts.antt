@@ -1,4 +1,4 @@
--- What the clauses of the match calls say of a group and items at hand: at the examples of matching, just
+-- What the clauses of the match calls say of a group and items at hand: at the examples of matching, exactly
 -- which outcome there is, and that there is one.
 use Rattle.std.proofs.Common.{◌≡◌, List, [], ◌∷◌, map, length, codes, refl, ap, arith}
 use Rattle.gix_refspec.specs.declared.match_group.types.Item.{Item}
@@ -30,7 +30,7 @@ main_fetched g items o specs refs is = (is.0, one_forward (every ∷ no_dev ∷ 
 pub main_tracked : (g : MatchGroup) (items : List Item) (o : Outcome 0) → LeavesOutDev g → map ref_of items ≡ is_tracked → IsOutcome AreKeptBackward g items o → (o.group ≡ g) × (map mapped_of o.mappings.items ≡ tracked 1 (codes "main") ∷ [])
 main_tracked g items o specs refs is = (is.0, one_backward (every ∷ no_dev ∷ []) is_tracked (map mapped_of o.mappings.items) _ (rw (specs, refs) at is.1) tracks_all_but_dev)
 
--- so memory may be wanted for them
+-- so memory may be needed for them
 full : (m : Mapped) (ms : List Mapped) → ¬ (m ∷ ms ≡ [])
 full m ms same = omega (arith, ap length same)
 

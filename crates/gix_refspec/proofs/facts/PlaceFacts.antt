@@ -80,7 +80,7 @@ branch_back = (
   (λ none. none),
 )
 
--- ---- the places of what stays
+-- ---- the places of what is kept
 
 abbrev refs : List Ref
 refs = dev_ref ∷ tag_ref ∷ main_ref ∷ main_ref ∷ []

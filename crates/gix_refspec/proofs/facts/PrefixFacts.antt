@@ -24,7 +24,7 @@ use Rattle.gix_refspec.proofs.facts.LawFacts.{below_heads}
 pub whole_prefixes : IsPrefix (codes "HEAD") (codes "HEAD") × IsPrefix (codes "refs/a]b") (codes "refs/a]b")
 whole_prefixes = (of_head refl refl, of_name (record { after = codes "a]b"; here = refl }) (Lacks-tested star (codes "refs/a]b") refl) refl)
 
--- a pattern has what stands before its star, also within a component and before a suffix
+-- a pattern has what is before its star, also within a component and before a suffix
 pub pattern_prefix : IsPrefix (codes "refs/a*/b") (codes "refs/a")
 pattern_prefix = of_pattern (codes "refs/a") (codes "/b") (record { starred = refl; first = Lacks-tested star (codes "refs/a") refl; last = Lacks-tested star (codes "/b") refl }) (record {
   below = record { after = codes "a"; here = refl };
@@ -39,7 +39,7 @@ bracket_cut = cut_at_end (codes "refs/a]") refl
 pub suffix_cut : IsCut (codes "refs/a") (codes "/]") (codes "refs/a*/]")
 suffix_cut = record { starred = refl; first = Lacks-tested star (codes "refs/a") refl; last = Lacks-tested star (codes "/]") refl }
 
--- a star behind `refs/`, or a bracket before or behind the star, leaves none
+-- a star after `refs/`, or a bracket before or after the star, leaves none
 pub no_prefixes : HasNoPrefix (codes "refs/*") × HasNoPrefix (codes "refs/a]*") × HasNoPrefix (codes "refs/a*/]") × HasNoPrefix (codes "heads/*")
 no_prefixes = (bare, before_star, behind_star, outside_none (codes "heads/*") (other_length _ _ (λ size. omega (arith, size))) (λ begins. other_byte 0 (codes "heads/*") (codes "refs/" ++ begins.after) (λ byte. omega (arith, byte)) begins.here))
   where
@@ -58,7 +58,7 @@ no_prefixes = (bare, before_star, behind_star, outside_none (codes "heads/*") (o
     behind_star p (of_name begins lacks same) = Lacks-here star (codes "refs/a") (codes "/]") lacks
     behind_star p (of_pattern before after cut tells same) = Lacks-here bracket (codes "/") [] (subst (Lacks bracket) ((cut_once (codes "refs/a*/]") before after (codes "refs/a") (codes "/]") cut suffix_cut).1) tells.last)
 
--- without a prefix, what has one name behind `refs/` is expanded to itself, and with a further slash
+-- without a prefix, what has one name after `refs/` is expanded to itself, and with a further slash
 -- to nothing
 pub expansions_below : Expands (codes "refs/*") (codes "refs/*" ∷ []) × Expands (codes "refs/a]*") (codes "refs/a]*" ∷ []) × Expands (codes "refs/a*/]") []
 expansions_below = (
@@ -86,7 +86,7 @@ other_prefixes = (
   outside_none (codes "HEAD/x") (other_length _ _ (λ size. omega (arith, size))) (begins_not (codes "refs/") (codes "HEAD/x") refl),
 )
 
--- what stands before a star tells a prefix below `refs/`, but not `refs/` itself, nor with a bracket on either side
+-- what is before a star tells a prefix below `refs/`, but not `refs/` itself, nor with a bracket on either side
 pub tells : TellsPrefix (codes "refs/a") (codes "/b") × ((after : List ℕ) → ¬ (TellsPrefix (codes "refs/") after) × ¬ (TellsPrefix (codes "heads/") after) × ¬ (TellsPrefix (codes "refs/a]") after)) × ¬ (TellsPrefix (codes "refs/a") (codes "/]"))
 tells = (
   record { below = record { after = codes "a"; here = refl }; further = other_length _ _ (λ size. omega (arith, size)); first = Lacks-tested bracket (codes "refs/a") refl; last = Lacks-tested bracket (codes "/b") refl },

@@ -192,7 +192,7 @@ or_else = (
     hidden (inl same) = other same
     hidden (inr (never, same)) = never NegativeEmpty refl
 
--- the last reasons come behind all others
+-- the last reasons follow all others
 pub last_reasons : IsFirstReason Fetch Negative [] None NegativeEmpty × (IsName (replicate 40 letter) → IsFirstReason Push Negative (replicate 40 letter) None NegativeObjectHash)
 last_reasons = (
   inr ((λ e is. fetch_no_push is.push), inr ((λ e is. false≢true is.colon), inr ((λ e is. fetch_no_push is.push), inr ((λ e is. is.source refl), inr ((λ e is. none_some is.word is.is), inr ((λ e is. is.positive), inl excludes_nothing.0)))))),

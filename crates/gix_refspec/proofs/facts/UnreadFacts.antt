@@ -131,7 +131,7 @@ no_text r none (text, reads) = let back = read_back r.operation text r reads in 
 pub accepted : IsAccepted (fetched Normal (codes "main") None) × IsAccepted (pushed Forced None None) × IsAccepted (pushed Normal None (Some (codes "+x")))
 accepted = ((codes "main", fetches_main.0), (codes "+", pushes_matching.0), (codes ":+x", deletes_x.1))
 
--- a fetch needs one; a negative spec has no destination, but a source; and no star stands on one side alone
+-- a fetch needs one; a negative spec has no destination, but a source; and no star is on one side alone
 pub not_accepted : ¬ (IsAccepted (record { operation = Fetch; mode = Normal; source = None; destination = Some (codes "x") })) × ¬ (IsAccepted (fetched Negative (codes "a") (Some (codes "b")))) × ¬ (IsAccepted (pushed Negative None None)) × ¬ (IsAccepted (fetched Normal (codes "a*") (Some (codes "b"))))
 not_accepted = (
   no_text _ refl,

@@ -36,7 +36,7 @@ conflict = record {
   texts = codes "refs/tags/*:refs/x/*" ∷ codes "+refs/heads/*:refs/x/*" ∷ [];
 }
 
--- just the one destination is contested
+-- only the one destination is in conflict
 at_x_or_y : (d : List ℕ) (m : Mapped) → Contains meeting m → m.destination ≡ Some d → (d ≡ codes "refs/x/a") ⊎ (m ≡ branch_to_y)
 at_x_or_y d m has to =
     elim (of_element (λ n. (n.destination ≡ Some (codes "refs/x/a")) ⊎ (n ≡ branch_to_y)) meeting m (inr refl, (inl refl, (inl refl, (inl refl, tt)))) has) [
@@ -140,7 +140,7 @@ one_source d contested =
     let tag = of_element (λ n. n.source ≡ name (codes "refs/tags/a")) l in
     contested.differ (tag contested.one (refl, (refl, (refl, (refl, tt)))) contested.has_one ∙ sym (tag contested.other (refl, (refl, (refl, (refl, tt)))) contested.has_other))
 
--- conflicts don't fall, and none stands twice
+-- conflicts don't fall, and none is there twice
 pub rising : (c d : Conflict) → c.destination ≡ codes "refs/x/b" → d.destination ≡ codes "refs/x/aa" → ¬ (AreConflicts both_to_x meeting (c ∷ d ∷ [])) × ¬ (AreConflicts both_to_x meeting (c ∷ c ∷ []))
 unfolding IsStrictlySortedBy
 rising c d to_b to_aa = (
@@ -205,7 +205,7 @@ validated = record {
         let tag = of_element (λ n. n.source ≡ name (codes "refs/tags/a")) (tag_to_x ∷ tag_to_foo ∷ tag_alone ∷ []) in
         contested.differ (tag contested.one (refl, (refl, (refl, tt))) contested.has_one ∙ sym (tag contested.other (refl, (refl, (refl, tt))) contested.has_other))
 
--- the first spec has a place in a group, and none is behind the last one
+-- the first spec has a place in a group, and none is after the last one
 pub places : IndexesFit both_to_x (tag_to_x ∷ tag_again ∷ []) × ¬ (IndexesFit both_to_x (tag_to_x ∷ mapping 0 (codes "a") None 2 ∷ []))
 places = ((omega arith, (omega arith, tt)), λ fit. let below : 2 < 2 = fit.1.0 in omega (arith, below))
 
@@ -232,7 +232,7 @@ meet = (
 
 -- ---- what is left out of a list, or put in
 
--- the text of a spec is that of its place, and there is none behind the last one
+-- the text of a spec is that of its place, and there is none after the last one
 pub texts_at : IsTextAt both_to_x 0 (codes "refs/tags/*:refs/x/*") × IsTextAt (fetched Forced (codes "main") None ∷ []) 0 (codes "main") × ¬ (IsTextAt both_to_x 1 (codes "refs/tags/*:refs/x/*")) × ((text : List ℕ) → ¬ (IsTextAt both_to_x 2 text))
 texts_at = (
   (fetched Normal (codes "refs/tags/*") (Some (codes "refs/x/*")), refl, refl),
@@ -249,7 +249,7 @@ texts_at = (
         let r_is : fetched Forced (codes "refs/heads/*") (Some (codes "refs/x/*")) ≡ r = cc in
         other_length _ _ (λ size. omega (arith, size)) (some_once (codes "+refs/heads/*:refs/x/*") (codes "refs/tags/*:refs/x/*") (ap printed r_is ∙ prints))
 
--- a contested destination is a conflict, so there is no validation, and no list without it
+-- a destination in conflict is a conflict, so there is no validation, and no list without it
 pub no_less : ¬ (AreConflicts both_to_x meeting []) × ((rest : List Mapped) (fixes : List Removed) → ¬ (IsValidated both_to_x meeting rest fixes))
 unfolding at_x
 no_less = ((λ are. none_in (are.every (codes "refs/x/a") at_x)), λ rest fixes is. none_in (is.free.every (codes "refs/x/a") at_x))

@@ -15,7 +15,7 @@ use Rattle.gix_refspec.proofs.facts.ValidationFacts.{both_to_x, conflict, confli
 pub one_at_x : OneValidation both_to_x meeting → (cs : List Conflict) → AreConflicts both_to_x meeting cs → cs ≡ conflict ∷ []
 one_at_x law cs are = law.conflicts cs (conflict ∷ []) are conflicts_at_x
 
--- just one of three mappings goes, with one fix
+-- exactly one of three mappings is removed, with one fix
 abbrev of_one_tag : List Mapped
 of_one_tag = tag_to_x ∷ tag_to_foo ∷ tag_alone ∷ []
 

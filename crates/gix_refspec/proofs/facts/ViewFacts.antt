@@ -156,13 +156,13 @@ refusal_shown = ((Empty, refl, empty_push.0), (PushToEmpty, refl, refl), λ show
     other : Empty ≢ PushToEmpty
     other same = cc
 
--- want of memory is no refusal of the grammar, whatever is asked of one, nor is a kept variant
+-- out of memory is no refusal of the grammar, whatever is asked of one, nor is a kept variant
 pub nothing_shown : ¬ (ShowsRefusal (λ f. Unit {0}) error.Memory) × ¬ (ShowsRefusal (λ f. Unit {0}) error.NegativePartialName)
 nothing_shown = ((λ shows. shows.1), λ shows. shows.1)
 
 -- ---- texts and prefixes that are added
 
--- a canonical text comes behind what was written
+-- a canonical text follows what was written
 pub text_behind : WritesPrinted (fetched Forced (codes "a") (Some (codes "b"))) (Some (codes "old ")) (Some (codes "old +a:b"))
 text_behind = record { text = codes "+a:b"; is = refl; grown = refl }
 
@@ -170,7 +170,7 @@ text_behind = record { text = codes "+a:b"; is = refl; grown = refl }
 pub no_text : ¬ (WritesPrinted (fetched Forced (codes "a") (Some (codes "b"))) (Some (codes "old ")) (Some (codes "+a:b"))) × ((old new : Option (List ℕ)) → ¬ (WritesPrinted (fetched Negative (codes "a") (Some (codes "b"))) old new))
 no_text = ((λ writes. other_byte 0 (codes "+a:b") (codes "old " ++ writes.text) (λ same. omega (arith, same)) writes.grown), λ old new writes. none_some writes.text writes.is)
 
--- what a reading expands to comes behind the entries that were there, and they stay
+-- what a reading expands to follows the entries that were there, which are kept
 pub entries_behind : AppendsExpansion (fetched Normal (codes "HEAD") None) (codes "old" ∷ []) (codes "old" ∷ codes "HEAD" ∷ []) × ¬ (AppendsExpansion (fetched Normal (codes "HEAD") None) (codes "old" ∷ []) (codes "HEAD" ∷ []))
 entries_behind = (
   record { list = codes "HEAD" ∷ []; is = inl (codes "HEAD", record { positive = tt; side = refl }, to_prefix (codes "HEAD") whole_prefixes.0 refl); appended = refl },
@@ -189,7 +189,7 @@ none_behind = (
 
 -- ---- ids
 
--- an id with the 20 bytes of the empty blob, and more behind them in its buffer
+-- an id with the 20 bytes of the empty blob, and more after them in its buffer
 abbrev pub blob_id : ObjectId
 blob_id = record { kind = Sha1; buffer = empty_blob ++ replicate 12 7 }
 

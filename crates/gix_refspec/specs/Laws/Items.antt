@@ -1,5 +1,5 @@
 -- Laws of matching some of the items in place of all: which ones a caller may leave out.
--- They follow from the words of Hits and MatchLaws, and settle nothing.
+-- They follow from the words of Hits and Laws/Matching, and settle nothing.
 use Rattle.std.specs.Prelude.{◌≡◌, ◌⊎◌, ◌↔◌, ℕ, Bool, IsTrue, nat_eq, List, map, Option, Some}
 use Rattle.std.specs.List.{AllByRecursion, Any, Contains, filter, list_any, starts_with}
 use Rattle.bstr.specs.BStr.{bstr_bytes}
@@ -33,7 +33,7 @@ HasTaken HasEnds Taken g A B = (item : Ref) → Contains A item → Any (TakesIt
 abbrev pub HaveSamePairs : List Mapped → List Mapped → Type 0
 HaveSamePairs l m = (pair : Mapped) → HasPair l pair ↔ HasPair m pair
 
--- where B is a part of A and has each item of A that some reading takes, the same pairs stay over B as over A. What a
+-- where B is a part of A and has each item of A that some reading takes, the same pairs are kept over B as over A. What a
 -- reading takes is what it takes among A: so the first candidate of a partial source isn't left out
 pub record FewerItems (g : List Reading) (A B : List Ref) : Type 0 where
   pub forward : ArePart A B → HasTaken AreForwardEnds (Takes A) g A B → (kept fewer : List Mapped) → AreKeptForward g A kept → AreKeptForward g B fewer → HaveSamePairs kept fewer
@@ -58,7 +58,7 @@ pub record AreListedItems (g : List Reading) (A B : List Ref) : Type 0 where
   pub listed : (item : Ref) → Contains A item → BeginsWithOne entries item.name → Contains B item
 
 -- of such items, no pair is lost that a listed reading makes, whatever the other readings are; and where each reading
--- is listed, the same pairs stay
+-- is listed, the same pairs are kept
 pub record ListedItems (g : List Reading) (A B : List Ref) : Type 0 where
   pub some : AreListedItems g A B → (kept fewer : List Mapped) → AreKeptForward g A kept → AreKeptForward g B fewer → (pair : Mapped)
       → HasPair kept pair → Any (λ r. IsListed A r × MakesForward A pair.source pair.destination r) g → HasPair fewer pair
@@ -93,7 +93,7 @@ pub record AreAskedFor (list : List (List ℕ)) (A B : List Ref) : Type 0 where
   pub part : ArePart A B
   pub asked : (item : Ref) → Contains A item → BeginsWithOne list item.name → Contains B item
 
--- where the list is what there is to ask for for a group of fetches, over such items the same pairs stay, also those of
+-- where the list is what there is to ask for for a group of fetches, over such items the same pairs are kept, also those of
 -- `HEAD`
 abbrev pub AskedItems : List Reading → List Ref → List Ref → Type 0
 AskedItems g A B = (list : List (List ℕ)) → ListsGroup g list → AreFetches g → AreAskedFor list A B → (kept fewer : List Mapped) → AreKeptForward g A kept → AreKeptForward g B fewer → HaveSamePairs kept fewer

@@ -1,4 +1,4 @@
--- Laws of matching: both directions agree, exactly where a pair stays, groups that map alike, and what covers the
+-- Laws of matching: both directions agree, exactly where a pair is kept, groups that map alike, and what covers the
 -- sources of a group.
 -- They follow from the words of Mappings and Hits, and settle nothing.
 use Rattle.std.specs.Prelude.{◌≡◌, ◌≢◌, ◌⊎◌, ◌↔◌, ℕ, List, ◌∷◌, ◌++◌, codes, Option, None, Some}
@@ -35,15 +35,15 @@ IsDestinationAmong refs (Some n) = HasName refs n
 abbrev pub GoesBothWays : Reading → Type 0
 GoesBothWays r = IsPositive r.mode → (s d : List ℕ) → r.source ≡ Some s → r.destination ≡ Some d → (HasStar s × HasStar d) ⊎ (BeginsWith (codes "refs/") s × BeginsWith (codes "refs/") d)
 
--- where each reading goes both ways: a pair stays from left to right over the refs A, with its destination
--- among the refs B, exactly where it stays from right to left over B, with its source among A. So both
+-- where each reading goes both ways: a pair is kept from left to right over the refs A, with its destination
+-- among the refs B, exactly where it is kept from right to left over B, with its source among A. So both
 -- directions exclude the same. Of `pair` only the source and the destination count
 abbrev pub Transpose : List Reading → List Ref → List Ref → Type 0
 Transpose g A B =
     AllByRecursion GoesBothWays g → (l m : List Mapped) → AreKeptForward g A l → AreKeptBackward g B m → (pair : Mapped)
     → (HasPair l pair × IsDestinationAmong B pair.destination) ↔ (HasPair m pair × IsSourceAmong A pair.source)
 
--- ---- exactly where a pair stays
+-- ---- exactly where a pair is kept
 
 -- a side takes the ref r, whose name is n, and the other side becomes far
 pub record IsPaired (Taken : List ℕ → Ref → Option (List ℕ) → Type 0) (ends : Ends) (n : List ℕ) (far : Option (List ℕ)) (r : Ref) : Type 0 where
@@ -77,14 +77,14 @@ MakesBackward items (name n) (Some d) r = PairsItem AreBackwardEnds Matches item
 MakesBackward items (name n) None r = ⊥
 MakesBackward items (id bytes) far r = ⊥
 
--- a pair stays exactly where some reading makes it, and none excludes its source
+-- a pair is kept exactly where some reading makes it, and none excludes its source
 pub record KeptExactly (g : List Reading) (items : List Ref) : Type 0 where
   pub forward : (kept : List Mapped) → AreKeptForward g items kept → (pair : Mapped)
       → HasPair kept pair ↔ (Any (MakesForward items pair.source pair.destination) g × ¬ (IsStartExcluded g pair.source))
   pub backward : (kept : List Mapped) → AreKeptBackward g items kept → (pair : Mapped)
       → HasPair kept pair ↔ (Any (MakesBackward items pair.source pair.destination) g × ¬ (IsStartExcluded g pair.source))
 
--- the mapping stands in the list, none before it has its pair, and no reading excludes its source
+-- the mapping is in the list, none before it has its pair, and no reading excludes its source
 pub record IsFirstOfPair (g : List Reading) (l : List Mapped) (m : Mapped) : Type 0 where
   pub before : List Mapped
   pub after : List Mapped
@@ -92,12 +92,12 @@ pub record IsFirstOfPair (g : List Reading) (l : List Mapped) (m : Mapped) : Typ
   pub first : ¬ (HasPair before m)
   pub included : ¬ (IsStartExcluded g m.source)
 
--- of the mappings with one pair just the first stays, as it is, where no reading excludes its source
+-- of the mappings with one pair only the first is kept, as it is, where no reading excludes its source
 pub record FirstStays (g : List Reading) (items : List Ref) : Type 0 where
   pub forward : (all kept : List Mapped) → AreForward g items all → AreKeptForward g items kept → (m : Mapped) → Contains kept m ↔ IsFirstOfPair g all m
   pub backward : (all kept : List Mapped) → AreBackward g items all → AreKeptBackward g items kept → (m : Mapped) → Contains kept m ↔ IsFirstOfPair g all m
 
--- no mapping that stays, in either direction, has a source that some reading excludes; and none excludes an id
+-- no mapping that is kept, in either direction, has a source that some reading excludes; and none excludes an id
 pub record NothingExcluded (g : List Reading) (items : List Ref) : Type 0 where
   pub names : (list : List Mapped) → AreKeptForward g items list ⊎ AreKeptBackward g items list → AllByRecursion (λ m. ¬ (IsStartExcluded g m.source)) list
   pub ids : (bytes : List ℕ) → ¬ (IsStartExcluded g (id bytes))
@@ -116,7 +116,7 @@ pub record ReadsAgainAs (r q : Reading) : Type 0 where
 abbrev pub AreReadAgain : List Reading → List Reading → Type 0
 AreReadAgain g h = AllZip ReadsAgainAs g h
 
--- over the items the same mappings stay of both groups, from left to right and from right to left
+-- over the items the same mappings are kept of both groups, from left to right and from right to left
 pub record MapAlike (g h : List Reading) (items : List Ref) : Type 0 where
   pub forward : (kept : List Mapped) → AreKeptForward g items kept ↔ AreKeptForward h items kept
   pub backward : (kept : List Mapped) → AreKeptBackward g items kept ↔ AreKeptBackward h items kept
@@ -163,7 +163,7 @@ pub record IsCoveredBy (n : List ℕ) (r : Reading) : Type 0 where
   pub expansion : IsExpansion r entries
   pub one : BeginsWithOne entries n
 
--- the entries are what the readings expand to, one behind the other
+-- the entries are what the readings expand to, one after the other
 abbrev pub AreExpansions : List Reading → List (List ℕ) → Type 0
 AreExpansions g entries = IsJoinedFrom (λ k r list. IsExpansion r list) 0 g entries
 
@@ -172,11 +172,11 @@ AreExpansions g entries = IsJoinedFrom (λ k r list. IsExpansion r list) 0 g ent
 abbrev pub AsksFor : Reading → List ℕ → Type 0
 AsksFor r n = HasCoveringSource r ⊎ ((r.operation ≡ Fetch) × IsAsked r head × (n ≡ head))
 
--- the spec of the mapping stands at its place in the group, and its reading is as P says
+-- the spec of the mapping is at its place in the group, and its reading is as P says
 abbrev pub AtSpec : List Reading → Mapped → (Reading → Type 0) → Type 0
 AtSpec g m P = (r : Reading) × (slice_get g m.spec ≡ Some r) × P r
 
--- of the mappings from left to right that stay, each name that is a source, with the reading of its spec, is as P says
+-- of the mappings from left to right that are kept, each name that is a source, with the reading of its spec, is as P says
 abbrev pub EachSource : List Reading → List Ref → (Reading → List ℕ → Type 0) → Type 0
 EachSource g items P = (kept : List Mapped) → AreKeptForward g items kept → AllByRecursion (λ m. (n : List ℕ) → m.source ≡ name n → AtSpec g m (λ r. P r n)) kept
 

@@ -1,4 +1,4 @@
--- Laws of single mappings: what the spec and the item at their places make, and which of them remain after a check.
+-- Laws of single mappings: what the spec and the item at their places make, and which of them are left after a check.
 -- They follow from the words of Hits, Validation and RefNames, and settle nothing.
 use Rattle.std.specs.Prelude.{◌≡◌, ◌↔◌, ℕ, List, Option, None, Some}
 use Rattle.std.specs.List.{AllByRecursion, Contains, slice_get}
@@ -32,12 +32,12 @@ MakesBackwardOf items item (name n) (Some d) r = TakesAt AreBackwardEnds Matches
 MakesBackwardOf items item (name n) None r = ⊥
 MakesBackwardOf items item (id bytes) far r = ⊥
 
--- each mapping that stays is what the spec at its place makes of the item at its place
+-- each mapping that is kept is what the spec at its place makes of the item at its place
 pub record MadeAtPlaces (g : List Reading) (items : List Ref) : Type 0 where
   pub forward : (kept : List Mapped) → AreKeptForward g items kept → AllByRecursion (λ m. AtSpec g m (MakesForwardOf items m.item m.source m.destination)) kept
   pub backward : (kept : List Mapped) → AreKeptBackward g items kept → AllByRecursion (λ m. AtSpec g m (MakesBackwardOf items m.item m.source m.destination)) kept
 
--- a mapping of the list remains after a validation exactly where it survives, and after a check of names exactly where
+-- a mapping of the list is left after a validation exactly where it survives, and after a check of names exactly where
 -- its sides are names of refs
 pub record RemainsExactly (g : List Reading) (l : List Mapped) : Type 0 where
   pub validated : (rest : List Mapped) (fixes : List Removed) → IsValidated g l rest fixes → (m : Mapped) → Contains rest m ↔ (Contains l m × Survives m)

@@ -92,7 +92,7 @@ pub record OneLowerText (i : List ℕ) : Type 0 where
 abbrev pub NothingAgainst : List ℕ → Type 0
 NothingAgainst x = IsPattern x → (e : PatternError) → IsPatternFault e x → (e ≡ Memory) × (256 < length x)
 
--- a name has one word at the most between two texts
+-- a name has one word at most between two texts
 abbrev pub OneWord : List ℕ → List ℕ → List ℕ → Type 0
 OneWord before after n = (v w : List ℕ) → Fits before after n v → Fits before after n w → v ≡ w
 
@@ -100,12 +100,12 @@ OneWord before after n = (v w : List ℕ) → Fits before after n v → Fits bef
 abbrev pub PrefixBegins : List ℕ → Type 0
 PrefixBegins x = (p : List ℕ) (r : Ref) (word : Option (List ℕ)) → IsPrefix x p → x ≢ head → Matches x r word → BeginsWith p r.name
 
--- a side has one prefix at the most, and is expanded to one list at the most
+-- a side has one prefix at most, and is expanded to one list at most
 pub record OnePrefix (x : List ℕ) : Type 0 where
   pub prefix : (p q : List ℕ) → IsPrefix x p → IsPrefix x q → p ≡ q
   pub expanded : (list other : List (List ℕ)) → Expands x list → Expands x other → list ≡ other
 
--- a side is expanded to its six candidates, and to nothing else, and matches just the refs with one of
+-- a side is expanded to its six candidates, and to nothing else, and matches exactly the refs with one of
 -- these names. As a source it takes the one ref of a list exactly where that has one of them
 pub record HasCandidates (x : List ℕ) : Type 0 where
   pub expands : Expands x (candidates x)
@@ -117,7 +117,7 @@ pub record HasCandidates (x : List ℕ) : Type 0 where
 abbrev pub Candidates : List ℕ → Type 0
 Candidates x = Lacks star x → x ≢ head → ¬ (BeginsWith (codes "refs/") x) → ¬ (IsId x) → HasCandidates x
 
--- among the refs, a source takes just those whose name is the first of its candidates that is there. It is one
+-- among the refs, a source takes exactly those whose name is the first of its candidates that is there. It is one
 -- name, and there is one where some candidate is
 pub record TakesFirst (x : List ℕ) (refs : List Ref) : Type 0 where
   pub takes : (r : Ref) → ((word : Option (List ℕ)) × Takes refs x r word) ↔ IsFirstCandidate refs x r.name
@@ -128,7 +128,7 @@ pub record TakesFirst (x : List ℕ) (refs : List Ref) : Type 0 where
 abbrev pub FirstCandidate : List ℕ → List Ref → Type 0
 FirstCandidate x refs = Lacks star x → ¬ (BeginsWith (codes "refs/") x) → ¬ (IsId x) → TakesFirst x refs
 
--- of a type by which values clones are, and from which values they always come: they come from each value, and
--- are that value
+-- of a type, where one relation says what a clone of a value is, and the other that there always is one: each value has
+-- a clone, and it is that value
 abbrev pub ClonesExactly : {T : Type 0} → (T → T → Type 0) → (T → Type 0) → Type 0
 ClonesExactly {T} is_clone is_infallible = (x : T) → is_infallible x × ((y : T) → is_clone x y → y ≡ x)

@@ -14,11 +14,11 @@ pub record SidesAgree (r : Reading) : Type 0 where
   pub each : (x : List ℕ) → (r.source ≡ Some x) ⊎ (r.destination ≡ Some x) → HasOneStar x ⊎ Lacks star x
   pub both : (s d : List ℕ) → r.source ≡ Some s → r.destination ≡ Some d → (HasOneStar s × HasOneStar d) ⊎ (Lacks star s × Lacks star d)
 
--- a side has one kind at the most
+-- a side has one kind at most
 abbrev pub OneKind : List ℕ → Type 0
 OneKind x = (k l : SideKind) → HasKind x k → HasKind x l → k ≡ l
 
--- a text is that of one id at the most
+-- a text is that of one id at most
 abbrev pub OneId : List ℕ → Type 0
 OneId t = (i j : List ℕ) → IsIdText t i → IsIdText t j → i ≡ j
 

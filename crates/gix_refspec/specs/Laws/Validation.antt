@@ -13,7 +13,7 @@ pub record ValidateAlike (g : List Reading) (l : List Mapped) (h : List Reading)
   pub survivors : (rest other : List Mapped) → AreSurvivors l rest → AreSurvivors m other → rest ≡ other
   pub fixes : (fixes other : List Removed) → AreFixes g l fixes → AreFixes h m other → fixes ≡ other
 
--- mappings have one list of conflicts at the most, one of survivors and one of fixes
+-- mappings have one list of conflicts at most, one of survivors and one of fixes
 abbrev pub OneValidation : List Reading → List Mapped → Type 0
 OneValidation g l = ValidateAlike g l g l
 

@@ -1,6 +1,6 @@
--- What a client asks a server for, by gitprotocol-v2(5) under `ls-refs`, so that it is told of each ref that a group of
+-- What a client asks a server for, by gitprotocol-v2(5) under `ls-refs`, so that it learns of each ref that a group of
 -- fetches maps. Other than an expansion, `HEAD` is asked for by its six candidates, and a side that no list serves has
--- none: a pattern whose star stands outside `refs/` or directly behind it, or behind a `]`.
+-- none: a pattern whose star is outside `refs/` or directly after it, or after a `]`.
 use Rattle.std.specs.Prelude.{◌≡◌, ◌⊎◌, ℕ, List, [], ◌∷◌}
 use Rattle.std.specs.List.{AllByRecursion, Any}
 use Rattle.gix_refspec.specs.declared.parsing.Operation.TheVariants.{Fetch}
@@ -13,8 +13,8 @@ use Rattle.gix_refspec.specs.Matching.Lists.{IsJoinedFrom}
 use Rattle.gix_refspec.specs.Matching.Mappings.{name, Mapped}
 use Rattle.gix_refspec.specs.Matching.Hits.{AreKeptForward}
 
--- the list for a side of the kind: what stands before the star of a pattern, where that is a prefix whatever follows; a full
--- name; no name for an id; the names that a partial one may stand for
+-- the list for a side of the kind: the text before the star of a pattern, if that is a prefix whatever follows; a full
+-- name; no name for an id; the candidates of a partial name
 abbrev pub ListsAs : SideKind → List (List ℕ) → Type 0
 ListsAs (pattern before after) list = TellsPrefix before [] × (list ≡ before ∷ [])
 ListsAs (full_name n) list = list ≡ n ∷ []
@@ -27,11 +27,11 @@ pub record ListsSide (x : List ℕ) (list : List (List ℕ)) : Type 0 where
   pub of : HasKind x kind
   pub is : ListsAs kind list
 
--- the list for a reading: nothing for a negative one, else what there is for its side on the remote
+-- the list for a reading: nothing for a negative one, otherwise what there is for its side on the remote
 abbrev pub Lists : Reading → List (List ℕ) → Type 0
 Lists r list = ((r.mode ≡ Negative) × (list ≡ [])) ⊎ ((x : List ℕ) × IsAsked r x × ListsSide x list)
 
--- the lists for all readings of the group, one behind the other
+-- the lists for all readings of the group, one after the other
 abbrev pub ListsGroup : List Reading → List (List ℕ) → Type 0
 ListsGroup g list = IsJoinedFrom (λ k r names. Lists r names) 0 g list
 

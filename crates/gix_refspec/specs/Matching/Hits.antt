@@ -65,7 +65,7 @@ AreHits HasEnds Taken g items hits = IsJoinedFrom (AreSpecHits HasEnds Taken ite
 abbrev pub forward_of : Hit → Mapped
 forward_of hit = record { item = Some hit.item; source = name hit.near; destination = hit.far; spec = hit.spec }
 
--- from right to left an item's name is the destination, and the far side is there
+-- from right to left an item's name is the destination, and there is a far side
 abbrev pub backward_of : Hit → Mapped
 backward_of hit = record { item = Some hit.item; source = name (unwrap_or hit.far []); destination = Some hit.near; spec = hit.spec }
 
@@ -96,19 +96,19 @@ pub record AreBackward (g : List Reading) (items : List Ref) (list : List Mapped
   pub are_hits : AreHits AreBackwardEnds Matches g items hits
   pub all : list ≡ map backward_of hits
 
--- those of the mappings from left to right that stay
+-- those of the mappings from left to right that are kept
 pub record AreKeptForward (g : List Reading) (items : List Ref) (kept : List Mapped) : Type 0 where
   pub all : List Mapped
   pub forward : AreForward g items all
   pub is : IsKept g all kept
 
--- those of the mappings from right to left that stay
+-- those of the mappings from right to left that are kept
 pub record AreKeptBackward (g : List Reading) (items : List Ref) (kept : List Mapped) : Type 0 where
   pub all : List Mapped
   pub backward : AreBackward g items all
   pub is : IsKept g all kept
 
--- a group and items have one list of mappings from left to right that stay, at the most
+-- a group and items have one list of mappings from left to right that are kept, at most
 abbrev pub OneForward : List Reading → List Ref → Type 0
 OneForward g items = (l m : List Mapped) → AreKeptForward g items l → AreKeptForward g items m → l ≡ m
 
@@ -116,6 +116,6 @@ OneForward g items = (l m : List Mapped) → AreKeptForward g items l → AreKep
 abbrev pub OneBackward : List Reading → List Ref → Type 0
 OneBackward g items = (l m : List Mapped) → AreKeptBackward g items l → AreKeptBackward g items m → l ≡ m
 
--- no two of the mappings that stay have the same pair, in either direction
+-- no two of the mappings that are kept have the same pair, in either direction
 abbrev pub KeptOnce : List Reading → List Ref → Type 0
 KeptOnce g items = (list : List Mapped) → AreKeptForward g items list ⊎ AreKeptBackward g items list → AreApart list

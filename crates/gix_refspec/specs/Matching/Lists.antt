@@ -1,4 +1,4 @@
--- Lists that a relation makes of lists, element by element and in order. The relation is told each
+-- Lists that a relation makes of lists, element by element and in order. The relation gets each
 -- element's place.
 use Rattle.std.specs.Prelude.{◌≡◌, ℕ, ◌+◌, List, [], ◌∷◌, ◌++◌, Option, MatchOption, option_to_list}
 

@@ -1,6 +1,6 @@
 -- Mappings between the refs of two repositories, and which of them are kept, by git-fetch(1) and
--- git-push(1) under `<refspec>`. That a mapping which stands twice is kept
--- once, and that a push excludes as a fetch does, are this project's own rules.
+-- git-push(1) under `<refspec>`. That of equal mappings the first is kept, and that a push excludes as a
+-- fetch does, are this project's own rules.
 use Rattle.std.specs.Prelude.{◌≡◌, ◌⊎◌, ℕ, List, [], ◌∷◌, Option, Some, take}
 use Rattle.std.specs.List.{AllByRecursion}
 use Rattle.gix_refspec.specs.Specs.Reading.{Reading, Negative}
@@ -52,12 +52,12 @@ abbrev pub AreApart : List Mapped → Type 0
 AreApart [] = Unit {0}
 AreApart (m ∷ l) = AllByRecursion (λ x. ¬ (IsSamePair m x)) l × AreApart l
 
--- m, which stands in the list at place k, stays: no earlier mapping has its pair, and its source isn't
+-- m, which is in the list at place k, is kept: no earlier mapping has its pair, and its source isn't
 -- excluded
 pub record IsKeptAt (g : List Reading) (l : List Mapped) (k : ℕ) (m : Mapped) : Type 0 where
   pub first : ¬ (HasPair (take k l) m)
   pub included : ¬ (IsStartExcluded g m.source)
 
--- kept has the mappings of the list that stay, in order
+-- kept has the mappings of the list that are kept, in order
 abbrev pub IsKept : List Reading → List Mapped → List Mapped → Type 0
 IsKept g l kept = IsMadeFrom (λ k m made. (made ≡ m) × IsKeptAt g l k m) 0 l kept

@@ -30,7 +30,7 @@ abbrev pub HasName : List Ref → List ℕ → Type 0
 HasName [] n = ⊥
 HasName (r ∷ rs) n = (r.name ≡ n) ⊎ HasName rs n
 
--- of the names that x may stand for, n is the first that one of the refs has: `refs/tags/main` of `main`, where
+-- of the candidates of x, n is the first that one of the refs has: `refs/tags/main` of `main`, where
 -- there are `refs/heads/main` and `refs/tags/main`
 pub record IsFirstCandidate (refs : List Ref) (x n : List ℕ) : Type 0 where
   pub earlier : List (List ℕ)

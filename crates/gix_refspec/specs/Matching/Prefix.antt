@@ -1,6 +1,6 @@
 -- What a client asks a server to advertise for a refspec: prefixes of names, by gitprotocol-v2(5) under
 -- `ls-refs`, and for a partial name those of gitrevisions(7). This project's own rule where a
--- side has a star outside `refs/`, a star directly behind `refs/`, or a star and a `]`.
+-- side has a star outside `refs/`, a star directly after `refs/`, or a star and a `]`.
 use Rattle.std.specs.Prelude.{◌≡◌, ◌≢◌, ◌⊎◌, ℕ, List, [], ◌∷◌, ◌++◌, Some, codes}
 use Rattle.gix_refspec.specs.Texts.Words.{Lacks, Holds, BeginsWith}
 use Rattle.gix_refspec.specs.Texts.Name.{IsCut}
@@ -9,7 +9,7 @@ use Rattle.gix_refspec.specs.Specs.Grammar.{IsPositive}
 use Rattle.gix_refspec.specs.Matching.Side.{IsId, candidates}
 use Rattle.gix_refspec.specs.Specs.Reading.{Reading, remote_of}
 
--- a pattern with these two ends tells a prefix: the first goes on below `refs/`, and no `]` stands in them
+-- a pattern with these two ends tells a prefix: the first goes on after `refs/`, and neither has a `]`
 pub record TellsPrefix (before after : List ℕ) : Type 0 where
   pub below : BeginsWith (codes "refs/") before
   pub further : before ≢ codes "refs/"
@@ -22,7 +22,7 @@ pub data IsPrefix (x p : List ℕ) : Type 0 where
   of_head : x ≡ head → p ≡ x → IsPrefix x p
   -- so does what begins `refs/` and has no star
   of_name : BeginsWith (codes "refs/") x → Lacks star x → p ≡ x → IsPrefix x p
-  -- a pattern below `refs/` has what stands before its star
+  -- a pattern below `refs/` has the text before its star
   of_pattern : (before after : List ℕ) → IsCut before after x → TellsPrefix before after → p ≡ before → IsPrefix x p
 
 -- the side has no prefix
@@ -35,11 +35,11 @@ pub data Expands (x : List ℕ) (list : List (List ℕ)) : Type 0 where
   to_prefix : (p : List ℕ) → IsPrefix x p → list ≡ p ∷ [] → Expands x list
   -- without one, itself where nothing but one name follows `refs/`
   to_itself : (rest : List ℕ) → HasNoPrefix x → x ≡ codes "refs/" ++ rest → Lacks slash rest → list ≡ x ∷ [] → Expands x list
-  -- else nothing below `refs/`
+  -- otherwise nothing below `refs/`
   below_refs : (rest : List ℕ) → HasNoPrefix x → x ≡ codes "refs/" ++ rest → Holds (codes "/") rest → list ≡ [] → Expands x list
   -- nothing for the id of an object
   of_object : HasNoPrefix x → ¬ (BeginsWith (codes "refs/") x) → IsId x → list ≡ [] → Expands x list
-  -- else the names that it may stand for, in which a star stands as it is
+  -- otherwise its candidates, with the star in them if it has one
   to_candidates : HasNoPrefix x → ¬ (BeginsWith (codes "refs/") x) → ¬ (IsId x) → list ≡ candidates x → Expands x list
 
 -- the side of a positive reading that names refs of the remote

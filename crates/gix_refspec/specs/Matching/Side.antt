@@ -8,7 +8,7 @@ use Rattle.gix_refspec.specs.Texts.Name.{IsCut}
 use Rattle.gix_refspec.specs.Texts.Bytes.{star}
 use Rattle.gix_refspec.specs.Texts.ObjectId.{IsIdText, lower_of}
 
--- the kind of a side, with its text: a pattern by what stands before and behind its star, the full name
+-- the kind of a side, with its text: a pattern by the texts before and after its star, the full name
 -- of a ref, the id of an object by its bytes, or a partial name
 pub data SideKind : Type 0 where
   pattern : List ℕ → List ℕ → SideKind
@@ -27,7 +27,7 @@ HasKind x (full_name n) = (n ≡ x) × Lacks star x × BeginsWith (codes "refs/"
 HasKind x (object id) = Lacks star x × ¬ (BeginsWith (codes "refs/") x) × IsIdText x id
 HasKind x (partial n) = (n ≡ x) × Lacks star x × ¬ (BeginsWith (codes "refs/") x) × ¬ (IsId x)
 
--- the names that a partial one may stand for, in the order in which gitrevisions(7) tries them
+-- the candidates of a partial name: the names that it may stand for, in the order in which gitrevisions(7) tries them
 abbrev pub candidates : List ℕ → List (List ℕ)
 candidates x =
     x
@@ -38,7 +38,7 @@ candidates x =
     ∷ (codes "refs/remotes/" ++ (x ++ codes "/HEAD"))
     ∷ []
 
--- n is one of the names that x may stand for, behind these and before those
+-- n is a candidate of x, after these and before those
 pub record IsCandidate (x n : List ℕ) : Type 0 where
   pub earlier : List (List ℕ)
   pub later : List (List ℕ)
@@ -56,7 +56,7 @@ pub data Excludes (x n : List ℕ) : Type 0 where
   by_pattern : (before after word : List ℕ) → IsCut before after x → Fits before after n word → Excludes x n
 
 -- the full name that a partial one becomes: with `refs/` before it where it begins `tags/` or `remotes/`,
--- else with `refs/heads/`
+-- otherwise with `refs/heads/`
 abbrev pub full_name_of : List ℕ → List ℕ
 full_name_of x =
     if starts_with nat_eq x (codes "tags/") || starts_with nat_eq x (codes "remotes/")

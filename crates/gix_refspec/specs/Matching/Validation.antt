@@ -1,4 +1,4 @@
--- Which mappings can't be written as they stand: those of several sources to one destination, and those to
+-- Which mappings can't be written: those of several sources to one destination, and those to
 -- a destination that is no full name. Git refuses the first as well, and git-fetch(1) under `<refspec>` has
 -- no word on either. In which order conflicts and their sources are listed, that a destination outside
 -- `refs/` is left out, and that `HEAD` is not, are this project's own rules.
@@ -30,7 +30,7 @@ pub record HasConflictAt (l : List Mapped) (d : List ℕ) : Type 0 where
   pub other_to : other.destination ≡ Some d
   pub differ : one.source ≢ other.source
 
--- m, which stands in the list at place k, has the destination d, and no earlier mapping to d has its source
+-- m, which is in the list at place k, has the destination d, and no earlier mapping to d has its source
 pub record IsFirstTo (d : List ℕ) (l : List Mapped) (k : ℕ) (m : Mapped) : Type 0 where
   pub goes : m.destination ≡ Some d
   pub first : ¬ (HasPair (take k l) m)
@@ -85,7 +85,7 @@ pub record IsFix (g : List Reading) (m : Mapped) (fix : Removed) : Type 0 where
 abbrev pub AreFixes : List Reading → List Mapped → List Removed → Type 0
 AreFixes g l fixes = IsMadeFrom (λ k m fix. IsFix g m fix) 0 l fixes
 
--- no destination is contested, rest survives, and there is a fix for each other mapping
+-- no destination is in conflict, rest survives, and there is a fix for each other mapping
 pub record IsValidated (g : List Reading) (l rest : List Mapped) (fixes : List Removed) : Type 0 where
   pub free : AreConflicts g l []
   pub survive : AreSurvivors l rest
@@ -129,7 +129,7 @@ pub record BackwardPlaces (g : List Reading) (items : List Ref) (m : Mapped) : T
   pub stands : slice_get items place ≡ Some ref
   pub named : m.destination ≡ Some ref.name
 
--- so it is with each mapping that stays, and with each that remains after a validation
+-- so it is with each mapping that is kept, and with each that survives a validation
 pub record PlacesFit (g : List Reading) (items : List Ref) : Type 0 where
   pub forward : (l : List Mapped) → AreKeptForward g items l → AllByRecursion (ForwardPlaces g items) l
   pub backward : (l : List Mapped) → AreKeptBackward g items l → AllByRecursion (BackwardPlaces g items) l

@@ -28,14 +28,14 @@ pub record IsEqualAt (g : List Reading) (before place : ℕ) : Type 0 where
 abbrev pub FlagsEqual : List Reading → List Bool → Type 0
 FlagsEqual g flags = (place : ℕ) → IsFlagged flags place → (before : ℕ) × IsEqualAt g before place
 
--- some of the mappings, which stand behind others: each one that is left out has the pair of one before it
+-- some of the mappings, which are after others: each one that is left out has the pair of one before it
 abbrev pub Thins : List Mapped → List Mapped → List Mapped → Type 0
 Thins before [] some = some ≡ []
 Thins before (m ∷ l) some =
     ((rest : List Mapped) × (some ≡ m ∷ rest) × Thins (before ++ m ∷ []) l rest)
     ⊎ (HasPair before m × Thins (before ++ m ∷ []) l some)
 
--- behind the old mappings stand those that hits make but for some that repeat an earlier one of the hits, and the
+-- the new mappings are the old ones and those that hits make, but for some that repeat an earlier one of the hits; the
 -- hits are as P says
 pub record AddsMost (direction : Direction) (P : List Hit → Type 0) (old new : Made) : Type 0 where
   pub hits : List Hit

@@ -33,7 +33,7 @@ PatternFits (full_name x) r = ⊥
 PatternFits (object id) r = ⊥
 PatternFits (partial x) r = ⊥
 
--- in a candidate these bytes may stand before the partial name, and nothing behind it
+-- the bytes are tried before a partial name, with nothing after it
 abbrev pub IsFolder : List ℕ → Type 0
 IsFolder x = (x ≡ []) ⊎ (x ≡ codes "refs/") ⊎ (x ≡ codes "refs/tags/") ⊎ (x ≡ codes "refs/heads/") ⊎ (x ≡ codes "refs/remotes/")
 
@@ -112,7 +112,7 @@ abbrev pub mapped_of_made : Direction → Made → List Mapped
 mapped_of_made Forward made = map mapped_of made.forward.items
 mapped_of_made Backward made = map mapped_of made.backward.items
 
--- behind the old mappings stand those that hits make, and the hits are as P says
+-- the new mappings are the old ones and those that hits make; the hits are as P says
 pub record AddsHits (direction : Direction) (P : List Hit → Type 0) (old new : Made) : Type 0 where
   pub hits : List Hit
   pub are : P hits
@@ -128,7 +128,7 @@ abbrev pub AreMade : Direction → List Reading → List Ref → List Mapped →
 AreMade Forward g items list = AreForward g items list
 AreMade Backward g items list = AreBackward g items list
 
--- those of them that stay
+-- those of them that are kept
 abbrev pub AreKept : Direction → List Reading → List Ref → List Mapped → Type 0
 AreKept Forward g items kept = AreKeptForward g items kept
 AreKept Backward g items kept = AreKeptBackward g items kept

@@ -65,7 +65,7 @@ ArePlacesOf n refs places = IsMadeFrom (λ k r place. MatchesAs (full_name n) r 
 abbrev pub list_of : {X S : Type 0} → HashMap (Bor (List ℕ)) X S → List ℕ → Option X
 list_of m n = hash.get_by (λ k. bytes_eq n k.now) m
 
--- just these names are listed, each with its places
+-- exactly these names are listed, each with its places
 pub record HavePlaces (names : List (List ℕ)) (refs : List Ref) (listed : List ℕ → Option (Vec ℕ)) : Type 0 where
   pub each : (n : List ℕ) → Contains names n → (v : Vec ℕ) × (listed n ≡ Some v) × ArePlacesOf n refs v.items
   pub others : (n : List ℕ) → ¬ (Contains names n) → listed n ≡ None
@@ -135,7 +135,7 @@ abbrev pub name_at : List Ref → ℕ → List ℕ
 name_at refs place = unwrap_or (option_map (λ r. r.name) (slice_get refs place)) []
 
 -- the new places are those of the first candidate of a partial name, where the old ones were, and one more
--- candidate stands at the place: of two candidates the shorter comes first
+-- candidate is at the place: of two candidates the shorter is first
 abbrev pub JoinsFirst : List Ref → ℕ → List ℕ → List ℕ → Type 0
 JoinsFirst refs place [] new = new ≡ place ∷ []
 JoinsFirst refs place (first ∷ others) new =
@@ -144,7 +144,7 @@ JoinsFirst refs place (first ∷ others) new =
     ⊎ ((length (name_at refs place) ≡ length (name_at refs first)) × (new ≡ (first ∷ others) ++ place ∷ []))
 
 -- the new places are those that a partial name takes in the direction, where the old ones were, and one more
--- candidate stands at the place
+-- candidate is at the place
 abbrev pub Joins : Direction → List Ref → ℕ → List ℕ → List ℕ → Type 0
 Joins Forward refs place old new = JoinsFirst refs place old new
 Joins Backward refs place old new = new ≡ old ++ place ∷ []

@@ -66,7 +66,7 @@ IsRepeat ms k = (j : ℕ) × (j < k) × IsSameAt ms j k
 abbrev pub IsFlagged : List Bool → ℕ → Type 0
 IsFlagged flags k = slice_index_or flags k false ≡ true
 
--- just the repeats are flagged
+-- exactly the repeats are flagged
 abbrev pub FlagsRepeats : List Mapping → List Bool → Type 0
 FlagsRepeats ms flags = (k : ℕ) → k < length ms → IsFlagged flags k ↔ IsRepeat ms k
 
@@ -112,11 +112,11 @@ pub record IsSecond (bits : ℕ) (keys : List ℕ) (at : ℕ) : Type 0 where
   pub inside : at < length keys
   pub same : slice_index_or keys (at - 1) 0 / 2 ^ bits ≡ slice_index_or keys at 0 / 2 ^ bits
 
--- an earlier place is given for the place k
+-- an earlier place is recorded for the place k
 abbrev pub PointsBack : List ℕ → ℕ → Type 0
 PointsBack earlier k = slice_index_or earlier k k < k
 
--- an earlier place is given for each repeat
+-- an earlier place is recorded for each repeat
 pub record FindsRepeats (ms : List Mapping) (earlier : List ℕ) : Type 0 where
   pub fits : length earlier ≤ length ms
   pub finds : (k : ℕ) → k < length ms → IsRepeat ms k → PointsBack earlier k
@@ -141,7 +141,7 @@ pub record ArePairsOf (ms : List Mapping) (ps : List Pair) : Type 0 where
   pub every : (k : ℕ) → k < length ms → Has (pair_places ps) k
   pub apart : (i j d : ℕ) → i < j → j < length ps → slice_index_or (pair_places ps) i d ≢ slice_index_or (pair_places ps) j d
 
--- the mapping at place k, which is m, stays as made: it isn't flagged, and its source isn't excluded
+-- the mapping at place k, which is m, is kept as made: it isn't flagged, and its source isn't excluded
 pub record IsKeptBy (es : Exclusions) (flags : List Bool) (k : ℕ) (m made : Mapping) : Type 0 where
   pub same : made ≡ m
   pub unflagged : ¬ (IsFlagged flags k)

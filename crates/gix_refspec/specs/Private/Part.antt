@@ -11,8 +11,8 @@ use Rattle.gix_refspec.specs.Matching.Hits.{Ends}
 use Rattle.gix_refspec.specs.Private.HitViews.{HasEnds}
 use Rattle.gix_refspec.specs.Private.Kept.{IsFlagged}
 
--- the part has the refs that stand at the places, in order. Those left out have the name of an earlier one. Others
--- stand before the refs
+-- the part has the refs that are at the places, in order. Those left out have the name of an earlier one. Others
+-- are before the refs
 abbrev pub IsPartBehind : List Ref → List Ref → List Ref → List ℕ → Type 0
 IsPartBehind before [] part places = (part ≡ []) × (places ≡ [])
 IsPartBehind before (r ∷ refs) part places =
@@ -32,7 +32,7 @@ pub record IsRepeatedAt (refs : List Ref) (before place : ℕ) : Type 0 where
 abbrev pub FlagsRepeated : List Ref → List Bool → Type 0
 FlagsRepeated refs flags = (place : ℕ) → IsFlagged flags place → (before : ℕ) × IsRepeatedAt refs before place
 
--- the mapping, whose item stands at a place of the part, with its place among all
+-- the mapping, whose item is at a place of the part, with its place among all
 abbrev pub moved : (ℕ → ℕ) → Mapped → Mapped
 moved f m = record { item = option_map f m.item; source = m.source; destination = m.destination; spec = m.spec }
 

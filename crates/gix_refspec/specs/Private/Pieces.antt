@@ -9,7 +9,7 @@ abbrev pub optional_byte : Option ℕ → List ℕ
 optional_byte None = []
 optional_byte (Some b) = b ∷ []
 
--- a destination that may be missing, behind a colon
+-- a destination that may be missing, after a colon
 abbrev pub behind_colon : Option (Bor (List ℕ)) → List ℕ
 behind_colon None = []
 behind_colon (Some d) = colon ∷ d.now

@@ -1,5 +1,5 @@
 -- How one pass over the bytes finds a fault of a name. Only private functions cite these words. A text
--- is looked at with a slash put before it, so that each of its components stands behind a slash.
+-- is looked at with a slash put before it, so that each of its components is after a slash.
 use Rattle.std.specs.Prelude.{◌≡◌, ◌≢◌, Bool, ◌⊎◌, ◌≤◌, ◌<◌, ◌-◌, ◌∷◌, ◌++◌, take, ℕ, ◌==◌, List, Option, MatchOption, codes, IsTrue, if◌then◌else◌, map, slice_index}
 use Rattle.std.specs.List.{count_by}
 use Rattle.std.specs.Int.{w64, trailing_zeros}
@@ -17,7 +17,7 @@ use Rattle.gix_refspec.specs.Texts.Words.{EndsWith}
 abbrev pub class_at : ℕ → Class
 class_at b = if b == slash then Slash else if b == dot then Dot else if b == brace then Brace else if b == star then Star else if is_refused_byte b then Refused else Plain
 
--- the byte b, put behind y, makes the fault e
+-- the byte b, put after y, makes the fault e
 abbrev pub AddsFault : List ℕ → ℕ → Error → Type 0
 AddsFault y b Empty = ⊥
 AddsFault y b EmptyComponent = (b ≡ slash) × EndsWith (codes "/") y
@@ -41,7 +41,7 @@ pub record Added (y : List ℕ) (e : Error) : Type 0 where
 abbrev pub IsClean : List ℕ → Type 0
 IsClean y = (e : Error) → ¬ (Added y e)
 
--- y has the fault e where nothing comes behind it
+-- y has the fault e where nothing follows it
 abbrev pub LeavesFault : List ℕ → Error → Type 0
 LeavesFault y Empty = ⊥
 LeavesFault y EmptyComponent = EndsWith (codes "/") y
@@ -65,7 +65,7 @@ letter_for b = if b == star then letter else b
 abbrev pub with_letters : List ℕ → List ℕ
 with_letters x = map letter_for x
 
--- n stars stand in x
+-- n stars are in x
 abbrev pub IsStarCount : List ℕ → ℕ → Type 0
 IsStarCount x n = count_by (λ b. b == star) x ≡ n
 
@@ -83,11 +83,11 @@ abbrev pub Stops : List ℕ → Stop → Type 0
 Stops x SecondStar = HasSeveralStars x
 Stops x (Fault e) = HasFault (with_letters x) e
 
--- behind p the byte b is plain, or a slash that neither a slash nor the end of `.lock` is behind
+-- after p the byte b is plain, or a slash that neither a slash nor the end of `.lock` is after
 abbrev pub IsCalm : ℕ → ℕ → Type 0
 IsCalm p b = (class_at b ≡ Plain) ⊎ ((b ≡ slash) × (p ≢ slash) × (p ≢ 107))
 
--- each byte of x from the place a up to b is calm behind the one before it
+-- each byte of x from the place a up to b is calm after the one before it
 abbrev pub AreCalm : List ℕ → ℕ → ℕ → Type 0
 AreCalm x a b = (k : ℕ) → a ≤ k → k < b → IsCalm (slice_index x (k - 1)) (slice_index x k)
 

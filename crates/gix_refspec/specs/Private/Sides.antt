@@ -18,12 +18,12 @@ use Rattle.gix_refspec.specs.declared.parsing.reading.Shape.TheVariants as shape
 use Rattle.gix_refspec.specs.declared.parsing.Error.TheVariants as error
 use Rattle.bstr.specs.BStr.{bstr_bytes}
 
--- the error is `Memory` where that may be, or else a refusal as P says
+-- the error is `Memory` where that may be, or otherwise a refusal as P says
 abbrev pub MemoryOr : Type 0 → (Refusal → Type 0) → Error → Type 0
 MemoryOr memory P error.Memory = memory
 MemoryOr memory P e = ShowsRefusal P e
 
--- x is a name, a pattern, or else without a star and with this fault
+-- x is a name, a pattern, or otherwise without a star and with this fault
 abbrev pub IsLook : List ℕ → Look → Type 0
 IsLook x look.Name = IsName x
 IsLook x look.Pattern = IsPattern x
@@ -49,7 +49,7 @@ abbrev pub side_of : List ℕ → Option (List ℕ)
 side_of [] = None
 side_of (b ∷ bs) = Some (b ∷ bs)
 
--- a fetch of nothing named is one of `HEAD`
+-- a fetch that names nothing is one of `HEAD`
 abbrev pub named_or_head : List ℕ → List ℕ
 named_or_head [] = head
 named_or_head (b ∷ bs) = named_by (b ∷ bs)
@@ -83,6 +83,6 @@ IsReason op mode s d = MemoryOr (ReachesMemory op mode s d) (IsFirstReason op mo
 abbrev pub IsReasonAgainst : Parts → Error → Type 0
 IsReasonAgainst p = IsReason p.operation (mode_of p.mode) p.source.now (destination_of p)
 
--- out of memory where a side may need it, or else the first reason against the text
+-- out of memory where a side may need it, or otherwise the first reason against the text
 abbrev pub IsErrorOf : Operation → List ℕ → Error → Type 0
 IsErrorOf op text = MemoryOr (MayNeedMemory op text) (IsRefused op text)

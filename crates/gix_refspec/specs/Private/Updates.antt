@@ -12,7 +12,7 @@ use Rattle.gix_refspec.specs.Matching.Mappings.{Mapped}
 use Rattle.gix_refspec.specs.Matching.Validation.{Conflict, IsConflict, IsFirstTo}
 use Rattle.gix_refspec.specs.Private.Kept.{IsFlagged, name_hash}
 
--- one of the updates is that of place k to the destination d
+-- one of the updates is that of the destination d by the mapping at place k
 abbrev pub HasUpdate : List Update → ℕ → List ℕ → Type 0
 HasUpdate [] k d = ⊥
 HasUpdate (c ∷ cs) k d = ((c.place ≡ k) × (c.destination.now ≡ d)) ⊎ HasUpdate cs k d
@@ -43,7 +43,7 @@ pub record AreFirstUpdates (l : List Mapped) (cs : List Update) : Type 0 where
   pub are : (k : ℕ) (d : List ℕ) → HasUpdate cs k d ↔ IsFirstAt l k d
   pub order : IsStrictlySortedBy update_cmp cs
 
--- updates to one destination, and others that are all to later ones
+-- updates of one destination, and others that are all of later ones
 pub record IsRun (run others : List Update) : Type 0 where
   pub destination : List ℕ
   pub same : AllByRecursion (λ c. c.destination.now ≡ destination) run
@@ -62,7 +62,7 @@ pub record IsConflictOf (g : List Reading) (l : List Mapped) (run : List Update)
   pub is : IsConflict g l c
   pub same : AllByRecursion (λ update. update.destination.now ≡ c.destination) run
 
--- one update to a destination adds no conflict, and several add theirs behind the others
+-- one update of a destination adds no conflict, and several add theirs after the others
 abbrev pub AddsConflict : List Reading → List Mapped → List Update → List Conflict → List Conflict → Type 0
 AddsConflict g l run old new = ((length run ≤ 1) × (new ≡ old)) ⊎ ((c : Conflict) × (1 < length run) × IsConflictOf g l run c × (new ≡ old ++ c ∷ []))
 

@@ -1,4 +1,4 @@
--- What a user of Git is told of a fault: one sentence for each.
+-- The sentence that explains each fault to a user of Git.
 use Rattle.std.specs.Prelude.{ℕ, List, codes}
 use Rattle.gix_refspec.specs.declared.name.Error.{Error as NameError}
 use Rattle.gix_refspec.specs.declared.name.Error.TheVariants as of_name

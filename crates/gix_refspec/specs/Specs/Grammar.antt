@@ -73,7 +73,7 @@ fetched mode s d = record { operation = Fetch; mode = mode; source = Some s; des
 abbrev pub pushed : Mode → Option (List ℕ) → Option (List ℕ) → Reading
 pushed mode s d = record { operation = Push; mode = mode; source = s; destination = d }
 
--- for the operation, the text reads as r. The examples show a text without `+`, which may stand first
+-- for the operation, the text reads as r. The examples show a text without `+`, which may be first
 -- where no `^` does; s and d are words
 pub data Reads (op : Operation) (text : List ℕ) (r : Reading) : Type 0 where
   -- the empty text and `+`: a fetch of `HEAD`

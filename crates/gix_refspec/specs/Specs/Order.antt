@@ -1,4 +1,4 @@
--- How instructions compare. This project's own order, which is that of the declarations: pushes stand
+-- How instructions compare. This project's own order, which is that of the declarations: pushes are
 -- before fetches; among each the kinds of instruction; then their fields, bytes lexicographically and
 -- false before true.
 use Rattle.std.specs.Prelude.{ℕ, Bool, true, false, List, [], ◌∷◌, ◌++◌, Option, None, Some, nat_eq, pos}

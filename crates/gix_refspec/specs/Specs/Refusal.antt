@@ -1,4 +1,4 @@
--- Which texts are no refspecs, and the first reason in the order that this project fixes.
+-- Which texts are refused, and for which reason: the first in the order that this project fixes.
 use Rattle.std.specs.Prelude.{◌≡◌, ◌≢◌, ◌⊎◌, ◌<◌, ℕ, List, [], Option, None, Some, IsSome, unwrap_or, length}
 use Rattle.gix_refspec.specs.declared.name.Error.{Error}
 use Rattle.gix_refspec.specs.declared.parsing.Operation.{Operation}
@@ -72,11 +72,11 @@ pub record HasBadDestination (d : Option (List ℕ)) (e : Refusal) : Type 0 wher
   pub destination : word ≢ []
   pub refusal : IsBadName word e ⊎ IsBadPattern word e
 
--- just one of two texts has a star
+-- exactly one of two texts has a star
 abbrev pub IsOneStarred : List ℕ → List ℕ → Type 0
 IsOneStarred x y = (HasStar x × Lacks star y) ⊎ (Lacks star x × HasStar y)
 
--- just one side has a star, and a missing side has none. A push without destination is none of these:
+-- exactly one side has a star, and a missing side has none. A push without destination is none of these:
 -- its source is its destination too
 pub record IsUnbalanced (op : Operation) (mode : Mode) (s : List ℕ) (d : Option (List ℕ)) (e : Refusal) : Type 0 where
   pub positive : IsPositive mode
@@ -129,17 +129,17 @@ pub record IsRefused (op : Operation) (text : List ℕ) (e : Refusal) : Type 0 w
 abbrev pub NeedsMemory : List ℕ → Type 0
 NeedsMemory x = HasSeveralStars x ⊎ (HasStar x × (256 < length x))
 
--- none of the reasons that come before the source's applies
+-- none of the reasons that are before the source's applies
 abbrev pub NoReasonBeforeSource : Operation → Mode → List ℕ → Option (List ℕ) → Type 0
 NoReasonBeforeSource op mode s d = Never (IsEmptyPush op mode s d) × Never (HasNegativeDestination mode d) × Never (PushesNowhere op s d)
 
--- the source may want memory and no reason before it applies, or the destination may and no reason
+-- the source may need memory and no reason before it applies, or the destination may and no reason
 -- before it or of the source applies
 abbrev pub ReachesMemory : Operation → Mode → List ℕ → Option (List ℕ) → Type 0
 ReachesMemory op mode s None = NoReasonBeforeSource op mode s None × NeedsMemory s
 ReachesMemory op mode s (Some d) = NoReasonBeforeSource op mode s (Some d) × (NeedsMemory s ⊎ (Never (HasBadSource op s (Some d)) × NeedsMemory d))
 
--- for the operation, the text has a side that may want memory before any reason applies
+-- for the operation, the text has a side that may need memory before any reason applies
 pub record MayNeedMemory (op : Operation) (text : List ℕ) : Type 0 where
   pub mode : Mode
   pub source : List ℕ

@@ -9,7 +9,7 @@ slash = 47
 abbrev pub star : ℕ
 star = 42
 
--- `a`, which stands in for a star
+-- `a`, which replaces a star
 abbrev pub letter : ℕ
 letter = 97
 

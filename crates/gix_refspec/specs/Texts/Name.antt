@@ -20,7 +20,7 @@ pub record SomeComponent (P : List ℕ → Type 0) (x : List ℕ) : Type 0 where
   pub components : ArePartsAt slash (before ++ (component ∷ after)) x
   pub fact : P component
 
--- a star stands in x
+-- a star is in x
 abbrev pub HasStar : List ℕ → Type 0
 HasStar x = Holds (codes "*") x
 
@@ -40,7 +40,7 @@ HasFault x (InvalidByte b) = Holds (b ∷ []) x × IsTrue (is_refused_byte b)
 abbrev pub IsName : List ℕ → Type 0
 IsName x = (e : Error) → ¬ (HasFault x e)
 
--- two stars or more stand in x
+-- two stars or more are in x
 pub record HasSeveralStars (x : List ℕ) : Type 0 where
   pub before : List ℕ
   pub between : List ℕ

@@ -6,7 +6,7 @@ ghost use Rattle.gix_refspec.specs.Private.Kept.{hash_after, name_hash};
 
 use std::hash::{FoldHasher, Hasher};
 
-// What makes the second seed another. Any number serves but 0 and 1, with which a mapping's hash begins.
+// Makes the second seed differ. Any number serves but 0 and 1, with which a mapping's hash begins.
 const SALT: u64 = 2;
 
 // The seeds by which hashes are made, one after the other. What has one hash by the first mostly has

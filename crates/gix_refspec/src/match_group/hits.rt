@@ -42,9 +42,9 @@ struct Hit<'spec, 'item> {
     far: Option<NameRef<'spec>>,
 }
 
-// What a first look at specs and items finds: which specs have the sides of an earlier one, where the
-// items of the others' patterns are, as far as that is listed, and how many mappings these make of ids
-// and of sides that are no names. The list of mappings grows for those of names, as these are looked up.
+// What a first look at specs and items finds: which specs have the sides of an earlier one, the places of
+// the items that patterns of the others fit, if they are listed, and how many mappings ids and sides that
+// are no names make. For names, which are looked up, the list of mappings grows.
 #[derive(Drop)]
 pub(crate) struct Survey {
     pub(crate) equal: Vec<bool>,
@@ -60,7 +60,7 @@ struct Look {
     count: usize,
 }
 
-// The mappings that are made, in the list of their direction. The other list stays empty.
+// The mappings that are made, in the list of their direction. The other list is empty.
 #[derive(Drop)]
 pub(crate) struct Made<'spec, 'item> {
     pub(crate) forward: Vec<Mapping<'item, 'spec>>,
@@ -144,7 +144,7 @@ fn listed(places: &Option<Vec<usize>>) -> usize {
 }
 
 impl Look {
-    // Looks at a spec, and lists at most so many places.
+    // Looks at a spec, and lists no places if there are more than `most`.
     fn at(
         alloc: Global,
         direction: Direction,
@@ -229,7 +229,7 @@ fn count_among(near: SideKind<'_>, items: &[Item<'_>]) -> usize {
     count
 }
 
-// The places of the items that a pattern fits. None if there are more than so many.
+// The places of the items that a pattern fits. None if there are more than `most`.
 fn fitted_places(
     alloc: Global,
     before: &[u8],
@@ -254,7 +254,7 @@ fn fitted_places(
     Ok(Some(places))
 }
 
-// The mappings of a direction that take no item, with room for so many.
+// The mappings of a direction that take no item, with room for `room` in all.
 fn started<'spec, 'item>(
     alloc: Global,
     direction: Direction,
@@ -303,7 +303,7 @@ fn backward_mapping<'spec, 'item>(hit: Hit<'spec, 'item>) -> Mapping<'spec, 'ite
     }
 }
 
-// Adds what the hits of the specs make that aren't flagged as equal to an earlier one.
+// Adds the mappings of the specs that aren't flagged as equal to an earlier one.
 fn add_hits<'spec, 'item>(
     alloc: Global,
     direction: Direction,
@@ -336,7 +336,7 @@ fn add_hits<'spec, 'item>(
     Ok(())
 }
 
-// Adds what the hits of a spec make whose near end is a pattern, which are those at the places.
+// Adds the mappings of a spec whose near end is a pattern that fits the items at the places.
 fn add_fitted<'spec, 'item>(
     alloc: Global,
     direction: Direction,
@@ -365,7 +365,7 @@ fn add_fitted<'spec, 'item>(
     Ok(())
 }
 
-// Adds what the hits of the spec at a place make, which has these ends.
+// Adds the mappings of the spec at a place, which has these ends.
 fn add_spec_hits<'spec, 'item>(
     alloc: Global,
     direction: Direction,
@@ -405,7 +405,7 @@ fn add_spec_hits<'spec, 'item>(
     }
 }
 
-// Adds what the hits of a spec make, which are those at the places.
+// Adds the mappings of a spec that takes the items at the places.
 fn add_places<'spec, 'item>(
     alloc: Global,
     direction: Direction,
@@ -435,8 +435,8 @@ fn add_places<'spec, 'item>(
     Ok(())
 }
 
-// Adds what the hits of a spec make whose near end is a pattern, going through the items whose names
-// begin as it does, which stand at the places.
+// Adds the mappings of a spec whose near end is a pattern. The items whose names begin as it does are
+// those at the places.
 fn add_matches_at<'spec, 'item>(
     alloc: Global,
     direction: Direction,
@@ -467,7 +467,7 @@ fn add_matches_at<'spec, 'item>(
     Ok(())
 }
 
-// Adds what the hits of a spec make whose near end is no partial name, going through all items.
+// Adds the mappings of a spec whose near end is no partial name, by a scan of all items.
 fn add_matches<'spec, 'item>(
     alloc: Global,
     direction: Direction,
@@ -501,7 +501,7 @@ impl<'spec, 'item> Made<'spec, 'item> {
     ghost use Rattle.gix_refspec.specs.declared.match_group.hits.ends.Direction.{Direction};
     ghost use Rattle.gix_refspec.specs.Private.HitViews.{mapped_of_made, mapping_of};
 
-    // Adds what a hit makes.
+    // Adds the mapping of a hit.
     #[inline(always)]
     fn add(&mut self, direction: Direction, hit: Hit<'spec, 'item>) -> Result<(), AllocError>
         ensures { OnOk result (mapped_of_made direction self.new ≡
@@ -524,7 +524,7 @@ impl<'spec, 'item> Made<'spec, 'item> {
         }
     }
 
-    // Gives the items, which stand at places of a part, their places among all.
+    // Turns the places of items in a part into their places among all.
     pub(crate) fn move_items(&mut self, direction: Direction, places: &[usize])
         ensures { mapped_of_made direction self.new ≡
             map (moved (place_among places.now)) (mapped_of_made direction self.old) }
@@ -536,7 +536,7 @@ impl<'spec, 'item> Made<'spec, 'item> {
     }
 }
 
-// Gives the items of some mappings, which stand at places of a part, their places among all.
+// Turns the places of items in a part into their places among all, in some mappings.
 fn move_each<'a, 'b>(mappings: &mut [Mapping<'a, 'b>], places: &[usize])
     ensures { map mapped_of mappings.new ≡
         map (moved (place_among places.now)) (map mapped_of mappings.old) }

@@ -18,8 +18,8 @@ use repeats::repeats_of;
 use std::alloc::{AllocError, Global};
 
 // Drops the mappings that have the same source and destination as an earlier one, and those whose
-// source a negative spec excludes. The others stay in order. Fails if memory runs out, which it
-// doesn't want for one mapping and no negative spec, and leaves them all.
+// source a negative spec excludes. The others stay in order. Fails if memory runs out, and leaves them
+// all then; never for one mapping and no negative spec.
 pub(crate) fn keep<'a, 'b>(
     alloc: Global,
     specs: &[RefSpecRef<'_>],

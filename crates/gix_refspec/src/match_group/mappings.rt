@@ -41,7 +41,7 @@ pub(crate) fn kept_of<'spec, 'item>(
     }
 }
 
-// No mappings, where none are made, or else the error: memory is wanted before that is known.
+// No mappings if none are made, otherwise the error: memory is needed before that is known.
 fn none_or<'spec, 'item>(
     error: AllocError,
     alloc: Global,

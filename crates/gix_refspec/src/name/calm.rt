@@ -1,4 +1,4 @@
-// Several bytes of a name are looked at at once.
+// Looks at several bytes of a name at once.
 
 ghost use Rattle.std.specs.Prelude.{◌≡◌, ◌<◌, ◌≤◌, ◌+◌, length};
 ghost use Rattle.gix_refspec.specs.Private.Scan.{AreCalm, lowest_of};
@@ -9,7 +9,7 @@ use std::simd::prelude::*;
 pub(super) const LANES: usize = 16;
 
 /// How many of the bytes from a place on are calm, as most of a name are: letters, digits, `-`, `@`,
-/// `_` and the byte before `a`, and slashes behind other bytes than a slash and a `k`, with which
+/// `_` and the byte before `a`, and slashes after other bytes than a slash and a `k`, with which
 /// `.lock` ends. Other bytes may be calm too, and then they are looked at one by one.
 #[inline(always)]
 pub(super) fn calm_run(text: &[u8], at: usize) -> usize

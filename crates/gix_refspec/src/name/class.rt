@@ -8,17 +8,17 @@ use self::Class::*;
 /// What a byte may be to a name.
 #[derive(Clone, Copy)]
 pub(super) enum Class {
-    /// It may stand anywhere.
+    /// It is allowed anywhere.
     Plain,
     /// It ends a component.
     Slash,
-    /// It may stand neither first in a component, nor last in a text, nor beside another.
+    /// It is allowed neither first in a component, nor last in a text, nor beside another.
     Dot,
-    /// It may not stand behind an at sign.
+    /// It isn't allowed after an at sign.
     Brace,
-    /// It may stand nowhere, except in a pattern.
+    /// It is allowed only in a pattern.
     Star,
-    /// It may stand nowhere.
+    /// It is allowed nowhere.
     Refused,
 }
 

@@ -4,7 +4,7 @@ ghost use Rattle.std.specs.Prelude.{◌≡◌, IfSome, IfNone, true};
 ghost use Rattle.hex.specs.Hex.{hex_digit_value, is_hex_digit};
 ghost use Rattle.gix_refspec.specs.Texts.ObjectId.{IsSpelledBy};
 
-// Stands in the table for a byte that is no digit. It is more than the value of any digit.
+// The entry in the table of a byte that is no digit, above the value of any digit.
 const NONE: u8 = 16;
 
 // The value of each digit of either case, at the place of its byte.
@@ -27,8 +27,7 @@ static VALUES: [u8; 256] = [
     NONE, NONE, NONE, NONE, NONE, NONE, NONE,
 ];
 
-/// The byte that two digits spell, the first for its upper half. There is none where one of them is
-/// no digit.
+/// The byte that two digits spell, the first for its upper half. `None` if one of them is no digit.
 #[inline(always)]
 pub(super) fn byte_of(high: u8, low: u8) -> Option<u8>
     ensures some { IfSome result (λ byte. IsSpelledBy byte high low) }

@@ -30,7 +30,7 @@ enum Look {
     Other(name::Error),
 }
 
-// Whether a side has a star.
+// A side without a star, or a pattern.
 #[derive(Clone, Copy, PartialEq, Eq)]
 enum Shape {
     Plain,
@@ -111,7 +111,7 @@ fn take_sign(text: &[u8]) -> (Mode, &[u8])
     }
 }
 
-// The source and, where there is a colon, the destination behind the last one.
+// The source and, where there is a colon, the destination after the last one.
 fn cut_at_last_colon(rest: &[u8]) -> (&[u8], Option<&[u8]>)
     ensures whole { rest.now ≡ with_colon result.0.now (option_map (λ d. d.now) result.1) }
     ensures last { LastLacksColon result.0.now (option_map (λ d. d.now) result.1) }

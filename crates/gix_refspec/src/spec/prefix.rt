@@ -110,7 +110,7 @@ pub(crate) fn is_head(side: &[u8]) -> bool
     side == b"HEAD".as_slice()
 }
 
-// Whether what stands before the star of a pattern is a prefix to ask for.
+// Whether the text before the star of a pattern is a prefix to ask for.
 fn tells_prefix(before: &[u8], after: &[u8]) -> bool
     ensures { IsTrue result ↔ TellsPrefix before.now after.now }
 {

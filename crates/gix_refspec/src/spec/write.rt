@@ -125,7 +125,7 @@ impl<'a> Fetch<'a> {
 }
 
 impl<'a> Pieces<'a> {
-    // One side behind a sign.
+    // One side after a sign.
     fn of_one(sign: Option<u8>, source: &'a [u8]) -> Pieces<'a>
         ensures { text_of_pieces result ≡ optional_byte sign ++ source.now }
     {
@@ -147,7 +147,7 @@ impl<'a> Pieces<'a> {
         }
     }
 
-    // How many bytes the text has, where it can be told.
+    // How many bytes the text has, if that can be counted.
     fn len(self) -> usize
         ensures { length (text_of_pieces self.entry) ≤ 18446744073709551615 →
             result ≡ length (text_of_pieces self.entry) }

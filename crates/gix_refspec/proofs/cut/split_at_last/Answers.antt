@@ -1,4 +1,4 @@
--- What stands behind the place that was found is the text from the next place on.
+-- What is after the place that was found is the text from the next place on.
 use Rattle.gix_refspec.proofs.lemmas.texts.TextLemmas.{cut_at_last}
 use Rattle.gix_refspec.proofs.cut.split_at_last.Goals as goal
 

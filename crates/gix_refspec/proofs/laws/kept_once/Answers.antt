@@ -1,4 +1,4 @@
--- What stays in either direction is kept of some list.
+-- What is kept in either direction is kept of some list.
 use Rattle.std.proofs.Common.{inl, inr}
 use Rattle.gix_refspec.proofs.lemmas.keep.KeptLemmas.{kept_once}
 use Rattle.gix_refspec.proofs.laws.kept_once.Goals as goal

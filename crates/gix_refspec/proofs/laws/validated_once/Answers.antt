@@ -1,4 +1,4 @@
--- What is left was there before, when nothing was contested.
+-- What is left was there before, when nothing was in conflict.
 use Rattle.std.proofs.Common.{map}
 use Rattle.gix_refspec.specs.Views.Group.{ref_of, readings_of}
 use Rattle.gix_refspec.proofs.lemmas.validate.AfterLemmas.{validated_once}

@@ -66,7 +66,7 @@ pair_at Backward k h = record { source = refl; destination = refl }
 abbrev Holds : List Mapped → List Mapped → Type 0
 Holds all some = (m : Mapped) → HasPair some m → HasPair all m
 
--- where the pairs of some hits stand before, those of the same hits by another spec are left out
+-- where the pairs of some hits are before, those of the same hits by another spec are left out
 thins_again : (direction : Direction) (k : ℕ) (before : List Mapped) (hits : List Hit) → Holds before (of_hits direction hits) → Thins before (of_hits direction (map (at_spec k) hits)) []
 thins_again direction k before [] holds = refl
 thins_again direction k before (h ∷ hits) holds =
@@ -130,7 +130,7 @@ most_no_spec direction specs items i s old mid below is so_far none = record {
   all = so_far.all;
 }
 
--- the spec at place b, as it stands among those up to a place behind it
+-- the spec at place b, as it is among those up to a place after it
 up_to : (specs : List RefSpecRef) (b i : ℕ) (d : Reading) → b < i → i < length specs → get_or (map reading_of (take i specs)) b d ≡ get_or (map reading_of specs) b d
 up_to specs b i d less below = ap (λ (l : List Reading). get_or l b d) (sym (take_map reading_of i specs)) ∙ get_or-take i (map reading_of specs) b d less
 
@@ -163,7 +163,7 @@ thins_behind front before [] some none = none
 thins_behind front before (m ∷ l) some (inl (rest, is, thins)) = inl (rest, is, subst (λ (b : List Mapped). Thins b l rest) (sym (append_assoc front before (m ∷ []))) (thins_behind front (before ++ m ∷ []) l rest thins))
 thins_behind front before (m ∷ l) some (inr (has, thins)) = inr (pair_right front before m has, subst (λ (b : List Mapped). Thins b l some) (sym (append_assoc front before (m ∷ []))) (thins_behind front (before ++ m ∷ []) l some thins))
 
--- what comes first, and the hits behind it but for some repeats
+-- what is first, and the hits after it but for some repeats
 pub most_made : (direction : Direction) (g : List Reading) (items : List Ref) (old new : Made) → AreIdMappings direction g (mapped_of_made direction old) → AddsMost direction (AreHits (HasEnds direction) (TakesIn direction items) g items) old new → AreMostMade direction g items (mapped_of_made direction new)
 most_made Forward g items old new first adds =
     let ids = mapped_of_made Forward old in
@@ -179,7 +179,7 @@ most_made Backward g items old new first adds = record {
   thins = subst (λ (l : List Mapped). Thins [] (of_hits Backward adds.hits) l) (sym (adds.all ∙ ap (λ (l : List Mapped). l ++ adds.some) first)) adds.thins;
 }
 
--- what stays of these stays of all
+-- what is kept of these is kept of all
 pub most_kept : (direction : Direction) (g : List Reading) (items : List Ref) (list kept : List Mapped) → AreMostMade direction g items list → IsKept g list kept → AreKept direction g items kept
 most_kept Forward g items list kept most is = record { all = most.all; forward = most.made; is = kept_thinned g most.all list kept most.thins is }
 most_kept Backward g items list kept most is = record { all = most.all; backward = most.made; is = kept_thinned g most.all list kept most.thins is }

@@ -43,7 +43,7 @@ use Rattle.gix_refspec.proofs.lemmas.lists.JoinLemmas.{MakesOnce, one_joined, em
 pub no_front_no_word : (before after n : List ℕ) → ((rest : List ℕ) → n ≢ before ++ rest) → (word : List ℕ) → ¬ (Fits before after n word)
 no_front_no_word before after n none word fits = none (word ++ after) fits
 
--- the word is what is left of the name behind its front, without its end
+-- the word is what is left of the name after its front, without its end
 pub word_left : (before after n rest : List ℕ) (r : Option (Bor (List ℕ))) → n ≡ before ++ rest → MatchOption r ((front : List ℕ) → rest ≢ front ++ after) (λ x. rest ≡ x.now ++ after) → MatchOption r ((word : List ℕ) → ¬ (Fits before after n word)) (λ word. Fits before after n word.now)
 word_left before after n rest None front left = λ word fits. left word (append_cancel_left before rest (word ++ after) (sym front ∙ fits))
 word_left before after n rest (Some x) front left = front ∙ ap (λ y. before ++ y) left
@@ -64,7 +64,7 @@ has_place n [] one = absurd one
 has_place n (x ∷ xs) (inl same) = ([], (xs, ap (λ y. y ∷ xs) (sym same)))
 has_place n (x ∷ xs) (inr one) = let rest = has_place n xs one in (x ∷ rest.0, (rest.1.0, ap (λ ys. x ∷ ys) rest.1.1))
 
--- one of these stands before the partial name
+-- one of these is before the partial name
 abbrev IsPlaced : List ℕ → List ℕ → Type 0
 IsPlaced x n = (before : List ℕ) × IsFolder before × (n ≡ before ++ x)
 
@@ -117,7 +117,7 @@ one_kind x (partial n) (full_name m) a b = absurd (a.2 b.2)
 one_kind x (partial n) (object id) a b = absurd (a.3 (id, b.2))
 one_kind x (partial n) (partial m) a b = ap partial (a.0 ∙ sym b.0)
 
--- a side of the kind matches with one word at the most
+-- a side of the kind matches with one word at most
 same_word : (k : SideKind) (r : Ref) (v w : Option (List ℕ)) → MatchesAs k r v → MatchesAs k r w → v ≡ w
 same_word (pattern before after) r None w of_v of_w = absurd of_v
 same_word (pattern before after) r (Some v) None of_v of_w = absurd of_w
@@ -268,7 +268,7 @@ adds_nothing direction kinds k xs i d old mid below so_far none =
 pub item_hit : (kinds : DeclaredEnds) (xs : List Item) (i : ℕ) (d : Item) (found : Match) → i < length xs → MatchesAs (kind_of_side kinds.near) (ref_of (get_or xs i d)) (word_of found) → HasHit kinds (map ref_of xs)
 item_hit kinds xs i d found below matches = subst (HasHit kinds) (sym (map_cut ref_of xs i d below)) (some_hit kinds (map ref_of (take i xs)) (ref_of (get_or xs i d)) (map ref_of (drop (suc i) xs)) (word_of found) matches)
 
--- each side of an accepted reading has one star at the most
+-- each side of an accepted reading has one star at most
 pub few_side : (r : Reading) (side : Option BStr) → ∥ IsAccepted r ∥₁ → ((x : List ℕ) → option_map bstr_bytes side ≡ Some x → (r.source ≡ Some x) ⊎ (r.destination ≡ Some x)) → MatchOption side (Unit {0}) (λ s. ¬ (HasSeveralStars (bstr_bytes s)))
 few_side r None accepted one = tt
 few_side r (Some s) accepted one = accepted_few r (bstr_bytes s) accepted (one (bstr_bytes s) refl)
@@ -317,7 +317,7 @@ pub one_pair : (direction : Direction) (r : Reading) (a b : Ends) → HasEnds di
 one_pair Forward r a b of_a of_b = same_ends a b (same_side r.source a.near b.near of_a.near of_b.near) (sym of_a.far ∙ of_b.far)
 one_pair Backward r a b of_a of_b = same_ends a b (same_side r.destination a.near b.near of_a.near of_b.near) (sym of_a.far ∙ of_b.far)
 
--- two lots of hits, one behind the other
+-- two lots of hits, one after the other
 adds_both : (direction : Direction) (P Q R : List Hit → Type 0) (old mid new : Made) → ((g h : List Hit) → P g → Q h → R (g ++ h)) → AddsHits direction P old mid → AddsHits direction Q mid new → AddsHits direction R old new
 adds_both direction P Q R old mid new join first then = record {
   hits = first.hits ++ then.hits;
@@ -520,7 +520,7 @@ pub made_nothing : (direction : Direction) (g : List Reading) (items : List Ref)
 made_nothing Forward g items l are none = forward_once g items l [] are none
 made_nothing Backward g items l are none = backward_once g items l [] are none
 
--- what comes first, and the hits behind it, are all the mappings of a direction
+-- what is first, and the hits after it, are all the mappings of a direction
 pub all_made : (direction : Direction) (g : List Reading) (items : List Ref) (old new : Made) → AreIdMappings direction g (mapped_of_made direction old) → AddsHits direction (AreHits (HasEnds direction) (TakesIn direction items) g items) old new → AreMade direction g items (mapped_of_made direction new)
 all_made Forward g items old new first adds = record { ids = mapped_of_made Forward old; hits = adds.hits; are_ids = first; are_hits = adds.are; all = adds.all }
 all_made Backward g items old new first adds = record { hits = adds.hits; are_hits = adds.are; all = adds.all ∙ ap (λ (l : List Mapped). l ++ map (mapping_of Backward) adds.hits) first }

@@ -34,7 +34,7 @@ name_begins x (full_name n) r word begins lacks kind fits = begins_itself x r.na
 name_begins x (object id) r word begins lacks kind fits = absurd (kind.1 begins)
 name_begins x (partial n) r word begins lacks kind fits = absurd (kind.2 begins)
 
--- a pattern, of which what stands before its star is the prefix
+-- a pattern, of which what is before its star is the prefix
 pattern_begins : (x fixed rest : List ℕ) (k : SideKind) (r : Ref) (word : Option (List ℕ)) → IsCut fixed rest x → HasKind x k → MatchesAs k r word → BeginsWith fixed r.name
 pattern_begins x fixed rest (pattern before after) r None cut kind fits = absurd fits
 pattern_begins x fixed rest (pattern before after) r (Some word) cut kind fits =

@@ -34,7 +34,7 @@ pub told_no_star : (x y : List ℕ) (r : Bool) → MatchBool r (Holds (star ∷ 
 told_no_star x y true holds lacks = absurd (Lacks-Holds star x lacks holds)
 told_no_star x y false lacks _ = ((λ so. absurd (false≢true so)), (λ both. absurd (Lacks-Holds star x lacks both.0)))
 
--- a pattern is covering just where it tells a prefix
+-- a pattern is covering exactly where it tells a prefix
 pub told_pattern : (x before after : List ℕ) (r : Bool) → IsCut before after x → IsTrue r ↔ TellsPrefix before after → IsTrue r ↔ IsCovering x
 told_pattern x before after true cut told =
     let tells = told.0 refl in
@@ -46,7 +46,7 @@ told_pattern x before after false cut told = ((λ so. absurd (false≢true so)),
     never (by_prefix p below is) = absurd (no_prefix x before after cut (λ tells. false≢true (told.1 tells)) p is)
     never (by_candidates lacks other outside) = absurd (lacks_no_pattern x before after lacks cut)
 
--- a fetch that asks for a side has a covering source just where that side is covering
+-- a fetch that asks for a side has a covering source exactly where that side is covering
 pub told_source : (r : Reading) (x : List ℕ) (b : Bool) → r.operation ≡ Fetch → IsAsked r x → IsTrue b ↔ IsCovering x → IsTrue b ↔ HasCoveringSource r
 told_source r x b fetch asked told = (
   (λ so. record { fetch = fetch; source = λ y also. subst IsCovering (one_asked r x y asked also) (told.0 so) }),

@@ -144,7 +144,7 @@ named_same Q i refs r ps long are other =
     subst (AreNamed Q (refs ++ r ∷ [])) (append-nil ps)
     (made_next (λ k s place. Q s.name × (place ≡ k)) i refs r ps None long are (λ place both. other both.0))
 
--- what is read of the refs, with more behind them
+-- what is read of the refs, with more after them
 got_left : (refs more : List Ref) (i : ℕ) (s : Ref) → slice_get refs i ≡ Some s → slice_get (refs ++ more) i ≡ Some s
 got_left [] more i s is = absurd (cc)
 got_left (r ∷ refs) more zero s is = is

@@ -1,4 +1,4 @@
--- Where names stand among refs.
+-- Where names are among refs.
 use Rattle.std.proofs.Common.{◌≡◌, ◌≢◌, ◌⊎◌, inl, inr, ℕ, ◌+◌, ◌<◌, List, [], ◌∷◌, ◌++◌, Option, None, Some, Bool, true, false, cond, length, map, take, get_or, refl, sym, ap, ◌∙◌, subst, arith}
 use Rattle.std.specs.Global.{Vec}
 use Rattle.std.specs.List.{Contains}
@@ -125,7 +125,7 @@ specs_more P direction specs i s below is all one =
     subst (λ (l : List Reading). AllNear P direction l) (sym (map_more reading_of specs i s below ∙ ap (λ (t : RefSpecRef). map reading_of (take i specs) ++ reading_of t ∷ []) (sym is)))
     (all_join (IsNear P direction) (map reading_of (take i specs)) (reading_of s ∷ []) all (one, tt))
 
--- behind the old names stand those that a side of the kind asks for
+-- after the old names are those that a side of the kind asks for
 pub record AddsNames (kind : SideKind) (old new : Names) : Type 0 where
   pub full : map name_bytes new.full.items ≡ map name_bytes old.full.items ++ full_names_of kind
   pub partial : map name_bytes new.partial.items ≡ map name_bytes old.partial.items ++ partial_names_of kind

@@ -83,7 +83,7 @@ adds_next Known P R before after n c old mid new longer so_far next = record {
   ];
 }
 
--- between the ends of a candidate stands the partial name
+-- between the ends of a candidate is the partial name
 abbrev IsBetween : List ℕ → List ℕ → Type 0
 IsBetween n x = (((((⊥ ⊎ Fits [] [] n x) ⊎ Fits (codes "refs/") [] n x) ⊎ Fits (codes "refs/tags/") [] n x) ⊎ Fits (codes "refs/heads/") [] n x) ⊎ Fits (codes "refs/remotes/") [] n x) ⊎ Fits (codes "refs/remotes/") (codes "/HEAD") n x
 
@@ -115,7 +115,7 @@ candidate_between n x one = elim (candidate_cases x n one) [
   | inr head ↦ inr head
 ]
 
--- the place is added for what stands between the ends of each of the six
+-- the place is added for what is between the ends of each of the six
 pub adds_candidates : (Known : List ℕ → Type 0) (R : List ℕ → List ℕ → Type 0) (n : List ℕ) (a b c d e f g : List ℕ → Option (Vec ℕ)) → AddsWhere Known (Fits [] [] n) R a b → AddsWhere Known (Fits (codes "refs/") [] n) R b c → AddsWhere Known (Fits (codes "refs/tags/") [] n) R c d → AddsWhere Known (Fits (codes "refs/heads/") [] n) R d e → AddsWhere Known (Fits (codes "refs/remotes/") [] n) R e f → AddsWhere Known (Fits (codes "refs/remotes/") (codes "/HEAD") n) R f g → AddsWhere Known (λ x. IsCandidate x n) R a g
 adds_candidates Known R n a b c d e f g whole refs tags heads remotes head =
     let none : Adds Known (λ x. ⊥) R n 0 a a = record { adds = adds_nothing Known (λ x. ⊥) R a (λ x w known was holds. holds); short = λ x holds. absurd holds } in

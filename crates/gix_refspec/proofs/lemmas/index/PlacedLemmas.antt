@@ -121,7 +121,7 @@ read_below bound (n ∷ ns) (suc i) d all below = read_below bound ns i d all.1 
 pub place_fits : (kind : SideKind) (direction : Direction) (xs : List Item) (places : List ℕ) (i d : ℕ) → ArePlacesTaken kind direction (map ref_of xs) places → i < length places → get_or places i d < length xs
 place_fits kind direction xs places i d taken below = let fits : get_or places i d < 0 + length (map ref_of xs) = read_below (0 + length (map ref_of xs)) places i d (places_below kind direction (map ref_of xs) 0 (map ref_of xs) places taken) below in omega (arith, fits, length-map xs ref_of)
 
--- the mappings of the hits at some places stand behind the old ones
+-- the mappings of the hits at some places are after the old ones
 pub record AddsPlaces (direction : Direction) (k : ℕ) (kinds : DeclaredEnds) (items : List Ref) (places : List ℕ) (old new : Made) : Type 0 where
   pub all : mapped_of_made direction new ≡ mapped_of_made direction old ++ map (mapping_of direction) (map (hit_at k (filled_end kinds.far None) items) places)
 

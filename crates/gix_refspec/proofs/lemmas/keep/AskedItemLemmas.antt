@@ -1,4 +1,4 @@
--- Over the items that a client is told of by what it asks for, the same pairs stay.
+-- Over the items that a client is told of by what it asks for, the same pairs are kept.
 use Rattle.std.proofs.Common.{◌≡◌, inl, inr, ℕ, ◌+◌, List, [], ◌∷◌, sym, subst}
 use Rattle.gix_refspec.specs.declared.parsing.Operation.TheVariants.{Fetch}
 use Rattle.gix_refspec.specs.Texts.Words.{BeginsWith}

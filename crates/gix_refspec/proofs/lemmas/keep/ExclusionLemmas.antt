@@ -54,12 +54,12 @@ source_by_form op text r x (pushes_pattern mode s d push positive parts fine als
 source_by_form op text r x (pushes_to mode s d push positive parts full lacks fine is) negative source = absurd (not_positive mode positive (sym (ap (λ (q : Reading). q.mode) is) ∙ negative))
 source_by_form op text r x (push_excludes s push parts either hash is) negative source = negative_source s r x either (sym (ap (λ (q : Reading). q.source) is)) source
 
--- that a text lacks a byte has one proof at the most
+-- that a text lacks a byte has one proof at most
 Lacks-prop : (b : ℕ) (x : List ℕ) (p q : Lacks b x) → p ≡ q
 Lacks-prop b [] p q = refl
 Lacks-prop b (c ∷ x) p q = λ i. ((λ same. (let z : p.0 same ≡ q.0 same = absurd (p.0 same) in z) i), Lacks-prop b x p.1 q.1 i)
 
--- behind the first star of a name or a pattern there is no other
+-- after the first star of a name or a pattern there is no other
 one_star : (x before after : List ℕ) → IsNameOrPattern x → x ≡ before ++ (star ∷ after) → Lacks star before → Lacks star after
 one_star x before after (inl is_name) starred lacks = absurd (Lacks-here star before after (subst (Lacks star) starred (Lacks-name x is_name)))
 one_star x before after (inr pattern) starred lacks =

@@ -1,4 +1,4 @@
--- Over some of the items the same pairs stay, where no item that is taken is left out.
+-- Over some of the items the same pairs are kept, where no item that is taken is left out.
 use Rattle.std.proofs.Common.{◌≡◌, inl, inr, ◌↔◌, ℕ, zero, suc, List, [], ◌∷◌, Option, None, Some, refl, sym, ap, ◌∙◌, subst, arith}
 use Rattle.std.specs.List.{AllByRecursion, Any, Contains}
 use Rattle.std.proofs.lemmas.List.{append-nil}
@@ -119,7 +119,7 @@ any_each P Q g each (k, r, below, is, holds) = (k, r, below, is, each r (k, belo
 taken_by_one : (HasEnds : Reading → Ends → Type 0) (Taken : List ℕ → Ref → Option (List ℕ) → Type 0) (g : List Reading) (A B : List Ref) → HasTaken HasEnds Taken g A B → (r : Reading) → Contains g r → HasTakenBy HasEnds Taken A B r
 taken_by_one HasEnds Taken g A B has r (k, below, is) item there takes = has item there (k, r, below, is, takes)
 
--- what is made stays, unless it is excluded
+-- what is made is kept, unless it is excluded
 same_kept : (K F X MA MB : Type 0) → K ↔ (MA × X) → F ↔ (MB × X) → (MA → MB) → (MB → MA) → K ↔ F
 same_kept K F X MA MB of_all of_part to back = ((λ k. of_part.1 (to (of_all.0 k).0, (of_all.0 k).1)), (λ f. of_all.1 (back (of_part.0 f).0, (of_part.0 f).1)))
 

@@ -16,7 +16,7 @@ use Rattle.gix_refspec.proofs.lemmas.lists.ListsLemmas.{made_all, made_map, made
 pub kept_determined : (g : List Reading) (l kept also : List Mapped) → IsKept g l kept → IsKept g l also → kept ≡ also
 kept_determined g l kept also = made_once (λ k m made. (made ≡ m) × IsKeptAt g l k m) (λ k m y z is_y is_z. is_y.0 ∙ sym is_z.0) 0 l kept also
 
--- a pair that stands in a list, by its place
+-- a pair that is in a list, by its place
 pub HasPair-from_place : (l : List Mapped) (j : ℕ) (d m : Mapped) → j < length l → IsSamePair (get_or l j d) m → HasPair l m
 HasPair-from_place [] j d m below same = absurd (omega arith)
 HasPair-from_place (x ∷ l) zero d m below same = inl same
@@ -44,7 +44,7 @@ HasPair-take (x ∷ l) (suc n) zero m fits has = absurd (omega arith)
 HasPair-take (x ∷ l) (suc n) (suc k) m fits (inl same) = inl same
 HasPair-take (x ∷ l) (suc n) (suc k) m fits (inr has) = inr (HasPair-take l n k m (omega arith) has)
 
--- the mapping at a place repeats an earlier one just where an earlier one has its pair
+-- the mapping at a place repeats an earlier one exactly where an earlier one has its pair
 pub repeats_at : (ms : List Mapping) (k : ℕ) (d : Mapping) → k < length ms → IsRepeat ms k ↔ HasPair (take k (map mapped_of ms)) (mapped_of (get_or ms k d))
 repeats_at ms k d below =
     let size : length (take k (map mapped_of ms)) ≡ k = length-take-le k (map mapped_of ms) (omega (arith, length-map ms mapped_of)) in (
@@ -72,7 +72,7 @@ starts_agree : (g : List Reading) (es : Exclusions) (s : Start) → AreExclusion
 starts_agree g es (name n) are = are n
 starts_agree g es (id i) are = ((λ none. none), (λ none. none))
 
--- a mapping remains just where it stays
+-- a mapping is kept by the code exactly where it is kept
 remains_stays : (g : List Reading) (ms : List Mapping) (es : Exclusions) (flags : List Bool) (k : ℕ) (d : Mapping) → AreExclusionsOf g es → FlagsRepeats ms flags → k < length ms → IsKeptBy es flags k (get_or ms k d) (get_or ms k d) ↔ IsKeptAt g (map mapped_of ms) k (mapped_of (get_or ms k d))
 remains_stays g ms es flags k d are repeats below =
     let at = repeats_at ms k d below in
@@ -82,7 +82,7 @@ remains_stays g ms es flags k d are repeats below =
       (λ stays. record { same = refl; unflagged = λ flagged. stays.first (at.0 (flag.0 flagged)); included = λ by. stays.included (start.0 by) }),
     )
 
--- what remains of mappings is what is kept of them
+-- what the code keeps of mappings is what is kept of them
 pub kept_from_remains : (g : List Reading) (ms rest : List Mapping) (es : Exclusions) (flags : List Bool) → AreExclusionsOf g es → FlagsRepeats ms flags → IsMadeFrom (IsKeptBy es flags) 0 ms rest → IsKept g (map mapped_of ms) (map mapped_of rest)
 kept_from_remains g ms rest es flags are repeats made =
     made_map mapped_of mapped_of (IsKeptBy es flags) (λ k m y. (y ≡ m) × IsKeptAt g (map mapped_of ms) k m) 0 ms rest (λ i d below x makes. one i d below x (subst (λ (n : ℕ). MakesOf (IsKeptBy es flags) n (get_or ms i d) x) (zero-add i) makes)) made

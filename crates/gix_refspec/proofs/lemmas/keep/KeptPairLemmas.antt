@@ -54,11 +54,11 @@ decided_pair pair m = elim (decided_start m.source pair.source) [
   | inl source ↦ decided_by (λ destination. record { source = source; destination = destination }) (λ (same : IsSamePair m pair). same.destination) (decided_destination m.destination pair.destination)
 ]
 
--- m, at place k of the list, stays as made
+-- m, at place k of the list, is kept as made
 abbrev pub Keeps : List Reading → List Mapped → ℕ → Mapped → Mapped → Type 0
 Keeps g l k m made = (made ≡ m) × IsKeptAt g l k m
 
--- the first mapping with a pair whose source isn't excluded stays
+-- the first mapping with a pair whose source isn't excluded is kept
 first_stays : (g : List Reading) (before xs : List Mapped) (pair m : Mapped) → IsOfPair pair m → ¬ (Any (IsOfPair pair) before) → ¬ (IsStartExcluded g pair.source) → IsKeptAt g (before ++ xs) (length before) m
 first_stays g before xs pair m same new included = record {
   first = λ has. new (Any-weaker (IsOfPair m) (IsOfPair pair) of_pair before (Any-HasPair before m (subst (λ (l : List Mapped). HasPair l m) (take-append_seam before xs) has)));

@@ -103,7 +103,7 @@ rises_from_sorted bits xs ys moved rises sorted = rises_from_pairs ys (λ i j d 
         (λ is same. absurd (apart (sym same)))
         (λ is less. less)
 
--- where in the keys a place stands
+-- where in the keys a place is
 key_at : (seed : FoldHasher) (ms : List Mapping) (bits : ℕ) (keys : List ℕ) (k : ℕ) → AreKeysOf seed ms bits keys → k < length ms → (at : ℕ) × (at < length keys) × (get_or keys at 0 % 2 ^ bits ≡ k)
 key_at seed ms bits keys k all below =
     let at = Contains-from_Has (places_in bits keys) k (all.every k below) in

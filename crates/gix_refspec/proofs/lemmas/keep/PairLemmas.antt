@@ -96,7 +96,7 @@ regroup Equal Less o p = refl
 regroup Equal Greater o p = refl
 regroup Equal Equal o p = refl
 
--- the key comes first in the order
+-- the key is first in the order
 by_key : (p q : Pair) → pair_cmp p q ≡ ordering_then (key_cmp p q) (nat_cmp p.place q.place)
 by_key p q = regroup (bool_cmp p.is_id q.is_id) (slice_cmp nat_cmp p.source.now q.source.now) (option_cmp (λ (x : Bor (List ℕ)) (y : Bor (List ℕ)). slice_cmp nat_cmp x.now y.now) p.destination q.destination) (nat_cmp p.place q.place)
 
@@ -119,7 +119,7 @@ between Less y is left right = absurd (false≢true (sym left))
 between Equal y is left right = is
 between Greater y is left right = absurd (false≢true (sym right ∙ ap is_lt is))
 
--- what stands between pairs with the same key has it too
+-- what is between pairs with the same key has it too
 squeezed : (a m b : Pair) → is_lt (pair_cmp m a) ≡ false → is_lt (pair_cmp b m) ≡ false → key_cmp a b ≡ Equal → key_cmp b m ≡ Equal
 squeezed a m b after before same =
     between (key_cmp m a) (key_cmp b m) (sym (key_total.congr a b m same) ∙ key_total.antisymm a m)
@@ -189,7 +189,7 @@ at_pair ms ps i d are below = All-from_recursion (FitsPair ms) ps are.each i d b
 pub pair_fits : (ms : List Mapping) (ps : List Pair) (i : ℕ) (p : Pair) → ArePairsOf ms ps → i < length ps → p ≡ get_or ps i p → p.place < length ms
 pair_fits ms ps i p are below is = subst (λ (q : Pair). q.place < length ms) (sym is) (at_pair ms ps i p are below).0
 
--- two pairs that stand in a list have one key just where their mappings have the same pair
+-- two pairs that are in a list have one key exactly where their mappings have the same pair
 key_at : (ms : List Mapping) (ps : List Pair) (i j : ℕ) (d : Pair) → ArePairsOf ms ps → i < length ps → j < length ps → IsSameAt ms (get_or ps i d).place (get_or ps j d).place ↔ (key_cmp (get_or ps i d) (get_or ps j d) ≡ Equal)
 key_at ms ps i j d are first second =
     let a = at_pair ms ps i d are first in

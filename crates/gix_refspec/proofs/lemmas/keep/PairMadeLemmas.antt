@@ -1,4 +1,4 @@
--- Exactly where a pair stays: where some reading makes it, and none excludes it.
+-- Exactly where a pair is kept: where some reading makes it, and none excludes it.
 use Rattle.std.proofs.Common.{◌≡◌, ◌⊎◌, inl, inr, ◌↔◌, ℕ, ◌+◌, List, [], ◌∷◌, ◌++◌, Option, None, Some, map, unwrap_or, refl, sym, ap, ◌∙◌, subst}
 use Rattle.std.specs.List as lists
 use Rattle.std.specs.List.{AllByRecursion}
@@ -132,7 +132,7 @@ backward_pairs g items l pair are = (there, λ any. back pair.source pair.destin
     back (name n) None from to any = absurd (Any-fact ⊥ g (subst (λ (d : Option (List ℕ)). Any (MakesBackward items (name n) d) g) to (subst (λ (s : Start). Any (MakesBackward items s pair.destination) g) from any)))
     back (id bytes) d from to any = absurd (Any-fact ⊥ g (subst (λ (s : Start). Any (MakesBackward items s pair.destination) g) from any))
 
--- ---- what stays
+-- ---- what is kept
 
 kept_by : (g : List Reading) (l kept : List Mapped) (pair : Mapped) (M : Type 0) → HasPair kept pair ↔ (HasPair l pair × ¬ (IsStartExcluded g pair.source)) → HasPair l pair ↔ M → HasPair kept pair ↔ (M × ¬ (IsStartExcluded g pair.source))
 kept_by g l kept pair M stays made = (

@@ -1,4 +1,4 @@
--- A part of some items that has each name of them: what specs take of it, and the mappings that stay.
+-- A part of some items that has each name of them: what specs take of it, and the mappings that are kept.
 use Rattle.std.proofs.Common.{◌≡◌, ◌⊎◌, inl, inr, ◌↔◌, ℕ, ◌+◌, List, [], ◌∷◌, ◌++◌, Option, None, Some, option_map, length, map, get_or, refl, sym, ap, ◌∙◌, subst, append_assoc}
 use Rattle.std.proofs.Math.Seq.{get_or-append_seam}
 use Rattle.std.proofs.lemmas.List.{length-append, map-append}
@@ -252,7 +252,7 @@ group_thins direction all part places f k (r ∷ g) made some is follow plain (h
         (subst (λ (t : List Mapped). Thins made (of_hits direction hits ++ of_hits direction behind) t) (sym right)
         (thins_both made (of_hits direction hits) (map (moved f) (of_hits direction here)) (of_hits direction behind) (map (moved f) (of_hits direction rest)) first later))
 
--- ---- what stays
+-- ---- what is kept
 
 follow_behind : (before places : List ℕ) → Follow (λ i. get_or (before ++ places) i i) (length before) places
 follow_behind before [] = tt
@@ -271,7 +271,7 @@ id_unmoved f k (r ∷ g) ids (Some m, rest, of, more, is) =
     let same : moved f m ≡ m = ap (λ (x : Option ℕ). record { item = x; source = m.source; destination = m.destination; spec = m.spec }) item in
     ap (map (moved f)) is ∙ ap (λ (x : Mapped). x ∷ map (moved f) rest) same ∙ ap (λ (l : List Mapped). m ∷ l) (id_unmoved f (k + 1) g rest more) ∙ sym is
 
--- what stays of a part stays of all, at the places there
+-- what is kept of a part is kept of all, at the places there
 pub part_kept : (direction : Direction) (g : List Reading) (all part : List Ref) (places : List ℕ) (kept : List Mapped) → IsPart all part places → HasNoNearId direction g → AreKept direction g part kept → AreKept direction g all (map (moved (place_among places)) kept)
 part_kept Forward g all part places kept is plain are =
     let f = place_among places in

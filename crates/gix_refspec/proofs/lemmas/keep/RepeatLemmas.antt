@@ -77,12 +77,12 @@ Has-from_place (n ∷ ns) (suc i) k d below same = inr (Has-from_place ns i k d 
 pub Has-permuted : (xs ys : List ℕ) (k : ℕ) → IsPermutation xs ys → Has xs k → Has ys k
 Has-permuted xs ys k moved has = let at = Contains-permutation xs ys k moved (Contains-from_Has xs k has) in Has-from_place ys at.0 k k at.1 at.2
 
--- a number above all comes last
+-- a number above all is last
 pub Rises-push : (ns : List ℕ) (n : ℕ) → Rises ns → AllByRecursion (λ m. m < n) ns → Rises (ns ++ n ∷ [])
 Rises-push [] n rises below = (tt, tt)
 Rises-push (m ∷ ns) n rises below = (all_join (λ k. m < k) ns (n ∷ []) rises.0 (below.0, tt), Rises-push ns n rises.1 below.1)
 
--- numbers that rise, by where they stand
+-- numbers that rise, by where they are
 pub rises_at : (ns : List ℕ) → Rises ns → (i j d : ℕ) → i < j → j < length ns → get_or ns i d < get_or ns j d
 rises_at [] rises i j d before below = absurd (omega arith)
 rises_at (n ∷ ns) rises zero zero d before below = absurd (omega arith)

@@ -1,4 +1,4 @@
--- Mappings without some of those that repeat an earlier pair: the same ones of them stay.
+-- Mappings without some of those that repeat an earlier pair: the same ones of them are kept.
 use Rattle.std.proofs.Common.{◌≡◌, ◌⊎◌, inl, inr, ◌↔◌, ℕ, zero, suc, ◌+◌, List, [], ◌∷◌, ◌++◌, Option, None, Some, length, map, take, refl, sym, ap, ◌∙◌, subst, append_assoc}
 use Rattle.std.proofs.lemmas.List.{append-nil, length-append}
 use Rattle.gix_refspec.specs.Specs.Reading.{Reading}
@@ -40,7 +40,7 @@ last_or_before (y ∷ l) x m (inr has) = elim (last_or_before l x m has) [
 abbrev Keeps : List Reading → List Mapped → ℕ → Mapped → Mapped → Type 0
 Keeps g l k m made = (made ≡ m) × IsKeptAt g l k m
 
--- the same pairs stand before
+-- the same pairs are before
 abbrev SamePairs : List Mapped → List Mapped → Type 0
 SamePairs before some = (m : Mapped) → HasPair before m ↔ HasPair some m
 
@@ -93,7 +93,7 @@ kept_from g L T before some (m ∷ l) t kept is_l is_t same (inr (has, thins)) a
     let behind = kept_from g L T (before ++ m ∷ []) some l t kept at_l is_t (same_without before some m has same) thins are in
     (None, kept, (λ y keeps. keeps.1.first (subst (λ (b : List Mapped). HasPair b m) (sym taken) has)), subst (λ (k : ℕ). IsMadeFrom (Keeps g L) k l kept) (sym (next_place before m)) behind, refl)
 
--- what stays of some of them stays of all
+-- what is kept of some of them is kept of all
 pub kept_thinned : (g : List Reading) (l some kept : List Mapped) → Thins [] l some → IsKept g some kept → IsKept g l kept
 kept_thinned g l some kept thins is = kept_from g l some [] [] l some kept refl refl (λ m. ((λ has. has), (λ has. has))) thins is
 
@@ -131,6 +131,6 @@ kept_moved_from g f l k (x ∷ xs) kept (None, rest, none, more, is) =
 kept_moved_from g f l k (x ∷ xs) kept (Some y, rest, keeps, more, is) =
     (Some (moved f y), map (moved f) rest, (ap (moved f) keeps.0, stays_moved g f l k x keeps.1), kept_moved_from g f l (k + 1) xs rest more, ap (map (moved f)) is)
 
--- what stays doesn't depend on the places
+-- what is kept doesn't depend on the places
 pub kept_moved : (g : List Reading) (f : ℕ → ℕ) (l kept : List Mapped) → IsKept g l kept → IsKept g (map (moved f) l) (map (moved f) kept)
 kept_moved g f l kept is = kept_moved_from g f l 0 l kept is

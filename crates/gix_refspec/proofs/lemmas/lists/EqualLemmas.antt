@@ -10,7 +10,7 @@ pub true_of_both : (a b : Bool) → a ≡ true → b ≡ true → (a && b) ≡ t
 true_of_both true b first second = second
 true_of_both false b first second = absurd (cc)
 
--- where elements are equal just where their keys are, so are lists
+-- where elements are equal exactly where their keys are, so are lists
 pub same_keys : {A K : Type 0} (E : A → A → Bool) (key : A → K) → ((a b : A) → (E a b ≡ true) ↔ (key a ≡ key b)) → (xs ys : List A) → (pointwise E xs ys ≡ true) ↔ (map key xs ≡ map key ys)
 same_keys E key same [] [] = ((λ told. refl), (λ told. refl))
 same_keys E key same [] (y ∷ ys) = ((λ told. absurd (cc)), (λ told. absurd (cc)))

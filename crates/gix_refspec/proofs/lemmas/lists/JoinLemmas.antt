@@ -17,13 +17,13 @@ map_cut f xs i d below =
     let cut : xs ≡ take i xs ++ (get_or xs i d ∷ drop (suc i) xs) = sym (take-append-drop i xs) ∙ ap (λ y. take i xs ++ y) (drop-cons xs i d below) in
     ap (map f) cut ∙ map-append f (take i xs) (get_or xs i d ∷ drop (suc i) xs)
 
--- one more element behind the others, which makes one more, or nothing
+-- one more element after the others, which makes one more, or nothing
 pub made_next : {X Y : Type 0} (R : ℕ → X → Y → Type 0) (i : ℕ) (xs : List X) (x : X) (ys : List Y) (made : Option Y) → length xs ≡ i → IsMadeFrom R 0 xs ys → MakesOf R i x made → IsMadeFrom R 0 (xs ++ x ∷ []) (ys ++ option_to_list made)
 made_next R i xs x ys made long so_far makes =
     let at : i ≡ 0 + length xs = omega arith in
     made_push R 0 xs ys x made so_far (subst (λ n. MakesOf R n x made) at makes)
 
--- one more element behind the others, whose list is joined to theirs
+-- one more element after the others, whose list is joined to theirs
 joined_behind : {X Y : Type 0} (R : ℕ → X → List Y → Type 0) (k : ℕ) (xs : List X) (x : X) (ys made : List Y) → IsJoinedFrom R k xs ys → R (k + length xs) x made → IsJoinedFrom R k (xs ++ x ∷ []) (ys ++ made)
 joined_behind {X} {Y} R k [] x ys made none makes =
     let at : k + length {A = X} [] ≡ k = omega arith in
@@ -64,7 +64,7 @@ nothing_joined {X} {Y} R k (b ∷ bs) x after (made, rest, here, more, same) =
     let at : k + 1 + length bs ≡ k + length (b ∷ bs) = omega arith in
     subst (λ n. R n x []) at (nothing_joined R (k + 1) bs x after (subst (λ l. IsJoinedFrom R (k + 1) (bs ++ (x ∷ after)) l) (empty_both made rest same).1 more))
 
--- each element makes one thing at the most
+-- each element makes one thing at most
 abbrev pub MakesOnce : {X Y : Type 0} → (ℕ → X → Y → Type 0) → Type 0
 MakesOnce {X} {Y} R = (k : ℕ) (x : X) (y z : Y) → R k x y → R k x z → y ≡ z
 

@@ -24,7 +24,7 @@ same_made R one k x None (Some z) none_a is_b = absurd (none_a z is_b)
 same_made R one k x (Some y) None is_a none_b = absurd (none_b y is_a)
 same_made R one k x (Some y) (Some z) is_a is_b = ap Some (one k x y z is_a is_b)
 
--- a relation that makes one thing at the most of each element makes one list
+-- a relation that makes one thing at most of each element makes one list
 pub made_once : {X Y : Type 0} (R : ℕ → X → Y → Type 0) → ((k : ℕ) (x : X) (y z : Y) → R k x y → R k x z → y ≡ z) → (k : ℕ) (xs : List X) (ys zs : List Y) → IsMadeFrom R k xs ys → IsMadeFrom R k xs zs → ys ≡ zs
 made_once R one k [] ys zs empty also = empty ∙ sym also
 made_once R one k (x ∷ xs) ys zs (a, rest, of, more, is) (b, rest2, of2, more2, is2) =

@@ -97,7 +97,7 @@ left_fault y = elim (decided_end (codes "/") y) [
   ]
 ]
 
--- whether some byte behind clean ones adds a fault
+-- whether some byte after clean ones adds a fault
 scanned : (y rest : List ℕ) → IsClean y → ((e : Error) × Added (y ++ rest) e) ⊎ IsClean (y ++ rest)
 scanned y [] clean = inr (subst IsClean (sym (append-nil y)) clean)
 scanned y (b ∷ rest) clean = elim (added_fault y b) [

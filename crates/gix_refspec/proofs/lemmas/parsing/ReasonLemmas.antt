@@ -67,7 +67,7 @@ starred_not_empty t has empty = Lacks-Holds star [] tt (subst HasStar empty has)
 pub push_alone_reaches : (m : Mode) (s : List ℕ) → IsPositive m → (s ≡ [] → m ≡ Normal → ⊥) → NoReasonBeforeSource Push m s None
 push_alone_reaches m s pos full = (λ e h. full h.no_source h.unsigned, no_negative m None pos, λ e h. let i = h.nowhere in absurd (cc))
 
--- memory may be wanted at the source
+-- memory may be needed at the source
 pub memory_at_source : (op : Operation) (m : Mode) (s : List ℕ) (d : Option (List ℕ)) → NoReasonBeforeSource op m s d → NeedsMemory s → ReachesMemory op m s d
 memory_at_source op m s None reached wants = (reached, wants)
 memory_at_source op m s (Some d) reached wants = (reached, inl wants)
@@ -121,7 +121,7 @@ pub unbalanced_somewhere : (s t : List ℕ) → IsOneStarred s t → (s ≢ [] �
 unbalanced_somewhere s t (inl h) somewhere empty = somewhere (starred_not_empty s h.0) empty
 unbalanced_somewhere s t (inr h) somewhere empty = starred_not_empty t h.1 empty
 
--- the empty text never wants memory
+-- the empty text never needs memory
 pub empty_wants_none : NeedsMemory [] → ⊥
 empty_wants_none (inl several) = Lacks-Holds star [] tt (record { before = several.before; after = _; here = several.here })
 empty_wants_none (inr long) = Lacks-Holds star [] tt long.0

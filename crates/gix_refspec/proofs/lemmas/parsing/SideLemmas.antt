@@ -19,7 +19,7 @@ use Rattle.gix_refspec.specs.declared.types.Mode.TheVariants as declared_mode
 use Rattle.gix_refspec.specs.declared.name.PatternError.TheVariants as found
 use Rattle.gix_refspec.proofs.lemmas.texts.TextLemmas.{Lacks-Holds, Lacks-from_absent, first_once, one_not_two}
 
--- neither P nor, behind it, Q
+-- neither P nor, after it, Q
 pub Never-or : {P Q : Refusal → Type 0} → Never P → Never Q → Never (OrElse P Q)
 Never-or p q e (inl h) = p e h
 Never-or p q e (inr h) = q e h.1
@@ -75,7 +75,7 @@ pattern_fine x pattern PatternUnbalanced bad = bad
 pattern_fine x pattern NegativeEmpty bad = bad
 pattern_fine x pattern NegativeObjectHash bad = bad
 
--- nor does a look at a pattern find anything, but want of memory
+-- nor does a look at a pattern find anything, but out of memory
 pub nothing_against : (x : List ℕ) → NothingAgainst x
 nothing_against x pattern (found.Name fault) told = absurd (pattern_fine x pattern (ReferenceName fault) told)
 nothing_against x pattern found.Memory long = (refl, long)

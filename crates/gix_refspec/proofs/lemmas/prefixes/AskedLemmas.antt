@@ -125,7 +125,7 @@ asks_something specs i spec below is some asks = some (nothing_at specs i spec b
 pub asks_no_names : (specs : List RefSpecRef) (i : ℕ) (spec : RefSpecRef) (names : List BString) → i < length specs → spec ≡ get_or specs i spec → Lists (reading_of spec) (map bstring_bytes names) → ListsGroup (map reading_of specs) [] → length names ≡ 0
 asks_no_names specs i spec names below is lists asks = sym (length-map names bstring_bytes) ∙ ap length (lists_once (reading_of spec) (map bstring_bytes names) [] lists (nothing_at specs i spec below is asks))
 
--- the list of one more spec stands behind the others
+-- the list of one more spec is after the others
 pub one_more_list : (specs : List RefSpecRef) (i : ℕ) (spec : RefSpecRef) (list names new : List BString) → i < length specs → spec ≡ get_or specs i spec → new ≡ list ++ names → Lists (reading_of spec) (map bstring_bytes names) → ListsGroup (map reading_of (take i specs)) (map bstring_bytes list) → ListsGroup (map reading_of (take (i + 1) specs)) (map bstring_bytes new)
 one_more_list specs i spec list names new below is appended lists so_far =
     subst (ListsGroup (map reading_of (take (i + 1) specs))) (sym (map-append bstring_bytes list names) ∙ ap (map bstring_bytes) (sym appended))

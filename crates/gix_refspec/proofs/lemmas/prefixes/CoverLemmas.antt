@@ -126,7 +126,7 @@ hit_sources : (P : Mapped → List ℕ → Type 0) (hits : List Hit) → AllByRe
 hit_sources P [] all = tt
 hit_sources P (hit ∷ hits) all = ((λ n is. subst (P (forward_of hit)) (same_name hit.near n is) all.0), hit_sources P hits all.1)
 
--- what is so of all mappings is so of those that stay
+-- what is so of all mappings is so of those that are kept
 kept_each : (Q : Mapped → Type 0) (g : List Reading) (all : List Mapped) (k : ℕ) (xs ys : List Mapped) → AllByRecursion Q xs → IsMadeFrom (λ j m made. (made ≡ m) × IsKeptAt g all j m) k xs ys → AllByRecursion Q ys
 kept_each Q g all k [] ys each none = subst (AllByRecursion Q) (sym none) tt
 kept_each Q g all k (x ∷ xs) ys each (None, rest, here, more, is) = subst (AllByRecursion Q) (sym is) (kept_each Q g all (k + 1) xs rest each.1 more)

@@ -20,7 +20,7 @@ prefix_once x p q (of_pattern before after cut _ _) (of_head is _) = absurd (hea
 prefix_once x p q (of_pattern before after cut _ _) (of_name _ lacks _) = absurd (lacks_no_pattern x before after lacks cut)
 prefix_once x p q (of_pattern before after cut _ a) (of_pattern before2 after2 cut2 _ b) = a ∙ ((cut_once x before after before2 after2 cut cut2).0 ∙ sym b)
 
--- a slash stands behind `refs/`, or none does
+-- a slash is after `refs/`, or none is
 not_both : (x rest other : List ℕ) → x ≡ codes "refs/" ++ rest → x ≡ codes "refs/" ++ other → Lacks slash rest → Holds (codes "/") other → ⊥
 not_both x rest other is is2 lacks holds =
     let same = append_cancel_left (codes "refs/") rest other (sym is ∙ is2) in
@@ -57,6 +57,6 @@ expanded_once x list other (to_candidates _ outside _ _) (below_refs rest _ is _
 expanded_once x list other (to_candidates _ _ unlike _) (of_object _ _ id _) = absurd (unlike id)
 expanded_once x list other (to_candidates _ _ _ a) (to_candidates _ _ _ b) = a ∙ sym b
 
--- a side has one prefix at the most, and is expanded to one list
+-- a side has one prefix at most, and is expanded to one list
 pub one_prefix : (x : List ℕ) → OnePrefix x
 one_prefix x = record { prefix = prefix_once x; expanded = expanded_once x }

@@ -46,7 +46,7 @@ no_prefix x before after cut vague p (of_pattern first last other tells _) =
     let same_last : last ≡ after = once.1 in
     vague (subst (λ (a : List ℕ). TellsPrefix before a) same_last (subst (λ (b : List ℕ). TellsPrefix b last) same_first tells))
 
--- what stands before a star tells a prefix where it goes on below `refs/` and no bracket is there
+-- what is before a star tells a prefix where it goes on below `refs/` and no bracket is there
 pub tells : (before after rest : List ℕ) → before ≡ codes "refs/" ++ rest → 1 ≤ length rest → Lacks bracket before → Lacks bracket after → TellsPrefix before after
 tells before after rest below full first last = record {
   below = record { after = rest; here = below };
@@ -72,7 +72,7 @@ prefix_expands x p is (below_refs rest none below holds empty) = none p is
 prefix_expands x p is (of_object none outside id empty) = none p is
 prefix_expands x p is (to_candidates none outside unlike six) = absurd (cc)
 
--- so does a side with nothing but one name behind `refs/`
+-- so does a side with nothing but one name after `refs/`
 pub itself_expands : (x rest : List ℕ) → x ≡ codes "refs/" ++ rest → Lacks slash rest → ¬ (Expands x [])
 itself_expands x rest below lacks (to_prefix q has one) = absurd (cc)
 itself_expands x rest below lacks (to_itself rest2 none below2 lacks2 one) = absurd (cc)
@@ -142,7 +142,7 @@ object_no_prefix x id kind = outside_none x (id_not_head x id kind.2) kind.1
 pub partial_no_prefix : (x n : List ℕ) → HasKind x (partial n) → n ≢ head → HasNoPrefix x
 partial_no_prefix x n kind other = outside_none x (λ same. other (kind.0 ∙ same)) kind.2
 
--- the prefix of a pattern is what stands before its star, where that tells one
+-- the prefix of a pattern is what is before its star, where that tells one
 pub pattern_prefix : (x : List ℕ) (before after : Bor (List ℕ)) (r : Bool) → IsCut before.now after.now x → IsTrue r ↔ TellsPrefix before.now after.now → MatchOption (then_some r before) (HasNoPrefix x) (λ p. IsPrefix x p.now)
 pattern_prefix x before after true cut told = of_pattern before.now after.now cut (told.0 refl) refl
 pattern_prefix x before after false cut told = no_prefix x before.now after.now cut (λ tells. false≢true (told.1 tells))

@@ -14,7 +14,7 @@ use Rattle.gix_refspec.proofs.lemmas.parsing.SideLemmas.{Lacks-name, HasStar-pat
 use Rattle.gix_refspec.proofs.lemmas.texts.HeadLemmas.{IsName-head}
 use Rattle.gix_refspec.proofs.lemmas.specs.ReadBackLemmas.{named_so, named_name, named_pattern}
 
--- a side that is there has one star at the most
+-- a side that is there has one star at most
 abbrev pub HasFew : Option (List ℕ) → Type 0
 HasFew None = Unit {0}
 HasFew (Some x) = ¬ (HasSeveralStars x)
@@ -93,7 +93,7 @@ alike_balanced : (s d : List ℕ) → AreAlike s d → ¬ (IsOneStarred (named_b
 alike_balanced s d (inl names) = neither_starred (named_by s) d (Lacks-name (named_by s) (named_name s names.0)) (Lacks-name d names.1)
 alike_balanced s d (inr patterns) = both_starred (named_by s) d (subst HasStar (sym (named_pattern s patterns.0)) (HasStar-pattern s patterns.0)) (HasStar-pattern d patterns.1)
 
--- two sides of which not just one has a star
+-- two sides of which not exactly one has a star
 abbrev pub AreBalanced : Option (List ℕ) → Option (List ℕ) → Type 0
 AreBalanced None d = Unit {0}
 AreBalanced (Some s) None = Unit {0}

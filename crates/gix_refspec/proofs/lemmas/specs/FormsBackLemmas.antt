@@ -47,7 +47,7 @@ back_update m s d text pos parts alike =
     (updates m t d refl pos (named_parts m s d (Some d) text pos full.0 parts parts.last) (named_alike s d alike) refl)
     (means Fetch m (Some (named_by t)) (Some d) pos ∙ ap (λ (x : List ℕ). Some (fetch_and_update x d (is_forced m))) (named_once s))
 
--- `HEAD` and a destination behind the sign of the mode
+-- `HEAD` and a destination after the sign of the mode
 head_parts : (m : Mode) (d : List ℕ) → IsPositive m → Lacks colon d → AreParts m head (Some d) (sign (is_forced m) ++ (head ++ (colon ∷ d)))
 head_parts Normal d pos lacks = record { signed = (refl, head_unsigned); last = lacks }
 head_parts Forced d pos lacks = record { signed = refl; last = lacks }
@@ -79,7 +79,7 @@ back_push_exclude s either other =
     (push_excludes t refl (record { signed = refl; last = Lacks-colon_either t (named_either s either) }) (named_either s either) (named_hash s other) refl)
     (ap (λ (x : List ℕ). Some (push_exclude x)) (named_once s))
 
--- a colon behind the sign of the mode
+-- a colon after the sign of the mode
 colon_parts : (m : Mode) → IsPositive m → AreParts m [] (Some []) (sign (is_forced m) ++ (colon ∷ []))
 colon_parts Normal pos = record { signed = (refl, colon_unsigned); last = tt }
 colon_parts Forced pos = record { signed = refl; last = tt }

@@ -105,7 +105,7 @@ abbrev pub is_forced : Mode → Bool
 is_forced Forced = true
 is_forced _ = false
 
--- parts with what the source names, behind the sign of the mode
+-- parts with what the source names, after the sign of the mode
 pub named_parts : (m : Mode) (s t : List ℕ) (d : Option (List ℕ)) (text : List ℕ) → IsPositive m → s ≢ [] → AreParts m s d text → Lacks colon t → AreParts m (named_by s) (Some t) (sign (is_forced m) ++ (named_by s ++ (colon ∷ t)))
 named_parts Normal s t d text pos full parts lacks = record { signed = (refl, unsigned_named s (Some t) full (unsigned_front s d (Some t) full (subst IsUnsigned refl parts.signed.1))); last = lacks }
 named_parts Forced s t d text pos full parts lacks = record { signed = refl; last = lacks }

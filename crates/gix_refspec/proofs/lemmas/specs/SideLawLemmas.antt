@@ -18,7 +18,7 @@ one_or_none : (x : List ℕ) → ¬ (HasSeveralStars x) → Lacks star x ⊎ Has
 one_or_none x few (inl lacks) = inr lacks
 one_or_none x few (inr has) = inl (one_star x has few)
 
--- and of two of which not just one has a star, both have one or neither
+-- and of two of which not exactly one has a star, both have one or neither
 both_or_neither : (s d : List ℕ) → ¬ (HasSeveralStars s) → ¬ (HasSeveralStars d) → ¬ (IsOneStarred s d) → Lacks star s ⊎ HasStar s → Lacks star d ⊎ HasStar d → (HasOneStar s × HasOneStar d) ⊎ (Lacks star s × Lacks star d)
 both_or_neither s d few_s few_d balanced (inl no_s) (inl no_d) = inr (no_s, no_d)
 both_or_neither s d few_s few_d balanced (inl no_s) (inr of_d) = absurd (balanced (inr (no_s, of_d)))

@@ -36,7 +36,7 @@ keeps_operation op text r (pushes_pattern m s d push pos parts source destinatio
 keeps_operation op text r (pushes_to m s d push pos parts full plain name is) = of_operation op Push r _ push is refl
 keeps_operation op text r (push_excludes s push parts either hash is) = of_operation op Push r _ push is refl
 
--- what a meaning is for, or else this
+-- what a meaning is for, or otherwise this
 abbrev operation_or : Operation → Option Meaning → Operation
 operation_or op None = op
 operation_or op (Some m) = meant_for m

@@ -101,13 +101,13 @@ slashed x = cond (eqb x 47) 255 0
 abbrev ending : ℕ → ℕ
 ending y = bit_or (cond (eqb y 47) 255 0) (cond (eqb y 107) 255 0)
 
--- behind a byte that may end a component a byte with a clear lane is plain
+-- after a byte that may end a component a byte with a clear lane is plain
 plain_behind_end : (x : ℕ) → x < 256 → top 7 (bit_or (stop x) (bit_and (slashed x) 255)) ≡ false → class_at x ≡ Plain
 plain_behind_end x below clear =
     plain_class (class_at x)
     (sym (ap (λ t. t || is_plain_class (class_at x)) clear) ∙ agree_below_at (λ b. top 7 (bit_or (stop b) (bit_and (slashed b) 255)) || is_plain_class (class_at b)) (λ _. true) 256 x refl below)
 
--- and behind any other one it is plain or a slash
+-- and after any other one it is plain or a slash
 plain_or_slash : (x : ℕ) → x < 256 → top 7 (bit_or (stop x) (bit_and (slashed x) 0)) ≡ false → (is_plain_class (class_at x) || eqb x slash) ≡ true
 plain_or_slash x below clear =
     sym (ap (λ t. t || (is_plain_class (class_at x) || eqb x slash)) clear) ∙ agree_below_at (λ b. top 7 (bit_or (stop b) (bit_and (slashed b) 0)) || (is_plain_class (class_at b) || eqb b slash)) (λ _. true) 256 x refl below

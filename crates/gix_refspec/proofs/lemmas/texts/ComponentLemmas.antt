@@ -1,5 +1,5 @@
 -- The components of a text, found by the slashes round them. A slash is put before the text, so that
--- each component stands behind one.
+-- each component is after one.
 use Rattle.std.proofs.Common.{◌≡◌, ℕ, List, [], ◌∷◌, ◌++◌, refl, sym, ap, ◌∙◌, inl, inr, append_assoc}
 use Rattle.std.specs.Prelude.{◌⊎◌}
 use Rattle.std.specs.List.{AllByRecursion, join_with_byte}
@@ -9,12 +9,12 @@ use Rattle.gix_refspec.specs.Texts.Words.{Lacks}
 use Rattle.gix_refspec.specs.Texts.Bytes.{slash}
 use Rattle.gix_refspec.specs.Texts.Name.{SomeComponent}
 
--- nothing, or what begins with a slash: what may stand behind a component
+-- nothing, or what begins with a slash: what may be after a component
 abbrev pub IsEnd : List ℕ → Type 0
 IsEnd [] = Unit {0}
 IsEnd (b ∷ x) = b ≡ slash
 
--- the parts, each behind a slash
+-- the parts, each after a slash
 abbrev pub fenced : List (List ℕ) → List ℕ
 fenced [] = []
 fenced (p ∷ ps) = slash ∷ (p ++ fenced ps)
@@ -60,7 +60,7 @@ pieces_of (b ∷ x) =
       | inr other ↦ record { first = b ∷ rest.first; others = rest.others; first_whole = (other, rest.first_whole); others_whole = rest.others_whole; here = ap (λ y. b ∷ y) rest.here }
     ]
 
--- what may stand behind a component is parts behind slashes
+-- what may be after a component is parts after slashes
 fence_parts : (x : List ℕ) → IsEnd x → (ps : List (List ℕ)) × AllByRecursion (Lacks slash) ps × (fenced ps ≡ x)
 fence_parts [] ends = ([], tt, refl)
 fence_parts (b ∷ x) ends =
@@ -88,7 +88,7 @@ last_slash (b ∷ x) =
 pub last_slash_behind_one : (x : List ℕ) → LastSlash (slash ∷ x)
 last_slash_behind_one x = elim (last_slash (slash ∷ x)) [ inl lacks ↦ absurd (lacks.0 refl) | inr found ↦ found ]
 
--- w stands in x between two slashes, or between a slash and an end
+-- w is in x between two slashes, or between a slash and an end
 pub record IsComponent (w x : List ℕ) : Type 0 where
   pub before : List ℕ
   pub after : List ℕ

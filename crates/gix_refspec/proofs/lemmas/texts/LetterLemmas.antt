@@ -47,7 +47,7 @@ end_before (b ∷ y) (c ∷ p) w lacks same =
     let end = end_before y p w lacks tails in
     record { before = b ∷ end.before; here = ap (λ z. b ∷ z) end.here }
 
--- a word without a letter ends a text with letters just where it ends the text
+-- a word without a letter ends a text with letters exactly where it ends the text
 EndsWith-before : (w y : List ℕ) → Lacks letter w → EndsWith w (with_letters y) → EndsWith w y
 EndsWith-before w y lacks ends = end_before y ends.before w lacks ends.here
 
@@ -257,7 +257,7 @@ calm_scanned (suc m) x i s some room calm scanned =
     let same : i + 1 + m ≡ i + suc m = omega (arith) in
     subst (λ j. IsScanned x j s) same rest
 
--- calm bytes behind what was looked at add no fault, and are no stars
+-- calm bytes after what was looked at add no fault, and are no stars
 pub calm_to : (x : List ℕ) (i b : ℕ) (s : Bool) → 0 < i → i ≤ b → b ≤ length x → AreCalm x i b → IsScanned x i s → IsScanned x b s
 calm_to x i b s some to room calm scanned =
     let there : i + (b - i) ≡ b = omega (arith, to) in

@@ -81,7 +81,7 @@ slash_adds_nothing (InvalidByte c) fault = false≢true (subst (λ b. is_refused
 pub IsClean-start : IsClean (slash ∷ [])
 IsClean-start = IsClean-more [] slash IsClean-nil slash_adds_nothing
 
--- what stands behind a byte other than the slash in front of x stands in x
+-- what is after a byte other than the slash in front of x is in x
 record InText (x w : List ℕ) : Type 0 where
   before : List ℕ
   here : x ≡ before ++ w

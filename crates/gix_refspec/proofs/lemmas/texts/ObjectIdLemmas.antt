@@ -40,7 +40,7 @@ Spells-tail a b x t i spelled k below =
     let high : 2 * suc k ≡ suc (suc (2 * k)) = omega arith in
     rw (low, high) at (spelled (suc k) (omega arith))
 
--- a byte may come first, after its two digits
+-- a byte may be first, after its two digits
 Spells-cons : (a b x : ℕ) (t i : List ℕ) → IsSpelledBy x a b → Spells t i → Spells (a ∷ b ∷ t) (x ∷ i)
 Spells-cons a b x t i first rest zero below = first
 Spells-cons a b x t i first rest (suc k) below =
@@ -197,7 +197,7 @@ id_or_fault t = elim (length_or_not (length t)) [
 abbrev pub SpellsFirst : ℕ → List ℕ → List ℕ → Type 0
 SpellsFirst n t buffer = (k : ℕ) → k < n → IsSpelledBy (slice_index buffer k) (slice_index t (2 * k)) (slice_index t (2 * k + 1))
 
--- the byte that the next two digits spell is put behind those that are there
+-- the byte that the next two digits spell is put after those that are there
 pub SpellsFirst-more : (n : ℕ) (t buffer : List ℕ) (x : ℕ) → n < length buffer → SpellsFirst n t buffer
     → IsSpelledBy x (slice_index t (2 * n)) (slice_index t (2 * n + 1)) → SpellsFirst (n + 1) t (slice_set buffer n x)
 SpellsFirst-more n t buffer x room first spelled k below = elim (cases_eq k n) [

@@ -78,7 +78,7 @@ pub Lacks-count_by : (x : List ℕ) → count_by (λ b. b == star) x ≡ 0 → L
 unfolding stars
 Lacks-count_by x none = Lacks-no_stars x none
 
--- two stars, of which the first stands in front
+-- two stars, of which the first is in front
 several_in_front : (b : ℕ) (x : List ℕ) → b ≡ star → HasStar x → HasSeveralStars (b ∷ x)
 several_in_front b x same more = record { before = []; between = more.before; after = more.after; here = ap (λ c. c ∷ x) same ∙ ap (λ y. star ∷ y) more.here }
 
@@ -108,7 +108,7 @@ pub HasSeveralStars-count_by : (x : List ℕ) → count_by (λ b. b == star) x �
 unfolding stars
 HasSeveralStars-count_by x some two = several_stars x some two
 
--- a star behind a part of a text that has one is a second one
+-- a star after a part of a text that has one is a second one
 pub second_star : (x : List ℕ) (i : ℕ) → i < length x → get_or x i 0 ≡ star → count_by (λ b. b == star) (take i x) ≡ 1 → HasSeveralStars x
 second_star x i below here one =
     let (before, after, cut) = HasOneStar-count_by (take i x) one in

@@ -15,17 +15,17 @@ use Rattle.gix_refspec.proofs.lemmas.texts.NameLemmas.{IsName-from_clean}
 abbrev pub lock_end : ℕ
 lock_end = 107
 
--- b may not stand behind a. So that `.lock` needs no look further back, no component may end with its `k`
+-- b may not be after a. So that `.lock` needs no look further back, no component may end with its `k`
 abbrev pub are_apart : ℕ → ℕ → Bool
 are_apart a b = b == slash && (a == slash || a == lock_end) || b == dot && (a == slash || a == dot) || b == brace && a == at
 
--- some byte of x may not stand in a name, or not behind the one before it, which is a at first; or x may
+-- some byte of x may not be in a name, or not after the one before it, which is a at first; or x may
 -- not end so
 abbrev pub is_suspect : ℕ → List ℕ → Bool
 is_suspect a [] = a == slash || a == dot || a == lock_end
 is_suspect a (b ∷ x) = (b == star || (is_refused_byte b || are_apart a b)) || is_suspect b x
 
--- what a text shows at a byte, and behind it, in which nothing is suspect
+-- what a text shows at a byte, and after it, in which nothing is suspect
 record Sound (b : ℕ) (rest : List ℕ) : Type 0 where
   unstarred : (b == star) ≡ false
   allowed : is_refused_byte b ≡ false
@@ -41,7 +41,7 @@ sound_at a b (c ∷ before) rest none = sound_at c b before rest (or_parts _ (is
 sound_in : (y : List ℕ) → is_suspect 0 y ≡ false → (before : List ℕ) (b : ℕ) (rest : List ℕ) → y ≡ before ++ (b ∷ rest) → Sound b rest
 sound_in y none before b rest here = sound_at 0 b before rest (ap (is_suspect 0) (sym here) ∙ none)
 
--- nothing behind a word is suspect, where that word ends what stands before
+-- nothing after a word is suspect, where that word ends what is before
 behind_word : (y before rest : List ℕ) (b : ℕ) (word : List ℕ) → is_suspect 0 y ≡ false → y ≡ before ++ rest → EndsWith (b ∷ word) before → is_suspect b (word ++ rest) ≡ false
 behind_word y before rest b word none here ends =
     let whole : y ≡ ends.before ++ (b ∷ (word ++ rest)) = here ∙ ap (λ z. z ++ rest) ends.here ∙ append_assoc ends.before (b ∷ word) rest in

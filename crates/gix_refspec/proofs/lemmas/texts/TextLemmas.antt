@@ -20,17 +20,17 @@ Lacks-drop b x n none = Lacks-from_places b (drop n x) (λ k below.
     let inside : n + k < length x = omega (arith, length-drop n x) in
     rw get_or-drop (none (n + k) (omega arith) inside))
 
--- what stands before the first place of b lacks it
+-- what is before the first place of b lacks it
 pub Lacks-take : (b : ℕ) (x : List ℕ) (n : ℕ) → n ≤ length x → ((k : ℕ) → k < n → ¬ ((get_or x k 0 == b) ≡ true)) → Lacks b (take n x)
 Lacks-take b x n fits none = Lacks-from_places b (take n x) (λ k below.
     let inside : k < n = omega (arith, length-take-le n x fits) in
     rw get_or-take (none k inside))
 
--- x is what stands before a place, its byte, and what stands behind it
+-- x is what is before a place, its byte, and what is after it
 pub cut_at : (x : List ℕ) (n b : ℕ) → n < length x → get_or x n 0 ≡ b → x ≡ take n x ++ (b ∷ drop (suc n) x)
 cut_at x n b inside here = sym (take-append-drop n x) ∙ ap (λ y. take n x ++ y) (drop-cons x n 0 inside ∙ ap (λ c. c ∷ drop (suc n) x) here)
 
--- what stands behind a place, as the code takes it
+-- what is after a place, as the code takes it
 pub behind : (x : List ℕ) (n : ℕ) → n < length x → take (length (drop n x) - 1) (drop 1 (drop n x)) ≡ drop (suc n) x
 behind x n inside =
     let later : drop 1 (drop n x) ≡ drop (n + 1) x = drop-drop 1 n x in
@@ -55,7 +55,7 @@ Lacks-here b (c ∷ front) back lacks = Lacks-here b front back lacks.1
 pub Lacks-Holds : (b : ℕ) (x : List ℕ) → Lacks b x → Holds (b ∷ []) x → ⊥
 Lacks-Holds b x lacks holds = Lacks-here b holds.before holds.after (subst (Lacks b) holds.here lacks)
 
--- a text in which b doesn't stand lacks it
+-- a text in which b isn't lacks it
 pub Lacks-from_absent : (b : ℕ) (x : List ℕ) → ¬ (Holds (b ∷ []) x) → Lacks b x
 Lacks-from_absent b [] absent = tt
 Lacks-from_absent b (c ∷ x) absent = (
@@ -63,7 +63,7 @@ Lacks-from_absent b (c ∷ x) absent = (
   Lacks-from_absent b x (λ holds. absent (record { before = c ∷ holds.before; after = holds.after; here = ap (λ y. c ∷ y) holds.here })),
 )
 
--- a text has one place of b at most where what stands before it lacks b
+-- a text has one place of b at most where what is before it lacks b
 pub first_once : (b : ℕ) (p q s t : List ℕ) → Lacks b p → Lacks b q → p ++ (b ∷ s) ≡ q ++ (b ∷ t) → (p ≡ q) × (s ≡ t)
 first_once b [] [] s t lacks_p lacks_q same = (refl, cc)
 first_once b [] (c ∷ q) s t lacks_p lacks_q same = absurd (lacks_q.0 (let e : b ≡ c = cc in sym e))
@@ -75,7 +75,7 @@ first_once b (c ∷ p) (d ∷ q) s t lacks_p lacks_q same =
     let fronts : p ≡ q = rest.0 in
     (cc, rest.1)
 
--- a text has one place of b at most where what stands behind it lacks b
+-- a text has one place of b at most where what is after it lacks b
 pub last_once : (b : ℕ) (p q s t : List ℕ) → Lacks b s → Lacks b t → p ++ (b ∷ s) ≡ q ++ (b ∷ t) → (p ≡ q) × (s ≡ t)
 last_once b [] [] s t lacks_s lacks_t same = (refl, cc)
 last_once b [] (c ∷ q) s t lacks_s lacks_t same = let rest : s ≡ q ++ (b ∷ t) = cc in absurd (Lacks-here b q t (subst (Lacks b) rest lacks_s))

@@ -22,7 +22,7 @@ pub joined_each : {X Y : Type 0} (R : ℕ → X → List Y → Type 0) (P : Y �
 joined_each R P n makes k [] ys fits empty = subst (AllByRecursion P) (sym empty) tt
 joined_each R P n makes k (x ∷ xs) ys fits (made, rest, one, more, is) = subst (AllByRecursion P) (sym is) (all_join P made rest (makes k x made (omega arith) one) (joined_each R P n makes (k + 1) xs rest (omega arith) more))
 
--- what stays of a list has what the list has
+-- what is kept of a list has what the list has
 pub stays_each : {X : Type 0} (S : ℕ → X → Type 0) (P : X → Type 0) (k : ℕ) (xs ys : List X) → AllByRecursion P xs → IsMadeFrom (λ j x y. (y ≡ x) × S j x) k xs ys → AllByRecursion P ys
 stays_each S P k [] ys all empty = subst (AllByRecursion P) (sym empty) tt
 stays_each S P k (x ∷ xs) ys all (None, rest, none, more, is) = subst (AllByRecursion P) (sym is) (stays_each S P (k + 1) xs rest all.1 more)
@@ -47,7 +47,7 @@ forward_fits g items l kept =
     let both = subst (AllByRecursion (λ m. m.spec < n)) (sym all.all) (all_join (λ m. m.spec < n) all.ids (map forward_of all.hits) ids (map_forward n all.hits hits)) in
     stays_each (λ k m. IsKeptAt g kept.all k m) (λ m. m.spec < n) 0 kept.all l both kept.is
 
--- no pair stands twice in what stays
+-- no pair is there twice in what is kept
 pub apart_still : (S : ℕ → Mapped → Type 0) (k : ℕ) (xs ys : List Mapped) → AreApart xs → IsMadeFrom (λ j x y. (y ≡ x) × S j x) k xs ys → AreApart ys
 apart_still S k [] ys apart empty = subst AreApart (sym empty) tt
 apart_still S k (x ∷ xs) ys apart (None, rest, none, more, is) = subst AreApart (sym is) (apart_still S (k + 1) xs rest apart.1 more)
@@ -70,7 +70,7 @@ never_meet (m ∷ l) one apart = (
     within : (n : Mapped) → Contains l n → Contains (m ∷ l) n
     within n (k, below, is) = (suc k, omega (arith, below), is)
 
--- mappings of which no destination is contested have one source for each
+-- mappings of which no destination is in conflict have one source for each
 pub free_one_source : (g : List Reading) (l : List Mapped) → AreConflicts g l [] → HaveOneSource l
 free_one_source g l free m n d has_m has_n m_to n_to = elim (start_cases m.source n.source) [
   | inl same ↦ same
@@ -88,7 +88,7 @@ one_source g l rest fixes valid m n d has_m has_n m_to n_to = free_one_source g 
     was : (m : Mapped) → Contains rest m → Contains l m
     was m (k, below, is) = subst (Contains l) is (All-from_recursion (Contains l) rest (stays_each (λ j x. Survives x) (Contains l) 0 l rest (recursion_from_All (Contains l) l (All-contains_itself l)) valid.survive) k m below)
 
--- and where no pair stood twice, no destination stands twice
+-- and where no pair was there twice, no destination is
 pub never_meet_after : (g : List Reading) (l rest : List Mapped) (fixes : List Removed) → IsValidated g l rest fixes → AreApart l → NeverMeet rest
 never_meet_after g l rest fixes valid apart = never_meet rest (one_source g l rest fixes valid) (apart_still (λ k m. Survives m) 0 l rest apart valid.survive)
 

@@ -1,4 +1,4 @@
--- Where the hashes of all destinations differ, nothing is contested.
+-- Where the hashes of all destinations differ, nothing is in conflict.
 use Rattle.std.proofs.Common.{◌≡◌, ◌≢◌, inl, ℕ, zero, suc, ◌<◌, List, [], ◌∷◌, ◌++◌, Option, Some, option_map, option_to_list, length, get_or, refl, sym, ap, ◌∙◌, subst, arith}
 use Rattle.std.specs.List.{AllByRecursion, slice_get}
 use Rattle.std.specs.List.Sorted.{IsPermutation}
@@ -10,7 +10,7 @@ use Rattle.gix_refspec.specs.Private.Updates.{destination_hashes}
 use Rattle.gix_refspec.proofs.lemmas.validate.FirstLemmas.{at_contained}
 use Rattle.gix_refspec.proofs.lemmas.keep.RepeatLemmas.{Contains-from_Has, Has-left, Has-right, apart_places}
 
--- no number stands in the list twice
+-- no number is in the list twice
 AreApart : List ℕ → Type 0
 AreApart ns = (i j d : ℕ) → i < j → j < length ns → get_or ns i d ≢ get_or ns j d
 
@@ -27,7 +27,7 @@ has_hash (x ∷ xs) zero m d is goes =
     Has-left (hash_of x) (destination_hashes xs) (name_hash d) (subst (λ (ns : List ℕ). Has ns (name_hash d)) (sym there) (inl refl))
 has_hash (x ∷ xs) (suc k) m d is goes = Has-right (hash_of x) (destination_hashes xs) (name_hash d) (has_hash xs k m d is goes)
 
--- numbers behind others that are apart
+-- numbers after others that are apart
 apart_right : (xs ys : List ℕ) → AreApart (xs ++ ys) → AreApart ys
 unfolding AreApart
 apart_right [] ys apart = apart

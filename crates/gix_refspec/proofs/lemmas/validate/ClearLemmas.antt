@@ -103,7 +103,7 @@ module _ (b : ℕ) (below : b < 32) (no_digit : is_lower_digit b ≡ false) wher
     ids_lack (k + 1) g rest sides.1 more,
   )
 
-  -- so it is with each mapping that stays
+  -- so it is with each mapping that is kept
   pub kept_lacks : (g : List Reading) (items : List Ref) (l : List Mapped) → AllByRecursion (SidesLack b) g → AllByRecursion (λ r. Lacks b r.name) items → AreKeptForward g items l → AllByRecursion (MappedLacks b) l
   kept_lacks g items l sides names kept =
       let are = kept.forward in

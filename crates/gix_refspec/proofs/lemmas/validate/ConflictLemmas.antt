@@ -41,7 +41,7 @@ zip_more R [] (b ∷ ys) x y zip one = absurd zip
 zip_more R (a ∷ xs) [] x y zip one = absurd zip
 zip_more R (a ∷ xs) (b ∷ ys) x y zip one = (zip.0, zip_more R xs ys x y zip.1 one)
 
--- updates to one destination have the places of the updates to it
+-- updates of one destination have the places of the updates of it
 pub places_to_one : (x : List ℕ) (cs : List Update) (k : ℕ) → AllByRecursion (λ c. c.destination.now ≡ x) cs → Has (updated_places cs) k ↔ HasUpdate cs k x
 places_to_one x [] k same = ((λ none. none), (λ none. none))
 places_to_one x (c ∷ cs) k same = (
@@ -223,7 +223,7 @@ conflicting_of_run g l rest n cs several cut settled =
       order = strict_left update_cmp (take n rest) (drop n rest) (subst (λ (xs : List Update). IsStrictlySortedBy update_cmp xs) (sym whole) settled.order);
     }
 
--- behind a run all else stays as it was
+-- after a run all else stays as it was
 behind_run : (l : List Mapped) (run others : List Update) (k : ℕ) (d : List ℕ) → (cut : IsRun run others) → HasUpdate (run ++ others) k d ⊎ AllByRecursion (λ c. slice_cmp nat_cmp d c.destination.now ≡ Less) (run ++ others) → HasUpdate others k d ⊎ AllByRecursion (λ c. slice_cmp nat_cmp d c.destination.now ≡ Less) others
 behind_run l run others k d cut (inl has) = elim (HasUpdate-cases run others k d has) [
   | inl here ↦ inr (subst (λ (x : List ℕ). AllByRecursion (λ c. slice_cmp nat_cmp x c.destination.now ≡ Less) others) (sym (to_same cut.destination run k d cut.same here)) cut.beyond)
@@ -297,7 +297,7 @@ reported g l (r ∷ run) others cs c several cut over settled =
     lower [] below = tt
     lower (y ∷ ys) below = (subst (λ (d : List ℕ). slice_cmp nat_cmp y.destination d ≡ Less) over.same.0 below.0.0, lower ys below.1)
 
--- where nothing is contested, there is no conflict
+-- where nothing is in conflict, there is no conflict
 pub no_conflicts : (g : List Reading) (l : List Mapped) → ((d : List ℕ) → ¬ (HasConflictAt l d)) → AreConflicts g l []
 unfolding IsStrictlySortedBy
 no_conflicts g l free = record { each = tt; every = λ d contested. absurd (free d contested); order = tt }
@@ -311,7 +311,7 @@ reported_more g l rest n cs new some fits cut added settled =
       | inr more ↦ subst (λ (ds : List Conflict). AreReported g l (drop n rest) ds) (sym more.3) (reported g l (take n rest) (drop n rest) cs more.0 more.1 cut more.2 whole)
     ]
 
--- where there are no mappings nothing is contested
+-- where there are no mappings nothing is in conflict
 pub free_empty : (g : List Reading) (ms : List Mapping) → length ms ≡ 0 → AreConflicts g (map mapped_of ms) []
 free_empty g [] empty = no_conflicts g [] (λ d c. let inside = c.has_one.1 in omega (arith, inside))
 free_empty g (m ∷ ms) empty = absurd (omega arith)

@@ -77,7 +77,7 @@ made_at_places {Y} P Q l k (x ∷ rest) (n ∷ ns) (y ∷ ys) at has rises above
       ]),
     )
 
--- a pair that stands at an earlier place
+-- a pair that is at an earlier place
 pub earlier_pair : (l : List Mapped) (j k : ℕ) (m n : Mapped) → slice_get l j ≡ Some m → j < k → IsSamePair m n → HasPair (take k l) n
 earlier_pair [] j k m n is before same = absurd (cc)
 earlier_pair (x ∷ l) j zero m n is before same = absurd (omega arith)
@@ -145,7 +145,7 @@ first_link source d (x ∷ l) i m is links = elim (links_cases source d x) [
           ],
         )
 
--- a contested destination has first mappings at two places
+-- a destination in conflict has first mappings at two places
 pub two_firsts : (l : List Mapped) (d : List ℕ) → HasConflictAt l d → (j : ℕ) × (k : ℕ) × (j ≢ k) × IsFirstAt l j d × IsFirstAt l k d
 two_firsts l d c =
     let one = at_contained l c.one c.has_one in
@@ -161,7 +161,7 @@ two_firsts l d c =
       (b.1, b.2, record { goes = b.3.1; first = b.4 }),
     )
 
--- two places of first mappings make a destination contested
+-- two places of first mappings put a destination in conflict
 pub contested_from_firsts : (l : List Mapped) (d : List ℕ) (j k : ℕ) → j < k → IsFirstAt l j d → IsFirstAt l k d → HasConflictAt l d
 contested_from_firsts l d j k before (m, is_m, m_first) (n, is_n, n_first) = record {
   one = m;

@@ -18,7 +18,7 @@ use Rattle.gix_refspec.proofs.lemmas.validate.PlaceFitLemmas.{stands_behind, map
 use Rattle.gix_refspec.proofs.lemmas.keep.RepeatLemmas.{all_join}
 use Rattle.gix_refspec.proofs.lemmas.lists.SomeLemmas.{Any, Any-right}
 
--- ---- what is made of the elements of a list, which stand at their places
+-- ---- what is made of the elements of a list, which are at their places
 
 stands_at : {X : Type 0} (all before : List X) (x : X) (after : List X) (k : ℕ) → before ++ (x ∷ after) ≡ all → length before ≡ k → slice_get all k ≡ Some x
 stands_at {X} all before x after k whole place = subst (λ (i : ℕ). slice_get all i ≡ Some x) place (subst (λ (z : List X). slice_get z (length before) ≡ Some x) whole (stands_behind before x after))

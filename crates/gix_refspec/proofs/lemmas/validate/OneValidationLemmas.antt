@@ -25,7 +25,7 @@ use Rattle.gix_refspec.proofs.lemmas.lists.SomeLemmas.{Any}
 
 -- ---- conflicts
 
--- a text is among others by a place, or in front or behind
+-- a text is among others by a place, or before or after
 among : (xs : List (List ℕ)) (d : List ℕ) → Contains xs d → Any (λ x. x ≡ d) xs
 among [] d (k, below, is) = absurd (omega (arith, below))
 among (x ∷ xs) d (zero, below, is) = inl is
@@ -36,7 +36,7 @@ placed [] d any = absurd any
 placed (x ∷ xs) d (inl here) = (0, omega arith, here)
 placed (x ∷ xs) d (inr later) = let at = placed xs d later in (suc at.0, omega (arith, at.1), at.2)
 
--- what stands behind a text in order is above it
+-- what is after a text in order is above it
 above : (x d : List ℕ) (xs : List (List ℕ)) → AllByRecursion (λ y. slice_cmp nat_cmp x y ≡ Less) xs → Any (λ y. y ≡ d) xs → slice_cmp nat_cmp x d ≡ Less
 above x d [] all any = absurd any
 above x d (y ∷ xs) all (inl here) = subst (λ (z : List ℕ). slice_cmp nat_cmp x z ≡ Less) here all.0
@@ -48,7 +48,7 @@ same_first x y xs ys over_x over_y (inl here) back = sym here
 same_first x y xs ys over_x over_y (inr later) (inl here) = here
 same_first x y xs ys over_x over_y (inr later) (inr also) = absurd (not_below_itself x (below_trans x y x (above x y xs over_x also) (above y x ys over_y later)))
 
--- what is behind the first of one list is behind that of the other
+-- what is after the first of one list is after that of the other
 behind : (x y d : List ℕ) (xs ys : List (List ℕ)) → x ≡ y → AllByRecursion (λ z. slice_cmp nat_cmp x z ≡ Less) xs → Any (λ z. z ≡ d) xs → Any (λ z. z ≡ d) (y ∷ ys) → Any (λ z. z ≡ d) ys
 behind x y d xs ys same over any (inl here) = absurd (not_below_itself x (subst (λ (z : List ℕ). slice_cmp nat_cmp x z ≡ Less) (sym (same ∙ here)) (above x d xs over any)))
 behind x y d xs ys same over any (inr later) = later

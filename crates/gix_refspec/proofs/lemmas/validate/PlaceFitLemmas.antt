@@ -1,4 +1,4 @@
--- The places of what stays.
+-- The places of what is kept.
 use Rattle.std.proofs.Common.{◌≡◌, inl, inr, ℕ, ◌+◌, ◌<◌, List, [], ◌∷◌, ◌++◌, Option, None, Some, length, length-append, map, refl, sym, ap, ◌∙◌, subst, arith}
 use Rattle.std.specs.List.{AllByRecursion, slice_get}
 use Rattle.std.proofs.lemmas.List.{append_assoc}
@@ -21,7 +21,7 @@ record IsPlacedHit (n : ℕ) (items : List Ref) (h : Hit) : Type 0 where
   stands : slice_get items h.item ≡ Some ref
   named : h.near ≡ ref.name
 
--- what is behind the front of a list stands at its place
+-- what is after the front of a list is at its place
 pub stands_behind : {X : Type 0} (before : List X) (r : X) (after : List X) → slice_get (before ++ (r ∷ after)) (length before) ≡ Some r
 stands_behind [] r after = refl
 stands_behind (b ∷ before) r after = stands_behind before r after

@@ -59,7 +59,7 @@ less_of_two Less b is = inl refl
 less_of_two Equal b is = inr (refl, is)
 less_of_two Greater b is = absurd (cc)
 
--- what comes later is to a later destination, or to the same one from a later place
+-- what is later is to a later destination, or to the same one from a later place
 pub later : (x y : Update) → update_cmp x y ≡ Less → (slice_cmp nat_cmp x.destination.now y.destination.now ≡ Less) ⊎ ((x.destination.now ≡ y.destination.now) × (x.place < y.place))
 later x y is = elim (less_of_two (slice_cmp nat_cmp x.destination.now y.destination.now) (nat_cmp x.place y.place) is) [
   | inl less ↦ inl less
@@ -105,7 +105,7 @@ strict_from_sorted xs ys moved rises sorted =
     (λ tied. apart_places (updated_places xs) (updated_places ys) (IsPermutation-map (λ (c : Update). c.place) xs ys moved) rises i j 0 before (omega (arith, length-map ys (λ (c : Update). c.place)))
     (get_or-map (λ (c : Update). c.place) ys i d 0 (omega arith) ∙ sym (same_from_cmp y.place x.place (both_equal (slice_cmp nat_cmp y.destination.now x.destination.now) (nat_cmp y.place x.place) tied).1) ∙ sym (get_or-map (λ (c : Update). c.place) ys j d 0 below))))
 
--- a update of some, as one that they contain
+-- an update of some, as one that they contain
 update_within : (cs : List Update) (k : ℕ) (d : List ℕ) → HasUpdate cs k d → (c : Update) × Contains cs c × (c.place ≡ k) × (c.destination.now ≡ d)
 update_within [] k d has = absurd has
 update_within (c ∷ cs) k d (inl is) = (c, (0, omega arith, refl), is.0, is.1)
@@ -215,7 +215,7 @@ differ_from_test xs ys b is told same = false≢true (sym (not-true (bytes_eq xs
 pub same_from_test : (xs ys : List ℕ) (b : Bool) → b ≡ not (bytes_eq xs ys) → b ≡ false → xs ≡ ys
 same_from_test xs ys b is told = (bytes_eq-Decides xs ys).0 (not-false (bytes_eq xs ys) (sym is ∙ told))
 
--- what comes after a update to a destination behind x is to one behind x too
+-- what is after an update of a destination after x is to one after x too
 behind : (x : List ℕ) (o y : Update) → slice_cmp nat_cmp x o.destination.now ≡ Less → update_cmp o y ≡ Less → slice_cmp nat_cmp x y.destination.now ≡ Less
 behind x o y first is = elim (later o y is) [
   | inl less ↦ below_trans x o.destination.now y.destination.now first less

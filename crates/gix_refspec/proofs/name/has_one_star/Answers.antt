@@ -1,4 +1,4 @@
--- One star is counted just where one stands.
+-- One star is counted exactly where there is one.
 use Rattle.std.proofs.Common.{◌≡◌, ◌==◌, sym, ◌∙◌, rules, eq-eqb}
 use Rattle.std.proofs.lemmas.Bool.{eqb-true}
 use Rattle.std.specs.List.{count_by}

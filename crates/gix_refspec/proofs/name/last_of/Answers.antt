@@ -1,4 +1,4 @@
--- The text is what stands before its last byte, and that byte.
+-- The text is what is before its last byte, and that byte.
 use Rattle.gix_refspec.proofs.lemmas.texts.NameLemmas.{ends_last}
 use Rattle.gix_refspec.proofs.name.last_of.Goals as goal
 

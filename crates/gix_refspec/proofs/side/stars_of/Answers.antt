@@ -1,4 +1,4 @@
--- One star: none stands before it and none behind it.
+-- One star: none is before it and none after it.
 use Rattle.gix_refspec.proofs.side.stars_of.Goals as goal
 
 pub returns-in-None : goal.returns-in-None

@@ -18,8 +18,7 @@ struct Sides<'s> {
     place: usize,
 }
 
-// Flags positive specs that have both sides of an earlier one. There may be no flags at all where none
-// has.
+// Flags positive specs that have both sides of an earlier one. The list may be empty if none has.
 pub(crate) fn equal_specs(alloc: Global, specs: &[RefSpecRef<'_>]) -> Result<Vec<bool>, AllocError>
     ensures { IfOk result (λ flags. FlagsEqual (map reading_of specs.now) flags.items) }
 {

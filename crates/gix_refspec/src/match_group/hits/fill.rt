@@ -63,7 +63,7 @@ fn branch_of(alloc: Global, id: &ObjectId) -> Result<BString, AllocError>
     joined(alloc, b"refs/heads/", digits, b"")
 }
 
-// What stands before a partial name in the full name that it becomes.
+// The folder of the full name that a partial name becomes.
 fn folder_of(name: &[u8]) -> &'static [u8]
     ensures { result.now ++ name.now ≡ full_name_of name.now }
 {

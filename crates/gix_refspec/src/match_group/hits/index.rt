@@ -1,4 +1,4 @@
-//! Where the names that specs ask for stand among the items. A full name asks for itself. Partial names
+//! The places among the items of the names that specs ask for. A full name asks for itself. Partial names
 //! and many patterns have an index each. Names that no spec asks for take no memory and are no keys,
 //! since a server chooses them.
 
@@ -77,7 +77,7 @@ impl<'spec> Names<'spec> {
     }
 }
 
-// A map whose keys are just these names, each without a place.
+// A map whose keys are exactly these names, each without a place.
 fn without_places<'n>(
     alloc: Global,
     names: &'n [NameRef<'_>],
@@ -163,7 +163,7 @@ impl<'n> NameIndex<'n> {
         self.fronts.places(front)
     }
 
-    // Whether some name stands at several places.
+    // Whether some name is at several places.
     pub(crate) fn has_repeats(&self) -> bool {
         self.places.values().any(|places| places.len() > 1) || self.partials.has_repeats()
     }

@@ -38,7 +38,7 @@ pub(crate) fn match_of<'item>(side: SideKind<'_>, item: &Item<'item>) -> Option<
     matches.then_some(Match { word: None })
 }
 
-// What stands in a name between two texts that never overlap.
+// The word of a name between two texts, which never overlap.
 #[inline(always)]
 pub(crate) fn word_between<'a>(before: &[u8], after: &[u8], name: &'a [u8]) -> Option<&'a [u8]>
     ensures { MatchOption result
@@ -48,7 +48,7 @@ pub(crate) fn word_between<'a>(before: &[u8], after: &[u8], name: &'a [u8]) -> O
     name.strip_prefix(before)?.strip_suffix(after)
 }
 
-// What stands for the star of a pattern in the name of an item that it fits. It isn't compared again.
+// The word for the star of a pattern in the name of an item that it fits, which isn't compared again.
 #[inline(always)]
 pub(crate) fn fitted_word<'item>(side: SideKind<'_>, item: &Item<'item>) -> Option<&'item [u8]>
     requires { PatternFits (kind_of_side side) (ref_of item.now) }
@@ -76,14 +76,14 @@ fn points_to(item: &Item<'_>, id: &ObjectId) -> bool
     }
 }
 
-// Whether a name is one of those that a partial name may stand for.
+// Whether a name is a candidate of a partial name.
 fn is_candidate(partial: &[u8], name: &[u8]) -> bool
     ensures { IsTrue result ↔ IsCandidate partial.now name.now }
 {
     is_in_folder(partial, name) || is_remote_head(partial, name)
 }
 
-// Whether a name is a partial one behind one of the places where that is looked for.
+// Whether a name is a partial name after one of the folders that are tried for it.
 fn is_in_folder(partial: &[u8], name: &[u8]) -> bool
     ensures { IsTrue result ↔
         ((before : List ℕ) × IsFolder before × (name.now ≡ before ++ partial.now)) }
@@ -105,7 +105,7 @@ fn is_remote_head(partial: &[u8], name: &[u8]) -> bool
     }
 }
 
-// Whether a candidate may have this before the partial name, and nothing behind it.
+// Whether these bytes are tried before a partial name, with nothing after it.
 fn is_folder(before: &[u8]) -> bool
     ensures { IsTrue result ↔ IsFolder before.now }
 {

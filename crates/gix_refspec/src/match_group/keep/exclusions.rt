@@ -25,14 +25,14 @@ enum Exclusion<'a> {
     Pattern(Pattern<'a>),
 }
 
-// A pattern, by what stands before its star and behind it.
+// A pattern, by the texts before and after its star.
 #[derive(Clone, Copy)]
 struct Pattern<'a> {
     before: &'a [u8],
     after: &'a [u8],
 }
 
-// What the negative specs of a group exclude. It is asked about each mapping, so its names are a set.
+// What the negative specs of a group exclude. Each mapping is looked up in it, so its names are a set.
 // They are the client's: a server chooses no key of it.
 #[derive(Drop)]
 pub(crate) struct Exclusions<'a> {
@@ -81,7 +81,7 @@ impl<'a> Exclusions<'a> {
         Ok(exclusions)
     }
 
-    // Excludes more.
+    // Adds an exclusion.
     fn add(&mut self, exclusion: Exclusion<'a>) -> Result<(), AllocError>
         ensures { OnOk result ((n : List ℕ) →
             ExcludeName self.new n ↔ (ExcludeName self.old n ⊎ ExcludesName exclusion.entry n)) }

@@ -1,7 +1,7 @@
 //! Which mappings have the same source and destination as an earlier one.
 //!
 //! They are found by sorting, so that no names make it slow. Each mapping gets a key, of the upper
-//! bits of its pair's hash and, behind them, its place. In a sorted list of keys mappings of the same
+//! bits of its pair's hash and, after them, its place. In a sorted list of keys mappings of the same
 //! pair follow one another, and each is compared with the one before it. Where different pairs have the
 //! same upper bits, keys of another hash are tried. Only where that fails too are the pairs themselves
 //! sorted.
@@ -99,7 +99,7 @@ fn earlier_of(
     earlier_by_key(alloc, keys.as_slice(), bits)
 }
 
-// How many bits a place takes among so many.
+// How many bits a place below `len` takes.
 pub(crate) fn bits_for(len: usize) -> u32
     requires { len < 2 ^ 63 }
     ensures few { result < 64 }
@@ -199,7 +199,7 @@ fn earlier_by_key(alloc: Global, keys: &[u64], bits: u32) -> Result<Vec<usize>, 
     Ok(earlier)
 }
 
-// Gives an earlier place for one among so many. Till then it is the number of them that is given.
+// Records an earlier place for one of `len` places. Those without one have `len` there.
 fn point_back(
     earlier: &mut Vec<usize>,
     len: usize,
@@ -220,7 +220,7 @@ fn point_back(
     Ok(())
 }
 
-// Flags the places that have the same pair as the earlier one that is given for them. None where
+// Flags the places that have the same pair as the earlier one that is recorded for them. None where
 // one has another pair.
 fn flags_by_earlier(
     alloc: Global,
@@ -273,7 +273,7 @@ fn pairs_in_order<'m>(
     Ok(pairs)
 }
 
-// Flags a place among so many.
+// Flags one of `len` places.
 pub(crate) fn raise(flags: &mut Vec<bool>, len: usize, place: usize) -> Result<(), AllocError>
     requires below { place < len }
     requires fits { (flags.old.items ≡ []) ⊎ (length flags.old.items ≡ len) }

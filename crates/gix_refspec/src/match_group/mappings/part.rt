@@ -2,10 +2,10 @@
 //! again is matched once by each spec, and takes memory once.
 //!
 //! Names that repeat are found by sorting, so that no names make it slow. Each item gets a key, of the
-//! upper bits of its name's hash and, behind them, its place. In a sorted list of keys items of one name
+//! upper bits of its name's hash and, after them, its place. In a sorted list of keys items of one name
 //! follow one another. Where different names have the same upper bits, keys of another hash are tried. Only
-//! where that fails too are the names themselves sorted. What is found is compared before it is left out:
-//! so a repeat may stay, but no name goes.
+//! where that fails too are the names themselves sorted. Names are compared before an item is left out: so
+//! a repeat may be missed, but no name is lost.
 
 ghost use Rattle.std.specs.Prelude.{◌≡◌, ◌≢◌, ◌<◌, ◌≤◌, ◌^◌, ℕ, List, length, map, option_map, MatchBool, MatchOption, IfOk, IsTrue};
 ghost use Rattle.gix_refspec.specs.Views.Spec.{reading_of};
@@ -93,7 +93,7 @@ fn unflagged(len: usize, flags: &[bool]) -> usize {
     count
 }
 
-// The place among all of what may stand at a place of a part.
+// The place among all items of one that has a place in a part.
 pub(crate) fn among(places: &[usize], item: Option<usize>) -> Option<usize>
     ensures { result ≡ option_map (place_among places.now) item }
 {
@@ -139,7 +139,7 @@ fn is_id(side: SideKind<'_>) -> bool
     }
 }
 
-// Whether names seem to repeat: whether some of the first items do.
+// Whether names seem to repeat: whether those of the first items do.
 pub(crate) fn seem_repeated(alloc: Global, items: &[Item<'_>]) -> Result<bool, AllocError> {
     let sample = &items[..items.len().min(SAMPLE)];
     Ok(!repeated_names(alloc, sample)?.is_empty())

@@ -1,5 +1,5 @@
-//! Whether a direction makes any mapping at all. It is told without memory, and so without an index:
-//! all items are gone through for each spec.
+//! Whether a direction makes any mapping at all: by a scan of all items for each spec, which allocates
+//! nothing.
 
 ghost use Rattle.std.specs.Prelude.{[], map, MatchBool};
 ghost use Rattle.gix_refspec.specs.Views.Spec.{reading_of};
@@ -58,7 +58,7 @@ fn has_hit(direction: Direction, specs: &[RefSpecRef<'_>], items: &[Item<'_>]) -
     false
 }
 
-// Whether a spec with these ends hits some item. Where it matches one it does, since a partial name
+// Whether a spec with these ends hits some item. If it matches one it does, since a partial name
 // that has a candidate there takes the first of them.
 fn hits_some(ends: Ends<'_>, items: &[Item<'_>]) -> bool
     ensures { MatchBool result

@@ -28,7 +28,7 @@ struct Update<'m> {
     place: usize,
 }
 
-// The conflicts of some mappings. Fails if memory runs out, which it doesn't want without mappings.
+// The conflicts of some mappings. Fails if memory runs out; never without mappings.
 pub(crate) fn issues_of(
     alloc: Global,
     specs: &[RefSpecRef<'_>],
@@ -134,7 +134,7 @@ fn issues_among(
     Ok(issues)
 }
 
-// Adds the conflict of all updates to one destination, where there are several.
+// Adds the conflict of all updates of one destination, if there are several.
 fn add_issue(
     alloc: Global,
     specs: &[RefSpecRef<'_>],
@@ -170,7 +170,7 @@ fn len_of_run(updates: &[Update<'_>]) -> usize
     updates.len()
 }
 
-// The conflict of the updates to one destination.
+// The conflict of the updates of one destination.
 fn issue_of(
     alloc: Global,
     specs: &[RefSpecRef<'_>],

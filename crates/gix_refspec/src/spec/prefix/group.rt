@@ -48,7 +48,7 @@ impl<'a> MatchGroup<'a> {
 }
 
 impl<'a> RefSpecRef<'a> {
-    // What to ask a server for, so that it tells of each ref that the spec takes. None where no list
+    // What to ask a server for, so that it lists each ref that the spec takes. None if no list
     // serves.
     fn names_to_ask(&self, alloc: Global) -> Result<Option<Vec<BString>>, AllocError>
         ensures ok { IfOk result (λ asked. MatchOption asked
@@ -66,7 +66,7 @@ impl<'a> RefSpecRef<'a> {
     }
 }
 
-// What to ask a server for, so that it tells of each ref that a side takes. None where no list serves.
+// What to ask a server for, so that it lists each ref that a side takes. None if no list serves.
 fn list_of(alloc: Global, side: &[u8]) -> Result<Option<Vec<BString>>, AllocError>
     requires { ¬ (HasSeveralStars side.now) }
     ensures ok { IfOk result (λ asked. MatchOption asked

@@ -1,4 +1,4 @@
--- Each spec adds its hits, or those of an earlier one stand there.
+-- Each spec adds its hits, or those of an earlier one are there.
 use Rattle.std.proofs.Common.{◌+◌, map, take, sym, subst}
 use Rattle.gix_refspec.specs.Views.Spec.{reading_of}
 use Rattle.gix_refspec.specs.Views.Group.{ref_of}

@@ -1,4 +1,4 @@
--- What comes first and the hits are all, but for repeats.
+-- What is first and the hits are all, but for repeats.
 use Rattle.std.proofs.Common.{map}
 use Rattle.gix_refspec.specs.Views.Spec.{reading_of}
 use Rattle.gix_refspec.specs.Views.Group.{ref_of}

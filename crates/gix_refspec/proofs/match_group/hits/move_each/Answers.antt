@@ -12,7 +12,7 @@ abbrev first_of : {A : Type 0} → A → List A → A
 first_of d [] = d
 first_of d (x ∷ xs) = x
 
--- what is left alike stands alike
+-- what is left alike is alike
 left_alike : {A : Type 0} (l k : List A) (i : ℕ) (d : A) → i < length l → length l ≡ length k → drop i l ≡ drop i k → get_or l i d ≡ get_or k i d
 left_alike l k i d below long same =
     ap (first_of d) (sym (drop_more l i d below) ∙ same ∙ drop_more k i d (omega (arith, below, long)))
@@ -37,7 +37,6 @@ one_moved f now old i d m below long same before is =
     ∙ sym (map-append (moved f) (map mapped_of (take i old)) (mapped_of (get_or old i d) ∷ []))
     ∙ ap (map (moved f)) (sym (map_more mapped_of old i d below))
 
--- src/match_group/util/hits.rt:316:5
 pub loop-mapping-preserved : goal.loop-mapping-preserved
 loop-mapping-preserved c =
     let now = c.loop-mapping.mappings in

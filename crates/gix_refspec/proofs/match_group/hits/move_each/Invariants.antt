@@ -1,4 +1,4 @@
--- the mappings so far have their places among all, and those to come stand as they stood
+-- the mappings so far have their places among all, and those to come are as they were
 use Rattle.std.proofs.Common.{◌≡◌, length, map, take, drop}
 use Rattle.gix_refspec.specs.Views.Group.{mapped_of}
 use Rattle.gix_refspec.specs.Private.Part.{moved, place_among}

@@ -1,4 +1,4 @@
--- a mapping that remains goes to the front
+-- a mapping that is kept goes to the front
 use Rattle.std.proofs.Common.{ℕ, ◌≡◌, ◌≤◌, ◌+◌, Vec, Global, length, take, drop, refl, sym, ◌∙◌, subst, arith}
 use Rattle.std.proofs.lemmas.Bool.{false≢true}
 use Rattle.gix_refspec.specs.declared.match_group.types.Mapping.{Mapping}

@@ -1,4 +1,4 @@
--- the mappings so far that remain stand in front, and those to come stand where they stood
+-- the mappings so far that are kept are in front, and those to come are where they were
 use Rattle.std.proofs.Common.{◌≡◌, ◌≤◌, length, take, drop}
 use Rattle.gix_refspec.specs.Matching.Lists.{IsMadeFrom}
 use Rattle.gix_refspec.specs.Private.Kept.{IsKeptBy}

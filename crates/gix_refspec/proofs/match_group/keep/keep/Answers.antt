@@ -1,4 +1,4 @@
--- what remains is what is kept
+-- what isn't dropped is what is kept
 use Rattle.std.proofs.Common.{◌≡◌, List, [], Bool, map, sym, subst, arith}
 use Rattle.std.proofs.lemmas.Bool.{eqb-true}
 use Rattle.gix_refspec.specs.declared.match_group.types.Mapping.{Mapping}

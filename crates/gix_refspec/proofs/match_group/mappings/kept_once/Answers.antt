@@ -1,4 +1,4 @@
--- What is kept of the part stays of all, moved.
+-- What is kept of the part is kept of all, moved.
 use Rattle.std.proofs.Common.{ℕ, List, Option, map, sym, ap, ◌∙◌, subst}
 use Rattle.std.specs.Prelude.{MatchOption}
 use Rattle.gix_refspec.specs.declared.match_group.types.Item.{Item}

@@ -1,4 +1,4 @@
--- What stays of the mappings that were made stays of all.
+-- What is kept of the mappings that were made is kept of all.
 use Rattle.std.proofs.Common.{map, sym, subst}
 use Rattle.gix_refspec.specs.declared.match_group.hits.ends.Direction.{Direction}
 use Rattle.gix_refspec.specs.declared.match_group.hits.ends.Direction.TheVariants.{Forward, Backward}

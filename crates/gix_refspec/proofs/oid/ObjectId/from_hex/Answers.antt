@@ -14,7 +14,7 @@ returns-in_default-byte_of c =
     let inside = c.loop-place-test.true in
     HasFault-pair c.in-Some.kind c.args.hex.now c.loop-place.place c.in-Some.ensures.some (omega arith) c.in_default-byte_of.ensures.none
 
--- the next byte is put behind those that are there
+-- the next byte is put after those that are there
 pub loop-place-preserved : goal.loop-place-preserved
 loop-place-preserved c =
     let room = c.loop-place.invariant.0 in

@@ -1,4 +1,4 @@
--- The kind of the side decides. Only entries want memory.
+-- The kind of the side decides. Only entries need memory.
 use Rattle.std.proofs.Common.{refl, sym, ◌∙◌}
 use Rattle.std.proofs.lemmas.Result.{IfOk-weaker}
 use Rattle.std.proofs.lemmas.Bool.{false≢true}

@@ -1,4 +1,4 @@
--- The pattern itself, its candidates or nothing. Only entries want memory.
+-- The pattern itself, its candidates or nothing. Only entries need memory.
 use Rattle.std.proofs.Common.{ap, map}
 use Rattle.std.proofs.lemmas.Result.{IfOk-weaker}
 use Rattle.bstr.specs.Owned.{bstring_bytes}

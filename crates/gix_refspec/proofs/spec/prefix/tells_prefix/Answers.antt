@@ -1,4 +1,4 @@
--- What stands before the star goes on below `refs/`, and no bracket is there.
+-- What is before the star goes on below `refs/`, and no bracket is there.
 use Rattle.gix_refspec.proofs.lemmas.prefixes.PrefixLemmas.{told_clear, told_bracket}
 use Rattle.gix_refspec.proofs.spec.prefix.tells_prefix.Goals as goal
 

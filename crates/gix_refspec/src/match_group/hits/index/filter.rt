@@ -10,7 +10,7 @@ use crate::match_group::hashes::hash_of_name;
 use crate::match_group::types::NameRef;
 use std::alloc::{AllocError, Global};
 
-// So many lengths are told apart.
+// How many lengths have marks of their own.
 const LENGTHS: usize = 128;
 
 // Of sixteen hashes that aren't asked for at most one has a mark.
@@ -24,7 +24,7 @@ struct Marks {
 }
 
 impl Marks {
-    // No marks yet, and places for at least so many.
+    // No marks yet, and places for at least `room`.
     fn new(alloc: Global, room: usize) -> Result<Marks, AllocError>
         ensures { IfOk result IsWhole }
     {
@@ -34,7 +34,7 @@ impl Marks {
         Ok(Marks { flags, bits })
     }
 
-    // Where the mark of a number stands.
+    // The place of the mark of a number.
     fn place(&self, number: u64) -> usize
         requires { IsWhole self.now }
         ensures { result ≡ number % 2 ^ self.now.bits }

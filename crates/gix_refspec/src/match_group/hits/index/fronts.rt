@@ -1,4 +1,4 @@
-//! Where the items stand whose names begin as patterns do. What stands before the star of a pattern
+//! The places of the items whose names begin as patterns do. The text before the star of a pattern
 //! is its front. Fronts are the only keys, and no name is looked at past the longest of them.
 
 ghost use Rattle.std.specs.Prelude.{ℕ, List, length, map, IfSome, IfOk, OnOk};
@@ -17,10 +17,10 @@ use bstr::BStr;
 use std::alloc::{AllocError, Global};
 use std::collections::HashMap;
 
-// So many fronts are looked up. For fewer it is cheaper to compare each with all names.
+// From how many fronts on they are looked up. For fewer it is cheaper to compare each with all names.
 const MANY: usize = 8;
 
-// So many times the items are listed at the most. Where fronts begin with one another, a server can list
+// How many places are listed for each item at most, on average. Where fronts begin with one another, a server can list
 // names that begin with all of them, and then the index would take memory for each.
 const MOST: usize = 2;
 

@@ -1,5 +1,5 @@
-//! Where the items stand that partial names take. The partial names are the only keys: an item's name is
-//! looked up with each place taken off where a partial name is looked for.
+//! The places of the items that partial names take. The partial names are the only keys: an item's name is
+//! looked up without each of the folders that are tried before a partial name.
 
 ghost use Rattle.std.specs.Prelude.{◌≡◌, length, map, IfOk, OnOk};
 ghost use Rattle.gix_refspec.specs.Views.Group.{name_bytes, ref_of};
@@ -15,7 +15,7 @@ use crate::match_group::types::{Item, NameRef};
 use std::alloc::{AllocError, Global};
 use std::collections::HashMap;
 
-// So many names a partial one may stand for.
+// How many candidates a partial name has.
 const CANDIDATES: usize = 6;
 
 // For each of some partial names the places of all items that it takes in a direction, rising.
@@ -68,7 +68,7 @@ impl<'n> PartialIndex<'n> {
     }
 }
 
-// Adds the place of an item to those of each partial name that may stand for its name.
+// Adds the place of an item to those of each partial name that has its name as a candidate.
 fn add_item(
     direction: Direction,
     name: &[u8],
@@ -125,7 +125,7 @@ fn add_item(
     )
 }
 
-// Adds it for what stands in its name between two texts.
+// Adds it for the partial name that its name has between two texts.
 #[inline(always)]
 fn add_between(
     direction: Direction,

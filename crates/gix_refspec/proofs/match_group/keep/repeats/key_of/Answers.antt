@@ -1,4 +1,4 @@
--- the place stands in the bits that the shifts cleared
+-- the place is in the bits that the shifts cleared
 use Rattle.gix_refspec.proofs.lemmas.keep.KeyLemmas.{packed_bucket, packed_place}
 use Rattle.gix_refspec.proofs.match_group.keep.repeats.key_of.Goals as goal
 

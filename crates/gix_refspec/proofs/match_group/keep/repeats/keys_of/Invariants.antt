@@ -1,4 +1,4 @@
--- the places so far stand there, in order, with the hashes there
+-- the places so far are there, in order, with the hashes there
 use Rattle.std.proofs.Common.{◌≡◌, ℕ, ◌<◌, length}
 use Rattle.std.specs.List.{AllByRecursion}
 use Rattle.gix_refspec.specs.Private.Kept.{IsKey, Has, Rises, places_in}

@@ -1,4 +1,4 @@
--- the place of the first update to another destination cuts the updates
+-- the place of the first update of another destination cuts the updates
 use Rattle.std.proofs.Common.{◌≡◌, ℕ, [], get_or, length, take, drop, ap, ◌∙◌, subst, arith}
 use Rattle.std.proofs.lemmas.List.{get_or_default}
 use Rattle.gix_refspec.specs.declared.match_group.validate.conflicts.Update.{Update}

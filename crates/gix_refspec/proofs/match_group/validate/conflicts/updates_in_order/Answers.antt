@@ -1,4 +1,4 @@
--- a mapping with a destination makes a update, unless it is flagged
+-- a mapping with a destination makes an update, unless it is flagged
 use Rattle.std.proofs.Common.{ℕ, List, Vec, Global, ◌+◌, map, sym, ◌∙◌, subst, arith}
 use Rattle.std.proofs.lemmas.Bool.{false≢true}
 use Rattle.std.proofs.lemmas.List.{length-map}

@@ -1,4 +1,4 @@
--- without an issue nothing is contested, and what the test keeps survives
+-- without an issue nothing is in conflict, and what the test keeps survives
 use Rattle.std.proofs.Common.{◌≡◌, [], List, map, refl, sym, ◌∙◌, subst, arith, rules}
 use Rattle.std.proofs.lemmas.Bool.{eqb-true}
 use Rattle.gix_refspec.specs.declared.match_group.types.Mapping.{Mapping}

@@ -1,4 +1,4 @@
--- Of each length that is flagged there is one front at the most that the name begins with.
+-- Of each length that is flagged there is one front at most that the name begins with.
 use Rattle.std.proofs.Common.{◌∙◌, ◌+◌, ℕ, Option, Some, Vec, Global, IsSome, take, refl, sym, subst, arith}
 use Rattle.std.proofs.lemmas.Bool.{false≢true}
 use Rattle.std.proofs.lemmas.Map.Text.{hash_map_updates_str}

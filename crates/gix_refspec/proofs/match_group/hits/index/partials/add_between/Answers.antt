@@ -1,4 +1,4 @@
--- One name at the most stands between the ends.
+-- One name at most is between the ends.
 use Rattle.std.proofs.Common.{◌≡◌, ℕ, Option, Vec, Global, None, Some, ap, IsSome, map, refl, sym, subst, ◌∙◌}
 use Rattle.std.proofs.lemmas.Bool.{false≢true}
 use Rattle.std.proofs.lemmas.Map.Text.{hash_map_updates_str}

@@ -1,4 +1,4 @@
--- The place is added for what stands between the ends of each of the six.
+-- The place is added for what is between the ends of each of the six.
 use Rattle.std.proofs.Common.{codes, map}
 use Rattle.gix_refspec.specs.Views.Group.{ref_of}
 use Rattle.gix_refspec.specs.Matching.Side.{Fits, IsCandidate}

@@ -1,4 +1,4 @@
--- one more name is a key, or one more pattern stands in the list
+-- one more name is a key, or one more pattern is in the list
 use Rattle.std.proofs.Common.{◌≡◌, ◌↔◌, ◌⊎◌, List, ℕ, IsTrue, refl, subst}
 use Rattle.bstr.specs.BStr.{bstr_bytes}
 use Rattle.gix_refspec.specs.declared.match_group.types.NameRef.TheVariants as name_ref
