@@ -159,6 +159,6 @@ no_other_item_back law rest are =
     let same : codes "refs/remotes/origin/main" ≡ fits.ref.name = some_once (codes "refs/remotes/origin/main") fits.ref.name fits.named in
     other_length (codes "refs/remotes/origin/main") (codes "refs/remotes/origin/dev-a") (λ size. omega (arith, size)) (same ∙ ap (λ (x : Ref). x.name) (sym is))
 
--- what remains after a validation has places that fit, where they fitted before
+-- what survives a validation has places that fit, where they fitted before
 pub still_fits : (items : List Ref) → PlacesFit (every ∷ []) items → (l rest : List Mapped) (fixes : List Removed) → IsValidated (every ∷ []) l rest fixes → AllByRecursion (ForwardPlaces (every ∷ []) items) l → AllByRecursion (ForwardPlaces (every ∷ []) items) rest
 still_fits items law l rest fixes valid fit = law.validated l rest fixes valid fit

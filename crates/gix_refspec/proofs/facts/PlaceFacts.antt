@@ -108,7 +108,7 @@ not_of_negative_back items law rest are =
     let is : r ≡ no_dev = cc in
     subst (λ (x : Reading). IsPositive x.mode) is makes.has.positive
 
--- ---- what remains
+-- ---- what is left
 
 abbrev to_partial : Mapped
 to_partial = mapping 1 good (Some (codes "main")) 0
@@ -117,7 +117,7 @@ partial_unwritable : ¬ (IsWritable (codes "main"))
 partial_unwritable (inl begins) = other_byte 0 (codes "main") (codes "refs/" ++ begins.after) (λ byte. omega (arith, byte)) begins.here
 partial_unwritable (inr is_head) = other_byte 0 (codes "main") (codes "HEAD") (λ byte. omega (arith, byte)) is_head
 
--- by the law a good mapping remains, and one to a partial name doesn't
+-- by the law a good mapping is left, and one to a partial name isn't
 pub good_remains : (g : List Reading) → RemainsExactly g (kept ∷ to_partial ∷ []) → (rest : List Mapped) (fixes : List Removed) → IsValidated g (kept ∷ to_partial ∷ []) rest fixes → Contains rest kept × ¬ (Contains rest to_partial)
 good_remains g law rest fixes valid = (
   (law.validated rest fixes valid kept).1 ((0, omega arith, refl), inl (record { after = codes "heads/main"; here = refl })),
@@ -131,7 +131,7 @@ named_remains g law rest out keeps = (
   λ has. let named = ((law.named rest out keeps to_bad).0 has).1 in no_ref_names.2 named.destination,
 )
 
--- nothing remains that wasn't there
+-- nothing is left that wasn't there
 pub none_new : (g : List Reading) → RemainsExactly g [] → (rest : List Mapped) (out : List LeftOut) (fixes : List Removed) → (IsValidated g [] rest fixes → ¬ (Contains rest kept)) × (KeepsNamed [] rest out → ¬ (Contains rest kept))
 none_new g law rest out fixes = (
   (λ valid has. let (k, below, is) = ((law.validated rest fixes valid kept).0 has).0 in omega (arith, below)),

@@ -146,7 +146,7 @@ leads_away = (
 pub stays : StaysAmongRefs good × StaysAmongRefs (codes "HEAD")
 stays = (stays_among_refs good ref_names.0, stays_among_refs (codes "HEAD") ref_names.1)
 
--- by the law no mapping to a bad name remains, whichever of the two calls is first
+-- by the law no mapping to a bad name is left, whichever of the two calls is first
 pub none_to_bad : (items : List Ref) (g : List Reading) → WritesRefs g items → (l named rest : List Mapped) (out : List LeftOut) (fixes : List Removed) → (KeepsNamed l named out → ¬ (IsValidated g named (to_bad ∷ rest) fixes)) × (IsValidated g l named fixes → ¬ (KeepsNamed named (to_bad ∷ rest) out))
 none_to_bad items g law l named rest out fixes = (
   (λ keeps valid. no_ref_names.2 ((law.before l named (to_bad ∷ rest) out fixes keeps valid).0.0 bad refl).0),

@@ -84,7 +84,7 @@ excludes_little = (two_stars, by_pattern (codes "a/") (codes "/c") (codes "b") (
     longer (the_name lacks same) = other_length _ _ (λ size. omega (arith, size)) same
     longer (by_pattern before after word cut fits) = lacks_no_pattern (codes "a/b") before after (Lacks-tested star (codes "a/b") refl) cut
 
--- a word changes no side but a pattern, and a partial name gets `refs/` alone just before `tags/` and `remotes/`
+-- a word changes no side but a pattern, and a partial name gets `refs/` alone only before `tags/` and `remotes/`
 pub filled_with_words : (filled (full_name (codes "refs/x/a")) (Some (codes "w")) ≡ codes "refs/x/a")
     × (filled (partial (codes "a")) (Some (codes "w")) ≡ codes "refs/heads/a")
     × (filled (partial (codes "heads/a")) None ≡ codes "refs/heads/heads/a")

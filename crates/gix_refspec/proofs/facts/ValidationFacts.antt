@@ -24,7 +24,7 @@ both_to_x = fetched Normal (codes "refs/tags/*") (Some (codes "refs/x/*")) ∷ f
 abbrev branch_to_y : Mapped
 branch_to_y = mapping 3 (codes "refs/heads/b") (Some (codes "refs/x/b")) 1
 
--- two sources of one destination, the first of which comes twice, and another destination
+-- two sources of one destination, the first of which is there twice, and another destination
 abbrev pub meeting : List Mapped
 meeting = branch_to_y ∷ tag_to_x ∷ branch_to_x ∷ tag_again ∷ []
 

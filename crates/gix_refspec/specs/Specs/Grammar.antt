@@ -34,8 +34,8 @@ abbrev pub LastLacksColon : List ℕ → Option (List ℕ) → Type 0
 LastLacksColon s None = Lacks colon s
 LastLacksColon s (Some d) = Lacks colon d
 
--- the text is a sign and a source alone, or a sign, a source, a colon and a destination; what comes
--- last holds no colon. Words may be empty
+-- the text is a sign and a source alone, or a sign, a source, a colon and a destination; the last
+-- word holds no colon. Words may be empty
 pub record AreParts (mode : Mode) (s : List ℕ) (d : Option (List ℕ)) (text : List ℕ) : Type 0 where
   pub signed : IsSigned mode text (with_colon s d)
   pub last : LastLacksColon s d

@@ -94,7 +94,7 @@ kept_from_remains g ms rest es flags are repeats made =
       (remains_stays g ms es flags i d are repeats below).0 (record { same = refl; unflagged = remains.unflagged; included = remains.included }),
     )
 
--- without flags and exclusions all remain
+-- without flags and exclusions all are kept
 pub all_remain : (ms : List Mapping) (es : Exclusions) → ((n : List ℕ) → ¬ (ExcludeName es n)) → IsMadeFrom (IsKeptBy es []) 0 ms ms
 all_remain ms es free = made_all (IsKeptBy es []) (λ k m. record { same = refl; unflagged = λ flagged. false≢true flagged; included = none (mapped_of m).source }) 0 ms
   where

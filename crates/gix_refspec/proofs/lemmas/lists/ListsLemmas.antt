@@ -13,7 +13,7 @@ made_push {X} {Y} R k (y ∷ xs) ys x made (first, rest, of, more, is) makes =
     let place : k + length (y ∷ xs) ≡ (k + 1) + length xs = omega arith in
     (first, rest ++ option_to_list made, of, made_push R (k + 1) xs rest x made more (subst (λ (n : ℕ). MakesOf R n x made) place makes), ap (λ (zs : List Y). zs ++ option_to_list made) is ∙ append_assoc (option_to_list first) rest (option_to_list made))
 
--- where each element stays, all do
+-- where each element is kept, all are
 pub made_all : {X : Type 0} (R : ℕ → X → X → Type 0) → ((k : ℕ) (x : X) → R k x x) → (k : ℕ) (xs : List X) → IsMadeFrom R k xs xs
 made_all R stays k [] = refl
 made_all R stays k (x ∷ xs) = (Some x, xs, stays k x, made_all R stays (k + 1) xs, refl)
@@ -74,7 +74,7 @@ heads_agree xs ys i d below also same =
     let both : get_or xs i d ∷ drop (i + 1) xs ≡ get_or ys i d ∷ drop (i + 1) ys = sym (drop_more xs i d below) ∙ same ∙ drop_more ys i d also in
     (cc, cc)
 
--- a loop's step: the element at the place remains, and goes to the front
+-- a loop's step: the element at the place is kept, and goes to the front
 pub remains_more : {X : Type 0} (R : ℕ → X → X → Type 0) (xs now new : List X) (k i : ℕ) (x : X) → i < length now → k ≤ i → length now ≡ length xs → drop i now ≡ drop i xs → IsMadeFrom R 0 (take i xs) (take k now) → x ≡ get_or now i x → SwappedAt now new k i → R i x x → (k + 1 ≤ i + 1) × (length new ≡ length xs) × (drop (i + 1) new ≡ drop (i + 1) xs) × IsMadeFrom R 0 (take (i + 1) xs) (take (k + 1) new)
 remains_more {X} R xs now new k i x below front long same made here swapped stays =
     let size : length new ≡ length now = ap length (swapped.3 x) ∙ simp length-set in

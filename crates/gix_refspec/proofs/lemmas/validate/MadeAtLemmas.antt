@@ -1,4 +1,4 @@
--- What the spec and the item at the places of a mapping make, and which mappings remain after a check.
+-- What the spec and the item at the places of a mapping make, and which mappings are left after a check.
 use Rattle.std.proofs.Common.{◌≡◌, inl, inr, ◌↔◌, ℕ, ◌+◌, List, [], ◌∷◌, ◌++◌, Option, None, Some, option_to_list, length, length-append, map, unwrap_or, refl, sym, ap, ◌∙◌, subst, arith}
 use Rattle.std.specs.List.{AllByRecursion, Contains, slice_get}
 use Rattle.std.proofs.lemmas.List.{append_assoc}
@@ -101,7 +101,7 @@ made_at_places g items = record {
   backward = λ kept are. stays_each (λ k m. IsKeptAt g are.all k m) (BackwardAt g items) 0 are.all kept (backward_all g items are.all are.backward) are.is;
 }
 
--- ---- what remains
+-- ---- what is left
 
 remained : (S : Mapped → Type 0) (k : ℕ) (xs ys : List Mapped) (m : Mapped) → IsMadeFrom (λ j x y. (y ≡ x) × S x) k xs ys → Any (λ y. y ≡ m) ys → Any (λ x. x ≡ m) xs × S m
 remained S k [] ys m empty any = absurd (subst (Any (λ y. y ≡ m)) empty any)
