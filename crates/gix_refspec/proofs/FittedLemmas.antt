@@ -1,10 +1,10 @@
 -- The places of the items that patterns fit, as they are listed spec by spec.
-use Rattle.std.proofs.Common.{◌≡◌, inl, inr, ℕ, ◌+◌, ◌<◌, ◌≤◌, List, [], ◌∷◌, ◌++◌, Option, None, Some, length, map, take, get_or, Result, Ok, Err, IfOk, refl, sym, ap, ◌∙◌, subst, arith}
+use Rattle.std.proofs.Common.{◌≡◌, inl, inr, ℕ, ◌+◌, ◌<◌, ◌≤◌, List, [], ◌∷◌, ◌++◌, Option, None, Some, length, map, take, get_or, Result, Ok, Err, IfOk, IfSome, refl, sym, ap, ◌∙◌, subst, arith}
 use Rattle.std.specs.Global.{Vec}
 use Rattle.std.specs.declared.alloc.AllocError.{AllocError}
 use Rattle.std.proofs.Math.Seq.{get_or-append_seam}
 use Rattle.std.proofs.lemmas.Bool.{cases_lt}
-use Rattle.std.proofs.lemmas.List.{append-nil, get_or-map, get_or_append_left, length-append, length-map}
+use Rattle.std.proofs.lemmas.List.{append-nil, get_or-map, get_or_append_left, get_or_default, length-append, length-map}
 use Rattle.gix_refspec.specs.declared.match_group.types.Item.{Item}
 use Rattle.gix_refspec.specs.declared.match_group.util.ends.Direction.{Direction}
 use Rattle.gix_refspec.specs.declared.match_group.util.ends.Ends.{Ends as DeclaredEnds}
@@ -18,7 +18,7 @@ use Rattle.gix_refspec.specs.Group.{ref_of}
 use Rattle.gix_refspec.specs.Hits.{Ends}
 use Rattle.gix_refspec.specs.Private.SideViews.{shown_kind}
 use Rattle.gix_refspec.specs.Private.HitViews.{FitsRef, HasEnds, HaveKinds}
-use Rattle.gix_refspec.specs.Private.Index.{ArePlacesFitted, ArePlacesFittedTo, HasListed, ListEach, ListsFitted, ListsFor}
+use Rattle.gix_refspec.specs.Private.Index.{ArePlacesFitted, ArePlacesFittedTo, HasListed, IsListedStill, ListEach, ListsFitted, ListsFor}
 use Rattle.gix_refspec.proofs.HitLemmas.{one_kind, one_pair}
 use Rattle.gix_refspec.proofs.JoinLemmas.{made_next, map_long, map_more}
 
@@ -70,6 +70,18 @@ listed_all direction specs refs i listed long so_far k d below = so_far.each k d
 -- nothing need be listed
 pub lists_nothing : (direction : Direction) (r : Reading) (refs : List Ref) → ListsFor direction r refs None
 lists_nothing direction r refs ends kind has of = tt
+
+-- what was taken from its place was listed there
+pub listed_taken : (listed : List (Option (Vec ℕ))) (k : ℕ) (d taken : Option (Vec ℕ)) → k < length listed → taken ≡ get_or listed k d → IfSome taken (λ places. HasListed listed k places.items)
+listed_taken listed k d None below is = tt
+listed_taken listed k d (Some v) below is = (v, get_or_default listed k None d below ∙ sym is, refl)
+
+-- what is still listed after one place was emptied are the same places
+pub still_listed : (direction : Direction) (g : List Reading) (refs : List Ref) (old new : List (Option (Vec ℕ))) → ((k : ℕ) → IsListedStill old new k) → ListEach direction g refs old → ListEach direction g refs new
+still_listed direction g refs old new still each k d below = elim (still k) [
+  | inl same ↦ subst (ListsFor direction (get_or g k d) refs) (sym same) (each k d below)
+  | inr none ↦ subst (ListsFor direction (get_or g k d) refs) (sym none) (lists_nothing direction (get_or g k d) refs)
+]
 
 -- what is listed for a near end is listed for the reading that has it
 pub lists_for : (direction : Direction) (r : Reading) (refs : List Ref) (kinds : DeclaredEnds) (listed : Option (Vec ℕ)) → (ends : Ends) × HasEnds direction r ends × HaveKinds ends kinds → ListsFitted (shown_kind kinds.near) refs listed → ListsFor direction r refs listed

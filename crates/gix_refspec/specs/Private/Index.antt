@@ -126,6 +126,10 @@ ListEach direction g refs listed = (k : ℕ) (d : Reading) → k < length g → 
 abbrev pub HasListed : List (Option (Vec ℕ)) → ℕ → List ℕ → Type 0
 HasListed listed k places = (v : Vec ℕ) × (slice_index_or listed k None ≡ Some v) × (places ≡ v.items)
 
+-- what was listed for the spec at place k still is, or nothing is
+abbrev pub IsListedStill : List (Option (Vec ℕ)) → List (Option (Vec ℕ)) → ℕ → Type 0
+IsListedStill old new k = (slice_index_or new k None ≡ slice_index_or old k None) ⊎ (slice_index_or new k None ≡ None)
+
 -- what is listed for a name, and nothing where it isn't listed
 abbrev pub places_listed : (List ℕ → Option (Vec ℕ)) → List ℕ → List ℕ
 places_listed listed n = unwrap_or (option_map (λ v. v.items) (listed n)) []

@@ -143,8 +143,7 @@ fn kept_with<'spec, 'item>(
     ensures { IfOk result (λ made. AreKept
         direction (map reading_of specs.now) (map ref_of items.now) (made_in direction made)) }
 {
-    let mut made = mappings_of(alloc, direction, specs, index, items, &survey)?;
-    drop(survey);
+    let mut made = mappings_of(alloc, direction, specs, index, items, survey)?;
     match direction {
         Direction::Forward => keep(alloc, specs, &mut made.forward)?,
         Direction::Backward => keep(alloc, specs, &mut made.backward)?,
