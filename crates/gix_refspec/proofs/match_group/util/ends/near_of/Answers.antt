@@ -1,5 +1,5 @@
 -- Each side of an accepted spec has a kind.
-use Rattle.std.proofs.Common.{rules, inl, inr, List, ℕ, Option, None, Some, IsSome, MatchOption, option_map, refl, sym, subst, ◌≡◌, false}
+use Rattle.std.proofs.Common.{rules, inl, inr, Some, MatchOption, sym, subst}
 use Rattle.gix_refspec.specs.declared.match_group.util.ends.Direction.{Direction}
 use Rattle.gix_refspec.specs.declared.side.SideKind.{SideKind as DeclaredKind}
 use Rattle.gix_refspec.specs.Reading.{Reading}
