@@ -9,6 +9,7 @@ use Rattle.gix_refspec.specs.declared.match_group.types.Item.{Item}
 use Rattle.gix_refspec.specs.declared.match_group.util.ends.Direction.{Direction}
 use Rattle.gix_refspec.specs.declared.match_group.util.ends.Ends.{Ends as DeclaredEnds}
 use Rattle.gix_refspec.specs.declared.match_group.util.hits.Look.{Look}
+use Rattle.gix_refspec.specs.declared.side.SideKind.{SideKind as DeclaredKind}
 use Rattle.gix_refspec.specs.declared.spec.RefSpecRef.{RefSpecRef}
 use Rattle.gix_refspec.specs.Reading.{Reading}
 use Rattle.gix_refspec.specs.Spec.{reading_of}
@@ -84,18 +85,18 @@ still_listed direction g refs old new still each k d below = elim (still k) [
 ]
 
 -- what is listed for a near end is listed for the reading that has it
-pub lists_for : (direction : Direction) (r : Reading) (refs : List Ref) (kinds : DeclaredEnds) (listed : Option (Vec ℕ)) → (ends : Ends) × HasEnds direction r ends × HaveKinds ends kinds → ListsFitted (shown_kind kinds.near) refs listed → ListsFor direction r refs listed
-lists_for direction r refs kinds listed (ends, has, have) are other kind has_other of =
-    subst (λ (k : SideKind). ListsFitted k refs listed) (same_kind direction r ends other kind kinds has has_other have of) are
+pub lists_for : (direction : Direction) (r : Reading) (refs : List Ref) (near : DeclaredKind) (listed : Option (Vec ℕ)) → (ends : Ends) × HasEnds direction r ends × HasKind ends.near (shown_kind near) → ListsFitted (shown_kind near) refs listed → ListsFor direction r refs listed
+lists_for direction r refs near listed (ends, has, have) are other kind has_other of =
+    subst (λ (k : SideKind). ListsFitted k refs listed) (same_kind direction r ends other kind near has has_other have of) are
   where
-    same_kind : (direction : Direction) (r : Reading) (ends other : Ends) (kind : SideKind) (kinds : DeclaredEnds) → HasEnds direction r ends → HasEnds direction r other → HaveKinds ends kinds → HasKind other.near kind → shown_kind kinds.near ≡ kind
-    same_kind direction r ends other kind kinds has has_other have of =
-        one_kind other.near (shown_kind kinds.near) kind (subst (λ (e : Ends). HasKind e.near (shown_kind kinds.near)) (one_pair direction r ends other has has_other) have.near) of
+    same_kind : (direction : Direction) (r : Reading) (ends other : Ends) (kind : SideKind) (near : DeclaredKind) → HasEnds direction r ends → HasEnds direction r other → HasKind ends.near (shown_kind near) → HasKind other.near kind → shown_kind near ≡ kind
+    same_kind direction r ends other kind near has has_other have of =
+        one_kind other.near (shown_kind near) kind (subst (λ (e : Ends). HasKind e.near (shown_kind near)) (one_pair direction r ends other has has_other) have) of
 
 -- so is it of a look that finds it
-pub look_for : (direction : Direction) (r : Reading) (refs : List Ref) (kinds : DeclaredEnds) (looked : Result Look AllocError) → (ends : Ends) × HasEnds direction r ends × HaveKinds ends kinds → IfOk looked (λ look. ListsFitted (shown_kind kinds.near) refs look.fitted) → IfOk looked (λ look. ListsFor direction r refs look.fitted)
-look_for direction r refs kinds (Ok look) found are = lists_for direction r refs kinds look.fitted found are
-look_for direction r refs kinds (Err error) found are = tt
+pub look_for : (direction : Direction) (r : Reading) (refs : List Ref) (near : DeclaredKind) (looked : Result Look AllocError) → (ends : Ends) × HasEnds direction r ends × HasKind ends.near (shown_kind near) → IfOk looked (λ look. ListsFitted (shown_kind near) refs look.fitted) → IfOk looked (λ look. ListsFor direction r refs look.fitted)
+look_for direction r refs near (Ok look) found are = lists_for direction r refs near look.fitted found are
+look_for direction r refs near (Err error) found are = tt
 
 -- the places listed for a spec are those that its near end fits
 pub listed_places : (direction : Direction) (specs : List RefSpecRef) (refs : List Ref) (i : ℕ) (s : RefSpecRef) (kinds : DeclaredEnds) (listed : List (Option (Vec ℕ))) (places : List ℕ) → i < length specs → s ≡ get_or specs i s → ListEach direction (map reading_of specs) refs listed → (ends : Ends) × HasEnds direction (reading_of s) ends × HaveKinds ends kinds → HasListed listed i places → ArePlacesFittedTo (shown_kind kinds.near) refs places

@@ -12,7 +12,7 @@ ghost use Rattle.gix_refspec.specs.Private.HitViews.{HasEnds, TakesEach, TakesIn
 ghost use Rattle.gix_refspec.specs.Private.EqualSpecs.{AddsMost, AreMostMade, FlagsEqual};
 ghost use Rattle.gix_refspec.specs.Private.Part.{moved, place_among};
 
-use super::ends::{Direction, Ends, asked_of, ends_of};
+use super::ends::{Direction, Ends, asked_of, ends_of, near_of};
 use super::equal_specs::equal_specs;
 use super::fill::filled_end;
 use super::ids::ids_of;
@@ -159,8 +159,8 @@ impl Look {
     ) -> Result<Look, AllocError>
         ensures { IfOk result (λ look. ListsFor direction (reading_of spec.now) (map ref_of items.now) look.fitted) }
     {
-        if let Some(ends) = ends_of(direction, spec) {
-            return Look::through(alloc, ends.near, index, items, most);
+        if let Some(near) = near_of(direction, spec) {
+            return Look::through(alloc, near, index, items, most);
         }
         let count = match direction {
             Direction::Forward => usize::from(asked_of(spec).is_some()),

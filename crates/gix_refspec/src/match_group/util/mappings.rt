@@ -11,7 +11,6 @@ ghost use Rattle.gix_refspec.specs.Private.Part.{HasNoNearId};
 
 use super::ends::Direction;
 use super::hits::{Made, Survey, mappings_of};
-use super::index::fronts::fronts_asked;
 use super::index::{NameIndex, names_asked};
 use super::kept::keep;
 use super::part::{Part, has_near_id, seem_repeated};
@@ -69,11 +68,10 @@ fn kept_by_name<'spec, 'item>(
 {
     let by_id = has_near_id(direction, specs);
     let names = names_asked(alloc, direction, specs)?;
-    let fronts = fronts_asked(alloc, direction, specs)?;
-    if !by_id && !fronts.is_empty() && seem_repeated(alloc, items)? {
+    if !by_id && !names.fronts.is_empty() && seem_repeated(alloc, items)? {
         return kept_once(alloc, direction, specs, items);
     }
-    let index = NameIndex::of(alloc, direction, &names, fronts.as_slice(), items)?;
+    let index = NameIndex::of(alloc, direction, &names, items)?;
     let survey = Survey::of(alloc, direction, specs, &index, items)?;
     if by_id || !names_repeat(&index, survey.room, items) {
         return kept_with(alloc, direction, specs, &index, items, survey);
@@ -121,8 +119,7 @@ fn kept_of_all<'spec, 'item>(
         direction (map reading_of specs.now) (map ref_of items.now) (made_in direction made)) }
 {
     let names = names_asked(alloc, direction, specs)?;
-    let fronts = fronts_asked(alloc, direction, specs)?;
-    let index = NameIndex::of(alloc, direction, &names, fronts.as_slice(), items)?;
+    let index = NameIndex::of(alloc, direction, &names, items)?;
     let survey = Survey::of(alloc, direction, specs, &index, items)?;
     kept_with(alloc, direction, specs, &index, items, survey)
 }

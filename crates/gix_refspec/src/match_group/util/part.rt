@@ -14,7 +14,7 @@ ghost use Rattle.gix_refspec.specs.Side.{object};
 ghost use Rattle.gix_refspec.specs.Private.SideViews.{shown_kind};
 ghost use Rattle.gix_refspec.specs.Private.Part.{FlagsRepeated, HasNoNearId, IsNoNearId, IsPart, IsRepeatedAt, place_among};
 
-use super::ends::{Direction, ends_of};
+use super::ends::{Direction, near_of};
 use super::hashes::{hash_by, seeds};
 use super::kept::is_flagged;
 use super::kept::repeats::{bits_for, bucket_of, key_of, place_of, raise};
@@ -123,9 +123,9 @@ pub(crate) fn has_near_id(direction: Direction, specs: &[RefSpecRef<'_>]) -> boo
 fn near_is_id(direction: Direction, spec: &RefSpecRef<'_>) -> bool
     ensures { MatchBool result (Unit {0}) (IsNoNearId direction (reading_of spec.now)) }
 {
-    match ends_of(direction, spec) {
+    match near_of(direction, spec) {
         None => false,
-        Some(ends) => is_id(ends.near),
+        Some(near) => is_id(near),
     }
 }
 
