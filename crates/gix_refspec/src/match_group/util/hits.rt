@@ -68,7 +68,7 @@ pub(crate) fn mappings_of<'spec, 'item>(
     specs: &[RefSpecRef<'spec>],
     index: &NameIndex<'_>,
     items: &[Item<'item>],
-    mut survey: Survey,
+    survey: Survey,
 ) -> Result<Made<'spec, 'item>, AllocError>
     requires index { IsIndexFor direction (map reading_of specs.now) (map ref_of items.now) index.now }
     requires equal { FlagsEqual (map reading_of specs.now) survey.equal.items }
@@ -78,15 +78,7 @@ pub(crate) fn mappings_of<'spec, 'item>(
         direction (map reading_of specs.now) (map ref_of items.now) (made_in direction made)) }
 {
     let mut made = started(alloc, direction, specs, survey.room)?;
-    add_hits(
-        alloc,
-        direction,
-        specs,
-        &mut survey,
-        index,
-        items,
-        &mut made,
-    )?;
+    add_hits(alloc, direction, specs, survey, index, items, &mut made)?;
     Ok(made)
 }
 
@@ -312,15 +304,15 @@ fn add_hits<'spec, 'item>(
     alloc: Global,
     direction: Direction,
     specs: &[RefSpecRef<'spec>],
-    survey: &mut Survey,
+    mut survey: Survey,
     index: &NameIndex<'_>,
     items: &[Item<'item>],
     made: &mut Made<'spec, 'item>,
 ) -> Result<(), AllocError>
     requires index { IsIndexFor direction (map reading_of specs.now) (map ref_of items.now) index.now }
-    requires equal { FlagsEqual (map reading_of specs.now) survey.old.equal.items }
+    requires equal { FlagsEqual (map reading_of specs.now) survey.equal.items }
     requires fitted { ListEach direction
-        (map reading_of specs.now) (map ref_of items.now) survey.old.fitted.items }
+        (map reading_of specs.now) (map ref_of items.now) survey.fitted.items }
     ensures { OnOk result (AddsMost
         (map reading_of specs.now)
         direction (AreHits (HasEnds direction) (TakesIn direction (map ref_of items.now))
