@@ -90,7 +90,7 @@ fn without_places<'n>(
     ensures { IfOk result (λ places. HavePlaces
         (map name_bytes names.now) [] (list_of places)) }
 {
-    let mut places = HashMap::new(alloc);
+    let mut places = HashMap::with_capacity(alloc, names.len())?;
     for name in names {
         places.insert(name.as_bstr().as_bytes(), Vec::new(alloc))?;
     }
