@@ -69,7 +69,10 @@ pub(crate) fn below_refs(side: &[u8]) -> Option<&[u8]>
         (¬ (BeginsWith (codes "refs/") side.now))
         (λ rest. side.now ≡ codes "refs/" ++ rest.now) }
 {
-    side.strip_prefix(b"refs/")
+    match side {
+        [b'r', b'e', b'f', b's', b'/', rest @ ..] => Some(rest),
+        _ => None,
+    }
 }
 
 // The six candidates of a partial name.

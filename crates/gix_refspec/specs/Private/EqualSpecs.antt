@@ -1,12 +1,12 @@
--- Specs that have the sides of an earlier one, and mappings of which some that repeat an earlier one are left out.
--- Only private functions cite this.
+-- Specs that have the sides of an earlier one, and mappings of which some are left out that repeat an earlier one or are
+-- excluded. Only private functions cite this.
 use Rattle.std.specs.Prelude.{◌≡◌, ◌⊎◌, ℕ, ◌<◌, Bool, List, [], ◌∷◌, ◌++◌, length, map, slice_index_or}
 use Rattle.gix_refspec.specs.declared.match_group.hits.ends.Direction.{Direction}
 use Rattle.gix_refspec.specs.declared.match_group.hits.Made.{Made}
 use Rattle.gix_refspec.specs.Specs.Reading.{Reading}
 use Rattle.gix_refspec.specs.Specs.Grammar.{IsPositive}
 use Rattle.gix_refspec.specs.Matching.Match.{Ref}
-use Rattle.gix_refspec.specs.Matching.Mappings.{Mapped, HasPair}
+use Rattle.gix_refspec.specs.Matching.Mappings.{Mapped, HasPair, IsStartExcluded}
 use Rattle.gix_refspec.specs.Matching.Hits.{Hit}
 use Rattle.gix_refspec.specs.Private.HitViews.{AreMade, mapped_of_made, mapping_of}
 use Rattle.gix_refspec.specs.Private.Kept.{IsFlagged}
@@ -28,24 +28,27 @@ pub record IsEqualAt (g : List Reading) (before place : ℕ) : Type 0 where
 abbrev pub FlagsEqual : List Reading → List Bool → Type 0
 FlagsEqual g flags = (place : ℕ) → IsFlagged flags place → (before : ℕ) × IsEqualAt g before place
 
--- some of the mappings, which are after others: each one that is left out has the pair of one before it
-abbrev pub Thins : List Mapped → List Mapped → List Mapped → Type 0
-Thins before [] some = some ≡ []
-Thins before (m ∷ l) some =
-    ((rest : List Mapped) × (some ≡ m ∷ rest) × Thins (before ++ m ∷ []) l rest)
-    ⊎ (HasPair before m × Thins (before ++ m ∷ []) l some)
+-- a mapping that may be left out behind others: one of them has its pair, or readings of the group exclude it
+abbrev pub MayGo : List Reading → List Mapped → Mapped → Type 0
+MayGo g before m = HasPair before m ⊎ ¬ (¬ (IsStartExcluded g m.source))
 
--- the new mappings are the old ones and those that hits make, but for some that repeat an earlier one of the hits; the
--- hits are as P says
-pub record AddsMost (direction : Direction) (P : List Hit → Type 0) (old new : Made) : Type 0 where
+-- some of the mappings, which stand behind others: those that are left out may be
+abbrev pub Thins : List Reading → List Mapped → List Mapped → List Mapped → Type 0
+Thins g before [] some = some ≡ []
+Thins g before (m ∷ l) some =
+    ((rest : List Mapped) × (some ≡ m ∷ rest) × Thins g (before ++ m ∷ []) l rest)
+    ⊎ (MayGo g before m × Thins g (before ++ m ∷ []) l some)
+
+-- behind the old mappings stand those that hits make but for some that may be left out, and the hits are as P says
+pub record AddsMost (g : List Reading) (direction : Direction) (P : List Hit → Type 0) (old new : Made) : Type 0 where
   pub hits : List Hit
   pub some : List Mapped
   pub are : P hits
-  pub thins : Thins [] (map (mapping_of direction) hits) some
+  pub thins : Thins g [] (map (mapping_of direction) hits) some
   pub all : mapped_of_made direction new ≡ mapped_of_made direction old ++ some
 
--- the mappings of the direction but for some that repeat an earlier one
+-- the mappings of the direction but for some that may be left out
 pub record AreMostMade (direction : Direction) (g : List Reading) (items : List Ref) (list : List Mapped) : Type 0 where
   pub all : List Mapped
   pub made : AreMade direction g items all
-  pub thins : Thins [] all list
+  pub thins : Thins g [] all list

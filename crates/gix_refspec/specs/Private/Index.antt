@@ -1,5 +1,5 @@
 -- How full names, partial ones and patterns are looked up. Only private functions cite these words.
-use Rattle.std.specs.Prelude.{◌≡◌, ◌⊎◌, ◌<◌, ℕ, List, [], ◌∷◌, ◌++◌, Bool, Option, None, Some, length, map, unwrap_or, option_map, slice_index_or, bytes_eq}
+use Rattle.std.specs.Prelude.{◌≡◌, ◌⊎◌, ◌<◌, ℕ, List, [], ◌∷◌, ◌++◌, Bool, Option, None, Some, length, map, unwrap_or, option_map, slice_index_or, bytes_eq, codes}
 use Rattle.std.specs.Borrow.{Bor}
 use Rattle.std.specs.List.{AllByRecursion, Contains, slice_get}
 use Rattle.std.specs.HashMap as hash
@@ -126,6 +126,10 @@ ListEach direction g refs listed = (k : ℕ) (d : Reading) → k < length g → 
 abbrev pub HasListed : List (Option (Vec ℕ)) → ℕ → List ℕ → Type 0
 HasListed listed k places = (v : Vec ℕ) × (slice_index_or listed k None ≡ Some v) × (places ≡ v.items)
 
+-- what was listed for the spec at place k still is, or nothing is
+abbrev pub IsListedStill : List (Option (Vec ℕ)) → List (Option (Vec ℕ)) → ℕ → Type 0
+IsListedStill old new k = (slice_index_or new k None ≡ slice_index_or old k None) ⊎ (slice_index_or new k None ≡ None)
+
 -- what is listed for a name, and nothing where it isn't listed
 abbrev pub places_listed : (List ℕ → Option (Vec ℕ)) → List ℕ → List ℕ
 places_listed listed n = unwrap_or (option_map (λ v. v.items) (listed n)) []
@@ -154,6 +158,10 @@ Joins Backward refs place old new = new ≡ old ++ place ∷ []
 abbrev pub AddsWhere : (List ℕ → Type 0) → (List ℕ → Type 0) → (List ℕ → List ℕ → Type 0) → (List ℕ → Option (Vec ℕ)) → (List ℕ → Option (Vec ℕ)) → Type 0
 AddsWhere Known P R old new = (x : List ℕ) (w : Vec ℕ) → Known x → old x ≡ Some w → (v : Vec ℕ) × (new x ≡ Some v)
     × ((P x × R w.items v.items) ⊎ (¬ (P x) × (v.items ≡ w.items)))
+
+-- below `refs/`, x stands at one of the places where partial names are looked for
+abbrev pub IsBelowPlace : List ℕ → List ℕ → Type 0
+IsBelowPlace below x = (below ≡ codes "tags/" ++ x) ⊎ (below ≡ codes "heads/" ++ x) ⊎ (below ≡ codes "remotes/" ++ x)
 
 -- each of the partial names is listed, with the places of the refs that it takes in the direction
 abbrev pub ListPartials : Direction → List (List ℕ) → List Ref → (List ℕ → Option (Vec ℕ)) → Type 0

@@ -2,12 +2,12 @@
 //! chooses which end of a spec is near and takes items, which is far and is filled, and whether a
 //! partial near end takes all of its candidates or the first that is there.
 
-ghost use Rattle.std.specs.Prelude.{◌≡◌, [], map, IfOk, IfSome, None, OnOk};
+ghost use Rattle.std.specs.Prelude.{◌≡◌, [], ℕ, map, IfOk, IfSome, None, OnOk};
 ghost use Rattle.gix_refspec.specs.Views.Spec.{reading_of};
 ghost use Rattle.gix_refspec.specs.Views.Group.{ref_of, mapped_of};
 ghost use Rattle.gix_refspec.specs.Matching.Hits.{AreHits, forward_of, backward_of};
 ghost use Rattle.gix_refspec.specs.Private.SideViews.{kind_of_side};
-ghost use Rattle.gix_refspec.specs.Private.Index.{ArePlacesFitted, ArePlacesFittedTo, ArePlacesFor, ArePlacesTaken, HasListed, IsIndexFor, IsIndexOfSide, ListEach, ListsFitted, ListsFor, MatchesWhole};
+ghost use Rattle.gix_refspec.specs.Private.Index.{ArePlacesFitted, ArePlacesFittedTo, ArePlacesFor, ArePlacesTaken, HasListed, IsIndexFor, IsIndexOfSide, IsListedStill, ListEach, ListsFitted, ListsFor, MatchesWhole};
 ghost use Rattle.gix_refspec.specs.Private.HitViews.{HasEnds, TakesEach, TakesIn, hit_of, AreHitsOfKinds, AddsHits, AreIdMappings, mapped_of_made};
 ghost use Rattle.gix_refspec.specs.Private.EqualSpecs.{AddsMost, AreMostMade, FlagsEqual};
 ghost use Rattle.gix_refspec.specs.Private.Part.{moved, place_among};
@@ -25,7 +25,7 @@ use crate::match_group::types::{Item, Mapping, NameRef, SourceRef};
 use crate::side::SideKind;
 use crate::spec::RefSpecRef;
 use bstr::BStr;
-use ends::{Direction, Ends, asked_of, ends_of};
+use ends::{Direction, Ends, asked_of, ends_of, near_of};
 use equal_specs::equal_specs;
 use fill::filled_end;
 use ids::id_mappings;
@@ -75,12 +75,12 @@ pub(crate) fn mappings_of<'spec, 'item>(
     specs: &[RefSpecRef<'spec>],
     index: &NameIndex<'_>,
     items: &[Item<'item>],
-    survey: &Survey,
+    survey: Survey,
 ) -> Result<Made<'spec, 'item>, AllocError>
     requires index { IsIndexFor direction (map reading_of specs.now) (map ref_of items.now) index.now }
-    requires equal { FlagsEqual (map reading_of specs.now) survey.now.equal.items }
+    requires equal { FlagsEqual (map reading_of specs.now) survey.equal.items }
     requires fitted { ListEach direction
-        (map reading_of specs.now) (map ref_of items.now) survey.now.fitted.items }
+        (map reading_of specs.now) (map ref_of items.now) survey.fitted.items }
     ensures { IfOk result (λ made. AreMostMade
         direction (map reading_of specs.now) (map ref_of items.now) (mapped_of_made direction made)) }
 {
@@ -124,14 +124,17 @@ impl Survey {
         })
     }
 
-    // The places that are listed for the spec at a place.
-    fn places(&self, spec: usize) -> Option<&[usize]>
-        ensures { IfSome result (λ places. HasListed self.now.fitted.items spec places.now) }
+    // Takes the places that are listed for the spec at a place. So their memory is free as soon as they are
+    // used.
+    fn take_places(&mut self, spec: usize) -> Option<Vec<usize>>
+        ensures listed { IfSome result (λ places. HasListed self.old.fitted.items spec places.items) }
+        ensures others { (k : ℕ) → IsListedStill self.old.fitted.items self.new.fitted.items k }
+        ensures equal { self.new.equal ≡ self.old.equal }
     {
-        match self.fitted.get(spec) {
-            Some(Some(places)) => Some(places.as_slice()),
-            Some(None) | None => None,
+        if self.fitted.len() <= spec {
+            return None;
         }
+        self.fitted[spec].take()
     }
 }
 
@@ -155,8 +158,8 @@ impl Look {
     ) -> Result<Look, AllocError>
         ensures { IfOk result (λ look. ListsFor direction (reading_of spec.now) (map ref_of items.now) look.fitted) }
     {
-        if let Some(ends) = ends_of(direction, spec) {
-            return Look::through(alloc, ends.near, index, items, most);
+        if let Some(near) = near_of(direction, spec) {
+            return Look::through(alloc, near, index, items, most);
         }
         let count = match direction {
             Direction::Forward => usize::from(asked_of(spec).is_some()),
@@ -308,16 +311,17 @@ fn add_hits<'spec, 'item>(
     alloc: Global,
     direction: Direction,
     specs: &[RefSpecRef<'spec>],
-    survey: &Survey,
+    mut survey: Survey,
     index: &NameIndex<'_>,
     items: &[Item<'item>],
     made: &mut Made<'spec, 'item>,
 ) -> Result<(), AllocError>
     requires index { IsIndexFor direction (map reading_of specs.now) (map ref_of items.now) index.now }
-    requires equal { FlagsEqual (map reading_of specs.now) survey.now.equal.items }
+    requires equal { FlagsEqual (map reading_of specs.now) survey.equal.items }
     requires fitted { ListEach direction
-        (map reading_of specs.now) (map ref_of items.now) survey.now.fitted.items }
+        (map reading_of specs.now) (map ref_of items.now) survey.fitted.items }
     ensures { OnOk result (AddsMost
+        (map reading_of specs.now)
         direction (AreHits (HasEnds direction) (TakesIn direction (map ref_of items.now))
         (map reading_of specs.now) (map ref_of items.now)) made.old made.new) }
 {
@@ -328,8 +332,18 @@ fn add_hits<'spec, 'item>(
         let Some(ends) = ends_of(direction, spec) else {
             continue;
         };
-        match survey.places(place) {
-            Some(places) => add_fitted(alloc, direction, place, ends, places, items, made)?,
+        match survey.take_places(place) {
+            Some(places) => {
+                add_fitted(
+                    alloc,
+                    direction,
+                    place,
+                    ends,
+                    places.as_slice(),
+                    items,
+                    made,
+                )?
+            }
             None => add_spec_hits(alloc, direction, place, ends, index, items, made)?,
         }
     }

@@ -1,7 +1,7 @@
 //! Which mappings are kept: each pair of a source and a destination once, and no source that a
 //! negative spec excludes.
 
-ghost use Rattle.std.specs.Prelude.{◌≡◌, ◌⊎◌, ◌↔◌, ◌<◌, ◌≤◌, length, map, IfOk, OnOk, OnErr, IsTrue};
+ghost use Rattle.std.specs.Prelude.{[], ◌⊎◌, ◌↔◌, ◌<◌, length, map, OnOk, OnErr, IsTrue};
 ghost use Rattle.gix_refspec.specs.Views.Spec.{reading_of};
 ghost use Rattle.gix_refspec.specs.Views.Group.{mapped_of};
 ghost use Rattle.gix_refspec.specs.Matching.Mappings.{IsKept};
@@ -17,9 +17,9 @@ use exclusions::Exclusions;
 use repeats::repeats_of;
 use std::alloc::{AllocError, Global};
 
-// Drops the mappings that have the same source and destination as an earlier one, and those whose
-// source a negative spec excludes. The others stay in order. Fails if memory runs out, and leaves them
-// all then; never for one mapping and no negative spec.
+// Drops the mappings whose source a negative spec excludes, and those that have the same source and
+// destination as an earlier one. The others stay in order. What is excluded goes first, so that no key is
+// made of it. Fails if memory runs out; never for one mapping and no negative spec.
 pub(crate) fn keep<'a, 'b>(
     alloc: Global,
     specs: &[RefSpecRef<'_>],
@@ -28,17 +28,27 @@ pub(crate) fn keep<'a, 'b>(
     ensures ok { OnOk result (IsKept
         (map reading_of specs.now) (map mapped_of mappings.old.items)
         (map mapped_of mappings.new.items)) }
-    ensures err { OnErr result (mappings.new.items ≡ mappings.old.items) }
     ensures memory { OnErr result ((1 < length mappings.old.items) ⊎ HasNegative
         (map reading_of specs.now)) }
 {
     let exclusions = Exclusions::of(alloc, specs)?;
+    drop_excluded(&exclusions, mappings);
     let repeats = repeats_of(alloc, mappings.as_slice())?;
-    if exclusions.is_empty() && repeats.is_empty() {
+    if repeats.is_empty() {
         return Ok(());
     }
-    drop_others(&exclusions, repeats.as_slice(), mappings);
+    drop_others(&Exclusions::none(alloc), repeats.as_slice(), mappings);
     Ok(())
+}
+
+// Drops the mappings that are excluded. The others stay in order.
+fn drop_excluded<'a, 'b>(exclusions: &Exclusions<'_>, mappings: &mut Vec<Mapping<'a, 'b>>)
+    ensures { IsMadeFrom (IsKeptBy exclusions.now []) 0 mappings.old.items mappings.new.items }
+{
+    if exclusions.is_empty() {
+        return;
+    }
+    drop_others(exclusions, &[], mappings);
 }
 
 // Drops the mappings that are flagged or excluded. The others stay in order.

@@ -13,7 +13,6 @@ pub(crate) mod part;
 mod presence;
 
 use crate::match_group::hits::ends::Direction;
-use crate::match_group::hits::index::fronts::fronts_asked;
 use crate::match_group::hits::index::{NameIndex, names_asked};
 use crate::match_group::hits::{Made, Survey, mappings_of};
 use crate::match_group::keep::keep;
@@ -72,11 +71,10 @@ fn kept_by_name<'spec, 'item>(
 {
     let by_id = has_near_id(direction, specs);
     let names = names_asked(alloc, direction, specs)?;
-    let fronts = fronts_asked(alloc, direction, specs)?;
-    if !by_id && !fronts.is_empty() && seem_repeated(alloc, items)? {
+    if !by_id && !names.fronts.is_empty() && seem_repeated(alloc, items)? {
         return kept_once(alloc, direction, specs, items);
     }
-    let index = NameIndex::of(alloc, direction, &names, fronts.as_slice(), items)?;
+    let index = NameIndex::of(alloc, direction, &names, items)?;
     let survey = Survey::of(alloc, direction, specs, &index, items)?;
     if by_id || !names_repeat(&index, survey.room, items) {
         return kept_with(alloc, direction, specs, &index, items, survey);
@@ -124,8 +122,7 @@ fn kept_of_all<'spec, 'item>(
         direction (map reading_of specs.now) (map ref_of items.now) (mapped_of_made direction made)) }
 {
     let names = names_asked(alloc, direction, specs)?;
-    let fronts = fronts_asked(alloc, direction, specs)?;
-    let index = NameIndex::of(alloc, direction, &names, fronts.as_slice(), items)?;
+    let index = NameIndex::of(alloc, direction, &names, items)?;
     let survey = Survey::of(alloc, direction, specs, &index, items)?;
     kept_with(alloc, direction, specs, &index, items, survey)
 }
@@ -146,8 +143,7 @@ fn kept_with<'spec, 'item>(
     ensures { IfOk result (λ made. AreKept
         direction (map reading_of specs.now) (map ref_of items.now) (mapped_of_made direction made)) }
 {
-    let mut made = mappings_of(alloc, direction, specs, index, items, &survey)?;
-    drop(survey);
+    let mut made = mappings_of(alloc, direction, specs, index, items, survey)?;
     match direction {
         Direction::Forward => keep(alloc, specs, &mut made.forward)?,
         Direction::Backward => keep(alloc, specs, &mut made.backward)?,

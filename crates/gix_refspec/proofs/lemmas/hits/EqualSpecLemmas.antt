@@ -14,7 +14,7 @@ use Rattle.gix_refspec.specs.Matching.Mappings.{Mapped, IsSamePair, HasPair, IsK
 use Rattle.gix_refspec.specs.Matching.Hits.{Ends, Hit, IsHit, AreHits, AreSpecHits}
 use Rattle.gix_refspec.specs.Private.HitViews.{HasEnds, HaveKinds, TakesIn, AreHitsOfKinds, AddsHits, AreIdMappings, AreKept, mapped_of_made, mapping_of}
 use Rattle.gix_refspec.specs.Private.Kept.{IsFlagged}
-use Rattle.gix_refspec.specs.Private.EqualSpecs.{HaveSameSides, IsEqualAt, FlagsEqual, Thins, AddsMost, AreMostMade}
+use Rattle.gix_refspec.specs.Private.EqualSpecs.{HaveSameSides, IsEqualAt, FlagsEqual, MayGo, Thins, AddsMost, AreMostMade}
 use Rattle.gix_refspec.proofs.lemmas.hits.HitLemmas.{spec_hits}
 use Rattle.gix_refspec.proofs.lemmas.lists.JoinLemmas.{map_long}
 use Rattle.gix_refspec.proofs.lemmas.keep.KeptLemmas.{HasPair-left}
@@ -66,12 +66,12 @@ pair_at Backward k h = record { source = refl; destination = refl }
 abbrev Holds : List Mapped → List Mapped → Type 0
 Holds all some = (m : Mapped) → HasPair some m → HasPair all m
 
--- where the pairs of some hits are before, those of the same hits by another spec are left out
-thins_again : (direction : Direction) (k : ℕ) (before : List Mapped) (hits : List Hit) → Holds before (of_hits direction hits) → Thins before (of_hits direction (map (at_spec k) hits)) []
-thins_again direction k before [] holds = refl
-thins_again direction k before (h ∷ hits) holds =
+-- where the pairs of some hits stand before, those of the same hits by another spec are left out
+thins_again : (g : List Reading) (direction : Direction) (k : ℕ) (before : List Mapped) (hits : List Hit) → Holds before (of_hits direction hits) → Thins g before (of_hits direction (map (at_spec k) hits)) []
+thins_again g direction k before [] holds = refl
+thins_again g direction k before (h ∷ hits) holds =
     let m = mapping_of direction (at_spec k h) in
-    inr (holds m (inl (pair_at direction k h)), thins_again direction k (before ++ m ∷ []) hits (λ x has. HasPair-left before (m ∷ []) x (holds x (inr has))))
+    inr (inl (holds m (inl (pair_at direction k h))), thins_again g direction k (before ++ m ∷ []) hits (λ x has. HasPair-left before (m ∷ []) x (holds x (inr has))))
 
 -- among the hits of a group those of the spec at a place
 abbrev HitsAt : Direction → List Ref → ℕ → Reading → List Hit → Type 0
@@ -98,30 +98,30 @@ hits_of_spec direction items (r ∷ g) k (suc b) d hits below (first, rest, of, 
 abbrev HitsUpTo : Direction → List Ref → List RefSpecRef → ℕ → List Hit → Type 0
 HitsUpTo direction items specs i hits = AreHits (HasEnds direction) (TakesIn direction items) (map reading_of (take i specs)) items hits
 
-thins_more : (direction : Direction) (g more : List Hit) (some rest : List Mapped) → Thins [] (of_hits direction g) some → Thins (of_hits direction g) (of_hits direction more) rest → Thins [] (of_hits direction (g ++ more)) (some ++ rest)
-thins_more direction g more some rest first later =
-    subst (λ (l : List Mapped). Thins [] l (some ++ rest)) (sym (map-append (mapping_of direction) g more))
-    (thins_both [] (of_hits direction g) some (of_hits direction more) rest first later)
+thins_more : (g : List Reading) (direction : Direction) (hits more : List Hit) (some rest : List Mapped) → Thins g [] (of_hits direction hits) some → Thins g (of_hits direction hits) (of_hits direction more) rest → Thins g [] (of_hits direction (hits ++ more)) (some ++ rest)
+thins_more g direction hits more some rest first later =
+    subst (λ (l : List Mapped). Thins g [] l (some ++ rest)) (sym (map-append (mapping_of direction) hits more))
+    (thins_both g [] (of_hits direction hits) some (of_hits direction more) rest first later)
 
 -- a spec adds its hits
 pub most_spec : (direction : Direction) (specs : List RefSpecRef) (items : List Ref) (i : ℕ) (s : RefSpecRef) (kinds : DeclaredEnds) (old mid new : Made) → i < length specs → s ≡ get_or specs i s
-    → AddsMost direction (HitsUpTo direction items specs i) old mid
+    → AddsMost (map reading_of specs) direction (HitsUpTo direction items specs i) old mid
     → (ends : Ends) × HasEnds direction (reading_of s) ends × HaveKinds ends kinds
     → AddsHits direction (AreHitsOfKinds direction kinds i items items) mid new
-    → AddsMost direction (HitsUpTo direction items specs (i + 1)) old new
+    → AddsMost (map reading_of specs) direction (HitsUpTo direction items specs (i + 1)) old new
 most_spec direction specs items i s kinds old mid new below is so_far (ends, has, have) here = record {
   hits = so_far.hits ++ here.hits;
   some = so_far.some ++ of_hits direction here.hits;
   are = spec_hits direction specs items i s so_far.hits here.hits below is so_far.are (inl (ends, has, here.are ends have));
-  thins = thins_more direction so_far.hits here.hits so_far.some (of_hits direction here.hits) so_far.thins (thins_all (of_hits direction so_far.hits) (of_hits direction here.hits));
+  thins = thins_more (map reading_of specs) direction so_far.hits here.hits so_far.some (of_hits direction here.hits) so_far.thins (thins_all (map reading_of specs) (of_hits direction so_far.hits) (of_hits direction here.hits));
   all = here.all ∙ ap (λ (l : List Mapped). l ++ of_hits direction here.hits) so_far.all ∙ append_assoc (mapped_of_made direction old) so_far.some (of_hits direction here.hits);
 }
 
 -- a spec without ends adds nothing
 pub most_no_spec : (direction : Direction) (specs : List RefSpecRef) (items : List Ref) (i : ℕ) (s : RefSpecRef) (old mid : Made) → i < length specs → s ≡ get_or specs i s
-    → AddsMost direction (HitsUpTo direction items specs i) old mid
+    → AddsMost (map reading_of specs) direction (HitsUpTo direction items specs i) old mid
     → ((ends : Ends) → ¬ (HasEnds direction (reading_of s) ends))
-    → AddsMost direction (HitsUpTo direction items specs (i + 1)) old mid
+    → AddsMost (map reading_of specs) direction (HitsUpTo direction items specs (i + 1)) old mid
 most_no_spec direction specs items i s old mid below is so_far none = record {
   hits = so_far.hits;
   some = so_far.some;
@@ -137,8 +137,8 @@ up_to specs b i d less below = ap (λ (l : List Reading). get_or l b d) (sym (ta
 -- a spec that is flagged adds nothing new
 pub most_equal : (direction : Direction) (specs : List RefSpecRef) (items : List Ref) (i : ℕ) (s : RefSpecRef) (flags : List Bool) (old mid : Made) → i < length specs → s ≡ get_or specs i s
     → FlagsEqual (map reading_of specs) flags → IsFlagged flags i
-    → AddsMost direction (HitsUpTo direction items specs i) old mid
-    → AddsMost direction (HitsUpTo direction items specs (i + 1)) old mid
+    → AddsMost (map reading_of specs) direction (HitsUpTo direction items specs i) old mid
+    → AddsMost (map reading_of specs) direction (HitsUpTo direction items specs (i + 1)) old mid
 most_equal direction specs items i s flags old mid below is equal flagged so_far =
     let (b, at) = equal i flagged in
     let d = reading_of s in
@@ -152,31 +152,35 @@ most_equal direction specs items i s flags old mid below is equal flagged so_far
       hits = so_far.hits ++ more;
       some = so_far.some;
       are = spec_hits direction specs items i s so_far.hits more below is so_far.are (spec_at direction items (0 + b) i (get_or (map reading_of (take i specs)) b d) d first same are);
-      thins = subst (λ (l : List Mapped). Thins [] (of_hits direction (so_far.hits ++ more)) l) (append-nil so_far.some) (thins_more direction so_far.hits more so_far.some [] so_far.thins (thins_again direction i (of_hits direction so_far.hits) first holds));
+      thins = subst (λ (l : List Mapped). Thins (map reading_of specs) [] (of_hits direction (so_far.hits ++ more)) l) (append-nil so_far.some) (thins_more (map reading_of specs) direction so_far.hits more so_far.some [] so_far.thins (thins_again (map reading_of specs) direction i (of_hits direction so_far.hits) first holds));
       all = so_far.all;
     }
 
 -- ---- all specs
 
-thins_behind : (front before l some : List Mapped) → Thins before l some → Thins (front ++ before) l some
-thins_behind front before [] some none = none
-thins_behind front before (m ∷ l) some (inl (rest, is, thins)) = inl (rest, is, subst (λ (b : List Mapped). Thins b l rest) (sym (append_assoc front before (m ∷ []))) (thins_behind front (before ++ m ∷ []) l rest thins))
-thins_behind front before (m ∷ l) some (inr (has, thins)) = inr (pair_right front before m has, subst (λ (b : List Mapped). Thins b l some) (sym (append_assoc front before (m ∷ []))) (thins_behind front (before ++ m ∷ []) l some thins))
+may_behind : (g : List Reading) (front before : List Mapped) (m : Mapped) → MayGo g before m → MayGo g (front ++ before) m
+may_behind g front before m (inl has) = inl (pair_right front before m has)
+may_behind g front before m (inr excluded) = inr excluded
 
--- what is first, and the hits after it but for some repeats
-pub most_made : (direction : Direction) (g : List Reading) (items : List Ref) (old new : Made) → AreIdMappings direction g (mapped_of_made direction old) → AddsMost direction (AreHits (HasEnds direction) (TakesIn direction items) g items) old new → AreMostMade direction g items (mapped_of_made direction new)
+thins_behind : (g : List Reading) (front before l some : List Mapped) → Thins g before l some → Thins g (front ++ before) l some
+thins_behind g front before [] some none = none
+thins_behind g front before (m ∷ l) some (inl (rest, is, thins)) = inl (rest, is, subst (λ (b : List Mapped). Thins g b l rest) (sym (append_assoc front before (m ∷ []))) (thins_behind g front (before ++ m ∷ []) l rest thins))
+thins_behind g front before (m ∷ l) some (inr (may, thins)) = inr (may_behind g front before m may, subst (λ (b : List Mapped). Thins g b l some) (sym (append_assoc front before (m ∷ []))) (thins_behind g front (before ++ m ∷ []) l some thins))
+
+-- what comes first, and the hits behind it but for some repeats
+pub most_made : (direction : Direction) (g : List Reading) (items : List Ref) (old new : Made) → AreIdMappings direction g (mapped_of_made direction old) → AddsMost g direction (AreHits (HasEnds direction) (TakesIn direction items) g items) old new → AreMostMade direction g items (mapped_of_made direction new)
 most_made Forward g items old new first adds =
     let ids = mapped_of_made Forward old in
-    let thins : Thins ids (of_hits Forward adds.hits) adds.some = subst (λ (b : List Mapped). Thins b (of_hits Forward adds.hits) adds.some) (append-nil ids) (thins_behind ids [] (of_hits Forward adds.hits) adds.some adds.thins) in
+    let thins : Thins g ids (of_hits Forward adds.hits) adds.some = subst (λ (b : List Mapped). Thins g b (of_hits Forward adds.hits) adds.some) (append-nil ids) (thins_behind g ids [] (of_hits Forward adds.hits) adds.some adds.thins) in
     record {
       all = ids ++ of_hits Forward adds.hits;
       made = record { ids = ids; hits = adds.hits; are_ids = first; are_hits = adds.are; all = refl };
-      thins = subst (λ (l : List Mapped). Thins [] (ids ++ of_hits Forward adds.hits) l) (sym adds.all) (thins_both [] ids ids (of_hits Forward adds.hits) adds.some (thins_all [] ids) thins);
+      thins = subst (λ (l : List Mapped). Thins g [] (ids ++ of_hits Forward adds.hits) l) (sym adds.all) (thins_both g [] ids ids (of_hits Forward adds.hits) adds.some (thins_all g [] ids) thins);
     }
 most_made Backward g items old new first adds = record {
   all = of_hits Backward adds.hits;
   made = record { hits = adds.hits; are_hits = adds.are; all = refl };
-  thins = subst (λ (l : List Mapped). Thins [] (of_hits Backward adds.hits) l) (sym (adds.all ∙ ap (λ (l : List Mapped). l ++ adds.some) first)) adds.thins;
+  thins = subst (λ (l : List Mapped). Thins g [] (of_hits Backward adds.hits) l) (sym (adds.all ∙ ap (λ (l : List Mapped). l ++ adds.some) first)) adds.thins;
 }
 
 -- what is kept of these is kept of all

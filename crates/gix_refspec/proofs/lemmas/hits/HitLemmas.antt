@@ -1,5 +1,5 @@
 -- What specs match, and what becomes of it.
-use Rattle.std.proofs.Common.{◌≡◌, ◌≢◌, ◌⊎◌, inl, inr, ℕ, suc, ◌+◌, ◌<◌, List, [], ◌∷◌, ◌++◌, codes, map, take, drop, get_or, Option, None, Some, option_map, option_to_list, is_some, true, MatchOption, Bor, length, refl, sym, ap, ◌∙◌, subst, append_assoc}
+use Rattle.std.proofs.Common.{◌≡◌, ◌≢◌, ◌⊎◌, inl, inr, ℕ, suc, ◌+◌, ◌<◌, List, [], ◌∷◌, ◌++◌, codes, map, take, drop, get_or, Option, None, Some, option_map, option_to_list, IsSome, is_some, Bool, not, true, false, MatchOption, Bor, length, refl, sym, ap, ◌∙◌, subst, append_assoc}
 use Rattle.std.proofs.lemmas.List.{append-nil, append_cancel_left, map-append}
 use Rattle.std.proofs.lemmas.Bool.{false≢true}
 use Rattle.bstr.specs.declared.bstr.BStr.{BStr}
@@ -294,18 +294,28 @@ only_object (FullName n) bytes other same = cc
 only_object (Object id) bytes other same = other id refl
 only_object (Partial n) bytes other same = cc
 
-pub forward_ends : (r : Reading) (k : DeclaredKind) (far : Option DeclaredKind) → IsPositive r.mode → HasSideKind r.source (Some k) → HasSideKind r.destination far → ((id : ObjectId) → k ≢ Object id) → (ends : Ends) × AreForwardEnds r ends × HaveKinds ends (record { near = k; far = far })
-forward_ends r k far positive source destination other =
+-- a source of another kind is the near end
+pub forward_near : (r : Reading) (k : DeclaredKind) → IsPositive r.mode → HasSideKind r.source (Some k) → ((id : ObjectId) → k ≢ Object id) → (ends : Ends) × AreForwardEnds r ends × HasKind ends.near (kind_of_side k)
+forward_near r k positive source other =
     let side = side_shown r.source k source in
     let ends : Ends = record { near = side.0; far = r.destination } in
-    (ends, record { positive = positive; near = side.1; far = refl; no_object = λ id kind. only_object k id other (one_kind side.0 (kind_of_side k) (object id) side.2 kind) }, record { near = side.2; far = destination })
+    (ends, record { positive = positive; near = side.1; far = refl; no_object = λ id kind. only_object k id other (one_kind side.0 (kind_of_side k) (object id) side.2 kind) }, side.2)
 
-pub backward_ends : (r : Reading) (k far : DeclaredKind) → IsPositive r.mode → HasSideKind r.destination (Some k) → HasSideKind r.source (Some far) → (ends : Ends) × AreBackwardEnds r ends × HaveKinds ends (record { near = k; far = Some far })
-backward_ends r k far positive destination source =
+-- a side that isn't missing is there
+pub some_side : (side : Option BStr) (missing : Bool) → missing ≡ false → is_some side ≡ not missing → IsSome (option_map bstr_bytes side)
+some_side None missing is told = absurd (false≢true (told ∙ ap not is))
+some_side (Some s) missing is told = refl
+
+none_shown : (side : Option (List ℕ)) (x : List ℕ) → HasSideKind side None → side ≡ Some x → ⊥
+none_shown None x kind is = absurd (cc)
+none_shown (Some y) x kind is = kind
+
+-- a destination is the near end, where there is a source
+pub backward_near : (r : Reading) (found : Option DeclaredKind) → IsPositive r.mode → IsSome r.source → HasSideKind r.destination found → MatchOption found ((ends : Ends) → ¬ (AreBackwardEnds r ends)) (λ k. (ends : Ends) × AreBackwardEnds r ends × HasKind ends.near (kind_of_side k))
+backward_near r None positive source destination = λ ends are. none_shown r.destination ends.near destination are.near
+backward_near r (Some k) positive source destination =
     let side = side_shown r.destination k destination in
-    let other = side_shown r.source far source in
-    let ends : Ends = record { near = side.0; far = Some other.0 } in
-    (ends, record { positive = positive; near = side.1; far = other.1; both = refl }, record { near = side.2; far = other.2 })
+    (record { near = side.0; far = r.source }, record { positive = positive; near = side.1; far = refl; both = source }, side.2)
 
 -- a reading has one pair of ends
 same_ends : (a b : Ends) → a.near ≡ b.near → a.far ≡ b.far → a ≡ b

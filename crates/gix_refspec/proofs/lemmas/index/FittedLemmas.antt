@@ -1,14 +1,15 @@
 -- The places of the items that patterns fit, as they are listed spec by spec.
-use Rattle.std.proofs.Common.{◌≡◌, inl, inr, ℕ, ◌+◌, ◌<◌, ◌≤◌, List, [], ◌∷◌, ◌++◌, Option, None, Some, length, map, take, get_or, Result, Ok, Err, IfOk, refl, sym, ap, ◌∙◌, subst, arith}
+use Rattle.std.proofs.Common.{◌≡◌, inl, inr, ℕ, ◌+◌, ◌<◌, ◌≤◌, List, [], ◌∷◌, ◌++◌, Option, None, Some, length, map, take, get_or, Result, Ok, Err, IfOk, IfSome, refl, sym, ap, ◌∙◌, subst, arith}
 use Rattle.std.specs.Global.{Vec}
 use Rattle.std.specs.declared.alloc.AllocError.{AllocError}
 use Rattle.std.proofs.Math.Seq.{get_or-append_seam}
 use Rattle.std.proofs.lemmas.Bool.{cases_lt}
-use Rattle.std.proofs.lemmas.List.{append-nil, get_or-map, get_or_append_left, length-append, length-map}
+use Rattle.std.proofs.lemmas.List.{append-nil, get_or-map, get_or_append_left, get_or_default, length-append, length-map}
 use Rattle.gix_refspec.specs.declared.match_group.types.Item.{Item}
 use Rattle.gix_refspec.specs.declared.match_group.hits.ends.Direction.{Direction}
 use Rattle.gix_refspec.specs.declared.match_group.hits.ends.Ends.{Ends as DeclaredEnds}
 use Rattle.gix_refspec.specs.declared.match_group.hits.Look.{Look}
+use Rattle.gix_refspec.specs.declared.side.SideKind.{SideKind as DeclaredKind}
 use Rattle.gix_refspec.specs.declared.spec.RefSpecRef.{RefSpecRef}
 use Rattle.gix_refspec.specs.Specs.Reading.{Reading}
 use Rattle.gix_refspec.specs.Views.Spec.{reading_of}
@@ -18,7 +19,7 @@ use Rattle.gix_refspec.specs.Views.Group.{ref_of}
 use Rattle.gix_refspec.specs.Matching.Hits.{Ends}
 use Rattle.gix_refspec.specs.Private.SideViews.{kind_of_side}
 use Rattle.gix_refspec.specs.Private.HitViews.{FitsRef, HasEnds, HaveKinds}
-use Rattle.gix_refspec.specs.Private.Index.{ArePlacesFitted, ArePlacesFittedTo, HasListed, ListEach, ListsFitted, ListsFor}
+use Rattle.gix_refspec.specs.Private.Index.{ArePlacesFitted, ArePlacesFittedTo, HasListed, IsListedStill, ListEach, ListsFitted, ListsFor}
 use Rattle.gix_refspec.proofs.lemmas.hits.HitLemmas.{one_kind, one_pair}
 use Rattle.gix_refspec.proofs.lemmas.lists.JoinLemmas.{made_next, map_long, map_more}
 
@@ -71,19 +72,31 @@ listed_all direction specs refs i listed long so_far k d below = so_far.each k d
 pub lists_nothing : (direction : Direction) (r : Reading) (refs : List Ref) → ListsFor direction r refs None
 lists_nothing direction r refs ends kind has of = tt
 
+-- what was taken from its place was listed there
+pub listed_taken : (listed : List (Option (Vec ℕ))) (k : ℕ) (d taken : Option (Vec ℕ)) → k < length listed → taken ≡ get_or listed k d → IfSome taken (λ places. HasListed listed k places.items)
+listed_taken listed k d None below is = tt
+listed_taken listed k d (Some v) below is = (v, get_or_default listed k None d below ∙ sym is, refl)
+
+-- what is still listed after one place was emptied are the same places
+pub still_listed : (direction : Direction) (g : List Reading) (refs : List Ref) (old new : List (Option (Vec ℕ))) → ((k : ℕ) → IsListedStill old new k) → ListEach direction g refs old → ListEach direction g refs new
+still_listed direction g refs old new still each k d below = elim (still k) [
+  | inl same ↦ subst (ListsFor direction (get_or g k d) refs) (sym same) (each k d below)
+  | inr none ↦ subst (ListsFor direction (get_or g k d) refs) (sym none) (lists_nothing direction (get_or g k d) refs)
+]
+
 -- what is listed for a near end is listed for the reading that has it
-pub lists_for : (direction : Direction) (r : Reading) (refs : List Ref) (kinds : DeclaredEnds) (listed : Option (Vec ℕ)) → (ends : Ends) × HasEnds direction r ends × HaveKinds ends kinds → ListsFitted (kind_of_side kinds.near) refs listed → ListsFor direction r refs listed
-lists_for direction r refs kinds listed (ends, has, have) are other kind has_other of =
-    subst (λ (k : SideKind). ListsFitted k refs listed) (same_kind direction r ends other kind kinds has has_other have of) are
+pub lists_for : (direction : Direction) (r : Reading) (refs : List Ref) (near : DeclaredKind) (listed : Option (Vec ℕ)) → (ends : Ends) × HasEnds direction r ends × HasKind ends.near (kind_of_side near) → ListsFitted (kind_of_side near) refs listed → ListsFor direction r refs listed
+lists_for direction r refs near listed (ends, has, have) are other kind has_other of =
+    subst (λ (k : SideKind). ListsFitted k refs listed) (same_kind direction r ends other kind near has has_other have of) are
   where
-    same_kind : (direction : Direction) (r : Reading) (ends other : Ends) (kind : SideKind) (kinds : DeclaredEnds) → HasEnds direction r ends → HasEnds direction r other → HaveKinds ends kinds → HasKind other.near kind → kind_of_side kinds.near ≡ kind
-    same_kind direction r ends other kind kinds has has_other have of =
-        one_kind other.near (kind_of_side kinds.near) kind (subst (λ (e : Ends). HasKind e.near (kind_of_side kinds.near)) (one_pair direction r ends other has has_other) have.near) of
+    same_kind : (direction : Direction) (r : Reading) (ends other : Ends) (kind : SideKind) (near : DeclaredKind) → HasEnds direction r ends → HasEnds direction r other → HasKind ends.near (kind_of_side near) → HasKind other.near kind → kind_of_side near ≡ kind
+    same_kind direction r ends other kind near has has_other have of =
+        one_kind other.near (kind_of_side near) kind (subst (λ (e : Ends). HasKind e.near (kind_of_side near)) (one_pair direction r ends other has has_other) have) of
 
 -- so is it of a look that finds it
-pub look_for : (direction : Direction) (r : Reading) (refs : List Ref) (kinds : DeclaredEnds) (looked : Result Look AllocError) → (ends : Ends) × HasEnds direction r ends × HaveKinds ends kinds → IfOk looked (λ look. ListsFitted (kind_of_side kinds.near) refs look.fitted) → IfOk looked (λ look. ListsFor direction r refs look.fitted)
-look_for direction r refs kinds (Ok look) found are = lists_for direction r refs kinds look.fitted found are
-look_for direction r refs kinds (Err error) found are = tt
+pub look_for : (direction : Direction) (r : Reading) (refs : List Ref) (near : DeclaredKind) (looked : Result Look AllocError) → (ends : Ends) × HasEnds direction r ends × HasKind ends.near (kind_of_side near) → IfOk looked (λ look. ListsFitted (kind_of_side near) refs look.fitted) → IfOk looked (λ look. ListsFor direction r refs look.fitted)
+look_for direction r refs near (Ok look) found are = lists_for direction r refs near look.fitted found are
+look_for direction r refs near (Err error) found are = tt
 
 -- the places listed for a spec are those that its near end fits
 pub listed_places : (direction : Direction) (specs : List RefSpecRef) (refs : List Ref) (i : ℕ) (s : RefSpecRef) (kinds : DeclaredEnds) (listed : List (Option (Vec ℕ))) (places : List ℕ) → i < length specs → s ≡ get_or specs i s → ListEach direction (map reading_of specs) refs listed → (ends : Ends) × HasEnds direction (reading_of s) ends × HaveKinds ends kinds → HasListed listed i places → ArePlacesFittedTo (kind_of_side kinds.near) refs places

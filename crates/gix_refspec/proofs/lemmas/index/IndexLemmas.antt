@@ -10,8 +10,8 @@ use Rattle.std.proofs.lemmas.Slice.Eq.{bytes_eq-Decides}
 use Rattle.bstr.specs.BStr.{bstr_bytes}
 use Rattle.gix_refspec.specs.declared.match_group.types.Item.{Item}
 use Rattle.gix_refspec.specs.declared.match_group.hits.ends.Direction.{Direction}
-use Rattle.gix_refspec.specs.declared.match_group.hits.ends.Ends.{Ends as DeclaredEnds}
 use Rattle.gix_refspec.specs.declared.match_group.hits.index.Names.{Names}
+use Rattle.gix_refspec.specs.declared.side.SideKind.{SideKind as DeclaredKind}
 use Rattle.gix_refspec.specs.declared.spec.RefSpecRef.{RefSpecRef}
 use Rattle.gix_refspec.specs.Specs.Reading.{Reading}
 use Rattle.gix_refspec.specs.Views.Spec.{reading_of}
@@ -20,7 +20,7 @@ use Rattle.gix_refspec.specs.Matching.Match.{Ref, MatchesAs}
 use Rattle.gix_refspec.specs.Matching.Side.{SideKind, pattern, full_name, object, partial, HasKind}
 use Rattle.gix_refspec.specs.Matching.Hits.{Ends}
 use Rattle.gix_refspec.specs.Private.SideViews.{kind_of_side}
-use Rattle.gix_refspec.specs.Private.HitViews.{HasEnds, HaveKinds}
+use Rattle.gix_refspec.specs.Private.HitViews.{HasEnds}
 use Rattle.gix_refspec.specs.Private.Index.{AllNear, ArePlacesOf, HavePlaces, HasNamesOf, full_names_of, partial_names_of}
 use Rattle.gix_refspec.proofs.lemmas.hits.HitLemmas.{one_kind, one_pair}
 use Rattle.gix_refspec.proofs.lemmas.lists.JoinLemmas.{made_next, map_long, map_more}
@@ -144,15 +144,15 @@ now_named (object id) old new adds = tt
 now_named (partial x) old new adds = subst (λ (l : List (List ℕ)). Contains l x) (sym adds.partial) (Contains-push (map name_bytes old.partial.items) x)
 
 -- one more spec, and the name that it asks for
-pub spec_asks : (direction : Direction) (specs : List RefSpecRef) (i : ℕ) (s : RefSpecRef) (kinds : DeclaredEnds) (old new : Names) → i < length specs → s ≡ get_or specs i s → (ends : Ends) × HasEnds direction (reading_of s) ends × HaveKinds ends kinds → AddsNames (kind_of_side kinds.near) old new → AllNear (HasNamesOf old) direction (map reading_of (take i specs)) → AllNear (HasNamesOf new) direction (map reading_of (take (i + 1) specs))
-spec_asks direction specs i s kinds old new below is found adds all =
-    let k = kind_of_side kinds.near in
+pub spec_asks : (direction : Direction) (specs : List RefSpecRef) (i : ℕ) (s : RefSpecRef) (near : DeclaredKind) (old new : Names) → i < length specs → s ≡ get_or specs i s → (ends : Ends) × HasEnds direction (reading_of s) ends × HasKind ends.near (kind_of_side near) → AddsNames (kind_of_side near) old new → AllNear (HasNamesOf old) direction (map reading_of (take i specs)) → AllNear (HasNamesOf new) direction (map reading_of (take (i + 1) specs))
+spec_asks direction specs i s near old new below is found adds all =
+    let k = kind_of_side near in
     specs_more (HasNamesOf new) direction specs i s below is
     (all_weaker (IsNear (HasNamesOf old) direction) (IsNear (HasNamesOf new) direction) (λ r each ends kind has of. still_named k old new adds kind (each ends kind has of)) (map reading_of (take i specs)) all)
     (λ ends kind has of.
     let same : ends ≡ found.0 = one_pair direction (reading_of s) ends found.0 has found.1 in
-    let kinds_same : kind ≡ k = one_kind found.0.near kind k (subst (λ (e : Ends). HasKind e.near kind) same of) found.2.near in
-    subst (HasNamesOf new) (sym kinds_same) (now_named k old new adds))
+    let one : kind ≡ k = one_kind found.0.near kind k (subst (λ (e : Ends). HasKind e.near kind) same of) found.2 in
+    subst (HasNamesOf new) (sym one) (now_named k old new adds))
 
 -- one more spec, which asks for nothing
 pub spec_asks_nothing : (direction : Direction) (specs : List RefSpecRef) (i : ℕ) (s : RefSpecRef) (names : Names) → i < length specs → s ≡ get_or specs i s → ((ends : Ends) → ¬ (HasEnds direction (reading_of s) ends)) → AllNear (HasNamesOf names) direction (map reading_of (take i specs)) → AllNear (HasNamesOf names) direction (map reading_of (take (i + 1) specs))

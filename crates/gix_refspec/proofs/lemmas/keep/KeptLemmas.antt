@@ -9,6 +9,7 @@ use Rattle.gix_refspec.specs.Specs.Reading.{Reading}
 use Rattle.gix_refspec.specs.Matching.Lists.{MakesOf, IsMadeFrom}
 use Rattle.gix_refspec.specs.Matching.Mappings.{Start, name, id, Mapped, IsSamePair, HasPair, AreApart, IsStartExcluded, IsKeptAt, IsKept}
 use Rattle.gix_refspec.specs.Views.Group.{mapped_of}
+use Rattle.gix_refspec.specs.Private.EqualSpecs.{Thins}
 use Rattle.gix_refspec.specs.Private.Kept.{AreExclusionsOf, FlagsRepeats, IsRepeat, ExcludeStart, ExcludeName, IsKeptBy}
 use Rattle.gix_refspec.proofs.lemmas.lists.ListsLemmas.{made_all, made_map, made_once}
 
@@ -94,13 +95,13 @@ kept_from_remains g ms rest es flags are repeats made =
       (remains_stays g ms es flags i d are repeats below).0 (record { same = refl; unflagged = remains.unflagged; included = remains.included }),
     )
 
+untaken : (es : Exclusions) → ((n : List ℕ) → ¬ (ExcludeName es n)) → (s : Start) → ¬ (ExcludeStart es s)
+untaken es free (name n) taken = free n taken
+untaken es free (id i) taken = taken
+
 -- without flags and exclusions all are kept
 pub all_remain : (ms : List Mapping) (es : Exclusions) → ((n : List ℕ) → ¬ (ExcludeName es n)) → IsMadeFrom (IsKeptBy es []) 0 ms ms
-all_remain ms es free = made_all (IsKeptBy es []) (λ k m. record { same = refl; unflagged = λ flagged. false≢true flagged; included = none (mapped_of m).source }) 0 ms
-  where
-    none : (s : Start) → ¬ (ExcludeStart es s)
-    none (name n) taken = free n taken
-    none (id i) taken = taken
+all_remain ms es free = made_all (IsKeptBy es []) (λ k m. record { same = refl; unflagged = λ flagged. false≢true flagged; included = untaken es free (mapped_of m).source }) 0 ms
 
 -- what is kept from a place on has no pair from before it
 later_apart : (g : List Reading) (l : List Mapped) (n k : ℕ) (xs ys : List Mapped) → n ≤ k → IsMadeFrom (λ j m made. (made ≡ m) × IsKeptAt g l j m) k xs ys → AllByRecursion (λ y. ¬ (HasPair (take n l) y)) ys
@@ -141,3 +142,43 @@ kept_once g l kept = apart_from g l 0 l kept refl (zero-add (length l))
 pub no_elements : {X : Type 0} (xs : List X) → length xs ≡ 0 → xs ≡ []
 no_elements [] none = refl
 no_elements (x ∷ xs) none = absurd (omega arith)
+
+-- ---- first what is excluded goes, and then what repeats
+
+-- what isn't excluded
+abbrev pub AreFree : Exclusions → List Mapping → Type 0
+AreFree es ms = AllByRecursion (λ m. ¬ (ExcludeStart es (mapped_of m).source)) ms
+
+pub remain_free : (es : Exclusions) (k : ℕ) (ms rest : List Mapping) → IsMadeFrom (IsKeptBy es []) k ms rest → AreFree es rest
+remain_free es k [] rest empty = subst (AreFree es) (sym empty) tt
+remain_free es k (m ∷ ms) rest (None, others, none, more, is) = subst (AreFree es) (sym is) (remain_free es (k + 1) ms others more)
+remain_free es k (m ∷ ms) rest (Some y, others, remains, more, is) =
+    let free : ¬ (ExcludeStart es (mapped_of y).source) = subst (λ (x : Mapping). ¬ (ExcludeStart es (mapped_of x).source)) (sym remains.same) remains.included in
+    subst (AreFree es) (sym is) (free, remain_free es (k + 1) ms others more)
+
+pub free_remain : (es : Exclusions) (k : ℕ) (ms : List Mapping) → AreFree es ms → IsMadeFrom (IsKeptBy es []) k ms ms
+free_remain es k [] free = refl
+free_remain es k (m ∷ ms) free = (Some m, ms, record { same = refl; unflagged = λ flagged. false≢true flagged; included = free.0 }, free_remain es (k + 1) ms free.1, refl)
+
+-- what remains without exclusions of mappings that none of them excludes
+pub remain_with : (es none : Exclusions) (flags : List Bool) (k : ℕ) (ms rest : List Mapping) → ((n : List ℕ) → ¬ (ExcludeName none n)) → AreFree es ms → IsMadeFrom (IsKeptBy none flags) k ms rest → IsMadeFrom (IsKeptBy es flags) k ms rest
+remain_with es none flags k [] rest nothing free made = made
+remain_with es none flags k (m ∷ ms) rest nothing free (None, others, gone, more, is) =
+    (None, others, (λ y remains. gone y (record { same = remains.same; unflagged = remains.unflagged; included = untaken none nothing (mapped_of m).source })), remain_with es none flags (k + 1) ms others nothing free.1 more, is)
+remain_with es none flags k (m ∷ ms) rest nothing free (Some y, others, remains, more, is) =
+    (Some y, others, record { same = remains.same; unflagged = remains.unflagged; included = free.0 }, remain_with es none flags (k + 1) ms others nothing free.1 more, is)
+
+-- mappings without those that are excluded
+pub excluded_go : (g : List Reading) (es : Exclusions) (before : List Mapped) (k : ℕ) (ms rest : List Mapping) → AreExclusionsOf g es → IsMadeFrom (IsKeptBy es []) k ms rest → Thins g before (map mapped_of ms) (map mapped_of rest)
+excluded_go g es before k [] rest are empty = ap (map mapped_of) empty
+excluded_go g es before k (m ∷ ms) rest are (None, others, none, more, is) =
+    inr (
+      inr (λ free. none m (record { same = refl; unflagged = λ flagged. false≢true flagged; included = λ taken. free ((starts_agree g es (mapped_of m).source are).0 taken) })),
+      subst (λ (l : List Mapping). Thins g (before ++ mapped_of m ∷ []) (map mapped_of ms) (map mapped_of l)) (sym is) (excluded_go g es (before ++ mapped_of m ∷ []) (k + 1) ms others are more),
+    )
+excluded_go g es before k (m ∷ ms) rest are (Some y, others, remains, more, is) =
+    inl (
+      map mapped_of others,
+      ap (map mapped_of) is ∙ ap (λ (x : Mapping). mapped_of x ∷ map mapped_of others) remains.same,
+      excluded_go g es (before ++ mapped_of m ∷ []) (k + 1) ms others are more,
+    )

@@ -151,8 +151,8 @@ abbrev of_hits : Direction → List Hit → List Mapped
 of_hits direction hits = map (mapping_of direction) hits
 
 -- from those of the part the hits of a spec among all
-abbrev SpecThins : Direction → List Ref → Ends → ℕ → (ℕ → ℕ) → List Ref → List Ref → List Mapped → List Hit → Type 0
-SpecThins direction all ends k f before refs made some = (hits : List Hit) × IsMadeFrom (IsHit (TakesIn direction all) ends k) (length before) refs hits × Thins made (of_hits direction hits) (map (moved f) (of_hits direction some))
+abbrev SpecThins : List Reading → Direction → List Ref → Ends → ℕ → (ℕ → ℕ) → List Ref → List Ref → List Mapped → List Hit → Type 0
+SpecThins g direction all ends k f before refs made some = (hits : List Hit) × IsMadeFrom (IsHit (TakesIn direction all) ends k) (length before) refs hits × Thins g made (of_hits direction hits) (map (moved f) (of_hits direction some))
 
 none_made : (direction : Direction) (all part : List Ref) (ends : Ends) (k i j : ℕ) (r : Ref) → SameNames all part → IsNoId ends.near → ((y : Hit) → ¬ (IsHit (TakesIn direction part) ends k i r y)) → Missed direction all ends r.name
 none_made direction all part ends k i j r names plain none word far takes becomes =
@@ -168,17 +168,17 @@ made_cases : {X Y : Type 0} (R : ℕ → X → Y → Type 0) (k : ℕ) (x : X) (
 made_cases R k x xs ys (None, rest, none, more, is) = inr (none, subst (IsMadeFrom R (k + 1) xs) (sym is) more)
 made_cases R k x xs ys (Some y, rest, here, more, is) = inl (y, rest, here, is, more)
 
-spec_thins : (direction : Direction) (all part : List Ref) (ends : Ends) (k : ℕ) (f : ℕ → ℕ) (before refs rest : List Ref) (places : List ℕ) (i : ℕ) (made : List Mapped) (some : List Hit)
+spec_thins : (g : List Reading) (direction : Direction) (all part : List Ref) (ends : Ends) (k : ℕ) (f : ℕ → ℕ) (before refs rest : List Ref) (places : List ℕ) (i : ℕ) (made : List Mapped) (some : List Hit)
     → SameNames all part → IsNoId ends.near → IsPartBehind before refs rest places → Follow f i places → Known direction all ends made before → IsMadeFrom (IsHit (TakesIn direction part) ends k) i rest some
-    → SpecThins direction all ends k f before refs made some
-spec_thins direction all part ends k f before [] rest places i made some names plain is follow known are =
+    → SpecThins g direction all ends k f before refs made some
+spec_thins g direction all part ends k f before [] rest places i made some names plain is follow known are =
     let none : some ≡ [] = subst (λ (l : List Ref). IsMadeFrom (IsHit (TakesIn direction part) ends k) i l some) is.0 are in
     ([], refl, ap (λ (l : List Hit). map (moved f) (of_hits direction l)) none)
-spec_thins direction all part ends k f before (r ∷ refs) rest places i made some names plain (inl (others, behind, is, at, more)) follow known are =
+spec_thins g direction all part ends k f before (r ∷ refs) rest places i made some names plain (inl (others, behind, is, at, more)) follow known are =
     elim (made_cases (IsHit (TakesIn direction part) ends k) i r others some (subst (λ (l : List Ref). IsMadeFrom (IsHit (TakesIn direction part) ends k) i l some) is are)) [
       | inr (none, made_later) ↦
           let missed = none_made direction all part ends k i (length before) r names plain none in
-          let (hits, found, thins) = spec_thins direction all part ends k f (before ++ r ∷ []) refs others behind (i + 1) made some names plain more follows.1 (known_missed direction all ends made before r missed known) made_later in (
+          let (hits, found, thins) = spec_thins g direction all part ends k f (before ++ r ∷ []) refs others behind (i + 1) made some names plain more follows.1 (known_missed direction all ends made before r missed known) made_later in (
             hits,
             (None, hits, missed_none direction all ends k (length before) r plain missed, at_next hits found, refl),
             thins,
@@ -187,7 +187,7 @@ spec_thins direction all part ends k f before (r ∷ refs) rest places i made so
           let m = mapping_of direction (hit k (length before) r.name y.far) in
           let takes = takes_named direction part all ends.near r r here.word (turned all part names) plain refl here.takes in
           let named = takes_named direction part all ends.near r (ref_named r.name) here.word (turned all part names) plain refl here.takes in
-          let (hits, found, thins) = spec_thins direction all part ends k f (before ++ r ∷ []) refs others behind (i + 1) (made ++ m ∷ []) later names plain more follows.1 (known_reached direction all ends made before r k (length before) here.word y.far named here.far known) made_later in
+          let (hits, found, thins) = spec_thins g direction all part ends k f (before ++ r ∷ []) refs others behind (i + 1) (made ++ m ∷ []) later names plain more follows.1 (known_reached direction all ends made before r k (length before) here.word y.far named here.far known) made_later in
           let first : moved f (mapping_of direction y) ≡ m = moved_hit direction f y k i (length before) r.name here.item follows.0 here.near here.spec in (
             hit k (length before) r.name y.far ∷ hits,
             (Some (hit k (length before) r.name y.far), hits, record { word = here.word; takes = takes; far = here.far; near = refl; spec = refl; item = refl }, at_next hits found, refl),
@@ -204,18 +204,18 @@ spec_thins direction all part ends k f before (r ∷ refs) rest places i made so
 
     at_next : (hits : List Hit) → IsMadeFrom (IsHit (TakesIn direction all) ends k) (length (before ++ r ∷ [])) refs hits → IsMadeFrom (IsHit (TakesIn direction all) ends k) (length before + 1) refs hits
     at_next hits found = subst (λ (n : ℕ). IsMadeFrom (IsHit (TakesIn direction all) ends k) n refs hits) (sym (next before r)) found
-spec_thins direction all part ends k f before (r ∷ refs) rest places i made some names plain (inr (repeats, more)) follow known are =
+spec_thins g direction all part ends k f before (r ∷ refs) rest places i made some names plain (inr (repeats, more)) follow known are =
     elim (known r.name repeats) [
       | inl (word, far, named, becomes, pair) ↦
           let y = hit k (length before) r.name far in
           let takes = takes_named direction all all ends.near (ref_named r.name) r word (λ n. ((λ has. has), (λ has. has))) plain refl named in
-          let (hits, found, thins) = spec_thins direction all part ends k f (before ++ r ∷ []) refs rest places i (made ++ mapping_of direction y ∷ []) some names plain more follow (known_reached direction all ends made before r k (length before) word far named becomes known) are in (
+          let (hits, found, thins) = spec_thins g direction all part ends k f (before ++ r ∷ []) refs rest places i (made ++ mapping_of direction y ∷ []) some names plain more follow (known_reached direction all ends made before r k (length before) word far named becomes known) are in (
             y ∷ hits,
             (Some y, hits, record { word = word; takes = takes; far = becomes; near = refl; spec = refl; item = refl }, at_next hits found, refl),
-            inr (pair_alike made (mapping_of direction (hit 0 0 r.name far)) (mapping_of direction y) (same_pair direction 0 0 k (length before) r.name far) pair, thins),
+            inr (inl (pair_alike made (mapping_of direction (hit 0 0 r.name far)) (mapping_of direction y) (same_pair direction 0 0 k (length before) r.name far) pair), thins),
           )
       | inr missed ↦
-          let (hits, found, thins) = spec_thins direction all part ends k f (before ++ r ∷ []) refs rest places i made some names plain more follow (known_missed direction all ends made before r missed known) are in
+          let (hits, found, thins) = spec_thins g direction all part ends k f (before ++ r ∷ []) refs rest places i made some names plain more follow (known_missed direction all ends made before r missed known) are in
           (hits, (None, hits, missed_none direction all ends k (length before) r plain missed, at_next hits found, refl), thins)
     ]
   where
@@ -225,32 +225,32 @@ spec_thins direction all part ends k f before (r ∷ refs) rest places i made so
 -- ---- the hits of a group
 
 -- from those of the part the hits of a group among all
-abbrev GroupThins : Direction → List Ref → ℕ → (ℕ → ℕ) → List Reading → List Mapped → List Hit → Type 0
-GroupThins direction all k f g made some = (hits : List Hit) × IsJoinedFrom (AreSpecHits (HasEnds direction) (TakesIn direction all) all) k g hits × Thins made (of_hits direction hits) (map (moved f) (of_hits direction some))
+abbrev GroupThins : List Reading → Direction → List Ref → ℕ → (ℕ → ℕ) → List Reading → List Mapped → List Hit → Type 0
+GroupThins whole_g direction all k f g made some = (hits : List Hit) × IsJoinedFrom (AreSpecHits (HasEnds direction) (TakesIn direction all) all) k g hits × Thins whole_g made (of_hits direction hits) (map (moved f) (of_hits direction some))
 
-group_thins : (direction : Direction) (all part : List Ref) (places : List ℕ) (f : ℕ → ℕ) (k : ℕ) (g : List Reading) (made : List Mapped) (some : List Hit)
+group_thins : (whole_g : List Reading) (direction : Direction) (all part : List Ref) (places : List ℕ) (f : ℕ → ℕ) (k : ℕ) (g : List Reading) (made : List Mapped) (some : List Hit)
     → IsPart all part places → Follow f 0 places → HasNoNearId direction g → IsJoinedFrom (AreSpecHits (HasEnds direction) (TakesIn direction part) part) k g some
-    → GroupThins direction all k f g made some
-group_thins direction all part places f k [] made some is follow plain none = ([], refl, ap (λ (l : List Hit). map (moved f) (of_hits direction l)) none)
-group_thins direction all part places f k (r ∷ g) made some is follow plain (here, rest, of, more, whole) =
+    → GroupThins whole_g direction all k f g made some
+group_thins whole_g direction all part places f k [] made some is follow plain none = ([], refl, ap (λ (l : List Hit). map (moved f) (of_hits direction l)) none)
+group_thins whole_g direction all part places f k (r ∷ g) made some is follow plain (here, rest, of, more, whole) =
     elim of [
       | inl (ends, has, are) ↦
-          let (hits, found, thins) = spec_thins direction all part ends k f [] all part places 0 made here (part_names all part places is) (plain.0 ends has) is follow (λ n none. absurd none) are in
-          let (behind, later, rest_thins) = group_thins direction all part places f (k + 1) g (made ++ of_hits direction hits) rest is follow plain.1 more in
+          let (hits, found, thins) = spec_thins whole_g direction all part ends k f [] all part places 0 made here (part_names all part places is) (plain.0 ends has) is follow (λ n none. absurd none) are in
+          let (behind, later, rest_thins) = group_thins whole_g direction all part places f (k + 1) g (made ++ of_hits direction hits) rest is follow plain.1 more in
           (hits ++ behind, (hits, behind, inl (ends, has, found), later, refl), joined hits behind thins rest_thins)
       | inr (no_ends, none) ↦
-          let (behind, later, rest_thins) = group_thins direction all part places f (k + 1) g (made ++ of_hits direction []) rest is follow plain.1 more in
+          let (behind, later, rest_thins) = group_thins whole_g direction all part places f (k + 1) g (made ++ of_hits direction []) rest is follow plain.1 more in
           (behind, ([], behind, inr (no_ends, refl), later, refl), joined [] behind (ap (λ (l : List Hit). map (moved f) (of_hits direction l)) none) rest_thins)
     ]
   where
-    joined : (hits behind : List Hit) → Thins made (of_hits direction hits) (map (moved f) (of_hits direction here)) → Thins (made ++ of_hits direction hits) (of_hits direction behind) (map (moved f) (of_hits direction rest)) → Thins made (of_hits direction (hits ++ behind)) (map (moved f) (of_hits direction some))
+    joined : (hits behind : List Hit) → Thins whole_g made (of_hits direction hits) (map (moved f) (of_hits direction here)) → Thins whole_g (made ++ of_hits direction hits) (of_hits direction behind) (map (moved f) (of_hits direction rest)) → Thins whole_g made (of_hits direction (hits ++ behind)) (map (moved f) (of_hits direction some))
     joined hits behind first later =
         let left : of_hits direction (hits ++ behind) ≡ of_hits direction hits ++ of_hits direction behind = map-append (mapping_of direction) hits behind in
         let right : map (moved f) (of_hits direction some) ≡ map (moved f) (of_hits direction here) ++ map (moved f) (of_hits direction rest) =
         ap (λ (l : List Hit). map (moved f) (of_hits direction l)) whole ∙ ap (map (moved f)) (map-append (mapping_of direction) here rest) ∙ map-append (moved f) (of_hits direction here) (of_hits direction rest) in
-        subst (λ (l : List Mapped). Thins made l (map (moved f) (of_hits direction some))) (sym left)
-        (subst (λ (t : List Mapped). Thins made (of_hits direction hits ++ of_hits direction behind) t) (sym right)
-        (thins_both made (of_hits direction hits) (map (moved f) (of_hits direction here)) (of_hits direction behind) (map (moved f) (of_hits direction rest)) first later))
+        subst (λ (l : List Mapped). Thins whole_g made l (map (moved f) (of_hits direction some))) (sym left)
+        (subst (λ (t : List Mapped). Thins whole_g made (of_hits direction hits ++ of_hits direction behind) t) (sym right)
+        (thins_both whole_g made (of_hits direction hits) (map (moved f) (of_hits direction here)) (of_hits direction behind) (map (moved f) (of_hits direction rest)) first later))
 
 -- ---- what is kept
 
@@ -276,12 +276,12 @@ pub part_kept : (direction : Direction) (g : List Reading) (all part : List Ref)
 part_kept Forward g all part places kept is plain are =
     let f = place_among places in
     let some = are.forward in
-    let (hits, found, thins) = group_thins Forward all part places f 0 g some.ids some.hits is (follow_behind [] places) plain some.are_hits in
+    let (hits, found, thins) = group_thins g Forward all part places f 0 g some.ids some.hits is (follow_behind [] places) plain some.are_hits in
     let whole : map (moved f) are.all ≡ some.ids ++ map (moved f) (map forward_of some.hits) =
     ap (map (moved f)) some.all ∙ map-append (moved f) some.ids (map forward_of some.hits) ∙ ap (λ (l : List Mapped). l ++ map (moved f) (map forward_of some.hits)) (id_unmoved f 0 g some.ids some.are_ids) in
-    let thin : Thins [] (some.ids ++ map forward_of hits) (map (moved f) are.all) =
-    subst (λ (t : List Mapped). Thins [] (some.ids ++ map forward_of hits) t) (sym whole)
-    (thins_both [] some.ids some.ids (map forward_of hits) (map (moved f) (map forward_of some.hits)) (thins_all [] some.ids) thins) in
+    let thin : Thins g [] (some.ids ++ map forward_of hits) (map (moved f) are.all) =
+    subst (λ (t : List Mapped). Thins g [] (some.ids ++ map forward_of hits) t) (sym whole)
+    (thins_both g [] some.ids some.ids (map forward_of hits) (map (moved f) (map forward_of some.hits)) (thins_all g [] some.ids) thins) in
     record {
       all = some.ids ++ map forward_of hits;
       forward = record { ids = some.ids; hits = hits; are_ids = some.are_ids; are_hits = found; all = refl };
@@ -290,8 +290,8 @@ part_kept Forward g all part places kept is plain are =
 part_kept Backward g all part places kept is plain are =
     let f = place_among places in
     let some = are.backward in
-    let (hits, found, thins) = group_thins Backward all part places f 0 g [] some.hits is (follow_behind [] places) plain some.are_hits in
-    let thin : Thins [] (map backward_of hits) (map (moved f) are.all) = subst (λ (t : List Mapped). Thins [] (map backward_of hits) (map (moved f) t)) (sym some.all) thins in
+    let (hits, found, thins) = group_thins g Backward all part places f 0 g [] some.hits is (follow_behind [] places) plain some.are_hits in
+    let thin : Thins g [] (map backward_of hits) (map (moved f) are.all) = subst (λ (t : List Mapped). Thins g [] (map backward_of hits) (map (moved f) t)) (sym some.all) thins in
     record {
       all = map backward_of hits;
       backward = record { hits = hits; are_hits = found; all = refl };

@@ -6,7 +6,7 @@ use Rattle.std.proofs.lemmas.Slice.Eq.{bytes_eq-Decides}
 use Rattle.bstr.specs.BStr.{bstr_bytes}
 use Rattle.gix_refspec.specs.declared.match_group.types.Item.{Item}
 use Rattle.gix_refspec.specs.declared.match_group.hits.ends.Direction.{Direction}
-use Rattle.gix_refspec.specs.declared.match_group.hits.ends.Ends.{Ends as DeclaredEnds}
+use Rattle.gix_refspec.specs.declared.side.SideKind.{SideKind as DeclaredKind}
 use Rattle.gix_refspec.specs.declared.spec.RefSpecRef.{RefSpecRef}
 use Rattle.gix_refspec.specs.Views.Spec.{reading_of}
 use Rattle.gix_refspec.specs.Specs.Reading.{Reading}
@@ -15,7 +15,7 @@ use Rattle.gix_refspec.specs.Matching.Match.{Ref, HasName}
 use Rattle.gix_refspec.specs.Views.Group.{ref_of}
 use Rattle.gix_refspec.specs.Matching.Hits.{Ends}
 use Rattle.gix_refspec.specs.Private.SideViews.{kind_of_side}
-use Rattle.gix_refspec.specs.Private.HitViews.{HasEnds, HaveKinds}
+use Rattle.gix_refspec.specs.Private.HitViews.{HasEnds}
 use Rattle.gix_refspec.specs.Private.Kept.{IsFlagged}
 use Rattle.gix_refspec.specs.Private.Part.{FlagsRepeated, HasNoNearId, IsNoNearId, IsPart, IsPartBehind, IsRepeatedAt}
 use Rattle.gix_refspec.proofs.lemmas.hits.HitLemmas.{one_kind, one_pair}
@@ -100,14 +100,14 @@ repeated_told items before place told a b less inside is so = record {
 }
 
 -- a near end of another kind is no id
-pub no_near_id : (direction : Direction) (r : Reading) (kinds : DeclaredEnds) → ((ends : Ends) × HasEnds direction r ends × HaveKinds ends kinds) → ((id : List ℕ) → kind_of_side kinds.near ≢ object id) → IsNoNearId direction r
-no_near_id direction r kinds (ends, has, are) plain other here id kind =
-    plain id (one_kind ends.near (kind_of_side kinds.near) (object id) are.near (subst (λ (e : Ends). HasKind e.near (object id)) (one_pair direction r other ends here has) kind))
+pub no_near_id : (direction : Direction) (r : Reading) (near : DeclaredKind) → ((ends : Ends) × HasEnds direction r ends × HasKind ends.near (kind_of_side near)) → ((id : List ℕ) → kind_of_side near ≢ object id) → IsNoNearId direction r
+no_near_id direction r near (ends, has, is) plain other here id kind =
+    plain id (one_kind ends.near (kind_of_side near) (object id) is (subst (λ (e : Ends). HasKind e.near (object id)) (one_pair direction r other ends here has) kind))
 
 -- and so it is told
-pub near_told : (direction : Direction) (r : Reading) (kinds : DeclaredEnds) (told : Bool) → ((ends : Ends) × HasEnds direction r ends × HaveKinds ends kinds) → MatchBool told (Unit {0}) ((id : List ℕ) → kind_of_side kinds.near ≢ object id) → MatchBool told (Unit {0}) (IsNoNearId direction r)
-near_told direction r kinds true found is = tt
-near_told direction r kinds false found is = no_near_id direction r kinds found is
+pub near_told : (direction : Direction) (r : Reading) (near : DeclaredKind) (told : Bool) → ((ends : Ends) × HasEnds direction r ends × HasKind ends.near (kind_of_side near)) → MatchBool told (Unit {0}) ((id : List ℕ) → kind_of_side near ≢ object id) → MatchBool told (Unit {0}) (IsNoNearId direction r)
+near_told direction r near true found is = tt
+near_told direction r near false found is = no_near_id direction r near found is
 
 -- one more reading
 pub no_near_ids : (direction : Direction) (specs : List RefSpecRef) (i : ℕ) (s : RefSpecRef) → i < length specs → s ≡ get_or specs i s → IsNoNearId direction (reading_of s) → HasNoNearId direction (map reading_of (take i specs)) → HasNoNearId direction (map reading_of (take (i + 1) specs))

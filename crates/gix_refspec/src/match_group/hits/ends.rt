@@ -4,9 +4,11 @@ ghost use Rattle.std.specs.Prelude.{ℕ, List, option_map, MatchOption};
 ghost use Rattle.bstr.specs.BStr.{bstr_bytes};
 ghost use Rattle.gix_refspec.specs.Texts.Name.{HasSeveralStars};
 ghost use Rattle.gix_refspec.specs.Texts.ObjectId.{id_bytes};
+ghost use Rattle.gix_refspec.specs.Matching.Side.{HasKind};
 ghost use Rattle.gix_refspec.specs.Views.Spec.{reading_of};
 ghost use Rattle.gix_refspec.specs.Matching.Hits.{Ends as EndsOf};
 ghost use Rattle.gix_refspec.specs.Private.HitViews.{AsksForId, HasSideKind, HaveKinds, HasEnds};
+ghost use Rattle.gix_refspec.specs.Private.SideViews.{kind_of_side};
 
 use crate::oid::ObjectId;
 use crate::side::{SideKind, kind_of};
@@ -44,23 +46,41 @@ pub(crate) fn ends_of<'spec>(direction: Direction, spec: &RefSpecRef<'spec>) -> 
         (λ found. (ends : EndsOf)
         × HasEnds direction (reading_of spec.now) ends × HaveKinds ends found) }
 {
-    if spec.mode == Mode::Negative {
+    let near = near_of(direction, spec)?;
+    let far = far_of(direction, spec);
+    Some(Ends { near, far })
+}
+
+// The kind of the near end alone. None for a spec without ends.
+pub(crate) fn near_of<'spec>(
+    direction: Direction,
+    spec: &RefSpecRef<'spec>,
+) -> Option<SideKind<'spec>>
+    ensures { MatchOption result
+        ((ends : EndsOf) → ¬ (HasEnds direction (reading_of spec.now) ends))
+        (λ near. (ends : EndsOf)
+        × HasEnds direction (reading_of spec.now) ends × HasKind ends.near (kind_of_side near)) }
+{
+    if spec.mode == Mode::Negative || spec.src.is_none() {
         return None;
     }
-    let source = side_kind(spec.src)?;
-    let destination = side_kind(spec.dst);
     match direction {
-        Direction::Forward => match source {
+        Direction::Forward => match side_kind(spec.src)? {
             SideKind::Object(_) => None,
-            near => Some(Ends {
-                near,
-                far: destination,
-            }),
+            near => Some(near),
         },
-        Direction::Backward => Some(Ends {
-            near: destination?,
-            far: Some(source),
-        }),
+        Direction::Backward => side_kind(spec.dst),
+    }
+}
+
+// The kind of the far end of a spec that has ends.
+fn far_of<'spec>(direction: Direction, spec: &RefSpecRef<'spec>) -> Option<SideKind<'spec>>
+    ensures { (ends : EndsOf)
+        → HasEnds direction (reading_of spec.now) ends → HasSideKind ends.far result }
+{
+    match direction {
+        Direction::Forward => side_kind(spec.dst),
+        Direction::Backward => side_kind(spec.src),
     }
 }
 

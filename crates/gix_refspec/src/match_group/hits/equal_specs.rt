@@ -1,65 +1,69 @@
-//! Specs that have both sides of an earlier one. All that they map, that one has mapped.
+//! Specs that have both sides of an earlier one. All that they map, that one has mapped. They are found by
+//! sorting keys, as repeats are.
 
-ghost use Rattle.std.specs.Prelude.{map, IfOk, IsTrue};
+ghost use Rattle.std.specs.Prelude.{◌<◌, ◌≤◌, ◌^◌, length, map, IfOk, IsTrue};
 ghost use Rattle.gix_refspec.specs.Views.Spec.{reading_of};
 ghost use Rattle.gix_refspec.specs.Private.EqualSpecs.{FlagsEqual, HaveSameSides, IsEqualAt};
 
-use crate::match_group::keep::repeats::raise;
+use crate::match_group::keep::repeats::{bits_for, bucket_of, key_of, place_in, raise};
 use crate::spec::RefSpecRef;
 use crate::types::Mode;
 use bstr::BStr;
 use std::alloc::{AllocError, Global};
+use std::hash::{FoldHasher, Hasher};
 
-// The sides of a positive spec, and its place.
-#[derive(Clone, Copy, PartialEq, Eq, PartialOrd, Ord)]
-struct Sides<'s> {
-    source: Option<&'s [u8]>,
-    destination: Option<&'s [u8]>,
-    place: usize,
-}
-
-// Flags positive specs that have both sides of an earlier one. The list may be empty if none has.
+// Flags positive specs that have both sides of an earlier one. One may be missed, where the sides of
+// others have its hash. There may be no flags at all where none is found.
 pub(crate) fn equal_specs(alloc: Global, specs: &[RefSpecRef<'_>]) -> Result<Vec<bool>, AllocError>
     ensures { IfOk result (λ flags. FlagsEqual (map reading_of specs.now) flags.items) }
 {
-    let sides = sides_in_order(alloc, specs)?;
     let mut flags = Vec::new(alloc);
-    for at in 1..sides.len() {
-        let place = sides[at].place;
-        if is_equal(specs, sides[at - 1].place, place) {
+    if specs.len() < 2 {
+        return Ok(flags);
+    }
+    let bits = bits_for(specs.len());
+    let keys = keys_in_order(alloc, specs, bits)?;
+    for at in 1..keys.len() {
+        let (before, key) = (keys[at - 1], keys[at]);
+        if bucket_of(before, bits) != bucket_of(key, bits) {
+            continue;
+        }
+        let place = place_in(key, bits);
+        if is_equal(specs, place_in(before, bits), place) {
             raise(&mut flags, specs.len(), place)?;
         }
     }
     Ok(flags)
 }
 
-// The sides of the positive specs, in order.
-fn sides_in_order<'s>(
-    alloc: Global,
-    specs: &[RefSpecRef<'s>],
-) -> Result<Vec<Sides<'s>>, AllocError> {
-    let mut sides = Vec::new(alloc);
-    if specs.len() < 2 {
-        return Ok(sides);
-    }
+// The keys of the positive specs, in order: the upper bits of the hash of the sides, and the place.
+fn keys_in_order(alloc: Global, specs: &[RefSpecRef<'_>], bits: u32) -> Result<Vec<u64>, AllocError>
+    requires few { bits < 64 }
+    requires fit { length specs.now ≤ 2 ^ bits }
+{
+    let mut keys = Vec::with_capacity(alloc, specs.len())?;
     for (place, spec) in specs.iter().enumerate() {
         if spec.mode != Mode::Negative {
-            sides.push(Sides {
-                source: bytes_of(spec.src),
-                destination: bytes_of(spec.dst),
-                place,
-            })?;
+            keys.push(key_of(hash_of(spec), place, bits))?;
         }
     }
-    sides.sort_unstable();
-    Ok(sides)
+    keys.sort_unstable();
+    Ok(keys)
 }
 
-// The bytes of a side that is there.
-fn bytes_of(side: Option<BStr<'_>>) -> Option<&[u8]> {
+// The hash of both sides of a spec. One that is missing has that of no bytes.
+fn hash_of(spec: &RefSpecRef<'_>) -> u64 {
+    let mut state = FoldHasher::default();
+    state.write(bytes_of(spec.src));
+    state.write(bytes_of(spec.dst));
+    state.finish()
+}
+
+// The bytes of a side, and none for one that is missing.
+fn bytes_of(side: Option<BStr<'_>>) -> &[u8] {
     match side {
-        None => None,
-        Some(side) => Some(side.as_bytes()),
+        None => b"",
+        Some(side) => side.as_bytes(),
     }
 }
 

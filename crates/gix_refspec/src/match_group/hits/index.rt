@@ -13,7 +13,7 @@ mod filter;
 pub(crate) mod fronts;
 mod partials;
 
-use super::ends::{Direction, ends_of};
+use super::ends::{Direction, near_of};
 use crate::match_group::types::{Item, NameRef};
 use crate::side::SideKind;
 use crate::spec::RefSpecRef;
@@ -33,14 +33,15 @@ pub(crate) struct NameIndex<'n> {
     fronts: FrontIndex<'n>,
 }
 
-// Names that specs ask for.
+// Names that specs ask for, and the fronts of their patterns.
 #[derive(Drop)]
 pub(crate) struct Names<'spec> {
     full: Vec<NameRef<'spec>>,
     partial: Vec<NameRef<'spec>>,
+    pub(crate) fronts: Vec<NameRef<'spec>>,
 }
 
-// The names that specs ask for in a direction.
+// The names that specs ask for in a direction, and the fronts of the patterns that are near.
 pub(crate) fn names_asked<'spec>(
     alloc: Global,
     direction: Direction,
@@ -51,17 +52,18 @@ pub(crate) fn names_asked<'spec>(
     let mut names = Names {
         full: Vec::new(alloc),
         partial: Vec::new(alloc),
+        fronts: Vec::new(alloc),
     };
     for spec in specs {
-        if let Some(ends) = ends_of(direction, spec) {
-            names.add(ends.near)?;
+        if let Some(near) = near_of(direction, spec) {
+            names.add(near)?;
         }
     }
     Ok(names)
 }
 
 impl<'spec> Names<'spec> {
-    // Adds the name that a side asks for.
+    // Adds the name that a side asks for, or its front.
     fn add(&mut self, near: SideKind<'spec>) -> Result<(), AllocError>
         ensures full { OnOk result (map name_bytes self.new.full.items ≡
             map name_bytes self.old.full.items ++ full_names_of (kind_of_side near.entry)) }
@@ -71,7 +73,10 @@ impl<'spec> Names<'spec> {
         match near {
             SideKind::FullName(name) => self.full.push(NameRef::Borrowed(BStr::new(name)))?,
             SideKind::Partial(name) => self.partial.push(NameRef::Borrowed(BStr::new(name)))?,
-            SideKind::Pattern { .. } | SideKind::Object(_) => {}
+            SideKind::Pattern { before, .. } => {
+                self.fronts.push(NameRef::Borrowed(BStr::new(before)))?
+            }
+            SideKind::Object(_) => {}
         }
         Ok(())
     }
@@ -85,7 +90,7 @@ fn without_places<'n>(
     ensures { IfOk result (λ places. HavePlaces
         (map name_bytes names.now) [] (list_of places)) }
 {
-    let mut places = HashMap::new(alloc);
+    let mut places = HashMap::with_capacity(alloc, names.len())?;
     for name in names {
         places.insert(name.as_bstr().as_bytes(), Vec::new(alloc))?;
     }
@@ -121,12 +126,11 @@ fn places_of<'n>(
 impl<'n> NameIndex<'n> {
     ghost use Rattle.gix_refspec.specs.Private.Index.{ArePlacesBehind, IsFrontIndexOf, IsIndexOf, places_listed};
 
-    // The index of some names, and of some fronts.
+    // The index of some names and fronts.
     pub(crate) fn of(
         alloc: Global,
         direction: Direction,
         names: &'n Names<'_>,
-        fronts: &'n [NameRef<'_>],
         items: &[Item<'_>],
     ) -> Result<NameIndex<'n>, AllocError>
         ensures { IfOk result (IsIndexOf direction names.now (map ref_of items.now)) }
@@ -134,7 +138,7 @@ impl<'n> NameIndex<'n> {
         Ok(NameIndex {
             places: places_of(alloc, names.full.as_slice(), items)?,
             partials: PartialIndex::of(alloc, direction, names.partial.as_slice(), items)?,
-            fronts: FrontIndex::of(alloc, fronts, items)?,
+            fronts: FrontIndex::of(alloc, names.fronts.as_slice(), items)?,
         })
     }
 

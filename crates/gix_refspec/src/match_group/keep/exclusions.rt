@@ -64,15 +64,22 @@ impl<'a> Exclusion<'a> {
 impl<'a> Exclusions<'a> {
     ghost use Rattle.gix_refspec.specs.Private.Kept.{ExcludesName};
 
+    // Nothing is excluded.
+    pub(crate) fn none(alloc: Global) -> Exclusions<'a>
+        ensures { (n : List ℕ) → ¬ (ExcludeName result n) }
+    {
+        Exclusions {
+            names: HashSet::new(alloc),
+            patterns: Vec::new(alloc),
+        }
+    }
+
     // What the negative specs among these exclude.
     pub(crate) fn of(alloc: Global, specs: &[RefSpecRef<'a>]) -> Result<Exclusions<'a>, AllocError>
         ensures ok { IfOk result (AreExclusionsOf (map reading_of specs.now)) }
         ensures memory { OnErr result (HasNegative (map reading_of specs.now)) }
     {
-        let mut exclusions = Exclusions {
-            names: HashSet::new(alloc),
-            patterns: Vec::new(alloc),
-        };
+        let mut exclusions = Exclusions::none(alloc);
         for spec in specs {
             if let Some(exclusion) = Exclusion::of(*spec) {
                 exclusions.add(exclusion)?;

@@ -15,7 +15,7 @@ ghost use Rattle.gix_refspec.specs.Private.SideViews.{kind_of_side};
 ghost use Rattle.gix_refspec.specs.Private.Part.{FlagsRepeated, HasNoNearId, IsNoNearId, IsPart, IsRepeatedAt, place_among};
 
 use crate::match_group::hashes::{hash_by, seeds};
-use crate::match_group::hits::ends::{Direction, ends_of};
+use crate::match_group::hits::ends::{Direction, near_of};
 use crate::match_group::keep::is_flagged;
 use crate::match_group::keep::repeats::{bits_for, bucket_of, key_of, place_in, raise};
 use crate::match_group::types::Item;
@@ -123,9 +123,9 @@ pub(crate) fn has_near_id(direction: Direction, specs: &[RefSpecRef<'_>]) -> boo
 fn near_is_id(direction: Direction, spec: &RefSpecRef<'_>) -> bool
     ensures { MatchBool result (Unit {0}) (IsNoNearId direction (reading_of spec.now)) }
 {
-    match ends_of(direction, spec) {
+    match near_of(direction, spec) {
         None => false,
-        Some(ends) => is_id(ends.near),
+        Some(near) => is_id(near),
     }
 }
 

@@ -1,11 +1,15 @@
--- the hits so far are those of the specs so far, but for repeats
+-- the hits so far are those of the specs so far, but for repeats; the flags stay, and so do the places that weren't taken
 use Rattle.std.proofs.Common.{map, take}
 use Rattle.gix_refspec.specs.Views.Spec.{reading_of}
 use Rattle.gix_refspec.specs.Views.Group.{ref_of}
 use Rattle.gix_refspec.specs.Matching.Hits.{AreHits}
 use Rattle.gix_refspec.specs.Private.HitViews.{HasEnds, TakesIn}
-use Rattle.gix_refspec.specs.Private.EqualSpecs.{AddsMost}
+use Rattle.gix_refspec.specs.Private.EqualSpecs.{AddsMost, FlagsEqual}
+use Rattle.gix_refspec.specs.Private.Index.{ListEach}
 use Rattle.gix_refspec.proofs.match_group.hits.add_hits.Given as goal
 
 abbrev pub invariant-loop-place : goal.invariant-loop-place
-invariant-loop-place l = AddsMost l.direction (AreHits (HasEnds l.direction) (TakesIn l.direction (map ref_of l.items)) (map reading_of (take l.place l.specs)) (map ref_of l.items)) l.initial.made l.made
+invariant-loop-place l =
+    AddsMost (map reading_of l.specs) l.direction (AreHits (HasEnds l.direction) (TakesIn l.direction (map ref_of l.items)) (map reading_of (take l.place l.specs)) (map ref_of l.items)) l.initial.made l.made
+    × FlagsEqual (map reading_of l.specs) l.survey.equal.items
+    × ListEach l.direction (map reading_of l.specs) (map ref_of l.items) l.survey.fitted.items

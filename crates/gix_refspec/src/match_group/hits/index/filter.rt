@@ -34,7 +34,8 @@ impl Marks {
         Ok(Marks { flags, bits })
     }
 
-    // The place of the mark of a number.
+    // Where the mark of a number stands.
+    #[inline(always)]
     fn place(&self, number: u64) -> usize
         requires { IsWhole self.now }
         ensures { result ≡ number % 2 ^ self.now.bits }
@@ -54,6 +55,7 @@ impl Marks {
     }
 
     // Whether a number has a mark.
+    #[inline(always)]
     fn has(&self, number: u64) -> bool
         requires { IsWhole self.now }
         ensures { IsTrue result ↔ HasMark self.now number }
@@ -97,7 +99,8 @@ impl Filter {
         self.hashes.add(hash_of_name(name));
     }
 
-    // Whether a name passes.
+    // Whether a name passes. Its length is asked first, and most names aren't hashed.
+    #[inline(always)]
     pub(crate) fn passes(&self, name: &[u8]) -> bool
         requires { IsWholeFilter self.now }
         ensures { IsTrue result ↔ Passes self.now name.now }

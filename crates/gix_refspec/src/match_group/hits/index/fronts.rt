@@ -9,11 +9,7 @@ ghost use Rattle.gix_refspec.specs.Private.Index.{AddsPlace, ArePlacesBehind, Ha
 ghost use Rattle.gix_refspec.specs.Private.Kept.{IsFlagged};
 
 use super::without_places;
-use crate::match_group::hits::ends::{Direction, ends_of};
 use crate::match_group::types::{Item, NameRef};
-use crate::side::SideKind;
-use crate::spec::RefSpecRef;
-use bstr::BStr;
 use std::alloc::{AllocError, Global};
 use std::collections::HashMap;
 
@@ -28,23 +24,6 @@ const MOST: usize = 2;
 #[derive(Drop)]
 pub(crate) struct FrontIndex<'n> {
     places: HashMap<&'n [u8], Vec<usize>>,
-}
-
-// The fronts of the patterns that are near in a direction.
-pub(crate) fn fronts_asked<'spec>(
-    alloc: Global,
-    direction: Direction,
-    specs: &[RefSpecRef<'spec>],
-) -> Result<Vec<NameRef<'spec>>, AllocError> {
-    let mut fronts = Vec::new(alloc);
-    for spec in specs {
-        if let Some(ends) = ends_of(direction, spec) {
-            if let SideKind::Pattern { before, .. } = ends.near {
-                fronts.push(NameRef::Borrowed(BStr::new(before)))?;
-            }
-        }
-    }
-    Ok(fronts)
 }
 
 impl<'n> FrontIndex<'n> {

@@ -1,17 +1,18 @@
 //! The places of the items that partial names take. The partial names are the only keys: an item's name is
 //! looked up without each of the folders that are tried before a partial name.
 
-ghost use Rattle.std.specs.Prelude.{◌≡◌, length, map, IfOk, OnOk};
+ghost use Rattle.std.specs.Prelude.{◌≡◌, ◌++◌, codes, ℕ, List, length, map, MatchOption, IfOk, OnOk};
+ghost use Rattle.gix_refspec.specs.Texts.Words.{BeginsWith};
 ghost use Rattle.gix_refspec.specs.Views.Group.{name_bytes, ref_of};
 ghost use Rattle.gix_refspec.specs.Matching.Side.{Fits, IsCandidate};
 ghost use Rattle.gix_refspec.specs.Private.Filter.{IsWholeFilter, Passes};
-ghost use Rattle.gix_refspec.specs.Private.Index.{AddsWhere, Joins, JoinsFirst, ListPartials, list_of, name_at, places_listed};
+ghost use Rattle.gix_refspec.specs.Private.Index.{AddsWhere, IsBelowPlace, Joins, JoinsFirst, ListPartials, list_of, name_at, places_listed};
 
 use super::filter::Filter;
 use super::without_places;
 use crate::match_group::hits::ends::Direction;
-use crate::match_group::hits::matches::word_between;
 use crate::match_group::types::{Item, NameRef};
+use crate::side::below_refs;
 use std::alloc::{AllocError, Global};
 use std::collections::HashMap;
 
@@ -68,7 +69,8 @@ impl<'n> PartialIndex<'n> {
     }
 }
 
-// Adds the place of an item to those of each partial name that has its name as a candidate.
+// Adds the place of an item to those of each partial name that may stand for its name. That is the name
+// itself, or what is left of it with a place taken off.
 fn add_item(
     direction: Direction,
     name: &[u8],
@@ -81,69 +83,76 @@ fn add_item(
     ensures { OnOk result (AddsWhere (Passes filter.now) (λ x. IsCandidate x name.now)
         (Joins direction (map ref_of items.now) place) (list_of places.old) (list_of places.new)) }
 {
-    add_between(direction, b"", b"", name, place, items, filter, places)?;
-    add_between(direction, b"refs/", b"", name, place, items, filter, places)?;
-    add_between(
-        direction,
-        b"refs/tags/",
-        b"",
-        name,
-        place,
-        items,
-        filter,
-        places,
-    )?;
-    add_between(
-        direction,
-        b"refs/heads/",
-        b"",
-        name,
-        place,
-        items,
-        filter,
-        places,
-    )?;
-    add_between(
-        direction,
-        b"refs/remotes/",
-        b"",
-        name,
-        place,
-        items,
-        filter,
-        places,
-    )?;
-    add_between(
-        direction,
-        b"refs/remotes/",
-        b"/HEAD",
-        name,
-        place,
-        items,
-        filter,
-        places,
-    )
+    add_to(direction, name, place, items, filter, places)?;
+    let Some(below) = below_refs(name) else {
+        return Ok(());
+    };
+    add_to(direction, below, place, items, filter, places)?;
+    let Some(short) = below_place(below) else {
+        return Ok(());
+    };
+    add_to(direction, short, place, items, filter, places)?;
+    let Some(remote) = remote_of_head(below) else {
+        return Ok(());
+    };
+    add_to(direction, remote, place, items, filter, places)
 }
 
-// Adds it for the partial name that its name has between two texts.
+// What follows the place in a name below `refs/`.
 #[inline(always)]
-fn add_between(
+fn below_place(below: &[u8]) -> Option<&[u8]>
+    ensures { MatchOption result
+        ((x : List ℕ) → ¬ (IsBelowPlace below.now x))
+        (λ short. IsBelowPlace below.now short.now) }
+{
+    match below {
+        [b't', b'a', b'g', b's', b'/', short @ ..] => Some(short),
+        [b'h', b'e', b'a', b'd', b's', b'/', short @ ..] => Some(short),
+        [b'r', b'e', b'm', b'o', b't', b'e', b's', b'/', short @ ..] => Some(short),
+        _ => None,
+    }
+}
+
+// The remote whose head has the name below `refs/`.
+#[inline(always)]
+fn remote_of_head(below: &[u8]) -> Option<&[u8]>
+    ensures { MatchOption result
+        ((x : List ℕ) → ¬ (Fits (codes "remotes/") (codes "/HEAD") below.now x))
+        (λ remote. Fits (codes "remotes/") (codes "/HEAD") below.now remote.now) }
+{
+    match below_remotes(below) {
+        None => None,
+        Some(head) => head.strip_suffix(b"/HEAD"),
+    }
+}
+
+// What follows `remotes/`.
+#[inline(always)]
+fn below_remotes(below: &[u8]) -> Option<&[u8]>
+    ensures { MatchOption result
+        (¬ (BeginsWith (codes "remotes/") below.now))
+        (λ head. below.now ≡ codes "remotes/" ++ head.now) }
+{
+    match below {
+        [b'r', b'e', b'm', b'o', b't', b'e', b's', b'/', head @ ..] => Some(head),
+        _ => None,
+    }
+}
+
+// Adds a place to those of a partial name, if that is asked for.
+#[inline(always)]
+fn add_to(
     direction: Direction,
-    before: &[u8],
-    after: &[u8],
-    name: &[u8],
+    partial: &[u8],
     place: usize,
     items: &[Item<'_>],
     filter: &Filter,
     places: &mut HashMap<&[u8], Vec<usize>>,
 ) -> Result<(), AllocError>
     requires { IsWholeFilter filter.now }
-    ensures { OnOk result (AddsWhere (Passes filter.now) (λ x. Fits before.now after.now name.now x)
+    ensures { OnOk result (AddsWhere (Passes filter.now) (λ x. partial.now ≡ x)
         (Joins direction (map ref_of items.now) place) (list_of places.old) (list_of places.new)) }
 {
-    let Some(partial) = word_between(before, after, name) else {
-        return Ok(());
-    };
     if !filter.passes(partial) {
         return Ok(());
     }

@@ -15,10 +15,10 @@ loop-spec-preserved c =
     let spec = c.spec-item in
     let old = c.loop-spec.names in
     let named : Names → Type 0 = λ names. AllNear (HasNamesOf names) direction (map reading_of (take (i + 1) specs)) in
-    elim c.match-ends_of.branch [
+    elim c.match-near_of.branch [
       | in-Some+in_ok-add w ↦
           subst named (sym w.names-is)
-          (spec_asks direction specs i spec.result w.in-Some.ends old w.add.new.self c.loop-spec-test.true spec.is w.in-Some.ensures (record { full = w.in_ok-add.ensures.full; partial = w.in_ok-add.ensures.partial }) c.loop-spec.invariant)
+          (spec_asks direction specs i spec.result w.in-Some.near old w.add.new.self c.loop-spec-test.true spec.is w.in-Some.ensures (record { full = w.in_ok-add.ensures.full; partial = w.in_ok-add.ensures.partial }) c.loop-spec.invariant)
       | in_default w ↦
           subst named (sym w.names-is)
           (spec_asks_nothing direction specs i spec.result old c.loop-spec-test.true spec.is w.in_default.ensures c.loop-spec.invariant)
