@@ -1,10 +1,11 @@
 -- Items and lines that are made one after another.
-use Rattle.std.proofs.Common.{◌≡◌, ℕ, ◌+◌, ◌<◌, Bool, false, List, [], ◌∷◌, ◌++◌, map, flat_map, length, take, None, Some, get_or, refl, sym, ap, ◌∙◌, subst, Result, Ok, Err, IsOk, OnOk}
+use Rattle.std.proofs.Common.{◌≡◌, ℕ, zero, suc, arith, ◌+◌, ◌<◌, Bool, false, List, [], ◌∷◌, ◌++◌, map, flat_map, length, take, None, Some, get_or, refl, sym, ap, ◌∙◌, subst, Result, Ok, Err, IsOk, OnOk}
 use Rattle.std.proofs.lemmas.Bool.{false≢true}
 use Rattle.std.proofs.lemmas.List.{append-nil, map-append, take_more}
 use Rattle.std.proofs.lemmas.Grind.{flat_map-append}
 use Rattle.gix_refspec.specs.declared.match_group.types.Item.{Item}
 use Rattle.gix_refspec.specs.declared.match_group.types.Mapping.{Mapping}
+use Rattle.gix_refspec.specs.declared.spec.RefSpecRef.{RefSpecRef}
 use Rattle.gix_refspec.specs.Reading.{Reading}
 use Rattle.gix_refspec.specs.Match.{Ref}
 use Rattle.gix_refspec.specs.Mappings.{Mapped}
@@ -14,10 +15,10 @@ use Rattle.refspec_map.specs.declared.line.ToldRef.{ToldRef}
 use Rattle.refspec_map.specs.declared.line.Entries.{Entries}
 use Rattle.refspec_map.specs.Line.{refs_in}
 use Rattle.refspec_map.specs.Matching.{map_line, AreMapLines, IsMatching}
-use Rattle.refspec_map.specs.Told.{told, bare, named, AreEntries}
+use Rattle.refspec_map.specs.Told.{AsksForNoId, HasIdDestination, told, bare, named, AreEntries}
 use Rattle.refspec_map.specs.Plan.{IsPlan}
-use Rattle.gix_refspec.specs.Hits.{AreKeptForward}
-use Rattle.refspec_map.proofs.NameLemmas.{kept_by_name}
+use Rattle.gix_refspec.specs.Hits.{AreKeptForward, AreKeptBackward}
+use Rattle.refspec_map.proofs.NameLemmas.{kept_by_name, kept_back_by_name}
 
 -- one item more
 pub items_more : (refs : List ToldRef) (k : ℕ) (t : ToldRef) (old new : List Item) (i : Item) → k < length refs → ref_of i ≡ told (get_or refs k t) → new ≡ old ++ i ∷ [] → map ref_of old ≡ map told (take k refs) → map ref_of new ≡ map told (take (k + 1) refs)
@@ -63,10 +64,10 @@ IsMatching-of A Writes input output refusal made items refs are lent same is =
     }
 
 -- what is written for items is written for refs that have their names
-abbrev pub IsByName : (List Reading → List Ref → List ℕ → Bool → Type 0) → Type 0
-IsByName Writes = (g : List Reading) (items : List Item) (refs : List Ref) (output : List ℕ) (refusal : Bool) → map named items ≡ map bare refs → Writes g (map ref_of items) output refusal → Writes g refs output refusal
+abbrev pub IsByName : (List Reading → List Ref → List ℕ → Bool → Type 0) → List Reading → Type 0
+IsByName Writes g = (items : List Item) (refs : List Ref) (output : List ℕ) (refusal : Bool) → map named items ≡ map bare refs → Writes g (map ref_of items) output refusal → Writes g refs output refusal
 
-pub map_lines_by_name : IsByName (AreMapLines AreKeptForward)
+pub map_lines_by_name : (g : List Reading) → IsByName (AreMapLines AreKeptForward) g
 map_lines_by_name g items refs output refusal same is = record {
   mappings = is.mappings;
   kept = kept_by_name g items refs is.mappings same is.kept;
@@ -74,15 +75,40 @@ map_lines_by_name g items refs output refusal same is = record {
   tells = is.tells;
 }
 
-pub plan_by_name : IsByName IsPlan
+pub map_lines_back_by_name : (g : List Reading) → AsksForNoId g → IsByName (AreMapLines AreKeptBackward) g
+map_lines_back_by_name g none items refs output refusal same is = record {
+  mappings = is.mappings;
+  kept = kept_back_by_name g items refs is.mappings none same is.kept;
+  written = is.written;
+  tells = is.tells;
+}
+
+pub plan_by_name : (g : List Reading) → IsByName IsPlan g
 plan_by_name g items refs output refusal same is = record { mappings = is.mappings; kept = kept_by_name g items refs is.mappings same is.kept; shows = is.shows }
 
 -- what is written for the specs and names that were read is written for the input
-pub IsMatching-named : {A : Type 0} (blank : A) (Writes : List Reading → List Ref → List ℕ → Bool → Type 0) → IsByName Writes → (input output : List ℕ) (refusal : Bool) (made : Entries) (items : List Item) → AreEntries (Some blank) input made → items ≡ made.items.items → Writes (map reading_of made.specs.items) (map ref_of items) output refusal → IsMatching Writes input output refusal
-IsMatching-named blank Writes by input output refusal made items are lent is = record {
+pub IsMatching-named : {A : Type 0} (blank : A) (Writes : List Reading → List Ref → List ℕ → Bool → Type 0) (input output : List ℕ) (refusal : Bool) (made : Entries) (items : List Item) → IsByName Writes (map reading_of made.specs.items) → AreEntries (Some blank) input made → items ≡ made.items.items → Writes (map reading_of made.specs.items) (map ref_of items) output refusal → IsMatching Writes input output refusal
+IsMatching-named blank Writes input output refusal made items by are lent is = record {
   lines = are.lines;
   entries = are.entries;
   cut = are.cut;
   given = are.given;
-  is = subst (λ (g : List Reading). Writes g (refs_in are.entries) output refusal) are.specs (by (map reading_of made.specs.items) items (refs_in are.entries) output refusal (ap (map named) lent ∙ are.refs) is);
+  is = subst (λ (g : List Reading). Writes g (refs_in are.entries) output refusal) are.specs (by items (refs_in are.entries) output refusal (ap (map named) lent ∙ are.refs) is);
 }
+
+no_ids_append : (g h : List Reading) → AsksForNoId g → AsksForNoId h → AsksForNoId (g ++ h)
+no_ids_append [] h first second = second
+no_ids_append (r ∷ g) h first second = (first.0, no_ids_append g h first.1 second)
+
+-- one spec more whose destination is no id
+pub no_ids_more : (specs : List RefSpecRef) (k : ℕ) (s : RefSpecRef) → k < length specs → s ≡ get_or specs k s → ¬ (HasIdDestination (reading_of s)) → AsksForNoId (map reading_of (take k specs)) → AsksForNoId (map reading_of (take (k + 1) specs))
+no_ids_more specs k s below is none so_far =
+    let all : map reading_of (take (k + 1) specs) ≡ map reading_of (take k specs) ++ reading_of (get_or specs k s) ∷ [] = ap (map reading_of) (take_more specs k s below) ∙ map-append reading_of (take k specs) (get_or specs k s ∷ []) in
+    let one : AsksForNoId (reading_of (get_or specs k s) ∷ []) = (subst (λ (t : RefSpecRef). ¬ (HasIdDestination (reading_of t))) is none, tt) in
+    subst AsksForNoId (sym all) (no_ids_append (map reading_of (take k specs)) (reading_of (get_or specs k s) ∷ []) so_far one)
+
+-- one of the specs whose destination is an id
+pub some_id : (specs : List RefSpecRef) (k : ℕ) (s : RefSpecRef) → k < length specs → s ≡ get_or specs k s → HasIdDestination (reading_of s) → ¬ (AsksForNoId (map reading_of specs))
+some_id (x ∷ specs) zero s below is has none = none.0 (subst (λ (t : RefSpecRef). HasIdDestination (reading_of t)) is has)
+some_id (x ∷ specs) (suc k) s below is has none = some_id specs k s (omega (arith, below)) is has none.1
+some_id [] k s below is has none = omega (arith, below)

@@ -1,9 +1,10 @@
 -- What a clause reads of what the program holds of its input.
-use Rattle.std.specs.Prelude.{◌≡◌, ℕ, Bool, List, [], ◌∷◌, ◌++◌, Option, None, Some, option_map, map}
-use Rattle.std.specs.List.{AllZip}
+use Rattle.std.specs.Prelude.{◌≡◌, ℕ, Bool, List, [], ◌∷◌, ◌++◌, Option, None, Some, option_map, map, ⊤}
+use Rattle.std.specs.List.{AllByRecursion, AllZip}
 use Rattle.bstr.specs.BStr.{bstr_bytes}
 use Rattle.gix_refspec.specs.declared.match_group.types.Item.{Item}
 use Rattle.gix_refspec.specs.ObjectId.{id_bytes}
+use Rattle.gix_refspec.specs.Side.{IsId}
 use Rattle.gix_refspec.specs.Match.{Ref}
 use Rattle.gix_refspec.specs.Reading.{Reading}
 use Rattle.gix_refspec.specs.Spec.{reading_of}
@@ -15,18 +16,13 @@ use Rattle.refspec_map.specs.declared.line.Entries.{Entries}
 use Rattle.refspec_map.specs.declared.matching.Matching.{Matching}
 use Rattle.refspec_map.specs.declared.matching.Matching.TheVariants as matching
 use Rattle.refspec_map.specs.Input.{AreLines}
-use Rattle.refspec_map.specs.Line.{Line, spec, item, Entry, Gives, readings_in, refs_in}
+use Rattle.refspec_map.specs.Line.{spec, item, Says, Entry, Gives, readings_in, refs_in}
 use Rattle.refspec_map.specs.Matching.{AreMapLines}
 use Rattle.refspec_map.specs.Plan.{IsPlan}
 
 -- the ref that a line told of
 abbrev pub told : ToldRef → Ref
 told r = record { name = bstr_bytes r.name; target = id_bytes r.target; object = option_map id_bytes r.object }
-
--- what a line says, as plain data
-abbrev pub line_of : Said → Line
-line_of (said.Spec text) = spec (bstr_bytes text)
-line_of (said.Ref r) = item (told r)
 
 -- the ref with its name alone
 abbrev pub bare : Ref → Ref
@@ -35,6 +31,29 @@ bare r = record { name = r.name; target = []; object = None }
 -- the ref that an item has the name of, with its name alone
 abbrev pub named : Item → Ref
 named i = record { name = bstr_bytes i.full_ref_name; target = []; object = None }
+
+-- the id was read as the other one; where an id is lent for it, as whatever that is
+abbrev pub IsReadAs : {A : Type 0} → Option A → List ℕ → List ℕ → Type 0
+IsReadAs None id made = made ≡ id
+IsReadAs (Some blank) id made = ⊤
+
+-- the ref was read as the other one; where an id is lent for its own, by its name alone
+abbrev pub IsSeenAs : {A : Type 0} → Option A → Ref → Ref → Type 0
+IsSeenAs None r made = made ≡ r
+IsSeenAs (Some blank) r made = bare made ≡ bare r
+
+-- the line says this
+abbrev pub IsSaidAs : {A : Type 0} → Option A → List ℕ → Said → Type 0
+IsSaidAs blank line (said.Spec text) = Says line (spec (bstr_bytes text))
+IsSaidAs blank line (said.Ref t) = (r : Ref) × Says line (item r) × IsSeenAs blank r (told t)
+
+-- the destination of the spec is an id
+abbrev pub HasIdDestination : Reading → Type 0
+HasIdDestination r = (text : List ℕ) × (r.destination ≡ Some text) × IsId text
+
+-- no destination of the specs is one
+abbrev pub AsksForNoId : List Reading → Type 0
+AsksForNoId g = AllByRecursion (λ r. ¬ (HasIdDestination r)) g
 
 -- what is kept of refs: all, or where an id is lent for their own, their names
 abbrev pub seen : {A : Type 0} → Option A → List Ref → List Ref

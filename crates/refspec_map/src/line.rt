@@ -1,17 +1,20 @@
 //! The lines that a matching command reads: specs, and the refs of a repository.
 
-ghost use Rattle.std.specs.Prelude.{◌≡◌, ◌≢◌, ◌⊎◌, List, ℕ, [], ◌∷◌, ◌++◌, IfOk, IfErr, OnOk, MatchOption};
+ghost use Rattle.std.specs.Prelude.{◌≡◌, ◌≢◌, ◌⊎◌, List, ℕ, [], ◌∷◌, ◌++◌, IfOk, IfErr, OnOk, MatchBool, MatchOption};
+ghost use Rattle.std.specs.List.{list_all};
+ghost use Rattle.hex.specs.Hex.{is_hex_digit};
 ghost use Rattle.bstr.specs.BStr.{bstr_bytes};
 ghost use Rattle.gix_refspec.specs.declared.parsing.Operation.TheVariants.{Fetch};
 ghost use Rattle.gix_refspec.specs.Text.{Lacks};
 ghost use Rattle.gix_refspec.specs.Grammar.{Reads};
 ghost use Rattle.gix_refspec.specs.Match.{Ref};
-ghost use Rattle.gix_refspec.specs.ObjectId.{id_bytes};
+ghost use Rattle.gix_refspec.specs.ObjectId.{IsIdText, id_bytes};
+ghost use Rattle.gix_refspec.specs.Side.{IsId};
 ghost use Rattle.gix_refspec.specs.Spec.{reading_of};
 ghost use Rattle.gix_refspec.specs.Group.{ref_of};
 ghost use Rattle.refspec_map.specs.Fault.{IsMemory};
 ghost use Rattle.refspec_map.specs.Line.{space, IsFaultOf, IsFirstFault, IsIdThen, IsMalformed, IsRefLine, IsTagLine, Says, spec};
-ghost use Rattle.refspec_map.specs.Told.{bare, line_of, named, told};
+ghost use Rattle.refspec_map.specs.Told.{IsReadAs, IsSaidAs, IsSeenAs, bare, named, told};
 
 use crate::fault::Fault;
 use crate::input::first_line;
@@ -114,7 +117,7 @@ impl<'a> Entries<'a> {
         ensures ok { OnOk result (Adds blank.entry line.now self.old self.new) }
         ensures err { IfErr result (λ f. IsMemory f ⊎ IsFaultOf number line.now f) }
     {
-        match said_by(line) {
+        match said_by(line, blank) {
             None => Err(Fault::Line(number)),
             Some(Said::Ref(row)) => self.add_ref(blank, row),
             Some(Said::Spec(text)) => {
@@ -167,30 +170,30 @@ fn spec_of(alloc: Global, number: usize, text: BStr<'_>) -> Result<RefSpecRef<'_
     }
 }
 
-// What a line says, where it has a form.
-fn said_by(line: &[u8]) -> Option<Said<'_>>
-    ensures { MatchOption result (IsMalformed line.now) (λ said. Says line.now (line_of said)) }
+// What a line says, where it has a form. Where an id is lent, a ref has this one in the place of its own.
+fn said_by<'a>(line: &'a [u8], blank: Option<&ObjectId>) -> Option<Said<'a>>
+    ensures { MatchOption result (IsMalformed line.now) (IsSaidAs blank.entry line.now) }
 {
     if let Some(text) = behind(line, b"spec ") {
         return Some(Said::Spec(BStr::new(text)));
     }
-    if let Some(told) = ref_line(line) {
+    if let Some(told) = ref_line(line, blank) {
         return Some(Said::Ref(told));
     }
-    match tag_line(line) {
+    match tag_line(line, blank) {
         Some(told) => Some(Said::Ref(told)),
         None => None,
     }
 }
 
 // The ref of a line `ref <id> <name>`.
-fn ref_line(line: &[u8]) -> Option<ToldRef<'_>>
+fn ref_line<'a>(line: &'a [u8], blank: Option<&ObjectId>) -> Option<ToldRef<'a>>
     ensures { MatchOption result
         ((r : Ref) → ¬ (IsRefLine line.now r))
-        (λ r. IsRefLine line.now (told r)) }
+        (λ t. (r : Ref) × IsRefLine line.now r × IsSeenAs blank.entry r (told t)) }
 {
     let words = behind(line, b"ref ")?;
-    let (target, name) = id_then(words)?;
+    let (target, name) = id_then(words, blank)?;
     Some(ToldRef {
         name: BStr::new(name),
         target,
@@ -199,14 +202,14 @@ fn ref_line(line: &[u8]) -> Option<ToldRef<'_>>
 }
 
 // The ref of a line `tag <id> <id> <name>`.
-fn tag_line(line: &[u8]) -> Option<ToldRef<'_>>
+fn tag_line<'a>(line: &'a [u8], blank: Option<&ObjectId>) -> Option<ToldRef<'a>>
     ensures { MatchOption result
         ((r : Ref) → ¬ (IsTagLine line.now r))
-        (λ r. IsTagLine line.now (told r)) }
+        (λ t. (r : Ref) × IsTagLine line.now r × IsSeenAs blank.entry r (told t)) }
 {
     let words = behind(line, b"tag ")?;
-    let (target, rest) = id_then(words)?;
-    let (object, name) = id_then(rest)?;
+    let (target, rest) = id_then(words, blank)?;
+    let (object, name) = id_then(rest, blank)?;
     Some(ToldRef {
         name: BStr::new(name),
         target,
@@ -214,18 +217,63 @@ fn tag_line(line: &[u8]) -> Option<ToldRef<'_>>
     })
 }
 
-// The id that the first word of a text spells, and what follows the space behind it.
-fn id_then(text: &[u8]) -> Option<(ObjectId, &[u8])>
+// The id that the first word of a text spells, or the one that is lent, and what follows the space after
+// the word.
+fn id_then<'a>(text: &'a [u8], blank: Option<&ObjectId>) -> Option<(ObjectId, &'a [u8])>
     ensures { MatchOption result
         ((id rest : List ℕ) → ¬ (IsIdThen text.now id rest))
-        (λ parts. IsIdThen text.now (id_bytes parts.0) parts.1.now) }
+        (λ parts. (id : List ℕ) × IsIdThen text.now id parts.1.now
+        × IsReadAs blank.entry id (id_bytes parts.0)) }
 {
     let (word, rest) = first_word(text)?;
+    let id = id_of(word, blank)?;
+    Some((id, rest))
+}
+
+// The id that a word spells. Where another is lent, the word is only checked, and that one is returned.
+fn id_of(word: &[u8], blank: Option<&ObjectId>) -> Option<ObjectId>
+    ensures { MatchOption result
+        ((id : List ℕ) → ¬ (IsIdText word.now id))
+        (λ made. (id : List ℕ) × IsIdText word.now id × IsReadAs blank.entry id (id_bytes made)) }
+{
     laws::id_or_fault(word);
-    match ObjectId::from_hex(word) {
-        Ok(id) => Some((id, rest)),
-        Err(_) => None,
+    match blank {
+        None => match ObjectId::from_hex(word) {
+            Ok(id) => Some(id),
+            Err(_) => None,
+        },
+        Some(id) if is_id(word) => Some(*id),
+        Some(_) => None,
     }
+}
+
+/// Whether a text spells an id.
+pub(crate) fn is_id(text: &[u8]) -> bool
+    ensures { MatchBool result (IsId text.now) (¬ (IsId text.now)) }
+{
+    laws::id_or_fault(text);
+    match text.len() {
+        40 | 64 => are_digits(text),
+        _ => false,
+    }
+}
+
+// Whether all bytes of a text are hexadecimal digits. It looks at all of them, and so at several at once.
+fn are_digits(text: &[u8]) -> bool
+    ensures { result ≡ list_all is_hex_digit text.now }
+{
+    let mut all = true;
+    for byte in text {
+        all &= is_digit(*byte);
+    }
+    all
+}
+
+// Whether a byte is a hexadecimal digit.
+fn is_digit(byte: u8) -> bool
+    ensures { result ≡ is_hex_digit byte }
+{
+    matches!(byte, b'A'..=b'F' | b'a'..=b'f' | b'0'..=b'9')
 }
 
 // The first word of a text, which ends at its first space, and what follows that space.

@@ -1,21 +1,23 @@
 //! What the specs of an input match among its refs.
 
-ghost use Rattle.std.specs.Prelude.{◌≡◌, ◌⊎◌, map, IfOk, IfErr};
+ghost use Rattle.std.specs.Prelude.{◌≡◌, ◌⊎◌, map, IfOk, IfErr, IfSome, MatchBool};
 ghost use Rattle.gix_refspec.specs.Group.{ref_of};
+ghost use Rattle.gix_refspec.specs.Spec.{reading_of};
 ghost use Rattle.gix_refspec.specs.Hits.{AreKeptBackward, AreKeptForward};
 ghost use Rattle.refspec_map.specs.Fault.{IsMemory};
 ghost use Rattle.refspec_map.specs.Line.{IsFirstFault};
 ghost use Rattle.refspec_map.specs.Matching.{AreMapLines, IsMatching};
 ghost use Rattle.refspec_map.specs.Plan.{IsPlan};
-ghost use Rattle.refspec_map.specs.Told.{IsOutputOf, told};
+ghost use Rattle.refspec_map.specs.Told.{AsksForNoId, HasIdDestination, IsOutputOf, told};
 
 use crate::fault::Fault;
-use crate::line::{Entries, ToldRef, push};
+use crate::line::{Entries, ToldRef, is_id, push};
 use crate::output::mapping_lines;
 use crate::plan::plan;
-use gix_refspec::MatchGroup;
+use bstr::ByteSlice;
 use gix_refspec::match_group::Item;
 use gix_refspec::oid::{Kind, ObjectId};
+use gix_refspec::{MatchGroup, RefSpecRef};
 use std::alloc::Global;
 
 /// A command that matches.
@@ -65,11 +67,65 @@ fn rhs_lines(alloc: Global, input: &[u8]) -> Result<(Vec<u8>, bool), Fault>
         IsMatching (AreMapLines AreKeptBackward) input.now made.0.items made.1) }
     ensures err { IfErr result (λ f. IsMemory f ⊎ IsFirstFault input.now f) }
 {
+    match rhs_by_name(alloc, input)? {
+        Some(made) => Ok(made),
+        None => rhs_by_id(alloc, input),
+    }
+}
+
+// The same, of refs with their names alone. None where a right side is an id, which asks for theirs.
+fn rhs_by_name(alloc: Global, input: &[u8]) -> Result<Option<(Vec<u8>, bool)>, Fault>
+    ensures ok { IfOk result (λ found. IfSome found (λ made.
+        IsMatching (AreMapLines AreKeptBackward) input.now made.0.items made.1)) }
+    ensures err { IfErr result (λ f. IsMemory f ⊎ IsFirstFault input.now f) }
+{
+    let blank = ObjectId::null(Kind::Sha1);
+    let Entries { specs, items, .. } = Entries::read(alloc, input, Some(&blank))?;
+    if asks_for_ids(specs.as_slice()) {
+        return Ok(None);
+    }
+    let group = MatchGroup { specs };
+    let outcome = group.match_rhs(alloc, items.as_slice())?;
+    Ok(Some((mapping_lines(alloc, outcome.mappings.as_slice())?, false)))
+}
+
+// The same, of refs with their ids. The input is read once more for them.
+fn rhs_by_id(alloc: Global, input: &[u8]) -> Result<(Vec<u8>, bool), Fault>
+    ensures ok { IfOk result (λ made.
+        IsMatching (AreMapLines AreKeptBackward) input.now made.0.items made.1) }
+    ensures err { IfErr result (λ f. IsMemory f ⊎ IsFirstFault input.now f) }
+{
     let Entries { specs, refs, .. } = Entries::read(alloc, input, None)?;
     let items = items_of(alloc, refs.as_slice())?;
     let group = MatchGroup { specs };
     let outcome = group.match_rhs(alloc, items.as_slice())?;
     Ok((mapping_lines(alloc, outcome.mappings.as_slice())?, false))
+}
+
+// Whether the destination of some spec is an id.
+fn asks_for_ids(specs: &[RefSpecRef<'_>]) -> bool
+    ensures { MatchBool result
+        (¬ (AsksForNoId (map reading_of specs.now)))
+        (AsksForNoId (map reading_of specs.now)) }
+{
+    for spec in specs {
+        if has_id_destination(spec) {
+            return true;
+        }
+    }
+    false
+}
+
+// Whether the destination of a spec is an id.
+fn has_id_destination(spec: &RefSpecRef<'_>) -> bool
+    ensures { MatchBool result
+        (HasIdDestination (reading_of spec.now))
+        (¬ (HasIdDestination (reading_of spec.now))) }
+{
+    match spec.destination() {
+        None => false,
+        Some(destination) => is_id(destination.as_bytes()),
+    }
 }
 
 // The plan of what the left sides take.

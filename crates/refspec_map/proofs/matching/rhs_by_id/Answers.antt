@@ -4,7 +4,7 @@ use Rattle.gix_refspec.specs.Spec.{reading_of}
 use Rattle.gix_refspec.specs.Hits.{AreKeptBackward}
 use Rattle.refspec_map.specs.Matching.{AreMapLines}
 use Rattle.refspec_map.proofs.MatchingLemmas.{AreMapLines-of, IsMatching-of}
-use Rattle.refspec_map.proofs.matching.rhs_lines.Goals as goal
+use Rattle.refspec_map.proofs.matching.rhs_by_id.Goals as goal
 
 pub returns-clause-ok : goal.returns-clause-ok
 returns-clause-ok c =
