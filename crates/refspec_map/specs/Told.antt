@@ -1,5 +1,5 @@
 -- What a clause reads of what the program holds of its input.
-use Rattle.std.specs.Prelude.{◌≡◌, ℕ, Bool, List, [], ◌∷◌, ◌++◌, Option, None, Some, option_map, map, ⊤}
+use Rattle.std.specs.Prelude.{◌≡◌, ℕ, List, [], ◌∷◌, ◌++◌, Option, None, Some, option_map, map, ⊤}
 use Rattle.std.specs.List.{AllByRecursion, AllZip}
 use Rattle.bstr.specs.BStr.{bstr_bytes}
 use Rattle.gix_refspec.specs.declared.match_group.types.Item.{Item}
@@ -8,17 +8,12 @@ use Rattle.gix_refspec.specs.Side.{IsId}
 use Rattle.gix_refspec.specs.Match.{Ref}
 use Rattle.gix_refspec.specs.Reading.{Reading}
 use Rattle.gix_refspec.specs.Spec.{reading_of}
-use Rattle.gix_refspec.specs.Hits.{AreKeptForward, AreKeptBackward}
 use Rattle.refspec_map.specs.declared.line.ToldRef.{ToldRef}
 use Rattle.refspec_map.specs.declared.line.Said.{Said}
 use Rattle.refspec_map.specs.declared.line.Said.TheVariants as said
 use Rattle.refspec_map.specs.declared.line.Entries.{Entries}
-use Rattle.refspec_map.specs.declared.matching.Matching.{Matching}
-use Rattle.refspec_map.specs.declared.matching.Matching.TheVariants as matching
 use Rattle.refspec_map.specs.Input.{AreLines}
 use Rattle.refspec_map.specs.Line.{spec, item, Says, Entry, Gives, readings_in, refs_in}
-use Rattle.refspec_map.specs.Matching.{AreMapLines}
-use Rattle.refspec_map.specs.Plan.{IsPlan}
 
 -- the ref that a line told of
 abbrev pub told : ToldRef → Ref
@@ -85,9 +80,3 @@ pub record AreEntries {A : Type 0} (blank : Option A) (input : List ℕ) (made :
   pub given : AllZip Gives lines entries
   pub specs : map reading_of made.specs.items ≡ readings_in entries
   pub refs : kept_refs blank made ≡ seen blank (refs_in entries)
-
--- what a matching command writes for specs and refs, and whether a plan is refused
-abbrev pub IsOutputOf : Matching → List Reading → List Ref → List ℕ → Bool → Type 0
-IsOutputOf matching.Lhs = AreMapLines AreKeptForward
-IsOutputOf matching.Rhs = AreMapLines AreKeptBackward
-IsOutputOf matching.Plan = IsPlan

@@ -15,9 +15,10 @@ mod output;
 mod plan;
 mod run;
 
-use crate::command::Command;
+use crate::command::{Command, Matching};
 use crate::fault::Fault;
 use crate::run::run;
+use gix_refspec::parsing::Operation;
 use std::process::ExitCode;
 use std::{env, io};
 
@@ -58,14 +59,14 @@ fn command_of(words: &[String]) -> Option<Command>
 {
     match words {
         [first, second] => match (first.as_str(), second.as_str()) {
-            ("canon", "fetch") => Some(Command::CanonFetch),
-            ("canon", "push") => Some(Command::CanonPush),
+            ("canon", "fetch") => Some(Command::Canon(Operation::Fetch)),
+            ("canon", "push") => Some(Command::Canon(Operation::Push)),
             _ => None,
         },
         [only] => match only.as_str() {
-            "lhs" => Some(Command::Lhs),
-            "rhs" => Some(Command::Rhs),
-            "plan" => Some(Command::Plan),
+            "lhs" => Some(Command::Match(Matching::Lhs)),
+            "rhs" => Some(Command::Match(Matching::Rhs)),
+            "plan" => Some(Command::Match(Matching::Plan)),
             _ => None,
         },
         _ => None,

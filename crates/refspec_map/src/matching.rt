@@ -8,8 +8,10 @@ ghost use Rattle.refspec_map.specs.Fault.{IsMemory};
 ghost use Rattle.refspec_map.specs.Line.{IsFirstFault};
 ghost use Rattle.refspec_map.specs.Matching.{AreMapLines, IsMatching};
 ghost use Rattle.refspec_map.specs.Plan.{IsPlan};
-ghost use Rattle.refspec_map.specs.Told.{AsksForNoId, HasIdDestination, IsOutputOf, told};
+ghost use Rattle.refspec_map.specs.Run.{IsOutputOf};
+ghost use Rattle.refspec_map.specs.Told.{AsksForNoId, HasIdDestination, told};
 
+use crate::command::Matching;
 use crate::fault::Fault;
 use crate::line::{Entries, ToldRef, is_id, push};
 use crate::output::mapping_lines;
@@ -20,28 +22,17 @@ use gix_refspec::oid::{Kind, ObjectId};
 use gix_refspec::{MatchGroup, RefSpecRef};
 use std::alloc::Global;
 
-/// A command that matches.
-#[derive(Clone, Copy)]
-pub(crate) enum Matching {
-    /// Writes what the left sides take.
-    Lhs,
-    /// Writes what the right sides match.
-    Rhs,
-    /// Writes what survives of what the left sides take, and the fixes, or the conflicts.
-    Plan,
-}
-
 /// The output of a matching command, and whether it is a plan with conflicts.
-pub(crate) fn matched(
+pub(crate) fn match_lines(
     alloc: Global,
-    command: Matching,
+    matching: Matching,
     input: &[u8],
 ) -> Result<(Vec<u8>, bool), Fault>
     ensures ok { IfOk result (λ made.
-        IsMatching (IsOutputOf command) input.now made.0.items made.1) }
+        IsMatching (IsOutputOf matching) input.now made.0.items made.1) }
     ensures err { IfErr result (λ f. IsMemory f ⊎ IsFirstFault input.now f) }
 {
-    match command {
+    match matching {
         Matching::Lhs => lhs_lines(alloc, input),
         Matching::Rhs => rhs_lines(alloc, input),
         Matching::Plan => planned(alloc, input),

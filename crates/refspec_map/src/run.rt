@@ -9,8 +9,7 @@ use crate::canon::canon;
 use crate::command::Command;
 use crate::fault::Fault;
 use crate::input::read_input;
-use crate::matching::{Matching, matched};
-use gix_refspec::parsing::Operation;
+use crate::matching::match_lines;
 use std::alloc::Global;
 use std::io::{Read, Write};
 
@@ -68,11 +67,8 @@ fn output_of(alloc: Global, command: Command, input: &[u8]) -> Result<(Vec<u8>, 
     ensures err { IfErr result (λ f. IsMemory f ⊎ IsBad command input.now f) }
 {
     match command {
-        Command::CanonFetch => canon(alloc, Operation::Fetch, input),
-        Command::CanonPush => canon(alloc, Operation::Push, input),
-        Command::Lhs => matched(alloc, Matching::Lhs, input),
-        Command::Rhs => matched(alloc, Matching::Rhs, input),
-        Command::Plan => matched(alloc, Matching::Plan, input),
+        Command::Canon(operation) => canon(alloc, operation, input),
+        Command::Match(matching) => match_lines(alloc, matching, input),
     }
 }
 
