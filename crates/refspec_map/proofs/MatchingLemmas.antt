@@ -1,22 +1,28 @@
 -- Items and lines that are made one after another.
-use Rattle.std.proofs.Common.{◌≡◌, ℕ, zero, suc, arith, ◌+◌, ◌<◌, Bool, false, List, [], ◌∷◌, ◌++◌, map, flat_map, length, take, None, Some, get_or, refl, sym, ap, ◌∙◌, subst, Result, Ok, Err, IsOk, OnOk}
+use Rattle.std.proofs.Common.{◌≡◌, ◌≢◌, ℕ, zero, suc, arith, ◌+◌, ◌<◌, Bool, true, false, List, [], ◌∷◌, ◌++◌, map, flat_map, length, take, None, Some, get_or, refl, sym, ap, ◌∙◌, subst, Result, Ok, Err, IsOk, OnOk}
 use Rattle.std.proofs.lemmas.Bool.{false≢true}
 use Rattle.std.proofs.lemmas.List.{append-nil, map-append, take_more}
 use Rattle.std.proofs.lemmas.Grind.{flat_map-append}
+use Rattle.std.proofs.lemmas.List.Folds.{flat_map-map}
 use Rattle.gix_refspec.specs.declared.match_group.types.Item.{Item}
 use Rattle.gix_refspec.specs.declared.match_group.types.Mapping.{Mapping}
 use Rattle.gix_refspec.specs.declared.spec.RefSpecRef.{RefSpecRef}
+use Rattle.gix_refspec.specs.declared.match_group.types.MatchGroup.{MatchGroup}
+use Rattle.gix_refspec.specs.declared.match_group.validate.Fix.{Fix}
+use Rattle.gix_refspec.specs.declared.match_group.validate.Issue.{Issue}
+use Rattle.gix_refspec.specs.Issue.{conflict_of, removed_of}
+use Rattle.gix_refspec.specs.Validation.{AreConflicts, IsValidated}
 use Rattle.gix_refspec.specs.Reading.{Reading}
 use Rattle.gix_refspec.specs.Match.{Ref}
 use Rattle.gix_refspec.specs.Mappings.{Mapped}
 use Rattle.gix_refspec.specs.Spec.{reading_of}
-use Rattle.gix_refspec.specs.Group.{mapped_of, ref_of}
+use Rattle.gix_refspec.specs.Group.{mapped_of, readings_of, ref_of}
 use Rattle.refspec_map.specs.declared.line.ToldRef.{ToldRef}
 use Rattle.refspec_map.specs.declared.line.Entries.{Entries}
 use Rattle.refspec_map.specs.Line.{refs_in}
 use Rattle.refspec_map.specs.Matching.{map_line, AreMapLines, IsMatching}
 use Rattle.refspec_map.specs.Told.{AsksForNoId, HasIdDestination, told, bare, named, AreEntries}
-use Rattle.refspec_map.specs.Plan.{IsPlan}
+use Rattle.refspec_map.specs.Plan.{AreFixLines, IsPlan, PutsFixes, conflict_line}
 use Rattle.gix_refspec.specs.Hits.{AreKeptForward, AreKeptBackward}
 use Rattle.refspec_map.proofs.NameLemmas.{kept_by_name, kept_back_by_name}
 
@@ -28,14 +34,12 @@ items_more refs k t old new i below is put so_far =
     items ∙ (ap (λ l. l ++ ref_of i ∷ []) so_far ∙ (ap (λ r. map told (take k refs) ++ r ∷ []) is ∙ sym told_refs))
 
 -- one line more
-pub lines_more : {X Y : Type 0} (f : X → Y) (line : Y → List ℕ) (xs : List X) (k : ℕ) (x : X) (old new : List ℕ) → k < length xs → x ≡ get_or xs k x → new ≡ old ++ line (f x) → old ≡ flat_map line (map f (take k xs)) → new ≡ flat_map line (map f (take (k + 1) xs))
-lines_more f line xs k x old new below is put so_far =
-    let before = map f (take k xs) in
+pub lines_more : {X : Type 0} (line : X → List ℕ) (xs : List X) (k : ℕ) (x : X) (old new : List ℕ) → k < length xs → x ≡ get_or xs k x → new ≡ old ++ line x → old ≡ flat_map line (take k xs) → new ≡ flat_map line (take (k + 1) xs)
+lines_more line xs k x old new below is put so_far =
     let step : take (k + 1) xs ≡ take k xs ++ x ∷ [] = take_more xs k x below ∙ ap (λ y. take k xs ++ y ∷ []) (sym is) in
-    let all : map f (take (k + 1) xs) ≡ before ++ f x ∷ [] = ap (map f) step ∙ map-append f (take k xs) (x ∷ []) in
-    let lines : flat_map line (before ++ f x ∷ []) ≡ flat_map line before ++ line (f x) =
-    flat_map-append line before (f x ∷ []) ∙ ap (λ l. flat_map line before ++ l) (append-nil (line (f x))) in
-    put ∙ (ap (λ l. l ++ line (f x)) so_far ∙ (sym lines ∙ ap (flat_map line) (sym all)))
+    let lines : flat_map line (take k xs ++ x ∷ []) ≡ flat_map line (take k xs) ++ line x =
+    flat_map-append line (take k xs) (x ∷ []) ∙ ap (λ l. flat_map line (take k xs) ++ l) (append-nil (line x)) in
+    put ∙ (ap (λ l. l ++ line x) so_far ∙ (sym lines ∙ ap (flat_map line) (sym step)))
 
 -- what a call ensures of a success holds where it had one
 pub on_success : {T E : Type 0} (r : Result T E) (P : Type 0) → OnOk r P → IsOk r → P
@@ -43,11 +47,11 @@ on_success (Ok x) P holds one = holds
 on_success (Err e) P holds one = absurd (false≢true one)
 
 -- the lines of the mappings that are kept
-pub AreMapLines-of : (AreKept : List Reading → List Ref → List Mapped → Type 0) (g : List Reading) (items slice : List Item) (mappings lent : List Mapping) (output : List ℕ) → slice ≡ items → lent ≡ mappings → AreKept g (map ref_of slice) (map mapped_of mappings) → output ≡ flat_map map_line (map mapped_of lent) → AreMapLines AreKept g (map ref_of items) output false
+pub AreMapLines-of : (AreKept : List Reading → List Ref → List Mapped → Type 0) (g : List Reading) (items slice : List Item) (mappings lent : List Mapping) (output : List ℕ) → slice ≡ items → lent ≡ mappings → AreKept g (map ref_of slice) (map mapped_of mappings) → output ≡ flat_map (λ m. map_line (mapped_of m)) lent → AreMapLines AreKept g (map ref_of items) output false
 AreMapLines-of AreKept g items slice mappings lent output of_items of_mappings kept written = record {
   mappings = map mapped_of mappings;
   kept = subst (λ (is : List Item). AreKept g (map ref_of is) (map mapped_of mappings)) of_items kept;
-  written = written ∙ ap (λ ms. flat_map map_line (map mapped_of ms)) of_mappings;
+  written = written ∙ (ap (flat_map (λ m. map_line (mapped_of m))) of_mappings ∙ sym (flat_map-map map_line mapped_of mappings));
   tells = refl;
 }
 
@@ -112,3 +116,31 @@ pub some_id : (specs : List RefSpecRef) (k : ℕ) (s : RefSpecRef) → k < lengt
 some_id (x ∷ specs) zero s below is has none = none.0 (subst (λ (t : RefSpecRef). HasIdDestination (reading_of t)) is has)
 some_id (x ∷ specs) (suc k) s below is has none = some_id specs k s (omega (arith, below)) is has none.1
 some_id [] k s below is has none = omega (arith, below)
+
+-- what remains after validation is written, and then the fixes
+pub validated_shown : (g h : MatchGroup) (items : List Ref) (mappings valid lent : List Mapping) (fixes lent_fixes : List Fix) (lines output : List ℕ) → h ≡ g → AreKeptForward (readings_of g) items (map mapped_of mappings) → IsValidated (readings_of h) (map mapped_of mappings) (map mapped_of valid) (map removed_of fixes) → lent ≡ valid → lines ≡ flat_map (λ m. map_line (mapped_of m)) lent → lent_fixes ≡ fixes → PutsFixes (map removed_of lent_fixes) lines output → IsPlan (readings_of g) items output false
+validated_shown g h items mappings valid lent fixes lent_fixes lines output same kept is of_valid are_lines of_fixes (fixed, are, put) = record {
+  mappings = map mapped_of mappings;
+  kept = kept;
+  shows = record {
+    rest = map mapped_of valid;
+    fixes = map removed_of fixes;
+    fixed = fixed;
+    is = subst (λ (k : MatchGroup). IsValidated (readings_of k) (map mapped_of mappings) (map mapped_of valid) (map removed_of fixes)) same is;
+    are = subst (λ (fs : List Fix). AreFixLines (map removed_of fs) fixed) of_fixes are;
+    written = put ∙ ap (λ l. l ++ fixed) (are_lines ∙ (ap (flat_map (λ m. map_line (mapped_of m))) of_valid ∙ sym (flat_map-map map_line mapped_of valid)));
+  };
+}
+
+-- conflicts are written alone
+pub conflicts_shown : (g h : MatchGroup) (items : List Ref) (mappings : List Mapping) (issues lent : List Issue) (output : List ℕ) → h ≡ g → AreKeptForward (readings_of g) items (map mapped_of mappings) → (map conflict_of issues ≢ []) × AreConflicts (readings_of h) (map mapped_of mappings) (map conflict_of issues) → lent ≡ issues → output ≡ flat_map (λ i. conflict_line (conflict_of i)) lent → IsPlan (readings_of g) items output true
+conflicts_shown g h items mappings issues lent output same kept (some, are) of_issues written = record {
+  mappings = map mapped_of mappings;
+  kept = kept;
+  shows = record {
+    conflicts = map conflict_of issues;
+    are = subst (λ (k : MatchGroup). AreConflicts (readings_of k) (map mapped_of mappings) (map conflict_of issues)) same are;
+    some = some;
+    written = written ∙ (ap (flat_map (λ i. conflict_line (conflict_of i))) of_issues ∙ sym (flat_map-map conflict_line conflict_of issues));
+  };
+}

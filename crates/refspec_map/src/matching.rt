@@ -14,7 +14,7 @@ ghost use Rattle.refspec_map.specs.Told.{AsksForNoId, HasIdDestination, told};
 use crate::command::Matching;
 use crate::fault::Fault;
 use crate::line::{Entries, ToldRef, is_id, push};
-use crate::output::mapping_lines;
+use crate::output::lines_of;
 use crate::plan::plan;
 use bstr::ByteSlice;
 use gix_refspec::match_group::Item;
@@ -49,7 +49,7 @@ fn lhs_lines(alloc: Global, input: &[u8]) -> Result<(Vec<u8>, bool), Fault>
     let Entries { specs, items, .. } = Entries::read(alloc, input, Some(&blank))?;
     let group = MatchGroup { specs };
     let outcome = group.match_lhs(alloc, items.as_slice())?;
-    Ok((mapping_lines(alloc, outcome.mappings.as_slice())?, false))
+    Ok((lines_of(alloc, outcome.mappings.as_slice())?, false))
 }
 
 // The lines of what the right sides match, and false.
@@ -77,7 +77,7 @@ fn rhs_by_name(alloc: Global, input: &[u8]) -> Result<Option<(Vec<u8>, bool)>, F
     }
     let group = MatchGroup { specs };
     let outcome = group.match_rhs(alloc, items.as_slice())?;
-    Ok(Some((mapping_lines(alloc, outcome.mappings.as_slice())?, false)))
+    Ok(Some((lines_of(alloc, outcome.mappings.as_slice())?, false)))
 }
 
 // The same, of refs with their ids. The input is read once more for them.
@@ -90,7 +90,7 @@ fn rhs_by_id(alloc: Global, input: &[u8]) -> Result<(Vec<u8>, bool), Fault>
     let items = items_of(alloc, refs.as_slice())?;
     let group = MatchGroup { specs };
     let outcome = group.match_rhs(alloc, items.as_slice())?;
-    Ok((mapping_lines(alloc, outcome.mappings.as_slice())?, false))
+    Ok((lines_of(alloc, outcome.mappings.as_slice())?, false))
 }
 
 // Whether the destination of some spec is an id.

@@ -6,7 +6,7 @@ ghost use Rattle.refspec_map.specs.Fault.{IsMemory};
 ghost use Rattle.refspec_map.specs.Plan.{IsPlan};
 
 use crate::fault::Fault;
-use crate::output::{conflict_lines, mapping_lines, put_fixes};
+use crate::output::{lines_of, put_fixes};
 use gix_refspec::match_group::Item;
 use gix_refspec::match_group::validate::Refusal;
 use gix_refspec::{MatchGroup, laws};
@@ -27,13 +27,11 @@ pub(crate) fn plan(
     laws::forward_fits(&outcome.group, items);
     match outcome.validated(alloc) {
         Ok((valid, fixes)) => {
-            let mut lines = mapping_lines(alloc, valid.mappings.as_slice())?;
+            let mut lines = lines_of(alloc, valid.mappings.as_slice())?;
             put_fixes(&mut lines, fixes.as_slice())?;
             Ok((lines, false))
         }
-        Err(Refusal::Conflicts(error)) => {
-            Ok((conflict_lines(alloc, error.issues.as_slice())?, true))
-        }
+        Err(Refusal::Conflicts(error)) => { Ok((lines_of(alloc, error.issues.as_slice())?, true)) }
         Err(Refusal::Memory(_)) => Err(Fault::Memory),
     }
 }
