@@ -22,7 +22,7 @@ use Rattle.gix_refspec.proofs.RefusalLemmas.{one_refusal}
 use Rattle.refspec_map.specs.declared.command.Command.TheVariants as command
 use Rattle.refspec_map.specs.Fault.{name_of}
 use Rattle.refspec_map.specs.Input.{newline, ReadsToEnd}
-use Rattle.refspec_map.specs.Output.{Answer, accepted, refused, IsAnswer, line_of, is_refused, any_refused, IsCanon}
+use Rattle.refspec_map.specs.Output.{Answer, accepted, refused, IsAnswer, answer_line, is_refused, any_refused, IsCanon}
 use Rattle.refspec_map.specs.Run.{Answers}
 use Rattle.refspec_map.proofs.LineFacts.{Lacks-tested, lines_once}
 use Rattle.refspec_map.proofs.OutputLemmas.{or_false}
@@ -74,12 +74,12 @@ answers_for_a_fetch = record {
 record OneAnswer (op : Operation) (line output : List ℕ) (refusal : Bool) : Type 0 where
   answer : Answer
   is : IsAnswer op line answer
-  written : output ≡ line_of answer
+  written : output ≡ answer_line answer
   tells : refusal ≡ is_refused answer
 
-one_answer_by : (op : Operation) (line output : List ℕ) (refusal : Bool) (answers : List Answer) → AllZip (IsAnswer op) (line ∷ []) answers → output ≡ flat_map line_of answers → refusal ≡ any_refused answers → OneAnswer op line output refusal
+one_answer_by : (op : Operation) (line output : List ℕ) (refusal : Bool) (answers : List Answer) → AllZip (IsAnswer op) (line ∷ []) answers → output ≡ flat_map answer_line answers → refusal ≡ any_refused answers → OneAnswer op line output refusal
 one_answer_by op line output refusal [] told written tells = absurd told
-one_answer_by op line output refusal (a ∷ []) told written tells = record { answer = a; is = told.0; written = written ∙ append-nil (line_of a); tells = tells ∙ or_false (is_refused a) }
+one_answer_by op line output refusal (a ∷ []) told written tells = record { answer = a; is = told.0; written = written ∙ append-nil (answer_line a); tells = tells ∙ or_false (is_refused a) }
 one_answer_by op line output refusal (a ∷ b ∷ answers) told written tells = absurd told.1
 
 one_answer : (op : Operation) (line output : List ℕ) (refusal : Bool) → Lacks newline line → IsCanon op (line ++ (newline ∷ [])) output refusal → OneAnswer op line output refusal
@@ -89,12 +89,12 @@ one_answer op line output refusal lacks is =
 
 -- every answer to the line is written as this one
 abbrev IsOnly : Operation → List ℕ → Answer → Type 0
-IsOnly op line a = (b : Answer) → IsAnswer op line b → (line_of b ≡ line_of a) × (is_refused b ≡ is_refused a)
+IsOnly op line a = (b : Answer) → IsAnswer op line b → (answer_line b ≡ answer_line a) × (is_refused b ≡ is_refused a)
 
 only_read : (op : Operation) (line : List ℕ) (r : Reading) (text : List ℕ) → Reads op line r → printed r ≡ Some text → IsOnly op line (accepted text)
 only_read op line r text reads prints (accepted other) (q, also, prints_other) =
     let same = some_once other text (sym prints_other ∙ (ap printed (reads_once op line q r also reads) ∙ prints)) in
-    (ap (λ t. line_of (accepted t)) same, refl)
+    (ap (λ t. answer_line (accepted t)) same, refl)
 only_read op line r text reads prints (refused e) is = absurd (is.unread r reads)
 
 same_name : (e f : Refusal) → IsSameReason e f → name_of e ≡ name_of f
@@ -108,7 +108,7 @@ only_refused op line e is (refused f) also = (ap (λ n. codes "err " ++ (n ++ (n
 -- what a run over an input of one line leaves and writes, and its status
 record Ends (rest before after : List ℕ) (status : ℕ) (a : Answer) : Type 0 where
   pub left : rest ≡ []
-  pub written : after ≡ before ++ line_of a
+  pub written : after ≡ before ++ answer_line a
   pub tells : status ≡ (if is_refused a then 1 else 0)
 
 ends_by : (op : Operation) (line : List ℕ) (a : Answer) (input output rest before after : List ℕ) (refusal : Bool) (status : ℕ) → Lacks newline line → IsOnly op line a → ReadsToEnd (Some (line ++ (newline ∷ []))) (Some rest) input → IsCanon op input output refusal → after ≡ before ++ output → status ≡ (if refusal then 1 else 0) → Ends rest before after status a

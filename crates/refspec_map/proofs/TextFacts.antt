@@ -16,7 +16,7 @@ use Rattle.refspec_map.specs.declared.command.Matching.TheVariants as matching
 use Rattle.refspec_map.specs.declared.fault.Fault.TheVariants as fault
 use Rattle.refspec_map.specs.Fault.{name_of, status_of, IsMemory}
 use Rattle.refspec_map.specs.Matching.{map_line}
-use Rattle.refspec_map.specs.Output.{accepted, refused, line_of, any_refused}
+use Rattle.refspec_map.specs.Output.{accepted, refused, answer_line, any_refused}
 use Rattle.refspec_map.specs.Plan.{conflict_line, IsFixLine}
 use Rattle.refspec_map.specs.Words.{words_of, AreWordsOf}
 
@@ -56,7 +56,7 @@ memory = (tt, λ is. is, λ is. is)
 
 -- ---- lines that are printed
 
-pub answer_lines : map line_of (accepted (codes "a:b") ∷ refused (ReferenceName LockSuffix) ∷ []) ≡ codes "ok a:b\n" ∷ codes "err ReferenceName\n" ∷ []
+pub answer_lines : map answer_line (accepted (codes "a:b") ∷ refused (ReferenceName LockSuffix) ∷ []) ≡ codes "ok a:b\n" ∷ codes "err ReferenceName\n" ∷ []
 answer_lines = refl
 
 -- one refusal is enough, wherever it stands

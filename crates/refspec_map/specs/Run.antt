@@ -53,7 +53,7 @@ pub record IsGood (command : Command) (old new : Option (List ℕ)) : Type 0 whe
   pub read : ReadsToEnd old new input
   pub good : (f : Fault) → ¬ (IsBad command input f)
 
--- when a fault comes
+-- when each fault is returned
 abbrev pub Explains : Command → Option (List ℕ) → Option (List ℕ) → Fault → Type 0
 Explains command old new fault.TooLong = IsTooLong old new
 Explains command old new fault.Read = ⊤
@@ -62,7 +62,7 @@ Explains command old new (fault.Spec number error) = (input : List ℕ) × Reads
 Explains command old new fault.Memory = ⊤
 Explains command old new fault.Write = ⊤
 
--- what was written before a fault: nothing, but where the writer failed
+-- what was written before a fault: nothing, unless the writer failed
 abbrev pub Leaves : Option (List ℕ) → Option (List ℕ) → Fault → Type 0
 Leaves old new fault.Write = ⊤
 Leaves old new _ = Keeps old new

@@ -1,4 +1,4 @@
--- What a clause reads of what the program holds of its input.
+-- What the program holds of its input, as plain data.
 use Rattle.std.specs.Prelude.{◌≡◌, ℕ, List, [], ◌∷◌, ◌++◌, Option, None, Some, option_map, map, ⊤}
 use Rattle.std.specs.List.{AllByRecursion, AllZip}
 use Rattle.bstr.specs.BStr.{bstr_bytes}
@@ -27,12 +27,12 @@ bare r = record { name = r.name; target = []; object = None }
 abbrev pub named : Item → Ref
 named i = record { name = bstr_bytes i.full_ref_name; target = []; object = None }
 
--- the id was read as the other one; where an id is lent for it, as whatever that is
+-- the id was read as the second one; with a blank in its place, as any
 abbrev pub IsReadAs : {A : Type 0} → Option A → List ℕ → List ℕ → Type 0
 IsReadAs None id made = made ≡ id
 IsReadAs (Some blank) id made = ⊤
 
--- the ref was read as the other one; where an id is lent for its own, by its name alone
+-- the ref was read as the second one; with a blank for its ids, by its name alone
 abbrev pub IsSeenAs : {A : Type 0} → Option A → Ref → Ref → Type 0
 IsSeenAs None r made = made ≡ r
 IsSeenAs (Some blank) r made = bare made ≡ bare r
@@ -50,7 +50,7 @@ HasIdDestination r = (text : List ℕ) × (r.destination ≡ Some text) × IsId 
 abbrev pub AsksForNoId : List Reading → Type 0
 AsksForNoId g = AllByRecursion (λ r. ¬ (HasIdDestination r)) g
 
--- what is kept of refs: all, or where an id is lent for their own, their names
+-- what is kept of refs: all, or with a blank for their ids only their names
 abbrev pub seen : {A : Type 0} → Option A → List Ref → List Ref
 seen None refs = refs
 seen (Some blank) refs = map bare refs
@@ -60,12 +60,12 @@ abbrev pub kept_refs : {A : Type 0} → Option A → Entries → List Ref
 kept_refs None made = map told made.refs.items
 kept_refs (Some blank) made = map named made.items.items
 
--- a ref was put behind the old entries, as it is kept
+-- a ref was appended to the old entries, as it is kept
 pub record AddsRef {A : Type 0} (blank : Option A) (r : Ref) (old new : Entries) : Type 0 where
   pub specs : new.specs ≡ old.specs
   pub refs : kept_refs blank new ≡ kept_refs blank old ++ seen blank (r ∷ [])
 
--- what the line gives was put behind the old entries
+-- what the line gives was appended to the old entries
 pub record Adds {A : Type 0} (blank : Option A) (line : List ℕ) (old new : Entries) : Type 0 where
   pub entry : Entry
   pub gives : Gives line entry

@@ -48,7 +48,7 @@ impl<'a> ToldRef<'a> {
         }
     }
 
-    // The ref as an item that has its name alone, and this id in the place of its own.
+    // The ref as an item with only its name, and this id instead of its own.
     fn as_named(&self, blank: &'a ObjectId) -> Item<'a>
         ensures { named result ≡ bare (told self.now) }
     {
@@ -68,8 +68,8 @@ enum Said<'a> {
     Ref(ToldRef<'a>),
 }
 
-/// What the lines of an input give, each kind in order. The refs are in one of the two lists: whole, or
-/// as items that have their names alone.
+/// The specs and refs of an input, each kind in order. Refs are in one of the two lists: with their ids,
+/// or as items with only their names.
 #[derive(Drop)]
 pub(crate) struct Entries<'a> {
     pub(crate) specs: Vec<RefSpecRef<'a>>,
@@ -80,8 +80,8 @@ pub(crate) struct Entries<'a> {
 impl<'a> Entries<'a> {
     ghost use Rattle.refspec_map.specs.Told.{Adds, AreEntries, AddsRef};
 
-    /// Reads the lines of an input, up to the first bad one. The refs are whole; or, where an id is
-    /// lent, they are items that have their names, and this id in the place of their own.
+    /// Reads the lines of an input, up to the first bad one. Refs have their ids; with `blank` they are
+    /// items with only their names, and that id instead of their own.
     pub(crate) fn read(
         alloc: Global,
         input: &'a [u8],
@@ -106,7 +106,7 @@ impl<'a> Entries<'a> {
         Ok(entries)
     }
 
-    // Adds what a line gives, which has this number.
+    // Adds the spec or ref of the line with this number.
     fn add(
         &mut self,
         alloc: Global,
@@ -150,7 +150,7 @@ pub(crate) fn push<T: Drop>(list: &mut Vec<T>, value: T) -> Result<(), Fault>
     }
 }
 
-// The spec that the text of a line is for a fetch. The line has this number.
+// The spec that a text reads as for a fetch. Its line has this number.
 fn spec_of(alloc: Global, number: usize, text: BStr<'_>) -> Result<RefSpecRef<'_>, Fault>
     ensures ok { IfOk result (λ s. Reads Fetch (bstr_bytes text.entry) (reading_of s)) }
     ensures err { IfErr result (λ f. IsMemory f
@@ -170,7 +170,7 @@ fn spec_of(alloc: Global, number: usize, text: BStr<'_>) -> Result<RefSpecRef<'_
     }
 }
 
-// What a line says, where it has a form. Where an id is lent, a ref has this one in the place of its own.
+// What a line says; `None` if it is malformed. With `blank` a ref has that id instead of its own.
 fn said_by<'a>(line: &'a [u8], blank: Option<&ObjectId>) -> Option<Said<'a>>
     ensures { MatchOption result (IsMalformed line.now) (IsSaidAs blank.entry line.now) }
 {
@@ -217,8 +217,8 @@ fn tag_line<'a>(line: &'a [u8], blank: Option<&ObjectId>) -> Option<ToldRef<'a>>
     })
 }
 
-// The id that the first word of a text spells, or the one that is lent, and what follows the space after
-// the word.
+// The id that the first word of a text spells, or `blank`, and what follows the space after that word.
+#[inline(always)]
 fn id_then<'a>(text: &'a [u8], blank: Option<&ObjectId>) -> Option<(ObjectId, &'a [u8])>
     ensures { MatchOption result
         ((id rest : List ℕ) → ¬ (IsIdThen text.now id rest))
@@ -230,7 +230,8 @@ fn id_then<'a>(text: &'a [u8], blank: Option<&ObjectId>) -> Option<(ObjectId, &'
     Some((id, rest))
 }
 
-// The id that a word spells. Where another is lent, the word is only checked, and that one is returned.
+// The id that a word spells. With `blank` the word is only checked, and that id is returned.
+#[inline(always)]
 fn id_of(word: &[u8], blank: Option<&ObjectId>) -> Option<ObjectId>
     ensures { MatchOption result
         ((id : List ℕ) → ¬ (IsIdText word.now id))
@@ -248,6 +249,7 @@ fn id_of(word: &[u8], blank: Option<&ObjectId>) -> Option<ObjectId>
 }
 
 /// Whether a text spells an id.
+#[inline(always)]
 pub(crate) fn is_id(text: &[u8]) -> bool
     ensures { MatchBool result (IsId text.now) (¬ (IsId text.now)) }
 {
@@ -258,7 +260,8 @@ pub(crate) fn is_id(text: &[u8]) -> bool
     }
 }
 
-// Whether all bytes of a text are hexadecimal digits. It looks at all of them, and so at several at once.
+// Whether all bytes of a text are hexadecimal digits. Without an early end, several are tested at once.
+#[inline(always)]
 fn are_digits(text: &[u8]) -> bool
     ensures { result ≡ list_all is_hex_digit text.now }
 {
@@ -276,7 +279,7 @@ fn is_digit(byte: u8) -> bool
     matches!(byte, b'A'..=b'F' | b'a'..=b'f' | b'0'..=b'9')
 }
 
-// The first word of a text, which ends at its first space, and what follows that space.
+// What precedes and follows the first space of a text.
 fn first_word(text: &[u8]) -> Option<(&[u8], &[u8])>
     ensures { MatchOption result
         (Lacks space text.now)
@@ -287,7 +290,7 @@ fn first_word(text: &[u8]) -> Option<(&[u8], &[u8])>
     Some((word, &back[1..]))
 }
 
-// What stands behind a keyword.
+// What follows a keyword.
 fn behind<'a>(line: &'a [u8], keyword: &[u8]) -> Option<&'a [u8]>
     ensures { MatchOption result
         ((rest : List ℕ) → line.now ≢ keyword.now ++ rest)

@@ -1,4 +1,4 @@
-//! What the specs of an input match among its refs.
+//! Matching the specs of an input against its refs.
 
 ghost use Rattle.std.specs.Prelude.{◌≡◌, ◌⊎◌, map, IfOk, IfErr, IfSome, MatchBool};
 ghost use Rattle.gix_refspec.specs.Group.{ref_of};
@@ -39,7 +39,7 @@ pub(crate) fn match_lines(
     }
 }
 
-// The lines of what the left sides take, and false. They take refs by their names alone.
+// The lines of the mappings from left to right, and false. They depend on no id of a ref.
 fn lhs_lines(alloc: Global, input: &[u8]) -> Result<(Vec<u8>, bool), Fault>
     ensures ok { IfOk result (λ made.
         IsMatching (AreMapLines AreKeptForward) input.now made.0.items made.1) }
@@ -52,7 +52,7 @@ fn lhs_lines(alloc: Global, input: &[u8]) -> Result<(Vec<u8>, bool), Fault>
     Ok((lines_of(alloc, outcome.mappings.as_slice())?, false))
 }
 
-// The lines of what the right sides match, and false.
+// The lines of the mappings from right to left, and false.
 fn rhs_lines(alloc: Global, input: &[u8]) -> Result<(Vec<u8>, bool), Fault>
     ensures ok { IfOk result (λ made.
         IsMatching (AreMapLines AreKeptBackward) input.now made.0.items made.1) }
@@ -64,7 +64,7 @@ fn rhs_lines(alloc: Global, input: &[u8]) -> Result<(Vec<u8>, bool), Fault>
     }
 }
 
-// The same, of refs with their names alone. None where a right side is an id, which asks for theirs.
+// The same from the names of the refs alone. `None` if a destination is an id, which matches ids of refs.
 fn rhs_by_name(alloc: Global, input: &[u8]) -> Result<Option<(Vec<u8>, bool)>, Fault>
     ensures ok { IfOk result (λ found. IfSome found (λ made.
         IsMatching (AreMapLines AreKeptBackward) input.now made.0.items made.1)) }
@@ -80,7 +80,7 @@ fn rhs_by_name(alloc: Global, input: &[u8]) -> Result<Option<(Vec<u8>, bool)>, F
     Ok(Some((lines_of(alloc, outcome.mappings.as_slice())?, false)))
 }
 
-// The same, of refs with their ids. The input is read once more for them.
+// The same from refs with their ids, for which the input is read again.
 fn rhs_by_id(alloc: Global, input: &[u8]) -> Result<(Vec<u8>, bool), Fault>
     ensures ok { IfOk result (λ made.
         IsMatching (AreMapLines AreKeptBackward) input.now made.0.items made.1) }
@@ -119,7 +119,7 @@ fn has_id_destination(spec: &RefSpecRef<'_>) -> bool
     }
 }
 
-// The plan of what the left sides take.
+// The lines of a plan, and whether it has conflicts.
 fn planned(alloc: Global, input: &[u8]) -> Result<(Vec<u8>, bool), Fault>
     ensures ok { IfOk result (λ made. IsMatching IsPlan input.now made.0.items made.1) }
     ensures err { IfErr result (λ f. IsMemory f ⊎ IsFirstFault input.now f) }

@@ -24,9 +24,9 @@ use std::io::Write;
 /// The answer of a canon command to a line.
 #[derive(Clone, Copy)]
 pub(crate) enum Answer<'a> {
-    /// The line is this spec.
+    /// The line reads as this spec.
     Accepted(RefSpecRef<'a>),
-    /// The line is none, for the reason of this name.
+    /// The line is refused for the reason with this name.
     Refused(&'static str),
 }
 
@@ -67,7 +67,7 @@ impl<'a> Answer<'a> {
     }
 }
 
-/// What has a line of the output.
+/// A value that the output shows in a line of its own.
 pub(crate) trait HasLine {
     ghost line: { Self → List ℕ };
 
@@ -76,7 +76,7 @@ pub(crate) trait HasLine {
         ensures { OnOk result (output.new.items ≡ output.old.items ++ line self.now) };
 }
 
-/// The lines of some that have one, in order.
+/// The lines of values, in order.
 pub(crate) fn lines_of<L: HasLine>(alloc: Global, shown: &[L]) -> Result<Vec<u8>, Fault>
     ensures ok { IfOk result (λ lines. lines.items ≡ flat_map L.line shown.now) }
     ensures err { IfErr result IsMemory }
@@ -100,7 +100,7 @@ pub(crate) fn put_fixes(output: &mut Vec<u8>, fixes: &[Fix]) -> Result<(), Fault
     Ok(())
 }
 
-// How writing to a vector ended: it fails only if memory runs out.
+// The result of writing to a vector, which fails only if memory runs out.
 fn grown<E: Drop>(written: Result<(), E>) -> Result<(), Fault>
     ensures ok { OnOk result (IsOk written) }
     ensures err { IfErr result IsMemory }
@@ -125,7 +125,7 @@ impl HasLine for Mapping<'_, '_> {
     }
 }
 
-// Writes how the line of a mapping begins: the places of its spec and its item.
+// Writes the start of a mapping's line: the indexes of its spec and its item.
 fn write_places(output: &mut Vec<u8>, spec: usize, item: Option<usize>) -> Result<(), AllocError>
     ensures { OnOk result (output.new.items ≡ output.old.items
         ++ (codes "map\t" ++ (decimal spec ++ (tab ∷ (item_text item ++ (tab ∷ [])))))) }
@@ -137,7 +137,7 @@ fn write_places(output: &mut Vec<u8>, spec: usize, item: Option<usize>) -> Resul
     output.extend_from_slice(b"\t")
 }
 
-// Writes the place of an item, or `-` where there is none.
+// Writes the index of an item, or `-` without one.
 fn write_item(output: &mut Vec<u8>, item: Option<usize>) -> Result<(), AllocError>
     ensures { OnOk result (output.new.items ≡ output.old.items ++ item_text item) }
 {
@@ -175,7 +175,7 @@ fn write_id(output: &mut Vec<u8>, id: &ObjectId) -> Result<(), AllocError>
     }
 }
 
-// Writes a tab and the destination, where there is one.
+// Writes a tab and the destination, if there is one.
 fn write_destination(
     output: &mut Vec<u8>,
     destination: &Option<NameRef<'_>>,

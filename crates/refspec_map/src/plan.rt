@@ -1,4 +1,4 @@
-//! What a fetch can write of what its specs match, or why it can write nothing.
+//! What a fetch can write of the mappings of its specs, or the conflicts that keep it from writing.
 
 ghost use Rattle.std.specs.Prelude.{map, IfOk, IfErr};
 ghost use Rattle.gix_refspec.specs.Group.{readings_of, ref_of};
@@ -12,8 +12,8 @@ use gix_refspec::match_group::validate::Refusal;
 use gix_refspec::{MatchGroup, laws};
 use std::alloc::Global;
 
-/// The lines of the conflicts of what the left sides take, and true; or, without conflicts, those
-/// of the mappings that survive and of the fixes, and false.
+/// The lines of the conflicts among the mappings from left to right, and true; without conflicts those
+/// of the mappings that remain and of the fixes, and false.
 pub(crate) fn plan(
     alloc: Global,
     group: MatchGroup<'_>,
