@@ -198,7 +198,7 @@ def answered(program, command, specs, refs):
 
 
 def mappings(lines):
-    """The fields of each line of a mapping, behind the word; no generated name holds a tab."""
+    """The fields of each line of a mapping, after the word; no generated name holds a tab."""
     return [line.split(b"\t")[1:] for line in lines if line.startswith(b"map\t")]
 
 

@@ -322,13 +322,13 @@ def rewritten(kinds, specs, given):
 
 
 def has_late_id(specs):
-    """Whether an id stands behind another source."""
+    """Whether an id follows another source."""
     ids = [is_id(spec.source) for spec in map(split, specs) if is_positive(spec)]
     return ids != sorted(ids, reverse=True)
 
 
 def applying(kinds, specs, given):
-    """The kinds that rewrite something, each behind those before it, for all refs or for a local one."""
+    """The kinds that rewrite something, each after those before it, for all refs or for a local one."""
     found = []
     for kind in kinds:
         made = kind.rule(specs, given)

@@ -9,7 +9,7 @@ import specs  # beside this script
 
 BASES = [b"refs/heads/"] * 4 + [b"refs/tags/", b"refs/remotes/o/", b"refs/x/", b"refs/", b"", b"tags/", b"remotes/", b"heads/"]
 LEAVES = [b"a", b"aa", b"ab", b"ba", b"b", b"main", b"x/a", b"a/b", b"v1.0", b"HEAD"]
-# What stands before and behind a star, for the most part nothing.
+# What precedes and follows a star, mostly nothing.
 EDGES = [b""] * 5 + [b"a", b"aa", b"ab", b"b", b"a/", b"/a", b"-x", b"x/"]
 BETWEEN = [b"", b"a", b"b", b"main", b"a/b", b"aa", b"\xc3\xa9", b"*", b" x"]
 # What a partial name may be short for, in the order in which these are tried.

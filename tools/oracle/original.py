@@ -1,4 +1,4 @@
-"""The programs that a tool takes: this one, and the original crate behind the same words."""
+"""The programs that a tool takes: this one, and the original crate behind the same commands."""
 import os
 import sys
 

@@ -102,7 +102,7 @@ def stored(mark):
 
 
 def rows():
-    """The texts of tests: those of rows, and each byte but the newline before, between and behind letters."""
+    """The texts of tests: those of rows, and each byte but the newline before, between and after letters."""
     yield from stored(b"< ")
     for byte in (bytes([code]) for code in range(256) if code != 10):
         yield from (byte + b"a", b"a" + byte + b"b", b"a" + byte)
