@@ -6,8 +6,8 @@ use crate::input::INPUT_LIMIT;
 use crate::run::run;
 use bstr::BStr;
 use gix_refspec::parsing::Operation;
-use std::alloc::AllocGlobal;
-use std::io;
+use std::alloc::{AllocError, AllocGlobal, Global};
+use std::io::{self, Read, Write};
 use std::process::Abort;
 use std::test::Fail;
 
@@ -58,6 +58,18 @@ fn reads_one_byte_a_call(rt: HostRuntime) -> Result<(), Fail> {
     check_by_bytes(&rt, Command::Match(Matching::Plan), LINES, planned, 0)
 }
 
+// How a run of `canon push` ends.
+fn end_of_push<R: Read, W: Write>(
+    alloc: Global,
+    reader: &mut R,
+    writer: &mut W,
+) -> Result<String, AllocError> {
+    end_of(
+        alloc,
+        run(alloc, Command::Canon(Operation::Push), reader, writer),
+    )
+}
+
 // The reader of a row would give the rest of the input, or its end, at the next call.
 #[test]
 fn tries_no_read_again(rt: HostRuntime) -> Result<(), Fail> {
@@ -78,14 +90,8 @@ fn tries_no_read_again(rt: HostRuntime) -> Result<(), Fail> {
         let mut writer = CallWriter {
             calls: Vec::new(rt.alloc()),
         };
-        let ended = run(
-            rt.alloc(),
-            Command::Canon(Operation::Push),
-            &mut reader,
-            &mut writer,
-        );
         assert_eq!(rt;
-            end_of(rt.alloc(), ended)?.as_str(),
+            end_of_push(rt.alloc(), &mut reader, &mut writer)?.as_str(),
             "read failed",
             "at read {number}"
         );
@@ -225,14 +231,8 @@ fn stops_where_the_writer_fails(rt: HostRuntime) -> Result<(), Fail> {
             taken: Vec::new(rt.alloc()),
             calls: Vec::new(rt.alloc()),
         };
-        let ended = run(
-            rt.alloc(),
-            Command::Canon(Operation::Push),
-            &mut reader,
-            &mut writer,
-        );
         assert_eq!(rt;
-            end_of(rt.alloc(), ended)?.as_str(),
+            end_of_push(rt.alloc(), &mut reader, &mut writer)?.as_str(),
             end,
             "at {most} and {fails_at}"
         );
