@@ -79,7 +79,7 @@ def compare(header, archive):
 def replay(program):
     count = 0
     cases = {"fetch": [], "push": []}
-    with open(os.path.join(HERE, "canon.sample"), "rb") as file:
+    with open(os.path.join(HERE, "samples", "canon.sample"), "rb") as file:
         for line in file:
             if not line.startswith(b"#"):
                 operation, text, answer = line.rstrip(b"\n").split(b"\t")[:3]
@@ -103,7 +103,7 @@ def replay(program):
 
 def groups_of(name):
     groups = []
-    with open(os.path.join(HERE, name), "rb") as file:
+    with open(os.path.join(HERE, "samples", name), "rb") as file:
         for line in file.read().split(b"\n"):
             if line == b"":
                 groups.append(([], []))

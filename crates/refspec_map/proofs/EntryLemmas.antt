@@ -16,7 +16,7 @@ use Rattle.refspec_map.specs.declared.line.Entries.{Entries}
 use Rattle.refspec_map.specs.Fault.{IsMemory}
 use Rattle.refspec_map.specs.Input.{newline, AreLines, IsFirstLine}
 use Rattle.refspec_map.specs.Line.{Entry, reading, ref, spec, item, Says, Gives, readings_in, refs_in, IsFaultOf, IsFirstFault}
-use Rattle.refspec_map.specs.Told.{told, bare, named, seen, kept_refs, AddsRef, Adds, AreEntries}
+use Rattle.refspec_map.specs.Told.{IsSeenAs, told, bare, named, seen, kept_refs, AddsRef, Adds, AreEntries}
 use Rattle.refspec_map.proofs.OutputLemmas.{lines_more}
 
 -- a whole ref was put behind the entries
@@ -27,13 +27,18 @@ AddsRef-whole A r old new t same pushed = on_ok_weaker r (λ put. record { specs
 pub AddsRef-name : {T E A : Type 0} (r : Result T E) (old new : Entries) (blank : A) (t : Ref) (i : Item) → named i ≡ bare t → new.specs ≡ old.specs → OnOk r (new.items.items ≡ old.items.items ++ i ∷ []) → OnOk r (AddsRef (Some blank) t old new)
 AddsRef-name r old new blank t i is same pushed = on_ok_weaker r (λ put. record { specs = same; refs = ap (map named) put ∙ (map-append named old.items.items (i ∷ []) ∙ ap (λ n. map named old.items.items ++ n ∷ []) is) }) pushed
 
+-- a ref is kept as it was seen
+seen_same : {A : Type 0} (blank : Option A) (r t : Ref) → IsSeenAs blank r t → seen blank (t ∷ []) ≡ seen blank (r ∷ [])
+seen_same None r t same = ap (λ x. x ∷ []) same
+seen_same (Some blank) r t same = ap (λ x. x ∷ []) same
+
 -- a ref was put behind the entries
-pub Adds-ref : {T E A : Type 0} (r : Result T E) (blank : Option A) (line : List ℕ) (old new : Entries) (t : Ref) → Says line (item t) → OnOk r (AddsRef blank t old new) → OnOk r (Adds blank line old new)
-Adds-ref r blank line old new t says added = on_ok_weaker r (λ is. record {
-  entry = ref t;
+pub Adds-ref : {T E A : Type 0} (r : Result T E) (blank : Option A) (line : List ℕ) (old new : Entries) (t : Ref) → (s : Ref) × Says line (item s) × IsSeenAs blank s t → OnOk r (AddsRef blank t old new) → OnOk r (Adds blank line old new)
+Adds-ref r blank line old new t (s, says, same) added = on_ok_weaker r (λ is. record {
+  entry = ref s;
   gives = says;
   specs = ap (λ v. map reading_of v.items) is.specs ∙ sym (append-nil (map reading_of old.specs.items));
-  refs = is.refs;
+  refs = is.refs ∙ ap (λ l. kept_refs blank old ++ l) (seen_same blank s t same);
 }) added
 
 no_refs : {A : Type 0} (blank : Option A) → seen blank [] ≡ []

@@ -1,12 +1,20 @@
 -- The forms of lines: what an id and the rest of a line are is settled by the first space.
-use Rattle.std.proofs.Common.{◌≡◌, ◌≢◌, inl, inr, ℕ, List, [], ◌∷◌, ◌++◌, get_or, drop, codes, sym, ap, ◌∙◌, subst, refl}
+use Rattle.std.proofs.Common.{◌≡◌, ◌≢◌, ◌⊎◌, inl, inr, ℕ, suc, Option, None, Some, List, [], ◌∷◌, ◌++◌, Bool, true, false, ◌&&◌, MatchBool, get_or, slice_index, length, drop, codes, sym, ap, ◌∙◌, subst, refl, arith}
+use Rattle.std.specs.List.{SomeIndex, list_all}
+use Rattle.std.proofs.lemmas.Bool.{false≢true}
+use Rattle.std.proofs.lemmas.List.Sums.{AllPass-from_list_all}
 use Rattle.std.proofs.lemmas.List.{append_cancel_left}
 use Rattle.gix_refspec.specs.declared.oid.Error.{Error as IdError}
+use Rattle.gix_refspec.specs.declared.oid.Error.TheVariants.{Digit, Length}
+use Rattle.hex.specs.Hex.{is_hex_digit}
+use Rattle.gix_refspec.specs.declared.oid.Kind.TheVariants.{Sha1, Sha256}
 use Rattle.gix_refspec.specs.Texts.Words.{Lacks}
-use Rattle.gix_refspec.specs.Texts.ObjectId.{IsIdText, HasIdFault}
+use Rattle.gix_refspec.specs.Texts.ObjectId.{IsIdText, IsIdLength, HasIdFault}
+use Rattle.gix_refspec.specs.Matching.Side.{IsId}
 use Rattle.gix_refspec.specs.Laws.Readings.{IdOrFault}
 use Rattle.gix_refspec.specs.Matching.Match.{Ref}
 use Rattle.refspec_map.specs.Line.{space, IsIdThen, IsRefLine, IsTagLine, spec, item, IsMalformed}
+use Rattle.refspec_map.specs.Told.{IsReadAs, IsSeenAs}
 
 -- a text that lacks a byte has no place with it
 pub Lacks-here : (b : ℕ) (front back : List ℕ) → Lacks b (front ++ (b ∷ back)) → ⊥
@@ -34,18 +42,66 @@ pub no_IsIdThen : (text : List ℕ) → Lacks space text → (id rest : List ℕ
 no_IsIdThen text lacks id rest is = Lacks-here space is.word rest (subst (Lacks space) is.here lacks)
 
 -- a text with a fault is that of no id
-unspelled : (t : List ℕ) (e : IdError) → IdOrFault t → HasIdFault t e → (i : List ℕ) → ¬ (IsIdText t i)
+pub unspelled : (t : List ℕ) (e : IdError) → IdOrFault t → HasIdFault t e → (i : List ℕ) → ¬ (IsIdText t i)
 unspelled t e (inl one) fault i is = one.sound e fault
 unspelled t e (inr one) fault i is = one.unread i is
 
--- where the first word is no id, none stands there
+-- where the first word spells no id, none stands there
+pub no_IsIdThen-word : (text word rest : List ℕ) → text ≡ word ++ (space ∷ rest) → Lacks space word → ((id : List ℕ) → ¬ (IsIdText word id)) → (id after : List ℕ) → ¬ (IsIdThen text id after)
+no_IsIdThen-word text word rest here ends none id after is = none id (IsIdThen-cut text word rest id after here ends is).0
+
+-- nor where it has a fault
 pub no_IsIdThen-fault : (text word rest : List ℕ) (e : IdError) → IdOrFault word → text ≡ word ++ (space ∷ rest) → Lacks space word → HasIdFault word e → (id after : List ℕ) → ¬ (IsIdThen text id after)
-no_IsIdThen-fault text word rest e either here ends fault id after is =
-    unspelled word e either fault id (IsIdThen-cut text word rest id after here ends is).0
+no_IsIdThen-fault text word rest e either here ends fault = no_IsIdThen-word text word rest here ends (unspelled word e either fault)
+
+-- as many digits as spell an id have no fault
+no_id_fault : (t : List ℕ) (e : IdError) → IsIdLength (length t) → list_all is_hex_digit t ≡ true → HasIdFault t e → ⊥
+no_id_fault t (Length len) size all has = has.1 size
+no_id_fault t Digit size all has = false≢true (sym has.1.2 ∙ AllPass-from_list_all is_hex_digit t all has.1.0 0 has.1.1)
+
+-- they spell an id
+pub IsId-digits : (t : List ℕ) → IdOrFault t → IsIdLength (length t) → list_all is_hex_digit t ≡ true → IsId t
+IsId-digits t (inl one) size all = (one.id, one.text)
+IsId-digits t (inr one) size all = absurd (no_id_fault t one.fault size all one.has)
+
+some_other_by : (c : ℕ) (t : List ℕ) (digit : Bool) → is_hex_digit c ≡ digit → (digit && list_all is_hex_digit t) ≡ false → (list_all is_hex_digit t ≡ false → SomeIndex t (λ k. is_hex_digit (slice_index t k) ≡ false)) → SomeIndex (c ∷ t) (λ k. is_hex_digit (slice_index (c ∷ t) k) ≡ false)
+some_other_by c t false is all later = (0, omega arith, is)
+some_other_by c t true is all later = let rest = later all in (suc rest.0, (let below = rest.1 in omega arith), rest.2)
+
+-- where not all bytes are digits, some byte is none
+some_other : (t : List ℕ) → list_all is_hex_digit t ≡ false → SomeIndex t (λ k. is_hex_digit (slice_index t k) ≡ false)
+some_other [] all = absurd (false≢true (sym all))
+some_other (c ∷ t) all = some_other_by c t (is_hex_digit c) refl all (some_other t)
+
+-- a text with another byte, or of another length, spells no id
+pub no_id_byte : (t : List ℕ) → IdOrFault t → IsIdLength (length t) → list_all is_hex_digit t ≡ false → ¬ (IsId t)
+no_id_byte t either size all is = unspelled t Digit either (size, some_other t all) is.0 is.1
+
+pub no_id_length : (t : List ℕ) → IdOrFault t → ¬ (IsIdLength (length t)) → ¬ (IsId t)
+no_id_length t either size is = unspelled t (Length (length t)) either (refl, size) is.0 is.1
+
+-- these are the lengths of ids
+pub id_size : (n : ℕ) → (n ≡ 40) ⊎ (n ≡ 64) → IsIdLength n
+id_size n (inl same) = (Sha1, same)
+id_size n (inr same) = (Sha256, same)
+
+-- whether as many bytes as spell an id are digits tells whether they spell one
+pub are_digits-tell : (t : List ℕ) (digits : Bool) → IdOrFault t → IsIdLength (length t) → digits ≡ list_all is_hex_digit t → MatchBool digits (IsId t) (¬ (IsId t))
+are_digits-tell t true either size same = IsId-digits t either size (sym same)
+are_digits-tell t false either size same = no_id_byte t either size (sym same)
 
 -- what follows the id is one
 IsIdThen-once : (text id after other_id other : List ℕ) → IsIdThen text id after → IsIdThen text other_id other → after ≡ other
 IsIdThen-once text id after other_id other is also = (IsIdThen-cut text is.word after other_id other is.here is.ends also).1
+
+-- a ref has the ids that were read as its own
+pub ref_seen : {A : Type 0} (blank : Option A) (n id made : List ℕ) → IsReadAs blank id made → IsSeenAs blank (record { name = n; target = id; object = None }) (record { name = n; target = made; object = None })
+ref_seen None n id made same = ap (λ t. record { name = n; target = t; object = None }) same
+ref_seen (Some blank) n id made same = refl
+
+pub tag_seen : {A : Type 0} (blank : Option A) (n id made tagged also : List ℕ) → IsReadAs blank id made → IsReadAs blank tagged also → IsSeenAs blank (record { name = n; target = id; object = Some tagged }) (record { name = n; target = made; object = Some also })
+tag_seen None n id made tagged also same both = ap (λ t. record { name = n; target = t; object = Some also }) same ∙ ap (λ o. record { name = n; target = id; object = Some o }) both
+tag_seen (Some blank) n id made tagged also same both = refl
 
 -- a line without the keyword of a ref, or without an id behind it, tells of none
 pub no_ref_keyword : (line : List ℕ) → ((rest : List ℕ) → line ≢ codes "ref " ++ rest) → (r : Ref) → ¬ (IsRefLine line r)

@@ -1,23 +1,30 @@
 -- Items and lines that are made one after another.
-use Rattle.std.proofs.Common.{◌≡◌, ℕ, ◌+◌, ◌<◌, Bool, false, List, [], ◌∷◌, ◌++◌, map, flat_map, length, take, None, Some, get_or, refl, sym, ap, ◌∙◌, subst, Result, Ok, Err, IsOk, OnOk}
+use Rattle.std.proofs.Common.{◌≡◌, ◌≢◌, ℕ, zero, suc, arith, ◌+◌, ◌<◌, Bool, true, false, List, [], ◌∷◌, ◌++◌, map, flat_map, length, take, None, Some, get_or, refl, sym, ap, ◌∙◌, subst, Result, Ok, Err, IsOk, OnOk}
 use Rattle.std.proofs.lemmas.Bool.{false≢true}
 use Rattle.std.proofs.lemmas.List.{append-nil, map-append, take_more}
 use Rattle.std.proofs.lemmas.Grind.{flat_map-append}
+use Rattle.std.proofs.lemmas.List.Folds.{flat_map-map}
 use Rattle.gix_refspec.specs.declared.match_group.types.Item.{Item}
 use Rattle.gix_refspec.specs.declared.match_group.types.Mapping.{Mapping}
+use Rattle.gix_refspec.specs.declared.spec.RefSpecRef.{RefSpecRef}
+use Rattle.gix_refspec.specs.declared.match_group.types.MatchGroup.{MatchGroup}
+use Rattle.gix_refspec.specs.declared.match_group.validate.Fix.{Fix}
+use Rattle.gix_refspec.specs.declared.match_group.validate.Issue.{Issue}
+use Rattle.gix_refspec.specs.Views.Issue.{conflict_of, removed_of}
+use Rattle.gix_refspec.specs.Matching.Validation.{AreConflicts, IsValidated}
 use Rattle.gix_refspec.specs.Specs.Reading.{Reading}
 use Rattle.gix_refspec.specs.Matching.Match.{Ref}
 use Rattle.gix_refspec.specs.Matching.Mappings.{Mapped}
 use Rattle.gix_refspec.specs.Views.Spec.{reading_of}
-use Rattle.gix_refspec.specs.Views.Group.{mapped_of, ref_of}
+use Rattle.gix_refspec.specs.Views.Group.{mapped_of, readings_of, ref_of}
 use Rattle.refspec_map.specs.declared.line.ToldRef.{ToldRef}
 use Rattle.refspec_map.specs.declared.line.Entries.{Entries}
 use Rattle.refspec_map.specs.Line.{refs_in}
 use Rattle.refspec_map.specs.Matching.{map_line, AreMapLines, IsMatching}
-use Rattle.refspec_map.specs.Told.{told, bare, named, AreEntries}
-use Rattle.refspec_map.specs.Plan.{IsPlan}
-use Rattle.gix_refspec.specs.Matching.Hits.{AreKeptForward}
-use Rattle.refspec_map.proofs.NameLemmas.{kept_by_name}
+use Rattle.refspec_map.specs.Told.{AsksForNoId, HasIdDestination, told, bare, named, AreEntries}
+use Rattle.refspec_map.specs.Plan.{AreFixLines, IsPlan, PutsFixes, conflict_line}
+use Rattle.gix_refspec.specs.Matching.Hits.{AreKeptForward, AreKeptBackward}
+use Rattle.refspec_map.proofs.NameLemmas.{kept_by_name, kept_back_by_name}
 
 -- one item more
 pub items_more : (refs : List ToldRef) (k : ℕ) (t : ToldRef) (old new : List Item) (i : Item) → k < length refs → ref_of i ≡ told (get_or refs k t) → new ≡ old ++ i ∷ [] → map ref_of old ≡ map told (take k refs) → map ref_of new ≡ map told (take (k + 1) refs)
@@ -27,14 +34,12 @@ items_more refs k t old new i below is put so_far =
     items ∙ (ap (λ l. l ++ ref_of i ∷ []) so_far ∙ (ap (λ r. map told (take k refs) ++ r ∷ []) is ∙ sym told_refs))
 
 -- one line more
-pub lines_more : {X Y : Type 0} (f : X → Y) (line : Y → List ℕ) (xs : List X) (k : ℕ) (x : X) (old new : List ℕ) → k < length xs → x ≡ get_or xs k x → new ≡ old ++ line (f x) → old ≡ flat_map line (map f (take k xs)) → new ≡ flat_map line (map f (take (k + 1) xs))
-lines_more f line xs k x old new below is put so_far =
-    let before = map f (take k xs) in
+pub lines_more : {X : Type 0} (line : X → List ℕ) (xs : List X) (k : ℕ) (x : X) (old new : List ℕ) → k < length xs → x ≡ get_or xs k x → new ≡ old ++ line x → old ≡ flat_map line (take k xs) → new ≡ flat_map line (take (k + 1) xs)
+lines_more line xs k x old new below is put so_far =
     let step : take (k + 1) xs ≡ take k xs ++ x ∷ [] = take_more xs k x below ∙ ap (λ y. take k xs ++ y ∷ []) (sym is) in
-    let all : map f (take (k + 1) xs) ≡ before ++ f x ∷ [] = ap (map f) step ∙ map-append f (take k xs) (x ∷ []) in
-    let lines : flat_map line (before ++ f x ∷ []) ≡ flat_map line before ++ line (f x) =
-    flat_map-append line before (f x ∷ []) ∙ ap (λ l. flat_map line before ++ l) (append-nil (line (f x))) in
-    put ∙ (ap (λ l. l ++ line (f x)) so_far ∙ (sym lines ∙ ap (flat_map line) (sym all)))
+    let lines : flat_map line (take k xs ++ x ∷ []) ≡ flat_map line (take k xs) ++ line x =
+    flat_map-append line (take k xs) (x ∷ []) ∙ ap (λ l. flat_map line (take k xs) ++ l) (append-nil (line x)) in
+    put ∙ (ap (λ l. l ++ line x) so_far ∙ (sym lines ∙ ap (flat_map line) (sym step)))
 
 -- what a call ensures of a success holds where it had one
 pub on_success : {T E : Type 0} (r : Result T E) (P : Type 0) → OnOk r P → IsOk r → P
@@ -42,11 +47,11 @@ on_success (Ok x) P holds one = holds
 on_success (Err e) P holds one = absurd (false≢true one)
 
 -- the lines of the mappings that are kept
-pub AreMapLines-of : (AreKept : List Reading → List Ref → List Mapped → Type 0) (g : List Reading) (items slice : List Item) (mappings lent : List Mapping) (output : List ℕ) → slice ≡ items → lent ≡ mappings → AreKept g (map ref_of slice) (map mapped_of mappings) → output ≡ flat_map map_line (map mapped_of lent) → AreMapLines AreKept g (map ref_of items) output false
+pub AreMapLines-of : (AreKept : List Reading → List Ref → List Mapped → Type 0) (g : List Reading) (items slice : List Item) (mappings lent : List Mapping) (output : List ℕ) → slice ≡ items → lent ≡ mappings → AreKept g (map ref_of slice) (map mapped_of mappings) → output ≡ flat_map (λ m. map_line (mapped_of m)) lent → AreMapLines AreKept g (map ref_of items) output false
 AreMapLines-of AreKept g items slice mappings lent output of_items of_mappings kept written = record {
   mappings = map mapped_of mappings;
   kept = subst (λ (is : List Item). AreKept g (map ref_of is) (map mapped_of mappings)) of_items kept;
-  written = written ∙ ap (λ ms. flat_map map_line (map mapped_of ms)) of_mappings;
+  written = written ∙ (ap (flat_map (λ m. map_line (mapped_of m))) of_mappings ∙ sym (flat_map-map map_line mapped_of mappings));
   tells = refl;
 }
 
@@ -63,10 +68,10 @@ IsMatching-of A Writes input output refusal made items refs are lent same is =
     }
 
 -- what is written for items is written for refs that have their names
-abbrev pub IsByName : (List Reading → List Ref → List ℕ → Bool → Type 0) → Type 0
-IsByName Writes = (g : List Reading) (items : List Item) (refs : List Ref) (output : List ℕ) (refusal : Bool) → map named items ≡ map bare refs → Writes g (map ref_of items) output refusal → Writes g refs output refusal
+abbrev pub IsByName : (List Reading → List Ref → List ℕ → Bool → Type 0) → List Reading → Type 0
+IsByName Writes g = (items : List Item) (refs : List Ref) (output : List ℕ) (refusal : Bool) → map named items ≡ map bare refs → Writes g (map ref_of items) output refusal → Writes g refs output refusal
 
-pub map_lines_by_name : IsByName (AreMapLines AreKeptForward)
+pub map_lines_by_name : (g : List Reading) → IsByName (AreMapLines AreKeptForward) g
 map_lines_by_name g items refs output refusal same is = record {
   mappings = is.mappings;
   kept = kept_by_name g items refs is.mappings same is.kept;
@@ -74,15 +79,68 @@ map_lines_by_name g items refs output refusal same is = record {
   tells = is.tells;
 }
 
-pub plan_by_name : IsByName IsPlan
+pub map_lines_back_by_name : (g : List Reading) → AsksForNoId g → IsByName (AreMapLines AreKeptBackward) g
+map_lines_back_by_name g none items refs output refusal same is = record {
+  mappings = is.mappings;
+  kept = kept_back_by_name g items refs is.mappings none same is.kept;
+  written = is.written;
+  tells = is.tells;
+}
+
+pub plan_by_name : (g : List Reading) → IsByName IsPlan g
 plan_by_name g items refs output refusal same is = record { mappings = is.mappings; kept = kept_by_name g items refs is.mappings same is.kept; shows = is.shows }
 
 -- what is written for the specs and names that were read is written for the input
-pub IsMatching-named : {A : Type 0} (blank : A) (Writes : List Reading → List Ref → List ℕ → Bool → Type 0) → IsByName Writes → (input output : List ℕ) (refusal : Bool) (made : Entries) (items : List Item) → AreEntries (Some blank) input made → items ≡ made.items.items → Writes (map reading_of made.specs.items) (map ref_of items) output refusal → IsMatching Writes input output refusal
-IsMatching-named blank Writes by input output refusal made items are lent is = record {
+pub IsMatching-named : {A : Type 0} (blank : A) (Writes : List Reading → List Ref → List ℕ → Bool → Type 0) (input output : List ℕ) (refusal : Bool) (made : Entries) (items : List Item) → IsByName Writes (map reading_of made.specs.items) → AreEntries (Some blank) input made → items ≡ made.items.items → Writes (map reading_of made.specs.items) (map ref_of items) output refusal → IsMatching Writes input output refusal
+IsMatching-named blank Writes input output refusal made items by are lent is = record {
   lines = are.lines;
   entries = are.entries;
   cut = are.cut;
   given = are.given;
-  is = subst (λ (g : List Reading). Writes g (refs_in are.entries) output refusal) are.specs (by (map reading_of made.specs.items) items (refs_in are.entries) output refusal (ap (map named) lent ∙ are.refs) is);
+  is = subst (λ (g : List Reading). Writes g (refs_in are.entries) output refusal) are.specs (by items (refs_in are.entries) output refusal (ap (map named) lent ∙ are.refs) is);
+}
+
+no_ids_append : (g h : List Reading) → AsksForNoId g → AsksForNoId h → AsksForNoId (g ++ h)
+no_ids_append [] h first second = second
+no_ids_append (r ∷ g) h first second = (first.0, no_ids_append g h first.1 second)
+
+-- one spec more whose destination is no id
+pub no_ids_more : (specs : List RefSpecRef) (k : ℕ) (s : RefSpecRef) → k < length specs → s ≡ get_or specs k s → ¬ (HasIdDestination (reading_of s)) → AsksForNoId (map reading_of (take k specs)) → AsksForNoId (map reading_of (take (k + 1) specs))
+no_ids_more specs k s below is none so_far =
+    let all : map reading_of (take (k + 1) specs) ≡ map reading_of (take k specs) ++ reading_of (get_or specs k s) ∷ [] = ap (map reading_of) (take_more specs k s below) ∙ map-append reading_of (take k specs) (get_or specs k s ∷ []) in
+    let one : AsksForNoId (reading_of (get_or specs k s) ∷ []) = (subst (λ (t : RefSpecRef). ¬ (HasIdDestination (reading_of t))) is none, tt) in
+    subst AsksForNoId (sym all) (no_ids_append (map reading_of (take k specs)) (reading_of (get_or specs k s) ∷ []) so_far one)
+
+-- one of the specs whose destination is an id
+pub some_id : (specs : List RefSpecRef) (k : ℕ) (s : RefSpecRef) → k < length specs → s ≡ get_or specs k s → HasIdDestination (reading_of s) → ¬ (AsksForNoId (map reading_of specs))
+some_id (x ∷ specs) zero s below is has none = none.0 (subst (λ (t : RefSpecRef). HasIdDestination (reading_of t)) is has)
+some_id (x ∷ specs) (suc k) s below is has none = some_id specs k s (omega (arith, below)) is has none.1
+some_id [] k s below is has none = omega (arith, below)
+
+-- what remains after validation is written, and then the fixes
+pub validated_shown : (g h : MatchGroup) (items : List Ref) (mappings valid lent : List Mapping) (fixes lent_fixes : List Fix) (lines output : List ℕ) → h ≡ g → AreKeptForward (readings_of g) items (map mapped_of mappings) → IsValidated (readings_of h) (map mapped_of mappings) (map mapped_of valid) (map removed_of fixes) → lent ≡ valid → lines ≡ flat_map (λ m. map_line (mapped_of m)) lent → lent_fixes ≡ fixes → PutsFixes (map removed_of lent_fixes) lines output → IsPlan (readings_of g) items output false
+validated_shown g h items mappings valid lent fixes lent_fixes lines output same kept is of_valid are_lines of_fixes (fixed, are, put) = record {
+  mappings = map mapped_of mappings;
+  kept = kept;
+  shows = record {
+    rest = map mapped_of valid;
+    fixes = map removed_of fixes;
+    fixed = fixed;
+    is = subst (λ (k : MatchGroup). IsValidated (readings_of k) (map mapped_of mappings) (map mapped_of valid) (map removed_of fixes)) same is;
+    are = subst (λ (fs : List Fix). AreFixLines (map removed_of fs) fixed) of_fixes are;
+    written = put ∙ ap (λ l. l ++ fixed) (are_lines ∙ (ap (flat_map (λ m. map_line (mapped_of m))) of_valid ∙ sym (flat_map-map map_line mapped_of valid)));
+  };
+}
+
+-- conflicts are written alone
+pub conflicts_shown : (g h : MatchGroup) (items : List Ref) (mappings : List Mapping) (issues lent : List Issue) (output : List ℕ) → h ≡ g → AreKeptForward (readings_of g) items (map mapped_of mappings) → (map conflict_of issues ≢ []) × AreConflicts (readings_of h) (map mapped_of mappings) (map conflict_of issues) → lent ≡ issues → output ≡ flat_map (λ i. conflict_line (conflict_of i)) lent → IsPlan (readings_of g) items output true
+conflicts_shown g h items mappings issues lent output same kept (some, are) of_issues written = record {
+  mappings = map mapped_of mappings;
+  kept = kept;
+  shows = record {
+    conflicts = map conflict_of issues;
+    are = subst (λ (k : MatchGroup). AreConflicts (readings_of k) (map mapped_of mappings) (map conflict_of issues)) same are;
+    some = some;
+    written = written ∙ (ap (flat_map (λ i. conflict_line (conflict_of i))) of_issues ∙ sym (flat_map-map conflict_line conflict_of issues));
+  };
 }

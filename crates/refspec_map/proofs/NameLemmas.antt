@@ -1,4 +1,5 @@
--- From left to right refs are taken by their names alone.
+-- Refs are taken by their names alone, where no id is asked for.
+use Rattle.std.specs.List.{AllByRecursion}
 use Rattle.std.proofs.Common.{◌≡◌, inl, inr, ℕ, ◌+◌, Option, None, Some, List, [], ◌∷◌, map, sym, ap, ◌∙◌, subst, refl}
 use Rattle.gix_refspec.proofs.lemmas.keep.RepeatLemmas.{all_weaker}
 use Rattle.gix_refspec.specs.declared.match_group.types.Item.{Item}
@@ -6,10 +7,10 @@ use Rattle.gix_refspec.specs.Specs.Reading.{Reading}
 use Rattle.gix_refspec.specs.Matching.Lists.{IsMadeFrom, IsJoinedFrom}
 use Rattle.gix_refspec.specs.Matching.Mappings.{Mapped}
 use Rattle.gix_refspec.specs.Matching.Side.{SideKind, pattern, full_name, object, partial, HasKind, IsCandidate, Fits}
-use Rattle.gix_refspec.specs.Matching.Match.{Ref, MatchesAs, HasName, IsFirstCandidate, Takes}
-use Rattle.gix_refspec.specs.Matching.Hits.{Ends, AreForwardEnds, Hit, IsHit, AreSpecHits, AreKeptForward}
+use Rattle.gix_refspec.specs.Matching.Match.{Ref, Matches, MatchesAs, HasName, IsFirstCandidate, Takes}
+use Rattle.gix_refspec.specs.Matching.Hits.{Ends, AreForwardEnds, AreBackwardEnds, Hit, IsHit, AreSpecHits, AreKeptForward, AreKeptBackward}
 use Rattle.gix_refspec.specs.Views.Group.{ref_of}
-use Rattle.refspec_map.specs.Told.{bare, named}
+use Rattle.refspec_map.specs.Told.{AsksForNoId, HasIdDestination, bare, named}
 
 -- the refs have the same names, one by one
 abbrev SameNames : List Ref → List Ref → Type 0
@@ -62,59 +63,113 @@ takes_as rs ss x r s word all same no_id takes = record {
   first = λ n is. first_candidate rs ss n s.name all (subst (IsFirstCandidate rs n) same (takes.first n is));
 }
 
-hit_as : (rs ss : List Ref) (ends : Ends) (k j : ℕ) (r s : Ref) (hit : Hit) → SameNames rs ss → r.name ≡ s.name → ((id : List ℕ) → ¬ (HasKind ends.near (object id))) → IsHit (Takes rs) ends k j r hit → IsHit (Takes ss) ends k j s hit
-hit_as rs ss ends k j r s hit all same no_id is = record {
+-- which refs a near side takes
+abbrev Taken : Type 1
+Taken = List ℕ → Ref → Option (List ℕ) → Type 0
+
+-- a ref that the near side takes by the one rule it takes by the other under any ids
+abbrev Carries : Taken → Taken → List ℕ → Type 0
+Carries T U x = (r s : Ref) (word : Option (List ℕ)) → r.name ≡ s.name → T x r word → U x s word
+
+abbrev CarriesBoth : Taken → Taken → List ℕ → Type 0
+CarriesBoth T U x = Carries T U x × Carries U T x
+
+hit_as : (T U : Taken) (ends : Ends) (k j : ℕ) (r s : Ref) (hit : Hit) → Carries T U ends.near → r.name ≡ s.name → IsHit T ends k j r hit → IsHit U ends k j s hit
+hit_as T U ends k j r s hit carries same is = record {
   word = is.word;
-  takes = takes_as rs ss ends.near r s is.word all same no_id is.takes;
+  takes = carries r s is.word same is.takes;
   far = is.far;
   near = is.near ∙ same;
   spec = is.spec;
   item = is.item;
 }
 
-made_as : (all others : List Ref) (ends : Ends) (k j : ℕ) (rs ss : List Ref) (hits : List Hit) → SameNames all others → SameNames rs ss → ((id : List ℕ) → ¬ (HasKind ends.near (object id))) → IsMadeFrom (IsHit (Takes all) ends k) j rs hits → IsMadeFrom (IsHit (Takes others) ends k) j ss hits
-made_as all others ends k j [] [] hits whole same no_id made = made
-made_as all others ends k j [] (s ∷ ss) hits whole same no_id made = absurd same
-made_as all others ends k j (r ∷ rs) [] hits whole same no_id made = absurd same
-made_as all others ends k j (r ∷ rs) (s ∷ ss) hits whole same no_id (None, rest, none, more, is) = (
+made_as : (T U : Taken) (ends : Ends) (k j : ℕ) (rs ss : List Ref) (hits : List Hit) → SameNames rs ss → CarriesBoth T U ends.near → IsMadeFrom (IsHit T ends k) j rs hits → IsMadeFrom (IsHit U ends k) j ss hits
+made_as T U ends k j [] [] hits same carries made = made
+made_as T U ends k j [] (s ∷ ss) hits same carries made = absurd same
+made_as T U ends k j (r ∷ rs) [] hits same carries made = absurd same
+made_as T U ends k j (r ∷ rs) (s ∷ ss) hits same carries (None, rest, none, more, is) = (
   None,
   rest,
-  (λ hit has. none hit (hit_as others all ends k j s r hit (names_back all others whole) (sym same.0) no_id has)),
-  made_as all others ends k (j + 1) rs ss rest whole same.1 no_id more,
+  (λ hit has. none hit (hit_as U T ends k j s r hit carries.1 (sym same.0) has)),
+  made_as T U ends k (j + 1) rs ss rest same.1 carries more,
   is,
 )
-made_as all others ends k j (r ∷ rs) (s ∷ ss) hits whole same no_id (Some hit, rest, some, more, is) = (
+made_as T U ends k j (r ∷ rs) (s ∷ ss) hits same carries (Some hit, rest, some, more, is) = (
   Some hit,
   rest,
-  hit_as all others ends k j r s hit whole same.0 no_id some,
-  made_as all others ends k (j + 1) rs ss rest whole same.1 no_id more,
+  hit_as T U ends k j r s hit carries.0 same.0 some,
+  made_as T U ends k (j + 1) rs ss rest same.1 carries more,
   is,
 )
 
-spec_hits_as : (rs ss : List Ref) (k : ℕ) (r : Reading) (hits : List Hit) → SameNames rs ss → AreSpecHits AreForwardEnds (Takes rs) rs k r hits → AreSpecHits AreForwardEnds (Takes ss) ss k r hits
-spec_hits_as rs ss k r hits same (inl (ends, has, made)) = inl (ends, has, made_as rs ss ends k 0 rs ss hits same same has.no_object made)
-spec_hits_as rs ss k r hits same (inr none) = inr none
+spec_hits_as : (HasEnds : Reading → Ends → Type 0) (T U : Taken) (rs ss : List Ref) (k : ℕ) (r : Reading) (hits : List Hit) → SameNames rs ss → ((ends : Ends) → HasEnds r ends → CarriesBoth T U ends.near) → AreSpecHits HasEnds T rs k r hits → AreSpecHits HasEnds U ss k r hits
+spec_hits_as HasEnds T U rs ss k r hits same carries (inl (ends, has, made)) = inl (ends, has, made_as T U ends k 0 rs ss hits same (carries ends has) made)
+spec_hits_as HasEnds T U rs ss k r hits same carries (inr none) = inr none
 
-hits_as : (rs ss : List Ref) (k : ℕ) (g : List Reading) (hits : List Hit) → SameNames rs ss → IsJoinedFrom (AreSpecHits AreForwardEnds (Takes rs) rs) k g hits → IsJoinedFrom (AreSpecHits AreForwardEnds (Takes ss) ss) k g hits
-hits_as rs ss k [] hits same joined = joined
-hits_as rs ss k (r ∷ g) hits same (made, rest, one, more, is) = (made, rest, spec_hits_as rs ss k r made same one, hits_as rs ss (k + 1) g rest same more, is)
+hits_as : (HasEnds : Reading → Ends → Type 0) (T U : Taken) (rs ss : List Ref) (k : ℕ) (g : List Reading) (hits : List Hit) → SameNames rs ss → AllByRecursion (λ r. (ends : Ends) → HasEnds r ends → CarriesBoth T U ends.near) g → IsJoinedFrom (AreSpecHits HasEnds T rs) k g hits → IsJoinedFrom (AreSpecHits HasEnds U ss) k g hits
+hits_as HasEnds T U rs ss k [] hits same carries joined = joined
+hits_as HasEnds T U rs ss k (r ∷ g) hits same carries (made, rest, one, more, is) = (made, rest, spec_hits_as HasEnds T U rs ss k r made same carries.0 one, hits_as HasEnds T U rs ss (k + 1) g rest same carries.1 more, is)
 
 bare_items : (items : List Item) → map bare (map ref_of items) ≡ map named items
 bare_items [] = refl
 bare_items (i ∷ items) = ap (λ l. named i ∷ l) (bare_items items)
 
+same_names : (items : List Item) (refs : List Ref) → map named items ≡ map bare refs → SameNames (map ref_of items) refs
+same_names items refs same = names_of (map ref_of items) refs (bare_items items ∙ same)
+
+-- from left to right no near side is an id
+forward_carries : (rs ss : List Ref) (g : List Reading) → SameNames rs ss → AllByRecursion (λ r. (ends : Ends) → AreForwardEnds r ends → CarriesBoth (Takes rs) (Takes ss) ends.near) g
+forward_carries rs ss [] same = tt
+forward_carries rs ss (r ∷ g) same = (
+  (λ ends has. (
+    (λ q s word is. takes_as rs ss ends.near q s word same is has.no_object),
+    (λ q s word is. takes_as ss rs ends.near q s word (names_back rs ss same) is has.no_object),
+  )),
+  forward_carries rs ss g same,
+)
+
 -- what is kept of items is kept of refs that have their names
 pub kept_by_name : (g : List Reading) (items : List Item) (refs : List Ref) (l : List Mapped) → map named items ≡ map bare refs → AreKeptForward g (map ref_of items) l → AreKeptForward g refs l
 kept_by_name g items refs l same kept =
-    let names = names_of (map ref_of items) refs (bare_items items ∙ same) in
+    let names = same_names items refs same in
     record {
       all = kept.all;
       forward = record {
         ids = kept.forward.ids;
         hits = kept.forward.hits;
         are_ids = kept.forward.are_ids;
-        are_hits = hits_as (map ref_of items) refs 0 g kept.forward.hits names kept.forward.are_hits;
+        are_hits = hits_as AreForwardEnds (Takes (map ref_of items)) (Takes refs) (map ref_of items) refs 0 g kept.forward.hits names (forward_carries (map ref_of items) refs g names) kept.forward.are_hits;
         all = kept.forward.all;
       };
       is = kept.is;
     }
+
+matches_back : (x : List ℕ) (r s : Ref) (word : Option (List ℕ)) → r.name ≡ s.name → ((id : List ℕ) → ¬ (HasKind x (object id))) → Matches x r word → Matches x s word
+matches_back x r s word same no_id is = record { kind = is.kind; of = is.of; is = matches_as is.kind x r s word same no_id is.of is.is }
+
+no_object : (r : Reading) (ends : Ends) → ¬ (HasIdDestination r) → AreBackwardEnds r ends → (id : List ℕ) → ¬ (HasKind ends.near (object id))
+no_object r ends none has id is = none (ends.near, has.near, (id, is.2))
+
+-- from right to left none is where no destination is one
+backward_carries : (g : List Reading) → AsksForNoId g → AllByRecursion (λ r. (ends : Ends) → AreBackwardEnds r ends → CarriesBoth Matches Matches ends.near) g
+backward_carries [] none = tt
+backward_carries (r ∷ g) none = (
+  (λ ends has. (
+    (λ q s word same. matches_back ends.near q s word same (no_object r ends none.0 has)),
+    (λ q s word same. matches_back ends.near q s word same (no_object r ends none.0 has)),
+  )),
+  backward_carries g none.1,
+)
+
+-- so too from right to left, where no destination is an id
+pub kept_back_by_name : (g : List Reading) (items : List Item) (refs : List Ref) (l : List Mapped) → AsksForNoId g → map named items ≡ map bare refs → AreKeptBackward g (map ref_of items) l → AreKeptBackward g refs l
+kept_back_by_name g items refs l none same kept = record {
+  all = kept.all;
+  backward = record {
+    hits = kept.backward.hits;
+    are_hits = hits_as AreBackwardEnds Matches Matches (map ref_of items) refs 0 g kept.backward.hits (same_names items refs same) (backward_carries g none) kept.backward.are_hits;
+    all = kept.backward.all;
+  };
+  is = kept.is;
+}

@@ -9,24 +9,24 @@ use Rattle.gix_refspec.specs.Views.Spec.{reading_of}
 use Rattle.refspec_map.specs.Input.{newline, AreLines, IsFirstLine}
 use Rattle.refspec_map.specs.declared.output.Answer.{Answer as Made}
 use Rattle.refspec_map.specs.declared.output.Answer.TheVariants as made
-use Rattle.refspec_map.specs.Output.{Answer, accepted, refused, IsAnswer, line_of, is_refused, any_refused, IsCanon, IsAnsweredBy, PutsLine, is_refusal}
+use Rattle.refspec_map.specs.Output.{Answer, accepted, refused, IsAnswer, answer_line, is_refused, any_refused, IsCanon, IsAnsweredBy, PutsLine, is_refusal}
 
 -- the answer to a line was put behind the old output, and refusal says whether it is refused
 record PutsAnswer (op : Operation) (line old new : List ℕ) (refusal : Bool) : Type 0 where
   answer : Answer
   is : IsAnswer op line answer
-  put : new ≡ old ++ line_of answer
+  put : new ≡ old ++ answer_line answer
   tells : refusal ≡ is_refused answer
 
 -- whatever answers the rest of an input completes the output so far
 abbrev pub Completes : Operation → List ℕ → List ℕ → Bool → List ℕ → Type 0
 Completes op input output refusal rest =
     (lines : List (List ℕ)) (answers : List Answer) → AreLines lines rest → AllZip (IsAnswer op) lines answers
-    → IsCanon op input (output ++ flat_map line_of answers) (refusal || any_refused answers)
+    → IsCanon op input (output ++ flat_map answer_line answers) (refusal || any_refused answers)
 
 -- at the start the whole input is the rest
 pub Completes-start : (op : Operation) (input output : List ℕ) → output ≡ [] → Completes op input output false input
-Completes-start op input output empty lines answers cut told = record { lines = lines; answers = answers; cut = cut; told = told; written = ap (λ x. x ++ flat_map line_of answers) empty; tells = refl }
+Completes-start op input output empty lines answers cut told = record { lines = lines; answers = answers; cut = cut; told = told; written = ap (λ x. x ++ flat_map answer_line answers) empty; tells = refl }
 
 -- a newline doesn't stand in nothing
 nothing_ends : (line rest : List ℕ) → [] ≡ line ++ (newline ∷ rest) → ⊥
@@ -67,12 +67,12 @@ Completes-answer : (op : Operation) (input old new text line rest : List ℕ) (b
 Completes-answer op input old new text line rest before refusal full first put completes lines answers cut told =
     let lines_of_text = lines_more text line rest lines full first cut in
     let whole = completes lines_of_text.0 (put.answer ∷ answers) lines_of_text.1 (subst (λ (ls : List (List ℕ)). AllZip (IsAnswer op) ls (put.answer ∷ answers)) (sym lines_of_text.2) (put.is, told)) in
-    let output : old ++ (line_of put.answer ++ flat_map line_of answers) ≡ new ++ flat_map line_of answers =
-    sym (append_assoc old (line_of put.answer) (flat_map line_of answers)) ∙ ap (λ x. x ++ flat_map line_of answers) (sym put.put) in
+    let output : old ++ (answer_line put.answer ++ flat_map answer_line answers) ≡ new ++ flat_map answer_line answers =
+    sym (append_assoc old (answer_line put.answer) (flat_map answer_line answers)) ∙ ap (λ x. x ++ flat_map answer_line answers) (sym put.put) in
     let tells : (before || (is_refused put.answer || any_refused answers)) ≡ ((before || refusal) || any_refused answers) =
     or_more before (is_refused put.answer) refusal (any_refused answers) put.tells in
     subst (λ (x : List ℕ). IsCanon op input x ((before || refusal) || any_refused answers)) output
-    (subst (λ (b : Bool). IsCanon op input (old ++ (line_of put.answer ++ flat_map line_of answers)) b) tells whole)
+    (subst (λ (b : Bool). IsCanon op input (old ++ (answer_line put.answer ++ flat_map answer_line answers)) b) tells whole)
 
 -- one line more, of which the program made an answer, and put it
 pub Completes-line : (op : Operation) (input old new text line rest : List ℕ) (before refusal : Bool) (m : Made) → text ≢ [] → IsFirstLine text line rest → IsAnsweredBy op line m → PutsLine m old new → refusal ≡ is_refusal m → Completes op input old before text → Completes op input new (before || refusal) rest

@@ -58,6 +58,6 @@ no_open_line g items output w none is = one_line.2 (subst (AllByRecursion IsOneL
 pub head_once : PlanOnce → (g : List Reading) × (items : List Ref) × (output : List ℕ) × Appends (Some []) (Some (codes "map\t0\t0\tHEAD\n")) output × WritesOnce g items output
 head_once law = let (input, output, read, written, matching) = law _ _ _ _ head_planned in (_, _, output, written, matching.is)
 
--- by the law no fault of a spec holds want of memory
+-- by the law no fault of a spec says that memory ran out
 pub no_memory_told : SpecIsRefused → (c : Command) (old new : Option (List ℕ)) (number : ℕ) → ¬ (Explains c old new (fault.Spec number Memory))
 no_memory_told law c old new number told = (law c old new number Memory told).0 refl

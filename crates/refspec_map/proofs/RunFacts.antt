@@ -22,7 +22,7 @@ use Rattle.gix_refspec.proofs.lemmas.parsing.RefusalLemmas.{one_refusal}
 use Rattle.refspec_map.specs.declared.command.Command.TheVariants as command
 use Rattle.refspec_map.specs.Fault.{name_of}
 use Rattle.refspec_map.specs.Input.{newline, ReadsToEnd}
-use Rattle.refspec_map.specs.Output.{Answer, accepted, refused, IsAnswer, line_of, is_refused, any_refused, IsCanon}
+use Rattle.refspec_map.specs.Output.{Answer, accepted, refused, IsAnswer, answer_line, is_refused, any_refused, IsCanon}
 use Rattle.refspec_map.specs.Run.{Answers}
 use Rattle.refspec_map.proofs.LineFacts.{Lacks-tested, lines_once}
 use Rattle.refspec_map.proofs.OutputLemmas.{or_false}
@@ -50,7 +50,7 @@ pub caret_refused : IsRefused Fetch (codes "^") NegativeEmpty
 caret_refused = refused_by Fetch Negative [] None (codes "^") NegativeEmpty (record { signed = refl; last = tt }) caret_reason
 
 -- three lines, of which the last has no newline, behind what was written before
-pub answers_for_a_fetch : Answers command.CanonFetch (Some (codes "\n^\n:")) (Some []) (Some (codes "old\n")) (Some (codes "old\nok HEAD\nerr NegativeEmpty\nok HEAD\n")) 1
+pub answers_for_a_fetch : Answers (command.Canon Fetch) (Some (codes "\n^\n:")) (Some []) (Some (codes "old\n")) (Some (codes "old\nok HEAD\nerr NegativeEmpty\nok HEAD\n")) 1
 answers_for_a_fetch = record {
   input = codes "\n^\n:";
   output = codes "ok HEAD\nerr NegativeEmpty\nok HEAD\n";
@@ -74,12 +74,12 @@ answers_for_a_fetch = record {
 record OneAnswer (op : Operation) (line output : List ℕ) (refusal : Bool) : Type 0 where
   answer : Answer
   is : IsAnswer op line answer
-  written : output ≡ line_of answer
+  written : output ≡ answer_line answer
   tells : refusal ≡ is_refused answer
 
-one_answer_by : (op : Operation) (line output : List ℕ) (refusal : Bool) (answers : List Answer) → AllZip (IsAnswer op) (line ∷ []) answers → output ≡ flat_map line_of answers → refusal ≡ any_refused answers → OneAnswer op line output refusal
+one_answer_by : (op : Operation) (line output : List ℕ) (refusal : Bool) (answers : List Answer) → AllZip (IsAnswer op) (line ∷ []) answers → output ≡ flat_map answer_line answers → refusal ≡ any_refused answers → OneAnswer op line output refusal
 one_answer_by op line output refusal [] told written tells = absurd told
-one_answer_by op line output refusal (a ∷ []) told written tells = record { answer = a; is = told.0; written = written ∙ append-nil (line_of a); tells = tells ∙ or_false (is_refused a) }
+one_answer_by op line output refusal (a ∷ []) told written tells = record { answer = a; is = told.0; written = written ∙ append-nil (answer_line a); tells = tells ∙ or_false (is_refused a) }
 one_answer_by op line output refusal (a ∷ b ∷ answers) told written tells = absurd told.1
 
 one_answer : (op : Operation) (line output : List ℕ) (refusal : Bool) → Lacks newline line → IsCanon op (line ++ (newline ∷ [])) output refusal → OneAnswer op line output refusal
@@ -89,12 +89,12 @@ one_answer op line output refusal lacks is =
 
 -- every answer to the line is written as this one
 abbrev IsOnly : Operation → List ℕ → Answer → Type 0
-IsOnly op line a = (b : Answer) → IsAnswer op line b → (line_of b ≡ line_of a) × (is_refused b ≡ is_refused a)
+IsOnly op line a = (b : Answer) → IsAnswer op line b → (answer_line b ≡ answer_line a) × (is_refused b ≡ is_refused a)
 
 only_read : (op : Operation) (line : List ℕ) (r : Reading) (text : List ℕ) → Reads op line r → printed r ≡ Some text → IsOnly op line (accepted text)
 only_read op line r text reads prints (accepted other) (q, also, prints_other) =
     let same = some_once other text (sym prints_other ∙ (ap printed (reads_once op line q r also reads) ∙ prints)) in
-    (ap (λ t. line_of (accepted t)) same, refl)
+    (ap (λ t. answer_line (accepted t)) same, refl)
 only_read op line r text reads prints (refused e) is = absurd (is.unread r reads)
 
 same_name : (e f : Refusal) → IsSameReason e f → name_of e ≡ name_of f
@@ -108,7 +108,7 @@ only_refused op line e is (refused f) also = (ap (λ n. codes "err " ++ (n ++ (n
 -- what a run over an input of one line leaves and writes, and its status
 record Ends (rest before after : List ℕ) (status : ℕ) (a : Answer) : Type 0 where
   pub left : rest ≡ []
-  pub written : after ≡ before ++ line_of a
+  pub written : after ≡ before ++ answer_line a
   pub tells : status ≡ (if is_refused a then 1 else 0)
 
 ends_by : (op : Operation) (line : List ℕ) (a : Answer) (input output rest before after : List ℕ) (refusal : Bool) (status : ℕ) → Lacks newline line → IsOnly op line a → ReadsToEnd (Some (line ++ (newline ∷ []))) (Some rest) input → IsCanon op input output refusal → after ≡ before ++ output → status ≡ (if refusal then 1 else 0) → Ends rest before after status a
@@ -123,13 +123,13 @@ ends_by op line a input output rest before after refusal status lacks only read 
     }
 
 -- for a fetch the empty line gives this output and status, and no other
-pub empty_line_fetched : (rest before after : List ℕ) (status : ℕ) → Answers command.CanonFetch (Some (codes "\n")) (Some rest) (Some before) (Some after) status → (rest ≡ []) × (after ≡ before ++ codes "ok HEAD\n") × (status ≡ 0)
+pub empty_line_fetched : (rest before after : List ℕ) (status : ℕ) → Answers (command.Canon Fetch) (Some (codes "\n")) (Some rest) (Some before) (Some after) status → (rest ≡ []) × (after ≡ before ++ codes "ok HEAD\n") × (status ≡ 0)
 empty_line_fetched rest before after status a =
     let ends = ends_by Fetch [] (accepted (codes "HEAD")) a.input a.output rest before after a.refusal status tt (only_read Fetch [] (fetched Normal head None) (codes "HEAD") nothing_reads refl) a.read a.is a.written a.tells in
     (ends.left, ends.written, ends.tells)
 
 -- and so does a caret
-pub caret_fetched : (rest before after : List ℕ) (status : ℕ) → Answers command.CanonFetch (Some (codes "^\n")) (Some rest) (Some before) (Some after) status → (rest ≡ []) × (after ≡ before ++ codes "err NegativeEmpty\n") × (status ≡ 1)
+pub caret_fetched : (rest before after : List ℕ) (status : ℕ) → Answers (command.Canon Fetch) (Some (codes "^\n")) (Some rest) (Some before) (Some after) status → (rest ≡ []) × (after ≡ before ++ codes "err NegativeEmpty\n") × (status ≡ 1)
 caret_fetched rest before after status a =
     let ends = ends_by Fetch (codes "^") (refused NegativeEmpty) a.input a.output rest before after a.refusal status (Lacks-tested newline (codes "^") refl) (only_refused Fetch (codes "^") NegativeEmpty caret_refused) a.read a.is a.written a.tells in
     (ends.left, ends.written, ends.tells)
@@ -138,7 +138,7 @@ caret_fetched rest before after status a =
 nothing_refused : IsRefused Push [] Empty
 nothing_refused = refused_by Push Normal [] None [] Empty (record { signed = (refl, tt); last = tt }) (inl (record { push = refl; unsigned = refl; no_source = refl; no_colon = refl; refusal = refl }))
 
-pub empty_line_pushed : (rest before after : List ℕ) (status : ℕ) → Answers command.CanonPush (Some (codes "\n")) (Some rest) (Some before) (Some after) status → (rest ≡ []) × (after ≡ before ++ codes "err Empty\n") × (status ≡ 1)
+pub empty_line_pushed : (rest before after : List ℕ) (status : ℕ) → Answers (command.Canon Push) (Some (codes "\n")) (Some rest) (Some before) (Some after) status → (rest ≡ []) × (after ≡ before ++ codes "err Empty\n") × (status ≡ 1)
 empty_line_pushed rest before after status a =
     let ends = ends_by Push [] (refused Empty) a.input a.output rest before after a.refusal status tt (only_refused Push [] Empty nothing_refused) a.read a.is a.written a.tells in
     (ends.left, ends.written, ends.tells)

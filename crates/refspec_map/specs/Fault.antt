@@ -1,4 +1,4 @@
--- Why a run ends early, and what the program calls the reason why a text is no spec.
+-- Why a run ends early, and the names of the reasons for which a text is refused.
 use Rattle.std.specs.Prelude.{ℕ, List, codes, ⊤}
 use Rattle.gix_refspec.specs.Specs.Refusal.{Refusal, Empty, NegativeWithDestination, PushToEmpty, PatternUnsupported, ReferenceName, PatternUnbalanced, NegativeEmpty, NegativeObjectHash}
 use Rattle.refspec_map.specs.declared.fault.Fault.{Fault}
@@ -15,7 +15,7 @@ name_of PatternUnbalanced = codes "PatternUnbalanced"
 name_of NegativeEmpty = codes "NegativeEmpty"
 name_of NegativeObjectHash = codes "NegativeObjectHash"
 
--- the status of a fault: 1 where a line is at fault, else 3
+-- the status of a fault: 1 if a line is at fault, otherwise 3
 abbrev pub status_of : Fault → ℕ
 status_of (fault.Line number) = 1
 status_of (fault.Spec number error) = 1

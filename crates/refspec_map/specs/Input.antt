@@ -10,7 +10,7 @@ use Rattle.refspec_map.specs.declared.fault.Fault.TheVariants as fault
 abbrev pub input_limit : ℕ
 input_limit = 1048576
 
--- one read took some bytes and put them behind the old input, or found the end
+-- one read took some bytes and appended them to the old input, or found the end
 pub record ReadsSome (more : Bool) (reader_old reader_new : Option (List ℕ)) (old new : List ℕ) : Type 0 where
   pub came : List ℕ
   pub taken : Consumes reader_old reader_new came
@@ -27,7 +27,7 @@ pub record ReadsToEnd (old new : Option (List ℕ)) (input : List ℕ) : Type 0 
 abbrev pub IsTooLong : Option (List ℕ) → Option (List ℕ) → Type 0
 IsTooLong old new = (input : List ℕ) × Consumes old new input × (input_limit < length input)
 
--- when an input isn't read to its end
+-- why an input isn't read to its end
 abbrev pub IsReadFault : Option (List ℕ) → Option (List ℕ) → Fault → Type 0
 IsReadFault old new fault.TooLong = IsTooLong old new
 IsReadFault old new fault.Read = ⊤
@@ -38,7 +38,7 @@ IsReadFault old new _ = ⊥
 abbrev pub newline : ℕ
 newline = 10
 
--- each line has no newline, and one stands behind it; the last may lack it if it isn't empty
+-- no line has a newline, and each ends with one; the last may lack it if it isn't empty
 abbrev pub AreLines : List (List ℕ) → List ℕ → Type 0
 AreLines [] input = input ≡ []
 AreLines (line ∷ lines) input =

@@ -52,7 +52,7 @@ abbrev pub Says : List ℕ → Line → Type 0
 Says line (spec text) = line ≡ codes "spec " ++ text
 Says line (item r) = IsRefLine line r ⊎ IsTagLine line r
 
--- the line has no form
+-- the line has none of these forms
 abbrev pub IsMalformed : List ℕ → Type 0
 IsMalformed line = (said : Line) → ¬ (Says line said)
 

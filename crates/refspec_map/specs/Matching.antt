@@ -13,7 +13,7 @@ use Rattle.refspec_map.specs.Line.{Entry, Gives, readings_in, refs_in}
 abbrev pub tab : ℕ
 tab = 9
 
--- the place of an item, or `-` where there is none
+-- the index of an item, or `-` without one
 abbrev pub item_text : Option ℕ → List ℕ
 item_text None = codes "-"
 item_text (Some place) = decimal place
@@ -23,7 +23,7 @@ abbrev pub source_text : Start → List ℕ
 source_text (name n) = n
 source_text (id i) = lower_of i
 
--- a tab and the destination, where there is one
+-- a tab and the destination, if there is one
 abbrev pub destination_text : Option (List ℕ) → List ℕ
 destination_text None = []
 destination_text (Some d) = tab ∷ d

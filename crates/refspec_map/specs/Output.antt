@@ -1,5 +1,5 @@
 -- What a canon command writes: a line for each line of its input, with the canonical text of the spec
--- that it reads as, or the name of the reason why it is none.
+-- that it reads as, or the name of the reason why it is refused.
 use Rattle.std.specs.Prelude.{◌≡◌, ℕ, Bool, true, false, ◌||◌, List, [], ◌∷◌, ◌++◌, Some, codes}
 use Rattle.std.specs.List.{AllZip, flat_map}
 use Rattle.gix_refspec.specs.declared.parsing.Operation.{Operation}
@@ -24,9 +24,9 @@ IsAnswer op line (accepted text) = (r : Reading) × Reads op line r × (printed 
 IsAnswer op line (refused e) = IsRefused op line e
 
 -- the line of an answer
-abbrev pub line_of : Answer → List ℕ
-line_of (accepted text) = codes "ok " ++ (text ++ (newline ∷ []))
-line_of (refused e) = codes "err " ++ (name_of e ++ (newline ∷ []))
+abbrev pub answer_line : Answer → List ℕ
+answer_line (accepted text) = codes "ok " ++ (text ++ (newline ∷ []))
+answer_line (refused e) = codes "err " ++ (name_of e ++ (newline ∷ []))
 
 -- whether a line is refused
 abbrev pub is_refused : Answer → Bool
@@ -44,7 +44,7 @@ pub record IsCanon (op : Operation) (input output : List ℕ) (refusal : Bool) :
   pub answers : List Answer
   pub cut : AreLines lines input
   pub told : AllZip (IsAnswer op) lines answers
-  pub written : output ≡ flat_map line_of answers
+  pub written : output ≡ flat_map answer_line answers
   pub tells : refusal ≡ any_refused answers
 
 -- what the program made of a line, read for the operation: a reading that it has, or the name of the first reason
@@ -52,10 +52,10 @@ abbrev pub IsAnsweredBy : Operation → List ℕ → Made → Type 0
 IsAnsweredBy op line (made.Accepted s) = Reads op line (reading_of s)
 IsAnsweredBy op line (made.Refused name) = (e : Refusal) × IsRefused op line e × (name.now ≡ name_of e)
 
--- the line of what the program made was put behind the old output
+-- the line of what the program made was appended to the old output
 abbrev pub PutsLine : Made → List ℕ → List ℕ → Type 0
-PutsLine (made.Accepted s) old new = (text : List ℕ) × (printed (reading_of s) ≡ Some text) × (new ≡ old ++ line_of (accepted text))
-PutsLine (made.Refused name) old new = (e : Refusal) → name.now ≡ name_of e → new ≡ old ++ line_of (refused e)
+PutsLine (made.Accepted s) old new = (text : List ℕ) × (printed (reading_of s) ≡ Some text) × (new ≡ old ++ answer_line (accepted text))
+PutsLine (made.Refused name) old new = (e : Refusal) → name.now ≡ name_of e → new ≡ old ++ answer_line (refused e)
 
 -- whether what the program made is a refusal
 abbrev pub is_refusal : Made → Bool

@@ -1,5 +1,5 @@
--- What a plan writes: where several sources are mapped to one destination, a line for each such
--- destination, and else a line for each mapping that survives and for each that is removed. The forms of
+-- What a plan writes: if several sources are mapped to one destination, a line for each such
+-- destination, otherwise a line for each mapping that remains and for each that is removed. The forms of
 -- these lines are this project's own rule.
 use Rattle.std.specs.Prelude.{◌≡◌, ◌≢◌, ℕ, Bool, List, [], ◌∷◌, ◌++◌, Some, MatchBool, codes, map}
 use Rattle.std.specs.List.{AllByRecursion, AllZip, flat_map, zip}
@@ -39,7 +39,7 @@ pub record ShowsConflicts (g : List Reading) (mappings : List Mapped) (output : 
   pub some : conflicts ≢ []
   pub written : output ≡ flat_map conflict_line conflicts
 
--- there are none, and the output has the line of each mapping that survives, and then that of each fix
+-- there are none, and the output has the line of each mapping that remains, and then that of each fix
 pub record ShowsValidated (g : List Reading) (mappings : List Mapped) (output : List ℕ) : Type 0 where
   pub rest : List Mapped
   pub fixes : List Removed
@@ -63,7 +63,7 @@ AreDistinct (line ∷ lines) = AllByRecursion (λ other. other ≢ line) lines �
 abbrev pub IsOneLine : List ℕ → Type 0
 IsOneLine text = (line : List ℕ) × Lacks newline line × (text ≡ line ++ (newline ∷ []))
 
--- the output has the lines of the mappings that survive and of the fixes. No two of these mappings have the same
+-- the output has the lines of the mappings that remain and of the fixes. No two of these mappings have the same
 -- destination. Each of these is one line, and no two lines are the same
 pub record WritesOnce (g : List Reading) (items : List Ref) (output : List ℕ) : Type 0 where
   pub mappings : List Mapped
@@ -78,10 +78,10 @@ pub record WritesOnce (g : List Reading) (items : List Ref) (output : List ℕ) 
   pub once : AreDistinct (map map_line rest ++ fixed)
   pub whole : AllByRecursion IsOneLine (map map_line rest ++ fixed)
 
--- the line of the fix was put behind the old output
+-- the line of the fix was appended to the old output
 abbrev pub PutsFix : Removed → List ℕ → List ℕ → Type 0
 PutsFix fix old new = (line : List ℕ) × IsFixLine fix line × (new ≡ old ++ line)
 
--- the lines of the fixes were put behind the old output
+-- the lines of the fixes were appended to the old output
 abbrev pub PutsFixes : List Removed → List ℕ → List ℕ → Type 0
 PutsFixes fixes old new = (lines : List ℕ) × AreFixLines fixes lines × (new ≡ old ++ lines)

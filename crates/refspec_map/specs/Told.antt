@@ -1,32 +1,23 @@
--- What a clause reads of what the program holds of its input.
-use Rattle.std.specs.Prelude.{◌≡◌, ℕ, Bool, List, [], ◌∷◌, ◌++◌, Option, None, Some, option_map, map}
-use Rattle.std.specs.List.{AllZip}
+-- What the program holds of its input, as plain data.
+use Rattle.std.specs.Prelude.{◌≡◌, ℕ, List, [], ◌∷◌, ◌++◌, Option, None, Some, option_map, map, ⊤}
+use Rattle.std.specs.List.{AllByRecursion, AllZip}
 use Rattle.bstr.specs.BStr.{bstr_bytes}
 use Rattle.gix_refspec.specs.declared.match_group.types.Item.{Item}
 use Rattle.gix_refspec.specs.Texts.ObjectId.{id_bytes}
+use Rattle.gix_refspec.specs.Matching.Side.{IsId}
 use Rattle.gix_refspec.specs.Matching.Match.{Ref}
 use Rattle.gix_refspec.specs.Specs.Reading.{Reading}
 use Rattle.gix_refspec.specs.Views.Spec.{reading_of}
-use Rattle.gix_refspec.specs.Matching.Hits.{AreKeptForward, AreKeptBackward}
 use Rattle.refspec_map.specs.declared.line.ToldRef.{ToldRef}
 use Rattle.refspec_map.specs.declared.line.Said.{Said}
 use Rattle.refspec_map.specs.declared.line.Said.TheVariants as said
 use Rattle.refspec_map.specs.declared.line.Entries.{Entries}
-use Rattle.refspec_map.specs.declared.matching.Matching.{Matching}
-use Rattle.refspec_map.specs.declared.matching.Matching.TheVariants as matching
 use Rattle.refspec_map.specs.Input.{AreLines}
-use Rattle.refspec_map.specs.Line.{Line, spec, item, Entry, Gives, readings_in, refs_in}
-use Rattle.refspec_map.specs.Matching.{AreMapLines}
-use Rattle.refspec_map.specs.Plan.{IsPlan}
+use Rattle.refspec_map.specs.Line.{spec, item, Says, Entry, Gives, readings_in, refs_in}
 
 -- the ref that a line told of
 abbrev pub told : ToldRef → Ref
 told r = record { name = bstr_bytes r.name; target = id_bytes r.target; object = option_map id_bytes r.object }
-
--- what a line says, as plain data
-abbrev pub line_of : Said → Line
-line_of (said.Spec text) = spec (bstr_bytes text)
-line_of (said.Ref r) = item (told r)
 
 -- the ref with its name alone
 abbrev pub bare : Ref → Ref
@@ -36,7 +27,30 @@ bare r = record { name = r.name; target = []; object = None }
 abbrev pub named : Item → Ref
 named i = record { name = bstr_bytes i.full_ref_name; target = []; object = None }
 
--- what is kept of refs: all, or where an id is lent for their own, their names
+-- the id was read as the second one; with a blank in its place, as any
+abbrev pub IsReadAs : {A : Type 0} → Option A → List ℕ → List ℕ → Type 0
+IsReadAs None id made = made ≡ id
+IsReadAs (Some blank) id made = ⊤
+
+-- the ref was read as the second one; with a blank for its ids, by its name alone
+abbrev pub IsSeenAs : {A : Type 0} → Option A → Ref → Ref → Type 0
+IsSeenAs None r made = made ≡ r
+IsSeenAs (Some blank) r made = bare made ≡ bare r
+
+-- the line says this
+abbrev pub IsSaidAs : {A : Type 0} → Option A → List ℕ → Said → Type 0
+IsSaidAs blank line (said.Spec text) = Says line (spec (bstr_bytes text))
+IsSaidAs blank line (said.Ref t) = (r : Ref) × Says line (item r) × IsSeenAs blank r (told t)
+
+-- the destination of the spec is an id
+abbrev pub HasIdDestination : Reading → Type 0
+HasIdDestination r = (text : List ℕ) × (r.destination ≡ Some text) × IsId text
+
+-- no destination of the specs is one
+abbrev pub AsksForNoId : List Reading → Type 0
+AsksForNoId g = AllByRecursion (λ r. ¬ (HasIdDestination r)) g
+
+-- what is kept of refs: all, or with a blank for their ids only their names
 abbrev pub seen : {A : Type 0} → Option A → List Ref → List Ref
 seen None refs = refs
 seen (Some blank) refs = map bare refs
@@ -46,12 +60,12 @@ abbrev pub kept_refs : {A : Type 0} → Option A → Entries → List Ref
 kept_refs None made = map told made.refs.items
 kept_refs (Some blank) made = map named made.items.items
 
--- a ref was put behind the old entries, as it is kept
+-- a ref was appended to the old entries, as it is kept
 pub record AddsRef {A : Type 0} (blank : Option A) (r : Ref) (old new : Entries) : Type 0 where
   pub specs : new.specs ≡ old.specs
   pub refs : kept_refs blank new ≡ kept_refs blank old ++ seen blank (r ∷ [])
 
--- what the line gives was put behind the old entries
+-- what the line gives was appended to the old entries
 pub record Adds {A : Type 0} (blank : Option A) (line : List ℕ) (old new : Entries) : Type 0 where
   pub entry : Entry
   pub gives : Gives line entry
@@ -66,9 +80,3 @@ pub record AreEntries {A : Type 0} (blank : Option A) (input : List ℕ) (made :
   pub given : AllZip Gives lines entries
   pub specs : map reading_of made.specs.items ≡ readings_in entries
   pub refs : kept_refs blank made ≡ seen blank (refs_in entries)
-
--- what a matching command writes for specs and refs, and whether a plan is refused
-abbrev pub IsOutputOf : Matching → List Reading → List Ref → List ℕ → Bool → Type 0
-IsOutputOf matching.Lhs = AreMapLines AreKeptForward
-IsOutputOf matching.Rhs = AreMapLines AreKeptBackward
-IsOutputOf matching.Plan = IsPlan

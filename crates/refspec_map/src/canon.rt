@@ -1,4 +1,4 @@
-//! The canonical text of each line, or the reason why it is no spec.
+//! The canonical text of each line, or the reason why it is refused.
 
 ghost use Rattle.std.specs.Prelude.{IfOk, IfErr};
 ghost use Rattle.refspec_map.specs.Fault.{IsMemory};

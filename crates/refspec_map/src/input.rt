@@ -12,11 +12,10 @@ use std::io::Read;
 /// The most bytes that an input may have.
 pub const INPUT_LIMIT: usize = 1_048_576;
 
-/// The most bytes that are asked for at once.
+/// The most bytes that one read asks for.
 const CHUNK: usize = 65_536;
 
-/// All that the reader has left. It is read in chunks, until a read brings no byte or the limit is
-/// passed.
+/// Reads all that the reader has left, in chunks, until a read returns no byte or the limit is passed.
 pub(crate) fn read_input<R: Read>(alloc: Global, reader: &mut R) -> Result<Vec<u8>, Fault>
     ensures ok { IfOk result (λ input.
         ReadsToEnd (R.remaining reader.old) (R.remaining reader.new) input.items) }
@@ -25,7 +24,7 @@ pub(crate) fn read_input<R: Read>(alloc: Global, reader: &mut R) -> Result<Vec<u
     let Ok(mut buffer) = vec![in alloc; 0; CHUNK] else {
         return Err(Fault::Memory);
     };
-    // There is room for all that may be read, so that the input is never moved.
+    // With room for all that may be read, the input is never moved.
     let Ok(mut input) = Vec::with_capacity(alloc, INPUT_LIMIT + CHUNK) else {
         return Err(Fault::Memory);
     };
@@ -37,7 +36,7 @@ pub(crate) fn read_input<R: Read>(alloc: Global, reader: &mut R) -> Result<Vec<u
     Ok(input)
 }
 
-// Reads once, and puts what came at the end of the input; false where nothing was left.
+// Reads once, and appends the bytes to the input; false at the end of the reader.
 fn read_some<R: Read>(reader: &mut R, buffer: &mut [u8], input: &mut Vec<u8>) -> Result<bool, Fault>
     requires { 0 < length buffer.old }
     ensures ok { IfOk result (λ more. ReadsSome more

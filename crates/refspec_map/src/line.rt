@@ -1,17 +1,20 @@
 //! The lines that a matching command reads: specs, and the refs of a repository.
 
-ghost use Rattle.std.specs.Prelude.{◌≡◌, ◌≢◌, ◌⊎◌, List, ℕ, [], ◌∷◌, ◌++◌, IfOk, IfErr, OnOk, MatchOption};
+ghost use Rattle.std.specs.Prelude.{◌≡◌, ◌≢◌, ◌⊎◌, List, ℕ, [], ◌∷◌, ◌++◌, IfOk, IfErr, OnOk, MatchBool, MatchOption};
+ghost use Rattle.std.specs.List.{list_all};
+ghost use Rattle.hex.specs.Hex.{is_hex_digit};
 ghost use Rattle.bstr.specs.BStr.{bstr_bytes};
 ghost use Rattle.gix_refspec.specs.declared.parsing.Operation.TheVariants.{Fetch};
 ghost use Rattle.gix_refspec.specs.Texts.Words.{Lacks};
 ghost use Rattle.gix_refspec.specs.Specs.Grammar.{Reads};
 ghost use Rattle.gix_refspec.specs.Matching.Match.{Ref};
-ghost use Rattle.gix_refspec.specs.Texts.ObjectId.{id_bytes};
+ghost use Rattle.gix_refspec.specs.Texts.ObjectId.{IsIdText, id_bytes};
+ghost use Rattle.gix_refspec.specs.Matching.Side.{IsId};
 ghost use Rattle.gix_refspec.specs.Views.Spec.{reading_of};
 ghost use Rattle.gix_refspec.specs.Views.Group.{ref_of};
 ghost use Rattle.refspec_map.specs.Fault.{IsMemory};
 ghost use Rattle.refspec_map.specs.Line.{space, IsFaultOf, IsFirstFault, IsIdThen, IsMalformed, IsRefLine, IsTagLine, Says, spec};
-ghost use Rattle.refspec_map.specs.Told.{bare, line_of, named, told};
+ghost use Rattle.refspec_map.specs.Told.{IsReadAs, IsSaidAs, IsSeenAs, bare, named, told};
 
 use crate::fault::Fault;
 use crate::input::first_line;
@@ -45,7 +48,7 @@ impl<'a> ToldRef<'a> {
         }
     }
 
-    // The ref as an item that has its name alone, and this id in the place of its own.
+    // The ref as an item with only its name, and this id instead of its own.
     fn as_named(&self, blank: &'a ObjectId) -> Item<'a>
         ensures { named result ≡ bare (told self.now) }
     {
@@ -65,8 +68,8 @@ enum Said<'a> {
     Ref(ToldRef<'a>),
 }
 
-/// What the lines of an input give, each kind in order. The refs are in one of the two lists: whole, or
-/// as items that have their names alone.
+/// The specs and refs of an input, each kind in order. Refs are in one of the two lists: with their ids,
+/// or as items with only their names.
 #[derive(Drop)]
 pub(crate) struct Entries<'a> {
     pub(crate) specs: Vec<RefSpecRef<'a>>,
@@ -77,8 +80,8 @@ pub(crate) struct Entries<'a> {
 impl<'a> Entries<'a> {
     ghost use Rattle.refspec_map.specs.Told.{Adds, AreEntries, AddsRef};
 
-    /// Reads the lines of an input, up to the first bad one. The refs are whole; or, where an id is
-    /// lent, they are items that have their names, and this id in the place of their own.
+    /// Reads the lines of an input, up to the first bad one. Refs have their ids; with `blank` they are
+    /// items with only their names, and that id instead of their own.
     pub(crate) fn read(
         alloc: Global,
         input: &'a [u8],
@@ -103,7 +106,7 @@ impl<'a> Entries<'a> {
         Ok(entries)
     }
 
-    // Adds what a line gives, which has this number.
+    // Adds the spec or ref of the line with this number.
     fn add(
         &mut self,
         alloc: Global,
@@ -114,7 +117,7 @@ impl<'a> Entries<'a> {
         ensures ok { OnOk result (Adds blank.entry line.now self.old self.new) }
         ensures err { IfErr result (λ f. IsMemory f ⊎ IsFaultOf number line.now f) }
     {
-        match said_by(line) {
+        match said_by(line, blank) {
             None => Err(Fault::Line(number)),
             Some(Said::Ref(row)) => self.add_ref(blank, row),
             Some(Said::Spec(text)) => {
@@ -147,7 +150,7 @@ pub(crate) fn push<T: Drop>(list: &mut Vec<T>, value: T) -> Result<(), Fault>
     }
 }
 
-// The spec that the text of a line is for a fetch. The line has this number.
+// The spec that a text reads as for a fetch. Its line has this number.
 fn spec_of(alloc: Global, number: usize, text: BStr<'_>) -> Result<RefSpecRef<'_>, Fault>
     ensures ok { IfOk result (λ s. Reads Fetch (bstr_bytes text.entry) (reading_of s)) }
     ensures err { IfErr result (λ f. IsMemory f
@@ -167,30 +170,30 @@ fn spec_of(alloc: Global, number: usize, text: BStr<'_>) -> Result<RefSpecRef<'_
     }
 }
 
-// What a line says, where it has a form.
-fn said_by(line: &[u8]) -> Option<Said<'_>>
-    ensures { MatchOption result (IsMalformed line.now) (λ said. Says line.now (line_of said)) }
+// What a line says; `None` if it is malformed. With `blank` a ref has that id instead of its own.
+fn said_by<'a>(line: &'a [u8], blank: Option<&ObjectId>) -> Option<Said<'a>>
+    ensures { MatchOption result (IsMalformed line.now) (IsSaidAs blank.entry line.now) }
 {
     if let Some(text) = behind(line, b"spec ") {
         return Some(Said::Spec(BStr::new(text)));
     }
-    if let Some(told) = ref_line(line) {
+    if let Some(told) = ref_line(line, blank) {
         return Some(Said::Ref(told));
     }
-    match tag_line(line) {
+    match tag_line(line, blank) {
         Some(told) => Some(Said::Ref(told)),
         None => None,
     }
 }
 
 // The ref of a line `ref <id> <name>`.
-fn ref_line(line: &[u8]) -> Option<ToldRef<'_>>
+fn ref_line<'a>(line: &'a [u8], blank: Option<&ObjectId>) -> Option<ToldRef<'a>>
     ensures { MatchOption result
         ((r : Ref) → ¬ (IsRefLine line.now r))
-        (λ r. IsRefLine line.now (told r)) }
+        (λ t. (r : Ref) × IsRefLine line.now r × IsSeenAs blank.entry r (told t)) }
 {
     let words = behind(line, b"ref ")?;
-    let (target, name) = id_then(words)?;
+    let (target, name) = id_then(words, blank)?;
     Some(ToldRef {
         name: BStr::new(name),
         target,
@@ -199,14 +202,14 @@ fn ref_line(line: &[u8]) -> Option<ToldRef<'_>>
 }
 
 // The ref of a line `tag <id> <id> <name>`.
-fn tag_line(line: &[u8]) -> Option<ToldRef<'_>>
+fn tag_line<'a>(line: &'a [u8], blank: Option<&ObjectId>) -> Option<ToldRef<'a>>
     ensures { MatchOption result
         ((r : Ref) → ¬ (IsTagLine line.now r))
-        (λ r. IsTagLine line.now (told r)) }
+        (λ t. (r : Ref) × IsTagLine line.now r × IsSeenAs blank.entry r (told t)) }
 {
     let words = behind(line, b"tag ")?;
-    let (target, rest) = id_then(words)?;
-    let (object, name) = id_then(rest)?;
+    let (target, rest) = id_then(words, blank)?;
+    let (object, name) = id_then(rest, blank)?;
     Some(ToldRef {
         name: BStr::new(name),
         target,
@@ -214,21 +217,69 @@ fn tag_line(line: &[u8]) -> Option<ToldRef<'_>>
     })
 }
 
-// The id that the first word of a text spells, and what follows the space behind it.
-fn id_then(text: &[u8]) -> Option<(ObjectId, &[u8])>
+// The id that the first word of a text spells, or `blank`, and what follows the space after that word.
+#[inline(always)]
+fn id_then<'a>(text: &'a [u8], blank: Option<&ObjectId>) -> Option<(ObjectId, &'a [u8])>
     ensures { MatchOption result
         ((id rest : List ℕ) → ¬ (IsIdThen text.now id rest))
-        (λ parts. IsIdThen text.now (id_bytes parts.0) parts.1.now) }
+        (λ parts. (id : List ℕ) × IsIdThen text.now id parts.1.now
+        × IsReadAs blank.entry id (id_bytes parts.0)) }
 {
     let (word, rest) = first_word(text)?;
+    let id = id_of(word, blank)?;
+    Some((id, rest))
+}
+
+// The id that a word spells. With `blank` the word is only checked, and that id is returned.
+#[inline(always)]
+fn id_of(word: &[u8], blank: Option<&ObjectId>) -> Option<ObjectId>
+    ensures { MatchOption result
+        ((id : List ℕ) → ¬ (IsIdText word.now id))
+        (λ made. (id : List ℕ) × IsIdText word.now id × IsReadAs blank.entry id (id_bytes made)) }
+{
     laws::id_or_fault(word);
-    match ObjectId::from_hex(word) {
-        Ok(id) => Some((id, rest)),
-        Err(_) => None,
+    match blank {
+        None => match ObjectId::from_hex(word) {
+            Ok(id) => Some(id),
+            Err(_) => None,
+        },
+        Some(id) if is_id(word) => Some(*id),
+        Some(_) => None,
     }
 }
 
-// The first word of a text, which ends at its first space, and what follows that space.
+/// Whether a text spells an id.
+#[inline(always)]
+pub(crate) fn is_id(text: &[u8]) -> bool
+    ensures { MatchBool result (IsId text.now) (¬ (IsId text.now)) }
+{
+    laws::id_or_fault(text);
+    match text.len() {
+        40 | 64 => are_digits(text),
+        _ => false,
+    }
+}
+
+// Whether all bytes of a text are hexadecimal digits. Without an early end, several are tested at once.
+#[inline(always)]
+fn are_digits(text: &[u8]) -> bool
+    ensures { result ≡ list_all is_hex_digit text.now }
+{
+    let mut all = true;
+    for byte in text {
+        all &= is_digit(*byte);
+    }
+    all
+}
+
+// Whether a byte is a hexadecimal digit.
+fn is_digit(byte: u8) -> bool
+    ensures { result ≡ is_hex_digit byte }
+{
+    matches!(byte, b'A'..=b'F' | b'a'..=b'f' | b'0'..=b'9')
+}
+
+// What precedes and follows the first space of a text.
 fn first_word(text: &[u8]) -> Option<(&[u8], &[u8])>
     ensures { MatchOption result
         (Lacks space text.now)
@@ -239,7 +290,7 @@ fn first_word(text: &[u8]) -> Option<(&[u8], &[u8])>
     Some((word, &back[1..]))
 }
 
-// What stands behind a keyword.
+// What follows a keyword.
 fn behind<'a>(line: &'a [u8], keyword: &[u8]) -> Option<&'a [u8]>
     ensures { MatchOption result
         ((rest : List ℕ) → line.now ≢ keyword.now ++ rest)

@@ -15,35 +15,36 @@ mod output;
 mod plan;
 mod run;
 
-use crate::command::Command;
+use crate::command::{Command, Matching};
 use crate::fault::Fault;
 use crate::run::run;
+use gix_refspec::parsing::Operation;
 use std::process::ExitCode;
 use std::{env, io};
 
 const USAGE: &str = "usage: refspec_map canon fetch | canon push | lhs | rhs | plan";
 
-// The status where the words are no command.
+// The status if the words name no command.
 const USAGE_STATUS: u8 = 2;
 
 fn main(rt: HostRuntime) -> ExitCode {
     let status = match named_command(&rt) {
         Ok(Some(command)) => run_command(&rt, command),
         Ok(None) => report_usage(&rt),
-        // A word that is no text is another word.
+        // A word that isn't UTF-8 names no command.
         Err(error) if error.kind() == io::ErrorKind::InvalidData => report_usage(&rt),
         Err(_) => report(&rt, &Fault::Memory),
     };
     ExitCode::from(status)
 }
 
-// Prints the usage line. Where it can't be printed, the status still tells.
+// Prints the usage line. If that fails, only the status tells.
 fn report_usage(rt: &HostRuntime) -> u8 {
     let _ = println!(rt; "{USAGE}");
     USAGE_STATUS
 }
 
-// The command that the words of the call name.
+// Parses the arguments.
 fn named_command<R: env::Env + AllocGlobal>(rt: &R) -> io::Result<Option<Command>> {
     let mut words = Vec::new(rt.alloc());
     for word in env::args(rt)?.skip(1) {
@@ -58,14 +59,14 @@ fn command_of(words: &[String]) -> Option<Command>
 {
     match words {
         [first, second] => match (first.as_str(), second.as_str()) {
-            ("canon", "fetch") => Some(Command::CanonFetch),
-            ("canon", "push") => Some(Command::CanonPush),
+            ("canon", "fetch") => Some(Command::Canon(Operation::Fetch)),
+            ("canon", "push") => Some(Command::Canon(Operation::Push)),
             _ => None,
         },
         [only] => match only.as_str() {
-            "lhs" => Some(Command::Lhs),
-            "rhs" => Some(Command::Rhs),
-            "plan" => Some(Command::Plan),
+            "lhs" => Some(Command::Match(Matching::Lhs)),
+            "rhs" => Some(Command::Match(Matching::Rhs)),
+            "plan" => Some(Command::Match(Matching::Plan)),
             _ => None,
         },
         _ => None,
@@ -80,7 +81,7 @@ fn run_command(rt: &HostRuntime, command: Command) -> u8 {
     }
 }
 
-// Prints the line of a fault. Where it can't be printed, the status still tells.
+// Prints the line of a fault. If that fails, only the status tells.
 fn report(rt: &HostRuntime, fault: &Fault) -> u8 {
     let _ = println!(rt; "{fault}");
     fault.status()

@@ -1,52 +1,45 @@
-//! What the specs of an input match among its refs.
+//! Matching the specs of an input against its refs.
 
-ghost use Rattle.std.specs.Prelude.{◌≡◌, ◌⊎◌, map, IfOk, IfErr};
+ghost use Rattle.std.specs.Prelude.{◌≡◌, ◌⊎◌, map, IfOk, IfErr, IfSome, MatchBool};
 ghost use Rattle.gix_refspec.specs.Views.Group.{ref_of};
+ghost use Rattle.gix_refspec.specs.Views.Spec.{reading_of};
 ghost use Rattle.gix_refspec.specs.Matching.Hits.{AreKeptBackward, AreKeptForward};
 ghost use Rattle.refspec_map.specs.Fault.{IsMemory};
 ghost use Rattle.refspec_map.specs.Line.{IsFirstFault};
 ghost use Rattle.refspec_map.specs.Matching.{AreMapLines, IsMatching};
 ghost use Rattle.refspec_map.specs.Plan.{IsPlan};
-ghost use Rattle.refspec_map.specs.Told.{IsOutputOf, told};
+ghost use Rattle.refspec_map.specs.Run.{IsOutputOf};
+ghost use Rattle.refspec_map.specs.Told.{AsksForNoId, HasIdDestination, told};
 
+use crate::command::Matching;
 use crate::fault::Fault;
-use crate::line::{Entries, ToldRef, push};
-use crate::output::mapping_lines;
+use crate::line::{Entries, ToldRef, is_id, push};
+use crate::output::lines_of;
 use crate::plan::plan;
-use gix_refspec::MatchGroup;
+use bstr::ByteSlice;
 use gix_refspec::match_group::Item;
 use gix_refspec::oid::{Kind, ObjectId};
+use gix_refspec::{MatchGroup, RefSpecRef};
 use std::alloc::Global;
 
-/// A command that matches.
-#[derive(Clone, Copy)]
-pub(crate) enum Matching {
-    /// Writes what the left sides take.
-    Lhs,
-    /// Writes what the right sides match.
-    Rhs,
-    /// Writes what survives of what the left sides take, and the fixes, or the conflicts.
-    Plan,
-}
-
 /// The output of a matching command, and whether it is a plan with conflicts.
-pub(crate) fn matched(
+pub(crate) fn match_lines(
     alloc: Global,
-    command: Matching,
+    matching: Matching,
     input: &[u8],
 ) -> Result<(Vec<u8>, bool), Fault>
     ensures ok { IfOk result (λ made.
-        IsMatching (IsOutputOf command) input.now made.0.items made.1) }
+        IsMatching (IsOutputOf matching) input.now made.0.items made.1) }
     ensures err { IfErr result (λ f. IsMemory f ⊎ IsFirstFault input.now f) }
 {
-    match command {
+    match matching {
         Matching::Lhs => lhs_lines(alloc, input),
         Matching::Rhs => rhs_lines(alloc, input),
         Matching::Plan => planned(alloc, input),
     }
 }
 
-// The lines of what the left sides take, and false. They take refs by their names alone.
+// The lines of the mappings from left to right, and false. They depend on no id of a ref.
 fn lhs_lines(alloc: Global, input: &[u8]) -> Result<(Vec<u8>, bool), Fault>
     ensures ok { IfOk result (λ made.
         IsMatching (AreMapLines AreKeptForward) input.now made.0.items made.1) }
@@ -56,11 +49,39 @@ fn lhs_lines(alloc: Global, input: &[u8]) -> Result<(Vec<u8>, bool), Fault>
     let Entries { specs, items, .. } = Entries::read(alloc, input, Some(&blank))?;
     let group = MatchGroup { specs };
     let outcome = group.match_lhs(alloc, items.as_slice())?;
-    Ok((mapping_lines(alloc, outcome.mappings.as_slice())?, false))
+    Ok((lines_of(alloc, outcome.mappings.as_slice())?, false))
 }
 
-// The lines of what the right sides match, and false.
+// The lines of the mappings from right to left, and false.
 fn rhs_lines(alloc: Global, input: &[u8]) -> Result<(Vec<u8>, bool), Fault>
+    ensures ok { IfOk result (λ made.
+        IsMatching (AreMapLines AreKeptBackward) input.now made.0.items made.1) }
+    ensures err { IfErr result (λ f. IsMemory f ⊎ IsFirstFault input.now f) }
+{
+    match rhs_by_name(alloc, input)? {
+        Some(made) => Ok(made),
+        None => rhs_by_id(alloc, input),
+    }
+}
+
+// The same from the names of the refs alone. `None` if a destination is an id, which matches ids of refs.
+fn rhs_by_name(alloc: Global, input: &[u8]) -> Result<Option<(Vec<u8>, bool)>, Fault>
+    ensures ok { IfOk result (λ found. IfSome found (λ made.
+        IsMatching (AreMapLines AreKeptBackward) input.now made.0.items made.1)) }
+    ensures err { IfErr result (λ f. IsMemory f ⊎ IsFirstFault input.now f) }
+{
+    let blank = ObjectId::null(Kind::Sha1);
+    let Entries { specs, items, .. } = Entries::read(alloc, input, Some(&blank))?;
+    if asks_for_ids(specs.as_slice()) {
+        return Ok(None);
+    }
+    let group = MatchGroup { specs };
+    let outcome = group.match_rhs(alloc, items.as_slice())?;
+    Ok(Some((lines_of(alloc, outcome.mappings.as_slice())?, false)))
+}
+
+// The same from refs with their ids, for which the input is read again.
+fn rhs_by_id(alloc: Global, input: &[u8]) -> Result<(Vec<u8>, bool), Fault>
     ensures ok { IfOk result (λ made.
         IsMatching (AreMapLines AreKeptBackward) input.now made.0.items made.1) }
     ensures err { IfErr result (λ f. IsMemory f ⊎ IsFirstFault input.now f) }
@@ -69,10 +90,36 @@ fn rhs_lines(alloc: Global, input: &[u8]) -> Result<(Vec<u8>, bool), Fault>
     let items = items_of(alloc, refs.as_slice())?;
     let group = MatchGroup { specs };
     let outcome = group.match_rhs(alloc, items.as_slice())?;
-    Ok((mapping_lines(alloc, outcome.mappings.as_slice())?, false))
+    Ok((lines_of(alloc, outcome.mappings.as_slice())?, false))
 }
 
-// The plan of what the left sides take.
+// Whether the destination of some spec is an id.
+fn asks_for_ids(specs: &[RefSpecRef<'_>]) -> bool
+    ensures { MatchBool result
+        (¬ (AsksForNoId (map reading_of specs.now)))
+        (AsksForNoId (map reading_of specs.now)) }
+{
+    for spec in specs {
+        if has_id_destination(spec) {
+            return true;
+        }
+    }
+    false
+}
+
+// Whether the destination of a spec is an id.
+fn has_id_destination(spec: &RefSpecRef<'_>) -> bool
+    ensures { MatchBool result
+        (HasIdDestination (reading_of spec.now))
+        (¬ (HasIdDestination (reading_of spec.now))) }
+{
+    match spec.destination() {
+        None => false,
+        Some(destination) => is_id(destination.as_bytes()),
+    }
+}
+
+// The lines of a plan, and whether it has conflicts.
 fn planned(alloc: Global, input: &[u8]) -> Result<(Vec<u8>, bool), Fault>
     ensures ok { IfOk result (λ made. IsMatching IsPlan input.now made.0.items made.1) }
     ensures err { IfErr result (λ f. IsMemory f ⊎ IsFirstFault input.now f) }

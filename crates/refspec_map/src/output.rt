@@ -1,14 +1,14 @@
 //! The lines of the output.
 
-ghost use Rattle.std.specs.Prelude.{◌≡◌, ◌++◌, ◌∷◌, [], codes, decimal, map, option_map, IfErr, IfOk, IsOk, OnOk};
+ghost use Rattle.std.specs.Prelude.{◌≡◌, ◌++◌, ◌∷◌, List, ℕ, [], codes, decimal, map, option_map, IfErr, IfOk, IsOk, OnOk};
 ghost use Rattle.std.specs.List.{flat_map, zip};
 ghost use Rattle.bstr.specs.Owned.{bstring_bytes};
-ghost use Rattle.gix_refspec.specs.Views.Group.{mapped_of, name_bytes, start_of};
-ghost use Rattle.gix_refspec.specs.Views.Issue.{conflict_of, removed_of};
+ghost use Rattle.gix_refspec.specs.Views.Group.{name_bytes, start_of};
+ghost use Rattle.gix_refspec.specs.Views.Issue.{removed_of};
 ghost use Rattle.gix_refspec.specs.Texts.ObjectId.{id_bytes, lower_of};
 ghost use Rattle.refspec_map.specs.Fault.{IsMemory};
-ghost use Rattle.refspec_map.specs.Matching.{destination_text, item_text, map_line, source_text, tab};
-ghost use Rattle.refspec_map.specs.Plan.{PutsFix, PutsFixes, claim_text, conflict_line};
+ghost use Rattle.refspec_map.specs.Matching.{destination_text, item_text, source_text, tab};
+ghost use Rattle.refspec_map.specs.Plan.{PutsFix, PutsFixes, claim_text};
 
 use crate::fault::Fault;
 use bstr::BString;
@@ -24,9 +24,9 @@ use std::io::Write;
 /// The answer of a canon command to a line.
 #[derive(Clone, Copy)]
 pub(crate) enum Answer<'a> {
-    /// The line is this spec.
+    /// The line reads as this spec.
     Accepted(RefSpecRef<'a>),
-    /// The line is none, for the reason of this name.
+    /// The line is refused for the reason with this name.
     Refused(&'static str),
 }
 
@@ -67,28 +67,23 @@ impl<'a> Answer<'a> {
     }
 }
 
-/// The lines of mappings, in order.
-pub(crate) fn mapping_lines(alloc: Global, mappings: &[Mapping<'_, '_>]) -> Result<Vec<u8>, Fault>
-    ensures ok { IfOk result (λ lines.
-        lines.items ≡ flat_map map_line (map mapped_of mappings.now)) }
-    ensures err { IfErr result IsMemory }
-{
-    let mut lines = Vec::new(alloc);
-    for mapping in mappings {
-        grown(write_mapping(&mut lines, mapping))?;
-    }
-    Ok(lines)
+/// A value that the output shows in a line of its own.
+pub(crate) trait HasLine {
+    ghost line: { Self → List ℕ };
+
+    /// Writes the line.
+    fn write_line(&self, output: &mut Vec<u8>) -> Result<(), AllocError>
+        ensures { OnOk result (output.new.items ≡ output.old.items ++ line self.now) };
 }
 
-/// The lines of conflicts, in order.
-pub(crate) fn conflict_lines(alloc: Global, issues: &[Issue]) -> Result<Vec<u8>, Fault>
-    ensures ok { IfOk result (λ lines.
-        lines.items ≡ flat_map conflict_line (map conflict_of issues.now)) }
+/// The lines of values, in order.
+pub(crate) fn lines_of<L: HasLine>(alloc: Global, shown: &[L]) -> Result<Vec<u8>, Fault>
+    ensures ok { IfOk result (λ lines. lines.items ≡ flat_map L.line shown.now) }
     ensures err { IfErr result IsMemory }
 {
     let mut lines = Vec::new(alloc);
-    for issue in issues {
-        grown(write_conflict(&mut lines, issue))?;
+    for one in shown {
+        grown(one.write_line(&mut lines))?;
     }
     Ok(lines)
 }
@@ -105,7 +100,7 @@ pub(crate) fn put_fixes(output: &mut Vec<u8>, fixes: &[Fix]) -> Result<(), Fault
     Ok(())
 }
 
-// How writing to a vector ended: it fails only if memory runs out.
+// The result of writing to a vector, which fails only if memory runs out.
 fn grown<E: Drop>(written: Result<(), E>) -> Result<(), Fault>
     ensures ok { OnOk result (IsOk written) }
     ensures err { IfErr result IsMemory }
@@ -116,18 +111,21 @@ fn grown<E: Drop>(written: Result<(), E>) -> Result<(), Fault>
     }
 }
 
-// Writes the line of a mapping.
-fn write_mapping(output: &mut Vec<u8>, mapping: &Mapping<'_, '_>) -> Result<(), AllocError>
-    ensures { OnOk result (output.new.items ≡
-        output.old.items ++ map_line (mapped_of mapping.now)) }
-{
-    write_places(output, mapping.spec_index, mapping.item_index)?;
-    write_source(output, &mapping.lhs)?;
-    write_destination(output, &mapping.rhs)?;
-    output.extend_from_slice(b"\n")
+impl HasLine for Mapping<'_, '_> {
+    ghost use Rattle.gix_refspec.specs.Views.Group.{mapped_of};
+    ghost use Rattle.refspec_map.specs.Matching.{map_line};
+
+    ghost line = { λ m. map_line (mapped_of m) };
+
+    fn write_line(&self, output: &mut Vec<u8>) -> Result<(), AllocError> {
+        write_places(output, self.spec_index, self.item_index)?;
+        write_source(output, &self.lhs)?;
+        write_destination(output, &self.rhs)?;
+        output.extend_from_slice(b"\n")
+    }
 }
 
-// Writes how the line of a mapping begins: the places of its spec and its item.
+// Writes the start of a mapping's line: the indexes of its spec and its item.
 fn write_places(output: &mut Vec<u8>, spec: usize, item: Option<usize>) -> Result<(), AllocError>
     ensures { OnOk result (output.new.items ≡ output.old.items
         ++ (codes "map\t" ++ (decimal spec ++ (tab ∷ (item_text item ++ (tab ∷ [])))))) }
@@ -139,7 +137,7 @@ fn write_places(output: &mut Vec<u8>, spec: usize, item: Option<usize>) -> Resul
     output.extend_from_slice(b"\t")
 }
 
-// Writes the place of an item, or `-` where there is none.
+// Writes the index of an item, or `-` without one.
 fn write_item(output: &mut Vec<u8>, item: Option<usize>) -> Result<(), AllocError>
     ensures { OnOk result (output.new.items ≡ output.old.items ++ item_text item) }
 {
@@ -177,7 +175,7 @@ fn write_id(output: &mut Vec<u8>, id: &ObjectId) -> Result<(), AllocError>
     }
 }
 
-// Writes a tab and the destination, where there is one.
+// Writes a tab and the destination, if there is one.
 fn write_destination(
     output: &mut Vec<u8>,
     destination: &Option<NameRef<'_>>,
@@ -194,20 +192,23 @@ fn write_destination(
     }
 }
 
-// Writes the line of a conflict.
-fn write_conflict(output: &mut Vec<u8>, issue: &Issue) -> Result<(), AllocError>
-    ensures { OnOk result (output.new.items ≡
-        output.old.items ++ conflict_line (conflict_of issue.now)) }
-{
-    let Issue::Conflict {
-        destination_full_ref_name,
-        sources,
-        specs,
-    } = issue;
-    output.extend_from_slice(b"conflict\t")?;
-    output.extend_from_slice(destination_full_ref_name.as_bytes())?;
-    write_claims(output, sources.as_slice(), specs.as_slice())?;
-    output.extend_from_slice(b"\n")
+impl HasLine for Issue {
+    ghost use Rattle.gix_refspec.specs.Views.Issue.{conflict_of};
+    ghost use Rattle.refspec_map.specs.Plan.{conflict_line};
+
+    ghost line = { λ issue. conflict_line (conflict_of issue) };
+
+    fn write_line(&self, output: &mut Vec<u8>) -> Result<(), AllocError> {
+        let Issue::Conflict {
+            destination_full_ref_name,
+            sources,
+            specs,
+        } = self;
+        output.extend_from_slice(b"conflict\t")?;
+        output.extend_from_slice(destination_full_ref_name.as_bytes())?;
+        write_claims(output, sources.as_slice(), specs.as_slice())?;
+        output.extend_from_slice(b"\n")
+    }
 }
 
 // Writes sources and the texts of their specs, with a tab before each.

@@ -9,23 +9,22 @@ use crate::canon::canon;
 use crate::command::Command;
 use crate::fault::Fault;
 use crate::input::read_input;
-use crate::matching::{Matching, matched};
-use gix_refspec::parsing::Operation;
+use crate::matching::match_lines;
 use std::alloc::Global;
 use std::io::{Read, Write};
 
 /// Reads the input to its end, and writes the output of the command for it, by one `write_all` and
-/// one `flush`. Returns the status: 1 where a canon command refuses some line, or a plan has
-/// conflicts, else 0.
+/// one `flush`. Returns the status: 1 if a canon command refuses some line or a plan has conflicts,
+/// otherwise 0.
 ///
 /// - `Fault::TooLong` as soon as more than 1,048,576 bytes were read.
-/// - `Fault::Read` at the first read that fails. One that was interrupted isn't tried again.
-/// - `Fault::Line` and `Fault::Spec` at the first line that has no form, or whose spec is refused, in a
-///   matching command. The whole input was read then. Memory may run out before.
+/// - `Fault::Read` at the first read that fails. An interrupted read isn't repeated.
+/// - In a matching command, `Fault::Line` at the first line that is malformed and `Fault::Spec` at the
+///   first whose spec is refused, whichever is first. The whole input was read.
 /// - `Fault::Memory` if memory runs out.
 /// - `Fault::Write` if the writer fails. It may then have taken a part of the output.
 ///
-/// After any fault but the last nothing is written, and what was read is gone from the reader. Time
+/// After any other fault than `Write` nothing was written; what was read is gone from the reader. Time
 /// and memory of a canon command are linear in the length of the input. Those of a matching command are
 /// in docs/SPEED.md, under "Orders of growth".
 pub fn run<R: Read, W: Write>(
@@ -51,8 +50,8 @@ pub fn run<R: Read, W: Write>(
     Ok(u8::from(refusal))
 }
 
-/// A plan that ends with status 0 writes no destination from two sources, and no line twice. By the law a
-/// caller of [`run`] has this of what was written.
+/// A plan that ends with status 0 writes no destination from two sources, and no line twice. The law gives
+/// a caller of [`run`] this fact about what was written.
 pub fn plan_once()
     ensures { PlanOnce }
 {}
@@ -68,11 +67,8 @@ fn output_of(alloc: Global, command: Command, input: &[u8]) -> Result<(Vec<u8>, 
     ensures err { IfErr result (λ f. IsMemory f ⊎ IsBad command input.now f) }
 {
     match command {
-        Command::CanonFetch => canon(alloc, Operation::Fetch, input),
-        Command::CanonPush => canon(alloc, Operation::Push, input),
-        Command::Lhs => matched(alloc, Matching::Lhs, input),
-        Command::Rhs => matched(alloc, Matching::Rhs, input),
-        Command::Plan => matched(alloc, Matching::Plan, input),
+        Command::Canon(operation) => canon(alloc, operation, input),
+        Command::Match(matching) => match_lines(alloc, matching, input),
     }
 }
 

@@ -4,6 +4,7 @@
 use super::answer;
 use crate::command::Command;
 use bstr::BStr;
+use gix_refspec::parsing::Operation;
 use std::alloc::{AllocError, Global};
 use std::process::Abort;
 use std::test::Fail;
@@ -54,7 +55,7 @@ fn answers_for_a_push(rt: HostRuntime) -> Result<(), Fail> {
         ("a*b*\nc", "err PatternUnsupported\nok c:c\n", 1),
     ];
     for row in rows {
-        check_row(&rt, Command::CanonPush, row)?;
+        check_row(&rt, Command::Canon(Operation::Push), row)?;
     }
     Ok(())
 }
@@ -73,7 +74,7 @@ fn answers_for_a_fetch(rt: HostRuntime) -> Result<(), Fail> {
         ),
     ];
     for row in rows {
-        check_row(&rt, Command::CanonFetch, row)?;
+        check_row(&rt, Command::Canon(Operation::Fetch), row)?;
     }
     Ok(())
 }
@@ -88,7 +89,7 @@ fn names_what_a_push_refuses(rt: HostRuntime) -> Result<(), Fail> {
         ("a..b\n", "err ReferenceName\n", 1),
     ];
     for row in rows {
-        check_row(&rt, Command::CanonPush, row)?;
+        check_row(&rt, Command::Canon(Operation::Push), row)?;
     }
     Ok(())
 }
@@ -105,7 +106,7 @@ fn names_what_a_fetch_refuses(rt: HostRuntime) -> Result<(), Fail> {
         ),
     ];
     for row in rows {
-        check_row(&rt, Command::CanonFetch, row)?;
+        check_row(&rt, Command::Canon(Operation::Fetch), row)?;
     }
     Ok(())
 }

@@ -1,12 +1,13 @@
 //! Readers that give little or fail, writers that take little or fail, and the limit of an input.
 
 use super::{ByteReader, CallWriter, FaultyWriter, answer, end_of};
-use crate::command::Command;
+use crate::command::{Command, Matching};
 use crate::input::INPUT_LIMIT;
 use crate::run::run;
 use bstr::BStr;
-use std::alloc::AllocGlobal;
-use std::io;
+use gix_refspec::parsing::Operation;
+use std::alloc::{AllocError, AllocGlobal, Global};
+use std::io::{self, Read, Write};
 use std::process::Abort;
 use std::test::Fail;
 
@@ -46,15 +47,27 @@ fn check_by_bytes<R: Abort + AllocGlobal>(
 
 #[test]
 fn reads_one_byte_a_call(rt: HostRuntime) -> Result<(), Fail> {
-    check_by_bytes(&rt, Command::CanonPush, INPUT, OUTPUT, 1)?;
+    check_by_bytes(&rt, Command::Canon(Operation::Push), INPUT, OUTPUT, 1)?;
     let fetched = "ok main\nok HEAD\nok +HEAD:x\n";
-    check_by_bytes(&rt, Command::CanonFetch, INPUT, fetched, 0)?;
+    check_by_bytes(&rt, Command::Canon(Operation::Fetch), INPUT, fetched, 0)?;
     let mapped = "map\t0\t0\trefs/heads/a\tx/a\n";
-    check_by_bytes(&rt, Command::Lhs, LINES, mapped, 0)?;
+    check_by_bytes(&rt, Command::Match(Matching::Lhs), LINES, mapped, 0)?;
     let tracked = "map\t0\t1\trefs/heads/b\tx/b\n";
-    check_by_bytes(&rt, Command::Rhs, LINES, tracked, 0)?;
+    check_by_bytes(&rt, Command::Match(Matching::Rhs), LINES, tracked, 0)?;
     let planned = "fix\tx/a\trefs/heads/*:x/*\n";
-    check_by_bytes(&rt, Command::Plan, LINES, planned, 0)
+    check_by_bytes(&rt, Command::Match(Matching::Plan), LINES, planned, 0)
+}
+
+// How a run of `canon push` ends.
+fn end_of_push<R: Read, W: Write>(
+    alloc: Global,
+    reader: &mut R,
+    writer: &mut W,
+) -> Result<String, AllocError> {
+    end_of(
+        alloc,
+        run(alloc, Command::Canon(Operation::Push), reader, writer),
+    )
 }
 
 // The reader of a row would give the rest of the input, or its end, at the next call.
@@ -77,9 +90,8 @@ fn tries_no_read_again(rt: HostRuntime) -> Result<(), Fail> {
         let mut writer = CallWriter {
             calls: Vec::new(rt.alloc()),
         };
-        let ended = run(rt.alloc(), Command::CanonPush, &mut reader, &mut writer);
         assert_eq!(rt;
-            end_of(rt.alloc(), ended)?.as_str(),
+            end_of_push(rt.alloc(), &mut reader, &mut writer)?.as_str(),
             "read failed",
             "at read {number}"
         );
@@ -92,7 +104,11 @@ fn tries_no_read_again(rt: HostRuntime) -> Result<(), Fail> {
 #[test]
 fn takes_an_input_at_the_limit(rt: HostRuntime) -> Result<(), Fail> {
     let input = vec![in rt.alloc(); b'a'; INPUT_LIMIT]?;
-    let (output, status) = answer(rt.alloc(), Command::CanonFetch, input.as_slice())?;
+    let (output, status) = answer(
+        rt.alloc(),
+        Command::Canon(Operation::Fetch),
+        input.as_slice(),
+    )?;
     assert_eq!(rt; status, 0);
     assert_eq!(rt; output.len(), 1_048_580);
     let text = output.as_slice().strip_prefix(b"ok ").ok_or("no `ok `")?;
@@ -108,7 +124,12 @@ fn refuses_an_input_past_the_limit(rt: HostRuntime) -> Result<(), Fail> {
         calls: Vec::new(rt.alloc()),
     };
     let mut reader = input.as_slice();
-    let ended = run(rt.alloc(), Command::CanonFetch, &mut reader, &mut writer);
+    let ended = run(
+        rt.alloc(),
+        Command::Canon(Operation::Fetch),
+        &mut reader,
+        &mut writer,
+    );
     assert_eq!(rt; end_of(rt.alloc(), ended)?.as_str(), "input too long");
     assert!(rt; writer.calls.is_empty(), "nothing is written");
 
@@ -117,7 +138,12 @@ fn refuses_an_input_past_the_limit(rt: HostRuntime) -> Result<(), Fail> {
         calls: 0,
         fault: None,
     };
-    let ended = run(rt.alloc(), Command::CanonFetch, &mut reader, &mut writer);
+    let ended = run(
+        rt.alloc(),
+        Command::Canon(Operation::Fetch),
+        &mut reader,
+        &mut writer,
+    );
     assert_eq!(rt; end_of(rt.alloc(), ended)?.as_str(), "input too long");
     assert!(rt;
         writer.calls.is_empty(),
@@ -130,10 +156,18 @@ fn refuses_an_input_past_the_limit(rt: HostRuntime) -> Result<(), Fail> {
 #[test]
 fn writes_nothing_at_a_bad_line(rt: HostRuntime) -> Result<(), Fail> {
     let rows = [
-        (Command::Lhs, "main\n", "line 1 is malformed"),
-        (Command::Rhs, "spec main\n\n", "line 2 is malformed"),
         (
-            Command::Plan,
+            Command::Match(Matching::Lhs),
+            "main\n",
+            "line 1 is malformed",
+        ),
+        (
+            Command::Match(Matching::Rhs),
+            "spec main\n\n",
+            "line 2 is malformed",
+        ),
+        (
+            Command::Match(Matching::Plan),
             "spec main\nspec a\nspec a*",
             "line 3: PatternUnbalanced",
         ),
@@ -157,12 +191,12 @@ fn writes_nothing_at_a_bad_line(rt: HostRuntime) -> Result<(), Fail> {
 fn writes_all_by_one_call_and_flushes_once(rt: HostRuntime) -> Result<(), Fail> {
     let long = vec![in rt.alloc(); b'\n'; 100_000]?;
     let rows = [
-        (Command::CanonFetch, b"".as_slice()),
-        (Command::CanonFetch, long.as_slice()),
-        (Command::CanonPush, INPUT),
-        (Command::Lhs, b"spec main\n".as_slice()),
-        (Command::Rhs, b"".as_slice()),
-        (Command::Plan, b"".as_slice()),
+        (Command::Canon(Operation::Fetch), b"".as_slice()),
+        (Command::Canon(Operation::Fetch), long.as_slice()),
+        (Command::Canon(Operation::Push), INPUT),
+        (Command::Match(Matching::Lhs), b"spec main\n".as_slice()),
+        (Command::Match(Matching::Rhs), b"".as_slice()),
+        (Command::Match(Matching::Plan), b"".as_slice()),
     ];
     for (command, input) in rows {
         let mut reader = input;
@@ -197,9 +231,8 @@ fn stops_where_the_writer_fails(rt: HostRuntime) -> Result<(), Fail> {
             taken: Vec::new(rt.alloc()),
             calls: Vec::new(rt.alloc()),
         };
-        let ended = run(rt.alloc(), Command::CanonPush, &mut reader, &mut writer);
         assert_eq!(rt;
-            end_of(rt.alloc(), ended)?.as_str(),
+            end_of_push(rt.alloc(), &mut reader, &mut writer)?.as_str(),
             end,
             "at {most} and {fails_at}"
         );

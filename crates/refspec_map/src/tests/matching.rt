@@ -1,7 +1,7 @@
 //! What the matching commands write, and the line that they end at.
 
 use super::{answer, end_of};
-use crate::command::Command;
+use crate::command::{Command, Matching};
 use crate::run::run;
 use bstr::BStr;
 use std::alloc::{AllocError, Global};
@@ -97,7 +97,7 @@ fn maps_from_left_to_right(rt: HostRuntime) -> Result<(), Fail> {
             "map\t0\t0\t refs/x\trefs/x/ refs/x\nmap\t0\t1\t\trefs/x/\n",
         ),
     ];
-    check_output(&rt, Command::Lhs, 0, rows.as_slice())
+    check_output(&rt, Command::Match(Matching::Lhs), 0, rows.as_slice())
 }
 
 #[test]
@@ -120,7 +120,7 @@ fn maps_from_right_to_left(rt: HostRuntime) -> Result<(), Fail> {
         ),
         ("spec main\nref $ refs/heads/main\n", ""),
     ];
-    check_output(&rt, Command::Rhs, 0, rows.as_slice())
+    check_output(&rt, Command::Match(Matching::Rhs), 0, rows.as_slice())
 }
 
 #[test]
@@ -156,7 +156,7 @@ fn ends_at_the_first_bad_line(rt: HostRuntime) -> Result<(), Fail> {
             "line 3: NegativeEmpty",
         ),
     ];
-    check_faults(&rt, Command::Lhs, rows.as_slice())?;
-    check_faults(&rt, Command::Rhs, rows.as_slice())?;
-    check_faults(&rt, Command::Plan, rows.as_slice())
+    check_faults(&rt, Command::Match(Matching::Lhs), rows.as_slice())?;
+    check_faults(&rt, Command::Match(Matching::Rhs), rows.as_slice())?;
+    check_faults(&rt, Command::Match(Matching::Plan), rows.as_slice())
 }

@@ -1,4 +1,4 @@
--- What the line reads as is what its text is read as; an error that isn't want of memory is a reason.
+-- What the line reads as is what its text is read as; an error other than `Memory` is a reason.
 use Rattle.std.proofs.Common.{◌≡◌, List, ℕ, subst, sym, ◌∙◌}
 use Rattle.std.proofs.lemmas.Bool.{false≢true}
 use Rattle.gix_refspec.specs.Specs.Grammar.{Reads}
