@@ -3,7 +3,10 @@ pub mod Fault
 pub mod Input
 pub mod Output
 pub mod Plan
+pub mod Prefixes
 pub mod Read
+pub mod Rows
 pub mod Run
 pub mod Shown
 pub mod Texts
+pub mod Track
