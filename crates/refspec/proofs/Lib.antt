@@ -7,4 +7,6 @@ pub mod CanonLemmas
 pub mod PrefixLemmas
 pub mod RowLemmas
 pub mod TrackLemmas
+pub mod RefLemmas
+pub mod PlanLemmas
 pub mod OutputLemmas

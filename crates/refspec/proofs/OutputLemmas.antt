@@ -9,6 +9,8 @@ use Rattle.refspec.specs.declared.call.Form.{Form}
 use Rattle.refspec.specs.declared.checked.Checked.{Checked}
 use Rattle.refspec.specs.declared.texts.Text.{Text}
 use Rattle.refspec.specs.Output.{AddsFound, IsOutput, Shows, Tells}
+use Rattle.refspec.specs.Input.{end_byte}
+use Rattle.refspec.specs.Plan.{AddsPlan}
 use Rattle.refspec.specs.Prefixes.{AddsPrefixes}
 use Rattle.refspec.specs.Read.{AddsIfGood, IsChecked}
 use Rattle.refspec.specs.Texts.{AreTexts, said, spec_input}
@@ -53,3 +55,7 @@ AddsFound-prefixes command.Prefixes call input f g old new no_plan no_track told
 -- the mappings of tracking refs
 pub AddsFound-track : (k : Command) (call : Call) (input : List ℕ) (f : Form) (g : List Reading) (old new : List ℕ) → k ≡ command.Track → AddsTracked f (map (λ w. w.now) call.refs.items) g old new → AddsFound k call input f g old new
 AddsFound-track k call input f g old new is told = subst (λ (x : Command). AddsFound x call input f g old new) (sym is) told
+
+-- the mappings of a plan
+pub AddsFound-plan : (k : Command) (call : Call) (input : List ℕ) (f : Form) (g : List Reading) (old new : List ℕ) → k ≡ command.Plan → AddsPlan f (end_byte call.ends) input g old new → AddsFound k call input f g old new
+AddsFound-plan k call input f g old new is told = subst (λ (x : Command). AddsFound x call input f g old new) (sym is) told

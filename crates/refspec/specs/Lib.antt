@@ -5,6 +5,7 @@ pub mod Output
 pub mod Plan
 pub mod Prefixes
 pub mod Read
+pub mod Refs
 pub mod Rows
 pub mod Run
 pub mod Shown

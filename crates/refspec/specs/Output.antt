@@ -1,4 +1,4 @@
--- What a call writes as its results. Of `check`, `explain` and `plan` nothing is said here.
+-- What a call writes as its results. Of `check` and `explain` nothing is said here.
 use Rattle.std.specs.Prelude.{◌≡◌, ℕ, Bool, List, [], Option, map, MatchBool, ⊤}
 use Rattle.std.specs.Io.KnownBytes.{Appends}
 use Rattle.gix_refspec.specs.declared.parsing.Operation.{Operation}
@@ -9,7 +9,8 @@ use Rattle.refspec.specs.declared.call.Command.TheVariants as command
 use Rattle.refspec.specs.declared.call.Form.{Form}
 use Rattle.refspec.specs.declared.checked.Checked.{Checked}
 use Rattle.refspec.specs.Canon.{AddsCanonical, AreCanonical}
-use Rattle.refspec.specs.Input.{ReadsToEnd}
+use Rattle.refspec.specs.Input.{ReadsToEnd, end_byte}
+use Rattle.refspec.specs.Plan.{AddsPlan}
 use Rattle.refspec.specs.Prefixes.{AddsPrefixes}
 use Rattle.refspec.specs.Read.{AddsIfGood, AddsIfRead}
 use Rattle.refspec.specs.Shown.{AddsNames}
@@ -22,6 +23,7 @@ ShowsCanon call texts output = (names : List (List ℕ)) × AreCanonical texts n
 
 -- the results grew by what a command tells of specs that are read so
 abbrev pub AddsFound : Command → Call → List ℕ → Form → List Reading → List ℕ → List ℕ → Type 0
+AddsFound command.Plan call input form g old new = AddsPlan form (end_byte call.ends) input g old new
 AddsFound command.Track call input form g old new = AddsTracked form (map (λ w. w.now) call.refs.items) g old new
 AddsFound command.Prefixes call input form g old new = AddsPrefixes call.patterns form g old new
 AddsFound _ call input form g old new = ⊤

@@ -63,8 +63,8 @@ pub fn tell_mappings(
     }
 }
 
-// The text at a place, or none.
-fn text_at(texts: &[BString], place: usize) -> &[u8]
+/// The text at a place, or none.
+pub fn text_at(texts: &[BString], place: usize) -> &[u8]
     ensures { result.now ≡ unwrap_or (slice_get (map bstring_bytes texts.now) place) [] }
 {
     match texts.get(place) {

@@ -45,12 +45,17 @@ pub fn is_plain(text: &[u8]) -> bool {
 
 /// Whether a text has bytes, and each is a printed character of ASCII that needs no escape.
 pub fn is_plain_ascii(text: &[u8]) -> bool {
-    !text.is_empty() && text.iter().all(|byte| is_calm_byte(*byte))
+    // Each byte is looked at, with no early end, so that many can be looked at at once.
+    let mut is_calm = !text.is_empty();
+    for byte in text {
+        is_calm &= is_calm_byte(*byte);
+    }
+    is_calm
 }
 
 // Whether a byte is a printed character of ASCII that needs no escape.
 fn is_calm_byte(byte: u8) -> bool {
-    matches!(byte, b' '..=b'~') && byte != b'"' && byte != b'\\'
+    (byte >= b' ') & (byte <= b'~') & (byte != b'"') & (byte != b'\\')
 }
 
 // Whether a character needs no escape.
