@@ -4,4 +4,9 @@ pub mod CheckedLemmas
 pub mod ShownLemmas
 pub mod TextLemmas
 pub mod CanonLemmas
+pub mod PrefixLemmas
+pub mod RowLemmas
+pub mod TrackLemmas
+pub mod RefLemmas
+pub mod PlanLemmas
 pub mod OutputLemmas

@@ -1,6 +1,6 @@
 -- Names that are shown one after another.
-use Rattle.std.proofs.Common.{◌≡◌, ℕ, List, [], ◌∷◌, ◌++◌, flat_map, Result, Ok, Err, OnOk, refl, sym, ap, ◌∙◌, subst, append_assoc}
-use Rattle.std.proofs.lemmas.List.{append-nil}
+use Rattle.std.proofs.Common.{◌≡◌, ℕ, List, [], ◌∷◌, ◌++◌, ◌+◌, ◌<◌, length, take, get_or, map, flat_map, Result, Ok, Err, OnOk, refl, sym, ap, ◌∙◌, subst, append_assoc}
+use Rattle.std.proofs.lemmas.List.{append-nil, map-append, take_more}
 use Rattle.std.proofs.lemmas.Grind.{flat_map-append}
 use Rattle.refspec.specs.declared.call.Form.{Form}
 use Rattle.refspec.specs.declared.call.Form.TheVariants as form
@@ -14,6 +14,11 @@ on_ok (Err e) P Q holds gives = holds
 -- bytes behind others
 pub behind : (old inner mid more new : List ℕ) → mid ≡ old ++ inner → new ≡ mid ++ more → new ≡ old ++ (inner ++ more)
 behind old inner mid more new before put = put ∙ (ap (λ l. l ++ more) before ∙ append_assoc old inner more)
+
+-- mapped twice
+pub map-twice : {X Y Z : Type 0} (f : Y → Z) (g : X → Y) (xs : List X) → map (λ x. f (g x)) xs ≡ map f (map g xs)
+map-twice f g [] = refl
+map-twice f g (x ∷ xs) = ap (λ l. f (g x) ∷ l) (map-twice f g xs)
 
 -- the lines of some names and then those of others
 AreLines-append : (before : List ℕ) (xs ys : List (List ℕ)) (front back : List ℕ) → AreLines before xs front → AreLines before ys back → AreLines before (xs ++ ys) (front ++ back)
@@ -43,3 +48,16 @@ AddsNames-append form.Lines before xs ys old mid new a b = (a.0 ++ b.0, AreLines
 AddsNames-append form.Zeros before xs ys old mid new a b =
     behind old (flat_map zero_ended xs) mid (flat_map zero_ended ys) new a b ∙ ap (λ l. old ++ l) (sym (flat_map-append zero_ended xs ys))
 AddsNames-append form.Json before xs ys old mid new a b = tt
+
+-- results that stayed as they were, twice
+pub KeepsResults-next : (f g : Form) (old mid new : List ℕ) → g ≡ f → KeepsResults f old mid → KeepsResults g mid new → KeepsResults f old new
+KeepsResults-next form.Lines g old mid new same a b = subst (λ (x : Form). KeepsResults x mid new) same b ∙ a
+KeepsResults-next form.Zeros g old mid new same a b = subst (λ (x : Form). KeepsResults x mid new) same b ∙ a
+KeepsResults-next form.Json g old mid new same a b = tt
+
+-- one name more
+pub AddsNames-next : {X : Type 0} (f g : Form) (before : List ℕ) (shown : X → List ℕ) (xs : List X) (i : ℕ) (d : X) (name old mid new : List ℕ) → i < length xs → g ≡ f → name ≡ shown (get_or xs i d) → AddsNames f before (map shown (take i xs)) old mid → AddsNames g before (name ∷ []) mid new → AddsNames f before (map shown (take (i + 1) xs)) old new
+AddsNames-next f g before shown xs i d name old mid new below same is a b =
+    let b2 = subst (λ (x : Form). AddsNames x before (name ∷ []) mid new) same b in
+    let step : map shown (take (i + 1) xs) ≡ map shown (take i xs) ++ name ∷ [] = ap (map shown) (take_more xs i d below) ∙ (map-append shown (take i xs) (get_or xs i d ∷ []) ∙ ap (λ z. map shown (take i xs) ++ z ∷ []) (sym is)) in
+    subst (λ (l : List (List ℕ)). AddsNames f before l old new) (sym step) (AddsNames-append f before (map shown (take i xs)) (name ∷ []) old mid new a b2)

@@ -3,7 +3,11 @@ pub mod Fault
 pub mod Input
 pub mod Output
 pub mod Plan
+pub mod Prefixes
 pub mod Read
+pub mod Refs
+pub mod Rows
 pub mod Run
 pub mod Shown
 pub mod Texts
+pub mod Track

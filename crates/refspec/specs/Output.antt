@@ -2,30 +2,44 @@
 use Rattle.std.specs.Prelude.{◌≡◌, ℕ, Bool, List, [], Option, map, MatchBool, ⊤}
 use Rattle.std.specs.Io.KnownBytes.{Appends}
 use Rattle.gix_refspec.specs.declared.parsing.Operation.{Operation}
+use Rattle.gix_refspec.specs.Specs.Reading.{Reading}
 use Rattle.refspec.specs.declared.call.Call.{Call}
 use Rattle.refspec.specs.declared.call.Command.{Command}
 use Rattle.refspec.specs.declared.call.Command.TheVariants as command
 use Rattle.refspec.specs.declared.call.Form.{Form}
 use Rattle.refspec.specs.declared.checked.Checked.{Checked}
 use Rattle.refspec.specs.Canon.{AddsCanonical, AreCanonical}
-use Rattle.refspec.specs.Input.{ReadsToEnd}
+use Rattle.refspec.specs.Input.{ReadsToEnd, end_byte}
+use Rattle.refspec.specs.Plan.{AddsPlan}
+use Rattle.refspec.specs.Prefixes.{AddsPrefixes}
+use Rattle.refspec.specs.Read.{AddsIfGood, AddsIfRead}
 use Rattle.refspec.specs.Shown.{AddsNames}
 use Rattle.refspec.specs.Texts.{AreTexts, spec_input}
+use Rattle.refspec.specs.Track.{AddsTracked}
 
 -- the canonical texts of the texts, each shown as the call says
 abbrev pub ShowsCanon : Call → List (Operation × List ℕ) → List ℕ → Type 0
 ShowsCanon call texts output = (names : List (List ℕ)) × AreCanonical texts names × AddsNames call.form [] names [] output
 
--- what a command shows of the texts
-abbrev pub Shows : Command → Call → List (Operation × List ℕ) → List ℕ → Type 0
-Shows command.Canon call texts output = ShowsCanon call texts output
-Shows _ call texts output = ⊤
+-- the results grew by what a command tells of specs that are read so
+abbrev pub AddsFound : Command → Call → List ℕ → Form → List Reading → List ℕ → List ℕ → Type 0
+AddsFound command.Plan call input form g old new = AddsPlan form (end_byte call.ends) input g old new
+AddsFound command.Track call input form g old new = AddsTracked form (map (λ w. w.now) call.refs.items) g old new
+AddsFound command.Prefixes call input form g old new = AddsPrefixes call.patterns form g old new
+AddsFound _ call input form g old new = ⊤
+
+-- what a command shows of the texts and its input
+abbrev pub Shows : Command → Call → List ℕ → List (Operation × List ℕ) → List ℕ → Type 0
+Shows command.Canon call input texts output = ShowsCanon call texts output
+Shows command.Check call input texts output = ⊤
+Shows command.Explain call input texts output = ⊤
+Shows found call input texts output = AddsIfRead (AddsFound found call input call.form) call.form texts [] output
 
 -- the output of a call for the file beside its input and its input
 abbrev pub IsOutput : Call → List ℕ → List ℕ → List ℕ → Type 0
 IsOutput call beside input output =
     (texts : List (Operation × List ℕ)) × AreTexts call.ends call.operation (map (λ w. w.now) call.specs.items) beside (spec_input call.command input) texts
-    × Shows call.command call texts output
+    × Shows call.command call input texts output
 
 -- the input is all that the reader had left, where the call reads it
 abbrev pub IsInput : Bool → Option (List ℕ) → Option (List ℕ) → List ℕ → Type 0
@@ -39,7 +53,9 @@ pub record Answers (call : Call) (beside : List ℕ) (reader_old reader_new writ
   pub is : IsOutput call beside input output
   pub written : Appends writer_old writer_new output
 
--- what a command told of what was checked
-abbrev pub Tells : Command → Form → List Checked → List ℕ → List ℕ → Type 0
-Tells command.Canon form all old new = AddsCanonical form all old new
-Tells _ form all old new = ⊤
+-- what a command told of what was checked and of its input
+abbrev pub Tells : Command → Call → List ℕ → Form → List Checked → List ℕ → List ℕ → Type 0
+Tells command.Canon call input form all old new = AddsCanonical form all old new
+Tells command.Check call input form all old new = ⊤
+Tells command.Explain call input form all old new = ⊤
+Tells found call input form all old new = AddsIfGood (AddsFound found call input form) form all old new

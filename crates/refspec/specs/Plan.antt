@@ -1,5 +1,5 @@
 -- What a fetch writes, in the words of the library.
-use Rattle.std.specs.Prelude.{◌≢◌, List, []}
+use Rattle.std.specs.Prelude.{◌≢◌, ℕ, List, []}
 use Rattle.gix_refspec.specs.Specs.Reading.{Reading}
 use Rattle.gix_refspec.specs.Matching.Match.{Ref}
 use Rattle.gix_refspec.specs.Matching.Mappings.{Mapped}
@@ -7,8 +7,14 @@ use Rattle.gix_refspec.specs.Matching.Hits.{AreKeptForward}
 use Rattle.gix_refspec.specs.Views.Issue.{conflicts_of, mappings_of}
 use Rattle.gix_refspec.specs.Matching.RefNames.{KeepsNamed, LeftOut}
 use Rattle.gix_refspec.specs.Matching.Validation.{AreConflicts, IsValidated, Removed}
+use Rattle.refspec.specs.declared.call.Form.{Form}
+use Rattle.refspec.specs.declared.mappings.Columns.TheVariants as columns
 use Rattle.refspec.specs.declared.plan.Written.{Written}
 use Rattle.refspec.specs.declared.plan.Written.TheVariants as written
+use Rattle.refspec.specs.Input.{AreRecords}
+use Rattle.refspec.specs.Refs.{AddsRefs}
+use Rattle.refspec.specs.Rows.{AddsMappings, AreSpecTexts}
+use Rattle.refspec.specs.Shown.{KeepsResults}
 
 -- of the mappings between names of refs, those that survive a validation are written; or nothing is, since these
 -- are their conflicts, and there are some
@@ -24,3 +30,21 @@ pub record IsPlan (g : List Reading) (items : List Ref) (made : Written) (out : 
   pub named : List Mapped
   pub parted : KeepsNamed kept named out
   pub writes : Writes g named made
+
+-- the results grew by the mappings that are written, the source first; where there are conflicts, they stayed as they were
+abbrev pub AddsWritten : Form → List (List ℕ) → Written → List ℕ → List ℕ → Type 0
+AddsWritten form texts (written.Mappings outcome) old new = AddsMappings form columns.SourceFirst texts (mappings_of outcome) old new
+AddsWritten form texts (written.Nothing error) old new = KeepsResults form old new
+
+-- the results grew by what a fetch writes of the refs in the records of an input
+pub record AddsPlan (form : Form) (end : ℕ) (input : List ℕ) (g : List Reading) (old new : List ℕ) : Type 0 where
+  pub records : List (List ℕ)
+  pub items : List Ref
+  pub texts : List (List ℕ)
+  pub made : Written
+  pub out : List LeftOut
+  pub cut : AreRecords end records input
+  pub refs : AddsRefs records [] items
+  pub of_specs : AreSpecTexts g texts
+  pub plan : IsPlan g items made out
+  pub told : AddsWritten form texts made old new

@@ -1,8 +1,9 @@
 //! Texts, each read as a spec or refused.
 
-ghost use Rattle.std.specs.Prelude.{IfOk};
+ghost use Rattle.std.specs.Prelude.{map, IfOk, MatchOption};
 ghost use Rattle.std.specs.List.{AllZip};
-ghost use Rattle.refspec.specs.Read.{IsChecked};
+ghost use Rattle.gix_refspec.specs.Views.Spec.{reading_of};
+ghost use Rattle.refspec.specs.Read.{HasBad, IsChecked, IsSpec};
 
 use crate::texts::Text;
 use bstr::BStr;
@@ -55,7 +56,10 @@ fn check(alloc: Global, text: Text<'_>) -> Result<Checked<'_>, AllocError>
 pub fn all_good<'a>(
     alloc: Global,
     all: &[Checked<'a>],
-) -> Result<Option<Vec<RefSpecRef<'a>>>, AllocError> {
+) -> Result<Option<Vec<RefSpecRef<'a>>>, AllocError>
+    ensures { IfOk result (λ good. MatchOption good (HasBad all.now)
+        (λ specs. AllZip IsSpec all.now (map reading_of specs.items))) }
+{
     let mut specs = Vec::with_capacity(alloc, all.len())?;
     for checked in all {
         match checked {

@@ -1,9 +1,16 @@
 //! How a plan is shown: its mappings as results, and conflicts and what is left out as messages.
 
+ghost use Rattle.std.specs.Prelude.{◌≡◌, map, OnOk};
+ghost use Rattle.bstr.specs.Owned.{bstring_bytes};
+ghost use Rattle.gix_refspec.specs.Views.Spec.{reading_of};
+ghost use Rattle.refspec.specs.Input.{end_byte};
+ghost use Rattle.refspec.specs.Plan.{AddsPlan, AddsWritten};
+ghost use Rattle.refspec.specs.Shown.{KeepsResults};
+
 use crate::call::{Call, Form};
 use crate::input::{end_of, records};
 use crate::json;
-use crate::mappings::{Columns, canonical_texts, source_of, tell_mappings};
+use crate::mappings::{Columns, canonical_texts, source_of, tell_mappings, text_at};
 use crate::page::{Page, put_advice};
 use crate::plan::{Written, plan_of};
 use crate::quote::put_quoted;
@@ -23,33 +30,85 @@ pub fn tell_plan(
     specs: Vec<RefSpecRef<'_>>,
     input: &[u8],
     page: &mut Page,
-) -> Result<(), AllocError> {
+) -> Result<(), AllocError>
+    ensures { OnOk result (AddsPlan page.old.form (end_byte call.now.ends) input.now
+        (map reading_of specs.entry.items) page.old.results.items page.new.results.items) }
+{
     let records = records(alloc, input, end_of(call.ends))?;
     let told = Told::read(alloc, records.as_slice())?;
-    for bad in &told.bad {
-        tell_bad_record(alloc, call.input, bad, page)?;
-    }
+    tell_bad_records(alloc, call.input, told.bad.as_slice(), page)?;
     let items = items_of(alloc, told.refs.as_slice())?;
     let texts = canonical_texts(alloc, specs.as_slice())?;
     let plan = plan_of(alloc, specs, items.as_slice())?;
-    for bad in &plan.left_out {
-        tell_left_out(alloc, bad, texts.as_slice(), page)?;
-    }
-    match &plan.written {
+    tell_all_left_out(alloc, plan.left_out.as_slice(), texts.as_slice(), page)?;
+    tell_written(alloc, &plan.written, texts.as_slice(), page)
+}
+
+// Tells the mappings that are written, or the conflicts for which none is.
+fn tell_written(
+    alloc: Global,
+    written: &Written<'_, '_>,
+    texts: &[BString],
+    page: &mut Page,
+) -> Result<(), AllocError>
+    ensures { OnOk result (AddsWritten page.old.form (map bstring_bytes texts.now) written.now
+        page.old.results.items page.new.results.items) }
+{
+    match written {
         Written::Mappings(outcome) => tell_mappings(
             alloc,
             outcome.mappings.as_slice(),
-            texts.as_slice(),
+            texts,
             Columns::SourceFirst,
             page,
         ),
-        Written::Nothing(error) => {
-            for issue in &error.issues {
-                tell_conflict(alloc, issue, page)?;
-            }
-            Ok(())
-        }
+        Written::Nothing(error) => tell_conflicts(alloc, error.issues.as_slice(), page),
     }
+}
+
+// Tells of records that tell of no ref.
+fn tell_bad_records(
+    alloc: Global,
+    input: &str,
+    bad: &[BadRecord<'_>],
+    page: &mut Page,
+) -> Result<(), AllocError>
+    ensures form { OnOk result (page.new.form ≡ page.old.form) }
+    ensures kept { OnOk result (KeepsResults page.old.form
+        page.old.results.items page.new.results.items) }
+{
+    for record in bad {
+        tell_bad_record(alloc, input, record, page)?;
+    }
+    Ok(())
+}
+
+// Tells of mappings that are left out.
+fn tell_all_left_out(
+    alloc: Global,
+    left_out: &[BadMapping<'_, '_>],
+    texts: &[BString],
+    page: &mut Page,
+) -> Result<(), AllocError>
+    ensures form { OnOk result (page.new.form ≡ page.old.form) }
+    ensures kept { OnOk result (KeepsResults page.old.form
+        page.old.results.items page.new.results.items) }
+{
+    for bad in left_out {
+        tell_left_out(alloc, bad, texts, page)?;
+    }
+    Ok(())
+}
+
+// Tells of conflicts.
+fn tell_conflicts(alloc: Global, issues: &[Issue], page: &mut Page) -> Result<(), AllocError>
+    ensures { OnOk result (KeepsResults page.old.form
+        page.old.results.items page.new.results.items) }
+{
+    for issue in issues {
+        tell_conflict(alloc, issue, page)?;
+    }
+    Ok(())
 }
 
 #[derive(Drop, Serialize)]
@@ -66,13 +125,25 @@ fn tell_bad_record(
     input: &str,
     bad: &BadRecord<'_>,
     page: &mut Page,
-) -> Result<(), AllocError> {
+) -> Result<(), AllocError>
+    ensures form { OnOk result (page.new.form ≡ page.old.form) }
+    ensures kept { OnOk result (KeepsResults page.old.form
+        page.old.results.items page.new.results.items) }
+{
     page.refused = true;
     let place = Place::Record {
         input,
         number: bad.number,
     };
-    let (message, advice) = if bad.is_peeled {
+    match page.form {
+        Form::Json => put_malformed(alloc, &place, bad, &mut page.results),
+        Form::Lines | Form::Zeros => put_bad_record(alloc, &place, bad, &mut page.messages),
+    }
+}
+
+// Why a record tells of no ref, and what to do.
+fn why_malformed(bad: &BadRecord<'_>) -> (&'static str, &'static str) {
+    if bad.is_peeled {
         (
             "The tag that this line peels does not stand right before it.",
             "Keep the lines in the order in which Git prints them.",
@@ -82,19 +153,36 @@ fn tell_bad_record(
             "This is no ref: a line is an object id, a tab or a space, and a name.",
             "Give the output of `git ls-remote`, `git show-ref -d` or `git for-each-ref --format='%(objectname) %(refname)'`.",
         )
-    };
-    if page.form == Form::Json {
-        let place = json::place_of(alloc, &place)?;
-        let text = json::text_of(alloc, bad.bytes)?;
-        let object = Malformed {
-            kind: "malformed",
-            place: place.as_str(),
-            text: text.as_str(),
-            message,
-        };
-        return json::put_line(alloc, &mut page.results, &object);
     }
-    let out = &mut page.messages;
+}
+
+// Puts the object of such a record at the end.
+fn put_malformed(
+    alloc: Global,
+    place: &Place<'_>,
+    bad: &BadRecord<'_>,
+    out: &mut Vec<u8>,
+) -> Result<(), AllocError> {
+    let (message, _) = why_malformed(bad);
+    let place = json::place_of(alloc, place)?;
+    let text = json::text_of(alloc, bad.bytes)?;
+    let object = Malformed {
+        kind: "malformed",
+        place: place.as_str(),
+        text: text.as_str(),
+        message,
+    };
+    json::put_line(alloc, out, &object)
+}
+
+// Puts the lines of such a record at the end.
+fn put_bad_record(
+    alloc: Global,
+    place: &Place<'_>,
+    bad: &BadRecord<'_>,
+    out: &mut Vec<u8>,
+) -> Result<(), AllocError> {
+    let (message, advice) = why_malformed(bad);
     place.put(alloc, out)?;
     out.extend_from_slice(b": ")?;
     put_quoted(out, bad.bytes)?;
@@ -119,58 +207,71 @@ fn tell_left_out(
     bad: &BadMapping<'_, '_>,
     texts: &[BString],
     page: &mut Page,
-) -> Result<(), AllocError> {
+) -> Result<(), AllocError>
+    ensures form { OnOk result (page.new.form ≡ page.old.form) }
+    ensures kept { OnOk result (KeepsResults page.old.form
+        page.old.results.items page.new.results.items) }
+{
     page.refused = true;
     let mut buffer = Vec::new(alloc);
     let source = source_of(&bad.mapping.lhs, &mut buffer)?;
-    let destination = match &bad.mapping.rhs {
+    let spec = text_at(texts, bad.mapping.spec_index);
+    match page.form {
+        Form::Json => put_left_out_object(alloc, bad, source, spec, &mut page.results),
+        Form::Lines | Form::Zeros => put_left_out(bad, source, spec, &mut page.messages),
+    }
+}
+
+// The destination of a mapping that is left out.
+fn destination_of<'a>(bad: &'a BadMapping<'_, '_>) -> Option<&'a [u8]> {
+    match &bad.mapping.rhs {
         Some(name) => Some(name.as_bstr().as_bytes()),
         None => None,
-    };
-    let spec = match texts.get(bad.mapping.spec_index) {
-        Some(text) => text.as_bytes(),
-        None => b"",
-    };
-    let wrong = match bad.side {
-        BadSide::Source | BadSide::Both => source,
-        BadSide::Destination => destination.unwrap_or(b""),
-    };
-    let message = why_left_out(wrong);
-    if page.form == Form::Json {
-        let source = json::text_of(alloc, source)?;
-        let shown = json::text_of(alloc, destination.unwrap_or(b""))?;
-        let spec = json::text_of(alloc, spec)?;
-        let object = LeftOut {
-            kind: "left out",
-            source: source.as_str(),
-            destination: destination.map(|_| shown.as_str()),
-            spec: spec.as_str(),
-            message,
-        };
-        return json::put_line(alloc, &mut page.results, &object);
     }
-    put_left_out(
-        &mut page.messages,
-        source,
-        destination,
-        spec,
-        wrong,
+}
+
+// The side that is no name of a ref, the source if both are.
+fn wrong_of<'a>(bad: &'a BadMapping<'_, '_>, source: &'a [u8]) -> &'a [u8] {
+    match bad.side {
+        BadSide::Source | BadSide::Both => source,
+        BadSide::Destination => destination_of(bad).unwrap_or(b""),
+    }
+}
+
+// Puts the object of what is left out at the end.
+fn put_left_out_object(
+    alloc: Global,
+    bad: &BadMapping<'_, '_>,
+    source: &[u8],
+    spec: &[u8],
+    out: &mut Vec<u8>,
+) -> Result<(), AllocError> {
+    let message = why_left_out(wrong_of(bad, source));
+    let destination = destination_of(bad);
+    let source = json::text_of(alloc, source)?;
+    let shown = json::text_of(alloc, destination.unwrap_or(b""))?;
+    let spec = json::text_of(alloc, spec)?;
+    let object = LeftOut {
+        kind: "left out",
+        source: source.as_str(),
+        destination: destination.map(|_| shown.as_str()),
+        spec: spec.as_str(),
         message,
-    )
+    };
+    json::put_line(alloc, out, &object)
 }
 
 // Puts the line of what is left out at the end.
 fn put_left_out(
-    out: &mut Vec<u8>,
+    bad: &BadMapping<'_, '_>,
     source: &[u8],
-    destination: Option<&[u8]>,
     spec: &[u8],
-    wrong: &[u8],
-    message: &str,
+    out: &mut Vec<u8>,
 ) -> Result<(), AllocError> {
+    let wrong = wrong_of(bad, source);
     out.extend_from_slice(b"left out: ")?;
     put_quoted(out, source)?;
-    if let Some(name) = destination {
+    if let Some(name) = destination_of(bad) {
         out.extend_from_slice(b" -> ")?;
         put_quoted(out, name)?;
     }
@@ -179,7 +280,7 @@ fn put_left_out(
     out.extend_from_slice(b"): ")?;
     put_quoted(out, wrong)?;
     out.extend_from_slice(b" is no name of a ref. ")?;
-    out.extend_from_slice(message.as_bytes())?;
+    out.extend_from_slice(why_left_out(wrong).as_bytes())?;
     out.push(b'\n')?;
     Ok(())
 }
@@ -206,31 +307,50 @@ struct Claim {
 }
 
 // Tells of a destination that several sources are mapped to.
-fn tell_conflict(alloc: Global, issue: &Issue, page: &mut Page) -> Result<(), AllocError> {
+fn tell_conflict(alloc: Global, issue: &Issue, page: &mut Page) -> Result<(), AllocError>
+    ensures form { OnOk result (page.new.form ≡ page.old.form) }
+    ensures kept { OnOk result (KeepsResults page.old.form
+        page.old.results.items page.new.results.items) }
+{
     page.refused = true;
+    match page.form {
+        Form::Json => put_conflict_object(alloc, issue, &mut page.results),
+        Form::Lines | Form::Zeros => put_conflict(alloc, issue, &mut page.messages),
+    }
+}
+
+// Puts the object of a conflict at the end.
+fn put_conflict_object(alloc: Global, issue: &Issue, out: &mut Vec<u8>) -> Result<(), AllocError> {
     let Issue::Conflict {
         destination_full_ref_name,
         sources,
         specs,
     } = issue;
     let mut buffer = Vec::new(alloc);
-    if page.form == Form::Json {
-        let mut claims = Vec::with_capacity(alloc, sources.len())?;
-        for (source, spec) in sources.iter().zip(specs) {
-            claims.push(Claim {
-                source: json::text_of(alloc, source_of(source, &mut buffer)?)?,
-                spec: json::text_of(alloc, spec.as_bytes())?,
-            })?;
-        }
-        let destination = json::text_of(alloc, destination_full_ref_name.as_bytes())?;
-        let object = Conflict {
-            kind: "conflict",
-            destination: destination.as_str(),
-            sources: claims.as_slice(),
-        };
-        return json::put_line(alloc, &mut page.results, &object);
+    let mut claims = Vec::with_capacity(alloc, sources.len())?;
+    for (source, spec) in sources.iter().zip(specs) {
+        claims.push(Claim {
+            source: json::text_of(alloc, source_of(source, &mut buffer)?)?,
+            spec: json::text_of(alloc, spec.as_bytes())?,
+        })?;
     }
-    let out = &mut page.messages;
+    let destination = json::text_of(alloc, destination_full_ref_name.as_bytes())?;
+    let object = Conflict {
+        kind: "conflict",
+        destination: destination.as_str(),
+        sources: claims.as_slice(),
+    };
+    json::put_line(alloc, out, &object)
+}
+
+// Puts the lines of a conflict at the end.
+fn put_conflict(alloc: Global, issue: &Issue, out: &mut Vec<u8>) -> Result<(), AllocError> {
+    let Issue::Conflict {
+        destination_full_ref_name,
+        sources,
+        specs,
+    } = issue;
+    let mut buffer = Vec::new(alloc);
     out.extend_from_slice(b"conflict: ")?;
     put_quoted(out, destination_full_ref_name.as_bytes())?;
     out.extend_from_slice(b" would be written from several refs, so nothing is fetched:\n")?;

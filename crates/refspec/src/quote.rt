@@ -31,8 +31,11 @@ pub fn put_in_quotes(out: &mut Vec<u8>, text: &[u8]) -> Result<(), AllocError>
 
 /// Whether a text can be shown as it is: it is UTF-8, and has no control character, quote or backslash.
 pub fn is_plain(text: &[u8]) -> bool {
-    if text.iter().all(|byte| is_calm_byte(*byte)) {
-        return !text.is_empty();
+    if is_plain_ascii(text) {
+        return true;
+    }
+    if text.is_empty() {
+        return false;
     }
     match str::from_utf8(text) {
         Ok(text) => text.chars().all(|c| is_calm(c)),
@@ -40,9 +43,19 @@ pub fn is_plain(text: &[u8]) -> bool {
     }
 }
 
+/// Whether a text has bytes, and each is a printed character of ASCII that needs no escape.
+pub fn is_plain_ascii(text: &[u8]) -> bool {
+    // Each byte is looked at, with no early end, so that many can be looked at at once.
+    let mut is_calm = !text.is_empty();
+    for byte in text {
+        is_calm &= is_calm_byte(*byte);
+    }
+    is_calm
+}
+
 // Whether a byte is a printed character of ASCII that needs no escape.
 fn is_calm_byte(byte: u8) -> bool {
-    matches!(byte, b' '..=b'~') && byte != b'"' && byte != b'\\'
+    (byte >= b' ') & (byte <= b'~') & (byte != b'"') & (byte != b'\\')
 }
 
 // Whether a character needs no escape.

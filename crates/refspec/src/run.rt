@@ -1,9 +1,11 @@
 //! A call, from its reader to its writers.
 
-ghost use Rattle.std.specs.Prelude.{IfOk, IfErr, OnOk};
+ghost use Rattle.std.specs.Prelude.{map, IfOk, IfErr, OnOk};
 ghost use Rattle.std.specs.Io.KnownBytes.{Appends};
+ghost use Rattle.gix_refspec.specs.Views.Spec.{reading_of};
 ghost use Rattle.refspec.specs.Fault.{IsReadOrMemory, IsWrite};
-ghost use Rattle.refspec.specs.Output.{Answers, IsInput, IsOutput, Tells};
+ghost use Rattle.refspec.specs.Output.{AddsFound, Answers, IsInput, IsOutput, Tells};
+ghost use Rattle.refspec.specs.Read.{AddsIfGood};
 ghost use Rattle.refspec.specs.Run.{Leaves, ReadsWhole};
 
 use crate::call::{Call, Command};
@@ -14,9 +16,10 @@ use crate::input::read_input;
 use crate::page::Page;
 use crate::planning::tell_plan;
 use crate::prefixes::tell_prefixes;
-use crate::specs::tell_specs;
+use crate::specs::{tell_refusals, tell_specs};
 use crate::texts::texts_of;
 use crate::track::tell_tracking;
+use gix_refspec::RefSpecRef;
 use std::alloc::{AllocError, Global};
 use std::io::{Read, Write};
 
@@ -82,19 +85,47 @@ fn tell_page(
     input: &[u8],
     page: &mut Page,
 ) -> Result<(), AllocError>
-    ensures { OnOk result (Tells call.now.command page.old.form all.now
+    ensures { OnOk result (Tells call.now.command call.now input.now page.old.form all.now
         page.old.results.items page.new.results.items) }
 {
     match call.command {
-        Command::Canon => return tell_canon(alloc, all, page),
+        Command::Canon => tell_canon(alloc, all, page),
         Command::Check | Command::Explain => {
-            return tell_specs(alloc, call.command, call.verbose, all, page);
+            tell_specs(alloc, call.command, call.verbose, all, page)
         }
-        Command::Plan | Command::Track | Command::Prefixes => {}
+        _ => tell_if_good(alloc, call, all, input, page),
     }
-    let Some(specs) = all_good(alloc, all)? else {
-        return tell_specs(alloc, Command::Check, false, all, page);
-    };
+}
+
+// Tells what a call finds for its specs, or which of them are refused.
+fn tell_if_good(
+    alloc: Global,
+    call: &Call<'_>,
+    all: &[Checked<'_>],
+    input: &[u8],
+    page: &mut Page,
+) -> Result<(), AllocError>
+    ensures { OnOk result (AddsIfGood
+        (AddsFound call.now.command call.now input.now page.old.form) page.old.form all.now
+        page.old.results.items page.new.results.items) }
+{
+    match all_good(alloc, all)? {
+        None => tell_refusals(alloc, all, page),
+        Some(specs) => tell_found(alloc, call, specs, input, page),
+    }
+}
+
+// Tells what a call finds for specs.
+fn tell_found(
+    alloc: Global,
+    call: &Call<'_>,
+    specs: Vec<RefSpecRef<'_>>,
+    input: &[u8],
+    page: &mut Page,
+) -> Result<(), AllocError>
+    ensures { OnOk result (AddsFound call.now.command call.now input.now page.old.form
+        (map reading_of specs.entry.items) page.old.results.items page.new.results.items) }
+{
     match call.command {
         Command::Plan => tell_plan(alloc, call, specs, input, page),
         Command::Track => tell_tracking(alloc, call, specs, page),

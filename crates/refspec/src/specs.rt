@@ -1,5 +1,8 @@
 //! What is shown of specs alone: whether they are good, and what they mean.
 
+ghost use Rattle.std.specs.Prelude.{◌≡◌, OnOk};
+ghost use Rattle.refspec.specs.Shown.{KeepsResults};
+
 use crate::call::{Command, Form};
 use crate::checked::Checked;
 use crate::json;
@@ -34,6 +37,29 @@ pub fn tell_specs(
         }
     }
     Ok(())
+}
+
+/// Refuses each text that is no spec, and tells nothing of the others.
+pub fn tell_refusals(alloc: Global, all: &[Checked<'_>], page: &mut Page) -> Result<(), AllocError>
+    ensures { OnOk result (KeepsResults page.old.form
+        page.old.results.items page.new.results.items) }
+{
+    for checked in all {
+        refuse_bad(alloc, checked, page)?;
+    }
+    Ok(())
+}
+
+// Refuses a text that is no spec.
+fn refuse_bad(alloc: Global, checked: &Checked<'_>, page: &mut Page) -> Result<(), AllocError>
+    ensures form { OnOk result (page.new.form ≡ page.old.form) }
+    ensures kept { OnOk result (KeepsResults page.old.form
+        page.old.results.items page.new.results.items) }
+{
+    match checked {
+        Checked::Bad { text, error } => page.tell_refusal(alloc, text, error),
+        Checked::Good { .. } => Ok(()),
+    }
 }
 
 // A spec, and what is said of it.

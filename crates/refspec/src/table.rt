@@ -1,55 +1,94 @@
-//! Rows of names, aligned.
+//! Rows of fields, aligned.
 
-use crate::quote::{is_plain, put_in_quotes, put_quoted};
+ghost use Rattle.std.specs.Prelude.{◌≡◌, ◌++◌, OnOk, replicate};
+ghost use Rattle.refspec.specs.Rows.{PutsCell};
+ghost use Rattle.refspec.specs.Shown.{PutsQuoted};
+
+use crate::quote::{is_plain, is_plain_ascii, put_in_quotes, put_quoted};
 use std::alloc::{AllocError, Global};
 
-/// How wide the first two columns of a table are.
+/// How a table is laid out.
 #[derive(Clone, Copy, Debug)]
-pub struct Widths {
+pub struct Layout {
+    /// How many characters the widest field of each column has, as it is shown.
     pub first: usize,
     pub second: usize,
+    pub last: usize,
+    /// Whether each field so far is shown as it is, with a character for each byte.
+    pub is_ascii: bool,
 }
 
-impl Widths {
-    /// The widths of a table with no rows.
-    pub fn new() -> Widths {
-        Widths {
+impl Layout {
+    /// The layout of a table with no rows.
+    pub fn new() -> Layout {
+        Layout {
             first: 0,
             second: 0,
+            last: 0,
+            is_ascii: true,
         }
     }
 
-    /// Makes room for a row.
-    pub fn add(&mut self, alloc: Global, first: &[u8], second: &[u8]) -> Result<(), AllocError> {
-        self.first = self.first.max(width_of(alloc, first)?);
-        self.second = self.second.max(width_of(alloc, second)?);
-        Ok(())
+    /// How many characters a field has as it is shown. It is one of the table from then on.
+    pub fn width_of(&mut self, alloc: Global, field: &[u8]) -> Result<usize, AllocError> {
+        if is_plain_ascii(field) {
+            return Ok(field.len());
+        }
+        self.is_ascii = false;
+        width_of(alloc, field)
     }
 
-    /// Puts a row at the end.
-    pub fn put_row(
+    /// How many bytes so many rows have at the most, where each character is a byte.
+    pub fn room(&self, rows: usize) -> usize {
+        let width = self
+            .first
+            .saturating_add(self.second)
+            .saturating_add(self.last);
+        width.saturating_add(5).saturating_mul(rows)
+    }
+
+    /// Puts a field at the end, and spaces up to a width and two more.
+    pub fn put_cell(
         &self,
         alloc: Global,
         out: &mut Vec<u8>,
-        first: &[u8],
-        second: &[u8],
-        last: &[u8],
-    ) -> Result<(), AllocError> {
-        put_cell(alloc, out, first, self.first)?;
-        put_cell(alloc, out, second, self.second)?;
-        put_quoted(out, last)?;
-        out.push(b'\n')?;
-        Ok(())
+        field: &[u8],
+        width: usize,
+    ) -> Result<(), AllocError>
+        ensures { OnOk result (PutsCell field.now out.old.items out.new.items) }
+    {
+        let shown = self.shown_width(alloc, field)?;
+        self.put_field(out, field)?;
+        out.extend_from_slice(b"  ")?;
+        put_spaces(out, width.saturating_sub(shown))
+    }
+
+    // How many characters one of the fields has as it is shown.
+    fn shown_width(&self, alloc: Global, field: &[u8]) -> Result<usize, AllocError> {
+        if self.is_ascii {
+            return Ok(field.len());
+        }
+        width_of(alloc, field)
+    }
+
+    /// Puts a field at the end.
+    pub fn put_field(&self, out: &mut Vec<u8>, field: &[u8]) -> Result<(), AllocError>
+        ensures { OnOk result (PutsQuoted field.now out.old.items out.new.items) }
+    {
+        if self.is_ascii {
+            return out.extend_from_slice(field);
+        }
+        put_quoted(out, field)
     }
 }
 
-// How many characters a name has as it is shown.
-fn width_of(alloc: Global, name: &[u8]) -> Result<usize, AllocError> {
-    if is_plain(name) {
-        return Ok(characters_of(name));
+// How many characters a field has as it is shown.
+fn width_of(alloc: Global, field: &[u8]) -> Result<usize, AllocError> {
+    if is_plain(field) {
+        return Ok(characters_of(field));
     }
     let mut quoted = Vec::new(alloc);
-    put_in_quotes(&mut quoted, name)?;
+    put_in_quotes(&mut quoted, field)?;
     Ok(quoted.len())
 }
 
@@ -58,12 +97,12 @@ fn characters_of(text: &[u8]) -> usize {
     text.iter().filter(|byte| **byte & 0xc0 != 0x80).count()
 }
 
-// Puts a name at the end, and spaces up to the width of its column and two more.
-fn put_cell(alloc: Global, out: &mut Vec<u8>, name: &[u8], width: usize) -> Result<(), AllocError> {
-    put_quoted(out, name)?;
-    let missing = width.saturating_sub(width_of(alloc, name)?);
-    for _ in 0..missing {
-        out.push(b' ')?;
+// Puts spaces at the end.
+fn put_spaces(out: &mut Vec<u8>, count: usize) -> Result<(), AllocError>
+    ensures { OnOk result (out.new.items ≡ out.old.items ++ replicate count 32) }
+{
+    match out.len().checked_add(count) {
+        Some(len) => out.resize(len, b' '),
+        None => Err(AllocError),
     }
-    out.extend_from_slice(b"  ")
 }

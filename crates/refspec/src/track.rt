@@ -1,9 +1,12 @@
 //! Which refs of a remote tracking refs belong to.
 
-ghost use Rattle.std.specs.Prelude.{map, IfOk};
+ghost use Rattle.std.specs.Prelude.{◌≡◌, map, replicate, IfOk, OnOk};
 ghost use Rattle.gix_refspec.specs.Views.Group.{mapped_of, ref_of};
 ghost use Rattle.gix_refspec.specs.Matching.Hits.{AreKeptBackward};
+ghost use Rattle.gix_refspec.specs.Texts.ObjectId.{id_bytes};
 ghost use Rattle.gix_refspec.specs.Views.Spec.{reading_of};
+ghost use Rattle.refspec.specs.Shown.{KeepsResults};
+ghost use Rattle.refspec.specs.Track.{AddsTracked, named};
 
 use crate::call::{Call, Form};
 use crate::json;
@@ -11,7 +14,7 @@ use crate::mappings::{Columns, canonical_texts, tell_mappings};
 use crate::page::Page;
 use crate::quote::put_quoted;
 use bstr::{BStr, BString};
-use gix_refspec::match_group::{Item, match_rhs};
+use gix_refspec::match_group::{Item, Mapping, match_rhs};
 use gix_refspec::oid::{Kind, ObjectId};
 use gix_refspec::{MatchGroup, RefSpecRef};
 use serde::Serialize;
@@ -23,18 +26,23 @@ pub fn tell_tracking(
     call: &Call<'_>,
     specs: Vec<RefSpecRef<'_>>,
     page: &mut Page,
-) -> Result<(), AllocError> {
+) -> Result<(), AllocError>
+    ensures { OnOk result (AddsTracked page.old.form (map (λ w. w.now) call.now.refs.items)
+        (map reading_of specs.entry.items) page.old.results.items page.new.results.items) }
+{
     let none = ObjectId::null(Kind::shortest());
     let items = items_named(alloc, call.refs.as_slice(), &none)?;
     let texts = canonical_texts(alloc, specs.as_slice())?;
     let outcome = tracked(alloc, specs, items.as_slice())?;
-    tell_found(
+    let mappings = outcome.mappings.as_slice();
+    tell_mappings(
         alloc,
-        call.refs.as_slice(),
-        &outcome,
+        mappings,
         texts.as_slice(),
+        Columns::DestinationFirst,
         page,
-    )
+    )?;
+    tell_others(alloc, call.refs.as_slice(), mappings, page)
 }
 
 // Refs with these names. They point to the null id: of a tracking ref the name alone is given.
@@ -42,7 +50,10 @@ fn items_named<'a>(
     alloc: Global,
     names: &[&'a str],
     target: &'a ObjectId,
-) -> Result<Vec<Item<'a>>, AllocError> {
+) -> Result<Vec<Item<'a>>, AllocError>
+    requires { id_bytes target.now ≡ replicate 20 0 }
+    ensures { IfOk result (λ items. map ref_of items.items ≡ map named (map (λ n. n.now) names.now)) }
+{
     let mut items = Vec::with_capacity(alloc, names.len())?;
     for name in names {
         items.push(Item {
@@ -54,17 +65,30 @@ fn items_named<'a>(
     Ok(items)
 }
 
-// Tells the mappings, and the refs that none of them has.
-fn tell_found(
+// Tells of the refs that no mapping has.
+fn tell_others(
     alloc: Global,
     names: &[&str],
-    outcome: &match_rhs::Outcome<'_, '_>,
-    texts: &[BString],
+    mappings: &[Mapping<'_, '_>],
     page: &mut Page,
-) -> Result<(), AllocError> {
-    let mappings = outcome.mappings.as_slice();
-    tell_mappings(alloc, mappings, texts, Columns::DestinationFirst, page)?;
-    let mut found = vec![in alloc; false; names.len()]?;
+) -> Result<(), AllocError>
+    ensures { OnOk result (KeepsResults page.old.form
+        page.old.results.items page.new.results.items) }
+{
+    let found = found_of(alloc, names.len(), mappings)?;
+    for (name, is_found) in names.iter().zip(&found) {
+        tell_unless(alloc, *is_found, name.as_bytes(), page)?;
+    }
+    Ok(())
+}
+
+// Which of so many refs the mappings have.
+fn found_of(
+    alloc: Global,
+    count: usize,
+    mappings: &[Mapping<'_, '_>],
+) -> Result<Vec<bool>, AllocError> {
+    let mut found = vec![in alloc; false; count]?;
     for mapping in mappings {
         if let Some(at) = mapping.item_index
             && let Some(place) = found.get_mut(at)
@@ -72,12 +96,7 @@ fn tell_found(
             *place = true;
         }
     }
-    for (name, is_found) in names.iter().zip(&found) {
-        if !*is_found {
-            tell_untracked(alloc, name.as_bytes(), page)?;
-        }
-    }
-    Ok(())
+    Ok(found)
 }
 
 /// What specs for a fetch map back of the items.
@@ -104,27 +123,67 @@ struct Untracked<'a> {
     message: &'a str,
 }
 
+// Tells of a ref that no spec writes, unless it was found.
+fn tell_unless(
+    alloc: Global,
+    is_found: bool,
+    name: &[u8],
+    page: &mut Page,
+) -> Result<(), AllocError>
+    ensures form { OnOk result (page.new.form ≡ page.old.form) }
+    ensures kept { OnOk result (KeepsResults page.old.form
+        page.old.results.items page.new.results.items) }
+{
+    if is_found {
+        return Ok(());
+    }
+    tell_untracked(alloc, name, page)
+}
+
 // Tells of a ref that no spec writes.
-fn tell_untracked(alloc: Global, name: &[u8], page: &mut Page) -> Result<(), AllocError> {
+fn tell_untracked(alloc: Global, name: &[u8], page: &mut Page) -> Result<(), AllocError>
+    ensures form { OnOk result (page.new.form ≡ page.old.form) }
+    ensures kept { OnOk result (KeepsResults page.old.form
+        page.old.results.items page.new.results.items) }
+{
     page.refused = true;
-    let message = if name.starts_with(b"refs/") {
+    let message = why_untracked(name);
+    match page.form {
+        Form::Json => put_object(alloc, name, message, &mut page.results),
+        Form::Lines | Form::Zeros => put_line(name, message, &mut page.messages),
+    }
+}
+
+// What there is to say of such a ref.
+fn why_untracked(name: &[u8]) -> &'static str {
+    if name.starts_with(b"refs/") {
         "No spec writes this ref."
     } else {
         "No spec writes this ref. Give its full name, such as `refs/remotes/origin/main`."
-    };
-    if page.form == Form::Json {
-        let name = json::text_of(alloc, name)?;
-        let object = Untracked {
-            kind: "untracked",
-            name: name.as_str(),
-            message,
-        };
-        return json::put_line(alloc, &mut page.results, &object);
     }
-    let out = &mut page.messages;
+}
+
+// Puts the line of such a ref at the end.
+fn put_line(name: &[u8], message: &str, out: &mut Vec<u8>) -> Result<(), AllocError> {
     put_quoted(out, name)?;
     out.extend_from_slice(b": ")?;
     out.extend_from_slice(message.as_bytes())?;
     out.push(b'\n')?;
     Ok(())
+}
+
+// Puts the object of such a ref at the end.
+fn put_object(
+    alloc: Global,
+    name: &[u8],
+    message: &str,
+    out: &mut Vec<u8>,
+) -> Result<(), AllocError> {
+    let name = json::text_of(alloc, name)?;
+    let object = Untracked {
+        kind: "untracked",
+        name: name.as_str(),
+        message,
+    };
+    json::put_line(alloc, out, &object)
 }

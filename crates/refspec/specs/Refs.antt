@@ -1,0 +1,63 @@
+-- What the lines of a list of refs say, as `git ls-remote`, `git show-ref -d` and
+-- `git for-each-ref --format='%(objectname) %(refname)'` print it. That other lines are passed over is this project's own rule.
+use Rattle.std.specs.Prelude.{◌≡◌, ◌⊎◌, ℕ, ◌-◌, List, [], ◌∷◌, ◌++◌, None, Some, length, take, option_map, codes}
+use Rattle.std.specs.List.{slice_get}
+use Rattle.bstr.specs.BStr.{bstr_bytes}
+use Rattle.gix_refspec.specs.Matching.Match.{Ref}
+use Rattle.gix_refspec.specs.Texts.ObjectId.{IsIdText, id_bytes}
+use Rattle.refspec.specs.declared.refs.ToldRef.{ToldRef}
+
+-- the ref that was told of
+abbrev pub ref_told : ToldRef → Ref
+ref_told t = record { name = bstr_bytes t.name; target = id_bytes t.target; object = option_map id_bytes t.object }
+
+-- the line is the digits of an id, a tab or a space, and a name
+pub record IsIdThen (line id name : List ℕ) : Type 0 where
+  pub digits : List ℕ
+  pub space : ℕ
+  pub spelled : IsIdText digits id
+  pub is_space : (space ≡ 9) ⊎ (space ≡ 32)
+  pub here : line ≡ digits ++ (space ∷ name)
+
+-- what ends the name in the line of a peeled tag
+abbrev pub peeled : List ℕ
+peeled = codes "^{}"
+
+-- the line says that there is this ref, and to which object it points
+pub record IsRefLine (line : List ℕ) (r : Ref) : Type 0 where
+  pub says : IsIdThen line r.target r.name
+  pub whole : (tag : List ℕ) → ¬ (r.name ≡ tag ++ peeled)
+  pub object : r.object ≡ None
+
+-- the ref is the last of the list
+abbrev pub IsLast : List Ref → Ref → Type 0
+IsLast refs r = slice_get refs (length refs - 1) ≡ Some r
+
+-- the line says to which object a tag points, and the tag is the last ref before it
+pub record IsPeeledLine (line : List ℕ) (old new : List Ref) : Type 0 where
+  pub tag : Ref
+  pub id : List ℕ
+  pub says : IsIdThen line id (tag.name ++ peeled)
+  pub last : IsLast old tag
+  pub joined : new ≡ take (length old - 1) old ++ (record tag { object = Some id }) ∷ []
+
+-- the line says so of some tag
+pub record IsTagLine (line : List ℕ) : Type 0 where
+  pub tag : List ℕ
+  pub id : List ℕ
+  pub says : IsIdThen line id (tag ++ peeled)
+
+-- the line says nothing of refs
+abbrev pub IsNoRefLine : List ℕ → Type 0
+IsNoRefLine line = (id name : List ℕ) → ¬ (IsIdThen line id name)
+
+-- what a line makes of the refs before it. That of a tag is passed over where the tag stands elsewhere; where, isn't said here
+abbrev pub AddsLine : List ℕ → List Ref → List Ref → Type 0
+AddsLine line old new =
+    ((r : Ref) × IsRefLine line r × (new ≡ old ++ r ∷ []))
+    ⊎ (IsPeeledLine line old new ⊎ ((IsTagLine line ⊎ IsNoRefLine line) × (new ≡ old)))
+
+-- what lines make of the refs before them, one after another
+abbrev pub AddsRefs : List (List ℕ) → List Ref → List Ref → Type 0
+AddsRefs [] old new = new ≡ old
+AddsRefs (line ∷ lines) old new = (more : List Ref) × AddsLine line old more × AddsRefs lines more new
