@@ -137,8 +137,18 @@ pub fn pattern_partial(alloc: Global, pattern: BStr<'_>) -> Result<(), PatternEr
     }
 }
 
-// A fault of the text, or `None` where the text is a name.
+// A fault of the text, or `None` if the text is a name. Most texts are names, which one look tells.
 pub(crate) fn fault_of(text: &[u8]) -> Option<Error>
+    ensures { MatchOption result (IsName text.now) (λ e. HasFault text.now e) }
+{
+    if let Ok(false) = starred_name(text) {
+        return None;
+    }
+    found_fault(text)
+}
+
+// A fault of the text, byte by byte, or `None` if the text is a name.
+fn found_fault(text: &[u8]) -> Option<Error>
     ensures { MatchOption result (IsName text.now) (λ e. HasFault text.now e) }
 {
     if text.is_empty() {
