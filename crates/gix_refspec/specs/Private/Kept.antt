@@ -1,5 +1,5 @@
 -- How repeats and exclusions are found. Only private functions cite these words.
-use Rattle.std.specs.Prelude.{◌≡◌, ◌≢◌, ◌⊎◌, ◌↔◌, ◌<◌, ◌≤◌, ◌-◌, ◌/◌, ◌%◌, ◌^◌, ℕ, Bool, true, false, List, [], ◌∷◌, length, map, option_map, unwrap_or, slice_index_or, bytes_eq, IsTrue}
+use Rattle.std.specs.Prelude.{◌≡◌, ◌≢◌, ◌⊎◌, ◌↔◌, ◌<◌, ◌≤◌, ◌-◌, ◌/◌, ◌%◌, ◌^◌, ℕ, Bool, true, false, List, [], ◌∷◌, length, map, option_map, slice_index_or, bytes_eq, IsTrue}
 use Rattle.std.specs.List.{AllByRecursion, fold}
 use Rattle.std.specs.HashSet as bag
 use Rattle.std.specs.HashSet.{HashSet}
@@ -17,6 +17,7 @@ use Rattle.gix_refspec.specs.Specs.Reading.{Reading, Negative}
 use Rattle.gix_refspec.specs.Matching.Side.{Fits}
 use Rattle.gix_refspec.specs.Matching.Mappings.{Start, name, id, Mapped, IsSamePair, IsExcluded}
 use Rattle.gix_refspec.specs.Views.Group.{mapped_of, name_bytes}
+use Rattle.gix_refspec.specs.Views.Hashed.{pair_writes}
 
 -- one of the patterns fits the name
 abbrev pub FitsName : Pattern → List ℕ → Type 0
@@ -73,14 +74,9 @@ FlagsRepeats ms flags = (k : ℕ) → k < length ms → IsFlagged flags k ↔ Is
 abbrev pub hash_after : FoldHasher → HashWrites → ℕ
 hash_after seed writes = folding.finish (fold folding.write seed writes)
 
--- the bytes of a source, be it a name or an id
-abbrev pub start_bytes : Start → List ℕ
-start_bytes (name n) = n
-start_bytes (id i) = i
-
--- the hash of a mapping's pair by a seed: of the bytes of both sides, none for a missing destination
+-- the hash of a mapping by a seed
 abbrev pub pair_hash : FoldHasher → Mapped → ℕ
-pair_hash seed m = hash_after seed (start_bytes m.source ∷ unwrap_or m.destination [] ∷ [])
+pair_hash seed m = hash_after seed (pair_writes m)
 
 -- the hash of a name
 abbrev pub name_hash : List ℕ → ℕ

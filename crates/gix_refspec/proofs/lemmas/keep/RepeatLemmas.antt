@@ -1,7 +1,8 @@
 -- Mappings with the same pair, by their places.
-use Rattle.std.proofs.Common.{◌≡◌, ◌≢◌, ◌⊎◌, inl, inr, ℕ, ◌+◌, ◌-◌, ◌<◌, List, [], ◌∷◌, ◌++◌, length, take, get_or, suc, zero, eqb, unwrap_or, FoldHasher, sym, subst, ◌∙◌, arith}
+use Rattle.std.proofs.Common.{◌≡◌, ◌≢◌, ◌⊎◌, inl, inr, ℕ, ◌+◌, ◌-◌, ◌<◌, List, [], ◌∷◌, ◌++◌, length, take, get_or, suc, zero, eqb, FoldHasher, sym, subst, ◌∙◌, arith}
 use Rattle.std.specs.List.{AllByRecursion, Contains, IsDistinct}
 use Rattle.std.specs.List.Sorted.{IsPermutation}
+use Rattle.std.specs.Hash as fed
 use Rattle.std.proofs.lemmas.List.{take_more}
 use Rattle.std.proofs.lemmas.List.Elements.{All-from_recursion, recursion_from_All}
 use Rattle.std.proofs.lemmas.List.Sorted.{Contains-permutation, All-permutation}
@@ -11,7 +12,8 @@ use Rattle.std.proofs.lemmas.Bool.{eq-eqb, false≢true, ne_eqb}
 use Rattle.gix_refspec.specs.declared.match_group.types.Mapping.{Mapping}
 use Rattle.gix_refspec.specs.declared.match_group.keep.repeats.Pair.{Pair}
 use Rattle.gix_refspec.specs.Matching.Mappings.{Mapped, IsSamePair}
-use Rattle.gix_refspec.specs.Private.Kept.{hash_after, pair_hash, start_bytes, Has, Rises, IsSameAt}
+use Rattle.gix_refspec.specs.Views.Hashed.{source_writes}
+use Rattle.gix_refspec.specs.Private.Kept.{hash_after, pair_hash, Has, Rises, IsSameAt}
 
 -- some pair up to a place is for the mapping at k, which has the pair of the one before it
 abbrev pub FollowsSame : List Mapping → List Pair → ℕ → ℕ → Type 0
@@ -97,7 +99,7 @@ apart_places xs ys moved rises i j d before below same =
 
 -- the same pair has the same hash
 pub pair_hash-same : (seed : FoldHasher) (a b : Mapped) → IsSamePair a b → pair_hash seed a ≡ pair_hash seed b
-pair_hash-same seed a b same = λ i. hash_after seed (start_bytes (same.source i) ∷ unwrap_or (same.destination i) [] ∷ [])
+pair_hash-same seed a b same = λ i. hash_after seed (source_writes (same.source i) ++ fed.option (λ d. d ∷ []) (same.destination i))
 
 -- some mapping of a list
 pub some_mapping : (ms : List Mapping) (k : ℕ) → k < length ms → Mapping

@@ -6,17 +6,17 @@
 //! same upper bits, keys of another hash are tried. Only where that fails too are the pairs themselves
 //! sorted.
 
-ghost use Rattle.std.specs.Prelude.{◌≡◌, ◌≢◌, ◌⊎◌, ◌↔◌, ◌<◌, ◌≤◌, ◌/◌, ◌%◌, ◌^◌, [], ℕ, length, slice_index_or, option_map, unwrap_or, MatchOption, IfOk, OnOk, OnErr, IsTrue};
+ghost use Rattle.std.specs.Prelude.{◌≡◌, ◌≢◌, ◌⊎◌, ◌↔◌, ◌<◌, ◌≤◌, ◌/◌, ◌%◌, ◌^◌, [], ℕ, length, slice_index_or, option_map, MatchOption, IfOk, OnOk, OnErr, IsTrue};
 ghost use Rattle.std.specs.List.{AllByRecursion};
 ghost use Rattle.std.specs.List.Sorted.{IsSorted};
-ghost use Rattle.gix_refspec.specs.Views.Group.{mapped_of, name_bytes, start_of};
+ghost use Rattle.gix_refspec.specs.Views.Group.{mapped_of, name_bytes};
 ghost use Rattle.gix_refspec.specs.Matching.Mappings.{IsSamePair};
-ghost use Rattle.gix_refspec.specs.Private.Kept.{AreKeysOf, ArePairsOf, FindsRepeats, FlagsRepeats, IsFlagged, IsSecond, PointsBack, Rises, pair_hash, places_in, start_bytes};
+ghost use Rattle.gix_refspec.specs.Private.Kept.{AreKeysOf, ArePairsOf, FindsRepeats, FlagsRepeats, IsFlagged, IsSecond, PointsBack, Rises, pair_hash, places_in};
 
 use crate::match_group::hashes::seeds;
 use crate::match_group::types::{Mapping, NameRef, SourceRef};
 use std::alloc::{AllocError, Global};
-use std::hash::{FoldHasher, Hasher};
+use std::hash::{FoldHasher, Hash, Hasher};
 
 // A pair, and the place of its mapping.
 #[derive(Clone, Copy, PartialEq, Eq, PartialOrd, Ord)]
@@ -144,35 +144,13 @@ fn keys_of(
     Ok(keys)
 }
 
-// The hash of a pair by a seed, in one write a side. A name and an id may have one hash, and so may a
-// missing destination and an empty one: pairs are compared.
+// The hash of a pair by a seed.
 fn hash_of_pair(mapping: &Mapping<'_, '_>, seed: FoldHasher) -> u64
     ensures { result ≡ pair_hash seed (mapped_of mapping.now) }
 {
     let mut state = seed;
-    state.write(source_bytes(&mapping.lhs));
-    state.write(destination_bytes(&mapping.rhs));
+    mapping.hash(&mut state);
     state.finish()
-}
-
-// The bytes of a source, be it a name or an id.
-fn source_bytes<'m>(source: &'m SourceRef<'_>) -> &'m [u8]
-    ensures { result.now ≡ start_bytes (start_of source.now) }
-{
-    match source {
-        SourceRef::FullName(name) => name.as_bstr().as_bytes(),
-        SourceRef::ObjectId(id) => id.as_slice(),
-    }
-}
-
-// The bytes of a destination, and none for one that is missing.
-fn destination_bytes<'m>(destination: &'m Option<NameRef<'_>>) -> &'m [u8]
-    ensures { result.now ≡ unwrap_or (option_map name_bytes destination.now) [] }
-{
-    match destination {
-        None => &[],
-        Some(name) => name.as_bstr().as_bytes(),
-    }
 }
 
 // A key: the upper bits of a hash, and a place in the lower ones.
