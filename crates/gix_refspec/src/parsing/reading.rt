@@ -1,6 +1,6 @@
 //! The reading of a refspec.
 
-ghost use Rattle.std.specs.Prelude.{◌≡◌, ◌≢◌, ◌↔◌, option_map, IfOk, IfErr, IsTrue};
+ghost use Rattle.std.specs.Prelude.{◌≡◌, ◌≢◌, ◌↔◌, [], option_map, IfOk, IfErr, MatchBool, IsTrue};
 ghost use Rattle.bstr.specs.BStr.{bstr_bytes};
 ghost use Rattle.gix_refspec.specs.Texts.Name.{HasFault, HasSeveralStars};
 ghost use Rattle.gix_refspec.specs.Specs.Grammar.{IsSigned, LooksLikeObjectHash, Reads, with_colon, LastLacksColon, named_by};
@@ -299,13 +299,22 @@ fn push_sides<'a>(alloc: Global, parts: Parts<'a>, target: &'a [u8]) -> Result<S
     ensures ok { IfOk result (AreSidesOf parts.entry) }
     ensures err { IfErr result (IsReasonAgainst parts.entry) }
 {
-    if target.is_empty() && !parts.source.is_empty() {
+    if pushes_nowhere(parts.source, target) {
         return Err(Error::PushToEmpty);
     }
     if starred(alloc, parts.source)? != checked(alloc, target)? {
         return Err(Error::PatternUnbalanced);
     }
     Ok(Sides::new(named(parts.source), target))
+}
+
+// Whether a push has a source and an empty destination, as `main:`.
+fn pushes_nowhere(source: &[u8], target: &[u8]) -> bool
+    ensures { MatchBool result
+        ((source.now ≢ []) × (target.now ≡ []))
+        (source.now ≢ [] → target.now ≡ [] → ⊥) }
+{
+    target.is_empty() && !source.is_empty()
 }
 
 // Whether a text is made of as many hex digits as the id of an object, or more.

@@ -1,6 +1,6 @@
 -- What a look at a side tells of names, patterns and the reasons against it.
-use Rattle.std.proofs.Common.{◌≡◌, ◌≢◌, ◌⊎◌, inl, inr, ℕ, List, [], ◌∷◌, ◌++◌, Option, None, Some, option_map, unwrap_or, is_some, Bor, ◌==◌, true, false, length, refl, sym, ap, ◌∙◌, subst}
-use Rattle.std.proofs.lemmas.Bool.{false≢true, eqb-true}
+use Rattle.std.proofs.Common.{◌≡◌, ◌≢◌, ◌⊎◌, inl, inr, ℕ, List, [], ◌∷◌, ◌++◌, Option, None, Some, option_map, unwrap_or, is_some, Bor, ◌==◌, false, length, refl, sym, ap, ◌∙◌, subst}
+use Rattle.std.proofs.lemmas.Bool.{false≢true}
 use denote.Enum.Bare.{sameb}
 use Rattle.gix_refspec.specs.contracts.types.Mode.{the_type as the_mode}
 use Rattle.gix_refspec.specs.declared.types.Mode.{Mode as DeclaredMode}
@@ -137,20 +137,16 @@ pub now-unwrap_or : (d : Option (Bor (List ℕ))) (e x : Bor (List ℕ)) → x �
 now-unwrap_or None e x is empty = ap (λ (y : Bor (List ℕ)). y.now) is ∙ empty
 now-unwrap_or (Some y) e x is empty = ap (λ (y : Bor (List ℕ)). y.now) is
 
--- what tests for emptiness tell
+-- a text that was found not to be empty
 pub full_from_test : (x : List ℕ) → false ≡ (length x == 0) → x ≢ []
 full_from_test x test empty = false≢true (test ∙ ap (λ y. length y == 0) empty)
 
-pub empty_from_test : (x : List ℕ) → true ≡ (length x == 0) → x ≡ []
-empty_from_test [] test = refl
-empty_from_test (b ∷ bs) test = let none = eqb-true (length (b ∷ bs)) 0 (sym test) in absurd (cc)
-
--- what a test for presence tells
+-- a side that was found missing
 pub none_from_test : (d : Option (Bor (List ℕ))) → false ≡ is_some d → option_map (λ (y : Bor (List ℕ)). y.now) d ≡ None
 none_from_test None test = refl
 none_from_test (Some y) test = absurd (false≢true test)
 
--- what a test for a sign tells
+-- a mode that was found not to be `Normal`
 pub signed_from_test : (m : DeclaredMode) → false ≡ sameb the_mode m declared_mode.Normal → mode_of m ≡ Normal → ⊥
 signed_from_test declared_mode.Normal test normal = false≢true test
 signed_from_test declared_mode.Force test normal = absurd (cc)

@@ -1,5 +1,5 @@
--- Nothing before the source is against a positive push to somewhere; the checks tell of its sides.
-use Rattle.std.proofs.Common.{◌≡◌, ◌≢◌, [], Some, refl, sym, ap, ◌∙◌, subst, rules}
+-- No reason before the source applies to a positive push to a destination. The reasons at its sides are what the checks return.
+use Rattle.std.proofs.Common.{Some, refl, sym, ap, ◌∙◌, subst, rules}
 use Rattle.std.proofs.lemmas.Result.{err_from_is_err_and}
 use denote.Enum.Bare.{differs_true, differs_false}
 use Rattle.gix_refspec.specs.contracts.parsing.reading.Shape.{the_type}
@@ -8,22 +8,16 @@ use Rattle.gix_refspec.specs.Specs.Grammar.{AreParts, named_by}
 use Rattle.gix_refspec.specs.Specs.Refusal.{PatternUnbalanced, IsBadPattern}
 use Rattle.gix_refspec.specs.Views.Instruction.{mode_of}
 use Rattle.gix_refspec.specs.Private.Sides.{HasCheckedShape, side_of}
-use Rattle.gix_refspec.proofs.lemmas.parsing.SideLemmas.{full_from_test, empty_from_test}
 use Rattle.gix_refspec.proofs.lemmas.parsing.ReasonLemmas.{push_reaches, bad_source_of_push, error_at_source, error_at_destination, push_source_fine, unbalanced_push}
 use Rattle.gix_refspec.proofs.lemmas.parsing.ReadsLemmas.{read_with, push_reads}
 use Rattle.gix_refspec.proofs.parsing.reading.push_sides.Goals as goal
-use Rattle.gix_refspec.proofs.parsing.reading.push_sides.Goals.{else-is_empty-via-then-is_empty+else-not-is_empty as nothing, else-is_empty-via-else-is_empty as to_something}
 
 pub returns-in_err-starred-clause-err : goal.returns-in_err-starred-clause-err
 returns-in_err-starred-clause-err c =
     let m = mode_of c.args.parts.mode in
     let s = c.args.parts.source.now in
     let t = c.args.target.now in
-    let somewhere : (s ≢ [] → t ≡ [] → ⊥) = λ full empty. elim c.else-is_empty.branch [
-      | nothing w ↦ full (empty_from_test s w.if-not-is_empty.ensures)
-      | to_something w ↦ full_from_test t w.if-is_empty.ensures empty
-    ] in
-    let before = push_reaches m s t c.requires.positive.positive somewhere in
+    let before = push_reaches m s t c.requires.positive.positive c.if-pushes_nowhere.ensures in
     let reason = error_at_source Push m s (Some t) (IsBadPattern s) c.in_err-starred.field-0.0 before (bad_source_of_push s t) c.in_err-starred.ensures.err in
     let q = err_from_is_err_and c.from_residual.result c.from_residual.ensures.1 in
     rw (q.1, q.2, c.requires.positive.operation, c.requires.target) reason
@@ -33,11 +27,7 @@ returns-in_err-checked-clause-err c =
     let m = mode_of c.args.parts.mode in
     let s = c.args.parts.source.now in
     let t = c.args.target.now in
-    let somewhere : (s ≢ [] → t ≡ [] → ⊥) = λ full empty. elim c.else-is_empty.branch [
-      | nothing w ↦ full (empty_from_test s w.if-not-is_empty.ensures)
-      | to_something w ↦ full_from_test t w.if-is_empty.ensures empty
-    ] in
-    let before = push_reaches m s t c.requires.positive.positive somewhere in
+    let before = push_reaches m s t c.requires.positive.positive c.if-pushes_nowhere.ensures in
     let source = push_source_fine s t c.in_ok-starred.field-0 c.in_ok-starred.ensures.ok in
     let reason = error_at_destination Push m s (Some t) c.in_err-checked.field-0.0 before source c.in_err-checked.ensures.err in
     let q = err_from_is_err_and c.from_residual-in_err-checked.result c.from_residual-in_err-checked.ensures.1 in
@@ -48,14 +38,10 @@ returns-then-ne-clause-err c =
     let m = mode_of c.args.parts.mode in
     let s = c.args.parts.source.now in
     let t = c.args.target.now in
-    let somewhere : (s ≢ [] → t ≡ [] → ⊥) = λ full empty. elim c.else-is_empty.branch [
-      | nothing w ↦ full (empty_from_test s w.if-not-is_empty.ensures)
-      | to_something w ↦ full_from_test t w.if-is_empty.ensures empty
-    ] in
     let j = c.in_ok-starred.field-0 in
     let k = c.in_ok-checked.field-0 in
     let differ = differs_true the_type j k (sym c.if-ne.ensures) in
-    let reason = unbalanced_push m s t j k c.requires.positive.positive somewhere c.in_ok-starred.ensures.ok c.in_ok-checked.ensures.ok differ in
+    let reason = unbalanced_push m s t j k c.requires.positive.positive c.if-pushes_nowhere.ensures c.in_ok-starred.ensures.ok c.in_ok-checked.ensures.ok differ in
     (PatternUnbalanced, refl, rw (c.requires.positive.operation, c.requires.target) reason)
 
 pub returns-clause-ok : goal.returns-clause-ok
@@ -64,15 +50,11 @@ returns-clause-ok c = λ text parts.
     let m = mode_of p.mode in
     let s = p.source.now in
     let t = c.args.target.now in
-    let somewhere : (s ≢ [] → t ≡ [] → ⊥) = λ full empty. elim c.else-is_empty.branch [
-      | nothing w ↦ full (empty_from_test s w.if-not-is_empty.ensures)
-      | to_something w ↦ full_from_test t w.if-is_empty.ensures empty
-    ] in
     let j = c.in_ok-starred.field-0 in
     let k = c.in_ok-checked.field-0 in
     let same = differs_false the_type (search rules) j k (sym c.if-ne.ensures) in
     let destination = subst (λ k. HasCheckedShape t k) (sym same) c.in_ok-checked.ensures.ok in
     let aimed : AreParts m s (Some t) text = rw c.requires.target at parts in
-    let reads = push_reads m s t j text c.requires.positive.positive somewhere c.in_ok-starred.ensures.ok destination aimed in
+    let reads = push_reads m s t j text c.requires.positive.positive c.if-pushes_nowhere.ensures c.in_ok-starred.ensures.ok destination aimed in
     let source = c.new.ensures.source ∙ ap side_of c.named.ensures in
     read_with p c.new.result text Push m (side_of (named_by s)) (side_of t) c.requires.positive.operation refl source c.new.ensures.destination reads
