@@ -134,20 +134,3 @@ lacks_or_first b (c ∷ x) = elim (decided_byte c b) [
     | inr place ↦ inr (record { before = c ∷ place.before; after = place.after; here = ap (λ y. c ∷ y) place.here; first = (other, place.first) })
   ]
 ]
-
--- the last place of a byte
-pub record LastPlace (b : ℕ) (x : List ℕ) : Type 0 where
-  pub before : List ℕ
-  pub after : List ℕ
-  pub here : x ≡ before ++ (b ∷ after)
-  pub last : Lacks b after
-
-pub lacks_or_last : (b : ℕ) (x : List ℕ) → Lacks b x ⊎ LastPlace b x
-lacks_or_last b [] = inl tt
-lacks_or_last b (c ∷ x) = elim (lacks_or_last b x) [
-  | inr place ↦ inr (record { before = c ∷ place.before; after = place.after; here = ap (λ y. c ∷ y) place.here; last = place.last })
-  | inl lacks ↦ elim (decided_byte c b) [
-    | inl same ↦ inr (record { before = []; after = x; here = ap (λ d. d ∷ x) same; last = lacks })
-    | inr other ↦ inl (other, lacks)
-  ]
-]

@@ -6,6 +6,13 @@ use Rattle.gix_refspec.specs.Texts.Bytes.{plus, caret, colon}
 use Rattle.gix_refspec.specs.Specs.Grammar.{IsUnsigned, IsSigned, with_colon, LastLacksColon, AreParts}
 use Rattle.gix_refspec.proofs.lemmas.texts.TextLemmas.{Lacks-here, last_once}
 
+-- a text in its parts
+pub record Parted (text : List ℕ) : Type 0 where
+  pub mode : Mode
+  pub source : List ℕ
+  pub destination : Option (List ℕ)
+  pub parts : AreParts mode source destination text
+
 -- a text that begins with a sign isn't unsigned
 signed_not_unsigned : (r s : List ℕ) (b : ℕ) → r ≡ b ∷ s → IsUnsigned r → (b ≢ plus) × (b ≢ caret)
 signed_not_unsigned r s b same unsigned = subst IsUnsigned same unsigned

@@ -5,7 +5,7 @@ use Rattle.gix_refspec.specs.declared.parsing.Operation.TheVariants.{Push, Fetch
 use Rattle.gix_refspec.specs.Specs.Reading.{Mode, Forced, Negative, Reading}
 use Rattle.gix_refspec.specs.Specs.Grammar.{named_by, IsNameOrPattern, AreAlike, AreParts, fetched, pushed, Reads, fetches_nothing_named, fetches_colon, fetches, updates, updates_from_head, fetch_excludes, pushes_plus, pushes_colon, pushes, deletes, pushes_pattern, pushes_to, push_excludes}
 use Rattle.gix_refspec.specs.Private.Sides.{side_of, named_or_head}
-use Rattle.gix_refspec.proofs.lemmas.parsing.PartsLemmas.{parts_once}
+use Rattle.gix_refspec.proofs.lemmas.parsing.PartsLemmas.{Parted, parts_once}
 use Rattle.gix_refspec.proofs.lemmas.parsing.ReadsLemmas.{side_of-named, name_not_empty, pattern_not_empty}
 
 -- what parts make, where they read
@@ -15,11 +15,8 @@ made Push m s d = pushed m (side_of (named_by s)) (side_of (unwrap_or d []))
 
 -- a reading and the parts that make it
 record IsMade (op : Operation) (text : List ℕ) (r : Reading) : Type 0 where
-  mode : Mode
-  source : List ℕ
-  destination : Option (List ℕ)
-  parts : AreParts mode source destination text
-  is : r ≡ made op mode source destination
+  of : Parted text
+  is : r ≡ made op of.mode of.source of.destination
 
 -- words that aren't empty
 named_or_head-full : (s : List ℕ) → s ≢ [] → named_or_head s ≡ named_by s
@@ -43,8 +40,8 @@ alike_full s d (inl names) = (name_not_empty s names.0, name_not_empty d names.1
 alike_full s d (inr patterns) = (pattern_not_empty s patterns.0, pattern_not_empty d patterns.1)
 
 -- what is made for one operation is made for what equals it
-for_operation : (op o : Operation) (m : Mode) (s : List ℕ) (d : Option (List ℕ)) (r : Reading) → op ≡ o → r ≡ made o m s d → r ≡ made op m s d
-for_operation op o m s d r same is = is ∙ sym (ap (λ (x : Operation). made x m s d) same)
+made_for : (op : Operation) (text : List ℕ) (r : Reading) (o : Operation) (m : Mode) (s : List ℕ) (d : Option (List ℕ)) → op ≡ o → AreParts m s d text → r ≡ made o m s d → IsMade op text r
+made_for op text r o m s d same parts is = record { of = record { mode = m; source = s; destination = d; parts = parts }; is = is ∙ sym (ap (λ (x : Operation). made x m s d) same) }
 
 -- readings of a fetch, and of a push, with equal sides
 fetched_alike : (m : Mode) (s t : List ℕ) (d e : Option (List ℕ)) → s ≡ t → d ≡ e → fetched m s d ≡ fetched m t e
@@ -54,26 +51,26 @@ pushed_alike : (m : Mode) (s t d e : Option (List ℕ)) → s ≡ t → d ≡ e 
 pushed_alike m s t d e source destination = cc
 
 made_alone : (op : Operation) (text : List ℕ) (r : Reading) (m : Mode) (s : List ℕ) → op ≡ Fetch → AreParts m s None text ⊎ AreParts m s (Some []) text → s ≢ [] → r ≡ fetched m (named_by s) None → IsMade op text r
-made_alone op text r m s fetch (inl parts) full is = record { mode = m; source = s; destination = None; parts = parts; is = for_operation op Fetch m s None r fetch (is ∙ sym (ap (λ (x : List ℕ). fetched m x None) (named_or_head-full s full))) }
-made_alone op text r m s fetch (inr parts) full is = record { mode = m; source = s; destination = Some []; parts = parts; is = for_operation op Fetch m s (Some []) r fetch (is ∙ sym (ap (λ (x : List ℕ). fetched m x None) (named_or_head-full s full))) }
+made_alone op text r m s fetch (inl parts) full is = made_for op text r Fetch m s None fetch parts (is ∙ sym (ap (λ (x : List ℕ). fetched m x None) (named_or_head-full s full)))
+made_alone op text r m s fetch (inr parts) full is = made_for op text r Fetch m s (Some []) fetch parts (is ∙ sym (ap (λ (x : List ℕ). fetched m x None) (named_or_head-full s full)))
 
 -- what reads is made from its parts
 is_made : (op : Operation) (text : List ℕ) (r : Reading) → Reads op text r → IsMade op text r
-is_made op text r (fetches_nothing_named m fetch pos parts is) = record { mode = m; source = []; destination = None; parts = parts; is = for_operation op Fetch m [] None r fetch is }
-is_made op text r (fetches_colon m fetch pos parts is) = record { mode = m; source = []; destination = Some []; parts = parts; is = for_operation op Fetch m [] (Some []) r fetch is }
+is_made op text r (fetches_nothing_named m fetch pos parts is) = made_for op text r Fetch m [] None fetch parts is
+is_made op text r (fetches_colon m fetch pos parts is) = made_for op text r Fetch m [] (Some []) fetch parts is
 is_made op text r (fetches m s fetch pos parts name is) = made_alone op text r m s fetch parts (name_not_empty s name) is
 is_made op text r (updates m s d fetch pos parts alike is) =
     let full = alike_full s d alike in
-    record { mode = m; source = s; destination = Some d; parts = parts; is = for_operation op Fetch m s (Some d) r fetch (is ∙ fetched_alike m _ _ _ _ (sym (named_or_head-full s full.0)) (sym (side_of-full d full.1))) }
-is_made op text r (updates_from_head m d fetch pos parts name is) = record { mode = m; source = []; destination = Some d; parts = parts; is = for_operation op Fetch m [] (Some d) r fetch (is ∙ fetched_alike m _ _ _ _ refl (sym (side_of-full d (name_not_empty d name)))) }
-is_made op text r (fetch_excludes s fetch parts either hash is) = record { mode = Negative; source = s; destination = None; parts = parts; is = for_operation op Fetch Negative s None r fetch (is ∙ fetched_alike Negative _ _ _ _ (sym (named_or_head-full s (either_full s either))) refl) }
-is_made op text r (pushes_plus push parts is) = record { mode = Forced; source = []; destination = None; parts = parts; is = for_operation op Push Forced [] None r push is }
-is_made op text r (pushes_colon m push pos parts is) = record { mode = m; source = []; destination = Some []; parts = parts; is = for_operation op Push m [] (Some []) r push is }
-is_made op text r (pushes m s push pos parts either is) = record { mode = m; source = s; destination = None; parts = parts; is = for_operation op Push m s None r push (is ∙ pushed_alike m _ _ _ _ (sym (side_of-named_full s (either_full s either))) refl) }
-is_made op text r (deletes m d push pos parts name is) = record { mode = m; source = []; destination = Some d; parts = parts; is = for_operation op Push m [] (Some d) r push (is ∙ pushed_alike m _ _ _ _ refl (sym (side_of-full d (name_not_empty d name)))) }
-is_made op text r (pushes_pattern m s d push pos parts source destination is) = record { mode = m; source = s; destination = Some d; parts = parts; is = for_operation op Push m s (Some d) r push (is ∙ pushed_alike m _ _ _ _ (sym (side_of-named_full s (pattern_not_empty s source))) (sym (side_of-full d (pattern_not_empty d destination)))) }
-is_made op text r (pushes_to m s d push pos parts full plain name is) = record { mode = m; source = s; destination = Some d; parts = parts; is = for_operation op Push m s (Some d) r push (is ∙ pushed_alike m _ _ _ _ (sym (side_of-named_full s full)) (sym (side_of-full d (name_not_empty d name)))) }
-is_made op text r (push_excludes s push parts either hash is) = record { mode = Negative; source = s; destination = None; parts = parts; is = for_operation op Push Negative s None r push (is ∙ pushed_alike Negative _ _ _ _ (sym (side_of-named_full s (either_full s either))) refl) }
+    made_for op text r Fetch m s (Some d) fetch parts (is ∙ fetched_alike m _ _ _ _ (sym (named_or_head-full s full.0)) (sym (side_of-full d full.1)))
+is_made op text r (updates_from_head m d fetch pos parts name is) = made_for op text r Fetch m [] (Some d) fetch parts (is ∙ fetched_alike m _ _ _ _ refl (sym (side_of-full d (name_not_empty d name))))
+is_made op text r (fetch_excludes s fetch parts either hash is) = made_for op text r Fetch Negative s None fetch parts (is ∙ fetched_alike Negative _ _ _ _ (sym (named_or_head-full s (either_full s either))) refl)
+is_made op text r (pushes_plus push parts is) = made_for op text r Push Forced [] None push parts is
+is_made op text r (pushes_colon m push pos parts is) = made_for op text r Push m [] (Some []) push parts is
+is_made op text r (pushes m s push pos parts either is) = made_for op text r Push m s None push parts (is ∙ pushed_alike m _ _ _ _ (sym (side_of-named_full s (either_full s either))) refl)
+is_made op text r (deletes m d push pos parts name is) = made_for op text r Push m [] (Some d) push parts (is ∙ pushed_alike m _ _ _ _ refl (sym (side_of-full d (name_not_empty d name))))
+is_made op text r (pushes_pattern m s d push pos parts source destination is) = made_for op text r Push m s (Some d) push parts (is ∙ pushed_alike m _ _ _ _ (sym (side_of-named_full s (pattern_not_empty s source))) (sym (side_of-full d (pattern_not_empty d destination))))
+is_made op text r (pushes_to m s d push pos parts full plain name is) = made_for op text r Push m s (Some d) push parts (is ∙ pushed_alike m _ _ _ _ (sym (side_of-named_full s full)) (sym (side_of-full d (name_not_empty d name))))
+is_made op text r (push_excludes s push parts either hash is) = made_for op text r Push Negative s None push parts (is ∙ pushed_alike Negative _ _ _ _ (sym (side_of-named_full s (either_full s either))) refl)
 
 -- equal parts make one reading
 made_same : (op : Operation) (m n : Mode) (s t : List ℕ) (d e : Option (List ℕ)) → m ≡ n → s ≡ t → d ≡ e → made op m s d ≡ made op n t e
@@ -85,5 +82,5 @@ pub reads_once : (op : Operation) (text : List ℕ) (r q : Reading) → Reads op
 reads_once op text r q by_r by_q =
     let a = is_made op text r by_r in
     let b = is_made op text q by_q in
-    let same = parts_once a.mode b.mode a.source b.source a.destination b.destination text a.parts b.parts in
-    a.is ∙ (made_same op a.mode b.mode a.source b.source a.destination b.destination same.mode same.source same.destination ∙ sym b.is)
+    let same = parts_once a.of.mode b.of.mode a.of.source b.of.source a.of.destination b.of.destination text a.of.parts b.of.parts in
+    a.is ∙ (made_same op a.of.mode b.of.mode a.of.source b.of.source a.of.destination b.of.destination same.mode same.source same.destination ∙ sym b.is)

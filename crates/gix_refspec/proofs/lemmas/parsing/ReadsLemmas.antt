@@ -17,7 +17,7 @@ use Rattle.gix_refspec.specs.Views.Instruction.{mode_of}
 use Rattle.gix_refspec.specs.Private.Sides.{IsErrorOf, HasShape, HasCheckedShape, side_of, named_or_head, destination_of, HasParts, read_as, IsReasonAgainst}
 use Rattle.bstr.specs.BStr.{bstr_bytes}
 use Rattle.gix_refspec.proofs.lemmas.parsing.SideLemmas.{Never-or, checked_starred, empty_no_pattern}
-use Rattle.gix_refspec.proofs.lemmas.parsing.PartsLemmas.{parts_once}
+use Rattle.gix_refspec.proofs.lemmas.parsing.PartsLemmas.{Parted, parts_once}
 use Rattle.gix_refspec.proofs.lemmas.parsing.ReasonLemmas.{MemoryOr-map, positive, no_empty_fetch, no_negative, no_fetch_nowhere, fetch_source_fine, push_source_fine, alone_fine, destination_fine, sides_balanced}
 
 -- readings with equal sides are equal
@@ -121,41 +121,41 @@ forced_not_normal same = absurd (cc)
 
 -- a text in its parts, which are fine
 pub record FineParts (op : Operation) (text : List ℕ) : Type 0 where
-  pub mode : Mode
-  pub source : List ℕ
-  pub destination : Option (List ℕ)
-  pub parts : AreParts mode source destination text
-  pub fine : AreFine op mode source destination
+  pub of : Parted text
+  pub fine : AreFine op of.mode of.source of.destination
+
+with_fine : (op : Operation) (m : Mode) (s : List ℕ) (d : Option (List ℕ)) (text : List ℕ) → AreParts m s d text → AreFine op m s d → FineParts op text
+with_fine op m s d text parts fine = record { of = record { mode = m; source = s; destination = d; parts = parts }; fine = fine }
 
 alike_fine : (op : Operation) (m : Mode) (s d : List ℕ) → op ≡ Fetch → IsPositive m → AreAlike s d → AreFine op m s (Some d)
 alike_fine op m s d fetch pos (inl names) = fine_fetch Plain fetch pos (checked_name s names.0) (checked_name d names.1)
 alike_fine op m s d fetch pos (inr patterns) = fine_fetch Pattern fetch pos (checked_from_pattern s patterns.0) (checked_from_pattern d patterns.1)
 
 one_fine : (op : Operation) (m : Mode) (s text : List ℕ) → op ≡ Fetch → IsPositive m → IsName s → AreParts m s None text ⊎ AreParts m s (Some []) text → FineParts op text
-one_fine op m s text fetch pos name (inl parts) = record { mode = m; source = s; destination = None; parts = parts; fine = fine_fetch Plain fetch pos (checked_name s name) tt }
-one_fine op m s text fetch pos name (inr parts) = record { mode = m; source = s; destination = Some []; parts = parts; fine = fine_fetch Plain fetch pos (checked_name s name) tt }
+one_fine op m s text fetch pos name (inl parts) = with_fine op m s None text parts (fine_fetch Plain fetch pos (checked_name s name) tt)
+one_fine op m s text fetch pos name (inr parts) = with_fine op m s (Some []) text parts (fine_fetch Plain fetch pos (checked_name s name) tt)
 
 negative_fine : (op : Operation) (s text : List ℕ) → AreParts Negative s None text → IsNameOrPattern s → ¬ (LooksLikeObjectHash s) → FineParts op text
 negative_fine op s text parts either hash =
     let side = checked_either s either in
-    record { mode = Negative; source = s; destination = None; parts = parts; fine = fine_negative side.0 refl refl (either_not_empty s either) side.1 hash }
+    with_fine op Negative s None text parts (fine_negative side.0 refl refl (either_not_empty s either) side.1 hash)
 
 -- what reads has fine parts
 pub fine_parts : (op : Operation) (text : List ℕ) (r : Reading) → Reads op text r → FineParts op text
-fine_parts op text r (fetches_nothing_named m fetch pos parts _) = record { mode = m; source = []; destination = None; parts = parts; fine = fine_fetch Plain fetch pos tt tt }
-fine_parts op text r (fetches_colon m fetch pos parts _) = record { mode = m; source = []; destination = Some []; parts = parts; fine = fine_fetch Plain fetch pos tt tt }
+fine_parts op text r (fetches_nothing_named m fetch pos parts _) = with_fine op m [] None text parts (fine_fetch Plain fetch pos tt tt)
+fine_parts op text r (fetches_colon m fetch pos parts _) = with_fine op m [] (Some []) text parts (fine_fetch Plain fetch pos tt tt)
 fine_parts op text r (fetches m s fetch pos parts name _) = one_fine op m s text fetch pos name parts
-fine_parts op text r (updates m s d fetch pos parts alike _) = record { mode = m; source = s; destination = Some d; parts = parts; fine = alike_fine op m s d fetch pos alike }
-fine_parts op text r (updates_from_head m d fetch pos parts name _) = record { mode = m; source = []; destination = Some d; parts = parts; fine = fine_fetch Plain fetch pos tt (checked_name d name) }
+fine_parts op text r (updates m s d fetch pos parts alike _) = with_fine op m s (Some d) text parts (alike_fine op m s d fetch pos alike)
+fine_parts op text r (updates_from_head m d fetch pos parts name _) = with_fine op m [] (Some d) text parts (fine_fetch Plain fetch pos tt (checked_name d name))
 fine_parts op text r (fetch_excludes s fetch parts either hash _) = negative_fine op s text parts either hash
-fine_parts op text r (pushes_plus push parts _) = record { mode = Forced; source = []; destination = None; parts = parts; fine = fine_alone Plain push tt refl (λ _ forced. forced_not_normal forced) tt }
-fine_parts op text r (pushes_colon m push pos parts _) = record { mode = m; source = []; destination = Some []; parts = parts; fine = fine_push Plain [] push pos refl (λ full _. full refl) tt tt }
+fine_parts op text r (pushes_plus push parts _) = with_fine op Forced [] None text parts (fine_alone Plain push tt refl (λ _ forced. forced_not_normal forced) tt)
+fine_parts op text r (pushes_colon m push pos parts _) = with_fine op m [] (Some []) text parts (fine_push Plain [] push pos refl (λ full _. full refl) tt tt)
 fine_parts op text r (pushes m s push pos parts either _) =
     let side = checked_either s either in
-    record { mode = m; source = s; destination = None; parts = parts; fine = fine_alone side.0 push pos refl (λ empty _. either_not_empty s either empty) side.1 }
-fine_parts op text r (deletes m d push pos parts name _) = record { mode = m; source = []; destination = Some d; parts = parts; fine = fine_push Plain d push pos refl (λ full _. full refl) tt (checked_name d name) }
-fine_parts op text r (pushes_pattern m s d push pos parts source destination _) = record { mode = m; source = s; destination = Some d; parts = parts; fine = fine_push Pattern d push pos refl (λ _ empty. pattern_not_empty d destination empty) source (checked_from_pattern d destination) }
-fine_parts op text r (pushes_to m s d push pos parts full plain name _) = record { mode = m; source = s; destination = Some d; parts = parts; fine = fine_push Plain d push pos refl (λ _ empty. name_not_empty d name empty) plain (checked_name d name) }
+    with_fine op m s None text parts (fine_alone side.0 push pos refl (λ empty _. either_not_empty s either empty) side.1)
+fine_parts op text r (deletes m d push pos parts name _) = with_fine op m [] (Some d) text parts (fine_push Plain d push pos refl (λ full _. full refl) tt (checked_name d name))
+fine_parts op text r (pushes_pattern m s d push pos parts source destination _) = with_fine op m s (Some d) text parts (fine_push Pattern d push pos refl (λ _ empty. pattern_not_empty d destination empty) source (checked_from_pattern d destination))
+fine_parts op text r (pushes_to m s d push pos parts full plain name _) = with_fine op m s (Some d) text parts (fine_push Plain d push pos refl (λ _ empty. name_not_empty d name empty) plain (checked_name d name))
 fine_parts op text r (push_excludes s push parts either hash _) = negative_fine op s text parts either hash
 
 -- no reason is against a positive fetch, a push of a source alone, a push, and a negative spec that are fine
@@ -206,11 +206,12 @@ no_reason op m s d (fine_negative k negative none full a hash) e =
 pub unread : (op : Operation) (m : Mode) (s : List ℕ) (d : Option (List ℕ)) (text : List ℕ) (e : Refusal) (r : Reading) → AreParts m s d text → IsFirstReason op m s d e → ¬ (Reads op text r)
 unread op m s d text e r parts first reads =
     let fine = fine_parts op text r reads in
-    let same = parts_once m fine.mode s fine.source d fine.destination text parts fine.parts in
+    let p = fine.of in
+    let same = parts_once m p.mode s p.source d p.destination text parts p.parts in
     let moved_mode = subst (λ (n : Mode). IsFirstReason op n s d e) same.mode first in
-    let moved_source = subst (λ (t : List ℕ). IsFirstReason op fine.mode t d e) same.source moved_mode in
-    let moved = subst (λ (u : Option (List ℕ)). IsFirstReason op fine.mode fine.source u e) same.destination moved_source in
-    no_reason op fine.mode fine.source fine.destination fine.fine e moved
+    let moved_source = subst (λ (t : List ℕ). IsFirstReason op p.mode t d e) same.source moved_mode in
+    let moved = subst (λ (u : Option (List ℕ)). IsFirstReason op p.mode p.source u e) same.destination moved_source in
+    no_reason op p.mode p.source p.destination fine.fine e moved
 
 -- a reason against a text's parts refuses it
 pub refused : (op : Operation) (m : Mode) (s : List ℕ) (d : Option (List ℕ)) (text : List ℕ) (e : Refusal) → AreParts m s d text → IsFirstReason op m s d e → IsRefused op text e

@@ -15,20 +15,10 @@ use Rattle.gix_refspec.specs.declared.parsing.Error.TheVariants as error
 use Rattle.gix_refspec.proofs.lemmas.texts.TextLemmas.{Lacks-Holds}
 use Rattle.gix_refspec.proofs.lemmas.parsing.SideLemmas.{checked_fine, starred_fine, checked_starred, HasStar-pattern, HasStar-bad}
 
--- an error that tells of P and memory tells of what follows from them
+-- an error for P, or for memory, is one for what follows from it
 pub MemoryOr-map : (M N : Type 0) (P Q : Refusal → Type 0) (e : Error) → (M → N) → ((f : Refusal) → P f → Q f) → MemoryOr M P e → MemoryOr N Q e
 MemoryOr-map M N P Q error.Memory m p h = m h
-MemoryOr-map M N P Q error.Empty m p h = (h.0, h.1, p h.0 h.2)
-MemoryOr-map M N P Q error.NegativeWithDestination m p h = (h.0, h.1, p h.0 h.2)
-MemoryOr-map M N P Q error.NegativeEmpty m p h = (h.0, h.1, p h.0 h.2)
-MemoryOr-map M N P Q error.NegativeObjectHash m p h = (h.0, h.1, p h.0 h.2)
-MemoryOr-map M N P Q error.NegativePartialName m p h = (h.0, h.1, p h.0 h.2)
-MemoryOr-map M N P Q error.NegativeGlobPattern m p h = (h.0, h.1, p h.0 h.2)
-MemoryOr-map M N P Q error.InvalidFetchDestination m p h = (h.0, h.1, p h.0 h.2)
-MemoryOr-map M N P Q error.PushToEmpty m p h = (h.0, h.1, p h.0 h.2)
-MemoryOr-map M N P Q (error.PatternUnsupported pattern) m p h = (h.0, h.1, p h.0 h.2)
-MemoryOr-map M N P Q error.PatternUnbalanced m p h = (h.0, h.1, p h.0 h.2)
-MemoryOr-map M N P Q (error.ReferenceName fault) m p h = (h.0, h.1, p h.0 h.2)
+MemoryOr-map M N P Q e m p h = (h.0, h.1, p h.0 h.2)
 
 -- a positive mode isn't negative
 pub positive : (m : Mode) → IsPositive m → m ≡ Negative → ⊥

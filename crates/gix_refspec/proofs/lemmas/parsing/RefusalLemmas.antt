@@ -42,22 +42,11 @@ both_for_fault e f a b = inr (a.fault, b.fault, a.is, b.is)
 reason_of_pattern : (x : List ℕ) (e : Refusal) → IsBadPattern x e → IsForStars x e ⊎ (((y : List ℕ) × ReplacesStar x y) × IsForFault e)
 reason_of_pattern x (PatternUnsupported p) bad = inl (record { several = bad.0; is = ap PatternUnsupported bad.1 })
 reason_of_pattern x (ReferenceName fault) bad = inr ((bad.0, bad.1), record { fault = fault; is = refl })
-reason_of_pattern x Empty bad = absurd bad
-reason_of_pattern x NegativeWithDestination bad = absurd bad
-reason_of_pattern x PushToEmpty bad = absurd bad
-reason_of_pattern x PatternUnbalanced bad = absurd bad
-reason_of_pattern x NegativeEmpty bad = absurd bad
-reason_of_pattern x NegativeObjectHash bad = absurd bad
+reason_of_pattern x _ bad = absurd bad
 
 reason_of_name : (x : List ℕ) (e : Refusal) → IsBadName x e → Lacks star x × IsForFault e
 reason_of_name x (ReferenceName fault) bad = (bad.0, record { fault = fault; is = refl })
-reason_of_name x (PatternUnsupported p) bad = absurd bad
-reason_of_name x Empty bad = absurd bad
-reason_of_name x NegativeWithDestination bad = absurd bad
-reason_of_name x PushToEmpty bad = absurd bad
-reason_of_name x PatternUnbalanced bad = absurd bad
-reason_of_name x NegativeEmpty bad = absurd bad
-reason_of_name x NegativeObjectHash bad = absurd bad
+reason_of_name x _ bad = absurd bad
 
 Agree-pattern : (x : List ℕ) → Agree (IsBadPattern x)
 Agree-pattern x e f a b = elim (reason_of_pattern x e a) [

@@ -13,9 +13,10 @@ use Rattle.gix_refspec.specs.Texts.Bytes.{star, letter, plus, caret, colon}
 use Rattle.gix_refspec.specs.Texts.Name.{ReplacesStar}
 use Rattle.gix_refspec.specs.Specs.Reading.{Mode, Normal, Forced, Negative, Reading}
 use Rattle.gix_refspec.specs.Specs.Refusal.{Refusal, Empty, NegativeWithDestination, PushToEmpty, PatternUnsupported, ReferenceName, PatternUnbalanced, NegativeEmpty, NegativeObjectHash, IsBadPattern, IsFirstReason, IsRefused}
-use Rattle.gix_refspec.specs.Specs.Grammar.{named_by, IsSigned, IsPositive, AreParts, LooksLikeObjectHash, Reads, fetched, pushed}
+use Rattle.gix_refspec.specs.Specs.Grammar.{named_by, IsSigned, IsPositive, with_colon, LastLacksColon, AreParts, LooksLikeObjectHash, Reads, fetched, pushed}
 use Rattle.gix_refspec.specs.Private.Sides.{HasShape, HasCheckedShape, IsBadSide, side_of, named_or_head}
-use Rattle.gix_refspec.proofs.lemmas.parsing.DecideLemmas.{Decided, FirstPlace, tested, decided_byte, name_or_fault, lacks_or_first, lacks_or_last}
+use Rattle.gix_refspec.proofs.lemmas.parsing.DecideLemmas.{Decided, FirstPlace, tested, decided_byte, name_or_fault, lacks_or_first}
+use Rattle.gix_refspec.proofs.lemmas.parsing.PartsLemmas.{Parted}
 use Rattle.gix_refspec.proofs.lemmas.parsing.ReasonLemmas.{fetch_reaches, push_reaches, push_alone_reaches, negative_reaches, reason_at_source, reason_at_destination, reason_against_object, reason_against_nothing, fetch_source_fine, push_source_fine, bad_destination, bad_source_of_push, unbalanced_fetch, unbalanced_push, bad_negative, no_negative}
 use Rattle.gix_refspec.proofs.lemmas.parsing.ReadsLemmas.{fetch_reads, push_alone_reads, push_reads, negative_reads, refused}
 
@@ -186,20 +187,30 @@ signs (b ∷ x) = elim (decided_byte b plus) [
   ]
 ]
 
--- each text has parts
-pub record Parted (text : List ℕ) : Type 0 where
-  pub mode : Mode
-  pub source : List ℕ
-  pub destination : Option (List ℕ)
-  pub parts : AreParts mode source destination text
+-- a text that may be cut at its last colon
+record Cut (x : List ℕ) : Type 0 where
+  source : List ℕ
+  destination : Option (List ℕ)
+  whole : x ≡ with_colon source destination
+  last : LastLacksColon source destination
 
+cut_before : (b : ℕ) (x s : List ℕ) (d : Option (List ℕ)) → x ≡ with_colon s d → LastLacksColon s d → Cut (b ∷ x)
+cut_before b x s (Some d) whole last = record { source = b ∷ s; destination = Some d; whole = ap (λ (y : List ℕ). b ∷ y) whole; last = last }
+cut_before b x s None whole lacks = elim (decided_byte b colon) [
+  | inl same ↦ record { source = []; destination = Some x; whole = ap (λ c. c ∷ x) same; last = subst (Lacks colon) (sym whole) lacks }
+  | inr other ↦ record { source = b ∷ s; destination = None; whole = ap (λ (y : List ℕ). b ∷ y) whole; last = (other, lacks) }
+]
+
+cut : (x : List ℕ) → Cut x
+cut [] = record { source = []; destination = None; whole = refl; last = tt }
+cut (b ∷ x) = let later = cut x in cut_before b x later.source later.destination later.whole later.last
+
+-- each text has parts
 pub parted : (text : List ℕ) → Parted text
 parted text =
     let s = signs text in
-    elim (lacks_or_last colon s.rest) [
-      | inl lacks ↦ record { mode = s.mode; source = s.rest; destination = None; parts = record { signed = s.signed; last = lacks } }
-      | inr place ↦ record { mode = s.mode; source = place.before; destination = Some place.after; parts = record { signed = subst (IsSigned s.mode text) place.here s.signed; last = place.last } }
-    ]
+    let c = cut s.rest in
+    record { mode = s.mode; source = c.source; destination = c.destination; parts = record { signed = subst (IsSigned s.mode text) c.whole s.signed; last = c.last } }
 
 -- each text reads, or is refused
 pub read_or_refused : (op : Operation) (text : List ℕ) → ((r : Reading) × Reads op text r) ⊎ ((e : Refusal) × IsRefused op text e)

@@ -11,7 +11,7 @@ use Rattle.gix_refspec.specs.Texts.Words.{Lacks}
 use Rattle.gix_refspec.specs.Texts.Name.{IsName, IsPattern, HasStar, HasSeveralStars, ReplacesStar, HasFault}
 use Rattle.gix_refspec.specs.Texts.Bytes.{star}
 use Rattle.gix_refspec.specs.Specs.Reading.{Normal}
-use Rattle.gix_refspec.specs.Specs.Refusal.{Refusal, Empty, NegativeWithDestination, PushToEmpty, PatternUnsupported, ReferenceName, PatternUnbalanced, NegativeEmpty, NegativeObjectHash, IsBadName, IsBadPattern, Never, OrElse}
+use Rattle.gix_refspec.specs.Specs.Refusal.{Refusal, PatternUnsupported, ReferenceName, IsBadName, IsBadPattern, Never, OrElse}
 use Rattle.gix_refspec.specs.Views.Instruction.{mode_of}
 use Rattle.gix_refspec.specs.Laws.Readings.{NothingAgainst}
 use Rattle.gix_refspec.specs.Private.Sides.{HasShape, HasCheckedShape, IsBadSide}
@@ -56,24 +56,14 @@ HasSeveralStars-replaced x y replaces stars = one_not_two star replaces.before r
 pub HasStar-bad : (x : List ℕ) (e : Refusal) → IsBadPattern x e → HasStar x
 HasStar-bad x (PatternUnsupported p) bad = HasStar-stars x bad.0
 HasStar-bad x (ReferenceName fault) bad = HasStar-replaced x bad.0 bad.1
-HasStar-bad x Empty bad = absurd bad
-HasStar-bad x NegativeWithDestination bad = absurd bad
-HasStar-bad x PushToEmpty bad = absurd bad
-HasStar-bad x PatternUnbalanced bad = absurd bad
-HasStar-bad x NegativeEmpty bad = absurd bad
-HasStar-bad x NegativeObjectHash bad = absurd bad
+HasStar-bad x _ bad = absurd bad
 
 -- nothing is against a pattern
 pub pattern_fine : (x : List ℕ) → IsPattern x → Never (IsBadPattern x)
 pattern_fine x pattern (PatternUnsupported p) bad = HasSeveralStars-replaced x pattern.with_letter pattern.replaces bad.0
 pattern_fine x pattern (ReferenceName fault) bad =
     pattern.name fault (subst (λ (y : List ℕ). HasFault y fault) (replaced_once x bad.0 pattern.with_letter bad.1 pattern.replaces) bad.2)
-pattern_fine x pattern Empty bad = bad
-pattern_fine x pattern NegativeWithDestination bad = bad
-pattern_fine x pattern PushToEmpty bad = bad
-pattern_fine x pattern PatternUnbalanced bad = bad
-pattern_fine x pattern NegativeEmpty bad = bad
-pattern_fine x pattern NegativeObjectHash bad = bad
+pattern_fine x pattern _ bad = bad
 
 -- nor does a look at a pattern find anything, but out of memory
 pub nothing_against : (x : List ℕ) → NothingAgainst x
@@ -87,13 +77,7 @@ plain_fine x lacks e bad = Lacks-Holds star x lacks (HasStar-bad x e bad)
 -- what is against a name shows that it has no star, and is none
 pub bad_name : (x : List ℕ) (e : Refusal) → IsBadName x e → Lacks star x × ¬ (IsName x)
 bad_name x (ReferenceName fault) bad = (bad.0, λ name. name fault bad.1)
-bad_name x (PatternUnsupported p) bad = absurd bad
-bad_name x Empty bad = absurd bad
-bad_name x NegativeWithDestination bad = absurd bad
-bad_name x PushToEmpty bad = absurd bad
-bad_name x PatternUnbalanced bad = absurd bad
-bad_name x NegativeEmpty bad = absurd bad
-bad_name x NegativeObjectHash bad = absurd bad
+bad_name x _ bad = absurd bad
 
 pub name_not_bad : (x : List ℕ) → IsName x → (e : Refusal) → IsBadName x e ⊎ IsBadPattern x e → ⊥
 name_not_bad x name e (inl bad) = (bad_name x e bad).1 name
