@@ -47,73 +47,51 @@ end_before (b ∷ y) (c ∷ p) w lacks same =
     let end = end_before y p w lacks tails in
     record { before = b ∷ end.before; here = ap (λ z. b ∷ z) end.here }
 
--- a word without a letter ends a text with letters exactly where it ends the text
-EndsWith-before : (w y : List ℕ) → Lacks letter w → EndsWith w (with_letters y) → EndsWith w y
-EndsWith-before w y lacks ends = end_before y ends.before w lacks ends.here
+-- a word without a letter or a star
+abbrev IsKept : List ℕ → Type 0
+IsKept w = Lacks letter w × (with_letters w ≡ w)
 
-EndsWith-letters : (w y : List ℕ) → with_letters w ≡ w → EndsWith w y → EndsWith w (with_letters y)
-EndsWith-letters w y kept ends = record {
+slash_kept : IsKept (codes "/")
+slash_kept = (((λ e. omega (arith, e)), tt), refl)
+
+dot_kept : IsKept (codes ".")
+dot_kept = (((λ e. omega (arith, e)), tt), refl)
+
+at_kept : IsKept (codes "@")
+at_kept = (((λ e. omega (arith, e)), tt), refl)
+
+lock_kept : IsKept (codes ".lock")
+lock_kept = (((λ e. omega (arith, e)), ((λ e. omega (arith, e)), ((λ e. omega (arith, e)), ((λ e. omega (arith, e)), ((λ e. omega (arith, e)), tt))))), refl)
+
+-- y ends with each such word that x ends with
+abbrev EndsAs : List ℕ → List ℕ → Type 0
+EndsAs x y = (w : List ℕ) → IsKept w → EndsWith w x → EndsWith w y
+
+-- a text and the text with letters end with the same words of this kind
+ends_before : (y : List ℕ) → EndsAs (with_letters y) y
+ends_before y w kept ends = end_before y ends.before w kept.0 ends.here
+
+ends_with_letters : (y : List ℕ) → EndsAs y (with_letters y)
+ends_with_letters y w kept ends = record {
   before = with_letters ends.before;
-  here = ap with_letters ends.here ∙ letters-append ends.before w ∙ ap (λ z. with_letters ends.before ++ z) kept;
+  here = ap with_letters ends.here ∙ letters-append ends.before w ∙ ap (λ z. with_letters ends.before ++ z) kept.1;
 }
 
-slash_lacks : Lacks letter (codes "/")
-slash_lacks = ((λ e. omega (arith, e)), tt)
-
-dot_lacks : Lacks letter (codes ".")
-dot_lacks = ((λ e. omega (arith, e)), tt)
-
-at_lacks : Lacks letter (codes "@")
-at_lacks = ((λ e. omega (arith, e)), tt)
-
-lock_lacks : Lacks letter (codes ".lock")
-lock_lacks = ((λ e. omega (arith, e)), ((λ e. omega (arith, e)), ((λ e. omega (arith, e)), ((λ e. omega (arith, e)), ((λ e. omega (arith, e)), tt)))))
-
--- a byte adds the same faults to a text and to the text with letters
-AddsFault-before : (y : List ℕ) (b : ℕ) (e : Error) → AddsFault (with_letters y) b e → AddsFault y b e
-AddsFault-before y b Empty fault = fault
-AddsFault-before y b EmptyComponent fault = (fault.0, EndsWith-before (codes "/") y slash_lacks fault.1)
-AddsFault-before y b StartsWithDot fault = (fault.0, EndsWith-before (codes "/") y slash_lacks fault.1)
-AddsFault-before y b LockSuffix fault = (fault.0, EndsWith-before (codes ".lock") y lock_lacks fault.1)
-AddsFault-before y b EndsWithDot fault = fault
-AddsFault-before y b RepeatedDot fault = (fault.0, EndsWith-before (codes ".") y dot_lacks fault.1)
-AddsFault-before y b ReflogPortion fault = (fault.0, EndsWith-before (codes "@") y at_lacks fault.1)
-AddsFault-before y b Asterisk fault = fault
-AddsFault-before y b (InvalidByte c) fault = fault
-
-AddsFault-letters : (y : List ℕ) (b : ℕ) (e : Error) → AddsFault y b e → AddsFault (with_letters y) b e
-AddsFault-letters y b Empty fault = fault
-AddsFault-letters y b EmptyComponent fault = (fault.0, EndsWith-letters (codes "/") y refl fault.1)
-AddsFault-letters y b StartsWithDot fault = (fault.0, EndsWith-letters (codes "/") y refl fault.1)
-AddsFault-letters y b LockSuffix fault = (fault.0, EndsWith-letters (codes ".lock") y refl fault.1)
-AddsFault-letters y b EndsWithDot fault = fault
-AddsFault-letters y b RepeatedDot fault = (fault.0, EndsWith-letters (codes ".") y refl fault.1)
-AddsFault-letters y b ReflogPortion fault = (fault.0, EndsWith-letters (codes "@") y refl fault.1)
-AddsFault-letters y b Asterisk fault = fault
-AddsFault-letters y b (InvalidByte c) fault = fault
+-- so a byte adds the same faults to both
+AddsFault-as : (x y : List ℕ) (b : ℕ) → EndsAs x y → (e : Error) → AddsFault x b e → AddsFault y b e
+AddsFault-as x y b ends EmptyComponent fault = (fault.0, ends (codes "/") slash_kept fault.1)
+AddsFault-as x y b ends StartsWithDot fault = (fault.0, ends (codes "/") slash_kept fault.1)
+AddsFault-as x y b ends LockSuffix fault = (fault.0, ends (codes ".lock") lock_kept fault.1)
+AddsFault-as x y b ends RepeatedDot fault = (fault.0, ends (codes ".") dot_kept fault.1)
+AddsFault-as x y b ends ReflogPortion fault = (fault.0, ends (codes "@") at_kept fault.1)
+AddsFault-as x y b ends _ fault = fault
 
 -- and the same faults are left at their ends
-LeavesFault-before : (y : List ℕ) (e : Error) → LeavesFault (with_letters y) e → LeavesFault y e
-LeavesFault-before y Empty left = left
-LeavesFault-before y EmptyComponent left = EndsWith-before (codes "/") y slash_lacks left
-LeavesFault-before y StartsWithDot left = left
-LeavesFault-before y LockSuffix left = EndsWith-before (codes ".lock") y lock_lacks left
-LeavesFault-before y EndsWithDot left = EndsWith-before (codes ".") y dot_lacks left
-LeavesFault-before y RepeatedDot left = left
-LeavesFault-before y ReflogPortion left = left
-LeavesFault-before y Asterisk left = left
-LeavesFault-before y (InvalidByte c) left = left
-
-LeavesFault-letters : (y : List ℕ) (e : Error) → LeavesFault y e → LeavesFault (with_letters y) e
-LeavesFault-letters y Empty left = left
-LeavesFault-letters y EmptyComponent left = EndsWith-letters (codes "/") y refl left
-LeavesFault-letters y StartsWithDot left = left
-LeavesFault-letters y LockSuffix left = EndsWith-letters (codes ".lock") y refl left
-LeavesFault-letters y EndsWithDot left = EndsWith-letters (codes ".") y refl left
-LeavesFault-letters y RepeatedDot left = left
-LeavesFault-letters y ReflogPortion left = left
-LeavesFault-letters y Asterisk left = left
-LeavesFault-letters y (InvalidByte c) left = left
+LeavesFault-as : (x y : List ℕ) → EndsAs x y → (e : Error) → LeavesFault x e → LeavesFault y e
+LeavesFault-as x y ends EmptyComponent left = ends (codes "/") slash_kept left
+LeavesFault-as x y ends LockSuffix left = ends (codes ".lock") lock_kept left
+LeavesFault-as x y ends EndsWithDot left = ends (codes ".") dot_kept left
+LeavesFault-as x y ends _ left = left
 
 letter_adds_nothing : (y : List ℕ) (e : Error) → ¬ (AddsFault y letter e)
 letter_adds_nothing y Empty fault = fault
@@ -135,7 +113,7 @@ clean_behind_star y b same clean =
 pub clean_behind_other : (y : List ℕ) (b : ℕ) → ((e : Error) → ¬ (AddsFault y b e)) → IsClean (with_letters y) → IsClean (with_letters (y ++ (b ∷ [])))
 clean_behind_other y b none clean =
     subst IsClean (sym (letters-append y (b ∷ []))) (IsClean-more (with_letters y) (letter_for b) clean
-    (λ e fault. none e (AddsFault-before y b e (subst (λ c. AddsFault (with_letters y) c e) (letter_for-other b (none Asterisk)) fault))))
+    (λ e fault. none e (AddsFault-as (with_letters y) y b (ends_before y) e (subst (λ c. AddsFault (with_letters y) c e) (letter_for-other b (none Asterisk)) fault))))
 
 some_letters : (x : List ℕ) → x ≢ [] → with_letters x ≢ []
 some_letters [] some same = some refl
@@ -161,12 +139,12 @@ fault_with_letters x i e some below other fault =
       byte = b;
       after = with_letters (drop (suc i) x);
       here = ap (λ z. slash ∷ z) whole ∙ ap (λ c. with_letters (slash ∷ take i x) ++ (c ∷ with_letters (drop (suc i) x))) (letter_for-other b other);
-      fault = AddsFault-letters (slash ∷ take i x) b e fault;
+      fault = AddsFault-as (slash ∷ take i x) (with_letters (slash ∷ take i x)) b (ends_with_letters (slash ∷ take i x)) e fault;
     })
 
 finds_with_letters : (y : List ℕ) (fault : Option Error) → Finds fault (LeavesFault y) → Finds fault (LeavesFault (with_letters y))
-finds_with_letters y None none = λ e left. none e (LeavesFault-before y e left)
-finds_with_letters y (Some e) left = LeavesFault-letters y e left
+finds_with_letters y None none = λ e left. none e (LeavesFault-as (with_letters y) y (ends_before y) e left)
+finds_with_letters y (Some e) left = LeavesFault-as y (with_letters y) (ends_with_letters y) e left
 
 -- the answer at the end of a text whose bytes add no fault once letters stand for the stars
 pub answer_with_letters : (x : List ℕ) (fault : Option Error) → x ≢ [] → IsClean (with_letters (slash ∷ x)) → Finds fault (LeavesFault (slash ∷ x)) → MatchOption fault (IsName (with_letters x)) (HasFault (with_letters x))
