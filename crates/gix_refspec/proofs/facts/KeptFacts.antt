@@ -6,11 +6,12 @@ use Rattle.gix_refspec.specs.Matching.Side.{partial, full_name, HasKind}
 use Rattle.gix_refspec.specs.Matching.Match.{Ref, IsFirstCandidate}
 use Rattle.gix_refspec.specs.Matching.Mappings.{name, Mapped, HasPair, IsExcluded}
 use Rattle.gix_refspec.specs.Matching.Hits.{AreKeptForward, AreKeptBackward}
-use Rattle.gix_refspec.specs.Laws.Matching.{MakesForward, MakesBackward, KeptExactly, FirstStays, NothingExcluded}
+use Rattle.gix_refspec.specs.Laws.Matching.{MakesForward, MakesBackward, PairsId, KeptExactly, FirstStays, NothingExcluded}
 use Rattle.gix_refspec.specs.Matching.Validation.{ForwardPlaces, IsValidated, PlacesFit, Removed}
 use Rattle.gix_refspec.proofs.facts.CandidateFacts.{branch_and_tag, main_tag, main_ends, main_to_x, no_tags, no_other_first, not_excluded, tags_excluded, takes_the_tag, x_kind}
 use Rattle.gix_refspec.proofs.lemmas.specs.FormsBackLemmas.{some_once}
 use Rattle.gix_refspec.proofs.facts.ManualFacts.{named, other_length}
+use Rattle.gix_refspec.proofs.facts.ObjectIdFacts.{empty_blob}
 use Rattle.gix_refspec.proofs.facts.MatchFacts.{below_tags, blob, blob_kind, blob_mapping, bytes_in, dev_excluded, dev_ref, every, main_ref, main_stays, mapping, maps_all, no_dev, only_dev, short_kind, short_no_id, tag_ref, tracked, tracks_all}
 
 -- whatever its places are
@@ -67,24 +68,19 @@ branch_made_back = record {
 pub pair_back : KeptExactly (main_to_x ∷ []) (named (codes "refs/x") ∷ []) → (kept : List Mapped) → AreKeptBackward (main_to_x ∷ []) (named (codes "refs/x") ∷ []) kept → HasPair kept branch_pair
 pair_back law kept are = (law.backward kept are branch_pair).1 ((0, main_to_x, omega arith, refl, branch_made_back), not_excluded (codes "refs/heads/main"))
 
--- an id that is asked for is there, whatever the items are
+-- the spec makes the pair of the id that it asks for
+pub blob_paired : PairsId empty_blob (Some (codes "refs/tags/blob")) blob
+blob_paired = record {
+  positive = tt;
+  text = codes "e69de29bb2d1d6434b8b29ae775ad8c2e48c5391";
+  side = refl;
+  object = blob_kind;
+  becomes = (full_name (codes "refs/tags/blob"), below_tags, refl);
+}
+
+-- so by the law it is there, whatever the items are
 pub id_there : (items : List Ref) → KeptExactly (blob ∷ []) items → (kept : List Mapped) → AreKeptForward (blob ∷ []) items kept → HasPair kept blob_mapping
-id_there items law kept are = (law.forward kept are blob_mapping).1 (
-  (
-    0,
-    blob,
-    omega arith,
-    refl,
-    record {
-      positive = tt;
-      text = codes "e69de29bb2d1d6434b8b29ae775ad8c2e48c5391";
-      side = refl;
-      object = blob_kind;
-      becomes = (full_name (codes "refs/tags/blob"), below_tags, refl);
-    },
-  ),
-  λ none. none,
-)
+id_there items law kept are = (law.forward kept are blob_mapping).1 ((0, blob, omega arith, refl, blob_paired), λ none. none)
 
 -- no list of what is kept begins with a mapping of what is excluded, in either direction
 pub none_of_a_tag : (items : List Ref) → NothingExcluded (main_to_x ∷ no_tags ∷ []) items → (rest : List Mapped) → ¬ (AreKeptForward (main_to_x ∷ no_tags ∷ []) items (tag_pair ∷ rest)) × ¬ (AreKeptBackward (main_to_x ∷ no_tags ∷ []) items (tag_pair ∷ rest))

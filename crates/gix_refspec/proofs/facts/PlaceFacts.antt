@@ -11,8 +11,9 @@ use Rattle.gix_refspec.specs.Laws.Places.{MakesForwardOf, MakesBackwardOf, MadeA
 use Rattle.gix_refspec.specs.Matching.Validation.{IsValidated, IsWritable, Removed}
 use Rattle.gix_refspec.specs.Matching.RefNames.{KeepsNamed, LeftOut}
 use Rattle.gix_refspec.proofs.facts.CandidateFacts.{branch_and_tag, main_tag, main_ends, main_to_x, takes_the_tag, x_kind}
+use Rattle.gix_refspec.proofs.facts.KeptFacts.{blob_paired}
 use Rattle.gix_refspec.proofs.facts.ManualFacts.{named, other_length}
-use Rattle.gix_refspec.proofs.facts.MatchFacts.{below_tags, blob, blob_kind, dev_ref, every, main_ref, mapping, no_dev, other_byte, short_kind, short_no_id, tag_ref, tracked}
+use Rattle.gix_refspec.proofs.facts.MatchFacts.{blob, dev_ref, every, main_ref, mapping, no_dev, other_byte, short_kind, short_no_id, tag_ref, tracked}
 use Rattle.gix_refspec.proofs.facts.ObjectIdFacts.{empty_blob}
 use Rattle.gix_refspec.proofs.facts.RefNameFacts.{good, kept, no_ref_names, sides, to_bad}
 
@@ -46,19 +47,7 @@ tag_not_there = (at_branch, λ taken. let none = taken.is in absurd (cc))
 
 -- an id that the spec asks for has no item
 pub id_without_item : (items : List Ref) → MakesForwardOf items None (id empty_blob) (Some (codes "refs/tags/blob")) blob × ¬ (MakesForwardOf items (Some 0) (id empty_blob) (Some (codes "refs/tags/blob")) blob)
-id_without_item items = (
-  (
-    refl,
-    record {
-      positive = tt;
-      text = codes "e69de29bb2d1d6434b8b29ae775ad8c2e48c5391";
-      side = refl;
-      object = blob_kind;
-      becomes = (full_name (codes "refs/tags/blob"), below_tags, refl);
-    },
-  ),
-  λ made. let none = made.0 in absurd (cc),
-)
+id_without_item items = ((refl, blob_paired), λ made. let none = made.0 in absurd (cc))
 
 abbrev local_x : List Ref
 local_x = named (codes "refs/x") ∷ []
