@@ -1,4 +1,4 @@
--- Examples of the words of specs/, each on one side of a border: what notices a wrong definition.
+-- Examples of the definitions in specs/, each on one side of a border, so that a wrong definition is noticed.
 pub mod ManualFacts
 pub mod NameFacts
 pub mod GrammarFacts

@@ -1,4 +1,4 @@
--- What follows from the other words, as the laws of the library say it.
+-- What follows from the other definitions: the laws of the library.
 pub mod Readings
 pub mod Order
 pub mod Sides

@@ -117,7 +117,7 @@ pub fn has_one_star(text: BStr<'_>) -> bool
 /// a letter replaces its star. A text that ends with a slash is refused, as by Git's command, although
 /// its manual has one as an example.
 ///
-/// Requires exactly one star, as [`has_one_star`] tells. `Name` holds one fault of the name with the
+/// Requires exactly one star, as [`has_one_star`] tests. `Name` holds one fault of the name with the
 /// letter. A text of more than 256 bytes is copied to the heap until the call ends; if memory runs out
 /// there, the refusal is `Memory`.
 pub fn pattern_partial(alloc: Global, pattern: BStr<'_>) -> Result<(), PatternError>
@@ -137,7 +137,7 @@ pub fn pattern_partial(alloc: Global, pattern: BStr<'_>) -> Result<(), PatternEr
     }
 }
 
-// A fault of the text, or `None` if the text is a name. Most texts are names, which one look tells.
+// A fault of the text, or `None` if the text is a name. One look is enough for most names.
 pub(crate) fn fault_of(text: &[u8]) -> Option<Error>
     ensures { MatchOption result (IsName text.now) (λ e. HasFault text.now e) }
 {

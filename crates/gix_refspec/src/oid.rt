@@ -152,7 +152,7 @@ impl ObjectId {
         }
     }
 
-    /// The hash function that made the id, which its length tells.
+    /// The hash function that made the id, by the length of the id.
     pub fn kind(&self) -> Kind
         ensures { length (id_bytes self.now) ≡ bytes_of result }
     {

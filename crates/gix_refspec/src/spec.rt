@@ -56,7 +56,7 @@ impl<'a> RefSpecRef<'a> {
     }
 
     /// Whether the text began with the sign `+`. That is true too of a deletion and of a fetch without a
-    /// destination, whose instructions don't tell.
+    /// destination, whose instructions don't say so.
     pub fn allow_non_fast_forward(&self) -> bool
         ensures { IsTrue result ↔ ((reading_of self.now).mode ≡ Forced) }
     {

@@ -14,7 +14,7 @@ use Rattle.gix_refspec.specs.Texts.Bytes.{slash}
 use Rattle.gix_refspec.proofs.lemmas.texts.ComponentLemmas.{AllByRecursion-parts}
 use Rattle.gix_refspec.proofs.facts.ManualFacts.{Lacks-tested, full}
 
--- tests tell that a text doesn't begin or end with a word, nor hold it
+-- a text doesn't begin or end with a word, nor hold it, by tests that compute
 pub begins_not : (w x : List ℕ) → starts_with nat_eq x w ≡ false → ¬ (BeginsWith w x)
 begins_not w x none begins = true≢false (sym ((starts_is Decides-eqb x w (starts_with nat_eq x w) refl).1 begins.after begins.here) ∙ none)
 
@@ -26,20 +26,20 @@ abbrev pub holds : List ℕ → List ℕ → Bool
 holds w [] = starts_with nat_eq [] w
 holds w (b ∷ x) = starts_with nat_eq (b ∷ x) w || holds w x
 
-holds_behind : (w before after x : List ℕ) → x ≡ before ++ (w ++ after) → holds w x ≡ true
-holds_behind w [] after [] here = (starts_is Decides-eqb [] w (starts_with nat_eq [] w) refl).1 after here
-holds_behind w [] after (b ∷ x) here = ap (λ v. v || holds w x) ((starts_is Decides-eqb (b ∷ x) w (starts_with nat_eq (b ∷ x) w) refl).1 after here)
-holds_behind w (c ∷ before) after [] here = cc
-holds_behind w (c ∷ before) after (b ∷ x) here =
+holds_after : (w before after x : List ℕ) → x ≡ before ++ (w ++ after) → holds w x ≡ true
+holds_after w [] after [] here = (starts_is Decides-eqb [] w (starts_with nat_eq [] w) refl).1 after here
+holds_after w [] after (b ∷ x) here = ap (λ v. v || holds w x) ((starts_is Decides-eqb (b ∷ x) w (starts_with nat_eq (b ∷ x) w) refl).1 after here)
+holds_after w (c ∷ before) after [] here = cc
+holds_after w (c ∷ before) after (b ∷ x) here =
     let tails : x ≡ before ++ (w ++ after) = cc in
-    ap (λ v. starts_with nat_eq (b ∷ x) w || v) (holds_behind w before after x tails) ∙ or_true (starts_with nat_eq (b ∷ x) w)
+    ap (λ v. starts_with nat_eq (b ∷ x) w || v) (holds_after w before after x tails) ∙ or_true (starts_with nat_eq (b ∷ x) w)
   where
     or_true : (v : Bool) → (v || true) ≡ true
     or_true true = refl
     or_true false = refl
 
 pub holds_not : (w x : List ℕ) → holds w x ≡ false → ¬ (Holds w x)
-holds_not w x none has = true≢false (sym (holds_behind w has.before has.after x has.here) ∙ none)
+holds_not w x none has = true≢false (sym (holds_after w has.before has.after x has.here) ∙ none)
 
 -- ---- components
 
@@ -71,8 +71,8 @@ no_component P x none some =
     split_at_one (p ∷ ps) w qs lack = split_joined p (ps ++ (w ∷ qs)) lack
 
 -- the word between `a/` and the end, or the one in front
-pub behind_a : (P : List ℕ → Type 0) (w : List ℕ) → list_any (λ c. c == slash) w ≡ false → P w → SomeComponent P (codes "a/" ++ w)
-behind_a P w none fact = record { before = codes "a" ∷ []; component = w; after = []; components = record { joined = refl; whole = (Lacks-tested slash (codes "a") refl, (Lacks-tested slash w none, tt)) }; fact = fact }
+pub after_a : (P : List ℕ → Type 0) (w : List ℕ) → list_any (λ c. c == slash) w ≡ false → P w → SomeComponent P (codes "a/" ++ w)
+after_a P w none fact = record { before = codes "a" ∷ []; component = w; after = []; components = record { joined = refl; whole = (Lacks-tested slash (codes "a") refl, (Lacks-tested slash w none, tt)) }; fact = fact }
 
 pub before_a : (P : List ℕ → Type 0) (w : List ℕ) → list_any (λ c. c == slash) w ≡ false → P w → SomeComponent P (w ++ codes "/a")
 before_a P w none fact = record { before = []; component = w; after = codes "a" ∷ []; components = record { joined = refl; whole = (Lacks-tested slash w none, (Lacks-tested slash (codes "a") refl, tt)) }; fact = fact }
@@ -87,7 +87,7 @@ just_empty = (refl, full slash [])
 pub empty_components : HasFault (codes "/a") EmptyComponent × HasFault (codes "a/") EmptyComponent × HasFault (codes "a//a") EmptyComponent × ¬ (HasFault (codes "a/b") EmptyComponent) × ¬ (HasFault [] EmptyComponent)
 empty_components = (
   (full _ _, before_a (λ w. w ≡ []) [] refl refl),
-  (full _ _, behind_a (λ w. w ≡ []) [] refl refl),
+  (full _ _, after_a (λ w. w ≡ []) [] refl refl),
   (full _ _, record { before = codes "a" ∷ []; component = []; after = codes "a" ∷ []; components = record { joined = refl; whole = (Lacks-tested slash (codes "a") refl, (tt, (Lacks-tested slash (codes "a") refl, tt))) }; fact = refl }),
   (λ fault. no_component (λ w. w ≡ []) (codes "a/b") (full _ _, (full _ _, tt)) fault.1),
   λ fault. fault.0 refl,
@@ -97,7 +97,7 @@ empty_components = (
 pub dots_first : HasFault (codes ".b/a") StartsWithDot × HasFault (codes "a/.b") StartsWithDot × ¬ (HasFault (codes "a./b.c") StartsWithDot)
 dots_first = (
   before_a (BeginsWith (codes ".")) (codes ".b") refl (record { after = codes "b"; here = refl }),
-  behind_a (BeginsWith (codes ".")) (codes ".b") refl (record { after = codes "b"; here = refl }),
+  after_a (BeginsWith (codes ".")) (codes ".b") refl (record { after = codes "b"; here = refl }),
   no_component (BeginsWith (codes ".")) (codes "a./b.c") (begins_not (codes ".") (codes "a.") refl, (begins_not (codes ".") (codes "b.c") refl, tt)),
 )
 
@@ -105,8 +105,8 @@ dots_first = (
 pub locks : HasFault (codes "b.lock/a") LockSuffix × HasFault (codes "a/b.lock") LockSuffix × HasFault (codes "a/.lock") LockSuffix × ¬ (HasFault (codes "a.lock.b/block") LockSuffix)
 locks = (
   before_a (EndsWith (codes ".lock")) (codes "b.lock") refl (record { before = codes "b"; here = refl }),
-  behind_a (EndsWith (codes ".lock")) (codes "b.lock") refl (record { before = codes "b"; here = refl }),
-  behind_a (EndsWith (codes ".lock")) (codes ".lock") refl (record { before = []; here = refl }),
+  after_a (EndsWith (codes ".lock")) (codes "b.lock") refl (record { before = codes "b"; here = refl }),
+  after_a (EndsWith (codes ".lock")) (codes ".lock") refl (record { before = []; here = refl }),
   no_component (EndsWith (codes ".lock")) (codes "a.lock.b/block") (ends_not (codes ".lock") (codes "a.lock.b") refl, (ends_not (codes ".lock") (codes "block") refl, tt)),
 )
 
@@ -114,7 +114,7 @@ locks = (
 pub dots_last : HasFault (codes "a/b.") EndsWithDot × ¬ (HasFault (codes "a./b") EndsWithDot)
 dots_last = (record { before = codes "a/b"; here = refl }, ends_not (codes ".") (codes "a./b") refl)
 
--- two dots side by side anywhere, and not apart
+-- two dots in a row anywhere, and not apart
 pub dots_side_by_side : HasFault (codes "..a") RepeatedDot × HasFault (codes "a/b..") RepeatedDot × ¬ (HasFault (codes "a.b.c./.d") RepeatedDot)
 dots_side_by_side = (record { before = []; after = codes "a"; here = refl }, record { before = codes "a/b"; after = []; here = refl }, holds_not (codes "..") (codes "a.b.c./.d") refl)
 

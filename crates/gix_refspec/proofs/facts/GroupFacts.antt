@@ -145,7 +145,7 @@ conflict_seen d t u sources texts come say = ap₂ (λ (xs : List SourceRef) (ys
 pub conflicts_seen : (e : Error) (i j : Issue) → e.issues.items ≡ i ∷ j ∷ [] → conflicts_of e ≡ conflict_of i ∷ conflict_of j ∷ []
 conflicts_seen e i j are = ap (map conflict_of) are
 
--- a claim about conflicts is one about the error's, and a claim about the outcome one about what is handed back
+-- a claim about conflicts is one about the error's, and a claim about the outcome one about what is returned
 pub claims : (e : Error) (o : ForwardOutcome) (P : List Conflict → Type 0) (Q : ForwardOutcome → Type 0)
     → (IfConflicts (Conflicts e) P → P (conflicts_of e)) × (P (conflicts_of e) → IfConflicts (Conflicts e) P) × (IfMemory (Memory o) Q → Q o) × (Q o → IfMemory (Memory o) Q)
 claims e o P Q = ((λ is. is), (λ is. is), (λ is. is), λ is. is)

@@ -9,8 +9,8 @@ abbrev refs : List Ref
 refs = named (codes "ab") ∷ named (codes "b") ∷ named (codes "a") ∷ []
 
 -- the front itself begins with it, and so does a longer name, but no other
-pub places_behind_a : ArePlacesBehind (codes "a") refs (0 ∷ 2 ∷ [])
-places_behind_a = (
+pub places_after_a : ArePlacesBehind (codes "a") refs (0 ∷ 2 ∷ [])
+places_after_a = (
   Some 0,
   2 ∷ [],
   (record { after = codes "b"; here = refl }, refl),

@@ -267,7 +267,7 @@ main_alone : ¬ (Contains (main_ref ∷ []) dev_ref)
 main_alone (zero, below, is) = no_dev_main (sym is)
 main_alone (suc k, below, is) = omega (arith, below)
 
--- the branches are what a client is told of that asks for them, and one of two isn't
+-- the branches are what a server lists for a client that asks for them, and one of two isn't
 pub branches_asked : AreAskedFor (codes "refs/heads/" ∷ []) all_refs branches × ¬ (AreAskedFor (codes "refs/heads/" ∷ []) all_refs (main_ref ∷ [])) × ¬ (AreAskedFor [] [] (main_ref ∷ []))
 unfolding branches_listed
 branches_asked = (

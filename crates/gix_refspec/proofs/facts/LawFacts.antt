@@ -203,7 +203,7 @@ remote_refs = named (codes "refs/heads/dev-a") ∷ named (codes "refs/tags/v1") 
 abbrev tracking_refs : List Ref
 tracking_refs = named (codes "refs/remotes/origin/dev-a") ∷ named (codes "refs/remotes/origin/main") ∷ []
 
--- the branch is in the answer of each direction, if it is in that of the other
+-- the branch is mapped in each direction, if it is in the other
 pub looked_up : Transpose (every ∷ no_dev ∷ []) remote_refs tracking_refs → (m : List Mapped) → AreKeptBackward (every ∷ no_dev ∷ []) tracking_refs m → HasPair m (tracked 0 (codes "main"))
 looked_up law m back = ((law (go_both_ways.0, (go_both_ways.3, tt)) (tracked 2 (codes "main") ∷ []) m fetches_all_but_dev back (tracked 0 (codes "main"))).0 (inl (record { source = refl; destination = refl }), inr (inl refl))).0
 
@@ -269,18 +269,18 @@ pub mapped_alike : FetchGroupReadsBack (fetched Forced (codes "main") None ∷ [
     → (AreKeptForward (fetched Forced (codes "main") None ∷ []) (named (codes "refs/heads/main") ∷ []) kept → AreKeptForward (short ∷ []) (named (codes "refs/heads/main") ∷ []) kept) × AreKeptBackward (fetched Forced (codes "main") None ∷ []) (named (codes "refs/heads/main") ∷ []) []
 mapped_alike law kept = let alike = law (reads_unforced, tt) in ((alike.forward kept).0, (alike.backward []).1 tracks_nothing)
 
--- a group and refs have one answer in each direction
+-- a group and refs have one list of mappings in each direction
 pub one_answer : OneForward (every ∷ no_dev ∷ []) remote_refs → (l : List Mapped) → AreKeptForward (every ∷ no_dev ∷ []) remote_refs l → l ≡ tracked 2 (codes "main") ∷ []
 one_answer law l kept = law l (tracked 2 (codes "main") ∷ []) kept fetches_all_but_dev
 
 pub one_answer_back : OneBackward (every ∷ no_dev ∷ []) tracking_refs → (l : List Mapped) → AreKeptBackward (every ∷ no_dev ∷ []) tracking_refs l → l ≡ tracked 1 (codes "main") ∷ []
 one_answer_back law l kept = law l (tracked 1 (codes "main") ∷ []) kept tracks_all_but_dev
 
--- what is answered in either direction is apart
+-- no two mappings of a list have the same pair, in either direction
 pub answered_apart : (g : List Reading) (items : List Ref) → KeptOnce g items → (l m : List Mapped) → AreKeptForward g items l → AreKeptBackward g items m → AreApart l × AreApart m
 answered_apart g items law l m forward back = (law l (inl forward), law m (inr back))
 
--- after a validation one source goes to each destination, and what came from items doesn't meet
+-- after a validation each destination has one source, and no two mappings from items have one destination
 pub validated_apart : ValidatedOnce both_to_x remote_refs → HaveOneSource (tag_to_x ∷ tag_alone ∷ []) × (AreKeptForward both_to_x remote_refs (tag_to_x ∷ tag_to_foo ∷ tag_alone ∷ []) → NeverMeet (tag_to_x ∷ tag_alone ∷ []))
 validated_apart law = law (tag_to_x ∷ tag_to_foo ∷ tag_alone ∷ []) (tag_to_x ∷ tag_alone ∷ []) (foo_fix ∷ []) validated
 

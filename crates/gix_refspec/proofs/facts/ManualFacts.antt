@@ -26,7 +26,7 @@ use Rattle.gix_refspec.proofs.lemmas.parsing.SideLemmas.{HasSeveralStars-replace
 use Rattle.gix_refspec.proofs.lemmas.parsing.PartsLemmas.{parts_once}
 use Rattle.gix_refspec.proofs.lemmas.specs.FormsBackLemmas.{some_once}
 
--- a test of each byte tells that a text lacks one
+-- a text lacks a byte if a test of each byte says so
 pub Lacks-tested : (b : ℕ) (x : List ℕ) → list_any (λ c. c == b) x ≡ false → Lacks b x
 Lacks-tested b [] none = tt
 Lacks-tested b (c ∷ x) none = elim (c == b) as (λ v. (c == b) ≡ v → (v || list_any (λ c. c == b) x) ≡ false → Lacks b (c ∷ x)) [
@@ -264,41 +264,41 @@ abbrev starred : ℕ → List ℕ
 starred n = star ∷ replicate n letter
 
 -- a side with a star and 257 bytes may need memory
-pub wants_memory : NeedsMemory (starred 256)
-wants_memory = inr (record { before = []; after = replicate 256 letter; here = refl }, omega (arith, length-replicate 256 letter))
+pub needs_memory : NeedsMemory (starred 256)
+needs_memory = inr (record { before = []; after = replicate 256 letter; here = refl }, omega (arith, length-replicate 256 letter))
 
 -- one with 256 bytes never does
-wants_no_memory : ¬ (NeedsMemory (starred 255))
-wants_no_memory (inl several) =
+needs_no_memory : ¬ (NeedsMemory (starred 255))
+needs_no_memory (inl several) =
     HasSeveralStars-replaced (starred 255) (letter ∷ replicate 255 letter) (ReplacesStar-tested [] (replicate 255 letter) refl refl) several
-wants_no_memory (inr (starry, long)) = omega (arith, length-replicate 255 letter, long)
+needs_no_memory (inr (starry, long)) = omega (arith, length-replicate 255 letter, long)
 
 -- nor does one of 257 bytes without a star
-pub long_name_wants_none : ¬ (NeedsMemory (replicate 257 letter))
-long_name_wants_none (inl several) = Lacks-Holds star (replicate 257 letter) (Lacks-tested star (replicate 257 letter) refl) (HasStar-stars (replicate 257 letter) several)
-long_name_wants_none (inr (starry, long)) = Lacks-Holds star (replicate 257 letter) (Lacks-tested star (replicate 257 letter) refl) starry
+pub long_name_needs_none : ¬ (NeedsMemory (replicate 257 letter))
+long_name_needs_none (inl several) = Lacks-Holds star (replicate 257 letter) (Lacks-tested star (replicate 257 letter) refl) (HasStar-stars (replicate 257 letter) several)
+long_name_needs_none (inr (starry, long)) = Lacks-Holds star (replicate 257 letter) (Lacks-tested star (replicate 257 letter) refl) starry
 
 -- the text is a source alone
 starred_parts : (n : ℕ) → list_any (λ c. c == colon) (starred n) ≡ false → AreParts Normal (starred n) None (starred n)
 starred_parts n none = record { signed = no_sign star (replicate n letter) refl refl; last = Lacks-tested colon (starred n) none }
 
-pub text_may_want_memory : MayNeedMemory Fetch (starred 256)
-text_may_want_memory = record {
+pub text_may_need_memory : MayNeedMemory Fetch (starred 256)
+text_may_need_memory = record {
   mode = Normal;
   source = starred 256;
   destination = None;
   parts = starred_parts 256 refl;
   reaches = (
     (λ e empty. full star (replicate 256 letter) empty.no_source, λ e negative. false≢true negative.colon, λ e nowhere. none_some [] nowhere.nowhere),
-    wants_memory,
+    needs_memory,
   );
 }
 
-pub text_wants_no_memory : ¬ (MayNeedMemory Fetch (starred 255))
-text_wants_no_memory may =
+pub text_needs_no_memory : ¬ (MayNeedMemory Fetch (starred 255))
+text_needs_no_memory may =
     let once = parts_once may.mode Normal may.source (starred 255) may.destination None (starred 255) may.parts (starred_parts 255 refl) in
     let reaches : ReachesMemory Fetch may.mode may.source None = subst (λ (d : Option (List ℕ)). ReachesMemory Fetch may.mode may.source d) once.destination may.reaches in
-    wants_no_memory (subst NeedsMemory once.source reaches.1)
+    needs_no_memory (subst NeedsMemory once.source reaches.1)
 
 -- a pattern of 257 bytes may be too long to be copied, and one of 256 is not
 pub pattern_too_long : IsPatternFault Memory (starred 256) × ¬ (IsPatternFault Memory (starred 255))
@@ -313,8 +313,8 @@ before_source op mode s d not_empty alone somewhere = (
 )
 
 -- so a destination may need memory too
-pub destination_wants_memory : ReachesMemory Push Normal (codes "a..b") (Some (codes "c*d*"))
-destination_wants_memory = (
+pub destination_needs_memory : ReachesMemory Push Normal (codes "a..b") (Some (codes "c*d*"))
+destination_needs_memory = (
   before_source Push Normal (codes "a..b") (Some (codes "c*d*")) (full _ _) (λ negative. absurd (normal_no_negative negative)) (λ same. full 99 (codes "*d*") (some_once (codes "c*d*") [] same)),
   inr (
     (λ e bad. Lacks-Holds star (codes "a..b") (Lacks-tested star (codes "a..b") refl) (HasStar-bad (codes "a..b") e bad.refusal)),
@@ -326,14 +326,14 @@ destination_wants_memory = (
     normal_no_negative same = cc
 
 -- but not after a bad source, nor does the source of a push to nowhere, or of a negative spec with a colon
-pub memory_behind_reasons : ¬ (ReachesMemory Fetch Normal (codes "a..b") (Some (codes "c*d*"))) × ¬ (ReachesMemory Push Normal (codes "a*b*") (Some [])) × ¬ (ReachesMemory Fetch Negative (codes "a*b*") (Some (codes "c")))
-memory_behind_reasons = (
+pub memory_after_reasons : ¬ (ReachesMemory Fetch Normal (codes "a..b") (Some (codes "c*d*"))) × ¬ (ReachesMemory Push Normal (codes "a*b*") (Some [])) × ¬ (ReachesMemory Fetch Negative (codes "a*b*") (Some (codes "c")))
+memory_after_reasons = (
   (λ reaches. elim reaches.1 [
-    | inl wants ↦ elim wants [
+    | inl needs ↦ elim needs [
       | inl several ↦ Lacks-Holds star (codes "a..b") (Lacks-tested star (codes "a..b") refl) (HasStar-stars (codes "a..b") several)
       | inr long ↦ Lacks-Holds star (codes "a..b") (Lacks-tested star (codes "a..b") refl) long.0
     ]
-    | inr behind ↦ behind.0 (ReferenceName RepeatedDot) (record { source = full _ _; refusal = inl (Lacks-tested star (codes "a..b") refl, record { before = codes "a"; after = codes "b"; here = refl }) })
+    | inr after ↦ after.0 (ReferenceName RepeatedDot) (record { source = full _ _; refusal = inl (Lacks-tested star (codes "a..b") refl, record { before = codes "a"; after = codes "b"; here = refl }) })
   ]),
   (λ reaches. reaches.0.2 PushToEmpty (record { push = refl; source = full _ _; nowhere = refl; refusal = refl })),
   (λ reaches. reaches.0.1 NegativeWithDestination (record { negative = refl; colon = refl; refusal = refl })),

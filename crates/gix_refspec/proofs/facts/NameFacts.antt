@@ -16,7 +16,7 @@ use Rattle.gix_refspec.specs.Private.Scan.{with_letters, IsStarCount, IsCalm, lo
 use Rattle.gix_refspec.proofs.lemmas.texts.TextLemmas.{Lacks-here, Lacks-Holds}
 use Rattle.gix_refspec.proofs.lemmas.texts.TestedLemmas.{is_suspect, IsName-tested}
 use Rattle.gix_refspec.proofs.lemmas.parsing.SideLemmas.{HasStar-pattern, HasSeveralStars-replaced, pattern_fine}
-use Rattle.gix_refspec.proofs.facts.FaultFacts.{behind_a, just_empty, empty_components, dots_first, locks, dots_last, dots_side_by_side, reflog_portions, star_faults, byte_faults}
+use Rattle.gix_refspec.proofs.facts.FaultFacts.{after_a, just_empty, empty_components, dots_first, locks, dots_last, dots_side_by_side, reflog_portions, star_faults, byte_faults}
 use Rattle.gix_refspec.proofs.facts.ManualFacts.{Lacks-tested, ReplacesStar-tested, IsPattern-tested, two_stars}
 
 -- ---- names
@@ -75,9 +75,9 @@ patterns = (
 -- `a.lock` with `.lock`
 pub stars_in_bad_names : IsPatternFault (Name StartsWithDot) (codes "a/.*") × IsPatternFault (Name EmptyComponent) (codes "*/") × IsPatternFault (Name LockSuffix) (codes "a/*.lock")
 stars_in_bad_names = (
-  (codes "a/.a", ReplacesStar-tested (codes "a/.") [] refl refl, behind_a (BeginsWith (codes ".")) (codes ".a") refl (record { after = codes "a"; here = refl })),
+  (codes "a/.a", ReplacesStar-tested (codes "a/.") [] refl refl, after_a (BeginsWith (codes ".")) (codes ".a") refl (record { after = codes "a"; here = refl })),
   (codes "a/", ReplacesStar-tested [] (codes "/") refl refl, empty_components.1),
-  (codes "a/a.lock", ReplacesStar-tested (codes "a/") (codes ".lock") refl refl, behind_a (EndsWith (codes ".lock")) (codes "a.lock") refl (record { before = codes "a"; here = refl })),
+  (codes "a/a.lock", ReplacesStar-tested (codes "a/") (codes ".lock") refl refl, after_a (EndsWith (codes ".lock")) (codes "a.lock") refl (record { before = codes "a"; here = refl })),
 )
 
 bad_pattern : (x : List ℕ) (e : Error) → IsPatternFault (Name e) x → ¬ (IsPattern x)
@@ -110,21 +110,21 @@ star_counts = (refl, refl, (λ same. omega (arith, same)), (λ same. omega (arit
 
 -- ---- calm bytes
 
-slash_behind_slash : ¬ (IsCalm 47 47)
-slash_behind_slash (inl plain) = cc
-slash_behind_slash (inr quiet) = quiet.1 refl
+slash_after_slash : ¬ (IsCalm 47 47)
+slash_after_slash (inl plain) = cc
+slash_after_slash (inr quiet) = quiet.1 refl
 
-slash_behind_k : ¬ (IsCalm 107 47)
-slash_behind_k (inl plain) = cc
-slash_behind_k (inr quiet) = quiet.2 refl
+slash_after_k : ¬ (IsCalm 107 47)
+slash_after_k (inl plain) = cc
+slash_after_k (inr quiet) = quiet.2 refl
 
-dot_behind_letter : ¬ (IsCalm 97 46)
-dot_behind_letter (inl plain) = cc
-dot_behind_letter (inr quiet) = absurd (omega (arith, quiet.0))
+dot_after_letter : ¬ (IsCalm 97 46)
+dot_after_letter (inl plain) = cc
+dot_after_letter (inr quiet) = absurd (omega (arith, quiet.0))
 
 -- a letter after a slash, and a slash after a letter; but no slash after a slash or a `k`, and no dot
 pub calm_bytes : IsCalm 47 97 × IsCalm 97 47 × ¬ (IsCalm 47 47) × ¬ (IsCalm 107 47) × ¬ (IsCalm 97 46)
-calm_bytes = (inl refl, inr (refl, (λ e. omega (arith, e)), (λ e. omega (arith, e))), slash_behind_slash, slash_behind_k, dot_behind_letter)
+calm_bytes = (inl refl, inr (refl, (λ e. omega (arith, e)), (λ e. omega (arith, e))), slash_after_slash, slash_after_k, dot_after_letter)
 
 -- ---- parts of texts
 

@@ -98,7 +98,7 @@ IsLowerText-empty_blob = (
   λ lower. false≢true (lower.1 0 0 (omega arith)),
 )
 
--- a fault of a length tells the length of the text
+-- a fault of the length holds the length of the text
 pub HasIdFault-length : HasIdFault (codes "e69de2") (Length 6) × ¬ (HasIdFault (codes "e69de2") (Length 5))
 HasIdFault-length = ((refl, no_length 6 (λ same. omega (arith, same)) (λ same. omega (arith, same))), λ fault. omega (arith, fault.0))
 

@@ -41,7 +41,7 @@ suffix_cut = record { starred = refl; first = Lacks-tested star (codes "refs/a")
 
 -- a star after `refs/`, or a bracket before or after the star, leaves none
 pub no_prefixes : HasNoPrefix (codes "refs/*") × HasNoPrefix (codes "refs/a]*") × HasNoPrefix (codes "refs/a*/]") × HasNoPrefix (codes "heads/*")
-no_prefixes = (bare, before_star, behind_star, outside_none (codes "heads/*") (other_length _ _ (λ size. omega (arith, size))) (λ begins. other_byte 0 (codes "heads/*") (codes "refs/" ++ begins.after) (λ byte. omega (arith, byte)) begins.here))
+no_prefixes = (bare, before_star, after_star, outside_none (codes "heads/*") (other_length _ _ (λ size. omega (arith, size))) (λ begins. other_byte 0 (codes "heads/*") (codes "refs/" ++ begins.after) (λ byte. omega (arith, byte)) begins.here))
   where
     bare : HasNoPrefix (codes "refs/*")
     bare p (of_head is_head same) = other_length _ _ (λ size. omega (arith, size)) is_head
@@ -53,10 +53,10 @@ no_prefixes = (bare, before_star, behind_star, outside_none (codes "heads/*") (o
     before_star p (of_name begins lacks same) = Lacks-here star (codes "refs/a]") [] lacks
     before_star p (of_pattern before after cut tells same) = Lacks-here bracket (codes "refs/a") [] (subst (Lacks bracket) ((cut_once (codes "refs/a]*") before after (codes "refs/a]") [] cut bracket_cut).0) tells.first)
 
-    behind_star : HasNoPrefix (codes "refs/a*/]")
-    behind_star p (of_head is_head same) = other_length _ _ (λ size. omega (arith, size)) is_head
-    behind_star p (of_name begins lacks same) = Lacks-here star (codes "refs/a") (codes "/]") lacks
-    behind_star p (of_pattern before after cut tells same) = Lacks-here bracket (codes "/") [] (subst (Lacks bracket) ((cut_once (codes "refs/a*/]") before after (codes "refs/a") (codes "/]") cut suffix_cut).1) tells.last)
+    after_star : HasNoPrefix (codes "refs/a*/]")
+    after_star p (of_head is_head same) = other_length _ _ (λ size. omega (arith, size)) is_head
+    after_star p (of_name begins lacks same) = Lacks-here star (codes "refs/a") (codes "/]") lacks
+    after_star p (of_pattern before after cut tells same) = Lacks-here bracket (codes "/") [] (subst (Lacks bracket) ((cut_once (codes "refs/a*/]") before after (codes "refs/a") (codes "/]") cut suffix_cut).1) tells.last)
 
 -- without a prefix, what has one name after `refs/` is expanded to itself, and with a further slash
 -- to nothing
@@ -86,7 +86,7 @@ other_prefixes = (
   outside_none (codes "HEAD/x") (other_length _ _ (λ size. omega (arith, size))) (begins_not (codes "refs/") (codes "HEAD/x") refl),
 )
 
--- what is before a star tells a prefix below `refs/`, but not `refs/` itself, nor with a bracket on either side
+-- the text before a star is a prefix below `refs/`, but not `refs/` itself, nor with a bracket on either side
 pub tells : TellsPrefix (codes "refs/a") (codes "/b") × ((after : List ℕ) → ¬ (TellsPrefix (codes "refs/") after) × ¬ (TellsPrefix (codes "heads/") after) × ¬ (TellsPrefix (codes "refs/a]") after)) × ¬ (TellsPrefix (codes "refs/a") (codes "/]"))
 tells = (
   record { below = record { after = codes "a"; here = refl }; further = other_length _ _ (λ size. omega (arith, size)); first = Lacks-tested bracket (codes "refs/a") refl; last = Lacks-tested bracket (codes "/b") refl },

@@ -78,14 +78,14 @@ no_other_sides = (
   (λ is. is.1 ref_names.0),
 )
 
--- what a declared one says
+-- a declared one as plain data
 pub left_out_seen : (b : BadMapping) → ((left_out_of b).mapping ≡ mapped_of b.mapping) × ((left_out_of b).side ≡ b.side)
 left_out_seen b = (refl, refl)
 
 abbrev left : List LeftOut
 left = record { mapping = from_bad; side = Source } ∷ record { mapping = to_bad; side = Destination } ∷ record { mapping = all_bad; side = Both } ∷ []
 
--- one of four is kept, and the others are told in order, each with its side
+-- one of four is kept, and the others are listed in order, each with its side
 pub parted : KeepsNamed (from_bad ∷ kept ∷ to_bad ∷ all_bad ∷ []) (kept ∷ []) left
 parted = record {
   named = (
@@ -122,7 +122,7 @@ parted = record {
   );
 }
 
--- a good mapping isn't lost, and a bad one doesn't go untold
+-- a good mapping isn't lost, and a bad one is listed
 pub none_lost : ¬ (AreNamed (kept ∷ []) []) × ¬ (AreLeftOut (to_bad ∷ []) [])
 none_lost = (
   (λ are. nothing_made (λ k m made. (made ≡ m) × IsNamed m) 0 [] kept [] kept are (refl, sides.0)),

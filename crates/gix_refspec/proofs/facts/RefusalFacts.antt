@@ -1,4 +1,4 @@
--- The order of refusals: texts with two reasons, of which the first question's is given, and the other
+-- The order of refusals: texts with two reasons, of which the first in the order is given, and the other
 -- isn't.
 use Rattle.std.proofs.Common.{◌≢◌, ◌⊎◌, ℕ, List, [], Option, None, Some, codes, refl, inl, inr, arith}
 use Rattle.std.specs.Prelude.{replicate}

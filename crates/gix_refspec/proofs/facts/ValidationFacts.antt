@@ -130,7 +130,7 @@ conflicts_at_x = record {
   order = (tt, tt);
 }
 
--- a destination that one source is mapped to, also twice, is no conflict, whatever is said of it
+-- a destination that one source is mapped to, even twice, is no conflict, whatever its texts are
 pub no_conflict : (c : Conflict) → c.destination ≡ codes "refs/x/b" → ¬ (IsConflict both_to_x meeting c)
 no_conflict c is conflicts = other_byte 7 (codes "refs/x/b") (codes "refs/x/a") (λ byte. omega (arith, byte)) (sym is ∙ only_x c.destination conflicts.contested)
 
@@ -140,7 +140,7 @@ one_source d contested =
     let tag = of_element (λ n. n.source ≡ name (codes "refs/tags/a")) l in
     contested.differ (tag contested.one (refl, (refl, (refl, (refl, tt)))) contested.has_one ∙ sym (tag contested.other (refl, (refl, (refl, (refl, tt)))) contested.has_other))
 
--- conflicts don't fall, and none is there twice
+-- conflicts aren't in falling order, and none is listed twice
 pub rising : (c d : Conflict) → c.destination ≡ codes "refs/x/b" → d.destination ≡ codes "refs/x/aa" → ¬ (AreConflicts both_to_x meeting (c ∷ d ∷ [])) × ¬ (AreConflicts both_to_x meeting (c ∷ c ∷ []))
 unfolding IsStrictlySortedBy
 rising c d to_b to_aa = (
@@ -170,7 +170,7 @@ writable = (inl (record { after = codes "x"; here = refl }), inr refl, no_slash,
     no_foo (inl begins) = other_byte 0 (codes "foo") (codes "refs/" ++ begins.after) (λ byte. omega (arith, byte)) begins.here
     no_foo (inr is_head) = other_length _ _ (λ size. omega (arith, size)) is_head
 
--- what a fix tells of a mapping to a partial name by the second spec
+-- the fix of a mapping to a partial name by the second spec
 abbrev pub foo_fix : Removed
 foo_fix = record { destination = codes "foo"; spec = fetched Forced (codes "refs/heads/*") (Some (codes "refs/x/*")) }
 

@@ -1,4 +1,4 @@
--- What a caller concludes from the laws on what a validation answers: which conflicts, survivors and fixes there
+-- What a caller concludes from the laws on the results of a validation: which conflicts, survivors and fixes there
 -- are, of an outcome and of a copy of it.
 use Rattle.std.proofs.Common.{◌≡◌, ◌≢◌, List, [], ◌∷◌, map, sym, subst}
 use Rattle.gix_refspec.specs.declared.match_group.types.Mapping.{Mapping}

@@ -117,7 +117,7 @@ fetches = instruction.Fetch (fetch.Only (lent (codes "a"))) ∷ instruction.Fetc
 pub texts_shown : (map (λ i. text_of (meaning_of_instruction i)) pushes ≡ codes "+:" ∷ codes ":" ∷ codes ":x" ∷ codes "+a:b" ∷ codes "^a" ∷ []) × (map (λ i. text_of (meaning_of_instruction i)) fetches ≡ codes "a" ∷ codes "^a" ∷ codes "+a:b" ∷ codes "a:b" ∷ [])
 texts_shown = (refl, refl)
 
--- and what they are for, which their texts don't tell
+-- and what they are for, which their texts don't say
 pub operations_shown : (map (λ i. meant_for (meaning_of_instruction i)) pushes ≡ Push ∷ Push ∷ Push ∷ Push ∷ Push ∷ []) × (map (λ i. meant_for (meaning_of_instruction i)) fetches ≡ Fetch ∷ Fetch ∷ Fetch ∷ Fetch ∷ [])
 operations_shown = (refl, refl)
 
@@ -163,23 +163,23 @@ nothing_shown = ((λ shows. shows.1), λ shows. shows.1)
 -- ---- texts and prefixes that are added
 
 -- a canonical text follows what was written
-pub text_behind : WritesPrinted (fetched Forced (codes "a") (Some (codes "b"))) (Some (codes "old ")) (Some (codes "old +a:b"))
-text_behind = record { text = codes "+a:b"; is = refl; grown = refl }
+pub text_after : WritesPrinted (fetched Forced (codes "a") (Some (codes "b"))) (Some (codes "old ")) (Some (codes "old +a:b"))
+text_after = record { text = codes "+a:b"; is = refl; grown = refl }
 
 -- what was written isn't lost, and a reading without a canonical text writes nothing
 pub no_text : ¬ (WritesPrinted (fetched Forced (codes "a") (Some (codes "b"))) (Some (codes "old ")) (Some (codes "+a:b"))) × ((old new : Option (List ℕ)) → ¬ (WritesPrinted (fetched Negative (codes "a") (Some (codes "b"))) old new))
 no_text = ((λ writes. other_byte 0 (codes "+a:b") (codes "old " ++ writes.text) (λ same. omega (arith, same)) writes.grown), λ old new writes. none_some writes.text writes.is)
 
 -- what a reading expands to follows the entries that were there, which are kept
-pub entries_behind : AppendsExpansion (fetched Normal (codes "HEAD") None) (codes "old" ∷ []) (codes "old" ∷ codes "HEAD" ∷ []) × ¬ (AppendsExpansion (fetched Normal (codes "HEAD") None) (codes "old" ∷ []) (codes "HEAD" ∷ []))
-entries_behind = (
+pub entries_after : AppendsExpansion (fetched Normal (codes "HEAD") None) (codes "old" ∷ []) (codes "old" ∷ codes "HEAD" ∷ []) × ¬ (AppendsExpansion (fetched Normal (codes "HEAD") None) (codes "old" ∷ []) (codes "HEAD" ∷ []))
+entries_after = (
   record { list = codes "HEAD" ∷ []; is = inl (codes "HEAD", record { positive = tt; side = refl }, to_prefix (codes "HEAD") whole_prefixes.0 refl); appended = refl },
   λ appends. other_key 0 0 _ _ (λ same. omega (arith, same)) appends.appended,
 )
 
 -- a negative spec adds none
-pub none_behind : AppendsExpansion no_dev (codes "old" ∷ []) (codes "old" ∷ []) × ¬ (AppendsExpansion no_dev (codes "old" ∷ []) (codes "old" ∷ codes "refs/heads/dev-" ∷ []))
-none_behind = (
+pub none_after : AppendsExpansion no_dev (codes "old" ∷ []) (codes "old" ∷ []) × ¬ (AppendsExpansion no_dev (codes "old" ∷ []) (codes "old" ∷ codes "refs/heads/dev-" ∷ []))
+none_after = (
   record { list = []; is = inr ((λ x asked. asked.positive), refl); appended = refl },
   λ appends. elim appends.is [
     | inl some ↦ some.1.positive

@@ -1,5 +1,5 @@
 -- Laws of matching some of the items in place of all: which ones a caller may leave out.
--- They follow from the words of Hits and Laws/Matching, and settle nothing.
+-- They follow from the definitions in Hits and Laws/Matching, and add no rule.
 use Rattle.std.specs.Prelude.{◌≡◌, ◌⊎◌, ◌↔◌, ℕ, Bool, IsTrue, nat_eq, List, map, Option, Some}
 use Rattle.std.specs.List.{AllByRecursion, Any, Contains, filter, list_any, starts_with}
 use Rattle.bstr.specs.BStr.{bstr_bytes}
@@ -93,8 +93,7 @@ pub record AreAskedFor (list : List (List ℕ)) (A B : List Ref) : Type 0 where
   pub part : ArePart A B
   pub asked : (item : Ref) → Contains A item → BeginsWithOne list item.name → Contains B item
 
--- where the list is what there is to ask for for a group of fetches, over such items the same pairs are kept, also those of
--- `HEAD`
+-- where the list is that of a group of fetches, the same pairs are kept over such items, also those of `HEAD`
 abbrev pub AskedItems : List Reading → List Ref → List Ref → Type 0
 AskedItems g A B = (list : List (List ℕ)) → ListsGroup g list → AreFetches g → AreAskedFor list A B → (kept fewer : List Mapped) → AreKeptForward g A kept → AreKeptForward g B fewer → HaveSamePairs kept fewer
 

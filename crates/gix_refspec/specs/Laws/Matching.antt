@@ -1,6 +1,6 @@
 -- Laws of matching: both directions agree, exactly where a pair is kept, groups that map alike, and what covers the
 -- sources of a group.
--- They follow from the words of Mappings and Hits, and settle nothing.
+-- They follow from the definitions in Mappings and Hits, and add no rule.
 use Rattle.std.specs.Prelude.{◌≡◌, ◌≢◌, ◌⊎◌, ◌↔◌, ℕ, List, ◌∷◌, ◌++◌, codes, Option, None, Some}
 use Rattle.std.specs.List.{AllByRecursion, AllZip, Any, Contains, slice_get}
 use Rattle.gix_refspec.specs.declared.parsing.Operation.TheVariants.{Fetch}

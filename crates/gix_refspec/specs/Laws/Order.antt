@@ -60,7 +60,7 @@ of_key : List (List ℕ) → Option Meaning
 of_key ((k ∷ ks) ∷ fields) = of_kind k fields
 of_key _ = None
 
--- a key tells its instruction
+-- an instruction can be read from its key
 of_key-key_of : (m : Meaning) → of_key (key_of m) ≡ Some m
 unfolding of_key of_kind flagged one_text two_texts unflag
 of_key-key_of (push_all_matching true) = refl
@@ -74,17 +74,17 @@ of_key-key_of (fetch_exclude s) = refl
 of_key-key_of (fetch_and_update s d true) = refl
 of_key-key_of (fetch_and_update s d false) = refl
 
--- so does the key of what a reading means
+-- so can what a reading means
 of_key-keys : (m : Option Meaning) → of_key (keys m) ≡ m
 unfolding of_key
 of_key-keys None = refl
 of_key-keys (Some m) = of_key-key_of m
 
--- keys that are equal tell the same instruction
+-- equal keys are those of one instruction
 pub same_meaning : (m n : Option Meaning) → pointwise (pointwise nat_eq) (keys m) (keys n) ≡ true → m ≡ n
 same_meaning m n same = sym (of_key-keys m) ∙ (ap of_key ((pointwise_decides bytes_decides (keys m) (keys n)).0 same) ∙ of_key-keys n)
 
--- and those of one instruction are equal
+-- and the keys of one instruction are equal
 pub same_keys : (m n : Option Meaning) → m ≡ n → pointwise (pointwise nat_eq) (keys m) (keys n) ≡ true
 same_keys m n same = (pointwise_decides bytes_decides (keys m) (keys n)).1 (ap keys same)
 

@@ -1,5 +1,5 @@
 -- Laws of single mappings: what the spec and the item at their places make, and which of them are left after a check.
--- They follow from the words of Hits, Validation and RefNames, and settle nothing.
+-- They follow from the definitions in Hits, Validation and RefNames, and add no rule.
 use Rattle.std.specs.Prelude.{◌≡◌, ◌↔◌, ℕ, List, Option, None, Some}
 use Rattle.std.specs.List.{AllByRecursion, Contains, slice_get}
 use Rattle.gix_refspec.specs.Specs.Reading.{Reading}

@@ -113,7 +113,7 @@ pub record HasCandidates (x : List ℕ) : Type 0 where
   pub matches : (r : Ref) → ((word : Option (List ℕ)) × Matches x r word) ↔ IsCandidate x r.name
   pub takes : (r : Ref) → ((word : Option (List ℕ)) × Takes (r ∷ []) x r word) ↔ IsCandidate x r.name
 
--- this holds of a side that has no star, isn't `HEAD`, begins no `refs/` and is no id
+-- this holds of a side that has no star, isn't `HEAD`, doesn't begin `refs/` and is no id
 abbrev pub Candidates : List ℕ → Type 0
 Candidates x = Lacks star x → x ≢ head → ¬ (BeginsWith (codes "refs/") x) → ¬ (IsId x) → HasCandidates x
 
@@ -124,7 +124,7 @@ pub record TakesFirst (x : List ℕ) (refs : List Ref) : Type 0 where
   pub one : (n m : List ℕ) → IsFirstCandidate refs x n → IsFirstCandidate refs x m → n ≡ m
   pub some : (n : List ℕ) → IsCandidate x n → HasName refs n → (m : List ℕ) × IsFirstCandidate refs x m
 
--- this holds of a source that has no star, begins no `refs/` and is no id
+-- this holds of a source that has no star, doesn't begin `refs/` and is no id
 abbrev pub FirstCandidate : List ℕ → List Ref → Type 0
 FirstCandidate x refs = Lacks star x → ¬ (BeginsWith (codes "refs/") x) → ¬ (IsId x) → TakesFirst x refs
 

@@ -1,5 +1,5 @@
 -- Laws of sides: where a spec has stars, and that a side has one kind, a name one word and a text one id.
--- They follow from the words of Grammar, Side and ObjectId, and settle nothing.
+-- They follow from the definitions in Grammar, Side and ObjectId, and add no rule.
 use Rattle.std.specs.Prelude.{◌≡◌, ◌⊎◌, ℕ, List, Some}
 use Rattle.gix_refspec.specs.Texts.Words.{Lacks}
 use Rattle.gix_refspec.specs.Texts.Bytes.{star}

@@ -1,5 +1,5 @@
--- Laws of validation: what it answers is one, and it answers the same of a copy of an outcome.
--- They follow from the words of Validation and Group, and settle nothing.
+-- Laws of validation: it has one result, and the same one for a copy of an outcome.
+-- They follow from the definitions in Validation and Group, and add no rule.
 use Rattle.std.specs.Prelude.{◌≡◌, ℕ, List, map}
 use Rattle.gix_refspec.specs.declared.match_group.types.Outcome.{Outcome}
 use Rattle.gix_refspec.specs.Specs.Reading.{Reading}

@@ -27,7 +27,7 @@ pub record ListsSide (x : List ℕ) (list : List (List ℕ)) : Type 0 where
   pub of : HasKind x kind
   pub is : ListsAs kind list
 
--- the list for a reading: nothing for a negative one, otherwise what there is for its side on the remote
+-- the list for a reading: an empty one if it is negative, otherwise that for its side on the remote
 abbrev pub Lists : Reading → List (List ℕ) → Type 0
 Lists r list = ((r.mode ≡ Negative) × (list ≡ [])) ⊎ ((x : List ℕ) × IsAsked r x × ListsSide x list)
 

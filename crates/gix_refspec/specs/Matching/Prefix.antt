@@ -9,7 +9,7 @@ use Rattle.gix_refspec.specs.Specs.Grammar.{IsPositive}
 use Rattle.gix_refspec.specs.Matching.Side.{IsId, candidates}
 use Rattle.gix_refspec.specs.Specs.Reading.{Reading, remote_of}
 
--- a pattern with these two ends tells a prefix: the first goes on after `refs/`, and neither has a `]`
+-- a pattern with these two ends has a prefix: the first goes on after `refs/`, and neither has a `]`
 pub record TellsPrefix (before after : List ℕ) : Type 0 where
   pub below : BeginsWith (codes "refs/") before
   pub further : before ≢ codes "refs/"

@@ -30,23 +30,23 @@ IsNamedSource (id i) = Unit {0}
 abbrev pub IsNamedDestination : Option (List ℕ) → Type 0
 IsNamedDestination d = MatchOption d (Unit {0}) IsRefName
 
--- so it is with both sides of the mapping
+-- both sides of the mapping are so
 pub record IsNamed (m : Mapped) : Type 0 where
   pub source : IsNamedSource m.source
   pub destination : IsNamedDestination m.destination
 
--- this side of the mapping isn't so, and the other is; or neither is
+-- this side of the mapping isn't so, and the other one is; or neither is
 abbrev pub IsBadAt : BadSide → Mapped → Type 0
 IsBadAt Source m = ¬ (IsNamedSource m.source) × IsNamedDestination m.destination
 IsBadAt Destination m = IsNamedSource m.source × ¬ (IsNamedDestination m.destination)
 IsBadAt Both m = ¬ (IsNamedSource m.source) × ¬ (IsNamedDestination m.destination)
 
--- a mapping that was left out, and which side of it was why
+-- a mapping that was left out, and the side that was the reason
 pub record LeftOut : Type 0 where
   pub mapping : Mapped
   pub side : BadSide
 
--- what a declared one says
+-- the declared type, as plain data
 abbrev pub left_out_of : BadMapping → LeftOut
 left_out_of bad = record { mapping = mapped_of bad.mapping; side = bad.side }
 

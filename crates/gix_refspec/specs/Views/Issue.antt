@@ -1,4 +1,4 @@
--- What a clause reads of what a validation answers.
+-- What a clause reads of the result of a validation.
 use Rattle.std.specs.Prelude.{◌≡◌, List, map}
 use Rattle.bstr.specs.Owned.{bstring_bytes}
 use Rattle.gix_refspec.specs.declared.match_group.types.Outcome.{Outcome}
@@ -40,12 +40,12 @@ pub record IsSameFix (a b : Fix) : Type 0 where
   pub destination : (removed_of a).destination ≡ (removed_of b).destination
   pub spec : meaning_of (removed_of a).spec ≡ meaning_of (removed_of b).spec
 
--- where conflicts are why a validation is refused, they are as P says
+-- if a validation fails because of conflicts, they are as P says
 abbrev pub IfConflicts : Refusal → (List Conflict → Type 0) → Type 0
 IfConflicts (refusal.Conflicts e) P = P (conflicts_of e)
 IfConflicts (refusal.Memory o) P = Unit {0}
 
--- where memory is why a validation is refused, the outcome that is handed back is as P says
+-- if a validation fails because memory ran out, the outcome that it returns is as P says
 abbrev pub IfMemory : Refusal → (ForwardOutcome → Type 0) → Type 0
 IfMemory (refusal.Conflicts e) P = Unit {0}
 IfMemory (refusal.Memory o) P = P o

@@ -1,4 +1,4 @@
-// The classes of bytes that the check of a name tells apart.
+// The classes of bytes that the check of a name distinguishes.
 
 ghost use Rattle.std.specs.Prelude.{◌≡◌};
 ghost use Rattle.gix_refspec.specs.Private.Scan.{class_at};

@@ -21,7 +21,7 @@ use crate::types::Mode;
 use bstr::{BStr, BString};
 use std::alloc::Global;
 
-// What a look at a side tells.
+// What a side was found to be.
 #[derive(Clone, Copy)]
 enum Look {
     Name,

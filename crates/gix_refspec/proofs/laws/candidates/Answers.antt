@@ -1,4 +1,4 @@
--- Such a side is a name that is given short.
+-- Such a side is a partial name.
 use Rattle.gix_refspec.proofs.lemmas.hits.MatchLemmas.{has_candidates}
 use Rattle.gix_refspec.proofs.laws.candidates.Goals as goal
 

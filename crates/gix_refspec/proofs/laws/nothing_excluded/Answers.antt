@@ -1,4 +1,4 @@
--- What is kept was looked at.
+-- What is kept isn't excluded.
 use Rattle.std.proofs.Common.{map}
 use Rattle.gix_refspec.specs.Views.Group.{readings_of, ref_of}
 use Rattle.gix_refspec.proofs.lemmas.keep.PairMadeLemmas.{nothing_excluded}

@@ -24,18 +24,18 @@ made_next R i xs x ys made long so_far makes =
     made_push R 0 xs ys x made so_far (subst (λ n. MakesOf R n x made) at makes)
 
 -- one more element after the others, whose list is joined to theirs
-joined_behind : {X Y : Type 0} (R : ℕ → X → List Y → Type 0) (k : ℕ) (xs : List X) (x : X) (ys made : List Y) → IsJoinedFrom R k xs ys → R (k + length xs) x made → IsJoinedFrom R k (xs ++ x ∷ []) (ys ++ made)
-joined_behind {X} {Y} R k [] x ys made none makes =
+joined_after : {X Y : Type 0} (R : ℕ → X → List Y → Type 0) (k : ℕ) (xs : List X) (x : X) (ys made : List Y) → IsJoinedFrom R k xs ys → R (k + length xs) x made → IsJoinedFrom R k (xs ++ x ∷ []) (ys ++ made)
+joined_after {X} {Y} R k [] x ys made none makes =
     let at : k + length {A = X} [] ≡ k = omega arith in
     (made, [], subst (λ n. R n x made) at makes, refl, ap (λ l. l ++ made) none ∙ sym (append-nil made))
-joined_behind {X} {Y} R k (z ∷ zs) x ys made (first, rest, here, more, same) makes =
+joined_after {X} {Y} R k (z ∷ zs) x ys made (first, rest, here, more, same) makes =
     let at : k + length (z ∷ zs) ≡ k + 1 + length zs = omega arith in
-    (first, rest ++ made, here, joined_behind R (k + 1) zs x rest made more (subst (λ n. R n x made) at makes), ap (λ l. l ++ made) same ∙ append_assoc first rest made)
+    (first, rest ++ made, here, joined_after R (k + 1) zs x rest made more (subst (λ n. R n x made) at makes), ap (λ l. l ++ made) same ∙ append_assoc first rest made)
 
 pub joined_next : {X Y : Type 0} (R : ℕ → X → List Y → Type 0) (i : ℕ) (xs : List X) (x : X) (ys made : List Y) → length xs ≡ i → IsJoinedFrom R 0 xs ys → R i x made → IsJoinedFrom R 0 (xs ++ x ∷ []) (ys ++ made)
 joined_next R i xs x ys made long so_far makes =
     let at : i ≡ 0 + length xs = omega arith in
-    joined_behind R 0 xs x ys made so_far (subst (λ n. R n x made) at makes)
+    joined_after R 0 xs x ys made so_far (subst (λ n. R n x made) at makes)
 
 -- where nothing was made, each element made nothing
 empty_first : {Y : Type 0} (made : Option Y) (rest : List Y) → [] ≡ option_to_list made ++ rest → (made ≡ None) × (rest ≡ [])

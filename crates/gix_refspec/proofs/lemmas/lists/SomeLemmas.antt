@@ -58,7 +58,7 @@ Any-weaker P Q weaker [] any = any
 Any-weaker P Q weaker (x ∷ xs) (inl here) = inl (weaker x here)
 Any-weaker P Q weaker (x ∷ xs) (inr later) = inr (Any-weaker P Q weaker xs later)
 
--- a fact that doesn't speak of the element
+-- a fact that doesn't depend on the element
 pub Any-fact : {X : Type 0} (C : Type 0) (xs : List X) → Any (λ x. C) xs → C
 Any-fact C [] any = absurd any
 Any-fact C (x ∷ xs) (inl here) = here

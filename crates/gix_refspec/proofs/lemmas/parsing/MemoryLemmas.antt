@@ -12,5 +12,5 @@ shows_refusal M P error.Memory told other = absurd (other refl)
 shows_refusal M P e told other = told
 
 -- for one that does, memory may run out
-pub wants_memory : (M : Type 0) (P : Refusal → Type 0) (e : Error) → MemoryOr M P e → e ≡ error.Memory → M
-wants_memory M P e told same = subst (MemoryOr M P) same told
+pub needs_memory : (M : Type 0) (P : Refusal → Type 0) (e : Error) → MemoryOr M P e → e ≡ error.Memory → M
+needs_memory M P e told same = subst (MemoryOr M P) same told

@@ -33,11 +33,11 @@ no_fetch_nowhere s d e h = let p = h.push in absurd (cc)
 pub no_negative : (m : Mode) (d : Option (List ℕ)) → IsPositive m → Never (HasNegativeDestination m d)
 no_negative m d pos e h = positive m pos h.negative
 
--- nothing before the source is against a positive fetch
+-- no reason before the source's applies to a positive fetch
 pub fetch_reaches : (m : Mode) (s : List ℕ) (d : Option (List ℕ)) → IsPositive m → NoReasonBeforeSource Fetch m s d
 fetch_reaches m s d pos = (no_empty_fetch m s d, no_negative m d pos, no_fetch_nowhere s d)
 
--- nothing before the source is against a positive push to somewhere
+-- nor to a positive push to a destination
 pub push_reaches : (m : Mode) (s t : List ℕ) → IsPositive m → (s ≢ [] → t ≡ [] → ⊥) → NoReasonBeforeSource Push m s (Some t)
 push_reaches m s t pos somewhere = (
   λ e h. let i = h.no_colon in absurd (cc),
@@ -53,14 +53,14 @@ bad_source_of_push s t f bad = record { source = λ empty. Lacks-Holds star [] t
 pub starred_not_empty : (t : List ℕ) → HasStar t → t ≢ []
 starred_not_empty t has empty = Lacks-Holds star [] tt (subst HasStar empty has)
 
--- nothing before the source is against a positive push of a source alone, unless the text is empty
+-- nor to a positive push of a source alone, unless the text is empty
 pub push_alone_reaches : (m : Mode) (s : List ℕ) → IsPositive m → (s ≡ [] → m ≡ Normal → ⊥) → NoReasonBeforeSource Push m s None
 push_alone_reaches m s pos full = (λ e h. full h.no_source h.unsigned, no_negative m None pos, λ e h. let i = h.nowhere in absurd (cc))
 
 -- memory may be needed at the source
 pub memory_at_source : (op : Operation) (m : Mode) (s : List ℕ) (d : Option (List ℕ)) → NoReasonBeforeSource op m s d → NeedsMemory s → ReachesMemory op m s d
-memory_at_source op m s None reached wants = (reached, wants)
-memory_at_source op m s (Some d) reached wants = (reached, inl wants)
+memory_at_source op m s None reached needs = (reached, needs)
+memory_at_source op m s (Some d) reached needs = (reached, inl needs)
 
 -- the reasons at the source, at the destination, and of their balance
 pub reason_at_source : (op : Operation) (m : Mode) (s : List ℕ) (d : Option (List ℕ)) (e : Refusal) → NoReasonBeforeSource op m s d → HasBadSource op s d e → IsFirstReason op m s d e
@@ -106,24 +106,24 @@ sides_unbalanced s t Plain Pattern a b differ = inr (a, HasStar-pattern t b)
 sides_unbalanced s t Pattern Plain a b differ = inl (HasStar-pattern s a, b)
 sides_unbalanced s t Pattern Pattern a b differ = absurd (differ refl)
 
--- a push that is unbalanced goes somewhere
+-- an unbalanced push has a destination
 pub unbalanced_somewhere : (s t : List ℕ) → IsOneStarred s t → (s ≢ [] → t ≡ [] → ⊥) → t ≢ []
 unbalanced_somewhere s t (inl h) somewhere empty = somewhere (starred_not_empty s h.0) empty
 unbalanced_somewhere s t (inr h) somewhere empty = starred_not_empty t h.1 empty
 
 -- the empty text never needs memory
-pub empty_wants_none : NeedsMemory [] → ⊥
-empty_wants_none (inl several) = Lacks-Holds star [] tt (record { before = several.before; after = _; here = several.here })
-empty_wants_none (inr long) = Lacks-Holds star [] tt long.0
+pub empty_needs_none : NeedsMemory [] → ⊥
+empty_needs_none (inl several) = Lacks-Holds star [] tt (record { before = several.before; after = _; here = several.here })
+empty_needs_none (inr long) = Lacks-Holds star [] tt long.0
 
--- a bad destination is there
+-- a bad side after the colon is a bad destination
 pub bad_destination : (d : Option (List ℕ)) (e : Refusal) → IsBadSide (unwrap_or d []) e → HasBadDestination d e
 bad_destination None e bad = absurd (bad.0 refl)
 bad_destination (Some d) e bad = record { word = d; is = refl; destination = bad.0; refusal = bad.1 }
 
 pub memory_at_destination : (op : Operation) (m : Mode) (s : List ℕ) (d : Option (List ℕ)) → NoReasonBeforeSource op m s d → Never (HasBadSource op s d) → NeedsMemory (unwrap_or d []) → ReachesMemory op m s d
-memory_at_destination op m s None before source wants = absurd (empty_wants_none wants)
-memory_at_destination op m s (Some d) before source wants = (before, inr (source, wants))
+memory_at_destination op m s None before source needs = absurd (empty_needs_none needs)
+memory_at_destination op m s (Some d) before source needs = (before, inr (source, needs))
 
 -- an error at the source
 pub error_at_source : (op : Operation) (m : Mode) (s : List ℕ) (d : Option (List ℕ)) (P : Refusal → Type 0) (e : Error) → NoReasonBeforeSource op m s d → ((f : Refusal) → P f → HasBadSource op s d f) → MemoryOr (NeedsMemory s) P e → IsReason op m s d e
@@ -137,7 +137,7 @@ error_at_destination op m s d e before source =
     MemoryOr-map (NeedsMemory (unwrap_or d [])) (ReachesMemory op m s d) (IsBadSide (unwrap_or d [])) (IsFirstReason op m s d) e (memory_at_destination op m s d before source)
     (λ f h. reason_at_destination op m s d f before source (bad_destination d f h))
 
--- the reasons before the source's, against a negative spec without a colon
+-- no reason before the source's applies to a negative spec without a colon
 pub negative_reaches : (op : Operation) (s : List ℕ) → NoReasonBeforeSource op Negative s None
 negative_reaches op s = (λ e h. let i = h.unsigned in absurd (cc), λ e h. let i = h.colon in absurd (cc), λ e h. let i = h.nowhere in absurd (cc))
 

@@ -1,4 +1,4 @@
--- What a look at a side tells of names, patterns and the reasons against it.
+-- Names and patterns as sides, and the reasons against a side.
 use Rattle.std.proofs.Common.{◌≡◌, ◌≢◌, ◌⊎◌, inl, inr, ℕ, List, [], ◌∷◌, ◌++◌, Option, None, Some, option_map, unwrap_or, is_some, Bor, ◌==◌, false, length, refl, sym, ap, ◌∙◌, subst}
 use Rattle.std.proofs.lemmas.Bool.{false≢true}
 use denote.Enum.Bare.{sameb}
@@ -52,7 +52,7 @@ replaced_once x y z a b =
 pub HasSeveralStars-replaced : (x y : List ℕ) → ReplacesStar x y → HasSeveralStars x → ⊥
 HasSeveralStars-replaced x y replaces stars = one_not_two star replaces.before replaces.after stars.before stars.between stars.after replaces.cut.first replaces.cut.last (sym replaces.cut.starred ∙ stars.here)
 
--- what is against a pattern shows a star
+-- a text with a reason against it as a pattern has a star
 pub HasStar-bad : (x : List ℕ) (e : Refusal) → IsBadPattern x e → HasStar x
 HasStar-bad x (PatternUnsupported p) bad = HasStar-stars x bad.0
 HasStar-bad x (ReferenceName fault) bad = HasStar-replaced x bad.0 bad.1
@@ -65,7 +65,7 @@ pattern_fine x pattern (ReferenceName fault) bad =
     pattern.name fault (subst (λ (y : List ℕ). HasFault y fault) (replaced_once x bad.0 pattern.with_letter bad.1 pattern.replaces) bad.2)
 pattern_fine x pattern _ bad = bad
 
--- nor does a look at a pattern find anything, but out of memory
+-- nor is there a fault of a pattern, except that memory may run out
 pub nothing_against : (x : List ℕ) → NothingAgainst x
 nothing_against x pattern (found.Name fault) told = absurd (pattern_fine x pattern (ReferenceName fault) told)
 nothing_against x pattern found.Memory long = (refl, long)
@@ -74,7 +74,7 @@ nothing_against x pattern found.Memory long = (refl, long)
 pub plain_fine : (x : List ℕ) → Lacks star x → Never (IsBadPattern x)
 plain_fine x lacks e bad = Lacks-Holds star x lacks (HasStar-bad x e bad)
 
--- what is against a name shows that it has no star, and is none
+-- a text with a reason against it as a name has no star, and is no name
 pub bad_name : (x : List ℕ) (e : Refusal) → IsBadName x e → Lacks star x × ¬ (IsName x)
 bad_name x (ReferenceName fault) bad = (bad.0, λ name. name fault bad.1)
 bad_name x _ bad = absurd bad

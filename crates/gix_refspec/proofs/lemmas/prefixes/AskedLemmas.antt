@@ -1,4 +1,4 @@
--- What a client asks for, and that a server then tells of each ref that a group of fetches maps.
+-- What a client asks for, and that a server then lists each ref that a group of fetches maps.
 use Rattle.std.proofs.Common.{◌≡◌, inl, inr, ℕ, suc, ◌+◌, ◌<◌, List, [], ◌∷◌, ◌++◌, Option, None, Some, MatchOption, Vec, Global, length, map, take, drop, get_or, refl, sym, ap, ◌∙◌, subst, arith}
 use Rattle.bstr.specs.declared.bstring.BString.{BString}
 use Rattle.bstr.specs.Owned.{bstring_bytes}
@@ -90,7 +90,7 @@ serves g list joined fetches items kept are =
     let pairs : lists.Any (MakesForward items (name n) m.destination) g = subst (λ (s : Start). lists.Any (MakesForward items s m.destination) g) is made in
     some_at (λ p. BeginsWith p n) list (group_serves g items n m.destination 0 list fetches (some_of (MakesForward items (name n) m.destination) g pairs) joined))
 
--- ---- what the code answers
+-- ---- the lists that the code makes
 
 -- the list of the side that a spec asks for is that of the spec
 pub list_of_side : (r : Reading) (x : List ℕ) (asked : Option (Vec BString Global)) → IsAsked r x → MatchOption asked ((list : List (List ℕ)) → ¬ (ListsSide x list)) (λ v. ListsSide x (map bstring_bytes v.items)) → MatchOption asked ((list : List (List ℕ)) → ¬ (Lists r list)) (λ v. Lists r (map bstring_bytes v.items))
@@ -136,7 +136,7 @@ one_more_list specs i spec list names new below is appended lists so_far =
 pub none_at : (specs : List RefSpecRef) (i : ℕ) (spec : RefSpecRef) → i < length specs → spec ≡ get_or specs i spec → ((list : List (List ℕ)) → ¬ (Lists (reading_of spec) list)) → HasNoList (map reading_of specs)
 none_at specs i spec below is none = (i, reading_of spec, omega (arith, below, length-map specs reading_of), get_or-map reading_of specs i spec (reading_of spec) below ∙ ap reading_of (sym is), none)
 
--- what a list that is there, or missing, says
+-- a missing list, and one that is there
 pub missing_list : (r : Reading) (asked : Option (Vec BString Global)) → asked ≡ None → MatchOption asked ((list : List (List ℕ)) → ¬ (Lists r list)) (λ v. Lists r (map bstring_bytes v.items)) → (list : List (List ℕ)) → ¬ (Lists r list)
 missing_list r None none told = told
 missing_list r (Some v) none told = absurd (cc)

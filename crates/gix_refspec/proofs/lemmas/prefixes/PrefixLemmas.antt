@@ -36,7 +36,7 @@ id_not_head x id text is = short text.kind (sym (ap length is) ∙ text.digits)
 pub head_no_cut : (x before after : List ℕ) → x ≡ head → IsCut before after x → ⊥
 head_no_cut x before after is cut = lacks_no_pattern x before after (subst (Lacks star) (sym is) (Lacks-name head IsName-head)) cut
 
--- a pattern with these two ends has no prefix where they tell none
+-- a pattern has no prefix where its ends give none
 pub no_prefix : (x before after : List ℕ) → IsCut before after x → ¬ (TellsPrefix before after) → HasNoPrefix x
 no_prefix x before after cut vague p (of_head is _) = head_no_cut x before after is cut
 no_prefix x before after cut vague p (of_name begins lacks _) = lacks_no_pattern x before after lacks cut
@@ -46,7 +46,7 @@ no_prefix x before after cut vague p (of_pattern first last other tells _) =
     let same_last : last ≡ after = once.1 in
     vague (subst (λ (a : List ℕ). TellsPrefix before a) same_last (subst (λ (b : List ℕ). TellsPrefix b last) same_first tells))
 
--- what is before a star tells a prefix where it goes on below `refs/` and no bracket is there
+-- the text before a star gives a prefix if it goes on below `refs/` and neither end has a bracket
 pub tells : (before after rest : List ℕ) → before ≡ codes "refs/" ++ rest → 1 ≤ length rest → Lacks bracket before → Lacks bracket after → TellsPrefix before after
 tells before after rest below full first last = record {
   below = record { after = rest; here = below };
@@ -55,7 +55,7 @@ tells before after rest below full first last = record {
   last = last;
 }
 
--- what a look for brackets tells of a pattern below `refs/`
+-- a test for brackets decides whether a pattern below `refs/` has a prefix
 pub told_clear : (before after rest : List ℕ) → before ≡ codes "refs/" ++ rest → 1 ≤ length rest → Lacks bracket before → (r : Bool) → MatchBool r (Holds (bracket ∷ []) after) (Lacks bracket after) → IsTrue (not r) ↔ TellsPrefix before after
 told_clear before after rest below full first true holds = ((λ so. absurd (false≢true so)), (λ told. absurd (Lacks-Holds bracket after told.last holds)))
 told_clear before after rest below full first false lacks = ((λ _. tells before after rest below full first lacks), (λ _. refl))
@@ -98,7 +98,7 @@ nothing_else x list (below_refs rest none below holds empty) nothing = empty
 nothing_else x list (of_object none outside id empty) nothing = empty
 nothing_else x list (to_candidates none outside unlike six) nothing = absurd (partial_expands x outside unlike nothing)
 
--- what reading an id tells
+-- a text is read as an id exactly if it is that of one
 pub id_tested : (t : List ℕ) (r : Result ObjectId Error) → MatchResult r (λ id. IsIdText t (id_bytes id)) (λ e. HasIdFault t e) → (is_ok r ≡ true → IsId t) × (IsId t → is_ok r ≡ true)
 id_tested t (Ok id) told = ((λ _. (id_bytes id, told)), (λ _. refl))
 id_tested t (Err e) told = ((λ so. absurd (false≢true so)), (λ id. absurd (IsIdText-sound t id.0 e id.1 told)))
@@ -112,7 +112,7 @@ pub asked_nothing : (r : Reading) (x : List ℕ) → IsAsked r x → IsExpansion
 asked_nothing r x asked (inl (y, other, nothing)) = subst (λ (z : List ℕ). Expands z []) (one_asked r y x other asked) nothing
 asked_nothing r x asked (inr (unasked, empty)) = absurd (unasked x asked)
 
--- what holds anyway holds where a call fails
+-- what always holds, also holds if a call fails
 pub on_any_error : {T E P : Type 0} (r : Result T E) → P → OnErr r P
 on_any_error (Ok x) holds = tt
 on_any_error (Err e) holds = holds
@@ -135,14 +135,14 @@ starred_no_id x (before, after, cut) id =
     let here : get_or x (length before) 0 ≡ star = ap (λ (y : List ℕ). get_or y (length before) 0) cut.starred ∙ get_or-append_seam before star after 0 in
     false≢true (ap is_hex_digit (sym here) ∙ all (length before) 0 inside)
 
--- a side of a kind that tells no prefix has none: one outside `refs/` that isn't `HEAD`
+-- a side outside `refs/` that isn't `HEAD` has no prefix
 pub object_no_prefix : (x id : List ℕ) → HasKind x (object id) → HasNoPrefix x
 object_no_prefix x id kind = outside_none x (id_not_head x id kind.2) kind.1
 
 pub partial_no_prefix : (x n : List ℕ) → HasKind x (partial n) → n ≢ head → HasNoPrefix x
 partial_no_prefix x n kind other = outside_none x (λ same. other (kind.0 ∙ same)) kind.2
 
--- the prefix of a pattern is what is before its star, where that tells one
+-- the prefix of a pattern is the text before its star, if it has a prefix
 pub pattern_prefix : (x : List ℕ) (before after : Bor (List ℕ)) (r : Bool) → IsCut before.now after.now x → IsTrue r ↔ TellsPrefix before.now after.now → MatchOption (then_some r before) (HasNoPrefix x) (λ p. IsPrefix x p.now)
 pattern_prefix x before after true cut told = of_pattern before.now after.now cut (told.0 refl) refl
 pattern_prefix x before after false cut told = no_prefix x before.now after.now cut (λ tells. false≢true (told.1 tells))

@@ -65,7 +65,7 @@ meaning_for op Negative s d = excluded_for op s d
 pub says_for_operation : (r : Reading) → SaysForOperation r
 says_for_operation r m is = sym (ap (operation_or r.operation) is) ∙ meaning_for r.operation r.mode r.source r.destination
 
--- ---- what follows from a fact that is there, though it isn't told
+-- ---- what follows from a fact of which only the existence is known
 
 test_shown : {P : Type 0} (b : Bool) → ∥ P ∥₁ → (P → b ≡ true) → b ≡ true
 test_shown true there shows = refl

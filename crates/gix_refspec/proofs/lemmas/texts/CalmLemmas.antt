@@ -102,8 +102,8 @@ abbrev ending : ℕ → ℕ
 ending y = bit_or (cond (eqb y 47) 255 0) (cond (eqb y 107) 255 0)
 
 -- after a byte that may end a component a byte with a clear lane is plain
-plain_behind_end : (x : ℕ) → x < 256 → top 7 (bit_or (stop x) (bit_and (slashed x) 255)) ≡ false → class_at x ≡ Plain
-plain_behind_end x below clear =
+plain_after_end : (x : ℕ) → x < 256 → top 7 (bit_or (stop x) (bit_and (slashed x) 255)) ≡ false → class_at x ≡ Plain
+plain_after_end x below clear =
     plain_class (class_at x)
     (sym (ap (λ t. t || is_plain_class (class_at x)) clear) ∙ agree_below_at (λ b. top 7 (bit_or (stop b) (bit_and (slashed b) 255)) || is_plain_class (class_at b)) (λ _. true) 256 x refl below)
 
@@ -115,8 +115,8 @@ plain_or_slash x below clear =
 ending-other : (y : ℕ) → y ≢ 47 → y ≢ 107 → ending y ≡ 0
 ending-other y not_slash not_k = ap₂ (λ s t. bit_or (cond s 255 0) (cond t 255 0)) (ne_eqb y 47 not_slash) (ne_eqb y 107 not_k)
 
-calm_behind_other : (x y : ℕ) → y ≢ 47 → y ≢ 107 → (is_plain_class (class_at x) || eqb x slash) ≡ true → IsCalm y x
-calm_behind_other x y not_slash not_k even =
+calm_after_other : (x y : ℕ) → y ≢ 47 → y ≢ 107 → (is_plain_class (class_at x) || eqb x slash) ≡ true → IsCalm y x
+calm_after_other x y not_slash not_k even =
     elim (cases_eq x slash) [
       | inl same ↦ inr (same, not_slash, not_k)
       | inr other ↦ inl (plain_class (class_at x) (or_false (is_plain_class (class_at x)) (sym (ap (λ t. is_plain_class (class_at x) || t) (ne_eqb x slash other)) ∙ even)))
@@ -129,10 +129,10 @@ calm_behind_other x y not_slash not_k even =
 calm_from_clear : (x y : ℕ) → x < 256 → top 7 (bit_or (stop x) (bit_and (slashed x) (ending y))) ≡ false → IsCalm y x
 calm_from_clear x y below clear =
     elim (cases_eq y 47) [
-      | inl same ↦ inl (plain_behind_end x below (subst (λ b. top 7 (bit_or (stop x) (bit_and (slashed x) (ending b))) ≡ false) same clear))
+      | inl same ↦ inl (plain_after_end x below (subst (λ b. top 7 (bit_or (stop x) (bit_and (slashed x) (ending b))) ≡ false) same clear))
       | inr not_slash ↦ elim (cases_eq y 107) [
-        | inl same ↦ inl (plain_behind_end x below (subst (λ b. top 7 (bit_or (stop x) (bit_and (slashed x) (ending b))) ≡ false) same clear))
-        | inr not_k ↦ calm_behind_other x y not_slash not_k (plain_or_slash x below (subst (λ n. top 7 (bit_or (stop x) (bit_and (slashed x) n)) ≡ false) (ending-other y not_slash not_k) clear))
+        | inl same ↦ inl (plain_after_end x below (subst (λ b. top 7 (bit_or (stop x) (bit_and (slashed x) (ending b))) ≡ false) same clear))
+        | inr not_k ↦ calm_after_other x y not_slash not_k (plain_or_slash x below (subst (λ n. top 7 (bit_or (stop x) (bit_and (slashed x) n)) ≡ false) (ending-other y not_slash not_k) clear))
       ]
     ]
 

@@ -85,8 +85,8 @@ last_slash (b ∷ x) =
       | inr found ↦ inr (record { before = b ∷ found.before; after = found.after; here = ap (λ y. b ∷ y) found.here; last = found.last })
     ]
 
-pub last_slash_behind_one : (x : List ℕ) → LastSlash (slash ∷ x)
-last_slash_behind_one x = elim (last_slash (slash ∷ x)) [ inl lacks ↦ absurd (lacks.0 refl) | inr found ↦ found ]
+pub last_slash_after_one : (x : List ℕ) → LastSlash (slash ∷ x)
+last_slash_after_one x = elim (last_slash (slash ∷ x)) [ inl lacks ↦ absurd (lacks.0 refl) | inr found ↦ found ]
 
 -- w is in x between two slashes, or between a slash and an end
 pub record IsComponent (w x : List ℕ) : Type 0 where

@@ -1,4 +1,4 @@
--- `HEAD` is a name, and what names do without.
+-- `HEAD` is a name, and which bytes no name has.
 use Rattle.std.proofs.Common.{◌≡◌, ◌≢◌, ℕ, false, List, [], ◌∷◌, ◌++◌, codes, refl, sym, ap, ◌∙◌, subst, append_assoc, arith, eq-eqb}
 use Rattle.std.proofs.lemmas.Bool.{false≢true}
 use Rattle.gix_refspec.specs.declared.name.Error.{Error}

@@ -105,13 +105,13 @@ letter_adds_nothing y Asterisk fault = absurd (omega (arith, fault))
 letter_adds_nothing y (InvalidByte c) fault = false≢true (subst (λ b. is_refused_byte b ≡ true) (sym fault.0) fault.1)
 
 -- one more byte adds none: a star, or another one that adds none to the text
-pub clean_behind_star : (y : List ℕ) (b : ℕ) → b ≡ star → IsClean (with_letters y) → IsClean (with_letters (y ++ (b ∷ [])))
-clean_behind_star y b same clean =
+pub clean_after_star : (y : List ℕ) (b : ℕ) → b ≡ star → IsClean (with_letters y) → IsClean (with_letters (y ++ (b ∷ [])))
+clean_after_star y b same clean =
     subst IsClean (sym (letters-append y (b ∷ []))) (IsClean-more (with_letters y) (letter_for b) clean
     (λ e fault. letter_adds_nothing (with_letters y) e (subst (λ c. AddsFault (with_letters y) c e) (letter_for-star b same) fault)))
 
-pub clean_behind_other : (y : List ℕ) (b : ℕ) → ((e : Error) → ¬ (AddsFault y b e)) → IsClean (with_letters y) → IsClean (with_letters (y ++ (b ∷ [])))
-clean_behind_other y b none clean =
+pub clean_after_other : (y : List ℕ) (b : ℕ) → ((e : Error) → ¬ (AddsFault y b e)) → IsClean (with_letters y) → IsClean (with_letters (y ++ (b ∷ [])))
+clean_after_other y b none clean =
     subst IsClean (sym (letters-append y (b ∷ []))) (IsClean-more (with_letters y) (letter_for b) clean
     (λ e fault. none e (AddsFault-as (with_letters y) y b (ends_before y) e (subst (λ c. AddsFault (with_letters y) c e) (letter_for-other b (none Asterisk)) fault))))
 
@@ -222,7 +222,7 @@ calm_more x i s some below calm scanned =
     let last : EndsWith (get_or x (i - 1) 0 ∷ []) y = subst (λ j. EndsWith (get_or x (i - 1) 0 ∷ []) (slash ∷ take j x)) back (last_before x (i - 1) (omega (arith, some, below))) in
     let none = calm_adds_nothing y (get_or x (i - 1) 0) b last calm in
     let one_more : slash ∷ take (i + 1) x ≡ y ++ (b ∷ []) = ap (λ z. slash ∷ z) (take_more x i 0 below) in (
-      subst (λ z. IsClean (with_letters z)) (sym one_more) (clean_behind_other y b none scanned.0),
+      subst (λ z. IsClean (with_letters z)) (sym one_more) (clean_after_other y b none scanned.0),
       count_by_more_no (λ d. d == star) x i 0 below (ne_eqb b star (none Asterisk)) ∙ scanned.1,
     )
 

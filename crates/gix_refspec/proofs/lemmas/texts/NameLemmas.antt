@@ -14,7 +14,7 @@ use Rattle.gix_refspec.specs.Texts.Name.{is_refused_byte, SomeComponent, HasFaul
 use Rattle.gix_refspec.specs.Private.Scan.{AddsFault, Added, IsClean, LeavesFault, Finds}
 use Rattle.std.proofs.Math.ListN.{drop_of_length-le}
 use Rattle.gix_refspec.proofs.lemmas.texts.TextLemmas.{cut_at}
-use Rattle.gix_refspec.proofs.lemmas.texts.ComponentLemmas.{IsEnd, IsComponent, Pieces, pieces_of, fenced, fenced-IsEnd, LastSlash, last_slash_behind_one, SomeComponent-from, SomeComponent-place, AllByRecursion-append}
+use Rattle.gix_refspec.proofs.lemmas.texts.ComponentLemmas.{IsEnd, IsComponent, Pieces, pieces_of, fenced, fenced-IsEnd, LastSlash, last_slash_after_one, SomeComponent-from, SomeComponent-place, AllByRecursion-append}
 
 drop_at : (x : List ℕ) (i : ℕ) → i < length x → drop i x ≡ get_or x i 0 ∷ drop (i + 1) x
 drop_at x i below = rw (add-one, drop-cons x i 0)
@@ -86,9 +86,9 @@ record InText (x w : List ℕ) : Type 0 where
   before : List ℕ
   here : x ≡ before ++ w
 
-behind_slash : (x p w : List ℕ) (b : ℕ) → b ≢ slash → slash ∷ x ≡ p ++ (b ∷ w) → InText x (b ∷ w)
-behind_slash x [] w b other here = absurd (other cc)
-behind_slash x (c ∷ p) w b other here = record { before = p; here = cc }
+after_slash : (x p w : List ℕ) (b : ℕ) → b ≢ slash → slash ∷ x ≡ p ++ (b ∷ w) → InText x (b ∷ w)
+after_slash x [] w b other here = absurd (other cc)
+after_slash x (c ∷ p) w b other here = record { before = p; here = cc }
 
 empty_component : (x p after : List ℕ) → slash ∷ x ≡ (p ++ (slash ∷ [])) ++ after → IsEnd after → SomeComponent (λ w. w ≡ []) x
 empty_component x p after here ends =
@@ -116,8 +116,8 @@ dot_lock_whole = ((λ e. omega (arith, e)), ((λ e. omega (arith, e)), ((λ e. o
 regroup : (a b c d : List ℕ) → ((a ++ b) ++ c) ++ d ≡ a ++ ((b ++ c) ++ d)
 regroup a b c d = simp append_assoc
 
-locked_component_behind : (x p after : List ℕ) → LastSlash p → slash ∷ x ≡ (p ++ codes ".lock") ++ after → IsEnd after → SomeComponent (EndsWith (codes ".lock")) x
-locked_component_behind x p after cut here ends =
+locked_component_after : (x p after : List ℕ) → LastSlash p → slash ∷ x ≡ (p ++ codes ".lock") ++ after → IsEnd after → SomeComponent (EndsWith (codes ".lock")) x
+locked_component_after x p after cut here ends =
     SomeComponent-from (EndsWith (codes ".lock")) (cut.after ++ codes ".lock") x
     (record {
       before = cut.before;
@@ -132,17 +132,17 @@ locked_component : (x p after : List ℕ) → slash ∷ x ≡ (p ++ codes ".lock
 locked_component x [] after here ends = let first : slash ≡ dot = cc in absurd (dot_no_slash (sym first))
 locked_component x (c ∷ p) after here ends =
     let first : slash ≡ c = cc in
-    locked_component_behind x (c ∷ p) after (subst (λ b. LastSlash (b ∷ p)) first (last_slash_behind_one p)) here ends
+    locked_component_after x (c ∷ p) after (subst (λ b. LastSlash (b ∷ p)) first (last_slash_after_one p)) here ends
 
 byte_in_text : (x p after : List ℕ) (b c : ℕ) → c ≢ slash → slash ∷ x ≡ p ++ (b ∷ after) → b ≡ c → Holds (c ∷ []) x
 byte_in_text x p after b c other here same =
-    let found : InText x (c ∷ after) = behind_slash x p after c other (here ∙ ap (λ d. p ++ (d ∷ after)) same) in
+    let found : InText x (c ∷ after) = after_slash x p after c other (here ∙ ap (λ d. p ++ (d ∷ after)) same) in
     record { before = found.before; after = after; here = found.here }
 
 pair_in_text : (x p after : List ℕ) (a b c : ℕ) → a ≢ slash → slash ∷ x ≡ p ++ (b ∷ after) → EndsWith (a ∷ []) p → b ≡ c → Holds (a ∷ c ∷ []) x
 pair_in_text x p after a b c other here ends same =
     let whole : slash ∷ x ≡ ends.before ++ (a ∷ (c ∷ after)) = here ∙ ap (λ d. p ++ (d ∷ after)) same ∙ ap (λ z. z ++ (c ∷ after)) ends.here ∙ append_assoc ends.before (a ∷ []) (c ∷ after) in
-    let found : InText x (a ∷ c ∷ after) = behind_slash x ends.before (c ∷ after) a other whole in
+    let found : InText x (a ∷ c ∷ after) = after_slash x ends.before (c ∷ after) a other whole in
     record { before = found.before; after = after; here = found.here }
 
 refused_no_slash : (c : ℕ) → IsTrue (is_refused_byte c) → c ≢ slash
@@ -167,14 +167,14 @@ HasFault-left x EmptyComponent some left = (some, empty_component x left.before 
 HasFault-left x StartsWithDot some left = absurd left
 HasFault-left x LockSuffix some left = locked_component x left.before [] (left.here ∙ sym (append-nil _)) tt
 HasFault-left x EndsWithDot some left =
-    let found : InText x (codes ".") = behind_slash x left.before [] dot dot_no_slash left.here in
+    let found : InText x (codes ".") = after_slash x left.before [] dot dot_no_slash left.here in
     record { before = found.before; here = found.here }
 HasFault-left x RepeatedDot some left = absurd left
 HasFault-left x ReflogPortion some left = absurd left
 HasFault-left x Asterisk some left = absurd left
 HasFault-left x (InvalidByte c) some left = absurd left
 
--- a fault that a slash or the end shows
+-- a fault that is found at a slash or at the end
 shown_by_end : (y p after : List ℕ) (e : Error) → y ≡ p ++ after → IsEnd after → AddsFault p slash e → LeavesFault p e → Added y e ⊎ LeavesFault y e
 shown_by_end y p [] e here ends adds leaves = inr (subst (λ z. LeavesFault z e) (sym (here ∙ append-nil p)) leaves)
 shown_by_end y p (b ∷ after) e here ends adds leaves = inl (record { before = p; byte = b; after = after; here = here; fault = subst (λ c. AddsFault p c e) (sym ends) adds })
@@ -268,11 +268,11 @@ end_leaves y Asterisk whole undotted unlocked left = left
 end_leaves y (InvalidByte c) whole undotted unlocked left = left
 
 -- what a test for `.lock` at the end of x says of x with a slash before it
-pub locked_behind_slash : (x : List ℕ) (tested : Bool) → tested ≡ ends_with nat_eq x (codes ".lock") → Decides tested (EndsWith (codes ".lock") (slash ∷ x))
-locked_behind_slash x tested by_test =
+pub locked_after_slash : (x : List ℕ) (tested : Bool) → tested ≡ ends_with nat_eq x (codes ".lock") → Decides tested (EndsWith (codes ".lock") (slash ∷ x))
+locked_after_slash x tested by_test =
     let ends = ends_is Decides-eqb x (codes ".lock") tested by_test in (
       (λ yes. record { before = slash ∷ take (length x - 5) x; here = ap (λ z. slash ∷ z) (ends.0 yes) }),
-      (λ locked. let found : InText x (codes ".lock") = behind_slash x locked.before (codes "lock") dot dot_no_slash locked.here in ends.1 found.before found.here),
+      (λ locked. let found : InText x (codes ".lock") = after_slash x locked.before (codes "lock") dot dot_no_slash locked.here in ends.1 found.before found.here),
     )
 
 -- a text that isn't empty ends with its last byte

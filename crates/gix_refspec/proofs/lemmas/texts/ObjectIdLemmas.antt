@@ -314,7 +314,7 @@ is_lower_digit-cases c lower =
           inr (leb-true 97 c ends.0, leb-true c 102 ends.1)
     ]
 
--- the value of a digit in lower case tells which it is
+-- a digit in lower case is determined by its value
 lower_digit-value : (c v : ℕ) → is_lower_digit c ≡ true → hex_digit_value c ≡ Some v
     → ((v < 10) × (c ≡ v + 48)) ⊎ ((10 ≤ v) × (c ≡ v + 87))
 lower_digit-value c v lower read =
@@ -391,9 +391,9 @@ one_lower_text kind buffer room fits =
     let lower = IsLowerText-lower_of kind i (length-room kind buffer room) (IsBytes-take (bytes_of kind) buffer fits) in
     record { lower = lower; only = λ t is. IsLowerText-unique t (lower_of i) i is lower }
 
--- ---- what calls answer
+-- ---- results of calls
 
--- a result is `Ok` where each error speaks against a fact
+-- a result is `Ok` if each error contradicts a fact
 pub IsOk-unless : {T E : Type 0} {R : Type 0} (r : Result T E) (P : T → Type 0) (Q : E → Type 0) → R
     → MatchResult r P (λ e. ¬ R × Q e) → IsOk r
 IsOk-unless (Ok x) P Q fact cases = refl

@@ -37,8 +37,8 @@ star_in_front b x same one =
     ([], x, record { starred = ap (λ c. c ∷ x) same; first = tt; last = Lacks-no_stars x none })
 
 -- another byte in front of a text with one star
-one_behind : (b : ℕ) (x : List ℕ) → b ≢ star → HasOneStar x → HasOneStar (b ∷ x)
-one_behind b x other one = (b ∷ one.0, one.1, record { starred = ap (λ y. b ∷ y) one.2.starred; first = (other, one.2.first); last = one.2.last })
+one_after : (b : ℕ) (x : List ℕ) → b ≢ star → HasOneStar x → HasOneStar (b ∷ x)
+one_after b x other one = (b ∷ one.0, one.1, record { starred = ap (λ y. b ∷ y) one.2.starred; first = (other, one.2.first); last = one.2.last })
 
 one_star : (x : List ℕ) → stars x ≡ 1 → HasOneStar x
 unfolding stars
@@ -46,7 +46,7 @@ one_star [] one = absurd (omega (arith, one))
 one_star (b ∷ x) one =
     elim (cases_eq b star) [
       | inl same ↦ star_in_front b x same one
-      | inr other ↦ one_behind b x other (one_star x (sym (stars-other b x other) ∙ one))
+      | inr other ↦ one_after b x other (one_star x (sym (stars-other b x other) ∙ one))
     ]
 
 -- a text in which one star is counted has one

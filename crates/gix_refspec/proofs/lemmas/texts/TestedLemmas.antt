@@ -1,5 +1,5 @@
--- A test of each byte beside the one before it tells of most names that they are names, so that an
--- example computes.
+-- A test of each byte and the one before it, which most names pass and only names do. So examples can
+-- be computed.
 use Rattle.std.proofs.Common.{◌≡◌, ℕ, ◌==◌, ◌||◌, ◌&&◌, Bool, false, List, [], ◌∷◌, ◌++◌, codes, sym, ap, eq-eqb, ◌∙◌, append_assoc}
 use Rattle.std.proofs.lemmas.List.{append-nil}
 use Rattle.std.proofs.lemmas.Bool.{or_parts, true≢false}
@@ -25,49 +25,49 @@ abbrev pub is_suspect : ℕ → List ℕ → Bool
 is_suspect a [] = a == slash || a == dot || a == lock_end
 is_suspect a (b ∷ x) = (b == star || (is_refused_byte b || are_apart a b)) || is_suspect b x
 
--- what a text shows at a byte, and after it, in which nothing is suspect
+-- what holds of a byte, and of the text after it, in a text in which nothing is suspect
 record Sound (b : ℕ) (rest : List ℕ) : Type 0 where
   unstarred : (b == star) ≡ false
   allowed : is_refused_byte b ≡ false
-  behind : is_suspect b rest ≡ false
+  later : is_suspect b rest ≡ false
 
 sound_at : (a b : ℕ) (before rest : List ℕ) → is_suspect a (before ++ (b ∷ rest)) ≡ false → Sound b rest
 sound_at a b [] rest none =
     let parts = or_parts (b == star || (is_refused_byte b || are_apart a b)) (is_suspect b rest) none in
     let stars = or_parts (b == star) (is_refused_byte b || are_apart a b) parts.0 in
-    record { unstarred = stars.0; allowed = (or_parts (is_refused_byte b) (are_apart a b) stars.1).0; behind = parts.1 }
+    record { unstarred = stars.0; allowed = (or_parts (is_refused_byte b) (are_apart a b) stars.1).0; later = parts.1 }
 sound_at a b (c ∷ before) rest none = sound_at c b before rest (or_parts _ (is_suspect c (before ++ (b ∷ rest))) none).1
 
 sound_in : (y : List ℕ) → is_suspect 0 y ≡ false → (before : List ℕ) (b : ℕ) (rest : List ℕ) → y ≡ before ++ (b ∷ rest) → Sound b rest
 sound_in y none before b rest here = sound_at 0 b before rest (ap (is_suspect 0) (sym here) ∙ none)
 
 -- nothing after a word is suspect, where that word ends what is before
-behind_word : (y before rest : List ℕ) (b : ℕ) (word : List ℕ) → is_suspect 0 y ≡ false → y ≡ before ++ rest → EndsWith (b ∷ word) before → is_suspect b (word ++ rest) ≡ false
-behind_word y before rest b word none here ends =
+after_word : (y before rest : List ℕ) (b : ℕ) (word : List ℕ) → is_suspect 0 y ≡ false → y ≡ before ++ rest → EndsWith (b ∷ word) before → is_suspect b (word ++ rest) ≡ false
+after_word y before rest b word none here ends =
     let whole : y ≡ ends.before ++ (b ∷ (word ++ rest)) = here ∙ ap (λ z. z ++ rest) ends.here ∙ append_assoc ends.before (b ∷ word) rest in
-    (sound_in y none ends.before b (word ++ rest) whole).behind
+    (sound_in y none ends.before b (word ++ rest) whole).later
 
 -- the same, where the byte c follows
-behind_byte : (y before after : List ℕ) (byte c b : ℕ) (word : List ℕ) → is_suspect 0 y ≡ false → y ≡ before ++ (byte ∷ after) → byte ≡ c → EndsWith (b ∷ word) before → is_suspect b (word ++ (c ∷ after)) ≡ false
-behind_byte y before after byte c b word none here same ends = behind_word y before (c ∷ after) b word none (here ∙ ap (λ d. before ++ (d ∷ after)) same) ends
+after_byte : (y before after : List ℕ) (byte c b : ℕ) (word : List ℕ) → is_suspect 0 y ≡ false → y ≡ before ++ (byte ∷ after) → byte ≡ c → EndsWith (b ∷ word) before → is_suspect b (word ++ (c ∷ after)) ≡ false
+after_byte y before after byte c b word none here same ends = after_word y before (c ∷ after) b word none (here ∙ ap (λ d. before ++ (d ∷ after)) same) ends
 
 clean : (y : List ℕ) → is_suspect 0 y ≡ false → IsClean y
 clean y none Empty added = added.fault
-clean y none EmptyComponent added = true≢false (behind_byte y added.before added.after added.byte slash slash [] none added.here added.fault.0 added.fault.1)
-clean y none StartsWithDot added = true≢false (behind_byte y added.before added.after added.byte dot slash [] none added.here added.fault.0 added.fault.1)
-clean y none LockSuffix added = true≢false (behind_byte y added.before added.after added.byte slash dot (codes "lock") none added.here added.fault.0 added.fault.1)
+clean y none EmptyComponent added = true≢false (after_byte y added.before added.after added.byte slash slash [] none added.here added.fault.0 added.fault.1)
+clean y none StartsWithDot added = true≢false (after_byte y added.before added.after added.byte dot slash [] none added.here added.fault.0 added.fault.1)
+clean y none LockSuffix added = true≢false (after_byte y added.before added.after added.byte slash dot (codes "lock") none added.here added.fault.0 added.fault.1)
 clean y none EndsWithDot added = added.fault
-clean y none RepeatedDot added = true≢false (behind_byte y added.before added.after added.byte dot dot [] none added.here added.fault.0 added.fault.1)
-clean y none ReflogPortion added = true≢false (behind_byte y added.before added.after added.byte brace at [] none added.here added.fault.0 added.fault.1)
+clean y none RepeatedDot added = true≢false (after_byte y added.before added.after added.byte dot dot [] none added.here added.fault.0 added.fault.1)
+clean y none ReflogPortion added = true≢false (after_byte y added.before added.after added.byte brace at [] none added.here added.fault.0 added.fault.1)
 clean y none Asterisk added = true≢false (sym (eq-eqb added.byte star added.fault) ∙ (sound_in y none added.before added.byte added.after added.here).unstarred)
 clean y none (InvalidByte c) added = true≢false (sym added.fault.1 ∙ ap is_refused_byte (sym added.fault.0) ∙ (sound_in y none added.before added.byte added.after added.here).allowed)
 
 left : (y : List ℕ) (e : Error) → is_suspect 0 y ≡ false → ¬ (LeavesFault y e)
 left y Empty none fault = fault
-left y EmptyComponent none fault = true≢false (behind_word y y [] slash [] none (sym (append-nil y)) fault)
+left y EmptyComponent none fault = true≢false (after_word y y [] slash [] none (sym (append-nil y)) fault)
 left y StartsWithDot none fault = fault
-left y LockSuffix none fault = true≢false (behind_word y y [] dot (codes "lock") none (sym (append-nil y)) fault)
-left y EndsWithDot none fault = true≢false (behind_word y y [] dot [] none (sym (append-nil y)) fault)
+left y LockSuffix none fault = true≢false (after_word y y [] dot (codes "lock") none (sym (append-nil y)) fault)
+left y EndsWithDot none fault = true≢false (after_word y y [] dot [] none (sym (append-nil y)) fault)
 left y RepeatedDot none fault = fault
 left y ReflogPortion none fault = fault
 left y Asterisk none fault = fault

@@ -31,8 +31,8 @@ pub cut_at : (x : List ℕ) (n b : ℕ) → n < length x → get_or x n 0 ≡ b 
 cut_at x n b inside here = sym (take-append-drop n x) ∙ ap (λ y. take n x ++ y) (drop-cons x n 0 inside ∙ ap (λ c. c ∷ drop (suc n) x) here)
 
 -- what is after a place, as the code takes it
-pub behind : (x : List ℕ) (n : ℕ) → n < length x → take (length (drop n x) - 1) (drop 1 (drop n x)) ≡ drop (suc n) x
-behind x n inside =
+pub after_place : (x : List ℕ) (n : ℕ) → n < length x → take (length (drop n x) - 1) (drop 1 (drop n x)) ≡ drop (suc n) x
+after_place x n inside =
     let later : drop 1 (drop n x) ≡ drop (n + 1) x = drop-drop 1 n x in
     let size = length-drop n x in
     let size_later = length-drop (n + 1) x in
@@ -41,7 +41,7 @@ behind x n inside =
 -- the last place of b cuts a text
 pub cut_at_last : (x front back : List ℕ) (n b : ℕ) → n < length x → (get_or x n 0 == b) ≡ true → NoneFrom b x (n + 1) → front ≡ take n x → back ≡ drop n x → (x ≡ front ++ (b ∷ take (length back - 1) (drop 1 back))) × Lacks b (take (length back - 1) (drop 1 back))
 cut_at_last x front back n b inside here none front_is back_is =
-    let rest : take (length back - 1) (drop 1 back) ≡ drop (suc n) x = ap (λ y. take (length y - 1) (drop 1 y)) back_is ∙ behind x n inside in
+    let rest : take (length back - 1) (drop 1 back) ≡ drop (suc n) x = ap (λ y. take (length y - 1) (drop 1 y)) back_is ∙ after_place x n inside in
     let lacks : Lacks b (drop (suc n) x) = rw (← add-one) (Lacks-drop b x (n + 1) none) in (
       rw (front_is, rest) (cut_at x n b inside (eqb-true (get_or x n 0) b here)),
       subst (Lacks b) (sym rest) lacks,

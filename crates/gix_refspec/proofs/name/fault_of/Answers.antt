@@ -1,4 +1,4 @@
--- A name with letters for its stars that has none is a name.
+-- A text without stars that is a name with letters for its stars is a name.
 use Rattle.std.proofs.Common.{ap, ◌∙◌}
 use Rattle.gix_refspec.specs.Private.Scan.{one_if}
 use Rattle.gix_refspec.proofs.lemmas.texts.StarLemmas.{Lacks-count_by}

@@ -1,4 +1,4 @@
--- What the calm bytes leave of sixteen is looked at one by one.
+-- The bytes after the calm ones, of sixteen, are checked one by one.
 use Rattle.std.proofs.Common.{◌≡◌, ◌+◌, ◌≤◌, length, refl, subst, arith}
 use Rattle.gix_refspec.specs.Private.Scan.{IsScanned}
 use Rattle.gix_refspec.proofs.lemmas.texts.NameLemmas.{IsClean-start}

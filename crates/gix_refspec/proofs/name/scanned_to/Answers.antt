@@ -7,7 +7,7 @@ use Rattle.gix_refspec.specs.declared.name.Error.TheVariants.{Asterisk}
 use Rattle.gix_refspec.specs.Texts.Bytes.{slash, star}
 use Rattle.gix_refspec.specs.Private.Scan.{IsClean, IsScanned, one_if, with_letters}
 use Rattle.gix_refspec.proofs.lemmas.texts.StarLemmas.{second_star}
-use Rattle.gix_refspec.proofs.lemmas.texts.LetterLemmas.{clean_behind_star, clean_behind_other, some_place, fault_with_letters}
+use Rattle.gix_refspec.proofs.lemmas.texts.LetterLemmas.{clean_after_star, clean_after_other, some_place, fault_with_letters}
 use Rattle.gix_refspec.proofs.name.scanned_to.Goals as goal
 use Rattle.gix_refspec.proofs.name.scanned_to.Goals.{then-byte-eq42+else-starred, else-byte-eq42+in_default}
 
@@ -20,7 +20,7 @@ loop-index-preserved-then-is_plain c =
     let y = slash ∷ take i x in
     let one_more : slash ∷ take (i + 1) x ≡ y ++ (b ∷ []) = ap (λ z. slash ∷ z) (take_more x i 0 (omega arith)) in
     let plain = c.if-is_plain.ensures in (
-      subst (λ z. IsClean (with_letters z)) (sym one_more) (clean_behind_other y b (plain y) c.loop-index.invariant.0),
+      subst (λ z. IsClean (with_letters z)) (sym one_more) (clean_after_other y b (plain y) c.loop-index.invariant.0),
       count_by_more_no (λ d. d == star) x i 0 (omega arith) (ne_eqb b star (plain y Asterisk)) ∙ c.loop-index.invariant.1,
     )
 
@@ -50,12 +50,12 @@ loop-index-preserved c =
     elim c.if-byte-eq42.branch [
       | then-byte-eq42+else-starred w ↦
           let same : b ≡ star = grind (arith, common_steps) in (
-            subst (λ z. IsClean (with_letters z)) (sym one_more) (clean_behind_star y b same c.loop-index.invariant.0),
+            subst (λ z. IsClean (with_letters z)) (sym one_more) (clean_after_star y b same c.loop-index.invariant.0),
             count_by_more_yes (λ d. d == star) x i 0 (omega arith) (eq-eqb b star same) ∙ ap (λ n. n + 1) (c.loop-index.invariant.1 ∙ ap one_if w.if-starred.false) ∙ sym (ap one_if w.starred-is),
           )
       | else-byte-eq42+in_default w ↦
           let none = w.in_default.ensures in (
-            subst (λ z. IsClean (with_letters z)) (sym one_more) (clean_behind_other y b none c.loop-index.invariant.0),
+            subst (λ z. IsClean (with_letters z)) (sym one_more) (clean_after_other y b none c.loop-index.invariant.0),
             count_by_more_no (λ d. d == star) x i 0 (omega arith) (ne_eqb b star (none Asterisk)) ∙ c.loop-index.invariant.1 ∙ sym (ap one_if w.starred-is),
           )
     ]

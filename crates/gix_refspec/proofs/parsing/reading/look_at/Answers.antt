@@ -1,4 +1,4 @@
--- Whether a star was found tells what the side is.
+-- A side with a star is a pattern, and one without is a name.
 use Rattle.std.proofs.Common.{ap, ◌∙◌}
 use Rattle.gix_refspec.specs.Private.Scan.{one_if}
 use Rattle.gix_refspec.proofs.lemmas.texts.StarLemmas.{Lacks-count_by, HasOneStar-count_by}

@@ -3,7 +3,7 @@ use Rattle.std.proofs.Common.{sym, subst}
 use Rattle.std.proofs.lemmas.Result.{err_from_is_err_and}
 use Rattle.bstr.specs.BStr.{bstr_bytes}
 use Rattle.gix_refspec.specs.Private.Sides.{HasParts}
-use Rattle.gix_refspec.proofs.lemmas.parsing.MemoryLemmas.{shows_refusal, wants_memory}
+use Rattle.gix_refspec.proofs.lemmas.parsing.MemoryLemmas.{shows_refusal, needs_memory}
 use Rattle.gix_refspec.proofs.lemmas.parsing.ReadsLemmas.{error_of_text}
 use Rattle.gix_refspec.proofs.parsing.reading.parse.Goals as goal
 
@@ -17,7 +17,7 @@ pub returns-in_err-sides-clause-memory : goal.returns-in_err-sides-clause-memory
 returns-in_err-sides-clause-memory c =
     let told = error_of_text c.new-parts.result _ (bstr_bytes c.args.spec) c.in_err-sides.field-0.0 c.as_bytes.ensures c.new-parts.ensures.parts c.in_err-sides.ensures.err in
     let q = err_from_is_err_and c.from_residual.result c.from_residual.ensures.1 in
-    rw (q.1, q.2, sym c.new-parts.ensures.operation) (wants_memory _ _ _ told)
+    rw (q.1, q.2, sym c.new-parts.ensures.operation) (needs_memory _ _ _ told)
 
 pub invariant_of-result : goal.invariant_of-result
 invariant_of-result c =

@@ -1,4 +1,4 @@
--- A source alone is fine where it was checked, and is after a sign where it is empty.
+-- A source alone was checked. If it is empty, a sign is before it.
 use Rattle.std.proofs.Common.{◌≡◌, [], None, refl, ap, ◌∙◌}
 use Rattle.gix_refspec.specs.declared.parsing.Operation.TheVariants.{Push}
 use Rattle.gix_refspec.specs.Specs.Grammar.{AreParts, named_by}

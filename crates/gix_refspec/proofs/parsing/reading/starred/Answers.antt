@@ -1,4 +1,4 @@
--- Neither a name has a star, nor what is none of these.
+-- A name has no star, nor has a side that is neither a name nor a pattern.
 use Rattle.std.proofs.Common.{inl, inr, subst}
 use Rattle.gix_refspec.specs.Private.Sides.{IsLook}
 use Rattle.gix_refspec.proofs.lemmas.parsing.SideLemmas.{Lacks-name}

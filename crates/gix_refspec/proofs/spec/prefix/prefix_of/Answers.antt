@@ -1,4 +1,4 @@
--- A pattern has what is before its star, where that tells a prefix.
+-- The prefix of a pattern is the text before its star, if it has a prefix.
 use Rattle.std.proofs.Common.{subst, sym, MatchOption}
 use Rattle.gix_refspec.specs.Matching.Prefix.{HasNoPrefix, IsPrefix}
 use Rattle.gix_refspec.proofs.lemmas.prefixes.PrefixLemmas.{pattern_prefix}
