@@ -39,7 +39,7 @@ pub alike_full : (s d : List ℕ) → AreAlike s d → (s ≢ []) × (d ≢ [])
 alike_full s d (inl names) = (name_not_empty s names.0, name_not_empty d names.1)
 alike_full s d (inr patterns) = (pattern_not_empty s patterns.0, pattern_not_empty d patterns.1)
 
--- what is made for one operation is made for what equals it
+-- what the parts of a text make for an operation is made for each operation that equals it
 made_for : (op : Operation) (text : List ℕ) (r : Reading) (o : Operation) (m : Mode) (s : List ℕ) (d : Option (List ℕ)) → op ≡ o → AreParts m s d text → r ≡ made o m s d → IsMade op text r
 made_for op text r o m s d same parts is = record { of = record { mode = m; source = s; destination = d; parts = parts }; is = is ∙ sym (ap (λ (x : Operation). made x m s d) same) }
 

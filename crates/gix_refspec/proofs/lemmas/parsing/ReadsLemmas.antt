@@ -217,7 +217,7 @@ unread op m s d text e r parts first reads =
 pub refused : (op : Operation) (m : Mode) (s : List ℕ) (d : Option (List ℕ)) (text : List ℕ) (e : Refusal) → AreParts m s d text → IsFirstReason op m s d e → IsRefused op text e
 refused op m s d text e parts first = record { unread = λ r. unread op m s d text e r parts first; mode = m; source = s; destination = d; parts = parts; first = first }
 
--- an error of the parts of some bytes is one of the text that they are
+-- an error of the parts that a text was cut into is an error of the text
 pub error_of_text : (p : Parts) (bytes text : List ℕ) (e : Error) → bytes ≡ text → HasParts bytes p → IsReasonAgainst p e → IsErrorOf p.operation text e
 error_of_text p bytes text e same cut =
     let parts = subst (λ (x : List ℕ). HasParts x p) same cut in

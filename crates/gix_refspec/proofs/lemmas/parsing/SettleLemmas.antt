@@ -187,7 +187,7 @@ signs (b ∷ x) = elim (decided_byte b plus) [
   ]
 ]
 
--- a text that may be cut at its last colon
+-- a text cut at its last colon, or uncut if it has none
 record Cut (x : List ℕ) : Type 0 where
   source : List ℕ
   destination : Option (List ℕ)
