@@ -3,6 +3,7 @@ pub mod CandidateLemmas
 pub mod MatchLemmas
 pub mod HitLemmas
 pub mod NoHitLemmas
+pub mod OnceLemmas
 pub mod EqualSpecLemmas
 pub mod ReachLemmas
 pub mod TransposeLemmas

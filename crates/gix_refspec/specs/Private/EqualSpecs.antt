@@ -3,12 +3,14 @@
 use Rattle.std.specs.Prelude.{◌≡◌, ◌⊎◌, ℕ, ◌<◌, Bool, List, [], ◌∷◌, ◌++◌, length, map, slice_index_or}
 use Rattle.gix_refspec.specs.declared.match_group.hits.ends.Direction.{Direction}
 use Rattle.gix_refspec.specs.declared.match_group.hits.Made.{Made}
+use Rattle.gix_refspec.specs.declared.match_group.hits.ends.Ends.{Ends as DeclaredEnds}
 use Rattle.gix_refspec.specs.Specs.Reading.{Reading}
 use Rattle.gix_refspec.specs.Specs.Grammar.{IsPositive}
 use Rattle.gix_refspec.specs.Matching.Match.{Ref}
 use Rattle.gix_refspec.specs.Matching.Mappings.{Mapped, HasPair, IsStartExcluded}
-use Rattle.gix_refspec.specs.Matching.Hits.{Hit}
-use Rattle.gix_refspec.specs.Private.HitViews.{AreMade, mapped_of_made, mapping_of}
+use Rattle.gix_refspec.specs.Matching.Lists.{IsMadeFrom}
+use Rattle.gix_refspec.specs.Matching.Hits.{Ends, Hit, IsHit}
+use Rattle.gix_refspec.specs.Private.HitViews.{AreMade, HaveKinds, TakesIn, mapped_of_made, mapping_of}
 use Rattle.gix_refspec.specs.Private.Kept.{IsFlagged}
 
 -- both are positive, and have the same sides
@@ -46,6 +48,10 @@ pub record AddsMost (g : List Reading) (direction : Direction) (P : List Hit →
   pub are : P hits
   pub thins : Thins g [] (map (mapping_of direction) hits) some
   pub all : mapped_of_made direction new ≡ mapped_of_made direction old ++ some
+
+-- so it is with the hits among the refs of the spec at place k, whose ends have these kinds, whatever the group excludes
+abbrev pub AddsMostOfKinds : Direction → DeclaredEnds → ℕ → List Ref → Made → Made → Type 0
+AddsMostOfKinds direction kinds k refs old new = (g : List Reading) (ends : Ends) → HaveKinds ends kinds → AddsMost g direction (IsMadeFrom (IsHit (TakesIn direction refs) ends k) 0 refs) old new
 
 -- the mappings of the direction but for some that may be left out
 pub record AreMostMade (direction : Direction) (g : List Reading) (items : List Ref) (list : List Mapped) : Type 0 where

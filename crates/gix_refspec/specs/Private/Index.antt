@@ -1,5 +1,5 @@
 -- How full names, partial ones and patterns are looked up. Only private functions cite these words.
-use Rattle.std.specs.Prelude.{◌≡◌, ◌⊎◌, ◌<◌, ℕ, List, [], ◌∷◌, ◌++◌, Bool, Option, None, Some, length, map, unwrap_or, option_map, slice_index_or, bytes_eq, codes}
+use Rattle.std.specs.Prelude.{◌≡◌, ◌⊎◌, ◌<◌, ℕ, List, [], ◌∷◌, ◌++◌, Bool, true, false, Option, None, Some, length, map, unwrap_or, option_map, slice_index_or, bytes_eq, codes}
 use Rattle.std.specs.Borrow.{Bor}
 use Rattle.std.specs.List.{AllByRecursion, Contains, slice_get}
 use Rattle.std.specs.HashMap as hash
@@ -19,6 +19,7 @@ use Rattle.gix_refspec.specs.Matching.Hits.{Ends}
 use Rattle.gix_refspec.specs.Views.Group.{name_bytes}
 use Rattle.gix_refspec.specs.Private.HitViews.{HasEnds, FitsRef}
 use Rattle.gix_refspec.specs.Private.Kept.{IsFlagged}
+use Rattle.gix_refspec.specs.Private.Part.{FlagsRepeated}
 
 -- the full names that a side of the kind asks for
 abbrev pub full_names_of : SideKind → List (List ℕ)
@@ -34,11 +35,18 @@ partial_names_of (full_name x) = []
 partial_names_of (object id) = []
 partial_names_of (partial x) = x ∷ []
 
--- what a side of the kind asks for by name is among the names
+-- whether it asks for items by an id
+abbrev pub asks_by_id : SideKind → Bool
+asks_by_id (pattern before after) = false
+asks_by_id (full_name x) = false
+asks_by_id (object id) = true
+asks_by_id (partial x) = false
+
+-- what a side of the kind asks for is among the names, or it is an id, which the names tell
 abbrev pub HasNamesOf : Names → SideKind → Type 0
 HasNamesOf names (pattern before after) = Unit {0}
 HasNamesOf names (full_name x) = Contains (map name_bytes names.full.items) x
-HasNamesOf names (object id) = Unit {0}
+HasNamesOf names (object id) = names.by_id ≡ true
 HasNamesOf names (partial x) = Contains (map name_bytes names.partial.items) x
 
 -- P holds of the kind of each near end of the specs in the direction
@@ -98,13 +106,14 @@ ArePlacesFor (full_name x) refs places = ⊥
 ArePlacesFor (object id) refs places = ⊥
 ArePlacesFor (partial x) refs places = ⊥
 
--- the places of the refs whose names the pattern with these ends fits, in order
-abbrev pub ArePlacesFitted : List ℕ → List ℕ → List Ref → List ℕ → Type 0
-ArePlacesFitted before after refs places = IsMadeFrom (λ k r place. FitsRef before after r × (place ≡ k)) 0 refs places
+-- the places of the refs whose names the pattern with these ends fits, in order, without those that are flagged
+abbrev pub ArePlacesFitted : List ℕ → List ℕ → List Bool → List Ref → List ℕ → Type 0
+ArePlacesFitted before after flags refs places = IsMadeFrom (λ k r place. ¬ (IsFlagged flags k) × FitsRef before after r × (place ≡ k)) 0 refs places
 
--- the side is a pattern, and these are the places of the refs whose names it fits
+-- the side is a pattern, and these are the places of the refs whose names it fits, without some that have the name
+-- of an earlier one
 abbrev pub ArePlacesFittedTo : SideKind → List Ref → List ℕ → Type 0
-ArePlacesFittedTo (pattern before after) refs places = ArePlacesFitted before after refs places
+ArePlacesFittedTo (pattern before after) refs places = (flags : List Bool) × FlagsRepeated refs flags × ArePlacesFitted before after flags refs places
 ArePlacesFittedTo (full_name x) refs places = ⊥
 ArePlacesFittedTo (object id) refs places = ⊥
 ArePlacesFittedTo (partial x) refs places = ⊥
@@ -167,11 +176,12 @@ IsBelowPlace below x = (below ≡ codes "tags/" ++ x) ⊎ (below ≡ codes "head
 abbrev pub ListPartials : Direction → List (List ℕ) → List Ref → (List ℕ → Option (Vec ℕ)) → Type 0
 ListPartials direction names refs listed = (x : List ℕ) → Contains names x → (v : Vec ℕ) × (listed x ≡ Some v) × ArePlacesTaken (partial x) direction refs v.items
 
--- the index has the places of these names, and those of fronts
+-- the index has the places of these names, those of fronts, and flags of names that repeat
 pub record IsIndexOf (direction : Direction) (names : Names) (refs : List Ref) (index : NameIndex) : Type 0 where
   pub full : HavePlaces (map name_bytes names.full.items) refs (list_of index.places)
   pub partial : ListPartials direction (map name_bytes names.partial.items) refs (list_of index.partials.places)
   pub fronts : IsFrontIndexOf refs index.fronts
+  pub repeated : FlagsRepeated refs index.repeated.items
 
 -- where a side of the kind asks for a name, the index has the places of the refs that it takes in the direction
 abbrev pub IsListed : Direction → List Ref → NameIndex → SideKind → Type 0

@@ -9,8 +9,8 @@ ghost use Rattle.gix_refspec.specs.Matching.Hits.{AreHits, forward_of, backward_
 ghost use Rattle.gix_refspec.specs.Private.SideViews.{kind_of_side};
 ghost use Rattle.gix_refspec.specs.Private.Index.{ArePlacesFitted, ArePlacesFittedTo, ArePlacesFor, ArePlacesTaken, HasListed, IsIndexFor, IsIndexOfSide, IsListedStill, ListEach, ListsFitted, ListsFor, MatchesWhole};
 ghost use Rattle.gix_refspec.specs.Private.HitViews.{HasEnds, TakesEach, TakesIn, hit_of, AreHitsOfKinds, AddsHits, AreIdMappings, mapped_of_made};
-ghost use Rattle.gix_refspec.specs.Private.EqualSpecs.{AddsMost, AreMostMade, FlagsEqual};
-ghost use Rattle.gix_refspec.specs.Private.Part.{moved, place_among};
+ghost use Rattle.gix_refspec.specs.Private.EqualSpecs.{AddsMost, AddsMostOfKinds, AreMostMade, FlagsEqual};
+ghost use Rattle.gix_refspec.specs.Private.Part.{FlagsRepeated, moved, place_among};
 
 pub(crate) mod ends;
 mod equal_specs;
@@ -18,6 +18,7 @@ mod fill;
 mod ids;
 pub(crate) mod index;
 pub(crate) mod matches;
+pub(crate) mod repeated;
 
 use crate::match_group::keep::is_flagged;
 use crate::match_group::mappings::part::among;
@@ -90,7 +91,7 @@ pub(crate) fn mappings_of<'spec, 'item>(
 }
 
 impl Survey {
-    // Looks at the specs. It lists no more places in all than there are items: if a server lists a name again
+    // Looks at the specs, unless all that they ask for is looked up by its name. It lists no more places in all than there are items: if a server lists a name again
     // and again, the places of patterns would take memory for each spec.
     pub(crate) fn of(
         alloc: Global,
@@ -99,11 +100,19 @@ impl Survey {
         index: &NameIndex<'_>,
         items: &[Item<'_>],
     ) -> Result<Survey, AllocError>
+        requires { FlagsRepeated (map ref_of items.now) index.now.repeated.items }
         ensures equal { IfOk result (λ survey. FlagsEqual (map reading_of specs.now) survey.equal.items) }
         ensures fitted { IfOk result (λ survey. ListEach direction
             (map reading_of specs.now) (map ref_of items.now) survey.fitted.items) }
     {
         let equal = equal_specs(alloc, specs)?;
+        if index.is_by_name() {
+            return Ok(Survey {
+                equal,
+                fitted: Vec::new(alloc),
+                room: 0,
+            });
+        }
         let mut fitted = Vec::with_capacity(alloc, specs.len())?;
         let mut most = items.len();
         let mut room: usize = 0;
@@ -156,6 +165,7 @@ impl Look {
         items: &[Item<'_>],
         most: usize,
     ) -> Result<Look, AllocError>
+        requires { FlagsRepeated (map ref_of items.now) index.now.repeated.items }
         ensures { IfOk result (λ look. ListsFor direction (reading_of spec.now) (map ref_of items.now) look.fitted) }
     {
         if let Some(near) = near_of(direction, spec) {
@@ -179,6 +189,7 @@ impl Look {
         items: &[Item<'_>],
         most: usize,
     ) -> Result<Look, AllocError>
+        requires { FlagsRepeated (map ref_of items.now) index.now.repeated.items }
         ensures { IfOk result (λ look. ListsFitted (kind_of_side near.entry) (map ref_of items.now) look.fitted) }
     {
         match near {
@@ -186,7 +197,7 @@ impl Look {
             SideKind::Object(_) => Ok(Look::counted(count_among(near, items))),
             SideKind::Pattern { before, after } => match index.places_behind(before) {
                 Some(places) => Ok(Look::counted(count_at(near, places, items))),
-                None => match fitted_places(alloc, before, after, items, most)? {
+                None => match fitted_places(alloc, before, after, index.repeated(), items, most)? {
                     None => Ok(Look::counted(count_among(near, items))),
                     Some(places) => Ok(Look {
                         count: places.len(),
@@ -232,19 +243,24 @@ fn count_among(near: SideKind<'_>, items: &[Item<'_>]) -> usize {
     count
 }
 
-// The places of the items that a pattern fits. None if there are more than `most`.
+// The places of the items that a pattern fits, without those that are flagged. None if there are more than
+// `most`.
 fn fitted_places(
     alloc: Global,
     before: &[u8],
     after: &[u8],
+    flags: &[bool],
     items: &[Item<'_>],
     most: usize,
 ) -> Result<Option<Vec<usize>>, AllocError>
     ensures { IfOk result (λ told. IfSome told (λ places.
-        ArePlacesFitted before.now after.now (map ref_of items.now) places.items)) }
+        ArePlacesFitted before.now after.now flags.now (map ref_of items.now) places.items)) }
 {
     let mut places = Vec::new(alloc);
     for (at, item) in items.iter().enumerate() {
+        if is_flagged(flags, at) {
+            continue;
+        }
         let Some(_) = word_between(before, after, item.full_ref_name.as_bytes()) else {
             continue;
         };
@@ -350,7 +366,8 @@ fn add_hits<'spec, 'item>(
     Ok(())
 }
 
-// Adds the mappings of a spec whose near end is a pattern that fits the items at the places.
+// Adds the mappings of a spec whose near end is a pattern that fits the items at the places. Items without
+// a place that it fits have the name of an earlier one.
 fn add_fitted<'spec, 'item>(
     alloc: Global,
     direction: Direction,
@@ -361,10 +378,8 @@ fn add_fitted<'spec, 'item>(
     made: &mut Made<'spec, 'item>,
 ) -> Result<(), AllocError>
     requires { ArePlacesFittedTo (kind_of_side ends.near) (map ref_of items.now) places.now }
-    ensures { OnOk result (AddsHits
-        direction (AreHitsOfKinds direction ends.entry spec
-        (map ref_of items.now) (map ref_of items.now))
-        made.old made.new) }
+    ensures { OnOk result (AddsMostOfKinds
+        direction ends.entry spec (map ref_of items.now) made.old made.new) }
 {
     for place in places {
         let item = &items[*place];

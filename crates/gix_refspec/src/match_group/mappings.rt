@@ -7,18 +7,19 @@ ghost use Rattle.gix_refspec.specs.Views.Group.{ref_of};
 ghost use Rattle.gix_refspec.specs.Private.EqualSpecs.{FlagsEqual};
 ghost use Rattle.gix_refspec.specs.Private.HitViews.{AreKept, AreMade, mapped_of_made};
 ghost use Rattle.gix_refspec.specs.Private.Index.{IsIndexFor, ListEach};
-ghost use Rattle.gix_refspec.specs.Private.Part.{HasNoNearId};
+ghost use Rattle.gix_refspec.specs.Private.Part.{FlagsRepeated, HasNoNearId};
 
 pub(crate) mod part;
 mod presence;
 
 use crate::match_group::hits::ends::Direction;
 use crate::match_group::hits::index::{NameIndex, names_asked};
+use crate::match_group::hits::repeated::seem_repeated;
 use crate::match_group::hits::{Made, Survey, mappings_of};
 use crate::match_group::keep::keep;
 use crate::match_group::types::Item;
 use crate::spec::RefSpecRef;
-use part::{Part, has_near_id, seem_repeated};
+use part::Part;
 use presence::makes_some;
 use std::alloc::{AllocError, Global};
 
@@ -69,19 +70,17 @@ fn kept_by_name<'spec, 'item>(
     ensures { IfOk result (λ made. AreKept
         direction (map reading_of specs.now) (map ref_of items.now) (mapped_of_made direction made)) }
 {
-    let by_id = has_near_id(direction, specs);
     let names = names_asked(alloc, direction, specs)?;
-    if !by_id && !names.fronts.is_empty() && seem_repeated(alloc, items)? {
-        return kept_once(alloc, direction, specs, items);
+    if !names.by_id && names.has_many_fronts() && seem_repeated(alloc, items)? {
+        return kept_once(alloc, direction, specs, items, Vec::new(alloc));
     }
     let index = NameIndex::of(alloc, direction, &names, items)?;
     let survey = Survey::of(alloc, direction, specs, &index, items)?;
-    if by_id || !names_repeat(&index, survey.room, items) {
+    if names.by_id || !names_repeat(&index, survey.room, items) {
         return kept_with(alloc, direction, specs, &index, items, survey);
     }
-    drop(index);
     drop(survey);
-    kept_once(alloc, direction, specs, items)
+    kept_once(alloc, direction, specs, items, index.into_repeated())
 }
 
 // Whether names repeat: one that is asked for is listed twice, or more mappings of patterns would be made
@@ -90,18 +89,20 @@ fn names_repeat(index: &NameIndex<'_>, room: usize, items: &[Item<'_>]) -> bool 
     index.has_repeats() || items.len() < room
 }
 
-// The mappings that are kept, of each name once.
+// The mappings that are kept, of each name once. Some items are flagged whose name an earlier one has.
 fn kept_once<'spec, 'item>(
     alloc: Global,
     direction: Direction,
     specs: &[RefSpecRef<'spec>],
     items: &[Item<'item>],
+    flags: Vec<bool>,
 ) -> Result<Made<'spec, 'item>, AllocError>
-    requires { HasNoNearId direction (map reading_of specs.now) }
+    requires by_name { HasNoNearId direction (map reading_of specs.now) }
+    requires flags { FlagsRepeated (map ref_of items.now) flags.items }
     ensures { IfOk result (λ made. AreKept
         direction (map reading_of specs.now) (map ref_of items.now) (mapped_of_made direction made)) }
 {
-    match Part::of(alloc, items)? {
+    match Part::of(alloc, items, flags)? {
         None => kept_of_all(alloc, direction, specs, items),
         Some(part) => {
             let mut made = kept_of_all(alloc, direction, specs, part.items.as_slice())?;

@@ -14,7 +14,7 @@ use Rattle.gix_refspec.specs.Matching.Mappings.{Mapped, IsSamePair, HasPair, IsK
 use Rattle.gix_refspec.specs.Matching.Hits.{Ends, Hit, IsHit, AreHits, AreSpecHits}
 use Rattle.gix_refspec.specs.Private.HitViews.{HasEnds, HaveKinds, TakesIn, AreHitsOfKinds, AddsHits, AreIdMappings, AreKept, mapped_of_made, mapping_of}
 use Rattle.gix_refspec.specs.Private.Kept.{IsFlagged}
-use Rattle.gix_refspec.specs.Private.EqualSpecs.{HaveSameSides, IsEqualAt, FlagsEqual, MayGo, Thins, AddsMost, AreMostMade}
+use Rattle.gix_refspec.specs.Private.EqualSpecs.{HaveSameSides, IsEqualAt, FlagsEqual, MayGo, Thins, AddsMost, AddsMostOfKinds, AreMostMade}
 use Rattle.gix_refspec.proofs.lemmas.hits.HitLemmas.{spec_hits}
 use Rattle.gix_refspec.proofs.lemmas.lists.JoinLemmas.{map_long}
 use Rattle.gix_refspec.proofs.lemmas.keep.KeptLemmas.{HasPair-left}
@@ -103,6 +103,15 @@ thins_more g direction hits more some rest first later =
     subst (λ (l : List Mapped). Thins g [] l (some ++ rest)) (sym (map-append (mapping_of direction) hits more))
     (thins_both g [] (of_hits direction hits) some (of_hits direction more) rest first later)
 
+may_behind : (g : List Reading) (front before : List Mapped) (m : Mapped) → MayGo g before m → MayGo g (front ++ before) m
+may_behind g front before m (inl has) = inl (pair_right front before m has)
+may_behind g front before m (inr excluded) = inr excluded
+
+thins_behind : (g : List Reading) (front before l some : List Mapped) → Thins g before l some → Thins g (front ++ before) l some
+thins_behind g front before [] some none = none
+thins_behind g front before (m ∷ l) some (inl (rest, is, thins)) = inl (rest, is, subst (λ (b : List Mapped). Thins g b l rest) (sym (append_assoc front before (m ∷ []))) (thins_behind g front (before ++ m ∷ []) l rest thins))
+thins_behind g front before (m ∷ l) some (inr (may, thins)) = inr (may_behind g front before m may, subst (λ (b : List Mapped). Thins g b l some) (sym (append_assoc front before (m ∷ []))) (thins_behind g front (before ++ m ∷ []) l some thins))
+
 -- a spec adds its hits
 pub most_spec : (direction : Direction) (specs : List RefSpecRef) (items : List Ref) (i : ℕ) (s : RefSpecRef) (kinds : DeclaredEnds) (old mid new : Made) → i < length specs → s ≡ get_or specs i s
     → AddsMost (map reading_of specs) direction (HitsUpTo direction items specs i) old mid
@@ -116,6 +125,25 @@ most_spec direction specs items i s kinds old mid new below is so_far (ends, has
   thins = thins_more (map reading_of specs) direction so_far.hits here.hits so_far.some (of_hits direction here.hits) so_far.thins (thins_all (map reading_of specs) (of_hits direction so_far.hits) (of_hits direction here.hits));
   all = here.all ∙ ap (λ (l : List Mapped). l ++ of_hits direction here.hits) so_far.all ∙ append_assoc (mapped_of_made direction old) so_far.some (of_hits direction here.hits);
 }
+
+-- a spec adds its hits but for some that may be left out
+pub most_of_spec : (direction : Direction) (specs : List RefSpecRef) (items : List Ref) (i : ℕ) (s : RefSpecRef) (kinds : DeclaredEnds) (old mid new : Made) → i < length specs → s ≡ get_or specs i s
+    → AddsMost (map reading_of specs) direction (HitsUpTo direction items specs i) old mid
+    → (ends : Ends) × HasEnds direction (reading_of s) ends × HaveKinds ends kinds
+    → AddsMostOfKinds direction kinds i items mid new
+    → AddsMost (map reading_of specs) direction (HitsUpTo direction items specs (i + 1)) old new
+most_of_spec direction specs items i s kinds old mid new below is so_far (ends, has, have) adds =
+    let g = map reading_of specs in
+    let here = adds g ends have in
+    let thins : Thins g (of_hits direction so_far.hits) (of_hits direction here.hits) here.some =
+    subst (λ (b : List Mapped). Thins g b (of_hits direction here.hits) here.some) (append-nil (of_hits direction so_far.hits)) (thins_behind g (of_hits direction so_far.hits) [] (of_hits direction here.hits) here.some here.thins) in
+    record {
+      hits = so_far.hits ++ here.hits;
+      some = so_far.some ++ here.some;
+      are = spec_hits direction specs items i s so_far.hits here.hits below is so_far.are (inl (ends, has, here.are));
+      thins = thins_more g direction so_far.hits here.hits so_far.some here.some so_far.thins thins;
+      all = here.all ∙ ap (λ (l : List Mapped). l ++ here.some) so_far.all ∙ append_assoc (mapped_of_made direction old) so_far.some here.some;
+    }
 
 -- a spec without ends adds nothing
 pub most_no_spec : (direction : Direction) (specs : List RefSpecRef) (items : List Ref) (i : ℕ) (s : RefSpecRef) (old mid : Made) → i < length specs → s ≡ get_or specs i s
@@ -157,15 +185,6 @@ most_equal direction specs items i s flags old mid below is equal flagged so_far
     }
 
 -- ---- all specs
-
-may_behind : (g : List Reading) (front before : List Mapped) (m : Mapped) → MayGo g before m → MayGo g (front ++ before) m
-may_behind g front before m (inl has) = inl (pair_right front before m has)
-may_behind g front before m (inr excluded) = inr excluded
-
-thins_behind : (g : List Reading) (front before l some : List Mapped) → Thins g before l some → Thins g (front ++ before) l some
-thins_behind g front before [] some none = none
-thins_behind g front before (m ∷ l) some (inl (rest, is, thins)) = inl (rest, is, subst (λ (b : List Mapped). Thins g b l rest) (sym (append_assoc front before (m ∷ []))) (thins_behind g front (before ++ m ∷ []) l rest thins))
-thins_behind g front before (m ∷ l) some (inr (may, thins)) = inr (may_behind g front before m may, subst (λ (b : List Mapped). Thins g b l some) (sym (append_assoc front before (m ∷ []))) (thins_behind g front (before ++ m ∷ []) l some thins))
 
 -- what comes first, and the hits behind it but for some repeats
 pub most_made : (direction : Direction) (g : List Reading) (items : List Ref) (old new : Made) → AreIdMappings direction g (mapped_of_made direction old) → AddsMost g direction (AreHits (HasEnds direction) (TakesIn direction items) g items) old new → AreMostMade direction g items (mapped_of_made direction new)

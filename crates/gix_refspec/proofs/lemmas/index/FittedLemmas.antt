@@ -1,5 +1,5 @@
 -- The places of the items that patterns fit, as they are listed spec by spec.
-use Rattle.std.proofs.Common.{◌≡◌, inl, inr, ℕ, ◌+◌, ◌<◌, ◌≤◌, List, [], ◌∷◌, ◌++◌, Option, None, Some, length, map, take, get_or, Result, Ok, Err, IfOk, IfSome, refl, sym, ap, ◌∙◌, subst, arith}
+use Rattle.std.proofs.Common.{◌≡◌, inl, inr, ℕ, ◌+◌, ◌<◌, ◌≤◌, List, [], ◌∷◌, ◌++◌, Bool, Option, None, Some, length, map, take, get_or, Result, Ok, Err, IfOk, IfSome, refl, sym, ap, ◌∙◌, subst, arith}
 use Rattle.std.specs.Global.{Vec}
 use Rattle.std.specs.declared.alloc.AllocError.{AllocError}
 use Rattle.std.proofs.Math.Seq.{get_or-append_seam}
@@ -13,29 +13,39 @@ use Rattle.gix_refspec.specs.declared.side.SideKind.{SideKind as DeclaredKind}
 use Rattle.gix_refspec.specs.declared.spec.RefSpecRef.{RefSpecRef}
 use Rattle.gix_refspec.specs.Specs.Reading.{Reading}
 use Rattle.gix_refspec.specs.Views.Spec.{reading_of}
-use Rattle.gix_refspec.specs.Matching.Side.{SideKind, Fits, HasKind}
+use Rattle.gix_refspec.specs.Matching.Side.{SideKind, HasKind}
 use Rattle.gix_refspec.specs.Matching.Match.{Ref}
 use Rattle.gix_refspec.specs.Views.Group.{ref_of}
 use Rattle.gix_refspec.specs.Matching.Hits.{Ends}
 use Rattle.gix_refspec.specs.Private.SideViews.{kind_of_side}
 use Rattle.gix_refspec.specs.Private.HitViews.{FitsRef, HasEnds, HaveKinds}
+use Rattle.gix_refspec.specs.Private.Kept.{IsFlagged}
 use Rattle.gix_refspec.specs.Private.Index.{ArePlacesFitted, ArePlacesFittedTo, HasListed, IsListedStill, ListEach, ListsFitted, ListsFor}
 use Rattle.gix_refspec.proofs.lemmas.hits.HitLemmas.{one_kind, one_pair}
 use Rattle.gix_refspec.proofs.lemmas.lists.JoinLemmas.{made_next, map_long, map_more}
+use Rattle.gix_refspec.proofs.lemmas.keep.PartMadeLemmas.{some_item}
 
--- one more item that the pattern fits
-pub fits_next : (before after : List ℕ) (xs : List Item) (i : ℕ) (d : Item) (places more : List ℕ) → i < length xs → ArePlacesFitted before after (map ref_of (take i xs)) places → FitsRef before after (ref_of (get_or xs i d)) → more ≡ places ++ i ∷ [] → ArePlacesFitted before after (map ref_of (take (i + 1) xs)) more
-fits_next before after xs i d places more below so_far fits is =
-    subst (λ (l : List Ref). ArePlacesFitted before after l more) (sym (map_more ref_of xs i d below))
-    (subst (ArePlacesFitted before after (map ref_of (take i xs) ++ ref_of (get_or xs i d) ∷ [])) (sym is)
-    (made_next (λ k r place. FitsRef before after r × (place ≡ k)) i (map ref_of (take i xs)) (ref_of (get_or xs i d)) places (Some i) (map_long ref_of xs i below) so_far (fits, refl)))
+-- what is listed of a ref
+abbrev Listed : List ℕ → List ℕ → List Bool → ℕ → Ref → ℕ → Type 0
+Listed before after flags k r place = ¬ (IsFlagged flags k) × FitsRef before after r × (place ≡ k)
 
--- one more that it doesn't fit
-pub fits_not : (before after : List ℕ) (xs : List Item) (i : ℕ) (d : Item) (places : List ℕ) → i < length xs → ArePlacesFitted before after (map ref_of (take i xs)) places → ((word : List ℕ) → ¬ (Fits before after (ref_of (get_or xs i d)).name word)) → ArePlacesFitted before after (map ref_of (take (i + 1) xs)) places
-fits_not before after xs i d places below so_far none =
-    subst (λ (l : List Ref). ArePlacesFitted before after l places) (sym (map_more ref_of xs i d below))
-    (subst (ArePlacesFitted before after (map ref_of (take i xs) ++ ref_of (get_or xs i d) ∷ [])) (append-nil places)
-    (made_next (λ k r place. FitsRef before after r × (place ≡ k)) i (map ref_of (take i xs)) (ref_of (get_or xs i d)) places None (map_long ref_of xs i below) so_far (λ place has. none has.0.0 has.0.1)))
+-- one more item that is listed
+pub fits_next : (before after : List ℕ) (flags : List Bool) (xs : List Item) (i : ℕ) (d : Item) (places more : List ℕ) → i < length xs → ArePlacesFitted before after flags (map ref_of (take i xs)) places → ¬ (IsFlagged flags i) → FitsRef before after (ref_of (get_or xs i d)) → more ≡ places ++ i ∷ [] → ArePlacesFitted before after flags (map ref_of (take (i + 1) xs)) more
+fits_next before after flags xs i d places more below so_far free fits is =
+    subst (λ (l : List Ref). ArePlacesFitted before after flags l more) (sym (map_more ref_of xs i d below))
+    (subst (ArePlacesFitted before after flags (map ref_of (take i xs) ++ ref_of (get_or xs i d) ∷ [])) (sym is)
+    (made_next (Listed before after flags) i (map ref_of (take i xs)) (ref_of (get_or xs i d)) places (Some i) (map_long ref_of xs i below) so_far (free, fits, refl)))
+
+-- one more that is flagged, or that the pattern doesn't fit
+pub fits_not : (before after : List ℕ) (flags : List Bool) (xs : List Item) (i : ℕ) (d : Item) (places : List ℕ) → i < length xs → ArePlacesFitted before after flags (map ref_of (take i xs)) places → (¬ (IsFlagged flags i) → ¬ (FitsRef before after (ref_of (get_or xs i d)))) → ArePlacesFitted before after flags (map ref_of (take (i + 1) xs)) places
+fits_not before after flags xs i d places below so_far none =
+    subst (λ (l : List Ref). ArePlacesFitted before after flags l places) (sym (map_more ref_of xs i d below))
+    (subst (ArePlacesFitted before after flags (map ref_of (take i xs) ++ ref_of (get_or xs i d) ∷ [])) (append-nil places)
+    (made_next (Listed before after flags) i (map ref_of (take i xs)) (ref_of (get_or xs i d)) places None (map_long ref_of xs i below) so_far (λ place is. none is.0 is.1)))
+
+-- one more that is flagged
+pub fits_flagged : (before after : List ℕ) (flags : List Bool) (xs : List Item) (i : ℕ) (places : List ℕ) → i < length xs → ArePlacesFitted before after flags (map ref_of (take i xs)) places → IsFlagged flags i → ArePlacesFitted before after flags (map ref_of (take (i + 1) xs)) places
+fits_flagged before after flags xs i places below so_far flagged = fits_not before after flags xs i (some_item xs i below) places below so_far (λ free fits. free flagged)
 
 -- what is listed for the specs up to a place
 pub record ListedUpTo (direction : Direction) (specs : List RefSpecRef) (refs : List Ref) (i : ℕ) (listed : List (Option (Vec ℕ))) : Type 0 where

@@ -20,7 +20,8 @@ use Rattle.gix_refspec.specs.Private.Index.{ArePlacesFittedTo, ArePlacesFor}
 use Rattle.gix_refspec.proofs.lemmas.hits.HitLemmas.{is_hit, matches_as, taken_matches}
 use Rattle.gix_refspec.proofs.lemmas.lists.JoinLemmas.{made_next}
 use Rattle.gix_refspec.proofs.lemmas.index.PlacedLemmas.{StandAt, blank, later}
-use Rattle.gix_refspec.proofs.lemmas.index.PlacesLemmas.{AreWhere, has_only}
+use Rattle.gix_refspec.specs.Private.Kept.{Has}
+use Rattle.gix_refspec.proofs.lemmas.index.PlacesLemmas.{AreWhere, IsAt, has_only}
 use Rattle.gix_refspec.proofs.lemmas.keep.RepeatLemmas.{Has-from_place}
 
 -- what a side of the kind begins with, where it is a pattern
@@ -75,12 +76,6 @@ of_fitted (full_name n) refs places are = absurd are
 of_fitted (object id) refs places are = absurd are
 of_fitted (partial n) refs places are = absurd are
 
-pub where_fits : (kind : SideKind) (refs : List Ref) (places : List ℕ) → ArePlacesFittedTo kind refs places → AreWhere (PatternFits kind) 0 refs places
-where_fits (pattern before after) refs places are = are
-where_fits (full_name n) refs places are = absurd are
-where_fits (object id) refs places are = absurd are
-where_fits (partial n) refs places are = absurd are
-
 -- what a pattern matches it fits
 pub matched_fits : (kind : SideKind) (r : Ref) (word : Option (List ℕ)) → IsPatternSide kind → MatchesAs kind r word → PatternFits kind r
 matched_fits (pattern before after) r None is matches = absurd matches
@@ -96,11 +91,18 @@ got_inside [] i r is = absurd (cc)
 got_inside (s ∷ refs) zero r is = omega arith
 got_inside (s ∷ refs) (suc i) r is = let below = got_inside refs i r is in omega (arith, below)
 
+-- at each of the places is a ref of which P holds
+abbrev pub AreIn : (Ref → Type 0) → List Ref → List ℕ → Type 0
+AreIn P refs places = (j : ℕ) → Has places j → IsAt P 0 refs j
+
+pub where_in : (P : Ref → Type 0) (refs : List Ref) (places : List ℕ) → AreWhere P 0 refs places → AreIn P refs places
+where_in P refs places are j has = has_only P 0 refs places j are has
+
 -- each place is one of an item
-pub place_inside : (P : Ref → Type 0) (xs : List Item) (places : List ℕ) (i d : ℕ) → AreWhere P 0 (map ref_of xs) places → i < length places → get_or places i d < length xs
+pub place_inside : (P : Ref → Type 0) (xs : List Item) (places : List ℕ) (i d : ℕ) → AreIn P (map ref_of xs) places → i < length places → get_or places i d < length xs
 place_inside P xs places i d are below =
     let place = get_or places i d in
-    let at = has_only P 0 (map ref_of xs) places place are (Has-from_place places i place d below refl) in
+    let at = are place (Has-from_place places i place d below refl) in
     let inside : at.0 < length (map ref_of xs) = got_inside (map ref_of xs) at.0 at.1 at.3 in
     let same : place ≡ 0 + at.0 = at.2 in
     omega (arith, inside, same, length-map xs ref_of)
@@ -111,18 +113,18 @@ got_at (s ∷ refs) zero r d is = (let same : Some s ≡ Some r = is in cc)
 got_at (s ∷ refs) (suc i) r d is = got_at refs i r d is
 
 -- and that item has the property
-pub place_has : (P : Ref → Type 0) (xs : List Item) (places : List ℕ) (i e : ℕ) (d : Item) → AreWhere P 0 (map ref_of xs) places → i < length places → P (ref_of (get_or xs (get_or places i e) d))
+pub place_has : (P : Ref → Type 0) (xs : List Item) (places : List ℕ) (i e : ℕ) (d : Item) → AreIn P (map ref_of xs) places → i < length places → P (ref_of (get_or xs (get_or places i e) d))
 place_has P xs places i e d are below =
     let refs = map ref_of xs in
     let place = get_or places i e in
-    let (at, r, same, is, has) = has_only P 0 refs places place are (Has-from_place places i place e below refl) in
+    let (at, r, same, is, has) = are place (Has-from_place places i place e below refl) in
     let here : place ≡ at = (let zero : 0 + at ≡ at = omega arith in same ∙ zero) in
     let one : ref_of (get_or xs place d) ≡ r =
     sym (get_or-map ref_of xs place d blank (place_inside P xs places i e are below)) ∙ ap (λ (p : ℕ). get_or refs p blank) here ∙ got_at refs at r blank is in
     subst P (sym one) has
 
 -- the spec at place k hits the item at a place
-abbrev HitAt : Direction → List Ref → Ends → ℕ → ℕ → ℕ → Hit → Type 0
+abbrev pub HitAt : Direction → List Ref → Ends → ℕ → ℕ → ℕ → Hit → Type 0
 HitAt direction items ends k i place hit = IsHit (TakesIn direction items) ends k place (get_or items place blank) hit
 
 -- the hits of the spec at place k among the items at some places
@@ -130,7 +132,7 @@ abbrev pub AreHitsAt : Direction → DeclaredEnds → ℕ → List Ref → List 
 AreHitsAt direction kinds k items places hits = (ends : Ends) → HaveKinds ends kinds → IsMadeFrom (HitAt direction items ends k) 0 places hits
 
 -- one more place, whose item is hit
-pub hit_at_place : (P : Ref → Type 0) (direction : Direction) (kinds : DeclaredEnds) (k : ℕ) (xs : List Item) (places : List ℕ) (i e : ℕ) (d : Item) (old mid new : Made) (word : Option (List ℕ)) (far : Option NameRef) → IsPatternSide (kind_of_side kinds.near) → AreWhere P 0 (map ref_of xs) places → i < length places
+pub hit_at_place : (P : Ref → Type 0) (direction : Direction) (kinds : DeclaredEnds) (k : ℕ) (xs : List Item) (places : List ℕ) (i e : ℕ) (d : Item) (old mid new : Made) (word : Option (List ℕ)) (far : Option NameRef) → IsPatternSide (kind_of_side kinds.near) → AreIn P (map ref_of xs) places → i < length places
     → AddsHits direction (AreHitsAt direction kinds k (map ref_of xs) (take i places)) old mid
     → MatchesAs (kind_of_side kinds.near) (ref_of (get_or xs (get_or places i e) d)) word
     → option_map name_bytes far ≡ filled_end kinds.far word
@@ -154,7 +156,7 @@ hit_at_place P direction kinds k xs places i e d old mid new word far is_pattern
     }
 
 -- one more place, whose item isn't hit
-pub miss_at_place : (P : Ref → Type 0) (direction : Direction) (kinds : DeclaredEnds) (k : ℕ) (xs : List Item) (places : List ℕ) (i e : ℕ) (d : Item) (old mid : Made) → AreWhere P 0 (map ref_of xs) places → i < length places
+pub miss_at_place : (P : Ref → Type 0) (direction : Direction) (kinds : DeclaredEnds) (k : ℕ) (xs : List Item) (places : List ℕ) (i e : ℕ) (d : Item) (old mid : Made) → AreIn P (map ref_of xs) places → i < length places
     → AddsHits direction (AreHitsAt direction kinds k (map ref_of xs) (take i places)) old mid
     → ((word : Option (List ℕ)) → ¬ (MatchesAs (kind_of_side kinds.near) (ref_of (get_or xs (get_or places i e) d)) word))
     → AddsHits direction (AreHitsAt direction kinds k (map ref_of xs) (take (i + 1) places)) old mid

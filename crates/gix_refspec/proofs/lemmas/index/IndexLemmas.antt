@@ -21,7 +21,8 @@ use Rattle.gix_refspec.specs.Matching.Side.{SideKind, pattern, full_name, object
 use Rattle.gix_refspec.specs.Matching.Hits.{Ends}
 use Rattle.gix_refspec.specs.Private.SideViews.{kind_of_side}
 use Rattle.gix_refspec.specs.Private.HitViews.{HasEnds}
-use Rattle.gix_refspec.specs.Private.Index.{AllNear, ArePlacesOf, HavePlaces, HasNamesOf, full_names_of, partial_names_of}
+use Rattle.gix_refspec.specs.Private.Index.{AllNear, ArePlacesOf, HavePlaces, HasNamesOf, asks_by_id, full_names_of, partial_names_of}
+use Rattle.gix_refspec.specs.Private.Part.{HasNoNearId, IsNoNearId}
 use Rattle.gix_refspec.proofs.lemmas.hits.HitLemmas.{one_kind, one_pair}
 use Rattle.gix_refspec.proofs.lemmas.lists.JoinLemmas.{made_next, map_long, map_more}
 use Rattle.gix_refspec.proofs.lemmas.keep.RepeatLemmas.{all_join, all_weaker}
@@ -129,18 +130,23 @@ specs_more P direction specs i s below is all one =
 pub record AddsNames (kind : SideKind) (old new : Names) : Type 0 where
   pub full : map name_bytes new.full.items ≡ map name_bytes old.full.items ++ full_names_of kind
   pub partial : map name_bytes new.partial.items ≡ map name_bytes old.partial.items ++ partial_names_of kind
+  pub by_id : new.by_id ≡ cond (asks_by_id kind) true old.by_id
 
 -- what was named still is
 still_named : (added : SideKind) (old new : Names) → AddsNames added old new → (kind : SideKind) → HasNamesOf old kind → HasNamesOf new kind
 still_named added old new adds (pattern before after) named = tt
 still_named added old new adds (full_name x) named = subst (λ (l : List (List ℕ)). Contains l x) (sym adds.full) (Contains-append_left (map name_bytes old.full.items) (full_names_of added) x named)
-still_named added old new adds (object id) named = tt
+still_named added old new adds (object id) named = adds.by_id ∙ still (asks_by_id added)
+  where
+    still : (b : Bool) → cond b true old.by_id ≡ true
+    still true = refl
+    still false = named
 still_named added old new adds (partial x) named = subst (λ (l : List (List ℕ)). Contains l x) (sym adds.partial) (Contains-append_left (map name_bytes old.partial.items) (partial_names_of added) x named)
 
 now_named : (kind : SideKind) (old new : Names) → AddsNames kind old new → HasNamesOf new kind
 now_named (pattern before after) old new adds = tt
 now_named (full_name x) old new adds = subst (λ (l : List (List ℕ)). Contains l x) (sym adds.full) (Contains-push (map name_bytes old.full.items) x)
-now_named (object id) old new adds = tt
+now_named (object id) old new adds = adds.by_id
 now_named (partial x) old new adds = subst (λ (l : List (List ℕ)). Contains l x) (sym adds.partial) (Contains-push (map name_bytes old.partial.items) x)
 
 -- one more spec, and the name that it asks for
@@ -157,3 +163,8 @@ spec_asks direction specs i s near old new below is found adds all =
 -- one more spec, which asks for nothing
 pub spec_asks_nothing : (direction : Direction) (specs : List RefSpecRef) (i : ℕ) (s : RefSpecRef) (names : Names) → i < length specs → s ≡ get_or specs i s → ((ends : Ends) → ¬ (HasEnds direction (reading_of s) ends)) → AllNear (HasNamesOf names) direction (map reading_of (take i specs)) → AllNear (HasNamesOf names) direction (map reading_of (take (i + 1) specs))
 spec_asks_nothing direction specs i s names below is none all = specs_more (HasNamesOf names) direction specs i s below is all (λ ends kind has of. absurd (none ends has))
+
+-- where no id is asked for, no near end is one
+pub no_ids : (direction : Direction) (g : List Reading) (names : Names) → names.by_id ≡ false → AllNear (HasNamesOf names) direction g → HasNoNearId direction g
+no_ids direction g names none all =
+    all_weaker (IsNear (HasNamesOf names) direction) (IsNoNearId direction) (λ r each ends has id of. false≢true (sym none ∙ each ends (object id) has of)) g all

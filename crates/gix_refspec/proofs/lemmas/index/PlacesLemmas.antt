@@ -17,7 +17,7 @@ AreWhere P k refs ps = IsMadeFrom (λ j r place. P r × (place ≡ j)) k refs ps
 abbrev pub IsAt : (Ref → Type 0) → ℕ → List Ref → ℕ → Type 0
 IsAt P k refs j = (i : ℕ) × (r : Ref) × (j ≡ k + i) × (slice_get refs i ≡ Some r) × P r
 
-one_behind : (P : Ref → Type 0) (k : ℕ) (r : Ref) (refs : List Ref) (j : ℕ) → IsAt P (k + 1) refs j → IsAt P k (r ∷ refs) j
+pub one_behind : (P : Ref → Type 0) (k : ℕ) (r : Ref) (refs : List Ref) (j : ℕ) → IsAt P (k + 1) refs j → IsAt P k (r ∷ refs) j
 one_behind P k r refs j (i, s, place, is, holds) = (suc i, s, omega (arith, place), is, holds)
 
 pub has_only : (P : Ref → Type 0) (k : ℕ) (refs : List Ref) (ps : List ℕ) (j : ℕ) → AreWhere P k refs ps → Has ps j → IsAt P k refs j

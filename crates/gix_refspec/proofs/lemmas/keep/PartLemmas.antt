@@ -66,7 +66,7 @@ part_names refs part places is n = (
 -- ---- what a side takes by names
 
 -- the side is no id
-abbrev IsNoId : List ℕ → Type 0
+abbrev pub IsNoId : List ℕ → Type 0
 IsNoId x = (id : List ℕ) → ¬ (HasKind x (object id))
 
 pub matches_named : (x : List ℕ) (k : SideKind) (r s : Ref) (word : Option (List ℕ)) → IsNoId x → HasKind x k → r.name ≡ s.name → MatchesAs k r word → MatchesAs k s word
@@ -94,37 +94,37 @@ turned : (a b : List Ref) → SameNames a b → SameNames b a
 turned a b same n = ((same n).1, (same n).0)
 
 -- a ref of the name
-abbrev ref_named : List ℕ → Ref
+abbrev pub ref_named : List ℕ → Ref
 ref_named n = record { name = n; target = []; object = None }
 
 -- ---- the hits of a spec
 
 -- in the direction, a hit of this spec, item, name and far end
-abbrev hit : ℕ → ℕ → List ℕ → Option (List ℕ) → Hit
+abbrev pub hit : ℕ → ℕ → List ℕ → Option (List ℕ) → Hit
 hit k j n far = record { spec = k; item = j; near = n; far = far }
 
 -- a ref of the name is taken, and its pair is made already; or none is taken
-abbrev Reached : Direction → List Ref → Ends → List Mapped → List ℕ → Type 0
+abbrev pub Reached : Direction → List Ref → Ends → List Mapped → List ℕ → Type 0
 Reached direction refs ends made n = (word far : Option (List ℕ)) × TakesIn direction refs ends.near (ref_named n) word × IsFilled ends.far word far × HasPair made (mapping_of direction (hit 0 0 n far))
 
-abbrev Missed : Direction → List Ref → Ends → List ℕ → Type 0
+abbrev pub Missed : Direction → List Ref → Ends → List ℕ → Type 0
 Missed direction refs ends n = (word far : Option (List ℕ)) → TakesIn direction refs ends.near (ref_named n) word → IsFilled ends.far word far → ⊥
 
 -- of each name before it is known whether it is taken
-abbrev Known : Direction → List Ref → Ends → List Mapped → List Ref → Type 0
+abbrev pub Known : Direction → List Ref → Ends → List Mapped → List Ref → Type 0
 Known direction refs ends made before = (n : List ℕ) → HasName before n → Reached direction refs ends made n ⊎ Missed direction refs ends n
 
-same_pair : (direction : Direction) (k j k2 j2 : ℕ) (n : List ℕ) (far : Option (List ℕ)) → IsSamePair (mapping_of direction (hit k j n far)) (mapping_of direction (hit k2 j2 n far))
+pub same_pair : (direction : Direction) (k j k2 j2 : ℕ) (n : List ℕ) (far : Option (List ℕ)) → IsSamePair (mapping_of direction (hit k j n far)) (mapping_of direction (hit k2 j2 n far))
 same_pair Forward k j k2 j2 n far = record { source = refl; destination = refl }
 same_pair Backward k j k2 j2 n far = record { source = refl; destination = refl }
 
-known_missed : (direction : Direction) (refs : List Ref) (ends : Ends) (made : List Mapped) (before : List Ref) (r : Ref) → Missed direction refs ends r.name → Known direction refs ends made before → Known direction refs ends made (before ++ r ∷ [])
+pub known_missed : (direction : Direction) (refs : List Ref) (ends : Ends) (made : List Mapped) (before : List Ref) (r : Ref) → Missed direction refs ends r.name → Known direction refs ends made before → Known direction refs ends made (before ++ r ∷ [])
 known_missed direction refs ends made before r missed known n has = elim (name_last before r n has) [
   | inl earlier ↦ known n earlier
   | inr same ↦ inr (subst (Missed direction refs ends) same missed)
 ]
 
-known_reached : (direction : Direction) (refs : List Ref) (ends : Ends) (made : List Mapped) (before : List Ref) (r : Ref) (k j : ℕ) (word far : Option (List ℕ)) → TakesIn direction refs ends.near (ref_named r.name) word → IsFilled ends.far word far → Known direction refs ends made before → Known direction refs ends (made ++ mapping_of direction (hit k j r.name far) ∷ []) (before ++ r ∷ [])
+pub known_reached : (direction : Direction) (refs : List Ref) (ends : Ends) (made : List Mapped) (before : List Ref) (r : Ref) (k j : ℕ) (word far : Option (List ℕ)) → TakesIn direction refs ends.near (ref_named r.name) word → IsFilled ends.far word far → Known direction refs ends made before → Known direction refs ends (made ++ mapping_of direction (hit k j r.name far) ∷ []) (before ++ r ∷ [])
 known_reached direction refs ends made before r k j word far takes becomes known n has = elim (name_last before r n has) [
   | inl earlier ↦ elim (known n earlier) [
     | inl (w, f, t, b, pair) ↦ inl (w, f, t, b, HasPair-left made (mapping_of direction (hit k j r.name far) ∷ []) (mapping_of direction (hit 0 0 n f)) pair)
@@ -143,11 +143,11 @@ moved_hit : (direction : Direction) (f : ℕ → ℕ) (h : Hit) (k i p : ℕ) (n
 moved_hit Forward f h k i p n item at near spec = (let place : f h.item ≡ p = ap f item ∙ at in cc)
 moved_hit Backward f h k i p n item at near spec = (let place : f h.item ≡ p = ap f item ∙ at in cc)
 
-next : (before : List Ref) (r : Ref) → length before + 1 ≡ length (before ++ r ∷ [])
+pub next : (before : List Ref) (r : Ref) → length before + 1 ≡ length (before ++ r ∷ [])
 next before r = sym (length-append before (r ∷ []))
 
 -- the mappings of hits
-abbrev of_hits : Direction → List Hit → List Mapped
+abbrev pub of_hits : Direction → List Hit → List Mapped
 of_hits direction hits = map (mapping_of direction) hits
 
 -- from those of the part the hits of a spec among all
@@ -158,12 +158,12 @@ none_made : (direction : Direction) (all part : List Ref) (ends : Ends) (k i j :
 none_made direction all part ends k i j r names plain none word far takes becomes =
     none (hit k i r.name far) (record { word = word; takes = takes_named direction all part ends.near (ref_named r.name) r word names plain refl takes; far = becomes; near = refl; spec = refl; item = refl })
 
-missed_none : (direction : Direction) (all : List Ref) (ends : Ends) (k j : ℕ) (r : Ref) → IsNoId ends.near → Missed direction all ends r.name → (y : Hit) → ¬ (IsHit (TakesIn direction all) ends k j r y)
+pub missed_none : (direction : Direction) (all : List Ref) (ends : Ends) (k j : ℕ) (r : Ref) → IsNoId ends.near → Missed direction all ends r.name → (y : Hit) → ¬ (IsHit (TakesIn direction all) ends k j r y)
 missed_none direction all ends k j r plain missed y is =
     missed is.word y.far (takes_named direction all all ends.near r (ref_named r.name) is.word (λ n. ((λ has. has), (λ has. has))) plain refl is.takes) is.far
 
 -- the first element makes one more, or nothing
-made_cases : {X Y : Type 0} (R : ℕ → X → Y → Type 0) (k : ℕ) (x : X) (xs : List X) (ys : List Y) → IsMadeFrom R k (x ∷ xs) ys
+pub made_cases : {X Y : Type 0} (R : ℕ → X → Y → Type 0) (k : ℕ) (x : X) (xs : List X) (ys : List Y) → IsMadeFrom R k (x ∷ xs) ys
     → ((y : Y) × (rest : List Y) × R k x y × (ys ≡ y ∷ rest) × IsMadeFrom R (k + 1) xs rest) ⊎ (((y : Y) → ¬ (R k x y)) × IsMadeFrom R (k + 1) xs ys)
 made_cases R k x xs ys (None, rest, none, more, is) = inr (none, subst (IsMadeFrom R (k + 1) xs) (sym is) more)
 made_cases R k x xs ys (Some y, rest, here, more, is) = inl (y, rest, here, is, more)

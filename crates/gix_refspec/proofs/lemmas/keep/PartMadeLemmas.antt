@@ -30,7 +30,7 @@ flags_more refs old new before place flags repeats raised k flagged = elim ((rai
   | inr same ↦ subst (λ (p : ℕ). (b : ℕ) × IsRepeatedAt refs b p) same (before, repeats)
 ]
 
-has_before : (refs : List Ref) (i place : ℕ) (d : Ref) (n : List ℕ) → i < place → i < length refs → (get_or refs i d).name ≡ n → HasName (take place refs) n
+pub has_before : (refs : List Ref) (i place : ℕ) (d : Ref) (n : List ℕ) → i < place → i < length refs → (get_or refs i d).name ≡ n → HasName (take place refs) n
 has_before [] i place d n less inside same = absurd (omega arith)
 has_before (r ∷ refs) i zero d n less inside same = absurd (omega arith)
 has_before (r ∷ refs) zero (suc p) d n less inside same = inl same
@@ -69,7 +69,7 @@ item_in items i d part new places more below pushed at are =
     (subst (λ (l : List Ref). IsPart (map ref_of (take (i + 1) items)) l (places ++ (length {A = Ref} [] + length refs) ∷ [])) (sym (ap (map ref_of) pushed ∙ map-append ref_of part (item ∷ [])))
     (subst (λ (l : List Ref). IsPart l (map ref_of part ++ ref_of item ∷ []) (places ++ (length {A = Ref} [] + length refs) ∷ [])) (sym (map_more ref_of items i d below)) one))
 
-some_item : (items : List Item) (i : ℕ) → i < length items → Item
+pub some_item : (items : List Item) (i : ℕ) → i < length items → Item
 some_item [] i below = absurd (omega arith)
 some_item (x ∷ items) i below = x
 
@@ -98,19 +98,3 @@ repeated_told items before place told a b less inside is so = record {
       ∙ (bytes_eq-Decides (bstr_bytes (get_or items before a).full_ref_name) (bstr_bytes (get_or items place b).full_ref_name)).0 (sym is ∙ so)
       ∙ sym (ap (λ (r : Ref). r.name) second);
 }
-
--- a near end of another kind is no id
-pub no_near_id : (direction : Direction) (r : Reading) (near : DeclaredKind) → ((ends : Ends) × HasEnds direction r ends × HasKind ends.near (kind_of_side near)) → ((id : List ℕ) → kind_of_side near ≢ object id) → IsNoNearId direction r
-no_near_id direction r near (ends, has, is) plain other here id kind =
-    plain id (one_kind ends.near (kind_of_side near) (object id) is (subst (λ (e : Ends). HasKind e.near (object id)) (one_pair direction r other ends here has) kind))
-
--- and so it is told
-pub near_told : (direction : Direction) (r : Reading) (near : DeclaredKind) (told : Bool) → ((ends : Ends) × HasEnds direction r ends × HasKind ends.near (kind_of_side near)) → MatchBool told (Unit {0}) ((id : List ℕ) → kind_of_side near ≢ object id) → MatchBool told (Unit {0}) (IsNoNearId direction r)
-near_told direction r near true found is = tt
-near_told direction r near false found is = no_near_id direction r near found is
-
--- one more reading
-pub no_near_ids : (direction : Direction) (specs : List RefSpecRef) (i : ℕ) (s : RefSpecRef) → i < length specs → s ≡ get_or specs i s → IsNoNearId direction (reading_of s) → HasNoNearId direction (map reading_of (take i specs)) → HasNoNearId direction (map reading_of (take (i + 1) specs))
-no_near_ids direction specs i s below is one so_far =
-    subst (λ (g : List Reading). HasNoNearId direction g) (ap (λ (x : RefSpecRef). map reading_of (take i specs) ++ reading_of x ∷ []) is ∙ sym (map_more reading_of specs i s below))
-    (all_join (IsNoNearId direction) (map reading_of (take i specs)) (reading_of s ∷ []) so_far (one, tt))

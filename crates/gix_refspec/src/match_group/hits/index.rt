@@ -2,18 +2,20 @@
 //! and many patterns have an index each. Names that no spec asks for take no memory and are no keys,
 //! since a server chooses them.
 
-ghost use Rattle.std.specs.Prelude.{◌≡◌, ◌++◌, [], List, ℕ, map, IfSome, IfOk, OnOk};
+ghost use Rattle.std.specs.Prelude.{◌≡◌, ◌++◌, if◌then◌else◌, true, [], List, ℕ, map, IfSome, IfOk, OnOk};
 ghost use Rattle.gix_refspec.specs.Views.Spec.{reading_of};
 ghost use Rattle.gix_refspec.specs.Matching.Match.{Ref};
 ghost use Rattle.gix_refspec.specs.Views.Group.{name_bytes, ref_of};
 ghost use Rattle.gix_refspec.specs.Private.SideViews.{kind_of_side};
-ghost use Rattle.gix_refspec.specs.Private.Index.{AllNear, HavePlaces, HasNamesOf, full_names_of, list_of, partial_names_of};
+ghost use Rattle.gix_refspec.specs.Private.Index.{AllNear, HavePlaces, HasNamesOf, asks_by_id, full_names_of, list_of, partial_names_of};
+ghost use Rattle.gix_refspec.specs.Private.Part.{FlagsRepeated};
 
 mod filter;
 pub(crate) mod fronts;
 mod partials;
 
 use super::ends::{Direction, near_of};
+use super::repeated::{repeated_names, seem_repeated};
 use crate::match_group::types::{Item, NameRef};
 use crate::side::SideKind;
 use crate::spec::RefSpecRef;
@@ -31,17 +33,26 @@ pub(crate) struct NameIndex<'n> {
     places: HashMap<&'n [u8], Vec<usize>>,
     partials: PartialIndex<'n>,
     fronts: FrontIndex<'n>,
+    // Flags of the items that few patterns pass over.
+    repeated: Vec<bool>,
+    // Whether all that specs ask for is looked up by its name.
+    by_name: bool,
 }
 
-// Names that specs ask for, and the fronts of their patterns.
+// From how many patterns on their fronts are looked up. For fewer it is cheaper to compare each with all names.
+const MANY: usize = 8;
+
+// Names that specs ask for, the fronts of their patterns, and whether one asks for items by an id.
 #[derive(Drop)]
 pub(crate) struct Names<'spec> {
     full: Vec<NameRef<'spec>>,
     partial: Vec<NameRef<'spec>>,
-    pub(crate) fronts: Vec<NameRef<'spec>>,
+    fronts: Vec<NameRef<'spec>>,
+    pub(crate) by_id: bool,
 }
 
-// The names that specs ask for in a direction, and the fronts of the patterns that are near.
+// The names that specs ask for in a direction, the fronts of the patterns that are near, and whether a near
+// end is an id.
 pub(crate) fn names_asked<'spec>(
     alloc: Global,
     direction: Direction,
@@ -53,6 +64,7 @@ pub(crate) fn names_asked<'spec>(
         full: Vec::new(alloc),
         partial: Vec::new(alloc),
         fronts: Vec::new(alloc),
+        by_id: false,
     };
     for spec in specs {
         if let Some(near) = near_of(direction, spec) {
@@ -69,6 +81,8 @@ impl<'spec> Names<'spec> {
             map name_bytes self.old.full.items ++ full_names_of (kind_of_side near.entry)) }
         ensures partial { OnOk result (map name_bytes self.new.partial.items ≡
             map name_bytes self.old.partial.items ++ partial_names_of (kind_of_side near.entry)) }
+        ensures by_id { OnOk result (self.new.by_id ≡
+            if asks_by_id (kind_of_side near.entry) then true else self.old.by_id) }
     {
         match near {
             SideKind::FullName(name) => self.full.push(NameRef::Borrowed(BStr::new(name)))?,
@@ -76,9 +90,19 @@ impl<'spec> Names<'spec> {
             SideKind::Pattern { before, .. } => {
                 self.fronts.push(NameRef::Borrowed(BStr::new(before)))?
             }
-            SideKind::Object(_) => {}
+            SideKind::Object(_) => self.by_id = true,
         }
         Ok(())
+    }
+
+    // Whether there are patterns.
+    fn has_fronts(&self) -> bool {
+        !self.fronts.is_empty()
+    }
+
+    // Whether there are so many patterns that they are looked up.
+    pub(crate) fn has_many_fronts(&self) -> bool {
+        MANY <= self.fronts.len()
     }
 }
 
@@ -123,6 +147,22 @@ fn places_of<'n>(
     Ok(places)
 }
 
+// Flags the items that few patterns pass over, since an earlier one has their name. To find them takes
+// sorting, so it is done only where names seem to repeat.
+fn passed_over(
+    alloc: Global,
+    names: &Names<'_>,
+    items: &[Item<'_>],
+) -> Result<Vec<bool>, AllocError>
+    ensures { IfOk result (λ flags. FlagsRepeated (map ref_of items.now) flags.items) }
+{
+    let few = names.has_fronts() && !names.has_many_fronts();
+    if few && seem_repeated(alloc, items)? {
+        return repeated_names(alloc, items);
+    }
+    Ok(Vec::new(alloc))
+}
+
 impl<'n> NameIndex<'n> {
     ghost use Rattle.gix_refspec.specs.Private.Index.{ArePlacesBehind, IsFrontIndexOf, IsIndexOf, places_listed};
 
@@ -139,6 +179,8 @@ impl<'n> NameIndex<'n> {
             places: places_of(alloc, names.full.as_slice(), items)?,
             partials: PartialIndex::of(alloc, direction, names.partial.as_slice(), items)?,
             fronts: FrontIndex::of(alloc, names.fronts.as_slice(), items)?,
+            repeated: passed_over(alloc, names, items)?,
+            by_name: !names.by_id && !names.has_fronts(),
         })
     }
 
@@ -165,6 +207,25 @@ impl<'n> NameIndex<'n> {
             → IsFrontIndexOf refs self.now.fronts → ArePlacesBehind front.now refs places.now) }
     {
         self.fronts.places(front)
+    }
+
+    // Flags of the items that few patterns pass over, since an earlier one has their name.
+    pub(crate) fn repeated(&self) -> &[bool]
+        ensures { result.now ≡ self.now.repeated.items }
+    {
+        self.repeated.as_slice()
+    }
+
+    // The flags alone.
+    pub(crate) fn into_repeated(self) -> Vec<bool>
+        ensures { result.items ≡ self.entry.repeated.items }
+    {
+        self.repeated
+    }
+
+    // Whether all that specs ask for is looked up by its name.
+    pub(crate) fn is_by_name(&self) -> bool {
+        self.by_name
     }
 
     // Whether some name is at several places.

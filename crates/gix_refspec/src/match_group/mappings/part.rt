@@ -1,31 +1,14 @@
 //! A part of some items that has each name of them, mostly once. So a name that a server lists again and
 //! again is matched once by each spec, and takes memory once.
-//!
-//! Names that repeat are found by sorting, so that no names make it slow. Each item gets a key, of the
-//! upper bits of its name's hash and, after them, its place. In a sorted list of keys items of one name
-//! follow one another. Where different names have the same upper bits, keys of another hash are tried. Only
-//! where that fails too are the names themselves sorted. Names are compared before an item is left out: so
-//! a repeat may be missed, but no name is lost.
 
-ghost use Rattle.std.specs.Prelude.{◌≡◌, ◌≢◌, ◌<◌, ◌≤◌, ◌^◌, ℕ, List, length, map, option_map, MatchBool, MatchOption, IfOk, IsTrue};
-ghost use Rattle.gix_refspec.specs.Views.Spec.{reading_of};
+ghost use Rattle.std.specs.Prelude.{◌≡◌, map, option_map, MatchOption, IfOk};
 ghost use Rattle.gix_refspec.specs.Views.Group.{ref_of};
-ghost use Rattle.gix_refspec.specs.Matching.Side.{object};
-ghost use Rattle.gix_refspec.specs.Private.SideViews.{kind_of_side};
-ghost use Rattle.gix_refspec.specs.Private.Part.{FlagsRepeated, HasNoNearId, IsNoNearId, IsPart, IsRepeatedAt, place_among};
+ghost use Rattle.gix_refspec.specs.Private.Part.{FlagsRepeated, IsPart, place_among};
 
-use crate::match_group::hashes::{hash_by, seeds};
-use crate::match_group::hits::ends::{Direction, near_of};
+use crate::match_group::hits::repeated::repeated_names;
 use crate::match_group::keep::is_flagged;
-use crate::match_group::keep::repeats::{bits_for, bucket_of, key_of, place_in, raise};
 use crate::match_group::types::Item;
-use crate::side::SideKind;
-use crate::spec::RefSpecRef;
 use std::alloc::{AllocError, Global};
-use std::hash::FoldHasher;
-
-// Of how many items the names are compared to guess whether more repeat.
-const SAMPLE: usize = 256;
 
 // Some items, and their places among all.
 #[derive(Drop)]
@@ -34,27 +17,27 @@ pub(crate) struct Part<'item> {
     pub(crate) places: Vec<usize>,
 }
 
-// A name, and the place of its item.
-#[derive(Clone, Copy, PartialEq, Eq, PartialOrd, Ord)]
-struct Named<'n> {
-    name: &'n [u8],
-    place: usize,
-}
-
 impl<'item> Part<'item> {
-    // The items without those whose name an earlier one has. None where there are no such items.
+    // The items without those whose name an earlier one has. None where there are no such items. They are
+    // looked for, unless some are flagged.
     pub(crate) fn of(
         alloc: Global,
         items: &[Item<'item>],
+        flags: Vec<bool>,
     ) -> Result<Option<Part<'item>>, AllocError>
+        requires { FlagsRepeated (map ref_of items.now) flags.items }
         ensures { IfOk result (λ told. MatchOption told (Unit {0}) (λ part. IsPart
             (map ref_of items.now) (map ref_of part.items.items) part.places.items)) }
     {
-        let repeated = repeated_names(alloc, items)?;
-        if repeated.is_empty() {
+        let flags = if flags.is_empty() {
+            repeated_names(alloc, items)?
+        } else {
+            flags
+        };
+        if flags.is_empty() {
             return Ok(None);
         }
-        Ok(Some(Part::without(alloc, items, repeated.as_slice())?))
+        Ok(Some(Part::without(alloc, items, flags.as_slice())?))
     }
 
     // The items that aren't flagged.
@@ -104,132 +87,4 @@ pub(crate) fn among(places: &[usize], item: Option<usize>) -> Option<usize>
             Some(there) => Some(*there),
         },
     }
-}
-
-// Whether the near end of some spec is an id. It takes items by their objects, so one name that is
-// listed twice may be taken once.
-pub(crate) fn has_near_id(direction: Direction, specs: &[RefSpecRef<'_>]) -> bool
-    ensures { MatchBool result (Unit {0}) (HasNoNearId direction (map reading_of specs.now)) }
-{
-    for spec in specs {
-        if near_is_id(direction, spec) {
-            return true;
-        }
-    }
-    false
-}
-
-// Whether the near end of a spec is an id.
-fn near_is_id(direction: Direction, spec: &RefSpecRef<'_>) -> bool
-    ensures { MatchBool result (Unit {0}) (IsNoNearId direction (reading_of spec.now)) }
-{
-    match near_of(direction, spec) {
-        None => false,
-        Some(near) => is_id(near),
-    }
-}
-
-// Whether a side is an id.
-fn is_id(side: SideKind<'_>) -> bool
-    ensures { MatchBool result (Unit {0}) ((id : List ℕ) → kind_of_side side.entry ≢ object id) }
-{
-    match side {
-        SideKind::Object(_) => true,
-        SideKind::FullName(_) | SideKind::Partial(_) | SideKind::Pattern { .. } => false,
-    }
-}
-
-// Whether names seem to repeat: whether those of the first items do.
-pub(crate) fn seem_repeated(alloc: Global, items: &[Item<'_>]) -> Result<bool, AllocError> {
-    let sample = &items[..items.len().min(SAMPLE)];
-    Ok(!repeated_names(alloc, sample)?.is_empty())
-}
-
-// Flags items whose name an earlier one has. There may be no flags at all where none has.
-fn repeated_names(alloc: Global, items: &[Item<'_>]) -> Result<Vec<bool>, AllocError>
-    ensures { IfOk result (λ flags. FlagsRepeated (map ref_of items.now) flags.items) }
-{
-    let bits = bits_for(items.len());
-    for seed in seeds() {
-        let keys = keys_in_order(alloc, items, bits, seed)?;
-        if let Some(flags) = flags_by_key(alloc, items, keys.as_slice(), bits)? {
-            return Ok(flags);
-        }
-    }
-    flags_by_name(alloc, items)
-}
-
-// The keys of the names by a seed, in order.
-fn keys_in_order(
-    alloc: Global,
-    items: &[Item<'_>],
-    bits: u32,
-    seed: FoldHasher,
-) -> Result<Vec<u64>, AllocError>
-    requires few { bits < 64 }
-    requires fit { length items.now ≤ 2 ^ bits }
-{
-    let mut keys = Vec::with_capacity(alloc, items.len())?;
-    for (place, item) in items.iter().enumerate() {
-        keys.push(key_of(hash_by(seed, item.full_ref_name.as_bytes()), place, bits))?;
-    }
-    keys.sort_unstable();
-    Ok(keys)
-}
-
-// Flags items whose key follows that of the same name. None where two names have the same upper bits.
-fn flags_by_key(
-    alloc: Global,
-    items: &[Item<'_>],
-    keys: &[u64],
-    bits: u32,
-) -> Result<Option<Vec<bool>>, AllocError>
-    requires { bits < 64 }
-    ensures { IfOk result (λ told. MatchOption told
-        (Unit {0}) (λ flags. FlagsRepeated (map ref_of items.now) flags.items)) }
-{
-    let mut flags = Vec::new(alloc);
-    for at in 1..keys.len() {
-        if bucket_of(keys[at - 1], bits) != bucket_of(keys[at], bits) {
-            continue;
-        }
-        let place = place_in(keys[at], bits);
-        if !is_repeated(items, place_in(keys[at - 1], bits), place) {
-            return Ok(None);
-        }
-        raise(&mut flags, items.len(), place)?;
-    }
-    Ok(Some(flags))
-}
-
-// Flags items whose name follows the same one where all names are sorted.
-fn flags_by_name(alloc: Global, items: &[Item<'_>]) -> Result<Vec<bool>, AllocError>
-    ensures { IfOk result (λ flags. FlagsRepeated (map ref_of items.now) flags.items) }
-{
-    let mut names = Vec::with_capacity(alloc, items.len())?;
-    for (place, item) in items.iter().enumerate() {
-        names.push(Named {
-            name: item.full_ref_name.as_bytes(),
-            place,
-        })?;
-    }
-    names.sort_unstable();
-    let mut flags = Vec::new(alloc);
-    for at in 1..names.len() {
-        let place = names[at].place;
-        if is_repeated(items, names[at - 1].place, place) {
-            raise(&mut flags, items.len(), place)?;
-        }
-    }
-    Ok(flags)
-}
-
-// Whether there is an item at a place that has the name of the one at an earlier place.
-fn is_repeated(items: &[Item<'_>], before: usize, place: usize) -> bool
-    ensures { IsTrue result → IsRepeatedAt (map ref_of items.now) before place }
-{
-    if place <= before || items.len() <= place {
-        return false;
-    }
-    items[before].full_ref_name == items[place].full_ref_name
 }

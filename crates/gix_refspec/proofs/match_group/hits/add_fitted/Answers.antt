@@ -3,13 +3,14 @@ use Rattle.std.proofs.Common.{◌≡◌, List, ℕ, map, take, take_all, option_
 use Rattle.gix_refspec.specs.Views.Group.{ref_of}
 use Rattle.gix_refspec.specs.Private.SideViews.{kind_of_side}
 use Rattle.gix_refspec.specs.Private.HitViews.{AddsHits, PatternFits}
-use Rattle.gix_refspec.proofs.lemmas.index.FrontHitLemmas.{AreHitsAt, all_at_places, hit_at_place, matched_fits, of_fitted, place_has, place_inside, where_fits}
+use Rattle.gix_refspec.proofs.lemmas.hits.OnceLemmas.{fitted_in, most_at_places}
+use Rattle.gix_refspec.proofs.lemmas.index.FrontHitLemmas.{AreHitsAt, hit_at_place, matched_fits, of_fitted, place_has, place_inside}
 use Rattle.gix_refspec.proofs.match_group.hits.add_fitted.Goals as goal
 
 pub bounds-items-place : goal.bounds-items-place
 bounds-items-place c =
     let kind = kind_of_side c.args.ends.near in
-    place_inside (PatternFits kind) c.args.items.now c.args.places.now c.loop-place.place-index 0 (where_fits kind (map ref_of c.args.items.now) c.args.places.now c.requires) c.loop-place-test.true
+    place_inside (PatternFits kind) c.args.items.now c.args.places.now c.loop-place.place-index 0 (fitted_in kind (map ref_of c.args.items.now) c.args.places.now c.requires) c.loop-place-test.true
 
 pub offset_bounds-items-place : goal.offset_bounds-items-place
 offset_bounds-items-place c = let below = bounds-items-place c in search rules
@@ -17,7 +18,7 @@ offset_bounds-items-place c = let below = bounds-items-place c in search rules
 pub fitted_word-requires : goal.fitted_word-requires
 fitted_word-requires c =
     let kind = kind_of_side c.args.ends.near in
-    place_has (PatternFits kind) c.args.items.now c.args.places.now c.loop-place.place-index 0 _ (where_fits kind (map ref_of c.args.items.now) c.args.places.now c.requires) c.loop-place-test.true
+    place_has (PatternFits kind) c.args.items.now c.args.places.now c.loop-place.place-index 0 _ (fitted_in kind (map ref_of c.args.items.now) c.args.places.now c.requires) c.loop-place-test.true
 
 pub loop-place-preserved : goal.loop-place-preserved
 loop-place-preserved c =
@@ -25,13 +26,13 @@ loop-place-preserved c =
     let places = c.args.places.now in
     let kind = kind_of_side c.args.ends.near in
     hit_at_place (PatternFits kind) c.args.direction c.args.ends c.args.spec xs places c.loop-place.place-index _ _ c.args.made.now c.loop-place.made c.add.new.self (option_map (λ w. w.now) c.fitted_word.result) c.in_ok-filled_end.field-0
-    (of_fitted kind (map ref_of xs) places c.requires) (where_fits kind (map ref_of xs) places c.requires) c.loop-place-test.true c.loop-place.invariant c.fitted_word.ensures c.in_ok-filled_end.ensures c.in_ok-add.ensures
+    (of_fitted kind (map ref_of xs) places c.requires) (fitted_in kind (map ref_of xs) places c.requires) c.loop-place-test.true c.loop-place.invariant c.fitted_word.ensures c.in_ok-filled_end.ensures c.in_ok-add.ensures
 
 pub returns : goal.returns
 returns c =
     let items = map ref_of c.args.items.now in
     let kind = kind_of_side c.args.ends.near in
     let all : take c.loop-place.place-index c.args.places.now ≡ c.args.places.now = take_all c.loop-place.place-index c.args.places.now (omega arith) in
-    all_at_places (PatternFits kind) c.args.direction c.args.ends c.args.spec items c.args.places.now c.args.made.now c.loop-place.made
-    (λ r word. matched_fits kind r word (of_fitted kind items c.args.places.now c.requires)) (where_fits kind items c.args.places.now c.requires)
+    most_at_places c.args.direction c.args.ends c.args.spec items c.args.places.now c.args.made.now c.loop-place.made
+    (λ r word. matched_fits kind r word (of_fitted kind items c.args.places.now c.requires)) c.requires
     (subst (λ (ps : List ℕ). AddsHits c.args.direction (AreHitsAt c.args.direction c.args.ends c.args.spec items ps) c.args.made.now c.loop-place.made) all c.loop-place.invariant)

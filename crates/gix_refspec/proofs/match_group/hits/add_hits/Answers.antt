@@ -8,7 +8,7 @@ use Rattle.gix_refspec.specs.Private.HitViews.{HasEnds, TakesIn}
 use Rattle.gix_refspec.specs.Private.EqualSpecs.{AddsMost, FlagsEqual}
 use Rattle.gix_refspec.specs.Private.Index.{ArePlacesFittedTo}
 use Rattle.gix_refspec.specs.Private.SideViews.{kind_of_side}
-use Rattle.gix_refspec.proofs.lemmas.hits.EqualSpecLemmas.{most_spec, most_no_spec, most_equal}
+use Rattle.gix_refspec.proofs.lemmas.hits.EqualSpecLemmas.{most_spec, most_of_spec, most_no_spec, most_equal}
 use Rattle.gix_refspec.proofs.lemmas.index.FittedLemmas.{listed_places, still_listed}
 use Rattle.gix_refspec.proofs.lemmas.index.PlacedLemmas.{side_served}
 use Rattle.gix_refspec.proofs.match_group.hits.add_hits.Goals as goal
@@ -25,7 +25,7 @@ loop-place-preserved c =
       elim c.match-take_places.branch [
         | in-Some-take_places+in_ok-add_fitted-in-Some-take_places w ↦
             subst so_far (sym w.made-is)
-            (most_spec direction specs items i spec.result c.in-Some.ends c.args.made.now c.loop-place.made w.add_fitted.new.made c.loop-place-test.true spec.is c.loop-place.invariant.0 c.in-Some.ensures w.in_ok-add_fitted-in-Some-take_places.ensures)
+            (most_of_spec direction specs items i spec.result c.in-Some.ends c.args.made.now c.loop-place.made w.add_fitted.new.made c.loop-place-test.true spec.is c.loop-place.invariant.0 c.in-Some.ensures w.in_ok-add_fitted-in-Some-take_places.ensures)
         | in-None+in_ok-add_spec_hits-in-None w ↦
             subst so_far (sym w.made-is)
             (most_spec direction specs items i spec.result c.in-Some.ends c.args.made.now c.loop-place.made w.add_spec_hits.new.made c.loop-place-test.true spec.is c.loop-place.invariant.0 c.in-Some.ensures w.in_ok-add_spec_hits-in-None.ensures)

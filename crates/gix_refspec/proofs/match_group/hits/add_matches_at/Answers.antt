@@ -3,14 +3,14 @@ use Rattle.std.proofs.Common.{◌≡◌, ◌+◌, List, ℕ, map, take, take_all
 use Rattle.gix_refspec.specs.Views.Group.{ref_of}
 use Rattle.gix_refspec.specs.Private.SideViews.{kind_of_side}
 use Rattle.gix_refspec.specs.Private.HitViews.{AddsHits, word_of}
-use Rattle.gix_refspec.proofs.lemmas.index.FrontHitLemmas.{AreHitsAt, BeginsAs, all_at_places, hit_at_place, matched_begins, miss_at_place, of_front, place_inside, where_begins}
+use Rattle.gix_refspec.proofs.lemmas.index.FrontHitLemmas.{AreHitsAt, BeginsAs, all_at_places, hit_at_place, matched_begins, miss_at_place, of_front, place_inside, where_begins, where_in}
 use Rattle.gix_refspec.proofs.match_group.hits.add_matches_at.Goals as goal
 use Rattle.gix_refspec.proofs.match_group.hits.add_matches_at.Goals.{in-Some+in_ok-filled_end+in_ok-add, in_default}
 
 pub bounds-items-place : goal.bounds-items-place
 bounds-items-place c =
     let kind = kind_of_side c.args.ends.near in
-    place_inside (BeginsAs kind) c.args.items.now c.args.places.now c.loop-place.place-index 0 (where_begins kind (map ref_of c.args.items.now) c.args.places.now c.requires) c.loop-place-test.true
+    place_inside (BeginsAs kind) c.args.items.now c.args.places.now c.loop-place.place-index 0 (where_in (BeginsAs kind) (map ref_of c.args.items.now) c.args.places.now (where_begins kind (map ref_of c.args.items.now) c.args.places.now c.requires)) c.loop-place-test.true
 
 pub offset_bounds-items-place : goal.offset_bounds-items-place
 offset_bounds-items-place c = let below = bounds-items-place c in search rules
@@ -22,7 +22,7 @@ loop-place-preserved c =
     let i = c.loop-place.place-index in
     let kinds = c.args.ends in
     let kind = kind_of_side kinds.near in
-    let are = where_begins kind (map ref_of xs) places c.requires in
+    let are = where_in (BeginsAs kind) (map ref_of xs) places (where_begins kind (map ref_of xs) places c.requires) in
     let so_far = AddsHits c.args.direction (AreHitsAt c.args.direction kinds c.args.spec (map ref_of xs) (take (i + 1) places)) c.args.made.now in
     elim c.match-match_of.branch [
       | in-Some+in_ok-filled_end+in_ok-add w ↦

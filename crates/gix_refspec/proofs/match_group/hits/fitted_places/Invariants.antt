@@ -5,4 +5,4 @@ use Rattle.gix_refspec.specs.Private.Index.{ArePlacesFitted}
 use Rattle.gix_refspec.proofs.match_group.hits.fitted_places.Given as goal
 
 abbrev pub invariant-loop-at : goal.invariant-loop-at
-invariant-loop-at l = ArePlacesFitted l.before l.after (map ref_of (take l.at l.items)) l.places.items
+invariant-loop-at l = ArePlacesFitted l.before l.after l.flags (map ref_of (take l.at l.items)) l.places.items

@@ -8,13 +8,10 @@ ghost use Rattle.gix_refspec.specs.Matching.Match.{Ref};
 ghost use Rattle.gix_refspec.specs.Private.Index.{AddsPlace, ArePlacesBehind, HaveLengths, IsFrontIndexOf, list_of};
 ghost use Rattle.gix_refspec.specs.Private.Kept.{IsFlagged};
 
-use super::without_places;
+use super::{MANY, without_places};
 use crate::match_group::types::{Item, NameRef};
 use std::alloc::{AllocError, Global};
 use std::collections::HashMap;
-
-// From how many fronts on they are looked up. For fewer it is cheaper to compare each with all names.
-const MANY: usize = 8;
 
 // How many places are listed for each item at most, on average. Where fronts begin with one another, a server can list
 // names that begin with all of them, and then the index would take memory for each.

@@ -18,7 +18,7 @@ loop-spec-preserved c =
     elim c.match-near_of.branch [
       | in-Some+in_ok-add w ↦
           subst named (sym w.names-is)
-          (spec_asks direction specs i spec.result w.in-Some.near old w.add.new.self c.loop-spec-test.true spec.is w.in-Some.ensures (record { full = w.in_ok-add.ensures.full; partial = w.in_ok-add.ensures.partial }) c.loop-spec.invariant)
+          (spec_asks direction specs i spec.result w.in-Some.near old w.add.new.self c.loop-spec-test.true spec.is w.in-Some.ensures (record { full = w.in_ok-add.ensures.full; partial = w.in_ok-add.ensures.partial; by_id = w.in_ok-add.ensures.by_id }) c.loop-spec.invariant)
       | in_default w ↦
           subst named (sym w.names-is)
           (spec_asks_nothing direction specs i spec.result old c.loop-spec-test.true spec.is w.in_default.ensures c.loop-spec.invariant)

@@ -12,4 +12,5 @@ returns c =
       full = subst (λ (l : List NameRef). HavePlaces (map name_bytes l) refs (list_of c.in_ok-places_of.field-0)) c.as_slice.ensures.value c.in_ok-places_of.ensures;
       partial = subst (λ (l : List NameRef). ListPartials c.args.direction (map name_bytes l) refs (list_of c.in_ok-of.field-0.places)) c.as_slice-2.ensures.value c.in_ok-of.ensures;
       fronts = c.in_ok-of-2.ensures;
+      repeated = c.in_ok-passed_over.ensures;
     }

@@ -2,7 +2,7 @@
 use Rattle.std.proofs.Common.{◌≡◌, ◌⊎◌, [], length, map}
 use Rattle.gix_refspec.specs.Views.Group.{ref_of}
 use Rattle.gix_refspec.specs.Private.Part.{FlagsRepeated}
-use Rattle.gix_refspec.proofs.match_group.mappings.part.flags_by_key.Given as goal
+use Rattle.gix_refspec.proofs.match_group.hits.repeated.flags_by_key.Given as goal
 
 abbrev pub invariant-loop-at : goal.invariant-loop-at
 invariant-loop-at l =
