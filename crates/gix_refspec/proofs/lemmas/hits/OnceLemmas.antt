@@ -1,24 +1,21 @@
 -- Hits of a pattern among items of which some are passed over, since an earlier one has their name.
-use Rattle.std.proofs.Common.{◌≡◌, ◌⊎◌, inl, inr, ℕ, ◌+◌, ◌<◌, List, [], ◌∷◌, ◌++◌, Bool, true, false, Option, None, Some, length, map, take, get_or, refl, sym, ap, ◌∙◌, subst, append_assoc, arith}
+use Rattle.std.proofs.Common.{◌≡◌, inl, inr, ℕ, ◌+◌, List, [], ◌∷◌, ◌++◌, Bool, true, false, Option, None, Some, length, take, get_or, refl, sym, ap, ◌∙◌, subst, append_assoc, arith}
 use Rattle.std.proofs.Math.Seq.{get_or-append_seam, take-append_seam}
 use Rattle.std.proofs.lemmas.Bool.{false≢true}
-use Rattle.std.proofs.lemmas.List.{length-append, map-append}
 use Rattle.gix_refspec.specs.declared.match_group.hits.ends.Direction.{Direction}
 use Rattle.gix_refspec.specs.declared.match_group.hits.ends.Direction.TheVariants.{Forward, Backward}
 use Rattle.gix_refspec.specs.declared.match_group.hits.ends.Ends.{Ends as DeclaredEnds}
 use Rattle.gix_refspec.specs.declared.match_group.hits.Made.{Made}
-use Rattle.gix_refspec.specs.declared.spec.RefSpecRef.{RefSpecRef}
 use Rattle.gix_refspec.specs.Specs.Reading.{Reading}
-use Rattle.gix_refspec.specs.Views.Spec.{reading_of}
 use Rattle.gix_refspec.specs.Matching.Side.{SideKind, pattern, full_name, object, partial, HasKind}
 use Rattle.gix_refspec.specs.Matching.Match.{Ref, HasName, MatchesAs}
 use Rattle.gix_refspec.specs.Matching.Lists.{IsMadeFrom}
 use Rattle.gix_refspec.specs.Matching.Mappings.{Mapped}
-use Rattle.gix_refspec.specs.Matching.Hits.{Ends, Hit, IsHit, IsFilled}
+use Rattle.gix_refspec.specs.Matching.Hits.{Ends, Hit, IsHit}
 use Rattle.gix_refspec.specs.Private.SideViews.{kind_of_side}
-use Rattle.gix_refspec.specs.Private.HitViews.{HasEnds, HaveKinds, PatternFits, TakesIn, AddsHits, mapped_of_made, mapping_of}
-use Rattle.gix_refspec.specs.Private.EqualSpecs.{AddsMost, AddsMostOfKinds, Thins}
-use Rattle.gix_refspec.specs.Private.Index.{ArePlacesFitted, ArePlacesFittedTo}
+use Rattle.gix_refspec.specs.Private.HitViews.{PatternFits, TakesIn, AddsHits, mapping_of}
+use Rattle.gix_refspec.specs.Private.EqualSpecs.{AddsMostOfKinds, Thins}
+use Rattle.gix_refspec.specs.Private.Index.{ArePlacesFittedTo}
 use Rattle.gix_refspec.specs.Private.Kept.{Has, IsFlagged}
 use Rattle.gix_refspec.specs.Private.Part.{FlagsRepeated}
 use Rattle.gix_refspec.proofs.lemmas.hits.HitLemmas.{matches_as, one_kind, taken_matches}

@@ -1,26 +1,15 @@
 -- A part of some items, item by item.
-use Rattle.std.proofs.Common.{◌≡◌, ◌≢◌, ◌⊎◌, inl, inr, ◌↔◌, ℕ, zero, suc, ◌+◌, ◌<◌, List, [], ◌∷◌, ◌++◌, Bool, true, false, MatchBool, length, map, take, get_or, refl, sym, ap, ◌∙◌, subst, append_assoc, arith}
+use Rattle.std.proofs.Common.{◌≡◌, ◌⊎◌, inl, inr, ◌↔◌, ℕ, zero, suc, ◌+◌, ◌<◌, List, [], ◌∷◌, ◌++◌, Bool, true, length, map, take, get_or, refl, sym, ap, ◌∙◌, subst, append_assoc, arith}
 use Rattle.std.proofs.lemmas.List.{append-nil, get_or-map, length-append, length-map, map-append}
 use Rattle.std.specs.Str.{bytes_eq}
 use Rattle.std.proofs.lemmas.Slice.Eq.{bytes_eq-Decides}
 use Rattle.bstr.specs.BStr.{bstr_bytes}
 use Rattle.gix_refspec.specs.declared.match_group.types.Item.{Item}
-use Rattle.gix_refspec.specs.declared.match_group.hits.ends.Direction.{Direction}
-use Rattle.gix_refspec.specs.declared.side.SideKind.{SideKind as DeclaredKind}
-use Rattle.gix_refspec.specs.declared.spec.RefSpecRef.{RefSpecRef}
-use Rattle.gix_refspec.specs.Views.Spec.{reading_of}
-use Rattle.gix_refspec.specs.Specs.Reading.{Reading}
-use Rattle.gix_refspec.specs.Matching.Side.{object, HasKind}
 use Rattle.gix_refspec.specs.Matching.Match.{Ref, HasName}
 use Rattle.gix_refspec.specs.Views.Group.{ref_of}
-use Rattle.gix_refspec.specs.Matching.Hits.{Ends}
-use Rattle.gix_refspec.specs.Private.SideViews.{kind_of_side}
-use Rattle.gix_refspec.specs.Private.HitViews.{HasEnds}
 use Rattle.gix_refspec.specs.Private.Kept.{IsFlagged}
-use Rattle.gix_refspec.specs.Private.Part.{FlagsRepeated, HasNoNearId, IsNoNearId, IsPart, IsPartBehind, IsRepeatedAt}
-use Rattle.gix_refspec.proofs.lemmas.hits.HitLemmas.{one_kind, one_pair}
+use Rattle.gix_refspec.specs.Private.Part.{FlagsRepeated, IsPart, IsPartBehind, IsRepeatedAt}
 use Rattle.gix_refspec.proofs.lemmas.lists.JoinLemmas.{map_long, map_more}
-use Rattle.gix_refspec.proofs.lemmas.keep.RepeatLemmas.{all_join}
 use Rattle.gix_refspec.proofs.lemmas.keep.ThinLemmas.{take_map}
 
 -- one more place is flagged
