@@ -7,7 +7,7 @@ ghost use Rattle.gix_refspec.specs.Views.Group.{ref_of};
 ghost use Rattle.gix_refspec.specs.Private.EqualSpecs.{FlagsEqual};
 ghost use Rattle.gix_refspec.specs.Private.HitViews.{AreKept, AreMade, mapped_of_made};
 ghost use Rattle.gix_refspec.specs.Private.Index.{IsIndexFor, ListEach};
-ghost use Rattle.gix_refspec.specs.Private.Part.{FlagsRepeated, HasNoNearId};
+ghost use Rattle.gix_refspec.specs.Private.Part.{HasNoNearId};
 
 pub(crate) mod part;
 mod presence;
@@ -72,15 +72,16 @@ fn kept_by_name<'spec, 'item>(
 {
     let names = names_asked(alloc, direction, specs)?;
     if !names.by_id && names.has_many_fronts() && seem_repeated(alloc, items)? {
-        return kept_once(alloc, direction, specs, items, Vec::new(alloc));
+        return kept_once(alloc, direction, specs, items);
     }
     let index = NameIndex::of(alloc, direction, &names, items)?;
     let survey = Survey::of(alloc, direction, specs, &index, items)?;
     if names.by_id || !names_repeat(&index, survey.room, items) {
         return kept_with(alloc, direction, specs, &index, items, survey);
     }
+    drop(index);
     drop(survey);
-    kept_once(alloc, direction, specs, items, index.into_repeated())
+    kept_once(alloc, direction, specs, items)
 }
 
 // Whether names repeat: one that is asked for is listed twice, or more mappings of patterns would be made
@@ -89,20 +90,18 @@ fn names_repeat(index: &NameIndex<'_>, room: usize, items: &[Item<'_>]) -> bool 
     index.has_repeats() || items.len() < room
 }
 
-// The mappings that are kept, of each name once. Some items are flagged whose name an earlier one has.
+// The mappings that are kept, of each name once.
 fn kept_once<'spec, 'item>(
     alloc: Global,
     direction: Direction,
     specs: &[RefSpecRef<'spec>],
     items: &[Item<'item>],
-    flags: Vec<bool>,
 ) -> Result<Made<'spec, 'item>, AllocError>
-    requires by_name { HasNoNearId direction (map reading_of specs.now) }
-    requires flags { FlagsRepeated (map ref_of items.now) flags.items }
+    requires { HasNoNearId direction (map reading_of specs.now) }
     ensures { IfOk result (λ made. AreKept
         direction (map reading_of specs.now) (map ref_of items.now) (mapped_of_made direction made)) }
 {
-    match Part::of(alloc, items, flags)? {
+    match Part::of(alloc, items)? {
         None => kept_of_all(alloc, direction, specs, items),
         Some(part) => {
             let mut made = kept_of_all(alloc, direction, specs, part.items.as_slice())?;

@@ -216,13 +216,6 @@ impl<'n> NameIndex<'n> {
         self.repeated.as_slice()
     }
 
-    // The flags alone.
-    pub(crate) fn into_repeated(self) -> Vec<bool>
-        ensures { result.items ≡ self.entry.repeated.items }
-    {
-        self.repeated
-    }
-
     // Whether all that specs ask for is looked up by its name.
     pub(crate) fn is_by_name(&self) -> bool {
         self.by_name

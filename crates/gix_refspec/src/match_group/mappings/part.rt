@@ -18,26 +18,19 @@ pub(crate) struct Part<'item> {
 }
 
 impl<'item> Part<'item> {
-    // The items without those whose name an earlier one has. None where there are no such items. They are
-    // looked for, unless some are flagged.
+    // The items without those whose name an earlier one has. None where there are no such items.
     pub(crate) fn of(
         alloc: Global,
         items: &[Item<'item>],
-        flags: Vec<bool>,
     ) -> Result<Option<Part<'item>>, AllocError>
-        requires { FlagsRepeated (map ref_of items.now) flags.items }
         ensures { IfOk result (λ told. MatchOption told (Unit {0}) (λ part. IsPart
             (map ref_of items.now) (map ref_of part.items.items) part.places.items)) }
     {
-        let flags = if flags.is_empty() {
-            repeated_names(alloc, items)?
-        } else {
-            flags
-        };
-        if flags.is_empty() {
+        let repeated = repeated_names(alloc, items)?;
+        if repeated.is_empty() {
             return Ok(None);
         }
-        Ok(Some(Part::without(alloc, items, flags.as_slice())?))
+        Ok(Some(Part::without(alloc, items, repeated.as_slice())?))
     }
 
     // The items that aren't flagged.

@@ -9,8 +9,8 @@ use Rattle.gix_refspec.proofs.match_group.mappings.kept_by_name.Goals as goal
 pub kept_with-requires-clause-index : goal.kept_with-requires-clause-index
 kept_with-requires-clause-index c = index_serves c.args.direction (map reading_of c.args.specs.now) (map ref_of c.args.items.now) c.in_ok-names.names c.in_ok-index.index c.in_ok-names.ensures c.in_ok-index.ensures
 
-pub kept_once-requires-clause-by_name : goal.kept_once-requires-clause-by_name
-kept_once-requires-clause-by_name c = no_ids c.args.direction (map reading_of c.args.specs.now) c.in_ok-names.names c.if-not-names.true c.in_ok-names.ensures
+pub kept_once-requires : goal.kept_once-requires
+kept_once-requires c = no_ids c.args.direction (map reading_of c.args.specs.now) c.in_ok-names.names c.if-not-names.true c.in_ok-names.ensures
 
-pub kept_once-requires-2-clause-by_name : goal.kept_once-requires-2-clause-by_name
-kept_once-requires-2-clause-by_name c = no_ids c.args.direction (map reading_of c.args.specs.now) c.in_ok-names.names c.if-names.false c.in_ok-names.ensures
+pub kept_once-requires-2 : goal.kept_once-requires-2
+kept_once-requires-2 c = no_ids c.args.direction (map reading_of c.args.specs.now) c.in_ok-names.names c.if-names.false c.in_ok-names.ensures

@@ -22,4 +22,4 @@ returns-in_ok-made-in-Some c =
     subst (λ (told : Option Part). MatchOption told (Unit {0}) (λ p. IsPart refs (map ref_of p.items.items) p.places.items)) c.in-Some.is c.in_ok-of.ensures in
     let are : AreKept direction g (map ref_of part.items.items) kept = subst (λ (l : List Item). AreKept direction g (map ref_of l) kept) c.as_slice.ensures.value c.in_ok-made-in-Some.ensures in
     subst (λ (l : List Mapped). AreKept direction g refs l) (sym (c.move_items.ensures ∙ ap (λ (places : List ℕ). map (moved (place_among places)) kept) c.as_slice-in-Some.ensures.value))
-    (part_kept direction g refs (map ref_of part.items.items) part.places.items kept is c.requires.by_name are)
+    (part_kept direction g refs (map ref_of part.items.items) part.places.items kept is c.requires are)
