@@ -1,16 +1,17 @@
 //! Items whose name an earlier one has.
 //!
-//! They are found by sorting, so that no names make it slow. Each item gets a key, of the upper bits of
-//! its name's hash and, after them, its place. In a sorted list of keys items of one name follow one
-//! another. Where different names have the same upper bits, keys of another hash are tried. Only where
+//! They are found by sorting, so that no names make it slow, once those are flagged that one comparison of
+//! each item finds. The others get a key each, of the upper bits of the name's hash and, after them, the
+//! place. In a sorted list of keys items of one name follow one another. Where different names have the same upper bits, keys of another hash are tried. Only where
 //! that fails too are the names themselves sorted. Names are compared before an item is flagged: so a
 //! repeat may be missed, but no name is lost.
 
-ghost use Rattle.std.specs.Prelude.{◌<◌, ◌≤◌, ◌^◌, length, map, MatchOption, IfOk, IsTrue};
+ghost use Rattle.std.specs.Prelude.{◌<◌, ◌≤◌, ◌^◌, length, map, IfOk, OnOk, IsTrue};
 ghost use Rattle.gix_refspec.specs.Views.Group.{ref_of};
-ghost use Rattle.gix_refspec.specs.Private.Part.{FlagsRepeated, IsRepeatedAt};
+ghost use Rattle.gix_refspec.specs.Private.Part.{AreFlags, FlagsRepeated, IsRepeatedAt};
 
-use crate::match_group::hashes::{hash_by, seeds};
+use crate::match_group::hashes::{hash_by, hash_of_name, seeds};
+use crate::match_group::keep::is_flagged;
 use crate::match_group::keep::repeats::{bits_for, bucket_of, key_of, place_in, raise};
 use crate::match_group::types::Item;
 use std::alloc::{AllocError, Global};
@@ -37,61 +38,96 @@ pub(crate) fn repeated_names(alloc: Global, items: &[Item<'_>]) -> Result<Vec<bo
     ensures { IfOk result (λ flags. FlagsRepeated (map ref_of items.now) flags.items) }
 {
     let bits = bits_for(items.len());
+    let mut flags = Vec::new(alloc);
+    flag_recent(alloc, items, bits, &mut flags)?;
     for seed in seeds() {
-        let keys = keys_in_order(alloc, items, bits, seed)?;
-        if let Some(flags) = flags_by_key(alloc, items, keys.as_slice(), bits)? {
+        let keys = keys_in_order(alloc, items, flags.as_slice(), bits, seed)?;
+        if flag_by_key(items, keys.as_slice(), bits, &mut flags)? {
             return Ok(flags);
         }
     }
-    flags_by_name(alloc, items)
+    flag_by_name(alloc, items, &mut flags)?;
+    Ok(flags)
 }
 
-// The keys of the names by a seed, in order.
+// Flags items whose name the last item has whose hash has the same lower bits. Each item is compared with
+// one other, whatever its name, and where few names are listed often, most of them needn't be sorted then.
+fn flag_recent(
+    alloc: Global,
+    items: &[Item<'_>],
+    bits: u32,
+    flags: &mut Vec<bool>,
+) -> Result<(), AllocError>
+    requires few { bits < 64 }
+    requires old { AreFlags (map ref_of items.now) flags.old.items }
+    ensures { OnOk result (AreFlags (map ref_of items.now) flags.new.items) }
+{
+    let mut recent = Vec::new(alloc);
+    recent.resize(1 << bits, items.len())?;
+    for (place, item) in items.iter().enumerate() {
+        let slot = place_in(hash_of_name(item.full_ref_name.as_bytes()), bits);
+        let Some(last) = recent.get_mut(slot) else {
+            continue;
+        };
+        if is_repeated(items, *last, place) {
+            raise(flags, items.len(), place)?;
+        } else {
+            *last = place;
+        }
+    }
+    Ok(())
+}
+
+// The keys by a seed of the names of items that aren't flagged, in order.
 fn keys_in_order(
     alloc: Global,
     items: &[Item<'_>],
+    flags: &[bool],
     bits: u32,
     seed: FoldHasher,
 ) -> Result<Vec<u64>, AllocError>
     requires few { bits < 64 }
     requires fit { length items.now ≤ 2 ^ bits }
 {
-    let mut keys = Vec::with_capacity(alloc, items.len())?;
+    let mut keys = Vec::new(alloc);
     for (place, item) in items.iter().enumerate() {
-        keys.push(key_of(hash_by(seed, item.full_ref_name.as_bytes()), place, bits))?;
+        if !is_flagged(flags, place) {
+            keys.push(key_of(hash_by(seed, item.full_ref_name.as_bytes()), place, bits))?;
+        }
     }
     keys.sort_unstable();
     Ok(keys)
 }
 
-// Flags items whose key follows that of the same name. None where two names have the same upper bits.
-fn flags_by_key(
-    alloc: Global,
+// Flags items whose key follows that of the same name, and says whether that is all. It isn't where two
+// names have the same upper bits.
+fn flag_by_key(
     items: &[Item<'_>],
     keys: &[u64],
     bits: u32,
-) -> Result<Option<Vec<bool>>, AllocError>
-    requires { bits < 64 }
-    ensures { IfOk result (λ told. MatchOption told
-        (Unit {0}) (λ flags. FlagsRepeated (map ref_of items.now) flags.items)) }
+    flags: &mut Vec<bool>,
+) -> Result<bool, AllocError>
+    requires few { bits < 64 }
+    requires old { AreFlags (map ref_of items.now) flags.old.items }
+    ensures { OnOk result (AreFlags (map ref_of items.now) flags.new.items) }
 {
-    let mut flags = Vec::new(alloc);
     for at in 1..keys.len() {
         if bucket_of(keys[at - 1], bits) != bucket_of(keys[at], bits) {
             continue;
         }
         let place = place_in(keys[at], bits);
         if !is_repeated(items, place_in(keys[at - 1], bits), place) {
-            return Ok(None);
+            return Ok(false);
         }
-        raise(&mut flags, items.len(), place)?;
+        raise(flags, items.len(), place)?;
     }
-    Ok(Some(flags))
+    Ok(true)
 }
 
 // Flags items whose name follows the same one where all names are sorted.
-fn flags_by_name(alloc: Global, items: &[Item<'_>]) -> Result<Vec<bool>, AllocError>
-    ensures { IfOk result (λ flags. FlagsRepeated (map ref_of items.now) flags.items) }
+fn flag_by_name(alloc: Global, items: &[Item<'_>], flags: &mut Vec<bool>) -> Result<(), AllocError>
+    requires { AreFlags (map ref_of items.now) flags.old.items }
+    ensures { OnOk result (AreFlags (map ref_of items.now) flags.new.items) }
 {
     let mut names = Vec::with_capacity(alloc, items.len())?;
     for (place, item) in items.iter().enumerate() {
@@ -101,14 +137,13 @@ fn flags_by_name(alloc: Global, items: &[Item<'_>]) -> Result<Vec<bool>, AllocEr
         })?;
     }
     names.sort_unstable();
-    let mut flags = Vec::new(alloc);
     for at in 1..names.len() {
         let place = names[at].place;
         if is_repeated(items, names[at - 1].place, place) {
-            raise(&mut flags, items.len(), place)?;
+            raise(flags, items.len(), place)?;
         }
     }
-    Ok(flags)
+    Ok(())
 }
 
 // Whether there is an item at a place that has the name of the one at an earlier place.
