@@ -1,6 +1,6 @@
 //! Whether the sides of mappings are names of refs.
 
-ghost use Rattle.std.specs.Prelude.{◌≡◌, ◌↔◌, map, IfOk, IfErr, OnErr, IsTrue, MatchOption, Some};
+ghost use Rattle.std.specs.Prelude.{◌≡◌, ◌↔◌, [], map, IfOk, IfErr, OnErr, IsTrue, MatchOption, Some};
 ghost use Rattle.std.specs.List.{AllByRecursion};
 ghost use Rattle.gix_refspec.specs.Views.Group.{mapped_of, name_bytes, start_of};
 ghost use Rattle.gix_refspec.specs.Matching.RefNames.{AreLeftOut, IsBadAt, IsNamed, IsRefName, KeepsNamed, left_out_of};
@@ -80,6 +80,9 @@ impl<'spec, 'item> match_lhs::Outcome<'spec, 'item> {
         let Ok(bad) = bad_mappings(alloc, self.mappings.as_slice()) else {
             return Err(NoRoom { outcome: self });
         };
+        if bad.is_empty() {
+            return Ok((self, bad));
+        }
         self.mappings.retain(|mapping| is_named(mapping));
         Ok((self, bad))
     }
@@ -92,6 +95,8 @@ fn bad_mappings<'a, 'b>(
 ) -> Result<Vec<BadMapping<'a, 'b>>, AllocError>
     ensures ok { IfOk result (λ bad. AreLeftOut
         (map mapped_of mappings.now) (map left_out_of bad.items)) }
+    ensures none { IfOk result (λ bad. bad.items ≡ [] →
+        AllByRecursion IsNamed (map mapped_of mappings.now)) }
     ensures memory { OnErr result (¬ (AllByRecursion IsNamed (map mapped_of mappings.now))) }
 {
     let mut bad = Vec::new(alloc);

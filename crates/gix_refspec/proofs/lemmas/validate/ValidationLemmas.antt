@@ -1,19 +1,23 @@
 -- What a validation removes, and what holds of the rest.
 use Rattle.std.proofs.Common.{◌≡◌, ◌↔◌, ℕ, ◌+◌, ◌<◌, List, [], ◌∷◌, ◌++◌, Option, None, Some, option_map, option_to_list, Bool, true, false, length, map, take, get_or, refl, sym, ap, ◌∙◌, subst, arith}
 use Rattle.std.specs.List.Retain.{ReturnsInTurn, IsFiltered}
-use Rattle.std.specs.List.{items_where_true}
+use Rattle.std.specs.List.{AllByRecursion, items_where_true}
+use Rattle.std.specs.Prelude.{MatchOption}
 use Rattle.std.proofs.lemmas.Bool.{false≢true}
 use Rattle.std.proofs.lemmas.List.{append-nil, length-map}
 use Rattle.std.proofs.lemmas.Option.{slice_get-map, slice_get_read}
 use Rattle.gix_refspec.specs.declared.match_group.types.Mapping.{Mapping}
 use Rattle.gix_refspec.specs.declared.match_group.types.NameRef.{NameRef}
+use Rattle.gix_refspec.specs.declared.match_group.validate.Fix.{Fix}
+use Rattle.gix_refspec.specs.declared.match_group.validate.Issue.{Issue}
 use Rattle.gix_refspec.specs.declared.spec.RefSpecRef.{RefSpecRef}
 use Rattle.gix_refspec.specs.Specs.Reading.{Reading}
 use Rattle.gix_refspec.specs.Views.Spec.{reading_of}
 use Rattle.gix_refspec.specs.Matching.Lists.{MakesOf, IsMadeFrom}
 use Rattle.gix_refspec.specs.Matching.Mappings.{Mapped}
 use Rattle.gix_refspec.specs.Views.Group.{mapped_of, name_bytes}
-use Rattle.gix_refspec.specs.Matching.Validation.{IndexesFit, IsFix, IsWritable, Removed}
+use Rattle.gix_refspec.specs.Views.Issue.{conflict_of, removed_of}
+use Rattle.gix_refspec.specs.Matching.Validation.{AreConflicts, AreFixes, AreSurvivors, IndexesFit, IsFix, IsValidated, IsWritable, Removed, Survives}
 use Rattle.gix_refspec.proofs.lemmas.keep.RepeatLemmas.{all_join}
 use Rattle.gix_refspec.proofs.lemmas.lists.JoinLemmas.{made_next, map_long, map_more}
 
@@ -38,6 +42,22 @@ nothing_more {Y} R ms i m ys below is none so_far = subst (λ (xs : List Y). IsM
 pub one_more : {Y : Type 0} (R : ℕ → Mapped → Y → Type 0) (ms : List Mapping) (i : ℕ) (m : Mapping) (ys new : List Y) (y : Y) → i < length ms → m ≡ get_or ms i m → new ≡ ys ++ y ∷ [] → R i (mapped_of m) y → IsMadeFrom R 0 (map mapped_of (take i ms)) ys → IsMadeFrom R 0 (map mapped_of (take (i + 1) ms)) new
 one_more {Y} R ms i m ys new y below is pushed one so_far = subst (λ (xs : List Y). IsMadeFrom R 0 (map mapped_of (take (i + 1) ms)) xs) (sym pushed) (made_of_next R ms i m ys (Some y) below is so_far one)
 
+-- one more mapping that is as P says
+pub all_next : (P : Mapped → Type 0) (ms : List Mapping) (i : ℕ) (m : Mapping) → i < length ms → m ≡ get_or ms i m → P (mapped_of m) → AllByRecursion P (map mapped_of (take i ms)) → AllByRecursion P (map mapped_of (take (i + 1) ms))
+all_next P ms i m below is one so_far =
+    subst (λ (l : List Mapped). AllByRecursion P l) (ap (λ (x : Mapping). map mapped_of (take i ms) ++ mapped_of x ∷ []) is ∙ sym (map_more mapped_of ms i m below))
+    (all_join P (map mapped_of (take i ms)) (mapped_of m ∷ []) so_far (one, tt))
+
+-- something was added, so the list isn't empty
+pub not_empty : {X : Type 0} (xs new : List X) (x : X) → new ≡ xs ++ x ∷ [] → ¬ (new ≡ [])
+not_empty [] new x grown empty = absurd (cc)
+not_empty (y ∷ xs) new x grown empty = absurd (cc)
+
+-- of a list that is as P says all is kept
+pub kept_whole : (P : Mapped → Type 0) (k : ℕ) (l : List Mapped) → AllByRecursion P l → IsMadeFrom (λ j m made. (made ≡ m) × P m) k l l
+kept_whole P k [] all = refl
+kept_whole P k (m ∷ l) all = (Some m, l, (refl, all.0), kept_whole P (k + 1) l all.1, refl)
+
 pub no_fix_nowhere : (g : List Reading) (m : Mapping) → m.rhs ≡ None → (fix : Removed) → ¬ (IsFix g (mapped_of m) fix)
 no_fix_nowhere g m none fix is = let gone : None ≡ Some fix.destination = sym (ap (option_map name_bytes) none) ∙ is.goes in absurd (cc)
 
@@ -46,6 +66,12 @@ no_fix_written g m n to writable fix is =
     let both : Some (name_bytes n) ≡ Some fix.destination = sym (ap (option_map name_bytes) to) ∙ is.goes in
     let same : name_bytes n ≡ fix.destination = cc in
     is.unwritable (subst IsWritable same writable)
+
+pub survives_nowhere : (m : Mapping) → m.rhs ≡ None → Survives (mapped_of m)
+survives_nowhere m none = subst (λ (d : Option NameRef). MatchOption (option_map name_bytes d) (Unit {0}) IsWritable) (sym none) tt
+
+pub survives_to : (m : Mapping) (n : NameRef) → m.rhs ≡ Some n → IsWritable (name_bytes n) → Survives (mapped_of m)
+survives_to m n to writable = subst (λ (d : Option NameRef). MatchOption (option_map name_bytes d) (Unit {0}) IsWritable) (sym to) writable
 
 -- the fix of a mapping to a name that can't be written
 pub fix_of : (specs : List RefSpecRef) (m : Mapping) (n : NameRef) (spec : RefSpecRef) (fix : Removed) → m.rhs ≡ Some n → ¬ (IsWritable (name_bytes n)) → m.spec_index < length specs → spec ≡ get_or specs m.spec_index spec → fix.destination ≡ name_bytes n → fix.spec ≡ reading_of spec → IsFix (map reading_of specs) (mapped_of m) fix
@@ -66,3 +92,16 @@ module _ {F : Type 0} (P : Mapped → Type 0) (R : F → Mapping → Bool → F 
 
   pub filtered_so : (p : F) (ms rest : List Mapping) → IsFiltered R p ms rest → IsMadeFrom (λ j m made. (made ≡ m) × P m) 0 (map mapped_of ms) (map mapped_of rest)
   filtered_so p ms rest (bs, q, size, told, is) = subst (λ (xs : List Mapping). IsMadeFrom (λ j m made. (made ≡ m) × P m) 0 (map mapped_of ms) (map mapped_of xs)) (sym is) (kept_so 0 p q bs ms size told)
+
+-- without an issue, the fixes and those that survive are what a validation gives
+pub validated_so : (lent specs : List RefSpecRef) (front back ms : List Mapping) (issues : List Issue) (fixes : List Fix) (rest : List Mapped) → lent ≡ specs → front ≡ ms → back ≡ ms → issues ≡ [] → AreConflicts (map reading_of lent) (map mapped_of front) (map conflict_of issues) → AreFixes (map reading_of lent) (map mapped_of back) (map removed_of fixes) → AreSurvivors (map mapped_of ms) rest → IsValidated (map reading_of specs) (map mapped_of ms) rest (map removed_of fixes)
+validated_so lent specs front back ms issues fixes rest same same_front same_back none conflicts fixed survive =
+    let g = map reading_of specs in
+    let conflicts2 = subst (λ (xs : List RefSpecRef). AreConflicts (map reading_of xs) (map mapped_of front) (map conflict_of issues)) same conflicts in
+    let conflicts3 = subst (λ (xs : List Mapping). AreConflicts g (map mapped_of xs) (map conflict_of issues)) same_front conflicts2 in
+    let fixed2 = subst (λ (xs : List RefSpecRef). AreFixes (map reading_of xs) (map mapped_of back) (map removed_of fixes)) same fixed in
+    record {
+      free = subst (λ (xs : List Issue). AreConflicts g (map mapped_of ms) (map conflict_of xs)) none conflicts3;
+      survive = survive;
+      fixed = subst (λ (xs : List Mapping). AreFixes g (map mapped_of xs) (map removed_of fixes)) same_back fixed2;
+    }

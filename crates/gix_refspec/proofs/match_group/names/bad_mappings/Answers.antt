@@ -5,7 +5,7 @@ use Rattle.std.proofs.lemmas.List.{map-append}
 use Rattle.gix_refspec.specs.declared.match_group.names.BadMapping.{BadMapping}
 use Rattle.gix_refspec.specs.Views.Group.{mapped_of}
 use Rattle.gix_refspec.specs.Matching.RefNames.{AreLeftOut, IsLeftOut, IsNamed, left_out_of}
-use Rattle.gix_refspec.proofs.lemmas.validate.ValidationLemmas.{nothing_more, one_more}
+use Rattle.gix_refspec.proofs.lemmas.validate.ValidationLemmas.{all_next, not_empty, nothing_more, one_more}
 use Rattle.gix_refspec.proofs.lemmas.validate.RefNameLemmas.{bad_unnamed, copied_mapping, some_unnamed}
 use Rattle.gix_refspec.proofs.match_group.names.bad_mappings.Goals as goal
 use Rattle.gix_refspec.proofs.match_group.names.bad_mappings.Goals.{in-Some+in_ok-clone+in_ok-push, in_default}
@@ -26,12 +26,19 @@ loop-mapping-preserved c =
     let i = c.loop-mapping.mapping-index in
     let m = c.mapping-item.result in
     let bad = map left_out_of c.loop-mapping.bad.items in
-    let stays : Vec BadMapping Global → Type 0 = λ v. AreLeftOut (map mapped_of (take (i + 1) ms)) (map left_out_of v.items) in
+    let after = map mapped_of (take (i + 1) ms) in
+    let stays : Vec BadMapping Global → Type 0 = λ v. AreLeftOut after (map left_out_of v.items) × (v.items ≡ [] → AllByRecursion IsNamed after) in
     elim c.match-bad_side.branch [
       | in-Some+in_ok-clone+in_ok-push w ↦
           let one : BadMapping = record { mapping = w.in_ok-clone.field-0; side = w.in-Some.side } in
           let pushed : map left_out_of w.push.new.self.items ≡ bad ++ left_out_of one ∷ [] = ap (map left_out_of) w.in_ok-push.ensures.items ∙ map-append left_out_of c.loop-mapping.bad.items (one ∷ []) in
-          subst stays (sym w.bad-is) (one_more (λ k n made. IsLeftOut n made) ms i m bad (map left_out_of w.push.new.self.items) (left_out_of one) c.loop-mapping-test.true c.mapping-item.is pushed (record { same = copied_mapping m w.in_ok-clone.field-0 w.in_ok-clone.ensures.keeps; bad = w.in-Some.ensures }) c.loop-mapping.invariant)
+          subst stays (sym w.bad-is) (
+            one_more (λ k n made. IsLeftOut n made) ms i m bad (map left_out_of w.push.new.self.items) (left_out_of one) c.loop-mapping-test.true c.mapping-item.is pushed (record { same = copied_mapping m w.in_ok-clone.field-0 w.in_ok-clone.ensures.keeps; bad = w.in-Some.ensures }) c.loop-mapping.invariant.0,
+            λ empty. absurd (not_empty c.loop-mapping.bad.items w.push.new.self.items one w.in_ok-push.ensures.items empty),
+          )
       | in_default w ↦
-          subst stays (sym w.bad-is) (nothing_more (λ k n made. IsLeftOut n made) ms i m bad c.loop-mapping-test.true c.mapping-item.is (λ made out. bad_unnamed made.side (mapped_of m) out.bad w.in_default.ensures) c.loop-mapping.invariant)
+          subst stays (sym w.bad-is) (
+            nothing_more (λ k n made. IsLeftOut n made) ms i m bad c.loop-mapping-test.true c.mapping-item.is (λ made out. bad_unnamed made.side (mapped_of m) out.bad w.in_default.ensures) c.loop-mapping.invariant.0,
+            λ empty. all_next IsNamed ms i m c.loop-mapping-test.true c.mapping-item.is w.in_default.ensures (c.loop-mapping.invariant.1 empty),
+          )
     ]

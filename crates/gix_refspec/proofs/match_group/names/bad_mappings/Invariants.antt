@@ -1,8 +1,11 @@
--- of the mappings so far, those of which a side is bad are there
-use Rattle.std.proofs.Common.{map, take}
+-- of the mappings so far, those of which a side is bad are there; if none is, all are named
+use Rattle.std.proofs.Common.{◌≡◌, [], map, take}
+use Rattle.std.specs.List.{AllByRecursion}
 use Rattle.gix_refspec.specs.Views.Group.{mapped_of}
-use Rattle.gix_refspec.specs.Matching.RefNames.{AreLeftOut, left_out_of}
+use Rattle.gix_refspec.specs.Matching.RefNames.{AreLeftOut, IsNamed, left_out_of}
 use Rattle.gix_refspec.proofs.match_group.names.bad_mappings.Given as goal
 
 abbrev pub invariant-loop-mapping : goal.invariant-loop-mapping
-invariant-loop-mapping l = AreLeftOut (map mapped_of (take l.mapping-index l.mappings)) (map left_out_of l.bad.items)
+invariant-loop-mapping l =
+    AreLeftOut (map mapped_of (take l.mapping-index l.mappings)) (map left_out_of l.bad.items)
+    × (l.bad.items ≡ [] → AllByRecursion IsNamed (map mapped_of (take l.mapping-index l.mappings)))

@@ -1,10 +1,25 @@
--- what the test keeps is named, and the others are listed
-use Rattle.std.proofs.Common.{List, map, refl, subst, rules}
+-- where none is listed all are named; else what the test keeps is, and the others are listed
+use Rattle.std.proofs.Common.{◌≡◌, [], List, map, refl, sym, ◌∙◌, subst, arith, rules}
+use Rattle.std.specs.List.{AllByRecursion}
+use Rattle.std.proofs.lemmas.Bool.{eqb-true}
 use Rattle.gix_refspec.specs.declared.match_group.types.Mapping.{Mapping}
 use Rattle.gix_refspec.specs.Views.Group.{mapped_of}
 use Rattle.gix_refspec.specs.Matching.RefNames.{AreLeftOut, IsNamed, left_out_of}
-use Rattle.gix_refspec.proofs.lemmas.validate.ValidationLemmas.{filtered_so}
+use Rattle.gix_refspec.proofs.lemmas.keep.KeptLemmas.{no_elements}
+use Rattle.gix_refspec.proofs.lemmas.validate.ValidationLemmas.{filtered_so, kept_whole}
 use Rattle.gix_refspec.proofs.match_group.names.match_lhs+Outcome.without_bad_names.Goals as goal
+
+pub returns-then-is_empty-clause-ok : goal.returns-then-is_empty-clause-ok
+returns-then-is_empty-clause-ok c =
+    let bad = c.in-Ok.bad in
+    let ms = c.args.self.mappings.items in
+    let empty : bad.items ≡ [] = no_elements bad.items (let none = eqb-true _ _ (sym c.is_empty.ensures ∙ c.if-is_empty.true) in omega (arith, none, bad.ok.0, bad.ok.1)) in (
+      refl,
+      record {
+        named = kept_whole IsNamed 0 (map mapped_of ms) (subst (λ (xs : List Mapping). AllByRecursion IsNamed (map mapped_of xs)) c.as_slice.ensures.value (c.in-Ok.ensures.none empty));
+        others = subst (λ (xs : List Mapping). AreLeftOut (map mapped_of xs) (map left_out_of bad.items)) c.as_slice.ensures.value c.in-Ok.ensures.ok;
+      },
+    )
 
 pub returns-clause-ok : goal.returns-clause-ok
 returns-clause-ok c =
