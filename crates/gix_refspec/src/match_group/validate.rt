@@ -1,6 +1,7 @@
 //! Whether the mappings of an outcome can be written.
 
 ghost use Rattle.std.specs.Prelude.{◌≡◌, ◌≢◌, ◌↔◌, [], map, IfOk, IfErr, OnErr, IsTrue};
+ghost use Rattle.std.specs.List.{AllByRecursion};
 ghost use Rattle.gix_refspec.specs.Views.Spec.{reading_of};
 ghost use Rattle.gix_refspec.specs.Views.Group.{mapped_of, name_bytes, readings_of};
 ghost use Rattle.gix_refspec.specs.Matching.Validation.{IndexesFit, AreConflicts, AreFixes, IsValidated, IsWritable, Survives};
@@ -182,6 +183,9 @@ impl<'spec, 'item> match_lhs::Outcome<'spec, 'item> {
         let Ok(fixes) = fixes_of(alloc, specs, self.mappings.as_slice()) else {
             return Err(Refusal::Memory(self));
         };
+        if fixes.is_empty() {
+            return Ok((self, fixes));
+        }
         self.mappings.retain(|mapping| survives(mapping));
         Ok((self, fixes))
     }
@@ -196,6 +200,8 @@ fn fixes_of(
     requires { IndexesFit (map reading_of specs.now) (map mapped_of mappings.now) }
     ensures ok { IfOk result (λ fixes. AreFixes
         (map reading_of specs.now) (map mapped_of mappings.now) (map removed_of fixes.items)) }
+    ensures none { IfOk result (λ fixes. fixes.items ≡ [] →
+        AllByRecursion Survives (map mapped_of mappings.now)) }
     ensures memory { OnErr result (map mapped_of mappings.now ≢ []) }
 {
     let mut fixes = Vec::new(alloc);
