@@ -19,22 +19,12 @@ use gix_refspec::match_group::Item;
 use gix_refspec::parse::Operation;
 use gix_refspec::MatchGroup;
 
-/// What the library does, as its archive has it.
-type Exported = unsafe extern "C" fn(*const u8, usize, *const u8, usize, usize, &mut usize) -> u8;
-
-/// Declares functions of the archive: each takes the specs and the names, how often, and where to put the count.
-macro_rules! exported {
-    ($($name:ident)*) => {
-        extern "C" {
-            $(fn $name(
-                specs: *const u8, specs_len: usize, names: *const u8, names_len: usize, times: usize, count: &mut usize,
-            ) -> u8;)*
-        }
-    };
-}
-
-exported! {
-    refspec_bench_match_lhs refspec_bench_match_rhs refspec_bench_plan refspec_bench_parse refspec_bench_print
+extern "C" {
+    /// What the library does: the work of a word on specs and names, how often, and where to put the count.
+    fn refspec_bench(
+        work: *const u8, work_len: usize, specs: *const u8, specs_len: usize, names: *const u8, names_len: usize, times: usize,
+        count: &mut usize,
+    ) -> u8;
 }
 
 #[cfg(not(counting))]
@@ -48,11 +38,11 @@ type Work = fn(&[u8], &[u8], usize) -> usize;
 /// The work of the library, and that of the original.
 type Both = [Work; 2];
 
-const MATCH: Both = [our_matching, their_matching];
-const REVERSE: Both = [our_reverse, their_reverse];
-const PLAN: Both = [our_plan, their_plan];
-const PARSE: Both = [our_parsing, their_parsing];
-const PRINT: Both = [our_printing, their_printing];
+const MATCH: Both = [|specs, names, times| ours("match", specs, names, times), their_matching];
+const REVERSE: Both = [|specs, names, times| ours("reverse", specs, names, times), their_reverse];
+const PLAN: Both = [|specs, names, times| ours("validate", specs, names, times), their_plan];
+const PARSE: Both = [|specs, names, times| ours("parse", specs, names, times), their_parsing];
+const PRINT: Both = [|specs, names, times| ours("print", specs, names, times), their_printing];
 
 /// The work that a word names.
 fn named(work: &str) -> Both {
@@ -66,32 +56,16 @@ fn named(work: &str) -> Both {
     }
 }
 
-fn ours(exported: Exported, specs: &[u8], names: &[u8], times: usize) -> usize {
+fn ours(work: &str, specs: &[u8], names: &[u8], times: usize) -> usize {
     let mut count = 0;
     // SAFETY: the texts and the count are lent for the call, and don't overlap.
-    let status = unsafe { exported(specs.as_ptr(), specs.len(), names.as_ptr(), names.len(), times, &mut count) };
+    let status = unsafe {
+        refspec_bench(
+            work.as_ptr(), work.len(), specs.as_ptr(), specs.len(), names.as_ptr(), names.len(), times, &mut count,
+        )
+    };
     assert_eq!(status, 0, "the library refused a spec, or had no memory");
     count
-}
-
-fn our_matching(specs: &[u8], names: &[u8], times: usize) -> usize {
-    ours(refspec_bench_match_lhs, specs, names, times)
-}
-
-fn our_reverse(specs: &[u8], names: &[u8], times: usize) -> usize {
-    ours(refspec_bench_match_rhs, specs, names, times)
-}
-
-fn our_plan(specs: &[u8], names: &[u8], times: usize) -> usize {
-    ours(refspec_bench_plan, specs, names, times)
-}
-
-fn our_parsing(specs: &[u8], operation: &[u8], times: usize) -> usize {
-    ours(refspec_bench_parse, specs, operation, times)
-}
-
-fn our_printing(specs: &[u8], operation: &[u8], times: usize) -> usize {
-    ours(refspec_bench_print, specs, operation, times)
 }
 
 /// The operation of a word.
@@ -114,47 +88,47 @@ fn items_of<'a>(names: &'a [u8], target: &'a ObjectId) -> Vec<Item<'a>> {
     items
 }
 
-/// The same work in the same steps as that of the library.
-fn their_matching(specs: &[u8], names: &[u8], times: usize) -> usize {
+/// The same work in the same steps as that of the library: `once` does it with a group that it hands back, and counts.
+fn theirs<F>(specs: &[u8], names: &[u8], times: usize, once: F) -> usize
+where
+    F: for<'a> Fn(MatchGroup<'a>, &[Item<'_>]) -> (MatchGroup<'a>, usize),
+{
     let mut group = group_of(specs);
     let target: ObjectId = Kind::Sha1.null();
     let items = items_of(names, &target);
     let mut count = 0;
     for _ in 0..times {
-        let outcome = group.match_lhs(items.iter().copied());
-        count += outcome.mappings.len();
-        group = outcome.group;
+        let (back, found) = once(group, &items);
+        group = back;
+        count += found;
     }
     count
+}
+
+fn their_matching(specs: &[u8], names: &[u8], times: usize) -> usize {
+    theirs(specs, names, times, |group, items| {
+        let outcome = group.match_lhs(items.iter().copied());
+        (outcome.group, outcome.mappings.len())
+    })
 }
 
 /// Likewise, from right to left.
 fn their_reverse(specs: &[u8], names: &[u8], times: usize) -> usize {
-    let mut group = group_of(specs);
-    let target: ObjectId = Kind::Sha1.null();
-    let items = items_of(names, &target);
-    let mut count = 0;
-    for _ in 0..times {
+    theirs(specs, names, times, |group, items| {
         let outcome = group.match_rhs(items.iter().copied());
-        count += outcome.mappings.len();
-        group = outcome.group;
-    }
-    count
+        (outcome.group, outcome.mappings.len())
+    })
 }
 
 /// Likewise.
 fn their_plan(specs: &[u8], names: &[u8], times: usize) -> usize {
-    let group = group_of(specs);
-    let target: ObjectId = Kind::Sha1.null();
-    let items = items_of(names, &target);
-    let mut count = 0;
-    for _ in 0..times {
-        count += match group.clone().match_lhs(items.iter().copied()).validated() {
+    theirs(specs, names, times, |group, items| {
+        let found = match group.clone().match_lhs(items.iter().copied()).validated() {
             Ok((outcome, fixes)) => outcome.mappings.len() + fixes.len(),
             Err(error) => error.issues.len(),
         };
-    }
-    count
+        (group, found)
+    })
 }
 
 /// Likewise.

@@ -10,116 +10,112 @@ use gix_refspec::parsing::Operation;
 use gix_refspec::{MatchGroup, parse};
 use std::alloc::{AllocError, Global};
 
-/// Reads fetch specs and the names of refs, one in each line, and matches them from left to right
-/// as often as `times` says. The last byte of either text is no newline.
+/// Does the work that a word names as often as `times` says. Specs and names stand one in each line; the
+/// last byte of either text is no newline. All refs point to one object.
 ///
-/// Returns 0, and sets `count` to how many mappings there were in all; or returns 1, where a spec
-/// is refused or memory runs out. All refs point to one object.
-#[unsafe(no_mangle)]
-pub extern "C" fn refspec_bench_match_lhs(
-    alloc: Global,
-    specs: &[u8],
-    names: &[u8],
-    times: usize,
-    count: &mut usize,
-) -> u8 {
-    let target = ObjectId::null(Kind::Sha1);
-    status_of(lhs_often(alloc, specs, names, &target, times), count)
-}
-
-/// As `refspec_bench_match_lhs`, but from right to left: the names are those of local refs.
-#[unsafe(no_mangle)]
-pub extern "C" fn refspec_bench_match_rhs(
-    alloc: Global,
-    specs: &[u8],
-    names: &[u8],
-    times: usize,
-    count: &mut usize,
-) -> u8 {
-    let target = ObjectId::null(Kind::Sha1);
-    status_of(rhs_often(alloc, specs, names, &target, times), count)
-}
-
-/// As `refspec_bench_match_lhs`, but each outcome is validated too, and `count` is set to how many
-/// mappings were left, how many were removed, and how many conflicts there were, in all.
-#[unsafe(no_mangle)]
-pub extern "C" fn refspec_bench_plan(
-    alloc: Global,
-    specs: &[u8],
-    names: &[u8],
-    times: usize,
-    count: &mut usize,
-) -> u8 {
-    let target = ObjectId::null(Kind::Sha1);
-    status_of(plan_often(alloc, specs, names, &target, times), count)
-}
-
-/// Reads specs, one in each line, as often as `times` says. They are for a push where `operation` is
-/// `push`, and else for a fetch.
+/// `match` reads fetch specs and the names of refs, and matches them from left to right; `reverse` matches
+/// names of local refs from right to left; and `validate` validates each outcome of `match` too. `parse` and
+/// `print` parse specs, for a push if `names` is `push`, else for a fetch, and `print` prints each accepted
+/// one too.
 ///
-/// Returns 0, and sets `count` to how many were accepted in all; or returns 1, where memory runs out.
+/// Returns 0, and sets `count` to how many results there were in all: mappings; mappings left or removed by
+/// a validation, or conflicts; accepted specs; or printed bytes. Returns 1 if no work has this name, memory
+/// runs out, or a spec is refused that is to be matched.
 #[unsafe(no_mangle)]
-pub extern "C" fn refspec_bench_parse(
+pub extern "C" fn refspec_bench(
     alloc: Global,
+    work: &[u8],
     specs: &[u8],
-    operation: &[u8],
+    names: &[u8],
     times: usize,
     count: &mut usize,
 ) -> u8 {
-    status_of(
-        parse_often(alloc, specs, named(operation), times).ok(),
-        count,
-    )
-}
-
-/// As `refspec_bench_parse`, but each accepted spec is printed too, and `count` is set to how many
-/// bytes were printed in all.
-#[unsafe(no_mangle)]
-pub extern "C" fn refspec_bench_print(
-    alloc: Global,
-    specs: &[u8],
-    operation: &[u8],
-    times: usize,
-    count: &mut usize,
-) -> u8 {
-    status_of(
-        print_often(alloc, specs, named(operation), times).ok(),
-        count,
-    )
-}
-
-// 0, with the count set to how many there were; or 1, where there is no such number.
-fn status_of(many: Option<usize>, count: &mut usize) -> u8 {
-    match many {
+    match result_count(alloc, work, specs, names, times) {
         None => 1,
-        Some(many) => {
-            *count = many;
+        Some(results) => {
+            *count = results;
             0
         }
     }
 }
 
-// How many mappings were left or removed, and how many conflicts there were, in all.
-fn plan_often(
+// How many results there are in all of the work that a word names.
+fn result_count(
     alloc: Global,
+    work: &[u8],
     specs: &[u8],
     names: &[u8],
-    target: &ObjectId,
     times: usize,
 ) -> Option<usize> {
-    let group = group_of(alloc, specs)?;
-    let items = items_of(alloc, names, target).ok()?;
+    match work {
+        b"match" => match_often(alloc, Work::Match, specs, names, times),
+        b"reverse" => match_often(alloc, Work::Reverse, specs, names, times),
+        b"validate" => match_often(alloc, Work::Validate, specs, names, times),
+        b"parse" => parse_often(alloc, specs, named(names), times, false),
+        b"print" => parse_often(alloc, specs, named(names), times, true),
+        _ => None,
+    }
+}
+
+// What is done with a group and items.
+#[derive(Clone, Copy)]
+enum Work {
+    // Matching from left to right.
+    Match,
+    // Matching from right to left.
+    Reverse,
+    // Matching from left to right, and validating the outcome.
+    Validate,
+}
+
+// How many results there are in all of work on a group and items.
+fn match_often(
+    alloc: Global,
+    work: Work,
+    specs: &[u8],
+    names: &[u8],
+    times: usize,
+) -> Option<usize> {
+    let target = ObjectId::null(Kind::Sha1);
+    let mut group = group_of(alloc, specs)?;
+    let items = items_of(alloc, names, &target).ok()?;
     let mut results: usize = 0;
     for _ in 0..times {
-        let copy = group.clone(alloc).ok()?;
-        let outcome = copy.match_lhs(alloc, items.as_slice()).ok()?;
-        results = results.saturating_add(result_count(alloc, outcome)?);
+        let (back, found) = match_once(alloc, work, group, items.as_slice())?;
+        group = back;
+        results = results.saturating_add(found);
     }
     Some(results)
 }
 
+// Does the work once. Hands the group back, with how many results there were.
+fn match_once<'a>(
+    alloc: Global,
+    work: Work,
+    group: MatchGroup<'a>,
+    items: &[Item<'_>],
+) -> Option<(MatchGroup<'a>, usize)> {
+    match work {
+        Work::Match => {
+            let outcome = group.match_lhs(alloc, items).ok()?;
+            let mappings = outcome.mappings.len();
+            Some((outcome.group, mappings))
+        }
+        Work::Reverse => {
+            let outcome = group.match_rhs(alloc, items).ok()?;
+            let mappings = outcome.mappings.len();
+            Some((outcome.group, mappings))
+        }
+        Work::Validate => {
+            let copy = group.clone(alloc).ok()?;
+            let outcome = copy.match_lhs(alloc, items).ok()?;
+            Some((group, validated_count(alloc, outcome)?))
+        }
+    }
+}
+
 // How many mappings a validation left or removed, or how many conflicts it found.
-fn result_count(alloc: Global, outcome: Outcome<'_, '_>) -> Option<usize> {
+fn validated_count(alloc: Global, outcome: Outcome<'_, '_>) -> Option<usize> {
     if !outcome.indexes_fit() {
         return None;
     }
@@ -130,44 +126,6 @@ fn result_count(alloc: Global, outcome: Outcome<'_, '_>) -> Option<usize> {
     }
 }
 
-// How many mappings there were in all from left to right.
-fn lhs_often(
-    alloc: Global,
-    specs: &[u8],
-    names: &[u8],
-    target: &ObjectId,
-    times: usize,
-) -> Option<usize> {
-    let mut group = group_of(alloc, specs)?;
-    let items = items_of(alloc, names, target).ok()?;
-    let mut mappings: usize = 0;
-    for _ in 0..times {
-        let outcome = group.match_lhs(alloc, items.as_slice()).ok()?;
-        mappings = mappings.saturating_add(outcome.mappings.len());
-        group = outcome.group;
-    }
-    Some(mappings)
-}
-
-// How many mappings there were in all from right to left.
-fn rhs_often(
-    alloc: Global,
-    specs: &[u8],
-    names: &[u8],
-    target: &ObjectId,
-    times: usize,
-) -> Option<usize> {
-    let mut group = group_of(alloc, specs)?;
-    let items = items_of(alloc, names, target).ok()?;
-    let mut mappings: usize = 0;
-    for _ in 0..times {
-        let outcome = group.match_rhs(alloc, items.as_slice()).ok()?;
-        mappings = mappings.saturating_add(outcome.mappings.len());
-        group = outcome.group;
-    }
-    Some(mappings)
-}
-
 // The operation of a word.
 fn named(operation: &[u8]) -> Operation {
     match operation {
@@ -176,42 +134,29 @@ fn named(operation: &[u8]) -> Operation {
     }
 }
 
-// How many specs were accepted in all.
+// How many specs were accepted in all, or how many bytes they were printed as.
 fn parse_often(
     alloc: Global,
     specs: &[u8],
     operation: Operation,
     times: usize,
-) -> Result<usize, AllocError> {
-    let lines = lines_of(alloc, specs)?;
-    let mut accepted: usize = 0;
-    for _ in 0..times {
-        for line in lines.iter() {
-            if parse(alloc, *line, operation).is_ok() {
-                accepted = accepted.saturating_add(1);
-            }
-        }
-    }
-    Ok(accepted)
-}
-
-// How many bytes were printed in all.
-fn print_often(
-    alloc: Global,
-    specs: &[u8],
-    operation: Operation,
-    times: usize,
-) -> Result<usize, AllocError> {
-    let lines = lines_of(alloc, specs)?;
-    let mut printed: usize = 0;
+    prints: bool,
+) -> Option<usize> {
+    let lines = lines_of(alloc, specs).ok()?;
+    let mut results: usize = 0;
     for _ in 0..times {
         for line in lines.iter() {
             if let Ok(spec) = parse(alloc, *line, operation) {
-                printed = printed.saturating_add(spec.to_bstring(alloc)?.len());
+                let found = if prints {
+                    spec.to_bstring(alloc).ok()?.len()
+                } else {
+                    1
+                };
+                results = results.saturating_add(found);
             }
         }
     }
-    Ok(printed)
+    Some(results)
 }
 
 // The lines of a text. They are counted first, so that they are never moved.
