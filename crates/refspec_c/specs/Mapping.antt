@@ -17,14 +17,14 @@ pub record Entry : Type 0 where
   pub id : List ℕ
   pub made : List ℕ
 
--- the number of no place
-abbrev pub no_place : ℕ
-no_place = 18446744073709551615
+-- the number that stands for no item
+abbrev pub no_item : ℕ
+no_item = 18446744073709551615
 
--- the place of a name, where there is one
-abbrev pub place_of : Option ℕ → ℕ
-place_of None = no_place
-place_of (Some place) = place
+-- the number of an item: its place, where it has one
+abbrev pub number_of_item : Option ℕ → ℕ
+number_of_item None = no_item
+number_of_item (Some place) = place
 
 -- the text of a source that is an id
 abbrev pub id_text : Start → List ℕ
@@ -48,11 +48,11 @@ destinations (Some d) = 1
 
 -- what is told of a mapping from left to right, of which the spec makes the destination
 abbrev pub forward_entry : ℕ → Mapped → Entry
-forward_entry verdict m = record { spec = m.spec; item = place_of m.item; has_destination = destinations m.destination; verdict = verdict; id = id_text m.source; made = destination_text m.destination }
+forward_entry verdict m = record { spec = m.spec; item = number_of_item m.item; has_destination = destinations m.destination; verdict = verdict; id = id_text m.source; made = destination_text m.destination }
 
 -- and of one from right to left, of which it makes the source
 abbrev pub backward_entry : Mapped → Entry
-backward_entry m = record { spec = m.spec; item = place_of m.item; has_destination = destinations m.destination; verdict = 0; id = []; made = start_text m.source }
+backward_entry m = record { spec = m.spec; item = number_of_item m.item; has_destination = destinations m.destination; verdict = 0; id = []; made = start_text m.source }
 
 -- the texts of a mapping
 abbrev pub text_of : Entry → List ℕ

@@ -14,9 +14,9 @@ use Rattle.refspec_c.specs.declared.failure.Failure.TheVariants as failure
 use Rattle.refspec_c.specs.declared.parts.Parts.{Parts}
 use Rattle.refspec_c.specs.Reading.{IsRefspec, IsUnread}
 
--- what a caller is told of an instruction: the number of its kind, 1 where it is forced, and its sides, of which one that
+-- the parts of an instruction that a caller gets: the number of its kind, 1 where it is forced, and its sides, of which one that
 -- it hasn't is empty
-pub record Told : Type 0 where
+pub record PartsShown : Type 0 where
   pub kind : ℕ
   pub forced : ℕ
   pub source : List ℕ
@@ -27,27 +27,27 @@ abbrev pub bit : Bool → ℕ
 bit false = 0
 bit true = 1
 
--- what is told of a meaning
-abbrev pub told_of : Meaning → Told
-told_of (push_all_matching forced) = record { kind = 1; forced = bit forced; source = []; destination = [] }
-told_of (push_delete d) = record { kind = 2; forced = 0; source = []; destination = d }
-told_of (push_matching s d forced) = record { kind = 3; forced = bit forced; source = s; destination = d }
-told_of (push_exclude s) = record { kind = 4; forced = 0; source = s; destination = [] }
-told_of (fetch_only s) = record { kind = 5; forced = 0; source = s; destination = [] }
-told_of (fetch_exclude s) = record { kind = 6; forced = 0; source = s; destination = [] }
-told_of (fetch_and_update s d forced) = record { kind = 7; forced = bit forced; source = s; destination = d }
+-- the parts of a meaning
+abbrev pub parts_of : Meaning → PartsShown
+parts_of (push_all_matching forced) = record { kind = 1; forced = bit forced; source = []; destination = [] }
+parts_of (push_delete d) = record { kind = 2; forced = 0; source = []; destination = d }
+parts_of (push_matching s d forced) = record { kind = 3; forced = bit forced; source = s; destination = d }
+parts_of (push_exclude s) = record { kind = 4; forced = 0; source = s; destination = [] }
+parts_of (fetch_only s) = record { kind = 5; forced = 0; source = s; destination = [] }
+parts_of (fetch_exclude s) = record { kind = 6; forced = 0; source = s; destination = [] }
+parts_of (fetch_and_update s d forced) = record { kind = 7; forced = bit forced; source = s; destination = d }
 
--- what the struct of the caller says
-abbrev pub told_by : Parts → Told
-told_by p = record { kind = p.kind; forced = p.forced; source = p.source.now; destination = p.destination.now }
+-- those in the struct of the caller
+abbrev pub parts_in : Parts → PartsShown
+parts_in p = record { kind = p.kind; forced = p.forced; source = p.source.now; destination = p.destination.now }
 
--- the text is a refspec for the operation, and this is told of what it says to do
-pub record IsTold (op : Operation) (text : List ℕ) (told : Told) : Type 0 where
+-- the text is a refspec for the operation, and these are the parts of what it says to do
+pub record HasParts (op : Operation) (text : List ℕ) (parts : PartsShown) : Type 0 where
   pub reading : Reading
   pub reads : Reads op text reading
   pub meaning : Meaning
   pub means : meaning_of reading ≡ Some meaning
-  pub is : told ≡ told_of meaning
+  pub is : parts ≡ parts_of meaning
 
 -- the text is a refspec for the operation, whose canonical text this is
 pub record IsCanonical (op : Operation) (text canonical : List ℕ) : Type 0 where

@@ -3,7 +3,7 @@
 ghost use Rattle.std.specs.Prelude.{◌≡◌, ◌++◌, ◌∷◌, [], map, length, IfErr, IfOk, OnOk};
 ghost use Rattle.std.specs.String.{string_bytes};
 ghost use Rattle.gix_refspec.specs.Views.Group.{mapped_of, start_of};
-ghost use Rattle.refspec_c.specs.Mapping.{IsNotPut, IsPut, Room, Tells, backward_entry, forward_entry, id_text, place_of, text_of, told_at, told_by};
+ghost use Rattle.refspec_c.specs.Mapping.{IsNotPut, IsPut, Room, Tells, backward_entry, forward_entry, id_text, number_of_item, text_of, told_at, told_by};
 
 use crate::failure::Failure;
 use gix_refspec::match_group::{Mapping, SourceRef};
@@ -72,14 +72,7 @@ impl Listing {
             None => (0, b"".as_slice()),
             Some(name) => (1, name.as_bstr().as_bytes()),
         };
-        self.add(
-            mapping.spec_index,
-            mapping.item_index,
-            has_destination,
-            verdict,
-            id.as_bytes(),
-            made,
-        )
+        self.add(mapping, has_destination, verdict, id.as_bytes(), made)
     }
 
     /// Tells of one more mapping from right to left.
@@ -95,41 +88,22 @@ impl Listing {
             told_at (length self.old.text.items) (backward_entry (mapped_of mapping.now)) ∷ []) }
         ensures err { IfErr result (λ f. f ≡ Failure.NoMemory) }
     {
+        let id = match id_digits(alloc, &mapping.lhs) {
+            Ok(id) => id,
+            Err(_) => return Err(Failure::NoMemory),
+        };
+        let made = match &mapping.lhs {
+            SourceRef::FullName(name) => name.as_bstr().as_bytes(),
+            SourceRef::ObjectId(_) => id.as_bytes(),
+        };
         let has_destination = if mapping.rhs.is_some() { 1 } else { 0 };
-        match &mapping.lhs {
-            SourceRef::FullName(name) => {
-                let made = name.as_bstr().as_bytes();
-                self.add(
-                    mapping.spec_index,
-                    mapping.item_index,
-                    has_destination,
-                    0,
-                    b"",
-                    made,
-                )
-            }
-            SourceRef::ObjectId(id) => match hex::encode(alloc, id.as_slice()) {
-                Ok(digits) => {
-                    let made = digits.as_bytes();
-                    self.add(
-                        mapping.spec_index,
-                        mapping.item_index,
-                        has_destination,
-                        0,
-                        b"",
-                        made,
-                    )
-                }
-                Err(_) => Err(Failure::NoMemory),
-            },
-        }
+        self.add(mapping, has_destination, 0, b"", made)
     }
 
-    // Tells of one more mapping.
+    // Tells of one more mapping, with these texts.
     fn add(
         &mut self,
-        spec: usize,
-        item: Option<usize>,
+        mapping: &Mapping<'_, '_>,
         has_destination: u32,
         verdict: u32,
         id: &[u8],
@@ -138,7 +112,7 @@ impl Listing {
         ensures text { OnOk result (self.new.text.items ≡ self.old.text.items ++ (id.now ++ made.now)) }
         ensures told { OnOk result (map told_by self.new.mappings.items ≡
             map told_by self.old.mappings.items ++
-            told_at (length self.old.text.items) (record { spec = spec; item = place_of item; has_destination = has_destination; verdict = verdict; id = id.now; made = made.now }) ∷ []) }
+            told_at (length self.old.text.items) (record { spec = mapping.now.spec_index; item = number_of_item mapping.now.item_index; has_destination = has_destination; verdict = verdict; id = id.now; made = made.now }) ∷ []) }
         ensures err { IfErr result (λ f. f ≡ Failure.NoMemory) }
     {
         let id_at = self.text.len();
@@ -150,8 +124,8 @@ impl Listing {
             return Err(Failure::NoMemory);
         }
         let told = MappingOut {
-            spec,
-            item: item_of(item),
+            spec: mapping.spec_index,
+            item: item_number(mapping.item_index),
             has_destination,
             verdict,
             id_at,
@@ -167,8 +141,8 @@ impl Listing {
 }
 
 // The place of an item, or the greatest number.
-fn item_of(index: Option<usize>) -> usize
-    ensures { result ≡ place_of index }
+fn item_number(index: Option<usize>) -> usize
+    ensures { result ≡ number_of_item index }
 {
     match index {
         Some(place) => place,

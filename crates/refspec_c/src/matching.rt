@@ -3,10 +3,9 @@
 ghost use Rattle.std.specs.Prelude.{◌≡◌, ◌↔◌, ℕ, List, map, replicate, IfErr, IfOk, IsTrue, MatchOption, OnOk};
 ghost use Rattle.std.specs.List.{AllByRecursion, AllZip};
 ghost use Rattle.gix_refspec.specs.Specs.Grammar.{Reads};
-ghost use Rattle.gix_refspec.specs.Views.Group.{readings_of, ref_of};
+ghost use Rattle.gix_refspec.specs.Views.Group.{mapped_of, readings_of, ref_of};
 ghost use Rattle.gix_refspec.specs.Texts.ObjectId.{id_bytes};
 ghost use Rattle.gix_refspec.specs.Views.Spec.{reading_of};
-ghost use Rattle.gix_refspec.specs.Views.Group.{mapped_of};
 ghost use Rattle.refspec_c.specs.Group.{bytes_of};
 ghost use Rattle.refspec_c.specs.Mapping.{Entry, HasAll, LacksAll, Room, Tells, backward_entry, forward_entry};
 ghost use Rattle.refspec_c.specs.Matching.{AreMatched, AreUnmatched, GoesByName, direction_code, nameless};
@@ -57,11 +56,13 @@ pub extern "C" fn gix_refspec_match(
         ((mappings.new ≡ mappings.old) × (buffer.new ≡ buffer.old) × (count.new ≡ count.old) × (len.new ≡ len.old))
         result }
 {
-    match direction_of(direction) {
-        Some(direction) => outcome_of(match_names(
-            alloc, texts, names, direction, mappings, buffer, count, len,
-        )),
-        None => Failure::NoOperation.number(),
+    let direction = match direction_of(direction) {
+        Some(direction) => direction,
+        None => return Failure::NoOperation.number(),
+    };
+    match listing_of(alloc, texts, names, direction) {
+        Ok(listing) => outcome_of(put_all(&listing, mappings, buffer, count, len)),
+        Err(failure) => failure.number(),
     }
 }
 
@@ -77,34 +78,6 @@ fn direction_of(number: u32) -> Option<Direction>
     }
 }
 
-// Puts what fetches map of names, or back from names, into the lists of a caller.
-fn match_names(
-    alloc: Global,
-    texts: &[Text<'_>],
-    names: &[Text<'_>],
-    direction: Direction,
-    mappings: &mut [MappingOut],
-    buffer: &mut [u8],
-    count: &mut usize,
-    len: &mut usize,
-) -> Result<(), Failure>
-    ensures ok { OnOk result ((es : List Entry) ×
-        AreMatched direction (map bytes_of texts.now) (map bytes_of names.now) es × HasAll es
-        (record { mappings = mappings.old; buffer = buffer.old; count = count.old; len = len.old })
-        (record { mappings = mappings.new; buffer = buffer.new; count = count.new; len = len.new })) }
-    ensures err { IfErr result (LacksAll
-        (AreMatched direction (map bytes_of texts.now) (map bytes_of names.now))
-        (AreUnmatched direction (map bytes_of texts.now))
-        (record { mappings = mappings.old; buffer = buffer.old; count = count.old; len = len.old })
-        (record { mappings = mappings.new; buffer = buffer.new; count = count.new; len = len.new })) }
-{
-    let listing = match listing_of(alloc, texts, names, direction) {
-        Ok(listing) => listing,
-        Err(failure) => return Err(failure),
-    };
-    put_all(&listing, mappings, buffer, count, len)
-}
-
 // What there is to tell of what fetches map.
 fn listing_of(
     alloc: Global,
@@ -117,10 +90,7 @@ fn listing_of(
         Tells es listing.mappings.items listing.text.items) }
     ensures err { IfErr result (AreUnmatched direction (map bytes_of texts.now)) }
 {
-    let group = match read_all(alloc, texts, Operation::Fetch) {
-        Ok(group) => group,
-        Err(failure) => return Err(failure),
-    };
+    let group = read_all(alloc, texts, Operation::Fetch)?;
     let null = ObjectId::null(Kind::Sha1);
     let items = match items_of(alloc, names, &null) {
         Ok(items) => items,

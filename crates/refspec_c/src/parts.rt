@@ -2,7 +2,7 @@
 
 ghost use Rattle.std.specs.Prelude.{◌≡◌};
 ghost use Rattle.gix_refspec.specs.Views.Instruction.{meaning_of_instruction, meaning_of_fetch, meaning_of_push};
-ghost use Rattle.refspec_c.specs.Single.{bit, told_by, told_of};
+ghost use Rattle.refspec_c.specs.Single.{bit, parts_in, parts_of};
 
 use gix_refspec::Instruction;
 use gix_refspec::instruction::{Fetch, Push};
@@ -24,7 +24,7 @@ pub struct Parts<'a> {
 
 /// The parts of an instruction.
 pub(crate) fn parts_of(instruction: Instruction<'_>) -> Parts<'_>
-    ensures { told_by result ≡ told_of (meaning_of_instruction instruction.entry) }
+    ensures { parts_in result ≡ parts_of (meaning_of_instruction instruction.entry) }
 {
     match instruction {
         Instruction::Push(push) => parts_of_push(push),
@@ -34,7 +34,7 @@ pub(crate) fn parts_of(instruction: Instruction<'_>) -> Parts<'_>
 
 // The parts of a push.
 fn parts_of_push(push: Push<'_>) -> Parts<'_>
-    ensures { told_by result ≡ told_of (meaning_of_push push.entry) }
+    ensures { parts_in result ≡ parts_of (meaning_of_push push.entry) }
 {
     match push {
         Push::AllMatchingBranches {
@@ -52,7 +52,7 @@ fn parts_of_push(push: Push<'_>) -> Parts<'_>
 
 // The parts of a fetch.
 fn parts_of_fetch(fetch: Fetch<'_>) -> Parts<'_>
-    ensures { told_by result ≡ told_of (meaning_of_fetch fetch.entry) }
+    ensures { parts_in result ≡ parts_of (meaning_of_fetch fetch.entry) }
 {
     match fetch {
         Fetch::Only { src } => made_of(5, false, src.as_bytes(), b""),
@@ -67,7 +67,7 @@ fn parts_of_fetch(fetch: Fetch<'_>) -> Parts<'_>
 
 // The parts that these are.
 fn made_of<'a>(kind: u32, forced: bool, source: &'a [u8], destination: &'a [u8]) -> Parts<'a>
-    ensures { told_by result ≡ record { kind = kind; forced = bit forced; source = source.now; destination = destination.now } }
+    ensures { parts_in result ≡ record { kind = kind; forced = bit forced; source = source.now; destination = destination.now } }
 {
     Parts {
         kind,

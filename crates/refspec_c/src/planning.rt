@@ -16,7 +16,7 @@ ghost use Rattle.refspec_c.specs.Outcome.{Concludes};
 ghost use Rattle.refspec_c.specs.Planning.{HasVerdict, IsJudged, IsPlan, LacksPlan, destinations_of, verdict_code};
 
 use crate::explanation::Text;
-use crate::failure::{Failure, outcome_of};
+use crate::failure::Failure;
 use crate::listing::{Listing, MappingOut, put_all};
 use crate::matching::items_of;
 use crate::reading::read_all;
@@ -83,40 +83,19 @@ pub extern "C" fn gix_refspec_plan(
         (record { mappings = mappings.new; buffer = buffer.new; count = count.new; len = len.new }))
         result }
 {
-    outcome_of(plan_names(alloc, texts, names, mappings, buffer, count, len))
-}
-
-// Puts what a fetch does with its mappings into the lists of a caller.
-fn plan_names(
-    alloc: Global,
-    texts: &[Text<'_>],
-    names: &[Text<'_>],
-    mappings: &mut [MappingOut],
-    buffer: &mut [u8],
-    count: &mut usize,
-    len: &mut usize,
-) -> Result<(), Failure>
-    ensures ok { OnOk result ((es : List Entry) ×
-        IsPlan false (map bytes_of texts.now) (map bytes_of names.now) es × HasAll es
-        (record { mappings = mappings.old; buffer = buffer.old; count = count.old; len = len.old })
-        (record { mappings = mappings.new; buffer = buffer.new; count = count.new; len = len.new })) }
-    ensures err { IfErr result (LacksPlan (map bytes_of texts.now) (map bytes_of names.now)
-        (record { mappings = mappings.old; buffer = buffer.old; count = count.old; len = len.old })
-        (record { mappings = mappings.new; buffer = buffer.new; count = count.new; len = len.new })) }
-{
     let plan = match plan_of(alloc, texts, names) {
         Ok(plan) => plan,
-        Err(failure) => return Err(failure),
+        Err(failure) => return failure.number(),
     };
     match put_all(&plan.listing, mappings, buffer, count, len) {
         Ok(()) => {
             if plan.has_conflict {
-                Err(Failure::InConflict)
+                Failure::InConflict.number()
             } else {
-                Ok(())
+                0
             }
         }
-        Err(failure) => Err(failure),
+        Err(failure) => failure.number(),
     }
 }
 
@@ -134,10 +113,7 @@ fn plan_of(alloc: Global, texts: &[Text<'_>], names: &[Text<'_>]) -> Result<Plan
         Tells es plan.listing.mappings.items plan.listing.text.items) }
     ensures err { IfErr result (AreUnread Operation.Fetch (map bytes_of texts.now)) }
 {
-    let group = match read_all(alloc, texts, Operation::Fetch) {
-        Ok(group) => group,
-        Err(failure) => return Err(failure),
-    };
+    let group = read_all(alloc, texts, Operation::Fetch)?;
     let null = ObjectId::null(Kind::Sha1);
     let items = match items_of(alloc, names, &null) {
         Ok(items) => items,

@@ -7,7 +7,7 @@ ghost use Rattle.gix_refspec.specs.Specs.Order.{keys};
 ghost use Rattle.refspec_c.specs.Buffer.{Holds, HoldsNone};
 ghost use Rattle.refspec_c.specs.Outcome.{Answers};
 ghost use Rattle.refspec_c.specs.Reading.{IsRefspec, IsUnread, code_of};
-ghost use Rattle.refspec_c.specs.Single.{AreCompared, AreUncompared, IsCanonical, IsTold, IsUnprinted, sign, told_by};
+ghost use Rattle.refspec_c.specs.Single.{AreCompared, AreUncompared, IsCanonical, HasParts, IsUnprinted, sign, parts_in};
 
 use crate::failure::{Failure, outcome_of};
 use crate::parts::{Parts, parts_of};
@@ -39,7 +39,7 @@ pub extern "C" fn gix_refspec_parts<'a>(
     parts: &mut Parts<'a>,
 ) -> u32
     ensures { Answers code_of operation
-        (λ op. IsTold op text.now (told_by parts.new))
+        (λ op. HasParts op text.now (parts_in parts.new))
         (λ op f. IsUnread op text.now f × (parts.new ≡ parts.old))
         (parts.new ≡ parts.old) result }
 {
@@ -109,7 +109,7 @@ fn take_apart<'a>(
     operation: Operation,
     parts: &mut Parts<'a>,
 ) -> Result<(), Failure>
-    ensures ok { OnOk result (IsTold operation text.now (told_by parts.new)) }
+    ensures ok { OnOk result (HasParts operation text.now (parts_in parts.new)) }
     ensures err { IfErr result (λ f. IsUnread operation text.now f × (parts.new ≡ parts.old)) }
 {
     let spec = read(alloc, text, operation)?;
