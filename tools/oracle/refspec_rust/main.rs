@@ -153,24 +153,24 @@ fn map(out: &mut Vec<u8>, m: &Mapping<'_, '_>) {
     out.push(b'\n');
 }
 
-fn lhs(input: &[u8], op: Operation) -> Answer {
-    let (group, rows) = match group(input, op) {
-        Ok(x) => x,
-        Err(a) => return a,
-    };
+fn maps(mappings: &[Mapping<'_, '_>]) -> Answer {
     let mut out = Vec::new();
-    group.match_lhs(items(&rows)).mappings.iter().for_each(|m| map(&mut out, m));
+    mappings.iter().for_each(|m| map(&mut out, m));
     (out, 0)
 }
 
+fn lhs(input: &[u8], op: Operation) -> Answer {
+    match group(input, op) {
+        Ok((group, rows)) => maps(&group.match_lhs(items(&rows)).mappings),
+        Err(a) => a,
+    }
+}
+
 fn rhs(input: &[u8], op: Operation) -> Answer {
-    let (group, rows) = match group(input, op) {
-        Ok(x) => x,
-        Err(a) => return a,
-    };
-    let mut out = Vec::new();
-    group.match_rhs(items(&rows)).mappings.iter().for_each(|m| map(&mut out, m));
-    (out, 0)
+    match group(input, op) {
+        Ok((group, rows)) => maps(&group.match_rhs(items(&rows)).mappings),
+        Err(a) => a,
+    }
 }
 
 fn plan(input: &[u8], op: Operation) -> Answer {
