@@ -16,12 +16,12 @@ use Rattle.refspec_map.specs.declared.line.Entries.{Entries}
 use Rattle.refspec_map.specs.Fault.{IsMemory}
 use Rattle.refspec_map.specs.Input.{newline, AreLines, IsFirstLine}
 use Rattle.refspec_map.specs.Line.{Entry, reading, ref, spec, item, Says, Gives, readings_in, refs_in, IsFaultOf, IsFirstFault}
-use Rattle.refspec_map.specs.Told.{IsSeenAs, told, bare, named, seen, kept_refs, AddsRef, Adds, AreEntries}
+use Rattle.refspec_map.specs.Told.{IsSeenAs, told_ref, bare, named, seen, kept_refs, AddsRef, Adds, AreEntries}
 use Rattle.refspec_map.proofs.OutputLemmas.{lines_more}
 
 -- a whole ref was put behind the entries
-pub AddsRef-whole : {T E : Type 0} (A : Type 0) (r : Result T E) (old new : Entries) (t : ToldRef) → new.specs ≡ old.specs → OnOk r (new.refs.items ≡ old.refs.items ++ t ∷ []) → OnOk r (AddsRef {A = A} None (told t) old new)
-AddsRef-whole A r old new t same pushed = on_ok_weaker r (λ put. record { specs = same; refs = ap (map told) put ∙ map-append told old.refs.items (t ∷ []) }) pushed
+pub AddsRef-whole : {T E : Type 0} (A : Type 0) (r : Result T E) (old new : Entries) (t : ToldRef) → new.specs ≡ old.specs → OnOk r (new.refs.items ≡ old.refs.items ++ t ∷ []) → OnOk r (AddsRef {A = A} None (told_ref t) old new)
+AddsRef-whole A r old new t same pushed = on_ok_weaker r (λ put. record { specs = same; refs = ap (map told_ref) put ∙ map-append told_ref old.refs.items (t ∷ []) }) pushed
 
 -- a name was put behind the entries
 pub AddsRef-name : {T E A : Type 0} (r : Result T E) (old new : Entries) (blank : A) (t : Ref) (i : Item) → named i ≡ bare t → new.specs ≡ old.specs → OnOk r (new.items.items ≡ old.items.items ++ i ∷ []) → OnOk r (AddsRef (Some blank) t old new)
@@ -46,7 +46,7 @@ no_refs None = refl
 no_refs (Some b) = refl
 
 kept_same : {A : Type 0} (blank : Option A) (old new : Entries) → new.refs ≡ old.refs → new.items ≡ old.items → kept_refs blank new ≡ kept_refs blank old
-kept_same None old new refs items = ap (λ v. map told v.items) refs
+kept_same None old new refs items = ap (λ v. map told_ref v.items) refs
 kept_same (Some b) old new refs items = ap (λ v. map named v.items) items
 
 -- a spec was put behind the entries
@@ -70,7 +70,7 @@ pub record Reaches {A : Type 0} (blank : Option A) (input : List ℕ) (made : En
   pub room : count + length rest ≤ length input
 
 kept_none : {A : Type 0} (blank : Option A) (made : Entries) → made.refs.items ≡ [] → made.items.items ≡ [] → kept_refs blank made ≡ seen blank []
-kept_none None made refs items = ap (map told) refs
+kept_none None made refs items = ap (map told_ref) refs
 kept_none (Some b) made refs items = ap (map named) items
 
 -- at the start the whole input is left

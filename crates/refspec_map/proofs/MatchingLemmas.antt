@@ -21,17 +21,17 @@ use Rattle.refspec_map.specs.declared.line.ToldRef.{ToldRef}
 use Rattle.refspec_map.specs.declared.line.Entries.{Entries}
 use Rattle.refspec_map.specs.Line.{refs_in}
 use Rattle.refspec_map.specs.Matching.{map_line, AreMapLines, IsMatching}
-use Rattle.refspec_map.specs.Told.{AsksForNoId, HasIdDestination, told, bare, named, AreEntries}
+use Rattle.refspec_map.specs.Told.{AsksForNoId, HasIdDestination, told_ref, bare, named, AreEntries}
 use Rattle.refspec_map.specs.Plan.{AreFixLines, IsPlan, PutsFixes, conflict_line}
 use Rattle.gix_refspec.specs.Matching.Hits.{AreKeptForward, AreKeptBackward}
 use Rattle.refspec_map.proofs.NameLemmas.{kept_by_name, kept_back_by_name}
 
 -- one item more
-pub items_more : (refs : List ToldRef) (k : ℕ) (t : ToldRef) (old new : List Item) (i : Item) → k < length refs → ref_of i ≡ told (get_or refs k t) → new ≡ old ++ i ∷ [] → map ref_of old ≡ map told (take k refs) → map ref_of new ≡ map told (take (k + 1) refs)
+pub items_more : (refs : List ToldRef) (k : ℕ) (t : ToldRef) (old new : List Item) (i : Item) → k < length refs → ref_of i ≡ told_ref (get_or refs k t) → new ≡ old ++ i ∷ [] → map ref_of old ≡ map told_ref (take k refs) → map ref_of new ≡ map told_ref (take (k + 1) refs)
 items_more refs k t old new i below is put so_far =
     let items : map ref_of new ≡ map ref_of old ++ ref_of i ∷ [] = ap (map ref_of) put ∙ map-append ref_of old (i ∷ []) in
-    let told_refs : map told (take (k + 1) refs) ≡ map told (take k refs) ++ told (get_or refs k t) ∷ [] = ap (map told) (take_more refs k t below) ∙ map-append told (take k refs) (get_or refs k t ∷ []) in
-    items ∙ (ap (λ l. l ++ ref_of i ∷ []) so_far ∙ (ap (λ r. map told (take k refs) ++ r ∷ []) is ∙ sym told_refs))
+    let told_refs : map told_ref (take (k + 1) refs) ≡ map told_ref (take k refs) ++ told_ref (get_or refs k t) ∷ [] = ap (map told_ref) (take_more refs k t below) ∙ map-append told_ref (take k refs) (get_or refs k t ∷ []) in
+    items ∙ (ap (λ l. l ++ ref_of i ∷ []) so_far ∙ (ap (λ r. map told_ref (take k refs) ++ r ∷ []) is ∙ sym told_refs))
 
 -- one line more
 pub lines_more : {X : Type 0} (line : X → List ℕ) (xs : List X) (k : ℕ) (x : X) (old new : List ℕ) → k < length xs → x ≡ get_or xs k x → new ≡ old ++ line x → old ≡ flat_map line (take k xs) → new ≡ flat_map line (take (k + 1) xs)
@@ -56,9 +56,9 @@ AreMapLines-of AreKept g items slice mappings lent output of_items of_mappings k
 }
 
 -- what is written for the specs and refs that were read is written for the input
-pub IsMatching-of : (A : Type 0) (Writes : List Reading → List Ref → List ℕ → Bool → Type 0) (input output : List ℕ) (refusal : Bool) (made : Entries) (items : List Item) (refs : List ToldRef) → AreEntries {A = A} None input made → refs ≡ made.refs.items → map ref_of items ≡ map told refs → Writes (map reading_of made.specs.items) (map ref_of items) output refusal → IsMatching Writes input output refusal
+pub IsMatching-of : (A : Type 0) (Writes : List Reading → List Ref → List ℕ → Bool → Type 0) (input output : List ℕ) (refusal : Bool) (made : Entries) (items : List Item) (refs : List ToldRef) → AreEntries {A = A} None input made → refs ≡ made.refs.items → map ref_of items ≡ map told_ref refs → Writes (map reading_of made.specs.items) (map ref_of items) output refusal → IsMatching Writes input output refusal
 IsMatching-of A Writes input output refusal made items refs are lent same is =
-    let all = same ∙ (ap (map told) lent ∙ are.refs) in
+    let all = same ∙ (ap (map told_ref) lent ∙ are.refs) in
     record {
       lines = are.lines;
       entries = are.entries;

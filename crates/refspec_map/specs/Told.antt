@@ -16,8 +16,8 @@ use Rattle.refspec_map.specs.Input.{AreLines}
 use Rattle.refspec_map.specs.Line.{spec, item, Says, Entry, Gives, readings_in, refs_in}
 
 -- the ref that a line told of
-abbrev pub told : ToldRef → Ref
-told r = record { name = bstr_bytes r.name; target = id_bytes r.target; object = option_map id_bytes r.object }
+abbrev pub told_ref : ToldRef → Ref
+told_ref r = record { name = bstr_bytes r.name; target = id_bytes r.target; object = option_map id_bytes r.object }
 
 -- the ref with its name alone
 abbrev pub bare : Ref → Ref
@@ -40,7 +40,7 @@ IsSeenAs (Some blank) r made = bare made ≡ bare r
 -- the line says this
 abbrev pub IsSaidAs : {A : Type 0} → Option A → List ℕ → Said → Type 0
 IsSaidAs blank line (said.Spec text) = Says line (spec (bstr_bytes text))
-IsSaidAs blank line (said.Ref t) = (r : Ref) × Says line (item r) × IsSeenAs blank r (told t)
+IsSaidAs blank line (said.Ref t) = (r : Ref) × Says line (item r) × IsSeenAs blank r (told_ref t)
 
 -- the destination of the spec is an id
 abbrev pub HasIdDestination : Reading → Type 0
@@ -57,7 +57,7 @@ seen (Some blank) refs = map bare refs
 
 -- the refs as they are kept
 abbrev pub kept_refs : {A : Type 0} → Option A → Entries → List Ref
-kept_refs None made = map told made.refs.items
+kept_refs None made = map told_ref made.refs.items
 kept_refs (Some blank) made = map named made.items.items
 
 -- a ref was appended to the old entries, as it is kept

@@ -14,7 +14,7 @@ ghost use Rattle.gix_refspec.specs.Views.Spec.{reading_of};
 ghost use Rattle.gix_refspec.specs.Views.Group.{ref_of};
 ghost use Rattle.refspec_map.specs.Fault.{IsMemory};
 ghost use Rattle.refspec_map.specs.Line.{space, IsFaultOf, IsFirstFault, IsIdThen, IsMalformed, IsRefLine, IsTagLine, Says, spec};
-ghost use Rattle.refspec_map.specs.Told.{IsReadAs, IsSaidAs, IsSeenAs, bare, named, told};
+ghost use Rattle.refspec_map.specs.Told.{IsReadAs, IsSaidAs, IsSeenAs, bare, named, told_ref};
 
 use crate::fault::Fault;
 use crate::input::first_line;
@@ -36,7 +36,7 @@ pub(crate) struct ToldRef<'a> {
 impl<'a> ToldRef<'a> {
     /// The ref as an item.
     pub(crate) fn as_item(&self) -> Item<'_>
-        ensures { ref_of result ≡ told self.now }
+        ensures { ref_of result ≡ told_ref self.now }
     {
         Item {
             full_ref_name: self.name,
@@ -50,7 +50,7 @@ impl<'a> ToldRef<'a> {
 
     // The ref as an item with only its name, and this id instead of its own.
     fn as_named(&self, blank: &'a ObjectId) -> Item<'a>
-        ensures { named result ≡ bare (told self.now) }
+        ensures { named result ≡ bare (told_ref self.now) }
     {
         Item {
             full_ref_name: self.name,
@@ -129,7 +129,7 @@ impl<'a> Entries<'a> {
 
     // Adds a ref.
     fn add_ref(&mut self, blank: Option<&'a ObjectId>, row: ToldRef<'a>) -> Result<(), Fault>
-        ensures ok { OnOk result (AddsRef blank.entry (told row.entry) self.old self.new) }
+        ensures ok { OnOk result (AddsRef blank.entry (told_ref row.entry) self.old self.new) }
         ensures err { IfErr result IsMemory }
     {
         match blank {
@@ -190,7 +190,7 @@ fn said_by<'a>(line: &'a [u8], blank: Option<&ObjectId>) -> Option<Said<'a>>
 fn ref_line<'a>(line: &'a [u8], blank: Option<&ObjectId>) -> Option<ToldRef<'a>>
     ensures { MatchOption result
         ((r : Ref) → ¬ (IsRefLine line.now r))
-        (λ t. (r : Ref) × IsRefLine line.now r × IsSeenAs blank.entry r (told t)) }
+        (λ t. (r : Ref) × IsRefLine line.now r × IsSeenAs blank.entry r (told_ref t)) }
 {
     let words = behind(line, b"ref ")?;
     let (target, name) = id_then(words, blank)?;
@@ -205,7 +205,7 @@ fn ref_line<'a>(line: &'a [u8], blank: Option<&ObjectId>) -> Option<ToldRef<'a>>
 fn tag_line<'a>(line: &'a [u8], blank: Option<&ObjectId>) -> Option<ToldRef<'a>>
     ensures { MatchOption result
         ((r : Ref) → ¬ (IsTagLine line.now r))
-        (λ t. (r : Ref) × IsTagLine line.now r × IsSeenAs blank.entry r (told t)) }
+        (λ t. (r : Ref) × IsTagLine line.now r × IsSeenAs blank.entry r (told_ref t)) }
 {
     let words = behind(line, b"tag ")?;
     let (target, rest) = id_then(words, blank)?;

@@ -9,7 +9,7 @@ ghost use Rattle.refspec_map.specs.Line.{IsFirstFault};
 ghost use Rattle.refspec_map.specs.Matching.{AreMapLines, IsMatching};
 ghost use Rattle.refspec_map.specs.Plan.{IsPlan};
 ghost use Rattle.refspec_map.specs.Run.{IsOutputOf};
-ghost use Rattle.refspec_map.specs.Told.{AsksForNoId, HasIdDestination, told};
+ghost use Rattle.refspec_map.specs.Told.{AsksForNoId, HasIdDestination, told_ref};
 
 use crate::command::Matching;
 use crate::fault::Fault;
@@ -131,7 +131,7 @@ fn planned(alloc: Global, input: &[u8]) -> Result<(Vec<u8>, bool), Fault>
 
 // The refs as items, in order.
 fn items_of<'a>(alloc: Global, refs: &'a [ToldRef<'_>]) -> Result<Vec<Item<'a>>, Fault>
-    ensures ok { IfOk result (λ items. map ref_of items.items ≡ map told refs.now) }
+    ensures ok { IfOk result (λ items. map ref_of items.items ≡ map told_ref refs.now) }
     ensures err { IfErr result IsMemory }
 {
     let Ok(mut items) = Vec::with_capacity(alloc, refs.len()) else {
