@@ -10,9 +10,12 @@ mod words;
 use crate::command::Command;
 use crate::fault::Fault;
 use crate::run::run;
+use bstr::BStr;
 use std::alloc::{AllocError, Global};
 use std::io;
 use std::io::{Read, Write};
+use std::process::Abort;
+use std::test::Fail;
 
 // Gives one byte a call and counts its calls. The call with the number of its fault fails so, and
 // those after it would give the rest.
@@ -105,6 +108,24 @@ fn answer(alloc: Global, command: Command, input: &[u8]) -> Result<(Vec<u8>, u8)
     let mut output = Vec::new(alloc);
     let status = run(alloc, command, &mut reader, &mut output)?;
     Ok((output, status))
+}
+
+// Runs a command over memory, compares its output and its status, and gives the output.
+fn check_answer<R: Abort + AllocGlobal>(
+    rt: &R,
+    command: Command,
+    input: &[u8],
+    wanted: (&str, u8),
+) -> Result<Vec<u8>, Fail> {
+    let (output, status) = answer(rt.alloc(), command, input)?;
+    let input = BStr::new(input);
+    assert_eq!(rt;
+        BStr::new(output.as_slice()),
+        BStr::new(wanted.0.as_bytes()),
+        "at {input:?}"
+    );
+    assert_eq!(rt; status, wanted.1, "at {input:?}");
+    Ok(output)
 }
 
 // How a run ended: its status, or the text of its fault.

@@ -117,38 +117,30 @@ fn takes_an_input_at_the_limit(rt: HostRuntime) -> Result<(), Fail> {
     Ok(())
 }
 
-#[test]
-fn refuses_an_input_past_the_limit(rt: HostRuntime) -> Result<(), Fail> {
-    let input = vec![in rt.alloc(); b'a'; INPUT_LIMIT + 1]?;
+// Looks whether what a reader gives is too long, and nothing is written.
+fn check_too_long<R: Abort + AllocGlobal>(rt: &R, reader: &mut impl Read) -> Result<(), Fail> {
+    let command = Command::Canon(Operation::Fetch);
     let mut writer = CallWriter {
         calls: Vec::new(rt.alloc()),
     };
-    let mut reader = input.as_slice();
-    let ended = run(
-        rt.alloc(),
-        Command::Canon(Operation::Fetch),
-        &mut reader,
-        &mut writer,
-    );
+    let ended = run(rt.alloc(), command, reader, &mut writer);
     assert_eq!(rt; end_of(rt.alloc(), ended)?.as_str(), "input too long");
     assert!(rt; writer.calls.is_empty(), "nothing is written");
+    Ok(())
+}
+
+#[test]
+fn refuses_an_input_past_the_limit(rt: HostRuntime) -> Result<(), Fail> {
+    let input = vec![in rt.alloc(); b'a'; INPUT_LIMIT + 1]?;
+    let mut reader = input.as_slice();
+    check_too_long(&rt, &mut reader)?;
 
     let mut reader = ByteReader {
         rest: input.as_slice(),
         calls: 0,
         fault: None,
     };
-    let ended = run(
-        rt.alloc(),
-        Command::Canon(Operation::Fetch),
-        &mut reader,
-        &mut writer,
-    );
-    assert_eq!(rt; end_of(rt.alloc(), ended)?.as_str(), "input too long");
-    assert!(rt;
-        writer.calls.is_empty(),
-        "nothing is written one byte a call"
-    );
+    check_too_long(&rt, &mut reader)?;
     assert_eq!(rt; reader.calls, 1_048_577);
     Ok(())
 }

@@ -1,9 +1,8 @@
 //! What the matching commands write, and the line that they end at.
 
-use super::{answer, end_of};
+use super::{check_answer, end_of};
 use crate::command::{Command, Matching};
 use crate::run::run;
-use bstr::BStr;
 use std::alloc::{AllocError, Global};
 use std::process::Abort;
 use std::test::Fail;
@@ -31,13 +30,7 @@ pub(super) fn check_output<R: Abort + AllocGlobal>(
 ) -> Result<(), Fail> {
     for (row, wanted) in rows {
         let input = filled(rt.alloc(), row)?;
-        let (output, status) = answer(rt.alloc(), command, input.as_slice())?;
-        assert_eq!(rt;
-            BStr::new(output.as_slice()),
-            BStr::new(wanted.as_bytes()),
-            "at {row:?}"
-        );
-        assert_eq!(rt; status, wanted_status, "at {row:?}");
+        check_answer(rt, command, input.as_slice(), (wanted, wanted_status))?;
     }
     Ok(())
 }
