@@ -34,17 +34,19 @@ fn item<'a>(name: &'a str, target: &'a ObjectId) -> Item<'a> {
 
 // `source:destination` for each mapping, or `source` without a destination, one a line.
 fn lines(alloc: Global, mappings: &[Mapping<'_, '_>]) -> Result<String, AllocError> {
-    let mut told = String::new(alloc);
+    let mut text = String::new(alloc);
     for mapping in mappings {
         let source = &mapping.lhs;
-        told.push_str(format!(in alloc; "{source}")?.as_str())?;
-        if let Some(name) = &mapping.rhs {
-            let name = name.as_bstr();
-            told.push_str(format!(in alloc; ":{name}")?.as_str())?;
-        }
-        told.push_str("\n")?;
+        let line = match &mapping.rhs {
+            None => format!(in alloc; "{source}\n")?,
+            Some(name) => {
+                let destination = name.as_bstr();
+                format!(in alloc; "{source}:{destination}\n")?
+            }
+        };
+        text.push_str(line.as_str())?;
     }
-    Ok(told)
+    Ok(text)
 }
 
 // What a plan writes, and how many mappings it leaves out; or how many conflicts there are.
