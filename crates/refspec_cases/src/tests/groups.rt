@@ -1,8 +1,9 @@
 //! Groups, mappings, and which of these are kept.
 
 use super::check_equal;
+use super::mapping::item_of;
 use bstr::{BStr, BString};
-use gix_refspec::match_group::{Item, Mapping, NameRef, NoRoom, Source, SourceRef};
+use gix_refspec::match_group::{Mapping, NameRef, NoRoom, Source, SourceRef};
 use gix_refspec::oid::ObjectId;
 use gix_refspec::parsing::Operation;
 use gix_refspec::{MatchGroup, parse};
@@ -92,11 +93,7 @@ fn tells_pairs_of_one_hash_apart(rt: HostRuntime) -> Result<(), Fail> {
     let id = ObjectId::from_hex(b"e69de29bb2d1d6434b8b29ae775ad8c2e48c5391")?;
     let mut items = Vec::new(alloc);
     for pair in [second, first, second, first, second] {
-        items.push(Item {
-            full_ref_name: BStr::new(pair.0),
-            target: &id,
-            object: None,
-        })?;
+        items.push(item_of(pair.0, &id))?;
     }
     let text = BStr::new(b"refs/heads/*:refs/remotes/origin/*");
     let group = MatchGroup::from_fetch_specs(alloc, [parse(alloc, text, Operation::Fetch)?])?;
@@ -140,6 +137,22 @@ fn compares_mappings_by_their_pairs(rt: HostRuntime) -> Result<(), Fail> {
     Ok(())
 }
 
+// The texts of the rows, two at a time, and whether the two are in one row.
+fn pairs_of<'a>(
+    alloc: Global,
+    rows: &[[&'a str; 2]],
+) -> Result<Vec<(&'a str, &'a str, bool)>, AllocError> {
+    let mut pairs = Vec::new(alloc);
+    for (i, row) in rows.iter().enumerate() {
+        for (j, other) in rows.iter().enumerate() {
+            for (a, b) in [(row[0], other[0]), (row[0], other[1]), (row[1], other[1])] {
+                pairs.push((a, b, i == j))?;
+            }
+        }
+    }
+    Ok(pairs)
+}
+
 #[test]
 fn compares_names_by_their_bytes(rt: HostRuntime) -> Result<(), Fail> {
     // The names of a row are equal, and those of different rows are not.
@@ -154,12 +167,8 @@ fn compares_names_by_their_bytes(rt: HostRuntime) -> Result<(), Fail> {
         ["refs/heads/é", "=refs/heads/é"],
     ];
     let alloc = rt.alloc();
-    for (i, row) in rows.iter().enumerate() {
-        for (j, other) in rows.iter().enumerate() {
-            for (a, b) in [(row[0], other[0]), (row[0], other[1]), (row[1], other[1])] {
-                check_equal(&rt, &name_of(alloc, a)?, &name_of(alloc, b)?, i == j);
-            }
-        }
+    for (a, b, same) in pairs_of(alloc, &rows)? {
+        check_equal(&rt, &name_of(alloc, a)?, &name_of(alloc, b)?, same);
     }
     Ok(())
 }
@@ -193,12 +202,8 @@ fn compares_sources_by_names_and_ids(rt: HostRuntime) -> Result<(), Fail> {
         ],
     ];
     let alloc = rt.alloc();
-    for (i, row) in rows.iter().enumerate() {
-        for (j, other) in rows.iter().enumerate() {
-            for (a, b) in [(row[0], other[0]), (row[0], other[1]), (row[1], other[1])] {
-                check_equal(&rt, &source_in(alloc, a)?, &source_in(alloc, b)?, i == j);
-            }
-        }
+    for (a, b, same) in pairs_of(alloc, &rows)? {
+        check_equal(&rt, &source_in(alloc, a)?, &source_in(alloc, b)?, same);
     }
     Ok(())
 }

@@ -1,8 +1,8 @@
 //! Names, groups and outcomes that no tool makes, and how long what a call answers lives.
 
-use super::mapping::{TARGET, group_of, items_of, lines};
+use super::mapping::{TARGET, group_of, item_of, items_of, lines, mapped};
 use bstr::BStr;
-use gix_refspec::match_group::{Item, Mapping, NameRef, Outcome, match_lhs, match_rhs};
+use gix_refspec::match_group::{Mapping, NameRef, Outcome, match_lhs};
 use gix_refspec::oid::ObjectId;
 use gix_refspec::parsing::Operation;
 use gix_refspec::{MatchGroup, parse};
@@ -34,16 +34,11 @@ fn maps_names_of_any_bytes(rt: HostRuntime) -> Result<(), Fail> {
         ("*:refs/x/*", "", "0 0  =refs/x/\n"),
     ];
     for (specs, names, wanted) in rows {
-        let items = items_of(alloc, names, &target)?;
-        let outcome = group_of(alloc, Operation::Fetch, specs)?.match_lhs(alloc, items.as_slice())?;
+        let outcome = mapped(alloc, specs, names, &target)?;
         let found = lines(alloc, outcome.mappings.as_slice())?;
         assert_eq!(rt; found.as_str(), wanted, "{specs} over {names}");
     }
-    let items = [Item {
-        full_ref_name: BStr::new(b"refs/heads/\xff\x00"),
-        target: &target,
-        object: None,
-    }];
+    let items = [item_of(b"refs/heads/\xff\x00", &target)];
     let group = group_of(alloc, Operation::Fetch, "refs/heads/*:refs/x/*")?;
     let outcome = group.match_lhs(alloc, &items)?;
     let mapping = outcome.mappings.first().ok_or("no mapping")?;
@@ -83,28 +78,6 @@ fn maps_groups_made_by_hand(rt: HostRuntime) -> Result<(), Fail> {
     Ok(())
 }
 
-// The outcome over a list of items that ends here. What it borrows lives on: the specs and the names.
-fn fetched<'s, 'i>(
-    alloc: Global,
-    specs: &'s str,
-    names: &'i str,
-    target: &'i ObjectId,
-) -> Result<match_lhs::Outcome<'s, 'i>, Fail> {
-    let items = items_of(alloc, names, target)?;
-    Ok(group_of(alloc, Operation::Fetch, specs)?.match_lhs(alloc, items.as_slice())?)
-}
-
-// The same, from right to left.
-fn tracked<'s, 'i>(
-    alloc: Global,
-    specs: &'s str,
-    names: &'i str,
-    target: &'i ObjectId,
-) -> Result<match_rhs::Outcome<'s, 'i>, Fail> {
-    let items = items_of(alloc, names, target)?;
-    Ok(group_of(alloc, Operation::Fetch, specs)?.match_rhs(alloc, items.as_slice())?)
-}
-
 // A clone of an outcome that ends here, and so of its mappings and names.
 fn cloned<'s, 'l, 'r, const FORWARD: bool>(
     alloc: Global,
@@ -131,13 +104,17 @@ fn answers_outlive_lists_and_what_they_are_clones_of(rt: HostRuntime) -> Result<
     let alloc = rt.alloc();
     let target = ObjectId::from_hex(TARGET.as_bytes())?;
     let specs = "refs/heads/*:refs/x/* refs/heads/a:refs/y/a";
-    let there = cloned(alloc, fetched(alloc, specs, "refs/heads/a", &target)?)?;
+    let there = cloned(alloc, mapped(alloc, specs, "refs/heads/a", &target)?)?;
     let found = lines(alloc, there.mappings.as_slice())?;
     assert_eq!(rt;
         found.as_str(),
         "0 0 refs/heads/a =refs/x/a\n0 1 refs/heads/a refs/y/a\n"
     );
-    let back = cloned(alloc, tracked(alloc, specs, "refs/x/a refs/y/a", &target)?)?;
+    let back = {
+        let items = items_of(alloc, "refs/x/a refs/y/a", &target)?;
+        group_of(alloc, Operation::Fetch, specs)?.match_rhs(alloc, items.as_slice())?
+    };
+    let back = cloned(alloc, back)?;
     let found = lines(alloc, back.mappings.as_slice())?;
     assert_eq!(rt;
         found.as_str(),

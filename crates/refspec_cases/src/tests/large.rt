@@ -1,6 +1,6 @@
 //! Thousands of names at once, for which `tests/large` gives little time and memory.
 
-use super::mapping::TARGET;
+use super::mapping::{TARGET, item_of};
 use bstr::BStr;
 use gix_refspec::match_group::{Item, Mapping};
 use gix_refspec::oid::ObjectId;
@@ -27,11 +27,7 @@ fn items_of<'a>(
 ) -> Result<Vec<Item<'a>>, AllocError> {
     let mut items = Vec::with_capacity(alloc, names.len())?;
     for name in names {
-        items.push(Item {
-            full_ref_name: BStr::new(name.as_bytes()),
-            target,
-            object: None,
-        })?;
+        items.push(item_of(name.as_bytes(), target))?;
     }
     Ok(items)
 }
@@ -84,13 +80,12 @@ fn maps_many_full_names(rt: HostRuntime) -> Result<(), Fail> {
 fn maps_many_refs(rt: HostRuntime) -> Result<(), Fail> {
     let alloc = rt.alloc();
     let target = ObjectId::from_hex(TARGET.as_bytes())?;
-    let count = 50_000;
-    let names = numbered(alloc, "refs/heads/", count)?;
+    let names = numbered(alloc, "refs/heads/", 50_000)?;
     let remote = items_of(alloc, names.as_slice(), &target)?;
     let text = BStr::new(b"refs/heads/*:refs/x/*");
     let group = MatchGroup::from_fetch_specs(alloc, [parse(alloc, text, Operation::Fetch)?])?;
     let outcome = group.match_lhs(alloc, remote.as_slice())?;
-    assert_eq!(rt; outcome.mappings.len(), count);
+    assert_eq!(rt; outcome.mappings.len(), 50_000);
     for (place, mapping) in outcome.mappings.iter().enumerate() {
         assert_eq!(rt; mapping.item_index, Some(place));
         assert_eq!(rt; mapping.spec_index, 0);

@@ -1,7 +1,7 @@
 //! What groups match.
 
 use bstr::BStr;
-use gix_refspec::match_group::{Item, Mapping, NameRef, Outcome, SourceRef};
+use gix_refspec::match_group::{Item, Mapping, NameRef, Outcome, SourceRef, match_lhs};
 use gix_refspec::oid::ObjectId;
 use gix_refspec::parsing::Operation;
 use gix_refspec::{MatchGroup, parse};
@@ -36,6 +36,15 @@ pub(super) fn group_of<'a>(
     Ok(group)
 }
 
+// The item of a name.
+pub(super) fn item_of<'a>(name: &'a [u8], target: &'a ObjectId) -> Item<'a> {
+    Item {
+        full_ref_name: BStr::new(name),
+        target,
+        object: None,
+    }
+}
+
 // Items with these names, one a word.
 pub(super) fn items_of<'a>(
     alloc: Global,
@@ -44,11 +53,7 @@ pub(super) fn items_of<'a>(
 ) -> Result<Vec<Item<'a>>, AllocError> {
     let mut items = Vec::new(alloc);
     for name in names.split(' ') {
-        items.push(Item {
-            full_ref_name: BStr::new(name.as_bytes()),
-            target,
-            object: None,
-        })?;
+        items.push(item_of(name.as_bytes(), target))?;
     }
     Ok(items)
 }
@@ -88,21 +93,46 @@ pub(super) fn lines(alloc: Global, mappings: &[Mapping<'_, '_>]) -> Result<Strin
     Ok(text)
 }
 
+// What fetches map over a list of items that ends here, from left to right. It borrows the specs and the
+// names.
+pub(super) fn mapped<'s, 'i>(
+    alloc: Global,
+    specs: &'s str,
+    names: &'i str,
+    target: &'i ObjectId,
+) -> Result<match_lhs::Outcome<'s, 'i>, Fail> {
+    let items = items_of(alloc, names, target)?;
+    Ok(group_of(alloc, Operation::Fetch, specs)?.match_lhs(alloc, items.as_slice())?)
+}
+
+// Whether fetches map items from left to right as is written beside them.
+fn check_forward(rt: &(impl Abort + AllocGlobal), rows: &[(&str, &str, &str)]) -> Result<(), Fail> {
+    check(rt, Direction::Forward, Operation::Fetch, rows)
+}
+
+// Likewise from right to left.
+fn check_backward(
+    rt: &(impl Abort + AllocGlobal),
+    rows: &[(&str, &str, &str)],
+) -> Result<(), Fail> {
+    check(rt, Direction::Backward, Operation::Fetch, rows)
+}
+
 // Whether specs map items as is written beside them, and a copy of the outcome says the same.
 fn check(
-    rt: &impl Abort,
-    alloc: Global,
+    rt: &(impl Abort + AllocGlobal),
     direction: Direction,
     operation: Operation,
     rows: &[(&str, &str, &str)],
 ) -> Result<(), Fail> {
+    let alloc = rt.alloc();
     let target = ObjectId::from_hex(TARGET.as_bytes())?;
     for (specs, names, wanted) in rows {
         let items = items_of(alloc, names, &target)?;
         let group = group_of(alloc, operation, specs)?;
         let (found, copied) = match direction {
-            Direction::Forward => told(alloc, &group.match_lhs(alloc, items.as_slice())?)?,
-            Direction::Backward => told(alloc, &group.match_rhs(alloc, items.as_slice())?)?,
+            Direction::Forward => with_copy(alloc, &group.match_lhs(alloc, items.as_slice())?)?,
+            Direction::Backward => with_copy(alloc, &group.match_rhs(alloc, items.as_slice())?)?,
         };
         assert_eq!(rt; found.as_str(), *wanted, "{specs} over {names}");
         assert_eq!(rt; copied.as_str(), *wanted, "{specs} over {names}, copied");
@@ -111,7 +141,7 @@ fn check(
 }
 
 // The mappings of an outcome, and of a copy of it, as rows write them.
-fn told<const FORWARD: bool>(
+fn with_copy<const FORWARD: bool>(
     alloc: Global,
     outcome: &Outcome<'_, '_, '_, FORWARD>,
 ) -> Result<(String, String), AllocError> {
@@ -177,7 +207,7 @@ fn maps_from_left_to_right(rt: HostRuntime) -> Result<(), Fail> {
             "1 1 refs/heads/HEAD refs/y\n",
         ),
     ];
-    check(&rt, rt.alloc(), Direction::Forward, Operation::Fetch, &rows)
+    check_forward(&rt, &rows)
 }
 
 #[test]
@@ -197,7 +227,7 @@ fn keeps_each_pair_once(rt: HostRuntime) -> Result<(), Fail> {
              1 0 refs/heads/4b2c557329ca4bff =refs/x/4b2c557329ca4bff\n",
         ),
     ];
-    check(&rt, rt.alloc(), Direction::Forward, Operation::Fetch, &rows)
+    check_forward(&rt, &rows)
 }
 
 // Specs, names of which some repeat, and what is mapped from left to right.
@@ -252,10 +282,8 @@ const REPEATED_BACK: [(&str, &str, &str); 2] = [
 
 #[test]
 fn maps_repeated_names_once(rt: HostRuntime) -> Result<(), Fail> {
-    let alloc = rt.alloc();
-    let operation = Operation::Fetch;
-    check(&rt, alloc, Direction::Forward, operation, &REPEATED)?;
-    check(&rt, alloc, Direction::Backward, operation, &REPEATED_BACK)
+    check_forward(&rt, &REPEATED)?;
+    check_backward(&rt, &REPEATED_BACK)
 }
 
 // Of specs with the same sides the first one maps, forced or not. Of the others each maps what it did.
@@ -281,10 +309,8 @@ const EQUAL_BACK: [(&str, &str, &str); 1] = [(
 
 #[test]
 fn maps_equal_specs_once(rt: HostRuntime) -> Result<(), Fail> {
-    let alloc = rt.alloc();
-    let operation = Operation::Fetch;
-    check(&rt, alloc, Direction::Forward, operation, &EQUAL)?;
-    check(&rt, alloc, Direction::Backward, operation, &EQUAL_BACK)
+    check_forward(&rt, &EQUAL)?;
+    check_backward(&rt, &EQUAL_BACK)
 }
 
 // Two items of one name, of which the second one points to the id that is asked for.
@@ -299,11 +325,7 @@ fn takes_the_item_that_points_to_an_id(rt: HostRuntime) -> Result<(), Fail> {
         "main:1111111111111111111111111111111111111111",
     )?;
     let mut items = items_of(alloc, "refs/a refs/a", &other)?;
-    items.push(Item {
-        full_ref_name: BStr::new(b"refs/a"),
-        target: &target,
-        object: None,
-    })?;
+    items.push(item_of(b"refs/a", &target))?;
     let outcome = group.match_rhs(alloc, items.as_slice())?;
     let found = lines(alloc, outcome.mappings.as_slice())?;
     assert_eq!(&rt; found.as_str(), "2 0 =refs/heads/main refs/a\n");
@@ -324,13 +346,7 @@ fn looks_full_and_partial_names_up(rt: HostRuntime) -> Result<(), Fail> {
             "2 0 refs/heads/b refs/x/b\n0 1 refs/heads/a refs/x/a\n3 3 main refs/y\n2 4 refs/heads/b -\n",
         ),
     ];
-    check(
-        &rt,
-        rt.alloc(),
-        Direction::Forward,
-        Operation::Fetch,
-        &forward,
-    )?;
+    check_forward(&rt, &forward)?;
     let backward = [
         (
             "refs/heads/main:refs/q",
@@ -358,13 +374,7 @@ fn looks_full_and_partial_names_up(rt: HostRuntime) -> Result<(), Fail> {
              1 1 refs/b refs/heads/x\n2 1 refs/b refs/remotes/x/HEAD\n",
         ),
     ];
-    check(
-        &rt,
-        rt.alloc(),
-        Direction::Backward,
-        Operation::Fetch,
-        &backward,
-    )
+    check_backward(&rt, &backward)
 }
 
 // Specs whose source is partial, names of items, and what is mapped from left to right.
@@ -472,13 +482,7 @@ fn looks_patterns_up(rt: HostRuntime) -> Result<(), Fail> {
          2 8 refs/tags/a =refs/x8/a\n\
          7 9 refs/heads/b =refs/x9/\n",
     )];
-    check(
-        &rt,
-        rt.alloc(),
-        Direction::Forward,
-        Operation::Fetch,
-        &forward,
-    )?;
+    check_forward(&rt, &forward)?;
     let backward = [(
         "refs/x0/*:refs/h/a* refs/x1/*:refs/h/ab* refs/x2/*:refs/h/a/* refs/x3/*:refs/h/b* refs/x4/*:refs/h/c* \
          refs/x5/*:refs/t/* refs/x6/*:refs/h/d* refs/x7/*:refs/h/e*a",
@@ -486,24 +490,12 @@ fn looks_patterns_up(rt: HostRuntime) -> Result<(), Fail> {
         "0 0 =refs/x0/b refs/h/ab\n2 0 =refs/x0//b refs/h/a/b\n4 0 =refs/x0/ refs/h/a\n\
          0 1 =refs/x1/ refs/h/ab\n2 2 =refs/x2/b refs/h/a/b\n1 5 =refs/x5/a refs/t/a\n3 7 =refs/x7/ refs/h/ea\n",
     )];
-    check(
-        &rt,
-        rt.alloc(),
-        Direction::Backward,
-        Operation::Fetch,
-        &backward,
-    )
+    check_backward(&rt, &backward)
 }
 
 #[test]
 fn takes_the_first_candidate(rt: HostRuntime) -> Result<(), Fail> {
-    check(
-        &rt,
-        rt.alloc(),
-        Direction::Forward,
-        Operation::Fetch,
-        &FIRST,
-    )
+    check_forward(&rt, &FIRST)
 }
 
 #[test]
@@ -522,7 +514,7 @@ fn maps_pushes_without_a_destination(rt: HostRuntime) -> Result<(), Fail> {
             "1 2 refs/heads/a -\n",
         ),
     ];
-    check(&rt, rt.alloc(), Direction::Forward, Operation::Push, &rows)
+    check(&rt, Direction::Forward, Operation::Push, &rows)
 }
 
 #[test]
@@ -551,7 +543,7 @@ fn fills_destinations(rt: HostRuntime) -> Result<(), Fail> {
         ("refs/q*:refs/x/b*", "refs/q", "0 0 refs/q =refs/x/b\n"),
         ("*:*", "HEAD", "0 0 HEAD =HEAD\n"),
     ];
-    check(&rt, rt.alloc(), Direction::Forward, Operation::Fetch, &rows)
+    check_forward(&rt, &rows)
 }
 
 #[test]
@@ -593,13 +585,7 @@ fn maps_from_right_to_left(rt: HostRuntime) -> Result<(), Fail> {
             "0 0 =refs/heads/ab refs/x/cd\n3 0 =refs/heads/axdb refs/x/cxdd\n",
         ),
     ];
-    check(
-        &rt,
-        rt.alloc(),
-        Direction::Backward,
-        Operation::Fetch,
-        &rows,
-    )
+    check_backward(&rt, &rows)
 }
 
 #[test]
@@ -623,13 +609,7 @@ fn maps_ids_from_right_to_left(rt: HostRuntime) -> Result<(), Fail> {
             "0 0 =refs/heads/main refs/a\n1 0 =refs/heads/main refs/b\n",
         ),
     ];
-    check(
-        &rt,
-        rt.alloc(),
-        Direction::Backward,
-        Operation::Fetch,
-        &rows,
-    )
+    check_backward(&rt, &rows)
 }
 
 #[test]
@@ -640,7 +620,7 @@ fn maps_pushes_from_right_to_left(rt: HostRuntime) -> Result<(), Fail> {
         "refs/heads/x refs/heads/a",
         "0 4 =refs/heads/x refs/heads/x\n",
     )];
-    check(&rt, rt.alloc(), Direction::Backward, Operation::Push, &rows)
+    check(&rt, Direction::Backward, Operation::Push, &rows)
 }
 
 #[test]

@@ -1,9 +1,8 @@
 //! Pairs of one hash, which the calls tell apart by hashing them by another seed.
 
 use super::super::groups::COLLIDING;
-use super::super::mapping::{TARGET, group_of, items_of};
+use super::super::mapping::{TARGET, group_of, item_of, items_of};
 use super::{mark, marked, say_answered, say_refused};
-use bstr::BStr;
 use gix_refspec::match_group::validate::Refusal;
 use gix_refspec::match_group::{Item, match_lhs};
 use gix_refspec::oid::ObjectId;
@@ -22,11 +21,7 @@ fn items_with<'a>(
     let mut items = items_of(alloc, names, target)?;
     let [first, second] = COLLIDING;
     for (name, _) in [first, second, first, second] {
-        items.push(Item {
-            full_ref_name: BStr::new(name),
-            target,
-            object: None,
-        })?;
+        items.push(item_of(name, target))?;
     }
     Ok(items)
 }
