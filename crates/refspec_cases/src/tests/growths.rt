@@ -32,14 +32,28 @@ macro_rules! marked {
 
 use marked;
 
+// Says whether a call answered, and gives what it answered.
+fn answer_of<T: Drop, E: Drop>(rt: &impl Print, answered: Result<T, E>) -> Result<Option<T>, Fail> {
+    match answered {
+        Ok(answer) => {
+            say_answered(rt)?;
+            Ok(Some(answer))
+        }
+        Err(_) => {
+            say_refused(rt)?;
+            Ok(None)
+        }
+    }
+}
+
 // Says that a call answered as it does with ample memory.
-fn say_answered(rt: &HostRuntime) -> Result<(), Fail> {
+fn say_answered(rt: &impl Print) -> Result<(), Fail> {
     println!(rt; "answered")?;
     Ok(())
 }
 
 // Says that memory ran out for a call.
-fn say_refused(rt: &HostRuntime) -> Result<(), Fail> {
+fn say_refused(rt: &impl Print) -> Result<(), Fail> {
     println!(rt; "refused")?;
     Ok(())
 }

@@ -1,12 +1,12 @@
 //! Matching in both directions, clones of outcomes, and validation.
 
-use super::super::mapping::{TARGET, group_of, items_of, lines};
-use super::{mark, marked, say_answered, say_refused};
+use super::super::mapping::{TARGET, group_of, items_of, lines, mapped};
+use super::{answer_of, mark, marked, say_answered, say_refused};
 use gix_refspec::match_group::match_lhs;
 use gix_refspec::match_group::validate::Refusal;
 use gix_refspec::oid::ObjectId;
 use gix_refspec::parsing::Operation;
-use std::alloc::Global;
+use std::process::Abort;
 use std::test::Fail;
 
 // Patterns, full and partial names and an id on both sides, repeats, and negative names and patterns.
@@ -29,51 +29,41 @@ const TRACKED: &str = "0 0 =refs/heads/a refs/x/a\n1 1 refs/heads/a refs/y/a\n\
     6 3 =refs/heads/v refs/tags/w\n9 4 =refs/heads/1111111111111111111111111111111111111111 refs/i\n\
     7 6 refs/q refs/heads/u\n";
 
+// Has the specs match items of these names by a call, from left to right or back. The group is the same
+// after it, and if memory ran out it matches the same items at the next call.
+macro_rules! check_matching {
+    ($rt:expr, $call:ident, $names:expr, $wanted:expr) => {{
+        let alloc = $rt.alloc();
+        let target = ObjectId::from_hex(TARGET.as_bytes())?;
+        let items = items_of(alloc, $names, &target)?;
+        let given = group_of(alloc, Operation::Fetch, SPECS)?;
+        let group = given.clone(alloc)?;
+        match marked!(alloc, group.$call(alloc, items.as_slice())) {
+            Ok(outcome) => {
+                let found = lines(alloc, outcome.mappings.as_slice())?;
+                assert_eq!($rt; found.as_str(), $wanted);
+                assert!($rt; outcome.group.specs.as_slice() == given.specs.as_slice());
+                say_answered($rt)
+            }
+            Err(refused) => {
+                assert!($rt; refused.group.specs.as_slice() == given.specs.as_slice());
+                let again = refused.group.$call(alloc, items.as_slice())?;
+                let found = lines(alloc, again.mappings.as_slice())?;
+                assert_eq!($rt; found.as_str(), $wanted);
+                say_refused($rt)
+            }
+        }
+    }};
+}
+
 #[test]
 fn maps_from_left_to_right(rt: HostRuntime) -> Result<(), Fail> {
-    let alloc = rt.alloc();
-    let target = ObjectId::from_hex(TARGET.as_bytes())?;
-    let items = items_of(alloc, LEFT, &target)?;
-    let given = group_of(alloc, Operation::Fetch, SPECS)?;
-    let group = given.clone(alloc)?;
-    match marked!(alloc, group.match_lhs(alloc, items.as_slice())) {
-        Ok(outcome) => {
-            assert_eq!(&rt; lines(alloc, outcome.mappings.as_slice())?.as_str(), MAPPED);
-            assert!(&rt; outcome.group.specs.as_slice() == given.specs.as_slice());
-            say_answered(&rt)
-        }
-        Err(refused) => {
-            assert!(&rt; refused.group.specs.as_slice() == given.specs.as_slice());
-            let again = refused.group.match_lhs(alloc, items.as_slice())?;
-            assert_eq!(&rt; lines(alloc, again.mappings.as_slice())?.as_str(), MAPPED);
-            say_refused(&rt)
-        }
-    }
+    check_matching!(&rt, match_lhs, LEFT, MAPPED)
 }
 
 #[test]
 fn maps_from_right_to_left(rt: HostRuntime) -> Result<(), Fail> {
-    let alloc = rt.alloc();
-    let target = ObjectId::from_hex(TARGET.as_bytes())?;
-    let items = items_of(alloc, RIGHT, &target)?;
-    let given = group_of(alloc, Operation::Fetch, SPECS)?;
-    let group = given.clone(alloc)?;
-    match marked!(alloc, group.match_rhs(alloc, items.as_slice())) {
-        Ok(outcome) => {
-            assert_eq!(&rt;
-                lines(alloc, outcome.mappings.as_slice())?.as_str(),
-                TRACKED
-            );
-            assert!(&rt; outcome.group.specs.as_slice() == given.specs.as_slice());
-            say_answered(&rt)
-        }
-        Err(refused) => {
-            assert!(&rt; refused.group.specs.as_slice() == given.specs.as_slice());
-            let again = refused.group.match_rhs(alloc, items.as_slice())?;
-            assert_eq!(&rt; lines(alloc, again.mappings.as_slice())?.as_str(), TRACKED);
-            say_refused(&rt)
-        }
-    }
+    check_matching!(&rt, match_rhs, RIGHT, TRACKED)
 }
 
 #[test]
@@ -95,26 +85,25 @@ fn maps_nothing(rt: HostRuntime) -> Result<(), Fail> {
 fn clones_outcomes(rt: HostRuntime) -> Result<(), Fail> {
     let alloc = rt.alloc();
     let target = ObjectId::from_hex(TARGET.as_bytes())?;
-    let items = items_of(alloc, LEFT, &target)?;
-    let outcome = group_of(alloc, Operation::Fetch, SPECS)?.match_lhs(alloc, items.as_slice())?;
-    match marked!(alloc, outcome.clone(alloc)) {
-        Ok(copy) => {
-            assert_eq!(&rt; lines(alloc, copy.mappings.as_slice())?.as_str(), MAPPED);
-            say_answered(&rt)
-        }
-        Err(_) => say_refused(&rt),
+    let outcome = mapped(alloc, SPECS, LEFT, &target)?;
+    if let Some(copy) = answer_of(&rt, marked!(alloc, outcome.clone(alloc)))? {
+        assert_eq!(&rt; lines(alloc, copy.mappings.as_slice())?.as_str(), MAPPED);
     }
+    Ok(())
 }
 
-// What the specs map over names, from left to right.
-fn mapped<'a>(
-    alloc: Global,
-    specs: &'a str,
-    names: &'a str,
-    target: &'a ObjectId,
-) -> Result<match_lhs::Outcome<'a, 'a>, Fail> {
-    let items = items_of(alloc, names, target)?;
-    Ok(group_of(alloc, Operation::Fetch, specs)?.match_lhs(alloc, items.as_slice())?)
+// Says that memory ran out for a call, which left an outcome as it was: of so many specs, and with these
+// mappings.
+fn say_left(
+    rt: &(impl Abort + AllocGlobal + Print),
+    outcome: &match_lhs::Outcome<'_, '_>,
+    specs: usize,
+    mappings: &str,
+) -> Result<(), Fail> {
+    assert_eq!(rt; outcome.group.specs.len(), specs);
+    let found = lines(rt.alloc(), outcome.mappings.as_slice())?;
+    assert_eq!(rt; found.as_str(), mappings);
+    say_refused(rt)
 }
 
 #[test]
@@ -132,12 +121,7 @@ fn validates_and_fixes(rt: HostRuntime) -> Result<(), Fail> {
             assert_eq!(&rt; fixes.len(), 2);
             say_answered(&rt)
         }
-        Err(Refusal::Memory(outcome)) => {
-            assert!(&rt; outcome.group.specs.len() == 2);
-            let after = lines(alloc, outcome.mappings.as_slice())?;
-            assert_eq!(&rt; after.as_str(), before.as_str());
-            say_refused(&rt)
-        }
+        Err(Refusal::Memory(outcome)) => say_left(&rt, &outcome, 2, before.as_str()),
         Err(refusal) => Err(refusal.into()),
     }
 }
@@ -156,12 +140,7 @@ fn leaves_bad_names_out(rt: HostRuntime) -> Result<(), Fail> {
             assert_eq!(&rt; bad.len(), 2);
             say_answered(&rt)
         }
-        Err(refused) => {
-            assert!(&rt; refused.outcome.group.specs.len() == 1);
-            let after = lines(alloc, refused.outcome.mappings.as_slice())?;
-            assert_eq!(&rt; after.as_str(), before.as_str());
-            say_refused(&rt)
-        }
+        Err(refused) => say_left(&rt, &refused.outcome, 1, before.as_str()),
     }
 }
 
@@ -178,12 +157,7 @@ fn validates_and_reports(rt: HostRuntime) -> Result<(), Fail> {
             assert_eq!(&rt; error.issues.len(), 1);
             say_answered(&rt)
         }
-        Err(Refusal::Memory(outcome)) => {
-            assert!(&rt; outcome.group.specs.len() == 2);
-            let after = lines(alloc, outcome.mappings.as_slice())?;
-            assert_eq!(&rt; after.as_str(), before.as_str());
-            say_refused(&rt)
-        }
+        Err(Refusal::Memory(outcome)) => say_left(&rt, &outcome, 2, before.as_str()),
         Ok(_) => Err("no conflict".into()),
     }
 }

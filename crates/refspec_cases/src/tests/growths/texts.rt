@@ -1,11 +1,12 @@
 //! Texts that are read, printed and expanded.
 
-use super::{mark, marked, say_answered, say_refused};
+use super::{answer_of, mark, marked, say_answered, say_refused};
 use bstr::{BStr, BString};
 use gix_refspec::name::{PatternError, has_one_star, pattern_partial};
 use gix_refspec::parsing::{Error, Operation};
 use gix_refspec::{MatchGroup, RefSpecRef, parse};
 use std::alloc::Global;
+use std::process::Abort;
 use std::test::Fail;
 
 // A pattern of so many bytes, of which the last is the star.
@@ -71,6 +72,18 @@ fn checks_long_patterns(rt: HostRuntime) -> Result<(), Fail> {
     }
 }
 
+// Says whether a text was printed, which is this.
+fn check_text<E: Drop>(
+    rt: &(impl Abort + Print),
+    printed: Result<BString, E>,
+    wanted: &[u8],
+) -> Result<(), Fail> {
+    if let Some(text) = answer_of(rt, printed)? {
+        assert_eq!(rt; text.as_bytes(), wanted);
+    }
+    Ok(())
+}
+
 #[test]
 fn prints_specs(rt: HostRuntime) -> Result<(), Fail> {
     let alloc = rt.alloc();
@@ -79,26 +92,16 @@ fn prints_specs(rt: HostRuntime) -> Result<(), Fail> {
         BStr::new(b"+refs/heads/*:refs/x/*"),
         Operation::Fetch,
     )?;
-    match marked!(alloc, spec.to_bstring(alloc)) {
-        Ok(text) => {
-            assert_eq!(&rt; text.as_bytes(), b"+refs/heads/*:refs/x/*".as_slice());
-            say_answered(&rt)
-        }
-        Err(_) => say_refused(&rt),
-    }
+    let printed = marked!(alloc, spec.to_bstring(alloc));
+    check_text(&rt, printed, b"+refs/heads/*:refs/x/*")
 }
 
 #[test]
 fn prints_instructions(rt: HostRuntime) -> Result<(), Fail> {
     let alloc = rt.alloc();
     let spec = parse(alloc, BStr::new(b"+main"), Operation::Push)?;
-    match marked!(alloc, spec.instruction().to_bstring(alloc)) {
-        Ok(text) => {
-            assert_eq!(&rt; text.as_bytes(), b"+main:main".as_slice());
-            say_answered(&rt)
-        }
-        Err(_) => say_refused(&rt),
-    }
+    let printed = marked!(alloc, spec.instruction().to_bstring(alloc));
+    check_text(&rt, printed, b"+main:main")
 }
 
 #[test]
