@@ -8,5 +8,6 @@ pub mod PrefixLemmas
 pub mod RowLemmas
 pub mod TrackLemmas
 pub mod RefLemmas
+pub mod ConflictLemmas
 pub mod PlanLemmas
 pub mod OutputLemmas

@@ -1,6 +1,7 @@
 -- What is told of a plan.
 use Rattle.std.proofs.Common.{◌≡◌, ℕ, List, [], ◌∙◌, sym, subst}
-use Rattle.gix_refspec.specs.Views.Issue.{ForwardOutcome, mappings_of}
+use Rattle.gix_refspec.specs.Views.Issue.{ForwardOutcome, conflicts_of, mappings_of}
+use Rattle.gix_refspec.specs.Matching.Validation.{Conflict}
 use Rattle.gix_refspec.specs.Matching.Mappings.{Mapped}
 use Rattle.gix_refspec.specs.Matching.Match.{Ref}
 use Rattle.gix_refspec.specs.Specs.Reading.{Reading}
@@ -11,6 +12,7 @@ use Rattle.refspec.specs.declared.call.Form.TheVariants as form
 use Rattle.refspec.specs.declared.mappings.Columns.TheVariants as columns
 use Rattle.refspec.specs.declared.plan.Written.{Written}
 use Rattle.refspec.specs.declared.plan.Written.TheVariants as written
+use Rattle.refspec.specs.Conflicts.{AddsConflicts}
 use Rattle.refspec.specs.Input.{AreRecords}
 use Rattle.refspec.specs.Plan.{AddsPlan, AddsWritten, IsPlan}
 use Rattle.refspec.specs.Refs.{AddsRefs}
@@ -19,37 +21,39 @@ use Rattle.refspec.specs.Shown.{KeepsResults}
 use Rattle.refspec.proofs.ShownLemmas.{KeepsResults-next}
 
 -- mappings are written
-pub AddsWritten-mappings : (f : Form) (texts : List (List ℕ)) (made : Written) (outcome : ForwardOutcome) (ms : List Mapped) (old new : List ℕ) → made ≡ written.Mappings outcome → ms ≡ mappings_of outcome → AddsMappings f columns.SourceFirst texts ms old new → AddsWritten f texts made old new
-AddsWritten-mappings f texts made outcome ms old new is same told =
-    subst (λ (w : Written). AddsWritten f texts w old new) (sym is) (subst (λ (l : List Mapped). AddsMappings f columns.SourceFirst texts l old new) same told)
+pub AddsWritten-mappings : (f : Form) (texts : List (List ℕ)) (made : Written) (outcome : ForwardOutcome) (ms : List Mapped) (before messages old new : List ℕ) → made ≡ written.Mappings outcome → ms ≡ mappings_of outcome → AddsMappings f columns.SourceFirst texts ms old new → AddsWritten f texts made before messages old new
+AddsWritten-mappings f texts made outcome ms before messages old new is same told =
+    subst (λ (w : Written). AddsWritten f texts w before messages old new) (sym is) (subst (λ (l : List Mapped). AddsMappings f columns.SourceFirst texts l old new) same told)
 
 -- nothing is
-pub AddsWritten-nothing : (f : Form) (texts : List (List ℕ)) (made : Written) (error : Error) (old new : List ℕ) → made ≡ written.Nothing error → KeepsResults f old new → AddsWritten f texts made old new
-AddsWritten-nothing f texts made error old new is kept = subst (λ (w : Written). AddsWritten f texts w old new) (sym is) kept
+pub AddsWritten-nothing : (f : Form) (texts : List (List ℕ)) (made : Written) (error : Error) (cs : List Conflict) (before messages old new : List ℕ) → made ≡ written.Nothing error → cs ≡ conflicts_of error → KeepsResults f old new → AddsConflicts f cs before messages → AddsWritten f texts made before messages old new
+AddsWritten-nothing f texts made error cs before messages old new is same kept told =
+    subst (λ (w : Written). AddsWritten f texts w before messages old new) (sym is) (kept, subst (λ (l : List Conflict). AddsConflicts f l before messages) same told)
 
 -- results that stayed as they were, and then what is written
-AddsWritten-after : (f : Form) (texts : List (List ℕ)) (made : Written) (old mid new : List ℕ) → KeepsResults f old mid → AddsWritten f texts made mid new → AddsWritten f texts made old new
-AddsWritten-after form.Lines texts made old mid new kept told = subst (λ (x : List ℕ). AddsWritten form.Lines texts made x new) kept told
-AddsWritten-after form.Zeros texts made old mid new kept told = subst (λ (x : List ℕ). AddsWritten form.Zeros texts made x new) kept told
-AddsWritten-after form.Json texts (written.Mappings outcome) old mid new kept told = tt
-AddsWritten-after form.Json texts (written.Nothing error) old mid new kept told = tt
+AddsWritten-after : (f : Form) (texts : List (List ℕ)) (made : Written) (before messages old mid new : List ℕ) → KeepsResults f old mid → AddsWritten f texts made before messages mid new → AddsWritten f texts made before messages old new
+AddsWritten-after form.Lines texts made before messages old mid new kept told = subst (λ (x : List ℕ). AddsWritten form.Lines texts made before messages x new) kept told
+AddsWritten-after form.Zeros texts made before messages old mid new kept told = subst (λ (x : List ℕ). AddsWritten form.Zeros texts made before messages x new) kept told
+AddsWritten-after form.Json texts (written.Mappings outcome) before messages old mid new kept told = tt
+AddsWritten-after form.Json texts (written.Nothing error) before messages old mid new kept told = (tt, tt)
 
 -- the plan of the refs in the records, told behind two lists of messages
-pub AddsPlan-of : (f one two : Form) (end e : ℕ) (input : List ℕ) (g : List Reading) (records lent : List (List ℕ)) (items told : List Ref) (texts shown : List (List ℕ)) (made : Written) (out : List LeftOut) (old first second new : List ℕ)
+pub AddsPlan-of : (f one two : Form) (end e : ℕ) (input : List ℕ) (g : List Reading) (records lent : List (List ℕ)) (items told : List Ref) (texts shown : List (List ℕ)) (made : Written) (out : List LeftOut) (before messages old first second new : List ℕ)
     → AreRecords e records input → e ≡ end → lent ≡ records → AddsRefs lent [] told → items ≡ told → AreSpecTexts g texts → IsPlan g items made out
-    → one ≡ f → KeepsResults f old first → two ≡ one → KeepsResults one first second → shown ≡ texts → AddsWritten two shown made second new → AddsPlan f end input g old new
-AddsPlan-of f one two end e input g records lent items told texts shown made out old first second new cut same_end same_records refs same_refs of_specs plan same_one before same_two between same_texts after =
-    let kept = KeepsResults-next f one old first second same_one before between in
-    let tells = subst (λ (x : Form). AddsWritten x texts made second new) (same_two ∙ same_one) (subst (λ (l : List (List ℕ)). AddsWritten two l made second new) same_texts after) in
+    → one ≡ f → KeepsResults f old first → two ≡ one → KeepsResults one first second → shown ≡ texts → AddsWritten two shown made before messages second new → AddsPlan f end input messages g old new
+AddsPlan-of f one two end e input g records lent items told texts shown made out before messages old first second new cut same_end same_records refs same_refs of_specs plan same_one kept_first same_two kept_second same_texts after =
+    let kept = KeepsResults-next f one old first second same_one kept_first kept_second in
+    let tells = subst (λ (x : Form). AddsWritten x texts made before messages second new) (same_two ∙ same_one) (subst (λ (l : List (List ℕ)). AddsWritten two l made before messages second new) same_texts after) in
     record {
       records = records;
       items = items;
       texts = texts;
       made = made;
       out = out;
+      before = before;
       cut = subst (λ (x : ℕ). AreRecords x records input) same_end cut;
       refs = subst (λ (rs : List Ref). AddsRefs records [] rs) (sym same_refs) (subst (λ (ls : List (List ℕ)). AddsRefs ls [] told) same_records refs);
       of_specs = of_specs;
       plan = plan;
-      told = AddsWritten-after f texts made old second new kept tells;
+      told = AddsWritten-after f texts made before messages old second new kept tells;
     }

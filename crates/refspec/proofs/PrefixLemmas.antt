@@ -1,5 +1,5 @@
 -- What to ask a server for, one after another.
-use Rattle.std.proofs.Common.{◌≡◌, ℕ, List, ◌++◌, codes, sym, ap, ◌∙◌, subst}
+use Rattle.std.proofs.Common.{◌≡◌, ℕ, List, ◌∙◌, subst}
 use Rattle.refspec.specs.declared.call.Form.{Form}
 use Rattle.refspec.specs.declared.call.Form.TheVariants as form
 use Rattle.refspec.specs.Prefixes.{AddsAll}

@@ -11,6 +11,11 @@ pub on_ok : {T E : Type 0} (r : Result T E) (P Q : Type 0) → OnOk r P → (P �
 on_ok (Ok x) P Q holds gives = gives holds
 on_ok (Err e) P Q holds gives = holds
 
+-- and by what follows from two
+pub both_ok : {T E : Type 0} (r : Result T E) (P Q R : Type 0) → OnOk r P → OnOk r Q → (P → Q → R) → OnOk r R
+both_ok (Ok x) P Q R one other gives = gives one other
+both_ok (Err e) P Q R one other gives = one
+
 -- bytes behind others
 pub behind : (old inner mid more new : List ℕ) → mid ≡ old ++ inner → new ≡ mid ++ more → new ≡ old ++ (inner ++ more)
 behind old inner mid more new before put = put ∙ (ap (λ l. l ++ more) before ∙ append_assoc old inner more)

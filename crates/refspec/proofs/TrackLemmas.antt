@@ -1,5 +1,5 @@
 -- Refs of which the name alone is given, and what is told of them.
-use Rattle.std.proofs.Common.{◌≡◌, ℕ, List, None, map, replicate, sym, ap, ◌∙◌, subst}
+use Rattle.std.proofs.Common.{◌≡◌, ℕ, List, None, map, replicate, ap, ◌∙◌, subst}
 use Rattle.gix_refspec.specs.Matching.Hits.{AreKeptBackward}
 use Rattle.gix_refspec.specs.Matching.Mappings.{Mapped}
 use Rattle.gix_refspec.specs.Matching.Match.{Ref}

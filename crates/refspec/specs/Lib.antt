@@ -1,4 +1,5 @@
 pub mod Canon
+pub mod Conflicts
 pub mod Fault
 pub mod Input
 pub mod Output

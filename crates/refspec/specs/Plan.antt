@@ -11,6 +11,7 @@ use Rattle.refspec.specs.declared.call.Form.{Form}
 use Rattle.refspec.specs.declared.mappings.Columns.TheVariants as columns
 use Rattle.refspec.specs.declared.plan.Written.{Written}
 use Rattle.refspec.specs.declared.plan.Written.TheVariants as written
+use Rattle.refspec.specs.Conflicts.{AddsConflicts}
 use Rattle.refspec.specs.Input.{AreRecords}
 use Rattle.refspec.specs.Refs.{AddsRefs}
 use Rattle.refspec.specs.Rows.{AddsMappings, AreSpecTexts}
@@ -31,20 +32,23 @@ pub record IsPlan (g : List Reading) (items : List Ref) (made : Written) (out : 
   pub parted : KeepsNamed kept named out
   pub writes : Writes g named made
 
--- the results grew by the mappings that are written, the source first; where there are conflicts, they stayed as they were
-abbrev pub AddsWritten : Form → List (List ℕ) → Written → List ℕ → List ℕ → Type 0
-AddsWritten form texts (written.Mappings outcome) old new = AddsMappings form columns.SourceFirst texts (mappings_of outcome) old new
-AddsWritten form texts (written.Nothing error) old new = KeepsResults form old new
+-- the results grew by the mappings that are written, the source first; where there are conflicts, they stayed as they were,
+-- and the messages, which were before, grew by what is told of these
+abbrev pub AddsWritten : Form → List (List ℕ) → Written → List ℕ → List ℕ → List ℕ → List ℕ → Type 0
+AddsWritten form texts (written.Mappings outcome) before messages old new = AddsMappings form columns.SourceFirst texts (mappings_of outcome) old new
+AddsWritten form texts (written.Nothing error) before messages old new = KeepsResults form old new × AddsConflicts form (conflicts_of error) before messages
 
--- the results grew by what a fetch writes of the refs in the records of an input
-pub record AddsPlan (form : Form) (end : ℕ) (input : List ℕ) (g : List Reading) (old new : List ℕ) : Type 0 where
+-- the results grew by what a fetch writes of the refs in the records of an input; where that is nothing, the messages end
+-- by what is told of the conflicts
+pub record AddsPlan (form : Form) (end : ℕ) (input messages : List ℕ) (g : List Reading) (old new : List ℕ) : Type 0 where
   pub records : List (List ℕ)
   pub items : List Ref
   pub texts : List (List ℕ)
   pub made : Written
   pub out : List LeftOut
+  pub before : List ℕ
   pub cut : AreRecords end records input
   pub refs : AddsRefs records [] items
   pub of_specs : AreSpecTexts g texts
   pub plan : IsPlan g items made out
-  pub told : AddsWritten form texts made old new
+  pub told : AddsWritten form texts made before messages old new

@@ -1,5 +1,5 @@
 -- How mappings are written, in lines and ended by zero bytes. This project's own rule. Of JSON nothing is said here.
-use Rattle.std.specs.Prelude.{◌≡◌, ℕ, List, [], ◌∷◌, ◌++◌, Option, None, Some, map, unwrap_or, replicate, codes, ⊤}
+use Rattle.std.specs.Prelude.{◌≡◌, ℕ, List, [], ◌∷◌, ◌++◌, Some, map, unwrap_or, replicate, codes, ⊤}
 use Rattle.std.specs.List.{AllZip, flat_map, slice_get}
 use Rattle.gix_refspec.specs.Matching.Mappings.{Start, name, id, Mapped}
 use Rattle.gix_refspec.specs.Specs.Meaning.{printed}

@@ -206,7 +206,9 @@ fn put_id(out: &mut Vec<u8>, id: &ObjectId) -> Result<(), AllocError>
 pub fn source_of<'a>(
     source: &'a SourceRef<'_>,
     buffer: &'a mut Vec<u8>,
-) -> Result<&'a [u8], AllocError> {
+) -> Result<&'a [u8], AllocError>
+    ensures { IfOk result (λ bytes. bytes.now ≡ source_text (start_of source.now)) }
+{
     match source {
         SourceRef::FullName(name) => Ok(name.as_bstr().as_bytes()),
         SourceRef::ObjectId(id) => {

@@ -1,7 +1,7 @@
 //! What a run writes: its results and its messages.
 
 ghost use Rattle.std.specs.Prelude.{◌≡◌, ◌∷◌, [], OnOk};
-ghost use Rattle.refspec.specs.Shown.{AddsNames, KeepsResults};
+ghost use Rattle.refspec.specs.Shown.{AddsNames, Grows, KeepsResults};
 
 use crate::blame::{advice_for, blame_of};
 use crate::call::Form;
@@ -105,7 +105,9 @@ fn put_refusal(
 }
 
 /// Puts a line of advice at the end, where there is some.
-pub fn put_advice(out: &mut Vec<u8>, advice: &str) -> Result<(), AllocError> {
+pub fn put_advice(out: &mut Vec<u8>, advice: &str) -> Result<(), AllocError>
+    ensures { OnOk result (Grows out.old.items out.new.items) }
+{
     if advice.is_empty() {
         return Ok(());
     }

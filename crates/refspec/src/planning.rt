@@ -1,8 +1,11 @@
 //! How a plan is shown: its mappings as results, and conflicts and what is left out as messages.
 
-ghost use Rattle.std.specs.Prelude.{◌≡◌, map, OnOk};
+ghost use Rattle.std.specs.Prelude.{◌≡◌, ◌∷◌, [], map, OnOk};
 ghost use Rattle.bstr.specs.Owned.{bstring_bytes};
+ghost use Rattle.gix_refspec.specs.Views.Group.{start_of};
+ghost use Rattle.gix_refspec.specs.Views.Issue.{conflict_of};
 ghost use Rattle.gix_refspec.specs.Views.Spec.{reading_of};
+ghost use Rattle.refspec.specs.Conflicts.{AddsConflicts, PutsClaim, PutsClaims, PutsConflict};
 ghost use Rattle.refspec.specs.Input.{end_byte};
 ghost use Rattle.refspec.specs.Plan.{AddsPlan, AddsWritten};
 ghost use Rattle.refspec.specs.Shown.{KeepsResults};
@@ -17,6 +20,7 @@ use crate::quote::put_quoted;
 use crate::refs::{BadRecord, Told, items_of};
 use crate::texts::Place;
 use bstr::{BString, ByteSlice};
+use gix_refspec::match_group::SourceRef;
 use gix_refspec::match_group::names::{BadMapping, BadSide};
 use gix_refspec::match_group::validate::Issue;
 use gix_refspec::{RefSpecRef, name};
@@ -32,7 +36,8 @@ pub fn tell_plan(
     page: &mut Page,
 ) -> Result<(), AllocError>
     ensures { OnOk result (AddsPlan page.old.form (end_byte call.now.ends) input.now
-        (map reading_of specs.entry.items) page.old.results.items page.new.results.items) }
+        page.new.messages.items (map reading_of specs.entry.items)
+        page.old.results.items page.new.results.items) }
 {
     let records = records(alloc, input, end_of(call.ends))?;
     let told = Told::read(alloc, records.as_slice())?;
@@ -52,6 +57,7 @@ fn tell_written(
     page: &mut Page,
 ) -> Result<(), AllocError>
     ensures { OnOk result (AddsWritten page.old.form (map bstring_bytes texts.now) written.now
+        page.old.messages.items page.new.messages.items
         page.old.results.items page.new.results.items) }
 {
     match written {
@@ -102,8 +108,10 @@ fn tell_all_left_out(
 
 // Tells of conflicts.
 fn tell_conflicts(alloc: Global, issues: &[Issue], page: &mut Page) -> Result<(), AllocError>
-    ensures { OnOk result (KeepsResults page.old.form
+    ensures kept { OnOk result (KeepsResults page.old.form
         page.old.results.items page.new.results.items) }
+    ensures told { OnOk result (AddsConflicts page.old.form (map conflict_of issues.now)
+        page.old.messages.items page.new.messages.items) }
 {
     for issue in issues {
         tell_conflict(alloc, issue, page)?;
@@ -311,6 +319,8 @@ fn tell_conflict(alloc: Global, issue: &Issue, page: &mut Page) -> Result<(), Al
     ensures form { OnOk result (page.new.form ≡ page.old.form) }
     ensures kept { OnOk result (KeepsResults page.old.form
         page.old.results.items page.new.results.items) }
+    ensures told { OnOk result (AddsConflicts page.old.form (conflict_of issue.now ∷ [])
+        page.old.messages.items page.new.messages.items) }
 {
     page.refused = true;
     match page.form {
@@ -344,25 +354,49 @@ fn put_conflict_object(alloc: Global, issue: &Issue, out: &mut Vec<u8>) -> Resul
 }
 
 // Puts the lines of a conflict at the end.
-fn put_conflict(alloc: Global, issue: &Issue, out: &mut Vec<u8>) -> Result<(), AllocError> {
+fn put_conflict(alloc: Global, issue: &Issue, out: &mut Vec<u8>) -> Result<(), AllocError>
+    ensures { OnOk result (PutsConflict (conflict_of issue.now) out.old.items out.new.items) }
+{
     let Issue::Conflict {
         destination_full_ref_name,
         sources,
         specs,
     } = issue;
-    let mut buffer = Vec::new(alloc);
     out.extend_from_slice(b"conflict: ")?;
     put_quoted(out, destination_full_ref_name.as_bytes())?;
     out.extend_from_slice(b" would be written from several refs, so nothing is fetched:\n")?;
-    for (source, spec) in sources.iter().zip(specs) {
-        out.extend_from_slice(b"    ")?;
-        put_quoted(out, source_of(source, &mut buffer)?)?;
-        out.extend_from_slice(b" by ")?;
-        put_quoted(out, spec.as_bytes())?;
-        out.push(b'\n')?;
-    }
+    put_claims(alloc, sources.as_slice(), specs.as_slice(), out)?;
     put_advice(
         out,
         "Give one of these specs another destination, or leave a source out by a spec such as `^refs/heads/x`.",
     )
+}
+
+// Puts a line for each source at the end, with the text of the spec at its place.
+fn put_claims(
+    alloc: Global,
+    sources: &[SourceRef<'_>],
+    texts: &[BString],
+    out: &mut Vec<u8>,
+) -> Result<(), AllocError>
+    ensures { OnOk result (PutsClaims (map start_of sources.now) (map bstring_bytes texts.now)
+        out.old.items out.new.items) }
+{
+    let mut buffer = Vec::new(alloc);
+    for (place, source) in sources.iter().enumerate() {
+        put_claim(source_of(source, &mut buffer)?, text_at(texts, place), out)?;
+    }
+    Ok(())
+}
+
+// Puts the line of a source at the end, with the text of its spec.
+fn put_claim(source: &[u8], text: &[u8], out: &mut Vec<u8>) -> Result<(), AllocError>
+    ensures { OnOk result (PutsClaim source.now text.now out.old.items out.new.items) }
+{
+    out.extend_from_slice(b"    ")?;
+    put_quoted(out, source)?;
+    out.extend_from_slice(b" by ")?;
+    put_quoted(out, text)?;
+    out.push(b'\n')?;
+    Ok(())
 }

@@ -39,7 +39,8 @@ pub fn run<R: Read, W: Write, E: Write>(
 
     ensures answers { IfOk result (λ _. Answers call.now beside.now
         (R.remaining reader.old) (R.remaining reader.new)
-        (W.contents output.old) (W.contents output.new)) }
+        (W.contents output.old) (W.contents output.new)
+        (E.contents errors.old) (E.contents errors.new)) }
 
     // Nothing was written before a fault, but where a writer failed.
     ensures unwritten { IfErr result (Leaves (W.contents output.old) (W.contents output.new)) }
@@ -68,7 +69,8 @@ fn input_of<R: Read>(alloc: Global, call: &Call<'_>, reader: &mut R) -> Result<V
 
 // What a call makes of its input.
 fn page_of(alloc: Global, call: &Call<'_>, beside: &[u8], input: &[u8]) -> Result<Page, AllocError>
-    ensures { IfOk result (λ page. IsOutput call.now beside.now input.now page.results.items) }
+    ensures { IfOk result (λ page. IsOutput call.now beside.now input.now
+        page.messages.items page.results.items) }
 {
     let mut page = Page::new(alloc, call.form);
     let texts = texts_of(alloc, call, beside, input)?;
@@ -85,8 +87,8 @@ fn tell_page(
     input: &[u8],
     page: &mut Page,
 ) -> Result<(), AllocError>
-    ensures { OnOk result (Tells call.now.command call.now input.now page.old.form all.now
-        page.old.results.items page.new.results.items) }
+    ensures { OnOk result (Tells call.now.command call.now input.now page.old.form
+        page.new.messages.items all.now page.old.results.items page.new.results.items) }
 {
     match call.command {
         Command::Canon => tell_canon(alloc, all, page),
@@ -106,7 +108,8 @@ fn tell_if_good(
     page: &mut Page,
 ) -> Result<(), AllocError>
     ensures { OnOk result (AddsIfGood
-        (AddsFound call.now.command call.now input.now page.old.form) page.old.form all.now
+        (AddsFound call.now.command call.now input.now page.old.form page.new.messages.items)
+        page.old.form all.now
         page.old.results.items page.new.results.items) }
 {
     match all_good(alloc, all)? {
@@ -124,7 +127,7 @@ fn tell_found(
     page: &mut Page,
 ) -> Result<(), AllocError>
     ensures { OnOk result (AddsFound call.now.command call.now input.now page.old.form
-        (map reading_of specs.entry.items) page.old.results.items page.new.results.items) }
+        page.new.messages.items (map reading_of specs.entry.items) page.old.results.items page.new.results.items) }
 {
     match call.command {
         Command::Plan => tell_plan(alloc, call, specs, input, page),

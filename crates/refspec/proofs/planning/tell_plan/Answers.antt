@@ -17,4 +17,4 @@ returns c =
     let lent = ap (map (λ (r : Bor (List ℕ)). r.now)) c.as_slice.ensures.value in
     let items = ap (map ref_of) c.as_slice-5.ensures.value ∙ (c.in_ok-items.ensures ∙ ap (map ref_told) c.as_slice-3.ensures.value) in
     let of_specs = subst (λ (l : List RefSpecRef). AreSpecTexts (map reading_of l) (map bstring_bytes c.in_ok-texts.texts.items)) c.as_slice-4.ensures.value c.in_ok-texts.ensures in
-    on_ok c.tell_written.result _ _ c.tell_written.ensures (AddsPlan-of c.args.page.now.form c.tell_bad_records.new.page.form c.tell_all_left_out.new.page.form (end_byte c.args.call.now.ends) c.end_of.result c.args.input.now (map reading_of c.args.specs.items) (map (λ (r : Bor (List ℕ)). r.now) c.in_ok-records.records.items) (map (λ (r : Bor (List ℕ)). r.now) c.as_slice.result.now) (map ref_of c.as_slice-5.result.now) (map ref_told c.in_ok-told.told.refs.items) (map bstring_bytes c.in_ok-texts.texts.items) (map bstring_bytes c.as_slice-8.result.now) c.in_ok-plan.plan.written (map left_out_of c.in_ok-plan.plan.left_out.items) c.args.page.now.results.items c.tell_bad_records.new.page.results.items c.tell_all_left_out.new.page.results.items c.tell_written.new.page.results.items c.in_ok-records.ensures c.end_of.ensures lent c.in_ok-told.ensures items of_specs c.in_ok-plan.ensures c.in_ok-tell_bad_records.ensures.form c.in_ok-tell_bad_records.ensures.kept c.in_ok-tell_all_left_out.ensures.form c.in_ok-tell_all_left_out.ensures.kept (ap (map bstring_bytes) c.as_slice-8.ensures.value))
+    on_ok c.tell_written.result _ _ c.tell_written.ensures (AddsPlan-of c.args.page.now.form c.tell_bad_records.new.page.form c.tell_all_left_out.new.page.form (end_byte c.args.call.now.ends) c.end_of.result c.args.input.now (map reading_of c.args.specs.items) (map (λ (r : Bor (List ℕ)). r.now) c.in_ok-records.records.items) (map (λ (r : Bor (List ℕ)). r.now) c.as_slice.result.now) (map ref_of c.as_slice-5.result.now) (map ref_told c.in_ok-told.told.refs.items) (map bstring_bytes c.in_ok-texts.texts.items) (map bstring_bytes c.as_slice-8.result.now) c.in_ok-plan.plan.written (map left_out_of c.in_ok-plan.plan.left_out.items) c.tell_all_left_out.new.page.messages.items c.tell_written.new.page.messages.items c.args.page.now.results.items c.tell_bad_records.new.page.results.items c.tell_all_left_out.new.page.results.items c.tell_written.new.page.results.items c.in_ok-records.ensures c.end_of.ensures lent c.in_ok-told.ensures items of_specs c.in_ok-plan.ensures c.in_ok-tell_bad_records.ensures.form c.in_ok-tell_bad_records.ensures.kept c.in_ok-tell_all_left_out.ensures.form c.in_ok-tell_all_left_out.ensures.kept (ap (map bstring_bytes) c.as_slice-8.ensures.value))
