@@ -4,7 +4,8 @@ use Rattle.std.proofs.lemmas.List.{append-nil, map-append, take_more}
 use Rattle.std.proofs.lemmas.Grind.{flat_map-append}
 use Rattle.refspec.specs.declared.call.Form.{Form}
 use Rattle.refspec.specs.declared.call.Form.TheVariants as form
-use Rattle.refspec.specs.Shown.{AddsNames, AreLines, KeepsResults, zero_ended}
+use Rattle.refspec.specs.declared.page.Page.{Page}
+use Rattle.refspec.specs.Shown.{AddsNames, AreLines, KeepsPage, KeepsResults, zero_ended}
 
 -- what holds of a success holds by what follows from it
 pub on_ok : {T E : Type 0} (r : Result T E) (P Q : Type 0) → OnOk r P → (P → Q) → OnOk r Q
@@ -59,6 +60,13 @@ pub KeepsResults-next : (f g : Form) (old mid new : List ℕ) → g ≡ f → Ke
 KeepsResults-next form.Lines g old mid new same a b = subst (λ (x : Form). KeepsResults x mid new) same b ∙ a
 KeepsResults-next form.Zeros g old mid new same a b = subst (λ (x : Form). KeepsResults x mid new) same b ∙ a
 KeepsResults-next form.Json g old mid new same a b = tt
+
+-- pages that keep their results
+pub KeepsPage-same : (p : Page) → KeepsPage p p
+KeepsPage-same p = record { form = refl; kept = KeepsResults-same p.form p.results.items }
+
+pub KeepsPage-next : (p q r : Page) → KeepsPage p q → KeepsPage q r → KeepsPage p r
+KeepsPage-next p q r a b = record { form = b.form ∙ a.form; kept = KeepsResults-next p.form q.form p.results.items q.results.items r.results.items a.form a.kept b.kept }
 
 -- one name more
 pub AddsNames-next : {X : Type 0} (f g : Form) (before : List ℕ) (shown : X → List ℕ) (xs : List X) (i : ℕ) (d : X) (name old mid new : List ℕ) → i < length xs → g ≡ f → name ≡ shown (get_or xs i d) → AddsNames f before (map shown (take i xs)) old mid → AddsNames g before (name ∷ []) mid new → AddsNames f before (map shown (take (i + 1) xs)) old new

@@ -3,6 +3,7 @@ use Rattle.std.specs.Prelude.{◌≡◌, ◌⊎◌, ℕ, List, [], ◌∷◌, �
 use Rattle.std.specs.List.{flat_map}
 use Rattle.refspec.specs.declared.call.Form.{Form}
 use Rattle.refspec.specs.declared.call.Form.TheVariants as form
+use Rattle.refspec.specs.declared.page.Page.{Page}
 
 -- what people see of a name: the name as it is, or something between double quotes
 abbrev pub IsQuoted : List ℕ → List ℕ → Type 0
@@ -28,6 +29,11 @@ AddsNames form.Json before names old new = ⊤
 abbrev pub KeepsResults : Form → List ℕ → List ℕ → Type 0
 KeepsResults form.Json old new = ⊤
 KeepsResults _ old new = new ≡ old
+
+-- so did those of the page, and its form
+pub record KeepsPage (old new : Page) : Type 0 where
+  pub form : new.form ≡ old.form
+  pub kept : KeepsResults old.form old.results.items new.results.items
 
 -- what people see of the name was put behind the old bytes
 abbrev pub PutsQuoted : List ℕ → List ℕ → List ℕ → Type 0

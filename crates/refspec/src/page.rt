@@ -1,7 +1,7 @@
 //! What a run writes: its results and its messages.
 
 ghost use Rattle.std.specs.Prelude.{◌≡◌, ◌∷◌, [], OnOk};
-ghost use Rattle.refspec.specs.Shown.{AddsNames, Grows, KeepsResults};
+ghost use Rattle.refspec.specs.Shown.{AddsNames, Grows, KeepsPage};
 
 use crate::blame::{advice_for, blame_of};
 use crate::call::Form;
@@ -45,9 +45,7 @@ impl Page {
         text: &Text<'_>,
         error: &Error,
     ) -> Result<(), AllocError>
-        ensures form { OnOk result (self.new.form ≡ self.old.form) }
-        ensures kept { OnOk result (KeepsResults self.old.form
-            self.old.results.items self.new.results.items) }
+        ensures { OnOk result (KeepsPage self.old self.new) }
     {
         self.refused = true;
         match self.form {

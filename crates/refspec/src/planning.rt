@@ -8,7 +8,7 @@ ghost use Rattle.gix_refspec.specs.Views.Spec.{reading_of};
 ghost use Rattle.refspec.specs.Conflicts.{AddsConflicts, PutsClaim, PutsClaims, PutsConflict};
 ghost use Rattle.refspec.specs.Input.{end_byte};
 ghost use Rattle.refspec.specs.Plan.{AddsPlan, AddsWritten};
-ghost use Rattle.refspec.specs.Shown.{KeepsResults};
+ghost use Rattle.refspec.specs.Shown.{KeepsPage, KeepsResults};
 
 use crate::call::{Call, Form};
 use crate::input::{end_of, records};
@@ -79,9 +79,7 @@ fn tell_bad_records(
     bad: &[BadRecord<'_>],
     page: &mut Page,
 ) -> Result<(), AllocError>
-    ensures form { OnOk result (page.new.form ≡ page.old.form) }
-    ensures kept { OnOk result (KeepsResults page.old.form
-        page.old.results.items page.new.results.items) }
+    ensures { OnOk result (KeepsPage page.old page.new) }
 {
     for record in bad {
         tell_bad_record(alloc, input, record, page)?;
@@ -96,9 +94,7 @@ fn tell_all_left_out(
     texts: &[BString],
     page: &mut Page,
 ) -> Result<(), AllocError>
-    ensures form { OnOk result (page.new.form ≡ page.old.form) }
-    ensures kept { OnOk result (KeepsResults page.old.form
-        page.old.results.items page.new.results.items) }
+    ensures { OnOk result (KeepsPage page.old page.new) }
 {
     for bad in left_out {
         tell_left_out(alloc, bad, texts, page)?;
@@ -134,9 +130,7 @@ fn tell_bad_record(
     bad: &BadRecord<'_>,
     page: &mut Page,
 ) -> Result<(), AllocError>
-    ensures form { OnOk result (page.new.form ≡ page.old.form) }
-    ensures kept { OnOk result (KeepsResults page.old.form
-        page.old.results.items page.new.results.items) }
+    ensures { OnOk result (KeepsPage page.old page.new) }
 {
     page.refused = true;
     let place = Place::Record {
@@ -216,9 +210,7 @@ fn tell_left_out(
     texts: &[BString],
     page: &mut Page,
 ) -> Result<(), AllocError>
-    ensures form { OnOk result (page.new.form ≡ page.old.form) }
-    ensures kept { OnOk result (KeepsResults page.old.form
-        page.old.results.items page.new.results.items) }
+    ensures { OnOk result (KeepsPage page.old page.new) }
 {
     page.refused = true;
     let mut buffer = Vec::new(alloc);
@@ -316,9 +308,7 @@ struct Claim {
 
 // Tells of a destination that several sources are mapped to.
 fn tell_conflict(alloc: Global, issue: &Issue, page: &mut Page) -> Result<(), AllocError>
-    ensures form { OnOk result (page.new.form ≡ page.old.form) }
-    ensures kept { OnOk result (KeepsResults page.old.form
-        page.old.results.items page.new.results.items) }
+    ensures kept { OnOk result (KeepsPage page.old page.new) }
     ensures told { OnOk result (AddsConflicts page.old.form (conflict_of issue.now ∷ [])
         page.old.messages.items page.new.messages.items) }
 {

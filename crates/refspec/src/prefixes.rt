@@ -6,7 +6,7 @@ ghost use Rattle.gix_refspec.specs.Matching.Asked.{HasNoList, ListsGroup, Serves
 ghost use Rattle.gix_refspec.specs.Views.Group.{readings_of};
 ghost use Rattle.gix_refspec.specs.Views.Spec.{reading_of};
 ghost use Rattle.refspec.specs.Prefixes.{AddsAll, AddsPrefixes, argument, request};
-ghost use Rattle.refspec.specs.Shown.{AddsNames, KeepsResults};
+ghost use Rattle.refspec.specs.Shown.{AddsNames, KeepsPage};
 
 use crate::call::Form;
 use crate::json;
@@ -153,9 +153,7 @@ fn put_all(page: &mut Page) -> Result<(), AllocError>
 
 // Tells of a spec, if all refs have to be asked for it.
 fn tell_if_reason(alloc: Global, spec: &RefSpecRef<'_>, page: &mut Page) -> Result<(), AllocError>
-    ensures form { OnOk result (page.new.form ≡ page.old.form) }
-    ensures kept { OnOk result (KeepsResults page.old.form
-        page.old.results.items page.new.results.items) }
+    ensures { OnOk result (KeepsPage page.old page.new) }
 {
     let specs = Vec::from_slice(alloc, &[*spec])?;
     match prefixes_of(alloc, &MatchGroup { specs })? {
@@ -166,9 +164,7 @@ fn tell_if_reason(alloc: Global, spec: &RefSpecRef<'_>, page: &mut Page) -> Resu
 
 // Tells that a spec is the reason for which all refs have to be asked for.
 fn tell_reason(alloc: Global, spec: &RefSpecRef<'_>, page: &mut Page) -> Result<(), AllocError>
-    ensures form { OnOk result (page.new.form ≡ page.old.form) }
-    ensures kept { OnOk result (KeepsResults page.old.form
-        page.old.results.items page.new.results.items) }
+    ensures { OnOk result (KeepsPage page.old page.new) }
 {
     let canonical = spec.to_bstring(alloc)?;
     match page.form {

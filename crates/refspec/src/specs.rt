@@ -1,7 +1,7 @@
 //! What is shown of specs alone: whether they are good, and what they mean.
 
 ghost use Rattle.std.specs.Prelude.{◌≡◌, OnOk};
-ghost use Rattle.refspec.specs.Shown.{KeepsResults};
+ghost use Rattle.refspec.specs.Shown.{KeepsPage, KeepsResults};
 
 use crate::call::{Command, Form};
 use crate::checked::Checked;
@@ -52,9 +52,7 @@ pub fn tell_refusals(alloc: Global, all: &[Checked<'_>], page: &mut Page) -> Res
 
 // Refuses a text that is no spec.
 fn refuse_bad(alloc: Global, checked: &Checked<'_>, page: &mut Page) -> Result<(), AllocError>
-    ensures form { OnOk result (page.new.form ≡ page.old.form) }
-    ensures kept { OnOk result (KeepsResults page.old.form
-        page.old.results.items page.new.results.items) }
+    ensures { OnOk result (KeepsPage page.old page.new) }
 {
     match checked {
         Checked::Bad { text, error } => page.tell_refusal(alloc, text, error),

@@ -5,7 +5,7 @@ ghost use Rattle.gix_refspec.specs.Views.Group.{mapped_of, ref_of};
 ghost use Rattle.gix_refspec.specs.Matching.Hits.{AreKeptBackward};
 ghost use Rattle.gix_refspec.specs.Texts.ObjectId.{id_bytes};
 ghost use Rattle.gix_refspec.specs.Views.Spec.{reading_of};
-ghost use Rattle.refspec.specs.Shown.{KeepsResults};
+ghost use Rattle.refspec.specs.Shown.{KeepsPage, KeepsResults};
 ghost use Rattle.refspec.specs.Track.{AddsTracked, named};
 
 use crate::call::{Call, Form};
@@ -130,9 +130,7 @@ fn tell_unless(
     name: &[u8],
     page: &mut Page,
 ) -> Result<(), AllocError>
-    ensures form { OnOk result (page.new.form ≡ page.old.form) }
-    ensures kept { OnOk result (KeepsResults page.old.form
-        page.old.results.items page.new.results.items) }
+    ensures { OnOk result (KeepsPage page.old page.new) }
 {
     if is_found {
         return Ok(());
@@ -142,9 +140,7 @@ fn tell_unless(
 
 // Tells of a ref that no spec writes.
 fn tell_untracked(alloc: Global, name: &[u8], page: &mut Page) -> Result<(), AllocError>
-    ensures form { OnOk result (page.new.form ≡ page.old.form) }
-    ensures kept { OnOk result (KeepsResults page.old.form
-        page.old.results.items page.new.results.items) }
+    ensures { OnOk result (KeepsPage page.old page.new) }
 {
     page.refused = true;
     let message = why_untracked(name);

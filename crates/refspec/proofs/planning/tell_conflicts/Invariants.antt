@@ -1,13 +1,12 @@
 -- the results are as they were, and the conflicts so far are told
-use Rattle.std.proofs.Common.{◌≡◌, map, take}
+use Rattle.std.proofs.Common.{map, take}
 use Rattle.gix_refspec.specs.Views.Issue.{conflict_of}
 use Rattle.refspec.specs.Conflicts.{AddsConflicts}
-use Rattle.refspec.specs.Shown.{KeepsResults}
+use Rattle.refspec.specs.Shown.{KeepsPage}
 use Rattle.refspec.proofs.planning.tell_conflicts.Given as goal
 
 abbrev pub invariant-loop-issue : goal.invariant-loop-issue
 invariant-loop-issue l = record {
-  form : l.page.form ≡ l.fn.page.form;
-  kept : KeepsResults l.fn.page.form l.fn.page.results.items l.page.results.items;
+  page : KeepsPage l.fn.page l.page;
   told : AddsConflicts l.fn.page.form (map conflict_of (take l.issue-index l.issues)) l.fn.page.messages.items l.page.messages.items;
 }
