@@ -91,8 +91,9 @@ pub(crate) fn mappings_of<'spec, 'item>(
 }
 
 impl Survey {
-    // Looks at the specs, unless all that they ask for is looked up by its name. It lists no more places in all than there are items: if a server lists a name again
-    // and again, the places of patterns would take memory for each spec.
+    // Looks at the specs, unless all that they ask for is looked up by its name. It lists no more places in
+    // all than there are items: if a server lists a name again and again, the places of patterns would take
+    // memory for each spec.
     pub(crate) fn of(
         alloc: Global,
         direction: Direction,

@@ -2,9 +2,9 @@
 //!
 //! They are found by sorting, so that no names make it slow, once those are flagged that one comparison of
 //! each item finds. The others get a key each, of the upper bits of the name's hash and, after them, the
-//! place. In a sorted list of keys items of one name follow one another. Where different names have the same upper bits, keys of another hash are tried. Only where
-//! that fails too are the names themselves sorted. Names are compared before an item is flagged: so a
-//! repeat may be missed, but no name is lost.
+//! place. In a sorted list of keys items of one name follow one another. Where different names have the
+//! same upper bits, keys of another hash are tried. Only where that fails too are the names themselves
+//! sorted. Names are compared before an item is flagged: so a repeat may be missed, but no name is lost.
 
 ghost use Rattle.std.specs.Prelude.{◌<◌, ◌≤◌, ◌^◌, length, map, IfOk, OnOk, IsTrue};
 ghost use Rattle.gix_refspec.specs.Views.Group.{ref_of};
