@@ -27,12 +27,13 @@ pub(crate) fn split_at_first(text: &[u8], byte: u8) -> Option<(&[u8], &[u8])>
     Some((front, &back[1..]))
 }
 
-// Whether a byte is in a text.
+// Whether a byte is in a text. Each byte is looked at, with no early end, so that many are looked at at once.
 pub(crate) fn holds(text: &[u8], byte: u8) -> bool
     ensures { MatchBool result (Holds (byte ∷ []) text.now) (Lacks byte text.now) }
 {
-    match split_at_first(text, byte) {
-        None => false,
-        Some(_) => true,
+    let mut holds = false;
+    for other in text {
+        holds |= *other == byte;
     }
+    holds
 }

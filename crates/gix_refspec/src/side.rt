@@ -7,7 +7,7 @@ ghost use Rattle.gix_refspec.specs.Texts.Name.{HasSeveralStars};
 ghost use Rattle.gix_refspec.specs.Matching.Side.{HasKind, candidates as candidates_of};
 ghost use Rattle.gix_refspec.specs.Private.SideViews.{AreStarsOf, kind_of_side};
 
-use crate::cut::split_at_first;
+use crate::cut::{holds, split_at_first};
 use crate::oid::ObjectId;
 use bstr::BString;
 use std::alloc::{AllocError, Global};
@@ -37,6 +37,9 @@ pub(crate) enum SideKind<'a> {
 pub(crate) fn stars_of(side: &[u8]) -> Stars<'_>
     ensures { AreStarsOf side.now result }
 {
+    if !holds(side, b'*') {
+        return Stars::No;
+    }
     let Some((before, after)) = split_at_first(side, b'*') else {
         return Stars::No;
     };

@@ -1,5 +1,7 @@
 -- The filter before the look-ups of names. Only private functions cite these words.
-use Rattle.std.specs.Prelude.{◌≡◌, ◌<◌, ◌%◌, ◌^◌, ℕ, true, false, List, length, slice_index_or}
+use Rattle.std.specs.Prelude.{◌≡◌, ◌<◌, ◌-◌, ◌*◌, ◌/◌, ◌%◌, ◌^◌, ℕ, nat_lt, if◌then◌else◌, true, false, List, drop, length, slice_index_or}
+use Rattle.std.specs.Int.{from_le_bytes, w64}
+use Rattle.gix_refspec.specs.declared.match_group.hits.index.filter.TheConstants.{MIXER}
 use Rattle.gix_refspec.specs.declared.match_group.hits.index.filter.Marks.{Marks}
 use Rattle.gix_refspec.specs.declared.match_group.hits.index.filter.Filter.{Filter}
 use Rattle.gix_refspec.specs.Private.Kept.{name_hash}
@@ -13,12 +15,18 @@ pub record IsWhole (m : Marks) : Type 0 where
 abbrev pub HasMark : Marks → ℕ → Type 0
 HasMark m k = slice_index_or m.flags.items (k % 2 ^ m.bits) false ≡ true
 
--- both kinds of marks are whole
+-- the number of the last eight bytes of a name. Shorter names have 0
+abbrev pub tail_number : List ℕ → ℕ
+tail_number n = if nat_lt (length n) 8 then 0 else (from_le_bytes w64 (drop (length n - 8) n) * MIXER % 2 ^ 64) / 2 ^ 32
+
+-- each kind of marks is whole
 pub record IsWholeFilter (f : Filter) : Type 0 where
   pub lengths : IsWhole f.lengths
+  pub tails : IsWhole f.tails
   pub hashes : IsWhole f.hashes
 
--- the length and the hash of the name have marks
+-- the length, the last bytes and the hash of the name have marks
 pub record Passes (f : Filter) (n : List ℕ) : Type 0 where
   pub size : HasMark f.lengths (length n)
+  pub tail : HasMark f.tails (tail_number n)
   pub hash : HasMark f.hashes (name_hash n)

@@ -1,7 +1,10 @@
 -- What specs match, and what becomes of it.
 use Rattle.std.proofs.Common.{◌≡◌, ◌≢◌, ◌⊎◌, inl, inr, ℕ, suc, ◌+◌, ◌<◌, List, [], ◌∷◌, ◌++◌, codes, map, take, drop, get_or, Option, None, Some, option_map, option_to_list, IsSome, is_some, Bool, not, true, false, MatchOption, Bor, length, refl, sym, ap, ◌∙◌, subst, append_assoc}
 use Rattle.std.proofs.lemmas.List.{append-nil, append_cancel_left, map-append}
+use Rattle.std.specs.List.{AllPass}
 use Rattle.std.proofs.lemmas.Bool.{false≢true}
+use Rattle.std.proofs.lemmas.List.Elements.{All-head, All-tail}
+use Rattle.hex.specs.Hex.{is_hex_digit}
 use Rattle.bstr.specs.declared.bstr.BStr.{BStr}
 use Rattle.bstr.specs.BStr.{bstr_bytes}
 use Rattle.gix_refspec.specs.declared.match_group.types.Item.{Item}
@@ -16,10 +19,13 @@ use Rattle.gix_refspec.specs.declared.match_group.types.Mapping.{Mapping}
 use Rattle.gix_refspec.specs.declared.match_group.types.SourceRef.TheVariants as source_ref
 use Rattle.gix_refspec.specs.declared.side.SideKind.{SideKind as DeclaredKind}
 use Rattle.gix_refspec.specs.declared.side.SideKind.TheVariants.{Pattern, FullName, Object, Partial}
+use Rattle.gix_refspec.specs.declared.oid.Error.{Error}
 use Rattle.gix_refspec.specs.declared.oid.ObjectId.{ObjectId}
 use Rattle.gix_refspec.specs.declared.spec.RefSpecRef.{RefSpecRef}
-use Rattle.gix_refspec.specs.Texts.ObjectId.{id_bytes}
+use Rattle.gix_refspec.specs.Texts.ObjectId.{HasIdFault, IsIdText, id_bytes}
+use Rattle.gix_refspec.specs.Texts.Bytes.{star}
 use Rattle.gix_refspec.specs.Texts.Name.{HasSeveralStars}
+use Rattle.gix_refspec.specs.Texts.Words.{BeginsWith, Lacks}
 use Rattle.gix_refspec.specs.Specs.Reading.{Reading}
 use Rattle.gix_refspec.specs.Specs.Grammar.{IsAccepted, IsPositive}
 use Rattle.gix_refspec.specs.Views.Spec.{reading_of}
@@ -32,7 +38,7 @@ use Rattle.gix_refspec.specs.Matching.Hits.{Ends, OneForward, OneBackward, IsIdM
 use Rattle.gix_refspec.specs.Private.SideViews.{kind_of_side}
 use Rattle.gix_refspec.specs.Private.HitViews.{AsksForId, word_of, IsFolder, HasSideKind, HaveKinds, HasEnds, TakesIn, IsFirstIn, TakesEach, filled_end, AreHitsOfKinds, HasHit, mapping_of, mapped_of_made, AddsHits, AreIdMappings, AreMade}
 use Rattle.gix_refspec.specs.Matching.Mappings as mappings
-use Rattle.gix_refspec.proofs.lemmas.texts.ObjectIdLemmas.{IsIdText-unique}
+use Rattle.gix_refspec.proofs.lemmas.texts.ObjectIdLemmas.{AllPass-IsIdText, IsIdText-sound, IsIdText-unique}
 use Rattle.gix_refspec.proofs.lemmas.specs.AcceptedLemmas.{accepted_few}
 use Rattle.gix_refspec.proofs.lemmas.hits.CandidateLemmas.{first_candidate, some_first}
 use Rattle.gix_refspec.proofs.lemmas.hits.MatchLemmas.{one_word, lacks_no_pattern, cut_once}
@@ -438,6 +444,35 @@ found_some P Q (Some x) some is = (x, is)
 pub item_counted : (kinds : DeclaredEnds) (xs : List Item) (i : ℕ) (d : Item) (found : Option Match) → i < length xs → is_some found ≡ true → MatchOption found ((word : Option (List ℕ)) → ¬ (MatchesAs (kind_of_side kinds.near) (ref_of (get_or xs i d)) word)) (λ m. MatchesAs (kind_of_side kinds.near) (ref_of (get_or xs i d)) (word_of m)) → HasHit kinds (map ref_of xs)
 item_counted kinds xs i d None below some is = absurd (false≢true some)
 item_counted kinds xs i d (Some m) below some is = item_hit kinds xs i d m below is
+
+-- digits lack a star
+digits_no_star : (t : List ℕ) → AllPass is_hex_digit t → Lacks star t
+digits_no_star [] all = tt
+digits_no_star (c ∷ t) all =
+    let first : is_hex_digit c ≡ true = All-head (λ d. is_hex_digit d ≡ true) c t all in
+    ((λ same. false≢true (ap is_hex_digit (sym same) ∙ first)), digits_no_star t (All-tail (λ d. is_hex_digit d ≡ true) c t all))
+
+-- digits don't begin `refs/`
+digits_no_refs : (t : List ℕ) → AllPass is_hex_digit t → ¬ (BeginsWith (codes "refs/") t)
+digits_no_refs t all begins =
+    let moved = subst (AllPass is_hex_digit) begins.here all in
+    false≢true (All-head (λ d. is_hex_digit d ≡ true) 114 (codes "efs/" ++ begins.after) moved)
+
+-- the text of an id has no other kind
+id_kind : (t id : List ℕ) → IsIdText t id → HasKind t (object id)
+id_kind t id text =
+    let all = AllPass-IsIdText t id text in
+    (digits_no_star t all, digits_no_refs t all, text)
+
+-- a positive spec whose source is the text of an id asks for it
+pub asks_by_text : (r : Reading) (t id : List ℕ) → IsPositive r.mode → r.source ≡ Some t → IsIdText t id → AsksForId r id
+asks_by_text r t id positive side text = record { positive = positive; text = t; side = side; kind = id_kind t id text }
+
+-- a spec whose source is no such text asks for none
+pub asks_for_none : (r : Reading) (t : List ℕ) (e : Error) → r.source ≡ Some t → HasIdFault t e → (bytes : List ℕ) → ¬ (AsksForId r bytes)
+asks_for_none r t e side fault bytes asks =
+    let same : asks.text ≡ t = same_side r.source asks.text t asks.side side in
+    IsIdText-sound t bytes e (subst (λ x. IsIdText x bytes) same asks.kind.2) fault
 
 -- a source of another kind is no id
 pub no_id : (r : Reading) (k : DeclaredKind) → HasSideKind r.source (Some k) → ((id : ObjectId) → k ≢ Object id) → (bytes : List ℕ) → ¬ (AsksForId r bytes)

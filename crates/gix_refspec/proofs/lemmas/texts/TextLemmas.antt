@@ -1,7 +1,7 @@
 -- Bytes that a text lacks, and texts that are cut at a place.
-use Rattle.std.proofs.Common.{◌≡◌, ℕ, suc, ◌+◌, ◌-◌, ◌<◌, ◌≤◌, ◌==◌, true, List, [], ◌∷◌, ◌++◌, length, get_or, take, drop, refl, sym, ap, ◌∙◌, subst, arith, eq-eqb, take-append-drop, drop-cons, length-drop}
+use Rattle.std.proofs.Common.{◌≡◌, ◌||◌, MatchBool, inl, inr, nat_eq, ℕ, suc, ◌+◌, ◌-◌, ◌<◌, ◌≤◌, ◌==◌, Bool, true, false, List, [], ◌∷◌, ◌++◌, length, get_or, take, drop, refl, sym, ap, ◌∙◌, subst, arith, eq-eqb, take-append-drop, drop-cons, length-drop}
 use Rattle.std.proofs.lemmas.List.{drop-drop, get_or-drop, get_or-take, length-take-le, take_all}
-use Rattle.std.proofs.lemmas.Bool.{eqb-true}
+use Rattle.std.proofs.lemmas.Bool.{cases_eq, eqb-true, false≢true}
 use Rattle.std.proofs.Math.Numerals.{add-one}
 use Rattle.gix_refspec.specs.Texts.Words.{Lacks, Holds}
 
@@ -46,6 +46,27 @@ cut_at_last x front back n b inside here none front_is back_is =
       rw (front_is, rest) (cut_at x n b inside (eqb-true (get_or x n 0) b here)),
       subst (Lacks b) (sym rest) lacks,
     )
+
+-- b is in the text, or at none of its first n places
+abbrev pub FoundBefore : ℕ → List ℕ → ℕ → Bool → Type 0
+FoundBefore b x n found = MatchBool found (Holds (b ∷ []) x) ((k : ℕ) → k < n → ¬ ((get_or x k 0 == b) ≡ true))
+
+found_by : (b : ℕ) (x : List ℕ) (n : ℕ) (test : Bool) → n < length x → (get_or x n 0 == b) ≡ test → ((k : ℕ) → k < n → ¬ ((get_or x k 0 == b) ≡ true)) → FoundBefore b x (n + 1) test
+found_by b x n true inside is none = record { before = take n x; after = drop (suc n) x; here = cut_at x n b inside (eqb-true (get_or x n 0) b is) }
+found_by b x n false inside is none = λ k below. elim (cases_eq k n) [
+  | inl same ↦ λ here. false≢true (sym is ∙ subst (λ j. (get_or x j 0 == b) ≡ true) same here)
+  | inr other ↦ none k (omega arith)
+]
+
+-- one place more is looked at
+pub found_further : (b : ℕ) (x : List ℕ) (n : ℕ) (found : Bool) → n < length x → FoundBefore b x n found → FoundBefore b x (n + 1) (found || nat_eq (get_or x n 0) b)
+found_further b x n true inside known = known
+found_further b x n false inside known = found_by b x n (nat_eq (get_or x n 0) b) inside refl known
+
+-- all places were looked at
+pub found_whole : (b : ℕ) (x : List ℕ) (n : ℕ) (found : Bool) → length x ≤ n → FoundBefore b x n found → MatchBool found (Holds (b ∷ []) x) (Lacks b x)
+found_whole b x n true past known = known
+found_whole b x n false past known = Lacks-from_places b x (λ k below. known k (omega arith))
 
 -- a text that lacks b has no place with b
 pub Lacks-here : (b : ℕ) (front back : List ℕ) → Lacks b (front ++ (b ∷ back)) → ⊥

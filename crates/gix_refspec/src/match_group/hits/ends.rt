@@ -94,7 +94,7 @@ pub(crate) fn asked_of<'spec>(spec: &RefSpecRef<'spec>) -> Option<Asked<'spec>>
     if spec.mode == Mode::Negative {
         return None;
     }
-    let SideKind::Object(id) = side_kind(spec.src)? else {
+    let Ok(id) = ObjectId::from_hex(spec.src?.as_bytes()) else {
         return None;
     };
     Some(Asked {

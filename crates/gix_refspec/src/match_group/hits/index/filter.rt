@@ -1,10 +1,10 @@
-//! Which names may be asked for. Most others are told apart by their length or by the mark of their
-//! hash, which is cheaper than to look for them.
+//! Which names may be asked for. Most others are told apart by their length, by their last bytes or by the
+//! mark of their hash, which is cheaper than to look for them.
 
 ghost use Rattle.std.specs.Prelude.{◌≡◌, ◌↔◌, ◌<◌, ◌%◌, ◌^◌, ℕ, List, length, map, IfOk, IsTrue};
 ghost use Rattle.std.specs.List.{AllByRecursion};
 ghost use Rattle.gix_refspec.specs.Views.Group.{name_bytes};
-ghost use Rattle.gix_refspec.specs.Private.Filter.{HasMark, IsWhole, IsWholeFilter, Passes};
+ghost use Rattle.gix_refspec.specs.Private.Filter.{HasMark, IsWhole, IsWholeFilter, Passes, tail_number};
 
 use crate::match_group::hashes::hash_of_name;
 use crate::match_group::types::NameRef;
@@ -15,6 +15,10 @@ const LENGTHS: usize = 128;
 
 // Of sixteen hashes that aren't asked for at most one has a mark.
 const MARKS_A_NAME: usize = 16;
+
+// Mixes the bytes of a number, and any odd number with as many ones as zeros serves: this one is that of
+// the golden ratio.
+const MIXER: u64 = 0x9e37_79b9_7f4a_7c15;
 
 // Marks of numbers by their lower bits.
 #[derive(Drop)]
@@ -64,10 +68,22 @@ impl Marks {
     }
 }
 
-// Marks of the lengths and of the hashes of some names.
+// A number of a name's last eight bytes, which tells most names apart. Shorter names have 0.
+#[inline(always)]
+fn tail_of(name: &[u8]) -> u64
+    ensures { result ≡ tail_number name.now }
+{
+    match name.last_chunk::<8>() {
+        None => 0,
+        Some(tail) => u64::from_le_bytes(*tail).wrapping_mul(MIXER) >> 32,
+    }
+}
+
+// Marks of the lengths, of the last bytes and of the hashes of some names.
 #[derive(Drop)]
 pub(crate) struct Filter {
     lengths: Marks,
+    tails: Marks,
     hashes: Marks,
 }
 
@@ -78,9 +94,11 @@ impl Filter {
         ensures all { IfOk result (λ filter. AllByRecursion
             (Passes filter) (map name_bytes names.now)) }
     {
+        let room = names.len().saturating_mul(MARKS_A_NAME);
         let mut filter = Filter {
             lengths: Marks::new(alloc, LENGTHS)?,
-            hashes: Marks::new(alloc, names.len().saturating_mul(MARKS_A_NAME))?,
+            tails: Marks::new(alloc, room)?,
+            hashes: Marks::new(alloc, room)?,
         };
         for name in names {
             filter.add(name.as_bstr().as_bytes());
@@ -96,15 +114,18 @@ impl Filter {
         ensures others { (n : List ℕ) → Passes self.old n → Passes self.new n }
     {
         self.lengths.add(name.len() as u64);
+        self.tails.add(tail_of(name));
         self.hashes.add(hash_of_name(name));
     }
 
-    // Whether a name passes. Its length is asked first, and most names aren't hashed.
+    // Whether a name passes. Most names aren't hashed.
     #[inline(always)]
     pub(crate) fn passes(&self, name: &[u8]) -> bool
         requires { IsWholeFilter self.now }
         ensures { IsTrue result ↔ Passes self.now name.now }
     {
-        self.lengths.has(name.len() as u64) && self.hashes.has(hash_of_name(name))
+        self.lengths.has(name.len() as u64)
+            && self.tails.has(tail_of(name))
+            && self.hashes.has(hash_of_name(name))
     }
 }

@@ -1,14 +1,26 @@
--- Each side of an accepted spec has a kind.
-use Rattle.std.proofs.Common.{inl, inr}
+-- A source of digits has no other kind.
+use Rattle.std.proofs.Common.{◌≡◌, rules, inr, Some}
+use Rattle.gix_refspec.specs.Specs.Grammar.{IsPositive}
+use Rattle.gix_refspec.specs.Specs.Reading.{Reading}
+use Rattle.gix_refspec.specs.Texts.ObjectId.{id_bytes}
 use Rattle.gix_refspec.specs.Views.Spec.{reading_of}
-use Rattle.gix_refspec.proofs.lemmas.hits.HitLemmas.{few_side, no_id}
+use Rattle.gix_refspec.proofs.lemmas.hits.HitLemmas.{asks_by_text, asks_for_none, few_side}
 use Rattle.gix_refspec.proofs.match_group.hits.ends.asked_of.Goals as goal
 
 pub side_kind-requires : goal.side_kind-requires
-side_kind-requires c = few_side (reading_of c.args.spec.now) c.args.spec.now.src c.args.spec.now.accepted (λ x is. inl is)
+side_kind-requires c = few_side (reading_of c.args.spec.now) c.args.spec.now.dst c.args.spec.now.accepted (λ x is. inr is)
 
-pub side_kind-requires-2 : goal.side_kind-requires-2
-side_kind-requires-2 c = few_side (reading_of c.args.spec.now) c.args.spec.now.dst c.args.spec.now.accepted (λ x is. inr is)
-
+-- the source is the text of no id
 pub returns-in_default : goal.returns-in_default
-returns-in_default c = no_id (reading_of c.args.spec.now) c.in_ok-id.field-0 c.in_ok-id.ensures c.in_default.not-Object
+returns-in_default c =
+    let r : Reading = reading_of c.args.spec.now in
+    let side : r.source ≡ Some c.as_bytes.result.now = search rules in
+    asks_for_none r c.as_bytes.result.now c.in_default.field-0 side c.in_default.ensures
+
+-- it is that of one
+pub returns : goal.returns
+returns c =
+    let r : Reading = reading_of c.args.spec.now in
+    let positive : IsPositive r.mode = search rules in
+    let side : r.source ≡ Some c.as_bytes.result.now = search rules in
+    (asks_by_text r c.as_bytes.result.now (id_bytes c.in-Ok.id) positive side c.in-Ok.ensures, c.side_kind.ensures)
