@@ -17,9 +17,8 @@ pub(crate) mod types;
 pub mod validate;
 
 use crate::spec::RefSpecRef;
-use hits::Made;
 use hits::ends::Direction;
-use mappings::kept_of;
+use hits::{Made, Matching};
 use std::alloc::{AllocError, Global};
 use types::MatchGroup;
 pub use types::{Item, Mapping, NameRef, NoRoom, Outcome, Source, SourceRef, match_lhs, match_rhs};
@@ -89,7 +88,13 @@ impl<'spec> MatchGroup<'spec> {
         ensures memory { OnErr result (¬ (AreMade
             direction (readings_of self.entry) (map ref_of items.now) [])) }
     {
-        match kept_of(alloc, direction, self.specs.as_slice(), items) {
+        let matching = Matching {
+            alloc,
+            direction,
+            specs: self.specs.as_slice(),
+            items,
+        };
+        match matching.kept() {
             Ok(made) => Ok(Kept { group: self, made }),
             Err(_) => Err(NoRoom { group: self }),
         }

@@ -1,5 +1,5 @@
 -- What a clause reads of the private types of matching. Only private functions cite this.
-use Rattle.std.specs.Prelude.{◌≡◌, ◌⊎◌, ℕ, List, [], ◌++◌, Option, None, Some, map, option_map, codes}
+use Rattle.std.specs.Prelude.{◌≡◌, ◌⊎◌, ℕ, List, [], ◌∷◌, ◌++◌, Option, None, Some, map, option_map, codes}
 use Rattle.bstr.specs.BStr.{bstr_bytes}
 use Rattle.gix_refspec.specs.declared.match_group.hits.matches.Match.{Match}
 use Rattle.gix_refspec.specs.declared.match_group.hits.ends.Direction.{Direction}
@@ -7,6 +7,9 @@ use Rattle.gix_refspec.specs.declared.match_group.hits.ends.Direction.TheVariant
 use Rattle.gix_refspec.specs.declared.match_group.hits.ends.Ends.{Ends as DeclaredEnds}
 use Rattle.gix_refspec.specs.declared.match_group.hits.Hit.{Hit as DeclaredHit}
 use Rattle.gix_refspec.specs.declared.match_group.hits.Made.{Made}
+use Rattle.gix_refspec.specs.declared.match_group.hits.Matching.{Matching}
+use Rattle.gix_refspec.specs.declared.match_group.hits.Turn.{Turn}
+use Rattle.gix_refspec.specs.declared.match_group.types.NameRef.{NameRef}
 use Rattle.gix_refspec.specs.declared.side.SideKind.{SideKind as DeclaredKind}
 use Rattle.gix_refspec.specs.Specs.Reading.{Reading}
 use Rattle.gix_refspec.specs.Specs.Grammar.{IsPositive}
@@ -15,7 +18,8 @@ use Rattle.gix_refspec.specs.Matching.Match.{Ref, Matches, IsFirstCandidate, Tak
 use Rattle.gix_refspec.specs.Matching.Lists.{IsMadeFrom}
 use Rattle.gix_refspec.specs.Matching.Mappings.{Mapped}
 use Rattle.gix_refspec.specs.Matching.Hits.{Ends, AreForwardEnds, AreBackwardEnds, Hit, IsHit, IsIdMapping, AreForward, AreBackward, AreKeptForward, AreKeptBackward, forward_of, backward_of}
-use Rattle.gix_refspec.specs.Views.Group.{name_bytes, mapped_of}
+use Rattle.gix_refspec.specs.Views.Group.{name_bytes, mapped_of, ref_of}
+use Rattle.gix_refspec.specs.Views.Spec.{reading_of}
 use Rattle.gix_refspec.specs.Private.SideViews.{kind_of_side}
 
 -- the word that stands for the star of a side that matched
@@ -112,11 +116,21 @@ abbrev pub mapped_of_made : Direction → Made → List Mapped
 mapped_of_made Forward made = map mapped_of made.forward.items
 mapped_of_made Backward made = map mapped_of made.backward.items
 
+-- the new mappings are the old ones and that of one hit: of the item at a place, which has the name, with this word
+pub record AddsHitAt (direction : Direction) (turn : Turn) (place : ℕ) (name : List ℕ) (word : Option (List ℕ)) (old new : Made) : Type 0 where
+  pub far : Option NameRef
+  pub becomes : option_map name_bytes far ≡ filled_end turn.ends.far word
+  pub all : mapped_of_made direction new ≡ mapped_of_made direction old ++ mapping_of direction (record { spec = turn.spec; item = place; near = name; far = option_map name_bytes far }) ∷ []
+
 -- the new mappings are the old ones and those that hits make; the hits are as P says
 pub record AddsHits (direction : Direction) (P : List Hit → Type 0) (old new : Made) : Type 0 where
   pub hits : List Hit
   pub are : P hits
   pub all : mapped_of_made direction new ≡ mapped_of_made direction old ++ map (mapping_of direction) hits
+
+-- the hits are those of the spec at its place
+abbrev pub AddsHitsOf : Matching → Turn → Made → Made → Type 0
+AddsHitsOf m turn old new = AddsHits m.direction (AreHitsOfKinds m.direction turn.ends turn.spec (map ref_of m.items.now) (map ref_of m.items.now)) old new
 
 -- the mappings of the direction that take no item: those of ids, from left to right alone
 abbrev pub AreIdMappings : Direction → List Reading → List Mapped → Type 0
@@ -132,3 +146,11 @@ AreMade Backward g items list = AreBackward g items list
 abbrev pub AreKept : Direction → List Reading → List Ref → List Mapped → Type 0
 AreKept Forward g items kept = AreKeptForward g items kept
 AreKept Backward g items kept = AreKeptBackward g items kept
+
+-- no mapping is made at all
+abbrev pub MakesNone : Matching → Type 0
+MakesNone m = AreMade m.direction (map reading_of m.specs.now) (map ref_of m.items.now) []
+
+-- the mappings that were made are those that are kept
+abbrev pub IsKeptOf : Matching → Made → Type 0
+IsKeptOf m made = AreKept m.direction (map reading_of m.specs.now) (map ref_of m.items.now) (mapped_of_made m.direction made)

@@ -7,6 +7,8 @@ use Rattle.std.specs.HashMap.{HashMap}
 use Rattle.std.specs.Global.{Vec}
 use Rattle.gix_refspec.specs.declared.match_group.hits.ends.Direction.{Direction}
 use Rattle.gix_refspec.specs.declared.match_group.hits.ends.Direction.TheVariants.{Forward, Backward}
+use Rattle.gix_refspec.specs.declared.match_group.hits.Matching.{Matching}
+use Rattle.gix_refspec.specs.declared.match_group.hits.Survey.{Survey}
 use Rattle.gix_refspec.specs.declared.match_group.hits.index.NameIndex.{NameIndex}
 use Rattle.gix_refspec.specs.declared.match_group.hits.index.Names.{Names}
 use Rattle.gix_refspec.specs.declared.match_group.hits.index.fronts.FrontIndex.{FrontIndex}
@@ -16,8 +18,10 @@ use Rattle.gix_refspec.specs.Matching.Side.{SideKind, pattern, full_name, object
 use Rattle.gix_refspec.specs.Matching.Match.{Ref, MatchesAs, IsFirstCandidate}
 use Rattle.gix_refspec.specs.Matching.Lists.{IsMadeFrom}
 use Rattle.gix_refspec.specs.Matching.Hits.{Ends}
-use Rattle.gix_refspec.specs.Views.Group.{name_bytes}
+use Rattle.gix_refspec.specs.Views.Group.{name_bytes, ref_of}
+use Rattle.gix_refspec.specs.Views.Spec.{reading_of}
 use Rattle.gix_refspec.specs.Private.HitViews.{HasEnds, FitsRef}
+use Rattle.gix_refspec.specs.Private.EqualSpecs.{FlagsEqual}
 use Rattle.gix_refspec.specs.Private.Kept.{IsFlagged}
 use Rattle.gix_refspec.specs.Private.Part.{FlagsRepeated}
 
@@ -130,6 +134,11 @@ ListsFor direction r refs listed = (ends : Ends) (kind : SideKind) → HasEnds d
 -- what is listed for each of the readings are these places for it
 abbrev pub ListEach : Direction → List Reading → List Ref → List (Option (Vec ℕ)) → Type 0
 ListEach direction g refs listed = (k : ℕ) (d : Reading) → k < length g → ListsFor direction (slice_index_or g k d) refs (slice_index_or listed k None)
+
+-- a look at what is matched has found equal specs, and listed places
+pub record IsSurveyOf (m : Matching) (survey : Survey) : Type 0 where
+  pub equal : FlagsEqual (map reading_of m.specs.now) survey.equal.items
+  pub fitted : ListEach m.direction (map reading_of m.specs.now) (map ref_of m.items.now) survey.fitted.items
 
 -- the places are listed for the spec at place k
 abbrev pub HasListed : List (Option (Vec ℕ)) → ℕ → List ℕ → Type 0

@@ -2,14 +2,14 @@
 //! chooses which end of a spec is near and takes items, which is far and is filled, and whether a
 //! partial near end takes all of its candidates or the first that is there.
 
-ghost use Rattle.std.specs.Prelude.{◌≡◌, [], ℕ, map, IfOk, IfSome, None, OnOk};
+ghost use Rattle.std.specs.Prelude.{◌≡◌, [], ℕ, map, option_map, IfOk, IfSome, None, OnOk};
+ghost use Rattle.bstr.specs.BStr.{bstr_bytes};
 ghost use Rattle.gix_refspec.specs.Views.Spec.{reading_of};
 ghost use Rattle.gix_refspec.specs.Views.Group.{ref_of, mapped_of};
 ghost use Rattle.gix_refspec.specs.Matching.Hits.{AreHits, forward_of, backward_of};
 ghost use Rattle.gix_refspec.specs.Private.SideViews.{kind_of_side};
-ghost use Rattle.gix_refspec.specs.Private.Index.{ArePlacesFitted, ArePlacesFittedTo, ArePlacesFor, ArePlacesTaken, HasListed, IsIndexFor, IsIndexOfSide, IsListedStill, ListEach, ListsFitted, ListsFor, MatchesWhole};
-ghost use Rattle.gix_refspec.specs.Private.HitViews.{HasEnds, TakesEach, TakesIn, hit_of, AreHitsOfKinds, AddsHits, AreIdMappings, mapped_of_made};
-ghost use Rattle.gix_refspec.specs.Private.EqualSpecs.{AddsMost, AddsMostOfKinds, AreMostMade, FlagsEqual};
+ghost use Rattle.gix_refspec.specs.Private.Index.{ArePlacesFitted, HasListed, IsListedStill, IsSurveyOf, ListsFitted, ListsFor};
+ghost use Rattle.gix_refspec.specs.Private.HitViews.{hit_of};
 ghost use Rattle.gix_refspec.specs.Private.Part.{FlagsRepeated, moved, place_among};
 
 pub(crate) mod ends;
@@ -33,6 +33,22 @@ use ids::id_mappings;
 use index::NameIndex;
 use matches::{fitted_word, match_of, word_between};
 use std::alloc::{AllocError, Global};
+
+// What is matched: specs with items, in a direction.
+#[derive(Clone, Copy)]
+pub(crate) struct Matching<'m, 'spec, 'item> {
+    pub(crate) alloc: Global,
+    pub(crate) direction: Direction,
+    pub(crate) specs: &'m [RefSpecRef<'spec>],
+    pub(crate) items: &'m [Item<'item>],
+}
+
+// A spec that takes items: its place, and its ends.
+#[derive(Clone, Copy)]
+struct Turn<'spec> {
+    spec: usize,
+    ends: Ends<'spec>,
+}
 
 // That a spec takes an item: the places of both, the item's name, and what the far end becomes.
 #[derive(Drop)]
@@ -68,61 +84,34 @@ pub(crate) struct Made<'spec, 'item> {
     pub(crate) backward: Vec<Mapping<'spec, 'item>>,
 }
 
-// The mappings of a direction: those of ids by spec, from left to right alone, and then those of
-// items by spec and item, without those of specs that equal an earlier one.
-pub(crate) fn mappings_of<'spec, 'item>(
-    alloc: Global,
-    direction: Direction,
-    specs: &[RefSpecRef<'spec>],
-    index: &NameIndex<'_>,
-    items: &[Item<'item>],
-    survey: Survey,
-) -> Result<Made<'spec, 'item>, AllocError>
-    requires index { IsIndexFor direction (map reading_of specs.now) (map ref_of items.now) index.now }
-    requires equal { FlagsEqual (map reading_of specs.now) survey.equal.items }
-    requires fitted { ListEach direction
-        (map reading_of specs.now) (map ref_of items.now) survey.fitted.items }
-    ensures { IfOk result (λ made. AreMostMade
-        direction (map reading_of specs.now) (map ref_of items.now) (mapped_of_made direction made)) }
-{
-    let mut made = started(alloc, direction, specs, survey.room)?;
-    add_hits(alloc, direction, specs, survey, index, items, &mut made)?;
-    Ok(made)
-}
-
 impl Survey {
     // Looks at the specs, unless all that they ask for is looked up by its name. It lists no more places in
     // all than there are items: if a server lists a name again and again, the places of patterns would take
     // memory for each spec.
     pub(crate) fn of(
-        alloc: Global,
-        direction: Direction,
-        specs: &[RefSpecRef<'_>],
+        matching: &Matching<'_, '_, '_>,
         index: &NameIndex<'_>,
-        items: &[Item<'_>],
     ) -> Result<Survey, AllocError>
-        requires { FlagsRepeated (map ref_of items.now) index.now.repeated.items }
-        ensures equal { IfOk result (λ survey. FlagsEqual (map reading_of specs.now) survey.equal.items) }
-        ensures fitted { IfOk result (λ survey. ListEach direction
-            (map reading_of specs.now) (map ref_of items.now) survey.fitted.items) }
+        requires { FlagsRepeated (map ref_of matching.now.items.now) index.now.repeated.items }
+        ensures { IfOk result (IsSurveyOf matching.now) }
     {
-        let equal = equal_specs(alloc, specs)?;
+        let equal = equal_specs(matching.alloc, matching.specs)?;
         if index.is_by_name() {
             return Ok(Survey {
                 equal,
-                fitted: Vec::new(alloc),
+                fitted: Vec::new(matching.alloc),
                 room: 0,
             });
         }
-        let mut fitted = Vec::with_capacity(alloc, specs.len())?;
-        let mut most = items.len();
+        let mut fitted = Vec::with_capacity(matching.alloc, matching.specs.len())?;
+        let mut most = matching.items.len();
         let mut room: usize = 0;
-        for (place, spec) in specs.iter().enumerate() {
+        for (place, spec) in matching.specs.iter().enumerate() {
             if is_flagged(equal.as_slice(), place) {
                 fitted.push(None)?;
                 continue;
             }
-            let look = Look::at(alloc, direction, spec, index, items, most)?;
+            let look = Look::at(matching, spec, index, most)?;
             room = room.saturating_add(look.count);
             most = most.saturating_sub(listed(&look.fitted));
             fitted.push(look.fitted)?;
@@ -159,20 +148,19 @@ fn listed(places: &Option<Vec<usize>>) -> usize {
 impl Look {
     // Looks at a spec, and lists no places if there are more than `most`.
     fn at(
-        alloc: Global,
-        direction: Direction,
+        matching: &Matching<'_, '_, '_>,
         spec: &RefSpecRef<'_>,
         index: &NameIndex<'_>,
-        items: &[Item<'_>],
         most: usize,
     ) -> Result<Look, AllocError>
-        requires { FlagsRepeated (map ref_of items.now) index.now.repeated.items }
-        ensures { IfOk result (λ look. ListsFor direction (reading_of spec.now) (map ref_of items.now) look.fitted) }
+        requires { FlagsRepeated (map ref_of matching.now.items.now) index.now.repeated.items }
+        ensures { IfOk result (λ look. ListsFor matching.now.direction
+            (reading_of spec.now) (map ref_of matching.now.items.now) look.fitted) }
     {
-        if let Some(near) = near_of(direction, spec) {
-            return Look::through(alloc, near, index, items, most);
+        if let Some(near) = near_of(matching.direction, spec) {
+            return Look::through(matching.alloc, near, index, matching.items, most);
         }
-        let count = match direction {
+        let count = match matching.direction {
             Direction::Forward => usize::from(asked_of(spec).is_some()),
             Direction::Backward => 0,
         };
@@ -274,28 +262,6 @@ fn fitted_places(
     Ok(Some(places))
 }
 
-// The mappings of a direction that take no item, with room for `room` in all.
-fn started<'spec, 'item>(
-    alloc: Global,
-    direction: Direction,
-    specs: &[RefSpecRef<'spec>],
-    room: usize,
-) -> Result<Made<'spec, 'item>, AllocError>
-    ensures { IfOk result (λ made. AreIdMappings
-        direction (map reading_of specs.now) (mapped_of_made direction made)) }
-{
-    Ok(match direction {
-        Direction::Forward => Made {
-            forward: id_mappings(alloc, specs, room)?,
-            backward: Vec::new(alloc),
-        },
-        Direction::Backward => Made {
-            forward: Vec::new(alloc),
-            backward: Vec::with_capacity(alloc, room)?,
-        },
-    })
-}
-
 // From left to right an item's name is the source.
 #[inline(always)]
 fn forward_mapping<'spec, 'item>(hit: Hit<'spec, 'item>) -> Mapping<'item, 'spec>
@@ -323,207 +289,201 @@ fn backward_mapping<'spec, 'item>(hit: Hit<'spec, 'item>) -> Mapping<'spec, 'ite
     }
 }
 
-// Adds the mappings of the specs that aren't flagged as equal to an earlier one.
-fn add_hits<'spec, 'item>(
-    alloc: Global,
-    direction: Direction,
-    specs: &[RefSpecRef<'spec>],
-    mut survey: Survey,
-    index: &NameIndex<'_>,
-    items: &[Item<'item>],
-    made: &mut Made<'spec, 'item>,
-) -> Result<(), AllocError>
-    requires index { IsIndexFor direction (map reading_of specs.now) (map ref_of items.now) index.now }
-    requires equal { FlagsEqual (map reading_of specs.now) survey.equal.items }
-    requires fitted { ListEach direction
-        (map reading_of specs.now) (map ref_of items.now) survey.fitted.items }
-    ensures { OnOk result (AddsMost
-        (map reading_of specs.now)
-        direction (AreHits (HasEnds direction) (TakesIn direction (map ref_of items.now))
-        (map reading_of specs.now) (map ref_of items.now)) made.old made.new) }
-{
-    for (place, spec) in specs.iter().enumerate() {
-        if is_flagged(survey.equal.as_slice(), place) {
-            continue;
-        }
-        let Some(ends) = ends_of(direction, spec) else {
-            continue;
-        };
-        match survey.take_places(place) {
-            Some(places) => {
-                add_fitted(
-                    alloc,
-                    direction,
-                    place,
-                    ends,
-                    places.as_slice(),
-                    items,
-                    made,
-                )?
+impl<'m, 'spec, 'item> Matching<'m, 'spec, 'item> {
+    ghost use Rattle.gix_refspec.specs.Private.HitViews.{AddsHitAt, AddsHitsOf, HasEnds, TakesEach, TakesIn, AreIdMappings, mapped_of_made};
+    ghost use Rattle.gix_refspec.specs.Private.EqualSpecs.{AddsMost, AddsMostOfKinds, AreMostMade};
+    ghost use Rattle.gix_refspec.specs.Private.Index.{ArePlacesFittedTo, ArePlacesFor, ArePlacesTaken, IsIndexFor, IsIndexOfSide, MatchesWhole};
+
+    // The mappings: those of ids by spec, from left to right alone, and then those of items by spec and
+    // item, without those of specs that equal an earlier one.
+    pub(crate) fn mappings(
+        &self,
+        index: &NameIndex<'_>,
+        survey: Survey,
+    ) -> Result<Made<'spec, 'item>, AllocError>
+        requires index { IsIndexFor self.now.direction
+            (map reading_of self.now.specs.now) (map ref_of self.now.items.now) index.now }
+        requires survey { IsSurveyOf self.now survey }
+        ensures { IfOk result (λ made. AreMostMade self.now.direction
+            (map reading_of self.now.specs.now) (map ref_of self.now.items.now)
+            (mapped_of_made self.now.direction made)) }
+    {
+        let mut made = self.started(survey.room)?;
+        self.add_hits(index, survey, &mut made)?;
+        Ok(made)
+    }
+
+    // The mappings that take no item, with room for `room` in all.
+    fn started(&self, room: usize) -> Result<Made<'spec, 'item>, AllocError>
+        ensures { IfOk result (λ made. AreIdMappings self.now.direction
+            (map reading_of self.now.specs.now) (mapped_of_made self.now.direction made)) }
+    {
+        Ok(match self.direction {
+            Direction::Forward => Made {
+                forward: id_mappings(self.alloc, self.specs, room)?,
+                backward: Vec::new(self.alloc),
+            },
+            Direction::Backward => Made {
+                forward: Vec::new(self.alloc),
+                backward: Vec::with_capacity(self.alloc, room)?,
+            },
+        })
+    }
+
+    // Adds the mappings of the specs that aren't flagged as equal to an earlier one.
+    fn add_hits(
+        &self,
+        index: &NameIndex<'_>,
+        mut survey: Survey,
+        made: &mut Made<'spec, 'item>,
+    ) -> Result<(), AllocError>
+        requires index { IsIndexFor self.now.direction
+            (map reading_of self.now.specs.now) (map ref_of self.now.items.now) index.now }
+        requires survey { IsSurveyOf self.now survey }
+        ensures { OnOk result (AddsMost
+            (map reading_of self.now.specs.now) self.now.direction
+            (AreHits (HasEnds self.now.direction)
+            (TakesIn self.now.direction (map ref_of self.now.items.now))
+            (map reading_of self.now.specs.now) (map ref_of self.now.items.now))
+            made.old made.new) }
+    {
+        for (place, spec) in self.specs.iter().enumerate() {
+            if is_flagged(survey.equal.as_slice(), place) {
+                continue;
             }
-            None => add_spec_hits(alloc, direction, place, ends, index, items, made)?,
+            let Some(ends) = ends_of(self.direction, spec) else {
+                continue;
+            };
+            let turn = Turn { spec: place, ends };
+            match survey.take_places(place) {
+                Some(places) => self.add_fitted(turn, places.as_slice(), made)?,
+                None => self.add_spec_hits(turn, index, made)?,
+            }
+        }
+        Ok(())
+    }
+
+    // Adds the mappings of a spec whose near end is a pattern that fits the items at the places. Items
+    // without a place that it fits have the name of an earlier one.
+    fn add_fitted(
+        &self,
+        turn: Turn<'spec>,
+        places: &[usize],
+        made: &mut Made<'spec, 'item>,
+    ) -> Result<(), AllocError>
+        requires { ArePlacesFittedTo
+            (kind_of_side turn.ends.near) (map ref_of self.now.items.now) places.now }
+        ensures { OnOk result (AddsMostOfKinds self.now.direction
+            turn.entry.ends turn.entry.spec (map ref_of self.now.items.now) made.old made.new) }
+    {
+        for place in places {
+            let item = &self.items[*place];
+            let word = fitted_word(turn.ends.near, item);
+            self.add_hit(turn, *place, item, word, made)?;
+        }
+        Ok(())
+    }
+
+    // Adds the mappings of a spec.
+    fn add_spec_hits(
+        &self,
+        turn: Turn<'spec>,
+        index: &NameIndex<'_>,
+        made: &mut Made<'spec, 'item>,
+    ) -> Result<(), AllocError>
+        requires { IsIndexOfSide self.now.direction
+            (kind_of_side turn.ends.near) (map ref_of self.now.items.now) index.now }
+        ensures { OnOk result (AddsHitsOf self.now turn.entry made.old made.new) }
+    {
+        match turn.ends.near {
+            SideKind::FullName(name) => self.add_places(turn, index.places(name), made),
+            SideKind::Partial(name) => self.add_places(turn, index.partial_places(name), made),
+            SideKind::Pattern { before, .. } => match index.places_behind(before) {
+                Some(places) => self.add_matches_at(turn, places, made),
+                None => self.add_matches(turn, made),
+            },
+            SideKind::Object(_) => self.add_matches(turn, made),
         }
     }
-    Ok(())
-}
 
-// Adds the mappings of a spec whose near end is a pattern that fits the items at the places. Items without
-// a place that it fits have the name of an earlier one.
-fn add_fitted<'spec, 'item>(
-    alloc: Global,
-    direction: Direction,
-    spec: usize,
-    ends: Ends<'spec>,
-    places: &[usize],
-    items: &[Item<'item>],
-    made: &mut Made<'spec, 'item>,
-) -> Result<(), AllocError>
-    requires { ArePlacesFittedTo (kind_of_side ends.near) (map ref_of items.now) places.now }
-    ensures { OnOk result (AddsMostOfKinds
-        direction ends.entry spec (map ref_of items.now) made.old made.new) }
-{
-    for place in places {
-        let item = &items[*place];
+    // Adds the mappings of a spec that takes the items at the places.
+    fn add_places(
+        &self,
+        turn: Turn<'spec>,
+        places: &[usize],
+        made: &mut Made<'spec, 'item>,
+    ) -> Result<(), AllocError>
+        requires whole { MatchesWhole (kind_of_side turn.ends.near) }
+        requires places { ArePlacesTaken (kind_of_side turn.ends.near)
+            self.now.direction (map ref_of self.now.items.now) places.now }
+        ensures { OnOk result (AddsHitsOf self.now turn.entry made.old made.new) }
+    {
+        for place in places {
+            self.add_hit(turn, *place, &self.items[*place], None, made)?;
+        }
+        Ok(())
+    }
+
+    // Adds the mappings of a spec whose near end is a pattern. The items whose names begin as it does are
+    // those at the places.
+    fn add_matches_at(
+        &self,
+        turn: Turn<'spec>,
+        places: &[usize],
+        made: &mut Made<'spec, 'item>,
+    ) -> Result<(), AllocError>
+        requires { ArePlacesFor
+            (kind_of_side turn.ends.near) (map ref_of self.now.items.now) places.now }
+        ensures { OnOk result (AddsHitsOf self.now turn.entry made.old made.new) }
+    {
+        for place in places {
+            let item = &self.items[*place];
+            if let Some(found) = match_of(turn.ends.near, item) {
+                self.add_hit(turn, *place, item, found.word, made)?;
+            }
+        }
+        Ok(())
+    }
+
+    // Adds the mappings of a spec whose near end is no partial name, by a scan of all items.
+    fn add_matches(
+        &self,
+        turn: Turn<'spec>,
+        made: &mut Made<'spec, 'item>,
+    ) -> Result<(), AllocError>
+        requires { TakesEach (kind_of_side turn.ends.near) }
+        ensures { OnOk result (AddsHitsOf self.now turn.entry made.old made.new) }
+    {
+        for (place, item) in self.items.iter().enumerate() {
+            if let Some(found) = match_of(turn.ends.near, item) {
+                self.add_hit(turn, place, item, found.word, made)?;
+            }
+        }
+        Ok(())
+    }
+
+    // Adds the mapping of a spec and the item at a place, which it takes with this word for its star.
+    #[inline(always)]
+    fn add_hit(
+        &self,
+        turn: Turn<'spec>,
+        place: usize,
+        item: &Item<'item>,
+        word: Option<&[u8]>,
+        made: &mut Made<'spec, 'item>,
+    ) -> Result<(), AllocError>
+        ensures { OnOk result (AddsHitAt self.now.direction turn.entry place
+            (bstr_bytes item.now.full_ref_name) (option_map (λ w. w.now) word.entry)
+            made.old made.new) }
+    {
         let hit = Hit {
-            spec,
-            item: *place,
+            spec: turn.spec,
+            item: place,
             near: item.full_ref_name,
-            far: filled_end(alloc, ends.far, fitted_word(ends.near, item))?,
+            far: filled_end(self.alloc, turn.ends.far, word)?,
         };
-        made.add(direction, hit)?;
+        made.add(self.direction, hit)
     }
-    Ok(())
-}
-
-// Adds the mappings of the spec at a place, which has these ends.
-fn add_spec_hits<'spec, 'item>(
-    alloc: Global,
-    direction: Direction,
-    spec: usize,
-    ends: Ends<'spec>,
-    index: &NameIndex<'_>,
-    items: &[Item<'item>],
-    made: &mut Made<'spec, 'item>,
-) -> Result<(), AllocError>
-    requires { IsIndexOfSide direction (kind_of_side ends.near) (map ref_of items.now) index.now }
-    ensures { OnOk result (AddsHits
-        direction (AreHitsOfKinds direction ends.entry spec
-        (map ref_of items.now) (map ref_of items.now))
-        made.old made.new) }
-{
-    match ends.near {
-        SideKind::FullName(name) => {
-            add_places(
-                alloc,
-                direction,
-                spec,
-                ends,
-                index.places(name),
-                items,
-                made,
-            )
-        }
-        SideKind::Partial(name) => {
-            let places = index.partial_places(name);
-            add_places(alloc, direction, spec, ends, places, items, made)
-        }
-        SideKind::Pattern { before, .. } => match index.places_behind(before) {
-            Some(places) => add_matches_at(alloc, direction, spec, ends, places, items, made),
-            None => add_matches(alloc, direction, spec, ends, items, made),
-        },
-        SideKind::Object(_) => add_matches(alloc, direction, spec, ends, items, made),
-    }
-}
-
-// Adds the mappings of a spec that takes the items at the places.
-fn add_places<'spec, 'item>(
-    alloc: Global,
-    direction: Direction,
-    spec: usize,
-    ends: Ends<'spec>,
-    places: &[usize],
-    items: &[Item<'item>],
-    made: &mut Made<'spec, 'item>,
-) -> Result<(), AllocError>
-    requires whole { MatchesWhole (kind_of_side ends.near) }
-    requires places { ArePlacesTaken
-        (kind_of_side ends.near) direction (map ref_of items.now) places.now }
-    ensures { OnOk result (AddsHits
-        direction (AreHitsOfKinds direction ends.entry spec
-        (map ref_of items.now) (map ref_of items.now))
-        made.old made.new) }
-{
-    for place in places {
-        let hit = Hit {
-            spec,
-            item: *place,
-            near: items[*place].full_ref_name,
-            far: filled_end(alloc, ends.far, None)?,
-        };
-        made.add(direction, hit)?;
-    }
-    Ok(())
-}
-
-// Adds the mappings of a spec whose near end is a pattern. The items whose names begin as it does are
-// those at the places.
-fn add_matches_at<'spec, 'item>(
-    alloc: Global,
-    direction: Direction,
-    spec: usize,
-    ends: Ends<'spec>,
-    places: &[usize],
-    items: &[Item<'item>],
-    made: &mut Made<'spec, 'item>,
-) -> Result<(), AllocError>
-    requires { ArePlacesFor (kind_of_side ends.near) (map ref_of items.now) places.now }
-    ensures { OnOk result (AddsHits
-        direction (AreHitsOfKinds direction ends.entry spec
-        (map ref_of items.now) (map ref_of items.now))
-        made.old made.new) }
-{
-    for place in places {
-        let item = &items[*place];
-        if let Some(found) = match_of(ends.near, item) {
-            let hit = Hit {
-                spec,
-                item: *place,
-                near: item.full_ref_name,
-                far: filled_end(alloc, ends.far, found.word)?,
-            };
-            made.add(direction, hit)?;
-        }
-    }
-    Ok(())
-}
-
-// Adds the mappings of a spec whose near end is no partial name, by a scan of all items.
-fn add_matches<'spec, 'item>(
-    alloc: Global,
-    direction: Direction,
-    spec: usize,
-    ends: Ends<'spec>,
-    items: &[Item<'item>],
-    made: &mut Made<'spec, 'item>,
-) -> Result<(), AllocError>
-    requires { TakesEach (kind_of_side ends.near) }
-    ensures { OnOk result (AddsHits
-        direction (AreHitsOfKinds direction ends.entry spec
-        (map ref_of items.now) (map ref_of items.now))
-        made.old made.new) }
-{
-    for (place, item) in items.iter().enumerate() {
-        if let Some(found) = match_of(ends.near, item) {
-            let hit = Hit {
-                spec,
-                item: place,
-                near: item.full_ref_name,
-                far: filled_end(alloc, ends.far, found.word)?,
-            };
-            made.add(direction, hit)?;
-        }
-    }
-    Ok(())
 }
 
 impl<'spec, 'item> Made<'spec, 'item> {

@@ -6,4 +6,4 @@ use Rattle.gix_refspec.proofs.lemmas.index.FittedLemmas.{look_for}
 use Rattle.gix_refspec.proofs.match_group.hits.Look.at.Goals as goal
 
 pub returns-in-Some : goal.returns-in-Some
-returns-in-Some c = look_for c.args.direction (reading_of c.args.spec.now) (map ref_of c.args.items.now) c.in-Some.near c.through.result c.in-Some.ensures c.through.ensures
+returns-in-Some c = look_for c.args.matching.now.direction (reading_of c.args.spec.now) (map ref_of c.args.matching.now.items.now) c.in-Some.near c.through.result c.in-Some.ensures c.through.ensures

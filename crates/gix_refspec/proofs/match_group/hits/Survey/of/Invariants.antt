@@ -5,4 +5,4 @@ use Rattle.gix_refspec.proofs.lemmas.index.FittedLemmas.{ListedUpTo}
 use Rattle.gix_refspec.proofs.match_group.hits.Survey.of.Given as goal
 
 abbrev pub invariant-loop-place : goal.invariant-loop-place
-invariant-loop-place l = ListedUpTo l.direction l.specs (map ref_of l.items) l.place l.fitted.items
+invariant-loop-place l = ListedUpTo l.matching.direction l.matching.specs.now (map ref_of l.matching.items.now) l.place l.fitted.items

@@ -8,25 +8,25 @@ use Rattle.gix_refspec.specs.Views.Group.{ref_of}
 use Rattle.gix_refspec.specs.Private.HitViews.{AreKept, mapped_of_made}
 use Rattle.gix_refspec.specs.Private.EqualSpecs.{AreMostMade}
 use Rattle.gix_refspec.proofs.lemmas.hits.EqualSpecLemmas.{most_kept}
-use Rattle.gix_refspec.proofs.match_group.mappings.kept_with.Goals as goal
-use Rattle.gix_refspec.proofs.match_group.mappings.kept_with.Goals.{in-Forward+in_ok-keep-in-Forward, in-Backward+in_ok-keep-in-Backward}
+use Rattle.gix_refspec.proofs.match_group.hits.Matching.kept_with.Goals as goal
+use Rattle.gix_refspec.proofs.match_group.hits.Matching.kept_with.Goals.{in-Forward+in_ok-keep-in-Forward, in-Backward+in_ok-keep-in-Backward}
 
 pub returns : goal.returns
 returns c =
-    let g = map reading_of c.args.specs.now in
-    let refs = map ref_of c.args.items.now in
+    let g = map reading_of c.args.self.now.specs.now in
+    let refs = map ref_of c.args.self.now.items.now in
     let old = c.in_ok-made.made in
     let kept : Direction → Made → Type 0 = λ d made. AreKept d g refs (mapped_of_made d made) in
     let most : Direction → Type 0 = λ d. AreMostMade d g refs (mapped_of_made d old) in
-    elim c.match-direction.branch [
+    elim c.match-self.branch [
       | in-Forward+in_ok-keep-in-Forward w ↦
           let new : Made = record { forward = w.keep.new.mappings; backward = old.backward } in
-          subst (kept c.args.direction) (sym w.made-is)
+          subst (kept c.args.self.now.direction) (sym w.made-is)
           (subst (λ (d : Direction). kept d new) (sym w.in-Forward.is)
           (most_kept Forward g refs (mapped_of_made Forward old) (mapped_of_made Forward new) (subst most w.in-Forward.is c.in_ok-made.ensures) w.in_ok-keep-in-Forward.ensures.ok))
       | in-Backward+in_ok-keep-in-Backward w ↦
           let new : Made = record { forward = old.forward; backward = w.keep-in-Backward.new.mappings } in
-          subst (kept c.args.direction) (sym w.made-is)
+          subst (kept c.args.self.now.direction) (sym w.made-is)
           (subst (λ (d : Direction). kept d new) (sym w.in-Backward.is)
           (most_kept Backward g refs (mapped_of_made Backward old) (mapped_of_made Backward new) (subst most w.in-Backward.is c.in_ok-made.ensures) w.in_ok-keep-in-Backward.ensures.ok))
     ]

@@ -2,7 +2,7 @@
 use Rattle.std.proofs.Common.{map, take}
 use Rattle.gix_refspec.specs.Views.Group.{ref_of}
 use Rattle.gix_refspec.proofs.lemmas.index.PlacedLemmas.{AddsPlaces}
-use Rattle.gix_refspec.proofs.match_group.hits.add_places.Given as goal
+use Rattle.gix_refspec.proofs.match_group.hits.Matching.add_places.Given as goal
 
 abbrev pub invariant-loop-place : goal.invariant-loop-place
-invariant-loop-place l = AddsPlaces l.direction l.spec l.ends (map ref_of l.items) (take l.place-index l.places) l.initial.made l.made
+invariant-loop-place l = AddsPlaces l.self.direction l.turn.spec l.turn.ends (map ref_of l.self.items.now) (take l.place-index l.places) l.initial.made l.made

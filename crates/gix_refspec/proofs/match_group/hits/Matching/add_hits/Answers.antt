@@ -11,16 +11,16 @@ use Rattle.gix_refspec.specs.Private.SideViews.{kind_of_side}
 use Rattle.gix_refspec.proofs.lemmas.hits.EqualSpecLemmas.{most_spec, most_of_spec, most_no_spec, most_equal}
 use Rattle.gix_refspec.proofs.lemmas.index.FittedLemmas.{listed_places, still_listed}
 use Rattle.gix_refspec.proofs.lemmas.index.PlacedLemmas.{side_served}
-use Rattle.gix_refspec.proofs.match_group.hits.add_hits.Goals as goal
-use Rattle.gix_refspec.proofs.match_group.hits.add_hits.Goals.{in-Some-take_places+in_ok-add_fitted-in-Some-take_places, in-None+in_ok-add_spec_hits-in-None}
+use Rattle.gix_refspec.proofs.match_group.hits.Matching.add_hits.Goals as goal
+use Rattle.gix_refspec.proofs.match_group.hits.Matching.add_hits.Goals.{in-Some-take_places+in_ok-add_fitted-in-Some-take_places, in-None+in_ok-add_spec_hits-in-None}
 
 pub loop-place-preserved : goal.loop-place-preserved
 loop-place-preserved c =
-    let direction = c.args.direction in
-    let specs = c.args.specs.now in
-    let items = map ref_of c.args.items.now in
+    let direction = c.args.self.now.direction in
+    let specs = c.args.self.now.specs.now in
+    let items = map ref_of c.args.self.now.items.now in
     let i = c.loop-place.place in
-    let spec = c.index-specs-place in
+    let spec = c.spec-item in
     let so_far = AddsMost (map reading_of specs) direction (AreHits (HasEnds direction) (TakesIn direction items) (map reading_of (take (i + 1) specs)) items) c.args.made.now in (
       elim c.match-take_places.branch [
         | in-Some-take_places+in_ok-add_fitted-in-Some-take_places w ↦
@@ -36,23 +36,23 @@ loop-place-preserved c =
 
 pub loop-place-preserved-in_default : goal.loop-place-preserved-in_default
 loop-place-preserved-in_default c = (
-  most_no_spec c.args.direction c.args.specs.now (map ref_of c.args.items.now) c.loop-place.place c.index-specs-place.result c.args.made.now c.loop-place.made c.loop-place-test.true c.index-specs-place.is c.loop-place.invariant.0 c.in_default.ensures,
+  most_no_spec c.args.self.now.direction c.args.self.now.specs.now (map ref_of c.args.self.now.items.now) c.loop-place.place c.spec-item.result c.args.made.now c.loop-place.made c.loop-place-test.true c.spec-item.is c.loop-place.invariant.0 c.in_default.ensures,
   c.loop-place.invariant.1,
   c.loop-place.invariant.2,
 )
 
 pub add_fitted-requires : goal.add_fitted-requires
 add_fitted-requires c =
-    let refs = map ref_of c.args.items.now in
+    let refs = map ref_of c.args.self.now.items.now in
     subst (ArePlacesFittedTo (kind_of_side c.in-Some.ends.near) refs) (sym c.as_slice-in-Some-take_places.ensures.value)
-    (listed_places c.args.direction c.args.specs.now refs c.loop-place.place c.index-specs-place.result c.in-Some.ends c.loop-place.survey.fitted.items c.in-Some-take_places.places.items c.loop-place-test.true c.index-specs-place.is c.loop-place.invariant.2 c.in-Some.ensures c.in-Some-take_places.ensures.listed)
+    (listed_places c.args.self.now.direction c.args.self.now.specs.now refs c.loop-place.place c.spec-item.result c.in-Some.ends c.loop-place.survey.fitted.items c.in-Some-take_places.places.items c.loop-place-test.true c.spec-item.is c.loop-place.invariant.2 c.in-Some.ensures c.in-Some-take_places.ensures.listed)
 
 pub add_spec_hits-requires : goal.add_spec_hits-requires
-add_spec_hits-requires c = side_served c.args.direction c.args.specs.now (map ref_of c.args.items.now) c.args.index.now c.loop-place.place c.index-specs-place.result c.in-Some.ends c.loop-place-test.true c.index-specs-place.is c.requires.index c.in-Some.ensures
+add_spec_hits-requires c = side_served c.args.self.now.direction c.args.self.now.specs.now (map ref_of c.args.self.now.items.now) c.args.index.now c.loop-place.place c.spec-item.result c.in-Some.ends c.loop-place-test.true c.spec-item.is c.requires.index c.in-Some.ensures
 
 pub loop-place-preserved-then-is_flagged : goal.loop-place-preserved-then-is_flagged
 loop-place-preserved-then-is_flagged c = (
-  most_equal c.args.direction c.args.specs.now (map ref_of c.args.items.now) c.loop-place.place c.index-specs-place.result c.as_slice.result.now c.args.made.now c.loop-place.made c.loop-place-test.true c.index-specs-place.is (subst (FlagsEqual (map reading_of c.args.specs.now)) (sym c.as_slice.ensures.value) c.loop-place.invariant.1) (c.is_flagged.ensures.0 c.if-is_flagged.true) c.loop-place.invariant.0,
+  most_equal c.args.self.now.direction c.args.self.now.specs.now (map ref_of c.args.self.now.items.now) c.loop-place.place c.spec-item.result c.as_slice.result.now c.args.made.now c.loop-place.made c.loop-place-test.true c.spec-item.is (subst (FlagsEqual (map reading_of c.args.self.now.specs.now)) (sym c.as_slice.ensures.value) c.loop-place.invariant.1) (c.is_flagged.ensures.0 c.if-is_flagged.true) c.loop-place.invariant.0,
   c.loop-place.invariant.1,
   c.loop-place.invariant.2,
 )

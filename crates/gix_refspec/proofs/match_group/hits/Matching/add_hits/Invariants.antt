@@ -6,10 +6,10 @@ use Rattle.gix_refspec.specs.Matching.Hits.{AreHits}
 use Rattle.gix_refspec.specs.Private.HitViews.{HasEnds, TakesIn}
 use Rattle.gix_refspec.specs.Private.EqualSpecs.{AddsMost, FlagsEqual}
 use Rattle.gix_refspec.specs.Private.Index.{ListEach}
-use Rattle.gix_refspec.proofs.match_group.hits.add_hits.Given as goal
+use Rattle.gix_refspec.proofs.match_group.hits.Matching.add_hits.Given as goal
 
 abbrev pub invariant-loop-place : goal.invariant-loop-place
 invariant-loop-place l =
-    AddsMost (map reading_of l.specs) l.direction (AreHits (HasEnds l.direction) (TakesIn l.direction (map ref_of l.items)) (map reading_of (take l.place l.specs)) (map ref_of l.items)) l.initial.made l.made
-    × FlagsEqual (map reading_of l.specs) l.survey.equal.items
-    × ListEach l.direction (map reading_of l.specs) (map ref_of l.items) l.survey.fitted.items
+    AddsMost (map reading_of l.self.specs.now) l.self.direction (AreHits (HasEnds l.self.direction) (TakesIn l.self.direction (map ref_of l.self.items.now)) (map reading_of (take l.place l.self.specs.now)) (map ref_of l.self.items.now)) l.initial.made l.made
+    × FlagsEqual (map reading_of l.self.specs.now) l.survey.equal.items
+    × ListEach l.self.direction (map reading_of l.self.specs.now) (map ref_of l.self.items.now) l.survey.fitted.items
