@@ -1,5 +1,5 @@
 -- Rows, one after another, and their parts.
-use Rattle.std.proofs.Common.{◌≡◌, ℕ, ◌+◌, ◌<◌, List, [], ◌∷◌, ◌++◌, map, flat_map, length, take, get_or, unwrap_or, replicate, codes, Some, refl, sym, ap, ◌∙◌, subst, append_assoc}
+use Rattle.std.proofs.Common.{◌≡◌, ℕ, zero, suc, arith, ◌+◌, ◌<◌, ◌≤◌, List, [], ◌∷◌, ◌++◌, map, flat_map, length, take, get_or, unwrap_or, replicate, codes, Some, refl, sym, ap, ◌∙◌, subst, append_assoc}
 use Rattle.std.proofs.lemmas.List.{append-nil, map-append, take_more}
 use Rattle.std.proofs.lemmas.Grind.{flat_map-append}
 use Rattle.gix_refspec.specs.Matching.Mappings.{Mapped}
@@ -88,11 +88,18 @@ pub AddsMappings-zeros : (f : Form) (o : Columns) (texts : List (List ℕ)) (ms 
 AddsMappings-zeros f o texts ms old new same told =
     subst (λ (x : Form). AddsMappings x o texts (map mapped_of ms) old new) (sym same) (told ∙ ap (λ l. old ++ flat_map fields l) (map-twice (row_of [] o texts) mapped_of ms))
 
+-- two spaces or more
+two_or_more : (n : ℕ) → 2 ≤ n → (more : ℕ) × (replicate {A = ℕ} n 32 ≡ 32 ∷ 32 ∷ replicate more 32)
+two_or_more zero enough = absurd (omega arith)
+two_or_more (suc zero) enough = absurd (omega arith)
+two_or_more (suc (suc n)) enough = (n, refl)
+
 -- a field and spaces are a cell
-pub PutsCell-of : (field old shown gap new : List ℕ) (more : ℕ) → PutsQuoted field old shown → gap ≡ shown ++ 32 ∷ 32 ∷ [] → new ≡ gap ++ replicate more 32 → PutsCell field old new
-PutsCell-of field old shown gap new more q two rest =
-    let spaces = 32 ∷ 32 ∷ replicate more 32 in
-    (q.0 ++ spaces, (q.0, more, q.1, refl), behind old q.0 shown spaces new q.2 (behind shown (32 ∷ 32 ∷ []) gap (replicate more 32) new two rest))
+pub PutsCell-of : (field old mid new : List ℕ) (count : ℕ) → 2 ≤ count → PutsQuoted field old mid → new ≡ mid ++ replicate count 32 → PutsCell field old new
+PutsCell-of field old mid new count enough q rest =
+    let spaces = two_or_more count enough in
+    let all = 32 ∷ 32 ∷ replicate spaces.0 32 in
+    (q.0 ++ all, (q.0, spaces.0, q.1, refl), behind old q.0 mid all new q.2 (rest ∙ ap (λ l. mid ++ l) spaces.1))
 
 -- the text of one more spec
 pub texts_next : (specs : List RefSpecRef) (i : ℕ) (d : RefSpecRef) (old new : List BString) (text : BString) → i < length specs → d ≡ get_or specs i d → printed (reading_of d) ≡ Some (bstring_bytes text) → new ≡ old ++ text ∷ [] → AreSpecTexts (map reading_of (take i specs)) (map bstring_bytes old) → AreSpecTexts (map reading_of (take (i + 1) specs)) (map bstring_bytes new)

@@ -59,8 +59,7 @@ impl Layout {
     {
         let shown = self.shown_width(alloc, field)?;
         self.put_field(out, field)?;
-        out.extend_from_slice(b"  ")?;
-        put_spaces(out, width.saturating_sub(shown))
+        put_spaces(out, width.saturating_sub(shown).saturating_add(2))
     }
 
     // How many characters one of the fields has as it is shown.
