@@ -13,11 +13,11 @@ use std::alloc::{AllocError, Global};
 // How many lengths have marks of their own.
 const LENGTHS: usize = 128;
 
-// Of sixteen hashes that aren't asked for at most one has a mark.
-const MARKS_A_NAME: usize = 16;
+// Of four numbers that aren't asked for at most one has a mark, and so of sixteen names at most one passes.
+const MARKS_A_NAME: usize = 4;
 
-// Mixes the bytes of a number, and any odd number with as many ones as zeros serves: this one is that of
-// the golden ratio.
+// Mixes the bytes of a number. Any odd number serves that has ones and zeros everywhere: this one is made
+// from the golden ratio.
 const MIXER: u64 = 0x9e37_79b9_7f4a_7c15;
 
 // Marks of numbers by their lower bits.
