@@ -31,7 +31,7 @@ no_records end [] cut = refl
 no_records end (first ∷ more) cut = absurd (not_of_nothing end first more cut.1)
 
 -- the first record and those of the rest are those of the text
-first_and_more : (end : ℕ) (text first rest : List ℕ) (more : List (List ℕ)) → text ≢ [] → Lacks end first → AreRecords end more rest → ((text ≡ first ++ (end ∷ rest)) ⊎ ((text ≡ first) × (rest ≡ []))) → AreRecords end (first ∷ more) text
+pub first_and_more : (end : ℕ) (text first rest : List ℕ) (more : List (List ℕ)) → text ≢ [] → Lacks end first → AreRecords end more rest → ((text ≡ first ++ (end ∷ rest)) ⊎ ((text ≡ first) × (rest ≡ []))) → AreRecords end (first ∷ more) text
 first_and_more end text first rest more full lacks cut (inl ended) = (lacks, inl (rest, ended, cut))
 first_and_more end text first rest more full lacks cut (inr last) =
     let none = no_records end more (subst (AreRecords end more) last.1 cut) in

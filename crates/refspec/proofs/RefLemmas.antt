@@ -1,7 +1,7 @@
 -- Lines of refs: where their digits end, and what many of them make of the refs before them.
-use Rattle.std.proofs.Common.{◌≡◌, ℕ, ◌+◌, ◌-◌, ◌<◌, inl, inr, Option, None, Some, List, [], ◌∷◌, ◌++◌, map, length, take, get_or, refl, sym, ap, ◌∙◌, subst, length-append, arith}
+use Rattle.std.proofs.Common.{◌≡◌, ◌≢◌, append_assoc, ℕ, ◌-◌, ◌<◌, inl, inr, Option, None, Some, List, [], ◌∷◌, ◌++◌, map, length, take, get_or, refl, sym, ap, ◌∙◌, subst, length-append, arith}
 use Rattle.std.proofs.Math.Seq.{get_or-append_seam, take-append_seam}
-use Rattle.std.proofs.lemmas.List.{length-map, map-append, take_more}
+use Rattle.std.proofs.lemmas.List.{append-nil, length-map}
 use Rattle.std.specs.Option.{IfNone}
 use Rattle.bstr.specs.BStr.{bstr_bytes}
 use Rattle.gix_refspec.specs.Matching.Match.{Ref}
@@ -12,7 +12,9 @@ use Rattle.gix_refspec.specs.declared.oid.Kind.TheVariants.{Sha1, Sha256}
 use Rattle.gix_refspec.specs.declared.oid.ObjectId.{ObjectId}
 use Rattle.gix_refspec.proofs.lemmas.texts.ObjectIdLemmas.{id_or_fault}
 use Rattle.refspec.specs.declared.refs.ToldRef.{ToldRef}
-use Rattle.refspec.specs.Refs.{AddsLine, AddsRefs, IsIdThen, IsLast, IsNoRefLine, peeled, ref_told}
+use Rattle.refspec.specs.Input.{AreRecords, IsFirstRecord}
+use Rattle.refspec.specs.Refs.{AddsLine, AddsRefs, IsIdThen, IsLast, IsNoRefLine, TellRefs, peeled, ref_told}
+use Rattle.refspec.proofs.RecordLemmas.{first_and_more}
 
 -- the byte behind so many digits is the space
 pub space_at : (line digits name : List ℕ) (space n : ℕ) → length digits ≡ n → line ≡ digits ++ (space ∷ name) → (n < length line) × (get_or line n 0 ≡ space) × (take n line ≡ digits)
@@ -39,10 +41,25 @@ AddsRefs-append : (lines : List (List ℕ)) (line : List ℕ) (old mid new : Lis
 AddsRefs-append [] line old mid new none more = (new, subst (λ (l : List Ref). AddsLine line l new) none more, refl)
 AddsRefs-append (l ∷ lines) line old mid new some more = (some.0, some.1, AddsRefs-append lines line some.0 mid new some.2 more)
 
-pub AddsRefs-next : {X : Type 0} (bytes : X → List ℕ) (xs : List X) (i : ℕ) (d : X) (line : List ℕ) (old mid new : List Ref) → i < length xs → line ≡ bytes (get_or xs i d) → AddsRefs (map bytes (take i xs)) old mid → AddsLine line mid new → AddsRefs (map bytes (take (i + 1) xs)) old new
-AddsRefs-next bytes xs i d line old mid new below same so_far more =
-    let step : map bytes (take (i + 1) xs) ≡ map bytes (take i xs) ++ line ∷ [] = ap (map bytes) (take_more xs i d below) ∙ (map-append bytes (take i xs) (get_or xs i d ∷ []) ∙ ap (λ z. map bytes (take i xs) ++ z ∷ []) (sym same)) in
-    subst (λ (l : List (List ℕ)). AddsRefs l old new) (sym step) (AddsRefs-append (map bytes (take i xs)) line old mid new so_far more)
+-- some records told of the refs so far, and whatever cuts the rest completes them to those of the input
+abbrev pub TellsSoFar : ℕ → List Ref → List ℕ → List ℕ → Type 0
+TellsSoFar end refs rest input = (done : List (List ℕ)) × ((more : List (List ℕ)) → AreRecords end more rest → AreRecords end (done ++ more) input) × AddsRefs done [] refs
+
+-- at the start the whole input is the rest
+pub TellsSoFar-start : (end : ℕ) (refs : List Ref) (input : List ℕ) → refs ≡ [] → TellsSoFar end refs input input
+TellsSoFar-start end refs input none = ([], (λ more cut. cut), none)
+
+-- one record more
+pub TellsSoFar-more : (end : ℕ) (old new : List Ref) (text first rest input : List ℕ) → text ≢ [] → IsFirstRecord end text first rest → AddsLine first old new → TellsSoFar end old text input → TellsSoFar end new rest input
+TellsSoFar-more end old new text first rest input full is line (done, cut, told) = (
+  done ++ first ∷ [],
+  (λ more those. subst (λ (rs : List (List ℕ)). AreRecords end rs input) (sym (append_assoc done (first ∷ []) more)) (cut (first ∷ more) (first_and_more end text first rest more full is.0 those is.1))),
+  AddsRefs-append done first [] old new told line,
+)
+
+-- in the end nothing is left
+pub TellRefs-end : (end : ℕ) (refs : List Ref) (rest input : List ℕ) → rest ≡ [] → TellsSoFar end refs rest input → TellRefs end input refs
+TellRefs-end end refs rest input none (done, cut, told) = (done, subst (λ (rs : List (List ℕ)). AreRecords end rs input) (append-nil done) (cut [] none), told)
 
 -- what holds of nothing holds by what follows from it
 pub on_none : {T : Type 0} (r : Option T) (P Q : Type 0) → IfNone r P → (P → Q) → IfNone r Q

@@ -6,6 +6,7 @@ use Rattle.bstr.specs.BStr.{bstr_bytes}
 use Rattle.gix_refspec.specs.Matching.Match.{Ref}
 use Rattle.gix_refspec.specs.Texts.ObjectId.{IsIdText, id_bytes}
 use Rattle.refspec.specs.declared.refs.ToldRef.{ToldRef}
+use Rattle.refspec.specs.Input.{AreRecords}
 
 -- the ref that was told of
 abbrev pub ref_told : ToldRef → Ref
@@ -61,3 +62,7 @@ AddsLine line old new =
 abbrev pub AddsRefs : List (List ℕ) → List Ref → List Ref → Type 0
 AddsRefs [] old new = new ≡ old
 AddsRefs (line ∷ lines) old new = (more : List Ref) × AddsLine line old more × AddsRefs lines more new
+
+-- the records of an input tell of these refs
+abbrev pub TellRefs : ℕ → List ℕ → List Ref → Type 0
+TellRefs end input refs = (records : List (List ℕ)) × AreRecords end records input × AddsRefs records [] refs

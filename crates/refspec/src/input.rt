@@ -61,8 +61,8 @@ pub fn records(alloc: Global, input: &[u8], end: u8) -> Result<Vec<&[u8]>, Alloc
     Ok(records)
 }
 
-// The first record of a text, and what follows its end.
-fn first_record(text: &[u8], end: u8) -> (&[u8], &[u8])
+/// The first record of a text, and what follows its end.
+pub fn first_record(text: &[u8], end: u8) -> (&[u8], &[u8])
     ensures { IsFirstRecord end text.now result.0.now result.1.now }
 {
     match text.find_byte(end) {

@@ -11,7 +11,7 @@ ghost use Rattle.refspec.specs.Plan.{AddsPlan, AddsWritten};
 ghost use Rattle.refspec.specs.Shown.{KeepsPage, KeepsResults};
 
 use crate::call::{Call, Form};
-use crate::input::{end_of, records};
+use crate::input::end_of;
 use crate::json;
 use crate::mappings::{Columns, canonical_texts, source_of, tell_mappings, text_at};
 use crate::page::{Page, put_advice};
@@ -39,8 +39,7 @@ pub fn tell_plan(
         page.new.messages.items (map reading_of specs.entry.items)
         page.old.results.items page.new.results.items) }
 {
-    let records = records(alloc, input, end_of(call.ends))?;
-    let told = Told::read(alloc, records.as_slice())?;
+    let told = Told::read(alloc, input, end_of(call.ends))?;
     tell_bad_records(alloc, call.input, told.bad.as_slice(), page)?;
     let items = items_of(alloc, told.refs.as_slice())?;
     let texts = canonical_texts(alloc, specs.as_slice())?;

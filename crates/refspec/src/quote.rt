@@ -1,9 +1,13 @@
 //! Names and texts as people see them.
 
-ghost use Rattle.std.specs.Prelude.{◌≡◌, ◌++◌, ◌∷◌, [], List, OnOk, ℕ};
+ghost use Rattle.std.specs.Prelude.{◌≡◌, ◌≤◌, ◌++◌, ◌∷◌, [], List, OnOk, length, ℕ};
 ghost use Rattle.refspec.specs.Shown.{Grows, PutsQuoted};
 
 use std::alloc::AllocError;
+use std::simd::prelude::*;
+
+// How many bytes are looked at at once.
+const LANES: usize = 16;
 
 /// Puts a text at the end: as it is where it can be shown so, else in double quotes with escapes, as Git
 /// quotes paths under `core.quotePath`. The empty text is quoted too.
@@ -45,12 +49,25 @@ pub fn is_plain(text: &[u8]) -> bool {
 
 /// Whether a text has bytes, and each is a printed character of ASCII that needs no escape.
 pub fn is_plain_ascii(text: &[u8]) -> bool {
-    // Each byte is looked at, with no early end, so that many can be looked at at once.
-    let mut is_calm = !text.is_empty();
-    for byte in text {
-        is_calm &= is_calm_byte(*byte);
+    if text.len() < LANES {
+        return !text.is_empty() && text.iter().all(|byte| is_calm_byte(*byte));
     }
-    is_calm
+    // The last bytes may be looked at once more.
+    let whole = text.chunks_exact(LANES).all(|bytes| are_calm(bytes));
+    whole && are_calm(&text[text.len() - LANES..])
+}
+
+// Whether of the first bytes of a text, which are looked at at once, none needs an escape.
+#[inline(always)]
+fn are_calm(text: &[u8]) -> bool
+    requires { LANES ≤ length text.now }
+{
+    let bytes = u8x16::from_slice(text);
+    let odd = bytes.simd_lt(u8x16::splat(b' '))
+        | bytes.simd_gt(u8x16::splat(b'~'))
+        | bytes.simd_eq(u8x16::splat(b'"'))
+        | bytes.simd_eq(u8x16::splat(b'\\'));
+    !odd.any()
 }
 
 // Whether a byte is a printed character of ASCII that needs no escape.

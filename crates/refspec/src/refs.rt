@@ -4,8 +4,9 @@ ghost use Rattle.std.specs.Prelude.{◌≡◌, ◌↔◌, ◌⊎◌, ◌-◌, �
 ghost use Rattle.bstr.specs.BStr.{bstr_bytes};
 ghost use Rattle.gix_refspec.specs.Views.Group.{ref_of};
 ghost use Rattle.gix_refspec.specs.Texts.ObjectId.{digits_of, id_bytes};
-ghost use Rattle.refspec.specs.Refs.{AddsLine, AddsRefs, IsIdThen, IsLast, IsNoRefLine, peeled, ref_told};
+ghost use Rattle.refspec.specs.Refs.{AddsLine, IsIdThen, IsLast, IsNoRefLine, TellRefs, peeled, ref_told};
 
+use crate::input::first_record;
 use bstr::{BStr, ByteSlice};
 use gix_refspec::match_group::Item;
 use gix_refspec::oid::{Kind, ObjectId};
@@ -55,19 +56,21 @@ pub struct Told<'a> {
 }
 
 impl<'a> Told<'a> {
-    /// What the records of an input tell.
-    pub fn read(alloc: Global, records: &[&'a [u8]]) -> Result<Told<'a>, AllocError>
-        ensures { IfOk result (λ told. AddsRefs
-            (map (λ r. r.now) records.now) [] (map ref_told told.refs.items)) }
+    /// What the records of an input tell. Each ends with the byte, which the last may lack.
+    pub fn read(alloc: Global, input: &'a [u8], end: u8) -> Result<Told<'a>, AllocError>
+        ensures { IfOk result (λ told. TellRefs end input.now (map ref_told told.refs.items)) }
     {
         let mut told = Told {
-            refs: Vec::with_capacity(alloc, records.len())?,
+            refs: Vec::new(alloc),
             bad: Vec::new(alloc),
         };
         let mut number: usize = 0;
-        for record in records {
+        let mut rest = input;
+        while !rest.is_empty() {
+            let (record, after) = first_record(rest, end);
             number = number.saturating_add(1);
             told.add(number, record)?;
+            rest = after;
         }
         Ok(told)
     }

@@ -1,10 +1,15 @@
--- Each record is one line more.
-use Rattle.std.proofs.Common.{ℕ, List, [], Bor, map, get_or, refl}
+-- Each turn reads the first record of the rest; in the end nothing is left.
+use Rattle.std.proofs.Common.{ap, map}
 use Rattle.refspec.specs.Refs.{ref_told}
-use Rattle.refspec.proofs.RefLemmas.{AddsRefs-next}
+use Rattle.refspec.proofs.RecordLemmas.{empty_from_test, full_from_test}
+use Rattle.refspec.proofs.RefLemmas.{TellRefs-end, TellsSoFar-more, TellsSoFar-start}
 use Rattle.refspec.proofs.refs.Told.read.Goals as goal
 
-pub loop-record-preserved : goal.loop-record-preserved
-loop-record-preserved c =
-    let none : Bor (List ℕ) = record { ref_ptr = (0, 0); now = [] } in
-    AddsRefs-next (λ (r : Bor (List ℕ)). r.now) c.args.records.now c.loop-record.record-index none (get_or c.args.records.now c.loop-record.record-index none).now [] (map ref_told c.loop-record.told.refs.items) (map ref_told c.add.new.self.refs.items) c.loop-record-test.true refl c.loop-record.invariant c.in_ok-add.ensures
+pub loop-rest-init : goal.loop-rest-init
+loop-rest-init c = TellsSoFar-start c.args.end _ c.args.input.now (ap (map ref_told) c.new.ensures.items)
+
+pub loop-rest-preserved : goal.loop-rest-preserved
+loop-rest-preserved c = TellsSoFar-more c.args.end (map ref_told c.loop-rest.told.refs.items) (map ref_told c.add.new.self.refs.items) c.loop-rest.rest.now c.first_record.result.0.now c.first_record.result.1.now c.args.input.now (full_from_test c.loop-rest.rest.now c.loop-rest-test.ensures) c.first_record.ensures c.in_ok-add.ensures c.loop-rest.invariant
+
+pub returns : goal.returns
+returns c = TellRefs-end c.args.end (map ref_told c.loop-rest.told.refs.items) c.loop-rest.rest.now c.args.input.now (empty_from_test c.loop-rest.rest.now c.loop-rest-test.ensures) c.loop-rest.invariant
