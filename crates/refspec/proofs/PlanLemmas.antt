@@ -37,7 +37,7 @@ AddsWritten-after form.Zeros texts made before messages old mid new kept told = 
 AddsWritten-after form.Json texts (written.Mappings outcome) before messages old mid new kept told = tt
 AddsWritten-after form.Json texts (written.Nothing error) before messages old mid new kept told = (tt, tt)
 
--- the plan of the refs in the records, told behind two lists of messages
+-- the plan of the refs in the records, told after two lists of messages
 pub AddsPlan-of : (f one two : Form) (end e : ℕ) (input : List ℕ) (g : List Reading) (records lent : List (List ℕ)) (items told : List Ref) (texts shown : List (List ℕ)) (made : Written) (out : List LeftOut) (before messages old first second new : List ℕ)
     → AreRecords e records input → e ≡ end → lent ≡ records → AddsRefs lent [] told → items ≡ told → AreSpecTexts g texts → IsPlan g items made out
     → one ≡ f → KeepsResults f old first → two ≡ one → KeepsResults one first second → shown ≡ texts → AddsWritten two shown made before messages second new → AddsPlan f end input messages g old new

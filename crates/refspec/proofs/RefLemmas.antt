@@ -16,7 +16,7 @@ use Rattle.refspec.specs.Input.{AreRecords, IsFirstRecord}
 use Rattle.refspec.specs.Refs.{AddsLine, AddsRefs, IsIdThen, IsLast, IsNoRefLine, TellRefs, peeled, ref_told}
 use Rattle.refspec.proofs.RecordLemmas.{first_and_more}
 
--- the byte behind so many digits is the space
+-- the byte after so many digits is the space
 pub space_at : (line digits name : List ℕ) (space n : ℕ) → length digits ≡ n → line ≡ digits ++ (space ∷ name) → (n < length line) × (get_or line n 0 ≡ space) × (take n line ≡ digits)
 space_at line digits name space n long here = (
   omega (arith, ap length here, length-append digits (space ∷ name)),

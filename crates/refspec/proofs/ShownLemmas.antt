@@ -17,7 +17,7 @@ pub both_ok : {T E : Type 0} (r : Result T E) (P Q R : Type 0) → OnOk r P → 
 both_ok (Ok x) P Q R one other gives = gives one other
 both_ok (Err e) P Q R one other gives = one
 
--- bytes behind others
+-- bytes after others
 pub behind : (old inner mid more new : List ℕ) → mid ≡ old ++ inner → new ≡ mid ++ more → new ≡ old ++ (inner ++ more)
 behind old inner mid more new before put = put ∙ (ap (λ l. l ++ more) before ∙ append_assoc old inner more)
 

@@ -8,7 +8,7 @@ use Rattle.refspec.specs.declared.texts.Text.{Text}
 use Rattle.refspec.specs.Input.{AreRecords, end_byte}
 use Rattle.refspec.specs.Texts.{AddsTexts, AreTexts, asked, said}
 
--- one element more was seen, and what it gives was put behind the others
+-- one element more was seen, and what it gives was put after the others
 pub seen_next : {W X Y Z : Type 0} (f : W → Y) (h : X → W) (g : Z → Y) (xs : List X) (i : ℕ) (x : X) (old : List Y) (ts more : List Z) (z : Z) → i < length xs → more ≡ ts ++ z ∷ [] → g z ≡ f (h (get_or xs i x)) → map g ts ≡ old ++ map f (map h (take i xs)) → map g more ≡ old ++ map f (map h (take (i + 1) xs))
 seen_next f h g xs i x old ts more z below grown same so_far =
     let y = get_or xs i x in

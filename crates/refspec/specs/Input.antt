@@ -11,7 +11,7 @@ abbrev pub end_byte : Ends → ℕ
 end_byte ends.Newline = 10
 end_byte _ = 0
 
--- one read took some bytes and put them behind the old input, or found the end
+-- one read took some bytes and put them after the old input, or found the end
 pub record ReadsSome (more : Bool) (reader_old reader_new : Option (List ℕ)) (old new : List ℕ) : Type 0 where
   pub came : List ℕ
   pub taken : Consumes reader_old reader_new came
@@ -23,7 +23,7 @@ pub record ReadsToEnd (old new : Option (List ℕ)) (input : List ℕ) : Type 0 
   pub taken : Consumes old new input
   pub ended : IsAtEnd new
 
--- each record lacks the byte, and the byte stands behind it; the last may lack it there if it isn't empty
+-- each record lacks the byte, and the byte follows it; the last may lack it there if it isn't empty
 abbrev pub AreRecords : ℕ → List (List ℕ) → List ℕ → Type 0
 AreRecords end [] input = input ≡ []
 AreRecords end (record_ ∷ records) input =

@@ -52,7 +52,7 @@ pub record IsTagLine (line : List ℕ) : Type 0 where
 abbrev pub IsNoRefLine : List ℕ → Type 0
 IsNoRefLine line = (id name : List ℕ) → ¬ (IsIdThen line id name)
 
--- what a line makes of the refs before it. That of a tag is passed over where the tag stands elsewhere; where, isn't said here
+-- what a line makes of the refs before it. That of a tag is passed over where the tag is elsewhere; where, isn't said here
 abbrev pub AddsLine : List ℕ → List Ref → List Ref → Type 0
 AddsLine line old new =
     ((r : Ref) × IsRefLine line r × (new ≡ old ++ r ∷ []))

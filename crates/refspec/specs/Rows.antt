@@ -26,7 +26,7 @@ pub record Row : Type 0 where
   pub second : List ℕ
   pub spec : List ℕ
 
--- of a source and a destination the one that stands first
+-- of a source and a destination the one that is shown first
 abbrev pub first_of : Columns → List ℕ → List ℕ → List ℕ
 first_of columns.SourceFirst source destination = source
 first_of columns.DestinationFirst source destination = destination
@@ -36,7 +36,7 @@ abbrev pub second_of : Columns → List ℕ → List ℕ → List ℕ
 second_of columns.SourceFirst source destination = destination
 second_of columns.DestinationFirst source destination = source
 
--- the side of a mapping that stands first, with something in place of a destination that isn't there
+-- the side of a mapping that is shown first, with something in place of a destination that isn't there
 abbrev pub first_side : List ℕ → Columns → Mapped → List ℕ
 first_side missing order m = first_of order (source_text m.source) (unwrap_or m.destination missing)
 

@@ -35,10 +35,10 @@ pub record KeepsPage (old new : Page) : Type 0 where
   pub form : new.form ≡ old.form
   pub kept : KeepsResults old.form old.results.items new.results.items
 
--- what people see of the name was put behind the old bytes
+-- what people see of the name was put after the old bytes
 abbrev pub PutsQuoted : List ℕ → List ℕ → List ℕ → Type 0
 PutsQuoted name old new = (shown : List ℕ) × IsQuoted name shown × (new ≡ old ++ shown)
 
--- bytes were put behind the old ones
+-- bytes were put after the old ones
 abbrev pub Grows : List ℕ → List ℕ → Type 0
 Grows old new = (more : List ℕ) × (new ≡ old ++ more)

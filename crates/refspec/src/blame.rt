@@ -33,7 +33,7 @@ pub struct Blame<'a> {
     pub at: usize,
 }
 
-// A side as it stands in a text, behind so many bytes.
+// A side within a text, after so many bytes.
 #[derive(Clone, Copy)]
 struct Part<'a> {
     side: Side,
@@ -141,7 +141,7 @@ fn place_of(side: &[u8], fault: name::Error) -> Option<(usize, usize)> {
     }
 }
 
-// Where a slash stands that begins or ends an empty component.
+// Where a slash begins or ends an empty component.
 fn empty_component(side: &[u8]) -> (usize, usize) {
     if side.starts_with(b"/") {
         return (0, 1);

@@ -37,7 +37,7 @@ pub enum Ends {
     Newline,
     /// A zero byte.
     Zero,
-    /// A zero byte, and two records a setting: where it stands, and its key, a newline and its value, as
+    /// A zero byte, and two records a setting: its file, and its key, a newline and its value, as
     /// `git config --show-origin -z --get-regexp` prints them.
     Settings,
 }

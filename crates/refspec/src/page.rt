@@ -37,7 +37,7 @@ impl Page {
         }
     }
 
-    /// Tells that a text is refused: where it stands, the text, the reason, the part that is wrong and
+    /// Tells that a text is refused: its place, the text, the reason, the part that is wrong and
     /// what to do.
     pub fn tell_refusal(
         &mut self,
@@ -54,7 +54,7 @@ impl Page {
         }
     }
 
-    /// Puts a name at the end of the results: in a line behind some bytes, or ended by a zero byte. In JSON
+    /// Puts a name at the end of the results: in a line after some bytes, or ended by a zero byte. In JSON
     /// it is no row by itself.
     pub fn put_name(&mut self, before: &[u8], name: &[u8]) -> Result<(), AllocError>
         ensures form { OnOk result (self.new.form ≡ self.old.form) }

@@ -174,7 +174,7 @@ impl<'a> Told<'a> {
     }
 }
 
-// The id that a line begins with, and the name behind the tab or the space that ends it.
+// The id that a line begins with, and the name after the tab or the space that ends it.
 fn id_and_name(line: &[u8]) -> Option<(ObjectId, &[u8])>
     ensures some { IfSome result (λ r. IsIdThen line.now (id_bytes r.0) r.1.now) }
     ensures none { IfNone result (IsNoRefLine line.now) }

@@ -10,7 +10,7 @@ use bstr::ByteSlice;
 use gix_refspec::parsing::Operation;
 use std::alloc::{AllocError, Global};
 
-/// Where a text stands.
+/// Where a text is found.
 #[derive(Clone, Copy, Debug)]
 pub enum Place<'a> {
     /// The word of the call with this number, counted from 1.
@@ -137,7 +137,7 @@ fn add_records<'a>(
     Ok(())
 }
 
-// Adds the values of settings. Each has two records: where it stands, and its key, a newline and its
+// Adds the values of settings. Each has two records: its file, and its key, a newline and its
 // value.
 fn add_settings<'a>(records: &[&'a [u8]], texts: &mut Vec<Text<'a>>) -> Result<(), AllocError> {
     let mut origin: Option<&'a [u8]> = None;

@@ -29,7 +29,7 @@ pub record MayBeWritten (g : List Reading) (items : List Ref) (m : Mapped) : Typ
   pub named : IsNamed m
   pub writes : WritesRef m
 
--- the list has just the mappings that stay and are between names of refs, no two of them to one destination, and out has
+-- the list has exactly the mappings that stay and are between names of refs, no two of them to one destination, and out has
 -- the others that stay
 pub record IsPlan (g : List Reading) (items : List Ref) (list : List Mapped) (out : List LeftOut) : Type 0 where
   pub kept : List Mapped

@@ -22,11 +22,11 @@ IsFetchedFrom g tracking n = Any (MakesBackward (tracking ∷ []) (name n) (Some
 abbrev pub HasBoth : List Mapped → List ℕ → List ℕ → Type 0
 HasBoth list remote tracking = HasPair list (record { item = None; source = name remote; destination = Some tracking; spec = 0 })
 
--- the mappings have the remote ref with just the branches that it is fetched to
+-- the mappings have the remote ref with exactly the branches that it is fetched to
 abbrev pub TellsBranches : List Reading → Ref → List Mapped → Type 0
 TellsBranches g remote list = (branch : List ℕ) → HasBoth list remote.name branch ↔ IsFetchedTo g remote branch
 
--- and the tracking branch with just the remote refs that it is fetched from
+-- and the tracking branch with exactly the remote refs that it is fetched from
 abbrev pub TellsRemotes : List Reading → Ref → List Mapped → Type 0
 TellsRemotes g tracking list = (n : List ℕ) → HasBoth list n tracking.name ↔ IsFetchedFrom g tracking n
 

@@ -23,7 +23,7 @@ pub struct Asked<'spec, 'item> {
     pub outcome: match_lhs::Outcome<'spec, 'item>,
 }
 
-/// Matches the fetch specs among these over just the items that there is to ask a server for. The same
+/// Matches the fetch specs among these over only the items that a client asks a server for. The same
 /// pairs stay as over all items. `None` exactly where some spec has no list that is safe to ask for.
 /// Fails if memory runs out.
 pub fn match_asked<'spec, 'item>(

@@ -1,10 +1,10 @@
 //! What a caller can prove of refspecs, from the public words, contracts, laws and lemmas of
 //! `gix_refspec` alone.
 //!
-//! Unless memory runs out, `parse` takes just the texts of the grammar, two specs are equal just
-//! where they are for one operation and print the same, and what a spec prints is read again as an
-//! equal spec. The modules gather groups, plan a fetch, look up tracking branches, and match only the
-//! refs that there is to ask a server for.
+//! Unless memory runs out, `parse` accepts exactly the texts of the grammar, two specs are equal
+//! exactly if they are for one operation and print the same, and what a spec prints is read again as
+//! an equal spec. The modules gather groups, plan a fetch, look up tracking branches, and match only
+//! the refs that a client asks a server for.
 #![tactic(auto)]
 
 ghost use Rattle.std.specs.Prelude.{◌≡◌, ◌≢◌, ◌↔◌, IsTrue, IfOk, OnOk, OnErr, MatchOption};
@@ -114,8 +114,8 @@ pub fn reread_owned(alloc: Global, spec: &RefSpec) -> Result<RefSpec, AllocError
     Ok(again)
 }
 
-/// The canonical text of a refspec, which is its own canonical text. `None` comes just where the
-/// text is no refspec. Fails if memory runs out.
+/// The canonical text of a refspec, which is its own canonical text. `None` exactly if the text is no
+/// refspec. Fails if memory runs out.
 pub fn canonical(
     alloc: Global,
     text: BStr<'_>,

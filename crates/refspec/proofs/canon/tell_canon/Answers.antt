@@ -1,4 +1,4 @@
--- Each text is told behind the others.
+-- Each text is told after the others.
 use Rattle.std.proofs.Common.{◌<◌, ◌∙◌, length, refl, arith}
 use Rattle.refspec.proofs.CanonLemmas.{AddsCanonical-all, AddsCanonical-next, AddsCanonical-start}
 use Rattle.refspec.proofs.canon.tell_canon.Goals as goal

@@ -1,4 +1,4 @@
--- A spec is one reading more; a text that is none is found where it stands.
+-- A spec is one reading more; a text that is none is found at its place.
 use Rattle.refspec.proofs.CheckedLemmas.{HasBad-at, specs_next}
 use Rattle.refspec.proofs.checked.all_good.Goals as goal
 

@@ -1,4 +1,4 @@
--- The columns say which side stands first.
+-- The columns say which side is first.
 use Rattle.std.proofs.Common.{◌≡◌, ◌++◌, ℕ, List, [], subst}
 use Rattle.gix_refspec.specs.Views.Group.{mapped_of}
 use Rattle.refspec.specs.Shown.{zero_ended}

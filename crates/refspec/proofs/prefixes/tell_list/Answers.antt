@@ -1,4 +1,4 @@
--- Each prefix is told behind the others.
+-- Each prefix is told after the others.
 use Rattle.std.proofs.Common.{ap, ◌∙◌}
 use Rattle.bstr.specs.Owned.{bstring_bytes}
 use Rattle.bstr.specs.declared.bstring.BString.{BString}

@@ -1,4 +1,4 @@
--- Each byte puts something behind the quote.
+-- Each byte puts something after the quote.
 use Rattle.std.proofs.Common.{[], ◌∷◌, ◌++◌}
 use Rattle.refspec.proofs.ShownLemmas.{behind}
 use Rattle.refspec.proofs.quote.put_in_quotes.Goals as goal

@@ -1,4 +1,4 @@
--- a quote, and something behind it
+-- a quote, and something after it
 use Rattle.std.proofs.Common.{◌≡◌, ◌++◌, ◌∷◌, List, ℕ}
 use Rattle.refspec.proofs.quote.put_in_quotes.Given as goal
 

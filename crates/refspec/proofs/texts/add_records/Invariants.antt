@@ -1,4 +1,4 @@
--- the records so far are texts behind the others
+-- the records so far are texts after the others
 use Rattle.std.proofs.Common.{◌≡◌, ◌++◌, map, take}
 use Rattle.refspec.specs.Texts.{asked, said}
 use Rattle.refspec.proofs.texts.add_records.Given as goal
