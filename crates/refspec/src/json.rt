@@ -26,7 +26,7 @@ fn string_of(alloc: Global, bytes: &[u8]) -> Result<String, AllocError> {
 }
 
 /// A place as a string of JSON.
-pub fn place_of(alloc: Global, place: &Place<'_>) -> Result<String, AllocError> {
+pub fn shown_place(alloc: Global, place: &Place<'_>) -> Result<String, AllocError> {
     let mut shown = Vec::new(alloc);
     place.put(alloc, &mut shown)?;
     string_of(alloc, shown.as_slice())
@@ -76,7 +76,7 @@ pub fn put_refusal(
     text: &Text<'_>,
     error: &Error,
 ) -> Result<(), AllocError> {
-    let place = place_of(alloc, &text.place)?;
+    let place = shown_place(alloc, &text.place)?;
     let shown = text_of(alloc, text.bytes)?;
     let blame = blame_of(alloc, text, error);
     let part = match blame {

@@ -165,7 +165,7 @@ fn put_malformed(
     out: &mut Vec<u8>,
 ) -> Result<(), AllocError> {
     let (message, _) = why_malformed(bad);
-    let place = json::place_of(alloc, place)?;
+    let place = json::shown_place(alloc, place)?;
     let text = json::text_of(alloc, bad.bytes)?;
     let object = Malformed {
         kind: "malformed",

@@ -122,7 +122,7 @@ fn tell_good<'a>(
     if page.form == Form::Json {
         let place = match &earlier {
             None => None,
-            Some(place) => Some(json::place_of(alloc, place)?),
+            Some(place) => Some(json::shown_place(alloc, place)?),
         };
         let same_as = place.as_ref().map(|place| place.as_str());
         return put_told(
@@ -180,7 +180,7 @@ pub fn put_told(
     same_as: Option<&str>,
     out: &mut Vec<u8>,
 ) -> Result<(), AllocError> {
-    let place = json::place_of(alloc, &text.place)?;
+    let place = json::shown_place(alloc, &text.place)?;
     let shown = json::text_of(alloc, text.bytes)?;
     let canonical = json::text_of(alloc, canonical.as_bytes())?;
     let object = Told {
