@@ -16,6 +16,9 @@ const LENGTHS: usize = 128;
 // Of four numbers that aren't asked for at most one has a mark, and so of sixteen names at most one passes.
 const MARKS_A_NAME: usize = 4;
 
+// How many marks there are at least, since for few names more of them cost nothing.
+const LEAST_MARKS: usize = 64;
+
 // Mixes the bytes of a number. Any odd number serves that has ones and zeros everywhere: this one is made
 // from the golden ratio.
 const MIXER: u64 = 0x9e37_79b9_7f4a_7c15;
@@ -94,7 +97,7 @@ impl Filter {
         ensures all { IfOk result (λ filter. AllByRecursion
             (Passes filter) (map name_bytes names.now)) }
     {
-        let room = names.len().saturating_mul(MARKS_A_NAME);
+        let room = names.len().saturating_mul(MARKS_A_NAME).max(LEAST_MARKS);
         let mut filter = Filter {
             lengths: Marks::new(alloc, LENGTHS)?,
             tails: Marks::new(alloc, room)?,
