@@ -65,7 +65,7 @@ sign Less = negsuc 0
 sign Equal = pos 0
 sign Greater = pos 1
 
--- both texts are refspecs for the operation, which compare so; 0 stands just for equal canonical texts
+-- both texts are refspecs for the operation, which compare so; 0 exactly for equal canonical texts
 pub record AreCompared (op : Operation) (a b : List ℕ) (order : ℤ) : Type 0 where
   pub first : Reading
   pub second : Reading

@@ -23,11 +23,11 @@ pub enum Failure {
     PushToEmpty,
     /// A side has two stars or more.
     PatternUnsupported,
-    /// Just one side has a star.
+    /// Exactly one side has a star.
     PatternUnbalanced,
     /// A side is empty. Kept for the fault of that name, and never given.
     NameEmpty,
-    /// A slash stands first, last or beside another.
+    /// A slash begins or ends a side, or follows another.
     NameEmptyComponent,
     /// A component begins with a dot.
     NameStartsWithDot,
@@ -35,13 +35,13 @@ pub enum Failure {
     NameLockSuffix,
     /// A side ends with a dot.
     NameEndsWithDot,
-    /// Two dots stand side by side.
+    /// Two dots are side by side.
     NameRepeatedDot,
-    /// `@{` stands in a side.
+    /// `@{` is in a side.
     NameReflogPortion,
-    /// A star stands in a name. Kept for the fault of that name, and never given.
+    /// A star is in a name. Kept for the fault of that name, and never given.
     NameAsterisk,
-    /// A control character, a space or one of `~ ^ : ? [ \` stands in a side.
+    /// A control character, a space or one of `~ ^ : ? [ \` is in a side.
     NameInvalidByte,
     /// Only a request for all refs is safe.
     NoList,

@@ -150,7 +150,7 @@ Reaches-line blank input old new count text line rest full first adds reaches = 
 some_byte : (b : ℕ) (x : List ℕ) → b ∷ x ≢ []
 some_byte b x none = omega (arith, ap length none)
 
--- a byte that is no newline stands at the front of the first line
+-- a byte that is no newline begins the first line
 longer_by : (b : ℕ) (text line : List ℕ) (lines : List (List ℕ)) → ((rest : List ℕ) × (text ≡ line ++ (newline ∷ rest)) × AreLines lines rest) ⊎ ((line ≢ []) × (lines ≡ []) × (text ≡ line)) → ((rest : List ℕ) × (b ∷ text ≡ (b ∷ line) ++ (newline ∷ rest)) × AreLines lines rest) ⊎ ((b ∷ line ≢ []) × (lines ≡ []) × (b ∷ text ≡ b ∷ line))
 longer_by b text line lines (inl cut) = inl (cut.0, ap (λ t. b ∷ t) cut.1, cut.2)
 longer_by b text line lines (inr cut) = inr (some_byte b line, cut.1, ap (λ t. b ∷ t) cut.2)

@@ -54,7 +54,7 @@ no_upper_spec_line = malformed (codes "Spec a") (no_spec_first 83 _ (eqb-false 8
 
 -- ---- refs
 
--- the name is all that stands behind the id and its space, and may be empty
+-- the name is all that follows the id and its space, and may be empty
 pub ref_lines : (rest : List ℕ) → Says (codes "ref " ++ (blob_digits ++ (space ∷ rest))) (item (record { name = rest; target = blob; object = None }))
 ref_lines rest = inl (record { words = blob_digits ++ (space ∷ rest); here = refl; target = blob_then rest; object = refl })
 

@@ -46,7 +46,7 @@ pub unspelled : (t : List ℕ) (e : IdError) → IdOrFault t → HasIdFault t e 
 unspelled t e (inl one) fault i is = one.sound e fault
 unspelled t e (inr one) fault i is = one.unread i is
 
--- where the first word spells no id, none stands there
+-- where the first word spells no id, none is there
 pub no_IsIdThen-word : (text word rest : List ℕ) → text ≡ word ++ (space ∷ rest) → Lacks space word → ((id : List ℕ) → ¬ (IsIdText word id)) → (id after : List ℕ) → ¬ (IsIdThen text id after)
 no_IsIdThen-word text word rest here ends none id after is = none id (IsIdThen-cut text word rest id after here ends is).0
 

@@ -59,7 +59,7 @@ memory = (tt, λ is. is, λ is. is)
 pub answer_lines : map answer_line (accepted (codes "a:b") ∷ refused (ReferenceName LockSuffix) ∷ []) ≡ codes "ok a:b\n" ∷ codes "err ReferenceName\n" ∷ []
 answer_lines = refl
 
--- one refusal is enough, wherever it stands
+-- one refusal is enough, wherever it is
 pub some_refused : map any_refused ([] ∷ (accepted [] ∷ []) ∷ (accepted [] ∷ refused Empty ∷ accepted [] ∷ []) ∷ []) ≡ false ∷ false ∷ true ∷ []
 some_refused = refl
 

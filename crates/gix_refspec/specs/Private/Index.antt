@@ -177,7 +177,7 @@ abbrev pub AddsWhere : (List ℕ → Type 0) → (List ℕ → Type 0) → (List
 AddsWhere Known P R old new = (x : List ℕ) (w : Vec ℕ) → Known x → old x ≡ Some w → (v : Vec ℕ) × (new x ≡ Some v)
     × ((P x × R w.items v.items) ⊎ (¬ (P x) × (v.items ≡ w.items)))
 
--- below `refs/`, x stands at one of the places where partial names are looked for
+-- below `refs/`, x is at one of the places where partial names are looked for
 abbrev pub IsBelowPlace : List ℕ → List ℕ → Type 0
 IsBelowPlace below x = (below ≡ codes "tags/" ++ x) ⊎ (below ≡ codes "heads/" ++ x) ⊎ (below ≡ codes "remotes/" ++ x)
 

@@ -379,7 +379,7 @@ fn looks_full_and_partial_names_up(rt: HostRuntime) -> Result<(), Fail> {
 
 // Specs whose source is partial, names of items, and what is mapped from left to right.
 const FIRST: [(&str, &str, &str); 15] = [
-    // The tag, wherever it stands.
+    // The tag, wherever it is listed.
     (
         "main:refs/remotes/origin/main",
         "refs/tags/main refs/heads/main",
@@ -454,7 +454,7 @@ const FIRST: [(&str, &str, &str); 15] = [
     ),
 ];
 
-// So many patterns that they are looked up by what stands before their stars. The places of items and
+// So many patterns that they are looked up by what is before their stars. The places of items and
 // specs follow from the names, by hand.
 #[test]
 fn looks_patterns_up(rt: HostRuntime) -> Result<(), Fail> {

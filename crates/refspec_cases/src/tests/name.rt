@@ -134,7 +134,7 @@ const REFUSED: [u8; 40] = [
     26, 27, 28, 29, 30, 31, 127, b' ', b'~', b'^', b':', b'?', b'[', b'\\',
 ];
 
-// What is wrong with a byte wherever it stands.
+// What is wrong with a byte wherever it is.
 fn fault_of(byte: u8) -> Result<(), Error> {
     if byte == b'*' {
         Err(Error::Asterisk)

@@ -88,7 +88,7 @@ const MATCHED: [(&str, &str, &str); 17] = [
         "refs/heads/b refs/heads/a refs/tags/a refs/tags/b",
         "Found 2 issues that prevent the refspec mapping to be used: \n\tConflicting destination \"refs/x/a\" would be written by refs/heads/a (\"refs/heads/*:refs/x/*\"), refs/tags/a (\"refs/tags/*:refs/x/*\")\n\tConflicting destination \"refs/x/b\" would be written by refs/heads/b (\"refs/heads/*:refs/x/*\"), refs/tags/b (\"refs/tags/*:refs/x/*\")",
     ),
-    // A source stands where it is first mapped to this destination, not where it first is at all.
+    // A source is listed where it is first mapped to this destination, not where it first is at all.
     (
         "refs/heads/b:refs/y/b refs/heads/a:refs/z refs/heads/b:refs/z",
         "refs/heads/a refs/heads/b",

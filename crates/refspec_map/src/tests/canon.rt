@@ -8,7 +8,7 @@ use std::alloc::{AllocError, Global};
 use std::process::Abort;
 use std::test::Fail;
 
-// The lines that stand behind `ok ` in an output.
+// The lines after `ok ` in an output.
 fn accepted_lines(alloc: Global, output: &[u8]) -> Result<Vec<u8>, AllocError> {
     let mut lines = Vec::new(alloc);
     for line in output.split(|byte| *byte == b'\n') {

@@ -30,7 +30,7 @@ fn prints_faults(rt: HostRuntime) -> Result<(), Fail> {
     for (fault, text, status) in faults {
         check_fault(&rt, &fault, text, status)?;
     }
-    // The three behind the first two are kept for callers, and never given. Nor is the last, since
+    // The three after the first two are kept for callers, and never given. Nor is the last, since
     // a run then ends for memory.
     let refused = [
         (1, Error::PatternUnbalanced, "line 1: PatternUnbalanced"),

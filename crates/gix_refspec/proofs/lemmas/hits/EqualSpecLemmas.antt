@@ -186,7 +186,7 @@ most_equal direction specs items i s flags old mid below is equal flagged so_far
 
 -- ---- all specs
 
--- what comes first, and the hits behind it but for some repeats
+-- what is first, and the hits after it but for some repeats
 pub most_made : (direction : Direction) (g : List Reading) (items : List Ref) (old new : Made) → AreIdMappings direction g (mapped_of_made direction old) → AddsMost g direction (AreHits (HasEnds direction) (TakesIn direction items) g items) old new → AreMostMade direction g items (mapped_of_made direction new)
 most_made Forward g items old new first adds =
     let ids = mapped_of_made Forward old in

@@ -82,7 +82,7 @@ adds_next Known P Q R n c e old mid new less sizes so_far next = record {
   ];
 }
 
--- behind a place stands the partial name
+-- after a place is the partial name
 abbrev pub IsPlacedIn : List ℕ → List ℕ → Type 0
 IsPlacedIn n x = (n ≡ codes "refs/tags/" ++ x) ⊎ (n ≡ codes "refs/heads/" ++ x) ⊎ (n ≡ codes "refs/remotes/" ++ x)
 

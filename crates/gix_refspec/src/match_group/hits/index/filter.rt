@@ -41,7 +41,7 @@ impl Marks {
         Ok(Marks { flags, bits })
     }
 
-    // Where the mark of a number stands.
+    // The place of the mark of a number.
     #[inline(always)]
     fn place(&self, number: u64) -> usize
         requires { IsWhole self.now }
