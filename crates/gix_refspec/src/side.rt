@@ -37,6 +37,7 @@ pub(crate) enum SideKind<'a> {
 pub(crate) fn stars_of(side: &[u8]) -> Stars<'_>
     ensures { AreStarsOf side.now result }
 {
+    // Most sides have no star, and `holds` tells that sooner than a search.
     if !holds(side, b'*') {
         return Stars::No;
     }

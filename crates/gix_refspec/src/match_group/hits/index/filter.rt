@@ -13,10 +13,10 @@ use std::alloc::{AllocError, Global};
 // How many lengths have marks of their own.
 const LENGTHS: usize = 128;
 
-// Of four numbers that aren't asked for at most one has a mark, and so of sixteen names at most one passes.
+// At most one place in four is marked, so that most names that aren't asked for fail one of two looks.
 const MARKS_A_NAME: usize = 4;
 
-// How many marks there are at least, since for few names more of them cost nothing.
+// How many marks there are at least, since for few names more of them cost little.
 const LEAST_MARKS: usize = 64;
 
 // Mixes the bytes of a number. Any odd number serves that has ones and zeros everywhere: this one is made
