@@ -167,46 +167,57 @@ static void check_groups(void)
 
 static const gix_refspec_text names[] = { TEXT("refs/heads/a"), TEXT("refs/heads/b"), TEXT("refs/tags/b") };
 
-static uint32_t match(uint32_t direction, gix_refspec_mapping *mappings, size_t room, uint8_t *buffer,
-                      size_t buffer_len, size_t *count, size_t *len)
-{
-    gix_refspec_text texts[] = { TEXT("refs/heads/*:refs/x/*"), TEXT("^refs/heads/a"),
-                                 TEXT("1111111111111111111111111111111111111111"), TEXT("b") };
-    return gix_refspec_match(texts, 4, names, 3, direction, mappings, room, buffer, buffer_len, count, len);
-}
+/* A call that fills a list of mappings and a buffer. */
+typedef uint32_t lists(gix_refspec_mapping *mappings, size_t room, uint8_t *buffer, size_t buffer_len, size_t *count,
+                       size_t *len);
 
-static void check_mappings(void)
+/* Makes a call of so many mappings with growths refused, and then at its exact sizes and one below. `made` has room for
+ * one more, and holds the mappings afterwards. */
+static void check_lists(lists *list, size_t told, const char *answer, uint32_t done, gix_refspec_mapping *made)
 {
-    const char *answer = "1111111111111111111111111111111111111111refs/x/b";
-    size_t needed = strlen(answer), count = 9, len = 99;
-    gix_refspec_mapping made[4];
-    uint8_t buffer[256];
-    memset(made, 'x', sizeof made);
-    memset(buffer, 'x', sizeof buffer);
-    CHECK(match(GIX_REFSPEC_FORWARD, made, 2, buffer, needed, &count, &len) == GIX_REFSPEC_TOO_SMALL);
-    CHECK(count == 3 && len == needed && buffer[0] == 'x' && *(char *)made == 'x');
-    CHECK(match(GIX_REFSPEC_FORWARD, made, 3, buffer, needed - 1, &count, &len) == GIX_REFSPEC_TOO_SMALL);
-    CHECK(count == 3 && len == needed && buffer[0] == 'x' && *(char *)made == 'x');
-    CHECK(match(GIX_REFSPEC_FORWARD, made, 3, buffer, needed, &count, &len) == GIX_REFSPEC_OK);
-    CHECK(count == 3 && len == needed && memcmp(buffer, answer, needed) == 0);
-    CHECK(buffer[needed] == 'x' && *(char *)(made + 3) == 'x');
-    CHECK(made[0].spec == 2 && made[0].item == GIX_REFSPEC_NO_ITEM && made[0].has_destination == 0);
-    CHECK(made[0].id_at == 0 && made[0].id_len == 40 && made[0].made_len == 0);
-    CHECK(made[1].spec == 0 && made[1].item == 1 && made[1].has_destination == 1 && made[1].verdict == 0);
-    CHECK(made[1].id_len == 0 && made[1].made_at == 40 && made[1].made_len == 8);
-    CHECK(made[2].spec == 3 && made[2].item == 2 && made[2].has_destination == 0 && made[2].made_len == 0);
+    size_t needed = strlen(answer), count, len;
+    uint8_t buffer[128];
     for (refused = 1;; refused++) {
         memset(buffer, 'x', sizeof buffer);
         growths = 0;
         count = len = 99;
-        uint32_t outcome = match(GIX_REFSPEC_FORWARD, made, 4, buffer, sizeof buffer, &count, &len);
+        uint32_t outcome = list(made, told + 1, buffer, sizeof buffer, &count, &len);
         if (growths < refused) {
-            CHECK(outcome == GIX_REFSPEC_OK && refused > 1);
+            CHECK(outcome == done && refused > 1);
             break;
         }
         CHECK(outcome == GIX_REFSPEC_NO_MEMORY && count == 99 && len == 99 && buffer[0] == 'x');
     }
     refused = 0;
+    memset(made, 'x', (told + 1) * sizeof *made);
+    memset(buffer, 'x', sizeof buffer);
+    count = len = 99;
+    CHECK(list(made, told - 1, buffer, needed, &count, &len) == GIX_REFSPEC_TOO_SMALL);
+    CHECK(count == told && len == needed && buffer[0] == 'x' && *(char *)made == 'x');
+    CHECK(list(made, told, buffer, needed - 1, &count, &len) == GIX_REFSPEC_TOO_SMALL);
+    CHECK(count == told && len == needed && buffer[0] == 'x' && *(char *)made == 'x');
+    CHECK(list(made, told, buffer, needed, &count, &len) == done);
+    CHECK(count == told && len == needed && memcmp(buffer, answer, needed) == 0);
+    CHECK(buffer[needed] == 'x' && *(char *)(made + told) == 'x');
+}
+
+static uint32_t match(gix_refspec_mapping *mappings, size_t room, uint8_t *buffer, size_t buffer_len, size_t *count,
+                      size_t *len)
+{
+    gix_refspec_text texts[] = { TEXT("refs/heads/*:refs/x/*"), TEXT("^refs/heads/a"),
+                                 TEXT("1111111111111111111111111111111111111111"), TEXT("b") };
+    return gix_refspec_match(texts, 4, names, 3, GIX_REFSPEC_FORWARD, mappings, room, buffer, buffer_len, count, len);
+}
+
+static void check_mappings(void)
+{
+    gix_refspec_mapping made[4];
+    check_lists(match, 3, "1111111111111111111111111111111111111111refs/x/b", GIX_REFSPEC_OK, made);
+    CHECK(made[0].spec == 2 && made[0].item == GIX_REFSPEC_NO_ITEM && made[0].has_destination == 0);
+    CHECK(made[0].id_at == 0 && made[0].id_len == 40 && made[0].made_len == 0);
+    CHECK(made[1].spec == 0 && made[1].item == 1 && made[1].has_destination == 1 && made[1].verdict == 0);
+    CHECK(made[1].id_len == 0 && made[1].made_at == 40 && made[1].made_len == 8);
+    CHECK(made[2].spec == 3 && made[2].item == 2 && made[2].has_destination == 0 && made[2].made_len == 0);
 }
 
 static void check_looking_back(void)
@@ -242,46 +253,38 @@ static uint32_t plan(size_t texts, gix_refspec_mapping *mappings, size_t room, u
     return gix_refspec_plan(planned, texts, items, 4, mappings, room, buffer, buffer_len, count, len);
 }
 
+static uint32_t plan_of_seven(gix_refspec_mapping *mappings, size_t room, uint8_t *buffer, size_t buffer_len,
+                              size_t *count, size_t *len)
+{
+    return plan(7, mappings, room, buffer, buffer_len, count, len);
+}
+
 /* A ref may not be called `refs/remotes/a.lock`. So it is no rival of `refs/heads/b`, which goes to one place with it. */
 static void check_verdicts(void)
 {
-    const uint32_t verdicts[] = { GIX_REFSPEC_CONTESTED, GIX_REFSPEC_WRITTEN, GIX_REFSPEC_LEFT_OUT, GIX_REFSPEC_BAD_NAME,
-                                  GIX_REFSPEC_WRITTEN, GIX_REFSPEC_FETCHED_ONLY, GIX_REFSPEC_CONTESTED };
-    const size_t specs[] = { 5, 0, 1, 2, 3, 4, 6 }, items[] = { GIX_REFSPEC_NO_ITEM, 0, 2, 3, 1, 2, 1 };
+    static const uint32_t verdicts[] = { GIX_REFSPEC_CONTESTED, GIX_REFSPEC_WRITTEN, GIX_REFSPEC_LEFT_OUT,
+                                         GIX_REFSPEC_BAD_NAME, GIX_REFSPEC_WRITTEN, GIX_REFSPEC_FETCHED_ONLY,
+                                         GIX_REFSPEC_CONTESTED };
+    static const size_t specs[] = { 5, 0, 1, 2, 3, 4, 6 }, items[] = { GIX_REFSPEC_NO_ITEM, 0, 2, 3, 1, 2, 1 };
     const char *answer = "1111111111111111111111111111111111111111refs/yrefs/x/aother/brefs/x/a.lorefs/x/a.lorefs/y";
-    size_t needed = strlen(answer), count = 9, len = 99;
     gix_refspec_mapping made[8];
-    uint8_t buffer[256];
-    memset(made, 'x', sizeof made);
-    memset(buffer, 'x', sizeof buffer);
-    CHECK(plan(7, made, 6, buffer, needed, &count, &len) == GIX_REFSPEC_TOO_SMALL);
-    CHECK(count == 7 && len == needed && buffer[0] == 'x' && *(char *)made == 'x');
-    CHECK(plan(7, made, 7, buffer, needed - 1, &count, &len) == GIX_REFSPEC_TOO_SMALL);
-    CHECK(count == 7 && len == needed && buffer[0] == 'x' && *(char *)made == 'x');
-    CHECK(plan(7, made, 7, buffer, needed, &count, &len) == GIX_REFSPEC_IN_CONFLICT);
-    CHECK(count == 7 && len == needed && memcmp(buffer, answer, needed) == 0);
-    CHECK(buffer[needed] == 'x' && *(char *)(made + 7) == 'x');
+    check_lists(plan_of_seven, 7, answer, GIX_REFSPEC_IN_CONFLICT, made);
     for (size_t i = 0; i < 7; i++)
         CHECK(made[i].verdict == verdicts[i] && made[i].spec == specs[i] && made[i].item == items[i]);
     CHECK(made[0].id_len == 40 && made[0].made_at == 40 && made[0].made_len == 6 && made[5].has_destination == 0);
+}
+
+static void check_other_plans(void)
+{
+    gix_refspec_mapping made[8];
+    uint8_t buffer[256];
+    size_t count = 9, len = 99;
     CHECK(plan(6, made, 8, buffer, sizeof buffer, &count, &len) == GIX_REFSPEC_OK);
     CHECK(count == 6 && made[0].verdict == GIX_REFSPEC_WRITTEN && made[5].verdict == GIX_REFSPEC_FETCHED_ONLY);
     count = len = 99;
     CHECK(plan(8, made, 8, buffer, sizeof buffer, &count, &len) == GIX_REFSPEC_NAME_INVALID_BYTE);
     CHECK(count == 99 && len == 99);
     CHECK(plan(0, made, 0, buffer, 0, &count, &len) == GIX_REFSPEC_OK && count == 0 && len == 0);
-    for (refused = 1;; refused++) {
-        memset(buffer, 'x', sizeof buffer);
-        growths = 0;
-        count = len = 99;
-        uint32_t outcome = plan(7, made, 8, buffer, sizeof buffer, &count, &len);
-        if (growths < refused) {
-            CHECK(outcome == GIX_REFSPEC_IN_CONFLICT && refused > 1);
-            break;
-        }
-        CHECK(outcome == GIX_REFSPEC_NO_MEMORY && count == 99 && len == 99 && buffer[0] == 'x');
-    }
-    refused = 0;
 }
 
 static void *check_all(void *nothing)
@@ -295,6 +298,7 @@ static void *check_all(void *nothing)
     check_mappings();
     check_looking_back();
     check_verdicts();
+    check_other_plans();
     check_explanations();
     return nothing;
 }

@@ -1,6 +1,6 @@
 /* Loaded before a program, this library tells of its reads of the standard input and its writes to the
    standard output: a letter for each, `r` or `w`, and `R` or `W` for one that it fails, to the descriptor in
-   CALLS_TELL. It fails the read or the write whose number, from 1, stands in CALLS_READ or CALLS_WRITE, and
+   TELL. It fails the read or the write whose number, from 1, stands in CALLS_READ or CALLS_WRITE, and
    only that one. */
 #define _GNU_SOURCE
 #include <dlfcn.h>
@@ -22,7 +22,7 @@ static long number_in(const char *name) {
 __attribute__((constructor)) static void start(void) {
     real_read = (ssize_t (*)(int, void *, size_t))dlsym(RTLD_NEXT, "read");
     real_write = (ssize_t (*)(int, const void *, size_t))dlsym(RTLD_NEXT, "write");
-    tell = (int)number_in("CALLS_TELL");
+    tell = (int)number_in("TELL");
     failing_read = number_in("CALLS_READ");
     failing_write = number_in("CALLS_WRITE");
 }

@@ -1,6 +1,6 @@
 /* Loaded before a program, this library refuses one of its growths: the call of malloc, calloc or
    realloc whose number, from 1, stands in REFUSE_CALL, and with REFUSE_ON set each later one too.
-   At each refusal it writes a byte to the descriptor in REFUSE_TELL. With a size in REFUSE_MARK, only
+   At each refusal it writes a byte to the descriptor in TELL. With a size in REFUSE_MARK, only
    calls between a first and a second one of just this size count, a third and a fourth, and so on. */
 #include <errno.h>
 #include <stdlib.h>
@@ -20,7 +20,7 @@ static long marks;
 __attribute__((constructor)) static void start(void) {
     const char *call = getenv("REFUSE_CALL");
     const char *on = getenv("REFUSE_ON");
-    const char *descriptor = getenv("REFUSE_TELL");
+    const char *descriptor = getenv("TELL");
     also_later = on != NULL && *on != '\0';
     tell = descriptor ? atoi(descriptor) : -1;
     const char *size = getenv("REFUSE_MARK");
