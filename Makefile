@@ -12,10 +12,10 @@ SHELL := /bin/bash
 .SHELLFLAGS := -eu -o pipefail -c
 .PHONY: help build run test clean kit install uninstall
 
-LIBRARY := crates/gix_refspec
+LIBRARY := crates/refspec_text crates/refspec_match crates/gix_refspec
 FOLDER := crates/refspec_map
 PROGRAM := $(FOLDER)/out/refspec_map
-TESTS := crates/refspec_cases/out/refspec_cases_tests
+TESTS := crates/matching_cases/out/matching_cases_tests
 PEOPLE := crates/refspec
 PEOPLE_PROGRAM := $(PEOPLE)/out/refspec
 PEOPLE_SOURCES := crates.txt $(shell find $(LIBRARY) $(PEOPLE) \( -name out -o -name must-fail \) -prune -o -type f -print)
@@ -33,7 +33,7 @@ build: $(PROGRAM) $(PEOPLE_PROGRAM)
 $(PROGRAM): $(SOURCES) | kit
 	@mkdir -p $(LOGS)
 	@echo "make: proving and building the library and the program: $(FIRST), then less; log: $(LOGS)/build.log" >&2
-	@{ (cd $(LIBRARY) && rt check) && (cd $(FOLDER) && rt check && rt run -- canon push); } </dev/null 2>&1 \
+	@{ for crate in $(LIBRARY); do (cd $$crate && rt check) || exit; done && (cd $(FOLDER) && rt check && rt run -- canon push); } </dev/null 2>&1 \
 	| tee $(LOGS)/build.log | tools/progress >&2 \
 	|| { status=$$?; echo "make: not built, as $(LOGS)/build.log says" >&2; exit $$status; }
 	@touch $@

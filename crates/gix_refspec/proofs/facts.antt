@@ -1,11 +1,5 @@
--- Examples of the definitions in specs/, each on one side of a border, so that a wrong definition is noticed.
-pub mod ManualFacts
-pub mod NameFacts
-pub mod GrammarFacts
-pub mod UnreadFacts
-pub mod ObjectIdFacts
-pub mod IndexFacts
-pub mod MatchFacts
+-- Examples of the definitions in specs/, of this crate and of those below it, each on one side of a border, so that
+-- a wrong definition is noticed.
 pub mod OutcomeFacts
 pub mod ValidationFacts
 pub mod ValidationLawFacts
@@ -15,18 +9,6 @@ pub mod PlaceFacts
 pub mod LawFacts
 pub mod EqualGroupFacts
 pub mod ItemFacts
-pub mod FaultFacts
-pub mod HitFacts
-pub mod CandidateFacts
 pub mod KeptFacts
-pub mod ListsFacts
-pub mod CopyFacts
 pub mod GroupFacts
-pub mod MeaningFacts
-pub mod OrderFacts
-pub mod PrefixFacts
-pub mod SideFacts
-pub mod SideLawFacts
-pub mod RefusalFacts
-pub mod ViewFacts
-pub mod ReasonFacts
+pub mod NamesDecideFacts

@@ -1,10 +1,6 @@
 -- What proofs share, by subject.
-pub mod texts
-pub mod parsing
 pub mod specs
 pub mod prefixes
-pub mod lists
 pub mod hits
-pub mod index
 pub mod keep
 pub mod validate

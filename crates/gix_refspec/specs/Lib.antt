@@ -1,5 +1,5 @@
-pub mod Texts
-pub mod Specs
+pub use Rattle.refspec_text.specs.Texts
+pub use Rattle.refspec_text.specs.Specs
 pub mod Matching
 pub mod Views
 pub mod Laws

@@ -1,7 +1,8 @@
 -- How a clause sees a Rust value as plain data.
-pub mod Instruction
-pub mod Spec
+pub use Rattle.refspec_text.specs.Views.Instruction
+pub use Rattle.refspec_text.specs.Views.Spec
+pub use Rattle.refspec_text.specs.Views.Errors
+pub use Rattle.refspec_match.specs.Views.Mapping
 pub mod Group
 pub mod Issue
-pub mod Errors
-pub mod Hashed
+pub use Rattle.refspec_match.specs.Views.Hashed

@@ -8,20 +8,13 @@
 //! let spec = gix_refspec::parse(alloc, text, Operation::Fetch)?;
 //! let printed = spec.to_bstring(alloc)?;    // +HEAD:refs/remotes/origin/HEAD
 //! ```
+//!
+//! Texts and single specs come from the crate `refspec_text`, items and mappings from `refspec_match`. All
+//! that callers need of these two is here too.
 #![tactic(auto)]
 
-mod cut;
-pub mod instruction;
 pub mod laws;
 pub mod match_group;
-pub mod name;
-pub mod oid;
-pub mod parsing;
-mod side;
-mod spec;
-mod types;
 
 pub use match_group::types::MatchGroup;
-pub use parsing::reading::parse;
-pub use spec::{RefSpec, RefSpecRef};
-pub use types::Instruction;
+pub use refspec_text::{Instruction, RefSpec, RefSpecRef, instruction, name, oid, parse, parsing};

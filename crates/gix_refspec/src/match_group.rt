@@ -1,27 +1,26 @@
 //! Groups of refspecs, and what they match among the refs of two repositories.
 
 ghost use Rattle.std.specs.Prelude.{◌≡◌, ◌≢◌, [], map, IfOk, IfErr, OnOk, OnErr};
-ghost use Rattle.gix_refspec.specs.Views.Spec.{reading_of};
-ghost use Rattle.gix_refspec.specs.Matching.Mappings.{IsKept};
-ghost use Rattle.gix_refspec.specs.Views.Group.{ref_of, mapped_of, readings_of, IsOutcome, Maps};
-ghost use Rattle.gix_refspec.specs.Private.HitViews.{AreKept, AreMade, mapped_of_made};
-ghost use Rattle.gix_refspec.specs.Matching.Hits.{AreForward, AreBackward, AreKeptForward, AreKeptBackward};
+ghost use Rattle.refspec_text.specs.Views.Spec.{reading_of};
+ghost use Rattle.refspec_match.specs.Matching.Mappings.{IsKept};
+ghost use Rattle.refspec_match.specs.Views.Mapping.{ref_of, mapped_of};
+ghost use Rattle.gix_refspec.specs.Views.Group.{readings_of, IsOutcome, Maps};
+ghost use Rattle.refspec_match.specs.Private.HitViews.{AreKept, AreMade, mapped_of_made};
+ghost use Rattle.refspec_match.specs.Matching.Hits.{AreForward, AreBackward, AreKeptForward, AreKeptBackward};
 
-mod hashes;
-pub(crate) mod hits;
-pub(crate) mod keep;
-mod mappings;
 pub mod names;
+mod prefixes;
 mod premises;
 pub(crate) mod types;
 pub mod validate;
 
-use crate::spec::RefSpecRef;
-use hits::ends::Direction;
-use hits::{Made, Matching};
+use refspec_match::hits::ends::Direction;
+use refspec_match::hits::{Made, Matching};
+pub use refspec_match::types::{Item, Mapping, NameRef, Source, SourceRef};
+use refspec_text::RefSpecRef;
 use std::alloc::{AllocError, Global};
 use types::MatchGroup;
-pub use types::{Item, Mapping, NameRef, NoRoom, Outcome, Source, SourceRef, match_lhs, match_rhs};
+pub use types::{NoRoom, Outcome, match_lhs, match_rhs};
 
 /// Matching, from left to right and from right to left.
 impl<'spec> MatchGroup<'spec> {

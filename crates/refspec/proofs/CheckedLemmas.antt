@@ -8,9 +8,9 @@ use Rattle.refspec.specs.declared.checked.Checked.TheVariants as checked
 use Rattle.refspec.specs.declared.texts.Text.{Text}
 use Rattle.gix_refspec.specs.Specs.Grammar.{Reads}
 use Rattle.gix_refspec.specs.Specs.Reading.{Reading}
-use Rattle.gix_refspec.specs.declared.parsing.Error.{Error}
+use Rattle.refspec_text.specs.declared.parsing.Error.{Error}
 use Rattle.gix_refspec.specs.Views.Spec.{reading_of}
-use Rattle.gix_refspec.specs.declared.spec.RefSpecRef.{RefSpecRef}
+use Rattle.refspec_text.specs.declared.spec.RefSpecRef.{RefSpecRef}
 use Rattle.refspec.specs.Read.{AddsIfGood, AddsIfRead, AreRead, HasBad, HasRefused, IsChecked, IsSpec}
 use Rattle.refspec.specs.Texts.{said}
 

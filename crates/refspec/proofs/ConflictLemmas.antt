@@ -2,7 +2,7 @@
 use Rattle.std.proofs.Common.{◌≡◌, ℕ, ◌+◌, ◌<◌, List, [], ◌∷◌, ◌++◌, length, map, take, get_or, unwrap_or, codes, refl, sym, ap, ◌∙◌, subst, append_assoc, arith}
 use Rattle.std.specs.List.{slice_get}
 use Rattle.std.proofs.lemmas.List.{append-nil, length-map, length-take-le, map-append, take_more}
-use Rattle.gix_refspec.specs.declared.match_group.types.SourceRef.{SourceRef}
+use Rattle.refspec_match.specs.declared.types.SourceRef.{SourceRef}
 use Rattle.gix_refspec.specs.declared.match_group.validate.Issue.{Issue}
 use Rattle.gix_refspec.specs.Matching.Mappings.{Start}
 use Rattle.gix_refspec.specs.Matching.Validation.{Conflict}

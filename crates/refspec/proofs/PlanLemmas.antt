@@ -1,5 +1,5 @@
 -- What is told of a plan.
-use Rattle.std.proofs.Common.{◌≡◌, ℕ, List, [], ◌∙◌, sym, subst}
+use Rattle.std.proofs.Common.{◌≡◌, ℕ, List, ◌∙◌, sym, subst}
 use Rattle.gix_refspec.specs.Views.Issue.{ForwardOutcome, conflicts_of, mappings_of}
 use Rattle.gix_refspec.specs.Matching.Validation.{Conflict}
 use Rattle.gix_refspec.specs.Matching.Mappings.{Mapped}
@@ -14,8 +14,8 @@ use Rattle.refspec.specs.declared.plan.Written.{Written}
 use Rattle.refspec.specs.declared.plan.Written.TheVariants as written
 use Rattle.refspec.specs.Conflicts.{AddsConflicts}
 use Rattle.refspec.specs.Input.{AreRecords}
-use Rattle.refspec.specs.Plan.{AddsPlan, AddsWritten, IsPlan}
-use Rattle.refspec.specs.Refs.{AddsRefs}
+use Rattle.refspec.specs.Plan.{AddsPlan, AddsWritten, IsPlanByNames}
+use Rattle.refspec.specs.Refs.{TellNames}
 use Rattle.refspec.specs.Rows.{AddsMappings, AreSpecTexts}
 use Rattle.refspec.specs.Shown.{KeepsResults}
 use Rattle.refspec.proofs.ShownLemmas.{KeepsResults-next}
@@ -38,22 +38,22 @@ AddsWritten-after form.Json texts (written.Mappings outcome) before messages old
 AddsWritten-after form.Json texts (written.Nothing error) before messages old mid new kept told = (tt, tt)
 
 -- the plan of the refs in the records, told after two lists of messages
-pub AddsPlan-of : (f one two : Form) (end e : ℕ) (input : List ℕ) (g : List Reading) (records lent : List (List ℕ)) (items told : List Ref) (texts shown : List (List ℕ)) (made : Written) (out : List LeftOut) (before messages old first second new : List ℕ)
-    → AreRecords e records input → e ≡ end → lent ≡ records → AddsRefs lent [] told → items ≡ told → AreSpecTexts g texts → IsPlan g items made out
+pub AddsPlan-of : (f one two : Form) (end e : ℕ) (input : List ℕ) (g : List Reading) (named : List Ref) (texts shown : List (List ℕ)) (made : Written) (out : List LeftOut) (before messages old first second new : List ℕ)
+    → TellNames e input named → e ≡ end → AreSpecTexts g texts → IsPlanByNames g named made out
     → one ≡ f → KeepsResults f old first → two ≡ one → KeepsResults one first second → shown ≡ texts → AddsWritten two shown made before messages second new → AddsPlan f end input messages g old new
-AddsPlan-of f one two end e input g records lent items told texts shown made out before messages old first second new cut same_end same_records refs same_refs of_specs plan same_one kept_first same_two kept_second same_texts after =
+AddsPlan-of f one two end e input g named texts shown made out before messages old first second new (refs, (records, cut, told), same_names) same_end of_specs plan same_one kept_first same_two kept_second same_texts after =
     let kept = KeepsResults-next f one old first second same_one kept_first kept_second in
     let tells = subst (λ (x : Form). AddsWritten x texts made before messages second new) (same_two ∙ same_one) (subst (λ (l : List (List ℕ)). AddsWritten two l made before messages second new) same_texts after) in
     record {
       records = records;
-      items = items;
+      items = refs;
       texts = texts;
       made = made;
       out = out;
       before = before;
       cut = subst (λ (x : ℕ). AreRecords x records input) same_end cut;
-      refs = subst (λ (rs : List Ref). AddsRefs records [] rs) (sym same_refs) (subst (λ (ls : List (List ℕ)). AddsRefs ls [] told) same_records refs);
+      refs = told;
       of_specs = of_specs;
-      plan = plan;
+      plan = plan refs same_names;
       told = AddsWritten-after f texts made before messages old second new kept tells;
     }

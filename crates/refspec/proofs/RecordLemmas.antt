@@ -17,7 +17,7 @@ Completes end records rest input = (more : List (List ℕ)) → AreRecords end m
 pub Completes-start : (end : ℕ) (records : List (Bor (List ℕ))) (input : List ℕ) → records ≡ [] → Completes end records input input
 Completes-start end records input none more cut = subst (λ (rs : List (Bor (List ℕ))). AreRecords end (bytes_of rs ++ more) input) (sym none) cut
 
--- an end doesn't stand in nothing
+-- there is no end in nothing
 nothing_ends : (end : ℕ) (first rest : List ℕ) → [] ≡ first ++ (end ∷ rest) → ⊥
 nothing_ends end first rest same = omega (arith, ap length same, length-append first (end ∷ rest))
 

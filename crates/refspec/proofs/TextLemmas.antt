@@ -1,7 +1,7 @@
 -- Texts that are gathered one after another.
 use Rattle.std.proofs.Common.{◌≡◌, ℕ, ◌+◌, ◌<◌, List, [], ◌∷◌, ◌++◌, length, take, get_or, map, sym, ap, ◌∙◌, append_assoc}
 use Rattle.std.proofs.lemmas.List.{map-append, take_more}
-use Rattle.gix_refspec.specs.declared.parsing.Operation.{Operation}
+use Rattle.refspec_text.specs.declared.parsing.Operation.{Operation}
 use Rattle.refspec.specs.declared.call.Ends.{Ends}
 use Rattle.refspec.specs.declared.call.Ends.TheVariants as ends
 use Rattle.refspec.specs.declared.texts.Text.{Text}

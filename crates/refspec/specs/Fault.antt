@@ -3,12 +3,12 @@ use Rattle.std.specs.Prelude.{⊤}
 use Rattle.refspec.specs.declared.fault.Fault.{Fault}
 use Rattle.refspec.specs.declared.fault.Fault.TheVariants as fault
 
--- the fault is want of memory
+-- memory ran out
 abbrev pub IsMemory : Fault → Type 0
 IsMemory fault.Memory = ⊤
 IsMemory _ = ⊥
 
--- the fault is of the reader, or want of memory
+-- the reader failed, or memory ran out
 abbrev pub IsReadOrMemory : Fault → Type 0
 IsReadOrMemory fault.Read = ⊤
 IsReadOrMemory fault.Memory = ⊤

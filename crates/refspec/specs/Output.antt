@@ -2,7 +2,7 @@
 -- said here.
 use Rattle.std.specs.Prelude.{◌≡◌, ℕ, Bool, List, [], Option, map, MatchBool, ⊤}
 use Rattle.std.specs.Io.KnownBytes.{Appends}
-use Rattle.gix_refspec.specs.declared.parsing.Operation.{Operation}
+use Rattle.refspec_text.specs.declared.parsing.Operation.{Operation}
 use Rattle.gix_refspec.specs.Specs.Reading.{Reading}
 use Rattle.refspec.specs.declared.call.Call.{Call}
 use Rattle.refspec.specs.declared.call.Command.{Command}

@@ -4,6 +4,7 @@ use Rattle.gix_refspec.specs.Specs.Reading.{Reading}
 use Rattle.gix_refspec.specs.Matching.Match.{Ref}
 use Rattle.gix_refspec.specs.Matching.Mappings.{Mapped}
 use Rattle.gix_refspec.specs.Matching.Hits.{AreKeptForward}
+use Rattle.gix_refspec.specs.Laws.Items.{HaveSameNames}
 use Rattle.gix_refspec.specs.Views.Issue.{conflicts_of, mappings_of}
 use Rattle.gix_refspec.specs.Matching.RefNames.{KeepsNamed, LeftOut}
 use Rattle.gix_refspec.specs.Matching.Validation.{AreConflicts, IsValidated, Removed}
@@ -31,6 +32,10 @@ pub record IsPlan (g : List Reading) (items : List Ref) (made : Written) (out : 
   pub named : List Mapped
   pub parted : KeepsNamed kept named out
   pub writes : Writes g named made
+
+-- it is the plan of any refs that have the names of these
+abbrev pub IsPlanByNames : List Reading → List Ref → Written → List LeftOut → Type 0
+IsPlanByNames g items made out = (refs : List Ref) → HaveSameNames items refs → IsPlan g refs made out
 
 -- the results grew by the mappings that are written, the source first; where there are conflicts, they stayed as they were,
 -- and the messages, which were before, grew by what is told of these

@@ -1,7 +1,7 @@
 -- The texts that a call is about. This project's own rule: those among its words, those of the file beside the input,
 -- and, but for a plan, those of the input, a text a record. Of settings nothing is said here.
 use Rattle.std.specs.Prelude.{◌≡◌, ℕ, List, [], ◌++◌, map, ⊤}
-use Rattle.gix_refspec.specs.declared.parsing.Operation.{Operation}
+use Rattle.refspec_text.specs.declared.parsing.Operation.{Operation}
 use Rattle.refspec.specs.declared.call.Command.{Command}
 use Rattle.refspec.specs.declared.call.Command.TheVariants as command
 use Rattle.refspec.specs.declared.call.Ends.{Ends}

@@ -126,7 +126,7 @@ fn has_fault(alloc: Global, side: &[u8]) -> bool {
     )
 }
 
-// Where the bytes that a fault speaks of stand in a side, and how many they are.
+// Where in a side the bytes are that a fault speaks of, and how many they are.
 fn place_of(side: &[u8], fault: name::Error) -> Option<(usize, usize)> {
     match fault {
         name::Error::Empty => None,

@@ -4,7 +4,7 @@ ghost use Rattle.std.specs.Prelude.{map, IfOk};
 ghost use Rattle.gix_refspec.specs.Views.Group.{ref_of};
 ghost use Rattle.gix_refspec.specs.Matching.RefNames.{left_out_of};
 ghost use Rattle.gix_refspec.specs.Views.Spec.{reading_of};
-ghost use Rattle.refspec.specs.Plan.{IsPlan};
+ghost use Rattle.refspec.specs.Plan.{IsPlanByNames};
 
 use gix_refspec::match_group::names::BadMapping;
 use gix_refspec::match_group::validate::{Error, Refusal};
@@ -30,19 +30,21 @@ pub enum Written<'spec, 'item> {
 }
 
 /// Plans what specs for a fetch write of the items. Mappings whose names are none of refs are left out
-/// first, as Git leaves out a "funny ref", and conflicts are looked for among the others.
+/// first, as Git leaves out a "funny ref", and conflicts are looked for among the others. The ids of the
+/// items change nothing.
 pub fn plan_of<'spec, 'item>(
     alloc: Global,
     specs: Vec<RefSpecRef<'spec>>,
     items: &[Item<'item>],
 ) -> Result<Plan<'spec, 'item>, AllocError>
-    ensures { IfOk result (λ plan. IsPlan
+    ensures { IfOk result (λ plan. IsPlanByNames
         (map reading_of specs.entry.items) (map ref_of items.now)
         plan.written (map left_out_of plan.left_out.items)) }
 {
     let group = MatchGroup { specs };
     laws::writes_refs(&group, items);
     laws::forward_fits(&group, items);
+    laws::names_decide(&group, items);
     let Ok(outcome) = group.match_lhs(alloc, items) else {
         return Err(AllocError);
     };

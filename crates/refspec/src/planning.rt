@@ -17,15 +17,17 @@ use crate::mappings::{Columns, canonical_texts, source_of, tell_mappings, text_a
 use crate::page::{Page, put_advice};
 use crate::plan::{Written, plan_of};
 use crate::quote::put_quoted;
-use crate::refs::{BadRecord, Told, items_of};
+use crate::refs::{BadRecord, Told};
 use crate::texts::Place;
 use bstr::{BString, ByteSlice};
 use gix_refspec::match_group::SourceRef;
 use gix_refspec::match_group::names::{BadMapping, BadSide};
 use gix_refspec::match_group::validate::Issue;
+use gix_refspec::oid::{Kind, ObjectId};
 use gix_refspec::{RefSpecRef, name};
 use serde::Serialize;
 use std::alloc::{AllocError, Global};
+use std::mem;
 
 /// Tells what a fetch with these specs writes of the refs of an input.
 pub fn tell_plan(
@@ -39,13 +41,17 @@ pub fn tell_plan(
         page.new.messages.items (map reading_of specs.entry.items)
         page.old.results.items page.new.results.items) }
 {
-    let told = Told::read(alloc, input, end_of(call.ends))?;
+    let id = ObjectId::null(Kind::shortest());
+    let told = Told::read(alloc, input, end_of(call.ends), &id)?;
     tell_bad_records(alloc, call.input, told.bad.as_slice(), page)?;
-    let items = items_of(alloc, told.refs.as_slice())?;
     let texts = canonical_texts(alloc, specs.as_slice())?;
-    let plan = plan_of(alloc, specs, items.as_slice())?;
+    let plan = plan_of(alloc, specs, told.items.as_slice())?;
+    drop(told);
     tell_all_left_out(alloc, plan.left_out.as_slice(), texts.as_slice(), page)?;
-    tell_written(alloc, &plan.written, texts.as_slice(), page)
+    tell_written(alloc, &plan.written, texts.as_slice(), page)?;
+    // The process ends soon, and to free name by name before that takes long.
+    mem::forget(plan);
+    Ok(())
 }
 
 // Tells the mappings that are written, or the conflicts for which none is.

@@ -137,7 +137,7 @@ fn tell_all(alloc: Global, group: &MatchGroup<'_>, page: &mut Page) -> Result<()
     Ok(())
 }
 
-// Puts what stands for all refs at the end of the results.
+// Puts what means all refs at the end of the results.
 fn put_all(page: &mut Page) -> Result<(), AllocError>
     ensures form { OnOk result (page.new.form ≡ page.old.form) }
     ensures told { OnOk result (AddsAll page.old.form

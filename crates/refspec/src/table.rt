@@ -48,6 +48,7 @@ impl Layout {
     }
 
     /// Puts a field at the end, and spaces up to a width and two more.
+    #[inline]
     pub fn put_cell(
         &self,
         alloc: Global,
@@ -71,6 +72,7 @@ impl Layout {
     }
 
     /// Puts a field at the end.
+    #[inline(always)]
     pub fn put_field(&self, out: &mut Vec<u8>, field: &[u8]) -> Result<(), AllocError>
         ensures { OnOk result (PutsQuoted field.now out.old.items out.new.items) }
     {

@@ -1,4 +1,4 @@
-//! The texts of specs, and where they stand.
+//! The texts of specs, and where they are.
 
 ghost use Rattle.std.specs.Prelude.{◌≡◌, ◌++◌, map, IfOk, OnOk};
 ghost use Rattle.refspec.specs.Texts.{AddsTexts, AreTexts, asked, said, spec_input};

@@ -10,7 +10,7 @@ use gix_refspec::parsing::Operation;
 use gix_refspec::{MatchGroup, parse};
 use std::alloc::{AllocError, Global};
 
-/// Does the work that a word names as often as `times` says. Specs and names stand one in each line; the
+/// Does the work that a word names as often as `times` says. Specs and names are given one a line; the
 /// last byte of either text is no newline. All refs point to one object.
 ///
 /// `match` reads fetch specs and the names of refs, and matches them from left to right; `reverse` matches

@@ -1,25 +1,25 @@
 -- Destinations that are ids, and what is told of mappings one after another.
 use Rattle.std.proofs.Common.{◌≡◌, ◌↔◌, ℕ, zero, suc, ◌+◌, ◌<◌, IfErr, IfOk, take, get_or, arith, false, List, [], ◌∷◌, ◌++◌, length, map, Bool, Some, Result, Ok, Err, IsTrue, MatchResult, refl, sym, ap, subst, ◌∙◌, inl, inr}
-use Rattle.gix_refspec.specs.declared.oid.Error.{Error}
-use Rattle.gix_refspec.specs.declared.oid.ObjectId.{ObjectId}
+use Rattle.refspec_text.specs.declared.oid.Error.{Error}
+use Rattle.refspec_text.specs.declared.oid.ObjectId.{ObjectId}
 use Rattle.gix_refspec.specs.Texts.ObjectId.{id_bytes, IsIdText, HasIdFault}
 use Rattle.gix_refspec.specs.Laws.Readings.{IdOrFault}
 use Rattle.gix_refspec.specs.Specs.Reading.{Reading}
 use Rattle.std.specs.Result.{is_err}
 use Rattle.std.specs.List.{AllByRecursion, AllZip}
-use Rattle.gix_refspec.specs.declared.parsing.Operation.TheVariants.{Fetch}
+use Rattle.refspec_text.specs.declared.parsing.Operation.TheVariants.{Fetch}
 use Rattle.gix_refspec.specs.Specs.Grammar.{Reads}
 use Rattle.gix_refspec.specs.Matching.Match.{Ref}
 use Rattle.gix_refspec.specs.Matching.Hits.{AreKeptForward, AreKeptBackward}
 use Rattle.refspec_c.specs.declared.listing.Listing.{Listing}
 use Rattle.refspec_c.specs.declared.matching.Direction.{Direction}
 use Rattle.refspec_c.specs.declared.matching.Direction.TheVariants.{Forward, Backward}
-use Rattle.gix_refspec.specs.declared.spec.RefSpecRef.{RefSpecRef}
+use Rattle.refspec_text.specs.declared.spec.RefSpecRef.{RefSpecRef}
 use Rattle.gix_refspec.specs.Views.Spec.{reading_of}
 use Rattle.refspec_c.specs.declared.failure.Failure.{Failure}
 use Rattle.refspec_c.specs.declared.failure.Failure.TheVariants as failure
 use Rattle.std.proofs.lemmas.List.{length-append, append-nil, append_assoc, map-append, take_more}
-use Rattle.gix_refspec.specs.declared.match_group.types.Mapping.{Mapping}
+use Rattle.refspec_match.specs.declared.types.Mapping.{Mapping}
 use Rattle.gix_refspec.specs.Matching.Mappings.{Mapped}
 use Rattle.gix_refspec.specs.Views.Group.{mapped_of}
 use Rattle.refspec_c.specs.declared.listing.MappingOut.{MappingOut}

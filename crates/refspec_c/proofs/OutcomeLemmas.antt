@@ -1,10 +1,10 @@
 -- Outcomes, and why a text wasn't read.
 use Rattle.std.proofs.Common.{◌≡◌, ◌≢◌, ℕ, List, Result, Ok, Err, OnOk, IfErr, refl, sym, subst}
-use Rattle.gix_refspec.specs.declared.parsing.Operation.{Operation}
-use Rattle.gix_refspec.specs.declared.parsing.Error.{Error}
-use Rattle.gix_refspec.specs.declared.parsing.Error.TheVariants as error
-use Rattle.gix_refspec.specs.declared.name.Error.{Error as NameError}
-use Rattle.gix_refspec.specs.declared.name.Error.TheVariants as of_name
+use Rattle.refspec_text.specs.declared.parsing.Operation.{Operation}
+use Rattle.refspec_text.specs.declared.parsing.Error.{Error}
+use Rattle.refspec_text.specs.declared.parsing.Error.TheVariants as error
+use Rattle.refspec_text.specs.declared.name.Error.{Error as NameError}
+use Rattle.refspec_text.specs.declared.name.Error.TheVariants as of_name
 use Rattle.gix_refspec.specs.Specs.Refusal.{Refusal, Empty, NegativeWithDestination, PushToEmpty, PatternUnsupported, ReferenceName, PatternUnbalanced, NegativeEmpty, NegativeObjectHash, IsRefused, MayNeedMemory}
 use Rattle.gix_refspec.specs.Views.Instruction.{IsShownAs, ShowsRefusal}
 use Rattle.refspec_c.specs.declared.failure.Failure.{Failure}

@@ -3,7 +3,7 @@ use Rattle.std.specs.Prelude.{◌≡◌, ◌<◌, ◌≤◌, ℕ, List, ◌++◌
 use Rattle.refspec_c.specs.declared.failure.Failure.{Failure}
 use Rattle.refspec_c.specs.declared.failure.Failure.TheVariants as failure
 
--- the buffer begins with the answer, and is as before behind it; the length is that of the answer
+-- the buffer begins with the answer, and is as before after it; the length is that of the answer
 pub record Holds (answer old new : List ℕ) (len : ℕ) : Type 0 where
   pub fits : length answer ≤ length old
   pub put : new ≡ answer ++ drop (length answer) old

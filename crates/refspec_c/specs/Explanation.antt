@@ -1,7 +1,7 @@
 -- What an outcome says: one sentence for each, those of the library where it has one.
 use Rattle.std.specs.Prelude.{ℕ, List, [], ◌∷◌, ◌++◌, codes}
-use Rattle.gix_refspec.specs.declared.name.Error.TheVariants as of_name
-use Rattle.gix_refspec.specs.declared.parsing.Error.TheVariants as of_text
+use Rattle.refspec_text.specs.declared.name.Error.TheVariants as of_name
+use Rattle.refspec_text.specs.declared.parsing.Error.TheVariants as of_text
 use Rattle.gix_refspec.specs.Specs.Explained.{explained, name_explained}
 use Rattle.refspec_c.specs.declared.failure.Failure.{Failure}
 use Rattle.refspec_c.specs.declared.failure.Failure.TheVariants as failure

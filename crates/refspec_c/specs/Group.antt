@@ -1,7 +1,7 @@
 -- Texts that are read together, and what a client asks a server for by them.
 use Rattle.std.specs.Prelude.{◌≡◌, ◌<◌, ℕ, List, [], ◌∷◌, ◌++◌, length, take, get_or}
 use Rattle.std.specs.List.{AllZip, flat_map}
-use Rattle.gix_refspec.specs.declared.parsing.Operation.{Operation}
+use Rattle.refspec_text.specs.declared.parsing.Operation.{Operation}
 use Rattle.gix_refspec.specs.Specs.Reading.{Reading}
 use Rattle.gix_refspec.specs.Specs.Grammar.{Reads}
 use Rattle.gix_refspec.specs.Matching.Asked.{HasNoList, ListsGroup, Serves}
@@ -31,11 +31,11 @@ AreUnread op texts f = IsFirstUnread op texts f
 abbrev pub newline : ℕ
 newline = 10
 
--- the names, a newline behind each
+-- the names, each with a newline at its end
 abbrev pub lines_of : List (List ℕ) → List ℕ
 lines_of names = flat_map (λ n. n ++ (newline ∷ [])) names
 
--- the texts are refspecs for the operation, and the answer has the names to ask for for all of them, a newline behind
+-- the texts are refspecs for the operation, and the answer has the names to ask for for all of them, a newline after
 -- each: with these a server tells of each name that a group of fetches maps from left to right
 pub record IsToAsk (op : Operation) (texts : List (List ℕ)) (answer : List ℕ) : Type 0 where
   pub group : List Reading

@@ -1,4 +1,4 @@
--- What a caller is told of mappings: a struct for each, and their texts one behind the other.
+-- What a caller is told of mappings: a struct for each, and their texts one after the other.
 use Rattle.std.specs.Prelude.{◌≡◌, ◌⊎◌, ◌<◌, ◌≤◌, ◌+◌, ℕ, List, [], ◌∷◌, ◌++◌, length, drop, map, Option, None, Some}
 use Rattle.std.specs.List.{flat_map}
 use Rattle.gix_refspec.specs.Texts.ObjectId.{lower_of}
@@ -81,7 +81,7 @@ told_by m = record { spec = m.spec; item = m.item; has_destination = m.has_desti
 abbrev pub told_at : ℕ → Entry → Told
 told_at at e = record { spec = e.spec; item = e.item; has_destination = e.has_destination; verdict = e.verdict; id_at = at; id_len = length e.id; made_at = at + length e.id; made_len = length e.made }
 
--- what is told of mappings whose texts stand one behind the other from a place of the buffer on
+-- what is told of mappings whose texts are one after the other from a place of the buffer on
 abbrev pub told_from : ℕ → List Entry → List Told
 told_from at [] = []
 told_from at (e ∷ es) = told_at at e ∷ told_from (at + length (text_of e)) es
@@ -98,7 +98,7 @@ pub record Room : Type 0 where
   pub count : ℕ
   pub len : ℕ
 
--- the lists of the caller begin with the structs and the text, and are as before behind them
+-- the lists of the caller begin with the structs and the text, and are as before after them
 pub record IsPut (structs : List MappingOut) (text : List ℕ) (before after : Room) : Type 0 where
   pub fits : length structs ≤ length before.mappings
   pub text_fits : length text ≤ length before.buffer

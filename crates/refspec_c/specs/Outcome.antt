@@ -1,8 +1,8 @@
 -- What a call answers: 0, or the number of a failure. The numbers are this project's own, and are those of
 -- include/gix_refspec.h.
 use Rattle.std.specs.Prelude.{◌≡◌, ℕ, Result, Ok, Err, OnOk, IfErr}
-use Rattle.gix_refspec.specs.declared.name.Error.{Error as NameError}
-use Rattle.gix_refspec.specs.declared.name.Error.TheVariants as of_name
+use Rattle.refspec_text.specs.declared.name.Error.{Error as NameError}
+use Rattle.refspec_text.specs.declared.name.Error.TheVariants as of_name
 use Rattle.gix_refspec.specs.Specs.Refusal.{Refusal, Empty, NegativeWithDestination, PushToEmpty, PatternUnsupported, ReferenceName, PatternUnbalanced, NegativeEmpty, NegativeObjectHash}
 use Rattle.refspec_c.specs.declared.failure.Failure.{Failure}
 use Rattle.refspec_c.specs.declared.failure.Failure.TheVariants as failure

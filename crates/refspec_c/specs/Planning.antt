@@ -2,7 +2,7 @@
 -- this project's own rules.
 use Rattle.std.specs.Prelude.{◌≡◌, ◌⊎◌, ℕ, Bool, true, MatchBool, List, map, None, Some}
 use Rattle.std.specs.List.{AllZip}
-use Rattle.gix_refspec.specs.declared.parsing.Operation.TheVariants.{Fetch}
+use Rattle.refspec_text.specs.declared.parsing.Operation.TheVariants.{Fetch}
 use Rattle.gix_refspec.specs.Specs.Reading.{Reading}
 use Rattle.gix_refspec.specs.Specs.Grammar.{Reads}
 use Rattle.gix_refspec.specs.Matching.Mappings.{Mapped}

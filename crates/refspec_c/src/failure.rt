@@ -99,7 +99,7 @@ pub(crate) fn outcome_of(ended: Result<(), Failure>) -> u32
     }
 }
 
-/// The failure that tells of a refusal, or of want of memory. The variants that are never given count
+/// The failure that tells of a refusal, or that memory ran out. The variants that are never given count
 /// as the latter.
 pub(crate) fn failure_of(error: &Error) -> Failure
     ensures refusal { (e : Refusal) → IsShownAs error.now e → result ≡ of_refusal e }

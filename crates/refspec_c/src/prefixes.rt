@@ -81,7 +81,7 @@ fn lines_to_ask(alloc: Global, texts: &[Text<'_>], operation: Operation) -> Resu
     }
 }
 
-// The names, a newline behind each.
+// The names, each with a newline at its end.
 fn joined(alloc: Global, names: &[BString]) -> Result<Vec<u8>, AllocError>
     ensures { IfOk result (λ lines. lines.items ≡ lines_of (map bstring_bytes names.now)) }
 {

@@ -72,7 +72,7 @@ pub extern "C" fn gix_refspec_canonical(
     }
 }
 
-/// How two refspecs compare: -1, 0 or 1. It is 0 just where their canonical texts are equal. After a
+/// How two refspecs compare: -1, 0 or 1. It is 0 exactly if their canonical texts are equal. After a
 /// failure, which is the first text's where both have one, the order is as before.
 #[unsafe(no_mangle)]
 pub extern "C" fn gix_refspec_compare(

@@ -1,14 +1,7 @@
 //! What a spec prints, whether values are equal and hash alike, and a writer with little room.
 
-mod agreement;
-mod alike;
-mod badnames;
 mod errors;
 mod groups;
-mod growths;
-mod hostile;
-mod large;
-mod mapping;
 mod name;
 mod oid;
 mod order;
@@ -16,7 +9,6 @@ mod parsing;
 mod prefixes;
 mod printing;
 mod spec;
-mod validation;
 mod writing;
 
 use gix_refspec::RefSpecRef;

@@ -2,9 +2,9 @@
 use Rattle.std.proofs.Common.{◌≡◌, true, List, filter, map, refl}
 use Rattle.std.proofs.lemmas.Bool.{false≢true}
 use Rattle.std.proofs.lemmas.List.Elements.{All-map, All-weaker, filter_passes, recursion_from_All}
-use Rattle.gix_refspec.specs.declared.parsing.Operation.{Operation}
-use Rattle.gix_refspec.specs.declared.parsing.Operation.TheVariants.{Push, Fetch}
-use Rattle.gix_refspec.specs.declared.spec.RefSpecRef.{RefSpecRef}
+use Rattle.refspec_text.specs.declared.parsing.Operation.{Operation}
+use Rattle.refspec_text.specs.declared.parsing.Operation.TheVariants.{Push, Fetch}
+use Rattle.refspec_text.specs.declared.spec.RefSpecRef.{RefSpecRef}
 use Rattle.gix_refspec.specs.Views.Spec.{reading_of}
 use Rattle.gix_refspec.specs.Views.Group.{is_for, is_same_operation}
 use Rattle.gix_refspec.specs.Laws.Matching.{AreFetches}

@@ -1,6 +1,6 @@
 -- What the laws of the library come to.
 use Rattle.std.proofs.Common.{◌≡◌, inl, inr, ℕ, List, Some, option_map, sym, ap, ◌∙◌, subst}
-use Rattle.gix_refspec.specs.declared.parsing.Operation.{Operation}
+use Rattle.refspec_text.specs.declared.parsing.Operation.{Operation}
 use Rattle.gix_refspec.specs.Specs.Reading.{Reading}
 use Rattle.gix_refspec.specs.Specs.Grammar.{Reads}
 use Rattle.gix_refspec.specs.Specs.Meaning.{meaning_of, text_of, printed}

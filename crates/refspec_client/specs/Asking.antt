@@ -1,7 +1,7 @@
 -- What a client matches that asks a server only for the entries of its group, in the words of the library.
 use Rattle.std.specs.Prelude.{◌≡◌, ℕ, List, map, filter}
 use Rattle.bstr.specs.BStr.{bstr_bytes}
-use Rattle.gix_refspec.specs.declared.match_group.types.Item.{Item}
+use Rattle.refspec_match.specs.declared.types.Item.{Item}
 use Rattle.gix_refspec.specs.Specs.Reading.{Reading}
 use Rattle.gix_refspec.specs.Matching.Mappings.{Mapped}
 use Rattle.gix_refspec.specs.Views.Group.{ref_of}

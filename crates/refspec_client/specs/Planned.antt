@@ -1,8 +1,8 @@
 -- What a fetch may write, in the words of the library.
 use Rattle.std.specs.Prelude.{◌≢◌, ◌↔◌, List, [], map, filter}
 use Rattle.std.specs.List.{Contains}
-use Rattle.gix_refspec.specs.declared.parsing.Operation.TheVariants.{Fetch}
-use Rattle.gix_refspec.specs.declared.spec.RefSpecRef.{RefSpecRef}
+use Rattle.refspec_text.specs.declared.parsing.Operation.TheVariants.{Fetch}
+use Rattle.refspec_text.specs.declared.spec.RefSpecRef.{RefSpecRef}
 use Rattle.gix_refspec.specs.Specs.Reading.{Reading}
 use Rattle.gix_refspec.specs.Views.Spec.{reading_of}
 use Rattle.gix_refspec.specs.Matching.Match.{Ref}

@@ -1,4 +1,4 @@
-//! Groups of the specs that stand in a list, in a slice, or among the answers of `parse`.
+//! Groups of the specs in a list, in a slice, or among the answers of `parse`.
 
 ghost use Rattle.std.specs.Prelude.{◌≡◌, filter, IfOk};
 ghost use Rattle.gix_refspec.specs.Views.Group.{is_for};

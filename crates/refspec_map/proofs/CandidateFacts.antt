@@ -4,7 +4,7 @@ use Rattle.std.specs.Fmt.{digits}
 use Rattle.std.specs.List.{Contains}
 use Rattle.std.specs.List.Sorted.{IsStrictlySortedBy}
 use Rattle.std.proofs.lemmas.Bool.{eqb-false}
-use Rattle.gix_refspec.specs.declared.parsing.Operation.TheVariants.{Fetch}
+use Rattle.refspec_text.specs.declared.parsing.Operation.TheVariants.{Fetch}
 use Rattle.gix_refspec.specs.Texts.Bytes.{star, plus, caret, colon}
 use Rattle.gix_refspec.specs.Texts.ObjectId.{IsIdText}
 use Rattle.gix_refspec.specs.Specs.Reading.{Normal, Reading}
@@ -14,9 +14,9 @@ use Rattle.gix_refspec.specs.Matching.Match.{HasName, IsFirstCandidate, Takes}
 use Rattle.gix_refspec.specs.Matching.Mappings.{Mapped, IsExcluded}
 use Rattle.gix_refspec.specs.Matching.Hits.{Ends, Hit, IsHit, AreForward, AreKeptForward, IsIdMapping}
 use Rattle.gix_refspec.specs.Matching.Validation.{HasConflictAt, IsValidated, IsWritable}
-use Rattle.gix_refspec.proofs.lemmas.hits.CandidateLemmas.{first_once, taken_by_first}
-use Rattle.gix_refspec.proofs.lemmas.specs.FormsBackLemmas.{some_once}
-use Rattle.gix_refspec.proofs.lemmas.texts.TestedLemmas.{IsName-tested}
+use Rattle.refspec_text.proofs.lemmas.hits.CandidateLemmas.{first_once, taken_by_first}
+use Rattle.refspec_text.proofs.lemmas.specs.FormsBackLemmas.{some_once}
+use Rattle.refspec_text.proofs.lemmas.texts.TestedLemmas.{IsName-tested}
 use Rattle.refspec_map.specs.declared.command.Command.TheVariants as command
 use Rattle.refspec_map.specs.declared.command.Matching.TheVariants as matching
 use Rattle.refspec_map.specs.Input.{newline}

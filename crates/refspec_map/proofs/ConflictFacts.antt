@@ -3,7 +3,7 @@ use Rattle.std.proofs.Common.{◌≡◌, ◌≢◌, inl, inr, ℕ, zero, suc, tr
 use Rattle.std.proofs.lemmas.Bool.{eqb-false}
 use Rattle.std.specs.List.{Contains}
 use Rattle.std.specs.List.Sorted.{IsStrictlySortedBy}
-use Rattle.gix_refspec.specs.declared.parsing.Operation.TheVariants.{Fetch}
+use Rattle.refspec_text.specs.declared.parsing.Operation.TheVariants.{Fetch}
 use Rattle.gix_refspec.specs.Texts.Words.{BeginsWith}
 use Rattle.gix_refspec.specs.Texts.Bytes.{star, plus, caret, colon}
 use Rattle.gix_refspec.specs.Specs.Reading.{Normal, Reading}
@@ -13,9 +13,9 @@ use Rattle.gix_refspec.specs.Matching.Match.{Ref, Takes}
 use Rattle.gix_refspec.specs.Matching.Mappings.{Start, name, id, Mapped, HasPair, IsExcluded}
 use Rattle.gix_refspec.specs.Matching.Hits.{Ends, AreForwardEnds, Hit, IsHit, AreForward, AreKeptForward, IsIdMapping}
 use Rattle.gix_refspec.specs.Matching.Validation.{Conflict, HasConflictAt, IsFirstTo, IsConflict, AreConflicts}
-use Rattle.gix_refspec.proofs.lemmas.specs.FormsBackLemmas.{some_once}
-use Rattle.gix_refspec.proofs.lemmas.hits.HitLemmas.{matches_as}
-use Rattle.gix_refspec.proofs.lemmas.texts.TestedLemmas.{IsName-tested}
+use Rattle.refspec_text.proofs.lemmas.specs.FormsBackLemmas.{some_once}
+use Rattle.refspec_match.proofs.lemmas.hits.HitLemmas.{matches_as}
+use Rattle.refspec_text.proofs.lemmas.texts.TestedLemmas.{IsName-tested}
 use Rattle.refspec_map.specs.declared.command.Command.TheVariants as command
 use Rattle.refspec_map.specs.declared.command.Matching.TheVariants as matching
 use Rattle.refspec_map.specs.Input.{newline, AreLines}

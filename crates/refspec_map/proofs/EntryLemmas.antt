@@ -4,9 +4,9 @@ use Rattle.std.specs.List.{AllZip}
 use Rattle.std.proofs.lemmas.Bool.{eqb-true, false≢true}
 use Rattle.std.proofs.lemmas.List.{append-nil, map-append}
 use Rattle.std.proofs.lemmas.Result.{on_ok_weaker}
-use Rattle.gix_refspec.specs.declared.parsing.Operation.TheVariants.{Fetch}
-use Rattle.gix_refspec.specs.declared.spec.RefSpecRef.{RefSpecRef}
-use Rattle.gix_refspec.specs.declared.match_group.types.Item.{Item}
+use Rattle.refspec_text.specs.declared.parsing.Operation.TheVariants.{Fetch}
+use Rattle.refspec_text.specs.declared.spec.RefSpecRef.{RefSpecRef}
+use Rattle.refspec_match.specs.declared.types.Item.{Item}
 use Rattle.gix_refspec.specs.Specs.Grammar.{Reads}
 use Rattle.gix_refspec.specs.Matching.Match.{Ref}
 use Rattle.gix_refspec.specs.Views.Spec.{reading_of}
@@ -19,11 +19,11 @@ use Rattle.refspec_map.specs.Line.{Entry, reading, ref, spec, item, Says, Gives,
 use Rattle.refspec_map.specs.Told.{IsSeenAs, told_ref, bare, named, seen, kept_refs, AddsRef, Adds, AreEntries}
 use Rattle.refspec_map.proofs.OutputLemmas.{lines_more}
 
--- a whole ref was put behind the entries
+-- a whole ref was put after the entries
 pub AddsRef-whole : {T E : Type 0} (A : Type 0) (r : Result T E) (old new : Entries) (t : ToldRef) → new.specs ≡ old.specs → OnOk r (new.refs.items ≡ old.refs.items ++ t ∷ []) → OnOk r (AddsRef {A = A} None (told_ref t) old new)
 AddsRef-whole A r old new t same pushed = on_ok_weaker r (λ put. record { specs = same; refs = ap (map told_ref) put ∙ map-append told_ref old.refs.items (t ∷ []) }) pushed
 
--- a name was put behind the entries
+-- a name was put after the entries
 pub AddsRef-name : {T E A : Type 0} (r : Result T E) (old new : Entries) (blank : A) (t : Ref) (i : Item) → named i ≡ bare t → new.specs ≡ old.specs → OnOk r (new.items.items ≡ old.items.items ++ i ∷ []) → OnOk r (AddsRef (Some blank) t old new)
 AddsRef-name r old new blank t i is same pushed = on_ok_weaker r (λ put. record { specs = same; refs = ap (map named) put ∙ (map-append named old.items.items (i ∷ []) ∙ ap (λ n. map named old.items.items ++ n ∷ []) is) }) pushed
 
@@ -32,7 +32,7 @@ seen_same : {A : Type 0} (blank : Option A) (r t : Ref) → IsSeenAs blank r t �
 seen_same None r t same = ap (λ x. x ∷ []) same
 seen_same (Some blank) r t same = ap (λ x. x ∷ []) same
 
--- a ref was put behind the entries
+-- a ref was put after the entries
 pub Adds-ref : {T E A : Type 0} (r : Result T E) (blank : Option A) (line : List ℕ) (old new : Entries) (t : Ref) → (s : Ref) × Says line (item s) × IsSeenAs blank s t → OnOk r (AddsRef blank t old new) → OnOk r (Adds blank line old new)
 Adds-ref r blank line old new t (s, says, same) added = on_ok_weaker r (λ is. record {
   entry = ref s;
@@ -49,7 +49,7 @@ kept_same : {A : Type 0} (blank : Option A) (old new : Entries) → new.refs ≡
 kept_same None old new refs items = ap (λ v. map told_ref v.items) refs
 kept_same (Some b) old new refs items = ap (λ v. map named v.items) items
 
--- a spec was put behind the entries
+-- a spec was put after the entries
 pub Adds-spec : {T E A : Type 0} (r : Result T E) (blank : Option A) (line text : List ℕ) (old new : Entries) (s : RefSpecRef) → Says line (spec text) → Reads Fetch text (reading_of s) → new.refs ≡ old.refs → new.items ≡ old.items → OnOk r (new.specs.items ≡ old.specs.items ++ s ∷ []) → OnOk r (Adds blank line old new)
 Adds-spec r blank line text old new s says reads refs items pushed = on_ok_weaker r (λ put. record {
   entry = reading (reading_of s);

@@ -2,10 +2,10 @@
 -- wrong rule in specs/ doesn't check.
 use Rattle.std.proofs.Common.{◌≢◌, inl, inr, ℕ, List, [], ◌∷◌, ◌++◌, None, Some, length, get_or, codes, refl, ap, arith}
 use Rattle.std.proofs.lemmas.Bool.{eqb-false}
-use Rattle.gix_refspec.specs.declared.oid.Error.TheVariants.{Length}
+use Rattle.refspec_text.specs.declared.oid.Error.TheVariants.{Length}
 use Rattle.gix_refspec.specs.Matching.Match.{Ref}
-use Rattle.gix_refspec.proofs.facts.ObjectIdFacts.{IsIdText-empty_blob, HasIdFault-length}
-use Rattle.gix_refspec.proofs.lemmas.texts.ObjectIdLemmas.{id_or_fault}
+use Rattle.refspec_text.proofs.facts.ObjectIdFacts.{IsIdText-empty_blob, HasIdFault-length}
+use Rattle.refspec_text.proofs.lemmas.texts.ObjectIdLemmas.{id_or_fault}
 use Rattle.refspec_map.specs.Line.{space, IsIdThen, IsRefLine, IsTagLine, spec, item, Says, IsMalformed}
 use Rattle.refspec_map.proofs.LineLemmas.{no_IsIdThen, no_IsIdThen-fault, no_ref_keyword, no_ref_id, no_tag_keyword, no_tagged_id, malformed}
 use Rattle.refspec_map.proofs.LineFacts.{Lacks-tested}
@@ -41,7 +41,7 @@ blob_then rest = record { word = blob_digits; ends = Lacks-tested space blob_dig
 pub spec_lines : Says (codes "spec ") (spec []) × Says (codes "spec  a:b") (spec (codes " a:b"))
 spec_lines = (refl, refl)
 
--- but the space behind the keyword may not be missing
+-- but the space after the keyword may not be missing
 no_space : (text : List ℕ) → codes "spec" ≢ codes "spec " ++ text
 no_space text same = omega (arith, ap length same)
 

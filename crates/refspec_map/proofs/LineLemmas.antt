@@ -4,10 +4,10 @@ use Rattle.std.specs.List.{SomeIndex, list_all}
 use Rattle.std.proofs.lemmas.Bool.{false≢true}
 use Rattle.std.proofs.lemmas.List.Sums.{AllPass-from_list_all}
 use Rattle.std.proofs.lemmas.List.{append_cancel_left}
-use Rattle.gix_refspec.specs.declared.oid.Error.{Error as IdError}
-use Rattle.gix_refspec.specs.declared.oid.Error.TheVariants.{Digit, Length}
+use Rattle.refspec_text.specs.declared.oid.Error.{Error as IdError}
+use Rattle.refspec_text.specs.declared.oid.Error.TheVariants.{Digit, Length}
 use Rattle.hex.specs.Hex.{is_hex_digit}
-use Rattle.gix_refspec.specs.declared.oid.Kind.TheVariants.{Sha1, Sha256}
+use Rattle.refspec_text.specs.declared.oid.Kind.TheVariants.{Sha1, Sha256}
 use Rattle.gix_refspec.specs.Texts.Words.{Lacks}
 use Rattle.gix_refspec.specs.Texts.ObjectId.{IsIdText, IsIdLength, HasIdFault}
 use Rattle.gix_refspec.specs.Matching.Side.{IsId}
@@ -103,7 +103,7 @@ pub tag_seen : {A : Type 0} (blank : Option A) (n id made tagged also : List ℕ
 tag_seen None n id made tagged also same both = ap (λ t. record { name = n; target = t; object = Some also }) same ∙ ap (λ o. record { name = n; target = id; object = Some o }) both
 tag_seen (Some blank) n id made tagged also same both = refl
 
--- a line without the keyword of a ref, or without an id behind it, tells of none
+-- a line without the keyword of a ref, or without an id after it, tells of none
 pub no_ref_keyword : (line : List ℕ) → ((rest : List ℕ) → line ≢ codes "ref " ++ rest) → (r : Ref) → ¬ (IsRefLine line r)
 no_ref_keyword line none r is = none is.words is.here
 
@@ -112,7 +112,7 @@ no_ref_id line words here none r is =
     let same : is.words ≡ words = append_cancel_left (codes "ref ") is.words words (sym is.here ∙ here) in
     none r.target r.name (subst (λ w. IsIdThen w r.target r.name) same is.target)
 
--- nor does one without the keyword of a tag, or without two ids behind it
+-- nor does one without the keyword of a tag, or without two ids after it
 pub no_tag_keyword : (line : List ℕ) → ((rest : List ℕ) → line ≢ codes "tag " ++ rest) → (r : Ref) → ¬ (IsTagLine line r)
 no_tag_keyword line none r is = none is.words is.here
 

@@ -6,8 +6,8 @@ use Rattle.std.specs.Prelude.{if◌then◌else◌}
 use Rattle.std.specs.List.{Contains}
 use Rattle.std.specs.List.Sorted.{IsStrictlySortedBy}
 use Rattle.std.specs.List.{flat_map}
-use Rattle.gix_refspec.specs.declared.oid.Kind.{Kind}
-use Rattle.gix_refspec.specs.declared.oid.Kind.TheVariants.{Sha1, Sha256}
+use Rattle.refspec_text.specs.declared.oid.Kind.{Kind}
+use Rattle.refspec_text.specs.declared.oid.Kind.TheVariants.{Sha1, Sha256}
 use Rattle.gix_refspec.specs.Texts.Bytes.{star, head}
 use Rattle.gix_refspec.specs.Texts.ObjectId.{digits_of, IsIdText}
 use Rattle.gix_refspec.specs.Specs.Reading.{Normal, Negative, Reading}
@@ -17,8 +17,8 @@ use Rattle.gix_refspec.specs.Matching.Match.{Ref}
 use Rattle.gix_refspec.specs.Matching.Mappings.{name, Mapped, IsExcluded}
 use Rattle.gix_refspec.specs.Matching.Hits.{Ends, AreForwardEnds, AreBackwardEnds, Hit, AreForward, AreKeptForward, AreKeptBackward, IsIdMapping}
 use Rattle.gix_refspec.specs.Matching.Validation.{Conflict, HasConflictAt, IsValidated}
-use Rattle.gix_refspec.proofs.lemmas.hits.CandidateLemmas.{first_of_one, taken_by_first}
-use Rattle.gix_refspec.proofs.lemmas.specs.FormsBackLemmas.{some_once}
+use Rattle.refspec_text.proofs.lemmas.hits.CandidateLemmas.{first_of_one, taken_by_first}
+use Rattle.refspec_text.proofs.lemmas.specs.FormsBackLemmas.{some_once}
 use Rattle.refspec_map.specs.declared.command.Command.{Command}
 use Rattle.refspec_map.specs.declared.command.Command.TheVariants as command
 use Rattle.refspec_map.specs.declared.command.Matching.TheVariants as matching

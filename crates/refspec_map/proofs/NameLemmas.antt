@@ -1,8 +1,8 @@
 -- Refs are taken by their names alone, where no id is asked for.
 use Rattle.std.specs.List.{AllByRecursion}
 use Rattle.std.proofs.Common.{◌≡◌, inl, inr, ℕ, ◌+◌, Option, None, Some, List, [], ◌∷◌, map, sym, ap, ◌∙◌, subst, refl}
-use Rattle.gix_refspec.proofs.lemmas.keep.RepeatLemmas.{all_weaker}
-use Rattle.gix_refspec.specs.declared.match_group.types.Item.{Item}
+use Rattle.refspec_match.proofs.lemmas.keep.RepeatLemmas.{all_weaker}
+use Rattle.refspec_match.specs.declared.types.Item.{Item}
 use Rattle.gix_refspec.specs.Specs.Reading.{Reading}
 use Rattle.gix_refspec.specs.Matching.Lists.{IsMadeFrom, IsJoinedFrom}
 use Rattle.gix_refspec.specs.Matching.Mappings.{Mapped}

@@ -1,7 +1,7 @@
 -- The lines of an input, and the answers to them, one after another.
 use Rattle.std.proofs.Common.{◌≡◌, ◌≢◌, ◌⊎◌, inl, inr, ℕ, ◌==◌, Bool, true, false, ◌||◌, List, [], ◌∷◌, ◌++◌, flat_map, length, refl, sym, ap, ◌∙◌, subst, append_assoc, length-append, arith}
 use Rattle.std.specs.List.{AllZip}
-use Rattle.gix_refspec.specs.declared.parsing.Operation.{Operation}
+use Rattle.refspec_text.specs.declared.parsing.Operation.{Operation}
 use Rattle.std.proofs.lemmas.Bool.{eqb-true, false≢true}
 use Rattle.std.proofs.lemmas.List.{append-nil}
 use Rattle.gix_refspec.specs.Texts.Words.{Lacks}
@@ -11,7 +11,7 @@ use Rattle.refspec_map.specs.declared.output.Answer.{Answer as Made}
 use Rattle.refspec_map.specs.declared.output.Answer.TheVariants as made
 use Rattle.refspec_map.specs.Output.{Answer, accepted, refused, IsAnswer, answer_line, is_refused, any_refused, IsCanon, IsAnsweredBy, PutsLine, is_refusal}
 
--- the answer to a line was put behind the old output, and refusal says whether it is refused
+-- the answer to a line was put after the old output, and refusal says whether it is refused
 record PutsAnswer (op : Operation) (line old new : List ℕ) (refusal : Bool) : Type 0 where
   answer : Answer
   is : IsAnswer op line answer
@@ -28,7 +28,7 @@ Completes op input output refusal rest =
 pub Completes-start : (op : Operation) (input output : List ℕ) → output ≡ [] → Completes op input output false input
 Completes-start op input output empty lines answers cut told = record { lines = lines; answers = answers; cut = cut; told = told; written = ap (λ x. x ++ flat_map answer_line answers) empty; tells = refl }
 
--- a newline doesn't stand in nothing
+-- there is no newline in nothing
 nothing_ends : (line rest : List ℕ) → [] ≡ line ++ (newline ∷ rest) → ⊥
 nothing_ends line rest same = omega (arith, ap length same, length-append line (newline ∷ rest))
 

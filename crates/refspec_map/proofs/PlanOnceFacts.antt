@@ -1,7 +1,7 @@
 -- What a caller of a run concludes from the laws on plans and on faults of specs.
 use Rattle.std.proofs.Common.{sym, ◌≡◌, ℕ, List, [], ◌∷◌, ◌++◌, Option, Some, codes, length, get_or, map, refl, ap, subst, arith, ◌∙◌, length-append}
 use Rattle.std.specs.Io.KnownBytes.{Appends}
-use Rattle.gix_refspec.specs.declared.parsing.Error.TheVariants.{Memory}
+use Rattle.refspec_text.specs.declared.parsing.Error.TheVariants.{Memory}
 use Rattle.gix_refspec.specs.Specs.Reading.{Reading}
 use Rattle.gix_refspec.specs.Matching.Match.{Ref}
 use Rattle.gix_refspec.specs.Matching.Mappings.{Mapped}
@@ -17,7 +17,7 @@ use Rattle.refspec_map.specs.Plan.{AreDistinct, IsOneLine, WritesOnce}
 use Rattle.refspec_map.specs.Run.{Explains, PlanOnce, SpecIsRefused}
 use Rattle.refspec_map.proofs.MatchFacts.{head_planned}
 
--- lines differ wherever they stand, and may begin alike
+-- lines differ at any place, and may begin alike
 pub distinct : AreDistinct (codes "a" ∷ codes "b" ∷ codes "ab" ∷ []) × ¬ (AreDistinct (codes "a" ∷ codes "b" ∷ codes "a" ∷ []))
 distinct = (
   (((λ same. let first : 98 ≡ 97 = ap (λ (x : List ℕ). get_or x 0 0) same in omega (arith, first)), ((λ same. let size : 2 ≡ 1 = ap length same in omega (arith, size)), tt)), (((λ same. let size : 2 ≡ 1 = ap length same in omega (arith, size)), tt), (tt, tt))),

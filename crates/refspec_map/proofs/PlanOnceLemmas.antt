@@ -5,9 +5,9 @@ use Rattle.std.specs.List.{AllByRecursion, AllZip, slice_get}
 use Rattle.std.proofs.lemmas.Fmt.{decimal_by_steps, decimal_injective}
 use Rattle.std.proofs.lemmas.List.{append_cancel_left, append_cancel_right}
 use Rattle.std.proofs.lemmas.Option.{slice_get_within}
-use Rattle.gix_refspec.specs.declared.parsing.Operation.TheVariants.{Fetch}
-use Rattle.gix_refspec.specs.declared.parsing.Error.{Error}
-use Rattle.gix_refspec.specs.declared.parsing.Error.TheVariants.{Memory}
+use Rattle.refspec_text.specs.declared.parsing.Operation.TheVariants.{Fetch}
+use Rattle.refspec_text.specs.declared.parsing.Error.{Error}
+use Rattle.refspec_text.specs.declared.parsing.Error.TheVariants.{Memory}
 use Rattle.gix_refspec.specs.Texts.Words.{Lacks}
 use Rattle.gix_refspec.specs.Specs.Reading.{Reading}
 use Rattle.gix_refspec.specs.Specs.Grammar.{Reads}
@@ -19,9 +19,9 @@ use Rattle.gix_refspec.specs.Matching.Lists.{IsJoinedFrom, IsMadeFrom}
 use Rattle.gix_refspec.specs.Matching.Mappings.{name, Mapped, IsSamePair, AreApart, Start, id}
 use Rattle.gix_refspec.specs.Matching.Hits.{AreKeptForward}
 use Rattle.gix_refspec.specs.Matching.Validation.{ForwardPlaces, Removed, Survives, IsFix}
-use Rattle.gix_refspec.proofs.lemmas.texts.TextLemmas.{first_once, last_once}
-use Rattle.gix_refspec.proofs.lemmas.keep.RepeatLemmas.{all_join, all_weaker, all_right}
-use Rattle.gix_refspec.proofs.lemmas.keep.KeptLemmas.{kept_once}
+use Rattle.refspec_text.proofs.lemmas.texts.TextLemmas.{first_once, last_once}
+use Rattle.refspec_match.proofs.lemmas.keep.RepeatLemmas.{all_join, all_weaker, all_right}
+use Rattle.refspec_match.proofs.lemmas.keep.KeptLemmas.{kept_once}
 use Rattle.gix_refspec.proofs.lemmas.validate.AfterLemmas.{apart_still, kept_never_meet, stays_each, validated_once}
 use Rattle.gix_refspec.proofs.lemmas.validate.PlaceFitLemmas.{places_fit}
 use Rattle.gix_refspec.proofs.lemmas.validate.PlacedOnceLemmas.{AreFixesApart, IsOfItsSpec, fixes_apart, fixes_of_group, kept_of_specs, one_id, printed_lacks, LacksIn, SidesLack, sides_lack}

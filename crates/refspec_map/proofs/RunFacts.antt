@@ -5,8 +5,8 @@ use Rattle.std.specs.Prelude.{if◌then◌else◌}
 use Rattle.std.specs.List.{AllZip}
 use Rattle.std.proofs.lemmas.Bool.{eqb-false}
 use Rattle.std.proofs.lemmas.List.{append-nil}
-use Rattle.gix_refspec.specs.declared.parsing.Operation.{Operation}
-use Rattle.gix_refspec.specs.declared.parsing.Operation.TheVariants.{Push, Fetch}
+use Rattle.refspec_text.specs.declared.parsing.Operation.{Operation}
+use Rattle.refspec_text.specs.declared.parsing.Operation.TheVariants.{Push, Fetch}
 use Rattle.gix_refspec.specs.Texts.Bytes.{plus, caret, head}
 use Rattle.gix_refspec.specs.Texts.Words.{Lacks}
 use Rattle.gix_refspec.specs.Specs.Reading.{Normal, Negative, Reading}
@@ -14,11 +14,11 @@ use Rattle.gix_refspec.specs.Laws.Readings.{IsSameReason}
 use Rattle.gix_refspec.specs.Specs.Grammar.{Reads, fetched, fetches_nothing_named, fetches_colon}
 use Rattle.gix_refspec.specs.Specs.Refusal.{Refusal, Empty, NegativeEmpty, IsFirstReason, IsRefused}
 use Rattle.gix_refspec.specs.Specs.Meaning.{printed}
-use Rattle.gix_refspec.proofs.lemmas.specs.FormsBackLemmas.{some_once}
-use Rattle.gix_refspec.proofs.lemmas.parsing.ReasonLemmas.{negative_reaches}
-use Rattle.gix_refspec.proofs.lemmas.parsing.ReadsLemmas.{refused as refused_by}
-use Rattle.gix_refspec.proofs.lemmas.parsing.ReadOnceLemmas.{reads_once}
-use Rattle.gix_refspec.proofs.lemmas.parsing.RefusalLemmas.{one_refusal}
+use Rattle.refspec_text.proofs.lemmas.specs.FormsBackLemmas.{some_once}
+use Rattle.refspec_text.proofs.lemmas.parsing.ReasonLemmas.{negative_reaches}
+use Rattle.refspec_text.proofs.lemmas.parsing.ReadsLemmas.{refused as refused_by}
+use Rattle.refspec_text.proofs.lemmas.parsing.ReadOnceLemmas.{reads_once}
+use Rattle.refspec_text.proofs.lemmas.parsing.RefusalLemmas.{one_refusal}
 use Rattle.refspec_map.specs.declared.command.Command.TheVariants as command
 use Rattle.refspec_map.specs.Fault.{name_of}
 use Rattle.refspec_map.specs.Input.{newline, ReadsToEnd}
@@ -49,7 +49,7 @@ caret_reason =
 pub caret_refused : IsRefused Fetch (codes "^") NegativeEmpty
 caret_refused = refused_by Fetch Negative [] None (codes "^") NegativeEmpty (record { signed = refl; last = tt }) caret_reason
 
--- three lines, of which the last has no newline, behind what was written before
+-- three lines, of which the last has no newline, after what was written before
 pub answers_for_a_fetch : Answers (command.Canon Fetch) (Some (codes "\n^\n:")) (Some []) (Some (codes "old\n")) (Some (codes "old\nok HEAD\nerr NegativeEmpty\nok HEAD\n")) 1
 answers_for_a_fetch = record {
   input = codes "\n^\n:";

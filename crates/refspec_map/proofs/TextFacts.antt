@@ -2,15 +2,15 @@
 -- sides of a border, so that a wrong rule in specs/ doesn't check.
 use Rattle.std.proofs.Common.{◌≡◌, ℕ, true, false, List, [], ◌∷◌, ◌++◌, None, Some, map, codes, refl}
 use Rattle.std.specs.Fmt.{digits}
-use Rattle.gix_refspec.specs.declared.name.Error.TheVariants.{LockSuffix}
-use Rattle.gix_refspec.specs.declared.parsing.Error.TheVariants as error
+use Rattle.refspec_text.specs.declared.name.Error.TheVariants.{LockSuffix}
+use Rattle.refspec_text.specs.declared.parsing.Error.TheVariants as error
 use Rattle.gix_refspec.specs.Specs.Grammar.{fetched}
 use Rattle.gix_refspec.specs.Matching.Mappings.{name, id}
 use Rattle.gix_refspec.specs.Specs.Reading.{Forced}
 use Rattle.gix_refspec.specs.Specs.Refusal.{Empty, NegativeWithDestination, PushToEmpty, PatternUnsupported, ReferenceName, PatternUnbalanced, NegativeEmpty, NegativeObjectHash}
 use Rattle.gix_refspec.specs.Matching.Validation.{Removed}
 use Rattle.gix_refspec.specs.Texts.ObjectId.{lower_of}
-use Rattle.gix_refspec.specs.declared.parsing.Operation.TheVariants.{Fetch, Push}
+use Rattle.refspec_text.specs.declared.parsing.Operation.TheVariants.{Fetch, Push}
 use Rattle.refspec_map.specs.declared.command.Command.TheVariants as command
 use Rattle.refspec_map.specs.declared.command.Matching.TheVariants as matching
 use Rattle.refspec_map.specs.declared.fault.Fault.TheVariants as fault
@@ -82,7 +82,7 @@ pub id_line : (bytes : List ℕ) → map_line (record { item = None; source = id
 unfolding digits
 id_line bytes = refl
 
--- two sources, each with the text of its spec behind it
+-- two sources, each with the text of its spec after it
 pub two_claims_line : conflict_line (record { destination = codes "refs/x"; sources = name (codes "a") ∷ name (codes "b") ∷ []; texts = codes "a:refs/x" ∷ codes "*:refs/*" ∷ [] }) ≡ codes "conflict\trefs/x\ta\ta:refs/x\tb\t*:refs/*\n"
 two_claims_line = refl
 

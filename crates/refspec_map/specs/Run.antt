@@ -1,15 +1,15 @@
 -- What a run of a command does to its reader and its writer.
 use Rattle.std.specs.Prelude.{◌≡◌, ◌≢◌, ℕ, Bool, false, List, Option, if◌then◌else◌, ⊤}
 use Rattle.std.specs.Io.KnownBytes.{Appends, Keeps}
-use Rattle.gix_refspec.specs.declared.parsing.Operation.TheVariants.{Fetch}
+use Rattle.refspec_text.specs.declared.parsing.Operation.TheVariants.{Fetch}
 use Rattle.refspec_map.specs.declared.command.Command.{Command}
 use Rattle.refspec_map.specs.declared.command.Command.TheVariants as command
 use Rattle.refspec_map.specs.declared.command.Matching.{Matching}
 use Rattle.refspec_map.specs.declared.command.Matching.TheVariants as matching
 use Rattle.refspec_map.specs.declared.fault.Fault.{Fault}
 use Rattle.refspec_map.specs.declared.fault.Fault.TheVariants as fault
-use Rattle.gix_refspec.specs.declared.parsing.Error.{Error}
-use Rattle.gix_refspec.specs.declared.parsing.Error.TheVariants.{Memory}
+use Rattle.refspec_text.specs.declared.parsing.Error.{Error}
+use Rattle.refspec_text.specs.declared.parsing.Error.TheVariants.{Memory}
 use Rattle.gix_refspec.specs.Specs.Reading.{Reading}
 use Rattle.gix_refspec.specs.Matching.Match.{Ref}
 use Rattle.gix_refspec.specs.Specs.Refusal.{IsRefused}

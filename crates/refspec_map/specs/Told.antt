@@ -2,7 +2,7 @@
 use Rattle.std.specs.Prelude.{◌≡◌, ℕ, List, [], ◌∷◌, ◌++◌, Option, None, Some, option_map, map, ⊤}
 use Rattle.std.specs.List.{AllByRecursion, AllZip}
 use Rattle.bstr.specs.BStr.{bstr_bytes}
-use Rattle.gix_refspec.specs.declared.match_group.types.Item.{Item}
+use Rattle.refspec_match.specs.declared.types.Item.{Item}
 use Rattle.gix_refspec.specs.Texts.ObjectId.{id_bytes}
 use Rattle.gix_refspec.specs.Matching.Side.{IsId}
 use Rattle.gix_refspec.specs.Matching.Match.{Ref}

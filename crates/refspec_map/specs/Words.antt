@@ -1,7 +1,7 @@
 -- The words of a call, without the program's own name, and the commands that they name. This project's
 -- own rule.
 use Rattle.std.specs.Prelude.{◌≡◌, ◌≢◌, ℕ, List, [], ◌∷◌, Option, None, Some, codes}
-use Rattle.gix_refspec.specs.declared.parsing.Operation.TheVariants.{Fetch, Push}
+use Rattle.refspec_text.specs.declared.parsing.Operation.TheVariants.{Fetch, Push}
 use Rattle.refspec_map.specs.declared.command.Command.{Command}
 use Rattle.refspec_map.specs.declared.command.Command.TheVariants as command
 use Rattle.refspec_map.specs.declared.command.Matching.TheVariants as matching

@@ -1,42 +1,45 @@
--- The words that only laws cite, on each side of what they ask: which specs go both ways, which
--- sources are covering, what a spec reads as again, and what a group expands to.
+-- The words that only laws cite, on each side of what they ask: which specs go both ways, what
+-- covering sources ask for, what a spec reads as again, and what a group expands to.
 use Rattle.std.proofs.Common.{◌≡◌, ◌≢◌, ◌⊎◌, ◌<◌, ℕ, zero, suc, List, [], ◌∷◌, ◌++◌, Option, None, Some, length, codes, refl, sym, ap, ◌∙◌, subst, inl, inr, arith}
 use Rattle.std.specs.List.{AllByRecursion}
-use Rattle.gix_refspec.specs.declared.parsing.Operation.TheVariants.{Push, Fetch}
-use Rattle.gix_refspec.specs.Texts.Words.{BeginsWith}
-use Rattle.gix_refspec.specs.Texts.Name.{HasStar, IsPattern}
-use Rattle.gix_refspec.specs.Texts.Bytes.{star, bracket, colon}
-use Rattle.gix_refspec.specs.Specs.Reading.{Normal, Forced, Negative, Reading}
-use Rattle.gix_refspec.specs.Specs.Grammar.{AreParts, Reads, fetches, fetched, pushed}
-use Rattle.gix_refspec.specs.Matching.Side.{candidates, IsCandidate, Fits}
-use Rattle.gix_refspec.specs.Matching.Mappings.{name, id, Mapped, HasPair, AreApart}
-use Rattle.gix_refspec.specs.Matching.Hits.{AreKeptForward, AreKeptBackward, OneForward, OneBackward, KeptOnce}
-use Rattle.gix_refspec.specs.Matching.Match.{Ref, Matches, HasName, Takes}
+use Rattle.refspec_text.specs.declared.parsing.Operation.TheVariants.{Push, Fetch}
+use Rattle.refspec_text.specs.Texts.Words.{BeginsWith}
+use Rattle.refspec_text.specs.Texts.Name.{HasStar, IsPattern}
+use Rattle.refspec_text.specs.Texts.Bytes.{star, colon}
+use Rattle.refspec_text.specs.Specs.Reading.{Normal, Forced, Negative, Reading}
+use Rattle.refspec_text.specs.Specs.Grammar.{AreParts, Reads, fetches, fetched, pushed}
+use Rattle.refspec_text.specs.Matching.Side.{candidates, IsCandidate, Fits}
+use Rattle.refspec_match.specs.Matching.Mappings.{name, id, Mapped, HasPair, AreApart}
+use Rattle.refspec_match.specs.Matching.Hits.{AreKeptForward, AreKeptBackward, OneForward, OneBackward, KeptOnce}
+use Rattle.refspec_text.specs.Matching.Match.{Ref, Matches, HasName, Takes}
 use Rattle.gix_refspec.specs.Matching.Validation.{ValidatedOnce, HaveOneSource, NeverMeet, ForwardFits, IndexesFit}
-use Rattle.gix_refspec.specs.Laws.Readings.{ReadsOnce, ReadsOrRefused, IsSameReason, SaysForOperation, IsPrintedBack, ReadsBack, EqualReadings, HasOneId, HasOneFault, HasCandidates, KeepsOperation, EqualTexts, NothingAgainst, ClonesExactly, OneWord, PrefixBegins, OnePrefix, Candidates, IdOrFault, OneLowerText, OneRefusal}
-use Rattle.gix_refspec.specs.Specs.Meaning.{push_delete, fetch_only, printed, meaning_of}
-use Rattle.gix_refspec.specs.Texts.PatternError.{IsPatternFault}
-use Rattle.gix_refspec.specs.declared.name.PatternError.{PatternError}
-use Rattle.gix_refspec.specs.declared.name.PatternError.TheVariants.{Name, Memory}
-use Rattle.gix_refspec.specs.Specs.Refusal.{Refusal, PatternUnbalanced, NegativeEmpty, ReferenceName, IsRefused}
-use Rattle.gix_refspec.specs.Texts.ObjectId.{IsIdText, IsLowerText, HasIdFault}
-use Rattle.gix_refspec.specs.declared.name.Error.{Error as NameError}
-use Rattle.gix_refspec.specs.declared.name.Error.TheVariants.{LockSuffix, RepeatedDot}
-use Rattle.gix_refspec.specs.declared.oid.Error.{Error as IdError}
-use Rattle.gix_refspec.specs.declared.oid.Error.TheVariants.{Length}
-use Rattle.gix_refspec.specs.Matching.Prefix.{IsAsked, IsPrefix, Expands, of_head, of_name, of_pattern, to_prefix, to_candidates}
-use Rattle.gix_refspec.specs.Laws.Matching.{MapAlike, AreReadAgain, AsksFor, AtSpec, EachSource, Transpose, Cover, CoverTogether, FetchGroupReadsBack, IsCoveredBy, IsSourceAmong, IsDestinationAmong, GoesBothWays, ReadsAgainAs, IsCovering, by_prefix, by_candidates, HasCoveringSource, BeginsWithOne, AreExpansions}
-use Rattle.gix_refspec.proofs.lemmas.texts.TextLemmas.{Lacks-here, Lacks-Holds}
-use Rattle.gix_refspec.proofs.lemmas.texts.TestedLemmas.{IsName-tested}
-use Rattle.gix_refspec.proofs.lemmas.hits.MatchLemmas.{cut_once, outside_none}
-use Rattle.gix_refspec.proofs.lemmas.parsing.ReadOnceLemmas.{reads_once}
-use Rattle.gix_refspec.proofs.lemmas.specs.FormsBackLemmas.{some_once}
-use Rattle.gix_refspec.proofs.facts.ManualFacts.{Lacks-tested, IsPattern-tested, other_length, none_some, named, no_sign}
-use Rattle.gix_refspec.proofs.facts.FaultFacts.{begins_not}
-use Rattle.gix_refspec.proofs.facts.UnreadFacts.{unbalanced_fetches}
-use Rattle.gix_refspec.proofs.facts.ObjectIdFacts.{empty_blob, IsIdText-empty_blob, lower_of-empty_blob, HasIdFault-length}
+use Rattle.refspec_text.specs.Laws.Readings.{ReadsOnce, ReadsOrRefused, IsSameReason, SaysForOperation, IsPrintedBack, ReadsBack, EqualReadings, HasOneId, HasOneFault, HasCandidates, KeepsOperation, EqualTexts, NothingAgainst, ClonesExactly, OneWord, PrefixBegins, OnePrefix, Candidates, IdOrFault, OneLowerText, OneRefusal}
+use Rattle.refspec_text.specs.Specs.Meaning.{push_delete, fetch_only, printed, meaning_of}
+use Rattle.refspec_text.specs.Texts.PatternError.{IsPatternFault}
+use Rattle.refspec_text.specs.declared.name.PatternError.{PatternError}
+use Rattle.refspec_text.specs.declared.name.PatternError.TheVariants.{Name, Memory}
+use Rattle.refspec_text.specs.Specs.Refusal.{Refusal, PatternUnbalanced, NegativeEmpty, ReferenceName, IsRefused}
+use Rattle.refspec_text.specs.Texts.ObjectId.{IsIdText, IsLowerText, HasIdFault}
+use Rattle.refspec_text.specs.declared.name.Error.{Error as NameError}
+use Rattle.refspec_text.specs.declared.name.Error.TheVariants.{LockSuffix, RepeatedDot}
+use Rattle.refspec_text.specs.declared.oid.Error.{Error as IdError}
+use Rattle.refspec_text.specs.declared.oid.Error.TheVariants.{Length}
+use Rattle.refspec_text.specs.Matching.Prefix.{IsAsked, IsPrefix, Expands, to_prefix, to_candidates}
+use Rattle.refspec_text.specs.Laws.Covering.{IsCovering, HasCoveringSource}
+use Rattle.gix_refspec.specs.Laws.Matching.{MapAlike, AreReadAgain, AsksFor, AtSpec, EachSource, Transpose, Cover, CoverTogether, FetchGroupReadsBack, IsCoveredBy, IsSourceAmong, IsDestinationAmong, GoesBothWays, ReadsAgainAs, BeginsWithOne, AreExpansions}
+use Rattle.refspec_text.proofs.lemmas.texts.TextLemmas.{Lacks-Holds}
+use Rattle.refspec_text.proofs.lemmas.texts.TestedLemmas.{IsName-tested}
+use Rattle.refspec_text.proofs.lemmas.hits.MatchLemmas.{outside_none}
+use Rattle.refspec_text.proofs.lemmas.parsing.ReadOnceLemmas.{reads_once}
+use Rattle.refspec_text.proofs.lemmas.specs.FormsBackLemmas.{some_once}
+use Rattle.refspec_text.proofs.facts.ManualFacts.{Lacks-tested, IsPattern-tested, other_length, none_some, named, no_sign}
+use Rattle.refspec_text.proofs.facts.FaultFacts.{begins_not}
+use Rattle.refspec_text.proofs.facts.UnreadFacts.{unbalanced_fetches}
+use Rattle.refspec_text.proofs.facts.ObjectIdFacts.{empty_blob, IsIdText-empty_blob, lower_of-empty_blob, HasIdFault-length}
 use Rattle.gix_refspec.proofs.facts.ValidationFacts.{both_to_x, foo_fix, validated}
-use Rattle.gix_refspec.proofs.facts.MatchFacts.{bytes_in, mapping, tracked, fetches_all_but_dev, tracks_all_but_dev, tracks_nothing, tag_to_x, tag_to_foo, tag_alone, cut_at_end, every, no_dev, short, short_kind, other_byte}
+use Rattle.refspec_text.proofs.facts.FitFacts.{every, no_dev, short, short_kind, other_byte, other_first, push_is_none}
+use Rattle.refspec_match.proofs.facts.MatchFacts.{bytes_in, mapping, tracked, fetches_all_but_dev, tracks_all_but_dev, tracks_nothing, tag_to_x, tag_to_foo, tag_alone}
+use Rattle.refspec_text.proofs.facts.CoveringFacts.{below_heads, covering, not_covering}
 
 -- ---- both directions
 
@@ -58,10 +61,6 @@ go_both_ways = (
   (λ positive s d is_s is_d. absurd (none_some d is_d)),
   (λ positive. absurd positive),
 )
-
--- what doesn't begin so at its first byte
-other_first : (b : ℕ) (x : List ℕ) → b ≢ 114 → ¬ (BeginsWith (codes "refs/") (b ∷ x))
-other_first b x differ begins = other_byte 0 (b ∷ x) (codes "refs/" ++ begins.after) differ begins.here
 
 -- a partial name on one side keeps a spec from this
 pub go_one_way : ¬ (GoesBothWays (fetched Normal (codes "main") (Some (codes "refs/x/main")))) × ¬ (GoesBothWays (fetched Normal (codes "refs/heads/a") (Some (codes "b"))))
@@ -105,59 +104,11 @@ reads_no_force again =
     forced_no_normal : Forced ≢ Normal
     forced_no_normal same = cc
 
-push_is_none : Push ≢ Fetch
-push_is_none same = cc
-
 -- no push reads again as anything
 pub no_push_again : (s d : Option (List ℕ)) (q : Reading) → ¬ (ReadsAgainAs (pushed Normal s d) q)
 no_push_again s d q again = push_is_none again.fetch
 
 -- ---- what covers sources
-
-pub below_heads : IsPrefix (codes "refs/heads/*") (codes "refs/heads/")
-below_heads = of_pattern (codes "refs/heads/") [] (cut_at_end (codes "refs/heads/") refl) (record {
-  below = record { after = codes "heads/"; here = refl };
-  further = other_length _ _ (λ size. omega (arith, size));
-  first = Lacks-tested bracket (codes "refs/heads/") refl;
-  last = tt;
-}) refl
-
--- a pattern below `refs/heads/`, a full name and a partial one are covering
-pub covering : IsCovering (codes "refs/heads/*") × IsCovering (codes "refs/heads/main") × IsCovering (codes "main")
-covering = (
-  by_prefix (codes "refs/heads/") (record { after = codes "heads/*"; here = refl }) below_heads,
-  by_prefix (codes "refs/heads/main") (record { after = codes "heads/main"; here = refl }) (of_name (record { after = codes "heads/main"; here = refl }) (Lacks-tested star (codes "refs/heads/main") refl) refl),
-  by_candidates short_kind.1 (other_byte 0 (codes "main") (codes "HEAD") (λ same. omega (arith, same))) short_kind.2,
-)
-
--- `HEAD` isn't, nor are all names, nor all those below `refs/`
-pub not_covering : ¬ (IsCovering (codes "HEAD")) × ¬ (IsCovering (codes "*")) × ¬ (IsCovering (codes "refs/*"))
-not_covering = (no_head, no_star, no_refs)
-  where
-    no_head : ¬ (IsCovering (codes "HEAD"))
-    no_head (by_prefix p begins prefix) = other_first 72 (codes "EAD") (λ same. omega (arith, same)) begins
-    no_head (by_candidates lacks other outside) = other refl
-
-    no_star : ¬ (IsCovering (codes "*"))
-    no_star (by_prefix p begins prefix) = other_first 42 [] (λ same. omega (arith, same)) begins
-    no_star (by_candidates lacks other outside) = Lacks-here star [] [] lacks
-
-    no_prefix : (p : List ℕ) → ¬ (IsPrefix (codes "refs/*") p)
-    no_prefix p (of_head is_head same) = other_length _ _ (λ size. omega (arith, size)) is_head
-    no_prefix p (of_name begins lacks same) = Lacks-here star (codes "refs/") [] lacks
-    no_prefix p (of_pattern before after cut tells same) = tells.further ((cut_once (codes "refs/*") before after (codes "refs/") [] cut (cut_at_end (codes "refs/") refl)).0)
-
-    no_refs : ¬ (IsCovering (codes "refs/*"))
-    no_refs (by_prefix p begins prefix) = no_prefix p prefix
-    no_refs (by_candidates lacks other outside) = Lacks-here star (codes "refs/") [] lacks
-
--- a negative spec asks for nothing; a push isn't covering, whatever its source
-pub covering_sources : HasCoveringSource no_dev × HasCoveringSource short × ¬ (HasCoveringSource (pushed Normal (Some (codes "main")) None))
-covering_sources = (
-  record { fetch = refl; source = λ x asked. absurd asked.positive },
-  record { fetch = refl; source = λ x asked. subst IsCovering (some_once (codes "main") x asked.side) covering.2 },
-  λ has. push_is_none has.fetch,
-)
 
 -- a name begins with an entry, and not only holds it
 pub begins_with_one : BeginsWithOne (codes "refs/tags/" ∷ codes "refs/heads/" ∷ []) (codes "refs/heads/main") × ¬ (BeginsWithOne (codes "heads/" ∷ []) (codes "refs/heads/main"))

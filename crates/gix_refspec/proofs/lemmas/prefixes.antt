@@ -1,5 +1,3 @@
 -- Lemmas on what a client asks a server for.
-pub mod PrefixLemmas
-pub mod OnePrefixLemmas
 pub mod AskedLemmas
 pub mod CoverLemmas

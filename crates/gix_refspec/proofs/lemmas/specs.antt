@@ -1,6 +1,2 @@
--- Lemmas on accepted readings, and on the canonical text.
-pub mod AcceptedLemmas
-pub mod SpecLemmas
-pub mod ReadBackLemmas
-pub mod FormsBackLemmas
+-- Lemmas on the sides of accepted readings, and on what there is one of.
 pub mod SideLawLemmas

@@ -1,17 +1,18 @@
--- Laws of matching some of the items in place of all: which ones a caller may leave out.
+-- Laws of matching some of the items in place of all, or items without their ids: what a caller may leave out.
 -- They follow from the definitions in Hits and Laws/Matching, and add no rule.
 use Rattle.std.specs.Prelude.{◌≡◌, ◌⊎◌, ◌↔◌, ℕ, Bool, IsTrue, nat_eq, List, map, Option, Some}
 use Rattle.std.specs.List.{AllByRecursion, Any, Contains, filter, list_any, starts_with}
 use Rattle.bstr.specs.BStr.{bstr_bytes}
-use Rattle.gix_refspec.specs.declared.match_group.types.Item.{Item}
-use Rattle.gix_refspec.specs.declared.parsing.Operation.TheVariants.{Fetch}
-use Rattle.gix_refspec.specs.Texts.Bytes.{head}
-use Rattle.gix_refspec.specs.Specs.Reading.{Reading}
-use Rattle.gix_refspec.specs.Matching.Match.{Ref, HasName, Matches, Takes}
-use Rattle.gix_refspec.specs.Matching.Mappings.{Mapped, HasPair}
-use Rattle.gix_refspec.specs.Views.Group.{ref_of}
-use Rattle.gix_refspec.specs.Matching.Hits.{Ends, AreForwardEnds, AreBackwardEnds, AreKeptForward, AreKeptBackward}
-use Rattle.gix_refspec.specs.Laws.Matching.{AreFetches, MakesForward, HasCoveringSource, BeginsWithOne, AreExpansions}
+use Rattle.refspec_match.specs.declared.types.Item.{Item}
+use Rattle.refspec_text.specs.declared.parsing.Operation.TheVariants.{Fetch}
+use Rattle.refspec_text.specs.Texts.Bytes.{head}
+use Rattle.refspec_text.specs.Specs.Reading.{Reading}
+use Rattle.refspec_text.specs.Matching.Match.{Ref, HasName, Matches, Takes}
+use Rattle.refspec_match.specs.Matching.Mappings.{Mapped, HasPair}
+use Rattle.refspec_match.specs.Views.Mapping.{ref_of}
+use Rattle.refspec_match.specs.Matching.Hits.{Ends, AreForwardEnds, AreBackwardEnds, AreKeptForward, AreKeptBackward}
+use Rattle.refspec_text.specs.Laws.Covering.{HasCoveringSource}
+use Rattle.gix_refspec.specs.Laws.Matching.{AreFetches, MakesForward, BeginsWithOne, AreExpansions}
 use Rattle.gix_refspec.specs.Matching.Asked.{ListsGroup}
 
 -- the refs B are some of the refs A
@@ -38,6 +39,14 @@ HaveSamePairs l m = (pair : Mapped) → HasPair l pair ↔ HasPair m pair
 pub record FewerItems (g : List Reading) (A B : List Ref) : Type 0 where
   pub forward : ArePart A B → HasTaken AreForwardEnds (Takes A) g A B → (kept fewer : List Mapped) → AreKeptForward g A kept → AreKeptForward g B fewer → HaveSamePairs kept fewer
   pub backward : ArePart A B → HasTaken AreBackwardEnds Matches g A B → (kept fewer : List Mapped) → AreKeptBackward g A kept → AreKeptBackward g B fewer → HaveSamePairs kept fewer
+
+-- two lists of refs have the same names, in order
+abbrev pub HaveSameNames : List Ref → List Ref → Type 0
+HaveSameNames A B = map (λ (r : Ref). r.name) A ≡ map (λ (r : Ref). r.name) B
+
+-- the names of refs alone decide what is kept from left to right: over refs with the same names the same mappings are
+abbrev pub NamesDecide : List Reading → List Ref → Type 0
+NamesDecide g A = (B : List Ref) → HaveSameNames A B → (kept : List Mapped) → AreKeptForward g A kept → AreKeptForward g B kept
 
 -- the reading fetches `HEAD`, and one of the refs has that name
 pub record FetchesHead (A : List Ref) (r : Reading) : Type 0 where

@@ -1,21 +1,22 @@
 -- Laws of matching: both directions agree, exactly where a pair is kept, groups that map alike, and what covers the
 -- sources of a group.
 -- They follow from the definitions in Mappings and Hits, and add no rule.
-use Rattle.std.specs.Prelude.{◌≡◌, ◌≢◌, ◌⊎◌, ◌↔◌, ℕ, List, ◌∷◌, ◌++◌, codes, Option, None, Some}
+use Rattle.std.specs.Prelude.{◌≡◌, ◌⊎◌, ◌↔◌, ℕ, List, ◌∷◌, ◌++◌, codes, Option, None, Some}
 use Rattle.std.specs.List.{AllByRecursion, AllZip, Any, Contains, slice_get}
-use Rattle.gix_refspec.specs.declared.parsing.Operation.TheVariants.{Fetch}
-use Rattle.gix_refspec.specs.Texts.Words.{Lacks, BeginsWith}
-use Rattle.gix_refspec.specs.Texts.Name.{HasStar}
-use Rattle.gix_refspec.specs.Texts.Bytes.{star, head}
-use Rattle.gix_refspec.specs.Specs.Reading.{Reading}
-use Rattle.gix_refspec.specs.Specs.Grammar.{IsPositive, Reads}
-use Rattle.gix_refspec.specs.Specs.Meaning.{meaning_of, printed}
-use Rattle.gix_refspec.specs.Matching.Side.{object, HasKind}
-use Rattle.gix_refspec.specs.Matching.Match.{Ref, HasName, Matches, Takes}
-use Rattle.gix_refspec.specs.Matching.Prefix.{IsPrefix, IsAsked, IsExpansion}
-use Rattle.gix_refspec.specs.Matching.Lists.{IsJoinedFrom}
-use Rattle.gix_refspec.specs.Matching.Mappings.{Start, name, id, Mapped, HasPair, IsStartExcluded}
-use Rattle.gix_refspec.specs.Matching.Hits.{Ends, AreForwardEnds, AreBackwardEnds, IsFilled, AreForward, AreBackward, AreKeptForward, AreKeptBackward}
+use Rattle.refspec_text.specs.declared.parsing.Operation.TheVariants.{Fetch}
+use Rattle.refspec_text.specs.Texts.Words.{BeginsWith}
+use Rattle.refspec_text.specs.Texts.Name.{HasStar}
+use Rattle.refspec_text.specs.Texts.Bytes.{head}
+use Rattle.refspec_text.specs.Specs.Reading.{Reading}
+use Rattle.refspec_text.specs.Specs.Grammar.{IsPositive, Reads}
+use Rattle.refspec_text.specs.Specs.Meaning.{meaning_of, printed}
+use Rattle.refspec_text.specs.Matching.Side.{object, HasKind}
+use Rattle.refspec_text.specs.Matching.Match.{Ref, HasName, Matches, Takes}
+use Rattle.refspec_text.specs.Matching.Prefix.{IsAsked, IsExpansion}
+use Rattle.refspec_text.specs.Laws.Covering.{HasCoveringSource}
+use Rattle.refspec_match.specs.Matching.Lists.{IsJoinedFrom}
+use Rattle.refspec_match.specs.Matching.Mappings.{Start, name, id, Mapped, HasPair, IsStartExcluded}
+use Rattle.refspec_match.specs.Matching.Hits.{Ends, AreForwardEnds, AreBackwardEnds, IsFilled, AreForward, AreBackward, AreKeptForward, AreKeptBackward}
 
 -- ---- both directions
 
@@ -140,18 +141,6 @@ abbrev pub AreFetches : List Reading → Type 0
 AreFetches g = AllByRecursion (λ r. r.operation ≡ Fetch) g
 
 -- ---- what covers the sources of a group
-
--- the side begins `refs/` and has a prefix, or it is a partial name other than `HEAD`, or an id. Outside fall
--- `HEAD`, which matches `refs/heads/HEAD` too and is expanded to `HEAD` alone; `*` and `refs/*`, which are
--- expanded with the star as it is; and `refs/*/head`, which is expanded to nothing
-pub data IsCovering (x : List ℕ) : Type 0 where
-  by_prefix : (p : List ℕ) → BeginsWith (codes "refs/") x → IsPrefix x p → IsCovering x
-  by_candidates : Lacks star x → x ≢ head → ¬ (BeginsWith (codes "refs/") x) → IsCovering x
-
--- the reading is a fetch, and its source is such a side, unless it is negative
-pub record HasCoveringSource (r : Reading) : Type 0 where
-  pub fetch : r.operation ≡ Fetch
-  pub source : (x : List ℕ) → IsAsked r x → IsCovering x
 
 -- the name begins with one of the entries
 abbrev pub BeginsWithOne : List (List ℕ) → List ℕ → Type 0

@@ -2,13 +2,14 @@
 
 ghost use Rattle.std.specs.Prelude.{◌≡◌, ◌↔◌, [], map, IfOk, IfErr, OnErr, IsTrue, MatchOption, Some};
 ghost use Rattle.std.specs.List.{AllByRecursion};
-ghost use Rattle.gix_refspec.specs.Views.Group.{mapped_of, name_bytes, start_of};
+ghost use Rattle.refspec_match.specs.Views.Mapping.{mapped_of, name_bytes, start_of};
 ghost use Rattle.gix_refspec.specs.Matching.RefNames.{AreLeftOut, IsBadAt, IsNamed, IsRefName, KeepsNamed, left_out_of};
 ghost use Rattle.gix_refspec.specs.Views.Issue.{mappings_of};
 
-use crate::match_group::types::{Mapping, NameRef, SourceRef, match_lhs};
-use crate::name::fault_of;
-use crate::spec::prefix::is_head;
+use crate::match_group::types::match_lhs;
+use refspec_match::types::{Mapping, NameRef, SourceRef};
+use refspec_text::name::name_partial;
+use refspec_text::spec::prefix::is_head;
 use std::alloc::{AllocError, Global};
 use std::{error, fmt};
 
@@ -143,6 +144,7 @@ fn bad_side(mapping: &Mapping<'_, '_>) -> Option<BadSide>
 fn is_ref_name(name: &NameRef<'_>) -> bool
     ensures { IsTrue result ↔ IsRefName (name_bytes name.now) }
 {
-    let bytes = name.as_bstr().as_bytes();
-    is_head(bytes) || bytes.starts_with(b"refs/") && fault_of(bytes).is_none()
+    let name = name.as_bstr();
+    let bytes = name.as_bytes();
+    is_head(bytes) || bytes.starts_with(b"refs/") && name_partial(name).is_ok()
 }

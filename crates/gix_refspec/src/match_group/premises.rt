@@ -2,17 +2,18 @@
 
 ghost use Rattle.std.specs.Prelude.{◌↔◌, IsTrue, codes};
 ghost use Rattle.std.specs.List.{AllByRecursion};
-ghost use Rattle.gix_refspec.specs.Texts.Words.{BeginsWith};
-ghost use Rattle.gix_refspec.specs.Texts.Name.{HasStar};
-ghost use Rattle.gix_refspec.specs.Views.Spec.{reading_of};
+ghost use Rattle.refspec_text.specs.Texts.Words.{BeginsWith};
+ghost use Rattle.refspec_text.specs.Texts.Name.{HasStar};
+ghost use Rattle.refspec_text.specs.Views.Spec.{reading_of};
 ghost use Rattle.gix_refspec.specs.Views.Group.{readings_of};
-ghost use Rattle.gix_refspec.specs.Laws.Matching.{GoesBothWays, HasCoveringSource};
+ghost use Rattle.refspec_text.specs.Laws.Covering.{HasCoveringSource};
+ghost use Rattle.gix_refspec.specs.Laws.Matching.{GoesBothWays};
 
-use crate::cut::holds;
 use crate::match_group::types::MatchGroup;
-use crate::side::below_refs;
-use crate::spec::RefSpecRef;
-use crate::types::Mode;
+use refspec_text::RefSpecRef;
+use refspec_text::cut::holds;
+use refspec_text::side::below_refs;
+use refspec_text::spec::sign::is_negative;
 
 impl<'a> MatchGroup<'a> {
     /// Whether each positive spec with two sides has two patterns, or two sides that begin `refs/`. Then
@@ -46,10 +47,10 @@ impl<'a> MatchGroup<'a> {
 fn goes_both_ways(spec: &RefSpecRef<'_>) -> bool
     ensures { IsTrue result ↔ GoesBothWays (reading_of spec.now) }
 {
-    if spec.mode == Mode::Negative {
+    if is_negative(spec) {
         return true;
     }
-    match (spec.src, spec.dst) {
+    match (spec.source(), spec.destination()) {
         (Some(source), Some(destination)) => {
             let (source, destination) = (source.as_bytes(), destination.as_bytes());
             have_stars(source, destination) || are_below_refs(source, destination)

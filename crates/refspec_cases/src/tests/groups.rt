@@ -1,7 +1,6 @@
 //! Groups, mappings, and which of these are kept.
 
 use super::check_equal;
-use super::mapping::item_of;
 use bstr::{BStr, BString};
 use gix_refspec::match_group::{Mapping, NameRef, NoRoom, Source, SourceRef};
 use gix_refspec::oid::ObjectId;
@@ -10,18 +9,6 @@ use gix_refspec::{MatchGroup, parse};
 use std::alloc::{AllocError, Global};
 use std::hash::{FoldHasher, Hash, Hasher};
 use std::test::Fail;
-
-// Two names, each with its destination below `refs/remotes/origin/`. The two pairs have one hash.
-pub(super) const COLLIDING: [(&[u8], &[u8]); 2] = [
-    (
-        b"refs/heads/0MvFc4\xd2\xba\xab\xf23\xeda\xd8a\x8a\xee>d\xcdaaaaaaaaaaaaaaaaa",
-        b"refs/remotes/origin/0MvFc4\xd2\xba\xab\xf23\xeda\xd8a\x8a\xee>d\xcdaaaaaaaaaaaaaaaaa",
-    ),
-    (
-        b"refs/heads/FtOkcaa\x85\xcb\x9b\xb1\xc12\x9e08z\x99(\xb6aaaaaaaaaaaaaaaaa",
-        b"refs/remotes/origin/FtOkcaa\x85\xcb\x9b\xb1\xc12\x9e08z\x99(\xb6aaaaaaaaaaaaaaaaa",
-    ),
-];
 
 // Mappings as rows write them: a source may be the digits of an id, and `-` is a missing destination.
 fn mappings_of<'a>(
@@ -72,38 +59,6 @@ fn hash_of(mapping: &Mapping<'_, '_>) -> u64 {
     let mut state = FoldHasher::default();
     mapping.hash(&mut state);
     state.finish()
-}
-
-// The mapping of a source to a destination.
-fn mapping_of<'a>(pair: (&'a [u8], &'a [u8])) -> Mapping<'a, 'a> {
-    Mapping {
-        item_index: None,
-        lhs: SourceRef::FullName(NameRef::Borrowed(BStr::new(pair.0))),
-        rhs: Some(NameRef::Borrowed(BStr::new(pair.1))),
-        spec_index: 0,
-    }
-}
-
-#[test]
-fn tells_pairs_of_one_hash_apart(rt: HostRuntime) -> Result<(), Fail> {
-    let alloc = rt.alloc();
-    let first = COLLIDING[0];
-    let second = COLLIDING[1];
-    assert_eq!(rt; hash_of(&mapping_of(first)), hash_of(&mapping_of(second)));
-    let id = ObjectId::from_hex(b"e69de29bb2d1d6434b8b29ae775ad8c2e48c5391")?;
-    let mut items = Vec::new(alloc);
-    for pair in [second, first, second, first, second] {
-        items.push(item_of(pair.0, &id))?;
-    }
-    let text = BStr::new(b"refs/heads/*:refs/remotes/origin/*");
-    let group = MatchGroup::from_fetch_specs(alloc, [parse(alloc, text, Operation::Fetch)?])?;
-    let outcome = group.match_lhs(alloc, items.as_slice())?;
-    let mut places = String::new(alloc);
-    for mapping in &outcome.mappings {
-        places.push_str(format!(in alloc; "{:?} ", mapping.item_index)?.as_str())?;
-    }
-    assert_eq!(rt; places.as_str(), "Some(0) Some(1) ");
-    Ok(())
 }
 
 #[test]

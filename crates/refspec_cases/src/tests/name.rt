@@ -13,7 +13,7 @@ fn checked_pattern(alloc: Global, text: &[u8]) -> Result<(), PatternError> {
     }
 }
 
-// A text of `x` that is as long as asked for with the end behind it.
+// A text of `x` that is as long as asked for, its end included.
 fn filled(alloc: Global, len: usize, end: &str) -> Result<String, AllocError> {
     let mut text = String::new(alloc);
     for _ in end.len()..len {
@@ -127,7 +127,7 @@ fn tells_faults_apart(rt: HostRuntime) {
     }
 }
 
-// The bytes that git-check-ref-format(1) refuses wherever they stand, other than the star: control
+// The bytes that git-check-ref-format(1) refuses wherever they are, other than the star: control
 // characters, space, tilde, caret, colon, question mark, open bracket and backslash.
 const REFUSED: [u8; 40] = [
     0, 1, 2, 3, 4, 5, 6, 7, 8, 9, 10, 11, 12, 13, 14, 15, 16, 17, 18, 19, 20, 21, 22, 23, 24, 25,

@@ -1,4 +1,4 @@
-//! Which specs are equal, and in which order others stand.
+//! Which specs are equal, and how others are ordered.
 
 use super::{canonical, check_equal};
 use bstr::BStr;

@@ -45,7 +45,7 @@ fn lines(alloc: Global, entries: &[BString]) -> Result<String, AllocError> {
 }
 
 // Whether the prefix of each spec and what it is expanded to are as written beside it. The entries
-// stand behind one that was there.
+// are added after one that was there.
 fn check_rows(
     rt: &impl Abort,
     alloc: Global,
@@ -111,7 +111,7 @@ fn asks_for_a_fetch(rt: HostRuntime) -> Result<(), Fail> {
         // One digit too many, and a letter that is no digit.
         (DIGITS_41, None, CANDIDATES_41),
         (NO_DIGIT, None, CANDIDATES_NO_DIGIT),
-        // Quotes may stand in a name.
+        // A name may have quotes.
         (
             "refs/heads/\"x\"",
             Some("refs/heads/\"x\""),
@@ -220,7 +220,7 @@ fn gathers_what_a_group_asks_for(rt: HostRuntime) -> Result<(), Fail> {
         (["refs/*/head:refs/x/*", "main"].as_slice(), "all"),
         (["refs/a]/*:refs/x/*"].as_slice(), "all"),
         (["refs/a]*:refs/x/*"].as_slice(), "all"),
-        // A `]` behind the star does no harm.
+        // A `]` after the star does no harm.
         (["refs/a*]:refs/x/*"].as_slice(), "refs/a\n"),
     ];
     let alloc = rt.alloc();

@@ -2,7 +2,7 @@
 use Rattle.std.proofs.Common.{◌≡◌, ◌∙◌, Some, sym, ap, subst}
 use Rattle.std.proofs.lemmas.Result.{IfOk-weaker}
 use Rattle.bstr.specs.BStr.{bstr_bytes}
-use Rattle.gix_refspec.specs.declared.parsing.Operation.{Operation}
+use Rattle.refspec_text.specs.declared.parsing.Operation.{Operation}
 use Rattle.gix_refspec.specs.Specs.Reading.{Reading}
 use Rattle.gix_refspec.specs.Specs.Meaning.{printed}
 use Rattle.gix_refspec.specs.Views.Instruction.{meaning_of_instruction}

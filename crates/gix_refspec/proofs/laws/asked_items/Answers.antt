@@ -1,8 +1,9 @@
 -- Whatever the readings and the refs are.
 use Rattle.std.proofs.Common.{map}
-use Rattle.gix_refspec.specs.Views.Group.{readings_of, ref_of}
+use Rattle.refspec_match.specs.Views.Mapping.{ref_of}
+use Rattle.gix_refspec.specs.Views.Group.{readings_of}
 use Rattle.gix_refspec.proofs.lemmas.keep.AskedItemLemmas.{asked_items}
-use Rattle.gix_refspec.proofs.lemmas.index.FilterLemmas.{filtered_by_list}
+use Rattle.gix_refspec.proofs.lemmas.keep.FilterLemmas.{filtered_by_list}
 use Rattle.gix_refspec.proofs.laws.asked_items.Goals as goal
 
 pub returns-clause-kept : goal.returns-clause-kept

@@ -5,23 +5,24 @@ use Rattle.std.specs.List.Sorted.{IsStrictlySortedBy}
 use Rattle.std.specs.declared.cmp.Ordering.TheVariants.{Less}
 use Rattle.std.specs.Ordering.{nat_cmp}
 use Rattle.std.specs.Cmp.Lexicographic.{slice_cmp}
-use Rattle.gix_refspec.specs.declared.match_group.types.Mapping.{Mapping}
-use Rattle.gix_refspec.specs.declared.match_group.types.NameRef.{NameRef}
+use Rattle.refspec_match.specs.declared.types.Mapping.{Mapping}
+use Rattle.refspec_match.specs.declared.types.NameRef.{NameRef}
 use Rattle.gix_refspec.specs.declared.match_group.types.Outcome.{Outcome}
-use Rattle.gix_refspec.specs.Specs.Reading.{Reading}
-use Rattle.gix_refspec.specs.Views.Spec.{reading_of}
-use Rattle.gix_refspec.specs.Matching.Lists.{IsMadeFrom}
-use Rattle.gix_refspec.specs.Specs.Meaning.{printed}
-use Rattle.gix_refspec.specs.Matching.Mappings.{Start, Mapped}
-use Rattle.gix_refspec.specs.Views.Group.{mapped_of, name_bytes, readings_of, IsDestinationCopy, IsMappingCopy, AreMappingCopies}
+use Rattle.refspec_text.specs.Specs.Reading.{Reading}
+use Rattle.refspec_text.specs.Views.Spec.{reading_of}
+use Rattle.refspec_match.specs.Matching.Lists.{IsMadeFrom}
+use Rattle.refspec_text.specs.Specs.Meaning.{printed}
+use Rattle.refspec_match.specs.Matching.Mappings.{Start, Mapped}
+use Rattle.refspec_match.specs.Views.Mapping.{mapped_of, name_bytes, IsDestinationCopy, IsMappingCopy, AreMappingCopies}
+use Rattle.gix_refspec.specs.Views.Group.{readings_of}
 use Rattle.gix_refspec.specs.Matching.Validation.{IsFirstTo, IsTextAt, Conflict, IsConflict, AreConflicts, Survives, Removed, IsFix}
 use Rattle.gix_refspec.specs.Laws.Validation.{ValidateAlike, OneValidation, CopiedOutcome}
 use Rattle.gix_refspec.proofs.lemmas.validate.UpdateLemmas.{not_below_itself, below_trans}
 use Rattle.gix_refspec.proofs.lemmas.validate.ConflictLemmas.{copied_name, copied_source}
-use Rattle.gix_refspec.proofs.lemmas.specs.FormsBackLemmas.{some_once}
-use Rattle.gix_refspec.proofs.lemmas.hits.HitLemmas.{same_mapped}
-use Rattle.gix_refspec.proofs.lemmas.lists.ListsLemmas.{made_once}
-use Rattle.gix_refspec.proofs.lemmas.lists.SomeLemmas.{Any}
+use Rattle.refspec_text.proofs.lemmas.specs.FormsBackLemmas.{some_once}
+use Rattle.refspec_match.proofs.lemmas.hits.HitLemmas.{same_mapped}
+use Rattle.refspec_match.proofs.lemmas.lists.ListsLemmas.{made_once}
+use Rattle.refspec_match.proofs.lemmas.lists.SomeLemmas.{Any}
 
 -- ---- conflicts
 

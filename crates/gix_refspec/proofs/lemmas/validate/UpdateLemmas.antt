@@ -15,14 +15,14 @@ use Rattle.std.proofs.lemmas.List.{get_or-map, length-map, map-append, take-appe
 use Rattle.std.proofs.lemmas.List.Sorted.{Contains-permutation, IsPermutation-map, IsPermutation-sym, ranks_by, sorted_far}
 use Rattle.std.proofs.lemmas.Option.{slice_get-map, slice_get_read, slice_get_within}
 use Rattle.gix_refspec.specs.declared.match_group.validate.conflicts.Update.{Update}
-use Rattle.gix_refspec.specs.declared.match_group.types.Mapping.{Mapping}
-use Rattle.gix_refspec.specs.declared.match_group.types.NameRef.{NameRef}
-use Rattle.gix_refspec.specs.Matching.Mappings.{Mapped}
-use Rattle.gix_refspec.specs.Views.Group.{mapped_of, name_bytes}
-use Rattle.gix_refspec.specs.Private.Kept.{IsFlagged, Rises}
+use Rattle.refspec_match.specs.declared.types.Mapping.{Mapping}
+use Rattle.refspec_match.specs.declared.types.NameRef.{NameRef}
+use Rattle.refspec_match.specs.Matching.Mappings.{Mapped}
+use Rattle.refspec_match.specs.Views.Mapping.{mapped_of, name_bytes}
+use Rattle.refspec_match.specs.Private.Kept.{IsFlagged, Rises}
 use Rattle.gix_refspec.specs.Private.Updates.{AreUpdates, GoesTo, HasUpdate, IsRun, update_cmp, updated_places}
-use Rattle.gix_refspec.proofs.lemmas.keep.PairLemmas.{both_equal, same_texts}
-use Rattle.gix_refspec.proofs.lemmas.keep.RepeatLemmas.{Rises-push, all_join, all_left, all_right, all_weaker, apart_places}
+use Rattle.refspec_match.proofs.lemmas.keep.PairLemmas.{both_equal, same_texts}
+use Rattle.refspec_match.proofs.lemmas.keep.RepeatLemmas.{Rises-push, all_join, all_left, all_right, all_weaker, apart_places}
 
 -- there are the updates of the mappings before place p that have a destination and aren't flagged, by place
 pub record AreUpdatesUpto (l : List Mapped) (flags : List Bool) (p : ℕ) (cs : List Update) : Type 0 where

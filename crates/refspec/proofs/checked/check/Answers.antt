@@ -1,11 +1,11 @@
--- What the text reads as is what its bytes are read as; an error that isn't want of memory is a reason.
+-- What the text reads as is what its bytes are read as; an error other than that memory ran out is a reason.
 use Rattle.std.proofs.Common.{◌≡◌, List, ℕ, subst, sym, ◌∙◌}
 use Rattle.std.proofs.lemmas.Bool.{false≢true}
 use Rattle.gix_refspec.specs.Specs.Grammar.{Reads}
 use Rattle.gix_refspec.specs.Specs.Refusal.{IsRefused}
 use Rattle.gix_refspec.specs.Views.Spec.{reading_of}
 use Rattle.gix_refspec.specs.Views.Instruction.{ShowsRefusal}
-use Rattle.gix_refspec.specs.declared.parsing.Error.TheVariants as error
+use Rattle.refspec_text.specs.declared.parsing.Error.TheVariants as error
 use Rattle.refspec.proofs.checked.check.Goals as goal
 use Rattle.refspec.proofs.checked.check.Goals.{in-Memory, in_default}
 

@@ -2,7 +2,7 @@
 use Rattle.std.proofs.Common.{ℕ, List, [], map, ap, ◌∙◌}
 use Rattle.bstr.specs.Owned.{bstring_bytes}
 use Rattle.gix_refspec.specs.Views.Group.{mapped_of}
-use Rattle.gix_refspec.specs.declared.match_group.types.Mapping.{Mapping}
+use Rattle.refspec_match.specs.declared.types.Mapping.{Mapping}
 use Rattle.refspec.specs.Rows.{mapped_row, row_of}
 use Rattle.refspec.proofs.RowLemmas.{fields_next}
 use Rattle.refspec.proofs.mappings.put_records.Goals as goal

@@ -2,7 +2,7 @@
 use Rattle.std.proofs.Common.{ℕ, List, [], map, codes, sym, ap, ◌∙◌, subst}
 use Rattle.bstr.specs.Owned.{bstring_bytes}
 use Rattle.gix_refspec.specs.Views.Group.{mapped_of}
-use Rattle.gix_refspec.specs.declared.match_group.types.Mapping.{Mapping}
+use Rattle.refspec_match.specs.declared.types.Mapping.{Mapping}
 use Rattle.refspec.specs.Rows.{AddsLines, mapped_row, row_of}
 use Rattle.refspec.proofs.RowLemmas.{AddsLines-next, AddsLines-start}
 use Rattle.refspec.proofs.mappings.put_table.Goals as goal

@@ -1,20 +1,19 @@
 -- The plan of the refs in the records of the input.
-use Rattle.std.proofs.Common.{List, map, ap, refl, ◌∙◌, subst}
+use Rattle.std.proofs.Common.{List, map, ap, sym, subst}
 use Rattle.bstr.specs.Owned.{bstring_bytes}
 use Rattle.gix_refspec.specs.Views.Group.{ref_of}
 use Rattle.gix_refspec.specs.Matching.RefNames.{left_out_of}
 use Rattle.gix_refspec.specs.Views.Spec.{reading_of}
-use Rattle.gix_refspec.specs.declared.spec.RefSpecRef.{RefSpecRef}
+use Rattle.refspec_match.specs.declared.types.Item.{Item}
+use Rattle.refspec_text.specs.declared.spec.RefSpecRef.{RefSpecRef}
 use Rattle.refspec.specs.Input.{end_byte}
-use Rattle.refspec.specs.Refs.{ref_told}
+use Rattle.refspec.specs.Refs.{TellNames}
 use Rattle.refspec.specs.Rows.{AreSpecTexts}
 use Rattle.refspec.proofs.PlanLemmas.{AddsPlan-of}
-use Rattle.refspec.proofs.ShownLemmas.{on_ok}
 use Rattle.refspec.proofs.planning.tell_plan.Goals as goal
 
 pub returns : goal.returns
 returns c =
-    let told = c.in_ok-told.ensures in
-    let items = ap (map ref_of) c.as_slice-4.ensures.value ∙ (c.in_ok-items.ensures ∙ ap (map ref_told) c.as_slice-2.ensures.value) in
-    let of_specs = subst (λ (l : List RefSpecRef). AreSpecTexts (map reading_of l) (map bstring_bytes c.in_ok-texts.texts.items)) c.as_slice-3.ensures.value c.in_ok-texts.ensures in
-    on_ok c.tell_written.result _ _ c.tell_written.ensures (AddsPlan-of c.args.page.now.form c.tell_bad_records.new.page.form c.tell_all_left_out.new.page.form (end_byte c.args.call.now.ends) c.end_of.result c.args.input.now (map reading_of c.args.specs.items) told.0 told.0 (map ref_of c.as_slice-4.result.now) (map ref_told c.in_ok-told.told.refs.items) (map bstring_bytes c.in_ok-texts.texts.items) (map bstring_bytes c.as_slice-7.result.now) c.in_ok-plan.plan.written (map left_out_of c.in_ok-plan.plan.left_out.items) c.tell_all_left_out.new.page.messages.items c.tell_written.new.page.messages.items c.args.page.now.results.items c.tell_bad_records.new.page.results.items c.tell_all_left_out.new.page.results.items c.tell_written.new.page.results.items told.1 c.end_of.ensures refl told.2 items of_specs c.in_ok-plan.ensures c.in_ok-tell_bad_records.ensures.form c.in_ok-tell_bad_records.ensures.kept c.in_ok-tell_all_left_out.ensures.form c.in_ok-tell_all_left_out.ensures.kept (ap (map bstring_bytes) c.as_slice-7.ensures.value))
+    let named = subst (λ (l : List Item). TellNames c.end_of.result c.args.input.now (map ref_of l)) (sym c.as_slice-3.ensures.value) c.in_ok-told.ensures in
+    let of_specs = subst (λ (l : List RefSpecRef). AreSpecTexts (map reading_of l) (map bstring_bytes c.in_ok-texts.texts.items)) c.as_slice-2.ensures.value c.in_ok-texts.ensures in
+    AddsPlan-of c.args.page.now.form c.tell_bad_records.new.page.form c.tell_all_left_out.new.page.form (end_byte c.args.call.now.ends) c.end_of.result c.args.input.now (map reading_of c.args.specs.items) (map ref_of c.as_slice-3.result.now) (map bstring_bytes c.in_ok-texts.texts.items) (map bstring_bytes c.as_slice-6.result.now) c.in_ok-plan.plan.written (map left_out_of c.in_ok-plan.plan.left_out.items) c.tell_all_left_out.new.page.messages.items c.tell_written.new.page.messages.items c.args.page.now.results.items c.tell_bad_records.new.page.results.items c.tell_all_left_out.new.page.results.items c.tell_written.new.page.results.items named c.end_of.ensures of_specs c.in_ok-plan.ensures c.in_ok-tell_bad_records.ensures.form c.in_ok-tell_bad_records.ensures.kept c.in_ok-tell_all_left_out.ensures.form c.in_ok-tell_all_left_out.ensures.kept (ap (map bstring_bytes) c.as_slice-6.ensures.value) c.in_ok-tell_written.ensures

@@ -4,7 +4,7 @@ use Rattle.bstr.specs.Owned.{bstring_bytes}
 use Rattle.bstr.specs.declared.bstring.BString.{BString}
 use Rattle.gix_refspec.specs.Views.Group.{mapped_of, ref_of}
 use Rattle.gix_refspec.specs.Views.Spec.{reading_of}
-use Rattle.gix_refspec.specs.declared.spec.RefSpecRef.{RefSpecRef}
+use Rattle.refspec_text.specs.declared.spec.RefSpecRef.{RefSpecRef}
 use Rattle.refspec.specs.Rows.{AreSpecTexts}
 use Rattle.refspec.specs.Track.{named}
 use Rattle.refspec.proofs.ShownLemmas.{on_ok}

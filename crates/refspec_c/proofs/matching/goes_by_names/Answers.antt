@@ -1,7 +1,7 @@
 -- a spec that isn't so is against the claim
 use Rattle.std.proofs.Common.{◌+◌, List, map, take, sym, subst}
 use Rattle.std.specs.List.{AllByRecursion}
-use Rattle.gix_refspec.specs.declared.spec.RefSpecRef.{RefSpecRef}
+use Rattle.refspec_text.specs.declared.spec.RefSpecRef.{RefSpecRef}
 use Rattle.refspec_c.specs.Matching.{GoesByName}
 use Rattle.gix_refspec.specs.Views.Spec.{reading_of}
 use Rattle.std.proofs.lemmas.Bool.{false≢true}

@@ -1,6 +1,6 @@
 -- What is listed tells of what stays over names with the null id.
 use Rattle.std.proofs.Common.{List, map, sym, ap, ◌∙◌, subst}
-use Rattle.gix_refspec.specs.declared.match_group.types.Mapping.{Mapping}
+use Rattle.refspec_match.specs.declared.types.Mapping.{Mapping}
 use Rattle.gix_refspec.specs.Views.Group.{mapped_of, readings_of, ref_of}
 use Rattle.gix_refspec.specs.Matching.Hits.{AreKeptForward, AreKeptBackward}
 use Rattle.refspec_c.specs.Group.{bytes_of}

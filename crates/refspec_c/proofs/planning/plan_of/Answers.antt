@@ -2,7 +2,7 @@
 use Rattle.std.proofs.Common.{List, map, sym, ap, ◌∙◌, subst}
 use Rattle.std.specs.Prelude.{not}
 use Rattle.std.specs.List.{AllZip, Contains}
-use Rattle.gix_refspec.specs.declared.match_group.types.Mapping.{Mapping}
+use Rattle.refspec_match.specs.declared.types.Mapping.{Mapping}
 use Rattle.gix_refspec.specs.declared.match_group.validate.Issue.{Issue}
 use Rattle.gix_refspec.specs.Views.Group.{mapped_of, readings_of, ref_of}
 use Rattle.gix_refspec.specs.Views.Issue.{conflict_of, mappings_of}

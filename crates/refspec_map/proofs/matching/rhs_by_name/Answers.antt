@@ -1,6 +1,6 @@
 -- What is written for the names of refs is written for the refs, where no destination is an id.
 use Rattle.std.proofs.Common.{List, map, refl, subst}
-use Rattle.gix_refspec.specs.declared.spec.RefSpecRef.{RefSpecRef}
+use Rattle.refspec_text.specs.declared.spec.RefSpecRef.{RefSpecRef}
 use Rattle.gix_refspec.specs.Views.Spec.{reading_of}
 use Rattle.gix_refspec.specs.Matching.Hits.{AreKeptBackward}
 use Rattle.refspec_map.specs.Matching.{AreMapLines}

@@ -1,4 +1,4 @@
--- Each turn puts one line behind the others.
+-- Each turn puts one line after the others.
 use Rattle.std.proofs.Common.{◌<◌, length, arith}
 use Rattle.refspec_map.proofs.MatchingLemmas.{lines_more, on_success}
 use Rattle.refspec_map.proofs.output.lines_of.Goals as goal

@@ -1,4 +1,4 @@
--- Each turn puts the line of one fix behind the others.
+-- Each turn puts the line of one fix after the others.
 use Rattle.std.proofs.Common.{◌<◌, length, arith}
 use Rattle.refspec_map.proofs.MatchingLemmas.{on_success}
 use Rattle.refspec_map.proofs.PlanLemmas.{PutsFixes-start, PutsFixes-more}

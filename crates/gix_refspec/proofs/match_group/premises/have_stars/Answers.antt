@@ -1,5 +1,5 @@
 -- A look at the second side decides where the first has a star.
-use Rattle.gix_refspec.proofs.lemmas.hits.PremiseLemmas.{told_stars, told_no_star}
+use Rattle.refspec_text.proofs.lemmas.hits.PremiseLemmas.{told_stars, told_no_star}
 use Rattle.gix_refspec.proofs.match_group.premises.have_stars.Goals as goal
 
 pub returns-then-holds : goal.returns-then-holds

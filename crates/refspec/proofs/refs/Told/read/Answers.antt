@@ -1,15 +1,15 @@
 -- Each turn reads the first record of the rest; in the end nothing is left.
 use Rattle.std.proofs.Common.{ap, map}
-use Rattle.refspec.specs.Refs.{ref_told}
+use Rattle.gix_refspec.specs.Views.Group.{ref_of}
 use Rattle.refspec.proofs.RecordLemmas.{empty_from_test, full_from_test}
-use Rattle.refspec.proofs.RefLemmas.{TellRefs-end, TellsSoFar-more, TellsSoFar-start}
+use Rattle.refspec.proofs.RefLemmas.{TellNames-end, TellsNamesSoFar-more, TellsNamesSoFar-start}
 use Rattle.refspec.proofs.refs.Told.read.Goals as goal
 
 pub loop-rest-init : goal.loop-rest-init
-loop-rest-init c = TellsSoFar-start c.args.end _ c.args.input.now (ap (map ref_told) c.new.ensures.items)
+loop-rest-init c = TellsNamesSoFar-start c.args.end _ c.args.input.now (ap (map ref_of) c.new.ensures.items)
 
 pub loop-rest-preserved : goal.loop-rest-preserved
-loop-rest-preserved c = TellsSoFar-more c.args.end (map ref_told c.loop-rest.told.refs.items) (map ref_told c.add.new.self.refs.items) c.loop-rest.rest.now c.first_record.result.0.now c.first_record.result.1.now c.args.input.now (full_from_test c.loop-rest.rest.now c.loop-rest-test.ensures) c.first_record.ensures c.in_ok-add.ensures c.loop-rest.invariant
+loop-rest-preserved c = TellsNamesSoFar-more c.args.end (map ref_of c.loop-rest.told.items.items) (map ref_of c.add.new.self.items.items) c.loop-rest.rest.now c.first_record.result.0.now c.first_record.result.1.now c.args.input.now (full_from_test c.loop-rest.rest.now c.loop-rest-test.ensures) c.first_record.ensures c.in_ok-add.ensures c.loop-rest.invariant
 
 pub returns : goal.returns
-returns c = TellRefs-end c.args.end (map ref_told c.loop-rest.told.refs.items) c.loop-rest.rest.now c.args.input.now (empty_from_test c.loop-rest.rest.now c.loop-rest-test.ensures) c.loop-rest.invariant
+returns c = TellNames-end c.args.end (map ref_of c.loop-rest.told.items.items) c.loop-rest.rest.now c.args.input.now (empty_from_test c.loop-rest.rest.now c.loop-rest-test.ensures) c.loop-rest.invariant

@@ -1,4 +1,4 @@
--- What the line says is put behind what was there.
+-- What the line says is put after what was there.
 use Rattle.std.proofs.Common.{refl}
 use Rattle.bstr.specs.BStr.{bstr_bytes}
 use Rattle.refspec_map.specs.Told.{told_ref}

@@ -1,4 +1,4 @@
--- A ref is put behind those of its list.
+-- A ref is put after those of its list.
 use Rattle.std.proofs.Common.{refl}
 use Rattle.refspec_map.specs.Told.{told_ref}
 use Rattle.refspec_map.proofs.EntryLemmas.{AddsRef-whole, AddsRef-name}

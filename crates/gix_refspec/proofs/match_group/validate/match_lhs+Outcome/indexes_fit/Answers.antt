@@ -1,7 +1,8 @@
 -- a mapping whose spec has no place is against the claim
 use Rattle.std.proofs.Common.{List, map, sym, subst, arith}
-use Rattle.gix_refspec.specs.declared.match_group.types.Mapping.{Mapping}
-use Rattle.gix_refspec.specs.Views.Group.{mapped_of, readings_of}
+use Rattle.refspec_match.specs.declared.types.Mapping.{Mapping}
+use Rattle.refspec_match.specs.Views.Mapping.{mapped_of}
+use Rattle.gix_refspec.specs.Views.Group.{readings_of}
 use Rattle.gix_refspec.specs.Matching.Validation.{IndexesFit}
 use Rattle.gix_refspec.proofs.lemmas.validate.ConflictLemmas.{spec_fits}
 use Rattle.gix_refspec.proofs.match_group.validate.match_lhs+Outcome.indexes_fit.Goals as goal

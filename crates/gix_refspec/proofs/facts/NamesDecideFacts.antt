@@ -1,0 +1,46 @@
+-- That from left to right names alone decide, and from right to left ids too.
+use Rattle.std.proofs.Common.{◌≡◌, ◌≢◌, ◌⊎◌, inl, inr, ℕ, List, [], ◌∷◌, Option, None, Some, codes, length, get_or, map, refl, ap, ◌∙◌, arith}
+use Rattle.refspec_text.specs.declared.oid.Kind.{Kind}
+use Rattle.refspec_text.specs.declared.oid.Kind.TheVariants.{Sha1, Sha256}
+use Rattle.refspec_text.specs.Texts.ObjectId.{IsIdText, bytes_of}
+use Rattle.refspec_text.specs.Matching.Side.{SideKind, pattern, full_name, object, partial, HasKind}
+use Rattle.refspec_text.specs.Matching.Match.{Ref, MatchesAs, Matches}
+use Rattle.refspec_match.specs.Matching.Hits.{AreKeptForward}
+use Rattle.gix_refspec.specs.Laws.Items.{HaveSameNames, NamesDecide}
+use Rattle.refspec_text.proofs.facts.ManualFacts.{named, none_some, other_length}
+use Rattle.refspec_text.proofs.facts.ObjectIdFacts.{empty_blob, IsIdText-empty_blob}
+use Rattle.refspec_text.proofs.facts.FitFacts.{blob_kind, dev_ref, every, main_ref, no_dev, tag_ref}
+use Rattle.refspec_match.proofs.facts.MatchFacts.{fetches_all_but_dev, tracked}
+
+-- a ref of a name, with other ids than the example has
+abbrev moved : List ℕ → Ref
+moved n = record { name = n; target = 2 ∷ []; object = Some (3 ∷ []) }
+
+-- other ids change nothing from left to right
+pub names_alone : NamesDecide (every ∷ no_dev ∷ []) (dev_ref ∷ tag_ref ∷ main_ref ∷ main_ref ∷ []) → AreKeptForward (every ∷ no_dev ∷ []) (moved dev_ref.name ∷ moved tag_ref.name ∷ moved main_ref.name ∷ moved main_ref.name ∷ []) (tracked 2 (codes "main") ∷ [])
+names_alone law = law (moved dev_ref.name ∷ moved tag_ref.name ∷ moved main_ref.name ∷ moved main_ref.name ∷ []) refl (tracked 2 (codes "main") ∷ []) fetches_all_but_dev
+
+-- another name, or one that is listed again, isn't the same
+pub other_names : ¬ (HaveSameNames (main_ref ∷ []) (dev_ref ∷ [])) × ¬ (HaveSameNames (main_ref ∷ []) (main_ref ∷ main_ref ∷ []))
+other_names = (
+  (λ same. other_length _ _ (λ size. omega (arith, size)) (ap (λ (l : List (List ℕ)). get_or l 0 []) same)),
+  λ same. let size : 1 ≡ 2 = ap length same in omega (arith, size),
+)
+
+-- a destination that is an id matches, of two refs with one name, the one with this id
+pub ids_decide_too : Matches (codes "e69de29bb2d1d6434b8b29ae775ad8c2e48c5391") (record { name = codes "refs/tags/blob"; target = empty_blob; object = None }) None × ¬ (Matches (codes "e69de29bb2d1d6434b8b29ae775ad8c2e48c5391") (named (codes "refs/tags/blob")) None)
+ids_decide_too = (record { kind = object empty_blob; of = blob_kind; is = (refl, inl refl) }, λ matches. no_match matches.kind matches.of matches.is)
+  where
+    no_bytes : (kind : Kind) → 1 ≢ bytes_of kind
+    no_bytes Sha1 same = omega (arith, same)
+    no_bytes Sha256 same = omega (arith, same)
+
+    no_id : (id : List ℕ) → IsIdText (codes "e69de29bb2d1d6434b8b29ae775ad8c2e48c5391") id → (1 ∷ [] ≡ id) ⊎ (None ≡ Some id) → ⊥
+    no_id id text (inl same) = no_bytes text.kind (ap length same ∙ text.bytes)
+    no_id id text (inr same) = none_some id same
+
+    no_match : (kind : SideKind) → HasKind (codes "e69de29bb2d1d6434b8b29ae775ad8c2e48c5391") kind → ¬ (MatchesAs kind (named (codes "refs/tags/blob")) None)
+    no_match (pattern before after) of is = is
+    no_match (full_name n) of is = blob_kind.1 of.2
+    no_match (object id) of is = no_id id of.2 is.1
+    no_match (partial n) of is = of.3 (empty_blob, IsIdText-empty_blob)

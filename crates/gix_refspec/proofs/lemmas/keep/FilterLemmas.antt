@@ -1,0 +1,99 @@
+-- What a test lets through of items.
+use Rattle.std.proofs.Common.{◌≡◌, ℕ, zero, suc, Bool, true, false, ◌||◌, cond, List, [], ◌∷◌, Option, map, refl, sym, ap, ◌∙◌, subst, arith}
+use Rattle.std.specs.Prelude.{nat_eq}
+use Rattle.std.specs.List.{Any, Contains, filter, starts_with}
+use Rattle.std.proofs.lemmas.Bool.{false≢true}
+use Rattle.std.proofs.lemmas.Bool.Decides.{Decides-eqb}
+use Rattle.std.proofs.lemmas.List.{get_or-map, length-map}
+use Rattle.std.proofs.lemmas.List.Elements.{All-contains_itself, All-filter}
+use Rattle.std.proofs.lemmas.Slice.Eq.{starts_is}
+use Rattle.bstr.specs.BStr.{bstr_bytes}
+use Rattle.refspec_match.specs.declared.types.Item.{Item}
+use Rattle.refspec_text.specs.Texts.Words.{BeginsWith}
+use Rattle.refspec_text.specs.Specs.Reading.{Reading}
+use Rattle.refspec_text.specs.Matching.Match.{Ref, Matches, Takes}
+use Rattle.refspec_match.specs.Matching.Hits.{Ends, AreForwardEnds, AreBackwardEnds}
+use Rattle.refspec_match.specs.Views.Mapping.{ref_of}
+use Rattle.gix_refspec.specs.Laws.Matching.{BeginsWithOne}
+use Rattle.gix_refspec.specs.Laws.Items.{ArePart, TakesItem, HasTaken, PassesTaken, FilteredItems, FilteredByEntries, FilteredByList, is_begun}
+
+-- ---- elements
+
+-- what is let through was there
+was_there : {X : Type 0} (p : X → Bool) (xs : List X) (x : X) → Contains (filter p xs) x → Contains xs x
+was_there p xs x (k, below, is) = subst (Contains xs) is (All-filter p (Contains xs) xs (All-contains_itself xs) k x below)
+
+in_front : {X : Type 0} (y x : X) (ys : List X) (b : Bool) → b ≡ true → y ≡ x → Contains (cond b (y ∷ ys) ys) x
+in_front y x ys true passes is = (0, omega arith, is)
+in_front y x ys false passes is = absurd (false≢true passes)
+
+later : {X : Type 0} (y x : X) (ys : List X) (b : Bool) → Contains ys x → Contains (cond b (y ∷ ys) ys) x
+later y x ys true (k, below, is) = (suc k, omega (arith, below), is)
+later y x ys false has = has
+
+-- and what passes is let through
+let_through : {X : Type 0} (p : X → Bool) (xs : List X) (x : X) → Contains xs x → p x ≡ true → Contains (filter p xs) x
+let_through p [] x (k, below, is) passes = absurd (omega (arith, below))
+let_through p (y ∷ xs) x (zero, below, is) passes = in_front y x (filter p xs) (p y) (ap p is ∙ passes) is
+let_through p (y ∷ xs) x (suc k, below, is) passes = later y x (filter p xs) (p y) (let_through p xs x (k, omega (arith, below), is) passes)
+
+mapped_there : {X Y : Type 0} (f : X → Y) (xs : List X) (x : X) → Contains xs x → Contains (map f xs) (f x)
+mapped_there f xs x (k, below, is) = (k, omega (arith, below, length-map xs f), get_or-map f xs k x (f x) below ∙ ap f is)
+
+mapped_from : {X Y : Type 0} (f : X → Y) (xs : List X) (y : Y) → Contains (map f xs) y → (x : X) × Contains xs x × (f x ≡ y)
+mapped_from f [] y (k, below, is) = absurd (omega (arith, below))
+mapped_from f (x ∷ xs) y (zero, below, is) = (x, (0, omega arith, refl), is)
+mapped_from f (x ∷ xs) y (suc k, below, is) = let (z, (j, inside, at), same) = mapped_from f xs y (k, omega (arith, below), is) in (z, (suc j, omega (arith, inside), at), same)
+
+-- ---- items
+
+-- what a test lets through is a part
+filtered_part : (p : Item → Bool) (items : List Item) → ArePart (map ref_of items) (map ref_of (filter p items))
+filtered_part p items ref has = let (item, there, same) = mapped_from ref_of (filter p items) ref has in subst (Contains (map ref_of items)) same (mapped_there ref_of items item (was_there p items item there))
+
+-- each ref that only items that pass stand for is among it
+passed : (p : Item → Bool) (items : List Item) (P : Ref → Type 0) → ((item : Item) → Contains items item → P (ref_of item) → p item ≡ true) → (ref : Ref) → Contains (map ref_of items) ref → P ref → Contains (map ref_of (filter p items)) ref
+passed p items P passes ref has holds =
+    let (item, there, same) = mapped_from ref_of items ref has in
+    subst (Contains (map ref_of (filter p items))) same (mapped_there ref_of (filter p items) item (let_through p items item there (passes item there (subst P (sym same) holds))))
+
+filtered_taken : (HasEnds : Reading → Ends → Type 0) (Taken : List ℕ → Ref → Option (List ℕ) → Type 0) (g : List Reading) (items some : List Item) (p : Item → Bool) → some ≡ filter p items → PassesTaken HasEnds Taken g items p → HasTaken HasEnds Taken g (map ref_of items) (map ref_of some)
+filtered_taken HasEnds Taken g items some p is passes = subst (λ (l : List Item). HasTaken HasEnds Taken g (map ref_of items) (map ref_of l)) (sym is) (passed p items (λ (r : Ref). Any (TakesItem HasEnds Taken r) g) passes)
+
+pub filtered_items : (g : List Reading) (items some : List Item) → FilteredItems g items some
+filtered_items g items some = record {
+  part = λ p is. subst (λ (l : List Item). ArePart (map ref_of items) (map ref_of l)) (sym is) (filtered_part p items);
+  forward = λ p is passes. filtered_taken AreForwardEnds (Takes (map ref_of items)) g items some p is passes;
+  backward = λ p is passes. filtered_taken AreBackwardEnds Matches g items some p is passes;
+}
+
+-- ---- entries
+
+left_true : (a b : Bool) → a ≡ true → (a || b) ≡ true
+left_true true b is = refl
+left_true false b is = absurd (false≢true is)
+
+right_true : (a b : Bool) → b ≡ true → (a || b) ≡ true
+right_true true b is = refl
+right_true false b is = is
+
+-- a name that begins with an entry passes
+begun : (n : List ℕ) (entries : List (List ℕ)) → BeginsWithOne entries n → is_begun entries n ≡ true
+begun n [] (k, e, below, is, begins) = absurd (omega (arith, below))
+begun n (entry ∷ entries) (zero, e, below, is, begins) =
+    let first : BeginsWith entry n = subst (λ (x : List ℕ). BeginsWith x n) (sym is) begins in
+    left_true (starts_with nat_eq n entry) (is_begun entries n) ((starts_is Decides-eqb n entry (starts_with nat_eq n entry) refl).1 first.after first.here)
+begun n (entry ∷ entries) (suc k, e, below, is, begins) = right_true (starts_with nat_eq n entry) (is_begun entries n) (begun n entries (k, e, omega (arith, below), is, begins))
+
+pub filtered_by_list : (items some : List Item) → FilteredByList items some
+filtered_by_list items some entries is =
+    let p : Item → Bool = λ item. is_begun entries (bstr_bytes item.full_ref_name) in
+    record {
+      part = subst (λ (l : List Item). ArePart (map ref_of items) (map ref_of l)) (sym is) (filtered_part p items);
+      asked = λ ref has begins. subst (λ (l : List Item). Contains (map ref_of l) ref) (sym is) (passed p items (λ (r : Ref). BeginsWithOne entries r.name) (λ item there of_item. begun (bstr_bytes item.full_ref_name) entries of_item) ref has begins);
+    }
+
+pub filtered_by_entries : (g : List Reading) (items some : List Item) → FilteredByEntries g items some
+filtered_by_entries g items some entries are is =
+    let by_list = filtered_by_list items some entries is in
+    record { entries = entries; expansions = are; part = by_list.part; listed = by_list.asked }

@@ -1,0 +1,106 @@
+-- Over refs with the same names the same mappings are kept from left to right: no source that takes refs looks at their ids.
+use Rattle.std.proofs.Common.{◌≡◌, ℕ, ◌+◌, inl, inr, List, [], ◌∷◌, Option, None, Some, map, refl, sym, ap, ◌∙◌, subst, length, arith}
+use Rattle.refspec_text.specs.Specs.Reading.{Reading}
+use Rattle.refspec_text.specs.Matching.Side.{SideKind, pattern, full_name, object, partial, HasKind, Fits, IsCandidate}
+use Rattle.refspec_text.specs.Matching.Match.{Ref, MatchesAs, HasName, IsFirstCandidate, Takes}
+use Rattle.refspec_match.specs.Matching.Lists.{MakesOf, IsMadeFrom, IsJoinedFrom}
+use Rattle.refspec_match.specs.Matching.Hits.{Ends, AreForwardEnds, Hit, IsHit, AreSpecHits}
+use Rattle.gix_refspec.specs.Laws.Items.{HaveSameNames, NamesDecide}
+use Rattle.refspec_match.proofs.lemmas.keep.RepeatLemmas.{all_weaker}
+
+-- lists with the same names are both empty, or begin with the same name
+no_name : (r : Ref) (refs : List Ref) → HaveSameNames [] (r ∷ refs) → ⊥
+no_name r refs same = omega (arith, ap length same)
+
+first_name : (r q : Ref) (refs others : List Ref) → HaveSameNames (r ∷ refs) (q ∷ others) → (r.name ≡ q.name) × HaveSameNames refs others
+first_name r q refs others same =
+    let both : r.name ∷ map (λ (x : Ref). x.name) refs ≡ q.name ∷ map (λ (x : Ref). x.name) others = same in
+    (cc, cc)
+
+-- a name of one list is one of the other
+has_also : (A B : List Ref) (n : List ℕ) → HaveSameNames A B → HasName A n → HasName B n
+has_also [] B n same has = absurd has
+has_also (a ∷ A) [] n same has = absurd (no_name a A (sym same))
+has_also (a ∷ A) (b ∷ B) n same (inl here) = inl (sym (first_name a b A B same).0 ∙ here)
+has_also (a ∷ A) (b ∷ B) n same (inr later) = inr (has_also A B n (first_name a b A B same).1 later)
+
+-- so the first candidate among one list is that among the other
+first_also : (A B : List Ref) (x n : List ℕ) → HaveSameNames A B → IsFirstCandidate A x n → IsFirstCandidate B x n
+first_also A B x n same first = record {
+  earlier = first.earlier;
+  later = first.later;
+  here = first.here;
+  absent = all_weaker (λ m. ¬ (HasName A m)) (λ m. ¬ (HasName B m)) (λ m none there. none (has_also B A m (sym same) there)) first.earlier first.absent;
+  present = has_also A B n same first.present;
+}
+
+-- a side that is no id matches by the name
+matches_also : (kind : SideKind) (a b : Ref) (word : Option (List ℕ)) → a.name ≡ b.name → ((id : List ℕ) → ¬ (kind ≡ object id)) → MatchesAs kind a word → MatchesAs kind b word
+matches_also (pattern before after) a b None same none fits = absurd fits
+matches_also (pattern before after) a b (Some word) same none fits = subst (λ (n : List ℕ). Fits before after n word) same fits
+matches_also (full_name n) a b word same none fits = (fits.0, sym same ∙ fits.1)
+matches_also (object id) a b word same none fits = absurd (none id refl)
+matches_also (partial n) a b word same none fits = (fits.0, subst (IsCandidate n) same fits.1)
+
+-- what is taken among one list is taken among the other
+takes_also : (A B : List Ref) (ends : Ends) (a b : Ref) (word : Option (List ℕ)) → HaveSameNames A B → a.name ≡ b.name → ((id : List ℕ) → ¬ (HasKind ends.near (object id))) → Takes A ends.near a word → Takes B ends.near b word
+takes_also A B ends a b word same named none takes = record {
+  matches = record {
+    kind = takes.matches.kind;
+    of = takes.matches.of;
+    is = matches_also takes.matches.kind a b word named (λ id is. none id (subst (HasKind ends.near) is takes.matches.of)) takes.matches.is;
+  };
+  first = λ n kind. subst (IsFirstCandidate B n) named (first_also A B n a.name same (takes.first n kind));
+}
+
+hit_also : (A B : List Ref) (ends : Ends) (k j : ℕ) (a b : Ref) (hit : Hit) → HaveSameNames A B → a.name ≡ b.name → ((id : List ℕ) → ¬ (HasKind ends.near (object id))) → IsHit (Takes A) ends k j a hit → IsHit (Takes B) ends k j b hit
+hit_also A B ends k j a b hit same named none is = record {
+  word = is.word;
+  takes = takes_also A B ends a b is.word same named none is.takes;
+  far = is.far;
+  near = is.near ∙ named;
+  spec = is.spec;
+  item = is.item;
+}
+
+-- what one ref makes the other makes
+makes_also : (R S : ℕ → Ref → Hit → Type 0) (j : ℕ) (a b : Ref) (made : Option Hit) → ((hit : Hit) → R j a hit → S j b hit) → ((hit : Hit) → S j b hit → R j a hit) → MakesOf R j a made → MakesOf S j b made
+makes_also R S j a b None to back none = λ hit is. none hit (back hit is)
+makes_also R S j a b (Some hit) to back is = to hit is
+
+made_also : (R S : ℕ → Ref → Hit → Type 0) (j : ℕ) (A B : List Ref) (hits : List Hit) → ((i : ℕ) (a b : Ref) (hit : Hit) → a.name ≡ b.name → R i a hit → S i b hit) → ((i : ℕ) (a b : Ref) (hit : Hit) → a.name ≡ b.name → S i b hit → R i a hit) → HaveSameNames A B → IsMadeFrom R j A hits → IsMadeFrom S j B hits
+made_also R S j [] [] hits to back same made = made
+made_also R S j [] (b ∷ B) hits to back same made = absurd (no_name b B same)
+made_also R S j (a ∷ A) [] hits to back same made = absurd (no_name a A (sym same))
+made_also R S j (a ∷ A) (b ∷ B) hits to back same (made, rest, of, more, is) =
+    let first = first_name a b A B same in
+    (made, rest, makes_also R S j a b made (λ hit. to j a b hit first.0) (λ hit. back j a b hit first.0) of, made_also R S (j + 1) A B rest to back first.1 more, is)
+
+-- a spec takes the same refs
+spec_also : (A B : List Ref) (k : ℕ) (r : Reading) (hits : List Hit) → HaveSameNames A B → AreSpecHits AreForwardEnds (Takes A) A k r hits → AreSpecHits AreForwardEnds (Takes B) B k r hits
+spec_also A B k r hits same (inl (ends, has, made)) = inl (
+  ends,
+  has,
+  made_also (IsHit (Takes A) ends k) (IsHit (Takes B) ends k) 0 A B hits
+      (λ j a b hit named. hit_also A B ends k j a b hit same named has.no_object)
+      (λ j a b hit named. hit_also B A ends k j b a hit (sym same) (sym named) has.no_object) same made,
+)
+spec_also A B k r hits same (inr none) = inr none
+
+joined_also : (A B : List Ref) (k : ℕ) (g : List Reading) (hits : List Hit) → HaveSameNames A B → IsJoinedFrom (AreSpecHits AreForwardEnds (Takes A) A) k g hits → IsJoinedFrom (AreSpecHits AreForwardEnds (Takes B) B) k g hits
+joined_also A B k [] hits same joined = joined
+joined_also A B k (r ∷ g) hits same (made, rest, of, more, is) = (made, rest, spec_also A B k r made same of, joined_also A B (k + 1) g rest same more, is)
+
+-- so the same mappings are kept
+pub names_decide : (g : List Reading) (A : List Ref) → NamesDecide g A
+names_decide g A B same kept are = record {
+  all = are.all;
+  forward = record {
+    ids = are.forward.ids;
+    hits = are.forward.hits;
+    are_ids = are.forward.are_ids;
+    are_hits = joined_also A B 0 g are.forward.hits same are.forward.are_hits;
+    all = are.forward.all;
+  };
+  is = are.is;
+}

@@ -1,8 +1,0 @@
--- each name has its places among the items so far
-use Rattle.std.proofs.Common.{map, take}
-use Rattle.gix_refspec.specs.Views.Group.{name_bytes, ref_of}
-use Rattle.gix_refspec.specs.Private.Index.{HavePlaces, list_of}
-use Rattle.gix_refspec.proofs.match_group.hits.index.places_of.Given as goal
-
-abbrev pub invariant-loop-place : goal.invariant-loop-place
-invariant-loop-place l = HavePlaces (map name_bytes l.names) (map ref_of (take l.place l.items)) (list_of l.places)

@@ -1,0 +1,10 @@
+-- no list serves a pattern without a prefix
+use Rattle.std.proofs.Common.{sym, ◌∙◌}
+use Rattle.std.proofs.lemmas.Bool.{false≢true}
+use Rattle.gix_refspec.proofs.lemmas.prefixes.AskedLemmas.{no_list}
+use Rattle.gix_refspec.proofs.match_group.prefixes.list_of.Goals as goal
+
+pub returns-then-not-tells_prefix-clause-ok : goal.returns-then-not-tells_prefix-clause-ok
+returns-then-not-tells_prefix-clause-ok c =
+    let k = c.in-Pattern in
+    no_list c.args.side.now k.before.now k.after.now k.ensures (λ tells. false≢true (sym c.if-not-tells_prefix.true ∙ c.tells_prefix.ensures.1 tells))

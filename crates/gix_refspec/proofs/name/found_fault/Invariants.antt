@@ -1,8 +1,0 @@
-use Rattle.std.proofs.Common.{◌∷◌, take}
-use Rattle.gix_refspec.specs.Texts.Bytes.{slash}
-use Rattle.gix_refspec.specs.Private.Scan.{IsClean}
-use Rattle.gix_refspec.proofs.name.found_fault.Given as goal
-
--- no fault so far
-abbrev pub invariant-loop-index : goal.invariant-loop-index
-invariant-loop-index l = IsClean (slash ∷ take l.index l.text)

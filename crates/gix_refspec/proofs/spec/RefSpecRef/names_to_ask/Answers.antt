@@ -1,8 +1,0 @@
--- the list of a positive spec is that of its side
-use Rattle.std.proofs.lemmas.Result.{IfOk-weaker}
-use Rattle.gix_refspec.specs.Views.Spec.{reading_of}
-use Rattle.gix_refspec.proofs.lemmas.prefixes.AskedLemmas.{list_of_side}
-use Rattle.gix_refspec.proofs.spec.RefSpecRef.names_to_ask.Goals as goal
-
-pub returns-clause-ok : goal.returns-clause-ok
-returns-clause-ok c = IfOk-weaker c.list_of.result _ _ (λ asked is. list_of_side (reading_of c.args.self.now) c.in-Some.side.now asked c.in-Some.ensures.0 is) c.list_of.ensures.ok

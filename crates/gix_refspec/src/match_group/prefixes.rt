@@ -1,0 +1,85 @@
+//! What a client asks a server for, for a whole group.
+
+ghost use Rattle.std.specs.Prelude.{[], ℕ, List, map, MatchOption, IfOk, IfSome, OnErr};
+ghost use Rattle.bstr.specs.Owned.{bstring_bytes};
+ghost use Rattle.gix_refspec.specs.Matching.Asked.{HasNoList, Lists, ListsGroup, ListsSide, Serves};
+ghost use Rattle.gix_refspec.specs.Views.Group.{readings_of};
+ghost use Rattle.refspec_text.specs.Texts.Name.{HasSeveralStars};
+ghost use Rattle.refspec_text.specs.Views.Spec.{reading_of};
+
+use crate::match_group::types::MatchGroup;
+use bstr::BString;
+use refspec_text::RefSpecRef;
+use refspec_text::side::{SideKind, candidates, kind_of};
+use refspec_text::spec::prefix::{asked_side, one_entry, tells_prefix};
+use refspec_text::spec::sign::is_negative;
+use std::alloc::{AllocError, Global};
+
+/// What to ask a server for.
+impl<'a> MatchGroup<'a> {
+    /// The prefixes to ask a server for, so that it lists each ref that a group of fetches maps from
+    /// left to right: each such ref begins with one of them, whatever other refs there are. They are in
+    /// the order of the specs: the text before the star of a pattern, a full name itself, and the six
+    /// candidates of a partial name, also of `HEAD`. Negative specs and ids ask for nothing. A server
+    /// takes an empty list as a request for all refs.
+    ///
+    /// `None` if only a request for all refs is safe: some positive spec has a pattern whose star is
+    /// outside `refs/`, directly after `refs/`, or after a `]`; or it is a push without a destination.
+    /// For a push the destination is asked for.
+    ///
+    /// Fails if memory runs out; never if all specs are negative or ask for ids.
+    pub fn ref_prefixes(&self, alloc: Global) -> Result<Option<Vec<BString>>, AllocError>
+        ensures ok { IfOk result (λ asked. MatchOption asked
+            (HasNoList (readings_of self.now))
+            (λ list. ListsGroup (readings_of self.now) (map bstring_bytes list.items))) }
+        ensures serves { IfOk result (λ asked. IfSome asked (λ list.
+            Serves (map bstring_bytes list.items) (readings_of self.now))) }
+        ensures memory { OnErr result (¬ (ListsGroup (readings_of self.now) [])) }
+    {
+        let mut list = Vec::new(alloc);
+        for spec in &self.specs {
+            let Some(mut names) = names_to_ask(alloc, spec)? else {
+                return Ok(None);
+            };
+            list.append(&mut names)?;
+        }
+        Ok(Some(list))
+    }
+}
+
+// What to ask a server for, so that it lists each ref that a spec takes. None if no list serves.
+fn names_to_ask(alloc: Global, spec: &RefSpecRef<'_>) -> Result<Option<Vec<BString>>, AllocError>
+    ensures ok { IfOk result (λ asked. MatchOption asked
+        ((list : List (List ℕ)) → ¬ (Lists (reading_of spec.now) list))
+        (λ list. Lists (reading_of spec.now) (map bstring_bytes list.items))) }
+    ensures memory { OnErr result (¬ (Lists (reading_of spec.now) [])) }
+{
+    if is_negative(spec) {
+        return Ok(Some(Vec::new(alloc)));
+    }
+    let Some(side) = asked_side(spec) else {
+        return Ok(None);
+    };
+    list_of(alloc, side)
+}
+
+// What to ask a server for, so that it lists each ref that a side takes. None if no list serves.
+fn list_of(alloc: Global, side: &[u8]) -> Result<Option<Vec<BString>>, AllocError>
+    requires { ¬ (HasSeveralStars side.now) }
+    ensures ok { IfOk result (λ asked. MatchOption asked
+        ((list : List (List ℕ)) → ¬ (ListsSide side.now list))
+        (λ list. ListsSide side.now (map bstring_bytes list.items))) }
+    ensures memory { OnErr result (¬ (ListsSide side.now [])) }
+{
+    Ok(Some(match kind_of(side) {
+        SideKind::Pattern { before, .. } => {
+            if !tells_prefix(before, b"") {
+                return Ok(None);
+            }
+            one_entry(alloc, before)?
+        }
+        SideKind::FullName(name) => one_entry(alloc, name)?,
+        SideKind::Partial(name) => candidates(alloc, name)?,
+        SideKind::Object(_) => Vec::new(alloc),
+    }))
+}

@@ -1,0 +1,9 @@
+-- Examples of the definitions in specs/, of this crate and of those below it, each on one side of a border, so that
+-- a wrong definition is noticed.
+pub mod IndexFacts
+pub mod MatchFacts
+pub mod HitFacts
+pub mod CandidateFacts
+pub mod ListsFacts
+pub mod CopyFacts
+pub mod OrderFacts

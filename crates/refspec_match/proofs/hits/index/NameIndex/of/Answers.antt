@@ -1,0 +1,16 @@
+-- What is listed of the slices is listed of the names.
+use Rattle.std.proofs.Common.{List, map, subst}
+use Rattle.refspec_match.specs.declared.types.NameRef.{NameRef}
+use Rattle.refspec_match.specs.Views.Mapping.{name_bytes, ref_of}
+use Rattle.refspec_match.specs.Private.Index.{HavePlaces, ListPartials, list_of}
+use Rattle.refspec_match.proofs.hits.index.NameIndex.of.Goals as goal
+
+pub returns : goal.returns
+returns c =
+    let refs = map ref_of c.args.items.now in
+    record {
+      full = subst (λ (l : List NameRef). HavePlaces (map name_bytes l) refs (list_of c.in_ok-places_of.field-0)) c.as_slice.ensures.value c.in_ok-places_of.ensures;
+      partial = subst (λ (l : List NameRef). ListPartials c.args.direction (map name_bytes l) refs (list_of c.in_ok-of.field-0.places)) c.as_slice-2.ensures.value c.in_ok-of.ensures;
+      fronts = c.in_ok-of-2.ensures;
+      repeated = c.in_ok-passed_over.ensures;
+    }

@@ -1,0 +1,31 @@
+-- Each item adds its place.
+use Rattle.std.proofs.Common.{◌≡◌, [], ap, ◌∙◌, List, map, sym, subst, take_all}
+use Rattle.std.proofs.lemmas.Bool.{eqb-true}
+use Rattle.refspec_match.specs.declared.types.Item.{Item}
+use Rattle.refspec_match.specs.declared.types.NameRef.{NameRef}
+use Rattle.refspec_match.specs.Views.Mapping.{name_bytes, ref_of}
+use Rattle.refspec_match.specs.Private.Filter.{Passes}
+use Rattle.refspec_match.specs.Private.Index.{ListPartials, list_of}
+use Rattle.refspec_match.proofs.lemmas.keep.KeptLemmas.{no_elements}
+use Rattle.refspec_match.proofs.lemmas.index.PartialLemmas.{no_partials, partials_more, partials_started}
+use Rattle.refspec_match.proofs.lemmas.index.PlacesLemmas.{all_at}
+use Rattle.refspec_match.proofs.hits.index.partials.PartialIndex.of.Goals as goal
+
+pub returns-then-is_empty : goal.returns-then-is_empty
+returns-then-is_empty c =
+    let none : c.args.names.now ≡ [] = no_elements c.args.names.now (eqb-true _ _ (sym c.is_empty.ensures ∙ c.if-is_empty.true)) in
+    no_partials c.args.direction (map name_bytes c.args.names.now) (map ref_of c.args.items.now) (list_of c.in_ok-places.places) (ap (λ (l : List NameRef). map name_bytes l) none)
+
+pub loop-place-init : goal.loop-place-init
+loop-place-init c = partials_started c.args.direction (map name_bytes c.args.names.now) (list_of c.in_ok-places.places) c.in_ok-places.ensures
+
+pub loop-place-preserved : goal.loop-place-preserved
+loop-place-preserved c =
+    let ns = map name_bytes c.args.names.now in
+    partials_more c.args.direction ns c.args.items.now c.loop-place.place _ c.as_bytes-name.result.now (Passes c.in_ok-filter.filter) (list_of c.loop-place.places) (list_of c.add_item.new.places) c.loop-place-test.true c.as_bytes-name.ensures
+    (λ x there. all_at (Passes c.in_ok-filter.filter) ns x c.in_ok-filter.ensures.all there)
+    c.in_ok-add_item.ensures c.loop-place.invariant
+
+pub returns : goal.returns
+returns c =
+    subst (λ (l : List Item). ListPartials c.args.direction (map name_bytes c.args.names.now) (map ref_of l) (list_of c.loop-place.places)) (take_all c.loop-place.place c.args.items.now c.loop-place-test.false) c.loop-place.invariant

@@ -1,0 +1,5 @@
+-- What proofs share, by subject.
+pub mod lists
+pub mod hits
+pub mod index
+pub mod keep

@@ -1,0 +1,9 @@
+-- Lemmas on looking names and patterns up.
+pub mod IndexLemmas
+pub mod PlacesLemmas
+pub mod FirstPlacesLemmas
+pub mod PartialLemmas
+pub mod FrontLemmas
+pub mod PlacedLemmas
+pub mod FittedLemmas
+pub mod FrontHitLemmas

@@ -1,0 +1,4 @@
+-- Mappings: which lists of them specs make of refs, and which are kept.
+pub mod Lists
+pub mod Mappings
+pub mod Hits

@@ -1,0 +1,7 @@
+-- The words of functions that callers of the library can't reach, for their steps.
+pub mod HitViews
+pub mod EqualSpecs
+pub mod Part
+pub mod Index
+pub mod Kept
+pub mod Filter

@@ -1,0 +1,3 @@
+-- How a clause sees a Rust value as plain data.
+pub mod Mapping
+pub mod Hashed

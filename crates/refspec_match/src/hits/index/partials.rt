@@ -1,0 +1,211 @@
+//! The places of the items that partial names take. The partial names are the only keys: an item's name is
+//! looked up without each of the folders that are tried before a partial name.
+
+ghost use Rattle.std.specs.Prelude.{◌≡◌, ◌++◌, codes, ℕ, List, length, map, MatchOption, IfOk, OnOk};
+ghost use Rattle.refspec_text.specs.Texts.Words.{BeginsWith};
+ghost use Rattle.refspec_match.specs.Views.Mapping.{name_bytes, ref_of};
+ghost use Rattle.refspec_text.specs.Matching.Side.{Fits, IsCandidate};
+ghost use Rattle.refspec_match.specs.Private.Filter.{IsWholeFilter, Passes};
+ghost use Rattle.refspec_match.specs.Private.Index.{AddsWhere, IsBelowPlace, Joins, JoinsFirst, ListPartials, list_of, name_at, places_listed};
+
+use super::filter::Filter;
+use super::{listed_in, without_places};
+use crate::hits::ends::Direction;
+use crate::types::{Item, NameRef};
+use refspec_text::side::below_refs;
+use std::alloc::{AllocError, Global};
+use std::collections::HashMap;
+
+// How many candidates a partial name has.
+const CANDIDATES: usize = 6;
+
+// For each of some partial names the places of all items that it takes in a direction, rising.
+#[derive(Drop)]
+pub(crate) struct PartialIndex<'n> {
+    direction: Direction,
+    places: HashMap<&'n [u8], Vec<usize>>,
+}
+
+impl<'n> PartialIndex<'n> {
+    // The index of some partial names.
+    pub(crate) fn of(
+        alloc: Global,
+        direction: Direction,
+        names: &'n [NameRef<'_>],
+        items: &[Item<'_>],
+    ) -> Result<PartialIndex<'n>, AllocError>
+        ensures { IfOk result (λ index. ListPartials
+            direction (map name_bytes names.now) (map ref_of items.now) (list_of index.places)) }
+    {
+        let mut places = without_places(alloc, names)?;
+        if names.is_empty() {
+            return Ok(PartialIndex { direction, places });
+        }
+        let filter = Filter::of(alloc, names)?;
+        for (place, item) in items.iter().enumerate() {
+            let name = item.full_ref_name.as_bytes();
+            add_item(direction, name, place, items, &filter, &mut places)?;
+        }
+        Ok(PartialIndex { direction, places })
+    }
+
+    // The places of the items that a partial name takes.
+    pub(crate) fn places(&self, partial: &[u8]) -> &[usize]
+        ensures { result.now ≡ places_listed (list_of self.now.places) partial.now }
+    {
+        match self.places.get(partial) {
+            None => &[],
+            Some(places) => places.as_slice(),
+        }
+    }
+
+    // How many places are listed.
+    pub(crate) fn listed(&self) -> usize {
+        listed_in(&self.places)
+    }
+
+    // Whether some partial name takes more items than it does where no name repeats.
+    pub(crate) fn has_repeats(&self) -> bool {
+        let most = match self.direction {
+            Direction::Forward => 1,
+            Direction::Backward => CANDIDATES,
+        };
+        self.places.values().any(|places| most < places.len())
+    }
+}
+
+// Adds the place of an item to those of each partial name that may stand for its name. That is the name
+// itself, or what is left of it with a place taken off.
+fn add_item(
+    direction: Direction,
+    name: &[u8],
+    place: usize,
+    items: &[Item<'_>],
+    filter: &Filter,
+    places: &mut HashMap<&[u8], Vec<usize>>,
+) -> Result<(), AllocError>
+    requires { IsWholeFilter filter.now }
+    ensures { OnOk result (AddsWhere (Passes filter.now) (λ x. IsCandidate x name.now)
+        (Joins direction (map ref_of items.now) place) (list_of places.old) (list_of places.new)) }
+{
+    add_to(direction, name, place, items, filter, places)?;
+    let Some(below) = below_refs(name) else {
+        return Ok(());
+    };
+    add_to(direction, below, place, items, filter, places)?;
+    let Some(short) = below_place(below) else {
+        return Ok(());
+    };
+    add_to(direction, short, place, items, filter, places)?;
+    let Some(remote) = remote_of_head(below) else {
+        return Ok(());
+    };
+    add_to(direction, remote, place, items, filter, places)
+}
+
+// What follows the place in a name below `refs/`.
+#[inline(always)]
+fn below_place(below: &[u8]) -> Option<&[u8]>
+    ensures { MatchOption result
+        ((x : List ℕ) → ¬ (IsBelowPlace below.now x))
+        (λ short. IsBelowPlace below.now short.now) }
+{
+    match below {
+        [b't', b'a', b'g', b's', b'/', short @ ..] => Some(short),
+        [b'h', b'e', b'a', b'd', b's', b'/', short @ ..] => Some(short),
+        [b'r', b'e', b'm', b'o', b't', b'e', b's', b'/', short @ ..] => Some(short),
+        _ => None,
+    }
+}
+
+// The remote whose head has the name below `refs/`.
+#[inline(always)]
+fn remote_of_head(below: &[u8]) -> Option<&[u8]>
+    ensures { MatchOption result
+        ((x : List ℕ) → ¬ (Fits (codes "remotes/") (codes "/HEAD") below.now x))
+        (λ remote. Fits (codes "remotes/") (codes "/HEAD") below.now remote.now) }
+{
+    match below_remotes(below) {
+        None => None,
+        Some(head) => head.strip_suffix(b"/HEAD"),
+    }
+}
+
+// What follows `remotes/`.
+#[inline(always)]
+fn below_remotes(below: &[u8]) -> Option<&[u8]>
+    ensures { MatchOption result
+        (¬ (BeginsWith (codes "remotes/") below.now))
+        (λ head. below.now ≡ codes "remotes/" ++ head.now) }
+{
+    match below {
+        [b'r', b'e', b'm', b'o', b't', b'e', b's', b'/', head @ ..] => Some(head),
+        _ => None,
+    }
+}
+
+// Adds a place to those of a partial name, if that is asked for.
+#[inline(always)]
+fn add_to(
+    direction: Direction,
+    partial: &[u8],
+    place: usize,
+    items: &[Item<'_>],
+    filter: &Filter,
+    places: &mut HashMap<&[u8], Vec<usize>>,
+) -> Result<(), AllocError>
+    requires { IsWholeFilter filter.now }
+    ensures { OnOk result (AddsWhere (Passes filter.now) (λ x. partial.now ≡ x)
+        (Joins direction (map ref_of items.now) place) (list_of places.old) (list_of places.new)) }
+{
+    if !filter.passes(partial) {
+        return Ok(());
+    }
+    match places.get_mut(partial) {
+        None => Ok(()),
+        Some(list) => join(direction, place, items, list),
+    }
+}
+
+// Adds a place to those that a partial name takes.
+fn join(
+    direction: Direction,
+    place: usize,
+    items: &[Item<'_>],
+    places: &mut Vec<usize>,
+) -> Result<(), AllocError>
+    ensures { OnOk result (Joins
+        direction (map ref_of items.now) place places.old.items places.new.items) }
+{
+    match direction {
+        Direction::Forward => join_first(place, items, places),
+        Direction::Backward => Ok(places.push(place)?),
+    }
+}
+
+// Adds a place to those of the first candidate that is there. The earlier of two is the shorter one.
+fn join_first(place: usize, items: &[Item<'_>], places: &mut Vec<usize>) -> Result<(), AllocError>
+    ensures { OnOk result (JoinsFirst (map ref_of items.now) place places.old.items places.new.items) }
+{
+    if let Some(first) = places.first() {
+        let least = size_at(items, *first);
+        let size = size_at(items, place);
+        if least < size {
+            return Ok(());
+        }
+        if size < least {
+            places.clear();
+        }
+    }
+    Ok(places.push(place)?)
+}
+
+// How long the name of the item at a place is.
+fn size_at(items: &[Item<'_>], place: usize) -> usize
+    ensures { result ≡ length (name_at (map ref_of items.now) place) }
+{
+    match items.get(place) {
+        None => 0,
+        Some(item) => item.full_ref_name.as_bytes().len(),
+    }
+}

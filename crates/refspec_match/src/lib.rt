@@ -1,0 +1,9 @@
+//! What specs match among refs, and the mappings that this makes. The library to use is `gix_refspec`,
+//! which is built on this crate: it has items and mappings under the same names, and groups of specs.
+#![tactic(auto)]
+
+pub mod hashes;
+pub mod hits;
+pub mod keep;
+mod mappings;
+pub mod types;

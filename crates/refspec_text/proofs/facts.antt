@@ -1,0 +1,16 @@
+-- Examples of the definitions in specs/, each on one side of a border, so that a wrong definition is noticed.
+pub mod ManualFacts
+pub mod NameFacts
+pub mod ObjectIdFacts
+pub mod FitFacts
+pub mod RefusalFacts
+pub mod GrammarFacts
+pub mod UnreadFacts
+pub mod ReasonFacts
+pub mod FaultFacts
+pub mod MeaningFacts
+pub mod SideFacts
+pub mod SideLawFacts
+pub mod CoveringFacts
+pub mod PrefixFacts
+pub mod ViewFacts

@@ -1,0 +1,2 @@
+-- Lemmas on lists that are compared.
+pub mod EqualLemmas

@@ -1,0 +1,3 @@
+-- Lemmas on what a client asks a server for.
+pub mod PrefixLemmas
+pub mod OnePrefixLemmas

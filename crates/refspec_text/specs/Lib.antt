@@ -1,0 +1,6 @@
+pub mod Texts
+pub mod Specs
+pub mod Matching
+pub mod Views
+pub mod Laws
+pub mod Private
