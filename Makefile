@@ -16,9 +16,10 @@ LIBRARY := crates/refspec_text crates/refspec_match crates/gix_refspec
 FOLDER := crates/refspec_map
 PROGRAM := $(FOLDER)/out/refspec_map
 TESTS := crates/matching_cases/out/matching_cases_tests
+PEOPLE_LIBRARY := crates/refspec_json crates/refspec_run
 PEOPLE := crates/refspec
 PEOPLE_PROGRAM := $(PEOPLE)/out/refspec
-PEOPLE_SOURCES := crates.txt $(shell find $(LIBRARY) $(PEOPLE) \( -name out -o -name must-fail \) -prune -o -type f -print)
+PEOPLE_SOURCES := crates.txt $(shell find $(LIBRARY) $(PEOPLE_LIBRARY) $(PEOPLE) \( -name out -o -name must-fail \) -prune -o -type f -print)
 LOGS := out
 FIRST := half an hour the first time, with refspec, on 4 processors
 SOURCES := crates.txt $(shell find $(LIBRARY) $(FOLDER) \( -name out -o -name must-fail \) -prune -o -type f -print)
@@ -40,7 +41,7 @@ $(PROGRAM): $(SOURCES) | kit
 
 $(PEOPLE_PROGRAM): $(PEOPLE_SOURCES) | kit $(PROGRAM)
 	@mkdir -p $(LOGS)
-	@{ (cd $(PEOPLE) && rt check) && (cd $(PEOPLE) && rt run -- canon main); } </dev/null 2>&1 \
+	@{ for crate in $(PEOPLE_LIBRARY) $(PEOPLE); do (cd $$crate && rt check) || exit; done && (cd $(PEOPLE) && rt run -- canon main); } </dev/null 2>&1 \
 	| tee $(LOGS)/build-refspec.log | tools/progress >&2 \
 	|| { status=$$?; echo "make: not built, as $(LOGS)/build-refspec.log says" >&2; exit $$status; }
 	@touch $@

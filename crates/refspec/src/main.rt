@@ -1,33 +1,13 @@
 //! Says whether refspecs are right, what they mean, and what a fetch with them writes.
 #![tactic(auto)]
 
-mod blame;
-mod call;
-mod canon;
-mod checked;
-mod fault;
-mod input;
-mod json;
-mod mappings;
-mod page;
-mod plan;
-mod planning;
-mod prefixes;
-mod quote;
-mod refs;
-mod run;
-mod sentence;
-mod specs;
-mod table;
-mod texts;
-mod track;
 mod words;
 
-use crate::call::{Call, Command};
-use crate::fault::Fault;
-use crate::input::read_input;
-use crate::run::run;
 use crate::words::{call_of, command_line};
+use refspec_run::call::{Call, Command};
+use refspec_run::fault::Fault;
+use refspec_run::input::read_input;
+use refspec_run::run::run;
 use std::fs::File;
 use std::process::ExitCode;
 use std::{env, io};

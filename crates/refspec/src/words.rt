@@ -1,8 +1,8 @@
 //! The words of the call.
 
-use crate::call::{Call, Command, Ends, Form};
 use clap::{Arg, ArgAction, ArgMatches};
 use gix_refspec::parsing::Operation;
+use refspec_run::call::{Call, Command, Ends, Form};
 use std::alloc::{AllocError, Global};
 
 /// The command line, with its pages of help.

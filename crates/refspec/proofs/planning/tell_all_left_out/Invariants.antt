@@ -1,6 +1,0 @@
--- the results are as they were
-use Rattle.refspec.specs.Shown.{KeepsPage}
-use Rattle.refspec.proofs.planning.tell_all_left_out.Given as goal
-
-abbrev pub invariant-loop-bad : goal.invariant-loop-bad
-invariant-loop-bad l = KeepsPage l.fn.page l.page

@@ -1,6 +1,0 @@
--- the results are as they were
-use Rattle.refspec.specs.Shown.{KeepsPage}
-use Rattle.refspec.proofs.specs.tell_refusals.Given as goal
-
-abbrev pub invariant-loop-checked : goal.invariant-loop-checked
-invariant-loop-checked l = KeepsPage l.fn.page l.page

@@ -1,0 +1,72 @@
+-- Texts that were checked, one after another.
+use Rattle.std.proofs.Common.{◌≡◌, ℕ, ◌+◌, ◌<◌, ◌≤◌, List, [], ◌∷◌, ◌++◌, length, map, take, take_all, get_or, zero, suc, inl, inr, refl, sym, ap, ◌∙◌, subst, arith}
+use Rattle.std.proofs.lemmas.List.{map-append, take_more}
+use Rattle.std.specs.List.{AllZip}
+use Rattle.refspec_run.specs.declared.call.Form.{Form}
+use Rattle.refspec_run.specs.declared.checked.Checked.{Checked}
+use Rattle.refspec_run.specs.declared.checked.Checked.TheVariants as checked
+use Rattle.refspec_run.specs.declared.texts.Text.{Text}
+use Rattle.gix_refspec.specs.Specs.Grammar.{Reads}
+use Rattle.gix_refspec.specs.Specs.Reading.{Reading}
+use Rattle.refspec_text.specs.declared.parsing.Error.{Error}
+use Rattle.gix_refspec.specs.Views.Spec.{reading_of}
+use Rattle.refspec_text.specs.declared.spec.RefSpecRef.{RefSpecRef}
+use Rattle.refspec_run.specs.Read.{AddsIfGood, AddsIfRead, AreRead, HasBad, HasRefused, IsChecked, IsSpec}
+use Rattle.refspec_run.specs.Texts.{said}
+
+-- one more pair
+pub zip_last : {A B : Type 0} (R : A → B → Type 0) (xs : List A) (ys : List B) (x : A) (y : B) → AllZip R xs ys → R x y → AllZip R (xs ++ x ∷ []) (ys ++ y ∷ [])
+zip_last R [] [] x y all is = (is, tt)
+zip_last R [] (z ∷ ys) x y all is = absurd all
+zip_last R (w ∷ xs) [] x y all is = absurd all
+zip_last R (w ∷ xs) (z ∷ ys) x y all is = (all.0, zip_last R xs ys x y all.1 is)
+
+-- one more element
+pub zip_next : {A B : Type 0} (R : A → B → Type 0) (xs : List A) (i : ℕ) (d : A) (ys more : List B) (y : B) → i < length xs → AllZip R (take i xs) ys → R (get_or xs i d) y → more ≡ ys ++ y ∷ [] → AllZip R (take (i + 1) xs) more
+zip_next {A} {B} R xs i d ys more y below so_far is grown =
+    subst (λ (l : List A). AllZip R l more) (sym (take_more xs i d below))
+    (subst (AllZip R (take i xs ++ get_or xs i d ∷ [])) (sym grown) (zip_last R (take i xs) ys (get_or xs i d) y so_far is))
+
+-- all elements
+pub zip_all : {A B : Type 0} (R : A → B → Type 0) (xs : List A) (i : ℕ) (ys : List B) → length xs ≤ i → AllZip R (take i xs) ys → AllZip R xs ys
+zip_all {A} R xs i ys long so_far = subst (λ (l : List A). AllZip R l ys) (take_all i xs long) so_far
+
+-- one more spec
+pub specs_next : (all : List Checked) (i : ℕ) (c : Checked) (t : Text) (spec : RefSpecRef) (old new : List RefSpecRef) → i < length all → c ≡ get_or all i c → c ≡ checked.Good t spec → new ≡ old ++ spec ∷ [] → AllZip IsSpec (take i all) (map reading_of old) → AllZip IsSpec (take (i + 1) all) (map reading_of new)
+specs_next all i c t spec old new below here is grown so_far =
+    let good : IsSpec (get_or all i c) (reading_of spec) = subst (λ (x : Checked). IsSpec x (reading_of spec)) (sym (sym here ∙ is)) refl in
+    zip_next IsSpec all i c (map reading_of old) (map reading_of new) (reading_of spec) below so_far good (ap (map reading_of) grown ∙ map-append reading_of old (spec ∷ []))
+
+-- the text that is no spec is one of all
+pub HasBad-at : (all : List Checked) (i : ℕ) (c : Checked) (t : Text) (error : Error) → i < length all → c ≡ get_or all i c → c ≡ checked.Bad t error → HasBad all
+HasBad-at [] i c t error below here is = absurd (omega (arith, below))
+HasBad-at (checked.Bad u e ∷ all) i c t error below here is = tt
+HasBad-at (checked.Good u spec ∷ all) zero c t error below here is = absurd (good_is_bad (sym here ∙ is))
+  where
+    good_is_bad : checked.Good u spec ≡ checked.Bad t error → ⊥
+    good_is_bad same = cc
+HasBad-at (checked.Good u spec ∷ all) (suc i) c t error below here is = HasBad-at all i c t error (omega (arith, below)) here is
+
+-- what the specs are read as is what their texts are read as
+pub AreRead-of : (texts : List Text) (all : List Checked) (g : List Reading) → AllZip IsChecked texts all → AllZip IsSpec all g → AreRead (map said texts) g
+AreRead-of [] [] [] is good = tt
+AreRead-of [] [] (r ∷ g) is good = absurd good
+AreRead-of [] (c ∷ all) g is good = absurd is
+AreRead-of (t ∷ texts) [] g is good = absurd is
+AreRead-of (t ∷ texts) (checked.Good text spec ∷ all) [] is good = absurd good
+AreRead-of (t ∷ texts) (checked.Good text spec ∷ all) (r ∷ g) is good = (subst (Reads t.operation t.bytes.now) (sym good.0) is.0, AreRead-of texts all g is.1 good.1)
+AreRead-of (t ∷ texts) (checked.Bad text error ∷ all) [] is good = absurd good
+AreRead-of (t ∷ texts) (checked.Bad text error ∷ all) (r ∷ g) is good = absurd good.0
+
+-- a text that is no spec is refused
+pub HasRefused-of : (texts : List Text) (all : List Checked) → AllZip IsChecked texts all → HasBad all → HasRefused (map said texts)
+HasRefused-of [] [] is bad = absurd bad
+HasRefused-of [] (c ∷ all) is bad = absurd is
+HasRefused-of (t ∷ texts) [] is bad = absurd is
+HasRefused-of (t ∷ texts) (checked.Good text spec ∷ all) is bad = inr (HasRefused-of texts all is.1 bad)
+HasRefused-of (t ∷ texts) (checked.Bad text error ∷ all) is bad = inl (is.0.0, is.0.2)
+
+-- what is told of what was checked is told of the texts
+pub AddsIfRead-of : (Adds : List Reading → List ℕ → List ℕ → Type 0) (f : Form) (texts : List Text) (all : List Checked) (old new : List ℕ) → AllZip IsChecked texts all → AddsIfGood Adds f all old new → AddsIfRead Adds f (map said texts) old new
+AddsIfRead-of Adds f texts all old new is (inl told) = inl (told.0, AreRead-of texts all told.0 is told.1, told.2)
+AddsIfRead-of Adds f texts all old new is (inr kept) = inr (HasRefused-of texts all is kept.0, kept.1)

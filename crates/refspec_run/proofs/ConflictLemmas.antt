@@ -1,0 +1,106 @@
+-- What is told of conflicts, piece by piece.
+use Rattle.std.proofs.Common.{◌≡◌, ℕ, ◌+◌, ◌<◌, List, [], ◌∷◌, ◌++◌, length, map, take, get_or, unwrap_or, codes, refl, sym, ap, ◌∙◌, subst, append_assoc, arith}
+use Rattle.std.specs.List.{slice_get}
+use Rattle.std.proofs.lemmas.List.{append-nil, length-map, length-take-le, map-append, take_more}
+use Rattle.refspec_match.specs.declared.types.SourceRef.{SourceRef}
+use Rattle.gix_refspec.specs.declared.match_group.validate.Issue.{Issue}
+use Rattle.gix_refspec.specs.Matching.Mappings.{Start}
+use Rattle.gix_refspec.specs.Matching.Validation.{Conflict}
+use Rattle.gix_refspec.specs.Views.Group.{start_of}
+use Rattle.gix_refspec.specs.Views.Issue.{conflict_of}
+use Rattle.refspec_run.specs.declared.call.Form.{Form}
+use Rattle.refspec_run.specs.declared.call.Form.TheVariants as form
+use Rattle.refspec_run.specs.Conflicts.{AddsConflicts, AreClaims, AreToldConflicts, IsClaim, IsToldConflict, PutsClaim, PutsClaims, PutsConflict}
+use Rattle.refspec_run.specs.Rows.{source_text}
+use Rattle.refspec_run.specs.Shown.{Grows, PutsQuoted}
+use Rattle.refspec_run.proofs.ShownLemmas.{behind}
+
+-- five pieces, one after another
+five : (old a b c d new v w x y z : List ℕ) → a ≡ old ++ v → b ≡ a ++ w → c ≡ b ++ x → d ≡ c ++ y → new ≡ d ++ z → new ≡ old ++ (v ++ (w ++ (x ++ (y ++ z))))
+five old a b c d new v w x y z is_a is_b is_c is_d is_new =
+    let at_b = behind old v a w b is_a is_b in
+    let at_c = behind old (v ++ w) b x c at_b is_c in
+    let at_d = behind old ((v ++ w) ++ x) c y d at_c is_d in
+    let at_new = behind old (((v ++ w) ++ x) ++ y) d z new at_d is_new in
+    at_new ∙ ap (λ l. old ++ l) (append_assoc ((v ++ w) ++ x) y z ∙ (append_assoc (v ++ w) x (y ++ z) ∙ append_assoc v w (x ++ (y ++ z))))
+
+-- the pieces of a line
+pub PutsClaim-of : (source text old a b c d new : List ℕ) → a ≡ old ++ codes "    " → PutsQuoted source a b → c ≡ b ++ codes " by " → PutsQuoted text c d → new ≡ d ++ 10 ∷ [] → PutsClaim source text old new
+PutsClaim-of source text old a b c d new is_a put_source is_c put_text is_new = (
+  codes "    " ++ (put_source.0 ++ (codes " by " ++ (put_text.0 ++ (10 ∷ [])))),
+  record { first = put_source.0; second = put_text.0; is_first = put_source.1; is_second = put_text.1; is = refl },
+  five old a b c d new (codes "    ") put_source.0 (codes " by ") put_text.0 (10 ∷ []) is_a put_source.2 is_c put_text.2 is_new,
+)
+
+-- one line more
+AreClaims-push : (k : ℕ) (sources : List Start) (s : Start) (texts : List (List ℕ)) (lines line : List ℕ) → AreClaims k sources texts lines → IsClaim (source_text s) (unwrap_or (slice_get texts (k + length sources)) []) line → AreClaims k (sources ++ s ∷ []) texts (lines ++ line)
+AreClaims-push k [] s texts lines line none claim =
+    let at : k + length {A = Start} [] ≡ k = omega arith in
+    (line, [], subst (λ (n : ℕ). IsClaim (source_text s) (unwrap_or (slice_get texts n) []) line) at claim, refl, ap (λ l. l ++ line) none ∙ sym (append-nil line))
+AreClaims-push k (x ∷ sources) s texts lines line (one, rest, here, more, is) claim =
+    let at : k + length (x ∷ sources) ≡ (k + 1) + length sources = omega arith in
+    (one, rest ++ line, here, AreClaims-push (k + 1) sources s texts rest line more (subst (λ (n : ℕ). IsClaim (source_text s) (unwrap_or (slice_get texts n) []) line) at claim), ap (λ l. l ++ line) is ∙ append_assoc one rest line)
+
+-- at the start there is none
+pub PutsClaims-start : (texts : List (List ℕ)) (old : List ℕ) → PutsClaims [] texts old old
+PutsClaims-start texts old = ([], refl, sym (append-nil old))
+
+pub PutsClaims-next : (xs : List SourceRef) (i : ℕ) (s : SourceRef) (texts : List (List ℕ)) (source text old mid new : List ℕ) → i < length xs → s ≡ get_or xs i s → source ≡ source_text (start_of s) → text ≡ unwrap_or (slice_get texts i) [] → PutsClaims (map start_of (take i xs)) texts old mid → PutsClaim source text mid new → PutsClaims (map start_of (take (i + 1) xs)) texts old new
+PutsClaims-next xs i s texts source text old mid new below is of_source of_text a b =
+    let front = map start_of (take i xs) in
+    let long : i ≡ 0 + length front = (let size = length-map (take i xs) start_of in let cut = length-take-le i xs (omega (arith, below)) in omega (arith, size, cut)) in
+    let claim = subst (λ (n : ℕ). IsClaim (source_text (start_of s)) (unwrap_or (slice_get texts n) []) b.0) long (subst (λ (t : List ℕ). IsClaim (source_text (start_of s)) t b.0) of_text (subst (λ (x : List ℕ). IsClaim x text b.0) of_source b.1)) in
+    let step : map start_of (take (i + 1) xs) ≡ front ++ start_of s ∷ [] = ap (map start_of) (take_more xs i s below) ∙ (map-append start_of (take i xs) (get_or xs i s ∷ []) ∙ ap (λ (x : SourceRef). front ++ start_of x ∷ []) (sym is)) in
+    subst (λ (l : List Start). PutsClaims l texts old new) (sym step) (a.0 ++ b.0, AreClaims-push 0 front (start_of s) texts a.0 b.0 a.1 claim, behind old a.0 mid b.0 new a.2 b.2)
+
+-- the pieces of a conflict
+pub PutsConflict-of : (c : Conflict) (name : List ℕ) (sources : List Start) (texts : List (List ℕ)) (old a b d e new : List ℕ) → name ≡ c.destination → sources ≡ c.sources → texts ≡ c.texts → a ≡ old ++ codes "conflict: " → PutsQuoted name a b → d ≡ b ++ codes " would be written from several refs, so nothing is fetched:\n" → PutsClaims sources texts d e → Grows e new → PutsConflict c old new
+PutsConflict-of c name sources texts old a b d e new same same_sources same_texts is_a put is_d claims grows =
+    let head = codes "conflict: " in
+    let words = codes " would be written from several refs, so nothing is fetched:\n" in (
+      head ++ (put.0 ++ (words ++ (claims.0 ++ grows.0))),
+      record {
+        shown = put.0;
+        claims = claims.0;
+        advice = grows.0;
+        destination = rw same at put.1;
+        each = subst (λ (ts : List (List ℕ)). AreClaims 0 c.sources ts claims.0) same_texts (subst (λ (ss : List Start). AreClaims 0 ss texts claims.0) same_sources claims.1);
+        is = refl;
+      },
+      five old a b d e new head put.0 words claims.0 grows.0 is_a put.2 is_d claims.2 grows.1,
+    )
+
+-- ---- one after another
+
+AreToldConflicts-push : (cs : List Conflict) (c : Conflict) (lines one : List ℕ) → AreToldConflicts cs lines → IsToldConflict c one → AreToldConflicts (cs ++ c ∷ []) (lines ++ one)
+AreToldConflicts-push [] c lines one none told = (one, [], told, refl, ap (λ l. l ++ one) none ∙ sym (append-nil one))
+AreToldConflicts-push (x ∷ cs) c lines one (first, rest, here, more, is) told = (first, rest ++ one, here, AreToldConflicts-push cs c rest one more told, ap (λ l. l ++ one) is ∙ append_assoc first rest one)
+
+pub AddsConflicts-start : (f : Form) (old : List ℕ) → AddsConflicts f [] old old
+AddsConflicts-start form.Lines old = ([], refl, sym (append-nil old))
+AddsConflicts-start form.Zeros old = ([], refl, sym (append-nil old))
+AddsConflicts-start form.Json old = tt
+
+pub AddsConflicts-one : (f : Form) (c : Conflict) (old new : List ℕ) → PutsConflict c old new → AddsConflicts f (c ∷ []) old new
+AddsConflicts-one form.Lines c old new put = (put.0, (put.0, [], put.1, refl, sym (append-nil put.0)), put.2)
+AddsConflicts-one form.Zeros c old new put = (put.0, (put.0, [], put.1, refl, sym (append-nil put.0)), put.2)
+AddsConflicts-one form.Json c old new put = tt
+
+pub AddsConflicts-json : (f : Form) (cs : List Conflict) (old new : List ℕ) → f ≡ form.Json → AddsConflicts f cs old new
+AddsConflicts-json form.Lines cs old new is = absurd (cc)
+AddsConflicts-json form.Zeros cs old new is = absurd (cc)
+AddsConflicts-json form.Json cs old new is = tt
+
+AddsConflicts-push : (f : Form) (cs : List Conflict) (c : Conflict) (old mid new : List ℕ) → AddsConflicts f cs old mid → AddsConflicts f (c ∷ []) mid new → AddsConflicts f (cs ++ c ∷ []) old new
+AddsConflicts-push form.Json cs c old mid new a b = tt
+AddsConflicts-push form.Lines cs c old mid new a (lines, (one, rest, told, none, is), put) =
+    let all : lines ≡ one = is ∙ (ap (λ l. one ++ l) none ∙ append-nil one) in
+    (a.0 ++ one, AreToldConflicts-push cs c a.0 one a.1 told, behind old a.0 mid one new a.2 (put ∙ ap (λ l. mid ++ l) all))
+AddsConflicts-push form.Zeros cs c old mid new a (lines, (one, rest, told, none, is), put) =
+    let all : lines ≡ one = is ∙ (ap (λ l. one ++ l) none ∙ append-nil one) in
+    (a.0 ++ one, AreToldConflicts-push cs c a.0 one a.1 told, behind old a.0 mid one new a.2 (put ∙ ap (λ l. mid ++ l) all))
+
+pub AddsConflicts-next : (f g : Form) (xs : List Issue) (i : ℕ) (x : Issue) (old mid new : List ℕ) → i < length xs → x ≡ get_or xs i x → g ≡ f → AddsConflicts f (map conflict_of (take i xs)) old mid → AddsConflicts g (conflict_of x ∷ []) mid new → AddsConflicts f (map conflict_of (take (i + 1) xs)) old new
+AddsConflicts-next f g xs i x old mid new below is same a b =
+    let step : map conflict_of (take (i + 1) xs) ≡ map conflict_of (take i xs) ++ conflict_of x ∷ [] = ap (map conflict_of) (take_more xs i x below) ∙ (map-append conflict_of (take i xs) (get_or xs i x ∷ []) ∙ ap (λ (y : Issue). map conflict_of (take i xs) ++ conflict_of y ∷ []) (sym is)) in
+    subst (λ (l : List Conflict). AddsConflicts f l old new) (sym step) (AddsConflicts-push f (map conflict_of (take i xs)) (conflict_of x) old mid new a (subst (λ (h : Form). AddsConflicts h (conflict_of x ∷ []) mid new) same b))

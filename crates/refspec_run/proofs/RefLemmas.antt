@@ -1,0 +1,158 @@
+-- Lines of refs: where their digits end, and what many of them make of the refs before them.
+use Rattle.std.proofs.Common.{◌≡◌, ◌≢◌, ◌↔◌, Bool, IsTrue, Bor, append_assoc, ℕ, ◌+◌, ◌-◌, ◌<◌, inl, inr, Option, None, Some, List, [], ◌∷◌, ◌++◌, map, length, take, get_or, refl, sym, ap, ◌∙◌, subst, length-append, arith}
+use Rattle.std.proofs.Math.Seq.{get_or-append_seam, take-append_seam, take-length}
+use Rattle.std.proofs.lemmas.List.{append-nil, length-map, map-append, take_more}
+use Rattle.std.proofs.lemmas.Option.{get_or_from_slice_get, slice_get-map, slice_get_within}
+use Rattle.std.specs.List.{slice_get}
+use Rattle.std.specs.Option.{IfNone, option_map}
+use Rattle.gix_refspec.specs.Matching.Match.{Ref}
+use Rattle.gix_refspec.specs.Laws.Items.{HaveSameNames}
+use Rattle.gix_refspec.specs.Views.Group.{ref_of}
+use Rattle.refspec_match.specs.declared.types.Item.{Item}
+use Rattle.bstr.specs.BStr.{bstr_bytes}
+use Rattle.gix_refspec.specs.Texts.ObjectId.{HasIdFault, IsIdText, digits_of}
+use Rattle.refspec_text.specs.declared.oid.Error.{Error}
+use Rattle.refspec_text.specs.declared.oid.Kind.{Kind}
+use Rattle.refspec_text.specs.declared.oid.Kind.TheVariants.{Sha1, Sha256}
+use Rattle.refspec_text.proofs.lemmas.texts.ObjectIdLemmas.{id_or_fault}
+use Rattle.refspec_run.specs.Input.{AreRecords, IsFirstRecord}
+use Rattle.refspec_run.specs.Refs.{AddsLine, AddsLineByNames, AddsRefs, HasLast, IsIdThen, IsLast, IsNoRefLine, TellNames, TellRefs, TellsName, peeled}
+use Rattle.refspec_run.proofs.RecordLemmas.{first_and_more}
+
+-- the byte after so many digits is the space
+pub space_at : (line digits name : List ℕ) (space n : ℕ) → length digits ≡ n → line ≡ digits ++ (space ∷ name) → (n < length line) × (get_or line n 0 ≡ space) × (take n line ≡ digits)
+space_at line digits name space n long here = (
+  omega (arith, ap length here, length-append digits (space ∷ name)),
+  ap (λ l. get_or l n 0) here ∙ (ap (λ k. get_or (digits ++ (space ∷ name)) k 0) (sym long) ∙ get_or-append_seam digits space name 0),
+  ap (take n) here ∙ (ap (λ k. take k (digits ++ (space ∷ name))) (sym long) ∙ take-append_seam digits (space ∷ name)),
+)
+
+-- a text with a fault is that of no id
+pub no_id : (t i : List ℕ) (e : Error) → HasIdFault t e → IsIdText t i → ⊥
+no_id t i e fault text = elim (id_or_fault t) [ inl one ↦ one.sound e fault | inr none ↦ none.unread i text ]
+
+-- a line without digits of either length says nothing
+pub IsNoRefLine-of : (line : List ℕ) → ((id name : List ℕ) (says : IsIdThen line id name) → ¬ (length says.digits ≡ digits_of Sha1)) → ((id name : List ℕ) (says : IsIdThen line id name) → ¬ (length says.digits ≡ digits_of Sha256)) → IsNoRefLine line
+IsNoRefLine-of line no_short no_long id name says = by_kind says.spelled.kind says.spelled.digits
+  where
+    by_kind : (kind : Kind) → length says.digits ≡ digits_of kind → ⊥
+    by_kind Sha1 long = no_short id name says long
+    by_kind Sha256 long = no_long id name says long
+
+-- one line more
+AddsRefs-append : (lines : List (List ℕ)) (line : List ℕ) (old mid new : List Ref) → AddsRefs lines old mid → AddsLine line mid new → AddsRefs (lines ++ line ∷ []) old new
+AddsRefs-append [] line old mid new none more = (new, subst (λ (l : List Ref). AddsLine line l new) none more, refl)
+AddsRefs-append (l ∷ lines) line old mid new some more = (some.0, some.1, AddsRefs-append lines line some.0 mid new some.2 more)
+
+-- some records told of the refs so far, and whatever cuts the rest completes them to those of the input
+abbrev TellsSoFar : ℕ → List Ref → List ℕ → List ℕ → Type 0
+TellsSoFar end refs rest input = (done : List (List ℕ)) × ((more : List (List ℕ)) → AreRecords end more rest → AreRecords end (done ++ more) input) × AddsRefs done [] refs
+
+-- at the start the whole input is the rest
+TellsSoFar-start : (end : ℕ) (refs : List Ref) (input : List ℕ) → refs ≡ [] → TellsSoFar end refs input input
+TellsSoFar-start end refs input none = ([], (λ more cut. cut), none)
+
+-- one record more
+TellsSoFar-more : (end : ℕ) (old new : List Ref) (text first rest input : List ℕ) → text ≢ [] → IsFirstRecord end text first rest → AddsLine first old new → TellsSoFar end old text input → TellsSoFar end new rest input
+TellsSoFar-more end old new text first rest input full is line (done, cut, told) = (
+  done ++ first ∷ [],
+  (λ more those. subst (λ (rs : List (List ℕ)). AreRecords end rs input) (sym (append_assoc done (first ∷ []) more)) (cut (first ∷ more) (first_and_more end text first rest more full is.0 those is.1))),
+  AddsRefs-append done first [] old new told line,
+)
+
+-- in the end nothing is left
+TellRefs-end : (end : ℕ) (refs : List Ref) (rest input : List ℕ) → rest ≡ [] → TellsSoFar end refs rest input → TellRefs end input refs
+TellRefs-end end refs rest input none (done, cut, told) = (done, subst (λ (rs : List (List ℕ)). AreRecords end rs input) (append-nil done) (cut [] none), told)
+
+-- what holds of nothing holds by what follows from it
+pub on_none : {T : Type 0} (r : Option T) (P Q : Type 0) → IfNone r P → (P → Q) → IfNone r Q
+on_none None P Q holds gives = gives holds
+on_none (Some x) P Q holds gives = holds
+
+-- ---- names
+
+abbrev name_of : Ref → List ℕ
+name_of r = r.name
+
+-- the last ref is there after the others
+last_after : (refs : List Ref) (r : Ref) → IsLast refs r → refs ≡ take (length refs - 1) refs ++ r ∷ []
+last_after refs r last =
+    let below : length refs - 1 < length refs = slice_get_within refs (length refs - 1) r last in
+    let all : length refs ≡ (length refs - 1) + 1 = omega (arith, below) in
+    let is : get_or refs (length refs - 1) r ≡ r = get_or_from_slice_get refs (length refs - 1) r r last in
+    sym (take-length refs) ∙ (ap (λ k. take k refs) all ∙ (take_more refs (length refs - 1) r below ∙ ap (λ (x : Ref). take (length refs - 1) refs ++ x ∷ []) is))
+
+-- with another ref of its name in its place the names are the same
+replaced_names : (refs : List Ref) (r q : Ref) → IsLast refs r → r.name ≡ q.name → HaveSameNames refs (take (length refs - 1) refs ++ q ∷ [])
+replaced_names refs r q last same =
+    let front = take (length refs - 1) refs in
+    ap (map name_of) (last_after refs r last) ∙ (map-append name_of front (r ∷ []) ∙ (ap (λ (n : List ℕ). map name_of front ++ n ∷ []) same ∙ sym (map-append name_of front (q ∷ []))))
+
+-- the last name is that of the last ref, also of items
+last_name : (refs : List Ref) (n : List ℕ) → slice_get (map name_of refs) (length refs - 1) ≡ Some n → HasLast refs n
+last_name refs n is = found (slice_get refs (length refs - 1)) refl (sym (slice_get-map name_of refs (length refs - 1)) ∙ is)
+  where
+    found : (r : Option Ref) → slice_get refs (length refs - 1) ≡ r → option_map name_of r ≡ Some n → HasLast refs n
+    found None here named = absurd (cc)
+    found (Some r) here named = (r, here, cc)
+
+name_last : (refs : List Ref) (n : List ℕ) → HasLast refs n → slice_get (map name_of refs) (length refs - 1) ≡ Some n
+name_last refs n (r, last, named) = slice_get-map name_of refs (length refs - 1) ∙ (ap (option_map name_of) last ∙ ap Some named)
+
+pub HasLast-iff : (items : List Item) (last : Bor Item) (n : List ℕ) (named : Bool) → Some last.now ≡ slice_get items (length items - 1) → (IsTrue named ↔ (bstr_bytes last.now.full_ref_name ≡ n)) → IsTrue named ↔ HasLast (map ref_of items) n
+HasLast-iff items last n named is (to, back) =
+    let refs = map ref_of items in
+    let here : slice_get refs (length refs - 1) ≡ Some (ref_of last.now) = ap (λ k. slice_get refs (k - 1)) (length-map items ref_of) ∙ (slice_get-map ref_of items (length items - 1) ∙ ap (option_map ref_of) (sym is)) in (
+      λ yes. (ref_of last.now, here, to yes),
+      λ has. back (one (ref_of last.now) has.0 (sym here ∙ has.1) has.2),
+    )
+  where
+    one : (r q : Ref) → Some r ≡ Some q → q.name ≡ n → r.name ≡ n
+    one r q same is = let whole : r ≡ q = cc in ap name_of whole ∙ is
+
+-- and of refs with the same names
+last_also : (refs others : List Ref) (n : List ℕ) → HaveSameNames refs others → HasLast refs n → HasLast others n
+last_also refs others n same has =
+    let long : length others ≡ length refs = sym (length-map others name_of) ∙ (ap length (sym same) ∙ length-map refs name_of) in
+    last_name others n (ap (λ k. slice_get (map name_of others) (k - 1)) long ∙ (ap (λ ns. slice_get ns (length refs - 1)) (sym same) ∙ name_last refs n has))
+
+-- a line of a ref
+pub AddsLineByNames-ref : (line : List ℕ) (r : Ref) (old new : List Ref) → TellsName line r.name → ((tag : List ℕ) → ¬ (r.name ≡ tag ++ peeled)) → new ≡ old ++ r ∷ [] → AddsLineByNames line old new
+AddsLineByNames-ref line r old new (id, says) whole grown refs same =
+    let told : Ref = record { name = r.name; target = id; object = None } in (
+      refs ++ told ∷ [],
+      inl (told, record { says = says; whole = whole; object = refl }, refl),
+      ap (map name_of) grown ∙ (map-append name_of old (r ∷ []) ∙ (ap (λ ns. ns ++ r.name ∷ []) same ∙ sym (map-append name_of refs (told ∷ [])))),
+    )
+
+-- that of a tag, which is the last ref
+pub AddsLineByNames-peeled : (line tag : List ℕ) (old new : List Ref) → TellsName line (tag ++ peeled) → HasLast old tag → new ≡ old → AddsLineByNames line old new
+AddsLineByNames-peeled line tag old new (id, says) has stays refs same =
+    let (r, last, named) = last_also old refs tag same has in
+    let joined : Ref = record r { object = Some id } in (
+      take (length refs - 1) refs ++ joined ∷ [],
+      inr (inl (record { tag = r; id = id; says = subst (λ (x : List ℕ). IsIdThen line id (x ++ peeled)) (sym named) says; last = last; joined = refl })),
+      ap (map name_of) stays ∙ (same ∙ replaced_names refs r joined last refl),
+    )
+
+-- a line that is passed over
+pub AddsLineByNames-passed : (line tag : List ℕ) (old new : List Ref) → TellsName line (tag ++ peeled) → new ≡ old → AddsLineByNames line old new
+AddsLineByNames-passed line tag old new (id, says) stays refs same = (refs, inr (inr (inl (record { tag = tag; id = id; says = says }), refl)), ap (map name_of) stays ∙ same)
+
+pub AddsLineByNames-none : (line : List ℕ) (old new : List Ref) → IsNoRefLine line → new ≡ old → AddsLineByNames line old new
+AddsLineByNames-none line old new none stays refs same = (refs, inr (inr (inr none, refl)), ap (map name_of) stays ∙ same)
+
+-- some records told of refs with the names so far
+abbrev pub TellsNamesSoFar : ℕ → List Ref → List ℕ → List ℕ → Type 0
+TellsNamesSoFar end named rest input = (refs : List Ref) × TellsSoFar end refs rest input × HaveSameNames named refs
+
+pub TellsNamesSoFar-start : (end : ℕ) (named : List Ref) (input : List ℕ) → named ≡ [] → TellsNamesSoFar end named input input
+TellsNamesSoFar-start end named input none = ([], TellsSoFar-start end [] input refl, ap (map name_of) none)
+
+pub TellsNamesSoFar-more : (end : ℕ) (old new : List Ref) (text first rest input : List ℕ) → text ≢ [] → IsFirstRecord end text first rest → AddsLineByNames first old new → TellsNamesSoFar end old text input → TellsNamesSoFar end new rest input
+TellsNamesSoFar-more end old new text first rest input full is adds (refs, told, same) =
+    let (more, line, also) = adds refs same in
+    (more, TellsSoFar-more end refs more text first rest input full is line told, also)
+
+pub TellNames-end : (end : ℕ) (named : List Ref) (rest input : List ℕ) → rest ≡ [] → TellsNamesSoFar end named rest input → TellNames end input named
+TellNames-end end named rest input none (refs, told, same) = (refs, TellRefs-end end refs rest input none told, same)

@@ -1,0 +1,9 @@
+-- Each leaves the results as they were.
+use Rattle.refspec_run.proofs.ShownLemmas.{KeepsPage-next, KeepsPage-same}
+use Rattle.refspec_run.proofs.planning.tell_bad_records.Goals as goal
+
+pub loop-record-init : goal.loop-record-init
+loop-record-init c = KeepsPage-same c.args.page.now
+
+pub loop-record-preserved : goal.loop-record-preserved
+loop-record-preserved c = KeepsPage-next c.args.page.now c.loop-record.page c.tell_bad_record.new.page c.loop-record.invariant c.in_ok-tell_bad_record.ensures

@@ -1,0 +1,54 @@
+-- How conflicts are told, in lines. This project's own rule. Of JSON nothing is said here.
+use Rattle.std.specs.Prelude.{◌≡◌, ℕ, ◌+◌, List, [], ◌∷◌, ◌++◌, unwrap_or, codes, ⊤}
+use Rattle.std.specs.List.{slice_get}
+use Rattle.gix_refspec.specs.Matching.Mappings.{Start}
+use Rattle.gix_refspec.specs.Matching.Validation.{Conflict}
+use Rattle.refspec_run.specs.declared.call.Form.{Form}
+use Rattle.refspec_run.specs.declared.call.Form.TheVariants as form
+use Rattle.refspec_run.specs.Rows.{source_text}
+use Rattle.refspec_run.specs.Shown.{IsQuoted}
+
+-- the line of a source, with the text of the spec that maps it
+pub record IsClaim (source text line : List ℕ) : Type 0 where
+  pub first : List ℕ
+  pub second : List ℕ
+  pub is_first : IsQuoted source first
+  pub is_second : IsQuoted text second
+  pub is : line ≡ codes "    " ++ (first ++ (codes " by " ++ (second ++ (10 ∷ []))))
+
+-- the messages grew by that line
+abbrev pub PutsClaim : List ℕ → List ℕ → List ℕ → List ℕ → Type 0
+PutsClaim source text old new = (line : List ℕ) × IsClaim source text line × (new ≡ old ++ line)
+
+-- a line for each source, in order, with the text at its place; the first one's place is k
+abbrev pub AreClaims : ℕ → List Start → List (List ℕ) → List ℕ → Type 0
+AreClaims k [] texts lines = lines ≡ []
+AreClaims k (s ∷ sources) texts lines =
+    (line : List ℕ) × (rest : List ℕ) × IsClaim (source_text s) (unwrap_or (slice_get texts k) []) line × AreClaims (k + 1) sources texts rest × (lines ≡ line ++ rest)
+
+-- the messages grew by these lines
+abbrev pub PutsClaims : List Start → List (List ℕ) → List ℕ → List ℕ → Type 0
+PutsClaims sources texts old new = (lines : List ℕ) × AreClaims 0 sources texts lines × (new ≡ old ++ lines)
+
+-- what is told of a conflict: its destination, a line for each source that is mapped to it, and what to do
+pub record IsToldConflict (c : Conflict) (lines : List ℕ) : Type 0 where
+  pub shown : List ℕ
+  pub claims : List ℕ
+  pub advice : List ℕ
+  pub destination : IsQuoted c.destination shown
+  pub each : AreClaims 0 c.sources c.texts claims
+  pub is : lines ≡ codes "conflict: " ++ (shown ++ (codes " would be written from several refs, so nothing is fetched:\n" ++ (claims ++ advice)))
+
+-- the messages grew by it
+abbrev pub PutsConflict : Conflict → List ℕ → List ℕ → Type 0
+PutsConflict c old new = (lines : List ℕ) × IsToldConflict c lines × (new ≡ old ++ lines)
+
+-- what is told of conflicts, one after another
+abbrev pub AreToldConflicts : List Conflict → List ℕ → Type 0
+AreToldConflicts [] lines = lines ≡ []
+AreToldConflicts (c ∷ cs) lines = (one : List ℕ) × (rest : List ℕ) × IsToldConflict c one × AreToldConflicts cs rest × (lines ≡ one ++ rest)
+
+-- the messages grew by what is told of the conflicts
+abbrev pub AddsConflicts : Form → List Conflict → List ℕ → List ℕ → Type 0
+AddsConflicts form.Json cs old new = ⊤
+AddsConflicts _ cs old new = (lines : List ℕ) × AreToldConflicts cs lines × (new ≡ old ++ lines)

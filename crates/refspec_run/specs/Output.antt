@@ -1,0 +1,64 @@
+-- What a call writes: its results, and of a plan what its messages say of conflicts. Of `check` and `explain` nothing is
+-- said here.
+use Rattle.std.specs.Prelude.{◌≡◌, ℕ, Bool, List, [], Option, map, MatchBool, ⊤}
+use Rattle.std.specs.Io.KnownBytes.{Appends}
+use Rattle.refspec_text.specs.declared.parsing.Operation.{Operation}
+use Rattle.gix_refspec.specs.Specs.Reading.{Reading}
+use Rattle.refspec_run.specs.declared.call.Call.{Call}
+use Rattle.refspec_run.specs.declared.call.Command.{Command}
+use Rattle.refspec_run.specs.declared.call.Command.TheVariants as command
+use Rattle.refspec_run.specs.declared.call.Form.{Form}
+use Rattle.refspec_run.specs.declared.checked.Checked.{Checked}
+use Rattle.refspec_run.specs.Canon.{AddsCanonical, AreCanonical}
+use Rattle.refspec_run.specs.Input.{ReadsToEnd, end_byte}
+use Rattle.refspec_run.specs.Plan.{AddsPlan}
+use Rattle.refspec_run.specs.Prefixes.{AddsPrefixes}
+use Rattle.refspec_run.specs.Read.{AddsIfGood, AddsIfRead}
+use Rattle.refspec_run.specs.Shown.{AddsNames}
+use Rattle.refspec_run.specs.Texts.{AreTexts, spec_input}
+use Rattle.refspec_run.specs.Track.{AddsTracked}
+
+-- the canonical texts of the texts, each shown as the call says
+abbrev pub ShowsCanon : Call → List (Operation × List ℕ) → List ℕ → Type 0
+ShowsCanon call texts output = (names : List (List ℕ)) × AreCanonical texts names × AddsNames call.form [] names [] output
+
+-- the results grew by what a command tells of specs that are read so
+abbrev pub AddsFound : Command → Call → List ℕ → Form → List ℕ → List Reading → List ℕ → List ℕ → Type 0
+AddsFound command.Plan call input form messages g old new = AddsPlan form (end_byte call.ends) input messages g old new
+AddsFound command.Track call input form messages g old new = AddsTracked form (map (λ w. w.now) call.refs.items) g old new
+AddsFound command.Prefixes call input form messages g old new = AddsPrefixes call.patterns form g old new
+AddsFound _ call input form messages g old new = ⊤
+
+-- what a command shows of the texts and its input
+abbrev pub Shows : Command → Call → List ℕ → List (Operation × List ℕ) → List ℕ → List ℕ → Type 0
+Shows command.Canon call input texts messages output = ShowsCanon call texts output
+Shows command.Check call input texts messages output = ⊤
+Shows command.Explain call input texts messages output = ⊤
+Shows found call input texts messages output = AddsIfRead (AddsFound found call input call.form messages) call.form texts [] output
+
+-- the messages and the output of a call for the file beside its input and its input
+abbrev pub IsOutput : Call → List ℕ → List ℕ → List ℕ → List ℕ → Type 0
+IsOutput call beside input messages output =
+    (texts : List (Operation × List ℕ)) × AreTexts call.ends call.operation (map (λ w. w.now) call.specs.items) beside (spec_input call.command input) texts
+    × Shows call.command call input texts messages output
+
+-- the input is all that the reader had left, where the call reads it
+abbrev pub IsInput : Bool → Option (List ℕ) → Option (List ℕ) → List ℕ → Type 0
+IsInput reads old new input = MatchBool reads (ReadsToEnd old new input) (input ≡ [])
+
+-- the output and the messages of the call for what it read were written
+pub record Answers (call : Call) (beside : List ℕ) (reader_old reader_new writer_old writer_new errors_old errors_new : Option (List ℕ)) : Type 0 where
+  pub input : List ℕ
+  pub output : List ℕ
+  pub messages : List ℕ
+  pub read : IsInput call.reads_input reader_old reader_new input
+  pub is : IsOutput call beside input messages output
+  pub written : Appends writer_old writer_new output
+  pub told : Appends errors_old errors_new messages
+
+-- what a command told of what was checked and of its input
+abbrev pub Tells : Command → Call → List ℕ → Form → List ℕ → List Checked → List ℕ → List ℕ → Type 0
+Tells command.Canon call input form messages all old new = AddsCanonical form all old new
+Tells command.Check call input form messages all old new = ⊤
+Tells command.Explain call input form messages all old new = ⊤
+Tells found call input form messages all old new = AddsIfGood (AddsFound found call input form messages) form all old new

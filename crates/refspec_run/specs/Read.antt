@@ -1,0 +1,47 @@
+-- What a text is, in the words of the library.
+use Rattle.std.specs.Prelude.{◌≡◌, ◌⊎◌, ℕ, List, [], ◌∷◌, ⊤}
+use Rattle.std.specs.List.{AllZip}
+use Rattle.refspec_text.specs.declared.parsing.Operation.{Operation}
+use Rattle.gix_refspec.specs.Specs.Grammar.{Reads}
+use Rattle.gix_refspec.specs.Specs.Reading.{Reading}
+use Rattle.gix_refspec.specs.Specs.Refusal.{IsRefused, Refusal}
+use Rattle.gix_refspec.specs.Views.Spec.{reading_of}
+use Rattle.gix_refspec.specs.Views.Instruction.{ShowsRefusal}
+use Rattle.refspec_run.specs.declared.call.Form.{Form}
+use Rattle.refspec_run.specs.declared.checked.Checked.{Checked}
+use Rattle.refspec_run.specs.declared.checked.Checked.TheVariants as checked
+use Rattle.refspec_run.specs.declared.texts.Text.{Text}
+use Rattle.refspec_run.specs.Shown.{KeepsResults}
+
+-- a text was read as a spec for its operation, or the first reason against it was found
+abbrev pub IsChecked : Text → Checked → Type 0
+IsChecked t (checked.Good text spec) = Reads t.operation t.bytes.now (reading_of spec)
+IsChecked t (checked.Bad text error) = ShowsRefusal (IsRefused t.operation t.bytes.now) error
+
+-- what was checked is a spec, read as this
+abbrev pub IsSpec : Checked → Reading → Type 0
+IsSpec (checked.Good text spec) r = r ≡ reading_of spec
+IsSpec (checked.Bad text error) r = ⊥
+
+-- something that was checked is no spec
+abbrev pub HasBad : List Checked → Type 0
+HasBad [] = ⊥
+HasBad (checked.Good text spec ∷ all) = HasBad all
+HasBad (checked.Bad text error ∷ all) = ⊤
+
+-- the texts are read as these, in order
+abbrev pub AreRead : List (Operation × List ℕ) → List Reading → Type 0
+AreRead texts g = AllZip (λ t r. Reads t.0 t.1 r) texts g
+
+-- some text is refused
+abbrev pub HasRefused : List (Operation × List ℕ) → Type 0
+HasRefused [] = ⊥
+HasRefused (t ∷ texts) = ((e : Refusal) × IsRefused t.0 t.1 e) ⊎ HasRefused texts
+
+-- the results grew by what is told of specs that are read so; where some text is refused, they stayed as they were
+abbrev pub AddsIfRead : (List Reading → List ℕ → List ℕ → Type 0) → Form → List (Operation × List ℕ) → List ℕ → List ℕ → Type 0
+AddsIfRead Adds form texts old new = ((g : List Reading) × AreRead texts g × Adds g old new) ⊎ (HasRefused texts × KeepsResults form old new)
+
+-- the same of texts that were checked
+abbrev pub AddsIfGood : (List Reading → List ℕ → List ℕ → Type 0) → Form → List Checked → List ℕ → List ℕ → Type 0
+AddsIfGood Adds form all old new = ((g : List Reading) × AllZip IsSpec all g × Adds g old new) ⊎ (HasBad all × KeepsResults form old new)

@@ -1,0 +1,24 @@
+//! What the program `refspec` does: it tells of refspecs whether they are right, what they mean, and what
+//! a fetch with them writes. The program reads the words of a call, and names the input and the outputs.
+#![tactic(auto)]
+
+mod blame;
+pub mod call;
+mod canon;
+mod checked;
+pub mod fault;
+pub mod input;
+mod json;
+mod mappings;
+mod page;
+mod plan;
+mod planning;
+mod prefixes;
+mod quote;
+mod refs;
+pub mod run;
+mod sentence;
+mod specs;
+mod table;
+mod texts;
+mod track;

@@ -1,0 +1,366 @@
+//! How a plan is shown: its mappings as results, and conflicts and what is left out as messages.
+
+ghost use Rattle.std.specs.Prelude.{◌≡◌, ◌∷◌, [], map, OnOk};
+ghost use Rattle.bstr.specs.Owned.{bstring_bytes};
+ghost use Rattle.gix_refspec.specs.Views.Group.{start_of};
+ghost use Rattle.gix_refspec.specs.Views.Issue.{conflict_of};
+ghost use Rattle.gix_refspec.specs.Views.Spec.{reading_of};
+ghost use Rattle.refspec_run.specs.Conflicts.{AddsConflicts, PutsClaim, PutsClaims, PutsConflict};
+ghost use Rattle.refspec_run.specs.Input.{end_byte};
+ghost use Rattle.refspec_run.specs.Plan.{AddsPlan, AddsWritten};
+ghost use Rattle.refspec_run.specs.Shown.{KeepsPage, KeepsResults};
+
+use crate::call::{Call, Form};
+use crate::input::end_of;
+use crate::json;
+use crate::mappings::{Columns, canonical_texts, source_of, tell_mappings, text_at};
+use crate::page::{Page, put_advice};
+use crate::plan::{Written, plan_of};
+use crate::quote::put_quoted;
+use crate::refs::{BadRecord, Told};
+use crate::texts::Place;
+use bstr::{BString, ByteSlice};
+use gix_refspec::match_group::SourceRef;
+use gix_refspec::match_group::names::{BadMapping, BadSide};
+use gix_refspec::match_group::validate::Issue;
+use gix_refspec::oid::{Kind, ObjectId};
+use gix_refspec::{RefSpecRef, name};
+use std::alloc::{AllocError, Global};
+use std::mem;
+
+/// Tells what a fetch with these specs writes of the refs of an input.
+pub fn tell_plan(
+    alloc: Global,
+    call: &Call<'_>,
+    specs: Vec<RefSpecRef<'_>>,
+    input: &[u8],
+    page: &mut Page,
+) -> Result<(), AllocError>
+    ensures { OnOk result (AddsPlan page.old.form (end_byte call.now.ends) input.now
+        page.new.messages.items (map reading_of specs.entry.items)
+        page.old.results.items page.new.results.items) }
+{
+    let id = ObjectId::null(Kind::shortest());
+    let told = Told::read(alloc, input, end_of(call.ends), &id)?;
+    tell_bad_records(alloc, call.input, told.bad.as_slice(), page)?;
+    let texts = canonical_texts(alloc, specs.as_slice())?;
+    let plan = plan_of(alloc, specs, told.items.as_slice())?;
+    drop(told);
+    tell_all_left_out(alloc, plan.left_out.as_slice(), texts.as_slice(), page)?;
+    tell_written(alloc, &plan.written, texts.as_slice(), page)?;
+    // The process ends soon, and to free name by name before that takes long.
+    mem::forget(plan);
+    Ok(())
+}
+
+// Tells the mappings that are written, or the conflicts for which none is.
+fn tell_written(
+    alloc: Global,
+    written: &Written<'_, '_>,
+    texts: &[BString],
+    page: &mut Page,
+) -> Result<(), AllocError>
+    ensures { OnOk result (AddsWritten page.old.form (map bstring_bytes texts.now) written.now
+        page.old.messages.items page.new.messages.items
+        page.old.results.items page.new.results.items) }
+{
+    match written {
+        Written::Mappings(outcome) => tell_mappings(
+            alloc,
+            outcome.mappings.as_slice(),
+            texts,
+            Columns::SourceFirst,
+            page,
+        ),
+        Written::Nothing(error) => tell_conflicts(alloc, error.issues.as_slice(), page),
+    }
+}
+
+// Tells of records that tell of no ref.
+fn tell_bad_records(
+    alloc: Global,
+    input: &str,
+    bad: &[BadRecord<'_>],
+    page: &mut Page,
+) -> Result<(), AllocError>
+    ensures { OnOk result (KeepsPage page.old page.new) }
+{
+    for record in bad {
+        tell_bad_record(alloc, input, record, page)?;
+    }
+    Ok(())
+}
+
+// Tells of mappings that are left out.
+fn tell_all_left_out(
+    alloc: Global,
+    left_out: &[BadMapping<'_, '_>],
+    texts: &[BString],
+    page: &mut Page,
+) -> Result<(), AllocError>
+    ensures { OnOk result (KeepsPage page.old page.new) }
+{
+    for bad in left_out {
+        tell_left_out(alloc, bad, texts, page)?;
+    }
+    Ok(())
+}
+
+// Tells of conflicts.
+fn tell_conflicts(alloc: Global, issues: &[Issue], page: &mut Page) -> Result<(), AllocError>
+    ensures kept { OnOk result (KeepsResults page.old.form
+        page.old.results.items page.new.results.items) }
+    ensures told { OnOk result (AddsConflicts page.old.form (map conflict_of issues.now)
+        page.old.messages.items page.new.messages.items) }
+{
+    for issue in issues {
+        tell_conflict(alloc, issue, page)?;
+    }
+    Ok(())
+}
+
+// Tells of a record that tells of no ref.
+fn tell_bad_record(
+    alloc: Global,
+    input: &str,
+    bad: &BadRecord<'_>,
+    page: &mut Page,
+) -> Result<(), AllocError>
+    ensures { OnOk result (KeepsPage page.old page.new) }
+{
+    page.refused = true;
+    let place = Place::Record {
+        input,
+        number: bad.number,
+    };
+    match page.form {
+        Form::Json => put_malformed(alloc, &place, bad, &mut page.results),
+        Form::Lines | Form::Zeros => put_bad_record(alloc, &place, bad, &mut page.messages),
+    }
+}
+
+// Why a record tells of no ref, and what to do.
+fn why_malformed(bad: &BadRecord<'_>) -> (&'static str, &'static str) {
+    if bad.is_peeled {
+        (
+            "The tag that this line peels does not stand right before it.",
+            "Keep the lines in the order in which Git prints them.",
+        )
+    } else {
+        (
+            "This is no ref: a line is an object id, a tab or a space, and a name.",
+            "Give the output of `git ls-remote`, `git show-ref -d` or `git for-each-ref --format='%(objectname) %(refname)'`.",
+        )
+    }
+}
+
+// Puts the object of such a record at the end.
+fn put_malformed(
+    alloc: Global,
+    place: &Place<'_>,
+    bad: &BadRecord<'_>,
+    out: &mut Vec<u8>,
+) -> Result<(), AllocError> {
+    let (message, _) = why_malformed(bad);
+    let place = json::shown_place(alloc, place)?;
+    let text = json::text_of(alloc, bad.bytes)?;
+    let object = refspec_json::Malformed {
+        kind: "malformed",
+        place: place.as_str(),
+        text: text.as_str(),
+        message,
+    };
+    refspec_json::put_line(alloc, out, &object)
+}
+
+// Puts the lines of such a record at the end.
+fn put_bad_record(
+    alloc: Global,
+    place: &Place<'_>,
+    bad: &BadRecord<'_>,
+    out: &mut Vec<u8>,
+) -> Result<(), AllocError> {
+    let (message, advice) = why_malformed(bad);
+    place.put(alloc, out)?;
+    out.extend_from_slice(b": ")?;
+    put_quoted(out, bad.bytes)?;
+    out.extend_from_slice(b": ")?;
+    out.extend_from_slice(message.as_bytes())?;
+    out.push(b'\n')?;
+    put_advice(out, advice)
+}
+
+// Tells of a mapping that is left out, as a side of it is no name of a ref.
+fn tell_left_out(
+    alloc: Global,
+    bad: &BadMapping<'_, '_>,
+    texts: &[BString],
+    page: &mut Page,
+) -> Result<(), AllocError>
+    ensures { OnOk result (KeepsPage page.old page.new) }
+{
+    page.refused = true;
+    let mut buffer = Vec::new(alloc);
+    let source = source_of(&bad.mapping.lhs, &mut buffer)?;
+    let spec = text_at(texts, bad.mapping.spec_index);
+    match page.form {
+        Form::Json => put_left_out_object(alloc, bad, source, spec, &mut page.results),
+        Form::Lines | Form::Zeros => put_left_out(bad, source, spec, &mut page.messages),
+    }
+}
+
+// The destination of a mapping that is left out.
+fn destination_of<'a>(bad: &'a BadMapping<'_, '_>) -> Option<&'a [u8]> {
+    match &bad.mapping.rhs {
+        Some(name) => Some(name.as_bstr().as_bytes()),
+        None => None,
+    }
+}
+
+// The side that is no name of a ref, the source if both are.
+fn wrong_of<'a>(bad: &'a BadMapping<'_, '_>, source: &'a [u8]) -> &'a [u8] {
+    match bad.side {
+        BadSide::Source | BadSide::Both => source,
+        BadSide::Destination => destination_of(bad).unwrap_or(b""),
+    }
+}
+
+// Puts the object of what is left out at the end.
+fn put_left_out_object(
+    alloc: Global,
+    bad: &BadMapping<'_, '_>,
+    source: &[u8],
+    spec: &[u8],
+    out: &mut Vec<u8>,
+) -> Result<(), AllocError> {
+    let message = why_left_out(wrong_of(bad, source));
+    let destination = destination_of(bad);
+    let source = json::text_of(alloc, source)?;
+    let shown = json::text_of(alloc, destination.unwrap_or(b""))?;
+    let spec = json::text_of(alloc, spec)?;
+    let object = refspec_json::LeftOut {
+        kind: "left out",
+        source: source.as_str(),
+        destination: destination.map(|_| shown.as_str()),
+        spec: spec.as_str(),
+        message,
+    };
+    refspec_json::put_line(alloc, out, &object)
+}
+
+// Puts the line of what is left out at the end.
+fn put_left_out(
+    bad: &BadMapping<'_, '_>,
+    source: &[u8],
+    spec: &[u8],
+    out: &mut Vec<u8>,
+) -> Result<(), AllocError> {
+    let wrong = wrong_of(bad, source);
+    out.extend_from_slice(b"left out: ")?;
+    put_quoted(out, source)?;
+    if let Some(name) = destination_of(bad) {
+        out.extend_from_slice(b" -> ")?;
+        put_quoted(out, name)?;
+    }
+    out.extend_from_slice(b" (")?;
+    put_quoted(out, spec)?;
+    out.extend_from_slice(b"): ")?;
+    put_quoted(out, wrong)?;
+    out.extend_from_slice(b" is no name of a ref. ")?;
+    out.extend_from_slice(why_left_out(wrong).as_bytes())?;
+    out.push(b'\n')?;
+    Ok(())
+}
+
+// Why a name is none of a ref.
+fn why_left_out(name: &[u8]) -> &'static str {
+    match name::name_partial(bstr::BStr::new(name)) {
+        Err(fault) => fault.explanation(),
+        Ok(()) => "A ref is `HEAD`, or its name begins with `refs/`.",
+    }
+}
+
+// Tells of a destination that several sources are mapped to.
+fn tell_conflict(alloc: Global, issue: &Issue, page: &mut Page) -> Result<(), AllocError>
+    ensures kept { OnOk result (KeepsPage page.old page.new) }
+    ensures told { OnOk result (AddsConflicts page.old.form (conflict_of issue.now ∷ [])
+        page.old.messages.items page.new.messages.items) }
+{
+    page.refused = true;
+    match page.form {
+        Form::Json => put_conflict_object(alloc, issue, &mut page.results),
+        Form::Lines | Form::Zeros => put_conflict(alloc, issue, &mut page.messages),
+    }
+}
+
+// Puts the object of a conflict at the end.
+fn put_conflict_object(alloc: Global, issue: &Issue, out: &mut Vec<u8>) -> Result<(), AllocError> {
+    let Issue::Conflict {
+        destination_full_ref_name,
+        sources,
+        specs,
+    } = issue;
+    let mut buffer = Vec::new(alloc);
+    let mut claims = Vec::with_capacity(alloc, sources.len())?;
+    for (source, spec) in sources.iter().zip(specs) {
+        claims.push(refspec_json::Claim {
+            source: json::text_of(alloc, source_of(source, &mut buffer)?)?,
+            spec: json::text_of(alloc, spec.as_bytes())?,
+        })?;
+    }
+    let destination = json::text_of(alloc, destination_full_ref_name.as_bytes())?;
+    let object = refspec_json::Conflict {
+        kind: "conflict",
+        destination: destination.as_str(),
+        sources: claims.as_slice(),
+    };
+    refspec_json::put_line(alloc, out, &object)
+}
+
+// Puts the lines of a conflict at the end.
+fn put_conflict(alloc: Global, issue: &Issue, out: &mut Vec<u8>) -> Result<(), AllocError>
+    ensures { OnOk result (PutsConflict (conflict_of issue.now) out.old.items out.new.items) }
+{
+    let Issue::Conflict {
+        destination_full_ref_name,
+        sources,
+        specs,
+    } = issue;
+    out.extend_from_slice(b"conflict: ")?;
+    put_quoted(out, destination_full_ref_name.as_bytes())?;
+    out.extend_from_slice(b" would be written from several refs, so nothing is fetched:\n")?;
+    put_claims(alloc, sources.as_slice(), specs.as_slice(), out)?;
+    put_advice(
+        out,
+        "Give one of these specs another destination, or leave a source out by a spec such as `^refs/heads/x`.",
+    )
+}
+
+// Puts a line for each source at the end, with the text of the spec at its place.
+fn put_claims(
+    alloc: Global,
+    sources: &[SourceRef<'_>],
+    texts: &[BString],
+    out: &mut Vec<u8>,
+) -> Result<(), AllocError>
+    ensures { OnOk result (PutsClaims (map start_of sources.now) (map bstring_bytes texts.now)
+        out.old.items out.new.items) }
+{
+    let mut buffer = Vec::new(alloc);
+    for (place, source) in sources.iter().enumerate() {
+        put_claim(source_of(source, &mut buffer)?, text_at(texts, place), out)?;
+    }
+    Ok(())
+}
+
+// Puts the line of a source at the end, with the text of its spec.
+fn put_claim(source: &[u8], text: &[u8], out: &mut Vec<u8>) -> Result<(), AllocError>
+    ensures { OnOk result (PutsClaim source.now text.now out.old.items out.new.items) }
+{
+    out.extend_from_slice(b"    ")?;
+    put_quoted(out, source)?;
+    out.extend_from_slice(b" by ")?;
+    put_quoted(out, text)?;
+    out.push(b'\n')?;
+    Ok(())
+}

@@ -1,0 +1,176 @@
+//! What to ask a server for.
+
+ghost use Rattle.std.specs.Prelude.{◌≡◌, ◌∷◌, [], map, IfOk, IfSome, MatchOption, OnOk};
+ghost use Rattle.bstr.specs.Owned.{bstring_bytes};
+ghost use Rattle.gix_refspec.specs.Matching.Asked.{HasNoList, ListsGroup, Serves};
+ghost use Rattle.gix_refspec.specs.Views.Group.{readings_of};
+ghost use Rattle.gix_refspec.specs.Views.Spec.{reading_of};
+ghost use Rattle.refspec_run.specs.Prefixes.{AddsAll, AddsPrefixes, argument, request};
+ghost use Rattle.refspec_run.specs.Shown.{AddsNames, KeepsPage};
+
+use crate::call::Form;
+use crate::json;
+use crate::page::Page;
+use crate::quote::put_quoted;
+use bstr::BString;
+use gix_refspec::{MatchGroup, RefSpecRef};
+use std::alloc::{AllocError, Global};
+
+/// Tells what to ask a server for, so that it tells of each ref that the specs map; or that all refs have
+/// to be asked for, and which specs are the reason.
+pub fn tell_prefixes(
+    alloc: Global,
+    specs: Vec<RefSpecRef<'_>>,
+    patterns: bool,
+    page: &mut Page,
+) -> Result<(), AllocError>
+    ensures { OnOk result (AddsPrefixes patterns page.old.form (map reading_of specs.entry.items)
+        page.old.results.items page.new.results.items) }
+{
+    let group = MatchGroup { specs };
+    match prefixes_of(alloc, &group)? {
+        None => tell_all(alloc, &group, page),
+        Some(prefixes) => tell_list(alloc, prefixes.as_slice(), patterns, page),
+    }
+}
+
+/// What to ask a server for, or `None` where only a request for all refs is safe.
+pub fn prefixes_of(
+    alloc: Global,
+    group: &MatchGroup<'_>,
+) -> Result<Option<Vec<BString>>, AllocError>
+    ensures ok { IfOk result (λ asked. MatchOption asked
+        (HasNoList (readings_of group.now))
+        (λ list. ListsGroup (readings_of group.now) (map bstring_bytes list.items))) }
+    ensures serves { IfOk result (λ asked. IfSome asked (λ list.
+        Serves (map bstring_bytes list.items) (readings_of group.now))) }
+{
+    group.ref_prefixes(alloc)
+}
+
+// Tells prefixes, in order.
+fn tell_list(
+    alloc: Global,
+    prefixes: &[BString],
+    patterns: bool,
+    page: &mut Page,
+) -> Result<(), AllocError>
+    ensures { OnOk result (AddsNames page.old.form (argument patterns)
+        (map (λ p. request patterns (bstring_bytes p)) prefixes.now)
+        page.old.results.items page.new.results.items) }
+{
+    for prefix in prefixes {
+        tell_prefix(alloc, prefix.as_bytes(), patterns, page)?;
+    }
+    Ok(())
+}
+
+// Tells a prefix: as an argument of protocol v2, or as a pattern that matches each name which begins so.
+fn tell_prefix(
+    alloc: Global,
+    prefix: &[u8],
+    patterns: bool,
+    page: &mut Page,
+) -> Result<(), AllocError>
+    ensures form { OnOk result (page.new.form ≡ page.old.form) }
+    ensures told { OnOk result (AddsNames page.old.form (argument patterns)
+        (request patterns prefix.now ∷ []) page.old.results.items page.new.results.items) }
+{
+    let mut pattern = Vec::from_slice(alloc, prefix)?;
+    pattern.push(b'*')?;
+    match page.form {
+        Form::Json => put_object(alloc, prefix, pattern.as_slice(), &mut page.results),
+        Form::Lines | Form::Zeros => {
+            if patterns {
+                page.put_name(b"", pattern.as_slice())
+            } else {
+                page.put_name(b"ref-prefix ", prefix)
+            }
+        }
+    }
+}
+
+// Puts the object of a prefix at the end.
+fn put_object(
+    alloc: Global,
+    prefix: &[u8],
+    pattern: &[u8],
+    out: &mut Vec<u8>,
+) -> Result<(), AllocError> {
+    let prefix = json::text_of(alloc, prefix)?;
+    let pattern = json::text_of(alloc, pattern)?;
+    let object = refspec_json::Prefix {
+        kind: "prefix",
+        prefix: prefix.as_str(),
+        pattern: pattern.as_str(),
+    };
+    refspec_json::put_line(alloc, out, &object)
+}
+
+const WHY_ALL: &str =
+    "No prefix is safe, since its star does not follow a prefix below refs/. All refs have to be asked for.";
+
+// Tells that all refs have to be asked for, and for which specs.
+fn tell_all(alloc: Global, group: &MatchGroup<'_>, page: &mut Page) -> Result<(), AllocError>
+    ensures { OnOk result (AddsAll page.old.form
+        page.old.results.items page.new.results.items) }
+{
+    put_all(page)?;
+    for spec in &group.specs {
+        tell_if_reason(alloc, spec, page)?;
+    }
+    Ok(())
+}
+
+// Puts what means all refs at the end of the results.
+fn put_all(page: &mut Page) -> Result<(), AllocError>
+    ensures form { OnOk result (page.new.form ≡ page.old.form) }
+    ensures told { OnOk result (AddsAll page.old.form
+        page.old.results.items page.new.results.items) }
+{
+    match page.form {
+        Form::Lines => page.results.extend_from_slice(b"(all)\n"),
+        // The empty prefix, with which each name begins.
+        Form::Zeros => Ok(page.results.push(0)?),
+        Form::Json => Ok(()),
+    }
+}
+
+// Tells of a spec, if all refs have to be asked for it.
+fn tell_if_reason(alloc: Global, spec: &RefSpecRef<'_>, page: &mut Page) -> Result<(), AllocError>
+    ensures { OnOk result (KeepsPage page.old page.new) }
+{
+    let specs = Vec::from_slice(alloc, &[*spec])?;
+    match prefixes_of(alloc, &MatchGroup { specs })? {
+        None => tell_reason(alloc, spec, page),
+        Some(_) => Ok(()),
+    }
+}
+
+// Tells that a spec is the reason for which all refs have to be asked for.
+fn tell_reason(alloc: Global, spec: &RefSpecRef<'_>, page: &mut Page) -> Result<(), AllocError>
+    ensures { OnOk result (KeepsPage page.old page.new) }
+{
+    let canonical = spec.to_bstring(alloc)?;
+    match page.form {
+        Form::Json => put_reason(alloc, canonical.as_bytes(), &mut page.results),
+        Form::Lines | Form::Zeros => {
+            put_quoted(&mut page.messages, canonical.as_bytes())?;
+            page.messages.extend_from_slice(b": ")?;
+            page.messages.extend_from_slice(WHY_ALL.as_bytes())?;
+            page.messages.push(b'\n')?;
+            Ok(())
+        }
+    }
+}
+
+// Puts the object of such a spec at the end.
+fn put_reason(alloc: Global, spec: &[u8], out: &mut Vec<u8>) -> Result<(), AllocError> {
+    let shown = json::text_of(alloc, spec)?;
+    let object = refspec_json::All {
+        kind: "all",
+        spec: shown.as_str(),
+        message: WHY_ALL,
+    };
+    refspec_json::put_line(alloc, out, &object)
+}

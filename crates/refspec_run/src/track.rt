@@ -1,0 +1,177 @@
+//! Which refs of a remote tracking refs belong to.
+
+ghost use Rattle.std.specs.Prelude.{◌≡◌, map, replicate, IfOk, OnOk};
+ghost use Rattle.gix_refspec.specs.Views.Group.{mapped_of, ref_of};
+ghost use Rattle.gix_refspec.specs.Matching.Hits.{AreKeptBackward};
+ghost use Rattle.gix_refspec.specs.Texts.ObjectId.{id_bytes};
+ghost use Rattle.gix_refspec.specs.Views.Spec.{reading_of};
+ghost use Rattle.refspec_run.specs.Shown.{KeepsPage, KeepsResults};
+ghost use Rattle.refspec_run.specs.Track.{AddsTracked, named};
+
+use crate::call::{Call, Form};
+use crate::json;
+use crate::mappings::{Columns, canonical_texts, tell_mappings};
+use crate::page::Page;
+use crate::quote::put_quoted;
+use bstr::{BStr, BString};
+use gix_refspec::match_group::{Item, Mapping, match_rhs};
+use gix_refspec::oid::{Kind, ObjectId};
+use gix_refspec::{MatchGroup, RefSpecRef};
+use std::alloc::{AllocError, Global};
+
+/// Tells which refs of the remote the tracking refs of a call are fetched from, and which belong to none.
+pub fn tell_tracking(
+    alloc: Global,
+    call: &Call<'_>,
+    specs: Vec<RefSpecRef<'_>>,
+    page: &mut Page,
+) -> Result<(), AllocError>
+    ensures { OnOk result (AddsTracked page.old.form (map (λ w. w.now) call.now.refs.items)
+        (map reading_of specs.entry.items) page.old.results.items page.new.results.items) }
+{
+    let none = ObjectId::null(Kind::shortest());
+    let items = items_named(alloc, call.refs.as_slice(), &none)?;
+    let texts = canonical_texts(alloc, specs.as_slice())?;
+    let outcome = tracked(alloc, specs, items.as_slice())?;
+    let mappings = outcome.mappings.as_slice();
+    tell_mappings(
+        alloc,
+        mappings,
+        texts.as_slice(),
+        Columns::DestinationFirst,
+        page,
+    )?;
+    tell_others(alloc, call.refs.as_slice(), mappings, page)
+}
+
+// Refs with these names. They point to the null id: of a tracking ref the name alone is given.
+fn items_named<'a>(
+    alloc: Global,
+    names: &[&'a str],
+    target: &'a ObjectId,
+) -> Result<Vec<Item<'a>>, AllocError>
+    requires { id_bytes target.now ≡ replicate 20 0 }
+    ensures { IfOk result (λ items. map ref_of items.items ≡ map named (map (λ n. n.now) names.now)) }
+{
+    let mut items = Vec::with_capacity(alloc, names.len())?;
+    for name in names {
+        items.push(Item {
+            full_ref_name: BStr::new(name.as_bytes()),
+            target,
+            object: None,
+        })?;
+    }
+    Ok(items)
+}
+
+// Tells of the refs that no mapping has.
+fn tell_others(
+    alloc: Global,
+    names: &[&str],
+    mappings: &[Mapping<'_, '_>],
+    page: &mut Page,
+) -> Result<(), AllocError>
+    ensures { OnOk result (KeepsResults page.old.form
+        page.old.results.items page.new.results.items) }
+{
+    let found = found_of(alloc, names.len(), mappings)?;
+    for (name, is_found) in names.iter().zip(&found) {
+        tell_unless(alloc, *is_found, name.as_bytes(), page)?;
+    }
+    Ok(())
+}
+
+// Which of so many refs the mappings have.
+fn found_of(
+    alloc: Global,
+    count: usize,
+    mappings: &[Mapping<'_, '_>],
+) -> Result<Vec<bool>, AllocError> {
+    let mut found = vec![in alloc; false; count]?;
+    for mapping in mappings {
+        if let Some(at) = mapping.item_index
+            && let Some(place) = found.get_mut(at)
+        {
+            *place = true;
+        }
+    }
+    Ok(found)
+}
+
+/// What specs for a fetch map back of the items.
+pub fn tracked<'spec, 'item>(
+    alloc: Global,
+    specs: Vec<RefSpecRef<'spec>>,
+    items: &[Item<'item>],
+) -> Result<match_rhs::Outcome<'spec, 'item>, AllocError>
+    ensures { IfOk result (λ found. AreKeptBackward
+        (map reading_of specs.entry.items) (map ref_of items.now)
+        (map mapped_of found.mappings.items)) }
+{
+    let group = MatchGroup { specs };
+    match group.match_rhs(alloc, items) {
+        Ok(outcome) => Ok(outcome),
+        Err(_) => Err(AllocError),
+    }
+}
+
+// Tells of a ref that no spec writes, unless it was found.
+fn tell_unless(
+    alloc: Global,
+    is_found: bool,
+    name: &[u8],
+    page: &mut Page,
+) -> Result<(), AllocError>
+    ensures { OnOk result (KeepsPage page.old page.new) }
+{
+    if is_found {
+        return Ok(());
+    }
+    tell_untracked(alloc, name, page)
+}
+
+// Tells of a ref that no spec writes.
+fn tell_untracked(alloc: Global, name: &[u8], page: &mut Page) -> Result<(), AllocError>
+    ensures { OnOk result (KeepsPage page.old page.new) }
+{
+    page.refused = true;
+    let message = why_untracked(name);
+    match page.form {
+        Form::Json => put_object(alloc, name, message, &mut page.results),
+        Form::Lines | Form::Zeros => put_line(name, message, &mut page.messages),
+    }
+}
+
+// What there is to say of such a ref.
+fn why_untracked(name: &[u8]) -> &'static str {
+    if name.starts_with(b"refs/") {
+        "No spec writes this ref."
+    } else {
+        "No spec writes this ref. Give its full name, such as `refs/remotes/origin/main`."
+    }
+}
+
+// Puts the line of such a ref at the end.
+fn put_line(name: &[u8], message: &str, out: &mut Vec<u8>) -> Result<(), AllocError> {
+    put_quoted(out, name)?;
+    out.extend_from_slice(b": ")?;
+    out.extend_from_slice(message.as_bytes())?;
+    out.push(b'\n')?;
+    Ok(())
+}
+
+// Puts the object of such a ref at the end.
+fn put_object(
+    alloc: Global,
+    name: &[u8],
+    message: &str,
+    out: &mut Vec<u8>,
+) -> Result<(), AllocError> {
+    let name = json::text_of(alloc, name)?;
+    let object = refspec_json::Untracked {
+        kind: "untracked",
+        name: name.as_str(),
+        message,
+    };
+    refspec_json::put_line(alloc, out, &object)
+}
