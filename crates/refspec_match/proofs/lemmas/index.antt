@@ -3,6 +3,7 @@ pub mod IndexLemmas
 pub mod PlacesLemmas
 pub mod FirstPlacesLemmas
 pub mod PartialLemmas
+pub mod ShortTailLemmas
 pub mod FrontLemmas
 pub mod PlacedLemmas
 pub mod FittedLemmas

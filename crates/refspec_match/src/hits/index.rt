@@ -13,6 +13,7 @@ ghost use Rattle.refspec_match.specs.Private.Part.{FlagsRepeated};
 mod filter;
 pub(crate) mod fronts;
 mod partials;
+mod short_tails;
 
 use super::ends::{Direction, near_of};
 use super::repeated::{repeated_names, seem_repeated};

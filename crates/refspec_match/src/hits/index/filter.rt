@@ -21,11 +21,11 @@ const LEAST_MARKS: usize = 64;
 
 // Mixes the bytes of a number. Any odd number serves that has ones and zeros everywhere: this one is made
 // from the golden ratio.
-const MIXER: u64 = 0x9e37_79b9_7f4a_7c15;
+pub(super) const MIXER: u64 = 0x9e37_79b9_7f4a_7c15;
 
 // Marks of numbers by their lower bits.
 #[derive(Drop)]
-struct Marks {
+pub(super) struct Marks {
     flags: Vec<bool>,
     bits: u32,
 }
@@ -41,6 +41,13 @@ impl Marks {
         Ok(Marks { flags, bits })
     }
 
+    // No marks yet, and places for those of so many names.
+    pub(super) fn for_names(alloc: Global, count: usize) -> Result<Marks, AllocError>
+        ensures { IfOk result IsWhole }
+    {
+        Marks::new(alloc, count.saturating_mul(MARKS_A_NAME).max(LEAST_MARKS))
+    }
+
     // The place of the mark of a number.
     #[inline(always)]
     fn place(&self, number: u64) -> usize
@@ -51,7 +58,7 @@ impl Marks {
     }
 
     // Marks a number.
-    fn add(&mut self, number: u64)
+    pub(super) fn add(&mut self, number: u64)
         requires { IsWhole self.old }
         ensures whole { IsWhole self.new }
         ensures here { HasMark self.new number }
@@ -63,7 +70,7 @@ impl Marks {
 
     // Whether a number has a mark.
     #[inline(always)]
-    fn has(&self, number: u64) -> bool
+    pub(super) fn has(&self, number: u64) -> bool
         requires { IsWhole self.now }
         ensures { IsTrue result ↔ HasMark self.now number }
     {
@@ -97,11 +104,10 @@ impl Filter {
         ensures all { IfOk result (λ filter. AllByRecursion
             (Passes filter) (map name_bytes names.now)) }
     {
-        let room = names.len().saturating_mul(MARKS_A_NAME).max(LEAST_MARKS);
         let mut filter = Filter {
             lengths: Marks::new(alloc, LENGTHS)?,
-            tails: Marks::new(alloc, room)?,
-            hashes: Marks::new(alloc, room)?,
+            tails: Marks::for_names(alloc, names.len())?,
+            hashes: Marks::for_names(alloc, names.len())?,
         };
         for name in names {
             filter.add(name.as_bstr().as_bytes());

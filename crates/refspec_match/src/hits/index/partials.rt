@@ -9,6 +9,7 @@ ghost use Rattle.refspec_match.specs.Private.Filter.{IsWholeFilter, Passes};
 ghost use Rattle.refspec_match.specs.Private.Index.{AddsWhere, IsBelowPlace, Joins, JoinsFirst, ListPartials, list_of, name_at, places_listed};
 
 use super::filter::Filter;
+use super::short_tails::ShortTails;
 use super::{listed_in, without_places};
 use crate::hits::ends::Direction;
 use crate::types::{Item, NameRef};
@@ -42,8 +43,12 @@ impl<'n> PartialIndex<'n> {
             return Ok(PartialIndex { direction, places });
         }
         let filter = Filter::of(alloc, names)?;
+        let tails = ShortTails::of(alloc, names)?;
         for (place, item) in items.iter().enumerate() {
             let name = item.full_ref_name.as_bytes();
+            if !tails.may_have(name) {
+                continue;
+            }
             add_item(direction, name, place, items, &filter, &mut places)?;
         }
         Ok(PartialIndex { direction, places })

@@ -1,13 +1,14 @@
--- Each item adds its place.
+-- Each item adds its place, and those that are no candidates add nothing.
 use Rattle.std.proofs.Common.{◌≡◌, [], ap, ◌∙◌, List, map, sym, subst, take_all}
 use Rattle.std.proofs.lemmas.Bool.{eqb-true}
 use Rattle.refspec_match.specs.declared.types.Item.{Item}
 use Rattle.refspec_match.specs.declared.types.NameRef.{NameRef}
+use Rattle.refspec_text.specs.Matching.Side.{IsCandidate}
 use Rattle.refspec_match.specs.Views.Mapping.{name_bytes, ref_of}
-use Rattle.refspec_match.specs.Private.Filter.{Passes}
-use Rattle.refspec_match.specs.Private.Index.{ListPartials, list_of}
+use Rattle.refspec_match.specs.Private.Filter.{HasTail, Passes}
+use Rattle.refspec_match.specs.Private.Index.{Joins, ListPartials, list_of}
 use Rattle.refspec_match.proofs.lemmas.keep.KeptLemmas.{no_elements}
-use Rattle.refspec_match.proofs.lemmas.index.PartialLemmas.{no_partials, partials_more, partials_started}
+use Rattle.refspec_match.proofs.lemmas.index.PartialLemmas.{adds_nothing, no_partials, partials_more, partials_started}
 use Rattle.refspec_match.proofs.lemmas.index.PlacesLemmas.{all_at}
 use Rattle.refspec_match.proofs.hits.index.partials.PartialIndex.of.Goals as goal
 
@@ -25,6 +26,17 @@ loop-place-preserved c =
     partials_more c.args.direction ns c.args.items.now c.loop-place.place _ c.as_bytes-name.result.now (Passes c.in_ok-filter.filter) (list_of c.loop-place.places) (list_of c.add_item.new.places) c.loop-place-test.true c.as_bytes-name.ensures
     (λ x there. all_at (Passes c.in_ok-filter.filter) ns x c.in_ok-filter.ensures.all there)
     c.in_ok-add_item.ensures c.loop-place.invariant
+
+pub loop-place-preserved-then-not-may_have : goal.loop-place-preserved-then-not-may_have
+loop-place-preserved-then-not-may_have c =
+    let ns = map name_bytes c.args.names.now in
+    let n = c.as_bytes-name.result.now in
+    let known = HasTail c.in_ok-tails.tails in
+    let listed = list_of c.loop-place.places in
+    partials_more c.args.direction ns c.args.items.now c.loop-place.place _ n known listed listed c.loop-place-test.true c.as_bytes-name.ensures
+    (λ x there. all_at known ns x c.in_ok-tails.ensures.all there)
+    (adds_nothing known (λ x. IsCandidate x n) (Joins c.args.direction (map ref_of c.args.items.now) c.loop-place.place) listed (λ x w has was. c.may_have.ensures c.if-not-may_have.true x has))
+    c.loop-place.invariant
 
 pub returns : goal.returns
 returns c =
