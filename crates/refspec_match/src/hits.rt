@@ -95,9 +95,9 @@ impl Survey {
     // Looks at the specs, unless all that they ask for is looked up by its name. It lists no more places in
     // all than there are items: if a server lists a name again and again, the places of patterns would take
     // memory for each spec.
-    pub(crate) fn of(
-        matching: &Matching<'_, '_, '_>,
-        index: &NameIndex<'_>,
+    pub(crate) fn of<'spec: 'n, 'n>(
+        matching: &Matching<'_, 'spec, '_>,
+        index: &NameIndex<'n>,
     ) -> Result<Survey, AllocError>
         requires { FlagsRepeated (map ref_of matching.now.items.now) index.now.repeated.items }
         ensures { IfOk result (IsSurveyOf matching.now) }
@@ -154,10 +154,10 @@ fn listed(places: &Option<Vec<usize>>) -> usize {
 
 impl Look {
     // Looks at a spec, and lists no places if there are more than `most`.
-    fn at(
-        matching: &Matching<'_, '_, '_>,
-        spec: &RefSpecRef<'_>,
-        index: &NameIndex<'_>,
+    fn at<'spec: 'n, 'n>(
+        matching: &Matching<'_, 'spec, '_>,
+        spec: &RefSpecRef<'spec>,
+        index: &NameIndex<'n>,
         most: usize,
     ) -> Result<Look, AllocError>
         requires { FlagsRepeated (map ref_of matching.now.items.now) index.now.repeated.items }
@@ -178,10 +178,10 @@ impl Look {
     }
 
     // Looks through the items for those that a near end matches, unless it is a name.
-    fn through(
+    fn through<'n>(
         alloc: Global,
-        near: SideKind<'_>,
-        index: &NameIndex<'_>,
+        near: SideKind<'n>,
+        index: &NameIndex<'n>,
         items: &[Item<'_>],
         most: usize,
     ) -> Result<Look, AllocError>
@@ -303,11 +303,13 @@ impl<'m, 'spec, 'item> Matching<'m, 'spec, 'item> {
 
     // The mappings: those of ids by spec, from left to right alone, and then those of items by spec and
     // item, without those of specs that equal an earlier one.
-    pub(crate) fn mappings(
+    pub(crate) fn mappings<'n>(
         &self,
-        index: &NameIndex<'_>,
+        index: &NameIndex<'n>,
         survey: Survey,
     ) -> Result<Made<'spec, 'item>, AllocError>
+    where
+        'spec: 'n,
         requires index { IsIndexFor self.now.direction
             (map reading_of self.now.specs.now) (map ref_of self.now.items.now) index.now }
         requires survey { IsSurveyOf self.now survey }
@@ -338,12 +340,14 @@ impl<'m, 'spec, 'item> Matching<'m, 'spec, 'item> {
     }
 
     // Adds the mappings of the specs that aren't flagged as equal to an earlier one.
-    fn add_hits(
+    fn add_hits<'n>(
         &self,
-        index: &NameIndex<'_>,
+        index: &NameIndex<'n>,
         mut survey: Survey,
         made: &mut Made<'spec, 'item>,
     ) -> Result<(), AllocError>
+    where
+        'spec: 'n,
         requires index { IsIndexFor self.now.direction
             (map reading_of self.now.specs.now) (map ref_of self.now.items.now) index.now }
         requires survey { IsSurveyOf self.now survey }
@@ -392,12 +396,14 @@ impl<'m, 'spec, 'item> Matching<'m, 'spec, 'item> {
     }
 
     // Adds the mappings of a spec.
-    fn add_spec_hits(
+    fn add_spec_hits<'n>(
         &self,
         turn: Turn<'spec>,
-        index: &NameIndex<'_>,
+        index: &NameIndex<'n>,
         made: &mut Made<'spec, 'item>,
     ) -> Result<(), AllocError>
+    where
+        'spec: 'n,
         requires { IsIndexOfSide self.now.direction
             (kind_of_side turn.ends.near) (map ref_of self.now.items.now) index.now }
         ensures { OnOk result (AddsHitsOf self.now turn.entry made.old made.new) }

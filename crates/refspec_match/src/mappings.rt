@@ -91,11 +91,13 @@ impl<'m, 'spec, 'item> Matching<'m, 'spec, 'item> {
     }
 
     // The mappings that are kept, by an index of the names that the specs ask for.
-    fn kept_with(
+    fn kept_with<'n>(
         &self,
-        index: &NameIndex<'_>,
+        index: &NameIndex<'n>,
         survey: Survey,
     ) -> Result<Made<'spec, 'item>, AllocError>
+    where
+        'spec: 'n,
         requires index { IsIndexFor self.now.direction
             (map reading_of self.now.specs.now) (map ref_of self.now.items.now) index.now }
         requires survey { IsSurveyOf self.now survey }

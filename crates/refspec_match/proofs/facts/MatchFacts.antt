@@ -8,7 +8,7 @@ use Rattle.refspec_text.specs.Texts.Bytes.{star, bracket}
 use Rattle.refspec_text.specs.Texts.ObjectId.{IsIdText}
 use Rattle.refspec_text.specs.Specs.Reading.{Normal, Forced, Negative, Reading}
 use Rattle.refspec_text.specs.Specs.Grammar.{fetched, IsPositive}
-use Rattle.refspec_text.specs.Matching.Side.{pattern, full_name, object, partial, HasKind, Excludes, the_name}
+use Rattle.refspec_text.specs.Matching.Side.{pattern, full_name, object, HasKind, Excludes, the_name}
 use Rattle.refspec_text.specs.Matching.Match.{Ref, Matches, Takes}
 use Rattle.refspec_match.specs.Matching.Lists.{IsMadeFrom}
 use Rattle.refspec_match.specs.Matching.Mappings.{Start, name, id, Mapped, IsExcluded, IsStartExcluded, IsSamePair, HasPair, AreApart}

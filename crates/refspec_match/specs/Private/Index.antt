@@ -1,6 +1,5 @@
 -- How full names, partial ones and patterns are looked up. Only private functions cite these words.
 use Rattle.std.specs.Prelude.{◌≡◌, ◌⊎◌, ◌<◌, ℕ, List, [], ◌∷◌, ◌++◌, Bool, true, false, Option, None, Some, length, map, unwrap_or, option_map, slice_index_or, bytes_eq, codes}
-use Rattle.std.specs.Borrow.{Bor}
 use Rattle.std.specs.List.{AllByRecursion, Contains, slice_get}
 use Rattle.std.specs.HashMap as hash
 use Rattle.std.specs.HashMap.{HashMap}
@@ -12,6 +11,7 @@ use Rattle.refspec_match.specs.declared.hits.Survey.{Survey}
 use Rattle.refspec_match.specs.declared.hits.index.NameIndex.{NameIndex}
 use Rattle.refspec_match.specs.declared.hits.index.Names.{Names}
 use Rattle.refspec_match.specs.declared.hits.index.fronts.FrontIndex.{FrontIndex}
+use Rattle.refspec_match.specs.declared.hits.index.key.Key.{Key}
 use Rattle.refspec_text.specs.Texts.Words.{BeginsWith}
 use Rattle.refspec_text.specs.Specs.Reading.{Reading}
 use Rattle.refspec_text.specs.Matching.Side.{SideKind, pattern, full_name, object, partial, HasKind}
@@ -74,8 +74,8 @@ abbrev pub ArePlacesOf : List ℕ → List Ref → List ℕ → Type 0
 ArePlacesOf n refs places = IsMadeFrom (λ k r place. MatchesAs (full_name n) r None × (place ≡ k)) 0 refs places
 
 -- what the map has for a name
-abbrev pub list_of : {X S : Type 0} → HashMap (Bor (List ℕ)) X S → List ℕ → Option X
-list_of m n = hash.get_by (λ k. bytes_eq n k.now) m
+abbrev pub list_of : {X S : Type 0} → HashMap Key X S → List ℕ → Option X
+list_of m n = hash.get_by (λ k. bytes_eq n k.name.now) m
 
 -- exactly these names are listed, each with its places
 pub record HavePlaces (names : List (List ℕ)) (refs : List Ref) (listed : List ℕ → Option (Vec ℕ)) : Type 0 where

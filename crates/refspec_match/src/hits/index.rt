@@ -12,6 +12,7 @@ ghost use Rattle.refspec_match.specs.Private.Part.{FlagsRepeated};
 
 mod filter;
 pub(crate) mod fronts;
+mod key;
 mod partials;
 mod short_tails;
 
@@ -21,6 +22,7 @@ use crate::types::{Item, NameRef};
 use bstr::BStr;
 use filter::Filter;
 use fronts::FrontIndex;
+use key::Key;
 use partials::PartialIndex;
 use refspec_text::RefSpecRef;
 use refspec_text::side::SideKind;
@@ -31,7 +33,7 @@ use std::collections::HashMap;
 // for fronts of patterns.
 #[derive(Drop)]
 pub(crate) struct NameIndex<'n> {
-    places: HashMap<&'n [u8], Vec<usize>>,
+    places: HashMap<Key<'n>, Vec<usize>>,
     partials: PartialIndex<'n>,
     fronts: FrontIndex<'n>,
     // Flags of the items that few patterns pass over.
@@ -111,13 +113,16 @@ impl<'spec> Names<'spec> {
 fn without_places<'n>(
     alloc: Global,
     names: &'n [NameRef<'_>],
-) -> Result<HashMap<&'n [u8], Vec<usize>>, AllocError>
+) -> Result<HashMap<Key<'n>, Vec<usize>>, AllocError>
     ensures { IfOk result (λ places. HavePlaces
         (map name_bytes names.now) [] (list_of places)) }
 {
     let mut places = HashMap::with_capacity(alloc, names.len())?;
     for name in names {
-        places.insert(name.as_bstr().as_bytes(), Vec::new(alloc))?;
+        let key = Key {
+            name: name.as_bstr().as_bytes(),
+        };
+        places.insert(key, Vec::new(alloc))?;
     }
     Ok(places)
 }
@@ -126,8 +131,8 @@ fn without_places<'n>(
 fn places_of<'n>(
     alloc: Global,
     names: &'n [NameRef<'_>],
-    items: &[Item<'_>],
-) -> Result<HashMap<&'n [u8], Vec<usize>>, AllocError>
+    items: &'n [Item<'_>],
+) -> Result<HashMap<Key<'n>, Vec<usize>>, AllocError>
     ensures { IfOk result (λ places. HavePlaces
         (map name_bytes names.now) (map ref_of items.now) (list_of places)) }
 {
@@ -141,7 +146,7 @@ fn places_of<'n>(
         if !filter.passes(name) {
             continue;
         }
-        if let Some(list) = places.get_mut(name) {
+        if let Some(list) = places.get_mut(&Key { name }) {
             list.push(place)?;
         }
     }
@@ -149,7 +154,7 @@ fn places_of<'n>(
 }
 
 // How many places are listed in all.
-fn listed_in(places: &HashMap<&[u8], Vec<usize>>) -> usize {
+fn listed_in(places: &HashMap<Key<'_>, Vec<usize>>) -> usize {
     let mut listed: usize = 0;
     for list in places.values() {
         listed = listed.saturating_add(list.len());
@@ -181,7 +186,7 @@ impl<'n> NameIndex<'n> {
         alloc: Global,
         direction: Direction,
         names: &'n Names<'_>,
-        items: &[Item<'_>],
+        items: &'n [Item<'_>],
     ) -> Result<NameIndex<'n>, AllocError>
         ensures { IfOk result (IsIndexOf direction names.now (map ref_of items.now)) }
     {
@@ -195,24 +200,24 @@ impl<'n> NameIndex<'n> {
     }
 
     // The places of a name.
-    pub(crate) fn places(&self, name: &[u8]) -> &[usize]
+    pub(crate) fn places(&self, name: &'n [u8]) -> &[usize]
         ensures { result.now ≡ places_listed (list_of self.now.places) name.now }
     {
-        match self.places.get(name) {
+        match self.places.get(&Key { name }) {
             None => &[],
             Some(places) => places.as_slice(),
         }
     }
 
     // The places of the items that a partial name takes.
-    pub(crate) fn partial_places(&self, partial: &[u8]) -> &[usize]
+    pub(crate) fn partial_places(&self, partial: &'n [u8]) -> &[usize]
         ensures { result.now ≡ places_listed (list_of self.now.partials.places) partial.now }
     {
         self.partials.places(partial)
     }
 
     // The places of the items whose names begin with a front. None where they aren't listed.
-    pub(crate) fn places_behind(&self, front: &[u8]) -> Option<&[usize]>
+    pub(crate) fn places_behind(&self, front: &'n [u8]) -> Option<&[usize]>
         ensures { IfSome result (λ places. (refs : List Ref)
             → IsFrontIndexOf refs self.now.fronts → ArePlacesBehind front.now refs places.now) }
     {

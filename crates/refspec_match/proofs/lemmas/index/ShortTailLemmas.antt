@@ -1,12 +1,12 @@
 -- A candidate of a partial name ends as that does, or in `HEAD`.
-use Rattle.std.proofs.Common.{◌≡◌, ◌⊎◌, inl, inr, ℕ, ◌+◌, ◌-◌, ◌*◌, ◌/◌, ◌%◌, ◌^◌, ◌≤◌, ◌<◌, Bool, List, [], ◌∷◌, ◌++◌, codes, if◌then◌else◌, length, drop, refl, sym, ap, ◌∙◌, subst, arith, true, false}
+use Rattle.std.proofs.Common.{◌≡◌, inl, inr, ℕ, ◌+◌, ◌-◌, ◌*◌, ◌/◌, ◌%◌, ◌^◌, ◌≤◌, Bool, List, ◌++◌, codes, if◌then◌else◌, length, drop, sym, ap, ◌∙◌, subst, arith, false}
 use Rattle.std.proofs.lemmas.Bool.{false≢true, le-ltb}
 use Rattle.std.proofs.lemmas.List.{append_assoc, length-append}
 use Rattle.std.proofs.Math.Seq.{drop-append-add}
 use Rattle.std.specs.Int.{from_le_bytes, w32}
 use Rattle.refspec_match.specs.declared.hits.index.filter.TheConstants.{MIXER}
 use Rattle.refspec_match.specs.declared.hits.index.short_tails.ShortTails.{ShortTails}
-use Rattle.refspec_text.specs.Matching.Side.{Fits, IsCandidate}
+use Rattle.refspec_text.specs.Matching.Side.{IsCandidate}
 use Rattle.refspec_match.specs.Private.Filter.{AreWholeTails, HasMark, HasTail, short_tail_number}
 use Rattle.refspec_match.proofs.lemmas.hits.HitLemmas.{candidate_cases}
 

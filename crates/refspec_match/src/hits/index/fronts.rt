@@ -8,6 +8,7 @@ ghost use Rattle.refspec_text.specs.Matching.Match.{Ref};
 ghost use Rattle.refspec_match.specs.Private.Index.{AddsPlace, ArePlacesBehind, HaveLengths, IsFrontIndexOf, list_of};
 ghost use Rattle.refspec_match.specs.Private.Kept.{IsFlagged};
 
+use super::key::Key;
 use super::{MANY, without_places};
 use crate::types::{Item, NameRef};
 use std::alloc::{AllocError, Global};
@@ -20,7 +21,7 @@ const MOST: usize = 2;
 // For each of some fronts the places of all items whose names begin with it, rising.
 #[derive(Drop)]
 pub(crate) struct FrontIndex<'n> {
-    places: HashMap<&'n [u8], Vec<usize>>,
+    places: HashMap<Key<'n>, Vec<usize>>,
 }
 
 impl<'n> FrontIndex<'n> {
@@ -28,7 +29,7 @@ impl<'n> FrontIndex<'n> {
     pub(crate) fn of(
         alloc: Global,
         fronts: &'n [NameRef<'_>],
-        items: &[Item<'_>],
+        items: &'n [Item<'_>],
     ) -> Result<FrontIndex<'n>, AllocError>
         ensures { IfOk result (IsFrontIndexOf (map ref_of items.now)) }
     {
@@ -54,11 +55,11 @@ impl<'n> FrontIndex<'n> {
     }
 
     // The places of the items whose names begin with a front. None where it isn't among those of the index.
-    pub(crate) fn places(&self, front: &[u8]) -> Option<&[usize]>
+    pub(crate) fn places(&self, front: &'n [u8]) -> Option<&[usize]>
         ensures { IfSome result (λ places. (refs : List Ref)
             → IsFrontIndexOf refs self.now → ArePlacesBehind front.now refs places.now) }
     {
-        match self.places.get(front) {
+        match self.places.get(&Key { name: front }) {
             None => None,
             Some(places) => Some(places.as_slice()),
         }
@@ -91,11 +92,11 @@ fn flag_length(text: &[u8], flags: &mut Vec<bool>) -> Result<(), AllocError>
 
 // Adds the place of an item to those of each front that its name begins with, and says to how many. The
 // lengths of the fronts are flagged.
-fn add_place(
-    name: &[u8],
+fn add_place<'n>(
+    name: &'n [u8],
     place: usize,
     lengths: &[bool],
-    places: &mut HashMap<&[u8], Vec<usize>>,
+    places: &mut HashMap<Key<'n>, Vec<usize>>,
 ) -> Result<usize, AllocError>
     requires { HaveLengths lengths.now (list_of places.old) }
     ensures { OnOk result (AddsPlace name.now place (list_of places.old) (list_of places.new)) }
@@ -108,7 +109,7 @@ fn add_place(
         if !*is_asked {
             continue;
         }
-        if let Some(list) = places.get_mut(&name[..len]) {
+        if let Some(list) = places.get_mut(&Key { name: &name[..len] }) {
             list.push(place)?;
             count = count.saturating_add(1);
         }

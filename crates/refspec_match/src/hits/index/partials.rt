@@ -9,6 +9,7 @@ ghost use Rattle.refspec_match.specs.Private.Filter.{IsWholeFilter, Passes};
 ghost use Rattle.refspec_match.specs.Private.Index.{AddsWhere, IsBelowPlace, Joins, JoinsFirst, ListPartials, list_of, name_at, places_listed};
 
 use super::filter::Filter;
+use super::key::Key;
 use super::short_tails::ShortTails;
 use super::{listed_in, without_places};
 use crate::hits::ends::Direction;
@@ -24,7 +25,7 @@ const CANDIDATES: usize = 6;
 #[derive(Drop)]
 pub(crate) struct PartialIndex<'n> {
     direction: Direction,
-    places: HashMap<&'n [u8], Vec<usize>>,
+    places: HashMap<Key<'n>, Vec<usize>>,
 }
 
 impl<'n> PartialIndex<'n> {
@@ -33,7 +34,7 @@ impl<'n> PartialIndex<'n> {
         alloc: Global,
         direction: Direction,
         names: &'n [NameRef<'_>],
-        items: &[Item<'_>],
+        items: &'n [Item<'_>],
     ) -> Result<PartialIndex<'n>, AllocError>
         ensures { IfOk result (λ index. ListPartials
             direction (map name_bytes names.now) (map ref_of items.now) (list_of index.places)) }
@@ -55,10 +56,10 @@ impl<'n> PartialIndex<'n> {
     }
 
     // The places of the items that a partial name takes.
-    pub(crate) fn places(&self, partial: &[u8]) -> &[usize]
+    pub(crate) fn places(&self, partial: &'n [u8]) -> &[usize]
         ensures { result.now ≡ places_listed (list_of self.now.places) partial.now }
     {
-        match self.places.get(partial) {
+        match self.places.get(&Key { name: partial }) {
             None => &[],
             Some(places) => places.as_slice(),
         }
@@ -81,13 +82,13 @@ impl<'n> PartialIndex<'n> {
 
 // Adds the place of an item to those of each partial name that may stand for its name. That is the name
 // itself, or what is left of it with a place taken off.
-fn add_item(
+fn add_item<'n>(
     direction: Direction,
-    name: &[u8],
+    name: &'n [u8],
     place: usize,
     items: &[Item<'_>],
     filter: &Filter,
-    places: &mut HashMap<&[u8], Vec<usize>>,
+    places: &mut HashMap<Key<'n>, Vec<usize>>,
 ) -> Result<(), AllocError>
     requires { IsWholeFilter filter.now }
     ensures { OnOk result (AddsWhere (Passes filter.now) (λ x. IsCandidate x name.now)
@@ -151,13 +152,13 @@ fn below_remotes(below: &[u8]) -> Option<&[u8]>
 
 // Adds a place to those of a partial name, if that is asked for.
 #[inline(always)]
-fn add_to(
+fn add_to<'n>(
     direction: Direction,
-    partial: &[u8],
+    partial: &'n [u8],
     place: usize,
     items: &[Item<'_>],
     filter: &Filter,
-    places: &mut HashMap<&[u8], Vec<usize>>,
+    places: &mut HashMap<Key<'n>, Vec<usize>>,
 ) -> Result<(), AllocError>
     requires { IsWholeFilter filter.now }
     ensures { OnOk result (AddsWhere (Passes filter.now) (λ x. partial.now ≡ x)
@@ -166,7 +167,7 @@ fn add_to(
     if !filter.passes(partial) {
         return Ok(());
     }
-    match places.get_mut(partial) {
+    match places.get_mut(&Key { name: partial }) {
         None => Ok(()),
         Some(list) => join(direction, place, items, list),
     }

@@ -1,12 +1,12 @@
 -- A name that doesn't pass is no key, and to the list of a key the place is added.
-use Rattle.std.proofs.Common.{◌≡◌, [], ap, ◌∙◌, ◌+◌, take_all, refl, List, ℕ, Option, Some, Vec, Global, IsSome, map, take, sym, subst}
+use Rattle.std.proofs.Common.{◌≡◌, [], ap, ◌∙◌, ◌+◌, take_all, refl, List, ℕ, Option, Vec, Global, IsSome, map, take, sym, subst}
 use Rattle.std.proofs.lemmas.Bool.{eqb-true, false≢true}
-use Rattle.std.proofs.lemmas.Map.Text.{hash_map_updates_str}
 use Rattle.refspec_match.specs.declared.types.Item.{Item}
 use Rattle.refspec_match.specs.declared.types.NameRef.{NameRef}
 use Rattle.refspec_match.specs.Views.Mapping.{name_bytes, ref_of}
 use Rattle.refspec_match.specs.Private.Index.{HavePlaces, list_of}
 use Rattle.refspec_match.specs.Private.Filter.{Passes}
+use Rattle.refspec_match.proofs.lemmas.index.KeyLemmas.{key_of}
 use Rattle.refspec_match.proofs.lemmas.index.IndexLemmas.{item_listed, item_unlisted, not_listed, nothing_asked}
 use Rattle.refspec_match.proofs.lemmas.keep.KeptLemmas.{no_elements}
 use Rattle.refspec_match.proofs.lemmas.index.PlacesLemmas.{all_at}
@@ -36,7 +36,7 @@ loop-place-preserved c =
           let new = c.get_mut.follows.lender list in
           let updates = (c.get_mut.follows.holds list).3 (subst (λ (o : Option (Vec ℕ Global)). IsSome o) w.in-Some.ensures.value refl) in
           subst (λ m. HavePlaces ns (map ref_of (take (i + 1) items)) (list_of m)) (sym w.places-is)
-          (item_listed ns items i _ n w.in-Some.list.now list (list_of old) (list_of new) below is (sym w.in-Some.ensures.value) w.in_ok-push.ensures.items (λ q. hash_map_updates_str n old new (Some list) updates q) c.loop-place.invariant)
+          (item_listed ns items i _ n w.in-Some.list.now list (list_of old) (list_of new) below is (sym w.in-Some.ensures.value) w.in_ok-push.ensures.items (λ q. updates.0 (key_of c.as_bytes-name.result q)) c.loop-place.invariant)
       | in_default w ↦
           subst (λ m. HavePlaces ns (map ref_of (take (i + 1) items)) (list_of m)) (sym (w.places-is ∙ c.get_mut.follows.holds-at-none))
           (item_unlisted ns items i _ n (list_of old) below is (not_listed ns (map ref_of (take i items)) n (list_of old) (sym w.in_default.ensures.value) c.loop-place.invariant) c.loop-place.invariant)

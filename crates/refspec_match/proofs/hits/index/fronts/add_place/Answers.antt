@@ -1,8 +1,8 @@
 -- Of each length that is flagged there is one front at most that the name begins with.
-use Rattle.std.proofs.Common.{◌∙◌, ◌+◌, ℕ, Option, Some, Vec, Global, IsSome, take, refl, sym, subst, arith}
+use Rattle.std.proofs.Common.{◌∙◌, ◌+◌, ℕ, Option, Vec, Global, IsSome, refl, sym, subst, arith}
 use Rattle.std.proofs.lemmas.Bool.{false≢true}
-use Rattle.std.proofs.lemmas.Map.Text.{hash_map_updates_str}
 use Rattle.refspec_match.specs.Private.Index.{list_of}
+use Rattle.refspec_match.proofs.lemmas.index.KeyLemmas.{key_of}
 use Rattle.refspec_match.proofs.lemmas.index.FrontLemmas.{AddsBelow, adds_all, adds_listed, adds_no_length, adds_none, adds_unlisted, adds_whole}
 use Rattle.refspec_match.proofs.hits.index.fronts.add_place.Goals as goal
 use Rattle.refspec_match.proofs.hits.index.fronts.add_place.Goals.{in-Some+in_ok-push, in_default}
@@ -30,7 +30,7 @@ loop-len-preserved c =
           let new = c.get_mut.follows.lender list in
           let updates = (c.get_mut.follows.holds list).3 (subst (λ (o : Option (Vec ℕ Global)). IsSome o) w.in-Some.ensures.value refl) in
           subst (λ m. AddsBelow (l + 1) n c.args.place first (list_of m)) (sym w.places-is)
-          (adds_listed l n c.args.place w.in-Some.list.now list first (list_of old) (list_of new) (omega arith) (sym w.in-Some.ensures.value) w.in_ok-push.ensures.items (λ q. hash_map_updates_str (take l n) old new (Some list) updates q) c.loop-len.invariant)
+          (adds_listed l n c.args.place w.in-Some.list.now list first (list_of old) (list_of new) (omega arith) (sym w.in-Some.ensures.value) w.in_ok-push.ensures.items (λ q. updates.0 (key_of c.args.name q)) c.loop-len.invariant)
       | in_default w ↦
           subst (λ m. AddsBelow (l + 1) n c.args.place first (list_of m)) (sym (w.places-is ∙ c.get_mut.follows.holds-at-none))
           (adds_unlisted l n c.args.place first (list_of old) (sym w.in_default.ensures.value) c.loop-len.invariant)

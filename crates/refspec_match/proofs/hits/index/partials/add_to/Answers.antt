@@ -1,10 +1,10 @@
 -- The place is added for the partial name alone.
 use Rattle.std.proofs.Common.{◌≡◌, List, ℕ, Option, Vec, Global, None, Some, ap, IsSome, map, refl, sym, subst, ◌∙◌}
 use Rattle.std.proofs.lemmas.Bool.{false≢true}
-use Rattle.std.proofs.lemmas.Map.Text.{hash_map_updates_str}
 use Rattle.refspec_match.specs.Views.Mapping.{ref_of}
 use Rattle.refspec_match.specs.Private.Filter.{Passes}
 use Rattle.refspec_match.specs.Private.Index.{AddsWhere, Joins, list_of}
+use Rattle.refspec_match.proofs.lemmas.index.KeyLemmas.{key_of}
 use Rattle.refspec_match.proofs.lemmas.index.PartialLemmas.{adds_nothing, adds_one, on_ok}
 use Rattle.refspec_match.proofs.hits.index.partials.add_to.Goals as goal
 
@@ -38,5 +38,5 @@ returns-in-Some c =
     let updates = (c.get_mut.follows.holds list).3 (subst (λ (o : Option (Vec ℕ Global)). IsSome o) c.in-Some.ensures.value refl) in
     on_ok c.join.result (joins c.in-Some.list.now.items list.items) (AddsWhere known (λ (x : List ℕ). p ≡ x) joins (list_of old) (list_of new))
     (λ joined. adds_one known (λ (x : List ℕ). p ≡ x) joins p c.in-Some.list.now list (list_of old) (list_of new) refl (λ x same. same)
-    (sym c.in-Some.ensures.value) joined (λ q. hash_map_updates_str p old new (Some list) updates q))
+    (sym c.in-Some.ensures.value) joined (λ q. updates.0 (key_of c.args.partial q)))
     c.join.ensures
