@@ -1,4 +1,4 @@
-//! Tests of matching in `gix_refspec` by its public names: what groups map, conflicts, and growths refused.
+//! Tests of `gix_refspec` by its public names: what groups ask for and map, conflicts, and growths refused.
 #![tactic(auto)]
 
 #[cfg(test)]

@@ -1,4 +1,4 @@
-//! Tests of `gix_refspec` by its public names: texts from the manuals, what is printed, and faults.
+//! Tests of `refspec_text` by its public names: texts from the manuals, single specs, what is printed, and faults.
 #![tactic(auto)]
 
 #[cfg(test)]

@@ -1,7 +1,6 @@
 //! What a spec prints, whether values are equal and hash alike, and a writer with little room.
 
 mod errors;
-mod groups;
 mod name;
 mod oid;
 mod order;
@@ -11,7 +10,7 @@ mod printing;
 mod spec;
 mod writing;
 
-use gix_refspec::RefSpecRef;
+use refspec_text::RefSpecRef;
 use std::alloc::{AllocError, Global};
 use std::fmt::Debug;
 use std::hash::{DefaultHasher, Hash, Hasher};

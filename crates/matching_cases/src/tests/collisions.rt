@@ -22,7 +22,7 @@ pub(super) const COLLIDING: [(&[u8], &[u8]); 2] = [
 ];
 
 // The hash that a mapping has.
-fn hash_of(mapping: &Mapping<'_, '_>) -> u64 {
+pub(super) fn hash_of(mapping: &Mapping<'_, '_>) -> u64 {
     let mut state = FoldHasher::default();
     mapping.hash(&mut state);
     state.finish()

@@ -1,9 +1,9 @@
 //! What the refusals print, and that the fault of a name becomes one.
 
 use bstr::{BStr, BString};
-use gix_refspec::name::{self, name_partial};
-use gix_refspec::oid;
-use gix_refspec::parsing::Error;
+use refspec_text::name::{self, name_partial};
+use refspec_text::oid;
+use refspec_text::parsing::Error;
 use std::alloc::{AllocError, Global};
 use std::test::Fail;
 

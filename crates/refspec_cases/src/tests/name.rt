@@ -1,5 +1,5 @@
 use bstr::BStr;
-use gix_refspec::name::{Error, PatternError, has_one_star, name_partial, pattern_partial};
+use refspec_text::name::{Error, PatternError, has_one_star, name_partial, pattern_partial};
 use std::alloc::{AllocError, Global};
 use std::test::Fail;
 

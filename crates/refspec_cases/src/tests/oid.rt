@@ -1,7 +1,7 @@
 //! Ids from outside, what they print, how they are ordered, and which texts are refused.
 
 use super::check_equal;
-use gix_refspec::oid::{Error, Kind, ObjectId};
+use refspec_text::oid::{Error, Kind, ObjectId};
 use std::test::Fail;
 
 // The ids that Git gives the empty blob, under either hash function.

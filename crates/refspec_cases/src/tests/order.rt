@@ -2,8 +2,8 @@
 
 use super::{canonical, check_equal};
 use bstr::BStr;
-use gix_refspec::parsing::Operation;
-use gix_refspec::{Instruction, RefSpecRef, parse};
+use refspec_text::parsing::Operation;
+use refspec_text::{Instruction, RefSpecRef, parse};
 use std::alloc::{AllocError, Global};
 use std::cmp::Ordering;
 use std::fmt::Debug;

@@ -2,9 +2,9 @@
 
 use super::canonical;
 use bstr::{BStr, ByteSlice};
-use gix_refspec::instruction::Fetch;
-use gix_refspec::parsing::{Error, Operation};
-use gix_refspec::{Instruction, parse};
+use refspec_text::instruction::Fetch;
+use refspec_text::parsing::{Error, Operation};
+use refspec_text::{Instruction, parse};
 use std::alloc::{AllocError, Global};
 use std::process::Abort;
 use std::test::Fail;

@@ -1,8 +1,8 @@
 //! The texts of instructions that were put together by hand.
 
 use bstr::BStr;
-use gix_refspec::Instruction;
-use gix_refspec::instruction::{Fetch, Push};
+use refspec_text::Instruction;
+use refspec_text::instruction::{Fetch, Push};
 use std::alloc::{AllocError, Global};
 use std::test::Fail;
 

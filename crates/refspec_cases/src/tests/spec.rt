@@ -2,8 +2,8 @@
 
 use super::canonical;
 use bstr::BStr;
-use gix_refspec::parsing::Operation;
-use gix_refspec::{laws, parse};
+use refspec_text::parse;
+use refspec_text::parsing::Operation;
 use std::test::Fail;
 
 // A side as a row writes it.
@@ -68,43 +68,6 @@ fn gives_the_sides(rt: HostRuntime) -> Result<(), Fail> {
             "remote, {operation:?} at {text}"
         );
         assert_eq!(rt; spec.local(), side(local), "local, {operation:?} at {text}");
-    }
-    Ok(())
-}
-
-// How many stars a side has; none where it isn't there.
-fn stars(side: Option<BStr<'_>>) -> usize {
-    match side {
-        None => 0,
-        Some(side) => side.as_bytes().iter().filter(|byte| **byte == b'*').count(),
-    }
-}
-
-#[test]
-fn sides_have_one_star_or_none(rt: HostRuntime) -> Result<(), Fail> {
-    let push = Operation::Push;
-    let fetch = Operation::Fetch;
-    // How many stars the source and the destination have.
-    let rows = [
-        (fetch, "refs/heads/*:refs/x/*", 1, 1),
-        (fetch, "main:refs/x", 0, 0),
-        (fetch, "^refs/heads/*", 1, 0),
-        (push, "refs/heads/*:refs/x/*", 1, 1),
-        (push, "refs/heads/*", 1, 0),
-        (push, "main~2:refs/x", 0, 0),
-        (push, ":refs/x", 0, 0),
-    ];
-    let alloc = rt.alloc();
-    for (operation, text, of_source, of_destination) in rows {
-        let spec = parse(alloc, BStr::new(text.as_bytes()), operation)?;
-        laws::sides_agree(&spec);
-        laws::owned_sides_agree(&spec.to_owned(alloc)?);
-        assert_eq!(rt; stars(spec.source()), of_source, "source, at {text}");
-        assert_eq!(rt;
-            stars(spec.destination()),
-            of_destination,
-            "destination, at {text}"
-        );
     }
     Ok(())
 }

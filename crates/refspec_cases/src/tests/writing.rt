@@ -2,8 +2,8 @@
 
 use super::TightWriter;
 use bstr::BStr;
-use gix_refspec::parsing::Operation;
-use gix_refspec::{RefSpecRef, parse};
+use refspec_text::parsing::Operation;
+use refspec_text::{RefSpecRef, parse};
 use std::alloc::Global;
 use std::io;
 use std::io::ErrorKind;

@@ -1,13 +1,13 @@
 //! Groups, mappings, and which of these are kept.
 
 use super::check_equal;
+use super::collisions::hash_of;
 use bstr::{BStr, BString};
 use gix_refspec::match_group::{Mapping, NameRef, NoRoom, Source, SourceRef};
 use gix_refspec::oid::ObjectId;
 use gix_refspec::parsing::Operation;
 use gix_refspec::{MatchGroup, parse};
 use std::alloc::{AllocError, Global};
-use std::hash::{FoldHasher, Hash, Hasher};
 use std::test::Fail;
 
 // Mappings as rows write them: a source may be the digits of an id, and `-` is a missing destination.
@@ -52,13 +52,6 @@ fn source_in<'a>(alloc: Global, text: &'a str) -> Result<SourceRef<'a>, AllocErr
         Some(_) => SourceRef::FullName(name_of(alloc, text)?),
         None => source_of(text),
     })
-}
-
-// The hash that a mapping has.
-fn hash_of(mapping: &Mapping<'_, '_>) -> u64 {
-    let mut state = FoldHasher::default();
-    mapping.hash(&mut state);
-    state.finish()
 }
 
 #[test]
