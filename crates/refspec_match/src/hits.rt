@@ -9,6 +9,7 @@ ghost use Rattle.refspec_match.specs.Views.Mapping.{ref_of, mapped_of};
 ghost use Rattle.refspec_match.specs.Matching.Hits.{AreHits, forward_of, backward_of};
 ghost use Rattle.refspec_text.specs.Private.SideViews.{kind_of_side};
 ghost use Rattle.refspec_match.specs.Private.Index.{ArePlacesFitted, HasListed, IsListedStill, IsSurveyOf, ListsFitted, ListsFor};
+ghost use Rattle.refspec_match.specs.Private.EqualSpecs.{FlagsEqual};
 ghost use Rattle.refspec_match.specs.Private.HitViews.{hit_of};
 ghost use Rattle.refspec_match.specs.Private.Part.{FlagsRepeated, moved, place_among};
 
@@ -102,7 +103,7 @@ impl Survey {
         requires { FlagsRepeated (map ref_of matching.now.items.now) index.now.repeated.items }
         ensures { IfOk result (IsSurveyOf matching.now) }
     {
-        let equal = equal_specs(matching.alloc, matching.specs)?;
+        let equal = equal_by(matching, index)?;
         if index.is_by_name() {
             return Ok(Survey {
                 equal,
@@ -142,6 +143,16 @@ impl Survey {
         }
         self.fitted[spec].take()
     }
+}
+
+// Flags of specs that have the sides of an earlier one. None has, where no name is asked for twice.
+fn equal_by(matching: &Matching<'_, '_, '_>, index: &NameIndex<'_>) -> Result<Vec<bool>, AllocError>
+    ensures { IfOk result (λ flags. FlagsEqual (map reading_of matching.now.specs.now) flags.items) }
+{
+    if index.has_each_once() {
+        return Ok(Vec::new(matching.alloc));
+    }
+    equal_specs(matching.alloc, matching.specs)
 }
 
 // How many places are listed.

@@ -40,6 +40,8 @@ pub(crate) struct NameIndex<'n> {
     repeated: Vec<bool>,
     // Whether all that specs ask for is looked up by its name.
     by_name: bool,
+    // Whether no two specs ask for one name.
+    asked_once: bool,
 }
 
 // From how many patterns on their fronts are looked up. For fewer it is cheaper to compare each with all names.
@@ -64,7 +66,7 @@ pub(crate) fn names_asked<'spec>(
     ensures { IfOk result (λ names. AllNear (HasNamesOf names) direction (map reading_of specs.now)) }
 {
     let mut names = Names {
-        full: Vec::new(alloc),
+        full: Vec::with_capacity(alloc, specs.len())?,
         partial: Vec::new(alloc),
         fronts: Vec::new(alloc),
         by_id: false,
@@ -190,12 +192,16 @@ impl<'n> NameIndex<'n> {
     ) -> Result<NameIndex<'n>, AllocError>
         ensures { IfOk result (IsIndexOf direction names.now (map ref_of items.now)) }
     {
+        let places = places_of(alloc, names.full.as_slice(), items)?;
+        let partials = PartialIndex::of(alloc, direction, names.partial.as_slice(), items)?;
+        let keys = places.len().saturating_add(partials.len());
         Ok(NameIndex {
-            places: places_of(alloc, names.full.as_slice(), items)?,
-            partials: PartialIndex::of(alloc, direction, names.partial.as_slice(), items)?,
+            places,
+            partials,
             fronts: FrontIndex::of(alloc, names.fronts.as_slice(), items)?,
             repeated: passed_over(alloc, names, items)?,
             by_name: !names.by_id && !names.has_fronts(),
+            asked_once: keys == names.full.len().saturating_add(names.partial.len()),
         })
     }
 
@@ -234,6 +240,11 @@ impl<'n> NameIndex<'n> {
     // Whether all that specs ask for is looked up by its name.
     pub(crate) fn is_by_name(&self) -> bool {
         self.by_name
+    }
+
+    // Whether all that specs ask for is looked up by its name, and no name is asked for twice.
+    pub(crate) fn has_each_once(&self) -> bool {
+        self.by_name && self.asked_once
     }
 
     // How many places of full and partial names are listed.

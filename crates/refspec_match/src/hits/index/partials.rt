@@ -65,6 +65,11 @@ impl<'n> PartialIndex<'n> {
         }
     }
 
+    // How many partial names there are.
+    pub(crate) fn len(&self) -> usize {
+        self.places.len()
+    }
+
     // How many places are listed.
     pub(crate) fn listed(&self) -> usize {
         listed_in(&self.places)

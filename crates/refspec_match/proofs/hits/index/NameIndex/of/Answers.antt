@@ -9,8 +9,8 @@ pub returns : goal.returns
 returns c =
     let refs = map ref_of c.args.items.now in
     record {
-      full = subst (λ (l : List NameRef). HavePlaces (map name_bytes l) refs (list_of c.in_ok-places_of.field-0)) c.as_slice.ensures.value c.in_ok-places_of.ensures;
-      partial = subst (λ (l : List NameRef). ListPartials c.args.direction (map name_bytes l) refs (list_of c.in_ok-of.field-0.places)) c.as_slice-2.ensures.value c.in_ok-of.ensures;
-      fronts = c.in_ok-of-2.ensures;
+      full = subst (λ (l : List NameRef). HavePlaces (map name_bytes l) refs (list_of c.in_ok-places.places)) c.as_slice.ensures.value c.in_ok-places.ensures;
+      partial = subst (λ (l : List NameRef). ListPartials c.args.direction (map name_bytes l) refs (list_of c.in_ok-partials.partials.places)) c.as_slice-2.ensures.value c.in_ok-partials.ensures;
+      fronts = c.in_ok-of.ensures;
       repeated = c.in_ok-passed_over.ensures;
     }
