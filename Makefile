@@ -69,10 +69,10 @@ run: kit
 	    tools/stored $(FOLDER) rt try -- 2>$(LOGS)/run.log || { cat $(LOGS)/run.log >&2; exit 1; }; \
 	fi
 
-# The gate leaves the program and the tests that it proved and built, so that build has nothing to do.
+# The gate leaves the programs, the tests and the library for C that it proved and built, so that build and lib have
+# nothing to do.
 test: kit
-	@mkdir -p $(LOGS)
-	@rt ci 2>&1 </dev/null | tee $(LOGS)/gate.log
+	@tools/gate $(LOGS)
 	@$(MAKE) --no-print-directory build
 	@tests/run $(PROGRAM) $(TESTS) $(PEOPLE_PROGRAM)
 	@grep -E '^[0-9]+ passed, 0 failed' $(LOGS)/gate.log | tail -n 1
@@ -81,17 +81,22 @@ test: kit
 .PHONY: lib install-lib uninstall-lib test-bindings
 PREFIX ?= /usr/local
 LIB := $(LOGS)/lib
-HEADER := crates/refspec_c/include/gix_refspec.h
+ARCHIVE := $(LIB)/libgix_refspec.a
+C_LIBRARY := crates/refspec_c
+HEADER := $(C_LIBRARY)/include/gix_refspec.h
+C_SOURCES := crates.txt tools/archive $(shell find $(LIBRARY) $(C_LIBRARY) \( -name out -o -name must-fail \) -prune -o -type f -print)
 
-lib: kit
+lib: $(ARCHIVE)
+
+$(ARCHIVE): $(C_SOURCES) | kit
 	@mkdir -p $(LIB)
-	@(cd crates/refspec_c && rt lib) </dev/null >$(LOGS)/lib.log 2>&1 || { cat $(LOGS)/lib.log >&2; exit 1; }
+	@(cd $(C_LIBRARY) && rt lib) </dev/null >$(LOGS)/lib.log 2>&1 || { cat $(LOGS)/lib.log >&2; exit 1; }
 	@tools/archive $(LIB)
 
 install-lib: lib
 	@install -d $(DESTDIR)$(PREFIX)/include $(DESTDIR)$(PREFIX)/lib/pkgconfig
 	@install -m 644 $(HEADER) $(DESTDIR)$(PREFIX)/include
-	@install -m 644 $(LIB)/libgix_refspec.a $(DESTDIR)$(PREFIX)/lib
+	@install -m 644 $(ARCHIVE) $(DESTDIR)$(PREFIX)/lib
 	@install -m 755 $(LIB)/libgix_refspec.so $(DESTDIR)$(PREFIX)/lib
 	@sed 's|@PREFIX@|$(PREFIX)|' bindings/c/gix_refspec.pc.in >$(DESTDIR)$(PREFIX)/lib/pkgconfig/gix_refspec.pc
 
