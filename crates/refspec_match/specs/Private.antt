@@ -5,3 +5,4 @@ pub mod Part
 pub mod Index
 pub mod Kept
 pub mod Filter
+pub mod Shared

@@ -8,3 +8,4 @@ pub mod KeptPairLemmas
 pub mod ThinLemmas
 pub mod PartLemmas
 pub mod PartMadeLemmas
+pub mod SharedLemmas

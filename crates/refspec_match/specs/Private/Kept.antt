@@ -100,11 +100,11 @@ places_in bits keys = map (λ key. key % 2 ^ bits) keys
 abbrev pub IsKey : FoldHasher → List Mapping → ℕ → ℕ → Type 0
 IsKey seed ms bits key = (key % 2 ^ bits < length ms) × ((d : Mapping) → key / 2 ^ bits ≡ pair_hash seed (mapped_of (slice_index_or ms (key % 2 ^ bits) d)) / 2 ^ bits)
 
--- the keys of all the mappings
+-- keys of mappings, of all those at least whose pair another one has
 pub record AreKeysOf (seed : FoldHasher) (ms : List Mapping) (bits : ℕ) (keys : List ℕ) : Type 0 where
   pub each : AllByRecursion (IsKey seed ms bits) keys
-  pub every : (k : ℕ) → k < length ms → Has (places_in bits keys) k
-  pub count : length keys ≡ length ms
+  pub earlier : (j k : ℕ) → j < k → k < length ms → IsSameAt ms j k → Has (places_in bits keys) j
+  pub later : (j k : ℕ) → j < k → k < length ms → IsSameAt ms j k → Has (places_in bits keys) k
 
 -- the key at a place of the list has the upper bits of the one before it
 pub record IsSecond (bits : ℕ) (keys : List ℕ) (at : ℕ) : Type 0 where

@@ -1,20 +1,23 @@
 //! Which mappings have the same source and destination as an earlier one.
 //!
-//! They are found by sorting, so that no names make it slow. Each mapping gets a key, of the upper
-//! bits of its pair's hash and, after them, its place. In a sorted list of keys mappings of the same
-//! pair follow one another, and each is compared with the one before it. Where different pairs have the
-//! same upper bits, keys of another hash are tried. Only where that fails too are the pairs themselves
-//! sorted.
+//! They are found by sorting, so that no names make it slow. Each mapping whose pair may have the hash of
+//! another one gets a key, of the upper bits of that hash and, after them, its place. In a sorted list of
+//! keys mappings of the same pair follow one another, and each is compared with the one before it. Where
+//! different pairs have the same upper bits, keys of another hash are tried. Only where that fails too are
+//! the pairs themselves sorted.
 
 ghost use Rattle.std.specs.Prelude.{◌≡◌, ◌≢◌, ◌⊎◌, ◌↔◌, ◌<◌, ◌≤◌, ◌/◌, ◌%◌, ◌^◌, [], ℕ, length, slice_index_or, option_map, MatchOption, IfOk, OnOk, OnErr, IsTrue};
 ghost use Rattle.std.specs.List.{AllByRecursion};
 ghost use Rattle.std.specs.List.Sorted.{IsSorted};
 ghost use Rattle.refspec_match.specs.Views.Mapping.{mapped_of, name_bytes};
 ghost use Rattle.refspec_match.specs.Matching.Mappings.{IsSamePair};
-ghost use Rattle.refspec_match.specs.Private.Kept.{AreKeysOf, ArePairsOf, FindsRepeats, FlagsRepeats, IsFlagged, IsSecond, PointsBack, Rises, pair_hash, places_in};
+ghost use Rattle.refspec_match.specs.Private.Kept.{AreKeysOf, ArePairsOf, FindsRepeats, FlagsRepeats, IsFlagged, IsSecond, PointsBack, Rises, pair_hash};
+
+mod shared;
 
 use crate::hashes::seeds;
 use crate::types::{Mapping, NameRef, SourceRef};
+use shared::SharedHashes;
 use std::alloc::{AllocError, Global};
 use std::hash::{FoldHasher, Hash, Hasher};
 
@@ -94,7 +97,7 @@ fn earlier_of(
 {
     let bits = bits_for(mappings.len());
     let keys = keys_in_order(alloc, mappings, bits, seed)?;
-    earlier_by_key(alloc, keys.as_slice(), bits)
+    earlier_by_key(alloc, keys.as_slice(), bits, mappings.len())
 }
 
 // How many bits a place below `len` takes.
@@ -106,7 +109,7 @@ pub(crate) fn bits_for(len: usize) -> u32
     usize::BITS - len.leading_zeros()
 }
 
-// The keys of all mappings by a seed, in order.
+// The keys by a seed of the mappings whose hash may be shared, in order.
 fn keys_in_order(
     alloc: Global,
     mappings: &[Mapping<'_, '_>],
@@ -118,27 +121,15 @@ fn keys_in_order(
     ensures all { IfOk result (λ keys. AreKeysOf seed mappings.now bits keys.items) }
     ensures rises { IfOk result (λ keys. Rises keys.items) }
 {
-    let mut keys = keys_of(alloc, mappings, bits, seed)?;
-    keys.sort_unstable();
-    Ok(keys)
-}
-
-// The keys of all mappings by a seed, in the order of their places.
-fn keys_of(
-    alloc: Global,
-    mappings: &[Mapping<'_, '_>],
-    bits: u32,
-    seed: FoldHasher,
-) -> Result<Vec<u64>, AllocError>
-    requires few { bits < 64 }
-    requires fit { length mappings.now ≤ 2 ^ bits }
-    ensures all { IfOk result (λ keys. AreKeysOf seed mappings.now bits keys.items) }
-    ensures rises { IfOk result (λ keys. Rises (places_in bits keys.items)) }
-{
-    let mut keys = Vec::with_capacity(alloc, mappings.len())?;
+    let shared = SharedHashes::of(alloc, mappings, seed)?;
+    let mut keys = Vec::with_capacity(alloc, shared.most(mappings.len()))?;
     for (place, mapping) in mappings.iter().enumerate() {
-        keys.push(key_of(hash_of_pair(mapping, seed), place, bits))?;
+        let hash = hash_of_pair(mapping, seed);
+        if shared.has(hash) {
+            keys.push(key_of(hash, place, bits))?;
+        }
     }
+    keys.sort_unstable();
     Ok(keys)
 }
 
@@ -177,12 +168,17 @@ pub(crate) fn place_in(key: u64, bits: u32) -> usize
     (key & ((1 << bits) - 1)) as usize
 }
 
-// For each place the one in the key before its own, where that has the same bucket.
-fn earlier_by_key(alloc: Global, keys: &[u64], bits: u32) -> Result<Vec<usize>, AllocError>
+// For each of `len` places the one in the key before its own, where that has the same bucket.
+fn earlier_by_key(
+    alloc: Global,
+    keys: &[u64],
+    bits: u32,
+    len: usize,
+) -> Result<Vec<usize>, AllocError>
     requires few { bits < 64 }
-    requires below { AllByRecursion (λ key. key % 2 ^ bits < length keys.now) keys.now }
+    requires below { AllByRecursion (λ key. key % 2 ^ bits < len) keys.now }
     requires rises { Rises keys.now }
-    ensures fits { IfOk result (λ earlier. length earlier.items ≤ length keys.now) }
+    ensures fits { IfOk result (λ earlier. length earlier.items ≤ len) }
     ensures finds { IfOk result (λ earlier.
         (at : ℕ) → IsSecond bits keys.now at → PointsBack earlier.items (slice_index_or keys.now at 0 % 2 ^ bits)) }
 {
@@ -191,7 +187,7 @@ fn earlier_by_key(alloc: Global, keys: &[u64], bits: u32) -> Result<Vec<usize>, 
         let (before, key) = (keys[at - 1], keys[at]);
         if bucket_of(before, bits) == bucket_of(key, bits) {
             let place = place_in(key, bits);
-            point_back(&mut earlier, keys.len(), place, place_in(before, bits))?;
+            point_back(&mut earlier, len, place, place_in(before, bits))?;
         }
     }
     Ok(earlier)

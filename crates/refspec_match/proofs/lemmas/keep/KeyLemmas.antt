@@ -13,9 +13,11 @@ use Rattle.std.proofs.lemmas.Bool.{cases_lt, false≢true}
 use Rattle.std.proofs.lemmas.Cmp.{by_ranked, nat_cmp_total, ranked}
 use Rattle.std.proofs.lemmas.List.{get_or_append_left, get_or_past, get_or-map, length-append, length-map, map-append}
 use Rattle.std.proofs.lemmas.List.Elements.{All-from_recursion, recursion_from_All}
-use Rattle.std.proofs.lemmas.List.Sorted.{IsPermutation-map, length_permutation, ranks_by, sorted_far}
+use Rattle.std.proofs.lemmas.List.Sorted.{IsPermutation-map, ranks_by, sorted_far}
 use Rattle.refspec_match.specs.declared.types.Mapping.{Mapping}
 use Rattle.refspec_match.specs.Views.Mapping.{mapped_of}
+use Rattle.refspec_match.specs.declared.keep.repeats.shared.SharedHashes.{SharedHashes}
+use Rattle.refspec_match.specs.Private.Shared.{HasBit, HasShared, hash_at}
 use Rattle.refspec_match.specs.Private.Kept.{AreKeysOf, FindsRepeats, FlagsRepeats, Has, IsFlagged, IsKey, IsRepeat, IsSameAt, IsSecond, PointsBack, Rises, pair_hash, places_in}
 use Rattle.refspec_match.proofs.lemmas.keep.RepeatLemmas.{Contains-from_Has, Has-left, Has-permuted, Has-right, Rises-push, all_join, all_permuted, all_weaker, apart_places, pair_hash-same, rises_at, some_mapping}
 
@@ -44,6 +46,12 @@ lower_rest a b bits same less =
     let up : a / 2 ^ bits * 2 ^ bits ≡ b / 2 ^ bits * 2 ^ bits = ap (λ x. x * 2 ^ bits) same in
     omega (arith, shr_split a bits, shr_split b bits, up, less)
 
+upto : (k n : ℕ) → k < n + 1 → (k < n) ⊎ (k ≡ n)
+upto k n under = elim (cases_lt k n) [
+  | inl less ↦ inl less
+  | inr above ↦ inr (omega arith)
+]
+
 -- a key that was made of the hash of a mapping and its place
 pub key_fits : (seed : FoldHasher) (ms : List Mapping) (bits key hash place : ℕ) (m : Mapping) → place < length ms → key / 2 ^ bits ≡ hash / 2 ^ bits → key % 2 ^ bits ≡ place → hash ≡ pair_hash seed (mapped_of m) → ((d : Mapping) → m ≡ get_or ms place d) → IsKey seed ms bits key
 key_fits seed ms bits key hash place m below bucket here is read = (
@@ -52,33 +60,49 @@ key_fits seed ms bits key hash place m below bucket here is read = (
 )
 
 -- one more key, at its place
-pub keys_more : (seed : FoldHasher) (ms : List Mapping) (bits : ℕ) (keys new : List ℕ) (key place : ℕ) → new ≡ keys ++ key ∷ [] → key % 2 ^ bits ≡ place → IsKey seed ms bits key → AllByRecursion (IsKey seed ms bits) keys → length keys ≡ place → ((k : ℕ) → k < place → Has (places_in bits keys) k) → Rises (places_in bits keys) → AllByRecursion (λ n. n < place) (places_in bits keys) → AllByRecursion (IsKey seed ms bits) new × (length new ≡ place + 1) × ((k : ℕ) → k < place + 1 → Has (places_in bits new) k) × Rises (places_in bits new) × AllByRecursion (λ n. n < place + 1) (places_in bits new)
-keys_more seed ms bits keys new key place is here one each count every rises below =
-    let places : places_in bits new ≡ places_in bits keys ++ place ∷ [] = ap (places_in bits) is ∙ map-append (λ (x : ℕ). x % 2 ^ bits) keys (key ∷ []) ∙ ap (λ (n : ℕ). places_in bits keys ++ n ∷ []) here in
-    let size : length new ≡ length keys + 1 = ap length is ∙ length-append keys (key ∷ []) in (
+pub keys_more : (seed : FoldHasher) (ms : List Mapping) (bits : ℕ) (keys new : List ℕ) (key place : ℕ) (Wanted : ℕ → Type 0) → new ≡ keys ++ key ∷ [] → key % 2 ^ bits ≡ place → IsKey seed ms bits key → AllByRecursion (IsKey seed ms bits) keys → ((k : ℕ) → k < place → Wanted k → Has (places_in bits keys) k) → Rises (places_in bits keys) → AllByRecursion (λ n. n < place) (places_in bits keys) → AllByRecursion (IsKey seed ms bits) new × ((k : ℕ) → k < place + 1 → Wanted k → Has (places_in bits new) k) × Rises (places_in bits new) × AllByRecursion (λ n. n < place + 1) (places_in bits new)
+keys_more seed ms bits keys new key place Wanted is here one each every rises below =
+    let places : places_in bits new ≡ places_in bits keys ++ place ∷ [] = ap (places_in bits) is ∙ map-append (λ (x : ℕ). x % 2 ^ bits) keys (key ∷ []) ∙ ap (λ (n : ℕ). places_in bits keys ++ n ∷ []) here in (
       subst (λ (xs : List ℕ). AllByRecursion (IsKey seed ms bits) xs) (sym is) (all_join (IsKey seed ms bits) keys (key ∷ []) each (one, tt)),
-      omega (arith, size, count),
-      λ k under. subst (λ (ns : List ℕ). Has ns k) (sym places) (elim (upto k place under) [
-        | inl less ↦ Has-left (places_in bits keys) (place ∷ []) k (every k less)
+      λ k under wanted. subst (λ (ns : List ℕ). Has ns k) (sym places) (elim (upto k place under) [
+        | inl less ↦ Has-left (places_in bits keys) (place ∷ []) k (every k less wanted)
         | inr last ↦ Has-right (places_in bits keys) (place ∷ []) k (inl (sym last))
       ]),
       subst (λ (ns : List ℕ). Rises ns) (sym places) (Rises-push (places_in bits keys) place rises below),
       subst (λ (ns : List ℕ). AllByRecursion (λ n. n < place + 1) ns) (sym places) (all_join (λ n. n < place + 1) (places_in bits keys) (place ∷ []) (all_weaker (λ n. n < place) (λ n. n < place + 1) (λ n less. omega arith) (places_in bits keys) below) (omega arith, tt)),
     )
-  where
-    upto : (k n : ℕ) → k < n + 1 → (k < n) ⊎ (k ≡ n)
-    upto k n under = elim (cases_lt k n) [
-      | inl less ↦ inl less
-      | inr above ↦ inr (omega arith)
-    ]
 
--- all keys, in another order
+-- no key for a place whose hash no other one has
+pub keys_same : (bits : ℕ) (keys : List ℕ) (place : ℕ) (Wanted : ℕ → Type 0) → ¬ (Wanted place) → ((k : ℕ) → k < place → Wanted k → Has (places_in bits keys) k) → AllByRecursion (λ n. n < place) (places_in bits keys) → ((k : ℕ) → k < place + 1 → Wanted k → Has (places_in bits keys) k) × AllByRecursion (λ n. n < place + 1) (places_in bits keys)
+keys_same bits keys place Wanted unwanted every below = (
+  λ k under wanted. elim (upto k place under) [
+    | inl less ↦ every k less wanted
+    | inr last ↦ absurd (unwanted (subst Wanted last wanted))
+  ],
+  all_weaker (λ n. n < place) (λ n. n < place + 1) (λ n less. omega arith) (places_in bits keys) below,
+)
+
+-- keys in another order
 pub keys_permuted : (seed : FoldHasher) (ms : List Mapping) (bits : ℕ) (xs ys : List ℕ) → IsPermutation xs ys → AreKeysOf seed ms bits xs → AreKeysOf seed ms bits ys
 keys_permuted seed ms bits xs ys moved all = record {
   each = all_permuted (IsKey seed ms bits) xs ys moved all.each;
-  every = λ k below. Has-permuted (places_in bits xs) (places_in bits ys) k (IsPermutation-map (λ (x : ℕ). x % 2 ^ bits) xs ys moved) (all.every k below);
-  count = length_permutation xs ys moved ∙ all.count;
+  earlier = λ j k before below same. still j (all.earlier j k before below same);
+  later = λ j k before below same. still k (all.later j k before below same);
 }
+  where
+    still : (k : ℕ) → Has (places_in bits xs) k → Has (places_in bits ys) k
+    still k = Has-permuted (places_in bits xs) (places_in bits ys) k (IsPermutation-map (λ (x : ℕ). x % 2 ^ bits) xs ys moved)
+
+-- the keys of all places whose hash may be shared
+pub keys_made : (seed : FoldHasher) (ms : List Mapping) (bits : ℕ) (keys : List ℕ) (shared : SharedHashes) → HasShared seed ms shared → AllByRecursion (IsKey seed ms bits) keys → ((k : ℕ) → k < length ms → ((d : Mapping) → HasBit shared.bits (hash_at seed ms d k)) → Has (places_in bits keys) k) → AreKeysOf seed ms bits keys
+keys_made seed ms bits keys shared has each every = record {
+  each = each;
+  earlier = λ j k before below same. every j (omega (arith, before, below)) (λ d. subst (HasBit shared.bits) (sym (alike j k d same)) (has.all j k d before below (alike j k d same)));
+  later = λ j k before below same. every k below (λ d. has.all j k d before below (alike j k d same));
+}
+  where
+    alike : (j k : ℕ) (d : Mapping) → IsSameAt ms j k → hash_at seed ms d j ≡ hash_at seed ms d k
+    alike j k d same = pair_hash-same seed (mapped_of (get_or ms j d)) (mapped_of (get_or ms k d)) (same d)
 
 rises_from_pairs : (ns : List ℕ) → AllPairs (λ (n : ℕ) (m : ℕ). n < m) ns → Rises ns
 rises_from_pairs [] pairs = tt
@@ -104,9 +128,9 @@ rises_from_sorted bits xs ys moved rises sorted = rises_from_pairs ys (λ i j d 
         (λ is less. less)
 
 -- where in the keys a place is
-key_at : (seed : FoldHasher) (ms : List Mapping) (bits : ℕ) (keys : List ℕ) (k : ℕ) → AreKeysOf seed ms bits keys → k < length ms → (at : ℕ) × (at < length keys) × (get_or keys at 0 % 2 ^ bits ≡ k)
-key_at seed ms bits keys k all below =
-    let at = Contains-from_Has (places_in bits keys) k (all.every k below) in
+key_at : (bits : ℕ) (keys : List ℕ) (k : ℕ) → Has (places_in bits keys) k → (at : ℕ) × (at < length keys) × (get_or keys at 0 % 2 ^ bits ≡ k)
+key_at bits keys k has =
+    let at = Contains-from_Has (places_in bits keys) k has in
     let inside : at.0 < length keys = let fits = at.1 in omega (arith, fits, length-map keys (λ (x : ℕ). x % 2 ^ bits)) in
     (at.0, inside, sym (get_or-map (λ (x : ℕ). x % 2 ^ bits) keys at.0 0 k inside) ∙ at.2)
 
@@ -118,8 +142,8 @@ bucket_at seed ms bits keys at k d all inside here = (All-from_recursion (IsKey 
 pub second_from_repeat : (seed : FoldHasher) (ms : List Mapping) (bits : ℕ) (keys : List ℕ) (k : ℕ) → AreKeysOf seed ms bits keys → Rises keys → k < length ms → IsRepeat ms k → (at : ℕ) × IsSecond bits keys at × (get_or keys at 0 % 2 ^ bits ≡ k)
 second_from_repeat seed ms bits keys k all rises below (j, before, pair) =
     let d = some_mapping ms k below in
-    let b = key_at seed ms bits keys k all below in
-    let a = key_at seed ms bits keys j all (omega (arith, before, below)) in
+    let b = key_at bits keys k (all.later j k before below pair) in
+    let a = key_at bits keys j (all.earlier j k before below pair) in
     let fits_a : a.0 < length keys = a.1 in
     let fits_b : b.0 < length keys = b.1 in
     let same : get_or keys a.0 0 / 2 ^ bits ≡ get_or keys b.0 0 / 2 ^ bits =
@@ -189,15 +213,15 @@ given_same bits keys earlier at a b is_a is_b other before t under second = elim
 ]
 
 -- the repeats, of which each key has the upper bits of the one before it, have an earlier place
-pub finds_from_keys : (seed : FoldHasher) (ms : List Mapping) (bits : ℕ) (keys earlier : List ℕ) → AreKeysOf seed ms bits keys → Rises keys → length earlier ≤ length keys → ((at : ℕ) → IsSecond bits keys at → PointsBack earlier (get_or keys at 0 % 2 ^ bits)) → FindsRepeats ms earlier
+pub finds_from_keys : (seed : FoldHasher) (ms : List Mapping) (bits : ℕ) (keys earlier : List ℕ) → AreKeysOf seed ms bits keys → Rises keys → length earlier ≤ length ms → ((at : ℕ) → IsSecond bits keys at → PointsBack earlier (get_or keys at 0 % 2 ^ bits)) → FindsRepeats ms earlier
 finds_from_keys seed ms bits keys earlier all rises fits points = record {
-  fits = let count = all.count in omega (arith, fits, count);
+  fits = fits;
   finds = λ k below repeat. let second = second_from_repeat seed ms bits keys k all rises below repeat in subst (λ (n : ℕ). PointsBack earlier n) second.2 (points second.0 second.1);
 }
 
--- each place in a key is below the number of keys
-pub places_below : (seed : FoldHasher) (ms : List Mapping) (bits : ℕ) (keys : List ℕ) → AreKeysOf seed ms bits keys → AllByRecursion (λ key. key % 2 ^ bits < length keys) keys
-places_below seed ms bits keys all = all_weaker (IsKey seed ms bits) (λ key. key % 2 ^ bits < length keys) (λ key is. let below = is.0 in let count = all.count in omega (arith, below, count)) keys all.each
+-- each place in a key is that of a mapping
+pub places_below : (seed : FoldHasher) (ms : List Mapping) (bits : ℕ) (keys : List ℕ) → AreKeysOf seed ms bits keys → AllByRecursion (λ key. key % 2 ^ bits < length ms) keys
+places_below seed ms bits keys all = all_weaker (IsKey seed ms bits) (λ key. key % 2 ^ bits < length ms) (λ key is. is.0) keys all.each
 
 -- a flag more
 pub flags_next : (ms : List Mapping) (earlier : List ℕ) (flags new : List Bool) (place v : ℕ) (flag : Bool) → new ≡ flags ++ flag ∷ [] → v ≡ get_or earlier place place → ((flag ≡ true) × (v < place) × IsSameAt ms v place) ⊎ ((flag ≡ false) × (place ≤ v)) → length flags ≡ place → ((k : ℕ) → k < place → IsFlagged flags k ↔ PointsBack earlier k) → ((k : ℕ) → k < place → PointsBack earlier k → IsSameAt ms (get_or earlier k k) k) → (length new ≡ place + 1) × ((k : ℕ) → k < place + 1 → IsFlagged new k ↔ PointsBack earlier k) × ((k : ℕ) → k < place + 1 → PointsBack earlier k → IsSameAt ms (get_or earlier k k) k)
@@ -213,12 +237,6 @@ flags_next ms earlier flags new place v flag is is_v told size flagged same = (
   ],
 )
   where
-    upto : (k n : ℕ) → k < n + 1 → (k < n) ⊎ (k ≡ n)
-    upto k n under = elim (cases_lt k n) [
-      | inl less ↦ inl less
-      | inr above ↦ inr (omega arith)
-    ]
-
     old : (k : ℕ) → k < place → get_or new k false ≡ get_or flags k false
     old k less = ap (λ (xs : List Bool). get_or xs k false) is ∙ get_or_append_left flags (flag ∷ []) false k (omega (arith, less, size))
 

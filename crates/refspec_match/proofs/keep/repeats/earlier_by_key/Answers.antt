@@ -8,7 +8,7 @@ use Rattle.refspec_match.proofs.keep.repeats.earlier_by_key.Goals.{then-bucket_o
 pub loop-at-preserved : goal.loop-at-preserved
 loop-at-preserved c =
     let keys = c.args.keys.now in
-    let stays : List ℕ → Type 0 = λ earlier. ((earlier ≡ []) ⊎ (length earlier ≡ length keys)) × ((t : ℕ) → t < c.loop-at.at + 1 → IsSecond c.args.bits keys t → PointsBack earlier (get_or keys t 0 % 2 ^ c.args.bits)) in
+    let stays : List ℕ → Type 0 = λ earlier. ((earlier ≡ []) ⊎ (length earlier ≡ c.args.len)) × ((t : ℕ) → t < c.loop-at.at + 1 → IsSecond c.args.bits keys t → PointsBack earlier (get_or keys t 0 % 2 ^ c.args.bits)) in
     elim c.if-bucket_of.branch [
       | then-bucket_of+in_ok-point_back w ↦ subst stays (ap (λ (v : Vec ℕ Global). v.items) (sym w.earlier-is)) (
         inr w.in_ok-point_back.ensures.fits,
