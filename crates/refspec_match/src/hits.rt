@@ -309,32 +309,11 @@ fn backward_mapping<'spec, 'item>(hit: Hit<'spec, 'item>) -> Mapping<'spec, 'ite
 
 impl<'m, 'spec, 'item> Matching<'m, 'spec, 'item> {
     ghost use Rattle.refspec_match.specs.Private.HitViews.{AddsHitAt, AddsHitsOf, HasEnds, TakesEach, TakesIn, AreIdMappings, mapped_of_made};
-    ghost use Rattle.refspec_match.specs.Private.EqualSpecs.{AddsMost, AddsMostOfKinds, AreMostMade};
+    ghost use Rattle.refspec_match.specs.Private.EqualSpecs.{AddsMost, AddsMostOfKinds};
     ghost use Rattle.refspec_match.specs.Private.Index.{ArePlacesFittedTo, ArePlacesFor, ArePlacesTaken, IsIndexFor, IsIndexOfSide, MatchesWhole};
 
-    // The mappings: those of ids by spec, from left to right alone, and then those of items by spec and
-    // item, without those of specs that equal an earlier one.
-    pub(crate) fn mappings<'n>(
-        &self,
-        index: &NameIndex<'n>,
-        survey: Survey,
-    ) -> Result<Made<'spec, 'item>, AllocError>
-    where
-        'spec: 'n,
-        requires index { IsIndexFor self.now.direction
-            (map reading_of self.now.specs.now) (map ref_of self.now.items.now) index.now }
-        requires survey { IsSurveyOf self.now survey }
-        ensures { IfOk result (λ made. AreMostMade self.now.direction
-            (map reading_of self.now.specs.now) (map ref_of self.now.items.now)
-            (mapped_of_made self.now.direction made)) }
-    {
-        let mut made = self.started(survey.room)?;
-        self.add_hits(index, survey, &mut made)?;
-        Ok(made)
-    }
-
-    // The mappings that take no item, with room for `room` in all.
-    fn started(&self, room: usize) -> Result<Made<'spec, 'item>, AllocError>
+    // The mappings that take no item, those of ids from left to right, with room for `room` in all.
+    pub(crate) fn started(&self, room: usize) -> Result<Made<'spec, 'item>, AllocError>
         ensures { IfOk result (λ made. AreIdMappings self.now.direction
             (map reading_of self.now.specs.now) (mapped_of_made self.now.direction made)) }
     {
@@ -351,7 +330,7 @@ impl<'m, 'spec, 'item> Matching<'m, 'spec, 'item> {
     }
 
     // Adds the mappings of the specs that aren't flagged as equal to an earlier one.
-    fn add_hits<'n>(
+    pub(crate) fn add_hits<'n>(
         &self,
         index: &NameIndex<'n>,
         mut survey: Survey,

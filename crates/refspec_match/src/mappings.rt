@@ -103,7 +103,8 @@ impl<'m, 'spec, 'item> Matching<'m, 'spec, 'item> {
         requires survey { IsSurveyOf self.now survey }
         ensures { IfOk result (IsKeptOf self.now) }
     {
-        let mut made = self.mappings(index, survey)?;
+        let mut made = self.started(survey.room)?;
+        self.add_hits(index, survey, &mut made)?;
         match self.direction {
             Direction::Forward => keep(self.alloc, self.specs, &mut made.forward)?,
             Direction::Backward => keep(self.alloc, self.specs, &mut made.backward)?,

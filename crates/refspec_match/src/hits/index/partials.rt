@@ -44,13 +44,18 @@ impl<'n> PartialIndex<'n> {
             return Ok(PartialIndex { direction, places });
         }
         let filter = Filter::of(alloc, names)?;
+        let lookup = Lookup {
+            direction,
+            items,
+            filter,
+        };
         let tails = ShortTails::of(alloc, names)?;
         for (place, item) in items.iter().enumerate() {
             let name = item.full_ref_name.as_bytes();
             if !tails.may_have(name) {
                 continue;
             }
-            add_item(direction, name, place, items, &filter, &mut places)?;
+            lookup.add_item(name, place, &mut places)?;
         }
         Ok(PartialIndex { direction, places })
     }
@@ -85,33 +90,64 @@ impl<'n> PartialIndex<'n> {
     }
 }
 
-// Adds the place of an item to those of each partial name that may stand for its name. That is the name
-// itself, or what is left of it with a place taken off.
-fn add_item<'n>(
+// How the places of partial names are found: in a direction, of these items, and for the names that pass.
+#[derive(Drop)]
+struct Lookup<'l, 'item> {
     direction: Direction,
-    name: &'n [u8],
-    place: usize,
-    items: &[Item<'_>],
-    filter: &Filter,
-    places: &mut HashMap<Key<'n>, Vec<usize>>,
-) -> Result<(), AllocError>
-    requires { IsWholeFilter filter.now }
-    ensures { OnOk result (AddsWhere (Passes filter.now) (λ x. IsCandidate x name.now)
-        (Joins direction (map ref_of items.now) place) (list_of places.old) (list_of places.new)) }
-{
-    add_to(direction, name, place, items, filter, places)?;
-    let Some(below) = below_refs(name) else {
-        return Ok(());
-    };
-    add_to(direction, below, place, items, filter, places)?;
-    let Some(short) = below_place(below) else {
-        return Ok(());
-    };
-    add_to(direction, short, place, items, filter, places)?;
-    let Some(remote) = remote_of_head(below) else {
-        return Ok(());
-    };
-    add_to(direction, remote, place, items, filter, places)
+    items: &'l [Item<'item>],
+    filter: Filter,
+}
+
+impl<'l, 'item> Lookup<'l, 'item> {
+    // Adds the place of an item to those of each partial name that may stand for its name. That is the name
+    // itself, or what is left of it with a place taken off.
+    fn add_item<'n>(
+        &self,
+        name: &'n [u8],
+        place: usize,
+        places: &mut HashMap<Key<'n>, Vec<usize>>,
+    ) -> Result<(), AllocError>
+        requires { IsWholeFilter self.now.filter }
+        ensures { OnOk result (AddsWhere (Passes self.now.filter) (λ x. IsCandidate x name.now)
+            (Joins self.now.direction (map ref_of self.now.items.now) place)
+            (list_of places.old) (list_of places.new)) }
+    {
+        self.add(name, place, places)?;
+        let Some(below) = below_refs(name) else {
+            return Ok(());
+        };
+        self.add(below, place, places)?;
+        let Some(short) = below_place(below) else {
+            return Ok(());
+        };
+        self.add(short, place, places)?;
+        let Some(remote) = remote_of_head(below) else {
+            return Ok(());
+        };
+        self.add(remote, place, places)
+    }
+
+    // Adds a place to those of a partial name, if that is asked for.
+    #[inline(always)]
+    fn add<'n>(
+        &self,
+        partial: &'n [u8],
+        place: usize,
+        places: &mut HashMap<Key<'n>, Vec<usize>>,
+    ) -> Result<(), AllocError>
+        requires { IsWholeFilter self.now.filter }
+        ensures { OnOk result (AddsWhere (Passes self.now.filter) (λ x. partial.now ≡ x)
+            (Joins self.now.direction (map ref_of self.now.items.now) place)
+            (list_of places.old) (list_of places.new)) }
+    {
+        if !self.filter.passes(partial) {
+            return Ok(());
+        }
+        match places.get_mut(&Key { name: partial }) {
+            None => Ok(()),
+            Some(list) => join(self.direction, place, self.items, list),
+        }
+    }
 }
 
 // What follows the place in a name below `refs/`.
@@ -152,29 +188,6 @@ fn below_remotes(below: &[u8]) -> Option<&[u8]>
     match below {
         [b'r', b'e', b'm', b'o', b't', b'e', b's', b'/', head @ ..] => Some(head),
         _ => None,
-    }
-}
-
-// Adds a place to those of a partial name, if that is asked for.
-#[inline(always)]
-fn add_to<'n>(
-    direction: Direction,
-    partial: &'n [u8],
-    place: usize,
-    items: &[Item<'_>],
-    filter: &Filter,
-    places: &mut HashMap<Key<'n>, Vec<usize>>,
-) -> Result<(), AllocError>
-    requires { IsWholeFilter filter.now }
-    ensures { OnOk result (AddsWhere (Passes filter.now) (λ x. partial.now ≡ x)
-        (Joins direction (map ref_of items.now) place) (list_of places.old) (list_of places.new)) }
-{
-    if !filter.passes(partial) {
-        return Ok(());
-    }
-    match places.get_mut(&Key { name: partial }) {
-        None => Ok(()),
-        Some(list) => join(direction, place, items, list),
     }
 }
 
