@@ -50,7 +50,11 @@ impl<'spec> MatchGroup<'spec> {
         ensures err { IfErr result (λ e. e.group ≡ self.entry) }
         ensures memory { OnErr result (¬ (Maps AreForward self.entry items.now [])) }
     {
-        Ok(self.kept(alloc, Direction::Forward, items)?.forward())
+        let Kept { group, made } = self.kept(alloc, Direction::Forward, items)?;
+        Ok(Outcome {
+            group,
+            mappings: made.forward,
+        })
     }
 
     /// Matches items by the destinations of the specs, and maps them back to their sources: which
@@ -70,7 +74,11 @@ impl<'spec> MatchGroup<'spec> {
         ensures err { IfErr result (λ e. e.group ≡ self.entry) }
         ensures memory { OnErr result (¬ (Maps AreBackward self.entry items.now [])) }
     {
-        Ok(self.kept(alloc, Direction::Backward, items)?.backward())
+        let Kept { group, made } = self.kept(alloc, Direction::Backward, items)?;
+        Ok(Outcome {
+            group,
+            mappings: made.backward,
+        })
     }
 
     // The group, with the mappings of a direction that are kept.
@@ -105,30 +113,4 @@ impl<'spec> MatchGroup<'spec> {
 struct Kept<'spec, 'item> {
     group: MatchGroup<'spec>,
     made: Made<'spec, 'item>,
-}
-
-impl<'spec, 'item> Kept<'spec, 'item> {
-    // The outcome from left to right.
-    fn forward(self) -> match_lhs::Outcome<'spec, 'item>
-        ensures { (result.group ≡ self.entry.group) × (result.mappings ≡ self.entry.made.forward) }
-    {
-        outcome_of(self.group, self.made.forward)
-    }
-
-    // The outcome from right to left.
-    fn backward(self) -> match_rhs::Outcome<'spec, 'item>
-        ensures { (result.group ≡ self.entry.group) × (result.mappings ≡ self.entry.made.backward) }
-    {
-        outcome_of(self.group, self.made.backward)
-    }
-}
-
-// The outcome that has this group and these mappings.
-fn outcome_of<'spec, 'lhs, 'rhs, const FORWARD: bool>(
-    group: MatchGroup<'spec>,
-    mappings: Vec<Mapping<'lhs, 'rhs>>,
-) -> Outcome<'spec, 'lhs, 'rhs, FORWARD>
-    ensures { (result.group ≡ group.entry) × (result.mappings ≡ mappings.entry) }
-{
-    Outcome { group, mappings }
 }

@@ -6,10 +6,9 @@ ghost use Rattle.std.specs.Prelude.{◌≡◌, [], ℕ, map, option_map, IfOk, I
 ghost use Rattle.bstr.specs.BStr.{bstr_bytes};
 ghost use Rattle.refspec_text.specs.Views.Spec.{reading_of};
 ghost use Rattle.refspec_match.specs.Views.Mapping.{ref_of, mapped_of};
-ghost use Rattle.refspec_match.specs.Matching.Hits.{AreHits, forward_of, backward_of};
+ghost use Rattle.refspec_match.specs.Matching.Hits.{AreHits};
 ghost use Rattle.refspec_text.specs.Private.SideViews.{kind_of_side};
-ghost use Rattle.refspec_match.specs.Private.Index.{ArePlacesFitted, HasListed, IsListedStill, IsSurveyOf, ListsFitted, ListsFor};
-ghost use Rattle.refspec_match.specs.Private.EqualSpecs.{FlagsEqual};
+ghost use Rattle.refspec_match.specs.Private.Index.{ArePlacesFitted, HasListed, IsListedStill, IsSurveyOf, ListsFor};
 ghost use Rattle.refspec_match.specs.Private.HitViews.{hit_of};
 ghost use Rattle.refspec_match.specs.Private.Part.{FlagsRepeated, moved, place_among};
 
@@ -103,7 +102,11 @@ impl Survey {
         requires { FlagsRepeated (map ref_of matching.now.items.now) index.now.repeated.items }
         ensures { IfOk result (IsSurveyOf matching.now) }
     {
-        let equal = equal_by(matching, index)?;
+        let equal = if index.has_each_once() {
+            Vec::new(matching.alloc)
+        } else {
+            equal_specs(matching.alloc, matching.specs)?
+        };
         if index.is_by_name() {
             return Ok(Survey {
                 equal,
@@ -145,16 +148,6 @@ impl Survey {
     }
 }
 
-// Flags of specs that have the sides of an earlier one. None has, where no name is asked for twice.
-fn equal_by(matching: &Matching<'_, '_, '_>, index: &NameIndex<'_>) -> Result<Vec<bool>, AllocError>
-    ensures { IfOk result (λ flags. FlagsEqual (map reading_of matching.now.specs.now) flags.items) }
-{
-    if index.has_each_once() {
-        return Ok(Vec::new(matching.alloc));
-    }
-    equal_specs(matching.alloc, matching.specs)
-}
-
 // How many places are listed.
 fn listed(places: &Option<Vec<usize>>) -> usize {
     match places {
@@ -164,7 +157,8 @@ fn listed(places: &Option<Vec<usize>>) -> usize {
 }
 
 impl Look {
-    // Looks at a spec, and lists no places if there are more than `most`.
+    // Looks at a spec: through the items for those that its near end matches, unless that is a name. It lists
+    // no places if there are more than `most`.
     fn at<'spec: 'n, 'n>(
         matching: &Matching<'_, 'spec, '_>,
         spec: &RefSpecRef<'spec>,
@@ -175,43 +169,22 @@ impl Look {
         ensures { IfOk result (λ look. ListsFor matching.now.direction
             (reading_of spec.now) (map ref_of matching.now.items.now) look.fitted) }
     {
-        if let Some(near) = near_of(matching.direction, spec) {
-            return Look::through(matching.alloc, near, index, matching.items, most);
-        }
-        let count = match matching.direction {
-            Direction::Forward => usize::from(asked_of(spec).is_some()),
-            Direction::Backward => 0,
+        let items = matching.items;
+        let Some(near) = near_of(matching.direction, spec) else {
+            return Ok(Look::counted(ids_made(matching.direction, spec)));
         };
-        Ok(Look {
-            fitted: None,
-            count,
-        })
-    }
-
-    // Looks through the items for those that a near end matches, unless it is a name.
-    fn through<'n>(
-        alloc: Global,
-        near: SideKind<'n>,
-        index: &NameIndex<'n>,
-        items: &[Item<'_>],
-        most: usize,
-    ) -> Result<Look, AllocError>
-        requires { FlagsRepeated (map ref_of items.now) index.now.repeated.items }
-        ensures { IfOk result (λ look. ListsFitted (kind_of_side near.entry) (map ref_of items.now) look.fitted) }
-    {
-        match near {
-            SideKind::FullName(_) | SideKind::Partial(_) => Ok(Look::counted(0)),
-            SideKind::Object(_) => Ok(Look::counted(count_among(near, items))),
-            SideKind::Pattern { before, after } => match index.places_behind(before) {
-                Some(places) => Ok(Look::counted(count_at(near, places, items))),
-                None => match fitted_places(alloc, before, after, index.repeated(), items, most)? {
-                    None => Ok(Look::counted(count_among(near, items))),
-                    Some(places) => Ok(Look {
-                        count: places.len(),
-                        fitted: Some(places),
-                    }),
-                },
-            },
+        let SideKind::Pattern { before, after } = near else {
+            return Ok(Look::counted(count_unless_named(near, items)));
+        };
+        if let Some(places) = index.places_behind(before) {
+            return Ok(Look::counted(count_at(near, places, items)));
+        }
+        match fitted_places(matching.alloc, before, after, index.repeated(), items, most)? {
+            None => Ok(Look::counted(count_among(near, items))),
+            Some(places) => Ok(Look {
+                count: places.len(),
+                fitted: Some(places),
+            }),
         }
     }
 
@@ -223,6 +196,22 @@ impl Look {
             fitted: None,
             count,
         }
+    }
+}
+
+// How many mappings a spec makes that takes no item: one, from left to right, if it asks for an id.
+fn ids_made(direction: Direction, spec: &RefSpecRef<'_>) -> usize {
+    match direction {
+        Direction::Forward => usize::from(asked_of(spec).is_some()),
+        Direction::Backward => 0,
+    }
+}
+
+// How many of the items a side matches. None is counted for a name, which is looked up.
+fn count_unless_named(near: SideKind<'_>, items: &[Item<'_>]) -> usize {
+    match near {
+        SideKind::FullName(_) | SideKind::Partial(_) => 0,
+        _ => count_among(near, items),
     }
 }
 
@@ -278,33 +267,6 @@ fn fitted_places(
     }
     places.shrink_to_fit();
     Ok(Some(places))
-}
-
-// From left to right an item's name is the source.
-#[inline(always)]
-fn forward_mapping<'spec, 'item>(hit: Hit<'spec, 'item>) -> Mapping<'item, 'spec>
-    ensures { mapped_of result ≡ forward_of (hit_of hit.entry) }
-{
-    Mapping {
-        item_index: Some(hit.item),
-        lhs: SourceRef::FullName(NameRef::Borrowed(hit.near)),
-        rhs: hit.far,
-        spec_index: hit.spec,
-    }
-}
-
-// From right to left an item's name is the destination. The far end is there.
-#[inline(always)]
-fn backward_mapping<'spec, 'item>(hit: Hit<'spec, 'item>) -> Mapping<'spec, 'item>
-    ensures { mapped_of result ≡ backward_of (hit_of hit.entry) }
-{
-    let source = hit.far.unwrap_or(NameRef::Borrowed(BStr::new(b"")));
-    Mapping {
-        item_index: Some(hit.item),
-        lhs: SourceRef::FullName(source),
-        rhs: Some(NameRef::Borrowed(hit.near)),
-        spec_index: hit.spec,
-    }
 }
 
 impl<'m, 'spec, 'item> Matching<'m, 'spec, 'item> {
@@ -494,15 +456,27 @@ impl<'spec, 'item> Made<'spec, 'item> {
     ghost use Rattle.refspec_match.specs.declared.hits.ends.Direction.{Direction};
     ghost use Rattle.refspec_match.specs.Private.HitViews.{mapped_of_made, mapping_of};
 
-    // Adds the mapping of a hit.
+    // Adds the mapping of a hit. From left to right the item's name is the source, and from right to left the
+    // destination; the far end is there then.
     #[inline(always)]
     fn add(&mut self, direction: Direction, hit: Hit<'spec, 'item>) -> Result<(), AllocError>
         ensures { OnOk result (mapped_of_made direction self.new ≡
             mapped_of_made direction self.old ++ mapping_of direction (hit_of hit.entry) ∷ []) }
     {
+        let near = NameRef::Borrowed(hit.near);
         match direction {
-            Direction::Forward => self.forward.push(forward_mapping(hit))?,
-            Direction::Backward => self.backward.push(backward_mapping(hit))?,
+            Direction::Forward => self.forward.push(Mapping {
+                item_index: Some(hit.item),
+                lhs: SourceRef::FullName(near),
+                rhs: hit.far,
+                spec_index: hit.spec,
+            })?,
+            Direction::Backward => self.backward.push(Mapping {
+                item_index: Some(hit.item),
+                lhs: SourceRef::FullName(hit.far.unwrap_or(NameRef::Borrowed(BStr::new(b"")))),
+                rhs: Some(near),
+                spec_index: hit.spec,
+            })?,
         }
         Ok(())
     }

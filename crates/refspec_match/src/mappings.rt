@@ -13,7 +13,6 @@ use crate::hits::index::{NameIndex, names_asked};
 use crate::hits::repeated::seem_repeated;
 use crate::hits::{Made, Matching, Survey};
 use crate::keep::keep;
-use crate::types::Item;
 use part::Part;
 use presence::makes_some;
 use std::alloc::AllocError;
@@ -56,7 +55,10 @@ impl<'m, 'spec, 'item> Matching<'m, 'spec, 'item> {
         }
         let index = NameIndex::of(self.alloc, self.direction, &names, self.items)?;
         let survey = Survey::of(self, &index)?;
-        if names.by_id || !names_repeat(&index, survey.room, self.items) {
+        // Names repeat if one that is asked for is listed twice, or if patterns make more mappings than there
+        // are items.
+        let repeats = index.has_repeats() || self.items.len() < survey.room;
+        if names.by_id || !repeats {
             return self.kept_with(&index, survey);
         }
         drop(index);
@@ -111,10 +113,4 @@ impl<'m, 'spec, 'item> Matching<'m, 'spec, 'item> {
         }
         Ok(made)
     }
-}
-
-// Whether names repeat: one that is asked for is listed twice, or more mappings of patterns would be made
-// than there are items.
-fn names_repeat(index: &NameIndex<'_>, room: usize, items: &[Item<'_>]) -> bool {
-    index.has_repeats() || items.len() < room
 }

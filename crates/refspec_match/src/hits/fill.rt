@@ -3,9 +3,8 @@
 ghost use Rattle.std.specs.Prelude.{◌≡◌, ◌++◌, codes, option_map, IfOk};
 ghost use Rattle.bstr.specs.Owned.{bstring_bytes};
 ghost use Rattle.refspec_text.specs.Texts.ObjectId.{id_bytes, lower_of};
-ghost use Rattle.refspec_text.specs.Matching.Side.{filled as filled_by, full_name_of};
+ghost use Rattle.refspec_text.specs.Matching.Side.{full_name_of};
 ghost use Rattle.refspec_match.specs.Views.Mapping.{name_bytes};
-ghost use Rattle.refspec_text.specs.Private.SideViews.{kind_of_side};
 ghost use Rattle.refspec_match.specs.Private.HitViews.{filled_end as end_filled};
 
 use crate::types::NameRef;
@@ -14,7 +13,8 @@ use refspec_text::oid::ObjectId;
 use refspec_text::side::{SideKind, joined};
 use std::alloc::{AllocError, Global};
 
-// What the far end becomes, where there is one.
+// What the far end becomes, where there is one and the near end matched with this word, or with none. A full
+// name is borrowed from the spec.
 #[inline(always)]
 pub(crate) fn filled_end<'spec>(
     alloc: Global,
@@ -24,24 +24,10 @@ pub(crate) fn filled_end<'spec>(
     ensures { IfOk result (λ name. option_map name_bytes name ≡
         end_filled end.entry (option_map (λ w. w.now) word.entry)) }
 {
-    match end {
-        None => Ok(None),
-        Some(side) => Ok(Some(filled(alloc, side, word)?)),
-    }
-}
-
-// What a side becomes where the other side matched with this word, or with none. A full name is
-// borrowed from the spec.
-#[inline(always)]
-fn filled<'spec>(
-    alloc: Global,
-    side: SideKind<'spec>,
-    word: Option<&[u8]>,
-) -> Result<NameRef<'spec>, AllocError>
-    ensures { IfOk result (λ name. name_bytes name ≡
-        filled_by (kind_of_side side.entry) (option_map (λ w. w.now) word.entry)) }
-{
-    Ok(match side {
+    let Some(side) = end else {
+        return Ok(None);
+    };
+    Ok(Some(match side {
         SideKind::FullName(name) => NameRef::Borrowed(BStr::new(name)),
         SideKind::Pattern { before, after } => {
             let word = word.unwrap_or(b"*");
@@ -49,7 +35,7 @@ fn filled<'spec>(
         }
         SideKind::Object(id) => NameRef::Owned(branch_of(alloc, &id)?),
         SideKind::Partial(name) => NameRef::Owned(joined(alloc, folder_of(name), name, b"")?),
-    })
+    }))
 }
 
 // The branch that is named by an id.

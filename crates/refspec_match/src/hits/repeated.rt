@@ -37,8 +37,11 @@ pub(crate) fn seem_repeated(alloc: Global, items: &[Item<'_>]) -> Result<bool, A
 pub(crate) fn repeated_names(alloc: Global, items: &[Item<'_>]) -> Result<Vec<bool>, AllocError>
     ensures { IfOk result (λ flags. FlagsRepeated (map ref_of items.now) flags.items) }
 {
-    let bits = bits_for(items.len());
     let mut flags = Vec::new(alloc);
+    if items.len() < 2 {
+        return Ok(flags);
+    }
+    let bits = bits_for(items.len());
     flag_recent(alloc, items, bits, &mut flags)?;
     for seed in seeds() {
         let keys = keys_in_order(alloc, items, flags.as_slice(), bits, seed)?;

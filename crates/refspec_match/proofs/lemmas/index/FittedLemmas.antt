@@ -1,14 +1,12 @@
 -- The places of the items that patterns fit, as they are listed spec by spec.
-use Rattle.std.proofs.Common.{◌≡◌, inl, inr, ℕ, ◌+◌, ◌<◌, ◌≤◌, List, [], ◌∷◌, ◌++◌, Bool, Option, None, Some, length, map, take, get_or, Result, Ok, Err, IfOk, IfSome, refl, sym, ap, ◌∙◌, subst, arith}
+use Rattle.std.proofs.Common.{◌≡◌, inl, inr, ℕ, ◌+◌, ◌<◌, ◌≤◌, List, [], ◌∷◌, ◌++◌, Bool, Option, None, Some, length, map, take, get_or, IfSome, refl, sym, ap, ◌∙◌, subst, arith}
 use Rattle.std.specs.Global.{Vec}
-use Rattle.std.specs.declared.alloc.AllocError.{AllocError}
 use Rattle.std.proofs.Math.Seq.{get_or-append_seam}
 use Rattle.std.proofs.lemmas.Bool.{cases_lt}
 use Rattle.std.proofs.lemmas.List.{append-nil, get_or-map, get_or_append_left, get_or_default, length-append, length-map}
 use Rattle.refspec_match.specs.declared.types.Item.{Item}
 use Rattle.refspec_match.specs.declared.hits.ends.Direction.{Direction}
 use Rattle.refspec_match.specs.declared.hits.ends.Ends.{Ends as DeclaredEnds}
-use Rattle.refspec_match.specs.declared.hits.Look.{Look}
 use Rattle.refspec_text.specs.declared.side.SideKind.{SideKind as DeclaredKind}
 use Rattle.refspec_text.specs.declared.spec.RefSpecRef.{RefSpecRef}
 use Rattle.refspec_text.specs.Specs.Reading.{Reading}
@@ -102,11 +100,6 @@ lists_for direction r refs near listed (ends, has, have) are other kind has_othe
     same_kind : (direction : Direction) (r : Reading) (ends other : Ends) (kind : SideKind) (near : DeclaredKind) → HasEnds direction r ends → HasEnds direction r other → HasKind ends.near (kind_of_side near) → HasKind other.near kind → kind_of_side near ≡ kind
     same_kind direction r ends other kind near has has_other have of =
         one_kind other.near (kind_of_side near) kind (subst (λ (e : Ends). HasKind e.near (kind_of_side near)) (one_pair direction r ends other has has_other) have) of
-
--- so is it of a look that finds it
-pub look_for : (direction : Direction) (r : Reading) (refs : List Ref) (near : DeclaredKind) (looked : Result Look AllocError) → (ends : Ends) × HasEnds direction r ends × HasKind ends.near (kind_of_side near) → IfOk looked (λ look. ListsFitted (kind_of_side near) refs look.fitted) → IfOk looked (λ look. ListsFor direction r refs look.fitted)
-look_for direction r refs near (Ok look) found are = lists_for direction r refs near look.fitted found are
-look_for direction r refs near (Err error) found are = tt
 
 -- the places listed for a spec are those that its near end fits
 pub listed_places : (direction : Direction) (specs : List RefSpecRef) (refs : List Ref) (i : ℕ) (s : RefSpecRef) (kinds : DeclaredEnds) (listed : List (Option (Vec ℕ))) (places : List ℕ) → i < length specs → s ≡ get_or specs i s → ListEach direction (map reading_of specs) refs listed → (ends : Ends) × HasEnds direction (reading_of s) ends × HaveKinds ends kinds → HasListed listed i places → ArePlacesFittedTo (kind_of_side kinds.near) refs places

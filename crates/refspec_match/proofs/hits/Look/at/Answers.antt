@@ -1,9 +1,19 @@
--- What is listed for the near end is listed for the spec.
-use Rattle.std.proofs.Common.{map}
+-- What is listed is listed for the pattern, which is the near end of the spec.
+use Rattle.std.proofs.Common.{Some, Vec, Global, ℕ, map, sym, subst, Option}
+use Rattle.std.specs.Prelude.{IfSome}
 use Rattle.refspec_match.specs.Views.Mapping.{ref_of}
+use Rattle.refspec_match.specs.Private.Index.{ArePlacesFitted, ListsFitted}
+use Rattle.refspec_match.specs.Private.Part.{FlagsRepeated}
+use Rattle.refspec_text.specs.Private.SideViews.{kind_of_side}
 use Rattle.refspec_text.specs.Views.Spec.{reading_of}
-use Rattle.refspec_match.proofs.lemmas.index.FittedLemmas.{look_for}
+use Rattle.refspec_match.proofs.lemmas.index.FittedLemmas.{lists_for}
 use Rattle.refspec_match.proofs.hits.Look.at.Goals as goal
 
-pub returns-in-Some : goal.returns-in-Some
-returns-in-Some c = look_for c.args.matching.now.direction (reading_of c.args.spec.now) (map ref_of c.args.matching.now.items.now) c.in-Some.near c.through.result c.in-Some.ensures c.through.ensures
+pub returns-in-Some-2 : goal.returns-in-Some-2
+returns-in-Some-2 c =
+    let refs = map ref_of c.args.matching.now.items.now in
+    let flags = c.repeated.result.now in
+    let fitted = subst (λ (o : Option (Vec ℕ Global)). IfSome o (λ v. ArePlacesFitted c.in-Pattern.before.now c.in-Pattern.after.now flags refs v.items)) c.in-Some-2.is c.in_ok-fitted_places.ensures in
+    lists_for c.args.matching.now.direction (reading_of c.args.spec.now) refs c.in-Some.near (Some c.in-Some-2.places) c.in-Some.ensures
+    (subst (λ k. ListsFitted (kind_of_side k) refs (Some c.in-Some-2.places)) (sym c.in-Pattern.is)
+    (flags, subst (FlagsRepeated refs) (sym c.repeated.ensures) c.requires, fitted))
