@@ -1,6 +1,5 @@
 //! Groups, mappings, and which of these are kept.
 
-use super::check_equal;
 use super::collisions::hash_of;
 use bstr::{BStr, BString};
 use gix_refspec::match_group::{Mapping, NameRef, NoRoom, Source, SourceRef};
@@ -8,6 +7,7 @@ use gix_refspec::oid::ObjectId;
 use gix_refspec::parsing::Operation;
 use gix_refspec::{MatchGroup, parse};
 use std::alloc::{AllocError, Global};
+use std::hash::{DefaultHasher, Hash, Hasher};
 use std::test::Fail;
 
 // Mappings as rows write them: a source may be the digits of an id, and `-` is a missing destination.
@@ -85,6 +85,15 @@ fn compares_mappings_by_their_pairs(rt: HostRuntime) -> Result<(), Fail> {
     Ok(())
 }
 
+// Whether two values have one hash, by the standard hasher.
+fn hash_alike<T: Hash>(a: &T, b: &T) -> bool {
+    let mut first = DefaultHasher::new();
+    let mut second = DefaultHasher::new();
+    a.hash(&mut first);
+    b.hash(&mut second);
+    first.finish() == second.finish()
+}
+
 // The texts of the rows, two at a time, and whether the two are in one row.
 fn pairs_of<'a>(
     alloc: Global,
@@ -116,7 +125,9 @@ fn compares_names_by_their_bytes(rt: HostRuntime) -> Result<(), Fail> {
     ];
     let alloc = rt.alloc();
     for (a, b, same) in pairs_of(alloc, &rows)? {
-        check_equal(&rt, &name_of(alloc, a)?, &name_of(alloc, b)?, same);
+        let (name, other) = (name_of(alloc, a)?, name_of(alloc, b)?);
+        assert_eq!(rt; name == other, same, "at {a} and {b}");
+        assert_eq!(rt; hash_alike(&name, &other), same, "hashes at {a} and {b}");
     }
     Ok(())
 }
@@ -151,7 +162,9 @@ fn compares_sources_by_names_and_ids(rt: HostRuntime) -> Result<(), Fail> {
     ];
     let alloc = rt.alloc();
     for (a, b, same) in pairs_of(alloc, &rows)? {
-        check_equal(&rt, &source_in(alloc, a)?, &source_in(alloc, b)?, same);
+        let (source, other) = (source_in(alloc, a)?, source_in(alloc, b)?);
+        assert_eq!(rt; source == other, same, "at {a} and {b}");
+        assert_eq!(rt; hash_alike(&source, &other), same, "hashes at {a} and {b}");
     }
     Ok(())
 }
