@@ -47,11 +47,9 @@ impl<'a> MatchGroup<'a> {
     /// The fetch specs among these, in order. Requires an iterator that ends, and that may be asked for
     /// its next item until then, as those of `std` may. Fails if memory runs out, and then the iterator
     /// is dropped.
-    pub fn from_fetch_specs<I: IntoIterator<Item = RefSpecRef<'a>>>(
-        alloc: Global,
-        specs: I,
-    ) -> Result<Self, AllocError>
+    pub fn from_fetch_specs<I>(alloc: Global, specs: I) -> Result<Self, AllocError>
     where
+        I: IntoIterator<Item = RefSpecRef<'a>>,
         I::IntoIter: Drop,
         requires { IsFiniteIterable I.into_iter_gives I.IntoIter.can_next I.IntoIter.remaining specs }
         ensures { IfOk result (IsGathered I.into_iter_gives I.IntoIter.next_gives Operation.Fetch specs) }
@@ -61,11 +59,9 @@ impl<'a> MatchGroup<'a> {
 
     /// The push specs among these, in order. Requires an iterator as `from_fetch_specs` does. Fails if
     /// memory runs out, and then the iterator is dropped.
-    pub fn from_push_specs<I: IntoIterator<Item = RefSpecRef<'a>>>(
-        alloc: Global,
-        specs: I,
-    ) -> Result<Self, AllocError>
+    pub fn from_push_specs<I>(alloc: Global, specs: I) -> Result<Self, AllocError>
     where
+        I: IntoIterator<Item = RefSpecRef<'a>>,
         I::IntoIter: Drop,
         requires { IsFiniteIterable I.into_iter_gives I.IntoIter.can_next I.IntoIter.remaining specs }
         ensures { IfOk result (IsGathered I.into_iter_gives I.IntoIter.next_gives Operation.Push specs) }
