@@ -59,57 +59,32 @@ pub struct Mapping {
     pub made_len: usize,
 }
 
+// What is read and what is written are in lines of their own.
+#[rustfmt::skip]
 extern "C" {
     pub fn gix_refspec_check(text: *const u8, text_len: usize, operation: u32) -> u32;
     pub fn gix_refspec_parts(text: *const u8, text_len: usize, operation: u32, parts: *mut Parts) -> u32;
     pub fn gix_refspec_canonical(
-        text: *const u8,
-        text_len: usize,
-        operation: u32,
-        buffer: *mut u8,
-        buffer_len: usize,
-        len: *mut usize,
+        text: *const u8, text_len: usize, operation: u32,
+        buffer: *mut u8, buffer_len: usize, len: *mut usize,
     ) -> u32;
     pub fn gix_refspec_compare(
-        a: *const u8,
-        a_len: usize,
-        b: *const u8,
-        b_len: usize,
-        operation: u32,
+        a: *const u8, a_len: usize, b: *const u8, b_len: usize, operation: u32,
         order: *mut i32,
     ) -> u32;
     pub fn gix_refspec_prefixes(
-        texts: *const Text,
-        count: usize,
-        operation: u32,
-        buffer: *mut u8,
-        buffer_len: usize,
-        len: *mut usize,
+        texts: *const Text, count: usize, operation: u32,
+        buffer: *mut u8, buffer_len: usize, len: *mut usize,
     ) -> u32;
     pub fn gix_refspec_match(
-        texts: *const Text,
-        texts_count: usize,
-        names: *const Text,
-        names_count: usize,
-        direction: u32,
-        mappings: *mut Mapping,
-        mappings_count: usize,
-        buffer: *mut u8,
-        buffer_len: usize,
-        count: *mut usize,
-        len: *mut usize,
+        texts: *const Text, texts_count: usize, names: *const Text, names_count: usize, direction: u32,
+        mappings: *mut Mapping, mappings_count: usize, buffer: *mut u8, buffer_len: usize,
+        count: *mut usize, len: *mut usize,
     ) -> u32;
     pub fn gix_refspec_plan(
-        texts: *const Text,
-        texts_count: usize,
-        names: *const Text,
-        names_count: usize,
-        mappings: *mut Mapping,
-        mappings_count: usize,
-        buffer: *mut u8,
-        buffer_len: usize,
-        count: *mut usize,
-        len: *mut usize,
+        texts: *const Text, texts_count: usize, names: *const Text, names_count: usize,
+        mappings: *mut Mapping, mappings_count: usize, buffer: *mut u8, buffer_len: usize,
+        count: *mut usize, len: *mut usize,
     ) -> u32;
     pub fn gix_refspec_explanation(outcome: u32, sentence: *mut Text) -> u32;
 }

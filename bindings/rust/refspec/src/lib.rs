@@ -223,6 +223,15 @@ pub enum Direction {
     Backward,
 }
 
+impl Direction {
+    fn number(self) -> u32 {
+        match self {
+            Direction::Forward => sys::FORWARD,
+            Direction::Backward => sys::BACKWARD,
+        }
+    }
+}
+
 /// A mapping of a source to a destination.
 #[derive(Clone, Debug, PartialEq, Eq, Hash)]
 pub struct Mapping {
@@ -249,28 +258,7 @@ pub struct Mapping {
 /// # Ok::<(), refspec::Error>(())
 /// ```
 pub fn matches<N: AsRef<[u8]>>(fetches: &[Spec], names: &[N], direction: Direction) -> Result<Vec<Mapping>, Error> {
-    let texts = texts_of(fetches)?;
-    let items: Vec<sys::Text> = names.iter().map(|name| text_of(name.as_ref())).collect();
-    let number = match direction {
-        Direction::Forward => sys::FORWARD,
-        Direction::Backward => sys::BACKWARD,
-    };
-    // Nothing that the call writes is behind anything that it reads.
-    let lists = listed(names.len(), |lists| unsafe {
-        sys::gix_refspec_match(
-            texts.as_ptr(),
-            texts.len(),
-            items.as_ptr(),
-            items.len(),
-            number,
-            lists.mappings.as_mut_ptr(),
-            lists.mappings.len(),
-            lists.buffer.as_mut_ptr(),
-            lists.buffer.len(),
-            &mut lists.count,
-            &mut lists.len,
-        )
-    })?;
+    let lists = listed(fetches, names, Asked::Matches(direction))?;
     Ok(lists.told().iter().map(|one| lists.mapping(one, names, direction)).collect())
 }
 
@@ -324,23 +312,7 @@ pub struct Plan {
 /// # Ok::<(), refspec::Error>(())
 /// ```
 pub fn plan<N: AsRef<[u8]>>(fetches: &[Spec], names: &[N]) -> Result<Plan, Error> {
-    let texts = texts_of(fetches)?;
-    let items: Vec<sys::Text> = names.iter().map(|name| text_of(name.as_ref())).collect();
-    // As with `matches`.
-    let lists = listed(names.len(), |lists| unsafe {
-        sys::gix_refspec_plan(
-            texts.as_ptr(),
-            texts.len(),
-            items.as_ptr(),
-            items.len(),
-            lists.mappings.as_mut_ptr(),
-            lists.mappings.len(),
-            lists.buffer.as_mut_ptr(),
-            lists.buffer.len(),
-            &mut lists.count,
-            &mut lists.len,
-        )
-    })?;
+    let lists = listed(fetches, names, Asked::Plan)?;
     let planned = lists.told().iter().map(|one| Planned {
         mapping: lists.mapping(one, names, Direction::Forward),
         verdict: match one.verdict {
@@ -354,6 +326,13 @@ pub fn plan<N: AsRef<[u8]>>(fetches: &[Spec], names: &[N]) -> Result<Plan, Error
     Ok(Plan { mappings: planned.collect(), in_conflict: lists.outcome == sys::IN_CONFLICT })
 }
 
+/// What a call that tells of mappings is asked for.
+#[derive(Clone, Copy)]
+enum Asked {
+    Matches(Direction),
+    Plan,
+}
+
 /// The lists of a call that tells of mappings, how much of them is told, and the outcome.
 struct Lists {
     mappings: Vec<sys::Mapping>,
@@ -364,6 +343,28 @@ struct Lists {
 }
 
 impl Lists {
+    /// Calls once, with the room that there is, and returns the outcome.
+    #[rustfmt::skip]
+    fn fill(&mut self, texts: &[sys::Text], names: &[sys::Text], asked: Asked) -> u32 {
+        let (mappings, mappings_count) = (self.mappings.as_mut_ptr(), self.mappings.len());
+        let (buffer, buffer_len) = (self.buffer.as_mut_ptr(), self.buffer.len());
+        // Nothing that a call writes is behind anything that it reads.
+        match asked {
+            Asked::Matches(direction) => unsafe {
+                sys::gix_refspec_match(
+                    texts.as_ptr(), texts.len(), names.as_ptr(), names.len(), direction.number(),
+                    mappings, mappings_count, buffer, buffer_len, &mut self.count, &mut self.len,
+                )
+            },
+            Asked::Plan => unsafe {
+                sys::gix_refspec_plan(
+                    texts.as_ptr(), texts.len(), names.as_ptr(), names.len(),
+                    mappings, mappings_count, buffer, buffer_len, &mut self.count, &mut self.len,
+                )
+            },
+        }
+    }
+
     fn told(&self) -> &[sys::Mapping] {
         &self.mappings[..self.count]
     }
@@ -387,17 +388,19 @@ impl Lists {
     }
 }
 
-/// The lists that a call fills, which are made as large as it says that they have to be.
-fn listed(names: usize, call: impl Fn(&mut Lists) -> u32) -> Result<Lists, Error> {
+/// The lists of a call over fetches and names, which are made as large as it says that they have to be.
+fn listed<N: AsRef<[u8]>>(fetches: &[Spec], names: &[N], asked: Asked) -> Result<Lists, Error> {
+    let texts = texts_of(fetches)?;
+    let names: Vec<sys::Text> = names.iter().map(|name| text_of(name.as_ref())).collect();
     let mut lists = Lists {
-        mappings: vec![sys::Mapping::default(); names + 8],
-        buffer: vec![0; 64 * names + 256],
+        mappings: vec![sys::Mapping::default(); names.len() + 8],
+        buffer: vec![0; 64 * names.len() + 256],
         count: 0,
         len: 0,
         outcome: sys::OK,
     };
     loop {
-        lists.outcome = call(&mut lists);
+        lists.outcome = lists.fill(&texts, &names, asked);
         match lists.outcome {
             sys::OK | sys::IN_CONFLICT => return Ok(lists),
             sys::TOO_SMALL => {
