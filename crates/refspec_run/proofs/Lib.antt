@@ -1,5 +1,4 @@
 pub mod RecordLemmas
-pub mod InputLemmas
 pub mod CheckedLemmas
 pub mod ShownLemmas
 pub mod TextLemmas

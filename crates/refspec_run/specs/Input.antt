@@ -1,6 +1,6 @@
 -- An input that is read to its end, and its records. This project's own rule: one byte ends a record, and every
 -- other byte is a byte of it.
-use Rattle.std.specs.Prelude.{◌≡◌, ◌≢◌, ◌⊎◌, ℕ, Bool, List, [], ◌∷◌, ◌++◌, Option, MatchBool}
+use Rattle.std.specs.Prelude.{◌≡◌, ◌≢◌, ◌⊎◌, ℕ, List, [], ◌∷◌, ◌++◌, Option}
 use Rattle.std.specs.Io.KnownBytes.{Consumes, IsAtEnd}
 use Rattle.gix_refspec.specs.Texts.Words.{Lacks}
 use Rattle.refspec_run.specs.declared.call.Ends.{Ends}
@@ -10,13 +10,6 @@ use Rattle.refspec_run.specs.declared.call.Ends.TheVariants as ends
 abbrev pub end_byte : Ends → ℕ
 end_byte ends.Newline = 10
 end_byte _ = 0
-
--- one read took some bytes and put them after the old input, or found the end
-pub record ReadsSome (more : Bool) (reader_old reader_new : Option (List ℕ)) (old new : List ℕ) : Type 0 where
-  pub came : List ℕ
-  pub taken : Consumes reader_old reader_new came
-  pub put : new ≡ old ++ came
-  pub tells : MatchBool more (came ≢ []) ((came ≡ []) × IsAtEnd reader_new)
 
 -- the input was read from old to its end
 pub record ReadsToEnd (old new : Option (List ℕ)) (input : List ℕ) : Type 0 where

@@ -1,49 +1,28 @@
 //! The input, read whole, and cut into records.
 
-ghost use Rattle.std.specs.Prelude.{◌≡◌, ◌<◌, IfOk, IfErr, length, map};
+ghost use Rattle.std.specs.Prelude.{◌≡◌, IfOk, IfErr, map};
 ghost use Rattle.refspec_run.specs.Fault.{IsReadOrMemory};
-ghost use Rattle.refspec_run.specs.Input.{AreRecords, IsFirstRecord, end_byte, ReadsSome, ReadsToEnd};
+ghost use Rattle.refspec_run.specs.Input.{AreRecords, IsFirstRecord, end_byte, ReadsToEnd};
 
 use crate::call::Ends;
 use crate::fault::Fault;
 use bstr::ByteSlice;
 use std::alloc::{AllocError, Global};
-use std::io::Read;
+use std::io::{ErrorKind, Read};
 
-/// The most bytes that are asked for at once.
-const CHUNK: usize = 65_536;
-
-/// All that a reader has left. It is read in chunks, until a read brings no byte.
+/// All that a reader has left. An interrupted read is repeated.
 pub fn read_input<R: Read>(alloc: Global, reader: &mut R) -> Result<Vec<u8>, Fault>
     ensures ok { IfOk result (λ input.
         ReadsToEnd (R.remaining reader.old) (R.remaining reader.new) input.items) }
     ensures err { IfErr result IsReadOrMemory }
 {
-    let Ok(mut buffer) = vec![in alloc; 0; CHUNK] else {
-        return Err(Fault::Memory);
-    };
     let mut input = Vec::new(alloc);
-    for _turn in 0..u64::MAX {
-        if !read_some(reader, buffer.as_mut_slice(), &mut input)? {
-            return Ok(input);
-        }
-    }
-    Err(Fault::Read)
-}
-
-// Reads once, and puts what came at the end of the input; false where nothing was left.
-fn read_some<R: Read>(reader: &mut R, buffer: &mut [u8], input: &mut Vec<u8>) -> Result<bool, Fault>
-    requires { 0 < length buffer.old }
-    ensures ok { IfOk result (λ more. ReadsSome more
-        (R.remaining reader.old) (R.remaining reader.new) input.old.items input.new.items) }
-    ensures err { IfErr result IsReadOrMemory }
-{
-    let Ok(count) = reader.read(buffer) else {
-        return Err(Fault::Read);
-    };
-    match input.extend_from_slice(&buffer[..count]) {
-        Ok(()) => Ok(count > 0),
-        Err(_) => Err(Fault::Memory),
+    match reader.read_to_end(&mut input) {
+        Ok(_) => Ok(input),
+        Err(error) => Err(match error.kind() {
+            ErrorKind::OutOfMemory => Fault::Memory,
+            _ => Fault::Read,
+        }),
     }
 }
 
