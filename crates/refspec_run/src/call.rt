@@ -65,3 +65,10 @@ pub struct Call<'a> {
     /// What the file of specs beside the input is called.
     pub beside: &'a str,
 }
+
+/// A call, and the input that it reads.
+#[derive(Clone, Copy, Debug)]
+pub struct Task<'a> {
+    pub call: &'a Call<'a>,
+    pub input: &'a [u8],
+}

@@ -10,7 +10,7 @@ ghost use Rattle.refspec_run.specs.Input.{end_byte};
 ghost use Rattle.refspec_run.specs.Plan.{AddsPlan, AddsWritten};
 ghost use Rattle.refspec_run.specs.Shown.{KeepsPage, KeepsResults};
 
-use crate::call::{Call, Form};
+use crate::call::{Form, Task};
 use crate::input::end_of;
 use crate::json;
 use crate::mappings::{Columns, canonical_texts, source_of, tell_mappings, text_at};
@@ -31,18 +31,17 @@ use std::mem;
 /// Tells what a fetch with these specs writes of the refs of an input.
 pub fn tell_plan(
     alloc: Global,
-    call: &Call<'_>,
+    task: &Task<'_>,
     specs: Vec<RefSpecRef<'_>>,
-    input: &[u8],
     page: &mut Page,
 ) -> Result<(), AllocError>
-    ensures { OnOk result (AddsPlan page.old.form (end_byte call.now.ends) input.now
+    ensures { OnOk result (AddsPlan page.old.form (end_byte task.now.call.now.ends) task.now.input.now
         page.new.messages.items (map reading_of specs.entry.items)
         page.old.results.items page.new.results.items) }
 {
     let id = ObjectId::null(Kind::shortest());
-    let told = Told::read(alloc, input, end_of(call.ends), &id)?;
-    tell_bad_records(alloc, call.input, told.bad.as_slice(), page)?;
+    let told = Told::read(alloc, task.input, end_of(task.call.ends), &id)?;
+    tell_bad_records(alloc, task.call.input, told.bad.as_slice(), page)?;
     let texts = canonical_texts(alloc, specs.as_slice())?;
     let plan = plan_of(alloc, specs, told.items.as_slice())?;
     drop(told);

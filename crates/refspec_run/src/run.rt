@@ -5,10 +5,9 @@ ghost use Rattle.std.specs.Io.KnownBytes.{Appends};
 ghost use Rattle.gix_refspec.specs.Views.Spec.{reading_of};
 ghost use Rattle.refspec_run.specs.Fault.{IsReadOrMemory, IsWrite};
 ghost use Rattle.refspec_run.specs.Output.{AddsFound, Answers, IsInput, IsOutput, Tells};
-ghost use Rattle.refspec_run.specs.Read.{AddsIfGood};
 ghost use Rattle.refspec_run.specs.Run.{Leaves, ReadsWhole};
 
-use crate::call::{Call, Command};
+use crate::call::{Call, Command, Task};
 use crate::canon::tell_canon;
 use crate::checked::{Checked, all_good, check_all};
 use crate::fault::Fault;
@@ -75,62 +74,49 @@ fn page_of(alloc: Global, call: &Call<'_>, beside: &[u8], input: &[u8]) -> Resul
     let mut page = Page::new(alloc, call.form);
     let texts = texts_of(alloc, call, beside, input)?;
     let all = check_all(alloc, texts.as_slice())?;
-    tell_page(alloc, call, all.as_slice(), input, &mut page)?;
+    let task = Task { call, input };
+    tell_page(alloc, &task, all.as_slice(), &mut page)?;
     Ok(page)
 }
 
-// Tells what a call asks of its specs.
+// Tells what a call asks of its specs. But for three commands, all have to be good.
 fn tell_page(
     alloc: Global,
-    call: &Call<'_>,
+    task: &Task<'_>,
     all: &[Checked<'_>],
-    input: &[u8],
     page: &mut Page,
 ) -> Result<(), AllocError>
-    ensures { OnOk result (Tells call.now.command call.now input.now page.old.form
-        page.new.messages.items all.now page.old.results.items page.new.results.items) }
+    ensures { OnOk result (Tells task.now.call.now.command task.now.call.now task.now.input.now
+        page.old.form page.new.messages.items all.now
+        page.old.results.items page.new.results.items) }
 {
+    let call = task.call;
     match call.command {
         Command::Canon => tell_canon(alloc, all, page),
         Command::Check | Command::Explain => {
             tell_specs(alloc, call.command, call.verbose, all, page)
         }
-        _ => tell_if_good(alloc, call, all, input, page),
-    }
-}
-
-// Tells what a call finds for its specs, or which of them are refused.
-fn tell_if_good(
-    alloc: Global,
-    call: &Call<'_>,
-    all: &[Checked<'_>],
-    input: &[u8],
-    page: &mut Page,
-) -> Result<(), AllocError>
-    ensures { OnOk result (AddsIfGood
-        (AddsFound call.now.command call.now input.now page.old.form page.new.messages.items)
-        page.old.form all.now
-        page.old.results.items page.new.results.items) }
-{
-    match all_good(alloc, all)? {
-        None => tell_refusals(alloc, all, page),
-        Some(specs) => tell_found(alloc, call, specs, input, page),
+        _ => match all_good(alloc, all)? {
+            None => tell_refusals(alloc, all, page),
+            Some(specs) => tell_found(alloc, task, specs, page),
+        },
     }
 }
 
 // Tells what a call finds for specs.
 fn tell_found(
     alloc: Global,
-    call: &Call<'_>,
+    task: &Task<'_>,
     specs: Vec<RefSpecRef<'_>>,
-    input: &[u8],
     page: &mut Page,
 ) -> Result<(), AllocError>
-    ensures { OnOk result (AddsFound call.now.command call.now input.now page.old.form
-        page.new.messages.items (map reading_of specs.entry.items) page.old.results.items page.new.results.items) }
+    ensures { OnOk result (AddsFound task.now.call.now.command task.now.call.now task.now.input.now
+        page.old.form page.new.messages.items (map reading_of specs.entry.items)
+        page.old.results.items page.new.results.items) }
 {
+    let call = task.call;
     match call.command {
-        Command::Plan => tell_plan(alloc, call, specs, input, page),
+        Command::Plan => tell_plan(alloc, task, specs, page),
         Command::Track => tell_tracking(alloc, call, specs, page),
         _ => tell_prefixes(alloc, specs, call.patterns, page),
     }
