@@ -16,8 +16,13 @@ use Rattle.refspec_map.specs.declared.line.Entries.{Entries}
 use Rattle.refspec_map.specs.Fault.{IsMemory}
 use Rattle.refspec_map.specs.Input.{newline, AreLines, IsFirstLine}
 use Rattle.refspec_map.specs.Line.{Entry, reading, ref, spec, item, Says, Gives, readings_in, refs_in, IsFaultOf, IsFirstFault}
-use Rattle.refspec_map.specs.Told.{IsSeenAs, told_ref, bare, named, seen, kept_refs, AddsRef, Adds, AreEntries}
+use Rattle.refspec_map.specs.Told.{IsSeenAs, told_ref, bare, named, seen, kept_refs, Adds, AreEntries}
 use Rattle.refspec_map.proofs.OutputLemmas.{lines_more}
+
+-- a ref was appended to the old entries, as it is kept
+pub record AddsRef {A : Type 0} (blank : Option A) (r : Ref) (old new : Entries) : Type 0 where
+  pub specs : new.specs ≡ old.specs
+  pub refs : kept_refs blank new ≡ kept_refs blank old ++ seen blank (r ∷ [])
 
 -- a whole ref was put after the entries
 pub AddsRef-whole : {T E : Type 0} (A : Type 0) (r : Result T E) (old new : Entries) (t : ToldRef) → new.specs ≡ old.specs → OnOk r (new.refs.items ≡ old.refs.items ++ t ∷ []) → OnOk r (AddsRef {A = A} None (told_ref t) old new)

@@ -60,11 +60,6 @@ abbrev pub kept_refs : {A : Type 0} → Option A → Entries → List Ref
 kept_refs None made = map told_ref made.refs.items
 kept_refs (Some blank) made = map named made.items.items
 
--- a ref was appended to the old entries, as it is kept
-pub record AddsRef {A : Type 0} (blank : Option A) (r : Ref) (old new : Entries) : Type 0 where
-  pub specs : new.specs ≡ old.specs
-  pub refs : kept_refs blank new ≡ kept_refs blank old ++ seen blank (r ∷ [])
-
 -- what the line gives was appended to the old entries
 pub record Adds {A : Type 0} (blank : Option A) (line : List ℕ) (old new : Entries) : Type 0 where
   pub entry : Entry

@@ -1,20 +1,19 @@
 //! The lines that a matching command reads: specs, and the refs of a repository.
 
-ghost use Rattle.std.specs.Prelude.{◌≡◌, ◌≢◌, ◌⊎◌, List, ℕ, [], ◌∷◌, ◌++◌, IfOk, IfErr, OnOk, MatchBool, MatchOption};
+ghost use Rattle.std.specs.Prelude.{◌≡◌, ◌⊎◌, List, ℕ, [], ◌∷◌, ◌++◌, IfOk, IfErr, OnOk, MatchBool, MatchOption};
 ghost use Rattle.std.specs.List.{list_all};
 ghost use Rattle.hex.specs.Hex.{is_hex_digit};
 ghost use Rattle.bstr.specs.BStr.{bstr_bytes};
 ghost use Rattle.refspec_text.specs.declared.parsing.Operation.TheVariants.{Fetch};
 ghost use Rattle.gix_refspec.specs.Texts.Words.{Lacks};
 ghost use Rattle.gix_refspec.specs.Specs.Grammar.{Reads};
-ghost use Rattle.gix_refspec.specs.Matching.Match.{Ref};
 ghost use Rattle.gix_refspec.specs.Texts.ObjectId.{IsIdText, id_bytes};
 ghost use Rattle.gix_refspec.specs.Matching.Side.{IsId};
 ghost use Rattle.gix_refspec.specs.Views.Spec.{reading_of};
 ghost use Rattle.gix_refspec.specs.Views.Group.{ref_of};
 ghost use Rattle.refspec_map.specs.Fault.{IsMemory};
-ghost use Rattle.refspec_map.specs.Line.{space, IsFaultOf, IsFirstFault, IsIdThen, IsMalformed, IsRefLine, IsTagLine, Says, spec};
-ghost use Rattle.refspec_map.specs.Told.{IsReadAs, IsSaidAs, IsSeenAs, bare, named, told_ref};
+ghost use Rattle.refspec_map.specs.Line.{space, IsFaultOf, IsFirstFault, IsIdThen, IsMalformed, Says, spec};
+ghost use Rattle.refspec_map.specs.Told.{IsReadAs, IsSaidAs, told_ref};
 
 use crate::fault::Fault;
 use crate::input::first_line;
@@ -47,17 +46,6 @@ impl<'a> ToldRef<'a> {
             },
         }
     }
-
-    // The ref as an item with only its name, and this id instead of its own.
-    fn as_named(&self, blank: &'a ObjectId) -> Item<'a>
-        ensures { named result ≡ bare (told_ref self.now) }
-    {
-        Item {
-            full_ref_name: self.name,
-            target: blank,
-            object: None,
-        }
-    }
 }
 
 // What a line says.
@@ -78,7 +66,7 @@ pub(crate) struct Entries<'a> {
 }
 
 impl<'a> Entries<'a> {
-    ghost use Rattle.refspec_map.specs.Told.{Adds, AreEntries, AddsRef};
+    ghost use Rattle.refspec_map.specs.Told.{Adds, AreEntries};
 
     /// Reads the lines of an input, up to the first bad one. Refs have their ids; with `blank` they are
     /// items with only their names, and that id instead of their own.
@@ -119,22 +107,21 @@ impl<'a> Entries<'a> {
     {
         match said_by(line, blank) {
             None => Err(Fault::Line(number)),
-            Some(Said::Ref(row)) => self.add_ref(blank, row),
+            Some(Said::Ref(told)) => match blank {
+                None => push(&mut self.refs, told),
+                Some(id) => {
+                    let item = Item {
+                        full_ref_name: told.name,
+                        target: id,
+                        object: None,
+                    };
+                    push(&mut self.items, item)
+                }
+            },
             Some(Said::Spec(text)) => {
                 let spec = spec_of(alloc, number, text)?;
                 push(&mut self.specs, spec)
             }
-        }
-    }
-
-    // Adds a ref.
-    fn add_ref(&mut self, blank: Option<&'a ObjectId>, row: ToldRef<'a>) -> Result<(), Fault>
-        ensures ok { OnOk result (AddsRef blank.entry (told_ref row.entry) self.old self.new) }
-        ensures err { IfErr result IsMemory }
-    {
-        match blank {
-            None => push(&mut self.refs, row),
-            Some(id) => push(&mut self.items, row.as_named(id)),
         }
     }
 }
@@ -174,47 +161,25 @@ fn spec_of(alloc: Global, number: usize, text: BStr<'_>) -> Result<RefSpecRef<'_
 fn said_by<'a>(line: &'a [u8], blank: Option<&ObjectId>) -> Option<Said<'a>>
     ensures { MatchOption result (IsMalformed line.now) (IsSaidAs blank.entry line.now) }
 {
-    if let Some(text) = behind(line, b"spec ") {
-        return Some(Said::Spec(BStr::new(text)));
+    if let Some(words) = line.strip_prefix(b"ref ") {
+        let (target, name) = id_then(words, blank)?;
+        return Some(Said::Ref(ToldRef {
+            name: BStr::new(name),
+            target,
+            object: None,
+        }));
     }
-    if let Some(told) = ref_line(line, blank) {
-        return Some(Said::Ref(told));
+    if let Some(words) = line.strip_prefix(b"tag ") {
+        let (target, rest) = id_then(words, blank)?;
+        let (object, name) = id_then(rest, blank)?;
+        return Some(Said::Ref(ToldRef {
+            name: BStr::new(name),
+            target,
+            object: Some(object),
+        }));
     }
-    match tag_line(line, blank) {
-        Some(told) => Some(Said::Ref(told)),
-        None => None,
-    }
-}
-
-// The ref of a line `ref <id> <name>`.
-fn ref_line<'a>(line: &'a [u8], blank: Option<&ObjectId>) -> Option<ToldRef<'a>>
-    ensures { MatchOption result
-        ((r : Ref) → ¬ (IsRefLine line.now r))
-        (λ t. (r : Ref) × IsRefLine line.now r × IsSeenAs blank.entry r (told_ref t)) }
-{
-    let words = behind(line, b"ref ")?;
-    let (target, name) = id_then(words, blank)?;
-    Some(ToldRef {
-        name: BStr::new(name),
-        target,
-        object: None,
-    })
-}
-
-// The ref of a line `tag <id> <id> <name>`.
-fn tag_line<'a>(line: &'a [u8], blank: Option<&ObjectId>) -> Option<ToldRef<'a>>
-    ensures { MatchOption result
-        ((r : Ref) → ¬ (IsTagLine line.now r))
-        (λ t. (r : Ref) × IsTagLine line.now r × IsSeenAs blank.entry r (told_ref t)) }
-{
-    let words = behind(line, b"tag ")?;
-    let (target, rest) = id_then(words, blank)?;
-    let (object, name) = id_then(rest, blank)?;
-    Some(ToldRef {
-        name: BStr::new(name),
-        target,
-        object: Some(object),
-    })
+    let text = line.strip_prefix(b"spec ")?;
+    Some(Said::Spec(BStr::new(text)))
 }
 
 // The id that the first word of a text spells, or `blank`, and what follows the space after that word.
@@ -288,13 +253,4 @@ fn first_word(text: &[u8]) -> Option<(&[u8], &[u8])>
     let end = text.find_byte(b' ')?;
     let (word, back) = text.split_at(end);
     Some((word, &back[1..]))
-}
-
-// What follows a keyword.
-fn behind<'a>(line: &'a [u8], keyword: &[u8]) -> Option<&'a [u8]>
-    ensures { MatchOption result
-        ((rest : List ℕ) → line.now ≢ keyword.now ++ rest)
-        (λ rest. line.now ≡ keyword.now ++ rest.now) }
-{
-    line.strip_prefix(keyword)
 }

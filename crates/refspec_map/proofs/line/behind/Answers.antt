@@ -1,7 +1,0 @@
--- What is stripped off is the keyword.
-use Rattle.std.proofs.lemmas.Bool.Decides.{Decides-eqb}
-use Rattle.std.proofs.lemmas.Slice.Eq.{strip_prefix_is}
-use Rattle.refspec_map.proofs.line.behind.Goals as goal
-
-pub returns : goal.returns
-returns c = strip_prefix_is Decides-eqb c.args.line.now c.args.keyword.now c.strip_prefix.result c.strip_prefix.ensures.cases
