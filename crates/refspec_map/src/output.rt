@@ -83,7 +83,9 @@ pub(crate) fn lines_of<L: HasLine>(alloc: Global, shown: &[L]) -> Result<Vec<u8>
 {
     let mut lines = Vec::new(alloc);
     for one in shown {
-        grown(one.write_line(&mut lines))?;
+        let Ok(()) = one.write_line(&mut lines) else {
+            return Err(Fault::Memory);
+        };
     }
     Ok(lines)
 }
@@ -125,7 +127,7 @@ impl HasLine for Mapping<'_, '_> {
     }
 }
 
-// Writes the start of a mapping's line: the indexes of its spec and its item.
+// Writes the start of a mapping's line: the indexes of its spec and its item, `-` without one.
 fn write_places(output: &mut Vec<u8>, spec: usize, item: Option<usize>) -> Result<(), AllocError>
     ensures { OnOk result (output.new.items ≡ output.old.items
         ++ (codes "map\t" ++ (decimal spec ++ (tab ∷ (item_text item ++ (tab ∷ [])))))) }
@@ -133,17 +135,12 @@ fn write_places(output: &mut Vec<u8>, spec: usize, item: Option<usize>) -> Resul
     output.extend_from_slice(b"map\t")?;
     write_number(output, spec)?;
     output.extend_from_slice(b"\t")?;
-    write_item(output, item)?;
-    output.extend_from_slice(b"\t")
-}
-
-// Writes the index of an item, or `-` without one.
-fn write_item(output: &mut Vec<u8>, item: Option<usize>) -> Result<(), AllocError>
-    ensures { OnOk result (output.new.items ≡ output.old.items ++ item_text item) }
-{
     match item {
-        Some(place) => write_number(output, place),
-        None => output.extend_from_slice(b"-"),
+        Some(place) => {
+            write_number(output, place)?;
+            output.extend_from_slice(b"\t")
+        }
+        None => output.extend_from_slice(b"-\t"),
     }
 }
 
