@@ -69,6 +69,8 @@ pub struct Call<'a> {
 /// A call, and the input that it reads.
 #[derive(Clone, Copy, Debug)]
 pub struct Task<'a> {
+    /// What is asked for.
     pub call: &'a Call<'a>,
+    /// What it reads; empty if it reads none.
     pub input: &'a [u8],
 }
