@@ -133,7 +133,7 @@ malformed line no_spec no_ref no_tag (spec text) is = no_spec text is
 malformed line no_spec no_ref no_tag (item r) (inl is) = no_ref r is
 malformed line no_spec no_ref no_tag (item r) (inr is) = no_tag r is
 
--- a line with the keyword of a ref is none of the other lines
+-- a line with the keyword of a ref, and no id after it, is malformed
 pub malformed_ref : (line words : List ℕ) → line ≡ codes "ref " ++ words → ((id rest : List ℕ) → ¬ (IsIdThen words id rest)) → IsMalformed line
 malformed_ref line words here none =
     malformed line
@@ -141,7 +141,7 @@ malformed_ref line words here none =
     (no_ref_id line words here none)
     (λ r is. let first : 114 ≡ 116 = ap (λ l. get_or l 0 0) (sym here ∙ is.here) in omega (arith, first))
 
--- nor is one with that of a tag
+-- and so is one with that of a tag that tells of no ref
 pub malformed_tag : (line words : List ℕ) → line ≡ codes "tag " ++ words → ((r : Ref) → ¬ (IsTagLine line r)) → IsMalformed line
 malformed_tag line words here none =
     malformed line

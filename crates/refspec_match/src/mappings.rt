@@ -55,10 +55,9 @@ impl<'m, 'spec, 'item> Matching<'m, 'spec, 'item> {
         }
         let index = NameIndex::of(self.alloc, self.direction, &names, self.items)?;
         let survey = Survey::of(self, &index)?;
-        // Names repeat if one that is asked for is listed twice, or if patterns make more mappings than there
-        // are items.
-        let repeats = index.has_repeats() || self.items.len() < survey.room;
-        if names.by_id || !repeats {
+        // Names may repeat: one that is asked for is listed twice, or more mappings are made than there are items.
+        let may_repeat = index.has_repeats() || self.items.len() < survey.room;
+        if names.by_id || !may_repeat {
             return self.kept_with(&index, survey);
         }
         drop(index);

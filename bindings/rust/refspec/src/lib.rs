@@ -348,7 +348,7 @@ impl Lists {
     fn fill(&mut self, texts: &[sys::Text], names: &[sys::Text], asked: Asked) -> u32 {
         let (mappings, mappings_count) = (self.mappings.as_mut_ptr(), self.mappings.len());
         let (buffer, buffer_len) = (self.buffer.as_mut_ptr(), self.buffer.len());
-        // Nothing that a call writes is behind anything that it reads.
+        // What a call writes overlaps nothing that it reads.
         match asked {
             Asked::Matches(direction) => unsafe {
                 sys::gix_refspec_match(

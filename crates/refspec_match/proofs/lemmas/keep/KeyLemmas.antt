@@ -72,7 +72,7 @@ keys_more seed ms bits keys new key place Wanted is here one each every rises be
       subst (λ (ns : List ℕ). AllByRecursion (λ n. n < place + 1) ns) (sym places) (all_join (λ n. n < place + 1) (places_in bits keys) (place ∷ []) (all_weaker (λ n. n < place) (λ n. n < place + 1) (λ n less. omega arith) (places_in bits keys) below) (omega arith, tt)),
     )
 
--- no key for a place whose hash no other one has
+-- no key for a place that needs none
 pub keys_same : (bits : ℕ) (keys : List ℕ) (place : ℕ) (Wanted : ℕ → Type 0) → ¬ (Wanted place) → ((k : ℕ) → k < place → Wanted k → Has (places_in bits keys) k) → AllByRecursion (λ n. n < place) (places_in bits keys) → ((k : ℕ) → k < place + 1 → Wanted k → Has (places_in bits keys) k) × AllByRecursion (λ n. n < place + 1) (places_in bits keys)
 keys_same bits keys place Wanted unwanted every below = (
   λ k under wanted. elim (upto k place under) [

@@ -9,7 +9,8 @@ use crate::types::Mapping;
 use std::alloc::{AllocError, Global};
 use std::hash::FoldHasher;
 
-// For how many hashes there is a word of bits. So there are four bits for each or more, and eight at most.
+// For how many hashes there is a word of bits. So there are more than four bits for each, and from eight hashes
+// on eight at most.
 const HASHES_A_WORD: usize = 16;
 
 // A bit for each hash. Others may have the same one.
@@ -64,7 +65,7 @@ impl Bits {
 #[derive(Drop)]
 pub(super) struct SharedHashes {
     bits: Bits,
-    // How many mappings have the hash of an earlier one.
+    // How many mappings have the bit of an earlier one.
     later: usize,
 }
 
