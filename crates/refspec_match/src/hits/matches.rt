@@ -38,14 +38,19 @@ pub(crate) fn match_of<'item>(side: SideKind<'_>, item: &Item<'item>) -> Option<
     matches.then_some(Match { word: None })
 }
 
-// The word of a name between two texts, which never overlap.
+// The word of a name between two texts, which never overlap. Most names that don't begin as they must have another
+// byte at the end of the first text, and comparing that one is faster than a call that compares them all.
 #[inline(always)]
 pub(crate) fn word_between<'a>(before: &[u8], after: &[u8], name: &'a [u8]) -> Option<&'a [u8]>
     ensures { MatchOption result
         ((word : List ℕ) → ¬ (Fits before.now after.now name.now word))
         (λ word. Fits before.now after.now name.now word.now) }
 {
-    name.strip_prefix(before)?.strip_suffix(after)
+    let (front, rest) = name.split_at_checked(before.len())?;
+    if front.last() != before.last() || front != before {
+        return None;
+    }
+    rest.strip_suffix(after)
 }
 
 // The word for the star of a pattern in the name of an item that it fits, which isn't compared again.

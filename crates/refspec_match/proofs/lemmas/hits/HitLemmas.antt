@@ -1,6 +1,10 @@
 -- What specs match, and what becomes of it.
-use Rattle.std.proofs.Common.{◌≡◌, ◌≢◌, ◌⊎◌, inl, inr, ℕ, suc, ◌+◌, ◌<◌, List, [], ◌∷◌, ◌++◌, codes, map, take, drop, get_or, Option, None, Some, option_map, option_to_list, IsSome, is_some, Bool, not, true, false, MatchOption, Bor, length, refl, sym, ap, ◌∙◌, subst, append_assoc}
-use Rattle.std.proofs.lemmas.List.{append-nil, append_cancel_left, map-append}
+use Rattle.std.proofs.Common.{◌≡◌, ◌≢◌, ◌⊎◌, inl, inr, ℕ, suc, ◌+◌, ◌<◌, List, [], ◌∷◌, ◌++◌, codes, map, take, drop, get_or, Option, None, Some, option_map, option_to_list, option_copied, nat_eq, IsSome, is_some, Bool, not, true, false, MatchOption, Bor, length, refl, sym, ap, ◌∙◌, subst, append_assoc}
+use Rattle.std.specs.List.{IsSplitAt}
+use Rattle.std.proofs.lemmas.List.{append-nil, append_cancel_left, map-append, take-append-drop}
+use Rattle.std.proofs.Math.Seq.{take-append_seam}
+use Rattle.std.specs.Option.{option_eq}
+use Rattle.std.proofs.lemmas.Bool.Decides.{Decides-eqb}
 use Rattle.std.specs.List.{AllPass}
 use Rattle.std.proofs.lemmas.Bool.{false≢true}
 use Rattle.std.proofs.lemmas.List.Elements.{All-head, All-tail}
@@ -48,6 +52,21 @@ use Rattle.refspec_match.proofs.lemmas.lists.JoinLemmas.{MakesOnce, one_joined, 
 -- a name that doesn't begin as a pattern does has no word
 pub no_front_no_word : (before after n : List ℕ) → ((rest : List ℕ) → n ≢ before ++ rest) → (word : List ℕ) → ¬ (Fits before after n word)
 no_front_no_word before after n none word fits = none (word ++ after) fits
+
+-- a name that a pattern fits begins as the pattern does
+pub front_of_fitted : (before after n word front rest : List ℕ) → IsSplitAt n (length before) front rest → Fits before after n word → front ≡ before
+front_of_fitted before after n word front rest cut fits = cut.1 ∙ (ap (take (length before)) fits ∙ take-append_seam before (word ++ after))
+
+-- texts that are the same end with the same byte
+pub same_end : (a b : Option (Bor ℕ)) → option_copied a ≡ option_copied b → option_eq (λ x y. nat_eq x.now y.now) a b ≡ true
+same_end None None same = refl
+same_end None (Some y) same = absurd (cc)
+same_end (Some x) None same = absurd (cc)
+same_end (Some x) (Some y) same = (Decides-eqb x.now y.now).1 (cc)
+
+-- a name that begins as a pattern does is that text and what is left of it
+pub front_and_rest : (before n front rest : List ℕ) → IsSplitAt n (length before) front rest → front ≡ before → n ≡ before ++ rest
+front_and_rest before n front rest cut same = sym (take-append-drop (length before) n) ∙ (ap (λ x. x ++ drop (length before) n) (sym cut.1 ∙ same) ∙ ap (λ x. before ++ x) (sym cut.2))
 
 -- the word is what is left of the name after its front, without its end
 pub word_left : (before after n rest : List ℕ) (r : Option (Bor (List ℕ))) → n ≡ before ++ rest → MatchOption r ((front : List ℕ) → rest ≢ front ++ after) (λ x. rest ≡ x.now ++ after) → MatchOption r ((word : List ℕ) → ¬ (Fits before after n word)) (λ word. Fits before after n word.now)
