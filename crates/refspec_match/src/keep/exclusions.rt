@@ -109,12 +109,14 @@ impl<'a> Exclusions<'a> {
         self.names.is_empty() && self.patterns.is_empty()
     }
 
-    // Whether a name is excluded.
+    // Whether a name is excluded. It isn't hashed where there are no names to look it up among.
     fn has_name(&self, name: &[u8]) -> bool
         ensures { IsTrue result ↔ ExcludeName self.now name.now }
     {
-        self.names.contains(&NameRef::Borrowed(BStr::new(name)))
-            || fits_some(self.patterns.as_slice(), name)
+        if !self.names.is_empty() && self.names.contains(&NameRef::Borrowed(BStr::new(name))) {
+            return true;
+        }
+        fits_some(self.patterns.as_slice(), name)
     }
 
     // Whether the source of a mapping is a name that is excluded.
