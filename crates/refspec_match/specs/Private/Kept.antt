@@ -74,6 +74,15 @@ FlagsRepeats ms flags = (k : ℕ) → k < length ms → IsFlagged flags k ↔ Is
 abbrev pub hash_after : FoldHasher → HashWrites → ℕ
 hash_after seed writes = folding.finish (fold folding.write seed writes)
 
+-- the bytes of what a mapping begins with
+abbrev pub start_bytes : Start → List ℕ
+start_bytes (name n) = n
+start_bytes (id i) = i
+
+-- the hash of the bytes of a source by a seed
+abbrev pub source_hash : FoldHasher → Start → ℕ
+source_hash seed s = hash_after seed (start_bytes s ∷ [])
+
 -- the hash of a mapping by a seed
 abbrev pub pair_hash : FoldHasher → Mapped → ℕ
 pair_hash seed m = hash_after seed (pair_writes m)

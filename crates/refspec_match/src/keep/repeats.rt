@@ -1,8 +1,8 @@
 //! Which mappings have the same source and destination as an earlier one.
 //!
-//! They are found by sorting, so that no names make it slow. Each mapping whose pair may have the hash of
-//! another one gets a key, of the upper bits of that hash and, after them, its place. In a sorted list of
-//! keys mappings of the same pair follow one another, and each is compared with the one before it. Where
+//! They are found by sorting, so that no names make it slow. Each mapping whose source may have the hash of
+//! another one's gets a key, of the upper bits of its pair's hash and, after them, its place. In a sorted list
+//! of keys mappings of the same pair follow one another, and each is compared with the one before it. Where
 //! different pairs have the same upper bits, keys of another hash are tried. Only where that fails too are
 //! the pairs themselves sorted.
 
@@ -11,11 +11,11 @@ ghost use Rattle.std.specs.List.{AllByRecursion};
 ghost use Rattle.std.specs.List.Sorted.{IsSorted};
 ghost use Rattle.refspec_match.specs.Views.Mapping.{mapped_of, name_bytes};
 ghost use Rattle.refspec_match.specs.Matching.Mappings.{IsSamePair};
-ghost use Rattle.refspec_match.specs.Private.Kept.{AreKeysOf, ArePairsOf, FindsRepeats, FlagsRepeats, IsFlagged, IsSecond, PointsBack, Rises, pair_hash};
+ghost use Rattle.refspec_match.specs.Private.Kept.{AreKeysOf, ArePairsOf, FindsRepeats, FlagsRepeats, IsFlagged, IsSecond, PointsBack, Rises, pair_hash, source_hash};
 
 mod shared;
 
-use crate::hashes::seeds;
+use crate::hashes::{hash_by, seeds};
 use crate::types::{Mapping, NameRef, SourceRef};
 use shared::SharedHashes;
 use std::alloc::{AllocError, Global};
@@ -109,7 +109,7 @@ pub(crate) fn bits_for(len: usize) -> u32
     usize::BITS - len.leading_zeros()
 }
 
-// The keys by a seed of the mappings whose hash may be shared, in order.
+// The keys by a seed of the mappings whose source may have a hash that is shared, in order.
 fn keys_in_order(
     alloc: Global,
     mappings: &[Mapping<'_, '_>],
@@ -124,13 +124,22 @@ fn keys_in_order(
     let shared = SharedHashes::of(alloc, mappings, seed)?;
     let mut keys = Vec::with_capacity(alloc, shared.most(mappings.len()))?;
     for (place, mapping) in mappings.iter().enumerate() {
-        let hash = hash_of_pair(mapping, seed);
-        if shared.has(hash) {
-            keys.push(key_of(hash, place, bits))?;
+        if shared.has(hash_of_source(mapping, seed)) {
+            keys.push(key_of(hash_of_pair(mapping, seed), place, bits))?;
         }
     }
     keys.sort_unstable();
     Ok(keys)
+}
+
+// The hash of a source by a seed. A name and an id of the same bytes have the same one.
+fn hash_of_source(mapping: &Mapping<'_, '_>, seed: FoldHasher) -> u64
+    ensures { result ≡ source_hash seed (mapped_of mapping.now).source }
+{
+    match &mapping.lhs {
+        SourceRef::FullName(name) => hash_by(seed, name.as_bstr().as_bytes()),
+        SourceRef::ObjectId(id) => hash_by(seed, id.as_slice()),
+    }
 }
 
 // The hash of a pair by a seed.

@@ -18,7 +18,7 @@ use Rattle.refspec_match.specs.declared.types.Mapping.{Mapping}
 use Rattle.refspec_match.specs.Views.Mapping.{mapped_of}
 use Rattle.refspec_match.specs.declared.keep.repeats.shared.SharedHashes.{SharedHashes}
 use Rattle.refspec_match.specs.Private.Shared.{HasBit, HasShared, hash_at}
-use Rattle.refspec_match.specs.Private.Kept.{AreKeysOf, FindsRepeats, FlagsRepeats, Has, IsFlagged, IsKey, IsRepeat, IsSameAt, IsSecond, PointsBack, Rises, pair_hash, places_in}
+use Rattle.refspec_match.specs.Private.Kept.{AreKeysOf, FindsRepeats, FlagsRepeats, Has, IsFlagged, IsKey, IsRepeat, IsSameAt, IsSecond, PointsBack, Rises, pair_hash, places_in, source_hash}
 use Rattle.refspec_match.proofs.lemmas.keep.RepeatLemmas.{Contains-from_Has, Has-left, Has-permuted, Has-right, Rises-push, all_join, all_permuted, all_weaker, apart_places, pair_hash-same, rises_at, some_mapping}
 
 packed : (hash place bits : ℕ) → hash < 18446744073709551616 → place < 2 ^ bits → bit_or (hash / 2 ^ bits * 2 ^ bits % 18446744073709551616) place ≡ hash / 2 ^ bits * 2 ^ bits + place
@@ -93,7 +93,7 @@ keys_permuted seed ms bits xs ys moved all = record {
     still : (k : ℕ) → Has (places_in bits xs) k → Has (places_in bits ys) k
     still k = Has-permuted (places_in bits xs) (places_in bits ys) k (IsPermutation-map (λ (x : ℕ). x % 2 ^ bits) xs ys moved)
 
--- the keys of all places whose hash may be shared
+-- the keys of all places whose source may have a hash that is shared
 pub keys_made : (seed : FoldHasher) (ms : List Mapping) (bits : ℕ) (keys : List ℕ) (shared : SharedHashes) → HasShared seed ms shared → AllByRecursion (IsKey seed ms bits) keys → ((k : ℕ) → k < length ms → ((d : Mapping) → HasBit shared.bits (hash_at seed ms d k)) → Has (places_in bits keys) k) → AreKeysOf seed ms bits keys
 keys_made seed ms bits keys shared has each every = record {
   each = each;
@@ -102,7 +102,7 @@ keys_made seed ms bits keys shared has each every = record {
 }
   where
     alike : (j k : ℕ) (d : Mapping) → IsSameAt ms j k → hash_at seed ms d j ≡ hash_at seed ms d k
-    alike j k d same = pair_hash-same seed (mapped_of (get_or ms j d)) (mapped_of (get_or ms k d)) (same d)
+    alike j k d same = ap (source_hash seed) (same d).source
 
 rises_from_pairs : (ns : List ℕ) → AllPairs (λ (n : ℕ) (m : ℕ). n < m) ns → Rises ns
 rises_from_pairs [] pairs = tt

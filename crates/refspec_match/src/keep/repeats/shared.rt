@@ -1,10 +1,10 @@
-//! Which hashes several mappings share. Most have one of their own, so few mappings need a key, and keys take
-//! little memory.
+//! Which hashes the sources of several mappings share. Most have one of their own, so few mappings need a key,
+//! and keys take little memory. To look at the source alone is faster than to look at the whole pair.
 
 ghost use Rattle.std.specs.Prelude.{◌≡◌, ◌↔◌, ◌/◌, ◌%◌, ◌^◌, ℕ, IfOk, IsTrue};
 ghost use Rattle.refspec_match.specs.Private.Shared.{AreWhole, HasBit, HasShared};
 
-use super::{bits_for, bucket_of, hash_of_pair, place_in};
+use super::{bits_for, bucket_of, hash_of_source, place_in};
 use crate::types::Mapping;
 use std::alloc::{AllocError, Global};
 use std::hash::FoldHasher;
@@ -61,16 +61,16 @@ impl Bits {
     }
 }
 
-// The hashes that several mappings have, and some others.
+// The hashes that the sources of several mappings have, and some others.
 #[derive(Drop)]
 pub(super) struct SharedHashes {
     bits: Bits,
-    // How many mappings have the bit of an earlier one.
+    // How many sources have the bit of an earlier one.
     later: usize,
 }
 
 impl SharedHashes {
-    // Those of some mappings by a seed.
+    // Those of the sources of some mappings by a seed.
     pub(super) fn of(
         alloc: Global,
         mappings: &[Mapping<'_, '_>],
@@ -84,7 +84,7 @@ impl SharedHashes {
             later: 0,
         };
         for mapping in mappings {
-            let hash = hash_of_pair(mapping, seed);
+            let hash = hash_of_source(mapping, seed);
             if once.has(hash) {
                 shared.add(hash);
             } else {
@@ -94,7 +94,7 @@ impl SharedHashes {
         Ok(shared)
     }
 
-    // Adds the hash of a later mapping.
+    // Adds the hash of a later source.
     fn add(&mut self, hash: u64)
         requires { AreWhole self.old.bits }
         ensures whole { AreWhole self.new.bits }
@@ -113,7 +113,7 @@ impl SharedHashes {
         self.bits.has(hash)
     }
 
-    // How many of so many mappings have such a hash, at the most.
+    // How many of so many sources have such a hash, at the most.
     pub(super) fn most(&self, len: usize) -> usize {
         self.later.saturating_mul(2).min(len)
     }

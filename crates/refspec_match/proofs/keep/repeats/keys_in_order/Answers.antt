@@ -1,11 +1,11 @@
--- a key for a hash that may be shared, and a sort that moves the keys
+-- a key where the hash of the source may be shared, and a sort that moves the keys
 use Rattle.std.proofs.Common.{ℕ, ◌<◌, ◌+◌, List, Vec, Global, sym, ap, subst, ◌∙◌, arith}
 use Rattle.std.specs.List.{AllByRecursion}
 use Rattle.std.proofs.lemmas.Bool.{false≢true}
 use Rattle.std.proofs.lemmas.List.{get_or_read}
 use Rattle.refspec_match.specs.declared.types.Mapping.{Mapping}
 use Rattle.refspec_match.specs.Views.Mapping.{mapped_of}
-use Rattle.refspec_match.specs.Private.Kept.{Has, IsKey, Rises, pair_hash, places_in}
+use Rattle.refspec_match.specs.Private.Kept.{Has, IsKey, Rises, places_in, source_hash}
 use Rattle.refspec_match.specs.Private.Shared.{HasBit, hash_at}
 use Rattle.refspec_match.proofs.lemmas.keep.KeyLemmas.{key_fits, keys_made, keys_more, keys_permuted, keys_same, rises_from_sorted}
 use Rattle.refspec_match.proofs.keep.repeats.keys_in_order.Goals as goal
@@ -27,11 +27,11 @@ loop-place-preserved c =
     elim c.if-has.branch [
       | then-has+in_ok-push w ↦ subst (λ (v : Vec ℕ Global). Holds v.items) (sym w.keys-is)
           (keys_more seed ms bits keys w.push.new.self.items w.key_of.result place Wanted w.in_ok-push.ensures.items w.key_of.ensures.place
-          (key_fits seed ms bits w.key_of.result c.hash_of_pair-hash.result place m (omega arith) w.key_of.ensures.bucket w.key_of.ensures.place c.hash_of_pair-hash.ensures read)
+          (key_fits seed ms bits w.key_of.result w.hash_of_pair.result place m (omega arith) w.key_of.ensures.bucket w.key_of.ensures.place w.hash_of_pair.ensures read)
           kept.0 kept.1 kept.2 kept.3)
       | else-has w ↦ subst (λ (v : Vec ℕ Global). Holds v.items) (sym w.keys-is)
           (let same = keys_same bits keys place Wanted
-          (λ wanted. false≢true (sym w.if-has.false ∙ c.has.ensures.1 (subst (HasBit shared) (sym (c.hash_of_pair-hash.ensures ∙ ap (λ (x : Mapping). pair_hash seed (mapped_of x)) (read m))) (wanted m))))
+          (λ wanted. false≢true (sym w.if-has.false ∙ c.has.ensures.1 (subst (HasBit shared) (sym (c.hash_of_source.ensures ∙ ap (λ (x : Mapping). source_hash seed (mapped_of x).source) (read m))) (wanted m))))
           kept.1 kept.3 in
           (kept.0, same.0, kept.2, same.1))
     ]

@@ -1,4 +1,4 @@
--- the places so far whose hash may be shared are there, in order, with the hashes there
+-- the places so far whose source may have a hash that is shared are there, in order, with the hashes there
 use Rattle.std.proofs.Common.{ℕ, ◌<◌}
 use Rattle.std.specs.List.{AllByRecursion}
 use Rattle.refspec_match.specs.declared.types.Mapping.{Mapping}

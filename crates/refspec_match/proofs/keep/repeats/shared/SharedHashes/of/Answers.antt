@@ -4,7 +4,7 @@ use Rattle.std.proofs.lemmas.Bool.{false≢true}
 use Rattle.std.proofs.lemmas.List.{get_or_read}
 use Rattle.refspec_match.specs.declared.types.Mapping.{Mapping}
 use Rattle.refspec_match.specs.declared.keep.repeats.shared.Bits.{Bits}
-use Rattle.refspec_match.specs.Private.Kept.{pair_hash}
+use Rattle.refspec_match.specs.Private.Kept.{source_hash}
 use Rattle.refspec_match.specs.Private.Shared.{AreWhole, HasBit, hash_at}
 use Rattle.refspec_match.specs.Views.Mapping.{mapped_of}
 use Rattle.refspec_match.proofs.lemmas.keep.SharedLemmas.{one_more}
@@ -16,11 +16,11 @@ loop-mapping-preserved c =
     let ms = c.args.mappings.now in
     let seed = c.args.seed in
     let place = c.loop-mapping.mapping-index in
-    let hash = c.hash_of_pair-hash.result in
+    let hash = c.hash_of_source-hash.result in
     let met = c.loop-mapping.once in
     let shared = c.loop-mapping.shared.bits in
     let is : (d : Mapping) → hash ≡ hash_at seed ms d place =
-    λ d. c.hash_of_pair-hash.ensures ∙ ap (λ (m : Mapping). pair_hash seed (mapped_of m)) (get_or_read ms place c.mapping-item.result (omega arith) c.mapping-item.is d) in
+    λ d. c.hash_of_source-hash.ensures ∙ ap (λ (m : Mapping). source_hash seed (mapped_of m).source) (get_or_read ms place c.mapping-item.result (omega arith) c.mapping-item.is d) in
     let was = c.loop-mapping.invariant in
     let Holds : Bits → Bits → Type 0 = λ m s. AreWhole m × AreWhole s × ((k : ℕ) (d : Mapping) → k < place + 1 → HasBit m (hash_at seed ms d k)) × ((j k : ℕ) (d : Mapping) → j < k → k < place + 1 → hash_at seed ms d j ≡ hash_at seed ms d k → HasBit s (hash_at seed ms d k)) in
     elim c.if-has.branch [
