@@ -6,7 +6,7 @@ ghost use Rattle.refspec_text.specs.Views.Spec.{reading_of};
 ghost use Rattle.refspec_match.specs.Views.Mapping.{mapped_of};
 ghost use Rattle.refspec_match.specs.Matching.Mappings.{IsKept};
 ghost use Rattle.refspec_match.specs.Matching.Lists.{IsMadeFrom};
-ghost use Rattle.refspec_match.specs.Private.Kept.{HasNegative, IsFlagged, IsKeptBy};
+ghost use Rattle.refspec_match.specs.Private.Kept.{HasNegative, IsFlagged, IsKeptBy, IsUnflagged};
 
 mod exclusions;
 pub mod repeats;
@@ -37,7 +37,7 @@ pub(crate) fn keep<'a, 'b>(
     if repeats.is_empty() {
         return Ok(());
     }
-    drop_others(&Exclusions::none(alloc), repeats.as_slice(), mappings);
+    drop_flagged(repeats.as_slice(), mappings);
     Ok(())
 }
 
@@ -48,37 +48,21 @@ fn drop_excluded<'a, 'b>(exclusions: &Exclusions<'_>, mappings: &mut Vec<Mapping
     if exclusions.is_empty() {
         return;
     }
-    drop_others(exclusions, &[], mappings);
+    mappings.retain(|mapping| !exclusions.excludes(mapping));
 }
 
-// Drops the mappings that are flagged or excluded. The others stay in order.
-fn drop_others<'a, 'b>(
-    exclusions: &Exclusions<'_>,
-    repeats: &[bool],
-    mappings: &mut Vec<Mapping<'a, 'b>>,
-)
-    ensures { IsMadeFrom (IsKeptBy exclusions.now repeats.now) 0 mappings.old.items mappings.new.items }
+// Drops the mappings that are flagged. The others stay in order.
+fn drop_flagged<'a, 'b>(flags: &[bool], mappings: &mut Vec<Mapping<'a, 'b>>)
+    ensures { IsMadeFrom (IsUnflagged flags.now) 0 mappings.old.items mappings.new.items }
 {
     let mut kept = 0;
     for place in 0..mappings.len() {
-        if is_kept(exclusions, repeats, place, &mappings[place]) {
+        if !is_flagged(flags, place) {
             mappings.swap(kept, place);
             kept += 1;
         }
     }
     mappings.truncate(kept);
-}
-
-// Whether the mapping at a place is neither flagged nor excluded.
-fn is_kept(
-    exclusions: &Exclusions<'_>,
-    repeats: &[bool],
-    place: usize,
-    mapping: &Mapping<'_, '_>,
-) -> bool
-    ensures { IsTrue result ↔ IsKeptBy exclusions.now repeats.now place mapping.now mapping.now }
-{
-    !is_flagged(repeats, place) && !exclusions.excludes(mapping)
 }
 
 /// Whether a place is flagged. No flags at all flag no place.

@@ -155,3 +155,7 @@ pub record IsKeptBy (es : Exclusions) (flags : List Bool) (k : ℕ) (m made : Ma
   pub same : made ≡ m
   pub unflagged : ¬ (IsFlagged flags k)
   pub included : ¬ (ExcludeStart es (mapped_of m).source)
+
+-- the mapping at place k, which is m, is left as made, as it isn't flagged
+abbrev pub IsUnflagged : List Bool → ℕ → Mapping → Mapping → Type 0
+IsUnflagged flags k m made = (made ≡ m) × ¬ (IsFlagged flags k)

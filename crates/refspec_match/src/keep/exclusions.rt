@@ -65,7 +65,7 @@ impl<'a> Exclusions<'a> {
     ghost use Rattle.refspec_match.specs.Private.Kept.{ExcludesName};
 
     // Nothing is excluded.
-    pub(crate) fn none(alloc: Global) -> Exclusions<'a>
+    fn none(alloc: Global) -> Exclusions<'a>
         ensures { (n : List ℕ) → ¬ (ExcludeName result n) }
     {
         Exclusions {

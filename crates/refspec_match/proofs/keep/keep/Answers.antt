@@ -4,8 +4,8 @@ use Rattle.std.proofs.lemmas.Bool.{eqb-true}
 use Rattle.refspec_match.specs.declared.types.Mapping.{Mapping}
 use Rattle.refspec_text.specs.Views.Spec.{reading_of}
 use Rattle.refspec_match.specs.Matching.Lists.{IsMadeFrom}
-use Rattle.refspec_match.specs.Private.Kept.{FlagsRepeats, IsKeptBy}
-use Rattle.refspec_match.proofs.lemmas.keep.KeptLemmas.{free_remain, no_elements, remain_free, remain_with}
+use Rattle.refspec_match.specs.Private.Kept.{FlagsRepeats, IsKeptBy, IsUnflagged}
+use Rattle.refspec_match.proofs.lemmas.keep.KeptLemmas.{free_remain, no_elements, free_unflagged, remain_free}
 use Rattle.refspec_match.proofs.lemmas.lists.ListsLemmas.{made_fewer}
 use Rattle.refspec_match.proofs.lemmas.keep.ThinLemmas.{kept_twice}
 use Rattle.refspec_match.proofs.keep.keep.Goals as goal
@@ -35,11 +35,10 @@ returns-clause-ok c =
     let es = c.in_ok-exclusions.exclusions in
     let free = c.drop_excluded.new.mappings.items in
     let flags = c.in_ok-repeats.repeats.items in
-    let rest = c.drop_others.new.mappings.items in
-    let none = c.none.result in
+    let rest = c.drop_flagged.new.mappings.items in
     kept_twice (map reading_of c.args.specs.now) ms free rest es flags
     c.in_ok-exclusions.ensures.ok
     c.drop_excluded.ensures
     (subst (λ (xs : List Mapping). FlagsRepeats xs flags) c.as_slice.ensures.value c.in_ok-repeats.ensures.ok)
-    (remain_with es none flags 0 free rest c.none.ensures (remain_free es 0 ms free c.drop_excluded.ensures)
-    (subst (λ (xs : List Bool). IsMadeFrom (IsKeptBy none xs) 0 free rest) c.as_slice-2.ensures.value c.drop_others.ensures))
+    (free_unflagged es flags 0 free rest (remain_free es 0 ms free c.drop_excluded.ensures)
+    (subst (λ (xs : List Bool). IsMadeFrom (IsUnflagged xs) 0 free rest) c.as_slice-2.ensures.value c.drop_flagged.ensures))

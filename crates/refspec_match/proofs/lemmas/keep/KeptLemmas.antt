@@ -1,6 +1,7 @@
 -- What is kept of a list of mappings.
-use Rattle.std.proofs.Common.{◌≡◌, inl, inr, ◌↔◌, ℕ, zero, suc, ◌+◌, ◌<◌, ◌≤◌, List, [], ◌∷◌, ◌++◌, Option, None, Some, Bool, option_map, length, take, drop, get_or, map, refl, sym, ap, ◌∙◌, subst, zero-add, arith}
-use Rattle.std.specs.List.{AllByRecursion}
+use Rattle.std.proofs.Common.{◌≡◌, inl, inr, ◌↔◌, ℕ, zero, suc, ◌+◌, ◌<◌, ◌≤◌, List, [], ◌∷◌, ◌++◌, Option, None, Some, Bool, true, false, option_map, length, take, drop, get_or, map, refl, sym, ap, ◌∙◌, subst, zero-add, arith}
+use Rattle.std.specs.List.Retain.{ReturnsInTurn, IsFiltered}
+use Rattle.std.specs.List.{AllByRecursion, items_where_true}
 use Rattle.std.proofs.lemmas.Bool.{false≢true}
 use Rattle.std.proofs.lemmas.List.{drop_more, get_or_default, get_or-map, get_or-take, length-map, length-take-le, take_more}
 use Rattle.refspec_match.specs.declared.types.Mapping.{Mapping}
@@ -10,7 +11,7 @@ use Rattle.refspec_match.specs.Matching.Lists.{MakesOf, IsMadeFrom}
 use Rattle.refspec_match.specs.Matching.Mappings.{Start, name, id, Mapped, IsSamePair, HasPair, AreApart, IsStartExcluded, IsKeptAt, IsKept}
 use Rattle.refspec_match.specs.Views.Mapping.{mapped_of}
 use Rattle.refspec_match.specs.Private.EqualSpecs.{Thins}
-use Rattle.refspec_match.specs.Private.Kept.{AreExclusionsOf, FlagsRepeats, IsRepeat, ExcludeStart, ExcludeName, IsKeptBy}
+use Rattle.refspec_match.specs.Private.Kept.{AreExclusionsOf, FlagsRepeats, IsRepeat, ExcludeStart, ExcludeName, IsKeptBy, IsUnflagged}
 use Rattle.refspec_match.proofs.lemmas.lists.ListsLemmas.{made_all, made_map, made_once}
 
 -- what is kept of a list is one list
@@ -160,13 +161,29 @@ pub free_remain : (es : Exclusions) (k : ℕ) (ms : List Mapping) → AreFree es
 free_remain es k [] free = refl
 free_remain es k (m ∷ ms) free = (Some m, ms, record { same = refl; unflagged = λ flagged. false≢true flagged; included = free.0 }, free_remain es (k + 1) ms free.1, refl)
 
--- what remains without exclusions of mappings that none of them excludes
-pub remain_with : (es none : Exclusions) (flags : List Bool) (k : ℕ) (ms rest : List Mapping) → ((n : List ℕ) → ¬ (ExcludeName none n)) → AreFree es ms → IsMadeFrom (IsKeptBy none flags) k ms rest → IsMadeFrom (IsKeptBy es flags) k ms rest
-remain_with es none flags k [] rest nothing free made = made
-remain_with es none flags k (m ∷ ms) rest nothing free (None, others, gone, more, is) =
-    (None, others, (λ y remains. gone y (record { same = remains.same; unflagged = remains.unflagged; included = untaken none nothing (mapped_of m).source })), remain_with es none flags (k + 1) ms others nothing free.1 more, is)
-remain_with es none flags k (m ∷ ms) rest nothing free (Some y, others, remains, more, is) =
-    (Some y, others, record { same = remains.same; unflagged = remains.unflagged; included = free.0 }, remain_with es none flags (k + 1) ms others nothing free.1 more, is)
+-- what is unflagged remains of mappings of which none is excluded
+pub free_unflagged : (es : Exclusions) (flags : List Bool) (k : ℕ) (ms rest : List Mapping) → AreFree es ms → IsMadeFrom (IsUnflagged flags) k ms rest → IsMadeFrom (IsKeptBy es flags) k ms rest
+free_unflagged es flags k [] rest free made = made
+free_unflagged es flags k (m ∷ ms) rest free (None, others, gone, more, is) =
+    (None, others, (λ y remains. gone y (remains.same, remains.unflagged)), free_unflagged es flags (k + 1) ms others free.1 more, is)
+free_unflagged es flags k (m ∷ ms) rest free (Some y, others, remains, more, is) =
+    (Some y, others, record { same = remains.0; unflagged = remains.1; included = free.0 }, free_unflagged es flags (k + 1) ms others free.1 more, is)
+
+-- what a test retains that tells whether a mapping is excluded, and stays the same
+module _ {F : Type 0} (R : F → Mapping → Bool → F → Type 0) (es : Exclusions) (start : F) (tells : (m : Mapping) (b : Bool) (q : F) → R start m b q → (q ≡ start) × ((b ≡ true) ↔ (¬ (ExcludeStart es (mapped_of m).source)))) where
+  retained : (k : ℕ) (p q : F) (bs : List Bool) (ms : List Mapping) → p ≡ start → length bs ≡ length ms → ReturnsInTurn R p bs ms q → IsMadeFrom (IsKeptBy es []) k ms (items_where_true bs ms)
+  retained k p q [] [] is size told = refl
+  retained k p q [] (m ∷ ms) is size told = absurd (omega arith)
+  retained k p q (b ∷ bs) [] is size told = absurd told
+  retained k p q (true ∷ bs) (m ∷ ms) is size (j, here, more) =
+      let says = tells m true j (subst (λ (f : F). R f m true j) is here) in
+      (Some m, items_where_true bs ms, record { same = refl; unflagged = λ flagged. false≢true flagged; included = says.1.0 refl }, retained (k + 1) j q bs ms says.0 (omega arith) more, refl)
+  retained k p q (false ∷ bs) (m ∷ ms) is size (j, here, more) =
+      let says = tells m false j (subst (λ (f : F). R f m false j) is here) in
+      (None, items_where_true bs ms, (λ made remains. false≢true (says.1.1 remains.included)), retained (k + 1) j q bs ms says.0 (omega arith) more, refl)
+
+  pub retained_free : (ms rest : List Mapping) → IsFiltered R start ms rest → IsMadeFrom (IsKeptBy es []) 0 ms rest
+  retained_free ms rest (bs, q, size, told, is) = subst (λ (xs : List Mapping). IsMadeFrom (IsKeptBy es []) 0 ms xs) (sym is) (retained 0 start q bs ms refl size told)
 
 -- mappings without those that are excluded
 pub excluded_go : (g : List Reading) (es : Exclusions) (before : List Mapped) (k : ℕ) (ms rest : List Mapping) → AreExclusionsOf g es → IsMadeFrom (IsKeptBy es []) k ms rest → Thins g before (map mapped_of ms) (map mapped_of rest)
