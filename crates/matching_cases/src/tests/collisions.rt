@@ -1,11 +1,10 @@
 //! Pairs of names that have one hash.
 
-use super::mapping::item_of;
+use super::mapping::{group_of, item_of};
 use bstr::BStr;
 use gix_refspec::match_group::{Mapping, NameRef, SourceRef};
 use gix_refspec::oid::ObjectId;
 use gix_refspec::parsing::Operation;
-use gix_refspec::{MatchGroup, parse};
 use std::hash::{FoldHasher, Hash, Hasher};
 use std::test::Fail;
 
@@ -49,13 +48,14 @@ fn tells_pairs_of_one_hash_apart(rt: HostRuntime) -> Result<(), Fail> {
     for pair in [second, first, second, first, second] {
         items.push(item_of(pair.0, &id))?;
     }
-    let text = BStr::new(b"refs/heads/*:refs/remotes/origin/*");
-    let group = MatchGroup::from_fetch_specs(alloc, [parse(alloc, text, Operation::Fetch)?])?;
+    // Where no source is mapped twice, no pair is hashed.
+    let specs = "refs/heads/*:refs/remotes/origin/* refs/heads/*:refs/x/*";
+    let group = group_of(alloc, Operation::Fetch, specs)?;
     let outcome = group.match_lhs(alloc, items.as_slice())?;
     let mut places = String::new(alloc);
     for mapping in &outcome.mappings {
         places.push_str(format!(in alloc; "{:?} ", mapping.item_index)?.as_str())?;
     }
-    assert_eq!(rt; places.as_str(), "Some(0) Some(1) ");
+    assert_eq!(rt; places.as_str(), "Some(0) Some(1) Some(0) Some(1) ");
     Ok(())
 }

@@ -10,7 +10,9 @@ use gix_refspec::parsing::Operation;
 use std::alloc::{AllocError, Global};
 use std::test::Fail;
 
-const SPECS: &str = "refs/heads/*:refs/remotes/origin/* refs/tags/*:refs/remotes/origin/*";
+// Two of them map the same sources: where no source is mapped twice, no pair is hashed.
+const SPECS: &str =
+    "refs/heads/*:refs/remotes/origin/* refs/tags/*:refs/remotes/origin/* refs/heads/*:refs/x/*";
 
 // Items with these names, one a word, and then twice the two whose pairs have one hash.
 fn items_with<'a>(
@@ -29,7 +31,15 @@ fn items_with<'a>(
 // Whether the mappings are those of the first four items.
 fn maps_four(outcome: &match_lhs::Outcome<'_, '_>) -> bool {
     let places = outcome.mappings.iter().map(|mapping| mapping.item_index);
-    places.eq([Some(0), Some(2), Some(3), Some(1)])
+    places.eq([
+        Some(0),
+        Some(2),
+        Some(3),
+        Some(1),
+        Some(0),
+        Some(2),
+        Some(3),
+    ])
 }
 
 #[test]
