@@ -1,0 +1,114 @@
+-- The objects that `refspec` writes for `--json`. This project's own rule. Members are in the order of their keys.
+use Rattle.std.specs.Prelude.{ℕ, List, [], ◌∷◌, ◌++◌, Option, Some, None, map, codes}
+use Rattle.serde_json.specs.Data.{Data, null, number, unsigned, string, array, object, Members, no_members, member}
+use Rattle.serde_json.specs.View.{items_of}
+use Rattle.serde_json.specs.Written.{compact_text}
+
+-- the line of an object
+abbrev pub line_of : Data → List ℕ
+line_of d = compact_text d ++ 10 ∷ []
+
+-- a text, or null where there is none
+abbrev pub text_or_null : Option (List ℕ) → Data
+text_or_null None = null
+text_or_null (Some t) = string t
+
+-- a number, or null where there is none
+abbrev pub number_or_null : Option ℕ → Data
+number_or_null None = null
+number_or_null (Some n) = number (unsigned n)
+
+-- the members, after a text at k where there is one
+abbrev pub text_if : (k : List ℕ) → Option (List ℕ) → Members → Members
+text_if k None ms = ms
+text_if k (Some t) ms = member k (string t) ms
+
+-- a text that is refused; the index counts from 1
+abbrev pub refused_object : (place operation text reason message : List ℕ) → (side part : Option (List ℕ)) → (at : Option ℕ) → (advice : List ℕ) → Data
+refused_object place operation text reason message side part at advice = object (
+    member (codes "advice") (string advice) (
+    member (codes "at") (number_or_null at) (
+    member (codes "kind") (string (codes "refused")) (
+    member (codes "message") (string message) (
+    member (codes "operation") (string operation) (
+    member (codes "part") (text_or_null part) (
+    member (codes "place") (string place) (
+    member (codes "reason") (string reason) (
+    member (codes "side") (text_or_null side) (
+    member (codes "text") (string text) no_members))))))))))
+
+-- a spec; its meaning and the place of an earlier spec of the same meaning are members only where they are given
+abbrev pub spec_object : (kind place operation text canonical : List ℕ) → (meaning same_as : Option (List ℕ)) → Data
+spec_object kind place operation text canonical meaning same_as = object (
+    member (codes "canonical") (string canonical) (
+    member (codes "kind") (string kind) (
+    text_if (codes "meaning") meaning (
+    member (codes "operation") (string operation) (
+    member (codes "place") (string place) (
+    text_if (codes "same_as") same_as (
+    member (codes "text") (string text) no_members)))))))
+
+-- a mapping, with the canonical text of its spec
+abbrev pub mapping_object : (source : List ℕ) → (destination : Option (List ℕ)) → (spec : List ℕ) → Data
+mapping_object source destination spec = object (
+    member (codes "destination") (text_or_null destination) (
+    member (codes "kind") (string (codes "mapping")) (
+    member (codes "source") (string source) (
+    member (codes "spec") (string spec) no_members))))
+
+-- a mapping that is left out, and why
+abbrev pub left_out_object : (source : List ℕ) → (destination : Option (List ℕ)) → (spec message : List ℕ) → Data
+left_out_object source destination spec message = object (
+    member (codes "destination") (text_or_null destination) (
+    member (codes "kind") (string (codes "left_out")) (
+    member (codes "message") (string message) (
+    member (codes "source") (string source) (
+    member (codes "spec") (string spec) no_members)))))
+
+-- a source of a conflict, with the canonical text of its spec
+abbrev pub claim_object : List ℕ × List ℕ → Data
+claim_object c = object (
+    member (codes "source") (string c.0) (
+    member (codes "spec") (string c.1) no_members))
+
+-- a destination with several sources
+abbrev pub conflict_object : (destination : List ℕ) → (sources : List (List ℕ × List ℕ)) → Data
+conflict_object destination sources = object (
+    member (codes "destination") (string destination) (
+    member (codes "kind") (string (codes "conflict")) (
+    member (codes "sources") (array (items_of (map claim_object sources))) no_members)))
+
+-- a record of the input that is no ref
+abbrev pub malformed_object : (place text message : List ℕ) → Data
+malformed_object place text message = object (
+    member (codes "kind") (string (codes "malformed")) (
+    member (codes "message") (string message) (
+    member (codes "place") (string place) (
+    member (codes "text") (string text) no_members))))
+
+-- a ref that no spec writes
+abbrev pub untracked_object : (name message : List ℕ) → Data
+untracked_object name message = object (
+    member (codes "kind") (string (codes "untracked")) (
+    member (codes "message") (string message) (
+    member (codes "name") (string name) no_members)))
+
+-- a ref prefix of protocol v2, and the same as a pattern of `git ls-remote`
+abbrev pub prefix_object : (prefix pattern : List ℕ) → Data
+prefix_object prefix pattern = object (
+    member (codes "kind") (string (codes "prefix")) (
+    member (codes "pattern") (string pattern) (
+    member (codes "prefix") (string prefix) no_members)))
+
+-- a spec and a message, of either kind that has just these
+abbrev pub noted_object : (kind spec message : List ℕ) → Data
+noted_object kind spec message = object (
+    member (codes "kind") (string kind) (
+    member (codes "message") (string message) (
+    member (codes "spec") (string spec) no_members)))
+
+-- nothing to ask a server for
+abbrev pub nothing_object : (message : List ℕ) → Data
+nothing_object message = object (
+    member (codes "kind") (string (codes "nothing")) (
+    member (codes "message") (string message) no_members))

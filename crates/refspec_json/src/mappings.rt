@@ -1,0 +1,142 @@
+//! Mappings and conflicts.
+
+ghost use Rattle.std.specs.Prelude.{◌≡◌, ◌++◌, map, option_map, string_bytes, IfOk, OnOk};
+ghost use Rattle.serde_json.specs.Data.{array};
+ghost use Rattle.serde_json.specs.View.{view, items_of};
+ghost use Rattle.refspec_json.specs.Objects.{line_of, mapping_object, left_out_object, claim_object, conflict_object};
+
+use crate::line::{put_value, text_or_null};
+use serde_json::{Value, json};
+use std::alloc::{AllocError, Global};
+
+/// A mapping, with the canonical text of its spec.
+#[derive(Drop)]
+pub struct Mapping<'a> {
+    pub source: &'a str,
+    pub destination: Option<&'a str>,
+    pub spec: &'a str,
+}
+
+impl Mapping<'_> {
+    /// Puts its object and a newline at the end.
+    pub fn put_line(&self, alloc: Global, out: &mut Vec<u8>) -> Result<(), AllocError>
+        ensures { OnOk result (out.new.items ≡ out.old.items ++ line_of (mapping_object
+            self.now.source.now (option_map (λ t. t.now) self.now.destination)
+            self.now.spec.now)) }
+    {
+        put_value(alloc, out, &self.object(alloc)?)
+    }
+
+    // Its object.
+    fn object(&self, alloc: Global) -> Result<Value, AllocError>
+        ensures { IfOk result (λ v. view v ≡ mapping_object
+            self.now.source.now (option_map (λ t. t.now) self.now.destination)
+            self.now.spec.now) }
+    {
+        let destination = text_or_null(alloc, self.destination)?;
+        json!(in alloc; {
+            "kind": "mapping",
+            "source": self.source,
+            "destination": destination,
+            "spec": self.spec,
+        })
+    }
+}
+
+/// A mapping that is left out.
+#[derive(Drop)]
+pub struct LeftOut<'a> {
+    pub source: &'a str,
+    pub destination: Option<&'a str>,
+    pub spec: &'a str,
+    pub message: &'a str,
+}
+
+impl LeftOut<'_> {
+    /// Puts its object and a newline at the end.
+    pub fn put_line(&self, alloc: Global, out: &mut Vec<u8>) -> Result<(), AllocError>
+        ensures { OnOk result (out.new.items ≡ out.old.items ++ line_of (left_out_object
+            self.now.source.now (option_map (λ t. t.now) self.now.destination)
+            self.now.spec.now self.now.message.now)) }
+    {
+        put_value(alloc, out, &self.object(alloc)?)
+    }
+
+    // Its object.
+    fn object(&self, alloc: Global) -> Result<Value, AllocError>
+        ensures { IfOk result (λ v. view v ≡ left_out_object
+            self.now.source.now (option_map (λ t. t.now) self.now.destination)
+            self.now.spec.now self.now.message.now) }
+    {
+        let destination = text_or_null(alloc, self.destination)?;
+        json!(in alloc; {
+            "kind": "left_out",
+            "source": self.source,
+            "destination": destination,
+            "spec": self.spec,
+            "message": self.message,
+        })
+    }
+}
+
+/// A destination that several sources are mapped to.
+#[derive(Drop)]
+pub struct Conflict<'a> {
+    pub destination: &'a str,
+    pub sources: &'a [Claim],
+}
+
+impl Conflict<'_> {
+    ghost use Rattle.refspec_json.specs.Views.{claim_texts};
+
+    /// Puts its object and a newline at the end.
+    pub fn put_line(&self, alloc: Global, out: &mut Vec<u8>) -> Result<(), AllocError>
+        ensures { OnOk result (out.new.items ≡ out.old.items ++ line_of (conflict_object
+            self.now.destination.now (map claim_texts self.now.sources.now))) }
+    {
+        put_value(alloc, out, &self.object(alloc)?)
+    }
+
+    // Its object.
+    fn object(&self, alloc: Global) -> Result<Value, AllocError>
+        ensures { IfOk result (λ v. view v ≡ conflict_object
+            self.now.destination.now (map claim_texts self.now.sources.now)) }
+    {
+        let sources = Claim::array_of(self.sources, alloc)?;
+        json!(in alloc; {
+            "kind": "conflict",
+            "destination": self.destination,
+            "sources": sources,
+        })
+    }
+}
+
+/// A source of a conflict, with the canonical text of its spec.
+#[derive(Drop)]
+pub struct Claim {
+    pub source: String,
+    pub spec: String,
+}
+
+impl Claim {
+    ghost use Rattle.refspec_json.specs.Views.{claim_texts};
+
+    // Its object.
+    fn object(&self, alloc: Global) -> Result<Value, AllocError>
+        ensures { IfOk result (λ v. view v ≡ claim_object (claim_texts self.now)) }
+    {
+        json!(in alloc; {"source": &self.source, "spec": &self.spec})
+    }
+
+    // The array of the objects of some.
+    fn array_of(claims: &[Claim], alloc: Global) -> Result<Value, AllocError>
+        ensures { IfOk result (λ v. view v
+            ≡ array (items_of (map claim_object (map claim_texts claims.now)))) }
+    {
+        let mut objects = Vec::with_capacity(alloc, claims.len())?;
+        for claim in claims {
+            objects.push(claim.object(alloc)?)?;
+        }
+        Ok(Value::Array(objects))
+    }
+}

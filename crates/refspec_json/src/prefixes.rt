@@ -1,0 +1,64 @@
+//! What to ask a server for.
+
+ghost use Rattle.std.specs.Prelude.{◌≡◌, ◌++◌, IfOk, OnOk};
+ghost use Rattle.serde_json.specs.View.{view};
+ghost use Rattle.refspec_json.specs.Objects.{line_of, prefix_object, nothing_object};
+
+use crate::line::put_value;
+use serde_json::{Value, json};
+use std::alloc::{AllocError, Global};
+
+/// A ref prefix: an argument of protocol v2, and the same as a pattern of `git ls-remote`.
+#[derive(Drop)]
+pub struct Prefix<'a> {
+    pub prefix: &'a str,
+    pub pattern: &'a str,
+}
+
+impl Prefix<'_> {
+    /// Puts its object and a newline at the end.
+    pub fn put_line(&self, alloc: Global, out: &mut Vec<u8>) -> Result<(), AllocError>
+        ensures { OnOk result (out.new.items ≡ out.old.items ++ line_of (prefix_object
+            self.now.prefix.now self.now.pattern.now)) }
+    {
+        put_value(alloc, out, &self.object(alloc)?)
+    }
+
+    // Its object.
+    fn object(&self, alloc: Global) -> Result<Value, AllocError>
+        ensures { IfOk result (λ v. view v ≡ prefix_object
+            self.now.prefix.now self.now.pattern.now) }
+    {
+        json!(in alloc; {
+            "kind": "prefix",
+            "prefix": self.prefix,
+            "pattern": self.pattern,
+        })
+    }
+}
+
+/// Nothing has to be asked for.
+#[derive(Drop)]
+pub struct Nothing<'a> {
+    pub message: &'a str,
+}
+
+impl Nothing<'_> {
+    /// Puts its object and a newline at the end.
+    pub fn put_line(&self, alloc: Global, out: &mut Vec<u8>) -> Result<(), AllocError>
+        ensures { OnOk result (out.new.items ≡ out.old.items ++ line_of (nothing_object
+            self.now.message.now)) }
+    {
+        put_value(alloc, out, &self.object(alloc)?)
+    }
+
+    // Its object.
+    fn object(&self, alloc: Global) -> Result<Value, AllocError>
+        ensures { IfOk result (λ v. view v ≡ nothing_object self.now.message.now) }
+    {
+        json!(in alloc; {
+            "kind": "nothing",
+            "message": self.message,
+        })
+    }
+}

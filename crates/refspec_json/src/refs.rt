@@ -1,0 +1,69 @@
+//! Refs and records of the input.
+
+ghost use Rattle.std.specs.Prelude.{◌≡◌, ◌++◌, IfOk, OnOk};
+ghost use Rattle.serde_json.specs.View.{view};
+ghost use Rattle.refspec_json.specs.Objects.{line_of, malformed_object, untracked_object};
+
+use crate::line::put_value;
+use serde_json::{Value, json};
+use std::alloc::{AllocError, Global};
+
+/// A record of the input that is no ref.
+#[derive(Drop)]
+pub struct Malformed<'a> {
+    pub place: &'a str,
+    pub text: &'a str,
+    pub message: &'a str,
+}
+
+impl Malformed<'_> {
+    /// Puts its object and a newline at the end.
+    pub fn put_line(&self, alloc: Global, out: &mut Vec<u8>) -> Result<(), AllocError>
+        ensures { OnOk result (out.new.items ≡ out.old.items ++ line_of (malformed_object
+            self.now.place.now self.now.text.now self.now.message.now)) }
+    {
+        put_value(alloc, out, &self.object(alloc)?)
+    }
+
+    // Its object.
+    fn object(&self, alloc: Global) -> Result<Value, AllocError>
+        ensures { IfOk result (λ v. view v ≡ malformed_object
+            self.now.place.now self.now.text.now self.now.message.now) }
+    {
+        json!(in alloc; {
+            "kind": "malformed",
+            "place": self.place,
+            "text": self.text,
+            "message": self.message,
+        })
+    }
+}
+
+/// A ref that no spec writes.
+#[derive(Drop)]
+pub struct Untracked<'a> {
+    pub name: &'a str,
+    pub message: &'a str,
+}
+
+impl Untracked<'_> {
+    /// Puts its object and a newline at the end.
+    pub fn put_line(&self, alloc: Global, out: &mut Vec<u8>) -> Result<(), AllocError>
+        ensures { OnOk result (out.new.items ≡ out.old.items ++ line_of (untracked_object
+            self.now.name.now self.now.message.now)) }
+    {
+        put_value(alloc, out, &self.object(alloc)?)
+    }
+
+    // Its object.
+    fn object(&self, alloc: Global) -> Result<Value, AllocError>
+        ensures { IfOk result (λ v. view v ≡ untracked_object
+            self.now.name.now self.now.message.now) }
+    {
+        json!(in alloc; {
+            "kind": "untracked",
+            "name": self.name,
+            "message": self.message,
+        })
+    }
+}

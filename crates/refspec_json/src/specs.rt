@@ -1,0 +1,223 @@
+//! Specs, and texts that aren't.
+
+ghost use Rattle.std.specs.Prelude.{◌≡◌, ◌++◌, option_map, codes, IfOk, OnOk, MatchOption};
+ghost use Rattle.serde_json.specs.Data.{string, put as with_member};
+ghost use Rattle.serde_json.specs.View.{view, members_view};
+ghost use Rattle.refspec_json.specs.Objects.{line_of, refused_object, spec_object, noted_object};
+
+use crate::line::{number_or_null, put_value, text_or_null};
+use serde_json::{Map, Value, json, put};
+use std::alloc::{AllocError, Global};
+
+/// A text that is refused.
+#[derive(Drop)]
+pub struct Refused<'a> {
+    pub place: &'a str,
+    pub operation: &'a str,
+    pub text: &'a str,
+    /// The name of the reason.
+    pub reason: &'a str,
+    pub message: &'a str,
+    /// The side, the part of it that is wrong, and where in the text this is, counted in bytes from 1.
+    pub side: Option<&'a str>,
+    pub part: Option<&'a str>,
+    pub at: Option<usize>,
+    pub advice: &'a str,
+}
+
+impl Refused<'_> {
+    /// Puts its object and a newline at the end.
+    pub fn put_line(&self, alloc: Global, out: &mut Vec<u8>) -> Result<(), AllocError>
+        ensures { OnOk result (out.new.items ≡ out.old.items ++ line_of (refused_object
+            self.now.place.now self.now.operation.now self.now.text.now self.now.reason.now
+            self.now.message.now (option_map (λ t. t.now) self.now.side)
+            (option_map (λ t. t.now) self.now.part) self.now.at self.now.advice.now)) }
+    {
+        put_value(alloc, out, &self.object(alloc)?)
+    }
+
+    // Its object.
+    fn object(&self, alloc: Global) -> Result<Value, AllocError>
+        ensures { IfOk result (λ v. view v ≡ refused_object
+            self.now.place.now self.now.operation.now self.now.text.now self.now.reason.now
+            self.now.message.now (option_map (λ t. t.now) self.now.side)
+            (option_map (λ t. t.now) self.now.part) self.now.at self.now.advice.now) }
+    {
+        let side = text_or_null(alloc, self.side)?;
+        let part = text_or_null(alloc, self.part)?;
+        let at = number_or_null(self.at);
+        json!(in alloc; {
+            "kind": "refused",
+            "place": self.place,
+            "operation": self.operation,
+            "text": self.text,
+            "reason": self.reason,
+            "message": self.message,
+            "side": side,
+            "part": part,
+            "at": at,
+            "advice": self.advice,
+        })
+    }
+}
+
+/// What is said of a spec.
+#[derive(Clone, Copy)]
+pub enum SpecKind {
+    /// Its canonical text.
+    Canonical,
+    /// Its meaning too.
+    Meaning,
+    /// That it is a good spec.
+    Good,
+}
+
+impl SpecKind {
+    ghost use Rattle.refspec_json.specs.Views.{kind_name};
+
+    // The member `kind`.
+    fn name(self) -> &'static str
+        ensures { result.now ≡ kind_name self }
+    {
+        match self {
+            SpecKind::Canonical => "canonical",
+            SpecKind::Meaning => "meaning",
+            SpecKind::Good => "good",
+        }
+    }
+}
+
+/// A spec, and what is said of it.
+#[derive(Drop)]
+pub struct Spec<'a> {
+    pub kind: SpecKind,
+    pub place: &'a str,
+    pub operation: &'a str,
+    pub text: &'a str,
+    pub canonical: &'a str,
+    pub meaning: Option<&'a str>,
+    /// The place of an earlier spec that says the same.
+    pub same_as: Option<&'a str>,
+}
+
+impl Spec<'_> {
+    ghost use Rattle.refspec_json.specs.Views.{kind_name};
+
+    /// Puts its object and a newline at the end.
+    pub fn put_line(&self, alloc: Global, out: &mut Vec<u8>) -> Result<(), AllocError>
+        ensures { OnOk result (out.new.items ≡ out.old.items ++ line_of (spec_object
+            (kind_name self.now.kind) self.now.place.now self.now.operation.now
+            self.now.text.now self.now.canonical.now
+            (option_map (λ t. t.now) self.now.meaning)
+            (option_map (λ t. t.now) self.now.same_as))) }
+    {
+        put_value(alloc, out, &self.object(alloc)?)
+    }
+
+    // Its object.
+    fn object(&self, alloc: Global) -> Result<Value, AllocError>
+        ensures { IfOk result (λ v. view v ≡ spec_object
+            (kind_name self.now.kind) self.now.place.now self.now.operation.now
+            self.now.text.now self.now.canonical.now
+            (option_map (λ t. t.now) self.now.meaning)
+            (option_map (λ t. t.now) self.now.same_as)) }
+    {
+        let mut members = Map::new(alloc);
+        put_text(alloc, &mut members, "kind", self.kind.name())?;
+        put_text(alloc, &mut members, "place", self.place)?;
+        put_text(alloc, &mut members, "operation", self.operation)?;
+        put_text(alloc, &mut members, "text", self.text)?;
+        put_text(alloc, &mut members, "canonical", self.canonical)?;
+        put_text_if(alloc, &mut members, "meaning", self.meaning)?;
+        put_text_if(alloc, &mut members, "same_as", self.same_as)?;
+        Ok(Value::Object(members))
+    }
+}
+
+// Sets a member to a text.
+fn put_text(
+    alloc: Global,
+    members: &mut Map<String, Value>,
+    key: &str,
+    text: &str,
+) -> Result<(), AllocError>
+    ensures { OnOk result (members_view members.new.entries
+        ≡ with_member key.now (string text.now) (members_view members.old.entries)) }
+{
+    put(members, alloc, key, Value::try_from_str(alloc, text)?)
+}
+
+// Sets a member to a text, if there is one.
+fn put_text_if(
+    alloc: Global,
+    members: &mut Map<String, Value>,
+    key: &str,
+    text: Option<&str>,
+) -> Result<(), AllocError>
+    ensures { OnOk result (MatchOption text.entry
+        (members_view members.new.entries ≡ members_view members.old.entries)
+        (λ t. members_view members.new.entries
+        ≡ with_member key.now (string t.now) (members_view members.old.entries))) }
+{
+    match text {
+        None => Ok(()),
+        Some(text) => put_text(alloc, members, key, text),
+    }
+}
+
+/// A spec for which all refs have to be asked for.
+#[derive(Drop)]
+pub struct All<'a> {
+    pub spec: &'a str,
+    pub message: &'a str,
+}
+
+impl All<'_> {
+    /// Puts its object and a newline at the end.
+    pub fn put_line(&self, alloc: Global, out: &mut Vec<u8>) -> Result<(), AllocError>
+        ensures { OnOk result (out.new.items ≡ out.old.items ++ line_of (noted_object
+            (codes "all") self.now.spec.now self.now.message.now)) }
+    {
+        put_value(alloc, out, &self.object(alloc)?)
+    }
+
+    // Its object.
+    fn object(&self, alloc: Global) -> Result<Value, AllocError>
+        ensures { IfOk result (λ v. view v ≡ noted_object
+            (codes "all") self.now.spec.now self.now.message.now) }
+    {
+        noted(alloc, "all", self.spec, self.message)
+    }
+}
+
+/// A spec whose destination is an object id.
+#[derive(Drop)]
+pub struct ToObject<'a> {
+    pub spec: &'a str,
+    pub message: &'a str,
+}
+
+impl ToObject<'_> {
+    /// Puts its object and a newline at the end.
+    pub fn put_line(&self, alloc: Global, out: &mut Vec<u8>) -> Result<(), AllocError>
+        ensures { OnOk result (out.new.items ≡ out.old.items ++ line_of (noted_object
+            (codes "to_object") self.now.spec.now self.now.message.now)) }
+    {
+        put_value(alloc, out, &self.object(alloc)?)
+    }
+
+    // Its object.
+    fn object(&self, alloc: Global) -> Result<Value, AllocError>
+        ensures { IfOk result (λ v. view v ≡ noted_object
+            (codes "to_object") self.now.spec.now self.now.message.now) }
+    {
+        noted(alloc, "to_object", self.spec, self.message)
+    }
+}
+
+// The object of a spec and a message.
+fn noted(alloc: Global, kind: &str, spec: &str, message: &str) -> Result<Value, AllocError>
+    ensures { IfOk result (λ v. view v ≡ noted_object kind.now spec.now message.now) }
+{
+    json!(in alloc; {"kind": kind, "spec": spec, "message": message})
+}
