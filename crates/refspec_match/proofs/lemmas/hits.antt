@@ -3,4 +3,5 @@ pub mod HitLemmas
 pub mod NoHitLemmas
 pub mod OnceLemmas
 pub mod EqualSpecLemmas
+pub mod EqualKeyLemmas
 pub mod ReachLemmas

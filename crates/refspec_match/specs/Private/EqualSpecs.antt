@@ -1,6 +1,7 @@
 -- Specs that have the sides of an earlier one, and mappings of which some are left out that repeat an earlier one or are
 -- excluded. Only private functions cite this.
-use Rattle.std.specs.Prelude.{◌≡◌, ◌⊎◌, ℕ, ◌<◌, Bool, List, [], ◌∷◌, ◌++◌, length, map, slice_index_or}
+use Rattle.std.specs.Prelude.{◌≡◌, ◌⊎◌, ℕ, ◌<◌, ◌%◌, ◌^◌, Bool, List, [], ◌∷◌, ◌++◌, length, map, slice_index_or}
+use Rattle.std.specs.List.{AllByRecursion}
 use Rattle.refspec_match.specs.declared.hits.ends.Direction.{Direction}
 use Rattle.refspec_match.specs.declared.hits.Made.{Made}
 use Rattle.refspec_match.specs.declared.hits.ends.Ends.{Ends as DeclaredEnds}
@@ -29,6 +30,14 @@ pub record IsEqualAt (g : List Reading) (before place : ℕ) : Type 0 where
 -- each reading that is flagged has the sides of an earlier one
 abbrev pub FlagsEqual : List Reading → List Bool → Type 0
 FlagsEqual g flags = (place : ℕ) → IsFlagged flags place → (before : ℕ) × IsEqualAt g before place
+
+-- the place in the key is that of a positive reading
+pub record IsPositiveKey (g : List Reading) (bits key : ℕ) : Type 0 where
+  pub inside : key % 2 ^ bits < length g
+  pub positive : (d : Reading) → IsPositive (slice_index_or g (key % 2 ^ bits) d).mode
+
+abbrev pub ArePositiveKeys : List Reading → ℕ → List ℕ → Type 0
+ArePositiveKeys g bits keys = AllByRecursion (IsPositiveKey g bits) keys
 
 -- a mapping that may be left out after others: one of them has its pair, or readings of the group exclude it
 abbrev pub MayGo : List Reading → List Mapped → Mapped → Type 0

@@ -1,9 +1,10 @@
 //! Specs that have both sides of an earlier one. All that they map, that one has mapped. They are found by
 //! sorting keys, as repeats are.
 
-ghost use Rattle.std.specs.Prelude.{◌<◌, ◌≤◌, ◌^◌, length, map, IfOk, IsTrue};
+ghost use Rattle.std.specs.Prelude.{◌≡◌, ◌<◌, ◌≤◌, ◌^◌, length, map, IfOk, IsTrue};
 ghost use Rattle.refspec_text.specs.Views.Spec.{reading_of};
-ghost use Rattle.refspec_match.specs.Private.EqualSpecs.{FlagsEqual, HaveSameSides, IsEqualAt};
+ghost use Rattle.refspec_match.specs.Private.EqualSpecs.{ArePositiveKeys, FlagsEqual};
+ghost use Rattle.refspec_match.specs.Private.Kept.{Rises};
 
 use crate::keep::repeats::{bits_for, bucket_of, key_of, place_in, raise};
 use bstr::BStr;
@@ -28,8 +29,8 @@ pub(crate) fn equal_specs(alloc: Global, specs: &[RefSpecRef<'_>]) -> Result<Vec
         if bucket_of(before, bits) != bucket_of(key, bits) {
             continue;
         }
-        let place = place_in(key, bits);
-        if is_equal(specs, place_in(before, bits), place) {
+        let (earlier, place) = (place_in(before, bits), place_in(key, bits));
+        if has_same_sides(&specs[earlier], &specs[place]) {
             raise(&mut flags, specs.len(), place)?;
         }
     }
@@ -40,6 +41,8 @@ pub(crate) fn equal_specs(alloc: Global, specs: &[RefSpecRef<'_>]) -> Result<Vec
 fn keys_in_order(alloc: Global, specs: &[RefSpecRef<'_>], bits: u32) -> Result<Vec<u64>, AllocError>
     requires few { bits < 64 }
     requires fit { length specs.now ≤ 2 ^ bits }
+    ensures positive { IfOk result (λ keys. ArePositiveKeys (map reading_of specs.now) bits keys.items) }
+    ensures rises { IfOk result (λ keys. Rises keys.items) }
 {
     let mut keys = Vec::with_capacity(alloc, specs.len())?;
     for (place, spec) in specs.iter().enumerate() {
@@ -67,23 +70,10 @@ fn bytes_of(side: Option<BStr<'_>>) -> &[u8] {
     }
 }
 
-// Whether there is a positive spec at a place that has both sides of a positive one at an earlier
-// place.
-fn is_equal(specs: &[RefSpecRef<'_>], before: usize, place: usize) -> bool
-    ensures { IsTrue result → IsEqualAt (map reading_of specs.now) before place }
-{
-    if place <= before || specs.len() <= place {
-        return false;
-    }
-    has_same_sides(&specs[before], &specs[place])
-}
-
-// Whether two specs are positive and have the same sides.
+// Whether two specs have the same sides.
 fn has_same_sides(a: &RefSpecRef<'_>, b: &RefSpecRef<'_>) -> bool
-    ensures { IsTrue result → HaveSameSides (reading_of a.now) (reading_of b.now) }
+    ensures source { IsTrue result → (reading_of a.now).source ≡ (reading_of b.now).source }
+    ensures destination { IsTrue result → (reading_of a.now).destination ≡ (reading_of b.now).destination }
 {
-    if is_negative(a) || is_negative(b) {
-        return false;
-    }
     a.source() == b.source() && a.destination() == b.destination()
 }

@@ -59,17 +59,30 @@ key_fits seed ms bits key hash place m below bucket here is read = (
   λ d. bucket ∙ ap (λ (n : ℕ). n / 2 ^ bits) (is ∙ ap (λ (x : Mapping). pair_hash seed (mapped_of x)) (read d)) ∙ ap (λ (n : ℕ). pair_hash seed (mapped_of (get_or ms n d)) / 2 ^ bits) (sym here),
 )
 
+-- places before one are before the next one
+pub places_same : (bits : ℕ) (keys : List ℕ) (place : ℕ) → AllByRecursion (λ n. n < place) (places_in bits keys) → AllByRecursion (λ n. n < place + 1) (places_in bits keys)
+places_same bits keys place below = all_weaker (λ n. n < place) (λ n. n < place + 1) (λ n less. omega arith) (places_in bits keys) below
+
+-- one more key, at a place after the others
+pub places_more : (bits : ℕ) (keys new : List ℕ) (key place : ℕ) → new ≡ keys ++ key ∷ [] → key % 2 ^ bits ≡ place → Rises (places_in bits keys) → AllByRecursion (λ n. n < place) (places_in bits keys) → (places_in bits new ≡ places_in bits keys ++ place ∷ []) × Rises (places_in bits new) × AllByRecursion (λ n. n < place + 1) (places_in bits new)
+places_more bits keys new key place is here rises below =
+    let places : places_in bits new ≡ places_in bits keys ++ place ∷ [] = ap (places_in bits) is ∙ map-append (λ (x : ℕ). x % 2 ^ bits) keys (key ∷ []) ∙ ap (λ (n : ℕ). places_in bits keys ++ n ∷ []) here in (
+      places,
+      subst (λ (ns : List ℕ). Rises ns) (sym places) (Rises-push (places_in bits keys) place rises below),
+      subst (λ (ns : List ℕ). AllByRecursion (λ n. n < place + 1) ns) (sym places) (all_join (λ n. n < place + 1) (places_in bits keys) (place ∷ []) (places_same bits keys place below) (omega arith, tt)),
+    )
+
 -- one more key, at its place
 pub keys_more : (seed : FoldHasher) (ms : List Mapping) (bits : ℕ) (keys new : List ℕ) (key place : ℕ) (Wanted : ℕ → Type 0) → new ≡ keys ++ key ∷ [] → key % 2 ^ bits ≡ place → IsKey seed ms bits key → AllByRecursion (IsKey seed ms bits) keys → ((k : ℕ) → k < place → Wanted k → Has (places_in bits keys) k) → Rises (places_in bits keys) → AllByRecursion (λ n. n < place) (places_in bits keys) → AllByRecursion (IsKey seed ms bits) new × ((k : ℕ) → k < place + 1 → Wanted k → Has (places_in bits new) k) × Rises (places_in bits new) × AllByRecursion (λ n. n < place + 1) (places_in bits new)
 keys_more seed ms bits keys new key place Wanted is here one each every rises below =
-    let places : places_in bits new ≡ places_in bits keys ++ place ∷ [] = ap (places_in bits) is ∙ map-append (λ (x : ℕ). x % 2 ^ bits) keys (key ∷ []) ∙ ap (λ (n : ℕ). places_in bits keys ++ n ∷ []) here in (
+    let more = places_more bits keys new key place is here rises below in (
       subst (λ (xs : List ℕ). AllByRecursion (IsKey seed ms bits) xs) (sym is) (all_join (IsKey seed ms bits) keys (key ∷ []) each (one, tt)),
-      λ k under wanted. subst (λ (ns : List ℕ). Has ns k) (sym places) (elim (upto k place under) [
+      λ k under wanted. subst (λ (ns : List ℕ). Has ns k) (sym more.0) (elim (upto k place under) [
         | inl less ↦ Has-left (places_in bits keys) (place ∷ []) k (every k less wanted)
         | inr last ↦ Has-right (places_in bits keys) (place ∷ []) k (inl (sym last))
       ]),
-      subst (λ (ns : List ℕ). Rises ns) (sym places) (Rises-push (places_in bits keys) place rises below),
-      subst (λ (ns : List ℕ). AllByRecursion (λ n. n < place + 1) ns) (sym places) (all_join (λ n. n < place + 1) (places_in bits keys) (place ∷ []) (all_weaker (λ n. n < place) (λ n. n < place + 1) (λ n less. omega arith) (places_in bits keys) below) (omega arith, tt)),
+      more.1,
+      more.2,
     )
 
 -- no key for a place that needs none
@@ -79,7 +92,7 @@ keys_same bits keys place Wanted unwanted every below = (
     | inl less ↦ every k less wanted
     | inr last ↦ absurd (unwanted (subst Wanted last wanted))
   ],
-  all_weaker (λ n. n < place) (λ n. n < place + 1) (λ n less. omega arith) (places_in bits keys) below,
+  places_same bits keys place below,
 )
 
 -- keys in another order
