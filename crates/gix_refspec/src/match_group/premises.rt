@@ -3,7 +3,6 @@
 ghost use Rattle.std.specs.Prelude.{◌↔◌, IsTrue, codes};
 ghost use Rattle.std.specs.List.{AllByRecursion};
 ghost use Rattle.refspec_text.specs.Texts.Words.{BeginsWith};
-ghost use Rattle.refspec_text.specs.Texts.Name.{HasStar};
 ghost use Rattle.refspec_text.specs.Views.Spec.{reading_of};
 ghost use Rattle.gix_refspec.specs.Views.Group.{readings_of};
 ghost use Rattle.refspec_text.specs.Laws.Covering.{HasCoveringSource};
@@ -43,7 +42,8 @@ impl<'a> MatchGroup<'a> {
     }
 }
 
-// Whether a spec is negative, or has one side, or two patterns, or two sides that begin `refs/`.
+// Whether a spec is negative, or has one side, or two patterns, or two sides that begin `refs/`. A side
+// has a star where the other has one.
 fn goes_both_ways(spec: &RefSpecRef<'_>) -> bool
     ensures { IsTrue result ↔ GoesBothWays (reading_of spec.now) }
 {
@@ -53,17 +53,10 @@ fn goes_both_ways(spec: &RefSpecRef<'_>) -> bool
     match (spec.source(), spec.destination()) {
         (Some(source), Some(destination)) => {
             let (source, destination) = (source.as_bytes(), destination.as_bytes());
-            have_stars(source, destination) || are_below_refs(source, destination)
+            holds(source, b'*') || are_below_refs(source, destination)
         }
         _ => true,
     }
-}
-
-// Whether both sides have a star.
-fn have_stars(source: &[u8], destination: &[u8]) -> bool
-    ensures { IsTrue result ↔ (HasStar source.now × HasStar destination.now) }
-{
-    holds(source, b'*') && holds(destination, b'*')
 }
 
 // Whether both sides begin `refs/`.

@@ -1,0 +1,20 @@
+-- A look at the source tells whether both sides have a star.
+use Rattle.std.proofs.Common.{◌↔◌, IsTrue, List, ℕ, Some, option_map, sym, ap, ◌∙◌, subst}
+use Rattle.bstr.specs.BStr.{bstr_bytes}
+use Rattle.refspec_text.specs.Views.Spec.{reading_of}
+use Rattle.gix_refspec.specs.Laws.Matching.{GoesBothWays}
+use Rattle.gix_refspec.proofs.lemmas.hits.PremiseLemmas.{goes_below_refs, goes_by_star}
+use Rattle.gix_refspec.proofs.match_group.premises.goes_both_ways.Goals as goal
+
+pub returns-then-holds : goal.returns-then-holds
+returns-then-holds c =
+    subst (λ b. IsTrue b ↔ GoesBothWays (reading_of c.args.spec.now)) (sym c.if-holds.true)
+    (goes_by_star (reading_of c.args.spec.now) c.as_bytes-source.result.now c.args.spec.now.accepted
+    (sym c.source.ensures ∙ ap (option_map bstr_bytes) c.in-Some-Some.is-0 ∙ ap (λ (x : List ℕ). Some x) (sym c.as_bytes-source.ensures)) c.if-holds.ensures)
+
+pub returns-else-holds : goal.returns-else-holds
+returns-else-holds c =
+    goes_below_refs (reading_of c.args.spec.now) c.as_bytes-source.result.now c.as_bytes-destination.result.now c.are_below_refs.result c.if-is_negative.ensures
+    (sym c.source.ensures ∙ ap (option_map bstr_bytes) c.in-Some-Some.is-0 ∙ ap (λ (x : List ℕ). Some x) (sym c.as_bytes-source.ensures))
+    (sym c.destination.ensures ∙ ap (option_map bstr_bytes) c.in-Some-Some.is-1 ∙ ap (λ (x : List ℕ). Some x) (sym c.as_bytes-destination.ensures))
+    c.if-holds.ensures c.are_below_refs.ensures
