@@ -17,4 +17,5 @@ pub mod laws;
 pub mod match_group;
 
 pub use match_group::types::MatchGroup;
+pub use refspec_text::parsing::Operation;
 pub use refspec_text::{Instruction, RefSpec, RefSpecRef, instruction, name, oid, parse, parsing};
