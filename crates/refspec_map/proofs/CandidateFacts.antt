@@ -18,7 +18,6 @@ use Rattle.refspec_text.proofs.lemmas.hits.CandidateLemmas.{first_once, taken_by
 use Rattle.refspec_text.proofs.lemmas.specs.FormsBackLemmas.{some_once}
 use Rattle.refspec_text.proofs.lemmas.texts.TestedLemmas.{IsName-tested}
 use Rattle.refspec_map.specs.declared.command.Command.TheVariants as command
-use Rattle.refspec_map.specs.declared.command.Matching.TheVariants as matching
 use Rattle.refspec_map.specs.Input.{newline}
 use Rattle.refspec_map.specs.Line.{reading, ref}
 use Rattle.refspec_map.specs.Run.{Answers}
@@ -124,7 +123,7 @@ the_input = codes "spec main:refs/x\nref e69de29bb2d1d6434b8b29ae775ad8c2e48c539
 main_reads : Reads Fetch (codes "main:refs/x") the_spec
 main_reads = updates Normal main target refl tt (record { signed = (refl, (eqb-false 109 plus refl, eqb-false 109 caret refl)); last = Lacks-tested colon target refl }) (inl (IsName-tested main refl, IsName-tested target refl)) refl
 
-pub tag_planned : Answers (command.Match matching.Plan) (Some the_input) (Some []) (Some []) (Some (codes "map\t0\t0\trefs/tags/main\trefs/x\n")) 0
+pub tag_planned : Answers command.Plan (Some the_input) (Some []) (Some []) (Some (codes "map\t0\t0\trefs/tags/main\trefs/x\n")) 0
 unfolding digits
 tag_planned = record {
   input = the_input;

@@ -17,7 +17,6 @@ use Rattle.refspec_text.proofs.lemmas.specs.FormsBackLemmas.{some_once}
 use Rattle.refspec_match.proofs.lemmas.hits.HitLemmas.{matches_as}
 use Rattle.refspec_text.proofs.lemmas.texts.TestedLemmas.{IsName-tested}
 use Rattle.refspec_map.specs.declared.command.Command.TheVariants as command
-use Rattle.refspec_map.specs.declared.command.Matching.TheVariants as matching
 use Rattle.refspec_map.specs.Input.{newline, AreLines}
 use Rattle.refspec_map.specs.Line.{reading, ref}
 use Rattle.refspec_map.specs.Run.{Answers}
@@ -219,7 +218,7 @@ tag_reads = updates Normal the_tag target refl tt (record { signed = (refl, (eqb
 head_reads : Reads Fetch (codes "refs/heads/main:refs/x") (spec_of the_head)
 head_reads = updates Normal the_head target refl tt (record { signed = (refl, (eqb-false 114 plus refl, eqb-false 114 caret refl)); last = Lacks-tested colon target refl }) (inl (IsName-tested the_head refl, IsName-tested target refl)) refl
 
-pub conflict_planned : Answers (command.Match matching.Plan) (Some the_input) (Some []) (Some []) (Some (codes "conflict\trefs/x\trefs/tags/main\trefs/tags/main:refs/x\trefs/heads/main\trefs/heads/main:refs/x\n")) 1
+pub conflict_planned : Answers command.Plan (Some the_input) (Some []) (Some []) (Some (codes "conflict\trefs/x\trefs/tags/main\trefs/tags/main:refs/x\trefs/heads/main\trefs/heads/main:refs/x\n")) 1
 conflict_planned = record {
   input = the_input;
   output = codes "conflict\trefs/x\trefs/tags/main\trefs/tags/main:refs/x\trefs/heads/main\trefs/heads/main:refs/x\n";

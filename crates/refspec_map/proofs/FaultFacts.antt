@@ -9,9 +9,7 @@ use Rattle.gix_refspec.specs.Specs.Reading.{Normal}
 use Rattle.gix_refspec.specs.Specs.Grammar.{fetched}
 use Rattle.gix_refspec.specs.Specs.Refusal.{NegativeEmpty}
 use Rattle.refspec_map.specs.declared.command.Command.{Command}
-use Rattle.refspec_text.specs.declared.parsing.Operation.TheVariants.{Fetch, Push}
 use Rattle.refspec_map.specs.declared.command.Command.TheVariants as command
-use Rattle.refspec_map.specs.declared.command.Matching.TheVariants as matching
 use Rattle.refspec_map.specs.declared.fault.Fault.{Fault}
 use Rattle.refspec_map.specs.declared.fault.Fault.TheVariants as fault
 use Rattle.refspec_map.specs.Input.{newline, AreLines, ReadsToEnd}
@@ -80,7 +78,7 @@ two_read : ReadsToEnd (Some two) (Some []) two
 two_read = record { taken = refl; ended = refl; within = omega arith }
 
 -- a matching command reports the second line
-pub second_line_reported : Explains (command.Match matching.Lhs) (Some two) (Some []) (fault.Line 2)
+pub second_line_reported : Explains command.Lhs (Some two) (Some []) (fault.Line 2)
 second_line_reported = (two, two_read, second_bad)
 
 -- the number of a line that has no form
@@ -89,16 +87,16 @@ number_of (fault.Line n) = n
 number_of _ = 0
 
 -- and no other line
-pub no_other_line_reported : (rest : List ℕ) (n : ℕ) → Explains (command.Match matching.Plan) (Some two) (Some rest) (fault.Line n) → n ≡ 2
+pub no_other_line_reported : (rest : List ℕ) (n : ℕ) → Explains command.Plan (Some two) (Some rest) (fault.Line n) → n ≡ 2
 no_other_line_reported rest n (input, read, bad) =
     ap number_of (only_second_bad (fault.Line n) (subst (λ (x : List ℕ). IsFirstFault x (fault.Line n)) (read_whole two rest input read) bad))
 
 -- a canon command reports no line
-pub no_line_reported : (old new : Option (List ℕ)) (n : ℕ) → ¬ (Explains (command.Canon Fetch) old new (fault.Line n))
+pub no_line_reported : (old new : Option (List ℕ)) (n : ℕ) → ¬ (Explains command.CanonFetch old new (fault.Line n))
 no_line_reported old new n (input, read, bad) = bad
 
 -- a spec that is refused is reported by its line, with the reason
-pub refusal_reported : Explains (command.Match matching.Rhs) (Some (codes "spec ^\n")) (Some []) (fault.Spec 1 error.NegativeEmpty)
+pub refusal_reported : Explains command.Rhs (Some (codes "spec ^\n")) (Some []) (fault.Spec 1 error.NegativeEmpty)
 refusal_reported = (
   codes "spec ^\n",
   record { taken = refl; ended = refl; within = omega arith },
@@ -111,10 +109,10 @@ refusal_reported = (
 )
 
 -- a matching command doesn't take this input, and a canon command does
-pub two_not_good : (rest : List ℕ) → ¬ (IsGood (command.Match matching.Rhs) (Some two) (Some rest))
+pub two_not_good : (rest : List ℕ) → ¬ (IsGood command.Rhs (Some two) (Some rest))
 two_not_good rest is = is.good (fault.Line 2) (subst (λ (x : List ℕ). IsFirstFault x (fault.Line 2)) (sym (read_whole two rest is.input is.read)) second_bad)
 
-pub two_good : IsGood (command.Canon Push) (Some two) (Some [])
+pub two_good : IsGood command.CanonPush (Some two) (Some [])
 two_good = record { input = two; read = two_read; good = λ f bad. bad }
 
 -- ---- the other faults

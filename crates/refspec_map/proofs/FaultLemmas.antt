@@ -63,5 +63,8 @@ no_first_fault lines entries input cut given f bad =
 
 -- an input with an output has no bad line
 pub no_bad_line : (c : Command) (input output : List ℕ) (refusal : Bool) → IsOutput c input output refusal → (f : Fault) → ¬ (IsBad c input f)
-no_bad_line (command.Canon op) input output refusal is f bad = bad
-no_bad_line (command.Match m) input output refusal is f bad = no_first_fault is.lines is.entries input is.cut is.given f bad
+no_bad_line command.CanonFetch input output refusal is f bad = bad
+no_bad_line command.CanonPush input output refusal is f bad = bad
+no_bad_line command.Lhs input output refusal is f bad = no_first_fault is.lines is.entries input is.cut is.given f bad
+no_bad_line command.Rhs input output refusal is f bad = no_first_fault is.lines is.entries input is.cut is.given f bad
+no_bad_line command.Plan input output refusal is f bad = no_first_fault is.lines is.entries input is.cut is.given f bad

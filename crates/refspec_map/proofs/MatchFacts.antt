@@ -21,7 +21,6 @@ use Rattle.refspec_text.proofs.lemmas.hits.CandidateLemmas.{first_of_one, taken_
 use Rattle.refspec_text.proofs.lemmas.specs.FormsBackLemmas.{some_once}
 use Rattle.refspec_map.specs.declared.command.Command.{Command}
 use Rattle.refspec_map.specs.declared.command.Command.TheVariants as command
-use Rattle.refspec_map.specs.declared.command.Matching.TheVariants as matching
 use Rattle.refspec_map.specs.Input.{newline, AreLines}
 use Rattle.refspec_map.specs.Line.{Entry, reading, ref, readings_in}
 use Rattle.refspec_map.specs.Matching.{AreMapLines, IsMatching}
@@ -34,7 +33,7 @@ use Rattle.refspec_map.proofs.RunFacts.{none_some, nothing_reads}
 -- ---- an empty input
 
 -- maps nothing
-pub nothing_mapped : Answers (command.Match matching.Lhs) (Some []) (Some []) (Some []) (Some []) 0
+pub nothing_mapped : Answers command.Lhs (Some []) (Some []) (Some []) (Some []) 0
 nothing_mapped = record {
   input = [];
   output = [];
@@ -52,10 +51,10 @@ nothing_mapped = record {
 }
 
 -- `lhs` and `rhs` refuse nothing
-pub lhs_ends_well : (old new before after : Option (List ℕ)) (status : ℕ) → Answers (command.Match matching.Lhs) old new before after status → status ≡ 0
+pub lhs_ends_well : (old new before after : Option (List ℕ)) (status : ℕ) → Answers command.Lhs old new before after status → status ≡ 0
 lhs_ends_well old new before after status a = a.tells ∙ ap (λ (b : Bool). if b then 1 else 0) a.is.is.tells
 
-pub rhs_ends_well : (old new before after : Option (List ℕ)) (status : ℕ) → Answers (command.Match matching.Rhs) old new before after status → status ≡ 0
+pub rhs_ends_well : (old new before after : Option (List ℕ)) (status : ℕ) → Answers command.Rhs old new before after status → status ≡ 0
 rhs_ends_well old new before after status a = a.tells ∙ ap (λ (b : Bool). if b then 1 else 0) a.is.is.tells
 
 -- ---- a spec and a ref
@@ -166,16 +165,16 @@ answered command Writes output is_output writes = record {
 }
 
 -- `lhs` writes the line of the mapping
-pub head_mapped : Answers (command.Match matching.Lhs) (Some the_input) (Some []) (Some []) (Some (codes "map\t0\t0\tHEAD\n")) 0
+pub head_mapped : Answers command.Lhs (Some the_input) (Some []) (Some []) (Some (codes "map\t0\t0\tHEAD\n")) 0
 unfolding digits
-head_mapped = answered (command.Match matching.Lhs) (AreMapLines AreKeptForward) (codes "map\t0\t0\tHEAD\n") (λ is. is) (record { mappings = the_mapping ∷ []; kept = kept; written = refl; tells = refl })
+head_mapped = answered command.Lhs (AreMapLines AreKeptForward) (codes "map\t0\t0\tHEAD\n") (λ is. is) (record { mappings = the_mapping ∷ []; kept = kept; written = refl; tells = refl })
 
 -- and `rhs` writes nothing, since the spec has no destination
 no_backward_ends : (e : Ends) → ¬ (AreBackwardEnds the_spec e)
 no_backward_ends e is = none_some e.near is.near
 
-pub nothing_mapped_back : Answers (command.Match matching.Rhs) (Some the_input) (Some []) (Some []) (Some []) 0
-nothing_mapped_back = answered (command.Match matching.Rhs) (AreMapLines AreKeptBackward) [] (λ is. is) (record { mappings = []; kept = record { all = []; backward = record { hits = []; are_hits = ([], [], inr (no_backward_ends, refl), refl, refl); all = refl }; is = refl }; written = refl; tells = refl })
+pub nothing_mapped_back : Answers command.Rhs (Some the_input) (Some []) (Some []) (Some []) 0
+nothing_mapped_back = answered command.Rhs (AreMapLines AreKeptBackward) [] (λ is. is) (record { mappings = []; kept = record { all = []; backward = record { hits = []; are_hits = ([], [], inr (no_backward_ends, refl), refl, refl); all = refl }; is = refl }; written = refl; tells = refl })
 
 -- ---- a plan
 
@@ -197,9 +196,9 @@ validated = record {
 }
 
 -- so a plan writes the same line
-pub head_planned : Answers (command.Match matching.Plan) (Some the_input) (Some []) (Some []) (Some (codes "map\t0\t0\tHEAD\n")) 0
+pub head_planned : Answers command.Plan (Some the_input) (Some []) (Some []) (Some (codes "map\t0\t0\tHEAD\n")) 0
 unfolding digits
-head_planned = answered (command.Match matching.Plan) IsPlan (codes "map\t0\t0\tHEAD\n") (λ is. is) (record { mappings = the_mapping ∷ []; kept = kept; shows = record { rest = the_mapping ∷ []; fixes = []; fixed = []; is = validated; are = refl; written = refl } })
+head_planned = answered command.Plan IsPlan (codes "map\t0\t0\tHEAD\n") (λ is. is) (record { mappings = the_mapping ∷ []; kept = kept; shows = record { rest = the_mapping ∷ []; fixes = []; fixed = []; is = validated; are = refl; written = refl } })
 
 -- a plan has the status 1 only where it writes conflicts
 nothing_more : (b : ℕ) (rest output before : List ℕ) → output ≡ b ∷ rest → before ≢ before ++ output
@@ -213,7 +212,7 @@ of_status : (conflicting : Bool) (P Q : Type 0) → ◌≡◌ {A = ℕ} 1 (if co
 of_status true P Q tells shows = shows
 of_status false P Q tells shows = absurd (omega (arith, tells))
 
-pub no_plan_of_nothing : (old new : Option (List ℕ)) (before : List ℕ) → ¬ (Answers (command.Match matching.Plan) old new (Some before) (Some before) 1)
+pub no_plan_of_nothing : (old new : Option (List ℕ)) (before : List ℕ) → ¬ (Answers command.Plan old new (Some before) (Some before) 1)
 no_plan_of_nothing old new before a =
     let plan = a.is.is in
     let shows = of_status a.refusal (ShowsConflicts (readings_in a.is.entries) plan.mappings a.output) _ a.tells plan.shows in

@@ -384,5 +384,8 @@ first_refused : (input : List ℕ) (number : ℕ) (e : Error) → IsFirstFault i
 first_refused input number e (n, line, reached, (text, same, says, shows)) = (never_memory e (IsRefused Fetch text) shows, text, shows)
 
 pub spec_is_refused : SpecIsRefused
-spec_is_refused (command.Canon op) old new number e (input, read, bad) = absurd bad
-spec_is_refused (command.Match m) old new number e (input, read, bad) = first_refused input number e bad
+spec_is_refused command.CanonFetch old new number e (input, read, bad) = absurd bad
+spec_is_refused command.CanonPush old new number e (input, read, bad) = absurd bad
+spec_is_refused command.Lhs old new number e (input, read, bad) = first_refused input number e bad
+spec_is_refused command.Rhs old new number e (input, read, bad) = first_refused input number e bad
+spec_is_refused command.Plan old new number e (input, read, bad) = first_refused input number e bad

@@ -50,7 +50,7 @@ pub caret_refused : IsRefused Fetch (codes "^") NegativeEmpty
 caret_refused = refused_by Fetch Negative [] None (codes "^") NegativeEmpty (record { signed = refl; last = tt }) caret_reason
 
 -- three lines, of which the last has no newline, after what was written before
-pub answers_for_a_fetch : Answers (command.Canon Fetch) (Some (codes "\n^\n:")) (Some []) (Some (codes "old\n")) (Some (codes "old\nok HEAD\nerr NegativeEmpty\nok HEAD\n")) 1
+pub answers_for_a_fetch : Answers command.CanonFetch (Some (codes "\n^\n:")) (Some []) (Some (codes "old\n")) (Some (codes "old\nok HEAD\nerr NegativeEmpty\nok HEAD\n")) 1
 answers_for_a_fetch = record {
   input = codes "\n^\n:";
   output = codes "ok HEAD\nerr NegativeEmpty\nok HEAD\n";
@@ -123,13 +123,13 @@ ends_by op line a input output rest before after refusal status lacks only read 
     }
 
 -- for a fetch the empty line gives this output and status, and no other
-pub empty_line_fetched : (rest before after : List ℕ) (status : ℕ) → Answers (command.Canon Fetch) (Some (codes "\n")) (Some rest) (Some before) (Some after) status → (rest ≡ []) × (after ≡ before ++ codes "ok HEAD\n") × (status ≡ 0)
+pub empty_line_fetched : (rest before after : List ℕ) (status : ℕ) → Answers command.CanonFetch (Some (codes "\n")) (Some rest) (Some before) (Some after) status → (rest ≡ []) × (after ≡ before ++ codes "ok HEAD\n") × (status ≡ 0)
 empty_line_fetched rest before after status a =
     let ends = ends_by Fetch [] (accepted (codes "HEAD")) a.input a.output rest before after a.refusal status tt (only_read Fetch [] (fetched Normal head None) (codes "HEAD") nothing_reads refl) a.read a.is a.written a.tells in
     (ends.left, ends.written, ends.tells)
 
 -- and so does a caret
-pub caret_fetched : (rest before after : List ℕ) (status : ℕ) → Answers (command.Canon Fetch) (Some (codes "^\n")) (Some rest) (Some before) (Some after) status → (rest ≡ []) × (after ≡ before ++ codes "err NegativeEmpty\n") × (status ≡ 1)
+pub caret_fetched : (rest before after : List ℕ) (status : ℕ) → Answers command.CanonFetch (Some (codes "^\n")) (Some rest) (Some before) (Some after) status → (rest ≡ []) × (after ≡ before ++ codes "err NegativeEmpty\n") × (status ≡ 1)
 caret_fetched rest before after status a =
     let ends = ends_by Fetch (codes "^") (refused NegativeEmpty) a.input a.output rest before after a.refusal status (Lacks-tested newline (codes "^") refl) (only_refused Fetch (codes "^") NegativeEmpty caret_refused) a.read a.is a.written a.tells in
     (ends.left, ends.written, ends.tells)
@@ -138,7 +138,7 @@ caret_fetched rest before after status a =
 nothing_refused : IsRefused Push [] Empty
 nothing_refused = refused_by Push Normal [] None [] Empty (record { signed = (refl, tt); last = tt }) (inl (record { push = refl; unsigned = refl; no_source = refl; no_colon = refl; refusal = refl }))
 
-pub empty_line_pushed : (rest before after : List ℕ) (status : ℕ) → Answers (command.Canon Push) (Some (codes "\n")) (Some rest) (Some before) (Some after) status → (rest ≡ []) × (after ≡ before ++ codes "err Empty\n") × (status ≡ 1)
+pub empty_line_pushed : (rest before after : List ℕ) (status : ℕ) → Answers command.CanonPush (Some (codes "\n")) (Some rest) (Some before) (Some after) status → (rest ≡ []) × (after ≡ before ++ codes "err Empty\n") × (status ≡ 1)
 empty_line_pushed rest before after status a =
     let ends = ends_by Push [] (refused Empty) a.input a.output rest before after a.refusal status tt (only_refused Push [] Empty nothing_refused) a.read a.is a.written a.tells in
     (ends.left, ends.written, ends.tells)

@@ -10,9 +10,7 @@ use Rattle.gix_refspec.specs.Specs.Reading.{Forced}
 use Rattle.gix_refspec.specs.Specs.Refusal.{Empty, NegativeWithDestination, PushToEmpty, PatternUnsupported, ReferenceName, PatternUnbalanced, NegativeEmpty, NegativeObjectHash}
 use Rattle.gix_refspec.specs.Matching.Validation.{Removed}
 use Rattle.gix_refspec.specs.Texts.ObjectId.{lower_of}
-use Rattle.refspec_text.specs.declared.parsing.Operation.TheVariants.{Fetch, Push}
 use Rattle.refspec_map.specs.declared.command.Command.TheVariants as command
-use Rattle.refspec_map.specs.declared.command.Matching.TheVariants as matching
 use Rattle.refspec_map.specs.declared.fault.Fault.TheVariants as fault
 use Rattle.refspec_map.specs.Fault.{name_of, status_of, IsMemory}
 use Rattle.refspec_map.specs.Matching.{map_line}
@@ -22,24 +20,24 @@ use Rattle.refspec_map.specs.Words.{words_of, AreWordsOf}
 
 -- ---- words
 
-pub words : map words_of ((command.Canon Fetch) ∷ (command.Canon Push) ∷ (command.Match matching.Lhs) ∷ (command.Match matching.Rhs) ∷ (command.Match matching.Plan) ∷ [])
+pub words : map words_of (command.CanonFetch ∷ command.CanonPush ∷ command.Lhs ∷ command.Rhs ∷ command.Plan ∷ [])
     ≡ (codes "canon" ∷ codes "fetch" ∷ []) ∷ (codes "canon" ∷ codes "push" ∷ []) ∷ (codes "lhs" ∷ []) ∷ (codes "rhs" ∷ []) ∷ (codes "plan" ∷ []) ∷ []
 words = refl
 
 -- these are no command's
 pub no_words : AreWordsOf [] None
-no_words (command.Canon Fetch) same = cc
-no_words (command.Canon Push) same = cc
-no_words (command.Match matching.Lhs) same = cc
-no_words (command.Match matching.Rhs) same = cc
-no_words (command.Match matching.Plan) same = cc
+no_words command.CanonFetch same = cc
+no_words command.CanonPush same = cc
+no_words command.Lhs same = cc
+no_words command.Rhs same = cc
+no_words command.Plan same = cc
 
 pub other_words : AreWordsOf (codes "canon" ∷ codes "rhs" ∷ []) None
-other_words (command.Canon Fetch) same = cc
-other_words (command.Canon Push) same = cc
-other_words (command.Match matching.Lhs) same = cc
-other_words (command.Match matching.Rhs) same = cc
-other_words (command.Match matching.Plan) same = cc
+other_words command.CanonFetch same = cc
+other_words command.CanonPush same = cc
+other_words command.Lhs same = cc
+other_words command.Rhs same = cc
+other_words command.Plan same = cc
 
 -- ---- reasons and faults
 

@@ -1,17 +1,13 @@
 -- What a run of a command does to its reader and its writer.
 use Rattle.std.specs.Prelude.{◌≡◌, ◌≢◌, ℕ, Bool, false, List, Option, if◌then◌else◌, ⊤}
 use Rattle.std.specs.Io.KnownBytes.{Appends, Keeps}
-use Rattle.refspec_text.specs.declared.parsing.Operation.TheVariants.{Fetch}
+use Rattle.refspec_text.specs.declared.parsing.Operation.TheVariants.{Fetch, Push}
 use Rattle.refspec_map.specs.declared.command.Command.{Command}
 use Rattle.refspec_map.specs.declared.command.Command.TheVariants as command
-use Rattle.refspec_map.specs.declared.command.Matching.{Matching}
-use Rattle.refspec_map.specs.declared.command.Matching.TheVariants as matching
 use Rattle.refspec_map.specs.declared.fault.Fault.{Fault}
 use Rattle.refspec_map.specs.declared.fault.Fault.TheVariants as fault
 use Rattle.refspec_text.specs.declared.parsing.Error.{Error}
 use Rattle.refspec_text.specs.declared.parsing.Error.TheVariants.{Memory}
-use Rattle.gix_refspec.specs.Specs.Reading.{Reading}
-use Rattle.gix_refspec.specs.Matching.Match.{Ref}
 use Rattle.gix_refspec.specs.Specs.Refusal.{IsRefused}
 use Rattle.gix_refspec.specs.Views.Instruction.{ShowsRefusal}
 use Rattle.gix_refspec.specs.Matching.Hits.{AreKeptForward, AreKeptBackward}
@@ -21,21 +17,21 @@ use Rattle.refspec_map.specs.Matching.{AreMapLines, IsMatching}
 use Rattle.refspec_map.specs.Output.{IsCanon}
 use Rattle.refspec_map.specs.Plan.{IsPlan, WritesOnce}
 
--- what a matching command writes for specs and refs, and whether it is a plan with conflicts
-abbrev pub IsOutputOf : Matching → List Reading → List Ref → List ℕ → Bool → Type 0
-IsOutputOf matching.Lhs = AreMapLines AreKeptForward
-IsOutputOf matching.Rhs = AreMapLines AreKeptBackward
-IsOutputOf matching.Plan = IsPlan
-
 -- the output of a command for an input, and whether some line is refused, or a plan for its conflicts
 abbrev pub IsOutput : Command → List ℕ → List ℕ → Bool → Type 0
-IsOutput (command.Canon op) input output refusal = IsCanon op input output refusal
-IsOutput (command.Match m) input output refusal = IsMatching (IsOutputOf m) input output refusal
+IsOutput command.CanonFetch input output refusal = IsCanon Fetch input output refusal
+IsOutput command.CanonPush input output refusal = IsCanon Push input output refusal
+IsOutput command.Lhs input output refusal = IsMatching (AreMapLines AreKeptForward) input output refusal
+IsOutput command.Rhs input output refusal = IsMatching (AreMapLines AreKeptBackward) input output refusal
+IsOutput command.Plan input output refusal = IsMatching IsPlan input output refusal
 
 -- what is wrong with an input: the fault of the first bad line. A canon command takes every line
 abbrev pub IsBad : Command → List ℕ → Fault → Type 0
-IsBad (command.Canon op) input f = ⊥
-IsBad (command.Match m) input f = IsFirstFault input f
+IsBad command.CanonFetch input f = ⊥
+IsBad command.CanonPush input f = ⊥
+IsBad command.Lhs input f = IsFirstFault input f
+IsBad command.Rhs input f = IsFirstFault input f
+IsBad command.Plan input f = IsFirstFault input f
 
 -- the input was read to its end, and its output was written
 pub record Answers (command : Command) (reader_old reader_new writer_old writer_new : Option (List ℕ)) (status : ℕ) : Type 0 where
@@ -69,7 +65,7 @@ Leaves old new _ = Keeps old new
 
 -- a plan that ends with status 0 writes no destination from two sources, and no line twice
 abbrev pub PlanOnce : Type 0
-PlanOnce = (reader_old reader_new writer_old writer_new : Option (List ℕ)) → Answers (command.Match matching.Plan) reader_old reader_new writer_old writer_new 0
+PlanOnce = (reader_old reader_new writer_old writer_new : Option (List ℕ)) → Answers command.Plan reader_old reader_new writer_old writer_new 0
     → (input : List ℕ) × (output : List ℕ) × ReadsToEnd reader_old reader_new input × Appends writer_old writer_new output × IsMatching (λ g items written refusal. WritesOnce g items written) input output false
 
 -- the error in the fault of a spec is the first reason against a text, and never that memory ran out

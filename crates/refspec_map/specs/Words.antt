@@ -1,18 +1,16 @@
 -- The words of a call, without the program's own name, and the commands that they name. This project's
 -- own rule.
 use Rattle.std.specs.Prelude.{◌≡◌, ◌≢◌, ℕ, List, [], ◌∷◌, Option, None, Some, codes}
-use Rattle.refspec_text.specs.declared.parsing.Operation.TheVariants.{Fetch, Push}
 use Rattle.refspec_map.specs.declared.command.Command.{Command}
 use Rattle.refspec_map.specs.declared.command.Command.TheVariants as command
-use Rattle.refspec_map.specs.declared.command.Matching.TheVariants as matching
 
 -- the words of a command
 abbrev pub words_of : Command → List (List ℕ)
-words_of (command.Canon Fetch) = codes "canon" ∷ codes "fetch" ∷ []
-words_of (command.Canon Push) = codes "canon" ∷ codes "push" ∷ []
-words_of (command.Match matching.Lhs) = codes "lhs" ∷ []
-words_of (command.Match matching.Rhs) = codes "rhs" ∷ []
-words_of (command.Match matching.Plan) = codes "plan" ∷ []
+words_of command.CanonFetch = codes "canon" ∷ codes "fetch" ∷ []
+words_of command.CanonPush = codes "canon" ∷ codes "push" ∷ []
+words_of command.Lhs = codes "lhs" ∷ []
+words_of command.Rhs = codes "rhs" ∷ []
+words_of command.Plan = codes "plan" ∷ []
 
 -- the words are those of the command; without one, they are those of no command
 abbrev pub AreWordsOf : List (List ℕ) → Option Command → Type 0

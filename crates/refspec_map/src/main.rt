@@ -15,10 +15,9 @@ mod output;
 mod plan;
 mod run;
 
-use crate::command::{Command, Matching};
+use crate::command::Command;
 use crate::fault::Fault;
 use crate::run::run;
-use gix_refspec::parsing::Operation;
 use std::process::ExitCode;
 use std::{env, io};
 
@@ -59,14 +58,14 @@ fn command_of(words: &[String]) -> Option<Command>
 {
     match words {
         [first, second] => match (first.as_str(), second.as_str()) {
-            ("canon", "fetch") => Some(Command::Canon(Operation::Fetch)),
-            ("canon", "push") => Some(Command::Canon(Operation::Push)),
+            ("canon", "fetch") => Some(Command::CanonFetch),
+            ("canon", "push") => Some(Command::CanonPush),
             _ => None,
         },
         [only] => match only.as_str() {
-            "lhs" => Some(Command::Match(Matching::Lhs)),
-            "rhs" => Some(Command::Match(Matching::Rhs)),
-            "plan" => Some(Command::Match(Matching::Plan)),
+            "lhs" => Some(Command::Lhs),
+            "rhs" => Some(Command::Rhs),
+            "plan" => Some(Command::Plan),
             _ => None,
         },
         _ => None,

@@ -8,10 +8,8 @@ ghost use Rattle.refspec_map.specs.Fault.{IsMemory};
 ghost use Rattle.refspec_map.specs.Line.{IsFirstFault};
 ghost use Rattle.refspec_map.specs.Matching.{AreMapLines, IsMatching};
 ghost use Rattle.refspec_map.specs.Plan.{IsPlan};
-ghost use Rattle.refspec_map.specs.Run.{IsOutputOf};
 ghost use Rattle.refspec_map.specs.Told.{AsksForNoId, HasIdDestination, told_ref};
 
-use crate::command::Matching;
 use crate::fault::Fault;
 use crate::line::{Entries, ToldRef, is_id, push};
 use crate::output::lines_of;
@@ -22,25 +20,8 @@ use gix_refspec::oid::{Kind, ObjectId};
 use gix_refspec::{MatchGroup, RefSpecRef};
 use std::alloc::Global;
 
-/// The output of a matching command, and whether it is a plan with conflicts.
-pub(crate) fn match_lines(
-    alloc: Global,
-    matching: Matching,
-    input: &[u8],
-) -> Result<(Vec<u8>, bool), Fault>
-    ensures ok { IfOk result (λ made.
-        IsMatching (IsOutputOf matching) input.now made.0.items made.1) }
-    ensures err { IfErr result (λ f. IsMemory f ⊎ IsFirstFault input.now f) }
-{
-    match matching {
-        Matching::Lhs => lhs_lines(alloc, input),
-        Matching::Rhs => rhs_lines(alloc, input),
-        Matching::Plan => planned(alloc, input),
-    }
-}
-
-// The lines of the mappings from left to right, and false. They depend on no id of a ref.
-fn lhs_lines(alloc: Global, input: &[u8]) -> Result<(Vec<u8>, bool), Fault>
+/// The lines of the mappings from left to right, and false. They depend on no id of a ref.
+pub(crate) fn lhs_lines(alloc: Global, input: &[u8]) -> Result<(Vec<u8>, bool), Fault>
     ensures ok { IfOk result (λ made.
         IsMatching (AreMapLines AreKeptForward) input.now made.0.items made.1) }
     ensures err { IfErr result (λ f. IsMemory f ⊎ IsFirstFault input.now f) }
@@ -52,8 +33,8 @@ fn lhs_lines(alloc: Global, input: &[u8]) -> Result<(Vec<u8>, bool), Fault>
     Ok((lines_of(alloc, outcome.mappings.as_slice())?, false))
 }
 
-// The lines of the mappings from right to left, and false.
-fn rhs_lines(alloc: Global, input: &[u8]) -> Result<(Vec<u8>, bool), Fault>
+/// The lines of the mappings from right to left, and false.
+pub(crate) fn rhs_lines(alloc: Global, input: &[u8]) -> Result<(Vec<u8>, bool), Fault>
     ensures ok { IfOk result (λ made.
         IsMatching (AreMapLines AreKeptBackward) input.now made.0.items made.1) }
     ensures err { IfErr result (λ f. IsMemory f ⊎ IsFirstFault input.now f) }
@@ -62,6 +43,16 @@ fn rhs_lines(alloc: Global, input: &[u8]) -> Result<(Vec<u8>, bool), Fault>
         Some(made) => Ok(made),
         None => rhs_by_id(alloc, input),
     }
+}
+
+/// The lines of a plan, and whether it has conflicts.
+pub(crate) fn planned(alloc: Global, input: &[u8]) -> Result<(Vec<u8>, bool), Fault>
+    ensures ok { IfOk result (λ made. IsMatching IsPlan input.now made.0.items made.1) }
+    ensures err { IfErr result (λ f. IsMemory f ⊎ IsFirstFault input.now f) }
+{
+    let blank = ObjectId::null(Kind::Sha1);
+    let Entries { specs, items, .. } = Entries::read(alloc, input, Some(&blank))?;
+    plan(alloc, MatchGroup { specs }, items.as_slice())
 }
 
 // The same from the names of the refs alone. `None` if a destination is an id, which matches ids of refs.
@@ -117,16 +108,6 @@ fn has_id_destination(spec: &RefSpecRef<'_>) -> bool
         None => false,
         Some(destination) => is_id(destination.as_bytes()),
     }
-}
-
-// The lines of a plan, and whether it has conflicts.
-fn planned(alloc: Global, input: &[u8]) -> Result<(Vec<u8>, bool), Fault>
-    ensures ok { IfOk result (λ made. IsMatching IsPlan input.now made.0.items made.1) }
-    ensures err { IfErr result (λ f. IsMemory f ⊎ IsFirstFault input.now f) }
-{
-    let blank = ObjectId::null(Kind::Sha1);
-    let Entries { specs, items, .. } = Entries::read(alloc, input, Some(&blank))?;
-    plan(alloc, MatchGroup { specs }, items.as_slice())
 }
 
 // The refs as items, in order.

@@ -9,7 +9,8 @@ use crate::canon::canon;
 use crate::command::Command;
 use crate::fault::Fault;
 use crate::input::read_input;
-use crate::matching::match_lines;
+use crate::matching::{lhs_lines, planned, rhs_lines};
+use gix_refspec::parsing::Operation;
 use std::alloc::Global;
 use std::io::{Read, Write};
 
@@ -67,8 +68,11 @@ fn output_of(alloc: Global, command: Command, input: &[u8]) -> Result<(Vec<u8>, 
     ensures err { IfErr result (λ f. IsMemory f ⊎ IsBad command input.now f) }
 {
     match command {
-        Command::Canon(operation) => canon(alloc, operation, input),
-        Command::Match(matching) => match_lines(alloc, matching, input),
+        Command::CanonFetch => canon(alloc, Operation::Fetch, input),
+        Command::CanonPush => canon(alloc, Operation::Push, input),
+        Command::Lhs => lhs_lines(alloc, input),
+        Command::Rhs => rhs_lines(alloc, input),
+        Command::Plan => planned(alloc, input),
     }
 }
 

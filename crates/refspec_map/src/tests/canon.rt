@@ -3,7 +3,6 @@
 
 use super::{answer, check_answer};
 use crate::command::Command;
-use gix_refspec::parsing::Operation;
 use std::alloc::{AllocError, Global};
 use std::process::Abort;
 use std::test::Fail;
@@ -47,7 +46,7 @@ fn answers_for_a_push(rt: HostRuntime) -> Result<(), Fail> {
         ("a*b*\nc", "err PatternUnsupported\nok c:c\n", 1),
     ];
     for row in rows {
-        check_row(&rt, Command::Canon(Operation::Push), row)?;
+        check_row(&rt, Command::CanonPush, row)?;
     }
     Ok(())
 }
@@ -66,7 +65,7 @@ fn answers_for_a_fetch(rt: HostRuntime) -> Result<(), Fail> {
         ),
     ];
     for row in rows {
-        check_row(&rt, Command::Canon(Operation::Fetch), row)?;
+        check_row(&rt, Command::CanonFetch, row)?;
     }
     Ok(())
 }
@@ -81,7 +80,7 @@ fn names_what_a_push_refuses(rt: HostRuntime) -> Result<(), Fail> {
         ("a..b\n", "err ReferenceName\n", 1),
     ];
     for row in rows {
-        check_row(&rt, Command::Canon(Operation::Push), row)?;
+        check_row(&rt, Command::CanonPush, row)?;
     }
     Ok(())
 }
@@ -98,7 +97,7 @@ fn names_what_a_fetch_refuses(rt: HostRuntime) -> Result<(), Fail> {
         ),
     ];
     for row in rows {
-        check_row(&rt, Command::Canon(Operation::Fetch), row)?;
+        check_row(&rt, Command::CanonFetch, row)?;
     }
     Ok(())
 }

@@ -1,11 +1,10 @@
 //! Readers that give little or fail, writers that take little or fail, and the limit of an input.
 
 use super::{ByteReader, CallWriter, FaultyWriter, answer, end_of};
-use crate::command::{Command, Matching};
+use crate::command::Command;
 use crate::input::INPUT_LIMIT;
 use crate::run::run;
 use bstr::BStr;
-use gix_refspec::parsing::Operation;
 use std::alloc::{AllocError, AllocGlobal, Global};
 use std::io::{self, Read, Write};
 use std::process::Abort;
@@ -47,15 +46,15 @@ fn check_by_bytes<R: Abort + AllocGlobal>(
 
 #[test]
 fn reads_one_byte_a_call(rt: HostRuntime) -> Result<(), Fail> {
-    check_by_bytes(&rt, Command::Canon(Operation::Push), INPUT, OUTPUT, 1)?;
+    check_by_bytes(&rt, Command::CanonPush, INPUT, OUTPUT, 1)?;
     let fetched = "ok main\nok HEAD\nok +HEAD:x\n";
-    check_by_bytes(&rt, Command::Canon(Operation::Fetch), INPUT, fetched, 0)?;
+    check_by_bytes(&rt, Command::CanonFetch, INPUT, fetched, 0)?;
     let mapped = "map\t0\t0\trefs/heads/a\tx/a\n";
-    check_by_bytes(&rt, Command::Match(Matching::Lhs), LINES, mapped, 0)?;
+    check_by_bytes(&rt, Command::Lhs, LINES, mapped, 0)?;
     let tracked = "map\t0\t1\trefs/heads/b\tx/b\n";
-    check_by_bytes(&rt, Command::Match(Matching::Rhs), LINES, tracked, 0)?;
+    check_by_bytes(&rt, Command::Rhs, LINES, tracked, 0)?;
     let planned = "fix\tx/a\trefs/heads/*:x/*\n";
-    check_by_bytes(&rt, Command::Match(Matching::Plan), LINES, planned, 0)
+    check_by_bytes(&rt, Command::Plan, LINES, planned, 0)
 }
 
 // How a run of `canon push` ends.
@@ -64,10 +63,7 @@ fn end_of_push<R: Read, W: Write>(
     reader: &mut R,
     writer: &mut W,
 ) -> Result<String, AllocError> {
-    end_of(
-        alloc,
-        run(alloc, Command::Canon(Operation::Push), reader, writer),
-    )
+    end_of(alloc, run(alloc, Command::CanonPush, reader, writer))
 }
 
 // The reader of a row would give the rest of the input, or its end, at the next call.
@@ -104,11 +100,7 @@ fn tries_no_read_again(rt: HostRuntime) -> Result<(), Fail> {
 #[test]
 fn takes_an_input_at_the_limit(rt: HostRuntime) -> Result<(), Fail> {
     let input = vec![in rt.alloc(); b'a'; INPUT_LIMIT]?;
-    let (output, status) = answer(
-        rt.alloc(),
-        Command::Canon(Operation::Fetch),
-        input.as_slice(),
-    )?;
+    let (output, status) = answer(rt.alloc(), Command::CanonFetch, input.as_slice())?;
     assert_eq!(rt; status, 0);
     assert_eq!(rt; output.len(), 1_048_580);
     let text = output.as_slice().strip_prefix(b"ok ").ok_or("no `ok `")?;
@@ -119,7 +111,7 @@ fn takes_an_input_at_the_limit(rt: HostRuntime) -> Result<(), Fail> {
 
 // Looks whether what a reader gives is too long, and nothing is written.
 fn check_too_long<R: Abort + AllocGlobal>(rt: &R, reader: &mut impl Read) -> Result<(), Fail> {
-    let command = Command::Canon(Operation::Fetch);
+    let command = Command::CanonFetch;
     let mut writer = CallWriter {
         calls: Vec::new(rt.alloc()),
     };
@@ -148,18 +140,10 @@ fn refuses_an_input_past_the_limit(rt: HostRuntime) -> Result<(), Fail> {
 #[test]
 fn writes_nothing_at_a_bad_line(rt: HostRuntime) -> Result<(), Fail> {
     let rows = [
+        (Command::Lhs, "main\n", "line 1 is malformed"),
+        (Command::Rhs, "spec main\n\n", "line 2 is malformed"),
         (
-            Command::Match(Matching::Lhs),
-            "main\n",
-            "line 1 is malformed",
-        ),
-        (
-            Command::Match(Matching::Rhs),
-            "spec main\n\n",
-            "line 2 is malformed",
-        ),
-        (
-            Command::Match(Matching::Plan),
+            Command::Plan,
             "spec main\nspec a\nspec a*",
             "line 3: PatternUnbalanced",
         ),
@@ -183,12 +167,12 @@ fn writes_nothing_at_a_bad_line(rt: HostRuntime) -> Result<(), Fail> {
 fn writes_all_by_one_call_and_flushes_once(rt: HostRuntime) -> Result<(), Fail> {
     let long = vec![in rt.alloc(); b'\n'; 100_000]?;
     let rows = [
-        (Command::Canon(Operation::Fetch), b"".as_slice()),
-        (Command::Canon(Operation::Fetch), long.as_slice()),
-        (Command::Canon(Operation::Push), INPUT),
-        (Command::Match(Matching::Lhs), b"spec main\n".as_slice()),
-        (Command::Match(Matching::Rhs), b"".as_slice()),
-        (Command::Match(Matching::Plan), b"".as_slice()),
+        (Command::CanonFetch, b"".as_slice()),
+        (Command::CanonFetch, long.as_slice()),
+        (Command::CanonPush, INPUT),
+        (Command::Lhs, b"spec main\n".as_slice()),
+        (Command::Rhs, b"".as_slice()),
+        (Command::Plan, b"".as_slice()),
     ];
     for (command, input) in rows {
         let mut reader = input;

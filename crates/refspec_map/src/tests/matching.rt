@@ -1,7 +1,7 @@
 //! What the matching commands write, and the line that they end at.
 
 use super::{check_answer, end_of};
-use crate::command::{Command, Matching};
+use crate::command::Command;
 use crate::run::run;
 use std::alloc::{AllocError, Global};
 use std::process::Abort;
@@ -90,7 +90,7 @@ fn maps_from_left_to_right(rt: HostRuntime) -> Result<(), Fail> {
             "map\t0\t0\t refs/x\trefs/x/ refs/x\nmap\t0\t1\t\trefs/x/\n",
         ),
     ];
-    check_output(&rt, Command::Match(Matching::Lhs), 0, rows.as_slice())
+    check_output(&rt, Command::Lhs, 0, rows.as_slice())
 }
 
 #[test]
@@ -113,7 +113,7 @@ fn maps_from_right_to_left(rt: HostRuntime) -> Result<(), Fail> {
         ),
         ("spec main\nref $ refs/heads/main\n", ""),
     ];
-    check_output(&rt, Command::Match(Matching::Rhs), 0, rows.as_slice())
+    check_output(&rt, Command::Rhs, 0, rows.as_slice())
 }
 
 #[test]
@@ -149,7 +149,7 @@ fn ends_at_the_first_bad_line(rt: HostRuntime) -> Result<(), Fail> {
             "line 3: NegativeEmpty",
         ),
     ];
-    check_faults(&rt, Command::Match(Matching::Lhs), rows.as_slice())?;
-    check_faults(&rt, Command::Match(Matching::Rhs), rows.as_slice())?;
-    check_faults(&rt, Command::Match(Matching::Plan), rows.as_slice())
+    check_faults(&rt, Command::Lhs, rows.as_slice())?;
+    check_faults(&rt, Command::Rhs, rows.as_slice())?;
+    check_faults(&rt, Command::Plan, rows.as_slice())
 }

@@ -1,7 +1,7 @@
 //! What a plan writes, with its status.
 
 use super::matching::check_output;
-use crate::command::{Command, Matching};
+use crate::command::Command;
 use std::test::Fail;
 
 #[test]
@@ -46,7 +46,7 @@ fn writes_what_survives_and_the_fixes(rt: HostRuntime) -> Result<(), Fail> {
             "map\t0\t-\taaaaaaaaaaaaaaaaaaaaaaaaaaaaaaaaaaaaaaaa\trefs/heads/x\n",
         ),
     ];
-    check_output(&rt, Command::Match(Matching::Plan), 0, rows.as_slice())
+    check_output(&rt, Command::Plan, 0, rows.as_slice())
 }
 
 #[test]
@@ -85,5 +85,5 @@ fn writes_only_conflicts(rt: HostRuntime) -> Result<(), Fail> {
              AAAAAAAAAAAAAAAAAAAAAAAAAAAAAAAAAAAAAAAA:refs/x/h\tHEAD\t+HEAD:refs/x/h\n",
         ),
     ];
-    check_output(&rt, Command::Match(Matching::Plan), 1, rows.as_slice())
+    check_output(&rt, Command::Plan, 1, rows.as_slice())
 }

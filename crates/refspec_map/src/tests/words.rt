@@ -1,8 +1,7 @@
 //! The commands that words name.
 
-use crate::command::{Command, Matching};
+use crate::command::Command;
 use crate::command_of;
-use gix_refspec::parsing::Operation;
 use std::alloc::{AllocError, Global};
 use std::test::Fail;
 
@@ -18,17 +17,11 @@ fn named(alloc: Global, words: &[&str]) -> Result<Option<Command>, AllocError> {
 #[test]
 fn names_the_commands(rt: HostRuntime) -> Result<(), Fail> {
     let rows = [
-        (
-            ["canon", "fetch"].as_slice(),
-            Some(Command::Canon(Operation::Fetch)),
-        ),
-        (
-            ["canon", "push"].as_slice(),
-            Some(Command::Canon(Operation::Push)),
-        ),
-        (["lhs"].as_slice(), Some(Command::Match(Matching::Lhs))),
-        (["rhs"].as_slice(), Some(Command::Match(Matching::Rhs))),
-        (["plan"].as_slice(), Some(Command::Match(Matching::Plan))),
+        (["canon", "fetch"].as_slice(), Some(Command::CanonFetch)),
+        (["canon", "push"].as_slice(), Some(Command::CanonPush)),
+        (["lhs"].as_slice(), Some(Command::Lhs)),
+        (["rhs"].as_slice(), Some(Command::Rhs)),
+        (["plan"].as_slice(), Some(Command::Plan)),
         ([].as_slice(), None),
         (["canon"].as_slice(), None),
         (["canon fetch"].as_slice(), None),
