@@ -3,6 +3,7 @@
 pub mod OutcomeFacts
 pub mod ValidationFacts
 pub mod ValidationLawFacts
+pub mod PlanLawFacts
 pub mod RefNameFacts
 pub mod AskedFacts
 pub mod PlaceFacts

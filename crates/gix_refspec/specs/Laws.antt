@@ -7,3 +7,5 @@ pub mod Matching
 pub mod Items
 pub mod Places
 pub mod Validation
+pub mod Plans
+pub mod Reasons

@@ -20,6 +20,8 @@ ghost use Rattle.gix_refspec.specs.Views.Issue.{IsSameFix, conflict_of, mappings
 ghost use Rattle.refspec_text.specs.Views.Errors.{IsSameError};
 ghost use Rattle.gix_refspec.specs.Matching.RefNames.{WritesRefs};
 ghost use Rattle.gix_refspec.specs.Laws.Places.{MadeAtPlaces, RemainsExactly};
+ghost use Rattle.gix_refspec.specs.Laws.Plans.{NoControlCharacter, PlansApart};
+ghost use Rattle.gix_refspec.specs.Laws.Reasons.{ReasonRefuses};
 ghost use Rattle.refspec_text.specs.Views.Spec.{reading_of, owned_reading_of};
 ghost use Rattle.refspec_text.specs.Views.Instruction.{meaning_of_instruction, meaning_of_fetch, meaning_of_push};
 ghost use Rattle.refspec_match.specs.Views.Hashed.{source_writes, pair_writes};
@@ -42,6 +44,11 @@ pub fn reads_or_refused(operation: Operation, text: &[u8])
 /// A text is refused for one reason. For a bad name any of its faults may be reported.
 pub fn one_refusal(operation: Operation, text: &[u8])
     ensures { OneRefusal operation text.now }
+{}
+
+/// A text is refused for the first reason that applies to its parts.
+pub fn reason_refuses(operation: Operation, text: &[u8])
+    ensures { ReasonRefuses operation text.now }
 {}
 
 /// What a text reads as for an operation is for that operation.
@@ -285,6 +292,19 @@ pub fn remains_exactly(outcome: &match_lhs::Outcome<'_, '_>)
 /// `match_lhs`, no two have one destination.
 pub fn validated_once(group: &MatchGroup<'_>, items: &[Item<'_>])
     ensures { ValidatedOnce (readings_of group.now) (map ref_of items.now) }
+{}
+
+/// Whatever a group and items are, what `validated` leaves of `match_lhs` is told apart: no two mappings have
+/// the same source and destination, no two the same destination, and no two fixes do. Mappings of one spec and
+/// one item have one source. So no two of them, with their indexes, are written alike.
+pub fn plans_apart()
+    ensures { PlansApart }
+{}
+
+/// No side of a fetch has a control character, nor has its canonical text. So `match_lhs` maps to none, if no
+/// name of an item has one.
+pub fn no_control_character()
+    ensures { NoControlCharacter }
 {}
 
 /// An outcome has at most one list of conflicts, one of survivors and one of fixes: the contract of

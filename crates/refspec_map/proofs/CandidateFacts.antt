@@ -10,20 +10,20 @@ use Rattle.gix_refspec.specs.Texts.ObjectId.{IsIdText}
 use Rattle.gix_refspec.specs.Specs.Reading.{Normal, Reading}
 use Rattle.gix_refspec.specs.Specs.Grammar.{Reads, fetched, updates}
 use Rattle.gix_refspec.specs.Matching.Side.{partial, full_name, HasKind}
+use Rattle.gix_refspec.specs.Laws.Readings.{FirstCandidate}
 use Rattle.gix_refspec.specs.Matching.Match.{HasName, IsFirstCandidate, Takes}
 use Rattle.gix_refspec.specs.Matching.Mappings.{Mapped, IsExcluded}
 use Rattle.gix_refspec.specs.Matching.Hits.{Ends, Hit, IsHit, AreForward, AreKeptForward, IsIdMapping}
 use Rattle.gix_refspec.specs.Matching.Validation.{HasConflictAt, IsValidated, IsWritable}
-use Rattle.refspec_text.proofs.lemmas.hits.CandidateLemmas.{first_once, taken_by_first}
-use Rattle.refspec_text.proofs.lemmas.specs.FormsBackLemmas.{some_once}
 use Rattle.refspec_text.proofs.lemmas.texts.TestedLemmas.{IsName-tested}
 use Rattle.refspec_map.specs.declared.command.Command.TheVariants as command
 use Rattle.refspec_map.specs.Input.{newline}
 use Rattle.refspec_map.specs.Line.{reading, ref}
 use Rattle.refspec_map.specs.Run.{Answers}
-use Rattle.refspec_map.proofs.FormFacts.{ref_lines}
+use Rattle.refspec_map.proofs.FormFacts.{no_length, ref_lines}
 use Rattle.refspec_map.proofs.LineFacts.{Lacks-tested}
-use Rattle.refspec_map.proofs.MatchFacts.{no_length, not_negative}
+use Rattle.refspec_map.proofs.MatchFacts.{not_negative, taken_by_first}
+use Rattle.refspec_map.proofs.RunFacts.{some_once}
 use Rattle.refspec_map.proofs.ConflictFacts.{the_tag, the_head, target, target_kind, named, the_refs, tag_mapping, apart, spec_line, ref_line, refs_after, refs_cut}
 
 -- a partial name, for which both refs are candidates
@@ -34,7 +34,7 @@ abbrev the_spec : Reading
 the_spec = fetched Normal main (Some target)
 
 main_no_id : (i : List ℕ) → ¬ (IsIdText main i)
-main_no_id i is = no_length is.kind is.digits
+main_no_id i is = no_length 4 is.kind (omega arith) is.digits
 
 not_refs : (after : List ℕ) → main ≢ codes "refs/" ++ after
 not_refs after same = cc
@@ -67,21 +67,22 @@ ends = record { near = main; far = Some target }
 tag_taken : IsHit (Takes the_refs) ends 0 0 (named the_tag) tag_hit
 tag_taken = record { word = None; takes = taken_by_first the_refs main (named the_tag) main_kind tag_first; far = (full_name target, target_kind, refl); near = refl; spec = refl; item = refl }
 
-head_not_taken : (hit : Hit) → ¬ (IsHit (Takes the_refs) ends 0 1 (named the_head) hit)
-head_not_taken hit is = apart (first_once the_refs main the_tag the_head tag_first (is.takes.first main main_kind))
+-- by the law the first candidate is one name
+head_not_taken : FirstCandidate main the_refs → (hit : Hit) → ¬ (IsHit (Takes the_refs) ends 0 1 (named the_head) hit)
+head_not_taken law hit is = apart ((law main_kind.1 main_kind.2 main_kind.3).one the_tag the_head tag_first (is.takes.first main main_kind))
 
 no_id_mapped : (m : Mapped) → ¬ (IsIdMapping 0 the_spec m)
 no_id_mapped m is = main_no_id is.bytes (subst (λ (x : List ℕ). IsIdText x is.bytes) (sym (some_once main is.text is.side)) is.object.2)
 
-mapped : AreForward (the_spec ∷ []) the_refs (tag_mapping ∷ [])
-mapped = record {
+mapped : FirstCandidate main the_refs → AreForward (the_spec ∷ []) the_refs (tag_mapping ∷ [])
+mapped law = record {
   ids = [];
   hits = tag_hit ∷ [];
   are_ids = (None, [], no_id_mapped, refl, refl);
   are_hits = (
     tag_hit ∷ [],
     [],
-    inl (ends, record { positive = tt; near = refl; far = refl; no_object = λ i kind. main_no_id i kind.2 }, (Some tag_hit, [], tag_taken, (None, [], head_not_taken, refl, refl), refl)),
+    inl (ends, record { positive = tt; near = refl; far = refl; no_object = λ i kind. main_no_id i kind.2 }, (Some tag_hit, [], tag_taken, (None, [], head_not_taken law, refl, refl), refl)),
     refl,
     refl,
   );
@@ -92,8 +93,8 @@ not_excluded : (n : List ℕ) → ¬ (IsExcluded (the_spec ∷ []) n)
 not_excluded n (inl by) = not_negative by.negative
 not_excluded n (inr none) = none
 
-kept : AreKeptForward (the_spec ∷ []) the_refs (tag_mapping ∷ [])
-kept = record { all = tag_mapping ∷ []; forward = mapped; is = (Some tag_mapping, [], (refl, record { first = λ pair. pair; included = not_excluded the_tag }), refl, refl) }
+kept : FirstCandidate main the_refs → AreKeptForward (the_spec ∷ []) the_refs (tag_mapping ∷ [])
+kept law = record { all = tag_mapping ∷ []; forward = mapped law; is = (Some tag_mapping, [], (refl, record { first = λ pair. pair; included = not_excluded the_tag }), refl, refl) }
 
 -- ---- so there is no conflict, and no fix
 
@@ -123,9 +124,9 @@ the_input = codes "spec main:refs/x\nref e69de29bb2d1d6434b8b29ae775ad8c2e48c539
 main_reads : Reads Fetch (codes "main:refs/x") the_spec
 main_reads = updates Normal main target refl tt (record { signed = (refl, (eqb-false 109 plus refl, eqb-false 109 caret refl)); last = Lacks-tested colon target refl }) (inl (IsName-tested main refl, IsName-tested target refl)) refl
 
-pub tag_planned : Answers command.Plan (Some the_input) (Some []) (Some []) (Some (codes "map\t0\t0\trefs/tags/main\trefs/x\n")) 0
+pub tag_planned : FirstCandidate main the_refs → Answers command.Plan (Some the_input) (Some []) (Some []) (Some (codes "map\t0\t0\trefs/tags/main\trefs/x\n")) 0
 unfolding digits
-tag_planned = record {
+tag_planned law = record {
   input = the_input;
   output = codes "map\t0\t0\trefs/tags/main\trefs/x\n";
   refusal = false;
@@ -135,7 +136,7 @@ tag_planned = record {
     entries = reading the_spec ∷ ref (named the_tag) ∷ ref (named the_head) ∷ [];
     cut = (Lacks-tested newline (spec_line main) refl, inl (refs_after, refl, refs_cut));
     given = ((codes "main:refs/x", refl, main_reads), (ref_lines the_tag, (ref_lines the_head, tt)));
-    is = record { mappings = tag_mapping ∷ []; kept = kept; shows = record { rest = tag_mapping ∷ []; fixes = []; fixed = []; is = validated; are = refl; written = refl } };
+    is = record { mappings = tag_mapping ∷ []; kept = kept law; shows = record { rest = tag_mapping ∷ []; fixes = []; fixed = []; is = validated; are = refl; written = refl } };
   };
   written = refl;
   tells = refl;

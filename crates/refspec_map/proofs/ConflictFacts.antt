@@ -1,20 +1,18 @@
 -- A whole run of `plan` whose mappings have a conflict, from the bytes of its input to those of its output.
-use Rattle.std.proofs.Common.{◌≡◌, ◌≢◌, inl, inr, ℕ, zero, suc, true, List, [], ◌∷◌, ◌++◌, None, Some, length, codes, refl, sym, ap, ◌∙◌, subst, arith}
+use Rattle.std.proofs.Common.{◌≡◌, ◌≢◌, inl, inr, ℕ, zero, suc, true, List, [], ◌∷◌, ◌++◌, Option, None, Some, length, codes, refl, sym, ap, ◌∙◌, subst, arith}
 use Rattle.std.proofs.lemmas.Bool.{eqb-false}
 use Rattle.std.specs.List.{Contains}
 use Rattle.std.specs.List.Sorted.{IsStrictlySortedBy}
 use Rattle.refspec_text.specs.declared.parsing.Operation.TheVariants.{Fetch}
-use Rattle.gix_refspec.specs.Texts.Words.{BeginsWith}
+use Rattle.gix_refspec.specs.Texts.Words.{BeginsWith, Lacks}
 use Rattle.gix_refspec.specs.Texts.Bytes.{star, plus, caret, colon}
 use Rattle.gix_refspec.specs.Specs.Reading.{Normal, Reading}
 use Rattle.gix_refspec.specs.Specs.Grammar.{Reads, fetched, updates}
-use Rattle.gix_refspec.specs.Matching.Side.{full_name, HasKind}
-use Rattle.gix_refspec.specs.Matching.Match.{Ref, Takes}
+use Rattle.gix_refspec.specs.Matching.Side.{SideKind, pattern, full_name, object, partial, HasKind}
+use Rattle.gix_refspec.specs.Matching.Match.{Ref, MatchesAs, Takes}
 use Rattle.gix_refspec.specs.Matching.Mappings.{Start, name, id, Mapped, HasPair, IsExcluded}
 use Rattle.gix_refspec.specs.Matching.Hits.{Ends, AreForwardEnds, Hit, IsHit, AreForward, AreKeptForward, IsIdMapping}
 use Rattle.gix_refspec.specs.Matching.Validation.{Conflict, HasConflictAt, IsFirstTo, IsConflict, AreConflicts}
-use Rattle.refspec_text.proofs.lemmas.specs.FormsBackLemmas.{some_once}
-use Rattle.refspec_match.proofs.lemmas.hits.HitLemmas.{matches_as}
 use Rattle.refspec_text.proofs.lemmas.texts.TestedLemmas.{IsName-tested}
 use Rattle.refspec_map.specs.declared.command.Command.TheVariants as command
 use Rattle.refspec_map.specs.Input.{newline, AreLines}
@@ -22,7 +20,9 @@ use Rattle.refspec_map.specs.Line.{reading, ref}
 use Rattle.refspec_map.specs.Run.{Answers}
 use Rattle.refspec_map.proofs.FormFacts.{blob, ref_lines}
 use Rattle.refspec_map.proofs.LineFacts.{Lacks-tested}
+use Rattle.refspec_map.proofs.LineLemmas.{Lacks-here}
 use Rattle.refspec_map.proofs.MatchFacts.{not_negative}
+use Rattle.refspec_map.proofs.RunFacts.{some_once}
 
 -- a tag and a branch, and a spec for each of them
 abbrev pub the_tag : List ℕ
@@ -76,22 +76,28 @@ abbrev ends_of : List ℕ → Ends
 ends_of n = record { near = n; far = Some target }
 
 are_ends : (n : List ℕ) → HasKind n (full_name n) → AreForwardEnds (spec_of n) (ends_of n)
-are_ends n kind = record { positive = tt; near = refl; far = refl; no_object = λ i object. object.1 kind.2 }
+are_ends n kind = record { positive = tt; near = refl; far = refl; no_object = λ i is. is.1 kind.2 }
 
 -- each spec takes the ref of its name
 taken : (k : ℕ) (n : List ℕ) → HasKind n (full_name n) → IsHit (Takes the_refs) (ends_of n) k k (named n) (hit_of k n)
 taken k n kind = record {
   word = None;
-  takes = record { matches = record { kind = full_name n; of = kind; is = (refl, refl) }; first = λ m partial. absurd (partial.2 kind.2) };
+  takes = record { matches = record { kind = full_name n; of = kind; is = (refl, refl) }; first = λ m short. absurd (short.2 kind.2) };
   far = (full_name target, target_kind, refl);
   near = refl;
   spec = refl;
   item = refl;
 }
 
--- and not the other one
+-- and not the other one, since a full name matches only the ref of that name
+full_matches : (n m : List ℕ) (k : SideKind) (word : Option (List ℕ)) → HasKind n (full_name n) → HasKind n k → MatchesAs k (named m) word → m ≡ n
+full_matches n m (pattern before after) word kind of is = absurd (Lacks-here star before after (subst (Lacks star) of.starred kind.1))
+full_matches n m (full_name x) word kind of is = is.1 ∙ of.0
+full_matches n m (object i) word kind of is = absurd (of.1 kind.2)
+full_matches n m (partial x) word kind of is = absurd (of.2 kind.2)
+
 other_taken : (k j : ℕ) (n m : List ℕ) (hit : Hit) → HasKind n (full_name n) → IsHit (Takes the_refs) (ends_of n) k j (named m) hit → m ≡ n
-other_taken k j n m hit kind is = let matches = matches_as n (full_name n) (named m) is.word kind is.takes.matches in matches.1
+other_taken k j n m hit kind is = let matches = is.takes.matches in full_matches n m matches.kind is.word kind matches.of matches.is
 
 no_id_mapped : (k : ℕ) (n : List ℕ) → HasKind n (full_name n) → (m : Mapped) → ¬ (IsIdMapping k (spec_of n) m)
 no_id_mapped k n kind m is = is.object.1 (subst (BeginsWith (codes "refs/")) (some_once n is.text is.side) kind.2)

@@ -8,6 +8,8 @@ use Rattle.gix_refspec.specs.Texts.Bytes.{head}
 use Rattle.gix_refspec.specs.Specs.Reading.{Normal}
 use Rattle.gix_refspec.specs.Specs.Grammar.{fetched}
 use Rattle.gix_refspec.specs.Specs.Refusal.{NegativeEmpty}
+use Rattle.gix_refspec.specs.Laws.Reasons.{ReasonRefuses}
+use Rattle.refspec_text.specs.declared.parsing.Operation.TheVariants.{Fetch}
 use Rattle.refspec_map.specs.declared.command.Command.{Command}
 use Rattle.refspec_map.specs.declared.command.Command.TheVariants as command
 use Rattle.refspec_map.specs.declared.fault.Fault.{Fault}
@@ -96,15 +98,15 @@ pub no_line_reported : (old new : Option (List ℕ)) (n : ℕ) → ¬ (Explains 
 no_line_reported old new n (input, read, bad) = bad
 
 -- a spec that is refused is reported by its line, with the reason
-pub refusal_reported : Explains command.Rhs (Some (codes "spec ^\n")) (Some []) (fault.Spec 1 error.NegativeEmpty)
-refusal_reported = (
+pub refusal_reported : ReasonRefuses Fetch (codes "^") → Explains command.Rhs (Some (codes "spec ^\n")) (Some []) (fault.Spec 1 error.NegativeEmpty)
+refusal_reported law = (
   codes "spec ^\n",
   record { taken = refl; ended = refl; within = omega arith },
   (
     1,
     codes "spec ^",
     record { before = []; after = []; entries = []; cut = (Lacks-tested newline (codes "spec ^") refl, inl ([], refl, refl)); good = tt; counted = refl },
-    (codes "^", refl, refl, (NegativeEmpty, refl, caret_refused)),
+    (codes "^", refl, refl, (NegativeEmpty, refl, caret_refused law)),
   ),
 )
 

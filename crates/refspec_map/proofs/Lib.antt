@@ -1,3 +1,4 @@
+pub mod AllLemmas
 pub mod EntryLemmas
 pub mod FaultLemmas
 pub mod InputLemmas

@@ -31,6 +31,16 @@ cut_once b (c ∷ v) (d ∷ w) x y in_v in_w same =
     let later = cut_once b v w x y in_v.1 in_w.1 (ap (drop 1) same) in
     (ap (λ h. h ∷ v) first ∙ ap (λ t. d ∷ t) later.0, later.1)
 
+-- and so does its last place
+pub cut_last_once : (b : ℕ) (v w x y : List ℕ) → Lacks b x → Lacks b y → v ++ (b ∷ x) ≡ w ++ (b ∷ y) → (v ≡ w) × (x ≡ y)
+cut_last_once b [] [] x y in_x in_y same = (refl, ap (drop 1) same)
+cut_last_once b [] (d ∷ w) x y in_x in_y same = let rest : x ≡ w ++ (b ∷ y) = ap (drop 1) same in absurd (Lacks-here b w y (subst (Lacks b) rest in_x))
+cut_last_once b (c ∷ v) [] x y in_x in_y same = let rest : v ++ (b ∷ x) ≡ y = ap (drop 1) same in absurd (Lacks-here b v x (subst (Lacks b) (sym rest) in_y))
+cut_last_once b (c ∷ v) (d ∷ w) x y in_x in_y same =
+    let first : c ≡ d = ap (λ l. get_or l 0 0) same in
+    let later = cut_last_once b v w x y in_x in_y (ap (drop 1) same) in
+    (ap (λ h. h ∷ v) first ∙ ap (λ t. d ∷ t) later.0, later.1)
+
 -- a text that is cut at its first space begins with no other id, and goes on with nothing else
 pub IsIdThen-cut : (text word rest id after : List ℕ) → text ≡ word ++ (space ∷ rest) → Lacks space word → IsIdThen text id after → IsIdText word id × (rest ≡ after)
 IsIdThen-cut text word rest id after here ends is =
@@ -49,10 +59,6 @@ unspelled t e (inr one) fault i is = one.unread i is
 -- where the first word spells no id, none is there
 pub no_IsIdThen-word : (text word rest : List ℕ) → text ≡ word ++ (space ∷ rest) → Lacks space word → ((id : List ℕ) → ¬ (IsIdText word id)) → (id after : List ℕ) → ¬ (IsIdThen text id after)
 no_IsIdThen-word text word rest here ends none id after is = none id (IsIdThen-cut text word rest id after here ends is).0
-
--- nor where it has a fault
-pub no_IsIdThen-fault : (text word rest : List ℕ) (e : IdError) → IdOrFault word → text ≡ word ++ (space ∷ rest) → Lacks space word → HasIdFault word e → (id after : List ℕ) → ¬ (IsIdThen text id after)
-no_IsIdThen-fault text word rest e either here ends fault = no_IsIdThen-word text word rest here ends (unspelled word e either fault)
 
 -- as many digits as spell an id have no fault
 no_id_fault : (t : List ℕ) (e : IdError) → IsIdLength (length t) → list_all is_hex_digit t ≡ true → HasIdFault t e → ⊥

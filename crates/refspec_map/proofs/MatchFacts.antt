@@ -6,19 +6,15 @@ use Rattle.std.specs.Prelude.{if◌then◌else◌}
 use Rattle.std.specs.List.{Contains}
 use Rattle.std.specs.List.Sorted.{IsStrictlySortedBy}
 use Rattle.std.specs.List.{flat_map}
-use Rattle.refspec_text.specs.declared.oid.Kind.{Kind}
-use Rattle.refspec_text.specs.declared.oid.Kind.TheVariants.{Sha1, Sha256}
 use Rattle.gix_refspec.specs.Texts.Bytes.{star, head}
-use Rattle.gix_refspec.specs.Texts.ObjectId.{digits_of, IsIdText}
+use Rattle.gix_refspec.specs.Texts.ObjectId.{IsIdText}
 use Rattle.gix_refspec.specs.Specs.Reading.{Normal, Negative, Reading}
 use Rattle.gix_refspec.specs.Specs.Grammar.{fetched}
 use Rattle.gix_refspec.specs.Matching.Side.{partial, HasKind}
-use Rattle.gix_refspec.specs.Matching.Match.{Ref}
+use Rattle.gix_refspec.specs.Matching.Match.{Ref, HasName, IsFirstCandidate, Takes}
 use Rattle.gix_refspec.specs.Matching.Mappings.{name, Mapped, IsExcluded}
 use Rattle.gix_refspec.specs.Matching.Hits.{Ends, AreForwardEnds, AreBackwardEnds, Hit, AreForward, AreKeptForward, AreKeptBackward, IsIdMapping}
 use Rattle.gix_refspec.specs.Matching.Validation.{Conflict, HasConflictAt, IsValidated}
-use Rattle.refspec_text.proofs.lemmas.hits.CandidateLemmas.{first_of_one, taken_by_first}
-use Rattle.refspec_text.proofs.lemmas.specs.FormsBackLemmas.{some_once}
 use Rattle.refspec_map.specs.declared.command.Command.{Command}
 use Rattle.refspec_map.specs.declared.command.Command.TheVariants as command
 use Rattle.refspec_map.specs.Input.{newline, AreLines}
@@ -26,9 +22,9 @@ use Rattle.refspec_map.specs.Line.{Entry, reading, ref, readings_in}
 use Rattle.refspec_map.specs.Matching.{AreMapLines, IsMatching}
 use Rattle.refspec_map.specs.Plan.{conflict_line, ShowsConflicts, IsPlan}
 use Rattle.refspec_map.specs.Run.{Answers, IsOutput}
-use Rattle.refspec_map.proofs.FormFacts.{blob, ref_lines}
+use Rattle.refspec_map.proofs.FormFacts.{blob, no_length, ref_lines}
 use Rattle.refspec_map.proofs.LineFacts.{Lacks-tested}
-use Rattle.refspec_map.proofs.RunFacts.{none_some, nothing_reads}
+use Rattle.refspec_map.proofs.RunFacts.{none_some, nothing_reads, some_once}
 
 -- ---- an empty input
 
@@ -81,17 +77,12 @@ lines_cut = (
   inl (codes "ref e69de29bb2d1d6434b8b29ae775ad8c2e48c5391 HEAD\n", refl, (Lacks-tested newline (codes "ref e69de29bb2d1d6434b8b29ae775ad8c2e48c5391 HEAD") refl, inl ([], refl, refl))),
 )
 
--- what has 4 bytes is no id
-pub no_length : (kind : Kind) → 4 ≢ digits_of kind
-no_length Sha1 same = omega (arith, same)
-no_length Sha256 same = omega (arith, same)
-
 not_refs : (after : List ℕ) → head ≢ codes "refs/" ++ after
 not_refs after same = cc
 
 -- `HEAD` is no id, and a partial name
 no_id : (i : List ℕ) → ¬ (IsIdText head i)
-no_id i is = no_length is.kind is.digits
+no_id i is = no_length 4 is.kind (omega arith) is.digits
 
 head_kind : HasKind head (partial head)
 head_kind = (refl, Lacks-tested star head refl, λ begins. not_refs begins.after begins.here, λ is. no_id is.0 is.1)
@@ -109,6 +100,22 @@ no_id_mapped m is = no_id is.bytes (subst (λ (x : List ℕ). IsIdText x is.byte
 ends : AreForwardEnds the_spec (record { near = head; far = None })
 ends = record { positive = tt; near = refl; far = refl; no_object = λ i kind. no_id i kind.2 }
 
+-- a partial name takes the refs with the first of its candidates that is there
+pub taken_by_first : (refs : List Ref) (x : List ℕ) (r : Ref) → HasKind x (partial x) → IsFirstCandidate refs x r.name → Takes refs x r None
+taken_by_first refs x r kind first = record {
+  matches = record { kind = partial x; of = kind; is = (refl, record { earlier = first.earlier; later = first.later; here = first.here }) };
+  first = λ n also. subst (λ (y : List ℕ). IsFirstCandidate refs y r.name) (sym also.0) first;
+}
+
+head_first : IsFirstCandidate (the_ref ∷ []) head head
+head_first = record {
+  earlier = [];
+  later = codes "refs/HEAD" ∷ codes "refs/tags/HEAD" ∷ codes "refs/heads/HEAD" ∷ codes "refs/remotes/HEAD" ∷ codes "refs/remotes/HEAD/HEAD" ∷ [];
+  here = refl;
+  absent = tt;
+  present = inl refl;
+}
+
 mapped : AreForward (the_spec ∷ []) (the_ref ∷ []) (the_mapping ∷ [])
 mapped = record {
   ids = [];
@@ -125,7 +132,7 @@ mapped = record {
         [],
         record {
           word = None;
-          takes = taken_by_first (the_ref ∷ []) head the_ref head_kind (first_of_one head the_ref (record { earlier = []; later = codes "refs/HEAD" ∷ codes "refs/tags/HEAD" ∷ codes "refs/heads/HEAD" ∷ codes "refs/remotes/HEAD" ∷ codes "refs/remotes/HEAD/HEAD" ∷ []; here = refl }));
+          takes = taken_by_first (the_ref ∷ []) head the_ref head_kind head_first;
           far = refl;
           near = refl;
           spec = refl;

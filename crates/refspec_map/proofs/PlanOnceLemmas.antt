@@ -19,13 +19,7 @@ use Rattle.gix_refspec.specs.Matching.Lists.{IsJoinedFrom, IsMadeFrom}
 use Rattle.gix_refspec.specs.Matching.Mappings.{name, Mapped, IsSamePair, AreApart, Start, id}
 use Rattle.gix_refspec.specs.Matching.Hits.{AreKeptForward}
 use Rattle.gix_refspec.specs.Matching.Validation.{ForwardPlaces, Removed, Survives, IsFix}
-use Rattle.refspec_text.proofs.lemmas.texts.TextLemmas.{first_once, last_once}
-use Rattle.refspec_match.proofs.lemmas.keep.RepeatLemmas.{all_join, all_weaker, all_right}
-use Rattle.refspec_match.proofs.lemmas.keep.KeptLemmas.{kept_once}
-use Rattle.gix_refspec.proofs.lemmas.validate.AfterLemmas.{apart_still, kept_never_meet, stays_each, validated_once}
-use Rattle.gix_refspec.proofs.lemmas.validate.PlaceFitLemmas.{places_fit}
-use Rattle.gix_refspec.proofs.lemmas.validate.PlacedOnceLemmas.{AreFixesApart, IsOfItsSpec, fixes_apart, fixes_of_group, kept_of_specs, one_id, printed_lacks, LacksIn, SidesLack, sides_lack}
-use Rattle.gix_refspec.proofs.lemmas.validate.ClearLemmas.{MappedLacks, StartLacks, kept_lacks}
+use Rattle.gix_refspec.specs.Laws.Plans.{AreFixesApart, HaveOneStart, HaveStartsByPlace, LacksIn, MappedLacks, NoControlCharacter, PlansApart, SidesLack, StartLacks}
 use Rattle.refspec_map.specs.declared.command.Command.TheVariants as command
 use Rattle.refspec_map.specs.declared.fault.Fault.TheVariants as fault
 use Rattle.refspec_map.specs.Input.{newline, AreLines, input_limit}
@@ -33,6 +27,8 @@ use Rattle.refspec_map.specs.Line.{Entry, reading, ref, Gives, readings_in, refs
 use Rattle.refspec_map.specs.Matching.{tab, item_text, source_text, destination_text, map_line}
 use Rattle.refspec_map.specs.Plan.{AreDistinct, IsFixLine, ShowsValidated, WritesOnce, IsOneLine}
 use Rattle.refspec_map.specs.Run.{PlanOnce, SpecIsRefused}
+use Rattle.refspec_map.proofs.AllLemmas.{all_join, all_right, all_weaker}
+use Rattle.refspec_map.proofs.LineLemmas.{cut_last_once, cut_once}
 
 -- ---- numbers
 
@@ -71,69 +67,58 @@ destination_once (Some d) (Some e) same = let rest : d ≡ e = cc in ap Some res
 
 -- ---- the lines of mappings
 
--- what the mapping was made of has places, and these can be written
-record IsPlaced (g : List Reading) (items : List Ref) (m : Mapped) : Type 0 where
-  places : ForwardPlaces g items m
-  of_spec : IsOfItsSpec g m
+-- the places of the mapping can be written
+record HasSmallPlaces (m : Mapped) : Type 0 where
   spec : m.spec < 2 ^ 64
   item : IsSmall m.item
 
 -- one line has one spec, one item and then the same text
-line_parts : (g : List Reading) (items : List Ref) (m n : Mapped) → IsPlaced g items m → IsPlaced g items n → map_line m ≡ map_line n
+line_parts : (m n : Mapped) → HasSmallPlaces m → HasSmallPlaces n → map_line m ≡ map_line n
     → (m.spec ≡ n.spec) × (m.item ≡ n.item) × (source_text m.source ++ (destination_text m.destination ++ (newline ∷ [])) ≡ source_text n.source ++ (destination_text n.destination ++ (newline ∷ [])))
-line_parts g items m n at_m at_n same =
+line_parts m n at_m at_n same =
     let behind = append_cancel_left (codes "map\t") _ _ same in
-    let spec = first_once tab (decimal m.spec) (decimal n.spec) _ _ (digits_lack (decimal m.spec) (digits m.spec at_m.spec)) (digits_lack (decimal n.spec) (digits n.spec at_n.spec)) behind in
-    let item = first_once tab (item_text m.item) (item_text n.item) _ _ (item_lacks m.item at_m.item) (item_lacks n.item at_n.item) spec.1 in
+    let spec = cut_once tab (decimal m.spec) (decimal n.spec) _ _ (digits_lack (decimal m.spec) (digits m.spec at_m.spec)) (digits_lack (decimal n.spec) (digits n.spec at_n.spec)) behind in
+    let item = cut_once tab (item_text m.item) (item_text n.item) _ _ (item_lacks m.item at_m.item) (item_lacks n.item at_n.item) spec.1 in
     (decimal_injective m.spec n.spec at_m.spec at_n.spec spec.0, item_once m.item n.item at_m.item at_n.item item.0, item.1)
 
-one_ref : (r q : Ref) → Some r ≡ Some q → r ≡ q
-one_ref r q same = cc
-
-source_once : (g : List Reading) (items : List Ref) (m n : Mapped) → IsPlaced g items m → IsPlaced g items n → m.spec ≡ n.spec → m.item ≡ n.item → (i : Option ℕ) → m.item ≡ i → m.source ≡ n.source
-source_once g items m n at_m at_n spec item None is = one_id g m n at_m.of_spec at_n.of_spec is (sym item ∙ is) spec
-source_once g items m n at_m at_n spec item (Some j) is =
-    let (r, here, named) = at_m.places.item j is in
-    let (q, there, also) = at_n.places.item j (sym item ∙ is) in
-    named ∙ ap (λ (x : Ref). name x.name) (one_ref r q (sym here ∙ there)) ∙ sym also
-
 -- so it has one pair
-pair_once : (g : List Reading) (items : List Ref) (m n : Mapped) → IsPlaced g items m → IsPlaced g items n → map_line m ≡ map_line n → IsSamePair m n
-pair_once g items m n at_m at_n same =
-    let (spec, item, behind) = line_parts g items m n at_m at_n same in
-    let source = source_once g items m n at_m at_n spec item m.item refl in
+pair_once : (m n : Mapped) → HasSmallPlaces m → HasSmallPlaces n → HaveOneStart m n → map_line m ≡ map_line n → IsSamePair m n
+pair_once m n at_m at_n start same =
+    let (spec, item, behind) = line_parts m n at_m at_n same in
+    let source = start spec item in
     let rest = append_cancel_left (source_text n.source) _ _ (ap (λ s. source_text s ++ (destination_text m.destination ++ (newline ∷ []))) (sym source) ∙ behind) in
     record { source = source; destination = destination_once m.destination n.destination (append_cancel_right (destination_text m.destination) (destination_text n.destination) (newline ∷ []) rest) }
 
-others_differ : (g : List Reading) (items : List Ref) (m : Mapped) (xs : List Mapped) → IsPlaced g items m → AllByRecursion (IsPlaced g items) xs → AllByRecursion (λ x. ¬ (IsSamePair m x)) xs → AllByRecursion (λ y. y ≢ map_line m) (map map_line xs)
-others_differ g items m [] at_m placed apart = tt
-others_differ g items m (x ∷ xs) at_m placed apart = ((λ same. apart.0 (pair_once g items m x at_m placed.0 (sym same))), others_differ g items m xs at_m placed.1 apart.1)
+others_differ : (m : Mapped) (xs : List Mapped) → HasSmallPlaces m → AllByRecursion HasSmallPlaces xs → AllByRecursion (HaveOneStart m) xs → AllByRecursion (λ x. ¬ (IsSamePair m x)) xs → AllByRecursion (λ y. y ≢ map_line m) (map map_line xs)
+others_differ m [] at_m placed starts apart = tt
+others_differ m (x ∷ xs) at_m placed starts apart = ((λ same. apart.0 (pair_once m x at_m placed.0 starts.0 (sym same))), others_differ m xs at_m placed.1 starts.1 apart.1)
 
-maps_distinct : (g : List Reading) (items : List Ref) (xs : List Mapped) → AllByRecursion (IsPlaced g items) xs → AreApart xs → AreDistinct (map map_line xs)
-maps_distinct g items [] placed apart = tt
-maps_distinct g items (m ∷ xs) placed apart = (others_differ g items m xs placed.0 placed.1 apart.0, maps_distinct g items xs placed.1 apart.1)
+maps_distinct : (xs : List Mapped) → AllByRecursion HasSmallPlaces xs → HaveStartsByPlace xs → AreApart xs → AreDistinct (map map_line xs)
+maps_distinct [] placed starts apart = tt
+maps_distinct (m ∷ xs) placed starts apart = (others_differ m xs placed.0 placed.1 starts.0 apart.0, maps_distinct xs placed.1 starts.1 apart.1)
 
 -- ---- the lines of fixes
 
--- the canonical text of the fix's spec holds no tab
-abbrev HasClearText : Removed → Type 0
-HasClearText f = (t : List ℕ) → printed f.spec ≡ Some t → Lacks tab t
+-- the canonical text of the fix's spec holds no control character, and its destination no newline
+record IsClearFix (f : Removed) : Type 0 where
+  text : (b : ℕ) (t : List ℕ) → b < 32 → printed f.spec ≡ Some t → Lacks b t
+  destination : Lacks newline f.destination
 
 ended_lacks : (t : List ℕ) → Lacks tab t → Lacks tab (t ++ (newline ∷ []))
 ended_lacks t lacks = all_join (λ c. c ≢ tab) t (newline ∷ []) lacks ((λ same. omega (arith, same)), tt)
 
-fix_once : (f h : Removed) (x y : List ℕ) → HasClearText f → HasClearText h → IsFixLine f x → IsFixLine h y → x ≡ y → f.destination ≡ h.destination
+fix_once : (f h : Removed) (x y : List ℕ) → IsClearFix f → IsClearFix h → IsFixLine f x → IsFixLine h y → x ≡ y → f.destination ≡ h.destination
 fix_once f h x y clear_f clear_h (t, prints, is) (u, also, it) same =
     let behind = append_cancel_left (codes "fix\t") _ _ (sym is ∙ same ∙ it) in
-    (last_once tab f.destination h.destination (t ++ (newline ∷ [])) (u ++ (newline ∷ [])) (ended_lacks t (clear_f t prints)) (ended_lacks u (clear_h u also)) behind).0
+    (cut_last_once tab f.destination h.destination (t ++ (newline ∷ [])) (u ++ (newline ∷ [])) (ended_lacks t (clear_f.text tab t (omega arith) prints)) (ended_lacks u (clear_h.text tab u (omega arith) also)) behind).0
 
-other_fixes : (f : Removed) (x : List ℕ) → HasClearText f → IsFixLine f x → (fixes : List Removed) (lines : List (List ℕ)) → AllZip IsFixLine fixes lines → AllByRecursion (λ h. h.destination ≢ f.destination) fixes → AllByRecursion HasClearText fixes → AllByRecursion (λ y. y ≢ x) lines
+other_fixes : (f : Removed) (x : List ℕ) → IsClearFix f → IsFixLine f x → (fixes : List Removed) (lines : List (List ℕ)) → AllZip IsFixLine fixes lines → AllByRecursion (λ h. h.destination ≢ f.destination) fixes → AllByRecursion IsClearFix fixes → AllByRecursion (λ y. y ≢ x) lines
 other_fixes f x clear is [] [] are apart clears = tt
 other_fixes f x clear is [] (y ∷ lines) are apart clears = absurd are
 other_fixes f x clear is (h ∷ fixes) [] are apart clears = absurd are
 other_fixes f x clear is (h ∷ fixes) (y ∷ lines) are apart clears = ((λ same. apart.0 (fix_once h f y x clears.0 clear are.0 is same)), other_fixes f x clear is fixes lines are.1 apart.1 clears.1)
 
-fixes_distinct : (fixes : List Removed) (lines : List (List ℕ)) → AllZip IsFixLine fixes lines → AreFixesApart fixes → AllByRecursion HasClearText fixes → AreDistinct lines
+fixes_distinct : (fixes : List Removed) (lines : List (List ℕ)) → AllZip IsFixLine fixes lines → AreFixesApart fixes → AllByRecursion IsClearFix fixes → AreDistinct lines
 fixes_distinct [] [] are apart clears = tt
 fixes_distinct [] (y ∷ lines) are apart clears = absurd are
 fixes_distinct (f ∷ fixes) [] are apart clears = absurd are
@@ -228,25 +213,20 @@ map_is m =
     ∙ ap (λ z. codes "map\t" ++ z) (sym (append_assoc (decimal m.spec) (tab ∷ behind) (newline ∷ [])))
     ∙ sym (append_assoc (codes "map\t") (decimal m.spec ++ (tab ∷ behind)) (newline ∷ []))
 
-map_whole : (g : List Reading) (items : List Ref) (m : Mapped) → IsPlaced g items m → MappedLacks newline m → IsOneLine (map_line m)
-map_whole g items m at_m lacks =
+map_whole : (m : Mapped) → HasSmallPlaces m → MappedLacks newline m → IsOneLine (map_line m)
+map_whole m at_m lacks =
     let words = all_join (λ c. c ≢ newline) (source_text m.source) (destination_text m.destination) (source_whole m.source lacks.0) (destination_whole m.destination lacks.1) in
     let item = all_join (λ c. c ≢ newline) (item_text m.item) (tab ∷ (source_text m.source ++ destination_text m.destination)) (item_whole m.item at_m.item) ((λ same. omega (arith, same)), words) in
     let spec = all_join (λ c. c ≢ newline) (decimal m.spec) (tab ∷ (item_text m.item ++ (tab ∷ (source_text m.source ++ destination_text m.destination)))) (digits_whole (decimal m.spec) (digits m.spec at_m.spec)) ((λ same. omega (arith, same)), item) in
     (map_body m, ((λ same. omega (arith, same)), ((λ same. omega (arith, same)), ((λ same. omega (arith, same)), ((λ same. omega (arith, same)), spec)))), map_is m)
 
-maps_whole : (g : List Reading) (items : List Ref) (xs : List Mapped) → AllByRecursion (IsPlaced g items) xs → AllByRecursion (MappedLacks newline) xs → AllByRecursion IsOneLine (map map_line xs)
-maps_whole g items [] placed lack = tt
-maps_whole g items (m ∷ xs) placed lack = (map_whole g items m placed.0 lack.0, maps_whole g items xs placed.1 lack.1)
-
--- the canonical text of the fix's spec, and its destination, hold no newline
-record IsClearFix (f : Removed) : Type 0 where
-  text : (t : List ℕ) → printed f.spec ≡ Some t → Lacks newline t
-  destination : Lacks newline f.destination
+maps_whole : (xs : List Mapped) → AllByRecursion HasSmallPlaces xs → AllByRecursion (MappedLacks newline) xs → AllByRecursion IsOneLine (map map_line xs)
+maps_whole [] placed lack = tt
+maps_whole (m ∷ xs) placed lack = (map_whole m placed.0 lack.0, maps_whole xs placed.1 lack.1)
 
 fix_whole : (f : Removed) (x : List ℕ) → IsFixLine f x → IsClearFix f → IsOneLine x
 fix_whole f x (t, prints, is) clear =
-    let words = all_join (λ c. c ≢ newline) f.destination (tab ∷ t) clear.destination ((λ same. omega (arith, same)), clear.text t prints) in (
+    let words = all_join (λ c. c ≢ newline) f.destination (tab ∷ t) clear.destination ((λ same. omega (arith, same)), clear.text newline t (omega arith) prints) in (
       codes "fix\t" ++ (f.destination ++ (tab ∷ t)),
       ((λ same. omega (arith, same)), ((λ same. omega (arith, same)), ((λ same. omega (arith, same)), ((λ same. omega (arith, same)), words)))),
       is ∙ ap (λ z. codes "fix\t" ++ z) (sym (append_assoc f.destination (tab ∷ t) (newline ∷ []))) ∙ sym (append_assoc (codes "fix\t") (f.destination ++ (tab ∷ t)) (newline ∷ [])),
@@ -258,15 +238,15 @@ fixes_whole [] (y ∷ lines) are clears = absurd are
 fixes_whole (f ∷ fixes) [] are clears = absurd are
 fixes_whole (f ∷ fixes) (x ∷ lines) are clears = (fix_whole f x are.0 clears.0, fixes_whole fixes lines are.1 clears.1)
 
-clear_fixes : (g : List Reading) → ((k : ℕ) (r : Reading) → slice_get g k ≡ Some r → (text : List ℕ) × Reads Fetch text r) → (k : ℕ) (l : List Mapped) (fixes : List Removed) → AllByRecursion (MappedLacks newline) l → IsMadeFrom (λ j m fix. IsFix g m fix) k l fixes → AllByRecursion IsClearFix fixes
-clear_fixes g reads k [] fixes lack empty = subst (AllByRecursion IsClearFix) (sym empty) tt
-clear_fixes g reads k (m ∷ l) fixes lack (None, rest, none, more, is) = subst (AllByRecursion IsClearFix) (sym is) (clear_fixes g reads (k + 1) l rest lack.1 more)
-clear_fixes g reads k (m ∷ l) fixes lack (Some f, rest, fix, more, is) = subst (AllByRecursion IsClearFix) (sym is) (
+clear_fixes : NoControlCharacter → (g : List Reading) → ((k : ℕ) (r : Reading) → slice_get g k ≡ Some r → (text : List ℕ) × Reads Fetch text r) → (k : ℕ) (l : List Mapped) (fixes : List Removed) → AllByRecursion (MappedLacks newline) l → IsMadeFrom (λ j m fix. IsFix g m fix) k l fixes → AllByRecursion IsClearFix fixes
+clear_fixes law g reads k [] fixes lack empty = subst (AllByRecursion IsClearFix) (sym empty) tt
+clear_fixes law g reads k (m ∷ l) fixes lack (None, rest, none, more, is) = subst (AllByRecursion IsClearFix) (sym is) (clear_fixes law g reads (k + 1) l rest lack.1 more)
+clear_fixes law g reads k (m ∷ l) fixes lack (Some f, rest, fix, more, is) = subst (AllByRecursion IsClearFix) (sym is) (
   record {
-    text = λ t prints. let read = reads m.spec f.spec fix.spec in printed_lacks newline (omega arith) refl read.0 f.spec t read.1 prints;
+    text = λ b t below prints. let read = reads m.spec f.spec fix.spec in law.texts b read.0 f.spec t below read.1 prints;
     destination = subst (LacksIn newline) fix.goes lack.0.1;
   },
-  clear_fixes g reads (k + 1) l rest lack.1 more,
+  clear_fixes law g reads (k + 1) l rest lack.1 more,
 )
 
 -- no line of the input holds a newline, and so no name and no side
@@ -292,12 +272,12 @@ refs_whole (line ∷ lines) [] given lack = absurd given
 refs_whole (line ∷ lines) (reading r ∷ entries) given lack = refs_whole lines entries given.1 lack.1
 refs_whole (line ∷ lines) (ref r ∷ entries) given lack = (ref_whole line r given.0 lack.0, refs_whole lines entries given.1 lack.1)
 
-sides_whole : (lines : List (List ℕ)) (entries : List Entry) → AllZip Gives lines entries → AllByRecursion (SidesLack newline) (readings_in entries)
-sides_whole [] [] given = tt
-sides_whole [] (e ∷ entries) given = absurd given
-sides_whole (line ∷ lines) [] given = absurd given
-sides_whole (line ∷ lines) (reading r ∷ entries) ((text, says, reads), given) = (sides_lack newline (omega arith) refl text r reads, sides_whole lines entries given)
-sides_whole (line ∷ lines) (ref r ∷ entries) (gives, given) = sides_whole lines entries given
+sides_whole : NoControlCharacter → (lines : List (List ℕ)) (entries : List Entry) → AllZip Gives lines entries → AllByRecursion (SidesLack newline) (readings_in entries)
+sides_whole law [] [] given = tt
+sides_whole law [] (e ∷ entries) given = absurd given
+sides_whole law (line ∷ lines) [] given = absurd given
+sides_whole law (line ∷ lines) (reading r ∷ entries) ((text, says, reads), given) = (law.sides newline text r (omega arith) reads, sides_whole law lines entries given)
+sides_whole law (line ∷ lines) (ref r ∷ entries) (gives, given) = sides_whole law lines entries given
 
 -- ---- a plan
 
@@ -305,16 +285,22 @@ item_small : (items : List Ref) (m : Mapped) (i : Option ℕ) → length items <
 item_small items m None few is places = tt
 item_small items m (Some j) few is places = let (r, here, named) = places j is in let below = slice_get_within items j r here in omega (arith, below, few)
 
-placed : (g : List Reading) (items : List Ref) → length g < 2 ^ 64 → length items < 2 ^ 64 → (xs : List Mapped) → AllByRecursion (ForwardPlaces g items) xs → AllByRecursion (IsOfItsSpec g) xs → AllByRecursion (IsPlaced g items) xs
-placed g items few_specs few_items [] places specs = tt
-placed g items few_specs few_items (m ∷ xs) places specs = (
-  (let below = places.0.spec in record { places = places.0; of_spec = specs.0; spec = omega (arith, below, few_specs); item = item_small items m m.item few_items refl places.0.item }),
-  placed g items few_specs few_items xs places.1 specs.1,
+placed : (g : List Reading) (items : List Ref) → length g < 2 ^ 64 → length items < 2 ^ 64 → (xs : List Mapped) → AllByRecursion (ForwardPlaces g items) xs → AllByRecursion HasSmallPlaces xs
+placed g items few_specs few_items [] places = tt
+placed g items few_specs few_items (m ∷ xs) places = (
+  (let below = places.0.spec in record { spec = omega (arith, below, few_specs); item = item_small items m m.item few_items refl places.0.item }),
+  placed g items few_specs few_items xs places.1,
 )
 
+-- what holds of all mappings holds of those that remain
+remain_each : (P : Mapped → Type 0) (k : ℕ) (l rest : List Mapped) → AllByRecursion P l → IsMadeFrom (λ j m made. (made ≡ m) × Survives m) k l rest → AllByRecursion P rest
+remain_each P k [] rest all empty = subst (AllByRecursion P) (sym empty) tt
+remain_each P k (m ∷ l) rest all (None, others, none, more, is) = subst (AllByRecursion P) (sym is) (remain_each P (k + 1) l others all.1 more)
+remain_each P k (m ∷ l) rest all (Some n, others, one, more, is) = subst (AllByRecursion P) (sym is) (subst P (sym one.0) all.0, remain_each P (k + 1) l others all.1 more)
+
 -- a plan without conflicts
-writes_once : (lines : List (List ℕ)) (entries : List Entry) (input output : List ℕ) (l : List Mapped) → AreLines lines input → AllZip Gives lines entries → length input ≤ input_limit → AreKeptForward (readings_in entries) (refs_in entries) l → ShowsValidated (readings_in entries) l output → WritesOnce (readings_in entries) (refs_in entries) output
-writes_once lines entries input output l cut given within kept shows =
+writes_once : PlansApart → NoControlCharacter → (lines : List (List ℕ)) (entries : List Entry) (input output : List ℕ) (l : List Mapped) → AreLines lines input → AllZip Gives lines entries → length input ≤ input_limit → AreKeptForward (readings_in entries) (refs_in entries) l → ShowsValidated (readings_in entries) l output → WritesOnce (readings_in entries) (refs_in entries) output
+writes_once apart control lines entries input output l cut given within kept shows =
     let g = readings_in entries in
     let items = refs_in entries in
     let rest = shows.rest in
@@ -326,20 +312,14 @@ writes_once lines entries input output l cut given within kept shows =
     let fit_items = fit.1 in
     let few_specs : length g < 2 ^ 64 = omega (arith, few, within, fit_specs) in
     let few_items : length items < 2 ^ 64 = omega (arith, few, within, fit_items) in
-    let law = places_fit g items in
-    let places = law.validated l rest fixes valid (law.forward l kept) in
-    let specs = stays_each (λ j m. Survives m) (IsOfItsSpec g) 0 l rest (kept_of_specs g items l kept) valid.survive in
-    let all = placed g items few_specs few_items rest places specs in
-    let apart = apart_still (λ j m. Survives m) 0 l rest (kept_once g kept.all l kept.is) valid.survive in
+    let told = apart g items l rest fixes kept valid in
+    let all = placed g items few_specs few_items rest told.places in
     let (fixed, are, same) = fix_parts 0 fixes shows.fixed shows.are in
-    let reads = fixes_of_group (λ r. (text : List ℕ) × Reads Fetch text r) g (given_reads lines entries given) 0 l fixes valid.fixed in
-    let clears = all_weaker (λ (f : Removed). (text : List ℕ) × Reads Fetch text f.spec) HasClearText (λ f read t prints. printed_lacks tab (omega arith) refl read.0 f.spec t read.1 prints) fixes reads in
-    let fix_apart = fixes_apart g 0 l fixes (kept_never_meet g items l kept valid.free) valid.fixed in
-    let sides = sides_whole lines entries given in
+    let sides = sides_whole control lines entries given in
     let names = refs_whole lines entries given (lines_whole lines input cut) in
-    let lack = kept_lacks newline (omega arith) refl g items l sides names kept in
-    let rest_lack = stays_each (λ j m. Survives m) (MappedLacks newline) 0 l rest lack valid.survive in
-    let clear = clear_fixes g (given_reads lines entries given) 0 l fixes lack valid.fixed in
+    let lack = control.mapped newline g items l (omega arith) sides names kept in
+    let rest_lack = remain_each (MappedLacks newline) 0 l rest lack valid.survive in
+    let clear = clear_fixes control g (given_reads lines entries given) 0 l fixes lack valid.fixed in
     record {
       mappings = l;
       rest = rest;
@@ -349,9 +329,9 @@ writes_once lines entries input output l cut given within kept shows =
       is = valid;
       are = are;
       written = shows.written ∙ (ap (λ x. flat_map map_line rest ++ x) same ∙ sym (joined_lines rest fixed));
-      apart = (validated_once g items l rest fixes valid).1 kept;
-      once = distinct_join (map map_line rest) fixed (maps_distinct g items rest all apart) (fixes_distinct fixes fixed are fix_apart clears) (no_fixes rest fixes fixed are);
-      whole = all_join IsOneLine (map map_line rest) fixed (maps_whole g items rest all rest_lack) (fixes_whole fixes fixed are clear);
+      apart = told.destinations;
+      once = distinct_join (map map_line rest) fixed (maps_distinct rest all told.starts told.pairs) (fixes_distinct fixes fixed are told.fixed clear) (no_fixes rest fixes fixed are);
+      whole = all_join IsOneLine (map map_line rest) fixed (maps_whole rest all rest_lack) (fixes_whole fixes fixed are clear);
     }
 
 -- no line is refused, and no plan has conflicts, where the status is 0
@@ -363,8 +343,8 @@ shown_calm : (P Q : Type 0) (b : Bool) → b ≡ false → MatchBool b P Q → Q
 shown_calm P Q true same shows = absurd (cc)
 shown_calm P Q false same shows = shows
 
-pub plan_once : PlanOnce
-plan_once reader_old reader_new writer_old writer_new a =
+pub plan_once : PlansApart → NoControlCharacter → PlanOnce
+plan_once apart control reader_old reader_new writer_old writer_new a =
     let all = a.is in
     let plan = all.is in
     let shows = shown_calm _ _ a.refusal (calm a.refusal a.tells) plan.shows in (
@@ -372,7 +352,7 @@ plan_once reader_old reader_new writer_old writer_new a =
       a.output,
       a.read,
       a.written,
-      record { lines = all.lines; entries = all.entries; cut = all.cut; given = all.given; is = writes_once all.lines all.entries a.input a.output plan.mappings all.cut all.given a.read.within plan.kept shows },
+      record { lines = all.lines; entries = all.entries; cut = all.cut; given = all.given; is = writes_once apart control all.lines all.entries a.input a.output plan.mappings all.cut all.given a.read.within plan.kept shows },
     )
 
 -- ---- the fault of a spec

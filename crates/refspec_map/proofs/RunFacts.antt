@@ -10,15 +10,11 @@ use Rattle.refspec_text.specs.declared.parsing.Operation.TheVariants.{Push, Fetc
 use Rattle.gix_refspec.specs.Texts.Bytes.{plus, caret, head}
 use Rattle.gix_refspec.specs.Texts.Words.{Lacks}
 use Rattle.gix_refspec.specs.Specs.Reading.{Normal, Negative, Reading}
-use Rattle.gix_refspec.specs.Laws.Readings.{IsSameReason}
+use Rattle.gix_refspec.specs.Laws.Readings.{IsSameReason, OneRefusal, ReadsOrRefused}
+use Rattle.gix_refspec.specs.Laws.Reasons.{ReasonRefuses}
 use Rattle.gix_refspec.specs.Specs.Grammar.{Reads, fetched, fetches_nothing_named, fetches_colon}
-use Rattle.gix_refspec.specs.Specs.Refusal.{Refusal, Empty, NegativeEmpty, IsFirstReason, IsRefused}
+use Rattle.gix_refspec.specs.Specs.Refusal.{Refusal, Empty, NegativeEmpty, IsFirstReason, IsRefused, NoReasonBeforeSource}
 use Rattle.gix_refspec.specs.Specs.Meaning.{printed}
-use Rattle.refspec_text.proofs.lemmas.specs.FormsBackLemmas.{some_once}
-use Rattle.refspec_text.proofs.lemmas.parsing.ReasonLemmas.{negative_reaches}
-use Rattle.refspec_text.proofs.lemmas.parsing.ReadsLemmas.{refused as refused_by}
-use Rattle.refspec_text.proofs.lemmas.parsing.ReadOnceLemmas.{reads_once}
-use Rattle.refspec_text.proofs.lemmas.parsing.RefusalLemmas.{one_refusal}
 use Rattle.refspec_map.specs.declared.command.Command.TheVariants as command
 use Rattle.refspec_map.specs.Fault.{name_of}
 use Rattle.refspec_map.specs.Input.{newline, ReadsToEnd}
@@ -31,6 +27,10 @@ use Rattle.refspec_map.proofs.OutputLemmas.{or_false}
 pub none_some : (x : List ℕ) → None ≢ Some x
 none_some x same = cc
 
+-- and a word that is there is one
+pub some_once : (x y : List ℕ) → Some x ≡ Some y → x ≡ y
+some_once x y same = cc
+
 -- ---- canon fetch
 
 -- a line of nothing, and a colon, are specs of a fetch of `HEAD`
@@ -40,18 +40,21 @@ nothing_reads = fetches_nothing_named Normal refl tt (record { signed = (refl, t
 colon_reads : Reads Fetch (codes ":") (fetched Normal head None)
 colon_reads = fetches_colon Normal refl tt (record { signed = (refl, (eqb-false 58 plus refl, eqb-false 58 caret refl)); last = tt }) refl
 
--- a caret alone excludes nothing
+-- no earlier reason is against a caret alone, which excludes nothing
+caret_reaches : NoReasonBeforeSource Fetch Negative [] None
+caret_reaches = (λ e h. let i = h.unsigned in absurd (cc), λ e h. let i = h.colon in absurd (cc), λ e h. let i = h.nowhere in absurd (cc))
+
 caret_reason : IsFirstReason Fetch Negative [] None NegativeEmpty
 caret_reason =
-    let before = negative_reaches Fetch [] in
-    inr (before.0, inr (before.1, inr (before.2, inr (λ e bad. bad.source refl, inr (λ e bad. none_some bad.word bad.is, inr (λ e bad. bad.positive, inl (record { negative = refl; no_source = refl; refusal = refl })))))))
+    inr (caret_reaches.0, inr (caret_reaches.1, inr (caret_reaches.2, inr (λ e bad. bad.source refl, inr (λ e bad. none_some bad.word bad.is, inr (λ e bad. bad.positive, inl (record { negative = refl; no_source = refl; refusal = refl })))))))
 
-pub caret_refused : IsRefused Fetch (codes "^") NegativeEmpty
-caret_refused = refused_by Fetch Negative [] None (codes "^") NegativeEmpty (record { signed = refl; last = tt }) caret_reason
+-- so it is refused, by the law on the first reason
+pub caret_refused : ReasonRefuses Fetch (codes "^") → IsRefused Fetch (codes "^") NegativeEmpty
+caret_refused law = law Negative [] None NegativeEmpty (record { signed = refl; last = tt }) caret_reason
 
 -- three lines, of which the last has no newline, after what was written before
-pub answers_for_a_fetch : Answers command.CanonFetch (Some (codes "\n^\n:")) (Some []) (Some (codes "old\n")) (Some (codes "old\nok HEAD\nerr NegativeEmpty\nok HEAD\n")) 1
-answers_for_a_fetch = record {
+pub answers_for_a_fetch : ReasonRefuses Fetch (codes "^") → Answers command.CanonFetch (Some (codes "\n^\n:")) (Some []) (Some (codes "old\n")) (Some (codes "old\nok HEAD\nerr NegativeEmpty\nok HEAD\n")) 1
+answers_for_a_fetch law = record {
   input = codes "\n^\n:";
   output = codes "ok HEAD\nerr NegativeEmpty\nok HEAD\n";
   refusal = true;
@@ -60,7 +63,7 @@ answers_for_a_fetch = record {
     lines = [] ∷ codes "^" ∷ codes ":" ∷ [];
     answers = accepted (codes "HEAD") ∷ refused NegativeEmpty ∷ accepted (codes "HEAD") ∷ [];
     cut = (tt, inl (codes "^\n:", refl, (Lacks-tested newline (codes "^") refl, inl (codes ":", refl, (Lacks-tested newline (codes ":") refl, inr (λ none. cc, refl, refl))))));
-    told = ((fetched Normal head None, nothing_reads, refl), (caret_refused, ((fetched Normal head None, colon_reads, refl), tt)));
+    told = ((fetched Normal head None, nothing_reads, refl), (caret_refused law, ((fetched Normal head None, colon_reads, refl), tt)));
     written = refl;
     tells = refl;
   };
@@ -91,19 +94,23 @@ one_answer op line output refusal lacks is =
 abbrev IsOnly : Operation → List ℕ → Answer → Type 0
 IsOnly op line a = (b : Answer) → IsAnswer op line b → (answer_line b ≡ answer_line a) × (is_refused b ≡ is_refused a)
 
-only_read : (op : Operation) (line : List ℕ) (r : Reading) (text : List ℕ) → Reads op line r → printed r ≡ Some text → IsOnly op line (accepted text)
-only_read op line r text reads prints (accepted other) (q, also, prints_other) =
-    let same = some_once other text (sym prints_other ∙ (ap printed (reads_once op line q r also reads) ∙ prints)) in
+one_reading : (op : Operation) (line : List ℕ) (q r : Reading) → ReadsOrRefused op line → Reads op line q → Reads op line r → q ≡ r
+one_reading op line q r (inl once) reads also = once.only q reads ∙ sym (once.only r also)
+one_reading op line q r (inr is) reads also = absurd (is.1.unread q reads)
+
+only_read : (op : Operation) (line : List ℕ) (r : Reading) (text : List ℕ) → ReadsOrRefused op line → Reads op line r → printed r ≡ Some text → IsOnly op line (accepted text)
+only_read op line r text law reads prints (accepted other) (q, also, prints_other) =
+    let same = some_once other text (sym prints_other ∙ (ap printed (one_reading op line q r law also reads) ∙ prints)) in
     (ap (λ t. answer_line (accepted t)) same, refl)
-only_read op line r text reads prints (refused e) is = absurd (is.unread r reads)
+only_read op line r text law reads prints (refused e) is = absurd (is.unread r reads)
 
 same_name : (e f : Refusal) → IsSameReason e f → name_of e ≡ name_of f
 same_name e f (inl same) = ap name_of same
 same_name e f (inr (a, b, first, second)) = ap name_of first ∙ sym (ap name_of second)
 
-only_refused : (op : Operation) (line : List ℕ) (e : Refusal) → IsRefused op line e → IsOnly op line (refused e)
-only_refused op line e is (accepted other) (r, reads, prints) = absurd (is.unread r reads)
-only_refused op line e is (refused f) also = (ap (λ n. codes "err " ++ (n ++ (newline ∷ []))) (same_name f e (one_refusal op line f e also is)), refl)
+only_refused : (op : Operation) (line : List ℕ) (e : Refusal) → OneRefusal op line → IsRefused op line e → IsOnly op line (refused e)
+only_refused op line e law is (accepted other) (r, reads, prints) = absurd (is.unread r reads)
+only_refused op line e law is (refused f) also = (ap (λ n. codes "err " ++ (n ++ (newline ∷ []))) (same_name f e (law f e also is)), refl)
 
 -- what a run over an input of one line leaves and writes, and its status
 record Ends (rest before after : List ℕ) (status : ℕ) (a : Answer) : Type 0 where
@@ -122,23 +129,23 @@ ends_by op line a input output rest before after refusal status lacks only read 
       tells = tells ∙ ap (λ (b : Bool). if b then 1 else 0) (one.tells ∙ same.1);
     }
 
--- for a fetch the empty line gives this output and status, and no other
-pub empty_line_fetched : (rest before after : List ℕ) (status : ℕ) → Answers command.CanonFetch (Some (codes "\n")) (Some rest) (Some before) (Some after) status → (rest ≡ []) × (after ≡ before ++ codes "ok HEAD\n") × (status ≡ 0)
-empty_line_fetched rest before after status a =
-    let ends = ends_by Fetch [] (accepted (codes "HEAD")) a.input a.output rest before after a.refusal status tt (only_read Fetch [] (fetched Normal head None) (codes "HEAD") nothing_reads refl) a.read a.is a.written a.tells in
+-- for a fetch the empty line gives this output and status, and no other, by the laws on texts
+pub empty_line_fetched : ReadsOrRefused Fetch [] → (rest before after : List ℕ) (status : ℕ) → Answers command.CanonFetch (Some (codes "\n")) (Some rest) (Some before) (Some after) status → (rest ≡ []) × (after ≡ before ++ codes "ok HEAD\n") × (status ≡ 0)
+empty_line_fetched law rest before after status a =
+    let ends = ends_by Fetch [] (accepted (codes "HEAD")) a.input a.output rest before after a.refusal status tt (only_read Fetch [] (fetched Normal head None) (codes "HEAD") law nothing_reads refl) a.read a.is a.written a.tells in
     (ends.left, ends.written, ends.tells)
 
 -- and so does a caret
-pub caret_fetched : (rest before after : List ℕ) (status : ℕ) → Answers command.CanonFetch (Some (codes "^\n")) (Some rest) (Some before) (Some after) status → (rest ≡ []) × (after ≡ before ++ codes "err NegativeEmpty\n") × (status ≡ 1)
-caret_fetched rest before after status a =
-    let ends = ends_by Fetch (codes "^") (refused NegativeEmpty) a.input a.output rest before after a.refusal status (Lacks-tested newline (codes "^") refl) (only_refused Fetch (codes "^") NegativeEmpty caret_refused) a.read a.is a.written a.tells in
+pub caret_fetched : ReasonRefuses Fetch (codes "^") → OneRefusal Fetch (codes "^") → (rest before after : List ℕ) (status : ℕ) → Answers command.CanonFetch (Some (codes "^\n")) (Some rest) (Some before) (Some after) status → (rest ≡ []) × (after ≡ before ++ codes "err NegativeEmpty\n") × (status ≡ 1)
+caret_fetched refuses one rest before after status a =
+    let ends = ends_by Fetch (codes "^") (refused NegativeEmpty) a.input a.output rest before after a.refusal status (Lacks-tested newline (codes "^") refl) (only_refused Fetch (codes "^") NegativeEmpty one (caret_refused refuses)) a.read a.is a.written a.tells in
     (ends.left, ends.written, ends.tells)
 
 -- a push of the empty line is refused
-nothing_refused : IsRefused Push [] Empty
-nothing_refused = refused_by Push Normal [] None [] Empty (record { signed = (refl, tt); last = tt }) (inl (record { push = refl; unsigned = refl; no_source = refl; no_colon = refl; refusal = refl }))
+nothing_refused : ReasonRefuses Push [] → IsRefused Push [] Empty
+nothing_refused law = law Normal [] None Empty (record { signed = (refl, tt); last = tt }) (inl (record { push = refl; unsigned = refl; no_source = refl; no_colon = refl; refusal = refl }))
 
-pub empty_line_pushed : (rest before after : List ℕ) (status : ℕ) → Answers command.CanonPush (Some (codes "\n")) (Some rest) (Some before) (Some after) status → (rest ≡ []) × (after ≡ before ++ codes "err Empty\n") × (status ≡ 1)
-empty_line_pushed rest before after status a =
-    let ends = ends_by Push [] (refused Empty) a.input a.output rest before after a.refusal status tt (only_refused Push [] Empty nothing_refused) a.read a.is a.written a.tells in
+pub empty_line_pushed : ReasonRefuses Push [] → OneRefusal Push [] → (rest before after : List ℕ) (status : ℕ) → Answers command.CanonPush (Some (codes "\n")) (Some rest) (Some before) (Some after) status → (rest ≡ []) × (after ≡ before ++ codes "err Empty\n") × (status ≡ 1)
+empty_line_pushed refuses one rest before after status a =
+    let ends = ends_by Push [] (refused Empty) a.input a.output rest before after a.refusal status tt (only_refused Push [] Empty one (nothing_refused refuses)) a.read a.is a.written a.tells in
     (ends.left, ends.written, ends.tells)

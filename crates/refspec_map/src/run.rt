@@ -10,7 +10,7 @@ use crate::command::Command;
 use crate::fault::Fault;
 use crate::input::read_input;
 use crate::matching::{lhs_lines, planned, rhs_lines};
-use gix_refspec::parsing::Operation;
+use gix_refspec::{Operation, laws};
 use std::alloc::Global;
 use std::io::{Read, Write};
 
@@ -55,7 +55,10 @@ pub fn run<R: Read, W: Write>(
 /// a caller of [`run`] this fact about what was written.
 pub fn plan_once()
     ensures { PlanOnce }
-{}
+{
+    laws::plans_apart();
+    laws::no_control_character();
+}
 
 /// The error of `Fault::Spec` is the first reason against a text, and never `Error::Memory`.
 pub fn spec_is_refused()

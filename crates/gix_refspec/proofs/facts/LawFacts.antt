@@ -26,6 +26,7 @@ use Rattle.refspec_text.specs.declared.oid.Error.{Error as IdError}
 use Rattle.refspec_text.specs.declared.oid.Error.TheVariants.{Length}
 use Rattle.refspec_text.specs.Matching.Prefix.{IsAsked, IsPrefix, Expands, to_prefix, to_candidates}
 use Rattle.refspec_text.specs.Laws.Covering.{IsCovering, HasCoveringSource}
+use Rattle.gix_refspec.specs.Laws.Reasons.{ReasonRefuses}
 use Rattle.gix_refspec.specs.Laws.Matching.{MapAlike, AreReadAgain, AsksFor, AtSpec, EachSource, Transpose, Cover, CoverTogether, FetchGroupReadsBack, IsCoveredBy, IsSourceAmong, IsDestinationAmong, GoesBothWays, ReadsAgainAs, BeginsWithOne, AreExpansions}
 use Rattle.refspec_text.proofs.lemmas.texts.TextLemmas.{Lacks-Holds}
 use Rattle.refspec_text.proofs.lemmas.texts.TestedLemmas.{IsName-tested}
@@ -276,6 +277,12 @@ one_reason law empty = elim (law PatternUnbalanced NegativeEmpty unbalanced_fetc
 
     no_name : (a : NameError) → PatternUnbalanced ≢ ReferenceName a
     no_name a same = cc
+
+-- a text has no reading where a reason is against its parts
+pub star_unread : ReasonRefuses Fetch (codes "a*") → (r : Reading) → ¬ (Reads Fetch (codes "a*") r)
+star_unread law =
+    let bad = unbalanced_fetches.5 in
+    (law bad.mode bad.source bad.destination PatternUnbalanced bad.parts bad.first).unread
 
 -- what reads for an operation is for it
 pub reads_for_fetch : KeepsOperation Fetch (codes "main") → (r : Reading) → Reads Fetch (codes "main") r → r.operation ≡ Fetch

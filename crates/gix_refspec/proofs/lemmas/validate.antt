@@ -9,5 +9,6 @@ pub mod AfterLemmas
 pub mod PlaceFitLemmas
 pub mod MadeAtLemmas
 pub mod PlacedOnceLemmas
+pub mod PlanLemmas
 pub mod ClearLemmas
 pub mod RefNameLemmas

@@ -1,31 +1,26 @@
 -- What is mapped holds no control character, where no name of an item does.
-use Rattle.std.proofs.Common.{◌≡◌, ◌≢◌, inl, inr, ℕ, ◌+◌, ◌<◌, ◌||◌, Bool, true, false, if◌then◌else◌, List, [], ◌∷◌, ◌++◌, Option, None, Some, codes, get_or, map, sym, ap, ◌∙◌, subst, nat_eq, arith}
-use Rattle.std.specs.List.{AllByRecursion, starts_with}
-use Rattle.std.proofs.lemmas.Bool.{eqb-true, false≢true}
+use Rattle.std.proofs.Common.{◌≡◌, ◌≢◌, inl, inr, ℕ, ◌+◌, ◌<◌, ◌==◌, ◌&&◌, ◌||◌, Bool, true, false, IsTrue, nat_le, if◌then◌else◌, List, [], ◌∷◌, ◌++◌, Option, None, Some, codes, get_or, map, sym, ap, ◌∙◌, subst, nat_eq, arith}
+use Rattle.std.specs.List.{AllByRecursion, list_any, starts_with}
+use Rattle.std.proofs.lemmas.Bool.{eqb-true, false≢true, lt-leb, lt-ltb}
 use Rattle.refspec_text.specs.Texts.Words.{Lacks}
 use Rattle.refspec_text.specs.Texts.Bytes.{star}
+use Rattle.refspec_text.specs.Texts.Name.{is_refused_byte}
 use Rattle.refspec_text.specs.Texts.ObjectId.{IsIdText, is_lower_digit, lower_of}
 use Rattle.refspec_text.specs.Specs.Reading.{Reading}
 use Rattle.refspec_text.specs.Matching.Side.{SideKind, pattern, full_name, object, partial, HasKind, filled}
 use Rattle.refspec_text.specs.Matching.Match.{Ref, MatchesAs, Takes}
 use Rattle.refspec_match.specs.Matching.Lists.{IsMadeFrom, IsJoinedFrom}
-use Rattle.refspec_match.specs.Matching.Mappings.{Start, name, id, Mapped, IsKeptAt}
+use Rattle.refspec_match.specs.Matching.Mappings.{Mapped, IsKeptAt}
 use Rattle.refspec_match.specs.Matching.Hits.{Ends, AreForwardEnds, AreSpecHits, IsFilled, Hit, IsHit, IsIdMapping, AreKeptForward, forward_of}
 use Rattle.refspec_text.proofs.lemmas.texts.TextLemmas.{Lacks-from_places}
 use Rattle.refspec_text.proofs.lemmas.texts.ObjectIdLemmas.{IsLowerText-lower_of, decode_of-IsIdText}
 use Rattle.gix_refspec.proofs.lemmas.validate.AfterLemmas.{stays_each}
-use Rattle.gix_refspec.proofs.lemmas.validate.PlacedOnceLemmas.{LacksIn, SidesLack}
+use Rattle.gix_refspec.specs.Laws.Plans.{LacksIn, MappedLacks, NoControlCharacter, SidesLack, StartLacks}
+use Rattle.gix_refspec.proofs.lemmas.validate.PlacedOnceLemmas.{printed_lacks, sides_lack}
 use Rattle.refspec_match.proofs.lemmas.keep.RepeatLemmas.{all_join, all_left, all_right}
 use Rattle.hex.proofs.HexLemmas.{decode_of-ok}
 
--- what a mapping begins with holds no byte b, as it is printed
-abbrev pub StartLacks : ℕ → Start → Type 0
-StartLacks b (name n) = Lacks b n
-StartLacks b (id i) = Lacks b (lower_of i)
-
-abbrev pub MappedLacks : ℕ → Mapped → Type 0
-MappedLacks b m = StartLacks b m.source × LacksIn b m.destination
-
+-- a hit holds no byte b
 abbrev HitLacks : ℕ → Hit → Type 0
 HitLacks b h = Lacks b h.near × LacksIn b h.far
 
@@ -104,8 +99,24 @@ module _ (b : ℕ) (below : b < 32) (no_digit : is_lower_digit b ≡ false) wher
   )
 
   -- so it is with each mapping that is kept
-  pub kept_lacks : (g : List Reading) (items : List Ref) (l : List Mapped) → AllByRecursion (SidesLack b) g → AllByRecursion (λ r. Lacks b r.name) items → AreKeptForward g items l → AllByRecursion (MappedLacks b) l
+  kept_lacks : (g : List Reading) (items : List Ref) (l : List Mapped) → AllByRecursion (SidesLack b) g → AllByRecursion (λ r. Lacks b r.name) items → AreKeptForward g items l → AllByRecursion (MappedLacks b) l
   kept_lacks g items l sides names kept =
       let are = kept.forward in
       stays_each (λ k m. IsKeptAt g kept.all k m) (MappedLacks b) 0 kept.all l
       (subst (AllByRecursion (MappedLacks b)) (sym are.all) (all_join (MappedLacks b) are.ids (map forward_of are.hits) (ids_lack 0 g are.ids sides are.are_ids) (forward_lacks are.hits (group_lacks items 0 g are.hits names sides are.are_hits)))) kept.is
+
+-- a name may not hold a control character, and no digit is one
+control_refused : (b : ℕ) → b < 32 → IsTrue (is_refused_byte b)
+control_refused b below = ap (λ t. t || b == 127 || list_any (λ c. b == c) (codes " ~^:?[\\")) (lt-ltb b 32 below)
+
+control_no_digit : (b : ℕ) → b < 32 → is_lower_digit b ≡ false
+control_no_digit b below =
+    ap (λ t. t && nat_le b 57 || nat_le 97 b && nat_le b 102) (lt-leb 48 b (omega (arith, below)))
+    ∙ ap (λ t. t && nat_le b 102) (lt-leb 97 b (omega (arith, below)))
+
+pub no_control_character : NoControlCharacter
+no_control_character = record {
+  sides = λ b text r below reads. sides_lack b below (control_refused b below) text r reads;
+  texts = λ b text r canonical below reads prints. printed_lacks b below (control_refused b below) text r canonical reads prints;
+  mapped = λ b g items l below sides names kept. kept_lacks b below (control_no_digit b below) g items l sides names kept;
+}

@@ -17,6 +17,7 @@ use Rattle.refspec_text.specs.Texts.ObjectId.{IsIdText}
 use Rattle.refspec_match.specs.Matching.Mappings.{id, Mapped, IsKeptAt}
 use Rattle.refspec_match.specs.Matching.Hits.{Hit, IsIdMapping, AreKeptForward, forward_of}
 use Rattle.gix_refspec.specs.Matching.Validation.{IsFix, MeetAt, NeverMeet, Removed}
+use Rattle.gix_refspec.specs.Laws.Plans.{AreFixesApart, LacksIn, SidesLack}
 use Rattle.refspec_text.proofs.lemmas.texts.TextLemmas.{Lacks-from_absent}
 use Rattle.refspec_text.proofs.lemmas.texts.HeadLemmas.{IsName-head}
 use Rattle.refspec_text.proofs.lemmas.specs.FormsBackLemmas.{some_once}
@@ -26,11 +27,6 @@ use Rattle.gix_refspec.proofs.lemmas.validate.PlaceFitLemmas.{stands_behind}
 use Rattle.refspec_match.proofs.lemmas.keep.RepeatLemmas.{all_join, all_left, all_right}
 
 -- ---- fixes
-
--- no two of the fixes have one destination
-abbrev pub AreFixesApart : List Removed → Type 0
-AreFixesApart [] = Unit {0}
-AreFixesApart (f ∷ fixes) = AllByRecursion (λ h. h.destination ≢ f.destination) fixes × AreFixesApart fixes
 
 -- what no mapping meets, no fix has as its destination
 others_apart : (g : List Reading) (x : Mapped) (d : List ℕ) → x.destination ≡ Some d → (k : ℕ) (xs : List Mapped) (fixes : List Removed) → AllByRecursion (λ n. ¬ (MeetAt x n)) xs → IsMadeFrom (λ j m fix. IsFix g m fix) k xs fixes → AllByRecursion (λ h. h.destination ≢ d) fixes
@@ -43,12 +39,6 @@ pub fixes_apart : (g : List Reading) (k : ℕ) (l : List Mapped) (fixes : List R
 fixes_apart g k [] fixes apart empty = subst AreFixesApart (sym empty) tt
 fixes_apart g k (m ∷ l) fixes apart (None, rest, no_fix, more, is) = subst AreFixesApart (sym is) (fixes_apart g (k + 1) l rest apart.1 more)
 fixes_apart g k (m ∷ l) fixes apart (Some f, rest, fix, more, is) = subst AreFixesApart (sym is) (others_apart g m f.destination fix.goes (k + 1) l rest apart.0 more, fixes_apart g (k + 1) l rest apart.1 more)
-
--- each fix has a spec of the group
-pub fixes_of_group : (P : Reading → Type 0) (g : List Reading) → ((k : ℕ) (r : Reading) → slice_get g k ≡ Some r → P r) → (k : ℕ) (l : List Mapped) (fixes : List Removed) → IsMadeFrom (λ j m fix. IsFix g m fix) k l fixes → AllByRecursion (λ f. P f.spec) fixes
-fixes_of_group P g each k [] fixes empty = subst (AllByRecursion (λ f. P f.spec)) (sym empty) tt
-fixes_of_group P g each k (m ∷ l) fixes (None, rest, no_fix, more, is) = subst (AllByRecursion (λ f. P f.spec)) (sym is) (fixes_of_group P g each (k + 1) l rest more)
-fixes_of_group P g each k (m ∷ l) fixes (Some f, rest, fix, more, is) = subst (AllByRecursion (λ f. P f.spec)) (sym is) (each m.spec f.spec fix.spec, fixes_of_group P g each (k + 1) l rest more)
 
 -- ---- mappings of ids
 
@@ -90,15 +80,6 @@ one_id g m n of_m of_n no_m no_n spec =
     is.source ∙ ap id bytes ∙ sym also.source
 
 -- ---- canonical texts
-
--- what is there holds no byte b
-abbrev pub LacksIn : ℕ → Option (List ℕ) → Type 0
-LacksIn b None = Unit {0}
-LacksIn b (Some d) = Lacks b d
-
--- nor do the sides of a reading
-abbrev pub SidesLack : ℕ → Reading → Type 0
-SidesLack b r = LacksIn b r.source × LacksIn b r.destination
 
 -- a fetch, whose sides hold no byte b
 record IsClearFetch (b : ℕ) (r : Reading) : Type 0 where

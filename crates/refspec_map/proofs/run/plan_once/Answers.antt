@@ -1,6 +1,6 @@
--- What is kept has its places, and canonical texts hold no tab.
+-- By the laws on plans, what is told apart is written apart.
 use Rattle.refspec_map.proofs.PlanOnceLemmas.{plan_once}
 use Rattle.refspec_map.proofs.run.plan_once.Goals as goal
 
 pub returns : goal.returns
-returns c = plan_once
+returns c = plan_once c.plans_apart.ensures c.no_control_character.ensures

@@ -1,0 +1,77 @@
+-- The words of the laws on plans, on each side of what they ask, and what a caller concludes from these laws.
+use Rattle.std.proofs.Common.{◌≡◌, ◌≢◌, ℕ, List, [], ◌∷◌, None, Some, codes, refl, sym, ap, subst, arith}
+use Rattle.std.specs.List.{AllByRecursion}
+use Rattle.refspec_text.specs.declared.parsing.Operation.TheVariants.{Fetch}
+use Rattle.refspec_text.specs.Texts.Words.{Lacks}
+use Rattle.refspec_text.specs.Specs.Reading.{Reading}
+use Rattle.refspec_text.specs.Specs.Grammar.{Reads}
+use Rattle.refspec_text.specs.Specs.Meaning.{printed}
+use Rattle.refspec_text.specs.Matching.Match.{Ref}
+use Rattle.refspec_match.specs.Matching.Mappings.{id, Mapped}
+use Rattle.refspec_match.specs.Matching.Hits.{AreKeptForward}
+use Rattle.gix_refspec.specs.Matching.Validation.{Removed, IsValidated}
+use Rattle.gix_refspec.specs.Laws.Plans.{AreFixesApart, HaveStartsByPlace, LacksIn, MappedLacks, NoControlCharacter, PlansApart, SidesLack, StartLacks}
+use Rattle.refspec_text.proofs.facts.FitFacts.{other_byte}
+use Rattle.refspec_text.proofs.facts.ManualFacts.{Lacks-tested}
+use Rattle.refspec_text.proofs.facts.ObjectIdFacts.{empty_blob, lower_of-empty_blob}
+use Rattle.refspec_match.proofs.facts.MatchFacts.{branch_to_x, bytes_in, mapping, tag_alone, tag_to_x}
+use Rattle.gix_refspec.proofs.facts.ValidationFacts.{foo_fix}
+
+-- ---- what is told apart
+
+-- as the tag alone, at its places
+abbrev branch_alone : Mapped
+branch_alone = mapping 0 (codes "refs/heads/a") None 1
+
+-- two sources have two items or two specs
+pub starts : HaveStartsByPlace (tag_to_x ∷ branch_to_x ∷ []) × ¬ (HaveStartsByPlace (tag_alone ∷ branch_alone ∷ []))
+starts = (
+  (((λ spec item. absurd (omega (arith, spec))), tt), (tt, tt)),
+  λ have. other_byte 5 (codes "refs/tags/a") (codes "refs/heads/a") (λ byte. omega (arith, byte)) (ap bytes_in (have.0.0 refl refl)),
+)
+
+-- a fix is there once
+pub fixes : AreFixesApart (foo_fix ∷ []) × ¬ (AreFixesApart (foo_fix ∷ foo_fix ∷ []))
+fixes = ((tt, tt), λ apart. apart.0.0 refl)
+
+-- by the law no mapping and no fix is there twice, and no place has two sources
+pub no_mapping_twice : PlansApart → (g : List Reading) (items : List Ref) (l : List Mapped) (out : List Removed) → AreKeptForward g items l → ¬ (IsValidated g l (tag_to_x ∷ tag_to_x ∷ []) out)
+no_mapping_twice law g items l out kept valid = (law g items l (tag_to_x ∷ tag_to_x ∷ []) out kept valid).pairs.0.0 (record { source = refl; destination = refl })
+
+pub no_fix_twice : PlansApart → (g : List Reading) (items : List Ref) (l rest : List Mapped) → AreKeptForward g items l → ¬ (IsValidated g l rest (foo_fix ∷ foo_fix ∷ []))
+no_fix_twice law g items l rest kept valid = fixes.1 (law g items l rest (foo_fix ∷ foo_fix ∷ []) kept valid).fixed
+
+pub no_place_twice : PlansApart → (g : List Reading) (items : List Ref) (l : List Mapped) (out : List Removed) → AreKeptForward g items l → ¬ (IsValidated g l (tag_alone ∷ branch_alone ∷ []) out)
+no_place_twice law g items l out kept valid = starts.1 (law g items l (tag_alone ∷ branch_alone ∷ []) out kept valid).starts
+
+-- ---- control characters
+
+-- a newline is in neither side, and may be in one
+abbrev two_lines : Mapped
+two_lines = mapping 0 (codes "a\nb") None 0
+
+pub lacks : MappedLacks 10 tag_to_x × MappedLacks 10 tag_alone × ¬ (MappedLacks 10 two_lines) × ¬ (MappedLacks 10 (mapping 0 (codes "a") (Some (codes "b\n")) 0))
+lacks = (
+  (Lacks-tested 10 (codes "refs/tags/a") refl, Lacks-tested 10 (codes "refs/x/a") refl),
+  (Lacks-tested 10 (codes "refs/tags/a") refl, tt),
+  (λ lack. lack.0.1.0 refl),
+  λ lack. lack.1.1.0 refl,
+)
+
+-- of an id the digits count, in lower case
+pub digits_lack : StartLacks 69 (id empty_blob) × ¬ (StartLacks 101 (id empty_blob))
+digits_lack = (
+  subst (Lacks 69) (sym lower_of-empty_blob) (Lacks-tested 69 (codes "e69de29bb2d1d6434b8b29ae775ad8c2e48c5391") refl),
+  λ lack. (subst (Lacks 101) lower_of-empty_blob lack).0 refl,
+)
+
+-- by the law no fetch has a newline in its source, nor a tab in its canonical text
+pub no_newline_read : NoControlCharacter → (text : List ℕ) (r : Reading) → Reads Fetch text r → r.source ≢ Some (codes "a\nb")
+no_newline_read law text r reads same = (subst (LacksIn 10) same (law.sides 10 text r (omega arith) reads).0).1.0 refl
+
+pub no_tab_printed : NoControlCharacter → (text : List ℕ) (r : Reading) → Reads Fetch text r → printed r ≢ Some (codes "a\tb")
+no_tab_printed law text r reads same = (law.texts 9 text r (codes "a\tb") (omega arith) reads same).1.0 refl
+
+-- and none is mapped where no name has it
+pub no_newline_mapped : NoControlCharacter → (g : List Reading) (items : List Ref) → AllByRecursion (SidesLack 10) g → AllByRecursion (λ r. Lacks 10 r.name) items → ¬ (AreKeptForward g items (two_lines ∷ []))
+no_newline_mapped law g items sides names kept = lacks.2 (law.mapped 10 g items (two_lines ∷ []) (omega arith) sides names kept).0

@@ -1,0 +1,6 @@
+-- Places tell sources apart, and no destination is in conflict.
+use Rattle.gix_refspec.proofs.lemmas.validate.PlanLemmas.{plans_apart}
+use Rattle.gix_refspec.proofs.laws.plans_apart.Goals as goal
+
+pub returns : goal.returns
+returns c = plans_apart

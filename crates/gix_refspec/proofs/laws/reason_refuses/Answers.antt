@@ -1,0 +1,6 @@
+-- What a reason is against has no reading.
+use Rattle.refspec_text.proofs.lemmas.parsing.ReadsLemmas.{refused}
+use Rattle.gix_refspec.proofs.laws.reason_refuses.Goals as goal
+
+pub returns : goal.returns
+returns c = λ mode source destination e parts first. refused c.args.operation mode source destination c.args.text.now e parts first
