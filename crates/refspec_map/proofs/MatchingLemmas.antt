@@ -24,6 +24,7 @@ use Rattle.refspec_map.specs.Matching.{map_line, AreMapLines, IsMatching}
 use Rattle.refspec_map.specs.Told.{AsksForNoId, HasIdDestination, told_ref, bare, named, AreEntries}
 use Rattle.refspec_map.specs.Plan.{AreFixLines, IsPlan, PutsFixes, conflict_line}
 use Rattle.gix_refspec.specs.Matching.Hits.{AreKeptForward, AreKeptBackward}
+use Rattle.gix_refspec.specs.Laws.Items.{NamesDecide}
 use Rattle.refspec_map.proofs.NameLemmas.{kept_by_name, kept_back_by_name}
 
 -- one item more
@@ -68,36 +69,36 @@ IsMatching-of A Writes input output refusal made items refs are lent same is =
     }
 
 -- what is written for items is written for refs that have their names
-abbrev pub IsByName : (List Reading → List Ref → List ℕ → Bool → Type 0) → List Reading → Type 0
-IsByName Writes g = (items : List Item) (refs : List Ref) (output : List ℕ) (refusal : Bool) → map named items ≡ map bare refs → Writes g (map ref_of items) output refusal → Writes g refs output refusal
+abbrev pub IsByName : (List Reading → List Ref → List ℕ → Bool → Type 0) → List Reading → List Item → Type 0
+IsByName Writes g items = (refs : List Ref) (output : List ℕ) (refusal : Bool) → map named items ≡ map bare refs → Writes g (map ref_of items) output refusal → Writes g refs output refusal
 
-pub map_lines_by_name : (g : List Reading) → IsByName (AreMapLines AreKeptForward) g
-map_lines_by_name g items refs output refusal same is = record {
+pub map_lines_by_name : (g : List Reading) (items : List Item) → NamesDecide g (map ref_of items) → IsByName (AreMapLines AreKeptForward) g items
+map_lines_by_name g items law refs output refusal same is = record {
   mappings = is.mappings;
-  kept = kept_by_name g items refs is.mappings same is.kept;
+  kept = kept_by_name g items refs is.mappings law same is.kept;
   written = is.written;
   tells = is.tells;
 }
 
-pub map_lines_back_by_name : (g : List Reading) → AsksForNoId g → IsByName (AreMapLines AreKeptBackward) g
-map_lines_back_by_name g none items refs output refusal same is = record {
+pub map_lines_back_by_name : (g : List Reading) (items : List Item) → AsksForNoId g → IsByName (AreMapLines AreKeptBackward) g items
+map_lines_back_by_name g items none refs output refusal same is = record {
   mappings = is.mappings;
   kept = kept_back_by_name g items refs is.mappings none same is.kept;
   written = is.written;
   tells = is.tells;
 }
 
-pub plan_by_name : (g : List Reading) → IsByName IsPlan g
-plan_by_name g items refs output refusal same is = record { mappings = is.mappings; kept = kept_by_name g items refs is.mappings same is.kept; shows = is.shows }
+pub plan_by_name : (g : List Reading) (items : List Item) → NamesDecide g (map ref_of items) → IsByName IsPlan g items
+plan_by_name g items law refs output refusal same is = record { mappings = is.mappings; kept = kept_by_name g items refs is.mappings law same is.kept; shows = is.shows }
 
 -- what is written for the specs and names that were read is written for the input
-pub IsMatching-named : {A : Type 0} (blank : A) (Writes : List Reading → List Ref → List ℕ → Bool → Type 0) (input output : List ℕ) (refusal : Bool) (made : Entries) (items : List Item) → IsByName Writes (map reading_of made.specs.items) → AreEntries (Some blank) input made → items ≡ made.items.items → Writes (map reading_of made.specs.items) (map ref_of items) output refusal → IsMatching Writes input output refusal
+pub IsMatching-named : {A : Type 0} (blank : A) (Writes : List Reading → List Ref → List ℕ → Bool → Type 0) (input output : List ℕ) (refusal : Bool) (made : Entries) (items : List Item) → IsByName Writes (map reading_of made.specs.items) items → AreEntries (Some blank) input made → items ≡ made.items.items → Writes (map reading_of made.specs.items) (map ref_of items) output refusal → IsMatching Writes input output refusal
 IsMatching-named blank Writes input output refusal made items by are lent is = record {
   lines = are.lines;
   entries = are.entries;
   cut = are.cut;
   given = are.given;
-  is = subst (λ (g : List Reading). Writes g (refs_in are.entries) output refusal) are.specs (by items (refs_in are.entries) output refusal (ap (map named) lent ∙ are.refs) is);
+  is = subst (λ (g : List Reading). Writes g (refs_in are.entries) output refusal) are.specs (by (refs_in are.entries) output refusal (ap (map named) lent ∙ are.refs) is);
 }
 
 no_ids_append : (g h : List Reading) → AsksForNoId g → AsksForNoId h → AsksForNoId (g ++ h)

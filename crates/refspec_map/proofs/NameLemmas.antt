@@ -1,15 +1,16 @@
 -- Refs are taken by their names alone, where no id is asked for.
 use Rattle.std.specs.List.{AllByRecursion}
 use Rattle.std.proofs.Common.{◌≡◌, inl, inr, ℕ, ◌+◌, Option, None, Some, List, [], ◌∷◌, map, sym, ap, ◌∙◌, subst, refl}
-use Rattle.refspec_match.proofs.lemmas.keep.RepeatLemmas.{all_weaker}
+use Rattle.bstr.specs.BStr.{bstr_bytes}
 use Rattle.refspec_match.specs.declared.types.Item.{Item}
 use Rattle.gix_refspec.specs.Specs.Reading.{Reading}
 use Rattle.gix_refspec.specs.Matching.Lists.{IsMadeFrom, IsJoinedFrom}
 use Rattle.gix_refspec.specs.Matching.Mappings.{Mapped}
 use Rattle.gix_refspec.specs.Matching.Side.{SideKind, pattern, full_name, object, partial, HasKind, IsCandidate, Fits}
-use Rattle.gix_refspec.specs.Matching.Match.{Ref, Matches, MatchesAs, HasName, IsFirstCandidate, Takes}
-use Rattle.gix_refspec.specs.Matching.Hits.{Ends, AreForwardEnds, AreBackwardEnds, Hit, IsHit, AreSpecHits, AreKeptForward, AreKeptBackward}
+use Rattle.gix_refspec.specs.Matching.Match.{Ref, Matches, MatchesAs}
+use Rattle.gix_refspec.specs.Matching.Hits.{Ends, AreBackwardEnds, Hit, IsHit, AreSpecHits, AreKeptForward, AreKeptBackward}
 use Rattle.gix_refspec.specs.Views.Group.{ref_of}
+use Rattle.gix_refspec.specs.Laws.Items.{NamesDecide}
 use Rattle.refspec_map.specs.Told.{AsksForNoId, HasIdDestination, bare, named}
 
 -- the refs have the same names, one by one
@@ -28,40 +29,12 @@ names_of (r ∷ rs) (s ∷ ss) same =
     let more : map bare rs ≡ map bare ss = cc in
     (ap (λ (q : Ref). q.name) one, names_of rs ss more)
 
-names_back : (rs ss : List Ref) → SameNames rs ss → SameNames ss rs
-names_back [] [] same = tt
-names_back [] (s ∷ ss) same = absurd same
-names_back (r ∷ rs) [] same = absurd same
-names_back (r ∷ rs) (s ∷ ss) same = (sym same.0, names_back rs ss same.1)
-
-has_name : (rs ss : List Ref) (n : List ℕ) → SameNames rs ss → HasName rs n → HasName ss n
-has_name [] [] n same has = absurd has
-has_name [] (s ∷ ss) n same has = absurd same
-has_name (r ∷ rs) [] n same has = absurd same
-has_name (r ∷ rs) (s ∷ ss) n same (inl is) = inl (sym same.0 ∙ is)
-has_name (r ∷ rs) (s ∷ ss) n same (inr has) = inr (has_name rs ss n same.1 has)
-
-first_candidate : (rs ss : List Ref) (x n : List ℕ) → SameNames rs ss → IsFirstCandidate rs x n → IsFirstCandidate ss x n
-first_candidate rs ss x n same first = record {
-  earlier = first.earlier;
-  later = first.later;
-  here = first.here;
-  absent = all_weaker (λ m. ¬ (HasName rs m)) (λ m. ¬ (HasName ss m)) (λ m none has. none (has_name ss rs m (names_back rs ss same) has)) first.earlier first.absent;
-  present = has_name rs ss n same first.present;
-}
-
 matches_as : (kind : SideKind) (x : List ℕ) (r s : Ref) (word : Option (List ℕ)) → r.name ≡ s.name → ((id : List ℕ) → ¬ (HasKind x (object id))) → HasKind x kind → MatchesAs kind r word → MatchesAs kind s word
 matches_as (pattern before after) x r s None same no_id of is = absurd is
 matches_as (pattern before after) x r s (Some word) same no_id of is = subst (λ n. Fits before after n word) same is
 matches_as (full_name n) x r s word same no_id of is = (is.0, sym same ∙ is.1)
 matches_as (object id) x r s word same no_id of is = absurd (no_id id of)
 matches_as (partial n) x r s word same no_id of is = (is.0, subst (IsCandidate n) same is.1)
-
-takes_as : (rs ss : List Ref) (x : List ℕ) (r s : Ref) (word : Option (List ℕ)) → SameNames rs ss → r.name ≡ s.name → ((id : List ℕ) → ¬ (HasKind x (object id))) → Takes rs x r word → Takes ss x s word
-takes_as rs ss x r s word all same no_id takes = record {
-  matches = record { kind = takes.matches.kind; of = takes.matches.of; is = matches_as takes.matches.kind x r s word same no_id takes.matches.of takes.matches.is };
-  first = λ n is. first_candidate rs ss n s.name all (subst (IsFirstCandidate rs n) same (takes.first n is));
-}
 
 -- which refs a near side takes
 abbrev Taken : Type 1
@@ -118,32 +91,17 @@ bare_items (i ∷ items) = ap (λ l. named i ∷ l) (bare_items items)
 same_names : (items : List Item) (refs : List Ref) → map named items ≡ map bare refs → SameNames (map ref_of items) refs
 same_names items refs same = names_of (map ref_of items) refs (bare_items items ∙ same)
 
--- from left to right no near side is an id
-forward_carries : (rs ss : List Ref) (g : List Reading) → SameNames rs ss → AllByRecursion (λ r. (ends : Ends) → AreForwardEnds r ends → CarriesBoth (Takes rs) (Takes ss) ends.near) g
-forward_carries rs ss [] same = tt
-forward_carries rs ss (r ∷ g) same = (
-  (λ ends has. (
-    (λ q s word is. takes_as rs ss ends.near q s word same is has.no_object),
-    (λ q s word is. takes_as ss rs ends.near q s word (names_back rs ss same) is has.no_object),
-  )),
-  forward_carries rs ss g same,
-)
+same_ref_names : (items : List Item) → map (λ (r : Ref). r.name) (map ref_of items) ≡ map (λ (r : Ref). r.name) (map named items)
+same_ref_names [] = refl
+same_ref_names (i ∷ items) = ap (λ (l : List (List ℕ)). bstr_bytes i.full_ref_name ∷ l) (same_ref_names items)
 
--- what is kept of items is kept of refs that have their names
-pub kept_by_name : (g : List Reading) (items : List Item) (refs : List Ref) (l : List Mapped) → map named items ≡ map bare refs → AreKeptForward g (map ref_of items) l → AreKeptForward g refs l
-kept_by_name g items refs l same kept =
-    let names = same_names items refs same in
-    record {
-      all = kept.all;
-      forward = record {
-        ids = kept.forward.ids;
-        hits = kept.forward.hits;
-        are_ids = kept.forward.are_ids;
-        are_hits = hits_as AreForwardEnds (Takes (map ref_of items)) (Takes refs) (map ref_of items) refs 0 g kept.forward.hits names (forward_carries (map ref_of items) refs g names) kept.forward.are_hits;
-        all = kept.forward.all;
-      };
-      is = kept.is;
-    }
+bare_names : (refs : List Ref) → map (λ (r : Ref). r.name) (map bare refs) ≡ map (λ (r : Ref). r.name) refs
+bare_names [] = refl
+bare_names (r ∷ refs) = ap (λ (l : List (List ℕ)). r.name ∷ l) (bare_names refs)
+
+-- from left to right what is kept of items is kept of refs that have their names, as names decide
+pub kept_by_name : (g : List Reading) (items : List Item) (refs : List Ref) (l : List Mapped) → NamesDecide g (map ref_of items) → map named items ≡ map bare refs → AreKeptForward g (map ref_of items) l → AreKeptForward g refs l
+kept_by_name g items refs l law same kept = law refs (same_ref_names items ∙ ap (map (λ (r : Ref). r.name)) same ∙ bare_names refs) l kept
 
 matches_back : (x : List ℕ) (r s : Ref) (word : Option (List ℕ)) → r.name ≡ s.name → ((id : List ℕ) → ¬ (HasKind x (object id))) → Matches x r word → Matches x s word
 matches_back x r s word same no_id is = record { kind = is.kind; of = is.of; is = matches_as is.kind x r s word same no_id is.of is.is }
@@ -151,7 +109,7 @@ matches_back x r s word same no_id is = record { kind = is.kind; of = is.of; is 
 no_object : (r : Reading) (ends : Ends) → ¬ (HasIdDestination r) → AreBackwardEnds r ends → (id : List ℕ) → ¬ (HasKind ends.near (object id))
 no_object r ends none has id is = none (ends.near, has.near, (id, is.2))
 
--- from right to left none is where no destination is one
+-- from right to left no near side is an id where no destination is one
 backward_carries : (g : List Reading) → AsksForNoId g → AllByRecursion (λ r. (ends : Ends) → AreBackwardEnds r ends → CarriesBoth Matches Matches ends.near) g
 backward_carries [] none = tt
 backward_carries (r ∷ g) none = (
@@ -162,7 +120,7 @@ backward_carries (r ∷ g) none = (
   backward_carries g none.1,
 )
 
--- so too from right to left, where no destination is an id
+-- and from right to left, where no destination is an id
 pub kept_back_by_name : (g : List Reading) (items : List Item) (refs : List Ref) (l : List Mapped) → AsksForNoId g → map named items ≡ map bare refs → AreKeptBackward g (map ref_of items) l → AreKeptBackward g refs l
 kept_back_by_name g items refs l none same kept = record {
   all = kept.all;

@@ -17,7 +17,7 @@ use crate::plan::plan;
 use bstr::ByteSlice;
 use gix_refspec::match_group::Item;
 use gix_refspec::oid::{Kind, ObjectId};
-use gix_refspec::{MatchGroup, RefSpecRef};
+use gix_refspec::{MatchGroup, RefSpecRef, laws};
 use std::alloc::Global;
 
 /// The lines of the mappings from left to right, and false. They depend on no id of a ref.
@@ -29,7 +29,9 @@ pub(crate) fn lhs_lines(alloc: Global, input: &[u8]) -> Result<(Vec<u8>, bool), 
     let blank = ObjectId::null(Kind::Sha1);
     let Entries { specs, items, .. } = Entries::read(alloc, input, Some(&blank))?;
     let group = MatchGroup { specs };
-    let outcome = group.match_lhs(alloc, items.as_slice())?;
+    let items = items.as_slice();
+    laws::names_decide(&group, items);
+    let outcome = group.match_lhs(alloc, items)?;
     Ok((lines_of(alloc, outcome.mappings.as_slice())?, false))
 }
 
@@ -52,7 +54,10 @@ pub(crate) fn planned(alloc: Global, input: &[u8]) -> Result<(Vec<u8>, bool), Fa
 {
     let blank = ObjectId::null(Kind::Sha1);
     let Entries { specs, items, .. } = Entries::read(alloc, input, Some(&blank))?;
-    plan(alloc, MatchGroup { specs }, items.as_slice())
+    let group = MatchGroup { specs };
+    let items = items.as_slice();
+    laws::names_decide(&group, items);
+    plan(alloc, group, items)
 }
 
 // The same from the names of the refs alone. `None` if a destination is an id, which matches ids of refs.

@@ -12,4 +12,4 @@ pub returns-clause-ok : goal.returns-clause-ok
 returns-clause-ok c =
     let none = subst (λ (l : List RefSpecRef). AsksForNoId (map reading_of l)) c.as_slice.ensures.value (rw c.if-asks_for_ids.false at c.asks_for_ids.ensures) in
     let lines = AreMapLines-of AreKeptBackward (map reading_of c.in_ok-specs.field-0.specs.items) c.as_slice-2.result.now c.as_slice-2.result.now c.in_ok-outcome.outcome.mappings.items c.as_slice-3.result.now c.in_ok-lines_of.field-0.items refl c.as_slice-3.ensures.value c.in_ok-outcome.ensures.ok.1 c.in_ok-lines_of.ensures.ok in
-    IsMatching-named _ (AreMapLines AreKeptBackward) c.args.input.now _ _ c.in_ok-specs.field-0 c.as_slice-2.result.now (map_lines_back_by_name (map reading_of c.in_ok-specs.field-0.specs.items) none) c.in_ok-specs.ensures.ok c.as_slice-2.ensures.value lines
+    IsMatching-named _ (AreMapLines AreKeptBackward) c.args.input.now _ _ c.in_ok-specs.field-0 c.as_slice-2.result.now (map_lines_back_by_name (map reading_of c.in_ok-specs.field-0.specs.items) c.as_slice-2.result.now none) c.in_ok-specs.ensures.ok c.as_slice-2.ensures.value lines
