@@ -13,7 +13,7 @@ ghost use Rattle.gix_refspec.specs.Views.Group.{readings_of};
 ghost use Rattle.refspec_match.specs.Matching.Mappings.{IsSamePair};
 ghost use Rattle.refspec_match.specs.Matching.Hits.{KeptOnce, OneForward, OneBackward};
 ghost use Rattle.gix_refspec.specs.Laws.Matching.{Transpose, KeptExactly, FirstStays, NothingExcluded, MapAlike, FetchGroupReadsBack, EqualGroups, AreFetches, Cover, CoverTogether};
-ghost use Rattle.gix_refspec.specs.Laws.Items.{AskedItems, FewerItems, FilteredItems, ListedItems, FilteredByEntries, FilteredByList, NamesDecide};
+ghost use Rattle.gix_refspec.specs.Laws.Items.{AskedItems, FewerItems, FilteredItems, ListedItems, FilteredByEntries, FilteredByList, NamesDecide, NamesDecideBack};
 ghost use Rattle.gix_refspec.specs.Matching.Validation.{ForwardFits, PlacesFit, ValidatedOnce};
 ghost use Rattle.gix_refspec.specs.Laws.Validation.{OneValidation, CopiedOutcome};
 ghost use Rattle.gix_refspec.specs.Views.Issue.{IsSameFix, conflict_of, mappings_of};
@@ -242,6 +242,11 @@ pub fn fewer_items(group: &MatchGroup<'_>, items: &[Item<'_>], part: &[Item<'_>]
 /// mappings are. So a caller of `match_lhs` needs no id of a ref.
 pub fn names_decide(group: &MatchGroup<'_>, items: &[Item<'_>])
     ensures { NamesDecide (readings_of group.now) (map ref_of items.now) }
+{}
+
+/// From right to left they do so where no destination is an id, which matches by the ids of refs.
+pub fn names_decide_back(group: &MatchGroup<'_>, items: &[Item<'_>])
+    ensures { NamesDecideBack (readings_of group.now) (map ref_of items.now) }
 {}
 
 /// A client that lists only the refs whose names begin with an entry of what a group expands to loses

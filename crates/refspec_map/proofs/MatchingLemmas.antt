@@ -21,10 +21,10 @@ use Rattle.refspec_map.specs.declared.line.ToldRef.{ToldRef}
 use Rattle.refspec_map.specs.declared.line.Entries.{Entries}
 use Rattle.refspec_map.specs.Line.{refs_in}
 use Rattle.refspec_map.specs.Matching.{map_line, AreMapLines, IsMatching}
-use Rattle.refspec_map.specs.Told.{AsksForNoId, HasIdDestination, told_ref, bare, named, AreEntries}
+use Rattle.refspec_map.specs.Told.{told_ref, bare, named, AreEntries}
 use Rattle.refspec_map.specs.Plan.{AreFixLines, IsPlan, PutsFixes, conflict_line}
 use Rattle.gix_refspec.specs.Matching.Hits.{AreKeptForward, AreKeptBackward}
-use Rattle.gix_refspec.specs.Laws.Items.{NamesDecide}
+use Rattle.gix_refspec.specs.Laws.Items.{AsksForNoId, HasIdDestination, NamesDecide, NamesDecideBack}
 use Rattle.refspec_map.proofs.NameLemmas.{kept_by_name, kept_back_by_name}
 
 -- one item more
@@ -80,10 +80,10 @@ map_lines_by_name g items law refs output refusal same is = record {
   tells = is.tells;
 }
 
-pub map_lines_back_by_name : (g : List Reading) (items : List Item) → AsksForNoId g → IsByName (AreMapLines AreKeptBackward) g items
-map_lines_back_by_name g items none refs output refusal same is = record {
+pub map_lines_back_by_name : (g : List Reading) (items : List Item) → NamesDecideBack g (map ref_of items) → AsksForNoId g → IsByName (AreMapLines AreKeptBackward) g items
+map_lines_back_by_name g items law none refs output refusal same is = record {
   mappings = is.mappings;
-  kept = kept_back_by_name g items refs is.mappings none same is.kept;
+  kept = kept_back_by_name g items refs is.mappings law none same is.kept;
   written = is.written;
   tells = is.tells;
 }

@@ -1,12 +1,10 @@
 -- What the program holds of its input, as plain data.
 use Rattle.std.specs.Prelude.{◌≡◌, ℕ, List, [], ◌∷◌, ◌++◌, Option, None, Some, option_map, map, ⊤}
-use Rattle.std.specs.List.{AllByRecursion, AllZip}
+use Rattle.std.specs.List.{AllZip}
 use Rattle.bstr.specs.BStr.{bstr_bytes}
 use Rattle.refspec_match.specs.declared.types.Item.{Item}
 use Rattle.gix_refspec.specs.Texts.ObjectId.{id_bytes}
-use Rattle.gix_refspec.specs.Matching.Side.{IsId}
 use Rattle.gix_refspec.specs.Matching.Match.{Ref}
-use Rattle.gix_refspec.specs.Specs.Reading.{Reading}
 use Rattle.gix_refspec.specs.Views.Spec.{reading_of}
 use Rattle.refspec_map.specs.declared.line.ToldRef.{ToldRef}
 use Rattle.refspec_map.specs.declared.line.Said.{Said}
@@ -41,14 +39,6 @@ IsSeenAs (Some blank) r made = bare made ≡ bare r
 abbrev pub IsSaidAs : {A : Type 0} → Option A → List ℕ → Said → Type 0
 IsSaidAs blank line (said.Spec text) = Says line (spec (bstr_bytes text))
 IsSaidAs blank line (said.Ref t) = (r : Ref) × Says line (item r) × IsSeenAs blank r (told_ref t)
-
--- the destination of the spec is an id
-abbrev pub HasIdDestination : Reading → Type 0
-HasIdDestination r = (text : List ℕ) × (r.destination ≡ Some text) × IsId text
-
--- no destination of the specs is one
-abbrev pub AsksForNoId : List Reading → Type 0
-AsksForNoId g = AllByRecursion (λ r. ¬ (HasIdDestination r)) g
 
 -- what is kept of refs: all, or with a blank for their ids only their names
 abbrev pub seen : {A : Type 0} → Option A → List Ref → List Ref

@@ -4,11 +4,12 @@ ghost use Rattle.std.specs.Prelude.{◌≡◌, ◌⊎◌, map, IfOk, IfErr, IfSo
 ghost use Rattle.gix_refspec.specs.Views.Group.{ref_of};
 ghost use Rattle.gix_refspec.specs.Views.Spec.{reading_of};
 ghost use Rattle.gix_refspec.specs.Matching.Hits.{AreKeptBackward, AreKeptForward};
+ghost use Rattle.gix_refspec.specs.Laws.Items.{AsksForNoId, HasIdDestination};
 ghost use Rattle.refspec_map.specs.Fault.{IsMemory};
 ghost use Rattle.refspec_map.specs.Line.{IsFirstFault};
 ghost use Rattle.refspec_map.specs.Matching.{AreMapLines, IsMatching};
 ghost use Rattle.refspec_map.specs.Plan.{IsPlan};
-ghost use Rattle.refspec_map.specs.Told.{AsksForNoId, HasIdDestination, told_ref};
+ghost use Rattle.refspec_map.specs.Told.{told_ref};
 
 use crate::fault::Fault;
 use crate::line::{Entries, ToldRef, is_id, push};
@@ -35,18 +36,6 @@ pub(crate) fn lhs_lines(alloc: Global, input: &[u8]) -> Result<(Vec<u8>, bool), 
     Ok((lines_of(alloc, outcome.mappings.as_slice())?, false))
 }
 
-/// The lines of the mappings from right to left, and false.
-pub(crate) fn rhs_lines(alloc: Global, input: &[u8]) -> Result<(Vec<u8>, bool), Fault>
-    ensures ok { IfOk result (λ made.
-        IsMatching (AreMapLines AreKeptBackward) input.now made.0.items made.1) }
-    ensures err { IfErr result (λ f. IsMemory f ⊎ IsFirstFault input.now f) }
-{
-    match rhs_by_name(alloc, input)? {
-        Some(made) => Ok(made),
-        None => rhs_by_id(alloc, input),
-    }
-}
-
 /// The lines of a plan, and whether it has conflicts.
 pub(crate) fn planned(alloc: Global, input: &[u8]) -> Result<(Vec<u8>, bool), Fault>
     ensures ok { IfOk result (λ made. IsMatching IsPlan input.now made.0.items made.1) }
@@ -58,6 +47,18 @@ pub(crate) fn planned(alloc: Global, input: &[u8]) -> Result<(Vec<u8>, bool), Fa
     let items = items.as_slice();
     laws::names_decide(&group, items);
     plan(alloc, group, items)
+}
+
+/// The lines of the mappings from right to left, and false.
+pub(crate) fn rhs_lines(alloc: Global, input: &[u8]) -> Result<(Vec<u8>, bool), Fault>
+    ensures ok { IfOk result (λ made.
+        IsMatching (AreMapLines AreKeptBackward) input.now made.0.items made.1) }
+    ensures err { IfErr result (λ f. IsMemory f ⊎ IsFirstFault input.now f) }
+{
+    match rhs_by_name(alloc, input)? {
+        Some(made) => Ok(made),
+        None => rhs_by_id(alloc, input),
+    }
 }
 
 // The same from the names of the refs alone. `None` if a destination is an id, which matches ids of refs.
@@ -72,7 +73,9 @@ fn rhs_by_name(alloc: Global, input: &[u8]) -> Result<Option<(Vec<u8>, bool)>, F
         return Ok(None);
     }
     let group = MatchGroup { specs };
-    let outcome = group.match_rhs(alloc, items.as_slice())?;
+    let items = items.as_slice();
+    laws::names_decide_back(&group, items);
+    let outcome = group.match_rhs(alloc, items)?;
     Ok(Some((lines_of(alloc, outcome.mappings.as_slice())?, false)))
 }
 

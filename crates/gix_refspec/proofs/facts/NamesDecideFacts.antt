@@ -2,11 +2,15 @@
 use Rattle.std.proofs.Common.{◌≡◌, ◌≢◌, ◌⊎◌, inl, inr, ℕ, List, [], ◌∷◌, None, Some, codes, length, get_or, refl, ap, ◌∙◌, arith}
 use Rattle.refspec_text.specs.declared.oid.Kind.{Kind}
 use Rattle.refspec_text.specs.declared.oid.Kind.TheVariants.{Sha1, Sha256}
-use Rattle.refspec_text.specs.Texts.ObjectId.{IsIdText, bytes_of}
+use Rattle.refspec_text.specs.Texts.ObjectId.{IsIdText, bytes_of, digits_of}
 use Rattle.refspec_text.specs.Matching.Side.{SideKind, pattern, full_name, object, partial, HasKind}
 use Rattle.refspec_text.specs.Matching.Match.{Ref, MatchesAs, Matches}
-use Rattle.refspec_match.specs.Matching.Hits.{AreKeptForward}
-use Rattle.gix_refspec.specs.Laws.Items.{HaveSameNames, NamesDecide}
+use Rattle.refspec_text.specs.Specs.Reading.{Normal, Reading}
+use Rattle.refspec_text.specs.Specs.Grammar.{fetched}
+use Rattle.refspec_match.specs.Matching.Mappings.{Mapped}
+use Rattle.refspec_match.specs.Matching.Hits.{AreKeptForward, AreKeptBackward}
+use Rattle.gix_refspec.specs.Laws.Items.{AsksForNoId, HasIdDestination, HaveSameNames, NamesDecide, NamesDecideBack}
+use Rattle.refspec_text.proofs.lemmas.specs.FormsBackLemmas.{some_once}
 use Rattle.refspec_text.proofs.facts.ManualFacts.{named, none_some, other_length}
 use Rattle.refspec_text.proofs.facts.ObjectIdFacts.{empty_blob, IsIdText-empty_blob}
 use Rattle.refspec_text.proofs.facts.FitFacts.{blob_kind, dev_ref, every, main_ref, no_dev, tag_ref}
@@ -19,6 +23,29 @@ moved n = record { name = n; target = 2 ∷ []; object = Some (3 ∷ []) }
 -- other ids change nothing from left to right
 pub names_alone : NamesDecide (every ∷ no_dev ∷ []) (dev_ref ∷ tag_ref ∷ main_ref ∷ main_ref ∷ []) → AreKeptForward (every ∷ no_dev ∷ []) (moved dev_ref.name ∷ moved tag_ref.name ∷ moved main_ref.name ∷ moved main_ref.name ∷ []) (tracked 2 (codes "main") ∷ [])
 names_alone law = law (moved dev_ref.name ∷ moved tag_ref.name ∷ moved main_ref.name ∷ moved main_ref.name ∷ []) refl (tracked 2 (codes "main") ∷ []) fetches_all_but_dev
+
+-- nor do they from right to left, where no destination is an id
+abbrev to_blob : Reading
+to_blob = fetched Normal (codes "main") (Some (codes "e69de29bb2d1d6434b8b29ae775ad8c2e48c5391"))
+
+abbrev to_x : Reading
+to_x = fetched Normal (codes "main") (Some (codes "refs/x"))
+
+pub ids_asked_for : AsksForNoId (no_dev ∷ to_x ∷ []) × ¬ (AsksForNoId (to_x ∷ to_blob ∷ []))
+ids_asked_for = (
+  ((λ has. none_some has.0 has.1), (no_id, tt)),
+  λ none. none.1.0 (codes "e69de29bb2d1d6434b8b29ae775ad8c2e48c5391", refl, (empty_blob, IsIdText-empty_blob)),
+)
+  where
+    no_digits : (kind : Kind) → 6 ≢ digits_of kind
+    no_digits Sha1 same = omega (arith, same)
+    no_digits Sha256 same = omega (arith, same)
+
+    no_id : ¬ (HasIdDestination to_x)
+    no_id (text, is, (bytes, spelled)) = no_digits spelled.kind (ap length (some_once (codes "refs/x") text is) ∙ spelled.digits)
+
+pub names_alone_back : NamesDecideBack (no_dev ∷ to_x ∷ []) (main_ref ∷ []) → (l : List Mapped) → AreKeptBackward (no_dev ∷ to_x ∷ []) (main_ref ∷ []) l → AreKeptBackward (no_dev ∷ to_x ∷ []) (moved main_ref.name ∷ []) l
+names_alone_back law l kept = law ids_asked_for.0 (moved main_ref.name ∷ []) refl l kept
 
 -- another name, or one that is listed again, isn't the same
 pub other_names : ¬ (HaveSameNames (main_ref ∷ []) (dev_ref ∷ [])) × ¬ (HaveSameNames (main_ref ∷ []) (main_ref ∷ main_ref ∷ []))

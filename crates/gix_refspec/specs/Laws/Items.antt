@@ -7,6 +7,7 @@ use Rattle.refspec_match.specs.declared.types.Item.{Item}
 use Rattle.refspec_text.specs.declared.parsing.Operation.TheVariants.{Fetch}
 use Rattle.refspec_text.specs.Texts.Bytes.{head}
 use Rattle.refspec_text.specs.Specs.Reading.{Reading}
+use Rattle.refspec_text.specs.Matching.Side.{IsId}
 use Rattle.refspec_text.specs.Matching.Match.{Ref, HasName, Matches, Takes}
 use Rattle.refspec_match.specs.Matching.Mappings.{Mapped, HasPair}
 use Rattle.refspec_match.specs.Views.Mapping.{ref_of}
@@ -47,6 +48,18 @@ HaveSameNames A B = map (λ (r : Ref). r.name) A ≡ map (λ (r : Ref). r.name) 
 -- the names of refs alone decide what is kept from left to right: over refs with the same names the same mappings are
 abbrev pub NamesDecide : List Reading → List Ref → Type 0
 NamesDecide g A = (B : List Ref) → HaveSameNames A B → (kept : List Mapped) → AreKeptForward g A kept → AreKeptForward g B kept
+
+-- the destination of the reading is an id
+abbrev pub HasIdDestination : Reading → Type 0
+HasIdDestination r = (text : List ℕ) × (r.destination ≡ Some text) × IsId text
+
+-- no destination of the readings is one
+abbrev pub AsksForNoId : List Reading → Type 0
+AsksForNoId g = AllByRecursion (λ r. ¬ (HasIdDestination r)) g
+
+-- so they decide from right to left where no destination is an id
+abbrev pub NamesDecideBack : List Reading → List Ref → Type 0
+NamesDecideBack g A = AsksForNoId g → (B : List Ref) → HaveSameNames A B → (kept : List Mapped) → AreKeptBackward g A kept → AreKeptBackward g B kept
 
 -- the reading fetches `HEAD`, and one of the refs has that name
 pub record FetchesHead (A : List Ref) (r : Reading) : Type 0 where

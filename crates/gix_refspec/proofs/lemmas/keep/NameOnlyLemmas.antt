@@ -1,11 +1,12 @@
--- Over refs with the same names the same mappings are kept from left to right: no source that takes refs looks at their ids.
+-- Over refs with the same names the same mappings are kept from left to right, as no source that takes refs looks at their
+-- ids; and from right to left where no destination is an id.
 use Rattle.std.proofs.Common.{◌≡◌, ℕ, ◌+◌, inl, inr, List, [], ◌∷◌, Option, None, Some, map, refl, sym, ap, ◌∙◌, subst, length, arith}
 use Rattle.refspec_text.specs.Specs.Reading.{Reading}
 use Rattle.refspec_text.specs.Matching.Side.{SideKind, pattern, full_name, object, partial, HasKind, Fits, IsCandidate}
-use Rattle.refspec_text.specs.Matching.Match.{Ref, MatchesAs, HasName, IsFirstCandidate, Takes}
+use Rattle.refspec_text.specs.Matching.Match.{Ref, Matches, MatchesAs, HasName, IsFirstCandidate, Takes}
 use Rattle.refspec_match.specs.Matching.Lists.{MakesOf, IsMadeFrom, IsJoinedFrom}
-use Rattle.refspec_match.specs.Matching.Hits.{Ends, AreForwardEnds, Hit, IsHit, AreSpecHits}
-use Rattle.gix_refspec.specs.Laws.Items.{HaveSameNames, NamesDecide}
+use Rattle.refspec_match.specs.Matching.Hits.{Ends, AreBackwardEnds, AreForwardEnds, Hit, IsHit, AreSpecHits}
+use Rattle.gix_refspec.specs.Laws.Items.{AsksForNoId, HasIdDestination, HaveSameNames, NamesDecide, NamesDecideBack}
 use Rattle.refspec_match.proofs.lemmas.keep.RepeatLemmas.{all_weaker}
 
 -- lists with the same names are both empty, or begin with the same name
@@ -42,21 +43,24 @@ matches_also (full_name n) a b word same none fits = (fits.0, sym same ∙ fits.
 matches_also (object id) a b word same none fits = absurd (none id refl)
 matches_also (partial n) a b word same none fits = (fits.0, subst (IsCandidate n) same fits.1)
 
+matches_by_name : (ends : Ends) (a b : Ref) (word : Option (List ℕ)) → a.name ≡ b.name → ((id : List ℕ) → ¬ (HasKind ends.near (object id))) → Matches ends.near a word → Matches ends.near b word
+matches_by_name ends a b word named none matches = record {
+  kind = matches.kind;
+  of = matches.of;
+  is = matches_also matches.kind a b word named (λ id is. none id (subst (HasKind ends.near) is matches.of)) matches.is;
+}
+
 -- what is taken among one list is taken among the other
 takes_also : (A B : List Ref) (ends : Ends) (a b : Ref) (word : Option (List ℕ)) → HaveSameNames A B → a.name ≡ b.name → ((id : List ℕ) → ¬ (HasKind ends.near (object id))) → Takes A ends.near a word → Takes B ends.near b word
 takes_also A B ends a b word same named none takes = record {
-  matches = record {
-    kind = takes.matches.kind;
-    of = takes.matches.of;
-    is = matches_also takes.matches.kind a b word named (λ id is. none id (subst (HasKind ends.near) is takes.matches.of)) takes.matches.is;
-  };
+  matches = matches_by_name ends a b word named none takes.matches;
   first = λ n kind. subst (IsFirstCandidate B n) named (first_also A B n a.name same (takes.first n kind));
 }
 
-hit_also : (A B : List Ref) (ends : Ends) (k j : ℕ) (a b : Ref) (hit : Hit) → HaveSameNames A B → a.name ≡ b.name → ((id : List ℕ) → ¬ (HasKind ends.near (object id))) → IsHit (Takes A) ends k j a hit → IsHit (Takes B) ends k j b hit
-hit_also A B ends k j a b hit same named none is = record {
+hit_also : (T U : List ℕ → Ref → Option (List ℕ) → Type 0) (ends : Ends) (k j : ℕ) (a b : Ref) (hit : Hit) → ((word : Option (List ℕ)) → T ends.near a word → U ends.near b word) → a.name ≡ b.name → IsHit T ends k j a hit → IsHit U ends k j b hit
+hit_also T U ends k j a b hit also named is = record {
   word = is.word;
-  takes = takes_also A B ends a b is.word same named none is.takes;
+  takes = also is.word is.takes;
   far = is.far;
   near = is.near ∙ named;
   spec = is.spec;
@@ -82,14 +86,32 @@ spec_also A B k r hits same (inl (ends, has, made)) = inl (
   ends,
   has,
   made_also (IsHit (Takes A) ends k) (IsHit (Takes B) ends k) 0 A B hits
-      (λ j a b hit named. hit_also A B ends k j a b hit same named has.no_object)
-      (λ j a b hit named. hit_also B A ends k j b a hit (sym same) (sym named) has.no_object) same made,
+      (λ j a b hit named. hit_also (Takes A) (Takes B) ends k j a b hit (λ word. takes_also A B ends a b word same named has.no_object) named)
+      (λ j a b hit named. hit_also (Takes B) (Takes A) ends k j b a hit (λ word. takes_also B A ends b a word (sym same) (sym named) has.no_object) (sym named)) same made,
 )
 spec_also A B k r hits same (inr none) = inr none
 
 joined_also : (A B : List Ref) (k : ℕ) (g : List Reading) (hits : List Hit) → HaveSameNames A B → IsJoinedFrom (AreSpecHits AreForwardEnds (Takes A) A) k g hits → IsJoinedFrom (AreSpecHits AreForwardEnds (Takes B) B) k g hits
 joined_also A B k [] hits same joined = joined
 joined_also A B k (r ∷ g) hits same (made, rest, of, more, is) = (made, rest, spec_also A B k r made same of, joined_also A B (k + 1) g rest same more, is)
+
+-- from right to left a spec matches the same refs, if its destination is no id
+no_object : (r : Reading) (ends : Ends) → ¬ (HasIdDestination r) → AreBackwardEnds r ends → (id : List ℕ) → ¬ (HasKind ends.near (object id))
+no_object r ends none has id is = none (ends.near, has.near, (id, is.2))
+
+spec_back : (A B : List Ref) (k : ℕ) (r : Reading) (hits : List Hit) → ¬ (HasIdDestination r) → HaveSameNames A B → AreSpecHits AreBackwardEnds Matches A k r hits → AreSpecHits AreBackwardEnds Matches B k r hits
+spec_back A B k r hits none same (inl (ends, has, made)) = inl (
+  ends,
+  has,
+  made_also (IsHit Matches ends k) (IsHit Matches ends k) 0 A B hits
+      (λ j a b hit named. hit_also Matches Matches ends k j a b hit (λ word. matches_by_name ends a b word named (no_object r ends none has)) named)
+      (λ j a b hit named. hit_also Matches Matches ends k j b a hit (λ word. matches_by_name ends b a word (sym named) (no_object r ends none has)) (sym named)) same made,
+)
+spec_back A B k r hits none same (inr no_ends) = inr no_ends
+
+joined_back : (A B : List Ref) (k : ℕ) (g : List Reading) (hits : List Hit) → AsksForNoId g → HaveSameNames A B → IsJoinedFrom (AreSpecHits AreBackwardEnds Matches A) k g hits → IsJoinedFrom (AreSpecHits AreBackwardEnds Matches B) k g hits
+joined_back A B k [] hits none same joined = joined
+joined_back A B k (r ∷ g) hits none same (made, rest, of, more, is) = (made, rest, spec_back A B k r made none.0 same of, joined_back A B (k + 1) g rest none.1 same more, is)
 
 -- so the same mappings are kept
 pub names_decide : (g : List Reading) (A : List Ref) → NamesDecide g A
@@ -101,6 +123,17 @@ names_decide g A B same kept are = record {
     are_ids = are.forward.are_ids;
     are_hits = joined_also A B 0 g are.forward.hits same are.forward.are_hits;
     all = are.forward.all;
+  };
+  is = are.is;
+}
+
+pub names_decide_back : (g : List Reading) (A : List Ref) → NamesDecideBack g A
+names_decide_back g A none B same kept are = record {
+  all = are.all;
+  backward = record {
+    hits = are.backward.hits;
+    are_hits = joined_back A B 0 g are.backward.hits none same are.backward.are_hits;
+    all = are.backward.all;
   };
   is = are.is;
 }

@@ -1,6 +1,6 @@
 use Rattle.std.proofs.Common.{map, take}
 use Rattle.gix_refspec.specs.Views.Spec.{reading_of}
-use Rattle.refspec_map.specs.Told.{AsksForNoId}
+use Rattle.gix_refspec.specs.Laws.Items.{AsksForNoId}
 use Rattle.refspec_map.proofs.matching.asks_for_ids.Given as goal
 
 -- no destination of the specs so far is an id
