@@ -139,7 +139,7 @@ static void check_explanations(void)
     for (uint32_t outcome = 0; outcome <= GIX_REFSPEC_IN_CONFLICT; outcome++) {
         gix_refspec_text sentence = GIX_REFSPEC_TEXT_INIT;
         CHECK(gix_refspec_explanation(outcome, &sentence) == GIX_REFSPEC_OK);
-        CHECK(sentence.len > 10 && sentence.len == strlen((const char *)sentence.bytes) + 1);
+        CHECK(sentence.len > 10 && memchr(sentence.bytes, 0, sentence.len + 1) == sentence.bytes + sentence.len);
     }
     gix_refspec_text none = GIX_REFSPEC_TEXT_INIT;
     CHECK(gix_refspec_explanation(GIX_REFSPEC_IN_CONFLICT + 1, &none) == GIX_REFSPEC_NO_OPERATION && none.len == 0);

@@ -23,10 +23,20 @@ class _Text(ctypes.Structure):
     _fields_ = [("bytes", ctypes.c_char_p), ("len", ctypes.c_size_t)]
 
 
+class _Told(ctypes.Structure):
+    """A text from the library, which may have a NUL in it or behind it."""
+    _fields_ = [("bytes", ctypes.POINTER(ctypes.c_char)), ("len", ctypes.c_size_t)]
+
+    def value(self) -> bytes:
+        return self.bytes[:self.len]
+
+
+def _no_text() -> _Told:
+    return _Told(ctypes.cast(ctypes.create_string_buffer(1), ctypes.POINTER(ctypes.c_char)), 0)
+
+
 class _Parts(ctypes.Structure):
-    _fields_ = [("kind", ctypes.c_uint32), ("forced", ctypes.c_uint32),
-                ("source", ctypes.POINTER(ctypes.c_char)), ("source_len", ctypes.c_size_t),
-                ("destination", ctypes.POINTER(ctypes.c_char)), ("destination_len", ctypes.c_size_t)]
+    _fields_ = [("kind", ctypes.c_uint32), ("forced", ctypes.c_uint32), ("source", _Told), ("destination", _Told)]
 
 
 class Direction(enum.IntEnum):
@@ -55,9 +65,9 @@ class RefspecError(ValueError):
     """Why a text is no refspec, or why there is no answer: a sentence, and the number of the outcome."""
 
     def __init__(self, outcome: int) -> None:
-        sentence = _Text(b"", 0)
+        sentence = _no_text()
         _library.gix_refspec_explanation(ctypes.c_uint32(outcome), ctypes.byref(sentence))
-        super().__init__(sentence.bytes.decode())
+        super().__init__(sentence.value().decode())
         self.outcome = outcome
 
 
@@ -100,15 +110,13 @@ def parse(text: bytes, operation: Operation) -> Spec:
     """Parses a text. Raises RefspecError where it is no refspec."""
     words = (text, ctypes.c_size_t(len(text)), ctypes.c_uint32(operation))
     canonical = _filled(lambda *buffer: _library.gix_refspec_canonical(*words, *buffer))
-    empty = ctypes.create_string_buffer(1)
-    place = ctypes.cast(empty, ctypes.POINTER(ctypes.c_char))
-    parts = _Parts(0, 0, place, 0, place, 0)
+    parts = _Parts(0, 0, _no_text(), _no_text())
     words = (canonical, ctypes.c_size_t(len(canonical)), ctypes.c_uint32(operation))
     outcome = _library.gix_refspec_parts(*words, ctypes.byref(parts))
     if outcome != _OK:
         raise RefspecError(outcome)
     return Spec(operation, canonical, parts.kind, parts.forced == 1,
-                parts.source[:parts.source_len] or None, parts.destination[:parts.destination_len] or None)
+                parts.source.value() or None, parts.destination.value() or None)
 
 
 def prefixes(fetches: Iterable[bytes]) -> Optional[List[bytes]]:

@@ -90,7 +90,7 @@ uint32_t gix_refspec_plan(const gix_refspec_text *texts, size_t texts_count, con
                           size_t names_count, gix_refspec_mapping *mappings, size_t mappings_count, uint8_t *buffer,
                           size_t buffer_len, size_t *count, size_t *len);
 
-/* The sentence for an outcome. It ends with a NUL, which its length counts. */
+/* The sentence for an outcome. In memory a NUL follows it, which its length doesn't count. */
 uint32_t gix_refspec_explanation(uint32_t outcome, gix_refspec_text *sentence);
 
 #ifdef __cplusplus

@@ -1,6 +1,6 @@
 //! What an outcome says, in one sentence for a user of Git.
 
-ghost use Rattle.std.specs.Prelude.{◌≡◌, ◌≢◌, ◌++◌, ◌∷◌, [], MatchOption};
+ghost use Rattle.std.specs.Prelude.{◌≡◌, ◌≢◌, ℕ, List, ◌++◌, ◌∷◌, [], MatchOption};
 ghost use Rattle.refspec_c.specs.Explanation.{ended, said, well};
 ghost use Rattle.refspec_c.specs.Outcome.{Answers, number_of};
 
@@ -14,30 +14,37 @@ pub struct Text<'a> {
     pub bytes: &'a [u8],
 }
 
-/// The sentence for an outcome. Its last byte is a NUL, which its length counts. For a number that is
-/// no outcome the text is as before.
+/// The sentence for an outcome. In memory a NUL follows it, which its length doesn't count. For a number
+/// that is no outcome the text is as before.
 #[unsafe(no_mangle)]
 pub extern "C" fn gix_refspec_explanation(outcome: u32, sentence: &mut Text<'static>) -> u32
-    ensures done { outcome ≡ 0 → (result ≡ 0) × (sentence.new.bytes.now ≡ ended well) }
+    ensures done { outcome ≡ 0 → (result ≡ 0) × (sentence.new.bytes.now ≡ well) }
     ensures failure { outcome ≢ 0 → Answers number_of outcome
-        (λ f. sentence.new.bytes.now ≡ ended (said f)) (λ f g. ⊥)
+        (λ f. sentence.new.bytes.now ≡ said f) (λ f g. ⊥)
         (sentence.new ≡ sentence.old) result }
 {
     if outcome == 0 {
-        *sentence = Text {
-            bytes: b"The call has its answer.\0",
-        };
+        *sentence = before_nul(b"The call has its answer.\0");
         return 0;
     }
     match failure_numbered(outcome) {
         Some(failure) => {
-            *sentence = Text {
-                bytes: sentence_of(failure),
-            };
+            *sentence = before_nul(sentence_of(failure));
             0
         }
         None => Failure::NoOperation.number(),
     }
+}
+
+// What is before the NUL at the end of a text.
+fn before_nul(text: &'static [u8]) -> Text<'static>
+    ensures { (sentence : List ℕ) → text.now ≡ ended sentence → result.bytes.now ≡ sentence }
+{
+    let sentence = match text.split_last() {
+        Some((_, before)) => before,
+        None => text,
+    };
+    Text { bytes: sentence }
 }
 
 // The failure that has a number.

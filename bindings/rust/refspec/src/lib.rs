@@ -88,10 +88,10 @@ impl fmt::Display for Error {
             Reason::Push => return f.write_str("A push stands among the fetches."),
         };
         let mut sentence = no_text();
-        // The text is one of the library's constants, and ends with a NUL.
+        // The text is one of the library's constants.
         let known = unsafe { sys::gix_refspec_explanation(outcome, &mut sentence) } == sys::OK;
-        let said = if known { unsafe { bytes_of(&sentence) } } else { b"unknown outcome\0" };
-        f.write_str(&String::from_utf8_lossy(said.strip_suffix(b"\0").unwrap_or(said)))
+        let said = if known { unsafe { bytes_of(&sentence) } } else { b"unknown outcome" };
+        f.write_str(&String::from_utf8_lossy(said))
     }
 }
 
