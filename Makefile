@@ -84,6 +84,10 @@ LIB := $(LOGS)/lib
 ARCHIVE := $(LIB)/libgix_refspec.a
 C_LIBRARY := crates/refspec_c
 HEADER := $(C_LIBRARY)/include/gix_refspec.h
+SHARED := libgix_refspec.so
+C_VERSION := $(shell sed -n 's/^.define GIX_REFSPEC_VERSION "\(.*\)"/\1/p' $(HEADER))
+# What a program asks for: major and minor version, as before 1.0 each other minor version may break callers.
+SONAME := $(SHARED).$(basename $(C_VERSION))
 C_SOURCES := crates.txt tools/archive $(shell find $(LIBRARY) $(C_LIBRARY) \( -name out -o -name must-fail \) -prune -o -type f -print)
 
 lib: $(ARCHIVE)
@@ -91,18 +95,21 @@ lib: $(ARCHIVE)
 $(ARCHIVE): $(C_SOURCES) | kit
 	@mkdir -p $(LIB)
 	@(cd $(C_LIBRARY) && rt lib) </dev/null >$(LOGS)/lib.log 2>&1 || { cat $(LOGS)/lib.log >&2; exit 1; }
-	@tools/archive $(LIB)
+	@tools/archive $(LIB) $(SONAME)
 
 install-lib: lib
 	@install -d $(DESTDIR)$(PREFIX)/include $(DESTDIR)$(PREFIX)/lib/pkgconfig
 	@install -m 644 $(HEADER) $(DESTDIR)$(PREFIX)/include
 	@install -m 644 $(ARCHIVE) $(DESTDIR)$(PREFIX)/lib
-	@install -m 755 $(LIB)/libgix_refspec.so $(DESTDIR)$(PREFIX)/lib
-	@sed 's|@PREFIX@|$(PREFIX)|' bindings/c/gix_refspec.pc.in >$(DESTDIR)$(PREFIX)/lib/pkgconfig/gix_refspec.pc
+	@install -m 755 $(LIB)/$(SHARED) $(DESTDIR)$(PREFIX)/lib/$(SHARED).$(C_VERSION)
+	@ln -sf $(SHARED).$(C_VERSION) $(DESTDIR)$(PREFIX)/lib/$(SONAME)
+	@ln -sf $(SONAME) $(DESTDIR)$(PREFIX)/lib/$(SHARED)
+	@sed -e 's|@PREFIX@|$(PREFIX)|' -e 's|@VERSION@|$(C_VERSION)|' -e 's|@SONAME@|$(SONAME)|' bindings/c/gix_refspec.pc.in \
+	    >$(DESTDIR)$(PREFIX)/lib/pkgconfig/gix_refspec.pc
 
 uninstall-lib:
-	@rm -f $(addprefix $(DESTDIR)$(PREFIX)/,include/gix_refspec.h lib/libgix_refspec.a lib/libgix_refspec.so \
-	    lib/pkgconfig/gix_refspec.pc)
+	@rm -f $(addprefix $(DESTDIR)$(PREFIX)/,include/gix_refspec.h lib/libgix_refspec.a lib/pkgconfig/gix_refspec.pc) \
+	    $(addprefix $(DESTDIR)$(PREFIX)/lib/,$(SHARED) $(SONAME) $(SHARED).$(C_VERSION))
 
 test-bindings: kit
 	@tests/bindings

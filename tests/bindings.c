@@ -287,6 +287,14 @@ static void check_other_plans(void)
     CHECK(plan(0, made, 0, buffer, 0, &count, &len) == GIX_REFSPEC_OK && count == 0 && len == 0);
 }
 
+static void check_version(void)
+{
+    char version[32];
+    snprintf(version, sizeof version, "%d.%d.%d", GIX_REFSPEC_VERSION_MAJOR, GIX_REFSPEC_VERSION_MINOR,
+             GIX_REFSPEC_VERSION_PATCH);
+    CHECK(strcmp(version, GIX_REFSPEC_VERSION) == 0);
+}
+
 static void *check_all(void *nothing)
 {
     check_outcomes();
@@ -513,6 +521,7 @@ int main(int count, char **words)
         return mapped(words[1]);
     if (count == 3)
         return canon(strcmp(words[2], "push") == 0 ? GIX_REFSPEC_PUSH : GIX_REFSPEC_FETCH);
+    check_version();
     check_all(NULL);
     check_threads(4, 0);
     check_threads(1, 16384);

@@ -1,4 +1,4 @@
-"""Holds the header against the archive and the sources: prototypes.py HEADER ARCHIVE
+"""Holds what was installed below a folder against the sources and the bindings: prototypes.py FOLDER
 Replays canon.sample, lhs.sample, rhs.sample and plan.sample over a program of the calls: prototypes.py --replay PROGRAM
 """
 import os
@@ -8,6 +8,8 @@ import sys
 
 HERE = os.path.dirname(os.path.abspath(__file__))
 SOURCES = os.path.join(HERE, "..", "crates", "refspec_c", "src")
+RUST = os.path.join(HERE, "..", "bindings", "rust")
+PYTHON = os.path.join(HERE, "..", "bindings", "python", "gix_refspec.py")
 # What each type of the exported functions is in C. A slice is a pointer and a length, and an allocator is nothing.
 IN_C = {
     "Global": [],
@@ -21,26 +23,57 @@ IN_C = {
     "&mut Parts": ["gix_refspec_instruction *"],
     "&mut [MappingOut]": ["gix_refspec_mapping *", "size_t"],
 }
+# What each type of the crate gix-refspec-sys is in C.
+RUST_IN_C = {
+    "u32": "uint32_t",
+    "usize": "size_t",
+    "*const u8": "const uint8_t *",
+    "*mut u8": "uint8_t *",
+    "*mut usize": "size_t *",
+    "*mut i32": "int32_t *",
+    "*const Text": "const gix_refspec_text *",
+    "*mut Text": "gix_refspec_text *",
+    "*mut Parts": "gix_refspec_instruction *",
+    "*mut Mapping": "gix_refspec_mapping *",
+}
+
+
+def read(*path):
+    with open(os.path.join(*path), encoding="utf-8") as file:
+        return file.read()
+
+
+def screaming(name):
+    """A name in camel case as C writes it."""
+    return re.sub(r"(?<=[a-z])(?=[A-Z])", "_", name).upper()
 
 
 def exported():
     """The exported functions and the types of their parameters."""
     found = {}
     for name in sorted(os.listdir(SOURCES)):
-        with open(os.path.join(SOURCES, name), encoding="utf-8") as file:
-            text = re.sub(r"'(a|static) |<'[a-z_]+>", "", file.read())
+        text = re.sub(r"'(a|static) |<'[a-z_]+>", "", read(SOURCES, name))
         for function, parameters in re.findall(r'extern "C" fn (\w+)\s*\(([^)]*)\) -> u32', text):
             found[function] = [one.split(":")[1].strip() for one in parameters.split(",") if one.strip()]
     return found
 
 
 def declared(header):
-    """The prototypes of the header and the types of their parameters."""
-    with open(header, encoding="utf-8") as file:
-        text = re.sub(r"\s+", " ", file.read())
+    """The prototypes of the header: names and types of their parameters."""
     found = {}
-    for function, parameters in re.findall(r"uint32_t (gix_refspec_\w+)\(([^)]*)\);", text):
-        found[function] = [re.sub(r"\w+$", "", one.strip()).strip() for one in parameters.split(",")]
+    for function, parameters in re.findall(r"uint32_t (gix_refspec_\w+)\(([^)]*)\);", re.sub(r"\s+", " ", header)):
+        words = [re.fullmatch(r"(.*?)(\w+)", one.strip()) for one in parameters.split(",")]
+        found[function] = [(one[2], one[1].strip()) for one in words]
+    return found
+
+
+def declared_in_rust():
+    """Those of the crate gix-refspec-sys, in C's types."""
+    found = {}
+    crate = read(RUST, "gix-refspec-sys", "src", "lib.rs")
+    for function, parameters in re.findall(r"pub fn (\w+)\(([^)]*)\) -> u32;", crate):
+        words = [one.split(":") for one in parameters.split(",") if one.strip()]
+        found[function] = [(name.strip(), RUST_IN_C[kind.strip()]) for name, kind in words]
     return found
 
 
@@ -50,30 +83,82 @@ def globals_of(archive):
             {line.split()[-1] for line in listed.splitlines() if " U " in line})
 
 
-def numbers(header):
-    """The outcomes and verdicts of the header that aren't those of `Failure::number` and `Verdict::number`."""
-    with open(header, encoding="utf-8") as file:
-        in_header = dict(re.findall(r"GIX_REFSPEC_([A-Z_]+) = (\d+)", file.read()))
-    in_source = []
+def numbers_of(header):
+    """The numbers of the header by their names."""
+    return {name: int(number) for name, number in re.findall(r"GIX_REFSPEC_([A-Z_]+) = (\d+)", header)}
+
+
+def numbers():
+    """The numbers of sources and bindings, with where they are."""
     for name in ("failure.rt", "planning.rt"):
-        with open(os.path.join(SOURCES, name), encoding="utf-8") as file:
-            in_source += re.findall(r"(?:Failure|Verdict)::(\w+) => (\d+),", file.read())
-    return [name for name, number in in_source
-            if in_header.get(re.sub(r"(?<=[a-z])(?=[A-Z])", "_", name).upper()) != number]
+        for one, number in re.findall(r"(?:Failure|Verdict)::(\w+) => (\d+),", read(SOURCES, name)):
+            yield name, screaming(one), int(number)
+    for one, number in re.findall(r"pub const (\w+): u32 = (\d+);", read(RUST, "gix-refspec-sys", "src", "lib.rs")):
+        yield "gix-refspec-sys", one, int(number)
+    for one, number in re.findall(r"^    ([A-Z_]+) = (\d+)$", read(PYTHON), re.M):
+        yield "gix_refspec.py", one, int(number)
+    for names, given in re.findall(r"^_([A-Z_, ]+) = ([\d, ]+)$", read(PYTHON), re.M):
+        for one, number in zip(names.split(", _"), given.split(", ")):
+            yield "gix_refspec.py", one, int(number)
 
 
-def compare(header, archive):
+def versions(folder, header):
+    """The version of the library in each place that tells it."""
+    shared = os.path.join(folder, "lib", "libgix_refspec.so")
+    config = read(folder, "lib", "pkgconfig", "gix_refspec.pc")
+    python = read(PYTHON)
+    parts = re.findall(r"^#define GIX_REFSPEC_VERSION_(?:MAJOR|MINOR|PATCH) (\d+)$", header, re.M)
+    told = {
+        "gix_refspec.h": re.search(r'^#define GIX_REFSPEC_VERSION "(.*)"$', header, re.M)[1],
+        "its numbers": ".".join(parts),
+        "gix_refspec.pc": re.search(r"^Version: (.*)$", config, re.M)[1],
+        "the name of the file": os.path.realpath(shared).partition(".so.")[2],
+        "docs/C.md": re.search(r"`libgix_refspec\.so\.(\d+\.\d+\.\d+)`", read(HERE, "..", "docs", "C.md"))[1],
+        "gix_refspec.py": re.search(r'^__version__ = "(.*)"$', python, re.M)[1],
+    }
+    for crate in ("gix-refspec-sys", "refspec"):
+        told[f"the crate {crate}"] = re.search(r'^version = "(.*)"$', read(RUST, crate, "Cargo.toml"), re.M)[1]
+    wanted = re.search(r'^gix-refspec-sys = .*version = "(.*)"', read(RUST, "refspec", "Cargo.toml"), re.M)
+    told["what refspec depends on"] = wanted[1]
+    # Before 1.0 each other minor version may break callers, afterwards each other major version.
+    compatible = ".".join(parts[:2] if parts[0] == "0" else parts[:1])
+    dynamic = subprocess.run(["readelf", "-d", shared], stdout=subprocess.PIPE, check=True, text=True).stdout
+    sonames = {
+        "readelf": re.search(r"\(SONAME\).*\[(.*)\]", dynamic)[1],
+        "gix_refspec.pc": re.search(r"^soname=(.*)$", config, re.M)[1],
+        "the link": os.readlink(shared),
+        "gix_refspec.py": re.search(r'"(libgix_refspec\.so[^"]*)"', python)[1],
+    }
+    return told, sonames, f"libgix_refspec.so.{compatible}"
+
+
+def compare(folder):
+    header = read(folder, "include", "gix_refspec.h")
     functions = {name: [c for one in types for c in IN_C[one]] for name, types in exported().items()}
-    defined, wanted = globals_of(archive)
-    if declared(header) != functions:
-        sys.exit(f"bindings: the header has {declared(header)}, not {functions}")
+    prototypes = declared(header)
+    defined, wanted = globals_of(os.path.join(folder, "lib", "libgix_refspec.a"))
+    if {name: [kind for _, kind in parameters] for name, parameters in prototypes.items()} != functions:
+        sys.exit(f"bindings: the header has {prototypes}, not {functions}")
+    if declared_in_rust() != prototypes:
+        sys.exit(f"bindings: the crate gix-refspec-sys has {declared_in_rust()}, not {prototypes}")
     if defined != set(functions):
         sys.exit(f"bindings: the archive has the global names {defined}")
     if not wanted <= {"malloc", "realloc", "free", "memcpy", "memmove", "memset"}:
         sys.exit(f"bindings: the archive wants {wanted}")
-    if numbers(header):
-        sys.exit(f"bindings: the header has other numbers for {numbers(header)}")
+    in_header = numbers_of(header)
+    others = [(place, name) for place, name, number in numbers() if in_header.get(name) != number]
+    if others:
+        sys.exit(f"bindings: the header has other numbers for {others}")
     print(f"bindings: {len(functions)} prototypes as the functions; the archive wants {', '.join(sorted(wanted))}")
+
+
+def compare_versions(folder):
+    told, sonames, soname = versions(folder, read(folder, "include", "gix_refspec.h"))
+    if len(set(told.values())) != 1:
+        sys.exit(f"bindings: the version is told as {told}")
+    if set(sonames.values()) != {soname}:
+        sys.exit(f"bindings: the soname is told as {sonames}, not {soname}")
+    print(f"bindings: version {told['gix_refspec.h']} in {len(told)} places, and soname {soname} in {len(sonames)}")
 
 
 def replay(program):
@@ -154,4 +239,5 @@ def replay_plans(program):
 if sys.argv[1] == "--replay":
     replay(sys.argv[2])
 else:
-    compare(*sys.argv[1:3])
+    compare(sys.argv[1])
+    compare_versions(sys.argv[1])

@@ -9,7 +9,9 @@ import os
 from dataclasses import dataclass
 from typing import Callable, Iterable, List, Optional
 
-_library = ctypes.CDLL(os.environ.get("GIX_REFSPEC_LIBRARY", "libgix_refspec.so"))
+__version__ = "0.1.0"
+# The soname, so that no library is loaded that this file wasn't written for.
+_library = ctypes.CDLL(os.environ.get("GIX_REFSPEC_LIBRARY", "libgix_refspec.so.0.1"))
 _OK, _NO_LIST, _TOO_SMALL, _IN_CONFLICT = 0, 17, 18, 22
 
 

@@ -9,6 +9,12 @@
 #include <stddef.h>
 #include <stdint.h>
 
+/* The version of this library. Before 1.0 each other minor version may break its callers. */
+#define GIX_REFSPEC_VERSION_MAJOR 0
+#define GIX_REFSPEC_VERSION_MINOR 1
+#define GIX_REFSPEC_VERSION_PATCH 0
+#define GIX_REFSPEC_VERSION "0.1.0"
+
 #ifdef __cplusplus
 extern "C" {
 #endif
