@@ -3,3 +3,4 @@ pub mod SingleLemmas
 pub mod GroupLemmas
 pub mod MatchingLemmas
 pub mod PlanningLemmas
+pub mod BufferFacts
