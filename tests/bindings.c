@@ -1,6 +1,6 @@
 /* Calls the archive as a program in C does: bindings [canon OPERATION | lhs | rhs | plan | measure]
  *
- * Without words it makes each call with each outcome, at the exact size and one byte below, with each growth of
+ * Without words it makes each call with each outcome, at the exact size and at smaller ones, with each growth of
  * memory refused in turn, from four threads, and on a stack of 16 kB. With words it answers the lines of its input as
  * refspec_map does, of good lines alone, and not where ids are looked back for; before a plan it prints how many mappings
  * have a bad name or are left out. `measure` times a match and a plan. */
@@ -42,6 +42,13 @@ void *__wrap_realloc(void *block, size_t size)
         } \
     } while (0)
 
+/* The sanitizers want stack for themselves. */
+#ifdef __SANITIZE_ADDRESS__
+#define SMALL_STACK 65536
+#else
+#define SMALL_STACK 16384
+#endif
+
 #define BYTES(text) (const uint8_t *)(text), strlen(text)
 
 static const struct {
@@ -78,6 +85,34 @@ static bool is(gix_refspec_text text, const char *bytes)
     return text.len == strlen(bytes) && memcmp(text.bytes, bytes, text.len) == 0;
 }
 
+static const struct {
+    const char *text;
+    uint32_t operation, kind, forced;
+    const char *source, *destination;
+} kinds[] = {
+    { ":", GIX_REFSPEC_PUSH, GIX_REFSPEC_PUSH_ALL_MATCHING, 0, "", "" },
+    { "+:", GIX_REFSPEC_PUSH, GIX_REFSPEC_PUSH_ALL_MATCHING, 1, "", "" },
+    { ":main", GIX_REFSPEC_PUSH, GIX_REFSPEC_PUSH_DELETE, 0, "", "main" },
+    { "main", GIX_REFSPEC_PUSH, GIX_REFSPEC_PUSH_MATCHING, 0, "main", "main" },
+    { "+a:b", GIX_REFSPEC_PUSH, GIX_REFSPEC_PUSH_MATCHING, 1, "a", "b" },
+    { "^a", GIX_REFSPEC_PUSH, GIX_REFSPEC_PUSH_EXCLUDE, 0, "a", "" },
+    { "a", GIX_REFSPEC_FETCH, GIX_REFSPEC_FETCH_ONLY, 0, "a", "" },
+    { "+@", GIX_REFSPEC_FETCH, GIX_REFSPEC_FETCH_ONLY, 0, "HEAD", "" },
+    { "^a", GIX_REFSPEC_FETCH, GIX_REFSPEC_FETCH_EXCLUDE, 0, "a", "" },
+    { "a:b", GIX_REFSPEC_FETCH, GIX_REFSPEC_FETCH_AND_UPDATE, 0, "a", "b" },
+    { "+a:b", GIX_REFSPEC_FETCH, GIX_REFSPEC_FETCH_AND_UPDATE, 1, "a", "b" },
+};
+
+static void check_kinds(void)
+{
+    for (size_t i = 0; i < sizeof kinds / sizeof *kinds; i++) {
+        gix_refspec_instruction parts = GIX_REFSPEC_PARTS_INIT;
+        CHECK(gix_refspec_parts(BYTES(kinds[i].text), kinds[i].operation, &parts) == GIX_REFSPEC_OK);
+        CHECK(parts.kind == kinds[i].kind && parts.forced == kinds[i].forced);
+        CHECK(is(parts.source, kinds[i].source) && is(parts.destination, kinds[i].destination));
+    }
+}
+
 static void check_parts(void)
 {
     gix_refspec_instruction parts = GIX_REFSPEC_PARTS_INIT;
@@ -87,6 +122,7 @@ static void check_parts(void)
     CHECK(is(parts.source, "refs/heads/*") && parts.source.bytes == (const uint8_t *)text + 1);
     CHECK(is(parts.destination, "refs/remotes/origin/*"));
     CHECK(gix_refspec_parts(BYTES("a b"), GIX_REFSPEC_FETCH, &parts) == GIX_REFSPEC_NAME_INVALID_BYTE);
+    CHECK(gix_refspec_parts(BYTES("main"), 0, &parts) == GIX_REFSPEC_NO_OPERATION);
     CHECK(parts.kind == GIX_REFSPEC_FETCH_AND_UPDATE && is(parts.source, "refs/heads/*"));
     CHECK(gix_refspec_parts(BYTES("@"), GIX_REFSPEC_FETCH, &parts) == GIX_REFSPEC_OK);
     CHECK(parts.kind == GIX_REFSPEC_FETCH_ONLY && parts.forced == 0);
@@ -100,7 +136,19 @@ static void check_order(void)
     CHECK(gix_refspec_compare(BYTES("a"), BYTES("b"), GIX_REFSPEC_FETCH, &order) == 0 && order == -1);
     CHECK(gix_refspec_compare(BYTES("b"), BYTES("a"), GIX_REFSPEC_FETCH, &order) == 0 && order == 1);
     CHECK(gix_refspec_compare(BYTES("b"), BYTES("^"), GIX_REFSPEC_FETCH, &order) == GIX_REFSPEC_NEGATIVE_EMPTY);
+    CHECK(gix_refspec_compare(BYTES("a b"), BYTES("^"), GIX_REFSPEC_FETCH, &order) == GIX_REFSPEC_NAME_INVALID_BYTE);
+    CHECK(gix_refspec_compare(BYTES("a"), BYTES("b"), 3, &order) == GIX_REFSPEC_NO_OPERATION);
     CHECK(order == 1);
+}
+
+/* Whether nothing was written where all bytes were `x`. */
+static bool is_untouched(const void *memory, size_t len)
+{
+    const char *bytes = memory;
+    for (size_t i = 0; i < len; i++)
+        if (bytes[i] != 'x')
+            return false;
+    return true;
 }
 
 /* A call that fills a buffer, and its answer. */
@@ -116,10 +164,17 @@ static void check_buffer(fills *fill, const char *answer)
     size_t needed = strlen(answer), len = 99;
     uint8_t buffer[256];
     memset(buffer, 'x', sizeof buffer);
-    CHECK(fill(buffer, needed - 1, &len) == GIX_REFSPEC_TOO_SMALL && len == needed && buffer[0] == 'x');
-    len = 99;
-    CHECK(fill(buffer, needed, &len) == GIX_REFSPEC_OK && len == needed);
-    CHECK(memcmp(buffer, answer, needed) == 0 && buffer[needed] == 'x');
+    for (size_t room = 0; room < needed; room++) {
+        len = 99;
+        CHECK(fill(buffer, room, &len) == GIX_REFSPEC_TOO_SMALL && len == needed);
+        CHECK(is_untouched(buffer, sizeof buffer));
+    }
+    for (size_t room = needed; room < needed + 2; room++) {
+        memset(buffer, 'x', sizeof buffer);
+        len = 99;
+        CHECK(fill(buffer, room, &len) == GIX_REFSPEC_OK && len == needed);
+        CHECK(memcmp(buffer, answer, needed) == 0 && is_untouched(buffer + needed, sizeof buffer - needed));
+    }
     for (refused = 1;; refused++) {
         memset(buffer, 'x', sizeof buffer);
         growths = 0;
@@ -129,9 +184,18 @@ static void check_buffer(fills *fill, const char *answer)
             CHECK(outcome == GIX_REFSPEC_OK && refused > 1);
             break;
         }
-        CHECK(outcome == GIX_REFSPEC_NO_MEMORY && len == 99 && buffer[0] == 'x');
+        CHECK(outcome == GIX_REFSPEC_NO_MEMORY && len == 99 && is_untouched(buffer, sizeof buffer));
     }
     refused = 0;
+}
+
+static void check_other_texts(void)
+{
+    uint8_t buffer[8] = "xxxxxxx";
+    size_t len = 99;
+    CHECK(gix_refspec_canonical(BYTES("a b"), GIX_REFSPEC_FETCH, buffer, 8, &len) == GIX_REFSPEC_NAME_INVALID_BYTE);
+    CHECK(gix_refspec_canonical(BYTES("a"), 3, buffer, 8, &len) == GIX_REFSPEC_NO_OPERATION);
+    CHECK(len == 99 && is_untouched(buffer, 7));
 }
 
 static void check_explanations(void)
@@ -140,6 +204,7 @@ static void check_explanations(void)
         gix_refspec_text sentence = GIX_REFSPEC_TEXT_INIT;
         CHECK(gix_refspec_explanation(outcome, &sentence) == GIX_REFSPEC_OK);
         CHECK(sentence.len > 10 && memchr(sentence.bytes, 0, sentence.len + 1) == sentence.bytes + sentence.len);
+        CHECK(sentence.bytes[sentence.len - 1] == '.');
     }
     gix_refspec_text none = GIX_REFSPEC_TEXT_INIT;
     CHECK(gix_refspec_explanation(GIX_REFSPEC_IN_CONFLICT + 1, &none) == GIX_REFSPEC_NO_OPERATION && none.len == 0);
@@ -163,6 +228,9 @@ static void check_groups(void)
     CHECK(gix_refspec_prefixes(texts, 0, 0, buffer, 16, &len) == GIX_REFSPEC_NO_OPERATION);
     CHECK(len == 99 && buffer[0] == 'x');
     CHECK(gix_refspec_prefixes(texts, 0, GIX_REFSPEC_PUSH, buffer, 0, &len) == GIX_REFSPEC_OK && len == 0);
+    gix_refspec_text push = TEXT("a:refs/heads/b");
+    CHECK(gix_refspec_prefixes(&push, 1, GIX_REFSPEC_PUSH, buffer, 16, &len) == GIX_REFSPEC_OK);
+    CHECK(len == 13 && memcmp(buffer, "refs/heads/b\n", 13) == 0);
 }
 
 static const gix_refspec_text names[] = { TEXT("refs/heads/a"), TEXT("refs/heads/b"), TEXT("refs/tags/b") };
@@ -171,13 +239,15 @@ static const gix_refspec_text names[] = { TEXT("refs/heads/a"), TEXT("refs/heads
 typedef uint32_t lists(gix_refspec_mapping *mappings, size_t room, uint8_t *buffer, size_t buffer_len, size_t *count,
                        size_t *len);
 
-/* Makes a call of so many mappings with growths refused, and then at its exact sizes and one below. `made` has room for
- * one more, and holds the mappings afterwards. */
+/* Makes a call of so many mappings with growths refused, at smaller sizes, and at the exact ones. `made` has room for one
+ * more, and holds the mappings afterwards. */
 static void check_lists(lists *list, size_t told, const char *answer, uint32_t done, gix_refspec_mapping *made)
 {
-    size_t needed = strlen(answer), count, len;
+    const size_t needed = strlen(answer), size = (told + 1) * sizeof *made;
+    size_t count, len;
     uint8_t buffer[128];
     for (refused = 1;; refused++) {
+        memset(made, 'x', size);
         memset(buffer, 'x', sizeof buffer);
         growths = 0;
         count = len = 99;
@@ -186,19 +256,23 @@ static void check_lists(lists *list, size_t told, const char *answer, uint32_t d
             CHECK(outcome == done && refused > 1);
             break;
         }
-        CHECK(outcome == GIX_REFSPEC_NO_MEMORY && count == 99 && len == 99 && buffer[0] == 'x');
+        CHECK(outcome == GIX_REFSPEC_NO_MEMORY && count == 99 && len == 99);
+        CHECK(is_untouched(made, size) && is_untouched(buffer, sizeof buffer));
     }
     refused = 0;
-    memset(made, 'x', (told + 1) * sizeof *made);
+    memset(made, 'x', size);
     memset(buffer, 'x', sizeof buffer);
+    const size_t rooms[][2] = { { told - 1, needed }, { told, needed - 1 }, { told - 1, needed - 1 },
+                                { told - 1, sizeof buffer }, { told + 1, needed - 1 }, { 0, needed }, { told, 0 } };
+    for (size_t i = 0; i < sizeof rooms / sizeof *rooms; i++) {
+        count = len = 99;
+        CHECK(list(made, rooms[i][0], buffer, rooms[i][1], &count, &len) == GIX_REFSPEC_TOO_SMALL);
+        CHECK(count == told && len == needed && is_untouched(made, size) && is_untouched(buffer, sizeof buffer));
+    }
     count = len = 99;
-    CHECK(list(made, told - 1, buffer, needed, &count, &len) == GIX_REFSPEC_TOO_SMALL);
-    CHECK(count == told && len == needed && buffer[0] == 'x' && *(char *)made == 'x');
-    CHECK(list(made, told, buffer, needed - 1, &count, &len) == GIX_REFSPEC_TOO_SMALL);
-    CHECK(count == told && len == needed && buffer[0] == 'x' && *(char *)made == 'x');
     CHECK(list(made, told, buffer, needed, &count, &len) == done);
     CHECK(count == told && len == needed && memcmp(buffer, answer, needed) == 0);
-    CHECK(buffer[needed] == 'x' && *(char *)(made + told) == 'x');
+    CHECK(is_untouched(buffer + needed, sizeof buffer - needed) && is_untouched(made + told, sizeof *made));
 }
 
 static uint32_t match(gix_refspec_mapping *mappings, size_t room, uint8_t *buffer, size_t buffer_len, size_t *count,
@@ -220,24 +294,34 @@ static void check_mappings(void)
     CHECK(made[2].spec == 3 && made[2].item == 2 && made[2].has_destination == 0 && made[2].made_len == 0);
 }
 
+static const gix_refspec_text back[] = { TEXT("refs/x/*:refs/heads/*"), TEXT("^refs/x/a"),
+                                         TEXT("refs/x/c:1111111111111111111111111111111111111111"), TEXT("a b") };
+
+static uint32_t match_back(gix_refspec_mapping *mappings, size_t room, uint8_t *buffer, size_t buffer_len, size_t *count,
+                           size_t *len)
+{
+    return gix_refspec_match(back, 2, names, 3, GIX_REFSPEC_BACKWARD, mappings, room, buffer, buffer_len, count, len);
+}
+
 static void check_looking_back(void)
 {
-    gix_refspec_text texts[] = { TEXT("refs/x/*:refs/heads/*"), TEXT("^refs/x/a"),
-                                 TEXT("refs/x/c:1111111111111111111111111111111111111111"), TEXT("a b") };
     gix_refspec_mapping made[4];
     uint8_t buffer[16];
     size_t count = 9, len = 99;
-    CHECK(gix_refspec_match(texts, 2, names, 3, GIX_REFSPEC_BACKWARD, made, 4, buffer, 16, &count, &len) == 0);
-    CHECK(count == 1 && len == 8 && memcmp(buffer, "refs/x/b", 8) == 0);
-    CHECK(made[0].spec == 0 && made[0].item == 1 && made[0].has_destination == 1 && made[0].made_at == 0);
-    CHECK(gix_refspec_match(texts, 3, names, 3, GIX_REFSPEC_BACKWARD, made, 4, buffer, 16, &count, &len)
+    check_lists(match_back, 1, "refs/x/b", GIX_REFSPEC_OK, made);
+    CHECK(made[0].spec == 0 && made[0].item == 1 && made[0].has_destination == 1 && made[0].verdict == 0);
+    CHECK(made[0].id_len == 0 && made[0].made_at == 0 && made[0].made_len == 8);
+    CHECK(gix_refspec_match(back, 3, names, 3, GIX_REFSPEC_BACKWARD, made, 4, buffer, 16, &count, &len)
           == GIX_REFSPEC_NEEDS_IDS);
-    CHECK(gix_refspec_match(texts, 3, names, 3, GIX_REFSPEC_FORWARD, made, 4, buffer, 16, &count, &len) == 0);
+    CHECK(count == 9 && len == 99);
+    CHECK(gix_refspec_match(back, 3, names, 3, GIX_REFSPEC_FORWARD, made, 4, buffer, 16, &count, &len) == 0);
     CHECK(count == 0 && len == 0);
-    CHECK(gix_refspec_match(texts, 4, names, 3, GIX_REFSPEC_FORWARD, made, 4, buffer, 16, &count, &len)
+    count = len = 99;
+    CHECK(gix_refspec_match(back, 4, names, 3, GIX_REFSPEC_FORWARD, made, 4, buffer, 16, &count, &len)
           == GIX_REFSPEC_NAME_INVALID_BYTE);
-    CHECK(gix_refspec_match(texts, 4, names, 3, 0, made, 4, buffer, 16, &count, &len) == GIX_REFSPEC_NO_OPERATION);
-    CHECK(count == 0 && len == 0);
+    CHECK(gix_refspec_match(back, 4, names, 3, 0, made, 4, buffer, 16, &count, &len) == GIX_REFSPEC_NO_OPERATION);
+    CHECK(gix_refspec_match(back, 4, names, 3, 3, made, 4, buffer, 16, &count, &len) == GIX_REFSPEC_NO_OPERATION);
+    CHECK(count == 99 && len == 99);
 }
 
 static const gix_refspec_text planned[] = {
@@ -274,17 +358,45 @@ static void check_verdicts(void)
     CHECK(made[0].id_len == 40 && made[0].made_at == 40 && made[0].made_len == 6 && made[5].has_destination == 0);
 }
 
+static uint32_t plan_of_six(gix_refspec_mapping *mappings, size_t room, uint8_t *buffer, size_t buffer_len, size_t *count,
+                            size_t *len)
+{
+    return plan(6, mappings, room, buffer, buffer_len, count, len);
+}
+
 static void check_other_plans(void)
 {
     gix_refspec_mapping made[8];
     uint8_t buffer[256];
-    size_t count = 9, len = 99;
-    CHECK(plan(6, made, 8, buffer, sizeof buffer, &count, &len) == GIX_REFSPEC_OK);
-    CHECK(count == 6 && made[0].verdict == GIX_REFSPEC_WRITTEN && made[5].verdict == GIX_REFSPEC_FETCHED_ONLY);
+    size_t count, len;
+    check_lists(plan_of_six, 6, "1111111111111111111111111111111111111111refs/yrefs/x/aother/brefs/x/a.lorefs/x/a.lo",
+                GIX_REFSPEC_OK, made);
+    CHECK(made[0].verdict == GIX_REFSPEC_WRITTEN && made[5].verdict == GIX_REFSPEC_FETCHED_ONLY);
     count = len = 99;
     CHECK(plan(8, made, 8, buffer, sizeof buffer, &count, &len) == GIX_REFSPEC_NAME_INVALID_BYTE);
     CHECK(count == 99 && len == 99);
     CHECK(plan(0, made, 0, buffer, 0, &count, &len) == GIX_REFSPEC_OK && count == 0 && len == 0);
+}
+
+/* `HEAD` is a name like others, on either side. */
+static void check_head(void)
+{
+    const gix_refspec_text texts[] = { TEXT("HEAD:refs/x/HEAD"), TEXT("@"), TEXT("HEA*:HEA*") };
+    const gix_refspec_text items[] = { TEXT("refs/heads/a"), TEXT("HEAD") };
+    static const uint32_t verdicts[] = { GIX_REFSPEC_WRITTEN, GIX_REFSPEC_FETCHED_ONLY, GIX_REFSPEC_WRITTEN };
+    gix_refspec_mapping made[4];
+    uint8_t buffer[32];
+    size_t count = 9, len = 99;
+    CHECK(gix_refspec_match(texts, 3, items, 2, GIX_REFSPEC_FORWARD, made, 4, buffer, 32, &count, &len) == 0);
+    CHECK(count == 3 && len == 15);
+    for (size_t i = 0; i < 3; i++)
+        CHECK(made[i].spec == i && made[i].item == 1);
+    CHECK(gix_refspec_plan(texts, 3, items, 2, made, 4, buffer, 32, &count, &len) == GIX_REFSPEC_OK);
+    CHECK(count == 3 && len == 15 && memcmp(buffer, "refs/x/HEADHEAD", 15) == 0);
+    for (size_t i = 0; i < 3; i++)
+        CHECK(made[i].spec == i && made[i].item == 1 && made[i].verdict == verdicts[i]);
+    CHECK(gix_refspec_match(texts, 3, items, 2, GIX_REFSPEC_BACKWARD, made, 4, buffer, 32, &count, &len) == 0);
+    CHECK(count == 1 && made[0].spec == 2 && made[0].item == 1 && len == 4 && memcmp(buffer, "HEAD", 4) == 0);
 }
 
 static void check_version(void)
@@ -298,8 +410,10 @@ static void check_version(void)
 static void *check_all(void *nothing)
 {
     check_outcomes();
+    check_kinds();
     check_parts();
     check_order();
+    check_other_texts();
     check_buffer(canonical, "+HEAD:refs/x");
     check_buffer(prefixes, "refs/heads/\nrefs/tags/v1\n");
     check_groups();
@@ -307,6 +421,7 @@ static void *check_all(void *nothing)
     check_looking_back();
     check_verdicts();
     check_other_plans();
+    check_head();
     check_explanations();
     return nothing;
 }
@@ -524,6 +639,6 @@ int main(int count, char **words)
     check_version();
     check_all(NULL);
     check_threads(4, 0);
-    check_threads(1, 16384);
+    check_threads(1, SMALL_STACK);
     return 0;
 }

@@ -1,6 +1,7 @@
 """Holds what was installed below a folder against the sources and the bindings: prototypes.py FOLDER
 Replays canon.sample, lhs.sample, rhs.sample and plan.sample over a program of the calls: prototypes.py --replay PROGRAM
 """
+import ctypes
 import os
 import re
 import subprocess
@@ -8,6 +9,7 @@ import sys
 
 HERE = os.path.dirname(os.path.abspath(__file__))
 SOURCES = os.path.join(HERE, "..", "crates", "refspec_c", "src")
+LIBRARY = os.path.join(HERE, "..", "crates", "refspec_text", "src")
 RUST = os.path.join(HERE, "..", "bindings", "rust")
 PYTHON = os.path.join(HERE, "..", "bindings", "python", "gix_refspec.py")
 # What each type of the exported functions is in C. A slice is a pointer and a length, and an allocator is nothing.
@@ -35,6 +37,16 @@ RUST_IN_C = {
     "*mut Text": "gix_refspec_text *",
     "*mut Parts": "gix_refspec_instruction *",
     "*mut Mapping": "gix_refspec_mapping *",
+}
+# The sentences of outcomes that the library has none for.
+OF_CALLS = {
+    "OK": "The call has its answer.",
+    "NO_LIST": "Only a request for all refs is safe.",
+    "TOO_SMALL": "The buffer has no room for the answer.",
+    "NO_MEMORY": "Memory ran out.",
+    "NO_OPERATION": "There is no such operation, direction or outcome.",
+    "NEEDS_IDS": "A destination is an object id, and names alone don't tell which refs have it.",
+    "IN_CONFLICT": "Several refs would be written to one destination.",
 }
 
 
@@ -102,6 +114,30 @@ def numbers():
             yield "gix_refspec.py", one, int(number)
 
 
+def sentences(in_header):
+    """What is to be said of each outcome: the sentence of the library's reason or fault of this name, if it has one."""
+    arm = re.compile(r'Error::(\w+)(?: \{ \.\. \})? =>\s*\{?\s*"((?:[^"\\]|\\.)*)"')
+    said = {}
+    for file, front in (("parsing.rt", ""), ("name.rt", "NAME_")):
+        text = read(LIBRARY, file)
+        said.update({front + screaming(name): text for name, text in arm.findall(text, text.index("fn explanation"))})
+    said.update(OF_CALLS)
+    return {number: said[name].replace("\\\\", "\\") for name, number in in_header.items()}
+
+
+def told_by(library, outcome):
+    """The sentence that the library tells for an outcome, and the byte behind it."""
+
+    class Text(ctypes.Structure):
+        _fields_ = [("bytes", ctypes.c_void_p), ("len", ctypes.c_size_t)]
+
+    sentence = Text(ctypes.cast(b"", ctypes.c_void_p), 0)
+    if library.gix_refspec_explanation(ctypes.c_uint32(outcome), ctypes.byref(sentence)) != 0:
+        return None
+    told = ctypes.string_at(sentence.bytes, sentence.len + 1)
+    return told[:-1].decode(), told[-1]
+
+
 def versions(folder, header):
     """The version of the library in each place that tells it."""
     shared = os.path.join(folder, "lib", "libgix_refspec.so")
@@ -150,6 +186,17 @@ def compare(folder):
     if others:
         sys.exit(f"bindings: the header has other numbers for {others}")
     print(f"bindings: {len(functions)} prototypes as the functions; the archive wants {', '.join(sorted(wanted))}")
+
+
+def compare_sentences(folder):
+    header = read(folder, "include", "gix_refspec.h")
+    outcomes = re.search(r"enum \{\s*GIX_REFSPEC_OK = 0,.*?\}", header, re.S)[0]
+    wanted = sentences(numbers_of(outcomes))
+    library = ctypes.CDLL(os.path.join(folder, "lib", "libgix_refspec.so"))
+    for outcome, sentence in wanted.items():
+        if told_by(library, outcome) != (sentence, 0):
+            sys.exit(f"bindings: outcome {outcome} is told as {told_by(library, outcome)}, not {sentence!r} and a NUL")
+    print(f"bindings: {len(wanted)} sentences, {len(wanted) - len(OF_CALLS)} of them those of refspec_text")
 
 
 def compare_versions(folder):
@@ -241,3 +288,4 @@ if sys.argv[1] == "--replay":
 else:
     compare(sys.argv[1])
     compare_versions(sys.argv[1])
+    compare_sentences(sys.argv[1])
