@@ -138,32 +138,38 @@ def told_by(library, outcome):
     return told[:-1].decode(), told[-1]
 
 
+def found(pattern, text):
+    """What the group of a pattern is in a text; None where the pattern isn't there."""
+    place = re.search(pattern, text, re.M)
+    return place and place[1]
+
+
 def versions(folder, header):
     """The version of the library in each place that tells it."""
     shared = os.path.join(folder, "lib", "libgix_refspec.so")
     config = read(folder, "lib", "pkgconfig", "gix_refspec.pc")
-    python = read(PYTHON)
+    python, manual = read(PYTHON), read(HERE, "..", "docs", "C.md")
     parts = re.findall(r"^#define GIX_REFSPEC_VERSION_(?:MAJOR|MINOR|PATCH) (\d+)$", header, re.M)
     told = {
-        "gix_refspec.h": re.search(r'^#define GIX_REFSPEC_VERSION "(.*)"$', header, re.M)[1],
+        "gix_refspec.h": found(r'^#define GIX_REFSPEC_VERSION "(.*)"$', header),
         "its numbers": ".".join(parts),
-        "gix_refspec.pc": re.search(r"^Version: (.*)$", config, re.M)[1],
+        "gix_refspec.pc": found(r"^Version: (.*)$", config),
         "the name of the file": os.path.realpath(shared).partition(".so.")[2],
-        "docs/C.md": re.search(r"`libgix_refspec\.so\.(\d+\.\d+\.\d+)`", read(HERE, "..", "docs", "C.md"))[1],
-        "gix_refspec.py": re.search(r'^__version__ = "(.*)"$', python, re.M)[1],
+        "docs/C.md": found(r"`libgix_refspec\.so\.(\d+\.\d+\.\d+)`", manual),
+        "gix_refspec.py": found(r'^__version__ = "(.*)"$', python),
     }
     for crate in ("gix-refspec-sys", "refspec"):
-        told[f"the crate {crate}"] = re.search(r'^version = "(.*)"$', read(RUST, crate, "Cargo.toml"), re.M)[1]
-    wanted = re.search(r'^gix-refspec-sys = .*version = "(.*)"', read(RUST, "refspec", "Cargo.toml"), re.M)
-    told["what refspec depends on"] = wanted[1]
+        told[f"the crate {crate}"] = found(r'^version = "(.*)"$', read(RUST, crate, "Cargo.toml"))
+    told["what refspec depends on"] = found(r'^gix-refspec-sys = .*version = "(.*)"', read(RUST, "refspec", "Cargo.toml"))
     # Before 1.0 each other minor version may break callers, afterwards each other major version.
     compatible = ".".join(parts[:2] if parts[0] == "0" else parts[:1])
     dynamic = subprocess.run(["readelf", "-d", shared], stdout=subprocess.PIPE, check=True, text=True).stdout
     sonames = {
-        "readelf": re.search(r"\(SONAME\).*\[(.*)\]", dynamic)[1],
-        "gix_refspec.pc": re.search(r"^soname=(.*)$", config, re.M)[1],
+        "readelf": found(r"\(SONAME\).*\[(.*)\]", dynamic),
+        "gix_refspec.pc": found(r"^soname=(.*)$", config),
         "the link": os.readlink(shared),
-        "gix_refspec.py": re.search(r'"(libgix_refspec\.so[^"]*)"', python)[1],
+        "docs/C.md": found(r"`(libgix_refspec\.so[^`]*)`, which is its soname", manual),
+        "gix_refspec.py": found(r'"(libgix_refspec\.so[^"]*)"', python),
     }
     return told, sonames, f"libgix_refspec.so.{compatible}"
 
