@@ -244,7 +244,7 @@ pub fn names_decide(group: &MatchGroup<'_>, items: &[Item<'_>])
     ensures { NamesDecide (readings_of group.now) (map ref_of items.now) }
 {}
 
-/// From right to left they do so where no destination is an id, which matches by the ids of refs.
+/// From right to left the names of refs alone decide where no destination is an id, as an id matches by ids.
 pub fn names_decide_back(group: &MatchGroup<'_>, items: &[Item<'_>])
     ensures { NamesDecideBack (readings_of group.now) (map ref_of items.now) }
 {}
@@ -299,15 +299,15 @@ pub fn validated_once(group: &MatchGroup<'_>, items: &[Item<'_>])
     ensures { ValidatedOnce (readings_of group.now) (map ref_of items.now) }
 {}
 
-/// Whatever a group and items are, what `validated` leaves of `match_lhs` is told apart: no two mappings have
-/// the same source and destination, no two the same destination, and no two fixes do. Mappings of one spec and
-/// one item have one source. So no two of them, with their indexes, are written alike.
+/// Whatever a group and items are, of what `validated` leaves of `match_lhs` no two mappings have the same
+/// destination, or are the same pair, and no two fixes have the same destination. Mappings of one spec and one
+/// item have one source. So a caller that writes them out, with their indexes, writes no two alike.
 pub fn plans_apart()
     ensures { PlansApart }
 {}
 
-/// No side of a fetch has a control character, nor has its canonical text. So `match_lhs` maps to none, if no
-/// name of an item has one.
+/// Whatever a text is, no side of the fetch that it reads as has a control character, nor has its canonical
+/// text. So no mapping of `match_lhs` has one, if no name of an item does.
 pub fn no_control_character()
     ensures { NoControlCharacter }
 {}

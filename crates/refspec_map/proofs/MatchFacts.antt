@@ -11,7 +11,7 @@ use Rattle.gix_refspec.specs.Texts.ObjectId.{IsIdText}
 use Rattle.gix_refspec.specs.Specs.Reading.{Normal, Negative, Reading}
 use Rattle.gix_refspec.specs.Specs.Grammar.{fetched}
 use Rattle.gix_refspec.specs.Matching.Side.{partial, HasKind}
-use Rattle.gix_refspec.specs.Matching.Match.{Ref, HasName, IsFirstCandidate, Takes}
+use Rattle.gix_refspec.specs.Matching.Match.{Ref, IsFirstCandidate, Takes}
 use Rattle.gix_refspec.specs.Matching.Mappings.{name, Mapped, IsExcluded}
 use Rattle.gix_refspec.specs.Matching.Hits.{Ends, AreForwardEnds, AreBackwardEnds, Hit, AreForward, AreKeptForward, AreKeptBackward, IsIdMapping}
 use Rattle.gix_refspec.specs.Matching.Validation.{Conflict, HasConflictAt, IsValidated}

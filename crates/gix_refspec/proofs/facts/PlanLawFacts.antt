@@ -1,5 +1,5 @@
 -- The words of the laws on plans, on each side of what they ask, and what a caller concludes from these laws.
-use Rattle.std.proofs.Common.{◌≡◌, ◌≢◌, ℕ, List, [], ◌∷◌, None, Some, codes, refl, sym, ap, subst, arith}
+use Rattle.std.proofs.Common.{◌≢◌, ℕ, List, [], ◌∷◌, None, Some, codes, refl, sym, ap, subst, arith}
 use Rattle.std.specs.List.{AllByRecursion}
 use Rattle.refspec_text.specs.declared.parsing.Operation.TheVariants.{Fetch}
 use Rattle.refspec_text.specs.Texts.Words.{Lacks}
