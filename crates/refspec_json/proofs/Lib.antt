@@ -1,1 +1,2 @@
 mod ConflictLemmas
+mod facts

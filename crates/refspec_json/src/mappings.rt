@@ -1,6 +1,6 @@
 //! Mappings and conflicts.
 
-ghost use Rattle.std.specs.Prelude.{◌≡◌, ◌++◌, map, option_map, string_bytes, IfOk, OnOk};
+ghost use Rattle.std.specs.Prelude.{◌≡◌, ◌++◌, map, option_map, IfOk, OnOk};
 ghost use Rattle.serde_json.specs.Data.{array};
 ghost use Rattle.serde_json.specs.View.{view, items_of};
 ghost use Rattle.refspec_json.specs.Objects.{line_of, mapping_object, left_out_object, claim_object, conflict_object};
@@ -35,9 +35,9 @@ impl Mapping<'_> {
     {
         let destination = text_or_null(alloc, self.destination)?;
         json!(in alloc; {
+            "destination": destination,
             "kind": "mapping",
             "source": self.source,
-            "destination": destination,
             "spec": self.spec,
         })
     }
@@ -70,11 +70,11 @@ impl LeftOut<'_> {
     {
         let destination = text_or_null(alloc, self.destination)?;
         json!(in alloc; {
-            "kind": "left_out",
-            "source": self.source,
             "destination": destination,
-            "spec": self.spec,
+            "kind": "left_out",
             "message": self.message,
+            "source": self.source,
+            "spec": self.spec,
         })
     }
 }
@@ -104,8 +104,8 @@ impl Conflict<'_> {
     {
         let sources = Claim::array_of(self.sources, alloc)?;
         json!(in alloc; {
-            "kind": "conflict",
             "destination": self.destination,
+            "kind": "conflict",
             "sources": sources,
         })
     }

@@ -31,8 +31,8 @@ impl Prefix<'_> {
     {
         json!(in alloc; {
             "kind": "prefix",
-            "prefix": self.prefix,
             "pattern": self.pattern,
+            "prefix": self.prefix,
         })
     }
 }

@@ -32,9 +32,9 @@ impl Malformed<'_> {
     {
         json!(in alloc; {
             "kind": "malformed",
+            "message": self.message,
             "place": self.place,
             "text": self.text,
-            "message": self.message,
         })
     }
 }
@@ -62,8 +62,8 @@ impl Untracked<'_> {
     {
         json!(in alloc; {
             "kind": "untracked",
-            "name": self.name,
             "message": self.message,
+            "name": self.name,
         })
     }
 }

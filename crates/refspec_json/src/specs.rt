@@ -47,16 +47,16 @@ impl Refused<'_> {
         let part = text_or_null(alloc, self.part)?;
         let at = number_or_null(self.at);
         json!(in alloc; {
-            "kind": "refused",
-            "place": self.place,
-            "operation": self.operation,
-            "text": self.text,
-            "reason": self.reason,
-            "message": self.message,
-            "side": side,
-            "part": part,
-            "at": at,
             "advice": self.advice,
+            "at": at,
+            "kind": "refused",
+            "message": self.message,
+            "operation": self.operation,
+            "part": part,
+            "place": self.place,
+            "reason": self.reason,
+            "side": side,
+            "text": self.text,
         })
     }
 }
@@ -123,11 +123,11 @@ impl Spec<'_> {
             (option_map (λ t. t.now) self.now.same_as)) }
     {
         let mut members = Map::new(alloc);
-        put_text(alloc, &mut members, "kind", self.kind.name())?;
-        put_text(alloc, &mut members, "place", self.place)?;
-        put_text(alloc, &mut members, "operation", self.operation)?;
-        put_text(alloc, &mut members, "text", self.text)?;
         put_text(alloc, &mut members, "canonical", self.canonical)?;
+        put_text(alloc, &mut members, "kind", self.kind.name())?;
+        put_text(alloc, &mut members, "operation", self.operation)?;
+        put_text(alloc, &mut members, "place", self.place)?;
+        put_text(alloc, &mut members, "text", self.text)?;
         put_text_if(alloc, &mut members, "meaning", self.meaning)?;
         put_text_if(alloc, &mut members, "same_as", self.same_as)?;
         Ok(Value::Object(members))
@@ -178,15 +178,7 @@ impl All<'_> {
         ensures { OnOk result (out.new.items ≡ out.old.items ++ line_of (noted_object
             (codes "all") self.now.spec.now self.now.message.now)) }
     {
-        put_value(alloc, out, &self.object(alloc)?)
-    }
-
-    // Its object.
-    fn object(&self, alloc: Global) -> Result<Value, AllocError>
-        ensures { IfOk result (λ v. view v ≡ noted_object
-            (codes "all") self.now.spec.now self.now.message.now) }
-    {
-        noted(alloc, "all", self.spec, self.message)
+        put_value(alloc, out, &noted(alloc, "all", self.spec, self.message)?)
     }
 }
 
@@ -203,15 +195,11 @@ impl ToObject<'_> {
         ensures { OnOk result (out.new.items ≡ out.old.items ++ line_of (noted_object
             (codes "to_object") self.now.spec.now self.now.message.now)) }
     {
-        put_value(alloc, out, &self.object(alloc)?)
-    }
-
-    // Its object.
-    fn object(&self, alloc: Global) -> Result<Value, AllocError>
-        ensures { IfOk result (λ v. view v ≡ noted_object
-            (codes "to_object") self.now.spec.now self.now.message.now) }
-    {
-        noted(alloc, "to_object", self.spec, self.message)
+        put_value(
+            alloc,
+            out,
+            &noted(alloc, "to_object", self.spec, self.message)?,
+        )
     }
 }
 
@@ -219,5 +207,5 @@ impl ToObject<'_> {
 fn noted(alloc: Global, kind: &str, spec: &str, message: &str) -> Result<Value, AllocError>
     ensures { IfOk result (λ v. view v ≡ noted_object kind.now spec.now message.now) }
 {
-    json!(in alloc; {"kind": kind, "spec": spec, "message": message})
+    json!(in alloc; {"kind": kind, "message": message, "spec": spec})
 }

@@ -1,0 +1,64 @@
+-- The line of an example of each object, written by hand.
+use Rattle.std.proofs.Common.{◌≡◌, ◌++◌, [], ◌∷◌, None, Some, codes, refl}
+use Rattle.std.specs.Fmt.{digits}
+use Rattle.serde_json.proofs.OnLiterals.{serde_json_on_literals}
+use Rattle.refspec_json.specs.Objects.{line_of, refused_object, spec_object, mapping_object, left_out_object, conflict_object, malformed_object, untracked_object, prefix_object, noted_object, nothing_object}
+
+-- a source that has a fault, and a text without sides
+pub refused : (line_of (refused_object (codes "-:1") (codes "fetch") (codes "a..b") (codes "r") (codes "m") (Some (codes "source")) (Some (codes "..")) (Some 2) (codes "d"))
+    ≡ codes "{\"advice\":\"d\",\"at\":2,\"kind\":\"refused\",\"message\":\"m\",\"operation\":\"fetch\",\"part\":\"..\",\"place\":\"-:1\",\"reason\":\"r\",\"side\":\"source\",\"text\":\"a..b\"}" ++ 10 ∷ [])
+    × (line_of (refused_object (codes "-:1") (codes "push") [] (codes "r") (codes "m") None None None [])
+    ≡ codes "{\"advice\":\"\",\"at\":null,\"kind\":\"refused\",\"message\":\"m\",\"operation\":\"push\",\"part\":null,\"place\":\"-:1\",\"reason\":\"r\",\"side\":null,\"text\":\"\"}" ++ 10 ∷ [])
+unfolding digits serde_json_on_literals
+refused = (refl, refl)
+
+-- a spec alone, with its meaning, and with the place of an earlier one
+pub spec : (line_of (spec_object (codes "canonical") (codes "-:1") (codes "fetch") (codes "@") (codes "HEAD") None None)
+    ≡ codes "{\"canonical\":\"HEAD\",\"kind\":\"canonical\",\"operation\":\"fetch\",\"place\":\"-:1\",\"text\":\"@\"}" ++ 10 ∷ [])
+    × (line_of (spec_object (codes "meaning") (codes "-:1") (codes "fetch") (codes "a") (codes "a") (Some (codes "m")) None)
+    ≡ codes "{\"canonical\":\"a\",\"kind\":\"meaning\",\"meaning\":\"m\",\"operation\":\"fetch\",\"place\":\"-:1\",\"text\":\"a\"}" ++ 10 ∷ [])
+    × (line_of (spec_object (codes "good") (codes "-:2") (codes "fetch") (codes "a") (codes "a") None (Some (codes "-:1")))
+    ≡ codes "{\"canonical\":\"a\",\"kind\":\"good\",\"operation\":\"fetch\",\"place\":\"-:2\",\"same_as\":\"-:1\",\"text\":\"a\"}" ++ 10 ∷ [])
+unfolding serde_json_on_literals
+spec = (refl, refl, refl)
+
+-- a quote and a backslash are escaped
+pub mapping : (line_of (mapping_object (codes "a") None (codes "b"))
+    ≡ codes "{\"destination\":null,\"kind\":\"mapping\",\"source\":\"a\",\"spec\":\"b\"}" ++ 10 ∷ [])
+    × (line_of (mapping_object (codes "\"\\") (Some (codes "c")) (codes "b"))
+    ≡ codes "{\"destination\":\"c\",\"kind\":\"mapping\",\"source\":\"\\\"\\\\\",\"spec\":\"b\"}" ++ 10 ∷ [])
+unfolding serde_json_on_literals
+mapping = (refl, refl)
+
+pub left_out : line_of (left_out_object (codes "a") (Some (codes "c")) (codes "b") (codes "m"))
+    ≡ codes "{\"destination\":\"c\",\"kind\":\"left_out\",\"message\":\"m\",\"source\":\"a\",\"spec\":\"b\"}" ++ 10 ∷ []
+unfolding serde_json_on_literals
+left_out = refl
+
+-- two sources, in order, and none
+pub conflict : (line_of (conflict_object (codes "d") ((codes "b", codes "b:d") ∷ (codes "a", codes "a:d") ∷ []))
+    ≡ codes "{\"destination\":\"d\",\"kind\":\"conflict\",\"sources\":[{\"source\":\"b\",\"spec\":\"b:d\"},{\"source\":\"a\",\"spec\":\"a:d\"}]}" ++ 10 ∷ [])
+    × (line_of (conflict_object (codes "d") []) ≡ codes "{\"destination\":\"d\",\"kind\":\"conflict\",\"sources\":[]}" ++ 10 ∷ [])
+unfolding serde_json_on_literals
+conflict = (refl, refl)
+
+pub malformed : line_of (malformed_object (codes "-:1") (codes "t") (codes "m")) ≡ codes "{\"kind\":\"malformed\",\"message\":\"m\",\"place\":\"-:1\",\"text\":\"t\"}" ++ 10 ∷ []
+unfolding serde_json_on_literals
+malformed = refl
+
+pub untracked : line_of (untracked_object (codes "n") (codes "m")) ≡ codes "{\"kind\":\"untracked\",\"message\":\"m\",\"name\":\"n\"}" ++ 10 ∷ []
+unfolding serde_json_on_literals
+untracked = refl
+
+pub prefix : line_of (prefix_object (codes "refs/heads/") (codes "refs/heads/*")) ≡ codes "{\"kind\":\"prefix\",\"pattern\":\"refs/heads/*\",\"prefix\":\"refs/heads/\"}" ++ 10 ∷ []
+unfolding serde_json_on_literals
+prefix = refl
+
+pub noted : (line_of (noted_object (codes "all") (codes "s") (codes "m")) ≡ codes "{\"kind\":\"all\",\"message\":\"m\",\"spec\":\"s\"}" ++ 10 ∷ [])
+    × (line_of (noted_object (codes "to_object") (codes "s") (codes "m")) ≡ codes "{\"kind\":\"to_object\",\"message\":\"m\",\"spec\":\"s\"}" ++ 10 ∷ [])
+unfolding serde_json_on_literals
+noted = (refl, refl)
+
+pub nothing : line_of (nothing_object (codes "m")) ≡ codes "{\"kind\":\"nothing\",\"message\":\"m\"}" ++ 10 ∷ []
+unfolding serde_json_on_literals
+nothing = refl
