@@ -7,22 +7,33 @@ use crate::words::{call_of, command_line};
 use refspec_run::call::{Call, Command};
 use refspec_run::fault::Fault;
 use refspec_run::input::read_input;
+use refspec_run::plan::{Discard, Plan};
 use refspec_run::run::run;
 use std::fs::File;
 use std::process::ExitCode;
-use std::{env, io};
+use std::{env, io, mem};
 
-// The statuses of other words, and of files, devices and memory that fail.
+// The exit statuses of a usage error, and of a file, a device or memory that fails.
 const USAGE_STATUS: u8 = 2;
 
 const FAULT_STATUS: u8 = 3;
+
+// Leaves a plan to the end of the process, which frees it at once.
+#[derive(Drop)]
+struct AtExit;
+
+impl Discard for AtExit {
+    fn discard(&mut self, plan: Plan<'_, '_>) {
+        mem::forget(plan);
+    }
+}
 
 fn main(rt: HostRuntime) -> ExitCode {
     ExitCode::from(match words_of(&rt) {
         Ok(words) => run_words(&rt, words.as_slice()),
         Err(error) if error.kind() == io::ErrorKind::InvalidData => {
             let _ = eprintln!(rt;
-                "refspec: a word of the call is not UTF-8; give such specs by the standard input"
+                "refspec: an argument is not UTF-8; specs that aren't can be given by the standard input"
             );
             USAGE_STATUS
         }
@@ -78,6 +89,12 @@ fn run_call(rt: &HostRuntime, call: &Call<'_>) -> u8 {
         );
         return USAGE_STATUS;
     }
+    if call.beside == "-" && call.input == "-" {
+        let _ = eprintln!(rt;
+            "refspec: the refs and the specs can't both be the standard input; give the refs in a file by --refs"
+        );
+        return USAGE_STATUS;
+    }
     let beside = match beside_of(rt, call) {
         Ok(beside) => beside,
         Err(fault) => return fail_at(rt, fault, call.beside),
@@ -90,6 +107,7 @@ fn run_call(rt: &HostRuntime, call: &Call<'_>) -> u8 {
             &mut rt.stdin(),
             &mut rt.stdout(),
             &mut rt.stderr(),
+            &mut AtExit,
         )
     } else {
         match File::open(rt, call.input) {
@@ -101,6 +119,7 @@ fn run_call(rt: &HostRuntime, call: &Call<'_>) -> u8 {
                     &mut file,
                     &mut rt.stdout(),
                     &mut rt.stderr(),
+                    &mut AtExit,
                 )
             }
             Err(_) => Err(Fault::Read),

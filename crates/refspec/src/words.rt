@@ -16,7 +16,7 @@ pub fn command_line<'a>(alloc: Global) -> Result<clap::Command<'a>, AllocError> 
         .arg_required_else_help(true)
         .disable_help_subcommand(true)
         .after_help(
-            "Results go to the standard output, messages to the standard error.\nThe status is 0 if all is well, 1 if something is refused or conflicts, 2 for other words, and 3 if a file, a device or memory fails.",
+            "Results go to the standard output, messages to the standard error.\nThe exit status is 0 if all is well, 1 if something is refused, conflicts, is left out or isn't found, 2 for a usage error, and 3 if a file, a device or memory fails.",
         )
         .subcommand(check_line(alloc)?)?
         .subcommand(explain_line(alloc)?)?
@@ -26,8 +26,23 @@ pub fn command_line<'a>(alloc: Global) -> Result<clap::Command<'a>, AllocError> 
         .subcommand(prefixes_line(alloc)?)
 }
 
-// A command with the options that all have, and one that takes its specs from the input too.
+// A command that takes its specs from the input too, with the options that all have.
 fn line<'a>(alloc: Global, name: &'a str, about: &'a str) -> Result<clap::Command<'a>, AllocError> {
+    line_of(
+        alloc,
+        name,
+        about,
+        "A refspec. Without any, the specs are read from the input, one a line",
+    )
+}
+
+// A command with the options that all have, and what it says of its specs.
+fn line_of<'a>(
+    alloc: Global,
+    name: &'a str,
+    about: &'a str,
+    specs: &'a str,
+) -> Result<clap::Command<'a>, AllocError> {
     clap::Command::new(alloc, name)
         .about(about)
         .arg(
@@ -35,7 +50,7 @@ fn line<'a>(alloc: Global, name: &'a str, about: &'a str) -> Result<clap::Comman
                 .value_name("SPEC")
                 .num_args(0..)
                 .action(ArgAction::Append)
-                .help("A refspec. Without any, the specs are read from the input, one a line"),
+                .help(specs),
         )?
         .arg(
             Arg::new(alloc, "specs")
@@ -47,7 +62,7 @@ fn line<'a>(alloc: Global, name: &'a str, about: &'a str) -> Result<clap::Comman
         .arg(flag(
             alloc,
             "zero",
-            "Reads and writes records that end with a zero byte, and quotes nothing",
+            "Reads and writes raw records that end with a zero byte; messages quote names",
         )
         .short('z'))?
         .arg(flag(
@@ -112,10 +127,11 @@ fn canon_line<'a>(alloc: Global) -> Result<clap::Command<'a>, AllocError> {
 }
 
 fn plan_line<'a>(alloc: Global) -> Result<clap::Command<'a>, AllocError> {
-    line(
+    line_of(
         alloc,
         "plan",
         "Tells what a fetch with these refspecs writes",
+        "A refspec. The refs are read from the input, one a line",
     )?
     .arg(
         Arg::new(alloc, "refs")
@@ -130,16 +146,16 @@ fn track_line<'a>(alloc: Global) -> Result<clap::Command<'a>, AllocError> {
     line(
         alloc,
         "track",
-        "Tells which refs of the remote tracking refs belong to",
+        "Tells from which refs of the remote the tracking refs are fetched",
     )?
     .arg(
         Arg::new(alloc, "ref")
             .long("ref")
             .value_name("NAME")
-            .num_args(1..)
+            .num_args(1)
             .action(ArgAction::Append)
             .required(true)
-            .help("The full name of a tracking ref"),
+            .help("The full name of a tracking ref; may be given again"),
     )
 }
 
@@ -147,7 +163,7 @@ fn prefixes_line<'a>(alloc: Global) -> Result<clap::Command<'a>, AllocError> {
     line(alloc, "prefixes", "Lists what to ask a server for")?.arg(flag(
         alloc,
         "patterns",
-        "Writes patterns for `git ls-remote`, and no arguments of protocol v2",
+        "Writes patterns for `git ls-remote` instead of arguments of protocol v2",
     )
     .long("patterns"))
 }

@@ -1,5 +1,5 @@
 -- Texts that were checked, one after another.
-use Rattle.std.proofs.Common.{◌≡◌, ℕ, ◌+◌, ◌<◌, ◌≤◌, List, [], ◌∷◌, ◌++◌, length, map, take, take_all, get_or, zero, suc, inl, inr, refl, sym, ap, ◌∙◌, subst, arith}
+use Rattle.std.proofs.Common.{◌≡◌, ℕ, ◌+◌, ◌<◌, ◌≤◌, Bool, true, false, MatchBool, List, [], ◌∷◌, ◌++◌, length, map, take, take_all, get_or, zero, suc, inl, inr, refl, sym, ap, ◌∙◌, subst, arith}
 use Rattle.std.proofs.lemmas.List.{map-append, take_more}
 use Rattle.std.specs.List.{AllZip}
 use Rattle.refspec_run.specs.declared.call.Form.{Form}
@@ -11,7 +11,7 @@ use Rattle.gix_refspec.specs.Specs.Reading.{Reading}
 use Rattle.refspec_text.specs.declared.parsing.Error.{Error}
 use Rattle.gix_refspec.specs.Views.Spec.{reading_of}
 use Rattle.refspec_text.specs.declared.spec.RefSpecRef.{RefSpecRef}
-use Rattle.refspec_run.specs.Read.{AddsIfGood, AddsIfRead, AreRead, HasBad, HasRefused, IsChecked, IsSpec}
+use Rattle.refspec_run.specs.Read.{AddsIfGood, AddsIfRead, AreGood, AreRead, HasBad, HasRefused, IsChecked, IsSpec, TellsRefused}
 use Rattle.refspec_run.specs.Texts.{said}
 
 -- one more pair
@@ -67,6 +67,40 @@ HasRefused-of (t ∷ texts) (checked.Good text spec ∷ all) is bad = inr (HasRe
 HasRefused-of (t ∷ texts) (checked.Bad text error ∷ all) is bad = inl (is.0.0, is.0.2)
 
 -- what is told of what was checked is told of the texts
-pub AddsIfRead-of : (Adds : List Reading → List ℕ → List ℕ → Type 0) (f : Form) (texts : List Text) (all : List Checked) (old new : List ℕ) → AllZip IsChecked texts all → AddsIfGood Adds f all old new → AddsIfRead Adds f (map said texts) old new
-AddsIfRead-of Adds f texts all old new is (inl told) = inl (told.0, AreRead-of texts all told.0 is told.1, told.2)
-AddsIfRead-of Adds f texts all old new is (inr kept) = inr (HasRefused-of texts all is kept.0, kept.1)
+pub AddsIfRead-of : (Adds : List Reading → List ℕ → List ℕ → Type 0) (f : Form) (refused : Bool) (texts : List Text) (all : List Checked) (old new : List ℕ) → AllZip IsChecked texts all → AddsIfGood Adds f refused all old new → AddsIfRead Adds f refused (map said texts) old new
+AddsIfRead-of Adds f refused texts all old new is (inl told) = inl (told.0, AreRead-of texts all told.0 is told.1, told.2)
+AddsIfRead-of Adds f refused texts all old new is (inr kept) = inr (HasRefused-of texts all is kept.0, kept.1, kept.2)
+
+-- the readings of specs
+all_read : (texts : List Text) (all : List Checked) → AllZip IsChecked texts all → AreGood all → (g : List Reading) × AreRead (map said texts) g
+all_read [] [] is good = ([], tt)
+all_read [] (c ∷ all) is good = absurd is
+all_read (t ∷ texts) [] is good = absurd is
+all_read (t ∷ texts) (checked.Good text spec ∷ all) is good =
+    let rest = all_read texts all is.1 good in
+    (reading_of spec ∷ rest.0, (is.0, rest.1))
+all_read (t ∷ texts) (checked.Bad text error ∷ all) is good = absurd good
+
+-- whether some text is refused
+pub TellsRefused-of : (refused : Bool) (texts : List Text) (all : List Checked) → AllZip IsChecked texts all → MatchBool refused (HasBad all) (AreGood all) → TellsRefused refused (map said texts)
+TellsRefused-of true texts all is bad = HasRefused-of texts all is bad
+TellsRefused-of false texts all is good = all_read texts all is good
+
+AreGood-more : (xs : List Checked) (c : Checked) → AreGood xs → AreGood (c ∷ []) → AreGood (xs ++ c ∷ [])
+AreGood-more [] c good is = is
+AreGood-more (checked.Good text spec ∷ xs) c good is = AreGood-more xs c good is
+AreGood-more (checked.Bad text error ∷ xs) c good is = absurd good
+
+-- one more spec
+pub AreGood-next : (all : List Checked) (i : ℕ) (c : Checked) → i < length all → c ≡ get_or all i c → AreGood (c ∷ []) → AreGood (take i all) → AreGood (take (i + 1) all)
+AreGood-next all i c below is good so_far =
+    subst AreGood (sym (take_more all i c below)) (AreGood-more (take i all) (get_or all i c) so_far (subst (λ (x : Checked). AreGood (x ∷ [])) is good))
+
+-- all are
+pub AreGood-all : (all : List Checked) (i : ℕ) → length all ≤ i → AreGood (take i all) → AreGood all
+AreGood-all all i long so_far = subst AreGood (take_all i all long) so_far
+
+-- one that is bad is one of all
+pub HasBad-here : (all : List Checked) (i : ℕ) (c : Checked) → i < length all → c ≡ get_or all i c → HasBad (c ∷ []) → HasBad all
+HasBad-here all i (checked.Good text spec) below here bad = absurd bad
+HasBad-here all i (checked.Bad text error) below here bad = HasBad-at all i (checked.Bad text error) text error below here refl

@@ -1,3 +1,4 @@
+mod facts
 pub mod RecordLemmas
 pub mod CheckedLemmas
 pub mod ShownLemmas
@@ -10,3 +11,4 @@ pub mod RefLemmas
 pub mod ConflictLemmas
 pub mod PlanLemmas
 pub mod OutputLemmas
+pub mod MessageLemmas

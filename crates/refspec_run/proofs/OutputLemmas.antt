@@ -1,5 +1,5 @@
 -- What was told of the texts of a call is its output.
-use Rattle.std.proofs.Common.{◌≡◌, ℕ, List, [], map, refl, sym, subst}
+use Rattle.std.proofs.Common.{◌≡◌, ℕ, Bool, false, MatchBool, List, [], map, refl, sym, subst}
 use Rattle.std.specs.List.{AllZip}
 use Rattle.gix_refspec.specs.Specs.Reading.{Reading}
 use Rattle.refspec_run.specs.declared.call.Call.{Call}
@@ -12,50 +12,55 @@ use Rattle.refspec_run.specs.Output.{AddsFound, IsOutput, Shows, Tells}
 use Rattle.refspec_run.specs.Input.{end_byte}
 use Rattle.refspec_run.specs.Plan.{AddsPlan}
 use Rattle.refspec_run.specs.Prefixes.{AddsPrefixes}
-use Rattle.refspec_run.specs.Read.{AddsIfGood, IsChecked}
+use Rattle.refspec_run.specs.Canon.{AddsCanonical}
+use Rattle.refspec_run.specs.Read.{AddsIfGood, AreGood, HasBad, IsChecked}
 use Rattle.refspec_run.specs.Texts.{AreTexts, said, spec_input}
 use Rattle.refspec_run.specs.Track.{AddsTracked}
 use Rattle.refspec_run.proofs.CanonLemmas.{AreCanonical-of}
-use Rattle.refspec_run.proofs.CheckedLemmas.{AddsIfRead-of}
+use Rattle.refspec_run.proofs.CheckedLemmas.{AddsIfRead-of, TellsRefused-of}
 
-Shows-of : (k : Command) (call : Call) (input messages : List ℕ) (texts : List Text) (all : List Checked) (new : List ℕ) → AllZip IsChecked texts all → Tells k call input call.form messages all [] new → Shows k call input (map said texts) messages new
-Shows-of command.Canon call input messages texts all new read told = (told.0, AreCanonical-of texts all told.0 read told.1, told.2)
-Shows-of command.Check call input messages texts all new read told = tt
-Shows-of command.Explain call input messages texts all new read told = tt
-Shows-of command.Plan call input messages texts all new read told = AddsIfRead-of (AddsFound command.Plan call input call.form messages) call.form texts all [] new read told
-Shows-of command.Track call input messages texts all new read told = AddsIfRead-of (AddsFound command.Track call input call.form messages) call.form texts all [] new read told
-Shows-of command.Prefixes call input messages texts all new read told = AddsIfRead-of (AddsFound command.Prefixes call input call.form messages) call.form texts all [] new read told
+Shows-of : (k : Command) (call : Call) (input messages : List ℕ) (refused : Bool) (texts : List Text) (all : List Checked) (new : List ℕ) → AllZip IsChecked texts all → Tells k call input call.form messages refused all [] new → Shows k call input (map said texts) messages refused new
+Shows-of command.Canon call input messages refused texts all new read told = ((told.0.0, AreCanonical-of texts all told.0.0 read told.0.1, told.0.2), TellsRefused-of refused texts all read told.1)
+Shows-of command.Check call input messages refused texts all new read told = TellsRefused-of refused texts all read told
+Shows-of command.Explain call input messages refused texts all new read told = TellsRefused-of refused texts all read told
+Shows-of command.Plan call input messages refused texts all new read told = AddsIfRead-of (AddsFound command.Plan call input call.form messages refused) call.form refused texts all [] new read told
+Shows-of command.Track call input messages refused texts all new read told = AddsIfRead-of (AddsFound command.Track call input call.form messages refused) call.form refused texts all [] new read told
+Shows-of command.Prefixes call input messages refused texts all new read told = AddsIfRead-of (AddsFound command.Prefixes call input call.form messages refused) call.form refused texts all [] new read told
 
-pub IsOutput-of : (call : Call) (beside input messages : List ℕ) (f : Form) (lent texts : List Text) (shown all : List Checked) (old new : List ℕ) → AreTexts call.ends call.operation (map (λ w. w.now) call.specs.items) beside (spec_input call.command input) (map said texts) → lent ≡ texts → AllZip IsChecked lent all → shown ≡ all → f ≡ call.form → old ≡ [] → Tells call.command call input f messages shown old new → IsOutput call beside input messages new
-IsOutput-of call beside input messages f lent texts shown all old new are same read same_all same_form empty told =
+pub IsOutput-of : (call : Call) (beside input messages : List ℕ) (refused : Bool) (f : Form) (lent texts : List Text) (shown all : List Checked) (old new : List ℕ) → AreTexts call.ends call.operation (map (λ w. w.now) call.specs.items) beside (spec_input call.command input) (map said texts) → lent ≡ texts → AllZip IsChecked lent all → shown ≡ all → f ≡ call.form → old ≡ [] → Tells call.command call input f messages refused shown old new → IsOutput call beside input messages refused new
+IsOutput-of call beside input messages refused f lent texts shown all old new are same read same_all same_form empty told =
     let read2 = subst (λ (ts : List Text). AllZip IsChecked ts all) same read in
-    let told2 = subst (λ (cs : List Checked). Tells call.command call input f messages cs old new) same_all told in
-    let told3 = subst (λ (x : Form). Tells call.command call input x messages all old new) same_form told2 in
-    let told4 = subst (λ (x : List ℕ). Tells call.command call input call.form messages all x new) empty told3 in
-    (map said texts, are, Shows-of call.command call input messages texts all new read2 told4)
+    let told2 = subst (λ (cs : List Checked). Tells call.command call input f messages refused cs old new) same_all told in
+    let told3 = subst (λ (x : Form). Tells call.command call input x messages refused all old new) same_form told2 in
+    let told4 = subst (λ (x : List ℕ). Tells call.command call input call.form messages refused all x new) empty told3 in
+    (map said texts, are, Shows-of call.command call input messages refused texts all new read2 told4)
 
--- what a command finds that is neither `canon` nor one of specs alone
-pub Tells-found : (k : Command) (call : Call) (input : List ℕ) (f : Form) (messages : List ℕ) (all : List Checked) (old new : List ℕ) → (k ≡ command.Canon → ⊥) → AddsIfGood (AddsFound k call input f messages) f all old new → Tells k call input f messages all old new
-Tells-found command.Canon call input f messages all old new other told = absurd (other refl)
-Tells-found command.Check call input f messages all old new other told = tt
-Tells-found command.Explain call input f messages all old new other told = tt
-Tells-found command.Plan call input f messages all old new other told = told
-Tells-found command.Track call input f messages all old new other told = told
-Tells-found command.Prefixes call input f messages all old new other told = told
+-- what `canon` tells
+pub Tells-canon : (k : Command) (call : Call) (input : List ℕ) (f : Form) (messages : List ℕ) (refused : Bool) (all : List Checked) (old new : List ℕ) → k ≡ command.Canon → AddsCanonical f all old new → MatchBool refused (HasBad all) (AreGood all) → Tells k call input f messages refused all old new
+Tells-canon k call input f messages refused all old new is told whether = subst (λ (x : Command). Tells x call input f messages refused all old new) (sym is) (told, whether)
+
+-- what a command tells that is neither `canon` nor one of specs alone
+pub Tells-found : (k : Command) (call : Call) (input : List ℕ) (f : Form) (messages : List ℕ) (refused : Bool) (all : List Checked) (old new : List ℕ) → (k ≡ command.Canon → ⊥) → (k ≡ command.Check → ⊥) → (k ≡ command.Explain → ⊥) → AddsIfGood (AddsFound k call input f messages refused) f refused all old new → Tells k call input f messages refused all old new
+Tells-found command.Canon call input f messages refused all old new no_canon no_check no_explain told = absurd (no_canon refl)
+Tells-found command.Check call input f messages refused all old new no_canon no_check no_explain told = absurd (no_check refl)
+Tells-found command.Explain call input f messages refused all old new no_canon no_check no_explain told = absurd (no_explain refl)
+Tells-found command.Plan call input f messages refused all old new no_canon no_check no_explain told = told
+Tells-found command.Track call input f messages refused all old new no_canon no_check no_explain told = told
+Tells-found command.Prefixes call input f messages refused all old new no_canon no_check no_explain told = told
 
 -- neither the mappings of a plan nor those of tracking refs
-pub AddsFound-prefixes : (k : Command) (call : Call) (input : List ℕ) (f : Form) (messages : List ℕ) (g : List Reading) (old new : List ℕ) → (k ≡ command.Plan → ⊥) → (k ≡ command.Track → ⊥) → AddsPrefixes call.patterns f g old new → AddsFound k call input f messages g old new
+pub AddsFound-prefixes : (k : Command) (call : Call) (input : List ℕ) (f : Form) (messages : List ℕ) (g : List Reading) (old new : List ℕ) → (k ≡ command.Plan → ⊥) → (k ≡ command.Track → ⊥) → AddsPrefixes call.patterns f g old new → AddsFound k call input f messages false g old new
 AddsFound-prefixes command.Canon call input f messages g old new no_plan no_track told = tt
 AddsFound-prefixes command.Check call input f messages g old new no_plan no_track told = tt
 AddsFound-prefixes command.Explain call input f messages g old new no_plan no_track told = tt
 AddsFound-prefixes command.Plan call input f messages g old new no_plan no_track told = absurd (no_plan refl)
 AddsFound-prefixes command.Track call input f messages g old new no_plan no_track told = absurd (no_track refl)
-AddsFound-prefixes command.Prefixes call input f messages g old new no_plan no_track told = told
+AddsFound-prefixes command.Prefixes call input f messages g old new no_plan no_track told = (told, refl)
 
 -- the mappings of tracking refs
-pub AddsFound-track : (k : Command) (call : Call) (input : List ℕ) (f : Form) (messages : List ℕ) (g : List Reading) (old new : List ℕ) → k ≡ command.Track → AddsTracked f (map (λ w. w.now) call.refs.items) g old new → AddsFound k call input f messages g old new
-AddsFound-track k call input f messages g old new is told = subst (λ (x : Command). AddsFound x call input f messages g old new) (sym is) told
+pub AddsFound-track : (k : Command) (call : Call) (input : List ℕ) (f : Form) (messages : List ℕ) (refused : Bool) (g : List Reading) (old new : List ℕ) → k ≡ command.Track → AddsTracked f (map (λ w. w.now) call.refs.items) g old new → AddsFound k call input f messages refused g old new
+AddsFound-track k call input f messages refused g old new is told = subst (λ (x : Command). AddsFound x call input f messages refused g old new) (sym is) told
 
 -- the mappings of a plan
-pub AddsFound-plan : (k : Command) (call : Call) (input : List ℕ) (f : Form) (messages : List ℕ) (g : List Reading) (old new : List ℕ) → k ≡ command.Plan → AddsPlan f (end_byte call.ends) input messages g old new → AddsFound k call input f messages g old new
-AddsFound-plan k call input f messages g old new is told = subst (λ (x : Command). AddsFound x call input f messages g old new) (sym is) told
+pub AddsFound-plan : (k : Command) (call : Call) (input : List ℕ) (f : Form) (messages : List ℕ) (refused : Bool) (g : List Reading) (old new : List ℕ) → k ≡ command.Plan → AddsPlan f (end_byte call.ends) input messages refused g old new → AddsFound k call input f messages refused g old new
+AddsFound-plan k call input f messages refused g old new is told = subst (λ (x : Command). AddsFound x call input f messages refused g old new) (sym is) told

@@ -1,5 +1,5 @@
 -- What is told of a plan.
-use Rattle.std.proofs.Common.{◌≡◌, ℕ, List, ◌∙◌, sym, subst}
+use Rattle.std.proofs.Common.{◌≡◌, ℕ, Bool, true, false, List, ◌∙◌, sym, subst}
 use Rattle.gix_refspec.specs.Views.Issue.{ForwardOutcome, conflicts_of, mappings_of}
 use Rattle.gix_refspec.specs.Matching.Validation.{Conflict}
 use Rattle.gix_refspec.specs.Matching.Mappings.{Mapped}
@@ -14,7 +14,7 @@ use Rattle.refspec_run.specs.declared.plan.Written.{Written}
 use Rattle.refspec_run.specs.declared.plan.Written.TheVariants as written
 use Rattle.refspec_run.specs.Conflicts.{AddsConflicts}
 use Rattle.refspec_run.specs.Input.{AreRecords}
-use Rattle.refspec_run.specs.Plan.{AddsPlan, AddsWritten, IsPlanByNames}
+use Rattle.refspec_run.specs.Plan.{AddsPlan, AddsWritten, IsPlanByNames, IsWhole, LeavesOut}
 use Rattle.refspec_run.specs.Refs.{TellNames}
 use Rattle.refspec_run.specs.Rows.{AddsMappings, AreSpecTexts}
 use Rattle.refspec_run.specs.Shown.{KeepsResults}
@@ -38,10 +38,10 @@ AddsWritten-after form.Json texts (written.Mappings outcome) before messages old
 AddsWritten-after form.Json texts (written.Nothing error) before messages old mid new kept told = (tt, tt)
 
 -- the plan of the refs in the records, told after two lists of messages
-pub AddsPlan-of : (f one two : Form) (end e : ℕ) (input : List ℕ) (g : List Reading) (named : List Ref) (texts shown : List (List ℕ)) (made : Written) (out : List LeftOut) (before messages old first second new : List ℕ)
+pub AddsPlan-of : (f one two : Form) (end e : ℕ) (input : List ℕ) (refused : Bool) (g : List Reading) (named : List Ref) (texts shown : List (List ℕ)) (made : Written) (out : List LeftOut) (before messages old first second new : List ℕ)
     → TellNames e input named → e ≡ end → AreSpecTexts g texts → IsPlanByNames g named made out
-    → one ≡ f → KeepsResults f old first → two ≡ one → KeepsResults one first second → shown ≡ texts → AddsWritten two shown made before messages second new → AddsPlan f end input messages g old new
-AddsPlan-of f one two end e input g named texts shown made out before messages old first second new (refs, (records, cut, told), same_names) same_end of_specs plan same_one kept_first same_two kept_second same_texts after =
+    → one ≡ f → KeepsResults f old first → two ≡ one → KeepsResults one first second → shown ≡ texts → AddsWritten two shown made before messages second new → (refused ≡ false → IsWhole made out) → (LeavesOut made out → refused ≡ true) → AddsPlan f end input messages refused g old new
+AddsPlan-of f one two end e input refused g named texts shown made out before messages old first second new (refs, (records, cut, told), same_names) same_end of_specs plan same_one kept_first same_two kept_second same_texts after whole refuses =
     let kept = KeepsResults-next f one old first second same_one kept_first kept_second in
     let tells = subst (λ (x : Form). AddsWritten x texts made before messages second new) (same_two ∙ same_one) (subst (λ (l : List (List ℕ)). AddsWritten two l made before messages second new) same_texts after) in
     record {
@@ -56,4 +56,6 @@ AddsPlan-of f one two end e input g named texts shown made out before messages o
       of_specs = of_specs;
       plan = plan refs same_names;
       told = AddsWritten-after f texts made before messages old second new kept tells;
+      whole = whole;
+      refuses = refuses;
     }

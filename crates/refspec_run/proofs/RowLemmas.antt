@@ -114,3 +114,9 @@ pub AddsMappings-kept : (f g : Form) (o : Columns) (texts : List (List ℕ)) (ms
 AddsMappings-kept form.Lines g o texts ms old mid new same told kept = subst (λ (x : List ℕ). AddsMappings form.Lines o texts ms old x) (sym (subst (λ (x : Form). KeepsResults x mid new) same kept)) told
 AddsMappings-kept form.Zeros g o texts ms old mid new same told kept = subst (λ (x : List ℕ). AddsMappings form.Zeros o texts ms old x) (sym (subst (λ (x : Form). KeepsResults x mid new) same kept)) told
 AddsMappings-kept form.Json g o texts ms old mid new same told kept = tt
+
+-- results that stayed as they were, and then mappings
+pub AddsMappings-after : (f : Form) (o : Columns) (texts : List (List ℕ)) (ms : List Mapped) (old mid new : List ℕ) → KeepsResults f old mid → AddsMappings f o texts ms mid new → AddsMappings f o texts ms old new
+AddsMappings-after form.Lines o texts ms old mid new kept told = subst (λ (x : List ℕ). AddsMappings form.Lines o texts ms x new) kept told
+AddsMappings-after form.Zeros o texts ms old mid new kept told = subst (λ (x : List ℕ). AddsMappings form.Zeros o texts ms x new) kept told
+AddsMappings-after form.Json o texts ms old mid new kept told = tt

@@ -1,16 +1,21 @@
 -- Names that are shown one after another.
-use Rattle.std.proofs.Common.{◌≡◌, ℕ, List, [], ◌∷◌, ◌++◌, ◌+◌, ◌<◌, length, take, get_or, map, flat_map, Result, Ok, Err, OnOk, refl, sym, ap, ◌∙◌, subst, append_assoc}
+use Rattle.std.proofs.Common.{◌≡◌, ℕ, List, [], ◌∷◌, ◌++◌, ◌+◌, ◌<◌, ◌≤◌, length, take, take_all, get_or, map, flat_map, Result, Ok, Err, IfOk, OnOk, refl, sym, ap, ◌∙◌, subst, append_assoc}
 use Rattle.std.proofs.lemmas.List.{append-nil, map-append, take_more}
 use Rattle.std.proofs.lemmas.Grind.{flat_map-append}
 use Rattle.refspec_run.specs.declared.call.Form.{Form}
 use Rattle.refspec_run.specs.declared.call.Form.TheVariants as form
 use Rattle.refspec_run.specs.declared.page.Page.{Page}
-use Rattle.refspec_run.specs.Shown.{AddsNames, AreLines, KeepsPage, KeepsResults, zero_ended}
+use Rattle.refspec_run.specs.Shown.{AddsNames, AreLines, KeepsPage, KeepsResults, escaped, zero_ended}
 
 -- what holds of a success holds by what follows from it
 pub on_ok : {T E : Type 0} (r : Result T E) (P Q : Type 0) → OnOk r P → (P → Q) → OnOk r Q
 on_ok (Ok x) P Q holds gives = gives holds
 on_ok (Err e) P Q holds gives = holds
+
+-- the same of what its value has
+pub if_ok : {T E : Type 0} (r : Result T E) (P Q : T → Type 0) → IfOk r P → ((x : T) → P x → Q x) → IfOk r Q
+if_ok (Ok x) P Q holds gives = gives x holds
+if_ok (Err e) P Q holds gives = holds
 
 -- and by what follows from two
 pub both_ok : {T E : Type 0} (r : Result T E) (P Q R : Type 0) → OnOk r P → OnOk r Q → (P → Q → R) → OnOk r R
@@ -74,3 +79,13 @@ AddsNames-next f g before shown xs i d name old mid new below same is a b =
     let b2 = subst (λ (x : Form). AddsNames x before (name ∷ []) mid new) same b in
     let step : map shown (take (i + 1) xs) ≡ map shown (take i xs) ++ name ∷ [] = ap (map shown) (take_more xs i d below) ∙ (map-append shown (take i xs) (get_or xs i d ∷ []) ∙ ap (λ z. map shown (take i xs) ++ z ∷ []) (sym is)) in
     subst (λ (l : List (List ℕ)). AddsNames f before l old new) (sym step) (AddsNames-append f before (map shown (take i xs)) (name ∷ []) old mid new a b2)
+
+-- one byte more between quotes
+pub escaped-next : (text : List ℕ) (i d b : ℕ) (old mid new : List ℕ) → i < length text → b ≡ get_or text i d → mid ≡ old ++ (34 ∷ flat_map escaped (take i text)) → new ≡ mid ++ escaped b → new ≡ old ++ (34 ∷ flat_map escaped (take (i + 1) text))
+escaped-next text i d b old mid new below is before put =
+    let step : flat_map escaped (take (i + 1) text) ≡ flat_map escaped (take i text) ++ escaped b = ap (flat_map escaped) (take_more text i d below) ∙ (flat_map-append escaped (take i text) (get_or text i d ∷ []) ∙ (ap (λ l. flat_map escaped (take i text) ++ l) (append-nil (escaped (get_or text i d))) ∙ ap (λ x. flat_map escaped (take i text) ++ escaped x) (sym is))) in
+    behind old (34 ∷ flat_map escaped (take i text)) mid (escaped b) new before put ∙ ap (λ l. old ++ (34 ∷ l)) (sym step)
+
+-- all bytes
+pub escaped-all : (text old new : List ℕ) (i : ℕ) → length text ≤ i → new ≡ old ++ (34 ∷ flat_map escaped (take i text)) → new ≡ old ++ (34 ∷ flat_map escaped text)
+escaped-all text old new i long so_far = so_far ∙ ap (λ (l : List ℕ). old ++ (34 ∷ flat_map escaped l)) (take_all i text long)

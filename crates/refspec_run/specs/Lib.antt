@@ -2,6 +2,7 @@ pub mod Canon
 pub mod Conflicts
 pub mod Fault
 pub mod Input
+pub mod Messages
 pub mod Output
 pub mod Plan
 pub mod Prefixes

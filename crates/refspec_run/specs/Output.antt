@@ -1,6 +1,6 @@
--- What a call writes: its results, and of a plan what its messages say of conflicts. Of `check` and `explain` nothing is
--- said here.
-use Rattle.std.specs.Prelude.{◌≡◌, ℕ, Bool, List, [], Option, map, MatchBool, ⊤}
+-- What a call writes and its exit status: its results, and of a plan what its messages say of conflicts. Of `check` and
+-- `explain` only the exit status is said here.
+use Rattle.std.specs.Prelude.{◌≡◌, ℕ, Bool, true, false, List, [], Option, map, MatchBool, ⊤}
 use Rattle.std.specs.Io.KnownBytes.{Appends}
 use Rattle.refspec_text.specs.declared.parsing.Operation.{Operation}
 use Rattle.gix_refspec.specs.Specs.Reading.{Reading}
@@ -13,7 +13,7 @@ use Rattle.refspec_run.specs.Canon.{AddsCanonical, AreCanonical}
 use Rattle.refspec_run.specs.Input.{ReadsToEnd, end_byte}
 use Rattle.refspec_run.specs.Plan.{AddsPlan}
 use Rattle.refspec_run.specs.Prefixes.{AddsPrefixes}
-use Rattle.refspec_run.specs.Read.{AddsIfGood, AddsIfRead}
+use Rattle.refspec_run.specs.Read.{AddsIfGood, AddsIfRead, AreGood, HasBad, TellsRefused}
 use Rattle.refspec_run.specs.Shown.{AddsNames}
 use Rattle.refspec_run.specs.Texts.{AreTexts, spec_input}
 use Rattle.refspec_run.specs.Track.{AddsTracked}
@@ -22,43 +22,50 @@ use Rattle.refspec_run.specs.Track.{AddsTracked}
 abbrev pub ShowsCanon : Call → List (Operation × List ℕ) → List ℕ → Type 0
 ShowsCanon call texts output = (names : List (List ℕ)) × AreCanonical texts names × AddsNames call.form [] names [] output
 
--- the results grew by what a command tells of specs that are read so
-abbrev pub AddsFound : Command → Call → List ℕ → Form → List ℕ → List Reading → List ℕ → List ℕ → Type 0
-AddsFound command.Plan call input form messages g old new = AddsPlan form (end_byte call.ends) input messages g old new
-AddsFound command.Track call input form messages g old new = AddsTracked form (map (λ w. w.now) call.refs.items) g old new
-AddsFound command.Prefixes call input form messages g old new = AddsPrefixes call.patterns form g old new
-AddsFound _ call input form messages g old new = ⊤
+-- the results grew by what a command tells of specs that are read so, and whether something is refused
+abbrev pub AddsFound : Command → Call → List ℕ → Form → List ℕ → Bool → List Reading → List ℕ → List ℕ → Type 0
+AddsFound command.Plan call input form messages refused g old new = AddsPlan form (end_byte call.ends) input messages refused g old new
+AddsFound command.Track call input form messages refused g old new = AddsTracked form (map (λ w. w.now) call.refs.items) g old new
+AddsFound command.Prefixes call input form messages refused g old new = AddsPrefixes call.patterns form g old new × (refused ≡ false)
+AddsFound _ call input form messages refused g old new = ⊤
 
 -- what a command shows of the texts and its input
-abbrev pub Shows : Command → Call → List ℕ → List (Operation × List ℕ) → List ℕ → List ℕ → Type 0
-Shows command.Canon call input texts messages output = ShowsCanon call texts output
-Shows command.Check call input texts messages output = ⊤
-Shows command.Explain call input texts messages output = ⊤
-Shows found call input texts messages output = AddsIfRead (AddsFound found call input call.form messages) call.form texts [] output
+abbrev pub Shows : Command → Call → List ℕ → List (Operation × List ℕ) → List ℕ → Bool → List ℕ → Type 0
+Shows command.Canon call input texts messages refused output = ShowsCanon call texts output × TellsRefused refused texts
+Shows command.Check call input texts messages refused output = TellsRefused refused texts
+Shows command.Explain call input texts messages refused output = TellsRefused refused texts
+Shows found call input texts messages refused output = AddsIfRead (AddsFound found call input call.form messages refused) call.form refused texts [] output
 
 -- the messages and the output of a call for the file beside its input and its input
-abbrev pub IsOutput : Call → List ℕ → List ℕ → List ℕ → List ℕ → Type 0
-IsOutput call beside input messages output =
+abbrev pub IsOutput : Call → List ℕ → List ℕ → List ℕ → Bool → List ℕ → Type 0
+IsOutput call beside input messages refused output =
     (texts : List (Operation × List ℕ)) × AreTexts call.ends call.operation (map (λ w. w.now) call.specs.items) beside (spec_input call.command input) texts
-    × Shows call.command call input texts messages output
+    × Shows call.command call input texts messages refused output
+
+-- the exit status: 1 where something is refused, conflicting, left out or not found
+abbrev pub status_of : Bool → ℕ
+status_of true = 1
+status_of false = 0
 
 -- the input is all that the reader had left, where the call reads it
 abbrev pub IsInput : Bool → Option (List ℕ) → Option (List ℕ) → List ℕ → Type 0
 IsInput reads old new input = MatchBool reads (ReadsToEnd old new input) (input ≡ [])
 
--- the output and the messages of the call for what it read were written
-pub record Answers (call : Call) (beside : List ℕ) (reader_old reader_new writer_old writer_new errors_old errors_new : Option (List ℕ)) : Type 0 where
+-- the output and the messages of the call for what it read were written, and this is its exit status
+pub record Answers (call : Call) (beside : List ℕ) (reader_old reader_new writer_old writer_new errors_old errors_new : Option (List ℕ)) (status : ℕ) : Type 0 where
   pub input : List ℕ
   pub output : List ℕ
   pub messages : List ℕ
+  pub refused : Bool
   pub read : IsInput call.reads_input reader_old reader_new input
-  pub is : IsOutput call beside input messages output
+  pub is : IsOutput call beside input messages refused output
   pub written : Appends writer_old writer_new output
   pub told : Appends errors_old errors_new messages
+  pub ended : status ≡ status_of refused
 
 -- what a command told of what was checked and of its input
-abbrev pub Tells : Command → Call → List ℕ → Form → List ℕ → List Checked → List ℕ → List ℕ → Type 0
-Tells command.Canon call input form messages all old new = AddsCanonical form all old new
-Tells command.Check call input form messages all old new = ⊤
-Tells command.Explain call input form messages all old new = ⊤
-Tells found call input form messages all old new = AddsIfGood (AddsFound found call input form messages) form all old new
+abbrev pub Tells : Command → Call → List ℕ → Form → List ℕ → Bool → List Checked → List ℕ → List ℕ → Type 0
+Tells command.Canon call input form messages refused all old new = AddsCanonical form all old new × MatchBool refused (HasBad all) (AreGood all)
+Tells command.Check call input form messages refused all old new = MatchBool refused (HasBad all) (AreGood all)
+Tells command.Explain call input form messages refused all old new = MatchBool refused (HasBad all) (AreGood all)
+Tells found call input form messages refused all old new = AddsIfGood (AddsFound found call input form messages refused) form refused all old new

@@ -1,5 +1,5 @@
 -- What a fetch writes, in the words of the library.
-use Rattle.std.specs.Prelude.{◌≢◌, ℕ, List, []}
+use Rattle.std.specs.Prelude.{◌≡◌, ◌≢◌, ℕ, Bool, true, false, List, [], ⊤}
 use Rattle.gix_refspec.specs.Specs.Reading.{Reading}
 use Rattle.gix_refspec.specs.Matching.Match.{Ref}
 use Rattle.gix_refspec.specs.Matching.Mappings.{Mapped}
@@ -43,9 +43,19 @@ abbrev pub AddsWritten : Form → List (List ℕ) → Written → List ℕ → L
 AddsWritten form texts (written.Mappings outcome) before messages old new = AddsMappings form columns.SourceFirst texts (mappings_of outcome) old new
 AddsWritten form texts (written.Nothing error) before messages old new = KeepsResults form old new × AddsConflicts form (conflicts_of error) before messages
 
+-- a mapping is left out, or nothing is written
+abbrev pub LeavesOut : Written → List LeftOut → Type 0
+LeavesOut (written.Mappings outcome) out = out ≢ []
+LeavesOut (written.Nothing error) out = ⊤
+
+-- every mapping is written
+abbrev pub IsWhole : Written → List LeftOut → Type 0
+IsWhole (written.Mappings outcome) out = out ≡ []
+IsWhole (written.Nothing error) out = ⊥
+
 -- the results grew by what a fetch writes of the refs in the records of an input; where that is nothing, the messages end
 -- by what is told of the conflicts
-pub record AddsPlan (form : Form) (end : ℕ) (input messages : List ℕ) (g : List Reading) (old new : List ℕ) : Type 0 where
+pub record AddsPlan (form : Form) (end : ℕ) (input messages : List ℕ) (refused : Bool) (g : List Reading) (old new : List ℕ) : Type 0 where
   pub records : List (List ℕ)
   pub items : List Ref
   pub texts : List (List ℕ)
@@ -57,3 +67,5 @@ pub record AddsPlan (form : Form) (end : ℕ) (input messages : List ℕ) (g : L
   pub of_specs : AreSpecTexts g texts
   pub plan : IsPlan g items made out
   pub told : AddsWritten form texts made before messages old new
+  pub whole : refused ≡ false → IsWhole made out
+  pub refuses : LeavesOut made out → refused ≡ true

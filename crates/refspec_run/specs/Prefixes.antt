@@ -22,8 +22,19 @@ AddsAll form.Lines old new = new ≡ old ++ codes "(all)\n"
 AddsAll form.Zeros old new = new ≡ old ++ (0 ∷ [])
 AddsAll form.Json old new = ⊤
 
+-- the results grew by what says that nothing has to be asked for: a word in a line, or no record
+abbrev pub AddsNothing : Form → List ℕ → List ℕ → Type 0
+AddsNothing form.Lines old new = new ≡ old ++ codes "(nothing)\n"
+AddsNothing form.Zeros old new = new ≡ old
+AddsNothing form.Json old new = ⊤
+
+-- the results grew by what to ask for
+abbrev pub AddsList : Bool → Form → List (List ℕ) → List ℕ → List ℕ → Type 0
+AddsList patterns form [] old new = AddsNothing form old new
+AddsList patterns form (p ∷ list) old new = AddsNames form (argument patterns) (map (request patterns) (p ∷ list)) old new
+
 -- the results grew by what to ask a server for, in order; or by what stands for all refs, where no list is safe
 abbrev pub AddsPrefixes : Bool → Form → List Reading → List ℕ → List ℕ → Type 0
 AddsPrefixes patterns form g old new =
-    ((list : List (List ℕ)) × ListsGroup g list × AddsNames form (argument patterns) (map (request patterns) list) old new)
+    ((list : List (List ℕ)) × ListsGroup g list × AddsList patterns form list old new)
     ⊎ (HasNoList g × AddsAll form old new)

@@ -1,5 +1,5 @@
 -- What a text is, in the words of the library.
-use Rattle.std.specs.Prelude.{◌≡◌, ◌⊎◌, ℕ, List, [], ◌∷◌, ⊤}
+use Rattle.std.specs.Prelude.{◌≡◌, ◌⊎◌, ℕ, Bool, true, List, [], ◌∷◌, MatchBool, ⊤}
 use Rattle.std.specs.List.{AllZip}
 use Rattle.refspec_text.specs.declared.parsing.Operation.{Operation}
 use Rattle.gix_refspec.specs.Specs.Grammar.{Reads}
@@ -29,6 +29,12 @@ HasBad [] = ⊥
 HasBad (checked.Good text spec ∷ all) = HasBad all
 HasBad (checked.Bad text error ∷ all) = ⊤
 
+-- all that was checked are specs
+abbrev pub AreGood : List Checked → Type 0
+AreGood [] = ⊤
+AreGood (checked.Good text spec ∷ all) = AreGood all
+AreGood (checked.Bad text error ∷ all) = ⊥
+
 -- the texts are read as these, in order
 abbrev pub AreRead : List (Operation × List ℕ) → List Reading → Type 0
 AreRead texts g = AllZip (λ t r. Reads t.0 t.1 r) texts g
@@ -38,10 +44,16 @@ abbrev pub HasRefused : List (Operation × List ℕ) → Type 0
 HasRefused [] = ⊥
 HasRefused (t ∷ texts) = ((e : Refusal) × IsRefused t.0 t.1 e) ⊎ HasRefused texts
 
+-- whether some text is refused, or all are read
+abbrev pub TellsRefused : Bool → List (Operation × List ℕ) → Type 0
+TellsRefused refused texts = MatchBool refused (HasRefused texts) ((g : List Reading) × AreRead texts g)
+
 -- the results grew by what is told of specs that are read so; where some text is refused, they stayed as they were
-abbrev pub AddsIfRead : (List Reading → List ℕ → List ℕ → Type 0) → Form → List (Operation × List ℕ) → List ℕ → List ℕ → Type 0
-AddsIfRead Adds form texts old new = ((g : List Reading) × AreRead texts g × Adds g old new) ⊎ (HasRefused texts × KeepsResults form old new)
+abbrev pub AddsIfRead : (List Reading → List ℕ → List ℕ → Type 0) → Form → Bool → List (Operation × List ℕ) → List ℕ → List ℕ → Type 0
+AddsIfRead Adds form refused texts old new =
+    ((g : List Reading) × AreRead texts g × Adds g old new) ⊎ (HasRefused texts × KeepsResults form old new × (refused ≡ true))
 
 -- the same of texts that were checked
-abbrev pub AddsIfGood : (List Reading → List ℕ → List ℕ → Type 0) → Form → List Checked → List ℕ → List ℕ → Type 0
-AddsIfGood Adds form all old new = ((g : List Reading) × AllZip IsSpec all g × Adds g old new) ⊎ (HasBad all × KeepsResults form old new)
+abbrev pub AddsIfGood : (List Reading → List ℕ → List ℕ → Type 0) → Form → Bool → List Checked → List ℕ → List ℕ → Type 0
+AddsIfGood Adds form refused all old new =
+    ((g : List Reading) × AllZip IsSpec all g × Adds g old new) ⊎ (HasBad all × KeepsResults form old new × (refused ≡ true))

@@ -1,13 +1,36 @@
 -- How results are written, in lines and ended by zero bytes. This project's own rule. Of JSON nothing is said here.
-use Rattle.std.specs.Prelude.{◌≡◌, ◌⊎◌, ℕ, List, [], ◌∷◌, ◌++◌, ⊤}
+use Rattle.std.specs.Prelude.{◌≡◌, ◌⊎◌, ℕ, ◌+◌, ◌/◌, ◌%◌, List, [], ◌∷◌, ◌++◌, Option, Some, None, cond, ◌==◌, ◌&&◌, ◌||◌, nat_le, ⊤}
 use Rattle.std.specs.List.{flat_map}
 use Rattle.refspec_run.specs.declared.call.Form.{Form}
 use Rattle.refspec_run.specs.declared.call.Form.TheVariants as form
 use Rattle.refspec_run.specs.declared.page.Page.{Page}
 
--- what people see of a name: the name as it is, or something between double quotes
+-- the letter of a byte whose escape has one, as in C: `\a`, `\b`, `\t`, `\n`, `\v`, `\f`, `\r`, a quote and a backslash
+abbrev pub escape_letter : ℕ → Option ℕ
+escape_letter b =
+    cond (b == 7) (Some 97) (cond (b == 8) (Some 98) (cond (b == 9) (Some 116) (cond (b == 10) (Some 110) (cond (b == 11) (Some 118)
+    (cond (b == 12) (Some 102) (cond (b == 13) (Some 114) (cond ((b == 34) || (b == 92)) (Some b) None)))))))
+
+-- a byte that has no letter: as it is if ASCII prints it, else its three octal digits
+abbrev pub plain_or_octal : ℕ → List ℕ
+plain_or_octal b = cond (nat_le 32 b && nat_le b 126) (b ∷ []) (92 ∷ (48 + b / 64) ∷ (48 + b / 8 % 8) ∷ (48 + b % 8) ∷ [])
+
+-- an escape with a letter, or else the byte
+abbrev pub with_letter : ℕ → Option ℕ → List ℕ
+with_letter b None = plain_or_octal b
+with_letter b (Some letter) = 92 ∷ letter ∷ []
+
+-- what stands for a byte between quotes, as Git quotes paths (git-config(1), core.quotePath)
+abbrev pub escaped : ℕ → List ℕ
+escaped b = with_letter b (escape_letter b)
+
+-- a name between double quotes
+abbrev pub in_quotes : List ℕ → List ℕ
+in_quotes name = 34 ∷ (flat_map escaped name ++ (34 ∷ []))
+
+-- what people see of a name: the name as it is, or between double quotes with escapes
 abbrev pub IsQuoted : List ℕ → List ℕ → Type 0
-IsQuoted name shown = (shown ≡ name) ⊎ ((inner : List ℕ) × (shown ≡ 34 ∷ (inner ++ (34 ∷ []))))
+IsQuoted name shown = (shown ≡ name) ⊎ (shown ≡ in_quotes name)
 
 -- a line for each name: the bytes before it, what people see of it, and a newline
 abbrev pub AreLines : List ℕ → List (List ℕ) → List ℕ → Type 0

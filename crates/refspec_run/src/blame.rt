@@ -64,11 +64,11 @@ pub fn blame_of<'a>(alloc: Global, text: &Text<'a>, error: &Error) -> Option<Bla
             let (at, len) = place_of(part.bytes, *fault)?;
             Some(part.blame(at, len))
         }
-        Error::PatternUnsupported { .. } => second_star(source).or(second_star(destination?)),
-        Error::PatternUnbalanced => first_star(source).or(first_star(destination?)),
-        Error::NegativeWithDestination | Error::PushToEmpty => {
-            Some(destination?.blame(0, usize::MAX))
+        Error::PatternUnsupported { .. } => {
+            second_star(source).or(destination.and_then(second_star))
         }
+        Error::PatternUnbalanced => first_star(source).or(destination.and_then(first_star)),
+        Error::NegativeWithDestination => non_empty(destination?.blame(0, usize::MAX)),
         Error::NegativeObjectHash => Some(source.blame(0, usize::MAX)),
         _ => None,
     }
@@ -168,6 +168,14 @@ fn lock_suffix(side: &[u8]) -> (usize, usize) {
     }
 }
 
+// What is blamed, unless it has no bytes.
+fn non_empty(blame: Blame<'_>) -> Option<Blame<'_>> {
+    if blame.part.is_empty() {
+        return None;
+    }
+    Some(blame)
+}
+
 // The second star of a side.
 fn second_star(part: Part<'_>) -> Option<Blame<'_>> {
     let first = part.bytes.find_byte(b'*')?;
@@ -183,7 +191,7 @@ fn first_star(part: Part<'_>) -> Option<Blame<'_>> {
 }
 
 /// What to do about a refused text, or nothing where the reason says it.
-pub fn advice_for(text: &[u8], error: &Error) -> &'static str {
+pub fn advice_for(text: &Text<'_>, error: &Error) -> &'static str {
     match error {
         Error::Empty => "To push all matching branches, write `:`.",
         Error::NegativeWithDestination => "Leave out the colon and what stands behind it.",
@@ -195,9 +203,21 @@ pub fn advice_for(text: &[u8], error: &Error) -> &'static str {
         Error::PatternUnsupported { .. } => {
             "Keep one `*`, which stands for any bytes, slashes too; or write several specs."
         }
-        Error::PatternUnbalanced => "Write a `*` into the other side too, or name one ref on both.",
-        Error::ReferenceName(fault) => advice_for_name(text, *fault),
+        Error::PatternUnbalanced => advice_for_pattern(text.bytes),
+        Error::ReferenceName(fault) => advice_for_name(text.bytes, *fault),
         _ => "",
+    }
+}
+
+// What to do about a pattern on one side alone.
+fn advice_for_pattern(text: &[u8]) -> &'static str {
+    match parts_of(text) {
+        (Part { bytes: b"", .. }, _) =>
+            "Write a source with a `*` too, as in `refs/heads/*:refs/remotes/origin/*`.",
+        (_, None | Some(Part { bytes: b"", .. })) => {
+            "Add a destination with a `*`, as in `refs/heads/*:refs/remotes/origin/*`, or name one ref."
+        }
+        _ => "Write a `*` into the other side too, or name one ref on both.",
     }
 }
 
@@ -207,9 +227,14 @@ fn advice_for_name(text: &[u8], fault: name::Error) -> &'static str {
         name::Error::InvalidByte { byte: b' ' } if text.starts_with(b"tag ") => {
             "For `tag NAME` of a command line write `refs/tags/NAME:refs/tags/NAME`."
         }
-        name::Error::InvalidByte { byte: b' ' } => "Write each spec by itself.",
-        name::Error::InvalidByte { byte: b'\r' } => {
+        name::Error::InvalidByte { byte: b' ' } if begins_or_ends(text, b' ') =>
+            "Leave out the space.",
+        name::Error::InvalidByte { byte: b' ' | b'\n' } => "Write each spec by itself.",
+        name::Error::InvalidByte { byte: b'\r' } if text.ends_with(b"\r") => {
             "The line ends with a carriage return. End lines with a newline alone."
+        }
+        name::Error::InvalidByte { byte: b'^' } if begins_or_ends(text, b'^') => {
+            "To exclude refs, begin the spec with one `^`, without a `+`."
         }
         name::Error::InvalidByte { byte: b':' } => {
             "One colon parts the source from the destination. Leave out the others."
@@ -218,9 +243,25 @@ fn advice_for_name(text: &[u8], fault: name::Error) -> &'static str {
             "Expressions such as `main~2` stand only before the colon of a push."
         }
         name::Error::InvalidByte { byte: b'?' | b'[' } => "The only wildcard is one `*` a side.",
-        name::Error::ReflogPortion => "Name the ref itself, without what follows the `@`.",
+        name::Error::InvalidByte { .. } => "Leave this byte out, or choose another name.",
+        name::Error::ReflogPortion => "Name the ref itself, without the `@{` and what follows it.",
         name::Error::LockSuffix => "Git keeps such names for its lock files. Choose another.",
         name::Error::EmptyComponent => "Leave out the slash that is too much.",
-        _ => "",
+        name::Error::RepeatedDot =>
+            "Write one dot: `..` is for ranges of commits, as in `v1..main`.",
+        name::Error::EndsWithDot => "Leave out the dot at the end.",
+        name::Error::StartsWithDot => "Leave out the dot, or write something before it.",
+        name::Error::Asterisk => "Name one ref, without a `*`.",
+        name::Error::Empty => "Write the name of a ref.",
     }
+}
+
+// Whether a side of a spec begins or ends with a byte.
+fn begins_or_ends(text: &[u8], byte: u8) -> bool {
+    let (source, destination) = parts_of(text);
+    let sides = [
+        source.bytes,
+        destination.map_or(b"".as_slice(), |part| part.bytes),
+    ];
+    sides.iter().any(|side| side.first() == Some(&byte) || side.last() == Some(&byte))
 }

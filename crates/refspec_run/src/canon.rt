@@ -12,6 +12,7 @@ use crate::page::Page;
 use crate::specs::put_told;
 use crate::texts::Text;
 use gix_refspec::RefSpecRef;
+use refspec_json::SpecKind;
 use std::alloc::{AllocError, Global};
 
 /// Tells the canonical text of each text that is a spec, and refuses the others.
@@ -52,7 +53,7 @@ fn tell_canonical(
     match page.form {
         Form::Json => put_told(
             alloc,
-            "canonical",
+            SpecKind::Canonical,
             text,
             &canonical,
             None,

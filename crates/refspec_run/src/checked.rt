@@ -1,9 +1,9 @@
 //! Texts, each read as a spec or refused.
 
-ghost use Rattle.std.specs.Prelude.{map, IfOk, MatchOption};
+ghost use Rattle.std.specs.Prelude.{◌∷◌, [], map, IfOk, MatchBool, MatchOption};
 ghost use Rattle.std.specs.List.{AllZip};
 ghost use Rattle.gix_refspec.specs.Views.Spec.{reading_of};
-ghost use Rattle.refspec_run.specs.Read.{HasBad, IsChecked, IsSpec};
+ghost use Rattle.refspec_run.specs.Read.{AreGood, HasBad, IsChecked, IsSpec};
 
 use crate::texts::Text;
 use bstr::BStr;
@@ -49,6 +49,28 @@ fn check(alloc: Global, text: Text<'_>) -> Result<Checked<'_>, AllocError>
             }
             Ok(Checked::Bad { text, error })
         }
+    }
+}
+
+/// Whether some text is refused.
+pub fn has_bad(all: &[Checked<'_>]) -> bool
+    ensures { MatchBool result (HasBad all.now) (AreGood all.now) }
+{
+    for checked in all {
+        if is_bad(checked) {
+            return true;
+        }
+    }
+    false
+}
+
+// Whether a text is refused.
+fn is_bad(checked: &Checked<'_>) -> bool
+    ensures { MatchBool result (HasBad (checked.now ∷ [])) (AreGood (checked.now ∷ [])) }
+{
+    match checked {
+        Checked::Good { .. } => false,
+        Checked::Bad { .. } => true,
     }
 }
 

@@ -1,6 +1,7 @@
 //! Results and refusals as JSON, one object a line.
 
 use crate::blame::{advice_for, blame_of};
+use crate::call::Form;
 use crate::quote::put_in_quotes;
 use crate::texts::{Place, Text};
 use gix_refspec::parsing::{Error, Operation};
@@ -27,7 +28,7 @@ fn string_of(alloc: Global, bytes: &[u8]) -> Result<String, AllocError> {
 /// A place as a string of JSON.
 pub fn shown_place(alloc: Global, place: &Place<'_>) -> Result<String, AllocError> {
     let mut shown = Vec::new(alloc);
-    place.put(alloc, &mut shown)?;
+    place.put(&mut shown, Form::Json)?;
     string_of(alloc, shown.as_slice())
 }
 
@@ -57,7 +58,6 @@ pub fn put_refusal(
     let wrong = part.as_ref().map(|part| part.as_str());
     let at = blame.map(|blame| blame.at);
     let object = refspec_json::Refused {
-        kind: "refused",
         place: place.as_str(),
         operation: operation_of(text.operation),
         text: shown.as_str(),
@@ -66,9 +66,9 @@ pub fn put_refusal(
         side,
         part: wrong,
         at,
-        advice: advice_for(text.bytes, error),
+        advice: advice_for(text, error),
     };
-    refspec_json::put_line(alloc, out, &object)
+    object.put_line(alloc, out)
 }
 
 /// The name of a reason.

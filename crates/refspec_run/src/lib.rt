@@ -11,7 +11,7 @@ pub mod input;
 mod json;
 mod mappings;
 mod page;
-mod plan;
+pub mod plan;
 mod planning;
 mod prefixes;
 mod quote;

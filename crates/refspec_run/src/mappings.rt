@@ -322,10 +322,9 @@ fn put_object(
     };
     let spec = json::text_of(alloc, text)?;
     let object = refspec_json::Mapping {
-        kind: "mapping",
         source: source.as_str(),
         destination: destination.as_ref().map(|name| name.as_str()),
         spec: spec.as_str(),
     };
-    refspec_json::put_line(alloc, out, &object)
+    object.put_line(alloc, out)
 }

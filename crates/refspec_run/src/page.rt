@@ -1,9 +1,10 @@
 //! What a run writes: its results and its messages.
 
 ghost use Rattle.std.specs.Prelude.{◌≡◌, ◌∷◌, [], OnOk};
+ghost use Rattle.refspec_run.specs.Messages.{PutsReason, PutsRefusal, TellsRefusal};
 ghost use Rattle.refspec_run.specs.Shown.{AddsNames, Grows, KeepsPage};
 
-use crate::blame::{advice_for, blame_of};
+use crate::blame::{Blame, advice_for, blame_of};
 use crate::call::Form;
 use crate::json;
 use crate::quote::{put_in_quotes, put_quoted};
@@ -19,8 +20,6 @@ pub struct Page {
     pub results: Vec<u8>,
     /// What goes to the standard error.
     pub messages: Vec<u8>,
-    /// Whether something is refused, conflicting or not found.
-    pub refused: bool,
 }
 
 impl Page {
@@ -33,7 +32,6 @@ impl Page {
             form,
             results: Vec::new(alloc),
             messages: Vec::new(alloc),
-            refused: false,
         }
     }
 
@@ -45,9 +43,10 @@ impl Page {
         text: &Text<'_>,
         error: &Error,
     ) -> Result<(), AllocError>
-        ensures { OnOk result (KeepsPage self.old self.new) }
+        ensures kept { OnOk result (KeepsPage self.old self.new) }
+        ensures told { OnOk result (TellsRefusal self.old.form text.now error.now
+            self.old.messages.items self.new.messages.items) }
     {
-        self.refused = true;
         match self.form {
             Form::Json => json::put_refusal(alloc, &mut self.results, text, error),
             Form::Lines | Form::Zeros => put_refusal(alloc, &mut self.messages, text, error),
@@ -83,23 +82,58 @@ fn put_refusal(
     out: &mut Vec<u8>,
     text: &Text<'_>,
     error: &Error,
-) -> Result<(), AllocError> {
-    text.place.put(alloc, out)?;
+) -> Result<(), AllocError>
+    ensures { OnOk result (PutsRefusal text.now error.now out.old.items out.new.items) }
+{
+    put_reason(out, text, error)?;
+    put_details(alloc, out, text, error)
+}
+
+// Puts the line of a refusal at the end that says where, what and why.
+fn put_reason(out: &mut Vec<u8>, text: &Text<'_>, error: &Error) -> Result<(), AllocError>
+    ensures { OnOk result (PutsReason text.now error.now out.old.items out.new.items) }
+{
+    text.place.put(out, Form::Lines)?;
     out.extend_from_slice(b": ")?;
     put_quoted(out, text.bytes)?;
     out.extend_from_slice(b": ")?;
     out.extend_from_slice(error.explanation().as_bytes())?;
     out.push(b'\n')?;
-    if let Some(blame) = blame_of(alloc, text, error) {
-        let side = blame.side.as_str();
-        let at = blame.at;
-        let front = format!(in alloc; "    The {side} has ")?;
-        let back = format!(in alloc; " at byte {at}.\n")?;
-        out.extend_from_slice(front.as_bytes())?;
-        put_in_quotes(out, blame.part)?;
-        out.extend_from_slice(back.as_bytes())?;
+    Ok(())
+}
+
+// Puts the lines of a refusal at the end that say which part is wrong, and what to do.
+fn put_details(
+    alloc: Global,
+    out: &mut Vec<u8>,
+    text: &Text<'_>,
+    error: &Error,
+) -> Result<(), AllocError>
+    ensures { OnOk result (Grows out.old.items out.new.items) }
+{
+    let advice = advice_for(text, error);
+    match blame_of(alloc, text, error) {
+        None => put_advice(out, advice),
+        Some(blame) => {
+            put_blame(alloc, out, &blame)?;
+            put_advice(out, advice)
+        }
     }
-    put_advice(out, advice_for(text.bytes, error))
+}
+
+// Puts the line of the part that is wrong at the end.
+fn put_blame(alloc: Global, out: &mut Vec<u8>, blame: &Blame<'_>) -> Result<(), AllocError>
+    ensures { OnOk result (Grows out.old.items out.new.items) }
+{
+    let side = blame.side.as_str();
+    let at = blame.at;
+    let mut line = Vec::new(alloc);
+    let front = format!(in alloc; "    The {side} has ")?;
+    let back = format!(in alloc; " at byte {at}.\n")?;
+    line.extend_from_slice(front.as_bytes())?;
+    put_in_quotes(&mut line, blame.part)?;
+    line.extend_from_slice(back.as_bytes())?;
+    out.extend_from_slice(line.as_slice())
 }
 
 /// Puts a line of advice at the end, where there is some.

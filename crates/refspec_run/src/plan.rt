@@ -20,6 +20,13 @@ pub struct Plan<'spec, 'item> {
     pub left_out: Vec<BadMapping<'item, 'spec>>,
 }
 
+/// What becomes of a plan that was told. To free it name by name takes long, and a process that ends soon
+/// need not.
+pub trait Discard {
+    /// Takes the plan.
+    fn discard(&mut self, plan: Plan<'_, '_>);
+}
+
 /// What a fetch writes.
 #[derive(Debug, Drop)]
 pub enum Written<'spec, 'item> {

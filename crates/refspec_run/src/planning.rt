@@ -1,13 +1,14 @@
 //! How a plan is shown: its mappings as results, and conflicts and what is left out as messages.
 
-ghost use Rattle.std.specs.Prelude.{◌≡◌, ◌∷◌, [], map, OnOk};
+ghost use Rattle.std.specs.Prelude.{◌≡◌, ◌∷◌, [], false, map, true, IfOk, MatchBool, OnOk};
 ghost use Rattle.bstr.specs.Owned.{bstring_bytes};
+ghost use Rattle.gix_refspec.specs.Matching.RefNames.{left_out_of};
 ghost use Rattle.gix_refspec.specs.Views.Group.{start_of};
 ghost use Rattle.gix_refspec.specs.Views.Issue.{conflict_of};
 ghost use Rattle.gix_refspec.specs.Views.Spec.{reading_of};
 ghost use Rattle.refspec_run.specs.Conflicts.{AddsConflicts, PutsClaim, PutsClaims, PutsConflict};
 ghost use Rattle.refspec_run.specs.Input.{end_byte};
-ghost use Rattle.refspec_run.specs.Plan.{AddsPlan, AddsWritten};
+ghost use Rattle.refspec_run.specs.Plan.{AddsPlan, AddsWritten, IsWhole, LeavesOut};
 ghost use Rattle.refspec_run.specs.Shown.{KeepsPage, KeepsResults};
 
 use crate::call::{Form, Task};
@@ -15,7 +16,7 @@ use crate::input::end_of;
 use crate::json;
 use crate::mappings::{Columns, canonical_texts, source_of, tell_mappings, text_at};
 use crate::page::{Page, put_advice};
-use crate::plan::{Written, plan_of};
+use crate::plan::{Discard, Plan, Written, plan_of};
 use crate::quote::put_quoted;
 use crate::refs::{BadRecord, Told};
 use crate::texts::Place;
@@ -26,17 +27,18 @@ use gix_refspec::match_group::validate::Issue;
 use gix_refspec::oid::{Kind, ObjectId};
 use gix_refspec::{RefSpecRef, name};
 use std::alloc::{AllocError, Global};
-use std::mem;
 
-/// Tells what a fetch with these specs writes of the refs of an input.
-pub fn tell_plan(
+/// Tells what a fetch with these specs writes of the refs of an input. Returns whether something is left out or
+/// conflicts, or a record is no ref.
+pub fn tell_plan<D: Discard>(
     alloc: Global,
     task: &Task<'_>,
     specs: Vec<RefSpecRef<'_>>,
     page: &mut Page,
-) -> Result<(), AllocError>
-    ensures { OnOk result (AddsPlan page.old.form (end_byte task.now.call.now.ends) task.now.input.now
-        page.new.messages.items (map reading_of specs.entry.items)
+    done: &mut D,
+) -> Result<bool, AllocError>
+    ensures { IfOk result (λ refused. AddsPlan page.old.form (end_byte task.now.call.now.ends)
+        task.now.input.now page.new.messages.items refused (map reading_of specs.entry.items)
         page.old.results.items page.new.results.items) }
 {
     let id = ObjectId::null(Kind::shortest());
@@ -44,12 +46,35 @@ pub fn tell_plan(
     tell_bad_records(alloc, task.call.input, told.bad.as_slice(), page)?;
     let texts = canonical_texts(alloc, specs.as_slice())?;
     let plan = plan_of(alloc, specs, told.items.as_slice())?;
+    let has_bad_records = !told.bad.is_empty();
     drop(told);
     tell_all_left_out(alloc, plan.left_out.as_slice(), texts.as_slice(), page)?;
     tell_written(alloc, &plan.written, texts.as_slice(), page)?;
-    // The process ends soon, and to free name by name before that takes long.
-    mem::forget(plan);
-    Ok(())
+    let refused = is_refused(has_bad_records, &plan);
+    done.discard(plan);
+    Ok(refused)
+}
+
+// Whether some records are no refs, or a plan leaves out a mapping or has conflicts.
+fn is_refused(has_bad_records: bool, plan: &Plan<'_, '_>) -> bool
+    ensures whole { result ≡ false
+        → IsWhole plan.now.written (map left_out_of plan.now.left_out.items) }
+    ensures refuses { LeavesOut plan.now.written (map left_out_of plan.now.left_out.items)
+        → result ≡ true }
+{
+    has_bad_records || leaves_out(plan)
+}
+
+// Whether a plan leaves out a mapping, or has conflicts.
+fn leaves_out(plan: &Plan<'_, '_>) -> bool
+    ensures { MatchBool result
+        (LeavesOut plan.now.written (map left_out_of plan.now.left_out.items))
+        (IsWhole plan.now.written (map left_out_of plan.now.left_out.items)) }
+{
+    match plan.written {
+        Written::Nothing(_) => true,
+        Written::Mappings(_) => !plan.left_out.is_empty(),
+    }
 }
 
 // Tells the mappings that are written, or the conflicts for which none is.
@@ -127,7 +152,6 @@ fn tell_bad_record(
 ) -> Result<(), AllocError>
     ensures { OnOk result (KeepsPage page.old page.new) }
 {
-    page.refused = true;
     let place = Place::Record {
         input,
         number: bad.number,
@@ -164,12 +188,11 @@ fn put_malformed(
     let place = json::shown_place(alloc, place)?;
     let text = json::text_of(alloc, bad.bytes)?;
     let object = refspec_json::Malformed {
-        kind: "malformed",
         place: place.as_str(),
         text: text.as_str(),
         message,
     };
-    refspec_json::put_line(alloc, out, &object)
+    object.put_line(alloc, out)
 }
 
 // Puts the lines of such a record at the end.
@@ -180,7 +203,7 @@ fn put_bad_record(
     out: &mut Vec<u8>,
 ) -> Result<(), AllocError> {
     let (message, advice) = why_malformed(bad);
-    place.put(alloc, out)?;
+    place.put(out, Form::Lines)?;
     out.extend_from_slice(b": ")?;
     put_quoted(out, bad.bytes)?;
     out.extend_from_slice(b": ")?;
@@ -198,7 +221,6 @@ fn tell_left_out(
 ) -> Result<(), AllocError>
     ensures { OnOk result (KeepsPage page.old page.new) }
 {
-    page.refused = true;
     let mut buffer = Vec::new(alloc);
     let source = source_of(&bad.mapping.lhs, &mut buffer)?;
     let spec = text_at(texts, bad.mapping.spec_index);
@@ -238,13 +260,12 @@ fn put_left_out_object(
     let shown = json::text_of(alloc, destination.unwrap_or(b""))?;
     let spec = json::text_of(alloc, spec)?;
     let object = refspec_json::LeftOut {
-        kind: "left out",
         source: source.as_str(),
         destination: destination.map(|_| shown.as_str()),
         spec: spec.as_str(),
         message,
     };
-    refspec_json::put_line(alloc, out, &object)
+    object.put_line(alloc, out)
 }
 
 // Puts the line of what is left out at the end.
@@ -265,7 +286,7 @@ fn put_left_out(
     put_quoted(out, spec)?;
     out.extend_from_slice(b"): ")?;
     put_quoted(out, wrong)?;
-    out.extend_from_slice(b" is no name of a ref. ")?;
+    out.extend_from_slice(b" is not a valid ref name. ")?;
     out.extend_from_slice(why_left_out(wrong).as_bytes())?;
     out.push(b'\n')?;
     Ok(())
@@ -285,7 +306,6 @@ fn tell_conflict(alloc: Global, issue: &Issue, page: &mut Page) -> Result<(), Al
     ensures told { OnOk result (AddsConflicts page.old.form (conflict_of issue.now ∷ [])
         page.old.messages.items page.new.messages.items) }
 {
-    page.refused = true;
     match page.form {
         Form::Json => put_conflict_object(alloc, issue, &mut page.results),
         Form::Lines | Form::Zeros => put_conflict(alloc, issue, &mut page.messages),
@@ -309,11 +329,10 @@ fn put_conflict_object(alloc: Global, issue: &Issue, out: &mut Vec<u8>) -> Resul
     }
     let destination = json::text_of(alloc, destination_full_ref_name.as_bytes())?;
     let object = refspec_json::Conflict {
-        kind: "conflict",
         destination: destination.as_str(),
         sources: claims.as_slice(),
     };
-    refspec_json::put_line(alloc, out, &object)
+    object.put_line(alloc, out)
 }
 
 // Puts the lines of a conflict at the end.

@@ -5,7 +5,7 @@ ghost use Rattle.bstr.specs.Owned.{bstring_bytes};
 ghost use Rattle.gix_refspec.specs.Matching.Asked.{HasNoList, ListsGroup, Serves};
 ghost use Rattle.gix_refspec.specs.Views.Group.{readings_of};
 ghost use Rattle.gix_refspec.specs.Views.Spec.{reading_of};
-ghost use Rattle.refspec_run.specs.Prefixes.{AddsAll, AddsPrefixes, argument, request};
+ghost use Rattle.refspec_run.specs.Prefixes.{AddsAll, AddsList, AddsNothing, AddsPrefixes, argument, request};
 ghost use Rattle.refspec_run.specs.Shown.{AddsNames, KeepsPage};
 
 use crate::call::Form;
@@ -48,8 +48,24 @@ pub fn prefixes_of(
     group.ref_prefixes(alloc)
 }
 
-// Tells prefixes, in order.
+// Tells prefixes, or that there are none.
 fn tell_list(
+    alloc: Global,
+    prefixes: &[BString],
+    patterns: bool,
+    page: &mut Page,
+) -> Result<(), AllocError>
+    ensures { OnOk result (AddsList patterns page.old.form (map bstring_bytes prefixes.now)
+        page.old.results.items page.new.results.items) }
+{
+    if prefixes.is_empty() {
+        return tell_nothing(alloc, page);
+    }
+    tell_each(alloc, prefixes, patterns, page)
+}
+
+// Tells prefixes, in order.
+fn tell_each(
     alloc: Global,
     prefixes: &[BString],
     patterns: bool,
@@ -100,15 +116,37 @@ fn put_object(
     let prefix = json::text_of(alloc, prefix)?;
     let pattern = json::text_of(alloc, pattern)?;
     let object = refspec_json::Prefix {
-        kind: "prefix",
         prefix: prefix.as_str(),
         pattern: pattern.as_str(),
     };
-    refspec_json::put_line(alloc, out, &object)
+    object.put_line(alloc, out)
+}
+
+const WHY_NOTHING: &str =
+    "No spec takes a ref by its name, so no request is needed. An empty one would ask for all refs.";
+
+// Tells that nothing has to be asked for.
+fn tell_nothing(alloc: Global, page: &mut Page) -> Result<(), AllocError>
+    ensures { OnOk result (AddsNothing page.old.form
+        page.old.results.items page.new.results.items) }
+{
+    match page.form {
+        Form::Lines => page.results.extend_from_slice(b"(nothing)\n")?,
+        Form::Zeros => {}
+        Form::Json => {
+            let object = refspec_json::Nothing {
+                message: WHY_NOTHING,
+            };
+            return object.put_line(alloc, &mut page.results);
+        }
+    }
+    page.messages.extend_from_slice(WHY_NOTHING.as_bytes())?;
+    page.messages.push(b'\n')?;
+    Ok(())
 }
 
 const WHY_ALL: &str =
-    "No prefix is safe, since its star does not follow a prefix below refs/. All refs have to be asked for.";
+    "This spec has no prefix below refs/ before its star, so all refs have to be asked for.";
 
 // Tells that all refs have to be asked for, and for which specs.
 fn tell_all(alloc: Global, group: &MatchGroup<'_>, page: &mut Page) -> Result<(), AllocError>
@@ -168,9 +206,8 @@ fn tell_reason(alloc: Global, spec: &RefSpecRef<'_>, page: &mut Page) -> Result<
 fn put_reason(alloc: Global, spec: &[u8], out: &mut Vec<u8>) -> Result<(), AllocError> {
     let shown = json::text_of(alloc, spec)?;
     let object = refspec_json::All {
-        kind: "all",
         spec: shown.as_str(),
         message: WHY_ALL,
     };
-    refspec_json::put_line(alloc, out, &object)
+    object.put_line(alloc, out)
 }

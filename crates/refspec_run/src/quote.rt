@@ -1,8 +1,10 @@
 //! Names and texts as people see them.
 
 ghost use Rattle.std.specs.Prelude.{◌≡◌, ◌≤◌, ◌++◌, ◌∷◌, [], List, OnOk, length, ℕ};
-ghost use Rattle.refspec_run.specs.Shown.{Grows, PutsQuoted};
+ghost use Rattle.refspec_run.specs.Messages.{PutsShown};
+ghost use Rattle.refspec_run.specs.Shown.{PutsQuoted, escape_letter as letter_of, escaped, in_quotes, plain_or_octal};
 
+use crate::call::Form;
 use std::alloc::AllocError;
 use std::simd::prelude::*;
 
@@ -20,10 +22,19 @@ pub fn put_quoted(out: &mut Vec<u8>, text: &[u8]) -> Result<(), AllocError>
     put_in_quotes(out, text)
 }
 
+/// Puts a text at the end as a form shows it: raw in records, else as it is or quoted.
+pub fn put_shown(out: &mut Vec<u8>, text: &[u8], form: Form) -> Result<(), AllocError>
+    ensures { OnOk result (PutsShown form text.now out.old.items out.new.items) }
+{
+    match form {
+        Form::Zeros => out.extend_from_slice(text),
+        Form::Lines | Form::Json => put_quoted(out, text),
+    }
+}
+
 /// Puts a text in double quotes at the end, with escapes.
 pub fn put_in_quotes(out: &mut Vec<u8>, text: &[u8]) -> Result<(), AllocError>
-    ensures { OnOk result ((inner : List ℕ)
-        × (out.new.items ≡ out.old.items ++ (34 ∷ (inner ++ (34 ∷ []))))) }
+    ensures { OnOk result (out.new.items ≡ out.old.items ++ in_quotes text.now) }
 {
     out.push(b'"')?;
     for byte in text {
@@ -82,24 +93,42 @@ fn is_calm(c: char) -> bool {
 
 // Puts a byte of a quoted text at the end.
 fn put_escaped(out: &mut Vec<u8>, byte: u8) -> Result<(), AllocError>
-    ensures { OnOk result (Grows out.old.items out.new.items) }
+    ensures { OnOk result (out.new.items ≡ out.old.items ++ escaped byte) }
+{
+    match escape_letter(byte) {
+        Some(letter) => out.extend_from_slice(&[b'\\', letter]),
+        None => put_plain_or_octal(out, byte),
+    }
+}
+
+// The letter of a byte whose escape has one.
+fn escape_letter(byte: u8) -> Option<u8>
+    ensures { result ≡ letter_of byte }
 {
     match byte {
-        7 => out.extend_from_slice(b"\\a"),
-        8 => out.extend_from_slice(b"\\b"),
-        b'\t' => out.extend_from_slice(b"\\t"),
-        b'\n' => out.extend_from_slice(b"\\n"),
-        11 => out.extend_from_slice(b"\\v"),
-        12 => out.extend_from_slice(b"\\f"),
-        b'\r' => out.extend_from_slice(b"\\r"),
-        b'"' => out.extend_from_slice(b"\\\""),
-        b'\\' => out.extend_from_slice(b"\\\\"),
-        b' '..=b'~' => Ok(out.push(byte)?),
-        _ => out.extend_from_slice(&[
-            b'\\',
-            b'0' + byte / 64,
-            b'0' + byte / 8 % 8,
-            b'0' + byte % 8,
-        ]),
+        7 => Some(b'a'),
+        8 => Some(b'b'),
+        b'\t' => Some(b't'),
+        b'\n' => Some(b'n'),
+        11 => Some(b'v'),
+        12 => Some(b'f'),
+        b'\r' => Some(b'r'),
+        b'"' | b'\\' => Some(byte),
+        _ => None,
     }
+}
+
+// Puts a byte that has no letter at the end: as it is, or by its three octal digits.
+fn put_plain_or_octal(out: &mut Vec<u8>, byte: u8) -> Result<(), AllocError>
+    ensures { OnOk result (out.new.items ≡ out.old.items ++ plain_or_octal byte) }
+{
+    if byte >= b' ' && byte <= b'~' {
+        return out.extend_from_slice(&[byte]);
+    }
+    out.extend_from_slice(&[
+        b'\\',
+        b'0' + byte / 64,
+        b'0' + byte / 8 % 8,
+        b'0' + byte % 8,
+    ])
 }

@@ -1,18 +1,19 @@
 //! A call, from its reader to its writers.
 
-ghost use Rattle.std.specs.Prelude.{map, IfOk, IfErr, OnOk};
+ghost use Rattle.std.specs.Prelude.{◌≡◌, map, IfOk, IfErr, OnOk};
 ghost use Rattle.std.specs.Io.KnownBytes.{Appends};
 ghost use Rattle.gix_refspec.specs.Views.Spec.{reading_of};
 ghost use Rattle.refspec_run.specs.Fault.{IsReadOrMemory, IsWrite};
-ghost use Rattle.refspec_run.specs.Output.{AddsFound, Answers, IsInput, IsOutput, Tells};
+ghost use Rattle.refspec_run.specs.Output.{AddsFound, Answers, IsInput, IsOutput, Tells, status_of as exit_status};
 ghost use Rattle.refspec_run.specs.Run.{Leaves, ReadsWhole};
 
 use crate::call::{Call, Command, Task};
 use crate::canon::tell_canon;
-use crate::checked::{Checked, all_good, check_all};
+use crate::checked::{Checked, all_good, check_all, has_bad};
 use crate::fault::Fault;
 use crate::input::read_input;
 use crate::page::Page;
+use crate::plan::Discard;
 use crate::planning::tell_plan;
 use crate::prefixes::tell_prefixes;
 use crate::specs::{tell_refusals, tell_specs};
@@ -23,20 +24,21 @@ use std::alloc::{AllocError, Global};
 use std::io::{Read, Write};
 
 /// Reads the input to its end, where the call needs it, and writes the results to one writer and the
-/// messages to the other. Returns the status: 1 where something is refused, conflicting or not found,
+/// messages to the other; a plan is then discarded. Returns the exit status: 1 where something is refused, conflicting or not found,
 /// else 0.
-pub fn run<R: Read, W: Write, E: Write>(
+pub fn run<R: Read, W: Write, E: Write, D: Discard>(
     alloc: Global,
     call: &Call<'_>,
     beside: &[u8],
     reader: &mut R,
     output: &mut W,
     errors: &mut E,
+    done: &mut D,
 ) -> Result<u8, Fault>
     ensures whole { IfOk result (λ _. ReadsWhole
         call.now.reads_input (R.remaining reader.old) (R.remaining reader.new)) }
 
-    ensures answers { IfOk result (λ _. Answers call.now beside.now
+    ensures answers { IfOk result (Answers call.now beside.now
         (R.remaining reader.old) (R.remaining reader.new)
         (W.contents output.old) (W.contents output.new)
         (E.contents errors.old) (E.contents errors.new)) }
@@ -46,10 +48,10 @@ pub fn run<R: Read, W: Write, E: Write>(
     ensures untold { IfErr result (Leaves (E.contents errors.old) (E.contents errors.new)) }
 {
     let input = input_of(alloc, call, reader)?;
-    let page = page_of(alloc, call, beside, input.as_slice())?;
+    let (page, refused) = page_of(alloc, call, beside, input.as_slice(), done)?;
     write_all(output, page.results.as_slice())?;
     write_all(errors, page.messages.as_slice())?;
-    Ok(u8::from(page.refused))
+    Ok(status_of(refused))
 }
 
 // What the reader has left, where the call reads it.
@@ -66,60 +68,85 @@ fn input_of<R: Read>(alloc: Global, call: &Call<'_>, reader: &mut R) -> Result<V
     Ok(Vec::new(alloc))
 }
 
-// What a call makes of its input.
-fn page_of(alloc: Global, call: &Call<'_>, beside: &[u8], input: &[u8]) -> Result<Page, AllocError>
-    ensures { IfOk result (λ page. IsOutput call.now beside.now input.now
-        page.messages.items page.results.items) }
+// What a call makes of its input, and whether something is refused, conflicting, left out or not found.
+fn page_of<D: Discard>(
+    alloc: Global,
+    call: &Call<'_>,
+    beside: &[u8],
+    input: &[u8],
+    done: &mut D,
+) -> Result<(Page, bool), AllocError>
+    ensures { IfOk result (λ made. IsOutput call.now beside.now input.now
+        made.0.messages.items made.1 made.0.results.items) }
 {
     let mut page = Page::new(alloc, call.form);
     let texts = texts_of(alloc, call, beside, input)?;
     let all = check_all(alloc, texts.as_slice())?;
     let task = Task { call, input };
-    tell_page(alloc, &task, all.as_slice(), &mut page)?;
-    Ok(page)
+    let refused = tell_page(alloc, &task, all.as_slice(), &mut page, done)?;
+    Ok((page, refused))
 }
 
 // Tells what a call asks of its specs. But for three commands, all have to be good.
-fn tell_page(
+fn tell_page<D: Discard>(
     alloc: Global,
     task: &Task<'_>,
     all: &[Checked<'_>],
     page: &mut Page,
-) -> Result<(), AllocError>
-    ensures { OnOk result (Tells task.now.call.now.command task.now.call.now task.now.input.now
-        page.old.form page.new.messages.items all.now
+    done: &mut D,
+) -> Result<bool, AllocError>
+    ensures { IfOk result (λ refused. Tells task.now.call.now.command task.now.call.now
+        task.now.input.now page.old.form page.new.messages.items refused all.now
         page.old.results.items page.new.results.items) }
 {
     let call = task.call;
     match call.command {
-        Command::Canon => tell_canon(alloc, all, page),
+        Command::Canon => {
+            tell_canon(alloc, all, page)?;
+            Ok(has_bad(all))
+        }
         Command::Check | Command::Explain => {
-            tell_specs(alloc, call.command, call.verbose, all, page)
+            tell_specs(alloc, call.command, call.verbose, all, page)?;
+            Ok(has_bad(all))
         }
         _ => match all_good(alloc, all)? {
-            None => tell_refusals(alloc, all, page),
-            Some(specs) => tell_found(alloc, task, specs, page),
+            None => {
+                tell_refusals(alloc, all, page)?;
+                Ok(true)
+            }
+            Some(specs) => tell_found(alloc, task, specs, page, done),
         },
     }
 }
 
 // Tells what a call finds for specs.
-fn tell_found(
+fn tell_found<D: Discard>(
     alloc: Global,
     task: &Task<'_>,
     specs: Vec<RefSpecRef<'_>>,
     page: &mut Page,
-) -> Result<(), AllocError>
-    ensures { OnOk result (AddsFound task.now.call.now.command task.now.call.now task.now.input.now
-        page.old.form page.new.messages.items (map reading_of specs.entry.items)
-        page.old.results.items page.new.results.items) }
+    done: &mut D,
+) -> Result<bool, AllocError>
+    ensures { IfOk result (λ refused. AddsFound task.now.call.now.command task.now.call.now
+        task.now.input.now page.old.form page.new.messages.items refused
+        (map reading_of specs.entry.items) page.old.results.items page.new.results.items) }
 {
     let call = task.call;
     match call.command {
-        Command::Plan => tell_plan(alloc, task, specs, page),
+        Command::Plan => tell_plan(alloc, task, specs, page, done),
         Command::Track => tell_tracking(alloc, call, specs, page),
-        _ => tell_prefixes(alloc, specs, call.patterns, page),
+        _ => {
+            tell_prefixes(alloc, specs, call.patterns, page)?;
+            Ok(false)
+        }
     }
+}
+
+// The exit status of a call.
+fn status_of(refused: bool) -> u8
+    ensures { result ≡ exit_status refused }
+{
+    if refused { 1 } else { 0 }
 }
 
 // Writes bytes in one call, and flushes the writer.

@@ -1,115 +1,307 @@
 //! What a spec means, in one sentence.
 
-use crate::quote::put_quoted;
+use crate::call::Form;
+use crate::quote::put_shown;
+use bstr::ByteSlice;
 use gix_refspec::instruction::{Fetch, Push};
+use gix_refspec::oid::ObjectId;
 use gix_refspec::{Instruction, RefSpecRef};
-use std::alloc::AllocError;
+use std::alloc::{AllocError, Global};
 
-/// Puts a sentence at the end that says what a spec does.
-pub fn put_sentence(out: &mut Vec<u8>, spec: &RefSpecRef<'_>) -> Result<(), AllocError> {
+/// Puts a sentence at the end that says what a spec does. Records have the names in it raw.
+pub fn put_sentence(
+    alloc: Global,
+    out: &mut Vec<u8>,
+    spec: &RefSpecRef<'_>,
+    form: Form,
+) -> Result<(), AllocError> {
+    let mut sentence = Sentence { alloc, out, form };
     match spec.instruction() {
-        Instruction::Fetch(fetch) => put_fetch(out, fetch),
-        Instruction::Push(push) => put_push(out, push),
+        Instruction::Fetch(fetch) => sentence.fetch(fetch),
+        Instruction::Push(push) => sentence.push(push, spec.destination().is_none()),
     }
 }
 
-// Puts what a fetch does at the end.
-fn put_fetch(out: &mut Vec<u8>, fetch: Fetch<'_>) -> Result<(), AllocError> {
-    match fetch {
-        Fetch::Only { src } => {
-            put(out, "Fetches ")?;
-            put_refs(out, src.as_bytes(), "of the remote")?;
-            put(out, " into FETCH_HEAD, and updates no ref.")
+// When a ref that is there already is updated.
+#[derive(Clone, Copy)]
+enum Update {
+    // By a fast-forward.
+    Branch,
+    // Never, unless forced: Git keeps tags as they are.
+    Tag,
+    // As a branch or as a tag: the names under a pattern may be of both kinds, and a name that isn't full may be
+    // of either.
+    Either,
+}
+
+impl Update {
+    // How a ref with a full name, or refs under a full pattern, are updated.
+    fn of(full: &[u8]) -> Update {
+        let tags = b"refs/tags/".as_slice();
+        if full.starts_with(tags) {
+            return Update::Tag;
         }
-        Fetch::Exclude { src } => {
-            put(out, "Leaves out ")?;
-            put_refs(out, src.as_bytes(), "of the remote")?;
-            put(out, ", whatever the other specs fetch.")
+        match full.find_byte(b'*') {
+            Some(star) if tags.starts_with(full.split_at(star).0) => Update::Either,
+            _ => Update::Branch,
         }
-        Fetch::AndUpdate {
-            src,
-            dst,
-            allow_non_fast_forward,
-        } => {
-            put(out, "Fetches ")?;
-            put_refs(out, src.as_bytes(), "of the remote")?;
-            put(out, " and writes ")?;
-            put(
-                out,
-                if is_pattern(src.as_bytes()) {
-                    "each to "
+    }
+
+    // How a sentence on it ends.
+    fn end(self, allow_non_fast_forward: bool) -> &'static str {
+        match (self, allow_non_fast_forward) {
+            (Update::Branch, false) => ", if that is a fast-forward.",
+            (Update::Branch | Update::Either, true) => ", even if that is no fast-forward.",
+            (Update::Tag, false) => ", only if it isn't there yet.",
+            (Update::Tag, true) => ", and replaces one that is there.",
+            (Update::Either, false) => {
+                ", if that is a fast-forward, and a tag only if it isn't there yet."
+            }
+        }
+    }
+}
+
+// A sentence that is being put at the end of bytes.
+#[derive(Drop)]
+struct Sentence<'a> {
+    alloc: Global,
+    out: &'a mut Vec<u8>,
+    form: Form,
+}
+
+impl Sentence<'_> {
+    // Says what a fetch does.
+    fn fetch(&mut self, fetch: Fetch<'_>) -> Result<(), AllocError> {
+        match fetch {
+            Fetch::Only { src } => {
+                self.put("Fetches ")?;
+                self.refs(src.as_bytes(), "of the remote")?;
+                self.put(" into FETCH_HEAD, and by itself updates no ref.")
+            }
+            Fetch::Exclude { src } => self.exclusion(src.as_bytes(), "fetch"),
+            Fetch::AndUpdate {
+                src,
+                dst,
+                allow_non_fast_forward,
+            } => self.update(src.as_bytes(), dst.as_bytes(), allow_non_fast_forward),
+        }
+    }
+
+    // Says what a fetch writes.
+    fn update(&mut self, src: &[u8], dst: &[u8], forced: bool) -> Result<(), AllocError> {
+        if !is_pattern(dst) {
+            return self.update_one(src, dst, forced);
+        }
+        if !may_be_ref(src) {
+            return self.nothing("Fetches", src);
+        }
+        if !may_be_below_refs(dst) {
+            self.put("Fetches nothing: Git ignores ")?;
+            self.name(dst)?;
+            return self.put(", which is not below refs/.");
+        }
+        self.put("Fetches ")?;
+        self.refs(src, "of the remote")?;
+        self.put(" and writes each to ")?;
+        self.name(dst)?;
+        self.only_below_refs(dst)?;
+        self.put(Update::of(dst).end(forced))
+    }
+
+    // Says that a name below refs/ is wanted, if a pattern may have others too.
+    fn only_below_refs(&mut self, dst: &[u8]) -> Result<(), AllocError> {
+        if is_pattern(dst) && !dst.starts_with(b"refs/") {
+            return self.put(" where that is below refs/");
+        }
+        Ok(())
+    }
+
+    // Says what a fetch writes of one ref: Git puts what is missing of a full name before the destination.
+    fn update_one(&mut self, src: &[u8], dst: &[u8], forced: bool) -> Result<(), AllocError> {
+        let folder = folder_of(dst);
+        self.put("Fetches ")?;
+        self.refs(src, "of the remote")?;
+        self.put(" and writes it to ")?;
+        self.name_in(folder, dst)?;
+        let update = if dst.starts_with(b"tags/") {
+            Update::Tag
+        } else {
+            Update::of(dst)
+        };
+        self.put(update.end(forced))?;
+        if dst.starts_with(b"heads/") {
+            self.put(" Git does so; refspec plan and refspec_map map it to ")?;
+            self.name_in("refs/heads/", dst)?;
+            self.put(".")?;
+        }
+        Ok(())
+    }
+
+    // Says what a push does. One without a destination pushes to the name that its source has.
+    fn push(&mut self, push: Push<'_>, is_one_sided: bool) -> Result<(), AllocError> {
+        match push {
+            Push::AllMatchingBranches {
+                allow_non_fast_forward,
+            } => {
+                self.put("Pushes each local branch that the remote has too")?;
+                self.put(Update::Branch.end(allow_non_fast_forward))
+            }
+            Push::Delete { ref_or_pattern } => {
+                self.put("Deletes ")?;
+                self.name(ref_or_pattern.as_bytes())?;
+                self.put(" on the remote.")
+            }
+            Push::Matching {
+                src,
+                dst,
+                allow_non_fast_forward,
+            } => {
+                let (src, dst) = (src.as_bytes(), dst.as_bytes());
+                if is_pattern(src) && !may_be_below_refs(src) {
+                    return self.nothing("Pushes", src);
+                }
+                if is_one_sided && is_id(src) {
+                    return self.put(
+                        "Pushes nothing: an object id needs a destination, as in ID:refs/heads/x.",
+                    );
+                }
+                if is_pattern(dst) && !may_be_below_refs(dst) {
+                    self.put("Pushes nothing: the remote refuses ")?;
+                    self.name(dst)?;
+                    return self.put(", which is not below refs/.");
+                }
+                self.pushed(src, dst, is_one_sided)?;
+                let update = if is_one_sided && src == b"HEAD".as_slice() {
+                    Update::Branch
+                } else if may_be_below_refs(dst) {
+                    Update::of(dst)
                 } else {
-                    "it to "
-                },
-            )?;
-            put_quoted(out, dst.as_bytes())?;
-            put(out, force_of(allow_non_fast_forward))
+                    Update::Either
+                };
+                self.put(update.end(allow_non_fast_forward))
+            }
+            Push::Exclude { src } => self.exclusion(src.as_bytes(), "push"),
         }
+    }
+
+    // Says that a pattern takes nothing.
+    fn nothing(&mut self, verb: &str, src: &[u8]) -> Result<(), AllocError> {
+        self.put(verb)?;
+        self.put(" nothing: full names begin with refs/, so none matches ")?;
+        self.name(src)?;
+        self.put(".")
+    }
+
+    // Says what is pushed, and to where.
+    fn pushed(&mut self, src: &[u8], dst: &[u8], is_one_sided: bool) -> Result<(), AllocError> {
+        if is_one_sided && src == b"HEAD".as_slice() {
+            return self.put("Pushes the current branch to the branch of its name on the remote");
+        }
+        self.put("Pushes ")?;
+        self.refs(src, "here")?;
+        if is_one_sided && !may_be_below_refs(src) {
+            return self.put(" to the ref of its full name on the remote");
+        }
+        self.put(" to ")?;
+        self.name(dst)?;
+        self.put(" on the remote")?;
+        self.only_below_refs(dst)
+    }
+
+    // Says what an exclusion leaves out. The names of refs are full, and so is what excludes one.
+    fn exclusion(&mut self, src: &[u8], operation: &str) -> Result<(), AllocError> {
+        if !may_be_ref(src) {
+            self.put(if is_pattern(src) {
+                "Leaves out only refs of the remote whose whole names match "
+            } else {
+                "Leaves out only a ref of the remote whose whole name is "
+            })?;
+            self.name(src)?;
+            self.put(", so no branch; ^")?;
+            self.name_in(folder_of(src), src)?;
+            return self.put(" is meant.");
+        }
+        self.put("Leaves out ")?;
+        self.refs(src, "of the remote")?;
+        self.put(", whatever the other specs ")?;
+        self.put(operation)?;
+        self.put(".")
+    }
+
+    // The refs that a side takes, and where they are.
+    fn refs(&mut self, side: &[u8], place: &str) -> Result<(), AllocError> {
+        if is_pattern(side) {
+            self.put("each ref ")?;
+            self.put(place)?;
+            self.put(" that matches ")?;
+            return self.name(side);
+        }
+        self.name(side)?;
+        self.put(" ")?;
+        self.put(place)
+    }
+
+    // A name.
+    fn name(&mut self, name: &[u8]) -> Result<(), AllocError> {
+        put_shown(self.out, name, self.form)
+    }
+
+    // A name with the folder that Git puts before it.
+    fn name_in(&mut self, folder: &str, name: &[u8]) -> Result<(), AllocError> {
+        let mut full = Vec::from_slice(self.alloc, folder.as_bytes())?;
+        full.extend_from_slice(name)?;
+        self.name(full.as_slice())
+    }
+
+    // Bytes of the sentence itself.
+    fn put(&mut self, text: &str) -> Result<(), AllocError> {
+        self.out.extend_from_slice(text.as_bytes())
     }
 }
 
-// Puts what a push does at the end.
-fn put_push(out: &mut Vec<u8>, push: Push<'_>) -> Result<(), AllocError> {
-    match push {
-        Push::AllMatchingBranches {
-            allow_non_fast_forward,
-        } => {
-            put(out, "Pushes each local branch that the remote has too")?;
-            put(out, force_of(allow_non_fast_forward))
-        }
-        Push::Delete { ref_or_pattern } => {
-            put(out, "Deletes ")?;
-            put_quoted(out, ref_or_pattern.as_bytes())?;
-            put(out, " on the remote.")
-        }
-        Push::Matching {
-            src,
-            dst,
-            allow_non_fast_forward,
-        } => {
-            put(out, "Pushes ")?;
-            put_refs(out, src.as_bytes(), "here")?;
-            put(out, " to ")?;
-            put_quoted(out, dst.as_bytes())?;
-            put(out, " on the remote")?;
-            put(out, force_of(allow_non_fast_forward))
-        }
-        Push::Exclude { src } => {
-            put(out, "Leaves out ")?;
-            put_refs(out, src.as_bytes(), "here")?;
-            put(out, ", whatever the other specs push.")
-        }
-    }
-}
-
-// Puts the refs that a side takes at the end, and where they are.
-fn put_refs(out: &mut Vec<u8>, side: &[u8], place: &str) -> Result<(), AllocError> {
-    if is_pattern(side) {
-        put(out, "each ref ")?;
-        put(out, place)?;
-        put(out, " that matches ")?;
-        return put_quoted(out, side);
-    }
-    put_quoted(out, side)?;
-    put(out, " ")?;
-    put(out, place)
-}
-
-// How a sentence on an update ends.
-fn force_of(allow_non_fast_forward: bool) -> &'static str {
-    if allow_non_fast_forward {
-        ", even if that is no fast-forward."
+// What Git puts before the destination of a fetch that is to be a full name.
+fn folder_of(name: &[u8]) -> &'static str {
+    if name.starts_with(b"refs/") {
+        ""
+    } else if name.starts_with(b"heads/")
+        || name.starts_with(b"tags/")
+        || name.starts_with(b"remotes/")
+    {
+        "refs/"
     } else {
-        ", if that is a fast-forward."
+        "refs/heads/"
     }
 }
 
-// Whether a side has a star.
+// Whether a side is an object id.
+fn is_id(side: &[u8]) -> bool {
+    ObjectId::from_hex(side).is_ok()
+}
+
+// Whether a side is a pattern.
 fn is_pattern(side: &[u8]) -> bool {
     side.contains(&b'*')
 }
 
-// Puts a text at the end.
-fn put(out: &mut Vec<u8>, text: &str) -> Result<(), AllocError> {
-    out.extend_from_slice(text.as_bytes())
+// Whether a side is a name below `refs/`, or a pattern that such a name may match.
+fn may_be_below_refs(side: &[u8]) -> bool {
+    may_begin(side, b"refs/")
+}
+
+// Whether a side is a full name, or a pattern that one may match.
+fn may_be_ref(side: &[u8]) -> bool {
+    side == b"HEAD".as_slice()
+        || may_be_below_refs(side)
+        || is_pattern(side) && may_begin(side, b"HEAD")
+}
+
+// Whether a side begins so, or is a pattern whose names may begin so.
+fn may_begin(side: &[u8], start: &[u8]) -> bool {
+    if side.starts_with(start) {
+        return true;
+    }
+    match side.find_byte(b'*') {
+        Some(star) => start.starts_with(side.split_at(star).0),
+        None => false,
+    }
 }

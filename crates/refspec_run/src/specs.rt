@@ -13,6 +13,7 @@ use crate::texts::{Place, Text};
 use bstr::BString;
 use gix_refspec::RefSpecRef;
 use gix_refspec::parsing::Operation;
+use refspec_json::SpecKind;
 use std::alloc::{AllocError, Global};
 use std::collections::BTreeMap;
 
@@ -68,21 +69,21 @@ fn tell_meaning(
 ) -> Result<(), AllocError> {
     match page.form {
         Form::Lines => {
-            put_sentence(&mut page.results, spec)?;
+            put_sentence(alloc, &mut page.results, spec, page.form)?;
             page.results.push(b'\n')?;
         }
         Form::Zeros => {
-            put_sentence(&mut page.results, spec)?;
+            put_sentence(alloc, &mut page.results, spec, page.form)?;
             page.results.push(0)?;
         }
         Form::Json => {
             let canonical = spec.to_bstring(alloc)?;
             let mut sentence = Vec::new(alloc);
-            put_sentence(&mut sentence, spec)?;
+            put_sentence(alloc, &mut sentence, spec, page.form)?;
             let sentence = json::text_of(alloc, sentence.as_slice())?;
             put_told(
                 alloc,
-                "meaning",
+                SpecKind::Meaning,
                 text,
                 &canonical,
                 Some(sentence.as_str()),
@@ -112,7 +113,7 @@ fn tell_good<'a>(
         let same_as = place.as_ref().map(|place| place.as_str());
         return put_told(
             alloc,
-            "good",
+            SpecKind::Good,
             text,
             &canonical,
             None,
@@ -133,22 +134,22 @@ fn put_good(
 ) -> Result<(), AllocError> {
     let out = &mut page.results;
     if page.form == Form::Zeros {
-        text.place.put(alloc, out)?;
+        text.place.put(out, page.form)?;
         out.push(0)?;
         out.extend_from_slice(canonical.as_bytes())?;
         out.push(0)?;
         if let Some(place) = earlier {
-            place.put(alloc, out)?;
+            place.put(out, page.form)?;
         }
         out.push(0)?;
         return Ok(());
     }
-    text.place.put(alloc, out)?;
+    text.place.put(out, page.form)?;
     out.extend_from_slice(b": ")?;
     put_quoted(out, canonical.as_bytes())?;
     if let Some(place) = earlier {
         out.extend_from_slice(b" (says the same as ")?;
-        place.put(alloc, out)?;
+        place.put(out, page.form)?;
         out.push(b')')?;
     }
     out.push(b'\n')?;
@@ -158,7 +159,7 @@ fn put_good(
 /// Puts the object of a spec at the end.
 pub fn put_told(
     alloc: Global,
-    kind: &str,
+    kind: SpecKind,
     text: &Text<'_>,
     canonical: &BString,
     meaning: Option<&str>,
@@ -177,7 +178,7 @@ pub fn put_told(
         meaning,
         same_as,
     };
-    refspec_json::put_line(alloc, out, &object)
+    object.put_line(alloc, out)
 }
 
 // Where each canonical text stood first, by its operation and its bytes.

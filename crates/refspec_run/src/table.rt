@@ -6,15 +6,16 @@ ghost use Rattle.refspec_run.specs.Shown.{PutsQuoted};
 
 use crate::quote::{is_plain, is_plain_ascii, put_in_quotes, put_quoted};
 use std::alloc::{AllocError, Global};
+use unicode_width::UnicodeWidthStr;
 
 /// How a table is laid out.
 #[derive(Clone, Copy, Debug)]
 pub struct Layout {
-    /// How many characters the widest field of each column has, as it is shown.
+    /// How wide the widest field of each column is, as it is shown.
     pub first: usize,
     pub second: usize,
     pub last: usize,
-    /// Whether each field so far is shown as it is, with a character for each byte.
+    /// Whether each field so far is shown as it is, and takes a column of the terminal for each byte.
     pub is_ascii: bool,
 }
 
@@ -29,7 +30,7 @@ impl Layout {
         }
     }
 
-    /// How many characters a field has as it is shown. It is one of the table from then on.
+    /// How wide a field is, as it is shown. It is one of the table from then on.
     pub fn width_of(&mut self, alloc: Global, field: &[u8]) -> Result<usize, AllocError> {
         if is_plain_ascii(field) {
             return Ok(field.len());
@@ -63,7 +64,7 @@ impl Layout {
         put_spaces(out, width.saturating_sub(shown).saturating_add(2))
     }
 
-    // How many characters one of the fields has as it is shown.
+    // How wide one of the fields is, as it is shown.
     fn shown_width(&self, alloc: Global, field: &[u8]) -> Result<usize, AllocError> {
         if self.is_ascii {
             return Ok(field.len());
@@ -83,19 +84,14 @@ impl Layout {
     }
 }
 
-// How many characters a field has as it is shown.
+// How many columns of a terminal a field takes as it is shown. A quoted one is ASCII.
 fn width_of(alloc: Global, field: &[u8]) -> Result<usize, AllocError> {
     if is_plain(field) {
-        return Ok(characters_of(field));
+        return Ok(str::from_utf8(field).unwrap_or("").width());
     }
     let mut quoted = Vec::new(alloc);
     put_in_quotes(&mut quoted, field)?;
     Ok(quoted.len())
-}
-
-// How many bytes of a text begin a character.
-fn characters_of(text: &[u8]) -> usize {
-    text.iter().filter(|byte| **byte & 0xc0 != 0x80).count()
 }
 
 // Puts spaces at the end.

@@ -1,13 +1,14 @@
 //! The texts of specs, and where they are.
 
-ghost use Rattle.std.specs.Prelude.{◌≡◌, ◌++◌, map, IfOk, OnOk};
+ghost use Rattle.std.specs.Prelude.{◌≡◌, ◌++◌, decimal, map, IfOk, OnOk};
 ghost use Rattle.refspec_run.specs.Texts.{AddsTexts, AreTexts, asked, said, spec_input};
 
-use crate::call::{Call, Command, Ends};
+use crate::call::{Call, Command, Ends, Form};
 use crate::input::{end_of, records};
-use crate::quote::put_quoted;
+use crate::quote::put_shown;
 use bstr::ByteSlice;
 use gix_refspec::parsing::Operation;
+use itoa::Buffer;
 use std::alloc::{AllocError, Global};
 
 /// Where a text is found.
@@ -30,25 +31,37 @@ pub struct Text<'a> {
 }
 
 impl Place<'_> {
+    ghost use Rattle.refspec_run.specs.Messages.{PutsPlace};
+
     /// Puts the place at the end, as compilers show places.
-    pub fn put(&self, alloc: Global, out: &mut Vec<u8>) -> Result<(), AllocError> {
+    pub fn put(&self, out: &mut Vec<u8>, form: Form) -> Result<(), AllocError>
+        ensures { OnOk result (PutsPlace form self.now out.old.items out.new.items) }
+    {
         match self {
             Place::Word(number) => {
-                let shown = format!(in alloc; "spec {number}")?;
-                out.extend_from_slice(shown.as_bytes())
+                out.extend_from_slice(b"spec ")?;
+                put_number(out, *number)
             }
             Place::Record { input, number } => {
-                put_quoted(out, input.as_bytes())?;
-                let shown = format!(in alloc; ":{number}")?;
-                out.extend_from_slice(shown.as_bytes())
+                put_shown(out, input.as_bytes(), form)?;
+                out.push(b':')?;
+                put_number(out, *number)
             }
             Place::Setting { origin, key } => {
-                put_quoted(out, origin)?;
+                put_shown(out, origin, form)?;
                 out.extend_from_slice(b": ")?;
-                put_quoted(out, key)
+                put_shown(out, key, form)
             }
         }
     }
+}
+
+// Puts a number at the end.
+fn put_number(out: &mut Vec<u8>, number: usize) -> Result<(), AllocError>
+    ensures { OnOk result (out.new.items ≡ out.old.items ++ decimal number) }
+{
+    let mut buffer = Buffer::new();
+    out.extend_from_slice(buffer.format(number).as_bytes())
 }
 
 /// The texts of the specs of a call: those among its words, those of the file beside the input, and, but

@@ -1,12 +1,14 @@
 //! Which refs of a remote tracking refs belong to.
 
-ghost use Rattle.std.specs.Prelude.{◌≡◌, map, replicate, IfOk, OnOk};
+ghost use Rattle.std.specs.Prelude.{◌≡◌, map, replicate, IfOk, MatchBool, OnOk};
 ghost use Rattle.gix_refspec.specs.Views.Group.{mapped_of, ref_of};
+ghost use Rattle.gix_refspec.specs.Laws.Items.{HasIdDestination};
 ghost use Rattle.gix_refspec.specs.Matching.Hits.{AreKeptBackward};
+ghost use Rattle.refspec_text.specs.Matching.Side.{IsId};
 ghost use Rattle.gix_refspec.specs.Texts.ObjectId.{id_bytes};
 ghost use Rattle.gix_refspec.specs.Views.Spec.{reading_of};
 ghost use Rattle.refspec_run.specs.Shown.{KeepsPage, KeepsResults};
-ghost use Rattle.refspec_run.specs.Track.{AddsTracked, named};
+ghost use Rattle.refspec_run.specs.Track.{AddsTracked, AreByNames, named};
 
 use crate::call::{Call, Form};
 use crate::json;
@@ -18,17 +20,22 @@ use gix_refspec::match_group::{Item, Mapping, match_rhs};
 use gix_refspec::oid::{Kind, ObjectId};
 use gix_refspec::{MatchGroup, RefSpecRef};
 use std::alloc::{AllocError, Global};
+use std::collections::BTreeSet;
 
-/// Tells which refs of the remote the tracking refs of a call are fetched from, and which belong to none.
+/// Tells which refs of the remote the tracking refs of a call are fetched from, and which belong to none. Returns
+/// whether some belong to none, or a spec can't be looked up by names.
 pub fn tell_tracking(
     alloc: Global,
     call: &Call<'_>,
     specs: Vec<RefSpecRef<'_>>,
     page: &mut Page,
-) -> Result<(), AllocError>
-    ensures { OnOk result (AddsTracked page.old.form (map (λ w. w.now) call.now.refs.items)
+) -> Result<bool, AllocError>
+    ensures { IfOk result (λ _. AddsTracked page.old.form (map (λ w. w.now) call.now.refs.items)
         (map reading_of specs.entry.items) page.old.results.items page.new.results.items) }
 {
+    let count = specs.len();
+    let specs = by_names(alloc, specs.as_slice(), page)?;
+    let has_id = specs.len() < count;
     let none = ObjectId::null(Kind::shortest());
     let items = items_named(alloc, call.refs.as_slice(), &none)?;
     let texts = canonical_texts(alloc, specs.as_slice())?;
@@ -41,7 +48,76 @@ pub fn tell_tracking(
         Columns::DestinationFirst,
         page,
     )?;
-    tell_others(alloc, call.refs.as_slice(), mappings, page)
+    let has_other = tell_others(alloc, call.refs.as_slice(), mappings, page)?;
+    Ok(has_id || has_other)
+}
+
+// The specs that refs can be looked up by. Of the others is told.
+fn by_names<'a>(
+    alloc: Global,
+    specs: &[RefSpecRef<'a>],
+    page: &mut Page,
+) -> Result<Vec<RefSpecRef<'a>>, AllocError>
+    ensures kept { IfOk result (λ kept. AreByNames
+        (map reading_of specs.now) (map reading_of kept.items)) }
+    ensures page { OnOk result (KeepsPage page.old page.new) }
+{
+    let mut kept = Vec::with_capacity(alloc, specs.len())?;
+    for spec in specs {
+        if has_id_destination(spec) {
+            tell_to_object(alloc, spec, page)?;
+        } else {
+            kept.push(*spec)?;
+        }
+    }
+    Ok(kept)
+}
+
+// Whether the destination of a spec is an object id.
+fn has_id_destination(spec: &RefSpecRef<'_>) -> bool
+    ensures { MatchBool result
+        (HasIdDestination (reading_of spec.now))
+        (¬ (HasIdDestination (reading_of spec.now))) }
+{
+    match spec.destination() {
+        None => false,
+        Some(destination) => is_id(destination.as_bytes()),
+    }
+}
+
+// Whether a text spells an object id.
+fn is_id(text: &[u8]) -> bool
+    ensures { MatchBool result (IsId text.now) (¬ (IsId text.now)) }
+{
+    match ObjectId::from_hex(text) {
+        Ok(_) => true,
+        Err(_) => false,
+    }
+}
+
+const WHY_TO_OBJECT: &str =
+    "The destination is an object id, so no ref can be looked up by its name. Give a name as the destination.";
+
+// Tells of a spec whose destination is an object id.
+fn tell_to_object(alloc: Global, spec: &RefSpecRef<'_>, page: &mut Page) -> Result<(), AllocError>
+    ensures { OnOk result (KeepsPage page.old page.new) }
+{
+    let canonical = spec.to_bstring(alloc)?;
+    match page.form {
+        Form::Json => {
+            let shown = json::text_of(alloc, canonical.as_bytes())?;
+            let object = refspec_json::ToObject {
+                spec: shown.as_str(),
+                message: WHY_TO_OBJECT,
+            };
+            object.put_line(alloc, &mut page.results)
+        }
+        Form::Lines | Form::Zeros => put_line(
+            canonical.as_bytes(),
+            WHY_TO_OBJECT,
+            &mut page.messages,
+        ),
+    }
 }
 
 // Refs with these names. They point to the null id: of a tracking ref the name alone is given.
@@ -64,35 +140,33 @@ fn items_named<'a>(
     Ok(items)
 }
 
-// Tells of the refs that no mapping has.
+// Tells of the refs that no mapping has. Returns whether there are some.
 fn tell_others(
     alloc: Global,
     names: &[&str],
     mappings: &[Mapping<'_, '_>],
     page: &mut Page,
-) -> Result<(), AllocError>
+) -> Result<bool, AllocError>
     ensures { OnOk result (KeepsResults page.old.form
         page.old.results.items page.new.results.items) }
 {
-    let found = found_of(alloc, names.len(), mappings)?;
-    for (name, is_found) in names.iter().zip(&found) {
-        tell_unless(alloc, *is_found, name.as_bytes(), page)?;
+    let found = found_of(alloc, mappings)?;
+    let mut has_other = false;
+    for name in names {
+        let name = name.as_bytes();
+        let is_found = found.contains(name);
+        tell_unless(alloc, is_found, name, page)?;
+        has_other |= !is_found;
     }
-    Ok(())
+    Ok(has_other)
 }
 
-// Which of so many refs the mappings have.
-fn found_of(
-    alloc: Global,
-    count: usize,
-    mappings: &[Mapping<'_, '_>],
-) -> Result<Vec<bool>, AllocError> {
-    let mut found = vec![in alloc; false; count]?;
+// The names of the refs that the mappings have.
+fn found_of(alloc: Global, mappings: &[Mapping<'_, '_>]) -> Result<BTreeSet<Vec<u8>>, AllocError> {
+    let mut found = BTreeSet::new(alloc);
     for mapping in mappings {
-        if let Some(at) = mapping.item_index
-            && let Some(place) = found.get_mut(at)
-        {
-            *place = true;
+        if let Some(name) = &mapping.rhs {
+            found.insert(Vec::from_slice(alloc, name.as_bstr().as_bytes())?)?;
         }
     }
     Ok(found)
@@ -134,7 +208,6 @@ fn tell_unless(
 fn tell_untracked(alloc: Global, name: &[u8], page: &mut Page) -> Result<(), AllocError>
     ensures { OnOk result (KeepsPage page.old page.new) }
 {
-    page.refused = true;
     let message = why_untracked(name);
     match page.form {
         Form::Json => put_object(alloc, name, message, &mut page.results),
@@ -151,7 +224,7 @@ fn why_untracked(name: &[u8]) -> &'static str {
     }
 }
 
-// Puts the line of such a ref at the end.
+// Puts the line of such a ref, or of such a spec, at the end.
 fn put_line(name: &[u8], message: &str, out: &mut Vec<u8>) -> Result<(), AllocError> {
     put_quoted(out, name)?;
     out.extend_from_slice(b": ")?;
@@ -169,9 +242,8 @@ fn put_object(
 ) -> Result<(), AllocError> {
     let name = json::text_of(alloc, name)?;
     let object = refspec_json::Untracked {
-        kind: "untracked",
         name: name.as_str(),
         message,
     };
-    refspec_json::put_line(alloc, out, &object)
+    object.put_line(alloc, out)
 }

@@ -4,7 +4,7 @@ use Rattle.refspec_run.proofs.ShownLemmas.{on_ok}
 use Rattle.refspec_run.proofs.canon.tell_checked.Goals as goal
 
 pub returns-in-Bad-clause-told : goal.returns-in-Bad-clause-told
-returns-in-Bad-clause-told c = on_ok c.tell_refusal.result _ _ c.tell_refusal.ensures (λ keeps. AddsCanonical-bad c.args.page.now.form c.args.checked.now _ _ c.args.page.now.results.items c.tell_refusal.new.self.results.items c.in-Bad.is keeps.kept)
+returns-in-Bad-clause-told c = on_ok c.tell_refusal.result _ _ c.tell_refusal.ensures.kept (λ keeps. AddsCanonical-bad c.args.page.now.form c.args.checked.now _ _ c.args.page.now.results.items c.tell_refusal.new.self.results.items c.in-Bad.is keeps.kept)
 
 pub returns-in-Good-clause-told : goal.returns-in-Good-clause-told
 returns-in-Good-clause-told c = on_ok c.tell_canonical.result _ _ c.tell_canonical.ensures.told (λ told. AddsCanonical-good c.args.page.now.form c.args.checked.now _ _ c.args.page.now.results.items c.tell_canonical.new.page.results.items c.in-Good.is told)

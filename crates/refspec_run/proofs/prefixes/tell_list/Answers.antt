@@ -1,15 +1,14 @@
--- Each prefix is told after the others.
-use Rattle.std.proofs.Common.{ap, ◌∙◌}
+-- There are prefixes, or none.
+use Rattle.std.proofs.Common.{ℕ, List, map, sym, subst}
 use Rattle.bstr.specs.Owned.{bstring_bytes}
-use Rattle.bstr.specs.declared.bstring.BString.{BString}
 use Rattle.refspec_run.specs.Prefixes.{argument, request}
-use Rattle.refspec_run.proofs.ShownLemmas.{AddsNames-next}
+use Rattle.refspec_run.specs.Shown.{AddsNames}
+use Rattle.refspec_run.proofs.PrefixLemmas.{AddsList-none, AddsList-of, no_names, some_names}
+use Rattle.refspec_run.proofs.ShownLemmas.{map-twice, on_ok}
 use Rattle.refspec_run.proofs.prefixes.tell_list.Goals as goal
 
-pub loop-prefix-preserved : goal.loop-prefix-preserved
-loop-prefix-preserved c =
-    let same = ap (request c.args.patterns) (c.as_bytes.ensures ∙ ap bstring_bytes c.prefix-item.is) in
-    record {
-      form = c.in_ok-tell_prefix.ensures.form ∙ c.loop-prefix.invariant.form;
-      told = AddsNames-next c.args.page.now.form c.loop-prefix.page.form (argument c.args.patterns) (λ (p : BString). request c.args.patterns (bstring_bytes p)) c.args.prefixes.now c.loop-prefix.prefix-index c.prefix-item.result (request c.args.patterns c.as_bytes.result.now) c.args.page.now.results.items c.loop-prefix.page.results.items c.tell_prefix.new.page.results.items c.loop-prefix-test.true c.loop-prefix.invariant.form same c.loop-prefix.invariant.told c.in_ok-tell_prefix.ensures.told;
-    }
+pub returns-then-is_empty : goal.returns-then-is_empty
+returns-then-is_empty c = on_ok c.tell_nothing.result _ _ c.tell_nothing.ensures (λ told. AddsList-none c.args.patterns c.args.page.now.form (map bstring_bytes c.args.prefixes.now) c.args.page.now.results.items c.tell_nothing.new.page.results.items (no_names bstring_bytes c.args.prefixes.now c.if-is_empty.ensures) told)
+
+pub returns : goal.returns
+returns c = on_ok c.tell_each.result _ _ c.tell_each.ensures (λ told. AddsList-of c.args.patterns c.args.page.now.form (map bstring_bytes c.args.prefixes.now) c.args.page.now.results.items c.tell_each.new.page.results.items (some_names bstring_bytes c.args.prefixes.now c.if-is_empty.ensures) (subst (λ (l : List (List ℕ)). AddsNames c.args.page.now.form (argument c.args.patterns) l c.args.page.now.results.items c.tell_each.new.page.results.items) (map-twice (request c.args.patterns) bstring_bytes c.args.prefixes.now) told))

@@ -1,6 +1,7 @@
--- a quote, and something after it
-use Rattle.std.proofs.Common.{◌≡◌, ◌++◌, ◌∷◌, List, ℕ}
+-- a quote, and the escapes of the bytes so far
+use Rattle.std.proofs.Common.{◌≡◌, ◌++◌, ◌∷◌, take, flat_map}
+use Rattle.refspec_run.specs.Shown.{escaped}
 use Rattle.refspec_run.proofs.quote.put_in_quotes.Given as goal
 
 abbrev pub invariant-loop-byte : goal.invariant-loop-byte
-invariant-loop-byte l = (inner : List ℕ) × (l.out.items ≡ l.fn.out.items ++ (34 ∷ inner))
+invariant-loop-byte l = l.out.items ≡ l.fn.out.items ++ (34 ∷ flat_map escaped (take l.byte-index l.text))

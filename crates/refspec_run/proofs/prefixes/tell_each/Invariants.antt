@@ -3,7 +3,7 @@ use Rattle.std.proofs.Common.{◌≡◌, map, take}
 use Rattle.bstr.specs.Owned.{bstring_bytes}
 use Rattle.refspec_run.specs.Prefixes.{argument, request}
 use Rattle.refspec_run.specs.Shown.{AddsNames}
-use Rattle.refspec_run.proofs.prefixes.tell_list.Given as goal
+use Rattle.refspec_run.proofs.prefixes.tell_each.Given as goal
 
 abbrev pub invariant-loop-prefix : goal.invariant-loop-prefix
 invariant-loop-prefix l = record {
