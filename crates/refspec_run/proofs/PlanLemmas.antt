@@ -1,5 +1,5 @@
 -- What is told of a plan.
-use Rattle.std.proofs.Common.{◌≡◌, ℕ, Bool, true, false, List, ◌∙◌, sym, subst}
+use Rattle.std.proofs.Common.{◌≡◌, ◌≢◌, ◌⊎◌, ◌==◌, ℕ, Bool, true, false, not, MatchBool, List, [], inl, inr, length, map, refl, ◌∙◌, sym, subst}
 use Rattle.gix_refspec.specs.Views.Issue.{ForwardOutcome, conflicts_of, mappings_of}
 use Rattle.gix_refspec.specs.Matching.Validation.{Conflict}
 use Rattle.gix_refspec.specs.Matching.Mappings.{Mapped}
@@ -18,6 +18,7 @@ use Rattle.refspec_run.specs.Plan.{AddsPlan, AddsWritten, IsPlanByNames, IsWhole
 use Rattle.refspec_run.specs.Refs.{TellNames}
 use Rattle.refspec_run.specs.Rows.{AddsMappings, AreSpecTexts}
 use Rattle.refspec_run.specs.Shown.{KeepsResults}
+use Rattle.refspec_run.proofs.PrefixLemmas.{no_names, some_names}
 use Rattle.refspec_run.proofs.ShownLemmas.{KeepsResults-next}
 
 -- mappings are written
@@ -37,11 +38,21 @@ AddsWritten-after form.Zeros texts made before messages old mid new kept told = 
 AddsWritten-after form.Json texts (written.Mappings outcome) before messages old mid new kept told = tt
 AddsWritten-after form.Json texts (written.Nothing error) before messages old mid new kept told = (tt, tt)
 
+-- a flag that isn't for the one is for the other
+is_set : (flag : Bool) (P Q : Type 0) → MatchBool flag P Q → (Q → ⊥) → flag ≡ true
+is_set true P Q holds none = refl
+is_set false P Q holds none = absurd (none holds)
+
+-- whether there are some records
+pub some_records : {A : Type 0} (f : A → List ℕ) (xs : List A) (empty : Bool) → empty ≡ (length xs == 0) → MatchBool (not empty) (map f xs ≢ []) (map f xs ≡ [])
+some_records f xs true is = no_names f xs is
+some_records f xs false is = some_names f xs is
+
 -- the plan of the refs in the records, told after two lists of messages
-pub AddsPlan-of : (f one two : Form) (end e : ℕ) (input : List ℕ) (refused : Bool) (g : List Reading) (named : List Ref) (texts shown : List (List ℕ)) (made : Written) (out : List LeftOut) (before messages old first second new : List ℕ)
-    → TellNames e input named → e ≡ end → AreSpecTexts g texts → IsPlanByNames g named made out
-    → one ≡ f → KeepsResults f old first → two ≡ one → KeepsResults one first second → shown ≡ texts → AddsWritten two shown made before messages second new → (refused ≡ false → IsWhole made out) → (LeavesOut made out → refused ≡ true) → AddsPlan f end input messages refused g old new
-AddsPlan-of f one two end e input refused g named texts shown made out before messages old first second new (refs, (records, cut, told), same_names) same_end of_specs plan same_one kept_first same_two kept_second same_texts after whole refuses =
+pub AddsPlan-of : (f one two : Form) (end e : ℕ) (input : List ℕ) (refused has : Bool) (bad : List (List ℕ)) (g : List Reading) (named : List Ref) (texts shown : List (List ℕ)) (made : Written) (out : List LeftOut) (before messages old first second new : List ℕ)
+    → TellNames e input named bad → e ≡ end → AreSpecTexts g texts → IsPlanByNames g named made out
+    → one ≡ f → KeepsResults f old first → two ≡ one → KeepsResults one first second → shown ≡ texts → AddsWritten two shown made before messages second new → MatchBool has (bad ≢ []) (bad ≡ []) → (refused ≡ false → (has ≡ false) × IsWhole made out) → ((has ≡ true) ⊎ LeavesOut made out → refused ≡ true) → AddsPlan f end input messages refused g old new
+AddsPlan-of f one two end e input refused has bad g named texts shown made out before messages old first second new (refs, (records, cut, told), same_names) same_end of_specs plan same_one kept_first same_two kept_second same_texts after some whole refuses =
     let kept = KeepsResults-next f one old first second same_one kept_first kept_second in
     let tells = subst (λ (x : Form). AddsWritten x texts made before messages second new) (same_two ∙ same_one) (subst (λ (l : List (List ℕ)). AddsWritten two l made before messages second new) same_texts after) in
     record {
@@ -56,6 +67,7 @@ AddsPlan-of f one two end e input refused g named texts shown made out before me
       of_specs = of_specs;
       plan = plan refs same_names;
       told = AddsWritten-after f texts made before messages old second new kept tells;
-      whole = whole;
-      refuses = refuses;
+      bad = bad;
+      whole = λ is. (subst (λ (b : Bool). MatchBool b (bad ≢ []) (bad ≡ [])) (whole is).0 some, (whole is).1);
+      refuses = λ reason. elim reason [ inl full ↦ refuses (inl (is_set has (bad ≢ []) (bad ≡ []) some full)) | inr left ↦ refuses (inr left) ];
     }

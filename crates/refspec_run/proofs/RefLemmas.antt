@@ -16,7 +16,7 @@ use Rattle.refspec_text.specs.declared.oid.Kind.{Kind}
 use Rattle.refspec_text.specs.declared.oid.Kind.TheVariants.{Sha1, Sha256}
 use Rattle.refspec_text.proofs.lemmas.texts.ObjectIdLemmas.{id_or_fault}
 use Rattle.refspec_run.specs.Input.{AreRecords, IsFirstRecord}
-use Rattle.refspec_run.specs.Refs.{AddsLine, AddsLineByNames, AddsRefs, HasLast, IsIdThen, IsLast, IsNoRefLine, TellNames, TellRefs, TellsName, peeled}
+use Rattle.refspec_run.specs.Refs.{AddsLine, AddsLineByNames, AddsRefs, AddsTold, HasLast, IsIdThen, IsLast, IsNoRefLine, TellNames, TellRefs, TellsName, peeled}
 use Rattle.refspec_run.proofs.RecordLemmas.{first_and_more}
 
 -- the byte after so many digits is the space
@@ -40,29 +40,30 @@ IsNoRefLine-of line no_short no_long id name says = by_kind says.spelled.kind sa
     by_kind Sha256 long = no_long id name says long
 
 -- one line more
-AddsRefs-append : (lines : List (List ℕ)) (line : List ℕ) (old mid new : List Ref) → AddsRefs lines old mid → AddsLine line mid new → AddsRefs (lines ++ line ∷ []) old new
-AddsRefs-append [] line old mid new none more = (new, subst (λ (l : List Ref). AddsLine line l new) none more, refl)
-AddsRefs-append (l ∷ lines) line old mid new some more = (some.0, some.1, AddsRefs-append lines line some.0 mid new some.2 more)
+AddsRefs-append : (lines : List (List ℕ)) (line : List ℕ) (old mid new : List Ref) (bad one : List (List ℕ)) → AddsRefs lines old mid bad → AddsLine line mid new one → AddsRefs (lines ++ line ∷ []) old new (bad ++ one)
+AddsRefs-append [] line old mid new bad one none more = (new, one, [], subst (λ (l : List Ref). AddsLine line l new one) none.0 more, (refl, refl), ap (λ b. b ++ one) none.1 ∙ sym (append-nil one))
+AddsRefs-append (l ∷ lines) line old mid new bad one (more, first, rest, adds, those, all) last =
+    (more, first, rest ++ one, adds, AddsRefs-append lines line more mid new rest one those last, ap (λ b. b ++ one) all ∙ append_assoc first rest one)
 
 -- some records told of the refs so far, and whatever cuts the rest completes them to those of the input
-abbrev TellsSoFar : ℕ → List Ref → List ℕ → List ℕ → Type 0
-TellsSoFar end refs rest input = (done : List (List ℕ)) × ((more : List (List ℕ)) → AreRecords end more rest → AreRecords end (done ++ more) input) × AddsRefs done [] refs
+abbrev TellsSoFar : ℕ → List Ref → List (List ℕ) → List ℕ → List ℕ → Type 0
+TellsSoFar end refs bad rest input = (done : List (List ℕ)) × ((more : List (List ℕ)) → AreRecords end more rest → AreRecords end (done ++ more) input) × AddsRefs done [] refs bad
 
 -- at the start the whole input is the rest
-TellsSoFar-start : (end : ℕ) (refs : List Ref) (input : List ℕ) → refs ≡ [] → TellsSoFar end refs input input
-TellsSoFar-start end refs input none = ([], (λ more cut. cut), none)
+TellsSoFar-start : (end : ℕ) (refs : List Ref) (bad : List (List ℕ)) (input : List ℕ) → refs ≡ [] → bad ≡ [] → TellsSoFar end refs bad input input
+TellsSoFar-start end refs bad input none no_bad = ([], (λ more cut. cut), (none, no_bad))
 
 -- one record more
-TellsSoFar-more : (end : ℕ) (old new : List Ref) (text first rest input : List ℕ) → text ≢ [] → IsFirstRecord end text first rest → AddsLine first old new → TellsSoFar end old text input → TellsSoFar end new rest input
-TellsSoFar-more end old new text first rest input full is line (done, cut, told) = (
+TellsSoFar-more : (end : ℕ) (old new : List Ref) (bad one : List (List ℕ)) (text first rest input : List ℕ) → text ≢ [] → IsFirstRecord end text first rest → AddsLine first old new one → TellsSoFar end old bad text input → TellsSoFar end new (bad ++ one) rest input
+TellsSoFar-more end old new bad one text first rest input full is line (done, cut, told) = (
   done ++ first ∷ [],
   (λ more those. subst (λ (rs : List (List ℕ)). AreRecords end rs input) (sym (append_assoc done (first ∷ []) more)) (cut (first ∷ more) (first_and_more end text first rest more full is.0 those is.1))),
-  AddsRefs-append done first [] old new told line,
+  AddsRefs-append done first [] old new bad one told line,
 )
 
 -- in the end nothing is left
-TellRefs-end : (end : ℕ) (refs : List Ref) (rest input : List ℕ) → rest ≡ [] → TellsSoFar end refs rest input → TellRefs end input refs
-TellRefs-end end refs rest input none (done, cut, told) = (done, subst (λ (rs : List (List ℕ)). AreRecords end rs input) (append-nil done) (cut [] none), told)
+TellRefs-end : (end : ℕ) (refs : List Ref) (bad : List (List ℕ)) (rest input : List ℕ) → rest ≡ [] → TellsSoFar end refs bad rest input → TellRefs end input refs bad
+TellRefs-end end refs bad rest input none (done, cut, told) = (done, subst (λ (rs : List (List ℕ)). AreRecords end rs input) (append-nil done) (cut [] none), told)
 
 -- what holds of nothing holds by what follows from it
 pub on_none : {T : Type 0} (r : Option T) (P Q : Type 0) → IfNone r P → (P → Q) → IfNone r Q
@@ -116,43 +117,56 @@ last_also refs others n same has =
     let long : length others ≡ length refs = sym (length-map others name_of) ∙ (ap length (sym same) ∙ length-map refs name_of) in
     last_name others n (ap (λ k. slice_get (map name_of others) (k - 1)) long ∙ (ap (λ ns. slice_get ns (length refs - 1)) (sym same) ∙ name_last refs n has))
 
+-- a line that is good, and one that is bad
+AddsTold-good : (line : List ℕ) (old new : List Ref) (bad_old bad_new : List (List ℕ)) → AddsLineByNames line old new [] → bad_new ≡ bad_old → AddsTold line old new bad_old bad_new
+AddsTold-good line old new bad_old bad_new adds same = ([], adds, same ∙ sym (append-nil bad_old))
+
 -- a line of a ref
-pub AddsLineByNames-ref : (line : List ℕ) (r : Ref) (old new : List Ref) → TellsName line r.name → ((tag : List ℕ) → ¬ (r.name ≡ tag ++ peeled)) → new ≡ old ++ r ∷ [] → AddsLineByNames line old new
-AddsLineByNames-ref line r old new (id, says) whole grown refs same =
-    let told : Ref = record { name = r.name; target = id; object = None } in (
-      refs ++ told ∷ [],
-      inl (told, record { says = says; whole = whole; object = refl }, refl),
-      ap (map name_of) grown ∙ (map-append name_of old (r ∷ []) ∙ (ap (λ ns. ns ++ r.name ∷ []) same ∙ sym (map-append name_of refs (told ∷ [])))),
-    )
+pub AddsTold-ref : (line : List ℕ) (r : Ref) (old new : List Ref) (bad_old bad_new : List (List ℕ)) → TellsName line r.name → ((tag : List ℕ) → ¬ (r.name ≡ tag ++ peeled)) → new ≡ old ++ r ∷ [] → bad_new ≡ bad_old → AddsTold line old new bad_old bad_new
+AddsTold-ref line r old new bad_old bad_new (id, says) whole grown same_bad = AddsTold-good line old new bad_old bad_new adds same_bad
+  where
+    adds : AddsLineByNames line old new []
+    adds refs same =
+        let told : Ref = record { name = r.name; target = id; object = None } in (
+          refs ++ told ∷ [],
+          inl (told, record { says = says; whole = whole; object = refl }, refl, refl),
+          ap (map name_of) grown ∙ (map-append name_of old (r ∷ []) ∙ (ap (λ ns. ns ++ r.name ∷ []) same ∙ sym (map-append name_of refs (told ∷ [])))),
+        )
 
 -- that of a tag, which is the last ref
-pub AddsLineByNames-peeled : (line tag : List ℕ) (old new : List Ref) → TellsName line (tag ++ peeled) → HasLast old tag → new ≡ old → AddsLineByNames line old new
-AddsLineByNames-peeled line tag old new (id, says) has stays refs same =
-    let (r, last, named) = last_also old refs tag same has in
-    let joined : Ref = record r { object = Some id } in (
-      take (length refs - 1) refs ++ joined ∷ [],
-      inr (inl (record { tag = r; id = id; says = subst (λ (x : List ℕ). IsIdThen line id (x ++ peeled)) (sym named) says; last = last; joined = refl })),
-      ap (map name_of) stays ∙ (same ∙ replaced_names refs r joined last refl),
-    )
+pub AddsTold-peeled : (line tag : List ℕ) (old new : List Ref) (bad_old bad_new : List (List ℕ)) → TellsName line (tag ++ peeled) → HasLast old tag → new ≡ old → bad_new ≡ bad_old → AddsTold line old new bad_old bad_new
+AddsTold-peeled line tag old new bad_old bad_new (id, says) has stays same_bad = AddsTold-good line old new bad_old bad_new adds same_bad
+  where
+    adds : AddsLineByNames line old new []
+    adds refs same =
+        let (r, last, named) = last_also old refs tag same has in
+        let joined : Ref = record r { object = Some id } in (
+          take (length refs - 1) refs ++ joined ∷ [],
+          inr (inl (record { tag = r; id = id; says = subst (λ (x : List ℕ). IsIdThen line id (x ++ peeled)) (sym named) says; last = last; joined = refl }, refl)),
+          ap (map name_of) stays ∙ (same ∙ replaced_names refs r joined last refl),
+        )
 
--- a line that is passed over
-pub AddsLineByNames-passed : (line tag : List ℕ) (old new : List Ref) → TellsName line (tag ++ peeled) → new ≡ old → AddsLineByNames line old new
-AddsLineByNames-passed line tag old new (id, says) stays refs same = (refs, inr (inr (inl (record { tag = tag; id = id; says = says }), refl)), ap (map name_of) stays ∙ same)
+-- that of a tag which isn't
+pub AddsTold-elsewhere : (line tag : List ℕ) (old new : List Ref) (bad_old bad_new : List (List ℕ)) → TellsName line (tag ++ peeled) → ¬ (HasLast old tag) → new ≡ old → bad_new ≡ bad_old ++ line ∷ [] → AddsTold line old new bad_old bad_new
+AddsTold-elsewhere line tag old new bad_old bad_new (id, says) missing stays grown =
+    (line ∷ [], (λ refs same. (refs, inr (inr (inl (record { tag = tag; id = id; says = says; elsewhere = λ has. missing (last_also refs old tag (sym same) has) }), refl, refl)), ap (map name_of) stays ∙ same)), grown)
 
-pub AddsLineByNames-none : (line : List ℕ) (old new : List Ref) → IsNoRefLine line → new ≡ old → AddsLineByNames line old new
-AddsLineByNames-none line old new none stays refs same = (refs, inr (inr (inr none, refl)), ap (map name_of) stays ∙ same)
+-- a line that says nothing
+pub AddsTold-none : (line : List ℕ) (old new : List Ref) (bad_old bad_new : List (List ℕ)) → IsNoRefLine line → new ≡ old → bad_new ≡ bad_old ++ line ∷ [] → AddsTold line old new bad_old bad_new
+AddsTold-none line old new bad_old bad_new none stays grown =
+    (line ∷ [], (λ refs same. (refs, inr (inr (inr none, refl, refl)), ap (map name_of) stays ∙ same)), grown)
 
 -- some records told of refs with the names so far
-abbrev pub TellsNamesSoFar : ℕ → List Ref → List ℕ → List ℕ → Type 0
-TellsNamesSoFar end named rest input = (refs : List Ref) × TellsSoFar end refs rest input × HaveSameNames named refs
+abbrev pub TellsNamesSoFar : ℕ → List Ref → List (List ℕ) → List ℕ → List ℕ → Type 0
+TellsNamesSoFar end named bad rest input = (refs : List Ref) × TellsSoFar end refs bad rest input × HaveSameNames named refs
 
-pub TellsNamesSoFar-start : (end : ℕ) (named : List Ref) (input : List ℕ) → named ≡ [] → TellsNamesSoFar end named input input
-TellsNamesSoFar-start end named input none = ([], TellsSoFar-start end [] input refl, ap (map name_of) none)
+pub TellsNamesSoFar-start : (end : ℕ) (named : List Ref) (bad : List (List ℕ)) (input : List ℕ) → named ≡ [] → bad ≡ [] → TellsNamesSoFar end named bad input input
+TellsNamesSoFar-start end named bad input none no_bad = ([], TellsSoFar-start end [] bad input refl no_bad, ap (map name_of) none)
 
-pub TellsNamesSoFar-more : (end : ℕ) (old new : List Ref) (text first rest input : List ℕ) → text ≢ [] → IsFirstRecord end text first rest → AddsLineByNames first old new → TellsNamesSoFar end old text input → TellsNamesSoFar end new rest input
-TellsNamesSoFar-more end old new text first rest input full is adds (refs, told, same) =
+pub TellsNamesSoFar-more : (end : ℕ) (old new : List Ref) (bad_old bad_new : List (List ℕ)) (text first rest input : List ℕ) → text ≢ [] → IsFirstRecord end text first rest → AddsTold first old new bad_old bad_new → TellsNamesSoFar end old bad_old text input → TellsNamesSoFar end new bad_new rest input
+TellsNamesSoFar-more end old new bad_old bad_new text first rest input full is (one, adds, grown) (refs, told, same) =
     let (more, line, also) = adds refs same in
-    (more, TellsSoFar-more end refs more text first rest input full is line told, also)
+    subst (λ (b : List (List ℕ)). TellsNamesSoFar end new b rest input) (sym grown) (more, TellsSoFar-more end refs more bad_old one text first rest input full is line told, also)
 
-pub TellNames-end : (end : ℕ) (named : List Ref) (rest input : List ℕ) → rest ≡ [] → TellsNamesSoFar end named rest input → TellNames end input named
-TellNames-end end named rest input none (refs, told, same) = (refs, TellRefs-end end refs rest input none told, same)
+pub TellNames-end : (end : ℕ) (named : List Ref) (bad : List (List ℕ)) (rest input : List ℕ) → rest ≡ [] → TellsNamesSoFar end named bad rest input → TellNames end input named bad
+TellNames-end end named bad rest input none (refs, told, same) = (refs, TellRefs-end end refs bad rest input none told, same)

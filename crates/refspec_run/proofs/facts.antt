@@ -1,1 +1,3 @@
+mod MessageFacts
+mod RefFacts
 mod ShownFacts

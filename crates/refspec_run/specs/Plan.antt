@@ -1,5 +1,5 @@
 -- What a fetch writes, in the words of the library.
-use Rattle.std.specs.Prelude.{◌≡◌, ◌≢◌, ℕ, Bool, true, false, List, [], ⊤}
+use Rattle.std.specs.Prelude.{◌≡◌, ◌≢◌, ◌⊎◌, ℕ, Bool, true, false, List, [], ⊤}
 use Rattle.gix_refspec.specs.Specs.Reading.{Reading}
 use Rattle.gix_refspec.specs.Matching.Match.{Ref}
 use Rattle.gix_refspec.specs.Matching.Mappings.{Mapped}
@@ -61,11 +61,12 @@ pub record AddsPlan (form : Form) (end : ℕ) (input messages : List ℕ) (refus
   pub texts : List (List ℕ)
   pub made : Written
   pub out : List LeftOut
+  pub bad : List (List ℕ)
   pub before : List ℕ
   pub cut : AreRecords end records input
-  pub refs : AddsRefs records [] items
+  pub refs : AddsRefs records [] items bad
   pub of_specs : AreSpecTexts g texts
   pub plan : IsPlan g items made out
   pub told : AddsWritten form texts made before messages old new
-  pub whole : refused ≡ false → IsWhole made out
-  pub refuses : LeavesOut made out → refused ≡ true
+  pub whole : refused ≡ false → (bad ≡ []) × IsWhole made out
+  pub refuses : (bad ≢ []) ⊎ LeavesOut made out → refused ≡ true

@@ -5,6 +5,7 @@ use Rattle.std.specs.List.{slice_get}
 use Rattle.gix_refspec.specs.Matching.Match.{Ref}
 use Rattle.gix_refspec.specs.Laws.Items.{HaveSameNames}
 use Rattle.gix_refspec.specs.Texts.ObjectId.{IsIdText}
+use Rattle.refspec_run.specs.declared.refs.BadRecord.{BadRecord}
 use Rattle.refspec_run.specs.Input.{AreRecords}
 
 -- the line is the digits of an id, a tab or a space, and a name
@@ -45,35 +46,45 @@ pub record IsPeeledLine (line : List ℕ) (old new : List Ref) : Type 0 where
   pub last : IsLast old tag
   pub joined : new ≡ take (length old - 1) old ++ (record tag { object = Some id }) ∷ []
 
--- the line says so of some tag
-pub record IsTagLine (line : List ℕ) : Type 0 where
+-- the line says so of some tag that is not the last ref before it
+pub record IsTagLine (line : List ℕ) (old : List Ref) : Type 0 where
   pub tag : List ℕ
   pub id : List ℕ
   pub says : IsIdThen line id (tag ++ peeled)
+  pub elsewhere : ¬ (HasLast old tag)
 
 -- the line says nothing of refs
 abbrev pub IsNoRefLine : List ℕ → Type 0
 IsNoRefLine line = (id name : List ℕ) → ¬ (IsIdThen line id name)
 
--- what a line makes of the refs before it. That of a tag is passed over where the tag is elsewhere; where, isn't said here
-abbrev pub AddsLine : List ℕ → List Ref → List Ref → Type 0
-AddsLine line old new =
-    ((r : Ref) × IsRefLine line r × (new ≡ old ++ r ∷ []))
-    ⊎ (IsPeeledLine line old new ⊎ ((IsTagLine line ⊎ IsNoRefLine line) × (new ≡ old)))
+-- what a line makes of the refs before it; bad has the line if it is no ref, nor what the ref before it points to
+abbrev pub AddsLine : List ℕ → List Ref → List Ref → List (List ℕ) → Type 0
+AddsLine line old new bad =
+    ((r : Ref) × IsRefLine line r × (new ≡ old ++ r ∷ []) × (bad ≡ []))
+    ⊎ ((IsPeeledLine line old new × (bad ≡ [])) ⊎ ((IsTagLine line old ⊎ IsNoRefLine line) × (new ≡ old) × (bad ≡ line ∷ [])))
 
--- what lines make of the refs before them, one after another
-abbrev pub AddsRefs : List (List ℕ) → List Ref → List Ref → Type 0
-AddsRefs [] old new = new ≡ old
-AddsRefs (line ∷ lines) old new = (more : List Ref) × AddsLine line old more × AddsRefs lines more new
+-- what lines make of the refs before them, one after another; bad are those that are no refs, in order
+abbrev pub AddsRefs : List (List ℕ) → List Ref → List Ref → List (List ℕ) → Type 0
+AddsRefs [] old new bad = (new ≡ old) × (bad ≡ [])
+AddsRefs (line ∷ lines) old new bad =
+    (more : List Ref) × (one : List (List ℕ)) × (rest : List (List ℕ)) × AddsLine line old more one × AddsRefs lines more new rest × (bad ≡ one ++ rest)
 
--- the records of an input tell of these refs
-abbrev pub TellRefs : ℕ → List ℕ → List Ref → Type 0
-TellRefs end input refs = (records : List (List ℕ)) × AreRecords end records input × AddsRefs records [] refs
+-- the records of an input tell of these refs, and the bad ones of none
+abbrev pub TellRefs : ℕ → List ℕ → List Ref → List (List ℕ) → Type 0
+TellRefs end input refs bad = (records : List (List ℕ)) × AreRecords end records input × AddsRefs records [] refs bad
 
 -- of any refs with the names of the old ones, the line makes some with the names of the new ones
-abbrev pub AddsLineByNames : List ℕ → List Ref → List Ref → Type 0
-AddsLineByNames line old new = (refs : List Ref) → HaveSameNames old refs → (more : List Ref) × AddsLine line refs more × HaveSameNames new more
+abbrev pub AddsLineByNames : List ℕ → List Ref → List Ref → List (List ℕ) → Type 0
+AddsLineByNames line old new bad = (refs : List Ref) → HaveSameNames old refs → (more : List Ref) × AddsLine line refs more bad × HaveSameNames new more
 
--- the records of an input tell of refs with the names of these
-abbrev pub TellNames : ℕ → List ℕ → List Ref → Type 0
-TellNames end input named = (refs : List Ref) × TellRefs end input refs × HaveSameNames named refs
+-- so it does, and the bad records grew by it if it is one
+abbrev pub AddsTold : List ℕ → List Ref → List Ref → List (List ℕ) → List (List ℕ) → Type 0
+AddsTold line old new bad_old bad_new = (bad : List (List ℕ)) × AddsLineByNames line old new bad × (bad_new ≡ bad_old ++ bad)
+
+-- the records of an input tell of refs with the names of these, and the bad ones of none
+abbrev pub TellNames : ℕ → List ℕ → List Ref → List (List ℕ) → Type 0
+TellNames end input named bad = (refs : List Ref) × TellRefs end input refs bad × HaveSameNames named refs
+
+-- the bytes of a bad record
+abbrev pub bad_bytes : BadRecord → List ℕ
+bad_bytes b = b.bytes.now

@@ -1,6 +1,6 @@
 //! How a plan is shown: its mappings as results, and conflicts and what is left out as messages.
 
-ghost use Rattle.std.specs.Prelude.{◌≡◌, ◌∷◌, [], false, map, true, IfOk, MatchBool, OnOk};
+ghost use Rattle.std.specs.Prelude.{◌≡◌, ◌≢◌, ◌⊎◌, ◌∷◌, [], false, map, true, IfOk, MatchBool, OnOk};
 ghost use Rattle.bstr.specs.Owned.{bstring_bytes};
 ghost use Rattle.gix_refspec.specs.Matching.RefNames.{left_out_of};
 ghost use Rattle.gix_refspec.specs.Views.Group.{start_of};
@@ -8,6 +8,7 @@ ghost use Rattle.gix_refspec.specs.Views.Issue.{conflict_of};
 ghost use Rattle.gix_refspec.specs.Views.Spec.{reading_of};
 ghost use Rattle.refspec_run.specs.Conflicts.{AddsConflicts, PutsClaim, PutsClaims, PutsConflict};
 ghost use Rattle.refspec_run.specs.Input.{end_byte};
+ghost use Rattle.refspec_run.specs.Refs.{bad_bytes};
 ghost use Rattle.refspec_run.specs.Plan.{AddsPlan, AddsWritten, IsWhole, LeavesOut};
 ghost use Rattle.refspec_run.specs.Shown.{KeepsPage, KeepsResults};
 
@@ -43,26 +44,25 @@ pub fn tell_plan<D: Discard>(
 {
     let id = ObjectId::null(Kind::shortest());
     let told = Told::read(alloc, task.input, end_of(task.call.ends), &id)?;
-    tell_bad_records(alloc, task.call.input, told.bad.as_slice(), page)?;
+    let has_bad = tell_bad_records(alloc, task.call.input, told.bad.as_slice(), page)?;
     let texts = canonical_texts(alloc, specs.as_slice())?;
     let plan = plan_of(alloc, specs, told.items.as_slice())?;
-    let has_bad_records = !told.bad.is_empty();
     drop(told);
     tell_all_left_out(alloc, plan.left_out.as_slice(), texts.as_slice(), page)?;
     tell_written(alloc, &plan.written, texts.as_slice(), page)?;
-    let refused = is_refused(has_bad_records, &plan);
+    let refused = is_refused(has_bad, &plan);
     done.discard(plan);
     Ok(refused)
 }
 
 // Whether some records are no refs, or a plan leaves out a mapping or has conflicts.
-fn is_refused(has_bad_records: bool, plan: &Plan<'_, '_>) -> bool
-    ensures whole { result ≡ false
-        → IsWhole plan.now.written (map left_out_of plan.now.left_out.items) }
-    ensures refuses { LeavesOut plan.now.written (map left_out_of plan.now.left_out.items)
-        → result ≡ true }
+fn is_refused(has_bad: bool, plan: &Plan<'_, '_>) -> bool
+    ensures whole { result ≡ false → (has_bad ≡ false)
+        × IsWhole plan.now.written (map left_out_of plan.now.left_out.items) }
+    ensures refuses { (has_bad ≡ true)
+        ⊎ LeavesOut plan.now.written (map left_out_of plan.now.left_out.items) → result ≡ true }
 {
-    has_bad_records || leaves_out(plan)
+    has_bad || leaves_out(plan)
 }
 
 // Whether a plan leaves out a mapping, or has conflicts.
@@ -100,19 +100,21 @@ fn tell_written(
     }
 }
 
-// Tells of records that tell of no ref.
+// Tells of records that tell of no ref. Returns whether there are some.
 fn tell_bad_records(
     alloc: Global,
     input: &str,
     bad: &[BadRecord<'_>],
     page: &mut Page,
-) -> Result<(), AllocError>
-    ensures { OnOk result (KeepsPage page.old page.new) }
+) -> Result<bool, AllocError>
+    ensures kept { OnOk result (KeepsPage page.old page.new) }
+    ensures some { IfOk result (λ some. MatchBool some
+        (map bad_bytes bad.now ≢ []) (map bad_bytes bad.now ≡ [])) }
 {
     for record in bad {
         tell_bad_record(alloc, input, record, page)?;
     }
-    Ok(())
+    Ok(!bad.is_empty())
 }
 
 // Tells of mappings that are left out.

@@ -3,7 +3,7 @@
 ghost use Rattle.std.specs.Prelude.{◌≡◌, ◌↔◌, ◌⊎◌, ◌++◌, ◌∷◌, [], List, ℕ, length, map, IfNone, IfOk, IfSome, IsTrue, OnOk};
 ghost use Rattle.gix_refspec.specs.Views.Group.{ref_of};
 ghost use Rattle.gix_refspec.specs.Texts.ObjectId.{digits_of, id_bytes};
-ghost use Rattle.refspec_run.specs.Refs.{AddsLineByNames, HasLast, IsIdThen, IsNoRefLine, TellNames, TellsName, peeled};
+ghost use Rattle.refspec_run.specs.Refs.{AddsTold, HasLast, IsIdThen, IsNoRefLine, TellNames, TellsName, bad_bytes, peeled};
 
 use crate::input::first_record;
 use bstr::{BStr, ByteSlice};
@@ -40,7 +40,8 @@ impl<'a> Told<'a> {
         end: u8,
         id: &'a ObjectId,
     ) -> Result<Told<'a>, AllocError>
-        ensures { IfOk result (λ told. TellNames end input.now (map ref_of told.items.items)) }
+        ensures { IfOk result (λ told. TellNames end input.now
+            (map ref_of told.items.items) (map bad_bytes told.bad.items)) }
     {
         let mut told = Told {
             items: Vec::new(alloc),
@@ -60,8 +61,9 @@ impl<'a> Told<'a> {
 
     // Adds what a record tells.
     fn add(&mut self, number: usize, bytes: &'a [u8]) -> Result<(), AllocError>
-        ensures { OnOk result (AddsLineByNames bytes.now
-            (map ref_of self.old.items.items) (map ref_of self.new.items.items)) }
+        ensures { OnOk result (AddsTold bytes.now
+            (map ref_of self.old.items.items) (map ref_of self.new.items.items)
+            (map bad_bytes self.old.bad.items) (map bad_bytes self.new.bad.items)) }
     {
         match name_told(bytes) {
             None => self.add_bad(number, bytes, false),
@@ -77,8 +79,9 @@ impl<'a> Told<'a> {
         name: &'a [u8],
     ) -> Result<(), AllocError>
         requires { TellsName bytes.now name.now }
-        ensures { OnOk result (AddsLineByNames bytes.now
-            (map ref_of self.old.items.items) (map ref_of self.new.items.items)) }
+        ensures { OnOk result (AddsTold bytes.now
+            (map ref_of self.old.items.items) (map ref_of self.new.items.items)
+            (map bad_bytes self.old.bad.items) (map bad_bytes self.new.bad.items)) }
     {
         match tag_of(name) {
             None => self.add_ref(name),
@@ -89,8 +92,9 @@ impl<'a> Told<'a> {
     // Adds what a record tells of a tag, which has to be the last ref so far: its name stays.
     fn add_peeled(&mut self, number: usize, bytes: &'a [u8], tag: &[u8]) -> Result<(), AllocError>
         requires { TellsName bytes.now (tag.now ++ peeled) }
-        ensures { OnOk result (AddsLineByNames bytes.now
-            (map ref_of self.old.items.items) (map ref_of self.new.items.items)) }
+        ensures { OnOk result (AddsTold bytes.now
+            (map ref_of self.old.items.items) (map ref_of self.new.items.items)
+            (map bad_bytes self.old.bad.items) (map bad_bytes self.new.bad.items)) }
     {
         if self.is_last(tag) {
             return Ok(());
@@ -110,8 +114,9 @@ impl<'a> Told<'a> {
 
     // Adds a ref.
     fn add_ref(&mut self, name: &'a [u8]) -> Result<(), AllocError>
-        ensures { OnOk result (map ref_of self.new.items.items ≡ map ref_of self.old.items.items
+        ensures items { OnOk result (map ref_of self.new.items.items ≡ map ref_of self.old.items.items
             ++ record { name = name.now; target = id_bytes self.old.id.now; object = None } ∷ []) }
+        ensures bad { OnOk result (self.new.bad.items ≡ self.old.bad.items) }
     {
         self.items.push(Item {
             full_ref_name: BStr::new(name),
@@ -123,7 +128,9 @@ impl<'a> Told<'a> {
 
     // Adds a record that tells of no ref.
     fn add_bad(&mut self, number: usize, bytes: &'a [u8], is_peeled: bool) -> Result<(), AllocError>
-        ensures { OnOk result (self.new.items.items ≡ self.old.items.items) }
+        ensures items { OnOk result (self.new.items.items ≡ self.old.items.items) }
+        ensures bad { OnOk result (map bad_bytes self.new.bad.items
+            ≡ map bad_bytes self.old.bad.items ++ bytes.now ∷ []) }
     {
         self.bad.push(BadRecord {
             number,
