@@ -86,7 +86,7 @@ C_LIBRARY := crates/refspec_c
 HEADER := $(C_LIBRARY)/include/gix_refspec.h
 SHARED := libgix_refspec.so
 C_VERSION := $(shell sed -n 's/^.define GIX_REFSPEC_VERSION "\(.*\)"/\1/p' $(HEADER))
-# What a program asks for: major and minor version, as before 1.0 each other minor version may break callers.
+# What a program asks for: major and minor version, as before 1.0 every new minor version may break callers.
 SONAME := $(SHARED).$(basename $(C_VERSION))
 C_SOURCES := crates.txt tools/archive $(shell find $(LIBRARY) $(C_LIBRARY) \( -name out -o -name must-fail \) -prune -o -type f -print)
 

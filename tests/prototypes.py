@@ -161,7 +161,7 @@ def versions(folder, header):
     for crate in ("gix-refspec-sys", "refspec"):
         told[f"the crate {crate}"] = found(r'^version = "(.*)"$', read(RUST, crate, "Cargo.toml"))
     told["what refspec depends on"] = found(r'^gix-refspec-sys = .*version = "(.*)"', read(RUST, "refspec", "Cargo.toml"))
-    # Before 1.0 each other minor version may break callers, afterwards each other major version.
+    # Before 1.0 every new minor version may break callers, afterwards every new major version.
     compatible = ".".join(parts[:2] if parts[0] == "0" else parts[:1])
     dynamic = subprocess.run(["readelf", "-d", shared], stdout=subprocess.PIPE, check=True, text=True).stdout
     sonames = {

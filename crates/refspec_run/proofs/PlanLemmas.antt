@@ -38,10 +38,16 @@ AddsWritten-after form.Zeros texts made before messages old mid new kept told = 
 AddsWritten-after form.Json texts (written.Mappings outcome) before messages old mid new kept told = tt
 AddsWritten-after form.Json texts (written.Nothing error) before messages old mid new kept told = (tt, tt)
 
--- a flag that isn't for the one is for the other
-is_set : (flag : Bool) (P Q : Type 0) → MatchBool flag P Q → (Q → ⊥) → flag ≡ true
-is_set true P Q holds none = refl
-is_set false P Q holds none = absurd (none holds)
+-- what two flags are for
+with_records : (refused has : Bool) (P Q L W : Type 0) → MatchBool has P Q → MatchBool refused ((has ≡ true) ⊎ L) ((has ≡ false) × W) → MatchBool refused (P ⊎ L) (Q × W)
+with_records true has P Q L W some (inl is) = inl (subst (λ (b : Bool). MatchBool b P Q) is some)
+with_records true has P Q L W some (inr left) = inr left
+with_records false has P Q L W some (none, whole) = (subst (λ (b : Bool). MatchBool b P Q) none some, whole)
+
+-- a flag that isn't set, and another
+pub unset_or : (r has : Bool) (L W : Type 0) → has ≡ false → MatchBool r L W → MatchBool r ((has ≡ true) ⊎ L) ((has ≡ false) × W)
+unset_or true has L W none holds = inr holds
+unset_or false has L W none holds = (none, holds)
 
 -- whether there are some records
 pub some_records : {A : Type 0} (f : A → List ℕ) (xs : List A) (empty : Bool) → empty ≡ (length xs == 0) → MatchBool (not empty) (map f xs ≢ []) (map f xs ≡ [])
@@ -51,8 +57,8 @@ some_records f xs false is = some_names f xs is
 -- the plan of the refs in the records, told after two lists of messages
 pub AddsPlan-of : (f one two : Form) (end e : ℕ) (input : List ℕ) (refused has : Bool) (bad : List (List ℕ)) (g : List Reading) (named : List Ref) (texts shown : List (List ℕ)) (made : Written) (out : List LeftOut) (before messages old first second new : List ℕ)
     → TellNames e input named bad → e ≡ end → AreSpecTexts g texts → IsPlanByNames g named made out
-    → one ≡ f → KeepsResults f old first → two ≡ one → KeepsResults one first second → shown ≡ texts → AddsWritten two shown made before messages second new → MatchBool has (bad ≢ []) (bad ≡ []) → (refused ≡ false → (has ≡ false) × IsWhole made out) → ((has ≡ true) ⊎ LeavesOut made out → refused ≡ true) → AddsPlan f end input messages refused g old new
-AddsPlan-of f one two end e input refused has bad g named texts shown made out before messages old first second new (refs, (records, cut, told), same_names) same_end of_specs plan same_one kept_first same_two kept_second same_texts after some whole refuses =
+    → one ≡ f → KeepsResults f old first → two ≡ one → KeepsResults one first second → shown ≡ texts → AddsWritten two shown made before messages second new → MatchBool has (bad ≢ []) (bad ≡ []) → MatchBool refused ((has ≡ true) ⊎ LeavesOut made out) ((has ≡ false) × IsWhole made out) → AddsPlan f end input messages refused g old new
+AddsPlan-of f one two end e input refused has bad g named texts shown made out before messages old first second new (refs, (records, cut, told), same_names) same_end of_specs plan same_one kept_first same_two kept_second same_texts after some status =
     let kept = KeepsResults-next f one old first second same_one kept_first kept_second in
     let tells = subst (λ (x : Form). AddsWritten x texts made before messages second new) (same_two ∙ same_one) (subst (λ (l : List (List ℕ)). AddsWritten two l made before messages second new) same_texts after) in
     record {
@@ -68,6 +74,5 @@ AddsPlan-of f one two end e input refused has bad g named texts shown made out b
       plan = plan refs same_names;
       told = AddsWritten-after f texts made before messages old second new kept tells;
       bad = bad;
-      whole = λ is. (subst (λ (b : Bool). MatchBool b (bad ≢ []) (bad ≡ [])) (whole is).0 some, (whole is).1);
-      refuses = λ reason. elim reason [ inl full ↦ refuses (inl (is_set has (bad ≢ []) (bad ≡ []) some full)) | inr left ↦ refuses (inr left) ];
+      status = with_records refused has (bad ≢ []) (bad ≡ []) (LeavesOut made out) (IsWhole made out) some status;
     }

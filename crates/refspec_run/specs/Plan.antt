@@ -1,5 +1,5 @@
 -- What a fetch writes, in the words of the library.
-use Rattle.std.specs.Prelude.{◌≡◌, ◌≢◌, ◌⊎◌, ℕ, Bool, true, false, List, [], ⊤}
+use Rattle.std.specs.Prelude.{◌≡◌, ◌≢◌, ◌⊎◌, ℕ, Bool, List, [], MatchBool, ⊤}
 use Rattle.gix_refspec.specs.Specs.Reading.{Reading}
 use Rattle.gix_refspec.specs.Matching.Match.{Ref}
 use Rattle.gix_refspec.specs.Matching.Mappings.{Mapped}
@@ -68,5 +68,4 @@ pub record AddsPlan (form : Form) (end : ℕ) (input messages : List ℕ) (refus
   pub of_specs : AreSpecTexts g texts
   pub plan : IsPlan g items made out
   pub told : AddsWritten form texts made before messages old new
-  pub whole : refused ≡ false → (bad ≡ []) × IsWhole made out
-  pub refuses : (bad ≢ []) ⊎ LeavesOut made out → refused ≡ true
+  pub status : MatchBool refused ((bad ≢ []) ⊎ LeavesOut made out) ((bad ≡ []) × IsWhole made out)

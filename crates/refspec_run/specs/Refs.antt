@@ -1,5 +1,6 @@
 -- What the lines of a list of refs say, as `git ls-remote`, `git show-ref -d` and
--- `git for-each-ref --format='%(objectname) %(refname)'` print it. That other lines are passed over is this project's own rule.
+-- `git for-each-ref --format='%(objectname) %(refname)'` print it. That other lines are bad records is this
+-- project's own rule.
 use Rattle.std.specs.Prelude.{◌≡◌, ◌⊎◌, ℕ, ◌-◌, List, [], ◌∷◌, ◌++◌, None, Some, length, take, codes}
 use Rattle.std.specs.List.{slice_get}
 use Rattle.gix_refspec.specs.Matching.Match.{Ref}

@@ -203,15 +203,18 @@ pub fn advice_for(text: &Text<'_>, error: &Error) -> &'static str {
         Error::PatternUnsupported { .. } => {
             "Keep one `*`, which stands for any bytes, slashes too; or write several specs."
         }
-        Error::PatternUnbalanced => advice_for_pattern(text.bytes),
+        Error::PatternUnbalanced => advice_for_pattern(text),
         Error::ReferenceName(fault) => advice_for_name(text.bytes, *fault),
         _ => "",
     }
 }
 
 // What to do about a pattern on one side alone.
-fn advice_for_pattern(text: &[u8]) -> &'static str {
-    match parts_of(text) {
+fn advice_for_pattern(text: &Text<'_>) -> &'static str {
+    match parts_of(text.bytes) {
+        (Part { bytes: b"", .. }, _) if text.operation == Operation::Push => {
+            "To delete refs, name each in a spec of its own, as in `:main`."
+        }
         (Part { bytes: b"", .. }, _) =>
             "Write a source with a `*` too, as in `refs/heads/*:refs/remotes/origin/*`.",
         (_, None | Some(Part { bytes: b"", .. })) => {
@@ -233,7 +236,7 @@ fn advice_for_name(text: &[u8], fault: name::Error) -> &'static str {
         name::Error::InvalidByte { byte: b'\r' } if text.ends_with(b"\r") => {
             "The line ends with a carriage return. End lines with a newline alone."
         }
-        name::Error::InvalidByte { byte: b'^' } if begins_or_ends(text, b'^') => {
+        name::Error::InvalidByte { byte: b'^' } if begins(text, b'^') => {
             "To exclude refs, begin the spec with one `^`, without a `+`."
         }
         name::Error::InvalidByte { byte: b':' } => {
@@ -256,12 +259,23 @@ fn advice_for_name(text: &[u8], fault: name::Error) -> &'static str {
     }
 }
 
+// Whether a side of a spec begins with a byte.
+fn begins(text: &[u8], byte: u8) -> bool {
+    sides_of(text)
+        .iter()
+        .any(|side| side.first() == Some(&byte))
+}
+
 // Whether a side of a spec begins or ends with a byte.
 fn begins_or_ends(text: &[u8], byte: u8) -> bool {
+    begins(text, byte) || sides_of(text).iter().any(|side| side.last() == Some(&byte))
+}
+
+// Both sides of a spec. One that is missing is empty.
+fn sides_of(text: &[u8]) -> [&[u8]; 2] {
     let (source, destination) = parts_of(text);
-    let sides = [
+    [
         source.bytes,
         destination.map_or(b"".as_slice(), |part| part.bytes),
-    ];
-    sides.iter().any(|side| side.first() == Some(&byte) || side.last() == Some(&byte))
+    ]
 }

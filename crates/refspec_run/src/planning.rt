@@ -57,12 +57,14 @@ pub fn tell_plan<D: Discard>(
 
 // Whether some records are no refs, or a plan leaves out a mapping or has conflicts.
 fn is_refused(has_bad: bool, plan: &Plan<'_, '_>) -> bool
-    ensures whole { result ≡ false → (has_bad ≡ false)
-        × IsWhole plan.now.written (map left_out_of plan.now.left_out.items) }
-    ensures refuses { (has_bad ≡ true)
-        ⊎ LeavesOut plan.now.written (map left_out_of plan.now.left_out.items) → result ≡ true }
+    ensures { MatchBool result
+        ((has_bad ≡ true) ⊎ LeavesOut plan.now.written (map left_out_of plan.now.left_out.items))
+        ((has_bad ≡ false) × IsWhole plan.now.written (map left_out_of plan.now.left_out.items)) }
 {
-    has_bad || leaves_out(plan)
+    if has_bad {
+        return true;
+    }
+    leaves_out(plan)
 }
 
 // Whether a plan leaves out a mapping, or has conflicts.

@@ -146,7 +146,7 @@ fn tell_nothing(alloc: Global, page: &mut Page) -> Result<(), AllocError>
 }
 
 const WHY_ALL: &str =
-    "This spec has no prefix below refs/ before its star, so all refs have to be asked for.";
+    "No safe prefix is known for this spec: its star is outside refs/, directly after it, or after a ]. So ask for all refs.";
 
 // Tells that all refs have to be asked for, and for which specs.
 fn tell_all(alloc: Global, group: &MatchGroup<'_>, page: &mut Page) -> Result<(), AllocError>

@@ -24,8 +24,8 @@ use std::alloc::{AllocError, Global};
 use std::io::{Read, Write};
 
 /// Reads the input to its end, where the call needs it, and writes the results to one writer and the
-/// messages to the other; a plan is then discarded. Returns the exit status: 1 where something is refused, conflicting or not found,
-/// else 0.
+/// messages to the other. A plan is handed to `done` before that. Returns the exit status: 1 where
+/// something is refused, conflicting, left out or not found, else 0.
 pub fn run<R: Read, W: Write, E: Write, D: Discard>(
     alloc: Global,
     call: &Call<'_>,

@@ -2,9 +2,9 @@
 
 use crate::call::Form;
 use crate::quote::put_shown;
+use crate::track::is_id;
 use bstr::ByteSlice;
 use gix_refspec::instruction::{Fetch, Push};
-use gix_refspec::oid::ObjectId;
 use gix_refspec::{Instruction, RefSpecRef};
 use std::alloc::{AllocError, Global};
 
@@ -118,6 +118,9 @@ impl Sentence<'_> {
 
     // Says what a fetch writes of one ref: Git puts what is missing of a full name before the destination.
     fn update_one(&mut self, src: &[u8], dst: &[u8], forced: bool) -> Result<(), AllocError> {
+        if dst == b"@".as_slice() {
+            return self.put("Fetches nothing: Git refuses @ as a destination.");
+        }
         let folder = folder_of(dst);
         self.put("Fetches ")?;
         self.refs(src, "of the remote")?;
@@ -146,6 +149,9 @@ impl Sentence<'_> {
                 self.put("Pushes each local branch that the remote has too")?;
                 self.put(Update::Branch.end(allow_non_fast_forward))
             }
+            Push::Delete { ref_or_pattern } if ref_or_pattern.as_bytes() == b"@".as_slice() => {
+                self.put("Deletes nothing: Git refuses @ as a destination.")
+            }
             Push::Delete { ref_or_pattern } => {
                 self.put("Deletes ")?;
                 self.name(ref_or_pattern.as_bytes())?;
@@ -159,6 +165,9 @@ impl Sentence<'_> {
                 let (src, dst) = (src.as_bytes(), dst.as_bytes());
                 if is_pattern(src) && !may_be_below_refs(src) {
                     return self.nothing("Pushes", src);
+                }
+                if dst == b"@".as_slice() {
+                    return self.put("Pushes nothing: Git refuses @ as a destination.");
                 }
                 if is_one_sided && is_id(src) {
                     return self.put(
@@ -198,9 +207,14 @@ impl Sentence<'_> {
             return self.put("Pushes the current branch to the branch of its name on the remote");
         }
         self.put("Pushes ")?;
-        self.refs(src, "here")?;
+        self.refs(src, "of this repository")?;
         if is_one_sided && !may_be_below_refs(src) {
             return self.put(" to the ref of its full name on the remote");
+        }
+        if !may_be_below_refs(dst) {
+            self.put(" to the ref that the remote knows as ")?;
+            self.name(dst)?;
+            return self.put(", or else to a new branch or tag of that name");
         }
         self.put(" to ")?;
         self.name(dst)?;
@@ -271,11 +285,6 @@ fn folder_of(name: &[u8]) -> &'static str {
     } else {
         "refs/heads/"
     }
-}
-
-// Whether a side is an object id.
-fn is_id(side: &[u8]) -> bool {
-    ObjectId::from_hex(side).is_ok()
 }
 
 // Whether a side is a pattern.

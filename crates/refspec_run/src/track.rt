@@ -85,8 +85,8 @@ fn has_id_destination(spec: &RefSpecRef<'_>) -> bool
     }
 }
 
-// Whether a text spells an object id.
-fn is_id(text: &[u8]) -> bool
+/// Whether a text spells an object id.
+pub fn is_id(text: &[u8]) -> bool
     ensures { MatchBool result (IsId text.now) (¬ (IsId text.now)) }
 {
     match ObjectId::from_hex(text) {
@@ -96,7 +96,7 @@ fn is_id(text: &[u8]) -> bool
 }
 
 const WHY_TO_OBJECT: &str =
-    "The destination is an object id, so no ref can be looked up by its name. Give a name as the destination.";
+    "The destination reads as an object id, so no ref can be looked up by its name. Write the full name of a ref, such as refs/heads/x.";
 
 // Tells of a spec whose destination is an object id.
 fn tell_to_object(alloc: Global, spec: &RefSpecRef<'_>, page: &mut Page) -> Result<(), AllocError>
