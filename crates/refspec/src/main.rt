@@ -3,7 +3,7 @@
 
 mod words;
 
-use crate::words::{call_of, command_line};
+use crate::words::{call_of, command_line, names_no_file};
 use refspec_run::call::{Call, Command};
 use refspec_run::fault::Fault;
 use refspec_run::input::read_input;
@@ -60,6 +60,10 @@ fn run_words(rt: &HostRuntime, words: &[String]) -> u8 {
         Err(error) => return show(rt, &error),
     };
     match matches.subcommand() {
+        Some((_, matches)) if names_no_file(matches) => {
+            let _ = eprintln!(rt; "refspec: the name of a file must not be empty");
+            USAGE_STATUS
+        }
         Some((name, matches)) => {
             let Ok(call) = call_of(rt.alloc(), name, matches) else {
                 return fail(rt, Fault::Memory);

@@ -202,6 +202,11 @@ pub fn call_of<'a>(
     })
 }
 
+/// Whether a file is given by an empty name.
+pub fn names_no_file(matches: &ArgMatches<'_>) -> bool {
+    matches.get_str("specs") == Some("") || matches.get_str("refs") == Some("")
+}
+
 // The values of an option or of the words, in order.
 fn listed<'a>(
     alloc: Global,

@@ -5,7 +5,7 @@ use bstr::{BStr, ByteSlice};
 use gix_refspec::name;
 use gix_refspec::name::PatternError;
 use gix_refspec::parsing::{Error, Operation};
-use std::alloc::Global;
+use std::alloc::{AllocError, Global};
 
 /// A side of a spec.
 #[derive(Clone, Copy, Debug, PartialEq, Eq)]
@@ -56,14 +56,30 @@ impl<'a> Part<'a> {
 }
 
 /// The part of a text that is wrong, where its reason speaks of one.
-pub fn blame_of<'a>(alloc: Global, text: &Text<'a>, error: &Error) -> Option<Blame<'a>> {
-    let (source, destination) = parts_of(text.bytes);
+pub fn blame_of<'a>(
+    alloc: Global,
+    text: &Text<'a>,
+    error: &Error,
+) -> Result<Option<Blame<'a>>, AllocError> {
     match error {
         Error::ReferenceName(fault) => {
-            let part = part_with_fault(alloc, text.operation, source, destination)?;
-            let (at, len) = place_of(part.bytes, *fault)?;
-            Some(part.blame(at, len))
+            let part = part_with_fault(alloc, text)?;
+            Ok(part.and_then(|part| blame_of_name(part, *fault)))
         }
+        _ => Ok(blame_of_sides(text.bytes, error)),
+    }
+}
+
+// The part of a side that a fault of its name speaks of.
+fn blame_of_name<'a>(part: Part<'a>, fault: name::Error) -> Option<Blame<'a>> {
+    let (at, len) = place_of(part.bytes, fault)?;
+    Some(part.blame(at, len))
+}
+
+// The part of a text that a reason speaks of which no name is to blame for.
+fn blame_of_sides<'a>(text: &'a [u8], error: &Error) -> Option<Blame<'a>> {
+    let (source, destination) = parts_of(text);
+    match error {
         Error::PatternUnsupported { .. } => {
             second_star(source).or(destination.and_then(second_star))
         }
@@ -99,31 +115,31 @@ fn parts_of(text: &[u8]) -> (Part<'_>, Option<Part<'_>>) {
 
 // The first side that is neither a name nor a pattern. The source of a push to a destination may be any
 // expression without a star.
-fn part_with_fault<'a>(
-    alloc: Global,
-    operation: Operation,
-    source: Part<'a>,
-    destination: Option<Part<'a>>,
-) -> Option<Part<'a>> {
-    let is_expression = operation == Operation::Push
+fn part_with_fault<'a>(alloc: Global, text: &Text<'a>) -> Result<Option<Part<'a>>, AllocError> {
+    let (source, destination) = parts_of(text.bytes);
+    let is_expression = text.operation == Operation::Push
         && destination.is_some()
         && !source.bytes.contains(&b'*');
-    if !is_expression && !source.bytes.is_empty() && has_fault(alloc, source.bytes) {
-        return Some(source);
+    if is_expression || source.bytes.is_empty() {
+        return Ok(destination);
     }
-    destination
+    if has_fault(alloc, source.bytes)? {
+        return Ok(Some(source));
+    }
+    Ok(destination)
 }
 
 // Whether a side is neither a name nor a pattern.
-fn has_fault(alloc: Global, side: &[u8]) -> bool {
+fn has_fault(alloc: Global, side: &[u8]) -> Result<bool, AllocError> {
     let text = BStr::new(side);
     if !name::has_one_star(text) {
-        return name::name_partial(text).is_err();
+        return Ok(name::name_partial(text).is_err());
     }
-    matches!(
-        name::pattern_partial(alloc, text),
-        Err(PatternError::Name(_))
-    )
+    match name::pattern_partial(alloc, text) {
+        Ok(()) => Ok(false),
+        Err(PatternError::Name(_)) => Ok(true),
+        Err(PatternError::Memory) => Err(AllocError),
+    }
 }
 
 // Where in a side the bytes are that a fault speaks of, and how many they are.

@@ -49,7 +49,7 @@ pub fn put_refusal(
 ) -> Result<(), AllocError> {
     let place = shown_place(alloc, &text.place)?;
     let shown = text_of(alloc, text.bytes)?;
-    let blame = blame_of(alloc, text, error);
+    let blame = blame_of(alloc, text, error)?;
     let part = match blame {
         None => None,
         Some(blame) => Some(text_of(alloc, blame.part)?),

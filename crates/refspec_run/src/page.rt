@@ -112,7 +112,7 @@ fn put_details(
     ensures { OnOk result (Grows out.old.items out.new.items) }
 {
     let advice = advice_for(text, error);
-    match blame_of(alloc, text, error) {
+    match blame_of(alloc, text, error)? {
         None => put_advice(out, advice),
         Some(blame) => {
             put_blame(alloc, out, &blame)?;
