@@ -306,7 +306,7 @@ pub fn plans_apart()
     ensures { PlansApart }
 {}
 
-/// Whatever a text is, no side of the fetch that it reads as has a control character, nor has its canonical
+/// Whatever a text is, no side of the fetch that it reads as has a byte below 32, nor has its canonical
 /// text. So no mapping of `match_lhs` has one, if no name of an item does.
 pub fn no_control_character()
     ensures { NoControlCharacter }

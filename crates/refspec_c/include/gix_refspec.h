@@ -9,7 +9,7 @@
 #include <stddef.h>
 #include <stdint.h>
 
-/* The version of this library. Before 1.0 each other minor version may break its callers. */
+/* The version of this library. Before 1.0 every new minor version may break its callers. */
 #define GIX_REFSPEC_VERSION_MAJOR 0
 #define GIX_REFSPEC_VERSION_MINOR 1
 #define GIX_REFSPEC_VERSION_PATCH 0

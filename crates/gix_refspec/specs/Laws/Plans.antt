@@ -1,5 +1,5 @@
 -- Laws of plans, for a caller that writes out what a validation leaves: what tells its mappings and its fixes apart, and
--- that control characters are in none of it. They follow from the definitions in Grammar, Hits and Validation, and add no
+-- that bytes below 32, the control characters of ASCII but DEL, are in none of it. They follow from the definitions in Grammar, Hits and Validation, and add no
 -- rule.
 use Rattle.std.specs.Prelude.{◌≡◌, ◌≢◌, ◌<◌, ℕ, List, [], ◌∷◌, Option, None, Some}
 use Rattle.std.specs.List.{AllByRecursion}
@@ -43,7 +43,7 @@ pub record AreToldApart (g : List Reading) (items : List Ref) (rest : List Mappe
 abbrev pub PlansApart : Type 0
 PlansApart = (g : List Reading) (items : List Ref) (l rest : List Mapped) (fixes : List Removed) → AreKeptForward g items l → IsValidated g l rest fixes → AreToldApart g items rest fixes
 
--- ---- control characters
+-- ---- control characters: bytes below 32
 
 -- the byte b isn't in what is there
 abbrev pub LacksIn : ℕ → Option (List ℕ) → Type 0
@@ -63,7 +63,7 @@ StartLacks b (id i) = Lacks b (lower_of i)
 abbrev pub MappedLacks : ℕ → Mapped → Type 0
 MappedLacks b m = StartLacks b m.source × LacksIn b m.destination
 
--- no side of a fetch has a control character, and no canonical text of one; where no side of a group and no name of an
+-- no side of a fetch has a byte below 32, and no canonical text of one; where no side of a group and no name of an
 -- item has it, no mapping has it
 pub record NoControlCharacter : Type 0 where
   pub sides : (b : ℕ) (text : List ℕ) (r : Reading) → b < 32 → Reads Fetch text r → SidesLack b r

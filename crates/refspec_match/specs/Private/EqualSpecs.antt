@@ -36,6 +36,7 @@ pub record IsPositiveKey (g : List Reading) (bits key : ℕ) : Type 0 where
   pub inside : key % 2 ^ bits < length g
   pub positive : (d : Reading) → IsPositive (slice_index_or g (key % 2 ^ bits) d).mode
 
+-- so is the place in each of the keys
 abbrev pub ArePositiveKeys : List Reading → ℕ → List ℕ → Type 0
 ArePositiveKeys g bits keys = AllByRecursion (IsPositiveKey g bits) keys
 

@@ -1,5 +1,5 @@
 -- What tests of the premises of laws tell.
-use Rattle.std.proofs.Common.{◌≡◌, ◌⊎◌, inl, inr, ◌↔◌, IsTrue, MatchBool, ℕ, zero, suc, ◌+◌, ◌<◌, Bool, Bor, true, false, not, take, List, [], ◌∷◌, ◌++◌, codes, get_or, length, map, refl, sym, ap, ◌∙◌, subst, arith}
+use Rattle.std.proofs.Common.{◌≡◌, ◌⊎◌, inl, inr, ◌↔◌, IsTrue, ℕ, zero, suc, ◌+◌, ◌<◌, Bool, Bor, true, false, not, take, List, [], ◌∷◌, ◌++◌, codes, get_or, length, map, refl, sym, ap, ◌∙◌, subst, arith}
 use Rattle.std.specs.List.{AllByRecursion}
 use Rattle.std.proofs.lemmas.Bool.{false≢true}
 use Rattle.std.proofs.lemmas.List.{append_assoc}
@@ -11,9 +11,9 @@ use Rattle.refspec_text.specs.declared.oid.ObjectId.{ObjectId}
 use Rattle.refspec_text.specs.declared.side.SideKind.{SideKind as DeclaredKind}
 use Rattle.refspec_text.specs.declared.side.SideKind.TheVariants as kind
 use Rattle.refspec_text.specs.declared.spec.RefSpecRef.{RefSpecRef}
-use Rattle.refspec_text.specs.Texts.Words.{Lacks, Holds, BeginsWith}
+use Rattle.refspec_text.specs.Texts.Words.{BeginsWith}
 use Rattle.refspec_text.specs.Texts.Bytes.{star}
-use Rattle.refspec_text.specs.Texts.Name.{IsCut, HasStar}
+use Rattle.refspec_text.specs.Texts.Name.{IsCut}
 use Rattle.refspec_text.specs.Specs.Reading.{Reading}
 use Rattle.refspec_text.specs.Views.Spec.{reading_of}
 use Rattle.refspec_text.specs.Texts.ObjectId.{id_bytes}
@@ -21,18 +21,8 @@ use Rattle.refspec_text.specs.Matching.Side.{HasKind}
 use Rattle.refspec_text.specs.Private.SideViews.{kind_of_side}
 use Rattle.refspec_text.specs.Matching.Prefix.{TellsPrefix, of_name, of_pattern, IsAsked}
 use Rattle.refspec_text.specs.Laws.Covering.{IsCovering, by_prefix, by_candidates, HasCoveringSource}
-use Rattle.refspec_text.proofs.lemmas.texts.TextLemmas.{Lacks-Holds}
 use Rattle.refspec_text.proofs.lemmas.hits.MatchLemmas.{lacks_no_pattern}
 use Rattle.refspec_text.proofs.lemmas.prefixes.PrefixLemmas.{id_not_head, no_prefix, one_asked}
-
--- what looks for a star tell of two sides
-pub told_stars : (x y : List ℕ) (r : Bool) → Holds (star ∷ []) x → MatchBool r (Holds (star ∷ []) y) (Lacks star y) → IsTrue r ↔ (HasStar x × HasStar y)
-told_stars x y true has holds = ((λ _. (has, holds)), (λ _. refl))
-told_stars x y false has lacks = ((λ so. absurd (false≢true so)), (λ both. absurd (Lacks-Holds star y lacks both.1)))
-
-pub told_no_star : (x y : List ℕ) (r : Bool) → MatchBool r (Holds (star ∷ []) x) (Lacks star x) → Lacks star x → IsTrue r ↔ (HasStar x × HasStar y)
-told_no_star x y true holds lacks = absurd (Lacks-Holds star x lacks holds)
-told_no_star x y false lacks _ = ((λ so. absurd (false≢true so)), (λ both. absurd (Lacks-Holds star x lacks both.0)))
 
 -- a pattern is covering exactly where it tells a prefix
 pub told_pattern : (x before after : List ℕ) (r : Bool) → IsCut before after x → IsTrue r ↔ TellsPrefix before after → IsTrue r ↔ IsCovering x
