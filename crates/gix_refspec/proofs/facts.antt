@@ -5,6 +5,7 @@ pub mod ValidationFacts
 pub mod ValidationLawFacts
 pub mod PlanLawFacts
 pub mod RefNameFacts
+pub mod PlainNameFacts
 pub mod AskedFacts
 pub mod PlaceFacts
 pub mod LawFacts

@@ -9,3 +9,4 @@ pub mod Places
 pub mod Validation
 pub mod Plans
 pub mod Reasons
+pub mod Names

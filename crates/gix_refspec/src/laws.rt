@@ -22,6 +22,7 @@ ghost use Rattle.gix_refspec.specs.Matching.RefNames.{WritesRefs};
 ghost use Rattle.gix_refspec.specs.Laws.Places.{MadeAtPlaces, RemainsExactly};
 ghost use Rattle.gix_refspec.specs.Laws.Plans.{NoControlCharacter, PlansApart};
 ghost use Rattle.gix_refspec.specs.Laws.Reasons.{ReasonRefuses};
+ghost use Rattle.gix_refspec.specs.Laws.Names.{PlainNames};
 ghost use Rattle.refspec_text.specs.Views.Spec.{reading_of, owned_reading_of};
 ghost use Rattle.refspec_text.specs.Views.Instruction.{meaning_of_instruction, meaning_of_fetch, meaning_of_push};
 ghost use Rattle.refspec_match.specs.Views.Hashed.{source_writes, pair_writes};
@@ -114,6 +115,14 @@ pub fn id_or_fault(text: &[u8])
 /// An id prints as its one text in lower case, from which it is read again.
 pub fn one_lower_text(id: ObjectId)
     ensures { OneLowerText (id_bytes id) }
+{}
+
+/// Whatever a text is, it is a ref name, as `name_partial` has it, if none of the words between its slashes
+/// is empty, and none of its bytes is a control character, a space or one of `~^:?[\*.{`. Of other texts the
+/// law says nothing: `v1.0` is a ref name as well. So a proof that writes out a name, as `refs/heads/main`,
+/// shows by computing that it is one.
+pub fn plain_names()
+    ensures { PlainNames }
 {}
 
 /// Nothing is against a pattern, unless it has more than 256 bytes and memory runs out.

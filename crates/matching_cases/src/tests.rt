@@ -11,5 +11,6 @@ mod growths;
 mod hostile;
 mod large;
 mod mapping;
+mod names;
 mod sides;
 mod validation;
