@@ -11,11 +11,11 @@ use Rattle.gix_refspec.specs.Specs.Reading.{Normal, Reading}
 use Rattle.gix_refspec.specs.Specs.Grammar.{Reads, fetched, updates}
 use Rattle.gix_refspec.specs.Matching.Side.{partial, full_name, HasKind}
 use Rattle.gix_refspec.specs.Laws.Readings.{FirstCandidate}
+use Rattle.gix_refspec.specs.Laws.Names.{PlainNames}
 use Rattle.gix_refspec.specs.Matching.Match.{HasName, IsFirstCandidate, Takes}
 use Rattle.gix_refspec.specs.Matching.Mappings.{Mapped, IsExcluded}
 use Rattle.gix_refspec.specs.Matching.Hits.{Ends, Hit, IsHit, AreForward, AreKeptForward, IsIdMapping}
 use Rattle.gix_refspec.specs.Matching.Validation.{HasConflictAt, IsValidated, IsWritable}
-use Rattle.refspec_text.proofs.lemmas.texts.TestedLemmas.{IsName-tested}
 use Rattle.refspec_map.specs.declared.command.Command.TheVariants as command
 use Rattle.refspec_map.specs.Input.{newline}
 use Rattle.refspec_map.specs.Line.{reading, ref}
@@ -121,12 +121,12 @@ validated = record {
 abbrev the_input : List ℕ
 the_input = codes "spec main:refs/x\nref e69de29bb2d1d6434b8b29ae775ad8c2e48c5391 refs/tags/main\nref e69de29bb2d1d6434b8b29ae775ad8c2e48c5391 refs/heads/main\n"
 
-main_reads : Reads Fetch (codes "main:refs/x") the_spec
-main_reads = updates Normal main target refl tt (record { signed = (refl, (eqb-false 109 plus refl, eqb-false 109 caret refl)); last = Lacks-tested colon target refl }) (inl (IsName-tested main refl, IsName-tested target refl)) refl
+main_reads : PlainNames → Reads Fetch (codes "main:refs/x") the_spec
+main_reads names = updates Normal main target refl tt (record { signed = (refl, (eqb-false 109 plus refl, eqb-false 109 caret refl)); last = Lacks-tested colon target refl }) (inl (names main refl, names target refl)) refl
 
-pub tag_planned : FirstCandidate main the_refs → Answers command.Plan (Some the_input) (Some []) (Some []) (Some (codes "map\t0\t0\trefs/tags/main\trefs/x\n")) 0
+pub tag_planned : FirstCandidate main the_refs → PlainNames → Answers command.Plan (Some the_input) (Some []) (Some []) (Some (codes "map\t0\t0\trefs/tags/main\trefs/x\n")) 0
 unfolding digits
-tag_planned law = record {
+tag_planned law names = record {
   input = the_input;
   output = codes "map\t0\t0\trefs/tags/main\trefs/x\n";
   refusal = false;
@@ -135,7 +135,7 @@ tag_planned law = record {
     lines = spec_line main ∷ ref_line the_tag ∷ ref_line the_head ∷ [];
     entries = reading the_spec ∷ ref (named the_tag) ∷ ref (named the_head) ∷ [];
     cut = (Lacks-tested newline (spec_line main) refl, inl (refs_after, refl, refs_cut));
-    given = ((codes "main:refs/x", refl, main_reads), (ref_lines the_tag, (ref_lines the_head, tt)));
+    given = ((codes "main:refs/x", refl, main_reads names), (ref_lines the_tag, (ref_lines the_head, tt)));
     is = record { mappings = tag_mapping ∷ []; kept = kept law; shows = record { rest = tag_mapping ∷ []; fixes = []; fixed = []; is = validated; are = refl; written = refl } };
   };
   written = refl;

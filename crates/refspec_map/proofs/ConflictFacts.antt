@@ -13,7 +13,7 @@ use Rattle.gix_refspec.specs.Matching.Match.{Ref, MatchesAs, Takes}
 use Rattle.gix_refspec.specs.Matching.Mappings.{Start, name, id, Mapped, HasPair, IsExcluded}
 use Rattle.gix_refspec.specs.Matching.Hits.{Ends, AreForwardEnds, Hit, IsHit, AreForward, AreKeptForward, IsIdMapping}
 use Rattle.gix_refspec.specs.Matching.Validation.{Conflict, HasConflictAt, IsFirstTo, IsConflict, AreConflicts}
-use Rattle.refspec_text.proofs.lemmas.texts.TestedLemmas.{IsName-tested}
+use Rattle.gix_refspec.specs.Laws.Names.{PlainNames}
 use Rattle.refspec_map.specs.declared.command.Command.TheVariants as command
 use Rattle.refspec_map.specs.Input.{newline, AreLines}
 use Rattle.refspec_map.specs.Line.{reading, ref}
@@ -218,14 +218,14 @@ lines_cut = (
   inl (spec_line the_head ++ (newline ∷ refs_after), refl, (Lacks-tested newline (spec_line the_head) refl, inl (refs_after, refl, refs_cut))),
 )
 
-tag_reads : Reads Fetch (codes "refs/tags/main:refs/x") (spec_of the_tag)
-tag_reads = updates Normal the_tag target refl tt (record { signed = (refl, (eqb-false 114 plus refl, eqb-false 114 caret refl)); last = Lacks-tested colon target refl }) (inl (IsName-tested the_tag refl, IsName-tested target refl)) refl
+tag_reads : PlainNames → Reads Fetch (codes "refs/tags/main:refs/x") (spec_of the_tag)
+tag_reads law = updates Normal the_tag target refl tt (record { signed = (refl, (eqb-false 114 plus refl, eqb-false 114 caret refl)); last = Lacks-tested colon target refl }) (inl (law the_tag refl, law target refl)) refl
 
-head_reads : Reads Fetch (codes "refs/heads/main:refs/x") (spec_of the_head)
-head_reads = updates Normal the_head target refl tt (record { signed = (refl, (eqb-false 114 plus refl, eqb-false 114 caret refl)); last = Lacks-tested colon target refl }) (inl (IsName-tested the_head refl, IsName-tested target refl)) refl
+head_reads : PlainNames → Reads Fetch (codes "refs/heads/main:refs/x") (spec_of the_head)
+head_reads law = updates Normal the_head target refl tt (record { signed = (refl, (eqb-false 114 plus refl, eqb-false 114 caret refl)); last = Lacks-tested colon target refl }) (inl (law the_head refl, law target refl)) refl
 
-pub conflict_planned : Answers command.Plan (Some the_input) (Some []) (Some []) (Some (codes "conflict\trefs/x\trefs/tags/main\trefs/tags/main:refs/x\trefs/heads/main\trefs/heads/main:refs/x\n")) 1
-conflict_planned = record {
+pub conflict_planned : PlainNames → Answers command.Plan (Some the_input) (Some []) (Some []) (Some (codes "conflict\trefs/x\trefs/tags/main\trefs/tags/main:refs/x\trefs/heads/main\trefs/heads/main:refs/x\n")) 1
+conflict_planned law = record {
   input = the_input;
   output = codes "conflict\trefs/x\trefs/tags/main\trefs/tags/main:refs/x\trefs/heads/main\trefs/heads/main:refs/x\n";
   refusal = true;
@@ -234,7 +234,7 @@ conflict_planned = record {
     lines = spec_line the_tag ∷ spec_line the_head ∷ ref_line the_tag ∷ ref_line the_head ∷ [];
     entries = reading (spec_of the_tag) ∷ reading (spec_of the_head) ∷ ref (named the_tag) ∷ ref (named the_head) ∷ [];
     cut = lines_cut;
-    given = ((codes "refs/tags/main:refs/x", refl, tag_reads), ((codes "refs/heads/main:refs/x", refl, head_reads), (ref_lines the_tag, (ref_lines the_head, tt))));
+    given = ((codes "refs/tags/main:refs/x", refl, tag_reads law), ((codes "refs/heads/main:refs/x", refl, head_reads law), (ref_lines the_tag, (ref_lines the_head, tt))));
     is = record { mappings = both; kept = kept; shows = record { conflicts = the_conflict ∷ []; are = conflicts; some = λ none. cc; written = refl } };
   };
   written = refl;
