@@ -1,3 +1,5 @@
-mod MessageFacts
-mod RefFacts
-mod ShownFacts
+-- Examples of the definitions in specs/, each on one side of a border, so that a wrong definition is noticed.
+pub mod InputFacts
+pub mod MessageFacts
+pub mod RefFacts
+pub mod ShownFacts
