@@ -2,4 +2,5 @@
 pub mod InputFacts
 pub mod MessageFacts
 pub mod RefFacts
+pub mod RunFacts
 pub mod ShownFacts
