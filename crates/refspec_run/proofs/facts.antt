@@ -4,3 +4,4 @@ pub mod MessageFacts
 pub mod RefFacts
 pub mod RunFacts
 pub mod ShownFacts
+pub mod TextFacts
