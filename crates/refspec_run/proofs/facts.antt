@@ -1,6 +1,7 @@
 -- Examples of the definitions in specs/, each on one side of a border, so that a wrong definition is noticed.
 pub mod InputFacts
 pub mod MessageFacts
+pub mod ReadFacts
 pub mod RefFacts
 pub mod RunFacts
 pub mod ShownFacts
