@@ -1,0 +1,45 @@
+-- Exit statuses, the input of a call, and what `canon` shows.
+use Rattle.std.proofs.Common.{◌≡◌, ℕ, true, false, List, [], ◌∷◌, ◌++◌, Some, inl, codes, length, refl, sym, ap, subst, arith}
+use Rattle.refspec_text.specs.declared.parsing.Operation.TheVariants.{Fetch}
+use Rattle.refspec_run.specs.declared.call.Call.{Call}
+use Rattle.refspec_run.specs.declared.call.Form.{Form}
+use Rattle.refspec_run.specs.declared.call.Form.TheVariants as form
+use Rattle.refspec_run.specs.Canon.{AreCanonical}
+use Rattle.refspec_run.specs.Output.{IsInput, ShowsCanon, status_of}
+use Rattle.refspec_run.specs.Shown.{AddsNames}
+use Rattle.refspec_run.proofs.facts.CanonFacts.{canonical, not_canonical}
+
+-- something refused ends with 1, and else 0 is the end
+pub statuses : (status_of true ≡ 1) × (status_of false ≡ 0)
+statuses = (refl, refl)
+
+-- a call that reads has all of its reader as its input, and one that doesn't has none
+pub inputs : IsInput true (Some (codes "a\n")) (Some []) (codes "a\n")
+    × IsInput false (Some (codes "a\n")) (Some (codes "a\n")) []
+inputs = (record { taken = refl; ended = refl }, refl)
+
+pub other_inputs : ¬ (IsInput true (Some (codes "a\n")) (Some []) [])
+    × ¬ (IsInput true (Some (codes "a\n")) (Some (codes "\n")) (codes "a"))
+    × ¬ (IsInput false (Some (codes "a\n")) (Some []) (codes "a\n"))
+other_inputs = (
+  (λ is. omega (arith, ap length is.taken)),
+  (λ is. omega (arith, ap length is.ended)),
+  λ is. omega (arith, ap length is),
+)
+
+-- canonical texts are shown as the call says: one a line, or ended by zero bytes
+pub shown : (call : Call) → (call.form ≡ form.Lines → ShowsCanon call ((Fetch, []) ∷ (Fetch, codes "a b") ∷ (Fetch, codes "main") ∷ []) (codes "HEAD\nmain\n"))
+    × (call.form ≡ form.Zeros → ShowsCanon call ((Fetch, []) ∷ (Fetch, codes "a b") ∷ (Fetch, codes "main") ∷ []) ((codes "HEAD" ++ 0 ∷ []) ++ (codes "main" ++ 0 ∷ [])))
+shown call = (
+  (λ is. (codes "HEAD" ∷ codes "main" ∷ [], canonical.0, subst (λ (f : Form). AddsNames f [] (codes "HEAD" ∷ codes "main" ∷ []) [] (codes "HEAD\nmain\n")) (sym is) (codes "HEAD\nmain\n", (codes "HEAD", codes "main\n", inl refl, (codes "main", [], inl refl, refl, refl), refl), refl))),
+  λ is. (codes "HEAD" ∷ codes "main" ∷ [], canonical.0, subst (λ (f : Form). AddsNames f [] (codes "HEAD" ∷ codes "main" ∷ []) [] ((codes "HEAD" ++ 0 ∷ []) ++ (codes "main" ++ 0 ∷ []))) (sym is) refl),
+)
+
+-- a text isn't left out
+pub not_shown : (call : Call) → call.form ≡ form.Zeros → ¬ (ShowsCanon call ((Fetch, codes "main") ∷ []) [])
+not_shown call is (names, are, adds) = not_canonical.1 (subst (AreCanonical ((Fetch, codes "main") ∷ [])) (none names (subst (λ (f : Form). AddsNames f [] names [] []) is adds)) are)
+  where
+    none : (names : List (List ℕ)) → AddsNames form.Zeros [] names [] [] → names ≡ []
+    none [] same = refl
+    none ([] ∷ names) same = absurd (omega (arith, ap length same))
+    none ((b ∷ name) ∷ names) same = absurd (omega (arith, ap length same))
