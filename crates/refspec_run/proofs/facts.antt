@@ -3,6 +3,7 @@ pub mod CanonFacts
 pub mod InputFacts
 pub mod MessageFacts
 pub mod OutputFacts
+pub mod PrefixFacts
 pub mod ReadFacts
 pub mod RefFacts
 pub mod RunFacts
