@@ -9,3 +9,4 @@ pub mod RefFacts
 pub mod RunFacts
 pub mod ShownFacts
 pub mod TextFacts
+pub mod TrackFacts

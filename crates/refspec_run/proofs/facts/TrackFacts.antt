@@ -1,0 +1,63 @@
+-- Which specs refs are looked up by: those whose destination is no object id.
+use Rattle.std.proofs.Common.{◌≡◌, ℕ, List, [], ◌∷◌, None, Some, inl, inr, codes, length, replicate, refl, sym, ap, arith}
+use Rattle.gix_refspec.specs.Laws.Items.{HasIdDestination}
+use Rattle.gix_refspec.specs.Specs.Grammar.{fetched}
+use Rattle.gix_refspec.specs.Specs.Reading.{Normal, Reading}
+use Rattle.gix_refspec.specs.Texts.ObjectId.{IsIdText, digits_of}
+use Rattle.refspec_text.specs.declared.oid.Kind.{Kind}
+use Rattle.refspec_text.specs.declared.oid.Kind.TheVariants.{Sha1, Sha256}
+use Rattle.refspec_text.proofs.lemmas.specs.FormsBackLemmas.{some_once}
+use Rattle.refspec_text.proofs.facts.FitFacts.{short}
+use Rattle.refspec_text.proofs.facts.ManualFacts.{none_some}
+use Rattle.refspec_text.proofs.facts.ObjectIdFacts.{IsIdText-empty_blob, empty_blob}
+use Rattle.refspec_run.specs.Track.{AreByNames, named}
+
+-- destinations of 40 digits and of 39
+abbrev to_id : Reading
+to_id = fetched Normal (codes "main") (Some (codes "e69de29bb2d1d6434b8b29ae775ad8c2e48c5391"))
+
+abbrev to_name : Reading
+to_name = fetched Normal (codes "main") (Some (codes "e69de29bb2d1d6434b8b29ae775ad8c2e48c539"))
+
+ends_at_id : HasIdDestination to_id
+ends_at_id = (codes "e69de29bb2d1d6434b8b29ae775ad8c2e48c5391", refl, (empty_blob, IsIdText-empty_blob))
+
+-- a text of neither length is that of no id
+no_id : (text id : List ℕ) → length text ≡ 39 → ¬ (IsIdText text id)
+no_id text id long is = by_kind is.kind is.digits
+  where
+    by_kind : (kind : Kind) → ¬ (length text ≡ digits_of kind)
+    by_kind Sha1 same = omega (arith, same, long)
+    by_kind Sha256 same = omega (arith, same, long)
+
+ends_at_name : ¬ (HasIdDestination to_name)
+ends_at_name (text, is, (id, spelled)) = no_id text id (sym (ap length (some_once (codes "e69de29bb2d1d6434b8b29ae775ad8c2e48c539") text is))) spelled
+
+nowhere : ¬ (HasIdDestination short)
+nowhere (text, is, id) = none_some text is
+
+-- an id is out, and what is nearly one is in, with a spec that has no destination
+pub by_names : AreByNames (to_id ∷ to_name ∷ short ∷ []) (to_name ∷ short ∷ [])
+by_names = inl (ends_at_id, inr (ends_at_name, (short ∷ [], inr (nowhere, ([], refl, refl)), refl)))
+
+-- none is out otherwise, and none that ends at an id is in
+pub not_by_names : ¬ (AreByNames (to_name ∷ []) []) × ¬ (AreByNames (short ∷ []) [])
+    × ¬ (AreByNames (to_id ∷ []) (to_id ∷ [])) × ¬ (AreByNames [] (short ∷ []))
+not_by_names = (left_out, also_left_out, looked_up, λ are. omega (arith, ap length are))
+  where
+    left_out : ¬ (AreByNames (to_name ∷ []) [])
+    left_out (inl (is, none)) = ends_at_name is
+    left_out (inr (is, (rest, none, same))) = omega (arith, ap length same)
+
+    also_left_out : ¬ (AreByNames (short ∷ []) [])
+    also_left_out (inl (is, none)) = nowhere is
+    also_left_out (inr (is, (rest, none, same))) = omega (arith, ap length same)
+
+    looked_up : ¬ (AreByNames (to_id ∷ []) (to_id ∷ []))
+    looked_up (inl (is, none)) = omega (arith, ap length none)
+    looked_up (inr (is, more)) = is ends_at_id
+
+-- a ref of which the name alone is given points to the id of zeros and is no tag
+pub given : ((named (codes "refs/x/a")).name ≡ codes "refs/x/a")
+    × ((named (codes "refs/x/a")).target ≡ replicate 20 0) × ((named (codes "refs/x/a")).object ≡ None)
+given = (refl, refl, refl)
