@@ -6,6 +6,7 @@ pub mod OutputFacts
 pub mod PrefixFacts
 pub mod ReadFacts
 pub mod RefFacts
+pub mod RowFacts
 pub mod RunFacts
 pub mod ShownFacts
 pub mod TextFacts
