@@ -1,5 +1,6 @@
 -- Examples of the definitions in specs/, each on one side of a border, so that a wrong definition is noticed.
 pub mod CanonFacts
+pub mod ConflictFacts
 pub mod InputFacts
 pub mod MessageFacts
 pub mod OutputFacts
