@@ -1,13 +1,17 @@
 -- What lines of refs say, on each side of the borders between refs, peeled tags and other lines.
-use Rattle.std.proofs.Common.{◌≡◌, ℕ, ◌+◌, ◌<◌, ◌++◌, List, [], ◌∷◌, Some, None, inl, inr, codes, get_or, length, reverse, refl, sym, ap, ◌∙◌, arith, length-append}
+use Rattle.std.proofs.Common.{◌≡◌, ◌≢◌, ℕ, ◌+◌, ◌<◌, ◌++◌, true, List, [], ◌∷◌, Option, Some, None, unwrap_or, inl, inr, codes, drop, get_or, length, reverse, refl, sym, ap, ◌∙◌, subst, arith, length-append}
 use Rattle.std.proofs.Common.{append_assoc}
-use Rattle.std.proofs.lemmas.List.{reverse-append}
+use Rattle.std.proofs.lemmas.List.{append_cancel_left, append_cancel_right, reverse-append}
 use Rattle.gix_refspec.specs.Matching.Match.{Ref}
 use Rattle.gix_refspec.specs.Texts.ObjectId.{digits_of}
 use Rattle.refspec_text.specs.declared.oid.Kind.{Kind}
 use Rattle.refspec_text.specs.declared.oid.Kind.TheVariants.{Sha1, Sha256}
 use Rattle.refspec_text.proofs.facts.ObjectIdFacts.{empty_blob, IsIdText-empty_blob}
-use Rattle.refspec_run.specs.Refs.{AddsLine, IsIdThen, IsNoRefLine, IsTagLine, TellsName, peeled}
+use Rattle.refspec_text.proofs.facts.FitFacts.{other_byte}
+use Rattle.refspec_text.proofs.facts.ManualFacts.{Lacks-tested, full, named}
+use Rattle.refspec_run.specs.Refs.{AddsLine, AddsRefs, AddsTold, HasLast, IsIdThen, IsLast, IsNoRefLine, IsPeeledLine, IsRefLine, IsTagLine, TellNames, TellRefs, TellsName, bad_bytes, peeled}
+use Rattle.refspec_run.proofs.RefLemmas.{AddsTold-elsewhere, AddsTold-peeled, space_at}
+use Rattle.refspec_run.proofs.facts.InputFacts.{records_once}
 
 -- the line of a ref, and of what it points to, as Git prints them
 abbrev head_line : List ℕ
@@ -56,3 +60,168 @@ no_refs = (short (codes "ref: refs/heads/a\tHEAD") (omega arith), short (codes "
 -- the line of a peeled tag tells its name with the end, with a tab as with a space
 pub told : TellsName head_line (codes "HEAD") × TellsName tag_line (codes "refs/tags/v1" ++ peeled)
 told = ((empty_blob, says_head), (empty_blob, says_tag))
+
+-- ---- refs
+
+abbrev pub line_of : List ℕ → List ℕ
+line_of n = codes "e69de29bb2d1d6434b8b29ae775ad8c2e48c5391 " ++ n
+
+abbrev pub blob_ref : List ℕ → Ref
+blob_ref n = record { name = n; target = empty_blob; object = None }
+
+-- a name that doesn't end as the line of a peeled tag does is that of a ref
+pub ref_line : (n : List ℕ) → last_byte n ≢ 125 → IsRefLine (line_of n) (blob_ref n)
+ref_line n other = record {
+  says = record { digits = codes "e69de29bb2d1d6434b8b29ae775ad8c2e48c5391"; space = 32; spelled = IsIdText-empty_blob; is_space = inr refl; here = refl };
+  whole = λ tag same. other (ap last_byte same ∙ ap (λ (l : List ℕ). get_or l 0 0) (reverse-append tag peeled));
+  object = refl;
+}
+
+head_ref : IsRefLine head_line (blob_ref (codes "HEAD"))
+head_ref = ref_line (codes "HEAD") (λ same. omega (arith, same))
+
+abbrev bad_line : List ℕ
+bad_line = codes "ref: refs/heads/a\tHEAD"
+
+abbrev tag : Ref
+tag = blob_ref (codes "refs/tags/v1")
+
+abbrev joined : Ref
+joined = record tag { object = Some empty_blob }
+
+-- ---- the last ref
+
+pub last : IsLast (blob_ref (codes "HEAD") ∷ tag ∷ []) tag × HasLast (tag ∷ []) (codes "refs/tags/v1")
+    × ¬ (HasLast (tag ∷ blob_ref (codes "HEAD") ∷ []) (codes "refs/tags/v1")) × ¬ (HasLast [] (codes "refs/tags/v1"))
+last = (refl, (tag, refl, refl), first, λ has. let none : None ≡ Some has.0 = has.1 in cc)
+  where
+    first : ¬ (HasLast (tag ∷ blob_ref (codes "HEAD") ∷ []) (codes "refs/tags/v1"))
+    first (r, is, named) = other_byte 0 (codes "HEAD") (codes "refs/tags/v1") (λ byte. omega (arith, byte)) (ap (λ (o : Option Ref). (unwrap_or o tag).name) is ∙ named)
+
+-- the line of the tag tells no other name
+tells_tag : (id n : List ℕ) → IsIdThen tag_line id n → n ≡ codes "refs/tags/v1" ++ peeled
+tells_tag id n says = by_kind says.spelled.kind says.spelled.digits
+  where
+    by_kind : (kind : Kind) → length says.digits ≡ digits_of kind → n ≡ codes "refs/tags/v1" ++ peeled
+    by_kind Sha1 long =
+        let same = (space_at tag_line says.digits n says.space 40 long says.here).2 in
+        let here : tag_line ≡ codes "e69de29bb2d1d6434b8b29ae775ad8c2e48c5391" ++ (says.space ∷ n) = says.here ∙ ap (λ (d : List ℕ). d ++ (says.space ∷ n)) (sym same) in
+        sym (ap (drop 1) (append_cancel_left (codes "e69de29bb2d1d6434b8b29ae775ad8c2e48c5391") (9 ∷ (codes "refs/tags/v1" ++ peeled)) (says.space ∷ n) here))
+    by_kind Sha256 long = absurd (omega (arith, ap length says.here, length-append says.digits (says.space ∷ n), long))
+
+-- it tells to what the last ref points, and else nothing
+pub peels : IsPeeledLine tag_line (blob_ref (codes "HEAD") ∷ tag ∷ []) (blob_ref (codes "HEAD") ∷ joined ∷ [])
+    × IsTagLine tag_line [] × IsTagLine tag_line (tag ∷ blob_ref (codes "HEAD") ∷ [])
+peels = (
+  record { tag = tag; id = empty_blob; says = says_tag; last = refl; joined = refl },
+  record { tag = codes "refs/tags/v1"; id = empty_blob; says = says_tag; elsewhere = last.3 },
+  record { tag = codes "refs/tags/v1"; id = empty_blob; says = says_tag; elsewhere = last.2 },
+)
+
+pub peels_no_other : ¬ (IsTagLine tag_line (tag ∷ []))
+    × ((new : List Ref) → ¬ (IsPeeledLine tag_line (tag ∷ blob_ref (codes "HEAD") ∷ []) new))
+    × ¬ (IsPeeledLine tag_line (tag ∷ []) (tag ∷ [])) × ¬ (IsRefLine tag_line (blob_ref (codes "refs/tags/v1^{}")))
+peels_no_other = (right_before, not_before, unchanged, λ is. is.whole (codes "refs/tags/v1") refl)
+  where
+    right_before : ¬ (IsTagLine tag_line (tag ∷ []))
+    right_before is = is.elsewhere (tag, refl, append_cancel_right (codes "refs/tags/v1") is.tag peeled (sym (tells_tag is.id (is.tag ++ peeled) is.says)))
+
+    not_before : (new : List Ref) → ¬ (IsPeeledLine tag_line (tag ∷ blob_ref (codes "HEAD") ∷ []) new)
+    not_before new is =
+        let named : codes "HEAD" ≡ is.tag.name = ap (λ (o : Option Ref). (unwrap_or o tag).name) is.last in
+        other_byte 0 (codes "HEAD" ++ peeled) (codes "refs/tags/v1" ++ peeled) (λ byte. omega (arith, byte)) (ap (λ (n : List ℕ). n ++ peeled) named ∙ tells_tag is.id (is.tag.name ++ peeled) is.says)
+
+    unchanged : ¬ (IsPeeledLine tag_line (tag ∷ []) (tag ∷ []))
+    unchanged is = let none : None ≡ Some is.id = ap (λ (l : List Ref). (get_or l 0 tag).object) is.joined in cc
+
+-- ---- what lines make of the refs before them
+
+pub added : AddsLine head_line (tag ∷ []) (tag ∷ blob_ref (codes "HEAD") ∷ []) []
+    × AddsLine tag_line (tag ∷ []) (joined ∷ []) [] × AddsLine tag_line [] [] (tag_line ∷ [])
+    × AddsLine bad_line (tag ∷ []) (tag ∷ []) (bad_line ∷ [])
+added = (
+  inl (blob_ref (codes "HEAD"), head_ref, refl, refl),
+  inr (inl (record { tag = tag; id = empty_blob; says = says_tag; last = refl; joined = refl }, refl)),
+  inr (inr (inl peels.1, refl, refl)),
+  inr (inr (inr no_refs.0, refl, refl)),
+)
+
+-- a line that is bad is never lost, and that of the last ref is none
+pub not_added : ((old new : List Ref) → ¬ (AddsLine bad_line old new []))
+    × ((new : List Ref) → ¬ (AddsLine tag_line (tag ∷ []) new (tag_line ∷ [])))
+not_added = (bad_lost, good_told)
+  where
+    bad_lost : (old new : List Ref) → ¬ (AddsLine bad_line old new [])
+    bad_lost old new (inl (r, is, grown, none)) = no_refs.0 r.target r.name is.says
+    bad_lost old new (inr (inl (is, none))) = no_refs.0 is.id (is.tag.name ++ peeled) is.says
+    bad_lost old new (inr (inr (is, same, none))) = omega (arith, ap length none)
+
+    good_told : (new : List Ref) → ¬ (AddsLine tag_line (tag ∷ []) new (tag_line ∷ []))
+    good_told new (inl (r, is, grown, none)) = omega (arith, ap length none)
+    good_told new (inr (inl (is, none))) = omega (arith, ap length none)
+    good_told new (inr (inr (inl is, same, bad))) = peels_no_other.0 is
+    good_told new (inr (inr (inr is, same, bad))) = is empty_blob (codes "refs/tags/v1^{}") says_tag
+
+-- lines one after another, of which the bad ones are in order
+pub adds : AddsRefs (head_line ∷ bad_line ∷ line_of (codes "refs/tags/v1") ∷ tag_line ∷ [] ∷ []) [] (blob_ref (codes "HEAD") ∷ joined ∷ []) (bad_line ∷ [] ∷ [])
+adds =
+    let refs = blob_ref (codes "HEAD") ∷ joined ∷ [] in
+    let empty : AddsRefs ([] ∷ []) refs refs ([] ∷ []) = (refs, [] ∷ [], [], inr (inr (inr no_refs.2, refl, refl)), (refl, refl), refl) in
+    let of_tag : AddsRefs (tag_line ∷ [] ∷ []) (blob_ref (codes "HEAD") ∷ tag ∷ []) refs ([] ∷ []) = (refs, [], [] ∷ [], inr (inl (peels.0, refl)), empty, refl) in (
+      blob_ref (codes "HEAD") ∷ [],
+      [],
+      bad_line ∷ [] ∷ [],
+      inl (blob_ref (codes "HEAD"), head_ref, refl, refl),
+      (
+        blob_ref (codes "HEAD") ∷ [],
+        bad_line ∷ [],
+        [] ∷ [],
+        inr (inr (inr no_refs.0, refl, refl)),
+        (blob_ref (codes "HEAD") ∷ tag ∷ [], [], [] ∷ [], inl (tag, ref_line (codes "refs/tags/v1") (λ same. omega (arith, same)), refl, refl), of_tag, refl),
+        refl,
+      ),
+      refl,
+    )
+
+pub none_lost : (new : List Ref) → ¬ (AddsRefs (bad_line ∷ []) [] new [])
+none_lost new (more, one, rest, line, none, same) = not_added.0 [] more (subst (AddsLine bad_line [] more) (nothing one rest (sym same)) line)
+  where
+    nothing : (one rest : List (List ℕ)) → one ++ rest ≡ [] → one ≡ []
+    nothing [] rest all = refl
+    nothing (x ∷ one) rest all = absurd (omega (arith, ap length all))
+
+-- the records of an input
+pub tell : TellRefs 10 (head_line ++ (10 ∷ bad_line)) (blob_ref (codes "HEAD") ∷ []) (bad_line ∷ [])
+    × TellRefs 10 [] [] [] × ((refs : List Ref) → ¬ (TellRefs 10 (bad_line ++ (10 ∷ [])) refs []))
+tell = (
+  (
+    head_line ∷ bad_line ∷ [],
+    (Lacks-tested 10 head_line refl, inl (bad_line, refl, (Lacks-tested 10 bad_line refl, inr (full _ _, refl, refl)))),
+    (blob_ref (codes "HEAD") ∷ [], [], bad_line ∷ [], inl (blob_ref (codes "HEAD"), head_ref, refl, refl), (blob_ref (codes "HEAD") ∷ [], bad_line ∷ [], [], inr (inr (inr no_refs.0, refl, refl)), (refl, refl), refl), refl),
+  ),
+  ([], refl, (refl, refl)),
+  λ refs tells. none_lost refs (subst (λ (l : List (List ℕ)). AddsRefs l [] refs []) (records_once 10 tells.0 (bad_line ∷ []) (bad_line ++ (10 ∷ [])) tells.1 (Lacks-tested 10 bad_line refl, inl ([], refl, refl))) tells.2),
+)
+
+-- ---- the same by names
+
+-- refs of the same names are told, whatever their ids are; the bad records grow behind those that were there
+pub by_names : AddsTold tag_line (named (codes "refs/tags/v1") ∷ []) (named (codes "refs/tags/v1") ∷ []) ([] ∷ []) ([] ∷ [])
+    × AddsTold tag_line [] [] ([] ∷ []) ([] ∷ tag_line ∷ []) × TellNames 10 head_line (named (codes "HEAD") ∷ []) []
+by_names = (
+  AddsTold-peeled tag_line (codes "refs/tags/v1") (named (codes "refs/tags/v1") ∷ []) (named (codes "refs/tags/v1") ∷ []) ([] ∷ []) ([] ∷ []) (empty_blob, says_tag) (named (codes "refs/tags/v1"), refl, refl) refl refl,
+  AddsTold-elsewhere tag_line (codes "refs/tags/v1") [] [] ([] ∷ []) ([] ∷ tag_line ∷ []) (empty_blob, says_tag) last.3 refl refl,
+  (blob_ref (codes "HEAD") ∷ [], (head_line ∷ [], (Lacks-tested 10 head_line refl, inr (full _ _, refl, refl)), (_, [], [], inl (blob_ref (codes "HEAD"), head_ref, refl, refl), (refl, refl), refl)), refl),
+)
+
+-- and a bad record isn't lost
+pub not_by_names : ((named : List Ref) → ¬ (TellNames 10 (bad_line ++ (10 ∷ [])) named []))
+    × ¬ (AddsTold bad_line [] [] [] [])
+not_by_names = (
+  (λ named tells. tell.2 tells.0 tells.1),
+  λ told. not_added.0 [] (told.1 [] refl).0 (subst (AddsLine bad_line [] (told.1 [] refl).0) (sym told.2) (told.1 [] refl).1),
+)
+
+-- a bad record is told by its bytes
+pub bytes_of_bad : bad_bytes (record { number = 2; bytes = record { ref_ptr = (0, 0); now = codes "x" }; is_peeled = true }) ≡ codes "x"
+bytes_of_bad = refl
