@@ -4,6 +4,7 @@ pub mod ConflictFacts
 pub mod InputFacts
 pub mod MessageFacts
 pub mod OutputFacts
+pub mod PlanFacts
 pub mod PrefixFacts
 pub mod ReadFacts
 pub mod RefFacts
