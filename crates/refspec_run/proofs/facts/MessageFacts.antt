@@ -1,9 +1,16 @@
 -- How places and texts are told, on both sides of each rule.
-use Rattle.std.proofs.Common.{◌≡◌, ℕ, List, Bor, inl, inr, codes, get_or, refl, ap, arith}
+use Rattle.std.proofs.Common.{◌≡◌, ◌⊎◌, ◌<◌, ℕ, List, [], ◌∷◌, ◌++◌, Bor, inl, inr, codes, get_or, length, length-append, refl, ap, ap₂, ◌∙◌, arith}
 use Rattle.std.specs.Fmt.{digits}
+use Rattle.refspec_text.specs.declared.name.Error.TheVariants.{RepeatedDot}
+use Rattle.refspec_text.specs.declared.parsing.Error.{Error}
+use Rattle.refspec_text.specs.declared.parsing.Error.TheVariants as error
+use Rattle.refspec_text.specs.declared.parsing.Operation.TheVariants.{Fetch}
+use Rattle.refspec_text.specs.Specs.Explained.{explained}
+use Rattle.refspec_text.proofs.facts.FitFacts.{other_byte}
 use Rattle.refspec_run.specs.declared.call.Form.TheVariants as form
 use Rattle.refspec_run.specs.declared.texts.Place.TheVariants as place
-use Rattle.refspec_run.specs.Messages.{IsPlace}
+use Rattle.refspec_run.specs.declared.texts.Text.{Text}
+use Rattle.refspec_run.specs.Messages.{IsPlace, IsReasonLine, IsShownIn, PutsPlace, PutsReason, PutsRefusal, PutsShown, TellsRefusal}
 
 abbrev text : List ℕ → Bor (List ℕ)
 text bytes = record { ref_ptr = (0, 0); now = bytes }
@@ -22,3 +29,97 @@ quoted = ((codes "\"a\\tb\"", inr refl, refl), (codes "a\tb", refl, refl))
 pub other_number : IsPlace form.Lines (place.Word 2) (codes "spec 1") → ⊥
 unfolding digits
 other_number same = omega (arith, ap (λ (l : List ℕ). get_or l 5 0) same)
+
+-- a name is as people see it, or raw in records, and no other way
+pub shown : IsShownIn form.Lines (codes "a\tb") (codes "\"a\\tb\"")
+    × IsShownIn form.Zeros (codes "a\tb") (codes "a\tb") × ¬ (IsShownIn form.Zeros (codes "a\tb") (codes "\"a\\tb\""))
+    × ¬ (IsShownIn form.Lines (codes "a\tb") (codes "a b"))
+shown = (inr refl, refl, (λ same. omega (arith, ap length same)), other)
+  where
+    other : ¬ (IsShownIn form.Lines (codes "a\tb") (codes "a b"))
+    other (inl same) = omega (arith, ap (λ (l : List ℕ). get_or l 1 0) same)
+    other (inr same) = omega (arith, ap length same)
+
+-- a place and a name are behind what was there
+pub put : PutsPlace form.Lines (place.Word 2) (codes "x ") (codes "x spec 2")
+    × PutsShown form.Zeros (codes "a\tb") (codes "x ") (codes "x a\tb")
+unfolding digits
+put = ((codes "spec 2", refl, refl), (codes "a\tb", refl, refl))
+
+pub not_put : ¬ (PutsPlace form.Lines (place.Word 2) (codes "x") (codes "spec 2"))
+    × ¬ (PutsShown form.Zeros (codes "a") (codes "x ") (codes "x "))
+not_put = (
+  (λ puts. other_byte 0 (codes "spec 2") (codes "x" ++ puts.0) (λ byte. omega (arith, byte)) puts.2),
+  λ puts. omega (arith, ap length (puts.2 ∙ ap (λ (s : List ℕ). codes "x " ++ s) puts.1)),
+)
+
+-- ---- refusals
+
+-- the second spec of a call, and what is wrong with it
+abbrev dots : Text
+dots = record { place = place.Word 2; operation = Fetch; bytes = text (codes "a..b") }
+
+abbrev fault : Error
+fault = error.ReferenceName RepeatedDot
+
+abbrev dots_line : List ℕ
+dots_line = codes "spec 2: a..b: A ref name must not have two dots in a row.\n"
+
+reason : IsReasonLine dots fault dots_line
+unfolding digits
+reason = record { at = codes "spec 2"; text = codes "a..b"; is_place = refl; is_text = inl refl; is = refl }
+
+-- a line has the place, the text and the sentence on the fault
+pub reasons : IsReasonLine dots fault dots_line
+    × IsReasonLine (record dots { bytes = text (codes "a\t..") }) fault (codes "spec 2: \"a\\t..\": A ref name must not have two dots in a row.\n")
+unfolding digits
+reasons = (
+  reason,
+  record { at = codes "spec 2"; text = codes "\"a\\t..\""; is_place = refl; is_text = inr refl; is = refl },
+)
+
+-- and not another sentence, place or text
+pub no_reasons : ¬ (IsReasonLine dots fault (codes "spec 2: a..b: A ref name must not end with a dot.\n"))
+    × ¬ (IsReasonLine dots fault (codes "spec 1: a..b: A ref name must not have two dots in a row.\n"))
+    × ¬ (IsReasonLine dots fault (codes "spec 2: a..: A ref name must not have two dots in a row.\n"))
+unfolding digits
+no_reasons = (other_sentence, other_place, other_text)
+  where
+    begins : (line : List ℕ) → IsReasonLine dots fault line → (line ≡ dots_line) ⊎ (line ≡ codes "spec 2: \"a..b\": A ref name must not have two dots in a row.\n")
+    begins line is = elim is.is_text [
+      | inl plain ↦ inl (is.is ∙ ap₂ (λ (at t : List ℕ). at ++ (codes ": " ++ (t ++ (codes ": " ++ (explained fault ++ (10 ∷ [])))))) is.is_place plain)
+      | inr quoted ↦ inr (is.is ∙ ap₂ (λ (at t : List ℕ). at ++ (codes ": " ++ (t ++ (codes ": " ++ (explained fault ++ (10 ∷ [])))))) is.is_place quoted)
+    ]
+
+    other_sentence : ¬ (IsReasonLine dots fault (codes "spec 2: a..b: A ref name must not end with a dot.\n"))
+    other_sentence is = elim (begins _ is) [ inl same ↦ omega (arith, ap length same) | inr same ↦ omega (arith, ap length same) ]
+
+    other_place : ¬ (IsReasonLine dots fault (codes "spec 1: a..b: A ref name must not have two dots in a row.\n"))
+    other_place is = elim (begins _ is) [ inl same ↦ omega (arith, ap (λ (l : List ℕ). get_or l 5 0) same) | inr same ↦ omega (arith, ap (λ (l : List ℕ). get_or l 5 0) same) ]
+
+    other_text : ¬ (IsReasonLine dots fault (codes "spec 2: a..: A ref name must not have two dots in a row.\n"))
+    other_text is = elim (begins _ is) [ inl same ↦ omega (arith, ap length same) | inr same ↦ omega (arith, ap length same) ]
+
+-- the line is behind what was there, and more is behind it; in lines and beside records it is told
+pub refused : PutsReason dots fault (codes "x\n") (codes "x\n" ++ dots_line)
+    × PutsRefusal dots fault [] (dots_line ++ codes "    The source has \"..\" at byte 2.\n")
+    × TellsRefusal form.Lines dots fault [] (dots_line ++ codes "    Write one dot.\n")
+    × TellsRefusal form.Zeros dots fault [] dots_line
+refused = (
+  (dots_line, reason, refl),
+  (dots_line, codes "    The source has \"..\" at byte 2.\n", reason, refl),
+  (dots_line, codes "    Write one dot.\n", reason, refl),
+  (dots_line, [], reason, refl),
+)
+
+pub not_refused : ¬ (PutsReason dots fault (codes "x\n") (codes "x\n"))
+    × ¬ (TellsRefusal form.Lines dots fault (codes "x\n") (codes "x\n"))
+    × ¬ (TellsRefusal form.Zeros dots fault [] [])
+not_refused = (
+  (λ puts. omega (arith, ap length puts.2, long puts.0 puts.1)),
+  (λ tells. omega (arith, ap length tells.3, length-append tells.0 tells.1, long tells.0 tells.2)),
+  λ tells. omega (arith, ap length tells.3, length-append tells.0 tells.1, long tells.0 tells.2),
+)
+  where
+    long : (line : List ℕ) → IsReasonLine dots fault line → 0 < length line
+    long line is = omega (arith, ap length is.is, length-append is.at (codes ": " ++ (is.text ++ (codes ": " ++ (explained fault ++ (10 ∷ []))))))
