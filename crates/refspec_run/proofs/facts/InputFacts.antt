@@ -24,7 +24,8 @@ no_records end (first ∷ records) (lacks, inl (rest, here, more)) = absurd (not
 no_records end (first ∷ records) (lacks, inr (some, last, here)) = absurd (some (sym here))
 
 -- an input has one list of records
-pub records_once : (end : ℕ) (xs ys : List (List ℕ)) (input : List ℕ) → AreRecords end xs input → AreRecords end ys input → xs ≡ ys
+pub records_once : (end : ℕ) (xs ys : List (List ℕ)) (input : List ℕ) → AreRecords end xs input
+    → AreRecords end ys input → xs ≡ ys
 records_once end [] ys input cut other = sym (no_records end ys (subst (AreRecords end ys) cut other))
 records_once end (x ∷ xs) [] input cut other = no_records end (x ∷ xs) (subst (AreRecords end (x ∷ xs)) other cut)
 records_once end (x ∷ xs) (y ∷ ys) input (in_x, inl (rest, here, more)) (in_y, inl (after, there, later)) =
@@ -49,7 +50,8 @@ one_record = (
 pub records : AreRecords 10 (codes "a\r" ∷ codes "b" ∷ []) (codes "a\r\nb")
     × AreRecords 0 (codes "a\r\nb" ∷ []) (codes "a\r\nb" ++ 0 ∷ [])
 records = (
-  (Lacks-tested 10 (codes "a\r") refl, inl (codes "b", refl, (Lacks-tested 10 (codes "b") refl, inr (full _ _, refl, refl)))),
+  (Lacks-tested 10 (codes "a\r") refl,
+      inl (codes "b", refl, (Lacks-tested 10 (codes "b") refl, inr (full _ _, refl, refl)))),
   (Lacks-tested 0 (codes "a\r\nb") refl, inl ([], refl, refl)),
 )
 
@@ -66,7 +68,8 @@ empty_records = (
 pub no_other_records : ¬ (AreRecords 10 (codes "a" ∷ [] ∷ []) (codes "a\n")) × ¬ (AreRecords 10 ([] ∷ []) [])
     × ¬ (AreRecords 10 (codes "a\n" ∷ []) (codes "a\n")) × ¬ (AreRecords 10 (codes "a\nb" ∷ []) (codes "a\nb"))
 no_other_records = (
-  (λ cut. omega (arith, ap length (records_once 10 (codes "a" ∷ [] ∷ []) (codes "a" ∷ []) (codes "a\n") cut one_record.0))),
+  (λ cut. omega (arith,
+      ap length (records_once 10 (codes "a" ∷ [] ∷ []) (codes "a" ∷ []) (codes "a\n") cut one_record.0))),
   (λ cut. omega (arith, ap length (records_once 10 ([] ∷ []) [] [] cut empty_records.2))),
   (λ cut. Lacks-here 10 (codes "a") [] cut.0),
   λ cut. Lacks-here 10 (codes "a") (codes "b") cut.0,
@@ -94,7 +97,8 @@ no_first_records = (
   where
     lost : (rest : List ℕ) → ¬ (3 ≡ 2 + length rest) → ¬ (IsFirstRecord 10 (codes "a\nb") (codes "a") rest)
     lost rest differ (lacks, inl here) = differ (omega (arith, ap length here))
-    lost rest differ (lacks, inr (here, none)) = other_length (codes "a\nb") (codes "a") (λ size. omega (arith, size)) here
+    lost rest differ (lacks, inr (here, none)) =
+        other_length (codes "a\nb") (codes "a") (λ size. omega (arith, size)) here
 
     second : ¬ (IsFirstRecord 10 (codes "a\nb") (codes "b") [])
     second (lacks, inl here) = other_byte 0 (codes "a\nb") (codes "b\n") (λ byte. omega (arith, byte)) here

@@ -71,7 +71,8 @@ reason = record { at = codes "spec 2"; text = codes "a..b"; is_place = refl; is_
 
 -- a line has the place, the text and the sentence on the fault
 pub reasons : IsReasonLine dots fault dots_line
-    × IsReasonLine (record dots { bytes = text (codes "a\t..") }) fault (codes "spec 2: \"a\\t..\": A ref name must not have two dots in a row.\n")
+    × IsReasonLine (record dots { bytes = text (codes "a\t..") }) fault
+        (codes "spec 2: \"a\\t..\": A ref name must not have two dots in a row.\n")
 unfolding digits
 reasons = (
   reason,
@@ -85,20 +86,28 @@ pub no_reasons : ¬ (IsReasonLine dots fault (codes "spec 2: a..b: A ref name mu
 unfolding digits
 no_reasons = (other_sentence, other_place, other_text)
   where
-    begins : (line : List ℕ) → IsReasonLine dots fault line → (line ≡ dots_line) ⊎ (line ≡ codes "spec 2: \"a..b\": A ref name must not have two dots in a row.\n")
+    begins : (line : List ℕ) → IsReasonLine dots fault line → (line ≡ dots_line)
+        ⊎ (line ≡ codes "spec 2: \"a..b\": A ref name must not have two dots in a row.\n")
     begins line is = elim is.is_text [
-      | inl plain ↦ inl (is.is ∙ ap₂ (λ (at t : List ℕ). at ++ (codes ": " ++ (t ++ (codes ": " ++ (explained fault ++ (10 ∷ [])))))) is.is_place plain)
-      | inr quoted ↦ inr (is.is ∙ ap₂ (λ (at t : List ℕ). at ++ (codes ": " ++ (t ++ (codes ": " ++ (explained fault ++ (10 ∷ [])))))) is.is_place quoted)
+      | inl plain ↦ inl (is.is
+          ∙ ap₂ (λ (at t : List ℕ). at ++ (codes ": " ++ (t ++ (codes ": " ++ (explained fault ++ (10 ∷ []))))))
+          is.is_place plain)
+      | inr quoted ↦ inr (is.is
+          ∙ ap₂ (λ (at t : List ℕ). at ++ (codes ": " ++ (t ++ (codes ": " ++ (explained fault ++ (10 ∷ []))))))
+          is.is_place quoted)
     ]
 
     other_sentence : ¬ (IsReasonLine dots fault (codes "spec 2: a..b: A ref name must not end with a dot.\n"))
-    other_sentence is = elim (begins _ is) [ inl same ↦ omega (arith, ap length same) | inr same ↦ omega (arith, ap length same) ]
+    other_sentence is = elim (begins _ is) [ inl same ↦ omega (arith, ap length same) | inr same ↦ omega (arith,
+        ap length same) ]
 
     other_place : ¬ (IsReasonLine dots fault (codes "spec 1: a..b: A ref name must not have two dots in a row.\n"))
-    other_place is = elim (begins _ is) [ inl same ↦ omega (arith, ap (λ (l : List ℕ). get_or l 5 0) same) | inr same ↦ omega (arith, ap (λ (l : List ℕ). get_or l 5 0) same) ]
+    other_place is = elim (begins _ is) [ inl same ↦ omega (arith, ap (λ (l : List ℕ). get_or l 5 0) same)
+        | inr same ↦ omega (arith, ap (λ (l : List ℕ). get_or l 5 0) same) ]
 
     other_text : ¬ (IsReasonLine dots fault (codes "spec 2: a..: A ref name must not have two dots in a row.\n"))
-    other_text is = elim (begins _ is) [ inl same ↦ omega (arith, ap length same) | inr same ↦ omega (arith, ap length same) ]
+    other_text is = elim (begins _ is) [ inl same ↦ omega (arith, ap length same) | inr same ↦ omega (arith,
+        ap length same) ]
 
 -- the line is behind what was there, and more is behind it; in lines and beside records it is told
 pub refused : PutsReason dots fault (codes "x\n") (codes "x\n" ++ dots_line)
@@ -122,4 +131,5 @@ not_refused = (
 )
   where
     long : (line : List ℕ) → IsReasonLine dots fault line → 0 < length line
-    long line is = omega (arith, ap length is.is, length-append is.at (codes ": " ++ (is.text ++ (codes ": " ++ (explained fault ++ (10 ∷ []))))))
+    long line is = omega (arith, ap length is.is,
+        length-append is.at (codes ": " ++ (is.text ++ (codes ": " ++ (explained fault ++ (10 ∷ []))))))

@@ -28,16 +28,27 @@ other_inputs = (
 )
 
 -- canonical texts are shown as the call says: one a line, or ended by zero bytes
-pub shown : (call : Call) → (call.form ≡ form.Lines → ShowsCanon call ((Fetch, []) ∷ (Fetch, codes "a b") ∷ (Fetch, codes "main") ∷ []) (codes "HEAD\nmain\n"))
-    × (call.form ≡ form.Zeros → ShowsCanon call ((Fetch, []) ∷ (Fetch, codes "a b") ∷ (Fetch, codes "main") ∷ []) ((codes "HEAD" ++ 0 ∷ []) ++ (codes "main" ++ 0 ∷ [])))
+pub shown : (call : Call)
+    → (call.form ≡ form.Lines
+    → ShowsCanon call ((Fetch, []) ∷ (Fetch, codes "a b") ∷ (Fetch, codes "main") ∷ []) (codes "HEAD\nmain\n"))
+    × (call.form ≡ form.Zeros
+    → ShowsCanon call ((Fetch, []) ∷ (Fetch, codes "a b") ∷ (Fetch, codes "main") ∷ [])
+        ((codes "HEAD" ++ 0 ∷ []) ++ (codes "main" ++ 0 ∷ [])))
 shown call = (
-  (λ is. (codes "HEAD" ∷ codes "main" ∷ [], canonical.0, subst (λ (f : Form). AddsNames f [] (codes "HEAD" ∷ codes "main" ∷ []) [] (codes "HEAD\nmain\n")) (sym is) (codes "HEAD\nmain\n", (codes "HEAD", codes "main\n", inl refl, (codes "main", [], inl refl, refl, refl), refl), refl))),
-  λ is. (codes "HEAD" ∷ codes "main" ∷ [], canonical.0, subst (λ (f : Form). AddsNames f [] (codes "HEAD" ∷ codes "main" ∷ []) [] ((codes "HEAD" ++ 0 ∷ []) ++ (codes "main" ++ 0 ∷ []))) (sym is) refl),
+  (λ is. (codes "HEAD" ∷ codes "main" ∷ [], canonical.0,
+      subst (λ (f : Form). AddsNames f [] (codes "HEAD" ∷ codes "main" ∷ []) [] (codes "HEAD\nmain\n")) (sym is)
+      (codes "HEAD\nmain\n", (codes "HEAD", codes "main\n", inl refl, (codes "main", [], inl refl, refl, refl), refl),
+      refl))),
+  λ is. (codes "HEAD" ∷ codes "main" ∷ [], canonical.0,
+      subst (λ (f : Form). AddsNames f [] (codes "HEAD" ∷ codes "main" ∷ []) []
+      ((codes "HEAD" ++ 0 ∷ []) ++ (codes "main" ++ 0 ∷ []))) (sym is) refl),
 )
 
 -- a text isn't left out
 pub not_shown : (call : Call) → call.form ≡ form.Zeros → ¬ (ShowsCanon call ((Fetch, codes "main") ∷ []) [])
-not_shown call is (names, are, adds) = not_canonical.1 (subst (AreCanonical ((Fetch, codes "main") ∷ [])) (none names (subst (λ (f : Form). AddsNames f [] names [] []) is adds)) are)
+not_shown call is (names, are, adds) =
+    not_canonical.1 (subst (AreCanonical ((Fetch, codes "main") ∷ []))
+    (none names (subst (λ (f : Form). AddsNames f [] names [] []) is adds)) are)
   where
     none : (names : List (List ℕ)) → AddsNames form.Zeros [] names [] [] → names ≡ []
     none [] same = refl

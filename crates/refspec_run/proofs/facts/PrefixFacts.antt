@@ -32,7 +32,8 @@ other_words = (
 )
 
 -- a line for each prefix, with its argument's name or a star; records have no argument's name
-pub listed : AddsList false form.Lines (codes "refs/heads/" ∷ codes "HEAD" ∷ []) [] (codes "ref-prefix refs/heads/\nref-prefix HEAD\n")
+pub listed : AddsList false form.Lines (codes "refs/heads/" ∷ codes "HEAD" ∷ []) []
+        (codes "ref-prefix refs/heads/\nref-prefix HEAD\n")
     × AddsList true form.Lines (codes "refs/heads/" ∷ []) [] (codes "refs/heads/*\n")
     × AddsList false form.Zeros (codes "refs/heads/" ∷ []) [] (codes "refs/heads/" ++ 0 ∷ [])
     × AddsList true form.Zeros (codes "refs/heads/" ∷ []) [] (codes "refs/heads/*" ++ 0 ∷ [])
@@ -51,15 +52,21 @@ pub not_listed : ¬ (AddsList false form.Lines (codes "refs/heads/" ∷ []) [] (
     × ¬ (AddsList true form.Lines (codes "refs/heads/" ∷ []) [] (codes "ref-prefix refs/heads/*\n"))
     × ¬ (AddsList false form.Zeros (codes "refs/heads/" ∷ []) [] [])
 not_listed = (
-  (λ adds. other_byte 0 (codes "(nothing)\n") (codes "ref-prefix " ++ _) (λ byte. omega (arith, byte)) (adds.2 ∙ adds.1.4)),
-  (λ adds. other_byte 3 (codes "refs/heads/\n") (codes "ref-prefix " ++ _) (λ byte. omega (arith, byte)) (adds.2 ∙ adds.1.4)),
+  (λ adds. other_byte 0 (codes "(nothing)\n") (codes "ref-prefix " ++ _) (λ byte. omega (arith, byte)) (adds.2
+      ∙ adds.1.4)),
+  (λ adds. other_byte 3 (codes "refs/heads/\n") (codes "ref-prefix " ++ _) (λ byte. omega (arith, byte)) (adds.2
+      ∙ adds.1.4)),
   starred,
   λ same. omega (arith, ap length same),
 )
   where
     starred : ¬ (AddsList true form.Lines (codes "refs/heads/" ∷ []) [] (codes "ref-prefix refs/heads/*\n"))
-    starred (lines, (shown, rest, inl is, none, all), same) = other_byte 3 (codes "ref-prefix refs/heads/*\n") (codes "refs/heads/*" ++ (10 ∷ rest)) (λ byte. omega (arith, byte)) (same ∙ (all ∙ ap (λ (s : List ℕ). s ++ (10 ∷ rest)) is))
-    starred (lines, (shown, rest, inr is, none, all), same) = other_byte 0 (codes "ref-prefix refs/heads/*\n") (34 ∷ _) (λ byte. omega (arith, byte)) (same ∙ (all ∙ ap (λ (s : List ℕ). s ++ (10 ∷ rest)) is))
+    starred (lines, (shown, rest, inl is, none, all), same) =
+        other_byte 3 (codes "ref-prefix refs/heads/*\n") (codes "refs/heads/*" ++ (10 ∷ rest)) (λ byte. omega (arith,
+        byte)) (same ∙ (all ∙ ap (λ (s : List ℕ). s ++ (10 ∷ rest)) is))
+    starred (lines, (shown, rest, inr is, none, all), same) =
+        other_byte 0 (codes "ref-prefix refs/heads/*\n") (34 ∷ _) (λ byte. omega (arith, byte)) (same
+        ∙ (all ∙ ap (λ (s : List ℕ). s ++ (10 ∷ rest)) is))
 
 -- a group without a list, since no list serves a star directly after `refs/`
 abbrev all_refs : Reading
@@ -67,14 +74,19 @@ all_refs = fetched Normal (codes "refs/*") (Some (codes "refs/x/*"))
 
 unlisted : (list : List (List ℕ)) → ¬ (Lists all_refs list)
 unlisted list (inl (negative, none)) = let same : Normal ≡ Negative = negative in cc
-unlisted list (inr (x, asked, lists)) = (no_lists_of_sides list).0 (subst (λ (y : List ℕ). ListsSide y list) (one_asked all_refs x (codes "refs/*") asked (record { positive = tt; side = refl })) lists)
+unlisted list (inr (x, asked, lists)) =
+    (no_lists_of_sides list).0
+    (subst (λ (y : List ℕ). ListsSide y list)
+    (one_asked all_refs x (codes "refs/*") asked (record { positive = tt; side = refl })) lists)
 
 -- what a group asks for, all refs where no list is safe, and nothing for negative specs
 pub told : AddsPrefixes false form.Lines (every ∷ no_dev ∷ []) [] (codes "ref-prefix refs/heads/\n")
     × AddsPrefixes true form.Lines (every ∷ all_refs ∷ []) [] (codes "(all)\n")
     × AddsPrefixes false form.Lines (no_dev ∷ []) [] (codes "(nothing)\n")
 told = (
-  inl (codes "refs/heads/" ∷ [], (codes "refs/heads/" ∷ [], [], lists_of_specs.0, ([], [], lists_of_specs.1, refl, refl), refl), (_, (codes "refs/heads/", [], inl refl, refl, refl), refl)),
+  inl (codes "refs/heads/" ∷ [],
+      (codes "refs/heads/" ∷ [], [], lists_of_specs.0, ([], [], lists_of_specs.1, refl, refl), refl),
+      (_, (codes "refs/heads/", [], inl refl, refl, refl), refl)),
   inr (none_for_all.0, refl),
   inl ([], ([], [], lists_of_specs.1, refl, refl), refl),
 )
@@ -86,7 +98,8 @@ not_told = (listed_as_all, all_as_nothing)
   where
     listed_as_all : ¬ (AddsPrefixes false form.Lines (every ∷ []) [] (codes "(all)\n"))
     listed_as_all (inl ([], lists, adds)) = other_words.2 adds
-    listed_as_all (inl (p ∷ list, lists, adds)) = other_byte 0 (codes "(all)\n") (codes "ref-prefix " ++ _) (λ byte. omega (arith, byte)) (adds.2 ∙ adds.1.4)
+    listed_as_all (inl (p ∷ list, lists, adds)) =
+        other_byte 0 (codes "(all)\n") (codes "ref-prefix " ++ _) (λ byte. omega (arith, byte)) (adds.2 ∙ adds.1.4)
     listed_as_all (inr (none, adds)) = none_for_all.1 none
 
     all_as_nothing : ¬ (AddsPrefixes false form.Lines (all_refs ∷ []) [] (codes "(nothing)\n"))

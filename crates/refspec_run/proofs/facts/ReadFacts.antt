@@ -96,7 +96,8 @@ not_grown = (stayed, spoiled, unsaid)
 
 -- `main` in a fetch, and an empty text in a push; that some text reads as the spec is a premise
 abbrev pub good : Accepted Fetch mode.Normal (Some (codes "main")) None → Checked
-good accepted = checked.Good (text_for Fetch (codes "main")) (spec_of Fetch mode.Normal (Some (codes "main")) None accepted)
+good accepted = checked.Good (text_for Fetch (codes "main"))
+    (spec_of Fetch mode.Normal (Some (codes "main")) None accepted)
 
 abbrev pub bad : Checked
 bad = checked.Bad (text_for Push []) error.Empty
@@ -115,7 +116,8 @@ module _ (accepted : Accepted Fetch mode.Normal (Some (codes "main")) None) wher
   pub specs : IsSpec (good accepted) main × ¬ (IsSpec (good accepted) head) × ¬ (IsSpec bad main)
   specs = (
     refl,
-    (λ is. other_byte 0 (codes "HEAD") (codes "main") (λ byte. omega (arith, byte)) (ap (λ (r : Reading). unwrap_or r.source []) is)),
+    (λ is. other_byte 0 (codes "HEAD") (codes "main") (λ byte. omega (arith,
+        byte)) (ap (λ (r : Reading). unwrap_or r.source []) is)),
     λ is. is,
   )
 

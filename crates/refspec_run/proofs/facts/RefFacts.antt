@@ -72,7 +72,8 @@ blob_ref n = record { name = n; target = empty_blob; object = None }
 -- a name that doesn't end as the line of a peeled tag does is that of a ref
 pub ref_line : (n : List ℕ) → last_byte n ≢ 125 → IsRefLine (line_of n) (blob_ref n)
 ref_line n other = record {
-  says = record { digits = codes "e69de29bb2d1d6434b8b29ae775ad8c2e48c5391"; space = 32; spelled = IsIdText-empty_blob; is_space = inr refl; here = refl };
+  says = record { digits = codes "e69de29bb2d1d6434b8b29ae775ad8c2e48c5391"; space = 32; spelled = IsIdText-empty_blob;
+      is_space = inr refl; here = refl };
   whole = λ tag same. other (ap last_byte same ∙ ap (λ (l : List ℕ). get_or l 0 0) (reverse-append tag peeled));
   object = refl;
 }
@@ -96,7 +97,9 @@ pub last : IsLast (blob_ref (codes "HEAD") ∷ tag ∷ []) tag × HasLast (tag �
 last = (refl, (tag, refl, refl), first, λ has. let none : None ≡ Some has.0 = has.1 in cc)
   where
     first : ¬ (HasLast (tag ∷ blob_ref (codes "HEAD") ∷ []) (codes "refs/tags/v1"))
-    first (r, is, named) = other_byte 0 (codes "HEAD") (codes "refs/tags/v1") (λ byte. omega (arith, byte)) (ap (λ (o : Option Ref). (unwrap_or o tag).name) is ∙ named)
+    first (r, is, named) =
+        other_byte 0 (codes "HEAD") (codes "refs/tags/v1") (λ byte. omega (arith,
+        byte)) (ap (λ (o : Option Ref). (unwrap_or o tag).name) is ∙ named)
 
 -- the line of the tag tells no other name
 tells_tag : (id n : List ℕ) → IsIdThen tag_line id n → n ≡ codes "refs/tags/v1" ++ peeled
@@ -105,8 +108,10 @@ tells_tag id n says = by_kind says.spelled.kind says.spelled.digits
     by_kind : (kind : Kind) → length says.digits ≡ digits_of kind → n ≡ codes "refs/tags/v1" ++ peeled
     by_kind Sha1 long =
         let same = (space_at tag_line says.digits n says.space 40 long says.here).2 in
-        let here : tag_line ≡ codes "e69de29bb2d1d6434b8b29ae775ad8c2e48c5391" ++ (says.space ∷ n) = says.here ∙ ap (λ (d : List ℕ). d ++ (says.space ∷ n)) (sym same) in
-        sym (ap (drop 1) (append_cancel_left (codes "e69de29bb2d1d6434b8b29ae775ad8c2e48c5391") (9 ∷ (codes "refs/tags/v1" ++ peeled)) (says.space ∷ n) here))
+        let here : tag_line ≡ codes "e69de29bb2d1d6434b8b29ae775ad8c2e48c5391" ++ (says.space ∷ n) = says.here
+            ∙ ap (λ (d : List ℕ). d ++ (says.space ∷ n)) (sym same) in
+        sym (ap (drop 1) (append_cancel_left (codes "e69de29bb2d1d6434b8b29ae775ad8c2e48c5391")
+            (9 ∷ (codes "refs/tags/v1" ++ peeled)) (says.space ∷ n) here))
     by_kind Sha256 long = absurd (omega (arith, ap length says.here, length-append says.digits (says.space ∷ n), long))
 
 -- it tells to what the last ref points, and else nothing
@@ -124,12 +129,14 @@ pub peels_no_other : ¬ (IsTagLine tag_line (tag ∷ []))
 peels_no_other = (right_before, not_before, unchanged, λ is. is.whole (codes "refs/tags/v1") refl)
   where
     right_before : ¬ (IsTagLine tag_line (tag ∷ []))
-    right_before is = is.elsewhere (tag, refl, append_cancel_right (codes "refs/tags/v1") is.tag peeled (sym (tells_tag is.id (is.tag ++ peeled) is.says)))
+    right_before is = is.elsewhere (tag, refl,
+        append_cancel_right (codes "refs/tags/v1") is.tag peeled (sym (tells_tag is.id (is.tag ++ peeled) is.says)))
 
     not_before : (new : List Ref) → ¬ (IsPeeledLine tag_line (tag ∷ blob_ref (codes "HEAD") ∷ []) new)
     not_before new is =
         let named : codes "HEAD" ≡ is.tag.name = ap (λ (o : Option Ref). (unwrap_or o tag).name) is.last in
-        other_byte 0 (codes "HEAD" ++ peeled) (codes "refs/tags/v1" ++ peeled) (λ byte. omega (arith, byte)) (ap (λ (n : List ℕ). n ++ peeled) named ∙ tells_tag is.id (is.tag.name ++ peeled) is.says)
+        other_byte 0 (codes "HEAD" ++ peeled) (codes "refs/tags/v1" ++ peeled) (λ byte. omega (arith,
+            byte)) (ap (λ (n : List ℕ). n ++ peeled) named ∙ tells_tag is.id (is.tag.name ++ peeled) is.says)
 
     unchanged : ¬ (IsPeeledLine tag_line (tag ∷ []) (tag ∷ []))
     unchanged is = let none : None ≡ Some is.id = ap (λ (l : List Ref). (get_or l 0 tag).object) is.joined in cc
@@ -163,11 +170,14 @@ not_added = (bad_lost, good_told)
     good_told new (inr (inr (inr is, same, bad))) = is empty_blob (codes "refs/tags/v1^{}") says_tag
 
 -- lines one after another, of which the bad ones are in order
-pub adds : AddsRefs (head_line ∷ bad_line ∷ line_of (codes "refs/tags/v1") ∷ tag_line ∷ [] ∷ []) [] (blob_ref (codes "HEAD") ∷ joined ∷ []) (bad_line ∷ [] ∷ [])
+pub adds : AddsRefs (head_line ∷ bad_line ∷ line_of (codes "refs/tags/v1") ∷ tag_line ∷ [] ∷ []) []
+        (blob_ref (codes "HEAD") ∷ joined ∷ []) (bad_line ∷ [] ∷ [])
 adds =
     let refs = blob_ref (codes "HEAD") ∷ joined ∷ [] in
-    let empty : AddsRefs ([] ∷ []) refs refs ([] ∷ []) = (refs, [] ∷ [], [], inr (inr (inr no_refs.2, refl, refl)), (refl, refl), refl) in
-    let of_tag : AddsRefs (tag_line ∷ [] ∷ []) (blob_ref (codes "HEAD") ∷ tag ∷ []) refs ([] ∷ []) = (refs, [], [] ∷ [], inr (inl (peels.0, refl)), empty, refl) in (
+    let empty : AddsRefs ([] ∷ []) refs refs ([] ∷ []) = (refs, [] ∷ [], [], inr (inr (inr no_refs.2, refl, refl)),
+        (refl, refl), refl) in
+    let of_tag : AddsRefs (tag_line ∷ [] ∷ []) (blob_ref (codes "HEAD") ∷ tag ∷ []) refs ([] ∷ []) =
+        (refs, [], [] ∷ [], inr (inl (peels.0, refl)), empty, refl) in (
       blob_ref (codes "HEAD") ∷ [],
       [],
       bad_line ∷ [] ∷ [],
@@ -177,14 +187,16 @@ adds =
         bad_line ∷ [],
         [] ∷ [],
         inr (inr (inr no_refs.0, refl, refl)),
-        (blob_ref (codes "HEAD") ∷ tag ∷ [], [], [] ∷ [], inl (tag, ref_line (codes "refs/tags/v1") (λ same. omega (arith, same)), refl, refl), of_tag, refl),
+        (blob_ref (codes "HEAD") ∷ tag ∷ [], [], [] ∷ [],
+            inl (tag, ref_line (codes "refs/tags/v1") (λ same. omega (arith, same)), refl, refl), of_tag, refl),
         refl,
       ),
       refl,
     )
 
 pub none_lost : (new : List Ref) → ¬ (AddsRefs (bad_line ∷ []) [] new [])
-none_lost new (more, one, rest, line, none, same) = not_added.0 [] more (subst (AddsLine bad_line [] more) (nothing one rest (sym same)) line)
+none_lost new (more, one, rest, line, none, same) =
+    not_added.0 [] more (subst (AddsLine bad_line [] more) (nothing one rest (sym same)) line)
   where
     nothing : (one rest : List (List ℕ)) → one ++ rest ≡ [] → one ≡ []
     nothing [] rest all = refl
@@ -197,21 +209,32 @@ tell = (
   (
     head_line ∷ bad_line ∷ [],
     (Lacks-tested 10 head_line refl, inl (bad_line, refl, (Lacks-tested 10 bad_line refl, inr (full _ _, refl, refl)))),
-    (blob_ref (codes "HEAD") ∷ [], [], bad_line ∷ [], inl (blob_ref (codes "HEAD"), head_ref, refl, refl), (blob_ref (codes "HEAD") ∷ [], bad_line ∷ [], [], inr (inr (inr no_refs.0, refl, refl)), (refl, refl), refl), refl),
+    (blob_ref (codes "HEAD") ∷ [], [], bad_line ∷ [], inl (blob_ref (codes "HEAD"), head_ref, refl, refl),
+        (blob_ref (codes "HEAD") ∷ [], bad_line ∷ [], [], inr (inr (inr no_refs.0, refl, refl)), (refl, refl), refl),
+        refl),
   ),
   ([], refl, (refl, refl)),
-  λ refs tells. none_lost refs (subst (λ (l : List (List ℕ)). AddsRefs l [] refs []) (records_once 10 tells.0 (bad_line ∷ []) (bad_line ++ (10 ∷ [])) tells.1 (Lacks-tested 10 bad_line refl, inl ([], refl, refl))) tells.2),
+  λ refs tells. none_lost refs
+      (subst (λ (l : List (List ℕ)). AddsRefs l [] refs [])
+      (records_once 10 tells.0 (bad_line ∷ []) (bad_line ++ (10 ∷ [])) tells.1 (Lacks-tested 10 bad_line refl,
+      inl ([], refl, refl))) tells.2),
 )
 
 -- ---- the same by names
 
 -- refs of the same names are told, whatever their ids are; the bad records grow behind those that were there
-pub by_names : AddsTold tag_line (named (codes "refs/tags/v1") ∷ []) (named (codes "refs/tags/v1") ∷ []) ([] ∷ []) ([] ∷ [])
+pub by_names : AddsTold tag_line (named (codes "refs/tags/v1") ∷ []) (named (codes "refs/tags/v1") ∷ []) ([] ∷ [])
+        ([] ∷ [])
     × AddsTold tag_line [] [] ([] ∷ []) ([] ∷ tag_line ∷ []) × TellNames 10 head_line (named (codes "HEAD") ∷ []) []
 by_names = (
-  AddsTold-peeled tag_line (codes "refs/tags/v1") (named (codes "refs/tags/v1") ∷ []) (named (codes "refs/tags/v1") ∷ []) ([] ∷ []) ([] ∷ []) (empty_blob, says_tag) (named (codes "refs/tags/v1"), refl, refl) refl refl,
-  AddsTold-elsewhere tag_line (codes "refs/tags/v1") [] [] ([] ∷ []) ([] ∷ tag_line ∷ []) (empty_blob, says_tag) last.3 refl refl,
-  (blob_ref (codes "HEAD") ∷ [], (head_line ∷ [], (Lacks-tested 10 head_line refl, inr (full _ _, refl, refl)), (_, [], [], inl (blob_ref (codes "HEAD"), head_ref, refl, refl), (refl, refl), refl)), refl),
+  AddsTold-peeled tag_line (codes "refs/tags/v1") (named (codes "refs/tags/v1") ∷ [])
+      (named (codes "refs/tags/v1") ∷ []) ([] ∷ []) ([] ∷ []) (empty_blob, says_tag) (named (codes "refs/tags/v1"),
+      refl, refl) refl refl,
+  AddsTold-elsewhere tag_line (codes "refs/tags/v1") [] [] ([] ∷ []) ([] ∷ tag_line ∷ []) (empty_blob,
+      says_tag) last.3 refl refl,
+  (blob_ref (codes "HEAD") ∷ [],
+      (head_line ∷ [], (Lacks-tested 10 head_line refl, inr (full _ _, refl, refl)),
+      (_, [], [], inl (blob_ref (codes "HEAD"), head_ref, refl, refl), (refl, refl), refl)), refl),
 )
 
 -- and a bad record isn't lost
@@ -219,9 +242,11 @@ pub not_by_names : ((named : List Ref) → ¬ (TellNames 10 (bad_line ++ (10 ∷
     × ¬ (AddsTold bad_line [] [] [] [])
 not_by_names = (
   (λ named tells. tell.2 tells.0 tells.1),
-  λ told. not_added.0 [] (told.1 [] refl).0 (subst (AddsLine bad_line [] (told.1 [] refl).0) (sym told.2) (told.1 [] refl).1),
+  λ told. not_added.0 [] (told.1 [] refl).0
+      (subst (AddsLine bad_line [] (told.1 [] refl).0) (sym told.2) (told.1 [] refl).1),
 )
 
 -- a bad record is told by its bytes
-pub bytes_of_bad : bad_bytes (record { number = 2; bytes = record { ref_ptr = (0, 0); now = codes "x" }; is_peeled = true }) ≡ codes "x"
+pub bytes_of_bad : bad_bytes (record { number = 2; bytes = record { ref_ptr = (0, 0); now = codes "x" };
+        is_peeled = true }) ≡ codes "x"
 bytes_of_bad = refl

@@ -18,7 +18,8 @@ pub spec_texts : AreSpecTexts (every ∷ short ∷ []) (codes "+refs/heads/*:ref
     × ¬ (AreSpecTexts [] (codes "main" ∷ []))
 spec_texts = (
   (refl, (refl, tt)),
-  (λ are. other_byte 0 (codes "+refs/heads/*:refs/remotes/origin/*") (codes "refs/heads/*:refs/remotes/origin/*") (λ byte. omega (arith, byte)) (some_once _ _ are.0)),
+  (λ are. other_byte 0 (codes "+refs/heads/*:refs/remotes/origin/*") (codes "refs/heads/*:refs/remotes/origin/*")
+      (λ byte. omega (arith, byte)) (some_once _ _ are.0)),
   (λ are. are.1),
   λ are. are,
 )
@@ -52,8 +53,10 @@ pub missing : (second_side (codes "FETCH_HEAD") columns.SourceFirst alone ≡ co
 missing = (refl, refl, refl, refl)
 
 -- the text is that of the mapping's spec
-pub rows : ((row_of [] columns.SourceFirst (codes "HEAD" ∷ codes "refs/heads/*:refs/remotes/o/*" ∷ []) to_o).spec ≡ codes "refs/heads/*:refs/remotes/o/*")
-    × ((row_of [] columns.SourceFirst (codes "HEAD" ∷ codes "refs/heads/*:refs/remotes/o/*" ∷ []) alone).spec ≡ codes "HEAD")
+pub rows : ((row_of [] columns.SourceFirst (codes "HEAD" ∷ codes "refs/heads/*:refs/remotes/o/*" ∷ []) to_o).spec ≡
+        codes "refs/heads/*:refs/remotes/o/*")
+    × ((row_of [] columns.SourceFirst (codes "HEAD" ∷ codes "refs/heads/*:refs/remotes/o/*" ∷ []) alone).spec ≡ codes
+        "HEAD")
 rows = (refl, refl)
 
 -- ---- lines
@@ -78,15 +81,21 @@ no_cells = (
 )
   where
     one_space : ¬ (IsCell (codes "HEAD") (codes "HEAD "))
-    one_space (shown, more, inl is, same) = omega (arith, ap length (same ∙ ap (λ (s : List ℕ). s ++ (32 ∷ 32 ∷ replicate more 32)) is))
-    one_space (shown, more, inr is, same) = other_byte 0 (codes "HEAD ") (34 ∷ _) (λ byte. omega (arith, byte)) (same ∙ ap (λ (s : List ℕ). s ++ (32 ∷ 32 ∷ replicate more 32)) is)
+    one_space (shown, more, inl is, same) =
+        omega (arith, ap length (same ∙ ap (λ (s : List ℕ). s ++ (32 ∷ 32 ∷ replicate more 32)) is))
+    one_space (shown, more, inr is, same) = other_byte 0 (codes "HEAD ") (34 ∷ _) (λ byte. omega (arith, byte)) (same
+        ∙ ap (λ (s : List ℕ). s ++ (32 ∷ 32 ∷ replicate more 32)) is)
 
     a_tab : ¬ (IsCell (codes "HEAD") (codes "HEAD\t "))
-    a_tab (shown, more, inl is, same) = other_byte 4 (codes "HEAD\t ") (codes "HEAD" ++ (32 ∷ 32 ∷ replicate more 32)) (λ byte. omega (arith, byte)) (same ∙ ap (λ (s : List ℕ). s ++ (32 ∷ 32 ∷ replicate more 32)) is)
-    a_tab (shown, more, inr is, same) = other_byte 0 (codes "HEAD\t ") (34 ∷ _) (λ byte. omega (arith, byte)) (same ∙ ap (λ (s : List ℕ). s ++ (32 ∷ 32 ∷ replicate more 32)) is)
+    a_tab (shown, more, inl is, same) =
+        other_byte 4 (codes "HEAD\t ") (codes "HEAD" ++ (32 ∷ 32 ∷ replicate more 32)) (λ byte. omega (arith,
+        byte)) (same ∙ ap (λ (s : List ℕ). s ++ (32 ∷ 32 ∷ replicate more 32)) is)
+    a_tab (shown, more, inr is, same) = other_byte 0 (codes "HEAD\t ") (34 ∷ _) (λ byte. omega (arith, byte)) (same
+        ∙ ap (λ (s : List ℕ). s ++ (32 ∷ 32 ∷ replicate more 32)) is)
 
 abbrev row : Row
-row = record { first = codes "refs/heads/a"; second = codes "refs/remotes/o/a"; spec = codes "refs/heads/*:refs/remotes/o/*" }
+row = record { first = codes "refs/heads/a"; second = codes "refs/remotes/o/a";
+    spec = codes "refs/heads/*:refs/remotes/o/*" }
 
 -- a row as `plan` prints it beside a longer one
 pub line : IsLine row (codes "refs/heads/a       refs/remotes/o/a       refs/heads/*:refs/remotes/o/*\n")
@@ -101,9 +110,12 @@ line = record {
 }
 
 -- a line begins with the first field and two spaces, or with a quote
-begins : (l tail cell : List ℕ) → IsCell (codes "refs/heads/a") cell → l ≡ cell ++ tail → ((rest : List ℕ) × (l ≡ codes "refs/heads/a  " ++ rest)) ⊎ ((rest : List ℕ) × (l ≡ 34 ∷ rest))
-begins l tail cell (shown, more, inl is, all) here = inl (replicate more 32 ++ tail, here ∙ ap (λ (c : List ℕ). c ++ tail) (all ∙ ap (λ (s : List ℕ). s ++ (32 ∷ 32 ∷ replicate more 32)) is))
-begins l tail cell (shown, more, inr is, all) here = inr (codes "refs/heads/a\"  " ++ (replicate more 32 ++ tail), here ∙ ap (λ (c : List ℕ). c ++ tail) (all ∙ ap (λ (s : List ℕ). s ++ (32 ∷ 32 ∷ replicate more 32)) is))
+begins : (l tail cell : List ℕ) → IsCell (codes "refs/heads/a") cell → l ≡ cell ++ tail
+    → ((rest : List ℕ) × (l ≡ codes "refs/heads/a  " ++ rest)) ⊎ ((rest : List ℕ) × (l ≡ 34 ∷ rest))
+begins l tail cell (shown, more, inl is, all) here = inl (replicate more 32 ++ tail, here
+    ∙ ap (λ (c : List ℕ). c ++ tail) (all ∙ ap (λ (s : List ℕ). s ++ (32 ∷ 32 ∷ replicate more 32)) is))
+begins l tail cell (shown, more, inr is, all) here = inr (codes "refs/heads/a\"  " ++ (replicate more 32 ++ tail), here
+    ∙ ap (λ (c : List ℕ). c ++ tail) (all ∙ ap (λ (s : List ℕ). s ++ (32 ∷ 32 ∷ replicate more 32)) is))
 
 -- with one space behind the first field, or the second field before it, it is none
 pub no_line : ¬ (IsLine row (codes "refs/heads/a refs/remotes/o/a  refs/heads/*:refs/remotes/o/*\n"))
@@ -112,14 +124,18 @@ no_line = (one_space, swapped)
   where
     one_space : ¬ (IsLine row (codes "refs/heads/a refs/remotes/o/a  refs/heads/*:refs/remotes/o/*\n"))
     one_space is = elim (begins _ _ is.first is.is_first is.is) [
-      | inl field ↦ other_byte 13 (codes "refs/heads/a refs/remotes/o/a  refs/heads/*:refs/remotes/o/*\n") (codes "refs/heads/a  " ++ field.0) (λ byte. omega (arith, byte)) field.1
-      | inr quoted ↦ other_byte 0 (codes "refs/heads/a refs/remotes/o/a  refs/heads/*:refs/remotes/o/*\n") (34 ∷ quoted.0) (λ byte. omega (arith, byte)) quoted.1
+      | inl field ↦ other_byte 13 (codes "refs/heads/a refs/remotes/o/a  refs/heads/*:refs/remotes/o/*\n")
+          (codes "refs/heads/a  " ++ field.0) (λ byte. omega (arith, byte)) field.1
+      | inr quoted ↦ other_byte 0 (codes "refs/heads/a refs/remotes/o/a  refs/heads/*:refs/remotes/o/*\n")
+          (34 ∷ quoted.0) (λ byte. omega (arith, byte)) quoted.1
     ]
 
     swapped : ¬ (IsLine row (codes "refs/remotes/o/a  refs/heads/a  refs/heads/*:refs/remotes/o/*\n"))
     swapped is = elim (begins _ _ is.first is.is_first is.is) [
-      | inl field ↦ other_byte 5 (codes "refs/remotes/o/a  refs/heads/a  refs/heads/*:refs/remotes/o/*\n") (codes "refs/heads/a  " ++ field.0) (λ byte. omega (arith, byte)) field.1
-      | inr quoted ↦ other_byte 0 (codes "refs/remotes/o/a  refs/heads/a  refs/heads/*:refs/remotes/o/*\n") (34 ∷ quoted.0) (λ byte. omega (arith, byte)) quoted.1
+      | inl field ↦ other_byte 5 (codes "refs/remotes/o/a  refs/heads/a  refs/heads/*:refs/remotes/o/*\n")
+          (codes "refs/heads/a  " ++ field.0) (λ byte. omega (arith, byte)) field.1
+      | inr quoted ↦ other_byte 0 (codes "refs/remotes/o/a  refs/heads/a  refs/heads/*:refs/remotes/o/*\n")
+          (34 ∷ quoted.0) (λ byte. omega (arith, byte)) quoted.1
     ]
 
 -- cells and lines are behind what was there
@@ -133,8 +149,10 @@ put = (
 pub not_put : ¬ (PutsLine row (codes "b\n") (codes "refs/heads/a  refs/remotes/o/a  refs/heads/*:refs/remotes/o/*\n"))
     × ¬ (PutsCells (codes "HEAD") (codes "refs/x/y") (codes "b\n") (codes "HEAD  refs/x/y  "))
 not_put = (
-  (λ puts. other_byte 0 (codes "refs/heads/a  refs/remotes/o/a  refs/heads/*:refs/remotes/o/*\n") (codes "b\n" ++ puts.0) (λ byte. omega (arith, byte)) puts.2),
-  λ puts. other_byte 0 (codes "HEAD  refs/x/y  ") (codes "b\n" ++ (puts.0 ++ puts.1)) (λ byte. omega (arith, byte)) puts.4,
+  (λ puts. other_byte 0 (codes "refs/heads/a  refs/remotes/o/a  refs/heads/*:refs/remotes/o/*\n")
+      (codes "b\n" ++ puts.0) (λ byte. omega (arith, byte)) puts.2),
+  λ puts. other_byte 0 (codes "HEAD  refs/x/y  ") (codes "b\n" ++ (puts.0 ++ puts.1)) (λ byte. omega (arith,
+      byte)) puts.4,
 )
 
 -- a line for each row, and each row has one
@@ -157,13 +175,15 @@ lines = (
 -- ---- mappings
 
 -- each field has its zero byte, and none has another
-pub zero_fields : (fields row ≡ (codes "refs/heads/a" ++ 0 ∷ []) ++ ((codes "refs/remotes/o/a" ++ 0 ∷ []) ++ (codes "refs/heads/*:refs/remotes/o/*" ++ 0 ∷ [])))
+pub zero_fields : (fields row ≡ (codes "refs/heads/a" ++ 0 ∷ []) ++
+        ((codes "refs/remotes/o/a" ++ 0 ∷ []) ++ (codes "refs/heads/*:refs/remotes/o/*" ++ 0 ∷ [])))
 zero_fields = refl
 
 abbrev pub texts : List (List ℕ)
 texts = codes "HEAD" ∷ codes "refs/heads/*:refs/remotes/o/*" ∷ []
 
-pub alone_line : IsLine (record { first = codes "HEAD"; second = codes "FETCH_HEAD"; spec = codes "HEAD" }) (codes "HEAD  FETCH_HEAD  HEAD\n")
+pub alone_line : IsLine (record { first = codes "HEAD"; second = codes "FETCH_HEAD"; spec = codes "HEAD" })
+        (codes "HEAD  FETCH_HEAD  HEAD\n")
 alone_line = record {
   first = codes "HEAD  ";
   second = codes "FETCH_HEAD  ";
@@ -174,7 +194,9 @@ alone_line = record {
   is = refl;
 }
 
-tracked_line : IsLine (record { first = codes "refs/remotes/o/main"; second = codes "refs/heads/main"; spec = codes "refs/heads/*:refs/remotes/o/*" }) (codes "refs/remotes/o/main  refs/heads/main  refs/heads/*:refs/remotes/o/*\n")
+tracked_line : IsLine (record { first = codes "refs/remotes/o/main"; second = codes "refs/heads/main";
+        spec = codes "refs/heads/*:refs/remotes/o/*" })
+        (codes "refs/remotes/o/main  refs/heads/main  refs/heads/*:refs/remotes/o/*\n")
 tracked_line = record {
   first = codes "refs/remotes/o/main  ";
   second = codes "refs/heads/main  ";
@@ -187,19 +209,26 @@ tracked_line = record {
 
 -- no destination is `FETCH_HEAD` in a line, and an empty field with zero bytes; `track` has the destination first
 pub told : AddsMappings form.Lines columns.SourceFirst texts (alone ∷ []) [] (codes "HEAD  FETCH_HEAD  HEAD\n")
-    × AddsMappings form.Zeros columns.SourceFirst texts (alone ∷ []) [] ((codes "HEAD" ++ 0 ∷ []) ++ (0 ∷ (codes "HEAD" ++ 0 ∷ [])))
-    × AddsMappings form.Lines columns.DestinationFirst texts (to_o ∷ []) (codes "a\n") (codes "a\nrefs/remotes/o/main  refs/heads/main  refs/heads/*:refs/remotes/o/*\n")
+    × AddsMappings form.Zeros columns.SourceFirst texts (alone ∷ []) []
+        ((codes "HEAD" ++ 0 ∷ []) ++ (0 ∷ (codes "HEAD" ++ 0 ∷ [])))
+    × AddsMappings form.Lines columns.DestinationFirst texts (to_o ∷ []) (codes "a\n")
+        (codes "a\nrefs/remotes/o/main  refs/heads/main  refs/heads/*:refs/remotes/o/*\n")
     × AddsMappings form.Lines columns.SourceFirst texts [] (codes "a\n") (codes "a\n")
 told = (
   (codes "HEAD  FETCH_HEAD  HEAD\n", (codes "HEAD  FETCH_HEAD  HEAD\n", [], alone_line, refl, refl), refl),
   refl,
-  (codes "refs/remotes/o/main  refs/heads/main  refs/heads/*:refs/remotes/o/*\n", (codes "refs/remotes/o/main  refs/heads/main  refs/heads/*:refs/remotes/o/*\n", [], tracked_line, refl, refl), refl),
+  (codes "refs/remotes/o/main  refs/heads/main  refs/heads/*:refs/remotes/o/*\n",
+      (codes "refs/remotes/o/main  refs/heads/main  refs/heads/*:refs/remotes/o/*\n", [], tracked_line, refl, refl),
+      refl),
   ([], refl, refl),
 )
 
 -- zero bytes have no `FETCH_HEAD` before them, nor the destination of `plan` the source's place, and no mapping is lost
-pub not_told : ¬ (AddsMappings form.Zeros columns.SourceFirst texts (alone ∷ []) [] ((codes "HEAD" ++ 0 ∷ []) ++ ((codes "FETCH_HEAD" ++ 0 ∷ []) ++ (codes "HEAD" ++ 0 ∷ []))))
-    × ¬ (AddsMappings form.Zeros columns.SourceFirst texts (to_o ∷ []) [] ((codes "refs/remotes/o/main" ++ 0 ∷ []) ++ ((codes "refs/heads/main" ++ 0 ∷ []) ++ (codes "refs/heads/*:refs/remotes/o/*" ++ 0 ∷ []))))
+pub not_told : ¬ (AddsMappings form.Zeros columns.SourceFirst texts (alone ∷ []) []
+        ((codes "HEAD" ++ 0 ∷ []) ++ ((codes "FETCH_HEAD" ++ 0 ∷ []) ++ (codes "HEAD" ++ 0 ∷ []))))
+    × ¬ (AddsMappings form.Zeros columns.SourceFirst texts (to_o ∷ []) []
+        ((codes "refs/remotes/o/main" ++ 0 ∷ []) ++
+        ((codes "refs/heads/main" ++ 0 ∷ []) ++ (codes "refs/heads/*:refs/remotes/o/*" ++ 0 ∷ []))))
     × ¬ (AddsMappings form.Zeros columns.SourceFirst texts (alone ∷ []) [] [])
 not_told = (
   (λ same. omega (arith, ap length same)),

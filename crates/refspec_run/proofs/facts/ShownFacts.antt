@@ -37,7 +37,8 @@ unseen = (other, raw)
 -- ---- lists of names
 
 -- a line for each name, with the bytes before it
-pub lines : AreLines (codes "ref-prefix ") (codes "refs/heads/" ∷ codes "HEAD" ∷ []) (codes "ref-prefix refs/heads/\nref-prefix HEAD\n")
+pub lines : AreLines (codes "ref-prefix ") (codes "refs/heads/" ∷ codes "HEAD" ∷ [])
+        (codes "ref-prefix refs/heads/\nref-prefix HEAD\n")
     × AreLines [] (codes "a\tb" ∷ []) (codes "\"a\\tb\"\n") × AreLines (codes "x ") [] []
 lines = (
   (codes "refs/heads/", codes "ref-prefix HEAD\n", inl refl, (codes "HEAD", [], inl refl, refl, refl), refl),
@@ -55,13 +56,19 @@ no_lines = (
   second,
 )
   where
-    begun : (line : List ℕ) → AreLines [] (codes "a" ∷ []) line → ((rest : List ℕ) → ¬ (line ≡ codes "a\n" ++ rest)) → ¬ (get_or line 0 0 ≡ 34) → ⊥
-    begun line (shown, rest, inl is, none, same) plain quoted = plain rest (same ∙ ap (λ (s : List ℕ). s ++ (10 ∷ rest)) is)
-    begun line (shown, rest, inr is, none, same) plain quoted = quoted (ap (λ (l : List ℕ). get_or l 0 0) (same ∙ ap (λ (s : List ℕ). s ++ (10 ∷ rest)) is))
+    begun : (line : List ℕ) → AreLines [] (codes "a" ∷ []) line → ((rest : List ℕ) → ¬ (line ≡ codes "a\n" ++ rest))
+        → ¬ (get_or line 0 0 ≡ 34) → ⊥
+    begun line (shown, rest, inl is, none, same) plain quoted =
+        plain rest (same ∙ ap (λ (s : List ℕ). s ++ (10 ∷ rest)) is)
+    begun line (shown, rest, inr is, none, same) plain quoted =
+        quoted (ap (λ (l : List ℕ). get_or l 0 0) (same ∙ ap (λ (s : List ℕ). s ++ (10 ∷ rest)) is))
 
     second : ¬ (AreLines [] (codes "a" ∷ codes "b" ∷ []) (codes "b\na\n"))
-    second (shown, rest, inl is, more, same) = other_byte 0 (codes "b\na\n") (codes "a\n" ++ rest) (λ byte. omega (arith, byte)) (same ∙ ap (λ (s : List ℕ). s ++ (10 ∷ rest)) is)
-    second (shown, rest, inr is, more, same) = omega (arith, ap (λ (l : List ℕ). get_or l 0 0) (same ∙ ap (λ (s : List ℕ). s ++ (10 ∷ rest)) is))
+    second (shown, rest, inl is, more, same) =
+        other_byte 0 (codes "b\na\n") (codes "a\n" ++ rest) (λ byte. omega (arith, byte)) (same
+        ∙ ap (λ (s : List ℕ). s ++ (10 ∷ rest)) is)
+    second (shown, rest, inr is, more, same) =
+        omega (arith, ap (λ (l : List ℕ). get_or l 0 0) (same ∙ ap (λ (s : List ℕ). s ++ (10 ∷ rest)) is))
 
 -- zero bytes end names as they are, with nothing before them
 pub names : (zero_ended (codes "a\tb") ≡ 97 ∷ 9 ∷ 98 ∷ 0 ∷ [])
@@ -81,8 +88,10 @@ other_names = (
 )
   where
     zero : ¬ (AddsNames form.Lines [] (codes "a" ∷ []) [] (codes "a" ++ 0 ∷ []))
-    zero (l, (shown, rest, inl is, none, all), same) = omega (arith, ap (λ (l : List ℕ). get_or l 1 0) (same ∙ (all ∙ ap (λ (s : List ℕ). s ++ (10 ∷ rest)) is)))
-    zero (l, (shown, rest, inr is, none, all), same) = omega (arith, ap (λ (l : List ℕ). get_or l 0 0) (same ∙ (all ∙ ap (λ (s : List ℕ). s ++ (10 ∷ rest)) is)))
+    zero (l, (shown, rest, inl is, none, all), same) =
+        omega (arith, ap (λ (l : List ℕ). get_or l 1 0) (same ∙ (all ∙ ap (λ (s : List ℕ). s ++ (10 ∷ rest)) is)))
+    zero (l, (shown, rest, inr is, none, all), same) =
+        omega (arith, ap (λ (l : List ℕ). get_or l 0 0) (same ∙ (all ∙ ap (λ (s : List ℕ). s ++ (10 ∷ rest)) is)))
 
 -- ---- what grows and what stays
 
@@ -98,11 +107,15 @@ kept = (
 )
 
 -- a page keeps its form and, in lines, its results
-pub pages : (p q : Page) → p.form ≡ form.Lines → q.form ≡ form.Lines → p.results.items ≡ codes "a" → (q.results.items ≡ codes "a" → KeepsPage p q)
+pub pages : (p q : Page) → p.form ≡ form.Lines → q.form ≡ form.Lines → p.results.items ≡ codes "a"
+    → (q.results.items ≡ codes "a" → KeepsPage p q)
     × (q.results.items ≡ codes "ab" → ¬ (KeepsPage p q))
 pages p q is also a = (
-  (λ same. record { form = also ∙ sym is; kept = subst (λ (f : Form). KeepsResults f p.results.items q.results.items) (sym is) (same ∙ sym a) }),
-  λ other keeps. let same : q.results.items ≡ p.results.items = subst (λ (f : Form). KeepsResults f p.results.items q.results.items) is keeps.kept in omega (arith, ap length (sym other ∙ (same ∙ a))),
+  (λ same. record { form = also
+      ∙ sym is; kept = subst (λ (f : Form). KeepsResults f p.results.items q.results.items) (sym is) (same ∙ sym a) }),
+  λ other keeps. let same : q.results.items ≡ p.results.items =
+      subst (λ (f : Form). KeepsResults f p.results.items q.results.items) is keeps.kept in omega (arith,
+      ap length (sym other ∙ (same ∙ a))),
 )
 
 pub other_form : (p q : Page) → p.form ≡ form.Lines → q.form ≡ form.Zeros → ¬ (KeepsPage p q)

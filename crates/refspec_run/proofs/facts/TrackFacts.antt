@@ -31,7 +31,8 @@ no_id text id long is = by_kind is.kind is.digits
     by_kind Sha256 same = omega (arith, same, long)
 
 ends_at_name : ¬ (HasIdDestination to_name)
-ends_at_name (text, is, (id, spelled)) = no_id text id (sym (ap length (some_once (codes "e69de29bb2d1d6434b8b29ae775ad8c2e48c539") text is))) spelled
+ends_at_name (text, is, (id, spelled)) =
+    no_id text id (sym (ap length (some_once (codes "e69de29bb2d1d6434b8b29ae775ad8c2e48c539") text is))) spelled
 
 nowhere : ¬ (HasIdDestination short)
 nowhere (text, is, id) = none_some text is
