@@ -1,6 +1,6 @@
 -- How a conflict is told, as in the runs of `plan`: its destination, and each source with the text of its spec.
 use Rattle.std.proofs.Common.{◌≡◌, ◌⊎◌, ℕ, List, [], ◌∷◌, ◌++◌, inl, inr, codes, get_or, length, refl, sym, ap, ap₂, ◌∙◌, subst, arith}
-use Rattle.std.proofs.lemmas.List.{append-nil}
+use Rattle.std.proofs.lemmas.List.{append-nil, append_cancel_left}
 use Rattle.gix_refspec.specs.Matching.Mappings.{name}
 use Rattle.gix_refspec.specs.Matching.Validation.{Conflict}
 use Rattle.refspec_text.proofs.facts.FitFacts.{other_byte}
@@ -146,6 +146,36 @@ not_told = (other, λ is. omega (arith, ap length is.is))
           | inr quoted ↦ omega (arith,
               ap (λ (l : List ℕ). get_or l 10 0) (is.is
               ∙ ap (λ (s : List ℕ). codes "conflict: " ++ (s ++ after)) quoted))
+        ]
+
+-- nor is one told without its sources
+pub unclaimed : ¬ (IsToldConflict conflict (head_line ++ advice))
+unclaimed is =
+    let after = codes " would be written from several refs, so nothing is fetched:\n" ++ (is.claims ++ is.advice) in
+    elim is.destination [
+      | inl plain ↦ sources is.claims is.each (is.is ∙ ap (λ (s : List ℕ). codes "conflict: " ++ (s ++ after)) plain)
+      | inr quoted ↦ omega (arith,
+          ap (λ (l : List ℕ). get_or l 10 0) (is.is ∙ ap (λ (s : List ℕ). codes "conflict: " ++ (s ++ after)) quoted))
+    ]
+  where
+    sources : (claims : List ℕ) → AreClaims 0 conflict.sources conflict.texts claims
+        → ¬ (head_line ++ advice ≡ head_line ++ (claims ++ is.advice))
+    sources claims (line, rest, claim, more, all) same =
+        let told = append_cancel_left head_line advice (claims ++ is.advice) same
+            ∙ ap (λ (l : List ℕ). l ++ is.advice) all in
+        elim (one_of_four (codes "refs/heads/a") heads_text line claim) [
+          | inl raw ↦ elim raw [
+            | inl same ↦ omega (arith,
+                ap (λ (l : List ℕ). get_or l 4 0) (told ∙ ap (λ (l : List ℕ). (l ++ rest) ++ is.advice) same))
+            | inr same ↦ omega (arith,
+                ap (λ (l : List ℕ). get_or l 4 0) (told ∙ ap (λ (l : List ℕ). (l ++ rest) ++ is.advice) same))
+          ]
+          | inr quoted ↦ elim quoted [
+            | inl same ↦ omega (arith,
+                ap (λ (l : List ℕ). get_or l 4 0) (told ∙ ap (λ (l : List ℕ). (l ++ rest) ++ is.advice) same))
+            | inr same ↦ omega (arith,
+                ap (λ (l : List ℕ). get_or l 4 0) (told ∙ ap (λ (l : List ℕ). (l ++ rest) ++ is.advice) same))
+          ]
         ]
 
 -- each conflict is told, in lines as beside records, and where there is none nothing is

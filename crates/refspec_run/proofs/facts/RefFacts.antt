@@ -1,5 +1,5 @@
 -- What lines of refs say, on each side of the borders between refs, peeled tags and other lines.
-use Rattle.std.proofs.Common.{◌≡◌, ◌≢◌, ℕ, ◌+◌, ◌<◌, ◌++◌, true, List, [], ◌∷◌, Option, Some, None, unwrap_or, inl, inr, codes, drop, get_or, length, reverse, refl, sym, ap, ◌∙◌, subst, arith, length-append}
+use Rattle.std.proofs.Common.{◌≡◌, ◌≢◌, ℕ, ◌+◌, ◌<◌, ◌++◌, true, List, [], ◌∷◌, Option, Some, None, unwrap_or, inl, inr, codes, drop, get_or, length, map, reverse, refl, sym, ap, ◌∙◌, subst, arith, length-append}
 use Rattle.std.proofs.Common.{append_assoc}
 use Rattle.std.proofs.lemmas.List.{append_cancel_left, append_cancel_right, reverse-append}
 use Rattle.gix_refspec.specs.Matching.Match.{Ref}
@@ -56,6 +56,28 @@ no_refs = (short (codes "ref: refs/heads/a\tHEAD") (omega arith), short (codes "
         by_kind : (kind : Kind) → length says.digits ≡ digits_of kind → ⊥
         by_kind Sha1 is = omega (arith, few, long, is)
         by_kind Sha256 is = omega (arith, few, long, is)
+
+-- nor does one whose id has 39 digits or 41, or no space behind it
+pub no_ids : IsNoRefLine (codes "e69de29bb2d1d6434b8b29ae775ad8c2e48c539\trefs/heads/a")
+    × IsNoRefLine (codes "e69de29bb2d1d6434b8b29ae775ad8c2e48c53911\tHEAD")
+    × IsNoRefLine (codes "e69de29bb2d1d6434b8b29ae775ad8c2e48c5391,HEAD")
+no_ids = (
+  unspaced (codes "e69de29bb2d1d6434b8b29ae775ad8c2e48c539\trefs/heads/a") (omega arith) (λ tab. omega (arith,
+      tab)) (λ space. omega (arith, space)),
+  unspaced (codes "e69de29bb2d1d6434b8b29ae775ad8c2e48c53911\tHEAD") (omega arith) (λ tab. omega (arith,
+      tab)) (λ space. omega (arith, space)),
+  unspaced (codes "e69de29bb2d1d6434b8b29ae775ad8c2e48c5391,HEAD") (omega arith) (λ tab. omega (arith,
+      tab)) (λ space. omega (arith, space)),
+)
+  where
+    unspaced : (line : List ℕ) → length line < 65 → get_or line 40 0 ≢ 9 → get_or line 40 0 ≢ 32 → IsNoRefLine line
+    unspaced line few no_tab no_space id name says = by_kind says.spelled.kind says.spelled.digits
+      where
+        by_kind : (kind : Kind) → length says.digits ≡ digits_of kind → ⊥
+        by_kind Sha1 is =
+            let at : get_or line 40 0 ≡ says.space = (space_at line says.digits name says.space 40 is says.here).1 in
+            elim says.is_space [ inl tab ↦ no_tab (at ∙ tab) | inr space ↦ no_space (at ∙ space) ]
+        by_kind Sha256 is = omega (arith, few, ap length says.here, length-append says.digits (says.space ∷ name), is)
 
 -- the line of a peeled tag tells its name with the end, with a tab as with a space
 pub told : TellsName head_line (codes "HEAD") × TellsName tag_line (codes "refs/tags/v1" ++ peeled)
@@ -237,7 +259,25 @@ by_names = (
       (_, [], [], inl (blob_ref (codes "HEAD"), head_ref, refl, refl), (refl, refl), refl)), refl),
 )
 
--- and a bad record isn't lost
+-- and neither a ref is lost nor a bad record
+pub ref_kept : ¬ (TellNames 10 head_line [] [])
+ref_kept (refs, (records, cut, adds), same) =
+    lost refs (nothing refs (sym same))
+        (subst (λ (l : List (List ℕ)). AddsRefs l [] refs []) (records_once 10 records (head_line ∷ []) head_line cut
+        (Lacks-tested 10 head_line refl, inr (full _ _, refl, refl))) adds)
+  where
+    nothing : (refs : List Ref) → map (λ (r : Ref). r.name) refs ≡ [] → refs ≡ []
+    nothing [] names = refl
+    nothing (r ∷ refs) names = absurd (omega (arith, ap length names))
+
+    lost : (refs : List Ref) → refs ≡ [] → ¬ (AddsRefs (head_line ∷ []) [] refs [])
+    lost refs empty (more, one, rest, inl (r, is, grown, none), (last_one, no_more), all) =
+        omega (arith, ap length (sym empty ∙ (last_one ∙ grown)))
+    lost refs empty (more, one, rest, inr (inl (is, none)), (last_one, no_more), all) = let none : None ≡ Some is.tag =
+        is.last in cc
+    lost refs empty (more, one, rest, inr (inr (is, stays, bad)), (last_one, no_more), all) =
+        omega (arith, ap length (all ∙ ap (λ (l : List (List ℕ)). l ++ rest) bad))
+
 pub not_by_names : ((named : List Ref) → ¬ (TellNames 10 (bad_line ++ (10 ∷ [])) named []))
     × ¬ (AddsTold bad_line [] [] [] [])
 not_by_names = (

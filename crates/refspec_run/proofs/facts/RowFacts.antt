@@ -1,5 +1,5 @@
 -- Rows of mappings, in lines and ended by zero bytes, as in the runs of `plan` and `track`.
-use Rattle.std.proofs.Common.{◌≡◌, ◌⊎◌, ℕ, List, [], ◌∷◌, ◌++◌, None, Some, inl, inr, codes, get_or, length, replicate, refl, ap, ◌∙◌, arith}
+use Rattle.std.proofs.Common.{◌≡◌, ◌⊎◌, ◌≤◌, ◌+◌, ℕ, List, [], ◌∷◌, ◌++◌, None, Some, inl, inr, codes, get_or, length, length-append, replicate, refl, ap, ◌∙◌, arith}
 use Rattle.gix_refspec.specs.Matching.Mappings.{Mapped, id, name}
 use Rattle.refspec_match.proofs.facts.MatchFacts.{mapping}
 use Rattle.refspec_text.proofs.facts.FitFacts.{every, other_byte, short}
@@ -7,6 +7,7 @@ use Rattle.refspec_text.proofs.facts.ObjectIdFacts.{empty_blob, lower_of-empty_b
 use Rattle.refspec_text.proofs.lemmas.specs.FormsBackLemmas.{some_once}
 use Rattle.refspec_run.specs.declared.call.Form.TheVariants as form
 use Rattle.refspec_run.specs.declared.mappings.Columns.TheVariants as columns
+use Rattle.refspec_run.specs.Shown.{IsQuoted, in_quotes}
 use Rattle.refspec_run.specs.Rows.{AddsMappings, AreSpecTexts, AreRowLines, IsCell, IsLine, PutsCell, PutsCells, PutsLine, Row, fields, first_side, row_of, second_side, source_text}
 
 -- ---- texts
@@ -137,6 +138,37 @@ no_line = (one_space, swapped)
       | inr quoted ↦ other_byte 0 (codes "refs/remotes/o/a  refs/heads/a  refs/heads/*:refs/remotes/o/*\n")
           (34 ∷ quoted.0) (λ byte. omega (arith, byte)) quoted.1
     ]
+
+-- nor is it without the second field or the last
+pub too_short : ¬ (IsLine row (codes "refs/heads/a  refs/heads/*:refs/remotes/o/*\n"))
+    × ¬ (IsLine row (codes "refs/heads/a  refs/remotes/o/a  \n"))
+too_short = (
+  (λ is. omega (arith, ap length is.is, (long is).0, (long is).1, (long is).2,
+      length-append is.first (is.second ++ (is.last ++ (10 ∷ []))), length-append is.second (is.last ++ (10 ∷ [])),
+      length-append is.last (10 ∷ []))),
+  λ is. omega (arith, ap length is.is, (long is).0, (long is).1, (long is).2,
+      length-append is.first (is.second ++ (is.last ++ (10 ∷ []))), length-append is.second (is.last ++ (10 ∷ [])),
+      length-append is.last (10 ∷ [])),
+)
+  where
+    in_cell : (n : ℕ) (field cell : List ℕ) → IsCell field cell → n ≤ length field → n ≤ length (in_quotes field)
+        → n + 2 ≤ length cell
+    in_cell n field cell (shown, more, inl is, all) plain quoted = omega (arith, plain, ap length is, ap length all,
+        length-append shown (32 ∷ 32 ∷ replicate more 32))
+    in_cell n field cell (shown, more, inr is, all) plain quoted = omega (arith, quoted, ap length is, ap length all,
+        length-append shown (32 ∷ 32 ∷ replicate more 32))
+
+    shown_last : (last : List ℕ) → IsQuoted (codes "refs/heads/*:refs/remotes/o/*") last → 29 ≤ length last
+    shown_last last (inl is) = omega (arith, ap length is)
+    shown_last last (inr is) = omega (arith, ap length is)
+
+    long : {line : List ℕ} (is : IsLine row line) → (14 ≤ length is.first) × (18 ≤ length is.second)
+        × (29 ≤ length is.last)
+    long is = (
+      in_cell 12 (codes "refs/heads/a") is.first is.is_first (omega arith) (omega arith),
+      in_cell 16 (codes "refs/remotes/o/a") is.second is.is_second (omega arith) (omega arith),
+      shown_last is.last is.is_last,
+    )
 
 -- cells and lines are behind what was there
 pub put : PutsCells (codes "HEAD") (codes "refs/x/y") (codes "a\n") (codes "a\nHEAD  refs/x/y  ")
