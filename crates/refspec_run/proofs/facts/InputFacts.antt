@@ -104,6 +104,11 @@ no_first_records = (
     second (lacks, inl here) = other_byte 0 (codes "a\nb") (codes "b\n") (λ byte. omega (arith, byte)) here
     second (lacks, inr (here, none)) = other_byte 0 (codes "a\nb") (codes "b") (λ byte. omega (arith, byte)) here
 
+-- nor is anything behind a record that lacks its end byte
+pub none_behind : ¬ (IsFirstRecord 10 (codes "a") (codes "a") (codes "b"))
+none_behind (lacks, inl here) = omega (arith, ap length here)
+none_behind (lacks, inr (here, none)) = omega (arith, ap length none)
+
 -- ---- readers
 
 -- all that the reader had is read, and nothing else
