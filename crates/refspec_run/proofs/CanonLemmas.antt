@@ -13,7 +13,7 @@ use Rattle.refspec_run.specs.declared.texts.Text.{Text}
 use Rattle.refspec_run.specs.Canon.{AddsCanonical, AreCanonical, AreCanonicalOf}
 use Rattle.refspec_run.specs.Read.{IsChecked}
 use Rattle.refspec_run.specs.Shown.{AddsNames, KeepsResults}
-use Rattle.refspec_run.specs.Texts.{said}
+use Rattle.refspec_run.proofs.CheckedLemmas.{asked_of}
 use Rattle.refspec_run.proofs.ShownLemmas.{AddsNames-append, AddsNames-none, KeepsResults-same}
 
 AreCanonicalOf-append : (xs ys : List Checked) (ns ms : List (List ℕ)) → AreCanonicalOf xs ns → AreCanonicalOf ys ms → AreCanonicalOf (xs ++ ys) (ns ++ ms)
@@ -47,9 +47,9 @@ AddsCanonical-bad f c text error old new is kept =
     subst (λ (x : Checked). AddsCanonical f (x ∷ []) old new) (sym is) ([], refl, AddsNames-none f [] old new kept)
 
 -- the canonical texts of what was checked are those of the texts
-pub AreCanonical-of : (texts : List Text) (all : List Checked) (names : List (List ℕ)) → AllZip IsChecked texts all → AreCanonicalOf all names → AreCanonical (map said texts) names
+pub AreCanonical-of : (texts : List Text) (all : List Checked) (names : List (List ℕ)) → AllZip IsChecked texts all → AreCanonicalOf all names → AreCanonical (map asked_of texts) names
 AreCanonical-of [] [] names is none = none
 AreCanonical-of [] (c ∷ all) names is of = absurd is
 AreCanonical-of (t ∷ texts) [] names is of = absurd is
-AreCanonical-of (t ∷ texts) (checked.Good text spec ∷ all) names is of = inl (reading_of spec, of.0, of.1, is.0, of.2, AreCanonical-of texts all of.1 is.1 of.3, of.4)
-AreCanonical-of (t ∷ texts) (checked.Bad text error ∷ all) names is of = inr (is.0.0, is.0.2, AreCanonical-of texts all names is.1 of)
+AreCanonical-of (t ∷ texts) (checked.Good text spec ∷ all) names is of = inl (reading_of spec, of.0, of.1, is.0.1, of.2, AreCanonical-of texts all of.1 is.1 of.3, of.4)
+AreCanonical-of (t ∷ texts) (checked.Bad text error ∷ all) names is of = inr (is.0.1.0, is.0.1.2, AreCanonical-of texts all names is.1 of)

@@ -9,10 +9,15 @@ use Rattle.refspec_run.specs.declared.texts.Text.{Text}
 use Rattle.gix_refspec.specs.Specs.Grammar.{Reads}
 use Rattle.gix_refspec.specs.Specs.Reading.{Reading}
 use Rattle.refspec_text.specs.declared.parsing.Error.{Error}
+use Rattle.refspec_text.specs.declared.parsing.Operation.{Operation}
 use Rattle.gix_refspec.specs.Views.Spec.{reading_of}
 use Rattle.refspec_text.specs.declared.spec.RefSpecRef.{RefSpecRef}
 use Rattle.refspec_run.specs.Read.{AddsIfGood, AddsIfRead, AreGood, AreRead, HasBad, HasRefused, IsChecked, IsSpec, TellsRefused}
-use Rattle.refspec_run.specs.Texts.{said}
+use Rattle.refspec_run.specs.Texts.{given_of, said}
+
+-- what is read of a text
+abbrev pub asked_of : Text → Operation × List ℕ
+asked_of t = said (given_of t)
 
 -- one more pair
 pub zip_last : {A B : Type 0} (R : A → B → Type 0) (xs : List A) (ys : List B) (x : A) (y : B) → AllZip R xs ys → R x y → AllZip R (xs ++ x ∷ []) (ys ++ y ∷ [])
@@ -48,41 +53,41 @@ HasBad-at (checked.Good u spec ∷ all) zero c t error below here is = absurd (g
 HasBad-at (checked.Good u spec ∷ all) (suc i) c t error below here is = HasBad-at all i c t error (omega (arith, below)) here is
 
 -- what the specs are read as is what their texts are read as
-pub AreRead-of : (texts : List Text) (all : List Checked) (g : List Reading) → AllZip IsChecked texts all → AllZip IsSpec all g → AreRead (map said texts) g
+pub AreRead-of : (texts : List Text) (all : List Checked) (g : List Reading) → AllZip IsChecked texts all → AllZip IsSpec all g → AreRead (map asked_of texts) g
 AreRead-of [] [] [] is good = tt
 AreRead-of [] [] (r ∷ g) is good = absurd good
 AreRead-of [] (c ∷ all) g is good = absurd is
 AreRead-of (t ∷ texts) [] g is good = absurd is
 AreRead-of (t ∷ texts) (checked.Good text spec ∷ all) [] is good = absurd good
-AreRead-of (t ∷ texts) (checked.Good text spec ∷ all) (r ∷ g) is good = (subst (Reads t.operation t.bytes.now) (sym good.0) is.0, AreRead-of texts all g is.1 good.1)
+AreRead-of (t ∷ texts) (checked.Good text spec ∷ all) (r ∷ g) is good = (subst (Reads t.operation t.bytes.now) (sym good.0) is.0.1, AreRead-of texts all g is.1 good.1)
 AreRead-of (t ∷ texts) (checked.Bad text error ∷ all) [] is good = absurd good
 AreRead-of (t ∷ texts) (checked.Bad text error ∷ all) (r ∷ g) is good = absurd good.0
 
 -- a text that is no spec is refused
-pub HasRefused-of : (texts : List Text) (all : List Checked) → AllZip IsChecked texts all → HasBad all → HasRefused (map said texts)
+pub HasRefused-of : (texts : List Text) (all : List Checked) → AllZip IsChecked texts all → HasBad all → HasRefused (map asked_of texts)
 HasRefused-of [] [] is bad = absurd bad
 HasRefused-of [] (c ∷ all) is bad = absurd is
 HasRefused-of (t ∷ texts) [] is bad = absurd is
 HasRefused-of (t ∷ texts) (checked.Good text spec ∷ all) is bad = inr (HasRefused-of texts all is.1 bad)
-HasRefused-of (t ∷ texts) (checked.Bad text error ∷ all) is bad = inl (is.0.0, is.0.2)
+HasRefused-of (t ∷ texts) (checked.Bad text error ∷ all) is bad = inl (is.0.1.0, is.0.1.2)
 
 -- what is told of what was checked is told of the texts
-pub AddsIfRead-of : (Adds : List Reading → List ℕ → List ℕ → Type 0) (f : Form) (refused : Bool) (texts : List Text) (all : List Checked) (old new : List ℕ) → AllZip IsChecked texts all → AddsIfGood Adds f refused all old new → AddsIfRead Adds f refused (map said texts) old new
-AddsIfRead-of Adds f refused texts all old new is (inl told) = inl (told.0, AreRead-of texts all told.0 is told.1, told.2)
-AddsIfRead-of Adds f refused texts all old new is (inr kept) = inr (HasRefused-of texts all is kept.0, kept.1, kept.2)
+pub AddsIfRead-of : (Adds : List Reading → List ℕ → List ℕ → Type 0) (Refuses Says : Type 0) (f : Form) (refused : Bool) (texts : List Text) (all : List Checked) (old new : List ℕ) → AllZip IsChecked texts all → (Refuses → Says) → AddsIfGood Adds Refuses f refused all old new → AddsIfRead Adds Says f refused (map asked_of texts) old new
+AddsIfRead-of Adds Refuses Says f refused texts all old new is says (inl told) = inl (told.0, AreRead-of texts all told.0 is told.1, told.2)
+AddsIfRead-of Adds Refuses Says f refused texts all old new is says (inr kept) = inr (HasRefused-of texts all is kept.0, kept.1, kept.2, says kept.3)
 
 -- the readings of specs
-all_read : (texts : List Text) (all : List Checked) → AllZip IsChecked texts all → AreGood all → (g : List Reading) × AreRead (map said texts) g
+all_read : (texts : List Text) (all : List Checked) → AllZip IsChecked texts all → AreGood all → (g : List Reading) × AreRead (map asked_of texts) g
 all_read [] [] is good = ([], tt)
 all_read [] (c ∷ all) is good = absurd is
 all_read (t ∷ texts) [] is good = absurd is
 all_read (t ∷ texts) (checked.Good text spec ∷ all) is good =
     let rest = all_read texts all is.1 good in
-    (reading_of spec ∷ rest.0, (is.0, rest.1))
+    (reading_of spec ∷ rest.0, (is.0.1, rest.1))
 all_read (t ∷ texts) (checked.Bad text error ∷ all) is good = absurd good
 
 -- whether some text is refused
-pub TellsRefused-of : (refused : Bool) (texts : List Text) (all : List Checked) → AllZip IsChecked texts all → MatchBool refused (HasBad all) (AreGood all) → TellsRefused refused (map said texts)
+pub TellsRefused-of : (refused : Bool) (texts : List Text) (all : List Checked) → AllZip IsChecked texts all → MatchBool refused (HasBad all) (AreGood all) → TellsRefused refused (map asked_of texts)
 TellsRefused-of true texts all is bad = HasRefused-of texts all is bad
 TellsRefused-of false texts all is good = all_read texts all is good
 

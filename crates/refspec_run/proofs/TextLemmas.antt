@@ -1,12 +1,12 @@
 -- Texts that are gathered one after another.
-use Rattle.std.proofs.Common.{◌≡◌, ℕ, ◌+◌, ◌<◌, List, [], ◌∷◌, ◌++◌, length, take, get_or, map, sym, ap, ◌∙◌, append_assoc}
-use Rattle.std.proofs.lemmas.List.{map-append, take_more}
+use Rattle.std.proofs.Common.{◌≡◌, ℕ, ◌+◌, ◌<◌, List, [], ◌∷◌, ◌++◌, length, take, get_or, map, suc, refl, sym, ap, ◌∙◌, append_assoc, arith}
+use Rattle.std.proofs.lemmas.List.{length-map, length-take-le, map-append, take_more}
 use Rattle.refspec_text.specs.declared.parsing.Operation.{Operation}
 use Rattle.refspec_run.specs.declared.call.Ends.{Ends}
 use Rattle.refspec_run.specs.declared.call.Ends.TheVariants as ends
 use Rattle.refspec_run.specs.declared.texts.Text.{Text}
 use Rattle.refspec_run.specs.Input.{AreRecords, end_byte}
-use Rattle.refspec_run.specs.Texts.{AddsTexts, AreTexts, asked, said}
+use Rattle.refspec_run.specs.Texts.{AddsTexts, Given, given_of, numbered, record_at}
 
 -- one element more was seen, and what it gives was put after the others
 pub seen_next : {W X Y Z : Type 0} (f : W → Y) (h : X → W) (g : Z → Y) (xs : List X) (i : ℕ) (x : X) (old : List Y) (ts more : List Z) (z : Z) → i < length xs → more ≡ ts ++ z ∷ [] → g z ≡ f (h (get_or xs i x)) → map g ts ≡ old ++ map f (map h (take i xs)) → map g more ≡ old ++ map f (map h (take (i + 1) xs))
@@ -16,14 +16,35 @@ seen_next f h g xs i x old ts more z below grown same so_far =
     sym (map-append f (map h (take i xs)) (h y ∷ [])) ∙ ap (map f) (sym (map-append h (take i xs) (y ∷ [])) ∙ sym (ap (map h) (take_more xs i x below))) in
     ap (map g) grown ∙ (map-append g ts (z ∷ []) ∙ (ap (λ l. l ++ g z ∷ []) so_far ∙ (append_assoc old (map f (map h (take i xs))) (g z ∷ []) ∙ (ap (λ y. old ++ (map f (map h (take i xs)) ++ y ∷ [])) same ∙ ap (λ l. old ++ l) all))))
 
--- the records of an input, each a text
-pub AddsTexts-of : (e : Ends) (op : Operation) (input : List ℕ) (old new : List Text) (records : List (List ℕ)) → AreRecords (end_byte e) records input → map said new ≡ map said old ++ map (asked op) records → AddsTexts e op input old new
-AddsTexts-of ends.Newline op input old new records cut put = (records, cut, put)
-AddsTexts-of ends.Zero op input old new records cut put = (records, cut, put)
-AddsTexts-of ends.Settings op input old new records cut put = tt
+-- bytes after others have the next numbers
+numbered-last : (give : ℕ → List ℕ → Given) (k : ℕ) (xs : List (List ℕ)) (y : List ℕ) → numbered give k (xs ++ y ∷ []) ≡ numbered give k xs ++ give (k + length xs) y ∷ []
+numbered-last give k [] y = ap (λ (n : ℕ). give n y ∷ []) (sym (+0 k))
+  where
+    +0 : (n : ℕ) → n + 0 ≡ n
+    +0 n = omega arith
+numbered-last give k (x ∷ xs) y =
+    let next : (k + 1) + length xs ≡ k + length (x ∷ xs) = omega arith in
+    ap (λ l. give k x ∷ l) (numbered-last give (k + 1) xs y ∙ ap (λ (n : ℕ). numbered give (k + 1) xs ++ give n y ∷ []) next)
 
--- the words, then the records of both inputs
-pub AreTexts-of : (e : Ends) (op : Operation) (words : List (List ℕ)) (beside input : List ℕ) (first second third : List Text) → map said first ≡ map (asked op) words → AddsTexts e op beside first second → AddsTexts e op input second third → AreTexts e op words beside input (map said third)
-AreTexts-of ends.Newline op words beside input first second third are a b = (a.0, b.0, a.1, b.1, b.2 ∙ ap (λ l. l ++ map (asked op) b.0) (a.2 ∙ ap (λ l. l ++ map (asked op) a.0) are))
-AreTexts-of ends.Zero op words beside input first second third are a b = (a.0, b.0, a.1, b.1, b.2 ∙ ap (λ l. l ++ map (asked op) b.0) (a.2 ∙ ap (λ l. l ++ map (asked op) a.0) are))
-AreTexts-of ends.Settings op words beside input first second third are a b = tt
+-- one text more was gathered, with its number
+pub given_next : {X : Type 0} (give : ℕ → List ℕ → Given) (h : X → List ℕ) (xs : List X) (i number : ℕ) (x : X) (old : List Given) (ts more : List Text) (t : Text) → i < length xs → number ≡ i + 1 → more ≡ ts ++ t ∷ [] → given_of t ≡ give number (h (get_or xs i x)) → map given_of ts ≡ old ++ numbered give 1 (map h (take i xs)) → map given_of more ≡ old ++ numbered give 1 (map h (take (i + 1) xs))
+given_next give h xs i number x old ts more t below is grown same so_far =
+    let y = get_or xs i x in
+    let front = map h (take i xs) in
+    let many : length front ≡ i = length-map (take i xs) h ∙ length-take-le i xs (omega (arith, below)) in
+    let place : number ≡ 1 + length front = omega (arith, is, many) in
+    let step : map h (take (i + 1) xs) ≡ front ++ h y ∷ [] = ap (map h) (take_more xs i x below) ∙ map-append h (take i xs) (y ∷ []) in
+    let last : numbered give 1 (map h (take (i + 1) xs)) ≡ numbered give 1 front ++ give number (h y) ∷ [] =
+    ap (numbered give 1) step ∙ (numbered-last give 1 front (h y) ∙ ap (λ (n : ℕ). numbered give 1 front ++ give n (h y) ∷ []) (sym place)) in
+    ap (map given_of) grown ∙ (map-append given_of ts (t ∷ []) ∙ (ap (λ l. l ++ given_of t ∷ []) so_far ∙ (append_assoc old (numbered give 1 front) (given_of t ∷ []) ∙ (ap (λ g. old ++ (numbered give 1 front ++ g ∷ [])) same ∙ ap (λ l. old ++ l) (sym last)))))
+
+-- as many texts as were seen
+pub numbered-length : (give : ℕ → List ℕ → Given) (k : ℕ) (xs : List (List ℕ)) → length (numbered give k xs) ≡ length xs
+numbered-length give k [] = refl
+numbered-length give k (x ∷ xs) = ap suc (numbered-length give (k + 1) xs)
+
+-- the records of an input, each a text
+pub AddsTexts-of : (e : Ends) (op : Operation) (name input : List ℕ) (old new : List Given) (records : List (List ℕ)) → AreRecords (end_byte e) records input → new ≡ old ++ numbered (record_at name op) 1 records → AddsTexts e op name input old new
+AddsTexts-of ends.Newline op name input old new records cut put = (records, cut, put)
+AddsTexts-of ends.Zero op name input old new records cut put = (records, cut, put)
+AddsTexts-of ends.Settings op name input old new records cut put = tt

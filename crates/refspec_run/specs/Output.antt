@@ -1,8 +1,7 @@
--- What a call writes and its exit status: its results, and of a plan what its messages say of conflicts. Of `check` and
--- `explain` only the exit status is said here.
+-- What a call writes and its exit status: its results, and of its messages what they say of refused texts and of conflicts. Of
+-- the results of `check` and `explain` nothing is said here.
 use Rattle.std.specs.Prelude.{◌≡◌, ℕ, Bool, true, false, List, [], Option, map, MatchBool, ⊤}
 use Rattle.std.specs.Io.KnownBytes.{Appends}
-use Rattle.refspec_text.specs.declared.parsing.Operation.{Operation}
 use Rattle.gix_refspec.specs.Specs.Reading.{Reading}
 use Rattle.refspec_run.specs.declared.call.Call.{Call}
 use Rattle.refspec_run.specs.declared.call.Command.{Command}
@@ -11,36 +10,38 @@ use Rattle.refspec_run.specs.declared.call.Form.{Form}
 use Rattle.refspec_run.specs.declared.checked.Checked.{Checked}
 use Rattle.refspec_run.specs.Canon.{AddsCanonical, AreCanonical}
 use Rattle.refspec_run.specs.Input.{ReadsToEnd, end_byte}
+use Rattle.refspec_run.specs.Messages.{AreRefusals, TellsRefusals}
 use Rattle.refspec_run.specs.Plan.{AddsPlan}
 use Rattle.refspec_run.specs.Prefixes.{AddsPrefixes}
 use Rattle.refspec_run.specs.Read.{AddsIfGood, AddsIfRead, AreGood, HasBad, TellsRefused}
 use Rattle.refspec_run.specs.Shown.{AddsNames}
-use Rattle.refspec_run.specs.Texts.{AreTexts, spec_input}
+use Rattle.refspec_run.specs.Texts.{AreTexts, Given, said}
 use Rattle.refspec_run.specs.Track.{AddsTracked}
 
 -- the canonical texts of the texts, each shown as the call says
-abbrev pub ShowsCanon : Call → List (Operation × List ℕ) → List ℕ → Type 0
-ShowsCanon call texts output = (names : List (List ℕ)) × AreCanonical texts names × AddsNames call.form [] names [] output
+abbrev pub ShowsCanon : Call → List Given → List ℕ → Type 0
+ShowsCanon call texts output = (names : List (List ℕ)) × AreCanonical (map said texts) names × AddsNames call.form [] names [] output
 
 -- the results grew by what a command tells of specs that are read so, and whether something is refused
 abbrev pub AddsFound : Command → Call → List ℕ → Form → List ℕ → Bool → List Reading → List ℕ → List ℕ → Type 0
 AddsFound command.Plan call input form messages refused g old new = AddsPlan form (end_byte call.ends) input messages refused g old new
-AddsFound command.Track call input form messages refused g old new = AddsTracked form (map (λ w. w.now) call.refs.items) g old new
+AddsFound command.Track call input form messages refused g old new = AddsTracked form (map (λ w. w.now) call.refs.items) refused g old new
 AddsFound command.Prefixes call input form messages refused g old new = AddsPrefixes call.patterns form g old new × (refused ≡ false)
 AddsFound _ call input form messages refused g old new = ⊤
 
--- what a command shows of the texts and its input
-abbrev pub Shows : Command → Call → List ℕ → List (Operation × List ℕ) → List ℕ → Bool → List ℕ → Type 0
-Shows command.Canon call input texts messages refused output = ShowsCanon call texts output × TellsRefused refused texts
-Shows command.Check call input texts messages refused output = TellsRefused refused texts
-Shows command.Explain call input texts messages refused output = TellsRefused refused texts
-Shows found call input texts messages refused output = AddsIfRead (AddsFound found call input call.form messages refused) call.form refused texts [] output
+-- what a call makes of its texts and its input; where a text is refused, the messages are the refusals
+abbrev pub Shows : Command → Call → List ℕ → List Given → List ℕ → Bool → List ℕ → Type 0
+Shows command.Canon call input texts messages refused output =
+    ShowsCanon call texts output × TellsRefused refused (map said texts) × AreRefusals call.form texts messages
+Shows command.Check call input texts messages refused output = TellsRefused refused (map said texts) × AreRefusals call.form texts messages
+Shows command.Explain call input texts messages refused output = TellsRefused refused (map said texts) × AreRefusals call.form texts messages
+Shows found call input texts messages refused output =
+    AddsIfRead (AddsFound found call input call.form messages refused) (AreRefusals call.form texts messages) call.form refused (map said texts) [] output
 
 -- the messages and the output of a call for the file beside its input and its input
 abbrev pub IsOutput : Call → List ℕ → List ℕ → List ℕ → Bool → List ℕ → Type 0
 IsOutput call beside input messages refused output =
-    (texts : List (Operation × List ℕ)) × AreTexts call.ends call.operation (map (λ w. w.now) call.specs.items) beside (spec_input call.command input) texts
-    × Shows call.command call input texts messages refused output
+    (texts : List Given) × AreTexts call beside input texts × Shows call.command call input texts messages refused output
 
 -- the exit status: 1 where something is refused, conflicting, left out or not found
 abbrev pub status_of : Bool → ℕ
@@ -63,9 +64,13 @@ pub record Answers (call : Call) (beside : List ℕ) (reader_old reader_new writ
   pub told : Appends errors_old errors_new messages
   pub ended : status ≡ status_of refused
 
--- what a command told of what was checked and of its input
-abbrev pub Tells : Command → Call → List ℕ → Form → List ℕ → Bool → List Checked → List ℕ → List ℕ → Type 0
-Tells command.Canon call input form messages refused all old new = AddsCanonical form all old new × MatchBool refused (HasBad all) (AreGood all)
-Tells command.Check call input form messages refused all old new = MatchBool refused (HasBad all) (AreGood all)
-Tells command.Explain call input form messages refused all old new = MatchBool refused (HasBad all) (AreGood all)
-Tells found call input form messages refused all old new = AddsIfGood (AddsFound found call input form messages refused) form refused all old new
+-- what a command told of what was checked and of its input, after these messages
+abbrev pub Tells : Command → Call → List ℕ → Form → List ℕ → List ℕ → Bool → List Checked → List ℕ → List ℕ → Type 0
+Tells command.Canon call input form before messages refused all old new =
+    AddsCanonical form all old new × MatchBool refused (HasBad all) (AreGood all) × TellsRefusals form all before messages
+Tells command.Check call input form before messages refused all old new =
+    MatchBool refused (HasBad all) (AreGood all) × TellsRefusals form all before messages
+Tells command.Explain call input form before messages refused all old new =
+    MatchBool refused (HasBad all) (AreGood all) × TellsRefusals form all before messages
+Tells found call input form before messages refused all old new =
+    AddsIfGood (AddsFound found call input form messages refused) (TellsRefusals form all before messages) form refused all old new

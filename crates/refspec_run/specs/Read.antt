@@ -15,8 +15,8 @@ use Rattle.refspec_run.specs.Shown.{KeepsResults}
 
 -- a text was read as a spec for its operation, or the first reason against it was found
 abbrev pub IsChecked : Text → Checked → Type 0
-IsChecked t (checked.Good text spec) = Reads t.operation t.bytes.now (reading_of spec)
-IsChecked t (checked.Bad text error) = ShowsRefusal (IsRefused t.operation t.bytes.now) error
+IsChecked t (checked.Good text spec) = (text ≡ t) × Reads t.operation t.bytes.now (reading_of spec)
+IsChecked t (checked.Bad text error) = (text ≡ t) × ShowsRefusal (IsRefused t.operation t.bytes.now) error
 
 -- what was checked is a spec, read as this
 abbrev pub IsSpec : Checked → Reading → Type 0
@@ -48,12 +48,13 @@ HasRefused (t ∷ texts) = ((e : Refusal) × IsRefused t.0 t.1 e) ⊎ HasRefused
 abbrev pub TellsRefused : Bool → List (Operation × List ℕ) → Type 0
 TellsRefused refused texts = MatchBool refused (HasRefused texts) ((g : List Reading) × AreRead texts g)
 
--- the results grew by what is told of specs that are read so; where some text is refused, they stayed as they were
-abbrev pub AddsIfRead : (List Reading → List ℕ → List ℕ → Type 0) → Form → Bool → List (Operation × List ℕ) → List ℕ → List ℕ → Type 0
-AddsIfRead Adds form refused texts old new =
-    ((g : List Reading) × AreRead texts g × Adds g old new) ⊎ (HasRefused texts × KeepsResults form old new × (refused ≡ true))
+-- the results grew by what is told of specs that are read so; where some text is refused, they stayed as they were, and of the
+-- refusals is told
+abbrev pub AddsIfRead : (List Reading → List ℕ → List ℕ → Type 0) → Type 0 → Form → Bool → List (Operation × List ℕ) → List ℕ → List ℕ → Type 0
+AddsIfRead Adds Refuses form refused texts old new =
+    ((g : List Reading) × AreRead texts g × Adds g old new) ⊎ (HasRefused texts × KeepsResults form old new × (refused ≡ true) × Refuses)
 
 -- the same of texts that were checked
-abbrev pub AddsIfGood : (List Reading → List ℕ → List ℕ → Type 0) → Form → Bool → List Checked → List ℕ → List ℕ → Type 0
-AddsIfGood Adds form refused all old new =
-    ((g : List Reading) × AllZip IsSpec all g × Adds g old new) ⊎ (HasBad all × KeepsResults form old new × (refused ≡ true))
+abbrev pub AddsIfGood : (List Reading → List ℕ → List ℕ → Type 0) → Type 0 → Form → Bool → List Checked → List ℕ → List ℕ → Type 0
+AddsIfGood Adds Refuses form refused all old new =
+    ((g : List Reading) × AllZip IsSpec all g × Adds g old new) ⊎ (HasBad all × KeepsResults form old new × (refused ≡ true) × Refuses)

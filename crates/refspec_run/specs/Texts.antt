@@ -1,46 +1,77 @@
--- The texts that a call is about. This project's own rule: those among its words, those of the file beside the input,
--- and, but for a plan, those of the input, a text a record. Of settings nothing is said here.
-use Rattle.std.specs.Prelude.{◌≡◌, ℕ, List, [], ◌++◌, map, ⊤}
+-- The texts that a call is about, and where each is found. This project's own rule: those among its words, those of the
+-- file beside the input, and, but for a plan, those of the input, a text a record. Words and records are counted from 1. Of
+-- settings nothing is said here.
+use Rattle.std.specs.Prelude.{◌≡◌, ℕ, ◌+◌, List, [], ◌∷◌, ◌++◌, map, ⊤}
 use Rattle.refspec_text.specs.declared.parsing.Operation.{Operation}
+use Rattle.refspec_run.specs.declared.call.Call.{Call}
 use Rattle.refspec_run.specs.declared.call.Command.{Command}
 use Rattle.refspec_run.specs.declared.call.Command.TheVariants as command
 use Rattle.refspec_run.specs.declared.call.Ends.{Ends}
 use Rattle.refspec_run.specs.declared.call.Ends.TheVariants as ends
+use Rattle.refspec_run.specs.declared.texts.Place.{Place}
+use Rattle.refspec_run.specs.declared.texts.Place.TheVariants as place
 use Rattle.refspec_run.specs.declared.texts.Text.{Text}
 use Rattle.refspec_run.specs.Input.{AreRecords}
 
+-- where a text is found: the word of the call with a number, the record of an input with a number, or a setting of a file
+pub data Spot : Type 0 where
+  at_word : ℕ → Spot
+  at_record : (input : List ℕ) → ℕ → Spot
+  at_setting : (file key : List ℕ) → Spot
+
+-- the place, with the bytes of its names
+abbrev pub spot_of : Place → Spot
+spot_of (place.Word number) = at_word number
+spot_of (place.Record input number) = at_record input.now number
+spot_of (place.Setting origin key) = at_setting origin.now key.now
+
+-- a text: where it is found, the operation that it is read for, and its bytes
+pub record Given : Type 0 where
+  pub spot : Spot
+  pub operation : Operation
+  pub bytes : List ℕ
+
+abbrev pub given_of : Text → Given
+given_of t = record { spot = spot_of t.place; operation = t.operation; bytes = t.bytes.now }
+
 -- the operation that a text is read for, and its bytes
-abbrev pub said : Text → Operation × List ℕ
-said t = (t.operation, t.bytes.now)
+abbrev pub said : Given → Operation × List ℕ
+said t = (t.operation, t.bytes)
 
--- bytes, read for the operation
-abbrev pub asked : Operation → List ℕ → Operation × List ℕ
-asked op bytes = (op, bytes)
+-- the word with a number, and the record of an input with a number, each a text
+abbrev pub word_at : Operation → ℕ → List ℕ → Given
+word_at op number bytes = record { spot = at_word number; operation = op; bytes = bytes }
 
--- the texts grew by the records of an input
-abbrev pub AddsRecords : ℕ → Operation → List ℕ → List Text → List Text → Type 0
-AddsRecords end op input old new =
-    (records : List (List ℕ)) × AreRecords end records input × (map said new ≡ map said old ++ map (asked op) records)
+abbrev pub record_at : List ℕ → Operation → ℕ → List ℕ → Given
+record_at input op number bytes = record { spot = at_record input number; operation = op; bytes = bytes }
+
+-- what bytes give, one after another, each with its number, the first of which is k
+abbrev pub numbered : (ℕ → List ℕ → Given) → ℕ → List (List ℕ) → List Given
+numbered give k [] = []
+numbered give k (bytes ∷ all) = give k bytes ∷ numbered give (k + 1) all
+
+-- the texts grew by the records of an input with the name
+abbrev pub AddsRecords : ℕ → Operation → List ℕ → List ℕ → List Given → List Given → Type 0
+AddsRecords end op name input old new =
+    (records : List (List ℕ)) × AreRecords end records input × (new ≡ old ++ numbered (record_at name op) 1 records)
 
 -- the texts grew by those of an input whose records end so
-abbrev pub AddsTexts : Ends → Operation → List ℕ → List Text → List Text → Type 0
-AddsTexts ends.Newline op input old new = AddsRecords 10 op input old new
-AddsTexts ends.Zero op input old new = AddsRecords 0 op input old new
-AddsTexts ends.Settings op input old new = ⊤
+abbrev pub AddsTexts : Ends → Operation → List ℕ → List ℕ → List Given → List Given → Type 0
+AddsTexts ends.Newline op name input old new = AddsRecords 10 op name input old new
+AddsTexts ends.Zero op name input old new = AddsRecords 0 op name input old new
+AddsTexts ends.Settings op name input old new = ⊤
 
 -- what a command reads of its input as specs
 abbrev pub spec_input : Command → List ℕ → List ℕ
 spec_input command.Plan input = []
 spec_input _ input = input
 
--- the texts are the words, then the records of the one input and of the other
-abbrev pub AreWordsAndRecords : ℕ → Operation → List (List ℕ) → List ℕ → List ℕ → List (Operation × List ℕ) → Type 0
-AreWordsAndRecords end op words beside input texts =
-    (front : List (List ℕ)) × (back : List (List ℕ)) × AreRecords end front beside × AreRecords end back input
-    × (texts ≡ (map (asked op) words ++ map (asked op) front) ++ map (asked op) back)
+-- the words of a call, each a text
+abbrev pub words_of : Call → List Given
+words_of call = numbered (word_at call.operation) 1 (map (λ w. w.now) call.specs.items)
 
--- the texts of a call
-abbrev pub AreTexts : Ends → Operation → List (List ℕ) → List ℕ → List ℕ → List (Operation × List ℕ) → Type 0
-AreTexts ends.Newline op words beside input texts = AreWordsAndRecords 10 op words beside input texts
-AreTexts ends.Zero op words beside input texts = AreWordsAndRecords 0 op words beside input texts
-AreTexts ends.Settings op words beside input texts = ⊤
+-- the texts of a call: its words, the records of the file beside the input, and what it reads of the input as specs
+abbrev pub AreTexts : Call → List ℕ → List ℕ → List Given → Type 0
+AreTexts call beside input texts =
+    (front : List Given) × AddsTexts call.ends call.operation call.beside.now beside (words_of call) front
+    × AddsTexts call.ends call.operation call.input.now (spec_input call.command input) front texts

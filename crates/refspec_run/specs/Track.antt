@@ -1,5 +1,9 @@
 -- What `track` writes, in the words of the library.
-use Rattle.std.specs.Prelude.{◌≡◌, ◌⊎◌, ℕ, List, [], ◌∷◌, map, replicate, None}
+use Rattle.std.specs.Prelude.{◌≡◌, ◌≢◌, ◌↔◌, ◌⊎◌, ℕ, Bool, List, [], ◌∷◌, map, replicate, None, Some, IsTrue, MatchBool, ⊤}
+use Rattle.std.specs.Borrow.{Bor}
+use Rattle.std.specs.BTreeSet.{BTreeSet, contains_by}
+use Rattle.std.specs.Cmp.Lexicographic.{slice_cmp}
+use Rattle.std.specs.Ordering.{nat_cmp}
 use Rattle.gix_refspec.specs.Laws.Items.{HasIdDestination}
 use Rattle.gix_refspec.specs.Matching.Hits.{AreKeptBackward}
 use Rattle.gix_refspec.specs.Matching.Mappings.{Mapped}
@@ -20,8 +24,28 @@ AreByNames (r ∷ g) kept =
     (HasIdDestination r × AreByNames g kept)
     ⊎ ((¬ (HasIdDestination r)) × ((rest : List Reading) × AreByNames g rest × (kept ≡ r ∷ rest)))
 
--- the results grew by the mappings from right to left of refs with these names by these specs, the destination first
-pub record AddsTracked (form : Form) (names : List (List ℕ)) (g : List Reading) (old new : List ℕ) : Type 0 where
+-- some mapping writes the ref with the name
+abbrev pub IsWritten : List ℕ → List Mapped → Type 0
+IsWritten name [] = ⊥
+IsWritten name (m ∷ found) = (m.destination ≡ Some name) ⊎ IsWritten name found
+
+-- the set has exactly the names of the refs that mappings write
+abbrev pub AreWritten : BTreeSet (Bor (List ℕ)) → List Mapped → Type 0
+AreWritten set found = (name : List ℕ) → IsTrue (contains_by (λ n. slice_cmp nat_cmp name n.now) set) ↔ IsWritten name found
+
+-- each of the names is that of a ref that some mapping writes
+abbrev pub IsEachWritten : List (List ℕ) → List Mapped → Type 0
+IsEachWritten [] found = ⊤
+IsEachWritten (name ∷ names) found = IsWritten name found × IsEachWritten names found
+
+-- some name isn't
+abbrev pub HasUnwritten : List (List ℕ) → List Mapped → Type 0
+HasUnwritten [] found = ⊥
+HasUnwritten (name ∷ names) found = (¬ (IsWritten name found)) ⊎ HasUnwritten names found
+
+-- the results grew by the mappings from right to left of refs with these names by these specs, the destination first;
+-- something is refused where a spec can't look a ref up by its name, or no spec writes a ref
+pub record AddsTracked (form : Form) (names : List (List ℕ)) (refused : Bool) (g : List Reading) (old new : List ℕ) : Type 0 where
   pub by_names : List Reading
   pub found : List Mapped
   pub texts : List (List ℕ)
@@ -29,3 +53,4 @@ pub record AddsTracked (form : Form) (names : List (List ℕ)) (g : List Reading
   pub kept : AreKeptBackward by_names (map named names) found
   pub of_specs : AreSpecTexts by_names texts
   pub told : AddsMappings form columns.DestinationFirst texts found old new
+  pub status : MatchBool refused ((by_names ≢ g) ⊎ HasUnwritten names found) ((by_names ≡ g) × IsEachWritten names found)

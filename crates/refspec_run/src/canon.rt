@@ -4,6 +4,7 @@ ghost use Rattle.std.specs.Prelude.{◌≡◌, ◌∷◌, [], List, OnOk, Some, 
 ghost use Rattle.gix_refspec.specs.Specs.Meaning.{printed};
 ghost use Rattle.gix_refspec.specs.Views.Spec.{reading_of};
 ghost use Rattle.refspec_run.specs.Canon.{AddsCanonical};
+ghost use Rattle.refspec_run.specs.Messages.{TellsRefusals};
 ghost use Rattle.refspec_run.specs.Shown.{AddsNames};
 
 use crate::call::Form;
@@ -17,8 +18,10 @@ use std::alloc::{AllocError, Global};
 
 /// Tells the canonical text of each text that is a spec, and refuses the others.
 pub fn tell_canon(alloc: Global, all: &[Checked<'_>], page: &mut Page) -> Result<(), AllocError>
-    ensures { OnOk result (AddsCanonical page.old.form all.now
+    ensures told { OnOk result (AddsCanonical page.old.form all.now
         page.old.results.items page.new.results.items) }
+    ensures refused { OnOk result (TellsRefusals page.old.form all.now
+        page.old.messages.items page.new.messages.items) }
 {
     for checked in all {
         tell_checked(alloc, checked, page)?;
@@ -31,6 +34,8 @@ fn tell_checked(alloc: Global, checked: &Checked<'_>, page: &mut Page) -> Result
     ensures form { OnOk result (page.new.form ≡ page.old.form) }
     ensures told { OnOk result (AddsCanonical page.old.form (checked.now ∷ [])
         page.old.results.items page.new.results.items) }
+    ensures refused { OnOk result (TellsRefusals page.old.form (checked.now ∷ [])
+        page.old.messages.items page.new.messages.items) }
 {
     match checked {
         Checked::Bad { text, error } => page.tell_refusal(alloc, text, error),
@@ -46,6 +51,7 @@ fn tell_canonical(
     page: &mut Page,
 ) -> Result<(), AllocError>
     ensures form { OnOk result (page.new.form ≡ page.old.form) }
+    ensures untold { OnOk result (page.new.messages ≡ page.old.messages) }
     ensures told { OnOk result ((name : List ℕ) × (printed (reading_of spec.now) ≡ Some name)
         × AddsNames page.old.form [] (name ∷ []) page.old.results.items page.new.results.items) }
 {

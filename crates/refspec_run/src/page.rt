@@ -27,6 +27,7 @@ impl Page {
     pub fn new(alloc: Global, form: Form) -> Page
         ensures form { result.form ≡ form }
         ensures empty { result.results.items ≡ [] }
+        ensures untold { result.messages.items ≡ [] }
     {
         Page {
             form,
@@ -57,6 +58,7 @@ impl Page {
     /// it is no row by itself.
     pub fn put_name(&mut self, before: &[u8], name: &[u8]) -> Result<(), AllocError>
         ensures form { OnOk result (self.new.form ≡ self.old.form) }
+        ensures untold { OnOk result (self.new.messages ≡ self.old.messages) }
         ensures told { OnOk result (AddsNames self.old.form before.now (name.now ∷ [])
             self.old.results.items self.new.results.items) }
     {

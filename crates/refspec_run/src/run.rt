@@ -96,8 +96,8 @@ fn tell_page<D: Discard>(
     done: &mut D,
 ) -> Result<bool, AllocError>
     ensures { IfOk result (λ refused. Tells task.now.call.now.command task.now.call.now
-        task.now.input.now page.old.form page.new.messages.items refused all.now
-        page.old.results.items page.new.results.items) }
+        task.now.input.now page.old.form page.old.messages.items page.new.messages.items refused
+        all.now page.old.results.items page.new.results.items) }
 {
     let call = task.call;
     match call.command {

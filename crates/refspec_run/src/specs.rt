@@ -1,6 +1,7 @@
 //! What is shown of specs alone: whether they are good, and what they mean.
 
-ghost use Rattle.std.specs.Prelude.{◌≡◌, OnOk};
+ghost use Rattle.std.specs.Prelude.{◌≡◌, ◌∷◌, [], OnOk};
+ghost use Rattle.refspec_run.specs.Messages.{TellsRefusals};
 ghost use Rattle.refspec_run.specs.Shown.{KeepsPage, KeepsResults};
 
 use crate::call::{Command, Form};
@@ -24,25 +25,48 @@ pub fn tell_specs(
     verbose: bool,
     all: &[Checked<'_>],
     page: &mut Page,
-) -> Result<(), AllocError> {
+) -> Result<(), AllocError>
+    ensures { OnOk result (TellsRefusals page.old.form all.now
+        page.old.messages.items page.new.messages.items) }
+{
     let mut seen = Seen::new(alloc);
     for checked in all {
         match checked {
             Checked::Bad { text, error } => page.tell_refusal(alloc, text, error)?,
-            Checked::Good { text, spec } => match command {
-                Command::Explain => tell_meaning(alloc, text, spec, page)?,
-                _ if verbose => tell_good(alloc, text, spec, &mut seen, page)?,
-                _ => {}
-            },
+            Checked::Good { text, spec } => {
+                tell_spec(alloc, command, verbose, text, spec, &mut seen, page)?
+            }
         }
     }
     Ok(())
 }
 
+// Tells of a spec what the command asks for.
+fn tell_spec<'a>(
+    alloc: Global,
+    command: Command,
+    verbose: bool,
+    text: &Text<'a>,
+    spec: &RefSpecRef<'_>,
+    seen: &mut Seen<'a>,
+    page: &mut Page,
+) -> Result<(), AllocError>
+    ensures form { OnOk result (page.new.form ≡ page.old.form) }
+    ensures untold { OnOk result (page.new.messages ≡ page.old.messages) }
+{
+    match command {
+        Command::Explain => tell_meaning(alloc, text, spec, page),
+        _ if verbose => tell_good(alloc, text, spec, seen, page),
+        _ => Ok(()),
+    }
+}
+
 /// Refuses each text that is no spec, and tells nothing of the others.
 pub fn tell_refusals(alloc: Global, all: &[Checked<'_>], page: &mut Page) -> Result<(), AllocError>
-    ensures { OnOk result (KeepsResults page.old.form
+    ensures kept { OnOk result (KeepsResults page.old.form
         page.old.results.items page.new.results.items) }
+    ensures told { OnOk result (TellsRefusals page.old.form all.now
+        page.old.messages.items page.new.messages.items) }
 {
     for checked in all {
         refuse_bad(alloc, checked, page)?;
@@ -52,7 +76,9 @@ pub fn tell_refusals(alloc: Global, all: &[Checked<'_>], page: &mut Page) -> Res
 
 // Refuses a text that is no spec.
 fn refuse_bad(alloc: Global, checked: &Checked<'_>, page: &mut Page) -> Result<(), AllocError>
-    ensures { OnOk result (KeepsPage page.old page.new) }
+    ensures kept { OnOk result (KeepsPage page.old page.new) }
+    ensures told { OnOk result (TellsRefusals page.old.form (checked.now ∷ [])
+        page.old.messages.items page.new.messages.items) }
 {
     match checked {
         Checked::Bad { text, error } => page.tell_refusal(alloc, text, error),
@@ -66,7 +92,10 @@ fn tell_meaning(
     text: &Text<'_>,
     spec: &RefSpecRef<'_>,
     page: &mut Page,
-) -> Result<(), AllocError> {
+) -> Result<(), AllocError>
+    ensures form { OnOk result (page.new.form ≡ page.old.form) }
+    ensures untold { OnOk result (page.new.messages ≡ page.old.messages) }
+{
     match page.form {
         Form::Lines => {
             put_sentence(alloc, &mut page.results, spec, page.form)?;
@@ -102,7 +131,10 @@ fn tell_good<'a>(
     spec: &RefSpecRef<'_>,
     seen: &mut Seen<'a>,
     page: &mut Page,
-) -> Result<(), AllocError> {
+) -> Result<(), AllocError>
+    ensures form { OnOk result (page.new.form ≡ page.old.form) }
+    ensures untold { OnOk result (page.new.messages ≡ page.old.messages) }
+{
     let canonical = spec.to_bstring(alloc)?;
     let earlier = seen.earlier(alloc, text, &canonical)?;
     if page.form == Form::Json {
@@ -121,35 +153,34 @@ fn tell_good<'a>(
             &mut page.results,
         );
     }
-    put_good(alloc, text, &canonical, &earlier, page)
+    put_good(text, &canonical, &earlier, page.form, &mut page.results)
 }
 
 // Puts the line, or the fields, of a good text at the end.
 fn put_good(
-    alloc: Global,
     text: &Text<'_>,
     canonical: &BString,
     earlier: &Option<Place<'_>>,
-    page: &mut Page,
+    form: Form,
+    out: &mut Vec<u8>,
 ) -> Result<(), AllocError> {
-    let out = &mut page.results;
-    if page.form == Form::Zeros {
-        text.place.put(out, page.form)?;
+    if form == Form::Zeros {
+        text.place.put(out, form)?;
         out.push(0)?;
         out.extend_from_slice(canonical.as_bytes())?;
         out.push(0)?;
         if let Some(place) = earlier {
-            place.put(out, page.form)?;
+            place.put(out, form)?;
         }
         out.push(0)?;
         return Ok(());
     }
-    text.place.put(out, page.form)?;
+    text.place.put(out, form)?;
     out.extend_from_slice(b": ")?;
     put_quoted(out, canonical.as_bytes())?;
     if let Some(place) = earlier {
         out.extend_from_slice(b" (says the same as ")?;
-        place.put(out, page.form)?;
+        place.put(out, form)?;
         out.push(b')')?;
     }
     out.push(b'\n')?;

@@ -1,7 +1,7 @@
 //! The texts of specs, and where they are.
 
 ghost use Rattle.std.specs.Prelude.{◌≡◌, ◌++◌, decimal, map, IfOk, OnOk};
-ghost use Rattle.refspec_run.specs.Texts.{AddsTexts, AreTexts, asked, said, spec_input};
+ghost use Rattle.refspec_run.specs.Texts.{AddsTexts, AreTexts, given_of, numbered, record_at, spec_input};
 
 use crate::call::{Call, Command, Ends, Form};
 use crate::input::{end_of, records};
@@ -72,9 +72,8 @@ pub fn texts_of<'a>(
     beside: &'a [u8],
     input: &'a [u8],
 ) -> Result<Vec<Text<'a>>, AllocError>
-    ensures { IfOk result (λ texts. AreTexts call.now.ends call.now.operation
-        (map (λ w. w.now) call.now.specs.items) beside.now
-        (spec_input call.now.command input.now) (map said texts.items)) }
+    ensures { IfOk result (λ texts. AreTexts call.now beside.now input.now
+        (map given_of texts.items)) }
 {
     let mut texts = Vec::new(alloc);
     for word in &call.specs {
@@ -113,8 +112,8 @@ fn add_texts<'a>(
     input: &'a [u8],
     texts: &mut Vec<Text<'a>>,
 ) -> Result<(), AllocError>
-    ensures { OnOk result (AddsTexts call.now.ends call.now.operation input.now
-        texts.old.items texts.new.items) }
+    ensures { OnOk result (AddsTexts call.now.ends call.now.operation name.now input.now
+        (map given_of texts.old.items) (map given_of texts.new.items)) }
 {
     let records = records(alloc, input, end_of(call.ends))?;
     match call.ends {
@@ -132,9 +131,10 @@ fn add_records<'a>(
     records: &[&'a [u8]],
     texts: &mut Vec<Text<'a>>,
 ) -> Result<(), AllocError>
-    ensures { OnOk result (map said texts.new.items ≡ map said texts.old.items
-        ++ map (asked operation) (map (λ r. r.now) records.now)) }
+    ensures { OnOk result (map given_of texts.new.items ≡ map given_of texts.old.items
+        ++ numbered (record_at name.now operation) 1 (map (λ r. r.now) records.now)) }
 {
+    texts.reserve(records.len())?;
     let mut number: usize = 0;
     for record in records {
         number = number.saturating_add(1);

@@ -8,7 +8,7 @@ ghost use Rattle.refspec_text.specs.Matching.Side.{IsId};
 ghost use Rattle.gix_refspec.specs.Texts.ObjectId.{id_bytes};
 ghost use Rattle.gix_refspec.specs.Views.Spec.{reading_of};
 ghost use Rattle.refspec_run.specs.Shown.{KeepsPage, KeepsResults};
-ghost use Rattle.refspec_run.specs.Track.{AddsTracked, AreByNames, named};
+ghost use Rattle.refspec_run.specs.Track.{AddsTracked, AreByNames, AreWritten, HasUnwritten, IsEachWritten, named};
 
 use crate::call::{Call, Form};
 use crate::json;
@@ -30,12 +30,13 @@ pub fn tell_tracking(
     specs: Vec<RefSpecRef<'_>>,
     page: &mut Page,
 ) -> Result<bool, AllocError>
-    ensures { IfOk result (λ _. AddsTracked page.old.form (map (λ w. w.now) call.now.refs.items)
-        (map reading_of specs.entry.items) page.old.results.items page.new.results.items) }
+    ensures { IfOk result (λ refused. AddsTracked page.old.form
+        (map (λ w. w.now) call.now.refs.items) refused (map reading_of specs.entry.items)
+        page.old.results.items page.new.results.items) }
 {
     let count = specs.len();
     let specs = by_names(alloc, specs.as_slice(), page)?;
-    let has_id = specs.len() < count;
+    let looked_up = specs.len();
     let none = ObjectId::null(Kind::shortest());
     let items = items_named(alloc, call.refs.as_slice(), &none)?;
     let texts = canonical_texts(alloc, specs.as_slice())?;
@@ -49,7 +50,10 @@ pub fn tell_tracking(
         page,
     )?;
     let has_other = tell_others(alloc, call.refs.as_slice(), mappings, page)?;
-    Ok(has_id || has_other)
+    if looked_up < count {
+        return Ok(true);
+    }
+    Ok(has_other)
 }
 
 // The specs that refs can be looked up by. Of the others is told.
@@ -147,29 +151,37 @@ fn tell_others(
     mappings: &[Mapping<'_, '_>],
     page: &mut Page,
 ) -> Result<bool, AllocError>
-    ensures { OnOk result (KeepsResults page.old.form
+    ensures kept { OnOk result (KeepsResults page.old.form
         page.old.results.items page.new.results.items) }
+    ensures some { IfOk result (λ some. MatchBool some
+        (HasUnwritten (map (λ n. n.now) names.now) (map mapped_of mappings.now))
+        (IsEachWritten (map (λ n. n.now) names.now) (map mapped_of mappings.now))) }
 {
-    let found = found_of(alloc, mappings)?;
+    let written = written_by(alloc, mappings)?;
     let mut has_other = false;
     for name in names {
-        let name = name.as_bytes();
-        let is_found = found.contains(name);
-        tell_unless(alloc, is_found, name, page)?;
-        has_other |= !is_found;
+        if !written.contains(name.as_bytes()) {
+            tell_untracked(alloc, name.as_bytes(), page)?;
+            has_other = true;
+        }
     }
     Ok(has_other)
 }
 
-// The names of the refs that the mappings have.
-fn found_of(alloc: Global, mappings: &[Mapping<'_, '_>]) -> Result<BTreeSet<Vec<u8>>, AllocError> {
-    let mut found = BTreeSet::new(alloc);
+// The names of the refs that the mappings write.
+fn written_by<'a>(
+    alloc: Global,
+    mappings: &'a [Mapping<'_, '_>],
+) -> Result<BTreeSet<&'a [u8]>, AllocError>
+    ensures { IfOk result (λ written. AreWritten written (map mapped_of mappings.now)) }
+{
+    let mut written = BTreeSet::new(alloc);
     for mapping in mappings {
         if let Some(name) = &mapping.rhs {
-            found.insert(Vec::from_slice(alloc, name.as_bstr().as_bytes())?)?;
+            written.insert(name.as_bstr().as_bytes())?;
         }
     }
-    Ok(found)
+    Ok(written)
 }
 
 /// What specs for a fetch map back of the items.
@@ -187,21 +199,6 @@ pub fn tracked<'spec, 'item>(
         Ok(outcome) => Ok(outcome),
         Err(_) => Err(AllocError),
     }
-}
-
-// Tells of a ref that no spec writes, unless it was found.
-fn tell_unless(
-    alloc: Global,
-    is_found: bool,
-    name: &[u8],
-    page: &mut Page,
-) -> Result<(), AllocError>
-    ensures { OnOk result (KeepsPage page.old page.new) }
-{
-    if is_found {
-        return Ok(());
-    }
-    tell_untracked(alloc, name, page)
 }
 
 // Tells of a ref that no spec writes.

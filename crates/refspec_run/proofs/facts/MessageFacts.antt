@@ -1,16 +1,21 @@
 -- How places and texts are told, on both sides of each rule.
-use Rattle.std.proofs.Common.{◌≡◌, ◌⊎◌, ◌<◌, ℕ, List, [], ◌∷◌, ◌++◌, Bor, inl, inr, codes, get_or, length, length-append, refl, ap, ap₂, ◌∙◌, arith}
+use Rattle.std.proofs.Common.{◌≡◌, ◌⊎◌, ◌<◌, ℕ, List, [], ◌∷◌, ◌++◌, Bor, inl, inr, codes, get_or, length, length-append, refl, sym, ap, ap₂, ◌∙◌, subst, arith}
 use Rattle.std.specs.Fmt.{digits}
 use Rattle.refspec_text.specs.declared.name.Error.TheVariants.{RepeatedDot}
 use Rattle.refspec_text.specs.declared.parsing.Error.{Error}
 use Rattle.refspec_text.specs.declared.parsing.Error.TheVariants as error
-use Rattle.refspec_text.specs.declared.parsing.Operation.TheVariants.{Fetch}
+use Rattle.refspec_text.specs.declared.parsing.Operation.TheVariants.{Fetch, Push}
 use Rattle.refspec_text.specs.Specs.Explained.{explained}
 use Rattle.refspec_text.proofs.facts.FitFacts.{other_byte}
 use Rattle.refspec_run.specs.declared.call.Form.TheVariants as form
+use Rattle.refspec_run.specs.declared.checked.Checked.TheVariants as checked
 use Rattle.refspec_run.specs.declared.texts.Place.TheVariants as place
 use Rattle.refspec_run.specs.declared.texts.Text.{Text}
-use Rattle.refspec_run.specs.Messages.{IsPlace, IsReasonLine, IsShownIn, PutsPlace, PutsReason, PutsRefusal, PutsShown, TellsRefusal}
+use Rattle.gix_refspec.specs.Specs.Refusal.{Empty}
+use Rattle.refspec_text.proofs.facts.GrammarFacts.{fetches_main}
+use Rattle.refspec_text.proofs.facts.UnreadFacts.{nothing_pushed}
+use Rattle.refspec_run.specs.Texts.{given_of, word_at}
+use Rattle.refspec_run.specs.Messages.{AreRefusals, AreToldOf, IsPlace, IsReasonLine, IsToldOf, IsShownIn, PutsPlace, PutsReason, PutsRefusal, PutsShown, TellsRefusal, TellsRefusals}
 
 abbrev text : List ℕ → Bor (List ℕ)
 text bytes = record { ref_ptr = (0, 0); now = bytes }
@@ -65,47 +70,47 @@ fault = error.ReferenceName RepeatedDot
 abbrev dots_line : List ℕ
 dots_line = codes "spec 2: a..b: A ref name must not have two dots in a row.\n"
 
-reason : IsReasonLine dots fault dots_line
+reason : IsReasonLine (given_of dots) fault dots_line
 unfolding digits
-reason = record { at = codes "spec 2"; text = codes "a..b"; is_place = refl; is_text = inl refl; is = refl }
+reason = record { at = codes "spec 2"; text = codes "a..b"; is_spot = refl; is_text = inl refl; is = refl }
 
 -- a line has the place, the text and the sentence on the fault
-pub reasons : IsReasonLine dots fault dots_line
-    × IsReasonLine (record dots { bytes = text (codes "a\t..") }) fault
+pub reasons : IsReasonLine (given_of dots) fault dots_line
+    × IsReasonLine (given_of (record dots { bytes = text (codes "a\t..") })) fault
         (codes "spec 2: \"a\\t..\": A ref name must not have two dots in a row.\n")
 unfolding digits
 reasons = (
   reason,
-  record { at = codes "spec 2"; text = codes "\"a\\t..\""; is_place = refl; is_text = inr refl; is = refl },
+  record { at = codes "spec 2"; text = codes "\"a\\t..\""; is_spot = refl; is_text = inr refl; is = refl },
 )
 
 -- and not another sentence, place or text
-pub no_reasons : ¬ (IsReasonLine dots fault (codes "spec 2: a..b: A ref name must not end with a dot.\n"))
-    × ¬ (IsReasonLine dots fault (codes "spec 1: a..b: A ref name must not have two dots in a row.\n"))
-    × ¬ (IsReasonLine dots fault (codes "spec 2: a..: A ref name must not have two dots in a row.\n"))
+pub no_reasons : ¬ (IsReasonLine (given_of dots) fault (codes "spec 2: a..b: A ref name must not end with a dot.\n"))
+    × ¬ (IsReasonLine (given_of dots) fault (codes "spec 1: a..b: A ref name must not have two dots in a row.\n"))
+    × ¬ (IsReasonLine (given_of dots) fault (codes "spec 2: a..: A ref name must not have two dots in a row.\n"))
 unfolding digits
 no_reasons = (other_sentence, other_place, other_text)
   where
-    begins : (line : List ℕ) → IsReasonLine dots fault line → (line ≡ dots_line)
+    begins : (line : List ℕ) → IsReasonLine (given_of dots) fault line → (line ≡ dots_line)
         ⊎ (line ≡ codes "spec 2: \"a..b\": A ref name must not have two dots in a row.\n")
     begins line is = elim is.is_text [
       | inl plain ↦ inl (is.is
           ∙ ap₂ (λ (at t : List ℕ). at ++ (codes ": " ++ (t ++ (codes ": " ++ (explained fault ++ (10 ∷ []))))))
-          is.is_place plain)
+          is.is_spot plain)
       | inr quoted ↦ inr (is.is
           ∙ ap₂ (λ (at t : List ℕ). at ++ (codes ": " ++ (t ++ (codes ": " ++ (explained fault ++ (10 ∷ []))))))
-          is.is_place quoted)
+          is.is_spot quoted)
     ]
 
-    other_sentence : ¬ (IsReasonLine dots fault (codes "spec 2: a..b: A ref name must not end with a dot.\n"))
+    other_sentence : ¬ (IsReasonLine (given_of dots) fault (codes "spec 2: a..b: A ref name must not end with a dot.\n"))
     other_sentence is = elim (begins _ is) [ inl same ↦ omega (arith, ap length same) | inr same ↦ omega (arith,
         ap length same) ]
 
-    other_place : ¬ (IsReasonLine dots fault (codes "spec 1: a..b: A ref name must not have two dots in a row.\n"))
+    other_place : ¬ (IsReasonLine (given_of dots) fault (codes "spec 1: a..b: A ref name must not have two dots in a row.\n"))
     other_place is = elim (begins _ is) [ inl same ↦ omega (arith, ap (λ (l : List ℕ). get_or l 5 0) same)
         | inr same ↦ omega (arith, ap (λ (l : List ℕ). get_or l 5 0) same) ]
 
-    other_text : ¬ (IsReasonLine dots fault (codes "spec 2: a..: A ref name must not have two dots in a row.\n"))
+    other_text : ¬ (IsReasonLine (given_of dots) fault (codes "spec 2: a..: A ref name must not have two dots in a row.\n"))
     other_text is = elim (begins _ is) [ inl same ↦ omega (arith, ap length same) | inr same ↦ omega (arith,
         ap length same) ]
 
@@ -130,6 +135,49 @@ not_refused = (
   λ tells. omega (arith, ap length tells.3, length-append tells.0 tells.1, long tells.0 tells.2),
 )
   where
-    long : (line : List ℕ) → IsReasonLine dots fault line → 0 < length line
+    long : (line : List ℕ) → IsReasonLine (given_of dots) fault line → 0 < length line
     long line is = omega (arith, ap length is.is,
         length-append is.at (codes ": " ++ (is.text ++ (codes ": " ++ (explained fault ++ (10 ∷ []))))))
+
+-- ---- the refusals of a run
+
+-- a text that was refused is told, and of JSON no message is
+pub told : TellsRefusals form.Lines (checked.Bad dots fault ∷ []) (codes "x\n") (codes "x\n" ++ dots_line)
+    × TellsRefusals form.Json (checked.Bad dots fault ∷ []) (codes "x\n") (codes "x\n")
+    × TellsRefusals form.Lines [] (codes "x\n") (codes "x\n")
+told = ((codes "x\n" ++ dots_line, (dots_line, [], reason, refl), refl), (codes "x\n", refl, refl), refl)
+
+-- and none is left out, and none told that wasn't refused
+pub not_told : ¬ (TellsRefusals form.Lines (checked.Bad dots fault ∷ []) [] [])
+    × ¬ (TellsRefusals form.Json (checked.Bad dots fault ∷ []) [] dots_line) × ¬ (TellsRefusals form.Lines [] [] dots_line)
+not_told = (
+  (λ tells. not_refused.2 (subst (TellsRefusal form.Lines dots fault []) (sym tells.2) tells.1)),
+  (λ tells. omega (arith, ap length (tells.2 ∙ tells.1))),
+  λ same. omega (arith, ap length same),
+)
+
+-- an empty text of a push, which is refused, and its line
+abbrev nothing_line : List ℕ
+nothing_line = codes "spec 1" ++ (codes ": " ++ (codes "\"\"" ++ (codes ": " ++ (explained error.Empty ++ (10 ∷ [])))))
+
+nothing_told : IsToldOf (word_at Push 1 []) nothing_line
+unfolding digits
+nothing_told = inl (error.Empty, nothing_line, [], (Empty, refl, nothing_pushed), record { at = codes "spec 1"; text = codes "\"\""; is_spot = refl; is_text = inr refl; is = refl }, refl)
+
+-- of a text that is refused the line is told, and of a spec nothing
+pub told_of : IsToldOf (word_at Push 1 []) nothing_line × IsToldOf (word_at Fetch 2 (codes "main")) []
+    × AreToldOf (word_at Push 1 [] ∷ word_at Fetch 2 (codes "main") ∷ []) nothing_line
+told_of = (nothing_told, inr (_, fetches_main.0, refl), (nothing_line, [], nothing_told, ([], [], inr (_, fetches_main.0, refl), refl, refl), refl))
+
+-- a refused text isn't passed over
+pub not_told_of : ¬ (IsToldOf (word_at Push 1 []) []) × ¬ (AreToldOf [] nothing_line)
+not_told_of = (passed_over, λ same. omega (arith, ap length same))
+  where
+    passed_over : ¬ (IsToldOf (word_at Push 1 []) [])
+    passed_over (inl (e, line, more, is, reason, same)) = omega (arith, ap length same, length-append line more, ap length reason.is, length-append reason.at (codes ": " ++ (reason.text ++ (codes ": " ++ (explained e ++ (10 ∷ []))))))
+    passed_over (inr (r, reads, same)) = nothing_pushed.unread r reads
+
+-- in JSON the refusals are no messages
+pub refusals : AreRefusals form.Json (word_at Push 1 [] ∷ []) [] × AreRefusals form.Lines (word_at Push 1 [] ∷ []) (nothing_line ++ [])
+    × ¬ (AreRefusals form.Json (word_at Push 1 [] ∷ []) nothing_line)
+refusals = (refl, (nothing_line, [], nothing_told, refl, refl), λ same. omega (arith, ap length same))

@@ -7,6 +7,7 @@ use Rattle.refspec_run.specs.declared.call.Form.TheVariants as form
 use Rattle.refspec_run.specs.Canon.{AreCanonical}
 use Rattle.refspec_run.specs.Output.{IsInput, ShowsCanon, status_of}
 use Rattle.refspec_run.specs.Shown.{AddsNames}
+use Rattle.refspec_run.specs.Texts.{numbered, word_at}
 use Rattle.refspec_run.proofs.facts.CanonFacts.{canonical, not_canonical}
 
 -- something refused ends with 1, and else 0 is the end
@@ -30,9 +31,9 @@ other_inputs = (
 -- canonical texts are shown as the call says: one a line, or ended by zero bytes
 pub shown : (call : Call)
     → (call.form ≡ form.Lines
-    → ShowsCanon call ((Fetch, []) ∷ (Fetch, codes "a b") ∷ (Fetch, codes "main") ∷ []) (codes "HEAD\nmain\n"))
+    → ShowsCanon call (numbered (word_at Fetch) 1 ([] ∷ codes "a b" ∷ codes "main" ∷ [])) (codes "HEAD\nmain\n"))
     × (call.form ≡ form.Zeros
-    → ShowsCanon call ((Fetch, []) ∷ (Fetch, codes "a b") ∷ (Fetch, codes "main") ∷ [])
+    → ShowsCanon call (numbered (word_at Fetch) 1 ([] ∷ codes "a b" ∷ codes "main" ∷ []))
         ((codes "HEAD" ++ 0 ∷ []) ++ (codes "main" ++ 0 ∷ [])))
 shown call = (
   (λ is. (codes "HEAD" ∷ codes "main" ∷ [], canonical.0,
@@ -45,7 +46,7 @@ shown call = (
 )
 
 -- a text isn't left out
-pub not_shown : (call : Call) → call.form ≡ form.Zeros → ¬ (ShowsCanon call ((Fetch, codes "main") ∷ []) [])
+pub not_shown : (call : Call) → call.form ≡ form.Zeros → ¬ (ShowsCanon call (word_at Fetch 1 (codes "main") ∷ []) [])
 not_shown call is (names, are, adds) =
     not_canonical.1 (subst (AreCanonical ((Fetch, codes "main") ∷ []))
     (none names (subst (λ (f : Form). AddsNames f [] names [] []) is adds)) are)

@@ -1,5 +1,5 @@
 -- What a text is, at texts that are read and at texts that are refused.
-use Rattle.std.proofs.Common.{◌≡◌, ℕ, true, false, List, [], ◌∷◌, ◌++◌, None, Some, unwrap_or, inl, inr, codes, length, refl, ap, arith}
+use Rattle.std.proofs.Common.{◌≡◌, ℕ, true, false, List, [], ◌∷◌, ◌++◌, None, Some, unwrap_or, inl, inr, codes, length, refl, sym, ap, arith}
 use Rattle.std.specs.List.{AllZip}
 use Rattle.std.proofs.lemmas.Bool.{false≢true}
 use Rattle.refspec_text.specs.declared.name.Error.TheVariants.{InvalidByte}
@@ -9,13 +9,14 @@ use Rattle.refspec_text.specs.declared.types.Mode.TheVariants as mode
 use Rattle.gix_refspec.specs.Specs.Grammar.{fetched}
 use Rattle.gix_refspec.specs.Specs.Reading.{Normal, Reading}
 use Rattle.gix_refspec.specs.Specs.Refusal.{Empty, ReferenceName}
-use Rattle.refspec_text.proofs.facts.FitFacts.{other_byte}
+use Rattle.refspec_text.proofs.facts.FitFacts.{other_byte, push_is_none}
 use Rattle.refspec_text.proofs.facts.GrammarFacts.{fetches_head, fetches_main}
 use Rattle.refspec_text.proofs.facts.UnreadFacts.{bad_sources, nothing_pushed}
 use Rattle.refspec_text.proofs.facts.ViewFacts.{Accepted, spec_of}
 use Rattle.refspec_run.specs.declared.call.Form.TheVariants as form
 use Rattle.refspec_run.specs.declared.checked.Checked.{Checked}
 use Rattle.refspec_run.specs.declared.checked.Checked.TheVariants as checked
+use Rattle.refspec_run.specs.declared.texts.Text.{Text}
 use Rattle.refspec_run.specs.Read.{AddsIfGood, AddsIfRead, AreGood, AreRead, HasBad, HasRefused, IsChecked, IsSpec, TellsRefused}
 use Rattle.refspec_run.proofs.facts.TextFacts.{text_for}
 
@@ -69,28 +70,32 @@ not_told = (not_read.0, (λ reads. not_read.1 reads.0 reads.1), λ refuses. refu
 abbrev AddsX : List Reading → List ℕ → List ℕ → Type 0
 AddsX g old new = new ≡ old ++ codes "x"
 
+-- what is told of refusals
+abbrev Told : Type 0
+Told = codes "no" ≡ codes "no"
+
 -- where a text is refused the results stay, and else they grow
-pub grown : AddsIfRead AddsX form.Lines false ((Fetch, codes "main") ∷ []) (codes "a") (codes "ax")
-    × AddsIfRead AddsX form.Lines true ((Fetch, codes "main") ∷ (Push, []) ∷ []) (codes "a") (codes "a")
-grown = (inl (main ∷ [], (fetches_main.0, tt), refl), inr (read.1, refl, refl))
+pub grown : AddsIfRead AddsX Told form.Lines false ((Fetch, codes "main") ∷ []) (codes "a") (codes "ax")
+    × AddsIfRead AddsX Told form.Lines true ((Fetch, codes "main") ∷ (Push, []) ∷ []) (codes "a") (codes "a")
+grown = (inl (main ∷ [], (fetches_main.0, tt), refl), inr (read.1, refl, refl, refl))
 
 -- and not the other way, nor is it told otherwise that one is refused
-pub not_grown : ¬ (AddsIfRead AddsX form.Lines false ((Fetch, codes "main") ∷ (Fetch, []) ∷ []) (codes "a") (codes "a"))
-    × ¬ (AddsIfRead AddsX form.Lines true ((Fetch, codes "main") ∷ (Push, []) ∷ []) (codes "a") (codes "ax"))
-    × ¬ (AddsIfRead AddsX form.Lines false ((Fetch, codes "main") ∷ (Push, []) ∷ []) (codes "a") (codes "a"))
+pub not_grown : ¬ (AddsIfRead AddsX Told form.Lines false ((Fetch, codes "main") ∷ (Fetch, []) ∷ []) (codes "a") (codes "a"))
+    × ¬ (AddsIfRead AddsX Told form.Lines true ((Fetch, codes "main") ∷ (Push, []) ∷ []) (codes "a") (codes "ax"))
+    × ¬ (AddsIfRead AddsX Told form.Lines false ((Fetch, codes "main") ∷ (Push, []) ∷ []) (codes "a") (codes "a"))
 not_grown = (stayed, spoiled, unsaid)
   where
-    stayed : ¬ (AddsIfRead AddsX form.Lines false ((Fetch, codes "main") ∷ (Fetch, []) ∷ []) (codes "a") (codes "a"))
+    stayed : ¬ (AddsIfRead AddsX Told form.Lines false ((Fetch, codes "main") ∷ (Fetch, []) ∷ []) (codes "a") (codes "a"))
     stayed (inl (g, are, same)) = omega (arith, ap length same)
-    stayed (inr (has, same, refused)) = not_read.0 has
+    stayed (inr (has, same, refused, told)) = not_read.0 has
 
-    spoiled : ¬ (AddsIfRead AddsX form.Lines true ((Fetch, codes "main") ∷ (Push, []) ∷ []) (codes "a") (codes "ax"))
+    spoiled : ¬ (AddsIfRead AddsX Told form.Lines true ((Fetch, codes "main") ∷ (Push, []) ∷ []) (codes "a") (codes "ax"))
     spoiled (inl (g, are, same)) = not_read.1 g are
-    spoiled (inr (has, same, refused)) = omega (arith, ap length same)
+    spoiled (inr (has, same, refused, told)) = omega (arith, ap length same)
 
-    unsaid : ¬ (AddsIfRead AddsX form.Lines false ((Fetch, codes "main") ∷ (Push, []) ∷ []) (codes "a") (codes "a"))
+    unsaid : ¬ (AddsIfRead AddsX Told form.Lines false ((Fetch, codes "main") ∷ (Push, []) ∷ []) (codes "a") (codes "a"))
     unsaid (inl (g, are, same)) = not_read.1 g are
-    unsaid (inr (has, same, refused)) = false≢true refused
+    unsaid (inr (has, same, refused, told)) = false≢true refused
 
 -- ---- texts that were checked
 
@@ -105,12 +110,19 @@ bad = checked.Bad (text_for Push []) error.Empty
 module _ (accepted : Accepted Fetch mode.Normal (Some (codes "main")) None) where
   -- a text was read, or refused for its reason
   pub was_checked : IsChecked (text_for Fetch (codes "main")) (good accepted) × IsChecked (text_for Push []) bad
-  was_checked = (fetches_main.0, (Empty, refl, nothing_pushed))
+  was_checked = ((refl, fetches_main.0), (refl, (Empty, refl, nothing_pushed)))
 
-  -- a text that is refused wasn't read, one that is read wasn't refused, and that memory ran out is no reason
+  -- a text that is refused wasn't read, one that is read wasn't refused, and that memory ran out is no reason; nor was it
+  -- another text
   pub not_checked : ¬ (IsChecked (text_for Push []) (good accepted)) × ¬ (IsChecked (text_for Fetch []) bad)
       × ¬ (IsChecked (text_for Push []) (checked.Bad (text_for Push []) error.Memory))
-  not_checked = ((λ reads. nothing_pushed.unread main reads), (λ is. is.2.unread head fetches_head.0), λ is. is.1)
+      × ¬ (IsChecked (text_for Push []) (checked.Bad (text_for Fetch []) error.Empty))
+  not_checked = (
+    (λ is. nothing_pushed.unread main is.1),
+    (λ is. is.1.2.unread head fetches_head.0),
+    (λ is. is.1.1),
+    λ is. push_is_none (sym (ap (λ (t : Text). t.operation) is.0)),
+  )
 
   -- a spec is its reading alone, and what was refused is none
   pub specs : IsSpec (good accepted) main × ¬ (IsSpec (good accepted) head) × ¬ (IsSpec bad main)
@@ -131,27 +143,27 @@ module _ (accepted : Accepted Fetch mode.Normal (Some (codes "main")) None) wher
   all_good = (tt, tt, (λ are. are), λ are. are)
 
   -- the results grow as above
-  pub grown_of : AddsIfGood AddsX form.Lines false (good accepted ∷ []) (codes "a") (codes "ax")
-      × AddsIfGood AddsX form.Lines true (good accepted ∷ bad ∷ []) (codes "a") (codes "a")
-  grown_of = (inl (main ∷ [], (refl, tt), refl), inr (tt, refl, refl))
+  pub grown_of : AddsIfGood AddsX Told form.Lines false (good accepted ∷ []) (codes "a") (codes "ax")
+      × AddsIfGood AddsX Told form.Lines true (good accepted ∷ bad ∷ []) (codes "a") (codes "a")
+  grown_of = (inl (main ∷ [], (refl, tt), refl), inr (tt, refl, refl, refl))
 
-  pub not_grown_of : ¬ (AddsIfGood AddsX form.Lines false (good accepted ∷ []) (codes "a") (codes "a"))
-      × ¬ (AddsIfGood AddsX form.Lines true (bad ∷ []) (codes "a") (codes "ax"))
-      × ¬ (AddsIfGood AddsX form.Lines false (bad ∷ []) (codes "a") (codes "a"))
+  pub not_grown_of : ¬ (AddsIfGood AddsX Told form.Lines false (good accepted ∷ []) (codes "a") (codes "a"))
+      × ¬ (AddsIfGood AddsX Told form.Lines true (bad ∷ []) (codes "a") (codes "ax"))
+      × ¬ (AddsIfGood AddsX Told form.Lines false (bad ∷ []) (codes "a") (codes "a"))
   not_grown_of = (stayed, spoiled, unsaid)
     where
-      stayed : ¬ (AddsIfGood AddsX form.Lines false (good accepted ∷ []) (codes "a") (codes "a"))
+      stayed : ¬ (AddsIfGood AddsX Told form.Lines false (good accepted ∷ []) (codes "a") (codes "a"))
       stayed (inl (g, are, same)) = omega (arith, ap length same)
-      stayed (inr (has, same, refused)) = has
+      stayed (inr (has, same, refused, told)) = has
 
       no_specs : (g : List Reading) → ¬ (AllZip IsSpec (bad ∷ []) g)
       no_specs [] are = are
       no_specs (r ∷ g) are = are.0
 
-      spoiled : ¬ (AddsIfGood AddsX form.Lines true (bad ∷ []) (codes "a") (codes "ax"))
+      spoiled : ¬ (AddsIfGood AddsX Told form.Lines true (bad ∷ []) (codes "a") (codes "ax"))
       spoiled (inl (g, are, same)) = no_specs g are
-      spoiled (inr (has, same, refused)) = omega (arith, ap length same)
+      spoiled (inr (has, same, refused, told)) = omega (arith, ap length same)
 
-      unsaid : ¬ (AddsIfGood AddsX form.Lines false (bad ∷ []) (codes "a") (codes "a"))
+      unsaid : ¬ (AddsIfGood AddsX Told form.Lines false (bad ∷ []) (codes "a") (codes "a"))
       unsaid (inl (g, are, same)) = no_specs g are
-      unsaid (inr (has, same, refused)) = false≢true refused
+      unsaid (inr (has, same, refused, told)) = false≢true refused

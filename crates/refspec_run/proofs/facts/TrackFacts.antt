@@ -1,5 +1,7 @@
 -- Which specs refs are looked up by: those whose destination is no object id.
 use Rattle.std.proofs.Common.{◌≡◌, ℕ, List, [], ◌∷◌, None, Some, inl, inr, codes, length, replicate, refl, sym, ap, arith}
+use Rattle.std.proofs.lemmas.Bool.{false≢true}
+use Rattle.refspec_text.proofs.facts.FitFacts.{other_byte}
 use Rattle.gix_refspec.specs.Laws.Items.{HasIdDestination}
 use Rattle.gix_refspec.specs.Specs.Grammar.{fetched}
 use Rattle.gix_refspec.specs.Specs.Reading.{Normal, Reading}
@@ -10,7 +12,8 @@ use Rattle.refspec_text.proofs.lemmas.specs.FormsBackLemmas.{some_once}
 use Rattle.refspec_text.proofs.facts.FitFacts.{short}
 use Rattle.refspec_text.proofs.facts.ManualFacts.{none_some}
 use Rattle.refspec_text.proofs.facts.ObjectIdFacts.{IsIdText-empty_blob, empty_blob}
-use Rattle.refspec_run.specs.Track.{AreByNames, named}
+use Rattle.gix_refspec.specs.Matching.Mappings.{Mapped, Start, name}
+use Rattle.refspec_run.specs.Track.{AreByNames, AreWritten, HasUnwritten, IsEachWritten, IsWritten, named}
 
 -- destinations of 40 digits and of 39
 abbrev to_id : Reading
@@ -62,3 +65,46 @@ not_by_names = (left_out, also_left_out, looked_up, λ are. omega (arith, ap len
 pub given : ((named (codes "refs/x/a")).name ≡ codes "refs/x/a")
     × ((named (codes "refs/x/a")).target ≡ replicate 20 0) × ((named (codes "refs/x/a")).object ≡ None)
 given = (refl, refl, refl)
+
+-- ---- which refs are written
+
+-- a branch that is written, and one without a destination
+abbrev written : Mapped
+written = record { item = None; source = name (codes "refs/heads/a"); destination = Some (codes "refs/x/a"); spec = 0 }
+
+abbrev unwritten : Mapped
+unwritten = record { item = None; source = name (codes "refs/x/b"); destination = None; spec = 0 }
+
+-- the destination is written, and neither the source nor another name
+pub writes : IsWritten (codes "refs/x/a") (unwritten ∷ written ∷ []) × ¬ (IsWritten (codes "refs/x/b") (unwritten ∷ written ∷ []))
+    × ¬ (IsWritten (codes "refs/heads/a") (written ∷ []))
+writes = (inr (inl refl), nothing, source)
+  where
+    nothing : ¬ (IsWritten (codes "refs/x/b") (unwritten ∷ written ∷ []))
+    nothing (inl same) = none_some (codes "refs/x/b") same
+    nothing (inr (inl same)) = other_byte 7 (codes "refs/x/a") (codes "refs/x/b") (λ byte. omega (arith, byte)) (some_once (codes "refs/x/a") (codes "refs/x/b") same)
+    nothing (inr (inr is)) = is
+
+    source : ¬ (IsWritten (codes "refs/heads/a") (written ∷ []))
+    source (inl same) = omega (arith, ap length (some_once (codes "refs/x/a") (codes "refs/heads/a") same))
+    source (inr is) = is
+
+-- one name that isn't written is enough, wherever it is
+pub each : IsEachWritten (codes "refs/x/a" ∷ codes "refs/x/a" ∷ []) (written ∷ []) × IsEachWritten [] []
+    × ¬ (IsEachWritten (codes "refs/x/a" ∷ codes "refs/heads/a" ∷ []) (written ∷ []))
+each = ((inl refl, (inl refl, tt)), tt, λ are. writes.2 are.1.0)
+
+pub some : HasUnwritten (codes "refs/x/a" ∷ codes "refs/heads/a" ∷ []) (written ∷ []) × ¬ (HasUnwritten (codes "refs/x/a" ∷ []) (written ∷ []))
+    × ¬ (HasUnwritten [] [])
+some = (inr (inl writes.2), no, λ has. has)
+  where
+    no : ¬ (HasUnwritten (codes "refs/x/a" ∷ []) (written ∷ []))
+    no (inl none) = none (inl refl)
+    no (inr has) = has
+
+-- a set of the destination, and not the empty one
+pub set_of : AreWritten (record { keys = record { ref_ptr = (0, 0); now = codes "refs/x/a" } ∷ [] }) (unwritten ∷ written ∷ []) → IsWritten (codes "refs/x/a") (unwritten ∷ written ∷ [])
+set_of are = (are (codes "refs/x/a")).0 refl
+
+pub not_empty : ¬ (AreWritten (record { keys = [] }) (written ∷ []))
+not_empty are = false≢true ((are (codes "refs/x/a")).1 (inl refl))

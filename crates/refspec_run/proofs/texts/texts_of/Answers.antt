@@ -1,20 +1,27 @@
 -- The words, and then what both inputs add.
-use Rattle.std.proofs.Common.{◌<◌, ◌≤◌, ℕ, List, [], Bor, map, length, get_or, take_all, ap, ◌∙◌, arith, subst}
-use Rattle.refspec_run.specs.Texts.{AddsTexts, asked, said}
-use Rattle.refspec_run.proofs.TextLemmas.{AreTexts-of, seen_next}
+use Rattle.std.proofs.Common.{◌<◌, ◌≤◌, ◌≡◌, ℕ, ◌+◌, List, [], Bor, map, take, length, get_or, take_all, ap, ◌∙◌, arith, subst}
+use Rattle.std.proofs.lemmas.List.{length-map, length-take-le}
+use Rattle.refspec_run.specs.Texts.{AddsTexts, given_of, numbered, word_at}
+use Rattle.refspec_run.proofs.TextLemmas.{given_next, numbered-length}
 use Rattle.refspec_run.proofs.texts.texts_of.Goals as goal
 
 pub loop-word-preserved : goal.loop-word-preserved
 loop-word-preserved c =
     let none : Bor (List ℕ) = record { ref_ptr = (0, 0); now = [] } in
+    let op = c.args.call.now.operation in
+    let i = c.loop-word.word-index in
     let words = c.deref-word-items.ensures.value in
-    let below : c.loop-word.word-index < length c.args.call.now.specs.items = omega (arith, ap length words) in
-    let same = c.as_bytes.ensures.value ∙ ap (λ (ws : List (Bor (List ℕ))). (get_or ws c.loop-word.word-index none).now) words in
-    seen_next (asked c.args.call.now.operation) (λ (w : Bor (List ℕ)). w.now) said c.args.call.now.specs.items c.loop-word.word-index none [] c.loop-word.texts.items c.push.new.self.items _ below c.in_ok-push.ensures.items (ap (asked c.args.call.now.operation) same) c.loop-word.invariant
+    let below : i < length c.args.call.now.specs.items = omega (arith, ap length words) in
+    let same = c.as_bytes.ensures.value ∙ ap (λ (ws : List (Bor (List ℕ))). (get_or ws i none).now) words in
+    let seen = map (λ (w : Bor (List ℕ)). w.now) (take i c.args.call.now.specs.items) in
+    let many : length c.loop-word.texts.items ≡ i = omega (arith, length-map c.loop-word.texts.items given_of, ap length c.loop-word.invariant, numbered-length (word_at op) 1 seen, length-map (take i c.args.call.now.specs.items) (λ (w : Bor (List ℕ)). w.now), length-take-le i c.args.call.now.specs.items (omega (arith, below))) in
+    given_next (word_at op) (λ (w : Bor (List ℕ)). w.now) c.args.call.now.specs.items i _ none [] c.loop-word.texts.items c.push.new.self.items _ below (omega (arith, many)) c.in_ok-push.ensures.items (ap (word_at op _) same) c.loop-word.invariant
 
 pub returns : goal.returns
 returns c =
+    let op = c.args.call.now.operation in
     let long = subst (λ (ws : List (Bor (List ℕ))). length ws ≤ c.loop-word.word-index) c.deref-word-items.ensures.value c.loop-word-test.false in
-    let words = c.loop-word.invariant ∙ ap (λ (l : List (Bor (List ℕ))). map (asked c.args.call.now.operation) (map (λ (w : Bor (List ℕ)). w.now) l)) (take_all c.loop-word.word-index c.args.call.now.specs.items long) in
-    let second = subst (λ (x : List ℕ). AddsTexts c.args.call.now.ends c.args.call.now.operation x c.add_texts.new.texts.items c.add_texts-2.new.texts.items) c.spec_input.ensures c.in_ok-add_texts-2.ensures in
-    AreTexts-of c.args.call.now.ends c.args.call.now.operation _ c.args.beside.now _ c.loop-word.texts.items c.add_texts.new.texts.items c.add_texts-2.new.texts.items words c.in_ok-add_texts.ensures second
+    let words = c.loop-word.invariant ∙ ap (λ (l : List (Bor (List ℕ))). numbered (word_at op) 1 (map (λ (w : Bor (List ℕ)). w.now) l)) (take_all c.loop-word.word-index c.args.call.now.specs.items long) in
+    let first = subst (λ ts. AddsTexts c.args.call.now.ends op c.args.call.now.beside.now c.args.beside.now ts (map given_of c.add_texts.new.texts.items)) words c.in_ok-add_texts.ensures in
+    let second = subst (λ (x : List ℕ). AddsTexts c.args.call.now.ends op c.args.call.now.input.now x (map given_of c.add_texts.new.texts.items) (map given_of c.add_texts-2.new.texts.items)) c.spec_input.ensures c.in_ok-add_texts-2.ensures in
+    (map given_of c.add_texts.new.texts.items, first, second)
