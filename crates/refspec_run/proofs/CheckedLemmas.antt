@@ -3,21 +3,18 @@ use Rattle.std.proofs.Common.{◌≡◌, ℕ, ◌+◌, ◌<◌, ◌≤◌, Bool,
 use Rattle.std.proofs.lemmas.List.{map-append, take_more}
 use Rattle.std.specs.List.{AllZip}
 use Rattle.refspec_run.specs.declared.call.Form.{Form}
+use Rattle.refspec_run.specs.declared.call.Form.TheVariants as form
 use Rattle.refspec_run.specs.declared.checked.Checked.{Checked}
 use Rattle.refspec_run.specs.declared.checked.Checked.TheVariants as checked
 use Rattle.refspec_run.specs.declared.texts.Text.{Text}
 use Rattle.gix_refspec.specs.Specs.Grammar.{Reads}
 use Rattle.gix_refspec.specs.Specs.Reading.{Reading}
 use Rattle.refspec_text.specs.declared.parsing.Error.{Error}
-use Rattle.refspec_text.specs.declared.parsing.Operation.{Operation}
 use Rattle.gix_refspec.specs.Views.Spec.{reading_of}
 use Rattle.refspec_text.specs.declared.spec.RefSpecRef.{RefSpecRef}
-use Rattle.refspec_run.specs.Read.{AddsIfGood, AddsIfRead, AreGood, AreRead, HasBad, HasRefused, IsChecked, IsSpec, TellsRefused}
+use Rattle.refspec_run.specs.Json.{AddsObjects, AreInOrder}
+use Rattle.refspec_run.specs.Read.{AddsIfGood, AddsIfRead, AreGood, AreRead, HasBad, HasRefused, IsChecked, IsReadOrRefusal, IsRefusalOf, IsSpec, TellsRefused}
 use Rattle.refspec_run.specs.Texts.{given_of, said}
-
--- what is read of a text
-abbrev pub asked_of : Text → Operation × List ℕ
-asked_of t = said (given_of t)
 
 -- one more pair
 pub zip_last : {A B : Type 0} (R : A → B → Type 0) (xs : List A) (ys : List B) (x : A) (y : B) → AllZip R xs ys → R x y → AllZip R (xs ++ x ∷ []) (ys ++ y ∷ [])
@@ -53,7 +50,7 @@ HasBad-at (checked.Good u spec ∷ all) zero c t error below here is = absurd (g
 HasBad-at (checked.Good u spec ∷ all) (suc i) c t error below here is = HasBad-at all i c t error (omega (arith, below)) here is
 
 -- what the specs are read as is what their texts are read as
-pub AreRead-of : (texts : List Text) (all : List Checked) (g : List Reading) → AllZip IsChecked texts all → AllZip IsSpec all g → AreRead (map asked_of texts) g
+pub AreRead-of : (texts : List Text) (all : List Checked) (g : List Reading) → AllZip IsChecked texts all → AllZip IsSpec all g → AreRead (map said (map given_of texts)) g
 AreRead-of [] [] [] is good = tt
 AreRead-of [] [] (r ∷ g) is good = absurd good
 AreRead-of [] (c ∷ all) g is good = absurd is
@@ -64,20 +61,33 @@ AreRead-of (t ∷ texts) (checked.Bad text error ∷ all) [] is good = absurd go
 AreRead-of (t ∷ texts) (checked.Bad text error ∷ all) (r ∷ g) is good = absurd good.0
 
 -- a text that is no spec is refused
-pub HasRefused-of : (texts : List Text) (all : List Checked) → AllZip IsChecked texts all → HasBad all → HasRefused (map asked_of texts)
+pub HasRefused-of : (texts : List Text) (all : List Checked) → AllZip IsChecked texts all → HasBad all → HasRefused (map said (map given_of texts))
 HasRefused-of [] [] is bad = absurd bad
 HasRefused-of [] (c ∷ all) is bad = absurd is
 HasRefused-of (t ∷ texts) [] is bad = absurd is
 HasRefused-of (t ∷ texts) (checked.Good text spec ∷ all) is bad = inr (HasRefused-of texts all is.1 bad)
 HasRefused-of (t ∷ texts) (checked.Bad text error ∷ all) is bad = inl (is.0.1.0, is.0.1.2)
 
+-- the objects of what was refused are those of the texts
+refusals_of : (texts : List Text) (all : List Checked) (lines : List ℕ) → AllZip IsChecked texts all → AreInOrder IsRefusalOf all lines → AreInOrder IsReadOrRefusal (map given_of texts) lines
+refusals_of [] [] lines is told = told
+refusals_of [] (c ∷ all) lines is told = absurd is
+refusals_of (t ∷ texts) [] lines is told = absurd is
+refusals_of (t ∷ texts) (checked.Good text spec ∷ all) lines is (one, rest, none, more, sum) = (one, rest, inl ((reading_of spec, is.0.1), none), refusals_of texts all rest is.1 more, sum)
+refusals_of (t ∷ texts) (checked.Bad text error ∷ all) lines is (one, rest, line, more, sum) = (one, rest, inr (record { text = text; error = error; is_text = ap given_of is.0.0; refused = is.0.1; is = line }), refusals_of texts all rest is.1 more, sum)
+
+AddsRefusals-of : (f : Form) (texts : List Text) (all : List Checked) (old new : List ℕ) → AllZip IsChecked texts all → AddsObjects f IsRefusalOf all old new → AddsObjects f IsReadOrRefusal (map given_of texts) old new
+AddsRefusals-of form.Lines texts all old new is kept = kept
+AddsRefusals-of form.Zeros texts all old new is kept = kept
+AddsRefusals-of form.Json texts all old new is (lines, told, put) = (lines, refusals_of texts all lines is told, put)
+
 -- what is told of what was checked is told of the texts
-pub AddsIfRead-of : (Adds : List Reading → List ℕ → List ℕ → Type 0) (Refuses Says : Type 0) (f : Form) (refused : Bool) (texts : List Text) (all : List Checked) (old new : List ℕ) → AllZip IsChecked texts all → (Refuses → Says) → AddsIfGood Adds Refuses f refused all old new → AddsIfRead Adds Says f refused (map asked_of texts) old new
+pub AddsIfRead-of : (Adds : List Reading → List ℕ → List ℕ → Type 0) (Refuses Says : Type 0) (f : Form) (refused : Bool) (texts : List Text) (all : List Checked) (old new : List ℕ) → AllZip IsChecked texts all → (Refuses → Says) → AddsIfGood Adds Refuses f refused all old new → AddsIfRead Adds Says f refused (map given_of texts) old new
 AddsIfRead-of Adds Refuses Says f refused texts all old new is says (inl told) = inl (told.0, AreRead-of texts all told.0 is told.1, told.2)
-AddsIfRead-of Adds Refuses Says f refused texts all old new is says (inr kept) = inr (HasRefused-of texts all is kept.0, kept.1, kept.2, says kept.3)
+AddsIfRead-of Adds Refuses Says f refused texts all old new is says (inr kept) = inr (HasRefused-of texts all is kept.0, AddsRefusals-of f texts all old new is kept.1, kept.2, says kept.3)
 
 -- the readings of specs
-all_read : (texts : List Text) (all : List Checked) → AllZip IsChecked texts all → AreGood all → (g : List Reading) × AreRead (map asked_of texts) g
+all_read : (texts : List Text) (all : List Checked) → AllZip IsChecked texts all → AreGood all → (g : List Reading) × AreRead (map said (map given_of texts)) g
 all_read [] [] is good = ([], tt)
 all_read [] (c ∷ all) is good = absurd is
 all_read (t ∷ texts) [] is good = absurd is
@@ -87,7 +97,7 @@ all_read (t ∷ texts) (checked.Good text spec ∷ all) is good =
 all_read (t ∷ texts) (checked.Bad text error ∷ all) is good = absurd good
 
 -- whether some text is refused
-pub TellsRefused-of : (refused : Bool) (texts : List Text) (all : List Checked) → AllZip IsChecked texts all → MatchBool refused (HasBad all) (AreGood all) → TellsRefused refused (map asked_of texts)
+pub TellsRefused-of : (refused : Bool) (texts : List Text) (all : List Checked) → AllZip IsChecked texts all → MatchBool refused (HasBad all) (AreGood all) → TellsRefused refused (map said (map given_of texts))
 TellsRefused-of true texts all is bad = HasRefused-of texts all is bad
 TellsRefused-of false texts all is good = all_read texts all is good
 

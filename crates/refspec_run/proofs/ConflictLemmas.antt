@@ -8,9 +8,13 @@ use Rattle.gix_refspec.specs.Matching.Mappings.{Start}
 use Rattle.gix_refspec.specs.Matching.Validation.{Conflict}
 use Rattle.gix_refspec.specs.Views.Group.{start_of}
 use Rattle.gix_refspec.specs.Views.Issue.{conflict_of}
+use Rattle.refspec_json.specs.Objects.{conflict_object, line_of}
+use Rattle.refspec_json.specs.Views.{claim_texts}
+use Rattle.refspec_json.specs.declared.mappings.Claim.{Claim}
 use Rattle.refspec_run.specs.declared.call.Form.{Form}
 use Rattle.refspec_run.specs.declared.call.Form.TheVariants as form
-use Rattle.refspec_run.specs.Conflicts.{AddsConflicts, AreClaims, AreToldConflicts, IsClaim, IsToldConflict, PutsClaim, PutsClaims, PutsConflict}
+use Rattle.refspec_run.specs.Conflicts.{AddsConflicts, AreClaims, AreToldConflicts, IsClaim, IsToldConflict, PutsClaim, PutsClaims, PutsConflict, claim_of, claims_from, conflict_line}
+use Rattle.refspec_run.specs.Json.{json_text}
 use Rattle.refspec_run.specs.Rows.{source_text}
 use Rattle.refspec_run.specs.Shown.{Grows, PutsQuoted}
 use Rattle.refspec_run.proofs.ShownLemmas.{behind}
@@ -70,6 +74,32 @@ PutsConflict-of c name sources texts old a b d e new same same_sources same_text
       five old a b d e new head put.0 words claims.0 grows.0 is_a put.2 is_d claims.2 grows.1,
     )
 
+-- the object of a conflict, field by field
+pub conflict_line-of : (c : Conflict) (name : List ℕ) (claims : List (List ℕ × List ℕ)) (old new : List ℕ) → name ≡ json_text c.destination → claims ≡ claims_from 0 c.sources c.texts → new ≡ old ++ line_of (conflict_object name claims) → new ≡ old ++ conflict_line c
+conflict_line-of c name claims old new is_name are_claims put = put ∙ (ap (λ x. old ++ line_of (conflict_object x claims)) is_name ∙ ap (λ x. old ++ line_of (conflict_object (json_text c.destination) x)) are_claims)
+
+-- both of a claim
+pub claim_of-both : (a b source text : List ℕ) → a ≡ json_text source → b ≡ json_text text → ◌≡◌ {A = List ℕ × List ℕ} (a, b) (claim_of source text)
+claim_of-both a b source text is_a is_b = rw is_a (rw is_b refl)
+
+-- a source more, as strings
+claims_from-push : (k : ℕ) (sources : List Start) (s : Start) (texts : List (List ℕ)) → claims_from k (sources ++ s ∷ []) texts ≡ claims_from k sources texts ++ claim_of (source_text s) (unwrap_or (slice_get texts (k + length sources)) []) ∷ []
+claims_from-push k [] s texts =
+    let at : k + length {A = Start} [] ≡ k = omega arith in
+    ap (λ (n : ℕ). claim_of (source_text s) (unwrap_or (slice_get texts n) []) ∷ []) (sym at)
+claims_from-push k (x ∷ sources) s texts =
+    let at : k + length (x ∷ sources) ≡ (k + 1) + length sources = omega arith in
+    ap (λ l. claim_of (source_text x) (unwrap_or (slice_get texts k) []) ∷ l) (claims_from-push (k + 1) sources s texts ∙ ap (λ (n : ℕ). claims_from (k + 1) sources texts ++ claim_of (source_text s) (unwrap_or (slice_get texts n) []) ∷ []) (sym at))
+
+pub claims_next : (xs : List SourceRef) (i : ℕ) (s : SourceRef) (texts : List (List ℕ)) (source text : List ℕ) (old new : List Claim) (c : Claim) → i < length xs → s ≡ get_or xs i s → source ≡ source_text (start_of s) → text ≡ unwrap_or (slice_get texts i) [] → claim_texts c ≡ claim_of source text → new ≡ old ++ c ∷ [] → map claim_texts old ≡ claims_from 0 (map start_of (take i xs)) texts → map claim_texts new ≡ claims_from 0 (map start_of (take (i + 1) xs)) texts
+claims_next xs i s texts source text old new c below is of_source of_text told grown so_far =
+    let front = map start_of (take i xs) in
+    let long : i ≡ 0 + length front = (let size = length-map (take i xs) start_of in let cut = length-take-le i xs (omega (arith, below)) in omega (arith, size, cut)) in
+    let step : map start_of (take (i + 1) xs) ≡ front ++ start_of s ∷ [] = ap (map start_of) (take_more xs i s below) ∙ (map-append start_of (take i xs) (get_or xs i s ∷ []) ∙ ap (λ (x : SourceRef). front ++ start_of x ∷ []) (sym is)) in
+    let last : claim_texts c ≡ claim_of (source_text (start_of s)) (unwrap_or (slice_get texts (0 + length front)) []) =
+    told ∙ (ap (λ x. claim_of x text) of_source ∙ (ap (λ x. claim_of (source_text (start_of s)) x) of_text ∙ ap (λ (n : ℕ). claim_of (source_text (start_of s)) (unwrap_or (slice_get texts n) [])) long)) in
+    ap (map claim_texts) grown ∙ (map-append claim_texts old (c ∷ []) ∙ (ap (λ l. l ++ claim_texts c ∷ []) so_far ∙ (ap (λ x. claims_from 0 front texts ++ x ∷ []) last ∙ (sym (claims_from-push 0 front (start_of s) texts) ∙ ap (λ (l : List Start). claims_from 0 l texts) (sym step)))))
+
 -- ---- one after another
 
 AreToldConflicts-push : (cs : List Conflict) (c : Conflict) (lines one : List ℕ) → AreToldConflicts cs lines → IsToldConflict c one → AreToldConflicts (cs ++ c ∷ []) (lines ++ one)
@@ -79,20 +109,10 @@ AreToldConflicts-push (x ∷ cs) c lines one (first, rest, here, more, is) told 
 pub AddsConflicts-start : (f : Form) (old : List ℕ) → AddsConflicts f [] old old
 AddsConflicts-start form.Lines old = ([], refl, sym (append-nil old))
 AddsConflicts-start form.Zeros old = ([], refl, sym (append-nil old))
-AddsConflicts-start form.Json old = tt
-
-pub AddsConflicts-one : (f : Form) (c : Conflict) (old new : List ℕ) → PutsConflict c old new → AddsConflicts f (c ∷ []) old new
-AddsConflicts-one form.Lines c old new put = (put.0, (put.0, [], put.1, refl, sym (append-nil put.0)), put.2)
-AddsConflicts-one form.Zeros c old new put = (put.0, (put.0, [], put.1, refl, sym (append-nil put.0)), put.2)
-AddsConflicts-one form.Json c old new put = tt
-
-pub AddsConflicts-json : (f : Form) (cs : List Conflict) (old new : List ℕ) → f ≡ form.Json → AddsConflicts f cs old new
-AddsConflicts-json form.Lines cs old new is = absurd (cc)
-AddsConflicts-json form.Zeros cs old new is = absurd (cc)
-AddsConflicts-json form.Json cs old new is = tt
+AddsConflicts-start form.Json old = refl
 
 AddsConflicts-push : (f : Form) (cs : List Conflict) (c : Conflict) (old mid new : List ℕ) → AddsConflicts f cs old mid → AddsConflicts f (c ∷ []) mid new → AddsConflicts f (cs ++ c ∷ []) old new
-AddsConflicts-push form.Json cs c old mid new a b = tt
+AddsConflicts-push form.Json cs c old mid new a b = b ∙ a
 AddsConflicts-push form.Lines cs c old mid new a (lines, (one, rest, told, none, is), put) =
     let all : lines ≡ one = is ∙ (ap (λ l. one ++ l) none ∙ append-nil one) in
     (a.0 ++ one, AreToldConflicts-push cs c a.0 one a.1 told, behind old a.0 mid one new a.2 (put ∙ ap (λ l. mid ++ l) all))

@@ -12,3 +12,4 @@ pub mod ConflictLemmas
 pub mod PlanLemmas
 pub mod OutputLemmas
 pub mod MessageLemmas
+pub mod JsonLemmas

@@ -2,7 +2,6 @@
 use Rattle.std.proofs.Common.{◌≡◌, ℕ, Bool, false, MatchBool, List, [], map, refl, sym, subst}
 use Rattle.std.specs.List.{AllZip}
 use Rattle.gix_refspec.specs.Specs.Reading.{Reading}
-use Rattle.refspec_text.specs.declared.parsing.Operation.{Operation}
 use Rattle.refspec_run.specs.declared.call.Call.{Call}
 use Rattle.refspec_run.specs.declared.call.Command.{Command}
 use Rattle.refspec_run.specs.declared.call.Command.TheVariants as command
@@ -13,36 +12,26 @@ use Rattle.refspec_run.specs.Output.{AddsFound, IsOutput, Shows, Tells}
 use Rattle.refspec_run.specs.Input.{end_byte}
 use Rattle.refspec_run.specs.Plan.{AddsPlan}
 use Rattle.refspec_run.specs.Prefixes.{AddsPrefixes}
-use Rattle.refspec_run.specs.Canon.{AddsCanonical, AreCanonical}
+use Rattle.refspec_run.specs.Canon.{AddsCanonical}
 use Rattle.refspec_run.specs.Messages.{AreRefusals, TellsRefusals}
-use Rattle.refspec_run.specs.Read.{AddsIfGood, AddsIfRead, AreGood, HasBad, IsChecked, TellsRefused}
-use Rattle.refspec_run.specs.Texts.{AreTexts, given_of, said}
+use Rattle.refspec_run.specs.Read.{AddsIfGood, AddsIfRead, AreGood, HasBad, IsChecked}
+use Rattle.refspec_run.specs.Texts.{AreTexts, given_of}
 use Rattle.refspec_run.specs.Track.{AddsTracked}
-use Rattle.refspec_run.proofs.CanonLemmas.{AreCanonical-of}
-use Rattle.refspec_run.proofs.CheckedLemmas.{AddsIfRead-of, TellsRefused-of, asked_of}
+use Rattle.refspec_run.proofs.CanonLemmas.{ShowsCanonical-of}
+use Rattle.refspec_run.proofs.CheckedLemmas.{AddsIfRead-of, TellsRefused-of}
 use Rattle.refspec_run.proofs.MessageLemmas.{AreRefusals-of}
-use Rattle.refspec_run.proofs.ShownLemmas.{map-twice}
 
--- what is read of the texts
-asked : (P : List (Operation × List ℕ) → Type 0) (texts : List Text) → P (map asked_of texts) → P (map said (map given_of texts))
-asked P texts holds = subst P (map-twice said given_of texts) holds
 
 -- what was found, or else the refusals
-found_or_refused : (Adds : List Reading → List ℕ → List ℕ → Type 0) (call : Call) (before messages : List ℕ) (refused : Bool) (texts : List Text) (all : List Checked) (new : List ℕ) → AllZip IsChecked texts all → before ≡ [] → AddsIfGood Adds (TellsRefusals call.form all before messages) call.form refused all [] new → AddsIfRead Adds (AreRefusals call.form (map given_of texts) messages) call.form refused (map said (map given_of texts)) [] new
+found_or_refused : (Adds : List Reading → List ℕ → List ℕ → Type 0) (call : Call) (before messages : List ℕ) (refused : Bool) (texts : List Text) (all : List Checked) (new : List ℕ) → AllZip IsChecked texts all → before ≡ [] → AddsIfGood Adds (TellsRefusals call.form all before messages) call.form refused all [] new → AddsIfRead Adds (AreRefusals call.form (map given_of texts) messages) call.form refused (map given_of texts) [] new
 found_or_refused Adds call before messages refused texts all new read none told =
-    asked (λ ts. AddsIfRead Adds (AreRefusals call.form (map given_of texts) messages) call.form refused ts [] new) texts
-    (AddsIfRead-of Adds _ _ call.form refused texts all [] new read (AreRefusals-of call.form texts all before messages read none) told)
+    AddsIfRead-of Adds _ _ call.form refused texts all [] new read (AreRefusals-of call.form texts all before messages read none) told
 
 Shows-of : (k : Command) (call : Call) (input before messages : List ℕ) (refused : Bool) (texts : List Text) (all : List Checked) (new : List ℕ) → AllZip IsChecked texts all → before ≡ [] → Tells k call input call.form before messages refused all [] new → Shows k call input (map given_of texts) messages refused new
-Shows-of command.Canon call input before messages refused texts all new read none told = (
-  (told.0.0, asked (λ ts. AreCanonical ts told.0.0) texts (AreCanonical-of texts all told.0.0 read told.0.1), told.0.2),
-  asked (TellsRefused refused) texts (TellsRefused-of refused texts all read told.1),
-  AreRefusals-of call.form texts all before messages read none told.2,
-)
-Shows-of command.Check call input before messages refused texts all new read none told =
-    (asked (TellsRefused refused) texts (TellsRefused-of refused texts all read told.0), AreRefusals-of call.form texts all before messages read none told.1)
-Shows-of command.Explain call input before messages refused texts all new read none told =
-    (asked (TellsRefused refused) texts (TellsRefused-of refused texts all read told.0), AreRefusals-of call.form texts all before messages read none told.1)
+Shows-of command.Canon call input before messages refused texts all new read none told =
+    (ShowsCanonical-of call.form texts all new read told.0, TellsRefused-of refused texts all read told.1, AreRefusals-of call.form texts all before messages read none told.2)
+Shows-of command.Check call input before messages refused texts all new read none told = (TellsRefused-of refused texts all read told.0, AreRefusals-of call.form texts all before messages read none told.1)
+Shows-of command.Explain call input before messages refused texts all new read none told = (TellsRefused-of refused texts all read told.0, AreRefusals-of call.form texts all before messages read none told.1)
 Shows-of command.Plan call input before messages refused texts all new read none told = found_or_refused (AddsFound command.Plan call input call.form messages refused) call before messages refused texts all new read none told
 Shows-of command.Track call input before messages refused texts all new read none told = found_or_refused (AddsFound command.Track call input call.form messages refused) call before messages refused texts all new read none told
 Shows-of command.Prefixes call input before messages refused texts all new read none told = found_or_refused (AddsFound command.Prefixes call input call.form messages refused) call before messages refused texts all new read none told

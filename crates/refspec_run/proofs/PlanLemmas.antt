@@ -1,5 +1,5 @@
 -- What is told of a plan.
-use Rattle.std.proofs.Common.{◌≡◌, ◌≢◌, ◌⊎◌, ◌==◌, ℕ, Bool, true, false, not, MatchBool, List, [], inl, inr, length, map, refl, ◌∙◌, sym, subst}
+use Rattle.std.proofs.Common.{◌≡◌, ◌≢◌, ◌⊎◌, ◌==◌, ℕ, Bool, true, false, not, MatchBool, List, [], ◌++◌, Option, ap, inl, inr, length, map, option_map, refl, ◌∙◌, sym, subst}
 use Rattle.gix_refspec.specs.Views.Issue.{ForwardOutcome, conflicts_of, mappings_of}
 use Rattle.gix_refspec.specs.Matching.Validation.{Conflict}
 use Rattle.gix_refspec.specs.Matching.Mappings.{Mapped}
@@ -8,18 +8,20 @@ use Rattle.gix_refspec.specs.Specs.Reading.{Reading}
 use Rattle.gix_refspec.specs.Matching.RefNames.{LeftOut}
 use Rattle.gix_refspec.specs.declared.match_group.validate.Error.{Error}
 use Rattle.refspec_run.specs.declared.call.Form.{Form}
-use Rattle.refspec_run.specs.declared.call.Form.TheVariants as form
 use Rattle.refspec_run.specs.declared.mappings.Columns.TheVariants as columns
 use Rattle.refspec_run.specs.declared.plan.Written.{Written}
 use Rattle.refspec_run.specs.declared.plan.Written.TheVariants as written
-use Rattle.refspec_run.specs.Conflicts.{AddsConflicts}
+use Rattle.refspec_run.specs.Conflicts.{AddsConflicts, IsConflict}
 use Rattle.refspec_run.specs.Input.{AreRecords}
-use Rattle.refspec_run.specs.Plan.{AddsPlan, AddsWritten, IsPlanByNames, IsWhole, LeavesOut}
+use Rattle.refspec_json.specs.Objects.{left_out_object, line_of, malformed_object}
+use Rattle.refspec_run.specs.declared.call.Form.TheVariants as form
+use Rattle.refspec_run.specs.declared.texts.Place.{Place}
+use Rattle.refspec_run.specs.Json.{AddsObjects, json_text}
+use Rattle.refspec_run.specs.Messages.{IsPlace}
+use Rattle.refspec_run.specs.Plan.{AddsPlan, AddsWritten, IsLeftOutLine, IsLeftOutOf, IsMalformed, IsPlanByNames, IsWhole, LeavesOut, PutsMalformed}
 use Rattle.refspec_run.specs.Refs.{TellNames}
-use Rattle.refspec_run.specs.Rows.{AddsMappings, AreSpecTexts}
-use Rattle.refspec_run.specs.Shown.{KeepsResults}
+use Rattle.refspec_run.specs.Rows.{AddsMappings, AreSpecTexts, source_text}
 use Rattle.refspec_run.proofs.PrefixLemmas.{no_names, some_names}
-use Rattle.refspec_run.proofs.ShownLemmas.{KeepsResults-next}
 
 -- mappings are written
 pub AddsWritten-mappings : (f : Form) (texts : List (List ℕ)) (made : Written) (outcome : ForwardOutcome) (ms : List Mapped) (before messages old new : List ℕ) → made ≡ written.Mappings outcome → ms ≡ mappings_of outcome → AddsMappings f columns.SourceFirst texts ms old new → AddsWritten f texts made before messages old new
@@ -27,16 +29,27 @@ AddsWritten-mappings f texts made outcome ms before messages old new is same tol
     subst (λ (w : Written). AddsWritten f texts w before messages old new) (sym is) (subst (λ (l : List Mapped). AddsMappings f columns.SourceFirst texts l old new) same told)
 
 -- nothing is
-pub AddsWritten-nothing : (f : Form) (texts : List (List ℕ)) (made : Written) (error : Error) (cs : List Conflict) (before messages old new : List ℕ) → made ≡ written.Nothing error → cs ≡ conflicts_of error → KeepsResults f old new → AddsConflicts f cs before messages → AddsWritten f texts made before messages old new
-AddsWritten-nothing f texts made error cs before messages old new is same kept told =
-    subst (λ (w : Written). AddsWritten f texts w before messages old new) (sym is) (kept, subst (λ (l : List Conflict). AddsConflicts f l before messages) same told)
+pub AddsWritten-nothing : (f : Form) (texts : List (List ℕ)) (made : Written) (error : Error) (cs : List Conflict) (before messages old new : List ℕ) → made ≡ written.Nothing error → cs ≡ conflicts_of error → AddsObjects f IsConflict cs old new → AddsConflicts f cs before messages → AddsWritten f texts made before messages old new
+AddsWritten-nothing f texts made error cs before messages old new is same objects told =
+    subst (λ (w : Written). AddsWritten f texts w before messages old new) (sym is) (subst (λ (l : List Conflict). AddsObjects f IsConflict l old new) same objects, subst (λ (l : List Conflict). AddsConflicts f l before messages) same told)
 
--- results that stayed as they were, and then what is written
-AddsWritten-after : (f : Form) (texts : List (List ℕ)) (made : Written) (before messages old mid new : List ℕ) → KeepsResults f old mid → AddsWritten f texts made before messages mid new → AddsWritten f texts made before messages old new
-AddsWritten-after form.Lines texts made before messages old mid new kept told = subst (λ (x : List ℕ). AddsWritten form.Lines texts made before messages x new) kept told
-AddsWritten-after form.Zeros texts made before messages old mid new kept told = subst (λ (x : List ℕ). AddsWritten form.Zeros texts made before messages x new) kept told
-AddsWritten-after form.Json texts (written.Mappings outcome) before messages old mid new kept told = tt
-AddsWritten-after form.Json texts (written.Nothing error) before messages old mid new kept told = (tt, tt)
+-- the object of what is left out, field by field
+pub left_out_line-of : (m : Mapped) (text source spec message : List ℕ) (destination : Option (List ℕ)) (old new : List ℕ) → source ≡ json_text (source_text m.source) → destination ≡ option_map json_text m.destination → spec ≡ json_text text → new ≡ old ++ line_of (left_out_object source destination spec message) → (line : List ℕ) × IsLeftOutLine text m line × (new ≡ old ++ line)
+left_out_line-of m text source spec message destination old new is_source is_destination is_spec put = (
+  line_of (left_out_object (json_text (source_text m.source)) (option_map json_text m.destination) (json_text text) message),
+  (message, refl),
+  put ∙ (ap (λ x. old ++ line_of (left_out_object x destination spec message)) is_source
+      ∙ (ap (λ x. old ++ line_of (left_out_object (json_text (source_text m.source)) x spec message)) is_destination
+      ∙ ap (λ x. old ++ line_of (left_out_object (json_text (source_text m.source)) (option_map json_text m.destination) x message)) is_spec)),
+)
+
+-- and that of a record that is no ref
+pub malformed_line-of : (p : Place) (bytes at text message old new : List ℕ) → IsPlace form.Json p at → text ≡ json_text bytes → new ≡ old ++ line_of (malformed_object at text message) → PutsMalformed p bytes old new
+malformed_line-of p bytes at text message old new is_place is_text put = (
+  line_of (malformed_object at (json_text bytes) message),
+  record { place = at; message = message; is_place = is_place; is = refl },
+  put ∙ ap (λ x. old ++ line_of (malformed_object at x message)) is_text,
+)
 
 -- what two flags are for
 with_records : (refused has : Bool) (P Q L W : Type 0) → MatchBool has P Q → MatchBool refused ((has ≡ true) ⊎ L) ((has ≡ false) × W) → MatchBool refused (P ⊎ L) (Q × W)
@@ -55,11 +68,10 @@ some_records f xs true is = no_names f xs is
 some_records f xs false is = some_names f xs is
 
 -- the plan of the refs in the records, told after two lists of messages
-pub AddsPlan-of : (f one two : Form) (end e : ℕ) (input : List ℕ) (refused has : Bool) (bad : List (List ℕ)) (g : List Reading) (named : List Ref) (texts shown : List (List ℕ)) (made : Written) (out : List LeftOut) (before messages old first second new : List ℕ)
+pub AddsPlan-of : (f one two : Form) (end e : ℕ) (input : List ℕ) (refused has : Bool) (bad : List (List ℕ)) (g : List Reading) (named : List Ref) (texts lent shown : List (List ℕ)) (made : Written) (out : List LeftOut) (before messages old first second new : List ℕ)
     → TellNames e input named bad → e ≡ end → AreSpecTexts g texts → IsPlanByNames g named made out
-    → one ≡ f → KeepsResults f old first → two ≡ one → KeepsResults one first second → shown ≡ texts → AddsWritten two shown made before messages second new → MatchBool has (bad ≢ []) (bad ≡ []) → MatchBool refused ((has ≡ true) ⊎ LeavesOut made out) ((has ≡ false) × IsWhole made out) → AddsPlan f end input messages refused g old new
-AddsPlan-of f one two end e input refused has bad g named texts shown made out before messages old first second new (refs, (records, cut, told), same_names) same_end of_specs plan same_one kept_first same_two kept_second same_texts after some status =
-    let kept = KeepsResults-next f one old first second same_one kept_first kept_second in
+    → one ≡ f → AddsObjects f IsMalformed bad old first → two ≡ one → AddsObjects one (IsLeftOutOf lent) out first second → lent ≡ texts → shown ≡ texts → AddsWritten two shown made before messages second new → MatchBool has (bad ≢ []) (bad ≡ []) → MatchBool refused ((has ≡ true) ⊎ LeavesOut made out) ((has ≡ false) × IsWhole made out) → AddsPlan f end input messages refused g old new
+AddsPlan-of f one two end e input refused has bad g named texts lent shown made out before messages old first second new (refs, (records, cut, told), same_names) same_end of_specs plan same_one malformed same_two left_out same_lent same_texts after some status =
     let tells = subst (λ (x : Form). AddsWritten x texts made before messages second new) (same_two ∙ same_one) (subst (λ (l : List (List ℕ)). AddsWritten two l made before messages second new) same_texts after) in
     record {
       records = records;
@@ -72,7 +84,11 @@ AddsPlan-of f one two end e input refused has bad g named texts shown made out b
       refs = told;
       of_specs = of_specs;
       plan = plan refs same_names;
-      told = AddsWritten-after f texts made before messages old second new kept tells;
+      first = first;
+      second = second;
+      malformed = malformed;
+      left_out = subst (λ (x : Form). AddsObjects x (IsLeftOutOf texts) out first second) same_one (subst (λ (l : List (List ℕ)). AddsObjects one (IsLeftOutOf l) out first second) same_lent left_out);
+      told = tells;
       bad = bad;
       status = with_records refused has (bad ≢ []) (bad ≡ []) (LeavesOut made out) (IsWhole made out) some status;
     }

@@ -1,5 +1,5 @@
 -- Rows, one after another, and their parts.
-use Rattle.std.proofs.Common.{◌≡◌, ℕ, zero, suc, arith, ◌+◌, ◌<◌, ◌≤◌, List, [], ◌∷◌, ◌++◌, map, flat_map, length, take, get_or, unwrap_or, replicate, codes, Some, refl, sym, ap, ◌∙◌, subst, append_assoc}
+use Rattle.std.proofs.Common.{◌≡◌, ℕ, zero, suc, arith, ◌+◌, ◌<◌, ◌≤◌, List, [], ◌∷◌, ◌++◌, map, flat_map, length, take, get_or, unwrap_or, replicate, codes, Option, option_map, Some, refl, sym, ap, ◌∙◌, subst, append_assoc}
 use Rattle.std.proofs.lemmas.List.{append-nil, map-append, take_more}
 use Rattle.std.proofs.lemmas.Grind.{flat_map-append}
 use Rattle.gix_refspec.specs.Matching.Mappings.{Mapped}
@@ -11,14 +11,16 @@ use Rattle.gix_refspec.specs.Specs.Reading.{Reading}
 use Rattle.gix_refspec.specs.Views.Spec.{reading_of}
 use Rattle.bstr.specs.Owned.{bstring_bytes}
 use Rattle.bstr.specs.declared.bstring.BString.{BString}
+use Rattle.refspec_json.specs.Objects.{line_of, mapping_object}
 use Rattle.refspec_run.specs.declared.call.Form.{Form}
 use Rattle.refspec_run.specs.declared.call.Form.TheVariants as form
 use Rattle.refspec_run.specs.declared.mappings.Columns.{Columns}
 use Rattle.refspec_run.specs.declared.mappings.Columns.TheVariants as columns
-use Rattle.refspec_run.specs.Rows.{AddsLines, AddsMappings, AreRowLines, AreSpecTexts, PutsCell, PutsCells, PutsLine, Row, fields, first_side, row_of, second_side, source_text}
-use Rattle.refspec_run.specs.Shown.{KeepsResults, PutsQuoted, zero_ended}
+use Rattle.refspec_run.specs.Json.{json_text}
+use Rattle.refspec_run.specs.Rows.{AddsLines, AddsMappings, AreRowLines, AreSpecTexts, PutsCell, PutsCells, PutsLine, Row, fields, first_side, mapped_object, object_of, row_of, second_side, source_text}
+use Rattle.refspec_run.specs.Shown.{PutsQuoted, zero_ended}
 use Rattle.refspec_run.proofs.CheckedLemmas.{zip_last}
-use Rattle.refspec_run.proofs.ShownLemmas.{behind, map-twice}
+use Rattle.refspec_run.proofs.ShownLemmas.{behind, flat_map-map, map-twice}
 
 -- one more element gives one more row
 one_more : {X Y : Type 0} (f : X → Y) (xs : List X) (i : ℕ) (d : X) → i < length xs → map f (take (i + 1) xs) ≡ map f (take i xs) ++ f (get_or xs i d) ∷ []
@@ -88,6 +90,18 @@ pub AddsMappings-zeros : (f : Form) (o : Columns) (texts : List (List ℕ)) (ms 
 AddsMappings-zeros f o texts ms old new same told =
     subst (λ (x : Form). AddsMappings x o texts (map mapped_of ms) old new) (sym same) (told ∙ ap (λ l. old ++ flat_map fields l) (map-twice (row_of [] o texts) mapped_of ms))
 
+-- the object of a mapping, field by field
+pub mapped_object-of : (m : Mapped) (text source spec : List ℕ) (destination : Option (List ℕ)) (old new : List ℕ) → source ≡ json_text (source_text m.source) → destination ≡ option_map json_text m.destination → spec ≡ json_text text → new ≡ old ++ line_of (mapping_object source destination spec) → new ≡ old ++ mapped_object text m
+mapped_object-of m text source spec destination old new is_source is_destination is_spec put =
+    put ∙ (ap (λ x. old ++ line_of (mapping_object x destination spec)) is_source
+    ∙ (ap (λ x. old ++ line_of (mapping_object (json_text (source_text m.source)) x spec)) is_destination
+    ∙ ap (λ x. old ++ line_of (mapping_object (json_text (source_text m.source)) (option_map json_text m.destination) x)) is_spec))
+
+-- and as objects
+pub AddsMappings-json : (f : Form) (o : Columns) (texts : List (List ℕ)) (ms : List Mapping) (old new : List ℕ) → f ≡ form.Json → new ≡ old ++ flat_map (λ m. object_of texts (mapped_of m)) ms → AddsMappings f o texts (map mapped_of ms) old new
+AddsMappings-json f o texts ms old new same told =
+    subst (λ (x : Form). AddsMappings x o texts (map mapped_of ms) old new) (sym same) (told ∙ ap (λ l. old ++ l) (flat_map-map (object_of texts) mapped_of ms))
+
 -- two spaces or more
 two_or_more : (n : ℕ) → 2 ≤ n → (more : ℕ) × (replicate {A = ℕ} n 32 ≡ 32 ∷ 32 ∷ replicate more 32)
 two_or_more zero enough = absurd (omega arith)
@@ -108,15 +122,3 @@ texts_next specs i d old new text below here read grown so_far =
     subst (λ (g : List Reading). AreSpecTexts g (map bstring_bytes new)) (sym (one_more reading_of specs i d below))
     (subst (AreSpecTexts (map reading_of (take i specs) ++ reading_of (get_or specs i d) ∷ [])) (sym (ap (map bstring_bytes) grown ∙ map-append bstring_bytes old (text ∷ [])))
     (zip_last (λ (r : Reading) (x : List ℕ). printed r ≡ Some x) (map reading_of (take i specs)) (map bstring_bytes old) (reading_of (get_or specs i d)) (bstring_bytes text) so_far is))
-
--- mappings, and then nothing more
-pub AddsMappings-kept : (f g : Form) (o : Columns) (texts : List (List ℕ)) (ms : List Mapped) (old mid new : List ℕ) → g ≡ f → AddsMappings f o texts ms old mid → KeepsResults g mid new → AddsMappings f o texts ms old new
-AddsMappings-kept form.Lines g o texts ms old mid new same told kept = subst (λ (x : List ℕ). AddsMappings form.Lines o texts ms old x) (sym (subst (λ (x : Form). KeepsResults x mid new) same kept)) told
-AddsMappings-kept form.Zeros g o texts ms old mid new same told kept = subst (λ (x : List ℕ). AddsMappings form.Zeros o texts ms old x) (sym (subst (λ (x : Form). KeepsResults x mid new) same kept)) told
-AddsMappings-kept form.Json g o texts ms old mid new same told kept = tt
-
--- results that stayed as they were, and then mappings
-pub AddsMappings-after : (f : Form) (o : Columns) (texts : List (List ℕ)) (ms : List Mapped) (old mid new : List ℕ) → KeepsResults f old mid → AddsMappings f o texts ms mid new → AddsMappings f o texts ms old new
-AddsMappings-after form.Lines o texts ms old mid new kept told = subst (λ (x : List ℕ). AddsMappings form.Lines o texts ms x new) kept told
-AddsMappings-after form.Zeros o texts ms old mid new kept told = subst (λ (x : List ℕ). AddsMappings form.Zeros o texts ms x new) kept told
-AddsMappings-after form.Json o texts ms old mid new kept told = tt

@@ -43,28 +43,30 @@ AreLines-append before (x ∷ xs) ys front back some more = (
 )
 
 -- where nothing was added, no name was shown
-pub AddsNames-none : (f : Form) (before old new : List ℕ) → KeepsResults f old new → AddsNames f before [] old new
+pub AddsNames-none : (f : Form) (before old new : List ℕ) → new ≡ old → AddsNames f before [] old new
 AddsNames-none form.Lines before old new kept = ([], refl, kept ∙ sym (append-nil old))
 AddsNames-none form.Zeros before old new kept = kept ∙ sym (append-nil old)
-AddsNames-none form.Json before old new kept = tt
+AddsNames-none form.Json before old new kept = kept
 
 pub KeepsResults-same : (f : Form) (old : List ℕ) → KeepsResults f old old
 KeepsResults-same form.Lines old = refl
 KeepsResults-same form.Zeros old = refl
-KeepsResults-same form.Json old = tt
+KeepsResults-same form.Json old = ([], sym (append-nil old))
 
 -- some names and then others
 pub AddsNames-append : (f : Form) (before : List ℕ) (xs ys : List (List ℕ)) (old mid new : List ℕ) → AddsNames f before xs old mid → AddsNames f before ys mid new → AddsNames f before (xs ++ ys) old new
 AddsNames-append form.Lines before xs ys old mid new a b = (a.0 ++ b.0, AreLines-append before xs ys a.0 b.0 a.1 b.1, behind old a.0 mid b.0 new a.2 b.2)
 AddsNames-append form.Zeros before xs ys old mid new a b =
     behind old (flat_map zero_ended xs) mid (flat_map zero_ended ys) new a b ∙ ap (λ l. old ++ l) (sym (flat_map-append zero_ended xs ys))
-AddsNames-append form.Json before xs ys old mid new a b = tt
+AddsNames-append form.Json before xs ys old mid new a b = b ∙ a
 
 -- results that stayed as they were, twice
 pub KeepsResults-next : (f g : Form) (old mid new : List ℕ) → g ≡ f → KeepsResults f old mid → KeepsResults g mid new → KeepsResults f old new
 KeepsResults-next form.Lines g old mid new same a b = subst (λ (x : Form). KeepsResults x mid new) same b ∙ a
 KeepsResults-next form.Zeros g old mid new same a b = subst (λ (x : Form). KeepsResults x mid new) same b ∙ a
-KeepsResults-next form.Json g old mid new same a b = tt
+KeepsResults-next form.Json g old mid new same a b =
+    let b2 = subst (λ (x : Form). KeepsResults x mid new) same b in
+    (a.0 ++ b2.0, behind old a.0 mid b2.0 new a.1 b2.1)
 
 -- pages that keep their results
 pub KeepsPage-same : (p : Page) → KeepsPage p p
@@ -79,6 +81,17 @@ AddsNames-next f g before shown xs i d name old mid new below same is a b =
     let b2 = subst (λ (x : Form). AddsNames x before (name ∷ []) mid new) same b in
     let step : map shown (take (i + 1) xs) ≡ map shown (take i xs) ++ name ∷ [] = ap (map shown) (take_more xs i d below) ∙ (map-append shown (take i xs) (get_or xs i d ∷ []) ∙ ap (λ z. map shown (take i xs) ++ z ∷ []) (sym is)) in
     subst (λ (l : List (List ℕ)). AddsNames f before l old new) (sym step) (AddsNames-append f before (map shown (take i xs)) (name ∷ []) old mid new a b2)
+
+-- mapped and then joined
+pub flat_map-map : {X Y Z : Type 0} (f : Y → List Z) (g : X → Y) (xs : List X) → flat_map (λ x. f (g x)) xs ≡ flat_map f (map g xs)
+flat_map-map f g [] = refl
+flat_map-map f g (x ∷ xs) = ap (λ l. f (g x) ++ l) (flat_map-map f g xs)
+
+-- one piece more
+pub flat_next : {X : Type 0} (f : X → List ℕ) (xs : List X) (i : ℕ) (d : X) (piece old mid new : List ℕ) → i < length xs → piece ≡ f (get_or xs i d) → mid ≡ old ++ flat_map f (take i xs) → new ≡ mid ++ piece → new ≡ old ++ flat_map f (take (i + 1) xs)
+flat_next f xs i d piece old mid new below is before put =
+    let step : flat_map f (take (i + 1) xs) ≡ flat_map f (take i xs) ++ piece = ap (flat_map f) (take_more xs i d below) ∙ (flat_map-append f (take i xs) (get_or xs i d ∷ []) ∙ ap (λ l. flat_map f (take i xs) ++ l) (append-nil (f (get_or xs i d)) ∙ sym is)) in
+    behind old (flat_map f (take i xs)) mid piece new before put ∙ ap (λ l. old ++ l) (sym step)
 
 -- one byte more between quotes
 pub escaped-next : (text : List ℕ) (i d b : ℕ) (old mid new : List ℕ) → i < length text → b ≡ get_or text i d → mid ≡ old ++ (34 ∷ flat_map escaped (take i text)) → new ≡ mid ++ escaped b → new ≡ old ++ (34 ∷ flat_map escaped (take (i + 1) text))

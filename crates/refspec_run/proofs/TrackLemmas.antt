@@ -23,7 +23,6 @@ use Rattle.refspec_run.specs.declared.mappings.Columns.TheVariants as columns
 use Rattle.refspec_run.specs.Rows.{AddsMappings, AreSpecTexts}
 use Rattle.refspec_run.specs.Shown.{KeepsResults}
 use Rattle.refspec_run.specs.Track.{AddsTracked, AreByNames, AreWritten, HasUnwritten, IsEachWritten, IsWritten, named}
-use Rattle.refspec_run.proofs.RowLemmas.{AddsMappings-after, AddsMappings-kept}
 
 -- a ref with the name and the target
 abbrev pub plain : List ℕ → List ℕ → Ref
@@ -42,9 +41,13 @@ AddsTracked-of f k h names refused refs g by_names texts found shown old first m
   looked_up = looked_up;
   kept = subst (λ (rs : List Ref). AreKeptBackward by_names rs found) are kept;
   of_specs = of_specs;
-  told = AddsMappings-after f columns.DestinationFirst texts found old first new before
-      (subst (λ (x : Form). AddsMappings x columns.DestinationFirst texts found first new) same_form
-      (AddsMappings-kept k h columns.DestinationFirst texts found first mid new form (subst (λ (ms : List Mapped). AddsMappings k columns.DestinationFirst texts ms first mid) same told) rest));
+  told = record {
+    first = first;
+    last = mid;
+    before = before;
+    told = subst (λ (x : Form). AddsMappings x columns.DestinationFirst texts found first mid) same_form (subst (λ (ms : List Mapped). AddsMappings k columns.DestinationFirst texts ms first mid) same told);
+    after = subst (λ (x : Form). KeepsResults x mid new) (form ∙ same_form) rest;
+  };
   status = whether;
 }
 

@@ -1,10 +1,12 @@
--- How conflicts are told, in lines. This project's own rule. Of JSON nothing is said here.
-use Rattle.std.specs.Prelude.{◌≡◌, ℕ, ◌+◌, List, [], ◌∷◌, ◌++◌, unwrap_or, codes, ⊤}
+-- How conflicts are told: in lines among the messages, and as objects of JSON among the results. This project's own rule.
+use Rattle.std.specs.Prelude.{◌≡◌, ℕ, ◌+◌, List, [], ◌∷◌, ◌++◌, unwrap_or, codes}
 use Rattle.std.specs.List.{slice_get}
 use Rattle.gix_refspec.specs.Matching.Mappings.{Start}
 use Rattle.gix_refspec.specs.Matching.Validation.{Conflict}
+use Rattle.refspec_json.specs.Objects.{conflict_object, line_of}
 use Rattle.refspec_run.specs.declared.call.Form.{Form}
 use Rattle.refspec_run.specs.declared.call.Form.TheVariants as form
+use Rattle.refspec_run.specs.Json.{json_text}
 use Rattle.refspec_run.specs.Rows.{source_text}
 use Rattle.refspec_run.specs.Shown.{IsQuoted}
 
@@ -48,7 +50,24 @@ abbrev pub AreToldConflicts : List Conflict → List ℕ → Type 0
 AreToldConflicts [] lines = lines ≡ []
 AreToldConflicts (c ∷ cs) lines = (one : List ℕ) × (rest : List ℕ) × IsToldConflict c one × AreToldConflicts cs rest × (lines ≡ one ++ rest)
 
--- the messages grew by what is told of the conflicts
+-- the messages grew by what is told of the conflicts, but for JSON
 abbrev pub AddsConflicts : Form → List Conflict → List ℕ → List ℕ → Type 0
-AddsConflicts form.Json cs old new = ⊤
+AddsConflicts form.Json cs old new = new ≡ old
 AddsConflicts _ cs old new = (lines : List ℕ) × AreToldConflicts cs lines × (new ≡ old ++ lines)
+
+-- a source and the text of the spec that maps it, as strings
+abbrev pub claim_of : List ℕ → List ℕ → List ℕ × List ℕ
+claim_of source text = (json_text source, json_text text)
+
+-- these for each source, in order, with the text at its place; the first one's place is k
+abbrev pub claims_from : ℕ → List Start → List (List ℕ) → List (List ℕ × List ℕ)
+claims_from k [] texts = []
+claims_from k (s ∷ sources) texts = claim_of (source_text s) (unwrap_or (slice_get texts k) []) ∷ claims_from (k + 1) sources texts
+
+-- the line of the object of a conflict
+abbrev pub conflict_line : Conflict → List ℕ
+conflict_line c = line_of (conflict_object (json_text c.destination) (claims_from 0 c.sources c.texts))
+
+-- a line is that one
+abbrev pub IsConflict : Conflict → List ℕ → Type 0
+IsConflict c line = line ≡ conflict_line c

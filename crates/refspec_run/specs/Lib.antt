@@ -2,6 +2,7 @@ pub mod Canon
 pub mod Conflicts
 pub mod Fault
 pub mod Input
+pub mod Json
 pub mod Messages
 pub mod Output
 pub mod Plan

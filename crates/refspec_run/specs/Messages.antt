@@ -1,5 +1,6 @@
 -- What the message of a refused text tells. This project's own rule.
 use Rattle.std.specs.Prelude.{◌≡◌, ◌⊎◌, ℕ, List, [], ◌∷◌, ◌++◌, codes, decimal}
+use Rattle.std.specs.Str.{IsUtf8}
 use Rattle.refspec_text.specs.declared.parsing.Error.{Error}
 use Rattle.refspec_text.specs.Specs.Explained.{explained}
 use Rattle.gix_refspec.specs.Specs.Grammar.{Reads}
@@ -15,10 +16,11 @@ use Rattle.refspec_run.specs.declared.texts.Text.{Text}
 use Rattle.refspec_run.specs.Shown.{IsQuoted}
 use Rattle.refspec_run.specs.Texts.{Given, Spot, at_record, at_setting, at_word, given_of, spot_of}
 
--- a name as a form shows it: raw in records, else as people see it
+-- a name as a form shows it: raw in records, else as people see it, and in JSON as UTF-8
 abbrev pub IsShownIn : Form → List ℕ → List ℕ → Type 0
 IsShownIn form.Zeros name shown = shown ≡ name
-IsShownIn _ name shown = IsQuoted name shown
+IsShownIn form.Lines name shown = IsQuoted name shown
+IsShownIn form.Json name shown = IsQuoted name shown × IsUtf8 shown
 
 -- where a text is found, as compilers show places: a spec by its number, a record by its input and its number, a setting by
 -- its file and key

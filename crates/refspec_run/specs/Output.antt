@@ -8,19 +8,15 @@ use Rattle.refspec_run.specs.declared.call.Command.{Command}
 use Rattle.refspec_run.specs.declared.call.Command.TheVariants as command
 use Rattle.refspec_run.specs.declared.call.Form.{Form}
 use Rattle.refspec_run.specs.declared.checked.Checked.{Checked}
-use Rattle.refspec_run.specs.Canon.{AddsCanonical, AreCanonical}
+use Rattle.refspec_run.specs.Canon.{AddsCanonical, ShowsCanonical}
 use Rattle.refspec_run.specs.Input.{ReadsToEnd, end_byte}
 use Rattle.refspec_run.specs.Messages.{AreRefusals, TellsRefusals}
 use Rattle.refspec_run.specs.Plan.{AddsPlan}
 use Rattle.refspec_run.specs.Prefixes.{AddsPrefixes}
 use Rattle.refspec_run.specs.Read.{AddsIfGood, AddsIfRead, AreGood, HasBad, TellsRefused}
-use Rattle.refspec_run.specs.Shown.{AddsNames}
 use Rattle.refspec_run.specs.Texts.{AreTexts, Given, said}
 use Rattle.refspec_run.specs.Track.{AddsTracked}
 
--- the canonical texts of the texts, each shown as the call says
-abbrev pub ShowsCanon : Call → List Given → List ℕ → Type 0
-ShowsCanon call texts output = (names : List (List ℕ)) × AreCanonical (map said texts) names × AddsNames call.form [] names [] output
 
 -- the results grew by what a command tells of specs that are read so, and whether something is refused
 abbrev pub AddsFound : Command → Call → List ℕ → Form → List ℕ → Bool → List Reading → List ℕ → List ℕ → Type 0
@@ -32,11 +28,11 @@ AddsFound _ call input form messages refused g old new = ⊤
 -- what a call makes of its texts and its input; where a text is refused, the messages are the refusals
 abbrev pub Shows : Command → Call → List ℕ → List Given → List ℕ → Bool → List ℕ → Type 0
 Shows command.Canon call input texts messages refused output =
-    ShowsCanon call texts output × TellsRefused refused (map said texts) × AreRefusals call.form texts messages
+    ShowsCanonical call.form texts output × TellsRefused refused (map said texts) × AreRefusals call.form texts messages
 Shows command.Check call input texts messages refused output = TellsRefused refused (map said texts) × AreRefusals call.form texts messages
 Shows command.Explain call input texts messages refused output = TellsRefused refused (map said texts) × AreRefusals call.form texts messages
 Shows found call input texts messages refused output =
-    AddsIfRead (AddsFound found call input call.form messages refused) (AreRefusals call.form texts messages) call.form refused (map said texts) [] output
+    AddsIfRead (AddsFound found call input call.form messages refused) (AreRefusals call.form texts messages) call.form refused texts [] output
 
 -- the messages and the output of a call for the file beside its input and its input
 abbrev pub IsOutput : Call → List ℕ → List ℕ → List ℕ → Bool → List ℕ → Type 0

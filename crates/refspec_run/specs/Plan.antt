@@ -1,5 +1,6 @@
 -- What a fetch writes, in the words of the library.
-use Rattle.std.specs.Prelude.{◌≡◌, ◌≢◌, ◌⊎◌, ℕ, Bool, List, [], MatchBool, ⊤}
+use Rattle.std.specs.Prelude.{◌≡◌, ◌≢◌, ◌⊎◌, ℕ, Bool, List, [], ◌++◌, MatchBool, option_map, unwrap_or, ⊤}
+use Rattle.std.specs.List.{slice_get}
 use Rattle.gix_refspec.specs.Specs.Reading.{Reading}
 use Rattle.gix_refspec.specs.Matching.Match.{Ref}
 use Rattle.gix_refspec.specs.Matching.Mappings.{Mapped}
@@ -8,15 +9,19 @@ use Rattle.gix_refspec.specs.Laws.Items.{HaveSameNames}
 use Rattle.gix_refspec.specs.Views.Issue.{conflicts_of, mappings_of}
 use Rattle.gix_refspec.specs.Matching.RefNames.{KeepsNamed, LeftOut}
 use Rattle.gix_refspec.specs.Matching.Validation.{AreConflicts, IsValidated, Removed}
+use Rattle.refspec_json.specs.Objects.{left_out_object, line_of, malformed_object}
 use Rattle.refspec_run.specs.declared.call.Form.{Form}
+use Rattle.refspec_run.specs.declared.call.Form.TheVariants as form
 use Rattle.refspec_run.specs.declared.mappings.Columns.TheVariants as columns
 use Rattle.refspec_run.specs.declared.plan.Written.{Written}
 use Rattle.refspec_run.specs.declared.plan.Written.TheVariants as written
-use Rattle.refspec_run.specs.Conflicts.{AddsConflicts}
+use Rattle.refspec_run.specs.declared.texts.Place.{Place}
+use Rattle.refspec_run.specs.Conflicts.{AddsConflicts, IsConflict}
 use Rattle.refspec_run.specs.Input.{AreRecords}
+use Rattle.refspec_run.specs.Json.{AddsObjects, json_text}
+use Rattle.refspec_run.specs.Messages.{IsPlace}
 use Rattle.refspec_run.specs.Refs.{AddsRefs}
-use Rattle.refspec_run.specs.Rows.{AddsMappings, AreSpecTexts}
-use Rattle.refspec_run.specs.Shown.{KeepsResults}
+use Rattle.refspec_run.specs.Rows.{AddsMappings, AreSpecTexts, source_text}
 
 -- of the mappings between names of refs, those that survive a validation are written; or nothing is, since these
 -- are their conflicts, and there are some
@@ -37,11 +42,35 @@ pub record IsPlan (g : List Reading) (items : List Ref) (made : Written) (out : 
 abbrev pub IsPlanByNames : List Reading → List Ref → Written → List LeftOut → Type 0
 IsPlanByNames g items made out = (refs : List Ref) → HaveSameNames items refs → IsPlan g refs made out
 
--- the results grew by the mappings that are written, the source first; where there are conflicts, they stayed as they were,
--- and the messages, which were before, grew by what is told of these
+-- the line of the object of a record that tells of no ref, and of a sentence on it
+pub record IsMalformedLine (p : Place) (bytes line : List ℕ) : Type 0 where
+  pub place : List ℕ
+  pub message : List ℕ
+  pub is_place : IsPlace form.Json p place
+  pub is : line ≡ line_of (malformed_object place (json_text bytes) message)
+
+-- bytes grew by that line
+abbrev pub PutsMalformed : Place → List ℕ → List ℕ → List ℕ → Type 0
+PutsMalformed p bytes old new = (line : List ℕ) × IsMalformedLine p bytes line × (new ≡ old ++ line)
+
+-- that line, wherever the record is
+abbrev pub IsMalformed : List ℕ → List ℕ → Type 0
+IsMalformed bytes line = (p : Place) × IsMalformedLine p bytes line
+
+-- the line of the object of a mapping that is left out, with the text of its spec, and of a sentence on it
+abbrev pub IsLeftOutLine : List ℕ → Mapped → List ℕ → Type 0
+IsLeftOutLine text m line =
+    (message : List ℕ) × (line ≡ line_of (left_out_object (json_text (source_text m.source)) (option_map json_text m.destination) (json_text text) message))
+
+-- the same, where the texts of all specs are given
+abbrev pub IsLeftOutOf : List (List ℕ) → LeftOut → List ℕ → Type 0
+IsLeftOutOf texts m line = IsLeftOutLine (unwrap_or (slice_get texts m.mapping.spec) []) m.mapping line
+
+-- the results grew by the mappings that are written, the source first; where there are conflicts, the results of JSON grew by
+-- what is told of these, and else the messages, which were before
 abbrev pub AddsWritten : Form → List (List ℕ) → Written → List ℕ → List ℕ → List ℕ → List ℕ → Type 0
 AddsWritten form texts (written.Mappings outcome) before messages old new = AddsMappings form columns.SourceFirst texts (mappings_of outcome) old new
-AddsWritten form texts (written.Nothing error) before messages old new = KeepsResults form old new × AddsConflicts form (conflicts_of error) before messages
+AddsWritten form texts (written.Nothing error) before messages old new = AddsObjects form IsConflict (conflicts_of error) old new × AddsConflicts form (conflicts_of error) before messages
 
 -- a mapping is left out, or nothing is written
 abbrev pub LeavesOut : Written → List LeftOut → Type 0
@@ -53,8 +82,8 @@ abbrev pub IsWhole : Written → List LeftOut → Type 0
 IsWhole (written.Mappings outcome) out = out ≡ []
 IsWhole (written.Nothing error) out = ⊥
 
--- the results grew by what a fetch writes of the refs in the records of an input; where that is nothing, the messages end
--- by what is told of the conflicts
+-- the results grew by what a fetch writes of the refs in the records of an input, in JSON after bad records and what is left
+-- out; where that is nothing, conflicts are told, at the end of the messages or in JSON of the results
 pub record AddsPlan (form : Form) (end : ℕ) (input messages : List ℕ) (refused : Bool) (g : List Reading) (old new : List ℕ) : Type 0 where
   pub records : List (List ℕ)
   pub items : List Ref
@@ -67,5 +96,9 @@ pub record AddsPlan (form : Form) (end : ℕ) (input messages : List ℕ) (refus
   pub refs : AddsRefs records [] items bad
   pub of_specs : AreSpecTexts g texts
   pub plan : IsPlan g items made out
-  pub told : AddsWritten form texts made before messages old new
+  pub first : List ℕ
+  pub second : List ℕ
+  pub malformed : AddsObjects form IsMalformed bad old first
+  pub left_out : AddsObjects form (IsLeftOutOf texts) out first second
+  pub told : AddsWritten form texts made before messages second new
   pub status : MatchBool refused ((bad ≢ []) ⊎ LeavesOut made out) ((bad ≡ []) × IsWhole made out)

@@ -1,6 +1,7 @@
 -- What a text is, in the words of the library.
-use Rattle.std.specs.Prelude.{◌≡◌, ◌⊎◌, ℕ, Bool, true, List, [], ◌∷◌, MatchBool, ⊤}
+use Rattle.std.specs.Prelude.{◌≡◌, ◌⊎◌, ℕ, Bool, true, List, [], ◌∷◌, map, MatchBool, ⊤}
 use Rattle.std.specs.List.{AllZip}
+use Rattle.refspec_text.specs.declared.parsing.Error.{Error}
 use Rattle.refspec_text.specs.declared.parsing.Operation.{Operation}
 use Rattle.gix_refspec.specs.Specs.Grammar.{Reads}
 use Rattle.gix_refspec.specs.Specs.Reading.{Reading}
@@ -11,7 +12,8 @@ use Rattle.refspec_run.specs.declared.call.Form.{Form}
 use Rattle.refspec_run.specs.declared.checked.Checked.{Checked}
 use Rattle.refspec_run.specs.declared.checked.Checked.TheVariants as checked
 use Rattle.refspec_run.specs.declared.texts.Text.{Text}
-use Rattle.refspec_run.specs.Shown.{KeepsResults}
+use Rattle.refspec_run.specs.Json.{AddsObjects, IsRefusedLine}
+use Rattle.refspec_run.specs.Texts.{Given, given_of, said}
 
 -- a text was read as a spec for its operation, or the first reason against it was found
 abbrev pub IsChecked : Text → Checked → Type 0
@@ -48,13 +50,32 @@ HasRefused (t ∷ texts) = ((e : Refusal) × IsRefused t.0 t.1 e) ⊎ HasRefused
 abbrev pub TellsRefused : Bool → List (Operation × List ℕ) → Type 0
 TellsRefused refused texts = MatchBool refused (HasRefused texts) ((g : List Reading) × AreRead texts g)
 
--- the results grew by what is told of specs that are read so; where some text is refused, they stayed as they were, and of the
--- refusals is told
-abbrev pub AddsIfRead : (List Reading → List ℕ → List ℕ → Type 0) → Type 0 → Form → Bool → List (Operation × List ℕ) → List ℕ → List ℕ → Type 0
+-- the line of the object of a text, which is refused
+pub record IsRefusal (t : Given) (line : List ℕ) : Type 0 where
+  pub text : Text
+  pub error : Error
+  pub is_text : given_of text ≡ t
+  pub refused : ShowsRefusal (IsRefused t.operation t.bytes) error
+  pub is : IsRefusedLine text error line
+
+-- what is told of a text: that line, if it is refused
+abbrev pub IsReadOrRefusal : Given → List ℕ → Type 0
+IsReadOrRefusal t line = (((r : Reading) × Reads t.operation t.bytes r) × (line ≡ [])) ⊎ IsRefusal t line
+
+-- the same of a text that was checked
+abbrev pub IsRefusalOf : Checked → List ℕ → Type 0
+IsRefusalOf (checked.Good text spec) line = line ≡ []
+IsRefusalOf (checked.Bad text error) line = IsRefusedLine text error line
+
+-- the results grew by what is told of specs that are read so; where some text is refused, they stayed as they were, but for the
+-- objects of JSON, and of the refusals is told
+abbrev pub AddsIfRead : (List Reading → List ℕ → List ℕ → Type 0) → Type 0 → Form → Bool → List Given → List ℕ → List ℕ → Type 0
 AddsIfRead Adds Refuses form refused texts old new =
-    ((g : List Reading) × AreRead texts g × Adds g old new) ⊎ (HasRefused texts × KeepsResults form old new × (refused ≡ true) × Refuses)
+    ((g : List Reading) × AreRead (map said texts) g × Adds g old new)
+    ⊎ (HasRefused (map said texts) × AddsObjects form IsReadOrRefusal texts old new × (refused ≡ true) × Refuses)
 
 -- the same of texts that were checked
 abbrev pub AddsIfGood : (List Reading → List ℕ → List ℕ → Type 0) → Type 0 → Form → Bool → List Checked → List ℕ → List ℕ → Type 0
 AddsIfGood Adds Refuses form refused all old new =
-    ((g : List Reading) × AllZip IsSpec all g × Adds g old new) ⊎ (HasBad all × KeepsResults form old new × (refused ≡ true) × Refuses)
+    ((g : List Reading) × AllZip IsSpec all g × Adds g old new)
+    ⊎ (HasBad all × AddsObjects form IsRefusalOf all old new × (refused ≡ true) × Refuses)

@@ -1,5 +1,5 @@
--- How mappings are written, in lines and ended by zero bytes. This project's own rule. Of JSON nothing is said here.
-use Rattle.std.specs.Prelude.{◌≡◌, ℕ, List, [], ◌∷◌, ◌++◌, Some, map, unwrap_or, replicate, codes, ⊤}
+-- How mappings are written: in lines, ended by zero bytes, and as objects of JSON. This project's own rule.
+use Rattle.std.specs.Prelude.{◌≡◌, ℕ, List, [], ◌∷◌, ◌++◌, Some, map, option_map, unwrap_or, replicate, codes}
 use Rattle.std.specs.List.{AllZip, flat_map, slice_get}
 use Rattle.gix_refspec.specs.Matching.Mappings.{Start, name, id, Mapped}
 use Rattle.gix_refspec.specs.Specs.Meaning.{printed}
@@ -9,7 +9,9 @@ use Rattle.refspec_run.specs.declared.call.Form.{Form}
 use Rattle.refspec_run.specs.declared.call.Form.TheVariants as form
 use Rattle.refspec_run.specs.declared.mappings.Columns.{Columns}
 use Rattle.refspec_run.specs.declared.mappings.Columns.TheVariants as columns
-use Rattle.refspec_run.specs.Shown.{IsQuoted, zero_ended}
+use Rattle.refspec_json.specs.Objects.{line_of, mapping_object}
+use Rattle.refspec_run.specs.Json.{json_text}
+use Rattle.refspec_run.specs.Shown.{IsQuoted, KeepsResults, zero_ended}
 
 -- the canonical texts of the specs, in order
 abbrev pub AreSpecTexts : List Reading → List (List ℕ) → Type 0
@@ -91,8 +93,25 @@ fields r = (zero_ended r.first ++ zero_ended r.second) ++ zero_ended r.spec
 abbrev pub AddsLines : List Row → List ℕ → List ℕ → Type 0
 AddsLines rows old new = (lines : List ℕ) × AreRowLines rows lines × (new ≡ old ++ lines)
 
--- the results grew by mappings, in order: in a line `FETCH_HEAD` stands for no destination, else an empty field
+-- the line of the object of a mapping, with the text of its spec
+abbrev pub mapped_object : List ℕ → Mapped → List ℕ
+mapped_object text m = line_of (mapping_object (json_text (source_text m.source)) (option_map json_text m.destination) (json_text text))
+
+-- the same, where the texts of all specs are given
+abbrev pub object_of : List (List ℕ) → Mapped → List ℕ
+object_of texts m = mapped_object (unwrap_or (slice_get texts m.spec) []) m
+
+-- the results grew by mappings, in order: where one has no destination, a line has `FETCH_HEAD`, a record an empty field, and
+-- an object null
 abbrev pub AddsMappings : Form → Columns → List (List ℕ) → List Mapped → List ℕ → List ℕ → Type 0
 AddsMappings form.Lines order texts mappings old new = AddsLines (map (row_of (codes "FETCH_HEAD") order texts) mappings) old new
 AddsMappings form.Zeros order texts mappings old new = new ≡ old ++ flat_map fields (map (row_of [] order texts) mappings)
-AddsMappings form.Json order texts mappings old new = ⊤
+AddsMappings form.Json order texts mappings old new = new ≡ old ++ flat_map (object_of texts) mappings
+
+-- so they did, after and before messages, which JSON has among its results
+pub record AddsMappingsAmong (form : Form) (order : Columns) (texts : List (List ℕ)) (mappings : List Mapped) (old new : List ℕ) : Type 0 where
+  pub first : List ℕ
+  pub last : List ℕ
+  pub before : KeepsResults form old first
+  pub told : AddsMappings form order texts mappings first last
+  pub after : KeepsResults form last new

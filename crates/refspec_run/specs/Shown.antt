@@ -1,5 +1,5 @@
--- How results are written, in lines and ended by zero bytes. This project's own rule. Of JSON nothing is said here.
-use Rattle.std.specs.Prelude.{◌≡◌, ◌⊎◌, ℕ, ◌+◌, ◌/◌, ◌%◌, List, [], ◌∷◌, ◌++◌, Option, Some, None, cond, ◌==◌, ◌&&◌, ◌||◌, nat_le, ⊤}
+-- How results are written, in lines and ended by zero bytes. This project's own rule. Objects of JSON are elsewhere.
+use Rattle.std.specs.Prelude.{◌≡◌, ◌⊎◌, ℕ, ◌+◌, ◌/◌, ◌%◌, List, [], ◌∷◌, ◌++◌, Option, Some, None, cond, ◌==◌, ◌&&◌, ◌||◌, nat_le}
 use Rattle.std.specs.List.{flat_map}
 use Rattle.refspec_run.specs.declared.call.Form.{Form}
 use Rattle.refspec_run.specs.declared.call.Form.TheVariants as form
@@ -42,15 +42,19 @@ AreLines before (name ∷ names) lines =
 abbrev pub zero_ended : List ℕ → List ℕ
 zero_ended name = name ++ (0 ∷ [])
 
--- the results grew by the names, each shown as the form says
+-- the results grew by the names, each shown as the form says; in JSON a name is no object by itself
 abbrev pub AddsNames : Form → List ℕ → List (List ℕ) → List ℕ → List ℕ → Type 0
 AddsNames form.Lines before names old new = (lines : List ℕ) × AreLines before names lines × (new ≡ old ++ lines)
 AddsNames form.Zeros before names old new = new ≡ old ++ flat_map zero_ended names
-AddsNames form.Json before names old new = ⊤
+AddsNames form.Json before names old new = new ≡ old
 
--- the results stayed as they were, but for JSON, which has refusals among them
+-- bytes were put after the old ones
+abbrev pub Grows : List ℕ → List ℕ → Type 0
+Grows old new = (more : List ℕ) × (new ≡ old ++ more)
+
+-- the results stayed as they were, but for JSON, which has messages among them
 abbrev pub KeepsResults : Form → List ℕ → List ℕ → Type 0
-KeepsResults form.Json old new = ⊤
+KeepsResults form.Json old new = Grows old new
 KeepsResults _ old new = new ≡ old
 
 -- so did those of the page, and its form
@@ -61,7 +65,3 @@ pub record KeepsPage (old new : Page) : Type 0 where
 -- what people see of the name was put after the old bytes
 abbrev pub PutsQuoted : List ℕ → List ℕ → List ℕ → Type 0
 PutsQuoted name old new = (shown : List ℕ) × IsQuoted name shown × (new ≡ old ++ shown)
-
--- bytes were put after the old ones
-abbrev pub Grows : List ℕ → List ℕ → Type 0
-Grows old new = (more : List ℕ) × (new ≡ old ++ more)

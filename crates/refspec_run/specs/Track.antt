@@ -11,7 +11,7 @@ use Rattle.gix_refspec.specs.Matching.Match.{Ref}
 use Rattle.gix_refspec.specs.Specs.Reading.{Reading}
 use Rattle.refspec_run.specs.declared.call.Form.{Form}
 use Rattle.refspec_run.specs.declared.mappings.Columns.TheVariants as columns
-use Rattle.refspec_run.specs.Rows.{AddsMappings, AreSpecTexts}
+use Rattle.refspec_run.specs.Rows.{AddsMappingsAmong, AreSpecTexts}
 
 -- a ref of which the name alone is given: it points to the id of zeros, which is that of no object
 abbrev pub named : List ℕ → Ref
@@ -52,5 +52,5 @@ pub record AddsTracked (form : Form) (names : List (List ℕ)) (refused : Bool) 
   pub looked_up : AreByNames g by_names
   pub kept : AreKeptBackward by_names (map named names) found
   pub of_specs : AreSpecTexts by_names texts
-  pub told : AddsMappings form columns.DestinationFirst texts found old new
+  pub told : AddsMappingsAmong form columns.DestinationFirst texts found old new
   pub status : MatchBool refused ((by_names ≢ g) ⊎ HasUnwritten names found) ((by_names ≡ g) × IsEachWritten names found)

@@ -3,9 +3,8 @@
 ghost use Rattle.std.specs.Prelude.{◌≡◌, ◌∷◌, [], List, OnOk, Some, ℕ};
 ghost use Rattle.gix_refspec.specs.Specs.Meaning.{printed};
 ghost use Rattle.gix_refspec.specs.Views.Spec.{reading_of};
-ghost use Rattle.refspec_run.specs.Canon.{AddsCanonical};
+ghost use Rattle.refspec_run.specs.Canon.{AddsCanonical, AddsCanonicalName};
 ghost use Rattle.refspec_run.specs.Messages.{TellsRefusals};
-ghost use Rattle.refspec_run.specs.Shown.{AddsNames};
 
 use crate::call::Form;
 use crate::checked::Checked;
@@ -53,7 +52,8 @@ fn tell_canonical(
     ensures form { OnOk result (page.new.form ≡ page.old.form) }
     ensures untold { OnOk result (page.new.messages ≡ page.old.messages) }
     ensures told { OnOk result ((name : List ℕ) × (printed (reading_of spec.now) ≡ Some name)
-        × AddsNames page.old.form [] (name ∷ []) page.old.results.items page.new.results.items) }
+        × AddsCanonicalName page.old.form text.now name
+        page.old.results.items page.new.results.items) }
 {
     let canonical = spec.to_bstring(alloc)?;
     match page.form {

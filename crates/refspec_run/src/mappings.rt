@@ -6,7 +6,7 @@ ghost use Rattle.bstr.specs.Owned.{bstring_bytes};
 ghost use Rattle.gix_refspec.specs.Views.Group.{mapped_of, name_bytes, start_of};
 ghost use Rattle.gix_refspec.specs.Texts.ObjectId.{id_bytes, lower_of};
 ghost use Rattle.gix_refspec.specs.Views.Spec.{reading_of};
-ghost use Rattle.refspec_run.specs.Rows.{AddsLines, AddsMappings, AreSpecTexts, PutsCell, PutsCells, PutsLine, fields, first_side, mapped_row, row_of, second_side, source_text};
+ghost use Rattle.refspec_run.specs.Rows.{AddsLines, AddsMappings, AreSpecTexts, PutsCell, PutsCells, PutsLine, fields, first_side, mapped_object, mapped_row, object_of, row_of, second_side, source_text};
 ghost use Rattle.refspec_run.specs.Shown.{zero_ended};
 
 use crate::call::Form;
@@ -125,6 +125,16 @@ fn destination_or<'a>(destination: &'a Option<NameRef<'_>>, none: &'a [u8]) -> &
     match destination {
         Some(name) => name.as_bstr().as_bytes(),
         None => none,
+    }
+}
+
+/// The bytes of a destination.
+pub fn destination_of<'a>(destination: &'a Option<NameRef<'_>>) -> Option<&'a [u8]>
+    ensures { option_map (λ b. b.now) result ≡ option_map name_bytes destination.now }
+{
+    match destination {
+        Some(name) => Some(name.as_bstr().as_bytes()),
+        None => None,
     }
 }
 
@@ -300,7 +310,10 @@ fn put_objects(
     mappings: &[Mapping<'_, '_>],
     texts: &[BString],
     out: &mut Vec<u8>,
-) -> Result<(), AllocError> {
+) -> Result<(), AllocError>
+    ensures { OnOk result (out.new.items ≡ out.old.items
+        ++ flat_map (λ m. object_of (map bstring_bytes texts.now) (mapped_of m)) mappings.now) }
+{
     for mapping in mappings {
         put_object(alloc, mapping, text_at(texts, mapping.spec_index), out)?;
     }
@@ -313,17 +326,18 @@ fn put_object(
     mapping: &Mapping<'_, '_>,
     text: &[u8],
     out: &mut Vec<u8>,
-) -> Result<(), AllocError> {
+) -> Result<(), AllocError>
+    ensures { OnOk result (out.new.items ≡
+        out.old.items ++ mapped_object text.now (mapped_of mapping.now)) }
+{
     let mut buffer = Vec::new(alloc);
     let source = json::text_of(alloc, source_of(&mapping.lhs, &mut buffer)?)?;
-    let destination = match &mapping.rhs {
-        None => None,
-        Some(name) => Some(json::text_of(alloc, name.as_bstr().as_bytes())?),
-    };
+    let destination = json::text_or_none(alloc, destination_of(&mapping.rhs))?;
     let spec = json::text_of(alloc, text)?;
+    let destination = destination.as_deref();
     let object = refspec_json::Mapping {
         source: source.as_str(),
-        destination: destination.as_ref().map(|name| name.as_str()),
+        destination,
         spec: spec.as_str(),
     };
     object.put_line(alloc, out)

@@ -1,6 +1,7 @@
 //! What a run writes: its results and its messages.
 
 ghost use Rattle.std.specs.Prelude.{◌≡◌, ◌∷◌, [], OnOk};
+ghost use Rattle.refspec_run.specs.Json.{AddsRefusal};
 ghost use Rattle.refspec_run.specs.Messages.{PutsReason, PutsRefusal, TellsRefusal};
 ghost use Rattle.refspec_run.specs.Shown.{AddsNames, Grows, KeepsPage};
 
@@ -47,6 +48,8 @@ impl Page {
         ensures kept { OnOk result (KeepsPage self.old self.new) }
         ensures told { OnOk result (TellsRefusal self.old.form text.now error.now
             self.old.messages.items self.new.messages.items) }
+        ensures object { OnOk result (AddsRefusal self.old.form text.now error.now
+            self.old.results.items self.new.results.items) }
     {
         match self.form {
             Form::Json => json::put_refusal(alloc, &mut self.results, text, error),

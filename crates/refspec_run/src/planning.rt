@@ -1,21 +1,25 @@
 //! How a plan is shown: its mappings as results, and conflicts and what is left out as messages.
 
-ghost use Rattle.std.specs.Prelude.{◌≡◌, ◌≢◌, ◌⊎◌, ◌∷◌, [], false, map, true, IfOk, MatchBool, OnOk};
+ghost use Rattle.std.specs.Prelude.{◌≡◌, ◌≢◌, ◌⊎◌, ◌++◌, ◌∷◌, [], List, false, map, true, IfOk, MatchBool, OnOk, ℕ};
 ghost use Rattle.bstr.specs.Owned.{bstring_bytes};
 ghost use Rattle.gix_refspec.specs.Matching.RefNames.{left_out_of};
 ghost use Rattle.gix_refspec.specs.Views.Group.{start_of};
 ghost use Rattle.gix_refspec.specs.Views.Issue.{conflict_of};
 ghost use Rattle.gix_refspec.specs.Views.Spec.{reading_of};
-ghost use Rattle.refspec_run.specs.Conflicts.{AddsConflicts, PutsClaim, PutsClaims, PutsConflict};
+ghost use Rattle.refspec_json.specs.Views.{claim_texts};
+ghost use Rattle.refspec_run.specs.Conflicts.{AddsConflicts, IsConflict, PutsClaim, PutsClaims, PutsConflict, claim_of, claims_from, conflict_line};
 ghost use Rattle.refspec_run.specs.Input.{end_byte};
 ghost use Rattle.refspec_run.specs.Refs.{bad_bytes};
-ghost use Rattle.refspec_run.specs.Plan.{AddsPlan, AddsWritten, IsWhole, LeavesOut};
-ghost use Rattle.refspec_run.specs.Shown.{KeepsPage, KeepsResults};
+ghost use Rattle.refspec_run.specs.Json.{AddsObjects};
+ghost use Rattle.refspec_run.specs.Plan.{AddsPlan, AddsWritten, IsLeftOutLine, IsLeftOutOf, IsMalformed, IsWhole, LeavesOut, PutsMalformed};
+ghost use Rattle.refspec_run.specs.Rows.{source_text};
 
 use crate::call::{Form, Task};
 use crate::input::end_of;
 use crate::json;
-use crate::mappings::{Columns, canonical_texts, source_of, tell_mappings, text_at};
+use crate::mappings::{
+    Columns, canonical_texts, destination_of, source_of, tell_mappings, text_at,
+};
 use crate::page::{Page, put_advice};
 use crate::plan::{Discard, Plan, Written, plan_of};
 use crate::quote::put_quoted;
@@ -27,6 +31,7 @@ use gix_refspec::match_group::names::{BadMapping, BadSide};
 use gix_refspec::match_group::validate::Issue;
 use gix_refspec::oid::{Kind, ObjectId};
 use gix_refspec::{RefSpecRef, name};
+use refspec_json::Claim;
 use std::alloc::{AllocError, Global};
 
 /// Tells what a fetch with these specs writes of the refs of an input. Returns whether something is left out or
@@ -109,7 +114,9 @@ fn tell_bad_records(
     bad: &[BadRecord<'_>],
     page: &mut Page,
 ) -> Result<bool, AllocError>
-    ensures kept { OnOk result (KeepsPage page.old page.new) }
+    ensures form { OnOk result (page.new.form ≡ page.old.form) }
+    ensures told { OnOk result (AddsObjects page.old.form IsMalformed (map bad_bytes bad.now)
+        page.old.results.items page.new.results.items) }
     ensures some { IfOk result (λ some. MatchBool some
         (map bad_bytes bad.now ≢ []) (map bad_bytes bad.now ≡ [])) }
 {
@@ -126,7 +133,9 @@ fn tell_all_left_out(
     texts: &[BString],
     page: &mut Page,
 ) -> Result<(), AllocError>
-    ensures { OnOk result (KeepsPage page.old page.new) }
+    ensures form { OnOk result (page.new.form ≡ page.old.form) }
+    ensures told { OnOk result (AddsObjects page.old.form (IsLeftOutOf (map bstring_bytes texts.now))
+        (map left_out_of left_out.now) page.old.results.items page.new.results.items) }
 {
     for bad in left_out {
         tell_left_out(alloc, bad, texts, page)?;
@@ -136,7 +145,7 @@ fn tell_all_left_out(
 
 // Tells of conflicts.
 fn tell_conflicts(alloc: Global, issues: &[Issue], page: &mut Page) -> Result<(), AllocError>
-    ensures kept { OnOk result (KeepsResults page.old.form
+    ensures objects { OnOk result (AddsObjects page.old.form IsConflict (map conflict_of issues.now)
         page.old.results.items page.new.results.items) }
     ensures told { OnOk result (AddsConflicts page.old.form (map conflict_of issues.now)
         page.old.messages.items page.new.messages.items) }
@@ -154,7 +163,9 @@ fn tell_bad_record(
     bad: &BadRecord<'_>,
     page: &mut Page,
 ) -> Result<(), AllocError>
-    ensures { OnOk result (KeepsPage page.old page.new) }
+    ensures form { OnOk result (page.new.form ≡ page.old.form) }
+    ensures told { OnOk result (AddsObjects page.old.form IsMalformed (bad_bytes bad.now ∷ [])
+        page.old.results.items page.new.results.items) }
 {
     let place = Place::Record {
         input,
@@ -187,7 +198,9 @@ fn put_malformed(
     place: &Place<'_>,
     bad: &BadRecord<'_>,
     out: &mut Vec<u8>,
-) -> Result<(), AllocError> {
+) -> Result<(), AllocError>
+    ensures { OnOk result (PutsMalformed place.now (bad_bytes bad.now) out.old.items out.new.items) }
+{
     let (message, _) = why_malformed(bad);
     let place = json::shown_place(alloc, place)?;
     let text = json::text_of(alloc, bad.bytes)?;
@@ -223,7 +236,9 @@ fn tell_left_out(
     texts: &[BString],
     page: &mut Page,
 ) -> Result<(), AllocError>
-    ensures { OnOk result (KeepsPage page.old page.new) }
+    ensures form { OnOk result (page.new.form ≡ page.old.form) }
+    ensures told { OnOk result (AddsObjects page.old.form (IsLeftOutOf (map bstring_bytes texts.now))
+        (left_out_of bad.now ∷ []) page.old.results.items page.new.results.items) }
 {
     let mut buffer = Vec::new(alloc);
     let source = source_of(&bad.mapping.lhs, &mut buffer)?;
@@ -234,19 +249,11 @@ fn tell_left_out(
     }
 }
 
-// The destination of a mapping that is left out.
-fn destination_of<'a>(bad: &'a BadMapping<'_, '_>) -> Option<&'a [u8]> {
-    match &bad.mapping.rhs {
-        Some(name) => Some(name.as_bstr().as_bytes()),
-        None => None,
-    }
-}
-
 // The side that is no name of a ref, the source if both are.
 fn wrong_of<'a>(bad: &'a BadMapping<'_, '_>, source: &'a [u8]) -> &'a [u8] {
     match bad.side {
         BadSide::Source | BadSide::Both => source,
-        BadSide::Destination => destination_of(bad).unwrap_or(b""),
+        BadSide::Destination => destination_of(&bad.mapping.rhs).unwrap_or(b""),
     }
 }
 
@@ -257,15 +264,19 @@ fn put_left_out_object(
     source: &[u8],
     spec: &[u8],
     out: &mut Vec<u8>,
-) -> Result<(), AllocError> {
+) -> Result<(), AllocError>
+    requires { source.now ≡ source_text (left_out_of bad.now).mapping.source }
+    ensures { OnOk result ((line : List ℕ) × IsLeftOutLine spec.now (left_out_of bad.now).mapping line
+        × (out.new.items ≡ out.old.items ++ line)) }
+{
     let message = why_left_out(wrong_of(bad, source));
-    let destination = destination_of(bad);
     let source = json::text_of(alloc, source)?;
-    let shown = json::text_of(alloc, destination.unwrap_or(b""))?;
+    let destination = json::text_or_none(alloc, destination_of(&bad.mapping.rhs))?;
     let spec = json::text_of(alloc, spec)?;
+    let destination = destination.as_deref();
     let object = refspec_json::LeftOut {
         source: source.as_str(),
-        destination: destination.map(|_| shown.as_str()),
+        destination,
         spec: spec.as_str(),
         message,
     };
@@ -282,7 +293,7 @@ fn put_left_out(
     let wrong = wrong_of(bad, source);
     out.extend_from_slice(b"left out: ")?;
     put_quoted(out, source)?;
-    if let Some(name) = destination_of(bad) {
+    if let Some(name) = destination_of(&bad.mapping.rhs) {
         out.extend_from_slice(b" -> ")?;
         put_quoted(out, name)?;
     }
@@ -306,7 +317,9 @@ fn why_left_out(name: &[u8]) -> &'static str {
 
 // Tells of a destination that several sources are mapped to.
 fn tell_conflict(alloc: Global, issue: &Issue, page: &mut Page) -> Result<(), AllocError>
-    ensures kept { OnOk result (KeepsPage page.old page.new) }
+    ensures form { OnOk result (page.new.form ≡ page.old.form) }
+    ensures objects { OnOk result (AddsObjects page.old.form IsConflict (conflict_of issue.now ∷ [])
+        page.old.results.items page.new.results.items) }
     ensures told { OnOk result (AddsConflicts page.old.form (conflict_of issue.now ∷ [])
         page.old.messages.items page.new.messages.items) }
 {
@@ -317,26 +330,52 @@ fn tell_conflict(alloc: Global, issue: &Issue, page: &mut Page) -> Result<(), Al
 }
 
 // Puts the object of a conflict at the end.
-fn put_conflict_object(alloc: Global, issue: &Issue, out: &mut Vec<u8>) -> Result<(), AllocError> {
+fn put_conflict_object(alloc: Global, issue: &Issue, out: &mut Vec<u8>) -> Result<(), AllocError>
+    ensures { OnOk result (out.new.items ≡ out.old.items ++ conflict_line (conflict_of issue.now)) }
+{
     let Issue::Conflict {
         destination_full_ref_name,
         sources,
         specs,
     } = issue;
-    let mut buffer = Vec::new(alloc);
-    let mut claims = Vec::with_capacity(alloc, sources.len())?;
-    for (source, spec) in sources.iter().zip(specs) {
-        claims.push(refspec_json::Claim {
-            source: json::text_of(alloc, source_of(source, &mut buffer)?)?,
-            spec: json::text_of(alloc, spec.as_bytes())?,
-        })?;
-    }
+    let claims = claims_of(alloc, sources.as_slice(), specs.as_slice())?;
     let destination = json::text_of(alloc, destination_full_ref_name.as_bytes())?;
     let object = refspec_json::Conflict {
         destination: destination.as_str(),
         sources: claims.as_slice(),
     };
     object.put_line(alloc, out)
+}
+
+// Each source, with the text of the spec at its place.
+fn claims_of(
+    alloc: Global,
+    sources: &[SourceRef<'_>],
+    texts: &[BString],
+) -> Result<Vec<Claim>, AllocError>
+    ensures { IfOk result (λ claims. map claim_texts claims.items
+        ≡ claims_from 0 (map start_of sources.now) (map bstring_bytes texts.now)) }
+{
+    let mut buffer = Vec::new(alloc);
+    let mut claims = Vec::with_capacity(alloc, sources.len())?;
+    for (place, source) in sources.iter().enumerate() {
+        claims.push(claim_of(
+            alloc,
+            source_of(source, &mut buffer)?,
+            text_at(texts, place),
+        )?)?;
+    }
+    Ok(claims)
+}
+
+// A source with the text of its spec.
+fn claim_of(alloc: Global, source: &[u8], text: &[u8]) -> Result<Claim, AllocError>
+    ensures { IfOk result (λ claim. claim_texts claim ≡ claim_of source.now text.now) }
+{
+    Ok(Claim {
+        source: json::text_of(alloc, source)?,
+        spec: json::text_of(alloc, text)?,
+    })
 }
 
 // Puts the lines of a conflict at the end.

@@ -1,12 +1,14 @@
 //! What to ask a server for.
 
-ghost use Rattle.std.specs.Prelude.{◌≡◌, ◌∷◌, [], map, IfOk, IfSome, MatchOption, OnOk};
+ghost use Rattle.std.specs.Prelude.{◌≡◌, ◌++◌, ◌∷◌, [], List, codes, map, true, IfOk, IfSome, MatchOption, OnOk, ℕ};
 ghost use Rattle.bstr.specs.Owned.{bstring_bytes};
 ghost use Rattle.gix_refspec.specs.Matching.Asked.{HasNoList, ListsGroup, Serves};
 ghost use Rattle.gix_refspec.specs.Views.Group.{readings_of};
 ghost use Rattle.gix_refspec.specs.Views.Spec.{reading_of};
-ghost use Rattle.refspec_run.specs.Prefixes.{AddsAll, AddsList, AddsNothing, AddsPrefixes, argument, request};
-ghost use Rattle.refspec_run.specs.Shown.{AddsNames, KeepsPage};
+ghost use Rattle.refspec_json.specs.Objects.{line_of, noted_object};
+ghost use Rattle.refspec_run.specs.declared.call.Form.TheVariants as form;
+ghost use Rattle.refspec_run.specs.Json.{AddsObjects, json_text};
+ghost use Rattle.refspec_run.specs.Prefixes.{AddsAll, AddsList, AddsNothing, AddsPrefixes, AddsRequests, IsReason, asked_object, request};
 
 use crate::call::Form;
 use crate::json;
@@ -71,8 +73,7 @@ fn tell_each(
     patterns: bool,
     page: &mut Page,
 ) -> Result<(), AllocError>
-    ensures { OnOk result (AddsNames page.old.form (argument patterns)
-        (map (λ p. request patterns (bstring_bytes p)) prefixes.now)
+    ensures { OnOk result (AddsRequests patterns page.old.form (map bstring_bytes prefixes.now)
         page.old.results.items page.new.results.items) }
 {
     for prefix in prefixes {
@@ -89,8 +90,8 @@ fn tell_prefix(
     page: &mut Page,
 ) -> Result<(), AllocError>
     ensures form { OnOk result (page.new.form ≡ page.old.form) }
-    ensures told { OnOk result (AddsNames page.old.form (argument patterns)
-        (request patterns prefix.now ∷ []) page.old.results.items page.new.results.items) }
+    ensures told { OnOk result (AddsRequests patterns page.old.form (prefix.now ∷ [])
+        page.old.results.items page.new.results.items) }
 {
     let mut pattern = Vec::from_slice(alloc, prefix)?;
     pattern.push(b'*')?;
@@ -112,7 +113,10 @@ fn put_object(
     prefix: &[u8],
     pattern: &[u8],
     out: &mut Vec<u8>,
-) -> Result<(), AllocError> {
+) -> Result<(), AllocError>
+    requires { pattern.now ≡ request true prefix.now }
+    ensures { OnOk result (out.new.items ≡ out.old.items ++ asked_object prefix.now) }
+{
     let prefix = json::text_of(alloc, prefix)?;
     let pattern = json::text_of(alloc, pattern)?;
     let object = refspec_json::Prefix {
@@ -133,16 +137,18 @@ fn tell_nothing(alloc: Global, page: &mut Page) -> Result<(), AllocError>
     match page.form {
         Form::Lines => page.results.extend_from_slice(b"(nothing)\n")?,
         Form::Zeros => {}
-        Form::Json => {
-            let object = refspec_json::Nothing {
-                message: WHY_NOTHING,
-            };
-            return object.put_line(alloc, &mut page.results);
-        }
+        Form::Json => return put_nothing(alloc, WHY_NOTHING, &mut page.results),
     }
     page.messages.extend_from_slice(WHY_NOTHING.as_bytes())?;
     page.messages.push(b'\n')?;
     Ok(())
+}
+
+// Puts the object of a sentence on that at the end.
+fn put_nothing(alloc: Global, message: &str, out: &mut Vec<u8>) -> Result<(), AllocError>
+    ensures { OnOk result (AddsNothing form.Json out.old.items out.new.items) }
+{
+    refspec_json::Nothing { message }.put_line(alloc, out)
 }
 
 const WHY_ALL: &str =
@@ -150,7 +156,7 @@ const WHY_ALL: &str =
 
 // Tells that all refs have to be asked for, and for which specs.
 fn tell_all(alloc: Global, group: &MatchGroup<'_>, page: &mut Page) -> Result<(), AllocError>
-    ensures { OnOk result (AddsAll page.old.form
+    ensures { OnOk result (AddsAll page.old.form (readings_of group.now)
         page.old.results.items page.new.results.items) }
 {
     put_all(page)?;
@@ -163,7 +169,7 @@ fn tell_all(alloc: Global, group: &MatchGroup<'_>, page: &mut Page) -> Result<()
 // Puts what means all refs at the end of the results.
 fn put_all(page: &mut Page) -> Result<(), AllocError>
     ensures form { OnOk result (page.new.form ≡ page.old.form) }
-    ensures told { OnOk result (AddsAll page.old.form
+    ensures told { OnOk result (AddsAll page.old.form []
         page.old.results.items page.new.results.items) }
 {
     match page.form {
@@ -176,7 +182,9 @@ fn put_all(page: &mut Page) -> Result<(), AllocError>
 
 // Tells of a spec, if all refs have to be asked for it.
 fn tell_if_reason(alloc: Global, spec: &RefSpecRef<'_>, page: &mut Page) -> Result<(), AllocError>
-    ensures { OnOk result (KeepsPage page.old page.new) }
+    ensures form { OnOk result (page.new.form ≡ page.old.form) }
+    ensures told { OnOk result (AddsObjects page.old.form IsReason (reading_of spec.now ∷ [])
+        page.old.results.items page.new.results.items) }
 {
     let specs = Vec::from_slice(alloc, &[*spec])?;
     match prefixes_of(alloc, &MatchGroup { specs })? {
@@ -187,11 +195,14 @@ fn tell_if_reason(alloc: Global, spec: &RefSpecRef<'_>, page: &mut Page) -> Resu
 
 // Tells that a spec is the reason for which all refs have to be asked for.
 fn tell_reason(alloc: Global, spec: &RefSpecRef<'_>, page: &mut Page) -> Result<(), AllocError>
-    ensures { OnOk result (KeepsPage page.old page.new) }
+    requires { HasNoList (reading_of spec.now ∷ []) }
+    ensures form { OnOk result (page.new.form ≡ page.old.form) }
+    ensures told { OnOk result (AddsObjects page.old.form IsReason (reading_of spec.now ∷ [])
+        page.old.results.items page.new.results.items) }
 {
     let canonical = spec.to_bstring(alloc)?;
     match page.form {
-        Form::Json => put_reason(alloc, canonical.as_bytes(), &mut page.results),
+        Form::Json => put_reason(alloc, canonical.as_bytes(), WHY_ALL, &mut page.results),
         Form::Lines | Form::Zeros => {
             put_quoted(&mut page.messages, canonical.as_bytes())?;
             page.messages.extend_from_slice(b": ")?;
@@ -202,12 +213,20 @@ fn tell_reason(alloc: Global, spec: &RefSpecRef<'_>, page: &mut Page) -> Result<
     }
 }
 
-// Puts the object of such a spec at the end.
-fn put_reason(alloc: Global, spec: &[u8], out: &mut Vec<u8>) -> Result<(), AllocError> {
+// Puts the object of such a spec and a sentence on it at the end.
+fn put_reason(
+    alloc: Global,
+    spec: &[u8],
+    message: &str,
+    out: &mut Vec<u8>,
+) -> Result<(), AllocError>
+    ensures { OnOk result ((message : List ℕ) × (out.new.items ≡
+        out.old.items ++ line_of (noted_object (codes "all") (json_text spec.now) message))) }
+{
     let shown = json::text_of(alloc, spec)?;
     let object = refspec_json::All {
         spec: shown.as_str(),
-        message: WHY_ALL,
+        message,
     };
     object.put_line(alloc, out)
 }

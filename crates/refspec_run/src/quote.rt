@@ -2,6 +2,7 @@
 
 ghost use Rattle.std.specs.Prelude.{◌≡◌, ◌≤◌, ◌++◌, ◌∷◌, [], List, OnOk, length, ℕ};
 ghost use Rattle.refspec_run.specs.Messages.{PutsShown};
+ghost use Rattle.refspec_run.specs.declared.call.Form.TheVariants as form;
 ghost use Rattle.refspec_run.specs.Shown.{PutsQuoted, escape_letter as letter_of, escaped, in_quotes, plain_or_octal};
 
 use crate::call::Form;
@@ -28,7 +29,18 @@ pub fn put_shown(out: &mut Vec<u8>, text: &[u8], form: Form) -> Result<(), Alloc
 {
     match form {
         Form::Zeros => out.extend_from_slice(text),
-        Form::Lines | Form::Json => put_quoted(out, text),
+        Form::Lines => put_quoted(out, text),
+        Form::Json => put_text(out, text),
+    }
+}
+
+// Puts a text at the end as it is or quoted, so that what is put is UTF-8.
+fn put_text(out: &mut Vec<u8>, text: &[u8]) -> Result<(), AllocError>
+    ensures { OnOk result (PutsShown form.Json text.now out.old.items out.new.items) }
+{
+    match str::from_utf8(text) {
+        Ok(_) => put_quoted(out, text),
+        Err(_) => put_in_quotes(out, text),
     }
 }
 

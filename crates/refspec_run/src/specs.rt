@@ -1,8 +1,11 @@
 //! What is shown of specs alone: whether they are good, and what they mean.
 
-ghost use Rattle.std.specs.Prelude.{◌≡◌, ◌∷◌, [], OnOk};
+ghost use Rattle.std.specs.Prelude.{◌≡◌, ◌∷◌, [], option_map, OnOk};
+ghost use Rattle.bstr.specs.Owned.{bstring_bytes};
+ghost use Rattle.refspec_json.specs.Views.{kind_name};
+ghost use Rattle.refspec_run.specs.Json.{AddsObjects, PutsSpec};
 ghost use Rattle.refspec_run.specs.Messages.{TellsRefusals};
-ghost use Rattle.refspec_run.specs.Shown.{KeepsPage, KeepsResults};
+ghost use Rattle.refspec_run.specs.Read.{IsRefusalOf};
 
 use crate::call::{Command, Form};
 use crate::checked::Checked;
@@ -63,7 +66,7 @@ fn tell_spec<'a>(
 
 /// Refuses each text that is no spec, and tells nothing of the others.
 pub fn tell_refusals(alloc: Global, all: &[Checked<'_>], page: &mut Page) -> Result<(), AllocError>
-    ensures kept { OnOk result (KeepsResults page.old.form
+    ensures objects { OnOk result (AddsObjects page.old.form IsRefusalOf all.now
         page.old.results.items page.new.results.items) }
     ensures told { OnOk result (TellsRefusals page.old.form all.now
         page.old.messages.items page.new.messages.items) }
@@ -76,7 +79,9 @@ pub fn tell_refusals(alloc: Global, all: &[Checked<'_>], page: &mut Page) -> Res
 
 // Refuses a text that is no spec.
 fn refuse_bad(alloc: Global, checked: &Checked<'_>, page: &mut Page) -> Result<(), AllocError>
-    ensures kept { OnOk result (KeepsPage page.old page.new) }
+    ensures form { OnOk result (page.new.form ≡ page.old.form) }
+    ensures objects { OnOk result (AddsObjects page.old.form IsRefusalOf (checked.now ∷ [])
+        page.old.results.items page.new.results.items) }
     ensures told { OnOk result (TellsRefusals page.old.form (checked.now ∷ [])
         page.old.messages.items page.new.messages.items) }
 {
@@ -196,7 +201,11 @@ pub fn put_told(
     meaning: Option<&str>,
     same_as: Option<&str>,
     out: &mut Vec<u8>,
-) -> Result<(), AllocError> {
+) -> Result<(), AllocError>
+    ensures { OnOk result (PutsSpec (kind_name kind) text.now (bstring_bytes canonical.now)
+        (option_map (λ t. t.now) meaning.entry) (option_map (λ t. t.now) same_as.entry)
+        out.old.items out.new.items) }
+{
     let place = json::shown_place(alloc, &text.place)?;
     let shown = json::text_of(alloc, text.bytes)?;
     let canonical = json::text_of(alloc, canonical.as_bytes())?;

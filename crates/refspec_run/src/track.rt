@@ -1,12 +1,14 @@
 //! Which refs of a remote tracking refs belong to.
 
-ghost use Rattle.std.specs.Prelude.{◌≡◌, map, replicate, IfOk, MatchBool, OnOk};
+ghost use Rattle.std.specs.Prelude.{◌≡◌, ◌++◌, codes, map, replicate, IfOk, MatchBool, OnOk};
 ghost use Rattle.gix_refspec.specs.Views.Group.{mapped_of, ref_of};
 ghost use Rattle.gix_refspec.specs.Laws.Items.{HasIdDestination};
 ghost use Rattle.gix_refspec.specs.Matching.Hits.{AreKeptBackward};
 ghost use Rattle.refspec_text.specs.Matching.Side.{IsId};
 ghost use Rattle.gix_refspec.specs.Texts.ObjectId.{id_bytes};
 ghost use Rattle.gix_refspec.specs.Views.Spec.{reading_of};
+ghost use Rattle.refspec_json.specs.Objects.{line_of, noted_object, untracked_object};
+ghost use Rattle.refspec_run.specs.Json.{json_text};
 ghost use Rattle.refspec_run.specs.Shown.{KeepsPage, KeepsResults};
 ghost use Rattle.refspec_run.specs.Track.{AddsTracked, AreByNames, AreWritten, HasUnwritten, IsEachWritten, named};
 
@@ -108,20 +110,36 @@ fn tell_to_object(alloc: Global, spec: &RefSpecRef<'_>, page: &mut Page) -> Resu
 {
     let canonical = spec.to_bstring(alloc)?;
     match page.form {
-        Form::Json => {
-            let shown = json::text_of(alloc, canonical.as_bytes())?;
-            let object = refspec_json::ToObject {
-                spec: shown.as_str(),
-                message: WHY_TO_OBJECT,
-            };
-            object.put_line(alloc, &mut page.results)
-        }
+        Form::Json => put_to_object(
+            alloc,
+            canonical.as_bytes(),
+            WHY_TO_OBJECT,
+            &mut page.results,
+        ),
         Form::Lines | Form::Zeros => put_line(
             canonical.as_bytes(),
             WHY_TO_OBJECT,
             &mut page.messages,
         ),
     }
+}
+
+// Puts the object of such a spec and a sentence on it at the end.
+fn put_to_object(
+    alloc: Global,
+    spec: &[u8],
+    message: &str,
+    out: &mut Vec<u8>,
+) -> Result<(), AllocError>
+    ensures { OnOk result (out.new.items ≡ out.old.items
+        ++ line_of (noted_object (codes "to_object") (json_text spec.now) message.now)) }
+{
+    let shown = json::text_of(alloc, spec)?;
+    let object = refspec_json::ToObject {
+        spec: shown.as_str(),
+        message,
+    };
+    object.put_line(alloc, out)
 }
 
 // Refs with these names. They point to the null id: of a tracking ref the name alone is given.
@@ -236,7 +254,10 @@ fn put_object(
     name: &[u8],
     message: &str,
     out: &mut Vec<u8>,
-) -> Result<(), AllocError> {
+) -> Result<(), AllocError>
+    ensures { OnOk result (out.new.items ≡
+        out.old.items ++ line_of (untracked_object (json_text name.now) message.now)) }
+{
     let name = json::text_of(alloc, name)?;
     let object = refspec_json::Untracked {
         name: name.as_str(),

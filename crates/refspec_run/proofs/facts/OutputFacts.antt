@@ -1,13 +1,11 @@
 -- Exit statuses, the input of a call, and what `canon` shows.
 use Rattle.std.proofs.Common.{◌≡◌, ℕ, true, false, List, [], ◌∷◌, ◌++◌, Some, inl, codes, length, refl, sym, ap, subst, arith}
 use Rattle.refspec_text.specs.declared.parsing.Operation.TheVariants.{Fetch}
-use Rattle.refspec_run.specs.declared.call.Call.{Call}
-use Rattle.refspec_run.specs.declared.call.Form.{Form}
 use Rattle.refspec_run.specs.declared.call.Form.TheVariants as form
-use Rattle.refspec_run.specs.Canon.{AreCanonical}
-use Rattle.refspec_run.specs.Output.{IsInput, ShowsCanon, status_of}
+use Rattle.refspec_run.specs.Canon.{AreCanonical, ShowsCanonical}
+use Rattle.refspec_run.specs.Output.{IsInput, status_of}
 use Rattle.refspec_run.specs.Shown.{AddsNames}
-use Rattle.refspec_run.specs.Texts.{numbered, word_at}
+use Rattle.refspec_run.specs.Texts.{Given, numbered, word_at}
 use Rattle.refspec_run.proofs.facts.CanonFacts.{canonical, not_canonical}
 
 -- something refused ends with 1, and else 0 is the end
@@ -28,28 +26,21 @@ other_inputs = (
   λ is. omega (arith, ap length is),
 )
 
--- canonical texts are shown as the call says: one a line, or ended by zero bytes
-pub shown : (call : Call)
-    → (call.form ≡ form.Lines
-    → ShowsCanon call (numbered (word_at Fetch) 1 ([] ∷ codes "a b" ∷ codes "main" ∷ [])) (codes "HEAD\nmain\n"))
-    × (call.form ≡ form.Zeros
-    → ShowsCanon call (numbered (word_at Fetch) 1 ([] ∷ codes "a b" ∷ codes "main" ∷ []))
-        ((codes "HEAD" ++ 0 ∷ []) ++ (codes "main" ++ 0 ∷ [])))
-shown call = (
-  (λ is. (codes "HEAD" ∷ codes "main" ∷ [], canonical.0,
-      subst (λ (f : Form). AddsNames f [] (codes "HEAD" ∷ codes "main" ∷ []) [] (codes "HEAD\nmain\n")) (sym is)
-      (codes "HEAD\nmain\n", (codes "HEAD", codes "main\n", inl refl, (codes "main", [], inl refl, refl, refl), refl),
-      refl))),
-  λ is. (codes "HEAD" ∷ codes "main" ∷ [], canonical.0,
-      subst (λ (f : Form). AddsNames f [] (codes "HEAD" ∷ codes "main" ∷ []) []
-      ((codes "HEAD" ++ 0 ∷ []) ++ (codes "main" ++ 0 ∷ []))) (sym is) refl),
+-- canonical texts are shown as the form says: one a line, or ended by zero bytes
+abbrev texts : List Given
+texts = numbered (word_at Fetch) 1 ([] ∷ codes "a b" ∷ codes "main" ∷ [])
+
+pub shown : ShowsCanonical form.Lines texts (codes "HEAD\nmain\n")
+    × ShowsCanonical form.Zeros texts ((codes "HEAD" ++ 0 ∷ []) ++ (codes "main" ++ 0 ∷ []))
+shown = (
+  (codes "HEAD" ∷ codes "main" ∷ [], canonical.0,
+      (codes "HEAD\nmain\n", (codes "HEAD", codes "main\n", inl refl, (codes "main", [], inl refl, refl, refl), refl), refl)),
+  (codes "HEAD" ∷ codes "main" ∷ [], canonical.0, refl),
 )
 
 -- a text isn't left out
-pub not_shown : (call : Call) → call.form ≡ form.Zeros → ¬ (ShowsCanon call (word_at Fetch 1 (codes "main") ∷ []) [])
-not_shown call is (names, are, adds) =
-    not_canonical.1 (subst (AreCanonical ((Fetch, codes "main") ∷ []))
-    (none names (subst (λ (f : Form). AddsNames f [] names [] []) is adds)) are)
+pub not_shown : ¬ (ShowsCanonical form.Zeros (word_at Fetch 1 (codes "main") ∷ []) [])
+not_shown (names, are, adds) = not_canonical.1 (subst (AreCanonical ((Fetch, codes "main") ∷ [])) (none names adds) are)
   where
     none : (names : List (List ℕ)) → AddsNames form.Zeros [] names [] [] → names ≡ []
     none [] same = refl

@@ -187,6 +187,10 @@ planned o are = record {
   out = [];
   bad = [];
   before = [];
+  first = [];
+  second = [];
+  malformed = refl;
+  left_out = refl;
   cut = (Lacks-tested 10 (line_of dev_ref.name) refl,
       inl (_, refl, (Lacks-tested 10 (line_of tag_ref.name) refl,
       inl (_, refl, (Lacks-tested 10 (line_of main_ref.name) refl,

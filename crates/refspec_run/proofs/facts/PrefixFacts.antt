@@ -17,12 +17,12 @@ pub requests : (argument false ≡ codes "ref-prefix ") × (argument true ≡ []
 requests = (refl, refl, refl, refl)
 
 -- what stands for all refs, and for none
-pub words : AddsAll form.Lines (codes "a\n") (codes "a\n(all)\n") × AddsAll form.Zeros [] (0 ∷ [])
+pub words : AddsAll form.Lines [] (codes "a\n") (codes "a\n(all)\n") × AddsAll form.Zeros [] [] (0 ∷ [])
     × AddsNothing form.Lines (codes "a\n") (codes "a\n(nothing)\n") × AddsNothing form.Zeros [] []
 words = (refl, refl, refl, refl)
 
 -- neither is told as the other
-pub other_words : ¬ (AddsAll form.Lines [] (codes "(nothing)\n")) × ¬ (AddsAll form.Zeros [] [])
+pub other_words : ¬ (AddsAll form.Lines [] [] (codes "(nothing)\n")) × ¬ (AddsAll form.Zeros [] [] [])
     × ¬ (AddsNothing form.Lines [] (codes "(all)\n")) × ¬ (AddsNothing form.Zeros [] (0 ∷ []))
 other_words = (
   other_length _ _ (λ size. omega (arith, size)),

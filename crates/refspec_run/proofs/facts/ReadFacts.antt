@@ -18,6 +18,7 @@ use Rattle.refspec_run.specs.declared.checked.Checked.{Checked}
 use Rattle.refspec_run.specs.declared.checked.Checked.TheVariants as checked
 use Rattle.refspec_run.specs.declared.texts.Text.{Text}
 use Rattle.refspec_run.specs.Read.{AddsIfGood, AddsIfRead, AreGood, AreRead, HasBad, HasRefused, IsChecked, IsSpec, TellsRefused}
+use Rattle.refspec_run.specs.Texts.{word_at}
 use Rattle.refspec_run.proofs.facts.TextFacts.{text_for}
 
 -- what `main` and an empty text are read as in a fetch
@@ -75,25 +76,25 @@ abbrev Told : Type 0
 Told = codes "no" ≡ codes "no"
 
 -- where a text is refused the results stay, and else they grow
-pub grown : AddsIfRead AddsX Told form.Lines false ((Fetch, codes "main") ∷ []) (codes "a") (codes "ax")
-    × AddsIfRead AddsX Told form.Lines true ((Fetch, codes "main") ∷ (Push, []) ∷ []) (codes "a") (codes "a")
+pub grown : AddsIfRead AddsX Told form.Lines false (word_at Fetch 1 (codes "main") ∷ []) (codes "a") (codes "ax")
+    × AddsIfRead AddsX Told form.Lines true (word_at Fetch 1 (codes "main") ∷ word_at Push 2 [] ∷ []) (codes "a") (codes "a")
 grown = (inl (main ∷ [], (fetches_main.0, tt), refl), inr (read.1, refl, refl, refl))
 
 -- and not the other way, nor is it told otherwise that one is refused
-pub not_grown : ¬ (AddsIfRead AddsX Told form.Lines false ((Fetch, codes "main") ∷ (Fetch, []) ∷ []) (codes "a") (codes "a"))
-    × ¬ (AddsIfRead AddsX Told form.Lines true ((Fetch, codes "main") ∷ (Push, []) ∷ []) (codes "a") (codes "ax"))
-    × ¬ (AddsIfRead AddsX Told form.Lines false ((Fetch, codes "main") ∷ (Push, []) ∷ []) (codes "a") (codes "a"))
+pub not_grown : ¬ (AddsIfRead AddsX Told form.Lines false (word_at Fetch 1 (codes "main") ∷ word_at Fetch 2 [] ∷ []) (codes "a") (codes "a"))
+    × ¬ (AddsIfRead AddsX Told form.Lines true (word_at Fetch 1 (codes "main") ∷ word_at Push 2 [] ∷ []) (codes "a") (codes "ax"))
+    × ¬ (AddsIfRead AddsX Told form.Lines false (word_at Fetch 1 (codes "main") ∷ word_at Push 2 [] ∷ []) (codes "a") (codes "a"))
 not_grown = (stayed, spoiled, unsaid)
   where
-    stayed : ¬ (AddsIfRead AddsX Told form.Lines false ((Fetch, codes "main") ∷ (Fetch, []) ∷ []) (codes "a") (codes "a"))
+    stayed : ¬ (AddsIfRead AddsX Told form.Lines false (word_at Fetch 1 (codes "main") ∷ word_at Fetch 2 [] ∷ []) (codes "a") (codes "a"))
     stayed (inl (g, are, same)) = omega (arith, ap length same)
     stayed (inr (has, same, refused, told)) = not_read.0 has
 
-    spoiled : ¬ (AddsIfRead AddsX Told form.Lines true ((Fetch, codes "main") ∷ (Push, []) ∷ []) (codes "a") (codes "ax"))
+    spoiled : ¬ (AddsIfRead AddsX Told form.Lines true (word_at Fetch 1 (codes "main") ∷ word_at Push 2 [] ∷ []) (codes "a") (codes "ax"))
     spoiled (inl (g, are, same)) = not_read.1 g are
     spoiled (inr (has, same, refused, told)) = omega (arith, ap length same)
 
-    unsaid : ¬ (AddsIfRead AddsX Told form.Lines false ((Fetch, codes "main") ∷ (Push, []) ∷ []) (codes "a") (codes "a"))
+    unsaid : ¬ (AddsIfRead AddsX Told form.Lines false (word_at Fetch 1 (codes "main") ∷ word_at Push 2 [] ∷ []) (codes "a") (codes "a"))
     unsaid (inl (g, are, same)) = not_read.1 g are
     unsaid (inr (has, same, refused, told)) = false≢true refused
 

@@ -1,4 +1,4 @@
--- A spec's canonical text is told; of another text the results stay as they were.
+-- A spec's canonical text is told; another text is refused.
 use Rattle.std.proofs.Common.{ap}
 use Rattle.refspec_run.proofs.CanonLemmas.{AddsCanonical-bad, AddsCanonical-good}
 use Rattle.refspec_run.proofs.MessageLemmas.{TellsRefusals-bad, TellsRefusals-good}
@@ -6,7 +6,7 @@ use Rattle.refspec_run.proofs.ShownLemmas.{on_ok}
 use Rattle.refspec_run.proofs.canon.tell_checked.Goals as goal
 
 pub returns-in-Bad-clause-told : goal.returns-in-Bad-clause-told
-returns-in-Bad-clause-told c = on_ok c.tell_refusal.result _ _ c.tell_refusal.ensures.kept (λ keeps. AddsCanonical-bad c.args.page.now.form c.args.checked.now _ _ c.args.page.now.results.items c.tell_refusal.new.self.results.items c.in-Bad.is keeps.kept)
+returns-in-Bad-clause-told c = on_ok c.tell_refusal.result _ _ c.tell_refusal.ensures.object (AddsCanonical-bad c.args.page.now.form c.args.checked.now _ _ c.args.page.now.results.items c.tell_refusal.new.self.results.items c.in-Bad.is)
 
 pub returns-in-Bad-clause-refused : goal.returns-in-Bad-clause-refused
 returns-in-Bad-clause-refused c = on_ok c.tell_refusal.result _ _ c.tell_refusal.ensures.told (λ told. TellsRefusals-bad c.args.page.now.form c.args.checked.now _ _ c.args.page.now.messages.items c.tell_refusal.new.self.messages.items c.in-Bad.is told)

@@ -1,10 +1,11 @@
--- the word for all refs was put, and nothing more
-use Rattle.std.proofs.Common.{◌≡◌}
+-- what stands for all refs was put, and the reasons so far
+use Rattle.std.proofs.Common.{◌≡◌, map, take}
+use Rattle.gix_refspec.specs.Views.Spec.{reading_of}
 use Rattle.refspec_run.specs.Prefixes.{AddsAll}
 use Rattle.refspec_run.proofs.prefixes.tell_all.Given as goal
 
 abbrev pub invariant-loop-spec : goal.invariant-loop-spec
 invariant-loop-spec l = record {
   form : l.page.form ≡ l.fn.page.form;
-  told : AddsAll l.fn.page.form l.fn.page.results.items l.page.results.items;
+  told : AddsAll l.fn.page.form (map reading_of (take l.spec-index l.group.specs.items)) l.fn.page.results.items l.page.results.items;
 }

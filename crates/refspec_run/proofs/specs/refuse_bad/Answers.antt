@@ -1,5 +1,7 @@
--- A text that is no spec is refused; of a spec nothing is told.
+-- A text that is no spec is refused; a text that is a spec is passed over.
 use Rattle.std.proofs.Common.{refl}
+use Rattle.refspec_run.specs.Read.{IsRefusalOf}
+use Rattle.refspec_run.proofs.JsonLemmas.{AddsObjects-none, AddsObjects-refusal}
 use Rattle.refspec_run.proofs.MessageLemmas.{TellsRefusals-bad, TellsRefusals-good}
 use Rattle.refspec_run.proofs.ShownLemmas.{on_ok}
 use Rattle.refspec_run.proofs.specs.refuse_bad.Goals as goal
@@ -7,5 +9,12 @@ use Rattle.refspec_run.proofs.specs.refuse_bad.Goals as goal
 pub returns-in-Bad-clause-told : goal.returns-in-Bad-clause-told
 returns-in-Bad-clause-told c = on_ok c.tell_refusal.result _ _ c.tell_refusal.ensures.told (λ told. TellsRefusals-bad c.args.page.now.form c.args.checked.now _ _ c.args.page.now.messages.items c.tell_refusal.new.self.messages.items c.in-Bad.is told)
 
-pub returns-in-Good-clause-told : goal.returns-in-Good-clause-told
-returns-in-Good-clause-told c = TellsRefusals-good c.args.page.now.form c.args.checked.now _ _ c.args.page.now.messages.items c.args.page.now.messages.items c.in-Good.is refl
+pub returns-in-Bad-clause-objects : goal.returns-in-Bad-clause-objects
+returns-in-Bad-clause-objects c = on_ok c.tell_refusal.result _ _ c.tell_refusal.ensures.object (AddsObjects-refusal c.args.page.now.form IsRefusalOf c.args.checked.now _ _ c.args.page.now.results.items c.tell_refusal.new.self.results.items (λ line is. rw c.in-Bad.is is))
+
+pub returns-in-Good : goal.returns-in-Good
+returns-in-Good c = record {
+  form = refl;
+  objects = AddsObjects-none c.args.page.now.form IsRefusalOf c.args.checked.now c.args.page.now.results.items c.args.page.now.results.items (rw c.in-Good.is refl) refl;
+  told = TellsRefusals-good c.args.page.now.form c.args.checked.now _ _ c.args.page.now.messages.items c.args.page.now.messages.items c.in-Good.is refl;
+}

@@ -1,11 +1,13 @@
--- the results are as they were, and the texts so far were refused
-use Rattle.std.proofs.Common.{take}
+-- the refusals so far were told
+use Rattle.std.proofs.Common.{◌≡◌, take}
+use Rattle.refspec_run.specs.Json.{AddsObjects}
 use Rattle.refspec_run.specs.Messages.{TellsRefusals}
-use Rattle.refspec_run.specs.Shown.{KeepsPage}
+use Rattle.refspec_run.specs.Read.{IsRefusalOf}
 use Rattle.refspec_run.proofs.specs.tell_refusals.Given as goal
 
 abbrev pub invariant-loop-checked : goal.invariant-loop-checked
 invariant-loop-checked l = record {
-  kept : KeepsPage l.fn.page l.page;
+  form : l.page.form ≡ l.fn.page.form;
+  objects : AddsObjects l.fn.page.form IsRefusalOf (take l.checked-index l.all) l.fn.page.results.items l.page.results.items;
   told : TellsRefusals l.fn.page.form (take l.checked-index l.all) l.fn.page.messages.items l.page.messages.items;
 }
