@@ -1,6 +1,6 @@
 -- Texts as strings of JSON.
 use Rattle.std.proofs.Common.{◌≡◌, ℕ, zero, suc, ◌+◌, ◌<◌, ◌≤◌, append_assoc, length, map, take, take_all, ◌/◌, ◌%◌, ◌==◌, ◌&&◌, ◌||◌, Bool, true, false, not, nat_lt, List, [], ◌∷◌, ◌++◌, Option, get_or, cond, codes, decimal, flat_map, inl, inr, refl, sym, ap, ◌∙◌, subst, arith, ltb-true}
-use Rattle.std.proofs.lemmas.Bool.{and_parts, cases_eq, false≢true}
+use Rattle.std.proofs.lemmas.Bool.{and_parts, cases_eq}
 use Rattle.std.proofs.lemmas.List.{append-nil, map-append, take_more}
 use Rattle.std.proofs.lemmas.Str.{IsUtf8-append, IsUtf8-encode, IsUtf8-from_is_utf8, IsUtf8-nil, encode_ascii, is_utf8-from_IsUtf8}
 use Rattle.std.specs.Fmt.{digit_glyph, digits, digits_onto}
@@ -15,7 +15,7 @@ use Rattle.refspec_run.specs.declared.texts.Place.{Place}
 use Rattle.refspec_run.specs.declared.texts.Place.TheVariants as place
 use Rattle.refspec_run.specs.declared.texts.Text.{Text}
 use Rattle.refspec_run.specs.Json.{AddsObjects, AddsRefusal, AreInOrder, IsRefusedLine, PutsRefused, PutsSpec, begins_quoted, json_text, operation_name, reason_name}
-use Rattle.refspec_run.specs.Messages.{IsPlace, IsShownIn}
+use Rattle.refspec_run.specs.Messages.{IsPlace}
 use Rattle.refspec_run.specs.Shown.{IsQuoted, escaped, in_quotes}
 use Rattle.refspec_run.proofs.ShownLemmas.{behind}
 
@@ -132,6 +132,20 @@ pub AddsObjects-more : {X : Type 0} (f g : Form) (Tells : X → List ℕ → Typ
 AddsObjects-more {X} f g Tells xs i x old mid new below same is a b =
     let step : take (i + 1) xs ≡ take i xs ++ x ∷ [] = take_more xs i x below ∙ ap (λ z. take i xs ++ z ∷ []) (sym is) in
     subst (λ (l : List X). AddsObjects f Tells l old new) (sym step) (AddsObjects-push f g Tells (take i xs) x old mid new same a b)
+
+-- the same of an element at its index
+pub AddsObjects-item : {X : Type 0} (f g : Form) (Tells : X → List ℕ → Type 0) (xs : List X) (i : ℕ) (d : X) (old mid new : List ℕ) → i < length xs → g ≡ f → AddsObjects f Tells (take i xs) old mid → AddsObjects g Tells (get_or xs i d ∷ []) mid new → AddsObjects f Tells (take (i + 1) xs) old new
+AddsObjects-item {X} f g Tells xs i d old mid new below same a b = subst (λ (l : List X). AddsObjects f Tells l old new) (sym (take_more xs i d below)) (AddsObjects-push f g Tells (take i xs) (get_or xs i d) old mid new same a b)
+
+-- what is told of each element is told of what it is mapped to
+mapped_in_order : {X Y : Type 0} (Tells : X → List ℕ → Type 0) (Says : Y → List ℕ → Type 0) (f : X → Y) (xs : List X) (lines : List ℕ) → ((x : X) (line : List ℕ) → Tells x line → Says (f x) line) → AreInOrder Tells xs lines → AreInOrder Says (map f xs) lines
+mapped_in_order Tells Says f [] lines gives none = none
+mapped_in_order Tells Says f (x ∷ xs) lines gives (one, rest, here, more, all) = (one, rest, gives x one here, mapped_in_order Tells Says f xs rest gives more, all)
+
+pub AddsObjects-map : {X Y : Type 0} (h : Form) (Tells : X → List ℕ → Type 0) (Says : Y → List ℕ → Type 0) (f : X → Y) (xs : List X) (old new : List ℕ) → ((x : X) (line : List ℕ) → Tells x line → Says (f x) line) → AddsObjects h Tells xs old new → AddsObjects h Says (map f xs) old new
+AddsObjects-map form.Lines Tells Says f xs old new gives kept = kept
+AddsObjects-map form.Zeros Tells Says f xs old new gives kept = kept
+AddsObjects-map form.Json Tells Says f xs old new gives (lines, told, put) = (lines, mapped_in_order Tells Says f xs lines gives told, put)
 
 -- all elements
 pub AddsObjects-all : {X : Type 0} (f : Form) (Tells : X → List ℕ → Type 0) (xs : List X) (i : ℕ) (old new : List ℕ) → length xs ≤ i → AddsObjects f Tells (take i xs) old new → AddsObjects f Tells xs old new

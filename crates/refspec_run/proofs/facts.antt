@@ -2,6 +2,7 @@
 pub mod CanonFacts
 pub mod ConflictFacts
 pub mod InputFacts
+pub mod JsonFacts
 pub mod MessageFacts
 pub mod OutputFacts
 pub mod PlanFacts

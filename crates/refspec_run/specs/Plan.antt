@@ -15,12 +15,14 @@ use Rattle.refspec_run.specs.declared.call.Form.TheVariants as form
 use Rattle.refspec_run.specs.declared.mappings.Columns.TheVariants as columns
 use Rattle.refspec_run.specs.declared.plan.Written.{Written}
 use Rattle.refspec_run.specs.declared.plan.Written.TheVariants as written
+use Rattle.refspec_run.specs.declared.refs.BadRecord.{BadRecord}
 use Rattle.refspec_run.specs.declared.texts.Place.{Place}
+use Rattle.refspec_run.specs.declared.texts.Place.TheVariants as place
 use Rattle.refspec_run.specs.Conflicts.{AddsConflicts, IsConflict}
 use Rattle.refspec_run.specs.Input.{AreRecords}
 use Rattle.refspec_run.specs.Json.{AddsObjects, json_text}
 use Rattle.refspec_run.specs.Messages.{IsPlace}
-use Rattle.refspec_run.specs.Refs.{AddsRefs}
+use Rattle.refspec_run.specs.Refs.{AddsRefs, bad_bytes}
 use Rattle.refspec_run.specs.Rows.{AddsMappings, AreSpecTexts, source_text}
 
 -- of the mappings between names of refs, those that survive a validation are written; or nothing is, since these
@@ -52,6 +54,15 @@ pub record IsMalformedLine (p : Place) (bytes line : List ℕ) : Type 0 where
 -- bytes grew by that line
 abbrev pub PutsMalformed : Place → List ℕ → List ℕ → List ℕ → Type 0
 PutsMalformed p bytes old new = (line : List ℕ) × IsMalformedLine p bytes line × (new ≡ old ++ line)
+
+-- a place is the record of an input with this number
+abbrev pub IsRecordOf : List ℕ → ℕ → Place → Type 0
+IsRecordOf input number (place.Record name n) = (name.now ≡ input) × (n ≡ number)
+IsRecordOf input number _ = ⊥
+
+-- the line of a bad record of an input
+abbrev pub IsBadLine : List ℕ → BadRecord → List ℕ → Type 0
+IsBadLine input bad line = (p : Place) × IsRecordOf input bad.number p × IsMalformedLine p (bad_bytes bad) line
 
 -- that line, wherever the record is
 abbrev pub IsMalformed : List ℕ → List ℕ → Type 0

@@ -11,7 +11,7 @@ ghost use Rattle.refspec_run.specs.Conflicts.{AddsConflicts, IsConflict, PutsCla
 ghost use Rattle.refspec_run.specs.Input.{end_byte};
 ghost use Rattle.refspec_run.specs.Refs.{bad_bytes};
 ghost use Rattle.refspec_run.specs.Json.{AddsObjects};
-ghost use Rattle.refspec_run.specs.Plan.{AddsPlan, AddsWritten, IsLeftOutLine, IsLeftOutOf, IsMalformed, IsWhole, LeavesOut, PutsMalformed};
+ghost use Rattle.refspec_run.specs.Plan.{AddsPlan, AddsWritten, IsBadLine, IsLeftOutLine, IsLeftOutOf, IsWhole, LeavesOut, PutsMalformed};
 ghost use Rattle.refspec_run.specs.Rows.{source_text};
 
 use crate::call::{Form, Task};
@@ -115,7 +115,7 @@ fn tell_bad_records(
     page: &mut Page,
 ) -> Result<bool, AllocError>
     ensures form { OnOk result (page.new.form ≡ page.old.form) }
-    ensures told { OnOk result (AddsObjects page.old.form IsMalformed (map bad_bytes bad.now)
+    ensures told { OnOk result (AddsObjects page.old.form (IsBadLine input.now) bad.now
         page.old.results.items page.new.results.items) }
     ensures some { IfOk result (λ some. MatchBool some
         (map bad_bytes bad.now ≢ []) (map bad_bytes bad.now ≡ [])) }
@@ -164,7 +164,7 @@ fn tell_bad_record(
     page: &mut Page,
 ) -> Result<(), AllocError>
     ensures form { OnOk result (page.new.form ≡ page.old.form) }
-    ensures told { OnOk result (AddsObjects page.old.form IsMalformed (bad_bytes bad.now ∷ [])
+    ensures told { OnOk result (AddsObjects page.old.form (IsBadLine input.now) (bad.now ∷ [])
         page.old.results.items page.new.results.items) }
 {
     let place = Place::Record {

@@ -1,5 +1,5 @@
 -- The reasons are messages, or objects after one another.
-use Rattle.std.proofs.Common.{◌<◌, ◌≤◌, List, ap, arith, get_or, length, map, subst, sym, take, take_all, ◌∙◌}
+use Rattle.std.proofs.Common.{◌<◌, ◌≤◌, List, ap, arith, get_or, length, map, subst, take_all, ◌∙◌}
 use Rattle.gix_refspec.specs.Views.Spec.{reading_of}
 use Rattle.refspec_text.specs.declared.spec.RefSpecRef.{RefSpecRef}
 use Rattle.refspec_run.specs.Prefixes.{AddsAll}

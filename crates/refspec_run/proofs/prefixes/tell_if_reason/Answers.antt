@@ -1,5 +1,5 @@
 -- Nothing is told of a spec for which a list is safe.
-use Rattle.std.proofs.Common.{List, [], ◌∷◌, ap, inr, map, refl, subst}
+use Rattle.std.proofs.Common.{List, inr, map, refl, subst}
 use Rattle.bstr.specs.Owned.{bstring_bytes}
 use Rattle.gix_refspec.specs.Matching.Asked.{ListsGroup}
 use Rattle.gix_refspec.specs.Views.Spec.{reading_of}

@@ -1,7 +1,7 @@
 -- A command that is neither `canon` nor one of specs alone tells what it finds, or that some text is refused.
-use Rattle.std.proofs.Common.{inl, inr, map, refl}
+use Rattle.std.proofs.Common.{inl, map}
 use Rattle.gix_refspec.specs.Views.Spec.{reading_of}
-use Rattle.refspec_run.proofs.OutputLemmas.{Tells-canon, Tells-found}
+use Rattle.refspec_run.proofs.OutputLemmas.{Tells-found}
 use Rattle.refspec_run.proofs.ShownLemmas.{if_ok}
 use Rattle.refspec_run.proofs.run.tell_page.Goals as goal
 
