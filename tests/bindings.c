@@ -210,6 +210,53 @@ static void check_explanations(void)
     CHECK(gix_refspec_explanation(GIX_REFSPEC_IN_CONFLICT + 1, &none) == GIX_REFSPEC_NO_OPERATION && none.len == 0);
 }
 
+static const struct {
+    const char *text;
+    uint32_t operation;
+    const char *prefix, *lines;
+} prefix_rows[] = {
+    { "refs/heads/*:refs/x/*", GIX_REFSPEC_FETCH, "refs/heads/", "refs/heads/\n" },
+    { "refs/heads/a:refs/x/a", GIX_REFSPEC_FETCH, "refs/heads/a", "refs/heads/a\n" },
+    { "refs/heads/a:refs/x/a", GIX_REFSPEC_PUSH, "refs/x/a", "refs/x/a\n" },
+    { "@", GIX_REFSPEC_FETCH, "HEAD", "HEAD\n" },
+    { "v1", GIX_REFSPEC_FETCH, "", "v1\nrefs/v1\nrefs/tags/v1\nrefs/heads/v1\nrefs/remotes/v1\nrefs/remotes/v1/HEAD\n" },
+    { "1111111111111111111111111111111111111111", GIX_REFSPEC_FETCH, "", "" },
+    { "^refs/heads/a", GIX_REFSPEC_FETCH, "", "" },
+    { "refs/*:refs/x/*", GIX_REFSPEC_FETCH, "", "refs/*\n" },
+};
+
+/* The row that is asked for by the calls below. */
+static _Thread_local size_t prefix_row;
+
+static uint32_t expand(uint8_t *buffer, size_t buffer_len, size_t *len)
+{
+    return gix_refspec_expand_prefixes(BYTES(prefix_rows[prefix_row].text), prefix_rows[prefix_row].operation, buffer,
+                                       buffer_len, len);
+}
+
+static void check_prefixes_of_one(void)
+{
+    gix_refspec_text prefix = GIX_REFSPEC_TEXT_INIT;
+    uint8_t buffer[4] = "xxx";
+    size_t len = 99, rows = sizeof prefix_rows / sizeof *prefix_rows;
+    for (prefix_row = 0; prefix_row < rows; prefix_row++) {
+        CHECK(gix_refspec_prefix(BYTES(prefix_rows[prefix_row].text), prefix_rows[prefix_row].operation, &prefix) == 0);
+        CHECK(is(prefix, prefix_rows[prefix_row].prefix));
+        uint8_t all[128];
+        CHECK(expand(all, sizeof all, &len) == GIX_REFSPEC_OK);
+        CHECK(len == strlen(prefix_rows[prefix_row].lines) && memcmp(all, prefix_rows[prefix_row].lines, len) == 0);
+    }
+    CHECK(gix_refspec_prefix(BYTES("refs/a"), GIX_REFSPEC_FETCH, &prefix) == 0 && is(prefix, "refs/a"));
+    CHECK(gix_refspec_prefix(BYTES("a b"), GIX_REFSPEC_FETCH, &prefix) == GIX_REFSPEC_NAME_INVALID_BYTE);
+    CHECK(gix_refspec_prefix(BYTES("b"), 3, &prefix) == GIX_REFSPEC_NO_OPERATION && is(prefix, "refs/a"));
+    len = 99;
+    CHECK(gix_refspec_expand_prefixes(BYTES("a b"), GIX_REFSPEC_FETCH, buffer, 4, &len) == GIX_REFSPEC_NAME_INVALID_BYTE);
+    CHECK(gix_refspec_expand_prefixes(BYTES("a"), 0, buffer, 4, &len) == GIX_REFSPEC_NO_OPERATION);
+    CHECK(len == 99 && is_untouched(buffer, 3));
+    prefix_row = 4;
+    check_buffer(expand, prefix_rows[prefix_row].lines);
+}
+
 #define TEXT(text) { BYTES(text) }
 
 static uint32_t prefixes(uint8_t *buffer, size_t buffer_len, size_t *len)
@@ -278,8 +325,8 @@ static void check_lists(lists *list, size_t told, const char *answer, uint32_t d
 static uint32_t match(gix_refspec_mapping *mappings, size_t room, uint8_t *buffer, size_t buffer_len, size_t *count,
                       size_t *len)
 {
-    gix_refspec_text texts[] = { TEXT("refs/heads/*:refs/x/*"), TEXT("^refs/heads/a"),
-                                 TEXT("1111111111111111111111111111111111111111"), TEXT("b") };
+    gix_refspec_text texts[] = { TEXT("+refs/heads/*:refs/x/*"), TEXT("^refs/heads/a"),
+                                 TEXT("1111111111111111111111111111111111111111"), TEXT("+b") };
     return gix_refspec_match(texts, 4, names, 3, GIX_REFSPEC_FORWARD, mappings, room, buffer, buffer_len, count, len);
 }
 
@@ -288,13 +335,14 @@ static void check_mappings(void)
     gix_refspec_mapping made[4];
     check_lists(match, 3, "1111111111111111111111111111111111111111refs/x/b", GIX_REFSPEC_OK, made);
     CHECK(made[0].spec == 2 && made[0].item == GIX_REFSPEC_NO_ITEM && made[0].has_destination == 0);
-    CHECK(made[0].id_at == 0 && made[0].id_len == 40 && made[0].made_len == 0);
+    CHECK(made[0].id_at == 0 && made[0].id_len == 40 && made[0].made_len == 0 && made[0].forced == 0);
     CHECK(made[1].spec == 0 && made[1].item == 1 && made[1].has_destination == 1 && made[1].verdict == 0);
-    CHECK(made[1].id_len == 0 && made[1].made_at == 40 && made[1].made_len == 8);
-    CHECK(made[2].spec == 3 && made[2].item == 2 && made[2].has_destination == 0 && made[2].made_len == 0);
+    CHECK(made[1].id_len == 0 && made[1].made_at == 40 && made[1].made_len == 8 && made[1].forced == 1);
+    /* Without a destination nothing is forced, whatever the sign. */
+    CHECK(made[2].forced == 0 && made[2].spec == 3 && made[2].item == 2 && made[2].has_destination == 0 && made[2].made_len == 0);
 }
 
-static const gix_refspec_text back[] = { TEXT("refs/x/*:refs/heads/*"), TEXT("^refs/x/a"),
+static const gix_refspec_text back[] = { TEXT("+refs/x/*:refs/heads/*"), TEXT("^refs/x/a"),
                                          TEXT("refs/x/c:1111111111111111111111111111111111111111"), TEXT("a b") };
 
 static uint32_t match_back(gix_refspec_mapping *mappings, size_t room, uint8_t *buffer, size_t buffer_len, size_t *count,
@@ -310,7 +358,7 @@ static void check_looking_back(void)
     size_t count = 9, len = 99;
     check_lists(match_back, 1, "refs/x/b", GIX_REFSPEC_OK, made);
     CHECK(made[0].spec == 0 && made[0].item == 1 && made[0].has_destination == 1 && made[0].verdict == 0);
-    CHECK(made[0].id_len == 0 && made[0].made_at == 0 && made[0].made_len == 8);
+    CHECK(made[0].forced == 1 && made[0].id_len == 0 && made[0].made_at == 0 && made[0].made_len == 8);
     CHECK(gix_refspec_match(back, 3, names, 3, GIX_REFSPEC_BACKWARD, made, 4, buffer, 16, &count, &len)
           == GIX_REFSPEC_NEEDS_IDS);
     CHECK(count == 9 && len == 99);
@@ -326,8 +374,8 @@ static void check_looking_back(void)
 
 static const gix_refspec_text planned[] = {
     TEXT("refs/heads/a:refs/x/a"), TEXT("refs/tags/*:other/*"), TEXT("refs/remotes/*ck:refs/x/*"),
-    TEXT("refs/heads/b:refs/x/a.lo"), TEXT("refs/tags/b"), TEXT("1111111111111111111111111111111111111111:refs/y"),
-    TEXT("refs/heads/b:refs/y"), TEXT("a b")
+    TEXT("+refs/heads/b:refs/x/a.lo"), TEXT("+refs/tags/b"), TEXT("1111111111111111111111111111111111111111:refs/y"),
+    TEXT("+refs/heads/b:refs/y"), TEXT("a b")
 };
 
 static uint32_t plan(size_t texts, gix_refspec_mapping *mappings, size_t room, uint8_t *buffer, size_t buffer_len,
@@ -350,11 +398,13 @@ static void check_verdicts(void)
                                          GIX_REFSPEC_BAD_NAME, GIX_REFSPEC_WRITTEN, GIX_REFSPEC_FETCHED_ONLY,
                                          GIX_REFSPEC_CONTESTED };
     static const size_t specs[] = { 5, 0, 1, 2, 3, 4, 6 }, items[] = { GIX_REFSPEC_NO_ITEM, 0, 2, 3, 1, 2, 1 };
+    static const uint32_t forced[] = { 0, 0, 0, 0, 1, 0, 1 };
     const char *answer = "1111111111111111111111111111111111111111refs/yrefs/x/aother/brefs/x/a.lorefs/x/a.lorefs/y";
     gix_refspec_mapping made[8];
     check_lists(plan_of_seven, 7, answer, GIX_REFSPEC_IN_CONFLICT, made);
     for (size_t i = 0; i < 7; i++)
-        CHECK(made[i].verdict == verdicts[i] && made[i].spec == specs[i] && made[i].item == items[i]);
+        CHECK(made[i].verdict == verdicts[i] && made[i].spec == specs[i] && made[i].item == items[i]
+              && made[i].forced == forced[i]);
     CHECK(made[0].id_len == 40 && made[0].made_at == 40 && made[0].made_len == 6 && made[5].has_destination == 0);
 }
 
@@ -399,12 +449,39 @@ static void check_head(void)
     CHECK(count == 1 && made[0].spec == 2 && made[0].item == 1 && len == 4 && memcmp(buffer, "HEAD", 4) == 0);
 }
 
+/* A pointer to no bytes, texts, mappings or names may be NULL. */
+static void check_null(void)
+{
+    const gix_refspec_text none = { NULL, 0 }, texts[] = { TEXT("refs/heads/*:refs/x/*"), none };
+    gix_refspec_instruction parts = GIX_REFSPEC_PARTS_INIT;
+    gix_refspec_text prefix = GIX_REFSPEC_TEXT_INIT;
+    gix_refspec_mapping made[2];
+    uint8_t buffer[8];
+    int32_t order = 7;
+    size_t count = 99, len = 99;
+    CHECK(gix_refspec_check(NULL, 0, GIX_REFSPEC_PUSH) == GIX_REFSPEC_EMPTY);
+    CHECK(gix_refspec_parts(NULL, 0, GIX_REFSPEC_FETCH, &parts) == GIX_REFSPEC_OK && is(parts.source, "HEAD"));
+    CHECK(gix_refspec_canonical(NULL, 0, GIX_REFSPEC_FETCH, NULL, 0, &len) == GIX_REFSPEC_TOO_SMALL && len == 4);
+    CHECK(gix_refspec_compare(NULL, 0, BYTES("@"), GIX_REFSPEC_FETCH, &order) == GIX_REFSPEC_OK && order == 0);
+    CHECK(gix_refspec_prefix(NULL, 0, GIX_REFSPEC_FETCH, &prefix) == GIX_REFSPEC_OK && is(prefix, "HEAD"));
+    CHECK(gix_refspec_expand_prefixes(BYTES("^a"), GIX_REFSPEC_FETCH, NULL, 0, &len) == GIX_REFSPEC_OK && len == 0);
+    CHECK(gix_refspec_prefixes(NULL, 0, GIX_REFSPEC_FETCH, NULL, 0, &len) == GIX_REFSPEC_OK && len == 0);
+    CHECK(gix_refspec_prefixes(&none, 1, GIX_REFSPEC_PUSH, buffer, 8, &len) == GIX_REFSPEC_EMPTY);
+    CHECK(gix_refspec_match(NULL, 0, NULL, 0, GIX_REFSPEC_FORWARD, NULL, 0, NULL, 0, &count, &len) == GIX_REFSPEC_OK);
+    CHECK(count == 0 && len == 0);
+    CHECK(gix_refspec_match(texts, 1, &none, 1, GIX_REFSPEC_BACKWARD, made, 2, buffer, 8, &count, &len) == GIX_REFSPEC_OK);
+    CHECK(gix_refspec_plan(texts, 2, names, 1, NULL, 0, NULL, 0, &count, &len) == GIX_REFSPEC_TOO_SMALL && count == 1);
+    CHECK(gix_refspec_plan(texts, 1, NULL, 0, NULL, 0, NULL, 0, &count, &len) == GIX_REFSPEC_OK && count == 0);
+}
+
 static void check_version(void)
 {
     char version[32];
     snprintf(version, sizeof version, "%d.%d.%d", GIX_REFSPEC_VERSION_MAJOR, GIX_REFSPEC_VERSION_MINOR,
              GIX_REFSPEC_VERSION_PATCH);
     CHECK(strcmp(version, GIX_REFSPEC_VERSION) == 0);
+    gix_refspec_text told = GIX_REFSPEC_TEXT_INIT;
+    CHECK(gix_refspec_version(&told) == GIX_REFSPEC_OK && is(told, version) && told.bytes[told.len] == 0);
 }
 
 static void *check_all(void *nothing)
@@ -416,12 +493,14 @@ static void *check_all(void *nothing)
     check_other_texts();
     check_buffer(canonical, "+HEAD:refs/x");
     check_buffer(prefixes, "refs/heads/\nrefs/tags/v1\n");
+    check_prefixes_of_one();
     check_groups();
     check_mappings();
     check_looking_back();
     check_verdicts();
     check_other_plans();
     check_head();
+    check_null();
     check_explanations();
     return nothing;
 }

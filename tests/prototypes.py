@@ -11,7 +11,8 @@ HERE = os.path.dirname(os.path.abspath(__file__))
 SOURCES = os.path.join(HERE, "..", "crates", "refspec_c", "src")
 LIBRARY = os.path.join(HERE, "..", "crates", "refspec_text", "src")
 RUST = os.path.join(HERE, "..", "bindings", "rust")
-PYTHON = os.path.join(HERE, "..", "bindings", "python", "gix_refspec.py")
+MANUAL = os.path.join(HERE, "..", "docs", "C.md")
+PYTHON = os.path.join(HERE, "..", "bindings", "python", "gix_refspec", "__init__.py")
 # What each type of the exported functions is in C. A slice is a pointer and a length, and an allocator is nothing.
 IN_C = {
     "Global": [],
@@ -38,6 +39,8 @@ RUST_IN_C = {
     "*mut Parts": "gix_refspec_instruction *",
     "*mut Mapping": "gix_refspec_mapping *",
 }
+# The programs that stand in docs/C.md.
+PROGRAMS = [("c", "planner.c"), ("rust", "refspec", "examples", "planner.rs"), ("python", "examples", "planner.py")]
 # The sentences of outcomes that the library has none for.
 OF_CALLS = {
     "OK": "The call has its answer.",
@@ -108,10 +111,7 @@ def numbers():
     for one, number in re.findall(r"pub const (\w+): u32 = (\d+);", read(RUST, "gix-refspec-sys", "src", "lib.rs")):
         yield "gix-refspec-sys", one, int(number)
     for one, number in re.findall(r"^    ([A-Z_]+) = (\d+)$", read(PYTHON), re.M):
-        yield "gix_refspec.py", one, int(number)
-    for names, given in re.findall(r"^_([A-Z_, ]+) = ([\d, ]+)$", read(PYTHON), re.M):
-        for one, number in zip(names.split(", _"), given.split(", ")):
-            yield "gix_refspec.py", one, int(number)
+        yield "the module in Python", one, int(number)
 
 
 def sentences(in_header):
@@ -125,16 +125,16 @@ def sentences(in_header):
     return {number: said[name].replace("\\\\", "\\") for name, number in in_header.items()}
 
 
-def told_by(library, outcome):
-    """The sentence that the library tells for an outcome, and the byte behind it."""
+class Text(ctypes.Structure):
+    _fields_ = [("bytes", ctypes.c_void_p), ("len", ctypes.c_size_t)]
 
-    class Text(ctypes.Structure):
-        _fields_ = [("bytes", ctypes.c_void_p), ("len", ctypes.c_size_t)]
 
-    sentence = Text(ctypes.cast(b"", ctypes.c_void_p), 0)
-    if library.gix_refspec_explanation(ctypes.c_uint32(outcome), ctypes.byref(sentence)) != 0:
+def told_by(call, *words):
+    """The text that a call of the library tells, and the byte behind it."""
+    text = Text(ctypes.cast(b"", ctypes.c_void_p), 0)
+    if call(*words, ctypes.byref(text)) != 0:
         return None
-    told = ctypes.string_at(sentence.bytes, sentence.len + 1)
+    told = ctypes.string_at(text.bytes, text.len + 1)
     return told[:-1].decode(), told[-1]
 
 
@@ -148,7 +148,7 @@ def versions(folder, header):
     """The version of the library in each place that tells it."""
     shared = os.path.join(folder, "lib", "libgix_refspec.so")
     config = read(folder, "lib", "pkgconfig", "gix_refspec.pc")
-    python, manual = read(PYTHON), read(HERE, "..", "docs", "C.md")
+    python, manual = read(PYTHON), read(MANUAL)
     parts = re.findall(r"^#define GIX_REFSPEC_VERSION_(?:MAJOR|MINOR|PATCH) (\d+)$", header, re.M)
     told = {
         "gix_refspec.h": found(r'^#define GIX_REFSPEC_VERSION "(.*)"$', header),
@@ -156,7 +156,9 @@ def versions(folder, header):
         "gix_refspec.pc": found(r"^Version: (.*)$", config),
         "the name of the file": os.path.realpath(shared).partition(".so.")[2],
         "docs/C.md": found(r"`libgix_refspec\.so\.(\d+\.\d+\.\d+)`", manual),
-        "gix_refspec.py": found(r'^__version__ = "(.*)"$', python),
+        "the module in Python": found(r'^__version__ = "(.*)"$', python),
+        "pyproject.toml": found(r'^version = "(.*)"$', read(os.path.dirname(PYTHON), "..", "pyproject.toml")),
+        "the library": told_by(ctypes.CDLL(shared).gix_refspec_version)[0],
     }
     for crate in ("gix-refspec-sys", "refspec"):
         told[f"the crate {crate}"] = found(r'^version = "(.*)"$', read(RUST, crate, "Cargo.toml"))
@@ -169,7 +171,7 @@ def versions(folder, header):
         "gix_refspec.pc": found(r"^soname=(.*)$", config),
         "the link": os.readlink(shared),
         "docs/C.md": found(r"`(libgix_refspec\.so[^`]*)`, which is its soname", manual),
-        "gix_refspec.py": found(r'"(libgix_refspec\.so[^"]*)"', python),
+        "the module in Python": found(r'"(libgix_refspec\.so[^"]*)"', python),
     }
     return told, sonames, f"libgix_refspec.so.{compatible}"
 
@@ -191,7 +193,35 @@ def compare(folder):
     others = [(place, name) for place, name, number in numbers() if in_header.get(name) != number]
     if others:
         sys.exit(f"bindings: the header has other numbers for {others}")
+    for binding in ("gix-refspec-sys", "the module in Python"):
+        missing = set(in_header) - {name for place, name, _ in numbers() if place == binding}
+        if missing:
+            sys.exit(f"bindings: {binding} has no name for {sorted(missing)}")
+    compare_manual(header, prototypes, in_header)
     print(f"bindings: {len(functions)} prototypes as the functions; the archive wants {', '.join(sorted(wanted))}")
+
+
+def fields(text):
+    """The fields of the structs, by their names."""
+    told = {}
+    for inner, name in re.findall(r"typedef struct \{(.*?)\} (\w+);", re.sub(r"/\*.*?\*/", "", text, flags=re.S), re.S):
+        told[name] = " ".join(inner.split())
+    return told
+
+
+def compare_manual(header, prototypes, in_header):
+    """docs/C.md has the prototypes, structs and numbers of the header, and the programs."""
+    manual = read(MANUAL)
+    if declared(manual) != prototypes:
+        sys.exit(f"bindings: docs/C.md has the prototypes {declared(manual)}, not {prototypes}")
+    if fields(manual) != fields(header):
+        sys.exit(f"bindings: docs/C.md has the structs {fields(manual)}, not {fields(header)}")
+    told = {name: int(number) for name, number in re.findall(r"`([A-Z_]+)` (\d+)", manual)}
+    if told != in_header:
+        sys.exit(f"bindings: docs/C.md has other numbers: {sorted(set(told.items()) ^ set(in_header.items()))}")
+    for path in PROGRAMS:
+        if read(HERE, "..", "bindings", *path) not in manual:
+            sys.exit(f"bindings: docs/C.md has another {path[-1]} than bindings/")
 
 
 def compare_sentences(folder):
@@ -200,8 +230,9 @@ def compare_sentences(folder):
     wanted = sentences(numbers_of(outcomes))
     library = ctypes.CDLL(os.path.join(folder, "lib", "libgix_refspec.so"))
     for outcome, sentence in wanted.items():
-        if told_by(library, outcome) != (sentence, 0):
-            sys.exit(f"bindings: outcome {outcome} is told as {told_by(library, outcome)}, not {sentence!r} and a NUL")
+        told = told_by(library.gix_refspec_explanation, ctypes.c_uint32(outcome))
+        if told != (sentence, 0):
+            sys.exit(f"bindings: outcome {outcome} is told as {told}, not {sentence!r} and a NUL")
     print(f"bindings: {len(wanted)} sentences, {len(wanted) - len(OF_CALLS)} of them those of refspec_text")
 
 

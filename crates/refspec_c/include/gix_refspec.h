@@ -9,11 +9,12 @@
 #include <stddef.h>
 #include <stdint.h>
 
-/* The version of this library. Before 1.0 every new minor version may break its callers. */
+/* The version of this header; gix_refspec_version tells that of the library that runs. Before 1.0 every new minor version
+ * may break its callers. */
 #define GIX_REFSPEC_VERSION_MAJOR 0
-#define GIX_REFSPEC_VERSION_MINOR 1
+#define GIX_REFSPEC_VERSION_MINOR 2
 #define GIX_REFSPEC_VERSION_PATCH 0
-#define GIX_REFSPEC_VERSION "0.1.0"
+#define GIX_REFSPEC_VERSION "0.2.0"
 
 #ifdef __cplusplus
 extern "C" {
@@ -43,6 +44,9 @@ enum { GIX_REFSPEC_PUSH_ALL_MATCHING = 1, GIX_REFSPEC_PUSH_DELETE = 2, GIX_REFSP
 typedef struct { const uint8_t *bytes; size_t len; } gix_refspec_text;
 #define GIX_REFSPEC_TEXT_INIT { (const uint8_t *)"", 0 }
 
+/* The version of the library that runs, as "0.2.0". In memory a NUL follows it, which its length doesn't count. */
+uint32_t gix_refspec_version(gix_refspec_text *version);
+
 /* What a refspec says to do. A side that it hasn't is empty, and none that it has is. Sides are places in
  * the text, or the constant HEAD. */
 typedef struct {
@@ -60,11 +64,12 @@ enum { GIX_REFSPEC_FORWARD = 1, GIX_REFSPEC_BACKWARD = 2 };
 enum { GIX_REFSPEC_WRITTEN = 1, GIX_REFSPEC_LEFT_OUT = 2, GIX_REFSPEC_BAD_NAME = 3, GIX_REFSPEC_CONTESTED = 4,
        GIX_REFSPEC_FETCHED_ONLY = 5 };
 
-/* A mapping: the places of its spec and of its name, GIX_REFSPEC_NO_ITEM of an id that is asked for; where in the
- * buffer that id stands, else a length of 0; and the name that the spec makes, the destination or backward the source. */
+/* A mapping: the indexes of its spec and of its name, GIX_REFSPEC_NO_ITEM of an id that is asked for; whether its spec is
+ * forced, as in gix_refspec_instruction; where in the buffer that id stands, else a length of 0; and the name that the spec
+ * makes, the destination or backward the source. */
 typedef struct {
     size_t spec, item;
-    uint32_t has_destination, verdict; /* of a match the verdict is 0 */
+    uint32_t has_destination, forced, verdict; /* of a match the verdict is 0 */
     size_t id_at, id_len, made_at, made_len;
 } gix_refspec_mapping;
 
@@ -81,6 +86,15 @@ uint32_t gix_refspec_canonical(const uint8_t *text, size_t text_len, uint32_t op
 /* How two refspecs compare: -1, 0 or 1; 0 just where their canonical texts are equal. */
 uint32_t gix_refspec_compare(const uint8_t *a, size_t a_len, const uint8_t *b, size_t b_len, uint32_t operation,
                              int32_t *order);
+
+/* The prefix of the ref names that it has on the remote: a full name, HEAD, or what is before the star of a pattern below
+ * refs/. Empty if it has none. A place in the text, or the constant HEAD. */
+uint32_t gix_refspec_prefix(const uint8_t *text, size_t text_len, uint32_t operation, gix_refspec_text *prefix);
+
+/* That prefix, or the six names that a partial name may stand for, a line each; nothing of an id or a negative refspec. With
+ * none of a positive one, or one with a star, only a request for all refs is safe. *len is set as by canonical. */
+uint32_t gix_refspec_expand_prefixes(const uint8_t *text, size_t text_len, uint32_t operation, uint8_t *buffer,
+                                     size_t buffer_len, size_t *len);
 
 /* What to ask a server for, a prefix a line. GIX_REFSPEC_NO_LIST where only a request for all refs is safe. */
 uint32_t gix_refspec_prefixes(const gix_refspec_text *texts, size_t count, uint32_t operation, uint8_t *buffer,

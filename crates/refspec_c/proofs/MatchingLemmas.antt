@@ -98,15 +98,15 @@ no_room Is Why es structs text before after (Ok u) is tells small = tt
 no_room Is Why es structs text before after (Err f) is tells small = inl (small.0, es, is, record { structs = structs; text = text; tells = tells; not_put = small.1 })
 
 -- what is listed from left to right tells of what is matched
-pub matched_forward : (d : Direction) (texts names : List (List ℕ)) (group : List Reading) (refs : List Ref) (kept : List Mapped) (r : Result Listing Failure) → d ≡ Forward → AllZip (Reads Fetch) texts group → refs ≡ map nameless names → AreKeptForward group refs kept → IfOk r (λ l. Tells (map (forward_entry 0) kept) l.mappings.items l.text.items) → IfOk r (λ l. (es : List Entry) × AreMatched d texts names es × Tells es l.mappings.items l.text.items)
-matched_forward d texts names group refs kept (Err f) is read same stay tells = tt
-matched_forward d texts names group refs kept (Ok l) is read same stay tells =
-    let matched : AreMatched Forward texts names (map (forward_entry 0) kept) = record { group = group; read = read; kept = kept; stay = subst (λ (rs : List Ref). AreKeptForward group rs kept) same stay; are = refl } in
-    (map (forward_entry 0) kept, subst (λ (e : Direction). AreMatched e texts names (map (forward_entry 0) kept)) (sym is) matched, tells)
+pub matched_forward : (d : Direction) (texts names : List (List ℕ)) (group g : List Reading) (refs : List Ref) (kept : List Mapped) (r : Result Listing Failure) → d ≡ Forward → g ≡ group → AllZip (Reads Fetch) texts group → refs ≡ map nameless names → AreKeptForward group refs kept → IfOk r (λ l. Tells (map (forward_entry g 0) kept) l.mappings.items l.text.items) → IfOk r (λ l. (es : List Entry) × AreMatched d texts names es × Tells es l.mappings.items l.text.items)
+matched_forward d texts names group g refs kept (Err f) is whole read same stay tells = tt
+matched_forward d texts names group g refs kept (Ok l) is whole read same stay tells =
+    let matched : AreMatched Forward texts names (map (forward_entry group 0) kept) = record { group = group; read = read; kept = kept; stay = subst (λ (rs : List Ref). AreKeptForward group rs kept) same stay; are = refl } in
+    (map (forward_entry group 0) kept, subst (λ (e : Direction). AreMatched e texts names (map (forward_entry group 0) kept)) (sym is) matched, subst (λ (specs : List Reading). Tells (map (forward_entry specs 0) kept) l.mappings.items l.text.items) whole tells)
 
 -- and so it is from right to left, where no destination is an id
-pub matched_backward : (d : Direction) (texts names : List (List ℕ)) (group : List Reading) (refs : List Ref) (kept : List Mapped) (r : Result Listing Failure) → d ≡ Backward → AllZip (Reads Fetch) texts group → refs ≡ map nameless names → AreKeptBackward group refs kept → AllByRecursion GoesByName group → IfOk r (λ l. Tells (map backward_entry kept) l.mappings.items l.text.items) → IfOk r (λ l. (es : List Entry) × AreMatched d texts names es × Tells es l.mappings.items l.text.items)
-matched_backward d texts names group refs kept (Err f) is read same stay by tells = tt
-matched_backward d texts names group refs kept (Ok l) is read same stay by tells =
-    let matched : AreMatched Backward texts names (map backward_entry kept) = record { group = group; read = read; kept = kept; stay = (subst (λ (rs : List Ref). AreKeptBackward group rs kept) same stay, by); are = refl } in
-    (map backward_entry kept, subst (λ (e : Direction). AreMatched e texts names (map backward_entry kept)) (sym is) matched, tells)
+pub matched_backward : (d : Direction) (texts names : List (List ℕ)) (group g : List Reading) (refs : List Ref) (kept : List Mapped) (r : Result Listing Failure) → d ≡ Backward → g ≡ group → AllZip (Reads Fetch) texts group → refs ≡ map nameless names → AreKeptBackward group refs kept → AllByRecursion GoesByName group → IfOk r (λ l. Tells (map (backward_entry g) kept) l.mappings.items l.text.items) → IfOk r (λ l. (es : List Entry) × AreMatched d texts names es × Tells es l.mappings.items l.text.items)
+matched_backward d texts names group g refs kept (Err f) is whole read same stay by tells = tt
+matched_backward d texts names group g refs kept (Ok l) is whole read same stay by tells =
+    let matched : AreMatched Backward texts names (map (backward_entry group) kept) = record { group = group; read = read; kept = kept; stay = (subst (λ (rs : List Ref). AreKeptBackward group rs kept) same stay, by); are = refl } in
+    (map (backward_entry group) kept, subst (λ (e : Direction). AreMatched e texts names (map (backward_entry group) kept)) (sym is) matched, subst (λ (specs : List Reading). Tells (map (backward_entry specs) kept) l.mappings.items l.text.items) whole tells)

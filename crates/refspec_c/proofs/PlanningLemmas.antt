@@ -100,10 +100,10 @@ found_destination issues d r up within at =
 -- ---- verdicts
 
 -- one mapping more is judged
-pub judged_more : (Met : List ℕ → Type 0) (ms : List Mapping) (k : ℕ) (m : Mapping) (es : List Entry) (e : Entry) → k < length ms → m ≡ get_or ms k m → AllZip (IsJudged Met) (map mapped_of (take k ms)) es → IsJudged Met (mapped_of m) e → AllZip (IsJudged Met) (map mapped_of (take (k + 1) ms)) (es ++ e ∷ [])
-judged_more Met ms k m es e below is so_far judged =
+pub judged_more : (g : List Reading) (Met : List ℕ → Type 0) (ms : List Mapping) (k : ℕ) (m : Mapping) (es : List Entry) (e : Entry) → k < length ms → m ≡ get_or ms k m → AllZip (IsJudged g Met) (map mapped_of (take k ms)) es → IsJudged g Met (mapped_of m) e → AllZip (IsJudged g Met) (map mapped_of (take (k + 1) ms)) (es ++ e ∷ [])
+judged_more g Met ms k m es e below is so_far judged =
     let more : map mapped_of (take (k + 1) ms) ≡ map mapped_of (take k ms) ++ mapped_of m ∷ [] = ap (map mapped_of) (take_more ms k m below) ∙ map-append mapped_of (take k ms) (get_or ms k m ∷ []) ∙ ap (λ x. map mapped_of (take k ms) ++ mapped_of x ∷ []) (sym is) in
-    subst (λ (l : List Mapped). AllZip (IsJudged Met) l (es ++ e ∷ [])) (sym more) (pair_more (IsJudged Met) (map mapped_of (take k ms)) es (mapped_of m) e so_far judged)
+    subst (λ (l : List Mapped). AllZip (IsJudged g Met) l (es ++ e ∷ [])) (sym more) (pair_more (IsJudged g Met) (map mapped_of (take k ms)) es (mapped_of m) e so_far judged)
 
 -- what isn't untrue is true
 pub unless : (b : Bool) → not b ≡ false → IsTrue b
@@ -122,11 +122,11 @@ same_verdict P Q same m FetchedOnly has = has
 same_verdict P Q same m Contested has = (has.0, has.1, has.2, (same has.1).0 has.3)
 same_verdict P Q same m Written has = (has.0, has.1, has.2, λ met. has.3 ((same has.1).1 met))
 
-same_verdicts : (P Q : List ℕ → Type 0) → ((d : List ℕ) → P d ↔ Q d) → (l : List Mapped) (es : List Entry) → AllZip (IsJudged P) l es → AllZip (IsJudged Q) l es
-same_verdicts P Q same [] [] all = all
-same_verdicts P Q same [] (e ∷ es) all = all
-same_verdicts P Q same (m ∷ l) [] all = all
-same_verdicts P Q same (m ∷ l) (e ∷ es) all = ((all.0.0, same_verdict P Q same m all.0.0 all.0.1, all.0.2), same_verdicts P Q same l es all.1)
+same_verdicts : (g : List Reading) (P Q : List ℕ → Type 0) → ((d : List ℕ) → P d ↔ Q d) → (l : List Mapped) (es : List Entry) → AllZip (IsJudged g P) l es → AllZip (IsJudged g Q) l es
+same_verdicts g P Q same [] [] all = all
+same_verdicts g P Q same [] (e ∷ es) all = all
+same_verdicts g P Q same (m ∷ l) [] all = all
+same_verdicts g P Q same (m ∷ l) (e ∷ es) all = ((all.0.0, same_verdict P Q same m all.0.0 all.0.1, all.0.2), same_verdicts g P Q same l es all.1)
 
 -- each conflict is over a destination with several sources
 each_contested : (g : List Reading) (l : List Mapped) (issues : List Issue) → AllByRecursion (IsConflict g l) (map conflict_of issues) → AllByRecursion (HasConflictAt l) (destinations_of issues)
@@ -148,14 +148,14 @@ some_or_none g l (issue ∷ issues) true are none = (destination_in issue, are.e
 some_or_none g l (issue ∷ issues) false are none = absurd (false≢true (none ∙ ap not (eqb-suc-zero (length issues))))
 
 -- what is told of mappings by the conflicts of those between names of refs is a plan
-pub planned : (texts names : List (List ℕ)) (group g : List Reading) (refs : List Ref) (kept named : List Mapped) (issues : List Issue) (es : List Entry) (some : Bool) → AllZip (Reads Fetch) texts group → refs ≡ map nameless names → AreKeptForward group refs kept → AreNamed kept named → AreConflicts g named (map conflict_of issues) → some ≡ not (length issues == 0) → AllZip (IsJudged (Contains (destinations_of issues))) kept es → IsPlan some texts names es
-planned texts names group g refs kept named issues es some read same stay between are none judged = record {
+pub planned : (texts names : List (List ℕ)) (group g : List Reading) (refs : List Ref) (kept named : List Mapped) (issues : List Issue) (es : List Entry) (some : Bool) → AllZip (Reads Fetch) texts group → refs ≡ map nameless names → AreKeptForward group refs kept → AreNamed kept named → AreConflicts g named (map conflict_of issues) → some ≡ not (length issues == 0) → g ≡ group → AllZip (IsJudged g (Contains (destinations_of issues))) kept es → IsPlan some texts names es
+planned texts names group g refs kept named issues es some read same stay between are none whole judged = record {
   group = group;
   read = read;
   kept = kept;
   stay = subst (λ (rs : List Ref). AreKeptForward group rs kept) same stay;
   named = named;
   between_names = between;
-  judged = same_verdicts (Contains (destinations_of issues)) (HasConflictAt named) (contested g named issues are) kept es judged;
+  judged = same_verdicts group (Contains (destinations_of issues)) (HasConflictAt named) (contested g named issues are) kept es (subst (λ (specs : List Reading). AllZip (IsJudged specs (Contains (destinations_of issues))) kept es) whole judged);
   conflicts = some_or_none g named issues some are none;
 }

@@ -10,6 +10,10 @@ use Rattle.refspec_c.specs.declared.failure.Failure.TheVariants as failure
 abbrev pub ended : List ℕ → List ℕ
 ended sentence = sentence ++ (0 ∷ [])
 
+-- the version of the library, as include/gix_refspec.h has it
+abbrev pub version : List ℕ
+version = codes "0.2.0"
+
 -- what is said where a call didn't fail
 abbrev pub well : List ℕ
 well = codes "The call has its answer."

@@ -1,18 +1,22 @@
 -- What a caller is told of mappings: a struct for each, and their texts one after the other.
 use Rattle.std.specs.Prelude.{◌≡◌, ◌⊎◌, ◌<◌, ◌≤◌, ◌+◌, ℕ, List, [], ◌∷◌, ◌++◌, length, drop, map, Option, None, Some}
-use Rattle.std.specs.List.{flat_map}
+use Rattle.std.specs.List.{flat_map, slice_get}
 use Rattle.gix_refspec.specs.Texts.ObjectId.{lower_of}
+use Rattle.gix_refspec.specs.Specs.Meaning.{Meaning, meaning_of}
+use Rattle.gix_refspec.specs.Specs.Reading.{Reading}
 use Rattle.gix_refspec.specs.Matching.Mappings.{Start, name, id, Mapped}
 use Rattle.refspec_c.specs.declared.failure.Failure.{Failure}
 use Rattle.refspec_c.specs.declared.failure.Failure.TheVariants as failure
 use Rattle.refspec_c.specs.declared.listing.MappingOut.{MappingOut}
+use Rattle.refspec_c.specs.Single.{parts_of}
 
--- what there is to tell of a mapping: the places of its spec and of its name, whether it has a destination, a verdict, the
--- text of a source that is an id, and the name that the spec makes
+-- what there is to tell of a mapping: the indexes of its spec and of its name, whether it has a destination, whether its
+-- spec is forced, a verdict, the text of a source that is an id, and the name that the spec makes
 pub record Entry : Type 0 where
   pub spec : ℕ
   pub item : ℕ
   pub has_destination : ℕ
+  pub forced : ℕ
   pub verdict : ℕ
   pub id : List ℕ
   pub made : List ℕ
@@ -46,13 +50,27 @@ abbrev pub destinations : Option (List ℕ) → ℕ
 destinations None = 0
 destinations (Some d) = 1
 
+-- 1 where an instruction is forced
+abbrev pub forced_by : Option Meaning → ℕ
+forced_by None = 0
+forced_by (Some m) = (parts_of m).forced
+
+-- 1 where that of a spec is
+abbrev pub forced_of : Option Reading → ℕ
+forced_of None = 0
+forced_of (Some r) = forced_by (meaning_of r)
+
+-- 1 where the spec with this index in the group is forced
+abbrev pub forced_at : List Reading → ℕ → ℕ
+forced_at g k = forced_of (slice_get g k)
+
 -- what is told of a mapping from left to right, of which the spec makes the destination
-abbrev pub forward_entry : ℕ → Mapped → Entry
-forward_entry verdict m = record { spec = m.spec; item = number_of_item m.item; has_destination = destinations m.destination; verdict = verdict; id = id_text m.source; made = destination_text m.destination }
+abbrev pub forward_entry : List Reading → ℕ → Mapped → Entry
+forward_entry g verdict m = record { spec = m.spec; item = number_of_item m.item; has_destination = destinations m.destination; forced = forced_at g m.spec; verdict = verdict; id = id_text m.source; made = destination_text m.destination }
 
 -- and of one from right to left, of which it makes the source
-abbrev pub backward_entry : Mapped → Entry
-backward_entry m = record { spec = m.spec; item = number_of_item m.item; has_destination = destinations m.destination; verdict = 0; id = []; made = start_text m.source }
+abbrev pub backward_entry : List Reading → Mapped → Entry
+backward_entry g m = record { spec = m.spec; item = number_of_item m.item; has_destination = destinations m.destination; forced = forced_at g m.spec; verdict = 0; id = []; made = start_text m.source }
 
 -- the texts of a mapping
 abbrev pub text_of : Entry → List ℕ
@@ -67,6 +85,7 @@ pub record Told : Type 0 where
   pub spec : ℕ
   pub item : ℕ
   pub has_destination : ℕ
+  pub forced : ℕ
   pub verdict : ℕ
   pub id_at : ℕ
   pub id_len : ℕ
@@ -75,11 +94,11 @@ pub record Told : Type 0 where
 
 -- what a struct says
 abbrev pub told_by : MappingOut → Told
-told_by m = record { spec = m.spec; item = m.item; has_destination = m.has_destination; verdict = m.verdict; id_at = m.id_at; id_len = m.id_len; made_at = m.made_at; made_len = m.made_len }
+told_by m = record { spec = m.spec; item = m.item; has_destination = m.has_destination; forced = m.forced; verdict = m.verdict; id_at = m.id_at; id_len = m.id_len; made_at = m.made_at; made_len = m.made_len }
 
 -- what is told of a mapping whose texts begin at a place of the buffer
 abbrev pub told_at : ℕ → Entry → Told
-told_at at e = record { spec = e.spec; item = e.item; has_destination = e.has_destination; verdict = e.verdict; id_at = at; id_len = length e.id; made_at = at + length e.id; made_len = length e.made }
+told_at at e = record { spec = e.spec; item = e.item; has_destination = e.has_destination; forced = e.forced; verdict = e.verdict; id_at = at; id_len = length e.id; made_at = at + length e.id; made_len = length e.made }
 
 -- what is told of mappings whose texts are one after the other from a place of the buffer on
 abbrev pub told_from : ℕ → List Entry → List Told

@@ -33,10 +33,10 @@ abbrev pub Stay : Direction → List Reading → List Ref → List Mapped → Ty
 Stay Forward g refs kept = AreKeptForward g refs kept
 Stay Backward g refs kept = AreKeptBackward g refs kept × AllByRecursion GoesByName g
 
--- what is told of a mapping in a direction
-abbrev pub entry_of : Direction → Mapped → Entry
-entry_of Forward = forward_entry 0
-entry_of Backward = backward_entry
+-- what is told of a mapping of a group in a direction
+abbrev pub entry_of : Direction → List Reading → Mapped → Entry
+entry_of Forward g = forward_entry g 0
+entry_of Backward g = backward_entry g
 
 -- the texts are fetches, and these entries tell of the mappings that stay of them over the names
 pub record AreMatched (d : Direction) (texts names : List (List ℕ)) (es : List Entry) : Type 0 where
@@ -44,7 +44,7 @@ pub record AreMatched (d : Direction) (texts names : List (List ℕ)) (es : List
   pub read : AllZip (Reads Fetch) texts group
   pub kept : List Mapped
   pub stay : Stay d group (map nameless names) kept
-  pub are : es ≡ map (entry_of d) kept
+  pub are : es ≡ map (entry_of d group) kept
 
 -- the texts are fetches, of which some asks back for an id
 pub record WantIds (texts : List (List ℕ)) : Type 0 where

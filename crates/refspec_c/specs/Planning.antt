@@ -37,9 +37,9 @@ HasVerdict Met m FetchedOnly = IsNamed m × (m.destination ≡ None)
 HasVerdict Met m Contested = IsNamed m × (d : List ℕ) × (m.destination ≡ Some d) × Met d
 HasVerdict Met m Written = IsNamed m × (d : List ℕ) × (m.destination ≡ Some d) × ¬ (Met d)
 
--- the entry tells of the mapping, with its verdict
-abbrev pub IsJudged : (List ℕ → Type 0) → Mapped → Entry → Type 0
-IsJudged Met m e = (v : Verdict) × HasVerdict Met m v × (e ≡ forward_entry (verdict_code v) m)
+-- the entry tells of the mapping of a group, with its verdict
+abbrev pub IsJudged : List Reading → (List ℕ → Type 0) → Mapped → Entry → Type 0
+IsJudged g Met m e = (v : Verdict) × HasVerdict Met m v × (e ≡ forward_entry g (verdict_code v) m)
 
 -- some destination has several sources among the mappings
 abbrev pub HasConflict : List Mapped → Type 0
@@ -62,7 +62,7 @@ pub record IsPlan (some : Bool) (texts names : List (List ℕ)) (es : List Entry
   pub stay : AreKeptForward group (map nameless names) kept
   pub named : List Mapped
   pub between_names : AreNamed kept named
-  pub judged : AllZip (IsJudged (HasConflictAt named)) kept es
+  pub judged : AllZip (IsJudged group (HasConflictAt named)) kept es
   pub conflicts : MatchBool some (HasConflict named) (HasNoConflict named)
 
 -- why a plan isn't told, or can't be written as it is told: some destination has several sources; or there is no room for

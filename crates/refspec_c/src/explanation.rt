@@ -36,8 +36,8 @@ pub extern "C" fn gix_refspec_explanation(outcome: u32, sentence: &mut Text<'sta
     }
 }
 
-// What is before the NUL at the end of a text.
-fn before_nul(text: &'static [u8]) -> Text<'static>
+/// What is before the NUL at the end of a text.
+pub(crate) fn before_nul(text: &'static [u8]) -> Text<'static>
     ensures { (sentence : List ℕ) → text.now ≡ ended sentence → result.bytes.now ≡ sentence }
 {
     let sentence = match text.split_last() {

@@ -15,3 +15,4 @@ pub mod prefixes;
 mod put;
 pub mod reading;
 pub mod single;
+pub mod version;

@@ -2,10 +2,12 @@
 
 ghost use Rattle.std.specs.Prelude.{◌≡◌, ◌++◌, ◌∷◌, [], map, length, IfErr, IfOk, OnOk};
 ghost use Rattle.std.specs.String.{string_bytes};
-ghost use Rattle.gix_refspec.specs.Views.Group.{mapped_of, start_of};
-ghost use Rattle.refspec_c.specs.Mapping.{IsNotPut, IsPut, Room, Tells, backward_entry, forward_entry, id_text, number_of_item, text_of, told_at, told_by};
+ghost use Rattle.gix_refspec.specs.Views.Group.{mapped_of, readings_of, start_of};
+ghost use Rattle.refspec_c.specs.Mapping.{IsNotPut, IsPut, Room, Tells, backward_entry, forced_at, forward_entry, id_text, number_of_item, text_of, told_at, told_by};
 
 use crate::failure::Failure;
+use crate::parts::parts_of;
+use gix_refspec::MatchGroup;
 use gix_refspec::match_group::{Mapping, SourceRef};
 use std::alloc::{AllocError, Global};
 
@@ -20,6 +22,8 @@ pub struct MappingOut {
     pub item: usize,
     /// 1 where there is a destination, else 0.
     pub has_destination: u32,
+    /// 1 where the spec lets refs move also where that is no fast-forward, else 0.
+    pub forced: u32,
     /// What becomes of it in a plan, else 0.
     pub verdict: u32,
     /// The text of a source that is an id. Of another its length is 0.
@@ -50,18 +54,19 @@ impl Listing {
         }
     }
 
-    /// Tells of one more mapping from left to right.
+    /// Tells of one more mapping of a group from left to right.
     pub(crate) fn add_forward(
         &mut self,
         alloc: Global,
+        group: &MatchGroup<'_>,
         mapping: &Mapping<'_, '_>,
         verdict: u32,
     ) -> Result<(), Failure>
         ensures text { OnOk result (self.new.text.items ≡ self.old.text.items ++
-            text_of (forward_entry verdict (mapped_of mapping.now))) }
+            text_of (forward_entry (readings_of group.now) verdict (mapped_of mapping.now))) }
         ensures told { OnOk result (map told_by self.new.mappings.items ≡
             map told_by self.old.mappings.items ++
-            told_at (length self.old.text.items) (forward_entry verdict (mapped_of mapping.now)) ∷ []) }
+            told_at (length self.old.text.items) (forward_entry (readings_of group.now) verdict (mapped_of mapping.now)) ∷ []) }
         ensures err { IfErr result (λ f. f ≡ Failure.NoMemory) }
     {
         let id = match id_digits(alloc, &mapping.lhs) {
@@ -72,20 +77,29 @@ impl Listing {
             None => (0, b"".as_slice()),
             Some(name) => (1, name.as_bstr().as_bytes()),
         };
-        self.add(mapping, has_destination, verdict, id.as_bytes(), made)
+        let forced = forced_of(group, mapping.spec_index);
+        self.add(
+            mapping,
+            has_destination,
+            forced,
+            verdict,
+            id.as_bytes(),
+            made,
+        )
     }
 
-    /// Tells of one more mapping from right to left.
+    /// Tells of one more mapping of a group from right to left.
     pub(crate) fn add_backward(
         &mut self,
         alloc: Global,
+        group: &MatchGroup<'_>,
         mapping: &Mapping<'_, '_>,
     ) -> Result<(), Failure>
         ensures text { OnOk result (self.new.text.items ≡ self.old.text.items ++
-            text_of (backward_entry (mapped_of mapping.now))) }
+            text_of (backward_entry (readings_of group.now) (mapped_of mapping.now))) }
         ensures told { OnOk result (map told_by self.new.mappings.items ≡
             map told_by self.old.mappings.items ++
-            told_at (length self.old.text.items) (backward_entry (mapped_of mapping.now)) ∷ []) }
+            told_at (length self.old.text.items) (backward_entry (readings_of group.now) (mapped_of mapping.now)) ∷ []) }
         ensures err { IfErr result (λ f. f ≡ Failure.NoMemory) }
     {
         let id = match id_digits(alloc, &mapping.lhs) {
@@ -97,7 +111,8 @@ impl Listing {
             SourceRef::ObjectId(_) => id.as_bytes(),
         };
         let has_destination = if mapping.rhs.is_some() { 1 } else { 0 };
-        self.add(mapping, has_destination, 0, b"", made)
+        let forced = forced_of(group, mapping.spec_index);
+        self.add(mapping, has_destination, forced, 0, b"", made)
     }
 
     // Tells of one more mapping, with these texts.
@@ -105,6 +120,7 @@ impl Listing {
         &mut self,
         mapping: &Mapping<'_, '_>,
         has_destination: u32,
+        forced: u32,
         verdict: u32,
         id: &[u8],
         made: &[u8],
@@ -112,7 +128,7 @@ impl Listing {
         ensures text { OnOk result (self.new.text.items ≡ self.old.text.items ++ (id.now ++ made.now)) }
         ensures told { OnOk result (map told_by self.new.mappings.items ≡
             map told_by self.old.mappings.items ++
-            told_at (length self.old.text.items) (record { spec = mapping.now.spec_index; item = number_of_item mapping.now.item_index; has_destination = has_destination; verdict = verdict; id = id.now; made = made.now }) ∷ []) }
+            told_at (length self.old.text.items) (record { spec = mapping.now.spec_index; item = number_of_item mapping.now.item_index; has_destination = has_destination; forced = forced; verdict = verdict; id = id.now; made = made.now }) ∷ []) }
         ensures err { IfErr result (λ f. f ≡ Failure.NoMemory) }
     {
         let id_at = self.text.len();
@@ -127,6 +143,7 @@ impl Listing {
             spec: mapping.spec_index,
             item: item_number(mapping.item_index),
             has_destination,
+            forced,
             verdict,
             id_at,
             id_len: id.len(),
@@ -137,6 +154,16 @@ impl Listing {
             Ok(()) => Ok(()),
             Err(_) => Err(Failure::NoMemory),
         }
+    }
+}
+
+// 1 if the spec with this index lets refs move also where that is no fast-forward, else 0.
+fn forced_of(group: &MatchGroup<'_>, index: usize) -> u32
+    ensures { result ≡ forced_at (readings_of group.now) index }
+{
+    match group.specs.get(index) {
+        Some(spec) => parts_of(spec.instruction()).forced,
+        None => 0,
     }
 }
 

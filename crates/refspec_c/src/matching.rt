@@ -98,7 +98,7 @@ fn listing_of(
     };
     match direction {
         Direction::Forward => match group.match_lhs(alloc, items.as_slice()) {
-            Ok(outcome) => listed_forward(alloc, outcome.mappings.as_slice()),
+            Ok(outcome) => listed_forward(alloc, &outcome.group, outcome.mappings.as_slice()),
             Err(_) => Err(Failure::NoMemory),
         },
         Direction::Backward => {
@@ -106,7 +106,7 @@ fn listing_of(
                 return Err(Failure::NeedsIds);
             }
             match group.match_rhs(alloc, items.as_slice()) {
-                Ok(outcome) => listed_backward(alloc, outcome.mappings.as_slice()),
+                Ok(outcome) => listed_backward(alloc, &outcome.group, outcome.mappings.as_slice()),
                 Err(_) => Err(Failure::NoMemory),
             }
         }
@@ -159,28 +159,36 @@ fn goes_by_name(spec: &RefSpecRef<'_>) -> bool
     }
 }
 
-// What there is to tell of mappings from left to right.
-fn listed_forward(alloc: Global, mappings: &[Mapping<'_, '_>]) -> Result<Listing, Failure>
+// What there is to tell of mappings of a group from left to right.
+fn listed_forward(
+    alloc: Global,
+    group: &MatchGroup<'_>,
+    mappings: &[Mapping<'_, '_>],
+) -> Result<Listing, Failure>
     ensures ok { IfOk result (λ listing. Tells
-        (map (forward_entry 0) (map mapped_of mappings.now)) listing.mappings.items listing.text.items) }
+        (map (forward_entry (readings_of group.now) 0) (map mapped_of mappings.now)) listing.mappings.items listing.text.items) }
     ensures err { IfErr result (λ f. f ≡ Failure.NoMemory) }
 {
     let mut listing = Listing::new(alloc);
     for mapping in mappings {
-        listing.add_forward(alloc, mapping, 0)?;
+        listing.add_forward(alloc, group, mapping, 0)?;
     }
     Ok(listing)
 }
 
-// What there is to tell of mappings from right to left.
-fn listed_backward(alloc: Global, mappings: &[Mapping<'_, '_>]) -> Result<Listing, Failure>
+// What there is to tell of mappings of a group from right to left.
+fn listed_backward(
+    alloc: Global,
+    group: &MatchGroup<'_>,
+    mappings: &[Mapping<'_, '_>],
+) -> Result<Listing, Failure>
     ensures ok { IfOk result (λ listing. Tells
-        (map backward_entry (map mapped_of mappings.now)) listing.mappings.items listing.text.items) }
+        (map (backward_entry (readings_of group.now)) (map mapped_of mappings.now)) listing.mappings.items listing.text.items) }
     ensures err { IfErr result (λ f. f ≡ Failure.NoMemory) }
 {
     let mut listing = Listing::new(alloc);
     for mapping in mappings {
-        listing.add_backward(alloc, mapping)?;
+        listing.add_backward(alloc, group, mapping)?;
     }
     Ok(listing)
 }

@@ -21,12 +21,12 @@ use crate::listing::{Listing, MappingOut, put_all};
 use crate::matching::items_of;
 use crate::reading::read_all;
 use bstr::BStr;
-use gix_refspec::laws;
 use gix_refspec::match_group::validate::{Issue, Refusal};
 use gix_refspec::match_group::{Mapping, SourceRef, match_lhs};
 use gix_refspec::name::name_partial;
 use gix_refspec::oid::{Kind, ObjectId};
 use gix_refspec::parsing::Operation;
+use gix_refspec::{MatchGroup, laws};
 use std::alloc::Global;
 use std::cmp::Ordering;
 
@@ -129,7 +129,12 @@ fn plan_of(alloc: Global, texts: &[Text<'_>], names: &[Text<'_>]) -> Result<Plan
         Err(failure) => return Err(failure),
     };
     let conflicts = issues.as_slice();
-    match listed(alloc, outcome.mappings.as_slice(), conflicts) {
+    match listed(
+        alloc,
+        &outcome.group,
+        outcome.mappings.as_slice(),
+        conflicts,
+    ) {
         Ok(listing) => Ok(Plan {
             listing,
             has_conflict: !conflicts.is_empty(),
@@ -162,18 +167,23 @@ fn issues_of(alloc: Global, outcome: &match_lhs::Outcome<'_, '_>) -> Result<Vec<
     }
 }
 
-// What there is to tell of mappings, of which these are the conflicts.
-fn listed(alloc: Global, mappings: &[Mapping<'_, '_>], issues: &[Issue]) -> Result<Listing, Failure>
+// What there is to tell of mappings of a group, of which these are the conflicts.
+fn listed(
+    alloc: Global,
+    group: &MatchGroup<'_>,
+    mappings: &[Mapping<'_, '_>],
+    issues: &[Issue],
+) -> Result<Listing, Failure>
     requires { IsStrictlySortedBy (slice_cmp nat_cmp) (destinations_of issues.now) }
     ensures ok { IfOk result (λ listing. (es : List Entry) ×
-        AllZip (IsJudged (Contains (destinations_of issues.now))) (map mapped_of mappings.now) es ×
+        AllZip (IsJudged (readings_of group.now) (Contains (destinations_of issues.now))) (map mapped_of mappings.now) es ×
         Tells es listing.mappings.items listing.text.items) }
     ensures err { IfErr result (λ f. f ≡ Failure.NoMemory) }
 {
     let mut listing = Listing::new(alloc);
     for mapping in mappings {
         let verdict = verdict_of(mapping, issues);
-        listing.add_forward(alloc, mapping, verdict.number())?;
+        listing.add_forward(alloc, group, mapping, verdict.number())?;
     }
     Ok(listing)
 }
