@@ -5,13 +5,43 @@
 pub const FETCH: u32 = 1;
 pub const PUSH: u32 = 2;
 
-/// The outcome of a call that has its answer, and those that aren't about a text.
+/// The outcome of a call that has its answer.
 pub const OK: u32 = 0;
+
+/// What is wrong with a text.
+pub const EMPTY: u32 = 1;
+pub const NEGATIVE_WITH_DESTINATION: u32 = 2;
+pub const NEGATIVE_EMPTY: u32 = 3;
+pub const NEGATIVE_OBJECT_HASH: u32 = 4;
+pub const PUSH_TO_EMPTY: u32 = 5;
+pub const PATTERN_UNSUPPORTED: u32 = 6;
+pub const PATTERN_UNBALANCED: u32 = 7;
+pub const NAME_EMPTY: u32 = 8;
+pub const NAME_EMPTY_COMPONENT: u32 = 9;
+pub const NAME_STARTS_WITH_DOT: u32 = 10;
+pub const NAME_LOCK_SUFFIX: u32 = 11;
+pub const NAME_ENDS_WITH_DOT: u32 = 12;
+pub const NAME_REPEATED_DOT: u32 = 13;
+pub const NAME_REFLOG_PORTION: u32 = 14;
+pub const NAME_ASTERISK: u32 = 15;
+pub const NAME_INVALID_BYTE: u32 = 16;
+
+/// The other outcomes.
 pub const NO_LIST: u32 = 17;
 pub const TOO_SMALL: u32 = 18;
 pub const NO_MEMORY: u32 = 19;
+pub const NO_OPERATION: u32 = 20;
 pub const NEEDS_IDS: u32 = 21;
 pub const IN_CONFLICT: u32 = 22;
+
+/// The kinds of instructions.
+pub const PUSH_ALL_MATCHING: u32 = 1;
+pub const PUSH_DELETE: u32 = 2;
+pub const PUSH_MATCHING: u32 = 3;
+pub const PUSH_EXCLUDE: u32 = 4;
+pub const FETCH_ONLY: u32 = 5;
+pub const FETCH_EXCLUDE: u32 = 6;
+pub const FETCH_AND_UPDATE: u32 = 7;
 
 /// Which sides of fetches are matched.
 pub const FORWARD: u32 = 1;
@@ -52,6 +82,7 @@ pub struct Mapping {
     pub spec: usize,
     pub item: usize,
     pub has_destination: u32,
+    pub forced: u32,
     pub verdict: u32,
     pub id_at: usize,
     pub id_len: usize,
@@ -62,6 +93,7 @@ pub struct Mapping {
 // What is read and what is written are in lines of their own.
 #[rustfmt::skip]
 extern "C" {
+    pub fn gix_refspec_version(version: *mut Text) -> u32;
     pub fn gix_refspec_check(text: *const u8, text_len: usize, operation: u32) -> u32;
     pub fn gix_refspec_parts(text: *const u8, text_len: usize, operation: u32, parts: *mut Parts) -> u32;
     pub fn gix_refspec_canonical(
@@ -71,6 +103,11 @@ extern "C" {
     pub fn gix_refspec_compare(
         a: *const u8, a_len: usize, b: *const u8, b_len: usize, operation: u32,
         order: *mut i32,
+    ) -> u32;
+    pub fn gix_refspec_prefix(text: *const u8, text_len: usize, operation: u32, prefix: *mut Text) -> u32;
+    pub fn gix_refspec_expand_prefixes(
+        text: *const u8, text_len: usize, operation: u32,
+        buffer: *mut u8, buffer_len: usize, len: *mut usize,
     ) -> u32;
     pub fn gix_refspec_prefixes(
         texts: *const Text, count: usize, operation: u32,

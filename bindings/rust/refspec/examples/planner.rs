@@ -8,6 +8,7 @@ use std::process::ExitCode;
 
 fn show(planned: &Planned) {
     let word = match planned.verdict {
+        Verdict::Written if planned.mapping.forced => "force",
         Verdict::Written => "write",
         Verdict::FetchedOnly => "fetch",
         Verdict::Contested => "conflict",
@@ -24,7 +25,7 @@ fn run() -> Result<bool, Box<dyn Error>> {
     let specs = texts.map(|text| Spec::parse(text, Operation::Fetch)).collect::<Result<Vec<_>, _>>()?;
     let mut names = Vec::new();
     for line in io::stdin().lock().split(b'\n') {
-        // An id, a tab and a name. What a tag points to stands on a line of its own, whose name ends with `^{}`.
+        // An id, a tab and a name. What a tag points to is on a line of its own, ended by `^{}`.
         match line?.splitn(2, |byte| *byte == b'\t').nth(1) {
             Some(name) if !name.ends_with(b"^{}") => names.push(name.to_vec()),
             _ => {}

@@ -14,6 +14,7 @@
 //!
 //! The calls below are proved for every input, from the bytes to the outcome; this crate is not.
 use gix_refspec_sys as sys;
+use std::collections::BTreeMap;
 use std::{error, fmt, slice};
 
 /// What a refspec is for.
@@ -32,8 +33,8 @@ impl Operation {
     }
 }
 
-/// What the instruction of a refspec is.
-#[derive(Clone, Copy, Debug, PartialEq, Eq, Hash)]
+/// What the instruction of a refspec is, in the order that specs are compared by.
+#[derive(Clone, Copy, Debug, PartialEq, Eq, PartialOrd, Ord, Hash)]
 #[non_exhaustive]
 pub enum Kind {
     PushAllMatching,
@@ -45,81 +46,160 @@ pub enum Kind {
     FetchAndUpdate,
 }
 
-/// Why a text is no refspec, or why there is no answer. It prints as a sentence.
-#[derive(Clone, Copy, Debug, PartialEq, Eq, Hash)]
-pub struct Error {
-    reason: Reason,
+impl Kind {
+    fn numbered(number: u32) -> Kind {
+        match number {
+            sys::PUSH_ALL_MATCHING => Kind::PushAllMatching,
+            sys::PUSH_DELETE => Kind::PushDelete,
+            sys::PUSH_MATCHING => Kind::PushMatching,
+            sys::PUSH_EXCLUDE => Kind::PushExclude,
+            sys::FETCH_ONLY => Kind::FetchOnly,
+            sys::FETCH_EXCLUDE => Kind::FetchExclude,
+            _ => Kind::FetchAndUpdate,
+        }
+    }
 }
 
+/// Why a text is no refspec, or why there is no answer. It prints as a sentence.
 #[derive(Clone, Copy, Debug, PartialEq, Eq, Hash)]
-enum Reason {
-    Outcome(u32),
+#[non_exhaustive]
+pub enum Error {
+    /// The text of a push is empty.
+    Empty,
+    /// A negative spec has a colon.
+    NegativeWithDestination,
+    /// A negative spec has no source.
+    NegativeEmpty,
+    /// A negative spec is an object id.
+    NegativeObjectHash,
+    /// A push has a source and nothing after its last colon.
+    PushToEmpty,
+    /// A side has several stars.
+    PatternUnsupported,
+    /// Exactly one side has a star.
+    PatternUnbalanced,
+    /// A ref name is empty. Never returned.
+    NameEmpty,
+    /// A slash begins or ends a ref name, or follows another.
+    NameEmptyComponent,
+    /// A component of a ref name begins with a dot.
+    NameStartsWithDot,
+    /// A component of a ref name ends with `.lock`.
+    NameLockSuffix,
+    /// A ref name ends with a dot.
+    NameEndsWithDot,
+    /// A ref name has two dots in a row.
+    NameRepeatedDot,
+    /// A ref name has `@{` in it.
+    NameReflogPortion,
+    /// A ref name has a star in it. Never returned.
+    NameAsterisk,
+    /// A ref name has a control character, a space or one of `~ ^ : ? [ \` in it.
+    NameInvalidByte,
+    /// Memory ran out.
+    NoMemory,
+    /// A destination is an object id, and names don't tell which refs have it.
+    NeedsIds,
+    /// A push is among the fetches.
     Push,
+    /// The library ended with an outcome that this crate doesn't know.
+    Other(u32),
 }
+
+/// The errors that the library has a number for.
+const NUMBERED: [(u32, Error); 18] = [
+    (sys::EMPTY, Error::Empty),
+    (sys::NEGATIVE_WITH_DESTINATION, Error::NegativeWithDestination),
+    (sys::NEGATIVE_EMPTY, Error::NegativeEmpty),
+    (sys::NEGATIVE_OBJECT_HASH, Error::NegativeObjectHash),
+    (sys::PUSH_TO_EMPTY, Error::PushToEmpty),
+    (sys::PATTERN_UNSUPPORTED, Error::PatternUnsupported),
+    (sys::PATTERN_UNBALANCED, Error::PatternUnbalanced),
+    (sys::NAME_EMPTY, Error::NameEmpty),
+    (sys::NAME_EMPTY_COMPONENT, Error::NameEmptyComponent),
+    (sys::NAME_STARTS_WITH_DOT, Error::NameStartsWithDot),
+    (sys::NAME_LOCK_SUFFIX, Error::NameLockSuffix),
+    (sys::NAME_ENDS_WITH_DOT, Error::NameEndsWithDot),
+    (sys::NAME_REPEATED_DOT, Error::NameRepeatedDot),
+    (sys::NAME_REFLOG_PORTION, Error::NameReflogPortion),
+    (sys::NAME_ASTERISK, Error::NameAsterisk),
+    (sys::NAME_INVALID_BYTE, Error::NameInvalidByte),
+    (sys::NO_MEMORY, Error::NoMemory),
+    (sys::NEEDS_IDS, Error::NeedsIds),
+];
 
 impl Error {
     fn of(outcome: u32) -> Error {
-        Error { reason: Reason::Outcome(outcome) }
+        let named = NUMBERED.iter().find(|(number, _)| *number == outcome);
+        named.map_or(Error::Other(outcome), |(_, error)| *error)
     }
 
     /// The number of the outcome, as `gix_refspec.h` has it. `None` of a push among fetches.
     pub fn outcome(self) -> Option<u32> {
-        match self.reason {
-            Reason::Outcome(number) => Some(number),
-            Reason::Push => None,
+        match self {
+            Error::Other(number) => Some(number),
+            named => NUMBERED.iter().find(|(_, error)| *error == named).map(|(number, _)| *number),
         }
-    }
-
-    /// Whether a push stands where only fetches may.
-    pub fn is_push(self) -> bool {
-        self.reason == Reason::Push
-    }
-
-    /// Whether memory ran out.
-    pub fn is_memory(self) -> bool {
-        self.outcome() == Some(sys::NO_MEMORY)
     }
 }
 
 impl fmt::Display for Error {
     fn fmt(&self, f: &mut fmt::Formatter<'_>) -> fmt::Result {
-        let outcome = match self.reason {
-            Reason::Outcome(number) => number,
-            Reason::Push => return f.write_str("A push stands among the fetches."),
+        let outcome = match self.outcome() {
+            Some(number) => number,
+            None => return f.write_str("A push is among the fetches."),
         };
         let mut sentence = no_text();
+        if unsafe { sys::gix_refspec_explanation(outcome, &mut sentence) } != sys::OK {
+            return write!(f, "The library ended with outcome {outcome}, which it doesn't explain.");
+        }
         // The text is one of the library's constants.
-        let known = unsafe { sys::gix_refspec_explanation(outcome, &mut sentence) } == sys::OK;
-        let said = if known { unsafe { bytes_of(&sentence) } } else { b"unknown outcome" };
-        f.write_str(&String::from_utf8_lossy(said))
+        f.write_str(&String::from_utf8_lossy(unsafe { bytes_of(&sentence) }))
     }
 }
 
 impl error::Error for Error {}
 
-/// A refspec. Two are equal just where they are for one operation and print the same; they are ordered and
-/// hashed by that.
+/// A refspec. Two are equal just where they are for one operation and print the same. They are ordered as
+/// `gix_refspec_compare` orders them, and pushes come before fetches.
 #[derive(Clone, Debug, PartialEq, Eq, PartialOrd, Ord, Hash)]
 pub struct Spec {
+    // Specs are ordered by these, from first to last. Those of one kind have the same sides; a missing one is empty.
+    kind: Kind,
+    source: Vec<u8>,
+    destination: Vec<u8>,
+    forced: bool,
+    // The rest follows from these.
     operation: Operation,
     canonical: Vec<u8>,
 }
 
 impl Spec {
     /// Parses a text.
+    #[rustfmt::skip]
     pub fn parse(text: impl AsRef<[u8]>, operation: Operation) -> Result<Spec, Error> {
-        let text = text.as_ref();
+        let (text, number) = (text.as_ref(), operation.number());
         let canonical = filled(text.len() + 8, |buffer, len| unsafe {
             sys::gix_refspec_canonical(
-                text.as_ptr(),
-                text.len(),
-                operation.number(),
-                buffer.as_mut_ptr(),
-                buffer.len(),
-                len,
+                text.as_ptr(), text.len(), number,
+                buffer.as_mut_ptr(), buffer.len(), len,
             )
         })?;
-        Ok(Spec { operation, canonical })
+        let mut parts = sys::Parts { kind: 0, forced: 0, source: no_text(), destination: no_text() };
+        let outcome = unsafe { sys::gix_refspec_parts(canonical.as_ptr(), canonical.len(), number, &mut parts) };
+        if outcome != sys::OK {
+            return Err(Error::of(outcome));
+        }
+        // The sides are places in the canonical text, which is still there, or constants of the library.
+        let (source, destination) = unsafe { (bytes_of(&parts.source), bytes_of(&parts.destination)) };
+        Ok(Spec {
+            kind: Kind::numbered(parts.kind),
+            source: source.to_vec(),
+            destination: destination.to_vec(),
+            forced: parts.forced == 1,
+            operation,
+            canonical,
+        })
     }
 
     /// What it was parsed for.
@@ -132,54 +212,95 @@ impl Spec {
         &self.canonical
     }
 
-    /// The kind of its instruction. `None` if memory runs out.
-    pub fn kind(&self) -> Option<Kind> {
-        Some(match self.parts()?.kind {
-            1 => Kind::PushAllMatching,
-            2 => Kind::PushDelete,
-            3 => Kind::PushMatching,
-            4 => Kind::PushExclude,
-            5 => Kind::FetchOnly,
-            6 => Kind::FetchExclude,
-            _ => Kind::FetchAndUpdate,
-        })
+    /// The kind of its instruction.
+    pub fn kind(&self) -> Kind {
+        self.kind
     }
 
     /// Whether refs may also move where that is no fast-forward.
     pub fn is_forced(&self) -> bool {
-        self.parts().map_or(false, |parts| parts.forced == 1)
+        self.forced
     }
 
-    /// The source, where it has one.
+    /// The source, if it has one.
     pub fn source(&self) -> Option<&[u8]> {
-        self.side(self.parts()?.source)
+        side(&self.source)
     }
 
-    /// The destination, where it has one. That of a push of `main` is `main`.
+    /// The destination, if it has one. That of a push of `main` is `main`.
     pub fn destination(&self) -> Option<&[u8]> {
-        self.side(self.parts()?.destination)
+        side(&self.destination)
     }
 
-    fn side(&self, side: sys::Text) -> Option<&[u8]> {
-        // A side is a place in the canonical text, or a constant of the library.
-        let side = unsafe { bytes_of(&side) };
-        (!side.is_empty()).then_some(side)
+    /// The side on the remote: the source of a fetch, the destination of a push.
+    pub fn remote(&self) -> Option<&[u8]> {
+        match self.operation {
+            Operation::Push => self.destination(),
+            Operation::Fetch => self.source(),
+        }
     }
 
-    fn parts(&self) -> Option<sys::Parts> {
-        let mut parts = sys::Parts { kind: 0, forced: 0, source: no_text(), destination: no_text() };
-        let text = &self.canonical;
-        let outcome = unsafe {
-            sys::gix_refspec_parts(text.as_ptr(), text.len(), self.operation.number(), &mut parts)
-        };
-        (outcome == sys::OK).then_some(parts)
+    /// The local side: the destination of a fetch, the source of a push.
+    pub fn local(&self) -> Option<&[u8]> {
+        match self.operation {
+            Operation::Push => self.source(),
+            Operation::Fetch => self.destination(),
+        }
     }
+
+    /// The prefix of the ref names that it has on the remote: a full name, `HEAD`, or what is before the star of a
+    /// pattern below `refs/`. `None` for a negative spec, and for any other side. Fails if memory runs out.
+    pub fn prefix(&self) -> Result<Option<&[u8]>, Error> {
+        let (text, number) = (&self.canonical, self.operation.number());
+        let mut prefix = no_text();
+        match unsafe { sys::gix_refspec_prefix(text.as_ptr(), text.len(), number, &mut prefix) } {
+            // It is a place in the canonical text, or a constant of the library.
+            sys::OK => Ok(side(unsafe { bytes_of(&prefix) })),
+            outcome => Err(Error::of(outcome)),
+        }
+    }
+
+    /// Its prefix, or the six names that a partial name may stand for; nothing of an object id or a negative spec. If
+    /// a positive spec gives nothing, or a name with a star, only a request for all refs is safe: see [`prefixes`].
+    #[rustfmt::skip]
+    pub fn expand_prefixes(&self) -> Result<Vec<Vec<u8>>, Error> {
+        let (text, number) = (&self.canonical, self.operation.number());
+        let lines = filled(256, |buffer, len| unsafe {
+            sys::gix_refspec_expand_prefixes(
+                text.as_ptr(), text.len(), number,
+                buffer.as_mut_ptr(), buffer.len(), len,
+            )
+        })?;
+        Ok(names_in(&lines))
+    }
+}
+
+/// A side, if there is one: none that there is is empty.
+fn side(bytes: &[u8]) -> Option<&[u8]> {
+    (!bytes.is_empty()).then_some(bytes)
+}
+
+/// The names of lines.
+fn names_in(lines: &[u8]) -> Vec<Vec<u8>> {
+    let names = lines.split(|byte| *byte == b'\n').filter(|name| !name.is_empty());
+    names.map(<[u8]>::to_vec).collect()
 }
 
 impl fmt::Display for Spec {
     fn fmt(&self, f: &mut fmt::Formatter<'_>) -> fmt::Result {
         f.write_str(&String::from_utf8_lossy(&self.canonical))
     }
+}
+
+/// The version of the library that is linked, as `0.2.0`.
+pub fn library_version() -> String {
+    let mut version = no_text();
+    // The text is a constant of the library.
+    let told = unsafe {
+        sys::gix_refspec_version(&mut version);
+        bytes_of(&version)
+    };
+    String::from_utf8_lossy(told).into_owned()
 }
 
 /// What to ask a server for, so that it tells of each ref that fetches take. `None` where only a request for
@@ -205,11 +326,8 @@ pub fn prefixes(fetches: &[Spec]) -> Result<Option<Vec<Vec<u8>>>, Error> {
         )
     });
     match lines {
-        Ok(lines) => {
-            let names = lines.split(|byte| *byte == b'\n').filter(|name| !name.is_empty());
-            Ok(Some(names.map(<[u8]>::to_vec).collect()))
-        }
-        Err(error) if error.outcome() == Some(sys::NO_LIST) => Ok(None),
+        Ok(lines) => Ok(Some(names_in(&lines))),
+        Err(Error::Other(sys::NO_LIST)) => Ok(None),
         Err(error) => Err(error),
     }
 }
@@ -243,6 +361,8 @@ pub struct Mapping {
     pub source: Vec<u8>,
     /// `None` if the spec has none.
     pub destination: Option<Vec<u8>>,
+    /// Whether the spec lets refs also move where that is no fast-forward.
+    pub forced: bool,
 }
 
 /// What fetches map of names, or back from names. A push is refused. Looking back fails where a destination is an id,
@@ -296,6 +416,20 @@ pub struct Plan {
     pub in_conflict: bool,
 }
 
+impl Plan {
+    /// The contested destinations, each with its mappings. There are some exactly if the plan is in conflict.
+    pub fn conflicts(&self) -> BTreeMap<&[u8], Vec<&Mapping>> {
+        let mut conflicts: BTreeMap<&[u8], Vec<&Mapping>> = BTreeMap::new();
+        for planned in &self.mappings {
+            let mapping = &planned.mapping;
+            if let (Verdict::Contested, Some(destination)) = (planned.verdict, &mapping.destination) {
+                conflicts.entry(destination).or_default().push(mapping);
+            }
+        }
+        conflicts
+    }
+}
+
 /// What fetches do over names. A push is refused.
 ///
 /// ```
@@ -309,6 +443,8 @@ pub struct Plan {
 /// assert!(plan.in_conflict);
 /// let verdicts: Vec<Verdict> = plan.mappings.iter().map(|one| one.verdict).collect();
 /// assert_eq!(verdicts, [Verdict::Written, Verdict::Contested, Verdict::Contested]);
+/// let sources = plan.conflicts()[&b"refs/x/v1"[..]].iter().map(|mapping| &mapping.source[..]).collect::<Vec<_>>();
+/// assert_eq!(sources, [&b"refs/heads/v1"[..], b"refs/tags/v1"]);
 /// # Ok::<(), refspec::Error>(())
 /// ```
 pub fn plan<N: AsRef<[u8]>>(fetches: &[Spec], names: &[N]) -> Result<Plan, Error> {
@@ -384,7 +520,8 @@ impl Lists {
             Direction::Forward => (name, made),
             Direction::Backward => (made, name),
         };
-        Mapping { spec: one.spec, item, source, destination: (one.has_destination == 1).then_some(other) }
+        let destination = (one.has_destination == 1).then_some(other);
+        Mapping { spec: one.spec, item, source, destination, forced: one.forced == 1 }
     }
 }
 
@@ -415,7 +552,7 @@ fn listed<N: AsRef<[u8]>>(fetches: &[Spec], names: &[N], asked: Asked) -> Result
 /// The canonical texts of fetches.
 fn texts_of(fetches: &[Spec]) -> Result<Vec<sys::Text>, Error> {
     if fetches.iter().any(|spec| spec.operation == Operation::Push) {
-        return Err(Error { reason: Reason::Push });
+        return Err(Error::Push);
     }
     Ok(fetches.iter().map(|spec| text_of(&spec.canonical)).collect())
 }
@@ -476,7 +613,7 @@ mod tests {
         ];
         for (text, operation, kind) in rows {
             let spec = Spec::parse(text, operation)?;
-            assert_eq!(spec.kind(), Some(kind), "at {text}");
+            assert_eq!(spec.kind(), kind, "at {text}");
             assert_eq!(spec.is_forced(), text.starts_with('+'), "at {text}");
         }
         Ok(())
@@ -486,17 +623,18 @@ mod tests {
     fn mappings_go_there_and_back() -> Result<(), Error> {
         let id = "1".repeat(40);
         let specs = [
-            Spec::parse("refs/heads/*:refs/x/*", Operation::Fetch)?,
+            Spec::parse("+refs/heads/*:refs/x/*", Operation::Fetch)?,
             Spec::parse("^refs/heads/b", Operation::Fetch)?,
             Spec::parse(&id, Operation::Fetch)?,
         ];
         let there = matches(&specs, &["refs/heads/a", "refs/heads/b"], Direction::Forward)?;
-        let asked = Mapping { spec: 2, item: None, source: id.into_bytes(), destination: None };
+        let asked = Mapping { spec: 2, item: None, source: id.into_bytes(), destination: None, forced: false };
         let named = Mapping {
             spec: 0,
             item: Some(0),
             source: b"refs/heads/a".to_vec(),
             destination: Some(b"refs/x/a".to_vec()),
+            forced: true,
         };
         assert_eq!(there, [asked, named.clone()]);
         assert_eq!(matches(&specs, &["refs/x/a", "refs/x/b"], Direction::Backward)?, [named]);
@@ -504,6 +642,7 @@ mod tests {
         assert_eq!(matches(&specs, &[&long], Direction::Forward)?.len(), 2);
         let by_id = Spec::parse(format!("a:{}", "1".repeat(40)), Operation::Fetch)?;
         let error = matches(&[by_id], &["refs/heads/a"], Direction::Backward).unwrap_err();
+        assert_eq!(error, Error::NeedsIds);
         assert_eq!(error.outcome(), Some(sys::NEEDS_IDS));
         Ok(())
     }
@@ -513,8 +652,8 @@ mod tests {
         let specs = [Spec::parse("main", Operation::Fetch)?, Spec::parse("main", Operation::Push)?];
         let names = ["refs/heads/main"];
         let error = matches(&specs, &names, Direction::Forward).unwrap_err();
-        assert!(error.is_push() && error.outcome().is_none());
-        assert_eq!(error.to_string(), "A push stands among the fetches.");
+        assert!(error == Error::Push && error.outcome().is_none());
+        assert_eq!(error.to_string(), "A push is among the fetches.");
         assert_eq!(plan(&specs, &names), Err(error));
         assert_eq!(prefixes(&specs), Err(error));
         Ok(())
@@ -545,12 +684,122 @@ mod tests {
     }
 
     #[test]
+    fn errors_have_names() {
+        let rows = [
+            ("", Operation::Push, Error::Empty),
+            ("^a:b", Operation::Fetch, Error::NegativeWithDestination),
+            ("^", Operation::Fetch, Error::NegativeEmpty),
+            ("^1111111111111111111111111111111111111111", Operation::Fetch, Error::NegativeObjectHash),
+            ("a:", Operation::Push, Error::PushToEmpty),
+            ("a*b*:c", Operation::Fetch, Error::PatternUnsupported),
+            ("a*:b", Operation::Fetch, Error::PatternUnbalanced),
+            ("a//b", Operation::Fetch, Error::NameEmptyComponent),
+            ("a/.b", Operation::Fetch, Error::NameStartsWithDot),
+            ("a.lock", Operation::Fetch, Error::NameLockSuffix),
+            ("a.", Operation::Fetch, Error::NameEndsWithDot),
+            ("a..b", Operation::Fetch, Error::NameRepeatedDot),
+            ("a@{b", Operation::Fetch, Error::NameReflogPortion),
+            ("a b", Operation::Fetch, Error::NameInvalidByte),
+        ];
+        for (text, operation, error) in rows {
+            assert_eq!(Spec::parse(text, operation), Err(error), "at {text}");
+        }
+        for (number, error) in NUMBERED {
+            assert_eq!((Error::of(number), error.outcome()), (error, Some(number)));
+            assert!(error.to_string().ends_with('.'), "of {error:?}");
+        }
+        assert_eq!(Error::of(99), Error::Other(99));
+        assert_eq!(Error::Other(99).outcome(), Some(99));
+        assert!(Error::Other(99).to_string().contains("outcome 99"));
+    }
+
+    #[test]
+    fn specs_are_ordered_as_the_library_orders_them() -> Result<(), Error> {
+        let sides = ["a", "b", "a/b", "HEAD", "refs/heads/*", "refs/x/*", "ab", "\u{e9}"];
+        let mut texts = vec![":".to_owned(), "+:".to_owned()];
+        for one in sides {
+            texts.extend(["", "+", "^", ":"].map(|sign| format!("{sign}{one}")));
+            texts.extend(sides.iter().flat_map(|two| [format!("{one}:{two}"), format!("+{one}:{two}")]));
+        }
+        for operation in [Operation::Push, Operation::Fetch] {
+            let specs: Vec<Spec> = texts.iter().filter_map(|text| Spec::parse(text, operation).ok()).collect();
+            assert!(specs.len() > 60);
+            for (a, b) in specs.iter().flat_map(|a| specs.iter().map(move |b| (a, b))) {
+                let (x, y, mut order) = (a.as_bytes(), b.as_bytes(), 7);
+                let outcome = unsafe {
+                    sys::gix_refspec_compare(x.as_ptr(), x.len(), y.as_ptr(), y.len(), operation.number(), &mut order)
+                };
+                assert_eq!((outcome, a.cmp(b) as i32), (sys::OK, order), "of {a} and {b}");
+                assert_eq!(a == b, order == 0, "of {a} and {b}");
+            }
+        }
+        assert!(Spec::parse("b", Operation::Push)? < Spec::parse("a", Operation::Fetch)?);
+        Ok(())
+    }
+
+    #[test]
+    fn specs_have_a_remote_and_a_local_side() -> Result<(), Error> {
+        let rows = [
+            ("a:b", Operation::Fetch, Some("a"), Some("b")),
+            ("a", Operation::Fetch, Some("a"), None),
+            ("a:b", Operation::Push, Some("b"), Some("a")),
+            (":b", Operation::Push, Some("b"), None),
+            (":", Operation::Push, None, None),
+        ];
+        for (text, operation, remote, local) in rows {
+            let spec = Spec::parse(text, operation)?;
+            assert_eq!(spec.remote(), remote.map(str::as_bytes), "at {text}");
+            assert_eq!(spec.local(), local.map(str::as_bytes), "at {text}");
+        }
+        Ok(())
+    }
+
+    #[test]
+    fn specs_have_prefixes() -> Result<(), Error> {
+        let six = "v1 refs/v1 refs/tags/v1 refs/heads/v1 refs/remotes/v1 refs/remotes/v1/HEAD";
+        let rows = [
+            ("refs/heads/*:refs/x/*", Operation::Fetch, Some("refs/heads/"), "refs/heads/"),
+            ("refs/heads/a:refs/x/a", Operation::Push, Some("refs/x/a"), "refs/x/a"),
+            ("@", Operation::Fetch, Some("HEAD"), "HEAD"),
+            ("v1", Operation::Fetch, None, six),
+            ("refs/*:refs/x/*", Operation::Fetch, None, "refs/*"),
+            ("^refs/heads/a", Operation::Fetch, None, ""),
+            ("1111111111111111111111111111111111111111", Operation::Fetch, None, ""),
+        ];
+        for (text, operation, prefix, names) in rows {
+            let spec = Spec::parse(text, operation)?;
+            assert_eq!(spec.prefix()?, prefix.map(str::as_bytes), "at {text}");
+            let names: Vec<&[u8]> = names.split_whitespace().map(str::as_bytes).collect();
+            assert_eq!(spec.expand_prefixes()?, names, "at {text}");
+        }
+        Ok(())
+    }
+
+    #[test]
+    fn conflicts_are_told_by_destination() -> Result<(), Error> {
+        let texts = ["refs/heads/a:refs/y", "refs/heads/b:refs/x", "refs/tags/a:refs/x", "refs/tags/b:refs/y"];
+        let specs = texts.map(|text| Spec::parse(text, Operation::Fetch));
+        let specs = specs.into_iter().collect::<Result<Vec<_>, _>>()?;
+        let all = plan(&specs, &["refs/heads/a", "refs/heads/b", "refs/tags/a", "refs/tags/b"])?;
+        let specs_of = |mappings: Vec<&Mapping>| mappings.iter().map(|mapping| mapping.spec).collect::<Vec<_>>();
+        let told: Vec<_> = all.conflicts().into_iter().map(|(name, mappings)| (name, specs_of(mappings))).collect();
+        assert_eq!(told, [(&b"refs/x"[..], vec![1, 2]), (b"refs/y", vec![0, 3])]);
+        assert!(plan(&specs[..2], &["refs/heads/a", "refs/heads/b"])?.conflicts().is_empty());
+        Ok(())
+    }
+
+    #[test]
+    fn the_library_has_the_version_of_this_crate() {
+        assert_eq!(library_version(), env!("CARGO_PKG_VERSION"));
+    }
+
+    #[test]
     fn some_groups_have_no_list() -> Result<(), Error> {
         let specs = [Spec::parse("*:refs/x/*", Operation::Fetch)?];
         assert_eq!(prefixes(&specs)?, None);
         assert_eq!(prefixes(&[])?, Some(Vec::new()));
         let long = Spec::parse(format!("refs/heads/{}", "a".repeat(1000)), Operation::Fetch)?;
-        assert_eq!(prefixes(&[long.clone()])?, Some(vec![long.as_bytes().to_vec()]));
+        assert_eq!(prefixes(std::slice::from_ref(&long))?, Some(vec![long.as_bytes().to_vec()]));
         Ok(())
     }
 }
