@@ -1,0 +1,114 @@
+#!/usr/bin/env python3
+"""Builds the package, for pip by PEP 517; and its sources and a wheel with the shared library: build_backend.py LIBRARY FOLDER
+
+It needs nothing but Python, so that `pip install` of this folder works without a network. Times are those of SOURCE_DATE_EPOCH,
+and names are in order, so that the bytes are always the same. A wheel with a library is tagged by the glibc that it asks for.
+"""
+import base64
+import gzip
+import hashlib
+import io
+import os
+import re
+import subprocess
+import sys
+import tarfile
+import time
+import zipfile
+from typing import List, Optional, Tuple
+
+HERE = os.path.dirname(os.path.abspath(__file__))
+PACKAGE = ["gix_refspec/__init__.py", "gix_refspec/py.typed"]
+LICENCES = ["LICENSE-APACHE", "LICENSE-MIT"]
+OTHERS = ["README.md", "build_backend.py", "examples/planner.py", "pyproject.toml", "tests/test_gix_refspec.py"]
+FIRST_TIME = 315532800  # of a zip file: 1980
+
+Files = List[Tuple[str, bytes]]
+
+
+def read(*path: str) -> bytes:
+    with open(os.path.join(HERE, *path), "rb") as file:
+        return file.read()
+
+
+def moment() -> int:
+    return max(FIRST_TIME, int(os.environ.get("SOURCE_DATE_EPOCH", FIRST_TIME)))
+
+
+def metadata() -> Tuple[str, bytes]:
+    """The version of the project, and what an index is told of it, from pyproject.toml."""
+    project = read("pyproject.toml").decode()
+    one = dict(re.findall(r'^([a-z-]+) = "(.*)"$', project, re.M))
+    licence = re.findall(r'^license = \{ text = "(.*)" \}$', project, re.M)
+    lines = ["Metadata-Version: 2.1", f"Name: {one['name']}", f"Version: {one['version']}", f"Summary: {one['description']}",
+             f"License: {licence[0]}", f"Requires-Python: {one['requires-python']}",
+             *(f"Classifier: {classifier}" for classifier in re.findall(r'^    "(.* :: .*)",$', project, re.M)),
+             *(f"License-File: {name}" for name in LICENCES), "Description-Content-Type: text/markdown", ""]
+    return one["version"], "\n".join(lines).encode() + b"\n" + read("README.md")
+
+
+def tags_of(library: str) -> List[str]:
+    """The platforms with all that a library asks for. Of glibc 2 no older one than 17 is in use."""
+    told = subprocess.run(["readelf", "-V", library], stdout=subprocess.PIPE, text=True, check=True).stdout
+    glibc = max([17, *map(int, re.findall(r"GLIBC_2\.(\d+)", told))])
+    return [f"manylinux_2_{glibc}_x86_64", *(["manylinux2014_x86_64"] if glibc == 17 else [])]
+
+
+def record_of(files: Files, name: str) -> bytes:
+    """The file of a wheel that has the sizes and the digests of the others."""
+    lines = []
+    for path, content in files:
+        digest = base64.urlsafe_b64encode(hashlib.sha256(content).digest()).rstrip(b"=").decode()
+        lines.append(f"{path},sha256={digest},{len(content)}\n")
+    return "".join([*lines, f"{name},,\n"]).encode()
+
+
+def write_wheel(folder: str, tags: List[str], more: Files) -> str:
+    """Writes a wheel for these platforms with more files, and returns its name."""
+    version, told = metadata()
+    info = f"gix_refspec-{version}.dist-info"
+    wheel = ["Wheel-Version: 1.0", "Generator: build_backend", f"Root-Is-Purelib: {str(not more).lower()}",
+             *(f"Tag: py3-none-{tag}" for tag in tags), ""]
+    files = [*((path, read(path)) for path in PACKAGE), *more, *((f"{info}/{name}", read(name)) for name in LICENCES),
+             (f"{info}/METADATA", told), (f"{info}/WHEEL", "\n".join(wheel).encode())]
+    files.append((f"{info}/RECORD", record_of(files, f"{info}/RECORD")))
+    name = f"gix_refspec-{version}-py3-none-{'.'.join(tags)}.whl"
+    with zipfile.ZipFile(os.path.join(folder, name), "w") as archive:
+        for path, content in files:
+            entry = zipfile.ZipInfo(path, time.gmtime(moment())[:6])
+            entry.external_attr = 0o644 << 16
+            entry.compress_type = zipfile.ZIP_DEFLATED
+            archive.writestr(entry, content)
+    return name
+
+
+def build_wheel(wheel_directory: str, config_settings: Optional[dict] = None, metadata_directory: Optional[str] = None) -> str:
+    """A wheel without a library, for a system that has it."""
+    return write_wheel(wheel_directory, ["any"], [])
+
+
+def build_sdist(sdist_directory: str, config_settings: Optional[dict] = None) -> str:
+    version, told = metadata()
+    front = f"gix_refspec-{version}"
+    with open(os.path.join(sdist_directory, f"{front}.tar.gz"), "wb") as file, \
+            gzip.GzipFile("", "wb", 9, file, mtime=moment()) as packed, \
+            tarfile.open(fileobj=packed, mode="w", format=tarfile.PAX_FORMAT) as archive:
+        for path, content in [("PKG-INFO", told), *((path, read(path)) for path in sorted(PACKAGE + LICENCES + OTHERS))]:
+            entry = tarfile.TarInfo(f"{front}/{path}")
+            entry.size, entry.mtime = len(content), moment()
+            archive.addfile(entry, io.BytesIO(content))
+    return f"{front}.tar.gz"
+
+
+def main() -> None:
+    if len(sys.argv) != 3:
+        sys.exit(__doc__)
+    library, folder = sys.argv[1:]
+    soname = re.findall(r'^_SONAME = "(.*)"$', read(PACKAGE[0]).decode(), re.M)
+    with open(library, "rb") as file:
+        print(write_wheel(folder, tags_of(library), [(f"gix_refspec/{soname[0]}", file.read())]))
+    print(build_sdist(folder))
+
+
+if __name__ == "__main__":
+    main()

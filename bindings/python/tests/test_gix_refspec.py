@@ -1,0 +1,180 @@
+"""Tests of gix_refspec over an installed library: python3 -m unittest discover -s tests"""
+import copy
+import ctypes
+import doctest
+import itertools
+import pickle
+import random
+import unittest
+from typing import Callable
+
+import gix_refspec
+from gix_refspec import (Direction, Kind, Mapping, Operation, Outcome, RefspecError, Verdict, compare, explanation,
+                         library_version, matches, parse, plan, prefixes)
+
+
+class Calls(unittest.TestCase):
+    def refuses(self, outcome: Outcome, sentence: str, call: Callable[..., object], *words: object) -> None:
+        with self.assertRaises(RefspecError) as refused:
+            call(*words)
+        self.assertIs(refused.exception.outcome, outcome)
+        self.assertEqual(str(refused.exception), sentence)
+
+    def test_parts(self) -> None:
+        for text, operation, kind, source, destination in (
+                (b":", Operation.PUSH, Kind.PUSH_ALL_MATCHING, None, None),
+                (b":main", Operation.PUSH, Kind.PUSH_DELETE, None, b"main"),
+                (b"main", Operation.PUSH, Kind.PUSH_MATCHING, b"main", b"main"),
+                (b"^main", Operation.PUSH, Kind.PUSH_EXCLUDE, b"main", None),
+                (b"main", Operation.FETCH, Kind.FETCH_ONLY, b"main", None),
+                (b"^main", Operation.FETCH, Kind.FETCH_EXCLUDE, b"main", None),
+                (b"+refs/heads/*:refs/x/*", Operation.FETCH, Kind.FETCH_AND_UPDATE, b"refs/heads/*", b"refs/x/*")):
+            with self.subTest(text=text, operation=operation):
+                spec = parse(text, operation)
+                self.assertIs(spec.kind, kind)
+                self.assertEqual((spec.operation, spec.forced), (operation, text.startswith(b"+")))
+                self.assertEqual((spec.source, spec.destination), (source, destination))
+
+    def test_texts_are_bytes_or_utf_8(self) -> None:
+        for text in ("main", "\u00e9t\u00e9", "\udce9", "\U0001f600"):
+            spec = parse(text, Operation.FETCH)
+            self.assertEqual(spec.source, text.encode("utf-8", "surrogateescape"))
+            self.assertEqual(spec, parse(spec.canonical, Operation.FETCH))
+            self.assertEqual(compare(text, spec.canonical, Operation.FETCH), 0)
+            self.assertEqual(prefixes([f"refs/{text}"]), [b"refs/" + spec.canonical])
+            for call in (plan, lambda *words: matches(*words, Direction.FORWARD)):
+                self.assertEqual(call([f"refs/{text}"], [f"refs/{text}"])[0].source, b"refs/" + spec.canonical)
+        for text in (None, 7, bytearray(b"main"), ["main"]):
+            for call in (lambda text: parse(text, Operation.FETCH), lambda text: compare("a", text, Operation.FETCH),
+                         lambda text: prefixes([text]), lambda text: plan([], [text])):
+                self.assertRaisesRegex(TypeError, "a text is bytes or str", call, text)
+        for one in ("main", b"main", parse("main", Operation.FETCH)):
+            self.assertRaisesRegex(TypeError, "fetches are a list", plan, one, [])
+        self.assertRaisesRegex(TypeError, "names are a list", plan, [], "main")
+
+    def test_operations_are_checked(self) -> None:
+        for operation in (0, 3, -1, 2 ** 32 + 1, "fetch", None):
+            self.assertRaises(ValueError, parse, "main", operation)
+            self.assertRaises(ValueError, compare, "main", "main", operation)
+            self.assertRaises(ValueError, matches, [], [], operation)
+        self.assertIs(parse("main", 2).operation, Operation.PUSH)
+
+    def test_equality(self) -> None:
+        self.assertEqual(parse(b"main", Operation.PUSH), parse(b"main:main", Operation.PUSH))
+        self.assertEqual(hash(parse(b"main", Operation.PUSH)), hash(parse(b"main:main", Operation.PUSH)))
+        self.assertEqual(parse(b"main", Operation.PUSH).canonical, b"main:main")
+        self.assertNotEqual(parse(b"main", Operation.PUSH), parse(b"main", Operation.FETCH))
+        name = b"a" * 1000
+        self.assertEqual(parse(name, Operation.FETCH).canonical, name)
+
+    def test_order_is_that_of_compare(self) -> None:
+        sides = ["a", "b", "a/b", "HEAD", "refs/heads/*", "refs/x/*", "\u00e9", "ab"]
+        texts = [":", "+:", *(f"{sign}{one}" for sign in ("", "+", "^", ":") for one in sides),
+                 *(f"{sign}{one}:{two}" for sign in ("", "+") for one in sides for two in sides)]
+        for operation in Operation:
+            specs = []
+            for text in texts:
+                try:
+                    specs.append(parse(text, operation))
+                except RefspecError:
+                    pass
+            self.assertGreater(len(specs), 60)
+            for a, b in itertools.product(specs, specs):
+                order = compare(a.canonical, b.canonical, operation)
+                self.assertEqual(((a > b) - (a < b), a == b, a <= b, a >= b), (order, order == 0, order <= 0, order >= 0))
+            random.Random(1).shuffle(specs)
+            ordered = [one.canonical for one in sorted(specs)]
+            for a, b in zip(ordered, ordered[1:]):
+                self.assertLessEqual(compare(a, b, operation), 0)
+        self.assertLess(parse("b", Operation.PUSH), parse("a", Operation.FETCH))
+        self.assertRaises(TypeError, lambda: parse("a", Operation.PUSH) < "a")
+
+    def test_refusals(self) -> None:
+        self.refuses(Outcome.NAME_REPEATED_DOT, "A ref name must not have two dots in a row.",
+                     parse, b"a..b", Operation.FETCH)
+        self.refuses(Outcome.PUSH_TO_EMPTY, "A push needs a destination after the colon.", parse, b"a:", Operation.PUSH)
+        bad_byte = "A ref name must not have a control character, a space or one of ~ ^ : ? [ \\ in it."
+        self.refuses(Outcome.NAME_INVALID_BYTE, bad_byte, parse, b"a\0b", Operation.FETCH)
+        self.refuses(Outcome.NAME_INVALID_BYTE, bad_byte, compare, b"a", b"a b", Operation.FETCH)
+        self.refuses(Outcome.NAME_INVALID_BYTE, bad_byte, prefixes, [b"main", b"a b"])
+        self.refuses(Outcome.NAME_INVALID_BYTE, bad_byte, matches, [b"a b"], [], Direction.FORWARD)
+        self.refuses(Outcome.NAME_INVALID_BYTE, bad_byte, plan, [b"a b"], [b"refs/heads/a"])
+        self.refuses(Outcome.NEEDS_IDS, "A destination is an object id, and names alone don't tell which refs have it.",
+                     matches, [b"a:" + b"1" * 40], [b"refs/heads/a"], Direction.BACKWARD)
+
+    def test_errors_are_copied_and_pickled(self) -> None:
+        for outcome in (Outcome.NAME_REPEATED_DOT, 99, 2 ** 32 + 13):
+            error = RefspecError(outcome)
+            for other in (copy.copy(error), copy.deepcopy(error), pickle.loads(pickle.dumps(error))):
+                self.assertEqual((type(other), other.outcome, str(other), other.args),
+                                 (RefspecError, outcome, str(error), error.args))
+        self.assertIn("99", str(RefspecError(99)))
+        self.assertEqual(RefspecError(99).outcome, 99)
+
+    def test_explanations(self) -> None:
+        for outcome in Outcome:
+            self.assertTrue(explanation(outcome).endswith("."), outcome)
+        self.assertEqual([explanation(number) for number in (-1, 23, 2 ** 32)], [None] * 3)
+
+    def test_versions(self) -> None:
+        self.assertEqual(library_version(), gix_refspec.__version__)
+
+    def test_prefixes(self) -> None:
+        self.assertEqual(prefixes([b"refs/heads/*:refs/x/*", b"refs/tags/v1"]), [b"refs/heads/", b"refs/tags/v1"])
+        self.assertEqual(prefixes([]), [])
+        self.assertIsNone(prefixes([b"*:refs/x/*"]))
+        name = b"refs/heads/" + b"a" * 1000
+        self.assertEqual(prefixes([name]), [name])
+
+    def test_matches(self) -> None:
+        one = Mapping(0, 0, b"refs/heads/a", b"refs/x/a", forced=True)
+        texts = [b"+refs/heads/*:refs/x/*", b"^refs/heads/b", b"1" * 40]
+        there = matches(texts, [b"refs/heads/a", b"refs/heads/b"], Direction.FORWARD)
+        self.assertEqual(there, [Mapping(2, None, b"1" * 40, None), one])
+        self.assertEqual(matches(texts, [b"refs/x/a", b"refs/x/b"], Direction.BACKWARD), [one])
+        long = b"refs/heads/" + b"a" * 1000
+        self.assertEqual(matches(texts, [long], Direction.FORWARD)[1],
+                         Mapping(0, 0, long, b"refs/x/" + b"a" * 1000, forced=True))
+        head = [Mapping(0, 1, b"HEAD", b"refs/x/HEAD"), Mapping(1, 1, b"HEAD", None)]
+        self.assertEqual(matches([b"HEAD:refs/x/HEAD", b"@"], [b"refs/heads/a", b"HEAD"], Direction.FORWARD), head)
+        many = [b"refs/heads/%d" % number for number in range(9)]
+        told = matches([b"refs/heads/*:refs/%d/*" % number for number in range(9)], many, Direction.FORWARD)
+        self.assertEqual([(one.spec, one.item) for one in told], [(spec, item) for spec in range(9) for item in range(9)])
+        self.assertEqual(matches([], [], Direction.FORWARD), [])
+
+    def test_plan(self) -> None:
+        texts = [b"refs/heads/a:refs/x/a", b"refs/tags/*:other/*", b"refs/remotes/*ck:refs/x/*", b"+refs/tags/b",
+                 b"refs/heads/a:refs/y", b"+refs/tags/b:refs/y"]
+        names = [b"refs/heads/a", b"refs/tags/b", b"refs/remotes/a.lock"]
+        told = plan(texts, names)
+        self.assertEqual([one.verdict for one in told],
+                         [Verdict.WRITTEN, Verdict.LEFT_OUT, Verdict.BAD_NAME, Verdict.FETCHED_ONLY,
+                          Verdict.CONTESTED, Verdict.CONTESTED])
+        self.assertEqual([one.forced for one in told], [False] * 5 + [True])
+        self.assertEqual(told[2], Mapping(2, 2, b"refs/remotes/a.lock", b"refs/x/a.lo", Verdict.BAD_NAME))
+        self.assertEqual([(one.spec, one.item) for one in told], [(0, 0), (1, 1), (2, 2), (3, 1), (4, 0), (5, 1)])
+        self.assertEqual(plan(texts[:5], names)[4].verdict, Verdict.WRITTEN)
+        self.assertEqual(plan([], names), [])
+
+    def test_specs_are_taken_for_texts(self) -> None:
+        specs = [parse("refs/heads/*:refs/x/*", Operation.FETCH), "refs/tags/*:refs/y/*"]
+        names = (name for name in ["refs/heads/a", "refs/tags/a"])
+        self.assertEqual([one.destination for one in plan(iter(specs), names)], [b"refs/x/a", b"refs/y/a"])
+        self.assertEqual(prefixes(specs), [b"refs/heads/", b"refs/tags/"])
+        for call in (lambda push: plan([push], []), lambda push: matches([push], [], Direction.FORWARD),
+                     lambda push: prefixes([push])):
+            self.assertRaisesRegex(ValueError, "a push is among the fetches", call, parse("main", Operation.PUSH))
+
+    def test_numbers_are_not_cut(self) -> None:
+        # ctypes cuts a number to 32 bits, which the library would take for an operation.
+        self.assertEqual(ctypes.c_uint32(2 ** 32 + 1).value, Operation.FETCH)
+        self.assertRaises(ValueError, parse, "main", 2 ** 32 + 1)
+
+
+def load_tests(loader, tests, pattern):
+    tests.addTests(doctest.DocTestSuite(gix_refspec))
+    return tests
+
+
+if __name__ == "__main__":
+    unittest.main()
