@@ -4,8 +4,9 @@
 # make test    the gate, and then the scripts of tests/ over what it built
 # make install PREFIX=FOLDER, uninstall: programs, git-refspec, manual pages, completions, and what install-lib puts there
 # make lib     proves and builds the library for C, at out/lib
-# make install-lib PREFIX=FOLDER, uninstall-lib: its header, archive, shared library and .pc file, below FOLDER
+# make install-lib PREFIX=FOLDER, uninstall-lib: its header, archive, shared library, .pc and cmake files, below FOLDER
 # make test-bindings   tests it from C, Rust and Python
+# make dist    packages of all that, at out/dist: for any Linux, Debian, Python and cargo; make test-dist tries them
 # make clean   removes the programs, what is kept of proofs, and the logs
 
 SHELL := /bin/bash
@@ -46,17 +47,31 @@ $(PEOPLE_PROGRAM): $(PEOPLE_SOURCES) | kit $(PROGRAM)
 	|| { status=$$?; echo "make: not built, as $(LOGS)/build-refspec.log says" >&2; exit $$status; }
 	@touch $@
 
+# Where the shells look for completions, below PREFIX.
+BASH_FOLDER := share/bash-completion/completions
+ZSH_FOLDER ?= share/zsh/site-functions
+FISH_FOLDER := share/fish/vendor_completions.d
+LICENCES := LICENSE-MIT LICENSE-APACHE
+PEOPLE_DOCS := docs/PROGRAMS.md docs/GIT.md $(LICENCES)
+
 install: build install-lib
-	install -d $(DESTDIR)$(PREFIX)/bin $(DESTDIR)$(PREFIX)/share/man/man1 \
-	    $(DESTDIR)$(PREFIX)/share/bash-completion/completions
-	install -m 755 $(PROGRAM) $(PEOPLE_PROGRAM) bin/git-refspec $(DESTDIR)$(PREFIX)/bin
-	install -m 644 man/*.1 $(DESTDIR)$(PREFIX)/share/man/man1
-	install -m 644 completions/refspec.bash $(DESTDIR)$(PREFIX)/share/bash-completion/completions/refspec
+	@install -d $(addprefix $(TO)/,bin share/man/man1 $(BASH_FOLDER) $(ZSH_FOLDER) $(FISH_FOLDER) share/doc/refspec)
+	@install -m 755 $(PROGRAM) $(PEOPLE_PROGRAM) bin/git-refspec $(TO)/bin
+	@install -m 644 man/*.1 $(TO)/share/man/man1
+	@for file in completions/*.bash; do \
+	    name=$$(basename $$file .bash) && install -m 644 $$file $(TO)/$(BASH_FOLDER)/$$name || exit; \
+	done
+	@install -m 644 completions/_* $(TO)/$(ZSH_FOLDER)
+	@install -m 644 completions/*.fish $(TO)/$(FISH_FOLDER)
+	@install -m 644 $(PEOPLE_DOCS) $(TO)/share/doc/refspec
 
 uninstall: uninstall-lib
-	rm -f $(addprefix $(DESTDIR)$(PREFIX)/bin/,refspec_map refspec git-refspec)
-	rm -f $(addprefix $(DESTDIR)$(PREFIX)/share/man/man1/,$(notdir $(wildcard man/*.1)))
-	rm -f $(DESTDIR)$(PREFIX)/share/bash-completion/completions/refspec
+	@rm -f $(addprefix $(TO)/bin/,refspec_map refspec git-refspec)
+	@rm -f $(addprefix $(TO)/share/man/man1/,$(notdir $(wildcard man/*.1)))
+	@rm -f $(addprefix $(TO)/$(BASH_FOLDER)/,$(notdir $(basename $(wildcard completions/*.bash))))
+	@rm -f $(addprefix $(TO)/$(ZSH_FOLDER)/,$(notdir $(wildcard completions/_*)))
+	@rm -f $(addprefix $(TO)/$(FISH_FOLDER)/,$(notdir $(wildcard completions/*.fish)))
+	@rm -rf $(TO)/share/doc/refspec
 
 # Where no program of these sources was proved yet, rt try runs them without proof.
 run: kit
@@ -77,9 +92,13 @@ test: kit
 	@tests/run $(PROGRAM) $(TESTS) $(PEOPLE_PROGRAM)
 	@grep -E '^[0-9]+ passed, 0 failed' $(LOGS)/gate.log | tail -n 1
 
-# The library for C: the archive, the shared library, and what pkg-config reads of them.
+# The library for C: the archive, the shared library, and what pkg-config and cmake read of them. LIBDIR is the folder below
+# PREFIX. The .pc file has PC_PREFIX, which may be relative to it, as ${pcfiledir}/../.. is.
 .PHONY: lib install-lib uninstall-lib test-bindings
 PREFIX ?= /usr/local
+LIBDIR ?= lib
+PC_PREFIX ?= $(PREFIX)
+TO = $(DESTDIR)$(PREFIX)
 LIB := $(LOGS)/lib
 ARCHIVE := $(LIB)/libgix_refspec.a
 C_LIBRARY := crates/refspec_c
@@ -97,22 +116,41 @@ $(ARCHIVE): $(C_SOURCES) | kit
 	@(cd $(C_LIBRARY) && rt lib) </dev/null >$(LOGS)/lib.log 2>&1 || { cat $(LOGS)/lib.log >&2; exit 1; }
 	@tools/archive $(LIB) $(SONAME)
 
+CMAKE_FOLDER = $(TO)/$(LIBDIR)/cmake/gix_refspec
+FILLED = sed -e 's|@PREFIX@|$(PC_PREFIX)|' -e 's|@LIBDIR@|$(LIBDIR)|' -e 's|@VERSION@|$(C_VERSION)|' -e 's|@SONAME@|$(SONAME)|'
+
 install-lib: lib
-	@install -d $(DESTDIR)$(PREFIX)/include $(DESTDIR)$(PREFIX)/lib/pkgconfig
-	@install -m 644 $(HEADER) $(DESTDIR)$(PREFIX)/include
-	@install -m 644 $(ARCHIVE) $(DESTDIR)$(PREFIX)/lib
-	@install -m 755 $(LIB)/$(SHARED) $(DESTDIR)$(PREFIX)/lib/$(SHARED).$(C_VERSION)
-	@ln -sf $(SHARED).$(C_VERSION) $(DESTDIR)$(PREFIX)/lib/$(SONAME)
-	@ln -sf $(SONAME) $(DESTDIR)$(PREFIX)/lib/$(SHARED)
-	@sed -e 's|@PREFIX@|$(PREFIX)|' -e 's|@VERSION@|$(C_VERSION)|' -e 's|@SONAME@|$(SONAME)|' bindings/c/gix_refspec.pc.in \
-	    >$(DESTDIR)$(PREFIX)/lib/pkgconfig/gix_refspec.pc
+	@install -d $(TO)/include $(TO)/$(LIBDIR)/pkgconfig $(CMAKE_FOLDER) $(TO)/share/doc/gix_refspec
+	@install -m 644 $(HEADER) $(TO)/include
+	@install -m 644 $(ARCHIVE) $(TO)/$(LIBDIR)
+	@install -m 755 $(LIB)/$(SHARED) $(TO)/$(LIBDIR)/$(SHARED).$(C_VERSION)
+	@ln -sf $(SHARED).$(C_VERSION) $(TO)/$(LIBDIR)/$(SONAME)
+	@ln -sf $(SONAME) $(TO)/$(LIBDIR)/$(SHARED)
+	@$(FILLED) bindings/c/gix_refspec.pc.in >$(TO)/$(LIBDIR)/pkgconfig/gix_refspec.pc
+	@for file in gix_refspec-config gix_refspec-config-version; do \
+	    $(FILLED) bindings/c/$$file.cmake.in >$(CMAKE_FOLDER)/$$file.cmake || exit; \
+	done
+	@install -m 644 docs/C.md bindings/c/*.c $(LICENCES) $(TO)/share/doc/gix_refspec
 
 uninstall-lib:
-	@rm -f $(addprefix $(DESTDIR)$(PREFIX)/,include/gix_refspec.h lib/libgix_refspec.a lib/pkgconfig/gix_refspec.pc) \
-	    $(addprefix $(DESTDIR)$(PREFIX)/lib/,$(SHARED) $(SONAME) $(SHARED).$(C_VERSION))
+	@rm -f $(addprefix $(TO)/,include/gix_refspec.h $(LIBDIR)/libgix_refspec.a $(LIBDIR)/pkgconfig/gix_refspec.pc) \
+	    $(addprefix $(TO)/$(LIBDIR)/,$(SHARED) $(SONAME) $(SHARED).$(C_VERSION))
+	@rm -rf $(CMAKE_FOLDER) $(TO)/share/doc/gix_refspec
 
 test-bindings: kit
 	@tests/bindings
+
+# Packages, each the same bytes at each run: the times in them are SOURCE_DATE_EPOCH, or that of the last commit.
+.PHONY: dist test-dist
+VERSION := $(shell sed -n '/^## /{s/^## //p;q}' CHANGELOG.md)
+DIST ?= $(LOGS)/dist
+SOURCE_DATE_EPOCH ?= $(shell git log -1 --format=%ct 2>/dev/null || echo 0)
+
+dist: build lib
+	@SOURCE_DATE_EPOCH=$(SOURCE_DATE_EPOCH) tools/dist $(DIST) $(VERSION) $(C_VERSION) $(SONAME)
+
+test-dist: dist
+	@tests/packages.sh $(DIST)
 
 clean:
 	rm -rf $(LOGS) crates/*/out

@@ -1,0 +1,55 @@
+/* Tells what a fetch would do: git ls-remote origin | ./planner +main:refs/remotes/origin/main
+ *
+ * Ends with status 1 where several refs would be written to one destination, or a text is no refspec. */
+#include <gix_refspec.h>
+#include <stdio.h>
+#include <stdlib.h>
+#include <string.h>
+
+static const char *const words[] = { "", "write", "left out", "bad name", "conflict", "fetch" };
+
+/* The names of `git ls-remote`: an id, a tab and a name. What a tag points to is on a line of its own, ended by `^{}`. */
+static size_t read_names(gix_refspec_text **names)
+{
+    char *line = NULL, *tab;
+    size_t room = 0, count = 0;
+    for (ssize_t len; (len = getline(&line, &room, stdin)) > 0;) {
+        len -= line[len - 1] == '\n';
+        if (!(tab = memchr(line, '\t', len)) || (len > 3 && memcmp(line + len - 3, "^{}", 3) == 0))
+            continue;
+        if ((count & (count - 1)) == 0)
+            *names = realloc(*names, (2 * count + 1) * sizeof **names);
+        size_t name_len = line + len - (tab + 1);
+        (*names)[count++] = (gix_refspec_text){ memcpy(malloc(name_len + 1), tab + 1, name_len), name_len };
+    }
+    return count;
+}
+
+int main(int argc, char **argv)
+{
+    gix_refspec_text specs[argc], *names = calloc(1, sizeof *names), why = GIX_REFSPEC_TEXT_INIT;
+    for (int i = 1; i < argc; i++)
+        specs[i - 1] = (gix_refspec_text){ (const uint8_t *)argv[i], strlen(argv[i]) };
+    size_t names_count = read_names(&names), count = names_count + 8, len = 64 * names_count + 256;
+    gix_refspec_mapping *plan = NULL;
+    uint8_t *text = NULL;
+    uint32_t outcome;
+    do { /* At TOO_SMALL count and len are what the plan needs. */
+        size_t count_room = count, len_room = len;
+        plan = realloc(plan, count_room * sizeof *plan);
+        text = realloc(text, len_room);
+        outcome = gix_refspec_plan(specs, argc - 1, names, names_count, plan, count_room, text, len_room, &count, &len);
+    } while (outcome == GIX_REFSPEC_TOO_SMALL);
+    if (outcome != GIX_REFSPEC_OK && outcome != GIX_REFSPEC_IN_CONFLICT) {
+        gix_refspec_explanation(outcome, &why);
+        return fprintf(stderr, "%s\n", (const char *)why.bytes), 1;
+    }
+    for (const gix_refspec_mapping *one = plan; one < plan + count; one++) {
+        const gix_refspec_text id = { text + one->id_at, one->id_len };
+        const gix_refspec_text source = one->item == GIX_REFSPEC_NO_ITEM ? id : names[one->item];
+        const char *word = one->verdict == GIX_REFSPEC_WRITTEN && one->forced ? "force" : words[one->verdict];
+        printf("%s\t%.*s\t", word, (int)source.len, (const char *)source.bytes);
+        printf("%.*s\n", one->has_destination ? (int)one->made_len : 1, one->has_destination ? (char *)text + one->made_at : "-");
+    }
+    return outcome == GIX_REFSPEC_IN_CONFLICT;
+}

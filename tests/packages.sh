@@ -1,0 +1,256 @@
+#!/bin/bash
+# Installs each package where no toolchain is on the PATH, and does its main task there: tests/packages.sh [DIST]
+#
+# DIST is what `make dist` made; without it that is made here. Says what it leaves out for want of a tool.
+set -eu -o pipefail
+cd "$(dirname "${BASH_SOURCE[0]}")/.."
+sources=$PWD
+made=$(mktemp -d)
+trap 'rm -rf "$made"' EXIT
+[ $# -gt 0 ] || make --no-print-directory dist DIST="$made/dist" >/dev/null
+dist=$(cd "${1:-$made/dist}" && pwd)
+say() { echo "packages: $*"; }
+fail() { say "$*" >&2; exit 1; }
+has() { command -v "$1" >/dev/null; }
+
+# bare COMMAND..: with an empty environment, and nothing on the PATH but the system and the folders of $beside.
+beside=
+bare() { env -i HOME="$made/home" LC_ALL=C GIT_CONFIG_NOSYSTEM=1 PATH="$beside/usr/bin:/bin" "$@"; }
+mkdir "$made/home"
+! bare sh -c 'command -v rt' >/dev/null || fail "there is a toolchain on the PATH"
+
+# wants STATUS LINES COMMAND..: a command, run so, ends with the status, and writes the lines.
+wants() {
+    local status=0 wanted=$1 lines=$2
+    shift 2
+    bare "$@" >"$made/out" 2>&1 || status=$?
+    [ $status = "$wanted" ] && [ "$(cat "$made/out")" = "$lines" ] \
+        || fail "$* ends with status $status, and writes: $(cat "$made/out")"
+}
+
+# A remote, and a clone of it.
+git_in() { bare git -C "$made/$1" -c user.name=a -c user.email=a@b "${@:2}"; }
+if has git; then
+    bare git init -q -b main "$made/remote"
+    git_in remote commit -q --allow-empty -m one
+    git_in remote branch wip/x
+    git_in remote tag -a -m note v1
+    bare git clone -q "$made/remote" "$made/clone"
+    git_in remote ls-remote . >"$made/refs"
+else
+    printf '%040d\trefs/heads/main\n%040d\trefs/heads/wip/x\n' 1 1 >"$made/refs"
+fi
+
+# What `git refspec check` and `plan` say in the clone. The programs are on the PATH.
+check_programs() {
+    wants 0 '+refs/heads/*:refs/x/*' refspec canon '+refs/heads/*:refs/x/*'
+    wants 0 "refspec $(sed -n '/^## /{s/^## //p;q}' CHANGELOG.md)" refspec --version
+    wants 0 'ok main' sh -c 'echo main | refspec_map canon fetch'
+    has git || { say "left out git refspec, as there is no git"; return; }
+    local spec='+refs/heads/*:refs/remotes/origin/*'
+    wants 0 '' git -C "$made/clone" refspec check
+    wants 0 "refs/heads/main   refs/remotes/origin/main   $spec"$'\n'"refs/heads/wip/x  refs/remotes/origin/wip/x  $spec" \
+        git -C "$made/clone" refspec plan
+    git_in clone config remote.origin.push main:refs/heads/a..b
+    ! bare git -C "$made/clone" refspec check >"$made/out" 2>&1 || fail "git refspec check finds nothing wrong"
+    grep -qF 'A ref name must not have two dots in a row.' "$made/out" || fail "git refspec check says $(cat "$made/out")"
+    git_in clone config --unset remote.origin.push
+}
+
+# What a planner says of the remote. Its program is the command.
+check_planner() {
+    local lines
+    lines=$(printf '%s\t%s\t%s\n' force refs/heads/main refs/x/main force refs/heads/wip/x refs/x/wip/x)
+    wants 0 "$lines" sh -c 'exec "$@" "+refs/heads/*:refs/x/*" <"$0"' "$made/refs" "$@"
+    wants 1 'A ref name must not have two dots in a row.' sh -c 'exec "$@" a..b <"$0"' "$made/refs" "$@"
+}
+
+# README.md names what is there.
+for one in $(grep -oE '(lib)?(gix[-_])?refspec[-_*][^ `]*\.(tar\.gz|deb|whl)' README.md); do
+    compgen -G "$dist/$one" >/dev/null || fail "README.md names $one, which isn't in $dist"
+done
+
+# ---- the archive for any Linux, moved after it was unpacked
+
+version=$(sed -n '/^## /{s/^## //p;q}' CHANGELOG.md)
+name=refspec-$version-x86_64-linux
+mkdir "$made/first"
+tar -xzf "$dist/$name.tar.gz" -C "$made/first"
+unpacked=$made/elsewhere
+mv "$made/first/$name" "$unpacked"
+beside=$unpacked/bin:
+check_programs
+for page in refspec git-refspec refspec_map; do
+    [ -s "$unpacked/share/man/man1/$page.1" ] || fail "there is no manual page $page"
+    ! has man || bare env MANPATH="$unpacked/share/man" man "$page" >"$made/out" || fail "man $page fails"
+done
+bare bash -c '. "$0" && COMP_WORDS=(refspec ca) COMP_CWORD=1 && _refspec && [ "${COMPREPLY[*]}" = canon ]' \
+    "$unpacked/share/bash-completion/completions/refspec" || fail "bash completes nothing"
+beside=
+say "the archive: git refspec check and plan in a clone, manual pages, and completion"
+
+# ---- C
+
+# planner_in_c FOLDER WORD..: builds the planner where env knows the library by the words.
+planner_in_c() {
+    local folder=$1
+    shift
+    mkdir "$folder"
+    cp bindings/c/planner.c "$folder"
+    (cd "$folder" && bare env "$@" sh -c 'gcc -Wall -Wextra -Werror -o planner planner.c $(pkg-config --cflags --libs gix_refspec)')
+}
+if ! has gcc || ! has pkg-config; then
+    say "left out C, as there is no gcc or no pkg-config"
+else
+    planner_in_c "$made/c" PKG_CONFIG_PATH="$unpacked/lib/pkgconfig"
+    check_planner env LD_LIBRARY_PATH="$unpacked/lib" "$made/c/planner"
+    bare gcc -o "$made/c/static" "$made/c/planner.c" -I"$unpacked/include" "$unpacked/lib/libgix_refspec.a"
+    check_planner "$made/c/static"
+    say "the archive: a planner in C by pkg-config, and one without the shared library"
+fi
+if ! has cmake || ! has gcc; then
+    say "left out cmake, as there is none"
+else
+    mkdir "$made/cmake"
+    cp bindings/c/planner.c "$made/cmake"
+    cat >"$made/cmake/CMakeLists.txt" <<'END'
+cmake_minimum_required(VERSION 3.10)
+project(planner C)
+find_package(gix_refspec 0.2 REQUIRED)
+add_executable(planner planner.c)
+target_link_libraries(planner gix_refspec::gix_refspec)
+add_executable(static planner.c)
+target_link_libraries(static gix_refspec::static)
+END
+    bare cmake -S "$made/cmake" -B "$made/cmake/out" -DCMAKE_PREFIX_PATH="$unpacked" >"$made/out" \
+        && bare cmake --build "$made/cmake/out" >>"$made/out" || fail "cmake: $(cat "$made/out")"
+    check_planner "$made/cmake/out/planner"
+    check_planner "$made/cmake/out/static"
+    sed -i 's/gix_refspec 0.2/gix_refspec 0.1/' "$made/cmake/CMakeLists.txt"
+    ! bare cmake -S "$made/cmake" -B "$made/cmake/old" -DCMAKE_PREFIX_PATH="$unpacked" >"$made/out" 2>&1 \
+        || fail "cmake takes this version for another"
+    say "the archive: planners in C by cmake's find_package"
+fi
+
+# ---- Rust
+
+# The crates as a user has them who has no registry: unpacked, and patched in.
+planner_in_rust() {
+    local one crates=$made/crates
+    mkdir -p "$crates" "$made/rust/src"
+    for one in "$dist"/*.crate; do
+        tar -xzf "$one" -C "$crates"
+    done
+    mv "$crates"/refspec-* "$crates/refspec"
+    mv "$crates"/gix-refspec-sys-* "$crates/sys"
+    cp "$crates/refspec/examples/planner.rs" "$made/rust/src/main.rs"
+    cat >"$made/rust/Cargo.toml" <<END
+[package]
+name = "planner"
+version = "0.1.0"
+edition = "2021"
+[dependencies]
+refspec = { path = "../crates/refspec" }
+[patch.crates-io]
+gix-refspec-sys = { path = "../crates/sys" }
+END
+}
+cargo_in() {
+    bare env RUSTUP_HOME="${RUSTUP_HOME:-$HOME/.rustup}" CARGO_HOME="$made/cargo" CARGO_NET_OFFLINE=true "$@" \
+        "$(command -v cargo)" build --quiet --manifest-path "$made/rust/Cargo.toml" >"$made/out" 2>&1
+}
+if ! has cargo || ! ls "$dist"/*.crate >/dev/null 2>&1; then
+    say "left out Rust, as there is no cargo"
+else
+    beside=$(dirname "$(command -v cargo)"):
+    planner_in_rust
+    ! cargo_in || fail "cargo builds without the library"
+    grep -q GIX_REFSPEC_FOLDER "$made/out" || fail "cargo doesn't say what names the library: $(cat "$made/out")"
+    cargo_in PKG_CONFIG_PATH="$unpacked/lib/pkgconfig" || fail "by pkg-config: $(cat "$made/out")"
+    check_planner "$made/rust/target/debug/planner"
+    cp -R "$unpacked" "$made/copy"
+    cargo_in GIX_REFSPEC_FOLDER="$made/copy" || fail "by GIX_REFSPEC_FOLDER: $(cat "$made/out")"
+    check_planner "$made/rust/target/debug/planner"
+    # A new archive is linked: one that lacks the calls is noticed.
+    sleep 1
+    (cd "$made" && echo 'int nothing;' >nothing.c && gcc -c nothing.c && rm copy/lib/libgix_refspec.a \
+        && ar rc copy/lib/libgix_refspec.a nothing.o)
+    ! cargo_in GIX_REFSPEC_FOLDER="$made/copy" || fail "cargo keeps what an earlier archive made"
+    beside=
+    say "the crates: a planner in Rust by pkg-config and by GIX_REFSPEC_FOLDER, and again where the archive changes"
+fi
+
+# ---- Python
+
+# in_python FOLDER WORD..: the planner and the tests in a virtual environment.
+in_python() {
+    local folder=$1
+    shift
+    check_planner env "$@" "$folder/bin/python" bindings/python/examples/planner.py
+    (cd "$made/home" && bare env PYTHONDONTWRITEBYTECODE=1 "$@" "$folder/bin/python" -m unittest discover -q \
+        -s "$sources/bindings/python/tests" >"$made/out" 2>&1) || fail "the tests in Python: $(cat "$made/out")"
+}
+python=$(command -v python3)
+if ! "$python" -m venv "$made/wheel" >"$made/out" 2>&1; then
+    say "left out Python, as it makes no virtual environment"
+else
+    bare "$made/wheel/bin/pip" install -q --no-index --disable-pip-version-check "$dist"/*.whl >"$made/out" 2>&1 \
+        || fail "pip install of the wheel: $(cat "$made/out")"
+    in_python "$made/wheel"
+    bare "$made/wheel/bin/pip" uninstall -q -y gix-refspec >"$made/out" 2>&1
+    ! bare "$made/wheel/bin/python" -c 'import gix_refspec' 2>"$made/out" || fail "pip uninstall leaves the module"
+    say "the wheel: a planner in Python, and the tests"
+    "$python" -m venv "$made/source"
+    bare env PYTHONDONTWRITEBYTECODE=1 "$made/source/bin/pip" install -q --no-index --disable-pip-version-check ./bindings/python >"$made/out" 2>&1 \
+        || fail "pip install of the sources: $(cat "$made/out")"
+    ! bare "$made/source/bin/python" -c 'import gix_refspec' 2>"$made/out" || fail "the sources bring a library along"
+    grep -q GIX_REFSPEC_LIBRARY "$made/out" || fail "without the library Python says $(cat "$made/out")"
+    in_python "$made/source" LD_LIBRARY_PATH="$unpacked/lib"
+    in_python "$made/source" GIX_REFSPEC_LIBRARY="$unpacked/lib/libgix_refspec.so"
+    find "$made/source" -name py.typed | grep -q gix_refspec || fail "the sources install no type hints"
+    say "the sources in Python: pip install, a planner, and the tests"
+fi
+
+# ---- Debian
+
+shopt -s nullglob
+debs=("$dist"/*.deb)
+if [ ${#debs[@]} = 0 ] || ! has dpkg; then
+    say "left out Debian's packages, as there is no dpkg"
+else
+    if has lintian; then
+        lintian --allow-root --fail-on error "${debs[@]}" >"$made/out" 2>&1 || fail "lintian: $(cat "$made/out")"
+        say "Debian's packages: no error by lintian$(grep -c '^W:' "$made/out" | sed 's/^/, and warnings: /')"
+    else
+        say "left out: no lintian"
+    fi
+    root=$made/root
+    mkdir -p "$root/var/lib/dpkg/updates" "$root/var/lib/dpkg/info"
+    touch "$root/var/lib/dpkg/status"
+    dpkg_in() { PATH=$PATH:/usr/sbin:/sbin dpkg --root="$root" --log=/dev/null --force-not-root --force-depends "$@" >"$made/out" 2>&1; }
+    dpkg_in --install "${debs[@]}" || fail "dpkg: $(cat "$made/out")"
+    beside=$root/usr/bin:
+    check_programs
+    beside=
+    library=$root/usr/lib/x86_64-linux-gnu
+    if has gcc && has pkg-config; then
+        planner_in_c "$made/deb" PKG_CONFIG_SYSROOT_DIR="$root" PKG_CONFIG_LIBDIR="$library/pkgconfig"
+        check_planner env LD_LIBRARY_PATH="$library" "$made/deb/planner"
+    fi
+    dpkg_in --purge refspec libgix-refspec-dev "$(dpkg-deb -f "$(ls "$dist"/libgix-refspec[0-9]*.deb)" Package)" \
+        || fail "dpkg --purge: $(cat "$made/out")"
+    [ -z "$(find "$root" -path "$root/var" -prune -o ! -type d -print)" ] || fail "dpkg --purge leaves files in $root"
+    say "Debian's packages: installed into a new root, used as the archive, and purged"
+fi
+
+# ---- the same by make install, and the same bytes again
+
+listed() { (cd "$1" && find . ! -type d | LC_ALL=C sort); }
+make --no-print-directory install PREFIX="$made/to" >/dev/null
+[ "$(listed "$made/to")" = "$(listed "$unpacked" | grep -v -E '^\./(README|LICENSE-.*)$')" ] \
+    || fail "make install has other files: $(diff <(listed "$made/to") <(listed "$unpacked"))"
+make --no-print-directory uninstall PREFIX="$made/to" >/dev/null
+[ -z "$(listed "$made/to")" ] || fail "make uninstall leaves $(listed "$made/to")"
+make --no-print-directory dist DIST="$made/again" >/dev/null
+diff -r "$dist" "$made/again" >"$made/out" || fail "a second make dist makes other bytes: $(cat "$made/out")"
+say "make install has the files of the archive, make uninstall removes them, and a second make dist makes the same bytes"
