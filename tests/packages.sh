@@ -78,6 +78,13 @@ mkdir "$made/first"
 tar -xzf "$dist/$name.tar.gz" -C "$made/first"
 unpacked=$made/elsewhere
 mv "$made/first/$name" "$unpacked"
+# The commands of its page for a copy below ~/.local, and to remove it.
+commands() { sed -n "s/^        \($1 .*\)/\1/p" "$unpacked/README"; }
+(cd "$unpacked" && mkdir "$made/home/.local" && bare sh -euc "$(commands cp)")
+beside=$made/home/.local/bin:
+wants 0 '+refs/heads/*:refs/x/*' refspec canon '+refs/heads/*:refs/x/*'
+(cd "$unpacked" && bare sh -euc "$(commands find)")
+[ -z "$(find "$made/home/.local" ! -type d)" ] || fail "a copy isn't removed by the commands of README"
 beside=$unpacked/bin:
 check_programs
 for page in refspec git-refspec refspec_map; do
@@ -197,9 +204,15 @@ else
     bare "$made/wheel/bin/pip" install -q --no-index --disable-pip-version-check "$dist"/*.whl >"$made/out" 2>&1 \
         || fail "pip install of the wheel: $(cat "$made/out")"
     in_python "$made/wheel"
+    if has mypy; then
+        mypy --strict --python-executable "$made/wheel/bin/python" --cache-dir "$made/mypy" bindings/python/examples/planner.py \
+            >"$made/out" 2>&1 || fail "mypy: $(cat "$made/out")"
+    else
+        say "left out: no mypy"
+    fi
     bare "$made/wheel/bin/pip" uninstall -q -y gix-refspec >"$made/out" 2>&1
     ! bare "$made/wheel/bin/python" -c 'import gix_refspec' 2>"$made/out" || fail "pip uninstall leaves the module"
-    say "the wheel: a planner in Python, and the tests"
+    say "the wheel: a planner in Python, the tests, and types"
     "$python" -m venv "$made/source"
     bare env PYTHONDONTWRITEBYTECODE=1 "$made/source/bin/pip" install -q --no-index --disable-pip-version-check ./bindings/python >"$made/out" 2>&1 \
         || fail "pip install of the sources: $(cat "$made/out")"
@@ -215,8 +228,10 @@ fi
 
 shopt -s nullglob
 debs=("$dist"/*.deb)
-if [ ${#debs[@]} = 0 ] || ! has dpkg; then
-    say "left out Debian's packages, as there is no dpkg"
+as_root=()
+[ "$(id -u)" = 0 ] || as_root=(fakeroot)
+if [ ${#debs[@]} = 0 ] || ! has dpkg || ! has "${as_root[@]:-env}"; then
+    say "left out Debian's packages, as there is no dpkg, or no fakeroot"
 else
     if has lintian; then
         lintian --allow-root --fail-on error "${debs[@]}" >"$made/out" 2>&1 || fail "lintian: $(cat "$made/out")"
@@ -227,7 +242,9 @@ else
     root=$made/root
     mkdir -p "$root/var/lib/dpkg/updates" "$root/var/lib/dpkg/info"
     touch "$root/var/lib/dpkg/status"
-    dpkg_in() { PATH=$PATH:/usr/sbin:/sbin dpkg --root="$root" --log=/dev/null --force-not-root --force-depends "$@" >"$made/out" 2>&1; }
+    dpkg_in() {
+        PATH=$PATH:/usr/sbin:/sbin "${as_root[@]}" dpkg --root="$root" --log=/dev/null --force-depends "$@" >"$made/out" 2>&1
+    }
     dpkg_in --install "${debs[@]}" || fail "dpkg: $(cat "$made/out")"
     beside=$root/usr/bin:
     check_programs
@@ -237,8 +254,8 @@ else
         planner_in_c "$made/deb" PKG_CONFIG_SYSROOT_DIR="$root" PKG_CONFIG_LIBDIR="$library/pkgconfig"
         check_planner env LD_LIBRARY_PATH="$library" "$made/deb/planner"
     fi
-    dpkg_in --purge refspec libgix-refspec-dev "$(dpkg-deb -f "$(ls "$dist"/libgix-refspec[0-9]*.deb)" Package)" \
-        || fail "dpkg --purge: $(cat "$made/out")"
+    mapfile -t names < <(printf '%s\n' "${debs[@]}" | xargs -n 1 basename | cut -d_ -f1)
+    dpkg_in --purge "${names[@]}" || fail "dpkg --purge: $(cat "$made/out")"
     [ -z "$(find "$root" -path "$root/var" -prune -o ! -type d -print)" ] || fail "dpkg --purge leaves files in $root"
     say "Debian's packages: installed into a new root, used as the archive, and purged"
 fi

@@ -15,7 +15,7 @@ import sys
 import tarfile
 import time
 import zipfile
-from typing import List, Optional, Tuple
+from typing import Any, Dict, List, Optional, Tuple
 
 HERE = os.path.dirname(os.path.abspath(__file__))
 PACKAGE = ["gix_refspec/__init__.py", "gix_refspec/py.typed"]
@@ -24,6 +24,7 @@ OTHERS = ["README.md", "build_backend.py", "examples/planner.py", "pyproject.tom
 FIRST_TIME = 315532800  # of a zip file: 1980
 
 Files = List[Tuple[str, bytes]]
+Settings = Optional[Dict[str, Any]]
 
 
 def read(*path: str) -> bytes:
@@ -82,21 +83,22 @@ def write_wheel(folder: str, tags: List[str], more: Files) -> str:
     return name
 
 
-def build_wheel(wheel_directory: str, config_settings: Optional[dict] = None, metadata_directory: Optional[str] = None) -> str:
+def build_wheel(wheel_directory: str, config_settings: Settings = None, metadata_directory: Optional[str] = None) -> str:
     """A wheel without a library, for a system that has it."""
     return write_wheel(wheel_directory, ["any"], [])
 
 
-def build_sdist(sdist_directory: str, config_settings: Optional[dict] = None) -> str:
+def build_sdist(sdist_directory: str, config_settings: Settings = None) -> str:
     version, told = metadata()
     front = f"gix_refspec-{version}"
-    with open(os.path.join(sdist_directory, f"{front}.tar.gz"), "wb") as file, \
-            gzip.GzipFile("", "wb", 9, file, mtime=moment()) as packed, \
-            tarfile.open(fileobj=packed, mode="w", format=tarfile.PAX_FORMAT) as archive:
+    plain = io.BytesIO()
+    with tarfile.open(fileobj=plain, mode="w", format=tarfile.PAX_FORMAT) as archive:
         for path, content in [("PKG-INFO", told), *((path, read(path)) for path in sorted(PACKAGE + LICENCES + OTHERS))]:
             entry = tarfile.TarInfo(f"{front}/{path}")
             entry.size, entry.mtime = len(content), moment()
             archive.addfile(entry, io.BytesIO(content))
+    with open(os.path.join(sdist_directory, f"{front}.tar.gz"), "wb") as file:
+        file.write(gzip.compress(plain.getvalue(), 9, mtime=moment()))
     return f"{front}.tar.gz"
 
 

@@ -3,12 +3,13 @@
 Ends with status 1 where several refs would be written to one destination, or a text is no refspec.
 """
 import sys
-from typing import List
+from typing import Dict, List, Optional
 
 from gix_refspec import Mapping, RefspecError, Verdict, plan
 
-WORDS = {Verdict.WRITTEN: b"write", Verdict.LEFT_OUT: b"left out", Verdict.BAD_NAME: b"bad name",
-         Verdict.CONTESTED: b"conflict", Verdict.FETCHED_ONLY: b"fetch"}
+WORDS: Dict[Optional[Verdict], bytes] = {
+    Verdict.WRITTEN: b"write", Verdict.LEFT_OUT: b"left out", Verdict.BAD_NAME: b"bad name",
+    Verdict.CONTESTED: b"conflict", Verdict.FETCHED_ONLY: b"fetch"}
 
 
 def read_names() -> List[bytes]:

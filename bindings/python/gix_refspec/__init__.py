@@ -218,7 +218,7 @@ class _Told(ctypes.Structure):
         return cls(ctypes.cast(ctypes.create_string_buffer(1), ctypes.POINTER(ctypes.c_char)), 0)
 
     def value(self) -> bytes:
-        return self.bytes[:self.len]
+        return bytes(self.bytes[:self.len])
 
 
 class _Parts(ctypes.Structure):
@@ -288,7 +288,7 @@ def _fetches(fetches: Fetches) -> List[bytes]:
     return texts
 
 
-def _texts(texts: List[bytes]) -> Tuple[ctypes.Array, int]:
+def _texts(texts: List[bytes]) -> "Tuple[ctypes.Array[_Text], int]":
     """A list for the library, whose pointer is never null."""
     return (_Text * max(1, len(texts)))(*(_Text(text, len(text)) for text in texts)), len(texts)
 
