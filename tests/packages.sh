@@ -47,10 +47,9 @@ check_programs() {
     wants 0 "refspec $(sed -n '/^## /{s/^## //p;q}' CHANGELOG.md)" refspec --version
     wants 0 'ok main' sh -c 'echo main | refspec_map canon fetch'
     has git || { say "left out git refspec, as there is no git"; return; }
-    local spec='+refs/heads/*:refs/remotes/origin/*'
     wants 0 '' git -C "$made/clone" refspec check
-    wants 0 "refs/heads/main   refs/remotes/origin/main   $spec"$'\n'"refs/heads/wip/x  refs/remotes/origin/wip/x  $spec" \
-        git -C "$made/clone" refspec plan
+    wants 0 $'refs/heads/main refs/remotes/origin/main\nrefs/heads/wip/x refs/remotes/origin/wip/x' \
+        sh -c 'git -C "$0" refspec plan | awk "{ print \$1, \$2 }"' "$made/clone"
     git_in clone config remote.origin.push main:refs/heads/a..b
     ! bare git -C "$made/clone" refspec check >"$made/out" 2>&1 || fail "git refspec check finds nothing wrong"
     grep -qF 'A ref name must not have two dots in a row.' "$made/out" || fail "git refspec check says $(cat "$made/out")"
@@ -268,6 +267,6 @@ make --no-print-directory install PREFIX="$made/to" >/dev/null
     || fail "make install has other files: $(diff <(listed "$made/to") <(listed "$unpacked"))"
 make --no-print-directory uninstall PREFIX="$made/to" >/dev/null
 [ -z "$(listed "$made/to")" ] || fail "make uninstall leaves $(listed "$made/to")"
-make --no-print-directory dist DIST="$made/again" >/dev/null
+(umask 077 && TZ=Asia/Tokyo LC_ALL=C.UTF-8 make --no-print-directory dist DIST="$made/again" >/dev/null)
 diff -r "$dist" "$made/again" >"$made/out" || fail "a second make dist makes other bytes: $(cat "$made/out")"
 say "make install has the files of the archive, make uninstall removes them, and a second make dist makes the same bytes"

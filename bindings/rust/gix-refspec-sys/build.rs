@@ -26,10 +26,7 @@ fn named_folder(named: &Path) -> PathBuf {
     let folders = [named.join("lib"), named.to_owned()];
     match folders.into_iter().find(|folder| folder.join(ARCHIVE).exists()) {
         Some(folder) => folder,
-        None => panic!(
-            "{VARIABLE} names {}, but neither that folder nor its lib has {ARCHIVE}",
-            named.display()
-        ),
+        None => panic!("{VARIABLE} names {}, but neither that folder nor its lib has {ARCHIVE}", named.display()),
     }
 }
 

@@ -316,14 +316,7 @@ pub fn library_version() -> String {
 pub fn prefixes(fetches: &[Spec]) -> Result<Option<Vec<Vec<u8>>>, Error> {
     let fetches = texts_of(fetches)?;
     let lines = filled(256, |buffer, len| unsafe {
-        sys::gix_refspec_prefixes(
-            fetches.as_ptr(),
-            fetches.len(),
-            sys::FETCH,
-            buffer.as_mut_ptr(),
-            buffer.len(),
-            len,
-        )
+        sys::gix_refspec_prefixes(fetches.as_ptr(), fetches.len(), sys::FETCH, buffer.as_mut_ptr(), buffer.len(), len)
     });
     match lines {
         Ok(lines) => Ok(Some(names_in(&lines))),
