@@ -77,6 +77,19 @@ mkdir "$made/first"
 tar -xzf "$dist/$name.tar.gz" -C "$made/first"
 unpacked=$made/elsewhere
 mv "$made/first/$name" "$unpacked"
+# The glibc that README.md names is what the programs ask for, and an older processor is told of.
+asked=$(readelf -V "$unpacked"/bin/refspec* | grep -o 'GLIBC_2\.[0-9]*' | sort -uV | tail -n 1)
+grep -qF "glibc ${asked#GLIBC_} or later" README.md || fail "the programs ask for $asked, and README.md says otherwise"
+if has qemu-x86_64; then
+    for program in refspec refspec_map; do
+        status=0
+        bare qemu-x86_64 -cpu core2duo "$unpacked/bin/$program" --version >"$made/out" 2>&1 || status=$?
+        [ $status = 127 ] && grep -qF x86-64-v2 "$made/out" \
+            || fail "on an older processor $program ends with status $status, and says $(cat "$made/out")"
+    done
+else
+    say "left out: no qemu-x86_64, to try an older processor"
+fi
 # The commands of its page for a copy below ~/.local, and to remove it.
 commands() { sed -n "s/^        \($1 .*\)/\1/p" "$unpacked/README"; }
 (cd "$unpacked" && mkdir "$made/home/.local" && bare sh -euc "$(commands cp)")

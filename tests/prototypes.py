@@ -172,6 +172,7 @@ def versions(folder, header):
         "the link": os.readlink(shared),
         "docs/C.md": found(r"`(libgix_refspec\.so[^`]*)`, which is its soname", manual),
         "the module in Python": found(r'"(libgix_refspec\.so[^"]*)"', python),
+        "its README.md": found(r"`(libgix_refspec\.so[^`]*)`", read(os.path.dirname(PYTHON), "..", "README.md")),
     }
     return told, sonames, f"libgix_refspec.so.{compatible}"
 
