@@ -1,4 +1,4 @@
-# Completion of refspec and of git refspec, for bash.
+# Completion of refspec, for bash.
 
 _refspec() {
     local word=${COMP_WORDS[COMP_CWORD]} before=${COMP_WORDS[COMP_CWORD-1]} options
@@ -27,11 +27,3 @@ _refspec() {
     mapfile -t COMPREPLY < <(compgen -W "$options" -- "$word")
 }
 complete -F _refspec refspec
-
-# Git's own completion calls this for `git refspec`.
-_git_refspec() {
-    case $cword in
-    2) __gitcomp "check plan track prefixes" ;;
-    *) __gitcomp_nl "$(__git_remotes)" ;;
-    esac
-}

@@ -1,0 +1,26 @@
+# Completion of git refspec, for bash: Git's own completion loads this file by its name, and calls the function.
+
+_git_refspec() {
+    local number command=""
+    for ((number = __git_cmd_idx + 1; number < cword; number++)); do
+        case ${words[number]} in
+        check | plan | track | prefixes)
+            command=${words[number]}
+            break
+            ;;
+        esac
+    done
+    if [ "$prev" = --remote ]; then
+        __gitcomp_nl "$(__git_remotes)"
+        return
+    fi
+    case $command,$cur in
+    ,--*) __gitcomp "--json --remote --help --version" ;;
+    ,*) __gitcomp "check plan track prefixes" ;;
+    check,--*) __gitcomp "--json --verbose --push --remote --help" ;;
+    prefixes,--*) __gitcomp "--json --patterns --remote --help" ;;
+    *,--*) __gitcomp "--json --remote --help" ;;
+    track,*) __git_complete_refs ;;
+    *) __gitcomp_nl "$(__git_remotes)" ;;
+    esac
+}
