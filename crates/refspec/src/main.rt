@@ -1,8 +1,12 @@
 //! Says whether refspecs are right, what they mean, and what a fetch with them writes.
 #![tactic(auto)]
 
+mod git;
+mod streams;
 mod words;
 
+use crate::git::run_git;
+use crate::streams::{CLOSED_STATUS, Stream};
 use crate::words::{call_of, command_line, names_no_file};
 use refspec_run::call::{Call, Command};
 use refspec_run::fault::Fault;
@@ -64,6 +68,7 @@ fn run_words(rt: &HostRuntime, words: &[String]) -> u8 {
             let _ = eprintln!(rt; "refspec: the name of a file must not be empty");
             USAGE_STATUS
         }
+        Some(("git", matches)) => run_git(rt, matches.get_str("folder").unwrap_or("")),
         Some((name, matches)) => {
             let Ok(call) = call_of(rt.alloc(), name, matches) else {
                 return fail(rt, Fault::Memory);
@@ -79,10 +84,12 @@ fn show(rt: &HostRuntime, error: &clap::Error) -> u8 {
     if error.kind() == clap::error::ErrorKind::OutOfMemory {
         return fail(rt, Fault::Memory);
     }
-    if error.print(rt).is_err() {
-        return fail(rt, Fault::Write);
+    match error.print(rt) {
+        Ok(()) if error.use_stderr() => USAGE_STATUS,
+        Ok(()) => 0,
+        Err(fault) if fault.kind() == io::ErrorKind::BrokenPipe => CLOSED_STATUS,
+        Err(_) => fail(rt, Fault::Write),
     }
-    if error.use_stderr() { USAGE_STATUS } else { 0 }
 }
 
 // Runs a call from its inputs to the standard output, and its messages to the standard error.
@@ -103,34 +110,35 @@ fn run_call(rt: &HostRuntime, call: &Call<'_>) -> u8 {
         Ok(beside) => beside,
         Err(fault) => return fail_at(rt, fault, call.beside),
     };
+    let mut output = Stream::new(rt.stdout());
+    let mut errors = Stream::new(rt.stderr());
     let made = if call.input == "-" || !call.reads_input {
         run(
             rt.alloc(),
             call,
             beside.as_slice(),
             &mut rt.stdin(),
-            &mut rt.stdout(),
-            &mut rt.stderr(),
+            &mut output,
+            &mut errors,
             &mut AtExit,
         )
     } else {
         match File::open(rt, call.input) {
-            Ok(mut file) => {
-                run(
-                    rt.alloc(),
-                    call,
-                    beside.as_slice(),
-                    &mut file,
-                    &mut rt.stdout(),
-                    &mut rt.stderr(),
-                    &mut AtExit,
-                )
-            }
+            Ok(mut file) => run(
+                rt.alloc(),
+                call,
+                beside.as_slice(),
+                &mut file,
+                &mut output,
+                &mut errors,
+                &mut AtExit,
+            ),
             Err(_) => Err(Fault::Read),
         }
     };
     match made {
         Ok(status) => status,
+        Err(_) if output.is_closed() || errors.is_closed() => CLOSED_STATUS,
         Err(fault) => fail_at(rt, fault, call.input),
     }
 }

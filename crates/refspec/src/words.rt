@@ -23,7 +23,21 @@ pub fn command_line<'a>(alloc: Global) -> Result<clap::Command<'a>, AllocError> 
         .subcommand(canon_line(alloc)?)?
         .subcommand(plan_line(alloc)?)?
         .subcommand(track_line(alloc)?)?
-        .subcommand(prefixes_line(alloc)?)
+        .subcommand(prefixes_line(alloc)?)?
+        .subcommand(git_line(alloc)?)
+}
+
+// The command that the script `git-refspec` calls.
+fn git_line<'a>(alloc: Global) -> Result<clap::Command<'a>, AllocError> {
+    clap::Command::new(alloc, "git")
+        .hide(true)
+        .about("Answers a call of `git refspec`, whose words and whose repository are in the files of a folder")
+        .arg(
+            Arg::new(alloc, "folder")
+                .value_name("FOLDER")
+                .action(ArgAction::Set)
+                .required(true),
+        )
 }
 
 // A command that takes its specs from the input too, with the options that all have.

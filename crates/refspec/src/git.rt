@@ -1,0 +1,98 @@
+//! The program's side of `git refspec`: the files of its folder, and what it writes.
+
+use crate::streams::{CLOSED_STATUS, Stream};
+use crate::{AtExit, FAULT_STATUS};
+use refspec_git::answer::{Answer, Machine, Told, answer_call};
+use refspec_run::fault::Fault;
+use refspec_run::input::read_input;
+use std::alloc::AllocError;
+use std::fs::{self, File};
+use std::io::{ErrorKind, IsTerminal, Write};
+
+// The file of the commands that are asked for.
+const ASKED: &str = "asked";
+
+// A folder with the words of a call, and with what commands of Git printed.
+#[derive(Drop)]
+struct Folder<'a> {
+    rt: &'a HostRuntime,
+    path: &'a str,
+}
+
+impl Machine for Folder<'_> {
+    fn output(&self, file: &str) -> Result<Option<Vec<u8>>, Fault> {
+        let path = self.path;
+        let path = format!(in self.rt.alloc(); "{path}/{file}")?;
+        match File::open(self.rt, path.as_str()) {
+            Ok(mut file) => Ok(Some(read_input(self.rt.alloc(), &mut file)?)),
+            Err(error) if error.kind() == ErrorKind::NotFound => Ok(None),
+            Err(_) => Err(Fault::Read),
+        }
+    }
+
+    fn names(&self, folder: &str) -> Result<Vec<String>, Fault> {
+        let mut names = Vec::new(self.rt.alloc());
+        let Ok(entries) = fs::read_dir(self.rt, folder) else {
+            return Ok(names);
+        };
+        for entry in entries {
+            let Ok(entry) = entry else {
+                return Err(Fault::Read);
+            };
+            names.push(String::from_str(self.rt.alloc(), entry.file_name())?)?;
+        }
+        names.sort()?;
+        Ok(names)
+    }
+
+    fn has(&self, path: &str) -> bool {
+        fs::exists(self.rt, path).unwrap_or(false)
+    }
+
+    fn is_watched(&self) -> bool {
+        self.rt.stderr().is_terminal()
+    }
+}
+
+/// Answers the call of `git refspec` whose words are in a folder, and returns the status; or writes there which
+/// commands of Git are needed first.
+pub fn run_git(rt: &HostRuntime, path: &str) -> u8 {
+    let folder = Folder { rt, path };
+    match answer_call(rt.alloc(), &folder, &mut AtExit) {
+        Ok(Answer::Asks(lines)) => ask(rt, path, lines.as_slice()),
+        Ok(Answer::Tells(told)) => tell(rt, &told),
+        Err(fault) => fail(rt, fault),
+    }
+}
+
+// Writes which commands are asked for.
+fn ask(rt: &HostRuntime, path: &str, lines: &[u8]) -> u8 {
+    let Ok(path) = format!(in rt.alloc(); "{path}/{ASKED}") else {
+        return fail(rt, Fault::Memory);
+    };
+    match fs::write(rt, path.as_str(), lines) {
+        Ok(()) => 0,
+        Err(_) => fail(rt, Fault::Write),
+    }
+}
+
+// Writes what is told, and returns its status.
+fn tell(rt: &HostRuntime, told: &Told) -> u8 {
+    let mut output = Stream::new(rt.stdout());
+    let mut errors = Stream::new(rt.stderr());
+    if output.write_all(told.results.as_slice()).is_ok()
+        && errors.write_all(told.messages.as_slice()).is_ok()
+    {
+        return told.status;
+    }
+    if output.is_closed() || errors.is_closed() {
+        return CLOSED_STATUS;
+    }
+    fail(rt, Fault::Write)
+}
+
+// Tells of a fault.
+fn fail(rt: &HostRuntime, fault: Fault) -> u8 {
+    let _ = eprintln!(rt; "git refspec: {fault}");
+    FAULT_STATUS
+}

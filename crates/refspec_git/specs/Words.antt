@@ -1,0 +1,10 @@
+-- Words of a call of `git refspec`.
+use Rattle.std.specs.Prelude.{ℕ, List, [], ◌∷◌, codes}
+use Rattle.refspec_text.specs.Texts.Words.{BeginsWith}
+
+-- what begins as specs alone do: with nothing, a plus, a caret or refs/
+pub data BeginsAsSpec : List ℕ → Type 0 where
+  empty : BeginsAsSpec []
+  forced : (rest : List ℕ) → BeginsAsSpec (43 ∷ rest)
+  negative : (rest : List ℕ) → BeginsAsSpec (94 ∷ rest)
+  full : (word : List ℕ) → BeginsWith (codes "refs/") word → BeginsAsSpec word

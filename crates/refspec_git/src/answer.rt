@@ -1,0 +1,282 @@
+//! The answer of a call, or what it needs of Git first.
+
+ghost use Rattle.std.specs.Prelude.{◌≤◌, OnOk};
+
+use crate::ask::{BRANCH, CONFIG, FOLDER, GitCall, WORDS};
+use crate::checking::{tell_check, tell_refused_values};
+use crate::choice::{Repository, choice_of};
+use crate::fetch::{tell_plan, tell_prefixes};
+use crate::refusal::Refusal;
+use crate::settings::settings_of;
+use crate::tracking::tell_tracking;
+use crate::usage::{OPTIONS, USAGE, VERSION};
+use crate::words::{Command, Request, Wish, wish_of};
+use refspec_run::call::Call;
+use refspec_run::fault::Fault;
+use refspec_run::input::records;
+use refspec_run::plan::Discard;
+use refspec_run::run::run;
+use std::alloc::{AllocError, AllocFailed, Global};
+
+/// The machine that a call runs on.
+pub trait Machine {
+    /// The words of the call, or what a command of Git printed. `None` before it ran.
+    fn output(&self, file: &str) -> Result<Option<Vec<u8>>, Fault>;
+
+    /// The names of the files of a folder, sorted. None if there is no such folder.
+    fn names(&self, folder: &str) -> Result<Vec<String>, Fault>;
+
+    /// Whether something has this path.
+    fn has(&self, path: &str) -> bool;
+
+    /// Whether messages go to a terminal.
+    fn is_watched(&self) -> bool;
+}
+
+/// A remote of a file of `.git/remotes` or `.git/branches`.
+#[derive(Debug, Drop)]
+pub struct OldRemote {
+    pub name: Vec<u8>,
+    pub folder: String,
+}
+
+/// What a call comes to.
+#[derive(Debug, Drop)]
+pub enum Answer {
+    /// It needs the outputs of these commands first, as `GitCall::put` writes them.
+    Asks(Vec<u8>),
+    /// It ends with these.
+    Tells(Told),
+}
+
+/// What a call writes, and its exit status.
+#[derive(Debug, Drop)]
+pub struct Told {
+    /// What goes to the standard output.
+    pub results: Vec<u8>,
+    /// What goes to the standard error.
+    pub messages: Vec<u8>,
+    pub status: u8,
+}
+
+impl Told {
+    /// Nothing, with status 0.
+    pub fn new(alloc: Global) -> Told {
+        Told {
+            results: Vec::new(alloc),
+            messages: Vec::new(alloc),
+            status: 0,
+        }
+    }
+
+    /// Adds the message of a refusal. The status is no longer 0 then.
+    pub fn refuse(&mut self, refusal: &Refusal<'_>) -> Result<(), AllocError>
+        ensures ok { OnOk result (1 ≤ self.new.status) }
+        ensures kept { self.old.status ≤ self.new.status }
+    {
+        self.status = self.status.max(refusal.status());
+        refusal.put(&mut self.messages)
+    }
+
+    /// Adds what `refspec` tells of a call. A status that isn't 0 stays so.
+    pub fn run<D: Discard>(
+        &mut self,
+        alloc: Global,
+        call: &Call<'_>,
+        beside: &[u8],
+        mut input: &[u8],
+        done: &mut D,
+    ) -> Result<(), Fault>
+        ensures { self.old.status ≤ self.new.status }
+    {
+        let status = run(
+            alloc,
+            call,
+            beside,
+            &mut input,
+            &mut self.results,
+            &mut self.messages,
+            done,
+        )?;
+        self.status = self.status.max(status);
+        Ok(())
+    }
+}
+
+/// Why a call stops early.
+#[derive(Debug)]
+pub enum Stop<'a> {
+    /// Words or settings are refused.
+    Refused(Refusal<'a>),
+    /// A file or memory fails.
+    Failed(Fault),
+}
+
+impl<'a> From<Refusal<'a>> for Stop<'a> {
+    fn from(refusal: Refusal<'a>) -> Stop<'a> {
+        Stop::Refused(refusal)
+    }
+}
+
+impl<'a> From<Fault> for Stop<'a> {
+    fn from(fault: Fault) -> Stop<'a> {
+        Stop::Failed(fault)
+    }
+}
+
+impl<'a> From<AllocError> for Stop<'a> {
+    fn from(_: AllocError) -> Stop<'a> {
+        Stop::Failed(Fault::Memory)
+    }
+}
+
+impl<'a, T: Drop> From<AllocFailed<T>> for Stop<'a> {
+    fn from(_: AllocFailed<T>) -> Stop<'a> {
+        Stop::Failed(Fault::Memory)
+    }
+}
+
+/// What a call comes to, on a machine. A plan is handed to `done`.
+pub fn answer_call<M: Machine, D: Discard>(
+    alloc: Global,
+    machine: &M,
+    done: &mut D,
+) -> Result<Answer, Fault> {
+    let Some(words) = machine.output(WORDS)? else {
+        return Err(Fault::Read);
+    };
+    let words = records(alloc, words.as_slice(), 0)?;
+    match wish_of(alloc, words.as_slice()) {
+        Err(refusal) => refused(alloc, &refusal),
+        Ok(Wish::Page) => shown(alloc, &[USAGE, OPTIONS]),
+        Ok(Wish::Version) => shown(alloc, &[VERSION]),
+        Ok(Wish::Manual) => asks(alloc, &[GitCall::Manual]),
+        Ok(Wish::Request(request)) => answer_request(alloc, machine, &request, done),
+    }
+}
+
+// Ends a call with a refusal.
+fn refused(alloc: Global, refusal: &Refusal<'_>) -> Result<Answer, Fault> {
+    let mut told = Told::new(alloc);
+    told.refuse(refusal)?;
+    Ok(Answer::Tells(told))
+}
+
+// Ends a call with texts.
+fn shown(alloc: Global, texts: &[&str]) -> Result<Answer, Fault> {
+    let mut told = Told::new(alloc);
+    for text in texts {
+        told.results.extend_from_slice(text.as_bytes())?;
+    }
+    Ok(Answer::Tells(told))
+}
+
+/// Asks for commands.
+pub fn asks(alloc: Global, calls: &[GitCall<'_>]) -> Result<Answer, Fault> {
+    let mut lines = Vec::new(alloc);
+    for call in calls {
+        call.put(alloc, &mut lines)?;
+    }
+    Ok(Answer::Asks(lines))
+}
+
+// Answers a request.
+fn answer_request<M: Machine, D: Discard>(
+    alloc: Global,
+    machine: &M,
+    request: &Request<'_>,
+    done: &mut D,
+) -> Result<Answer, Fault> {
+    let (Some(folder), Some(config), Some(branch)) = (
+        machine.output(FOLDER)?,
+        machine.output(CONFIG)?,
+        machine.output(BRANCH)?,
+    ) else {
+        return asks(alloc, &[GitCall::Folder, GitCall::Config, GitCall::Branch]);
+    };
+    let settings = settings_of(alloc, config.as_slice())?;
+    let old = old_remotes(alloc, machine, line_of(folder.as_slice()))?;
+    let repository = Repository {
+        settings: settings.as_slice(),
+        branch: line_of(branch.as_slice()),
+        old: old.as_slice(),
+        is_path: is_path(machine, request),
+    };
+    match answer_in(alloc, machine, request, &repository, done) {
+        Ok(answer) => Ok(answer),
+        Err(Stop::Failed(fault)) => Err(fault),
+        Err(Stop::Refused(refusal)) => refused(alloc, &refusal),
+    }
+}
+
+// An output of one line, without its end.
+fn line_of(output: &[u8]) -> &[u8] {
+    match output {
+        [line @ .., b'\n'] => line,
+        _ => output,
+    }
+}
+
+// Whether the first word of a request is a path that exists.
+fn is_path<M: Machine>(machine: &M, request: &Request<'_>) -> bool {
+    match request.words.first() {
+        None => false,
+        Some(word) => match str::from_utf8(word) {
+            Ok(path) => !path.is_empty() && machine.has(path),
+            Err(_) => false,
+        },
+    }
+}
+
+// The remotes of the folder of a repository that have files of their own.
+fn old_remotes<M: Machine>(
+    alloc: Global,
+    machine: &M,
+    folder: &[u8],
+) -> Result<Vec<OldRemote>, Fault> {
+    let mut old = Vec::new(alloc);
+    let Ok(folder) = str::from_utf8(folder) else {
+        return Ok(old);
+    };
+    for kind in ["remotes", "branches"] {
+        let path = format!(in alloc; "{folder}/{kind}")?;
+        for name in machine.names(path.as_str())? {
+            old.push(OldRemote {
+                name: Vec::from_slice(alloc, name.as_bytes())?,
+                folder: path.clone()?,
+            })?;
+        }
+    }
+    Ok(old)
+}
+
+// Answers a request in a repository. Git refuses each remote as long as a value of one of them is refused.
+fn answer_in<'a, M: Machine, D: Discard>(
+    alloc: Global,
+    machine: &M,
+    request: &Request<'a>,
+    repository: &Repository<'a, 'a>,
+    done: &mut D,
+) -> Result<Answer, Stop<'a>> {
+    if request.command == Command::Check {
+        let told = tell_check(alloc, machine, request, repository, done)?;
+        return Ok(Answer::Tells(told));
+    }
+    let told = tell_refused_values(alloc, request, repository.settings, done)?;
+    if told.status != 0 {
+        return Ok(Answer::Tells(told));
+    }
+    match request.command {
+        Command::Track => tell_tracking(alloc, machine, request, repository, done),
+        command => {
+            let choice = choice_of(alloc, request, repository)?;
+            if let Some(old) = repository.old_remote(choice.remote) {
+                return Err(Stop::Refused(old));
+            }
+            if command == Command::Prefixes {
+                return tell_prefixes(alloc, request, repository, &choice, done);
+            }
+            tell_plan(alloc, machine, request, repository, &choice, done)
+        }
+    }
+}

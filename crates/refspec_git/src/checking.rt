@@ -1,0 +1,228 @@
+//! What `git refspec check` tells, and the refused values for which no other command tells anything.
+
+use crate::answer::{Machine, Stop, Told};
+use crate::choice::{Looks, Repository, looks_of};
+use crate::objects::{ADVICE_MISSING, WHY_MISSING, put_missing_value};
+use crate::refusal::{Refusal, put_about};
+use crate::settings::{Setting, name_and_variable, put_settings};
+use crate::words::Request;
+use gix_refspec::parsing::Operation;
+use refspec_run::call::{Call, Command, Ends, Form};
+use refspec_run::fault::Fault;
+use refspec_run::plan::Discard;
+use std::alloc::{AllocError, Global};
+use std::collections::BTreeSet;
+
+/// Tells the values of the remotes among the words, and the specs; without a word the values of all remotes.
+pub fn tell_check<'a, M: Machine, D: Discard>(
+    alloc: Global,
+    machine: &M,
+    request: &Request<'a>,
+    repository: &Repository<'a, 'a>,
+    done: &mut D,
+) -> Result<Told, Stop<'a>> {
+    let mut told = Told::new(alloc);
+    let chosen = chosen_of(alloc, request, repository)?;
+    let values = values_of(alloc, repository.settings, &chosen.remotes)?;
+    tell_values(
+        alloc,
+        request,
+        chosen.specs.as_slice(),
+        values.as_slice(),
+        done,
+        &mut told,
+    )?;
+    if chosen.remotes.is_none() {
+        for old in repository.old {
+            if let Some(refusal) = repository.old_remote(old.name.as_slice()) {
+                told.refuse(&refusal)?;
+            }
+        }
+    }
+    let count = values.len().saturating_add(chosen.specs.len());
+    if count == 0 && told.status == 0 {
+        told.messages
+            .extend_from_slice(b"git refspec: there are no fetch or push values\n")?;
+    } else if is_silent(request, &told) && machine.is_watched() {
+        let line = format!(in alloc; "git refspec: {count} checked, all good\n")?;
+        told.messages.extend_from_slice(line.as_bytes())?;
+    }
+    Ok(told)
+}
+
+// Whether a person has been told nothing.
+fn is_silent(request: &Request<'_>, told: &Told) -> bool {
+    request.form == Form::Lines && told.results.is_empty() && told.messages.is_empty()
+}
+
+// What is to be checked.
+#[derive(Drop)]
+struct Chosen<'a> {
+    // The names of remotes, or all remotes.
+    remotes: Option<BTreeSet<&'a [u8]>>,
+    specs: Vec<&'a str>,
+}
+
+// What the words choose.
+fn chosen_of<'a>(
+    alloc: Global,
+    request: &Request<'a>,
+    repository: &Repository<'a, 'a>,
+) -> Result<Chosen<'a>, Stop<'a>> {
+    let mut specs = Vec::new(alloc);
+    if request.remote.is_none() && request.words.is_empty() {
+        return Ok(Chosen {
+            remotes: None,
+            specs,
+        });
+    }
+    let mut remotes = BTreeSet::new(alloc);
+    if let Some(name) = request.remote {
+        if !repository.has_remote(name) {
+            return Err(Stop::Refused(Refusal::NoRemoteNoSpec(name)));
+        }
+        remotes.insert(name)?;
+    }
+    for (number, word) in request.words.iter().enumerate() {
+        if is_remote(request, number, word, repository)? {
+            remotes.insert(*word)?;
+        } else {
+            specs.push(text_of(word)?)?;
+        }
+    }
+    for name in &remotes {
+        if let Some(refusal) = repository.old_remote(name) {
+            return Err(Stop::Refused(refusal));
+        }
+    }
+    Ok(Chosen {
+        remotes: Some(remotes),
+        specs,
+    })
+}
+
+// Whether a word is a remote, and not a spec. Words before `--` are remotes, and others behind it are specs.
+fn is_remote<'a>(
+    request: &Request<'a>,
+    number: usize,
+    word: &'a [u8],
+    repository: &Repository<'a, 'a>,
+) -> Result<bool, Refusal<'a>> {
+    if request.remote.is_some() {
+        return Ok(false);
+    }
+    if repository.has_remote(word) {
+        return Ok(true);
+    }
+    let is_spec = match (request.dashes, looks_of(word)) {
+        (Some(before), _) => number >= before,
+        (None, Looks::Spec | Looks::Either) => true,
+        (None, Looks::Url | Looks::Plain) => false,
+    };
+    if is_spec {
+        return Ok(false);
+    }
+    Err(Refusal::NoRemoteNoSpec(word))
+}
+
+/// A spec among the words, as text.
+pub fn text_of(word: &[u8]) -> Result<&str, Refusal<'_>> {
+    match str::from_utf8(word) {
+        Ok(text) => Ok(text),
+        Err(_) => Err(Refusal::NotUtf8(word)),
+    }
+}
+
+// The fetch and push values of remotes, in order.
+fn values_of<'a>(
+    alloc: Global,
+    settings: &[Setting<'a>],
+    remotes: &Option<BTreeSet<&'a [u8]>>,
+) -> Result<Vec<Setting<'a>>, AllocError> {
+    let mut values = Vec::new(alloc);
+    for setting in settings {
+        if let Some((name, variable)) = name_and_variable(b"remote", setting.key) {
+            let is_chosen = match remotes {
+                None => true,
+                Some(names) => names.contains(&name),
+            };
+            if is_chosen && matches!(variable, b"fetch" | b"push") {
+                values.push(*setting)?;
+            }
+        }
+    }
+    Ok(values)
+}
+
+/// Tells the values of remotes that are refused. Git refuses all remotes as long as there is one.
+pub fn tell_refused_values<D: Discard>(
+    alloc: Global,
+    request: &Request<'_>,
+    settings: &[Setting<'_>],
+    done: &mut D,
+) -> Result<Told, Fault> {
+    let mut told = Told::new(alloc);
+    let values = values_of(alloc, settings, &None)?;
+    tell_values(alloc, request, &[], values.as_slice(), done, &mut told)?;
+    Ok(told)
+}
+
+// Tells specs and values: those without a value first, and then as `refspec check` does.
+fn tell_values<D: Discard>(
+    alloc: Global,
+    request: &Request<'_>,
+    specs: &[&str],
+    values: &[Setting<'_>],
+    done: &mut D,
+    told: &mut Told,
+) -> Result<(), Fault> {
+    for value in values {
+        if value.value.is_none() {
+            tell_missing(alloc, request.form, value, told)?;
+        }
+    }
+    let mut beside = Vec::new(alloc);
+    put_settings(&mut beside, values)?;
+    let operation = if request.push {
+        Operation::Push
+    } else {
+        Operation::Fetch
+    };
+    let call = Call {
+        command: Command::Check,
+        operation,
+        form: request.form,
+        ends: Ends::Settings,
+        verbose: request.verbose,
+        patterns: false,
+        specs: Vec::from_slice(alloc, specs)?,
+        refs: Vec::new(alloc),
+        reads_input: false,
+        input: "",
+        beside: "",
+    };
+    told.run(alloc, &call, beside.as_slice(), b"", done)
+}
+
+// Tells of a setting without a value.
+fn tell_missing(
+    alloc: Global,
+    form: Form,
+    setting: &Setting<'_>,
+    told: &mut Told,
+) -> Result<(), AllocError> {
+    told.status = 1;
+    let mut place = Vec::new(alloc);
+    put_about(&mut place, "", setting.origin, ": ")?;
+    put_about(&mut place, "", setting.key, "")?;
+    if form == Form::Json {
+        let is_push = setting.key.ends_with(b".push");
+        return put_missing_value(alloc, &mut told.results, place.as_slice(), is_push);
+    }
+    told.messages.extend_from_slice(place.as_slice())?;
+    told.messages.extend_from_slice(b": ")?;
+    told.messages.extend_from_slice(WHY_MISSING.as_bytes())?;
+    told.messages.extend_from_slice(b"\n    ")?;
+    told.messages.extend_from_slice(ADVICE_MISSING.as_bytes())?;
+    Ok(told.messages.push(b'\n')?)
+}

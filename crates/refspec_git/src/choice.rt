@@ -1,0 +1,195 @@
+//! Which remote and which specs the words of a call name.
+
+ghost use Rattle.std.specs.Prelude.{◌≡◌, ◌∷◌, [], true};
+ghost use Rattle.refspec_text.specs.Texts.Words.{Holds, Lacks};
+ghost use Rattle.refspec_git.specs.Words.{BeginsAsSpec};
+
+use crate::answer::OldRemote;
+use crate::refusal::Refusal;
+use crate::remotes::{default_remote, is_configured, is_rewritten};
+use crate::settings::Setting;
+use crate::words::Request;
+use bstr::ByteSlice;
+use refspec_text::cut::holds;
+use refspec_text::side::below_refs;
+use std::alloc::Global;
+
+/// What a word looks like that no configuration knows.
+#[derive(Clone, Copy, Debug, PartialEq, Eq)]
+pub enum Looks {
+    /// A spec: it is empty, begins with `+`, `^` or `refs/`, has a star, has `:refs/`, or ends with a colon.
+    Spec,
+    /// A URL or a path.
+    Url,
+    /// Both, as `host:path` and `main:other`.
+    Either,
+    /// A plain word, as `origin` and `main`.
+    Plain,
+}
+
+/// What a word looks like.
+pub fn looks_of(word: &[u8]) -> Looks
+    // What begins as a spec or has a star is never taken for a remote.
+    ensures spec { BeginsAsSpec word.now → result ≡ Looks.Spec }
+    ensures star { Holds (42 ∷ []) word.now → result ≡ Looks.Spec }
+    // Only a word with a colon is in doubt, and a plain one has none.
+    ensures either { result ≡ Looks.Either → Holds (58 ∷ []) word.now }
+    ensures plain { result ≡ Looks.Plain → Lacks 58 word.now }
+{
+    if begins_spec(word) {
+        return Looks::Spec;
+    }
+    if holds(word, b'*') {
+        return Looks::Spec;
+    }
+    if is_path(word) || has_host(word) {
+        return Looks::Url;
+    }
+    if !holds(word, b':') {
+        return Looks::Plain;
+    }
+    if word.contains_str(b":refs/") || word.ends_with(b":") {
+        return Looks::Spec;
+    }
+    Looks::Either
+}
+
+// Whether a word begins as specs alone do.
+fn begins_spec(word: &[u8]) -> bool
+    ensures { BeginsAsSpec word.now → result ≡ true }
+{
+    match word {
+        [] | [b'+' | b'^', ..] => true,
+        _ => below_refs(word).is_some(),
+    }
+}
+
+// Whether a word begins as paths alone do.
+fn is_path(word: &[u8]) -> bool {
+    match word {
+        b"." | b".." => true,
+        _ => word.starts_with(b"/") || word.starts_with(b"./") || word.starts_with(b"../"),
+    }
+}
+
+// Whether a word has a scheme, a helper or a user before its first colon: `https://host`, `ext::command`, `me@host:path`.
+fn has_host(word: &[u8]) -> bool {
+    match word.split_once_str(b":") {
+        None => false,
+        Some((before, after)) => {
+            after.starts_with(b"//") || after.starts_with(b":") || before.find_byte(b'@').is_some()
+        }
+    }
+}
+
+/// What decides of a first word, beside its looks.
+#[derive(Clone, Copy, Debug)]
+pub struct Repository<'a, 'b> {
+    /// The configuration.
+    pub settings: &'b [Setting<'a>],
+    /// The current branch; empty if there is none.
+    pub branch: &'b [u8],
+    /// The remotes of other files than the configuration.
+    pub old: &'b [OldRemote],
+    /// Whether the first word is a path that exists.
+    pub is_path: bool,
+}
+
+impl<'b> Repository<'_, 'b> {
+    /// Whether a word is a remote that has a name.
+    pub fn has_remote(&self, word: &[u8]) -> bool {
+        is_configured(self.settings, word) || self.old.iter().any(|old| old.name.as_slice() == word)
+    }
+
+    /// The refusal of a remote that only a file outside the configuration has.
+    pub fn old_remote(&self, name: &'b [u8]) -> Option<Refusal<'b>> {
+        if is_configured(self.settings, name) {
+            return None;
+        }
+        for old in self.old {
+            if old.name.as_slice() == name {
+                return Some(Refusal::OldForm {
+                    name,
+                    folder: old.folder.as_str(),
+                });
+            }
+        }
+        None
+    }
+
+    // Whether a first word is a remote for sure.
+    fn knows(&self, word: &[u8]) -> bool {
+        self.has_remote(word)
+            || is_rewritten(self.settings, word)
+            || self.is_path && looks_of(word) != Looks::Spec
+    }
+}
+
+/// The remote and the specs of a call, where words are left out that name none.
+#[derive(Debug, Drop)]
+pub struct Choice<'a> {
+    pub remote: &'a [u8],
+    pub specs: Vec<&'a [u8]>,
+}
+
+/// The remote and the specs that the words of a request name. The remote is that of `--remote`, else a word alone
+/// before `--`, else a first word that is or looks like one, else the default.
+pub fn choice_of<'a>(
+    alloc: Global,
+    request: &Request<'a>,
+    repository: &Repository<'a, '_>,
+) -> Result<Choice<'a>, Refusal<'a>> {
+    let words = request.words.as_slice();
+    let (remote, specs) = match (request.remote, words) {
+        (Some(remote), _) => (Some(remote), words),
+        (None, []) => (None, words),
+        (None, [first, rest @ ..]) => {
+            if is_remote(request.dashes, first, repository)? {
+                (Some(*first), rest)
+            } else {
+                (None, words)
+            }
+        }
+    };
+    let remote = match remote {
+        Some(remote) => remote,
+        None => match default_remote(repository.settings, repository.branch) {
+            Some(remote) => remote,
+            None => return Err(Refusal::NoDefault),
+        },
+    };
+    // A branch may name an empty remote.
+    if remote.is_empty() {
+        return Err(Refusal::NoDefault);
+    }
+    if remote.find_byte(b'\n').is_some() {
+        return Err(Refusal::Newline(remote));
+    }
+    let mut kept = Vec::with_capacity(alloc, specs.len())?;
+    for spec in specs {
+        kept.push(*spec)?;
+    }
+    Ok(Choice {
+        remote,
+        specs: kept,
+    })
+}
+
+// Whether a first word is a remote, and not a spec for the default one.
+fn is_remote<'a>(
+    dashes: Option<usize>,
+    word: &'a [u8],
+    repository: &Repository<'_, '_>,
+) -> Result<bool, Refusal<'a>> {
+    if repository.knows(word) {
+        return Ok(true);
+    }
+    match (dashes, looks_of(word)) {
+        (Some(before), looks) if before > 0 => Ok(true),
+        (_, Looks::Spec) => Ok(false),
+        (_, Looks::Url) => Ok(true),
+        (Some(_), _) => Ok(false),
+        (None, Looks::Plain) => Ok(true),
+        (None, Looks::Either) => Err(Refusal::UrlOrSpec(word)),
+    }
+}

@@ -1,0 +1,283 @@
+//! What `git refspec plan` and `git refspec prefixes` tell of a remote.
+
+use crate::answer::{Answer, Machine, Stop, Told, asks};
+use crate::ask::{GitCall, LINES};
+use crate::checking::text_of;
+use crate::choice::{Choice, Repository};
+use crate::refusal::{Refusal, put_about};
+use crate::settings::{Setting, last_value, put_settings, settings_named};
+use crate::sources::{Names, Source, Sources};
+use crate::words::Request;
+use gix_refspec::parsing::Operation;
+use refspec_run::call::{Call, Command, Ends, Form};
+use refspec_run::plan::Discard;
+use std::alloc::{AllocError, Global};
+
+// The specs of a fetch.
+#[derive(Drop)]
+struct Specs<'a> {
+    // Those that stand in no file, in order.
+    words: Vec<String>,
+    // Those of the configuration, which follow.
+    values: Vec<Setting<'a>>,
+    // The names of `branch.NAME.merge`, which may be missing.
+    merges: Vec<Setting<'a>>,
+    // All tags, where the remote says so.
+    tags: Vec<Setting<'a>>,
+}
+
+/// Tells what a fetch of a remote writes.
+pub fn tell_plan<'a, M: Machine, D: Discard>(
+    alloc: Global,
+    machine: &M,
+    request: &Request<'a>,
+    repository: &Repository<'a, 'a>,
+    choice: &Choice<'a>,
+    done: &mut D,
+) -> Result<Answer, Stop<'a>> {
+    let specs = specs_of(alloc, repository, choice)?;
+    let Some(mut lines) = machine.output(LINES)? else {
+        return Ok(asks(alloc, &[GitCall::Lines(choice.remote)])?);
+    };
+    let mut told = Told::new(alloc);
+    if tell_sources(alloc, request.form, &specs, lines.as_slice(), &mut told)? {
+        return Ok(Answer::Tells(told));
+    }
+    // The specs of the configuration come with zero bytes, and so do the refs.
+    for byte in lines.iter_mut() {
+        if *byte == b'\n' {
+            *byte = 0;
+        }
+    }
+    let call = call_of(alloc, Command::Plan, request, &specs)?;
+    let beside = beside_of(alloc, &specs)?;
+    let noted = told.messages.len();
+    told.run(alloc, &call, beside.as_slice(), lines.as_slice(), done)?;
+    if told.results.is_empty() && told.messages.len() == noted && told.status == 0 {
+        told.messages
+            .extend_from_slice(b"git refspec: nothing would be fetched\n")?;
+    }
+    Ok(Answer::Tells(told))
+}
+
+/// Tells what to ask a remote for.
+pub fn tell_prefixes<'a, D: Discard>(
+    alloc: Global,
+    request: &Request<'a>,
+    repository: &Repository<'a, 'a>,
+    choice: &Choice<'a>,
+    done: &mut D,
+) -> Result<Answer, Stop<'a>> {
+    let mut specs = given_specs(alloc, choice.specs.as_slice())?;
+    if choice.specs.is_empty() {
+        specs.values = fetch_values(alloc, repository, choice)?;
+    }
+    if specs.words.is_empty() && specs.values.is_empty() {
+        return Err(Stop::Refused(Refusal::NoValues(choice.remote)));
+    }
+    let mut told = Told::new(alloc);
+    let call = call_of(alloc, Command::Prefixes, request, &specs)?;
+    let beside = beside_of(alloc, &specs)?;
+    told.run(alloc, &call, beside.as_slice(), b"", done)?;
+    Ok(Answer::Tells(told))
+}
+
+// The fetch values of the remote.
+fn fetch_values<'a>(
+    alloc: Global,
+    repository: &Repository<'a, 'a>,
+    choice: &Choice<'a>,
+) -> Result<Vec<Setting<'a>>, AllocError> {
+    settings_named(
+        alloc,
+        repository.settings,
+        b"remote",
+        choice.remote,
+        b"fetch",
+    )
+}
+
+// The specs of a fetch: the given ones, else the fetch values, else what the branch merges from this remote, else `HEAD`.
+// With `tagOpt = --tags` all tags too, unless specs are given.
+fn specs_of<'a>(
+    alloc: Global,
+    repository: &Repository<'a, 'a>,
+    choice: &Choice<'a>,
+) -> Result<Specs<'a>, Stop<'a>> {
+    let mut specs = given_specs(alloc, choice.specs.as_slice())?;
+    if !choice.specs.is_empty() {
+        return Ok(specs);
+    }
+    specs.values = fetch_values(alloc, repository, choice)?;
+    if specs.values.is_empty() {
+        specs.merges = merges_of(alloc, repository, choice.remote)?;
+        if specs.merges.is_empty() {
+            specs.words.push(String::from_str(alloc, "HEAD")?)?;
+        }
+    }
+    specs.tags = tags_of(alloc, repository, choice.remote)?;
+    Ok(specs)
+}
+
+// The spec for all tags, in the place of the setting `tagOpt = --tags` of a remote.
+fn tags_of<'a>(
+    alloc: Global,
+    repository: &Repository<'a, 'a>,
+    remote: &[u8],
+) -> Result<Vec<Setting<'a>>, AllocError> {
+    let mut tags = Vec::new(alloc);
+    let options = settings_named(alloc, repository.settings, b"remote", remote, b"tagopt")?;
+    if let Some(option) = options.as_slice().last() {
+        if option.value == Some(b"--tags".as_slice()) {
+            tags.push(Setting {
+                origin: option.origin,
+                key: option.key,
+                value: Some(b"refs/tags/*:refs/tags/*"),
+            })?;
+        }
+    }
+    Ok(tags)
+}
+
+// What the current branch merges, if that is of the remote.
+fn merges_of<'a>(
+    alloc: Global,
+    repository: &Repository<'a, 'a>,
+    remote: &[u8],
+) -> Result<Vec<Setting<'a>>, AllocError> {
+    let settings = repository.settings;
+    match last_value(settings, b"branch", repository.branch, b"remote") {
+        Some(name) if name == remote => {
+            settings_named(alloc, settings, b"branch", repository.branch, b"merge")
+        }
+        _ => Ok(Vec::new(alloc)),
+    }
+}
+
+// The specs among the words. `tag NAME` is `refs/tags/NAME:refs/tags/NAME`, as on Git's command line.
+fn given_specs<'a>(alloc: Global, words: &[&'a [u8]]) -> Result<Specs<'a>, Stop<'a>> {
+    let mut specs = Specs {
+        words: Vec::new(alloc),
+        values: Vec::new(alloc),
+        merges: Vec::new(alloc),
+        tags: Vec::new(alloc),
+    };
+    let mut is_tag = false;
+    for word in words {
+        let text = text_of(word)?;
+        if is_tag {
+            let spec = format!(in alloc; "refs/tags/{text}:refs/tags/{text}")?;
+            specs.words.push(spec)?;
+            is_tag = false;
+        } else if text == "tag" {
+            is_tag = true;
+        } else {
+            specs.words.push(String::from_str(alloc, text)?)?;
+        }
+    }
+    if is_tag {
+        return Err(Stop::Refused(Refusal::NoTagName));
+    }
+    Ok(specs)
+}
+
+// The call of `refspec` for specs.
+fn call_of<'c>(
+    alloc: Global,
+    command: Command,
+    request: &Request<'_>,
+    specs: &'c Specs<'_>,
+) -> Result<Call<'c>, AllocError> {
+    let mut words = Vec::with_capacity(alloc, specs.words.len())?;
+    for word in &specs.words {
+        words.push(word.as_str())?;
+    }
+    Ok(Call {
+        command,
+        operation: Operation::Fetch,
+        form: request.form,
+        ends: Ends::Settings,
+        verbose: false,
+        patterns: request.patterns,
+        specs: words,
+        refs: Vec::new(alloc),
+        reads_input: command == Command::Plan,
+        input: "git ls-remote",
+        beside: "",
+    })
+}
+
+// The specs of the configuration, as Git prints settings.
+fn beside_of(alloc: Global, specs: &Specs<'_>) -> Result<Vec<u8>, AllocError> {
+    let mut beside = Vec::new(alloc);
+    put_settings(&mut beside, specs.values.as_slice())?;
+    put_settings(&mut beside, specs.merges.as_slice())?;
+    put_settings(&mut beside, specs.tags.as_slice())?;
+    Ok(beside)
+}
+
+// Tells of the specs that take no ref of the lines. Returns whether a name is missing, so that Git fetches nothing.
+fn tell_sources<'s>(
+    alloc: Global,
+    form: Form,
+    specs: &'s Specs<'s>,
+    lines: &[u8],
+    told: &mut Told,
+) -> Result<bool, AllocError> {
+    let mut sources = Sources::new(alloc);
+    for word in &specs.words {
+        let text = word.as_bytes();
+        sources.add(alloc, text, false)?;
+    }
+    for value in &specs.values {
+        let text = value.value.unwrap_or(b"");
+        sources.add(alloc, text, false)?;
+    }
+    for merge in &specs.merges {
+        let text = merge.value.unwrap_or(b"");
+        sources.add(alloc, text, true)?;
+    }
+    if sources.has_bad {
+        return Ok(false);
+    }
+    let names = Names::of(alloc, lines)?;
+    let mut is_missing = false;
+    for source in &sources.list {
+        if !source.takes_some(alloc, &names)? {
+            is_missing |= source.is_needed();
+            tell_source(alloc, form, source, told)?;
+        }
+    }
+    Ok(is_missing)
+}
+
+// Tells of a spec that takes no ref of the remote.
+fn tell_source(
+    alloc: Global,
+    form: Form,
+    source: &Source<'_>,
+    told: &mut Told,
+) -> Result<(), AllocError> {
+    let canonical = source.spec.to_bstring(alloc)?;
+    if source.is_needed() {
+        told.status = 1;
+    }
+    if form == Form::Json {
+        return source.put_object(alloc, canonical.as_bytes(), &mut told.results);
+    }
+    let out = &mut told.messages;
+    if source.is_needed() {
+        put_about(
+            out,
+            "git refspec: couldn't find remote ref ",
+            source.side,
+            ", so nothing is fetched",
+        )?;
+        put_about(out, " (", canonical.as_bytes(), ")\n")
+    } else {
+        put_about(out, "git refspec: note: ", canonical.as_bytes(), "")?;
+        out.extend_from_slice(b": ")?;
+        out.extend_from_slice(source.note().as_bytes())?;
+        Ok(out.push(b'\n')?)
+    }
+}

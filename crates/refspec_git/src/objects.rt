@@ -1,0 +1,108 @@
+//! The JSON objects that `git refspec` writes beside those of `refspec`.
+
+use refspec_run::json::text_of;
+use serde_json::{Value, json};
+use std::alloc::{AllocError, Global};
+
+/// Puts the object of a spec and a message at the end.
+pub fn put_spec_note(
+    alloc: Global,
+    out: &mut Vec<u8>,
+    kind: &str,
+    spec: &[u8],
+    message: &str,
+) -> Result<(), AllocError> {
+    let spec = text_of(alloc, spec)?;
+    let object: Value = json!(in alloc; {"kind": kind, "message": message, "spec": spec.as_str()})?;
+    put_line(alloc, out, &object)
+}
+
+/// Puts the object of a ref and a message at the end.
+pub fn put_ref_note(
+    alloc: Global,
+    out: &mut Vec<u8>,
+    kind: &str,
+    name: &[u8],
+    message: &str,
+) -> Result<(), AllocError> {
+    let name = text_of(alloc, name)?;
+    let object: Value = json!(in alloc; {"kind": kind, "message": message, "name": name.as_str()})?;
+    put_line(alloc, out, &object)
+}
+
+/// Puts the object of a mapping of a remote at the end.
+pub fn put_mapping(
+    alloc: Global,
+    out: &mut Vec<u8>,
+    remote: &[u8],
+    destination: &[u8],
+    source: &[u8],
+    spec: &[u8],
+) -> Result<(), AllocError> {
+    let remote = text_of(alloc, remote)?;
+    let destination = text_of(alloc, destination)?;
+    let source = text_of(alloc, source)?;
+    let spec = text_of(alloc, spec)?;
+    let object: Value = json!(in alloc; {
+        "destination": destination.as_str(),
+        "kind": "mapping",
+        "remote": remote.as_str(),
+        "source": source.as_str(),
+        "spec": spec.as_str(),
+    })?;
+    put_line(alloc, out, &object)
+}
+
+/// Why a setting without a value is refused, and what to do.
+pub const WHY_MISSING: &str = "The value is missing.";
+
+pub const ADVICE_MISSING: &str =
+    "Write `=` and a spec behind the key, or remove its line: Git uses no remote until then.";
+
+/// Puts the object of a setting without a value at the end.
+pub fn put_missing_value(
+    alloc: Global,
+    out: &mut Vec<u8>,
+    place: &[u8],
+    is_push: bool,
+) -> Result<(), AllocError> {
+    let place = text_of(alloc, place)?;
+    let object = refspec_json::Refused {
+        place: place.as_str(),
+        operation: if is_push { "push" } else { "fetch" },
+        text: "",
+        reason: "MissingValue",
+        message: WHY_MISSING,
+        side: None,
+        part: None,
+        at: None,
+        advice: ADVICE_MISSING,
+    };
+    object.put_line(alloc, out)
+}
+
+// Puts an object and a newline at the end.
+fn put_line(alloc: Global, out: &mut Vec<u8>, object: &Value) -> Result<(), AllocError> {
+    out.extend_from_slice(object.to_vec(alloc)?.as_slice())?;
+    Ok(out.push(b'\n')?)
+}
+
+/// Puts lines of objects at the end, each with a remote as its first member.
+pub fn put_with_remote(
+    alloc: Global,
+    out: &mut Vec<u8>,
+    remote: &[u8],
+    lines: &[u8],
+) -> Result<(), AllocError> {
+    let remote = Value::try_from_str(alloc, text_of(alloc, remote)?.as_str())?.to_vec(alloc)?;
+    for line in lines.split(|byte| *byte == b'\n') {
+        if let [b'{', members @ ..] = line {
+            out.extend_from_slice(b"{\"remote\":")?;
+            out.extend_from_slice(remote.as_slice())?;
+            out.push(b',')?;
+            out.extend_from_slice(members)?;
+            out.push(b'\n')?;
+        }
+    }
+    Ok(())
+}

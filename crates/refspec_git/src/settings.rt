@@ -1,0 +1,134 @@
+//! The settings of Git's configuration.
+
+ghost use Rattle.std.specs.Prelude.{◌≡◌, ◌++◌, ◌∷◌, IfSome, MatchOption};
+ghost use Rattle.refspec_text.specs.Texts.Words.{Lacks};
+ghost use Rattle.refspec_git.specs.Settings.{IsKey};
+
+use bstr::ByteSlice;
+use refspec_run::input::records;
+use refspec_text::cut::split_at_first;
+use std::alloc::{AllocError, Global};
+
+/// A setting.
+#[derive(Clone, Copy, Debug)]
+pub struct Setting<'a> {
+    /// Where it stands, as `file:.git/config`.
+    pub origin: &'a [u8],
+    /// Its key, as `remote.origin.fetch`.
+    pub key: &'a [u8],
+    /// Its value. `None` where the key stands without `=`.
+    pub value: Option<&'a [u8]>,
+}
+
+/// What `git config --show-origin -z --list` prints, in its order: for each setting its file and a zero byte, and its
+/// key, a newline and its value, and a zero byte. A key without a value has no newline.
+pub fn settings_of(alloc: Global, input: &[u8]) -> Result<Vec<Setting<'_>>, AllocError> {
+    let records = records(alloc, input, 0)?;
+    let mut settings = Vec::with_capacity(alloc, records.len() / 2)?;
+    for pair in records.as_slice().chunks_exact(2) {
+        if let [origin, text] = pair {
+            settings.push(setting_of(origin, text))?;
+        }
+    }
+    Ok(settings)
+}
+
+/// The setting of a file whose text is a key, or a key, a newline and its value.
+pub fn setting_of<'a>(origin: &'a [u8], text: &'a [u8]) -> Setting<'a>
+    ensures origin { result.origin.now ≡ origin.now }
+    ensures text { MatchOption result.value
+        ((result.key.now ≡ text.now) × Lacks 10 text.now)
+        (λ value. (text.now ≡ result.key.now ++ (10 ∷ value.now)) × Lacks 10 result.key.now) }
+{
+    match split_at_first(text, b'\n') {
+        None => Setting {
+            origin,
+            key: text,
+            value: None,
+        },
+        Some((key, value)) => Setting {
+            origin,
+            key,
+            value: Some(value),
+        },
+    }
+}
+
+/// The name and the variable of a key `SECTION.NAME.VARIABLE`. The name may have dots, and the variable has none. `None`
+/// for any other key.
+pub fn name_and_variable<'a>(section: &[u8], key: &'a [u8]) -> Option<(&'a [u8], &'a [u8])>
+    ensures { IfSome result (λ parts. IsKey section.now parts.0.now parts.1.now key.now) }
+{
+    let (first, rest) = split_at_first(key, b'.')?;
+    if first != section {
+        return None;
+    }
+    split_at_last(rest, b'.')
+}
+
+// The text before and after the last occurrence of a byte.
+fn split_at_last(text: &[u8], byte: u8) -> Option<(&[u8], &[u8])>
+    ensures { MatchOption result
+        (Lacks byte text.now)
+        (λ parts. (text.now ≡ parts.0.now ++ (byte ∷ parts.1.now)) × Lacks byte parts.1.now) }
+{
+    let at = text.rfind_byte(byte)?;
+    let (front, back) = text.split_at(at);
+    Some((front, &back[1..]))
+}
+
+/// The last value of a setting `SECTION.NAME.VARIABLE`, which is the one that counts.
+pub fn last_value<'a>(
+    settings: &[Setting<'a>],
+    section: &[u8],
+    name: &[u8],
+    variable: &[u8],
+) -> Option<&'a [u8]> {
+    let mut last = None;
+    for setting in settings {
+        if is_of(setting, section, name, variable) {
+            last = setting.value;
+        }
+    }
+    last
+}
+
+/// The settings `SECTION.NAME.VARIABLE`, in order.
+pub fn settings_named<'a>(
+    alloc: Global,
+    settings: &[Setting<'a>],
+    section: &[u8],
+    name: &[u8],
+    variable: &[u8],
+) -> Result<Vec<Setting<'a>>, AllocError> {
+    let mut found = Vec::new(alloc);
+    for setting in settings {
+        if is_of(setting, section, name, variable) {
+            found.push(*setting)?;
+        }
+    }
+    Ok(found)
+}
+
+// Whether a setting is SECTION.NAME.VARIABLE.
+fn is_of(setting: &Setting<'_>, section: &[u8], name: &[u8], variable: &[u8]) -> bool {
+    match name_and_variable(section, setting.key) {
+        None => false,
+        Some((its_name, its_variable)) => its_name == name && its_variable == variable,
+    }
+}
+
+/// Puts the settings that have a value at the end, as Git prints them.
+pub fn put_settings(out: &mut Vec<u8>, settings: &[Setting<'_>]) -> Result<(), AllocError> {
+    for setting in settings {
+        if let Some(value) = setting.value {
+            out.extend_from_slice(setting.origin)?;
+            out.push(0)?;
+            out.extend_from_slice(setting.key)?;
+            out.push(b'\n')?;
+            out.extend_from_slice(value)?;
+            out.push(0)?;
+        }
+    }
+    Ok(())
+}

@@ -1,0 +1,156 @@
+//! Tests.
+
+use crate::choice::{Looks, looks_of};
+use crate::refusal::Refusal;
+use crate::remotes::{default_remote, fetch_values, is_configured, is_rewritten};
+use crate::settings::{last_value, name_and_variable, put_settings, settings_of};
+use crate::words::{Command, Wish, wish_of};
+use refspec_run::call::Form;
+use std::alloc::AllocError;
+use std::test::Fail;
+
+const CONFIG: &[u8] =
+    b"file:.git/config\0remote.origin.url\nx\0file:.git/config\0remote.origin.fetch\n+a:b\0file:a\0remote.a.b.fetch\0file:a\0remote.pushdefault\nmine\0file:a\0url.https://host/.insteadof\ngh:\0file:a\0branch.main.remote\na.b\0";
+
+#[test]
+fn reads_settings(rt: HostRuntime) -> Result<(), Fail> {
+    let settings = settings_of(rt.alloc(), CONFIG)?;
+    assert_eq!(rt; settings.len(), 6);
+    assert_eq!(rt; settings[1].origin, b"file:.git/config".as_slice());
+    assert_eq!(rt; settings[1].key, b"remote.origin.fetch".as_slice());
+    assert_eq!(rt; settings[1].value, Some(b"+a:b".as_slice()));
+    assert_eq!(rt; settings[2].value, None);
+    let mut out = Vec::new(rt.alloc());
+    put_settings(&mut out, &settings[..3])?;
+    assert_eq!(rt; out.as_slice(), &CONFIG[..79]);
+    Ok(())
+}
+
+#[test]
+fn parts_keys_at_their_last_dot(rt: HostRuntime) {
+    let parts = (b"a.b".as_slice(), b"fetch".as_slice());
+    assert_eq!(rt;
+        name_and_variable(b"remote", b"remote.a.b.fetch"),
+        Some(parts)
+    );
+    assert_eq!(rt; name_and_variable(b"remote", b"remote.pushdefault"), None);
+    assert_eq!(rt; name_and_variable(b"remote", b"remotes.a.b"), None);
+}
+
+#[test]
+fn finds_remotes(rt: HostRuntime) -> Result<(), Fail> {
+    let settings = settings_of(rt.alloc(), CONFIG)?;
+    let settings = settings.as_slice();
+    let values = fetch_values(rt.alloc(), settings)?;
+    let counts: Vec<usize> = values
+        .values()
+        .map(|values| values.len())
+        .collect(rt.alloc())?;
+    assert_eq!(rt; counts.as_slice(), [1, 1].as_slice());
+    assert!(rt; is_configured(settings, b"a.b"));
+    assert!(rt; !is_configured(settings, b"pushdefault"));
+    assert!(rt; is_rewritten(settings, b"gh:me/repo"));
+    assert!(rt; !is_rewritten(settings, b"host:me/repo"));
+    assert_eq!(rt;
+        last_value(settings, b"remote", b"origin", b"url"),
+        Some(b"x".as_slice())
+    );
+    assert_eq!(rt; default_remote(settings, b"main"), Some(b"a.b".as_slice()));
+    assert_eq!(rt; default_remote(settings, b""), Some(b"origin".as_slice()));
+    assert_eq!(rt;
+        default_remote(&settings[2..3], b""),
+        Some(b"a.b".as_slice())
+    );
+    assert_eq!(rt; default_remote(&[], b""), None);
+    Ok(())
+}
+
+#[test]
+fn tells_specs_from_urls(rt: HostRuntime) {
+    let cases = [
+        ("", Looks::Spec),
+        ("+main", Looks::Spec),
+        ("^refs/heads/x", Looks::Spec),
+        ("refs/heads/x", Looks::Spec),
+        ("*:refs/x/*", Looks::Spec),
+        ("main:refs/x", Looks::Spec),
+        ("main:", Looks::Spec),
+        ("https://host/path", Looks::Url),
+        ("me@host:path", Looks::Url),
+        ("ext::command", Looks::Url),
+        ("../remote", Looks::Url),
+        (".", Looks::Url),
+        ("host:path", Looks::Either),
+        ("origin", Looks::Plain),
+        ("@", Looks::Plain),
+    ];
+    for (word, looks) in cases {
+        assert_eq!(rt; looks_of(word.as_bytes()), looks, "at {word}");
+    }
+}
+
+#[test]
+fn takes_options_and_words_in_any_order(rt: HostRuntime) -> Result<(), Fail> {
+    let words: [&[u8]; 6] = [b"--json", b"plan", b"origin", b"-z", b"--remote=x", b"main"];
+    let Ok(Wish::Request(request)) = wish_of(rt.alloc(), &words) else {
+        return Err(Fail::from(AllocError));
+    };
+    assert_eq!(rt; request.command, Command::Plan);
+    assert_eq!(rt; request.form, Form::Json);
+    assert_eq!(rt; request.remote, Some(b"x".as_slice()));
+    assert_eq!(rt;
+        request.words.as_slice(),
+        [b"origin".as_slice(), b"main".as_slice()].as_slice()
+    );
+    assert_eq!(rt; request.dashes, None);
+    let words: [&[u8]; 5] = [b"check", b"-vz", b"a", b"--", b"-v"];
+    let Ok(Wish::Request(request)) = wish_of(rt.alloc(), &words) else {
+        return Err(Fail::from(AllocError));
+    };
+    assert!(rt; request.verbose);
+    assert_eq!(rt; request.form, Form::Zeros);
+    assert_eq!(rt;
+        request.words.as_slice(),
+        [b"a".as_slice(), b"-v".as_slice()].as_slice()
+    );
+    assert_eq!(rt; request.dashes, Some(1));
+    Ok(())
+}
+
+#[test]
+fn refuses_other_options(rt: HostRuntime) {
+    let words: [&[u8]; 2] = [b"plan", b"--specs=x"];
+    assert!(rt;
+        matches!(
+            wish_of(rt.alloc(), &words),
+            Err(Refusal::NoSuchOption(b"--specs=x"))
+        )
+    );
+    let words: [&[u8]; 2] = [b"plan", b"-zq"];
+    assert!(rt;
+        matches!(
+            wish_of(rt.alloc(), &words),
+            Err(Refusal::NoSuchOption(b"-zq"))
+        )
+    );
+    let words: [&[u8]; 2] = [b"plan", b"--push"];
+    assert!(rt;
+        matches!(
+            wish_of(rt.alloc(), &words),
+            Err(Refusal::OptionElsewhere(_, "check"))
+        )
+    );
+    let words: [&[u8]; 1] = [b"--json"];
+    assert!(rt; matches!(wish_of(rt.alloc(), &words), Err(Refusal::NoCommand)));
+    let words: [&[u8]; 2] = [b"track", b"--remote"];
+    assert!(rt; matches!(wish_of(rt.alloc(), &words), Err(Refusal::NoRemoteName)));
+    let words: [&[u8]; 3] = [b"nosuch", b"-h", b"--help"];
+    assert!(rt;
+        matches!(
+            wish_of(rt.alloc(), &words),
+            Err(Refusal::NoSuchCommand(b"nosuch"))
+        )
+    );
+    let words: [&[u8]; 3] = [b"track", b"--help", b"-h"];
+    assert!(rt; matches!(wish_of(rt.alloc(), &words), Ok(Wish::Page)));
+}

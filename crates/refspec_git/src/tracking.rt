@@ -1,0 +1,630 @@
+//! What `git refspec track` tells: from which refs of which remote tracking refs are fetched.
+
+use crate::answer::{Answer, Machine, Stop, Told, asks};
+use crate::ask::{GitCall, REFS, name_file};
+use crate::choice::Repository;
+use crate::objects::{put_mapping, put_ref_note, put_with_remote};
+use crate::refusal::{Refusal, put_about};
+use crate::remotes::fetch_values;
+use crate::settings::{Setting, last_value, put_settings};
+use crate::sources::{Names, Sources};
+use crate::words::Request;
+use bstr::{BStr, ByteSlice};
+use gix_refspec::match_group::{Item, Mapping};
+use gix_refspec::oid::{Kind, ObjectId};
+use gix_refspec::parsing::{Error, Operation};
+use gix_refspec::{MatchGroup, RefSpecRef, name, parse};
+use refspec_run::call::{Call, Command, Ends, Form};
+use refspec_run::fault::Fault;
+use refspec_run::plan::Discard;
+use refspec_run::table::Layout;
+use refspec_text::side::{candidates, joined};
+use std::alloc::{AllocError, Global};
+use std::collections::{BTreeMap, BTreeSet};
+
+// The fetch values of remotes, by the remotes' names.
+type Values<'a> = BTreeMap<&'a [u8], Vec<Setting<'a>>>;
+
+/// Tells from which refs of which remotes the refs among the words are fetched.
+pub fn tell_tracking<'a, M: Machine, D: Discard>(
+    alloc: Global,
+    machine: &M,
+    request: &Request<'a>,
+    repository: &Repository<'a, 'a>,
+    done: &mut D,
+) -> Result<Answer, Stop<'a>> {
+    if request.words.is_empty() {
+        return Err(Stop::Refused(Refusal::NoRef));
+    }
+    let asked = asked_of(alloc, machine, request)?;
+    if !asked.is_empty() {
+        return Ok(Answer::Asks(asked));
+    }
+    let values = values_of(alloc, request, repository)?;
+    let names = names_of(alloc, machine, request, &values)?;
+    let rows = rows_of(alloc, &values, names.as_slice())?;
+    let mut told = Told::new(alloc);
+    for (remote, values) in &values {
+        tell_ids(
+            alloc,
+            request.form,
+            remote,
+            values.as_slice(),
+            done,
+            &mut told,
+        )?;
+    }
+    put_rows(alloc, request.form, rows.as_slice(), &mut told.results)?;
+    let found = Found {
+        form: request.form,
+        rows: rows.as_slice(),
+        values: &values,
+        settings: repository.settings,
+    };
+    tell_others(alloc, &found, names.as_slice(), &mut told)?;
+    for old in repository.old {
+        if let Some(refusal) = repository.old_remote(old.name.as_slice()) {
+            told.refuse(&refusal)?;
+        }
+    }
+    Ok(Answer::Tells(told))
+}
+
+// The fetch values of the remotes that are looked through.
+fn values_of<'a>(
+    alloc: Global,
+    request: &Request<'a>,
+    repository: &Repository<'a, 'a>,
+) -> Result<Values<'a>, Stop<'a>> {
+    let mut values = fetch_values(alloc, repository.settings)?;
+    if let Some(remote) = request.remote {
+        values.retain(|name, _| *name == remote);
+        if values.is_empty() {
+            return Err(Stop::Refused(Refusal::NoRemoteNoSpec(remote)));
+        }
+    }
+    values.retain(|_, values| !values.is_empty());
+    if values.is_empty() {
+        return Err(Stop::Refused(Refusal::NoValuesAtAll));
+    }
+    Ok(values)
+}
+
+// The commands that are still needed to know which refs the words mean.
+fn asked_of<'a, M: Machine>(
+    alloc: Global,
+    machine: &M,
+    request: &Request<'a>,
+) -> Result<Vec<u8>, Stop<'a>> {
+    let mut asked = Vec::new(alloc);
+    let mut names = Vec::new(alloc);
+    for (number, word) in request.words.iter().enumerate() {
+        match meaning_of(word) {
+            Meaning::Full => names.push(Vec::from_slice(alloc, word)?)?,
+            Meaning::Expression => {
+                let file = name_file(alloc, number)?;
+                if machine.output(file.as_str())?.is_none() {
+                    GitCall::FullName(number, word).put(alloc, &mut asked)?;
+                }
+            }
+            Meaning::Short => {
+                for candidate in candidates(alloc, word)? {
+                    if candidate.as_bytes().starts_with(b"refs/") {
+                        names.push(candidate.into_vec())?;
+                    }
+                }
+            }
+            Meaning::Bad => return Err(Stop::Refused(Refusal::NoRefName(word))),
+        }
+    }
+    if !names.is_empty() && machine.output(REFS)?.is_none() {
+        GitCall::Refs(names.as_slice()).put(alloc, &mut asked)?;
+    }
+    Ok(asked)
+}
+
+// How a word names a ref.
+#[derive(Clone, Copy, Debug, PartialEq, Eq)]
+enum Meaning {
+    // By its full name.
+    Full,
+    // By a name that Git looks for below some folders.
+    Short,
+    // By the current branch, or by an upstream, as `HEAD` and `main@{upstream}`.
+    Expression,
+    // No ref has such a name.
+    Bad,
+}
+
+// How a word names a ref.
+fn meaning_of(word: &[u8]) -> Meaning {
+    if matches!(word, b"HEAD" | b"@") {
+        return Meaning::Expression;
+    }
+    if word.contains_str(b"@{") && !word.starts_with(b"-") && word.find_byte(b'\n').is_none() {
+        return Meaning::Expression;
+    }
+    if name::name_partial(BStr::new(word)).is_err() || word.starts_with(b"-") {
+        return Meaning::Bad;
+    }
+    if word.starts_with(b"refs/") {
+        Meaning::Full
+    } else {
+        Meaning::Short
+    }
+}
+
+// The full names of the refs that the words mean, each once, in order.
+fn names_of<'a, M: Machine>(
+    alloc: Global,
+    machine: &M,
+    request: &Request<'a>,
+    values: &Values<'a>,
+) -> Result<Vec<Vec<u8>>, Stop<'a>> {
+    let refs = match machine.output(REFS)? {
+        Some(refs) => refs,
+        None => Vec::new(alloc),
+    };
+    let existing = existing_of(alloc, refs.as_slice())?;
+    let mut seen = BTreeSet::new(alloc);
+    let mut names = Vec::with_capacity(alloc, request.words.len())?;
+    for (number, word) in request.words.iter().enumerate() {
+        let name = match meaning_of(word) {
+            Meaning::Expression => {
+                let file = name_file(alloc, number)?;
+                let output = match machine.output(file.as_str())? {
+                    Some(output) => output,
+                    None => Vec::new(alloc),
+                };
+                let name = output.as_slice().trim_end();
+                if name.is_empty() {
+                    return Err(Stop::Refused(Refusal::NotARef(word)));
+                }
+                Vec::from_slice(alloc, name)?
+            }
+            Meaning::Short => full_name(alloc, word, &existing, values)?,
+            Meaning::Full | Meaning::Bad => Vec::from_slice(alloc, target_of(word, &existing))?,
+        };
+        if seen.insert(name.clone()?)? {
+            names.push(name)?;
+        }
+    }
+    Ok(names)
+}
+
+// The refs that exist, each with the ref that it points to, if it is a symbolic one.
+type Existing = BTreeMap<Vec<u8>, Vec<u8>>;
+
+// The refs in the lines of `git for-each-ref`: a name, a space, and what a symbolic one points to.
+fn existing_of(alloc: Global, lines: &[u8]) -> Result<Existing, AllocError> {
+    let mut existing = BTreeMap::new(alloc);
+    for line in lines.split(|byte| *byte == b'\n') {
+        if let Some((name, target)) = line.split_once_str(b" ") {
+            existing.insert(
+                Vec::from_slice(alloc, name)?,
+                Vec::from_slice(alloc, target)?,
+            )?;
+        }
+    }
+    Ok(existing)
+}
+
+// The ref that a symbolic one points to, or the ref itself.
+fn target_of<'n>(name: &'n [u8], existing: &'n Existing) -> &'n [u8] {
+    match existing.get(name) {
+        Some(target) if !target.is_empty() => target.as_slice(),
+        _ => name,
+    }
+}
+
+// The full name that a word means: the first candidate that exists, else one below a folder that the word names, else
+// the tracking ref of a remote.
+fn full_name(
+    alloc: Global,
+    word: &[u8],
+    existing: &Existing,
+    values: &Values<'_>,
+) -> Result<Vec<u8>, AllocError> {
+    let candidates = candidates(alloc, word)?;
+    for candidate in &candidates {
+        let name = candidate.as_bytes();
+        if existing.contains_key(name) {
+            return Vec::from_slice(alloc, target_of(name, existing));
+        }
+    }
+    let is_below = word.starts_with(b"heads/")
+        || word.starts_with(b"tags/")
+        || word.starts_with(b"remotes/");
+    let mut name = Vec::from_slice(alloc, b"refs/")?;
+    if !is_below {
+        let folder: &[u8] = if remote_above(word, values).is_some() {
+            b"remotes/"
+        } else {
+            b"heads/"
+        };
+        name.extend_from_slice(folder)?;
+    }
+    name.extend_from_slice(word)?;
+    Ok(name)
+}
+
+// The longest name of a remote that a path begins with, and what follows its slash.
+fn remote_above<'a, 'p>(path: &'p [u8], values: &Values<'a>) -> Option<(&'a [u8], &'p [u8])> {
+    let mut found: Option<(&'a [u8], &'p [u8])> = None;
+    for remote in values.keys() {
+        if let Some([b'/', branch @ ..]) = path.strip_prefix(*remote) {
+            if !branch.is_empty() && found.is_none_or(|(other, _)| other.len() < remote.len()) {
+                found = Some((*remote, branch));
+            }
+        }
+    }
+    found
+}
+
+// A ref, and what a remote fetches it from.
+#[derive(Drop)]
+struct Row<'a> {
+    // The index of the ref.
+    number: usize,
+    remote: &'a [u8],
+    destination: Vec<u8>,
+    source: Vec<u8>,
+    spec: Vec<u8>,
+}
+
+// What the remotes fetch the refs from: by the order of the refs, and by the names of the remotes.
+fn rows_of<'a>(
+    alloc: Global,
+    values: &Values<'a>,
+    names: &[Vec<u8>],
+) -> Result<Vec<Row<'a>>, AllocError> {
+    let mut rows = Vec::new(alloc);
+    for (remote, values) in values {
+        add_rows(alloc, remote, values.as_slice(), names, &mut rows)?;
+    }
+    rows.sort_by_key(|row| row.number)?;
+    Ok(rows)
+}
+
+// Adds what a remote fetches refs from.
+fn add_rows<'a>(
+    alloc: Global,
+    remote: &'a [u8],
+    values: &[Setting<'a>],
+    names: &[Vec<u8>],
+    rows: &mut Vec<Row<'a>>,
+) -> Result<(), AllocError> {
+    let specs = specs_of(alloc, values)?;
+    let mut texts = Vec::with_capacity(alloc, specs.len())?;
+    for spec in &specs {
+        texts.push(spec.to_bstring(alloc)?)?;
+    }
+    let none = ObjectId::null(Kind::shortest());
+    let items = items_of(alloc, names, &none)?;
+    let group = MatchGroup { specs };
+    let Ok(outcome) = group.match_rhs(alloc, items.as_slice()) else {
+        return Err(AllocError);
+    };
+    for mapping in &outcome.mappings {
+        if let Some(text) = texts.get(mapping.spec_index) {
+            rows.push(row_of(alloc, remote, mapping, text.as_bytes())?)?;
+        }
+    }
+    Ok(())
+}
+
+// Refs with these names. They point to one id: of a tracking ref the name alone is known.
+fn items_of<'a>(
+    alloc: Global,
+    names: &'a [Vec<u8>],
+    target: &'a ObjectId,
+) -> Result<Vec<Item<'a>>, AllocError> {
+    let mut items = Vec::with_capacity(alloc, names.len())?;
+    for name in names {
+        items.push(Item {
+            full_ref_name: BStr::new(name.as_slice()),
+            target,
+            object: None,
+        })?;
+    }
+    Ok(items)
+}
+
+// The row of what a remote fetches a ref from, by a spec with this text.
+fn row_of<'a>(
+    alloc: Global,
+    remote: &'a [u8],
+    mapping: &Mapping<'_, '_>,
+    text: &[u8],
+) -> Result<Row<'a>, AllocError> {
+    let source = format!(in alloc; "{}", mapping.lhs)?;
+    let destination = match &mapping.rhs {
+        None => Vec::new(alloc),
+        Some(name) => Vec::from_slice(alloc, name.as_bstr().as_bytes())?,
+    };
+    Ok(Row {
+        number: mapping.item_index.unwrap_or(0),
+        remote,
+        destination,
+        source: Vec::from_slice(alloc, source.as_bytes())?,
+        spec: Vec::from_slice(alloc, text)?,
+    })
+}
+
+// The specs of values whose destination isn't an object id.
+fn specs_of<'a>(alloc: Global, values: &[Setting<'a>]) -> Result<Vec<RefSpecRef<'a>>, AllocError> {
+    let mut specs = Vec::with_capacity(alloc, values.len())?;
+    for value in values {
+        match parse(
+            alloc,
+            BStr::new(value.value.unwrap_or(b"")),
+            Operation::Fetch,
+        ) {
+            Err(Error::Memory) => return Err(AllocError),
+            Err(_) => {}
+            Ok(spec) => {
+                if !has_id(&spec) {
+                    specs.push(spec)?;
+                }
+            }
+        }
+    }
+    Ok(specs)
+}
+
+// Whether the destination of a spec is an object id.
+fn has_id(spec: &RefSpecRef<'_>) -> bool {
+    match spec.destination() {
+        None => false,
+        Some(destination) => ObjectId::from_hex(destination.as_bytes()).is_ok(),
+    }
+}
+
+// Tells of the values of a remote whose destination is an object id, as `refspec track` does.
+fn tell_ids<D: Discard>(
+    alloc: Global,
+    form: Form,
+    remote: &[u8],
+    values: &[Setting<'_>],
+    done: &mut D,
+    told: &mut Told,
+) -> Result<(), Fault> {
+    let mut beside = Vec::new(alloc);
+    put_settings(&mut beside, values)?;
+    let call = Call {
+        command: Command::Track,
+        operation: Operation::Fetch,
+        form,
+        ends: Ends::Settings,
+        verbose: false,
+        patterns: false,
+        specs: Vec::new(alloc),
+        refs: Vec::new(alloc),
+        reads_input: false,
+        input: "",
+        beside: "",
+    };
+    let mut about_ids = Told::new(alloc);
+    about_ids.run(alloc, &call, beside.as_slice(), b"", done)?;
+    told.messages
+        .extend_from_slice(about_ids.messages.as_slice())?;
+    put_with_remote(
+        alloc,
+        &mut told.results,
+        remote,
+        about_ids.results.as_slice(),
+    )?;
+    Ok(())
+}
+
+// Puts rows at the end.
+fn put_rows(
+    alloc: Global,
+    form: Form,
+    rows: &[Row<'_>],
+    out: &mut Vec<u8>,
+) -> Result<(), AllocError> {
+    match form {
+        Form::Lines => put_table(alloc, rows, out),
+        Form::Zeros => {
+            for row in rows {
+                put_field(out, row.remote)?;
+                put_field(out, row.destination.as_slice())?;
+                put_field(out, row.source.as_slice())?;
+                put_field(out, row.spec.as_slice())?;
+            }
+            Ok(())
+        }
+        Form::Json => {
+            for row in rows {
+                let (destination, source) = (row.destination.as_slice(), row.source.as_slice());
+                put_mapping(
+                    alloc,
+                    out,
+                    row.remote,
+                    destination,
+                    source,
+                    row.spec.as_slice(),
+                )?;
+            }
+            Ok(())
+        }
+    }
+}
+
+// Puts a field and its end at the end.
+fn put_field(out: &mut Vec<u8>, field: &[u8]) -> Result<(), AllocError> {
+    out.extend_from_slice(field)?;
+    Ok(out.push(0)?)
+}
+
+// Puts rows at the end, as an aligned table.
+fn put_table(alloc: Global, rows: &[Row<'_>], out: &mut Vec<u8>) -> Result<(), AllocError> {
+    let mut layout = Layout::new();
+    let mut widest: usize = 0;
+    for row in rows {
+        widest = widest.max(layout.width_of(alloc, row.remote)?);
+        layout.first = layout
+            .first
+            .max(layout.width_of(alloc, row.destination.as_slice())?);
+        layout.second = layout
+            .second
+            .max(layout.width_of(alloc, row.source.as_slice())?);
+        layout.last = layout
+            .last
+            .max(layout.width_of(alloc, row.spec.as_slice())?);
+    }
+    for row in rows {
+        layout.put_cell(alloc, out, row.remote, widest)?;
+        layout.put_cell(alloc, out, row.destination.as_slice(), layout.first)?;
+        layout.put_cell(alloc, out, row.source.as_slice(), layout.second)?;
+        layout.put_field(out, row.spec.as_slice())?;
+        out.push(b'\n')?;
+    }
+    Ok(())
+}
+
+// What was found for refs, and the settings that were looked through.
+#[derive(Clone, Copy)]
+struct Found<'f, 'a> {
+    form: Form,
+    rows: &'f [Row<'a>],
+    values: &'f Values<'a>,
+    settings: &'f [Setting<'a>],
+}
+
+// Tells of the refs that no remote or several remotes write.
+fn tell_others(
+    alloc: Global,
+    found: &Found<'_, '_>,
+    names: &[Vec<u8>],
+    told: &mut Told,
+) -> Result<(), AllocError> {
+    for (number, name) in names.iter().enumerate() {
+        match writers_of(rows_at(found.rows, number)) {
+            0 => tell_untracked(alloc, found, name.as_slice(), told)?,
+            1 => {}
+            writers => tell_ambiguous(alloc, found.form, name.as_slice(), writers, told)?,
+        }
+    }
+    Ok(())
+}
+
+// The rows of the ref with this number.
+fn rows_at<'r, 'a>(rows: &'r [Row<'a>], number: usize) -> &'r [Row<'a>] {
+    let (_, rest) = rows.split_at(rows.partition_point(|row| row.number < number));
+    let (mine, _) = rest.split_at(rest.partition_point(|row| row.number == number));
+    mine
+}
+
+// How many remotes the rows of one ref have. Rows of a remote stand together.
+fn writers_of(rows: &[Row<'_>]) -> usize {
+    let mut writers: usize = 0;
+    let mut last: Option<&[u8]> = None;
+    for row in rows {
+        if last != Some(row.remote) {
+            writers = writers.saturating_add(1);
+        }
+        last = Some(row.remote);
+    }
+    writers
+}
+
+// Tells of a ref that no value writes.
+fn tell_untracked(
+    alloc: Global,
+    found: &Found<'_, '_>,
+    name: &[u8],
+    told: &mut Told,
+) -> Result<(), AllocError> {
+    told.status = 1;
+    let message = "No value of a remote writes this ref.";
+    if found.form == Form::Json {
+        return put_ref_note(alloc, &mut told.results, "untracked", name, message);
+    }
+    put_about(&mut told.messages, "", name, ": ")?;
+    told.messages.extend_from_slice(message.as_bytes())?;
+    told.messages.push(b'\n')?;
+    put_untracked_advice(alloc, &mut told.messages, found, name)
+}
+
+// Puts a line of advice on a ref that no value writes at the end: of a tracking ref how a value is added, or that a
+// negative one leaves it out; of a branch how its upstream is named.
+fn put_untracked_advice(
+    alloc: Global,
+    out: &mut Vec<u8>,
+    found: &Found<'_, '_>,
+    name: &[u8],
+) -> Result<(), AllocError> {
+    if let Some(path) = name.strip_prefix(b"refs/remotes/".as_slice()) {
+        if let Some((remote, branch)) = remote_above(path, found.values) {
+            if is_left_out(alloc, found.values, remote, branch)? {
+                put_about(out, "    A negative value of ", remote, " leaves ")?;
+                put_about(out, "refs/heads/", branch, " out.\n")?;
+            } else {
+                put_about(out, "    `git remote set-branches --add ", remote, " ")?;
+                put_about(out, "", branch, "` adds one.\n")?;
+            }
+        }
+    }
+    if let Some(branch) = name.strip_prefix(b"refs/heads/".as_slice()) {
+        if last_value(found.settings, b"branch", branch, b"merge").is_some() {
+            put_about(
+                out,
+                "    This is a branch of your own; for its upstream give ",
+                branch,
+                "@{upstream}.\n",
+            )?;
+        }
+    }
+    Ok(())
+}
+
+// Whether a negative value of a remote leaves a branch of it out.
+fn is_left_out<'a>(
+    alloc: Global,
+    values: &Values<'a>,
+    remote: &'a [u8],
+    branch: &[u8],
+) -> Result<bool, AllocError> {
+    let mut sources = Sources::new(alloc);
+    if let Some(values) = values.get(&remote) {
+        for value in values {
+            let text = value.value.unwrap_or(b"");
+            sources.add(alloc, text, false)?;
+        }
+    }
+    let source = joined(alloc, b"refs/heads/", branch, b"")?;
+    let names = Names::of_one(alloc, source.as_bytes())?;
+    for source in &sources.list {
+        if source.is_negative() && source.takes_some(alloc, &names)? {
+            return Ok(true);
+        }
+    }
+    Ok(false)
+}
+
+// Tells of a ref that several remotes write.
+fn tell_ambiguous(
+    alloc: Global,
+    form: Form,
+    name: &[u8],
+    writers: usize,
+    told: &mut Told,
+) -> Result<(), AllocError> {
+    told.status = 1;
+    let count = format!(in alloc; "git refspec: {writers} remotes write ")?;
+    let why = ", so Git refuses it as an upstream: it is ambiguous";
+    if form == Form::Json {
+        let message = format!(in alloc; "{writers} remotes write this ref{why}")?;
+        return put_ref_note(
+            alloc,
+            &mut told.results,
+            "ambiguous",
+            name,
+            message.as_str(),
+        );
+    }
+    put_about(&mut told.messages, count.as_str(), name, why)?;
+    Ok(told.messages.push(b'\n')?)
+}

@@ -1,0 +1,34 @@
+//! The page on usage.
+
+/// The synopses.
+pub const USAGE: &str = "usage: git refspec check [-v] [--push] [<remote> | <spec>]...
+   or: git refspec plan [<remote>] [<spec>...]
+   or: git refspec track <ref>...
+   or: git refspec prefixes [--patterns] [<remote>] [<spec>...]
+";
+
+/// What the commands and the options do, after the synopses.
+pub const OPTIONS: &str = "
+    check                 report each fetch or push value of a remote, or each spec, that is refused
+    plan                  tell what git fetch would write
+    track                 tell from which refs of which remote tracking refs are fetched
+    prefixes              list what to ask the server for
+
+    -z                    end each field with a zero byte
+    --json                write one JSON object a line, refusals too
+    --remote <name>       the remote, and all other words are specs
+    -v, --verbose         check: tell good values too
+    --push                check: the given specs are for a push
+    --patterns            prefixes: write patterns for git ls-remote
+    -h                    print this page
+    --help                show the manual
+    --version             print the version
+
+A first word is a remote if one is configured by that name, or a URL or a path; after -- it is a spec if in doubt.
+Without a remote, the one is taken that git fetch takes.
+The exit status is 0 if all is well, 1 if something is refused, conflicts, is missing or isn't found, 2 for a usage
+error, 3 if a file, a device or memory fails, and that of Git where Git fails.
+";
+
+/// The version.
+pub const VERSION: &str = "git refspec 0.45.1\n";

@@ -1,0 +1,272 @@
+//! The words of a call of `git refspec`, with options and other words in any order.
+
+use crate::refusal::Refusal;
+use bstr::ByteSlice;
+use refspec_run::call::Form;
+use std::alloc::{AllocError, Global};
+
+/// The commands of `git refspec`.
+#[derive(Clone, Copy, Debug, PartialEq, Eq)]
+pub enum Command {
+    /// Tells which values of remotes, or which specs, are refused.
+    Check,
+    /// Tells what a fetch writes.
+    Plan,
+    /// Tells from which refs of remotes tracking refs are fetched.
+    Track,
+    /// Lists what to ask a server for.
+    Prefixes,
+}
+
+/// What the words of a call ask for.
+#[derive(Debug, Drop)]
+pub enum Wish<'a> {
+    /// The page on usage.
+    Page,
+    /// The manual page.
+    Manual,
+    /// The version.
+    Version,
+    /// What a command tells.
+    Request(Request<'a>),
+}
+
+/// What is asked of a command.
+#[derive(Debug, Drop)]
+pub struct Request<'a> {
+    pub command: Command,
+    pub form: Form,
+    /// Good values are told too.
+    pub verbose: bool,
+    /// Given specs are for a push.
+    pub push: bool,
+    /// Prefixes are told as patterns.
+    pub patterns: bool,
+    /// The remote that `--remote` names.
+    pub remote: Option<&'a [u8]>,
+    /// The words that are neither the command nor options, in order.
+    pub words: Vec<&'a [u8]>,
+    /// How many of them stand before the first `--`, if there is one.
+    pub dashes: Option<usize>,
+}
+
+/// What the words of a call ask for. The first word that isn't an option is the command.
+pub fn wish_of<'a>(alloc: Global, words: &[&'a [u8]]) -> Result<Wish<'a>, Refusal<'a>> {
+    let mut reading = Reading::new(alloc);
+    for word in words {
+        reading.take(word)?;
+    }
+    reading.finish()
+}
+
+// An option without a value.
+#[derive(Clone, Copy, Debug, PartialEq, Eq)]
+enum Switch {
+    Zeros,
+    Json,
+    Verbose,
+    Push,
+    Patterns,
+    Page,
+    Manual,
+    Version,
+}
+
+// The option with a long name.
+fn switch_named(name: &[u8]) -> Option<Switch> {
+    match name {
+        b"--json" => Some(Switch::Json),
+        b"--verbose" => Some(Switch::Verbose),
+        b"--push" => Some(Switch::Push),
+        b"--patterns" => Some(Switch::Patterns),
+        b"--help" => Some(Switch::Manual),
+        b"--version" => Some(Switch::Version),
+        _ => None,
+    }
+}
+
+// The option with a letter.
+fn switch_lettered(letter: u8) -> Option<Switch> {
+    match letter {
+        b'z' => Some(Switch::Zeros),
+        b'v' => Some(Switch::Verbose),
+        b'h' => Some(Switch::Page),
+        _ => None,
+    }
+}
+
+// The command with a name.
+fn command_named(name: &[u8]) -> Option<Command> {
+    match name {
+        b"check" => Some(Command::Check),
+        b"plan" => Some(Command::Plan),
+        b"track" => Some(Command::Track),
+        b"prefixes" => Some(Command::Prefixes),
+        _ => None,
+    }
+}
+
+// What the words so far say.
+#[derive(Drop)]
+struct Reading<'a> {
+    command: Option<Command>,
+    zeros: bool,
+    json: bool,
+    verbose: bool,
+    push: bool,
+    patterns: bool,
+    page: bool,
+    manual: bool,
+    version: bool,
+    remote: Option<&'a [u8]>,
+    // Whether the next word is the value of `--remote`.
+    wants_remote: bool,
+    words: Vec<&'a [u8]>,
+    dashes: Option<usize>,
+}
+
+impl<'a> Reading<'a> {
+    fn new(alloc: Global) -> Reading<'a> {
+        Reading {
+            command: None,
+            zeros: false,
+            json: false,
+            verbose: false,
+            push: false,
+            patterns: false,
+            page: false,
+            manual: false,
+            version: false,
+            remote: None,
+            wants_remote: false,
+            words: Vec::new(alloc),
+            dashes: None,
+        }
+    }
+
+    // Takes the next word.
+    fn take(&mut self, word: &'a [u8]) -> Result<(), Refusal<'a>> {
+        if self.wants_remote {
+            self.wants_remote = false;
+            self.remote = Some(word);
+            return Ok(());
+        }
+        if self.dashes.is_some() {
+            return self.add_word(word);
+        }
+        match word {
+            b"--" => {
+                self.dashes = Some(self.words.len());
+                Ok(())
+            }
+            [b'-', b'-', ..] => self.take_long(word),
+            [b'-', letters @ ..] if !letters.is_empty() => self.take_letters(word, letters),
+            _ => self.add_word(word),
+        }
+    }
+
+    // Takes a word that isn't an option.
+    fn add_word(&mut self, word: &'a [u8]) -> Result<(), Refusal<'a>> {
+        if self.command.is_some() {
+            self.words.push(word)?;
+            return Ok(());
+        }
+        self.command = command_named(word);
+        if self.command.is_none() {
+            return Err(Refusal::NoSuchCommand(word));
+        }
+        Ok(())
+    }
+
+    // Takes an option with a long name.
+    fn take_long(&mut self, word: &'a [u8]) -> Result<(), Refusal<'a>> {
+        let (name, value) = match word.split_once_str(b"=") {
+            None => (word, None),
+            Some((name, value)) => (name, Some(value)),
+        };
+        if name == b"--remote".as_slice() {
+            self.remote = value;
+            self.wants_remote = value.is_none();
+            return Ok(());
+        }
+        match switch_named(name) {
+            None => Err(Refusal::NoSuchOption(word)),
+            Some(_) if value.is_some() => Err(Refusal::NeedlessValue(word)),
+            Some(switch) => {
+                self.set(switch);
+                Ok(())
+            }
+        }
+    }
+
+    // Takes options that are letters.
+    fn take_letters(&mut self, word: &'a [u8], letters: &[u8]) -> Result<(), Refusal<'a>> {
+        for letter in letters {
+            match switch_lettered(*letter) {
+                None => return Err(Refusal::NoSuchOption(word)),
+                Some(switch) => self.set(switch),
+            }
+        }
+        Ok(())
+    }
+
+    // Notes an option.
+    fn set(&mut self, switch: Switch) {
+        match switch {
+            Switch::Zeros => self.zeros = true,
+            Switch::Json => self.json = true,
+            Switch::Verbose => self.verbose = true,
+            Switch::Push => self.push = true,
+            Switch::Patterns => self.patterns = true,
+            Switch::Page => self.page = true,
+            Switch::Manual => self.manual = true,
+            Switch::Version => self.version = true,
+        }
+    }
+
+    // What all words say.
+    fn finish(self) -> Result<Wish<'a>, Refusal<'a>> {
+        if self.page {
+            return Ok(Wish::Page);
+        }
+        if self.manual {
+            return Ok(Wish::Manual);
+        }
+        if self.version {
+            return Ok(Wish::Version);
+        }
+        let Some(command) = self.command else {
+            return Err(Refusal::NoCommand);
+        };
+        if self.wants_remote || self.remote.is_some_and(|name| name.is_empty()) {
+            return Err(Refusal::NoRemoteName);
+        }
+        if self.verbose && command != Command::Check {
+            return Err(Refusal::OptionElsewhere("-v", "check"));
+        }
+        if self.push && command != Command::Check {
+            return Err(Refusal::OptionElsewhere("--push", "check"));
+        }
+        if self.patterns && command != Command::Prefixes {
+            return Err(Refusal::OptionElsewhere("--patterns", "prefixes"));
+        }
+        Ok(Wish::Request(Request {
+            command,
+            form: form_of(self.json, self.zeros),
+            verbose: self.verbose,
+            push: self.push,
+            patterns: self.patterns,
+            remote: self.remote,
+            words: self.words,
+            dashes: self.dashes,
+        }))
+    }
+}
+
+// How results are written. `--json` wins over `-z`.
+fn form_of(json: bool, zeros: bool) -> Form {
+    if json {
+        return Form::Json;
+    }
+    if zeros { Form::Zeros } else { Form::Lines }
+}
