@@ -31,7 +31,9 @@ pub fn command_line<'a>(alloc: Global) -> Result<clap::Command<'a>, AllocError> 
 fn git_line<'a>(alloc: Global) -> Result<clap::Command<'a>, AllocError> {
     clap::Command::new(alloc, "git")
         .hide(true)
-        .about("Answers a call of `git refspec`, whose words and whose repository are in the files of a folder")
+        .about(
+            "Answers a call of `git refspec`, whose words and whose repository are in the files of a folder",
+        )
         .arg(
             Arg::new(alloc, "folder")
                 .value_name("FOLDER")

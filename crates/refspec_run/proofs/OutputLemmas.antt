@@ -21,7 +21,6 @@ use Rattle.refspec_run.proofs.CanonLemmas.{ShowsCanonical-of}
 use Rattle.refspec_run.proofs.CheckedLemmas.{AddsIfRead-of, TellsRefused-of}
 use Rattle.refspec_run.proofs.MessageLemmas.{AreRefusals-of}
 
-
 -- what was found, or else the refusals
 found_or_refused : (Adds : List Reading → List ℕ → List ℕ → Type 0) (call : Call) (before messages : List ℕ) (refused : Bool) (texts : List Text) (all : List Checked) (new : List ℕ) → AllZip IsChecked texts all → before ≡ [] → AddsIfGood Adds (TellsRefusals call.form all before messages) call.form refused all [] new → AddsIfRead Adds (AreRefusals call.form (map given_of texts) messages) call.form refused (map given_of texts) [] new
 found_or_refused Adds call before messages refused texts all new read none told =

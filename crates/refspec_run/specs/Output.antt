@@ -17,7 +17,6 @@ use Rattle.refspec_run.specs.Read.{AddsIfGood, AddsIfRead, AreGood, HasBad, Tell
 use Rattle.refspec_run.specs.Texts.{AreTexts, Given, said}
 use Rattle.refspec_run.specs.Track.{AddsTracked}
 
-
 -- the results grew by what a command tells of specs that are read so, and whether something is refused
 abbrev pub AddsFound : Command → Call → List ℕ → Form → List ℕ → Bool → List Reading → List ℕ → List ℕ → Type 0
 AddsFound command.Plan call input form messages refused g old new = AddsPlan form (end_byte call.ends) input messages refused g old new

@@ -19,12 +19,22 @@ use Rattle.refspec_run.proofs.facts.ReadFacts.{bad, good, head, main}
 
 -- an empty text of a fetch is `HEAD`; a text that is refused is left out, and what is behind it isn't
 pub canonical : AreCanonical ((Fetch, []) ∷ (Fetch, codes "a b") ∷ (Fetch, codes "main") ∷ [])
-        (codes "HEAD" ∷ codes "main" ∷ [])
+    (codes "HEAD" ∷ codes "main" ∷ [])
     × AreCanonical [] []
 canonical = (
-  inl (head, codes "HEAD", codes "main" ∷ [], fetches_head.0, refl,
-      inr (ReferenceName (InvalidByte 32), bad_sources.0,
-      inl (main, codes "main", [], fetches_main.0, refl, refl, refl)), refl),
+  inl (
+    head,
+    codes "HEAD",
+    codes "main" ∷ [],
+    fetches_head.0,
+    refl,
+    inr (
+      ReferenceName (InvalidByte 32),
+      bad_sources.0,
+      inl (main, codes "main", [], fetches_main.0, refl, refl, refl),
+    ),
+    refl,
+  ),
   refl,
 )
 
@@ -44,9 +54,9 @@ not_canonical = (refused, left_out, as_given)
     as_given : ¬ (AreCanonical ((Fetch, []) ∷ []) ([] ∷ []))
     as_given (inl (r, name, rest, reads, prints, none, same)) =
         let is : codes "HEAD" ≡ name =
-            some_once (codes "HEAD") name (ap printed (reads_once Fetch [] head r fetches_head.0 reads) ∙ prints) in
+        some_once (codes "HEAD") name (ap printed (reads_once Fetch [] head r fetches_head.0 reads) ∙ prints) in
         other_byte 0 (codes "HEAD") [] (λ byte. omega (arith, byte)) (is
-            ∙ sym (ap (λ (l : List (List ℕ)). get_or l 0 []) same))
+        ∙ sym (ap (λ (l : List (List ℕ)). get_or l 0 []) same))
     as_given (inr (e, is, none)) = is.unread head fetches_head.0
 
 -- likewise of texts that were checked, in lines and ended by zero bytes
@@ -72,6 +82,9 @@ module _ (accepted : Accepted Fetch mode.Normal (Some (codes "main")) None) wher
     where
       lost : ¬ (AddsCanonical form.Zeros (good accepted ∷ []) [] [])
       lost (names, (name, rest, prints, none, same), adds) =
-          omega (arith, ap length (adds
-              ∙ ap (flat_map zero_ended) (same
-              ∙ ap (λ (x : List ℕ). x ∷ rest) (sym (some_once (codes "main") name prints)))))
+          omega (
+            arith,
+            ap length (adds
+                ∙ ap (flat_map zero_ended) (same
+                ∙ ap (λ (x : List ℕ). x ∷ rest) (sym (some_once (codes "main") name prints)))),
+          )

@@ -17,12 +17,22 @@ abbrev tags_text : List ℕ
 tags_text = codes "refs/tags/*:refs/x/*"
 
 heads_claim : IsClaim (codes "refs/heads/a") heads_text (codes "    refs/heads/a by refs/heads/*:refs/x/*\n")
-heads_claim = record { first = codes "refs/heads/a"; second = heads_text; is_first = inl refl; is_second = inl refl;
-    is = refl }
+heads_claim = record {
+  first = codes "refs/heads/a";
+  second = heads_text;
+  is_first = inl refl;
+  is_second = inl refl;
+  is = refl;
+}
 
 tags_claim : IsClaim (codes "refs/tags/a") tags_text (codes "    refs/tags/a by refs/tags/*:refs/x/*\n")
-tags_claim = record { first = codes "refs/tags/a"; second = tags_text; is_first = inl refl; is_second = inl refl;
-    is = refl }
+tags_claim = record {
+  first = codes "refs/tags/a";
+  second = tags_text;
+  is_first = inl refl;
+  is_second = inl refl;
+  is = refl;
+}
 
 -- a source and its spec, each quoted where it has to be
 pub claims : IsClaim (codes "refs/heads/a") heads_text (codes "    refs/heads/a by refs/heads/*:refs/x/*\n")
@@ -42,10 +52,16 @@ one_of_four : (source text line : List ℕ) → IsClaim source text line
     → ((line ≡ claim_line source text) ⊎ (line ≡ claim_line source (in_quotes text)))
     ⊎ ((line ≡ claim_line (in_quotes source) text) ⊎ (line ≡ claim_line (in_quotes source) (in_quotes text)))
 one_of_four source text line is = elim is.is_first [
-  | inl raw ↦ inl (elim is.is_second [ inl plain ↦ inl (is.is ∙ ap₂ claim_line raw plain) | inr quoted ↦ inr (is.is
-      ∙ ap₂ claim_line raw quoted) ])
-  | inr raw ↦ inr (elim is.is_second [ inl plain ↦ inl (is.is ∙ ap₂ claim_line raw plain) | inr quoted ↦ inr (is.is
-      ∙ ap₂ claim_line raw quoted) ])
+  | inl raw ↦ inl (elim is.is_second [
+    | inl plain ↦ inl (is.is ∙ ap₂ claim_line raw plain)
+    | inr quoted ↦ inr (is.is
+        ∙ ap₂ claim_line raw quoted)
+  ])
+  | inr raw ↦ inr (elim is.is_second [
+    | inl plain ↦ inl (is.is ∙ ap₂ claim_line raw plain)
+    | inr quoted ↦ inr (is.is
+        ∙ ap₂ claim_line raw quoted)
+  ])
 ]
 
 -- the spec isn't before its source, nor is another one's text behind it
@@ -54,16 +70,24 @@ pub no_claims : ¬ (IsClaim (codes "refs/heads/a") heads_text (codes "    refs/h
     × ¬ (IsClaim (codes "refs/heads/a") heads_text (codes "refs/heads/a by refs/heads/*:refs/x/*\n"))
 no_claims = (
   (λ is. elim (one_of_four _ _ _ is) [
-    | inl plain ↦ elim plain [ inl same ↦ omega (arith, ap (λ (l : List ℕ). get_or l 15 0) same)
-        | inr same ↦ omega (arith, ap (λ (l : List ℕ). get_or l 15 0) same) ]
-    | inr quoted ↦ elim quoted [ inl same ↦ omega (arith, ap (λ (l : List ℕ). get_or l 4 0) same)
-        | inr same ↦ omega (arith, ap (λ (l : List ℕ). get_or l 4 0) same) ]
+    | inl plain ↦ elim plain [
+      | inl same ↦ omega (arith, ap (λ (l : List ℕ). get_or l 15 0) same)
+      | inr same ↦ omega (arith, ap (λ (l : List ℕ). get_or l 15 0) same)
+    ]
+    | inr quoted ↦ elim quoted [
+      | inl same ↦ omega (arith, ap (λ (l : List ℕ). get_or l 4 0) same)
+      | inr same ↦ omega (arith, ap (λ (l : List ℕ). get_or l 4 0) same)
+    ]
   ]),
   (λ is. elim (one_of_four _ _ _ is) [
-    | inl plain ↦ elim plain [ inl same ↦ omega (arith, ap (λ (l : List ℕ). get_or l 25 0) same)
-        | inr same ↦ omega (arith, ap (λ (l : List ℕ). get_or l 20 0) same) ]
-    | inr quoted ↦ elim quoted [ inl same ↦ omega (arith, ap (λ (l : List ℕ). get_or l 4 0) same)
-        | inr same ↦ omega (arith, ap (λ (l : List ℕ). get_or l 4 0) same) ]
+    | inl plain ↦ elim plain [
+      | inl same ↦ omega (arith, ap (λ (l : List ℕ). get_or l 25 0) same)
+      | inr same ↦ omega (arith, ap (λ (l : List ℕ). get_or l 20 0) same)
+    ]
+    | inr quoted ↦ elim quoted [
+      | inl same ↦ omega (arith, ap (λ (l : List ℕ). get_or l 4 0) same)
+      | inr same ↦ omega (arith, ap (λ (l : List ℕ). get_or l 4 0) same)
+    ]
   ]),
   λ is. other_byte 0 (codes "refs/heads/a by refs/heads/*:refs/x/*\n")
       (codes "    " ++ (is.first ++ (codes " by " ++ (is.second ++ (10 ∷ []))))) (λ byte. omega (arith, byte)) is.is,
@@ -71,19 +95,24 @@ no_claims = (
 
 -- each source has the text at its place, and the place of the first may be another one
 pub each : AreClaims 0 (name (codes "refs/heads/a") ∷ name (codes "refs/tags/a") ∷ []) (heads_text ∷ tags_text ∷ [])
-        (codes "    refs/heads/a by refs/heads/*:refs/x/*\n    refs/tags/a by refs/tags/*:refs/x/*\n")
+    (codes "    refs/heads/a by refs/heads/*:refs/x/*\n    refs/tags/a by refs/tags/*:refs/x/*\n")
     × AreClaims 1 (name (codes "refs/tags/a") ∷ []) (heads_text ∷ tags_text ∷ [])
-        (codes "    refs/tags/a by refs/tags/*:refs/x/*\n") × AreClaims 0 [] (heads_text ∷ []) []
+    (codes "    refs/tags/a by refs/tags/*:refs/x/*\n") × AreClaims 0 [] (heads_text ∷ []) []
 each = (
-  (codes "    refs/heads/a by refs/heads/*:refs/x/*\n", codes "    refs/tags/a by refs/tags/*:refs/x/*\n", heads_claim,
-      (codes "    refs/tags/a by refs/tags/*:refs/x/*\n", [], tags_claim, refl, refl), refl),
+  (
+    codes "    refs/heads/a by refs/heads/*:refs/x/*\n",
+    codes "    refs/tags/a by refs/tags/*:refs/x/*\n",
+    heads_claim,
+    (codes "    refs/tags/a by refs/tags/*:refs/x/*\n", [], tags_claim, refl, refl),
+    refl,
+  ),
   (codes "    refs/tags/a by refs/tags/*:refs/x/*\n", [], tags_claim, refl, refl),
   refl,
 )
 
 -- the text at another place isn't that of a source, and no source is left out
 pub not_each : ¬ (AreClaims 0 (name (codes "refs/heads/a") ∷ []) (tags_text ∷ heads_text ∷ [])
-        (codes "    refs/heads/a by refs/heads/*:refs/x/*\n"))
+    (codes "    refs/heads/a by refs/heads/*:refs/x/*\n"))
     × ¬ (AreClaims 0 (name (codes "refs/heads/a") ∷ []) (heads_text ∷ []) [])
 not_each = (
   (λ are. no_claims.1 (subst (IsClaim (codes "refs/heads/a") tags_text) (sym (are.4
@@ -92,11 +121,14 @@ not_each = (
 )
 
 pub claims_put : PutsClaims (name (codes "refs/tags/a") ∷ []) (tags_text ∷ []) (codes "x\n")
-        (codes "x\n    refs/tags/a by refs/tags/*:refs/x/*\n")
+    (codes "x\n    refs/tags/a by refs/tags/*:refs/x/*\n")
     × ¬ (PutsClaims [] [] (codes "x\n") [])
 claims_put = (
-  (codes "    refs/tags/a by refs/tags/*:refs/x/*\n",
-      (codes "    refs/tags/a by refs/tags/*:refs/x/*\n", [], tags_claim, refl, refl), refl),
+  (
+    codes "    refs/tags/a by refs/tags/*:refs/x/*\n",
+    (codes "    refs/tags/a by refs/tags/*:refs/x/*\n", [], tags_claim, refl, refl),
+    refl,
+  ),
   λ puts. omega (arith, ap length puts.2),
 )
 
@@ -131,21 +163,25 @@ told = record {
 
 -- neither another destination is told, nor nothing
 pub not_told : ¬ (IsToldConflict conflict
-        (codes "conflict: refs/x/b would be written from several refs, so nothing is fetched:\n" ++ advice))
+    (codes "conflict: refs/x/b would be written from several refs, so nothing is fetched:\n" ++ advice))
     × ¬ (IsToldConflict conflict [])
 not_told = (other, λ is. omega (arith, ap length is.is))
   where
     other : ¬ (IsToldConflict conflict
-            (codes "conflict: refs/x/b would be written from several refs, so nothing is fetched:\n" ++ advice))
+        (codes "conflict: refs/x/b would be written from several refs, so nothing is fetched:\n" ++ advice))
     other is =
         let after = codes " would be written from several refs, so nothing is fetched:\n" ++ (is.claims ++ is.advice) in
         elim is.destination [
-          | inl plain ↦ omega (arith,
-              ap (λ (l : List ℕ). get_or l 17 0) (is.is
-              ∙ ap (λ (s : List ℕ). codes "conflict: " ++ (s ++ after)) plain))
-          | inr quoted ↦ omega (arith,
-              ap (λ (l : List ℕ). get_or l 10 0) (is.is
-              ∙ ap (λ (s : List ℕ). codes "conflict: " ++ (s ++ after)) quoted))
+          | inl plain ↦ omega (
+            arith,
+            ap (λ (l : List ℕ). get_or l 17 0) (is.is
+                ∙ ap (λ (s : List ℕ). codes "conflict: " ++ (s ++ after)) plain),
+          )
+          | inr quoted ↦ omega (
+            arith,
+            ap (λ (l : List ℕ). get_or l 10 0) (is.is
+                ∙ ap (λ (s : List ℕ). codes "conflict: " ++ (s ++ after)) quoted),
+          )
         ]
 
 -- nor is one told without its sources
@@ -154,27 +190,37 @@ unclaimed is =
     let after = codes " would be written from several refs, so nothing is fetched:\n" ++ (is.claims ++ is.advice) in
     elim is.destination [
       | inl plain ↦ sources is.claims is.each (is.is ∙ ap (λ (s : List ℕ). codes "conflict: " ++ (s ++ after)) plain)
-      | inr quoted ↦ omega (arith,
-          ap (λ (l : List ℕ). get_or l 10 0) (is.is ∙ ap (λ (s : List ℕ). codes "conflict: " ++ (s ++ after)) quoted))
+      | inr quoted ↦ omega (
+        arith,
+        ap (λ (l : List ℕ). get_or l 10 0) (is.is ∙ ap (λ (s : List ℕ). codes "conflict: " ++ (s ++ after)) quoted),
+      )
     ]
   where
     sources : (claims : List ℕ) → AreClaims 0 conflict.sources conflict.texts claims
         → ¬ (head_line ++ advice ≡ head_line ++ (claims ++ is.advice))
     sources claims (line, rest, claim, more, all) same =
         let told = append_cancel_left head_line advice (claims ++ is.advice) same
-            ∙ ap (λ (l : List ℕ). l ++ is.advice) all in
+        ∙ ap (λ (l : List ℕ). l ++ is.advice) all in
         elim (one_of_four (codes "refs/heads/a") heads_text line claim) [
           | inl raw ↦ elim raw [
-            | inl same ↦ omega (arith,
-                ap (λ (l : List ℕ). get_or l 4 0) (told ∙ ap (λ (l : List ℕ). (l ++ rest) ++ is.advice) same))
-            | inr same ↦ omega (arith,
-                ap (λ (l : List ℕ). get_or l 4 0) (told ∙ ap (λ (l : List ℕ). (l ++ rest) ++ is.advice) same))
+            | inl same ↦ omega (
+              arith,
+              ap (λ (l : List ℕ). get_or l 4 0) (told ∙ ap (λ (l : List ℕ). (l ++ rest) ++ is.advice) same),
+            )
+            | inr same ↦ omega (
+              arith,
+              ap (λ (l : List ℕ). get_or l 4 0) (told ∙ ap (λ (l : List ℕ). (l ++ rest) ++ is.advice) same),
+            )
           ]
           | inr quoted ↦ elim quoted [
-            | inl same ↦ omega (arith,
-                ap (λ (l : List ℕ). get_or l 4 0) (told ∙ ap (λ (l : List ℕ). (l ++ rest) ++ is.advice) same))
-            | inr same ↦ omega (arith,
-                ap (λ (l : List ℕ). get_or l 4 0) (told ∙ ap (λ (l : List ℕ). (l ++ rest) ++ is.advice) same))
+            | inl same ↦ omega (
+              arith,
+              ap (λ (l : List ℕ). get_or l 4 0) (told ∙ ap (λ (l : List ℕ). (l ++ rest) ++ is.advice) same),
+            )
+            | inr same ↦ omega (
+              arith,
+              ap (λ (l : List ℕ). get_or l 4 0) (told ∙ ap (λ (l : List ℕ). (l ++ rest) ++ is.advice) same),
+            )
           ]
         ]
 
@@ -194,9 +240,11 @@ all_told = (
 pub none_lost : ¬ (AddsConflicts form.Lines (conflict ∷ []) (codes "x\n") (codes "x\n"))
     × ¬ (AddsConflicts form.Lines [] (codes "x\n") []) × ¬ (AddsConflicts form.Zeros (conflict ∷ []) [] [])
 none_lost = (
-  (λ adds. omega (arith,
-      ap length (adds.2
-      ∙ ap (λ (l : List ℕ). codes "x\n" ++ l) (adds.1.4 ∙ ap (λ (l : List ℕ). l ++ adds.1.1) adds.1.2.is)))),
+  (λ adds. omega (
+    arith,
+    ap length (adds.2
+        ∙ ap (λ (l : List ℕ). codes "x\n" ++ l) (adds.1.4 ∙ ap (λ (l : List ℕ). l ++ adds.1.1) adds.1.2.is)),
+  )),
   (λ adds. omega (arith, ap length adds.2)),
   λ adds. omega (arith, ap length (adds.2 ∙ (adds.1.4 ∙ ap (λ (l : List ℕ). l ++ adds.1.1) adds.1.2.is))),
 )

@@ -50,8 +50,10 @@ one_record = (
 pub records : AreRecords 10 (codes "a\r" ∷ codes "b" ∷ []) (codes "a\r\nb")
     × AreRecords 0 (codes "a\r\nb" ∷ []) (codes "a\r\nb" ++ 0 ∷ [])
 records = (
-  (Lacks-tested 10 (codes "a\r") refl,
-      inl (codes "b", refl, (Lacks-tested 10 (codes "b") refl, inr (full _ _, refl, refl)))),
+  (
+    Lacks-tested 10 (codes "a\r") refl,
+    inl (codes "b", refl, (Lacks-tested 10 (codes "b") refl, inr (full _ _, refl, refl))),
+  ),
   (Lacks-tested 0 (codes "a\r\nb") refl, inl ([], refl, refl)),
 )
 
@@ -68,8 +70,10 @@ empty_records = (
 pub no_other_records : ¬ (AreRecords 10 (codes "a" ∷ [] ∷ []) (codes "a\n")) × ¬ (AreRecords 10 ([] ∷ []) [])
     × ¬ (AreRecords 10 (codes "a\n" ∷ []) (codes "a\n")) × ¬ (AreRecords 10 (codes "a\nb" ∷ []) (codes "a\nb"))
 no_other_records = (
-  (λ cut. omega (arith,
-      ap length (records_once 10 (codes "a" ∷ [] ∷ []) (codes "a" ∷ []) (codes "a\n") cut one_record.0))),
+  (λ cut. omega (
+    arith,
+    ap length (records_once 10 (codes "a" ∷ [] ∷ []) (codes "a" ∷ []) (codes "a\n") cut one_record.0),
+  )),
   (λ cut. omega (arith, ap length (records_once 10 ([] ∷ []) [] [] cut empty_records.2))),
   (λ cut. Lacks-here 10 (codes "a") [] cut.0),
   λ cut. Lacks-here 10 (codes "a") (codes "b") cut.0,

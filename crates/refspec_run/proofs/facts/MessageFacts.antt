@@ -77,7 +77,7 @@ reason = record { at = codes "spec 2"; text = codes "a..b"; is_spot = refl; is_t
 -- a line has the place, the text and the sentence on the fault
 pub reasons : IsReasonLine (given_of dots) fault dots_line
     × IsReasonLine (given_of (record dots { bytes = text (codes "a\t..") })) fault
-        (codes "spec 2: \"a\\t..\": A ref name must not have two dots in a row.\n")
+    (codes "spec 2: \"a\\t..\": A ref name must not have two dots in a row.\n")
 unfolding digits
 reasons = (
   reason,
@@ -103,16 +103,28 @@ no_reasons = (other_sentence, other_place, other_text)
     ]
 
     other_sentence : ¬ (IsReasonLine (given_of dots) fault (codes "spec 2: a..b: A ref name must not end with a dot.\n"))
-    other_sentence is = elim (begins _ is) [ inl same ↦ omega (arith, ap length same) | inr same ↦ omega (arith,
-        ap length same) ]
+    other_sentence is = elim (begins _ is) [
+      | inl same ↦ omega (arith, ap length same)
+      | inr same ↦ omega (
+        arith,
+        ap length same,
+      )
+    ]
 
     other_place : ¬ (IsReasonLine (given_of dots) fault (codes "spec 1: a..b: A ref name must not have two dots in a row.\n"))
-    other_place is = elim (begins _ is) [ inl same ↦ omega (arith, ap (λ (l : List ℕ). get_or l 5 0) same)
-        | inr same ↦ omega (arith, ap (λ (l : List ℕ). get_or l 5 0) same) ]
+    other_place is = elim (begins _ is) [
+      | inl same ↦ omega (arith, ap (λ (l : List ℕ). get_or l 5 0) same)
+      | inr same ↦ omega (arith, ap (λ (l : List ℕ). get_or l 5 0) same)
+    ]
 
     other_text : ¬ (IsReasonLine (given_of dots) fault (codes "spec 2: a..: A ref name must not have two dots in a row.\n"))
-    other_text is = elim (begins _ is) [ inl same ↦ omega (arith, ap length same) | inr same ↦ omega (arith,
-        ap length same) ]
+    other_text is = elim (begins _ is) [
+      | inl same ↦ omega (arith, ap length same)
+      | inr same ↦ omega (
+        arith,
+        ap length same,
+      )
+    ]
 
 -- the line is behind what was there, and more is behind it; in lines and beside records it is told
 pub refused : PutsReason dots fault (codes "x\n") (codes "x\n" ++ dots_line)
@@ -136,8 +148,11 @@ not_refused = (
 )
   where
     long : (line : List ℕ) → IsReasonLine (given_of dots) fault line → 0 < length line
-    long line is = omega (arith, ap length is.is,
-        length-append is.at (codes ": " ++ (is.text ++ (codes ": " ++ (explained fault ++ (10 ∷ []))))))
+    long line is = omega (
+      arith,
+      ap length is.is,
+      length-append is.at (codes ": " ++ (is.text ++ (codes ": " ++ (explained fault ++ (10 ∷ []))))),
+    )
 
 -- ---- the refusals of a run
 

@@ -33,8 +33,11 @@ texts = numbered (word_at Fetch) 1 ([] ∷ codes "a b" ∷ codes "main" ∷ [])
 pub shown : ShowsCanonical form.Lines texts (codes "HEAD\nmain\n")
     × ShowsCanonical form.Zeros texts ((codes "HEAD" ++ 0 ∷ []) ++ (codes "main" ++ 0 ∷ []))
 shown = (
-  (codes "HEAD" ∷ codes "main" ∷ [], canonical.0,
-      (codes "HEAD\nmain\n", (codes "HEAD", codes "main\n", inl refl, (codes "main", [], inl refl, refl, refl), refl), refl)),
+  (
+    codes "HEAD" ∷ codes "main" ∷ [],
+    canonical.0,
+    (codes "HEAD\nmain\n", (codes "HEAD", codes "main\n", inl refl, (codes "main", [], inl refl, refl, refl), refl), refl),
+  ),
   (codes "HEAD" ∷ codes "main" ∷ [], canonical.0, refl),
 )
 

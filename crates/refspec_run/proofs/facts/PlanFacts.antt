@@ -50,17 +50,21 @@ whole o e = (refl, (λ same. omega (arith, ap length same)), λ none. none)
 -- what survives a validation is written: a destination that is no full name is not
 pub writes : (o : ForwardOutcome) → mappings_of o ≡ tag_to_x ∷ tag_alone ∷ []
     → Writes both_to_x (tag_to_x ∷ tag_to_foo ∷ tag_alone ∷ []) (written.Mappings o)
-writes o are = (foo_fix ∷ [],
-    subst (λ (l : List Mapped). IsValidated both_to_x (tag_to_x ∷ tag_to_foo ∷ tag_alone ∷ []) l (foo_fix ∷ []))
-    (sym are) validated)
+writes o are = (
+  foo_fix ∷ [],
+  subst (λ (l : List Mapped). IsValidated both_to_x (tag_to_x ∷ tag_to_foo ∷ tag_alone ∷ []) l (foo_fix ∷ []))
+      (sym are) validated,
+)
 
 -- of two sources for one destination nothing is, and their conflict is told
 pub writes_nothing : (e : Error) → (conflicts_of e ≡ conflict ∷ [] → Writes both_to_x meeting (written.Nothing e))
     × (conflicts_of e ≡ [] → ¬ (Writes both_to_x meeting (written.Nothing e)))
     × ((o : ForwardOutcome) → ¬ (Writes both_to_x meeting (written.Mappings o)))
 writes_nothing e = (
-  (λ are. ((λ none. omega (arith, ap length (sym none ∙ are))),
-      subst (AreConflicts both_to_x meeting) (sym are) conflicts_at_x)),
+  (λ are. (
+    (λ none. omega (arith, ap length (sym none ∙ are))),
+    subst (AreConflicts both_to_x meeting) (sym are) conflicts_at_x,
+  )),
   (λ none writes. writes.0 none),
   λ o writes. no_less.1 (mappings_of o) writes.0 writes.1,
 )
@@ -81,13 +85,17 @@ main_mapping = tracked 2 (codes "main")
 main_named : IsNamed main_mapping
 main_named = record {
   source = inl (record { after = codes "heads/main"; here = refl }, IsName-tested (codes "refs/heads/main") refl);
-  destination = inl (record { after = codes "remotes/origin/main"; here = refl },
-      IsName-tested (codes "refs/remotes/origin/main") refl);
+  destination = inl (
+    record { after = codes "remotes/origin/main"; here = refl },
+    IsName-tested (codes "refs/remotes/origin/main") refl,
+  );
 }
 
 main_kept : KeepsNamed (main_mapping ∷ []) (main_mapping ∷ []) []
-main_kept = record { named = (Some main_mapping, [], (refl, main_named), refl, refl);
-    others = (None, [], (λ out is. bad_unnamed out.side main_mapping is.bad main_named), refl, refl) }
+main_kept = record {
+  named = (Some main_mapping, [], (refl, main_named), refl, refl);
+  others = (None, [], (λ out is. bad_unnamed out.side main_mapping is.bad main_named), refl, refl);
+}
 
 main_survives : Survives main_mapping
 main_survives = inl (record { after = codes "remotes/origin/main"; here = refl })
@@ -96,16 +104,21 @@ main_valid : IsValidated group (main_mapping ∷ []) (main_mapping ∷ []) []
 main_valid = record {
   free = no_conflicts group (main_mapping ∷ []) one_source;
   survive = (Some main_mapping, [], (refl, main_survives), refl, refl);
-  fixed = (None, [], (λ fix is. is.unwritable
-      (subst IsWritable (some_once (codes "refs/remotes/origin/main") fix.destination is.goes) main_survives)), refl,
-      refl);
+  fixed = (
+    None,
+    [],
+    (λ fix is. is.unwritable
+        (subst IsWritable (some_once (codes "refs/remotes/origin/main") fix.destination is.goes) main_survives)),
+    refl,
+    refl,
+  );
 }
   where
     one_source : (d : List ℕ) → ¬ (HasConflictAt (main_mapping ∷ []) d)
     one_source d contested =
         let only = of_element (λ m. m ≡ main_mapping) (main_mapping ∷ []) in
         contested.differ (ap (λ (m : Mapped). m.source) (only contested.one (refl, tt) contested.has_one
-            ∙ sym (only contested.other (refl, tt) contested.has_other)))
+        ∙ sym (only contested.other (refl, tt) contested.has_other)))
 
 -- whatever ids the refs of these names have, the one mapping is the plan
 pub plan : (o : ForwardOutcome) → mappings_of o ≡ main_mapping ∷ [] → IsPlanByNames group refs (written.Mappings o) []
@@ -120,9 +133,11 @@ plan o are items same = record {
 -- it isn't lost, nor left out
 pub other_plans : (o : ForwardOutcome) → (mappings_of o ≡ [] → ¬ (IsPlan group refs (written.Mappings o) []))
     × ((made : Written) → ¬ (IsPlan group refs made (left ∷ [])))
-other_plans o = ((λ none plan. lost plan.named (parted plan.kept plan.named [] plan.matched plan.parted).named
-    (mappings_of o) none plan.writes.1.survive),
-    λ made plan. not_out (parted plan.kept plan.named (left ∷ []) plan.matched plan.parted).others)
+other_plans o = (
+  (λ none plan. lost plan.named (parted plan.kept plan.named [] plan.matched plan.parted).named
+      (mappings_of o) none plan.writes.1.survive),
+  λ made plan. not_out (parted plan.kept plan.named (left ∷ []) plan.matched plan.parted).others,
+)
   where
     parted : (kept named : List Mapped) (out : List LeftOut) → AreKeptForward group refs kept
         → KeepsNamed kept named out → KeepsNamed (main_mapping ∷ []) named out
@@ -136,9 +151,9 @@ other_plans o = ((λ none plan. lost plan.named (parted plan.kept plan.named [] 
     lost named (Some m, more, (is, also), none, same) rest empty survive =
         let all : named ≡ main_mapping ∷ more = same ∙ ap (λ (x : Mapped). x ∷ more) is in
         nothing_made (λ k m made. (made ≡ m)
-            × Survives m) 0 [] main_mapping more main_mapping
-            (subst (AreSurvivors (main_mapping ∷ more)) empty
-            (subst (λ (l : List Mapped). AreSurvivors l rest) all survive)) (refl, main_survives)
+        × Survives m) 0 [] main_mapping more main_mapping
+        (subst (AreSurvivors (main_mapping ∷ more)) empty
+        (subst (λ (l : List Mapped). AreSurvivors l rest) all survive)) (refl, main_survives)
 
     not_out : ¬ (AreLeftOut (main_mapping ∷ []) (left ∷ []))
     not_out (None, rest, unmade, none, same) = omega (arith, ap length (same ∙ none))
@@ -154,10 +169,16 @@ pub told_of : (o : ForwardOutcome) (e : Error)
     → AddsWritten form.Lines texts (written.Nothing e) (codes "x\n") (codes "x\n" ++ told_lines) [] [])
 told_of o e = (
   (λ are. subst (λ (l : List Mapped). AddsMappings form.Lines columns.SourceFirst texts l (codes "x\n")
-      (codes "x\nHEAD  FETCH_HEAD  HEAD\n")) (sym are) (codes "HEAD  FETCH_HEAD  HEAD\n",
-      (codes "HEAD  FETCH_HEAD  HEAD\n", [], alone_line, refl, refl), refl)),
-  λ are. (refl, subst (λ (l : List Conflict). AddsConflicts form.Lines l (codes "x\n") (codes "x\n" ++ told_lines))
-      (sym are) all_told.2),
+      (codes "x\nHEAD  FETCH_HEAD  HEAD\n")) (sym are) (
+        codes "HEAD  FETCH_HEAD  HEAD\n",
+        (codes "HEAD  FETCH_HEAD  HEAD\n", [], alone_line, refl, refl),
+        refl,
+      )),
+  λ are. (
+    refl,
+    subst (λ (l : List Conflict). AddsConflicts form.Lines l (codes "x\n") (codes "x\n" ++ told_lines))
+        (sym are) all_told.2,
+  ),
 )
 
 pub not_told_of : (o : ForwardOutcome) (e : Error)
@@ -176,9 +197,9 @@ not_told_of o e = (
 -- the records of an input, which is a list of refs, tell a plan
 pub planned : (o : ForwardOutcome) → mappings_of o ≡ main_mapping ∷ []
     → AddsPlan form.Lines 10
-        (line_of dev_ref.name ++
-        (10 ∷ (line_of tag_ref.name ++ (10 ∷ (line_of main_ref.name ++ (10 ∷ (line_of main_ref.name ++ (10 ∷ []))))))))
-        [] false group [] (codes "refs/heads/main  refs/remotes/origin/main  +refs/heads/*:refs/remotes/origin/*\n")
+    (line_of dev_ref.name ++
+    (10 ∷ (line_of tag_ref.name ++ (10 ∷ (line_of main_ref.name ++ (10 ∷ (line_of main_ref.name ++ (10 ∷ []))))))))
+    [] false group [] (codes "refs/heads/main  refs/remotes/origin/main  +refs/heads/*:refs/remotes/origin/*\n")
 planned o are = record {
   records = line_of dev_ref.name ∷ line_of tag_ref.name ∷ line_of main_ref.name ∷ line_of main_ref.name ∷ [];
   items = blob_ref dev_ref.name ∷ blob_ref tag_ref.name ∷ blob_ref main_ref.name ∷ blob_ref main_ref.name ∷ [];
@@ -191,32 +212,72 @@ planned o are = record {
   second = [];
   malformed = refl;
   left_out = refl;
-  cut = (Lacks-tested 10 (line_of dev_ref.name) refl,
-      inl (_, refl, (Lacks-tested 10 (line_of tag_ref.name) refl,
-      inl (_, refl, (Lacks-tested 10 (line_of main_ref.name) refl,
-      inl (_, refl, (Lacks-tested 10 (line_of main_ref.name) refl, inl ([], refl, refl))))))));
+  cut = (
+    Lacks-tested 10 (line_of dev_ref.name) refl,
+    inl (
+      _,
+      refl,
+      (
+        Lacks-tested 10 (line_of tag_ref.name) refl,
+        inl (
+          _,
+          refl,
+          (
+            Lacks-tested 10 (line_of main_ref.name) refl,
+            inl (_, refl, (Lacks-tested 10 (line_of main_ref.name) refl, inl ([], refl, refl))),
+          ),
+        ),
+      ),
+    ),
+  );
   refs = (
-    _, [], [], inl (_, ref_line dev_ref.name (λ same. omega (arith, same)), refl, refl), (
-      _, [], [], inl (_, ref_line tag_ref.name (λ same. omega (arith, same)), refl, refl), (
-        _, [], [], inl (_, ref_line main_ref.name (λ same. omega (arith, same)), refl, refl), (
-          _, [], [], inl (_, ref_line main_ref.name (λ same. omega (arith, same)), refl, refl), (refl, refl), refl,
-        ), refl,
-      ), refl,
-    ), refl,
+    _,
+    [],
+    [],
+    inl (_, ref_line dev_ref.name (λ same. omega (arith, same)), refl, refl),
+    (
+      _,
+      [],
+      [],
+      inl (_, ref_line tag_ref.name (λ same. omega (arith, same)), refl, refl),
+      (
+        _,
+        [],
+        [],
+        inl (_, ref_line main_ref.name (λ same. omega (arith, same)), refl, refl),
+        (
+          _,
+          [],
+          [],
+          inl (_, ref_line main_ref.name (λ same. omega (arith, same)), refl, refl),
+          (refl, refl),
+          refl,
+        ),
+        refl,
+      ),
+      refl,
+    ),
+    refl,
   );
   of_specs = (refl, (refl, tt));
   plan = plan o are (blob_ref dev_ref.name ∷ blob_ref tag_ref.name ∷ blob_ref main_ref.name ∷ blob_ref main_ref.name ∷
       []) refl;
   told = subst (λ (l : List Mapped). AddsMappings form.Lines columns.SourceFirst
       (codes "+refs/heads/*:refs/remotes/origin/*" ∷ codes "^refs/heads/dev-*" ∷ []) l []
-      (codes "refs/heads/main  refs/remotes/origin/main  +refs/heads/*:refs/remotes/origin/*\n")) (sym are) (_,
-      (_, [], main_line, refl, refl), refl);
+      (codes "refs/heads/main  refs/remotes/origin/main  +refs/heads/*:refs/remotes/origin/*\n")) (sym are) (
+        _,
+        (_, [], main_line, refl, refl),
+        refl,
+      );
   status = (refl, refl);
 }
   where
-    main_line : IsLine (record { first = codes "refs/heads/main"; second = codes "refs/remotes/origin/main";
-            spec = codes "+refs/heads/*:refs/remotes/origin/*" })
-            (codes "refs/heads/main  refs/remotes/origin/main  +refs/heads/*:refs/remotes/origin/*\n")
+    main_line : IsLine (record {
+      first = codes "refs/heads/main";
+      second = codes "refs/remotes/origin/main";
+      spec = codes "+refs/heads/*:refs/remotes/origin/*";
+    })
+        (codes "refs/heads/main  refs/remotes/origin/main  +refs/heads/*:refs/remotes/origin/*\n")
     main_line = record {
       first = codes "refs/heads/main  ";
       second = codes "refs/remotes/origin/main  ";
@@ -232,8 +293,10 @@ pub refused : (g : List Reading) (messages old new : List ℕ)
     → ¬ (AddsPlan form.Lines 10 (codes "ref: refs/heads/a\tHEAD\n") messages false g old new)
 refused g messages old new adds =
     let records = records_once 10 adds.records (codes "ref: refs/heads/a\tHEAD" ∷ [])
-        (codes "ref: refs/heads/a\tHEAD\n") adds.cut (Lacks-tested 10 (codes "ref: refs/heads/a\tHEAD") refl,
-        inl ([], refl, refl)) in
+    (codes "ref: refs/heads/a\tHEAD\n") adds.cut (
+      Lacks-tested 10 (codes "ref: refs/heads/a\tHEAD") refl,
+      inl ([], refl, refl),
+    ) in
     none_lost_of adds.items
-        (subst (λ (l : List (List ℕ)). AddsRefs l [] adds.items []) records
-        (subst (AddsRefs adds.records [] adds.items) adds.status.0 adds.refs))
+    (subst (λ (l : List (List ℕ)). AddsRefs l [] adds.items []) records
+    (subst (AddsRefs adds.records [] adds.items) adds.status.0 adds.refs))

@@ -33,7 +33,7 @@ other_words = (
 
 -- a line for each prefix, with its argument's name or a star; records have no argument's name
 pub listed : AddsList false form.Lines (codes "refs/heads/" ∷ codes "HEAD" ∷ []) []
-        (codes "ref-prefix refs/heads/\nref-prefix HEAD\n")
+    (codes "ref-prefix refs/heads/\nref-prefix HEAD\n")
     × AddsList true form.Lines (codes "refs/heads/" ∷ []) [] (codes "refs/heads/*\n")
     × AddsList false form.Zeros (codes "refs/heads/" ∷ []) [] (codes "refs/heads/" ++ 0 ∷ [])
     × AddsList true form.Zeros (codes "refs/heads/" ∷ []) [] (codes "refs/heads/*" ++ 0 ∷ [])
@@ -62,8 +62,10 @@ not_listed = (
   where
     starred : ¬ (AddsList true form.Lines (codes "refs/heads/" ∷ []) [] (codes "ref-prefix refs/heads/*\n"))
     starred (lines, (shown, rest, inl is, none, all), same) =
-        other_byte 3 (codes "ref-prefix refs/heads/*\n") (codes "refs/heads/*" ++ (10 ∷ rest)) (λ byte. omega (arith,
-        byte)) (same ∙ (all ∙ ap (λ (s : List ℕ). s ++ (10 ∷ rest)) is))
+        other_byte 3 (codes "ref-prefix refs/heads/*\n") (codes "refs/heads/*" ++ (10 ∷ rest)) (λ byte. omega (
+          arith,
+          byte,
+        )) (same ∙ (all ∙ ap (λ (s : List ℕ). s ++ (10 ∷ rest)) is))
     starred (lines, (shown, rest, inr is, none, all), same) =
         other_byte 0 (codes "ref-prefix refs/heads/*\n") (34 ∷ _) (λ byte. omega (arith, byte)) (same
         ∙ (all ∙ ap (λ (s : List ℕ). s ++ (10 ∷ rest)) is))
@@ -84,9 +86,11 @@ pub told : AddsPrefixes false form.Lines (every ∷ no_dev ∷ []) [] (codes "re
     × AddsPrefixes true form.Lines (every ∷ all_refs ∷ []) [] (codes "(all)\n")
     × AddsPrefixes false form.Lines (no_dev ∷ []) [] (codes "(nothing)\n")
 told = (
-  inl (codes "refs/heads/" ∷ [],
-      (codes "refs/heads/" ∷ [], [], lists_of_specs.0, ([], [], lists_of_specs.1, refl, refl), refl),
-      (_, (codes "refs/heads/", [], inl refl, refl, refl), refl)),
+  inl (
+    codes "refs/heads/" ∷ [],
+    (codes "refs/heads/" ∷ [], [], lists_of_specs.0, ([], [], lists_of_specs.1, refl, refl), refl),
+    (_, (codes "refs/heads/", [], inl refl, refl, refl), refl),
+  ),
   inr (none_for_all.0, refl),
   inl ([], ([], [], lists_of_specs.1, refl, refl), refl),
 )

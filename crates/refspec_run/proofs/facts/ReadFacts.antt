@@ -129,8 +129,10 @@ module _ (accepted : Accepted Fetch mode.Normal (Some (codes "main")) None) wher
   pub specs : IsSpec (good accepted) main × ¬ (IsSpec (good accepted) head) × ¬ (IsSpec bad main)
   specs = (
     refl,
-    (λ is. other_byte 0 (codes "HEAD") (codes "main") (λ byte. omega (arith,
-        byte)) (ap (λ (r : Reading). unwrap_or r.source []) is)),
+    (λ is. other_byte 0 (codes "HEAD") (codes "main") (λ byte. omega (
+      arith,
+      byte,
+    )) (ap (λ (r : Reading). unwrap_or r.source []) is)),
     λ is. is,
   )
 

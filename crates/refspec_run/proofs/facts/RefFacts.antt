@@ -62,12 +62,18 @@ pub no_ids : IsNoRefLine (codes "e69de29bb2d1d6434b8b29ae775ad8c2e48c539\trefs/h
     × IsNoRefLine (codes "e69de29bb2d1d6434b8b29ae775ad8c2e48c53911\tHEAD")
     × IsNoRefLine (codes "e69de29bb2d1d6434b8b29ae775ad8c2e48c5391,HEAD")
 no_ids = (
-  unspaced (codes "e69de29bb2d1d6434b8b29ae775ad8c2e48c539\trefs/heads/a") (omega arith) (λ tab. omega (arith,
-      tab)) (λ space. omega (arith, space)),
-  unspaced (codes "e69de29bb2d1d6434b8b29ae775ad8c2e48c53911\tHEAD") (omega arith) (λ tab. omega (arith,
-      tab)) (λ space. omega (arith, space)),
-  unspaced (codes "e69de29bb2d1d6434b8b29ae775ad8c2e48c5391,HEAD") (omega arith) (λ tab. omega (arith,
-      tab)) (λ space. omega (arith, space)),
+  unspaced (codes "e69de29bb2d1d6434b8b29ae775ad8c2e48c539\trefs/heads/a") (omega arith) (λ tab. omega (
+    arith,
+    tab,
+  )) (λ space. omega (arith, space)),
+  unspaced (codes "e69de29bb2d1d6434b8b29ae775ad8c2e48c53911\tHEAD") (omega arith) (λ tab. omega (
+    arith,
+    tab,
+  )) (λ space. omega (arith, space)),
+  unspaced (codes "e69de29bb2d1d6434b8b29ae775ad8c2e48c5391,HEAD") (omega arith) (λ tab. omega (
+    arith,
+    tab,
+  )) (λ space. omega (arith, space)),
 )
   where
     unspaced : (line : List ℕ) → length line < 65 → get_or line 40 0 ≢ 9 → get_or line 40 0 ≢ 32 → IsNoRefLine line
@@ -94,8 +100,13 @@ blob_ref n = record { name = n; target = empty_blob; object = None }
 -- a name that doesn't end as the line of a peeled tag does is that of a ref
 pub ref_line : (n : List ℕ) → last_byte n ≢ 125 → IsRefLine (line_of n) (blob_ref n)
 ref_line n other = record {
-  says = record { digits = codes "e69de29bb2d1d6434b8b29ae775ad8c2e48c5391"; space = 32; spelled = IsIdText-empty_blob;
-      is_space = inr refl; here = refl };
+  says = record {
+    digits = codes "e69de29bb2d1d6434b8b29ae775ad8c2e48c5391";
+    space = 32;
+    spelled = IsIdText-empty_blob;
+    is_space = inr refl;
+    here = refl;
+  };
   whole = λ tag same. other (ap last_byte same ∙ ap (λ (l : List ℕ). get_or l 0 0) (reverse-append tag peeled));
   object = refl;
 }
@@ -120,8 +131,10 @@ last = (refl, (tag, refl, refl), first, λ has. let none : None ≡ Some has.0 =
   where
     first : ¬ (HasLast (tag ∷ blob_ref (codes "HEAD") ∷ []) (codes "refs/tags/v1"))
     first (r, is, named) =
-        other_byte 0 (codes "HEAD") (codes "refs/tags/v1") (λ byte. omega (arith,
-        byte)) (ap (λ (o : Option Ref). (unwrap_or o tag).name) is ∙ named)
+        other_byte 0 (codes "HEAD") (codes "refs/tags/v1") (λ byte. omega (
+          arith,
+          byte,
+        )) (ap (λ (o : Option Ref). (unwrap_or o tag).name) is ∙ named)
 
 -- the line of the tag tells no other name
 tells_tag : (id n : List ℕ) → IsIdThen tag_line id n → n ≡ codes "refs/tags/v1" ++ peeled
@@ -131,9 +144,9 @@ tells_tag id n says = by_kind says.spelled.kind says.spelled.digits
     by_kind Sha1 long =
         let same = (space_at tag_line says.digits n says.space 40 long says.here).2 in
         let here : tag_line ≡ codes "e69de29bb2d1d6434b8b29ae775ad8c2e48c5391" ++ (says.space ∷ n) = says.here
-            ∙ ap (λ (d : List ℕ). d ++ (says.space ∷ n)) (sym same) in
+        ∙ ap (λ (d : List ℕ). d ++ (says.space ∷ n)) (sym same) in
         sym (ap (drop 1) (append_cancel_left (codes "e69de29bb2d1d6434b8b29ae775ad8c2e48c5391")
-            (9 ∷ (codes "refs/tags/v1" ++ peeled)) (says.space ∷ n) here))
+        (9 ∷ (codes "refs/tags/v1" ++ peeled)) (says.space ∷ n) here))
     by_kind Sha256 long = absurd (omega (arith, ap length says.here, length-append says.digits (says.space ∷ n), long))
 
 -- it tells to what the last ref points, and else nothing
@@ -151,14 +164,19 @@ pub peels_no_other : ¬ (IsTagLine tag_line (tag ∷ []))
 peels_no_other = (right_before, not_before, unchanged, λ is. is.whole (codes "refs/tags/v1") refl)
   where
     right_before : ¬ (IsTagLine tag_line (tag ∷ []))
-    right_before is = is.elsewhere (tag, refl,
-        append_cancel_right (codes "refs/tags/v1") is.tag peeled (sym (tells_tag is.id (is.tag ++ peeled) is.says)))
+    right_before is = is.elsewhere (
+      tag,
+      refl,
+      append_cancel_right (codes "refs/tags/v1") is.tag peeled (sym (tells_tag is.id (is.tag ++ peeled) is.says)),
+    )
 
     not_before : (new : List Ref) → ¬ (IsPeeledLine tag_line (tag ∷ blob_ref (codes "HEAD") ∷ []) new)
     not_before new is =
         let named : codes "HEAD" ≡ is.tag.name = ap (λ (o : Option Ref). (unwrap_or o tag).name) is.last in
-        other_byte 0 (codes "HEAD" ++ peeled) (codes "refs/tags/v1" ++ peeled) (λ byte. omega (arith,
-            byte)) (ap (λ (n : List ℕ). n ++ peeled) named ∙ tells_tag is.id (is.tag.name ++ peeled) is.says)
+        other_byte 0 (codes "HEAD" ++ peeled) (codes "refs/tags/v1" ++ peeled) (λ byte. omega (
+          arith,
+          byte,
+        )) (ap (λ (n : List ℕ). n ++ peeled) named ∙ tells_tag is.id (is.tag.name ++ peeled) is.says)
 
     unchanged : ¬ (IsPeeledLine tag_line (tag ∷ []) (tag ∷ []))
     unchanged is = let none : None ≡ Some is.id = ap (λ (l : List Ref). (get_or l 0 tag).object) is.joined in cc
@@ -193,13 +211,19 @@ not_added = (bad_lost, good_told)
 
 -- lines one after another, of which the bad ones are in order
 pub adds : AddsRefs (head_line ∷ bad_line ∷ line_of (codes "refs/tags/v1") ∷ tag_line ∷ [] ∷ []) []
-        (blob_ref (codes "HEAD") ∷ joined ∷ []) (bad_line ∷ [] ∷ [])
+    (blob_ref (codes "HEAD") ∷ joined ∷ []) (bad_line ∷ [] ∷ [])
 adds =
     let refs = blob_ref (codes "HEAD") ∷ joined ∷ [] in
-    let empty : AddsRefs ([] ∷ []) refs refs ([] ∷ []) = (refs, [] ∷ [], [], inr (inr (inr no_refs.2, refl, refl)),
-        (refl, refl), refl) in
+    let empty : AddsRefs ([] ∷ []) refs refs ([] ∷ []) = (
+      refs,
+      [] ∷ [],
+      [],
+      inr (inr (inr no_refs.2, refl, refl)),
+      (refl, refl),
+      refl,
+    ) in
     let of_tag : AddsRefs (tag_line ∷ [] ∷ []) (blob_ref (codes "HEAD") ∷ tag ∷ []) refs ([] ∷ []) =
-        (refs, [], [] ∷ [], inr (inl (peels.0, refl)), empty, refl) in (
+    (refs, [], [] ∷ [], inr (inl (peels.0, refl)), empty, refl) in (
       blob_ref (codes "HEAD") ∷ [],
       [],
       bad_line ∷ [] ∷ [],
@@ -209,8 +233,14 @@ adds =
         bad_line ∷ [],
         [] ∷ [],
         inr (inr (inr no_refs.0, refl, refl)),
-        (blob_ref (codes "HEAD") ∷ tag ∷ [], [], [] ∷ [],
-            inl (tag, ref_line (codes "refs/tags/v1") (λ same. omega (arith, same)), refl, refl), of_tag, refl),
+        (
+          blob_ref (codes "HEAD") ∷ tag ∷ [],
+          [],
+          [] ∷ [],
+          inl (tag, ref_line (codes "refs/tags/v1") (λ same. omega (arith, same)), refl, refl),
+          of_tag,
+          refl,
+        ),
         refl,
       ),
       refl,
@@ -231,40 +261,58 @@ tell = (
   (
     head_line ∷ bad_line ∷ [],
     (Lacks-tested 10 head_line refl, inl (bad_line, refl, (Lacks-tested 10 bad_line refl, inr (full _ _, refl, refl)))),
-    (blob_ref (codes "HEAD") ∷ [], [], bad_line ∷ [], inl (blob_ref (codes "HEAD"), head_ref, refl, refl),
-        (blob_ref (codes "HEAD") ∷ [], bad_line ∷ [], [], inr (inr (inr no_refs.0, refl, refl)), (refl, refl), refl),
-        refl),
+    (
+      blob_ref (codes "HEAD") ∷ [],
+      [],
+      bad_line ∷ [],
+      inl (blob_ref (codes "HEAD"), head_ref, refl, refl),
+      (blob_ref (codes "HEAD") ∷ [], bad_line ∷ [], [], inr (inr (inr no_refs.0, refl, refl)), (refl, refl), refl),
+      refl,
+    ),
   ),
   ([], refl, (refl, refl)),
   λ refs tells. none_lost refs
       (subst (λ (l : List (List ℕ)). AddsRefs l [] refs [])
-      (records_once 10 tells.0 (bad_line ∷ []) (bad_line ++ (10 ∷ [])) tells.1 (Lacks-tested 10 bad_line refl,
-      inl ([], refl, refl))) tells.2),
+      (records_once 10 tells.0 (bad_line ∷ []) (bad_line ++ (10 ∷ [])) tells.1 (
+        Lacks-tested 10 bad_line refl,
+        inl ([], refl, refl),
+      )) tells.2),
 )
 
 -- ---- the same by names
 
 -- refs of the same names are told, whatever their ids are; the bad records grow behind those that were there
 pub by_names : AddsTold tag_line (named (codes "refs/tags/v1") ∷ []) (named (codes "refs/tags/v1") ∷ []) ([] ∷ [])
-        ([] ∷ [])
+    ([] ∷ [])
     × AddsTold tag_line [] [] ([] ∷ []) ([] ∷ tag_line ∷ []) × TellNames 10 head_line (named (codes "HEAD") ∷ []) []
 by_names = (
   AddsTold-peeled tag_line (codes "refs/tags/v1") (named (codes "refs/tags/v1") ∷ [])
-      (named (codes "refs/tags/v1") ∷ []) ([] ∷ []) ([] ∷ []) (empty_blob, says_tag) (named (codes "refs/tags/v1"),
-      refl, refl) refl refl,
-  AddsTold-elsewhere tag_line (codes "refs/tags/v1") [] [] ([] ∷ []) ([] ∷ tag_line ∷ []) (empty_blob,
-      says_tag) last.3 refl refl,
-  (blob_ref (codes "HEAD") ∷ [],
-      (head_line ∷ [], (Lacks-tested 10 head_line refl, inr (full _ _, refl, refl)),
-      (_, [], [], inl (blob_ref (codes "HEAD"), head_ref, refl, refl), (refl, refl), refl)), refl),
+      (named (codes "refs/tags/v1") ∷ []) ([] ∷ []) ([] ∷ []) (empty_blob, says_tag) (
+        named (codes "refs/tags/v1"),
+        refl,
+        refl,
+      ) refl refl,
+  AddsTold-elsewhere tag_line (codes "refs/tags/v1") [] [] ([] ∷ []) ([] ∷ tag_line ∷ []) (
+    empty_blob,
+    says_tag,
+  ) last.3 refl refl,
+  (
+    blob_ref (codes "HEAD") ∷ [],
+    (
+      head_line ∷ [],
+      (Lacks-tested 10 head_line refl, inr (full _ _, refl, refl)),
+      (_, [], [], inl (blob_ref (codes "HEAD"), head_ref, refl, refl), (refl, refl), refl),
+    ),
+    refl,
+  ),
 )
 
 -- and neither a ref is lost nor a bad record
 pub ref_kept : ¬ (TellNames 10 head_line [] [])
 ref_kept (refs, (records, cut, adds), same) =
     lost refs (nothing refs (sym same))
-        (subst (λ (l : List (List ℕ)). AddsRefs l [] refs []) (records_once 10 records (head_line ∷ []) head_line cut
-        (Lacks-tested 10 head_line refl, inr (full _ _, refl, refl))) adds)
+    (subst (λ (l : List (List ℕ)). AddsRefs l [] refs []) (records_once 10 records (head_line ∷ []) head_line cut
+    (Lacks-tested 10 head_line refl, inr (full _ _, refl, refl))) adds)
   where
     nothing : (refs : List Ref) → map (λ (r : Ref). r.name) refs ≡ [] → refs ≡ []
     nothing [] names = refl
@@ -287,6 +335,9 @@ not_by_names = (
 )
 
 -- a bad record is told by its bytes
-pub bytes_of_bad : bad_bytes (record { number = 2; bytes = record { ref_ptr = (0, 0); now = codes "x" };
-        is_peeled = true }) ≡ codes "x"
+pub bytes_of_bad : bad_bytes (record {
+  number = 2;
+  bytes = record { ref_ptr = (0, 0); now = codes "x" };
+  is_peeled = true;
+}) ≡ codes "x"
 bytes_of_bad = refl

@@ -55,9 +55,9 @@ missing = (refl, refl, refl, refl)
 
 -- the text is that of the mapping's spec
 pub rows : ((row_of [] columns.SourceFirst (codes "HEAD" ∷ codes "refs/heads/*:refs/remotes/o/*" ∷ []) to_o).spec ≡
-        codes "refs/heads/*:refs/remotes/o/*")
+    codes "refs/heads/*:refs/remotes/o/*")
     × ((row_of [] columns.SourceFirst (codes "HEAD" ∷ codes "refs/heads/*:refs/remotes/o/*" ∷ []) alone).spec ≡ codes
-        "HEAD")
+    "HEAD")
 rows = (refl, refl)
 
 -- ---- lines
@@ -73,7 +73,7 @@ cells = (
 )
 
 -- one space is no end, nor is a tab
-pub no_cells : ¬ (IsCell (codes "HEAD") (codes "HEAD ")) × ¬ (IsCell (codes "HEAD") (codes "HEAD\t ")) 
+pub no_cells : ¬ (IsCell (codes "HEAD") (codes "HEAD ")) × ¬ (IsCell (codes "HEAD") (codes "HEAD\t "))
     × ¬ (PutsCell (codes "b") (codes "a") (codes "b  "))
 no_cells = (
   one_space,
@@ -89,14 +89,19 @@ no_cells = (
 
     a_tab : ¬ (IsCell (codes "HEAD") (codes "HEAD\t "))
     a_tab (shown, more, inl is, same) =
-        other_byte 4 (codes "HEAD\t ") (codes "HEAD" ++ (32 ∷ 32 ∷ replicate more 32)) (λ byte. omega (arith,
-        byte)) (same ∙ ap (λ (s : List ℕ). s ++ (32 ∷ 32 ∷ replicate more 32)) is)
+        other_byte 4 (codes "HEAD\t ") (codes "HEAD" ++ (32 ∷ 32 ∷ replicate more 32)) (λ byte. omega (
+          arith,
+          byte,
+        )) (same ∙ ap (λ (s : List ℕ). s ++ (32 ∷ 32 ∷ replicate more 32)) is)
     a_tab (shown, more, inr is, same) = other_byte 0 (codes "HEAD\t ") (34 ∷ _) (λ byte. omega (arith, byte)) (same
         ∙ ap (λ (s : List ℕ). s ++ (32 ∷ 32 ∷ replicate more 32)) is)
 
 abbrev row : Row
-row = record { first = codes "refs/heads/a"; second = codes "refs/remotes/o/a";
-    spec = codes "refs/heads/*:refs/remotes/o/*" }
+row = record {
+  first = codes "refs/heads/a";
+  second = codes "refs/remotes/o/a";
+  spec = codes "refs/heads/*:refs/remotes/o/*";
+}
 
 -- a row as `plan` prints it beside a longer one
 pub line : IsLine row (codes "refs/heads/a       refs/remotes/o/a       refs/heads/*:refs/remotes/o/*\n")
@@ -113,10 +118,16 @@ line = record {
 -- a line begins with the first field and two spaces, or with a quote
 begins : (l tail cell : List ℕ) → IsCell (codes "refs/heads/a") cell → l ≡ cell ++ tail
     → ((rest : List ℕ) × (l ≡ codes "refs/heads/a  " ++ rest)) ⊎ ((rest : List ℕ) × (l ≡ 34 ∷ rest))
-begins l tail cell (shown, more, inl is, all) here = inl (replicate more 32 ++ tail, here
-    ∙ ap (λ (c : List ℕ). c ++ tail) (all ∙ ap (λ (s : List ℕ). s ++ (32 ∷ 32 ∷ replicate more 32)) is))
-begins l tail cell (shown, more, inr is, all) here = inr (codes "refs/heads/a\"  " ++ (replicate more 32 ++ tail), here
-    ∙ ap (λ (c : List ℕ). c ++ tail) (all ∙ ap (λ (s : List ℕ). s ++ (32 ∷ 32 ∷ replicate more 32)) is))
+begins l tail cell (shown, more, inl is, all) here = inl (
+  replicate more 32 ++ tail,
+  here
+      ∙ ap (λ (c : List ℕ). c ++ tail) (all ∙ ap (λ (s : List ℕ). s ++ (32 ∷ 32 ∷ replicate more 32)) is),
+)
+begins l tail cell (shown, more, inr is, all) here = inr (
+  codes "refs/heads/a\"  " ++ (replicate more 32 ++ tail),
+  here
+      ∙ ap (λ (c : List ℕ). c ++ tail) (all ∙ ap (λ (s : List ℕ). s ++ (32 ∷ 32 ∷ replicate more 32)) is),
+)
 
 -- with one space behind the first field, or the second field before it, it is none
 pub no_line : ¬ (IsLine row (codes "refs/heads/a refs/remotes/o/a  refs/heads/*:refs/remotes/o/*\n"))
@@ -143,20 +154,44 @@ no_line = (one_space, swapped)
 pub too_short : ¬ (IsLine row (codes "refs/heads/a  refs/heads/*:refs/remotes/o/*\n"))
     × ¬ (IsLine row (codes "refs/heads/a  refs/remotes/o/a  \n"))
 too_short = (
-  (λ is. omega (arith, ap length is.is, (long is).0, (long is).1, (long is).2,
-      length-append is.first (is.second ++ (is.last ++ (10 ∷ []))), length-append is.second (is.last ++ (10 ∷ [])),
-      length-append is.last (10 ∷ []))),
-  λ is. omega (arith, ap length is.is, (long is).0, (long is).1, (long is).2,
-      length-append is.first (is.second ++ (is.last ++ (10 ∷ []))), length-append is.second (is.last ++ (10 ∷ [])),
-      length-append is.last (10 ∷ [])),
+  (λ is. omega (
+    arith,
+    ap length is.is,
+    (long is).0,
+    (long is).1,
+    (long is).2,
+    length-append is.first (is.second ++ (is.last ++ (10 ∷ []))),
+    length-append is.second (is.last ++ (10 ∷ [])),
+    length-append is.last (10 ∷ []),
+  )),
+  λ is. omega (
+    arith,
+    ap length is.is,
+    (long is).0,
+    (long is).1,
+    (long is).2,
+    length-append is.first (is.second ++ (is.last ++ (10 ∷ []))),
+    length-append is.second (is.last ++ (10 ∷ [])),
+    length-append is.last (10 ∷ []),
+  ),
 )
   where
     in_cell : (n : ℕ) (field cell : List ℕ) → IsCell field cell → n ≤ length field → n ≤ length (in_quotes field)
         → n + 2 ≤ length cell
-    in_cell n field cell (shown, more, inl is, all) plain quoted = omega (arith, plain, ap length is, ap length all,
-        length-append shown (32 ∷ 32 ∷ replicate more 32))
-    in_cell n field cell (shown, more, inr is, all) plain quoted = omega (arith, quoted, ap length is, ap length all,
-        length-append shown (32 ∷ 32 ∷ replicate more 32))
+    in_cell n field cell (shown, more, inl is, all) plain quoted = omega (
+      arith,
+      plain,
+      ap length is,
+      ap length all,
+      length-append shown (32 ∷ 32 ∷ replicate more 32),
+    )
+    in_cell n field cell (shown, more, inr is, all) plain quoted = omega (
+      arith,
+      quoted,
+      ap length is,
+      ap length all,
+      length-append shown (32 ∷ 32 ∷ replicate more 32),
+    )
 
     shown_last : (last : List ℕ) → IsQuoted (codes "refs/heads/*:refs/remotes/o/*") last → 29 ≤ length last
     shown_last last (inl is) = omega (arith, ap length is)
@@ -183,8 +218,10 @@ pub not_put : ¬ (PutsLine row (codes "b\n") (codes "refs/heads/a  refs/remotes/
 not_put = (
   (λ puts. other_byte 0 (codes "refs/heads/a  refs/remotes/o/a  refs/heads/*:refs/remotes/o/*\n")
       (codes "b\n" ++ puts.0) (λ byte. omega (arith, byte)) puts.2),
-  λ puts. other_byte 0 (codes "HEAD  refs/x/y  ") (codes "b\n" ++ (puts.0 ++ puts.1)) (λ byte. omega (arith,
-      byte)) puts.4,
+  λ puts. other_byte 0 (codes "HEAD  refs/x/y  ") (codes "b\n" ++ (puts.0 ++ puts.1)) (λ byte. omega (
+    arith,
+    byte,
+  )) puts.4,
 )
 
 -- a line for each row, and each row has one
@@ -208,14 +245,14 @@ lines = (
 
 -- each field has its zero byte, and none has another
 pub zero_fields : (fields row ≡ (codes "refs/heads/a" ++ 0 ∷ []) ++
-        ((codes "refs/remotes/o/a" ++ 0 ∷ []) ++ (codes "refs/heads/*:refs/remotes/o/*" ++ 0 ∷ [])))
+    ((codes "refs/remotes/o/a" ++ 0 ∷ []) ++ (codes "refs/heads/*:refs/remotes/o/*" ++ 0 ∷ [])))
 zero_fields = refl
 
 abbrev pub texts : List (List ℕ)
 texts = codes "HEAD" ∷ codes "refs/heads/*:refs/remotes/o/*" ∷ []
 
 pub alone_line : IsLine (record { first = codes "HEAD"; second = codes "FETCH_HEAD"; spec = codes "HEAD" })
-        (codes "HEAD  FETCH_HEAD  HEAD\n")
+    (codes "HEAD  FETCH_HEAD  HEAD\n")
 alone_line = record {
   first = codes "HEAD  ";
   second = codes "FETCH_HEAD  ";
@@ -226,9 +263,12 @@ alone_line = record {
   is = refl;
 }
 
-tracked_line : IsLine (record { first = codes "refs/remotes/o/main"; second = codes "refs/heads/main";
-        spec = codes "refs/heads/*:refs/remotes/o/*" })
-        (codes "refs/remotes/o/main  refs/heads/main  refs/heads/*:refs/remotes/o/*\n")
+tracked_line : IsLine (record {
+  first = codes "refs/remotes/o/main";
+  second = codes "refs/heads/main";
+  spec = codes "refs/heads/*:refs/remotes/o/*";
+})
+    (codes "refs/remotes/o/main  refs/heads/main  refs/heads/*:refs/remotes/o/*\n")
 tracked_line = record {
   first = codes "refs/remotes/o/main  ";
   second = codes "refs/heads/main  ";
@@ -242,25 +282,27 @@ tracked_line = record {
 -- no destination is `FETCH_HEAD` in a line, and an empty field with zero bytes; `track` has the destination first
 pub told : AddsMappings form.Lines columns.SourceFirst texts (alone ∷ []) [] (codes "HEAD  FETCH_HEAD  HEAD\n")
     × AddsMappings form.Zeros columns.SourceFirst texts (alone ∷ []) []
-        ((codes "HEAD" ++ 0 ∷ []) ++ (0 ∷ (codes "HEAD" ++ 0 ∷ [])))
+    ((codes "HEAD" ++ 0 ∷ []) ++ (0 ∷ (codes "HEAD" ++ 0 ∷ [])))
     × AddsMappings form.Lines columns.DestinationFirst texts (to_o ∷ []) (codes "a\n")
-        (codes "a\nrefs/remotes/o/main  refs/heads/main  refs/heads/*:refs/remotes/o/*\n")
+    (codes "a\nrefs/remotes/o/main  refs/heads/main  refs/heads/*:refs/remotes/o/*\n")
     × AddsMappings form.Lines columns.SourceFirst texts [] (codes "a\n") (codes "a\n")
 told = (
   (codes "HEAD  FETCH_HEAD  HEAD\n", (codes "HEAD  FETCH_HEAD  HEAD\n", [], alone_line, refl, refl), refl),
   refl,
-  (codes "refs/remotes/o/main  refs/heads/main  refs/heads/*:refs/remotes/o/*\n",
-      (codes "refs/remotes/o/main  refs/heads/main  refs/heads/*:refs/remotes/o/*\n", [], tracked_line, refl, refl),
-      refl),
+  (
+    codes "refs/remotes/o/main  refs/heads/main  refs/heads/*:refs/remotes/o/*\n",
+    (codes "refs/remotes/o/main  refs/heads/main  refs/heads/*:refs/remotes/o/*\n", [], tracked_line, refl, refl),
+    refl,
+  ),
   ([], refl, refl),
 )
 
 -- zero bytes have no `FETCH_HEAD` before them, nor the destination of `plan` the source's place, and no mapping is lost
 pub not_told : ¬ (AddsMappings form.Zeros columns.SourceFirst texts (alone ∷ []) []
-        ((codes "HEAD" ++ 0 ∷ []) ++ ((codes "FETCH_HEAD" ++ 0 ∷ []) ++ (codes "HEAD" ++ 0 ∷ []))))
+    ((codes "HEAD" ++ 0 ∷ []) ++ ((codes "FETCH_HEAD" ++ 0 ∷ []) ++ (codes "HEAD" ++ 0 ∷ []))))
     × ¬ (AddsMappings form.Zeros columns.SourceFirst texts (to_o ∷ []) []
-        ((codes "refs/remotes/o/main" ++ 0 ∷ []) ++
-        ((codes "refs/heads/main" ++ 0 ∷ []) ++ (codes "refs/heads/*:refs/remotes/o/*" ++ 0 ∷ []))))
+    ((codes "refs/remotes/o/main" ++ 0 ∷ []) ++
+    ((codes "refs/heads/main" ++ 0 ∷ []) ++ (codes "refs/heads/*:refs/remotes/o/*" ++ 0 ∷ []))))
     × ¬ (AddsMappings form.Zeros columns.SourceFirst texts (alone ∷ []) [] [])
 not_told = (
   (λ same. omega (arith, ap length same)),

@@ -38,7 +38,7 @@ unseen = (other, raw)
 
 -- a line for each name, with the bytes before it
 pub lines : AreLines (codes "ref-prefix ") (codes "refs/heads/" ∷ codes "HEAD" ∷ [])
-        (codes "ref-prefix refs/heads/\nref-prefix HEAD\n")
+    (codes "ref-prefix refs/heads/\nref-prefix HEAD\n")
     × AreLines [] (codes "a\tb" ∷ []) (codes "\"a\\tb\"\n") × AreLines (codes "x ") [] []
 lines = (
   (codes "refs/heads/", codes "ref-prefix HEAD\n", inl refl, (codes "HEAD", [], inl refl, refl, refl), refl),
@@ -111,11 +111,16 @@ pub pages : (p q : Page) → p.form ≡ form.Lines → q.form ≡ form.Lines →
     → (q.results.items ≡ codes "a" → KeepsPage p q)
     × (q.results.items ≡ codes "ab" → ¬ (KeepsPage p q))
 pages p q is also a = (
-  (λ same. record { form = also
-      ∙ sym is; kept = subst (λ (f : Form). KeepsResults f p.results.items q.results.items) (sym is) (same ∙ sym a) }),
+  (λ same. record {
+    form = also
+        ∙ sym is;
+    kept = subst (λ (f : Form). KeepsResults f p.results.items q.results.items) (sym is) (same ∙ sym a);
+  }),
   λ other keeps. let same : q.results.items ≡ p.results.items =
-      subst (λ (f : Form). KeepsResults f p.results.items q.results.items) is keeps.kept in omega (arith,
-      ap length (sym other ∙ (same ∙ a))),
+      subst (λ (f : Form). KeepsResults f p.results.items q.results.items) is keeps.kept in omega (
+        arith,
+        ap length (sym other ∙ (same ∙ a)),
+      ),
 )
 
 pub other_form : (p q : Page) → p.form ≡ form.Lines → q.form ≡ form.Zeros → ¬ (KeepsPage p q)

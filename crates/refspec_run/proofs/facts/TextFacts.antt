@@ -34,7 +34,7 @@ numbers = (refl, refl)
 
 -- what ends a record tells how many texts an input has; they are behind those that were there, and counted from 1
 pub added : AddsTexts ends.Newline Fetch (codes "-") (codes "a\r\nb") (word_at Push 1 (codes "x") ∷ [])
-        (word_at Push 1 (codes "x") ∷ record_at (codes "-") Fetch 1 (codes "a\r") ∷ record_at (codes "-") Fetch 2 (codes "b") ∷ [])
+    (word_at Push 1 (codes "x") ∷ record_at (codes "-") Fetch 1 (codes "a\r") ∷ record_at (codes "-") Fetch 2 (codes "b") ∷ [])
     × AddsTexts ends.Zero Fetch (codes "-") (codes "a\r\nb" ++ 0 ∷ []) [] (record_at (codes "-") Fetch 1 (codes "a\r\nb") ∷ [])
 added = ((codes "a\r" ∷ codes "b" ∷ [], records.0, refl), (codes "a\r\nb" ∷ [], records.1, refl))
 

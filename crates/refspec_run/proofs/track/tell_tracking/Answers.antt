@@ -20,7 +20,7 @@ returns-then-looked_up-count c =
     let found = map mapped_of c.in_ok-outcome.outcome.mappings.items in
     let asked = map (λ (w : Bor (List ℕ)). w.now) c.args.call.now.refs.items in
     let some = subst (λ (l : List (Bor (List ℕ))). Tells c.in_ok-has_other.has_other (map (λ (w : Bor (List ℕ)). w.now) l) found) c.as_slice-6.ensures.value
-        (subst (λ (l : List Mapping). Tells c.in_ok-has_other.has_other (map (λ (w : Bor (List ℕ)). w.now) c.as_slice-6.result.now) (map mapped_of l)) c.as_slice-mappings.ensures.value c.in_ok-has_other.ensures.some) in
+    (subst (λ (l : List Mapping). Tells c.in_ok-has_other.has_other (map (λ (w : Bor (List ℕ)). w.now) c.as_slice-6.result.now) (map mapped_of l)) c.as_slice-mappings.ensures.value c.in_ok-has_other.ensures.some) in
     let whether = Refuses-fewer c.args.specs.items c.in_ok-specs.specs.items asked found (omega (arith, c.if-looked_up-count.true, c.len-count.ensures, c.len-looked_up.ensures)) in
     AddsTracked-of c.args.page.now.form c.by_names.new.page.form c.tell_mappings.new.page.form _ _ _ (map reading_of c.args.specs.items) (map reading_of c.in_ok-specs.specs.items) (map bstring_bytes c.as_slice-5.result.now) _ _ c.args.page.now.results.items c.by_names.new.page.results.items c.tell_mappings.new.page.results.items c.tell_others.new.page.results.items looked_up c.in_ok-specs.ensures.page.form c.in_ok-specs.ensures.page.kept refs c.in_ok-outcome.ensures texts c.in_ok-tell_mappings.ensures.told (ap (map mapped_of) c.as_slice-mappings.ensures.value) c.in_ok-tell_mappings.ensures.form c.in_ok-has_other.ensures.kept whether
 
@@ -33,6 +33,6 @@ returns c =
     let found = map mapped_of c.in_ok-outcome.outcome.mappings.items in
     let asked = map (λ (w : Bor (List ℕ)). w.now) c.args.call.now.refs.items in
     let some = subst (λ (l : List (Bor (List ℕ))). Tells c.in_ok-has_other.has_other (map (λ (w : Bor (List ℕ)). w.now) l) found) c.as_slice-6.ensures.value
-        (subst (λ (l : List Mapping). Tells c.in_ok-has_other.has_other (map (λ (w : Bor (List ℕ)). w.now) c.as_slice-6.result.now) (map mapped_of l)) c.as_slice-mappings.ensures.value c.in_ok-has_other.ensures.some) in
+    (subst (λ (l : List Mapping). Tells c.in_ok-has_other.has_other (map (λ (w : Bor (List ℕ)). w.now) c.as_slice-6.result.now) (map mapped_of l)) c.as_slice-mappings.ensures.value c.in_ok-has_other.ensures.some) in
     let whether = Refuses-whole c.in_ok-has_other.has_other c.args.specs.items c.in_ok-specs.specs.items asked found looked_up (omega (arith, c.if-looked_up-count.false, c.len-count.ensures, c.len-looked_up.ensures)) some in
     AddsTracked-of c.args.page.now.form c.by_names.new.page.form c.tell_mappings.new.page.form _ _ _ (map reading_of c.args.specs.items) (map reading_of c.in_ok-specs.specs.items) (map bstring_bytes c.as_slice-5.result.now) _ _ c.args.page.now.results.items c.by_names.new.page.results.items c.tell_mappings.new.page.results.items c.tell_others.new.page.results.items looked_up c.in_ok-specs.ensures.page.form c.in_ok-specs.ensures.page.kept refs c.in_ok-outcome.ensures texts c.in_ok-tell_mappings.ensures.told (ap (map mapped_of) c.as_slice-mappings.ensures.value) c.in_ok-tell_mappings.ensures.form c.in_ok-has_other.ensures.kept whether

@@ -15,9 +15,9 @@ pub loop-mapping-preserved : goal.loop-mapping-preserved
 loop-mapping-preserved c =
     AreWritten-next c.match-mapping.written c.args.mappings.now c.loop-mapping.mapping-index c.mapping-item.result c.loop-mapping-test.true c.mapping-item.is (elim c.match-mapping.branch [
       | in-Some+in_ok-insert w ↦ subst (λ (s : BTreeSet (Bor (List ℕ))). AreWritten s (map mapped_of (take c.loop-mapping.mapping-index c.args.mappings.now) ++ mapped_of c.mapping-item.result ∷ [])) (sym w.written-is)
-        (AreWritten-more c.loop-mapping.written w.insert.new.self w.as_bytes.result (map mapped_of (take c.loop-mapping.mapping-index c.args.mappings.now)) (mapped_of c.mapping-item.result) w.in_ok-insert.ensures.updates (ap (option_map name_bytes) w.in-Some.is ∙ ap Some (sym (w.as_bytes.ensures ∙ w.as_bstr.ensures))) c.loop-mapping.invariant)
+          (AreWritten-more c.loop-mapping.written w.insert.new.self w.as_bytes.result (map mapped_of (take c.loop-mapping.mapping-index c.args.mappings.now)) (mapped_of c.mapping-item.result) w.in_ok-insert.ensures.updates (ap (option_map name_bytes) w.in-Some.is ∙ ap Some (sym (w.as_bytes.ensures ∙ w.as_bstr.ensures))) c.loop-mapping.invariant)
       | in_default w ↦ subst (λ (s : BTreeSet (Bor (List ℕ))). AreWritten s (map mapped_of (take c.loop-mapping.mapping-index c.args.mappings.now) ++ mapped_of c.mapping-item.result ∷ [])) (sym w.written-is)
-        (AreWritten-none c.loop-mapping.written (map mapped_of (take c.loop-mapping.mapping-index c.args.mappings.now)) (mapped_of c.mapping-item.result) (ap (option_map name_bytes) w.in_default.is) c.loop-mapping.invariant)
+          (AreWritten-none c.loop-mapping.written (map mapped_of (take c.loop-mapping.mapping-index c.args.mappings.now)) (mapped_of c.mapping-item.result) (ap (option_map name_bytes) w.in_default.is) c.loop-mapping.invariant)
     ])
 
 pub returns : goal.returns
