@@ -51,18 +51,21 @@ $(PEOPLE_PROGRAM): $(PEOPLE_SOURCES) | kit $(PROGRAM)
 BASH_FOLDER := share/bash-completion/completions
 ZSH_FOLDER ?= share/zsh/site-functions
 FISH_FOLDER := share/fish/vendor_completions.d
+# What adds to the completion of Git is read when fish starts.
+FISH_START := share/fish/vendor_conf.d
 LICENCES := LICENSE-MIT LICENSE-APACHE
 PEOPLE_DOCS := docs/PROGRAMS.md docs/GIT.md $(LICENCES)
 
 install: build install-lib
-	@install -d $(addprefix $(TO)/,bin share/man/man1 $(BASH_FOLDER) $(ZSH_FOLDER) $(FISH_FOLDER) share/doc/refspec)
+	@install -d $(addprefix $(TO)/,bin share/man/man1 $(BASH_FOLDER) $(ZSH_FOLDER) $(FISH_FOLDER) $(FISH_START) share/doc/refspec)
 	@install -m 755 $(PROGRAM) $(PEOPLE_PROGRAM) bin/git-refspec $(TO)/bin
 	@install -m 644 man/*.1 $(TO)/share/man/man1
 	@for file in completions/*.bash; do \
 	    name=$$(basename $$file .bash) && install -m 644 $$file $(TO)/$(BASH_FOLDER)/$$name || exit; \
 	done
 	@install -m 644 completions/_* $(TO)/$(ZSH_FOLDER)
-	@install -m 644 completions/*.fish $(TO)/$(FISH_FOLDER)
+	@install -m 644 completions/refspec.fish $(TO)/$(FISH_FOLDER)
+	@install -m 644 completions/git-refspec.fish $(TO)/$(FISH_START)
 	@install -m 644 $(PEOPLE_DOCS) $(TO)/share/doc/refspec
 
 uninstall: uninstall-lib
@@ -70,7 +73,7 @@ uninstall: uninstall-lib
 	@rm -f $(addprefix $(TO)/share/man/man1/,$(notdir $(wildcard man/*.1)))
 	@rm -f $(addprefix $(TO)/$(BASH_FOLDER)/,$(notdir $(basename $(wildcard completions/*.bash))))
 	@rm -f $(addprefix $(TO)/$(ZSH_FOLDER)/,$(notdir $(wildcard completions/_*)))
-	@rm -f $(addprefix $(TO)/$(FISH_FOLDER)/,$(notdir $(wildcard completions/*.fish)))
+	@rm -f $(TO)/$(FISH_FOLDER)/refspec.fish $(TO)/$(FISH_START)/git-refspec.fish
 	@rm -rf $(TO)/share/doc/refspec
 
 # Where no program of these sources was proved yet, rt try runs them without proof.
