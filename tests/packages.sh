@@ -106,6 +106,10 @@ for page in refspec git-refspec refspec_map; do
 done
 bare bash -c '. "$0" && COMP_WORDS=(refspec ca) COMP_CWORD=1 && _refspec && [ "${COMPREPLY[*]}" = canon ]' \
     "$unpacked/share/bash-completion/completions/refspec" || fail "bash completes nothing"
+if has fish && has git; then
+    bare env XDG_DATA_DIRS="$unpacked/share:/usr/share" fish -c "complete -C 'git refspec '" >"$made/out"
+    grep -q '^check' "$made/out" || fail "fish completes git refspec to $(cat "$made/out")"
+fi
 beside=
 say "the archive: git refspec check and plan in a clone, manual pages, and completion"
 
@@ -268,6 +272,13 @@ else
     if has gcc && has pkg-config; then
         planner_in_c "$made/deb" PKG_CONFIG_SYSROOT_DIR="$root" PKG_CONFIG_LIBDIR="$library/pkgconfig"
         check_planner env LD_LIBRARY_PATH="$library" "$made/deb/planner"
+    fi
+    if has gcc && has cmake; then
+        # In a root of Debian lib is a link, and cmake may come by it.
+        ln -s usr/lib "$root/lib"
+        bare cmake -S "$made/cmake" -B "$made/cmake/deb" -DCMAKE_PREFIX_PATH="$root" >"$made/out" \
+            && bare cmake --build "$made/cmake/deb" >>"$made/out" || fail "cmake over Debian's packages: $(cat "$made/out")"
+        rm "$root/lib"
     fi
     mapfile -t names < <(printf '%s\n' "${debs[@]}" | xargs -n 1 basename | cut -d_ -f1)
     dpkg_in --purge "${names[@]}" || fail "dpkg --purge: $(cat "$made/out")"

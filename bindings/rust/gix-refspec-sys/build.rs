@@ -25,7 +25,8 @@ fn main() {
 fn named_folder(named: &Path) -> PathBuf {
     let folders = [named.join("lib"), named.to_owned()];
     match folders.into_iter().find(|folder| folder.join(ARCHIVE).exists()) {
-        Some(folder) => folder,
+        // The linker runs in another folder.
+        Some(folder) => folder.canonicalize().unwrap_or(folder),
         None => panic!("{VARIABLE} names {}, but neither that folder nor its lib has {ARCHIVE}", named.display()),
     }
 }

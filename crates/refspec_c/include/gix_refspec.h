@@ -1,7 +1,7 @@
 /* Git refspecs: checked, taken apart, printed, compared, matched, planned and explained.
  *
- * Each call answers an outcome: GIX_REFSPEC_OK, or why not. A text is a pointer, which is never null, and a
- * length. The caller owns all memory. Nothing is kept from call to call, and threads may call at will.
+ * Each call answers an outcome: GIX_REFSPEC_OK, or why not. A text is a pointer and a length; the pointer may be NULL where
+ * the length is 0. The caller owns all memory. Nothing is kept from call to call, and threads may call at will.
  * What a call doesn't set, it leaves as it was. docs/C.md says what is proved, and what a caller owes. */
 #ifndef GIX_REFSPEC_H
 #define GIX_REFSPEC_H

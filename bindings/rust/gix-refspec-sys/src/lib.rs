@@ -57,7 +57,7 @@ pub const FETCHED_ONLY: u32 = 5;
 /// The place of an id that is asked for among the names.
 pub const NO_ITEM: usize = usize::MAX;
 
-/// A text. The pointer is never null.
+/// A text. The pointer may be null where the length is 0.
 #[repr(C)]
 #[derive(Clone, Copy, Debug)]
 pub struct Text {
