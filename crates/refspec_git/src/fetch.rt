@@ -55,7 +55,7 @@ pub fn tell_plan<'a, M: Machine, D: Discard>(
     told.run(alloc, &call, beside.as_slice(), lines.as_slice(), done)?;
     if told.results.is_empty() && told.messages.len() == noted && told.status == 0 {
         told.messages
-            .extend_from_slice(b"git refspec: nothing would be fetched\n")?;
+            .extend_from_slice(b"git refspec: the specs map no ref of the remote\n")?;
     }
     Ok(Answer::Tells(told))
 }

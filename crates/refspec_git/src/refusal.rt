@@ -138,7 +138,7 @@ impl Refusal<'_> {
                 out,
                 "the remote ",
                 name,
-                " has no fetch values, so no ref of it is written\n",
+                " has no fetch values\n",
             ),
             Refusal::NoValuesAtAll => out.extend_from_slice(b"no remote has fetch values\n"),
             Refusal::Memory => out.extend_from_slice(b"out of memory\n"),
