@@ -155,6 +155,7 @@ END
     sed -i 's/gix_refspec 0.2/gix_refspec 0.1/' "$made/cmake/CMakeLists.txt"
     ! bare cmake -S "$made/cmake" -B "$made/cmake/old" -DCMAKE_PREFIX_PATH="$unpacked" >"$made/out" 2>&1 \
         || fail "cmake takes this version for another"
+    sed -i 's/gix_refspec 0.1/gix_refspec 0.2/' "$made/cmake/CMakeLists.txt"
     say "the archive: planners in C by cmake's find_package"
 fi
 
