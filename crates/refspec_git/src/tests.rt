@@ -12,6 +12,9 @@ use std::test::Fail;
 const CONFIG: &[u8] =
     b"file:.git/config\0remote.origin.url\nx\0file:.git/config\0remote.origin.fetch\n+a:b\0file:a\0remote.a.b.fetch\0file:a\0remote.pushdefault\nmine\0file:a\0url.https://host/.insteadof\ngh:\0file:a\0branch.main.remote\na.b\0";
 
+// One remote alone, whose name has a dot.
+const ONE_REMOTE: &[u8] = b"file:a\0remote.a.b.fetch\0";
+
 #[test]
 fn reads_settings(rt: HostRuntime) -> Result<(), Fail> {
     let settings = settings_of(rt.alloc(), CONFIG)?;
@@ -57,8 +60,9 @@ fn finds_remotes(rt: HostRuntime) -> Result<(), Fail> {
     );
     assert_eq!(rt; default_remote(settings, b"main"), Some(b"a.b".as_slice()));
     assert_eq!(rt; default_remote(settings, b""), Some(b"origin".as_slice()));
+    let one = settings_of(rt.alloc(), ONE_REMOTE)?;
     assert_eq!(rt;
-        default_remote(&settings[2..3], b""),
+        default_remote(one.as_slice(), b""),
         Some(b"a.b".as_slice())
     );
     assert_eq!(rt; default_remote(&[], b""), None);
