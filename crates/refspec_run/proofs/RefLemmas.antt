@@ -1,6 +1,6 @@
 -- Lines of refs: where their digits end, and what many of them make of the refs before them.
-use Rattle.std.proofs.Common.{◌≡◌, ◌≢◌, ◌↔◌, Bool, IsTrue, Bor, append_assoc, ℕ, ◌+◌, ◌-◌, ◌<◌, inl, inr, Option, None, Some, List, [], ◌∷◌, ◌++◌, map, length, take, get_or, refl, sym, ap, ◌∙◌, subst, length-append, arith}
-use Rattle.std.proofs.Math.Seq.{get_or-append_seam, take-append_seam, take-length}
+use Rattle.std.proofs.Common.{◌≡◌, ◌≢◌, ◌↔◌, Bool, true, false, not, ◌||◌, MatchBool, IsTrue, Bor, append_assoc, ℕ, ◌+◌, ◌-◌, ◌<◌, inl, inr, Option, None, Some, List, [], ◌∷◌, ◌++◌, map, length, take, drop, get_or, refl, sym, ap, ◌∙◌, subst, length-append, arith}
+use Rattle.std.proofs.Math.Seq.{get_or-append_seam, take-append_seam, drop-append_seam, take-length}
 use Rattle.std.proofs.lemmas.List.{append-nil, length-map, map-append, take_more}
 use Rattle.std.proofs.lemmas.Option.{get_or_from_slice_get, slice_get-map, slice_get_within}
 use Rattle.std.specs.List.{slice_get}
@@ -11,20 +11,31 @@ use Rattle.gix_refspec.specs.Views.Group.{ref_of}
 use Rattle.refspec_match.specs.declared.types.Item.{Item}
 use Rattle.bstr.specs.BStr.{bstr_bytes}
 use Rattle.gix_refspec.specs.Texts.ObjectId.{HasIdFault, IsIdText, digits_of}
+use Rattle.gix_refspec.specs.Texts.Words.{Holds, Lacks}
 use Rattle.refspec_text.specs.declared.oid.Error.{Error}
 use Rattle.refspec_text.specs.declared.oid.Kind.{Kind}
 use Rattle.refspec_text.specs.declared.oid.Kind.TheVariants.{Sha1, Sha256}
 use Rattle.refspec_text.proofs.lemmas.texts.ObjectIdLemmas.{id_or_fault}
+use Rattle.refspec_text.proofs.lemmas.texts.TextLemmas.{Lacks-Holds}
 use Rattle.refspec_run.specs.Input.{AreRecords, IsFirstRecord}
-use Rattle.refspec_run.specs.Refs.{AddsLine, AddsLineByNames, AddsRefs, AddsTold, HasLast, IsIdThen, IsLast, IsNoRefLine, TellNames, TellRefs, TellsName, peeled}
+use Rattle.refspec_run.specs.Refs.{AddsLine, AddsLineByNames, AddsRefs, AddsTold, HasLast, IsIdThen, IsLast, IsNoRefLine, IsOneWord, TellNames, TellRefs, TellsName, peeled}
 use Rattle.refspec_run.proofs.RecordLemmas.{first_and_more}
 
--- the byte after so many digits is the space
-pub space_at : (line digits name : List ℕ) (space n : ℕ) → length digits ≡ n → line ≡ digits ++ (space ∷ name) → (n < length line) × (get_or line n 0 ≡ space) × (take n line ≡ digits)
+-- a text with bytes is one word exactly if it has no white space
+pub one_word_if : (text : List ℕ) (newline return tab gap : Bool) → text ≢ [] → MatchBool newline (Holds (10 ∷ []) text) (Lacks 10 text) → MatchBool return (Holds (13 ∷ []) text) (Lacks 13 text) → MatchBool tab (Holds (9 ∷ []) text) (Lacks 9 text) → MatchBool gap (Holds (32 ∷ []) text) (Lacks 32 text) → MatchBool (not ((newline || return) || (tab || gap))) (IsOneWord text) (¬ (IsOneWord text))
+one_word_if text true r t g full n is_r is_t is_g = λ word. Lacks-Holds 10 text word.2 n
+one_word_if text false true t g full n is_r is_t is_g = λ word. Lacks-Holds 13 text word.3 is_r
+one_word_if text false false true g full n is_r is_t is_g = λ word. Lacks-Holds 9 text word.1 is_t
+one_word_if text false false false true full n is_r is_t is_g = λ word. Lacks-Holds 32 text word.4 is_g
+one_word_if text false false false false full n is_r is_t is_g = (full, is_t, n, is_r, is_g)
+
+-- the byte after so many digits is the space, and the name is behind it
+pub space_at : (line digits name : List ℕ) (space n : ℕ) → length digits ≡ n → line ≡ digits ++ (space ∷ name) → (n < length line) × (get_or line n 0 ≡ space) × (take n line ≡ digits) × (drop n line ≡ space ∷ name)
 space_at line digits name space n long here = (
   omega (arith, ap length here, length-append digits (space ∷ name)),
   ap (λ l. get_or l n 0) here ∙ (ap (λ k. get_or (digits ++ (space ∷ name)) k 0) (sym long) ∙ get_or-append_seam digits space name 0),
   ap (take n) here ∙ (ap (λ k. take k (digits ++ (space ∷ name))) (sym long) ∙ take-append_seam digits (space ∷ name)),
+  ap (drop n) here ∙ (ap (λ k. drop k (digits ++ (space ∷ name))) (sym long) ∙ drop-append_seam digits (space ∷ name)),
 )
 
 -- a text with a fault is that of no id

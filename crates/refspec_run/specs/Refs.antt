@@ -1,13 +1,20 @@
 -- What the lines of a list of refs say, as `git ls-remote`, `git show-ref -d` and
 -- `git for-each-ref --format='%(objectname) %(refname)'` print it. That other lines are bad records is this
 -- project's own rule.
-use Rattle.std.specs.Prelude.{◌≡◌, ◌⊎◌, ℕ, ◌-◌, List, [], ◌∷◌, ◌++◌, None, Some, length, take, codes}
+use Rattle.std.specs.Prelude.{◌≡◌, ◌≢◌, ◌⊎◌, ℕ, ◌-◌, List, [], ◌∷◌, ◌++◌, None, Some, length, take, codes}
 use Rattle.std.specs.List.{slice_get}
 use Rattle.gix_refspec.specs.Matching.Match.{Ref}
 use Rattle.gix_refspec.specs.Laws.Items.{HaveSameNames}
 use Rattle.gix_refspec.specs.Texts.ObjectId.{IsIdText}
+use Rattle.gix_refspec.specs.Texts.Words.{Lacks}
 use Rattle.refspec_run.specs.declared.refs.BadRecord.{BadRecord}
 use Rattle.refspec_run.specs.Input.{AreRecords}
+
+-- the text has bytes, and no tab, newline, carriage return or space: git-check-ref-format(1) has neither spaces nor
+-- control characters in a ref name, nor an empty one. Names with other faults are those of refs here, and a plan leaves
+-- them out
+abbrev pub IsOneWord : List ℕ → Type 0
+IsOneWord text = (text ≢ []) × Lacks 9 text × Lacks 10 text × Lacks 13 text × Lacks 32 text
 
 -- the line is the digits of an id, a tab or a space, and a name
 pub record IsIdThen (line id name : List ℕ) : Type 0 where
@@ -15,6 +22,7 @@ pub record IsIdThen (line id name : List ℕ) : Type 0 where
   pub space : ℕ
   pub spelled : IsIdText digits id
   pub is_space : (space ≡ 9) ⊎ (space ≡ 32)
+  pub named : IsOneWord name
   pub here : line ≡ digits ++ (space ∷ name)
 
 -- the line is an id and this name

@@ -15,7 +15,7 @@ ghost use Rattle.refspec_run.specs.Plan.{AddsPlan, AddsWritten, IsBadLine, IsLef
 ghost use Rattle.refspec_run.specs.Rows.{source_text};
 
 use crate::call::{Form, Task};
-use crate::input::end_of;
+use crate::input::{end_of, first_record};
 use crate::json;
 use crate::mappings::{
     Columns, canonical_texts, destination_of, source_of, tell_mappings, text_at,
@@ -180,16 +180,42 @@ fn tell_bad_record(
 // Why a record tells of no ref, and what to do.
 fn why_malformed(bad: &BadRecord<'_>) -> (&'static str, &'static str) {
     if bad.is_peeled {
-        (
+        return (
             "The tag that this line peels does not stand right before it.",
             "Keep the lines in the order in which Git prints them.",
-        )
-    } else {
-        (
-            "This is no ref: a line is an object id, a tab or a space, and a name.",
-            "Give the output of `git ls-remote`, `git show-ref -d` or `git for-each-ref --format='%(objectname) %(refname)'`.",
-        )
+        );
     }
+    if bad.bytes.contains(&b'\n') {
+        return (
+            "This isn't a ref: with `-z` or `--read-z` a zero byte ends each ref, and here a newline does.",
+            "Leave the option out, or end each line with a zero byte, as `tr '\\n' '\\0'` does.",
+        );
+    }
+    if bad.bytes.ends_with(b"\r") {
+        return (
+            "This isn't a ref: the line ends with a carriage return, as lines do on Windows.",
+            "End lines with a newline alone, as `tr -d '\\r'` does.",
+        );
+    }
+    if has_type(bad.bytes) {
+        return (
+            "This isn't a ref: the type of the object stands before the name.",
+            "Give `git for-each-ref` the option `--format='%(objectname) %(refname)'`.",
+        );
+    }
+    (
+        "This isn't a ref: a line is an object id, one tab or space, and a name without spaces.",
+        "Give the output of `git ls-remote`, `git show-ref -d` or `git for-each-ref --format='%(objectname) %(refname)'`.",
+    )
+}
+
+// Whether the type of an object and a tab follow the first space, as `git for-each-ref` prints by itself.
+fn has_type(line: &[u8]) -> bool {
+    let Some((_, back)) = line.split_once_str(b" ") else {
+        return false;
+    };
+    let types = [b"commit\t".as_slice(), b"tag\t", b"tree\t", b"blob\t"];
+    types.iter().any(|kind| back.starts_with(kind))
 }
 
 // Puts the object of such a record at the end.
@@ -220,9 +246,11 @@ fn put_bad_record(
     out: &mut Vec<u8>,
 ) -> Result<(), AllocError> {
     let (message, advice) = why_malformed(bad);
+    // Of many lines the first is enough to see what they are.
+    let (line, _) = first_record(bad.bytes, b'\n');
     place.put(out, Form::Lines)?;
     out.extend_from_slice(b": ")?;
-    put_quoted(out, bad.bytes)?;
+    put_quoted(out, line)?;
     out.extend_from_slice(b": ")?;
     out.extend_from_slice(message.as_bytes())?;
     out.push(b'\n')?;

@@ -1,14 +1,15 @@
 //! Refs as Git prints them.
 
-ghost use Rattle.std.specs.Prelude.{◌≡◌, ◌↔◌, ◌⊎◌, ◌++◌, ◌∷◌, [], List, ℕ, length, map, IfNone, IfOk, IfSome, IsTrue, OnOk};
+ghost use Rattle.std.specs.Prelude.{◌≡◌, ◌↔◌, ◌⊎◌, ◌++◌, ◌∷◌, [], List, ℕ, length, map, IfNone, IfOk, IfSome, IsTrue, MatchBool, OnOk};
 ghost use Rattle.gix_refspec.specs.Views.Group.{ref_of};
 ghost use Rattle.gix_refspec.specs.Texts.ObjectId.{digits_of, id_bytes};
-ghost use Rattle.refspec_run.specs.Refs.{AddsTold, HasLast, IsIdThen, IsNoRefLine, TellNames, TellsName, bad_bytes, peeled};
+ghost use Rattle.refspec_run.specs.Refs.{AddsTold, HasLast, IsIdThen, IsNoRefLine, IsOneWord, TellNames, TellsName, bad_bytes, peeled};
 
 use crate::input::first_record;
 use bstr::{BStr, ByteSlice};
 use gix_refspec::match_group::Item;
 use gix_refspec::oid::{Kind, ObjectId};
+use refspec_text::cut::holds;
 use std::alloc::{AllocError, Global};
 
 /// A record that tells of no ref.
@@ -141,7 +142,7 @@ impl<'a> Told<'a> {
     }
 }
 
-// The name in a line, after an id and the tab or the space that ends it.
+// The name in a line, after an id and the tab or the space that ends it. A name has bytes, and no white space.
 fn name_told(line: &[u8]) -> Option<&[u8]>
     ensures some { IfSome result (λ name. TellsName line.now name.now) }
     ensures none { IfNone result (IsNoRefLine line.now) }
@@ -166,10 +167,26 @@ fn name_after(line: &[u8], kind: Kind) -> Option<&[u8]>
         return None;
     }
     let (digits, back) = line.split_at(len);
+    let name = &back[1..];
+    if !is_one_word(name) {
+        return None;
+    }
     match ObjectId::from_hex(digits) {
-        Ok(_) => Some(&back[1..]),
+        Ok(_) => Some(name),
         Err(_) => None,
     }
+}
+
+// Whether a text may stand for a name in a line: it has bytes, and no white space, which no ref name has.
+fn is_one_word(text: &[u8]) -> bool
+    ensures { MatchBool result (IsOneWord text.now) (¬ (IsOneWord text.now)) }
+{
+    if text.is_empty() {
+        return false;
+    }
+    let has_line_end = holds(text, b'\n') | holds(text, b'\r');
+    let has_gap = holds(text, b'\t') | holds(text, b' ');
+    !(has_line_end | has_gap)
 }
 
 // The name of the tag, where the name is that of a peeled one.

@@ -31,7 +31,7 @@ use Rattle.refspec_run.specs.Refs.{AddsRefs}
 use Rattle.refspec_run.specs.Rows.{AddsMappings, IsLine}
 use Rattle.refspec_run.proofs.facts.ConflictFacts.{all_told, conflict as two_sources, none_lost, told_lines}
 use Rattle.refspec_run.proofs.facts.InputFacts.{records_once}
-use Rattle.refspec_run.proofs.facts.RefFacts.{blob_ref, line_of, none_lost as none_lost_of, ref_line}
+use Rattle.refspec_run.proofs.facts.RefFacts.{blob_ref, line_of, none_lost as none_lost_of, plain_word, ref_line}
 use Rattle.refspec_run.proofs.facts.RowFacts.{alone, alone_line, not_told, texts}
 
 -- one that was left out for its destination
@@ -234,22 +234,22 @@ planned o are = record {
     _,
     [],
     [],
-    inl (_, ref_line dev_ref.name (λ same. omega (arith, same)), refl, refl),
+    inl (_, ref_line dev_ref.name (plain_word dev_ref.name (omega arith) refl refl refl refl) (λ same. omega (arith, same)), refl, refl),
     (
       _,
       [],
       [],
-      inl (_, ref_line tag_ref.name (λ same. omega (arith, same)), refl, refl),
+      inl (_, ref_line tag_ref.name (plain_word tag_ref.name (omega arith) refl refl refl refl) (λ same. omega (arith, same)), refl, refl),
       (
         _,
         [],
         [],
-        inl (_, ref_line main_ref.name (λ same. omega (arith, same)), refl, refl),
+        inl (_, ref_line main_ref.name (plain_word main_ref.name (omega arith) refl refl refl refl) (λ same. omega (arith, same)), refl, refl),
         (
           _,
           [],
           [],
-          inl (_, ref_line main_ref.name (λ same. omega (arith, same)), refl, refl),
+          inl (_, ref_line main_ref.name (plain_word main_ref.name (omega arith) refl refl refl refl) (λ same. omega (arith, same)), refl, refl),
           (refl, refl),
           refl,
         ),

@@ -1,15 +1,16 @@
 -- What lines of refs say, on each side of the borders between refs, peeled tags and other lines.
-use Rattle.std.proofs.Common.{◌≡◌, ◌≢◌, ℕ, ◌+◌, ◌<◌, ◌++◌, true, List, [], ◌∷◌, Option, Some, None, unwrap_or, inl, inr, codes, drop, get_or, length, map, reverse, refl, sym, ap, ◌∙◌, subst, arith, length-append}
+use Rattle.std.proofs.Common.{◌≡◌, ◌≢◌, ℕ, ◌+◌, ◌<◌, ◌==◌, ◌++◌, false, true, List, [], ◌∷◌, Option, Some, None, unwrap_or, inl, inr, codes, drop, get_or, length, list_any, map, reverse, refl, sym, ap, ◌∙◌, subst, arith, length-append}
 use Rattle.std.proofs.Common.{append_assoc}
 use Rattle.std.proofs.lemmas.List.{append_cancel_left, append_cancel_right, reverse-append}
 use Rattle.gix_refspec.specs.Matching.Match.{Ref}
 use Rattle.gix_refspec.specs.Texts.ObjectId.{digits_of}
 use Rattle.refspec_text.specs.declared.oid.Kind.{Kind}
 use Rattle.refspec_text.specs.declared.oid.Kind.TheVariants.{Sha1, Sha256}
+use Rattle.refspec_text.proofs.lemmas.texts.TextLemmas.{Lacks-here}
 use Rattle.refspec_text.proofs.facts.ObjectIdFacts.{empty_blob, IsIdText-empty_blob}
 use Rattle.refspec_text.proofs.facts.FitFacts.{other_byte}
 use Rattle.refspec_text.proofs.facts.ManualFacts.{Lacks-tested, full, named}
-use Rattle.refspec_run.specs.Refs.{AddsLine, AddsRefs, AddsTold, HasLast, IsIdThen, IsLast, IsNoRefLine, IsPeeledLine, IsRefLine, IsTagLine, TellNames, TellRefs, TellsName, bad_bytes, peeled}
+use Rattle.refspec_run.specs.Refs.{AddsLine, AddsRefs, AddsTold, HasLast, IsIdThen, IsLast, IsNoRefLine, IsOneWord, IsPeeledLine, IsRefLine, IsTagLine, TellNames, TellRefs, TellsName, bad_bytes, peeled}
 use Rattle.refspec_run.proofs.RefLemmas.{AddsTold-elsewhere, AddsTold-peeled, space_at}
 use Rattle.refspec_run.proofs.facts.InputFacts.{records_once}
 
@@ -20,11 +21,25 @@ head_line = codes "e69de29bb2d1d6434b8b29ae775ad8c2e48c5391 HEAD"
 abbrev tag_line : List ℕ
 tag_line = codes "e69de29bb2d1d6434b8b29ae775ad8c2e48c5391\trefs/tags/v1^{}"
 
+-- a text with bytes, none of which is white space
+pub plain_word : (n : List ℕ) → 0 < length n → list_any (λ c. c == 9) n ≡ false → list_any (λ c. c == 10) n ≡ false → list_any (λ c. c == 13) n ≡ false → list_any (λ c. c == 32) n ≡ false → IsOneWord n
+plain_word n some tab newline return space = (λ none. omega (arith, some, ap length none), Lacks-tested 9 n tab, Lacks-tested 10 n newline, Lacks-tested 13 n return, Lacks-tested 32 n space)
+
+-- the names in them
+word_head : IsOneWord (codes "HEAD")
+word_head = plain_word (codes "HEAD") (omega arith) refl refl refl refl
+
+word_v1 : IsOneWord (codes "refs/tags/v1")
+word_v1 = plain_word (codes "refs/tags/v1") (omega arith) refl refl refl refl
+
+word_tag : IsOneWord (codes "refs/tags/v1^{}")
+word_tag = plain_word (codes "refs/tags/v1^{}") (omega arith) refl refl refl refl
+
 says_head : IsIdThen head_line empty_blob (codes "HEAD")
-says_head = record { digits = codes "e69de29bb2d1d6434b8b29ae775ad8c2e48c5391"; space = 32; spelled = IsIdText-empty_blob; is_space = inr refl; here = refl }
+says_head = record { digits = codes "e69de29bb2d1d6434b8b29ae775ad8c2e48c5391"; space = 32; spelled = IsIdText-empty_blob; is_space = inr refl; named = word_head; here = refl }
 
 says_tag : IsIdThen tag_line empty_blob (codes "refs/tags/v1^{}")
-says_tag = record { digits = codes "e69de29bb2d1d6434b8b29ae775ad8c2e48c5391"; space = 9; spelled = IsIdText-empty_blob; is_space = inl refl; here = refl }
+says_tag = record { digits = codes "e69de29bb2d1d6434b8b29ae775ad8c2e48c5391"; space = 9; spelled = IsIdText-empty_blob; is_space = inl refl; named = word_tag; here = refl }
 
 -- a line that ends otherwise is that of no tag
 abbrev last_byte : List ℕ → ℕ
@@ -85,6 +100,27 @@ no_ids = (
             elim says.is_space [ inl tab ↦ no_tab (at ∙ tab) | inr space ↦ no_space (at ∙ space) ]
         by_kind Sha256 is = omega (arith, few, ap length says.here, length-append says.digits (says.space ∷ name), is)
 
+-- nor do lines of an id and something else than one word: the type of an object before the name, two spaces, no name, two
+-- lines, a carriage return
+abbrev id_then : List ℕ → List ℕ
+id_then rest = codes "e69de29bb2d1d6434b8b29ae775ad8c2e48c5391" ++ rest
+
+pub no_words : IsNoRefLine (id_then (codes " commit\trefs/heads/a")) × IsNoRefLine (id_then (codes "  refs/heads/a")) × IsNoRefLine (id_then (codes " ")) × IsNoRefLine (id_then (codes "\ta\nb")) × IsNoRefLine (id_then (codes "\ta\r"))
+no_words = (
+  other (codes " commit\trefs/heads/a") (omega arith) (λ word. Lacks-here 9 (codes "commit") (codes "refs/heads/a") word.1),
+  other (codes "  refs/heads/a") (omega arith) (λ word. Lacks-here 32 [] (codes "refs/heads/a") word.4),
+  other (codes " ") (omega arith) (λ word. word.0 refl),
+  other (codes "\ta\nb") (omega arith) (λ word. Lacks-here 10 (codes "a") (codes "b") word.2),
+  other (codes "\ta\r") (omega arith) (λ word. Lacks-here 13 (codes "a") [] word.3),
+)
+  where
+    other : (rest : List ℕ) → length (id_then rest) < 64 → ¬ (IsOneWord (drop 1 (drop 40 (id_then rest)))) → IsNoRefLine (id_then rest)
+    other rest few none id name says = by_kind says.spelled.kind says.spelled.digits
+      where
+        by_kind : (kind : Kind) → length says.digits ≡ digits_of kind → ⊥
+        by_kind Sha1 is = none (subst IsOneWord (sym (ap (drop 1) (space_at (id_then rest) says.digits name says.space 40 is says.here).3)) says.named)
+        by_kind Sha256 is = omega (arith, few, (space_at (id_then rest) says.digits name says.space 64 is says.here).0)
+
 -- the line of a peeled tag tells its name with the end, with a tab as with a space
 pub told : TellsName head_line (codes "HEAD") × TellsName tag_line (codes "refs/tags/v1" ++ peeled)
 told = ((empty_blob, says_head), (empty_blob, says_tag))
@@ -98,13 +134,14 @@ abbrev pub blob_ref : List ℕ → Ref
 blob_ref n = record { name = n; target = empty_blob; object = None }
 
 -- a name that doesn't end as the line of a peeled tag does is that of a ref
-pub ref_line : (n : List ℕ) → last_byte n ≢ 125 → IsRefLine (line_of n) (blob_ref n)
-ref_line n other = record {
+pub ref_line : (n : List ℕ) → IsOneWord n → last_byte n ≢ 125 → IsRefLine (line_of n) (blob_ref n)
+ref_line n word other = record {
   says = record {
     digits = codes "e69de29bb2d1d6434b8b29ae775ad8c2e48c5391";
     space = 32;
     spelled = IsIdText-empty_blob;
     is_space = inr refl;
+    named = word;
     here = refl;
   };
   whole = λ tag same. other (ap last_byte same ∙ ap (λ (l : List ℕ). get_or l 0 0) (reverse-append tag peeled));
@@ -112,7 +149,7 @@ ref_line n other = record {
 }
 
 head_ref : IsRefLine head_line (blob_ref (codes "HEAD"))
-head_ref = ref_line (codes "HEAD") (λ same. omega (arith, same))
+head_ref = ref_line (codes "HEAD") word_head (λ same. omega (arith, same))
 
 abbrev bad_line : List ℕ
 bad_line = codes "ref: refs/heads/a\tHEAD"
@@ -237,7 +274,7 @@ adds =
           blob_ref (codes "HEAD") ∷ tag ∷ [],
           [],
           [] ∷ [],
-          inl (tag, ref_line (codes "refs/tags/v1") (λ same. omega (arith, same)), refl, refl),
+          inl (tag, ref_line (codes "refs/tags/v1") word_v1 (λ same. omega (arith, same)), refl, refl),
           of_tag,
           refl,
         ),
