@@ -17,10 +17,8 @@ use std::fs::File;
 use std::process::ExitCode;
 use std::{env, io, mem};
 
-// The exit statuses of a usage error, and of a file, a device or memory that fails.
+// The exit status of a usage error.
 const USAGE_STATUS: u8 = 2;
-
-const FAULT_STATUS: u8 = 3;
 
 // Leaves a plan to the end of the process, which frees it at once.
 #[derive(Drop)]
@@ -157,17 +155,22 @@ fn beside_of(rt: &HostRuntime, call: &Call<'_>) -> Result<Vec<u8>, Fault> {
     }
 }
 
-// Tells of a fault, and of the file where it cannot be read.
+// Tells of a fault, and of the file where it cannot be read or has another format.
 fn fail_at(rt: &HostRuntime, fault: Fault, file: &str) -> u8 {
-    if fault == Fault::Read && file != "-" {
-        let _ = eprintln!(rt; "refspec: cannot read {file:?}");
-        return FAULT_STATUS;
+    match fault {
+        Fault::Read if file != "-" => {
+            let _ = eprintln!(rt; "refspec: cannot read {file:?}");
+        }
+        Fault::Settings(_) if file != "-" => {
+            let _ = eprintln!(rt; "refspec: {file:?}: {fault}");
+        }
+        _ => return fail(rt, fault),
     }
-    fail(rt, fault)
+    fault.status()
 }
 
 // Tells of a fault.
 fn fail(rt: &HostRuntime, fault: Fault) -> u8 {
     let _ = eprintln!(rt; "refspec: {fault}");
-    FAULT_STATUS
+    fault.status()
 }

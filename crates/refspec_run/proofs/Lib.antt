@@ -11,5 +11,6 @@ pub mod RefLemmas
 pub mod ConflictLemmas
 pub mod PlanLemmas
 pub mod OutputLemmas
+pub mod SettingLemmas
 pub mod MessageLemmas
 pub mod JsonLemmas

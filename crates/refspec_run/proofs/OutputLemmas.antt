@@ -1,5 +1,5 @@
 -- What was told of the texts of a call is its output.
-use Rattle.std.proofs.Common.{◌≡◌, ℕ, Bool, false, MatchBool, List, [], map, refl, sym, subst}
+use Rattle.std.proofs.Common.{◌≡◌, ℕ, Bool, true, false, MatchBool, List, [], inl, inr, map, refl, sym, subst}
 use Rattle.std.specs.List.{AllZip}
 use Rattle.gix_refspec.specs.Specs.Reading.{Reading}
 use Rattle.refspec_run.specs.declared.call.Call.{Call}
@@ -7,6 +7,8 @@ use Rattle.refspec_run.specs.declared.call.Command.{Command}
 use Rattle.refspec_run.specs.declared.call.Command.TheVariants as command
 use Rattle.refspec_run.specs.declared.call.Form.{Form}
 use Rattle.refspec_run.specs.declared.checked.Checked.{Checked}
+use Rattle.refspec_run.specs.declared.page.Page.{Page}
+use Rattle.refspec_run.specs.declared.settings.Setting.{Setting}
 use Rattle.refspec_run.specs.declared.texts.Text.{Text}
 use Rattle.refspec_run.specs.Output.{AddsFound, IsOutput, Shows, Tells}
 use Rattle.refspec_run.specs.Input.{end_byte}
@@ -15,7 +17,9 @@ use Rattle.refspec_run.specs.Prefixes.{AddsPrefixes}
 use Rattle.refspec_run.specs.Canon.{AddsCanonical}
 use Rattle.refspec_run.specs.Messages.{AreRefusals, TellsRefusals}
 use Rattle.refspec_run.specs.Read.{AddsIfGood, AddsIfRead, AreGood, HasBad, IsChecked}
-use Rattle.refspec_run.specs.Texts.{AreTexts, given_of}
+use Rattle.refspec_run.specs.Settings.{AreSettingsOf, HasLacking}
+use Rattle.refspec_run.specs.Shown.{KeepsPage, KeepsResults}
+use Rattle.refspec_run.specs.Texts.{AreTexts, given_of, spec_input}
 use Rattle.refspec_run.specs.Track.{AddsTracked}
 use Rattle.refspec_run.proofs.CanonLemmas.{ShowsCanonical-of}
 use Rattle.refspec_run.proofs.CheckedLemmas.{AddsIfRead-of, TellsRefused-of}
@@ -41,7 +45,17 @@ IsOutput-of call beside input before messages refused f lent texts shown all old
     let told2 = subst (λ (cs : List Checked). Tells call.command call input f before messages refused cs old new) same_all told in
     let told3 = subst (λ (x : Form). Tells call.command call input x before messages refused all old new) same_form told2 in
     let told4 = subst (λ (x : List ℕ). Tells call.command call input call.form before messages refused all x new) empty told3 in
-    (map given_of texts, are, Shows-of call.command call input before messages refused texts all new read2 none told4)
+    inr (map given_of texts, are, Shows-of call.command call input before messages refused texts all new read2 none told4)
+
+-- a key of refspecs has no value
+pub IsOutput-lacking : (call : Call) (beside input messages : List ℕ) (settings : List Setting) (p q : Page) → AreSettingsOf call.ends beside (spec_input call.command input) settings → HasLacking settings → p.form ≡ call.form → p.results.items ≡ [] → KeepsPage p q → IsOutput call beside input messages true q.results.items
+IsOutput-lacking call beside input messages settings p q read lacks form empty kept = inl (record {
+  settings = settings;
+  read = read;
+  lacks = lacks;
+  status = refl;
+  kept = subst (λ (x : List ℕ). KeepsResults call.form x q.results.items) empty (subst (λ (x : Form). KeepsResults x p.results.items q.results.items) form kept.kept);
+})
 
 -- what `canon` tells
 pub Tells-canon : (k : Command) (call : Call) (input : List ℕ) (f : Form) (before messages : List ℕ) (refused : Bool) (all : List Checked) (old new : List ℕ) → k ≡ command.Canon → AddsCanonical f all old new → MatchBool refused (HasBad all) (AreGood all) → TellsRefusals f all before messages → Tells k call input f before messages refused all old new

@@ -1,12 +1,15 @@
 -- Texts that are gathered one after another.
-use Rattle.std.proofs.Common.{◌≡◌, ℕ, ◌+◌, ◌<◌, List, [], ◌∷◌, ◌++◌, length, take, get_or, map, suc, refl, sym, ap, ◌∙◌, append_assoc, arith}
+use Rattle.std.proofs.Common.{◌≡◌, ◌⊎◌, inl, inr, subst, ℕ, ◌+◌, ◌<◌, List, [], ◌∷◌, ◌++◌, length, take, get_or, map, suc, refl, sym, ap, ◌∙◌, append_assoc, arith}
 use Rattle.std.proofs.lemmas.List.{length-map, length-take-le, map-append, take_more}
 use Rattle.refspec_text.specs.declared.parsing.Operation.{Operation}
 use Rattle.refspec_run.specs.declared.call.Ends.{Ends}
 use Rattle.refspec_run.specs.declared.call.Ends.TheVariants as ends
 use Rattle.refspec_run.specs.declared.texts.Text.{Text}
-use Rattle.refspec_run.specs.Input.{AreRecords, end_byte}
-use Rattle.refspec_run.specs.Texts.{AddsTexts, Given, given_of, numbered, record_at}
+use Rattle.refspec_run.specs.Input.{end_byte}
+use Rattle.refspec_run.specs.declared.settings.Setting.{Setting}
+use Rattle.refspec_run.specs.Settings.{AreSettingsOf}
+use Rattle.refspec_run.specs.Texts.{AddsRecords, AddsTexts, AddsValues, Given, given_of, numbered, record_at}
+use Rattle.refspec_run.proofs.SettingLemmas.{AddsValues-split}
 
 -- one element more was seen, and what it gives was put after the others
 pub seen_next : {W X Y Z : Type 0} (f : W → Y) (h : X → W) (g : Z → Y) (xs : List X) (i : ℕ) (x : X) (old : List Y) (ts more : List Z) (z : Z) → i < length xs → more ≡ ts ++ z ∷ [] → g z ≡ f (h (get_or xs i x)) → map g ts ≡ old ++ map f (map h (take i xs)) → map g more ≡ old ++ map f (map h (take (i + 1) xs))
@@ -44,7 +47,18 @@ numbered-length give k [] = refl
 numbered-length give k (x ∷ xs) = ap suc (numbered-length give (k + 1) xs)
 
 -- the records of an input, each a text
-pub AddsTexts-of : (e : Ends) (op : Operation) (name input : List ℕ) (old new : List Given) (records : List (List ℕ)) → AreRecords (end_byte e) records input → new ≡ old ++ numbered (record_at name op) 1 records → AddsTexts e op name input old new
-AddsTexts-of ends.Newline op name input old new records cut put = (records, cut, put)
-AddsTexts-of ends.Zero op name input old new records cut put = (records, cut, put)
-AddsTexts-of ends.Settings op name input old new records cut put = tt
+pub AddsTexts-of : (e : Ends) (op : Operation) (name input : List ℕ) (old new : List Given) → (e ≡ ends.Newline) ⊎ (e ≡ ends.Zero) → AddsRecords (end_byte e) op name input old new → AddsTexts e op name input old new
+AddsTexts-of ends.Newline op name input old new is added = added
+AddsTexts-of ends.Zero op name input old new is added = added
+AddsTexts-of ends.Settings op name input old new (inl is) added = cc
+AddsTexts-of ends.Settings op name input old new (inr is) added = cc
+
+-- the refspecs among the settings of both inputs
+pub AddsTexts-settings : (e : Ends) (op : Operation) (name other beside input : List ℕ) (settings : List Setting) (old new : List Given) → e ≡ ends.Settings → AreSettingsOf e beside input settings → AddsValues settings old new → (front : List Given) × AddsTexts e op name beside old front × AddsTexts e op other input front new
+AddsTexts-settings e op name other beside input settings old new is of added =
+    subst (λ (x : Ends). (front : List Given) × AddsTexts x op name beside old front × AddsTexts x op other input front new) (sym is) (parts (subst (λ (x : Ends). AreSettingsOf x beside input settings) is of))
+  where
+    parts : AreSettingsOf ends.Settings beside input settings → (front : List Given) × AddsTexts ends.Settings op name beside old front × AddsTexts ends.Settings op other input front new
+    parts (xs, ys, first, second, both) =
+        let (front, one, more) = AddsValues-split xs ys old new (subst (λ (l : List Setting). AddsValues l old new) both added) in
+        (front, (xs, first, one), (ys, second, more))

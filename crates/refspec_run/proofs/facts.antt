@@ -11,6 +11,7 @@ pub mod ReadFacts
 pub mod RefFacts
 pub mod RowFacts
 pub mod RunFacts
+pub mod SettingFacts
 pub mod ShownFacts
 pub mod TextFacts
 pub mod TrackFacts

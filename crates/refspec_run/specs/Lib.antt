@@ -11,6 +11,7 @@ pub mod Read
 pub mod Refs
 pub mod Rows
 pub mod Run
+pub mod Settings
 pub mod Shown
 pub mod Texts
 pub mod Track

@@ -1,6 +1,6 @@
 -- What a call writes and its exit status: its results, and of its messages what they say of refused texts and of conflicts. Of
 -- the results of `check` and `explain` nothing is said here.
-use Rattle.std.specs.Prelude.{◌≡◌, ℕ, Bool, true, false, List, [], Option, map, MatchBool, ⊤}
+use Rattle.std.specs.Prelude.{◌≡◌, ◌⊎◌, ℕ, Bool, true, false, List, [], Option, map, MatchBool, ⊤}
 use Rattle.std.specs.Io.KnownBytes.{Appends}
 use Rattle.gix_refspec.specs.Specs.Reading.{Reading}
 use Rattle.refspec_run.specs.declared.call.Call.{Call}
@@ -8,13 +8,16 @@ use Rattle.refspec_run.specs.declared.call.Command.{Command}
 use Rattle.refspec_run.specs.declared.call.Command.TheVariants as command
 use Rattle.refspec_run.specs.declared.call.Form.{Form}
 use Rattle.refspec_run.specs.declared.checked.Checked.{Checked}
+use Rattle.refspec_run.specs.declared.settings.Setting.{Setting}
 use Rattle.refspec_run.specs.Canon.{AddsCanonical, ShowsCanonical}
 use Rattle.refspec_run.specs.Input.{ReadsToEnd, end_byte}
 use Rattle.refspec_run.specs.Messages.{AreRefusals, TellsRefusals}
 use Rattle.refspec_run.specs.Plan.{AddsPlan}
 use Rattle.refspec_run.specs.Prefixes.{AddsPrefixes}
 use Rattle.refspec_run.specs.Read.{AddsIfGood, AddsIfRead, AreGood, HasBad, TellsRefused}
-use Rattle.refspec_run.specs.Texts.{AreTexts, Given, said}
+use Rattle.refspec_run.specs.Settings.{AreSettingsOf, HasLacking}
+use Rattle.refspec_run.specs.Shown.{KeepsResults}
+use Rattle.refspec_run.specs.Texts.{AreTexts, Given, said, spec_input}
 use Rattle.refspec_run.specs.Track.{AddsTracked}
 
 -- the results grew by what a command tells of specs that are read so, and whether something is refused
@@ -33,10 +36,22 @@ Shows command.Explain call input texts messages refused output = TellsRefused re
 Shows found call input texts messages refused output =
     AddsIfRead (AddsFound found call input call.form messages refused) (AreRefusals call.form texts messages) call.form refused texts [] output
 
--- the messages and the output of a call for the file beside its input and its input
-abbrev pub IsOutput : Call → List ℕ → List ℕ → List ℕ → Bool → List ℕ → Type 0
-IsOutput call beside input messages refused output =
+-- some key of refspecs has no value: then nothing is shown but that
+pub record LacksValues (call : Call) (beside input : List ℕ) (refused : Bool) (output : List ℕ) : Type 0 where
+  pub settings : List Setting
+  pub read : AreSettingsOf call.ends beside (spec_input call.command input) settings
+  pub lacks : HasLacking settings
+  pub status : refused ≡ true
+  pub kept : KeepsResults call.form [] output
+
+-- the messages and the output of a call for the file beside its input and its input, whose keys of refspecs have values
+abbrev pub IsWholeOutput : Call → List ℕ → List ℕ → List ℕ → Bool → List ℕ → Type 0
+IsWholeOutput call beside input messages refused output =
     (texts : List Given) × AreTexts call beside input texts × Shows call.command call input texts messages refused output
+
+-- the messages and the output of a call
+abbrev pub IsOutput : Call → List ℕ → List ℕ → List ℕ → Bool → List ℕ → Type 0
+IsOutput call beside input messages refused output = LacksValues call beside input refused output ⊎ IsWholeOutput call beside input messages refused output
 
 -- the exit status: 1 where something is refused, conflicting, left out or not found
 abbrev pub status_of : Bool → ℕ
@@ -46,6 +61,12 @@ status_of false = 0
 -- the input is all that the reader had left, where the call reads it
 abbrev pub IsInput : Bool → Option (List ℕ) → Option (List ℕ) → List ℕ → Type 0
 IsInput reads old new input = MatchBool reads (ReadsToEnd old new input) (input ≡ [])
+
+-- a fault that refuses the format of settings: what was read, or the file beside it, is none
+abbrev pub RefusesInput : Call → List ℕ → Option (List ℕ) → Option (List ℕ) → Fault → Type 0
+RefusesInput call beside old new (fault.Settings why) =
+    (input : List ℕ) × IsInput call.reads_input old new input × HasNoSettings call.ends beside (spec_input call.command input)
+RefusesInput call beside old new _ = ⊤
 
 -- the output and the messages of the call for what it read were written, and this is its exit status
 pub record Answers (call : Call) (beside : List ℕ) (reader_old reader_new writer_old writer_new errors_old errors_new : Option (List ℕ)) (status : ℕ) : Type 0 where

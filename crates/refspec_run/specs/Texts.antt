@@ -1,7 +1,7 @@
 -- The texts that a call is about, and where each is found. This project's own rule: those among its words, those of the
--- file beside the input, and, but for a plan, those of the input, a text a record. Words and records are counted from 1. Of
--- settings nothing is said here.
-use Rattle.std.specs.Prelude.{◌≡◌, ℕ, ◌+◌, List, [], ◌∷◌, ◌++◌, map, ⊤}
+-- file beside the input, and, but for a plan, those of the input, a text a record, or those that are refspecs among settings.
+-- Words and records are counted from 1.
+use Rattle.std.specs.Prelude.{◌≡◌, ◌⊎◌, ℕ, ◌+◌, List, [], ◌∷◌, ◌++◌, map, MatchOption}
 use Rattle.refspec_text.specs.declared.parsing.Operation.{Operation}
 use Rattle.refspec_run.specs.declared.call.Call.{Call}
 use Rattle.refspec_run.specs.declared.call.Command.{Command}
@@ -11,7 +11,9 @@ use Rattle.refspec_run.specs.declared.call.Ends.TheVariants as ends
 use Rattle.refspec_run.specs.declared.texts.Place.{Place}
 use Rattle.refspec_run.specs.declared.texts.Place.TheVariants as place
 use Rattle.refspec_run.specs.declared.texts.Text.{Text}
+use Rattle.refspec_run.specs.declared.settings.Setting.{Setting}
 use Rattle.refspec_run.specs.Input.{AreRecords}
+use Rattle.refspec_run.specs.Settings.{AreSettings, HoldsSpecs}
 
 -- where a text is found: the word of the call with a number, the record of an input with a number, or a setting of a file
 pub data Spot : Type 0 where
@@ -55,11 +57,34 @@ abbrev pub AddsRecords : ℕ → Operation → List ℕ → List ℕ → List Gi
 AddsRecords end op name input old new =
     (records : List (List ℕ)) × AreRecords end records input × (new ≡ old ++ numbered (record_at name op) 1 records)
 
+-- the text is the refspec that a setting has
+pub record IsValue (s : Setting) (t : Given) : Type 0 where
+  pub holds : HoldsSpecs s.key.now t.operation
+  pub at : t.spot ≡ at_setting s.origin.now s.key.now
+  pub value : MatchOption s.value ⊥ (λ value. t.bytes ≡ value.now)
+
+-- the refspecs among settings, in order
+abbrev pub AreValues : List Setting → List Given → Type 0
+AreValues [] texts = texts ≡ []
+AreValues (s ∷ settings) texts =
+    ((text : Given) × (more : List Given) × IsValue s text × AreValues settings more × (texts ≡ text ∷ more))
+    ⊎ (((text : Given) → ¬ (IsValue s text)) × AreValues settings texts)
+
+-- the texts grew by the refspecs among settings
+abbrev pub AddsValues : List Setting → List Given → List Given → Type 0
+AddsValues settings old new = (values : List Given) × AreValues settings values × (new ≡ old ++ values)
+
 -- the texts grew by those of an input whose records end so
 abbrev pub AddsTexts : Ends → Operation → List ℕ → List ℕ → List Given → List Given → Type 0
 AddsTexts ends.Newline op name input old new = AddsRecords 10 op name input old new
 AddsTexts ends.Zero op name input old new = AddsRecords 0 op name input old new
-AddsTexts ends.Settings op name input old new = ⊤
+AddsTexts ends.Settings op name input old new = (settings : List Setting) × AreSettings input settings × AddsValues settings old new
+
+-- the texts grew by those of both inputs of a call
+abbrev pub AddsInputs : Call → List ℕ → List ℕ → List Given → List Given → Type 0
+AddsInputs call beside input old new =
+    (front : List Given) × AddsTexts call.ends call.operation call.beside.now beside old front
+    × AddsTexts call.ends call.operation call.input.now input front new
 
 -- what a command reads of its input as specs
 abbrev pub spec_input : Command → List ℕ → List ℕ
@@ -70,8 +95,6 @@ spec_input _ input = input
 abbrev pub words_of : Call → List Given
 words_of call = numbered (word_at call.operation) 1 (map (λ w. w.now) call.specs.items)
 
--- the texts of a call: its words, the records of the file beside the input, and what it reads of the input as specs
+-- the texts of a call: its words, those of the file beside the input, and those of what it reads of the input as specs
 abbrev pub AreTexts : Call → List ℕ → List ℕ → List Given → Type 0
-AreTexts call beside input texts =
-    (front : List Given) × AddsTexts call.ends call.operation call.beside.now beside (words_of call) front
-    × AddsTexts call.ends call.operation call.input.now (spec_input call.command input) front texts
+AreTexts call beside input texts = AddsInputs call beside (spec_input call.command input) (words_of call) texts

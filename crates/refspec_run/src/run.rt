@@ -3,21 +3,25 @@
 ghost use Rattle.std.specs.Prelude.{◌≡◌, map, IfOk, IfErr, OnOk};
 ghost use Rattle.std.specs.Io.KnownBytes.{Appends};
 ghost use Rattle.gix_refspec.specs.Views.Spec.{reading_of};
-ghost use Rattle.refspec_run.specs.Fault.{IsReadOrMemory, IsWrite};
-ghost use Rattle.refspec_run.specs.Output.{AddsFound, Answers, IsInput, IsOutput, Tells, status_of as exit_status};
+ghost use Rattle.refspec_run.specs.Fault.{IsReadOrMemory, IsWrite, RefusesFormat};
+ghost use Rattle.refspec_run.specs.Output.{AddsFound, Answers, IsInput, IsOutput, RefusesInput, Tells, status_of as exit_status};
 ghost use Rattle.refspec_run.specs.Run.{Leaves, ReadsWhole};
+ghost use Rattle.refspec_run.specs.Settings.{HasNoSettings};
+ghost use Rattle.refspec_run.specs.Texts.{spec_input as specs_of};
 
 use crate::call::{Call, Command, Task};
 use crate::canon::tell_canon;
 use crate::checked::{Checked, all_good, check_all, has_bad};
 use crate::fault::Fault;
 use crate::input::read_input;
+use crate::lacking::refuse_lacking;
 use crate::page::Page;
 use crate::plan::Discard;
 use crate::planning::tell_plan;
 use crate::prefixes::tell_prefixes;
 use crate::specs::{tell_refusals, tell_specs};
-use crate::texts::texts_of;
+use crate::settings::{has_lacking, settings_in};
+use crate::texts::{spec_input, texts_of};
 use crate::track::tell_tracking;
 use gix_refspec::RefSpecRef;
 use std::alloc::{AllocError, Global};
@@ -42,6 +46,10 @@ pub fn run<R: Read, W: Write, E: Write, D: Discard>(
         (R.remaining reader.old) (R.remaining reader.new)
         (W.contents output.old) (W.contents output.new)
         (E.contents errors.old) (E.contents errors.new)) }
+
+    // An input that is to be settings, and is refused, is none.
+    ensures format { IfErr result (RefusesInput call.now beside.now
+        (R.remaining reader.old) (R.remaining reader.new)) }
 
     // Nothing was written before a fault, but where a writer failed.
     ensures unwritten { IfErr result (Leaves (W.contents output.old) (W.contents output.new)) }
@@ -75,12 +83,20 @@ fn page_of<D: Discard>(
     beside: &[u8],
     input: &[u8],
     done: &mut D,
-) -> Result<(Page, bool), AllocError>
-    ensures { IfOk result (λ made. IsOutput call.now beside.now input.now
+) -> Result<(Page, bool), Fault>
+    ensures ok { IfOk result (λ made. IsOutput call.now beside.now input.now
         made.0.messages.items made.1 made.0.results.items) }
+    ensures err { IfErr result (RefusesFormat (HasNoSettings call.now.ends beside.now
+        (specs_of call.now.command input.now))) }
 {
     let mut page = Page::new(alloc, call.form);
-    let texts = texts_of(alloc, call, beside, input)?;
+    let specs = spec_input(call.command, input);
+    let settings = settings_in(alloc, call.ends, beside, specs)?;
+    if has_lacking(settings.as_slice()) {
+        refuse_lacking(alloc, settings.as_slice(), &mut page)?;
+        return Ok((page, true));
+    }
+    let texts = texts_of(alloc, call, beside, input, settings.as_slice())?;
     let all = check_all(alloc, texts.as_slice())?;
     let task = Task { call, input };
     let refused = tell_page(alloc, &task, all.as_slice(), &mut page, done)?;

@@ -1,12 +1,14 @@
 //! The texts of specs, and where they are.
 
-ghost use Rattle.std.specs.Prelude.{◌≡◌, ◌++◌, decimal, map, IfOk, OnOk};
-ghost use Rattle.refspec_run.specs.Texts.{AddsTexts, AreTexts, given_of, numbered, record_at, spec_input};
+ghost use Rattle.std.specs.Prelude.{◌≡◌, ◌++◌, ◌∷◌, [], decimal, map, IfOk, OnOk};
+ghost use Rattle.refspec_run.specs.Input.{end_byte};
+ghost use Rattle.refspec_run.specs.Settings.{AreSettingsOf};
+ghost use Rattle.refspec_run.specs.Texts.{AddsInputs, AddsRecords, AddsValues, AreTexts, given_of, numbered, record_at, spec_input};
 
 use crate::call::{Call, Command, Ends, Form};
 use crate::input::{end_of, records};
 use crate::quote::put_shown;
-use bstr::ByteSlice;
+use crate::settings::{Setting, operation_of};
 use gix_refspec::parsing::Operation;
 use itoa::Buffer;
 use std::alloc::{AllocError, Global};
@@ -65,15 +67,17 @@ fn put_number(out: &mut Vec<u8>, number: usize) -> Result<(), AllocError>
 }
 
 /// The texts of the specs of a call: those among its words, those of the file beside the input, and, but
-/// for a plan, those of the input.
+/// for a plan, those of the input. Where both are settings, these are given.
 pub fn texts_of<'a>(
     alloc: Global,
     call: &Call<'a>,
     beside: &'a [u8],
     input: &'a [u8],
+    settings: &[Setting<'a>],
 ) -> Result<Vec<Text<'a>>, AllocError>
-    ensures { IfOk result (λ texts. AreTexts call.now beside.now input.now
-        (map given_of texts.items)) }
+    ensures { IfOk result (λ texts. AreSettingsOf call.now.ends beside.now
+        (spec_input call.now.command input.now) settings.now
+        → AreTexts call.now beside.now input.now (map given_of texts.items)) }
 {
     let mut texts = Vec::new(alloc);
     for word in &call.specs {
@@ -83,19 +87,13 @@ pub fn texts_of<'a>(
             bytes: word.as_bytes(),
         })?;
     }
-    add_texts(alloc, call, call.beside, beside, &mut texts)?;
-    add_texts(
-        alloc,
-        call,
-        call.input,
-        spec_input(call.command, input),
-        &mut texts,
-    )?;
+    let input = spec_input(call.command, input);
+    add_inputs(alloc, call, beside, input, settings, &mut texts)?;
     Ok(texts)
 }
 
-// What a command reads of its input as specs: a plan has its refs there.
-fn spec_input(command: Command, input: &[u8]) -> &[u8]
+/// What a command reads of its input as specs: a plan has its refs there.
+pub fn spec_input(command: Command, input: &[u8]) -> &[u8]
     ensures { result.now ≡ spec_input command input.now }
 {
     match command {
@@ -104,7 +102,29 @@ fn spec_input(command: Command, input: &[u8]) -> &[u8]
     }
 }
 
-// Adds the texts of an input.
+// Adds the texts of both inputs: the refspecs among settings, or the records.
+fn add_inputs<'a>(
+    alloc: Global,
+    call: &Call<'a>,
+    beside: &'a [u8],
+    input: &'a [u8],
+    settings: &[Setting<'a>],
+    texts: &mut Vec<Text<'a>>,
+) -> Result<(), AllocError>
+    ensures { OnOk result (AreSettingsOf call.now.ends beside.now input.now settings.now
+        → AddsInputs call.now beside.now input.now
+            (map given_of texts.old.items) (map given_of texts.new.items)) }
+{
+    match call.ends {
+        Ends::Settings => add_values(settings, texts),
+        Ends::Newline | Ends::Zero => {
+            add_texts(alloc, call, call.beside, beside, texts)?;
+            add_texts(alloc, call, call.input, input, texts)
+        }
+    }
+}
+
+// Adds the records of an input, each as a text.
 fn add_texts<'a>(
     alloc: Global,
     call: &Call<'a>,
@@ -112,16 +132,11 @@ fn add_texts<'a>(
     input: &'a [u8],
     texts: &mut Vec<Text<'a>>,
 ) -> Result<(), AllocError>
-    ensures { OnOk result (AddsTexts call.now.ends call.now.operation name.now input.now
+    ensures { OnOk result (AddsRecords (end_byte call.now.ends) call.now.operation name.now input.now
         (map given_of texts.old.items) (map given_of texts.new.items)) }
 {
     let records = records(alloc, input, end_of(call.ends))?;
-    match call.ends {
-        Ends::Settings => add_settings(records.as_slice(), texts),
-        Ends::Newline | Ends::Zero => {
-            add_records(call.operation, name, records.as_slice(), texts)
-        }
-    }
+    add_records(call.operation, name, records.as_slice(), texts)
 }
 
 // Adds records, each as a text.
@@ -150,36 +165,35 @@ fn add_records<'a>(
     Ok(())
 }
 
-// Adds the values of settings. Each has two records: its file, and its key, a newline and its
-// value.
-fn add_settings<'a>(records: &[&'a [u8]], texts: &mut Vec<Text<'a>>) -> Result<(), AllocError> {
-    let mut origin: Option<&'a [u8]> = None;
-    for record in records {
-        match origin {
-            None => origin = Some(*record),
-            Some(file) => {
-                texts.push(setting(file, record))?;
-                origin = None;
-            }
-        }
+// Adds the refspecs among settings.
+fn add_values<'a>(settings: &[Setting<'a>], texts: &mut Vec<Text<'a>>) -> Result<(), AllocError>
+    ensures { OnOk result (AddsValues settings.now
+        (map given_of texts.old.items) (map given_of texts.new.items)) }
+{
+    for setting in settings {
+        add_value(setting, texts)?;
     }
     Ok(())
 }
 
-// The value of a setting: of a push where its key ends so.
-fn setting<'a>(origin: &'a [u8], record: &'a [u8]) -> Text<'a> {
-    let (key, bytes) = match record.split_once_str(b"\n") {
-        None => (record, b"".as_slice()),
-        Some(parts) => parts,
+// Adds the refspec that a setting has, if it has one.
+fn add_value<'a>(setting: &Setting<'a>, texts: &mut Vec<Text<'a>>) -> Result<(), AllocError>
+    ensures { OnOk result (AddsValues (setting.now ∷ [])
+        (map given_of texts.old.items) (map given_of texts.new.items)) }
+{
+    let Some(operation) = operation_of(setting.key) else {
+        return Ok(());
     };
-    let operation = if key.ends_with(b".push") {
-        Operation::Push
-    } else {
-        Operation::Fetch
+    let Some(bytes) = setting.value else {
+        return Ok(());
     };
-    Text {
-        place: Place::Setting { origin, key },
+    texts.push(Text {
+        place: Place::Setting {
+            origin: setting.origin,
+            key: setting.key,
+        },
         operation,
         bytes,
-    }
+    })?;
+    Ok(())
 }

@@ -1,5 +1,6 @@
 -- What lines of refs say, on each side of the borders between refs, peeled tags and other lines.
-use Rattle.std.proofs.Common.{◌≡◌, ◌≢◌, ℕ, ◌+◌, ◌<◌, ◌==◌, ◌++◌, false, true, List, [], ◌∷◌, Option, Some, None, unwrap_or, inl, inr, codes, drop, get_or, length, list_any, map, reverse, refl, sym, ap, ◌∙◌, subst, arith, length-append}
+use Rattle.std.proofs.Common.{◌≡◌, ◌≢◌, ℕ, ◌+◌, ◌<◌, ◌==◌, ◌++◌, false, true, List, [], ◌∷◌, Option, Some, None, unwrap_or, inl, inr, codes, drop, get_or, length, map, reverse, refl, sym, ap, ◌∙◌, subst, arith, length-append}
+use Rattle.std.specs.List.{list_any}
 use Rattle.std.proofs.Common.{append_assoc}
 use Rattle.std.proofs.lemmas.List.{append_cancel_left, append_cancel_right, reverse-append}
 use Rattle.gix_refspec.specs.Matching.Match.{Ref}
