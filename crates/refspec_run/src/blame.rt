@@ -2,9 +2,9 @@
 
 use crate::texts::Text;
 use bstr::{BStr, ByteSlice};
-use gix_refspec::name;
 use gix_refspec::name::PatternError;
 use gix_refspec::parsing::{Error, Operation};
+use gix_refspec::{name, parse};
 use std::alloc::{AllocError, Global};
 
 /// A side of a spec.
@@ -207,7 +207,21 @@ fn first_star(part: Part<'_>) -> Option<Blame<'_>> {
 }
 
 /// What to do about a refused text, or nothing where the reason says it.
-pub fn advice_for(text: &Text<'_>, error: &Error) -> &'static str {
+pub fn advice_for(
+    alloc: Global,
+    text: &Text<'_>,
+    error: &Error,
+) -> Result<&'static str, AllocError> {
+    if are_specs(alloc, text)? {
+        return Ok(
+            "These are several specs. Write each by itself; in a configuration, each as a value of its own.",
+        );
+    }
+    Ok(advice_for_one(text, error))
+}
+
+// What to do about a text that is to be one spec.
+fn advice_for_one(text: &Text<'_>, error: &Error) -> &'static str {
     match error {
         Error::Empty => "To push all matching branches, write `:`.",
         Error::NegativeWithDestination => "Leave out the colon and what stands behind it.",
@@ -233,10 +247,52 @@ fn advice_for_pattern(text: &Text<'_>) -> &'static str {
         }
         (Part { bytes: b"", .. }, _) =>
             "Write a source with a `*` too, as in `refs/heads/*:refs/remotes/origin/*`.",
-        (_, None | Some(Part { bytes: b"", .. })) => {
-            "Add a destination with a `*`, as in `refs/heads/*:refs/remotes/origin/*`, or name one ref."
+        (source, None | Some(Part { bytes: b"", .. })) => {
+            advice_for_source(source.bytes, text.bytes.starts_with(b"+"))
         }
         _ => "Write a `*` into the other side too, or name one ref on both.",
+    }
+}
+
+// What to do about a pattern without a destination: which one is usual, with the sign that the spec has.
+fn advice_for_source(source: &[u8], is_forced: bool) -> &'static str {
+    match (source.starts_with(b"refs/tags/"), is_forced) {
+        (false, false) => {
+            "Add a destination with a `*`, as in `refs/heads/*:refs/remotes/origin/*`, or name one ref."
+        }
+        (false, true) => {
+            "Add a destination with a `*`, as in `+refs/heads/*:refs/remotes/origin/*`, or name one ref."
+        }
+        (true, false) => {
+            "Add a destination with a `*`, as in `refs/tags/*:refs/tags/*`, or name one ref."
+        }
+        (true, true) => {
+            "Add a destination with a `*`, as in `+refs/tags/*:refs/tags/*`, or name one ref."
+        }
+    }
+}
+
+// Whether a text is several specs with spaces between them, each with a colon or a star, or negative: other words may be
+// meant as parts of a name. None begins or ends with a colon, as a space may only have been put beside one.
+fn are_specs(alloc: Global, text: &Text<'_>) -> Result<bool, AllocError> {
+    let mut count: usize = 0;
+    for part in text.bytes.fields() {
+        let is_marked = part.starts_with(b"^") || part.contains(&b':') || part.contains(&b'*');
+        let is_side = part.starts_with(b":") || part.ends_with(b":");
+        if !is_marked || is_side || !is_spec(alloc, part, text.operation)? {
+            return Ok(false);
+        }
+        count = count.saturating_add(1);
+    }
+    Ok(count > 1)
+}
+
+// Whether a text is a spec.
+fn is_spec(alloc: Global, text: &[u8], operation: Operation) -> Result<bool, AllocError> {
+    match parse(alloc, BStr::new(text), operation) {
+        Ok(_) => Ok(true),
+        Err(Error::Memory) => Err(AllocError),
+        Err(_) => Ok(false),
     }
 }
 
@@ -248,7 +304,10 @@ fn advice_for_name(text: &[u8], fault: name::Error) -> &'static str {
         }
         name::Error::InvalidByte { byte: b' ' } if begins_or_ends(text, b' ') =>
             "Leave out the space.",
-        name::Error::InvalidByte { byte: b' ' | b'\n' } => "Write each spec by itself.",
+        name::Error::InvalidByte { byte: b' ' } => {
+            "No ref name has a space. Several specs are written each by itself."
+        }
+        name::Error::InvalidByte { byte: b'\n' } => "Write each spec by itself.",
         name::Error::InvalidByte { byte: b'\r' } if text.ends_with(b"\r") => {
             "The line ends with a carriage return. End lines with a newline alone."
         }
@@ -256,7 +315,7 @@ fn advice_for_name(text: &[u8], fault: name::Error) -> &'static str {
             "To exclude refs, begin the spec with one `^`, without a `+`."
         }
         name::Error::InvalidByte { byte: b':' } => {
-            "One colon parts the source from the destination. Leave out the others."
+            "One colon parts the source from the destination, as in `main:refs/remotes/origin/main`. Leave out the others."
         }
         name::Error::InvalidByte { byte: b'~' | b'^' } => {
             "Expressions such as `main~2` stand only before the colon of a push."
@@ -267,12 +326,22 @@ fn advice_for_name(text: &[u8], fault: name::Error) -> &'static str {
         name::Error::LockSuffix => "Git keeps such names for its lock files. Choose another.",
         name::Error::EmptyComponent => "Leave out the slash that is too much.",
         name::Error::RepeatedDot =>
-            "Write one dot: `..` is for ranges of commits, as in `v1..main`.",
+            "Name one ref, or write one dot: `..` is for ranges of commits, as in `v1..main`.",
         name::Error::EndsWithDot => "Leave out the dot at the end.",
+        name::Error::StartsWithDot if has_parent(text) => {
+            "Write the name in full: `..` does not lead to a folder above."
+        }
         name::Error::StartsWithDot => "Leave out the dot, or write something before it.",
         name::Error::Asterisk => "Name one ref, without a `*`.",
         name::Error::Empty => "Write the name of a ref.",
     }
+}
+
+// Whether a component of a side is `..`, as in a path.
+fn has_parent(text: &[u8]) -> bool {
+    sides_of(text).iter().any(|side| side.starts_with(b"../")
+        || side.find(b"/../").is_some()
+        || side.ends_with(b"/.."))
 }
 
 // Whether a side of a spec begins with a byte.

@@ -104,6 +104,7 @@ pub fn put_refusal(
     let side = blame.map(|blame| blame.side.as_str());
     let part = wrong.as_deref();
     let at = blame.map(|blame| blame.at);
+    let advice = advice_for(alloc, text, error)?;
     let object = refspec_json::Refused {
         place: place.as_str(),
         operation: operation_of(text.operation),
@@ -113,7 +114,7 @@ pub fn put_refusal(
         side,
         part,
         at,
-        advice: advice_for(text, error),
+        advice,
     };
     object.put_line(alloc, out)
 }

@@ -8,7 +8,7 @@ ghost use Rattle.refspec_run.specs.Shown.{AddsNames, Grows, KeepsPage};
 use crate::blame::{Blame, advice_for, blame_of};
 use crate::call::Form;
 use crate::json;
-use crate::quote::{put_in_quotes, put_quoted};
+use crate::quote::{put_in_message, put_in_quotes, put_quoted};
 use crate::texts::Text;
 use gix_refspec::parsing::Error;
 use std::alloc::{AllocError, Global};
@@ -100,7 +100,7 @@ fn put_reason(out: &mut Vec<u8>, text: &Text<'_>, error: &Error) -> Result<(), A
 {
     text.place.put(out, Form::Lines)?;
     out.extend_from_slice(b": ")?;
-    put_quoted(out, text.bytes)?;
+    put_in_message(out, text.bytes)?;
     out.extend_from_slice(b": ")?;
     out.extend_from_slice(error.explanation().as_bytes())?;
     out.push(b'\n')?;
@@ -116,7 +116,7 @@ fn put_details(
 ) -> Result<(), AllocError>
     ensures { OnOk result (Grows out.old.items out.new.items) }
 {
-    let advice = advice_for(text, error);
+    let advice = advice_for(alloc, text, error)?;
     match blame_of(alloc, text, error)? {
         None => put_advice(out, advice),
         Some(blame) => {

@@ -22,7 +22,7 @@ use crate::mappings::{
 };
 use crate::page::{Page, put_advice};
 use crate::plan::{Discard, Plan, Written, plan_of};
-use crate::quote::put_quoted;
+use crate::quote::put_in_message;
 use crate::refs::{BadRecord, Told};
 use crate::texts::Place;
 use bstr::{BString, ByteSlice};
@@ -250,7 +250,7 @@ fn put_bad_record(
     let (line, _) = first_record(bad.bytes, b'\n');
     place.put(out, Form::Lines)?;
     out.extend_from_slice(b": ")?;
-    put_quoted(out, line)?;
+    put_in_message(out, line)?;
     out.extend_from_slice(b": ")?;
     out.extend_from_slice(message.as_bytes())?;
     out.push(b'\n')?;
@@ -320,15 +320,15 @@ fn put_left_out(
 ) -> Result<(), AllocError> {
     let wrong = wrong_of(bad, source);
     out.extend_from_slice(b"left out: ")?;
-    put_quoted(out, source)?;
+    put_in_message(out, source)?;
     if let Some(name) = destination_of(&bad.mapping.rhs) {
         out.extend_from_slice(b" -> ")?;
-        put_quoted(out, name)?;
+        put_in_message(out, name)?;
     }
     out.extend_from_slice(b" (")?;
-    put_quoted(out, spec)?;
+    put_in_message(out, spec)?;
     out.extend_from_slice(b"): ")?;
-    put_quoted(out, wrong)?;
+    put_in_message(out, wrong)?;
     out.extend_from_slice(b" is not a valid ref name. ")?;
     out.extend_from_slice(why_left_out(wrong).as_bytes())?;
     out.push(b'\n')?;
@@ -416,7 +416,7 @@ fn put_conflict(alloc: Global, issue: &Issue, out: &mut Vec<u8>) -> Result<(), A
         specs,
     } = issue;
     out.extend_from_slice(b"conflict: ")?;
-    put_quoted(out, destination_full_ref_name.as_bytes())?;
+    put_in_message(out, destination_full_ref_name.as_bytes())?;
     out.extend_from_slice(b" would be written from several refs, so nothing is fetched:\n")?;
     put_claims(alloc, sources.as_slice(), specs.as_slice(), out)?;
     put_advice(
@@ -447,9 +447,9 @@ fn put_claim(source: &[u8], text: &[u8], out: &mut Vec<u8>) -> Result<(), AllocE
     ensures { OnOk result (PutsClaim source.now text.now out.old.items out.new.items) }
 {
     out.extend_from_slice(b"    ")?;
-    put_quoted(out, source)?;
+    put_in_message(out, source)?;
     out.extend_from_slice(b" by ")?;
-    put_quoted(out, text)?;
+    put_in_message(out, text)?;
     out.push(b'\n')?;
     Ok(())
 }

@@ -23,6 +23,17 @@ pub fn put_quoted(out: &mut Vec<u8>, text: &[u8]) -> Result<(), AllocError>
     put_in_quotes(out, text)
 }
 
+/// Puts a text at the end that stands in a sentence: in quotes also where it has a space or ends with a colon, so that
+/// its ends are seen.
+pub fn put_in_message(out: &mut Vec<u8>, text: &[u8]) -> Result<(), AllocError>
+    ensures { OnOk result (PutsQuoted text.now out.old.items out.new.items) }
+{
+    if text.contains(&b' ') || text.ends_with(b":") {
+        return put_in_quotes(out, text);
+    }
+    put_quoted(out, text)
+}
+
 /// Puts a text at the end as a form shows it: raw in records, else as it is or quoted.
 pub fn put_shown(out: &mut Vec<u8>, text: &[u8], form: Form) -> Result<(), AllocError>
     ensures { OnOk result (PutsShown form text.now out.old.items out.new.items) }

@@ -171,6 +171,13 @@ fn is_configuration_file(input: &[u8]) -> bool {
 
 // Whether a record is the scope of a setting (git-config(1), `--show-scope`).
 fn is_scope(record: &[u8]) -> bool {
-    let scopes = [b"system".as_slice(), b"global", b"local", b"worktree", b"command", b"unknown"];
+    let scopes = [
+        b"system".as_slice(),
+        b"global",
+        b"local",
+        b"worktree",
+        b"command",
+        b"unknown",
+    ];
     scopes.contains(&record)
 }

@@ -13,4 +13,4 @@ returns c =
     let name : c.as_bytes.result.now ≡ conflict.destination = search rules in
     let sources : map start_of c.as_slice.result.now ≡ conflict.sources = search rules in
     let texts : map bstring_bytes c.as_slice-2.result.now ≡ conflict.texts = search rules in
-    on_ok c.put_advice.result _ _ c.put_advice.ensures (λ grows. PutsConflict-of conflict c.as_bytes.result.now (map start_of c.as_slice.result.now) (map bstring_bytes c.as_slice-2.result.now) c.args.out.now.items c.extend_from_slice.new.self.items c.put_quoted.new.out.items c.extend_from_slice-2.new.self.items c.put_claims.new.out.items c.put_advice.new.out.items name sources texts c.in_ok-extend_from_slice.ensures.items c.in_ok-put_quoted.ensures c.in_ok-extend_from_slice-2.ensures.items c.in_ok-put_claims.ensures grows)
+    on_ok c.put_advice.result _ _ c.put_advice.ensures (λ grows. PutsConflict-of conflict c.as_bytes.result.now (map start_of c.as_slice.result.now) (map bstring_bytes c.as_slice-2.result.now) c.args.out.now.items c.extend_from_slice.new.self.items c.put_in_message.new.out.items c.extend_from_slice-2.new.self.items c.put_claims.new.out.items c.put_advice.new.out.items name sources texts c.in_ok-extend_from_slice.ensures.items c.in_ok-put_in_message.ensures c.in_ok-extend_from_slice-2.ensures.items c.in_ok-put_claims.ensures grows)

@@ -15,7 +15,7 @@ returns-then-not-is_origin-clause-err c = (
 
 pub loop-record-preserved : goal.loop-record-preserved
 loop-record-preserved c = elim c.match-origin.branch [
-  in-Some+in_ok-push-in-Some w ↦ PairsSoFar-setting c.deref-record-items.result.now c.loop-record.record-index _ _ c.loop-record.origin c.match-origin.origin c.loop-record.settings.items c.match-origin.settings.items w.read_setting.result c.loop-record-test.true w.read_setting.ensures w.in-Some.is w.origin-is (ap (λ v. v.items) w.settings-is ∙ w.in_ok-push-in-Some.ensures.items) c.loop-record.invariant
+  | in-Some+in_ok-push-in-Some w ↦ PairsSoFar-setting c.deref-record-items.result.now c.loop-record.record-index _ _ c.loop-record.origin c.match-origin.origin c.loop-record.settings.items c.match-origin.settings.items w.read_setting.result c.loop-record-test.true w.read_setting.ensures w.in-Some.is w.origin-is (ap (λ v. v.items) w.settings-is ∙ w.in_ok-push-in-Some.ensures.items) c.loop-record.invariant
   | in-None+else-not-is_origin w ↦ PairsSoFar-origin c.deref-record-items.result.now c.loop-record.record-index _ c.loop-record.origin c.match-origin.origin c.loop-record.settings.items c.match-origin.settings.items c.loop-record-test.true (rw w.if-not-is_origin.false at w.is_origin.ensures) w.in-None.is w.origin-is (ap (λ v. v.items) w.settings-is) c.loop-record.invariant
 ]
 
