@@ -18,6 +18,7 @@ _git_refspec() {
     ,--*) __gitcomp "--json --remote --help --version" ;;
     ,*) __gitcomp "check plan track prefixes" ;;
     check,--*) __gitcomp "--json --verbose --push --remote --help" ;;
+    plan,--*) __gitcomp "--json --long --all --remote --help" ;;
     prefixes,--*) __gitcomp "--json --patterns --remote --help" ;;
     *,--*) __gitcomp "--json --remote --help" ;;
     track,*) __git_complete_refs ;;

@@ -42,6 +42,8 @@ complete -c git -n $any -l json -d 'Write one JSON object a line'
 complete -c git -n $any -l remote -x -a '(__fish_git_refspec_git remote)' -d 'The remote'
 complete -c git -n '__fish_git_refspec_is check' -s v -l verbose -d 'Tell good values too'
 complete -c git -n '__fish_git_refspec_is check' -l push -d 'The given specs are for a push'
+complete -c git -n '__fish_git_refspec_is plan' -l long -d 'Show each mapping with its spec'
+complete -c git -n '__fish_git_refspec_is plan' -l all -d 'Tell every conflict and all that is left out'
 complete -c git -n '__fish_git_refspec_is prefixes' -l patterns -d 'Write patterns for git ls-remote'
 complete -c git -n '__fish_git_refspec_is check plan prefixes' -a '(__fish_git_refspec_git remote)' -d Remote
 complete -c git -n '__fish_git_refspec_is track' \

@@ -20,7 +20,7 @@ _refspec() {
     case ${COMP_WORDS[1]} in
     check) options="$options --push --verbose -v --config" ;;
     explain | canon) options="$options --push" ;;
-    plan) options="$options --refs" ;;
+    plan) options="$options --refs --long --all" ;;
     track) options="$options --ref" ;;
     prefixes) options="$options --patterns" ;;
     esac

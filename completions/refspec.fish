@@ -38,6 +38,8 @@ complete -c refspec -n '__fish_seen_subcommand_from plan' -s z -d 'Reads and wri
 complete -c refspec -n '__fish_seen_subcommand_from plan' -l read-z -d 'Reads records that end with a zero byte, and writes lines'
 complete -c refspec -n '__fish_seen_subcommand_from plan' -l json -d 'Writes one JSON object a line, refusals too'
 complete -c refspec -n '__fish_seen_subcommand_from plan' -l refs -r -F -d 'Reads the refs of the remote from this file, and not from the standard input'
+complete -c refspec -n '__fish_seen_subcommand_from plan' -l long -d 'Shows each mapping with its spec, and not below it'
+complete -c refspec -n '__fish_seen_subcommand_from plan' -l all -d 'Tells every conflict and all that is left out, and not only the first 20 of each'
 complete -c refspec -n '__fish_seen_subcommand_from plan' -s h -l help -d 'Print help'
 
 complete -c refspec -n '__fish_seen_subcommand_from track' -l specs -r -F -d 'Reads specs from this file too, or from the standard input for `-`'

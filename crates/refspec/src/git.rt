@@ -1,7 +1,7 @@
 //! The program's side of `git refspec`: the files of its folder, and what it writes.
 
+use crate::AtExit;
 use crate::streams::{CLOSED_STATUS, Stream};
-use crate::{AtExit, FAULT_STATUS};
 use refspec_git::answer::{Answer, Machine, Told, answer_call};
 use refspec_run::fault::Fault;
 use refspec_run::input::read_input;
@@ -94,5 +94,5 @@ fn tell(rt: &HostRuntime, told: &Told) -> u8 {
 // Tells of a fault.
 fn fail(rt: &HostRuntime, fault: Fault) -> u8 {
     let _ = eprintln!(rt; "git refspec: {fault}");
-    FAULT_STATUS
+    fault.status()
 }

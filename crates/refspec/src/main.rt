@@ -7,13 +7,14 @@ mod words;
 
 use crate::git::run_git;
 use crate::streams::{CLOSED_STATUS, Stream};
-use crate::words::{call_of, command_line, names_no_file};
+use crate::words::{call_of, command_line, names_no_file, names_two_inputs};
 use refspec_run::call::{Call, Command};
 use refspec_run::fault::Fault;
 use refspec_run::input::read_input;
 use refspec_run::plan::{Discard, Plan};
 use refspec_run::run::run;
 use std::fs::File;
+use std::io::IsTerminal;
 use std::process::ExitCode;
 use std::{env, io, mem};
 
@@ -67,8 +68,14 @@ fn run_words(rt: &HostRuntime, words: &[String]) -> u8 {
             USAGE_STATUS
         }
         Some(("git", matches)) => run_git(rt, matches.get_str("folder").unwrap_or("")),
+        Some((name, matches)) if names_two_inputs(name, matches) => {
+            let _ = eprintln!(rt;
+                "refspec: give the specs of a plan in one file, by - or by --specs"
+            );
+            USAGE_STATUS
+        }
         Some((name, matches)) => {
-            let Ok(call) = call_of(rt.alloc(), name, matches) else {
+            let Ok(call) = call_of(rt.alloc(), name, matches, rt.stderr().is_terminal()) else {
                 return fail(rt, Fault::Memory);
             };
             run_call(rt, &call)

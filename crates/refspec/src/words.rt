@@ -5,6 +5,9 @@ use gix_refspec::parsing::Operation;
 use refspec_run::call::{Call, Command, Ends, Form};
 use std::alloc::{AllocError, Global};
 
+// What stands for the standard input in place of a spec or of the name of a file.
+const INPUT: &str = "-";
+
 /// The command line, with its pages of help.
 pub fn command_line<'a>(alloc: Global) -> Result<clap::Command<'a>, AllocError> {
     clap::Command::new(alloc, "refspec")
@@ -48,7 +51,7 @@ fn line<'a>(alloc: Global, name: &'a str, about: &'a str) -> Result<clap::Comman
         alloc,
         name,
         about,
-        "A refspec. Without any, the specs are read from the input, one a line",
+        "A refspec. Without any, or for `-`, specs are read from the input, one a line",
     )
 }
 
@@ -155,7 +158,19 @@ fn plan_line<'a>(alloc: Global) -> Result<clap::Command<'a>, AllocError> {
             .value_name("FILE")
             .action(ArgAction::Set)
             .help("Reads the refs of the remote from this file, and not from the standard input"),
+    )?
+    .arg(flag(
+        alloc,
+        "long",
+        "Shows each mapping with its spec, and not below it",
     )
+    .long("long"))?
+    .arg(flag(
+        alloc,
+        "all",
+        "Tells every conflict and all that is left out, and not only the first 20 of each",
+    )
+    .long("all"))
 }
 
 fn track_line<'a>(alloc: Global) -> Result<clap::Command<'a>, AllocError> {
@@ -189,15 +204,23 @@ pub fn call_of<'a>(
     alloc: Global,
     name: &str,
     matches: &ArgMatches<'a>,
+    is_watched: bool,
 ) -> Result<Call<'a>, AllocError> {
-    let specs = listed(alloc, matches, "spec")?;
     let refs = listed(alloc, matches, "ref")?;
+    let mut specs = listed(alloc, matches, "spec")?;
+    let count = specs.len();
+    specs.retain(|spec| *spec != INPUT);
+    let has_dash = specs.len() < count;
     let command = command_of(name);
     let is_plan = command == Command::Plan;
     let file = matches.get_str("specs");
-    let reads_input = is_plan || specs.is_empty() || file.is_some();
-    let specs_file = or_else(file, if is_plan { "" } else { "-" });
-    let refs_file = or_else(matches.get_str("refs"), "-");
+    // The standard input and a file may both have specs.
+    let (input, beside) = match (is_plan, has_dash, file) {
+        (true, true, _) => (or_else(matches.get_str("refs"), INPUT), INPUT),
+        (true, false, _) => (or_else(matches.get_str("refs"), INPUT), or_else(file, "")),
+        (false, true, _) => (INPUT, or_else(file, "")),
+        (false, false, _) => (or_else(file, INPUT), ""),
+    };
     let operation = if matches.get_flag("push") {
         Operation::Push
     } else {
@@ -210,12 +233,25 @@ pub fn call_of<'a>(
         ends: ends_of(matches),
         verbose: matches.get_flag("verbose"),
         patterns: matches.get_flag("patterns"),
+        long: matches.get_flag("long"),
+        all: matches.get_flag("all"),
+        is_watched,
+        reads_input: is_plan || has_dash || file.is_some() || specs.is_empty(),
         specs,
         refs,
-        reads_input,
-        input: if is_plan { refs_file } else { specs_file },
-        beside: if is_plan { specs_file } else { "" },
+        input,
+        beside,
     })
+}
+
+/// Whether the specs of a plan are to be read from two inputs.
+pub fn names_two_inputs(name: &str, matches: &ArgMatches<'_>) -> bool {
+    let has_dash = match matches.get_strs("spec") {
+        None => false,
+        Some(words) => words.iter().any(|word| *word == INPUT),
+    };
+    let is_file = matches.get_str("specs").is_some_and(|file| file != INPUT);
+    command_of(name) == Command::Plan && has_dash && is_file
 }
 
 /// Whether a file is given by an empty name.

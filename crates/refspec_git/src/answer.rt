@@ -7,7 +7,6 @@ use crate::checking::{tell_check, tell_refused_values};
 use crate::choice::{Repository, choice_of};
 use crate::fetch::{tell_plan, tell_prefixes};
 use crate::refusal::Refusal;
-use crate::settings::settings_of;
 use crate::tracking::tell_tracking;
 use crate::usage::{OPTIONS, USAGE, VERSION};
 use crate::words::{Command, Request, Wish, wish_of};
@@ -16,6 +15,7 @@ use refspec_run::fault::Fault;
 use refspec_run::input::records;
 use refspec_run::plan::Discard;
 use refspec_run::run::run;
+use refspec_run::settings::settings_of;
 use std::alloc::{AllocError, AllocFailed, Global};
 
 /// The machine that a call runs on.
@@ -274,6 +274,9 @@ fn answer_in<'a, M: Machine, D: Discard>(
                 return Err(Stop::Refused(old));
             }
             if command == Command::Prefixes {
+                if !repository.may_fetch(choice.remote) {
+                    return Err(Stop::Refused(Refusal::NoRemoteNoSpec(choice.remote)));
+                }
                 return tell_prefixes(alloc, request, repository, &choice, done);
             }
             tell_plan(alloc, machine, request, repository, &choice, done)

@@ -2,14 +2,14 @@
 
 use crate::answer::{Machine, Stop, Told};
 use crate::choice::{Looks, Repository, looks_of};
-use crate::objects::{ADVICE_MISSING, WHY_MISSING, put_missing_value};
-use crate::refusal::{Refusal, put_about};
-use crate::settings::{Setting, name_and_variable, put_settings};
+use crate::refusal::Refusal;
+use crate::settings::{name_and_variable, put_settings};
 use crate::words::Request;
 use gix_refspec::parsing::Operation;
-use refspec_run::call::{Call, Command, Ends, Form};
+use refspec_run::call::{Command, Form};
 use refspec_run::fault::Fault;
 use refspec_run::plan::Discard;
+use refspec_run::settings::Setting;
 use std::alloc::{AllocError, Global};
 use std::collections::BTreeSet;
 
@@ -32,6 +32,12 @@ pub fn tell_check<'a, M: Machine, D: Discard>(
         done,
         &mut told,
     )?;
+    if told.status == 0 && chosen.names_remotes() {
+        let all = tell_refused_values(alloc, request, repository.settings, done)?;
+        if all.status != 0 {
+            told.refuse(&Refusal::OtherRefused)?;
+        }
+    }
     if chosen.remotes.is_none() {
         for old in repository.old {
             if let Some(refusal) = repository.old_remote(old.name.as_slice()) {
@@ -61,6 +67,16 @@ struct Chosen<'a> {
     // The names of remotes, or all remotes.
     remotes: Option<BTreeSet<&'a [u8]>>,
     specs: Vec<&'a str>,
+}
+
+impl Chosen<'_> {
+    // Whether some remotes are named.
+    fn names_remotes(&self) -> bool {
+        match &self.remotes {
+            None => false,
+            Some(names) => !names.is_empty(),
+        }
+    }
 }
 
 // What the words choose.
@@ -167,7 +183,7 @@ pub fn tell_refused_values<D: Discard>(
     Ok(told)
 }
 
-// Tells specs and values: those without a value first, and then as `refspec check` does.
+// Tells specs and values, as `refspec check` does: those without a value first, for which Git reads no other.
 fn tell_values<D: Discard>(
     alloc: Global,
     request: &Request<'_>,
@@ -176,11 +192,28 @@ fn tell_values<D: Discard>(
     done: &mut D,
     told: &mut Told,
 ) -> Result<(), Fault> {
+    let mut missing = Vec::new(alloc);
+    let mut given = Vec::with_capacity(alloc, values.len())?;
     for value in values {
         if value.value.is_none() {
-            tell_missing(alloc, request.form, value, told)?;
+            missing.push(*value)?;
+        } else {
+            given.push(*value)?;
         }
     }
+    check(alloc, request, &[], missing.as_slice(), done, told)?;
+    check(alloc, request, specs, given.as_slice(), done, told)
+}
+
+// Tells specs and values, as `refspec check` does.
+fn check<D: Discard>(
+    alloc: Global,
+    request: &Request<'_>,
+    specs: &[&str],
+    values: &[Setting<'_>],
+    done: &mut D,
+    told: &mut Told,
+) -> Result<(), Fault> {
     let mut beside = Vec::new(alloc);
     put_settings(&mut beside, values)?;
     let operation = if request.push {
@@ -188,41 +221,8 @@ fn tell_values<D: Discard>(
     } else {
         Operation::Fetch
     };
-    let call = Call {
-        command: Command::Check,
-        operation,
-        form: request.form,
-        ends: Ends::Settings,
-        verbose: request.verbose,
-        patterns: false,
-        specs: Vec::from_slice(alloc, specs)?,
-        refs: Vec::new(alloc),
-        reads_input: false,
-        input: "",
-        beside: "",
-    };
+    let mut call = request.call_of(alloc, Command::Check);
+    call.operation = operation;
+    call.specs = Vec::from_slice(alloc, specs)?;
     told.run(alloc, &call, beside.as_slice(), b"", done)
-}
-
-// Tells of a setting without a value.
-fn tell_missing(
-    alloc: Global,
-    form: Form,
-    setting: &Setting<'_>,
-    told: &mut Told,
-) -> Result<(), AllocError> {
-    told.status = 1;
-    let mut place = Vec::new(alloc);
-    put_about(&mut place, "", setting.origin, ": ")?;
-    put_about(&mut place, "", setting.key, "")?;
-    if form == Form::Json {
-        let is_push = setting.key.ends_with(b".push");
-        return put_missing_value(alloc, &mut told.results, place.as_slice(), is_push);
-    }
-    told.messages.extend_from_slice(place.as_slice())?;
-    told.messages.extend_from_slice(b": ")?;
-    told.messages.extend_from_slice(WHY_MISSING.as_bytes())?;
-    told.messages.extend_from_slice(b"\n    ")?;
-    told.messages.extend_from_slice(ADVICE_MISSING.as_bytes())?;
-    Ok(told.messages.push(b'\n')?)
 }

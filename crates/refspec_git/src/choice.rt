@@ -7,9 +7,9 @@ ghost use Rattle.refspec_git.specs.Words.{BeginsAsSpec};
 use crate::answer::OldRemote;
 use crate::refusal::Refusal;
 use crate::remotes::{default_remote, is_configured, is_rewritten};
-use crate::settings::Setting;
 use crate::words::Request;
 use bstr::ByteSlice;
+use refspec_run::settings::Setting;
 use refspec_text::cut::holds;
 use refspec_text::side::below_refs;
 use std::alloc::Global;
@@ -115,6 +115,11 @@ impl<'b> Repository<'_, 'b> {
             }
         }
         None
+    }
+
+    /// Whether a remote that was chosen is one: Git takes any other word for a path.
+    pub fn may_fetch(&self, remote: &[u8]) -> bool {
+        self.knows(remote) || looks_of(remote) != Looks::Plain
     }
 
     // Whether a first word is a remote for sure.

@@ -5,12 +5,15 @@ use crate::ask::{GitCall, LINES};
 use crate::checking::text_of;
 use crate::choice::{Choice, Repository};
 use crate::refusal::{Refusal, put_about};
-use crate::settings::{Setting, last_value, put_settings, settings_named};
+use crate::settings::{last_value, put_settings, settings_named};
 use crate::sources::{Names, Source, Sources};
 use crate::words::Request;
-use gix_refspec::parsing::Operation;
-use refspec_run::call::{Call, Command, Ends, Form};
+use bstr::BStr;
+use gix_refspec::name;
+use gix_refspec::oid::ObjectId;
+use refspec_run::call::{Call, Command, Form};
 use refspec_run::plan::Discard;
+use refspec_run::settings::Setting;
 use std::alloc::{AllocError, Global};
 
 // The specs of a fetch.
@@ -26,6 +29,25 @@ struct Specs<'a> {
     tags: Vec<Setting<'a>>,
 }
 
+impl Specs<'_> {
+    // Drops the merged names that the values fetch already, of the refs of these lines.
+    fn drop_covered(&mut self, alloc: Global, lines: &[u8]) -> Result<(), AllocError> {
+        let names = Names::of(alloc, lines)?;
+        let mut sources = Sources::new(alloc);
+        for value in &self.values {
+            sources.add(alloc, value.value.unwrap_or(b""), false)?;
+        }
+        let mut kept = Vec::with_capacity(alloc, self.merges.len())?;
+        for merge in &self.merges {
+            if !sources.take_named(alloc, merge.value.unwrap_or(b""), &names)? {
+                kept.push(*merge)?;
+            }
+        }
+        self.merges = kept;
+        Ok(())
+    }
+}
+
 /// Tells what a fetch of a remote writes.
 pub fn tell_plan<'a, M: Machine, D: Discard>(
     alloc: Global,
@@ -39,6 +61,8 @@ pub fn tell_plan<'a, M: Machine, D: Discard>(
     let Some(mut lines) = machine.output(LINES)? else {
         return Ok(asks(alloc, &[GitCall::Lines(choice.remote)])?);
     };
+    let mut specs = specs;
+    specs.drop_covered(alloc, lines.as_slice())?;
     let mut told = Told::new(alloc);
     if tell_sources(alloc, request.form, &specs, lines.as_slice(), &mut told)? {
         return Ok(Answer::Tells(told));
@@ -49,7 +73,8 @@ pub fn tell_plan<'a, M: Machine, D: Discard>(
             *byte = 0;
         }
     }
-    let call = call_of(alloc, Command::Plan, request, &specs)?;
+    let mut call = call_of(alloc, Command::Plan, request, &specs)?;
+    call.is_watched = machine.is_watched();
     let beside = beside_of(alloc, &specs)?;
     let noted = told.messages.len();
     told.run(alloc, &call, beside.as_slice(), lines.as_slice(), done)?;
@@ -68,13 +93,7 @@ pub fn tell_prefixes<'a, D: Discard>(
     choice: &Choice<'a>,
     done: &mut D,
 ) -> Result<Answer, Stop<'a>> {
-    let mut specs = given_specs(alloc, choice.specs.as_slice())?;
-    if choice.specs.is_empty() {
-        specs.values = fetch_values(alloc, repository, choice)?;
-    }
-    if specs.words.is_empty() && specs.values.is_empty() {
-        return Err(Stop::Refused(Refusal::NoValues(choice.remote)));
-    }
+    let specs = specs_of(alloc, repository, choice)?;
     let mut told = Told::new(alloc);
     let call = call_of(alloc, Command::Prefixes, request, &specs)?;
     let beside = beside_of(alloc, &specs)?;
@@ -97,8 +116,8 @@ fn fetch_values<'a>(
     )
 }
 
-// The specs of a fetch: the given ones, else the fetch values, else what the branch merges from this remote, else `HEAD`.
-// With `tagOpt = --tags` all tags too, unless specs are given.
+// The specs of a fetch: the given ones, else the fetch values and what the branch merges from this remote, else `HEAD`. With
+// `tagOpt = --tags` all tags too, unless specs are given.
 fn specs_of<'a>(
     alloc: Global,
     repository: &Repository<'a, 'a>,
@@ -109,14 +128,35 @@ fn specs_of<'a>(
         return Ok(specs);
     }
     specs.values = fetch_values(alloc, repository, choice)?;
-    if specs.values.is_empty() {
-        specs.merges = merges_of(alloc, repository, choice.remote)?;
-        if specs.merges.is_empty() {
-            specs.words.push(String::from_str(alloc, "HEAD")?)?;
+    let merges = merges_of(alloc, repository, choice.remote)?;
+    if specs.values.is_empty() && merges.is_empty() {
+        specs.words.push(String::from_str(alloc, "HEAD")?)?;
+    }
+    for merge in merges {
+        if let Some(name) = merge.value {
+            if may_be_merged(name) {
+                specs.merges.push(value_of(&merge, name))?;
+            }
         }
     }
     specs.tags = tags_of(alloc, repository, choice.remote)?;
     Ok(specs)
+}
+
+// Whether a ref may have this name, which is no spec else.
+fn may_be_merged(name: &[u8]) -> bool {
+    name != b"@".as_slice()
+        && ObjectId::from_hex(name).is_err()
+        && name::name_partial(BStr::new(name)).is_ok()
+}
+
+// A fetch value in the place of another setting. It is a spec, so that no message shows its key.
+fn value_of<'a>(setting: &Setting<'a>, spec: &'a [u8]) -> Setting<'a> {
+    Setting {
+        origin: setting.origin,
+        key: b"remote..fetch",
+        value: Some(spec),
+    }
 }
 
 // The spec for all tags, in the place of the setting `tagOpt = --tags` of a remote.
@@ -129,11 +169,7 @@ fn tags_of<'a>(
     let options = settings_named(alloc, repository.settings, b"remote", remote, b"tagopt")?;
     if let Some(option) = options.as_slice().last() {
         if option.value == Some(b"--tags".as_slice()) {
-            tags.push(Setting {
-                origin: option.origin,
-                key: option.key,
-                value: Some(b"refs/tags/*:refs/tags/*"),
-            })?;
+            tags.push(value_of(option, b"refs/tags/*:refs/tags/*"))?;
         }
     }
     Ok(tags)
@@ -192,19 +228,11 @@ fn call_of<'c>(
     for word in &specs.words {
         words.push(word.as_str())?;
     }
-    Ok(Call {
-        command,
-        operation: Operation::Fetch,
-        form: request.form,
-        ends: Ends::Settings,
-        verbose: false,
-        patterns: request.patterns,
-        specs: words,
-        refs: Vec::new(alloc),
-        reads_input: command == Command::Plan,
-        input: "git ls-remote",
-        beside: "",
-    })
+    let mut call = request.call_of(alloc, command);
+    call.specs = words;
+    call.reads_input = command == Command::Plan;
+    call.input = "git ls-remote";
+    Ok(call)
 }
 
 // The specs of the configuration, as Git prints settings.

@@ -53,34 +53,6 @@ pub fn put_mapping(
     put_line(alloc, out, &object)
 }
 
-/// Why a setting without a value is refused, and what to do.
-pub const WHY_MISSING: &str = "The value is missing.";
-
-pub const ADVICE_MISSING: &str =
-    "Write `=` and a spec behind the key, or remove its line: Git uses no remote until then.";
-
-/// Puts the object of a setting without a value at the end.
-pub fn put_missing_value(
-    alloc: Global,
-    out: &mut Vec<u8>,
-    place: &[u8],
-    is_push: bool,
-) -> Result<(), AllocError> {
-    let place = text_of(alloc, place)?;
-    let object = refspec_json::Refused {
-        place: place.as_str(),
-        operation: if is_push { "push" } else { "fetch" },
-        text: "",
-        reason: "MissingValue",
-        message: WHY_MISSING,
-        side: None,
-        part: None,
-        at: None,
-        advice: ADVICE_MISSING,
-    };
-    object.put_line(alloc, out)
-}
-
 // Puts an object and a newline at the end.
 fn put_line(alloc: Global, out: &mut Vec<u8>, object: &Value) -> Result<(), AllocError> {
     out.extend_from_slice(object.to_vec(alloc)?.as_slice())?;

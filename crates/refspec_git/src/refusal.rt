@@ -3,7 +3,7 @@
 ghost use Rattle.std.specs.Prelude.{◌≤◌};
 
 use crate::usage::USAGE;
-use refspec_run::quote::put_quoted;
+use refspec_run::quote::put_in_message;
 use std::alloc::{AllocError, AllocFailed};
 
 /// Why a call is refused.
@@ -41,10 +41,10 @@ pub enum Refusal<'a> {
     NotARef(&'a [u8]),
     /// The remote of a folder of Git's that isn't its configuration.
     OldForm { name: &'a [u8], folder: &'a str },
-    /// The remote has no fetch values.
-    NoValues(&'a [u8]),
     /// No remote has fetch values.
     NoValuesAtAll,
+    /// A value of a remote that isn't named is refused.
+    OtherRefused,
     /// Memory ran out.
     Memory,
 }
@@ -55,7 +55,7 @@ impl Refusal<'_> {
         ensures { 1 ≤ result }
     {
         match self {
-            Refusal::OldForm { .. } | Refusal::NoValues(_) | Refusal::NoValuesAtAll => 1,
+            Refusal::OldForm { .. } | Refusal::NoValuesAtAll | Refusal::OtherRefused => 1,
             Refusal::Memory => 3,
             _ => 2,
         }
@@ -65,85 +65,84 @@ impl Refusal<'_> {
     pub fn put(&self, out: &mut Vec<u8>) -> Result<(), AllocError> {
         out.extend_from_slice(b"git refspec: ")?;
         match self {
-            Refusal::NoCommand => {
-                out.extend_from_slice(b"no command is given\n")?;
-                out.extend_from_slice(USAGE.as_bytes())
-            }
-            Refusal::NoSuchCommand(word) => {
-                put_about(out, "there is no command ", word, "\n")?;
-                out.extend_from_slice(USAGE.as_bytes())
-            }
-            Refusal::NoSuchOption(word) => {
-                put_about(out, "there is no option ", word, "\n")?;
-                out.extend_from_slice(USAGE.as_bytes())
-            }
-            Refusal::NeedlessValue(word) => put_about(
-                out,
-                "",
-                word,
-                ": this option takes no value\n",
-            ),
             Refusal::OptionElsewhere(option, command) => {
                 put_about(out, "", option.as_bytes(), ": only ")?;
-                put_about(out, "", command.as_bytes(), " takes this option\n")
+                put_about(out, "", command.as_bytes(), " takes this option")?
             }
-            Refusal::NoRemoteName => out.extend_from_slice(
-                b"--remote takes the name of a remote\n",
-            ),
-            Refusal::NoRef => out.extend_from_slice(
-                b"track takes a tracking ref, such as origin/main: git refspec track REF..\n",
-            ),
-            Refusal::UrlOrSpec(word) => put_about(
-                out,
-                "",
-                word,
-                " may be a URL or a spec; put the remote before a spec, or `--`, and a URL after --remote\n",
-            ),
-            Refusal::NoRemoteNoSpec(word) => put_about(
-                out,
-                "",
-                word,
-                " is no configured remote; `git remote` lists those, and a spec may follow `--`\n",
-            ),
-            Refusal::NoDefault => out.extend_from_slice(
-                b"no remote is given: the current branch has none, there isn't just one, and none is called origin\n",
-            ),
-            Refusal::NotUtf8(word) => put_about(
-                out,
-                "",
-                word,
-                " is not UTF-8; give such a spec to refspec on its standard input\n",
-            ),
-            Refusal::Newline(word) => put_about(
-                out,
-                "",
-                word,
-                " has a newline, so it names no remote\n",
-            ),
-            Refusal::NoTagName => out.extend_from_slice(b"tag takes the name of a tag\n"),
-            Refusal::NoRefName(word) => put_about(out, "", word, " is not a valid ref name\n"),
-            Refusal::NotARef(word) => put_about(out, "", word, " is not a ref\n"),
-            Refusal::OldForm { name, folder } => {
-                put_about(out, "the remote ", name, " is configured in ")?;
-                put_about(
-                    out,
-                    "",
-                    folder.as_bytes(),
-                    ", which is not read here; `git remote rename ",
-                )?;
-                put_about(out, "", name, " ")?;
-                put_about(out, "", name, "` moves it into the configuration\n")
+            Refusal::OldForm { name, folder } => put_old_form(out, name, folder)?,
+            _ => {
+                let (before, word, after) = self.sentence();
+                put_about(out, before, word, after)?
             }
-            Refusal::NoValues(name) => put_about(
-                out,
-                "the remote ",
-                name,
-                " has no fetch values\n",
-            ),
-            Refusal::NoValuesAtAll => out.extend_from_slice(b"no remote has fetch values\n"),
-            Refusal::Memory => out.extend_from_slice(b"out of memory\n"),
+        }
+        out.push(b'\n')?;
+        match self {
+            Refusal::NoCommand | Refusal::NoSuchCommand(_) | Refusal::NoSuchOption(_) => {
+                out.extend_from_slice(USAGE.as_bytes())
+            }
+            _ => Ok(()),
         }
     }
+
+    // What is said of a word: the text before it, the word, and the text after it.
+    fn sentence(&self) -> (&'static str, &[u8], &'static str) {
+        match self {
+            Refusal::NoCommand => ("no ", b"command", " is given"),
+            Refusal::NoSuchCommand(word) => ("there is no command ", word, ""),
+            Refusal::NoSuchOption(word) => ("there is no option ", word, ""),
+            Refusal::NeedlessValue(word) => ("", word, ": this option takes no value"),
+            Refusal::NoRemoteName => ("", b"--remote", " takes the name of a remote"),
+            Refusal::NoRef => (
+                "",
+                b"track",
+                " takes a tracking ref, such as origin/main: git refspec track REF..",
+            ),
+            Refusal::UrlOrSpec(word) => (
+                "",
+                word,
+                " may be a URL or a spec; put the remote before a spec, or `--`, and a URL after --remote",
+            ),
+            Refusal::NoRemoteNoSpec(word) => (
+                "",
+                word,
+                " is no configured remote; `git remote` lists those, and a spec may follow `--`",
+            ),
+            Refusal::NoDefault => (
+                "no ",
+                b"remote",
+                " is given: the current branch has none, there isn't just one, and none is called origin",
+            ),
+            Refusal::NotUtf8(word) => (
+                "",
+                word,
+                " is not UTF-8; give such a spec to refspec on its standard input",
+            ),
+            Refusal::Newline(word) => ("", word, " has a newline, so it names no remote"),
+            Refusal::NoTagName => ("", b"tag", " takes the name of a tag"),
+            Refusal::NoRefName(word) => ("", word, " is not a valid ref name"),
+            Refusal::NotARef(word) => ("", word, " is not a ref"),
+            Refusal::NoValuesAtAll => ("no ", b"remote", " has fetch values"),
+            Refusal::OtherRefused => (
+                "a value of another remote is refused, so Git uses none; `git refspec ",
+                b"check",
+                "` tells which",
+            ),
+            _ => ("out of ", b"memory", ""),
+        }
+    }
+}
+
+// Puts the sentence on a remote that isn't in the configuration at the end.
+fn put_old_form(out: &mut Vec<u8>, name: &[u8], folder: &str) -> Result<(), AllocError> {
+    put_about(out, "the remote ", name, " is configured in ")?;
+    put_about(
+        out,
+        "",
+        folder.as_bytes(),
+        ", which is not read here; `git remote rename ",
+    )?;
+    put_about(out, "", name, " ")?;
+    put_about(out, "", name, "` moves it into the configuration")
 }
 
 /// Puts a name at the end, quoted if it has to be, between two texts.
@@ -154,7 +153,7 @@ pub fn put_about(
     after: &str,
 ) -> Result<(), AllocError> {
     out.extend_from_slice(before.as_bytes())?;
-    put_quoted(out, name)?;
+    put_in_message(out, name)?;
     out.extend_from_slice(after.as_bytes())
 }
 

@@ -5,54 +5,9 @@ ghost use Rattle.refspec_text.specs.Texts.Words.{Lacks};
 ghost use Rattle.refspec_git.specs.Settings.{IsKey};
 
 use bstr::ByteSlice;
-use refspec_run::input::records;
+use refspec_run::settings::Setting;
 use refspec_text::cut::split_at_first;
 use std::alloc::{AllocError, Global};
-
-/// A setting.
-#[derive(Clone, Copy, Debug)]
-pub struct Setting<'a> {
-    /// Where it stands, as `file:.git/config`.
-    pub origin: &'a [u8],
-    /// Its key, as `remote.origin.fetch`.
-    pub key: &'a [u8],
-    /// Its value. `None` where the key stands without `=`.
-    pub value: Option<&'a [u8]>,
-}
-
-/// What `git config --show-origin -z --list` prints, in its order: for each setting its file and a zero byte, and its
-/// key, a newline and its value, and a zero byte. A key without a value has no newline.
-pub fn settings_of(alloc: Global, input: &[u8]) -> Result<Vec<Setting<'_>>, AllocError> {
-    let records = records(alloc, input, 0)?;
-    let mut settings = Vec::with_capacity(alloc, records.len() / 2)?;
-    for pair in records.as_slice().chunks_exact(2) {
-        if let [origin, text] = pair {
-            settings.push(setting_of(origin, text))?;
-        }
-    }
-    Ok(settings)
-}
-
-/// The setting of a file whose text is a key, or a key, a newline and its value.
-pub fn setting_of<'a>(origin: &'a [u8], text: &'a [u8]) -> Setting<'a>
-    ensures origin { result.origin.now ≡ origin.now }
-    ensures text { MatchOption result.value
-        ((result.key.now ≡ text.now) × Lacks 10 text.now)
-        (λ value. (text.now ≡ result.key.now ++ (10 ∷ value.now)) × Lacks 10 result.key.now) }
-{
-    match split_at_first(text, b'\n') {
-        None => Setting {
-            origin,
-            key: text,
-            value: None,
-        },
-        Some((key, value)) => Setting {
-            origin,
-            key,
-            value: Some(value),
-        },
-    }
-}
 
 /// The name and the variable of a key `SECTION.NAME.VARIABLE`. The name may have dots, and the variable has none. `None`
 /// for any other key.
@@ -118,17 +73,17 @@ fn is_of(setting: &Setting<'_>, section: &[u8], name: &[u8], variable: &[u8]) ->
     }
 }
 
-/// Puts the settings that have a value at the end, as Git prints them.
+/// Puts settings at the end, as Git prints them.
 pub fn put_settings(out: &mut Vec<u8>, settings: &[Setting<'_>]) -> Result<(), AllocError> {
     for setting in settings {
+        out.extend_from_slice(setting.origin)?;
+        out.push(0)?;
+        out.extend_from_slice(setting.key)?;
         if let Some(value) = setting.value {
-            out.extend_from_slice(setting.origin)?;
-            out.push(0)?;
-            out.extend_from_slice(setting.key)?;
             out.push(b'\n')?;
             out.extend_from_slice(value)?;
-            out.push(0)?;
         }
+        out.push(0)?;
     }
     Ok(())
 }

@@ -3,9 +3,10 @@
 use crate::choice::{Looks, looks_of};
 use crate::refusal::Refusal;
 use crate::remotes::{default_remote, fetch_values, is_configured, is_rewritten};
-use crate::settings::{last_value, name_and_variable, put_settings, settings_of};
+use crate::settings::{last_value, name_and_variable, put_settings};
 use crate::words::{Command, Wish, wish_of};
 use refspec_run::call::Form;
+use refspec_run::settings::settings_of;
 use std::alloc::AllocError;
 use std::test::Fail;
 
@@ -16,16 +17,11 @@ const CONFIG: &[u8] =
 const ONE_REMOTE: &[u8] = b"file:a\0remote.a.b.fetch\0";
 
 #[test]
-fn reads_settings(rt: HostRuntime) -> Result<(), Fail> {
-    let settings = settings_of(rt.alloc(), CONFIG)?;
-    assert_eq!(rt; settings.len(), 6);
-    assert_eq!(rt; settings[1].origin, b"file:.git/config".as_slice());
-    assert_eq!(rt; settings[1].key, b"remote.origin.fetch".as_slice());
-    assert_eq!(rt; settings[1].value, Some(b"+a:b".as_slice()));
-    assert_eq!(rt; settings[2].value, None);
+fn puts_settings_as_git_prints_them(rt: HostRuntime) -> Result<(), Fail> {
+    let settings = settings_of(rt.alloc(), CONFIG).unwrap_or(Vec::new(rt.alloc()));
     let mut out = Vec::new(rt.alloc());
-    put_settings(&mut out, &settings[..3])?;
-    assert_eq!(rt; out.as_slice(), &CONFIG[..79]);
+    put_settings(&mut out, settings.as_slice())?;
+    assert_eq!(rt; out.as_slice(), CONFIG);
     Ok(())
 }
 
@@ -42,7 +38,7 @@ fn parts_keys_at_their_last_dot(rt: HostRuntime) {
 
 #[test]
 fn finds_remotes(rt: HostRuntime) -> Result<(), Fail> {
-    let settings = settings_of(rt.alloc(), CONFIG)?;
+    let settings = settings_of(rt.alloc(), CONFIG).unwrap_or(Vec::new(rt.alloc()));
     let settings = settings.as_slice();
     let values = fetch_values(rt.alloc(), settings)?;
     let counts: Vec<usize> = values
@@ -60,7 +56,7 @@ fn finds_remotes(rt: HostRuntime) -> Result<(), Fail> {
     );
     assert_eq!(rt; default_remote(settings, b"main"), Some(b"a.b".as_slice()));
     assert_eq!(rt; default_remote(settings, b""), Some(b"origin".as_slice()));
-    let one = settings_of(rt.alloc(), ONE_REMOTE)?;
+    let one = settings_of(rt.alloc(), ONE_REMOTE).unwrap_or(Vec::new(rt.alloc()));
     assert_eq!(rt;
         default_remote(one.as_slice(), b""),
         Some(b"a.b".as_slice())

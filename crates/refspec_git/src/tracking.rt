@@ -6,7 +6,7 @@ use crate::choice::Repository;
 use crate::objects::{put_mapping, put_ref_note, put_with_remote};
 use crate::refusal::{Refusal, put_about};
 use crate::remotes::fetch_values;
-use crate::settings::{Setting, last_value, put_settings};
+use crate::settings::{last_value, put_settings};
 use crate::sources::{Names, Sources};
 use crate::words::Request;
 use bstr::{BStr, ByteSlice};
@@ -14,9 +14,10 @@ use gix_refspec::match_group::{Item, Mapping};
 use gix_refspec::oid::{Kind, ObjectId};
 use gix_refspec::parsing::{Error, Operation};
 use gix_refspec::{MatchGroup, RefSpecRef, name, parse};
-use refspec_run::call::{Call, Command, Ends, Form};
+use refspec_run::call::{Command, Form};
 use refspec_run::fault::Fault;
 use refspec_run::plan::Discard;
+use refspec_run::settings::Setting;
 use refspec_run::table::Layout;
 use refspec_text::side::{candidates, joined};
 use std::alloc::{AllocError, Global};
@@ -45,14 +46,7 @@ pub fn tell_tracking<'a, M: Machine, D: Discard>(
     let rows = rows_of(alloc, &values, names.as_slice())?;
     let mut told = Told::new(alloc);
     for (remote, values) in &values {
-        tell_ids(
-            alloc,
-            request.form,
-            remote,
-            values.as_slice(),
-            done,
-            &mut told,
-        )?;
+        tell_ids(alloc, request, remote, values.as_slice(), done, &mut told)?;
     }
     put_rows(alloc, request.form, rows.as_slice(), &mut told.results)?;
     let found = Found {
@@ -383,7 +377,7 @@ fn has_id(spec: &RefSpecRef<'_>) -> bool {
 // Tells of the values of a remote whose destination is an object id, as `refspec track` does.
 fn tell_ids<D: Discard>(
     alloc: Global,
-    form: Form,
+    request: &Request<'_>,
     remote: &[u8],
     values: &[Setting<'_>],
     done: &mut D,
@@ -391,19 +385,7 @@ fn tell_ids<D: Discard>(
 ) -> Result<(), Fault> {
     let mut beside = Vec::new(alloc);
     put_settings(&mut beside, values)?;
-    let call = Call {
-        command: Command::Track,
-        operation: Operation::Fetch,
-        form,
-        ends: Ends::Settings,
-        verbose: false,
-        patterns: false,
-        specs: Vec::new(alloc),
-        refs: Vec::new(alloc),
-        reads_input: false,
-        input: "",
-        beside: "",
-    };
+    let call = request.call_of(alloc, Command::Track);
     let mut about_ids = Told::new(alloc);
     about_ids.run(alloc, &call, beside.as_slice(), b"", done)?;
     told.messages

@@ -2,7 +2,7 @@
 
 /// The synopses.
 pub const USAGE: &str = "usage: git refspec check [-v] [--push] [<remote> | <spec>]...
-   or: git refspec plan [<remote>] [<spec>...]
+   or: git refspec plan [--long] [--all] [<remote>] [<spec>...]
    or: git refspec track <ref>...
    or: git refspec prefixes [--patterns] [<remote>] [<spec>...]
 ";
@@ -20,6 +20,8 @@ pub const OPTIONS: &str = "
     -v, --verbose         check: tell good values too
     --push                check: the given specs are for a push
     --patterns            prefixes: write patterns for git ls-remote
+    --long                plan: show each mapping with its spec, and not below it
+    --all                 plan: tell every conflict and all that is left out, not the first 20
     -h                    print this page
     --help                show the manual
     --version             print the version

@@ -2,7 +2,8 @@
 
 use crate::refusal::Refusal;
 use bstr::ByteSlice;
-use refspec_run::call::Form;
+use gix_refspec::parsing::Operation;
+use refspec_run::call::{self, Call, Ends, Form};
 use std::alloc::{AllocError, Global};
 
 /// The commands of `git refspec`.
@@ -42,12 +43,38 @@ pub struct Request<'a> {
     pub push: bool,
     /// Prefixes are told as patterns.
     pub patterns: bool,
+    /// Each mapping of a plan is told with its spec, and not below it.
+    pub long: bool,
+    /// Each conflict, and all that is left out, is told.
+    pub all: bool,
     /// The remote that `--remote` names.
     pub remote: Option<&'a [u8]>,
     /// The words that are neither the command nor options, in order.
     pub words: Vec<&'a [u8]>,
     /// How many of them stand before the first `--`, if there is one.
     pub dashes: Option<usize>,
+}
+
+impl Request<'_> {
+    /// A call of `refspec` for values of settings, with the options of this request.
+    pub fn call_of<'c>(&self, alloc: Global, command: call::Command) -> Call<'c> {
+        Call {
+            command,
+            operation: Operation::Fetch,
+            form: self.form,
+            ends: Ends::Settings,
+            verbose: self.verbose,
+            patterns: self.patterns,
+            long: self.long,
+            all: self.all,
+            is_watched: false,
+            specs: Vec::new(alloc),
+            refs: Vec::new(alloc),
+            reads_input: false,
+            input: "",
+            beside: "",
+        }
+    }
 }
 
 /// What the words of a call ask for. The first word that isn't an option is the command.
@@ -67,6 +94,8 @@ enum Switch {
     Verbose,
     Push,
     Patterns,
+    Long,
+    All,
     Page,
     Manual,
     Version,
@@ -79,6 +108,8 @@ fn switch_named(name: &[u8]) -> Option<Switch> {
         b"--verbose" => Some(Switch::Verbose),
         b"--push" => Some(Switch::Push),
         b"--patterns" => Some(Switch::Patterns),
+        b"--long" => Some(Switch::Long),
+        b"--all" => Some(Switch::All),
         b"--help" => Some(Switch::Manual),
         b"--version" => Some(Switch::Version),
         _ => None,
@@ -115,6 +146,8 @@ struct Reading<'a> {
     verbose: bool,
     push: bool,
     patterns: bool,
+    long: bool,
+    all: bool,
     page: bool,
     manual: bool,
     version: bool,
@@ -134,6 +167,8 @@ impl<'a> Reading<'a> {
             verbose: false,
             push: false,
             patterns: false,
+            long: false,
+            all: false,
             page: false,
             manual: false,
             version: false,
@@ -218,6 +253,8 @@ impl<'a> Reading<'a> {
             Switch::Verbose => self.verbose = true,
             Switch::Push => self.push = true,
             Switch::Patterns => self.patterns = true,
+            Switch::Long => self.long = true,
+            Switch::All => self.all = true,
             Switch::Page => self.page = true,
             Switch::Manual => self.manual = true,
             Switch::Version => self.version = true,
@@ -241,14 +278,16 @@ impl<'a> Reading<'a> {
         if self.wants_remote || self.remote.is_some_and(|name| name.is_empty()) {
             return Err(Refusal::NoRemoteName);
         }
-        if self.verbose && command != Command::Check {
-            return Err(Refusal::OptionElsewhere("-v", "check"));
-        }
-        if self.push && command != Command::Check {
-            return Err(Refusal::OptionElsewhere("--push", "check"));
-        }
-        if self.patterns && command != Command::Prefixes {
-            return Err(Refusal::OptionElsewhere("--patterns", "prefixes"));
+        for (is_given, option, taker, name) in [
+            (self.verbose, "-v", Command::Check, "check"),
+            (self.push, "--push", Command::Check, "check"),
+            (self.patterns, "--patterns", Command::Prefixes, "prefixes"),
+            (self.long, "--long", Command::Plan, "plan"),
+            (self.all, "--all", Command::Plan, "plan"),
+        ] {
+            if is_given && command != taker {
+                return Err(Refusal::OptionElsewhere(option, name));
+            }
         }
         Ok(Wish::Request(Request {
             command,
@@ -256,6 +295,8 @@ impl<'a> Reading<'a> {
             verbose: self.verbose,
             push: self.push,
             patterns: self.patterns,
+            long: self.long,
+            all: self.all,
             remote: self.remote,
             words: self.words,
             dashes: self.dashes,

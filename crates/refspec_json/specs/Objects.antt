@@ -56,14 +56,15 @@ mapping_object source destination spec = object (
     member (codes "source") (string source) (
     member (codes "spec") (string spec) no_members))))
 
--- a mapping that is left out, and why
-abbrev pub left_out_object : (source : List ℕ) → (destination : Option (List ℕ)) → (spec message : List ℕ) → Data
-left_out_object source destination spec message = object (
+-- a mapping that is left out, which side of it is wrong, and why
+abbrev pub left_out_object : (source : List ℕ) → (destination : Option (List ℕ)) → (spec side message : List ℕ) → Data
+left_out_object source destination spec side message = object (
     member (codes "destination") (text_or_null destination) (
     member (codes "kind") (string (codes "left_out")) (
     member (codes "message") (string message) (
+    member (codes "side") (string side) (
     member (codes "source") (string source) (
-    member (codes "spec") (string spec) no_members)))))
+    member (codes "spec") (string spec) no_members))))))
 
 -- a source of a conflict, with the canonical text of its spec
 abbrev pub claim_object : List ℕ × List ℕ → Data
@@ -78,13 +79,14 @@ conflict_object destination sources = object (
     member (codes "kind") (string (codes "conflict")) (
     member (codes "sources") (array (items_of (map claim_object sources))) no_members)))
 
--- a record of the input that is no ref
-abbrev pub malformed_object : (place text message : List ℕ) → Data
-malformed_object place text message = object (
+-- a record of the input that is no ref, why, and what to do
+abbrev pub malformed_object : (place text message advice : List ℕ) → Data
+malformed_object place text message advice = object (
+    member (codes "advice") (string advice) (
     member (codes "kind") (string (codes "malformed")) (
     member (codes "message") (string message) (
     member (codes "place") (string place) (
-    member (codes "text") (string text) no_members))))
+    member (codes "text") (string text) no_members)))))
 
 -- a ref that no spec writes
 abbrev pub untracked_object : (name message : List ℕ) → Data

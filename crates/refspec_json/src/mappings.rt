@@ -49,6 +49,8 @@ pub struct LeftOut<'a> {
     pub source: &'a str,
     pub destination: Option<&'a str>,
     pub spec: &'a str,
+    /// Which side is wrong: `source`, `destination` or `both`.
+    pub side: &'a str,
     pub message: &'a str,
 }
 
@@ -57,7 +59,7 @@ impl LeftOut<'_> {
     pub fn put_line(&self, alloc: Global, out: &mut Vec<u8>) -> Result<(), AllocError>
         ensures { OnOk result (out.new.items ≡ out.old.items ++ line_of (left_out_object
             self.now.source.now (option_map (λ t. t.now) self.now.destination)
-            self.now.spec.now self.now.message.now)) }
+            self.now.spec.now self.now.side.now self.now.message.now)) }
     {
         put_value(alloc, out, &self.object(alloc)?)
     }
@@ -66,13 +68,14 @@ impl LeftOut<'_> {
     fn object(&self, alloc: Global) -> Result<Value, AllocError>
         ensures { IfOk result (λ v. view v ≡ left_out_object
             self.now.source.now (option_map (λ t. t.now) self.now.destination)
-            self.now.spec.now self.now.message.now) }
+            self.now.spec.now self.now.side.now self.now.message.now) }
     {
         let destination = text_or_null(alloc, self.destination)?;
         json!(in alloc; {
             "destination": destination,
             "kind": "left_out",
             "message": self.message,
+            "side": self.side,
             "source": self.source,
             "spec": self.spec,
         })

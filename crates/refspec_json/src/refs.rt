@@ -14,13 +14,14 @@ pub struct Malformed<'a> {
     pub place: &'a str,
     pub text: &'a str,
     pub message: &'a str,
+    pub advice: &'a str,
 }
 
 impl Malformed<'_> {
     /// Puts its object and a newline at the end.
     pub fn put_line(&self, alloc: Global, out: &mut Vec<u8>) -> Result<(), AllocError>
         ensures { OnOk result (out.new.items ≡ out.old.items ++ line_of (malformed_object
-            self.now.place.now self.now.text.now self.now.message.now)) }
+            self.now.place.now self.now.text.now self.now.message.now self.now.advice.now)) }
     {
         put_value(alloc, out, &self.object(alloc)?)
     }
@@ -28,9 +29,10 @@ impl Malformed<'_> {
     // Its object.
     fn object(&self, alloc: Global) -> Result<Value, AllocError>
         ensures { IfOk result (λ v. view v ≡ malformed_object
-            self.now.place.now self.now.text.now self.now.message.now) }
+            self.now.place.now self.now.text.now self.now.message.now self.now.advice.now) }
     {
         json!(in alloc; {
+            "advice": self.advice,
             "kind": "malformed",
             "message": self.message,
             "place": self.place,

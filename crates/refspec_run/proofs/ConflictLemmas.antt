@@ -1,7 +1,7 @@
 -- What is told of conflicts, piece by piece.
-use Rattle.std.proofs.Common.{◌≡◌, ℕ, ◌+◌, ◌<◌, List, [], ◌∷◌, ◌++◌, length, map, take, get_or, unwrap_or, codes, refl, sym, ap, ◌∙◌, subst, append_assoc, arith}
+use Rattle.std.proofs.Common.{◌≡◌, ◌⊎◌, inl, inr, ℕ, zero, suc, ◌+◌, ◌-◌, ◌<◌, ◌≤◌, Bool, true, false, List, [], ◌∷◌, ◌++◌, decimal, drop, length, map, take, take_all, get_or, unwrap_or, codes, refl, sym, ap, ◌∙◌, subst, append_assoc, arith}
 use Rattle.std.specs.List.{slice_get}
-use Rattle.std.proofs.lemmas.List.{append-nil, length-map, length-take-le, map-append, take_more}
+use Rattle.std.proofs.lemmas.List.{append-nil, length-drop, length-map, length-take-le, map-append, take-map, take_more}
 use Rattle.refspec_match.specs.declared.types.SourceRef.{SourceRef}
 use Rattle.gix_refspec.specs.declared.match_group.validate.Issue.{Issue}
 use Rattle.gix_refspec.specs.Matching.Mappings.{Start}
@@ -13,8 +13,8 @@ use Rattle.refspec_json.specs.Views.{claim_texts}
 use Rattle.refspec_json.specs.declared.mappings.Claim.{Claim}
 use Rattle.refspec_run.specs.declared.call.Form.{Form}
 use Rattle.refspec_run.specs.declared.call.Form.TheVariants as form
-use Rattle.refspec_run.specs.Conflicts.{AddsConflicts, AreClaims, AreToldConflicts, IsClaim, IsToldConflict, PutsClaim, PutsClaims, PutsConflict, claim_of, claims_from, conflict_line}
-use Rattle.refspec_run.specs.Json.{json_text}
+use Rattle.refspec_run.specs.Conflicts.{AddsConflicts, AddsEachConflict, AreClaims, AreToldConflicts, IsClaim, IsToldConflict, PutsClaim, PutsClaims, PutsConflict, claim_of, claims_from, conflict_line, few, more_line, told_count}
+use Rattle.refspec_run.specs.Json.{AddsObjects, json_text}
 use Rattle.refspec_run.specs.Rows.{source_text}
 use Rattle.refspec_run.specs.Shown.{Grows, PutsQuoted}
 use Rattle.refspec_run.proofs.ShownLemmas.{behind}
@@ -106,21 +106,56 @@ AreToldConflicts-push : (cs : List Conflict) (c : Conflict) (lines one : List �
 AreToldConflicts-push [] c lines one none told = (one, [], told, refl, ap (λ l. l ++ one) none ∙ sym (append-nil one))
 AreToldConflicts-push (x ∷ cs) c lines one (first, rest, here, more, is) told = (first, rest ++ one, here, AreToldConflicts-push cs c rest one more told, ap (λ l. l ++ one) is ∙ append_assoc first rest one)
 
-pub AddsConflicts-start : (f : Form) (old : List ℕ) → AddsConflicts f [] old old
-AddsConflicts-start form.Lines old = ([], refl, sym (append-nil old))
-AddsConflicts-start form.Zeros old = ([], refl, sym (append-nil old))
-AddsConflicts-start form.Json old = refl
+pub AddsEachConflict-start : (f : Form) (old : List ℕ) → AddsEachConflict f [] old old
+AddsEachConflict-start form.Lines old = ([], refl, sym (append-nil old))
+AddsEachConflict-start form.Zeros old = ([], refl, sym (append-nil old))
+AddsEachConflict-start form.Json old = refl
 
-AddsConflicts-push : (f : Form) (cs : List Conflict) (c : Conflict) (old mid new : List ℕ) → AddsConflicts f cs old mid → AddsConflicts f (c ∷ []) mid new → AddsConflicts f (cs ++ c ∷ []) old new
-AddsConflicts-push form.Json cs c old mid new a b = b ∙ a
-AddsConflicts-push form.Lines cs c old mid new a (lines, (one, rest, told, none, is), put) =
+AddsEachConflict-push : (f : Form) (cs : List Conflict) (c : Conflict) (old mid new : List ℕ) → AddsEachConflict f cs old mid → AddsEachConflict f (c ∷ []) mid new → AddsEachConflict f (cs ++ c ∷ []) old new
+AddsEachConflict-push form.Json cs c old mid new a b = b ∙ a
+AddsEachConflict-push form.Lines cs c old mid new a (lines, (one, rest, told, none, is), put) =
     let all : lines ≡ one = is ∙ (ap (λ l. one ++ l) none ∙ append-nil one) in
     (a.0 ++ one, AreToldConflicts-push cs c a.0 one a.1 told, behind old a.0 mid one new a.2 (put ∙ ap (λ l. mid ++ l) all))
-AddsConflicts-push form.Zeros cs c old mid new a (lines, (one, rest, told, none, is), put) =
+AddsEachConflict-push form.Zeros cs c old mid new a (lines, (one, rest, told, none, is), put) =
     let all : lines ≡ one = is ∙ (ap (λ l. one ++ l) none ∙ append-nil one) in
     (a.0 ++ one, AreToldConflicts-push cs c a.0 one a.1 told, behind old a.0 mid one new a.2 (put ∙ ap (λ l. mid ++ l) all))
 
-pub AddsConflicts-next : (f g : Form) (xs : List Issue) (i : ℕ) (x : Issue) (old mid new : List ℕ) → i < length xs → x ≡ get_or xs i x → g ≡ f → AddsConflicts f (map conflict_of (take i xs)) old mid → AddsConflicts g (conflict_of x ∷ []) mid new → AddsConflicts f (map conflict_of (take (i + 1) xs)) old new
-AddsConflicts-next f g xs i x old mid new below is same a b =
+pub AddsEachConflict-next : (f g : Form) (xs : List Issue) (i : ℕ) (x : Issue) (old mid new : List ℕ) → i < length xs → x ≡ get_or xs i x → g ≡ f → AddsEachConflict f (map conflict_of (take i xs)) old mid → AddsEachConflict g (conflict_of x ∷ []) mid new → AddsEachConflict f (map conflict_of (take (i + 1) xs)) old new
+AddsEachConflict-next f g xs i x old mid new below is same a b =
     let step : map conflict_of (take (i + 1) xs) ≡ map conflict_of (take i xs) ++ conflict_of x ∷ [] = ap (map conflict_of) (take_more xs i x below) ∙ (map-append conflict_of (take i xs) (get_or xs i x ∷ []) ∙ ap (λ (y : Issue). map conflict_of (take i xs) ++ conflict_of y ∷ []) (sym is)) in
-    subst (λ (l : List Conflict). AddsConflicts f l old new) (sym step) (AddsConflicts-push f (map conflict_of (take i xs)) (conflict_of x) old mid new a (subst (λ (h : Form). AddsConflicts h (conflict_of x ∷ []) mid new) same b))
+    subst (λ (l : List Conflict). AddsEachConflict f l old new) (sym step) (AddsEachConflict-push f (map conflict_of (take i xs)) (conflict_of x) old mid new a (subst (λ (h : Form). AddsEachConflict h (conflict_of x ∷ []) mid new) same b))
+
+-- ---- the first ones, and how many more
+
+-- the first of some, each as something else
+pub first_of : {X Y : Type 0} (h : X → Y) (f : Form) (all : Bool) (xs first : List X) (n : ℕ) → n ≡ told_count f all (length xs) → first ≡ take n xs → map h first ≡ take (told_count f all (length (map h xs))) (map h xs)
+first_of h f all xs first n is cut =
+    let long : n ≡ told_count f all (length (map h xs)) = is ∙ ap (told_count f all) (sym (length-map xs h)) in
+    ap (map h) cut ∙ (sym (take-map h n xs) ∙ ap (λ (k : ℕ). take k (map h xs)) long)
+
+-- how many are behind them
+pub others_of : {X Y : Type 0} (h : X → Y) (f : Form) (all : Bool) (xs rest : List X) (n : ℕ) → n ≡ told_count f all (length xs) → rest ≡ drop n xs → length rest ≡ length (map h xs) - told_count f all (length (map h xs))
+others_of h f all xs rest n is cut =
+    let size = length-map xs h in
+    ap length cut ∙ (length-drop n xs ∙ (ap (λ (k : ℕ). length xs - k) is ∙ ap (λ (k : ℕ). k - told_count f all k) (sym size)))
+
+-- what is told of the first ones in JSON is told of all, and else nothing is
+pub AddsObjects-first : {X : Type 0} (f : Form) (Tells : X → List ℕ → Type 0) (all : Bool) (xs : List X) (old new : List ℕ) → AddsObjects f Tells (take (told_count f all (length xs)) xs) old new → AddsObjects f Tells xs old new
+AddsObjects-first form.Json Tells all xs old new told = subst (λ l. AddsObjects form.Json Tells l old new) (take_all (length xs) xs (omega arith)) told
+AddsObjects-first form.Lines Tells all xs old new told = told
+AddsObjects-first form.Zeros Tells all xs old new told = told
+
+-- the first conflicts, and how many more there are
+pub AddsConflicts-of : (f : Form) (all : Bool) (cs : List Conflict) (n : ℕ) (old mid new : List ℕ) → n ≡ length cs - told_count f all (length cs) → AddsEachConflict f (take (told_count f all (length cs)) cs) old mid → new ≡ mid ++ more_line (codes "conflict: ") n → AddsConflicts all f cs old new
+AddsConflicts-of form.Json all cs n old mid new is same more =
+    let none : n ≡ 0 = omega (arith, is) in
+    more ∙ (ap (λ (k : ℕ). mid ++ more_line (codes "conflict: ") k) none ∙ (append-nil mid ∙ same))
+AddsConflicts-of form.Lines all cs n old mid new is (lines, told, put) more = (lines, told, behind old lines mid (more_line (codes "conflict: ") n) new put more ∙ ap (λ (k : ℕ). old ++ (lines ++ more_line (codes "conflict: ") k)) is)
+AddsConflicts-of form.Zeros all cs n old mid new is (lines, told, put) more = (lines, told, behind old lines mid (more_line (codes "conflict: ") n) new put more ∙ ap (λ (k : ℕ). old ++ (lines ++ more_line (codes "conflict: ") k)) is)
+
+-- the line on some
+pub more_line-some : (what : List ℕ) (n : ℕ) (old a b new : List ℕ) → (n ≡ 0 → ⊥) → a ≡ old ++ what → b ≡ a ++ decimal n → new ≡ b ++ codes " more; `--all` lists them\n" → new ≡ old ++ more_line what n
+more_line-some what zero old a b new some is_a is_b is_new = absurd (some refl)
+more_line-some what (suc n) old a b new some is_a is_b is_new =
+    let front = behind old what a (decimal (suc n)) b is_a is_b in
+    behind old (what ++ decimal (suc n)) b (codes " more; `--all` lists them\n") new front is_new ∙ ap (λ l. old ++ l) (append_assoc what (decimal (suc n)) (codes " more; `--all` lists them\n"))

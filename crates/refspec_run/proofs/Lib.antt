@@ -14,3 +14,4 @@ pub mod OutputLemmas
 pub mod SettingLemmas
 pub mod MessageLemmas
 pub mod JsonLemmas
+pub mod GroupLemmas

@@ -14,7 +14,7 @@ use Rattle.refspec_run.specs.declared.texts.Text.{Text}
 use Rattle.refspec_run.specs.Messages.{AreRefusals, AreToldOf, PutsPlace, PutsReason, PutsRefusal, TellsRefusal, TellsRefusals}
 use Rattle.refspec_run.specs.Read.{IsChecked}
 use Rattle.refspec_run.specs.Shown.{Grows, PutsQuoted}
-use Rattle.refspec_run.specs.Texts.{Given, given_of}
+use Rattle.refspec_run.specs.Texts.{given_of}
 use Rattle.refspec_run.proofs.ShownLemmas.{behind}
 
 -- where, what and why, one after another

@@ -84,5 +84,5 @@ pub AddsFound-track : (k : Command) (call : Call) (input : List ℕ) (f : Form) 
 AddsFound-track k call input f messages refused g old new is told = subst (λ (x : Command). AddsFound x call input f messages refused g old new) (sym is) told
 
 -- the mappings of a plan
-pub AddsFound-plan : (k : Command) (call : Call) (input : List ℕ) (f : Form) (messages : List ℕ) (refused : Bool) (g : List Reading) (old new : List ℕ) → k ≡ command.Plan → AddsPlan f (end_byte call.ends) input messages refused g old new → AddsFound k call input f messages refused g old new
+pub AddsFound-plan : (k : Command) (call : Call) (input : List ℕ) (f : Form) (messages : List ℕ) (refused : Bool) (g : List Reading) (old new : List ℕ) → k ≡ command.Plan → AddsPlan call.long call.all f (end_byte call.ends) input messages refused g old new → AddsFound k call input f messages refused g old new
 AddsFound-plan k call input f messages refused g old new is told = subst (λ (x : Command). AddsFound x call input f messages refused g old new) (sym is) told

@@ -12,43 +12,52 @@ use Rattle.refspec_run.specs.declared.mappings.Columns.TheVariants as columns
 use Rattle.refspec_run.specs.declared.plan.Written.{Written}
 use Rattle.refspec_run.specs.declared.plan.Written.TheVariants as written
 use Rattle.refspec_run.specs.Conflicts.{AddsConflicts, IsConflict}
+use Rattle.refspec_run.specs.Groups.{AddsGroups}
 use Rattle.refspec_run.specs.Input.{AreRecords}
 use Rattle.refspec_json.specs.Objects.{left_out_object, line_of, malformed_object}
 use Rattle.refspec_run.specs.declared.call.Form.TheVariants as form
 use Rattle.refspec_run.specs.declared.texts.Place.{Place}
 use Rattle.refspec_run.specs.Json.{AddsObjects, json_text}
 use Rattle.refspec_run.specs.Messages.{IsPlace}
-use Rattle.refspec_run.specs.Plan.{AddsPlan, AddsWritten, IsLeftOutLine, IsLeftOutOf, IsMalformed, IsPlanByNames, IsWhole, LeavesOut, PutsMalformed}
+use Rattle.refspec_run.specs.Plan.{AddsPlan, AddsPlanned, AddsWritten, IsLeftOutLine, IsLeftOutOf, IsMalformed, IsPlanByNames, IsWhole, KeepsConflicts, LeavesOut, PutsMalformed, side_name}
 use Rattle.refspec_run.specs.Refs.{TellNames}
 use Rattle.refspec_run.specs.Rows.{AddsMappings, AreSpecTexts, source_text}
 use Rattle.refspec_run.proofs.PrefixLemmas.{no_names, some_names}
 
 -- mappings are written
-pub AddsWritten-mappings : (f : Form) (texts : List (List ℕ)) (made : Written) (outcome : ForwardOutcome) (ms : List Mapped) (before messages old new : List ℕ) → made ≡ written.Mappings outcome → ms ≡ mappings_of outcome → AddsMappings f columns.SourceFirst texts ms old new → AddsWritten f texts made before messages old new
-AddsWritten-mappings f texts made outcome ms before messages old new is same told =
-    subst (λ (w : Written). AddsWritten f texts w before messages old new) (sym is) (subst (λ (l : List Mapped). AddsMappings f columns.SourceFirst texts l old new) same told)
+pub AddsWritten-mappings : (long all : Bool) (f : Form) (texts : List (List ℕ)) (made : Written) (outcome : ForwardOutcome) (ms : List Mapped) (before messages old new : List ℕ) → made ≡ written.Mappings outcome → ms ≡ mappings_of outcome → AddsPlanned long f texts ms old new → AddsWritten long all f texts made before messages old new
+AddsWritten-mappings long all f texts made outcome ms before messages old new is same told =
+    subst (λ (w : Written). AddsWritten long all f texts w before messages old new) (sym is) (subst (λ (l : List Mapped). AddsPlanned long f texts l old new) same told)
 
 -- nothing is
-pub AddsWritten-nothing : (f : Form) (texts : List (List ℕ)) (made : Written) (error : Error) (cs : List Conflict) (before messages old new : List ℕ) → made ≡ written.Nothing error → cs ≡ conflicts_of error → AddsObjects f IsConflict cs old new → AddsConflicts f cs before messages → AddsWritten f texts made before messages old new
-AddsWritten-nothing f texts made error cs before messages old new is same objects told =
-    subst (λ (w : Written). AddsWritten f texts w before messages old new) (sym is) (subst (λ (l : List Conflict). AddsObjects f IsConflict l old new) same objects, subst (λ (l : List Conflict). AddsConflicts f l before messages) same told)
+pub AddsWritten-nothing : (long all : Bool) (f : Form) (texts : List (List ℕ)) (made : Written) (error : Error) (cs : List Conflict) (before messages old new : List ℕ) → made ≡ written.Nothing error → cs ≡ conflicts_of error → AddsObjects f IsConflict cs old new → AddsConflicts all f cs before messages → AddsWritten long all f texts made before messages old new
+AddsWritten-nothing long all f texts made error cs before messages old new is same objects told =
+    subst (λ (w : Written). AddsWritten long all f texts w before messages old new) (sym is) (subst (λ (l : List Conflict). AddsObjects f IsConflict l old new) same objects, subst (λ (l : List Conflict). AddsConflicts all f l before messages) same told)
+
+-- what is told behind that changes nothing of it
+AddsWritten-then : (long all : Bool) (f : Form) (texts : List (List ℕ)) (made : Written) (before mid messages old new : List ℕ) → AddsWritten long all f texts made before mid old new → KeepsConflicts made mid messages → AddsWritten long all f texts made before messages old new
+AddsWritten-then long all f texts (written.Mappings outcome) before mid messages old new told kept = told
+AddsWritten-then long all f texts (written.Nothing error) before mid messages old new told kept = (told.0, subst (AddsConflicts all f (conflicts_of error) before) (sym kept) told.1)
 
 -- the object of what is left out, field by field
-pub left_out_line-of : (m : Mapped) (text source spec message : List ℕ) (destination : Option (List ℕ)) (old new : List ℕ) → source ≡ json_text (source_text m.source) → destination ≡ option_map json_text m.destination → spec ≡ json_text text → new ≡ old ++ line_of (left_out_object source destination spec message) → (line : List ℕ) × IsLeftOutLine text m line × (new ≡ old ++ line)
-left_out_line-of m text source spec message destination old new is_source is_destination is_spec put = (
-  line_of (left_out_object (json_text (source_text m.source)) (option_map json_text m.destination) (json_text text) message),
-  (message, refl),
-  put ∙ (ap (λ x. old ++ line_of (left_out_object x destination spec message)) is_source
-      ∙ (ap (λ x. old ++ line_of (left_out_object (json_text (source_text m.source)) x spec message)) is_destination
-      ∙ ap (λ x. old ++ line_of (left_out_object (json_text (source_text m.source)) (option_map json_text m.destination) x message)) is_spec)),
-)
+pub left_out_line-of : (out : LeftOut) (text source spec side message : List ℕ) (destination : Option (List ℕ)) (old new : List ℕ) → source ≡ json_text (source_text out.mapping.source) → destination ≡ option_map json_text out.mapping.destination → spec ≡ json_text text → side ≡ side_name out.side → new ≡ old ++ line_of (left_out_object source destination spec side message) → (line : List ℕ) × IsLeftOutLine text out line × (new ≡ old ++ line)
+left_out_line-of out text source spec side message destination old new is_source is_destination is_spec is_side put =
+    let from = json_text (source_text out.mapping.source) in
+    let to = option_map json_text out.mapping.destination in (
+      line_of (left_out_object from to (json_text text) (side_name out.side) message),
+      (message, refl),
+      put ∙ (ap (λ x. old ++ line_of (left_out_object x destination spec side message)) is_source
+          ∙ (ap (λ x. old ++ line_of (left_out_object from x spec side message)) is_destination
+          ∙ (ap (λ x. old ++ line_of (left_out_object from to x side message)) is_spec
+          ∙ ap (λ x. old ++ line_of (left_out_object from to (json_text text) x message)) is_side))),
+    )
 
 -- and that of a record that is no ref
-pub malformed_line-of : (p : Place) (bytes at text message old new : List ℕ) → IsPlace form.Json p at → text ≡ json_text bytes → new ≡ old ++ line_of (malformed_object at text message) → PutsMalformed p bytes old new
-malformed_line-of p bytes at text message old new is_place is_text put = (
-  line_of (malformed_object at (json_text bytes) message),
-  record { place = at; message = message; is_place = is_place; is = refl },
-  put ∙ ap (λ x. old ++ line_of (malformed_object at x message)) is_text,
+pub malformed_line-of : (p : Place) (bytes at text message advice old new : List ℕ) → IsPlace form.Json p at → text ≡ json_text bytes → new ≡ old ++ line_of (malformed_object at text message advice) → PutsMalformed p bytes old new
+malformed_line-of p bytes at text message advice old new is_place is_text put = (
+  line_of (malformed_object at (json_text bytes) message advice),
+  record { place = at; message = message; is_place = is_place; advice = advice; is = refl },
+  put ∙ ap (λ x. old ++ line_of (malformed_object at x message advice)) is_text,
 )
 
 -- what two flags are for
@@ -68,11 +77,11 @@ some_records f xs true is = no_names f xs is
 some_records f xs false is = some_names f xs is
 
 -- the plan of the refs in the records, told after two lists of messages
-pub AddsPlan-of : (f one two : Form) (end e : ℕ) (input : List ℕ) (refused has : Bool) (bad : List (List ℕ)) (g : List Reading) (named : List Ref) (texts lent shown : List (List ℕ)) (made : Written) (out : List LeftOut) (before messages old first second new : List ℕ)
+pub AddsPlan-of : (long all : Bool) (f one two : Form) (end e : ℕ) (input : List ℕ) (refused has : Bool) (bad : List (List ℕ)) (g : List Reading) (named : List Ref) (texts lent shown : List (List ℕ)) (made : Written) (out : List LeftOut) (before mid messages old first second new : List ℕ)
     → TellNames e input named bad → e ≡ end → AreSpecTexts g texts → IsPlanByNames g named made out
-    → one ≡ f → AddsObjects f IsMalformed bad old first → two ≡ one → AddsObjects one (IsLeftOutOf lent) out first second → lent ≡ texts → shown ≡ texts → AddsWritten two shown made before messages second new → MatchBool has (bad ≢ []) (bad ≡ []) → MatchBool refused ((has ≡ true) ⊎ LeavesOut made out) ((has ≡ false) × IsWhole made out) → AddsPlan f end input messages refused g old new
-AddsPlan-of f one two end e input refused has bad g named texts lent shown made out before messages old first second new (refs, (records, cut, told), same_names) same_end of_specs plan same_one malformed same_two left_out same_lent same_texts after some status =
-    let tells = subst (λ (x : Form). AddsWritten x texts made before messages second new) (same_two ∙ same_one) (subst (λ (l : List (List ℕ)). AddsWritten two l made before messages second new) same_texts after) in
+    → one ≡ f → AddsObjects f IsMalformed bad old first → two ≡ one → AddsObjects one (IsLeftOutOf lent) out first second → lent ≡ texts → shown ≡ texts → AddsWritten long all two shown made before mid second new → KeepsConflicts made mid messages → MatchBool has (bad ≢ []) (bad ≡ []) → MatchBool refused ((has ≡ true) ⊎ LeavesOut made out) ((has ≡ false) × IsWhole made out) → AddsPlan long all f end input messages refused g old new
+AddsPlan-of long all f one two end e input refused has bad g named texts lent shown made out before mid messages old first second new (refs, (records, cut, told), same_names) same_end of_specs plan same_one malformed same_two left_out same_lent same_texts after kept some status =
+    let tells = subst (λ (x : Form). AddsWritten long all x texts made before mid second new) (same_two ∙ same_one) (subst (λ (l : List (List ℕ)). AddsWritten long all two l made before mid second new) same_texts after) in
     record {
       records = records;
       items = refs;
@@ -88,7 +97,7 @@ AddsPlan-of f one two end e input refused has bad g named texts lent shown made 
       second = second;
       malformed = malformed;
       left_out = subst (λ (x : Form). AddsObjects x (IsLeftOutOf texts) out first second) same_one (subst (λ (l : List (List ℕ)). AddsObjects one (IsLeftOutOf l) out first second) same_lent left_out);
-      told = tells;
+      told = AddsWritten-then long all f texts made before mid messages second new tells kept;
       bad = bad;
       status = with_records refused has (bad ≢ []) (bad ≡ []) (LeavesOut made out) (IsWhole made out) some status;
     }

@@ -23,7 +23,7 @@ use Rattle.refspec_run.proofs.CheckedLemmas.{zip_last}
 use Rattle.refspec_run.proofs.ShownLemmas.{behind, flat_map-map, map-twice}
 
 -- one more element gives one more row
-one_more : {X Y : Type 0} (f : X → Y) (xs : List X) (i : ℕ) (d : X) → i < length xs → map f (take (i + 1) xs) ≡ map f (take i xs) ++ f (get_or xs i d) ∷ []
+pub one_more : {X Y : Type 0} (f : X → Y) (xs : List X) (i : ℕ) (d : X) → i < length xs → map f (take (i + 1) xs) ≡ map f (take i xs) ++ f (get_or xs i d) ∷ []
 one_more f xs i d below = ap (map f) (take_more xs i d below) ∙ map-append f (take i xs) (get_or xs i d ∷ [])
 
 -- the lines of some rows and then those of others

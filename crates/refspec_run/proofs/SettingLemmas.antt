@@ -7,7 +7,7 @@ use Rattle.refspec_text.specs.declared.parsing.Operation.{Operation}
 use Rattle.gix_refspec.specs.Texts.Words.{BeginsWith}
 use Rattle.refspec_run.specs.declared.settings.Setting.{Setting}
 use Rattle.refspec_run.specs.Settings.{ArePairs, HasLacking, HoldsSpecs, IsOrigin, IsSetting, LacksValue}
-use Rattle.refspec_run.specs.Texts.{AddsValues, AreValues, Given, Spot, at_setting}
+use Rattle.refspec_run.specs.Texts.{AddsValues, AreValues, Given, at_setting}
 use Rattle.refspec_run.proofs.RecordLemmas.{bytes_of}
 
 -- a text begins with a word, or doesn't
@@ -47,9 +47,6 @@ IsReadOrigin (Some origin) = IsOrigin origin.now
 pub record PairsSoFar (records : List (Bor (List ℕ))) (i : ℕ) (origin : Option (Bor (List ℕ))) (done : List Setting) : Type 0 where
   pub pairing : Pairing (bytes_of records) (with_origin origin (bytes_of (drop i records))) done
   pub from : IsReadOrigin origin
-
-pub PairsSoFar-start : (records : List (Bor (List ℕ))) (done : List Setting) → done ≡ [] → PairsSoFar records 0 None done
-PairsSoFar-start records done none = subst (λ (l : List Setting). PairsSoFar records 0 None l) (sym none) (record { pairing = record { forth = λ more is. is; back = λ whole is. (whole, is) }; from = tt })
 
 bytes_more : (records : List (Bor (List ℕ))) (i : ℕ) (d : Bor (List ℕ)) → i < length records → bytes_of (drop i records) ≡ (get_or records i d).now ∷ bytes_of (drop (i + 1) records)
 bytes_more records i d below = ap bytes_of (drop_more records i d below)
@@ -134,11 +131,17 @@ AddsValues-other s old other = ([], inr (λ text is. other text.operation is.hol
 pub AddsValues-one : (s : Setting) (t : Given) (value : Bor (List ℕ)) (old new : List Given) → HoldsSpecs s.key.now t.operation → s.value ≡ Some value → t.spot ≡ at_setting s.origin.now s.key.now → t.bytes ≡ value.now → new ≡ old ++ t ∷ [] → AddsValues (s ∷ []) old new
 AddsValues-one s t value old new holds some spot same grown = (
   t ∷ [],
-  inl (t, [], record {
-    holds = holds;
-    at = spot;
-    value = subst (λ (o : Option (Bor (List ℕ))). MatchOption o ⊥ (λ x. t.bytes ≡ x.now)) (sym some) same;
-  }, refl, refl),
+  inl (
+    t,
+    [],
+    record {
+      holds = holds;
+      at = spot;
+      value = subst (λ (o : Option (Bor (List ℕ))). MatchOption o ⊥ (λ x. t.bytes ≡ x.now)) (sym some) same;
+    },
+    refl,
+    refl,
+  ),
   grown,
 )
 

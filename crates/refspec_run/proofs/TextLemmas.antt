@@ -8,7 +8,7 @@ use Rattle.refspec_run.specs.declared.texts.Text.{Text}
 use Rattle.refspec_run.specs.Input.{end_byte}
 use Rattle.refspec_run.specs.declared.settings.Setting.{Setting}
 use Rattle.refspec_run.specs.Settings.{AreSettingsOf}
-use Rattle.refspec_run.specs.Texts.{AddsRecords, AddsTexts, AddsValues, Given, given_of, numbered, record_at}
+use Rattle.refspec_run.specs.Texts.{AddsRecords, AddsTexts, AddsValues, Given, given_of, numbered}
 use Rattle.refspec_run.proofs.SettingLemmas.{AddsValues-split}
 
 -- one element more was seen, and what it gives was put after the others

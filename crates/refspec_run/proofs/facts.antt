@@ -1,6 +1,7 @@
 -- Examples of the definitions in specs/, each on one side of a border, so that a wrong definition is noticed.
 pub mod CanonFacts
 pub mod ConflictFacts
+pub mod GroupFacts
 pub mod InputFacts
 pub mod JsonFacts
 pub mod MessageFacts

@@ -1,5 +1,5 @@
 -- How conflicts are told: in lines among the messages, and as objects of JSON among the results. This project's own rule.
-use Rattle.std.specs.Prelude.{◌≡◌, ℕ, ◌+◌, List, [], ◌∷◌, ◌++◌, unwrap_or, codes}
+use Rattle.std.specs.Prelude.{◌≡◌, ℕ, zero, suc, ◌+◌, ◌-◌, Bool, true, false, List, [], ◌∷◌, ◌++◌, decimal, length, take, unwrap_or, codes}
 use Rattle.std.specs.List.{slice_get}
 use Rattle.gix_refspec.specs.Matching.Mappings.{Start}
 use Rattle.gix_refspec.specs.Matching.Validation.{Conflict}
@@ -50,10 +50,33 @@ abbrev pub AreToldConflicts : List Conflict → List ℕ → Type 0
 AreToldConflicts [] lines = lines ≡ []
 AreToldConflicts (c ∷ cs) lines = (one : List ℕ) × (rest : List ℕ) × IsToldConflict c one × AreToldConflicts cs rest × (lines ≡ one ++ rest)
 
--- the messages grew by what is told of the conflicts, but for JSON
-abbrev pub AddsConflicts : Form → List Conflict → List ℕ → List ℕ → Type 0
-AddsConflicts form.Json cs old new = new ≡ old
-AddsConflicts _ cs old new = (lines : List ℕ) × AreToldConflicts cs lines × (new ≡ old ++ lines)
+-- the messages grew by what is told of each conflict, but for JSON
+abbrev pub AddsEachConflict : Form → List Conflict → List ℕ → List ℕ → Type 0
+AddsEachConflict form.Json cs old new = new ≡ old
+AddsEachConflict _ cs old new = (lines : List ℕ) × AreToldConflicts cs lines × (new ≡ old ++ lines)
+
+-- how many of n are told: 20 at the most, unless all are to be
+abbrev pub few : Bool → ℕ → ℕ
+few true n = n
+few false n = n - (n - 20)
+
+-- in JSON each is
+abbrev pub told_count : Form → Bool → ℕ → ℕ
+told_count form.Json all n = n
+told_count form.Lines all n = few all n
+told_count form.Zeros all n = few all n
+
+-- the line that says how many more there are, and nothing where there are none
+abbrev pub more_line : List ℕ → ℕ → List ℕ
+more_line what zero = []
+more_line what (suc n) = what ++ (decimal (suc n) ++ codes " more; `--all` lists them\n")
+
+-- the messages grew by what is told of the first conflicts, or of all, and of how many more there are, but for JSON
+abbrev pub AddsConflicts : Bool → Form → List Conflict → List ℕ → List ℕ → Type 0
+AddsConflicts all form.Json cs old new = new ≡ old
+AddsConflicts all _ cs old new =
+    (lines : List ℕ) × AreToldConflicts (take (few all (length cs)) cs) lines
+    × (new ≡ old ++ (lines ++ more_line (codes "conflict: ") (length cs - few all (length cs))))
 
 -- a source and the text of the spec that maps it, as strings
 abbrev pub claim_of : List ℕ → List ℕ → List ℕ × List ℕ

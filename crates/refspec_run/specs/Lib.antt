@@ -1,6 +1,7 @@
 pub mod Canon
 pub mod Conflicts
 pub mod Fault
+pub mod Groups
 pub mod Input
 pub mod Json
 pub mod Messages

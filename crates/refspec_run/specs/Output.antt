@@ -8,6 +8,8 @@ use Rattle.refspec_run.specs.declared.call.Command.{Command}
 use Rattle.refspec_run.specs.declared.call.Command.TheVariants as command
 use Rattle.refspec_run.specs.declared.call.Form.{Form}
 use Rattle.refspec_run.specs.declared.checked.Checked.{Checked}
+use Rattle.refspec_run.specs.declared.fault.Fault.{Fault}
+use Rattle.refspec_run.specs.declared.fault.Fault.TheVariants as fault
 use Rattle.refspec_run.specs.declared.settings.Setting.{Setting}
 use Rattle.refspec_run.specs.Canon.{AddsCanonical, ShowsCanonical}
 use Rattle.refspec_run.specs.Input.{ReadsToEnd, end_byte}
@@ -15,14 +17,14 @@ use Rattle.refspec_run.specs.Messages.{AreRefusals, TellsRefusals}
 use Rattle.refspec_run.specs.Plan.{AddsPlan}
 use Rattle.refspec_run.specs.Prefixes.{AddsPrefixes}
 use Rattle.refspec_run.specs.Read.{AddsIfGood, AddsIfRead, AreGood, HasBad, TellsRefused}
-use Rattle.refspec_run.specs.Settings.{AreSettingsOf, HasLacking}
+use Rattle.refspec_run.specs.Settings.{AreSettingsOf, HasLacking, HasNoSettings}
 use Rattle.refspec_run.specs.Shown.{KeepsResults}
 use Rattle.refspec_run.specs.Texts.{AreTexts, Given, said, spec_input}
 use Rattle.refspec_run.specs.Track.{AddsTracked}
 
 -- the results grew by what a command tells of specs that are read so, and whether something is refused
 abbrev pub AddsFound : Command → Call → List ℕ → Form → List ℕ → Bool → List Reading → List ℕ → List ℕ → Type 0
-AddsFound command.Plan call input form messages refused g old new = AddsPlan form (end_byte call.ends) input messages refused g old new
+AddsFound command.Plan call input form messages refused g old new = AddsPlan call.long call.all form (end_byte call.ends) input messages refused g old new
 AddsFound command.Track call input form messages refused g old new = AddsTracked form (map (λ w. w.now) call.refs.items) refused g old new
 AddsFound command.Prefixes call input form messages refused g old new = AddsPrefixes call.patterns form g old new × (refused ≡ false)
 AddsFound _ call input form messages refused g old new = ⊤

@@ -1,5 +1,5 @@
 -- What a fetch writes, in the words of the library.
-use Rattle.std.specs.Prelude.{◌≡◌, ◌≢◌, ◌⊎◌, ℕ, Bool, List, [], ◌++◌, MatchBool, option_map, unwrap_or, ⊤}
+use Rattle.std.specs.Prelude.{◌≡◌, ◌≢◌, ◌⊎◌, ℕ, Bool, true, false, List, [], ◌++◌, MatchBool, codes, option_map, unwrap_or, ⊤}
 use Rattle.std.specs.List.{slice_get}
 use Rattle.gix_refspec.specs.Specs.Reading.{Reading}
 use Rattle.gix_refspec.specs.Matching.Match.{Ref}
@@ -10,6 +10,8 @@ use Rattle.gix_refspec.specs.Views.Issue.{conflicts_of, mappings_of}
 use Rattle.gix_refspec.specs.Matching.RefNames.{KeepsNamed, LeftOut}
 use Rattle.gix_refspec.specs.Matching.Validation.{AreConflicts, IsValidated, Removed}
 use Rattle.refspec_json.specs.Objects.{left_out_object, line_of, malformed_object}
+use Rattle.gix_refspec.specs.declared.match_group.names.BadSide.{BadSide}
+use Rattle.gix_refspec.specs.declared.match_group.names.BadSide.TheVariants as side
 use Rattle.refspec_run.specs.declared.call.Form.{Form}
 use Rattle.refspec_run.specs.declared.call.Form.TheVariants as form
 use Rattle.refspec_run.specs.declared.mappings.Columns.TheVariants as columns
@@ -19,6 +21,7 @@ use Rattle.refspec_run.specs.declared.refs.BadRecord.{BadRecord}
 use Rattle.refspec_run.specs.declared.texts.Place.{Place}
 use Rattle.refspec_run.specs.declared.texts.Place.TheVariants as place
 use Rattle.refspec_run.specs.Conflicts.{AddsConflicts, IsConflict}
+use Rattle.refspec_run.specs.Groups.{AddsGroups}
 use Rattle.refspec_run.specs.Input.{AreRecords}
 use Rattle.refspec_run.specs.Json.{AddsObjects, json_text}
 use Rattle.refspec_run.specs.Messages.{IsPlace}
@@ -44,12 +47,13 @@ pub record IsPlan (g : List Reading) (items : List Ref) (made : Written) (out : 
 abbrev pub IsPlanByNames : List Reading → List Ref → Written → List LeftOut → Type 0
 IsPlanByNames g items made out = (refs : List Ref) → HaveSameNames items refs → IsPlan g refs made out
 
--- the line of the object of a record that tells of no ref, and of a sentence on it
+-- the line of the object of a record that tells of no ref, with a sentence on it and advice
 pub record IsMalformedLine (p : Place) (bytes line : List ℕ) : Type 0 where
   pub place : List ℕ
   pub message : List ℕ
   pub is_place : IsPlace form.Json p place
-  pub is : line ≡ line_of (malformed_object place (json_text bytes) message)
+  pub advice : List ℕ
+  pub is : line ≡ line_of (malformed_object place (json_text bytes) message advice)
 
 -- bytes grew by that line
 abbrev pub PutsMalformed : Place → List ℕ → List ℕ → List ℕ → Type 0
@@ -68,20 +72,42 @@ IsBadLine input bad line = (p : Place) × IsRecordOf input bad.number p × IsMal
 abbrev pub IsMalformed : List ℕ → List ℕ → Type 0
 IsMalformed bytes line = (p : Place) × IsMalformedLine p bytes line
 
--- the line of the object of a mapping that is left out, with the text of its spec, and of a sentence on it
-abbrev pub IsLeftOutLine : List ℕ → Mapped → List ℕ → Type 0
-IsLeftOutLine text m line =
-    (message : List ℕ) × (line ≡ line_of (left_out_object (json_text (source_text m.source)) (option_map json_text m.destination) (json_text text) message))
+-- what a side that is no name of a ref is called
+abbrev pub side_name : BadSide → List ℕ
+side_name side.Source = codes "source"
+side_name side.Destination = codes "destination"
+side_name side.Both = codes "both"
+
+-- the line of the object of a mapping that is left out, with the text of its spec, the side that is wrong, and a sentence on it
+abbrev pub IsLeftOutLine : List ℕ → LeftOut → List ℕ → Type 0
+IsLeftOutLine text out line =
+    (message : List ℕ) × (line ≡ line_of (left_out_object (json_text (source_text out.mapping.source)) (option_map json_text out.mapping.destination) (json_text text) (side_name out.side) message))
 
 -- the same, where the texts of all specs are given
 abbrev pub IsLeftOutOf : List (List ℕ) → LeftOut → List ℕ → Type 0
-IsLeftOutOf texts m line = IsLeftOutLine (unwrap_or (slice_get texts m.mapping.spec) []) m.mapping line
+IsLeftOutOf texts out line = IsLeftOutLine (unwrap_or (slice_get texts out.mapping.spec) []) out line
 
--- the results grew by the mappings that are written, the source first; where there are conflicts, the results of JSON grew by
--- what is told of these, and else the messages, which were before
-abbrev pub AddsWritten : Form → List (List ℕ) → Written → List ℕ → List ℕ → List ℕ → List ℕ → Type 0
-AddsWritten form texts (written.Mappings outcome) before messages old new = AddsMappings form columns.SourceFirst texts (mappings_of outcome) old new
-AddsWritten form texts (written.Nothing error) before messages old new = AddsObjects form IsConflict (conflicts_of error) old new × AddsConflicts form (conflicts_of error) before messages
+-- the results grew by the lines of mappings
+abbrev pub AddsPlannedLines : Bool → List (List ℕ) → List Mapped → List ℕ → List ℕ → Type 0
+AddsPlannedLines true texts ms old new = AddsMappings form.Lines columns.SourceFirst texts ms old new
+AddsPlannedLines false texts ms old new = AddsGroups texts ms old new
+
+-- the results grew by mappings, the source first: in lines below their specs, unless each is to be shown with its own
+abbrev pub AddsPlanned : Bool → Form → List (List ℕ) → List Mapped → List ℕ → List ℕ → Type 0
+AddsPlanned long form.Lines texts ms old new = AddsPlannedLines long texts ms old new
+AddsPlanned long form.Zeros texts ms old new = AddsMappings form.Zeros columns.SourceFirst texts ms old new
+AddsPlanned long form.Json texts ms old new = AddsMappings form.Json columns.SourceFirst texts ms old new
+
+-- the results grew by the mappings that are written; where there are conflicts, the results of JSON grew by what is told of
+-- these, and else the messages, which were before
+abbrev pub AddsWritten : (long all : Bool) → Form → List (List ℕ) → Written → List ℕ → List ℕ → List ℕ → List ℕ → Type 0
+AddsWritten long all form texts (written.Mappings outcome) before messages old new = AddsPlanned long form texts (mappings_of outcome) old new
+AddsWritten long all form texts (written.Nothing error) before messages old new = AddsObjects form IsConflict (conflicts_of error) old new × AddsConflicts all form (conflicts_of error) before messages
+
+-- where there are conflicts, nothing is told behind them
+abbrev pub KeepsConflicts : Written → List ℕ → List ℕ → Type 0
+KeepsConflicts (written.Mappings outcome) old new = ⊤
+KeepsConflicts (written.Nothing error) old new = new ≡ old
 
 -- a mapping is left out, or nothing is written
 abbrev pub LeavesOut : Written → List LeftOut → Type 0
@@ -95,7 +121,7 @@ IsWhole (written.Nothing error) out = ⊥
 
 -- the results grew by what a fetch writes of the refs in the records of an input, in JSON after bad records and what is left
 -- out; where that is nothing, conflicts are told, at the end of the messages or in JSON of the results
-pub record AddsPlan (form : Form) (end : ℕ) (input messages : List ℕ) (refused : Bool) (g : List Reading) (old new : List ℕ) : Type 0 where
+pub record AddsPlan (long all : Bool) (form : Form) (end : ℕ) (input messages : List ℕ) (refused : Bool) (g : List Reading) (old new : List ℕ) : Type 0 where
   pub records : List (List ℕ)
   pub items : List Ref
   pub texts : List (List ℕ)
@@ -111,5 +137,5 @@ pub record AddsPlan (form : Form) (end : ℕ) (input messages : List ℕ) (refus
   pub second : List ℕ
   pub malformed : AddsObjects form IsMalformed bad old first
   pub left_out : AddsObjects form (IsLeftOutOf texts) out first second
-  pub told : AddsWritten form texts made before messages second new
+  pub told : AddsWritten long all form texts made before messages second new
   pub status : MatchBool refused ((bad ≢ []) ⊎ LeavesOut made out) ((bad ≡ []) × IsWhole made out)

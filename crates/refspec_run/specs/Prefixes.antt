@@ -1,7 +1,8 @@
 -- What `prefixes` writes, in the words of the library.
-use Rattle.std.specs.Prelude.{◌≡◌, ◌⊎◌, ℕ, Bool, true, false, List, [], ◌∷◌, ◌++◌, Some, map, codes}
+use Rattle.std.specs.Prelude.{◌≡◌, ◌≢◌, ◌⊎◌, ℕ, Bool, true, false, List, [], ◌∷◌, ◌++◌, MatchBool, Some, map, codes}
 use Rattle.std.specs.List.{flat_map}
 use Rattle.gix_refspec.specs.Matching.Asked.{HasNoList, ListsGroup}
+use Rattle.gix_refspec.specs.Specs.Grammar.{IsPositive}
 use Rattle.gix_refspec.specs.Specs.Meaning.{printed}
 use Rattle.gix_refspec.specs.Specs.Reading.{Reading}
 use Rattle.refspec_json.specs.Objects.{line_of, noted_object, nothing_object, prefix_object}
@@ -31,12 +32,21 @@ pub record IsReasonObject (r : Reading) (line : List ℕ) : Type 0 where
 abbrev pub IsReason : Reading → List ℕ → Type 0
 IsReason r line = (HasNoList (r ∷ []) × IsReasonObject r line) ⊎ (((list : List (List ℕ)) × ListsGroup (r ∷ []) list) × (line ≡ []))
 
--- the results grew by what stands for all refs: a word in a line, the empty prefix and a zero byte, or the objects of the specs
--- that are the reason
-abbrev pub AddsAll : Form → List Reading → List ℕ → List ℕ → Type 0
-AddsAll form.Lines g old new = new ≡ old ++ codes "(all)\n"
-AddsAll form.Zeros g old new = new ≡ old ++ (0 ∷ [])
-AddsAll form.Json g old new = AddsObjects form.Json IsReason g old new
+-- what stands for all refs: the pattern that each name matches, or a word in a line
+abbrev pub all_line : Bool → List ℕ
+all_line true = codes "*\n"
+all_line false = codes "(all)\n"
+
+-- and the same pattern, or the empty prefix, ended by a zero byte
+abbrev pub all_field : Bool → List ℕ
+all_field true = 42 ∷ 0 ∷ []
+all_field false = 0 ∷ []
+
+-- the results grew by that, or by the objects of the specs that are the reason
+abbrev pub AddsAll : Bool → Form → List Reading → List ℕ → List ℕ → Type 0
+AddsAll patterns form.Lines g old new = new ≡ old ++ all_line patterns
+AddsAll patterns form.Zeros g old new = new ≡ old ++ all_field patterns
+AddsAll patterns form.Json g old new = AddsObjects form.Json IsReason g old new
 
 -- the results grew by what says that nothing has to be asked for: a word in a line, no record, or an object with a sentence
 abbrev pub AddsNothing : Form → List ℕ → List ℕ → Type 0
@@ -59,8 +69,33 @@ abbrev pub AddsList : Bool → Form → List (List ℕ) → List ℕ → List �
 AddsList patterns form [] old new = AddsNothing form old new
 AddsList patterns form (p ∷ list) old new = AddsRequests patterns form (p ∷ list) old new
 
--- the results grew by what to ask a server for, in order; or by what stands for all refs, where no list is safe
+-- the spec takes refs, and its star stands right behind `refs/`: Git asks for these by `refs/` (git-fetch(1) by protocol v2)
+abbrev pub TakesWhole : Reading → Type 0
+TakesWhole r = IsPositive r.mode × ((after : List ℕ) × (r.source ≡ Some (codes "refs/*" ++ after)))
+
+-- the other specs, in order
+abbrev pub AreOthers : List Reading → List Reading → Type 0
+AreOthers [] others = others ≡ []
+AreOthers (r ∷ g) others =
+    (TakesWhole r × AreOthers g others)
+    ⊎ ((¬ (TakesWhole r)) × ((rest : List Reading) × AreOthers g rest × (others ≡ r ∷ rest)))
+
+-- prefixes, after `refs/` if that is asked for
+abbrev pub asked_with : Bool → List (List ℕ) → List (List ℕ)
+asked_with true list = codes "refs/" ∷ list
+asked_with false list = list
+
+-- what to ask a server for, in order: by the other specs, after `refs/` if there are more than these
+pub record ListsAsked (g others : List Reading) (list : List (List ℕ)) : Type 0 where
+  pub has_whole : Bool
+  pub own : List (List ℕ)
+  pub whole : MatchBool has_whole (others ≢ g) (others ≡ g)
+  pub lists : ListsGroup others own
+  pub is : list ≡ asked_with has_whole own
+
+-- the results grew by that; or by what stands for all refs, where no list is safe for the others
 abbrev pub AddsPrefixes : Bool → Form → List Reading → List ℕ → List ℕ → Type 0
 AddsPrefixes patterns form g old new =
-    ((list : List (List ℕ)) × ListsGroup g list × AddsList patterns form list old new)
-    ⊎ (HasNoList g × AddsAll form g old new)
+    (others : List Reading) × AreOthers g others
+    × (((list : List (List ℕ)) × ListsAsked g others list × AddsList patterns form list old new)
+    ⊎ (HasNoList others × AddsAll patterns form others old new))

@@ -53,6 +53,12 @@ pub struct Call<'a> {
     pub verbose: bool,
     /// Prefixes are shown as patterns.
     pub patterns: bool,
+    /// Each mapping of a plan is shown with its spec, and not below it.
+    pub long: bool,
+    /// Each conflict, and each mapping that is left out, is told, and not only the first ones.
+    pub all: bool,
+    /// Messages go to a terminal.
+    pub is_watched: bool,
     /// The specs among the words.
     pub specs: Vec<&'a str>,
     /// The tracking refs among the words.

@@ -1,7 +1,8 @@
 //! Settings that are to have a refspec, and have no value.
 
 ghost use Rattle.std.specs.Prelude.{OnOk};
-ghost use Rattle.refspec_run.specs.Shown.{KeepsPage};
+ghost use Rattle.refspec_run.specs.declared.call.Form.TheVariants as form;
+ghost use Rattle.refspec_run.specs.Shown.{KeepsPage, KeepsResults};
 
 use crate::call::Form;
 use crate::json;
@@ -38,19 +39,10 @@ fn refuse_key(alloc: Global, setting: &Setting<'_>, page: &mut Page) -> Result<(
     }
 }
 
-const MESSAGE: &str = "This key has no value, so Git refuses to read the configuration.";
+const MESSAGE: &str = "The value is missing.";
 
-// What to do about it.
-fn advice_for(setting: &Setting<'_>) -> &'static str {
-    match operation_of(setting.key) {
-        Some(Operation::Push) => {
-            "Write one behind it, as in `push = refs/heads/main`, or delete the line."
-        }
-        _ => {
-            "Write one behind it, as in `fetch = +refs/heads/*:refs/remotes/origin/*`, or delete the line."
-        }
-    }
-}
+const ADVICE: &str =
+    "Write `=` and a spec behind the key, or remove its line: Git uses no remote until then.";
 
 // Puts the lines of a key at the end.
 fn put_lines(setting: &Setting<'_>, out: &mut Vec<u8>) -> Result<(), AllocError> {
@@ -58,17 +50,37 @@ fn put_lines(setting: &Setting<'_>, out: &mut Vec<u8>) -> Result<(), AllocError>
     out.extend_from_slice(b": ")?;
     out.extend_from_slice(MESSAGE.as_bytes())?;
     out.push(b'\n')?;
-    put_advice(out, advice_for(setting))
+    put_advice(out, ADVICE)
 }
 
 // Puts the object of a key at the end.
-fn put_object(alloc: Global, setting: &Setting<'_>, out: &mut Vec<u8>) -> Result<(), AllocError> {
+fn put_object(alloc: Global, setting: &Setting<'_>, out: &mut Vec<u8>) -> Result<(), AllocError>
+    ensures { OnOk result (KeepsResults form.Json out.old.items out.new.items) }
+{
     let place = json::shown_place(alloc, &place_of(setting))?;
-    let text = json::text_of(alloc, setting.key)?;
-    let object = refspec_json::Malformed {
-        place: place.as_str(),
-        text: text.as_str(),
+    let operation = operation_of(setting.key).unwrap_or(Operation::Fetch);
+    put_missing(alloc, place.as_str(), json::operation_of(operation), out)
+}
+
+// Puts the object of a key at a place at the end, for an operation with a name.
+fn put_missing<'a>(
+    alloc: Global,
+    place: &'a str,
+    operation: &'a str,
+    out: &mut Vec<u8>,
+) -> Result<(), AllocError>
+    ensures { OnOk result (KeepsResults form.Json out.old.items out.new.items) }
+{
+    let object = refspec_json::Refused {
+        place,
+        operation,
+        text: "",
+        reason: "MissingValue",
         message: MESSAGE,
+        side: None,
+        part: None,
+        at: None,
+        advice: ADVICE,
     };
     object.put_line(alloc, out)
 }

@@ -28,7 +28,7 @@ pub enum Columns {
 }
 
 /// What is shown where a mapping has no destination.
-const NO_DESTINATION: &[u8] = b"FETCH_HEAD";
+pub const NO_DESTINATION: &[u8] = b"FETCH_HEAD";
 
 /// The canonical texts of specs, in order.
 pub fn canonical_texts(alloc: Global, specs: &[RefSpecRef<'_>]) -> Result<Vec<BString>, AllocError>
@@ -93,8 +93,8 @@ fn put_table(
     Ok(())
 }
 
-// How a table of mappings is laid out.
-fn layout_of(
+/// How a table of mappings is laid out.
+pub fn layout_of(
     alloc: Global,
     mappings: &[Mapping<'_, '_>],
     texts: &[BString],
@@ -118,8 +118,8 @@ fn layout_of(
     Ok(layout)
 }
 
-// A destination, or something else where there is none.
-fn destination_or<'a>(destination: &'a Option<NameRef<'_>>, none: &'a [u8]) -> &'a [u8]
+/// A destination, or something else where there is none.
+pub fn destination_or<'a>(destination: &'a Option<NameRef<'_>>, none: &'a [u8]) -> &'a [u8]
     ensures { result.now ≡ unwrap_or (option_map name_bytes destination.now) none.now }
 {
     match destination {
@@ -181,8 +181,8 @@ fn put_cells(
     }
 }
 
-// Puts a source at the end, as a cell.
-fn put_source_cell(
+/// Puts a source at the end, as a cell.
+pub fn put_source_cell(
     alloc: Global,
     layout: &Layout,
     source: &SourceRef<'_>,

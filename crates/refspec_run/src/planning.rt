@@ -1,20 +1,21 @@
 //! How a plan is shown: its mappings as results, and conflicts and what is left out as messages.
 
-ghost use Rattle.std.specs.Prelude.{◌≡◌, ◌≢◌, ◌⊎◌, ◌++◌, ◌∷◌, [], List, false, map, true, IfOk, MatchBool, OnOk, ℕ};
+ghost use Rattle.std.specs.Prelude.{◌≡◌, ◌≢◌, ◌≤◌, ◌⊎◌, ◌++◌, ◌∷◌, [], List, false, map, true, IfOk, MatchBool, OnOk, ℕ};
 ghost use Rattle.bstr.specs.Owned.{bstring_bytes};
 ghost use Rattle.gix_refspec.specs.Matching.RefNames.{left_out_of};
-ghost use Rattle.gix_refspec.specs.Views.Group.{start_of};
+ghost use Rattle.gix_refspec.specs.Views.Group.{mapped_of, start_of};
 ghost use Rattle.gix_refspec.specs.Views.Issue.{conflict_of};
 ghost use Rattle.gix_refspec.specs.Views.Spec.{reading_of};
 ghost use Rattle.refspec_json.specs.Views.{claim_texts};
-ghost use Rattle.refspec_run.specs.Conflicts.{AddsConflicts, IsConflict, PutsClaim, PutsClaims, PutsConflict, claim_of, claims_from, conflict_line};
+ghost use Rattle.refspec_run.specs.Conflicts.{AddsConflicts, AddsEachConflict, IsConflict, PutsClaim, PutsClaims, PutsConflict, claim_of, claims_from, conflict_line, few, more_line, told_count};
 ghost use Rattle.refspec_run.specs.Input.{end_byte};
 ghost use Rattle.refspec_run.specs.Refs.{bad_bytes};
 ghost use Rattle.refspec_run.specs.Json.{AddsObjects};
-ghost use Rattle.refspec_run.specs.Plan.{AddsPlan, AddsWritten, IsBadLine, IsLeftOutLine, IsLeftOutOf, IsWhole, LeavesOut, PutsMalformed};
+ghost use Rattle.refspec_run.specs.Plan.{AddsPlan, AddsPlanned, AddsWritten, IsBadLine, IsLeftOutLine, IsLeftOutOf, IsWhole, LeavesOut, PutsMalformed, side_name};
 ghost use Rattle.refspec_run.specs.Rows.{source_text};
 
-use crate::call::{Form, Task};
+use crate::call::{Call, Form, Task};
+use crate::groups::put_groups;
 use crate::input::{end_of, first_record};
 use crate::json;
 use crate::mappings::{
@@ -24,11 +25,12 @@ use crate::page::{Page, put_advice};
 use crate::plan::{Discard, Plan, Written, plan_of};
 use crate::quote::put_in_message;
 use crate::refs::{BadRecord, Told};
-use crate::texts::Place;
+use crate::summary::Summary;
+use crate::texts::{Place, put_number};
 use bstr::{BString, ByteSlice};
-use gix_refspec::match_group::SourceRef;
 use gix_refspec::match_group::names::{BadMapping, BadSide};
 use gix_refspec::match_group::validate::Issue;
+use gix_refspec::match_group::{Mapping, SourceRef};
 use gix_refspec::oid::{Kind, ObjectId};
 use gix_refspec::{RefSpecRef, name};
 use refspec_json::Claim;
@@ -43,18 +45,28 @@ pub fn tell_plan<D: Discard>(
     page: &mut Page,
     done: &mut D,
 ) -> Result<bool, AllocError>
-    ensures { IfOk result (λ refused. AddsPlan page.old.form (end_byte task.now.call.now.ends)
+    ensures { IfOk result (λ refused. AddsPlan task.now.call.now.long task.now.call.now.all
+        page.old.form (end_byte task.now.call.now.ends)
         task.now.input.now page.new.messages.items refused (map reading_of specs.entry.items)
         page.old.results.items page.new.results.items) }
 {
+    let call = task.call;
     let id = ObjectId::null(Kind::shortest());
-    let told = Told::read(alloc, task.input, end_of(task.call.ends), &id)?;
-    let has_bad = tell_bad_records(alloc, task.call.input, told.bad.as_slice(), page)?;
+    let told = Told::read(alloc, task.input, end_of(call.ends), &id)?;
+    let has_bad = tell_bad_records(alloc, call.input, told.bad.as_slice(), page)?;
     let texts = canonical_texts(alloc, specs.as_slice())?;
+    let summary = Summary::of(alloc, call, specs.as_slice(), told.items.as_slice())?;
     let plan = plan_of(alloc, specs, told.items.as_slice())?;
     drop(told);
-    tell_all_left_out(alloc, plan.left_out.as_slice(), texts.as_slice(), page)?;
-    tell_written(alloc, &plan.written, texts.as_slice(), page)?;
+    tell_left_out(
+        alloc,
+        plan.left_out.as_slice(),
+        texts.as_slice(),
+        call.all,
+        page,
+    )?;
+    tell_written(alloc, call, &plan.written, texts.as_slice(), page)?;
+    summary.put(alloc, &plan, &mut page.messages)?;
     let refused = is_refused(has_bad, &plan);
     done.discard(plan);
     Ok(refused)
@@ -87,23 +99,38 @@ fn leaves_out(plan: &Plan<'_, '_>) -> bool
 // Tells the mappings that are written, or the conflicts for which none is.
 fn tell_written(
     alloc: Global,
+    call: &Call<'_>,
     written: &Written<'_, '_>,
     texts: &[BString],
     page: &mut Page,
 ) -> Result<(), AllocError>
-    ensures { OnOk result (AddsWritten page.old.form (map bstring_bytes texts.now) written.now
+    ensures { OnOk result (AddsWritten call.now.long call.now.all page.old.form
+        (map bstring_bytes texts.now) written.now
         page.old.messages.items page.new.messages.items
         page.old.results.items page.new.results.items) }
 {
     match written {
-        Written::Mappings(outcome) => tell_mappings(
-            alloc,
-            outcome.mappings.as_slice(),
-            texts,
-            Columns::SourceFirst,
-            page,
-        ),
-        Written::Nothing(error) => tell_conflicts(alloc, error.issues.as_slice(), page),
+        Written::Mappings(outcome) => {
+            tell_planned(alloc, outcome.mappings.as_slice(), texts, call.long, page)
+        }
+        Written::Nothing(error) => tell_conflicts(alloc, error.issues.as_slice(), call.all, page),
+    }
+}
+
+// Tells the mappings of a plan, in order: in lines below their specs, unless each is to be shown with its own.
+fn tell_planned(
+    alloc: Global,
+    mappings: &[Mapping<'_, '_>],
+    texts: &[BString],
+    long: bool,
+    page: &mut Page,
+) -> Result<(), AllocError>
+    ensures { OnOk result (AddsPlanned long page.old.form (map bstring_bytes texts.now)
+        (map mapped_of mappings.now) page.old.results.items page.new.results.items) }
+{
+    match (page.form, long) {
+        (Form::Lines, false) => put_groups(alloc, mappings, texts, &mut page.results),
+        _ => tell_mappings(alloc, mappings, texts, Columns::SourceFirst, page),
     }
 }
 
@@ -126,6 +153,58 @@ fn tell_bad_records(
     Ok(!bad.is_empty())
 }
 
+// How many of some conflicts, or mappings that are left out, are told: in JSON each is.
+fn told_count(form: Form, all: bool, count: usize) -> usize
+    ensures told { result ≡ told_count form all count }
+    ensures fits { result ≤ count }
+{
+    match form {
+        Form::Json => count,
+        Form::Lines | Form::Zeros => few(all, count),
+    }
+}
+
+// How many of some are told: 20 at the most, unless all are to be.
+fn few(all: bool, count: usize) -> usize
+    ensures told { result ≡ few all count }
+    ensures fits { result ≤ count }
+{
+    if all {
+        return count;
+    }
+    count - count.saturating_sub(20)
+}
+
+// Puts the line at the end that says how many more there are, if there are some.
+fn put_more(what: &str, count: usize, out: &mut Vec<u8>) -> Result<(), AllocError>
+    ensures { OnOk result (out.new.items ≡ out.old.items ++ more_line what.now count) }
+{
+    if count == 0 {
+        return Ok(());
+    }
+    out.extend_from_slice(what.as_bytes())?;
+    put_number(out, count)?;
+    out.extend_from_slice(b" more; `--all` lists them\n")?;
+    Ok(())
+}
+
+// Tells of mappings that are left out; in lines of the first ones, unless all are to be told.
+fn tell_left_out(
+    alloc: Global,
+    left_out: &[BadMapping<'_, '_>],
+    texts: &[BString],
+    all: bool,
+    page: &mut Page,
+) -> Result<(), AllocError>
+    ensures form { OnOk result (page.new.form ≡ page.old.form) }
+    ensures told { OnOk result (AddsObjects page.old.form (IsLeftOutOf (map bstring_bytes texts.now))
+        (map left_out_of left_out.now) page.old.results.items page.new.results.items) }
+{
+    let (told, more) = left_out.split_at(told_count(page.form, all, left_out.len()));
+    tell_all_left_out(alloc, told, texts, page)?;
+    put_more("left out: ", more.len(), &mut page.messages)
+}
+
 // Tells of mappings that are left out.
 fn tell_all_left_out(
     alloc: Global,
@@ -138,16 +217,34 @@ fn tell_all_left_out(
         (map left_out_of left_out.now) page.old.results.items page.new.results.items) }
 {
     for bad in left_out {
-        tell_left_out(alloc, bad, texts, page)?;
+        tell_one_left_out(alloc, bad, texts, page)?;
     }
     Ok(())
 }
 
-// Tells of conflicts.
-fn tell_conflicts(alloc: Global, issues: &[Issue], page: &mut Page) -> Result<(), AllocError>
+// Tells of conflicts; in lines of the first ones, unless all are to be told.
+fn tell_conflicts(
+    alloc: Global,
+    issues: &[Issue],
+    all: bool,
+    page: &mut Page,
+) -> Result<(), AllocError>
     ensures objects { OnOk result (AddsObjects page.old.form IsConflict (map conflict_of issues.now)
         page.old.results.items page.new.results.items) }
-    ensures told { OnOk result (AddsConflicts page.old.form (map conflict_of issues.now)
+    ensures told { OnOk result (AddsConflicts all page.old.form (map conflict_of issues.now)
+        page.old.messages.items page.new.messages.items) }
+{
+    let (told, more) = issues.split_at(told_count(page.form, all, issues.len()));
+    tell_all_conflicts(alloc, told, page)?;
+    put_more("conflict: ", more.len(), &mut page.messages)
+}
+
+// Tells of conflicts, in order.
+fn tell_all_conflicts(alloc: Global, issues: &[Issue], page: &mut Page) -> Result<(), AllocError>
+    ensures form { OnOk result (page.new.form ≡ page.old.form) }
+    ensures objects { OnOk result (AddsObjects page.old.form IsConflict (map conflict_of issues.now)
+        page.old.results.items page.new.results.items) }
+    ensures told { OnOk result (AddsEachConflict page.old.form (map conflict_of issues.now)
         page.old.messages.items page.new.messages.items) }
 {
     for issue in issues {
@@ -227,13 +324,14 @@ fn put_malformed(
 ) -> Result<(), AllocError>
     ensures { OnOk result (PutsMalformed place.now (bad_bytes bad.now) out.old.items out.new.items) }
 {
-    let (message, _) = why_malformed(bad);
+    let (message, advice) = why_malformed(bad);
     let place = json::shown_place(alloc, place)?;
     let text = json::text_of(alloc, bad.bytes)?;
     let object = refspec_json::Malformed {
         place: place.as_str(),
         text: text.as_str(),
         message,
+        advice,
     };
     object.put_line(alloc, out)
 }
@@ -258,7 +356,7 @@ fn put_bad_record(
 }
 
 // Tells of a mapping that is left out, as a side of it is no name of a ref.
-fn tell_left_out(
+fn tell_one_left_out(
     alloc: Global,
     bad: &BadMapping<'_, '_>,
     texts: &[BString],
@@ -274,6 +372,17 @@ fn tell_left_out(
     match page.form {
         Form::Json => put_left_out_object(alloc, bad, source, spec, &mut page.results),
         Form::Lines | Form::Zeros => put_left_out(bad, source, spec, &mut page.messages),
+    }
+}
+
+// What a side that is no name of a ref is called.
+fn side_of(side: BadSide) -> &'static str
+    ensures { result.now ≡ side_name side }
+{
+    match side {
+        BadSide::Source => "source",
+        BadSide::Destination => "destination",
+        BadSide::Both => "both",
     }
 }
 
@@ -294,7 +403,7 @@ fn put_left_out_object(
     out: &mut Vec<u8>,
 ) -> Result<(), AllocError>
     requires { source.now ≡ source_text (left_out_of bad.now).mapping.source }
-    ensures { OnOk result ((line : List ℕ) × IsLeftOutLine spec.now (left_out_of bad.now).mapping line
+    ensures { OnOk result ((line : List ℕ) × IsLeftOutLine spec.now (left_out_of bad.now) line
         × (out.new.items ≡ out.old.items ++ line)) }
 {
     let message = why_left_out(wrong_of(bad, source));
@@ -306,6 +415,7 @@ fn put_left_out_object(
         source: source.as_str(),
         destination,
         spec: spec.as_str(),
+        side: side_of(bad.side),
         message,
     };
     object.put_line(alloc, out)
@@ -348,7 +458,7 @@ fn tell_conflict(alloc: Global, issue: &Issue, page: &mut Page) -> Result<(), Al
     ensures form { OnOk result (page.new.form ≡ page.old.form) }
     ensures objects { OnOk result (AddsObjects page.old.form IsConflict (conflict_of issue.now ∷ [])
         page.old.results.items page.new.results.items) }
-    ensures told { OnOk result (AddsConflicts page.old.form (conflict_of issue.now ∷ [])
+    ensures told { OnOk result (AddsEachConflict page.old.form (conflict_of issue.now ∷ [])
         page.old.messages.items page.new.messages.items) }
 {
     match page.form {

@@ -1,6 +1,6 @@
 //! What to ask a server for.
 
-ghost use Rattle.std.specs.Prelude.{◌≡◌, ◌++◌, ◌∷◌, [], List, codes, map, true, IfOk, IfSome, MatchOption, OnOk, ℕ};
+ghost use Rattle.std.specs.Prelude.{◌≡◌, ◌<◌, ◌≤◌, ◌++◌, ◌∷◌, [], List, codes, length, map, true, IfOk, IfSome, MatchBool, MatchOption, OnOk, ℕ};
 ghost use Rattle.bstr.specs.Owned.{bstring_bytes};
 ghost use Rattle.gix_refspec.specs.Matching.Asked.{HasNoList, ListsGroup, Serves};
 ghost use Rattle.gix_refspec.specs.Views.Group.{readings_of};
@@ -8,7 +8,7 @@ ghost use Rattle.gix_refspec.specs.Views.Spec.{reading_of};
 ghost use Rattle.refspec_json.specs.Objects.{line_of, noted_object};
 ghost use Rattle.refspec_run.specs.declared.call.Form.TheVariants as form;
 ghost use Rattle.refspec_run.specs.Json.{AddsObjects, json_text};
-ghost use Rattle.refspec_run.specs.Prefixes.{AddsAll, AddsList, AddsNothing, AddsPrefixes, AddsRequests, IsReason, asked_object, request};
+ghost use Rattle.refspec_run.specs.Prefixes.{AddsAll, AddsList, AddsNothing, AddsPrefixes, AddsRequests, AreOthers, IsReason, TakesWhole, asked_object, asked_with, request};
 
 use crate::call::Form;
 use crate::json;
@@ -16,6 +16,7 @@ use crate::page::Page;
 use crate::quote::put_quoted;
 use bstr::BString;
 use gix_refspec::{MatchGroup, RefSpecRef};
+use refspec_text::spec::sign::is_negative;
 use std::alloc::{AllocError, Global};
 
 /// Tells what to ask a server for, so that it tells of each ref that the specs map; or that all refs have
@@ -29,11 +30,72 @@ pub fn tell_prefixes(
     ensures { OnOk result (AddsPrefixes patterns page.old.form (map reading_of specs.entry.items)
         page.old.results.items page.new.results.items) }
 {
-    let group = MatchGroup { specs };
+    let others = others_of(alloc, specs.as_slice())?;
+    let has_whole = are_fewer(others.as_slice(), specs.as_slice());
+    let group = MatchGroup { specs: others };
     match prefixes_of(alloc, &group)? {
-        None => tell_all(alloc, &group, page),
-        Some(prefixes) => tell_list(alloc, prefixes.as_slice(), patterns, page),
+        None => tell_all(alloc, &group, patterns, page),
+        Some(prefixes) => tell_asked(alloc, has_whole, prefixes.as_slice(), patterns, page),
     }
+}
+
+// Whether some specs are fewer than others.
+fn are_fewer(some: &[RefSpecRef<'_>], others: &[RefSpecRef<'_>]) -> bool
+    ensures { MatchBool result
+        (length some.now < length others.now) (length others.now ≤ length some.now) }
+{
+    some.len() < others.len()
+}
+
+// What all refs but `HEAD` begin with.
+const BELOW: &[u8] = b"refs/";
+
+// The specs whose star doesn't stand right behind `refs/`: the library has no prefix for those, for which Git asks by
+// `refs/` itself.
+fn others_of<'a>(alloc: Global, specs: &[RefSpecRef<'a>]) -> Result<Vec<RefSpecRef<'a>>, AllocError>
+    ensures { IfOk result (λ others. AreOthers
+        (map reading_of specs.now) (map reading_of others.items)) }
+{
+    let mut others = Vec::with_capacity(alloc, specs.len())?;
+    for spec in specs {
+        if !takes_whole(spec) {
+            others.push(*spec)?;
+        }
+    }
+    Ok(others)
+}
+
+// Whether a spec takes refs, and its star stands right behind `refs/`.
+fn takes_whole(spec: &RefSpecRef<'_>) -> bool
+    ensures { MatchBool result
+        (TakesWhole (reading_of spec.now)) (¬ (TakesWhole (reading_of spec.now))) }
+{
+    if is_negative(spec) {
+        return false;
+    }
+    match spec.source() {
+        None => false,
+        Some(source) => source.as_bytes().starts_with(b"refs/*"),
+    }
+}
+
+// Tells prefixes, after `refs/` if a spec needs it.
+fn tell_asked(
+    alloc: Global,
+    has_whole: bool,
+    prefixes: &[BString],
+    patterns: bool,
+    page: &mut Page,
+) -> Result<(), AllocError>
+    ensures { OnOk result (AddsList patterns page.old.form
+        (asked_with has_whole (map bstring_bytes prefixes.now))
+        page.old.results.items page.new.results.items) }
+{
+    if has_whole {
+        tell_prefix(alloc, BELOW, patterns, page)?;
+        return tell_each(alloc, prefixes, patterns, page);
+    }
+    tell_list(alloc, prefixes, patterns, page)
 }
 
 /// What to ask a server for, or `None` where only a request for all refs is safe.
@@ -152,32 +214,39 @@ fn put_nothing(alloc: Global, message: &str, out: &mut Vec<u8>) -> Result<(), Al
 }
 
 const WHY_ALL: &str =
-    "No safe prefix is known for this spec: its star is outside refs/, directly after it, or after a ]. So ask for all refs.";
+    "No safe prefix is known for this spec: its star is outside refs/, or after a ]. So ask for all refs.";
 
 // Tells that all refs have to be asked for, and for which specs.
-fn tell_all(alloc: Global, group: &MatchGroup<'_>, page: &mut Page) -> Result<(), AllocError>
-    ensures { OnOk result (AddsAll page.old.form (readings_of group.now)
+fn tell_all(
+    alloc: Global,
+    group: &MatchGroup<'_>,
+    patterns: bool,
+    page: &mut Page,
+) -> Result<(), AllocError>
+    ensures { OnOk result (AddsAll patterns page.old.form (readings_of group.now)
         page.old.results.items page.new.results.items) }
 {
-    put_all(page)?;
+    put_all(patterns, page)?;
     for spec in &group.specs {
         tell_if_reason(alloc, spec, page)?;
     }
     Ok(())
 }
 
-// Puts what means all refs at the end of the results.
-fn put_all(page: &mut Page) -> Result<(), AllocError>
+// Puts what means all refs at the end of the results: the pattern that each name matches, or else in lines a word, and in
+// records the empty prefix, with which each name begins.
+fn put_all(patterns: bool, page: &mut Page) -> Result<(), AllocError>
     ensures form { OnOk result (page.new.form ≡ page.old.form) }
-    ensures told { OnOk result (AddsAll page.old.form []
+    ensures told { OnOk result (AddsAll patterns page.old.form []
         page.old.results.items page.new.results.items) }
 {
-    match page.form {
-        Form::Lines => page.results.extend_from_slice(b"(all)\n"),
-        // The empty prefix, with which each name begins.
-        Form::Zeros => Ok(page.results.push(0)?),
-        Form::Json => Ok(()),
-    }
+    page.results.extend_from_slice(match (page.form, patterns) {
+        (Form::Lines, true) => b"*\n",
+        (Form::Lines, false) => b"(all)\n",
+        (Form::Zeros, true) => b"*\0",
+        (Form::Zeros, false) => b"\0",
+        (Form::Json, _) => b"",
+    })
 }
 
 // Tells of a spec, if all refs have to be asked for it.

@@ -43,8 +43,8 @@ pub fn settings_in<'a>(
     }
 }
 
-// The settings of an input.
-fn settings_of(alloc: Global, input: &[u8]) -> Result<Vec<Setting<'_>>, Fault>
+/// The settings of an input.
+pub fn settings_of(alloc: Global, input: &[u8]) -> Result<Vec<Setting<'_>>, Fault>
     ensures ok { IfOk result (λ settings. AreSettings input.now settings.items) }
     ensures err { IfErr result (RefusesFormat (IsNoSettings input.now)) }
 {

@@ -58,8 +58,8 @@ impl Place<'_> {
     }
 }
 
-// Puts a number at the end.
-fn put_number(out: &mut Vec<u8>, number: usize) -> Result<(), AllocError>
+/// Puts a number at the end.
+pub fn put_number(out: &mut Vec<u8>, number: usize) -> Result<(), AllocError>
     ensures { OnOk result (out.new.items ≡ out.old.items ++ decimal number) }
 {
     let mut buffer = Buffer::new();
@@ -113,7 +113,7 @@ fn add_inputs<'a>(
 ) -> Result<(), AllocError>
     ensures { OnOk result (AreSettingsOf call.now.ends beside.now input.now settings.now
         → AddsInputs call.now beside.now input.now
-            (map given_of texts.old.items) (map given_of texts.new.items)) }
+        (map given_of texts.old.items) (map given_of texts.new.items)) }
 {
     match call.ends {
         Ends::Settings => add_values(settings, texts),

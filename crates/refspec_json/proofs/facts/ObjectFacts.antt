@@ -30,8 +30,8 @@ pub mapping : (line_of (mapping_object (codes "a") None (codes "b"))
 unfolding serde_json_on_literals
 mapping = (refl, refl)
 
-pub left_out : line_of (left_out_object (codes "a") (Some (codes "c")) (codes "b") (codes "m"))
-    ≡ codes "{\"destination\":\"c\",\"kind\":\"left_out\",\"message\":\"m\",\"source\":\"a\",\"spec\":\"b\"}" ++ 10 ∷ []
+pub left_out : line_of (left_out_object (codes "a") (Some (codes "c")) (codes "b") (codes "source") (codes "m"))
+    ≡ codes "{\"destination\":\"c\",\"kind\":\"left_out\",\"message\":\"m\",\"side\":\"source\",\"source\":\"a\",\"spec\":\"b\"}" ++ 10 ∷ []
 unfolding serde_json_on_literals
 left_out = refl
 
@@ -42,7 +42,7 @@ pub conflict : (line_of (conflict_object (codes "d") ((codes "b", codes "b:d") �
 unfolding serde_json_on_literals
 conflict = (refl, refl)
 
-pub malformed : line_of (malformed_object (codes "-:1") (codes "t") (codes "m")) ≡ codes "{\"kind\":\"malformed\",\"message\":\"m\",\"place\":\"-:1\",\"text\":\"t\"}" ++ 10 ∷ []
+pub malformed : line_of (malformed_object (codes "-:1") (codes "t") (codes "m") (codes "d")) ≡ codes "{\"advice\":\"d\",\"kind\":\"malformed\",\"message\":\"m\",\"place\":\"-:1\",\"text\":\"t\"}" ++ 10 ∷ []
 unfolding serde_json_on_literals
 malformed = refl
 

@@ -1,11 +1,11 @@
 -- How a conflict is told, as in the runs of `plan`: its destination, and each source with the text of its spec.
-use Rattle.std.proofs.Common.{◌≡◌, ◌⊎◌, ℕ, List, [], ◌∷◌, ◌++◌, inl, inr, codes, get_or, length, refl, sym, ap, ap₂, ◌∙◌, subst, arith}
+use Rattle.std.proofs.Common.{◌≡◌, ◌⊎◌, ℕ, true, false, List, [], ◌∷◌, ◌++◌, inl, inr, codes, decimal, get_or, length, refl, sym, ap, ap₂, ◌∙◌, subst, arith}
 use Rattle.std.proofs.lemmas.List.{append-nil, append_cancel_left}
 use Rattle.gix_refspec.specs.Matching.Mappings.{name}
 use Rattle.gix_refspec.specs.Matching.Validation.{Conflict}
 use Rattle.refspec_text.proofs.facts.FitFacts.{other_byte}
 use Rattle.refspec_run.specs.declared.call.Form.TheVariants as form
-use Rattle.refspec_run.specs.Conflicts.{AddsConflicts, AreClaims, AreToldConflicts, IsClaim, IsToldConflict, PutsClaim, PutsClaims, PutsConflict}
+use Rattle.refspec_run.specs.Conflicts.{AddsConflicts, AddsEachConflict, AreClaims, AreToldConflicts, IsClaim, IsToldConflict, PutsClaim, PutsClaims, PutsConflict, few, more_line, told_count}
 use Rattle.refspec_run.specs.Shown.{in_quotes}
 
 -- ---- claims
@@ -227,8 +227,8 @@ unclaimed is =
 -- each conflict is told, in lines as beside records, and where there is none nothing is
 pub all_told : AreToldConflicts (conflict ∷ conflict ∷ []) (told_lines ++ told_lines)
     × PutsConflict conflict (codes "x\n") (codes "x\n" ++ told_lines)
-    × AddsConflicts form.Lines (conflict ∷ []) (codes "x\n") (codes "x\n" ++ told_lines)
-    × AddsConflicts form.Zeros (conflict ∷ []) [] told_lines × AddsConflicts form.Lines [] (codes "x\n") (codes "x\n")
+    × AddsEachConflict form.Lines (conflict ∷ []) (codes "x\n") (codes "x\n" ++ told_lines)
+    × AddsEachConflict form.Zeros (conflict ∷ []) [] told_lines × AddsEachConflict form.Lines [] (codes "x\n") (codes "x\n")
 all_told = (
   (told_lines, told_lines, told, (told_lines, [], told, refl, refl), refl),
   (told_lines, told, refl),
@@ -237,8 +237,8 @@ all_told = (
   ([], refl, refl),
 )
 
-pub none_lost : ¬ (AddsConflicts form.Lines (conflict ∷ []) (codes "x\n") (codes "x\n"))
-    × ¬ (AddsConflicts form.Lines [] (codes "x\n") []) × ¬ (AddsConflicts form.Zeros (conflict ∷ []) [] [])
+pub none_lost : ¬ (AddsEachConflict form.Lines (conflict ∷ []) (codes "x\n") (codes "x\n"))
+    × ¬ (AddsEachConflict form.Lines [] (codes "x\n") []) × ¬ (AddsEachConflict form.Zeros (conflict ∷ []) [] [])
 none_lost = (
   (λ adds. omega (
     arith,
@@ -247,4 +247,30 @@ none_lost = (
   )),
   (λ adds. omega (arith, ap length adds.2)),
   λ adds. omega (arith, ap length (adds.2 ∙ (adds.1.4 ∙ ap (λ (l : List ℕ). l ++ adds.1.1) adds.1.2.is))),
+)
+
+-- ---- the first ones
+
+-- twenty are told, and all if that is asked for, or in JSON
+pub counts : (few false 20 ≡ 20) × (few false 21 ≡ 20) × (few true 21 ≡ 21) × (told_count form.Lines false 21 ≡ 20)
+    × (told_count form.Zeros false 21 ≡ 20) × (told_count form.Json false 21 ≡ 21)
+counts = (refl, refl, refl, refl, refl, refl)
+
+-- how many more there are, and nothing where there are none
+pub more : (more_line (codes "conflict: ") 0 ≡ [])
+    × (more_line (codes "conflict: ") 13 ≡ codes "conflict: " ++ (decimal 13 ++ codes " more; `--all` lists them\n"))
+more = (refl, refl)
+
+-- a conflict alone is told, with no line behind it
+pub told_alone : AddsConflicts false form.Lines (conflict ∷ []) (codes "x\n") (codes "x\n" ++ told_lines)
+    × ¬ (AddsConflicts false form.Lines (conflict ∷ []) (codes "x\n") (codes "x\n"))
+    × ¬ (AddsConflicts true form.Zeros (conflict ∷ []) (codes "x\n") (codes "x\n"))
+told_alone = (
+  (
+    told_lines,
+    (told_lines, [], told, refl, sym (append-nil told_lines)),
+    ap (λ (l : List ℕ). codes "x\n" ++ l) (sym (append-nil told_lines)),
+  ),
+  (λ adds. none_lost.0 (adds.0, adds.1, adds.2 ∙ ap (λ (l : List ℕ). codes "x\n" ++ l) (append-nil adds.0))),
+  λ adds. none_lost.0 (adds.0, adds.1, adds.2 ∙ ap (λ (l : List ℕ). codes "x\n" ++ l) (append-nil adds.0)),
 )

@@ -1,5 +1,5 @@
 -- What a fetch writes of refs, and what it leaves out, at the examples of matching and of validation.
-use Rattle.std.proofs.Common.{◌≡◌, ℕ, false, List, [], ◌∷◌, ◌++◌, None, Some, inl, codes, length, refl, sym, ap, ◌∙◌, subst, arith}
+use Rattle.std.proofs.Common.{◌≡◌, ℕ, true, false, List, [], ◌∷◌, ◌++◌, None, Some, inl, codes, length, refl, sym, ap, ◌∙◌, subst, arith}
 use Rattle.gix_refspec.specs.declared.match_group.validate.Error.{Error}
 use Rattle.gix_refspec.specs.declared.match_group.names.BadSide.TheVariants.{Destination}
 use Rattle.gix_refspec.specs.Matching.Mappings.{Mapped}
@@ -29,7 +29,7 @@ use Rattle.refspec_run.specs.Conflicts.{AddsConflicts}
 use Rattle.refspec_run.specs.Plan.{AddsPlan, AddsWritten, IsPlan, IsPlanByNames, IsWhole, LeavesOut, Writes}
 use Rattle.refspec_run.specs.Refs.{AddsRefs}
 use Rattle.refspec_run.specs.Rows.{AddsMappings, IsLine}
-use Rattle.refspec_run.proofs.facts.ConflictFacts.{all_told, conflict as two_sources, none_lost, told_lines}
+use Rattle.refspec_run.proofs.facts.ConflictFacts.{conflict as two_sources, told_alone, told_lines}
 use Rattle.refspec_run.proofs.facts.InputFacts.{records_once}
 use Rattle.refspec_run.proofs.facts.RefFacts.{blob_ref, line_of, none_lost as none_lost_of, plain_word, ref_line}
 use Rattle.refspec_run.proofs.facts.RowFacts.{alone, alone_line, not_told, texts}
@@ -164,9 +164,9 @@ other_plans o = (
 -- mappings go to the results, and conflicts to the messages, with no result
 pub told_of : (o : ForwardOutcome) (e : Error)
     → (mappings_of o ≡ alone ∷ []
-    → AddsWritten form.Lines texts (written.Mappings o) [] [] (codes "x\n") (codes "x\nHEAD  FETCH_HEAD  HEAD\n"))
+    → AddsWritten true false form.Lines texts (written.Mappings o) [] [] (codes "x\n") (codes "x\nHEAD  FETCH_HEAD  HEAD\n"))
     × (conflicts_of e ≡ two_sources ∷ []
-    → AddsWritten form.Lines texts (written.Nothing e) (codes "x\n") (codes "x\n" ++ told_lines) [] [])
+    → AddsWritten false false form.Lines texts (written.Nothing e) (codes "x\n") (codes "x\n" ++ told_lines) [] [])
 told_of o e = (
   (λ are. subst (λ (l : List Mapped). AddsMappings form.Lines columns.SourceFirst texts l (codes "x\n")
       (codes "x\nHEAD  FETCH_HEAD  HEAD\n")) (sym are) (
@@ -176,27 +176,27 @@ told_of o e = (
       )),
   λ are. (
     refl,
-    subst (λ (l : List Conflict). AddsConflicts form.Lines l (codes "x\n") (codes "x\n" ++ told_lines))
-        (sym are) all_told.2,
+    subst (λ (l : List Conflict). AddsConflicts false form.Lines l (codes "x\n") (codes "x\n" ++ told_lines))
+        (sym are) told_alone.0,
   ),
 )
 
 pub not_told_of : (o : ForwardOutcome) (e : Error)
-    → (mappings_of o ≡ alone ∷ [] → ¬ (AddsWritten form.Zeros texts (written.Mappings o) [] [] [] []))
+    → (mappings_of o ≡ alone ∷ [] → ¬ (AddsWritten false false form.Zeros texts (written.Mappings o) [] [] [] []))
     × (conflicts_of e ≡ two_sources ∷ []
-    → ¬ (AddsWritten form.Lines texts (written.Nothing e) (codes "x\n") (codes "x\n") [] []))
-    × ¬ (AddsWritten form.Lines texts (written.Nothing e) [] [] [] (codes "x\n"))
+    → ¬ (AddsWritten false false form.Lines texts (written.Nothing e) (codes "x\n") (codes "x\n") [] []))
+    × ¬ (AddsWritten false false form.Lines texts (written.Nothing e) [] [] [] (codes "x\n"))
 not_told_of o e = (
   (λ are adds. not_told.2
       (subst (λ (l : List Mapped). AddsMappings form.Zeros columns.SourceFirst texts l [] []) are adds)),
-  (λ are adds. none_lost.0
-      (subst (λ (l : List Conflict). AddsConflicts form.Lines l (codes "x\n") (codes "x\n")) are adds.1)),
+  (λ are adds. told_alone.1
+      (subst (λ (l : List Conflict). AddsConflicts false form.Lines l (codes "x\n") (codes "x\n")) are adds.1)),
   λ adds. omega (arith, ap length adds.0),
 )
 
 -- the records of an input, which is a list of refs, tell a plan
 pub planned : (o : ForwardOutcome) → mappings_of o ≡ main_mapping ∷ []
-    → AddsPlan form.Lines 10
+    → AddsPlan true false form.Lines 10
     (line_of dev_ref.name ++
     (10 ∷ (line_of tag_ref.name ++ (10 ∷ (line_of main_ref.name ++ (10 ∷ (line_of main_ref.name ++ (10 ∷ []))))))))
     [] false group [] (codes "refs/heads/main  refs/remotes/origin/main  +refs/heads/*:refs/remotes/origin/*\n")
@@ -290,7 +290,7 @@ planned o are = record {
 
 -- a bad record is told: so it is not that nothing is refused
 pub refused : (g : List Reading) (messages old new : List ℕ)
-    → ¬ (AddsPlan form.Lines 10 (codes "ref: refs/heads/a\tHEAD\n") messages false g old new)
+    → ¬ (AddsPlan false false form.Lines 10 (codes "ref: refs/heads/a\tHEAD\n") messages false g old new)
 refused g messages old new adds =
     let records = records_once 10 adds.records (codes "ref: refs/heads/a\tHEAD" ∷ [])
     (codes "ref: refs/heads/a\tHEAD\n") adds.cut (

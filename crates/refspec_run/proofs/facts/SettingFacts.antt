@@ -1,6 +1,5 @@
 -- Which records are origins, which keys have refspecs, and what two records say, on each side of each border.
-use Rattle.std.proofs.Common.{◌≡◌, ◌≢◌, ℕ, ◌+◌, List, [], ◌∷◌, ◌++◌, Bor, None, Some, inl, inr, codes, get_or, length, refl, sym, ap, arith, length-append}
-use Rattle.refspec_text.specs.declared.parsing.Operation.{Operation}
+use Rattle.std.proofs.Common.{◌≢◌, ℕ, List, [], ◌∷◌, Bor, None, Some, inl, inr, codes, get_or, length, refl, sym, ap, arith, length-append}
 use Rattle.refspec_text.specs.declared.parsing.Operation.TheVariants as operation
 use Rattle.gix_refspec.specs.Texts.Words.{BeginsWith}
 use Rattle.refspec_text.proofs.facts.ManualFacts.{Lacks-tested}

@@ -12,7 +12,7 @@ use Rattle.refspec_text.proofs.lemmas.specs.FormsBackLemmas.{some_once}
 use Rattle.refspec_text.proofs.facts.FitFacts.{short}
 use Rattle.refspec_text.proofs.facts.ManualFacts.{none_some}
 use Rattle.refspec_text.proofs.facts.ObjectIdFacts.{IsIdText-empty_blob, empty_blob}
-use Rattle.gix_refspec.specs.Matching.Mappings.{Mapped, Start, name}
+use Rattle.gix_refspec.specs.Matching.Mappings.{Mapped, name}
 use Rattle.refspec_run.specs.Track.{AreByNames, AreWritten, HasUnwritten, IsEachWritten, IsWritten, named}
 
 -- destinations of 40 digits and of 39

@@ -10,4 +10,4 @@ pub returns : goal.returns
 returns c =
     let source = c.as_str.ensures.value ∙ (c.in_ok-source.ensures ∙ ap json_text c.requires) in
     let destination = c.as_deref-destination.ensures.value ∙ (c.in_ok-destination.ensures ∙ ap (option_map json_text) c.destination_of.ensures) in
-    on_ok c.put_line.result _ _ c.put_line.ensures (left_out_line-of (left_out_of c.args.bad.now).mapping c.args.spec.now c.as_str.result.now c.as_str-2.result.now c.why_left_out-message.result.now (option_map (λ t. t.now) c.as_deref-destination.result) c.args.out.now.items c.put_line.new.out.items source destination (c.as_str-2.ensures.value ∙ c.in_ok-spec.ensures))
+    on_ok c.put_line.result _ _ c.put_line.ensures (left_out_line-of (left_out_of c.args.bad.now) c.args.spec.now c.as_str.result.now c.as_str-2.result.now c.side_of.result.now c.why_left_out-message.result.now (option_map (λ t. t.now) c.as_deref-destination.result) c.args.out.now.items c.put_line.new.out.items source destination (c.as_str-2.ensures.value ∙ c.in_ok-spec.ensures) c.side_of.ensures)

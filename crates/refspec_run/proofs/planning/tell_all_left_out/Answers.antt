@@ -13,8 +13,8 @@ loop-bad-init c = record { form = refl; told = AddsObjects-start c.args.page.now
 
 pub loop-bad-preserved : goal.loop-bad-preserved
 loop-bad-preserved c = record {
-  form = c.in_ok-tell_left_out.ensures.form ∙ c.loop-bad.invariant.form;
-  told = AddsObjects-next c.args.page.now.form c.loop-bad.page.form (IsLeftOutOf (map bstring_bytes c.args.texts.now)) left_out_of c.args.left_out.now c.loop-bad.bad-index c.bad-item.result (left_out_of c.bad-item.result) c.args.page.now.results.items c.loop-bad.page.results.items c.tell_left_out.new.page.results.items c.loop-bad-test.true c.loop-bad.invariant.form (ap left_out_of c.bad-item.is) c.loop-bad.invariant.told c.in_ok-tell_left_out.ensures.told;
+  form = c.in_ok-tell_one_left_out.ensures.form ∙ c.loop-bad.invariant.form;
+  told = AddsObjects-next c.args.page.now.form c.loop-bad.page.form (IsLeftOutOf (map bstring_bytes c.args.texts.now)) left_out_of c.args.left_out.now c.loop-bad.bad-index c.bad-item.result (left_out_of c.bad-item.result) c.args.page.now.results.items c.loop-bad.page.results.items c.tell_one_left_out.new.page.results.items c.loop-bad-test.true c.loop-bad.invariant.form (ap left_out_of c.bad-item.is) c.loop-bad.invariant.told c.in_ok-tell_one_left_out.ensures.told;
 }
 
 pub returns : goal.returns

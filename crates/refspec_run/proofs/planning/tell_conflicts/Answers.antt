@@ -1,22 +1,17 @@
--- Each is told after the others.
-use Rattle.std.proofs.Common.{◌∙◌, List, ap, map, refl, subst, take_all}
+-- The first ones are told, and how many more there are.
+use Rattle.std.proofs.Common.{List, map, subst}
+use Rattle.gix_refspec.specs.Matching.Validation.{Conflict}
 use Rattle.gix_refspec.specs.Views.Issue.{conflict_of}
-use Rattle.gix_refspec.specs.declared.match_group.validate.Issue.{Issue}
-use Rattle.refspec_run.specs.Conflicts.{IsConflict}
+use Rattle.refspec_run.specs.Conflicts.{AddsEachConflict, IsConflict}
 use Rattle.refspec_run.specs.Json.{AddsObjects}
-use Rattle.refspec_run.proofs.ConflictLemmas.{AddsConflicts-next, AddsConflicts-start}
-use Rattle.refspec_run.proofs.JsonLemmas.{AddsObjects-next, AddsObjects-start}
+use Rattle.refspec_run.proofs.ConflictLemmas.{AddsConflicts-of, AddsObjects-first, first_of, others_of}
+use Rattle.refspec_run.proofs.ShownLemmas.{on_ok}
 use Rattle.refspec_run.proofs.planning.tell_conflicts.Goals as goal
 
-pub loop-issue-init : goal.loop-issue-init
-loop-issue-init c = record { form = refl; objects = AddsObjects-start c.args.page.now.form IsConflict c.args.page.now.results.items; told = AddsConflicts-start c.args.page.now.form c.args.page.now.messages.items }
-
-pub loop-issue-preserved : goal.loop-issue-preserved
-loop-issue-preserved c = record {
-  form = c.in_ok-tell_conflict.ensures.form ∙ c.loop-issue.invariant.form;
-  objects = AddsObjects-next c.args.page.now.form c.loop-issue.page.form IsConflict conflict_of c.args.issues.now c.loop-issue.issue-index c.issue-item.result (conflict_of c.issue-item.result) c.args.page.now.results.items c.loop-issue.page.results.items c.tell_conflict.new.page.results.items c.loop-issue-test.true c.loop-issue.invariant.form (ap conflict_of c.issue-item.is) c.loop-issue.invariant.objects c.in_ok-tell_conflict.ensures.objects;
-  told = AddsConflicts-next c.args.page.now.form c.loop-issue.page.form c.args.issues.now c.loop-issue.issue-index c.issue-item.result c.args.page.now.messages.items c.loop-issue.page.messages.items c.tell_conflict.new.page.messages.items c.loop-issue-test.true c.issue-item.is c.loop-issue.invariant.form c.loop-issue.invariant.told c.in_ok-tell_conflict.ensures.told;
-}
-
 pub returns-clause-objects : goal.returns-clause-objects
-returns-clause-objects c = subst (λ (l : List Issue). AddsObjects c.args.page.now.form IsConflict (map conflict_of l) c.args.page.now.results.items c.loop-issue.page.results.items) (take_all c.loop-issue.issue-index c.args.issues.now c.loop-issue-test.false) c.loop-issue.invariant.objects
+returns-clause-objects c = on_ok c.put_more.result _ _ c.put_more.ensures (λ put. AddsObjects-first c.args.page.now.form IsConflict c.args.all (map conflict_of c.args.issues.now) c.args.page.now.results.items c.tell_all_conflicts.new.page.results.items (subst (λ (l : List Conflict). AddsObjects c.args.page.now.form IsConflict l c.args.page.now.results.items c.tell_all_conflicts.new.page.results.items) (first_of conflict_of c.args.page.now.form c.args.all c.args.issues.now c.split_at.result.0.now c.told_count.result c.told_count.ensures.told c.split_at.ensures.front) c.in_ok-tell_all_conflicts.ensures.objects))
+
+pub returns-clause-told : goal.returns-clause-told
+returns-clause-told c =
+    let first = subst (λ (l : List Conflict). AddsEachConflict c.args.page.now.form l c.args.page.now.messages.items c.tell_all_conflicts.new.page.messages.items) (first_of conflict_of c.args.page.now.form c.args.all c.args.issues.now c.split_at.result.0.now c.told_count.result c.told_count.ensures.told c.split_at.ensures.front) c.in_ok-tell_all_conflicts.ensures.told in
+    on_ok c.put_more.result _ _ c.put_more.ensures (AddsConflicts-of c.args.page.now.form c.args.all (map conflict_of c.args.issues.now) _ c.args.page.now.messages.items c.tell_all_conflicts.new.page.messages.items c.put_more.new.out.items (others_of conflict_of c.args.page.now.form c.args.all c.args.issues.now c.split_at.result.1.now c.told_count.result c.told_count.ensures.told c.split_at.ensures.back) first)

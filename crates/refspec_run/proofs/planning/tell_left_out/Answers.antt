@@ -1,14 +1,12 @@
--- In JSON an object.
-use Rattle.std.proofs.Common.{ℕ, List, map, subst}
+-- The first ones are told, and how many more there are.
+use Rattle.std.proofs.Common.{List, map, subst}
 use Rattle.bstr.specs.Owned.{bstring_bytes}
-use Rattle.gix_refspec.specs.Matching.RefNames.{left_out_of}
-use Rattle.refspec_run.specs.Plan.{IsLeftOutLine, IsLeftOutOf}
-use Rattle.refspec_run.proofs.JsonLemmas.{AddsObjects-one}
+use Rattle.gix_refspec.specs.Matching.RefNames.{LeftOut, left_out_of}
+use Rattle.refspec_run.specs.Json.{AddsObjects}
+use Rattle.refspec_run.specs.Plan.{IsLeftOutOf}
+use Rattle.refspec_run.proofs.ConflictLemmas.{AddsObjects-first, first_of}
 use Rattle.refspec_run.proofs.ShownLemmas.{on_ok}
 use Rattle.refspec_run.proofs.planning.tell_left_out.Goals as goal
 
-pub put_left_out_object-requires : goal.put_left_out_object-requires
-put_left_out_object-requires c = c.in_ok-source.ensures
-
-pub returns-in-Json-clause-told : goal.returns-in-Json-clause-told
-returns-in-Json-clause-told c = on_ok c.put_left_out_object.result _ _ c.put_left_out_object.ensures (λ put. AddsObjects-one c.args.page.now.form (IsLeftOutOf (map bstring_bytes c.args.texts.now)) (left_out_of c.args.bad.now) put.0 c.args.page.now.results.items c.put_left_out_object.new.out.items c.in-Json.is (subst (λ (t : List ℕ). IsLeftOutLine t (left_out_of c.args.bad.now).mapping put.0) c.text_at-spec.ensures put.1) put.2)
+pub returns-clause-told : goal.returns-clause-told
+returns-clause-told c = on_ok c.put_more.result _ _ c.put_more.ensures (λ put. AddsObjects-first c.args.page.now.form _ c.args.all (map left_out_of c.args.left_out.now) c.args.page.now.results.items c.tell_all_left_out.new.page.results.items (subst (λ (l : List LeftOut). AddsObjects c.args.page.now.form (IsLeftOutOf (map bstring_bytes c.args.texts.now)) l c.args.page.now.results.items c.tell_all_left_out.new.page.results.items) (first_of left_out_of c.args.page.now.form c.args.all c.args.left_out.now c.split_at.result.0.now c.told_count.result c.told_count.ensures.told c.split_at.ensures.front) c.in_ok-tell_all_left_out.ensures.told))

@@ -7,5 +7,5 @@ use Rattle.refspec_run.proofs.prefixes.tell_all.Given as goal
 abbrev pub invariant-loop-spec : goal.invariant-loop-spec
 invariant-loop-spec l = record {
   form : l.page.form ≡ l.fn.page.form;
-  told : AddsAll l.fn.page.form (map reading_of (take l.spec-index l.group.specs.items)) l.fn.page.results.items l.page.results.items;
+  told : AddsAll l.fn.patterns l.fn.page.form (map reading_of (take l.spec-index l.group.specs.items)) l.fn.page.results.items l.page.results.items;
 }

@@ -1,8 +1,8 @@
 -- The words, and then what both inputs add.
-use Rattle.std.proofs.Common.{◌<◌, ◌≤◌, ◌≡◌, ℕ, ◌+◌, List, [], Bor, map, take, length, get_or, take_all, ap, ◌∙◌, arith, subst}
+use Rattle.std.proofs.Common.{◌<◌, ◌≤◌, ◌≡◌, ℕ, List, [], Bor, map, take, length, get_or, take_all, ap, ◌∙◌, arith, subst}
 use Rattle.std.proofs.lemmas.List.{length-map, length-take-le}
 use Rattle.refspec_run.specs.Settings.{AreSettingsOf}
-use Rattle.refspec_run.specs.Texts.{AddsInputs, given_of, numbered, word_at}
+use Rattle.refspec_run.specs.Texts.{AddsInputs, given_of, numbered, spec_input, word_at}
 use Rattle.refspec_run.proofs.TextLemmas.{given_next, numbered-length}
 use Rattle.refspec_run.proofs.texts.texts_of.Goals as goal
 
@@ -25,4 +25,4 @@ returns c =
     let words = c.loop-word.invariant ∙ ap (λ (l : List (Bor (List ℕ))). numbered (word_at op) 1 (map (λ (w : Bor (List ℕ)). w.now) l)) (take_all c.loop-word.word-index c.args.call.now.specs.items long) in
     let Adds = λ (x : List ℕ). AreSettingsOf c.args.call.now.ends c.args.beside.now x c.args.settings.now → AddsInputs c.args.call.now c.args.beside.now x (map given_of c.loop-word.texts.items) (map given_of c.add_inputs.new.texts.items) in
     let added = subst Adds c.spec_input-input.ensures c.in_ok-add_inputs.ensures in
-    λ of. subst (λ ts. AddsInputs c.args.call.now c.args.beside.now _ ts (map given_of c.add_inputs.new.texts.items)) words (added of)
+    λ of. subst (λ ts. AddsInputs c.args.call.now c.args.beside.now (spec_input c.args.call.now.command c.args.input.now) ts (map given_of c.add_inputs.new.texts.items)) words (added of)

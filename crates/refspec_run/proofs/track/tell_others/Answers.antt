@@ -1,5 +1,5 @@
 -- Each ref leaves the results as they were, and one that no mapping writes is told.
-use Rattle.std.proofs.Common.{Bool, true, Bor, List, ℕ, ◌++◌, ◌∷◌, [], map, take, sym, subst, ◌∙◌}
+use Rattle.std.proofs.Common.{Bool, Bor, List, ℕ, ◌++◌, ◌∷◌, [], map, take, sym, subst, ◌∙◌}
 use Rattle.std.proofs.lemmas.Bool.{false≢true}
 use Rattle.gix_refspec.specs.Views.Group.{mapped_of}
 use Rattle.refspec_run.specs.Shown.{KeepsPage}

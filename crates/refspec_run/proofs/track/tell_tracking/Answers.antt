@@ -1,5 +1,5 @@
 -- What was found is what the specs map back of refs with these names.
-use Rattle.std.proofs.Common.{arith, ℕ, Bool, List, Bor, map, ap, sym, ◌∙◌, subst}
+use Rattle.std.proofs.Common.{arith, ℕ, List, Bor, map, ap, sym, ◌∙◌, subst}
 use Rattle.bstr.specs.Owned.{bstring_bytes}
 use Rattle.bstr.specs.declared.bstring.BString.{BString}
 use Rattle.gix_refspec.specs.Views.Group.{mapped_of, ref_of}
@@ -8,7 +8,7 @@ use Rattle.refspec_text.specs.declared.spec.RefSpecRef.{RefSpecRef}
 use Rattle.refspec_run.specs.Rows.{AreSpecTexts}
 use Rattle.refspec_run.specs.Track.{AreByNames, named}
 use Rattle.refspec_match.specs.declared.types.Mapping.{Mapping}
-use Rattle.refspec_run.proofs.TrackLemmas.{AddsTracked-of, Refuses, Refuses-fewer, Refuses-whole, Tells}
+use Rattle.refspec_run.proofs.TrackLemmas.{AddsTracked-of, Refuses-fewer, Refuses-whole, Tells}
 use Rattle.refspec_run.proofs.track.tell_tracking.Goals as goal
 
 pub returns-then-looked_up-count : goal.returns-then-looked_up-count
