@@ -10,7 +10,6 @@ use crate::sources::{Names, Source, Sources};
 use crate::words::Request;
 use bstr::BStr;
 use gix_refspec::name;
-use gix_refspec::oid::ObjectId;
 use refspec_run::call::{Call, Command, Form};
 use refspec_run::plan::Discard;
 use refspec_run::settings::Setting;
@@ -143,11 +142,10 @@ fn specs_of<'a>(
     Ok(specs)
 }
 
-// Whether a ref may have this name, which is no spec else.
+// Whether Git finds what a branch merges on a remote: it asks for just this name by protocol v2, so for no short one.
 fn may_be_merged(name: &[u8]) -> bool {
-    name != b"@".as_slice()
-        && ObjectId::from_hex(name).is_err()
-        && name::name_partial(BStr::new(name)).is_ok()
+    let is_whole = name.starts_with(b"refs/") || name == b"HEAD".as_slice();
+    is_whole && name::name_partial(BStr::new(name)).is_ok()
 }
 
 // A fetch value in the place of another setting. It is a spec, so that no message shows its key.

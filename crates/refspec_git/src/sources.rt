@@ -1,7 +1,7 @@
 //! Which specs of a fetch take no ref of the remote.
 
 use crate::objects::put_spec_note;
-use bstr::{BStr, BString, ByteSlice};
+use bstr::{BStr, ByteSlice};
 use gix_refspec::oid::ObjectId;
 use gix_refspec::parsing::{Error, Operation};
 use gix_refspec::{RefSpecRef, parse};
@@ -93,36 +93,24 @@ impl<'a> Sources<'a> {
         Ok(())
     }
 
-    /// Whether a positive source takes a ref of these names that a short or full name may mean.
+    /// Whether a positive source takes the ref with a full name, which is among these.
     pub fn take_named(
         &self,
         alloc: Global,
         name: &[u8],
         names: &Names<'_>,
     ) -> Result<bool, AllocError> {
-        for candidate in meanings_of(alloc, name)? {
-            let candidate = candidate.as_bytes();
-            if names.has(candidate) {
-                let one = Names::of_one(alloc, candidate)?;
-                for source in &self.list {
-                    if !source.is_negative() && source.takes_some(alloc, &one)? {
-                        return Ok(true);
-                    }
-                }
+        if !names.has(name) {
+            return Ok(false);
+        }
+        let one = Names::of_one(alloc, name)?;
+        for source in &self.list {
+            if !source.is_negative() && source.takes_some(alloc, &one)? {
+                return Ok(true);
             }
         }
         Ok(false)
     }
-}
-
-// The full names that a name may mean.
-fn meanings_of(alloc: Global, name: &[u8]) -> Result<Vec<BString>, AllocError> {
-    if !name.starts_with(b"refs/") {
-        return candidates(alloc, name);
-    }
-    let mut names = Vec::new(alloc);
-    names.push(BString::from(Vec::from_slice(alloc, name)?))?;
-    Ok(names)
 }
 
 /// The source of a spec.
