@@ -10,7 +10,7 @@ use Rattle.refspec_run.specs.declared.checked.Checked.{Checked}
 use Rattle.refspec_run.specs.declared.page.Page.{Page}
 use Rattle.refspec_run.specs.declared.settings.Setting.{Setting}
 use Rattle.refspec_run.specs.declared.texts.Text.{Text}
-use Rattle.refspec_run.specs.Output.{AddsFound, IsOutput, Shows, Tells}
+use Rattle.refspec_run.specs.Output.{AddsFound, HasValues, IsOutput, Shows, Tells}
 use Rattle.refspec_run.specs.Input.{end_byte}
 use Rattle.refspec_run.specs.Plan.{AddsPlan}
 use Rattle.refspec_run.specs.Prefixes.{AddsPrefixes}
@@ -39,13 +39,13 @@ Shows-of command.Plan call input before messages refused texts all new read none
 Shows-of command.Track call input before messages refused texts all new read none told = found_or_refused (AddsFound command.Track call input call.form messages refused) call before messages refused texts all new read none told
 Shows-of command.Prefixes call input before messages refused texts all new read none told = found_or_refused (AddsFound command.Prefixes call input call.form messages refused) call before messages refused texts all new read none told
 
-pub IsOutput-of : (call : Call) (beside input before messages : List ℕ) (refused : Bool) (f : Form) (lent texts : List Text) (shown all : List Checked) (old new : List ℕ) → AreTexts call beside input (map given_of texts) → lent ≡ texts → AllZip IsChecked lent all → shown ≡ all → f ≡ call.form → old ≡ [] → before ≡ [] → Tells call.command call input f before messages refused shown old new → IsOutput call beside input messages refused new
-IsOutput-of call beside input before messages refused f lent texts shown all old new are same read same_all same_form empty none told =
+pub IsOutput-of : (call : Call) (beside input before messages : List ℕ) (refused : Bool) (f : Form) (lent texts : List Text) (shown all : List Checked) (old new : List ℕ) → HasValues call beside input → AreTexts call beside input (map given_of texts) → lent ≡ texts → AllZip IsChecked lent all → shown ≡ all → f ≡ call.form → old ≡ [] → before ≡ [] → Tells call.command call input f before messages refused shown old new → IsOutput call beside input messages refused new
+IsOutput-of call beside input before messages refused f lent texts shown all old new has are same read same_all same_form empty none told =
     let read2 = subst (λ (ts : List Text). AllZip IsChecked ts all) same read in
     let told2 = subst (λ (cs : List Checked). Tells call.command call input f before messages refused cs old new) same_all told in
     let told3 = subst (λ (x : Form). Tells call.command call input x before messages refused all old new) same_form told2 in
     let told4 = subst (λ (x : List ℕ). Tells call.command call input call.form before messages refused all x new) empty told3 in
-    inr (map given_of texts, are, Shows-of call.command call input before messages refused texts all new read2 none told4)
+    inr (has, (map given_of texts, are, Shows-of call.command call input before messages refused texts all new read2 none told4))
 
 -- a key of refspecs has no value
 pub IsOutput-lacking : (call : Call) (beside input messages : List ℕ) (settings : List Setting) (p q : Page) → AreSettingsOf call.ends beside (spec_input call.command input) settings → HasLacking settings → p.form ≡ call.form → p.results.items ≡ [] → KeepsPage p q → IsOutput call beside input messages true q.results.items

@@ -46,10 +46,16 @@ pub record LacksValues (call : Call) (beside input : List ℕ) (refused : Bool) 
   pub status : refused ≡ true
   pub kept : KeepsResults call.form [] output
 
+-- each key of refspecs has a value
+abbrev pub HasValues : Call → List ℕ → List ℕ → Type 0
+HasValues call beside input =
+    (settings : List Setting) × AreSettingsOf call.ends beside (spec_input call.command input) settings × ¬ (HasLacking settings)
+
 -- the messages and the output of a call for the file beside its input and its input, whose keys of refspecs have values
 abbrev pub IsWholeOutput : Call → List ℕ → List ℕ → List ℕ → Bool → List ℕ → Type 0
 IsWholeOutput call beside input messages refused output =
-    (texts : List Given) × AreTexts call beside input texts × Shows call.command call input texts messages refused output
+    HasValues call beside input
+    × ((texts : List Given) × AreTexts call beside input texts × Shows call.command call input texts messages refused output)
 
 -- the messages and the output of a call
 abbrev pub IsOutput : Call → List ℕ → List ℕ → List ℕ → Bool → List ℕ → Type 0
