@@ -13,11 +13,11 @@ SHELL := /bin/bash
 .SHELLFLAGS := -eu -o pipefail -c
 .PHONY: help build run test clean kit install uninstall
 
-LIBRARY := crates/refspec_text crates/refspec_match crates/gix_refspec
+LIBRARY := crates/gix_refspec_text crates/gix_refspec_match crates/gix_refspec
 FOLDER := crates/refspec_map
 PROGRAM := $(FOLDER)/out/refspec_map
-TESTS := crates/matching_cases/out/matching_cases_tests
-PEOPLE_LIBRARY := crates/refspec_json crates/refspec_run crates/refspec_git
+TESTS := crates/gix_refspec_tests/out/gix_refspec_tests_tests
+PEOPLE_LIBRARY := crates/refspec_json crates/refspec_commands crates/refspec_git
 PEOPLE := crates/refspec
 PEOPLE_PROGRAM := $(PEOPLE)/out/refspec
 PEOPLE_SOURCES := crates.txt $(shell find $(LIBRARY) $(PEOPLE_LIBRARY) $(PEOPLE) \( -name out -o -name must-fail \) -prune -o -type f -print)
@@ -104,7 +104,7 @@ PC_PREFIX ?= $(PREFIX)
 TO = $(DESTDIR)$(PREFIX)
 LIB := $(LOGS)/lib
 ARCHIVE := $(LIB)/libgix_refspec.a
-C_LIBRARY := crates/refspec_c
+C_LIBRARY := crates/gix_refspec_c
 HEADER := $(C_LIBRARY)/include/gix_refspec.h
 SHARED := libgix_refspec.so
 C_VERSION := $(shell sed -n 's/^.define GIX_REFSPEC_VERSION "\(.*\)"/\1/p' $(HEADER))

@@ -8,8 +8,8 @@ import subprocess
 import sys
 
 HERE = os.path.dirname(os.path.abspath(__file__))
-SOURCES = os.path.join(HERE, "..", "crates", "refspec_c", "src")
-LIBRARY = os.path.join(HERE, "..", "crates", "refspec_text", "src")
+SOURCES = os.path.join(HERE, "..", "crates", "gix_refspec_c", "src")
+LIBRARY = os.path.join(HERE, "..", "crates", "gix_refspec_text", "src")
 RUST = os.path.join(HERE, "..", "bindings", "rust")
 MANUAL = os.path.join(HERE, "..", "docs", "C.md")
 PYTHON = os.path.join(HERE, "..", "bindings", "python", "gix_refspec", "__init__.py")
@@ -234,7 +234,7 @@ def compare_sentences(folder):
         told = told_by(library.gix_refspec_explanation, ctypes.c_uint32(outcome))
         if told != (sentence, 0):
             sys.exit(f"bindings: outcome {outcome} is told as {told}, not {sentence!r} and a NUL")
-    print(f"bindings: {len(wanted)} sentences, {len(wanted) - len(OF_CALLS)} of them those of refspec_text")
+    print(f"bindings: {len(wanted)} sentences, {len(wanted) - len(OF_CALLS)} of them those of gix_refspec_text")
 
 
 def compare_versions(folder):

@@ -1,5 +1,5 @@
 //! Times parsing, matching and validation in this process: the library, behind the archive of
-//! `refspec_bench`, and the original crate, in turns on the same specs and names. `tools/bench/bench`
+//! `gix_refspec_bench`, and the original crate, in turns on the same specs and names. `tools/bench/bench`
 //! builds it, and once more with `--cfg counting`, to count memory instead.
 //!
 //!     matching WORK SPECS NAMES TIMES RUNS
@@ -21,7 +21,7 @@ use gix_refspec::MatchGroup;
 
 extern "C" {
     /// What the library does: the work of a word on specs and names, how often, and where to put the count.
-    fn refspec_bench(
+    fn gix_refspec_bench(
         work: *const u8, work_len: usize, specs: *const u8, specs_len: usize, names: *const u8, names_len: usize, times: usize,
         count: &mut usize,
     ) -> u8;
@@ -60,7 +60,7 @@ fn ours(work: &str, specs: &[u8], names: &[u8], times: usize) -> usize {
     let mut count = 0;
     // SAFETY: the texts and the count are lent for the call, and don't overlap.
     let status = unsafe {
-        refspec_bench(
+        gix_refspec_bench(
             work.as_ptr(), work.len(), specs.as_ptr(), specs.len(), names.as_ptr(), names.len(), times, &mut count,
         )
     };

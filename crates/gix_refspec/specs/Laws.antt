@@ -1,8 +1,8 @@
 -- What follows from the other definitions: the laws of the library.
-pub use Rattle.refspec_text.specs.Laws.Readings
-pub use Rattle.refspec_text.specs.Laws.Order
-pub use Rattle.refspec_text.specs.Laws.Sides
-pub use Rattle.refspec_text.specs.Laws.Covering
+pub use Rattle.gix_refspec_text.specs.Laws.Readings
+pub use Rattle.gix_refspec_text.specs.Laws.Order
+pub use Rattle.gix_refspec_text.specs.Laws.Sides
+pub use Rattle.gix_refspec_text.specs.Laws.Covering
 pub mod Matching
 pub mod Items
 pub mod Places

@@ -1,8 +1,8 @@
 -- How a clause sees a Rust value as plain data.
-pub use Rattle.refspec_text.specs.Views.Instruction
-pub use Rattle.refspec_text.specs.Views.Spec
-pub use Rattle.refspec_text.specs.Views.Errors
-pub use Rattle.refspec_match.specs.Views.Mapping
+pub use Rattle.gix_refspec_text.specs.Views.Instruction
+pub use Rattle.gix_refspec_text.specs.Views.Spec
+pub use Rattle.gix_refspec_text.specs.Views.Errors
+pub use Rattle.gix_refspec_match.specs.Views.Mapping
 pub mod Group
 pub mod Issue
-pub use Rattle.refspec_match.specs.Views.Hashed
+pub use Rattle.gix_refspec_match.specs.Views.Hashed

@@ -3,38 +3,38 @@
 
 ghost use Rattle.std.specs.Prelude.{◌≡◌, ◌↔◌, map, option_map, IsTrue};
 ghost use Rattle.std.specs.Ordering.{nat_cmp};
-ghost use Rattle.refspec_text.specs.Laws.Readings.{ReadsOrRefused, OneRefusal, ReadsBack, IsPrintedBack, KeepsOperation, SaysForOperation, EqualTexts, EqualReadings, IdOrFault, OneLowerText, NothingAgainst, OneWord, PrefixBegins, OnePrefix, Candidates, FirstCandidate, ClonesExactly};
-ghost use Rattle.refspec_text.specs.Laws.Sides.{SidesAgree, OneKind, OneOfEach};
-ghost use Rattle.refspec_text.specs.Specs.Meaning.{meaning_of};
-ghost use Rattle.refspec_text.specs.Texts.ObjectId.{id_bytes};
-ghost use Rattle.refspec_text.specs.Specs.Order.{is_same, order, rank_of, writes_of};
-ghost use Rattle.refspec_match.specs.Views.Mapping.{mapped_of, name_bytes, ref_of, start_of};
+ghost use Rattle.gix_refspec_text.specs.Laws.Readings.{ReadsOrRefused, OneRefusal, ReadsBack, IsPrintedBack, KeepsOperation, SaysForOperation, EqualTexts, EqualReadings, IdOrFault, OneLowerText, NothingAgainst, OneWord, PrefixBegins, OnePrefix, Candidates, FirstCandidate, ClonesExactly};
+ghost use Rattle.gix_refspec_text.specs.Laws.Sides.{SidesAgree, OneKind, OneOfEach};
+ghost use Rattle.gix_refspec_text.specs.Specs.Meaning.{meaning_of};
+ghost use Rattle.gix_refspec_text.specs.Texts.ObjectId.{id_bytes};
+ghost use Rattle.gix_refspec_text.specs.Specs.Order.{is_same, order, rank_of, writes_of};
+ghost use Rattle.gix_refspec_match.specs.Views.Mapping.{mapped_of, name_bytes, ref_of, start_of};
 ghost use Rattle.gix_refspec.specs.Views.Group.{readings_of};
-ghost use Rattle.refspec_match.specs.Matching.Mappings.{IsSamePair};
-ghost use Rattle.refspec_match.specs.Matching.Hits.{KeptOnce, OneForward, OneBackward};
+ghost use Rattle.gix_refspec_match.specs.Matching.Mappings.{IsSamePair};
+ghost use Rattle.gix_refspec_match.specs.Matching.Hits.{KeptOnce, OneForward, OneBackward};
 ghost use Rattle.gix_refspec.specs.Laws.Matching.{Transpose, KeptExactly, FirstStays, NothingExcluded, MapAlike, FetchGroupReadsBack, EqualGroups, AreFetches, Cover, CoverTogether};
 ghost use Rattle.gix_refspec.specs.Laws.Items.{AskedItems, FewerItems, FilteredItems, ListedItems, FilteredByEntries, FilteredByList, NamesDecide, NamesDecideBack};
 ghost use Rattle.gix_refspec.specs.Matching.Validation.{ForwardFits, PlacesFit, ValidatedOnce};
 ghost use Rattle.gix_refspec.specs.Laws.Validation.{OneValidation, CopiedOutcome};
 ghost use Rattle.gix_refspec.specs.Views.Issue.{IsSameFix, conflict_of, mappings_of};
-ghost use Rattle.refspec_text.specs.Views.Errors.{IsSameError};
+ghost use Rattle.gix_refspec_text.specs.Views.Errors.{IsSameError};
 ghost use Rattle.gix_refspec.specs.Matching.RefNames.{WritesRefs};
 ghost use Rattle.gix_refspec.specs.Laws.Places.{MadeAtPlaces, RemainsExactly};
 ghost use Rattle.gix_refspec.specs.Laws.Plans.{NoControlCharacter, PlansApart};
 ghost use Rattle.gix_refspec.specs.Laws.Reasons.{ReasonRefuses};
 ghost use Rattle.gix_refspec.specs.Laws.Names.{PlainNames};
-ghost use Rattle.refspec_text.specs.Views.Spec.{reading_of, owned_reading_of};
-ghost use Rattle.refspec_text.specs.Views.Instruction.{meaning_of_instruction, meaning_of_fetch, meaning_of_push};
-ghost use Rattle.refspec_match.specs.Views.Hashed.{source_writes, pair_writes};
+ghost use Rattle.gix_refspec_text.specs.Views.Spec.{reading_of, owned_reading_of};
+ghost use Rattle.gix_refspec_text.specs.Views.Instruction.{meaning_of_instruction, meaning_of_fetch, meaning_of_push};
+ghost use Rattle.gix_refspec_match.specs.Views.Hashed.{source_writes, pair_writes};
 
 use crate::match_group::names::BadSide;
 use crate::match_group::validate::{Fix, Issue};
 use crate::match_group::{Item, Mapping, NameRef, Outcome, SourceRef, match_lhs};
 use crate::{Instruction, MatchGroup, RefSpec, RefSpecRef, name, oid, parsing};
-use refspec_text::instruction::{Fetch, Push};
-use refspec_text::name::PatternError;
-use refspec_text::oid::{Kind, ObjectId};
-use refspec_text::parsing::Operation;
+use gix_refspec_text::instruction::{Fetch, Push};
+use gix_refspec_text::name::PatternError;
+use gix_refspec_text::oid::{Kind, ObjectId};
+use gix_refspec_text::parsing::Operation;
 use std::hash::Hash;
 
 /// A text has exactly one reading, or it is refused.

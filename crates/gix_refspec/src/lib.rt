@@ -9,7 +9,7 @@
 //! let printed = spec.to_bstring(alloc)?;    // +HEAD:refs/remotes/origin/HEAD
 //! ```
 //!
-//! Texts and single specs come from the crate `refspec_text`, items and mappings from `refspec_match`. All
+//! Texts and single specs come from the crate `gix_refspec_text`, items and mappings from `gix_refspec_match`. All
 //! that callers need of these two is here too.
 #![tactic(auto)]
 
@@ -17,5 +17,5 @@ pub mod laws;
 pub mod match_group;
 
 pub use match_group::types::MatchGroup;
-pub use refspec_text::parsing::Operation;
-pub use refspec_text::{Instruction, RefSpec, RefSpecRef, instruction, name, oid, parse, parsing};
+pub use gix_refspec_text::parsing::Operation;
+pub use gix_refspec_text::{Instruction, RefSpec, RefSpecRef, instruction, name, oid, parse, parsing};

@@ -1,12 +1,12 @@
 //! Groups of refspecs, and what they match among the refs of two repositories.
 
 ghost use Rattle.std.specs.Prelude.{◌≡◌, ◌≢◌, [], map, IfOk, IfErr, OnOk, OnErr};
-ghost use Rattle.refspec_text.specs.Views.Spec.{reading_of};
-ghost use Rattle.refspec_match.specs.Matching.Mappings.{IsKept};
-ghost use Rattle.refspec_match.specs.Views.Mapping.{ref_of, mapped_of};
+ghost use Rattle.gix_refspec_text.specs.Views.Spec.{reading_of};
+ghost use Rattle.gix_refspec_match.specs.Matching.Mappings.{IsKept};
+ghost use Rattle.gix_refspec_match.specs.Views.Mapping.{ref_of, mapped_of};
 ghost use Rattle.gix_refspec.specs.Views.Group.{readings_of, IsOutcome, Maps};
-ghost use Rattle.refspec_match.specs.Private.HitViews.{AreKept, AreMade, mapped_of_made};
-ghost use Rattle.refspec_match.specs.Matching.Hits.{AreForward, AreBackward, AreKeptForward, AreKeptBackward};
+ghost use Rattle.gix_refspec_match.specs.Private.HitViews.{AreKept, AreMade, mapped_of_made};
+ghost use Rattle.gix_refspec_match.specs.Matching.Hits.{AreForward, AreBackward, AreKeptForward, AreKeptBackward};
 
 pub mod names;
 mod prefixes;
@@ -14,10 +14,10 @@ mod premises;
 pub(crate) mod types;
 pub mod validate;
 
-use refspec_match::hits::ends::Direction;
-use refspec_match::hits::{Made, Matching};
-pub use refspec_match::types::{Item, Mapping, NameRef, Source, SourceRef};
-use refspec_text::RefSpecRef;
+use gix_refspec_match::hits::ends::Direction;
+use gix_refspec_match::hits::{Made, Matching};
+pub use gix_refspec_match::types::{Item, Mapping, NameRef, Source, SourceRef};
+use gix_refspec_text::RefSpecRef;
 use std::alloc::{AllocError, Global};
 use types::MatchGroup;
 pub use types::{NoRoom, Outcome, match_lhs, match_rhs};

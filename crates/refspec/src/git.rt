@@ -3,8 +3,8 @@
 use crate::AtExit;
 use crate::streams::{CLOSED_STATUS, Stream};
 use refspec_git::answer::{Answer, Machine, Told, answer_call};
-use refspec_run::fault::Fault;
-use refspec_run::input::read_input;
+use refspec_commands::fault::Fault;
+use refspec_commands::input::read_input;
 use std::alloc::AllocError;
 use std::fs::{self, File};
 use std::io::{ErrorKind, IsTerminal, Write};

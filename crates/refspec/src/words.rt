@@ -2,7 +2,7 @@
 
 use clap::{Arg, ArgAction, ArgMatches};
 use gix_refspec::parsing::Operation;
-use refspec_run::call::{Call, Command, Ends, Form};
+use refspec_commands::call::{Call, Command, Ends, Form};
 use std::alloc::{AllocError, Global};
 
 // What stands for the standard input in place of a spec or of the name of a file.

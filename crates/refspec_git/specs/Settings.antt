@@ -1,6 +1,6 @@
 -- Settings of Git's configuration, by git-config(1).
 use Rattle.std.specs.Prelude.{◌≡◌, ℕ, List, ◌∷◌, ◌++◌}
-use Rattle.refspec_text.specs.Texts.Words.{Lacks}
+use Rattle.gix_refspec_text.specs.Texts.Words.{Lacks}
 
 -- the key of a variable is its section, the name and the variable, with dots between, and no dot in the variable
 pub record IsKey (section name variable key : List ℕ) : Type 0 where

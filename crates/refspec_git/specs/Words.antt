@@ -1,6 +1,6 @@
 -- Words of a call of `git refspec`.
 use Rattle.std.specs.Prelude.{ℕ, List, [], ◌∷◌, codes}
-use Rattle.refspec_text.specs.Texts.Words.{BeginsWith}
+use Rattle.gix_refspec_text.specs.Texts.Words.{BeginsWith}
 
 -- what begins as specs alone do: with nothing, a plus, a caret or refs/
 pub data BeginsAsSpec : List ℕ → Type 0 where

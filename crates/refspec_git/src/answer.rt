@@ -10,12 +10,12 @@ use crate::refusal::Refusal;
 use crate::tracking::tell_tracking;
 use crate::usage::{OPTIONS, USAGE, VERSION};
 use crate::words::{Command, Request, Wish, wish_of};
-use refspec_run::call::Call;
-use refspec_run::fault::Fault;
-use refspec_run::input::records;
-use refspec_run::plan::Discard;
-use refspec_run::run::run;
-use refspec_run::settings::settings_of;
+use refspec_commands::call::Call;
+use refspec_commands::fault::Fault;
+use refspec_commands::input::records;
+use refspec_commands::plan::Discard;
+use refspec_commands::run::run;
+use refspec_commands::settings::settings_of;
 use std::alloc::{AllocError, AllocFailed, Global};
 
 /// The machine that a call runs on.

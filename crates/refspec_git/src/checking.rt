@@ -6,10 +6,10 @@ use crate::refusal::Refusal;
 use crate::settings::{name_and_variable, put_settings};
 use crate::words::Request;
 use gix_refspec::parsing::Operation;
-use refspec_run::call::{Command, Form};
-use refspec_run::fault::Fault;
-use refspec_run::plan::Discard;
-use refspec_run::settings::Setting;
+use refspec_commands::call::{Command, Form};
+use refspec_commands::fault::Fault;
+use refspec_commands::plan::Discard;
+use refspec_commands::settings::Setting;
 use std::alloc::{AllocError, Global};
 use std::collections::BTreeSet;
 

@@ -1,7 +1,7 @@
 //! Which remote and which specs the words of a call name.
 
 ghost use Rattle.std.specs.Prelude.{◌≡◌, ◌∷◌, [], true};
-ghost use Rattle.refspec_text.specs.Texts.Words.{Holds, Lacks};
+ghost use Rattle.gix_refspec_text.specs.Texts.Words.{Holds, Lacks};
 ghost use Rattle.refspec_git.specs.Words.{BeginsAsSpec};
 
 use crate::answer::OldRemote;
@@ -9,9 +9,9 @@ use crate::refusal::Refusal;
 use crate::remotes::{default_remote, is_configured, is_rewritten};
 use crate::words::Request;
 use bstr::ByteSlice;
-use refspec_run::settings::Setting;
-use refspec_text::cut::holds;
-use refspec_text::side::below_refs;
+use refspec_commands::settings::Setting;
+use gix_refspec_text::cut::holds;
+use gix_refspec_text::side::below_refs;
 use std::alloc::Global;
 
 /// What a word looks like that no configuration knows.

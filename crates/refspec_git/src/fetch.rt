@@ -10,9 +10,9 @@ use crate::sources::{Names, Source, Sources};
 use crate::words::Request;
 use bstr::BStr;
 use gix_refspec::name;
-use refspec_run::call::{Call, Command, Form};
-use refspec_run::plan::Discard;
-use refspec_run::settings::Setting;
+use refspec_commands::call::{Call, Command, Form};
+use refspec_commands::plan::Discard;
+use refspec_commands::settings::Setting;
 use std::alloc::{AllocError, Global};
 
 // The specs of a fetch.

@@ -3,7 +3,7 @@
 ghost use Rattle.std.specs.Prelude.{◌≤◌};
 
 use crate::usage::USAGE;
-use refspec_run::quote::put_in_message;
+use refspec_commands::quote::put_in_message;
 use std::alloc::{AllocError, AllocFailed};
 
 /// Why a call is refused.

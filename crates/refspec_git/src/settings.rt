@@ -1,12 +1,12 @@
 //! The settings of Git's configuration.
 
 ghost use Rattle.std.specs.Prelude.{◌≡◌, ◌++◌, ◌∷◌, IfSome, MatchOption};
-ghost use Rattle.refspec_text.specs.Texts.Words.{Lacks};
+ghost use Rattle.gix_refspec_text.specs.Texts.Words.{Lacks};
 ghost use Rattle.refspec_git.specs.Settings.{IsKey};
 
 use bstr::ByteSlice;
-use refspec_run::settings::Setting;
-use refspec_text::cut::split_at_first;
+use refspec_commands::settings::Setting;
+use gix_refspec_text::cut::split_at_first;
 use std::alloc::{AllocError, Global};
 
 /// The name and the variable of a key `SECTION.NAME.VARIABLE`. The name may have dots, and the variable has none. `None`

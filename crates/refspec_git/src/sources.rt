@@ -5,9 +5,9 @@ use bstr::{BStr, ByteSlice};
 use gix_refspec::oid::ObjectId;
 use gix_refspec::parsing::{Error, Operation};
 use gix_refspec::{RefSpecRef, parse};
-use refspec_run::input::records;
-use refspec_text::side::candidates;
-use refspec_text::spec::sign::is_negative;
+use refspec_commands::input::records;
+use gix_refspec_text::side::candidates;
+use gix_refspec_text::spec::sign::is_negative;
 use std::alloc::{AllocError, Global};
 
 /// The names of the refs of a remote.

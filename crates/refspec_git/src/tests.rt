@@ -5,8 +5,8 @@ use crate::refusal::Refusal;
 use crate::remotes::{default_remote, fetch_values, is_configured, is_rewritten};
 use crate::settings::{last_value, name_and_variable, put_settings};
 use crate::words::{Command, Wish, wish_of};
-use refspec_run::call::Form;
-use refspec_run::settings::settings_of;
+use refspec_commands::call::Form;
+use refspec_commands::settings::settings_of;
 use std::alloc::AllocError;
 use std::test::Fail;
 

@@ -14,12 +14,12 @@ use gix_refspec::match_group::{Item, Mapping};
 use gix_refspec::oid::{Kind, ObjectId};
 use gix_refspec::parsing::{Error, Operation};
 use gix_refspec::{MatchGroup, RefSpecRef, name, parse};
-use refspec_run::call::{Command, Form};
-use refspec_run::fault::Fault;
-use refspec_run::plan::Discard;
-use refspec_run::settings::Setting;
-use refspec_run::table::Layout;
-use refspec_text::side::{candidates, joined};
+use refspec_commands::call::{Command, Form};
+use refspec_commands::fault::Fault;
+use refspec_commands::plan::Discard;
+use refspec_commands::settings::Setting;
+use refspec_commands::table::Layout;
+use gix_refspec_text::side::{candidates, joined};
 use std::alloc::{AllocError, Global};
 use std::collections::{BTreeMap, BTreeSet};
 

@@ -3,7 +3,7 @@
 use crate::refusal::Refusal;
 use bstr::ByteSlice;
 use gix_refspec::parsing::Operation;
-use refspec_run::call::{self, Call, Ends, Form};
+use refspec_commands::call::{self, Call, Ends, Form};
 use std::alloc::{AllocError, Global};
 
 /// The commands of `git refspec`.

@@ -3,7 +3,7 @@ use Rattle.std.proofs.Common.{◌≡◌, ◌≢◌, inl, inr, ℕ, zero, suc, tr
 use Rattle.std.proofs.lemmas.Bool.{eqb-false}
 use Rattle.std.specs.List.{Contains}
 use Rattle.std.specs.List.Sorted.{IsStrictlySortedBy}
-use Rattle.refspec_text.specs.declared.parsing.Operation.TheVariants.{Fetch}
+use Rattle.gix_refspec_text.specs.declared.parsing.Operation.TheVariants.{Fetch}
 use Rattle.gix_refspec.specs.Texts.Words.{BeginsWith, Lacks}
 use Rattle.gix_refspec.specs.Texts.Bytes.{star, plus, caret, colon}
 use Rattle.gix_refspec.specs.Specs.Reading.{Normal, Reading}

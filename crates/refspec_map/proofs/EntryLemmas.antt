@@ -4,9 +4,9 @@ use Rattle.std.specs.List.{AllZip}
 use Rattle.std.proofs.lemmas.Bool.{eqb-true, false≢true}
 use Rattle.std.proofs.lemmas.List.{append-nil, map-append}
 use Rattle.std.proofs.lemmas.Result.{on_ok_weaker}
-use Rattle.refspec_text.specs.declared.parsing.Operation.TheVariants.{Fetch}
-use Rattle.refspec_text.specs.declared.spec.RefSpecRef.{RefSpecRef}
-use Rattle.refspec_match.specs.declared.types.Item.{Item}
+use Rattle.gix_refspec_text.specs.declared.parsing.Operation.TheVariants.{Fetch}
+use Rattle.gix_refspec_text.specs.declared.spec.RefSpecRef.{RefSpecRef}
+use Rattle.gix_refspec_match.specs.declared.types.Item.{Item}
 use Rattle.gix_refspec.specs.Specs.Grammar.{Reads}
 use Rattle.gix_refspec.specs.Matching.Match.{Ref}
 use Rattle.gix_refspec.specs.Views.Spec.{reading_of}

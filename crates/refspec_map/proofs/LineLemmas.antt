@@ -4,10 +4,10 @@ use Rattle.std.specs.List.{SomeIndex, list_all}
 use Rattle.std.proofs.lemmas.Bool.{false≢true}
 use Rattle.std.proofs.lemmas.List.Sums.{AllPass-from_list_all}
 use Rattle.std.proofs.lemmas.List.{append_cancel_left}
-use Rattle.refspec_text.specs.declared.oid.Error.{Error as IdError}
-use Rattle.refspec_text.specs.declared.oid.Error.TheVariants.{Digit, Length}
+use Rattle.gix_refspec_text.specs.declared.oid.Error.{Error as IdError}
+use Rattle.gix_refspec_text.specs.declared.oid.Error.TheVariants.{Digit, Length}
 use Rattle.hex.specs.Hex.{is_hex_digit}
-use Rattle.refspec_text.specs.declared.oid.Kind.TheVariants.{Sha1, Sha256}
+use Rattle.gix_refspec_text.specs.declared.oid.Kind.TheVariants.{Sha1, Sha256}
 use Rattle.gix_refspec.specs.Texts.Words.{Lacks}
 use Rattle.gix_refspec.specs.Texts.ObjectId.{IsIdText, IsIdLength, HasIdFault}
 use Rattle.gix_refspec.specs.Matching.Side.{IsId}

@@ -4,9 +4,9 @@ use Rattle.std.proofs.lemmas.Bool.{false≢true}
 use Rattle.std.proofs.lemmas.List.{append-nil, map-append, take_more}
 use Rattle.std.proofs.lemmas.Grind.{flat_map-append}
 use Rattle.std.proofs.lemmas.List.Folds.{flat_map-map}
-use Rattle.refspec_match.specs.declared.types.Item.{Item}
-use Rattle.refspec_match.specs.declared.types.Mapping.{Mapping}
-use Rattle.refspec_text.specs.declared.spec.RefSpecRef.{RefSpecRef}
+use Rattle.gix_refspec_match.specs.declared.types.Item.{Item}
+use Rattle.gix_refspec_match.specs.declared.types.Mapping.{Mapping}
+use Rattle.gix_refspec_text.specs.declared.spec.RefSpecRef.{RefSpecRef}
 use Rattle.gix_refspec.specs.declared.match_group.types.MatchGroup.{MatchGroup}
 use Rattle.gix_refspec.specs.declared.match_group.validate.Fix.{Fix}
 use Rattle.gix_refspec.specs.declared.match_group.validate.Issue.{Issue}

@@ -1,7 +1,7 @@
 -- What a caller of a run concludes from the laws on plans and on faults of specs.
 use Rattle.std.proofs.Common.{sym, ◌≡◌, ℕ, List, [], ◌∷◌, ◌++◌, Option, Some, codes, length, get_or, map, refl, ap, subst, arith, ◌∙◌, length-append}
 use Rattle.std.specs.Io.KnownBytes.{Appends}
-use Rattle.refspec_text.specs.declared.parsing.Error.TheVariants.{Memory}
+use Rattle.gix_refspec_text.specs.declared.parsing.Error.TheVariants.{Memory}
 use Rattle.gix_refspec.specs.Specs.Reading.{Reading}
 use Rattle.gix_refspec.specs.Matching.Match.{Ref}
 use Rattle.gix_refspec.specs.Matching.Mappings.{Mapped}

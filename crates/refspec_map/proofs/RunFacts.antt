@@ -5,8 +5,8 @@ use Rattle.std.specs.Prelude.{if◌then◌else◌}
 use Rattle.std.specs.List.{AllZip}
 use Rattle.std.proofs.lemmas.Bool.{eqb-false}
 use Rattle.std.proofs.lemmas.List.{append-nil}
-use Rattle.refspec_text.specs.declared.parsing.Operation.{Operation}
-use Rattle.refspec_text.specs.declared.parsing.Operation.TheVariants.{Push, Fetch}
+use Rattle.gix_refspec_text.specs.declared.parsing.Operation.{Operation}
+use Rattle.gix_refspec_text.specs.declared.parsing.Operation.TheVariants.{Push, Fetch}
 use Rattle.gix_refspec.specs.Texts.Bytes.{plus, caret, head}
 use Rattle.gix_refspec.specs.Texts.Words.{Lacks}
 use Rattle.gix_refspec.specs.Specs.Reading.{Normal, Negative, Reading}

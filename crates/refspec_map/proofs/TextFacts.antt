@@ -2,8 +2,8 @@
 -- sides of a border, so that a wrong rule in specs/ doesn't check.
 use Rattle.std.proofs.Common.{◌≡◌, ℕ, true, false, List, [], ◌∷◌, ◌++◌, None, Some, map, codes, refl}
 use Rattle.std.specs.Fmt.{digits}
-use Rattle.refspec_text.specs.declared.name.Error.TheVariants.{LockSuffix}
-use Rattle.refspec_text.specs.declared.parsing.Error.TheVariants as error
+use Rattle.gix_refspec_text.specs.declared.name.Error.TheVariants.{LockSuffix}
+use Rattle.gix_refspec_text.specs.declared.parsing.Error.TheVariants as error
 use Rattle.gix_refspec.specs.Specs.Grammar.{fetched}
 use Rattle.gix_refspec.specs.Matching.Mappings.{name, id}
 use Rattle.gix_refspec.specs.Specs.Reading.{Forced}

@@ -2,7 +2,7 @@
 -- repository. The forms of these lines are this project's own rule.
 use Rattle.std.specs.Prelude.{◌≡◌, ◌⊎◌, ℕ, ◌+◌, List, [], ◌∷◌, ◌++◌, None, Some, codes, length}
 use Rattle.std.specs.List.{AllZip}
-use Rattle.refspec_text.specs.declared.parsing.Operation.TheVariants.{Fetch}
+use Rattle.gix_refspec_text.specs.declared.parsing.Operation.TheVariants.{Fetch}
 use Rattle.gix_refspec.specs.Texts.Words.{Lacks}
 use Rattle.gix_refspec.specs.Texts.ObjectId.{IsIdText}
 use Rattle.gix_refspec.specs.Specs.Reading.{Reading}

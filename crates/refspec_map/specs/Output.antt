@@ -2,7 +2,7 @@
 -- that it reads as, or the name of the reason why it is refused.
 use Rattle.std.specs.Prelude.{◌≡◌, ℕ, Bool, true, false, ◌||◌, List, [], ◌∷◌, ◌++◌, Some, codes}
 use Rattle.std.specs.List.{AllZip, flat_map}
-use Rattle.refspec_text.specs.declared.parsing.Operation.{Operation}
+use Rattle.gix_refspec_text.specs.declared.parsing.Operation.{Operation}
 use Rattle.gix_refspec.specs.Specs.Reading.{Reading}
 use Rattle.gix_refspec.specs.Specs.Refusal.{IsRefused, Refusal}
 use Rattle.gix_refspec.specs.Specs.Grammar.{Reads}

@@ -1,13 +1,13 @@
 -- What a run of a command does to its reader and its writer.
 use Rattle.std.specs.Prelude.{◌≡◌, ◌≢◌, ℕ, Bool, false, List, Option, if◌then◌else◌, ⊤}
 use Rattle.std.specs.Io.KnownBytes.{Appends, Keeps}
-use Rattle.refspec_text.specs.declared.parsing.Operation.TheVariants.{Fetch, Push}
+use Rattle.gix_refspec_text.specs.declared.parsing.Operation.TheVariants.{Fetch, Push}
 use Rattle.refspec_map.specs.declared.command.Command.{Command}
 use Rattle.refspec_map.specs.declared.command.Command.TheVariants as command
 use Rattle.refspec_map.specs.declared.fault.Fault.{Fault}
 use Rattle.refspec_map.specs.declared.fault.Fault.TheVariants as fault
-use Rattle.refspec_text.specs.declared.parsing.Error.{Error}
-use Rattle.refspec_text.specs.declared.parsing.Error.TheVariants.{Memory}
+use Rattle.gix_refspec_text.specs.declared.parsing.Error.{Error}
+use Rattle.gix_refspec_text.specs.declared.parsing.Error.TheVariants.{Memory}
 use Rattle.gix_refspec.specs.Specs.Refusal.{IsRefused}
 use Rattle.gix_refspec.specs.Views.Instruction.{ShowsRefusal}
 use Rattle.gix_refspec.specs.Matching.Hits.{AreKeptForward, AreKeptBackward}

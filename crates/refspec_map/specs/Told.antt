@@ -2,7 +2,7 @@
 use Rattle.std.specs.Prelude.{◌≡◌, ℕ, List, [], ◌∷◌, ◌++◌, Option, None, Some, option_map, map, ⊤}
 use Rattle.std.specs.List.{AllZip}
 use Rattle.bstr.specs.BStr.{bstr_bytes}
-use Rattle.refspec_match.specs.declared.types.Item.{Item}
+use Rattle.gix_refspec_match.specs.declared.types.Item.{Item}
 use Rattle.gix_refspec.specs.Texts.ObjectId.{id_bytes}
 use Rattle.gix_refspec.specs.Matching.Match.{Ref}
 use Rattle.gix_refspec.specs.Views.Spec.{reading_of}

@@ -4,7 +4,7 @@ ghost use Rattle.std.specs.Prelude.{◌≡◌, ◌⊎◌, List, ℕ, [], ◌∷�
 ghost use Rattle.std.specs.List.{list_all};
 ghost use Rattle.hex.specs.Hex.{is_hex_digit};
 ghost use Rattle.bstr.specs.BStr.{bstr_bytes};
-ghost use Rattle.refspec_text.specs.declared.parsing.Operation.TheVariants.{Fetch};
+ghost use Rattle.gix_refspec_text.specs.declared.parsing.Operation.TheVariants.{Fetch};
 ghost use Rattle.gix_refspec.specs.Texts.Words.{Lacks};
 ghost use Rattle.gix_refspec.specs.Specs.Grammar.{Reads};
 ghost use Rattle.gix_refspec.specs.Texts.ObjectId.{IsIdText, id_bytes};

@@ -2,23 +2,23 @@
 -- concludes from them.
 use Rattle.std.proofs.Common.{◌≡◌, inl, inr, ℕ, zero, suc, List, [], ◌∷◌, ◌++◌, None, Some, codes, length, refl, sym, ap, subst, arith}
 use Rattle.std.specs.List.{Any}
-use Rattle.refspec_text.specs.Texts.Bytes.{bracket, star}
-use Rattle.refspec_text.specs.Texts.Words.{BeginsWith}
-use Rattle.refspec_text.specs.Specs.Reading.{Normal, Reading}
-use Rattle.refspec_text.specs.Specs.Grammar.{fetched, pushed}
-use Rattle.refspec_text.specs.Matching.Side.{pattern, partial, object, HasKind, candidates}
-use Rattle.refspec_text.specs.Matching.Prefix.{TellsPrefix}
-use Rattle.refspec_text.specs.Matching.Match.{Ref}
-use Rattle.refspec_match.specs.Matching.Mappings.{Mapped}
-use Rattle.refspec_match.specs.Matching.Hits.{AreKeptForward}
+use Rattle.gix_refspec_text.specs.Texts.Bytes.{bracket, star}
+use Rattle.gix_refspec_text.specs.Texts.Words.{BeginsWith}
+use Rattle.gix_refspec_text.specs.Specs.Reading.{Normal, Reading}
+use Rattle.gix_refspec_text.specs.Specs.Grammar.{fetched, pushed}
+use Rattle.gix_refspec_text.specs.Matching.Side.{pattern, partial, object, HasKind, candidates}
+use Rattle.gix_refspec_text.specs.Matching.Prefix.{TellsPrefix}
+use Rattle.gix_refspec_text.specs.Matching.Match.{Ref}
+use Rattle.gix_refspec_match.specs.Matching.Mappings.{Mapped}
+use Rattle.gix_refspec_match.specs.Matching.Hits.{AreKeptForward}
 use Rattle.gix_refspec.specs.Matching.Asked.{HasNoList, Lists, ListsGroup, ListsSide, Serves}
 use Rattle.gix_refspec.proofs.lemmas.prefixes.AskedLemmas.{list_as, no_list}
-use Rattle.refspec_text.proofs.facts.ManualFacts.{Lacks-tested, other_length}
-use Rattle.refspec_text.proofs.facts.FitFacts.{blob_kind, cut_at_end, every, no_dev, other_byte, short_kind}
-use Rattle.refspec_match.proofs.facts.MatchFacts.{mapping}
-use Rattle.refspec_text.proofs.facts.PrefixFacts.{bracket_cut, suffix_cut, tells}
-use Rattle.refspec_text.proofs.lemmas.prefixes.PrefixLemmas.{id_not_head, one_asked}
-use Rattle.refspec_text.proofs.lemmas.texts.TextLemmas.{Lacks-here}
+use Rattle.gix_refspec_text.proofs.facts.ManualFacts.{Lacks-tested, other_length}
+use Rattle.gix_refspec_text.proofs.facts.FitFacts.{blob_kind, cut_at_end, every, no_dev, other_byte, short_kind}
+use Rattle.gix_refspec_match.proofs.facts.MatchFacts.{mapping}
+use Rattle.gix_refspec_text.proofs.facts.PrefixFacts.{bracket_cut, suffix_cut, tells}
+use Rattle.gix_refspec_text.proofs.lemmas.prefixes.PrefixLemmas.{id_not_head, one_asked}
+use Rattle.gix_refspec_text.proofs.lemmas.texts.TextLemmas.{Lacks-here}
 
 below_heads : TellsPrefix (codes "refs/heads/") []
 below_heads = record {

@@ -6,37 +6,37 @@ use Rattle.std.specs.Iterator.{YieldsFirst, Drains}
 use Rattle.bstr.specs.declared.bstring.BString.{BString}
 use Rattle.bstr.specs.Owned.{bstring_bytes}
 use Rattle.bstr.specs.Utf8.{pieces_from}
-use Rattle.refspec_match.specs.declared.types.Item.{Item}
-use Rattle.refspec_match.specs.declared.types.Mapping.{Mapping}
+use Rattle.gix_refspec_match.specs.declared.types.Item.{Item}
+use Rattle.gix_refspec_match.specs.declared.types.Mapping.{Mapping}
 use Rattle.gix_refspec.specs.declared.match_group.types.MatchGroup.{MatchGroup}
-use Rattle.refspec_match.specs.declared.types.NameRef.{NameRef}
-use Rattle.refspec_match.specs.declared.types.NameRef.TheVariants.{Borrowed, Owned}
-use Rattle.refspec_match.specs.declared.types.SourceRef.{SourceRef}
-use Rattle.refspec_match.specs.declared.types.SourceRef.TheVariants.{FullName, ObjectId as IdSource}
+use Rattle.gix_refspec_match.specs.declared.types.NameRef.{NameRef}
+use Rattle.gix_refspec_match.specs.declared.types.NameRef.TheVariants.{Borrowed, Owned}
+use Rattle.gix_refspec_match.specs.declared.types.SourceRef.{SourceRef}
+use Rattle.gix_refspec_match.specs.declared.types.SourceRef.TheVariants.{FullName, ObjectId as IdSource}
 use Rattle.gix_refspec.specs.declared.match_group.validate.Error.{Error}
 use Rattle.gix_refspec.specs.declared.match_group.validate.Fix.{Fix}
 use Rattle.gix_refspec.specs.declared.match_group.validate.Fix.TheVariants.{MappingWithPartialDestinationRemoved}
 use Rattle.gix_refspec.specs.declared.match_group.validate.Issue.{Issue}
 use Rattle.gix_refspec.specs.declared.match_group.validate.Issue.TheVariants as issue
 use Rattle.gix_refspec.specs.declared.match_group.validate.Refusal.TheVariants.{Conflicts, Memory}
-use Rattle.refspec_text.specs.declared.oid.Kind.TheVariants.{Sha1}
-use Rattle.refspec_text.specs.declared.oid.ObjectId.{ObjectId}
-use Rattle.refspec_text.specs.declared.parsing.Operation.TheVariants.{Push, Fetch}
-use Rattle.refspec_text.specs.declared.spec.RefSpec.{accepted-type}
-use Rattle.refspec_text.specs.declared.spec.RefSpecRef.{RefSpecRef}
-use Rattle.refspec_text.specs.declared.types.Mode.TheVariants as mode
-use Rattle.refspec_text.specs.Specs.Reading.{Normal, Forced}
-use Rattle.refspec_text.specs.Specs.Grammar.{fetched, pushed}
-use Rattle.refspec_text.specs.Specs.Meaning.{fetch_only, push_matching}
-use Rattle.refspec_text.specs.Views.Spec.{reading_of}
-use Rattle.refspec_match.specs.Matching.Mappings.{name, id}
+use Rattle.gix_refspec_text.specs.declared.oid.Kind.TheVariants.{Sha1}
+use Rattle.gix_refspec_text.specs.declared.oid.ObjectId.{ObjectId}
+use Rattle.gix_refspec_text.specs.declared.parsing.Operation.TheVariants.{Push, Fetch}
+use Rattle.gix_refspec_text.specs.declared.spec.RefSpec.{accepted-type}
+use Rattle.gix_refspec_text.specs.declared.spec.RefSpecRef.{RefSpecRef}
+use Rattle.gix_refspec_text.specs.declared.types.Mode.TheVariants as mode
+use Rattle.gix_refspec_text.specs.Specs.Reading.{Normal, Forced}
+use Rattle.gix_refspec_text.specs.Specs.Grammar.{fetched, pushed}
+use Rattle.gix_refspec_text.specs.Specs.Meaning.{fetch_only, push_matching}
+use Rattle.gix_refspec_text.specs.Views.Spec.{reading_of}
+use Rattle.gix_refspec_match.specs.Matching.Mappings.{name, id}
 use Rattle.gix_refspec.specs.Matching.Validation.{Conflict}
-use Rattle.refspec_match.specs.Views.Mapping.{name_bytes, start_of, mapped_of, ref_of, text_of_source}
+use Rattle.gix_refspec_match.specs.Views.Mapping.{name_bytes, start_of, mapped_of, ref_of, text_of_source}
 use Rattle.gix_refspec.specs.Views.Group.{readings_of, is_for, is_same_operation, IsGathered}
 use Rattle.gix_refspec.specs.Views.Issue.{ForwardOutcome, mappings_of, conflict_of, conflicts_of, removed_of, IsSameFix, IfConflicts, IfMemory}
-use Rattle.refspec_match.proofs.facts.MatchFacts.{mapping}
-use Rattle.refspec_text.proofs.facts.ObjectIdFacts.{empty_blob, lower_of-empty_blob}
-use Rattle.refspec_text.proofs.facts.ViewFacts.{lent, Accepted, spec_of, owned_of, blob_id}
+use Rattle.gix_refspec_match.proofs.facts.MatchFacts.{mapping}
+use Rattle.gix_refspec_text.proofs.facts.ObjectIdFacts.{empty_blob, lower_of-empty_blob}
+use Rattle.gix_refspec_text.proofs.facts.ViewFacts.{lent, Accepted, spec_of, owned_of, blob_id}
 
 -- ---- names and sources
 

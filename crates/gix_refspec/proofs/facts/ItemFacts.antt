@@ -1,33 +1,33 @@
 -- Which items may be left out, and what a caller concludes from the laws on that.
 use Rattle.std.proofs.Common.{◌≡◌, ◌≢◌, inl, inr, ℕ, zero, suc, List, [], ◌∷◌, None, Some, codes, refl, sym, ap, subst, arith, Bool, true, false, map}
 use Rattle.std.specs.List.{filter, Any, Contains}
-use Rattle.refspec_text.specs.declared.parsing.Operation.TheVariants.{Push, Fetch}
+use Rattle.gix_refspec_text.specs.declared.parsing.Operation.TheVariants.{Push, Fetch}
 use Rattle.bstr.specs.BStr.{bstr_bytes}
 use Rattle.std.proofs.lemmas.Bool.{false≢true}
-use Rattle.refspec_match.specs.declared.types.Item.{Item}
-use Rattle.refspec_text.specs.Texts.Words.{BeginsWith}
-use Rattle.refspec_text.specs.Texts.Bytes.{head}
-use Rattle.refspec_text.specs.Specs.Reading.{Normal, Reading}
-use Rattle.refspec_text.specs.Specs.Grammar.{fetched, pushed}
-use Rattle.refspec_text.specs.Matching.Side.{pattern, filled}
-use Rattle.refspec_text.specs.Matching.Prefix.{to_prefix}
-use Rattle.refspec_text.specs.Matching.Match.{Ref, HasName, Matches, Takes}
-use Rattle.refspec_match.specs.Matching.Mappings.{name, Mapped, HasPair}
-use Rattle.refspec_match.specs.Matching.Hits.{AreForwardEnds, AreBackwardEnds, Hit, AreKeptForward, AreKeptBackward}
-use Rattle.refspec_match.specs.Views.Mapping.{ref_of}
-use Rattle.refspec_text.specs.Laws.Covering.{HasCoveringSource, IsCovering}
+use Rattle.gix_refspec_match.specs.declared.types.Item.{Item}
+use Rattle.gix_refspec_text.specs.Texts.Words.{BeginsWith}
+use Rattle.gix_refspec_text.specs.Texts.Bytes.{head}
+use Rattle.gix_refspec_text.specs.Specs.Reading.{Normal, Reading}
+use Rattle.gix_refspec_text.specs.Specs.Grammar.{fetched, pushed}
+use Rattle.gix_refspec_text.specs.Matching.Side.{pattern, filled}
+use Rattle.gix_refspec_text.specs.Matching.Prefix.{to_prefix}
+use Rattle.gix_refspec_text.specs.Matching.Match.{Ref, HasName, Matches, Takes}
+use Rattle.gix_refspec_match.specs.Matching.Mappings.{name, Mapped, HasPair}
+use Rattle.gix_refspec_match.specs.Matching.Hits.{AreForwardEnds, AreBackwardEnds, Hit, AreKeptForward, AreKeptBackward}
+use Rattle.gix_refspec_match.specs.Views.Mapping.{ref_of}
+use Rattle.gix_refspec_text.specs.Laws.Covering.{HasCoveringSource, IsCovering}
 use Rattle.gix_refspec.specs.Laws.Matching.{BeginsWithOne, IsCoveredBy, AreExpansions, MakesForward}
 use Rattle.gix_refspec.specs.Laws.Items.{AreAskedFor, ArePart, AskedItems, TakesItem, HasTaken, HaveSamePairs, FewerItems, FetchesHead, IsListed, AreListedItems, ListedItems, PassesTaken, FilteredItems, is_begun, FilteredByEntries, FilteredByList}
 use Rattle.gix_refspec.specs.Matching.Asked.{ListsGroup}
 use Rattle.gix_refspec.proofs.facts.AskedFacts.{lists_of_specs}
-use Rattle.refspec_match.proofs.facts.CandidateFacts.{branch_and_tag, main_branch, main_tag, main_ends, main_to_x, takes_the_tag}
+use Rattle.gix_refspec_match.proofs.facts.CandidateFacts.{branch_and_tag, main_branch, main_tag, main_ends, main_to_x, takes_the_tag}
 use Rattle.gix_refspec.proofs.lemmas.prefixes.CoverLemmas.{joined_covers}
-use Rattle.refspec_text.proofs.facts.FaultFacts.{begins_not}
-use Rattle.refspec_text.proofs.lemmas.specs.FormsBackLemmas.{some_once}
-use Rattle.refspec_text.proofs.facts.CoveringFacts.{below_heads, covering, not_covering}
-use Rattle.refspec_text.proofs.facts.ManualFacts.{named, other_length}
-use Rattle.refspec_text.proofs.facts.FitFacts.{dev_ref, every, main_ref, no_dev, origin_cut, other_byte, short, short_no_id, tag_ref}
-use Rattle.refspec_match.proofs.facts.MatchFacts.{are_forward_ends, bytes_in, fetches_all_but_dev, forward_ends, taken_by, takes_no_tag, tracked, tracks_all_but_dev}
+use Rattle.gix_refspec_text.proofs.facts.FaultFacts.{begins_not}
+use Rattle.gix_refspec_text.proofs.lemmas.specs.FormsBackLemmas.{some_once}
+use Rattle.gix_refspec_text.proofs.facts.CoveringFacts.{below_heads, covering, not_covering}
+use Rattle.gix_refspec_text.proofs.facts.ManualFacts.{named, other_length}
+use Rattle.gix_refspec_text.proofs.facts.FitFacts.{dev_ref, every, main_ref, no_dev, origin_cut, other_byte, short, short_no_id, tag_ref}
+use Rattle.gix_refspec_match.proofs.facts.MatchFacts.{are_forward_ends, bytes_in, fetches_all_but_dev, forward_ends, taken_by, takes_no_tag, tracked, tracks_all_but_dev}
 
 abbrev group : List Reading
 group = every ∷ no_dev ∷ []

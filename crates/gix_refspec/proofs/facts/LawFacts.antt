@@ -2,45 +2,45 @@
 -- covering sources ask for, what a spec reads as again, and what a group expands to.
 use Rattle.std.proofs.Common.{◌≡◌, ◌≢◌, ◌⊎◌, ◌<◌, ℕ, zero, suc, List, [], ◌∷◌, ◌++◌, Option, None, Some, length, codes, refl, sym, ap, ◌∙◌, subst, inl, inr, arith}
 use Rattle.std.specs.List.{AllByRecursion}
-use Rattle.refspec_text.specs.declared.parsing.Operation.TheVariants.{Push, Fetch}
-use Rattle.refspec_text.specs.Texts.Words.{BeginsWith}
-use Rattle.refspec_text.specs.Texts.Name.{HasStar, IsPattern}
-use Rattle.refspec_text.specs.Texts.Bytes.{star, colon}
-use Rattle.refspec_text.specs.Specs.Reading.{Normal, Forced, Negative, Reading}
-use Rattle.refspec_text.specs.Specs.Grammar.{AreParts, Reads, fetches, fetched, pushed}
-use Rattle.refspec_text.specs.Matching.Side.{candidates, IsCandidate, Fits}
-use Rattle.refspec_match.specs.Matching.Mappings.{name, id, Mapped, HasPair, AreApart}
-use Rattle.refspec_match.specs.Matching.Hits.{AreKeptForward, AreKeptBackward, OneForward, OneBackward, KeptOnce}
-use Rattle.refspec_text.specs.Matching.Match.{Ref, Matches, HasName, Takes}
+use Rattle.gix_refspec_text.specs.declared.parsing.Operation.TheVariants.{Push, Fetch}
+use Rattle.gix_refspec_text.specs.Texts.Words.{BeginsWith}
+use Rattle.gix_refspec_text.specs.Texts.Name.{HasStar, IsPattern}
+use Rattle.gix_refspec_text.specs.Texts.Bytes.{star, colon}
+use Rattle.gix_refspec_text.specs.Specs.Reading.{Normal, Forced, Negative, Reading}
+use Rattle.gix_refspec_text.specs.Specs.Grammar.{AreParts, Reads, fetches, fetched, pushed}
+use Rattle.gix_refspec_text.specs.Matching.Side.{candidates, IsCandidate, Fits}
+use Rattle.gix_refspec_match.specs.Matching.Mappings.{name, id, Mapped, HasPair, AreApart}
+use Rattle.gix_refspec_match.specs.Matching.Hits.{AreKeptForward, AreKeptBackward, OneForward, OneBackward, KeptOnce}
+use Rattle.gix_refspec_text.specs.Matching.Match.{Ref, Matches, HasName, Takes}
 use Rattle.gix_refspec.specs.Matching.Validation.{ValidatedOnce, HaveOneSource, NeverMeet, ForwardFits, IndexesFit}
-use Rattle.refspec_text.specs.Laws.Readings.{ReadsOnce, ReadsOrRefused, IsSameReason, SaysForOperation, IsPrintedBack, ReadsBack, EqualReadings, HasOneId, HasOneFault, HasCandidates, KeepsOperation, EqualTexts, NothingAgainst, ClonesExactly, OneWord, PrefixBegins, OnePrefix, Candidates, IdOrFault, OneLowerText, OneRefusal}
-use Rattle.refspec_text.specs.Specs.Meaning.{push_delete, fetch_only, printed, meaning_of}
-use Rattle.refspec_text.specs.Texts.PatternError.{IsPatternFault}
-use Rattle.refspec_text.specs.declared.name.PatternError.{PatternError}
-use Rattle.refspec_text.specs.declared.name.PatternError.TheVariants.{Name, Memory}
-use Rattle.refspec_text.specs.Specs.Refusal.{Refusal, PatternUnbalanced, NegativeEmpty, ReferenceName, IsRefused}
-use Rattle.refspec_text.specs.Texts.ObjectId.{IsIdText, IsLowerText, HasIdFault}
-use Rattle.refspec_text.specs.declared.name.Error.{Error as NameError}
-use Rattle.refspec_text.specs.declared.name.Error.TheVariants.{LockSuffix, RepeatedDot}
-use Rattle.refspec_text.specs.declared.oid.Error.{Error as IdError}
-use Rattle.refspec_text.specs.declared.oid.Error.TheVariants.{Length}
-use Rattle.refspec_text.specs.Matching.Prefix.{IsAsked, IsPrefix, Expands, to_prefix, to_candidates}
-use Rattle.refspec_text.specs.Laws.Covering.{IsCovering, HasCoveringSource}
+use Rattle.gix_refspec_text.specs.Laws.Readings.{ReadsOnce, ReadsOrRefused, IsSameReason, SaysForOperation, IsPrintedBack, ReadsBack, EqualReadings, HasOneId, HasOneFault, HasCandidates, KeepsOperation, EqualTexts, NothingAgainst, ClonesExactly, OneWord, PrefixBegins, OnePrefix, Candidates, IdOrFault, OneLowerText, OneRefusal}
+use Rattle.gix_refspec_text.specs.Specs.Meaning.{push_delete, fetch_only, printed, meaning_of}
+use Rattle.gix_refspec_text.specs.Texts.PatternError.{IsPatternFault}
+use Rattle.gix_refspec_text.specs.declared.name.PatternError.{PatternError}
+use Rattle.gix_refspec_text.specs.declared.name.PatternError.TheVariants.{Name, Memory}
+use Rattle.gix_refspec_text.specs.Specs.Refusal.{Refusal, PatternUnbalanced, NegativeEmpty, ReferenceName, IsRefused}
+use Rattle.gix_refspec_text.specs.Texts.ObjectId.{IsIdText, IsLowerText, HasIdFault}
+use Rattle.gix_refspec_text.specs.declared.name.Error.{Error as NameError}
+use Rattle.gix_refspec_text.specs.declared.name.Error.TheVariants.{LockSuffix, RepeatedDot}
+use Rattle.gix_refspec_text.specs.declared.oid.Error.{Error as IdError}
+use Rattle.gix_refspec_text.specs.declared.oid.Error.TheVariants.{Length}
+use Rattle.gix_refspec_text.specs.Matching.Prefix.{IsAsked, IsPrefix, Expands, to_prefix, to_candidates}
+use Rattle.gix_refspec_text.specs.Laws.Covering.{IsCovering, HasCoveringSource}
 use Rattle.gix_refspec.specs.Laws.Reasons.{ReasonRefuses}
 use Rattle.gix_refspec.specs.Laws.Matching.{MapAlike, AreReadAgain, AsksFor, AtSpec, EachSource, Transpose, Cover, CoverTogether, FetchGroupReadsBack, IsCoveredBy, IsSourceAmong, IsDestinationAmong, GoesBothWays, ReadsAgainAs, BeginsWithOne, AreExpansions}
-use Rattle.refspec_text.proofs.lemmas.texts.TextLemmas.{Lacks-Holds}
-use Rattle.refspec_text.proofs.lemmas.texts.TestedLemmas.{IsName-tested}
-use Rattle.refspec_text.proofs.lemmas.hits.MatchLemmas.{outside_none}
-use Rattle.refspec_text.proofs.lemmas.parsing.ReadOnceLemmas.{reads_once}
-use Rattle.refspec_text.proofs.lemmas.specs.FormsBackLemmas.{some_once}
-use Rattle.refspec_text.proofs.facts.ManualFacts.{Lacks-tested, IsPattern-tested, other_length, none_some, named, no_sign}
-use Rattle.refspec_text.proofs.facts.FaultFacts.{begins_not}
-use Rattle.refspec_text.proofs.facts.UnreadFacts.{unbalanced_fetches}
-use Rattle.refspec_text.proofs.facts.ObjectIdFacts.{empty_blob, IsIdText-empty_blob, lower_of-empty_blob, HasIdFault-length}
+use Rattle.gix_refspec_text.proofs.lemmas.texts.TextLemmas.{Lacks-Holds}
+use Rattle.gix_refspec_text.proofs.lemmas.texts.TestedLemmas.{IsName-tested}
+use Rattle.gix_refspec_text.proofs.lemmas.hits.MatchLemmas.{outside_none}
+use Rattle.gix_refspec_text.proofs.lemmas.parsing.ReadOnceLemmas.{reads_once}
+use Rattle.gix_refspec_text.proofs.lemmas.specs.FormsBackLemmas.{some_once}
+use Rattle.gix_refspec_text.proofs.facts.ManualFacts.{Lacks-tested, IsPattern-tested, other_length, none_some, named, no_sign}
+use Rattle.gix_refspec_text.proofs.facts.FaultFacts.{begins_not}
+use Rattle.gix_refspec_text.proofs.facts.UnreadFacts.{unbalanced_fetches}
+use Rattle.gix_refspec_text.proofs.facts.ObjectIdFacts.{empty_blob, IsIdText-empty_blob, lower_of-empty_blob, HasIdFault-length}
 use Rattle.gix_refspec.proofs.facts.ValidationFacts.{both_to_x, foo_fix, validated}
-use Rattle.refspec_text.proofs.facts.FitFacts.{every, no_dev, short, short_kind, other_byte, other_first, push_is_none}
-use Rattle.refspec_match.proofs.facts.MatchFacts.{bytes_in, mapping, tracked, fetches_all_but_dev, tracks_all_but_dev, tracks_nothing, tag_to_x, tag_to_foo, tag_alone}
-use Rattle.refspec_text.proofs.facts.CoveringFacts.{below_heads, covering, not_covering}
+use Rattle.gix_refspec_text.proofs.facts.FitFacts.{every, no_dev, short, short_kind, other_byte, other_first, push_is_none}
+use Rattle.gix_refspec_match.proofs.facts.MatchFacts.{bytes_in, mapping, tracked, fetches_all_but_dev, tracks_all_but_dev, tracks_nothing, tag_to_x, tag_to_foo, tag_alone}
+use Rattle.gix_refspec_text.proofs.facts.CoveringFacts.{below_heads, covering, not_covering}
 
 -- ---- both directions
 

@@ -1,18 +1,18 @@
 -- What the clauses of the match calls say of a group and items at hand: at the examples of matching, exactly
 -- which outcome there is, and that there is one.
 use Rattle.std.proofs.Common.{◌≡◌, List, [], ◌∷◌, map, length, codes, refl, ap, arith}
-use Rattle.refspec_match.specs.declared.types.Item.{Item}
+use Rattle.gix_refspec_match.specs.declared.types.Item.{Item}
 use Rattle.gix_refspec.specs.declared.match_group.types.MatchGroup.{MatchGroup}
 use Rattle.gix_refspec.specs.declared.match_group.types.Outcome.{Outcome}
-use Rattle.refspec_text.specs.Matching.Match.{Ref}
-use Rattle.refspec_match.specs.Matching.Mappings.{Mapped}
-use Rattle.refspec_match.specs.Matching.Hits.{AreForward, AreBackward, AreKeptForward, AreKeptBackward}
-use Rattle.refspec_match.specs.Views.Mapping.{mapped_of, ref_of}
+use Rattle.gix_refspec_text.specs.Matching.Match.{Ref}
+use Rattle.gix_refspec_match.specs.Matching.Mappings.{Mapped}
+use Rattle.gix_refspec_match.specs.Matching.Hits.{AreForward, AreBackward, AreKeptForward, AreKeptBackward}
+use Rattle.gix_refspec_match.specs.Views.Mapping.{mapped_of, ref_of}
 use Rattle.gix_refspec.specs.Views.Group.{IsOutcome, Maps, readings_of}
-use Rattle.refspec_match.proofs.lemmas.hits.HitLemmas.{one_forward, one_backward}
-use Rattle.refspec_text.proofs.facts.ManualFacts.{named}
-use Rattle.refspec_text.proofs.facts.FitFacts.{every, no_dev}
-use Rattle.refspec_match.proofs.facts.MatchFacts.{tracked, fetches_all_but_dev, tracks_all_but_dev}
+use Rattle.gix_refspec_match.proofs.lemmas.hits.HitLemmas.{one_forward, one_backward}
+use Rattle.gix_refspec_text.proofs.facts.ManualFacts.{named}
+use Rattle.gix_refspec_text.proofs.facts.FitFacts.{every, no_dev}
+use Rattle.gix_refspec_match.proofs.facts.MatchFacts.{tracked, fetches_all_but_dev, tracks_all_but_dev}
 
 -- a group with a spec for all branches and one without those that begin `dev-`
 abbrev LeavesOutDev : MatchGroup → Type 0

@@ -1,21 +1,21 @@
 -- What the spec and the item at a place make, and what a caller concludes of one mapping from the laws on these.
 use Rattle.std.proofs.Common.{◌≡◌, inl, inr, ℕ, List, [], ◌∷◌, ◌++◌, None, Some, codes, refl, sym, ap, ◌∙◌, subst, arith}
 use Rattle.std.specs.List.{Contains, slice_get}
-use Rattle.refspec_text.specs.Specs.Reading.{Reading}
-use Rattle.refspec_text.specs.Specs.Grammar.{IsPositive}
-use Rattle.refspec_text.specs.Matching.Side.{partial, full_name}
-use Rattle.refspec_text.specs.Matching.Match.{Ref}
-use Rattle.refspec_match.specs.Matching.Mappings.{name, id, Mapped}
-use Rattle.refspec_match.specs.Matching.Hits.{AreKeptForward, AreKeptBackward}
+use Rattle.gix_refspec_text.specs.Specs.Reading.{Reading}
+use Rattle.gix_refspec_text.specs.Specs.Grammar.{IsPositive}
+use Rattle.gix_refspec_text.specs.Matching.Side.{partial, full_name}
+use Rattle.gix_refspec_text.specs.Matching.Match.{Ref}
+use Rattle.gix_refspec_match.specs.Matching.Mappings.{name, id, Mapped}
+use Rattle.gix_refspec_match.specs.Matching.Hits.{AreKeptForward, AreKeptBackward}
 use Rattle.gix_refspec.specs.Laws.Places.{MakesForwardOf, MakesBackwardOf, MadeAtPlaces, RemainsExactly}
 use Rattle.gix_refspec.specs.Matching.Validation.{IsValidated, IsWritable, Removed}
 use Rattle.gix_refspec.specs.Matching.RefNames.{KeepsNamed, LeftOut}
-use Rattle.refspec_match.proofs.facts.CandidateFacts.{branch_and_tag, main_tag, main_ends, main_to_x, takes_the_tag, x_kind}
+use Rattle.gix_refspec_match.proofs.facts.CandidateFacts.{branch_and_tag, main_tag, main_ends, main_to_x, takes_the_tag, x_kind}
 use Rattle.gix_refspec.proofs.facts.KeptFacts.{blob_paired}
-use Rattle.refspec_text.proofs.facts.ManualFacts.{named, other_length}
-use Rattle.refspec_text.proofs.facts.FitFacts.{blob, dev_ref, every, main_ref, no_dev, other_byte, short_kind, short_no_id, tag_ref}
-use Rattle.refspec_match.proofs.facts.MatchFacts.{mapping, tracked}
-use Rattle.refspec_text.proofs.facts.ObjectIdFacts.{empty_blob}
+use Rattle.gix_refspec_text.proofs.facts.ManualFacts.{named, other_length}
+use Rattle.gix_refspec_text.proofs.facts.FitFacts.{blob, dev_ref, every, main_ref, no_dev, other_byte, short_kind, short_no_id, tag_ref}
+use Rattle.gix_refspec_match.proofs.facts.MatchFacts.{mapping, tracked}
+use Rattle.gix_refspec_text.proofs.facts.ObjectIdFacts.{empty_blob}
 use Rattle.gix_refspec.proofs.facts.RefNameFacts.{good, kept, no_ref_names, sides, to_bad}
 
 some_place : (i j : ℕ) → Some i ≡ Some j → i ≡ j

@@ -2,10 +2,10 @@
 -- concludes from it.
 use Rattle.std.proofs.Common.{◌≡◌, inl, ℕ, true, false, List, [], ◌∷◌, ◌++◌, IsTrue, codes, refl}
 use Rattle.std.specs.List.{list_all, list_any}
-use Rattle.refspec_text.specs.Texts.Name.{IsName}
+use Rattle.gix_refspec_text.specs.Texts.Name.{IsName}
 use Rattle.gix_refspec.specs.Matching.RefNames.{IsRefName}
 use Rattle.gix_refspec.specs.Laws.Names.{is_plain_component, is_plain_name, PlainNames}
-use Rattle.refspec_text.proofs.facts.NameFacts.{no_names, names_close_to_faults}
+use Rattle.gix_refspec_text.proofs.facts.NameFacts.{no_names, names_close_to_faults}
 
 -- full names and others, components that end with a part of `.lock`, and the bytes beside those that are special
 pub plain : list_all is_plain_name (codes "refs/heads/main" ∷ codes "refs/remotes/origin/HEAD" ∷ codes "HEAD" ∷ codes "k/lock" ∷ codes "@" ∷ codes "-" ∷ codes "!)+-09;>@Z]_z|}" ∷ (128 ∷ 255 ∷ []) ∷ []) ≡ true

@@ -1,20 +1,20 @@
 -- The words of the laws on plans, on each side of what they ask, and what a caller concludes from these laws.
 use Rattle.std.proofs.Common.{◌≢◌, ℕ, List, [], ◌∷◌, None, Some, codes, refl, sym, ap, subst, arith}
 use Rattle.std.specs.List.{AllByRecursion}
-use Rattle.refspec_text.specs.declared.parsing.Operation.TheVariants.{Fetch}
-use Rattle.refspec_text.specs.Texts.Words.{Lacks}
-use Rattle.refspec_text.specs.Specs.Reading.{Reading}
-use Rattle.refspec_text.specs.Specs.Grammar.{Reads}
-use Rattle.refspec_text.specs.Specs.Meaning.{printed}
-use Rattle.refspec_text.specs.Matching.Match.{Ref}
-use Rattle.refspec_match.specs.Matching.Mappings.{id, Mapped}
-use Rattle.refspec_match.specs.Matching.Hits.{AreKeptForward}
+use Rattle.gix_refspec_text.specs.declared.parsing.Operation.TheVariants.{Fetch}
+use Rattle.gix_refspec_text.specs.Texts.Words.{Lacks}
+use Rattle.gix_refspec_text.specs.Specs.Reading.{Reading}
+use Rattle.gix_refspec_text.specs.Specs.Grammar.{Reads}
+use Rattle.gix_refspec_text.specs.Specs.Meaning.{printed}
+use Rattle.gix_refspec_text.specs.Matching.Match.{Ref}
+use Rattle.gix_refspec_match.specs.Matching.Mappings.{id, Mapped}
+use Rattle.gix_refspec_match.specs.Matching.Hits.{AreKeptForward}
 use Rattle.gix_refspec.specs.Matching.Validation.{Removed, IsValidated}
 use Rattle.gix_refspec.specs.Laws.Plans.{AreFixesApart, HaveStartsByPlace, LacksIn, MappedLacks, NoControlCharacter, PlansApart, SidesLack, StartLacks}
-use Rattle.refspec_text.proofs.facts.FitFacts.{other_byte}
-use Rattle.refspec_text.proofs.facts.ManualFacts.{Lacks-tested}
-use Rattle.refspec_text.proofs.facts.ObjectIdFacts.{empty_blob, lower_of-empty_blob}
-use Rattle.refspec_match.proofs.facts.MatchFacts.{branch_to_x, bytes_in, mapping, tag_alone, tag_to_x}
+use Rattle.gix_refspec_text.proofs.facts.FitFacts.{other_byte}
+use Rattle.gix_refspec_text.proofs.facts.ManualFacts.{Lacks-tested}
+use Rattle.gix_refspec_text.proofs.facts.ObjectIdFacts.{empty_blob, lower_of-empty_blob}
+use Rattle.gix_refspec_match.proofs.facts.MatchFacts.{branch_to_x, bytes_in, mapping, tag_alone, tag_to_x}
 use Rattle.gix_refspec.proofs.facts.ValidationFacts.{foo_fix}
 
 -- ---- what is told apart

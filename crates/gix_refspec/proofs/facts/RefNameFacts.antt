@@ -1,23 +1,23 @@
 -- The words on names of refs at mappings to good names and bad ones, and what a caller concludes from their law.
 use Rattle.std.proofs.Common.{◌≡◌, inl, inr, ℕ, List, [], ◌∷◌, ◌++◌, None, Some, codes, refl, arith}
 use Rattle.std.specs.List.{AllByRecursion}
-use Rattle.refspec_text.specs.declared.name.Error.TheVariants.{RepeatedDot}
+use Rattle.gix_refspec_text.specs.declared.name.Error.TheVariants.{RepeatedDot}
 use Rattle.gix_refspec.specs.declared.match_group.names.BadMapping.{BadMapping}
 use Rattle.gix_refspec.specs.declared.match_group.names.BadSide.TheVariants.{Source, Destination, Both}
-use Rattle.refspec_text.specs.Texts.Bytes.{slash}
-use Rattle.refspec_text.specs.Specs.Reading.{Reading}
-use Rattle.refspec_text.specs.Matching.Match.{Ref}
-use Rattle.refspec_match.specs.Matching.Mappings.{id, Mapped}
-use Rattle.refspec_match.specs.Views.Mapping.{mapped_of}
-use Rattle.refspec_match.specs.Matching.Hits.{AreKeptForward}
+use Rattle.gix_refspec_text.specs.Texts.Bytes.{slash}
+use Rattle.gix_refspec_text.specs.Specs.Reading.{Reading}
+use Rattle.gix_refspec_text.specs.Matching.Match.{Ref}
+use Rattle.gix_refspec_match.specs.Matching.Mappings.{id, Mapped}
+use Rattle.gix_refspec_match.specs.Views.Mapping.{mapped_of}
+use Rattle.gix_refspec_match.specs.Matching.Hits.{AreKeptForward}
 use Rattle.gix_refspec.specs.Matching.Validation.{ForwardPlaces, IndexesFit, IsValidated, Removed}
 use Rattle.gix_refspec.specs.Matching.RefNames.{AreLeftOut, AreNamed, IsBadAt, IsLeftOut, IsNamed, IsNamedDestination, IsNamedSource, IsRefName, KeepsNamed, LeftOut, StaysAmongRefs, WritesRefs, left_out_of}
-use Rattle.refspec_match.proofs.lemmas.lists.JoinLemmas.{nothing_made}
-use Rattle.refspec_text.proofs.facts.ManualFacts.{Lacks-tested, other_length}
-use Rattle.refspec_text.proofs.facts.FitFacts.{other_byte}
-use Rattle.refspec_match.proofs.facts.MatchFacts.{mapping}
+use Rattle.gix_refspec_match.proofs.lemmas.lists.JoinLemmas.{nothing_made}
+use Rattle.gix_refspec_text.proofs.facts.ManualFacts.{Lacks-tested, other_length}
+use Rattle.gix_refspec_text.proofs.facts.FitFacts.{other_byte}
+use Rattle.gix_refspec_match.proofs.facts.MatchFacts.{mapping}
 use Rattle.gix_refspec.proofs.lemmas.validate.RefNameLemmas.{bad_unnamed, stays_among_refs}
-use Rattle.refspec_text.proofs.lemmas.texts.TestedLemmas.{IsName-tested}
+use Rattle.gix_refspec_text.proofs.lemmas.texts.TestedLemmas.{IsName-tested}
 
 -- what begins `refs/` and is a name, and `HEAD`
 pub ref_names : IsRefName (codes "refs/heads/main") × IsRefName (codes "HEAD")

@@ -6,17 +6,17 @@ use Rattle.std.specs.List.Sorted.{IsStrictlySortedBy}
 use Rattle.std.specs.Ordering.{nat_cmp}
 use Rattle.std.specs.Cmp.Lexicographic.{slice_cmp}
 use Rattle.std.specs.declared.cmp.Ordering.TheVariants.{Less, Equal, Greater}
-use Rattle.refspec_text.specs.Specs.Reading.{Normal, Forced, Reading}
-use Rattle.refspec_text.specs.Specs.Grammar.{fetched}
-use Rattle.refspec_text.specs.Specs.Meaning.{printed}
-use Rattle.refspec_match.specs.Matching.Mappings.{name, Mapped, HasPair}
+use Rattle.gix_refspec_text.specs.Specs.Reading.{Normal, Forced, Reading}
+use Rattle.gix_refspec_text.specs.Specs.Grammar.{fetched}
+use Rattle.gix_refspec_text.specs.Specs.Meaning.{printed}
+use Rattle.gix_refspec_match.specs.Matching.Mappings.{name, Mapped, HasPair}
 use Rattle.gix_refspec.specs.Matching.Validation.{IndexesFit, HasConflictAt, IsFirstTo, IsTextAt, Conflict, IsConflict, AreConflicts, IsWritable, Survives, AreSurvivors, Removed, IsFix, AreFixes, IsValidated, HaveOneSource, MeetAt, NeverMeet}
 use Rattle.gix_refspec.proofs.lemmas.validate.ConflictLemmas.{no_conflicts}
-use Rattle.refspec_match.proofs.lemmas.lists.JoinLemmas.{nothing_made}
-use Rattle.refspec_text.proofs.lemmas.specs.FormsBackLemmas.{some_once}
-use Rattle.refspec_text.proofs.facts.ManualFacts.{other_length, none_some}
-use Rattle.refspec_text.proofs.facts.FitFacts.{other_byte, of_element}
-use Rattle.refspec_match.proofs.facts.MatchFacts.{bytes_in, mapping, tag_to_x, branch_to_x, tag_again, tag_to_foo, tag_alone, pairs}
+use Rattle.gix_refspec_match.proofs.lemmas.lists.JoinLemmas.{nothing_made}
+use Rattle.gix_refspec_text.proofs.lemmas.specs.FormsBackLemmas.{some_once}
+use Rattle.gix_refspec_text.proofs.facts.ManualFacts.{other_length, none_some}
+use Rattle.gix_refspec_text.proofs.facts.FitFacts.{other_byte, of_element}
+use Rattle.gix_refspec_match.proofs.facts.MatchFacts.{bytes_in, mapping, tag_to_x, branch_to_x, tag_again, tag_to_foo, tag_alone, pairs}
 
 -- specs whose patterns meet below `refs/x/`, the second of which is forced
 abbrev pub both_to_x : List Reading

@@ -3,16 +3,16 @@
 use Rattle.std.specs.Prelude.{◌≡◌, ◌⊎◌, ◌↔◌, ℕ, Bool, IsTrue, nat_eq, List, map, Option, Some}
 use Rattle.std.specs.List.{AllByRecursion, Any, Contains, filter, list_any, starts_with}
 use Rattle.bstr.specs.BStr.{bstr_bytes}
-use Rattle.refspec_match.specs.declared.types.Item.{Item}
-use Rattle.refspec_text.specs.declared.parsing.Operation.TheVariants.{Fetch}
-use Rattle.refspec_text.specs.Texts.Bytes.{head}
-use Rattle.refspec_text.specs.Specs.Reading.{Reading}
-use Rattle.refspec_text.specs.Matching.Side.{IsId}
-use Rattle.refspec_text.specs.Matching.Match.{Ref, HasName, Matches, Takes}
-use Rattle.refspec_match.specs.Matching.Mappings.{Mapped, HasPair}
-use Rattle.refspec_match.specs.Views.Mapping.{ref_of}
-use Rattle.refspec_match.specs.Matching.Hits.{Ends, AreForwardEnds, AreBackwardEnds, AreKeptForward, AreKeptBackward}
-use Rattle.refspec_text.specs.Laws.Covering.{HasCoveringSource}
+use Rattle.gix_refspec_match.specs.declared.types.Item.{Item}
+use Rattle.gix_refspec_text.specs.declared.parsing.Operation.TheVariants.{Fetch}
+use Rattle.gix_refspec_text.specs.Texts.Bytes.{head}
+use Rattle.gix_refspec_text.specs.Specs.Reading.{Reading}
+use Rattle.gix_refspec_text.specs.Matching.Side.{IsId}
+use Rattle.gix_refspec_text.specs.Matching.Match.{Ref, HasName, Matches, Takes}
+use Rattle.gix_refspec_match.specs.Matching.Mappings.{Mapped, HasPair}
+use Rattle.gix_refspec_match.specs.Views.Mapping.{ref_of}
+use Rattle.gix_refspec_match.specs.Matching.Hits.{Ends, AreForwardEnds, AreBackwardEnds, AreKeptForward, AreKeptBackward}
+use Rattle.gix_refspec_text.specs.Laws.Covering.{HasCoveringSource}
 use Rattle.gix_refspec.specs.Laws.Matching.{AreFetches, MakesForward, BeginsWithOne, AreExpansions}
 use Rattle.gix_refspec.specs.Matching.Asked.{ListsGroup}
 

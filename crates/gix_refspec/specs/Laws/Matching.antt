@@ -3,20 +3,20 @@
 -- They follow from the definitions in Mappings and Hits, and add no rule.
 use Rattle.std.specs.Prelude.{◌≡◌, ◌⊎◌, ◌↔◌, ℕ, List, ◌∷◌, ◌++◌, codes, Option, None, Some}
 use Rattle.std.specs.List.{AllByRecursion, AllZip, Any, Contains, slice_get}
-use Rattle.refspec_text.specs.declared.parsing.Operation.TheVariants.{Fetch}
-use Rattle.refspec_text.specs.Texts.Words.{BeginsWith}
-use Rattle.refspec_text.specs.Texts.Name.{HasStar}
-use Rattle.refspec_text.specs.Texts.Bytes.{head}
-use Rattle.refspec_text.specs.Specs.Reading.{Reading}
-use Rattle.refspec_text.specs.Specs.Grammar.{IsPositive, Reads}
-use Rattle.refspec_text.specs.Specs.Meaning.{meaning_of, printed}
-use Rattle.refspec_text.specs.Matching.Side.{object, HasKind}
-use Rattle.refspec_text.specs.Matching.Match.{Ref, HasName, Matches, Takes}
-use Rattle.refspec_text.specs.Matching.Prefix.{IsAsked, IsExpansion}
-use Rattle.refspec_text.specs.Laws.Covering.{HasCoveringSource}
-use Rattle.refspec_match.specs.Matching.Lists.{IsJoinedFrom}
-use Rattle.refspec_match.specs.Matching.Mappings.{Start, name, id, Mapped, HasPair, IsStartExcluded}
-use Rattle.refspec_match.specs.Matching.Hits.{Ends, AreForwardEnds, AreBackwardEnds, IsFilled, AreForward, AreBackward, AreKeptForward, AreKeptBackward}
+use Rattle.gix_refspec_text.specs.declared.parsing.Operation.TheVariants.{Fetch}
+use Rattle.gix_refspec_text.specs.Texts.Words.{BeginsWith}
+use Rattle.gix_refspec_text.specs.Texts.Name.{HasStar}
+use Rattle.gix_refspec_text.specs.Texts.Bytes.{head}
+use Rattle.gix_refspec_text.specs.Specs.Reading.{Reading}
+use Rattle.gix_refspec_text.specs.Specs.Grammar.{IsPositive, Reads}
+use Rattle.gix_refspec_text.specs.Specs.Meaning.{meaning_of, printed}
+use Rattle.gix_refspec_text.specs.Matching.Side.{object, HasKind}
+use Rattle.gix_refspec_text.specs.Matching.Match.{Ref, HasName, Matches, Takes}
+use Rattle.gix_refspec_text.specs.Matching.Prefix.{IsAsked, IsExpansion}
+use Rattle.gix_refspec_text.specs.Laws.Covering.{HasCoveringSource}
+use Rattle.gix_refspec_match.specs.Matching.Lists.{IsJoinedFrom}
+use Rattle.gix_refspec_match.specs.Matching.Mappings.{Start, name, id, Mapped, HasPair, IsStartExcluded}
+use Rattle.gix_refspec_match.specs.Matching.Hits.{Ends, AreForwardEnds, AreBackwardEnds, IsFilled, AreForward, AreBackward, AreKeptForward, AreKeptBackward}
 
 -- ---- both directions
 

@@ -2,8 +2,8 @@
 -- follows from the definitions in Name, and adds no rule.
 use Rattle.std.specs.Prelude.{ℕ, Bool, false, not, ◌||◌, ◌==◌, List, [], ◌∷◌, codes, IsTrue}
 use Rattle.std.specs.List.{list_all, list_any, slice_split}
-use Rattle.refspec_text.specs.Texts.Bytes.{slash}
-use Rattle.refspec_text.specs.Texts.Name.{is_refused_byte, IsName}
+use Rattle.gix_refspec_text.specs.Texts.Bytes.{slash}
+use Rattle.gix_refspec_text.specs.Texts.Name.{is_refused_byte, IsName}
 
 -- a byte that no name has, or that a name has only where its neighbours allow it: the slash, the dot, and `{`, which
 -- may not be after an at sign

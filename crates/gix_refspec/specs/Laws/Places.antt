@@ -2,10 +2,10 @@
 -- They follow from the definitions in Hits, Validation and RefNames, and add no rule.
 use Rattle.std.specs.Prelude.{◌≡◌, ◌↔◌, ℕ, List, Option, None, Some}
 use Rattle.std.specs.List.{AllByRecursion, Contains, slice_get}
-use Rattle.refspec_text.specs.Specs.Reading.{Reading}
-use Rattle.refspec_text.specs.Matching.Match.{Ref, Matches, Takes}
-use Rattle.refspec_match.specs.Matching.Mappings.{Start, name, id, Mapped}
-use Rattle.refspec_match.specs.Matching.Hits.{Ends, AreForwardEnds, AreBackwardEnds, AreKeptForward, AreKeptBackward}
+use Rattle.gix_refspec_text.specs.Specs.Reading.{Reading}
+use Rattle.gix_refspec_text.specs.Matching.Match.{Ref, Matches, Takes}
+use Rattle.gix_refspec_match.specs.Matching.Mappings.{Start, name, id, Mapped}
+use Rattle.gix_refspec_match.specs.Matching.Hits.{Ends, AreForwardEnds, AreBackwardEnds, AreKeptForward, AreKeptBackward}
 use Rattle.gix_refspec.specs.Laws.Matching.{IsPaired, PairsId, AtSpec}
 use Rattle.gix_refspec.specs.Matching.Validation.{Removed, Survives, IsValidated}
 use Rattle.gix_refspec.specs.Matching.RefNames.{LeftOut, IsNamed, KeepsNamed}

@@ -3,15 +3,15 @@
 -- rule.
 use Rattle.std.specs.Prelude.{◌≡◌, ◌≢◌, ◌<◌, ℕ, List, [], ◌∷◌, Option, None, Some}
 use Rattle.std.specs.List.{AllByRecursion}
-use Rattle.refspec_text.specs.declared.parsing.Operation.TheVariants.{Fetch}
-use Rattle.refspec_text.specs.Texts.Words.{Lacks}
-use Rattle.refspec_text.specs.Texts.ObjectId.{lower_of}
-use Rattle.refspec_text.specs.Specs.Reading.{Reading}
-use Rattle.refspec_text.specs.Specs.Grammar.{Reads}
-use Rattle.refspec_text.specs.Specs.Meaning.{printed}
-use Rattle.refspec_text.specs.Matching.Match.{Ref}
-use Rattle.refspec_match.specs.Matching.Mappings.{Start, name, id, Mapped, AreApart}
-use Rattle.refspec_match.specs.Matching.Hits.{AreKeptForward}
+use Rattle.gix_refspec_text.specs.declared.parsing.Operation.TheVariants.{Fetch}
+use Rattle.gix_refspec_text.specs.Texts.Words.{Lacks}
+use Rattle.gix_refspec_text.specs.Texts.ObjectId.{lower_of}
+use Rattle.gix_refspec_text.specs.Specs.Reading.{Reading}
+use Rattle.gix_refspec_text.specs.Specs.Grammar.{Reads}
+use Rattle.gix_refspec_text.specs.Specs.Meaning.{printed}
+use Rattle.gix_refspec_text.specs.Matching.Match.{Ref}
+use Rattle.gix_refspec_match.specs.Matching.Mappings.{Start, name, id, Mapped, AreApart}
+use Rattle.gix_refspec_match.specs.Matching.Hits.{AreKeptForward}
 use Rattle.gix_refspec.specs.Matching.Validation.{ForwardPlaces, Removed, IsValidated, NeverMeet}
 
 -- ---- what is told apart

@@ -2,9 +2,9 @@
 -- They follow from the definitions in Validation and Group, and add no rule.
 use Rattle.std.specs.Prelude.{◌≡◌, ℕ, List, map}
 use Rattle.gix_refspec.specs.declared.match_group.types.Outcome.{Outcome}
-use Rattle.refspec_text.specs.Specs.Reading.{Reading}
-use Rattle.refspec_match.specs.Matching.Mappings.{Mapped}
-use Rattle.refspec_match.specs.Views.Mapping.{mapped_of, AreMappingCopies}
+use Rattle.gix_refspec_text.specs.Specs.Reading.{Reading}
+use Rattle.gix_refspec_match.specs.Matching.Mappings.{Mapped}
+use Rattle.gix_refspec_match.specs.Views.Mapping.{mapped_of, AreMappingCopies}
 use Rattle.gix_refspec.specs.Views.Group.{readings_of}
 use Rattle.gix_refspec.specs.Matching.Validation.{Conflict, AreConflicts, AreSurvivors, Removed, AreFixes}
 

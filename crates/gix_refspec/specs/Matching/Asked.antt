@@ -3,15 +3,15 @@
 -- none: a pattern whose star is outside `refs/` or directly after it, or after a `]`.
 use Rattle.std.specs.Prelude.{◌≡◌, ◌⊎◌, ℕ, List, [], ◌∷◌}
 use Rattle.std.specs.List.{AllByRecursion, Any}
-use Rattle.refspec_text.specs.declared.parsing.Operation.TheVariants.{Fetch}
-use Rattle.refspec_text.specs.Texts.Words.{BeginsWith}
-use Rattle.refspec_text.specs.Specs.Reading.{Reading, Negative}
-use Rattle.refspec_text.specs.Matching.Side.{SideKind, pattern, full_name, object, partial, HasKind, candidates}
-use Rattle.refspec_text.specs.Matching.Prefix.{TellsPrefix, IsAsked}
-use Rattle.refspec_text.specs.Matching.Match.{Ref}
-use Rattle.refspec_match.specs.Matching.Lists.{IsJoinedFrom}
-use Rattle.refspec_match.specs.Matching.Mappings.{name, Mapped}
-use Rattle.refspec_match.specs.Matching.Hits.{AreKeptForward}
+use Rattle.gix_refspec_text.specs.declared.parsing.Operation.TheVariants.{Fetch}
+use Rattle.gix_refspec_text.specs.Texts.Words.{BeginsWith}
+use Rattle.gix_refspec_text.specs.Specs.Reading.{Reading, Negative}
+use Rattle.gix_refspec_text.specs.Matching.Side.{SideKind, pattern, full_name, object, partial, HasKind, candidates}
+use Rattle.gix_refspec_text.specs.Matching.Prefix.{TellsPrefix, IsAsked}
+use Rattle.gix_refspec_text.specs.Matching.Match.{Ref}
+use Rattle.gix_refspec_match.specs.Matching.Lists.{IsJoinedFrom}
+use Rattle.gix_refspec_match.specs.Matching.Mappings.{name, Mapped}
+use Rattle.gix_refspec_match.specs.Matching.Hits.{AreKeptForward}
 
 -- the list for a side of the kind: the text before the star of a pattern, if that is a prefix whatever follows; a full
 -- name; no name for an id; the candidates of a partial name

@@ -6,15 +6,15 @@ use Rattle.std.specs.List.{AllByRecursion}
 use Rattle.gix_refspec.specs.declared.match_group.names.BadSide.{BadSide}
 use Rattle.gix_refspec.specs.declared.match_group.names.BadSide.TheVariants.{Source, Destination, Both}
 use Rattle.gix_refspec.specs.declared.match_group.names.BadMapping.{BadMapping}
-use Rattle.refspec_text.specs.Texts.Bytes.{head, slash}
-use Rattle.refspec_text.specs.Texts.Words.{BeginsWith, ArePartsAt}
-use Rattle.refspec_text.specs.Texts.Name.{IsName}
-use Rattle.refspec_text.specs.Specs.Reading.{Reading}
-use Rattle.refspec_match.specs.Matching.Lists.{IsMadeFrom}
-use Rattle.refspec_text.specs.Matching.Match.{Ref}
-use Rattle.refspec_match.specs.Matching.Mappings.{Start, name, id, Mapped}
-use Rattle.refspec_match.specs.Views.Mapping.{mapped_of}
-use Rattle.refspec_match.specs.Matching.Hits.{AreKeptForward}
+use Rattle.gix_refspec_text.specs.Texts.Bytes.{head, slash}
+use Rattle.gix_refspec_text.specs.Texts.Words.{BeginsWith, ArePartsAt}
+use Rattle.gix_refspec_text.specs.Texts.Name.{IsName}
+use Rattle.gix_refspec_text.specs.Specs.Reading.{Reading}
+use Rattle.gix_refspec_match.specs.Matching.Lists.{IsMadeFrom}
+use Rattle.gix_refspec_text.specs.Matching.Match.{Ref}
+use Rattle.gix_refspec_match.specs.Matching.Mappings.{Start, name, id, Mapped}
+use Rattle.gix_refspec_match.specs.Views.Mapping.{mapped_of}
+use Rattle.gix_refspec_match.specs.Matching.Hits.{AreKeptForward}
 use Rattle.gix_refspec.specs.Matching.Validation.{IndexesFit, ForwardPlaces, IsValidated, NeverMeet, Removed}
 
 -- n may be the name of a ref: it begins `refs/` and is a name, or it is `HEAD`

@@ -7,14 +7,14 @@ use Rattle.std.specs.Ordering.{nat_cmp}
 use Rattle.std.specs.Cmp.Lexicographic.{slice_cmp}
 use Rattle.std.specs.List.{AllByRecursion, Contains, slice_get}
 use Rattle.std.specs.List.Sorted.{IsStrictlySortedBy}
-use Rattle.refspec_text.specs.Texts.Bytes.{head}
-use Rattle.refspec_text.specs.Texts.Words.{BeginsWith}
-use Rattle.refspec_text.specs.Specs.Reading.{Reading}
-use Rattle.refspec_text.specs.Specs.Meaning.{printed}
-use Rattle.refspec_match.specs.Matching.Lists.{IsMadeFrom}
-use Rattle.refspec_text.specs.Matching.Match.{Ref}
-use Rattle.refspec_match.specs.Matching.Mappings.{Start, name, id, Mapped, HasPair}
-use Rattle.refspec_match.specs.Matching.Hits.{AreKeptForward, AreKeptBackward}
+use Rattle.gix_refspec_text.specs.Texts.Bytes.{head}
+use Rattle.gix_refspec_text.specs.Texts.Words.{BeginsWith}
+use Rattle.gix_refspec_text.specs.Specs.Reading.{Reading}
+use Rattle.gix_refspec_text.specs.Specs.Meaning.{printed}
+use Rattle.gix_refspec_match.specs.Matching.Lists.{IsMadeFrom}
+use Rattle.gix_refspec_text.specs.Matching.Match.{Ref}
+use Rattle.gix_refspec_match.specs.Matching.Mappings.{Start, name, id, Mapped, HasPair}
+use Rattle.gix_refspec_match.specs.Matching.Hits.{AreKeptForward, AreKeptBackward}
 
 -- the spec of each mapping has a place in the group
 abbrev pub IndexesFit : List Reading → List Mapped → Type 0

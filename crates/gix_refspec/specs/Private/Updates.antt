@@ -7,10 +7,10 @@ use Rattle.std.specs.declared.cmp.Ordering.TheVariants.{Less}
 use Rattle.std.specs.List.{AllByRecursion, flat_map, slice_get}
 use Rattle.std.specs.List.Sorted.{IsStrictlySortedBy}
 use Rattle.gix_refspec.specs.declared.match_group.validate.conflicts.Update.{Update}
-use Rattle.refspec_text.specs.Specs.Reading.{Reading}
-use Rattle.refspec_match.specs.Matching.Mappings.{Mapped}
+use Rattle.gix_refspec_text.specs.Specs.Reading.{Reading}
+use Rattle.gix_refspec_match.specs.Matching.Mappings.{Mapped}
 use Rattle.gix_refspec.specs.Matching.Validation.{Conflict, IsConflict, IsFirstTo}
-use Rattle.refspec_match.specs.Private.Kept.{IsFlagged, name_hash}
+use Rattle.gix_refspec_match.specs.Private.Kept.{IsFlagged, name_hash}
 
 -- one of the updates is that of the destination d by the mapping at place k
 abbrev pub HasUpdate : List Update → ℕ → List ℕ → Type 0

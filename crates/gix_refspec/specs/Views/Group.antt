@@ -2,18 +2,18 @@
 use Rattle.std.specs.Prelude.{◌≡◌, ℕ, Bool, true, false, List, map, Option}
 use Rattle.std.specs.List.{filter}
 use Rattle.std.specs.Iterator.{Drains}
-use Rattle.refspec_match.specs.declared.types.Item.{Item}
-use Rattle.refspec_match.specs.declared.types.Mapping.{Mapping}
+use Rattle.gix_refspec_match.specs.declared.types.Item.{Item}
+use Rattle.gix_refspec_match.specs.declared.types.Mapping.{Mapping}
 use Rattle.gix_refspec.specs.declared.match_group.types.MatchGroup.{MatchGroup}
 use Rattle.gix_refspec.specs.declared.match_group.types.Outcome.{Outcome}
-use Rattle.refspec_text.specs.declared.parsing.Operation.{Operation}
-use Rattle.refspec_text.specs.declared.parsing.Operation.TheVariants.{Push, Fetch}
-use Rattle.refspec_text.specs.declared.spec.RefSpecRef.{RefSpecRef}
-use Rattle.refspec_text.specs.Specs.Reading.{Reading}
-use Rattle.refspec_text.specs.Views.Spec.{reading_of}
-use Rattle.refspec_text.specs.Matching.Match.{Ref}
-use Rattle.refspec_match.specs.Matching.Mappings.{Mapped}
-pub use Rattle.refspec_match.specs.Views.Mapping.{mapped_of, ref_of, name_bytes, start_of, IsBorrowed, IsOwned, IsLent, IsOwnedSource, HasOwned, IsNameCopy, IsSourceCopy, IsDestinationCopy, IsMappingCopy, AreMappingCopies, text_of_source}
+use Rattle.gix_refspec_text.specs.declared.parsing.Operation.{Operation}
+use Rattle.gix_refspec_text.specs.declared.parsing.Operation.TheVariants.{Push, Fetch}
+use Rattle.gix_refspec_text.specs.declared.spec.RefSpecRef.{RefSpecRef}
+use Rattle.gix_refspec_text.specs.Specs.Reading.{Reading}
+use Rattle.gix_refspec_text.specs.Views.Spec.{reading_of}
+use Rattle.gix_refspec_text.specs.Matching.Match.{Ref}
+use Rattle.gix_refspec_match.specs.Matching.Mappings.{Mapped}
+pub use Rattle.gix_refspec_match.specs.Views.Mapping.{mapped_of, ref_of, name_bytes, start_of, IsBorrowed, IsOwned, IsLent, IsOwnedSource, HasOwned, IsNameCopy, IsSourceCopy, IsDestinationCopy, IsMappingCopy, AreMappingCopies, text_of_source}
 
 -- what the specs of a group were read as
 abbrev pub readings_of : MatchGroup → List Reading

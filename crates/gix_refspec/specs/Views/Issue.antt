@@ -9,10 +9,10 @@ use Rattle.gix_refspec.specs.declared.match_group.validate.Fix.{Fix}
 use Rattle.gix_refspec.specs.declared.match_group.validate.Fix.TheVariants as fix
 use Rattle.gix_refspec.specs.declared.match_group.validate.Refusal.{Refusal}
 use Rattle.gix_refspec.specs.declared.match_group.validate.Refusal.TheVariants as refusal
-use Rattle.refspec_text.specs.Views.Spec.{owned_reading_of}
-use Rattle.refspec_match.specs.Matching.Mappings.{Mapped}
-use Rattle.refspec_match.specs.Views.Mapping.{mapped_of, start_of}
-use Rattle.refspec_text.specs.Specs.Meaning.{meaning_of}
+use Rattle.gix_refspec_text.specs.Views.Spec.{owned_reading_of}
+use Rattle.gix_refspec_match.specs.Matching.Mappings.{Mapped}
+use Rattle.gix_refspec_match.specs.Views.Mapping.{mapped_of, start_of}
+use Rattle.gix_refspec_text.specs.Specs.Meaning.{meaning_of}
 use Rattle.gix_refspec.specs.Matching.Validation.{Conflict, Removed}
 
 -- an outcome of matching from left to right

@@ -2,14 +2,14 @@
 
 ghost use Rattle.std.specs.Prelude.{◌≡◌, ◌↔◌, [], map, IfOk, IfErr, OnErr, IsTrue, MatchOption, Some};
 ghost use Rattle.std.specs.List.{AllByRecursion};
-ghost use Rattle.refspec_match.specs.Views.Mapping.{mapped_of, name_bytes, start_of};
+ghost use Rattle.gix_refspec_match.specs.Views.Mapping.{mapped_of, name_bytes, start_of};
 ghost use Rattle.gix_refspec.specs.Matching.RefNames.{AreLeftOut, IsBadAt, IsNamed, IsRefName, KeepsNamed, left_out_of};
 ghost use Rattle.gix_refspec.specs.Views.Issue.{mappings_of};
 
 use crate::match_group::types::match_lhs;
-use refspec_match::types::{Mapping, NameRef, SourceRef};
-use refspec_text::name::name_partial;
-use refspec_text::spec::prefix::is_head;
+use gix_refspec_match::types::{Mapping, NameRef, SourceRef};
+use gix_refspec_text::name::name_partial;
+use gix_refspec_text::spec::prefix::is_head;
 use std::alloc::{AllocError, Global};
 use std::{error, fmt};
 

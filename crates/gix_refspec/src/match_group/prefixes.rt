@@ -4,15 +4,15 @@ ghost use Rattle.std.specs.Prelude.{[], ℕ, List, map, MatchOption, IfOk, IfSom
 ghost use Rattle.bstr.specs.Owned.{bstring_bytes};
 ghost use Rattle.gix_refspec.specs.Matching.Asked.{HasNoList, Lists, ListsGroup, ListsSide, Serves};
 ghost use Rattle.gix_refspec.specs.Views.Group.{readings_of};
-ghost use Rattle.refspec_text.specs.Texts.Name.{HasSeveralStars};
-ghost use Rattle.refspec_text.specs.Views.Spec.{reading_of};
+ghost use Rattle.gix_refspec_text.specs.Texts.Name.{HasSeveralStars};
+ghost use Rattle.gix_refspec_text.specs.Views.Spec.{reading_of};
 
 use crate::match_group::types::MatchGroup;
 use bstr::BString;
-use refspec_text::RefSpecRef;
-use refspec_text::side::{SideKind, candidates, kind_of};
-use refspec_text::spec::prefix::{asked_side, one_entry, tells_prefix};
-use refspec_text::spec::sign::is_negative;
+use gix_refspec_text::RefSpecRef;
+use gix_refspec_text::side::{SideKind, candidates, kind_of};
+use gix_refspec_text::spec::prefix::{asked_side, one_entry, tells_prefix};
+use gix_refspec_text::spec::sign::is_negative;
 use std::alloc::{AllocError, Global};
 
 /// What to ask a server for.

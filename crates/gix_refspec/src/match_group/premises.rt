@@ -2,17 +2,17 @@
 
 ghost use Rattle.std.specs.Prelude.{◌↔◌, IsTrue, codes};
 ghost use Rattle.std.specs.List.{AllByRecursion};
-ghost use Rattle.refspec_text.specs.Texts.Words.{BeginsWith};
-ghost use Rattle.refspec_text.specs.Views.Spec.{reading_of};
+ghost use Rattle.gix_refspec_text.specs.Texts.Words.{BeginsWith};
+ghost use Rattle.gix_refspec_text.specs.Views.Spec.{reading_of};
 ghost use Rattle.gix_refspec.specs.Views.Group.{readings_of};
-ghost use Rattle.refspec_text.specs.Laws.Covering.{HasCoveringSource};
+ghost use Rattle.gix_refspec_text.specs.Laws.Covering.{HasCoveringSource};
 ghost use Rattle.gix_refspec.specs.Laws.Matching.{GoesBothWays};
 
 use crate::match_group::types::MatchGroup;
-use refspec_text::RefSpecRef;
-use refspec_text::cut::holds;
-use refspec_text::side::below_refs;
-use refspec_text::spec::sign::is_negative;
+use gix_refspec_text::RefSpecRef;
+use gix_refspec_text::cut::holds;
+use gix_refspec_text::side::below_refs;
+use gix_refspec_text::spec::sign::is_negative;
 
 impl<'a> MatchGroup<'a> {
     /// Whether each positive spec with two sides has two patterns, or two sides that begin `refs/`. Then

@@ -1,11 +1,11 @@
 //! Groups of specs, and what matching them gives.
 
 ghost use Rattle.std.specs.Prelude.{◌≡◌, [], Some, IfOk};
-ghost use Rattle.refspec_match.specs.Views.Mapping.{AreMappingCopies};
+ghost use Rattle.gix_refspec_match.specs.Views.Mapping.{AreMappingCopies};
 
-use refspec_match::types::Mapping;
-use refspec_text::RefSpecRef;
-use refspec_text::parsing::Operation;
+use gix_refspec_match::types::Mapping;
+use gix_refspec_text::RefSpecRef;
+use gix_refspec_text::parsing::Operation;
 use std::alloc::{AllocError, Global};
 use std::{error, fmt};
 

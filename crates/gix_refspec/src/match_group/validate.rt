@@ -2,8 +2,8 @@
 
 ghost use Rattle.std.specs.Prelude.{◌≡◌, ◌≢◌, ◌↔◌, [], map, IfOk, IfErr, OnErr, IsTrue};
 ghost use Rattle.std.specs.List.{AllByRecursion};
-ghost use Rattle.refspec_text.specs.Views.Spec.{reading_of};
-ghost use Rattle.refspec_match.specs.Views.Mapping.{mapped_of, name_bytes};
+ghost use Rattle.gix_refspec_text.specs.Views.Spec.{reading_of};
+ghost use Rattle.gix_refspec_match.specs.Views.Mapping.{mapped_of, name_bytes};
 ghost use Rattle.gix_refspec.specs.Views.Group.{readings_of};
 ghost use Rattle.gix_refspec.specs.Matching.Validation.{IndexesFit, AreConflicts, AreFixes, IsValidated, IsWritable, Survives};
 ghost use Rattle.gix_refspec.specs.Views.Issue.{mappings_of, removed_of};
@@ -13,9 +13,9 @@ mod conflicts;
 use crate::match_group::types::match_lhs;
 use bstr::BString;
 use conflicts::issues_of;
-use refspec_match::types::{Mapping, NameRef, Source};
-use refspec_text::spec::prefix::is_head;
-use refspec_text::{RefSpec, RefSpecRef};
+use gix_refspec_match::types::{Mapping, NameRef, Source};
+use gix_refspec_text::spec::prefix::is_head;
+use gix_refspec_text::{RefSpec, RefSpecRef};
 use std::alloc::{AllocError, Global};
 use std::{error, fmt};
 

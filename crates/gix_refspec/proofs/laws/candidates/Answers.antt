@@ -1,5 +1,5 @@
 -- Such a side is a partial name.
-use Rattle.refspec_text.proofs.lemmas.hits.MatchLemmas.{has_candidates}
+use Rattle.gix_refspec_text.proofs.lemmas.hits.MatchLemmas.{has_candidates}
 use Rattle.gix_refspec.proofs.laws.candidates.Goals as goal
 
 pub returns : goal.returns

@@ -1,6 +1,6 @@
 -- A side that matches begins with what it expands to, and what is kept is a part of what is matched.
 use Rattle.std.proofs.Common.{map}
-use Rattle.refspec_match.specs.Views.Mapping.{ref_of}
+use Rattle.gix_refspec_match.specs.Views.Mapping.{ref_of}
 use Rattle.gix_refspec.specs.Views.Group.{readings_of}
 use Rattle.gix_refspec.proofs.lemmas.prefixes.CoverLemmas.{cover, cover_together}
 use Rattle.gix_refspec.proofs.laws.cover.Goals as goal

@@ -5,11 +5,11 @@ use Rattle.std.proofs.lemmas.Slice.Eq.{bytes_eq-Decides}
 use Rattle.gix_refspec.specs.contracts.match_group.validate.FixPartialEq.TheImpl.{ghosts}
 use Rattle.gix_refspec.specs.declared.match_group.validate.Fix.{Fix}
 use Rattle.gix_refspec.specs.declared.match_group.validate.Fix.TheVariants as fix
-use Rattle.refspec_text.specs.Specs.Meaning.{meaning_of}
-use Rattle.refspec_text.specs.Views.Spec.{owned_reading_of}
+use Rattle.gix_refspec_text.specs.Specs.Meaning.{meaning_of}
+use Rattle.gix_refspec_text.specs.Views.Spec.{owned_reading_of}
 use Rattle.gix_refspec.specs.Views.Issue.{IsSameFix}
-use Rattle.refspec_text.proofs.lemmas.lists.EqualLemmas.{both_true, true_of_both}
-use Rattle.refspec_text.proofs.lemmas.specs.SpecLemmas.{equal_keys}
+use Rattle.gix_refspec_text.proofs.lemmas.lists.EqualLemmas.{both_true, true_of_both}
+use Rattle.gix_refspec_text.proofs.lemmas.specs.SpecLemmas.{equal_keys}
 use Rattle.gix_refspec.proofs.laws.equal_fixes.Goals as goal
 
 same_fix : (a b : Fix) → IsTrue (ghosts.eq a b) ↔ IsSameFix a b

@@ -3,18 +3,18 @@ use Rattle.std.proofs.Common.{◌≡◌, ◌↔◌, true, ap, IsTrue}
 use Rattle.bstr.specs.Owned.{bstring_bytes}
 use Rattle.bstr.specs.contracts.bstring.BStringPartialEq.TheImpl.{ghosts as compared_texts}
 use Rattle.std.proofs.lemmas.Slice.Eq.{bytes_eq-Decides}
-use Rattle.refspec_match.specs.contracts.types.SourceRefPartialEq.TheImpl.{ghosts as compared_sources}
+use Rattle.gix_refspec_match.specs.contracts.types.SourceRefPartialEq.TheImpl.{ghosts as compared_sources}
 use Rattle.gix_refspec.specs.contracts.match_group.validate.IssuePartialEq.TheImpl.{ghosts}
-use Rattle.refspec_match.specs.declared.types.SourceRef.{SourceRef}
-use Rattle.refspec_match.specs.declared.types.SourceRef.TheVariants as source_ref
+use Rattle.gix_refspec_match.specs.declared.types.SourceRef.{SourceRef}
+use Rattle.gix_refspec_match.specs.declared.types.SourceRef.TheVariants as source_ref
 use Rattle.gix_refspec.specs.declared.match_group.validate.Issue.{Issue}
 use Rattle.gix_refspec.specs.declared.match_group.validate.Issue.TheVariants as issue
-use Rattle.refspec_match.specs.Matching.Mappings.{name, id}
-use Rattle.refspec_text.specs.Texts.ObjectId.{id_bytes}
-use Rattle.refspec_match.specs.Views.Mapping.{name_bytes, start_of}
+use Rattle.gix_refspec_match.specs.Matching.Mappings.{name, id}
+use Rattle.gix_refspec_text.specs.Texts.ObjectId.{id_bytes}
+use Rattle.gix_refspec_match.specs.Views.Mapping.{name_bytes, start_of}
 use Rattle.gix_refspec.specs.Matching.Validation.{Conflict}
 use Rattle.gix_refspec.specs.Views.Issue.{conflict_of}
-use Rattle.refspec_text.proofs.lemmas.lists.EqualLemmas.{both_true, same_keys, true_of_both}
+use Rattle.gix_refspec_text.proofs.lemmas.lists.EqualLemmas.{both_true, same_keys, true_of_both}
 use Rattle.gix_refspec.proofs.laws.equal_issues.Goals as goal
 
 same_source : (a b : SourceRef) → (compared_sources.eq a b ≡ true) ↔ (start_of a ≡ start_of b)

@@ -1,7 +1,7 @@
 -- Each spec is accepted for some text.
-use Rattle.refspec_text.specs.Specs.Meaning.{meaning_of}
-use Rattle.refspec_text.specs.Views.Spec.{reading_of}
-use Rattle.refspec_text.proofs.lemmas.specs.SpecLemmas.{equal_readings, equal_keys}
+use Rattle.gix_refspec_text.specs.Specs.Meaning.{meaning_of}
+use Rattle.gix_refspec_text.specs.Views.Spec.{reading_of}
+use Rattle.gix_refspec_text.proofs.lemmas.specs.SpecLemmas.{equal_readings, equal_keys}
 use Rattle.gix_refspec.proofs.laws.equal_specs.Goals as goal
 
 pub returns-clause-same : goal.returns-clause-same

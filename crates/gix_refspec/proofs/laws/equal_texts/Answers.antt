@@ -1,5 +1,5 @@
 -- A canonical text has one reading.
-use Rattle.refspec_text.proofs.lemmas.specs.FormsBackLemmas.{equal_texts}
+use Rattle.gix_refspec_text.proofs.lemmas.specs.FormsBackLemmas.{equal_texts}
 use Rattle.gix_refspec.proofs.laws.equal_texts.Goals as goal
 
 pub returns : goal.returns

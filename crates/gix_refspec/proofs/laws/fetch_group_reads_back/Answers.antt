@@ -1,6 +1,6 @@
 -- Fetches of one meaning have the same sides, and both are negative or neither.
 use Rattle.std.proofs.Common.{map}
-use Rattle.refspec_match.specs.Views.Mapping.{ref_of}
+use Rattle.gix_refspec_match.specs.Views.Mapping.{ref_of}
 use Rattle.gix_refspec.specs.Views.Group.{readings_of}
 use Rattle.gix_refspec.proofs.lemmas.keep.AlikeLemmas.{reads_back}
 use Rattle.gix_refspec.proofs.laws.fetch_group_reads_back.Goals as goal

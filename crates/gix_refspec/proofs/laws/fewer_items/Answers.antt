@@ -1,6 +1,6 @@
 -- Whatever the readings and the refs are.
 use Rattle.std.proofs.Common.{map}
-use Rattle.refspec_match.specs.Views.Mapping.{ref_of}
+use Rattle.gix_refspec_match.specs.Views.Mapping.{ref_of}
 use Rattle.gix_refspec.specs.Views.Group.{readings_of}
 use Rattle.gix_refspec.proofs.lemmas.keep.FilterLemmas.{filtered_items}
 use Rattle.gix_refspec.proofs.lemmas.keep.ItemLemmas.{fewer_items}

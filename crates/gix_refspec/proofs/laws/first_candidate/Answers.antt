@@ -1,7 +1,7 @@
 -- A partial source takes the first of its candidates that is there.
 use Rattle.std.proofs.Common.{map}
-use Rattle.refspec_match.specs.Views.Mapping.{ref_of}
-use Rattle.refspec_text.proofs.lemmas.hits.CandidateLemmas.{takes_first}
+use Rattle.gix_refspec_match.specs.Views.Mapping.{ref_of}
+use Rattle.gix_refspec_text.proofs.lemmas.hits.CandidateLemmas.{takes_first}
 use Rattle.gix_refspec.proofs.laws.first_candidate.Goals as goal
 
 pub returns : goal.returns

@@ -1,5 +1,5 @@
 -- The length decides, and then the digits.
-use Rattle.refspec_text.proofs.lemmas.texts.ObjectIdLemmas.{id_or_fault}
+use Rattle.gix_refspec_text.proofs.lemmas.texts.ObjectIdLemmas.{id_or_fault}
 use Rattle.gix_refspec.proofs.laws.id_or_fault.Goals as goal
 
 pub returns : goal.returns

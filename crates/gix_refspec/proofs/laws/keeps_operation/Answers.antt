@@ -1,5 +1,5 @@
 -- By the forms.
-use Rattle.refspec_text.proofs.lemmas.specs.SpecLemmas.{keeps_operation}
+use Rattle.gix_refspec_text.proofs.lemmas.specs.SpecLemmas.{keeps_operation}
 use Rattle.gix_refspec.proofs.laws.keeps_operation.Goals as goal
 
 pub returns : goal.returns

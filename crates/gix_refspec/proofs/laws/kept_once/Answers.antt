@@ -1,6 +1,6 @@
 -- What is kept in either direction is kept of some list.
 use Rattle.std.proofs.Common.{inl, inr}
-use Rattle.refspec_match.proofs.lemmas.keep.KeptLemmas.{kept_once}
+use Rattle.gix_refspec_match.proofs.lemmas.keep.KeptLemmas.{kept_once}
 use Rattle.gix_refspec.proofs.laws.kept_once.Goals as goal
 
 pub returns : goal.returns

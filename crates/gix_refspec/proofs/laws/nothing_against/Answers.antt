@@ -1,5 +1,5 @@
 -- A text with one star is no pattern for another reason than a fault.
-use Rattle.refspec_text.proofs.lemmas.parsing.SideLemmas.{nothing_against}
+use Rattle.gix_refspec_text.proofs.lemmas.parsing.SideLemmas.{nothing_against}
 use Rattle.gix_refspec.proofs.laws.nothing_against.Goals as goal
 
 pub returns : goal.returns

@@ -1,5 +1,5 @@
 -- A text is cut at its star in one way, and the other kinds exclude one another.
-use Rattle.refspec_match.proofs.lemmas.hits.HitLemmas.{one_kind}
+use Rattle.gix_refspec_match.proofs.lemmas.hits.HitLemmas.{one_kind}
 use Rattle.gix_refspec.proofs.laws.one_kind.Goals as goal
 
 pub returns : goal.returns

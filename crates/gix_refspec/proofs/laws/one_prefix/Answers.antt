@@ -1,5 +1,5 @@
 -- By the cases of a prefix, and of what a side is expanded to.
-use Rattle.refspec_text.proofs.lemmas.prefixes.OnePrefixLemmas.{one_prefix}
+use Rattle.gix_refspec_text.proofs.lemmas.prefixes.OnePrefixLemmas.{one_prefix}
 use Rattle.gix_refspec.proofs.laws.one_prefix.Goals as goal
 
 pub returns : goal.returns

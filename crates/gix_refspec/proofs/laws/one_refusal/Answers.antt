@@ -1,5 +1,5 @@
 -- The parts of a text are its only ones, and the first reason against them is one.
-use Rattle.refspec_text.proofs.lemmas.parsing.RefusalLemmas.{one_refusal}
+use Rattle.gix_refspec_text.proofs.lemmas.parsing.RefusalLemmas.{one_refusal}
 use Rattle.gix_refspec.proofs.laws.one_refusal.Goals as goal
 
 pub returns : goal.returns

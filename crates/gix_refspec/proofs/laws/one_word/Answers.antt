@@ -1,5 +1,5 @@
 -- The texts round the word cancel.
-use Rattle.refspec_text.proofs.lemmas.hits.MatchLemmas.{one_word}
+use Rattle.gix_refspec_text.proofs.lemmas.hits.MatchLemmas.{one_word}
 use Rattle.gix_refspec.proofs.laws.one_word.Goals as goal
 
 pub returns : goal.returns

@@ -1,5 +1,5 @@
 -- By the kind of the side.
-use Rattle.refspec_text.proofs.lemmas.hits.MatchLemmas.{prefix_begins}
+use Rattle.gix_refspec_text.proofs.lemmas.hits.MatchLemmas.{prefix_begins}
 use Rattle.gix_refspec.proofs.laws.prefix_begins.Goals as goal
 
 pub returns : goal.returns

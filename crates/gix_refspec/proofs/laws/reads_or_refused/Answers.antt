@@ -1,5 +1,5 @@
 -- Each text is decided, and has one reading at most.
-use Rattle.refspec_text.proofs.lemmas.specs.FormsBackLemmas.{once_or_refused}
+use Rattle.gix_refspec_text.proofs.lemmas.specs.FormsBackLemmas.{once_or_refused}
 use Rattle.gix_refspec.proofs.laws.reads_or_refused.Goals as goal
 
 pub returns : goal.returns

@@ -1,5 +1,5 @@
 -- What a reason is against has no reading.
-use Rattle.refspec_text.proofs.lemmas.parsing.ReadsLemmas.{refused}
+use Rattle.gix_refspec_text.proofs.lemmas.parsing.ReadsLemmas.{refused}
 use Rattle.gix_refspec.proofs.laws.reason_refuses.Goals as goal
 
 pub returns : goal.returns

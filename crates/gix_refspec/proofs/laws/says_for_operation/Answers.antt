@@ -1,6 +1,6 @@
 -- By the forms of what a reading says.
-use Rattle.refspec_text.specs.Views.Spec.{reading_of}
-use Rattle.refspec_text.proofs.lemmas.specs.SpecLemmas.{says_for_operation}
+use Rattle.gix_refspec_text.specs.Views.Spec.{reading_of}
+use Rattle.gix_refspec_text.proofs.lemmas.specs.SpecLemmas.{says_for_operation}
 use Rattle.gix_refspec.proofs.laws.says_for_operation.Goals as goal
 
 pub returns : goal.returns

@@ -1,6 +1,6 @@
 -- What is left was there before, when nothing was in conflict.
 use Rattle.std.proofs.Common.{map}
-use Rattle.refspec_match.specs.Views.Mapping.{ref_of}
+use Rattle.gix_refspec_match.specs.Views.Mapping.{ref_of}
 use Rattle.gix_refspec.specs.Views.Group.{readings_of}
 use Rattle.gix_refspec.proofs.lemmas.validate.AfterLemmas.{validated_once}
 use Rattle.gix_refspec.proofs.laws.validated_once.Goals as goal

@@ -4,8 +4,8 @@ use Rattle.std.proofs.Common.{◌≡◌, List, Option, sym, ap, ◌∙◌, map-i
 use Rattle.std.specs.List.{filter}
 use Rattle.std.proofs.lemmas.Iterator.{YieldsList, items_from_drains}
 use Rattle.gix_refspec.specs.declared.match_group.types.MatchGroup.{MatchGroup}
-use Rattle.refspec_text.specs.declared.parsing.Operation.{Operation}
-use Rattle.refspec_text.specs.declared.spec.RefSpecRef.{RefSpecRef}
+use Rattle.gix_refspec_text.specs.declared.parsing.Operation.{Operation}
+use Rattle.gix_refspec_text.specs.declared.spec.RefSpecRef.{RefSpecRef}
 use Rattle.gix_refspec.specs.Views.Group.{is_for, IsGathered}
 
 -- a group that was gathered from an iterator has the specs of the operation among all that this gives

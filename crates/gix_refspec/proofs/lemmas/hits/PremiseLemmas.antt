@@ -1,13 +1,13 @@
 -- What a look at the sides tells of whether a reading goes both ways.
 use Rattle.std.proofs.Common.{◌≡◌, ◌⊎◌, inl, inr, ◌↔◌, IsTrue, ℕ, Bool, true, List, [], ◌∷◌, codes, Option, Some, refl, ap, subst}
 use Rattle.std.proofs.lemmas.Bool.{cases_eq}
-use Rattle.refspec_text.specs.Texts.Words.{BeginsWith, Lacks}
-use Rattle.refspec_text.specs.Texts.Bytes.{star}
-use Rattle.refspec_text.specs.Texts.Name.{HasStar}
-use Rattle.refspec_text.specs.Specs.Reading.{Reading}
-use Rattle.refspec_text.specs.Specs.Grammar.{IsAccepted, IsPositive}
-use Rattle.refspec_text.proofs.lemmas.texts.TextLemmas.{Lacks-Holds}
-use Rattle.refspec_text.proofs.lemmas.specs.AcceptedLemmas.{accepted_balanced}
+use Rattle.gix_refspec_text.specs.Texts.Words.{BeginsWith, Lacks}
+use Rattle.gix_refspec_text.specs.Texts.Bytes.{star}
+use Rattle.gix_refspec_text.specs.Texts.Name.{HasStar}
+use Rattle.gix_refspec_text.specs.Specs.Reading.{Reading}
+use Rattle.gix_refspec_text.specs.Specs.Grammar.{IsAccepted, IsPositive}
+use Rattle.gix_refspec_text.proofs.lemmas.texts.TextLemmas.{Lacks-Holds}
+use Rattle.gix_refspec_text.proofs.lemmas.specs.AcceptedLemmas.{accepted_balanced}
 use Rattle.gix_refspec.specs.Laws.Matching.{GoesBothWays}
 
 star_or_none : (x : List ℕ) → HasStar x ⊎ Lacks star x

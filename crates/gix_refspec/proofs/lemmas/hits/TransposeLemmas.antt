@@ -4,27 +4,27 @@ use Rattle.std.proofs.Common.{◌≡◌, ◌⊎◌, inl, inr, ℕ, List, [], ◌
 use Rattle.std.specs.List.{AllByRecursion}
 use Rattle.std.specs.Prelude.{IsSome}
 use Rattle.std.proofs.lemmas.Bool.{false≢true}
-use Rattle.refspec_match.specs.declared.hits.ends.Direction.TheVariants.{Forward, Backward}
-use Rattle.refspec_text.specs.declared.spec.RefSpecRef.{RefSpecRef}
-use Rattle.refspec_text.specs.Texts.Words.{Lacks, BeginsWith}
-use Rattle.refspec_text.specs.Texts.Bytes.{star}
-use Rattle.refspec_text.specs.Texts.Name.{HasStar, HasSeveralStars, HasOneStar, IsCut}
-use Rattle.refspec_text.specs.Specs.Reading.{Reading}
-use Rattle.refspec_text.specs.Specs.Grammar.{IsAccepted, IsPositive}
-use Rattle.refspec_text.specs.Specs.Refusal.{IsOneStarred}
-use Rattle.refspec_text.specs.Views.Spec.{reading_of}
-use Rattle.refspec_text.specs.Matching.Side.{SideKind, pattern, full_name, object, partial, HasKind, Fits, filled}
-use Rattle.refspec_text.specs.Matching.Match.{Ref, MatchesAs, Matches, HasName, Takes}
-use Rattle.refspec_match.specs.Matching.Mappings.{name, Mapped, IsSamePair, HasPair}
-use Rattle.refspec_match.specs.Matching.Hits.{Ends, AreForwardEnds, AreBackwardEnds, IsFilled, Hit, forward_of, backward_of, IsIdMapping, AreForward, AreBackward}
+use Rattle.gix_refspec_match.specs.declared.hits.ends.Direction.TheVariants.{Forward, Backward}
+use Rattle.gix_refspec_text.specs.declared.spec.RefSpecRef.{RefSpecRef}
+use Rattle.gix_refspec_text.specs.Texts.Words.{Lacks, BeginsWith}
+use Rattle.gix_refspec_text.specs.Texts.Bytes.{star}
+use Rattle.gix_refspec_text.specs.Texts.Name.{HasStar, HasSeveralStars, HasOneStar, IsCut}
+use Rattle.gix_refspec_text.specs.Specs.Reading.{Reading}
+use Rattle.gix_refspec_text.specs.Specs.Grammar.{IsAccepted, IsPositive}
+use Rattle.gix_refspec_text.specs.Specs.Refusal.{IsOneStarred}
+use Rattle.gix_refspec_text.specs.Views.Spec.{reading_of}
+use Rattle.gix_refspec_text.specs.Matching.Side.{SideKind, pattern, full_name, object, partial, HasKind, Fits, filled}
+use Rattle.gix_refspec_text.specs.Matching.Match.{Ref, MatchesAs, Matches, HasName, Takes}
+use Rattle.gix_refspec_match.specs.Matching.Mappings.{name, Mapped, IsSamePair, HasPair}
+use Rattle.gix_refspec_match.specs.Matching.Hits.{Ends, AreForwardEnds, AreBackwardEnds, IsFilled, Hit, forward_of, backward_of, IsIdMapping, AreForward, AreBackward}
 use Rattle.gix_refspec.specs.Laws.Matching.{IsSourceAmong, IsDestinationAmong, GoesBothWays, Transpose}
-use Rattle.refspec_text.proofs.lemmas.texts.TextLemmas.{Lacks-Holds}
-use Rattle.refspec_text.proofs.lemmas.parsing.DecideLemmas.{FirstPlace, lacks_or_first}
-use Rattle.refspec_text.proofs.lemmas.specs.AcceptedLemmas.{accepted_few, accepted_balanced}
-use Rattle.refspec_match.proofs.lemmas.hits.HitLemmas.{one_kind, matches_as}
-use Rattle.refspec_match.proofs.lemmas.keep.KeptPairLemmas.{IsOfPair, Any-HasPair, HasPair-Any, kept_pairs}
-use Rattle.refspec_match.proofs.lemmas.hits.ReachLemmas.{Reaches, hits_reach, reach_hits}
-use Rattle.refspec_match.proofs.lemmas.lists.SomeLemmas.{Any, Any-right, Any-cases, Any-from_map, Any-map, Any-all, Any-weaker, Any-fact, Any-both, made_any}
+use Rattle.gix_refspec_text.proofs.lemmas.texts.TextLemmas.{Lacks-Holds}
+use Rattle.gix_refspec_text.proofs.lemmas.parsing.DecideLemmas.{FirstPlace, lacks_or_first}
+use Rattle.gix_refspec_text.proofs.lemmas.specs.AcceptedLemmas.{accepted_few, accepted_balanced}
+use Rattle.gix_refspec_match.proofs.lemmas.hits.HitLemmas.{one_kind, matches_as}
+use Rattle.gix_refspec_match.proofs.lemmas.keep.KeptPairLemmas.{IsOfPair, Any-HasPair, HasPair-Any, kept_pairs}
+use Rattle.gix_refspec_match.proofs.lemmas.hits.ReachLemmas.{Reaches, hits_reach, reach_hits}
+use Rattle.gix_refspec_match.proofs.lemmas.lists.SomeLemmas.{Any, Any-right, Any-cases, Any-from_map, Any-map, Any-all, Any-weaker, Any-fact, Any-both, made_any}
 
 -- ---- two sides
 

@@ -4,21 +4,21 @@ use Rattle.std.specs.Prelude.{nat_eq}
 use Rattle.std.specs.Cmp.Lexicographic.{pointwise}
 use Rattle.std.specs.List.{AllZip}
 use Rattle.std.proofs.lemmas.Bool.{false≢true}
-use Rattle.refspec_text.specs.declared.parsing.Operation.{Operation}
-use Rattle.refspec_text.specs.declared.parsing.Operation.TheVariants.{Fetch}
-use Rattle.refspec_text.specs.declared.spec.RefSpecRef.{RefSpecRef}
-use Rattle.refspec_text.specs.Specs.Reading.{Mode, Normal, Forced, Negative, Reading}
-use Rattle.refspec_text.specs.Specs.Grammar.{IsPositive, IsAccepted, Reads}
-use Rattle.refspec_text.specs.Specs.Meaning.{Meaning, fetch_only, fetch_exclude, fetch_and_update, meaning, meaning_of}
-use Rattle.refspec_text.specs.Views.Spec.{key_of_spec, reading_of}
-use Rattle.refspec_text.specs.Matching.Match.{Ref, Matches, Takes}
-use Rattle.refspec_match.specs.Matching.Lists.{MakesOf, IsMadeFrom, IsJoinedFrom}
-use Rattle.refspec_match.specs.Matching.Mappings.{Start, name, id, Mapped, IsExcludedBy, IsExcluded, IsStartExcluded, IsKeptAt, IsKept}
-use Rattle.refspec_match.specs.Matching.Hits.{Ends, AreForwardEnds, AreBackwardEnds, Hit, IsFilled, AreSpecHits, AreHits, IsIdMapping, AreKeptForward, AreKeptBackward}
+use Rattle.gix_refspec_text.specs.declared.parsing.Operation.{Operation}
+use Rattle.gix_refspec_text.specs.declared.parsing.Operation.TheVariants.{Fetch}
+use Rattle.gix_refspec_text.specs.declared.spec.RefSpecRef.{RefSpecRef}
+use Rattle.gix_refspec_text.specs.Specs.Reading.{Mode, Normal, Forced, Negative, Reading}
+use Rattle.gix_refspec_text.specs.Specs.Grammar.{IsPositive, IsAccepted, Reads}
+use Rattle.gix_refspec_text.specs.Specs.Meaning.{Meaning, fetch_only, fetch_exclude, fetch_and_update, meaning, meaning_of}
+use Rattle.gix_refspec_text.specs.Views.Spec.{key_of_spec, reading_of}
+use Rattle.gix_refspec_text.specs.Matching.Match.{Ref, Matches, Takes}
+use Rattle.gix_refspec_match.specs.Matching.Lists.{MakesOf, IsMadeFrom, IsJoinedFrom}
+use Rattle.gix_refspec_match.specs.Matching.Mappings.{Start, name, id, Mapped, IsExcludedBy, IsExcluded, IsStartExcluded, IsKeptAt, IsKept}
+use Rattle.gix_refspec_match.specs.Matching.Hits.{Ends, AreForwardEnds, AreBackwardEnds, Hit, IsFilled, AreSpecHits, AreHits, IsIdMapping, AreKeptForward, AreKeptBackward}
 use Rattle.gix_refspec.specs.Laws.Matching.{ReadsAgainAs, AreReadAgain, MapAlike, FetchGroupReadsBack, FetchTheSame, EqualGroups, AreFetches}
-use Rattle.refspec_text.proofs.lemmas.lists.EqualLemmas.{same_keys}
-use Rattle.refspec_text.proofs.lemmas.specs.FormsBackLemmas.{some_once}
-use Rattle.refspec_text.proofs.lemmas.specs.SpecLemmas.{equal_keys, keeps_operation, printed_back, says, says_for_operation}
+use Rattle.gix_refspec_text.proofs.lemmas.lists.EqualLemmas.{same_keys}
+use Rattle.gix_refspec_text.proofs.lemmas.specs.FormsBackLemmas.{some_once}
+use Rattle.gix_refspec_text.proofs.lemmas.specs.SpecLemmas.{equal_keys, keeps_operation, printed_back, says, says_for_operation}
 
 -- ---- readings alike
 

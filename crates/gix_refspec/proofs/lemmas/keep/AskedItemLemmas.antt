@@ -1,20 +1,20 @@
 -- Over the items that a client is told of by what it asks for, the same pairs are kept.
 use Rattle.std.proofs.Common.{◌≡◌, inl, inr, ℕ, ◌+◌, List, [], ◌∷◌, sym, subst}
-use Rattle.refspec_text.specs.declared.parsing.Operation.TheVariants.{Fetch}
-use Rattle.refspec_text.specs.Texts.Words.{BeginsWith}
-use Rattle.refspec_text.specs.Specs.Grammar.{IsPositive}
-use Rattle.refspec_text.specs.Specs.Reading.{Reading}
-use Rattle.refspec_text.specs.Matching.Match.{Ref, Takes}
-use Rattle.refspec_match.specs.Matching.Lists.{IsJoinedFrom}
-use Rattle.refspec_match.specs.Matching.Hits.{AreForwardEnds}
+use Rattle.gix_refspec_text.specs.declared.parsing.Operation.TheVariants.{Fetch}
+use Rattle.gix_refspec_text.specs.Texts.Words.{BeginsWith}
+use Rattle.gix_refspec_text.specs.Specs.Grammar.{IsPositive}
+use Rattle.gix_refspec_text.specs.Specs.Reading.{Reading}
+use Rattle.gix_refspec_text.specs.Matching.Match.{Ref, Takes}
+use Rattle.gix_refspec_match.specs.Matching.Lists.{IsJoinedFrom}
+use Rattle.gix_refspec_match.specs.Matching.Hits.{AreForwardEnds}
 use Rattle.gix_refspec.specs.Laws.Matching.{AreFetches}
 use Rattle.gix_refspec.specs.Matching.Asked.{Lists, ListsSide}
 use Rattle.gix_refspec.specs.Laws.Items.{AskedItems, TakesItem}
 use Rattle.gix_refspec.proofs.lemmas.prefixes.AskedLemmas.{side_serves}
 use Rattle.gix_refspec.proofs.lemmas.prefixes.CoverLemmas.{source_asked}
 use Rattle.gix_refspec.proofs.lemmas.keep.ItemLemmas.{fewer_items}
-use Rattle.refspec_text.proofs.lemmas.prefixes.PrefixLemmas.{one_asked}
-use Rattle.refspec_match.proofs.lemmas.lists.SomeLemmas.{Any, Any-left, Any-right, some_at, some_of}
+use Rattle.gix_refspec_text.proofs.lemmas.prefixes.PrefixLemmas.{one_asked}
+use Rattle.gix_refspec_match.proofs.lemmas.lists.SomeLemmas.{Any, Any-left, Any-right, some_at, some_of}
 
 -- the reading takes the item among all
 abbrev TakesAmong : List Ref → Ref → Reading → Type 0

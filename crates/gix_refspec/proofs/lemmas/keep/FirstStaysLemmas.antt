@@ -3,14 +3,14 @@ use Rattle.std.proofs.Common.{◌≡◌, inl, inr, ◌↔◌, ℕ, zero, suc, �
 use Rattle.std.specs.List.{Contains}
 use Rattle.std.proofs.Math.Seq.{take-append_seam}
 use Rattle.std.proofs.lemmas.List.{append_assoc}
-use Rattle.refspec_text.specs.Specs.Reading.{Reading}
-use Rattle.refspec_text.specs.Matching.Match.{Ref}
-use Rattle.refspec_match.specs.Matching.Lists.{IsMadeFrom}
-use Rattle.refspec_match.specs.Matching.Mappings.{Mapped, HasPair, IsKept, IsStartExcluded, IsKeptAt}
+use Rattle.gix_refspec_text.specs.Specs.Reading.{Reading}
+use Rattle.gix_refspec_text.specs.Matching.Match.{Ref}
+use Rattle.gix_refspec_match.specs.Matching.Lists.{IsMadeFrom}
+use Rattle.gix_refspec_match.specs.Matching.Mappings.{Mapped, HasPair, IsKept, IsStartExcluded, IsKeptAt}
 use Rattle.gix_refspec.specs.Laws.Matching.{IsFirstOfPair, FirstStays}
-use Rattle.refspec_match.proofs.lemmas.hits.HitLemmas.{forward_once, backward_once}
-use Rattle.refspec_match.proofs.lemmas.keep.KeptPairLemmas.{Keeps}
-use Rattle.refspec_match.proofs.lemmas.lists.SomeLemmas.{Any, Any-right}
+use Rattle.gix_refspec_match.proofs.lemmas.hits.HitLemmas.{forward_once, backward_once}
+use Rattle.gix_refspec_match.proofs.lemmas.keep.KeptPairLemmas.{Keeps}
+use Rattle.gix_refspec_match.proofs.lemmas.lists.SomeLemmas.{Any, Any-right}
 
 -- an element is there by a place, or before or after
 pub there : (ys : List Mapped) (m : Mapped) → Contains ys m → Any (λ y. y ≡ m) ys

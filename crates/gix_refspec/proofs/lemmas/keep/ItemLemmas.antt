@@ -2,22 +2,22 @@
 use Rattle.std.proofs.Common.{◌≡◌, inl, inr, ◌↔◌, ℕ, zero, suc, List, [], ◌∷◌, Option, None, Some, refl, sym, ap, ◌∙◌, subst, arith}
 use Rattle.std.specs.List.{AllByRecursion, Any, Contains}
 use Rattle.std.proofs.lemmas.List.{append-nil}
-use Rattle.refspec_text.specs.Texts.Words.{Lacks}
-use Rattle.refspec_text.specs.Texts.Bytes.{star, head}
-use Rattle.refspec_text.specs.Specs.Reading.{Reading}
-use Rattle.refspec_text.specs.Matching.Side.{SideKind, pattern, full_name, object, partial, HasKind}
-use Rattle.refspec_text.specs.Matching.Match.{Ref, HasName, IsFirstCandidate, Matches, Takes}
-use Rattle.refspec_text.specs.Matching.Prefix.{of_head, to_prefix}
-use Rattle.refspec_match.specs.Matching.Mappings.{Start, name, id, Mapped, HasPair, IsStartExcluded}
-use Rattle.refspec_match.specs.Matching.Hits.{Ends, AreForwardEnds, AreBackwardEnds, AreKeptForward, AreKeptBackward}
+use Rattle.gix_refspec_text.specs.Texts.Words.{Lacks}
+use Rattle.gix_refspec_text.specs.Texts.Bytes.{star, head}
+use Rattle.gix_refspec_text.specs.Specs.Reading.{Reading}
+use Rattle.gix_refspec_text.specs.Matching.Side.{SideKind, pattern, full_name, object, partial, HasKind}
+use Rattle.gix_refspec_text.specs.Matching.Match.{Ref, HasName, IsFirstCandidate, Matches, Takes}
+use Rattle.gix_refspec_text.specs.Matching.Prefix.{of_head, to_prefix}
+use Rattle.gix_refspec_match.specs.Matching.Mappings.{Start, name, id, Mapped, HasPair, IsStartExcluded}
+use Rattle.gix_refspec_match.specs.Matching.Hits.{Ends, AreForwardEnds, AreBackwardEnds, AreKeptForward, AreKeptBackward}
 use Rattle.gix_refspec.specs.Laws.Matching.{PairsItem, MakesForward, MakesBackward, IsCoveredBy}
 use Rattle.gix_refspec.specs.Laws.Items.{ArePart, TakesItem, HasTaken, HaveSamePairs, FewerItems, IsListed, AreListedItems, ListedItems}
-use Rattle.refspec_text.proofs.lemmas.hits.CandidateLemmas.{first_candidate, first_once, some_first, taken_by_first}
+use Rattle.gix_refspec_text.proofs.lemmas.hits.CandidateLemmas.{first_candidate, first_once, some_first, taken_by_first}
 use Rattle.gix_refspec.proofs.lemmas.prefixes.CoverLemmas.{below_not_head, joined_covers, side_covers, source_asked}
-use Rattle.refspec_text.proofs.lemmas.specs.FormsBackLemmas.{some_once}
-use Rattle.refspec_text.proofs.lemmas.hits.MatchLemmas.{lacks_no_pattern}
+use Rattle.gix_refspec_text.proofs.lemmas.specs.FormsBackLemmas.{some_once}
+use Rattle.gix_refspec_text.proofs.lemmas.hits.MatchLemmas.{lacks_no_pattern}
 use Rattle.gix_refspec.proofs.lemmas.keep.PairMadeLemmas.{kept_exactly}
-use Rattle.refspec_match.proofs.lemmas.keep.RepeatLemmas.{all_weaker}
+use Rattle.gix_refspec_match.proofs.lemmas.keep.RepeatLemmas.{all_weaker}
 
 -- ---- names and items
 

@@ -1,13 +1,13 @@
 -- Over refs with the same names the same mappings are kept from left to right, as no source that takes refs looks at their
 -- ids; and from right to left where no destination is an id.
 use Rattle.std.proofs.Common.{◌≡◌, ℕ, ◌+◌, inl, inr, List, [], ◌∷◌, Option, None, Some, map, refl, sym, ap, ◌∙◌, subst, length, arith}
-use Rattle.refspec_text.specs.Specs.Reading.{Reading}
-use Rattle.refspec_text.specs.Matching.Side.{SideKind, pattern, full_name, object, partial, HasKind, Fits, IsCandidate}
-use Rattle.refspec_text.specs.Matching.Match.{Ref, Matches, MatchesAs, HasName, IsFirstCandidate, Takes}
-use Rattle.refspec_match.specs.Matching.Lists.{MakesOf, IsMadeFrom, IsJoinedFrom}
-use Rattle.refspec_match.specs.Matching.Hits.{Ends, AreBackwardEnds, AreForwardEnds, Hit, IsHit, AreSpecHits}
+use Rattle.gix_refspec_text.specs.Specs.Reading.{Reading}
+use Rattle.gix_refspec_text.specs.Matching.Side.{SideKind, pattern, full_name, object, partial, HasKind, Fits, IsCandidate}
+use Rattle.gix_refspec_text.specs.Matching.Match.{Ref, Matches, MatchesAs, HasName, IsFirstCandidate, Takes}
+use Rattle.gix_refspec_match.specs.Matching.Lists.{MakesOf, IsMadeFrom, IsJoinedFrom}
+use Rattle.gix_refspec_match.specs.Matching.Hits.{Ends, AreBackwardEnds, AreForwardEnds, Hit, IsHit, AreSpecHits}
 use Rattle.gix_refspec.specs.Laws.Items.{AsksForNoId, HasIdDestination, HaveSameNames, NamesDecide, NamesDecideBack}
-use Rattle.refspec_match.proofs.lemmas.keep.RepeatLemmas.{all_weaker}
+use Rattle.gix_refspec_match.proofs.lemmas.keep.RepeatLemmas.{all_weaker}
 
 -- lists with the same names are both empty, or begin with the same name
 no_name : (r : Ref) (refs : List Ref) → HaveSameNames [] (r ∷ refs) → ⊥

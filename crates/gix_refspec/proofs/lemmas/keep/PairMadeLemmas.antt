@@ -4,17 +4,17 @@ use Rattle.std.specs.List as lists
 use Rattle.std.specs.List.{AllByRecursion}
 use Rattle.std.specs.Prelude.{IsSome}
 use Rattle.std.proofs.lemmas.Bool.{false≢true}
-use Rattle.refspec_match.specs.declared.hits.ends.Direction.TheVariants.{Forward, Backward}
-use Rattle.refspec_text.specs.Specs.Reading.{Reading}
-use Rattle.refspec_text.specs.Matching.Match.{Ref, Matches, Takes}
-use Rattle.refspec_match.specs.Matching.Lists.{IsMadeFrom}
-use Rattle.refspec_match.specs.Matching.Mappings.{Start, name, id, Mapped, HasPair, IsStartExcluded, IsKeptAt}
-use Rattle.refspec_match.specs.Matching.Hits.{Ends, AreForwardEnds, AreBackwardEnds, IsFilled, Hit, IsIdMapping, AreForward, AreBackward, AreKeptForward, AreKeptBackward, forward_of, backward_of}
+use Rattle.gix_refspec_match.specs.declared.hits.ends.Direction.TheVariants.{Forward, Backward}
+use Rattle.gix_refspec_text.specs.Specs.Reading.{Reading}
+use Rattle.gix_refspec_text.specs.Matching.Match.{Ref, Matches, Takes}
+use Rattle.gix_refspec_match.specs.Matching.Lists.{IsMadeFrom}
+use Rattle.gix_refspec_match.specs.Matching.Mappings.{Start, name, id, Mapped, HasPair, IsStartExcluded, IsKeptAt}
+use Rattle.gix_refspec_match.specs.Matching.Hits.{Ends, AreForwardEnds, AreBackwardEnds, IsFilled, Hit, IsIdMapping, AreForward, AreBackward, AreKeptForward, AreKeptBackward, forward_of, backward_of}
 use Rattle.gix_refspec.specs.Laws.Matching.{IsPaired, PairsId, MakesForward, MakesBackward, KeptExactly, NothingExcluded}
-use Rattle.refspec_match.proofs.lemmas.hits.HitLemmas.{id_once}
-use Rattle.refspec_match.proofs.lemmas.keep.KeptPairLemmas.{IsOfPair, Any-HasPair, HasPair-Any, kept_pairs}
-use Rattle.refspec_match.proofs.lemmas.hits.ReachLemmas.{Reaches, hits_reach, reach_hits}
-use Rattle.refspec_match.proofs.lemmas.lists.SomeLemmas.{Any, Any-left, Any-right, Any-cases, Any-from_map, Any-map, Any-weaker, Any-fact, made_any, MakesOnly, any_made, some_at, some_of}
+use Rattle.gix_refspec_match.proofs.lemmas.hits.HitLemmas.{id_once}
+use Rattle.gix_refspec_match.proofs.lemmas.keep.KeptPairLemmas.{IsOfPair, Any-HasPair, HasPair-Any, kept_pairs}
+use Rattle.gix_refspec_match.proofs.lemmas.hits.ReachLemmas.{Reaches, hits_reach, reach_hits}
+use Rattle.gix_refspec_match.proofs.lemmas.lists.SomeLemmas.{Any, Any-left, Any-right, Any-cases, Any-from_map, Any-map, Any-weaker, Any-fact, made_any, MakesOnly, any_made, some_at, some_of}
 
 -- ---- what a reading reaches is what it makes
 

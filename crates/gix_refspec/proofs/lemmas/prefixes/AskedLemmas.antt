@@ -6,28 +6,28 @@ use Rattle.std.specs.List as lists
 use Rattle.std.specs.List.{AllByRecursion}
 use Rattle.std.proofs.lemmas.List.{append-nil, get_or-map, length-map, map-append}
 use Rattle.std.proofs.lemmas.List.Elements.{recursion_from_All}
-use Rattle.refspec_text.specs.declared.parsing.Operation.{Operation}
-use Rattle.refspec_text.specs.declared.parsing.Operation.TheVariants.{Fetch}
-use Rattle.refspec_text.specs.declared.spec.RefSpecRef.{RefSpecRef}
-use Rattle.refspec_text.specs.Views.Spec.{reading_of}
-use Rattle.refspec_text.specs.Texts.Words.{BeginsWith}
-use Rattle.refspec_text.specs.Texts.Name.{IsCut}
-use Rattle.refspec_text.specs.Specs.Grammar.{IsPositive}
-use Rattle.refspec_text.specs.Specs.Reading.{Reading, side_on_remote}
-use Rattle.refspec_text.specs.Matching.Side.{SideKind, pattern, full_name, object, partial, HasKind}
-use Rattle.refspec_text.specs.Matching.Match.{Ref, Matches, MatchesAs, Takes}
-use Rattle.refspec_text.specs.Matching.Prefix.{TellsPrefix, IsAsked}
-use Rattle.refspec_match.specs.Matching.Lists.{IsJoinedFrom}
-use Rattle.refspec_match.specs.Matching.Mappings.{Start, name}
-use Rattle.refspec_match.specs.Matching.Hits.{AreForwardEnds}
+use Rattle.gix_refspec_text.specs.declared.parsing.Operation.{Operation}
+use Rattle.gix_refspec_text.specs.declared.parsing.Operation.TheVariants.{Fetch}
+use Rattle.gix_refspec_text.specs.declared.spec.RefSpecRef.{RefSpecRef}
+use Rattle.gix_refspec_text.specs.Views.Spec.{reading_of}
+use Rattle.gix_refspec_text.specs.Texts.Words.{BeginsWith}
+use Rattle.gix_refspec_text.specs.Texts.Name.{IsCut}
+use Rattle.gix_refspec_text.specs.Specs.Grammar.{IsPositive}
+use Rattle.gix_refspec_text.specs.Specs.Reading.{Reading, side_on_remote}
+use Rattle.gix_refspec_text.specs.Matching.Side.{SideKind, pattern, full_name, object, partial, HasKind}
+use Rattle.gix_refspec_text.specs.Matching.Match.{Ref, Matches, MatchesAs, Takes}
+use Rattle.gix_refspec_text.specs.Matching.Prefix.{TellsPrefix, IsAsked}
+use Rattle.gix_refspec_match.specs.Matching.Lists.{IsJoinedFrom}
+use Rattle.gix_refspec_match.specs.Matching.Mappings.{Start, name}
+use Rattle.gix_refspec_match.specs.Matching.Hits.{AreForwardEnds}
 use Rattle.gix_refspec.specs.Laws.Matching.{MakesForward, PairsItem}
 use Rattle.gix_refspec.specs.Matching.Asked.{HasNoList, Lists, ListsAs, ListsGroup, ListsSide, Serves}
-use Rattle.refspec_match.proofs.lemmas.hits.HitLemmas.{one_kind}
-use Rattle.refspec_match.proofs.lemmas.lists.JoinLemmas.{joined_next, map_cut, map_long, map_more, nothing_joined}
-use Rattle.refspec_match.proofs.lemmas.keep.KeptLemmas.{HasPair-from_place}
+use Rattle.gix_refspec_match.proofs.lemmas.hits.HitLemmas.{one_kind}
+use Rattle.gix_refspec_match.proofs.lemmas.lists.JoinLemmas.{joined_next, map_cut, map_long, map_more, nothing_joined}
+use Rattle.gix_refspec_match.proofs.lemmas.keep.KeptLemmas.{HasPair-from_place}
 use Rattle.gix_refspec.proofs.lemmas.keep.PairMadeLemmas.{kept_exactly}
-use Rattle.refspec_text.proofs.lemmas.prefixes.PrefixLemmas.{one_asked}
-use Rattle.refspec_match.proofs.lemmas.lists.SomeLemmas.{Any, Any-left, Any-right, some_at, some_of}
+use Rattle.gix_refspec_text.proofs.lemmas.prefixes.PrefixLemmas.{one_asked}
+use Rattle.gix_refspec_match.proofs.lemmas.lists.SomeLemmas.{Any, Any-left, Any-right, some_at, some_of}
 
 -- ---- where there is no list, and where it isn't empty
 
@@ -38,19 +38,6 @@ list_as x k list kind lists = subst (λ (l : SideKind). ListsAs l list) (one_kin
 -- none for a pattern without a prefix
 pub no_list : (x before after : List ℕ) → IsCut before after x → ¬ (TellsPrefix before []) → (list : List (List ℕ)) → ¬ (ListsSide x list)
 no_list x before after cut vague list lists = vague (list_as x (pattern before after) list cut lists).0
-
-some_entry : (p : List ℕ) (list : List (List ℕ)) → [] ≡ p ∷ list → ⊥
-some_entry p list same = absurd (cc)
-
--- only for an id it is empty
-pub pattern_asks : (x before after : List ℕ) → IsCut before after x → ¬ (ListsSide x [])
-pattern_asks x before after cut lists = some_entry before [] (list_as x (pattern before after) [] cut lists).1
-
-pub name_asks : (x n : List ℕ) → HasKind x (full_name n) → ¬ (ListsSide x [])
-name_asks x n kind lists = some_entry n [] (list_as x (full_name n) [] kind lists)
-
-pub partial_asks : (x n : List ℕ) → HasKind x (partial n) → ¬ (ListsSide x [])
-partial_asks x n kind lists = some_entry _ _ (list_as x (partial n) [] kind lists)
 
 -- ---- what begins with an entry
 

@@ -2,24 +2,24 @@
 use Rattle.std.proofs.Common.{◌≡◌, ◌≢◌, inl, inr, ℕ, zero, suc, ◌+◌, List, [], ◌∷◌, ◌++◌, length, codes, map, Option, None, Some, get_or, refl, sym, ap, ◌∙◌, subst, length-append, arith}
 use Rattle.std.proofs.lemmas.List.{append-nil, append_assoc, get_or_append_left}
 use Rattle.std.specs.List.{AllByRecursion, Any, slice_get}
-use Rattle.refspec_text.specs.declared.parsing.Operation.{Operation}
-use Rattle.refspec_text.specs.declared.parsing.Operation.TheVariants.{Fetch}
-use Rattle.refspec_text.specs.Texts.Words.{Lacks, BeginsWith}
-use Rattle.refspec_text.specs.Texts.Bytes.{star, head}
-use Rattle.refspec_text.specs.Specs.Reading.{Reading, side_on_remote}
-use Rattle.refspec_text.specs.Matching.Side.{SideKind, pattern, full_name, object, partial, HasKind, IsId, IsCandidate, candidates}
-use Rattle.refspec_text.specs.Matching.Match.{Ref, Matches, Takes}
-use Rattle.refspec_text.specs.Matching.Prefix.{of_head, IsAsked, Expands, to_prefix, IsExpansion}
-use Rattle.refspec_match.specs.Matching.Lists.{IsMadeFrom, IsJoinedFrom}
-use Rattle.refspec_match.specs.Matching.Mappings.{name, id, Mapped, IsKeptAt}
-use Rattle.refspec_match.specs.Matching.Hits.{Ends, AreForwardEnds, Hit, IsHit, AreSpecHits, IsIdMapping, forward_of, AreForward}
-use Rattle.refspec_text.specs.Laws.Covering.{IsCovering, by_prefix, by_candidates}
+use Rattle.gix_refspec_text.specs.declared.parsing.Operation.{Operation}
+use Rattle.gix_refspec_text.specs.declared.parsing.Operation.TheVariants.{Fetch}
+use Rattle.gix_refspec_text.specs.Texts.Words.{Lacks, BeginsWith}
+use Rattle.gix_refspec_text.specs.Texts.Bytes.{star, head}
+use Rattle.gix_refspec_text.specs.Specs.Reading.{Reading, side_on_remote}
+use Rattle.gix_refspec_text.specs.Matching.Side.{SideKind, pattern, full_name, object, partial, HasKind, IsId, IsCandidate, candidates}
+use Rattle.gix_refspec_text.specs.Matching.Match.{Ref, Matches, Takes}
+use Rattle.gix_refspec_text.specs.Matching.Prefix.{of_head, IsAsked, Expands, to_prefix, IsExpansion}
+use Rattle.gix_refspec_match.specs.Matching.Lists.{IsMadeFrom, IsJoinedFrom}
+use Rattle.gix_refspec_match.specs.Matching.Mappings.{name, id, Mapped, IsKeptAt}
+use Rattle.gix_refspec_match.specs.Matching.Hits.{Ends, AreForwardEnds, Hit, IsHit, AreSpecHits, IsIdMapping, forward_of, AreForward}
+use Rattle.gix_refspec_text.specs.Laws.Covering.{IsCovering, by_prefix, by_candidates}
 use Rattle.gix_refspec.specs.Laws.Matching.{BeginsWithOne, IsCoveredBy, AsksFor, AtSpec, Cover, CoverTogether}
-use Rattle.refspec_text.proofs.lemmas.hits.MatchLemmas.{lacks_no_pattern, prefix_begins, has_candidates}
-use Rattle.refspec_text.proofs.lemmas.prefixes.OnePrefixLemmas.{one_prefix}
-use Rattle.refspec_text.proofs.lemmas.prefixes.PrefixLemmas.{one_asked}
+use Rattle.gix_refspec_text.proofs.lemmas.hits.MatchLemmas.{lacks_no_pattern, prefix_begins, has_candidates}
+use Rattle.gix_refspec_text.proofs.lemmas.prefixes.OnePrefixLemmas.{one_prefix}
+use Rattle.gix_refspec_text.proofs.lemmas.prefixes.PrefixLemmas.{one_asked}
 use Rattle.gix_refspec.proofs.lemmas.validate.PlaceFitLemmas.{stands_behind}
-use Rattle.refspec_match.proofs.lemmas.keep.RepeatLemmas.{all_join, all_weaker}
+use Rattle.gix_refspec_match.proofs.lemmas.keep.RepeatLemmas.{all_join, all_weaker}
 
 -- ---- some element of a list
 

@@ -3,14 +3,14 @@ use Rattle.std.proofs.Common.{◌≡◌, ◌≢◌, ◌⊎◌, inl, inr, ℕ, Bo
 use Rattle.std.specs.List.{AllByRecursion, join_with_byte, list_all, list_any, slice_split}
 use Rattle.std.proofs.lemmas.Bool.{and_parts, false≢true, or_left, or_parts, true≢false}
 use Rattle.std.proofs.lemmas.List.Splits.{join_with_byte-slice_split}
-use Rattle.refspec_text.specs.declared.name.Error.{Error}
-use Rattle.refspec_text.specs.declared.name.Error.TheVariants.{Empty, EmptyComponent, StartsWithDot, LockSuffix, EndsWithDot, RepeatedDot, ReflogPortion, Asterisk, InvalidByte}
-use Rattle.refspec_text.specs.Texts.Bytes.{at, brace, dot, slash, star}
-use Rattle.refspec_text.specs.Texts.Words.{BeginsWith, EndsWith, Holds}
-use Rattle.refspec_text.specs.Texts.Name.{is_refused_byte, HasFault, SomeComponent}
+use Rattle.gix_refspec_text.specs.declared.name.Error.{Error}
+use Rattle.gix_refspec_text.specs.declared.name.Error.TheVariants.{Empty, EmptyComponent, StartsWithDot, LockSuffix, EndsWithDot, RepeatedDot, ReflogPortion, Asterisk, InvalidByte}
+use Rattle.gix_refspec_text.specs.Texts.Bytes.{at, brace, dot, slash, star}
+use Rattle.gix_refspec_text.specs.Texts.Words.{BeginsWith, EndsWith, Holds}
+use Rattle.gix_refspec_text.specs.Texts.Name.{is_refused_byte, HasFault, SomeComponent}
 use Rattle.gix_refspec.specs.Laws.Names.{is_plain_component, is_plain_name, is_special_byte, PlainNames}
-use Rattle.refspec_text.proofs.lemmas.texts.ComponentLemmas.{AllByRecursion-append, AllByRecursion-parts}
-use Rattle.refspec_text.proofs.facts.FaultFacts.{no_component}
+use Rattle.gix_refspec_text.proofs.lemmas.texts.ComponentLemmas.{AllByRecursion-append, AllByRecursion-parts}
+use Rattle.gix_refspec_text.proofs.facts.FaultFacts.{no_component}
 
 -- ---- bytes
 

@@ -1,16 +1,16 @@
 -- Both sides of an accepted reading have a star or neither, and there is one kind, one word and one id.
 use Rattle.std.proofs.Common.{◌⊎◌, inl, inr, ℕ, List}
-use Rattle.refspec_text.specs.Texts.Words.{Lacks}
-use Rattle.refspec_text.specs.Texts.Bytes.{star}
-use Rattle.refspec_text.specs.Texts.Name.{HasStar, HasSeveralStars, HasOneStar}
-use Rattle.refspec_text.specs.Specs.Reading.{Reading}
-use Rattle.refspec_text.specs.Specs.Grammar.{IsAccepted}
-use Rattle.refspec_text.specs.Specs.Refusal.{IsOneStarred}
-use Rattle.refspec_text.specs.Laws.Sides.{SidesAgree, OneOfEach}
-use Rattle.refspec_text.proofs.lemmas.specs.AcceptedLemmas.{accepted_few, accepted_balanced}
-use Rattle.refspec_match.proofs.lemmas.hits.HitLemmas.{one_kind}
-use Rattle.refspec_text.proofs.lemmas.hits.MatchLemmas.{one_word}
-use Rattle.refspec_text.proofs.lemmas.texts.ObjectIdLemmas.{IsIdText-unique}
+use Rattle.gix_refspec_text.specs.Texts.Words.{Lacks}
+use Rattle.gix_refspec_text.specs.Texts.Bytes.{star}
+use Rattle.gix_refspec_text.specs.Texts.Name.{HasStar, HasSeveralStars, HasOneStar}
+use Rattle.gix_refspec_text.specs.Specs.Reading.{Reading}
+use Rattle.gix_refspec_text.specs.Specs.Grammar.{IsAccepted}
+use Rattle.gix_refspec_text.specs.Specs.Refusal.{IsOneStarred}
+use Rattle.gix_refspec_text.specs.Laws.Sides.{SidesAgree, OneOfEach}
+use Rattle.gix_refspec_text.proofs.lemmas.specs.AcceptedLemmas.{accepted_few, accepted_balanced}
+use Rattle.gix_refspec_match.proofs.lemmas.hits.HitLemmas.{one_kind}
+use Rattle.gix_refspec_text.proofs.lemmas.hits.MatchLemmas.{one_word}
+use Rattle.gix_refspec_text.proofs.lemmas.texts.ObjectIdLemmas.{IsIdText-unique}
 use Rattle.gix_refspec.proofs.lemmas.hits.TransposeLemmas.{one_star, starred}
 
 -- a text with few stars has one or none

@@ -2,15 +2,15 @@
 use Rattle.std.proofs.Common.{◌≡◌, inl, inr, ℕ, suc, ◌+◌, ◌<◌, ◌≤◌, List, [], ◌∷◌, None, Some, length, map, get_or, refl, sym, ◌∙◌, subst, arith}
 use Rattle.std.specs.List.{AllByRecursion, Contains}
 use Rattle.std.proofs.lemmas.List.Elements.{All-contains_itself, All-from_recursion, Contains-get_or, recursion_from_All}
-use Rattle.refspec_text.specs.Specs.Reading.{Reading}
-use Rattle.refspec_match.specs.Matching.Lists.{IsMadeFrom, IsJoinedFrom}
-use Rattle.refspec_text.specs.Matching.Match.{Ref, Takes}
-use Rattle.refspec_match.specs.Matching.Mappings.{Mapped, IsSamePair, AreApart, IsKeptAt}
-use Rattle.refspec_match.specs.Matching.Hits.{AreForwardEnds, AreKeptForward, AreSpecHits, Hit, IsHit, IsIdMapping, forward_of}
+use Rattle.gix_refspec_text.specs.Specs.Reading.{Reading}
+use Rattle.gix_refspec_match.specs.Matching.Lists.{IsMadeFrom, IsJoinedFrom}
+use Rattle.gix_refspec_text.specs.Matching.Match.{Ref, Takes}
+use Rattle.gix_refspec_match.specs.Matching.Mappings.{Mapped, IsSamePair, AreApart, IsKeptAt}
+use Rattle.gix_refspec_match.specs.Matching.Hits.{AreForwardEnds, AreKeptForward, AreSpecHits, Hit, IsHit, IsIdMapping, forward_of}
 use Rattle.gix_refspec.specs.Matching.Validation.{AreConflicts, ForwardFits, HaveOneSource, IsValidated, MeetAt, NeverMeet, Removed, Survives, ValidatedOnce}
 use Rattle.gix_refspec.proofs.lemmas.validate.FirstLemmas.{start_cases}
-use Rattle.refspec_match.proofs.lemmas.keep.KeptLemmas.{kept_once}
-use Rattle.refspec_match.proofs.lemmas.keep.RepeatLemmas.{all_join}
+use Rattle.gix_refspec_match.proofs.lemmas.keep.KeptLemmas.{kept_once}
+use Rattle.gix_refspec_match.proofs.lemmas.keep.RepeatLemmas.{all_join}
 
 -- what is made of each element, where what a relation makes has P
 pub made_each : {X Y : Type 0} (R : ℕ → X → Y → Type 0) (P : Y → Type 0) (n : ℕ) → ((k : ℕ) (x : X) (y : Y) → k < n → R k x y → P y) → (k : ℕ) (xs : List X) (ys : List Y) → k + length xs ≤ n → IsMadeFrom R k xs ys → AllByRecursion P ys

@@ -3,12 +3,12 @@ use Rattle.std.proofs.Common.{◌≡◌, ◌≢◌, inl, ℕ, zero, suc, ◌<◌
 use Rattle.std.specs.List.{AllByRecursion, slice_get}
 use Rattle.std.specs.List.Sorted.{IsPermutation}
 use Rattle.std.proofs.lemmas.List.Sorted.{IsPermutation-sym}
-use Rattle.refspec_match.specs.Matching.Mappings.{Mapped}
+use Rattle.gix_refspec_match.specs.Matching.Mappings.{Mapped}
 use Rattle.gix_refspec.specs.Matching.Validation.{HasConflictAt}
-use Rattle.refspec_match.specs.Private.Kept.{Has, Rises, name_hash}
+use Rattle.gix_refspec_match.specs.Private.Kept.{Has, Rises, name_hash}
 use Rattle.gix_refspec.specs.Private.Updates.{destination_hashes}
 use Rattle.gix_refspec.proofs.lemmas.validate.FirstLemmas.{at_contained}
-use Rattle.refspec_match.proofs.lemmas.keep.RepeatLemmas.{Contains-from_Has, Has-left, Has-right, apart_places}
+use Rattle.gix_refspec_match.proofs.lemmas.keep.RepeatLemmas.{Contains-from_Has, Has-left, Has-right, apart_places}
 
 -- no number is in the list twice
 AreApart : List ℕ → Type 0

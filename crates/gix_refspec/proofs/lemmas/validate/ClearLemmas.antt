@@ -2,22 +2,22 @@
 use Rattle.std.proofs.Common.{◌≡◌, ◌≢◌, inl, inr, ℕ, ◌+◌, ◌<◌, ◌==◌, ◌&&◌, ◌||◌, Bool, true, false, IsTrue, nat_le, if◌then◌else◌, List, [], ◌∷◌, ◌++◌, Option, None, Some, codes, get_or, map, sym, ap, ◌∙◌, subst, nat_eq, arith}
 use Rattle.std.specs.List.{AllByRecursion, list_any, starts_with}
 use Rattle.std.proofs.lemmas.Bool.{eqb-true, false≢true, lt-leb, lt-ltb}
-use Rattle.refspec_text.specs.Texts.Words.{Lacks}
-use Rattle.refspec_text.specs.Texts.Bytes.{star}
-use Rattle.refspec_text.specs.Texts.Name.{is_refused_byte}
-use Rattle.refspec_text.specs.Texts.ObjectId.{IsIdText, is_lower_digit, lower_of}
-use Rattle.refspec_text.specs.Specs.Reading.{Reading}
-use Rattle.refspec_text.specs.Matching.Side.{SideKind, pattern, full_name, object, partial, HasKind, filled}
-use Rattle.refspec_text.specs.Matching.Match.{Ref, MatchesAs, Takes}
-use Rattle.refspec_match.specs.Matching.Lists.{IsMadeFrom, IsJoinedFrom}
-use Rattle.refspec_match.specs.Matching.Mappings.{Mapped, IsKeptAt}
-use Rattle.refspec_match.specs.Matching.Hits.{Ends, AreForwardEnds, AreSpecHits, IsFilled, Hit, IsHit, IsIdMapping, AreKeptForward, forward_of}
-use Rattle.refspec_text.proofs.lemmas.texts.TextLemmas.{Lacks-from_places}
-use Rattle.refspec_text.proofs.lemmas.texts.ObjectIdLemmas.{IsLowerText-lower_of, decode_of-IsIdText}
+use Rattle.gix_refspec_text.specs.Texts.Words.{Lacks}
+use Rattle.gix_refspec_text.specs.Texts.Bytes.{star}
+use Rattle.gix_refspec_text.specs.Texts.Name.{is_refused_byte}
+use Rattle.gix_refspec_text.specs.Texts.ObjectId.{IsIdText, is_lower_digit, lower_of}
+use Rattle.gix_refspec_text.specs.Specs.Reading.{Reading}
+use Rattle.gix_refspec_text.specs.Matching.Side.{SideKind, pattern, full_name, object, partial, HasKind, filled}
+use Rattle.gix_refspec_text.specs.Matching.Match.{Ref, MatchesAs, Takes}
+use Rattle.gix_refspec_match.specs.Matching.Lists.{IsMadeFrom, IsJoinedFrom}
+use Rattle.gix_refspec_match.specs.Matching.Mappings.{Mapped, IsKeptAt}
+use Rattle.gix_refspec_match.specs.Matching.Hits.{Ends, AreForwardEnds, AreSpecHits, IsFilled, Hit, IsHit, IsIdMapping, AreKeptForward, forward_of}
+use Rattle.gix_refspec_text.proofs.lemmas.texts.TextLemmas.{Lacks-from_places}
+use Rattle.gix_refspec_text.proofs.lemmas.texts.ObjectIdLemmas.{IsLowerText-lower_of, decode_of-IsIdText}
 use Rattle.gix_refspec.proofs.lemmas.validate.AfterLemmas.{stays_each}
 use Rattle.gix_refspec.specs.Laws.Plans.{LacksIn, MappedLacks, NoControlCharacter, SidesLack, StartLacks}
 use Rattle.gix_refspec.proofs.lemmas.validate.PlacedOnceLemmas.{printed_lacks, sides_lack}
-use Rattle.refspec_match.proofs.lemmas.keep.RepeatLemmas.{all_join, all_left, all_right}
+use Rattle.gix_refspec_match.proofs.lemmas.keep.RepeatLemmas.{all_join, all_left, all_right}
 use Rattle.hex.proofs.HexLemmas.{decode_of-ok}
 
 -- a hit holds no byte b

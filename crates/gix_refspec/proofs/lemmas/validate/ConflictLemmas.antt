@@ -8,24 +8,24 @@ use Rattle.std.specs.Cmp.Lexicographic.{slice_cmp}
 use Rattle.std.proofs.lemmas.List.{get_or-map, length-map, length-take-le, map-append, take-append-drop, take_more}
 use Rattle.std.proofs.lemmas.List.Elements.{All-from_recursion, Contains-append_left, Contains-push}
 use Rattle.std.proofs.lemmas.Option.{slice_get-get_or, slice_get-map, slice_get_read, slice_get_within}
-use Rattle.refspec_match.specs.declared.types.Mapping.{Mapping}
-use Rattle.refspec_match.specs.declared.types.NameRef.{NameRef}
-use Rattle.refspec_match.specs.declared.types.NameRef.TheVariants as name_ref
-use Rattle.refspec_match.specs.declared.types.SourceRef.{SourceRef}
-use Rattle.refspec_match.specs.declared.types.SourceRef.TheVariants as source_ref
+use Rattle.gix_refspec_match.specs.declared.types.Mapping.{Mapping}
+use Rattle.gix_refspec_match.specs.declared.types.NameRef.{NameRef}
+use Rattle.gix_refspec_match.specs.declared.types.NameRef.TheVariants as name_ref
+use Rattle.gix_refspec_match.specs.declared.types.SourceRef.{SourceRef}
+use Rattle.gix_refspec_match.specs.declared.types.SourceRef.TheVariants as source_ref
 use Rattle.gix_refspec.specs.declared.match_group.validate.conflicts.Update.{Update}
-use Rattle.refspec_text.specs.declared.spec.RefSpecRef.{RefSpecRef}
-use Rattle.refspec_text.specs.Specs.Reading.{Reading}
-use Rattle.refspec_text.specs.Specs.Meaning.{printed}
-use Rattle.refspec_text.specs.Views.Spec.{reading_of}
-use Rattle.refspec_match.specs.Matching.Mappings.{Start, name, id, Mapped, HasPair}
-use Rattle.refspec_match.specs.Views.Mapping.{mapped_of, name_bytes, start_of, IsNameCopy, IsSourceCopy}
-use Rattle.refspec_text.specs.Texts.ObjectId.{id_bytes}
+use Rattle.gix_refspec_text.specs.declared.spec.RefSpecRef.{RefSpecRef}
+use Rattle.gix_refspec_text.specs.Specs.Reading.{Reading}
+use Rattle.gix_refspec_text.specs.Specs.Meaning.{printed}
+use Rattle.gix_refspec_text.specs.Views.Spec.{reading_of}
+use Rattle.gix_refspec_match.specs.Matching.Mappings.{Start, name, id, Mapped, HasPair}
+use Rattle.gix_refspec_match.specs.Views.Mapping.{mapped_of, name_bytes, start_of, IsNameCopy, IsSourceCopy}
+use Rattle.gix_refspec_text.specs.Texts.ObjectId.{id_bytes}
 use Rattle.gix_refspec.specs.Matching.Validation.{AreConflicts, Conflict, IndexesFit, IsConflict, HasConflictAt, IsFirstTo, IsTextAt}
-use Rattle.refspec_match.specs.Private.Kept.{FlagsRepeats, Has, IsFlagged, IsRepeat, Rises}
+use Rattle.gix_refspec_match.specs.Private.Kept.{FlagsRepeats, Has, IsFlagged, IsRepeat, Rises}
 use Rattle.gix_refspec.specs.Private.Updates.{AddsConflict, AreUpdates, AreFirstUpdates, AreConflicting, HasUpdate, IsRun, IsFirstAt, IsConflictOf, update_cmp, updated_places}
-use Rattle.refspec_match.proofs.lemmas.keep.RepeatLemmas.{all_join, all_right, all_weaker, some_mapping}
-use Rattle.refspec_match.proofs.lemmas.keep.KeptLemmas.{repeats_at}
+use Rattle.gix_refspec_match.proofs.lemmas.keep.RepeatLemmas.{all_join, all_right, all_weaker, some_mapping}
+use Rattle.gix_refspec_match.proofs.lemmas.keep.KeptLemmas.{repeats_at}
 use Rattle.gix_refspec.proofs.lemmas.validate.UpdateLemmas.{HasUpdate-cases, HasUpdate-left, HasUpdate-right, later, mapped_at, not_below_itself, strict_left, strict_right}
 use Rattle.gix_refspec.proofs.lemmas.validate.FirstLemmas.{IsOfPlace, contested_from_firsts, made_at_places, one_mapping, two_firsts}
 

@@ -5,12 +5,12 @@ use Rattle.std.specs.Str.{bytes_eq}
 use Rattle.std.proofs.lemmas.Bool.{cases_lt, false≢true}
 use Rattle.std.proofs.lemmas.Option.{get_or_from_slice_get, slice_get-get_or, slice_get_within}
 use Rattle.std.proofs.lemmas.Slice.Eq.{bytes_eq-Decides}
-use Rattle.refspec_match.specs.Matching.Lists.{IsMadeFrom}
-use Rattle.refspec_match.specs.Matching.Mappings.{Start, name, id, Mapped, IsSamePair, HasPair}
+use Rattle.gix_refspec_match.specs.Matching.Lists.{IsMadeFrom}
+use Rattle.gix_refspec_match.specs.Matching.Mappings.{Start, name, id, Mapped, IsSamePair, HasPair}
 use Rattle.gix_refspec.specs.Matching.Validation.{HasConflictAt}
-use Rattle.refspec_match.specs.Private.Kept.{Has, Rises}
+use Rattle.gix_refspec_match.specs.Private.Kept.{Has, Rises}
 use Rattle.gix_refspec.specs.Private.Updates.{IsFirstAt}
-use Rattle.refspec_match.proofs.lemmas.keep.RepeatLemmas.{all_weaker, not_below}
+use Rattle.gix_refspec_match.proofs.lemmas.keep.RepeatLemmas.{all_weaker, not_below}
 
 -- the mapping at place n is one of which Q makes y
 abbrev pub IsOfPlace : {Y : Type 0} → (Mapped → Y → Type 0) → List Mapped → ℕ → Y → Type 0

@@ -2,11 +2,11 @@
 use Rattle.std.proofs.Common.{◌≡◌, inl, inr, ◌↔◌, ℕ, ◌+◌, List, [], ◌∷◌, ◌++◌, Option, None, Some, option_to_list, length, length-append, map, unwrap_or, refl, sym, ap, ◌∙◌, subst, arith}
 use Rattle.std.specs.List.{AllByRecursion, Contains, slice_get}
 use Rattle.std.proofs.lemmas.List.{append_assoc}
-use Rattle.refspec_text.specs.Specs.Reading.{Reading}
-use Rattle.refspec_text.specs.Matching.Match.{Ref, Matches, Takes}
-use Rattle.refspec_match.specs.Matching.Lists.{IsMadeFrom, IsJoinedFrom}
-use Rattle.refspec_match.specs.Matching.Mappings.{Start, Mapped, IsKeptAt}
-use Rattle.refspec_match.specs.Matching.Hits.{Ends, AreForwardEnds, AreBackwardEnds, Hit, IsHit, AreSpecHits, AreHits, IsIdMapping, AreForward, AreBackward, forward_of, backward_of}
+use Rattle.gix_refspec_text.specs.Specs.Reading.{Reading}
+use Rattle.gix_refspec_text.specs.Matching.Match.{Ref, Matches, Takes}
+use Rattle.gix_refspec_match.specs.Matching.Lists.{IsMadeFrom, IsJoinedFrom}
+use Rattle.gix_refspec_match.specs.Matching.Mappings.{Start, Mapped, IsKeptAt}
+use Rattle.gix_refspec_match.specs.Matching.Hits.{Ends, AreForwardEnds, AreBackwardEnds, Hit, IsHit, AreSpecHits, AreHits, IsIdMapping, AreForward, AreBackward, forward_of, backward_of}
 use Rattle.gix_refspec.specs.Laws.Matching.{AtSpec}
 use Rattle.gix_refspec.specs.Laws.Places.{TakesAt, MakesForwardOf, MakesBackwardOf, MadeAtPlaces, RemainsExactly}
 use Rattle.gix_refspec.specs.Matching.Validation.{Survives}
@@ -15,8 +15,8 @@ use Rattle.gix_refspec.proofs.lemmas.validate.AfterLemmas.{stays_each}
 use Rattle.gix_refspec.proofs.lemmas.keep.FirstStaysLemmas.{there, back}
 use Rattle.gix_refspec.proofs.lemmas.keep.PairMadeLemmas.{there_far}
 use Rattle.gix_refspec.proofs.lemmas.validate.PlaceFitLemmas.{stands_behind, map_each}
-use Rattle.refspec_match.proofs.lemmas.keep.RepeatLemmas.{all_join}
-use Rattle.refspec_match.proofs.lemmas.lists.SomeLemmas.{Any, Any-right}
+use Rattle.gix_refspec_match.proofs.lemmas.keep.RepeatLemmas.{all_join}
+use Rattle.gix_refspec_match.proofs.lemmas.lists.SomeLemmas.{Any, Any-right}
 
 -- ---- what is made of the elements of a list, which are at their places
 

@@ -5,24 +5,24 @@ use Rattle.std.specs.List.Sorted.{IsStrictlySortedBy}
 use Rattle.std.specs.declared.cmp.Ordering.TheVariants.{Less}
 use Rattle.std.specs.Ordering.{nat_cmp}
 use Rattle.std.specs.Cmp.Lexicographic.{slice_cmp}
-use Rattle.refspec_match.specs.declared.types.Mapping.{Mapping}
-use Rattle.refspec_match.specs.declared.types.NameRef.{NameRef}
+use Rattle.gix_refspec_match.specs.declared.types.Mapping.{Mapping}
+use Rattle.gix_refspec_match.specs.declared.types.NameRef.{NameRef}
 use Rattle.gix_refspec.specs.declared.match_group.types.Outcome.{Outcome}
-use Rattle.refspec_text.specs.Specs.Reading.{Reading}
-use Rattle.refspec_text.specs.Views.Spec.{reading_of}
-use Rattle.refspec_match.specs.Matching.Lists.{IsMadeFrom}
-use Rattle.refspec_text.specs.Specs.Meaning.{printed}
-use Rattle.refspec_match.specs.Matching.Mappings.{Start, Mapped}
-use Rattle.refspec_match.specs.Views.Mapping.{mapped_of, name_bytes, IsDestinationCopy, IsMappingCopy, AreMappingCopies}
+use Rattle.gix_refspec_text.specs.Specs.Reading.{Reading}
+use Rattle.gix_refspec_text.specs.Views.Spec.{reading_of}
+use Rattle.gix_refspec_match.specs.Matching.Lists.{IsMadeFrom}
+use Rattle.gix_refspec_text.specs.Specs.Meaning.{printed}
+use Rattle.gix_refspec_match.specs.Matching.Mappings.{Start, Mapped}
+use Rattle.gix_refspec_match.specs.Views.Mapping.{mapped_of, name_bytes, IsDestinationCopy, IsMappingCopy, AreMappingCopies}
 use Rattle.gix_refspec.specs.Views.Group.{readings_of}
 use Rattle.gix_refspec.specs.Matching.Validation.{IsFirstTo, IsTextAt, Conflict, IsConflict, AreConflicts, Survives, Removed, IsFix}
 use Rattle.gix_refspec.specs.Laws.Validation.{ValidateAlike, OneValidation, CopiedOutcome}
 use Rattle.gix_refspec.proofs.lemmas.validate.UpdateLemmas.{not_below_itself, below_trans}
 use Rattle.gix_refspec.proofs.lemmas.validate.ConflictLemmas.{copied_name, copied_source}
-use Rattle.refspec_text.proofs.lemmas.specs.FormsBackLemmas.{some_once}
-use Rattle.refspec_match.proofs.lemmas.hits.HitLemmas.{same_mapped}
-use Rattle.refspec_match.proofs.lemmas.lists.ListsLemmas.{made_once}
-use Rattle.refspec_match.proofs.lemmas.lists.SomeLemmas.{Any}
+use Rattle.gix_refspec_text.proofs.lemmas.specs.FormsBackLemmas.{some_once}
+use Rattle.gix_refspec_match.proofs.lemmas.hits.HitLemmas.{same_mapped}
+use Rattle.gix_refspec_match.proofs.lemmas.lists.ListsLemmas.{made_once}
+use Rattle.gix_refspec_match.proofs.lemmas.lists.SomeLemmas.{Any}
 
 -- ---- conflicts
 
@@ -31,11 +31,6 @@ among : (xs : List (List ℕ)) (d : List ℕ) → Contains xs d → Any (λ x. x
 among [] d (k, below, is) = absurd (omega (arith, below))
 among (x ∷ xs) d (zero, below, is) = inl is
 among (x ∷ xs) d (suc k, below, is) = inr (among xs d (k, omega (arith, below), is))
-
-placed : (xs : List (List ℕ)) (d : List ℕ) → Any (λ x. x ≡ d) xs → Contains xs d
-placed [] d any = absurd any
-placed (x ∷ xs) d (inl here) = (0, omega arith, here)
-placed (x ∷ xs) d (inr later) = let at = placed xs d later in (suc at.0, omega (arith, at.1), at.2)
 
 -- what is after a text in order is above it
 above : (x d : List ℕ) (xs : List (List ℕ)) → AllByRecursion (λ y. slice_cmp nat_cmp x y ≡ Less) xs → Any (λ y. y ≡ d) xs → slice_cmp nat_cmp x d ≡ Less

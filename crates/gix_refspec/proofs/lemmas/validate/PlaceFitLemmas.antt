@@ -2,17 +2,17 @@
 use Rattle.std.proofs.Common.{◌≡◌, inl, inr, ℕ, ◌+◌, ◌<◌, List, [], ◌∷◌, ◌++◌, Option, None, Some, length, length-append, map, refl, sym, ap, ◌∙◌, subst, arith}
 use Rattle.std.specs.List.{AllByRecursion, slice_get}
 use Rattle.std.proofs.lemmas.List.{append_assoc}
-use Rattle.refspec_match.specs.declared.hits.ends.Direction.{Direction}
-use Rattle.refspec_match.specs.declared.hits.ends.Direction.TheVariants.{Forward, Backward}
-use Rattle.refspec_text.specs.Specs.Reading.{Reading}
-use Rattle.refspec_text.specs.Matching.Match.{Ref}
-use Rattle.refspec_match.specs.Matching.Lists.{IsMadeFrom}
-use Rattle.refspec_match.specs.Matching.Mappings.{name, Mapped, IsKeptAt}
-use Rattle.refspec_match.specs.Matching.Hits.{Ends, AreSpecHits, AreHits, Hit, IsHit, IsIdMapping, AreForward, AreBackward, forward_of, backward_of}
+use Rattle.gix_refspec_match.specs.declared.hits.ends.Direction.{Direction}
+use Rattle.gix_refspec_match.specs.declared.hits.ends.Direction.TheVariants.{Forward, Backward}
+use Rattle.gix_refspec_text.specs.Specs.Reading.{Reading}
+use Rattle.gix_refspec_text.specs.Matching.Match.{Ref}
+use Rattle.gix_refspec_match.specs.Matching.Lists.{IsMadeFrom}
+use Rattle.gix_refspec_match.specs.Matching.Mappings.{name, Mapped, IsKeptAt}
+use Rattle.gix_refspec_match.specs.Matching.Hits.{Ends, AreSpecHits, AreHits, Hit, IsHit, IsIdMapping, AreForward, AreBackward, forward_of, backward_of}
 use Rattle.gix_refspec.specs.Matching.Validation.{BackwardPlaces, ForwardPlaces, PlacesFit, Survives}
-use Rattle.refspec_match.specs.Private.HitViews.{HasEnds, TakesIn}
+use Rattle.gix_refspec_match.specs.Private.HitViews.{HasEnds, TakesIn}
 use Rattle.gix_refspec.proofs.lemmas.validate.AfterLemmas.{joined_each, made_each, stays_each}
-use Rattle.refspec_match.proofs.lemmas.keep.RepeatLemmas.{all_join}
+use Rattle.gix_refspec_match.proofs.lemmas.keep.RepeatLemmas.{all_join}
 
 -- the hit has the place of a reading, and that of an item with its name
 record IsPlacedHit (n : ℕ) (items : List Ref) (h : Hit) : Type 0 where

@@ -3,28 +3,28 @@
 use Rattle.std.proofs.Common.{◌≡◌, ◌≢◌, inl, inr, ℕ, ◌+◌, ◌<◌, ◌==◌, Bool, true, false, if◌then◌else◌, IsTrue, List, [], ◌∷◌, ◌++◌, Option, None, Some, length, length-append, map, refl, sym, ap, ◌∙◌, subst, arith}
 use Rattle.std.specs.List.{AllByRecursion, slice_get}
 use Rattle.std.proofs.lemmas.List.{append_assoc}
-use Rattle.refspec_text.specs.declared.name.Error.TheVariants.{InvalidByte}
-use Rattle.refspec_text.specs.declared.parsing.Operation.TheVariants.{Push, Fetch}
-use Rattle.refspec_text.specs.Texts.Words.{Lacks}
-use Rattle.refspec_text.specs.Texts.Bytes.{star, letter, at, head, colon}
-use Rattle.refspec_text.specs.Texts.Name.{IsName, IsPattern, is_refused_byte}
-use Rattle.refspec_text.specs.Specs.Reading.{Mode, Normal, Forced, Negative, Reading}
-use Rattle.refspec_text.specs.Specs.Grammar.{Reads, fetches_nothing_named, fetches_colon, fetches, updates, updates_from_head, fetch_excludes, pushes_plus, pushes_colon, pushes, deletes, pushes_pattern, pushes_to, push_excludes, IsNameOrPattern, AreAlike, fetched, named_by}
-use Rattle.refspec_text.specs.Specs.Meaning.{printed, sign, begins_with_plus}
-use Rattle.refspec_text.specs.Matching.Match.{Ref}
-use Rattle.refspec_match.specs.Matching.Lists.{IsMadeFrom}
-use Rattle.refspec_text.specs.Texts.ObjectId.{IsIdText}
-use Rattle.refspec_match.specs.Matching.Mappings.{id, Mapped, IsKeptAt}
-use Rattle.refspec_match.specs.Matching.Hits.{Hit, IsIdMapping, AreKeptForward, forward_of}
+use Rattle.gix_refspec_text.specs.declared.name.Error.TheVariants.{InvalidByte}
+use Rattle.gix_refspec_text.specs.declared.parsing.Operation.TheVariants.{Push, Fetch}
+use Rattle.gix_refspec_text.specs.Texts.Words.{Lacks}
+use Rattle.gix_refspec_text.specs.Texts.Bytes.{star, letter, at, head, colon}
+use Rattle.gix_refspec_text.specs.Texts.Name.{IsName, IsPattern, is_refused_byte}
+use Rattle.gix_refspec_text.specs.Specs.Reading.{Mode, Normal, Forced, Negative, Reading}
+use Rattle.gix_refspec_text.specs.Specs.Grammar.{Reads, fetches_nothing_named, fetches_colon, fetches, updates, updates_from_head, fetch_excludes, pushes_plus, pushes_colon, pushes, deletes, pushes_pattern, pushes_to, push_excludes, IsNameOrPattern, AreAlike, fetched, named_by}
+use Rattle.gix_refspec_text.specs.Specs.Meaning.{printed, sign, begins_with_plus}
+use Rattle.gix_refspec_text.specs.Matching.Match.{Ref}
+use Rattle.gix_refspec_match.specs.Matching.Lists.{IsMadeFrom}
+use Rattle.gix_refspec_text.specs.Texts.ObjectId.{IsIdText}
+use Rattle.gix_refspec_match.specs.Matching.Mappings.{id, Mapped, IsKeptAt}
+use Rattle.gix_refspec_match.specs.Matching.Hits.{Hit, IsIdMapping, AreKeptForward, forward_of}
 use Rattle.gix_refspec.specs.Matching.Validation.{IsFix, MeetAt, NeverMeet, Removed}
 use Rattle.gix_refspec.specs.Laws.Plans.{AreFixesApart, LacksIn, SidesLack}
-use Rattle.refspec_text.proofs.lemmas.texts.TextLemmas.{Lacks-from_absent}
-use Rattle.refspec_text.proofs.lemmas.texts.HeadLemmas.{IsName-head}
-use Rattle.refspec_text.proofs.lemmas.specs.FormsBackLemmas.{some_once}
-use Rattle.refspec_text.proofs.lemmas.texts.ObjectIdLemmas.{IsIdText-unique}
+use Rattle.gix_refspec_text.proofs.lemmas.texts.TextLemmas.{Lacks-from_absent}
+use Rattle.gix_refspec_text.proofs.lemmas.texts.HeadLemmas.{IsName-head}
+use Rattle.gix_refspec_text.proofs.lemmas.specs.FormsBackLemmas.{some_once}
+use Rattle.gix_refspec_text.proofs.lemmas.texts.ObjectIdLemmas.{IsIdText-unique}
 use Rattle.gix_refspec.proofs.lemmas.validate.AfterLemmas.{stays_each}
 use Rattle.gix_refspec.proofs.lemmas.validate.PlaceFitLemmas.{stands_behind}
-use Rattle.refspec_match.proofs.lemmas.keep.RepeatLemmas.{all_join, all_left, all_right}
+use Rattle.gix_refspec_match.proofs.lemmas.keep.RepeatLemmas.{all_join, all_left, all_right}
 
 -- ---- fixes
 

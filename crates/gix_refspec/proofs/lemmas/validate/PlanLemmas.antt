@@ -1,12 +1,12 @@
 -- What tells apart the mappings and the fixes that a validation leaves.
 use Rattle.std.proofs.Common.{◌≡◌, ℕ, List, [], ◌∷◌, Option, None, Some, refl, sym, ap, ◌∙◌}
 use Rattle.std.specs.List.{AllByRecursion}
-use Rattle.refspec_text.specs.Specs.Reading.{Reading}
-use Rattle.refspec_text.specs.Matching.Match.{Ref}
-use Rattle.refspec_match.specs.Matching.Mappings.{name, Mapped}
+use Rattle.gix_refspec_text.specs.Specs.Reading.{Reading}
+use Rattle.gix_refspec_text.specs.Matching.Match.{Ref}
+use Rattle.gix_refspec_match.specs.Matching.Mappings.{name, Mapped}
 use Rattle.gix_refspec.specs.Matching.Validation.{ForwardPlaces, Survives}
 use Rattle.gix_refspec.specs.Laws.Plans.{HaveOneStart, HaveStartsByPlace, PlansApart}
-use Rattle.refspec_match.proofs.lemmas.keep.KeptLemmas.{kept_once}
+use Rattle.gix_refspec_match.proofs.lemmas.keep.KeptLemmas.{kept_once}
 use Rattle.gix_refspec.proofs.lemmas.validate.AfterLemmas.{apart_still, kept_never_meet, stays_each, validated_once}
 use Rattle.gix_refspec.proofs.lemmas.validate.PlaceFitLemmas.{places_fit}
 use Rattle.gix_refspec.proofs.lemmas.validate.PlacedOnceLemmas.{IsOfItsSpec, fixes_apart, kept_of_specs, one_id}

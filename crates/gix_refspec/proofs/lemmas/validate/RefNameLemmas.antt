@@ -6,25 +6,25 @@ use Rattle.std.specs.Prelude.{◌⊎◌, ◌||◌, ◌==◌, IsTrue}
 use Rattle.std.proofs.lemmas.Bool.{cases_lt, lt-ltb}
 use Rattle.std.proofs.lemmas.List.{get_or-map, length-map}
 use Rattle.std.proofs.lemmas.List.Elements.{All-from_recursion}
-use Rattle.refspec_match.specs.declared.types.Mapping.{Mapping}
-use Rattle.refspec_match.specs.declared.types.NameRef.{NameRef}
+use Rattle.gix_refspec_match.specs.declared.types.Mapping.{Mapping}
+use Rattle.gix_refspec_match.specs.declared.types.NameRef.{NameRef}
 use Rattle.gix_refspec.specs.declared.match_group.names.BadSide.{BadSide}
 use Rattle.gix_refspec.specs.declared.match_group.names.BadSide.TheVariants.{Source, Destination, Both}
-use Rattle.refspec_text.specs.declared.name.Error.TheVariants.{Empty, EmptyComponent, StartsWithDot, InvalidByte}
-use Rattle.refspec_text.specs.Texts.Bytes.{head, slash}
-use Rattle.refspec_text.specs.Texts.Words.{ArePartsAt, BeginsWith}
-use Rattle.refspec_text.specs.Texts.Name.{is_refused_byte, IsName}
-use Rattle.refspec_text.specs.Specs.Reading.{Reading}
-use Rattle.refspec_match.specs.Matching.Lists.{IsMadeFrom}
-use Rattle.refspec_text.specs.Matching.Match.{Ref}
-use Rattle.refspec_match.specs.Matching.Mappings.{Mapped}
-use Rattle.refspec_match.specs.Views.Mapping.{mapped_of, name_bytes, IsMappingCopy, IsDestinationCopy}
+use Rattle.gix_refspec_text.specs.declared.name.Error.TheVariants.{Empty, EmptyComponent, StartsWithDot, InvalidByte}
+use Rattle.gix_refspec_text.specs.Texts.Bytes.{head, slash}
+use Rattle.gix_refspec_text.specs.Texts.Words.{ArePartsAt, BeginsWith}
+use Rattle.gix_refspec_text.specs.Texts.Name.{is_refused_byte, IsName}
+use Rattle.gix_refspec_text.specs.Specs.Reading.{Reading}
+use Rattle.gix_refspec_match.specs.Matching.Lists.{IsMadeFrom}
+use Rattle.gix_refspec_text.specs.Matching.Match.{Ref}
+use Rattle.gix_refspec_match.specs.Matching.Mappings.{Mapped}
+use Rattle.gix_refspec_match.specs.Views.Mapping.{mapped_of, name_bytes, IsMappingCopy, IsDestinationCopy}
 use Rattle.gix_refspec.specs.Matching.Validation.{ForwardPlaces, MeetAt, NeverMeet, Survives}
 use Rattle.gix_refspec.specs.Matching.RefNames.{AreNamed, IsBadAt, IsNamed, IsNamedDestination, IsRefName, StaysAmongRefs, WritesRef, WritesRefs}
 use Rattle.gix_refspec.proofs.lemmas.validate.AfterLemmas.{apart_still, made_each, never_meet_after, stays_each, validated_once}
 use Rattle.gix_refspec.proofs.lemmas.validate.ConflictLemmas.{copied_name, copied_source}
-use Rattle.refspec_text.proofs.lemmas.texts.HeadLemmas.{IsName-head}
-use Rattle.refspec_match.proofs.lemmas.keep.KeptLemmas.{kept_once}
+use Rattle.gix_refspec_text.proofs.lemmas.texts.HeadLemmas.{IsName-head}
+use Rattle.gix_refspec_match.proofs.lemmas.keep.KeptLemmas.{kept_once}
 
 -- a mapping of which a side is bad isn't named
 pub bad_unnamed : (side : BadSide) (m : Mapped) → IsBadAt side m → ¬ (IsNamed m)

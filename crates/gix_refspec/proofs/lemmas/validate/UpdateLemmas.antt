@@ -15,14 +15,14 @@ use Rattle.std.proofs.lemmas.List.{get_or-map, length-map, map-append, take-appe
 use Rattle.std.proofs.lemmas.List.Sorted.{Contains-permutation, IsPermutation-map, IsPermutation-sym, ranks_by, sorted_far}
 use Rattle.std.proofs.lemmas.Option.{slice_get-map, slice_get_read, slice_get_within}
 use Rattle.gix_refspec.specs.declared.match_group.validate.conflicts.Update.{Update}
-use Rattle.refspec_match.specs.declared.types.Mapping.{Mapping}
-use Rattle.refspec_match.specs.declared.types.NameRef.{NameRef}
-use Rattle.refspec_match.specs.Matching.Mappings.{Mapped}
-use Rattle.refspec_match.specs.Views.Mapping.{mapped_of, name_bytes}
-use Rattle.refspec_match.specs.Private.Kept.{IsFlagged, Rises}
+use Rattle.gix_refspec_match.specs.declared.types.Mapping.{Mapping}
+use Rattle.gix_refspec_match.specs.declared.types.NameRef.{NameRef}
+use Rattle.gix_refspec_match.specs.Matching.Mappings.{Mapped}
+use Rattle.gix_refspec_match.specs.Views.Mapping.{mapped_of, name_bytes}
+use Rattle.gix_refspec_match.specs.Private.Kept.{IsFlagged, Rises}
 use Rattle.gix_refspec.specs.Private.Updates.{AreUpdates, GoesTo, HasUpdate, IsRun, update_cmp, updated_places}
-use Rattle.refspec_match.proofs.lemmas.keep.PairLemmas.{both_equal, same_texts}
-use Rattle.refspec_match.proofs.lemmas.keep.RepeatLemmas.{Rises-push, all_join, all_left, all_right, all_weaker, apart_places}
+use Rattle.gix_refspec_match.proofs.lemmas.keep.PairLemmas.{both_equal, same_texts}
+use Rattle.gix_refspec_match.proofs.lemmas.keep.RepeatLemmas.{Rises-push, all_join, all_left, all_right, all_weaker, apart_places}
 
 -- there are the updates of the mappings before place p that have a destination and aren't flagged, by place
 pub record AreUpdatesUpto (l : List Mapped) (flags : List Bool) (p : ℕ) (cs : List Update) : Type 0 where
@@ -199,14 +199,6 @@ updates_same l flags p cs none made = record {
   );
   rises = made.rises;
   below = all_weaker (λ n. n < p) (λ n. n < p + 1) (λ n less. omega arith) (updated_places cs) made.below;
-}
-
--- no update is made at first
-pub updates_none : (l : List Mapped) (flags : List Bool) → AreUpdatesUpto l flags 0 []
-updates_none l flags = record {
-  are = λ k d. ((λ has. absurd has), (λ told. absurd (let less = told.0 in omega (arith, less))));
-  rises = tt;
-  below = tt;
 }
 
 pub differ_from_test : (xs ys : List ℕ) (b : Bool) → b ≡ not (bytes_eq xs ys) → b ≡ true → xs ≢ ys

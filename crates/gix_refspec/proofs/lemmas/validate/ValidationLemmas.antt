@@ -6,27 +6,20 @@ use Rattle.std.specs.Prelude.{MatchOption}
 use Rattle.std.proofs.lemmas.Bool.{false≢true}
 use Rattle.std.proofs.lemmas.List.{append-nil, length-map}
 use Rattle.std.proofs.lemmas.Option.{slice_get-map, slice_get_read}
-use Rattle.refspec_match.specs.declared.types.Mapping.{Mapping}
-use Rattle.refspec_match.specs.declared.types.NameRef.{NameRef}
+use Rattle.gix_refspec_match.specs.declared.types.Mapping.{Mapping}
+use Rattle.gix_refspec_match.specs.declared.types.NameRef.{NameRef}
 use Rattle.gix_refspec.specs.declared.match_group.validate.Fix.{Fix}
 use Rattle.gix_refspec.specs.declared.match_group.validate.Issue.{Issue}
-use Rattle.refspec_text.specs.declared.spec.RefSpecRef.{RefSpecRef}
-use Rattle.refspec_text.specs.Specs.Reading.{Reading}
-use Rattle.refspec_text.specs.Views.Spec.{reading_of}
-use Rattle.refspec_match.specs.Matching.Lists.{MakesOf, IsMadeFrom}
-use Rattle.refspec_match.specs.Matching.Mappings.{Mapped}
-use Rattle.refspec_match.specs.Views.Mapping.{mapped_of, name_bytes}
+use Rattle.gix_refspec_text.specs.declared.spec.RefSpecRef.{RefSpecRef}
+use Rattle.gix_refspec_text.specs.Specs.Reading.{Reading}
+use Rattle.gix_refspec_text.specs.Views.Spec.{reading_of}
+use Rattle.gix_refspec_match.specs.Matching.Lists.{MakesOf, IsMadeFrom}
+use Rattle.gix_refspec_match.specs.Matching.Mappings.{Mapped}
+use Rattle.gix_refspec_match.specs.Views.Mapping.{mapped_of, name_bytes}
 use Rattle.gix_refspec.specs.Views.Issue.{conflict_of, removed_of}
 use Rattle.gix_refspec.specs.Matching.Validation.{AreConflicts, AreFixes, AreSurvivors, IndexesFit, IsFix, IsValidated, IsWritable, Removed, Survives}
-use Rattle.refspec_match.proofs.lemmas.keep.RepeatLemmas.{all_join}
-use Rattle.refspec_match.proofs.lemmas.lists.JoinLemmas.{made_next, map_long, map_more}
-
--- one more mapping whose spec has a place in the group
-pub fits_more : (specs : List RefSpecRef) (ms : List Mapping) (i : ℕ) (m : Mapping) → i < length ms → m ≡ get_or ms i m → m.spec_index < length specs → IndexesFit (map reading_of specs) (map mapped_of (take i ms)) → IndexesFit (map reading_of specs) (map mapped_of (take (i + 1) ms))
-fits_more specs ms i m below is inside fits =
-    let g = map reading_of specs in
-    let one : (mapped_of (get_or ms i m)).spec < length g = subst (λ (x : Mapping). x.spec_index < length g) is (omega (arith, inside, length-map specs reading_of)) in
-    subst (λ (l : List Mapped). IndexesFit g l) (sym (map_more mapped_of ms i m below)) (all_join (λ n. n.spec < length g) (map mapped_of (take i ms)) (mapped_of (get_or ms i m) ∷ []) fits (one, tt))
+use Rattle.gix_refspec_match.proofs.lemmas.keep.RepeatLemmas.{all_join}
+use Rattle.gix_refspec_match.proofs.lemmas.lists.JoinLemmas.{made_next, map_long, map_more}
 
 -- what is made of one more mapping
 made_of_next : {Y : Type 0} (R : ℕ → Mapped → Y → Type 0) (ms : List Mapping) (i : ℕ) (m : Mapping) (ys : List Y) (made : Option Y) → i < length ms → m ≡ get_or ms i m → IsMadeFrom R 0 (map mapped_of (take i ms)) ys → MakesOf R i (mapped_of m) made → IsMadeFrom R 0 (map mapped_of (take (i + 1) ms)) (ys ++ option_to_list made)

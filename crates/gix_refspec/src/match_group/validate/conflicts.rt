@@ -5,20 +5,20 @@
 
 ghost use Rattle.std.specs.Prelude.{◌≡◌, ◌≢◌, ◌<◌, ◌≤◌, [], List, ℕ, length, map, take, drop, IfOk, OnOk, OnErr, IsTrue};
 ghost use Rattle.std.specs.List.Sorted.{IsStrictlySortedBy};
-ghost use Rattle.refspec_text.specs.Views.Spec.{reading_of};
-ghost use Rattle.refspec_match.specs.Views.Mapping.{mapped_of};
+ghost use Rattle.gix_refspec_text.specs.Views.Spec.{reading_of};
+ghost use Rattle.gix_refspec_match.specs.Views.Mapping.{mapped_of};
 ghost use Rattle.gix_refspec.specs.Matching.Validation.{IndexesFit, HasConflictAt, AreConflicts};
 ghost use Rattle.gix_refspec.specs.Views.Issue.{conflict_of};
-ghost use Rattle.refspec_match.specs.Private.Kept.{Rises};
+ghost use Rattle.gix_refspec_match.specs.Private.Kept.{Rises};
 ghost use Rattle.gix_refspec.specs.Private.Updates.{AddsConflict, AreUpdates, AreFirstUpdates, AreConflicting, IsRun, IsConflictOf, update_cmp, destination_hashes};
 
 use crate::match_group::validate::Issue;
 use bstr::{BStr, BString};
-use refspec_match::hashes::hash_of_name;
-use refspec_match::keep::is_flagged;
-use refspec_match::keep::repeats::repeats_of;
-use refspec_match::types::Mapping;
-use refspec_text::RefSpecRef;
+use gix_refspec_match::hashes::hash_of_name;
+use gix_refspec_match::keep::is_flagged;
+use gix_refspec_match::keep::repeats::repeats_of;
+use gix_refspec_match::types::Mapping;
+use gix_refspec_text::RefSpecRef;
 use std::alloc::{AllocError, Global};
 
 // A destination, and the place of a mapping to it.

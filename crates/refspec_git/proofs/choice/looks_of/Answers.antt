@@ -1,5 +1,5 @@
 -- Here the word lacks a star.
-use Rattle.refspec_text.proofs.lemmas.texts.TextLemmas.{Lacks-Holds}
+use Rattle.gix_refspec_text.proofs.lemmas.texts.TextLemmas.{Lacks-Holds}
 use Rattle.refspec_git.proofs.choice.looks_of.Goals as goal
 
 pub returns-then-is_path-clause-star : goal.returns-then-is_path-clause-star

@@ -1,5 +1,5 @@
 -- What is after the place that was found is the text from the next place on.
-use Rattle.refspec_text.proofs.lemmas.texts.TextLemmas.{cut_at_last}
+use Rattle.gix_refspec_text.proofs.lemmas.texts.TextLemmas.{cut_at_last}
 use Rattle.refspec_git.proofs.settings.split_at_last.Goals as goal
 
 pub returns : goal.returns

@@ -5,7 +5,7 @@ use Rattle.gix_refspec.specs.Specs.Grammar.{Reads}
 use Rattle.gix_refspec.specs.Specs.Refusal.{IsRefused}
 use Rattle.gix_refspec.specs.Views.Spec.{reading_of}
 use Rattle.gix_refspec.specs.Views.Instruction.{ShowsRefusal}
-use Rattle.refspec_text.specs.declared.parsing.Error.TheVariants as error
+use Rattle.gix_refspec_text.specs.declared.parsing.Error.TheVariants as error
 use Rattle.refspec_map.proofs.canon.answer_to.Goals as goal
 use Rattle.refspec_map.proofs.canon.answer_to.Goals.{in-Memory, in_default}
 

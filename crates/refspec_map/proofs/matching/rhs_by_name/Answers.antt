@@ -1,7 +1,7 @@
 -- What is written for the names of refs is written for the refs, where no destination is an id, by the law that names
 -- decide then.
 use Rattle.std.proofs.Common.{List, map, refl, subst}
-use Rattle.refspec_text.specs.declared.spec.RefSpecRef.{RefSpecRef}
+use Rattle.gix_refspec_text.specs.declared.spec.RefSpecRef.{RefSpecRef}
 use Rattle.gix_refspec.specs.Views.Spec.{reading_of}
 use Rattle.gix_refspec.specs.Matching.Hits.{AreKeptBackward}
 use Rattle.refspec_map.specs.Matching.{AreMapLines}

@@ -3,7 +3,7 @@ use Rattle.std.proofs.Common.{◌≡◌, [], ◌∷◌, ◌++◌, ◌+◌, Vec, 
 use Rattle.std.specs.List.{AllByRecursion}
 use Rattle.std.proofs.lemmas.List.{map-append}
 use Rattle.gix_refspec.specs.declared.match_group.names.BadMapping.{BadMapping}
-use Rattle.refspec_match.specs.Views.Mapping.{mapped_of}
+use Rattle.gix_refspec_match.specs.Views.Mapping.{mapped_of}
 use Rattle.gix_refspec.specs.Matching.RefNames.{AreLeftOut, IsLeftOut, IsNamed, left_out_of}
 use Rattle.gix_refspec.proofs.lemmas.validate.ValidationLemmas.{all_next, not_empty, nothing_more, one_more}
 use Rattle.gix_refspec.proofs.lemmas.validate.RefNameLemmas.{bad_unnamed, copied_mapping, some_unnamed}

@@ -1,7 +1,7 @@
 -- of the mappings so far, those of which a side is bad are there; if none is, all are named
 use Rattle.std.proofs.Common.{◌≡◌, [], map, take}
 use Rattle.std.specs.List.{AllByRecursion}
-use Rattle.refspec_match.specs.Views.Mapping.{mapped_of}
+use Rattle.gix_refspec_match.specs.Views.Mapping.{mapped_of}
 use Rattle.gix_refspec.specs.Matching.RefNames.{AreLeftOut, IsNamed, left_out_of}
 use Rattle.gix_refspec.proofs.match_group.names.bad_mappings.Given as goal
 

@@ -1,7 +1,7 @@
 -- A look at the source tells whether both sides have a star.
 use Rattle.std.proofs.Common.{◌↔◌, IsTrue, List, ℕ, Some, option_map, sym, ap, ◌∙◌, subst}
 use Rattle.bstr.specs.BStr.{bstr_bytes}
-use Rattle.refspec_text.specs.Views.Spec.{reading_of}
+use Rattle.gix_refspec_text.specs.Views.Spec.{reading_of}
 use Rattle.gix_refspec.specs.Laws.Matching.{GoesBothWays}
 use Rattle.gix_refspec.proofs.lemmas.hits.PremiseLemmas.{goes_below_refs, goes_by_star}
 use Rattle.gix_refspec.proofs.match_group.premises.goes_both_ways.Goals as goal

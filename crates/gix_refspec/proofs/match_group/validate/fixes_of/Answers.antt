@@ -5,8 +5,8 @@ use Rattle.std.proofs.lemmas.Bool.{false≢true}
 use Rattle.std.proofs.lemmas.List.{map-append}
 use Rattle.gix_refspec.specs.declared.match_group.validate.Fix.{Fix}
 use Rattle.gix_refspec.specs.declared.match_group.validate.Fix.TheVariants as fix
-use Rattle.refspec_text.specs.Views.Spec.{reading_of}
-use Rattle.refspec_match.specs.Views.Mapping.{mapped_of}
+use Rattle.gix_refspec_text.specs.Views.Spec.{reading_of}
+use Rattle.gix_refspec_match.specs.Views.Mapping.{mapped_of}
 use Rattle.gix_refspec.specs.Matching.Validation.{AreFixes, IsFix, Survives}
 use Rattle.gix_refspec.specs.Views.Issue.{removed_of}
 use Rattle.gix_refspec.proofs.lemmas.validate.ConflictLemmas.{spec_fits}

@@ -1,8 +1,8 @@
 -- the mappings so far have their fixes; if there is none, all survive
 use Rattle.std.proofs.Common.{◌≡◌, [], map, take}
 use Rattle.std.specs.List.{AllByRecursion}
-use Rattle.refspec_text.specs.Views.Spec.{reading_of}
-use Rattle.refspec_match.specs.Views.Mapping.{mapped_of}
+use Rattle.gix_refspec_text.specs.Views.Spec.{reading_of}
+use Rattle.gix_refspec_match.specs.Views.Mapping.{mapped_of}
 use Rattle.gix_refspec.specs.Matching.Validation.{AreFixes, Survives}
 use Rattle.gix_refspec.specs.Views.Issue.{removed_of}
 use Rattle.gix_refspec.proofs.match_group.validate.fixes_of.Given as goal

@@ -1,11 +1,11 @@
 -- a spec that isn't so is against the claim
 use Rattle.std.proofs.Common.{◌+◌, List, map, take, sym, subst}
 use Rattle.std.specs.List.{AllByRecursion}
-use Rattle.refspec_text.specs.declared.spec.RefSpecRef.{RefSpecRef}
+use Rattle.gix_refspec_text.specs.declared.spec.RefSpecRef.{RefSpecRef}
 use Rattle.gix_refspec.specs.Laws.Matching.{GoesBothWays}
-use Rattle.refspec_text.specs.Views.Spec.{reading_of}
+use Rattle.gix_refspec_text.specs.Views.Spec.{reading_of}
 use Rattle.std.proofs.lemmas.Bool.{false≢true}
-use Rattle.refspec_text.proofs.lemmas.hits.PremiseLemmas.{each_reading, one_more}
+use Rattle.gix_refspec_text.proofs.lemmas.hits.PremiseLemmas.{each_reading, one_more}
 use Rattle.gix_refspec.proofs.match_group.types.MatchGroup.goes_both_ways.Goals as goal
 
 pub returns-then-not-goes_both_ways : goal.returns-then-not-goes_both_ways

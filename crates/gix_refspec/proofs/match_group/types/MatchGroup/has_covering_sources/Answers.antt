@@ -1,11 +1,11 @@
 -- a spec that isn't so is against the claim
 use Rattle.std.proofs.Common.{List, map, sym, subst}
 use Rattle.std.specs.List.{AllByRecursion}
-use Rattle.refspec_text.specs.declared.spec.RefSpecRef.{RefSpecRef}
-use Rattle.refspec_text.specs.Laws.Covering.{HasCoveringSource}
-use Rattle.refspec_text.specs.Views.Spec.{reading_of}
+use Rattle.gix_refspec_text.specs.declared.spec.RefSpecRef.{RefSpecRef}
+use Rattle.gix_refspec_text.specs.Laws.Covering.{HasCoveringSource}
+use Rattle.gix_refspec_text.specs.Views.Spec.{reading_of}
 use Rattle.std.proofs.lemmas.Bool.{false≢true}
-use Rattle.refspec_text.proofs.lemmas.hits.PremiseLemmas.{each_reading}
+use Rattle.gix_refspec_text.proofs.lemmas.hits.PremiseLemmas.{each_reading}
 use Rattle.gix_refspec.proofs.match_group.types.MatchGroup.has_covering_sources.Goals as goal
 
 pub returns-then-not-has_covering_source : goal.returns-then-not-has_covering_source

@@ -1,7 +1,7 @@
 -- what there is to ask for for the specs so far
 use Rattle.std.proofs.Common.{map, take}
 use Rattle.bstr.specs.Owned.{bstring_bytes}
-use Rattle.refspec_text.specs.Views.Spec.{reading_of}
+use Rattle.gix_refspec_text.specs.Views.Spec.{reading_of}
 use Rattle.gix_refspec.specs.Matching.Asked.{ListsGroup}
 use Rattle.gix_refspec.proofs.match_group.types.MatchGroup.ref_prefixes.Given as goal
 

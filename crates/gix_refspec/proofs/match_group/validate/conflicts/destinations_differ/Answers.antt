@@ -1,8 +1,8 @@
 -- sorted hashes that rise are apart, and so are the destinations
 use Rattle.std.proofs.Common.{List, ℕ, map, subst}
 use Rattle.std.specs.List.Sorted.{IsPermutation}
-use Rattle.refspec_match.specs.Views.Mapping.{mapped_of}
-use Rattle.refspec_match.specs.Private.Kept.{Rises}
+use Rattle.gix_refspec_match.specs.Views.Mapping.{mapped_of}
+use Rattle.gix_refspec_match.specs.Private.Kept.{Rises}
 use Rattle.gix_refspec.proofs.lemmas.validate.ApartLemmas.{none_contested}
 use Rattle.gix_refspec.proofs.match_group.validate.conflicts.destinations_differ.Goals as goal
 

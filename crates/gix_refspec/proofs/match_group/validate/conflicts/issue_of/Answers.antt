@@ -4,9 +4,9 @@ use Rattle.bstr.specs.Owned.{bstring_bytes}
 use Rattle.std.proofs.lemmas.List.{map-append, take_all}
 use Rattle.std.proofs.lemmas.List.Elements.{All-from_recursion}
 use Rattle.gix_refspec.specs.declared.match_group.validate.conflicts.Update.{Update}
-use Rattle.refspec_text.specs.Views.Spec.{reading_of}
-use Rattle.refspec_match.specs.Matching.Mappings.{Start}
-use Rattle.refspec_match.specs.Views.Mapping.{mapped_of, start_of}
+use Rattle.gix_refspec_text.specs.Views.Spec.{reading_of}
+use Rattle.gix_refspec_match.specs.Matching.Mappings.{Start}
+use Rattle.gix_refspec_match.specs.Views.Mapping.{mapped_of, start_of}
 use Rattle.gix_refspec.specs.Private.Updates.{updated_places}
 use Rattle.gix_refspec.proofs.lemmas.validate.ConflictLemmas.{AreTold, conflict_from_conflicting, copied_source, conflicting_fits, spec_fits, text_at, told_more}
 use Rattle.gix_refspec.proofs.match_group.validate.conflicts.issue_of.Goals as goal

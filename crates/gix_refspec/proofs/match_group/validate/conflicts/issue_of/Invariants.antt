@@ -1,8 +1,8 @@
 -- the updates so far have given their sources and texts
 use Rattle.std.proofs.Common.{map, take}
 use Rattle.bstr.specs.Owned.{bstring_bytes}
-use Rattle.refspec_text.specs.Views.Spec.{reading_of}
-use Rattle.refspec_match.specs.Views.Mapping.{mapped_of, start_of}
+use Rattle.gix_refspec_text.specs.Views.Spec.{reading_of}
+use Rattle.gix_refspec_match.specs.Views.Mapping.{mapped_of, start_of}
 use Rattle.gix_refspec.specs.Private.Updates.{updated_places}
 use Rattle.gix_refspec.proofs.lemmas.validate.ConflictLemmas.{AreTold}
 use Rattle.gix_refspec.proofs.match_group.validate.conflicts.issue_of.Given as goal

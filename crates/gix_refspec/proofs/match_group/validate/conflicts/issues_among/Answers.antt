@@ -2,8 +2,8 @@
 use Rattle.std.proofs.Common.{◌≡◌, ◌-◌, ◌<◌, ◌≤◌, List, length, map, take, drop, sym, ap, subst, arith}
 use Rattle.std.proofs.lemmas.List.{drop-drop, length-drop, take_all}
 use Rattle.gix_refspec.specs.declared.match_group.validate.conflicts.Update.{Update}
-use Rattle.refspec_text.specs.Views.Spec.{reading_of}
-use Rattle.refspec_match.specs.Views.Mapping.{mapped_of}
+use Rattle.gix_refspec_text.specs.Views.Spec.{reading_of}
+use Rattle.gix_refspec_match.specs.Views.Mapping.{mapped_of}
 use Rattle.gix_refspec.specs.Matching.Validation.{Conflict}
 use Rattle.gix_refspec.specs.Views.Issue.{conflict_of}
 use Rattle.gix_refspec.specs.Private.Updates.{AddsConflict, AreConflicting, IsRun}

@@ -2,8 +2,8 @@
 use Rattle.std.proofs.Common.{List, Bool, map, sym, ap, ◌∙◌, subst}
 use Rattle.std.proofs.lemmas.Bool.{eqb-true}
 use Rattle.gix_refspec.specs.declared.match_group.validate.conflicts.Update.{Update}
-use Rattle.refspec_text.specs.Views.Spec.{reading_of}
-use Rattle.refspec_match.specs.Views.Mapping.{mapped_of}
+use Rattle.gix_refspec_text.specs.Views.Spec.{reading_of}
+use Rattle.gix_refspec_match.specs.Views.Mapping.{mapped_of}
 use Rattle.gix_refspec.specs.Matching.Validation.{AreConflicts, Conflict}
 use Rattle.gix_refspec.specs.Views.Issue.{conflict_of}
 use Rattle.gix_refspec.specs.Private.Updates.{AreUpdates, AreFirstUpdates}

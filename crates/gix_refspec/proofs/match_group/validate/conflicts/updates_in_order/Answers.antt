@@ -3,7 +3,7 @@ use Rattle.std.proofs.Common.{ℕ, List, Vec, Global, ◌+◌, map, sym, ◌∙�
 use Rattle.std.proofs.lemmas.Bool.{false≢true}
 use Rattle.std.proofs.lemmas.List.{length-map}
 use Rattle.gix_refspec.specs.declared.match_group.validate.conflicts.Update.{Update}
-use Rattle.refspec_match.specs.Views.Mapping.{mapped_of}
+use Rattle.gix_refspec_match.specs.Views.Mapping.{mapped_of}
 use Rattle.gix_refspec.specs.Private.Updates.{GoesTo}
 use Rattle.gix_refspec.proofs.lemmas.validate.UpdateLemmas.{AreUpdatesUpto, updates_more, updates_same, updates_sorted, goes_nowhere, goes_to_name}
 use Rattle.gix_refspec.proofs.match_group.validate.conflicts.updates_in_order.Goals as goal

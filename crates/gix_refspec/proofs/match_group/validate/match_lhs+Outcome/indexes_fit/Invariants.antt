@@ -1,6 +1,6 @@
 -- the specs of the mappings so far have places in the group
 use Rattle.std.proofs.Common.{map, take}
-use Rattle.refspec_match.specs.Views.Mapping.{mapped_of}
+use Rattle.gix_refspec_match.specs.Views.Mapping.{mapped_of}
 use Rattle.gix_refspec.specs.Views.Group.{readings_of}
 use Rattle.gix_refspec.specs.Matching.Validation.{IndexesFit}
 use Rattle.gix_refspec.proofs.match_group.validate.match_lhs+Outcome.indexes_fit.Given as goal

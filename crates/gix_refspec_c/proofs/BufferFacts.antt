@@ -1,0 +1,61 @@
+-- The words on the room of a caller, where it is just enough and where one place is missing.
+use Rattle.std.proofs.Common.{◌≡◌, ◌⊎◌, inl, inr, ℕ, ◌<◌, ◌≤◌, List, [], ◌∷◌, codes, refl, arith}
+use Rattle.gix_refspec_c.specs.declared.listing.MappingOut.{MappingOut}
+use Rattle.gix_refspec_c.specs.Buffer.{Holds, IsTooSmall}
+use Rattle.gix_refspec_c.specs.Mapping.{IsNotPut, IsPut, Room}
+
+-- ---- one buffer
+
+-- three bytes hold an answer of three, and four leave the last as it was
+pub exact_room : Holds (codes "abc") (codes "xyz") (codes "abc") 3 × Holds (codes "abc") (codes "wxyz") (codes "abcz") 3
+exact_room = (record { fits = omega arith; put = refl; tells = refl }, record { fits = omega arith; put = refl; tells = refl })
+
+-- an answer of no bytes needs no room
+pub no_room_needed : Holds [] [] [] 0
+no_room_needed = record { fits = omega arith; put = refl; tells = refl }
+
+-- two bytes don't hold it, whatever is there afterwards
+pub one_byte_less : (new : List ℕ) (len : ℕ) → ¬ (Holds (codes "abc") (codes "xy") new len)
+one_byte_less new len holds = let fits : 3 ≤ 2 = holds.fits in omega (arith, fits)
+
+-- that is too small, and the length is that of the answer
+pub small_by_one : IsTooSmall (codes "abc") (codes "xy") (codes "xy") 3
+small_by_one = record { long = omega arith; same = refl; tells = refl }
+
+pub small_tells : (len : ℕ) → IsTooSmall (codes "abc") (codes "xy") (codes "xy") len → len ≡ 3
+small_tells len small = small.tells
+
+-- three bytes aren't too small
+pub exact_is_enough : (new : List ℕ) (len : ℕ) → ¬ (IsTooSmall (codes "abc") (codes "xyz") new len)
+exact_is_enough new len small = let long : 3 < 3 = small.long in omega (arith, long)
+
+-- ---- two lists
+
+abbrev pub room : List MappingOut → List ℕ → ℕ → ℕ → Room
+room mappings buffer count len = record { mappings = mappings; buffer = buffer; count = count; len = len }
+
+-- one struct and two bytes have room in a list of one and a buffer of two
+pub exact_lists : (m old : MappingOut) (count len : ℕ) → IsPut (m ∷ []) (codes "ab") (room (old ∷ []) (codes "xy") count len) (room (m ∷ []) (codes "ab") 1 2)
+exact_lists m old count len = record { fits = omega arith; text_fits = omega arith; mappings = refl; buffer = refl; count = refl; len = refl }
+
+-- they have none where the list is one shorter, or the buffer
+pub no_struct_less : (m : MappingOut) (count len : ℕ) (after : Room) → ¬ (IsPut (m ∷ []) (codes "ab") (room [] (codes "xy") count len) after)
+no_struct_less m count len after put = let fits : 1 ≤ 0 = put.fits in omega (arith, fits)
+
+pub no_byte_less : (m old : MappingOut) (count len : ℕ) (after : Room) → ¬ (IsPut (m ∷ []) (codes "ab") (room (old ∷ []) (codes "x") count len) after)
+no_byte_less m old count len after put = let fits : 2 ≤ 1 = put.text_fits in omega (arith, fits)
+
+-- both are too small then, and told what is needed
+pub small_list : (m : MappingOut) (count len : ℕ) → IsNotPut (m ∷ []) (codes "ab") (room [] (codes "xy") count len) (room [] (codes "xy") 1 2)
+small_list m count len = record { small = inl (omega arith); mappings = refl; buffer = refl; count = refl; len = refl }
+
+pub small_buffer : (m old : MappingOut) (count len : ℕ) → IsNotPut (m ∷ []) (codes "ab") (room (old ∷ []) (codes "x") count len) (room (old ∷ []) (codes "x") 1 2)
+small_buffer m old count len = record { small = inr (omega arith); mappings = refl; buffer = refl; count = refl; len = refl }
+
+-- and lists of the exact sizes aren't
+pub exact_lists_are_enough : (m old : MappingOut) (count len : ℕ) (after : Room) → ¬ (IsNotPut (m ∷ []) (codes "ab") (room (old ∷ []) (codes "xy") count len) after)
+exact_lists_are_enough m old count len after put = past put.small
+  where
+    past : (1 < 1) ⊎ (2 < 2) → ⊥
+    past (inl long) = omega (arith, long)
+    past (inr long) = omega (arith, long)

@@ -1,0 +1,112 @@
+-- Destinations that are ids, and what is told of mappings one after another.
+use Rattle.std.proofs.Common.{◌≡◌, ◌↔◌, ℕ, zero, suc, ◌+◌, ◌<◌, IfErr, IfOk, take, get_or, arith, false, List, [], ◌∷◌, ◌++◌, length, map, Bool, Some, Result, Ok, Err, IsTrue, MatchResult, refl, sym, ap, subst, ◌∙◌, inl, inr}
+use Rattle.gix_refspec_text.specs.declared.oid.Error.{Error}
+use Rattle.gix_refspec_text.specs.declared.oid.ObjectId.{ObjectId}
+use Rattle.gix_refspec.specs.Texts.ObjectId.{id_bytes, IsIdText, HasIdFault}
+use Rattle.gix_refspec.specs.Laws.Readings.{IdOrFault}
+use Rattle.gix_refspec.specs.Specs.Reading.{Reading}
+use Rattle.std.specs.Result.{is_err}
+use Rattle.std.specs.List.{AllByRecursion, AllZip}
+use Rattle.gix_refspec_text.specs.declared.parsing.Operation.TheVariants.{Fetch}
+use Rattle.gix_refspec.specs.Specs.Grammar.{Reads}
+use Rattle.gix_refspec.specs.Matching.Match.{Ref}
+use Rattle.gix_refspec.specs.Matching.Hits.{AreKeptForward, AreKeptBackward}
+use Rattle.gix_refspec_c.specs.declared.listing.Listing.{Listing}
+use Rattle.gix_refspec_c.specs.declared.matching.Direction.{Direction}
+use Rattle.gix_refspec_c.specs.declared.matching.Direction.TheVariants.{Forward, Backward}
+use Rattle.gix_refspec_text.specs.declared.spec.RefSpecRef.{RefSpecRef}
+use Rattle.gix_refspec.specs.Views.Spec.{reading_of}
+use Rattle.gix_refspec_c.specs.declared.failure.Failure.{Failure}
+use Rattle.gix_refspec_c.specs.declared.failure.Failure.TheVariants as failure
+use Rattle.std.proofs.lemmas.List.{length-append, append-nil, append_assoc, map-append, take_more}
+use Rattle.gix_refspec_match.specs.declared.types.Mapping.{Mapping}
+use Rattle.gix_refspec.specs.Matching.Mappings.{Mapped}
+use Rattle.gix_refspec.specs.Views.Group.{mapped_of}
+use Rattle.gix_refspec_c.specs.declared.listing.MappingOut.{MappingOut}
+use Rattle.gix_refspec_c.specs.Mapping.{Entry, IsNotPut, LacksAll, Room, Tells, backward_entry, forward_entry, text_of, texts_of, told_at, told_by, told_from}
+use Rattle.gix_refspec_c.specs.Matching.{AreMatched, GoesByName, nameless}
+
+some_once : (x y : List ℕ) → Some x ≡ Some y → x ≡ y
+some_once x y same = cc
+
+unread : {b : Bool} → IsTrue b → b ≡ false → ⊥
+unread told isnt = cc
+
+-- a text with a fault spells no id
+no_text : {x : List ℕ} → IdOrFault x → (e : Error) → HasIdFault x e → (i : List ℕ) → IsIdText x i → ⊥
+no_text (inl one) e fault i text = one.sound e fault
+no_text (inr one) e fault i text = one.unread i text
+
+-- a text that isn't read as an id is none
+pub by_name : (r : Reading) (x : List ℕ) (read : Result ObjectId Error) (b : Bool) → r.destination ≡ Some x → IdOrFault x → MatchResult read (λ i. IsIdText x (id_bytes i)) (λ e. HasIdFault x e) → b ≡ is_err read → IsTrue b ↔ GoesByName r
+by_name r x (Ok i) b goes law text is = (
+  λ told. absurd (unread told is),
+  λ by. absurd (by.no_id x goes (id_bytes i, text)),
+)
+by_name r x (Err e) b goes law fault is = (
+  λ told. record { no_id = λ y same spelled. no_text law e fault (spelled.0) (subst (λ (t : List ℕ). IsIdText t spelled.0) (some_once y x (sym same ∙ goes)) spelled.1) },
+  λ by. is,
+)
+
+-- what follows a listing of some mappings
+told_more : (at : ℕ) (es : List Entry) (e : Entry) → told_from at (es ++ e ∷ []) ≡ told_from at es ++ told_at (at + length (texts_of es)) e ∷ []
+told_more at [] e = ap (λ n. told_at n e ∷ []) omega arith
+told_more at (x ∷ es) e =
+    let here : length (texts_of (x ∷ es)) ≡ length (text_of x) + length (texts_of es) = length-append (text_of x) (texts_of es) in
+    let ends : (at + length (text_of x)) + length (texts_of es) ≡ at + length (texts_of (x ∷ es)) = omega (arith, here) in
+    ap (λ rest. told_at at x ∷ rest) (told_more (at + length (text_of x)) es e ∙ ap (λ n. told_from (at + length (text_of x)) es ++ told_at n e ∷ []) ends)
+
+-- the texts of one mapping more
+texts_more : (es : List Entry) (e : Entry) → texts_of (es ++ e ∷ []) ≡ texts_of es ++ text_of e
+texts_more [] e = append-nil (text_of e)
+texts_more (x ∷ es) e = ap (λ t. text_of x ++ t) (texts_more es e) ∙ sym (append_assoc (text_of x) (texts_of es) (text_of e))
+
+-- one mapping more is told of
+pub tells_more : (es new : List Entry) (e : Entry) (structs structs2 : List MappingOut) (text text2 : List ℕ) → Tells es structs text → new ≡ es ++ e ∷ [] → text2 ≡ text ++ text_of e → map told_by structs2 ≡ map told_by structs ++ told_at (length text) e ∷ [] → Tells new structs2 text2
+tells_more es new e structs structs2 text text2 tells is texts told =
+    let zero : length (texts_of es) ≡ 0 + length (texts_of es) = omega arith in record {
+      told = told ∙ ap (λ l. l ++ told_at (length text) e ∷ []) tells.told ∙ ap (λ t. told_from 0 es ++ told_at (length t) e ∷ []) tells.texts ∙ ap (λ n. told_from 0 es ++ told_at n e ∷ []) zero ∙ sym (told_more 0 es e) ∙ ap (told_from 0) (sym is);
+      texts = texts ∙ ap (λ t. t ++ text_of e) tells.texts ∙ sym (texts_more es e) ∙ ap texts_of (sym is);
+    }
+
+-- the entries of one mapping more
+pub entries_more : (f : Mapped → Entry) (ms : List Mapping) (k : ℕ) (m : Mapping) → k < length ms → m ≡ get_or ms k m → map f (map mapped_of (take (k + 1) ms)) ≡ map f (map mapped_of (take k ms)) ++ f (mapped_of m) ∷ []
+entries_more f ms k m below is =
+    ap (λ l. map f (map mapped_of l)) (take_more ms k m below)
+    ∙ ap (map f) (map-append mapped_of (take k ms) (get_or ms k m ∷ []))
+    ∙ map-append f (map mapped_of (take k ms)) (mapped_of (get_or ms k m) ∷ [])
+    ∙ ap (λ x. map f (map mapped_of (take k ms)) ++ f (mapped_of x) ∷ []) (sym is)
+
+-- what is so of all specs is so of the one at a place
+pub each_reading : (P : Reading → Type 0) (specs : List RefSpecRef) (k : ℕ) (s : RefSpecRef) → AllByRecursion P (map reading_of specs) → k < length specs → s ≡ get_or specs k s → P (reading_of s)
+each_reading P [] k s all below is = absurd (omega (arith, below))
+each_reading P (t ∷ specs) zero s all below is = subst (λ (q : RefSpecRef). P (reading_of q)) (sym is) all.0
+each_reading P (t ∷ specs) (suc k) s all below is = each_reading P specs k s all.1 (omega (arith, below)) is
+
+-- and what is so of those before a place and of the one there is so of those up to it
+one_more_suc : (P : Reading → Type 0) (specs : List RefSpecRef) (k : ℕ) (s : RefSpecRef) → AllByRecursion P (map reading_of (take k specs)) → k < length specs → s ≡ get_or specs k s → P (reading_of s) → AllByRecursion P (map reading_of (take (suc k) specs))
+one_more_suc P [] k s all below is holds = absurd (omega (arith, below))
+one_more_suc P (t ∷ specs) zero s all below is holds = (subst (λ (q : RefSpecRef). P (reading_of q)) is holds, tt)
+one_more_suc P (t ∷ specs) (suc k) s all below is holds = (all.0, one_more_suc P specs k s all.1 (omega (arith, below)) is holds)
+
+pub one_more : (P : Reading → Type 0) (specs : List RefSpecRef) (k : ℕ) (s : RefSpecRef) → AllByRecursion P (map reading_of (take k specs)) → k < length specs → s ≡ get_or specs k s → P (reading_of s) → AllByRecursion P (map reading_of (take (k + 1) specs))
+one_more P specs k s all below is holds = let same : suc k ≡ k + 1 = omega arith in subst (λ (j : ℕ). AllByRecursion P (map reading_of (take j specs))) same (one_more_suc P specs k s all below is holds)
+
+-- a listing that doesn't fit
+pub no_room : (Is : List Entry → Type 0) (Why : Failure → Type 0) (es : List Entry) (structs : List MappingOut) (text : List ℕ) (before after : Room) (r : Result (Unit {0}) Failure) → Is es → Tells es structs text → IfErr r (λ f. (f ≡ failure.TooSmall) × IsNotPut structs text before after) → IfErr r (LacksAll Is Why before after)
+no_room Is Why es structs text before after (Ok u) is tells small = tt
+no_room Is Why es structs text before after (Err f) is tells small = inl (small.0, es, is, record { structs = structs; text = text; tells = tells; not_put = small.1 })
+
+-- what is listed from left to right tells of what is matched
+pub matched_forward : (d : Direction) (texts names : List (List ℕ)) (group g : List Reading) (refs : List Ref) (kept : List Mapped) (r : Result Listing Failure) → d ≡ Forward → g ≡ group → AllZip (Reads Fetch) texts group → refs ≡ map nameless names → AreKeptForward group refs kept → IfOk r (λ l. Tells (map (forward_entry g 0) kept) l.mappings.items l.text.items) → IfOk r (λ l. (es : List Entry) × AreMatched d texts names es × Tells es l.mappings.items l.text.items)
+matched_forward d texts names group g refs kept (Err f) is whole read same stay tells = tt
+matched_forward d texts names group g refs kept (Ok l) is whole read same stay tells =
+    let matched : AreMatched Forward texts names (map (forward_entry group 0) kept) = record { group = group; read = read; kept = kept; stay = subst (λ (rs : List Ref). AreKeptForward group rs kept) same stay; are = refl } in
+    (map (forward_entry group 0) kept, subst (λ (e : Direction). AreMatched e texts names (map (forward_entry group 0) kept)) (sym is) matched, subst (λ (specs : List Reading). Tells (map (forward_entry specs 0) kept) l.mappings.items l.text.items) whole tells)
+
+-- and so it is from right to left, where no destination is an id
+pub matched_backward : (d : Direction) (texts names : List (List ℕ)) (group g : List Reading) (refs : List Ref) (kept : List Mapped) (r : Result Listing Failure) → d ≡ Backward → g ≡ group → AllZip (Reads Fetch) texts group → refs ≡ map nameless names → AreKeptBackward group refs kept → AllByRecursion GoesByName group → IfOk r (λ l. Tells (map (backward_entry g) kept) l.mappings.items l.text.items) → IfOk r (λ l. (es : List Entry) × AreMatched d texts names es × Tells es l.mappings.items l.text.items)
+matched_backward d texts names group g refs kept (Err f) is whole read same stay by tells = tt
+matched_backward d texts names group g refs kept (Ok l) is whole read same stay by tells =
+    let matched : AreMatched Backward texts names (map (backward_entry group) kept) = record { group = group; read = read; kept = kept; stay = (subst (λ (rs : List Ref). AreKeptBackward group rs kept) same stay, by); are = refl } in
+    (map (backward_entry group) kept, subst (λ (e : Direction). AreMatched e texts names (map (backward_entry group) kept)) (sym is) matched, subst (λ (specs : List Reading). Tells (map (backward_entry specs) kept) l.mappings.items l.text.items) whole tells)

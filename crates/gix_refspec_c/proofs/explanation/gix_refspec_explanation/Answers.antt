@@ -1,0 +1,11 @@
+-- The sentence is what is before the NUL, of good calls and of the failure with the number.
+use Rattle.std.proofs.Common.{refl}
+use Rattle.gix_refspec_c.specs.Explanation.{said, well}
+use Rattle.gix_refspec_c.specs.Outcome.{done}
+use Rattle.gix_refspec_c.proofs.explanation.gix_refspec_explanation.Goals as goal
+
+pub returns-then-outcome-eq0-clause-done : goal.returns-then-outcome-eq0-clause-done
+returns-then-outcome-eq0-clause-done c = λ zero. (refl, c.before_nul.ensures well refl)
+
+pub returns-in-Some-clause-failure : goal.returns-in-Some-clause-failure
+returns-in-Some-clause-failure c = λ other. done c.in-Some.failure c.in-Some.ensures refl (c.before_nul-in-Some.ensures (said c.in-Some.failure) c.sentence_of.ensures)

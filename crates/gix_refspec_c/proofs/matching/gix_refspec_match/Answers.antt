@@ -1,0 +1,20 @@
+-- What is put into the lists tells of the mappings, and what the call ended with is answered.
+use Rattle.std.proofs.Common.{inr, map, refl}
+use Rattle.std.proofs.lemmas.Result.{on_ok_weaker}
+use Rattle.gix_refspec_c.specs.Group.{bytes_of}
+use Rattle.gix_refspec_c.specs.Matching.{AreMatched, AreUnmatched, direction_code}
+use Rattle.gix_refspec_c.specs.Outcome.{fails}
+use Rattle.gix_refspec_c.proofs.MatchingLemmas.{no_room}
+use Rattle.gix_refspec_c.proofs.OutcomeLemmas.{answered}
+use Rattle.gix_refspec_c.proofs.matching.gix_refspec_match.Goals as goal
+
+pub returns-in-Err : goal.returns-in-Err
+returns-in-Err c = fails c.in-Some.direction c.in-Some.ensures c.in-Err.failure c.number-in-Err.ensures (inr (c.in-Err.ensures.err, refl))
+
+pub returns-in-Ok : goal.returns-in-Ok
+returns-in-Ok c =
+    let direction = c.in-Some.direction in
+    let tells = c.in-Ok.ensures.ok in
+    let put = on_ok_weaker c.put_all.result (λ put. (tells.0, tells.1, record { structs = c.in-Ok.listing.mappings.items; text = c.in-Ok.listing.text.items; tells = tells.2; put = put })) c.put_all.ensures.ok in
+    let none = no_room (AreMatched direction (map bytes_of c.args.texts.now) (map bytes_of c.args.names.now)) (AreUnmatched direction (map bytes_of c.args.texts.now)) tells.0 c.in-Ok.listing.mappings.items c.in-Ok.listing.text.items _ _ c.put_all.result tells.1 tells.2 c.put_all.ensures.small in
+    answered direction_code c.args.direction _ _ _ direction c.put_all.result c.outcome_of.result c.in-Some.ensures c.outcome_of.ensures put none

@@ -1,0 +1,154 @@
+-- What a caller is told of mappings: a struct for each, and their texts one after the other.
+use Rattle.std.specs.Prelude.{◌≡◌, ◌⊎◌, ◌<◌, ◌≤◌, ◌+◌, ℕ, List, [], ◌∷◌, ◌++◌, length, drop, map, Option, None, Some}
+use Rattle.std.specs.List.{flat_map, slice_get}
+use Rattle.gix_refspec.specs.Texts.ObjectId.{lower_of}
+use Rattle.gix_refspec.specs.Specs.Meaning.{Meaning, meaning_of}
+use Rattle.gix_refspec.specs.Specs.Reading.{Reading}
+use Rattle.gix_refspec.specs.Matching.Mappings.{Start, name, id, Mapped}
+use Rattle.gix_refspec_c.specs.declared.failure.Failure.{Failure}
+use Rattle.gix_refspec_c.specs.declared.failure.Failure.TheVariants as failure
+use Rattle.gix_refspec_c.specs.declared.listing.MappingOut.{MappingOut}
+use Rattle.gix_refspec_c.specs.Single.{parts_of}
+
+-- what there is to tell of a mapping: the indexes of its spec and of its name, whether it has a destination, whether its
+-- spec is forced, a verdict, the text of a source that is an id, and the name that the spec makes
+pub record Entry : Type 0 where
+  pub spec : ℕ
+  pub item : ℕ
+  pub has_destination : ℕ
+  pub forced : ℕ
+  pub verdict : ℕ
+  pub id : List ℕ
+  pub made : List ℕ
+
+-- the number that stands for no item
+abbrev pub no_item : ℕ
+no_item = 18446744073709551615
+
+-- the number of an item: its place, where it has one
+abbrev pub number_of_item : Option ℕ → ℕ
+number_of_item None = no_item
+number_of_item (Some place) = place
+
+-- the text of a source that is an id
+abbrev pub id_text : Start → List ℕ
+id_text (name n) = []
+id_text (id i) = lower_of i
+
+-- the text of a source
+abbrev pub start_text : Start → List ℕ
+start_text (name n) = n
+start_text (id i) = lower_of i
+
+-- a destination, where there is one
+abbrev pub destination_text : Option (List ℕ) → List ℕ
+destination_text None = []
+destination_text (Some d) = d
+
+-- 1 where there is a destination
+abbrev pub destinations : Option (List ℕ) → ℕ
+destinations None = 0
+destinations (Some d) = 1
+
+-- 1 where an instruction is forced
+abbrev pub forced_by : Option Meaning → ℕ
+forced_by None = 0
+forced_by (Some m) = (parts_of m).forced
+
+-- 1 where that of a spec is
+abbrev pub forced_of : Option Reading → ℕ
+forced_of None = 0
+forced_of (Some r) = forced_by (meaning_of r)
+
+-- 1 where the spec with this index in the group is forced
+abbrev pub forced_at : List Reading → ℕ → ℕ
+forced_at g k = forced_of (slice_get g k)
+
+-- what is told of a mapping from left to right, of which the spec makes the destination
+abbrev pub forward_entry : List Reading → ℕ → Mapped → Entry
+forward_entry g verdict m = record { spec = m.spec; item = number_of_item m.item; has_destination = destinations m.destination; forced = forced_at g m.spec; verdict = verdict; id = id_text m.source; made = destination_text m.destination }
+
+-- and of one from right to left, of which it makes the source
+abbrev pub backward_entry : List Reading → Mapped → Entry
+backward_entry g m = record { spec = m.spec; item = number_of_item m.item; has_destination = destinations m.destination; forced = forced_at g m.spec; verdict = 0; id = []; made = start_text m.source }
+
+-- the texts of a mapping
+abbrev pub text_of : Entry → List ℕ
+text_of e = e.id ++ e.made
+
+-- the texts of mappings, in order
+abbrev pub texts_of : List Entry → List ℕ
+texts_of es = flat_map text_of es
+
+-- what the struct of a mapping says: its texts are places in the buffer
+pub record Told : Type 0 where
+  pub spec : ℕ
+  pub item : ℕ
+  pub has_destination : ℕ
+  pub forced : ℕ
+  pub verdict : ℕ
+  pub id_at : ℕ
+  pub id_len : ℕ
+  pub made_at : ℕ
+  pub made_len : ℕ
+
+-- what a struct says
+abbrev pub told_by : MappingOut → Told
+told_by m = record { spec = m.spec; item = m.item; has_destination = m.has_destination; forced = m.forced; verdict = m.verdict; id_at = m.id_at; id_len = m.id_len; made_at = m.made_at; made_len = m.made_len }
+
+-- what is told of a mapping whose texts begin at a place of the buffer
+abbrev pub told_at : ℕ → Entry → Told
+told_at at e = record { spec = e.spec; item = e.item; has_destination = e.has_destination; forced = e.forced; verdict = e.verdict; id_at = at; id_len = length e.id; made_at = at + length e.id; made_len = length e.made }
+
+-- what is told of mappings whose texts are one after the other from a place of the buffer on
+abbrev pub told_from : ℕ → List Entry → List Told
+told_from at [] = []
+told_from at (e ∷ es) = told_at at e ∷ told_from (at + length (text_of e)) es
+
+-- the structs and the text tell of the mappings
+pub record Tells (es : List Entry) (structs : List MappingOut) (text : List ℕ) : Type 0 where
+  pub told : map told_by structs ≡ told_from 0 es
+  pub texts : text ≡ texts_of es
+
+-- what a caller gives an answer to
+pub record Room : Type 0 where
+  pub mappings : List MappingOut
+  pub buffer : List ℕ
+  pub count : ℕ
+  pub len : ℕ
+
+-- the lists of the caller begin with the structs and the text, and are as before after them
+pub record IsPut (structs : List MappingOut) (text : List ℕ) (before after : Room) : Type 0 where
+  pub fits : length structs ≤ length before.mappings
+  pub text_fits : length text ≤ length before.buffer
+  pub mappings : after.mappings ≡ structs ++ drop (length structs) before.mappings
+  pub buffer : after.buffer ≡ text ++ drop (length text) before.buffer
+  pub count : after.count ≡ length structs
+  pub len : after.len ≡ length text
+
+-- one of the lists is too small for the structs or for the text. Both are as before, and the counts are what is needed
+pub record IsNotPut (structs : List MappingOut) (text : List ℕ) (before after : Room) : Type 0 where
+  pub small : (length before.mappings < length structs) ⊎ (length before.buffer < length text)
+  pub mappings : after.mappings ≡ before.mappings
+  pub buffer : after.buffer ≡ before.buffer
+  pub count : after.count ≡ length structs
+  pub len : after.len ≡ length text
+
+-- the caller got what tells of the mappings
+pub record HasAll (es : List Entry) (before after : Room) : Type 0 where
+  pub structs : List MappingOut
+  pub text : List ℕ
+  pub tells : Tells es structs text
+  pub put : IsPut structs text before after
+
+-- the caller has no room for it
+pub record HasNoRoom (es : List Entry) (before after : Room) : Type 0 where
+  pub structs : List MappingOut
+  pub text : List ℕ
+  pub tells : Tells es structs text
+  pub not_put : IsNotPut structs text before after
+
+-- why a caller is told of no mappings: there is no room for those that are as Is says; or for another reason, as Why says,
+-- and all is as before
+abbrev pub LacksAll : (List Entry → Type 0) → (Failure → Type 0) → Room → Room → Failure → Type 0
+LacksAll Is Why before after f = ((f ≡ failure.TooSmall) × (es : List Entry) × Is es × HasNoRoom es before after) ⊎ (Why f × (after ≡ before))

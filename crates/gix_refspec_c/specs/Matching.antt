@@ -1,0 +1,57 @@
+-- What fetches match among names alone, in the library's words.
+use Rattle.std.specs.Prelude.{◌≡◌, ◌⊎◌, ℕ, List, map, None, Some, replicate}
+use Rattle.std.specs.List.{AllByRecursion, AllZip}
+use Rattle.gix_refspec_text.specs.declared.parsing.Operation.TheVariants.{Fetch}
+use Rattle.gix_refspec.specs.Specs.Reading.{Reading}
+use Rattle.gix_refspec.specs.Specs.Grammar.{Reads}
+use Rattle.gix_refspec.specs.Matching.Side.{IsId}
+use Rattle.gix_refspec.specs.Matching.Match.{Ref}
+use Rattle.gix_refspec.specs.Matching.Mappings.{Mapped}
+use Rattle.gix_refspec.specs.Matching.Hits.{AreKeptForward, AreKeptBackward}
+use Rattle.gix_refspec_c.specs.declared.failure.Failure.{Failure}
+use Rattle.gix_refspec_c.specs.declared.failure.Failure.TheVariants as failure
+use Rattle.gix_refspec_c.specs.declared.matching.Direction.{Direction}
+use Rattle.gix_refspec_c.specs.declared.matching.Direction.TheVariants.{Forward, Backward}
+use Rattle.gix_refspec_c.specs.Group.{AreUnread}
+use Rattle.gix_refspec_c.specs.Mapping.{Entry, forward_entry, backward_entry}
+
+-- the number of a direction
+abbrev pub direction_code : Direction → ℕ
+direction_code Forward = 1
+direction_code Backward = 2
+
+-- the ref that a name stands for: its id, which nobody asks for, is the null id
+abbrev pub nameless : List ℕ → Ref
+nameless n = record { name = n; target = replicate 20 0; object = None }
+
+-- the destination of the reading, if it has one, is no id: so which refs it matches is seen from their names
+pub record GoesByName (r : Reading) : Type 0 where
+  pub no_id : (x : List ℕ) → r.destination ≡ Some x → ¬ (IsId x)
+
+-- what stays in a direction. From right to left only names count
+abbrev pub Stay : Direction → List Reading → List Ref → List Mapped → Type 0
+Stay Forward g refs kept = AreKeptForward g refs kept
+Stay Backward g refs kept = AreKeptBackward g refs kept × AllByRecursion GoesByName g
+
+-- what is told of a mapping of a group in a direction
+abbrev pub entry_of : Direction → List Reading → Mapped → Entry
+entry_of Forward g = forward_entry g 0
+entry_of Backward g = backward_entry g
+
+-- the texts are fetches, and these entries tell of the mappings that stay of them over the names
+pub record AreMatched (d : Direction) (texts names : List (List ℕ)) (es : List Entry) : Type 0 where
+  pub group : List Reading
+  pub read : AllZip (Reads Fetch) texts group
+  pub kept : List Mapped
+  pub stay : Stay d group (map nameless names) kept
+  pub are : es ≡ map (entry_of d group) kept
+
+-- the texts are fetches, of which some asks back for an id
+pub record WantIds (texts : List (List ℕ)) : Type 0 where
+  pub group : List Reading
+  pub read : AllZip (Reads Fetch) texts group
+  pub by_id : ¬ (AllByRecursion GoesByName group)
+
+-- why texts weren't matched: they weren't read, or memory ran out; or from right to left one asks for an id
+abbrev pub AreUnmatched : Direction → List (List ℕ) → Failure → Type 0
+AreUnmatched d texts f = AreUnread Fetch texts f ⊎ ((f ≡ failure.NeedsIds) × (d ≡ Backward) × WantIds texts)

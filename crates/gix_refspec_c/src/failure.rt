@@ -1,0 +1,139 @@
+//! Why a call gives no answer, or what is to be said of it.
+
+ghost use Rattle.std.specs.Prelude.{◌≡◌};
+ghost use Rattle.gix_refspec.specs.Specs.Refusal.{Refusal};
+ghost use Rattle.gix_refspec.specs.Views.Instruction.{IsShownAs};
+ghost use Rattle.gix_refspec_c.specs.Outcome.{IsNumberOf, number_of, of_fault, of_refusal};
+
+use gix_refspec::name;
+use gix_refspec::parsing::Error;
+
+/// Why a call gives no answer, or not the one that was hoped for.
+#[derive(Clone, Copy)]
+pub enum Failure {
+    /// Nothing is to be pushed.
+    Empty,
+    /// A negative spec has a colon.
+    NegativeWithDestination,
+    /// A negative spec has no source.
+    NegativeEmpty,
+    /// A negative spec is made of 40 or more hex digits.
+    NegativeObjectHash,
+    /// A push has a source and nothing after its last colon.
+    PushToEmpty,
+    /// A side has two stars or more.
+    PatternUnsupported,
+    /// Exactly one side has a star.
+    PatternUnbalanced,
+    /// A side is empty. Kept for the fault of that name, and never given.
+    NameEmpty,
+    /// A slash begins or ends a side, or follows another.
+    NameEmptyComponent,
+    /// A component begins with a dot.
+    NameStartsWithDot,
+    /// A component ends with `.lock`.
+    NameLockSuffix,
+    /// A side ends with a dot.
+    NameEndsWithDot,
+    /// Two dots are side by side.
+    NameRepeatedDot,
+    /// `@{` is in a side.
+    NameReflogPortion,
+    /// A star is in a name. Kept for the fault of that name, and never given.
+    NameAsterisk,
+    /// A control character, a space or one of `~ ^ : ? [ \` is in a side.
+    NameInvalidByte,
+    /// Only a request for all refs is safe.
+    NoList,
+    /// The buffer has no room for the answer.
+    TooSmall,
+    /// Memory ran out.
+    NoMemory,
+    /// The number is that of no operation, of no direction, or of no outcome.
+    NoOperation,
+    /// A destination is an id, which names don't tell of.
+    NeedsIds,
+    /// A destination has several sources.
+    InConflict,
+}
+
+impl Failure {
+    /// The number that C has for it.
+    pub fn number(self) -> u32
+        ensures { result ≡ number_of self }
+    {
+        match self {
+            Failure::Empty => 1,
+            Failure::NegativeWithDestination => 2,
+            Failure::NegativeEmpty => 3,
+            Failure::NegativeObjectHash => 4,
+            Failure::PushToEmpty => 5,
+            Failure::PatternUnsupported => 6,
+            Failure::PatternUnbalanced => 7,
+            Failure::NameEmpty => 8,
+            Failure::NameEmptyComponent => 9,
+            Failure::NameStartsWithDot => 10,
+            Failure::NameLockSuffix => 11,
+            Failure::NameEndsWithDot => 12,
+            Failure::NameRepeatedDot => 13,
+            Failure::NameReflogPortion => 14,
+            Failure::NameAsterisk => 15,
+            Failure::NameInvalidByte => 16,
+            Failure::NoList => 17,
+            Failure::TooSmall => 18,
+            Failure::NoMemory => 19,
+            Failure::NoOperation => 20,
+            Failure::NeedsIds => 21,
+            Failure::InConflict => 22,
+        }
+    }
+}
+
+/// The outcome of a call: 0, or the number of the failure.
+pub(crate) fn outcome_of(ended: Result<(), Failure>) -> u32
+    ensures { IsNumberOf ended result }
+{
+    match ended {
+        Ok(()) => 0,
+        Err(failure) => failure.number(),
+    }
+}
+
+/// The failure that tells of a refusal, or that memory ran out. The variants that are never given count
+/// as the latter.
+pub(crate) fn failure_of(error: &Error) -> Failure
+    ensures refusal { (e : Refusal) → IsShownAs error.now e → result ≡ of_refusal e }
+    ensures memory { error.now ≡ Error.Memory → result ≡ Failure.NoMemory }
+{
+    match error {
+        Error::Empty => Failure::Empty,
+        Error::NegativeWithDestination => Failure::NegativeWithDestination,
+        Error::NegativeEmpty => Failure::NegativeEmpty,
+        Error::NegativeObjectHash => Failure::NegativeObjectHash,
+        Error::PushToEmpty => Failure::PushToEmpty,
+        Error::PatternUnsupported { .. } => Failure::PatternUnsupported,
+        Error::PatternUnbalanced => Failure::PatternUnbalanced,
+        Error::ReferenceName(fault) => failure_of_name(fault),
+        Error::NegativePartialName
+        | Error::NegativeGlobPattern
+        | Error::InvalidFetchDestination
+        | Error::Memory => Failure::NoMemory,
+    }
+}
+
+// The failure that tells of a fault of a name.
+fn failure_of_name(fault: &name::Error) -> Failure
+    ensures { result ≡ of_fault fault.now }
+{
+    match fault {
+        name::Error::Empty => Failure::NameEmpty,
+        name::Error::EmptyComponent => Failure::NameEmptyComponent,
+        name::Error::StartsWithDot => Failure::NameStartsWithDot,
+        name::Error::LockSuffix => Failure::NameLockSuffix,
+        name::Error::EndsWithDot => Failure::NameEndsWithDot,
+        name::Error::RepeatedDot => Failure::NameRepeatedDot,
+        name::Error::ReflogPortion => Failure::NameReflogPortion,
+        name::Error::Asterisk => Failure::NameAsterisk,
+        name::Error::InvalidByte { .. } => Failure::NameInvalidByte,
+    }
+}

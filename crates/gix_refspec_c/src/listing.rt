@@ -1,0 +1,216 @@
+//! What a caller is told of mappings: a struct for each, and their texts.
+
+ghost use Rattle.std.specs.Prelude.{◌≡◌, ◌++◌, ◌∷◌, [], map, length, IfErr, IfOk, OnOk};
+ghost use Rattle.std.specs.String.{string_bytes};
+ghost use Rattle.gix_refspec.specs.Views.Group.{mapped_of, readings_of, start_of};
+ghost use Rattle.gix_refspec_c.specs.Mapping.{IsNotPut, IsPut, Room, Tells, backward_entry, forced_at, forward_entry, id_text, number_of_item, text_of, told_at, told_by};
+
+use crate::failure::Failure;
+use crate::parts::parts_of;
+use gix_refspec::MatchGroup;
+use gix_refspec::match_group::{Mapping, SourceRef};
+use std::alloc::{AllocError, Global};
+
+/// What C is told of a mapping. Texts are places in the buffer: where they begin, and how long they are.
+#[repr(C)]
+#[derive(Clone, Copy)]
+pub struct MappingOut {
+    /// The place of the spec among the texts.
+    pub spec: usize,
+    /// The place of the name among the names, or the greatest number for an object that is asked for by
+    /// its id.
+    pub item: usize,
+    /// 1 where there is a destination, else 0.
+    pub has_destination: u32,
+    /// 1 where the spec lets refs move also where that is no fast-forward, else 0.
+    pub forced: u32,
+    /// What becomes of it in a plan, else 0.
+    pub verdict: u32,
+    /// The text of a source that is an id. Of another its length is 0.
+    pub id_at: usize,
+    /// Its length.
+    pub id_len: usize,
+    /// The name that the spec makes: the destination, or from right to left the source.
+    pub made_at: usize,
+    /// Its length.
+    pub made_len: usize,
+}
+
+/// What is told of mappings.
+#[derive(Drop)]
+pub(crate) struct Listing {
+    pub(crate) mappings: Vec<MappingOut>,
+    pub(crate) text: Vec<u8>,
+}
+
+impl Listing {
+    /// A listing of nothing.
+    pub(crate) fn new(alloc: Global) -> Listing
+        ensures { Tells [] result.mappings.items result.text.items }
+    {
+        Listing {
+            mappings: Vec::new(alloc),
+            text: Vec::new(alloc),
+        }
+    }
+
+    /// Tells of one more mapping of a group from left to right.
+    pub(crate) fn add_forward(
+        &mut self,
+        alloc: Global,
+        group: &MatchGroup<'_>,
+        mapping: &Mapping<'_, '_>,
+        verdict: u32,
+    ) -> Result<(), Failure>
+        ensures text { OnOk result (self.new.text.items ≡ self.old.text.items ++
+            text_of (forward_entry (readings_of group.now) verdict (mapped_of mapping.now))) }
+        ensures told { OnOk result (map told_by self.new.mappings.items ≡
+            map told_by self.old.mappings.items ++
+            told_at (length self.old.text.items) (forward_entry (readings_of group.now) verdict (mapped_of mapping.now)) ∷ []) }
+        ensures err { IfErr result (λ f. f ≡ Failure.NoMemory) }
+    {
+        let id = match id_digits(alloc, &mapping.lhs) {
+            Ok(id) => id,
+            Err(_) => return Err(Failure::NoMemory),
+        };
+        let (has_destination, made) = match &mapping.rhs {
+            None => (0, b"".as_slice()),
+            Some(name) => (1, name.as_bstr().as_bytes()),
+        };
+        let forced = forced_of(group, mapping.spec_index);
+        self.add(
+            mapping,
+            has_destination,
+            forced,
+            verdict,
+            id.as_bytes(),
+            made,
+        )
+    }
+
+    /// Tells of one more mapping of a group from right to left.
+    pub(crate) fn add_backward(
+        &mut self,
+        alloc: Global,
+        group: &MatchGroup<'_>,
+        mapping: &Mapping<'_, '_>,
+    ) -> Result<(), Failure>
+        ensures text { OnOk result (self.new.text.items ≡ self.old.text.items ++
+            text_of (backward_entry (readings_of group.now) (mapped_of mapping.now))) }
+        ensures told { OnOk result (map told_by self.new.mappings.items ≡
+            map told_by self.old.mappings.items ++
+            told_at (length self.old.text.items) (backward_entry (readings_of group.now) (mapped_of mapping.now)) ∷ []) }
+        ensures err { IfErr result (λ f. f ≡ Failure.NoMemory) }
+    {
+        let id = match id_digits(alloc, &mapping.lhs) {
+            Ok(id) => id,
+            Err(_) => return Err(Failure::NoMemory),
+        };
+        let made = match &mapping.lhs {
+            SourceRef::FullName(name) => name.as_bstr().as_bytes(),
+            SourceRef::ObjectId(_) => id.as_bytes(),
+        };
+        let has_destination = if mapping.rhs.is_some() { 1 } else { 0 };
+        let forced = forced_of(group, mapping.spec_index);
+        self.add(mapping, has_destination, forced, 0, b"", made)
+    }
+
+    // Tells of one more mapping, with these texts.
+    fn add(
+        &mut self,
+        mapping: &Mapping<'_, '_>,
+        has_destination: u32,
+        forced: u32,
+        verdict: u32,
+        id: &[u8],
+        made: &[u8],
+    ) -> Result<(), Failure>
+        ensures text { OnOk result (self.new.text.items ≡ self.old.text.items ++ (id.now ++ made.now)) }
+        ensures told { OnOk result (map told_by self.new.mappings.items ≡
+            map told_by self.old.mappings.items ++
+            told_at (length self.old.text.items) (record { spec = mapping.now.spec_index; item = number_of_item mapping.now.item_index; has_destination = has_destination; forced = forced; verdict = verdict; id = id.now; made = made.now }) ∷ []) }
+        ensures err { IfErr result (λ f. f ≡ Failure.NoMemory) }
+    {
+        let id_at = self.text.len();
+        if self.text.extend_from_slice(id).is_err() {
+            return Err(Failure::NoMemory);
+        }
+        let made_at = self.text.len();
+        if self.text.extend_from_slice(made).is_err() {
+            return Err(Failure::NoMemory);
+        }
+        let told = MappingOut {
+            spec: mapping.spec_index,
+            item: item_number(mapping.item_index),
+            has_destination,
+            forced,
+            verdict,
+            id_at,
+            id_len: id.len(),
+            made_at,
+            made_len: made.len(),
+        };
+        match self.mappings.push(told) {
+            Ok(()) => Ok(()),
+            Err(_) => Err(Failure::NoMemory),
+        }
+    }
+}
+
+// 1 if the spec with this index lets refs move also where that is no fast-forward, else 0.
+fn forced_of(group: &MatchGroup<'_>, index: usize) -> u32
+    ensures { result ≡ forced_at (readings_of group.now) index }
+{
+    match group.specs.get(index) {
+        Some(spec) => parts_of(spec.instruction()).forced,
+        None => 0,
+    }
+}
+
+// The place of an item, or the greatest number.
+fn item_number(index: Option<usize>) -> usize
+    ensures { result ≡ number_of_item index }
+{
+    match index {
+        Some(place) => place,
+        None => usize::MAX,
+    }
+}
+
+// The text of a source that is an id. Of another it is empty.
+fn id_digits(alloc: Global, source: &SourceRef<'_>) -> Result<String, AllocError>
+    ensures { IfOk result (λ digits. string_bytes digits ≡ id_text (start_of source.now)) }
+{
+    match source {
+        SourceRef::FullName(_) => Ok(String::new(alloc)),
+        SourceRef::ObjectId(id) => hex::encode(alloc, id.as_slice()),
+    }
+}
+
+/// Puts a listing at the front of two lists, if both have room, and sets the counts to what it needs.
+pub(crate) fn put_all(
+    listing: &Listing,
+    mappings: &mut [MappingOut],
+    buffer: &mut [u8],
+    count: &mut usize,
+    len: &mut usize,
+) -> Result<(), Failure>
+    ensures ok { OnOk result (IsPut listing.now.mappings.items listing.now.text.items
+        (record { mappings = mappings.old; buffer = buffer.old; count = count.old; len = len.old })
+        (record { mappings = mappings.new; buffer = buffer.new; count = count.new; len = len.new })) }
+    ensures small { IfErr result (λ f. (f ≡ Failure.TooSmall) × IsNotPut
+        listing.now.mappings.items listing.now.text.items
+        (record { mappings = mappings.old; buffer = buffer.old; count = count.old; len = len.old })
+        (record { mappings = mappings.new; buffer = buffer.new; count = count.new; len = len.new })) }
+{
+    let structs = listing.mappings.as_slice();
+    let text = listing.text.as_slice();
+    *count = structs.len();
+    *len = text.len();
+    if mappings.len() < structs.len() || buffer.len() < text.len() {
+        return Err(Failure::TooSmall);
+    }
+    mappings[..structs.len()].copy_from_slice(structs);
+    buffer[..text.len()].copy_from_slice(text);
+    Ok(())
+}

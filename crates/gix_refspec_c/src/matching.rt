@@ -1,0 +1,194 @@
+//! What fetches match among names.
+
+ghost use Rattle.std.specs.Prelude.{◌≡◌, ◌↔◌, ℕ, List, map, replicate, IfErr, IfOk, IsTrue, MatchOption, OnOk};
+ghost use Rattle.std.specs.List.{AllByRecursion, AllZip};
+ghost use Rattle.gix_refspec.specs.Specs.Grammar.{Reads};
+ghost use Rattle.gix_refspec.specs.Views.Group.{mapped_of, readings_of, ref_of};
+ghost use Rattle.gix_refspec.specs.Texts.ObjectId.{id_bytes};
+ghost use Rattle.gix_refspec.specs.Views.Spec.{reading_of};
+ghost use Rattle.gix_refspec_c.specs.Group.{bytes_of};
+ghost use Rattle.gix_refspec_c.specs.Mapping.{Entry, HasAll, LacksAll, Room, Tells, backward_entry, forward_entry};
+ghost use Rattle.gix_refspec_c.specs.Matching.{AreMatched, AreUnmatched, GoesByName, direction_code, nameless};
+ghost use Rattle.gix_refspec_c.specs.Outcome.{Answers};
+
+use crate::explanation::Text;
+use crate::failure::{Failure, outcome_of};
+use crate::listing::{Listing, MappingOut, put_all};
+use crate::reading::read_all;
+use bstr::BStr;
+use gix_refspec::match_group::{Item, Mapping};
+use gix_refspec::oid::{Kind, ObjectId};
+use gix_refspec::parsing::Operation;
+use gix_refspec::{MatchGroup, RefSpecRef, laws};
+use std::alloc::{AllocError, Global};
+
+/// Which side of the specs is matched.
+#[derive(Clone, Copy)]
+pub enum Direction {
+    /// The sources, from left to right.
+    Forward,
+    /// The destinations, from right to left.
+    Backward,
+}
+
+/// What fetches map of names, or back from names. The count and the length are set to what the answer
+/// needs, also where there is no room for it, and then the rest is as before; after any other failure all
+/// is.
+#[unsafe(no_mangle)]
+pub extern "C" fn gix_refspec_match(
+    alloc: Global,
+    texts: &[Text<'_>],
+    names: &[Text<'_>],
+    direction: u32,
+    mappings: &mut [MappingOut],
+    buffer: &mut [u8],
+    count: &mut usize,
+    len: &mut usize,
+) -> u32
+    ensures { Answers direction_code direction
+        (λ d. (es : List Entry) × AreMatched d (map bytes_of texts.now) (map bytes_of names.now) es × HasAll es
+        (record { mappings = mappings.old; buffer = buffer.old; count = count.old; len = len.old })
+        (record { mappings = mappings.new; buffer = buffer.new; count = count.new; len = len.new }))
+        (λ d. LacksAll (AreMatched d (map bytes_of texts.now) (map bytes_of names.now))
+        (AreUnmatched d (map bytes_of texts.now))
+        (record { mappings = mappings.old; buffer = buffer.old; count = count.old; len = len.old })
+        (record { mappings = mappings.new; buffer = buffer.new; count = count.new; len = len.new }))
+        ((mappings.new ≡ mappings.old) × (buffer.new ≡ buffer.old) × (count.new ≡ count.old) × (len.new ≡ len.old))
+        result }
+{
+    let direction = match direction_of(direction) {
+        Some(direction) => direction,
+        None => return Failure::NoOperation.number(),
+    };
+    match listing_of(alloc, texts, names, direction) {
+        Ok(listing) => outcome_of(put_all(&listing, mappings, buffer, count, len)),
+        Err(failure) => failure.number(),
+    }
+}
+
+// The direction that has a number in C.
+fn direction_of(number: u32) -> Option<Direction>
+    ensures { MatchOption result
+        ((d : Direction) → ¬ (number ≡ direction_code d)) (λ d. number ≡ direction_code d) }
+{
+    match number {
+        1 => Some(Direction::Forward),
+        2 => Some(Direction::Backward),
+        _ => None,
+    }
+}
+
+// What there is to tell of what fetches map.
+fn listing_of(
+    alloc: Global,
+    texts: &[Text<'_>],
+    names: &[Text<'_>],
+    direction: Direction,
+) -> Result<Listing, Failure>
+    ensures ok { IfOk result (λ listing. (es : List Entry) ×
+        AreMatched direction (map bytes_of texts.now) (map bytes_of names.now) es ×
+        Tells es listing.mappings.items listing.text.items) }
+    ensures err { IfErr result (AreUnmatched direction (map bytes_of texts.now)) }
+{
+    let group = read_all(alloc, texts, Operation::Fetch)?;
+    let null = ObjectId::null(Kind::Sha1);
+    let items = match items_of(alloc, names, &null) {
+        Ok(items) => items,
+        Err(_) => return Err(Failure::NoMemory),
+    };
+    match direction {
+        Direction::Forward => match group.match_lhs(alloc, items.as_slice()) {
+            Ok(outcome) => listed_forward(alloc, &outcome.group, outcome.mappings.as_slice()),
+            Err(_) => Err(Failure::NoMemory),
+        },
+        Direction::Backward => {
+            if !goes_by_names(&group) {
+                return Err(Failure::NeedsIds);
+            }
+            match group.match_rhs(alloc, items.as_slice()) {
+                Ok(outcome) => listed_backward(alloc, &outcome.group, outcome.mappings.as_slice()),
+                Err(_) => Err(Failure::NoMemory),
+            }
+        }
+    }
+}
+
+/// Items with these names and one id.
+pub(crate) fn items_of<'a>(
+    alloc: Global,
+    names: &'a [Text<'_>],
+    id: &'a ObjectId,
+) -> Result<Vec<Item<'a>>, AllocError>
+    requires { id_bytes id.now ≡ replicate 20 0 }
+    ensures { IfOk result (λ items. map ref_of items.items ≡ map nameless (map bytes_of names.now)) }
+{
+    let mut items = Vec::with_capacity(alloc, names.len())?;
+    for name in names {
+        items.push(Item {
+            full_ref_name: BStr::new(name.bytes),
+            target: id,
+            object: None,
+        })?;
+    }
+    Ok(items)
+}
+
+// Whether no destination is an id.
+fn goes_by_names(group: &MatchGroup<'_>) -> bool
+    ensures { IsTrue result ↔ AllByRecursion GoesByName (readings_of group.now) }
+{
+    for spec in &group.specs {
+        if !goes_by_name(spec) {
+            return false;
+        }
+    }
+    true
+}
+
+// Whether a spec has no destination that is an id.
+fn goes_by_name(spec: &RefSpecRef<'_>) -> bool
+    ensures { IsTrue result ↔ GoesByName (reading_of spec.now) }
+{
+    match spec.destination() {
+        None => true,
+        Some(destination) => {
+            let text = destination.as_bytes();
+            laws::id_or_fault(text);
+            ObjectId::from_hex(text).is_err()
+        }
+    }
+}
+
+// What there is to tell of mappings of a group from left to right.
+fn listed_forward(
+    alloc: Global,
+    group: &MatchGroup<'_>,
+    mappings: &[Mapping<'_, '_>],
+) -> Result<Listing, Failure>
+    ensures ok { IfOk result (λ listing. Tells
+        (map (forward_entry (readings_of group.now) 0) (map mapped_of mappings.now)) listing.mappings.items listing.text.items) }
+    ensures err { IfErr result (λ f. f ≡ Failure.NoMemory) }
+{
+    let mut listing = Listing::new(alloc);
+    for mapping in mappings {
+        listing.add_forward(alloc, group, mapping, 0)?;
+    }
+    Ok(listing)
+}
+
+// What there is to tell of mappings of a group from right to left.
+fn listed_backward(
+    alloc: Global,
+    group: &MatchGroup<'_>,
+    mappings: &[Mapping<'_, '_>],
+) -> Result<Listing, Failure>
+    ensures ok { IfOk result (λ listing. Tells
+        (map (backward_entry (readings_of group.now)) (map mapped_of mappings.now)) listing.mappings.items listing.text.items) }
+    ensures err { IfErr result (λ f. f ≡ Failure.NoMemory) }
+{
+    let mut listing = Listing::new(alloc);
+    for mapping in mappings {
+        listing.add_backward(alloc, group, mapping)?;
+    }
+    Ok(listing)
+}

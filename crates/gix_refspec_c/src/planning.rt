@@ -1,0 +1,264 @@
+//! What a fetch does with each of its mappings.
+
+ghost use Rattle.std.specs.Prelude.{◌≡◌, ◌↔◌, false, List, map, IfErr, IfOk, IsTrue, OnOk};
+ghost use Rattle.std.specs.List.{AllZip, Contains};
+ghost use Rattle.std.specs.List.Sorted.{IsStrictlySortedBy};
+ghost use Rattle.std.specs.Ordering.{nat_cmp};
+ghost use Rattle.std.specs.Cmp.Lexicographic.{slice_cmp};
+ghost use Rattle.gix_refspec.specs.Views.Group.{mapped_of, readings_of, start_of};
+ghost use Rattle.gix_refspec.specs.Views.Issue.{conflict_of, mappings_of};
+ghost use Rattle.gix_refspec.specs.Matching.Mappings.{Mapped};
+ghost use Rattle.gix_refspec.specs.Matching.RefNames.{AreNamed, IsNamedSource, IsRefName};
+ghost use Rattle.gix_refspec.specs.Matching.Validation.{AreConflicts, IndexesFit, IsWritable};
+ghost use Rattle.gix_refspec_c.specs.Group.{AreUnread, bytes_of};
+ghost use Rattle.gix_refspec_c.specs.Mapping.{Entry, HasAll, Room, Tells};
+ghost use Rattle.gix_refspec_c.specs.Outcome.{Concludes};
+ghost use Rattle.gix_refspec_c.specs.Planning.{HasVerdict, IsJudged, IsPlan, LacksPlan, destinations_of, verdict_code};
+
+use crate::explanation::Text;
+use crate::failure::Failure;
+use crate::listing::{Listing, MappingOut, put_all};
+use crate::matching::items_of;
+use crate::reading::read_all;
+use bstr::BStr;
+use gix_refspec::match_group::validate::{Issue, Refusal};
+use gix_refspec::match_group::{Mapping, SourceRef, match_lhs};
+use gix_refspec::name::name_partial;
+use gix_refspec::oid::{Kind, ObjectId};
+use gix_refspec::parsing::Operation;
+use gix_refspec::{MatchGroup, laws};
+use std::alloc::Global;
+use std::cmp::Ordering;
+
+/// What becomes of a mapping.
+#[derive(Clone, Copy)]
+pub enum Verdict {
+    /// Its destination is written.
+    Written,
+    /// Its destination neither begins `refs/` nor is `HEAD`.
+    LeftOut,
+    /// Its source or its destination is none that a ref may be called.
+    BadName,
+    /// Its destination has several sources.
+    Contested,
+    /// It has no destination.
+    FetchedOnly,
+}
+
+impl Verdict {
+    /// The number that C has for it.
+    pub fn number(self) -> u32
+        ensures { result ≡ verdict_code self }
+    {
+        match self {
+            Verdict::Written => 1,
+            Verdict::LeftOut => 2,
+            Verdict::BadName => 3,
+            Verdict::Contested => 4,
+            Verdict::FetchedOnly => 5,
+        }
+    }
+}
+
+/// What a fetch does with each of its mappings. Conflicts are looked for among those whose names refs may
+/// have, and where there are some, the lists are filled all the same. The count and the length are set to
+/// what the answer needs, also where there is no room for it, and then the rest is as before; after any
+/// other failure all is.
+#[unsafe(no_mangle)]
+pub extern "C" fn gix_refspec_plan(
+    alloc: Global,
+    texts: &[Text<'_>],
+    names: &[Text<'_>],
+    mappings: &mut [MappingOut],
+    buffer: &mut [u8],
+    count: &mut usize,
+    len: &mut usize,
+) -> u32
+    ensures { Concludes
+        ((es : List Entry) × IsPlan false (map bytes_of texts.now) (map bytes_of names.now) es × HasAll es
+        (record { mappings = mappings.old; buffer = buffer.old; count = count.old; len = len.old })
+        (record { mappings = mappings.new; buffer = buffer.new; count = count.new; len = len.new }))
+        (LacksPlan (map bytes_of texts.now) (map bytes_of names.now)
+        (record { mappings = mappings.old; buffer = buffer.old; count = count.old; len = len.old })
+        (record { mappings = mappings.new; buffer = buffer.new; count = count.new; len = len.new }))
+        result }
+{
+    let plan = match plan_of(alloc, texts, names) {
+        Ok(plan) => plan,
+        Err(failure) => return failure.number(),
+    };
+    match put_all(&plan.listing, mappings, buffer, count, len) {
+        Ok(()) => {
+            if plan.has_conflict {
+                Failure::InConflict.number()
+            } else {
+                0
+            }
+        }
+        Err(failure) => failure.number(),
+    }
+}
+
+// What there is to tell of a fetch, and whether several refs would be written to one destination.
+#[derive(Drop)]
+struct Plan {
+    listing: Listing,
+    has_conflict: bool,
+}
+
+// What there is to tell of what a fetch does with its mappings.
+fn plan_of(alloc: Global, texts: &[Text<'_>], names: &[Text<'_>]) -> Result<Plan, Failure>
+    ensures ok { IfOk result (λ plan. (es : List Entry) ×
+        IsPlan plan.has_conflict (map bytes_of texts.now) (map bytes_of names.now) es ×
+        Tells es plan.listing.mappings.items plan.listing.text.items) }
+    ensures err { IfErr result (AreUnread Operation.Fetch (map bytes_of texts.now)) }
+{
+    let group = read_all(alloc, texts, Operation::Fetch)?;
+    let null = ObjectId::null(Kind::Sha1);
+    let items = match items_of(alloc, names, &null) {
+        Ok(items) => items,
+        Err(_) => return Err(Failure::NoMemory),
+    };
+    laws::forward_fits(&group, items.as_slice());
+    let outcome = match group.match_lhs(alloc, items.as_slice()) {
+        Ok(outcome) => outcome,
+        Err(_) => return Err(Failure::NoMemory),
+    };
+    let issues = match issues_of(alloc, &outcome) {
+        Ok(issues) => issues,
+        Err(failure) => return Err(failure),
+    };
+    let conflicts = issues.as_slice();
+    match listed(
+        alloc,
+        &outcome.group,
+        outcome.mappings.as_slice(),
+        conflicts,
+    ) {
+        Ok(listing) => Ok(Plan {
+            listing,
+            has_conflict: !conflicts.is_empty(),
+        }),
+        Err(failure) => Err(failure),
+    }
+}
+
+// The conflicts of those mappings whose names refs may have.
+fn issues_of(alloc: Global, outcome: &match_lhs::Outcome<'_, '_>) -> Result<Vec<Issue>, Failure>
+    requires { IndexesFit (readings_of outcome.now.group) (mappings_of outcome.now) }
+    ensures ok { IfOk result (λ issues. (named : List Mapped) × AreNamed (mappings_of outcome.now) named ×
+        AreConflicts (readings_of outcome.now.group) named (map conflict_of issues.items)) }
+    ensures err { IfErr result (λ f. f ≡ Failure.NoMemory) }
+{
+    let copy = match outcome.clone(alloc) {
+        Ok(copy) => copy,
+        Err(_) => return Err(Failure::NoMemory),
+    };
+    laws::copied_outcome(outcome, &copy);
+    laws::writes_refs(&copy.group, &[]);
+    let named = match copy.without_bad_names(alloc) {
+        Ok((named, _)) => named,
+        Err(_) => return Err(Failure::NoMemory),
+    };
+    match named.validated(alloc) {
+        Ok(_) => Ok(Vec::new(alloc)),
+        Err(Refusal::Conflicts(error)) => Ok(error.issues),
+        Err(Refusal::Memory(_)) => Err(Failure::NoMemory),
+    }
+}
+
+// What there is to tell of mappings of a group, of which these are the conflicts.
+fn listed(
+    alloc: Global,
+    group: &MatchGroup<'_>,
+    mappings: &[Mapping<'_, '_>],
+    issues: &[Issue],
+) -> Result<Listing, Failure>
+    requires { IsStrictlySortedBy (slice_cmp nat_cmp) (destinations_of issues.now) }
+    ensures ok { IfOk result (λ listing. (es : List Entry) ×
+        AllZip (IsJudged (readings_of group.now) (Contains (destinations_of issues.now))) (map mapped_of mappings.now) es ×
+        Tells es listing.mappings.items listing.text.items) }
+    ensures err { IfErr result (λ f. f ≡ Failure.NoMemory) }
+{
+    let mut listing = Listing::new(alloc);
+    for mapping in mappings {
+        let verdict = verdict_of(mapping, issues);
+        listing.add_forward(alloc, group, mapping, verdict.number())?;
+    }
+    Ok(listing)
+}
+
+// What becomes of a mapping where these are the conflicts.
+fn verdict_of(mapping: &Mapping<'_, '_>, issues: &[Issue]) -> Verdict
+    requires { IsStrictlySortedBy (slice_cmp nat_cmp) (destinations_of issues.now) }
+    ensures { HasVerdict (Contains (destinations_of issues.now)) (mapped_of mapping.now) result }
+{
+    let source_is_good = is_good_source(&mapping.lhs);
+    match &mapping.rhs {
+        None => {
+            if source_is_good {
+                Verdict::FetchedOnly
+            } else {
+                Verdict::BadName
+            }
+        }
+        Some(name) => {
+            let destination = name.as_bstr().as_bytes();
+            if !is_writable(destination) {
+                Verdict::LeftOut
+            } else if !source_is_good || !is_ref_name(destination) {
+                Verdict::BadName
+            } else if is_contested(destination, issues) {
+                Verdict::Contested
+            } else {
+                Verdict::Written
+            }
+        }
+    }
+}
+
+// Whether a source is an id, or a name that a ref may have.
+fn is_good_source(source: &SourceRef<'_>) -> bool
+    ensures { IsTrue result ↔ IsNamedSource (start_of source.now) }
+{
+    match source {
+        SourceRef::FullName(name) => is_ref_name(name.as_bstr().as_bytes()),
+        SourceRef::ObjectId(_) => true,
+    }
+}
+
+// Whether a name begins `refs/` or is `HEAD`.
+fn is_writable(name: &[u8]) -> bool
+    ensures { IsTrue result ↔ IsWritable name.now }
+{
+    name.starts_with(b"refs/") || name == b"HEAD".as_slice()
+}
+
+// Whether a ref may have a name.
+fn is_ref_name(name: &[u8]) -> bool
+    ensures { IsTrue result ↔ IsRefName name.now }
+{
+    name == b"HEAD".as_slice()
+        || name.starts_with(b"refs/") && name_partial(BStr::new(name)).is_ok()
+}
+
+// Whether a destination is one of those of the conflicts.
+fn is_contested(destination: &[u8], issues: &[Issue]) -> bool
+    requires { IsStrictlySortedBy (slice_cmp nat_cmp) (destinations_of issues.now) }
+    ensures { IsTrue result ↔ Contains (destinations_of issues.now) destination.now }
+{
+    issues
+        .binary_search_by(|issue| order_of(issue, destination))
+        .is_ok()
+}
+
+// How the destination of a conflict compares with another.
+fn order_of(issue: &Issue, destination: &[u8]) -> Ordering
+    ensures { result ≡ slice_cmp nat_cmp (conflict_of issue.now).destination destination.now }
+{
+    let Issue::Conflict {
+        destination_full_ref_name,
+        ..
+    } = issue;
+    destination_full_ref_name.as_bytes().cmp(destination)
+}

@@ -1,0 +1,196 @@
+-- The words on hits and mappings on the other side of their border: which specs have no such ends, which
+-- items no hit, and which mappings no place.
+use Rattle.std.proofs.Common.{◌≡◌, ◌≢◌, ℕ, true, is_some, List, [], ◌∷◌, Option, None, Some, codes, refl, sym, subst, inl, inr, arith}
+use Rattle.std.proofs.lemmas.Bool.{false≢true}
+use Rattle.gix_refspec_text.specs.Texts.Bytes.{star}
+use Rattle.gix_refspec_text.specs.Texts.ObjectId.{IsIdText}
+use Rattle.gix_refspec_text.specs.Specs.Reading.{Normal, Forced, Negative}
+use Rattle.gix_refspec_text.specs.Specs.Grammar.{fetched, pushed}
+use Rattle.gix_refspec_text.specs.Matching.Side.{pattern, object, HasKind}
+use Rattle.gix_refspec_text.specs.Matching.Match.{Ref, Matches, Takes}
+use Rattle.gix_refspec_match.specs.Matching.Lists.{IsMadeFrom}
+use Rattle.gix_refspec_match.specs.Matching.Mappings.{name, id, Mapped, IsExcludedBy, IsExcluded, IsKeptAt, IsKept}
+use Rattle.gix_refspec_match.specs.Matching.Hits.{Ends, AreForwardEnds, AreBackwardEnds, IsFilled, Hit, IsHit, AreSpecHits, AreHits, forward_of, backward_of, IsIdMapping, AreBackward}
+use Rattle.gix_refspec_text.specs.Matching.Prefix.{of_name}
+use Rattle.gix_refspec_text.proofs.lemmas.hits.MatchLemmas.{prefix_begins}
+use Rattle.gix_refspec_text.proofs.lemmas.specs.FormsBackLemmas.{some_once}
+use Rattle.gix_refspec_text.proofs.facts.ManualFacts.{Lacks-tested, other_length, none_some, some_none}
+use Rattle.gix_refspec_match.proofs.lemmas.lists.JoinLemmas.{nothing_made}
+use Rattle.gix_refspec_text.proofs.facts.FaultFacts.{begins_not}
+use Rattle.gix_refspec_text.proofs.facts.ObjectIdFacts.{empty_blob}
+use Rattle.gix_refspec_text.proofs.facts.FitFacts.{every, no_dev, short, blob, blob_kind, short_no_id, dev_ref, main_ref}
+use Rattle.gix_refspec_match.proofs.facts.MatchFacts.{blob_mapping, mapping, tag_to_x, tag_again, dev_excluded, forward_ends, backward_ends, are_forward_ends, hit_by, taken_by}
+
+-- ---- exclusions
+
+-- a negative spec excludes wherever it is, and a positive one doesn't, nor one without a source
+pub exclusions : IsExcluded (no_dev ∷ every ∷ []) (codes "refs/heads/dev-a") × ¬ (IsExcluded (every ∷ []) (codes "refs/heads/dev-a")) × ¬ (IsExcluded [] (codes "refs/heads/dev-a")) × ¬ (IsExcludedBy (codes "a") (pushed Negative None (Some (codes "a"))))
+exclusions = (
+  inl dev_excluded_by,
+  positive,
+  (λ none. none),
+  λ by. none_some by.text by.source,
+)
+  where
+    forced_no_negative : Forced ≢ Negative
+    forced_no_negative same = cc
+
+    dev_excluded_by : IsExcludedBy (codes "refs/heads/dev-a") no_dev
+    dev_excluded_by = elim dev_excluded [
+      | inl by ↦ absurd (forced_no_negative by.negative)
+      | inr rest ↦ elim rest [ inl by ↦ by | inr none ↦ absurd none ]
+    ]
+
+    positive : ¬ (IsExcluded (every ∷ []) (codes "refs/heads/dev-a"))
+    positive (inl by) = forced_no_negative by.negative
+    positive (inr none) = none
+
+-- of two equal pairs the first is kept, and of a list only what is before counts
+pub stays_first : IsKeptAt [] (tag_to_x ∷ tag_again ∷ []) 0 tag_to_x × ¬ (IsKeptAt [] (tag_to_x ∷ tag_again ∷ []) 1 tag_again) × IsKept [] (tag_to_x ∷ tag_again ∷ []) (tag_to_x ∷ [])
+stays_first = (first, again, (Some tag_to_x, [], (refl, first), (None, [], (λ m made. made.1.first (inl (record { source = refl; destination = refl }))), refl, refl), refl))
+  where
+    first : IsKeptAt [] (tag_to_x ∷ tag_again ∷ []) 0 tag_to_x
+    first = record { first = λ none. none; included = λ none. none }
+
+    again : ¬ (IsKeptAt [] (tag_to_x ∷ tag_again ∷ []) 1 tag_again)
+    again stays = stays.first (inl (record { source = refl; destination = refl }))
+
+-- ---- ends
+
+-- a source alone is near, of a push too, but not that of a negative spec, nor an id, nor is a destination
+pub forward_ends_of : AreForwardEnds every forward_ends × AreForwardEnds (pushed Normal (Some (codes "refs/x/a")) None) (record { near = codes "refs/x/a"; far = None })
+    × ((ends : Ends) → ¬ (AreForwardEnds no_dev ends) × ¬ (AreForwardEnds blob ends) × ¬ (AreForwardEnds (pushed Normal None (Some (codes "a"))) ends)) × ¬ (AreForwardEnds every backward_ends) × ¬ (AreForwardEnds every (record { near = codes "refs/heads/*"; far = None }))
+forward_ends_of = (
+  are_forward_ends,
+  record { positive = tt; near = refl; far = refl; no_object = λ bytes kind. kind.1 (record { after = codes "x/a"; here = refl }) },
+  (λ ends. (
+    (λ are. are.positive),
+    (λ are. are.no_object empty_blob (subst (λ (x : List ℕ). HasKind x (object empty_blob)) (some_once (codes "e69de29bb2d1d6434b8b29ae775ad8c2e48c5391") ends.near are.near) blob_kind)),
+    λ are. none_some ends.near are.near,
+  )),
+  (λ are. other_length _ _ (λ size. omega (arith, size)) (some_once (codes "refs/heads/*") (codes "refs/remotes/origin/*") are.near)),
+  λ are. some_none (codes "refs/remotes/origin/*") are.far,
+)
+
+abbrev blob_back : Ends
+blob_back = record { near = codes "refs/tags/blob"; far = Some (codes "e69de29bb2d1d6434b8b29ae775ad8c2e48c5391") }
+
+-- a destination is near where there is a source, of a push too, and an id may be far
+pub backward_ends_of : AreBackwardEnds every backward_ends × AreBackwardEnds (pushed Normal (Some (codes "a")) (Some (codes "b"))) (record { near = codes "b"; far = Some (codes "a") }) × AreBackwardEnds blob blob_back
+    × ((ends : Ends) → ¬ (AreBackwardEnds no_dev ends) × ¬ (AreBackwardEnds short ends) × ¬ (AreBackwardEnds (pushed Normal None (Some (codes "a"))) ends) × ¬ (AreBackwardEnds (fetched Negative (codes "a") (Some (codes "b"))) ends)) × ¬ (AreBackwardEnds every forward_ends)
+backward_ends_of = (
+  record { positive = tt; near = refl; far = refl; both = refl },
+  record { positive = tt; near = refl; far = refl; both = refl },
+  record { positive = tt; near = refl; far = refl; both = refl },
+  (λ ends. (
+    (λ are. are.positive),
+    (λ are. none_some ends.near are.near),
+    (λ are. false≢true (subst (λ (far : Option (List ℕ)). is_some far ≡ true) (sym are.far) are.both)),
+    λ are. are.positive,
+  )),
+  λ are. other_length _ _ (λ size. omega (arith, size)) (some_once (codes "refs/remotes/origin/*") (codes "refs/heads/*") are.near),
+)
+
+-- ---- hits
+
+abbrev pub x_side : List ℕ
+x_side = codes "refs/x/*"
+
+x_kind : HasKind x_side (pattern (codes "refs/x/") [])
+x_kind = record { starred = refl; first = Lacks-tested star (codes "refs/x/") refl; last = tt }
+
+-- the far side gets the word or keeps its star, and where there is none, nothing is there
+pub fills : IsFilled None (Some (codes "a")) None × ((n : List ℕ) → ¬ (IsFilled None None (Some n))) × IsFilled (Some x_side) (Some (codes "a")) (Some (codes "refs/x/a")) × IsFilled (Some x_side) None (Some x_side) × ((word : Option (List ℕ)) → ¬ (IsFilled (Some x_side) word None))
+fills = (
+  refl,
+  (λ n filled. some_none n filled),
+  (pattern (codes "refs/x/") [], x_kind, refl),
+  (pattern (codes "refs/x/") [], x_kind, refl),
+  λ word filled. none_some _ filled.2,
+)
+
+-- a hit has the places of its spec and of its item, and not these swapped
+pub places_of_hits : IsHit (Takes []) forward_ends 5 3 main_ref (hit_by 5 3 (codes "main")) × ¬ (IsHit (Takes []) forward_ends 5 3 main_ref (hit_by 3 5 (codes "main"))) × ¬ (IsHit (Takes []) forward_ends 5 3 main_ref (hit_by 5 3 (codes "mai")))
+places_of_hits = (taken_by [] 5 3 (codes "main"), (λ is. omega (arith, is.spec)), λ is. other_length _ _ (λ size. omega (arith, size)) is.near)
+
+abbrev pub branches : List Ref
+branches = dev_ref ∷ main_ref ∷ []
+
+abbrev pub of_spec : ℕ → List Hit
+of_spec k = hit_by k 0 (codes "dev-a") ∷ hit_by k 1 (codes "main") ∷ []
+
+taken : (k : ℕ) → IsMadeFrom (IsHit (Takes branches) forward_ends k) 0 branches (of_spec k)
+taken k = (Some (hit_by k 0 (codes "dev-a")), hit_by k 1 (codes "main") ∷ [], taken_by branches k 0 (codes "dev-a"), (Some (hit_by k 1 (codes "main")), [], taken_by branches k 1 (codes "main"), refl, refl), refl)
+
+-- two specs that take two branches have four hits: both of the first spec, and then both of the second
+pub hits_by_spec : AreHits AreForwardEnds (Takes branches) (every ∷ every ∷ []) branches (hit_by 0 0 (codes "dev-a") ∷ hit_by 0 1 (codes "main") ∷ hit_by 1 0 (codes "dev-a") ∷ hit_by 1 1 (codes "main") ∷ [])
+hits_by_spec = (
+  of_spec 0,
+  of_spec 1,
+  inl (forward_ends, are_forward_ends, taken 0),
+  (of_spec 1, [], inl (forward_ends, are_forward_ends, taken 1), refl, refl),
+  refl,
+)
+
+-- a spec that takes an item has its hit, and one without such ends has none
+pub spec_hits : ¬ (AreSpecHits AreForwardEnds (Takes (main_ref ∷ [])) (main_ref ∷ []) 0 every []) × AreSpecHits AreForwardEnds (Takes branches) branches 0 no_dev [] × ¬ (AreSpecHits AreForwardEnds (Takes branches) branches 0 no_dev (of_spec 0))
+spec_hits = (missing, inr ((λ ends are. are.positive), refl), added)
+  where
+    missing : ¬ (AreSpecHits AreForwardEnds (Takes (main_ref ∷ [])) (main_ref ∷ []) 0 every [])
+    missing (inl (ends, are, made)) =
+        let near = some_once (codes "refs/heads/*") ends.near are.near in
+        let is = taken_by (main_ref ∷ []) 0 0 (codes "main") in
+        nothing_made (IsHit (Takes (main_ref ∷ [])) ends 0) 0 [] main_ref [] (hit_by 0 0 (codes "main")) made (record {
+          word = is.word;
+          takes = subst (λ (x : List ℕ). Takes (main_ref ∷ []) x main_ref is.word) near is.takes;
+          far = subst (λ (far : Option (List ℕ)). IsFilled far is.word (Some (codes "refs/remotes/origin/main"))) are.far is.far;
+          near = refl;
+          spec = refl;
+          item = refl;
+        })
+    missing (inr (no_ends, same)) = no_ends forward_ends are_forward_ends
+
+    added : ¬ (AreSpecHits AreForwardEnds (Takes branches) branches 0 no_dev (of_spec 0))
+    added (inl (ends, are, made)) = are.positive
+    added (inr (no_ends, same)) = cc
+
+-- an item's name is the source in one direction, and the destination in the other
+pub mapped_hits : (forward_of (record { spec = 5; item = 3; near = codes "a"; far = Some (codes "b") }) ≡ mapping 3 (codes "a") (Some (codes "b")) 5)
+    × (forward_of (record { spec = 5; item = 3; near = codes "a"; far = None }) ≡ mapping 3 (codes "a") None 5)
+    × (backward_of (record { spec = 5; item = 3; near = codes "a"; far = Some (codes "b") }) ≡ mapping 3 (codes "b") (Some (codes "a")) 5)
+mapped_hits = (refl, refl, refl)
+
+-- ---- ids
+
+-- the mapping of an id has the place of its spec and no item, and goes nowhere without a destination
+pub id_mappings : IsIdMapping 7 (fetched Forced (codes "e69de29bb2d1d6434b8b29ae775ad8c2e48c5391") None) (record { item = None; source = id empty_blob; destination = None; spec = 7 })
+    × ¬ (IsIdMapping 0 blob blob_mapping) × ¬ (IsIdMapping 1 blob (record { item = Some 0; source = id empty_blob; destination = Some (codes "refs/tags/blob"); spec = 1 }))
+    × ((m : Mapped) → ¬ (IsIdMapping 1 (fetched Negative (codes "e69de29bb2d1d6434b8b29ae775ad8c2e48c5391") None) m) × ¬ (IsIdMapping 1 short m))
+    × ¬ (IsIdMapping 1 blob (record { item = None; source = name empty_blob; destination = Some (codes "refs/tags/blob"); spec = 1 }))
+id_mappings = (
+  record { positive = tt; text = codes "e69de29bb2d1d6434b8b29ae775ad8c2e48c5391"; bytes = empty_blob; side = refl; object = blob_kind; item = refl; source = refl; destination = refl; spec = refl },
+  (λ made. omega (arith, made.spec)),
+  (λ made. item_no_none made.item),
+  (λ m. ((λ made. made.positive), λ made. short_no_id made.bytes (subst (λ (x : List ℕ). IsIdText x made.bytes) (sym (some_once (codes "main") made.text made.side)) made.object.2))),
+  λ made. name_no_id made.bytes made.source,
+)
+  where
+    item_no_none : Path (Option ℕ) (Some 0) None → ⊥
+    item_no_none same = cc
+
+    name_no_id : (bytes : List ℕ) → name empty_blob ≢ id bytes
+    name_no_id bytes same = cc
+
+-- from right to left the id of an object maps nothing where its destination matches nothing
+pub no_id_back : AreBackward (blob ∷ []) (main_ref ∷ []) []
+no_id_back = record {
+  hits = [];
+  are_hits = ([], [], inl (blob_back, backward_ends_of.2, (None, [], not_taken, refl, refl)), refl, refl);
+  all = refl;
+}
+  where
+    not_taken : (hit : Hit) → ¬ (IsHit Matches blob_back 0 0 main_ref hit)
+    not_taken hit is =
+        let prefix = of_name (record { after = codes "tags/blob"; here = refl }) (Lacks-tested star (codes "refs/tags/blob") refl) refl in
+        let begins = prefix_begins (codes "refs/tags/blob") (codes "refs/tags/blob") main_ref is.word prefix (other_length _ _ (λ same. omega (arith, same))) is.takes in
+        begins_not (codes "refs/tags/blob") (codes "refs/heads/main") refl begins

@@ -1,0 +1,24 @@
+-- The words on fronts at small lists of refs.
+use Rattle.std.proofs.Common.{List, [], ◌∷◌, None, Some, codes, refl}
+use Rattle.gix_refspec_text.specs.Matching.Match.{Ref}
+use Rattle.gix_refspec_match.specs.Private.Index.{ArePlacesBehind}
+use Rattle.gix_refspec_text.proofs.facts.FaultFacts.{begins_not}
+use Rattle.gix_refspec_text.proofs.facts.ManualFacts.{named}
+
+abbrev refs : List Ref
+refs = named (codes "ab") ∷ named (codes "b") ∷ named (codes "a") ∷ []
+
+-- the front itself begins with it, and so does a longer name, but no other
+pub places_after_a : ArePlacesBehind (codes "a") refs (0 ∷ 2 ∷ [])
+places_after_a = (
+  Some 0,
+  2 ∷ [],
+  (record { after = codes "b"; here = refl }, refl),
+  (None, 2 ∷ [], (λ place both. begins_not (codes "a") (codes "b") refl both.0), (Some 2, [], (record { after = []; here = refl }, refl), refl, refl), refl),
+  refl,
+)
+
+-- no place may be missing
+pub place_missing : ¬ (ArePlacesBehind (codes "a") (named (codes "a") ∷ []) [])
+place_missing (None, rest, of, more, same) = of 0 (record { after = []; here = refl }, refl)
+place_missing (Some place, rest, of, more, same) = absurd (cc)

@@ -1,0 +1,340 @@
+-- The words on matching at groups like those of git-fetch(1) under `<refspec>`: what is mapped, and
+-- what is not by a word or a place. So a wrong rule in the specs does not check.
+use Rattle.std.proofs.Common.{◌≡◌, ◌≢◌, ℕ, List, [], ◌∷◌, ◌++◌, Option, None, Some, codes, refl, sym, ap, ◌∙◌, subst, inl, inr, arith}
+use Rattle.std.proofs.lemmas.List.{append-nil}
+use Rattle.gix_refspec_text.specs.Texts.Words.{BeginsWith}
+use Rattle.gix_refspec_text.specs.Texts.Name.{IsCut}
+use Rattle.gix_refspec_text.specs.Texts.Bytes.{star, bracket}
+use Rattle.gix_refspec_text.specs.Texts.ObjectId.{IsIdText}
+use Rattle.gix_refspec_text.specs.Specs.Reading.{Normal, Forced, Negative, Reading}
+use Rattle.gix_refspec_text.specs.Specs.Grammar.{fetched, IsPositive}
+use Rattle.gix_refspec_text.specs.Matching.Side.{pattern, full_name, object, HasKind, Excludes, the_name}
+use Rattle.gix_refspec_text.specs.Matching.Match.{Ref, Matches, Takes}
+use Rattle.gix_refspec_match.specs.Matching.Lists.{IsMadeFrom}
+use Rattle.gix_refspec_match.specs.Matching.Mappings.{Start, name, id, Mapped, IsExcluded, IsStartExcluded, IsSamePair, HasPair, AreApart}
+use Rattle.gix_refspec_match.specs.Matching.Hits.{Ends, AreForwardEnds, AreBackwardEnds, AreHits, Hit, IsHit, IsIdMapping, AreForward, AreBackward, AreKeptForward, AreKeptBackward}
+use Rattle.gix_refspec_text.specs.Matching.Prefix.{of_pattern}
+use Rattle.gix_refspec_text.proofs.lemmas.hits.CandidateLemmas.{first_of_one, taken_by_first}
+use Rattle.gix_refspec_text.proofs.lemmas.hits.MatchLemmas.{lacks_no_pattern, prefix_begins}
+use Rattle.gix_refspec_text.proofs.lemmas.specs.FormsBackLemmas.{some_once}
+use Rattle.gix_refspec_text.proofs.facts.ManualFacts.{Lacks-tested, other_length, none_some, some_none, named}
+use Rattle.gix_refspec_text.proofs.facts.ObjectIdFacts.{empty_blob}
+use Rattle.gix_refspec_text.proofs.facts.FitFacts.{other_byte, excludes_dev, excludes_no_main, every, no_dev, dev_ref, tag_ref, main_ref, heads_cut, origin_cut, short, blob, below_tags, blob_kind, short_no_id, short_kind}
+
+-- ---- sides
+
+-- ---- a group
+
+-- the mapping that such a spec at place 0 gives of a branch at a place
+abbrev pub tracked : ℕ → List ℕ → Mapped
+tracked item branch = record { item = Some item; source = name (codes "refs/heads/" ++ branch); destination = Some (codes "refs/remotes/origin/" ++ branch); spec = 0 }
+
+heads_below : BeginsWith (codes "refs/") (codes "refs/heads/*")
+heads_below = record { after = codes "heads/*"; here = refl }
+
+-- a source below `refs/` is no id
+no_id_mapping : (k : ℕ) (r : Reading) (x : List ℕ) → r.source ≡ Some x → BeginsWith (codes "refs/") x → (m : Mapped) → ¬ (IsIdMapping k r m)
+no_id_mapping k r x is below m made = made.object.1 (subst (BeginsWith (codes "refs/")) (some_once x made.text (sym is ∙ made.side)) below)
+
+no_id_negative : (k : ℕ) (r : Reading) → r.mode ≡ Negative → (m : Mapped) → ¬ (IsIdMapping k r m)
+no_id_negative k r negative m made = subst IsPositive negative made.positive
+
+-- the ends of a spec of two patterns, from left to right
+abbrev pub forward_ends : Ends
+forward_ends = record { near = codes "refs/heads/*"; far = Some (codes "refs/remotes/origin/*") }
+
+pub are_forward_ends : AreForwardEnds every forward_ends
+are_forward_ends = record { positive = tt; near = refl; far = refl; no_object = λ bytes kind. kind.1 heads_below }
+
+-- that the spec at a place takes what is below a folder, at a place
+abbrev hit_below : List ℕ → List ℕ → ℕ → ℕ → List ℕ → Hit
+hit_below near far spec item branch = record { spec = spec; item = item; near = near ++ branch; far = Some (far ++ (branch ++ [])) }
+
+takes_below : (near far : List ℕ) → IsCut near [] (near ++ codes "*") → IsCut far [] (far ++ codes "*") → (Taken : List ℕ → Ref → Option (List ℕ) → Type 0) → ((r : Ref) (word : Option (List ℕ)) → Matches (near ++ codes "*") r word → Taken (near ++ codes "*") r word) → (k j : ℕ) (branch : List ℕ) → IsHit Taken (record { near = near ++ codes "*"; far = Some (far ++ codes "*") }) k j (named (near ++ branch)) (hit_below near far k j branch)
+takes_below near far near_cut far_cut Taken taken k j branch = record {
+  word = Some branch;
+  takes = taken (named (near ++ branch)) (Some branch) (record { kind = pattern near []; of = near_cut; is = ap (λ (y : List ℕ). near ++ y) (sym (append-nil branch)) });
+  far = (pattern far [], far_cut, refl);
+  near = refl;
+  spec = refl;
+  item = refl;
+}
+
+-- each branch is taken
+abbrev pub hit_by : ℕ → ℕ → List ℕ → Hit
+hit_by spec item branch = hit_below (codes "refs/heads/") (codes "refs/remotes/origin/") spec item branch
+
+pub taken_by : (items : List Ref) (k j : ℕ) (branch : List ℕ) → IsHit (Takes items) forward_ends k j (named (codes "refs/heads/" ++ branch)) (hit_by k j branch)
+taken_by items k j branch = takes_below (codes "refs/heads/") (codes "refs/remotes/origin/") heads_cut origin_cut (Takes items)
+    (λ r word matches. record { matches = matches; first = λ n kind. absurd (lacks_no_pattern (codes "refs/heads/*") (codes "refs/heads/") [] kind.1 heads_cut) })
+    k j branch
+
+abbrev branch_hit : ℕ → List ℕ → Hit
+branch_hit item branch = hit_by 0 item branch
+
+takes_branch : (items : List Ref) (j : ℕ) (branch : List ℕ) → IsHit (Takes items) forward_ends 0 j (named (codes "refs/heads/" ++ branch)) (branch_hit j branch)
+takes_branch items j branch = taken_by items 0 j branch
+
+-- and no tag
+pub takes_no_tag : (items : List Ref) (j : ℕ) (hit : Hit) → ¬ (IsHit (Takes items) forward_ends 0 j tag_ref hit)
+takes_no_tag items j hit is =
+    let prefix = of_pattern (codes "refs/heads/") [] heads_cut (record { below = record { after = codes "heads/"; here = refl }; further = other_length _ _ (λ same. omega (arith, same)); first = Lacks-tested bracket (codes "refs/heads/") refl; last = tt }) refl in
+    let begins = prefix_begins (codes "refs/heads/*") (codes "refs/heads/") tag_ref is.word prefix (other_length _ _ (λ same. omega (arith, same))) is.takes.matches in
+    other_byte 5 (codes "refs/tags/v1") (codes "refs/heads/" ++ begins.after) (λ same. omega (arith, same)) begins.here
+
+forced_no_negative : Forced ≢ Negative
+forced_no_negative same = cc
+
+-- no spec of the group excludes a branch that doesn't begin so
+pub main_stays : ¬ (IsStartExcluded (every ∷ no_dev ∷ []) (name (codes "refs/heads/main")))
+main_stays (inl by) = absurd (forced_no_negative by.negative)
+main_stays (inr (inl by)) = excludes_no_main (subst (λ (x : List ℕ). Excludes x (codes "refs/heads/main")) (sym (some_once (codes "refs/heads/dev-*") by.text by.source)) by.excludes)
+main_stays (inr (inr none)) = none
+
+pub dev_excluded : IsExcluded (every ∷ no_dev ∷ []) (codes "refs/heads/dev-a")
+dev_excluded = inr (inl (record { negative = refl; text = codes "refs/heads/dev-*"; source = refl; excludes = excludes_dev }))
+
+-- the bytes of a start
+abbrev pub bytes_in : Start → List ℕ
+bytes_in (name n) = n
+bytes_in (id i) = i
+
+-- the pair of the excluded branch isn't that of another
+pub only_dev : (item : ℕ) → ¬ (HasPair (tracked 0 (codes "dev-a") ∷ []) (tracked item (codes "main")))
+only_dev item (inl same) = other_length _ _ (λ length_same. omega (arith, length_same)) (ap bytes_in same.source)
+only_dev item (inr none) = none
+
+-- what the group takes is what its first spec takes, since the other is negative
+hits_of_every : (HasEnds : Reading → Ends → Type 0) (Taken : List ℕ → Ref → Option (List ℕ) → Type 0) (items : List Ref) (hits : List Hit) (ends : Ends) → HasEnds every ends → ((e : Ends) → ¬ (HasEnds no_dev e)) → IsMadeFrom (IsHit Taken ends 0) 0 items hits → AreHits HasEnds Taken (every ∷ no_dev ∷ []) items hits
+hits_of_every HasEnds Taken items hits ends has none taken = (hits, [], inl (ends, has, taken), ([], [], inr (none, refl), refl, refl), sym (append-nil hits))
+
+-- of a branch, a tag, an excluded branch and the branch once more, the first is mapped alone
+pub fetches_all_but_dev : AreKeptForward (every ∷ no_dev ∷ []) (dev_ref ∷ tag_ref ∷ main_ref ∷ main_ref ∷ []) (tracked 2 (codes "main") ∷ [])
+fetches_all_but_dev =
+    let items = dev_ref ∷ tag_ref ∷ main_ref ∷ main_ref ∷ [] in
+    let dev = branch_hit 0 (codes "dev-a") in
+    let main = branch_hit 2 (codes "main") in
+    let again = branch_hit 3 (codes "main") in
+    let taken : IsMadeFrom (IsHit (Takes items) forward_ends 0) 0 items (dev ∷ main ∷ again ∷ []) = (
+      Some dev,
+      main ∷ again ∷ [],
+      takes_branch items 0 (codes "dev-a"),
+      (
+        None,
+        main ∷ again ∷ [],
+        takes_no_tag items 1,
+        (Some main, again ∷ [], takes_branch items 2 (codes "main"), (Some again, [], takes_branch items 3 (codes "main"), refl, refl), refl),
+        refl,
+      ),
+      refl,
+    ) in
+    record {
+      all = tracked 0 (codes "dev-a") ∷ tracked 2 (codes "main") ∷ tracked 3 (codes "main") ∷ [];
+      forward = record {
+        ids = [];
+        hits = dev ∷ main ∷ again ∷ [];
+        are_ids = (None, [], no_id_mapping 0 every (codes "refs/heads/*") refl heads_below, (None, [], no_id_negative 1 no_dev refl, refl, refl), refl);
+        are_hits = hits_of_every AreForwardEnds (Takes items) items (dev ∷ main ∷ again ∷ []) forward_ends are_forward_ends (λ ends has. has.positive) taken;
+        all = refl;
+      };
+      is = (
+        None,
+        tracked 2 (codes "main") ∷ [],
+        (λ m stays. stays.1.included dev_excluded),
+        (
+          Some (tracked 2 (codes "main")),
+          [],
+          (refl, record { first = only_dev 2; included = main_stays }),
+          (None, [], (λ m stays. stays.1.first (inr (inl (record { source = refl; destination = refl })))), refl, refl),
+          refl,
+        ),
+        refl,
+      );
+    }
+
+-- before that, all three are
+pub maps_all : AreForward (every ∷ no_dev ∷ []) (dev_ref ∷ tag_ref ∷ main_ref ∷ main_ref ∷ []) (tracked 0 (codes "dev-a") ∷ tracked 2 (codes "main") ∷ tracked 3 (codes "main") ∷ [])
+unfolding fetches_all_but_dev
+maps_all = fetches_all_but_dev.forward
+
+-- from right to left, over the tracking refs of the excluded branch and of the other one
+abbrev pub backward_ends : Ends
+backward_ends = record { near = codes "refs/remotes/origin/*"; far = Some (codes "refs/heads/*") }
+
+abbrev back_hit : ℕ → List ℕ → Hit
+back_hit item branch = hit_below (codes "refs/remotes/origin/") (codes "refs/heads/") 0 item branch
+
+pub takes_back : (j : ℕ) (branch : List ℕ) → IsHit Matches backward_ends 0 j (named (codes "refs/remotes/origin/" ++ branch)) (back_hit j branch)
+takes_back j branch = takes_below (codes "refs/remotes/origin/") (codes "refs/heads/") origin_cut heads_cut Matches (λ r word matches. matches) 0 j branch
+
+pub tracks_all_but_dev : AreKeptBackward (every ∷ no_dev ∷ []) (named (codes "refs/remotes/origin/dev-a") ∷ named (codes "refs/remotes/origin/main") ∷ []) (tracked 1 (codes "main") ∷ [])
+tracks_all_but_dev =
+    let items = named (codes "refs/remotes/origin/dev-a") ∷ named (codes "refs/remotes/origin/main") ∷ [] in
+    let dev = back_hit 0 (codes "dev-a") in
+    let main = back_hit 1 (codes "main") in
+    let taken : IsMadeFrom (IsHit Matches backward_ends 0) 0 items (dev ∷ main ∷ []) = (
+      Some dev,
+      main ∷ [],
+      takes_back 0 (codes "dev-a"),
+      (Some main, [], takes_back 1 (codes "main"), refl, refl),
+      refl,
+    ) in
+    record {
+      all = tracked 0 (codes "dev-a") ∷ tracked 1 (codes "main") ∷ [];
+      backward = record {
+        hits = dev ∷ main ∷ [];
+        are_hits = hits_of_every AreBackwardEnds Matches items (dev ∷ main ∷ []) backward_ends (record { positive = tt; near = refl; far = refl; both = refl }) (λ ends has. has.positive) taken;
+        all = refl;
+      };
+      is = (
+        None,
+        tracked 1 (codes "main") ∷ [],
+        (λ m stays. stays.1.included (inr (inl (record { negative = refl; text = codes "refs/heads/dev-*"; source = refl; excludes = excludes_dev })))),
+        (Some (tracked 1 (codes "main")), [], (refl, record { first = only_dev 1; included = main_stays }), refl, refl),
+        refl,
+      );
+    }
+
+-- before that, both are
+pub tracks_all : AreBackward (every ∷ no_dev ∷ []) (named (codes "refs/remotes/origin/dev-a") ∷ named (codes "refs/remotes/origin/main") ∷ []) (tracked 0 (codes "dev-a") ∷ tracked 1 (codes "main") ∷ [])
+unfolding tracks_all_but_dev
+tracks_all = tracks_all_but_dev.backward
+
+-- a spec without a destination takes nothing from right to left
+pub tracks_nothing : AreKeptBackward (short ∷ []) (main_ref ∷ []) []
+tracks_nothing = record {
+  all = [];
+  backward = record { hits = []; are_hits = ([], [], inr ((λ ends has. none_some ends.near has.near), refl), refl, refl); all = refl };
+  is = refl;
+}
+
+-- ---- pairs
+
+-- a mapping of a name at a place by a spec
+abbrev pub mapping : ℕ → List ℕ → Option (List ℕ) → ℕ → Mapped
+mapping item source destination spec = record { item = Some item; source = name source; destination = destination; spec = spec }
+
+abbrev pub tag_to_x : Mapped
+tag_to_x = mapping 0 (codes "refs/tags/a") (Some (codes "refs/x/a")) 0
+
+abbrev pub branch_to_x : Mapped
+branch_to_x = mapping 1 (codes "refs/heads/a") (Some (codes "refs/x/a")) 1
+
+abbrev pub tag_again : Mapped
+tag_again = mapping 2 (codes "refs/tags/a") (Some (codes "refs/x/a")) 1
+
+abbrev pub tag_to_foo : Mapped
+tag_to_foo = mapping 0 (codes "refs/tags/a") (Some (codes "foo")) 1
+
+abbrev pub tag_alone : Mapped
+tag_alone = mapping 0 (codes "refs/tags/a") None 1
+
+-- two mappings have the same pair whatever their items and specs are, and not with one side alone
+pub pairs : IsSamePair tag_to_x tag_again × ¬ (IsSamePair tag_to_x branch_to_x) × ¬ (IsSamePair tag_to_x tag_to_foo) × ¬ (IsSamePair tag_to_x tag_alone)
+pairs = (
+  record { source = refl; destination = refl },
+  (λ same. other_byte 5 (codes "refs/tags/a") (codes "refs/heads/a") (λ byte. omega (arith, byte)) (ap bytes_in same.source)),
+  (λ same. other_length _ _ (λ size. omega (arith, size)) (some_once (codes "refs/x/a") (codes "foo") same.destination)),
+  (λ same. some_none (codes "refs/x/a") same.destination),
+)
+
+pub apart : AreApart (tag_to_x ∷ branch_to_x ∷ tag_to_foo ∷ tag_alone ∷ []) × ¬ (AreApart (tag_to_x ∷ branch_to_x ∷ tag_again ∷ []))
+apart = (
+  (
+    (pairs.1, (pairs.2, (pairs.3, tt))),
+    (
+      (
+        (λ same. other_byte 5 (codes "refs/heads/a") (codes "refs/tags/a") (λ byte. omega (arith, byte)) (ap bytes_in same.source)),
+        ((λ same. some_none (codes "refs/x/a") same.destination), tt),
+      ),
+      (((λ same. some_none (codes "foo") same.destination), tt), (tt, tt)),
+    ),
+  ),
+  λ all. all.0.1.0 pairs.0,
+)
+
+-- no spec excludes the id of an object, and one that names it excludes that name alone
+pub ids_stay : ¬ (IsStartExcluded (fetched Negative (codes "a") None ∷ []) (id (codes "a"))) × IsStartExcluded (fetched Negative (codes "a") None ∷ []) (name (codes "a"))
+ids_stay = (λ none. none, inl (record { negative = refl; text = codes "a"; source = refl; excludes = the_name (Lacks-tested star (codes "a") refl) refl }))
+
+abbrev pub blob_mapping : Mapped
+blob_mapping = record { item = None; source = id empty_blob; destination = Some (codes "refs/tags/blob"); spec = 1 }
+
+-- an id is before all items, and has none. A partial name without a destination maps to nothing
+pub asks_for_ids_first : AreKeptForward (short ∷ blob ∷ []) (main_ref ∷ []) (blob_mapping ∷ mapping 0 (codes "refs/heads/main") None 0 ∷ [])
+asks_for_ids_first =
+    let hit : Hit = record { spec = 0; item = 0; near = codes "refs/heads/main"; far = None } in
+    let ends : Ends = record { near = codes "main"; far = None } in
+    record {
+      all = blob_mapping ∷ mapping 0 (codes "refs/heads/main") None 0 ∷ [];
+      forward = record {
+        ids = blob_mapping ∷ [];
+        hits = hit ∷ [];
+        are_ids = (
+          None,
+          blob_mapping ∷ [],
+          (λ m made. short_no_id made.bytes (subst (λ (x : List ℕ). IsIdText x made.bytes) (sym (some_once (codes "main") made.text made.side)) made.object.2)),
+          (
+            Some blob_mapping,
+            [],
+            record { positive = tt; text = codes "e69de29bb2d1d6434b8b29ae775ad8c2e48c5391"; bytes = empty_blob; side = refl; object = blob_kind; item = refl; source = refl; destination = (full_name (codes "refs/tags/blob"), below_tags, refl); spec = refl },
+            refl,
+            refl,
+          ),
+          refl,
+        );
+        are_hits = (
+          hit ∷ [],
+          [],
+          inl (
+            ends,
+            record { positive = tt; near = refl; far = refl; no_object = λ bytes kind. short_no_id bytes kind.2 },
+            (
+              Some hit,
+              [],
+              record {
+                word = None;
+                takes = taken_by_first (main_ref ∷ []) (codes "main") main_ref short_kind (first_of_one (codes "main") main_ref (record { earlier = codes "main" ∷ codes "refs/main" ∷ codes "refs/tags/main" ∷ []; later = codes "refs/remotes/main" ∷ codes "refs/remotes/main/HEAD" ∷ []; here = refl }));
+                far = refl;
+                near = refl;
+                spec = refl;
+                item = refl;
+              },
+              refl,
+              refl,
+            ),
+          ),
+          (
+            [],
+            [],
+            inr ((λ other has. has.no_object empty_blob (subst (λ (x : List ℕ). HasKind x (object empty_blob)) (some_once (codes "e69de29bb2d1d6434b8b29ae775ad8c2e48c5391") other.near has.near) blob_kind)), refl),
+            refl,
+            refl,
+          ),
+          refl,
+        );
+        all = refl;
+      };
+      is = (
+        Some blob_mapping,
+        mapping 0 (codes "refs/heads/main") None 0 ∷ [],
+        (refl, record { first = λ none. none; included = λ none. none }),
+        (Some (mapping 0 (codes "refs/heads/main") None 0), [], (refl, record { first = other_start; included = no_exclusion }), refl, refl),
+        refl,
+      );
+    }
+  where
+    id_no_name : id empty_blob ≢ name (codes "refs/heads/main")
+    id_no_name same = cc
+
+    other_start : ¬ (HasPair (blob_mapping ∷ []) (mapping 0 (codes "refs/heads/main") None 0))
+    other_start (inl same) = id_no_name same.source
+    other_start (inr none) = none
+
+    normal_no_negative : Normal ≢ Negative
+    normal_no_negative same = cc
+
+    no_exclusion : ¬ (IsStartExcluded (short ∷ blob ∷ []) (name (codes "refs/heads/main")))
+    no_exclusion (inl by) = absurd (normal_no_negative by.negative)
+    no_exclusion (inr (inl by)) = absurd (normal_no_negative by.negative)
+    no_exclusion (inr (inr none)) = none

@@ -1,0 +1,99 @@
+-- Mappings with the same pair, by their places.
+use Rattle.std.proofs.Common.{◌≡◌, ◌≢◌, ◌⊎◌, inl, inr, ℕ, ◌+◌, ◌-◌, ◌<◌, List, [], ◌∷◌, ◌++◌, length, take, get_or, suc, zero, eqb, FoldHasher, sym, subst, ◌∙◌, arith}
+use Rattle.std.specs.List.{AllByRecursion, Contains, IsDistinct}
+use Rattle.std.specs.List.Sorted.{IsPermutation}
+use Rattle.std.specs.Hash as fed
+use Rattle.std.proofs.lemmas.List.{take_more}
+use Rattle.std.proofs.lemmas.List.Elements.{All-from_recursion, recursion_from_All}
+use Rattle.std.proofs.lemmas.List.Sorted.{Contains-permutation, All-permutation}
+use Rattle.std.proofs.lemmas.Map.Keys.{IsDistinct-IsPermutation, IsDistinct-from_apart, apart_from_distinct}
+use Rattle.std.proofs.lemmas.Cmp.{nat_eq_equiv}
+use Rattle.std.proofs.lemmas.Bool.{eq-eqb, false≢true, ne_eqb}
+use Rattle.gix_refspec_match.specs.declared.types.Mapping.{Mapping}
+use Rattle.gix_refspec_match.specs.declared.keep.repeats.Pair.{Pair}
+use Rattle.gix_refspec_match.specs.Matching.Mappings.{Mapped, IsSamePair}
+use Rattle.gix_refspec_match.specs.Views.Hashed.{source_writes}
+use Rattle.gix_refspec_match.specs.Private.Kept.{hash_after, pair_hash, Has, Rises, IsSameAt}
+
+-- some pair up to a place is for the mapping at k, which has the pair of the one before it
+abbrev pub FollowsSame : List Mapping → List Pair → ℕ → ℕ → Type 0
+FollowsSame ms ps at k = (i : ℕ) × (0 < i) × (i < at) × ((d : Pair) → ((get_or ps i d).place ≡ k) × IsSameAt ms (get_or ps (i - 1) d).place k)
+
+pub Has-left : (xs ys : List ℕ) (k : ℕ) → Has xs k → Has (xs ++ ys) k
+Has-left [] ys k has = absurd has
+Has-left (x ∷ xs) ys k (inl same) = inl same
+Has-left (x ∷ xs) ys k (inr has) = inr (Has-left xs ys k has)
+
+pub Has-right : (xs ys : List ℕ) (k : ℕ) → Has ys k → Has (xs ++ ys) k
+Has-right [] ys k has = has
+Has-right (x ∷ xs) ys k has = inr (Has-right xs ys k has)
+
+pub all_left : {X : Type 0} (P : X → Type 0) (xs ys : List X) → AllByRecursion P (xs ++ ys) → AllByRecursion P xs
+all_left P [] ys all = tt
+all_left P (x ∷ xs) ys all = (all.0, all_left P xs ys all.1)
+
+pub all_right : {X : Type 0} (P : X → Type 0) (xs ys : List X) → AllByRecursion P (xs ++ ys) → AllByRecursion P ys
+all_right P [] ys all = all
+all_right P (x ∷ xs) ys all = all_right P xs ys all.1
+
+pub all_join : {X : Type 0} (P : X → Type 0) (xs ys : List X) → AllByRecursion P xs → AllByRecursion P ys → AllByRecursion P (xs ++ ys)
+all_join P [] ys left right = right
+all_join P (x ∷ xs) ys left right = (left.0, all_join P xs ys left.1 right)
+
+pub all_weaker : {X : Type 0} (P Q : X → Type 0) → ((x : X) → P x → Q x) → (xs : List X) → AllByRecursion P xs → AllByRecursion Q xs
+all_weaker P Q weaker [] all = tt
+all_weaker P Q weaker (x ∷ xs) all = (weaker x all.0, all_weaker P Q weaker xs all.1)
+
+-- a number that is below all is not there
+pub not_below : (ns : List ℕ) (n k : ℕ) → AllByRecursion (λ m. n < m) ns → Has ns k → n < k
+not_below [] n k all has = absurd has
+not_below (m ∷ ns) n k all (inl same) = subst (λ (x : ℕ). n < x) same all.0
+not_below (m ∷ ns) n k all (inr has) = not_below ns n k all.1 has
+
+pub all_more : {X : Type 0} (P : X → Type 0) (xs : List X) (i : ℕ) (d : X) → i < length xs → AllByRecursion P (take i xs) → P (get_or xs i d) → AllByRecursion P (take (i + 1) xs)
+all_more {X} P xs i d below all one = subst (λ (ys : List X). AllByRecursion P ys) (sym (take_more xs i d below)) (all_join P (take i xs) (get_or xs i d ∷ []) all (one, tt))
+
+pub all_permuted : {X : Type 0} (P : X → Type 0) (xs ys : List X) → IsPermutation xs ys → AllByRecursion P xs → AllByRecursion P ys
+all_permuted P xs ys moved all = recursion_from_All P ys (All-permutation P xs ys moved (All-from_recursion P xs all))
+
+pub Contains-from_Has : (ns : List ℕ) (k : ℕ) → Has ns k → Contains ns k
+Contains-from_Has [] k has = absurd has
+Contains-from_Has (n ∷ ns) k (inl same) = (0, omega arith, same)
+Contains-from_Has (n ∷ ns) k (inr has) = let at = Contains-from_Has ns k has in (suc at.0, omega arith, at.2)
+
+pub Has-from_place : (ns : List ℕ) (i : ℕ) (k d : ℕ) → i < length ns → get_or ns i d ≡ k → Has ns k
+Has-from_place [] i k d below same = absurd (omega arith)
+Has-from_place (n ∷ ns) zero k d below same = inl same
+Has-from_place (n ∷ ns) (suc i) k d below same = inr (Has-from_place ns i k d (omega arith) same)
+
+pub Has-permuted : (xs ys : List ℕ) (k : ℕ) → IsPermutation xs ys → Has xs k → Has ys k
+Has-permuted xs ys k moved has = let at = Contains-permutation xs ys k moved (Contains-from_Has xs k has) in Has-from_place ys at.0 k k at.1 at.2
+
+-- a number above all is last
+pub Rises-push : (ns : List ℕ) (n : ℕ) → Rises ns → AllByRecursion (λ m. m < n) ns → Rises (ns ++ n ∷ [])
+Rises-push [] n rises below = (tt, tt)
+Rises-push (m ∷ ns) n rises below = (all_join (λ k. m < k) ns (n ∷ []) rises.0 (below.0, tt), Rises-push ns n rises.1 below.1)
+
+-- numbers that rise, by where they are
+pub rises_at : (ns : List ℕ) → Rises ns → (i j d : ℕ) → i < j → j < length ns → get_or ns i d < get_or ns j d
+rises_at [] rises i j d before below = absurd (omega arith)
+rises_at (n ∷ ns) rises zero zero d before below = absurd (omega arith)
+rises_at (n ∷ ns) rises zero (suc j) d before below = All-from_recursion (λ m. n < m) ns rises.0 j d (omega arith)
+rises_at (n ∷ ns) rises (suc i) zero d before below = absurd (omega arith)
+rises_at (n ∷ ns) rises (suc i) (suc j) d before below = rises_at ns rises.1 i j d (omega arith) (omega arith)
+
+-- numbers that rise stay apart in another order
+pub apart_places : (xs ys : List ℕ) → IsPermutation xs ys → Rises xs → (i j d : ℕ) → i < j → j < length ys → get_or ys i d ≢ get_or ys j d
+apart_places xs ys moved rises i j d before below same =
+    let distinct : IsDistinct eqb xs = IsDistinct-from_apart eqb xs (λ k m e first inside. let rise = rises_at xs rises k m e first inside in ne_eqb (get_or xs k e) (get_or xs m e) (λ same2. omega (arith, rise, same2))) in
+    let still : IsDistinct eqb ys = IsDistinct-IsPermutation eqb (λ x y. nat_eq_equiv.symm x y) xs ys moved distinct in
+    false≢true (sym (apart_from_distinct eqb ys i j d still before below) ∙ eq-eqb (get_or ys i d) (get_or ys j d) same)
+
+-- the same pair has the same hash
+pub pair_hash-same : (seed : FoldHasher) (a b : Mapped) → IsSamePair a b → pair_hash seed a ≡ pair_hash seed b
+pair_hash-same seed a b same = λ i. hash_after seed (source_writes (same.source i) ++ fed.option (λ d. d ∷ []) (same.destination i))
+
+-- some mapping of a list
+pub some_mapping : (ms : List Mapping) (k : ℕ) → k < length ms → Mapping
+some_mapping [] k below = absurd (omega arith)
+some_mapping (m ∷ ms) k below = m

@@ -1,0 +1,58 @@
+-- Which sources are covering.
+use Rattle.std.proofs.Common.{ℕ, List, [], None, Some, codes, refl, subst, arith}
+use Rattle.gix_refspec_text.specs.Texts.Bytes.{star, bracket}
+use Rattle.gix_refspec_text.specs.Specs.Reading.{Normal}
+use Rattle.gix_refspec_text.specs.Specs.Grammar.{pushed}
+use Rattle.gix_refspec_text.specs.Matching.Prefix.{IsPrefix, of_head, of_name, of_pattern}
+use Rattle.gix_refspec_text.specs.Laws.Covering.{IsCovering, by_prefix, by_candidates, HasCoveringSource}
+use Rattle.gix_refspec_text.proofs.lemmas.texts.TextLemmas.{Lacks-here}
+use Rattle.gix_refspec_text.proofs.lemmas.hits.MatchLemmas.{cut_once}
+use Rattle.gix_refspec_text.proofs.lemmas.specs.FormsBackLemmas.{some_once}
+use Rattle.gix_refspec_text.proofs.facts.ManualFacts.{Lacks-tested, other_length}
+use Rattle.gix_refspec_text.proofs.facts.FitFacts.{cut_at_end, no_dev, short, short_kind, other_byte, other_first, push_is_none}
+
+-- the prefix of a pattern
+pub below_heads : IsPrefix (codes "refs/heads/*") (codes "refs/heads/")
+below_heads = of_pattern (codes "refs/heads/") [] (cut_at_end (codes "refs/heads/") refl) (record {
+  below = record { after = codes "heads/"; here = refl };
+  further = other_length _ _ (λ size. omega (arith, size));
+  first = Lacks-tested bracket (codes "refs/heads/") refl;
+  last = tt;
+}) refl
+
+-- a pattern below `refs/heads/`, a full name and a partial one are covering
+pub covering : IsCovering (codes "refs/heads/*") × IsCovering (codes "refs/heads/main") × IsCovering (codes "main")
+covering = (
+  by_prefix (codes "refs/heads/") (record { after = codes "heads/*"; here = refl }) below_heads,
+  by_prefix (codes "refs/heads/main") (record { after = codes "heads/main"; here = refl }) (of_name (record { after = codes "heads/main"; here = refl }) (Lacks-tested star (codes "refs/heads/main") refl) refl),
+  by_candidates short_kind.1 (other_byte 0 (codes "main") (codes "HEAD") (λ same. omega (arith, same))) short_kind.2,
+)
+
+-- `HEAD` isn't, nor are all names, nor all those below `refs/`
+pub not_covering : ¬ (IsCovering (codes "HEAD")) × ¬ (IsCovering (codes "*")) × ¬ (IsCovering (codes "refs/*"))
+not_covering = (no_head, no_star, no_refs)
+  where
+    no_head : ¬ (IsCovering (codes "HEAD"))
+    no_head (by_prefix p begins prefix) = other_first 72 (codes "EAD") (λ same. omega (arith, same)) begins
+    no_head (by_candidates lacks other outside) = other refl
+
+    no_star : ¬ (IsCovering (codes "*"))
+    no_star (by_prefix p begins prefix) = other_first 42 [] (λ same. omega (arith, same)) begins
+    no_star (by_candidates lacks other outside) = Lacks-here star [] [] lacks
+
+    no_prefix : (p : List ℕ) → ¬ (IsPrefix (codes "refs/*") p)
+    no_prefix p (of_head is_head same) = other_length _ _ (λ size. omega (arith, size)) is_head
+    no_prefix p (of_name begins lacks same) = Lacks-here star (codes "refs/") [] lacks
+    no_prefix p (of_pattern before after cut tells same) = tells.further ((cut_once (codes "refs/*") before after (codes "refs/") [] cut (cut_at_end (codes "refs/") refl)).0)
+
+    no_refs : ¬ (IsCovering (codes "refs/*"))
+    no_refs (by_prefix p begins prefix) = no_prefix p prefix
+    no_refs (by_candidates lacks other outside) = Lacks-here star (codes "refs/") [] lacks
+
+-- a negative spec asks for nothing; a push isn't covering, whatever its source
+pub covering_sources : HasCoveringSource no_dev × HasCoveringSource short × ¬ (HasCoveringSource (pushed Normal (Some (codes "main")) None))
+covering_sources = (
+  record { fetch = refl; source = λ x asked. absurd asked.positive },
+  record { fetch = refl; source = λ x asked. subst IsCovering (some_once (codes "main") x asked.side) covering.2 },
+  λ has. push_is_none has.fetch,
+)

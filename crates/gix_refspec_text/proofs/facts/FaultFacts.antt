@@ -1,0 +1,136 @@
+-- The faults of names, each at a text that has it and at a like one that has not: where a word is in a
+-- text, and which of its components it is in.
+use Rattle.std.proofs.Common.{◌≡◌, ◌≢◌, ℕ, Bool, true, false, ◌==◌, ◌||◌, nat_eq, List, [], ◌∷◌, ◌++◌, codes, refl, sym, ap, ◌∙◌, subst}
+use Rattle.std.specs.List.{All, AllByRecursion, starts_with, ends_with, slice_split, join_with_byte, list_any}
+use Rattle.std.proofs.lemmas.List.Elements.{All-nil, All-cons}
+use Rattle.std.proofs.lemmas.Bool.{true≢false, false≢true, eqb-true}
+use Rattle.std.proofs.lemmas.Bool.Decides.{Decides-eqb}
+use Rattle.std.proofs.lemmas.Slice.Eq.{starts_is, ends_is}
+use Rattle.std.proofs.lemmas.List.Splits.{slice_split_none, slice_split_at}
+use Rattle.gix_refspec_text.specs.declared.name.Error.TheVariants.{Empty, EmptyComponent, StartsWithDot, LockSuffix, EndsWithDot, RepeatedDot, ReflogPortion, Asterisk, InvalidByte}
+use Rattle.gix_refspec_text.specs.Texts.Words.{Lacks, Holds, BeginsWith, EndsWith}
+use Rattle.gix_refspec_text.specs.Texts.Name.{SomeComponent, HasFault, HasStar}
+use Rattle.gix_refspec_text.specs.Texts.Bytes.{slash}
+use Rattle.gix_refspec_text.proofs.lemmas.texts.ComponentLemmas.{AllByRecursion-parts}
+use Rattle.gix_refspec_text.proofs.facts.ManualFacts.{Lacks-tested, full}
+
+-- a text doesn't begin or end with a word, nor hold it, by tests that compute
+pub begins_not : (w x : List ℕ) → starts_with nat_eq x w ≡ false → ¬ (BeginsWith w x)
+begins_not w x none begins = true≢false (sym ((starts_is Decides-eqb x w (starts_with nat_eq x w) refl).1 begins.after begins.here) ∙ none)
+
+pub ends_not : (w x : List ℕ) → ends_with nat_eq x w ≡ false → ¬ (EndsWith w x)
+ends_not w x none ends = true≢false (sym ((ends_is Decides-eqb x w (ends_with nat_eq x w) refl).1 ends.before ends.here) ∙ none)
+
+-- whether a word is in a text
+abbrev pub holds : List ℕ → List ℕ → Bool
+holds w [] = starts_with nat_eq [] w
+holds w (b ∷ x) = starts_with nat_eq (b ∷ x) w || holds w x
+
+holds_after : (w before after x : List ℕ) → x ≡ before ++ (w ++ after) → holds w x ≡ true
+holds_after w [] after [] here = (starts_is Decides-eqb [] w (starts_with nat_eq [] w) refl).1 after here
+holds_after w [] after (b ∷ x) here = ap (λ v. v || holds w x) ((starts_is Decides-eqb (b ∷ x) w (starts_with nat_eq (b ∷ x) w) refl).1 after here)
+holds_after w (c ∷ before) after [] here = cc
+holds_after w (c ∷ before) after (b ∷ x) here =
+    let tails : x ≡ before ++ (w ++ after) = cc in
+    ap (λ v. starts_with nat_eq (b ∷ x) w || v) (holds_after w before after x tails) ∙ or_true (starts_with nat_eq (b ∷ x) w)
+  where
+    or_true : (v : Bool) → (v || true) ≡ true
+    or_true true = refl
+    or_true false = refl
+
+pub holds_not : (w x : List ℕ) → holds w x ≡ false → ¬ (Holds w x)
+holds_not w x none has = true≢false (sym (holds_after w has.before has.after x has.here) ∙ none)
+
+-- ---- components
+
+unlike : (c b : ℕ) → c ≢ b → (c == b) ≡ false
+unlike c b differ = elim (c == b) as (λ v. (c == b) ≡ v → v ≡ false) [
+  | true ↦ λ same. absurd (differ (eqb-true c b same))
+  | false ↦ λ other. refl
+] refl
+
+no_slash : (x : List ℕ) → Lacks slash x → All (λ c. (c == slash) ≡ false) x
+no_slash [] lacks = All-nil (λ c. (c == slash) ≡ false)
+no_slash (c ∷ x) lacks = All-cons (λ c. (c == slash) ≡ false) c x (unlike c slash lacks.0) (no_slash x lacks.1)
+
+-- parts without a slash are those that a text is split into at its slashes
+split_joined : (p : List ℕ) (ps : List (List ℕ)) → AllByRecursion (Lacks slash) (p ∷ ps) → slice_split (λ c. c == slash) (join_with_byte slash (p ∷ ps)) ≡ p ∷ ps
+split_joined p [] lack = slice_split_none (λ c. c == slash) p (no_slash p lack.0)
+split_joined p (q ∷ ps) lack = slice_split_at (λ c. c == slash) p slash (join_with_byte slash (q ∷ ps)) (no_slash p lack.0) refl ∙ ap (λ l. p ∷ l) (split_joined q ps lack.1)
+
+-- what holds of no word between slashes holds of no component
+pub no_component : (P : List ℕ → Type 0) (x : List ℕ) → AllByRecursion (λ w. ¬ (P w)) (slice_split (λ c. c == slash) x) → ¬ (SomeComponent P x)
+no_component P x none some =
+    let parts = some.before ++ (some.component ∷ some.after) in
+    let split = split_at_one some.before some.component some.after some.components.whole in
+    let same : slice_split (λ c. c == slash) x ≡ parts = ap (λ (y : List ℕ). slice_split (λ c. c == slash) y) (sym some.components.joined) ∙ split in
+    AllByRecursion-parts (λ w. ¬ (P w)) some.before some.component some.after (subst (λ (l : List (List ℕ)). AllByRecursion (λ w. ¬ (P w)) l) same none) some.fact
+  where
+    split_at_one : (ps : List (List ℕ)) (w : List ℕ) (qs : List (List ℕ)) → AllByRecursion (Lacks slash) (ps ++ (w ∷ qs)) → slice_split (λ c. c == slash) (join_with_byte slash (ps ++ (w ∷ qs))) ≡ ps ++ (w ∷ qs)
+    split_at_one [] w qs lack = split_joined w qs lack
+    split_at_one (p ∷ ps) w qs lack = split_joined p (ps ++ (w ∷ qs)) lack
+
+-- the word between `a/` and the end, or the one in front
+pub after_a : (P : List ℕ → Type 0) (w : List ℕ) → list_any (λ c. c == slash) w ≡ false → P w → SomeComponent P (codes "a/" ++ w)
+after_a P w none fact = record { before = codes "a" ∷ []; component = w; after = []; components = record { joined = refl; whole = (Lacks-tested slash (codes "a") refl, (Lacks-tested slash w none, tt)) }; fact = fact }
+
+pub before_a : (P : List ℕ → Type 0) (w : List ℕ) → list_any (λ c. c == slash) w ≡ false → P w → SomeComponent P (w ++ codes "/a")
+before_a P w none fact = record { before = []; component = w; after = codes "a" ∷ []; components = record { joined = refl; whole = (Lacks-tested slash w none, (Lacks-tested slash (codes "a") refl, tt)) }; fact = fact }
+
+-- ---- faults
+
+-- only the empty text is empty
+pub just_empty : HasFault [] Empty × ¬ (HasFault (codes "/") Empty)
+just_empty = (refl, full slash [])
+
+-- a slash at the front, at the end, or after another one leaves an empty component, but the empty text has none such
+pub empty_components : HasFault (codes "/a") EmptyComponent × HasFault (codes "a/") EmptyComponent × HasFault (codes "a//a") EmptyComponent × ¬ (HasFault (codes "a/b") EmptyComponent) × ¬ (HasFault [] EmptyComponent)
+empty_components = (
+  (full _ _, before_a (λ w. w ≡ []) [] refl refl),
+  (full _ _, after_a (λ w. w ≡ []) [] refl refl),
+  (full _ _, record { before = codes "a" ∷ []; component = []; after = codes "a" ∷ []; components = record { joined = refl; whole = (Lacks-tested slash (codes "a") refl, (tt, (Lacks-tested slash (codes "a") refl, tt))) }; fact = refl }),
+  (λ fault. no_component (λ w. w ≡ []) (codes "a/b") (full _ _, (full _ _, tt)) fault.1),
+  λ fault. fault.0 refl,
+)
+
+-- a dot begins the first component, or the last one, but not where it is within
+pub dots_first : HasFault (codes ".b/a") StartsWithDot × HasFault (codes "a/.b") StartsWithDot × ¬ (HasFault (codes "a./b.c") StartsWithDot)
+dots_first = (
+  before_a (BeginsWith (codes ".")) (codes ".b") refl (record { after = codes "b"; here = refl }),
+  after_a (BeginsWith (codes ".")) (codes ".b") refl (record { after = codes "b"; here = refl }),
+  no_component (BeginsWith (codes ".")) (codes "a./b.c") (begins_not (codes ".") (codes "a.") refl, (begins_not (codes ".") (codes "b.c") refl, tt)),
+)
+
+-- `.lock` ends the first component, or the last one, but not where it is within, or without its dot
+pub locks : HasFault (codes "b.lock/a") LockSuffix × HasFault (codes "a/b.lock") LockSuffix × HasFault (codes "a/.lock") LockSuffix × ¬ (HasFault (codes "a.lock.b/block") LockSuffix)
+locks = (
+  before_a (EndsWith (codes ".lock")) (codes "b.lock") refl (record { before = codes "b"; here = refl }),
+  after_a (EndsWith (codes ".lock")) (codes "b.lock") refl (record { before = codes "b"; here = refl }),
+  after_a (EndsWith (codes ".lock")) (codes ".lock") refl (record { before = []; here = refl }),
+  no_component (EndsWith (codes ".lock")) (codes "a.lock.b/block") (ends_not (codes ".lock") (codes "a.lock.b") refl, (ends_not (codes ".lock") (codes "block") refl, tt)),
+)
+
+-- a dot may end a component, but not the name
+pub dots_last : HasFault (codes "a/b.") EndsWithDot × ¬ (HasFault (codes "a./b") EndsWithDot)
+dots_last = (record { before = codes "a/b"; here = refl }, ends_not (codes ".") (codes "a./b") refl)
+
+-- two dots in a row anywhere, and not apart
+pub dots_side_by_side : HasFault (codes "..a") RepeatedDot × HasFault (codes "a/b..") RepeatedDot × ¬ (HasFault (codes "a.b.c./.d") RepeatedDot)
+dots_side_by_side = (record { before = []; after = codes "a"; here = refl }, record { before = codes "a/b"; after = []; here = refl }, holds_not (codes "..") (codes "a.b.c./.d") refl)
+
+-- `@` right before a brace, and not apart, alone or after it
+pub reflog_portions : HasFault (codes "@{1}") ReflogPortion × ¬ (HasFault (codes "@a{/{@/@") ReflogPortion)
+reflog_portions = (record { before = []; after = codes "1}"; here = refl }, holds_not (codes "@{") (codes "@a{/{@/@") refl)
+
+-- a star anywhere, and several as one
+pub star_faults : HasFault (codes "*a") Asterisk × HasFault (codes "a*/*") Asterisk × HasStar (codes "a*b") × ¬ (HasStar (codes "a+b")) × ¬ (HasFault [] Asterisk)
+star_faults = (record { before = []; after = codes "a"; here = refl }, record { before = codes "a"; after = codes "/*"; here = refl }, record { before = codes "a"; after = codes "b"; here = refl }, holds_not (codes "*") (codes "a+b") refl, holds_not (codes "*") [] refl)
+
+-- a refused byte of the text, no other one, and no other byte of the text
+pub byte_faults : HasFault (codes "a b") (InvalidByte 32) × HasFault (codes "a~:") (InvalidByte 58) × ¬ (HasFault (codes "a b") (InvalidByte 58)) × ¬ (HasFault (codes "a b") (InvalidByte 97))
+byte_faults = (
+  (record { before = codes "a"; after = codes "b"; here = refl }, refl),
+  (record { before = codes "a~"; after = []; here = refl }, refl),
+  (λ fault. holds_not (codes ":") (codes "a b") refl fault.0),
+  λ fault. false≢true fault.1,
+)

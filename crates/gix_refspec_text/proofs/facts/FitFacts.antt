@@ -1,0 +1,126 @@
+-- The words on the sides of specs, and the readings and names that other examples use.
+use Rattle.std.proofs.Common.{◌≡◌, ◌≢◌, ℕ, zero, suc, ◌==◌, false, List, [], ◌∷◌, ◌++◌, None, Some, length, get_or, codes, refl, ap, ◌∙◌, subst, arith}
+use Rattle.std.specs.List.{AllByRecursion, Contains, list_any}
+use Rattle.std.proofs.lemmas.List.{length-append}
+use Rattle.gix_refspec_text.specs.declared.oid.Kind.{Kind}
+use Rattle.gix_refspec_text.specs.declared.oid.Kind.TheVariants.{Sha1, Sha256}
+use Rattle.gix_refspec_text.specs.declared.parsing.Operation.TheVariants.{Fetch, Push}
+use Rattle.gix_refspec_text.specs.Texts.Words.{BeginsWith}
+use Rattle.gix_refspec_text.specs.Texts.Name.{IsCut}
+use Rattle.gix_refspec_text.specs.Texts.Bytes.{star}
+use Rattle.gix_refspec_text.specs.Texts.ObjectId.{IsIdText, digits_of}
+use Rattle.gix_refspec_text.specs.Specs.Reading.{Normal, Forced, Negative, Reading}
+use Rattle.gix_refspec_text.specs.Specs.Grammar.{fetched}
+use Rattle.gix_refspec_text.specs.Matching.Side.{pattern, full_name, object, partial, HasKind, Fits, Excludes, the_name, by_pattern, filled}
+use Rattle.gix_refspec_text.specs.Matching.Match.{Ref}
+use Rattle.gix_refspec_text.proofs.lemmas.texts.TextLemmas.{Lacks-here}
+use Rattle.gix_refspec_text.proofs.lemmas.hits.MatchLemmas.{cut_once, lacks_no_pattern}
+use Rattle.gix_refspec_text.proofs.facts.ManualFacts.{Lacks-tested, other_length, named}
+use Rattle.gix_refspec_text.proofs.facts.ObjectIdFacts.{empty_blob, IsIdText-empty_blob, lower_of-empty_blob}
+
+-- texts that differ at a place differ
+pub other_byte : (k : ℕ) (x y : List ℕ) → get_or x k 0 ≢ get_or y k 0 → x ≢ y
+other_byte k x y differ same = differ (ap (λ (z : List ℕ). get_or z k 0) same)
+
+-- what doesn't begin so at its first byte
+pub other_first : (b : ℕ) (x : List ℕ) → b ≢ 114 → ¬ (BeginsWith (codes "refs/") (b ∷ x))
+other_first b x differ begins = other_byte 0 (b ∷ x) (codes "refs/" ++ begins.after) differ begins.here
+
+pub push_is_none : Push ≢ Fetch
+push_is_none same = cc
+
+-- what holds of each element holds of one that is there
+pub of_element : {X : Type 0} (P : X → Type 0) (xs : List X) (x : X) → AllByRecursion P xs → Contains xs x → P x
+of_element P [] x all (k, below, is) = absurd (omega (arith, below))
+of_element P (y ∷ ys) x all (zero, below, is) = subst P is all.0
+of_element P (y ∷ ys) x all (suc k, below, is) = of_element P ys x all.1 (k, omega (arith, below), is)
+
+-- a word is between the ends of a pattern, which never overlap
+pub fitting : Fits (codes "refs/heads/") [] (codes "refs/heads/main") (codes "main") × Fits (codes "refs/heads/a") (codes "a") (codes "refs/heads/aa") []
+fitting = (refl, refl)
+
+pub ends_apart : (word : List ℕ) → ¬ (Fits (codes "a") (codes "a") (codes "a") word)
+ends_apart word fits = let size : 1 ≡ suc (length (word ++ codes "a")) = ap length fits in omega (arith, size, length-append word (codes "a"))
+
+-- what is before the star of a pattern, and after it
+pub cut_at_end : (before : List ℕ) → list_any (λ c. c == star) before ≡ false → IsCut before [] (before ++ codes "*")
+cut_at_end before none = record { starred = refl; first = Lacks-tested star before none; last = tt }
+
+-- a negative spec excludes the name that it is, and none that this is short for
+pub excludes_name : Excludes (codes "refs/heads/wip") (codes "refs/heads/wip") × ¬ (Excludes (codes "wip") (codes "refs/heads/wip"))
+excludes_name = (the_name (Lacks-tested star (codes "refs/heads/wip") refl) refl, no_candidate)
+  where
+    no_candidate : ¬ (Excludes (codes "wip") (codes "refs/heads/wip"))
+    no_candidate (the_name lacks same) = other_length _ _ (λ length_same. omega (arith, length_same)) same
+    no_candidate (by_pattern before after word cut fits) = lacks_no_pattern (codes "wip") before after (Lacks-tested star (codes "wip") refl) cut
+
+-- a pattern excludes the names that it fits, and no other
+pub excludes_dev : Excludes (codes "refs/heads/dev-*") (codes "refs/heads/dev-a")
+excludes_dev = by_pattern (codes "refs/heads/dev-") [] (codes "a") (cut_at_end (codes "refs/heads/dev-") refl) refl
+
+pub excludes_no_main : ¬ (Excludes (codes "refs/heads/dev-*") (codes "refs/heads/main"))
+excludes_no_main (the_name lacks same) = Lacks-here star (codes "refs/heads/dev-") [] lacks
+excludes_no_main (by_pattern before after word cut fits) =
+    let once = cut_once (codes "refs/heads/dev-*") before after (codes "refs/heads/dev-") [] cut (cut_at_end (codes "refs/heads/dev-") refl) in
+    let here : codes "refs/heads/main" ≡ codes "refs/heads/dev-" ++ (word ++ after) = fits ∙ ap (λ (y : List ℕ). y ++ (word ++ after)) once.0 in
+    other_byte 11 (codes "refs/heads/main") (codes "refs/heads/dev-" ++ (word ++ after)) (λ same. omega (arith, same)) here
+
+-- what `git clone` writes, and an exclusion of git-fetch(1)
+abbrev pub every : Reading
+every = fetched Forced (codes "refs/heads/*") (Some (codes "refs/remotes/origin/*"))
+
+abbrev pub no_dev : Reading
+no_dev = fetched Negative (codes "refs/heads/dev-*") None
+
+-- the names of what the other side has
+abbrev pub dev_ref : Ref
+dev_ref = named (codes "refs/heads/dev-a")
+
+abbrev pub tag_ref : Ref
+tag_ref = named (codes "refs/tags/v1")
+
+abbrev pub main_ref : Ref
+main_ref = named (codes "refs/heads/main")
+
+pub heads_cut : IsCut (codes "refs/heads/") [] (codes "refs/heads/*")
+heads_cut = cut_at_end (codes "refs/heads/") refl
+
+pub origin_cut : IsCut (codes "refs/remotes/origin/") [] (codes "refs/remotes/origin/*")
+origin_cut = cut_at_end (codes "refs/remotes/origin/") refl
+
+-- a spec with a source alone, which is a partial name
+abbrev pub short : Reading
+short = fetched Normal (codes "main") None
+
+-- the blob of no bytes by its id, and a tag that it becomes
+abbrev pub blob : Reading
+blob = fetched Normal (codes "e69de29bb2d1d6434b8b29ae775ad8c2e48c5391") (Some (codes "refs/tags/blob"))
+
+pub below_tags : HasKind (codes "refs/tags/blob") (full_name (codes "refs/tags/blob"))
+below_tags = (refl, Lacks-tested star (codes "refs/tags/blob") refl, record { after = codes "tags/blob"; here = refl })
+
+pub blob_kind : HasKind (codes "e69de29bb2d1d6434b8b29ae775ad8c2e48c5391") (object empty_blob)
+blob_kind = (
+  Lacks-tested star (codes "e69de29bb2d1d6434b8b29ae775ad8c2e48c5391") refl,
+  (λ begins. other_byte 0 (codes "e69de29bb2d1d6434b8b29ae775ad8c2e48c5391") (codes "refs/" ++ begins.after) (λ byte. omega (arith, byte)) begins.here),
+  IsIdText-empty_blob,
+)
+
+pub short_no_id : (bytes : List ℕ) → ¬ (IsIdText (codes "main") bytes)
+short_no_id bytes text = no_digits text.kind text.digits
+  where
+    no_digits : (kind : Kind) → 4 ≢ digits_of kind
+    no_digits Sha1 same = omega (arith, same)
+    no_digits Sha256 same = omega (arith, same)
+
+pub short_kind : HasKind (codes "main") (partial (codes "main"))
+short_kind = (
+  refl,
+  Lacks-tested star (codes "main") refl,
+  (λ begins. other_byte 0 (codes "main") (codes "refs/" ++ begins.after) (λ byte. omega (arith, byte)) begins.here),
+  (λ is_id. short_no_id is_id.0 is_id.1),
+)
+
+-- what a full name and an id become on the other side
+pub filled_others : (filled (full_name (codes "refs/tags/blob")) None ≡ codes "refs/tags/blob") × (filled (object empty_blob) None ≡ codes "refs/heads/e69de29bb2d1d6434b8b29ae775ad8c2e48c5391")
+filled_others = (refl, ap (λ (x : List ℕ). codes "refs/heads/" ++ x) lower_of-empty_blob)

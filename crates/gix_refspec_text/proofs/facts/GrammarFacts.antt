@@ -1,0 +1,281 @@
+-- The words of the grammar, and each of its thirteen forms at texts like those of git-fetch(1) and
+-- git-push(1), with `+` and without.
+use Rattle.std.proofs.Common.{◌≡◌, ◌≢◌, ◌<◌, ℕ, ◌==◌, ◌||◌, Bool, true, false, List, [], ◌∷◌, ◌++◌, Option, None, Some, unwrap_or, length, codes, refl, ap, inl, inr, arith}
+use Rattle.std.specs.Prelude.{replicate}
+use Rattle.std.specs.List.{list_any}
+use Rattle.std.proofs.lemmas.Bool.{or_parts, false≢true}
+use Rattle.std.proofs.lemmas.List.{length-replicate}
+use Rattle.std.proofs.lemmas.List.Sums.{AllPass-from_list_all, list_all-from_AllPass}
+use Rattle.std.specs.Char.{is_ascii_hexdigit}
+use Rattle.gix_refspec_text.specs.declared.parsing.Operation.{Operation}
+use Rattle.gix_refspec_text.specs.declared.parsing.Operation.TheVariants.{Push, Fetch}
+use Rattle.gix_refspec_text.specs.Texts.Bytes.{slash, star, letter, plus, caret, colon}
+use Rattle.gix_refspec_text.specs.Specs.Reading.{Mode, Normal, Forced, Negative, Reading}
+use Rattle.gix_refspec_text.specs.Specs.Grammar.{IsUnsigned, IsSigned, with_colon, LastLacksColon, AreParts, IsPositive, named_by, LooksLikeObjectHash, IsNameOrPattern, AreAlike, fetched, pushed, Reads, fetches_nothing_named, fetches_colon, fetches, updates, updates_from_head, fetch_excludes, pushes_plus, pushes_colon, pushes, deletes, pushes_pattern, pushes_to, push_excludes}
+use Rattle.gix_refspec_text.specs.declared.name.Error.TheVariants.{Asterisk, InvalidByte}
+use Rattle.gix_refspec_text.specs.Texts.Name.{is_refused_byte, HasFault, IsName, IsPattern}
+use Rattle.gix_refspec_text.proofs.lemmas.parsing.ReadOnceLemmas.{reads_once}
+use Rattle.gix_refspec_text.proofs.lemmas.specs.FormsBackLemmas.{some_once}
+use Rattle.gix_refspec_text.proofs.lemmas.texts.TextLemmas.{Lacks-here, Lacks-Holds}
+use Rattle.gix_refspec_text.proofs.lemmas.parsing.SideLemmas.{HasStar-pattern}
+use Rattle.gix_refspec_text.proofs.facts.FitFacts.{other_byte}
+use Rattle.gix_refspec_text.proofs.lemmas.texts.TestedLemmas.{is_suspect, IsName-tested}
+use Rattle.gix_refspec_text.proofs.facts.ManualFacts.{Lacks-tested, IsPattern-tested, full, none_some, some_none, other_length, no_sign}
+use Rattle.gix_refspec_text.proofs.facts.RefusalFacts.{too_short}
+
+-- ---- texts and their parts
+
+-- the first byte is read as a sign where there is to be none
+abbrev pub begins_signed : Mode → List ℕ → Bool
+begins_signed Normal (b ∷ rest) = b == plus || b == caret
+begins_signed mode rest = false
+
+abbrev pub with_sign : Mode → List ℕ → List ℕ
+with_sign Normal rest = rest
+with_sign Forced rest = plus ∷ rest
+with_sign Negative rest = caret ∷ rest
+
+signed_tested : (mode : Mode) (rest : List ℕ) → begins_signed mode rest ≡ false → IsSigned mode (with_sign mode rest) rest
+signed_tested Normal [] none = (refl, tt)
+signed_tested Normal (b ∷ rest) none = let signs = or_parts (b == plus) (b == caret) none in no_sign b rest signs.0 signs.1
+signed_tested Forced rest none = refl
+signed_tested Negative rest none = refl
+
+last_tested : (s : List ℕ) (d : Option (List ℕ)) → list_any (λ c. c == colon) (unwrap_or d s) ≡ false → LastLacksColon s d
+last_tested s None none = Lacks-tested colon s none
+last_tested s (Some d) none = Lacks-tested colon d none
+
+-- a text has these parts where tests find no sign and no colon too many
+pub parts : (mode : Mode) (s : List ℕ) (d : Option (List ℕ)) → begins_signed mode (with_colon s d) ≡ false → list_any (λ c. c == colon) (unwrap_or d s) ≡ false → AreParts mode s d (with_sign mode (with_colon s d))
+parts mode s d unsigned last = record { signed = signed_tested mode (with_colon s d) unsigned; last = last_tested s d last }
+
+-- ---- the words of the forms
+
+-- `+` and `^` are signs at the front alone
+pub unsigned : IsUnsigned [] × IsUnsigned (codes "a+^") × ¬ (IsUnsigned (codes "+a")) × ¬ (IsUnsigned (codes "^a"))
+unsigned = (tt, (no_sign 97 (codes "+^") refl refl).1, (λ none. none.0 refl), (λ none. none.1 refl))
+
+-- each sign is taken off once, and none is left where there is to be none
+pub signed : IsSigned Normal (codes "a") (codes "a") × IsSigned Forced (codes "++a") (codes "+a") × IsSigned Negative (codes "^+a") (codes "+a") × ¬ (IsSigned Normal (codes "+a") (codes "+a")) × ¬ (IsSigned Forced (codes "++a") (codes "a")) × ¬ (IsSigned Negative (codes "+a") (codes "a"))
+signed = (
+  no_sign 97 [] refl refl,
+  refl,
+  refl,
+  (λ of. of.1.0 refl),
+  (λ of. other_length (codes "++a") (codes "+a") (λ size. omega (arith, size)) of),
+  (λ of. other_byte 0 (codes "+a") (codes "^a") (λ same. omega (arith, same)) of),
+)
+
+-- no sign and `+` are positive, and `^` isn't
+pub positive : IsPositive Normal × IsPositive Forced × ¬ (IsPositive Negative)
+positive = (tt, tt, λ none. none)
+
+-- a colon is before a destination, be it empty, and not without one
+pub colons : (with_colon (codes "a") None ≡ codes "a") × (with_colon (codes "a") (Some []) ≡ codes "a:") × (with_colon (codes "a:b") (Some (codes "c")) ≡ codes "a:b:c")
+colons = (refl, refl, refl)
+
+-- what is last has no colon; what is before it may
+pub last_lacks_colon : LastLacksColon (codes "a:b") (Some (codes "c")) × LastLacksColon (codes "a") None × ¬ (LastLacksColon (codes "a:b") None) × ¬ (LastLacksColon (codes "a") (Some (codes "b:c")))
+last_lacks_colon = (Lacks-tested colon (codes "c") refl, Lacks-tested colon (codes "a") refl, Lacks-here colon (codes "a") (codes "b"), Lacks-here colon (codes "b") (codes "c"))
+
+-- so a text is cut at its last colon, and at no other
+pub cut_at_last_colon : AreParts Normal (codes "a:b") (Some (codes "c")) (codes "a:b:c") × ¬ (AreParts Normal (codes "a") (Some (codes "b:c")) (codes "a:b:c")) × ¬ (AreParts Normal (codes "a:b:c") None (codes "a:b:c"))
+cut_at_last_colon = (parts Normal (codes "a:b") (Some (codes "c")) refl refl, (λ of. last_lacks_colon.3 of.last), (λ of. Lacks-here colon (codes "a:b") (codes "c") of.last))
+
+-- `@` isn't short for `HEAD` in a longer word, nor is another byte alone, or nothing
+pub at_signs : (named_by (codes "@@") ≡ codes "@@") × (named_by (codes "a@") ≡ codes "a@") × (named_by (codes "a") ≡ codes "a") × (named_by [] ≡ [])
+at_signs = (refl, refl, refl, refl)
+
+pub a_star : IsPattern (codes "a*")
+a_star = IsPattern-tested (codes "a") [] refl refl refl
+
+pub b_name : IsName (codes "b")
+b_name = IsName-tested (codes "b") refl
+
+pub refused_byte : (before after : List ℕ) (b : ℕ) → is_refused_byte b ≡ true → HasFault (before ++ (b ∷ after)) (InvalidByte b)
+refused_byte before after b refuses = (record { before = before; after = after; here = refl }, refuses)
+
+no_name : ¬ (IsName (codes "a b"))
+no_name name = name (InvalidByte 32) (refused_byte (codes "a") (codes "b") 32 refl)
+
+no_pattern : (x : List ℕ) → list_any (λ c. c == star) x ≡ false → ¬ (IsPattern x)
+no_pattern x none pattern = Lacks-Holds star x (Lacks-tested star x none) (HasStar-pattern x pattern)
+
+no_name_with_star : (x : List ℕ) → IsPattern x → ¬ (IsName x)
+no_name_with_star x pattern name = name Asterisk (HasStar-pattern x pattern)
+
+-- a name, a pattern, and what is neither
+pub names_and_patterns : IsNameOrPattern (codes "b") × IsNameOrPattern (codes "a*") × ¬ (IsNameOrPattern (codes "a b"))
+names_and_patterns = (inl b_name, inr a_star, neither)
+  where
+    neither : ¬ (IsNameOrPattern (codes "a b"))
+    neither (inl name) = no_name name
+    neither (inr pattern) = no_pattern (codes "a b") refl pattern
+
+-- two names, two patterns, and one of each
+pub alike : AreAlike (codes "b") (codes "b") × AreAlike (codes "a*") (codes "a*") × ¬ (AreAlike (codes "a*") (codes "b")) × ¬ (AreAlike (codes "b") (codes "a*"))
+alike = (inl (b_name, b_name), inr (a_star, a_star), pattern_first, name_first)
+  where
+    pattern_first : ¬ (AreAlike (codes "a*") (codes "b"))
+    pattern_first (inl names) = no_name_with_star (codes "a*") a_star names.0
+    pattern_first (inr patterns) = no_pattern (codes "b") refl patterns.1
+
+    name_first : ¬ (AreAlike (codes "b") (codes "a*"))
+    name_first (inl names) = no_name_with_star (codes "a*") a_star names.1
+    name_first (inr patterns) = no_pattern (codes "b") refl patterns.0
+
+no_digit : ¬ (LooksLikeObjectHash (codes "g" ++ replicate 39 letter))
+no_digit hash = false≢true (list_all-from_AllPass is_ascii_hexdigit (codes "g" ++ replicate 39 letter) hash.digits)
+
+-- 40 hex digits and more look like an id, in either case; 40 letters of which one is no digit don't
+pub hashes : LooksLikeObjectHash (replicate 40 letter) × LooksLikeObjectHash (replicate 41 65) × ¬ (LooksLikeObjectHash (codes "g" ++ replicate 39 letter))
+hashes = (
+  record { long = omega (arith, length-replicate 40 letter); digits = AllPass-from_list_all is_ascii_hexdigit (replicate 40 letter) refl },
+  record { long = omega (arith, length-replicate {A = ℕ} 41 65); digits = AllPass-from_list_all is_ascii_hexdigit (replicate 41 65) refl },
+  no_digit,
+)
+
+-- ---- forms of a fetch
+
+-- nothing named, with and without a sign and a colon, is `HEAD`
+pub fetches_head : Reads Fetch [] (fetched Normal (codes "HEAD") None) × Reads Fetch (codes "+") (fetched Forced (codes "HEAD") None) × Reads Fetch (codes ":") (fetched Normal (codes "HEAD") None) × Reads Fetch (codes "+:") (fetched Forced (codes "HEAD") None)
+fetches_head = (
+  fetches_nothing_named Normal refl tt (parts Normal [] None refl refl) refl,
+  fetches_nothing_named Forced refl tt (parts Forced [] None refl refl) refl,
+  fetches_colon Normal refl tt (parts Normal [] (Some []) refl refl) refl,
+  fetches_colon Forced refl tt (parts Forced [] (Some []) refl refl) refl,
+)
+
+fetches_alone : (mode : Mode) (s : List ℕ) → IsPositive mode → begins_signed mode s ≡ false → list_any (λ c. c == colon) s ≡ false → is_suspect slash s ≡ false → Reads Fetch (with_sign mode s) (fetched mode (named_by s) None)
+fetches_alone mode s positive unsigned last sound = fetches mode s refl positive (inl (parts mode s None unsigned last)) (IsName-tested s sound) refl
+
+-- a name alone; the second of two signs belongs to the name
+pub fetches_main : Reads Fetch (codes "main") (fetched Normal (codes "main") None) × Reads Fetch (codes "+main") (fetched Forced (codes "main") None) × Reads Fetch (codes "++main") (fetched Forced (codes "+main") None) × Reads Fetch (codes "@") (fetched Normal (codes "HEAD") None)
+fetches_main = (fetches_alone Normal (codes "main") tt refl refl refl, fetches_alone Forced (codes "main") tt refl refl refl, fetches_alone Forced (codes "+main") tt refl refl refl, fetches_alone Normal (codes "@") tt refl refl refl)
+
+fetches_to_nothing : (mode : Mode) (s : List ℕ) → IsPositive mode → begins_signed mode (s ++ codes ":") ≡ false → is_suspect slash s ≡ false → Reads Fetch (with_sign mode (s ++ codes ":")) (fetched mode (named_by s) None)
+fetches_to_nothing mode s positive unsigned sound = fetches mode s refl positive (inr (parts mode s (Some []) unsigned refl)) (IsName-tested s sound) refl
+
+-- a colon after a name changes nothing
+pub fetches_main_colon : Reads Fetch (codes "main:") (fetched Normal (codes "main") None) × Reads Fetch (codes "+main:") (fetched Forced (codes "main") None) × Reads Fetch (codes "@:") (fetched Normal (codes "HEAD") None)
+fetches_main_colon = (fetches_to_nothing Normal (codes "main") tt refl refl, fetches_to_nothing Forced (codes "main") tt refl refl, fetches_to_nothing Normal (codes "@") tt refl refl)
+
+updates_name : (mode : Mode) (s d : List ℕ) → IsPositive mode → begins_signed mode (with_colon s (Some d)) ≡ false → list_any (λ c. c == colon) d ≡ false → is_suspect slash s ≡ false → is_suspect slash d ≡ false → Reads Fetch (with_sign mode (with_colon s (Some d))) (fetched mode (named_by s) (Some d))
+updates_name mode s d positive unsigned last sound also = updates mode s d refl positive (parts mode s (Some d) unsigned last) (inl (IsName-tested s sound, IsName-tested d also)) refl
+
+-- two names, of which only the source may be short for `HEAD`
+pub updates_names : Reads Fetch (codes "main:refs/x/b") (fetched Normal (codes "main") (Some (codes "refs/x/b"))) × Reads Fetch (codes "+main:refs/x/b") (fetched Forced (codes "main") (Some (codes "refs/x/b"))) × Reads Fetch (codes "@:@") (fetched Normal (codes "HEAD") (Some (codes "@")))
+updates_names = (updates_name Normal (codes "main") (codes "refs/x/b") tt refl refl refl refl, updates_name Forced (codes "main") (codes "refs/x/b") tt refl refl refl refl, updates_name Normal (codes "@") (codes "@") tt refl refl refl refl)
+
+-- two patterns
+pub updates_patterns : Reads Fetch (codes "refs/heads/*:refs/x/*") (fetched Normal (codes "refs/heads/*") (Some (codes "refs/x/*")))
+updates_patterns = updates Normal (codes "refs/heads/*") (codes "refs/x/*") refl tt (parts Normal (codes "refs/heads/*") (Some (codes "refs/x/*")) refl refl) (inr (IsPattern-tested (codes "refs/heads/") [] refl refl refl, IsPattern-tested (codes "refs/x/") [] refl refl refl)) refl
+
+-- a destination alone gets `HEAD`
+pub updates_x : Reads Fetch (codes ":refs/heads/x") (fetched Normal (codes "HEAD") (Some (codes "refs/heads/x"))) × Reads Fetch (codes "+:refs/heads/x") (fetched Forced (codes "HEAD") (Some (codes "refs/heads/x")))
+updates_x = (
+  updates_from_head Normal (codes "refs/heads/x") refl tt (parts Normal [] (Some (codes "refs/heads/x")) refl refl) (IsName-tested (codes "refs/heads/x") refl) refl,
+  updates_from_head Forced (codes "refs/heads/x") refl tt (parts Forced [] (Some (codes "refs/heads/x")) refl refl) (IsName-tested (codes "refs/heads/x") refl) refl,
+)
+
+-- a text of less than 40 bytes looks like no id
+short_text : (x : List ℕ) → length x < 40 → ¬ (LooksLikeObjectHash x)
+short_text x short hash = omega (arith, short, hash.long)
+
+fetch_excludes_name : (s : List ℕ) → list_any (λ c. c == colon) s ≡ false → is_suspect slash s ≡ false → ¬ (LooksLikeObjectHash s) → Reads Fetch (caret ∷ s) (fetched Negative (named_by s) None)
+fetch_excludes_name s last sound hash = fetch_excludes s refl (parts Negative s None refl last) (inl (IsName-tested s sound)) hash refl
+
+-- a pattern, a name, `@`, a sign that isn't one, and what is nearly an id
+pub fetches_without : Reads Fetch (codes "^refs/heads/dev-*") (fetched Negative (codes "refs/heads/dev-*") None) × Reads Fetch (codes "^main") (fetched Negative (codes "main") None) × Reads Fetch (codes "^@") (fetched Negative (codes "HEAD") None) × Reads Fetch (codes "^+main") (fetched Negative (codes "+main") None) × Reads Fetch (caret ∷ replicate 39 letter) (fetched Negative (replicate 39 letter) None)
+fetches_without = (
+  fetch_excludes (codes "refs/heads/dev-*") refl (parts Negative (codes "refs/heads/dev-*") None refl refl) (inr (IsPattern-tested (codes "refs/heads/dev-") [] refl refl refl)) (short_text (codes "refs/heads/dev-*") (omega arith)) refl,
+  fetch_excludes_name (codes "main") refl refl (short_text (codes "main") (omega arith)),
+  fetch_excludes_name (codes "@") refl refl (short_text (codes "@") (omega arith)),
+  fetch_excludes_name (codes "+main") refl refl (short_text (codes "+main") (omega arith)),
+  fetch_excludes_name (replicate 39 letter) refl refl too_short,
+)
+
+-- ---- forms of a push
+
+push_excludes_name : (s : List ℕ) → list_any (λ c. c == colon) s ≡ false → is_suspect slash s ≡ false → ¬ (LooksLikeObjectHash s) → Reads Push (caret ∷ s) (pushed Negative (Some (named_by s)) None)
+push_excludes_name s last sound hash = push_excludes s refl (parts Negative s None refl last) (inl (IsName-tested s sound)) hash refl
+
+-- a name, `@`, and 40 letters of which one is no digit
+pub pushes_without : Reads Push (codes "^main") (pushed Negative (Some (codes "main")) None) × Reads Push (codes "^@") (pushed Negative (Some (codes "HEAD")) None) × Reads Push (caret ∷ (codes "g" ++ replicate 39 letter)) (pushed Negative (Some (codes "g" ++ replicate 39 letter)) None)
+pushes_without = (
+  push_excludes_name (codes "main") refl refl (short_text (codes "main") (omega arith)),
+  push_excludes_name (codes "@") refl refl (short_text (codes "@") (omega arith)),
+  push_excludes_name (codes "g" ++ replicate 39 letter) refl refl no_digit,
+)
+
+-- all matching branches, as `:` without a sign
+pub pushes_matching : Reads Push (codes "+") (pushed Forced None None) × Reads Push (codes "+:") (pushed Forced None None)
+pushes_matching = (
+  pushes_plus refl (parts Forced [] None refl refl) refl,
+  pushes_colon Forced refl tt (parts Forced [] (Some []) refl refl) refl,
+)
+
+pushes_name : (mode : Mode) (s : List ℕ) → IsPositive mode → begins_signed mode s ≡ false → list_any (λ c. c == colon) s ≡ false → is_suspect slash s ≡ false → Reads Push (with_sign mode s) (pushed mode (Some (named_by s)) None)
+pushes_name mode s positive unsigned last sound = pushes mode s refl positive (parts mode s None unsigned last) (inl (IsName-tested s sound)) refl
+
+-- a name alone, or a pattern
+pub pushes_alone : Reads Push (codes "main") (pushed Normal (Some (codes "main")) None) × Reads Push (codes "++main") (pushed Forced (Some (codes "+main")) None) × Reads Push (codes "@") (pushed Normal (Some (codes "HEAD")) None) × Reads Push (codes "+refs/heads/*") (pushed Forced (Some (codes "refs/heads/*")) None)
+pushes_alone = (
+  pushes_name Normal (codes "main") tt refl refl refl,
+  pushes_name Forced (codes "+main") tt refl refl refl,
+  pushes_name Normal (codes "@") tt refl refl refl,
+  pushes Forced (codes "refs/heads/*") refl tt (parts Forced (codes "refs/heads/*") None refl refl) (inr (IsPattern-tested (codes "refs/heads/") [] refl refl refl)) refl,
+)
+
+-- a destination alone; a sign after the colon belongs to it
+pub deletes_x : Reads Push (codes "+:x") (pushed Forced None (Some (codes "x"))) × Reads Push (codes ":+x") (pushed Normal None (Some (codes "+x")))
+deletes_x = (
+  deletes Forced (codes "x") refl tt (parts Forced [] (Some (codes "x")) refl refl) (IsName-tested (codes "x") refl) refl,
+  deletes Normal (codes "+x") refl tt (parts Normal [] (Some (codes "+x")) refl refl) (IsName-tested (codes "+x") refl) refl,
+)
+
+pushes_below : (mode : Mode) → IsPositive mode → begins_signed mode (codes "refs/heads/*:refs/x/*") ≡ false → Reads Push (with_sign mode (codes "refs/heads/*:refs/x/*")) (pushed mode (Some (codes "refs/heads/*")) (Some (codes "refs/x/*")))
+pushes_below mode positive unsigned = pushes_pattern mode (codes "refs/heads/*") (codes "refs/x/*") refl positive (parts mode (codes "refs/heads/*") (Some (codes "refs/x/*")) unsigned refl) (IsPattern-tested (codes "refs/heads/") [] refl refl refl) (IsPattern-tested (codes "refs/x/") [] refl refl refl) refl
+
+-- two patterns
+pub pushes_patterns : Reads Push (codes "refs/heads/*:refs/x/*") (pushed Normal (Some (codes "refs/heads/*")) (Some (codes "refs/x/*"))) × Reads Push (codes "+refs/heads/*:refs/x/*") (pushed Forced (Some (codes "refs/heads/*")) (Some (codes "refs/x/*")))
+pushes_patterns = (pushes_below Normal tt refl, pushes_below Forced tt refl)
+
+pushes_object : (mode : Mode) (b : ℕ) (s d : List ℕ) → IsPositive mode → begins_signed mode (with_colon (b ∷ s) (Some d)) ≡ false → list_any (λ c. c == colon) d ≡ false → list_any (λ c. c == star) (b ∷ s) ≡ false → is_suspect slash d ≡ false → Reads Push (with_sign mode (with_colon (b ∷ s) (Some d))) (pushed mode (Some (named_by (b ∷ s))) (Some d))
+pushes_object mode b s d positive unsigned last plain sound = pushes_to mode (b ∷ s) d refl positive (parts mode (b ∷ s) (Some d) unsigned last) (full b s) (Lacks-tested star (b ∷ s) plain) (IsName-tested d sound) refl
+
+-- what names an object may be a source, even if it is no name, up to the last colon
+pub pushes_objects : Reads Push (codes "main~2:refs/heads/x") (pushed Normal (Some (codes "main~2")) (Some (codes "refs/heads/x"))) × Reads Push (codes ":/message:refs/heads/x") (pushed Normal (Some (codes ":/message")) (Some (codes "refs/heads/x"))) × Reads Push (codes "+^a..b:x") (pushed Forced (Some (codes "^a..b")) (Some (codes "x"))) × Reads Push (codes "@:@") (pushed Normal (Some (codes "HEAD")) (Some (codes "@"))) × Reads Push (codes "::x") (pushed Normal (Some (codes ":")) (Some (codes "x")))
+pushes_objects = (
+  pushes_object Normal 109 (codes "ain~2") (codes "refs/heads/x") tt refl refl refl refl,
+  pushes_object Normal colon (codes "/message") (codes "refs/heads/x") tt refl refl refl refl,
+  pushes_object Forced caret (codes "a..b") (codes "x") tt refl refl refl refl,
+  pushes_object Normal 64 [] (codes "@") tt refl refl refl refl,
+  pushes_object Normal colon [] (codes "x") tt refl refl refl refl,
+)
+
+-- ---- no other reading
+
+other_destination : (r q : Reading) → r.destination ≢ q.destination → r ≢ q
+other_destination r q differ same = differ (ap (λ (x : Reading). x.destination) same)
+
+other_source : (r q : Reading) → r.source ≢ q.source → r ≢ q
+other_source r q differ same = differ (ap (λ (x : Reading). x.source) same)
+
+no_other : (op : Operation) (text : List ℕ) (r q : Reading) → Reads op text r → r ≢ q → ¬ (Reads op text q)
+no_other op text r q reads differ also = differ (reads_once op text r q reads also)
+
+-- a push of a name alone has no destination, nor has a fetch with a colon after its name
+pub no_destination_read : ¬ (Reads Push (codes "main") (pushed Normal (Some (codes "main")) (Some (codes "main")))) × ¬ (Reads Fetch (codes "main:") (fetched Normal (codes "main") (Some [])))
+no_destination_read = (
+  no_other Push (codes "main") _ _ pushes_alone.0 (other_destination _ _ (none_some (codes "main"))),
+  no_other Fetch (codes "main:") _ _ fetches_main_colon.0 (other_destination _ _ (none_some [])),
+)
+
+-- `@` isn't read as it is; a sign is no part of a name; and a push isn't cut at its first colon
+pub no_other_source_read : ¬ (Reads Fetch (codes "@") (fetched Normal (codes "@") None)) × ¬ (Reads Fetch (codes "+main") (fetched Normal (codes "+main") None)) × ¬ (Reads Push (codes ":/message:refs/heads/x") (pushed Normal None (Some (codes "/message:refs/heads/x"))))
+no_other_source_read = (
+  no_other Fetch (codes "@") _ _ fetches_main.3 (other_source _ _ (λ same. other_length (codes "HEAD") (codes "@") (λ size. omega (arith, size)) (some_once _ _ same))),
+  no_other Fetch (codes "+main") _ _ fetches_main.1 (other_source _ _ (λ same. other_length (codes "main") (codes "+main") (λ size. omega (arith, size)) (some_once _ _ same))),
+  no_other Push (codes ":/message:refs/heads/x") _ _ pushes_objects.1 (other_source _ _ (some_none (codes ":/message"))),
+)

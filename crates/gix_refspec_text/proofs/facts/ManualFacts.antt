@@ -1,0 +1,354 @@
+-- The words on names and refspecs at the examples of git-check-ref-format(1), git-fetch(1) and
+-- git-push(1), and at some like them, on both sides of a border, so that a wrong rule in the specs does
+-- not check.
+use Rattle.std.proofs.Common.{◌≡◌, ◌≢◌, ◌≤◌, ℕ, ◌==◌, ◌||◌, true, false, List, [], ◌∷◌, ◌++◌, Option, None, Some, map, length, get_or, codes, refl, sym, ap, ◌∙◌, is_some, subst, inl, inr, arith}
+use Rattle.std.specs.Prelude.{replicate}
+use Rattle.std.specs.List.{list_any, filter, range_with_len}
+use Rattle.std.proofs.lemmas.List.{length-replicate}
+use Rattle.std.proofs.lemmas.Bool.{eqb-false, true≢false, false≢true}
+use Rattle.gix_refspec_text.specs.declared.name.Error.TheVariants.{LockSuffix, RepeatedDot, ReflogPortion}
+use Rattle.gix_refspec_text.specs.declared.parsing.Operation.{Operation}
+use Rattle.gix_refspec_text.specs.declared.parsing.Operation.TheVariants.{Push, Fetch}
+use Rattle.gix_refspec_text.specs.declared.name.PatternError.TheVariants.{Memory}
+use Rattle.gix_refspec_text.specs.Texts.Words.{Lacks}
+use Rattle.gix_refspec_text.specs.Texts.Name.{is_refused_byte, HasFault, HasSeveralStars, IsCut, ReplacesStar, IsPattern}
+use Rattle.gix_refspec_text.specs.Texts.PatternError.{IsPatternFault}
+use Rattle.gix_refspec_text.specs.Texts.Bytes.{slash, star, letter, plus, caret, colon}
+use Rattle.gix_refspec_text.specs.Specs.Reading.{Mode, Normal, Forced, Negative, Reading, HasSide, remote_of, local_of}
+use Rattle.gix_refspec_text.specs.Specs.Grammar.{named_by, IsSigned, AreParts, LooksLikeObjectHash, Reads, updates, pushes_colon, pushes, deletes, pushes_to, push_excludes, pushed, fetched}
+use Rattle.gix_refspec_text.specs.Specs.Meaning.{Meaning, push_all_matching, push_delete, push_matching, push_exclude, fetch_and_update, meaning_of, text_of}
+use Rattle.gix_refspec_text.specs.Specs.Refusal.{PatternUnsupported, PushToEmpty, NegativeWithDestination, ReferenceName, IsBadPattern, NeedsMemory, NoReasonBeforeSource, ReachesMemory, MayNeedMemory}
+use Rattle.gix_refspec_text.specs.Matching.Side.{pattern, full_name, object, partial, HasKind, candidates, filled}
+use Rattle.gix_refspec_text.specs.Matching.Match.{Ref, Matches, MatchesAs}
+use Rattle.gix_refspec_text.proofs.lemmas.texts.TextLemmas.{Lacks-here, Lacks-Holds}
+use Rattle.gix_refspec_text.proofs.lemmas.texts.TestedLemmas.{is_suspect, IsName-tested}
+use Rattle.gix_refspec_text.proofs.lemmas.parsing.SideLemmas.{HasSeveralStars-replaced, HasStar-stars, HasStar-bad}
+use Rattle.gix_refspec_text.proofs.lemmas.parsing.PartsLemmas.{parts_once}
+use Rattle.gix_refspec_text.proofs.lemmas.specs.FormsBackLemmas.{some_once}
+
+-- a text lacks a byte if a test of each byte says so
+pub Lacks-tested : (b : ℕ) (x : List ℕ) → list_any (λ c. c == b) x ≡ false → Lacks b x
+Lacks-tested b [] none = tt
+Lacks-tested b (c ∷ x) none = elim (c == b) as (λ v. (c == b) ≡ v → (v || list_any (λ c. c == b) x) ≡ false → Lacks b (c ∷ x)) [
+  | true ↦ λ same found. absurd (true≢false found)
+  | false ↦ λ other later. (eqb-false c b other, Lacks-tested b x later)
+] refl none
+
+-- a text with a byte isn't empty
+pub full : (b : ℕ) (bs : List ℕ) → b ∷ bs ≢ []
+full b bs = λ e. cc
+
+-- a missing word is no word
+pub none_some : (x : List ℕ) → None ≢ Some x
+none_some x same = cc
+
+pub some_none : (x : List ℕ) → Some x ≢ None
+some_none x same = cc
+
+-- texts of different lengths, and texts with different first bytes, differ
+pub other_length : (x y : List ℕ) → length x ≢ length y → x ≢ y
+other_length x y differ same = differ (ap length same)
+
+first_byte : (b c : ℕ) (x : List ℕ) → b ≢ c → b ∷ x ≢ c ∷ x
+first_byte b c x differ same = differ (ap (λ (y : List ℕ). get_or y 0 0) same)
+
+-- for the operation, the text reads as what says m
+abbrev Says : Operation → List ℕ → Meaning → Type 0
+Says op text m = (r : Reading) × Reads op text r × (meaning_of r ≡ Some m)
+
+-- of the 256 bytes, the control characters, space, colon, question mark, bracket, backslash, caret, tilde and
+-- DEL, and no other
+pub refused_bytes : filter is_refused_byte (range_with_len 0 256) ≡ 0 ∷ 1 ∷ 2 ∷ 3 ∷ 4 ∷ 5 ∷ 6 ∷ 7 ∷ 8 ∷ 9 ∷ 10 ∷ 11 ∷ 12 ∷ 13 ∷ 14 ∷ 15 ∷ 16 ∷ 17 ∷ 18 ∷ 19 ∷ 20 ∷ 21 ∷ 22 ∷ 23 ∷ 24 ∷ 25 ∷ 26 ∷ 27 ∷ 28 ∷ 29 ∷ 30 ∷ 31 ∷ (codes " :?[\\^~" ++ (127 ∷ []))
+refused_bytes = refl
+
+-- two dots anywhere, and `.lock` at the end of a component
+pub faults : HasFault (codes "foo..bar") RepeatedDot × HasFault (codes "foo.lock") LockSuffix × HasFault (codes "foo.lock/bar") LockSuffix × HasFault (codes "foo@{bar") ReflogPortion
+faults = (
+  record { before = codes "foo"; after = codes "bar"; here = refl },
+  record {
+    before = [];
+    component = codes "foo.lock";
+    after = [];
+    components = record { joined = refl; whole = (Lacks-tested slash (codes "foo.lock") refl, tt) };
+    fact = record { before = codes "foo"; here = refl };
+  },
+  record {
+    before = [];
+    component = codes "foo.lock";
+    after = codes "bar" ∷ [];
+    components = record { joined = refl; whole = (Lacks-tested slash (codes "foo.lock") refl, (Lacks-tested slash (codes "bar") refl, tt)) };
+    fact = record { before = codes "foo"; here = refl };
+  },
+  record { before = codes "foo"; after = codes "bar"; here = refl },
+)
+
+-- texts that lack the star cut a text at its only one, which the letter may replace
+pub IsCut-tested : (before after : List ℕ) → list_any (λ c. c == star) before ≡ false → list_any (λ c. c == star) after ≡ false → IsCut before after (before ++ (star ∷ after))
+IsCut-tested before after first last = record { starred = refl; first = Lacks-tested star before first; last = Lacks-tested star after last }
+
+pub ReplacesStar-tested : (before after : List ℕ) → list_any (λ c. c == star) before ≡ false → list_any (λ c. c == star) after ≡ false → ReplacesStar (before ++ (star ∷ after)) (before ++ (letter ∷ after))
+ReplacesStar-tested before after first last = record { before = before; after = after; cut = IsCut-tested before after first last; replaced = refl }
+
+-- one star may be in a component of a pattern, but not two
+pub one_star : ReplacesStar (codes "foo/bar*/baz") (codes "foo/bara/baz") × ReplacesStar (codes "foo/bar*baz") (codes "foo/barabaz")
+one_star = (ReplacesStar-tested (codes "foo/bar") (codes "/baz") refl refl, ReplacesStar-tested (codes "foo/bar") (codes "baz") refl refl)
+
+pub two_stars : HasSeveralStars (codes "foo/bar*/baz*")
+two_stars = record { before = codes "foo/bar"; between = codes "/baz"; after = []; here = refl }
+
+-- a text with one star is a pattern where it is a name with the letter for it
+pub IsPattern-tested : (before after : List ℕ) → list_any (λ c. c == star) before ≡ false → list_any (λ c. c == star) after ≡ false → is_suspect slash (before ++ (letter ∷ after)) ≡ false → IsPattern (before ++ (star ∷ after))
+IsPattern-tested before after first last sound = record {
+  with_letter = before ++ (letter ∷ after);
+  replaces = ReplacesStar-tested before after first last;
+  name = IsName-tested (before ++ (letter ∷ after)) sound;
+}
+
+pub every_branch : IsPattern (codes "refs/heads/*")
+every_branch = IsPattern-tested (codes "refs/heads/") [] refl refl refl
+
+-- `@` alone is short for `HEAD`
+pub at_sign : (named_by (codes "@") ≡ codes "HEAD") × (named_by (codes "HEAD") ≡ codes "HEAD")
+at_sign = (refl, refl)
+
+-- a text with another byte first has no sign
+pub no_sign : (b : ℕ) (bs : List ℕ) → (b == plus) ≡ false → (b == caret) ≡ false → IsSigned Normal (b ∷ bs) (b ∷ bs)
+no_sign b bs no_plus no_caret = (refl, (eqb-false b plus no_plus, eqb-false b caret no_caret))
+
+-- git fetch origin +refs/heads/*:refs/remotes/origin/*
+pub fetches_every_branch : Says Fetch (codes "+refs/heads/*:refs/remotes/origin/*") (fetch_and_update (codes "refs/heads/*") (codes "refs/remotes/origin/*") true)
+fetches_every_branch =
+    let s = codes "refs/heads/*" in
+    let d = codes "refs/remotes/origin/*" in
+    let parts : AreParts Forced s (Some d) (codes "+refs/heads/*:refs/remotes/origin/*") = record { signed = refl; last = Lacks-tested colon d refl } in
+    let alike = inr (every_branch, IsPattern-tested (codes "refs/remotes/origin/") [] refl refl refl) in
+    (fetched Forced s (Some d), updates Forced s d refl tt parts alike refl, refl)
+
+-- git fetch origin +seen:seen
+pub fetches_seen : Says Fetch (codes "+seen:seen") (fetch_and_update (codes "seen") (codes "seen") true)
+fetches_seen =
+    let s = codes "seen" in
+    let name = IsName-tested s refl in
+    let parts : AreParts Forced s (Some s) (codes "+seen:seen") = record { signed = refl; last = Lacks-tested colon s refl } in
+    (fetched Forced s (Some s), updates Forced s s refl tt parts (inl (name, name)) refl, refl)
+
+-- git push origin master
+pub pushes_master : Says Push (codes "master") (push_matching (codes "master") (codes "master") false)
+pushes_master =
+    let s = codes "master" in
+    let parts : AreParts Normal s None s = record { signed = no_sign 109 (codes "aster") refl refl; last = Lacks-tested colon s refl } in
+    (pushed Normal (Some s) None, pushes Normal s refl tt parts (inl (IsName-tested s refl)) refl, refl)
+
+-- git push origin HEAD:master
+pub pushes_head : Says Push (codes "HEAD:master") (push_matching (codes "HEAD") (codes "master") false)
+pushes_head =
+    let s = codes "HEAD" in
+    let d = codes "master" in
+    let parts : AreParts Normal s (Some d) (codes "HEAD:master") = record { signed = no_sign 72 (codes "EAD:master") refl refl; last = Lacks-tested colon d refl } in
+    (pushed Normal (Some s) (Some d), pushes_to Normal s d refl tt parts (full _ _) (Lacks-tested star s refl) (IsName-tested d refl) refl, refl)
+
+-- git push origin master:refs/heads/experimental
+pub pushes_experimental : Says Push (codes "master:refs/heads/experimental") (push_matching (codes "master") (codes "refs/heads/experimental") false)
+pushes_experimental =
+    let s = codes "master" in
+    let d = codes "refs/heads/experimental" in
+    let parts : AreParts Normal s (Some d) (codes "master:refs/heads/experimental") = record { signed = no_sign 109 (codes "aster:refs/heads/experimental") refl refl; last = Lacks-tested colon d refl } in
+    (pushed Normal (Some s) (Some d), pushes_to Normal s d refl tt parts (full _ _) (Lacks-tested star s refl) (IsName-tested d refl) refl, refl)
+
+-- git push origin +dev:master
+pub pushes_dev : Says Push (codes "+dev:master") (push_matching (codes "dev") (codes "master") true)
+pushes_dev =
+    let s = codes "dev" in
+    let d = codes "master" in
+    let parts : AreParts Forced s (Some d) (codes "+dev:master") = record { signed = refl; last = Lacks-tested colon d refl } in
+    (pushed Forced (Some s) (Some d), pushes_to Forced s d refl tt parts (full _ _) (Lacks-tested star s refl) (IsName-tested d refl) refl, refl)
+
+-- git push origin :experimental
+pub deletes_experimental : Says Push (codes ":experimental") (push_delete (codes "experimental"))
+deletes_experimental =
+    let d = codes "experimental" in
+    let parts : AreParts Normal [] (Some d) (codes ":experimental") = record { signed = no_sign colon d refl refl; last = Lacks-tested colon d refl } in
+    (pushed Normal None (Some d), deletes Normal d refl tt parts (IsName-tested d refl) refl, refl)
+
+-- git push origin :
+pub pushes_matching_branches : Says Push (codes ":") (push_all_matching false)
+pushes_matching_branches =
+    let parts : AreParts Normal [] (Some []) (codes ":") = record { signed = no_sign colon [] refl refl; last = tt } in
+    (pushed Normal None None, pushes_colon Normal refl tt parts refl, refl)
+
+-- an exclusion as in git-fetch(1), given to a push
+pub leaves_out_dev : Says Push (codes "^refs/heads/dev-*") (push_exclude (codes "refs/heads/dev-*"))
+leaves_out_dev =
+    let s = codes "refs/heads/dev-*" in
+    let parts : AreParts Negative s None (codes "^refs/heads/dev-*") = record { signed = refl; last = Lacks-tested colon s refl } in
+    let pattern = IsPattern-tested (codes "refs/heads/dev-") [] refl refl refl in
+    let short : ¬ (LooksLikeObjectHash s) = λ hash. let long : 40 ≤ 16 = hash.long in omega (arith, long) in
+    (pushed Negative (Some s) None, push_excludes s refl parts (inr pattern) short refl, refl)
+
+-- the canonical texts of these
+pub texts : (text_of (push_matching (codes "master") (codes "master") false) ≡ codes "master:master")
+    × (text_of (push_matching (codes "dev") (codes "master") true) ≡ codes "+dev:master")
+    × (text_of (push_delete (codes "experimental")) ≡ codes ":experimental")
+    × (text_of (push_all_matching false) ≡ codes ":")
+    × (text_of (push_exclude (codes "refs/heads/dev-*")) ≡ codes "^refs/heads/dev-*")
+    × (text_of (fetch_and_update (codes "seen") (codes "seen") true) ≡ codes "+seen:seen")
+texts = (refl, refl, refl, refl, refl, refl)
+
+-- ---- sides and what they match
+
+-- a ref of this name
+abbrev pub named : List ℕ → Ref
+named n = record { name = n; target = 1 ∷ []; object = None }
+
+-- a full name matches the ref of this name alone, and no word stands for a star
+pub full_name_matches : Matches (codes "refs/heads/main") (named (codes "refs/heads/main")) None
+full_name_matches = record {
+  kind = full_name (codes "refs/heads/main");
+  of = (refl, Lacks-tested star (codes "refs/heads/main") refl, record { after = codes "heads/main"; here = refl });
+  is = (refl, refl);
+}
+
+pub full_name_has_no_word : (word : List ℕ) → ¬ (MatchesAs (full_name (codes "refs/heads/main")) (named (codes "refs/heads/main")) (Some word))
+full_name_has_no_word word matches = some_none word matches.0
+
+pub longer_name_differs : ¬ (MatchesAs (full_name (codes "refs/heads/main")) (named (codes "refs/heads/main2")) None)
+longer_name_differs matches = other_length _ _ (λ same. omega (arith, same)) matches.1
+
+pub shorter_name_differs : ¬ (MatchesAs (full_name (codes "refs/heads/main")) (named (codes "refs/heads/mai")) None)
+shorter_name_differs matches = other_length _ _ (λ same. omega (arith, same)) matches.1
+
+-- a tag that points to the first id, of an object with the second
+abbrev tag : Ref
+tag = record { name = codes "refs/tags/v1"; target = 1 ∷ []; object = Some (2 ∷ []) }
+
+-- an id matches a ref that points to it, and a tag of what has it, and no other
+pub id_matches : MatchesAs (object (1 ∷ [])) tag None × MatchesAs (object (2 ∷ [])) tag None
+id_matches = ((refl, inl refl), (refl, inr refl))
+
+pub other_id_differs : ¬ (MatchesAs (object (3 ∷ [])) tag None)
+other_id_differs (none, inl target) = first_byte 1 3 [] (λ same. omega (arith, same)) target
+other_id_differs (none, inr tagged) = first_byte 2 3 [] (λ same. omega (arith, same)) (some_once _ _ tagged)
+
+-- nor does a word stand for a star where an id or a partial name matches
+pub others_have_no_word : (word : List ℕ) → ¬ (MatchesAs (object (1 ∷ [])) tag (Some word)) × ¬ (MatchesAs (partial (codes "main")) (named (codes "main")) (Some word))
+others_have_no_word word = (λ matches. some_none word matches.0, λ matches. some_none word matches.0)
+
+-- the names that `main` may stand for, in the order of gitrevisions(7)
+pub candidates_of_main : candidates (codes "main")
+    ≡ codes "main" ∷ codes "refs/main" ∷ codes "refs/tags/main" ∷ codes "refs/heads/main" ∷ codes "refs/remotes/main" ∷ codes "refs/remotes/main/HEAD" ∷ []
+candidates_of_main = refl
+
+-- what is after the star of a pattern has no other star, nor what is before it
+pub two_stars_no_pattern : ¬ (HasKind (codes "a*b*") (pattern (codes "a") (codes "b*"))) × ¬ (HasKind (codes "a*b*") (pattern (codes "a*b") []))
+two_stars_no_pattern = (λ cut. Lacks-here star (codes "b") [] cut.last, λ cut. Lacks-here star (codes "a") (codes "b") cut.first)
+
+-- a pattern gets a word for its star, or keeps the star, between what is before and after it
+pub filled_patterns : (filled (pattern (codes "refs/x/") (codes "/y")) (Some (codes "main")) ≡ codes "refs/x/main/y") × (filled (pattern (codes "refs/x/") (codes "/y")) None ≡ codes "refs/x/*/y")
+filled_patterns = (refl, refl)
+
+pub filled_names : map (λ x. filled (partial x) None) (codes "main" ∷ codes "tags/v1" ∷ codes "remotes/o/main" ∷ codes "tagsv" ∷ [])
+    ≡ codes "refs/heads/main" ∷ codes "refs/tags/v1" ∷ codes "refs/remotes/o/main" ∷ codes "refs/heads/tagsv" ∷ []
+filled_names = refl
+
+-- ---- refusals and memory
+
+-- a source with two stars is reported whole
+pub reports_the_source : IsBadPattern (codes "a*b*") (PatternUnsupported (codes "a*b*"))
+reports_the_source = (record { before = codes "a"; between = codes "b"; after = []; here = refl }, refl)
+
+pub reports_no_other : ¬ (IsBadPattern (codes "a*b*") (PatternUnsupported (codes "a*b")))
+reports_no_other bad = other_length _ _ (λ same. omega (arith, same)) bad.1
+
+-- a star and then so many letters
+abbrev starred : ℕ → List ℕ
+starred n = star ∷ replicate n letter
+
+-- a side with a star and 257 bytes may need memory
+pub needs_memory : NeedsMemory (starred 256)
+needs_memory = inr (record { before = []; after = replicate 256 letter; here = refl }, omega (arith, length-replicate 256 letter))
+
+-- one with 256 bytes never does
+needs_no_memory : ¬ (NeedsMemory (starred 255))
+needs_no_memory (inl several) =
+    HasSeveralStars-replaced (starred 255) (letter ∷ replicate 255 letter) (ReplacesStar-tested [] (replicate 255 letter) refl refl) several
+needs_no_memory (inr (starry, long)) = omega (arith, length-replicate 255 letter, long)
+
+-- nor does one of 257 bytes without a star
+pub long_name_needs_none : ¬ (NeedsMemory (replicate 257 letter))
+long_name_needs_none (inl several) = Lacks-Holds star (replicate 257 letter) (Lacks-tested star (replicate 257 letter) refl) (HasStar-stars (replicate 257 letter) several)
+long_name_needs_none (inr (starry, long)) = Lacks-Holds star (replicate 257 letter) (Lacks-tested star (replicate 257 letter) refl) starry
+
+-- the text is a source alone
+starred_parts : (n : ℕ) → list_any (λ c. c == colon) (starred n) ≡ false → AreParts Normal (starred n) None (starred n)
+starred_parts n none = record { signed = no_sign star (replicate n letter) refl refl; last = Lacks-tested colon (starred n) none }
+
+pub text_may_need_memory : MayNeedMemory Fetch (starred 256)
+text_may_need_memory = record {
+  mode = Normal;
+  source = starred 256;
+  destination = None;
+  parts = starred_parts 256 refl;
+  reaches = (
+    (λ e empty. full star (replicate 256 letter) empty.no_source, λ e negative. false≢true negative.colon, λ e nowhere. none_some [] nowhere.nowhere),
+    needs_memory,
+  );
+}
+
+pub text_needs_no_memory : ¬ (MayNeedMemory Fetch (starred 255))
+text_needs_no_memory may =
+    let once = parts_once may.mode Normal may.source (starred 255) may.destination None (starred 255) may.parts (starred_parts 255 refl) in
+    let reaches : ReachesMemory Fetch may.mode may.source None = subst (λ (d : Option (List ℕ)). ReachesMemory Fetch may.mode may.source d) once.destination may.reaches in
+    needs_no_memory (subst NeedsMemory once.source reaches.1)
+
+-- a pattern of 257 bytes may be too long to be copied, and one of 256 is not
+pub pattern_too_long : IsPatternFault Memory (starred 256) × ¬ (IsPatternFault Memory (starred 255))
+pattern_too_long = (omega (arith, length-replicate 256 letter), λ long. omega (arith, length-replicate 255 letter, long))
+
+-- no reason is before the source where there is none like these three
+pub before_source : (op : Operation) (mode : Mode) (s : List ℕ) (d : Option (List ℕ)) → s ≢ [] → (mode ≡ Negative → d ≡ None) → d ≢ Some [] → NoReasonBeforeSource op mode s d
+before_source op mode s d not_empty alone somewhere = (
+  (λ e empty. not_empty empty.no_source),
+  (λ e negative. false≢true (ap is_some (sym (alone negative.negative)) ∙ negative.colon)),
+  (λ e nowhere. somewhere nowhere.nowhere),
+)
+
+-- so a destination may need memory too
+pub destination_needs_memory : ReachesMemory Push Normal (codes "a..b") (Some (codes "c*d*"))
+destination_needs_memory = (
+  before_source Push Normal (codes "a..b") (Some (codes "c*d*")) (full _ _) (λ negative. absurd (normal_no_negative negative)) (λ same. full 99 (codes "*d*") (some_once (codes "c*d*") [] same)),
+  inr (
+    (λ e bad. Lacks-Holds star (codes "a..b") (Lacks-tested star (codes "a..b") refl) (HasStar-bad (codes "a..b") e bad.refusal)),
+    inl (record { before = codes "c"; between = codes "d"; after = []; here = refl }),
+  ),
+)
+  where
+    normal_no_negative : Normal ≢ Negative
+    normal_no_negative same = cc
+
+-- but not after a bad source, nor does the source of a push to nowhere, or of a negative spec with a colon
+pub memory_after_reasons : ¬ (ReachesMemory Fetch Normal (codes "a..b") (Some (codes "c*d*"))) × ¬ (ReachesMemory Push Normal (codes "a*b*") (Some [])) × ¬ (ReachesMemory Fetch Negative (codes "a*b*") (Some (codes "c")))
+memory_after_reasons = (
+  (λ reaches. elim reaches.1 [
+    | inl needs ↦ elim needs [
+      | inl several ↦ Lacks-Holds star (codes "a..b") (Lacks-tested star (codes "a..b") refl) (HasStar-stars (codes "a..b") several)
+      | inr long ↦ Lacks-Holds star (codes "a..b") (Lacks-tested star (codes "a..b") refl) long.0
+    ]
+    | inr after ↦ after.0 (ReferenceName RepeatedDot) (record { source = full _ _; refusal = inl (Lacks-tested star (codes "a..b") refl, record { before = codes "a"; after = codes "b"; here = refl }) })
+  ]),
+  (λ reaches. reaches.0.2 PushToEmpty (record { push = refl; source = full _ _; nowhere = refl; refusal = refl })),
+  (λ reaches. reaches.0.1 NegativeWithDestination (record { negative = refl; colon = refl; refusal = refl })),
+)
+
+-- ---- sides of readings
+
+-- one side is enough, and it may be either
+pub sides : HasSide (pushed Normal (Some (codes "a")) None) × HasSide (pushed Normal None (Some (codes "a"))) × ¬ (HasSide (pushed Normal None None))
+sides = (inl refl, inr refl, none)
+  where
+    none : ¬ (HasSide (pushed Normal None None))
+    none (inl source) = false≢true source
+    none (inr destination) = false≢true destination
+
+-- a fetch has its source on the remote, and a push its destination
+pub remote_sides : (remote_of (fetched Normal (codes "a") (Some (codes "b"))) ≡ Some (codes "a")) × (local_of (fetched Normal (codes "a") (Some (codes "b"))) ≡ Some (codes "b")) × (remote_of (pushed Normal (Some (codes "a")) (Some (codes "b"))) ≡ Some (codes "b")) × (local_of (pushed Normal (Some (codes "a")) (Some (codes "b"))) ≡ Some (codes "a"))
+remote_sides = (refl, refl, refl, refl)

@@ -1,0 +1,95 @@
+-- The words on meanings, canonical texts, order and reasons at the examples of this project's own
+-- rules: what a sign says, which text has one more, and what is before what.
+use Rattle.std.proofs.Common.{◌≡◌, true, false, [], None, Some, codes, refl}
+use Rattle.std.specs.declared.cmp.Ordering.TheVariants.{Less, Equal, Greater}
+use Rattle.gix_refspec_text.specs.declared.parsing.Operation.TheVariants.{Push, Fetch}
+use Rattle.gix_refspec_text.specs.declared.parsing.Error.TheVariants as error
+use Rattle.gix_refspec_text.specs.Specs.Reading.{Normal, Forced, Negative}
+use Rattle.gix_refspec_text.specs.Specs.Grammar.{fetched, pushed}
+use Rattle.gix_refspec_text.specs.Specs.Meaning.{push_all_matching, push_delete, push_matching, push_exclude, fetch_only, fetch_exclude, fetch_and_update, meaning_of, text_of, printed}
+use Rattle.gix_refspec_text.specs.Specs.Order.{order, is_same}
+use Rattle.gix_refspec_text.specs.Specs.Refusal.{Refusal, Empty, NegativeWithDestination, PushToEmpty, PatternUnbalanced, NegativeEmpty, NegativeObjectHash}
+use Rattle.gix_refspec_text.specs.Views.Instruction.{meant_for, IsShownAs}
+
+-- a sign says nothing where no ref is moved: in a fetch without a destination, and in a deletion
+pub signs : (meaning_of (fetched Forced (codes "main") None) ≡ Some (fetch_only (codes "main")))
+    × (meaning_of (pushed Forced None (Some (codes "x"))) ≡ Some (push_delete (codes "x")))
+    × (meaning_of (fetched Forced (codes "a") (Some (codes "b"))) ≡ Some (fetch_and_update (codes "a") (codes "b") true))
+    × (meaning_of (pushed Forced None None) ≡ Some (push_all_matching true))
+    × (meaning_of (pushed Normal None None) ≡ Some (push_all_matching false))
+signs = (refl, refl, refl, refl, refl)
+
+-- a source alone is pushed to itself, but fetched to nowhere
+pub sources_alone : (meaning_of (pushed Normal (Some (codes "main")) None) ≡ Some (push_matching (codes "main") (codes "main") false))
+    × (meaning_of (fetched Normal (codes "main") None) ≡ Some (fetch_only (codes "main")))
+sources_alone = (refl, refl)
+
+-- a negative spec has a source alone
+pub negatives : (meaning_of (fetched Negative (codes "a") None) ≡ Some (fetch_exclude (codes "a")))
+    × (meaning_of (pushed Negative (Some (codes "a")) None) ≡ Some (push_exclude (codes "a")))
+    × (meaning_of (fetched Negative (codes "a") (Some (codes "b"))) ≡ None)
+    × (meaning_of (pushed Negative None (Some (codes "b"))) ≡ None)
+negatives = (refl, refl, refl, refl)
+
+-- the sign of a push stays with it, and where none is, none is said
+pub forces : (meaning_of (pushed Forced (Some (codes "a")) None) ≡ Some (push_matching (codes "a") (codes "a") true))
+    × (meaning_of (pushed Forced (Some (codes "a")) (Some (codes "b"))) ≡ Some (push_matching (codes "a") (codes "b") true))
+    × (meaning_of (pushed Normal (Some (codes "a")) (Some (codes "b"))) ≡ Some (push_matching (codes "a") (codes "b") false))
+    × (meaning_of (fetched Normal (codes "a") (Some (codes "b"))) ≡ Some (fetch_and_update (codes "a") (codes "b") false))
+forces = (refl, refl, refl, refl)
+
+-- a fetch of nothing says nothing, nor does a negative spec without a source or with both sides, and what
+-- says nothing has no text
+pub says_nothing : (meaning_of (record { operation = Fetch; mode = Normal; source = None; destination = Some (codes "b") }) ≡ None)
+    × (meaning_of (record { operation = Fetch; mode = Forced; source = None; destination = None }) ≡ None)
+    × (meaning_of (record { operation = Fetch; mode = Negative; source = None; destination = None }) ≡ None)
+    × (meaning_of (pushed Negative None None) ≡ None)
+    × (meaning_of (pushed Negative (Some (codes "a")) (Some (codes "b"))) ≡ None)
+    × (printed (fetched Negative (codes "a") (Some (codes "b"))) ≡ None)
+says_nothing = (refl, refl, refl, refl, refl, refl)
+
+-- a lone source that begins with a plus prints one more, and no other text does
+pub pluses : (text_of (fetch_only (codes "+foo")) ≡ codes "++foo") × (text_of (fetch_only (codes "foo+")) ≡ codes "foo+")
+    × (text_of (fetch_exclude (codes "+x")) ≡ codes "^+x") × (text_of (push_delete (codes "+x")) ≡ codes ":+x")
+    × (text_of (fetch_and_update (codes "+a") (codes "b") false) ≡ codes "+a:b")
+    × (text_of (push_matching (codes "+a") (codes "b") false) ≡ codes "+a:b")
+    × (text_of (push_exclude (codes "+x")) ≡ codes "^+x") × (text_of (fetch_only []) ≡ [])
+    × (text_of (fetch_only (codes "^a")) ≡ codes "^a")
+    × (text_of (push_all_matching true) ≡ codes "+:")
+    × (printed (pushed Normal (Some (codes "main")) None) ≡ Some (codes "main:main"))
+    × (printed (fetched Forced (codes "main") None) ≡ Some (codes "main"))
+pluses = (refl, refl, refl, refl, refl, refl, refl, refl, refl, refl, refl, refl)
+
+-- what each meaning is for
+pub operations : (meant_for (push_exclude (codes "a")) ≡ Push) × (meant_for (fetch_exclude (codes "a")) ≡ Fetch) × (meant_for (push_delete (codes "a")) ≡ Push) × (meant_for (fetch_only (codes "a")) ≡ Fetch)
+operations = (refl, refl, refl, refl)
+
+-- the kinds are in the order of their declarations, pushes before fetches
+pub kinds_rise : (order (push_all_matching true) (push_delete []) ≡ Less)
+    × (order (push_delete (codes "z")) (push_matching (codes "a") (codes "a") false) ≡ Less)
+    × (order (push_matching (codes "z") (codes "z") true) (push_exclude (codes "a")) ≡ Less)
+    × (order (push_exclude (codes "z")) (fetch_only (codes "a")) ≡ Less)
+    × (order (fetch_only (codes "z")) (fetch_exclude (codes "a")) ≡ Less)
+    × (order (fetch_exclude (codes "z")) (fetch_and_update (codes "a") (codes "a") false) ≡ Less)
+kinds_rise = (refl, refl, refl, refl, refl, refl)
+
+-- then the source decides, the destination, and the sign last; bytes are before lengths
+pub fields_rise : (order (push_matching (codes "a") (codes "z") true) (push_matching (codes "b") (codes "a") false) ≡ Less)
+    × (order (push_matching (codes "a") (codes "a") true) (push_matching (codes "a") (codes "b") false) ≡ Less)
+    × (order (push_matching (codes "a") (codes "b") false) (push_matching (codes "a") (codes "b") true) ≡ Less)
+    × (order (fetch_only (codes "aa")) (fetch_only (codes "b")) ≡ Less)
+    × (order (fetch_only (codes "aa")) (fetch_only (codes "a")) ≡ Greater)
+    × (order (fetch_only (codes "a")) (fetch_only (codes "a")) ≡ Equal)
+fields_rise = (refl, refl, refl, refl, refl, refl)
+
+-- instructions of two kinds differ, though their texts are equal
+pub kinds_differ : (is_same (fetch_only (codes "a")) (fetch_exclude (codes "a")) ≡ false) × (is_same (push_exclude (codes "a")) (fetch_exclude (codes "a")) ≡ false) × (is_same (fetch_only (codes "a")) (fetch_only (codes "a")) ≡ true)
+kinds_differ = (refl, refl, refl)
+
+-- each error without a field is the reason of its name
+pub reasons : IsShownAs error.Empty Empty × IsShownAs error.NegativeWithDestination NegativeWithDestination × IsShownAs error.PushToEmpty PushToEmpty × IsShownAs error.PatternUnbalanced PatternUnbalanced × IsShownAs error.NegativeEmpty NegativeEmpty × IsShownAs error.NegativeObjectHash NegativeObjectHash
+reasons = (refl, refl, refl, refl, refl, refl)
+
+-- the three variants that are kept for callers are no reasons, nor is `Memory`
+pub no_reasons : (f : Refusal) → ¬ (IsShownAs error.NegativePartialName f) × ¬ (IsShownAs error.NegativeGlobPattern f) × ¬ (IsShownAs error.InvalidFetchDestination f) × ¬ (IsShownAs error.Memory f)
+no_reasons f = ((λ none. none), (λ none. none), (λ none. none), (λ none. none))

@@ -1,0 +1,116 @@
+-- The words on ids, at the ids that git hash-object prints for the empty blob, and at other lengths.
+use Rattle.std.proofs.Common.{◌≡◌, ◌≢◌, ℕ, ◌+◌, ◌*◌, List, [], ◌∷◌, Option, None, Some, unwrap_or, codes, refl, sym, ap, ◌∙◌, arith}
+use Rattle.std.specs.List.{filter, range_with_len}
+use Rattle.std.proofs.lemmas.Bool.{false≢true}
+use Rattle.std.proofs.lemmas.List.Sums.{AllPass-from_list_all}
+use Rattle.hex.specs.Hex.{hex_digit_value}
+use Rattle.hex.proofs.OnLiterals.{hex_on_literals}
+use Rattle.gix_refspec_text.specs.declared.oid.Error.TheVariants.{Digit, Length}
+use Rattle.gix_refspec_text.specs.declared.oid.Kind.{Kind}
+use Rattle.gix_refspec_text.specs.declared.oid.Kind.TheVariants.{Sha1, Sha256}
+use Rattle.gix_refspec_text.specs.Texts.ObjectId.{bytes_of, id_bytes, is_lower_digit, IsSpelledBy, Spells, IsIdText, IsLowerText, IsIdLength, HasIdFault, lower_of}
+use Rattle.gix_refspec_text.proofs.lemmas.texts.ObjectIdLemmas.{IsIdText-decoded, IsIdText-sound, Spells-decode_pairs}
+
+-- the bytes of the id under SHA-1
+abbrev pub empty_blob : List ℕ
+empty_blob = 0xe6 ∷ 0x9d ∷ 0xe2 ∷ 0x9b ∷ 0xb2 ∷ 0xd1 ∷ 0xd6 ∷ 0x43 ∷ 0x4b ∷ 0x8b ∷ 0x29 ∷ 0xae ∷ 0x77 ∷ 0x5a ∷ 0xd8 ∷ 0xc2 ∷ 0xe4 ∷ 0x8c ∷ 0x53 ∷ 0x91 ∷ []
+
+-- the bytes of the id under SHA-256
+abbrev empty_blob_sha256 : List ℕ
+empty_blob_sha256 = 0x47 ∷ 0x3a ∷ 0x0f ∷ 0x4c ∷ 0x3b ∷ 0xe8 ∷ 0xa9 ∷ 0x36 ∷ 0x81 ∷ 0xa2 ∷ 0x67 ∷ 0xe3 ∷ 0xb1 ∷ 0xe9 ∷ 0xa7 ∷ 0xdc ∷ 0xda ∷ 0x11 ∷ 0x85 ∷ 0x43 ∷ 0x6f ∷ 0xe1 ∷ 0x41 ∷ 0xf7 ∷ 0x74 ∷ 0x91 ∷ 0x20 ∷ 0xa3 ∷ 0x03 ∷ 0x72 ∷ 0x18 ∷ 0x13 ∷ []
+
+pub IsIdText-empty_blob : IsIdText (codes "e69de29bb2d1d6434b8b29ae775ad8c2e48c5391") empty_blob
+unfolding hex_on_literals
+IsIdText-empty_blob = IsIdText-decoded Sha1 (codes "e69de29bb2d1d6434b8b29ae775ad8c2e48c5391") empty_blob refl refl
+
+pub IsIdText-empty_blob_in_upper_case : IsIdText (codes "E69DE29BB2D1D6434B8B29AE775AD8C2E48C5391") empty_blob
+unfolding hex_on_literals
+IsIdText-empty_blob_in_upper_case = IsIdText-decoded Sha1 (codes "E69DE29BB2D1D6434B8B29AE775AD8C2E48C5391") empty_blob refl refl
+
+pub IsIdText-empty_blob_sha256 : IsIdText (codes "473a0f4c3be8a93681a267e3b1e9a7dcda1185436fe141f7749120a303721813") empty_blob_sha256
+unfolding hex_on_literals
+IsIdText-empty_blob_sha256 = IsIdText-decoded Sha256 (codes "473a0f4c3be8a93681a267e3b1e9a7dcda1185436fe141f7749120a303721813") empty_blob_sha256 refl refl
+
+pub lower_of-empty_blob : lower_of empty_blob ≡ codes "e69de29bb2d1d6434b8b29ae775ad8c2e48c5391"
+unfolding hex_on_literals
+lower_of-empty_blob = refl
+
+-- of a buffer with 32 bytes, a SHA-1 has those in front, and a SHA-256 has all
+pub bytes_in_front : (id_bytes (record { kind = Sha1; buffer = range_with_len 100 32 }) ≡ range_with_len 100 20) × (id_bytes (record { kind = Sha256; buffer = range_with_len 100 32 }) ≡ range_with_len 100 32)
+bytes_in_front = (refl, refl)
+
+-- an id has 40 digits or 64, and not 39, 41, 32 or 20
+no_length : (n : ℕ) → n ≢ 40 → n ≢ 64 → ¬ (IsIdLength n)
+no_length n other another (Sha1, same) = other same
+no_length n other another (Sha256, same) = another same
+
+pub lengths : IsIdLength 40 × IsIdLength 64 × ¬ (IsIdLength 39) × ¬ (IsIdLength 41) × ¬ (IsIdLength 32) × ¬ (IsIdLength 20)
+lengths = ((Sha1, refl), (Sha256, refl), no_length 39 (λ same. omega (arith, same)) (λ same. omega (arith, same)), no_length 41 (λ same. omega (arith, same)) (λ same. omega (arith, same)), no_length 32 (λ same. omega (arith, same)) (λ same. omega (arith, same)), no_length 20 (λ same. omega (arith, same)) (λ same. omega (arith, same)))
+
+-- digits with these values spell one byte
+spelled_value : (b c d high low : ℕ) → hex_digit_value c ≡ Some high → hex_digit_value d ≡ Some low → IsSpelledBy b c d → b ≡ 16 * high + low
+spelled_value b c d high low high_read low_read by =
+    let value = λ (o : Option ℕ). unwrap_or o 0 in
+    omega (arith, by.value, ap value (sym high_read ∙ by.high_read), ap value (sym low_read ∙ by.low_read))
+
+unread : (n : ℕ) → None ≢ Some n
+unread n same = cc
+
+-- `e6`, `E6` and `eE` spell a byte each, `6e` spells another, and `g6` and `6g` none
+pub two_digits : IsSpelledBy 230 101 54 × IsSpelledBy 230 69 54 × IsSpelledBy 238 101 69 × ¬ (IsSpelledBy 230 54 101) × ((b : ℕ) → ¬ (IsSpelledBy b 103 54) × ¬ (IsSpelledBy b 54 103))
+two_digits = (
+  record { high_value = 14; low_value = 6; high_read = refl; low_read = refl; value = refl },
+  record { high_value = 14; low_value = 6; high_read = refl; low_read = refl; value = refl },
+  record { high_value = 14; low_value = 14; high_read = refl; low_read = refl; value = refl },
+  (λ by. omega (arith, spelled_value 230 54 101 6 14 refl refl by)),
+  λ b. ((λ by. unread by.high_value by.high_read), (λ by. unread by.low_value by.low_read)),
+)
+
+-- the digits of each byte are in its place, the last one too
+pub spelled : Spells (codes "e69d") (0xe6 ∷ 0x9d ∷ []) × ¬ (Spells (codes "e69d") (0xe6 ∷ 0x9e ∷ [])) × ¬ (Spells (codes "e69d") (0x9d ∷ 0xe6 ∷ []))
+unfolding hex_on_literals
+spelled = (
+  Spells-decode_pairs (codes "e69d") (0xe6 ∷ 0x9d ∷ []) refl,
+  (λ spells. omega (arith, spelled_value 0x9e 57 100 9 13 refl refl (spells 1 (omega arith)))),
+  (λ spells. omega (arith, spelled_value 0x9d 101 54 14 6 refl refl (spells 0 (omega arith)))),
+)
+
+-- a text is that of no other id, and digits of no kind's length are that of none
+pub other_texts : ¬ (IsIdText (codes "e69de29bb2d1d6434b8b29ae775ad8c2e48c5390") empty_blob) × ((i : List ℕ) → ¬ (IsIdText (codes "e69de2") i)) × ¬ (IsIdText (codes "e69de29bb2d1d6434b8b29ae775ad8c2e48c5391") [])
+other_texts = (
+  (λ text. omega (arith, spelled_value 0x91 57 48 9 0 refl refl (text.spelled 19 (omega arith)))),
+  (λ i text. no_length 6 (λ same. omega (arith, same)) (λ same. omega (arith, same)) (text.kind, text.digits)),
+  λ text. no_bytes text.kind text.bytes,
+)
+  where
+    no_bytes : (kind : Kind) → 0 ≢ bytes_of kind
+    no_bytes Sha1 same = omega (arith, same)
+    no_bytes Sha256 same = omega (arith, same)
+
+-- of the 256 bytes, the digits in lower case
+pub lower_digits : filter is_lower_digit (range_with_len 0 256) ≡ codes "0123456789abcdef"
+lower_digits = refl
+
+-- an id has a text in lower case, and one in upper case is none
+pub IsLowerText-empty_blob : IsLowerText (codes "e69de29bb2d1d6434b8b29ae775ad8c2e48c5391") empty_blob × ¬ (IsLowerText (codes "E69DE29BB2D1D6434B8B29AE775AD8C2E48C5391") empty_blob)
+IsLowerText-empty_blob = (
+  (IsIdText-empty_blob, AllPass-from_list_all is_lower_digit (codes "e69de29bb2d1d6434b8b29ae775ad8c2e48c5391") refl),
+  λ lower. false≢true (lower.1 0 0 (omega arith)),
+)
+
+-- a fault of the length holds the length of the text
+pub HasIdFault-length : HasIdFault (codes "e69de2") (Length 6) × ¬ (HasIdFault (codes "e69de2") (Length 5))
+HasIdFault-length = ((refl, no_length 6 (λ same. omega (arith, same)) (λ same. omega (arith, same))), λ fault. omega (arith, fault.0))
+
+-- and is no fault of a text of 40 digits
+pub HasIdFault-none : ¬ (HasIdFault (codes "e69de29bb2d1d6434b8b29ae775ad8c2e48c5391") (Length 40))
+HasIdFault-none fault = fault.1 (Sha1, refl)
+
+-- the first byte or the last one may be no digit, and the length is before it
+pub HasIdFault-digit : HasIdFault (codes "g69de29bb2d1d6434b8b29ae775ad8c2e48c5391") Digit × HasIdFault (codes "e69de29bb2d1d6434b8b29ae775ad8c2e48c539/") Digit × ¬ (HasIdFault (codes "e69de29bb2d1d6434b8b29ae775ad8c2e48c5391") Digit) × ¬ (HasIdFault (codes "g69de2") Digit)
+HasIdFault-digit = (
+  ((Sha1, refl), (0, omega arith, refl)),
+  ((Sha1, refl), (39, omega arith, refl)),
+  IsIdText-sound (codes "e69de29bb2d1d6434b8b29ae775ad8c2e48c5391") empty_blob Digit IsIdText-empty_blob,
+  λ fault. no_length 6 (λ same. omega (arith, same)) (λ same. omega (arith, same)) fault.0,
+)

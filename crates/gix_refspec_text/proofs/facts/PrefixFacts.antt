@@ -1,0 +1,159 @@
+-- The words on prefixes at sides with and without one, and what these are expanded to.
+use Rattle.std.proofs.Common.{◌≡◌, ◌≢◌, ℕ, List, [], ◌∷◌, ◌++◌, None, Some, length, codes, refl, sym, ap, subst, inl, inr, arith}
+use Rattle.gix_refspec_text.specs.declared.oid.Kind.{Kind}
+use Rattle.gix_refspec_text.specs.declared.oid.Kind.TheVariants.{Sha1, Sha256}
+use Rattle.gix_refspec_text.specs.Texts.Words.{Lacks}
+use Rattle.gix_refspec_text.specs.Texts.Name.{IsCut}
+use Rattle.gix_refspec_text.specs.Texts.Bytes.{star, slash, bracket}
+use Rattle.gix_refspec_text.specs.Texts.ObjectId.{IsIdText, digits_of}
+use Rattle.gix_refspec_text.specs.Specs.Reading.{Normal, Negative}
+use Rattle.gix_refspec_text.specs.Specs.Grammar.{fetched, pushed}
+use Rattle.gix_refspec_text.specs.Matching.Side.{candidates}
+use Rattle.gix_refspec_text.specs.Matching.Prefix.{TellsPrefix, IsPrefix, of_head, of_name, of_pattern, HasNoPrefix, Expands, to_prefix, to_itself, below_refs, of_object, to_candidates, IsAsked, HasPrefix, IsExpansion}
+use Rattle.gix_refspec_text.proofs.lemmas.texts.TextLemmas.{Lacks-here}
+use Rattle.gix_refspec_text.proofs.lemmas.hits.MatchLemmas.{cut_once, outside_none}
+use Rattle.gix_refspec_text.proofs.lemmas.prefixes.OnePrefixLemmas.{one_prefix}
+use Rattle.gix_refspec_text.proofs.lemmas.specs.FormsBackLemmas.{some_once}
+use Rattle.gix_refspec_text.proofs.facts.ManualFacts.{Lacks-tested, other_length, none_some}
+use Rattle.gix_refspec_text.proofs.facts.FaultFacts.{begins_not}
+use Rattle.gix_refspec_text.proofs.facts.ObjectIdFacts.{empty_blob, IsIdText-empty_blob}
+use Rattle.gix_refspec_text.proofs.facts.FitFacts.{cut_at_end, other_byte, every, no_dev, short_kind, blob_kind}
+use Rattle.gix_refspec_text.proofs.facts.CoveringFacts.{below_heads}
+
+-- `HEAD` and a full name have themselves
+pub whole_prefixes : IsPrefix (codes "HEAD") (codes "HEAD") × IsPrefix (codes "refs/a]b") (codes "refs/a]b")
+whole_prefixes = (of_head refl refl, of_name (record { after = codes "a]b"; here = refl }) (Lacks-tested star (codes "refs/a]b") refl) refl)
+
+-- a pattern has what is before its star, also within a component and before a suffix
+pub pattern_prefix : IsPrefix (codes "refs/a*/b") (codes "refs/a")
+pattern_prefix = of_pattern (codes "refs/a") (codes "/b") (record { starred = refl; first = Lacks-tested star (codes "refs/a") refl; last = Lacks-tested star (codes "/b") refl }) (record {
+  below = record { after = codes "a"; here = refl };
+  further = other_length _ _ (λ size. omega (arith, size));
+  first = Lacks-tested bracket (codes "refs/a") refl;
+  last = Lacks-tested bracket (codes "/b") refl;
+}) refl
+
+pub bracket_cut : IsCut (codes "refs/a]") [] (codes "refs/a]*")
+bracket_cut = cut_at_end (codes "refs/a]") refl
+
+pub suffix_cut : IsCut (codes "refs/a") (codes "/]") (codes "refs/a*/]")
+suffix_cut = record { starred = refl; first = Lacks-tested star (codes "refs/a") refl; last = Lacks-tested star (codes "/]") refl }
+
+-- a star after `refs/`, or a bracket before or after the star, leaves none
+pub no_prefixes : HasNoPrefix (codes "refs/*") × HasNoPrefix (codes "refs/a]*") × HasNoPrefix (codes "refs/a*/]") × HasNoPrefix (codes "heads/*")
+no_prefixes = (bare, before_star, after_star, outside_none (codes "heads/*") (other_length _ _ (λ size. omega (arith, size))) (λ begins. other_byte 0 (codes "heads/*") (codes "refs/" ++ begins.after) (λ byte. omega (arith, byte)) begins.here))
+  where
+    bare : HasNoPrefix (codes "refs/*")
+    bare p (of_head is_head same) = other_length _ _ (λ size. omega (arith, size)) is_head
+    bare p (of_name begins lacks same) = Lacks-here star (codes "refs/") [] lacks
+    bare p (of_pattern before after cut tells same) = tells.further ((cut_once (codes "refs/*") before after (codes "refs/") [] cut (cut_at_end (codes "refs/") refl)).0)
+
+    before_star : HasNoPrefix (codes "refs/a]*")
+    before_star p (of_head is_head same) = other_length _ _ (λ size. omega (arith, size)) is_head
+    before_star p (of_name begins lacks same) = Lacks-here star (codes "refs/a]") [] lacks
+    before_star p (of_pattern before after cut tells same) = Lacks-here bracket (codes "refs/a") [] (subst (Lacks bracket) ((cut_once (codes "refs/a]*") before after (codes "refs/a]") [] cut bracket_cut).0) tells.first)
+
+    after_star : HasNoPrefix (codes "refs/a*/]")
+    after_star p (of_head is_head same) = other_length _ _ (λ size. omega (arith, size)) is_head
+    after_star p (of_name begins lacks same) = Lacks-here star (codes "refs/a") (codes "/]") lacks
+    after_star p (of_pattern before after cut tells same) = Lacks-here bracket (codes "/") [] (subst (Lacks bracket) ((cut_once (codes "refs/a*/]") before after (codes "refs/a") (codes "/]") cut suffix_cut).1) tells.last)
+
+-- without a prefix, what has one name after `refs/` is expanded to itself, and with a further slash
+-- to nothing
+pub expansions_below : Expands (codes "refs/*") (codes "refs/*" ∷ []) × Expands (codes "refs/a]*") (codes "refs/a]*" ∷ []) × Expands (codes "refs/a*/]") []
+expansions_below = (
+  to_itself (codes "*") no_prefixes.0 refl (Lacks-tested slash (codes "*") refl) refl,
+  to_itself (codes "a]*") no_prefixes.1 refl (Lacks-tested slash (codes "a]*") refl) refl,
+  below_refs (codes "a*/]") no_prefixes.2 refl (record { before = codes "a*"; after = codes "]"; here = refl }) refl,
+)
+
+-- an id is expanded to nothing, and `HEAD` to itself
+pub expansions_outside : Expands (codes "e69de29bb2d1d6434b8b29ae775ad8c2e48c5391") [] × Expands (codes "HEAD") (codes "HEAD" ∷ [])
+expansions_outside = (
+  of_object (outside_none (codes "e69de29bb2d1d6434b8b29ae775ad8c2e48c5391") (other_length _ _ (λ size. omega (arith, size))) blob_kind.1) blob_kind.1 (empty_blob, IsIdText-empty_blob) refl,
+  to_prefix (codes "HEAD") whole_prefixes.0 refl,
+)
+
+-- ---- what has another prefix, or none
+
+-- a name isn't cut where it has no star, and a pattern is cut at its star
+pub other_prefixes : ¬ (IsPrefix (codes "refs/heads/main") (codes "refs/heads/")) × ¬ (IsPrefix (codes "refs/a*/b") (codes "refs/")) × ¬ (IsPrefix (codes "refs/a*/b") (codes "refs/a*/b")) × HasNoPrefix (codes "main") × HasNoPrefix (codes "HEAD/x")
+other_prefixes = (
+  (λ prefix. other_length _ _ (λ size. omega (arith, size)) ((one_prefix (codes "refs/heads/main")).prefix (codes "refs/heads/") (codes "refs/heads/main") prefix (of_name (record { after = codes "heads/main"; here = refl }) (Lacks-tested star (codes "refs/heads/main") refl) refl))),
+  (λ prefix. other_length _ _ (λ size. omega (arith, size)) ((one_prefix (codes "refs/a*/b")).prefix (codes "refs/") (codes "refs/a") prefix pattern_prefix)),
+  (λ prefix. other_length _ _ (λ size. omega (arith, size)) ((one_prefix (codes "refs/a*/b")).prefix (codes "refs/a*/b") (codes "refs/a") prefix pattern_prefix)),
+  outside_none (codes "main") (other_byte 0 (codes "main") (codes "HEAD") (λ byte. omega (arith, byte))) short_kind.2,
+  outside_none (codes "HEAD/x") (other_length _ _ (λ size. omega (arith, size))) (begins_not (codes "refs/") (codes "HEAD/x") refl),
+)
+
+-- the text before a star is a prefix below `refs/`, but not `refs/` itself, nor with a bracket on either side
+pub tells : TellsPrefix (codes "refs/a") (codes "/b") × ((after : List ℕ) → ¬ (TellsPrefix (codes "refs/") after) × ¬ (TellsPrefix (codes "heads/") after) × ¬ (TellsPrefix (codes "refs/a]") after)) × ¬ (TellsPrefix (codes "refs/a") (codes "/]"))
+tells = (
+  record { below = record { after = codes "a"; here = refl }; further = other_length _ _ (λ size. omega (arith, size)); first = Lacks-tested bracket (codes "refs/a") refl; last = Lacks-tested bracket (codes "/b") refl },
+  (λ after. ((λ is. is.further refl), (λ is. begins_not (codes "refs/") (codes "heads/") refl is.below), λ is. Lacks-here bracket (codes "refs/a") [] is.first)),
+  λ is. Lacks-here bracket (codes "/") [] is.last,
+)
+
+-- a partial name is expanded to its candidates, also with a star, an id isn't, nor is `HEAD`, and a star below a
+-- folder leaves nothing
+pub other_expansions : Expands (codes "heads/*") (candidates (codes "heads/*")) × ¬ (Expands (codes "main") (codes "main" ∷ [])) × ¬ (Expands (codes "e69de29bb2d1d6434b8b29ae775ad8c2e48c5391") (candidates (codes "e69de29bb2d1d6434b8b29ae775ad8c2e48c5391"))) × ¬ (Expands (codes "HEAD") (candidates (codes "HEAD"))) × ¬ (Expands (codes "refs/a*/]") (codes "refs/a*/]" ∷ [])) × ¬ (Expands (codes "refs/*") [])
+other_expansions = (
+  to_candidates no_prefixes.3 (begins_not (codes "refs/") (codes "heads/*") refl) (λ is. starred_no_id is.1) refl,
+  (λ one. counts (codes "main") (codes "main" ∷ []) (candidates (codes "main")) (λ size. omega (arith, size)) one (to_candidates other_prefixes_of_main short_kind.2 short_kind.3 refl)),
+  (λ all. counts (codes "e69de29bb2d1d6434b8b29ae775ad8c2e48c5391") (candidates (codes "e69de29bb2d1d6434b8b29ae775ad8c2e48c5391")) [] (λ size. omega (arith, size)) all expansions_outside.0),
+  (λ all. counts (codes "HEAD") (candidates (codes "HEAD")) (codes "HEAD" ∷ []) (λ size. omega (arith, size)) all expansions_outside.1),
+  (λ itself. counts (codes "refs/a*/]") (codes "refs/a*/]" ∷ []) [] (λ size. omega (arith, size)) itself expansions_below.2),
+  λ nothing. counts (codes "refs/*") [] (codes "refs/*" ∷ []) (λ size. omega (arith, size)) nothing expansions_below.0,
+)
+  where
+    counts : (x : List ℕ) (list other : List (List ℕ)) → length list ≢ length other → Expands x list → Expands x other → ⊥
+    counts x list other differ one another = differ (ap length ((one_prefix x).expanded list other one another))
+
+    other_prefixes_of_main : HasNoPrefix (codes "main")
+    other_prefixes_of_main = outside_none (codes "main") (other_byte 0 (codes "main") (codes "HEAD") (λ byte. omega (arith, byte))) short_kind.2
+
+    no_digits : (kind : Kind) → 7 ≢ digits_of kind
+    no_digits Sha1 same = omega (arith, same)
+    no_digits Sha256 same = omega (arith, same)
+
+    starred_no_id : {bytes : List ℕ} → IsIdText (codes "heads/*") bytes → ⊥
+    starred_no_id text = no_digits text.kind text.digits
+
+-- ---- what is asked for a reading
+
+-- the source of a fetch and the destination of a push, but not the other side, and nothing for a negative spec
+pub asked : IsAsked (fetched Normal (codes "a") (Some (codes "b"))) (codes "a") × IsAsked (pushed Normal (Some (codes "a")) (Some (codes "b"))) (codes "b") × ¬ (IsAsked (pushed Normal (Some (codes "a")) (Some (codes "b"))) (codes "a")) × ((x : List ℕ) → ¬ (IsAsked no_dev x) × ¬ (IsAsked (pushed Normal (Some (codes "a")) None) x))
+asked = (
+  record { positive = tt; side = refl },
+  record { positive = tt; side = refl },
+  (λ is. other_byte 0 (codes "b") (codes "a") (λ byte. omega (arith, byte)) (some_once (codes "b") (codes "a") is.side)),
+  λ x. ((λ is. is.positive), λ is. none_some x is.side),
+)
+
+-- a reading has the prefix of what is asked for it, and a negative one has none
+pub prefixes : HasPrefix every (codes "refs/heads/") × HasPrefix (pushed Normal (Some (codes "refs/x/a")) (Some (codes "HEAD"))) (codes "HEAD") × ((p : List ℕ) → ¬ (HasPrefix (fetched Negative (codes "HEAD") None) p) × ¬ (HasPrefix (pushed Normal (Some (codes "HEAD")) (Some (codes "main"))) p))
+prefixes = (
+  (codes "refs/heads/*", record { positive = tt; side = refl }, below_heads),
+  (codes "HEAD", record { positive = tt; side = refl }, whole_prefixes.0),
+  λ p. ((λ has. has.1.positive), λ has. other_prefixes.3 p (subst (λ (x : List ℕ). IsPrefix x p) (sym (some_once (codes "main") has.0 has.1.side)) has.2)),
+)
+
+-- a reading expands to nothing where nothing is asked for it, and only there
+pub expansions : IsExpansion (pushed Normal (Some (codes "a")) None) [] × IsExpansion no_dev [] × ¬ (IsExpansion (fetched Normal (codes "HEAD") None) []) × ¬ (IsExpansion no_dev (codes "refs/heads/dev-" ∷ []))
+expansions = (
+  inr ((λ x. (asked.3 x).1), refl),
+  inr ((λ x. (asked.3 x).0), refl),
+  head_alone,
+  none_at_all,
+)
+  where
+    head_alone : ¬ (IsExpansion (fetched Normal (codes "HEAD") None) [])
+    head_alone (inl (x, is, expands)) =
+        let expands_head = subst (λ (y : List ℕ). Expands y []) (sym (some_once (codes "HEAD") x is.side)) expands in
+        let same : 0 ≡ 1 = ap length ((one_prefix (codes "HEAD")).expanded [] (codes "HEAD" ∷ []) expands_head expansions_outside.1) in
+        omega (arith, same)
+    head_alone (inr (none, same)) = none (codes "HEAD") (record { positive = tt; side = refl })
+
+    none_at_all : ¬ (IsExpansion no_dev (codes "refs/heads/dev-" ∷ []))
+    none_at_all (inl (x, is, expands)) = is.positive
+    none_at_all (inr (none, same)) = cc

@@ -1,0 +1,203 @@
+-- The reasons against a text, each at parts that it applies to, and at like parts that it does not.
+use Rattle.std.proofs.Common.{◌≡◌, ◌≢◌, ◌≤◌, ℕ, List, [], ◌∷◌, ◌++◌, Option, None, Some, codes, refl, sym, subst, inl, inr, arith}
+use Rattle.std.specs.Prelude.{replicate}
+use Rattle.std.specs.Char.{is_ascii_hexdigit}
+use Rattle.std.proofs.lemmas.Bool.{false≢true}
+use Rattle.std.proofs.lemmas.List.{length-replicate}
+use Rattle.std.proofs.lemmas.List.Sums.{AllPass-from_list_all}
+use Rattle.gix_refspec_text.specs.declared.name.Error.TheVariants.{LockSuffix, RepeatedDot, Asterisk, Empty as NoName}
+use Rattle.gix_refspec_text.specs.declared.name.PatternError.TheVariants.{Name}
+use Rattle.gix_refspec_text.specs.declared.parsing.Operation.{Operation}
+use Rattle.gix_refspec_text.specs.declared.parsing.Operation.TheVariants.{Push, Fetch}
+use Rattle.gix_refspec_text.specs.Texts.Name.{IsName, HasStar, HasFault, HasOneStar, IsCut}
+use Rattle.gix_refspec_text.specs.Texts.PatternError.{IsPatternFault}
+use Rattle.gix_refspec_text.specs.Texts.Bytes.{star, letter}
+use Rattle.gix_refspec_text.specs.Specs.Reading.{Normal, Forced, Negative}
+use Rattle.gix_refspec_text.specs.Specs.Grammar.{LooksLikeObjectHash}
+use Rattle.gix_refspec_text.specs.Specs.Refusal.{Refusal, Empty, NegativeWithDestination, PushToEmpty, PatternUnsupported, ReferenceName, PatternUnbalanced, NegativeEmpty, NegativeObjectHash, IsBadName, IsBadPattern, IsEmptyPush, HasNegativeDestination, PushesNowhere, IsBadSourceFor, HasBadSource, HasBadDestination, IsOneStarred, IsUnbalanced, ExcludesNothing, ExcludesObject, Never, OrElse, IsFirstReason}
+use Rattle.gix_refspec_text.proofs.lemmas.texts.TextLemmas.{Lacks-here, Lacks-Holds, one_not_two}
+use Rattle.gix_refspec_text.proofs.lemmas.parsing.SideLemmas.{name_not_bad, replaced_once, HasStar-replaced, HasStar-bad}
+use Rattle.gix_refspec_text.proofs.lemmas.specs.FormsBackLemmas.{some_once}
+use Rattle.gix_refspec_text.proofs.facts.ManualFacts.{Lacks-tested, full, none_some, some_none}
+use Rattle.gix_refspec_text.proofs.facts.FaultFacts.{holds_not}
+use Rattle.gix_refspec_text.proofs.facts.RefusalFacts.{replaces_star, locked, normal_positive}
+
+-- ---- stars
+
+-- a text has one star, not none, and not two
+pub one_star_alone : HasOneStar (codes "a*b") × IsCut (codes "a") (codes "b") (codes "a*b") × ¬ (HasOneStar (codes "ab")) × ¬ (HasOneStar (codes "a*b*"))
+one_star_alone = (
+  (codes "a", codes "b", cut),
+  cut,
+  (λ one. Lacks-Holds star (codes "ab") (Lacks-tested star (codes "ab") refl) (record { before = one.0; after = one.1; here = one.2.starred })),
+  λ one. one_not_two star one.0 one.1 (codes "a") (codes "b") [] one.2.first one.2.last (sym one.2.starred),
+)
+  where
+    cut : IsCut (codes "a") (codes "b") (codes "a*b")
+    cut = record { starred = refl; first = Lacks-tested star (codes "a") refl; last = Lacks-tested star (codes "b") refl }
+
+-- ---- names and patterns
+
+-- one star is no reason against a pattern, nor is the star itself a fault of one, nor the fault of a text without
+pub bad_patterns : IsBadPattern (codes "b*.lock") (ReferenceName LockSuffix) × ¬ (IsBadPattern (codes "b*.lock") (ReferenceName Asterisk)) × ¬ (IsBadPattern (codes "b*.lock") (PatternUnsupported (codes "b*.lock"))) × ¬ (IsBadPattern (codes "b.lock") (ReferenceName LockSuffix)) × ¬ (IsBadPattern (codes "b*.lock") PatternUnbalanced)
+bad_patterns = (
+  (codes "ba.lock", replaces_star, locked),
+  (λ bad. holds_not (codes "*") (codes "ba.lock") refl (subst (λ (y : List ℕ). HasFault y Asterisk) (replaced_once (codes "b*.lock") bad.0 (codes "ba.lock") bad.1 replaces_star) bad.2)),
+  (λ bad. one_not_two star (codes "b") (codes ".lock") bad.0.before bad.0.between bad.0.after (Lacks-tested star (codes "b") refl) (Lacks-tested star (codes ".lock") refl) bad.0.here),
+  (λ bad. Lacks-Holds star (codes "b.lock") (Lacks-tested star (codes "b.lock") refl) (HasStar-replaced (codes "b.lock") bad.0 bad.1)),
+  λ none. none,
+)
+
+-- and a look at a pattern finds the same
+pub pattern_faults : IsPatternFault (Name LockSuffix) (codes "b*.lock") × ¬ (IsPatternFault (Name Asterisk) (codes "b*.lock")) × ¬ (IsPatternFault (Name LockSuffix) (codes "b.lock"))
+pattern_faults = (bad_patterns.0, bad_patterns.1, bad_patterns.3)
+
+dots_bad : IsBadName (codes "a..b") (ReferenceName RepeatedDot)
+dots_bad = (Lacks-tested star (codes "a..b") refl, record { before = codes "a"; after = codes "b"; here = refl })
+
+-- a name is bad by a fault of its own, and a text with a star is no bad name
+pub bad_names : IsBadName (codes "a..b") (ReferenceName RepeatedDot) × ¬ (IsBadName (codes "a..b") (ReferenceName NoName)) × ¬ (IsBadName (codes "a*..b") (ReferenceName RepeatedDot)) × ¬ (IsBadName (codes "a..b") PatternUnbalanced)
+bad_names = (dots_bad, (λ bad. full _ _ bad.1), (λ bad. Lacks-here star (codes "a") (codes "..b") bad.0), λ none. none)
+
+-- ---- signs and colons
+
+-- a push of a source, or of a colon, isn't empty
+pub no_empty_pushes : ((e : Refusal) → ¬ (IsEmptyPush Push Normal (codes "a") None e)) × ((e : Refusal) → ¬ (IsEmptyPush Push Normal [] (Some []) e)) × ¬ (IsEmptyPush Push Normal [] None PushToEmpty)
+no_empty_pushes = ((λ e is. full _ _ is.no_source), (λ e is. some_none [] is.no_colon), λ is. other is.refusal)
+  where
+    other : PushToEmpty ≢ Empty
+    other same = cc
+
+-- `^a:b` and `^a:` have a destination, and `^a` and `a:b` are fine
+pub negative_destinations : HasNegativeDestination Negative (Some (codes "b")) NegativeWithDestination × HasNegativeDestination Negative (Some []) NegativeWithDestination × ((e : Refusal) → ¬ (HasNegativeDestination Negative None e) × ¬ (HasNegativeDestination Normal (Some (codes "b")) e)) × ¬ (HasNegativeDestination Negative (Some (codes "b")) PushToEmpty)
+negative_destinations = (
+  record { negative = refl; colon = refl; refusal = refl },
+  record { negative = refl; colon = refl; refusal = refl },
+  (λ e. ((λ is. false≢true is.colon), λ is. normal_positive is.negative)),
+  λ is. other is.refusal,
+)
+  where
+    other : PushToEmpty ≢ NegativeWithDestination
+    other same = cc
+
+fetch_no_push : Fetch ≢ Push
+fetch_no_push same = cc
+
+-- a push of `a:` goes nowhere, but not one of `:`, `a` or `a:b`, nor a fetch of `a:`
+pub nowhere : PushesNowhere Push (codes "a") (Some []) PushToEmpty × ((e : Refusal) → ¬ (PushesNowhere Push [] (Some []) e) × ¬ (PushesNowhere Push (codes "a") None e) × ¬ (PushesNowhere Push (codes "a") (Some (codes "b")) e) × ¬ (PushesNowhere Fetch (codes "a") (Some []) e)) × ¬ (PushesNowhere Push (codes "a") (Some []) Empty)
+nowhere = (
+  record { push = refl; source = full _ _; nowhere = refl; refusal = refl },
+  (λ e. ((λ is. is.source refl), (λ is. none_some [] is.nowhere), (λ is. full _ _ (some_once (codes "b") [] is.nowhere)), λ is. fetch_no_push is.push)),
+  λ is. other is.refusal,
+)
+  where
+    other : Empty ≢ PushToEmpty
+    other same = cc
+
+-- ---- sources and destinations
+
+two_stars_bad : IsBadPattern (codes "a*b*") (PatternUnsupported (codes "a*b*"))
+two_stars_bad = (record { before = codes "a"; between = codes "b"; after = []; here = refl }, refl)
+
+-- `a..b` may be pushed to a destination, and not alone, nor fetched; `a*b*` may not be pushed either way
+pub sources : ((e : Refusal) → ¬ (IsBadSourceFor Push (Some (codes "c")) (codes "a..b") e)) × IsBadSourceFor Push None (codes "a..b") (ReferenceName RepeatedDot) × IsBadSourceFor Fetch (Some (codes "c")) (codes "a..b") (ReferenceName RepeatedDot) × IsBadSourceFor Push (Some (codes "c")) (codes "a*b*") (PatternUnsupported (codes "a*b*")) × IsBadSourceFor Push None (codes "a*b*") (PatternUnsupported (codes "a*b*"))
+sources = (
+  (λ e bad. Lacks-Holds star (codes "a..b") (Lacks-tested star (codes "a..b") refl) (HasStar-bad (codes "a..b") e bad)),
+  inl dots_bad,
+  inl dots_bad,
+  two_stars_bad,
+  inr two_stars_bad,
+)
+
+-- what is empty is no bad source, and no bad destination
+pub empty_sides : ((op : Operation) (d : Option (List ℕ)) (e : Refusal) → ¬ (HasBadSource op [] d e)) × ((e : Refusal) → ¬ (HasBadDestination (Some []) e) × ¬ (HasBadDestination None e))
+empty_sides = ((λ op d e bad. bad.source refl), λ e. ((λ bad. bad.destination (sym (some_once [] bad.word bad.is))), λ bad. none_some bad.word bad.is))
+
+-- `b..c` and `c*d*` are bad destinations, and `c` isn't
+pub destinations : HasBadDestination (Some (codes "a..b")) (ReferenceName RepeatedDot) × HasBadDestination (Some (codes "a*b*")) (PatternUnsupported (codes "a*b*")) × (IsName (codes "c") → (e : Refusal) → ¬ (HasBadDestination (Some (codes "c")) e))
+destinations = (
+  record { word = codes "a..b"; is = refl; destination = full _ _; refusal = inl dots_bad },
+  record { word = codes "a*b*"; is = refl; destination = full _ _; refusal = inr two_stars_bad },
+  λ is_name e bad. name_not_bad bad.word (subst IsName (some_once (codes "c") bad.word bad.is) is_name) e bad.refusal,
+)
+
+-- ---- balance
+
+has_star : (before after : List ℕ) → HasStar (before ++ (star ∷ after))
+has_star before after = record { before = before; after = after; here = refl }
+
+-- one of two texts has a star, whichever it is, and not both, nor none
+pub one_starred : IsOneStarred (codes "a*") (codes "b") × IsOneStarred (codes "b") (codes "a*") × ¬ (IsOneStarred (codes "a*") (codes "b*")) × ¬ (IsOneStarred (codes "a") (codes "b"))
+one_starred = (
+  inl (has_star (codes "a") [], Lacks-tested star (codes "b") refl),
+  inr (Lacks-tested star (codes "b") refl, has_star (codes "a") []),
+  both,
+  none,
+)
+  where
+    both : ¬ (IsOneStarred (codes "a*") (codes "b*"))
+    both (inl first) = Lacks-here star (codes "b") [] first.1
+    both (inr second) = Lacks-here star (codes "a") [] second.0
+
+    none : ¬ (IsOneStarred (codes "a") (codes "b"))
+    none (inl first) = Lacks-Holds star (codes "a") (Lacks-tested star (codes "a") refl) first.0
+    none (inr second) = Lacks-Holds star (codes "b") (Lacks-tested star (codes "b") refl) second.1
+
+-- a push of `a*:b` is unbalanced, and so is one of `:b*`, but `a*:` goes nowhere; the same with a sign
+pub unbalanced_pushes : IsUnbalanced Push Normal (codes "a*") (Some (codes "b")) PatternUnbalanced × IsUnbalanced Push Forced [] (Some (codes "b*")) PatternUnbalanced × ((e : Refusal) → ¬ (IsUnbalanced Push Normal (codes "a*") (Some []) e)) × ¬ (IsUnbalanced Push Normal (codes "a*") (Some (codes "b")) NegativeEmpty)
+unbalanced_pushes = (
+  record { positive = tt; one = one_starred.0; has_destination = λ push. full _ _; refusal = refl },
+  record { positive = tt; one = inr (tt, has_star (codes "b") []); has_destination = λ push. full _ _; refusal = refl },
+  (λ e is. is.has_destination refl refl),
+  λ is. other is.refusal,
+)
+  where
+    other : NegativeEmpty ≢ PatternUnbalanced
+    other same = cc
+
+-- ---- negative specs
+
+hash : LooksLikeObjectHash (replicate 40 letter)
+hash = record { long = let size = length-replicate 40 letter in omega (arith, size); digits = AllPass-from_list_all is_ascii_hexdigit (replicate 40 letter) refl }
+
+-- `^` excludes nothing, and the empty text and `^a` don't
+pub excludes_nothing : ExcludesNothing Negative [] NegativeEmpty × ((e : Refusal) → ¬ (ExcludesNothing Normal [] e) × ¬ (ExcludesNothing Negative (codes "a") e)) × ¬ (ExcludesNothing Negative [] NegativeObjectHash)
+excludes_nothing = (record { negative = refl; no_source = refl; refusal = refl }, (λ e. ((λ is. normal_positive is.negative), λ is. full _ _ is.no_source)), λ is. other is.refusal)
+  where
+    other : NegativeObjectHash ≢ NegativeEmpty
+    other same = cc
+
+-- `^` and 40 digits exclude an object, and the digits alone and `^` and 39 don't
+pub excludes_object : ExcludesObject Negative (replicate 40 letter) NegativeObjectHash × ((e : Refusal) → ¬ (ExcludesObject Normal (replicate 40 letter) e) × ¬ (ExcludesObject Negative (replicate 39 letter) e)) × ¬ (ExcludesObject Negative (replicate 40 letter) NegativeEmpty)
+excludes_object = (record { negative = refl; hash = hash; refusal = refl }, (λ e. ((λ is. normal_positive is.negative), λ is. let long : 40 ≤ 39 = is.hash.long in omega (arith, long))), λ is. other is.refusal)
+  where
+    other : NegativeEmpty ≢ NegativeObjectHash
+    other same = cc
+
+-- ---- one of two reasons
+
+-- the second reason is given only where the first never applies
+pub or_else : OrElse (ExcludesNothing Negative []) (ExcludesObject Negative []) NegativeEmpty × OrElse (ExcludesNothing Negative (replicate 40 letter)) (ExcludesObject Negative (replicate 40 letter)) NegativeObjectHash × ¬ (OrElse (λ e. e ≡ NegativeEmpty) (λ e. e ≡ PushToEmpty) PushToEmpty) × ¬ (Never (λ e. e ≡ PushToEmpty))
+or_else = (
+  inl excludes_nothing.0,
+  inr ((λ e is. full _ _ is.no_source), excludes_object.0),
+  hidden,
+  λ never. never PushToEmpty refl,
+)
+  where
+    other : PushToEmpty ≢ NegativeEmpty
+    other same = cc
+
+    hidden : ¬ (OrElse (λ e. e ≡ NegativeEmpty) (λ e. e ≡ PushToEmpty) PushToEmpty)
+    hidden (inl same) = other same
+    hidden (inr (never, same)) = never NegativeEmpty refl
+
+-- the last reasons follow all others
+pub last_reasons : IsFirstReason Fetch Negative [] None NegativeEmpty × (IsName (replicate 40 letter) → IsFirstReason Push Negative (replicate 40 letter) None NegativeObjectHash)
+last_reasons = (
+  inr ((λ e is. fetch_no_push is.push), inr ((λ e is. false≢true is.colon), inr ((λ e is. fetch_no_push is.push), inr ((λ e is. is.source refl), inr ((λ e is. none_some is.word is.is), inr ((λ e is. is.positive), inl excludes_nothing.0)))))),
+  λ is_name. inr ((λ e is. signed is.unsigned), inr ((λ e is. false≢true is.colon), inr ((λ e is. none_some [] is.nowhere), inr ((λ e is. name_not_bad (replicate 40 letter) is_name e is.refusal), inr ((λ e is. none_some is.word is.is), inr ((λ e is. is.positive), or_else.1)))))),
+)
+  where
+    signed : Negative ≢ Normal
+    signed same = cc

@@ -1,0 +1,141 @@
+-- For each condition of the forms a text that breaks it, with the reason for which it is refused, so that it
+-- reads as nothing; and readings that no text has.
+use Rattle.std.proofs.Common.{◌≡◌, ◌≢◌, ◌⊎◌, ℕ, ◌==◌, false, List, [], ◌∷◌, Option, None, Some, unwrap_or, codes, refl, sym, ◌∙◌, inl, inr}
+use Rattle.std.specs.Prelude.{replicate}
+use Rattle.std.specs.List.{list_any}
+use Rattle.gix_refspec_text.specs.declared.parsing.Operation.{Operation}
+use Rattle.gix_refspec_text.specs.declared.parsing.Operation.TheVariants.{Push, Fetch}
+use Rattle.gix_refspec_text.specs.Texts.Bytes.{star, letter, caret, colon}
+use Rattle.gix_refspec_text.specs.Specs.Reading.{Mode, Normal, Forced, Negative, Reading}
+use Rattle.gix_refspec_text.specs.Specs.Grammar.{with_colon, IsPositive, fetched, pushed, Reads, IsAccepted}
+use Rattle.gix_refspec_text.specs.declared.name.Error.TheVariants.{StartsWithDot, InvalidByte}
+use Rattle.gix_refspec_text.specs.declared.parsing.reading.Shape.TheVariants.{Plain, Pattern}
+use Rattle.gix_refspec_text.specs.Specs.Meaning.{printed}
+use Rattle.gix_refspec_text.specs.Specs.Refusal.{Refusal, Empty, NegativeWithDestination, PushToEmpty, PatternUnsupported, ReferenceName, PatternUnbalanced, NegativeEmpty, NegativeObjectHash, IsBadName, IsBadPattern, HasBadDestination, IsFirstReason, IsRefused}
+use Rattle.gix_refspec_text.proofs.lemmas.parsing.ReasonLemmas.{no_negative, fetch_reaches, push_reaches, push_alone_reaches, negative_reaches, reason_at_source, reason_at_destination, reason_against_object, reason_against_nothing, fetch_source_fine, push_source_fine, unbalanced_fetch, unbalanced_push, bad_negative}
+use Rattle.gix_refspec_text.proofs.lemmas.parsing.ReadsLemmas.{refused}
+use Rattle.gix_refspec_text.proofs.lemmas.specs.FormsBackLemmas.{read_back}
+use Rattle.gix_refspec_text.proofs.lemmas.specs.AcceptedLemmas.{accepted_balanced}
+use Rattle.gix_refspec_text.proofs.lemmas.parsing.SideLemmas.{HasStar-pattern}
+use Rattle.gix_refspec_text.proofs.lemmas.texts.TestedLemmas.{IsName-tested}
+use Rattle.gix_refspec_text.proofs.facts.ManualFacts.{Lacks-tested, full, none_some, some_none}
+use Rattle.gix_refspec_text.proofs.facts.NameFacts.{stars_in_bad_names}
+use Rattle.gix_refspec_text.proofs.facts.RefusalFacts.{empty_push}
+use Rattle.gix_refspec_text.proofs.facts.GrammarFacts.{begins_signed, with_sign, parts, a_star, b_name, refused_byte, hashes, fetches_main, pushes_matching, deletes_x}
+
+-- ---- texts that are refused, which read as nothing
+
+-- a text whose parts have a first reason against them is refused for it
+refused_for : (op : Operation) (mode : Mode) (s : List ℕ) (d : Option (List ℕ)) (e : Refusal) → begins_signed mode (with_colon s d) ≡ false → list_any (λ c. c == colon) (unwrap_or d s) ≡ false → IsFirstReason op mode s d e → IsRefused op (with_sign mode (with_colon s d)) e
+refused_for op mode s d e unsigned last first = refused op mode s d (with_sign mode (with_colon s d)) e (parts mode s d unsigned last) first
+
+-- the empty push
+pub nothing_pushed : IsRefused Push [] Empty
+nothing_pushed = refused_for Push Normal [] None Empty refl refl empty_push.0
+
+-- `^` before a colon, in either operation
+negative_with : (op : Operation) (s d : List ℕ) → IsFirstReason op Negative s (Some d) NegativeWithDestination
+negative_with op s d = inr ((λ e empty. some_none d empty.no_colon), inl (record { negative = refl; colon = refl; refusal = refl }))
+
+pub negatives_to_somewhere : (op : Operation) → IsRefused op (codes "^a:b") NegativeWithDestination × IsRefused op (codes "^:") NegativeWithDestination × IsRefused op (codes "^a:") NegativeWithDestination
+negatives_to_somewhere op = (
+  refused_for op Negative (codes "a") (Some (codes "b")) NegativeWithDestination refl refl (negative_with op (codes "a") (codes "b")),
+  refused_for op Negative [] (Some []) NegativeWithDestination refl refl (negative_with op [] []),
+  refused_for op Negative (codes "a") (Some []) NegativeWithDestination refl refl (negative_with op (codes "a") []),
+)
+
+-- a push of a source to nothing
+pub pushed_nowhere : IsRefused Push (codes "a:") PushToEmpty × IsRefused Push (codes "+a:") PushToEmpty
+pushed_nowhere = (to_nothing Normal tt refl, to_nothing Forced tt refl)
+  where
+    to_nothing : (mode : Mode) → IsPositive mode → begins_signed mode (codes "a:") ≡ false → IsRefused Push (with_sign mode (codes "a:")) PushToEmpty
+    to_nothing mode positive unsigned = refused_for Push mode (codes "a") (Some []) PushToEmpty unsigned refl (inr ((λ e empty. full _ _ empty.no_source), inr (no_negative mode (Some []) positive, inl (record { push = refl; source = full _ _; nowhere = refl; refusal = refl }))))
+
+-- a source that is no name, among them expressions that a push may have; and one that is no pattern
+bad_fetch : (b : ℕ) (s : List ℕ) (d : Option (List ℕ)) (e : Refusal) → IsBadName (b ∷ s) e ⊎ IsBadPattern (b ∷ s) e → IsFirstReason Fetch Normal (b ∷ s) d e
+bad_fetch b s d e bad = reason_at_source Fetch Normal (b ∷ s) d e (fetch_reaches Normal (b ∷ s) d tt) (record { source = full b s; refusal = bad })
+
+pub bad_sources : IsRefused Fetch (codes "a b") (ReferenceName (InvalidByte 32)) × IsRefused Fetch (codes "main~2:x") (ReferenceName (InvalidByte 126)) × IsRefused Fetch (codes ":/message:x") (ReferenceName (InvalidByte 58)) × IsRefused Fetch (codes "a*b*") (PatternUnsupported (codes "a*b*")) × IsRefused Fetch (codes "a/.*:x") (ReferenceName StartsWithDot)
+bad_sources = (
+  refused_for Fetch Normal (codes "a b") None _ refl refl (bad_fetch 97 (codes " b") None _ (inl (Lacks-tested star (codes "a b") refl, refused_byte (codes "a") (codes "b") 32 refl))),
+  refused_for Fetch Normal (codes "main~2") (Some (codes "x")) _ refl refl (bad_fetch 109 (codes "ain~2") (Some (codes "x")) _ (inl (Lacks-tested star (codes "main~2") refl, refused_byte (codes "main") (codes "2") 126 refl))),
+  refused_for Fetch Normal (codes ":/message") (Some (codes "x")) _ refl refl (bad_fetch colon (codes "/message") (Some (codes "x")) _ (inl (Lacks-tested star (codes ":/message") refl, refused_byte [] (codes "/message") colon refl))),
+  refused_for Fetch Normal (codes "a*b*") None _ refl refl (bad_fetch 97 (codes "*b*") None _ (inr (record { before = codes "a"; between = codes "b"; after = []; here = refl }, refl))),
+  refused_for Fetch Normal (codes "a/.*") (Some (codes "x")) _ refl refl (bad_fetch 97 (codes "/.*") (Some (codes "x")) _ (inr stars_in_bad_names.0)),
+)
+
+-- a push of a source alone that is no name, and of one with two stars to a destination
+pub bad_pushes : IsRefused Push (codes "a b") (ReferenceName (InvalidByte 32)) × IsRefused Push (codes "a*b*:c") (PatternUnsupported (codes "a*b*"))
+bad_pushes = (
+  refused_for Push Normal (codes "a b") None _ refl refl (reason_at_source Push Normal (codes "a b") None _ (push_alone_reaches Normal (codes "a b") tt (λ empty. absurd (full _ _ empty))) (record { source = full _ _; refusal = inl (Lacks-tested star (codes "a b") refl, refused_byte (codes "a") (codes "b") 32 refl) })),
+  refused_for Push Normal (codes "a*b*") (Some (codes "c")) _ refl refl (reason_at_source Push Normal (codes "a*b*") (Some (codes "c")) _ (push_reaches Normal (codes "a*b*") (codes "c") tt (λ some empty. full _ _ empty)) (record { source = full _ _; refusal = (record { before = codes "a"; between = codes "b"; after = []; here = refl }, refl) })),
+)
+
+-- a destination that is no name, with a source and without, and one that is no pattern
+pub bad_destinations : IsRefused Fetch (codes "a:b c") (ReferenceName (InvalidByte 32)) × IsRefused Fetch (codes ":b c") (ReferenceName (InvalidByte 32)) × IsRefused Push (codes "a:b c") (ReferenceName (InvalidByte 32)) × IsRefused Push (codes ":b c") (ReferenceName (InvalidByte 32)) × IsRefused Fetch (codes "a*:b*c*") (PatternUnsupported (codes "b*c*"))
+bad_destinations = (
+  refused_for Fetch Normal (codes "a") (Some (codes "b c")) _ refl refl (reason_at_destination Fetch Normal (codes "a") (Some (codes "b c")) _ (fetch_reaches Normal (codes "a") (Some (codes "b c")) tt) (fetch_source_fine (codes "a") (Some (codes "b c")) Plain (IsName-tested (codes "a") refl)) spaced),
+  refused_for Fetch Normal [] (Some (codes "b c")) _ refl refl (reason_at_destination Fetch Normal [] (Some (codes "b c")) _ (fetch_reaches Normal [] (Some (codes "b c")) tt) (fetch_source_fine [] (Some (codes "b c")) Plain tt) spaced),
+  refused_for Push Normal (codes "a") (Some (codes "b c")) _ refl refl (reason_at_destination Push Normal (codes "a") (Some (codes "b c")) _ (push_reaches Normal (codes "a") (codes "b c") tt (λ some empty. full _ _ empty)) (push_source_fine (codes "a") (codes "b c") Plain (Lacks-tested star (codes "a") refl)) spaced),
+  refused_for Push Normal [] (Some (codes "b c")) _ refl refl (reason_at_destination Push Normal [] (Some (codes "b c")) _ (push_reaches Normal [] (codes "b c") tt (λ some empty. full _ _ empty)) (push_source_fine [] (codes "b c") Plain tt) spaced),
+  refused_for Fetch Normal (codes "a*") (Some (codes "b*c*")) _ refl refl (reason_at_destination Fetch Normal (codes "a*") (Some (codes "b*c*")) _ (fetch_reaches Normal (codes "a*") (Some (codes "b*c*")) tt) (fetch_source_fine (codes "a*") (Some (codes "b*c*")) Pattern a_star) (record { word = codes "b*c*"; is = refl; destination = full _ _; refusal = inr (record { before = codes "b"; between = codes "c"; after = []; here = refl }, refl) })),
+)
+  where
+    spaced : HasBadDestination (Some (codes "b c")) (ReferenceName (InvalidByte 32))
+    spaced = record { word = codes "b c"; is = refl; destination = full _ _; refusal = inl (Lacks-tested star (codes "b c") refl, refused_byte (codes "b") (codes "c") 32 refl) }
+
+plain_no_pattern : Plain ≢ Pattern
+plain_no_pattern same = absurd (cc)
+
+pattern_no_plain : Pattern ≢ Plain
+pattern_no_plain same = absurd (cc)
+
+-- a star on one side alone, also where the other is missing
+pub unbalanced_fetches : IsRefused Fetch (codes "a*:b") PatternUnbalanced × IsRefused Fetch (codes "b:a*") PatternUnbalanced × IsRefused Fetch (codes ":a*") PatternUnbalanced × IsRefused Fetch (codes "a*:") PatternUnbalanced × IsRefused Fetch (codes "+a*") PatternUnbalanced × IsRefused Fetch (codes "a*") PatternUnbalanced
+unbalanced_fetches = (
+  refused_for Fetch Normal (codes "a*") (Some (codes "b")) _ refl refl (unbalanced_fetch Normal (codes "a*") (Some (codes "b")) Pattern Plain tt a_star b_name pattern_no_plain),
+  refused_for Fetch Normal (codes "b") (Some (codes "a*")) _ refl refl (unbalanced_fetch Normal (codes "b") (Some (codes "a*")) Plain Pattern tt b_name a_star plain_no_pattern),
+  refused_for Fetch Normal [] (Some (codes "a*")) _ refl refl (unbalanced_fetch Normal [] (Some (codes "a*")) Plain Pattern tt tt a_star plain_no_pattern),
+  refused_for Fetch Normal (codes "a*") (Some []) _ refl refl (unbalanced_fetch Normal (codes "a*") (Some []) Pattern Plain tt a_star tt pattern_no_plain),
+  refused_for Fetch Forced (codes "a*") None _ refl refl (unbalanced_fetch Forced (codes "a*") None Pattern Plain tt a_star tt pattern_no_plain),
+  refused_for Fetch Normal (codes "a*") None _ refl refl (unbalanced_fetch Normal (codes "a*") None Pattern Plain tt a_star tt pattern_no_plain),
+)
+
+-- the same in a push, of which a source alone is fine
+pub pushes_of_one_star : IsRefused Push (codes "a*:b") PatternUnbalanced × IsRefused Push (codes "b:a*") PatternUnbalanced × IsRefused Push (codes ":a*") PatternUnbalanced
+pushes_of_one_star = (
+  refused_for Push Normal (codes "a*") (Some (codes "b")) _ refl refl (unbalanced_push Normal (codes "a*") (codes "b") Pattern Plain tt (λ some empty. full _ _ empty) a_star b_name pattern_no_plain),
+  refused_for Push Normal (codes "b") (Some (codes "a*")) _ refl refl (unbalanced_push Normal (codes "b") (codes "a*") Plain Pattern tt (λ some empty. full _ _ empty) (Lacks-tested star (codes "b") refl) a_star plain_no_pattern),
+  refused_for Push Normal [] (Some (codes "a*")) _ refl refl (unbalanced_push Normal [] (codes "a*") Plain Pattern tt (λ some empty. full _ _ empty) tt a_star plain_no_pattern),
+)
+
+-- in either operation `^` and nothing, 40 digits, or what is no name
+pub bad_negatives : (op : Operation) → IsRefused op (codes "^") NegativeEmpty × IsRefused op (caret ∷ replicate 40 letter) NegativeObjectHash × IsRefused op (codes "^a b") (ReferenceName (InvalidByte 32)) × IsRefused op (codes "^^a") (ReferenceName (InvalidByte 94))
+bad_negatives op = (
+  refused_for op Negative [] None _ refl refl (reason_against_nothing op [] Plain refl tt),
+  refused_for op Negative (replicate 40 letter) None _ refl refl (reason_against_object op (replicate 40 letter) Plain (full _ _) (IsName-tested (replicate 40 letter) refl) hashes.0),
+  refused_for op Negative (codes "a b") None _ refl refl (reason_at_source op Negative (codes "a b") None _ (negative_reaches op (codes "a b")) (bad_negative op (codes "a b") _ (full _ _, inl (Lacks-tested star (codes "a b") refl, refused_byte (codes "a") (codes "b") 32 refl)))),
+  refused_for op Negative (codes "^a") None _ refl refl (reason_at_source op Negative (codes "^a") None _ (negative_reaches op (codes "^a")) (bad_negative op (codes "^a") _ (full _ _, inl (Lacks-tested star (codes "^a") refl, refused_byte [] (codes "a") caret refl)))),
+)
+
+-- so these texts read as nothing
+pub unread : (r : Reading) → ¬ (Reads Push [] r) × ¬ (Reads Push (codes "a:") r) × ¬ (Reads Fetch (codes "^") r) × ¬ (Reads Fetch (caret ∷ replicate 40 letter) r) × ¬ (Reads Fetch (codes ":a*") r) × ¬ (Reads Push (codes "b:a*") r) × ¬ (Reads Fetch (codes "main~2:x") r) × ¬ (Reads Push (codes "^a:") r)
+unread r = (nothing_pushed.unread r, pushed_nowhere.0.unread r, (bad_negatives Fetch).0.unread r, (bad_negatives Fetch).1.unread r, unbalanced_fetches.2.unread r, pushes_of_one_star.1.unread r, bad_sources.1.unread r, (negatives_to_somewhere Push).2.unread r)
+
+-- ---- which readings some text has
+
+no_text : (r : Reading) → printed r ≡ None → ¬ (IsAccepted r)
+no_text r none (text, reads) = let back = read_back r.operation text r reads in none_some back.text (sym none ∙ back.is)
+
+-- a push needs no source, nor any side
+pub accepted : IsAccepted (fetched Normal (codes "main") None) × IsAccepted (pushed Forced None None) × IsAccepted (pushed Normal None (Some (codes "+x")))
+accepted = ((codes "main", fetches_main.0), (codes "+", pushes_matching.0), (codes ":+x", deletes_x.1))
+
+-- a fetch needs one; a negative spec has no destination, but a source; and no star is on one side alone
+pub not_accepted : ¬ (IsAccepted (record { operation = Fetch; mode = Normal; source = None; destination = Some (codes "x") })) × ¬ (IsAccepted (fetched Negative (codes "a") (Some (codes "b")))) × ¬ (IsAccepted (pushed Negative None None)) × ¬ (IsAccepted (fetched Normal (codes "a*") (Some (codes "b"))))
+not_accepted = (
+  no_text _ refl,
+  no_text _ refl,
+  no_text _ refl,
+  (λ by. accepted_balanced (fetched Normal (codes "a*") (Some (codes "b"))) (codes "a*") (codes "b") ∣ by ∣₁ refl refl (inl (HasStar-pattern (codes "a*") a_star, Lacks-tested star (codes "b") refl))),
+)

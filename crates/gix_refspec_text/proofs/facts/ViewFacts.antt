@@ -1,0 +1,198 @@
+-- What a clause reads of refspecs, instructions, reasons and ids, at values whose fields differ: so none
+-- is lost or taken for another. That some text reads as a spec is a premise.
+use Rattle.std.proofs.Common.{Option, ◌≡◌, ◌≢◌, ℕ, suc, List, [], ◌∷◌, ◌++◌, None, Some, true, false, map, length, get_or, replicate, option_map, codes, refl, sym, ap, ◌∙◌, inl, inr, arith}
+use Rattle.bstr.specs.declared.bstr.BStr.{BStr}
+use Rattle.bstr.specs.declared.bstring.BString.{BString}
+use Rattle.bstr.specs.Owned.{bstring_bytes}
+use Rattle.gix_refspec_text.specs.declared.instruction.Fetch.TheVariants as fetch
+use Rattle.gix_refspec_text.specs.declared.instruction.Push.TheVariants as push
+use Rattle.gix_refspec_text.specs.declared.name.Error.TheVariants.{LockSuffix, RepeatedDot}
+use Rattle.gix_refspec_text.specs.declared.oid.Error.TheVariants.{Digit, Length}
+use Rattle.gix_refspec_text.specs.declared.oid.Kind.TheVariants.{Sha1}
+use Rattle.gix_refspec_text.specs.declared.oid.ObjectId.{ObjectId}
+use Rattle.gix_refspec_text.specs.declared.parsing.Error.TheVariants as error
+use Rattle.gix_refspec_text.specs.declared.parsing.Operation.{Operation}
+use Rattle.gix_refspec_text.specs.declared.parsing.Operation.TheVariants.{Push, Fetch}
+use Rattle.gix_refspec_text.specs.declared.spec.RefSpec.{RefSpec, accepted-type as owned-type}
+use Rattle.gix_refspec_text.specs.declared.spec.RefSpecRef.{RefSpecRef, accepted-type}
+use Rattle.gix_refspec_text.specs.declared.types.Instruction.{Instruction}
+use Rattle.gix_refspec_text.specs.declared.types.Instruction.TheVariants as instruction
+use Rattle.gix_refspec_text.specs.declared.types.Mode.{Mode}
+use Rattle.gix_refspec_text.specs.declared.types.Mode.TheVariants as mode
+use Rattle.gix_refspec_text.specs.Texts.ObjectId.{fault_name}
+use Rattle.gix_refspec_text.specs.Specs.Reading.{Normal, Forced, Negative}
+use Rattle.gix_refspec_text.specs.Specs.Grammar.{fetched, pushed}
+use Rattle.gix_refspec_text.specs.Specs.Meaning.{fetch_only, meaning_of, text_of, WritesPrinted}
+use Rattle.gix_refspec_text.specs.Specs.Order.{keys}
+use Rattle.gix_refspec_text.specs.Specs.Refusal.{Refusal, Empty, NegativeWithDestination, PushToEmpty, PatternUnsupported, ReferenceName, PatternUnbalanced, NegativeEmpty, NegativeObjectHash, IsFirstReason}
+use Rattle.gix_refspec_text.specs.Views.Spec.{reading_of, owned_reading_of, key_of_spec, key_of_owned}
+use Rattle.gix_refspec_text.specs.Views.Errors.{IsSameError}
+use Rattle.gix_refspec_text.specs.Views.Instruction.{meaning_of_instruction, meant_for, IsShownAs, ShowsRefusal}
+use Rattle.gix_refspec_text.specs.Matching.Prefix.{AppendsExpansion, to_prefix}
+use Rattle.gix_refspec_text.proofs.facts.ManualFacts.{other_length, none_some}
+use Rattle.gix_refspec_text.proofs.facts.FitFacts.{other_byte, no_dev}
+use Rattle.gix_refspec_text.proofs.facts.ObjectIdFacts.{empty_blob}
+use Rattle.gix_refspec_text.proofs.facts.PrefixFacts.{whole_prefixes}
+use Rattle.gix_refspec_text.proofs.facts.RefusalFacts.{empty_push}
+
+-- a text that is borrowed
+abbrev pub lent : List ℕ → BStr
+lent x = record { bytes = record { ref_ptr = (0, 0); now = x } }
+
+-- some text reads as this operation, mode, source and destination
+abbrev pub Accepted : Operation → Mode → Option (List ℕ) → Option (List ℕ) → Type 0
+Accepted op sign s d = accepted-type op sign (option_map lent s) (option_map lent d)
+
+-- the spec that was read from such a text
+abbrev pub spec_of : (op : Operation) (sign : Mode) (s d : Option (List ℕ)) → Accepted op sign s d → RefSpecRef
+spec_of op sign s d accepted = record { op = op; mode = sign; src = option_map lent s; dst = option_map lent d; accepted = accepted }
+
+-- the owned spec
+abbrev pub owned_of : (op : Operation) (sign : Mode) (s d : Option BString) → owned-type op sign s d → RefSpec
+owned_of op sign s d accepted = record { op = op; mode = sign; src = s; dst = d; accepted = accepted }
+
+-- keys that differ in a byte differ
+other_key : (k j : ℕ) (x y : List (List ℕ)) → get_or (get_or x k []) j 0 ≢ get_or (get_or y k []) j 0 → x ≢ y
+other_key k j x y differ same = differ (ap (λ (z : List (List ℕ)). get_or (get_or z k []) j 0) same)
+
+-- ---- refspecs
+
+module _
+    (update : Accepted Fetch mode.Force (Some (codes "a")) (Some (codes "b")))
+    (unforced : Accepted Fetch mode.Normal (Some (codes "a")) (Some (codes "b")))
+    (alone : Accepted Fetch mode.Normal (Some (codes "a")) None)
+    (forced : Accepted Fetch mode.Force (Some (codes "a")) None)
+    (exclusion : Accepted Fetch mode.Negative (Some (codes "a")) None)
+    (same_name : Accepted Push mode.Normal (Some (codes "a")) None)
+    (to_itself : Accepted Push mode.Normal (Some (codes "a")) (Some (codes "a")))
+    (deletion : Accepted Push mode.Normal None (Some (codes "b")))
+    (all_matching : Accepted Push mode.Force None None)
+  where
+    abbrev fetches_a : RefSpecRef
+    fetches_a = spec_of Fetch mode.Normal (Some (codes "a")) None alone
+
+    abbrev updates_b : RefSpecRef
+    updates_b = spec_of Fetch mode.Force (Some (codes "a")) (Some (codes "b")) update
+
+    -- `a`, `+a:b` and `^a` in a fetch, `:b` and `+:` in a push
+    pub readings : map reading_of (fetches_a ∷ updates_b ∷ spec_of Fetch mode.Negative (Some (codes "a")) None exclusion ∷ spec_of Push mode.Normal None (Some (codes "b")) deletion ∷ spec_of Push mode.Force None None all_matching ∷ [])
+        ≡ fetched Normal (codes "a") None ∷ fetched Forced (codes "a") (Some (codes "b")) ∷ fetched Negative (codes "a") None ∷ pushed Normal None (Some (codes "b")) ∷ pushed Forced None None ∷ []
+    readings = refl
+
+    -- specs that say the same have one key: `a` and `+a` in a fetch, `a` and `a:a` in a push
+    pub same_keys : (key_of_spec fetches_a ≡ key_of_spec (spec_of Fetch mode.Force (Some (codes "a")) None forced)) × (key_of_spec (spec_of Push mode.Normal (Some (codes "a")) None same_name) ≡ key_of_spec (spec_of Push mode.Normal (Some (codes "a")) (Some (codes "a")) to_itself))
+    same_keys = (refl, refl)
+
+    -- others have two: `a` in a fetch and in a push, `a` and `^a`, `+a:b` and `a:b`
+    pub other_keys : (key_of_spec fetches_a ≢ key_of_spec (spec_of Push mode.Normal (Some (codes "a")) None same_name)) × (key_of_spec fetches_a ≢ key_of_spec (spec_of Fetch mode.Negative (Some (codes "a")) None exclusion)) × (key_of_spec updates_b ≢ key_of_spec (spec_of Fetch mode.Normal (Some (codes "a")) (Some (codes "b")) unforced))
+    other_keys = (other_key 0 0 _ _ (λ same. omega (arith, same)), other_key 0 0 _ _ (λ same. omega (arith, same)), other_key 3 0 _ _ (λ same. omega (arith, same)))
+
+module _
+    (n m : BString)
+    (update : owned-type Fetch mode.Force (Some n) (Some m))
+    (alone : owned-type Fetch mode.Normal (Some n) None)
+    (forced : owned-type Fetch mode.Force (Some n) None)
+    (exclusion : owned-type Fetch mode.Negative (Some n) None)
+    (same_name : owned-type Push mode.Normal (Some n) None)
+    (deletion : owned-type Push mode.Normal None (Some m))
+  where
+    -- owned specs are read as those that borrow
+    pub owned_readings : map owned_reading_of (owned_of Fetch mode.Force (Some n) (Some m) update ∷ owned_of Fetch mode.Negative (Some n) None exclusion ∷ owned_of Push mode.Normal None (Some m) deletion ∷ [])
+        ≡ fetched Forced (bstring_bytes n) (Some (bstring_bytes m)) ∷ fetched Negative (bstring_bytes n) None ∷ pushed Normal None (Some (bstring_bytes m)) ∷ []
+    owned_readings = refl
+
+    -- and have their keys
+    pub owned_keys : (key_of_owned (owned_of Fetch mode.Force (Some n) None forced) ≡ key_of_owned (owned_of Fetch mode.Normal (Some n) None alone)) × (key_of_owned (owned_of Fetch mode.Normal (Some n) None alone) ≡ keys (Some (fetch_only (bstring_bytes n)))) × (key_of_owned (owned_of Fetch mode.Normal (Some n) None alone) ≢ key_of_owned (owned_of Push mode.Normal (Some n) None same_name))
+    owned_keys = (refl, refl, other_key 0 0 _ _ (λ same. omega (arith, same)))
+
+-- ---- instructions
+
+abbrev pushes : List Instruction
+pushes = instruction.Push (push.AllMatchingBranches true) ∷ instruction.Push (push.AllMatchingBranches false) ∷ instruction.Push (push.Delete (lent (codes "x"))) ∷ instruction.Push (push.Matching (lent (codes "a")) (lent (codes "b")) true) ∷ instruction.Push (push.Exclude (lent (codes "a"))) ∷ []
+
+abbrev fetches : List Instruction
+fetches = instruction.Fetch (fetch.Only (lent (codes "a"))) ∷ instruction.Fetch (fetch.Exclude (lent (codes "a"))) ∷ instruction.Fetch (fetch.AndUpdate (lent (codes "a")) (lent (codes "b")) true) ∷ instruction.Fetch (fetch.AndUpdate (lent (codes "a")) (lent (codes "b")) false) ∷ []
+
+-- the texts of instructions
+pub texts_shown : (map (λ i. text_of (meaning_of_instruction i)) pushes ≡ codes "+:" ∷ codes ":" ∷ codes ":x" ∷ codes "+a:b" ∷ codes "^a" ∷ []) × (map (λ i. text_of (meaning_of_instruction i)) fetches ≡ codes "a" ∷ codes "^a" ∷ codes "+a:b" ∷ codes "a:b" ∷ [])
+texts_shown = (refl, refl)
+
+-- and what they are for, which their texts don't say
+pub operations_shown : (map (λ i. meant_for (meaning_of_instruction i)) pushes ≡ Push ∷ Push ∷ Push ∷ Push ∷ Push ∷ []) × (map (λ i. meant_for (meaning_of_instruction i)) fetches ≡ Fetch ∷ Fetch ∷ Fetch ∷ Fetch ∷ [])
+operations_shown = (refl, refl)
+
+-- what was read says what its instruction says
+pub instructions_of : (meaning_of (fetched Forced (codes "a") (Some (codes "b"))) ≡ Some (meaning_of_instruction (instruction.Fetch (fetch.AndUpdate (lent (codes "a")) (lent (codes "b")) true)))) × (meaning_of (pushed Normal (Some (codes "a")) None) ≡ Some (meaning_of_instruction (instruction.Push (push.Matching (lent (codes "a")) (lent (codes "a")) false))))
+instructions_of = (refl, refl)
+
+-- ---- reasons
+
+-- the error of a side with two stars has its whole text, and that of a bad name its fault
+pub reasons_with_fields : (p : BString) → bstring_bytes p ≡ codes "a*b*" → IsShownAs (error.PatternUnsupported p) (PatternUnsupported (codes "a*b*")) × ¬ (IsShownAs (error.PatternUnsupported p) (PatternUnsupported (codes "a*b"))) × IsShownAs (error.ReferenceName LockSuffix) (ReferenceName LockSuffix) × ¬ (IsShownAs (error.ReferenceName LockSuffix) (ReferenceName RepeatedDot))
+reasons_with_fields p is = (ap PatternUnsupported (sym is), shorter, refl, λ same. cc)
+  where
+    text_in : Refusal → List ℕ
+    text_in (PatternUnsupported x) = x
+    text_in _ = []
+
+    shorter : ¬ (IsShownAs (error.PatternUnsupported p) (PatternUnsupported (codes "a*b")))
+    shorter same = other_length (codes "a*b") (codes "a*b*") (λ size. omega (arith, size)) (ap text_in same ∙ is)
+
+-- an error is not the reason of another
+pub other_reasons : (p : BString) → ¬ (IsShownAs error.Empty NegativeEmpty) × ¬ (IsShownAs error.NegativeEmpty Empty) × ¬ (IsShownAs error.NegativeWithDestination NegativeObjectHash) × ¬ (IsShownAs error.NegativeObjectHash NegativeWithDestination) × ¬ (IsShownAs error.PushToEmpty Empty) × ¬ (IsShownAs error.PatternUnbalanced (PatternUnsupported (bstring_bytes p))) × ¬ (IsShownAs (error.PatternUnsupported p) PatternUnbalanced) × ¬ (IsShownAs (error.ReferenceName LockSuffix) (PatternUnsupported (bstring_bytes p)))
+other_reasons p = ((λ same. cc), (λ same. cc), (λ same. cc), (λ same. cc), (λ same. cc), (λ same. cc), (λ same. cc), λ same. cc)
+
+-- errors are the same by variant and field, and texts with several stars by their bytes
+pub same_errors : (p q : BString) → bstring_bytes p ≡ bstring_bytes q → IsSameError (error.PatternUnsupported p) (error.PatternUnsupported q) × IsSameError error.Memory error.Memory × IsSameError (error.ReferenceName LockSuffix) (error.ReferenceName LockSuffix)
+same_errors p q is = (is, refl, refl)
+
+pub other_errors : (p q : BString) → bstring_bytes p ≢ bstring_bytes q → ¬ (IsSameError (error.PatternUnsupported p) (error.PatternUnsupported q)) × ¬ (IsSameError (error.PatternUnsupported p) error.PatternUnbalanced) × ¬ (IsSameError error.PatternUnbalanced (error.PatternUnsupported q)) × ¬ (IsSameError error.Empty error.NegativeEmpty) × ¬ (IsSameError (error.ReferenceName LockSuffix) (error.ReferenceName RepeatedDot))
+other_errors p q differ = (differ, (λ same. cc), (λ same. cc), (λ same. cc), λ same. cc)
+
+-- a push of an empty text is refused as empty
+pub refusal_shown : ShowsRefusal (IsFirstReason Push Normal [] None) error.Empty × ShowsRefusal (λ f. f ≡ PushToEmpty) error.PushToEmpty × ¬ (ShowsRefusal (λ f. f ≡ PushToEmpty) error.Empty)
+refusal_shown = ((Empty, refl, empty_push.0), (PushToEmpty, refl, refl), λ shows. other (sym shows.1 ∙ shows.2))
+  where
+    other : Empty ≢ PushToEmpty
+    other same = cc
+
+-- out of memory is no refusal of the grammar, whatever is asked of one, nor is a kept variant
+pub nothing_shown : ¬ (ShowsRefusal (λ f. Unit {0}) error.Memory) × ¬ (ShowsRefusal (λ f. Unit {0}) error.NegativePartialName)
+nothing_shown = ((λ shows. shows.1), λ shows. shows.1)
+
+-- ---- texts and prefixes that are added
+
+-- a canonical text follows what was written
+pub text_after : WritesPrinted (fetched Forced (codes "a") (Some (codes "b"))) (Some (codes "old ")) (Some (codes "old +a:b"))
+text_after = record { text = codes "+a:b"; is = refl; grown = refl }
+
+-- what was written isn't lost, and a reading without a canonical text writes nothing
+pub no_text : ¬ (WritesPrinted (fetched Forced (codes "a") (Some (codes "b"))) (Some (codes "old ")) (Some (codes "+a:b"))) × ((old new : Option (List ℕ)) → ¬ (WritesPrinted (fetched Negative (codes "a") (Some (codes "b"))) old new))
+no_text = ((λ writes. other_byte 0 (codes "+a:b") (codes "old " ++ writes.text) (λ same. omega (arith, same)) writes.grown), λ old new writes. none_some writes.text writes.is)
+
+-- what a reading expands to follows the entries that were there, which are kept
+pub entries_after : AppendsExpansion (fetched Normal (codes "HEAD") None) (codes "old" ∷ []) (codes "old" ∷ codes "HEAD" ∷ []) × ¬ (AppendsExpansion (fetched Normal (codes "HEAD") None) (codes "old" ∷ []) (codes "HEAD" ∷ []))
+entries_after = (
+  record { list = codes "HEAD" ∷ []; is = inl (codes "HEAD", record { positive = tt; side = refl }, to_prefix (codes "HEAD") whole_prefixes.0 refl); appended = refl },
+  λ appends. other_key 0 0 _ _ (λ same. omega (arith, same)) appends.appended,
+)
+
+-- a negative spec adds none
+pub none_after : AppendsExpansion no_dev (codes "old" ∷ []) (codes "old" ∷ []) × ¬ (AppendsExpansion no_dev (codes "old" ∷ []) (codes "old" ∷ codes "refs/heads/dev-" ∷ []))
+none_after = (
+  record { list = []; is = inr ((λ x asked. asked.positive), refl); appended = refl },
+  λ appends. elim appends.is [
+    | inl some ↦ some.1.positive
+    | inr none ↦ let longer : 2 ≡ suc (length appends.list) = ap length appends.appended in omega (arith, longer, ap length none.1)
+  ],
+)
+
+-- ---- ids
+
+-- an id with the 20 bytes of the empty blob, and more after them in its buffer
+abbrev pub blob_id : ObjectId
+blob_id = record { kind = Sha1; buffer = empty_blob ++ replicate 12 7 }
+
+-- the two faults of a text by their names, without the length
+pub fault_names : map fault_name (Length 6 ∷ Length 39 ∷ Digit ∷ []) ≡ codes "Length" ∷ codes "Length" ∷ codes "Digit" ∷ []
+fault_names = refl

@@ -1,0 +1,94 @@
+-- Which name a partial source takes: the first of its candidates that is there.
+use Rattle.std.proofs.Common.{◌≡◌, ◌⊎◌, inl, inr, ℕ, List, [], ◌∷◌, ◌++◌, None, Bool, true, false, refl, sym, ap, ◌∙◌, subst}
+use Rattle.std.specs.List.{AllByRecursion}
+use Rattle.std.specs.Str.{bytes_eq}
+use Rattle.std.proofs.lemmas.Bool.{false≢true}
+use Rattle.std.proofs.lemmas.Slice.Eq.{bytes_eq-Decides}
+use Rattle.gix_refspec_text.specs.Matching.Side.{partial, HasKind, IsCandidate}
+use Rattle.gix_refspec_text.specs.Matching.Match.{Ref, HasName, IsFirstCandidate, Takes}
+use Rattle.gix_refspec_text.specs.Laws.Readings.{FirstCandidate}
+
+-- whether one of the refs has the name
+has_name : (refs : List Ref) (n : List ℕ) → HasName refs n ⊎ (HasName refs n → ⊥)
+has_name [] n = inr (λ none. none)
+has_name (r ∷ refs) n = here (bytes_eq r.name n) refl (has_name refs n)
+  where
+    here : (b : Bool) → b ≡ bytes_eq r.name n → HasName refs n ⊎ (HasName refs n → ⊥) → HasName (r ∷ refs) n ⊎ (HasName (r ∷ refs) n → ⊥)
+    here true is rest = inl (inl ((bytes_eq-Decides r.name n).0 (sym is)))
+    here false is (inl later) = inl (inr later)
+    here false is (inr none) = inr (λ has. elim has [
+      | inl same ↦ false≢true (is ∙ (bytes_eq-Decides r.name n).1 same)
+      | inr later ↦ none later
+    ])
+
+-- none of the names is there
+abbrev AreAbsent : List Ref → List (List ℕ) → Type 0
+AreAbsent refs names = AllByRecursion (λ m. ¬ (HasName refs m)) names
+
+-- of names with one that is there, one is the first
+record HasFirst (refs : List Ref) (names : List (List ℕ)) : Type 0 where
+  name : List ℕ
+  earlier : List (List ℕ)
+  later : List (List ℕ)
+  here : names ≡ earlier ++ (name ∷ later)
+  absent : AreAbsent refs earlier
+  present : HasName refs name
+
+first_behind : (refs : List Ref) (earlier : List (List ℕ)) (n : List ℕ) (later : List (List ℕ)) → HasName refs n → HasFirst refs (earlier ++ (n ∷ later))
+first_behind refs [] n later has = record { name = n; earlier = []; later = later; here = refl; absent = tt; present = has }
+first_behind refs (c ∷ earlier) n later has = elim (has_name refs c) [
+  | inl there ↦ record { name = c; earlier = []; later = earlier ++ (n ∷ later); here = refl; absent = tt; present = there }
+  | inr none ↦
+      let rest = first_behind refs earlier n later has in
+      record { name = rest.name; earlier = c ∷ rest.earlier; later = rest.later; here = ap (λ (l : List (List ℕ)). c ∷ l) rest.here; absent = (none, rest.absent); present = rest.present }
+]
+
+-- where a candidate is there, one is the first
+pub some_first : (refs : List Ref) (x n : List ℕ) → IsCandidate x n → HasName refs n → (m : List ℕ) × IsFirstCandidate refs x m
+some_first refs x n one has =
+    let first = first_behind refs one.earlier n one.later has in
+    (first.name, record { earlier = first.earlier; later = first.later; here = one.here ∙ first.here; absent = first.absent; present = first.present })
+
+-- it is a candidate
+pub first_candidate : (refs : List Ref) (x n : List ℕ) → IsFirstCandidate refs x n → IsCandidate x n
+first_candidate refs x n first = record { earlier = first.earlier; later = first.later; here = first.here }
+
+one_first : (refs : List Ref) (e f : List (List ℕ)) (n m : List ℕ) (l k : List (List ℕ)) → e ++ (n ∷ l) ≡ f ++ (m ∷ k) → AreAbsent refs e → AreAbsent refs f → HasName refs n → HasName refs m → n ≡ m
+one_first refs [] [] n m l k same none_e none_f has_n has_m = cc
+one_first refs [] (d ∷ f) n m l k same none_e none_f has_n has_m = let one : n ≡ d = cc in absurd (none_f.0 (subst (HasName refs) one has_n))
+one_first refs (c ∷ e) [] n m l k same none_e none_f has_n has_m = let one : m ≡ c = cc in absurd (none_e.0 (subst (HasName refs) one has_m))
+one_first refs (c ∷ e) (d ∷ f) n m l k same none_e none_f has_n has_m = one_first refs e f n m l k (cc) none_e.1 none_f.1 has_n has_m
+
+-- there is no other
+pub first_once : (refs : List Ref) (x n m : List ℕ) → IsFirstCandidate refs x n → IsFirstCandidate refs x m → n ≡ m
+first_once refs x n m a b = one_first refs a.earlier b.earlier n m a.later b.later (sym a.here ∙ b.here) a.absent b.absent a.present b.present
+
+-- of one ref, each candidate is the first
+pub first_of_one : (x : List ℕ) (r : Ref) → IsCandidate x r.name → IsFirstCandidate (r ∷ []) x r.name
+first_of_one x r one =
+    let first = some_first (r ∷ []) x r.name one (inl refl) in
+    subst (IsFirstCandidate (r ∷ []) x) (sym (only first.0 first.1.present)) first.1
+  where
+    only : (n : List ℕ) → HasName (r ∷ []) n → r.name ≡ n
+    only n (inl same) = same
+    only n (inr none) = absurd none
+
+-- a partial source takes the refs of that name
+pub taken_by_first : (refs : List Ref) (x : List ℕ) (r : Ref) → HasKind x (partial x) → IsFirstCandidate refs x r.name → Takes refs x r None
+taken_by_first refs x r kind first = record {
+  matches = record { kind = partial x; of = kind; is = (refl, first_candidate refs x r.name first) };
+  first = λ n also. subst (λ (y : List ℕ). IsFirstCandidate refs y r.name) (sym also.0) first;
+}
+
+-- a partial source takes its first candidate
+pub takes_first : (x : List ℕ) (refs : List Ref) → FirstCandidate x refs
+takes_first x refs lacks outside no_id =
+    let kind : HasKind x (partial x) = (refl, lacks, outside, no_id) in
+    record {
+      takes = λ r. (
+        λ found. found.1.first x kind,
+        λ first. (None, taken_by_first refs x r kind first),
+      );
+      one = λ n m a b. first_once refs x n m a b;
+      some = λ n one has. some_first refs x n one has;
+    }

@@ -1,0 +1,93 @@
+-- What sides match, and their prefixes and candidates.
+use Rattle.std.proofs.Common.{◌≡◌, ◌≢◌, ℕ, List, [], ◌∷◌, ◌++◌, codes, Option, None, Some, refl, sym, ap, ◌∙◌, subst}
+use Rattle.std.proofs.lemmas.List.{append-nil, append_cancel_left, append_cancel_right}
+use Rattle.gix_refspec_text.specs.Texts.Words.{Lacks, BeginsWith}
+use Rattle.gix_refspec_text.specs.Texts.Name.{IsCut}
+use Rattle.gix_refspec_text.specs.Texts.Bytes.{star, head}
+use Rattle.gix_refspec_text.specs.Matching.Side.{SideKind, pattern, full_name, object, partial, HasKind, IsId, candidates, IsCandidate}
+use Rattle.gix_refspec_text.specs.Matching.Match.{Ref, MatchesAs}
+use Rattle.gix_refspec_text.specs.Matching.Prefix.{of_head, of_name, of_pattern, HasNoPrefix, Expands, to_prefix, to_itself, below_refs, of_object, to_candidates}
+use Rattle.gix_refspec_text.specs.Laws.Readings.{OneWord, PrefixBegins, Candidates}
+use Rattle.gix_refspec_text.proofs.lemmas.hits.CandidateLemmas.{first_candidate, first_of_one, takes_first}
+use Rattle.gix_refspec_text.proofs.lemmas.texts.TextLemmas.{Lacks-here, first_once}
+
+-- two words between the same texts are one
+pub one_word : (before after n : List ℕ) → OneWord before after n
+one_word before after n v w by_v by_w = append_cancel_right v w after (append_cancel_left before (v ++ after) (w ++ after) (sym by_v ∙ by_w))
+
+-- what lacks the star is no pattern
+pub lacks_no_pattern : (x before after : List ℕ) → Lacks star x → IsCut before after x → ⊥
+lacks_no_pattern x before after lacks cut = Lacks-here star before after (subst (Lacks star) cut.starred lacks)
+
+-- a text has one star at one place
+pub cut_once : (x before after fixed rest : List ℕ) → IsCut before after x → IsCut fixed rest x → (before ≡ fixed) × (after ≡ rest)
+cut_once x before after fixed rest a b = first_once star before fixed after rest a.first b.first (sym a.starred ∙ b.starred)
+
+-- the whole text begins with itself
+begins_itself : (x n : List ℕ) → n ≡ x → BeginsWith x n
+begins_itself x n same = record { after = []; here = same ∙ sym (append-nil x) }
+
+-- a full name, of which the side is its own prefix
+name_begins : (x : List ℕ) (k : SideKind) (r : Ref) (word : Option (List ℕ)) → BeginsWith (codes "refs/") x → Lacks star x → HasKind x k → MatchesAs k r word → BeginsWith x r.name
+name_begins x (pattern before after) r word begins lacks kind fits = absurd (lacks_no_pattern x before after lacks kind)
+name_begins x (full_name n) r word begins lacks kind fits = begins_itself x r.name (fits.1 ∙ kind.0)
+name_begins x (object id) r word begins lacks kind fits = absurd (kind.1 begins)
+name_begins x (partial n) r word begins lacks kind fits = absurd (kind.2 begins)
+
+-- a pattern, of which what is before its star is the prefix
+pattern_begins : (x fixed rest : List ℕ) (k : SideKind) (r : Ref) (word : Option (List ℕ)) → IsCut fixed rest x → HasKind x k → MatchesAs k r word → BeginsWith fixed r.name
+pattern_begins x fixed rest (pattern before after) r None cut kind fits = absurd fits
+pattern_begins x fixed rest (pattern before after) r (Some word) cut kind fits =
+    let once = cut_once x before after fixed rest kind cut in
+    record { after = word ++ after; here = fits ∙ ap (λ (y : List ℕ). y ++ (word ++ after)) once.0 }
+pattern_begins x fixed rest (full_name n) r word cut kind fits = absurd (lacks_no_pattern x fixed rest kind.1 cut)
+pattern_begins x fixed rest (object id) r word cut kind fits = absurd (lacks_no_pattern x fixed rest kind.0 cut)
+pattern_begins x fixed rest (partial n) r word cut kind fits = absurd (lacks_no_pattern x fixed rest kind.1 cut)
+
+-- each ref that a side matches begins with its prefix
+pub prefix_begins : (x : List ℕ) → PrefixBegins x
+prefix_begins x p r word (of_head is_head _) other matches = absurd (other is_head)
+prefix_begins x p r word (of_name begins lacks same) other matches = subst (λ (y : List ℕ). BeginsWith y r.name) (sym same) (name_begins x matches.kind r word begins lacks matches.of matches.is)
+prefix_begins x p r word (of_pattern before after cut tells same) other matches =
+    subst (λ (y : List ℕ). BeginsWith y r.name) (sym same) (pattern_begins x before after matches.kind r word cut matches.of matches.is)
+
+-- what begins `refs/` before its star begins so
+pub begins_cut : (x before after : List ℕ) → IsCut before after x → BeginsWith (codes "refs/") before → BeginsWith (codes "refs/") x
+begins_cut x before after cut below = record { after = below.after ++ (star ∷ after); here = cut.starred ∙ ap (λ (y : List ℕ). y ++ (star ∷ after)) below.here }
+
+-- a side outside `refs/` other than `HEAD` has no prefix
+pub outside_none : (x : List ℕ) → x ≢ head → ¬ (BeginsWith (codes "refs/") x) → HasNoPrefix x
+outside_none x other outside p (of_head is_head _) = other is_head
+outside_none x other outside p (of_name begins _ _) = outside begins
+outside_none x other outside p (of_pattern before after cut tells _) = outside (begins_cut x before after cut tells.below)
+
+-- nothing but the candidates
+only_candidates : (x : List ℕ) → x ≢ head → ¬ (BeginsWith (codes "refs/") x) → ¬ (IsId x) → (list : List (List ℕ)) → Expands x list → list ≡ candidates x
+only_candidates x other outside no_id list (to_prefix p prefix _) = absurd (outside_none x other outside p prefix)
+only_candidates x other outside no_id list (to_itself rest _ below _ _) = absurd (outside (record { after = rest; here = below }))
+only_candidates x other outside no_id list (below_refs rest _ below _ _) = absurd (outside (record { after = rest; here = below }))
+only_candidates x other outside no_id list (of_object _ _ id _) = absurd (no_id id)
+only_candidates x other outside no_id list (to_candidates _ _ _ is) = is
+
+-- a partial name matches as one
+short_matches : (x : List ℕ) (k : SideKind) (r : Ref) (word : Option (List ℕ)) → Lacks star x → ¬ (BeginsWith (codes "refs/") x) → ¬ (IsId x) → HasKind x k → MatchesAs k r word → IsCandidate x r.name
+short_matches x (pattern before after) r word lacks outside no_id kind fits = absurd (lacks_no_pattern x before after lacks kind)
+short_matches x (full_name n) r word lacks outside no_id kind fits = absurd (outside kind.2)
+short_matches x (object id) r word lacks outside no_id kind fits = absurd (no_id (id, kind.2))
+short_matches x (partial n) r word lacks outside no_id kind fits = subst (λ (y : List ℕ). IsCandidate y r.name) kind.0 fits.1
+
+-- a partial name is expanded to its candidates, and matches them
+pub has_candidates : (x : List ℕ) → Candidates x
+has_candidates x lacks other outside no_id = record {
+  expands = to_candidates (outside_none x other outside) outside no_id refl;
+  only = only_candidates x other outside no_id;
+  matches = λ r. (
+    λ found. short_matches x found.1.kind r found.0 lacks outside no_id found.1.of found.1.is,
+    λ one. (None, record { kind = partial x; of = (refl, lacks, outside, no_id); is = (refl, one) }),
+  );
+  takes = λ r.
+      let first = (takes_first x (r ∷ []) lacks outside no_id).takes r in (
+        λ found. first_candidate (r ∷ []) x r.name (first.0 found),
+        λ one. first.1 (first_of_one x r one),
+      );
+}

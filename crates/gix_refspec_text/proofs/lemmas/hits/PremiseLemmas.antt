@@ -1,0 +1,73 @@
+-- What tests of the premises of laws tell.
+use Rattle.std.proofs.Common.{◌≡◌, ◌⊎◌, inl, inr, ◌↔◌, IsTrue, ℕ, zero, suc, ◌+◌, ◌<◌, Bool, Bor, true, false, not, take, List, [], ◌∷◌, ◌++◌, codes, get_or, length, map, refl, sym, ap, ◌∙◌, subst, arith}
+use Rattle.std.specs.List.{AllByRecursion}
+use Rattle.std.proofs.lemmas.Bool.{false≢true}
+use Rattle.std.proofs.lemmas.List.{append_assoc}
+use denote.Enum.Bare.{sameb}
+use Rattle.gix_refspec_text.specs.contracts.parsing.Operation.{the_type as the_operation}
+use Rattle.gix_refspec_text.specs.declared.parsing.Operation.{Operation}
+use Rattle.gix_refspec_text.specs.declared.parsing.Operation.TheVariants.{Fetch, Push}
+use Rattle.gix_refspec_text.specs.declared.oid.ObjectId.{ObjectId}
+use Rattle.gix_refspec_text.specs.declared.side.SideKind.{SideKind as DeclaredKind}
+use Rattle.gix_refspec_text.specs.declared.side.SideKind.TheVariants as kind
+use Rattle.gix_refspec_text.specs.declared.spec.RefSpecRef.{RefSpecRef}
+use Rattle.gix_refspec_text.specs.Texts.Words.{BeginsWith}
+use Rattle.gix_refspec_text.specs.Texts.Bytes.{star}
+use Rattle.gix_refspec_text.specs.Texts.Name.{IsCut}
+use Rattle.gix_refspec_text.specs.Specs.Reading.{Reading}
+use Rattle.gix_refspec_text.specs.Views.Spec.{reading_of}
+use Rattle.gix_refspec_text.specs.Texts.ObjectId.{id_bytes}
+use Rattle.gix_refspec_text.specs.Matching.Side.{HasKind}
+use Rattle.gix_refspec_text.specs.Private.SideViews.{kind_of_side}
+use Rattle.gix_refspec_text.specs.Matching.Prefix.{TellsPrefix, of_name, of_pattern, IsAsked}
+use Rattle.gix_refspec_text.specs.Laws.Covering.{IsCovering, by_prefix, by_candidates, HasCoveringSource}
+use Rattle.gix_refspec_text.proofs.lemmas.hits.MatchLemmas.{lacks_no_pattern}
+use Rattle.gix_refspec_text.proofs.lemmas.prefixes.PrefixLemmas.{id_not_head, no_prefix, one_asked}
+
+-- a pattern is covering exactly where it tells a prefix
+pub told_pattern : (x before after : List ℕ) (r : Bool) → IsCut before after x → IsTrue r ↔ TellsPrefix before after → IsTrue r ↔ IsCovering x
+told_pattern x before after true cut told =
+    let tells = told.0 refl in
+    let below : BeginsWith (codes "refs/") x = record { after = tells.below.after ++ (star ∷ after); here = cut.starred ∙ ap (λ (y : List ℕ). y ++ (star ∷ after)) tells.below.here ∙ append_assoc (codes "refs/") tells.below.after (star ∷ after) } in
+    ((λ _. by_prefix before below (of_pattern before after cut tells refl)), (λ _. refl))
+told_pattern x before after false cut told = ((λ so. absurd (false≢true so)), never)
+  where
+    never : IsCovering x → false ≡ true
+    never (by_prefix p below is) = absurd (no_prefix x before after cut (λ tells. false≢true (told.1 tells)) p is)
+    never (by_candidates lacks other outside) = absurd (lacks_no_pattern x before after lacks cut)
+
+-- a fetch that asks for a side has a covering source exactly where that side is covering
+pub told_source : (r : Reading) (x : List ℕ) (b : Bool) → r.operation ≡ Fetch → IsAsked r x → IsTrue b ↔ IsCovering x → IsTrue b ↔ HasCoveringSource r
+told_source r x b fetch asked told = (
+  (λ so. record { fetch = fetch; source = λ y also. subst IsCovering (one_asked r x y asked also) (told.0 so) }),
+  (λ has. told.1 (has.source x asked)),
+)
+
+-- what is so of all readings is so of each
+pub each_reading : (P : Reading → Type 0) (specs : List RefSpecRef) (k : ℕ) (s : RefSpecRef) → AllByRecursion P (map reading_of specs) → k < length specs → s ≡ get_or specs k s → P (reading_of s)
+each_reading P [] k s all below is = absurd (omega (arith, below))
+each_reading P (t ∷ specs) zero s all below is = subst (λ (q : RefSpecRef). P (reading_of q)) (sym is) all.0
+each_reading P (t ∷ specs) (suc k) s all below is = each_reading P specs k s all.1 (omega (arith, below)) is
+
+-- and what is so of those before a place and of the one there is so of those up to it
+one_more_suc : (P : Reading → Type 0) (specs : List RefSpecRef) (k : ℕ) (s : RefSpecRef) → AllByRecursion P (map reading_of (take k specs)) → k < length specs → s ≡ get_or specs k s → P (reading_of s) → AllByRecursion P (map reading_of (take (suc k) specs))
+one_more_suc P [] k s all below is holds = absurd (omega (arith, below))
+one_more_suc P (t ∷ specs) zero s all below is holds = (subst (λ (q : RefSpecRef). P (reading_of q)) is holds, tt)
+one_more_suc P (t ∷ specs) (suc k) s all below is holds = (all.0, one_more_suc P specs k s all.1 (omega (arith, below)) is holds)
+
+pub one_more : (P : Reading → Type 0) (specs : List RefSpecRef) (k : ℕ) (s : RefSpecRef) → AllByRecursion P (map reading_of (take k specs)) → k < length specs → s ≡ get_or specs k s → P (reading_of s) → AllByRecursion P (map reading_of (take (k + 1) specs))
+one_more P specs k s all below is holds = let same : suc k ≡ k + 1 = omega arith in subst (λ (j : ℕ). AllByRecursion P (map reading_of (take j specs))) same (one_more_suc P specs k s all below is holds)
+
+-- what a test of the operation tells
+pub fetch_from_test : (o : Operation) → false ≡ not (sameb the_operation o Fetch) → o ≡ Fetch
+fetch_from_test Fetch test = refl
+fetch_from_test Push test = absurd (false≢true test)
+
+-- a full name and an id are covering
+pub told_name : (x : List ℕ) (k : DeclaredKind) → HasKind x (kind_of_side k) → ((n : Bor (List ℕ)) × (k ≡ kind.FullName n)) ⊎ ((i : ObjectId) × (k ≡ kind.Object i)) → IsCovering x
+told_name x (kind.FullName n) has one = by_prefix x has.2 (of_name has.2 has.1 refl)
+told_name x (kind.Object i) has one = by_candidates has.0 (id_not_head x (id_bytes i) has.2) has.1
+told_name x (kind.Pattern before after) has (inl (n, same)) = absurd (cc)
+told_name x (kind.Pattern before after) has (inr (i, same)) = absurd (cc)
+told_name x (kind.Partial m) has (inl (n, same)) = absurd (cc)
+told_name x (kind.Partial m) has (inr (i, same)) = absurd (cc)

@@ -1,0 +1,58 @@
+-- A text has its sign, source and destination in one way.
+use Rattle.std.proofs.Common.{◌≡◌, ◌≢◌, ℕ, List, ◌∷◌, Option, None, Some, refl, sym, ap, ◌∙◌, subst, arith}
+use Rattle.gix_refspec_text.specs.Texts.Words.{Lacks}
+use Rattle.gix_refspec_text.specs.Specs.Reading.{Mode, Normal, Forced, Negative}
+use Rattle.gix_refspec_text.specs.Texts.Bytes.{plus, caret, colon}
+use Rattle.gix_refspec_text.specs.Specs.Grammar.{IsUnsigned, IsSigned, with_colon, LastLacksColon, AreParts}
+use Rattle.gix_refspec_text.proofs.lemmas.texts.TextLemmas.{Lacks-here, last_once}
+
+-- a text in its parts
+pub record Parted (text : List ℕ) : Type 0 where
+  pub mode : Mode
+  pub source : List ℕ
+  pub destination : Option (List ℕ)
+  pub parts : AreParts mode source destination text
+
+-- a text that begins with a sign isn't unsigned
+signed_not_unsigned : (r s : List ℕ) (b : ℕ) → r ≡ b ∷ s → IsUnsigned r → (b ≢ plus) × (b ≢ caret)
+signed_not_unsigned r s b same unsigned = subst IsUnsigned same unsigned
+
+-- lists that are equal have equal heads and tails
+heads : (b c : ℕ) (r s : List ℕ) → b ∷ r ≡ c ∷ s → b ≡ c
+heads b c r s same = cc
+
+tails : (b c : ℕ) (r s : List ℕ) → b ∷ r ≡ c ∷ s → r ≡ s
+tails b c r s same = cc
+
+-- `+` isn't `^`
+plus_not_caret : plus ≡ caret → ⊥
+plus_not_caret same = omega arith
+
+pub signed_once : (m n : Mode) (text r s : List ℕ) → IsSigned m text r → IsSigned n text s → (m ≡ n) × (r ≡ s)
+signed_once Normal Normal text r s a b = (refl, sym a.0 ∙ b.0)
+signed_once Normal Forced text r s a b = absurd ((signed_not_unsigned r s plus (sym a.0 ∙ b) a.1).0 refl)
+signed_once Normal Negative text r s a b = absurd ((signed_not_unsigned r s caret (sym a.0 ∙ b) a.1).1 refl)
+signed_once Forced Normal text r s a b = absurd ((signed_not_unsigned s r plus (sym b.0 ∙ a) b.1).0 refl)
+signed_once Forced Forced text r s a b = (refl, tails plus plus r s (sym a ∙ b))
+signed_once Forced Negative text r s a b = absurd (plus_not_caret (heads plus caret r s (sym a ∙ b)))
+signed_once Negative Normal text r s a b = absurd ((signed_not_unsigned s r caret (sym b.0 ∙ a) b.1).1 refl)
+signed_once Negative Forced text r s a b = absurd (plus_not_caret (sym (heads caret plus r s (sym a ∙ b))))
+signed_once Negative Negative text r s a b = (refl, tails caret caret r s (sym a ∙ b))
+
+pub cut_once : (s t : List ℕ) (d e : Option (List ℕ)) → LastLacksColon s d → LastLacksColon t e → with_colon s d ≡ with_colon t e → (s ≡ t) × (d ≡ e)
+cut_once s t None None a b same = (same, refl)
+cut_once s t None (Some e) a b same = absurd (Lacks-here colon t e (subst (Lacks colon) same a))
+cut_once s t (Some d) None a b same = absurd (Lacks-here colon s d (subst (Lacks colon) (sym same) b))
+cut_once s t (Some d) (Some e) a b same = let once = last_once colon s t d e a b same in (once.0, ap (λ (x : List ℕ). Some x) once.1)
+
+-- the parts of a text are the same whichever way it is written
+pub record SameParts (m n : Mode) (s t : List ℕ) (d e : Option (List ℕ)) : Type 0 where
+  pub mode : m ≡ n
+  pub source : s ≡ t
+  pub destination : d ≡ e
+
+pub parts_once : (m n : Mode) (s t : List ℕ) (d e : Option (List ℕ)) (text : List ℕ) → AreParts m s d text → AreParts n t e text → SameParts m n s t d e
+parts_once m n s t d e text a b =
+    let signed = signed_once m n text (with_colon s d) (with_colon t e) a.signed b.signed in
+    let cut = cut_once s t d e a.last b.last signed.1 in
+    record { mode = signed.0; source = cut.0; destination = cut.1 }

@@ -1,0 +1,86 @@
+-- A text has one reading: what its parts make.
+use Rattle.std.proofs.Common.{◌≡◌, ◌≢◌, ◌⊎◌, inl, inr, ℕ, List, [], ◌∷◌, Option, None, Some, unwrap_or, refl, sym, ap, ◌∙◌}
+use Rattle.gix_refspec_text.specs.declared.parsing.Operation.{Operation}
+use Rattle.gix_refspec_text.specs.declared.parsing.Operation.TheVariants.{Push, Fetch}
+use Rattle.gix_refspec_text.specs.Specs.Reading.{Mode, Forced, Negative, Reading}
+use Rattle.gix_refspec_text.specs.Specs.Grammar.{named_by, IsNameOrPattern, AreAlike, AreParts, fetched, pushed, Reads, fetches_nothing_named, fetches_colon, fetches, updates, updates_from_head, fetch_excludes, pushes_plus, pushes_colon, pushes, deletes, pushes_pattern, pushes_to, push_excludes}
+use Rattle.gix_refspec_text.specs.Private.Sides.{side_of, named_or_head}
+use Rattle.gix_refspec_text.proofs.lemmas.parsing.PartsLemmas.{Parted, parts_once}
+use Rattle.gix_refspec_text.proofs.lemmas.parsing.ReadsLemmas.{side_of-named, name_not_empty, pattern_not_empty}
+
+-- what parts make, where they read
+abbrev pub made : Operation → Mode → List ℕ → Option (List ℕ) → Reading
+made Fetch m s d = fetched m (named_or_head s) (side_of (unwrap_or d []))
+made Push m s d = pushed m (side_of (named_by s)) (side_of (unwrap_or d []))
+
+-- a reading and the parts that make it
+record IsMade (op : Operation) (text : List ℕ) (r : Reading) : Type 0 where
+  of : Parted text
+  is : r ≡ made op of.mode of.source of.destination
+
+-- words that aren't empty
+named_or_head-full : (s : List ℕ) → s ≢ [] → named_or_head s ≡ named_by s
+named_or_head-full [] full = absurd (full refl)
+named_or_head-full (b ∷ s) full = refl
+
+side_of-full : (s : List ℕ) → s ≢ [] → side_of s ≡ Some s
+side_of-full [] full = absurd (full refl)
+side_of-full (b ∷ s) full = refl
+
+side_of-named_full : (s : List ℕ) → s ≢ [] → side_of (named_by s) ≡ Some (named_by s)
+side_of-named_full [] full = absurd (full refl)
+side_of-named_full (b ∷ s) full = side_of-named b s
+
+pub either_full : (s : List ℕ) → IsNameOrPattern s → s ≢ []
+either_full s (inl name) = name_not_empty s name
+either_full s (inr pattern) = pattern_not_empty s pattern
+
+pub alike_full : (s d : List ℕ) → AreAlike s d → (s ≢ []) × (d ≢ [])
+alike_full s d (inl names) = (name_not_empty s names.0, name_not_empty d names.1)
+alike_full s d (inr patterns) = (pattern_not_empty s patterns.0, pattern_not_empty d patterns.1)
+
+-- what the parts of a text make for an operation is made for each operation that equals it
+made_for : (op : Operation) (text : List ℕ) (r : Reading) (o : Operation) (m : Mode) (s : List ℕ) (d : Option (List ℕ)) → op ≡ o → AreParts m s d text → r ≡ made o m s d → IsMade op text r
+made_for op text r o m s d same parts is = record { of = record { mode = m; source = s; destination = d; parts = parts }; is = is ∙ sym (ap (λ (x : Operation). made x m s d) same) }
+
+-- readings of a fetch, and of a push, with equal sides
+fetched_alike : (m : Mode) (s t : List ℕ) (d e : Option (List ℕ)) → s ≡ t → d ≡ e → fetched m s d ≡ fetched m t e
+fetched_alike m s t d e source destination = cc
+
+pushed_alike : (m : Mode) (s t d e : Option (List ℕ)) → s ≡ t → d ≡ e → pushed m s d ≡ pushed m t e
+pushed_alike m s t d e source destination = cc
+
+made_alone : (op : Operation) (text : List ℕ) (r : Reading) (m : Mode) (s : List ℕ) → op ≡ Fetch → AreParts m s None text ⊎ AreParts m s (Some []) text → s ≢ [] → r ≡ fetched m (named_by s) None → IsMade op text r
+made_alone op text r m s fetch (inl parts) full is = made_for op text r Fetch m s None fetch parts (is ∙ sym (ap (λ (x : List ℕ). fetched m x None) (named_or_head-full s full)))
+made_alone op text r m s fetch (inr parts) full is = made_for op text r Fetch m s (Some []) fetch parts (is ∙ sym (ap (λ (x : List ℕ). fetched m x None) (named_or_head-full s full)))
+
+-- what reads is made from its parts
+is_made : (op : Operation) (text : List ℕ) (r : Reading) → Reads op text r → IsMade op text r
+is_made op text r (fetches_nothing_named m fetch pos parts is) = made_for op text r Fetch m [] None fetch parts is
+is_made op text r (fetches_colon m fetch pos parts is) = made_for op text r Fetch m [] (Some []) fetch parts is
+is_made op text r (fetches m s fetch pos parts name is) = made_alone op text r m s fetch parts (name_not_empty s name) is
+is_made op text r (updates m s d fetch pos parts alike is) =
+    let full = alike_full s d alike in
+    made_for op text r Fetch m s (Some d) fetch parts (is ∙ fetched_alike m _ _ _ _ (sym (named_or_head-full s full.0)) (sym (side_of-full d full.1)))
+is_made op text r (updates_from_head m d fetch pos parts name is) = made_for op text r Fetch m [] (Some d) fetch parts (is ∙ fetched_alike m _ _ _ _ refl (sym (side_of-full d (name_not_empty d name))))
+is_made op text r (fetch_excludes s fetch parts either hash is) = made_for op text r Fetch Negative s None fetch parts (is ∙ fetched_alike Negative _ _ _ _ (sym (named_or_head-full s (either_full s either))) refl)
+is_made op text r (pushes_plus push parts is) = made_for op text r Push Forced [] None push parts is
+is_made op text r (pushes_colon m push pos parts is) = made_for op text r Push m [] (Some []) push parts is
+is_made op text r (pushes m s push pos parts either is) = made_for op text r Push m s None push parts (is ∙ pushed_alike m _ _ _ _ (sym (side_of-named_full s (either_full s either))) refl)
+is_made op text r (deletes m d push pos parts name is) = made_for op text r Push m [] (Some d) push parts (is ∙ pushed_alike m _ _ _ _ refl (sym (side_of-full d (name_not_empty d name))))
+is_made op text r (pushes_pattern m s d push pos parts source destination is) = made_for op text r Push m s (Some d) push parts (is ∙ pushed_alike m _ _ _ _ (sym (side_of-named_full s (pattern_not_empty s source))) (sym (side_of-full d (pattern_not_empty d destination))))
+is_made op text r (pushes_to m s d push pos parts full plain name is) = made_for op text r Push m s (Some d) push parts (is ∙ pushed_alike m _ _ _ _ (sym (side_of-named_full s full)) (sym (side_of-full d (name_not_empty d name))))
+is_made op text r (push_excludes s push parts either hash is) = made_for op text r Push Negative s None push parts (is ∙ pushed_alike Negative _ _ _ _ (sym (side_of-named_full s (either_full s either))) refl)
+
+-- equal parts make one reading
+made_same : (op : Operation) (m n : Mode) (s t : List ℕ) (d e : Option (List ℕ)) → m ≡ n → s ≡ t → d ≡ e → made op m s d ≡ made op n t e
+made_same op m n s t d e mode source destination =
+    ap (λ (x : Mode). made op x s d) mode ∙ (ap (λ (x : List ℕ). made op n x d) source ∙ ap (λ (x : Option (List ℕ)). made op n t x) destination)
+
+-- a text has one reading
+pub reads_once : (op : Operation) (text : List ℕ) (r q : Reading) → Reads op text r → Reads op text q → r ≡ q
+reads_once op text r q by_r by_q =
+    let a = is_made op text r by_r in
+    let b = is_made op text q by_q in
+    let same = parts_once a.of.mode b.of.mode a.of.source b.of.source a.of.destination b.of.destination text a.of.parts b.of.parts in
+    a.is ∙ (made_same op a.of.mode b.of.mode a.of.source b.of.source a.of.destination b.of.destination same.mode same.source same.destination ∙ sym b.is)

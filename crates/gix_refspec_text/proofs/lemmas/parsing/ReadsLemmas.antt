@@ -1,0 +1,230 @@
+-- Parts whose sides are fine read as what the sides make, and what reads has such parts.
+use Rattle.std.proofs.Common.{◌≡◌, ◌≢◌, ◌⊎◌, inl, inr, ℕ, ◌==◌, true, false, if◌then◌else◌, List, [], ◌∷◌, Option, None, Some, option_map, unwrap_or, refl, sym, ap, subst}
+use Rattle.gix_refspec_text.specs.declared.name.Error.TheVariants.{Empty}
+use Rattle.gix_refspec_text.specs.declared.parsing.Error.{Error}
+use Rattle.gix_refspec_text.specs.declared.parsing.Operation.{Operation}
+use Rattle.gix_refspec_text.specs.declared.parsing.Operation.TheVariants.{Push, Fetch}
+use Rattle.gix_refspec_text.specs.declared.parsing.reading.Shape.{Shape}
+use Rattle.gix_refspec_text.specs.declared.parsing.reading.Shape.TheVariants.{Plain, Pattern}
+use Rattle.gix_refspec_text.specs.declared.parsing.reading.Parts.{Parts}
+use Rattle.gix_refspec_text.specs.declared.parsing.reading.Sides.{Sides}
+use Rattle.gix_refspec_text.specs.Texts.Name.{IsName, IsPattern}
+use Rattle.gix_refspec_text.specs.Specs.Reading.{Mode, Normal, Forced, Negative, Reading}
+use Rattle.gix_refspec_text.specs.Specs.Refusal.{Refusal, Never, IsFirstReason, IsRefused, ReachesMemory, MayNeedMemory}
+use Rattle.gix_refspec_text.specs.Texts.Bytes.{head}
+use Rattle.gix_refspec_text.specs.Specs.Grammar.{named_by, IsPositive, IsNameOrPattern, LooksLikeObjectHash, AreAlike, AreParts, fetched, pushed, Reads, fetches_nothing_named, fetches_colon, fetches, updates, updates_from_head, fetch_excludes, pushes_plus, pushes_colon, pushes, deletes, pushes_pattern, pushes_to, push_excludes}
+use Rattle.gix_refspec_text.specs.Views.Instruction.{mode_of}
+use Rattle.gix_refspec_text.specs.Private.Sides.{IsErrorOf, HasShape, HasCheckedShape, side_of, named_or_head, destination_of, HasParts, read_as, IsReasonAgainst}
+use Rattle.bstr.specs.BStr.{bstr_bytes}
+use Rattle.gix_refspec_text.proofs.lemmas.parsing.SideLemmas.{Never-or, checked_starred, empty_no_pattern}
+use Rattle.gix_refspec_text.proofs.lemmas.parsing.PartsLemmas.{Parted, parts_once}
+use Rattle.gix_refspec_text.proofs.lemmas.parsing.ReasonLemmas.{MemoryOr-map, positive, no_empty_fetch, no_negative, no_fetch_nowhere, fetch_source_fine, push_source_fine, alone_fine, destination_fine, sides_balanced}
+
+-- readings with equal sides are equal
+pub same_reading : (op : Operation) (m : Mode) (s t d e : Option (List ℕ)) → s ≡ t → d ≡ e → ◌≡◌ {A = Reading} (record { operation = op; mode = m; source = s; destination = d }) (record { operation = op; mode = m; source = t; destination = e })
+same_reading op m s t d e same_source same_destination = cc
+
+-- what reads with the operation, the mode and the sides of a reading reads as it
+pub read_with : (p : Parts) (sides : Sides) (text : List ℕ) (op : Operation) (m : Mode) (s d : Option (List ℕ)) → p.operation ≡ op → mode_of p.mode ≡ m → option_map bstr_bytes sides.source ≡ s → option_map bstr_bytes sides.destination ≡ d → Reads op text (record { operation = op; mode = m; source = s; destination = d }) → Reads p.operation text (read_as p sides)
+read_with p sides text op m s d same_op same_mode same_source same_destination reads =
+    let made : Reading = record { operation = op; mode = m; source = s; destination = d } in
+    let same : read_as p sides ≡ made = cc in
+    subst (λ o. Reads o text (read_as p sides)) (sym same_op) (subst (Reads op text) (sym same) reads)
+
+-- a source that isn't empty names a text that isn't
+pub side_of-named : (b : ℕ) (bs : List ℕ) → side_of (named_by (b ∷ bs)) ≡ Some (named_by (b ∷ bs))
+side_of-named b [] = elim (b == 64) as (λ v. side_of (if v then head else b ∷ []) ≡ Some (if v then head else b ∷ [])) [ true ↦ refl | false ↦ refl ]
+side_of-named b (c ∷ bs) = refl
+
+-- nor does the source of a fetch
+pub side_of-named_or_head : (s : List ℕ) → side_of (named_or_head s) ≡ Some (named_or_head s)
+side_of-named_or_head [] = refl
+side_of-named_or_head (b ∷ bs) = side_of-named b bs
+
+-- the parts of a positive fetch whose sides are of one kind
+pub fetch_reads : (m : Mode) (s : List ℕ) (d : Option (List ℕ)) (k : Shape) (text : List ℕ) → IsPositive m → HasCheckedShape s k → HasCheckedShape (unwrap_or d []) k → AreParts m s d text → Reads Fetch text (fetched m (named_or_head s) (side_of (unwrap_or d [])))
+fetch_reads m [] None k text pos a b parts = fetches_nothing_named m refl pos parts refl
+fetch_reads m [] (Some []) k text pos a b parts = fetches_colon m refl pos parts refl
+fetch_reads m [] (Some (c ∷ cs)) Plain text pos a b parts = updates_from_head m (c ∷ cs) refl pos parts b refl
+fetch_reads m [] (Some (c ∷ cs)) Pattern text pos a b parts = absurd (empty_no_pattern a)
+fetch_reads m (x ∷ xs) None Plain text pos a b parts = fetches m (x ∷ xs) refl pos (inl parts) a refl
+fetch_reads m (x ∷ xs) None Pattern text pos a b parts = absurd (empty_no_pattern b)
+fetch_reads m (x ∷ xs) (Some []) Plain text pos a b parts = fetches m (x ∷ xs) refl pos (inr parts) a refl
+fetch_reads m (x ∷ xs) (Some []) Pattern text pos a b parts = absurd (empty_no_pattern b)
+fetch_reads m (x ∷ xs) (Some (c ∷ cs)) Plain text pos a b parts = updates m (x ∷ xs) (c ∷ cs) refl pos parts (inl (a, b)) refl
+fetch_reads m (x ∷ xs) (Some (c ∷ cs)) Pattern text pos a b parts = updates m (x ∷ xs) (c ∷ cs) refl pos parts (inr (a, b)) refl
+
+-- a side that isn't empty is a name or a pattern
+checked_name_or_pattern : (b : ℕ) (bs : List ℕ) (k : Shape) → HasCheckedShape (b ∷ bs) k → IsNameOrPattern (b ∷ bs)
+checked_name_or_pattern b bs Plain fine = inl fine
+checked_name_or_pattern b bs Pattern fine = inr fine
+
+-- the parts of a positive push of a source alone
+pub push_alone_reads : (m : Mode) (s : List ℕ) (k : Shape) (text : List ℕ) → IsPositive m → (s ≡ [] → m ≡ Normal → ⊥) → HasCheckedShape s k → AreParts m s None text → Reads Push text (pushed m (side_of (named_by s)) None)
+push_alone_reads Normal [] k text pos full a parts = absurd (full refl refl)
+push_alone_reads Forced [] k text pos full a parts = pushes_plus refl parts refl
+push_alone_reads Negative [] k text pos full a parts = absurd pos
+push_alone_reads m (x ∷ xs) k text pos full a parts = pushes m (x ∷ xs) refl pos parts (checked_name_or_pattern x xs k a) (ap (λ (s : Option (List ℕ)). pushed m s None) (side_of-named x xs))
+
+-- the parts of a positive push to a destination
+pub push_reads : (m : Mode) (s d : List ℕ) (k : Shape) (text : List ℕ) → IsPositive m → (s ≢ [] → d ≡ [] → ⊥) → HasShape s k → HasCheckedShape d k → AreParts m s (Some d) text → Reads Push text (pushed m (side_of (named_by s)) (side_of d))
+push_reads m [] [] k text pos somewhere a b parts = pushes_colon m refl pos parts refl
+push_reads m [] (c ∷ cs) Plain text pos somewhere a b parts = deletes m (c ∷ cs) refl pos parts b refl
+push_reads m [] (c ∷ cs) Pattern text pos somewhere a b parts = absurd (empty_no_pattern a)
+push_reads m (x ∷ xs) [] k text pos somewhere a b parts = absurd (somewhere (λ e. cc) refl)
+push_reads m (x ∷ xs) (c ∷ cs) Plain text pos somewhere a b parts = pushes_to m (x ∷ xs) (c ∷ cs) refl pos parts (λ e. cc) a b (ap (λ (s : Option (List ℕ)). pushed m s (Some (c ∷ cs))) (side_of-named x xs))
+push_reads m (x ∷ xs) (c ∷ cs) Pattern text pos somewhere a b parts = pushes_pattern m (x ∷ xs) (c ∷ cs) refl pos parts a b (ap (λ (s : Option (List ℕ)). pushed m s (Some (c ∷ cs))) (side_of-named x xs))
+
+-- the parts of a negative spec
+pub negative_reads : (op : Operation) (s : List ℕ) (k : Shape) (text : List ℕ) → s ≢ [] → HasCheckedShape s k → ¬ (LooksLikeObjectHash s) → AreParts Negative s None text → Reads op text (record { operation = op; mode = Negative; source = side_of (named_by s); destination = None })
+negative_reads op [] k text full a hash parts = absurd (full refl)
+negative_reads Push (x ∷ xs) k text full a hash parts = push_excludes (x ∷ xs) refl parts (checked_name_or_pattern x xs k a) hash (ap (λ (s : Option (List ℕ)). pushed Negative s None) (side_of-named x xs))
+negative_reads Fetch (x ∷ xs) k text full a hash parts = fetch_excludes (x ∷ xs) refl parts (checked_name_or_pattern x xs k a) hash (ap (λ (s : Option (List ℕ)). record { operation = Fetch; mode = Negative; source = s; destination = None }) (side_of-named x xs))
+
+-- parts that read: a positive fetch with sides of one kind, a positive push of a source alone or with
+-- sides of one kind, and a negative spec with a source that is no object hash
+pub data AreFine (op : Operation) (m : Mode) (s : List ℕ) (d : Option (List ℕ)) : Type 0 where
+  fine_fetch : (k : Shape) → op ≡ Fetch → IsPositive m → HasCheckedShape s k → HasCheckedShape (unwrap_or d []) k → AreFine op m s d
+  fine_alone : (k : Shape) → op ≡ Push → IsPositive m → d ≡ None → (s ≡ [] → m ≡ Normal → ⊥) → HasCheckedShape s k → AreFine op m s d
+  fine_push : (k : Shape) (t : List ℕ) → op ≡ Push → IsPositive m → d ≡ Some t → (s ≢ [] → t ≡ [] → ⊥) → HasShape s k → HasCheckedShape t k → AreFine op m s d
+  fine_negative : (k : Shape) → m ≡ Negative → d ≡ None → s ≢ [] → HasCheckedShape s k → ¬ (LooksLikeObjectHash s) → AreFine op m s d
+
+-- a name, and a pattern, as checked sides
+checked_name : (x : List ℕ) → IsName x → HasCheckedShape x Plain
+checked_name [] name = tt
+checked_name (b ∷ bs) name = name
+
+checked_from_pattern : (x : List ℕ) → IsPattern x → HasCheckedShape x Pattern
+checked_from_pattern [] pattern = pattern
+checked_from_pattern (b ∷ bs) pattern = pattern
+
+-- a name or a pattern as a checked side of some kind
+checked_either : (x : List ℕ) → IsNameOrPattern x → (k : Shape) × HasCheckedShape x k
+checked_either x (inl name) = (Plain, checked_name x name)
+checked_either x (inr pattern) = (Pattern, checked_from_pattern x pattern)
+
+-- a name isn't empty
+pub name_not_empty : (x : List ℕ) → IsName x → x ≢ []
+name_not_empty x name empty = name Empty empty
+
+-- nor is a pattern
+pub pattern_not_empty : (x : List ℕ) → IsPattern x → x ≢ []
+pattern_not_empty x pattern empty = empty_no_pattern (subst IsPattern empty pattern)
+
+either_not_empty : (x : List ℕ) → IsNameOrPattern x → x ≢ []
+either_not_empty x (inl name) = name_not_empty x name
+either_not_empty x (inr pattern) = pattern_not_empty x pattern
+
+-- a sign isn't none
+forced_not_normal : Forced ≡ Normal → ⊥
+forced_not_normal same = absurd (cc)
+
+-- a text in its parts, which are fine
+pub record FineParts (op : Operation) (text : List ℕ) : Type 0 where
+  pub of : Parted text
+  pub fine : AreFine op of.mode of.source of.destination
+
+with_fine : (op : Operation) (m : Mode) (s : List ℕ) (d : Option (List ℕ)) (text : List ℕ) → AreParts m s d text → AreFine op m s d → FineParts op text
+with_fine op m s d text parts fine = record { of = record { mode = m; source = s; destination = d; parts = parts }; fine = fine }
+
+alike_fine : (op : Operation) (m : Mode) (s d : List ℕ) → op ≡ Fetch → IsPositive m → AreAlike s d → AreFine op m s (Some d)
+alike_fine op m s d fetch pos (inl names) = fine_fetch Plain fetch pos (checked_name s names.0) (checked_name d names.1)
+alike_fine op m s d fetch pos (inr patterns) = fine_fetch Pattern fetch pos (checked_from_pattern s patterns.0) (checked_from_pattern d patterns.1)
+
+one_fine : (op : Operation) (m : Mode) (s text : List ℕ) → op ≡ Fetch → IsPositive m → IsName s → AreParts m s None text ⊎ AreParts m s (Some []) text → FineParts op text
+one_fine op m s text fetch pos name (inl parts) = with_fine op m s None text parts (fine_fetch Plain fetch pos (checked_name s name) tt)
+one_fine op m s text fetch pos name (inr parts) = with_fine op m s (Some []) text parts (fine_fetch Plain fetch pos (checked_name s name) tt)
+
+negative_fine : (op : Operation) (s text : List ℕ) → AreParts Negative s None text → IsNameOrPattern s → ¬ (LooksLikeObjectHash s) → FineParts op text
+negative_fine op s text parts either hash =
+    let side = checked_either s either in
+    with_fine op Negative s None text parts (fine_negative side.0 refl refl (either_not_empty s either) side.1 hash)
+
+-- what reads has fine parts
+pub fine_parts : (op : Operation) (text : List ℕ) (r : Reading) → Reads op text r → FineParts op text
+fine_parts op text r (fetches_nothing_named m fetch pos parts _) = with_fine op m [] None text parts (fine_fetch Plain fetch pos tt tt)
+fine_parts op text r (fetches_colon m fetch pos parts _) = with_fine op m [] (Some []) text parts (fine_fetch Plain fetch pos tt tt)
+fine_parts op text r (fetches m s fetch pos parts name _) = one_fine op m s text fetch pos name parts
+fine_parts op text r (updates m s d fetch pos parts alike _) = with_fine op m s (Some d) text parts (alike_fine op m s d fetch pos alike)
+fine_parts op text r (updates_from_head m d fetch pos parts name _) = with_fine op m [] (Some d) text parts (fine_fetch Plain fetch pos tt (checked_name d name))
+fine_parts op text r (fetch_excludes s fetch parts either hash _) = negative_fine op s text parts either hash
+fine_parts op text r (pushes_plus push parts _) = with_fine op Forced [] None text parts (fine_alone Plain push tt refl (λ _ forced. forced_not_normal forced) tt)
+fine_parts op text r (pushes_colon m push pos parts _) = with_fine op m [] (Some []) text parts (fine_push Plain [] push pos refl (λ full _. full refl) tt tt)
+fine_parts op text r (pushes m s push pos parts either _) =
+    let side = checked_either s either in
+    with_fine op m s None text parts (fine_alone side.0 push pos refl (λ empty _. either_not_empty s either empty) side.1)
+fine_parts op text r (deletes m d push pos parts name _) = with_fine op m [] (Some d) text parts (fine_push Plain d push pos refl (λ full _. full refl) tt (checked_name d name))
+fine_parts op text r (pushes_pattern m s d push pos parts source destination _) = with_fine op m s (Some d) text parts (fine_push Pattern d push pos refl (λ _ empty. pattern_not_empty d destination empty) source (checked_from_pattern d destination))
+fine_parts op text r (pushes_to m s d push pos parts full plain name _) = with_fine op m s (Some d) text parts (fine_push Plain d push pos refl (λ _ empty. name_not_empty d name empty) plain (checked_name d name))
+fine_parts op text r (push_excludes s push parts either hash _) = negative_fine op s text parts either hash
+
+-- no reason is against a positive fetch, a push of a source alone, a push, and a negative spec that are fine
+no_reason_fetch : (m : Mode) (s : List ℕ) (d : Option (List ℕ)) (k : Shape) → IsPositive m → HasCheckedShape s k → HasCheckedShape (unwrap_or d []) k → Never (IsFirstReason Fetch m s d)
+no_reason_fetch m s d k pos a b =
+    Never-or (no_empty_fetch m s d) (Never-or (no_negative m d pos) (Never-or (no_fetch_nowhere s d)
+    (Never-or (fetch_source_fine s d k a) (Never-or (destination_fine d k b)
+    (Never-or (λ e h. sides_balanced s (unwrap_or d []) k (checked_starred s k a) (checked_starred (unwrap_or d []) k b) h.one)
+    (Never-or (λ e h. positive m pos h.negative) (λ e h. positive m pos h.negative)))))))
+
+no_reason_alone : (m : Mode) (s : List ℕ) (k : Shape) → IsPositive m → (s ≡ [] → m ≡ Normal → ⊥) → HasCheckedShape s k → Never (IsFirstReason Push m s None)
+no_reason_alone m s k pos full a =
+    Never-or (λ e h. full h.no_source h.unsigned) (Never-or (no_negative m None pos) (Never-or (λ e h. let i = h.nowhere in absurd (cc))
+    (Never-or (alone_fine Push s k a) (Never-or (λ e h. let i = h.is in absurd (cc))
+    (Never-or (λ e h. h.has_destination refl refl)
+    (Never-or (λ e h. positive m pos h.negative) (λ e h. positive m pos h.negative)))))))
+
+no_reason_push : (m : Mode) (s t : List ℕ) (k : Shape) → IsPositive m → (s ≢ [] → t ≡ [] → ⊥) → HasShape s k → HasCheckedShape t k → Never (IsFirstReason Push m s (Some t))
+no_reason_push m s t k pos somewhere a b =
+    Never-or (λ e h. let i = h.no_colon in absurd (cc)) (Never-or (no_negative m (Some t) pos)
+    (Never-or (λ e h. let i = h.nowhere in let empty : t ≡ [] = cc in somewhere h.source empty)
+    (Never-or (push_source_fine s t k a) (Never-or (destination_fine (Some t) k b)
+    (Never-or (λ e h. sides_balanced s t k a (checked_starred t k b) h.one)
+    (Never-or (λ e h. positive m pos h.negative) (λ e h. positive m pos h.negative)))))))
+
+no_reason_negative : (op : Operation) (s : List ℕ) (k : Shape) → s ≢ [] → HasCheckedShape s k → ¬ (LooksLikeObjectHash s) → Never (IsFirstReason op Negative s None)
+no_reason_negative op s k full a hash =
+    Never-or (λ e h. let i = h.unsigned in absurd (cc)) (Never-or (λ e h. let i = h.colon in absurd (cc)) (Never-or (λ e h. let i = h.nowhere in absurd (cc))
+    (Never-or (alone_fine op s k a) (Never-or (λ e h. let i = h.is in absurd (cc))
+    (Never-or (λ e h. h.positive)
+    (Never-or (λ e h. full h.no_source) (λ e h. hash h.hash)))))))
+
+-- no reason is against fine parts
+pub no_reason : (op : Operation) (m : Mode) (s : List ℕ) (d : Option (List ℕ)) → AreFine op m s d → Never (IsFirstReason op m s d)
+no_reason op m s d (fine_fetch k fetch pos a b) e =
+    subst (λ (o : Operation). ¬ (IsFirstReason o m s d e)) (sym fetch) (no_reason_fetch m s d k pos a b e)
+no_reason op m s d (fine_alone k push pos none full a) e =
+    subst (λ (o : Operation). ¬ (IsFirstReason o m s d e)) (sym push)
+    (subst (λ (x : Option (List ℕ)). ¬ (IsFirstReason Push m s x e)) (sym none) (no_reason_alone m s k pos full a e))
+no_reason op m s d (fine_push k t push pos some somewhere a b) e =
+    subst (λ (o : Operation). ¬ (IsFirstReason o m s d e)) (sym push)
+    (subst (λ (x : Option (List ℕ)). ¬ (IsFirstReason Push m s x e)) (sym some) (no_reason_push m s t k pos somewhere a b e))
+no_reason op m s d (fine_negative k negative none full a hash) e =
+    subst (λ (n : Mode). ¬ (IsFirstReason op n s d e)) (sym negative)
+    (subst (λ (x : Option (List ℕ)). ¬ (IsFirstReason op Negative s x e)) (sym none) (no_reason_negative op s k full a hash e))
+
+-- a text with a reason against its parts reads as nothing
+pub unread : (op : Operation) (m : Mode) (s : List ℕ) (d : Option (List ℕ)) (text : List ℕ) (e : Refusal) (r : Reading) → AreParts m s d text → IsFirstReason op m s d e → ¬ (Reads op text r)
+unread op m s d text e r parts first reads =
+    let fine = fine_parts op text r reads in
+    let p = fine.of in
+    let same = parts_once m p.mode s p.source d p.destination text parts p.parts in
+    let moved_mode = subst (λ (n : Mode). IsFirstReason op n s d e) same.mode first in
+    let moved_source = subst (λ (t : List ℕ). IsFirstReason op p.mode t d e) same.source moved_mode in
+    let moved = subst (λ (u : Option (List ℕ)). IsFirstReason op p.mode p.source u e) same.destination moved_source in
+    no_reason op p.mode p.source p.destination fine.fine e moved
+
+-- a reason against a text's parts refuses it
+pub refused : (op : Operation) (m : Mode) (s : List ℕ) (d : Option (List ℕ)) (text : List ℕ) (e : Refusal) → AreParts m s d text → IsFirstReason op m s d e → IsRefused op text e
+refused op m s d text e parts first = record { unread = λ r. unread op m s d text e r parts first; mode = m; source = s; destination = d; parts = parts; first = first }
+
+-- an error of the parts that a text was cut into is an error of the text
+pub error_of_text : (p : Parts) (bytes text : List ℕ) (e : Error) → bytes ≡ text → HasParts bytes p → IsReasonAgainst p e → IsErrorOf p.operation text e
+error_of_text p bytes text e same cut =
+    let parts = subst (λ (x : List ℕ). HasParts x p) same cut in
+    let op = p.operation in
+    let m = mode_of p.mode in
+    let s = p.source.now in
+    let d = destination_of p in
+    MemoryOr-map (ReachesMemory op m s d) (MayNeedMemory op text) (IsFirstReason op m s d) (IsRefused op text) e
+    (λ reaches. record { mode = m; source = s; destination = d; parts = parts; reaches = reaches })
+    (λ f first. refused op m s d text f parts first)

@@ -1,0 +1,174 @@
+-- The first reason against parts, and that there is none against fine ones.
+use Rattle.std.proofs.Common.{◌≡◌, ◌≢◌, inl, inr, ℕ, List, [], Option, None, Some, unwrap_or, refl, ap, subst}
+use Rattle.gix_refspec_text.specs.declared.parsing.Operation.{Operation}
+use Rattle.gix_refspec_text.specs.declared.parsing.Operation.TheVariants.{Push, Fetch}
+use Rattle.gix_refspec_text.specs.declared.parsing.reading.Shape.{Shape}
+use Rattle.gix_refspec_text.specs.declared.parsing.reading.Shape.TheVariants.{Plain, Pattern}
+use Rattle.gix_refspec_text.specs.declared.parsing.Error.{Error}
+use Rattle.gix_refspec_text.specs.Texts.Name.{HasStar}
+use Rattle.gix_refspec_text.specs.Texts.Bytes.{star}
+use Rattle.gix_refspec_text.specs.Specs.Reading.{Mode, Normal, Negative}
+use Rattle.gix_refspec_text.specs.Specs.Refusal.{Refusal, PatternUnbalanced, NegativeEmpty, NegativeObjectHash, IsBadPattern, IsEmptyPush, HasNegativeDestination, PushesNowhere, HasBadSource, HasBadDestination, IsUnbalanced, IsOneStarred, Never, IsFirstReason, NeedsMemory, NoReasonBeforeSource, ReachesMemory}
+use Rattle.gix_refspec_text.specs.Specs.Grammar.{IsPositive, LooksLikeObjectHash}
+use Rattle.gix_refspec_text.specs.Private.Sides.{MemoryOr, HasShape, HasCheckedShape, IsBadSide, IsReason}
+use Rattle.gix_refspec_text.specs.declared.parsing.Error.TheVariants as error
+use Rattle.gix_refspec_text.proofs.lemmas.texts.TextLemmas.{Lacks-Holds}
+use Rattle.gix_refspec_text.proofs.lemmas.parsing.SideLemmas.{checked_fine, starred_fine, checked_starred, HasStar-pattern, HasStar-bad}
+
+-- an error for P, or for memory, is one for what follows from it
+pub MemoryOr-map : (M N : Type 0) (P Q : Refusal → Type 0) (e : Error) → (M → N) → ((f : Refusal) → P f → Q f) → MemoryOr M P e → MemoryOr N Q e
+MemoryOr-map M N P Q error.Memory m p h = m h
+MemoryOr-map M N P Q e m p h = (h.0, h.1, p h.0 h.2)
+
+-- a positive mode isn't negative
+pub positive : (m : Mode) → IsPositive m → m ≡ Negative → ⊥
+positive m pos same = subst IsPositive same pos
+
+pub no_empty_fetch : (m : Mode) (s : List ℕ) (d : Option (List ℕ)) → Never (IsEmptyPush Fetch m s d)
+no_empty_fetch m s d e h = let p = h.push in absurd (cc)
+
+pub no_fetch_nowhere : (s : List ℕ) (d : Option (List ℕ)) → Never (PushesNowhere Fetch s d)
+no_fetch_nowhere s d e h = let p = h.push in absurd (cc)
+
+pub no_negative : (m : Mode) (d : Option (List ℕ)) → IsPositive m → Never (HasNegativeDestination m d)
+no_negative m d pos e h = positive m pos h.negative
+
+-- no reason before the source's applies to a positive fetch
+pub fetch_reaches : (m : Mode) (s : List ℕ) (d : Option (List ℕ)) → IsPositive m → NoReasonBeforeSource Fetch m s d
+fetch_reaches m s d pos = (no_empty_fetch m s d, no_negative m d pos, no_fetch_nowhere s d)
+
+-- nor to a positive push to a destination
+pub push_reaches : (m : Mode) (s t : List ℕ) → IsPositive m → (s ≢ [] → t ≡ [] → ⊥) → NoReasonBeforeSource Push m s (Some t)
+push_reaches m s t pos somewhere = (
+  λ e h. let i = h.no_colon in absurd (cc),
+  no_negative m (Some t) pos,
+  λ e h. let i = h.nowhere in let empty : t ≡ [] = cc in somewhere h.source empty,
+)
+
+-- a bad pattern isn't empty, and is a bad source of a push to a destination
+pub bad_source_of_push : (s t : List ℕ) (f : Refusal) → IsBadPattern s f → HasBadSource Push s (Some t) f
+bad_source_of_push s t f bad = record { source = λ empty. Lacks-Holds star [] tt (subst HasStar empty (HasStar-bad s f bad)); refusal = bad }
+
+-- a text with a star isn't empty
+pub starred_not_empty : (t : List ℕ) → HasStar t → t ≢ []
+starred_not_empty t has empty = Lacks-Holds star [] tt (subst HasStar empty has)
+
+-- nor to a positive push of a source alone, unless the text is empty
+pub push_alone_reaches : (m : Mode) (s : List ℕ) → IsPositive m → (s ≡ [] → m ≡ Normal → ⊥) → NoReasonBeforeSource Push m s None
+push_alone_reaches m s pos full = (λ e h. full h.no_source h.unsigned, no_negative m None pos, λ e h. let i = h.nowhere in absurd (cc))
+
+-- memory may be needed at the source
+pub memory_at_source : (op : Operation) (m : Mode) (s : List ℕ) (d : Option (List ℕ)) → NoReasonBeforeSource op m s d → NeedsMemory s → ReachesMemory op m s d
+memory_at_source op m s None reached needs = (reached, needs)
+memory_at_source op m s (Some d) reached needs = (reached, inl needs)
+
+-- the reasons at the source, at the destination, and of their balance
+pub reason_at_source : (op : Operation) (m : Mode) (s : List ℕ) (d : Option (List ℕ)) (e : Refusal) → NoReasonBeforeSource op m s d → HasBadSource op s d e → IsFirstReason op m s d e
+reason_at_source op m s d e before bad = inr (before.0, inr (before.1, inr (before.2, inl bad)))
+
+pub reason_at_destination : (op : Operation) (m : Mode) (s : List ℕ) (d : Option (List ℕ)) (e : Refusal) → NoReasonBeforeSource op m s d → Never (HasBadSource op s d) → HasBadDestination d e → IsFirstReason op m s d e
+reason_at_destination op m s d e before source bad = inr (before.0, inr (before.1, inr (before.2, inr (source, inl bad))))
+
+pub reason_of_balance : (op : Operation) (m : Mode) (s : List ℕ) (d : Option (List ℕ)) (e : Refusal) → NoReasonBeforeSource op m s d → Never (HasBadSource op s d) → Never (HasBadDestination d) → IsUnbalanced op m s d e → IsFirstReason op m s d e
+reason_of_balance op m s d e before source destination bad = inr (before.0, inr (before.1, inr (before.2, inr (source, inr (destination, inl bad)))))
+
+-- nothing is against a checked source, or against the starred source of a push beside a destination
+pub fetch_source_fine : (s : List ℕ) (d : Option (List ℕ)) (k : Shape) → HasCheckedShape s k → Never (HasBadSource Fetch s d)
+fetch_source_fine s d k fine e bad = checked_fine s k fine e (bad.source, bad.refusal)
+
+pub push_source_fine : (s d : List ℕ) (k : Shape) → HasShape s k → Never (HasBadSource Push s (Some d))
+push_source_fine s d k fine e bad = starred_fine s k fine e bad.refusal
+
+pub push_alone_fine : (s : List ℕ) (k : Shape) → HasCheckedShape s k → Never (HasBadSource Push s None)
+push_alone_fine s k fine e bad = checked_fine s k fine e (bad.source, bad.refusal)
+
+pub alone_fine : (op : Operation) (s : List ℕ) (k : Shape) → HasCheckedShape s k → Never (HasBadSource op s None)
+alone_fine Push s k fine = push_alone_fine s k fine
+alone_fine Fetch s k fine = fetch_source_fine s None k fine
+
+-- nothing is against a checked destination
+pub destination_fine : (d : Option (List ℕ)) (k : Shape) → HasCheckedShape (unwrap_or d []) k → Never (HasBadDestination d)
+destination_fine d k fine e bad =
+    let here : unwrap_or d [] ≡ bad.word = ap (λ (x : Option (List ℕ)). unwrap_or x []) bad.is in
+    checked_fine bad.word k (subst (λ (x : List ℕ). HasCheckedShape x k) here fine) e (bad.destination, bad.refusal)
+
+-- two sides of one kind are balanced
+pub sides_balanced : (s t : List ℕ) (k : Shape) → HasShape s k → HasShape t k → IsOneStarred s t → ⊥
+sides_balanced s t Plain a b (inl h) = Lacks-Holds star s a h.0
+sides_balanced s t Plain a b (inr h) = Lacks-Holds star t b h.1
+sides_balanced s t Pattern a b (inl h) = Lacks-Holds star t h.1 (HasStar-pattern t b)
+sides_balanced s t Pattern a b (inr h) = Lacks-Holds star s h.0 (HasStar-pattern s a)
+
+-- two sides of two kinds aren't
+pub sides_unbalanced : (s t : List ℕ) (j k : Shape) → HasShape s j → HasShape t k → j ≢ k → IsOneStarred s t
+sides_unbalanced s t Plain Plain a b differ = absurd (differ refl)
+sides_unbalanced s t Plain Pattern a b differ = inr (a, HasStar-pattern t b)
+sides_unbalanced s t Pattern Plain a b differ = inl (HasStar-pattern s a, b)
+sides_unbalanced s t Pattern Pattern a b differ = absurd (differ refl)
+
+-- an unbalanced push has a destination
+pub unbalanced_somewhere : (s t : List ℕ) → IsOneStarred s t → (s ≢ [] → t ≡ [] → ⊥) → t ≢ []
+unbalanced_somewhere s t (inl h) somewhere empty = somewhere (starred_not_empty s h.0) empty
+unbalanced_somewhere s t (inr h) somewhere empty = starred_not_empty t h.1 empty
+
+-- the empty text never needs memory
+pub empty_needs_none : NeedsMemory [] → ⊥
+empty_needs_none (inl several) = Lacks-Holds star [] tt (record { before = several.before; after = _; here = several.here })
+empty_needs_none (inr long) = Lacks-Holds star [] tt long.0
+
+-- a bad side after the colon is a bad destination
+pub bad_destination : (d : Option (List ℕ)) (e : Refusal) → IsBadSide (unwrap_or d []) e → HasBadDestination d e
+bad_destination None e bad = absurd (bad.0 refl)
+bad_destination (Some d) e bad = record { word = d; is = refl; destination = bad.0; refusal = bad.1 }
+
+pub memory_at_destination : (op : Operation) (m : Mode) (s : List ℕ) (d : Option (List ℕ)) → NoReasonBeforeSource op m s d → Never (HasBadSource op s d) → NeedsMemory (unwrap_or d []) → ReachesMemory op m s d
+memory_at_destination op m s None before source needs = absurd (empty_needs_none needs)
+memory_at_destination op m s (Some d) before source needs = (before, inr (source, needs))
+
+-- an error at the source
+pub error_at_source : (op : Operation) (m : Mode) (s : List ℕ) (d : Option (List ℕ)) (P : Refusal → Type 0) (e : Error) → NoReasonBeforeSource op m s d → ((f : Refusal) → P f → HasBadSource op s d f) → MemoryOr (NeedsMemory s) P e → IsReason op m s d e
+error_at_source op m s d P e before bad =
+    MemoryOr-map (NeedsMemory s) (ReachesMemory op m s d) P (IsFirstReason op m s d) e (memory_at_source op m s d before)
+    (λ f h. reason_at_source op m s d f before (bad f h))
+
+-- an error at the destination
+pub error_at_destination : (op : Operation) (m : Mode) (s : List ℕ) (d : Option (List ℕ)) (e : Error) → NoReasonBeforeSource op m s d → Never (HasBadSource op s d) → MemoryOr (NeedsMemory (unwrap_or d [])) (IsBadSide (unwrap_or d [])) e → IsReason op m s d e
+error_at_destination op m s d e before source =
+    MemoryOr-map (NeedsMemory (unwrap_or d [])) (ReachesMemory op m s d) (IsBadSide (unwrap_or d [])) (IsFirstReason op m s d) e (memory_at_destination op m s d before source)
+    (λ f h. reason_at_destination op m s d f before source (bad_destination d f h))
+
+-- no reason before the source's applies to a negative spec without a colon
+pub negative_reaches : (op : Operation) (s : List ℕ) → NoReasonBeforeSource op Negative s None
+negative_reaches op s = (λ e h. let i = h.unsigned in absurd (cc), λ e h. let i = h.colon in absurd (cc), λ e h. let i = h.nowhere in absurd (cc))
+
+-- the reason against a negative spec of an object
+pub reason_against_object : (op : Operation) (s : List ℕ) (k : Shape) → s ≢ [] → HasCheckedShape s k → LooksLikeObjectHash s → IsFirstReason op Negative s None NegativeObjectHash
+reason_against_object op s k full a hash =
+    let before = negative_reaches op s in
+    inr (before.0, inr (before.1, inr (before.2, inr (alone_fine op s k a, inr (λ e h. let i = h.is in absurd (cc), inr (λ e h. h.positive, inr (λ e h. full h.no_source, record { negative = refl; hash = hash; refusal = refl })))))))
+
+-- the reason against a negative spec of nothing
+pub reason_against_nothing : (op : Operation) (s : List ℕ) (k : Shape) → s ≡ [] → HasCheckedShape s k → IsFirstReason op Negative s None NegativeEmpty
+reason_against_nothing op s k empty a =
+    let before = negative_reaches op s in
+    inr (before.0, inr (before.1, inr (before.2, inr (alone_fine op s k a, inr (λ e h. let i = h.is in absurd (cc), inr (λ e h. h.positive, inl (record { negative = refl; no_source = empty; refusal = refl })))))))
+
+-- a bad side alone is a bad source
+pub bad_negative : (op : Operation) (s : List ℕ) (e : Refusal) → IsBadSide s e → HasBadSource op s None e
+bad_negative Push s e bad = record { source = bad.0; refusal = bad.1 }
+bad_negative Fetch s e bad = record { source = bad.0; refusal = bad.1 }
+
+-- the reason against a fetch of sides of two kinds
+pub unbalanced_fetch : (m : Mode) (s : List ℕ) (d : Option (List ℕ)) (j k : Shape) → IsPositive m → HasCheckedShape s j → HasCheckedShape (unwrap_or d []) k → j ≢ k → IsFirstReason Fetch m s d PatternUnbalanced
+unbalanced_fetch m s d j k pos source target differ =
+    let t = unwrap_or d [] in
+    let one = sides_unbalanced s t j k (checked_starred s j source) (checked_starred t k target) differ in
+    reason_of_balance Fetch m s d PatternUnbalanced (fetch_reaches m s d pos) (fetch_source_fine s d j source) (destination_fine d k target)
+    (record { positive = pos; one = one; has_destination = λ push. absurd (cc); refusal = refl })
+
+-- the reason against a push of sides of two kinds
+pub unbalanced_push : (m : Mode) (s t : List ℕ) (j k : Shape) → IsPositive m → (s ≢ [] → t ≡ [] → ⊥) → HasShape s j → HasCheckedShape t k → j ≢ k → IsFirstReason Push m s (Some t) PatternUnbalanced
+unbalanced_push m s t j k pos somewhere source target differ =
+    let one = sides_unbalanced s t j k source (checked_starred t k target) differ in
+    reason_of_balance Push m s (Some t) PatternUnbalanced (push_reaches m s t pos somewhere) (push_source_fine s t j source) (destination_fine (Some t) k target)
+    (record { positive = pos; one = one; has_destination = λ _. unbalanced_somewhere s t one somewhere; refusal = refl })

@@ -1,0 +1,222 @@
+-- Each text has parts, and parts read or have a first reason against them.
+use Rattle.std.proofs.Common.{◌≡◌, ◌≢◌, ◌⊎◌, inl, inr, ℕ, true, List, [], ◌∷◌, ◌++◌, Option, None, Some, unwrap_or, length, nat_le, refl, sym, ap, ◌∙◌, subst}
+use Rattle.std.specs.List.{AllByRecursion}
+use Rattle.std.specs.Char.{is_ascii_hexdigit}
+use Rattle.std.proofs.lemmas.Bool.{false≢true, leb-true, le-leb}
+use Rattle.std.proofs.lemmas.List.Elements.{All-from_recursion, recursion_from_All}
+use Rattle.gix_refspec_text.specs.declared.parsing.Operation.{Operation}
+use Rattle.gix_refspec_text.specs.declared.parsing.Operation.TheVariants.{Push, Fetch}
+use Rattle.gix_refspec_text.specs.declared.parsing.reading.Shape.{Shape}
+use Rattle.gix_refspec_text.specs.declared.parsing.reading.Shape.TheVariants.{Plain, Pattern}
+use Rattle.gix_refspec_text.specs.Texts.Words.{Lacks}
+use Rattle.gix_refspec_text.specs.Texts.Bytes.{star, letter, plus, caret, colon}
+use Rattle.gix_refspec_text.specs.Texts.Name.{ReplacesStar}
+use Rattle.gix_refspec_text.specs.Specs.Reading.{Mode, Normal, Forced, Negative, Reading}
+use Rattle.gix_refspec_text.specs.Specs.Refusal.{Refusal, Empty, NegativeWithDestination, PushToEmpty, PatternUnsupported, ReferenceName, PatternUnbalanced, NegativeEmpty, NegativeObjectHash, IsBadPattern, IsFirstReason, IsRefused}
+use Rattle.gix_refspec_text.specs.Specs.Grammar.{named_by, IsSigned, IsPositive, with_colon, LastLacksColon, AreParts, LooksLikeObjectHash, Reads, fetched, pushed}
+use Rattle.gix_refspec_text.specs.Private.Sides.{HasShape, HasCheckedShape, IsBadSide, side_of, named_or_head}
+use Rattle.gix_refspec_text.proofs.lemmas.parsing.DecideLemmas.{Decided, FirstPlace, tested, decided_byte, name_or_fault, lacks_or_first}
+use Rattle.gix_refspec_text.proofs.lemmas.parsing.PartsLemmas.{Parted}
+use Rattle.gix_refspec_text.proofs.lemmas.parsing.ReasonLemmas.{fetch_reaches, push_reaches, push_alone_reaches, negative_reaches, reason_at_source, reason_at_destination, reason_against_object, reason_against_nothing, fetch_source_fine, push_source_fine, bad_destination, bad_source_of_push, unbalanced_fetch, unbalanced_push, bad_negative, no_negative}
+use Rattle.gix_refspec_text.proofs.lemmas.parsing.ReadsLemmas.{fetch_reads, push_alone_reads, push_reads, negative_reads, refused}
+
+-- a text without a star or a pattern, or a bad pattern
+abbrev pub Starred : List ℕ → Type 0
+Starred x = ((k : Shape) × HasShape x k) ⊎ ((e : Refusal) × IsBadPattern x e)
+
+one_star : (x : List ℕ) (place : FirstPlace star x) → Lacks star place.after → Starred x
+one_star x place lacks =
+    let y = place.before ++ (letter ∷ place.after) in
+    let replaces : ReplacesStar x y = record { before = place.before; after = place.after; cut = record { starred = place.here; first = place.first; last = lacks }; replaced = refl } in
+    elim (name_or_fault y) [
+      | inl name ↦ inl (Pattern, record { with_letter = y; replaces = replaces; name = name })
+      | inr fault ↦ inr (ReferenceName fault.0, (y, replaces, fault.1))
+    ]
+
+pub starred : (x : List ℕ) → Starred x
+starred x = elim (lacks_or_first star x) [
+  | inl lacks ↦ inl (Plain, lacks)
+  | inr place ↦ elim (lacks_or_first star place.after) [
+    | inl lacks ↦ one_star x place lacks
+    | inr second ↦ inr (PatternUnsupported x, (record { before = place.before; between = second.before; after = second.after; here = place.here ∙ ap (λ z. place.before ++ (star ∷ z)) second.here }, refl))
+  ]
+]
+
+-- a missing side, a name or a pattern, or a bad side
+abbrev pub Checked : List ℕ → Type 0
+Checked x = ((k : Shape) × HasCheckedShape x k) ⊎ ((e : Refusal) × IsBadSide x e)
+
+checked_by : (b : ℕ) (x : List ℕ) (k : Shape) → HasShape (b ∷ x) k → Checked (b ∷ x)
+checked_by b x Plain lacks = elim (name_or_fault (b ∷ x)) [
+  | inl name ↦ inl (Plain, name)
+  | inr fault ↦ inr (ReferenceName fault.0, ((λ same. cc), inl (lacks, fault.1)))
+]
+checked_by b x Pattern pattern = inl (Pattern, pattern)
+
+pub checked : (x : List ℕ) → Checked x
+checked [] = inl (Plain, tt)
+checked (b ∷ x) = elim (starred (b ∷ x)) [
+  | inl side ↦ checked_by b x side.0 side.1
+  | inr bad ↦ inr (bad.0, ((λ same. cc), inr bad.1))
+]
+
+-- whether two sides are of one kind
+decided_side : (j k : Shape) → Decided (j ≡ k)
+decided_side Plain Plain = inl refl
+decided_side Plain Pattern = inr (λ same. absurd (cc))
+decided_side Pattern Plain = inr (λ same. absurd (cc))
+decided_side Pattern Pattern = inl refl
+
+-- whether a text is empty
+decided_empty : (x : List ℕ) → Decided (x ≡ [])
+decided_empty [] = inl refl
+decided_empty (b ∷ x) = inr (λ same. cc)
+
+-- whether a text looks like an object hash
+all_digits : (x : List ℕ) → Decided (AllByRecursion (λ b. is_ascii_hexdigit b ≡ true) x)
+all_digits [] = inl tt
+all_digits (b ∷ x) = elim (tested (is_ascii_hexdigit b)) [
+  | inr other ↦ inr (λ all. false≢true (sym other ∙ all.0))
+  | inl digit ↦ elim (all_digits x) [ inl digits ↦ inl (digit, digits) | inr other ↦ inr (λ all. other all.1) ]
+]
+
+decided_hash : (x : List ℕ) → Decided (LooksLikeObjectHash x)
+decided_hash x = elim (tested (nat_le 40 (length x))) [
+  | inr short ↦ inr (λ hash. false≢true (sym short ∙ le-leb 40 (length x) hash.long))
+  | inl long ↦ elim (all_digits x) [
+    | inr other ↦ inr (λ hash. other (recursion_from_All (λ b. is_ascii_hexdigit b ≡ true) x hash.digits))
+    | inl digits ↦ inl (record { long = leb-true 40 (length x) long; digits = All-from_recursion (λ b. is_ascii_hexdigit b ≡ true) x digits })
+  ]
+]
+
+-- each text with these parts reads as r
+abbrev pub PartsRead : Operation → Mode → List ℕ → Option (List ℕ) → Reading → Type 0
+PartsRead op m s d r = (text : List ℕ) → AreParts m s d text → Reads op text r
+
+-- parts read, or there is a first reason against them
+abbrev pub Settled : Operation → Mode → List ℕ → Option (List ℕ) → Type 0
+Settled op m s d = ((r : Reading) × PartsRead op m s d r) ⊎ ((e : Refusal) × IsFirstReason op m s d e)
+
+settled_fetch : (m : Mode) (s : List ℕ) (d : Option (List ℕ)) → IsPositive m → Settled Fetch m s d
+settled_fetch m s d pos = elim (checked s) [
+  | inr bad ↦ inr (bad.0, reason_at_source Fetch m s d bad.0 (fetch_reaches m s d pos) (record { source = bad.1.0; refusal = bad.1.1 }))
+  | inl source ↦ elim (checked (unwrap_or d [])) [
+    | inr bad ↦ inr (bad.0, reason_at_destination Fetch m s d bad.0 (fetch_reaches m s d pos) (fetch_source_fine s d source.0 source.1) (bad_destination d bad.0 bad.1))
+    | inl target ↦ elim (decided_side source.0 target.0) [
+      | inl same ↦ inl (
+        fetched m (named_or_head s) (side_of (unwrap_or d [])),
+        λ text parts. fetch_reads m s d source.0 text pos source.1 (subst (λ (k : Shape). HasCheckedShape (unwrap_or d []) k) (sym same) target.1) parts,
+      )
+      | inr differ ↦ inr (PatternUnbalanced, unbalanced_fetch m s d source.0 target.0 pos source.1 target.1 differ)
+    ]
+  ]
+]
+
+settled_alone : (m : Mode) (s : List ℕ) → IsPositive m → (s ≡ [] → m ≡ Normal → ⊥) → Settled Push m s None
+settled_alone m s pos full = elim (checked s) [
+  | inr bad ↦ inr (bad.0, reason_at_source Push m s None bad.0 (push_alone_reaches m s pos full) (record { source = bad.1.0; refusal = bad.1.1 }))
+  | inl source ↦ inl (pushed m (side_of (named_by s)) None, λ text parts. push_alone_reads m s source.0 text pos full source.1 parts)
+]
+
+settled_push_alone : (m : Mode) (s : List ℕ) → IsPositive m → Settled Push m s None
+settled_push_alone Normal [] pos = inr (Empty, inl (record { push = refl; unsigned = refl; no_source = refl; no_colon = refl; refusal = refl }))
+settled_push_alone Normal (b ∷ s) pos = settled_alone Normal (b ∷ s) pos (λ empty normal. cc)
+settled_push_alone Forced s pos = settled_alone Forced s pos (λ empty normal. absurd (cc))
+settled_push_alone Negative s pos = absurd pos
+
+settled_to : (m : Mode) (s t : List ℕ) → IsPositive m → (s ≢ [] → t ≡ [] → ⊥) → Settled Push m s (Some t)
+settled_to m s t pos somewhere = elim (starred s) [
+  | inr bad ↦ inr (bad.0, reason_at_source Push m s (Some t) bad.0 (push_reaches m s t pos somewhere) (bad_source_of_push s t bad.0 bad.1))
+  | inl source ↦ elim (checked t) [
+    | inr bad ↦ inr (bad.0, reason_at_destination Push m s (Some t) bad.0 (push_reaches m s t pos somewhere) (push_source_fine s t source.0 source.1) (bad_destination (Some t) bad.0 bad.1))
+    | inl target ↦ elim (decided_side source.0 target.0) [
+      | inl same ↦ inl (
+        pushed m (side_of (named_by s)) (side_of t),
+        λ text parts. push_reads m s t source.0 text pos somewhere source.1 (subst (λ (k : Shape). HasCheckedShape t k) (sym same) target.1) parts,
+      )
+      | inr differ ↦ inr (PatternUnbalanced, unbalanced_push m s t source.0 target.0 pos somewhere source.1 target.1 differ)
+    ]
+  ]
+]
+
+settled_push : (m : Mode) (s t : List ℕ) → IsPositive m → Settled Push m s (Some t)
+settled_push m s t pos = elim (decided_empty t) [
+  | inr full ↦ settled_to m s t pos (λ _ empty. full empty)
+  | inl empty ↦ elim (decided_empty s) [
+    | inl nothing ↦ settled_to m s t pos (λ full _. full nothing)
+    | inr full ↦ inr (PushToEmpty, inr ((λ e h. let i = h.no_colon in absurd (cc)), inr (no_negative m (Some t) pos, inl (record { push = refl; source = full; nowhere = ap (λ (x : List ℕ). Some x) empty; refusal = refl }))))
+  ]
+]
+
+settled_negative : (op : Operation) (s : List ℕ) (d : Option (List ℕ)) → Settled op Negative s d
+settled_negative op s (Some t) = inr (NegativeWithDestination, inr ((λ e h. let i = h.no_colon in absurd (cc)), inl (record { negative = refl; colon = refl; refusal = refl })))
+settled_negative op s None = elim (checked s) [
+  | inr bad ↦ inr (bad.0, reason_at_source op Negative s None bad.0 (negative_reaches op s) (bad_negative op s bad.0 bad.1))
+  | inl source ↦ elim (decided_empty s) [
+    | inl empty ↦ inr (NegativeEmpty, reason_against_nothing op s source.0 empty source.1)
+    | inr full ↦ elim (decided_hash s) [
+      | inl hash ↦ inr (NegativeObjectHash, reason_against_object op s source.0 full source.1 hash)
+      | inr other ↦ inl (record { operation = op; mode = Negative; source = side_of (named_by s); destination = None }, λ text parts. negative_reads op s source.0 text full source.1 other parts)
+    ]
+  ]
+]
+
+-- parts read or have a first reason against them
+pub settled : (op : Operation) (m : Mode) (s : List ℕ) (d : Option (List ℕ)) → Settled op m s d
+settled op Negative s d = settled_negative op s d
+settled Fetch Normal s d = settled_fetch Normal s d tt
+settled Fetch Forced s d = settled_fetch Forced s d tt
+settled Push Normal s None = settled_push_alone Normal s tt
+settled Push Forced s None = settled_push_alone Forced s tt
+settled Push Normal s (Some t) = settled_push Normal s t tt
+settled Push Forced s (Some t) = settled_push Forced s t tt
+
+-- each text has a sign, or none
+record Signs (text : List ℕ) : Type 0 where
+  mode : Mode
+  rest : List ℕ
+  signed : IsSigned mode text rest
+
+signs : (text : List ℕ) → Signs text
+signs [] = record { mode = Normal; rest = []; signed = (refl, tt) }
+signs (b ∷ x) = elim (decided_byte b plus) [
+  | inl same ↦ record { mode = Forced; rest = x; signed = ap (λ c. c ∷ x) same }
+  | inr no_plus ↦ elim (decided_byte b caret) [
+    | inl same ↦ record { mode = Negative; rest = x; signed = ap (λ c. c ∷ x) same }
+    | inr no_caret ↦ record { mode = Normal; rest = b ∷ x; signed = (refl, (no_plus, no_caret)) }
+  ]
+]
+
+-- a text cut at its last colon, or uncut if it has none
+record Cut (x : List ℕ) : Type 0 where
+  source : List ℕ
+  destination : Option (List ℕ)
+  whole : x ≡ with_colon source destination
+  last : LastLacksColon source destination
+
+cut_before : (b : ℕ) (x s : List ℕ) (d : Option (List ℕ)) → x ≡ with_colon s d → LastLacksColon s d → Cut (b ∷ x)
+cut_before b x s (Some d) whole last = record { source = b ∷ s; destination = Some d; whole = ap (λ (y : List ℕ). b ∷ y) whole; last = last }
+cut_before b x s None whole lacks = elim (decided_byte b colon) [
+  | inl same ↦ record { source = []; destination = Some x; whole = ap (λ c. c ∷ x) same; last = subst (Lacks colon) (sym whole) lacks }
+  | inr other ↦ record { source = b ∷ s; destination = None; whole = ap (λ (y : List ℕ). b ∷ y) whole; last = (other, lacks) }
+]
+
+cut : (x : List ℕ) → Cut x
+cut [] = record { source = []; destination = None; whole = refl; last = tt }
+cut (b ∷ x) = let later = cut x in cut_before b x later.source later.destination later.whole later.last
+
+-- each text has parts
+pub parted : (text : List ℕ) → Parted text
+parted text =
+    let s = signs text in
+    let c = cut s.rest in
+    record { mode = s.mode; source = c.source; destination = c.destination; parts = record { signed = subst (IsSigned s.mode text) c.whole s.signed; last = c.last } }
+
+-- each text reads, or is refused
+pub read_or_refused : (op : Operation) (text : List ℕ) → ((r : Reading) × Reads op text r) ⊎ ((e : Refusal) × IsRefused op text e)
+read_or_refused op text =
+    let p = parted text in
+    elim (settled op p.mode p.source p.destination) [
+      | inl reading ↦ inl (reading.0, reading.1 text p.parts)
+      | inr reason ↦ inr (reason.0, refused op p.mode p.source p.destination text reason.0 p.parts reason.1)
+    ]

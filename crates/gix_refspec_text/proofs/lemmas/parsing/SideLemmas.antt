@@ -1,0 +1,133 @@
+-- Names and patterns as sides, and the reasons against a side.
+use Rattle.std.proofs.Common.{◌≡◌, ◌≢◌, ◌⊎◌, inl, inr, ℕ, List, [], ◌∷◌, ◌++◌, Option, None, Some, option_map, unwrap_or, is_some, Bor, ◌==◌, false, length, refl, sym, ap, ◌∙◌, subst}
+use Rattle.std.proofs.lemmas.Bool.{false≢true}
+use denote.Enum.Bare.{sameb}
+use Rattle.gix_refspec_text.specs.contracts.types.Mode.{the_type as the_mode}
+use Rattle.gix_refspec_text.specs.declared.types.Mode.{Mode as DeclaredMode}
+use Rattle.gix_refspec_text.specs.declared.name.Error.TheVariants.{Asterisk}
+use Rattle.gix_refspec_text.specs.declared.parsing.reading.Shape.{Shape}
+use Rattle.gix_refspec_text.specs.declared.parsing.reading.Shape.TheVariants.{Plain, Pattern}
+use Rattle.gix_refspec_text.specs.Texts.Words.{Lacks}
+use Rattle.gix_refspec_text.specs.Texts.Name.{IsName, IsPattern, HasStar, HasSeveralStars, ReplacesStar, HasFault}
+use Rattle.gix_refspec_text.specs.Texts.Bytes.{star}
+use Rattle.gix_refspec_text.specs.Specs.Reading.{Normal}
+use Rattle.gix_refspec_text.specs.Specs.Refusal.{Refusal, PatternUnsupported, ReferenceName, IsBadName, IsBadPattern, Never, OrElse}
+use Rattle.gix_refspec_text.specs.Views.Instruction.{mode_of}
+use Rattle.gix_refspec_text.specs.Laws.Readings.{NothingAgainst}
+use Rattle.gix_refspec_text.specs.Private.Sides.{HasShape, HasCheckedShape, IsBadSide}
+use Rattle.gix_refspec_text.specs.declared.types.Mode.TheVariants as declared_mode
+use Rattle.gix_refspec_text.specs.declared.name.PatternError.TheVariants as found
+use Rattle.gix_refspec_text.proofs.lemmas.texts.TextLemmas.{Lacks-Holds, Lacks-from_absent, first_once, one_not_two}
+
+-- neither P nor, after it, Q
+pub Never-or : {P Q : Refusal → Type 0} → Never P → Never Q → Never (OrElse P Q)
+Never-or p q e (inl h) = p e h
+Never-or p q e (inr h) = q e h.1
+
+-- a name has no star
+pub Lacks-name : (x : List ℕ) → IsName x → Lacks star x
+Lacks-name x name = Lacks-from_absent star x (name Asterisk)
+
+-- a text whose star is replaced has one
+pub HasStar-replaced : (x y : List ℕ) → ReplacesStar x y → HasStar x
+HasStar-replaced x y replaces = record { before = replaces.before; after = replaces.after; here = replaces.cut.starred }
+
+pub HasStar-pattern : (x : List ℕ) → IsPattern x → HasStar x
+HasStar-pattern x pattern = HasStar-replaced x pattern.with_letter pattern.replaces
+
+pub HasStar-stars : (x : List ℕ) → HasSeveralStars x → HasStar x
+HasStar-stars x stars = record { before = stars.before; after = stars.between ++ (star ∷ stars.after); here = stars.here }
+
+-- one star is replaced in one way
+pub replaced_once : (x y z : List ℕ) → ReplacesStar x y → ReplacesStar x z → y ≡ z
+replaced_once x y z a b =
+    let same = first_once star a.before b.before a.after b.after a.cut.first b.cut.first (sym a.cut.starred ∙ b.cut.starred) in
+    let fronts : a.before ≡ b.before = same.0 in
+    let backs : a.after ≡ b.after = same.1 in
+    let of_y = a.replaced in
+    let of_z = b.replaced in
+    cc
+
+-- a text with one star doesn't have several
+pub HasSeveralStars-replaced : (x y : List ℕ) → ReplacesStar x y → HasSeveralStars x → ⊥
+HasSeveralStars-replaced x y replaces stars = one_not_two star replaces.before replaces.after stars.before stars.between stars.after replaces.cut.first replaces.cut.last (sym replaces.cut.starred ∙ stars.here)
+
+-- a text with a reason against it as a pattern has a star
+pub HasStar-bad : (x : List ℕ) (e : Refusal) → IsBadPattern x e → HasStar x
+HasStar-bad x (PatternUnsupported p) bad = HasStar-stars x bad.0
+HasStar-bad x (ReferenceName fault) bad = HasStar-replaced x bad.0 bad.1
+HasStar-bad x _ bad = absurd bad
+
+-- nothing is against a pattern
+pub pattern_fine : (x : List ℕ) → IsPattern x → Never (IsBadPattern x)
+pattern_fine x pattern (PatternUnsupported p) bad = HasSeveralStars-replaced x pattern.with_letter pattern.replaces bad.0
+pattern_fine x pattern (ReferenceName fault) bad =
+    pattern.name fault (subst (λ (y : List ℕ). HasFault y fault) (replaced_once x bad.0 pattern.with_letter bad.1 pattern.replaces) bad.2)
+pattern_fine x pattern _ bad = bad
+
+-- nor is there a fault of a pattern, except that memory may run out
+pub nothing_against : (x : List ℕ) → NothingAgainst x
+nothing_against x pattern (found.Name fault) told = absurd (pattern_fine x pattern (ReferenceName fault) told)
+nothing_against x pattern found.Memory long = (refl, long)
+
+-- a text that lacks the star isn't a bad pattern
+pub plain_fine : (x : List ℕ) → Lacks star x → Never (IsBadPattern x)
+plain_fine x lacks e bad = Lacks-Holds star x lacks (HasStar-bad x e bad)
+
+-- a text with a reason against it as a name has no star, and is no name
+pub bad_name : (x : List ℕ) (e : Refusal) → IsBadName x e → Lacks star x × ¬ (IsName x)
+bad_name x (ReferenceName fault) bad = (bad.0, λ name. name fault bad.1)
+bad_name x _ bad = absurd bad
+
+pub name_not_bad : (x : List ℕ) → IsName x → (e : Refusal) → IsBadName x e ⊎ IsBadPattern x e → ⊥
+name_not_bad x name e (inl bad) = (bad_name x e bad).1 name
+name_not_bad x name e (inr bad) = plain_fine x (Lacks-name x name) e bad
+
+pub pattern_not_bad : (x : List ℕ) → IsPattern x → (e : Refusal) → IsBadName x e ⊎ IsBadPattern x e → ⊥
+pattern_not_bad x pattern e (inl bad) = Lacks-Holds star x (bad_name x e bad).0 (HasStar-pattern x pattern)
+pattern_not_bad x pattern e (inr bad) = pattern_fine x pattern e bad
+
+-- nothing is against a side that was found fine
+pub checked_fine : (x : List ℕ) (k : Shape) → HasCheckedShape x k → Never (IsBadSide x)
+checked_fine [] k fine e bad = bad.0 refl
+checked_fine (b ∷ bs) Plain fine e bad = name_not_bad (b ∷ bs) fine e bad.1
+checked_fine (b ∷ bs) Pattern fine e bad = pattern_not_bad (b ∷ bs) fine e bad.1
+
+pub starred_fine : (x : List ℕ) (k : Shape) → HasShape x k → Never (IsBadPattern x)
+starred_fine x Plain fine = plain_fine x fine
+starred_fine x Pattern fine = pattern_fine x fine
+
+-- the empty text is no pattern
+pub empty_no_pattern : IsPattern [] → ⊥
+empty_no_pattern pattern = Lacks-Holds star [] tt (HasStar-pattern [] pattern)
+
+-- a side that is plain has no star, and one that is a pattern has one
+pub checked_plain : (x : List ℕ) → HasCheckedShape x Plain → Lacks star x
+checked_plain [] fine = tt
+checked_plain (b ∷ bs) fine = Lacks-name (b ∷ bs) fine
+
+-- what was checked is also starred so
+pub checked_starred : (x : List ℕ) (k : Shape) → HasCheckedShape x k → HasShape x k
+checked_starred x Plain fine = checked_plain x fine
+checked_starred [] Pattern fine = fine
+checked_starred (b ∷ bs) Pattern fine = fine
+
+-- the bytes of what a missing reference was replaced by
+pub now-unwrap_or : (d : Option (Bor (List ℕ))) (e x : Bor (List ℕ)) → x ≡ unwrap_or d e → e.now ≡ [] → x.now ≡ unwrap_or (option_map (λ (y : Bor (List ℕ)). y.now) d) []
+now-unwrap_or None e x is empty = ap (λ (y : Bor (List ℕ)). y.now) is ∙ empty
+now-unwrap_or (Some y) e x is empty = ap (λ (y : Bor (List ℕ)). y.now) is
+
+-- a text that was found not to be empty
+pub full_from_test : (x : List ℕ) → false ≡ (length x == 0) → x ≢ []
+full_from_test x test empty = false≢true (test ∙ ap (λ y. length y == 0) empty)
+
+-- a side that was found missing
+pub none_from_test : (d : Option (Bor (List ℕ))) → false ≡ is_some d → option_map (λ (y : Bor (List ℕ)). y.now) d ≡ None
+none_from_test None test = refl
+none_from_test (Some y) test = absurd (false≢true test)
+
+-- a mode that was found not to be `Normal`
+pub signed_from_test : (m : DeclaredMode) → false ≡ sameb the_mode m declared_mode.Normal → mode_of m ≡ Normal → ⊥
+signed_from_test declared_mode.Normal test normal = false≢true test
+signed_from_test declared_mode.Force test normal = absurd (cc)
+signed_from_test declared_mode.Negative test normal = absurd (cc)

@@ -1,0 +1,136 @@
+-- Prefixes of sides, and what sides are expanded to.
+use Rattle.std.proofs.Common.{◌≡◌, ◌≢◌, inl, inr, ◌≤◌, ◌<◌, ℕ, Bool, true, false, not, ◌↔◌, IsTrue, MatchBool, MatchOption, Bor, if◌then◌else◌, List, [], ◌∷◌, ◌++◌, codes, map, length, get_or, is_ok, Result, Ok, Err, OnOk, OnErr, MatchResult, refl, sym, ap, ◌∙◌, subst, length-append, arith}
+use Rattle.std.specs.Prelude.{⊤}
+use Rattle.std.specs.Bool.{then_some}
+use Rattle.std.proofs.Math.Seq.{get_or-append_seam}
+use Rattle.std.proofs.lemmas.List.{append_cancel_left, length-map, map-append}
+use Rattle.std.proofs.lemmas.Bool.{false≢true}
+use Rattle.gix_refspec_text.specs.declared.oid.Error.{Error}
+use Rattle.gix_refspec_text.specs.declared.oid.ObjectId.{ObjectId}
+use Rattle.gix_refspec_text.specs.Texts.ObjectId.{IsIdText, HasIdFault, digits_of, id_bytes}
+use Rattle.gix_refspec_text.specs.Texts.Words.{Lacks, Holds, BeginsWith}
+use Rattle.gix_refspec_text.specs.Texts.Name.{IsCut, HasOneStar}
+use Rattle.gix_refspec_text.specs.Texts.Bytes.{star, slash, head, bracket}
+use Rattle.gix_refspec_text.specs.Specs.Reading.{Reading}
+use Rattle.gix_refspec_text.specs.Matching.Side.{HasKind, object, partial, IsId}
+use Rattle.gix_refspec_text.specs.Matching.Prefix.{TellsPrefix, IsPrefix, of_head, of_name, of_pattern, HasNoPrefix, Expands, to_prefix, to_itself, below_refs, of_object, to_candidates, IsAsked, IsExpansion}
+use Rattle.gix_refspec_text.specs.declared.oid.Kind.{Kind}
+use Rattle.gix_refspec_text.specs.declared.oid.Kind.TheVariants.{Sha1, Sha256}
+use Rattle.gix_refspec_text.proofs.lemmas.texts.TextLemmas.{Lacks-Holds}
+use Rattle.gix_refspec_text.proofs.lemmas.parsing.SideLemmas.{Lacks-name}
+use Rattle.gix_refspec_text.proofs.lemmas.texts.HeadLemmas.{IsName-head}
+use Rattle.gix_refspec_text.proofs.lemmas.hits.MatchLemmas.{lacks_no_pattern, cut_once, outside_none}
+use Rattle.gix_refspec_text.proofs.lemmas.texts.ObjectIdLemmas.{IsIdText-sound, AllPass-IsIdText}
+use Rattle.hex.specs.Hex.{is_hex_digit}
+
+-- four digits are too few for an id
+short : (kind : Kind) → 4 ≡ digits_of kind → ⊥
+short Sha1 same = omega (arith, same)
+short Sha256 same = omega (arith, same)
+
+-- the id of an object isn't `HEAD`, which is too short
+pub id_not_head : (x id : List ℕ) → IsIdText x id → x ≢ head
+id_not_head x id text is = short text.kind (sym (ap length is) ∙ text.digits)
+
+-- `HEAD` has no star
+pub head_no_cut : (x before after : List ℕ) → x ≡ head → IsCut before after x → ⊥
+head_no_cut x before after is cut = lacks_no_pattern x before after (subst (Lacks star) (sym is) (Lacks-name head IsName-head)) cut
+
+-- a pattern has no prefix where its ends give none
+pub no_prefix : (x before after : List ℕ) → IsCut before after x → ¬ (TellsPrefix before after) → HasNoPrefix x
+no_prefix x before after cut vague p (of_head is _) = head_no_cut x before after is cut
+no_prefix x before after cut vague p (of_name begins lacks _) = lacks_no_pattern x before after lacks cut
+no_prefix x before after cut vague p (of_pattern first last other tells _) =
+    let once = cut_once x first last before after other cut in
+    let same_first : first ≡ before = once.0 in
+    let same_last : last ≡ after = once.1 in
+    vague (subst (λ (a : List ℕ). TellsPrefix before a) same_last (subst (λ (b : List ℕ). TellsPrefix b last) same_first tells))
+
+-- the text before a star gives a prefix if it goes on below `refs/` and neither end has a bracket
+pub tells : (before after rest : List ℕ) → before ≡ codes "refs/" ++ rest → 1 ≤ length rest → Lacks bracket before → Lacks bracket after → TellsPrefix before after
+tells before after rest below full first last = record {
+  below = record { after = rest; here = below };
+  further = λ same. let none : rest ≡ [] = append_cancel_left (codes "refs/") rest [] (sym below ∙ same) in let size = ap length none in omega (arith, size, full);
+  first = first;
+  last = last;
+}
+
+-- a test for brackets decides whether a pattern below `refs/` has a prefix
+pub told_clear : (before after rest : List ℕ) → before ≡ codes "refs/" ++ rest → 1 ≤ length rest → Lacks bracket before → (r : Bool) → MatchBool r (Holds (bracket ∷ []) after) (Lacks bracket after) → IsTrue (not r) ↔ TellsPrefix before after
+told_clear before after rest below full first true holds = ((λ so. absurd (false≢true so)), (λ told. absurd (Lacks-Holds bracket after told.last holds)))
+told_clear before after rest below full first false lacks = ((λ _. tells before after rest below full first lacks), (λ _. refl))
+
+pub told_bracket : (before after : List ℕ) (r : Bool) → MatchBool r (Holds (bracket ∷ []) before) (Lacks bracket before) → Holds (bracket ∷ []) before → IsTrue (not r) ↔ TellsPrefix before after
+told_bracket before after true told holds = ((λ so. absurd (false≢true so)), (λ tells. absurd (Lacks-Holds bracket before tells.first holds)))
+told_bracket before after false lacks holds = absurd (Lacks-Holds bracket before lacks holds)
+
+-- a side with a prefix expands to something
+pub prefix_expands : (x p : List ℕ) → IsPrefix x p → ¬ (Expands x [])
+prefix_expands x p is (to_prefix q has one) = absurd (cc)
+prefix_expands x p is (to_itself rest none below lacks one) = absurd (cc)
+prefix_expands x p is (below_refs rest none below holds empty) = none p is
+prefix_expands x p is (of_object none outside id empty) = none p is
+prefix_expands x p is (to_candidates none outside unlike six) = absurd (cc)
+
+-- so does a side with nothing but one name after `refs/`
+pub itself_expands : (x rest : List ℕ) → x ≡ codes "refs/" ++ rest → Lacks slash rest → ¬ (Expands x [])
+itself_expands x rest below lacks (to_prefix q has one) = absurd (cc)
+itself_expands x rest below lacks (to_itself rest2 none below2 lacks2 one) = absurd (cc)
+itself_expands x rest below lacks (below_refs rest2 none below2 holds empty) =
+    let same : rest ≡ rest2 = append_cancel_left (codes "refs/") rest rest2 (sym below ∙ below2) in
+    Lacks-Holds slash rest2 (subst (Lacks slash) same lacks) holds
+itself_expands x rest below lacks (of_object none outside id empty) = outside (record { after = rest; here = below })
+itself_expands x rest below lacks (to_candidates none outside unlike six) = absurd (cc)
+
+-- and a partial name
+pub partial_expands : (x : List ℕ) → ¬ (BeginsWith (codes "refs/") x) → ¬ (IsId x) → ¬ (Expands x [])
+partial_expands x outside unlike (to_prefix q has one) = absurd (cc)
+partial_expands x outside unlike (to_itself rest none below lacks one) = absurd (cc)
+partial_expands x outside unlike (below_refs rest none below holds empty) = outside (record { after = rest; here = below })
+partial_expands x outside unlike (of_object none outside2 id empty) = unlike id
+partial_expands x outside unlike (to_candidates none outside2 unlike2 six) = absurd (cc)
+
+-- a side that expands to nothing expands to no other list
+pub nothing_else : (x : List ℕ) (list : List (List ℕ)) → Expands x list → Expands x [] → list ≡ []
+nothing_else x list (to_prefix p is one) nothing = absurd (prefix_expands x p is nothing)
+nothing_else x list (to_itself rest none below lacks one) nothing = absurd (itself_expands x rest below lacks nothing)
+nothing_else x list (below_refs rest none below holds empty) nothing = empty
+nothing_else x list (of_object none outside id empty) nothing = empty
+nothing_else x list (to_candidates none outside unlike six) nothing = absurd (partial_expands x outside unlike nothing)
+
+-- the side that is asked for is one
+pub one_asked : (r : Reading) (x y : List ℕ) → IsAsked r x → IsAsked r y → x ≡ y
+one_asked r x y a b = let p = a.side in let q = b.side in cc
+
+-- where a reading expands to nothing, so does the side that is asked for
+pub asked_nothing : (r : Reading) (x : List ℕ) → IsAsked r x → IsExpansion r [] → Expands x []
+asked_nothing r x asked (inl (y, other, nothing)) = subst (λ (z : List ℕ). Expands z []) (one_asked r y x other asked) nothing
+asked_nothing r x asked (inr (unasked, empty)) = absurd (unasked x asked)
+
+-- what always holds, also holds if a call fails
+pub on_any_error : {T E P : Type 0} (r : Result T E) → P → OnErr r P
+on_any_error (Ok x) holds = tt
+on_any_error (Err e) holds = holds
+
+-- where a reading expands to nothing, the entries of that side are none
+pub no_entries : {X : Type 0} (f : X → List ℕ) (r : Reading) (x : List ℕ) (entries : List X) → IsAsked r x → Expands x (map f entries) → IsExpansion r [] → length entries ≡ 0
+no_entries f r x entries asked expands nothing = sym (length-map entries f) ∙ ap length (nothing_else x (map f entries) expands (asked_nothing r x asked nothing))
+
+-- a list that took another one's items, seen item by item
+pub appended_ok : {X : Type 0} {E : Type 0} (f : X → List ℕ) (r : Result ⊤ E) (old more new : List X) → new ≡ (if is_ok r then old ++ more else old) → OnOk r (map f new ≡ map f old ++ map f more)
+appended_ok f (Ok u) old more new is = ap (map f) is ∙ map-append f old more
+appended_ok f (Err e) old more new is = tt
+
+-- a text with one star is no id
+pub starred_no_id : (x : List ℕ) → HasOneStar x → ¬ (IsId x)
+starred_no_id x (before, after, cut) id =
+    let all = AllPass-IsIdText x id.0 id.1 in
+    let size = ap length cut.starred ∙ length-append before (star ∷ after) in
+    let inside : length before < length x = omega (arith, size) in
+    let here : get_or x (length before) 0 ≡ star = ap (λ (y : List ℕ). get_or y (length before) 0) cut.starred ∙ get_or-append_seam before star after 0 in
+    false≢true (ap is_hex_digit (sym here) ∙ all (length before) 0 inside)
+
+-- the prefix of a pattern is the text before its star, if it has a prefix
+pub pattern_prefix : (x : List ℕ) (before after : Bor (List ℕ)) (r : Bool) → IsCut before.now after.now x → IsTrue r ↔ TellsPrefix before.now after.now → MatchOption (then_some r before) (HasNoPrefix x) (λ p. IsPrefix x p.now)
+pattern_prefix x before after true cut told = of_pattern before.now after.now cut (told.0 refl) refl
+pattern_prefix x before after false cut told = no_prefix x before.now after.now cut (λ tells. false≢true (told.1 tells))

@@ -1,0 +1,174 @@
+-- Each form prints as a text that reads with the same meaning.
+use Rattle.std.proofs.Common.{◌≡◌, ◌≢◌, ◌⊎◌, inl, inr, ℕ, Bool, List, [], ◌∷◌, ◌++◌, Option, None, Some, option_map, refl, sym, ap, ◌∙◌, subst, arith}
+use Rattle.gix_refspec_text.specs.declared.parsing.Operation.{Operation}
+use Rattle.gix_refspec_text.specs.declared.parsing.Operation.TheVariants.{Push, Fetch}
+use Rattle.gix_refspec_text.specs.Texts.Words.{Lacks}
+use Rattle.gix_refspec_text.specs.Texts.Name.{IsName, IsPattern}
+use Rattle.gix_refspec_text.specs.Texts.Bytes.{star, plus, caret, colon, head}
+use Rattle.gix_refspec_text.specs.Specs.Reading.{Mode, Normal, Forced, Negative, Reading}
+use Rattle.gix_refspec_text.specs.Specs.Grammar.{named_by, IsPositive, IsNameOrPattern, AreAlike, AreParts, LooksLikeObjectHash, fetched, pushed, Reads, fetches_nothing_named, fetches_colon, fetches, updates, updates_from_head, fetch_excludes, pushes_plus, pushes_colon, pushes, deletes, pushes_pattern, pushes_to, push_excludes}
+use Rattle.gix_refspec_text.specs.Specs.Meaning.{meaning, meaning_of, included, printed, text_of, sign, begins_with_plus, push_all_matching, push_delete, push_matching, push_exclude, fetch_only, fetch_exclude, fetch_and_update}
+use Rattle.gix_refspec_text.specs.Laws.Readings.{IsPrintedBack, ReadsOrRefused, EqualTexts}
+use Rattle.gix_refspec_text.proofs.lemmas.parsing.SideLemmas.{Lacks-name}
+use Rattle.gix_refspec_text.proofs.lemmas.parsing.DecideLemmas.{tested}
+use Rattle.gix_refspec_text.proofs.lemmas.texts.HeadLemmas.{IsName-head, Lacks-colon_name, unsigned_name}
+use Rattle.gix_refspec_text.proofs.lemmas.parsing.ReadsLemmas.{name_not_empty, pattern_not_empty}
+use Rattle.gix_refspec_text.proofs.lemmas.parsing.ReadOnceLemmas.{reads_once, either_full, alike_full}
+use Rattle.gix_refspec_text.proofs.lemmas.parsing.SettleLemmas.{read_or_refused}
+use Rattle.gix_refspec_text.proofs.lemmas.specs.ReadBackLemmas.{printed_back, named_so, named_name, named_once, named_pattern, named_either, named_alike, named_full, named_parts, is_forced, Lacks-colon_either, head_unsigned, colon_unsigned}
+
+-- what a positive spec means
+means : (op : Operation) (m : Mode) (s d : Option (List ℕ)) → IsPositive m → meaning op m s d ≡ included op (is_forced m) s d
+means op Normal s d pos = refl
+means op Forced s d pos = refl
+means op Negative s d pos = absurd pos
+
+-- for an operation and a reading that are these
+for_form : (op o : Operation) (r q : Reading) → op ≡ o → r ≡ q → IsPrintedBack o q → IsPrintedBack op r
+for_form op o r q same is back = subst (λ (x : Operation). IsPrintedBack x r) (sym same) (subst (IsPrintedBack o) (sym is) back)
+
+-- a fetch of a name alone
+back_only : (m : Mode) (s : List ℕ) → IsPositive m → IsName s → named_by s ≡ s → IsPrintedBack Fetch (fetched m s None)
+back_only m s pos name once = elim (tested (begins_with_plus s)) [
+  | inl so ↦ printed_back Fetch (fetched m s None) (fetch_only s) (plus ∷ s) (fetched Forced (named_by s) None) (means Fetch m (Some s) None pos) (ap (λ (b : Bool). sign b ++ s) so)
+      (fetches Forced s refl tt (inl (record { signed = refl; last = Lacks-colon_name s name })) name refl)
+      (ap (λ (x : List ℕ). Some (fetch_only x)) once)
+  | inr other ↦ printed_back Fetch (fetched m s None) (fetch_only s) s (fetched Normal (named_by s) None) (means Fetch m (Some s) None pos) (ap (λ (b : Bool). sign b ++ s) other)
+      (fetches Normal s refl tt (inl (record { signed = (refl, unsigned_name s name other); last = Lacks-colon_name s name })) name refl)
+      (ap (λ (x : List ℕ). Some (fetch_only x)) once)
+]
+
+-- a fetch to a destination
+back_update : (m : Mode) (s d text : List ℕ) → IsPositive m → AreParts m s (Some d) text → AreAlike s d → IsPrintedBack Fetch (fetched m (named_by s) (Some d))
+back_update m s d text pos parts alike =
+    let t = named_by s in
+    let full = alike_full s d alike in
+    printed_back Fetch (fetched m t (Some d)) (fetch_and_update t d (is_forced m)) (sign (is_forced m) ++ (t ++ (colon ∷ d))) (fetched m (named_by t) (Some d)) (means Fetch m (Some t) (Some d) pos) refl
+    (updates m t d refl pos (named_parts m s d (Some d) text pos full.0 parts parts.last) (named_alike s d alike) refl)
+    (means Fetch m (Some (named_by t)) (Some d) pos ∙ ap (λ (x : List ℕ). Some (fetch_and_update x d (is_forced m))) (named_once s))
+
+-- `HEAD` and a destination after the sign of the mode
+head_parts : (m : Mode) (d : List ℕ) → IsPositive m → Lacks colon d → AreParts m head (Some d) (sign (is_forced m) ++ (head ++ (colon ∷ d)))
+head_parts Normal d pos lacks = record { signed = (refl, head_unsigned); last = lacks }
+head_parts Forced d pos lacks = record { signed = refl; last = lacks }
+head_parts Negative d pos lacks = absurd pos
+
+-- a fetch of `HEAD` to a destination
+back_from_head : (m : Mode) (d : List ℕ) → IsPositive m → IsName d → IsPrintedBack Fetch (fetched m head (Some d))
+back_from_head m d pos name =
+    printed_back Fetch (fetched m head (Some d)) (fetch_and_update head d (is_forced m)) (sign (is_forced m) ++ (head ++ (colon ∷ d))) (fetched m head (Some d)) (means Fetch m (Some head) (Some d) pos) refl
+    (updates m head d refl pos (head_parts m d pos (Lacks-colon_name d name)) (inl (IsName-head, name)) refl)
+    (means Fetch m (Some head) (Some d) pos)
+
+-- what is named by no object hash looks like none
+named_hash : (s : List ℕ) → ¬ (LooksLikeObjectHash s) → ¬ (LooksLikeObjectHash (named_by s))
+named_hash s other = named_so (λ (x : List ℕ). ¬ (LooksLikeObjectHash x)) s (λ hash. omega (arith, hash.long)) other
+
+-- negative specs
+back_fetch_exclude : (s : List ℕ) → IsNameOrPattern s → ¬ (LooksLikeObjectHash s) → IsPrintedBack Fetch (fetched Negative (named_by s) None)
+back_fetch_exclude s either other =
+    let t = named_by s in
+    printed_back Fetch (fetched Negative t None) (fetch_exclude t) (caret ∷ t) (fetched Negative (named_by t) None) refl refl
+    (fetch_excludes t refl (record { signed = refl; last = Lacks-colon_either t (named_either s either) }) (named_either s either) (named_hash s other) refl)
+    (ap (λ (x : List ℕ). Some (fetch_exclude x)) (named_once s))
+
+back_push_exclude : (s : List ℕ) → IsNameOrPattern s → ¬ (LooksLikeObjectHash s) → IsPrintedBack Push (pushed Negative (Some (named_by s)) None)
+back_push_exclude s either other =
+    let t = named_by s in
+    printed_back Push (pushed Negative (Some t) None) (push_exclude t) (caret ∷ t) (pushed Negative (Some (named_by t)) None) refl refl
+    (push_excludes t refl (record { signed = refl; last = Lacks-colon_either t (named_either s either) }) (named_either s either) (named_hash s other) refl)
+    (ap (λ (x : List ℕ). Some (push_exclude x)) (named_once s))
+
+-- a colon after the sign of the mode
+colon_parts : (m : Mode) → IsPositive m → AreParts m [] (Some []) (sign (is_forced m) ++ (colon ∷ []))
+colon_parts Normal pos = record { signed = (refl, colon_unsigned); last = tt }
+colon_parts Forced pos = record { signed = refl; last = tt }
+colon_parts Negative pos = absurd pos
+
+-- a push of all matching branches
+back_all : (m : Mode) → IsPositive m → IsPrintedBack Push (pushed m None None)
+back_all m pos =
+    printed_back Push (pushed m None None) (push_all_matching (is_forced m)) (sign (is_forced m) ++ (colon ∷ [])) (pushed m None None) (means Push m None None pos) refl
+    (pushes_colon m refl pos (colon_parts m pos) refl)
+    (means Push m None None pos)
+
+-- a push of s to d
+reads_pair : (m : Mode) (s d text : List ℕ) → IsPositive m → AreParts m s (Some d) text → (IsName s × IsName d) ⊎ (IsPattern s × IsPattern d) → Reads Push text (pushed m (Some (named_by s)) (Some d))
+reads_pair m s d text pos parts (inl names) = pushes_to m s d refl pos parts (name_not_empty s names.0) (Lacks-name s names.0) names.1 refl
+reads_pair m s d text pos parts (inr patterns) = pushes_pattern m s d refl pos parts patterns.0 patterns.1 refl
+
+-- a name or a pattern twice
+twice : (s : List ℕ) → IsNameOrPattern s → AreAlike s s
+twice s (inl name) = inl (name, name)
+twice s (inr pattern) = inr (pattern, pattern)
+
+-- a push of a source alone
+back_alone : (m : Mode) (s text : List ℕ) → IsPositive m → AreParts m s None text → IsNameOrPattern s → IsPrintedBack Push (pushed m (Some (named_by s)) None)
+back_alone m s text pos parts either =
+    let t = named_by s in
+    let either_t = named_either s either in
+    printed_back Push (pushed m (Some t) None) (push_matching t t (is_forced m)) (sign (is_forced m) ++ (t ++ (colon ∷ t))) (pushed m (Some (named_by t)) (Some t)) (means Push m (Some t) None pos) refl
+    (reads_pair m t t _ pos (named_parts m s t None text pos (either_full s either) parts (Lacks-colon_either t either_t)) (twice t either_t))
+    (means Push m (Some (named_by t)) (Some t) pos ∙ ap (λ (x : List ℕ). Some (push_matching x t (is_forced m))) (named_once s))
+
+-- a push that deletes
+back_delete : (m : Mode) (d : List ℕ) → IsPositive m → IsName d → IsPrintedBack Push (pushed m None (Some d))
+back_delete m d pos name =
+    printed_back Push (pushed m None (Some d)) (push_delete d) (colon ∷ d) (pushed Normal None (Some d)) (means Push m None (Some d) pos) refl
+    (deletes Normal d refl tt (record { signed = (refl, colon_unsigned); last = Lacks-colon_name d name }) name refl)
+    refl
+
+-- a push to a destination
+back_push : (m : Mode) (s d text : List ℕ) → IsPositive m → s ≢ [] → AreParts m s (Some d) text → Reads Push (sign (is_forced m) ++ (named_by s ++ (colon ∷ d))) (pushed m (Some (named_by (named_by s))) (Some d)) → IsPrintedBack Push (pushed m (Some (named_by s)) (Some d))
+back_push m s d text pos full parts reads =
+    let t = named_by s in
+    printed_back Push (pushed m (Some t) (Some d)) (push_matching t d (is_forced m)) (sign (is_forced m) ++ (t ++ (colon ∷ d))) (pushed m (Some (named_by t)) (Some d)) (means Push m (Some t) (Some d) pos) refl
+    reads
+    (means Push m (Some (named_by t)) (Some d) pos ∙ ap (λ (x : List ℕ). Some (push_matching x d (is_forced m))) (named_once s))
+
+-- whatever reads prints as a text that reads back
+pub read_back : (op : Operation) (text : List ℕ) (r : Reading) → Reads op text r → IsPrintedBack op r
+read_back op text r (fetches_nothing_named m fetch pos parts is) = for_form op Fetch r (fetched m head None) fetch is (back_only m head pos IsName-head refl)
+read_back op text r (fetches_colon m fetch pos parts is) = for_form op Fetch r (fetched m head None) fetch is (back_only m head pos IsName-head refl)
+read_back op text r (fetches m s fetch pos parts name is) = for_form op Fetch r (fetched m (named_by s) None) fetch is (back_only m (named_by s) pos (named_name s name) (named_once s))
+read_back op text r (updates m s d fetch pos parts alike is) = for_form op Fetch r (fetched m (named_by s) (Some d)) fetch is (back_update m s d text pos parts alike)
+read_back op text r (updates_from_head m d fetch pos parts name is) = for_form op Fetch r (fetched m head (Some d)) fetch is (back_from_head m d pos name)
+read_back op text r (fetch_excludes s fetch parts either hash is) = for_form op Fetch r (fetched Negative (named_by s) None) fetch is (back_fetch_exclude s either hash)
+read_back op text r (pushes_plus push parts is) = for_form op Push r (pushed Forced None None) push is (back_all Forced tt)
+read_back op text r (pushes_colon m push pos parts is) = for_form op Push r (pushed m None None) push is (back_all m pos)
+read_back op text r (pushes m s push pos parts either is) = for_form op Push r (pushed m (Some (named_by s)) None) push is (back_alone m s text pos parts either)
+read_back op text r (deletes m d push pos parts name is) = for_form op Push r (pushed m None (Some d)) push is (back_delete m d pos name)
+read_back op text r (pushes_pattern m s d push pos parts source destination is) =
+    let full = pattern_not_empty s source in
+    let pattern = subst IsPattern (sym (named_pattern s source)) source in
+    for_form op Push r (pushed m (Some (named_by s)) (Some d)) push is
+    (back_push m s d text pos full parts (pushes_pattern m (named_by s) d refl pos (named_parts m s d (Some d) text pos full parts parts.last) pattern destination refl))
+read_back op text r (pushes_to m s d push pos parts full plain name is) =
+    let lacks = named_so (Lacks star) s (Lacks-name head IsName-head) plain in
+    for_form op Push r (pushed m (Some (named_by s)) (Some d)) push is
+    (back_push m s d text pos full parts (pushes_to m (named_by s) d refl pos (named_parts m s d (Some d) text pos full parts parts.last) (named_full s full) lacks name refl))
+read_back op text r (push_excludes s push parts either hash is) = for_form op Push r (pushed Negative (Some (named_by s)) None) push is (back_push_exclude s either hash)
+
+-- each text has exactly one reading, or is refused
+pub once_or_refused : (op : Operation) (text : List ℕ) → ReadsOrRefused op text
+once_or_refused op text = elim (read_or_refused op text) [
+  | inl reading ↦ inl (record { reading = reading.0; reads = reading.1; only = λ r by_r. reads_once op text r reading.0 by_r reading.1 })
+  | inr refusal ↦ inr refusal
+]
+
+pub some_once : (x y : List ℕ) → Some x ≡ Some y → x ≡ y
+some_once x y same = cc
+
+-- readings with one canonical text mean the same, since that text has one reading
+same_meaning_by_text : (op : Operation) (r q : Reading) → IsPrintedBack op r → IsPrintedBack op q → printed r ≡ printed q → meaning_of r ≡ meaning_of q
+same_meaning_by_text op r q back_r back_q same =
+    let texts = some_once back_r.text back_q.text (sym back_r.is ∙ (same ∙ back_q.is)) in
+    let again = back_q.again.only back_r.again.reading (subst (λ (x : List ℕ). Reads op x back_r.again.reading) texts back_r.again.reads) in
+    sym back_r.same ∙ (ap meaning_of again ∙ back_q.same)
+
+-- texts that read mean the same exactly where their canonical texts are equal
+pub equal_texts : (op : Operation) (a b : List ℕ) → EqualTexts op a b
+equal_texts op a b r q by_r by_q = (
+  λ same. ap (option_map text_of) same,
+  λ same. same_meaning_by_text op r q (read_back op a r by_r) (read_back op b q by_q) same,
+)

@@ -1,0 +1,135 @@
+-- What holds of accepted readings, though none of the texts that read so is at hand.
+use Rattle.std.proofs.Common.{◌≡◌, ℕ, Bool, true, false, List, Option, None, Some, option_map, refl, sym, ap, ◌∙◌, subst, inl, inr}
+use Rattle.std.specs.Prelude.{nat_eq, ◌↔◌}
+use Rattle.std.specs.Cmp.Lexicographic.{pointwise}
+use Rattle.std.proofs.lemmas.Bool.{false≢true}
+use Rattle.std.proofs.lemmas.Grind.{not_there}
+use Rattle.gix_refspec_text.specs.declared.parsing.Operation.{Operation}
+use Rattle.gix_refspec_text.specs.declared.parsing.Operation.TheVariants.{Push, Fetch}
+use Rattle.gix_refspec_text.specs.Specs.Reading.{Mode, Normal, Forced, Negative, Reading}
+use Rattle.gix_refspec_text.specs.Specs.Grammar.{Reads, fetches_nothing_named, fetches_colon, fetches, updates, updates_from_head, fetch_excludes, pushes_plus, pushes_colon, pushes, deletes, pushes_pattern, pushes_to, push_excludes, IsAccepted}
+use Rattle.gix_refspec_text.specs.Specs.Meaning.{Meaning, included, excluded, meaning, meaning_of, text_of, printed}
+use Rattle.gix_refspec_text.specs.Specs.Order.{keys}
+use Rattle.gix_refspec_text.specs.Laws.Order.{same_meaning, same_keys}
+use Rattle.gix_refspec_text.specs.Views.Instruction.{meant_for}
+use Rattle.gix_refspec_text.specs.Laws.Readings.{IsPrintedBack, KeepsOperation, SaysForOperation, EqualReadings}
+use Rattle.gix_refspec_text.proofs.lemmas.specs.FormsBackLemmas.{read_back, once_or_refused, equal_texts, some_once}
+
+-- ---- operations
+
+of_operation : (op o : Operation) (r q : Reading) → op ≡ o → r ≡ q → q.operation ≡ o → r.operation ≡ op
+of_operation op o r q same is at = ap (λ (x : Reading). x.operation) is ∙ (at ∙ sym same)
+
+-- what a text reads as is for the operation
+pub keeps_operation : (op : Operation) (text : List ℕ) → KeepsOperation op text
+keeps_operation op text r (fetches_nothing_named m fetch pos parts is) = of_operation op Fetch r _ fetch is refl
+keeps_operation op text r (fetches_colon m fetch pos parts is) = of_operation op Fetch r _ fetch is refl
+keeps_operation op text r (fetches m s fetch pos parts name is) = of_operation op Fetch r _ fetch is refl
+keeps_operation op text r (updates m s d fetch pos parts alike is) = of_operation op Fetch r _ fetch is refl
+keeps_operation op text r (updates_from_head m d fetch pos parts name is) = of_operation op Fetch r _ fetch is refl
+keeps_operation op text r (fetch_excludes s fetch parts either hash is) = of_operation op Fetch r _ fetch is refl
+keeps_operation op text r (pushes_plus push parts is) = of_operation op Push r _ push is refl
+keeps_operation op text r (pushes_colon m push pos parts is) = of_operation op Push r _ push is refl
+keeps_operation op text r (pushes m s push pos parts either is) = of_operation op Push r _ push is refl
+keeps_operation op text r (deletes m d push pos parts name is) = of_operation op Push r _ push is refl
+keeps_operation op text r (pushes_pattern m s d push pos parts source destination is) = of_operation op Push r _ push is refl
+keeps_operation op text r (pushes_to m s d push pos parts full plain name is) = of_operation op Push r _ push is refl
+keeps_operation op text r (push_excludes s push parts either hash is) = of_operation op Push r _ push is refl
+
+-- what a meaning is for, or otherwise this
+abbrev operation_or : Operation → Option Meaning → Operation
+operation_or op None = op
+operation_or op (Some m) = meant_for m
+
+included_for : (op : Operation) (forced : Bool) (s d : Option (List ℕ)) → operation_or op (included op forced s d) ≡ op
+included_for Push forced None None = refl
+included_for Push forced None (Some d) = refl
+included_for Push forced (Some s) None = refl
+included_for Push forced (Some s) (Some d) = refl
+included_for Fetch forced None d = refl
+included_for Fetch forced (Some s) None = refl
+included_for Fetch forced (Some s) (Some d) = refl
+
+excluded_for : (op : Operation) (s d : Option (List ℕ)) → operation_or op (excluded op s d) ≡ op
+excluded_for op None d = refl
+excluded_for op (Some s) (Some d) = refl
+excluded_for Push (Some s) None = refl
+excluded_for Fetch (Some s) None = refl
+
+meaning_for : (op : Operation) (mode : Mode) (s d : Option (List ℕ)) → operation_or op (meaning op mode s d) ≡ op
+meaning_for op Normal s d = included_for op false s d
+meaning_for op Forced s d = included_for op true s d
+meaning_for op Negative s d = excluded_for op s d
+
+-- what a reading says is for its operation
+pub says_for_operation : (r : Reading) → SaysForOperation r
+says_for_operation r m is = sym (ap (operation_or r.operation) is) ∙ meaning_for r.operation r.mode r.source r.destination
+
+-- ---- what follows from a fact of which only the existence is known
+
+test_shown : {P : Type 0} (b : Bool) → ∥ P ∥₁ → (P → b ≡ true) → b ≡ true
+test_shown true there shows = refl
+test_shown false there shows = absurd (not_there there (λ fact. false≢true (shows fact)))
+
+-- that two readings mean the same
+meaning_shown : {P : Type 0} (m n : Option Meaning) → ∥ P ∥₁ → (P → m ≡ n) → m ≡ n
+meaning_shown m n there shows =
+    same_meaning m n (test_shown (pointwise (pointwise nat_eq) (keys m) (keys n)) there (λ fact. same_keys m n (shows fact)))
+
+none_not_some : (text : List ℕ) → None ≡ Some text → ⊥
+none_not_some text same = cc
+
+-- ---- accepted readings
+
+says_by : (r : Reading) (m : Option Meaning) → meaning_of r ≡ m → ∥ IsAccepted r ∥₁ → (n : Meaning) × (meaning_of r ≡ Some n)
+says_by r None is accepted = absurd (not_there accepted (λ a.
+    let back = read_back r.operation a.0 r a.1 in
+    none_not_some back.text (sym (ap (option_map text_of) is) ∙ back.is)))
+says_by r (Some m) is accepted = (m, is)
+
+-- an accepted reading says something
+pub says : (r : Reading) → ∥ IsAccepted r ∥₁ → (m : Meaning) × (meaning_of r ≡ Some m)
+says r accepted = says_by r (meaning_of r) refl accepted
+
+same_by_text : (r q : Reading) → ∥ IsAccepted r ∥₁ → ∥ IsAccepted q ∥₁ → r.operation ≡ q.operation → printed r ≡ printed q → meaning_of r ≡ meaning_of q
+same_by_text r q accepted_r accepted_q operation same =
+    meaning_shown (meaning_of r) (meaning_of q) accepted_r (λ a.
+    meaning_shown (meaning_of r) (meaning_of q) accepted_q (λ b.
+    (equal_texts r.operation a.0 b.0 r q a.1 (subst (λ (op : Operation). Reads op b.0 q) (sym operation) b.1)).1 same))
+
+same_operation : (r q : Reading) → ∥ IsAccepted r ∥₁ → meaning_of r ≡ meaning_of q → r.operation ≡ q.operation
+same_operation r q accepted same =
+    let said = says r accepted in
+    sym (says_for_operation r said.0 said.1) ∙ says_for_operation q said.0 (sym same ∙ said.1)
+
+-- accepted readings mean the same exactly where they are for one operation and print the same
+pub equal_readings : (r q : Reading) → ∥ IsAccepted r ∥₁ → ∥ IsAccepted q ∥₁ → EqualReadings r q
+equal_readings r q accepted_r accepted_q = (
+  λ same. (same_operation r q accepted_r same, ap (option_map text_of) same),
+  λ both. same_by_text r q accepted_r accepted_q both.0 both.1,
+)
+
+-- specs are equal, as generic code tests it, exactly where they mean the same
+pub equal_keys : (m n : Option Meaning) → (pointwise (pointwise nat_eq) (keys m) (keys n) ≡ true) ↔ (m ≡ n)
+equal_keys m n = (same_meaning m n, same_keys m n)
+
+-- what an accepted reading prints has one reading, of the same meaning
+pub printed_back : (r : Reading) → ∥ IsAccepted r ∥₁ → IsPrintedBack r.operation r
+printed_back r accepted =
+    let said = says r accepted in
+    let text = text_of said.0 in
+    let is : printed r ≡ Some text = ap (option_map text_of) said.1 in
+    let reads : (a : IsAccepted r) → Reads r.operation text (read_back r.operation a.0 r a.1).again.reading = λ a.
+    let back = read_back r.operation a.0 r a.1 in
+    subst (λ (x : List ℕ). Reads r.operation x back.again.reading) (some_once back.text text (sym back.is ∙ is)) back.again.reads in
+    elim (once_or_refused r.operation text) [
+      | inr refusal ↦ absurd (not_there accepted (λ a. refusal.1.unread (read_back r.operation a.0 r a.1).again.reading (reads a)))
+      | inl once ↦ record {
+        text = text;
+        is = is;
+        again = once;
+        same = meaning_shown (meaning_of once.reading) (meaning_of r) accepted (λ a.
+            let back = read_back r.operation a.0 r a.1 in
+            sym (ap meaning_of (once.only back.again.reading (reads a))) ∙ back.same);
+      }
+    ]

@@ -1,0 +1,144 @@
+-- From the mask of two loads, of bytes and of those before them, to bytes that are calm.
+use Rattle.std.proofs.Common.{◌≡◌, ◌≢◌, ℕ, ◌+◌, ◌-◌, ◌%◌, ◌^◌, ◌<◌, ◌≤◌, ◌||◌, eqb, ltb, cond, Bool, true, false, not, List, [], ◌∷◌, map, length, get_or, replicate, bit_and, bit_or, Fits, w8, refl, sym, ap, ap₂, ◌∙◌, subst, inl, inr, arith}
+use Rattle.std.proofs.lemmas.Bool.{agree_below_at, not-true, cond-true, cond-false, eq-eqb, ne_eqb, cases_eq}
+use Rattle.std.proofs.lemmas.Simd.{mask_l-mod, length-zip2, get_or-zip2, length-chunk, get_or-chunk, leading_from_mask_l, trailing_mask_l}
+use Rattle.std.proofs.lemmas.List.{length-map, get_or-map}
+use Rattle.std.specs.List.{prefix_len}
+use Rattle.std.proofs.lemmas.List.Sums.{prefix_len-le-length, prefix_len_passes}
+use lib.Lanes.{chunk, zip2, mask_l, top}
+use Rattle.gix_refspec_text.specs.declared.name.class.Class.{Class}
+use Rattle.gix_refspec_text.specs.declared.name.class.Class.TheVariants.{Plain, Slash, Dot, Brace, Star, Refused}
+use Rattle.gix_refspec_text.specs.Texts.Bytes.{slash}
+use Rattle.gix_refspec_text.specs.Private.Scan.{class_at, IsCalm, AreCalm, lowest_of}
+
+zip2-map : (h : ℕ → ℕ → ℕ) (f g : ℕ → ℕ) (xs : List ℕ) → zip2 h (map f xs) (map g xs) ≡ map (λ x. h (f x) (g x)) xs
+zip2-map h f g [] = refl
+zip2-map h f g (x ∷ xs) = ap (λ r. h (f x) (g x) ∷ r) (zip2-map h f g xs)
+
+-- an operation on two vectors that were computed lane by lane from v
+pub joined : (h : ℕ → ℕ → ℕ) (f g : ℕ → ℕ) (v : List ℕ) {a b : List ℕ} → a ≡ map f v → b ≡ map g v → zip2 h a b ≡ map (λ x. h (f x) (g x)) v
+joined h f g v p q = ap₂ (zip2 h) p q ∙ zip2-map h f g v
+
+splat_left : (h : ℕ → ℕ → ℕ) (y : ℕ) (xs : List ℕ) → zip2 h (replicate (length xs) y) xs ≡ map (h y) xs
+splat_left h y [] = refl
+splat_left h y (x ∷ xs) = ap (λ r. h y x ∷ r) (splat_left h y xs)
+
+-- `simd_gt` has its sides changed
+pub from_splat : (h : ℕ → ℕ → ℕ) (v : List ℕ) (n y : ℕ) → length v ≡ n → zip2 h (replicate n y) v ≡ map (h y) v
+from_splat h v n y long = ap (λ k. zip2 h (replicate k y) v) (sym long) ∙ splat_left h y v
+
+abbrev is_plain_class : Class → Bool
+is_plain_class Plain = true
+is_plain_class Slash = false
+is_plain_class Dot = false
+is_plain_class Brace = false
+is_plain_class Star = false
+is_plain_class Refused = false
+
+plain_class : (c : Class) → is_plain_class c ≡ true → c ≡ Plain
+plain_class Plain same = refl
+plain_class Slash same = cc
+plain_class Dot same = cc
+plain_class Brace same = cc
+plain_class Star same = cc
+plain_class Refused same = cc
+
+-- the lowest bit of a mask is at the first lane that passes p
+run_is : (p : ℕ → Bool) (z : List ℕ) (n : ℕ) → length z ≡ n → n ≤ 64 → lowest_of n (mask_l (map p z)) ≡ prefix_len (λ x. not (p x)) z
+run_is p z n long few =
+    elim (cases_eq (mask_l (map p z)) 0) [
+      | inl none ↦ cond-true _ _ _ (eq-eqb _ _ none) ∙ sym (leading_from_mask_l p z none ∙ long)
+      | inr some ↦ cond-false _ _ _ (ne_eqb _ _ some) ∙ trailing_mask_l p 64 z (omega arith) (omega arith)
+    ]
+
+-- what the lane of a byte, that of a slash and that of the byte before it come to
+module _ (f g h : ℕ → ℕ) where
+  lane : ℕ → ℕ → Bool
+  lane x y = top 7 (bit_or (f x) (bit_and (g x) (h y)))
+
+  -- each lane below the lowest that is set is clear
+  pub lane_clear : (d : List ℕ) (i r : ℕ) (s a b : List ℕ) → 0 < i → i + 16 ≤ length d → s ≡ map f (chunk i 16 d) → a ≡ map g (chunk i 16 d) → b ≡ map h (chunk (i - 1) 16 d)
+      → r ≡ lowest_of 16 (mask_l (map (top 7) (zip2 bit_or s (zip2 bit_and a b))) % 2 ^ 64)
+      → (r ≤ 16) × ((k : ℕ) → i ≤ k → k < i + r → top 7 (bit_or (f (get_or d k 0)) (bit_and (g (get_or d k 0)) (h (get_or d (k - 1) 0)))) ≡ false)
+  lane_clear d i r s a b some room of_s of_a of_b found =
+      let here = chunk i 16 d in
+      let before = chunk (i - 1) 16 d in
+      let long_here = length-chunk i 16 d room in
+      let long_before = length-chunk (i - 1) 16 d (omega arith) in
+      let long_s : length s ≡ 16 = ap length of_s ∙ length-map here f ∙ long_here in
+      let long_a : length a ≡ 16 = ap length of_a ∙ length-map here g ∙ long_here in
+      let long_b : length b ≡ 16 = ap length of_b ∙ length-map before h ∙ long_before in
+      let w = zip2 bit_and a b in
+      let long_w : length w ≡ 16 = length-zip2 bit_and a b (long_a ∙ sym long_b) ∙ long_a in
+      let z = zip2 bit_or s w in
+      let long : length z ≡ 16 = length-zip2 bit_or s w (long_s ∙ sym long_w) ∙ long_s in
+      let mask = mask_l-mod (map (top 7) z) 64 (omega (arith, length-map z (top 7), long)) in
+      let run : r ≡ prefix_len (λ x. not (top 7 x)) z = found ∙ ap (lowest_of 16) mask ∙ run_is (top 7) z 16 long (omega arith) in
+      let most : r ≤ 16 = omega (arith, run, long, prefix_len-le-length (λ x. not (top 7 x)) z) in (
+        most,
+        λ k from to.
+            let j = k - i in
+            let forth : i + j ≡ k = omega (arith, from) in
+            let back : i - 1 + j ≡ k - 1 = omega (arith, from, some) in
+            let below : j < r = omega (arith, from, to) in
+            let inside : j < 16 = omega (arith, below, most) in
+            let clear = not-true _ (prefix_len_passes (λ x. not (top 7 x)) z j 0 (omega (arith, run, below))) in
+            let of_stop = ap (λ l. get_or l j 0) of_s ∙ get_or-map f here j 0 0 (omega (arith, inside, long_here)) ∙ ap f (get_or-chunk i 16 d j 0 inside ∙ ap (λ n. get_or d n 0) forth) in
+            let of_slash = ap (λ l. get_or l j 0) of_a ∙ get_or-map g here j 0 0 (omega (arith, inside, long_here)) ∙ ap g (get_or-chunk i 16 d j 0 inside ∙ ap (λ n. get_or d n 0) forth) in
+            let of_end = ap (λ l. get_or l j 0) of_b ∙ get_or-map h before j 0 0 (omega (arith, inside, long_before)) ∙ ap h (get_or-chunk (i - 1) 16 d j 0 inside ∙ ap (λ n. get_or d n 0) back) in
+            let of_both = get_or-zip2 bit_and a b j 0 0 0 (omega (arith, inside, long_a)) (omega (arith, inside, long_b)) ∙ ap₂ bit_and of_slash of_end in
+            let lanes = get_or-zip2 bit_or s w j 0 0 0 (omega (arith, inside, long_s)) (omega (arith, inside, long_w)) ∙ ap₂ bit_or of_stop of_both in
+            sym (ap (top 7) lanes) ∙ clear,
+      )
+
+-- the lane that stops a byte, that of a slash, and that of a byte before
+abbrev stop : ℕ → ℕ
+stop x = bit_or (bit_or (bit_or (bit_or (cond (ltb x 45) 255 0) (cond (eqb x 46) 255 0)) (bit_and (cond (ltb 57 x) 255 0) (cond (ltb x 64) 255 0))) (bit_and (cond (ltb 90 x) 255 0) (cond (ltb x 95) 255 0))) (cond (ltb 122 x) 255 0)
+
+abbrev slashed : ℕ → ℕ
+slashed x = cond (eqb x 47) 255 0
+
+abbrev ending : ℕ → ℕ
+ending y = bit_or (cond (eqb y 47) 255 0) (cond (eqb y 107) 255 0)
+
+-- after a byte that may end a component a byte with a clear lane is plain
+plain_after_end : (x : ℕ) → x < 256 → top 7 (bit_or (stop x) (bit_and (slashed x) 255)) ≡ false → class_at x ≡ Plain
+plain_after_end x below clear =
+    plain_class (class_at x)
+    (sym (ap (λ t. t || is_plain_class (class_at x)) clear) ∙ agree_below_at (λ b. top 7 (bit_or (stop b) (bit_and (slashed b) 255)) || is_plain_class (class_at b)) (λ _. true) 256 x refl below)
+
+-- and after any other one it is plain or a slash
+plain_or_slash : (x : ℕ) → x < 256 → top 7 (bit_or (stop x) (bit_and (slashed x) 0)) ≡ false → (is_plain_class (class_at x) || eqb x slash) ≡ true
+plain_or_slash x below clear =
+    sym (ap (λ t. t || (is_plain_class (class_at x) || eqb x slash)) clear) ∙ agree_below_at (λ b. top 7 (bit_or (stop b) (bit_and (slashed b) 0)) || (is_plain_class (class_at b) || eqb b slash)) (λ _. true) 256 x refl below
+
+ending-other : (y : ℕ) → y ≢ 47 → y ≢ 107 → ending y ≡ 0
+ending-other y not_slash not_k = ap₂ (λ s t. bit_or (cond s 255 0) (cond t 255 0)) (ne_eqb y 47 not_slash) (ne_eqb y 107 not_k)
+
+calm_after_other : (x y : ℕ) → y ≢ 47 → y ≢ 107 → (is_plain_class (class_at x) || eqb x slash) ≡ true → IsCalm y x
+calm_after_other x y not_slash not_k even =
+    elim (cases_eq x slash) [
+      | inl same ↦ inr (same, not_slash, not_k)
+      | inr other ↦ inl (plain_class (class_at x) (or_false (is_plain_class (class_at x)) (sym (ap (λ t. is_plain_class (class_at x) || t) (ne_eqb x slash other)) ∙ even)))
+    ]
+  where
+    or_false : (t : Bool) → (t || false) ≡ true → t ≡ true
+    or_false true same = refl
+    or_false false same = cc
+
+calm_from_clear : (x y : ℕ) → x < 256 → top 7 (bit_or (stop x) (bit_and (slashed x) (ending y))) ≡ false → IsCalm y x
+calm_from_clear x y below clear =
+    elim (cases_eq y 47) [
+      | inl same ↦ inl (plain_after_end x below (subst (λ b. top 7 (bit_or (stop x) (bit_and (slashed x) (ending b))) ≡ false) same clear))
+      | inr not_slash ↦ elim (cases_eq y 107) [
+        | inl same ↦ inl (plain_after_end x below (subst (λ b. top 7 (bit_or (stop x) (bit_and (slashed x) (ending b))) ≡ false) same clear))
+        | inr not_k ↦ calm_after_other x y not_slash not_k (plain_or_slash x below (subst (λ n. top 7 (bit_or (stop x) (bit_and (slashed x) n)) ≡ false) (ending-other y not_slash not_k) clear))
+      ]
+    ]
+
+-- bytes below the lowest lane that is set are calm
+pub calm_from_lanes : (d : List ℕ) (i r : ℕ) (s a b : List ℕ) → ((k : ℕ) → Fits w8 (get_or d k 0)) → 0 < i → i + 16 ≤ length d → s ≡ map stop (chunk i 16 d) → a ≡ map slashed (chunk i 16 d) → b ≡ map ending (chunk (i - 1) 16 d)
+    → r ≡ lowest_of 16 (mask_l (map (top 7) (zip2 bit_or s (zip2 bit_and a b))) % 2 ^ 64) → AreCalm d i (i + r) × (r ≤ 16)
+calm_from_lanes d i r s a b fits some room of_s of_a of_b found =
+    let clear = lane_clear stop slashed ending d i r s a b some room of_s of_a of_b found in
+    ((λ k from to. calm_from_clear (get_or d k 0) (get_or d (k - 1) 0) (fits k).fits (clear.1 k from to)), clear.0)

@@ -1,0 +1,131 @@
+-- The components of a text, found by the slashes round them. A slash is put before the text, so that
+-- each component is after one.
+use Rattle.std.proofs.Common.{◌≡◌, ℕ, List, [], ◌∷◌, ◌++◌, refl, sym, ap, ◌∙◌, inl, inr, append_assoc}
+use Rattle.std.specs.Prelude.{◌⊎◌}
+use Rattle.std.specs.List.{AllByRecursion, join_with_byte}
+use Rattle.std.proofs.lemmas.Bool.{cases_eq}
+use Rattle.std.proofs.lemmas.List.{append-nil}
+use Rattle.gix_refspec_text.specs.Texts.Words.{Lacks}
+use Rattle.gix_refspec_text.specs.Texts.Bytes.{slash}
+use Rattle.gix_refspec_text.specs.Texts.Name.{SomeComponent}
+
+-- nothing, or what begins with a slash: what may be after a component
+abbrev pub IsEnd : List ℕ → Type 0
+IsEnd [] = Unit {0}
+IsEnd (b ∷ x) = b ≡ slash
+
+-- the parts, each after a slash
+abbrev pub fenced : List (List ℕ) → List ℕ
+fenced [] = []
+fenced (p ∷ ps) = slash ∷ (p ++ fenced ps)
+
+pub AllByRecursion-append : {X : Type 0} (P : X → Type 0) (xs ys : List X) → AllByRecursion P xs → AllByRecursion P ys → AllByRecursion P (xs ++ ys)
+AllByRecursion-append P [] ys by_xs by_ys = by_ys
+AllByRecursion-append P (x ∷ xs) ys by_xs by_ys = (by_xs.0, AllByRecursion-append P xs ys by_xs.1 by_ys)
+
+pub AllByRecursion-parts : {X : Type 0} (P : X → Type 0) (xs : List X) (y : X) (ys : List X) → AllByRecursion P (xs ++ (y ∷ ys)) → P y
+AllByRecursion-parts P [] y ys every = every.0
+AllByRecursion-parts P (x ∷ xs) y ys every = AllByRecursion-parts P xs y ys every.1
+
+pub fenced-append : (ps qs : List (List ℕ)) → fenced (ps ++ qs) ≡ fenced ps ++ fenced qs
+fenced-append [] qs = refl
+fenced-append (p ∷ ps) qs = ap (λ x. slash ∷ x) (ap (λ x. p ++ x) (fenced-append ps qs) ∙ sym (append_assoc p (fenced ps) (fenced qs)))
+
+fenced-join : (p : List ℕ) (ps : List (List ℕ)) → fenced (p ∷ ps) ≡ slash ∷ join_with_byte slash (p ∷ ps)
+fenced-join p [] = ap (λ x. slash ∷ x) (append-nil p)
+fenced-join p (q ∷ ps) = ap (λ x. slash ∷ (p ++ x)) (fenced-join q ps)
+
+pub join_from_fenced : (ps : List (List ℕ)) (x : List ℕ) → fenced ps ≡ slash ∷ x → join_with_byte slash ps ≡ x
+join_from_fenced [] x same = cc
+join_from_fenced (p ∷ ps) x same = let joined = fenced-join p ps in cc
+
+pub fenced-IsEnd : (ps : List (List ℕ)) → IsEnd (fenced ps)
+fenced-IsEnd [] = tt
+fenced-IsEnd (p ∷ ps) = refl
+
+-- a text cut at its slashes
+pub record Pieces (x : List ℕ) : Type 0 where
+  pub first : List ℕ
+  pub others : List (List ℕ)
+  pub first_whole : Lacks slash first
+  pub others_whole : AllByRecursion (Lacks slash) others
+  pub here : first ++ fenced others ≡ x
+
+pub pieces_of : (x : List ℕ) → Pieces x
+pieces_of [] = record { first = []; others = []; first_whole = tt; others_whole = tt; here = refl }
+pieces_of (b ∷ x) =
+    let rest : Pieces x = pieces_of x in
+    elim (cases_eq b slash) [
+      | inl same ↦ record { first = []; others = rest.first ∷ rest.others; first_whole = tt; others_whole = (rest.first_whole, rest.others_whole); here = ap (λ y. slash ∷ y) rest.here ∙ ap (λ c. c ∷ x) (sym same) }
+      | inr other ↦ record { first = b ∷ rest.first; others = rest.others; first_whole = (other, rest.first_whole); others_whole = rest.others_whole; here = ap (λ y. b ∷ y) rest.here }
+    ]
+
+-- what may be after a component is parts after slashes
+fence_parts : (x : List ℕ) → IsEnd x → (ps : List (List ℕ)) × AllByRecursion (Lacks slash) ps × (fenced ps ≡ x)
+fence_parts [] ends = ([], tt, refl)
+fence_parts (b ∷ x) ends =
+    let cut : Pieces x = pieces_of x in
+    (cut.first ∷ cut.others, (cut.first_whole, cut.others_whole), ap (λ y. slash ∷ y) cut.here ∙ ap (λ c. c ∷ x) (sym ends))
+
+-- where a text's last slash is
+pub record LastSlash (x : List ℕ) : Type 0 where
+  pub before : List ℕ
+  pub after : List ℕ
+  pub here : x ≡ before ++ (slash ∷ after)
+  pub last : Lacks slash after
+
+last_slash : (x : List ℕ) → Lacks slash x ⊎ LastSlash x
+last_slash [] = inl tt
+last_slash (b ∷ x) =
+    elim (last_slash x) [
+      | inl lacks ↦ elim (cases_eq b slash) [
+        | inl same ↦ inr (record { before = []; after = x; here = ap (λ c. c ∷ x) same; last = lacks })
+        | inr other ↦ inl (other, lacks)
+      ]
+      | inr found ↦ inr (record { before = b ∷ found.before; after = found.after; here = ap (λ y. b ∷ y) found.here; last = found.last })
+    ]
+
+pub last_slash_after_one : (x : List ℕ) → LastSlash (slash ∷ x)
+last_slash_after_one x = elim (last_slash (slash ∷ x)) [ inl lacks ↦ absurd (lacks.0 refl) | inr found ↦ found ]
+
+-- w is in x between two slashes, or between a slash and an end
+pub record IsComponent (w x : List ℕ) : Type 0 where
+  pub before : List ℕ
+  pub after : List ℕ
+  pub here : slash ∷ x ≡ before ++ (slash ∷ (w ++ after))
+  pub whole : Lacks slash w
+  pub ends : IsEnd after
+
+front_IsEnd : (x before w : List ℕ) → slash ∷ x ≡ before ++ (slash ∷ w) → IsEnd before
+front_IsEnd x [] w here = tt
+front_IsEnd x (b ∷ before) w here = cc
+
+pub SomeComponent-from : (P : List ℕ → Type 0) (w x : List ℕ) → IsComponent w x → P w → SomeComponent P x
+SomeComponent-from P w x found fact =
+    let front = fence_parts found.before (front_IsEnd x found.before (w ++ found.after) found.here) in
+    let back = fence_parts found.after found.ends in
+    let same : fenced (front.0 ++ (w ∷ back.0)) ≡ slash ∷ x =
+    fenced-append front.0 (w ∷ back.0) ∙ ap (λ y. y ++ fenced (w ∷ back.0)) front.2 ∙ ap (λ y. found.before ++ (slash ∷ (w ++ y))) back.2 ∙ sym found.here in
+    record {
+      before = front.0;
+      component = w;
+      after = back.0;
+      components = record {
+        joined = join_from_fenced (front.0 ++ (w ∷ back.0)) x same;
+        whole = AllByRecursion-append (Lacks slash) front.0 (w ∷ back.0) front.1 (found.whole, back.1);
+      };
+      fact = fact;
+    }
+
+fenced_from_join : (ps : List (List ℕ)) (w : List ℕ) (qs : List (List ℕ)) (x : List ℕ) → join_with_byte slash (ps ++ (w ∷ qs)) ≡ x → fenced (ps ++ (w ∷ qs)) ≡ slash ∷ x
+fenced_from_join [] w qs x joined = fenced-join w qs ∙ ap (λ y. slash ∷ y) joined
+fenced_from_join (p ∷ ps) w qs x joined = fenced-join p (ps ++ (w ∷ qs)) ∙ ap (λ y. slash ∷ y) joined
+
+pub SomeComponent-place : (P : List ℕ → Type 0) (x : List ℕ) (some : SomeComponent P x) → IsComponent some.component x
+SomeComponent-place P x some = record {
+  before = fenced some.before;
+  after = fenced some.after;
+  here = sym (fenced_from_join some.before some.component some.after x some.components.joined) ∙ fenced-append some.before (some.component ∷ some.after);
+  whole = AllByRecursion-parts (Lacks slash) some.before some.component some.after some.components.whole;
+  ends = fenced-IsEnd some.after;
+}

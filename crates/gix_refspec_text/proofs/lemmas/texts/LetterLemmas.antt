@@ -1,0 +1,238 @@
+-- A text with letters in place of its stars has the faults that one pass over the text finds.
+use Rattle.std.proofs.Common.{◌≡◌, ◌≢◌, ℕ, List, [], ◌∷◌, ◌++◌, codes, length, take, drop, get_or, suc, ◌<◌, Option, Some, None, MatchOption, true, refl, sym, ap, ◌∙◌, subst, inl, inr, if◌then◌else◌, arith, append_assoc, Bool, zero, ◌-◌, ◌≤◌, false, ◌==◌, ◌+◌}
+use Rattle.std.proofs.lemmas.Bool.{false≢true, cases_eq, eq-eqb, ne_eqb}
+use Rattle.std.proofs.lemmas.List.{map-append, take_more}
+use Rattle.std.proofs.lemmas.List.Sums.{count_by_more_no}
+use Rattle.gix_refspec_text.specs.declared.name.class.Class.TheVariants.{Plain, Slash, Dot, Brace, Star, Refused}
+use Rattle.gix_refspec_text.specs.declared.name.Error.{Error}
+use Rattle.gix_refspec_text.specs.declared.name.Error.TheVariants.{Empty, EmptyComponent, StartsWithDot, LockSuffix, EndsWithDot, RepeatedDot, ReflogPortion, Asterisk, InvalidByte}
+use Rattle.gix_refspec_text.specs.Texts.Words.{Lacks, EndsWith}
+use Rattle.gix_refspec_text.specs.Texts.Bytes.{slash, star, letter, dot, brace}
+use Rattle.gix_refspec_text.specs.Texts.Name.{is_refused_byte, HasFault, IsName, IsCut, IsPattern, HasOneStar, ReplacesStar}
+use Rattle.gix_refspec_text.specs.Private.Scan.{class_at, AddsFault, IsClean, LeavesFault, Finds, letter_for, with_letters, IsScanned, IsCalm, AreCalm}
+use Rattle.gix_refspec_text.proofs.lemmas.texts.TextLemmas.{cut_at}
+use Rattle.gix_refspec_text.proofs.lemmas.texts.NameLemmas.{IsClean-more, HasFault-added, answer_at_end, slash_adds, last_byte}
+
+letter_for-star : (b : ℕ) → b ≡ star → letter_for b ≡ letter
+letter_for-star b same = ap (λ t. if t then letter else b) (eq-eqb b star same)
+
+letter_for-other : (b : ℕ) → b ≢ star → letter_for b ≡ b
+letter_for-other b other = ap (λ t. if t then letter else b) (ne_eqb b star other)
+
+letters-append : (x y : List ℕ) → with_letters (x ++ y) ≡ with_letters x ++ with_letters y
+letters-append x y = map-append letter_for x y
+
+-- a byte that is no letter was there before
+same_byte : (b c : ℕ) → c ≢ letter → letter_for b ≡ c → b ≡ c
+same_byte b c other same =
+    elim (cases_eq b star) [
+      | inl starred ↦ absurd (other (sym same ∙ letter_for-star b starred))
+      | inr plain ↦ sym (letter_for-other b plain) ∙ same
+    ]
+
+same_word : (y w : List ℕ) → Lacks letter w → with_letters y ≡ w → y ≡ w
+same_word [] [] lacks same = refl
+same_word [] (c ∷ w) lacks same = cc
+same_word (b ∷ y) [] lacks same = cc
+same_word (b ∷ y) (c ∷ w) lacks same =
+    let heads : letter_for b ≡ c = cc in
+    let tails : with_letters y ≡ w = cc in
+    ap (λ d. d ∷ y) (same_byte b c lacks.0 heads) ∙ ap (λ z. c ∷ z) (same_word y w lacks.1 tails)
+
+end_before : (y p w : List ℕ) → Lacks letter w → with_letters y ≡ p ++ w → EndsWith w y
+end_before y [] w lacks same = record { before = []; here = same_word y w lacks same }
+end_before [] (c ∷ p) w lacks same = cc
+end_before (b ∷ y) (c ∷ p) w lacks same =
+    let tails : with_letters y ≡ p ++ w = cc in
+    let end = end_before y p w lacks tails in
+    record { before = b ∷ end.before; here = ap (λ z. b ∷ z) end.here }
+
+-- a word without a letter or a star
+abbrev IsKept : List ℕ → Type 0
+IsKept w = Lacks letter w × (with_letters w ≡ w)
+
+slash_kept : IsKept (codes "/")
+slash_kept = (((λ e. omega (arith, e)), tt), refl)
+
+dot_kept : IsKept (codes ".")
+dot_kept = (((λ e. omega (arith, e)), tt), refl)
+
+at_kept : IsKept (codes "@")
+at_kept = (((λ e. omega (arith, e)), tt), refl)
+
+lock_kept : IsKept (codes ".lock")
+lock_kept = (((λ e. omega (arith, e)), ((λ e. omega (arith, e)), ((λ e. omega (arith, e)), ((λ e. omega (arith, e)), ((λ e. omega (arith, e)), tt))))), refl)
+
+-- y ends with each such word that x ends with
+abbrev EndsAs : List ℕ → List ℕ → Type 0
+EndsAs x y = (w : List ℕ) → IsKept w → EndsWith w x → EndsWith w y
+
+-- a text and the text with letters end with the same words of this kind
+ends_before : (y : List ℕ) → EndsAs (with_letters y) y
+ends_before y w kept ends = end_before y ends.before w kept.0 ends.here
+
+ends_with_letters : (y : List ℕ) → EndsAs y (with_letters y)
+ends_with_letters y w kept ends = record {
+  before = with_letters ends.before;
+  here = ap with_letters ends.here ∙ letters-append ends.before w ∙ ap (λ z. with_letters ends.before ++ z) kept.1;
+}
+
+-- so a byte adds the same faults to both
+AddsFault-as : (x y : List ℕ) (b : ℕ) → EndsAs x y → (e : Error) → AddsFault x b e → AddsFault y b e
+AddsFault-as x y b ends EmptyComponent fault = (fault.0, ends (codes "/") slash_kept fault.1)
+AddsFault-as x y b ends StartsWithDot fault = (fault.0, ends (codes "/") slash_kept fault.1)
+AddsFault-as x y b ends LockSuffix fault = (fault.0, ends (codes ".lock") lock_kept fault.1)
+AddsFault-as x y b ends RepeatedDot fault = (fault.0, ends (codes ".") dot_kept fault.1)
+AddsFault-as x y b ends ReflogPortion fault = (fault.0, ends (codes "@") at_kept fault.1)
+AddsFault-as x y b ends _ fault = fault
+
+-- and the same faults are left at their ends
+LeavesFault-as : (x y : List ℕ) → EndsAs x y → (e : Error) → LeavesFault x e → LeavesFault y e
+LeavesFault-as x y ends EmptyComponent left = ends (codes "/") slash_kept left
+LeavesFault-as x y ends LockSuffix left = ends (codes ".lock") lock_kept left
+LeavesFault-as x y ends EndsWithDot left = ends (codes ".") dot_kept left
+LeavesFault-as x y ends _ left = left
+
+letter_adds_nothing : (y : List ℕ) (e : Error) → ¬ (AddsFault y letter e)
+letter_adds_nothing y Empty fault = fault
+letter_adds_nothing y EmptyComponent fault = absurd (omega (arith, fault.0))
+letter_adds_nothing y StartsWithDot fault = absurd (omega (arith, fault.0))
+letter_adds_nothing y LockSuffix fault = absurd (omega (arith, fault.0))
+letter_adds_nothing y EndsWithDot fault = fault
+letter_adds_nothing y RepeatedDot fault = absurd (omega (arith, fault.0))
+letter_adds_nothing y ReflogPortion fault = absurd (omega (arith, fault.0))
+letter_adds_nothing y Asterisk fault = absurd (omega (arith, fault))
+letter_adds_nothing y (InvalidByte c) fault = false≢true (subst (λ b. is_refused_byte b ≡ true) (sym fault.0) fault.1)
+
+-- one more byte adds none: a star, or another one that adds none to the text
+pub clean_after_star : (y : List ℕ) (b : ℕ) → b ≡ star → IsClean (with_letters y) → IsClean (with_letters (y ++ (b ∷ [])))
+clean_after_star y b same clean =
+    subst IsClean (sym (letters-append y (b ∷ []))) (IsClean-more (with_letters y) (letter_for b) clean
+    (λ e fault. letter_adds_nothing (with_letters y) e (subst (λ c. AddsFault (with_letters y) c e) (letter_for-star b same) fault)))
+
+pub clean_after_other : (y : List ℕ) (b : ℕ) → ((e : Error) → ¬ (AddsFault y b e)) → IsClean (with_letters y) → IsClean (with_letters (y ++ (b ∷ [])))
+clean_after_other y b none clean =
+    subst IsClean (sym (letters-append y (b ∷ []))) (IsClean-more (with_letters y) (letter_for b) clean
+    (λ e fault. none e (AddsFault-as (with_letters y) y b (ends_before y) e (subst (λ c. AddsFault (with_letters y) c e) (letter_for-other b (none Asterisk)) fault))))
+
+some_letters : (x : List ℕ) → x ≢ [] → with_letters x ≢ []
+some_letters [] some same = some refl
+some_letters (b ∷ x) some same = cc
+
+-- a text with a place isn't empty
+pub some_place : (x : List ℕ) (i : ℕ) → i < length x → x ≢ []
+some_place [] i below same = absurd (omega (arith, below))
+some_place (b ∷ x) i below same = cc
+
+-- a fault that a byte other than a star adds is one of the text with letters
+pub fault_with_letters : (x : List ℕ) (i : ℕ) (e : Error) → x ≢ [] → i < length x → get_or x i 0 ≢ star → AddsFault (slash ∷ take i x) (get_or x i 0) e → HasFault (with_letters x) e
+fault_with_letters x i e some below other fault =
+    let b = get_or x i 0 in
+    let whole : with_letters x ≡ with_letters (take i x) ++ (letter_for b ∷ with_letters (drop (suc i) x)) = ap with_letters (cut_at x i b below refl) ∙ letters-append (take i x) (b ∷ drop (suc i) x) in
+    HasFault-added (with_letters x) e (some_letters x some) (record {
+      before = with_letters (slash ∷ take i x);
+      byte = b;
+      after = with_letters (drop (suc i) x);
+      here = ap (λ z. slash ∷ z) whole ∙ ap (λ c. with_letters (slash ∷ take i x) ++ (c ∷ with_letters (drop (suc i) x))) (letter_for-other b other);
+      fault = AddsFault-as (slash ∷ take i x) (with_letters (slash ∷ take i x)) b (ends_with_letters (slash ∷ take i x)) e fault;
+    })
+
+finds_with_letters : (y : List ℕ) (fault : Option Error) → Finds fault (LeavesFault y) → Finds fault (LeavesFault (with_letters y))
+finds_with_letters y None none = λ e left. none e (LeavesFault-as (with_letters y) y (ends_before y) e left)
+finds_with_letters y (Some e) left = LeavesFault-as y (with_letters y) (ends_with_letters y) e left
+
+-- the answer at the end of a text whose bytes add no fault once letters stand for the stars
+pub answer_with_letters : (x : List ℕ) (fault : Option Error) → x ≢ [] → IsClean (with_letters (slash ∷ x)) → Finds fault (LeavesFault (slash ∷ x)) → MatchOption fault (IsName (with_letters x)) (HasFault (with_letters x))
+answer_with_letters x fault some clean left = answer_at_end (with_letters x) fault (some_letters x some) clean (finds_with_letters (slash ∷ x) fault left)
+
+-- a text without stars is the same with letters
+pub letters-Lacks : (x : List ℕ) → Lacks star x → with_letters x ≡ x
+letters-Lacks [] lacks = refl
+letters-Lacks (b ∷ x) lacks = ap (λ c. c ∷ with_letters x) (letter_for-other b lacks.0) ∙ ap (λ y. b ∷ y) (letters-Lacks x lacks.1)
+
+letters-cut : (before after x : List ℕ) → IsCut before after x → with_letters x ≡ before ++ (letter ∷ after)
+letters-cut before after x cut =
+    ap with_letters cut.starred ∙ letters-append before (star ∷ after) ∙ ap (λ y. y ++ (letter ∷ with_letters after)) (letters-Lacks before cut.first) ∙ ap (λ y. before ++ (letter ∷ y)) (letters-Lacks after cut.last)
+
+-- one star is replaced where letters stand for all
+pub replaces_one : (before after x : List ℕ) → IsCut before after x → ReplacesStar x (with_letters x)
+replaces_one before after x cut = record { before = before; after = after; cut = cut; replaced = letters-cut before after x cut }
+
+pub pattern_with_letter : (x : List ℕ) → HasOneStar x → IsName (with_letters x) → IsPattern x
+pattern_with_letter x (before, after, cut) name = record { with_letter = with_letters x; replaces = replaces_one before after x cut; name = name }
+
+-- what is found with letters is found of a text without stars
+pub fault_without_stars : (x : List ℕ) (e : Error) → Lacks star x → HasFault (with_letters x) e → HasFault x e
+fault_without_stars x e lacks fault = subst (λ y. HasFault y e) (letters-Lacks x lacks) fault
+
+pub name_without_stars : (x : List ℕ) → Lacks star x → IsName (with_letters x) → IsName x
+name_without_stars x lacks name = subst IsName (letters-Lacks x lacks) name
+
+-- a plain byte is no other
+plain_as : (b c : ℕ) → class_at b ≡ Plain → b ≡ c → class_at c ≡ Plain
+plain_as b c plain same = subst (λ d. class_at d ≡ Plain) same plain
+
+refused_class : (s d r t : Bool) → (if s then Slash else if d then Dot else if r then Brace else if t then Star else Refused) ≡ Plain → ⊥
+refused_class true d r t same = cc
+refused_class false true r t same = cc
+refused_class false false true t same = cc
+refused_class false false false true same = cc
+refused_class false false false false same = cc
+
+plain_not_refused : (b : ℕ) → class_at b ≡ Plain → is_refused_byte b ≡ true → ⊥
+plain_not_refused b plain refused =
+    refused_class (b == slash) (b == dot) (b == brace) (b == star)
+    (sym (ap (λ v. if b == slash then Slash else if b == dot then Dot else if b == brace then Brace else if b == star then Star else if v then Refused else Plain) refused) ∙ plain)
+
+plain_adds_nothing : (y : List ℕ) (b : ℕ) → class_at b ≡ Plain → (e : Error) → ¬ (AddsFault y b e)
+plain_adds_nothing y b plain Empty fault = fault
+plain_adds_nothing y b plain EmptyComponent fault = let no = plain_as b slash plain fault.0 in absurd (cc)
+plain_adds_nothing y b plain StartsWithDot fault = let no = plain_as b dot plain fault.0 in absurd (cc)
+plain_adds_nothing y b plain LockSuffix fault = let no = plain_as b slash plain fault.0 in absurd (cc)
+plain_adds_nothing y b plain EndsWithDot fault = fault
+plain_adds_nothing y b plain RepeatedDot fault = let no = plain_as b dot plain fault.0 in absurd (cc)
+plain_adds_nothing y b plain ReflogPortion fault = let no = plain_as b brace plain fault.0 in absurd (cc)
+plain_adds_nothing y b plain Asterisk fault = let no = plain_as b star plain fault in absurd (cc)
+plain_adds_nothing y b plain (InvalidByte c) fault = plain_not_refused b plain (subst (λ d. is_refused_byte d ≡ true) (sym fault.0) fault.1)
+
+locked_ends : (y : List ℕ) → EndsWith (codes ".lock") y → EndsWith (107 ∷ []) y
+locked_ends y ends = record { before = ends.before ++ codes ".loc"; here = ends.here ∙ sym (append_assoc ends.before (codes ".loc") (107 ∷ [])) }
+
+-- a calm byte adds no fault
+calm_adds_nothing : (y : List ℕ) (p b : ℕ) → EndsWith (p ∷ []) y → IsCalm p b → (e : Error) → ¬ (AddsFault y b e)
+calm_adds_nothing y p b last (inl plain) = plain_adds_nothing y b plain
+calm_adds_nothing y p b last (inr quiet) = λ e fault.
+    slash_adds y e (λ ends. quiet.1 (last_byte y p slash last ends)) (λ locked. quiet.2 (last_byte y p 107 last (locked_ends y locked)))
+    (subst (λ c. AddsFault y c e) quiet.0 fault)
+
+-- the last byte before a place
+last_before : (x : List ℕ) (i : ℕ) → i < length x → EndsWith (get_or x i 0 ∷ []) (slash ∷ take (i + 1) x)
+last_before x i below = record { before = slash ∷ take i x; here = ap (λ z. slash ∷ z) (take_more x i 0 below) }
+
+calm_more : (x : List ℕ) (i : ℕ) (s : Bool) → 0 < i → i < length x → IsCalm (get_or x (i - 1) 0) (get_or x i 0) → IsScanned x i s → IsScanned x (i + 1) s
+calm_more x i s some below calm scanned =
+    let b = get_or x i 0 in
+    let y = slash ∷ take i x in
+    let back : i - 1 + 1 ≡ i = omega (arith, some) in
+    let last : EndsWith (get_or x (i - 1) 0 ∷ []) y = subst (λ j. EndsWith (get_or x (i - 1) 0 ∷ []) (slash ∷ take j x)) back (last_before x (i - 1) (omega (arith, some, below))) in
+    let none = calm_adds_nothing y (get_or x (i - 1) 0) b last calm in
+    let one_more : slash ∷ take (i + 1) x ≡ y ++ (b ∷ []) = ap (λ z. slash ∷ z) (take_more x i 0 below) in (
+      subst (λ z. IsClean (with_letters z)) (sym one_more) (clean_after_other y b none scanned.0),
+      count_by_more_no (λ d. d == star) x i 0 below (ne_eqb b star (none Asterisk)) ∙ scanned.1,
+    )
+
+-- calm bytes add no fault and are no stars
+pub calm_scanned : (m : ℕ) (x : List ℕ) (i : ℕ) (s : Bool) → 0 < i → i + m ≤ length x → AreCalm x i (i + m) → IsScanned x i s → IsScanned x (i + m) s
+calm_scanned zero x i s some room calm scanned = let same : i ≡ i + 0 = omega (arith) in subst (λ j. IsScanned x j s) same scanned
+calm_scanned (suc m) x i s some room calm scanned =
+    let one = calm_more x i s some (omega (arith, room)) (calm i (omega (arith)) (omega (arith))) scanned in
+    let rest = calm_scanned m x (i + 1) s (omega (arith)) (omega (arith, room)) (λ k from to. calm k (omega (arith, from)) (omega (arith, to))) one in
+    let same : i + 1 + m ≡ i + suc m = omega (arith) in
+    subst (λ j. IsScanned x j s) same rest
+
+-- calm bytes after what was looked at add no fault, and are no stars
+pub calm_to : (x : List ℕ) (i b : ℕ) (s : Bool) → 0 < i → i ≤ b → b ≤ length x → AreCalm x i b → IsScanned x i s → IsScanned x b s
+calm_to x i b s some to room calm scanned =
+    let there : i + (b - i) ≡ b = omega (arith, to) in
+    let rest = calm_scanned (b - i) x i s some (omega (arith, there, room)) (λ k above below. calm k above (omega (arith, there, below))) scanned in
+    subst (λ j. IsScanned x j s) there rest

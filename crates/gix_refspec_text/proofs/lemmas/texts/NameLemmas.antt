@@ -1,0 +1,282 @@
+-- What one pass over the bytes finds, a byte at a time, against the faults of a name.
+use Rattle.std.proofs.Common.{◌≡◌, ◌≢◌, ℕ, List, [], ◌∷◌, ◌++◌, codes, length, take, drop, get_or, ◌==◌, ◌+◌, ◌<◌, ◌≤◌, suc, Option, Some, None, MatchOption, false, true, IsTrue, refl, sym, ap, ◌∙◌, subst, inl, inr, append_assoc, arith, add-one, drop-cons, take-append-drop, Bool, ◌-◌, nat_eq, Decides}
+use Rattle.std.specs.List.{ends_with}
+use Rattle.std.proofs.lemmas.Slice.Eq.{ends_is}
+use Rattle.std.proofs.lemmas.Bool.Decides.{Decides-eqb}
+use Rattle.std.proofs.lemmas.List.{append-nil, append_cancel_left}
+use Rattle.std.specs.Prelude.{◌⊎◌}
+use Rattle.std.proofs.lemmas.Bool.{false≢true}
+use Rattle.gix_refspec_text.specs.declared.name.Error.{Error}
+use Rattle.gix_refspec_text.specs.declared.name.Error.TheVariants.{Empty, EmptyComponent, StartsWithDot, LockSuffix, EndsWithDot, RepeatedDot, ReflogPortion, Asterisk, InvalidByte}
+use Rattle.gix_refspec_text.specs.Texts.Words.{Lacks, Holds, BeginsWith, EndsWith}
+use Rattle.gix_refspec_text.specs.Texts.Bytes.{slash, star, dot, brace}
+use Rattle.gix_refspec_text.specs.Texts.Name.{is_refused_byte, SomeComponent, HasFault, IsName}
+use Rattle.gix_refspec_text.specs.Private.Scan.{AddsFault, Added, IsClean, LeavesFault, Finds}
+use Rattle.std.proofs.Math.ListN.{drop_of_length-le}
+use Rattle.gix_refspec_text.proofs.lemmas.texts.TextLemmas.{cut_at}
+use Rattle.gix_refspec_text.proofs.lemmas.texts.ComponentLemmas.{IsEnd, IsComponent, Pieces, pieces_of, fenced, fenced-IsEnd, LastSlash, last_slash_after_one, SomeComponent-from, SomeComponent-place, AllByRecursion-append}
+
+drop_at : (x : List ℕ) (i : ℕ) → i < length x → drop i x ≡ get_or x i 0 ∷ drop (i + 1) x
+drop_at x i below = rw (add-one, drop-cons x i 0)
+
+no_middle : (p r : List ℕ) (b : ℕ) → [] ≡ p ++ (b ∷ r) → ⊥
+no_middle [] r b same = cc
+no_middle (c ∷ p) r b same = cc
+
+-- a place in a text with one more byte is its last, or a place in the text
+record Before (y p : List ℕ) (b : ℕ) : Type 0 where
+  after : List ℕ
+  here : y ≡ p ++ (b ∷ after)
+
+place_with_one_more : (y p r : List ℕ) (c b : ℕ) → y ++ (c ∷ []) ≡ p ++ (b ∷ r) → ((y ≡ p) × (c ≡ b)) ⊎ Before y p b
+place_with_one_more [] [] r c b same = inl (refl, cc)
+place_with_one_more (x ∷ y) [] r c b same = inr (record { after = y; here = cc })
+place_with_one_more [] (q ∷ p) r c b same = let tails : [] ≡ p ++ (b ∷ r) = cc in absurd (no_middle p r b tails)
+place_with_one_more (x ∷ y) (q ∷ p) r c b same =
+    let heads : x ≡ q = cc in
+    let tails : y ++ (c ∷ []) ≡ p ++ (b ∷ r) = cc in
+    elim (place_with_one_more y p r c b tails) [
+      | inl last ↦ inl (ap (λ z. x ∷ z) last.0 ∙ ap (λ h. h ∷ p) heads, last.1)
+      | inr place ↦ inr (record { after = place.after; here = ap (λ z. x ∷ z) place.here ∙ ap (λ h. h ∷ (p ++ (b ∷ place.after))) heads })
+    ]
+
+rest_of_last : (p y after : List ℕ) (c b : ℕ) → y ≡ p ++ (b ∷ after) → y ++ (c ∷ []) ≡ p ++ (b ∷ []) → after ++ (c ∷ []) ≡ []
+rest_of_last p y after c b here same =
+    let whole : p ++ ((b ∷ after) ++ (c ∷ [])) ≡ p ++ (b ∷ []) = sym (append_assoc p (b ∷ after) (c ∷ [])) ∙ ap (λ z. z ++ (c ∷ [])) (sym here) ∙ same in
+    let tails : b ∷ (after ++ (c ∷ [])) ≡ b ∷ [] = append_cancel_left p _ _ whole in
+    cc
+
+-- the last byte of a text is one byte
+pub last_byte : (y : List ℕ) (c b : ℕ) → EndsWith (c ∷ []) y → EndsWith (b ∷ []) y → c ≡ b
+last_byte y c b by_c by_b =
+    elim (place_with_one_more by_c.before by_b.before [] c b (sym by_c.here ∙ by_b.here)) [
+      | inl same ↦ same.1
+      | inr place ↦ absurd (no_middle place.after [] c (sym (rest_of_last by_b.before by_c.before place.after c b place.here (sym by_c.here ∙ by_b.here))))
+    ]
+
+pub IsClean-more : (y : List ℕ) (c : ℕ) → IsClean y → ((e : Error) → ¬ (AddsFault y c e)) → IsClean (y ++ (c ∷ []))
+IsClean-more y c clean none e added =
+    elim (place_with_one_more y added.before added.after c added.byte added.here) [
+      | inl last ↦ none e (subst (λ z. AddsFault z c e) (sym last.0) (subst (λ b. AddsFault added.before b e) (sym last.1) added.fault))
+      | inr place ↦ clean e (record { before = added.before; byte = added.byte; after = place.after; here = place.here; fault = added.fault })
+    ]
+
+IsClean-nil : IsClean []
+IsClean-nil e added = no_middle added.before added.after added.byte added.here
+
+slash_adds_nothing : (e : Error) → ¬ (AddsFault [] slash e)
+slash_adds_nothing Empty fault = fault
+slash_adds_nothing EmptyComponent fault = no_middle fault.1.before [] 47 fault.1.here
+slash_adds_nothing StartsWithDot fault = no_middle fault.1.before [] 47 fault.1.here
+slash_adds_nothing LockSuffix fault = no_middle fault.1.before _ 46 fault.1.here
+slash_adds_nothing EndsWithDot fault = fault
+slash_adds_nothing RepeatedDot fault = no_middle fault.1.before [] 46 fault.1.here
+slash_adds_nothing ReflogPortion fault = no_middle fault.1.before [] 64 fault.1.here
+slash_adds_nothing Asterisk fault = absurd (omega (arith, fault))
+slash_adds_nothing (InvalidByte c) fault = false≢true (subst (λ b. is_refused_byte b ≡ true) (sym fault.0) fault.1)
+
+pub IsClean-start : IsClean (slash ∷ [])
+IsClean-start = IsClean-more [] slash IsClean-nil slash_adds_nothing
+
+-- what is after a byte other than the slash in front of x is in x
+record InText (x w : List ℕ) : Type 0 where
+  before : List ℕ
+  here : x ≡ before ++ w
+
+after_slash : (x p w : List ℕ) (b : ℕ) → b ≢ slash → slash ∷ x ≡ p ++ (b ∷ w) → InText x (b ∷ w)
+after_slash x [] w b other here = absurd (other cc)
+after_slash x (c ∷ p) w b other here = record { before = p; here = cc }
+
+empty_component : (x p after : List ℕ) → slash ∷ x ≡ (p ++ (slash ∷ [])) ++ after → IsEnd after → SomeComponent (λ w. w ≡ []) x
+empty_component x p after here ends =
+    SomeComponent-from (λ w. w ≡ []) [] x (record { before = p; after = after; here = here ∙ append_assoc p (slash ∷ []) after; whole = tt; ends = ends }) refl
+
+dot_no_slash : dot ≢ slash
+dot_no_slash same = omega (arith, same)
+
+dotted_component : (x p after : List ℕ) → slash ∷ x ≡ (p ++ (slash ∷ [])) ++ (dot ∷ after) → SomeComponent (BeginsWith (codes ".")) x
+dotted_component x p after here =
+    let cut : Pieces after = pieces_of after in
+    SomeComponent-from (BeginsWith (codes ".")) (dot ∷ cut.first) x
+    (record {
+      before = p;
+      after = fenced cut.others;
+      here = here ∙ append_assoc p (slash ∷ []) (dot ∷ after) ∙ ap (λ z. p ++ (slash ∷ (dot ∷ z))) (sym cut.here);
+      whole = (dot_no_slash, cut.first_whole);
+      ends = fenced-IsEnd cut.others;
+    })
+    (record { after = cut.first; here = refl })
+
+dot_lock_whole : Lacks slash (codes ".lock")
+dot_lock_whole = ((λ e. omega (arith, e)), ((λ e. omega (arith, e)), ((λ e. omega (arith, e)), ((λ e. omega (arith, e)), ((λ e. omega (arith, e)), tt)))))
+
+regroup : (a b c d : List ℕ) → ((a ++ b) ++ c) ++ d ≡ a ++ ((b ++ c) ++ d)
+regroup a b c d = simp append_assoc
+
+locked_component_after : (x p after : List ℕ) → LastSlash p → slash ∷ x ≡ (p ++ codes ".lock") ++ after → IsEnd after → SomeComponent (EndsWith (codes ".lock")) x
+locked_component_after x p after cut here ends =
+    SomeComponent-from (EndsWith (codes ".lock")) (cut.after ++ codes ".lock") x
+    (record {
+      before = cut.before;
+      after = after;
+      here = here ∙ ap (λ z. (z ++ codes ".lock") ++ after) cut.here ∙ regroup cut.before (slash ∷ cut.after) (codes ".lock") after;
+      whole = AllByRecursion-append (λ c. c ≢ slash) cut.after (codes ".lock") cut.last dot_lock_whole;
+      ends = ends;
+    })
+    (record { before = cut.after; here = refl })
+
+locked_component : (x p after : List ℕ) → slash ∷ x ≡ (p ++ codes ".lock") ++ after → IsEnd after → SomeComponent (EndsWith (codes ".lock")) x
+locked_component x [] after here ends = let first : slash ≡ dot = cc in absurd (dot_no_slash (sym first))
+locked_component x (c ∷ p) after here ends =
+    let first : slash ≡ c = cc in
+    locked_component_after x (c ∷ p) after (subst (λ b. LastSlash (b ∷ p)) first (last_slash_after_one p)) here ends
+
+byte_in_text : (x p after : List ℕ) (b c : ℕ) → c ≢ slash → slash ∷ x ≡ p ++ (b ∷ after) → b ≡ c → Holds (c ∷ []) x
+byte_in_text x p after b c other here same =
+    let found : InText x (c ∷ after) = after_slash x p after c other (here ∙ ap (λ d. p ++ (d ∷ after)) same) in
+    record { before = found.before; after = after; here = found.here }
+
+pair_in_text : (x p after : List ℕ) (a b c : ℕ) → a ≢ slash → slash ∷ x ≡ p ++ (b ∷ after) → EndsWith (a ∷ []) p → b ≡ c → Holds (a ∷ c ∷ []) x
+pair_in_text x p after a b c other here ends same =
+    let whole : slash ∷ x ≡ ends.before ++ (a ∷ (c ∷ after)) = here ∙ ap (λ d. p ++ (d ∷ after)) same ∙ ap (λ z. z ++ (c ∷ after)) ends.here ∙ append_assoc ends.before (a ∷ []) (c ∷ after) in
+    let found : InText x (a ∷ c ∷ after) = after_slash x ends.before (c ∷ after) a other whole in
+    record { before = found.before; after = after; here = found.here }
+
+refused_no_slash : (c : ℕ) → IsTrue (is_refused_byte c) → c ≢ slash
+refused_no_slash c refused same = false≢true (subst (λ b. is_refused_byte b ≡ true) same refused)
+
+-- a fault that a byte adds is a fault of the text
+pub HasFault-added : (x : List ℕ) (e : Error) → x ≢ [] → Added (slash ∷ x) e → HasFault x e
+HasFault-added x Empty some added = absurd added.fault
+HasFault-added x EmptyComponent some added = (some, empty_component x added.fault.1.before (added.byte ∷ added.after) (added.here ∙ ap (λ p. p ++ (added.byte ∷ added.after)) added.fault.1.here) added.fault.0)
+HasFault-added x StartsWithDot some added = dotted_component x added.fault.1.before added.after (added.here ∙ ap (λ p. p ++ (added.byte ∷ added.after)) added.fault.1.here ∙ ap (λ b. (added.fault.1.before ++ (slash ∷ [])) ++ (b ∷ added.after)) added.fault.0)
+HasFault-added x LockSuffix some added = locked_component x added.fault.1.before (added.byte ∷ added.after) (added.here ∙ ap (λ p. p ++ (added.byte ∷ added.after)) added.fault.1.here) added.fault.0
+HasFault-added x EndsWithDot some added = absurd added.fault
+HasFault-added x RepeatedDot some added = pair_in_text x added.before added.after dot added.byte dot dot_no_slash added.here added.fault.1 added.fault.0
+HasFault-added x ReflogPortion some added = pair_in_text x added.before added.after 64 added.byte brace (λ e. omega (arith, e)) added.here added.fault.1 added.fault.0
+HasFault-added x Asterisk some added = byte_in_text x added.before added.after added.byte star (λ e. omega (arith, e)) added.here added.fault
+HasFault-added x (InvalidByte c) some added = (byte_in_text x added.before added.after added.byte c (refused_no_slash c added.fault.1) added.here added.fault.0, added.fault.1)
+
+-- a fault that is left at the end is a fault of the text
+pub HasFault-left : (x : List ℕ) (e : Error) → x ≢ [] → LeavesFault (slash ∷ x) e → HasFault x e
+HasFault-left x Empty some left = absurd left
+HasFault-left x EmptyComponent some left = (some, empty_component x left.before [] (left.here ∙ sym (append-nil _)) tt)
+HasFault-left x StartsWithDot some left = absurd left
+HasFault-left x LockSuffix some left = locked_component x left.before [] (left.here ∙ sym (append-nil _)) tt
+HasFault-left x EndsWithDot some left =
+    let found : InText x (codes ".") = after_slash x left.before [] dot dot_no_slash left.here in
+    record { before = found.before; here = found.here }
+HasFault-left x RepeatedDot some left = absurd left
+HasFault-left x ReflogPortion some left = absurd left
+HasFault-left x Asterisk some left = absurd left
+HasFault-left x (InvalidByte c) some left = absurd left
+
+-- a fault that is found at a slash or at the end
+shown_by_end : (y p after : List ℕ) (e : Error) → y ≡ p ++ after → IsEnd after → AddsFault p slash e → LeavesFault p e → Added y e ⊎ LeavesFault y e
+shown_by_end y p [] e here ends adds leaves = inr (subst (λ z. LeavesFault z e) (sym (here ∙ append-nil p)) leaves)
+shown_by_end y p (b ∷ after) e here ends adds leaves = inl (record { before = p; byte = b; after = after; here = here; fault = subst (λ c. AddsFault p c e) (sym ends) adds })
+
+pair_added : (x : List ℕ) (a b : ℕ) (e : Error) → Holds (a ∷ b ∷ []) x → ((p : List ℕ) → EndsWith (a ∷ []) p → AddsFault p b e) → Added (slash ∷ x) e
+pair_added x a b e held adds =
+    let front = (slash ∷ held.before) ++ (a ∷ []) in
+    record {
+      before = front;
+      byte = b;
+      after = held.after;
+      here = ap (λ z. slash ∷ z) held.here ∙ sym (append_assoc (slash ∷ held.before) (a ∷ []) (b ∷ held.after));
+      fault = adds front (record { before = slash ∷ held.before; here = refl });
+    }
+
+-- each fault of a text is added by a byte, or left at the end
+found_fault : (x : List ℕ) (e : Error) → x ≢ [] → HasFault x e → Added (slash ∷ x) e ⊎ LeavesFault (slash ∷ x) e
+found_fault x Empty some fault = absurd (some fault)
+found_fault x EmptyComponent some fault =
+    let place : IsComponent fault.1.component x = SomeComponent-place (λ w. w ≡ []) x fault.1 in
+    let here : slash ∷ x ≡ (place.before ++ (slash ∷ [])) ++ place.after =
+    place.here ∙ ap (λ w. place.before ++ (slash ∷ (w ++ place.after))) fault.1.fact ∙ sym (append_assoc place.before (slash ∷ []) place.after) in
+    let ends : EndsWith (codes "/") (place.before ++ (slash ∷ [])) = record { before = place.before; here = refl } in
+    shown_by_end (slash ∷ x) (place.before ++ (slash ∷ [])) place.after EmptyComponent here place.ends (refl, ends) ends
+found_fault x StartsWithDot some fault =
+    let place : IsComponent fault.component x = SomeComponent-place (BeginsWith (codes ".")) x fault in
+    inl (record {
+      before = place.before ++ (slash ∷ []);
+      byte = dot;
+      after = fault.fact.after ++ place.after;
+      here = place.here ∙ ap (λ w. place.before ++ (slash ∷ (w ++ place.after))) fault.fact.here ∙ sym (append_assoc place.before (slash ∷ []) (dot ∷ (fault.fact.after ++ place.after)));
+      fault = (refl, record { before = place.before; here = refl });
+    })
+found_fault x LockSuffix some fault =
+    let place : IsComponent fault.component x = SomeComponent-place (EndsWith (codes ".lock")) x fault in
+    let front = place.before ++ (slash ∷ fault.fact.before) in
+    let here : slash ∷ x ≡ (front ++ codes ".lock") ++ place.after =
+    place.here ∙ ap (λ w. place.before ++ (slash ∷ (w ++ place.after))) fault.fact.here ∙ sym (regroup place.before (slash ∷ fault.fact.before) (codes ".lock") place.after) in
+    let ends : EndsWith (codes ".lock") (front ++ codes ".lock") = record { before = front; here = refl } in
+    shown_by_end (slash ∷ x) (front ++ codes ".lock") place.after LockSuffix here place.ends (refl, ends) ends
+found_fault x EndsWithDot some fault = inr (record { before = slash ∷ fault.before; here = ap (λ z. slash ∷ z) fault.here })
+found_fault x RepeatedDot some fault = inl (pair_added x dot dot RepeatedDot fault (λ p ends. (refl, ends)))
+found_fault x ReflogPortion some fault = inl (pair_added x 64 brace ReflogPortion fault (λ p ends. (refl, ends)))
+found_fault x Asterisk some fault = inl (record { before = slash ∷ fault.before; byte = star; after = fault.after; here = ap (λ z. slash ∷ z) fault.here; fault = refl })
+found_fault x (InvalidByte c) some fault = inl (record { before = slash ∷ fault.0.before; byte = c; after = fault.0.after; here = ap (λ z. slash ∷ z) fault.0.here; fault = (refl, fault.1) })
+
+-- a text of which no fault is found is a name
+pub IsName-from_clean : (x : List ℕ) → x ≢ [] → IsClean (slash ∷ x) → ((e : Error) → ¬ (LeavesFault (slash ∷ x) e)) → IsName x
+IsName-from_clean x some clean none e fault = elim (found_fault x e some fault) [ inl added ↦ clean e added | inr left ↦ none e left ]
+
+-- the answer at the end of a text in which no fault is found before
+pub answer_at_end : (x : List ℕ) (fault : Option Error) → x ≢ [] → IsClean (slash ∷ x) → Finds fault (LeavesFault (slash ∷ x)) → MatchOption fault (IsName x) (HasFault x)
+answer_at_end x None some clean none = IsName-from_clean x some clean none
+answer_at_end x (Some e) some clean left = HasFault-left x e some left
+
+pub some_text : (x : List ℕ) → false ≡ (length x == 0) → x ≢ []
+some_text x tested same = false≢true (tested ∙ ap (λ y. length y == 0) same)
+
+-- the fault that the byte at a place adds
+pub added_at : (x : List ℕ) (i : ℕ) (e : Error) → i < length x → AddsFault (slash ∷ take i x) (get_or x i 0) e → Added (slash ∷ x) e
+added_at x i e below fault = record {
+  before = slash ∷ take i x;
+  byte = get_or x i 0;
+  after = drop (i + 1) x;
+  here = ap (λ z. slash ∷ z) (sym (take-append-drop i x) ∙ ap (λ z. take i x ++ z) (drop_at x i below));
+  fault = fault;
+}
+
+-- a slash adds no other fault
+pub slash_adds : (y : List ℕ) (e : Error) → ¬ (EndsWith (codes "/") y) → ¬ (EndsWith (codes ".lock") y) → ¬ (AddsFault y slash e)
+slash_adds y Empty whole unlocked fault = fault
+slash_adds y EmptyComponent whole unlocked fault = whole fault.1
+slash_adds y StartsWithDot whole unlocked fault = dot_no_slash (sym fault.0)
+slash_adds y LockSuffix whole unlocked fault = unlocked fault.1
+slash_adds y EndsWithDot whole unlocked fault = fault
+slash_adds y RepeatedDot whole unlocked fault = dot_no_slash (sym fault.0)
+slash_adds y ReflogPortion whole unlocked fault = absurd (omega (arith, fault.0))
+slash_adds y Asterisk whole unlocked fault = absurd (omega (arith, fault))
+slash_adds y (InvalidByte c) whole unlocked fault = refused_no_slash c fault.1 (sym fault.0)
+
+-- the end leaves no other fault
+pub end_leaves : (y : List ℕ) (e : Error) → ¬ (EndsWith (codes "/") y) → ¬ (EndsWith (codes ".") y) → ¬ (EndsWith (codes ".lock") y) → ¬ (LeavesFault y e)
+end_leaves y Empty whole undotted unlocked left = left
+end_leaves y EmptyComponent whole undotted unlocked left = whole left
+end_leaves y StartsWithDot whole undotted unlocked left = left
+end_leaves y LockSuffix whole undotted unlocked left = unlocked left
+end_leaves y EndsWithDot whole undotted unlocked left = undotted left
+end_leaves y RepeatedDot whole undotted unlocked left = left
+end_leaves y ReflogPortion whole undotted unlocked left = left
+end_leaves y Asterisk whole undotted unlocked left = left
+end_leaves y (InvalidByte c) whole undotted unlocked left = left
+
+-- what a test for `.lock` at the end of x says of x with a slash before it
+pub locked_after_slash : (x : List ℕ) (tested : Bool) → tested ≡ ends_with nat_eq x (codes ".lock") → Decides tested (EndsWith (codes ".lock") (slash ∷ x))
+locked_after_slash x tested by_test =
+    let ends = ends_is Decides-eqb x (codes ".lock") tested by_test in (
+      (λ yes. record { before = slash ∷ take (length x - 5) x; here = ap (λ z. slash ∷ z) (ends.0 yes) }),
+      (λ locked. let found : InText x (codes ".lock") = after_slash x locked.before (codes "lock") dot dot_no_slash locked.here in ends.1 found.before found.here),
+    )
+
+-- a text that isn't empty ends with its last byte
+pub ends_last : (x : List ℕ) → 1 ≤ length x → EndsWith (get_or x (length x - 1) 0 ∷ []) (slash ∷ x)
+ends_last x some =
+    let k = length x - 1 in
+    let inside : k < length x = omega arith in
+    let rest : drop (suc k) x ≡ [] = drop_of_length-le x {i = suc k} (omega arith) in
+    let whole : x ≡ take k x ++ (get_or x k 0 ∷ []) = cut_at x k (get_or x k 0) inside refl ∙ ap (λ y. take k x ++ (get_or x k 0 ∷ y)) rest in
+    record { before = slash ∷ take k x; here = ap (λ y. slash ∷ y) whole }

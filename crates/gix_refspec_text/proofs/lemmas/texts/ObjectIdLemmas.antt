@@ -1,0 +1,400 @@
+-- Facts on the texts of ids: which texts they are, that each is the text of one id, and that decoding finds it.
+use Rattle.std.proofs.Common.{◌≡◌, ℕ, zero, suc, ◌+◌, ◌-◌, ◌*◌, ◌/◌, ◌%◌, ◌<◌, ◌≤◌, Bool, List, [], ◌∷◌, length, slice_index, slice_set, take, nat_le, nat_lt, ◌&&◌, ◌⊎◌, inl, inr, Option, Some, None, unwrap_or, is_some, true, false, Result, Ok, Err, refl, sym, ap, ◌∙◌, subst, arith}
+use Rattle.std.specs.Prelude.{IsOk, MatchResult}
+use Rattle.std.specs.List.{AllPass, SomeIndex}
+use Rattle.std.specs.Result.{result_unwrap_or}
+use Rattle.std.specs.Str.{IsAscii, IsUtf8}
+use Rattle.std.proofs.lemmas.Bool.{and_parts, cases_Bool, cases_eq, leb-true, ltb-true, or_cases}
+use Rattle.std.proofs.lemmas.List.{get_or-set_other, get_or-set_same, get_or-take, length-take-le}
+use Rattle.std.proofs.lemmas.List.Elements.{All-cons, All-head, All-nil, All-tail, All-weaker}
+use Rattle.std.proofs.lemmas.List.Sums.{AllPass-from_list_all}
+use Rattle.std.proofs.lemmas.Str.{IsUtf8-from_ascii}
+use Rattle.std.proofs.lemmas.Str.Ascii.{IsAscii-from_all}
+use Rattle.hex.specs.Hex.{IsBytes, decode_of, decode_pairs, decode_sized, encode_with, hex_digit_value, is_hex_digit, lower_digits, pair_value}
+use Rattle.hex.specs.declared.error.FromHexError.{FromHexError}
+use Rattle.hex.proofs.HexLemmas.{IsAscii-encode_with, decode_of-ok, decode_of-same, decode_pairs-ok, decode_sized-encode_lower, decode_sized-twice, length-encode_with}
+use Rattle.hex.proofs.Pairs.{cons_byte, decode_pairs-ok_pair, decode_sized-pairs}
+use Rattle.gix_refspec_text.specs.declared.oid.Error.{Error}
+use Rattle.gix_refspec_text.specs.declared.oid.Error.TheVariants.{Digit, Length}
+use Rattle.gix_refspec_text.specs.declared.oid.Kind.{Kind}
+use Rattle.gix_refspec_text.specs.declared.oid.Kind.TheVariants.{Sha1, Sha256}
+use Rattle.gix_refspec_text.specs.Texts.ObjectId.{HasIdFault, IsIdLength, IsIdText, IsLowerText, IsSpelledBy, Spells, bytes_of, digits_of, is_lower_digit, lower_of}
+use Rattle.gix_refspec_text.specs.Laws.Readings.{HasOneId, HasOneFault, IdOrFault, OneLowerText}
+
+-- an id has two digits for each byte
+pub digits_of-twice : (kind : Kind) → digits_of kind ≡ 2 * bytes_of kind
+digits_of-twice Sha1 = refl
+digits_of-twice Sha256 = refl
+
+-- an id has at most 32 bytes
+pub bytes_of-fits : (kind : Kind) → bytes_of kind ≤ 32
+bytes_of-fits Sha1 = omega arith
+bytes_of-fits Sha256 = omega arith
+
+-- ---- bytes and the pairs of digits that spell them
+
+-- a first byte, and its two digits, may go
+Spells-tail : (a b x : ℕ) (t i : List ℕ) → Spells (a ∷ b ∷ t) (x ∷ i) → Spells t i
+Spells-tail a b x t i spelled k below =
+    let low : 2 * suc k + 1 ≡ suc (suc (2 * k + 1)) = omega arith in
+    let high : 2 * suc k ≡ suc (suc (2 * k)) = omega arith in
+    rw (low, high) at (spelled (suc k) (omega arith))
+
+-- a byte may be first, after its two digits
+Spells-cons : (a b x : ℕ) (t i : List ℕ) → IsSpelledBy x a b → Spells t i → Spells (a ∷ b ∷ t) (x ∷ i)
+Spells-cons a b x t i first rest zero below = first
+Spells-cons a b x t i first rest (suc k) below =
+    let low : 2 * suc k + 1 ≡ suc (suc (2 * k + 1)) = omega arith in
+    let high : 2 * suc k ≡ suc (suc (2 * k)) = omega arith in
+    rw (low, high) (rest k (omega arith))
+
+-- two digits decode to the byte that they spell
+pair_value-spelled : (n a b x : ℕ) → IsSpelledBy x a b → pair_value a b n ≡ Ok x
+pair_value-spelled n a b x s =
+    let value : s.high_value * 16 + s.low_value ≡ x = let v = s.value in omega arith in
+    rw (s.high_read, s.low_read) (ap Ok value)
+
+-- digits decode to the bytes that they spell
+pub decode_pairs-spelled : (n : ℕ) (t i : List ℕ) → length t ≡ 2 * length i → Spells t i → decode_pairs n t ≡ Ok i
+unfolding decode_pairs
+decode_pairs-spelled n [] [] twice spelled = refl
+decode_pairs-spelled n [] (x ∷ i) twice spelled = absurd (omega arith)
+decode_pairs-spelled n (a ∷ []) i twice spelled = absurd (omega arith)
+decode_pairs-spelled n (a ∷ b ∷ t) [] twice spelled = absurd (omega arith)
+decode_pairs-spelled n (a ∷ b ∷ t) (x ∷ i) twice spelled =
+    let rest = decode_pairs-spelled (n + 2) t i (omega arith) (Spells-tail a b x t i spelled) in
+    decode_pairs-ok_pair n a b x t (pair_value-spelled n a b x (spelled 0 (omega arith))) ∙ ap (cons_byte x) rest
+
+-- the value of a digit
+value_of_digit : (o : Option ℕ) → is_some o ≡ true → (v : ℕ) × (o ≡ Some v)
+value_of_digit (Some v) h = (v, refl)
+value_of_digit None h = cc h
+
+-- two digits spell a byte
+spelled_byte : (a b : ℕ) → is_hex_digit a ≡ true → is_hex_digit b ≡ true → (x : ℕ) × IsSpelledBy x a b
+spelled_byte a b digit_a digit_b =
+    let high = value_of_digit (hex_digit_value a) digit_a in
+    let low = value_of_digit (hex_digit_value b) digit_b in (
+      16 * high.0 + low.0,
+      record { high_value = high.0; low_value = low.0; high_read = high.1; low_read = low.1; value = refl },
+    )
+
+-- twice n digits spell n bytes
+pub spelled_bytes : (n : ℕ) (t : List ℕ) → length t ≡ 2 * n → AllPass is_hex_digit t
+    → (i : List ℕ) × (length i ≡ n) × Spells t i
+spelled_bytes zero t twice digits = ([], refl, λ k below. absurd (omega arith))
+spelled_bytes (suc n) [] twice digits = absurd (omega arith)
+spelled_bytes (suc n) (a ∷ []) twice digits = absurd (omega arith)
+spelled_bytes (suc n) (a ∷ b ∷ t) twice digits =
+    let tail = All-tail (λ c. is_hex_digit c ≡ true) a (b ∷ t) digits in
+    let rest = spelled_bytes n t (omega arith) (All-tail (λ c. is_hex_digit c ≡ true) b t tail) in
+    let first = spelled_byte a b (All-head (λ c. is_hex_digit c ≡ true) a (b ∷ t) digits) (All-head (λ c. is_hex_digit c ≡ true) b t tail) in
+    let len = rest.1 in
+    (first.0 ∷ rest.0, omega arith, Spells-cons a b first.0 t rest.0 first.1 rest.2)
+
+-- digits spell the bytes that they decode to
+pub Spells-decode_pairs : (t i : List ℕ) → decode_pairs 0 t ≡ Ok i → Spells t i
+Spells-decode_pairs t i decoded =
+    let ok = decode_pairs-ok 0 t i decoded in
+    let made = spelled_bytes (length i) t ok.1 ok.0 in
+    let twice : length t ≡ 2 * length made.0 = let a = made.1 in let b = ok.1 in omega arith in
+    let again : decode_pairs 0 t ≡ Ok made.0 = decode_pairs-spelled 0 t made.0 twice made.2 in
+    let same : made.0 ≡ i = ap (λ (r : Result (List ℕ) FromHexError). result_unwrap_or r []) (sym again ∙ decoded) in
+    let P : List ℕ → Type 0 = λ bytes. Spells t bytes in
+    subst P same made.2
+
+-- ---- texts of ids
+
+-- what decodes into room for the bytes of an id is the text of that id
+pub IsIdText-decoded : (kind : Kind) (t i : List ℕ) → length t ≡ digits_of kind → decode_sized t (bytes_of kind) ≡ Ok i → IsIdText t i
+IsIdText-decoded kind t i digits decoded =
+    let two = digits_of-twice kind in
+    let pairs = sym (decode_sized-pairs t (bytes_of kind) (omega arith) (omega arith)) ∙ decoded in
+    let len = (decode_pairs-ok 0 t i pairs).1 in
+    record { kind = kind; digits = digits; bytes = omega arith; spelled = Spells-decode_pairs t i pairs }
+
+-- the text of an id decodes to its bytes
+pub decode_of-IsIdText : (t i : List ℕ) → IsIdText t i → decode_of t ≡ Ok i
+decode_of-IsIdText t i text =
+    let two = digits_of-twice text.kind in
+    let a = text.digits in
+    let b = text.bytes in
+    let twice : length t ≡ 2 * length i = omega arith in
+    sym (decode_sized-twice t (length i) twice)
+    ∙ decode_sized-pairs t (length i) (omega arith) (omega arith) ∙ decode_pairs-spelled 0 t i twice text.spelled
+
+-- a text is the text of one id
+pub IsIdText-unique : (t i j : List ℕ) → IsIdText t i → IsIdText t j → i ≡ j
+IsIdText-unique t i j first second = decode_of-same t i j (decode_of-IsIdText t i first) (decode_of-IsIdText t j second)
+
+-- the text of an id is made of digits
+pub AllPass-IsIdText : (t i : List ℕ) → IsIdText t i → AllPass is_hex_digit t
+AllPass-IsIdText t i text = (decode_of-ok t i (decode_of-IsIdText t i text)).1
+
+-- as many digits as spell an id are the text of one
+pub IsIdText-digits : (t : List ℕ) → IsIdLength (length t) → AllPass is_hex_digit t → (i : List ℕ) × IsIdText t i
+IsIdText-digits t (kind, digits) all =
+    let two = digits_of-twice kind in
+    let made = spelled_bytes (bytes_of kind) t (omega arith) all in
+    (made.0, record { kind = kind; digits = digits; bytes = made.1; spelled = made.2 })
+
+-- the text of an id has no fault
+pub IsIdText-sound : (t i : List ℕ) (e : Error) → IsIdText t i → HasIdFault t e → ⊥
+IsIdText-sound t i (Length len) text (same, other) = other (text.kind, text.digits)
+IsIdText-sound t i Digit text (len, place) = cc (sym place.2 ∙ AllPass-IsIdText t i text place.0 0 place.1)
+
+-- a text has one fault
+one_fault : (t : List ℕ) (e f : Error) → HasIdFault t e → HasIdFault t f → e ≡ f
+one_fault t (Length n) (Length m) a b = ap Length (a.0 ∙ sym b.0)
+one_fault t (Length n) Digit a b = absurd (a.1 b.0)
+one_fault t Digit (Length m) a b = absurd (b.1 a.0)
+one_fault t Digit Digit a b = refl
+
+has_one_id : (t i : List ℕ) → IsIdText t i → HasOneId t
+has_one_id t i text = record { id = i; text = text; only = λ j other. IsIdText-unique t j i other text; sound = λ e. IsIdText-sound t i e text }
+
+has_one_fault : (t : List ℕ) (e : Error) → HasIdFault t e → HasOneFault t
+has_one_fault t e fault = record { fault = e; has = fault; only = λ f other. one_fault t f e other fault; unread = λ i text. IsIdText-sound t i e text fault }
+
+-- a text is made of digits, or some byte is none
+digits_or_not : (t : List ℕ) → AllPass is_hex_digit t ⊎ SomeIndex t (λ k. is_hex_digit (slice_index t k) ≡ false)
+digits_or_not [] = inl (All-nil (λ c. is_hex_digit c ≡ true))
+digits_or_not (c ∷ t) = elim (cases_Bool (is_hex_digit c)) [
+  | inr other ↦ inr (0, omega arith, other)
+  | inl digit ↦ elim (digits_or_not t) [
+    | inl digits ↦ inl (All-cons (λ c. is_hex_digit c ≡ true) c t digit digits)
+    | inr place ↦ inr (suc place.0, (let below = place.1 in omega arith), place.2)
+  ]
+]
+
+no_kind : (n : ℕ) → (n ≡ 40 → ⊥) → (n ≡ 64 → ⊥) → ¬ (IsIdLength n)
+no_kind n other another (Sha1, same) = other same
+no_kind n other another (Sha256, same) = another same
+
+-- a length is that of an id, or not
+length_or_not : (n : ℕ) → IsIdLength n ⊎ ¬ (IsIdLength n)
+length_or_not n = elim (cases_eq n 40) [
+  | inl same ↦ inl (Sha1, same)
+  | inr other ↦ elim (cases_eq n 64) [
+    | inl same ↦ inl (Sha256, same)
+    | inr another ↦ inr (no_kind n other another)
+  ]
+]
+
+-- a text is that of one id, or it has one fault
+pub id_or_fault : (t : List ℕ) → IdOrFault t
+id_or_fault t = elim (length_or_not (length t)) [
+  | inr other ↦ inr (has_one_fault t (Length (length t)) (refl, other))
+  | inl len ↦ elim (digits_or_not t) [
+    | inl digits ↦ let id = IsIdText-digits t len digits in inl (has_one_id t id.0 id.1)
+    | inr place ↦ inr (has_one_fault t Digit (len, place))
+  ]
+]
+
+-- ---- bytes that are put into a buffer, one after another
+
+-- the digits of t spell the first n bytes of a buffer
+abbrev pub SpellsFirst : ℕ → List ℕ → List ℕ → Type 0
+SpellsFirst n t buffer = (k : ℕ) → k < n → IsSpelledBy (slice_index buffer k) (slice_index t (2 * k)) (slice_index t (2 * k + 1))
+
+-- the byte that the next two digits spell is put after those that are there
+pub SpellsFirst-more : (n : ℕ) (t buffer : List ℕ) (x : ℕ) → n < length buffer → SpellsFirst n t buffer
+    → IsSpelledBy x (slice_index t (2 * n)) (slice_index t (2 * n + 1)) → SpellsFirst (n + 1) t (slice_set buffer n x)
+SpellsFirst-more n t buffer x room first spelled k below = elim (cases_eq k n) [
+  | inl same ↦
+      let put : slice_index (slice_set buffer n x) n ≡ x = get_or-set_same buffer n x 0 room in
+      rw (same, put) spelled
+  | inr other ↦
+      let kept : slice_index (slice_set buffer n x) k ≡ slice_index buffer k = get_or-set_other buffer n k x 0 other in
+      rw kept (first k (omega arith))
+]
+
+-- a buffer of 32 bytes has room for the bytes of an id
+length-room : (kind : Kind) (buffer : List ℕ) → length buffer ≡ 32 → length (take (bytes_of kind) buffer) ≡ bytes_of kind
+length-room kind buffer room =
+    let fits = bytes_of-fits kind in
+    length-take-le (bytes_of kind) buffer (omega arith)
+
+-- where all digits of a text as long as that of an id are read into a buffer, its first bytes are the id
+pub IsIdText-first : (kind : Kind) (t buffer : List ℕ) → length t ≡ digits_of kind → length buffer ≡ 32
+    → SpellsFirst (bytes_of kind) t buffer → IsIdText t (take (bytes_of kind) buffer)
+IsIdText-first kind t buffer digits room first =
+    let size = length-room kind buffer room in
+    record {
+      kind = kind;
+      digits = digits;
+      bytes = size;
+      spelled = λ k below. rw (get_or-take (bytes_of kind) buffer k 0 (omega arith)) (first k (omega arith));
+    }
+
+-- of two bytes that aren't both digits, some is none
+HasFault-either : (t : List ℕ) (k : ℕ) → k + 1 < length t
+    → ¬ ((is_hex_digit (slice_index t k) ≡ true) × (is_hex_digit (slice_index t (k + 1)) ≡ true))
+    → SomeIndex t (λ j. is_hex_digit (slice_index t j) ≡ false)
+HasFault-either t k below fault = elim (cases_Bool (is_hex_digit (slice_index t k))) [
+  | inr high ↦ (k, omega arith, high)
+  | inl digit ↦ elim (cases_Bool (is_hex_digit (slice_index t (k + 1)))) [
+    | inr low ↦ (k + 1, below, low)
+    | inl another ↦ absurd (fault (digit, another))
+  ]
+]
+
+-- a text as long as that of an id has a fault where two of its bytes don't spell one
+pub HasFault-pair : (kind : Kind) (t : List ℕ) (k : ℕ) → length t ≡ digits_of kind → k < bytes_of kind
+    → ¬ ((is_hex_digit (slice_index t (2 * k)) ≡ true) × (is_hex_digit (slice_index t (2 * k + 1)) ≡ true))
+    → HasIdFault t Digit
+HasFault-pair kind t k digits below fault =
+    let two = digits_of-twice kind in
+    ((kind, digits), HasFault-either t (2 * k) (omega arith) fault)
+
+-- ---- texts in lower case
+
+-- the sixteen digits are ASCII
+IsAscii-lower_digits : IsAscii lower_digits
+IsAscii-lower_digits =
+    let below = AllPass-from_list_all (λ c. nat_lt c 128) lower_digits refl in
+    IsAscii-from_all lower_digits (All-weaker (λ c. nat_lt c 128 ≡ true) (λ c. c < 128) (λ c h. ltb-true c 128 h) lower_digits below)
+
+-- the lower-case text of bytes is UTF-8
+pub IsUtf8-lower_of : (i : List ℕ) → IsUtf8 (lower_of i)
+IsUtf8-lower_of i = IsUtf8-from_ascii (lower_of i) (IsAscii-encode_with lower_digits i IsAscii-lower_digits)
+
+-- ---- the lower-case text is the only one
+
+-- the fact of `AllPass is_lower_digit`
+abbrev is_lower : ℕ → Type 0
+is_lower c = is_lower_digit c ≡ true
+
+-- each digit of the text that `encode_with` makes is one of the table
+AllPass-encode_with : (p : ℕ → Bool) (digits i : List ℕ) → ((d : ℕ) → d < 16 → p (slice_index digits d) ≡ true)
+    → IsBytes i → AllPass p (encode_with digits i)
+unfolding encode_with
+AllPass-encode_with p digits [] each fits = All-nil (λ c. p c ≡ true)
+AllPass-encode_with p digits (b ∷ i) each fits =
+    let byte : b < 256 = fits 0 in
+    let rest = AllPass-encode_with p digits i each (λ k. fits (suc k)) in
+    let low = All-cons (λ c. p c ≡ true) (slice_index digits (b % 16)) (encode_with digits i) (each (b % 16) (omega arith)) rest in
+    All-cons (λ c. p c ≡ true) (slice_index digits (b / 16)) (slice_index digits (b % 16) ∷ encode_with digits i) (each (b / 16) (omega arith)) low
+
+-- the sixteen digits are in lower case
+lower_digits-lower : (d : ℕ) → d < 16 → is_lower_digit (slice_index lower_digits d) ≡ true
+lower_digits-lower d below = AllPass-from_list_all is_lower_digit lower_digits refl d 0 below
+
+-- the text that is computed is in lower case
+pub IsLowerText-lower_of : (kind : Kind) (i : List ℕ) → length i ≡ bytes_of kind → IsBytes i → IsLowerText (lower_of i) i
+IsLowerText-lower_of kind i size fits =
+    let two = digits_of-twice kind in
+    let len = length-encode_with lower_digits i in
+    let digits : length (lower_of i) ≡ digits_of kind = omega arith in (
+      IsIdText-decoded kind (lower_of i) i digits (decode_sized-encode_lower i (bytes_of kind) size fits),
+      AllPass-encode_with is_lower_digit lower_digits i lower_digits-lower fits,
+    )
+
+-- the values of `0` to `9`
+hex_digit_value-decimal : (c : ℕ) → 48 ≤ c → c ≤ 57 → hex_digit_value c ≡ Some (c - 48)
+hex_digit_value-decimal c low high = grind arith
+
+-- the values of `a` to `f`
+hex_digit_value-letter : (c : ℕ) → 97 ≤ c → c ≤ 102 → hex_digit_value c ≡ Some (c - 87)
+hex_digit_value-letter c low high = grind arith
+
+-- a digit's value is below 16
+pub hex_digit_value-small : (c v : ℕ) → hex_digit_value c ≡ Some v → v < 16
+hex_digit_value-small c v read = grind arith
+
+-- the two ranges of the digits in lower case
+is_lower_digit-cases : (c : ℕ) → is_lower_digit c ≡ true → ((48 ≤ c) × (c ≤ 57)) ⊎ ((97 ≤ c) × (c ≤ 102))
+is_lower_digit-cases c lower =
+    elim (or_cases (nat_le 48 c && nat_le c 57) (nat_le 97 c && nat_le c 102) lower) [
+      | inl decimal ↦
+          let ends = and_parts (nat_le 48 c) (nat_le c 57) decimal in
+          inl (leb-true 48 c ends.0, leb-true c 57 ends.1)
+      | inr letter ↦
+          let ends = and_parts (nat_le 97 c) (nat_le c 102) letter in
+          inr (leb-true 97 c ends.0, leb-true c 102 ends.1)
+    ]
+
+-- a digit in lower case is determined by its value
+lower_digit-value : (c v : ℕ) → is_lower_digit c ≡ true → hex_digit_value c ≡ Some v
+    → ((v < 10) × (c ≡ v + 48)) ⊎ ((10 ≤ v) × (c ≡ v + 87))
+lower_digit-value c v lower read =
+    elim (is_lower_digit-cases c lower) [
+      | inl decimal ↦
+          let same : c - 48 ≡ v = ap (λ (o : Option ℕ). unwrap_or o 0) (sym (hex_digit_value-decimal c decimal.0 decimal.1) ∙ read) in
+          inl (omega arith, omega arith)
+      | inr letter ↦
+          let same : c - 87 ≡ v = ap (λ (o : Option ℕ). unwrap_or o 0) (sym (hex_digit_value-letter c letter.0 letter.1) ∙ read) in
+          inr (omega arith, omega arith)
+    ]
+
+-- a digit in lower case is the only one of its value
+lower_digit-unique : (c d v : ℕ) → is_lower_digit c ≡ true → is_lower_digit d ≡ true
+    → hex_digit_value c ≡ Some v → hex_digit_value d ≡ Some v → c ≡ d
+lower_digit-unique c d v lower_c lower_d read_c read_d =
+    elim (lower_digit-value c v lower_c read_c) [
+      | inl first ↦ elim (lower_digit-value d v lower_d read_d) [ inl second ↦ omega arith | inr second ↦ omega arith ]
+      | inr first ↦ elim (lower_digit-value d v lower_d read_d) [ inl second ↦ omega arith | inr second ↦ omega arith ]
+    ]
+
+-- two digits in lower case are the only two that spell their byte
+lower_pair-unique : (x a b c d : ℕ) → is_lower_digit a ≡ true → is_lower_digit b ≡ true → is_lower_digit c ≡ true → is_lower_digit d ≡ true
+    → IsSpelledBy x a b → IsSpelledBy x c d → (a ≡ c) × (b ≡ d)
+lower_pair-unique x a b c d lower_a lower_b lower_c lower_d first second =
+    let small_b = hex_digit_value-small b first.low_value first.low_read in
+    let small_d = hex_digit_value-small d second.low_value second.low_read in
+    let byte : 16 * first.high_value + first.low_value ≡ 16 * second.high_value + second.low_value = sym first.value ∙ second.value in
+    let high : second.high_value ≡ first.high_value = omega arith in
+    let low : second.low_value ≡ first.low_value = omega arith in (
+      lower_digit-unique a c first.high_value lower_a lower_c first.high_read (second.high_read ∙ ap Some high),
+      lower_digit-unique b d first.low_value lower_b lower_d first.low_read (second.low_read ∙ ap Some low),
+    )
+
+-- two texts in lower case that spell the same bytes are one
+lower_texts-same : (t u i : List ℕ) → length t ≡ 2 * length i → length u ≡ 2 * length i
+    → AllPass is_lower_digit t → AllPass is_lower_digit u → Spells t i → Spells u i → t ≡ u
+lower_texts-same [] [] i len_t len_u lower_t lower_u by_t by_u = refl
+lower_texts-same [] (c ∷ u) i len_t len_u lower_t lower_u by_t by_u = absurd (omega arith)
+lower_texts-same (a ∷ []) u i len_t len_u lower_t lower_u by_t by_u = absurd (omega arith)
+lower_texts-same (a ∷ b ∷ t) [] i len_t len_u lower_t lower_u by_t by_u = absurd (omega arith)
+lower_texts-same (a ∷ b ∷ t) (c ∷ []) i len_t len_u lower_t lower_u by_t by_u = absurd (omega arith)
+lower_texts-same (a ∷ b ∷ t) (c ∷ d ∷ u) [] len_t len_u lower_t lower_u by_t by_u = absurd (omega arith)
+lower_texts-same (a ∷ b ∷ t) (c ∷ d ∷ u) (x ∷ i) len_t len_u lower_t lower_u by_t by_u =
+    let tail_t = All-tail is_lower a (b ∷ t) lower_t in
+    let tail_u = All-tail is_lower c (d ∷ u) lower_u in
+    let pair = lower_pair-unique x a b c d
+    (All-head is_lower a (b ∷ t) lower_t) (All-head is_lower b t tail_t) (All-head is_lower c (d ∷ u) lower_u) (All-head is_lower d u tail_u)
+    (by_t 0 (omega arith)) (by_u 0 (omega arith)) in
+    let rest = lower_texts-same t u i (omega arith) (omega arith) (All-tail is_lower b t tail_t) (All-tail is_lower d u tail_u)
+    (Spells-tail a b x t i by_t) (Spells-tail c d x u i by_u) in
+    let first = pair.0 in
+    let second = pair.1 in
+    cc
+
+-- an id has one text in lower case
+pub IsLowerText-unique : (t u i : List ℕ) → IsLowerText t i → IsLowerText u i → t ≡ u
+IsLowerText-unique t u i (text_t, lower_t) (text_u, lower_u) =
+    let two_t = digits_of-twice text_t.kind in
+    let two_u = digits_of-twice text_u.kind in
+    lower_texts-same t u i (omega arith) (omega arith) lower_t lower_u text_t.spelled text_u.spelled
+
+-- bytes from the front of bytes are bytes
+IsBytes-take : (n : ℕ) (x : List ℕ) → IsBytes x → IsBytes (take n x)
+IsBytes-take zero x fits k = omega arith
+IsBytes-take (suc n) [] fits k = omega arith
+IsBytes-take (suc n) (b ∷ x) fits zero = fits 0
+IsBytes-take (suc n) (b ∷ x) fits (suc k) = IsBytes-take n x (λ j. fits (suc j)) k
+
+-- the text that the id at the front of a buffer prints as is its only one in lower case
+pub one_lower_text : (kind : Kind) (buffer : List ℕ) → length buffer ≡ 32 → IsBytes buffer → OneLowerText (take (bytes_of kind) buffer)
+one_lower_text kind buffer room fits =
+    let i = take (bytes_of kind) buffer in
+    let lower = IsLowerText-lower_of kind i (length-room kind buffer room) (IsBytes-take (bytes_of kind) buffer fits) in
+    record { lower = lower; only = λ t is. IsLowerText-unique t (lower_of i) i is lower }
+
+-- ---- results of calls
+
+-- a result is `Ok` if each error contradicts a fact
+pub IsOk-unless : {T E : Type 0} {R : Type 0} (r : Result T E) (P : T → Type 0) (Q : E → Type 0) → R
+    → MatchResult r P (λ e. ¬ R × Q e) → IsOk r
+IsOk-unless (Ok x) P Q fact cases = refl
+IsOk-unless (Err e) P Q fact cases = absurd (cases.0 fact)

@@ -1,0 +1,90 @@
+-- How many stars a text has.
+use Rattle.std.proofs.Common.{◌≡◌, ◌≢◌, ◌<◌, ℕ, suc, ◌+◌, ◌==◌, cond, List, [], ◌∷◌, ◌++◌, take, drop, get_or, length, append_assoc, refl, sym, ap, ◌∙◌, inl, inr, zero-add, arith}
+use Rattle.std.specs.List.{count_by}
+use Rattle.std.proofs.lemmas.Bool.{cases_eq, eq-eqb, ne_eqb}
+use Rattle.std.proofs.lemmas.List.Sums.{sum_by-append}
+use Rattle.gix_refspec_text.specs.Texts.Words.{Lacks}
+use Rattle.gix_refspec_text.specs.Texts.Bytes.{star}
+use Rattle.gix_refspec_text.specs.Texts.Name.{HasOneStar, HasStar, HasSeveralStars}
+use Rattle.gix_refspec_text.proofs.lemmas.texts.TextLemmas.{cut_at}
+
+stars : List ℕ → ℕ
+stars x = count_by (λ b. b == star) x
+
+stars-cons : (b : ℕ) (x : List ℕ) → stars (b ∷ x) ≡ cond (b == star) 1 0 + stars x
+unfolding stars
+stars-cons b x = sum_by-append (λ c. cond (c == star) 1 0) (b ∷ []) x ∙ ap (λ n. n + stars x) (zero-add (cond (b == star) 1 0))
+
+stars-star : (b : ℕ) (x : List ℕ) → b ≡ star → stars (b ∷ x) ≡ 1 + stars x
+stars-star b x same = stars-cons b x ∙ ap (λ t. cond t 1 0 + stars x) (eq-eqb b star same)
+
+stars-other : (b : ℕ) (x : List ℕ) → b ≢ star → stars (b ∷ x) ≡ stars x
+stars-other b x other = let one_more : stars (b ∷ x) ≡ 0 + stars x = stars-cons b x ∙ ap (λ t. cond t 1 0 + stars x) (ne_eqb b star other) in omega (arith, one_more)
+
+Lacks-no_stars : (x : List ℕ) → stars x ≡ 0 → Lacks star x
+Lacks-no_stars [] none = tt
+Lacks-no_stars (b ∷ x) none =
+    elim (cases_eq b star) [
+      | inl same ↦ let more = stars-star b x same in absurd (omega (arith, more, none))
+      | inr other ↦ (other, Lacks-no_stars x (sym (stars-other b x other) ∙ none))
+    ]
+
+-- a star in front of a text without one
+star_in_front : (b : ℕ) (x : List ℕ) → b ≡ star → stars (b ∷ x) ≡ 1 → HasOneStar (b ∷ x)
+star_in_front b x same one =
+    let more = stars-star b x same in
+    let none : stars x ≡ 0 = omega (arith, more, one) in
+    ([], x, record { starred = ap (λ c. c ∷ x) same; first = tt; last = Lacks-no_stars x none })
+
+-- another byte in front of a text with one star
+one_after : (b : ℕ) (x : List ℕ) → b ≢ star → HasOneStar x → HasOneStar (b ∷ x)
+one_after b x other one = (b ∷ one.0, one.1, record { starred = ap (λ y. b ∷ y) one.2.starred; first = (other, one.2.first); last = one.2.last })
+
+one_star : (x : List ℕ) → stars x ≡ 1 → HasOneStar x
+unfolding stars
+one_star [] one = absurd (omega (arith, one))
+one_star (b ∷ x) one =
+    elim (cases_eq b star) [
+      | inl same ↦ star_in_front b x same one
+      | inr other ↦ one_after b x other (one_star x (sym (stars-other b x other) ∙ one))
+    ]
+
+-- a text in which one star is counted has one
+pub HasOneStar-count_by : (x : List ℕ) → count_by (λ b. b == star) x ≡ 1 → HasOneStar x
+unfolding stars
+HasOneStar-count_by x one = one_star x one
+
+stars-append : (x y : List ℕ) → stars (x ++ y) ≡ stars x + stars y
+unfolding stars
+stars-append x y = sum_by-append (λ c. cond (c == star) 1 0) x y
+
+no_stars : (x : List ℕ) → Lacks star x → stars x ≡ 0
+unfolding stars
+no_stars [] lacks = refl
+no_stars (b ∷ x) lacks = stars-other b x lacks.0 ∙ no_stars x lacks.1
+
+counted : (x : List ℕ) → HasOneStar x → stars x ≡ 1
+counted x (before, after, cut) =
+    let whole : stars x ≡ stars before + stars (star ∷ after) = ap stars cut.starred ∙ stars-append before (star ∷ after) in
+    omega (arith, whole, no_stars before cut.first, stars-star star after refl, no_stars after cut.last)
+
+-- and in a text with one star one is counted
+pub count_by-HasOneStar : (x : List ℕ) → HasOneStar x → count_by (λ b. b == star) x ≡ 1
+unfolding stars
+count_by-HasOneStar x one = counted x one
+
+-- a text in which no star is counted lacks it
+pub Lacks-count_by : (x : List ℕ) → count_by (λ b. b == star) x ≡ 0 → Lacks star x
+unfolding stars
+Lacks-count_by x none = Lacks-no_stars x none
+
+-- a star after a part of a text that has one is a second one
+pub second_star : (x : List ℕ) (i : ℕ) → i < length x → get_or x i 0 ≡ star → count_by (λ b. b == star) (take i x) ≡ 1 → HasSeveralStars x
+second_star x i below here one =
+    let (before, after, cut) = HasOneStar-count_by (take i x) one in
+    record {
+      before = before;
+      between = after;
+      after = drop (suc i) x;
+      here = cut_at x i star below here ∙ ap (λ y. y ++ (star ∷ drop (suc i) x)) cut.starred ∙ append_assoc before (star ∷ after) (star ∷ drop (suc i) x);
+    }

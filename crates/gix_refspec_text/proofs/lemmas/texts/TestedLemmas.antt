@@ -1,0 +1,78 @@
+-- A test of each byte and the one before it, which most names pass and only names do. So examples can
+-- be computed.
+use Rattle.std.proofs.Common.{◌≡◌, ℕ, ◌==◌, ◌||◌, ◌&&◌, Bool, false, List, [], ◌∷◌, ◌++◌, codes, sym, ap, eq-eqb, ◌∙◌, append_assoc}
+use Rattle.std.proofs.lemmas.List.{append-nil}
+use Rattle.std.proofs.lemmas.Bool.{or_parts, true≢false}
+use Rattle.gix_refspec_text.specs.declared.name.Error.{Error}
+use Rattle.gix_refspec_text.specs.declared.name.Error.TheVariants.{Empty, EmptyComponent, StartsWithDot, LockSuffix, EndsWithDot, RepeatedDot, ReflogPortion, Asterisk, InvalidByte}
+use Rattle.gix_refspec_text.specs.Texts.Words.{EndsWith}
+use Rattle.gix_refspec_text.specs.Texts.Bytes.{slash, star, dot, at, brace}
+use Rattle.gix_refspec_text.specs.Texts.Name.{is_refused_byte, IsName}
+use Rattle.gix_refspec_text.specs.Private.Scan.{LeavesFault, IsClean}
+use Rattle.gix_refspec_text.proofs.lemmas.texts.NameLemmas.{IsName-from_clean}
+
+-- `k`, with which `.lock` ends
+abbrev pub lock_end : ℕ
+lock_end = 107
+
+-- b may not be after a. So that `.lock` needs no look further back, no component may end with its `k`
+abbrev pub are_apart : ℕ → ℕ → Bool
+are_apart a b = b == slash && (a == slash || a == lock_end) || b == dot && (a == slash || a == dot) || b == brace && a == at
+
+-- some byte of x may not be in a name, or not after the one before it, which is a at first; or x may
+-- not end so
+abbrev pub is_suspect : ℕ → List ℕ → Bool
+is_suspect a [] = a == slash || a == dot || a == lock_end
+is_suspect a (b ∷ x) = (b == star || (is_refused_byte b || are_apart a b)) || is_suspect b x
+
+-- what holds of a byte, and of the text after it, in a text in which nothing is suspect
+record Sound (b : ℕ) (rest : List ℕ) : Type 0 where
+  unstarred : (b == star) ≡ false
+  allowed : is_refused_byte b ≡ false
+  later : is_suspect b rest ≡ false
+
+sound_at : (a b : ℕ) (before rest : List ℕ) → is_suspect a (before ++ (b ∷ rest)) ≡ false → Sound b rest
+sound_at a b [] rest none =
+    let parts = or_parts (b == star || (is_refused_byte b || are_apart a b)) (is_suspect b rest) none in
+    let stars = or_parts (b == star) (is_refused_byte b || are_apart a b) parts.0 in
+    record { unstarred = stars.0; allowed = (or_parts (is_refused_byte b) (are_apart a b) stars.1).0; later = parts.1 }
+sound_at a b (c ∷ before) rest none = sound_at c b before rest (or_parts _ (is_suspect c (before ++ (b ∷ rest))) none).1
+
+sound_in : (y : List ℕ) → is_suspect 0 y ≡ false → (before : List ℕ) (b : ℕ) (rest : List ℕ) → y ≡ before ++ (b ∷ rest) → Sound b rest
+sound_in y none before b rest here = sound_at 0 b before rest (ap (is_suspect 0) (sym here) ∙ none)
+
+-- nothing after a word is suspect, where that word ends what is before
+after_word : (y before rest : List ℕ) (b : ℕ) (word : List ℕ) → is_suspect 0 y ≡ false → y ≡ before ++ rest → EndsWith (b ∷ word) before → is_suspect b (word ++ rest) ≡ false
+after_word y before rest b word none here ends =
+    let whole : y ≡ ends.before ++ (b ∷ (word ++ rest)) = here ∙ ap (λ z. z ++ rest) ends.here ∙ append_assoc ends.before (b ∷ word) rest in
+    (sound_in y none ends.before b (word ++ rest) whole).later
+
+-- the same, where the byte c follows
+after_byte : (y before after : List ℕ) (byte c b : ℕ) (word : List ℕ) → is_suspect 0 y ≡ false → y ≡ before ++ (byte ∷ after) → byte ≡ c → EndsWith (b ∷ word) before → is_suspect b (word ++ (c ∷ after)) ≡ false
+after_byte y before after byte c b word none here same ends = after_word y before (c ∷ after) b word none (here ∙ ap (λ d. before ++ (d ∷ after)) same) ends
+
+clean : (y : List ℕ) → is_suspect 0 y ≡ false → IsClean y
+clean y none Empty added = added.fault
+clean y none EmptyComponent added = true≢false (after_byte y added.before added.after added.byte slash slash [] none added.here added.fault.0 added.fault.1)
+clean y none StartsWithDot added = true≢false (after_byte y added.before added.after added.byte dot slash [] none added.here added.fault.0 added.fault.1)
+clean y none LockSuffix added = true≢false (after_byte y added.before added.after added.byte slash dot (codes "lock") none added.here added.fault.0 added.fault.1)
+clean y none EndsWithDot added = added.fault
+clean y none RepeatedDot added = true≢false (after_byte y added.before added.after added.byte dot dot [] none added.here added.fault.0 added.fault.1)
+clean y none ReflogPortion added = true≢false (after_byte y added.before added.after added.byte brace at [] none added.here added.fault.0 added.fault.1)
+clean y none Asterisk added = true≢false (sym (eq-eqb added.byte star added.fault) ∙ (sound_in y none added.before added.byte added.after added.here).unstarred)
+clean y none (InvalidByte c) added = true≢false (sym added.fault.1 ∙ ap is_refused_byte (sym added.fault.0) ∙ (sound_in y none added.before added.byte added.after added.here).allowed)
+
+left : (y : List ℕ) (e : Error) → is_suspect 0 y ≡ false → ¬ (LeavesFault y e)
+left y Empty none fault = fault
+left y EmptyComponent none fault = true≢false (after_word y y [] slash [] none (sym (append-nil y)) fault)
+left y StartsWithDot none fault = fault
+left y LockSuffix none fault = true≢false (after_word y y [] dot (codes "lock") none (sym (append-nil y)) fault)
+left y EndsWithDot none fault = true≢false (after_word y y [] dot [] none (sym (append-nil y)) fault)
+left y RepeatedDot none fault = fault
+left y ReflogPortion none fault = fault
+left y Asterisk none fault = fault
+left y (InvalidByte c) none fault = fault
+
+-- a text in which nothing is suspect, with a slash before it, is a name
+pub IsName-tested : (x : List ℕ) → is_suspect slash x ≡ false → IsName x
+IsName-tested x none = IsName-from_clean x (λ empty. true≢false (ap (is_suspect slash) (sym empty) ∙ none)) (clean (slash ∷ x) none) (λ e. left (slash ∷ x) e none)

@@ -1,0 +1,12 @@
+-- A text without stars that is a name with letters for its stars is a name.
+use Rattle.std.proofs.Common.{ap, ◌∙◌}
+use Rattle.gix_refspec_text.specs.Private.Scan.{one_if}
+use Rattle.gix_refspec_text.proofs.lemmas.texts.StarLemmas.{Lacks-count_by}
+use Rattle.gix_refspec_text.proofs.lemmas.texts.LetterLemmas.{name_without_stars}
+use Rattle.gix_refspec_text.proofs.name.fault_of.Goals as goal
+
+pub returns-in-Ok-false : goal.returns-in-Ok-false
+returns-in-Ok-false c =
+    let x = c.args.text.now in
+    let told = c.in-Ok-false.ensures in
+    name_without_stars x (Lacks-count_by x (told.0 ∙ ap one_if c.in-Ok-false.field-0-test)) told.1

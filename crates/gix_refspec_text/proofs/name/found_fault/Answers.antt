@@ -1,0 +1,30 @@
+use Rattle.std.proofs.Common.{◌≡◌, ◌+◌, [], ◌∷◌, ◌++◌, take, get_or, sym, ap, subst, arith}
+use Rattle.std.proofs.lemmas.List.{take_all, take_more}
+use Rattle.gix_refspec_text.specs.Texts.Bytes.{slash}
+use Rattle.gix_refspec_text.specs.Private.Scan.{IsClean}
+use Rattle.gix_refspec_text.proofs.lemmas.texts.NameLemmas.{IsClean-start, IsClean-more, HasFault-added, added_at, answer_at_end, some_text}
+use Rattle.gix_refspec_text.proofs.name.found_fault.Goals as goal
+
+pub loop-index-init : goal.loop-index-init
+loop-index-init c = IsClean-start
+
+-- the byte at the index adds the fault
+pub returns-in-Some : goal.returns-in-Some
+returns-in-Some c =
+    let x = c.args.text.now in
+    HasFault-added x c.in-Some.fault (some_text x c.if-is_empty.ensures) (added_at x c.loop-index.index _ (omega arith) c.in-Some.ensures)
+
+-- one more byte adds none
+pub loop-index-preserved : goal.loop-index-preserved
+loop-index-preserved c =
+    let x = c.args.text.now in
+    let i = c.loop-index.index in
+    let one_more : slash ∷ take (i + 1) x ≡ (slash ∷ take i x) ++ (get_or x i 0 ∷ []) = ap (λ z. slash ∷ z) (take_more x i 0 (omega arith)) in
+    subst IsClean (sym one_more) (IsClean-more (slash ∷ take i x) (get_or x i 0) c.loop-index.invariant c.in_default.ensures)
+
+-- no byte adds a fault, so the end decides
+pub returns : goal.returns
+returns c =
+    let x = c.args.text.now in
+    let whole : take c.loop-index.index x ≡ x = take_all c.loop-index.index x (omega arith) in
+    answer_at_end x c.left_fault.result (some_text x c.if-is_empty.ensures) (subst (λ z. IsClean (slash ∷ z)) whole c.loop-index.invariant) c.left_fault.ensures

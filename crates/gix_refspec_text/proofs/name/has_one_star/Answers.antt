@@ -1,0 +1,16 @@
+-- One star is counted exactly where there is one.
+use Rattle.std.proofs.Common.{◌≡◌, ◌==◌, sym, ◌∙◌, rules, eq-eqb}
+use Rattle.std.proofs.lemmas.Bool.{eqb-true}
+use Rattle.std.specs.List.{count_by}
+use Rattle.bstr.specs.BStr.{bstr_bytes}
+use Rattle.gix_refspec_text.specs.Texts.Bytes.{star}
+use Rattle.gix_refspec_text.proofs.lemmas.texts.StarLemmas.{HasOneStar-count_by, count_by-HasOneStar}
+use Rattle.gix_refspec_text.proofs.name.has_one_star.Goals as goal
+
+pub returns : goal.returns
+returns c =
+    let x = bstr_bytes c.args.text in
+    let counted : c.count.result ≡ count_by (λ b. b == star) x = search rules in (
+      λ one. HasOneStar-count_by x (sym counted ∙ eqb-true _ _ one),
+      λ one. eq-eqb _ _ (counted ∙ count_by-HasOneStar x one),
+    )

@@ -1,0 +1,42 @@
+-- No reason before the source applies to a positive fetch. The reasons at its sides are what the checks return.
+use Rattle.std.proofs.Common.{[], Some, unwrap_or, refl, sym, ap, ◌∙◌, subst, rules}
+use Rattle.std.proofs.lemmas.Result.{err_from_is_err_and}
+use denote.Enum.Bare.{differs_true, differs_false}
+use Rattle.gix_refspec_text.specs.contracts.parsing.reading.Shape.{the_type}
+use Rattle.gix_refspec_text.specs.declared.parsing.Operation.TheVariants.{Fetch}
+use Rattle.gix_refspec_text.specs.Specs.Refusal.{PatternUnbalanced}
+use Rattle.gix_refspec_text.specs.Views.Instruction.{mode_of}
+use Rattle.gix_refspec_text.specs.Private.Sides.{HasCheckedShape, destination_of, named_or_head, side_of}
+use Rattle.gix_refspec_text.proofs.lemmas.parsing.SideLemmas.{now-unwrap_or}
+use Rattle.gix_refspec_text.proofs.lemmas.parsing.ReasonLemmas.{fetch_reaches, error_at_destination, fetch_source_fine, unbalanced_fetch}
+use Rattle.gix_refspec_text.proofs.lemmas.parsing.ReadsLemmas.{read_with, fetch_reads, side_of-named_or_head}
+use Rattle.gix_refspec_text.proofs.parsing.reading.fetch_sides.Goals as goal
+
+pub returns-in_err-checked-2-clause-err : goal.returns-in_err-checked-2-clause-err
+returns-in_err-checked-2-clause-err c =
+    let target = now-unwrap_or c.args.parts.destination _ c.unwrap_or-target.result c.unwrap_or-target.ensures refl in
+    let told = rw target at c.in_err-checked-2.ensures.err in
+    let source = fetch_source_fine _ _ _ c.in_ok-checked.ensures.ok in
+    let reason = error_at_destination Fetch _ _ (destination_of c.args.parts) c.in_err-checked-2.field-0.0 (fetch_reaches _ _ _ c.requires.positive) source told in
+    let q = err_from_is_err_and c.from_residual-in_err-checked-2.result c.from_residual-in_err-checked-2.ensures.1 in
+    rw (q.1, q.2, c.requires.operation) reason
+
+pub returns-then-ne-clause-err : goal.returns-then-ne-clause-err
+returns-then-ne-clause-err c =
+    let target = now-unwrap_or c.args.parts.destination _ c.unwrap_or-target.result c.unwrap_or-target.ensures refl in
+    let destination = rw target at c.in_ok-checked-2.ensures.ok in
+    let differ = differs_true the_type c.in_ok-checked.field-0 c.in_ok-checked-2.field-0 (sym c.if-ne.ensures) in
+    let reason = unbalanced_fetch _ _ (destination_of c.args.parts) _ _ c.requires.positive c.in_ok-checked.ensures.ok destination differ in
+    (PatternUnbalanced, refl, rw c.requires.operation reason)
+
+pub returns-clause-ok : goal.returns-clause-ok
+returns-clause-ok c = λ text parts.
+    let p = c.args.parts in
+    let s = p.source.now in
+    let d = destination_of p in
+    let target = now-unwrap_or p.destination _ c.unwrap_or-target.result c.unwrap_or-target.ensures refl in
+    let same = differs_false the_type (search rules) c.in_ok-checked.field-0 c.in_ok-checked-2.field-0 (sym c.if-ne.ensures) in
+    let destination = rw target at c.in_ok-checked-2.ensures.ok in
+    let reads = fetch_reads (mode_of p.mode) s d c.in_ok-checked.field-0 text c.requires.positive c.in_ok-checked.ensures.ok (subst (λ k. HasCheckedShape (unwrap_or d []) k) (sym same) destination) parts in
+    let source = c.new.ensures.source ∙ (ap side_of c.named_or_head.ensures ∙ side_of-named_or_head s) in
+    read_with p c.new.result text Fetch (mode_of p.mode) (Some (named_or_head s)) (side_of (unwrap_or d [])) c.requires.operation refl source (c.new.ensures.destination ∙ ap side_of target) reads

@@ -1,0 +1,18 @@
+-- A side with a star is a pattern, and one without is a name.
+use Rattle.std.proofs.Common.{ap, ◌∙◌}
+use Rattle.gix_refspec_text.specs.Private.Scan.{one_if}
+use Rattle.gix_refspec_text.proofs.lemmas.texts.StarLemmas.{Lacks-count_by, HasOneStar-count_by}
+use Rattle.gix_refspec_text.proofs.lemmas.texts.LetterLemmas.{name_without_stars, pattern_with_letter}
+use Rattle.gix_refspec_text.proofs.parsing.reading.look_at.Goals as goal
+
+pub returns-in-Ok-true-clause-ok : goal.returns-in-Ok-true-clause-ok
+returns-in-Ok-true-clause-ok c =
+    let x = c.args.side.now in
+    let told = c.in-Ok-true.ensures in
+    pattern_with_letter x (HasOneStar-count_by x (told.0 ∙ ap one_if c.in-Ok-true.field-0-test)) told.1
+
+pub returns-in-Ok-false-clause-ok : goal.returns-in-Ok-false-clause-ok
+returns-in-Ok-false-clause-ok c =
+    let x = c.args.side.now in
+    let told = c.in-Ok-false.ensures in
+    name_without_stars x (Lacks-count_by x (told.0 ∙ ap one_if c.in-Ok-false.field-0-test)) told.1

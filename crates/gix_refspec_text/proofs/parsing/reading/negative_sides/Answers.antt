@@ -1,0 +1,33 @@
+-- A negative spec with a source that was checked, is there and doesn't look like an object hash.
+use Rattle.std.proofs.Common.{None, refl, ap, ◌∙◌}
+use Rattle.std.proofs.lemmas.Bool.{false≢true}
+use Rattle.gix_refspec_text.specs.Specs.Grammar.{LooksLikeObjectHash, AreParts, named_by}
+use Rattle.gix_refspec_text.specs.Specs.Reading.{Negative}
+use Rattle.gix_refspec_text.specs.Specs.Refusal.{NegativeObjectHash}
+use Rattle.gix_refspec_text.specs.Views.Instruction.{mode_of}
+use Rattle.gix_refspec_text.specs.Private.Sides.{side_of}
+use Rattle.gix_refspec_text.proofs.lemmas.parsing.SideLemmas.{full_from_test, none_from_test}
+use Rattle.gix_refspec_text.proofs.lemmas.parsing.ReasonLemmas.{reason_against_object}
+use Rattle.gix_refspec_text.proofs.lemmas.parsing.ReadsLemmas.{read_with, negative_reads}
+use Rattle.gix_refspec_text.proofs.parsing.reading.negative_sides.Goals as goal
+
+pub returns-then-looks_like_object_hash-clause-err : goal.returns-then-looks_like_object_hash-clause-err
+returns-then-looks_like_object_hash-clause-err c =
+    let p = c.args.parts in
+    let s = p.source.now in
+    let none = none_from_test p.destination c.if-is_some.ensures in
+    let full = full_from_test s c.if-is_empty.ensures in
+    let hash = c.if-looks_like_object_hash.ensures.0 refl in
+    let first = reason_against_object p.operation s c.in_ok-checked.field-0 full c.in_ok-checked.ensures.ok hash in
+    (NegativeObjectHash, refl, rw (c.requires, none) first)
+
+pub returns-clause-ok : goal.returns-clause-ok
+returns-clause-ok c = λ text parts.
+    let p = c.args.parts in
+    let s = p.source.now in
+    let none = none_from_test p.destination c.if-is_some.ensures in
+    let full = full_from_test s c.if-is_empty.ensures in
+    let hash = λ (h : LooksLikeObjectHash s). false≢true (c.if-looks_like_object_hash.ensures.1 h) in
+    let alone : AreParts Negative s None text = rw (c.requires, none) at parts in
+    let reads = negative_reads p.operation s c.in_ok-checked.field-0 text full c.in_ok-checked.ensures.ok hash alone in
+    read_with p c.new.result text p.operation Negative (side_of (named_by s)) None refl (ap mode_of c.requires) (c.new.ensures.source ∙ ap side_of c.named.ensures) c.new.ensures.destination reads

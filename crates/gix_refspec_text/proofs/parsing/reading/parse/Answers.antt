@@ -1,0 +1,30 @@
+-- The text has the parts that it was cut into, so what holds of the parts holds of the text.
+use Rattle.std.proofs.Common.{sym, subst}
+use Rattle.std.proofs.lemmas.Result.{err_from_is_err_and}
+use Rattle.bstr.specs.BStr.{bstr_bytes}
+use Rattle.gix_refspec_text.specs.Private.Sides.{HasParts}
+use Rattle.gix_refspec_text.proofs.lemmas.parsing.MemoryLemmas.{shows_refusal, needs_memory}
+use Rattle.gix_refspec_text.proofs.lemmas.parsing.ReadsLemmas.{error_of_text}
+use Rattle.gix_refspec_text.proofs.parsing.reading.parse.Goals as goal
+
+pub returns-in_err-sides-clause-refused : goal.returns-in_err-sides-clause-refused
+returns-in_err-sides-clause-refused c =
+    let told = error_of_text c.new-parts.result _ (bstr_bytes c.args.spec) c.in_err-sides.field-0.0 c.as_bytes.ensures c.new-parts.ensures.parts c.in_err-sides.ensures.err in
+    let q = err_from_is_err_and c.from_residual.result c.from_residual.ensures.1 in
+    rw (q.1, q.2, sym c.new-parts.ensures.operation) (shows_refusal _ _ _ told)
+
+pub returns-in_err-sides-clause-memory : goal.returns-in_err-sides-clause-memory
+returns-in_err-sides-clause-memory c =
+    let told = error_of_text c.new-parts.result _ (bstr_bytes c.args.spec) c.in_err-sides.field-0.0 c.as_bytes.ensures c.new-parts.ensures.parts c.in_err-sides.ensures.err in
+    let q = err_from_is_err_and c.from_residual.result c.from_residual.ensures.1 in
+    rw (q.1, q.2, sym c.new-parts.ensures.operation) (needs_memory _ _ _ told)
+
+pub invariant_of-result : goal.invariant_of-result
+invariant_of-result c =
+    let parts = subst (λ x. HasParts x c.new-parts.result) c.as_bytes.ensures c.new-parts.ensures.parts in
+    record { accepted = ∣ (bstr_bytes c.args.spec, rw (sym c.new-parts.ensures.operation) (c.in_ok-sides.ensures.ok _ parts)) ∣₁ }
+
+pub returns-clause-ok : goal.returns-clause-ok
+returns-clause-ok c =
+    let parts = subst (λ x. HasParts x c.new-parts.result) c.as_bytes.ensures c.new-parts.ensures.parts in
+    rw (sym c.new-parts.ensures.operation) (c.in_ok-sides.ensures.ok (bstr_bytes c.args.spec) parts)

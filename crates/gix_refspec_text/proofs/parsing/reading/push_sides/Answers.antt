@@ -1,0 +1,49 @@
+-- No reason before the source applies to a positive push to a destination. The reasons at its sides are what the checks return.
+use Rattle.std.proofs.Common.{Some, refl, sym, ap, ◌∙◌, subst, rules}
+use Rattle.std.proofs.lemmas.Result.{err_from_is_err_and}
+use denote.Enum.Bare.{differs_true, differs_false}
+use Rattle.gix_refspec_text.specs.contracts.parsing.reading.Shape.{the_type}
+use Rattle.gix_refspec_text.specs.declared.parsing.Operation.TheVariants.{Push}
+use Rattle.gix_refspec_text.specs.Specs.Grammar.{AreParts, named_by}
+use Rattle.gix_refspec_text.specs.Specs.Refusal.{PatternUnbalanced, IsBadPattern}
+use Rattle.gix_refspec_text.specs.Views.Instruction.{mode_of}
+use Rattle.gix_refspec_text.specs.Private.Sides.{HasCheckedShape, side_of}
+use Rattle.gix_refspec_text.proofs.lemmas.parsing.ReasonLemmas.{push_reaches, bad_source_of_push, error_at_source, error_at_destination, push_source_fine, unbalanced_push}
+use Rattle.gix_refspec_text.proofs.lemmas.parsing.ReadsLemmas.{read_with, push_reads}
+use Rattle.gix_refspec_text.proofs.parsing.reading.push_sides.Goals as goal
+
+pub returns-in_err-starred-clause-err : goal.returns-in_err-starred-clause-err
+returns-in_err-starred-clause-err c =
+    let s = c.args.parts.source.now in
+    let t = c.args.target.now in
+    let before = push_reaches _ s t c.requires.positive.positive c.if-pushes_nowhere.ensures in
+    let reason = error_at_source Push _ s (Some t) (IsBadPattern s) c.in_err-starred.field-0.0 before (bad_source_of_push s t) c.in_err-starred.ensures.err in
+    let q = err_from_is_err_and c.from_residual.result c.from_residual.ensures.1 in
+    rw (q.1, q.2, c.requires.positive.operation, c.requires.target) reason
+
+pub returns-in_err-checked-clause-err : goal.returns-in_err-checked-clause-err
+returns-in_err-checked-clause-err c =
+    let before = push_reaches _ _ c.args.target.now c.requires.positive.positive c.if-pushes_nowhere.ensures in
+    let source = push_source_fine _ _ c.in_ok-starred.field-0 c.in_ok-starred.ensures.ok in
+    let reason = error_at_destination Push _ _ (Some c.args.target.now) c.in_err-checked.field-0.0 before source c.in_err-checked.ensures.err in
+    let q = err_from_is_err_and c.from_residual-in_err-checked.result c.from_residual-in_err-checked.ensures.1 in
+    rw (q.1, q.2, c.requires.positive.operation, c.requires.target) reason
+
+pub returns-then-ne-clause-err : goal.returns-then-ne-clause-err
+returns-then-ne-clause-err c =
+    let differ = differs_true the_type c.in_ok-starred.field-0 c.in_ok-checked.field-0 (sym c.if-ne.ensures) in
+    let reason = unbalanced_push _ _ _ _ _ c.requires.positive.positive c.if-pushes_nowhere.ensures c.in_ok-starred.ensures.ok c.in_ok-checked.ensures.ok differ in
+    (PatternUnbalanced, refl, rw (c.requires.positive.operation, c.requires.target) reason)
+
+pub returns-clause-ok : goal.returns-clause-ok
+returns-clause-ok c = λ text parts.
+    let p = c.args.parts in
+    let m = mode_of p.mode in
+    let s = p.source.now in
+    let t = c.args.target.now in
+    let same = differs_false the_type (search rules) c.in_ok-starred.field-0 c.in_ok-checked.field-0 (sym c.if-ne.ensures) in
+    let destination = subst (λ k. HasCheckedShape t k) (sym same) c.in_ok-checked.ensures.ok in
+    let aimed : AreParts m s (Some t) text = rw c.requires.target at parts in
+    let reads = push_reads m s t _ text c.requires.positive.positive c.if-pushes_nowhere.ensures c.in_ok-starred.ensures.ok destination aimed in
+    let source = c.new.ensures.source ∙ ap side_of c.named.ensures in
+    read_with p c.new.result text Push m (side_of (named_by s)) (side_of t) c.requires.positive.operation refl source c.new.ensures.destination reads

@@ -1,0 +1,14 @@
+-- The fault is one of the side, or of the side with a letter for its one star.
+use Rattle.std.proofs.Common.{refl}
+use Rattle.gix_refspec_text.specs.Specs.Refusal.{ReferenceName}
+use Rattle.gix_refspec_text.specs.Private.Scan.{with_letters}
+use Rattle.gix_refspec_text.proofs.lemmas.texts.LetterLemmas.{fault_without_stars, replaces_one}
+use Rattle.gix_refspec_text.proofs.parsing.reading.with_fault.Goals as goal
+
+pub returns-in-No-clause-ok : goal.returns-in-No-clause-ok
+returns-in-No-clause-ok c = (c.in-No.ensures, fault_without_stars c.args.side.now c.args.fault c.in-No.ensures c.requires)
+
+pub returns-in-One-clause-err : goal.returns-in-One-clause-err
+returns-in-One-clause-err c =
+    let x = c.args.side.now in
+    (ReferenceName c.args.fault, refl, (with_letters x, replaces_one _ _ x c.in-One.ensures, c.requires))

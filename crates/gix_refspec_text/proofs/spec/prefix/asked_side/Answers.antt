@@ -1,0 +1,11 @@
+-- No side of an accepted spec has several stars.
+use Rattle.std.proofs.Common.{rules}
+use Rattle.gix_refspec_text.specs.Matching.Prefix.{IsAsked}
+use Rattle.gix_refspec_text.specs.Views.Spec.{reading_of}
+use Rattle.gix_refspec_text.proofs.lemmas.specs.AcceptedLemmas.{remote_few}
+use Rattle.gix_refspec_text.proofs.spec.prefix.asked_side.Goals as goal
+
+pub returns : goal.returns
+returns c =
+    let asked : IsAsked (reading_of c.args.spec.now) c.as_bytes.result.now = search rules in
+    (asked, remote_few (reading_of c.args.spec.now) c.as_bytes.result.now c.args.spec.now.accepted asked.side)

@@ -1,0 +1,37 @@
+-- The kind of the side decides. Only entries need memory.
+use Rattle.std.proofs.Common.{refl, sym, ◌∙◌}
+use Rattle.std.proofs.lemmas.Result.{IfOk-weaker}
+use Rattle.std.proofs.lemmas.Bool.{false≢true}
+use Rattle.gix_refspec_text.specs.Matching.Prefix.{of_head, of_name, of_pattern, to_prefix}
+use Rattle.gix_refspec_text.proofs.lemmas.prefixes.PrefixLemmas.{no_prefix, prefix_expands, on_any_error}
+use Rattle.gix_refspec_text.proofs.spec.prefix.expansions_of.Goals as goal
+
+pub pattern_expansions-requires : goal.pattern_expansions-requires
+pattern_expansions-requires c =
+    let k = c.in-Pattern in
+    (no_prefix c.args.side.now k.before.now k.after.now k.ensures (λ tells. false≢true (c.if-tells_prefix.ensures.1 tells)), (k.before.now, k.after.now, k.ensures))
+
+pub returns-in-Pattern-clause-ok : goal.returns-in-Pattern-clause-ok
+returns-in-Pattern-clause-ok c =
+    let k = c.in-Pattern in
+    IfOk-weaker c.one_entry.result _ _ (λ list is. to_prefix k.before.now (of_pattern k.before.now k.after.now k.ensures (c.if-tells_prefix.ensures.0 refl) refl) is) c.one_entry.ensures
+
+pub returns-in-Pattern-clause-memory : goal.returns-in-Pattern-clause-memory
+returns-in-Pattern-clause-memory c =
+    let k = c.in-Pattern in
+    on_any_error c.one_entry.result (prefix_expands c.args.side.now k.before.now (of_pattern k.before.now k.after.now k.ensures (c.if-tells_prefix.ensures.0 refl) refl))
+
+pub returns-in-FullName-clause-ok : goal.returns-in-FullName-clause-ok
+returns-in-FullName-clause-ok c =
+    let k = c.in-FullName in
+    IfOk-weaker c.one_entry-in-FullName.result _ _ (λ list is. to_prefix k.name.now (of_name k.ensures.2 k.ensures.1 k.ensures.0) is) c.one_entry-in-FullName.ensures
+
+pub returns-in-FullName-clause-memory : goal.returns-in-FullName-clause-memory
+returns-in-FullName-clause-memory c =
+    let k = c.in-FullName in
+    on_any_error c.one_entry-in-FullName.result (prefix_expands c.args.side.now k.name.now (of_name k.ensures.2 k.ensures.1 k.ensures.0))
+
+pub returns-in-Partial-clause-ok : goal.returns-in-Partial-clause-ok
+returns-in-Partial-clause-ok c =
+    let k = c.in-Partial in
+    IfOk-weaker c.one_entry-in-Partial.result _ _ (λ list is. to_prefix k.name.now (of_head (sym k.ensures.0 ∙ c.if-is_head.ensures.0 refl) k.ensures.0) is) c.one_entry-in-Partial.ensures

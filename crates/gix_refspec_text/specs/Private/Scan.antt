@@ -1,0 +1,96 @@
+-- How one pass over the bytes finds a fault of a name. Only private functions cite these words. A text
+-- is looked at with a slash put before it, so that each of its components is after a slash.
+use Rattle.std.specs.Prelude.{◌≡◌, ◌≢◌, Bool, ◌⊎◌, ◌≤◌, ◌<◌, ◌-◌, ◌∷◌, ◌++◌, take, ℕ, ◌==◌, List, Option, MatchOption, codes, IsTrue, if◌then◌else◌, map, slice_index}
+use Rattle.std.specs.List.{count_by}
+use Rattle.std.specs.Int.{w64, trailing_zeros}
+use Rattle.gix_refspec_text.specs.declared.name.class.Class.{Class}
+use Rattle.gix_refspec_text.specs.declared.name.class.Class.TheVariants.{Plain, Slash, Dot, Brace, Star, Refused}
+use Rattle.gix_refspec_text.specs.declared.name.Error.{Error}
+use Rattle.gix_refspec_text.specs.declared.name.Stop.{Stop}
+use Rattle.gix_refspec_text.specs.declared.name.Stop.TheVariants.{SecondStar, Fault}
+use Rattle.gix_refspec_text.specs.declared.name.Error.TheVariants.{Empty, EmptyComponent, StartsWithDot, LockSuffix, EndsWithDot, RepeatedDot, ReflogPortion, Asterisk, InvalidByte}
+use Rattle.gix_refspec_text.specs.Texts.Bytes.{slash, star, letter, dot, brace}
+use Rattle.gix_refspec_text.specs.Texts.Name.{is_refused_byte, HasFault, HasSeveralStars}
+use Rattle.gix_refspec_text.specs.Texts.Words.{EndsWith}
+
+-- the class of the byte b
+abbrev pub class_at : ℕ → Class
+class_at b = if b == slash then Slash else if b == dot then Dot else if b == brace then Brace else if b == star then Star else if is_refused_byte b then Refused else Plain
+
+-- the byte b, put after y, makes the fault e
+abbrev pub AddsFault : List ℕ → ℕ → Error → Type 0
+AddsFault y b Empty = ⊥
+AddsFault y b EmptyComponent = (b ≡ slash) × EndsWith (codes "/") y
+AddsFault y b StartsWithDot = (b ≡ dot) × EndsWith (codes "/") y
+AddsFault y b LockSuffix = (b ≡ slash) × EndsWith (codes ".lock") y
+AddsFault y b EndsWithDot = ⊥
+AddsFault y b RepeatedDot = (b ≡ dot) × EndsWith (codes ".") y
+AddsFault y b ReflogPortion = (b ≡ brace) × EndsWith (codes "@") y
+AddsFault y b Asterisk = b ≡ star
+AddsFault y b (InvalidByte c) = (b ≡ c) × IsTrue (is_refused_byte c)
+
+-- some byte in y adds the fault e to what is before it
+pub record Added (y : List ℕ) (e : Error) : Type 0 where
+  pub before : List ℕ
+  pub byte : ℕ
+  pub after : List ℕ
+  pub here : y ≡ before ++ (byte ∷ after)
+  pub fault : AddsFault before byte e
+
+-- no byte in y adds a fault to what is before it
+abbrev pub IsClean : List ℕ → Type 0
+IsClean y = (e : Error) → ¬ (Added y e)
+
+-- y has the fault e where nothing follows it
+abbrev pub LeavesFault : List ℕ → Error → Type 0
+LeavesFault y Empty = ⊥
+LeavesFault y EmptyComponent = EndsWith (codes "/") y
+LeavesFault y StartsWithDot = ⊥
+LeavesFault y LockSuffix = EndsWith (codes ".lock") y
+LeavesFault y EndsWithDot = EndsWith (codes ".") y
+LeavesFault y RepeatedDot = ⊥
+LeavesFault y ReflogPortion = ⊥
+LeavesFault y Asterisk = ⊥
+LeavesFault y (InvalidByte c) = ⊥
+
+-- the answer is a fault as F says, or None where there is no such fault
+abbrev pub Finds : Option Error → (Error → Type 0) → Type 0
+Finds answer F = MatchOption answer ((e : Error) → ¬ (F e)) F
+
+-- the letter for a star, and any other byte as it is
+abbrev pub letter_for : ℕ → ℕ
+letter_for b = if b == star then letter else b
+
+-- x with the letter in place of each star
+abbrev pub with_letters : List ℕ → List ℕ
+with_letters x = map letter_for x
+
+-- n stars are in x
+abbrev pub IsStarCount : List ℕ → ℕ → Type 0
+IsStarCount x n = count_by (λ b. b == star) x ≡ n
+
+-- one, or none
+abbrev pub one_if : Bool → ℕ
+one_if some = if some then 1 else 0
+
+-- with letters for the stars no byte of x before the place i adds a fault, and one of these or none is a
+-- star
+abbrev pub IsScanned : List ℕ → ℕ → Bool → Type 0
+IsScanned x i starred = IsClean (with_letters (slash ∷ take i x)) × IsStarCount (take i x) (one_if starred)
+
+-- x has a second star, or with letters for its stars this fault
+abbrev pub Stops : List ℕ → Stop → Type 0
+Stops x SecondStar = HasSeveralStars x
+Stops x (Fault e) = HasFault (with_letters x) e
+
+-- after p the byte b is plain, or a slash that neither a slash nor the end of `.lock` is after
+abbrev pub IsCalm : ℕ → ℕ → Type 0
+IsCalm p b = (class_at b ≡ Plain) ⊎ ((b ≡ slash) × (p ≢ slash) × (p ≢ 107))
+
+-- each byte of x from the place a up to b is calm after the one before it
+abbrev pub AreCalm : List ℕ → ℕ → ℕ → Type 0
+AreCalm x a b = (k : ℕ) → a ≤ k → k < b → IsCalm (slice_index x (k - 1)) (slice_index x k)
+
+-- the place of the lowest bit of the mask, or n where none is set
+abbrev pub lowest_of : ℕ → ℕ → ℕ
+lowest_of n mask = if mask == 0 then n else trailing_zeros w64 mask

@@ -1,0 +1,88 @@
+-- How the parts of a text are looked at, and which sides they make. Only private functions cite this.
+use Rattle.std.specs.Prelude.{◌≡◌, ◌≢◌, ◌⊎◌, ℕ, List, [], ◌∷◌, Option, None, Some, option_map}
+use Rattle.gix_refspec_text.specs.declared.parsing.reading.Look.{Look}
+use Rattle.gix_refspec_text.specs.declared.parsing.reading.Shape.{Shape}
+use Rattle.gix_refspec_text.specs.declared.parsing.reading.Parts.{Parts}
+use Rattle.gix_refspec_text.specs.declared.parsing.reading.Sides.{Sides}
+use Rattle.gix_refspec_text.specs.declared.parsing.Operation.{Operation}
+use Rattle.gix_refspec_text.specs.declared.parsing.Error.{Error}
+use Rattle.gix_refspec_text.specs.Texts.Words.{Lacks}
+use Rattle.gix_refspec_text.specs.Texts.Name.{IsName, HasFault, IsPattern}
+use Rattle.gix_refspec_text.specs.Texts.Bytes.{star, head}
+use Rattle.gix_refspec_text.specs.Specs.Reading.{Mode, Reading}
+use Rattle.gix_refspec_text.specs.Specs.Refusal.{Refusal, IsBadName, IsBadPattern, IsFirstReason, IsRefused, ReachesMemory, MayNeedMemory}
+use Rattle.gix_refspec_text.specs.Specs.Grammar.{named_by, AreParts, IsPositive, Reads}
+use Rattle.gix_refspec_text.specs.Views.Instruction.{mode_of, ShowsRefusal}
+use Rattle.gix_refspec_text.specs.declared.parsing.reading.Look.TheVariants as look
+use Rattle.gix_refspec_text.specs.declared.parsing.reading.Shape.TheVariants as shape
+use Rattle.gix_refspec_text.specs.declared.parsing.Error.TheVariants as error
+use Rattle.bstr.specs.BStr.{bstr_bytes}
+
+-- the error is `Memory` where that may be, or otherwise a refusal as P says
+abbrev pub MemoryOr : Type 0 → (Refusal → Type 0) → Error → Type 0
+MemoryOr memory P error.Memory = memory
+MemoryOr memory P e = ShowsRefusal P e
+
+-- x is a name, a pattern, or otherwise without a star and with this fault
+abbrev pub IsLook : List ℕ → Look → Type 0
+IsLook x look.Name = IsName x
+IsLook x look.Pattern = IsPattern x
+IsLook x (look.Other fault) = Lacks star x × HasFault x fault
+
+-- x has no star, or is a pattern
+abbrev pub HasShape : List ℕ → Shape → Type 0
+HasShape x shape.Plain = Lacks star x
+HasShape x shape.Pattern = IsPattern x
+
+-- x is missing, a name or a pattern
+abbrev pub HasCheckedShape : List ℕ → Shape → Type 0
+HasCheckedShape [] shape.Plain = Unit {0}
+HasCheckedShape (b ∷ bs) shape.Plain = IsName (b ∷ bs)
+HasCheckedShape x shape.Pattern = IsPattern x
+
+-- the text is neither a name nor a pattern, for this reason
+abbrev pub IsBadSide : List ℕ → Refusal → Type 0
+IsBadSide x e = (x ≢ []) × (IsBadName x e ⊎ IsBadPattern x e)
+
+-- an empty word is a missing side
+abbrev pub side_of : List ℕ → Option (List ℕ)
+side_of [] = None
+side_of (b ∷ bs) = Some (b ∷ bs)
+
+-- a fetch that names nothing is one of `HEAD`
+abbrev pub named_or_head : List ℕ → List ℕ
+named_or_head [] = head
+named_or_head (b ∷ bs) = named_by (b ∷ bs)
+
+-- the destination of parts, if there is one
+abbrev pub destination_of : Parts → Option (List ℕ)
+destination_of p = option_map (λ d. d.now) p.destination
+
+-- the text has these parts
+abbrev pub HasParts : List ℕ → Parts → Type 0
+HasParts text p = AreParts (mode_of p.mode) p.source.now (destination_of p) text
+
+-- the parts of a positive spec for the operation
+pub record ArePositive (op : Operation) (p : Parts) : Type 0 where
+  pub operation : p.operation ≡ op
+  pub positive : IsPositive (mode_of p.mode)
+
+-- what the sides make, for the operation and the mode of the parts
+abbrev pub read_as : Parts → Sides → Reading
+read_as p sides = record { operation = p.operation; mode = mode_of p.mode; source = option_map bstr_bytes sides.source; destination = option_map bstr_bytes sides.destination }
+
+-- each text with these parts reads as the sides make
+abbrev pub AreSidesOf : Parts → Sides → Type 0
+AreSidesOf p sides = (text : List ℕ) → HasParts text p → Reads p.operation text (read_as p sides)
+
+-- the first reason against parts, or out of memory where a side of them may need it
+abbrev pub IsReason : Operation → Mode → List ℕ → Option (List ℕ) → Error → Type 0
+IsReason op mode s d = MemoryOr (ReachesMemory op mode s d) (IsFirstReason op mode s d)
+
+-- the same, of these parts
+abbrev pub IsReasonAgainst : Parts → Error → Type 0
+IsReasonAgainst p = IsReason p.operation (mode_of p.mode) p.source.now (destination_of p)
+
+-- out of memory where a side may need it, or otherwise the first reason against the text
+abbrev pub IsErrorOf : Operation → List ℕ → Error → Type 0
+IsErrorOf op text = MemoryOr (MayNeedMemory op text) (IsRefused op text)

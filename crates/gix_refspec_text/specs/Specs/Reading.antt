@@ -1,0 +1,34 @@
+-- What a refspec is read as, apart from where the bytes lie.
+use Rattle.std.specs.Prelude.{◌⊎◌, ℕ, List, Option, IsSome}
+use Rattle.gix_refspec_text.specs.declared.parsing.Operation.{Operation}
+use Rattle.gix_refspec_text.specs.declared.parsing.Operation.TheVariants.{Push, Fetch}
+
+-- what the sign says: none, `+` or `^`
+pub data Mode : Type 0 where
+  Normal : Mode
+  Forced : Mode
+  Negative : Mode
+
+-- what a text is read as; each side is a text, or missing
+pub record Reading : Type 0 where
+  pub operation : Operation
+  pub mode : Mode
+  pub source : Option (List ℕ)
+  pub destination : Option (List ℕ)
+
+-- one of the sides is there, or both
+abbrev pub HasSide : Reading → Type 0
+HasSide r = IsSome r.source ⊎ IsSome r.destination
+
+-- a fetch has its source on the remote, a push its destination
+abbrev pub side_on_remote : Operation → Option (List ℕ) → Option (List ℕ) → Option (List ℕ)
+side_on_remote Push s d = d
+side_on_remote Fetch s d = s
+
+-- the side on the remote
+abbrev pub remote_of : Reading → Option (List ℕ)
+remote_of r = side_on_remote r.operation r.source r.destination
+
+-- the local side
+abbrev pub local_of : Reading → Option (List ℕ)
+local_of r = side_on_remote r.operation r.destination r.source

@@ -1,0 +1,72 @@
+-- The names of refs, by git-check-ref-format(1) where one level is allowed, and patterns, by
+-- git-fetch(1): texts that are names once a letter stands for their one star. Other than in the
+-- manual, `@` is a name.
+use Rattle.std.specs.Prelude.{◌≡◌, ◌≢◌, ℕ, Bool, ◌||◌, ◌==◌, nat_lt, List, [], ◌∷◌, ◌++◌, codes, IsTrue}
+use Rattle.std.specs.List.{list_any}
+use Rattle.gix_refspec_text.specs.declared.name.Error.{Error}
+use Rattle.gix_refspec_text.specs.declared.name.Error.TheVariants.{Empty, EmptyComponent, StartsWithDot, LockSuffix, EndsWithDot, RepeatedDot, ReflogPortion, Asterisk, InvalidByte}
+use Rattle.gix_refspec_text.specs.Texts.Bytes.{slash, star, letter}
+use Rattle.gix_refspec_text.specs.Texts.Words.{Lacks, Holds, BeginsWith, EndsWith, ArePartsAt}
+
+-- a control character, or one of these seven, the space among them
+abbrev pub is_refused_byte : ℕ → Bool
+is_refused_byte b = nat_lt b 32 || b == 127 || list_any (λ c. b == c) (codes " ~^:?[\\")
+
+-- some component of x is as P says: one of the words between its slashes
+pub record SomeComponent (P : List ℕ → Type 0) (x : List ℕ) : Type 0 where
+  pub before : List (List ℕ)
+  pub component : List ℕ
+  pub after : List (List ℕ)
+  pub components : ArePartsAt slash (before ++ (component ∷ after)) x
+  pub fact : P component
+
+-- a star is in x
+abbrev pub HasStar : List ℕ → Type 0
+HasStar x = Holds (codes "*") x
+
+-- x has the fault e
+abbrev pub HasFault : List ℕ → Error → Type 0
+HasFault x Empty = x ≡ []
+HasFault x EmptyComponent = (x ≢ []) × SomeComponent (λ w. w ≡ []) x
+HasFault x StartsWithDot = SomeComponent (BeginsWith (codes ".")) x
+HasFault x LockSuffix = SomeComponent (EndsWith (codes ".lock")) x
+HasFault x EndsWithDot = EndsWith (codes ".") x
+HasFault x RepeatedDot = Holds (codes "..") x
+HasFault x ReflogPortion = Holds (codes "@{") x
+HasFault x Asterisk = HasStar x
+HasFault x (InvalidByte b) = Holds (b ∷ []) x × IsTrue (is_refused_byte b)
+
+-- x is a name: no fault holds of it
+abbrev pub IsName : List ℕ → Type 0
+IsName x = (e : Error) → ¬ (HasFault x e)
+
+-- two stars or more are in x
+pub record HasSeveralStars (x : List ℕ) : Type 0 where
+  pub before : List ℕ
+  pub between : List ℕ
+  pub after : List ℕ
+  pub here : x ≡ before ++ (star ∷ (between ++ (star ∷ after)))
+
+-- x has one star, between these two texts
+pub record IsCut (before after x : List ℕ) : Type 0 where
+  pub starred : x ≡ before ++ (star ∷ after)
+  pub first : Lacks star before
+  pub last : Lacks star after
+
+-- x has exactly one star
+abbrev pub HasOneStar : List ℕ → Type 0
+HasOneStar x = (before : List ℕ) × (after : List ℕ) × IsCut before after x
+
+-- x has one star, and y is x with the letter in its place
+pub record ReplacesStar (x y : List ℕ) : Type 0 where
+  pub before : List ℕ
+  pub after : List ℕ
+  pub cut : IsCut before after x
+  pub replaced : y ≡ before ++ (letter ∷ after)
+
+-- x is a pattern: it has one star, and with the letter in its place it is a name. So no pattern ends
+-- with a slash
+pub record IsPattern (x : List ℕ) : Type 0 where
+  pub with_letter : List ℕ
+  pub replaces : ReplacesStar x with_letter
+  pub name : IsName with_letter

@@ -1,0 +1,75 @@
+//! What a refspec says to do, by operation.
+
+ghost use Rattle.std.specs.Prelude.{◌≡◌};
+ghost use Rattle.gix_refspec_text.specs.Views.Instruction.{meaning_of_instruction, meant_for};
+
+use crate::parsing::Operation;
+use crate::types::Instruction;
+use bstr::BStr;
+
+/// What a push does.
+#[derive(Clone, Copy, Debug, PartialEq, Eq, PartialOrd, Ord, Hash)]
+pub enum Push<'a> {
+    /// Pushes each local branch that the remote has too.
+    AllMatchingBranches {
+        /// Whether the spec had a `+`: refs may also move where that is no fast-forward.
+        allow_non_fast_forward: bool,
+    },
+    /// Deletes the remote ref. A `+` changes nothing.
+    Delete {
+        /// The name of the ref, full or partial. No spec deletes a pattern, though Rust's name of the
+        /// field says so.
+        ref_or_pattern: BStr<'a>,
+    },
+    /// Pushes the source to the destination; both are patterns, or neither.
+    Matching {
+        /// The local side. With a destination in the text it may be whatever names an object, as `main~2`:
+        /// any bytes but a star.
+        src: BStr<'a>,
+        /// The side on the remote. It is the source where the text has none.
+        dst: BStr<'a>,
+        /// Whether the spec had a `+`: refs may also move where that is no fast-forward.
+        allow_non_fast_forward: bool,
+    },
+    /// Leaves out what the source matches.
+    Exclude {
+        /// A name or a pattern, without the `^`.
+        src: BStr<'a>,
+    },
+}
+
+/// What a fetch does.
+#[derive(Clone, Copy, Debug, PartialEq, Eq, PartialOrd, Ord, Hash)]
+pub enum Fetch<'a> {
+    /// Fetches the source and updates no local ref. A `+` changes nothing.
+    Only {
+        /// The side on the remote: a name, full or partial, or an object id.
+        src: BStr<'a>,
+    },
+    /// Leaves out what the source matches.
+    Exclude {
+        /// A name or a pattern, without the `^`.
+        src: BStr<'a>,
+    },
+    /// Fetches the source and updates the destination. Both are patterns, or neither is.
+    AndUpdate {
+        /// The side on the remote.
+        src: BStr<'a>,
+        /// The local side.
+        dst: BStr<'a>,
+        /// Whether the spec had a `+`: refs may also move where that is no fast-forward.
+        allow_non_fast_forward: bool,
+    },
+}
+
+impl Instruction<'_> {
+    /// Whether the instruction is for a push or for a fetch.
+    pub fn operation(&self) -> Operation
+        ensures { result ≡ meant_for (meaning_of_instruction self.now) }
+    {
+        match self {
+            Instruction::Push(_) => Operation::Push,
+            Instruction::Fetch(_) => Operation::Fetch,
+        }
+    }
+}

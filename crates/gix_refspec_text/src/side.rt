@@ -1,0 +1,117 @@
+//! A side of a refspec: how many stars it has and where they cut it, its kind, and its candidates.
+
+ghost use Rattle.std.specs.Prelude.{◌≡◌, ◌++◌, codes, map, MatchOption, IfOk};
+ghost use Rattle.bstr.specs.Owned.{bstring_bytes};
+ghost use Rattle.gix_refspec_text.specs.Texts.Words.{BeginsWith};
+ghost use Rattle.gix_refspec_text.specs.Texts.Name.{HasSeveralStars};
+ghost use Rattle.gix_refspec_text.specs.Matching.Side.{HasKind, candidates as candidates_of};
+ghost use Rattle.gix_refspec_text.specs.Private.SideViews.{AreStarsOf, kind_of_side};
+
+use crate::cut::{holds, split_at_first};
+use crate::oid::ObjectId;
+use bstr::BString;
+use std::alloc::{AllocError, Global};
+
+// How many stars a text has, and the text before and after the only one.
+#[derive(Clone, Copy)]
+pub(crate) enum Stars<'a> {
+    No,
+    One { before: &'a [u8], after: &'a [u8] },
+    Several,
+}
+
+/// What a side is. Its texts are borrowed from the side.
+#[derive(Clone, Copy)]
+pub enum SideKind<'a> {
+    /// One star between two texts.
+    Pattern { before: &'a [u8], after: &'a [u8] },
+    /// A name that begins `refs/`.
+    FullName(&'a [u8]),
+    /// The id of an object.
+    Object(ObjectId),
+    /// Any other name.
+    Partial(&'a [u8]),
+}
+
+// How many stars a side has, and where the only one cuts it.
+pub(crate) fn stars_of(side: &[u8]) -> Stars<'_>
+    ensures { AreStarsOf side.now result }
+{
+    // Most sides have no star, and `holds` tells that sooner than a search.
+    if !holds(side, b'*') {
+        return Stars::No;
+    }
+    let Some((before, after)) = split_at_first(side, b'*') else {
+        return Stars::No;
+    };
+    match split_at_first(after, b'*') {
+        None => Stars::One { before, after },
+        Some(_) => Stars::Several,
+    }
+}
+
+/// The kind of a side with one star at most.
+pub fn kind_of(side: &[u8]) -> SideKind<'_>
+    requires { ¬ (HasSeveralStars side.now) }
+    ensures { HasKind side.now (kind_of_side result) }
+{
+    if let Stars::One { before, after } = stars_of(side) {
+        return SideKind::Pattern { before, after };
+    }
+    if below_refs(side).is_some() {
+        return SideKind::FullName(side);
+    }
+    match ObjectId::from_hex(side) {
+        Ok(id) => SideKind::Object(id),
+        Err(_) => SideKind::Partial(side),
+    }
+}
+
+/// What follows `refs/`. `None` for a text that doesn't begin so.
+pub fn below_refs(side: &[u8]) -> Option<&[u8]>
+    ensures { MatchOption result
+        (¬ (BeginsWith (codes "refs/") side.now))
+        (λ rest. side.now ≡ codes "refs/" ++ rest.now) }
+{
+    match side {
+        [b'r', b'e', b'f', b's', b'/', rest @ ..] => Some(rest),
+        _ => None,
+    }
+}
+
+/// The six names that gitrevisions(7) tries for a partial name, in that order. Fails if memory runs out.
+pub fn candidates(alloc: Global, name: &[u8]) -> Result<Vec<BString>, AllocError>
+    ensures { IfOk result (λ list. map bstring_bytes list.items ≡ candidates_of name.now) }
+{
+    let mut names = Vec::with_capacity(alloc, 6)?;
+    names.push(joined(alloc, b"", name, b"")?)?;
+    names.push(joined(alloc, b"refs/", name, b"")?)?;
+    names.push(joined(alloc, b"refs/tags/", name, b"")?)?;
+    names.push(joined(alloc, b"refs/heads/", name, b"")?)?;
+    names.push(joined(alloc, b"refs/remotes/", name, b"")?)?;
+    names.push(joined(alloc, b"refs/remotes/", name, b"/HEAD")?)?;
+    Ok(names)
+}
+
+/// A name between two texts. Fails if memory runs out.
+pub fn joined(
+    alloc: Global,
+    before: &[u8],
+    name: &[u8],
+    after: &[u8],
+) -> Result<BString, AllocError>
+    ensures { IfOk result (λ text. bstring_bytes text ≡ before.now ++ (name.now ++ after.now)) }
+{
+    let room = before
+        .len()
+        .saturating_add(name.len())
+        .saturating_add(after.len());
+    let mut text = Vec::with_capacity(alloc, room)?;
+    text.extend_from_slice(before)?;
+    text.extend_from_slice(name)?;
+    // Most patterns end with their star. This is called for each mapping that one makes.
+    if !after.is_empty() {
+        text.extend_from_slice(after)?;
+    }
+    Ok(BString::new(text))
+}

@@ -1,0 +1,223 @@
+//! Refspecs as they were read.
+
+ghost use Rattle.std.specs.Prelude.{◌≡◌, option_map, IfOk, OnErr, IsSome};
+ghost use Rattle.bstr.specs.BStr.{bstr_bytes};
+ghost use Rattle.bstr.specs.Owned.{bstring_bytes};
+ghost use Rattle.gix_refspec_text.specs.Specs.Grammar.{IsAccepted};
+ghost use Rattle.gix_refspec_text.specs.Views.Instruction.{mode_of};
+
+mod comparisons;
+pub mod prefix;
+pub mod sign;
+mod write;
+
+use crate::instruction::{Fetch, Push};
+use crate::parsing::Operation;
+use crate::types::{Instruction, Mode};
+use bstr::{BStr, BString};
+use std::alloc::{AllocError, Global};
+
+/// A refspec that borrows its sides from the text that it was read from, or from a [`RefSpec`].
+///
+/// Only [`parse`](crate::parse) makes specs, and others are copies of these. So each one is a reading of
+/// some text of the grammar. Specs are compared, ordered and hashed by meaning, which is their
+/// instruction: a push of `main` equals one of `main:main`, and no push equals a fetch.
+#[derive(Clone, Copy, Debug)]
+pub struct RefSpecRef<'a> {
+    pub(crate) op: Operation,
+    pub(crate) mode: Mode,
+    pub(crate) src: Option<BStr<'a>>,
+    pub(crate) dst: Option<BStr<'a>>,
+    ghost accepted: { ∥ IsAccepted (record { operation = op; mode = mode_of mode; source = option_map bstr_bytes src; destination = option_map bstr_bytes dst }) ∥₁ },
+}
+
+/// A refspec that owns its sides: a copy of a [`RefSpecRef`], made by its `to_owned`, or a copy of such a
+/// copy. It is compared, ordered and hashed by meaning, as those are.
+#[derive(Debug, Drop)]
+pub struct RefSpec {
+    op: Operation,
+    mode: Mode,
+    src: Option<BString>,
+    dst: Option<BString>,
+    ghost accepted: { ∥ IsAccepted (record { operation = op; mode = mode_of mode; source = option_map bstring_bytes src; destination = option_map bstring_bytes dst }) ∥₁ },
+}
+
+impl<'a> RefSpecRef<'a> {
+    ghost use Rattle.std.specs.Prelude.{◌↔◌, IsTrue, Some};
+    ghost use Rattle.gix_refspec_text.specs.Specs.Meaning.{meaning_of};
+    ghost use Rattle.gix_refspec_text.specs.Views.Instruction.{meaning_of_instruction};
+    ghost use Rattle.gix_refspec_text.specs.Views.Spec.{reading_of, owned_reading_of};
+    ghost use Rattle.gix_refspec_text.specs.Specs.Reading.{local_of, remote_of, Forced, HasSide};
+
+    /// Whether the spec was read for a push or for a fetch.
+    pub fn operation(&self) -> Operation
+        ensures { result ≡ (reading_of self.now).operation }
+    {
+        self.op
+    }
+
+    /// Whether the text began with the sign `+`. That is true too of a deletion and of a fetch without a
+    /// destination, whose instructions don't say so.
+    pub fn allow_non_fast_forward(&self) -> bool
+        ensures { IsTrue result ↔ ((reading_of self.now).mode ≡ Forced) }
+    {
+        self.mode == Mode::Force
+    }
+
+    /// The left side, with `HEAD` for a lone `@`, and for the missing source of a fetch. `None` for a
+    /// push that deletes a ref or takes all matching branches.
+    pub fn source(&self) -> Option<BStr<'a>>
+        ensures { option_map bstr_bytes result ≡ (reading_of self.now).source }
+    {
+        self.src
+    }
+
+    /// The right side, as it was read. `None` without a destination. For a push of `main` too,
+    /// although it pushes to `main`.
+    pub fn destination(&self) -> Option<BStr<'a>>
+        ensures { option_map bstr_bytes result ≡ (reading_of self.now).destination }
+    {
+        self.dst
+    }
+
+    /// The side on the remote: the source of a fetch, the destination of a push. `None` for a push
+    /// that is negative, of a source alone, or of all matching branches.
+    pub fn remote(&self) -> Option<BStr<'a>>
+        ensures { option_map bstr_bytes result ≡ remote_of (reading_of self.now) }
+    {
+        match self.op {
+            Operation::Push => self.dst,
+            Operation::Fetch => self.src,
+        }
+    }
+
+    /// The local side: the destination of a fetch, the source of a push. `None` for a fetch that is
+    /// negative or of a source alone, and for a push that deletes a ref or takes all matching
+    /// branches.
+    pub fn local(&self) -> Option<BStr<'a>>
+        ensures { option_map bstr_bytes result ≡ local_of (reading_of self.now) }
+    {
+        match self.op {
+            Operation::Push => self.src,
+            Operation::Fetch => self.dst,
+        }
+    }
+
+    /// A copy that owns its sides. Fails if memory runs out; never for a spec without sides.
+    pub fn to_owned(&self, alloc: Global) -> Result<RefSpec, AllocError>
+        ensures keeps { IfOk result (λ owned. owned_reading_of owned ≡ reading_of self.now) }
+        ensures memory { OnErr result (HasSide (reading_of self.now)) }
+    {
+        Ok(RefSpec {
+            op: self.op,
+            mode: self.mode,
+            src: owned_side(alloc, self.src)?,
+            dst: owned_side(alloc, self.dst)?,
+        })
+    }
+
+    /// What the spec says to do. Its sides borrow what those of the spec borrow.
+    pub fn instruction(&self) -> Instruction<'a>
+        ensures { meaning_of (reading_of self.now) ≡ Some (meaning_of_instruction result) }
+    {
+        match self.op {
+            Operation::Fetch => Instruction::Fetch(self.fetch()),
+            Operation::Push => Instruction::Push(self.push()),
+        }
+    }
+
+    // What a fetch spec says to do.
+    fn fetch(&self) -> Fetch<'a>
+        requires { self.now.op ≡ Operation.Fetch }
+        ensures { meaning_of (reading_of self.now) ≡ Some (meaning_of_instruction (Instruction.Fetch result)) }
+    {
+        match (self.mode, self.src, self.dst) {
+            (Mode::Negative, Some(src), None) => Fetch::Exclude { src },
+            (Mode::Normal | Mode::Force, Some(src), None) => Fetch::Only { src },
+            (Mode::Normal | Mode::Force, Some(src), Some(dst)) => Fetch::AndUpdate {
+                src,
+                dst,
+                allow_non_fast_forward: self.mode == Mode::Force,
+            },
+            _ => unreachable!(),
+        }
+    }
+
+    // What a push spec says to do.
+    fn push(&self) -> Push<'a>
+        requires { self.now.op ≡ Operation.Push }
+        ensures { meaning_of (reading_of self.now) ≡ Some (meaning_of_instruction (Instruction.Push result)) }
+    {
+        let allow_non_fast_forward = self.mode == Mode::Force;
+        match (self.mode, self.src, self.dst) {
+            (Mode::Negative, Some(src), None) => Push::Exclude { src },
+            (Mode::Normal | Mode::Force, None, None) => Push::AllMatchingBranches {
+                allow_non_fast_forward,
+            },
+            (Mode::Normal | Mode::Force, None, Some(dst)) => Push::Delete {
+                ref_or_pattern: dst,
+            },
+            (Mode::Normal | Mode::Force, Some(src), dst) => Push::Matching {
+                src,
+                dst: dst.unwrap_or(src),
+                allow_non_fast_forward,
+            },
+            _ => unreachable!(),
+        }
+    }
+}
+
+impl RefSpec {
+    ghost use Rattle.std.specs.Prelude.{◌↔◌, IsTrue};
+    ghost use Rattle.gix_refspec_text.specs.Specs.Reading.{Forced, HasSide};
+    ghost use Rattle.gix_refspec_text.specs.Views.Spec.{reading_of, owned_reading_of};
+
+    /// The same spec, with sides that are borrowed from this one.
+    pub fn to_ref(&self) -> RefSpecRef<'_>
+        ensures { reading_of result ≡ owned_reading_of self.now }
+    {
+        RefSpecRef {
+            op: self.op,
+            mode: self.mode,
+            src: borrowed_side(&self.src),
+            dst: borrowed_side(&self.dst),
+        }
+    }
+
+    /// As `RefSpecRef::allow_non_fast_forward`.
+    pub fn allow_non_fast_forward(&self) -> bool
+        ensures { IsTrue result ↔ ((owned_reading_of self.now).mode ≡ Forced) }
+    {
+        self.to_ref().allow_non_fast_forward()
+    }
+
+    /// A copy with sides of its own. Fails if memory runs out; never for a spec without sides.
+    pub fn clone(&self, alloc: Global) -> Result<RefSpec, AllocError>
+        ensures keeps { IfOk result (λ copy. owned_reading_of copy ≡ owned_reading_of self.now) }
+        ensures memory { OnErr result (HasSide (owned_reading_of self.now)) }
+    {
+        self.to_ref().to_owned(alloc)
+    }
+}
+
+// A side that owns its bytes.
+fn owned_side(alloc: Global, side: Option<BStr<'_>>) -> Result<Option<BString>, AllocError>
+    ensures keeps { IfOk result (λ owned.
+        option_map bstring_bytes owned ≡ option_map bstr_bytes side.entry) }
+    ensures memory { OnErr result (IsSome (option_map bstr_bytes side.entry)) }
+{
+    match side {
+        None => Ok(None),
+        Some(side) => Ok(Some(BString::from_slice(alloc, side)?)),
+    }
+}
+
+// A side that borrows its bytes.
+fn borrowed_side(side: &Option<BString>) -> Option<BStr<'_>>
+    ensures { option_map bstr_bytes result ≡ option_map bstring_bytes side.now }
+{
+    match side {
+        None => None,
+        Some(side) => Some(side.as_bstr()),
+    }
+}

@@ -1,0 +1,82 @@
+//! Matching only those refs of a server that there is to ask for.
+
+ghost use Rattle.std.specs.Prelude.{◌≡◌, map, IfOk, MatchOption};
+ghost use Rattle.bstr.specs.Owned.{bstring_bytes};
+ghost use Rattle.gix_refspec.specs.Matching.Asked.{HasNoList};
+ghost use Rattle.gix_refspec.specs.Views.Issue.{mappings_of};
+ghost use Rattle.gix_refspec.specs.Laws.Items.{is_begun};
+ghost use Rattle.gix_refspec_uses.specs.Asking.{LosesNothing, items_asked};
+ghost use Rattle.gix_refspec_uses.specs.Planned.{fetch_readings};
+
+use crate::gather::fetches_of;
+use bstr::BString;
+use gix_refspec::match_group::{Item, match_lhs};
+use gix_refspec::{RefSpecRef, laws};
+use std::alloc::{AllocError, Global};
+
+/// The items that were asked for, and what is matched of them.
+#[derive(Debug, Drop)]
+pub struct Asked<'spec, 'item> {
+    /// The items whose names begin with an entry, in order.
+    pub items: Vec<Item<'item>>,
+    /// The mappings of these items.
+    pub outcome: match_lhs::Outcome<'spec, 'item>,
+}
+
+/// Matches the fetch specs among these over only the items that a client asks a server for. The same
+/// pairs stay as over all items. `None` exactly where some spec has no list that is safe to ask for.
+/// Fails if memory runs out.
+pub fn match_asked<'spec, 'item>(
+    alloc: Global,
+    specs: Vec<RefSpecRef<'spec>>,
+    items: &[Item<'item>],
+) -> Result<Option<Asked<'spec, 'item>>, AllocError>
+    ensures { IfOk result (λ found. MatchOption found
+        (HasNoList (fetch_readings specs.entry.items))
+        (λ asked. LosesNothing (fetch_readings specs.entry.items)
+        items.now asked.items.items (mappings_of asked.outcome))) }
+{
+    let group = fetches_of(alloc, specs)?;
+    let Some(entries) = group.ref_prefixes(alloc)? else {
+        return Ok(None);
+    };
+    let asked = keep_asked(alloc, entries.as_slice(), items)?;
+    laws::asked_items(&group, items, asked.as_slice());
+    match group.match_lhs(alloc, asked.as_slice()) {
+        Ok(outcome) => Ok(Some(Asked {
+            items: asked,
+            outcome,
+        })),
+        Err(_) => Err(AllocError),
+    }
+}
+
+/// The items whose names begin with one of the entries, in order. Fails if memory runs out.
+pub fn keep_asked<'item>(
+    alloc: Global,
+    entries: &[BString],
+    items: &[Item<'item>],
+) -> Result<Vec<Item<'item>>, AllocError>
+    ensures { IfOk result (λ asked. asked.items ≡
+        items_asked (map bstring_bytes entries.now) items.now) }
+{
+    let mut asked = Vec::new(alloc);
+    for item in items {
+        if begins_with_one(item.full_ref_name.as_bytes(), entries) {
+            asked.push(*item)?;
+        }
+    }
+    Ok(asked)
+}
+
+// Whether a name begins with one of the entries.
+fn begins_with_one(name: &[u8], entries: &[BString]) -> bool
+    ensures { result ≡ is_begun (map bstring_bytes entries.now) name.now }
+{
+    for entry in entries {
+        if name.starts_with(entry.as_bytes()) {
+            return true;
+        }
+    }
+    false
+}

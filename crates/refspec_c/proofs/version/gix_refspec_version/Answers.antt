@@ -1,7 +1,0 @@
--- The version is what is before the NUL.
-use Rattle.std.proofs.Common.{refl}
-use Rattle.refspec_c.specs.Explanation.{version}
-use Rattle.refspec_c.proofs.version.gix_refspec_version.Goals as goal
-
-pub returns-clause-text : goal.returns-clause-text
-returns-clause-text c = c.before_nul.ensures version refl

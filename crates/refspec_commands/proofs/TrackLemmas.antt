@@ -1,0 +1,201 @@
+-- Refs of which the name alone is given, and what is told of them.
+use Rattle.std.proofs.Common.{◌≡◌, ◌≢◌, ◌↔◌, ◌⊎◌, ℕ, ◌+◌, ◌<◌, ◌≤◌, Bool, Bor, true, false, cond, IsTrue, MatchBool, List, [], ◌∷◌, ◌++◌, None, Some, inl, inr, length, map, take, take_all, get_or, replicate, refl, sym, ap, ◌∙◌, subst, arith}
+use Rattle.std.specs.BTreeMap.{is_at}
+use Rattle.std.specs.BTreeSet.{BTreeSet, Updates, contains_by}
+use Rattle.std.specs.List.{list_any}
+use Rattle.std.specs.Cmp.Lexicographic.{slice_cmp}
+use Rattle.std.specs.Ordering.{is_eq, nat_cmp}
+use Rattle.std.proofs.lemmas.Bool.{false≢true}
+use Rattle.std.proofs.lemmas.Map.Text.{is_eq-slice_cmp}
+use Rattle.std.proofs.lemmas.Slice.Eq.{bytes_eq-Decides}
+use Rattle.std.proofs.lemmas.List.{length-map, map-append, take_more}
+use Rattle.gix_refspec.specs.Laws.Items.{HasIdDestination}
+use Rattle.gix_refspec.specs.Views.Group.{mapped_of}
+use Rattle.gix_refspec.specs.Views.Spec.{reading_of}
+use Rattle.gix_refspec_match.specs.declared.types.Mapping.{Mapping}
+use Rattle.gix_refspec_text.specs.declared.spec.RefSpecRef.{RefSpecRef}
+use Rattle.gix_refspec.specs.Matching.Hits.{AreKeptBackward}
+use Rattle.gix_refspec.specs.Matching.Mappings.{Mapped}
+use Rattle.gix_refspec.specs.Matching.Match.{Ref}
+use Rattle.gix_refspec.specs.Specs.Reading.{Reading}
+use Rattle.refspec_commands.specs.declared.call.Form.{Form}
+use Rattle.refspec_commands.specs.declared.mappings.Columns.TheVariants as columns
+use Rattle.refspec_commands.specs.Rows.{AddsMappings, AreSpecTexts}
+use Rattle.refspec_commands.specs.Shown.{KeepsResults}
+use Rattle.refspec_commands.specs.Track.{AddsTracked, AreByNames, AreWritten, HasUnwritten, IsEachWritten, IsWritten, named}
+
+-- a ref with the name and the target
+abbrev pub plain : List ℕ → List ℕ → Ref
+plain n t = record { name = n; target = t; object = None }
+
+-- the ref with the name, where the target is the id of zeros
+pub named_of : (a b target : List ℕ) → a ≡ b → target ≡ replicate 20 0 → plain a target ≡ named b
+named_of a b target same zeros = ap (λ n. plain n target) same ∙ ap (plain b) zeros
+
+-- mappings of refs with these names, and then nothing more
+pub AddsTracked-of : (f k h : Form) (names : List (List ℕ)) (refused : Bool) (refs : List Ref) (g by_names : List Reading) (texts : List (List ℕ)) (found shown : List Mapped) (old first mid new : List ℕ) → AreByNames g by_names → k ≡ f → KeepsResults f old first → refs ≡ map named names → AreKeptBackward by_names refs found → AreSpecTexts by_names texts → AddsMappings k columns.DestinationFirst texts shown first mid → shown ≡ found → h ≡ k → KeepsResults h mid new → MatchBool refused ((by_names ≢ g) ⊎ HasUnwritten names found) ((by_names ≡ g) × IsEachWritten names found) → AddsTracked f names refused g old new
+AddsTracked-of f k h names refused refs g by_names texts found shown old first mid new looked_up same_form before are kept of_specs told same form rest whether = record {
+  by_names = by_names;
+  found = found;
+  texts = texts;
+  looked_up = looked_up;
+  kept = subst (λ (rs : List Ref). AreKeptBackward by_names rs found) are kept;
+  of_specs = of_specs;
+  told = record {
+    first = first;
+    last = mid;
+    before = before;
+    told = subst (λ (x : Form). AddsMappings x columns.DestinationFirst texts found first mid) same_form (subst (λ (ms : List Mapped). AddsMappings k columns.DestinationFirst texts ms first mid) same told);
+    after = subst (λ (x : Form). KeepsResults x mid new) (form ∙ same_form) rest;
+  };
+  status = whether;
+}
+
+-- one spec more that names look up
+AreByNames-more : (xs : List Reading) (kept : List Reading) (r : Reading) → ¬ (HasIdDestination r) → AreByNames xs kept → AreByNames (xs ++ r ∷ []) (kept ++ r ∷ [])
+AreByNames-more [] kept r none is = inr (none, ([], refl, ap (λ l. l ++ r ∷ []) is))
+AreByNames-more (x ∷ xs) kept r none (inl (has, is)) = inl (has, AreByNames-more xs kept r none is)
+AreByNames-more (x ∷ xs) kept r none (inr (other, (rest, is, same))) = inr (other, (rest ++ r ∷ [], AreByNames-more xs rest r none is, ap (λ l. l ++ r ∷ []) same))
+
+-- one that they don't
+AreByNames-less : (xs : List Reading) (kept : List Reading) (r : Reading) → HasIdDestination r → AreByNames xs kept → AreByNames (xs ++ r ∷ []) kept
+AreByNames-less [] kept r has is = inl (has, is)
+AreByNames-less (x ∷ xs) kept r has (inl (it, is)) = inl (it, AreByNames-less xs kept r has is)
+AreByNames-less (x ∷ xs) kept r has (inr (other, (rest, is, same))) = inr (other, (rest, AreByNames-less xs rest r has is, same))
+
+readings_more : (specs : List RefSpecRef) (i : ℕ) (s : RefSpecRef) → i < length specs → s ≡ get_or specs i s → map reading_of (take (i + 1) specs) ≡ map reading_of (take i specs) ++ reading_of s ∷ []
+readings_more specs i s below is = ap (map reading_of) (take_more specs i s below) ∙ (map-append reading_of (take i specs) (get_or specs i s ∷ []) ∙ ap (λ x. map reading_of (take i specs) ++ reading_of x ∷ []) (sym is))
+
+pub AreByNames-kept : (specs old new : List RefSpecRef) (i : ℕ) (s : RefSpecRef) → i < length specs → s ≡ get_or specs i s → ¬ (HasIdDestination (reading_of s)) → new ≡ old ++ s ∷ [] → AreByNames (map reading_of (take i specs)) (map reading_of old) → AreByNames (map reading_of (take (i + 1) specs)) (map reading_of new)
+AreByNames-kept specs old new i s below is none grown so_far =
+    subst (λ (l : List Reading). AreByNames l (map reading_of new)) (sym (readings_more specs i s below is))
+    (subst (AreByNames (map reading_of (take i specs) ++ reading_of s ∷ [])) (sym (ap (map reading_of) grown ∙ map-append reading_of old (s ∷ []))) (AreByNames-more (map reading_of (take i specs)) (map reading_of old) (reading_of s) none so_far))
+
+pub AreByNames-left : (specs kept : List RefSpecRef) (i : ℕ) (s : RefSpecRef) → i < length specs → s ≡ get_or specs i s → HasIdDestination (reading_of s) → AreByNames (map reading_of (take i specs)) (map reading_of kept) → AreByNames (map reading_of (take (i + 1) specs)) (map reading_of kept)
+AreByNames-left specs kept i s below is has so_far =
+    subst (λ (l : List Reading). AreByNames l (map reading_of kept)) (sym (readings_more specs i s below is)) (AreByNames-less (map reading_of (take i specs)) (map reading_of kept) (reading_of s) has so_far)
+
+pub AreByNames-all : (specs kept : List RefSpecRef) (i : ℕ) → length specs ≤ i → AreByNames (map reading_of (take i specs)) (map reading_of kept) → AreByNames (map reading_of specs) (map reading_of kept)
+AreByNames-all specs kept i long so_far = subst (λ (l : List RefSpecRef). AreByNames (map reading_of l) (map reading_of kept)) (take_all i specs long) so_far
+
+-- specs that names look up are not more than all, and all where they are as many
+by_names-few : (g kept : List Reading) → AreByNames g kept → length kept ≤ length g
+by_names-few [] kept is = omega (arith, ap length is)
+by_names-few (r ∷ g) kept (inl (has, is)) = omega (arith, by_names-few g kept is)
+by_names-few (r ∷ g) kept (inr (other, (rest, is, same))) = omega (arith, by_names-few g rest is, ap length same)
+
+pub by_names-whole : (g kept : List Reading) → AreByNames g kept → length g ≤ length kept → kept ≡ g
+by_names-whole [] kept is many = is
+by_names-whole (r ∷ g) kept (inl (has, is)) many = absurd (omega (arith, by_names-few g kept is, many))
+by_names-whole (r ∷ g) kept (inr (other, (rest, is, same))) many = same ∙ ap (λ l. r ∷ l) (by_names-whole g rest is (omega (arith, many, ap length same)))
+
+pub by_names-fewer : (g kept : List Reading) → length kept < length g → kept ≢ g
+by_names-fewer g kept few same = omega (arith, few, ap length same)
+
+-- a mapping more
+IsWritten-front : (name : List ℕ) (ms : List Mapped) (m : Mapped) → IsWritten name ms → IsWritten name (ms ++ m ∷ [])
+IsWritten-front name [] m is = absurd is
+IsWritten-front name (x ∷ ms) m (inl same) = inl same
+IsWritten-front name (x ∷ ms) m (inr is) = inr (IsWritten-front name ms m is)
+
+IsWritten-here : (name : List ℕ) (ms : List Mapped) (m : Mapped) → m.destination ≡ Some name → IsWritten name (ms ++ m ∷ [])
+IsWritten-here name [] m same = inl same
+IsWritten-here name (x ∷ ms) m same = inr (IsWritten-here name ms m same)
+
+IsWritten-cases : (name : List ℕ) (ms : List Mapped) (m : Mapped) → IsWritten name (ms ++ m ∷ []) → IsWritten name ms ⊎ (m.destination ≡ Some name)
+IsWritten-cases name [] m (inl same) = inr same
+IsWritten-cases name [] m (inr is) = absurd is
+IsWritten-cases name (x ∷ ms) m (inl same) = inl (inl same)
+IsWritten-cases name (x ∷ ms) m (inr is) = later (IsWritten-cases name ms m is)
+  where
+    later : IsWritten name ms ⊎ (m.destination ≡ Some name) → IsWritten name (x ∷ ms) ⊎ (m.destination ≡ Some name)
+    later (inl before) = inl (inr before)
+    later (inr here) = inr here
+
+-- an empty set has the names that no mappings write
+pub AreWritten-start : (set : BTreeSet (Bor (List ℕ))) → set.keys ≡ [] → AreWritten set []
+AreWritten-start set none name = ((λ has. absurd (false≢true (sym (ap (list_any (is_at (λ (n : Bor (List ℕ)). slice_cmp nat_cmp name n.now))) none) ∙ has))), (λ is. absurd is))
+
+-- the mappings so far, and one more
+pub AreWritten-next : (set : BTreeSet (Bor (List ℕ))) (ms : List Mapping) (i : ℕ) (m : Mapping) → i < length ms → m ≡ get_or ms i m → AreWritten set (map mapped_of (take i ms) ++ mapped_of m ∷ []) → AreWritten set (map mapped_of (take (i + 1) ms))
+AreWritten-next set ms i m below is so_far =
+    let step : map mapped_of (take (i + 1) ms) ≡ map mapped_of (take i ms) ++ mapped_of m ∷ [] = ap (map mapped_of) (take_more ms i m below) ∙ (map-append mapped_of (take i ms) (get_or ms i m ∷ []) ∙ ap (λ (x : Mapping). map mapped_of (take i ms) ++ mapped_of x ∷ []) (sym is)) in
+    subst (AreWritten set) (sym step) so_far
+
+-- a set of the names that mappings write, and one more that writes none
+pub AreWritten-none : (set : BTreeSet (Bor (List ℕ))) (ms : List Mapped) (m : Mapped) → m.destination ≡ None → AreWritten set ms → AreWritten set (ms ++ m ∷ [])
+AreWritten-none set ms m none so_far name = ((λ has. IsWritten-front name ms m ((so_far name).0 has)), (λ is. back (IsWritten-cases name ms m is)))
+  where
+    back : IsWritten name ms ⊎ (m.destination ≡ Some name) → IsTrue (contains_by (λ n. slice_cmp nat_cmp name n.now) set)
+    back (inl before) = (so_far name).1 before
+    back (inr here) = absurd (no_name (sym none ∙ here))
+      where
+        no_name : None ≡ Some name → ⊥
+        no_name same = cc
+
+-- and one more that writes one, which was put into the set
+pub AreWritten-more : (old new : BTreeSet (Bor (List ℕ))) (key : Bor (List ℕ)) (ms : List Mapped) (m : Mapped) → Updates (λ x y. slice_cmp nat_cmp x.now y.now) old new key true → m.destination ≡ Some key.now → AreWritten old ms → AreWritten new (ms ++ m ∷ [])
+AreWritten-more old new key ms m updates is so_far name = by (is_eq (slice_cmp nat_cmp key.now name)) refl (updates.0 (record { ref_ptr = (0, 0); now = name }))
+  where
+    has : BTreeSet (Bor (List ℕ)) → Bool
+    has set = contains_by (λ n. slice_cmp nat_cmp name n.now) set
+
+    by : (b : Bool) → is_eq (slice_cmp nat_cmp key.now name) ≡ b → has new ≡ cond b true (has old) → IsTrue (has new) ↔ IsWritten name (ms ++ m ∷ [])
+    by true same found = (
+      (λ _. IsWritten-here name ms m (is ∙ ap Some ((bytes_eq-Decides key.now name).0 (sym (is_eq-slice_cmp key.now name) ∙ same)))),
+      (λ _. found),
+    )
+    by false other found = ((λ has_it. IsWritten-front name ms m ((so_far name).0 (sym found ∙ has_it))), (λ some. back (IsWritten-cases name ms m some)))
+      where
+        back : IsWritten name ms ⊎ (m.destination ≡ Some name) → IsTrue (has new)
+        back (inl before) = found ∙ (so_far name).1 before
+        back (inr here) = absurd (false≢true (sym other ∙ (is_eq-slice_cmp key.now name ∙ (bytes_eq-Decides key.now name).1 (one_name (sym is ∙ here)))))
+          where
+            one_name : Some key.now ≡ Some name → key.now ≡ name
+            one_name same = cc
+
+-- a name more: each so far is written, or one isn't
+IsEachWritten-more : (names : List (List ℕ)) (name : List ℕ) (found : List Mapped) → IsEachWritten names found → IsWritten name found → IsEachWritten (names ++ name ∷ []) found
+IsEachWritten-more [] name found each is = (is, tt)
+IsEachWritten-more (n ∷ names) name found each is = (each.0, IsEachWritten-more names name found each.1 is)
+
+HasUnwritten-front : (names : List (List ℕ)) (name : List ℕ) (found : List Mapped) → HasUnwritten names found → HasUnwritten (names ++ name ∷ []) found
+HasUnwritten-front [] name found has = absurd has
+HasUnwritten-front (n ∷ names) name found (inl none) = inl none
+HasUnwritten-front (n ∷ names) name found (inr some) = inr (HasUnwritten-front names name found some)
+
+HasUnwritten-here : (names : List (List ℕ)) (name : List ℕ) (found : List Mapped) → ¬ (IsWritten name found) → HasUnwritten (names ++ name ∷ []) found
+HasUnwritten-here [] name found none = inl none
+HasUnwritten-here (n ∷ names) name found none = inr (HasUnwritten-here names name found none)
+
+-- whether some name isn't written
+abbrev pub Tells : Bool → List (List ℕ) → List Mapped → Type 0
+Tells some names found = MatchBool some (HasUnwritten names found) (IsEachWritten names found)
+
+pub Tells-written : (some : Bool) (names : List (List ℕ)) (name : List ℕ) (found : List Mapped) → Tells some names found → IsWritten name found → Tells some (names ++ name ∷ []) found
+Tells-written true names name found has is = HasUnwritten-front names name found has
+Tells-written false names name found each is = IsEachWritten-more names name found each is
+
+pub Tells-unwritten : (some : Bool) (names : List (List ℕ)) (name : List ℕ) (found : List Mapped) → Tells some names found → ¬ (IsWritten name found) → Tells true (names ++ name ∷ []) found
+Tells-unwritten some names name found told none = HasUnwritten-here names name found none
+
+-- one name more, and all names
+pub Tells-next : (some : Bool) (names : List (Bor (List ℕ))) (i : ℕ) (d : Bor (List ℕ)) (name : List ℕ) (found : List Mapped) → i < length names → name ≡ (get_or names i d).now → Tells some (map (λ n. n.now) (take i names) ++ name ∷ []) found → Tells some (map (λ n. n.now) (take (i + 1) names)) found
+Tells-next some names i d name found below is told =
+    let now = λ (n : Bor (List ℕ)). n.now in
+    let step : map now (take (i + 1) names) ≡ map now (take i names) ++ name ∷ [] = ap (map now) (take_more names i d below) ∙ (map-append now (take i names) (get_or names i d ∷ []) ∙ ap (λ x. map now (take i names) ++ x ∷ []) (sym is)) in
+    subst (λ l. Tells some l found) (sym step) told
+
+pub Tells-all : (some : Bool) (names : List (Bor (List ℕ))) (i : ℕ) (found : List Mapped) → length names ≤ i → Tells some (map (λ n. n.now) (take i names)) found → Tells some (map (λ n. n.now) names) found
+Tells-all some names i found long told = subst (λ (l : List (Bor (List ℕ))). Tells some (map (λ n. n.now) l) found) (take_all i names long) told
+
+-- some spec isn't looked up, or some name isn't written
+abbrev pub Refuses : Bool → List Reading → List Reading → List (List ℕ) → List Mapped → Type 0
+Refuses refused g by_names names found = MatchBool refused ((by_names ≢ g) ⊎ HasUnwritten names found) ((by_names ≡ g) × IsEachWritten names found)
+
+pub Refuses-fewer : (specs kept : List RefSpecRef) (names : List (List ℕ)) (found : List Mapped) → length kept < length specs → Refuses true (map reading_of specs) (map reading_of kept) names found
+Refuses-fewer specs kept names found few = inl (by_names-fewer (map reading_of specs) (map reading_of kept) (omega (arith, few, length-map specs reading_of, length-map kept reading_of)))
+
+pub Refuses-whole : (some : Bool) (specs kept : List RefSpecRef) (names : List (List ℕ)) (found : List Mapped) → AreByNames (map reading_of specs) (map reading_of kept) → length specs ≤ length kept → Tells some names found → Refuses some (map reading_of specs) (map reading_of kept) names found
+Refuses-whole true specs kept names found are many told = inr told
+Refuses-whole false specs kept names found are many told = (by_names-whole (map reading_of specs) (map reading_of kept) are (omega (arith, many, length-map specs reading_of, length-map kept reading_of)), told)

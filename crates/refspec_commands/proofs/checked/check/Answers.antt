@@ -1,0 +1,18 @@
+-- What the text reads as is what its bytes are read as; an error other than that memory ran out is a reason.
+use Rattle.std.proofs.Common.{◌≡◌, List, ℕ, refl, subst, sym, ◌∙◌}
+use Rattle.std.proofs.lemmas.Bool.{false≢true}
+use Rattle.gix_refspec.specs.Specs.Grammar.{Reads}
+use Rattle.gix_refspec.specs.Specs.Refusal.{IsRefused}
+use Rattle.gix_refspec.specs.Views.Spec.{reading_of}
+use Rattle.gix_refspec.specs.Views.Instruction.{ShowsRefusal}
+use Rattle.gix_refspec_text.specs.declared.parsing.Error.TheVariants as error
+use Rattle.refspec_commands.proofs.checked.check.Goals as goal
+use Rattle.refspec_commands.proofs.checked.check.Goals.{in-Memory, in_default}
+
+pub returns-in-Ok : goal.returns-in-Ok
+returns-in-Ok c = (refl, subst (λ (x : List ℕ). Reads c.args.text.operation x (reading_of c.in-Ok.spec)) c.new.ensures c.in-Ok.ensures.ok)
+
+pub returns-else-matches : goal.returns-else-matches
+returns-else-matches c =
+    let other : (c.in-Err.error ≡ error.Memory → ⊥) = elim c.match-matches.branch [ in-Memory w ↦ λ same. false≢true (sym c.if-matches.false ∙ w.matches-is) | in_default w ↦ w.in_default.not-Memory ] in
+    (refl, subst (λ (x : List ℕ). ShowsRefusal (IsRefused c.args.text.operation x) c.in-Err.error) c.new.ensures (c.in-Err.ensures.refused other))

@@ -1,0 +1,76 @@
+-- Texts as strings of JSON, and objects with them, on both sides of each rule.
+use Rattle.std.proofs.Common.{◌≡◌, ◌++◌, ℕ, List, [], ◌∷◌, None, Some, codes, get_or, refl, ap, arith}
+use Rattle.std.specs.Str.{chars, is_utf8}
+use Rattle.gix_refspec.specs.Matching.Mappings.{Mapped, name}
+use Rattle.refspec_json.specs.Objects.{conflict_object, line_of, mapping_object, prefix_object}
+use Rattle.gix_refspec_text.specs.declared.parsing.Error.TheVariants as error
+use Rattle.gix_refspec_text.specs.declared.parsing.Operation.TheVariants as operation
+use Rattle.refspec_commands.specs.declared.call.Form.TheVariants as form
+use Rattle.refspec_commands.specs.declared.mappings.Columns.TheVariants as columns
+use Rattle.refspec_commands.specs.Conflicts.{conflict_line}
+use Rattle.refspec_commands.specs.Json.{AddsObjects, json_text, operation_name, reason_name}
+use Rattle.refspec_commands.specs.Prefixes.{asked_object}
+use Rattle.refspec_commands.specs.Rows.{AddsMappings}
+use Rattle.refspec_commands.specs.Shown.{KeepsResults}
+
+-- a name as it is, also with a tab or a quote within; the empty one too
+pub raw : (json_text (codes "a") ≡ codes "a") × (json_text (codes "a\t\"") ≡ codes "a\t\"") × (json_text [] ≡ [])
+unfolding is_utf8 chars lib.Utf8.encode
+raw = (refl, refl, refl)
+
+-- UTF-8 of two bytes as it is, and its first byte alone in quotes
+pub bytes : (json_text (195 ∷ 169 ∷ []) ≡ 195 ∷ 169 ∷ []) × (json_text (195 ∷ []) ≡ codes "\"\\303\"")
+unfolding is_utf8 chars lib.Utf8.encode
+bytes = (refl, refl)
+
+-- one that begins with a quote is in quotes, so that it isn't taken for one that is quoted
+pub quoted : json_text (codes "\"a") ≡ codes "\"\\\"a\""
+quoted = refl
+
+-- what operations and reasons are called
+pub names : (operation_name operation.Fetch ≡ codes "fetch") × (operation_name operation.Push ≡ codes "push") × (reason_name error.PushToEmpty ≡ codes "PushToEmpty")
+names = (refl, refl, refl)
+
+-- ---- mappings
+
+abbrev mapped : Mapped
+mapped = record { item = None; source = name (codes "a"); destination = Some (codes "b"); spec = 1 }
+
+abbrev unwritten : Mapped
+unwritten = record { item = None; source = name (codes "c"); destination = None; spec = 0 }
+
+-- each with the text of its own spec, after what was there
+pub mappings : AddsMappings form.Json columns.SourceFirst (codes "c" ∷ codes "a:b" ∷ []) (mapped ∷ unwritten ∷ []) (codes "x")
+    (codes "x" ++ (line_of (mapping_object (codes "a") (Some (codes "b")) (codes "a:b")) ++ (line_of (mapping_object (codes "c") None (codes "c")) ++ [])))
+unfolding is_utf8 chars lib.Utf8.encode
+mappings = refl
+
+-- none of them may be left out
+pub left_out : AddsMappings form.Json columns.SourceFirst [] (mapped ∷ []) [] [] → ⊥
+left_out none = absurd (omega (arith, ap (λ (l : List ℕ). get_or l 0 0) none))
+
+-- ---- prefixes
+
+pub prefixes : asked_object (codes "refs/") ≡ line_of (prefix_object (codes "refs/") (codes "refs/*"))
+unfolding is_utf8 chars lib.Utf8.encode
+prefixes = refl
+
+-- ---- conflicts
+
+pub conflict : conflict_line (record { destination = codes "d"; sources = name (codes "a") ∷ name (codes "b") ∷ []; texts = codes "a:d" ∷ codes "b:d" ∷ [] })
+    ≡ line_of (conflict_object (codes "d") ((codes "a", codes "a:d") ∷ (codes "b", codes "b:d") ∷ []))
+unfolding is_utf8 chars lib.Utf8.encode
+conflict = refl
+
+-- ---- objects one after another
+
+abbrev Same : List ℕ → List ℕ → Type 0
+Same x line = line ≡ x
+
+-- in JSON in order, and in lines none
+pub in_order : AddsObjects form.Json Same (codes "a" ∷ codes "b" ∷ []) (codes "x") (codes "xab") × AddsObjects form.Lines Same (codes "a" ∷ []) (codes "x") (codes "x")
+in_order = ((codes "ab", (codes "a", codes "b", refl, (codes "b", [], refl, refl, refl), refl), refl), refl)
+
+-- what was there before stays, also in JSON
+pub kept : KeepsResults form.Json (codes "a") (codes "ab") × (KeepsResults form.Json (codes "a") (codes "b") → ⊥) × (KeepsResults form.Lines (codes "a") (codes "ab") → ⊥)
+kept = ((codes "b", refl), (λ grown. absurd (omega (arith, ap (λ (l : List ℕ). get_or l 0 0) grown.1))), (λ same. absurd (omega (arith, ap (λ (l : List ℕ). get_or l 1 0) same))))

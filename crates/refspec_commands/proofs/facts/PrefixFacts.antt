@@ -1,0 +1,181 @@
+-- What is asked for, in lines as `git ls-remote` sends them and as patterns, and what isn't.
+use Rattle.std.proofs.Common.{◌≡◌, ℕ, true, false, List, [], ◌∷◌, ◌++◌, Some, inl, inr, codes, length, refl, ap, ◌∙◌, subst, arith}
+use Rattle.gix_refspec.specs.Specs.Grammar.{fetched}
+use Rattle.gix_refspec.specs.Specs.Reading.{Negative, Normal, Reading}
+use Rattle.gix_refspec.specs.Matching.Asked.{HasNoList, Lists, ListsGroup, ListsSide}
+use Rattle.gix_refspec.proofs.facts.AskedFacts.{lists_at_brackets, lists_of_specs, none_for_all}
+use Rattle.gix_refspec_text.proofs.lemmas.prefixes.PrefixLemmas.{one_asked}
+use Rattle.gix_refspec_text.proofs.facts.FitFacts.{every, no_dev, other_byte}
+use Rattle.gix_refspec_text.proofs.facts.ManualFacts.{other_length}
+use Rattle.gix_refspec_text.proofs.lemmas.specs.FormsBackLemmas.{some_once}
+use Rattle.refspec_commands.specs.declared.call.Form.TheVariants as form
+use Rattle.refspec_commands.specs.Prefixes.{AddsAll, AddsList, AddsNothing, AddsPrefixes, AreOthers, TakesWhole, argument, request}
+
+-- a prefix has its argument's name before it, and a pattern has a star behind
+pub requests : (argument false ≡ codes "ref-prefix ") × (argument true ≡ [])
+    × (request false (codes "refs/heads/") ≡ codes "refs/heads/")
+    × (request true (codes "refs/heads/") ≡ codes "refs/heads/*")
+requests = (refl, refl, refl, refl)
+
+-- what stands for all refs, and for none
+pub words : AddsAll false form.Lines [] (codes "a\n") (codes "a\n(all)\n") × AddsAll false form.Zeros [] [] (0 ∷ [])
+    × AddsAll true form.Lines [] [] (codes "*\n") × AddsAll true form.Zeros [] [] (codes "*" ++ 0 ∷ [])
+    × AddsNothing form.Lines (codes "a\n") (codes "a\n(nothing)\n") × AddsNothing form.Zeros [] []
+words = (refl, refl, refl, refl, refl, refl)
+
+-- neither is told as the other
+pub other_words : ¬ (AddsAll false form.Lines [] [] (codes "(nothing)\n")) × ¬ (AddsAll false form.Zeros [] [] [])
+    × ¬ (AddsNothing form.Lines [] (codes "(all)\n")) × ¬ (AddsNothing form.Zeros [] (0 ∷ []))
+other_words = (
+  other_length _ _ (λ size. omega (arith, size)),
+  (λ same. omega (arith, ap length same)),
+  other_length _ _ (λ size. omega (arith, size)),
+  λ same. omega (arith, ap length same),
+)
+
+-- a line for each prefix, with its argument's name or a star; records have no argument's name
+pub listed : AddsList false form.Lines (codes "refs/heads/" ∷ codes "HEAD" ∷ []) []
+    (codes "ref-prefix refs/heads/\nref-prefix HEAD\n")
+    × AddsList true form.Lines (codes "refs/heads/" ∷ []) [] (codes "refs/heads/*\n")
+    × AddsList false form.Zeros (codes "refs/heads/" ∷ []) [] (codes "refs/heads/" ++ 0 ∷ [])
+    × AddsList true form.Zeros (codes "refs/heads/" ∷ []) [] (codes "refs/heads/*" ++ 0 ∷ [])
+    × AddsList false form.Lines [] [] (codes "(nothing)\n")
+listed = (
+  (_, (codes "refs/heads/", codes "ref-prefix HEAD\n", inl refl, (codes "HEAD", [], inl refl, refl, refl), refl), refl),
+  (_, (codes "refs/heads/*", [], inl refl, refl, refl), refl),
+  refl,
+  refl,
+  refl,
+)
+
+-- no list is told as nothing, nor is a prefix without its argument's name or a pattern with it
+pub not_listed : ¬ (AddsList false form.Lines (codes "refs/heads/" ∷ []) [] (codes "(nothing)\n"))
+    × ¬ (AddsList false form.Lines (codes "refs/heads/" ∷ []) [] (codes "refs/heads/\n"))
+    × ¬ (AddsList true form.Lines (codes "refs/heads/" ∷ []) [] (codes "ref-prefix refs/heads/*\n"))
+    × ¬ (AddsList false form.Zeros (codes "refs/heads/" ∷ []) [] [])
+not_listed = (
+  (λ adds. other_byte 0 (codes "(nothing)\n") (codes "ref-prefix " ++ _) (λ byte. omega (arith, byte)) (adds.2
+      ∙ adds.1.4)),
+  (λ adds. other_byte 3 (codes "refs/heads/\n") (codes "ref-prefix " ++ _) (λ byte. omega (arith, byte)) (adds.2
+      ∙ adds.1.4)),
+  starred,
+  λ same. omega (arith, ap length same),
+)
+  where
+    starred : ¬ (AddsList true form.Lines (codes "refs/heads/" ∷ []) [] (codes "ref-prefix refs/heads/*\n"))
+    starred (lines, (shown, rest, inl is, none, all), same) =
+        other_byte 3 (codes "ref-prefix refs/heads/*\n") (codes "refs/heads/*" ++ (10 ∷ rest)) (λ byte. omega (
+          arith,
+          byte,
+        )) (same ∙ (all ∙ ap (λ (s : List ℕ). s ++ (10 ∷ rest)) is))
+    starred (lines, (shown, rest, inr is, none, all), same) =
+        other_byte 0 (codes "ref-prefix refs/heads/*\n") (34 ∷ _) (λ byte. omega (arith, byte)) (same
+        ∙ (all ∙ ap (λ (s : List ℕ). s ++ (10 ∷ rest)) is))
+
+-- a spec whose star is behind a `]`, for which no list serves, and one whose star stands right behind `refs/`
+abbrev by_bracket : Reading
+by_bracket = fetched Normal (codes "refs/a]*") (Some (codes "refs/x/*"))
+
+abbrev all_refs : Reading
+all_refs = fetched Normal (codes "refs/*") (Some (codes "refs/x/*"))
+
+unlisted : (list : List (List ℕ)) → ¬ (Lists by_bracket list)
+unlisted list (inl (negative, none)) = let same : Normal ≡ Negative = negative in cc
+unlisted list (inr (x, asked, lists)) =
+    lists_at_brackets.1 list
+    (subst (λ (y : List ℕ). ListsSide y list)
+    (one_asked by_bracket x (codes "refs/a]*") asked (record { positive = tt; side = refl })) lists)
+
+no_list : HasNoList (every ∷ by_bracket ∷ [])
+no_list = (1, by_bracket, omega arith, refl, unlisted)
+
+-- `refs/` is asked for where the star stands right behind it, and not for a negative spec
+pub wholes : TakesWhole all_refs × ¬ (TakesWhole every) × ¬ (TakesWhole no_dev) × ¬ (TakesWhole by_bracket)
+    × ¬ (TakesWhole (record all_refs { mode = Negative }))
+wholes = (
+  (tt, ([], refl)),
+  (λ takes. other_byte 5 (codes "refs/heads/*") (codes "refs/*" ++ takes.1.0) (λ byte. omega (arith, byte))
+      (some_once _ _ takes.1.1)),
+  (λ takes. takes.0),
+  (λ takes. other_byte 5 (codes "refs/a]*") (codes "refs/*" ++ takes.1.0) (λ byte. omega (arith, byte))
+      (some_once _ _ takes.1.1)),
+  λ takes. takes.0,
+)
+
+-- the others stay in order
+pub others : AreOthers (every ∷ all_refs ∷ no_dev ∷ []) (every ∷ no_dev ∷ []) × AreOthers (all_refs ∷ []) []
+    × ¬ (AreOthers (every ∷ []) []) × ¬ (AreOthers (all_refs ∷ []) (all_refs ∷ []))
+others = (
+  inr (wholes.1, (no_dev ∷ [], inl (wholes.0, inr (wholes.2, ([], refl, refl))), refl)),
+  inl (wholes.0, refl),
+  lost,
+  kept,
+)
+  where
+    lost : ¬ (AreOthers (every ∷ []) [])
+    lost (inl (takes, none)) = wholes.1 takes
+    lost (inr (other, (rest, none, same))) = omega (arith, ap length same)
+
+    kept : ¬ (AreOthers (all_refs ∷ []) (all_refs ∷ []))
+    kept (inl (takes, none)) = omega (arith, ap length none)
+    kept (inr (other, (rest, none, same))) = other wholes.0
+
+-- what a group asks for, all refs where no list is safe, and nothing for negative specs
+pub told : AddsPrefixes false form.Lines (every ∷ all_refs ∷ no_dev ∷ []) []
+    (codes "ref-prefix refs/\nref-prefix refs/heads/\n")
+    × AddsPrefixes true form.Lines (every ∷ by_bracket ∷ []) [] (codes "*\n")
+    × AddsPrefixes false form.Lines (no_dev ∷ []) [] (codes "(nothing)\n")
+told = (
+  (
+    every ∷ no_dev ∷ [],
+    others.0,
+    inl (
+      codes "refs/" ∷ codes "refs/heads/" ∷ [],
+      record {
+        has_whole = true;
+        own = codes "refs/heads/" ∷ [];
+        whole = λ same. omega (arith, ap length same);
+        lists = (codes "refs/heads/" ∷ [], [], lists_of_specs.0, ([], [], lists_of_specs.1, refl, refl), refl);
+        is = refl;
+      },
+      (
+        _,
+        (codes "refs/", codes "ref-prefix refs/heads/\n", inl refl, (codes "refs/heads/", [], inl refl, refl, refl), refl),
+        refl,
+      ),
+    ),
+  ),
+  (
+    every ∷ by_bracket ∷ [],
+    inr (wholes.1, (by_bracket ∷ [], inr (wholes.3, ([], refl, refl)), refl)),
+    inr (no_list, refl),
+  ),
+  (
+    no_dev ∷ [],
+    inr (wholes.2, ([], refl, refl)),
+    inl (
+      [],
+      record { has_whole = false; own = []; whole = refl; lists = ([], [], lists_of_specs.1, refl, refl); is = refl },
+      refl,
+    ),
+  ),
+)
+
+-- a list isn't told as all refs, nor are all as nothing
+pub not_told : ¬ (AddsPrefixes false form.Lines (every ∷ []) [] (codes "(all)\n"))
+    × ¬ (AddsPrefixes false form.Lines (by_bracket ∷ []) [] (codes "(nothing)\n"))
+not_told = (listed_as_all, all_as_nothing)
+  where
+    listed_as_all : ¬ (AddsPrefixes false form.Lines (every ∷ []) [] (codes "(all)\n"))
+    listed_as_all (kept, are, inl ([], lists, adds)) = other_words.2 adds
+    listed_as_all (kept, are, inl (p ∷ list, lists, adds)) =
+        other_byte 0 (codes "(all)\n") (codes "ref-prefix " ++ _) (λ byte. omega (arith, byte)) (adds.2 ∙ adds.1.4)
+    listed_as_all (kept, inl (takes, empty), inr (none, adds)) = wholes.1 takes
+    listed_as_all (kept, inr (other, (rest, empty, same)), inr (none, adds)) =
+        none_for_all.1 (subst HasNoList (same ∙ ap (λ (l : List Reading). every ∷ l) empty) none)
+
+    all_as_nothing : ¬ (AddsPrefixes false form.Lines (by_bracket ∷ []) [] (codes "(nothing)\n"))
+    all_as_nothing (kept, inl (takes, empty), other) = wholes.3 takes
+    all_as_nothing (kept, inr (other, (rest, empty, same)), inl (list, asked, adds)) =
+        let lists = subst (λ (l : List Reading). ListsGroup l asked.own) same asked.lists in unlisted lists.0 lists.2
+    all_as_nothing (kept, inr (other, (rest, empty, same)), inr (none, adds)) = other_words.0 adds

@@ -1,0 +1,311 @@
+-- Rows of mappings, in lines and ended by zero bytes, as in the runs of `plan` and `track`.
+use Rattle.std.proofs.Common.{◌≡◌, ◌⊎◌, ◌≤◌, ◌+◌, ℕ, List, [], ◌∷◌, ◌++◌, None, Some, inl, inr, codes, get_or, length, length-append, replicate, refl, ap, ◌∙◌, arith}
+use Rattle.gix_refspec.specs.Matching.Mappings.{Mapped, id, name}
+use Rattle.gix_refspec_match.proofs.facts.MatchFacts.{mapping}
+use Rattle.gix_refspec_text.proofs.facts.FitFacts.{every, other_byte, short}
+use Rattle.gix_refspec_text.proofs.facts.ObjectIdFacts.{empty_blob, lower_of-empty_blob}
+use Rattle.gix_refspec_text.proofs.lemmas.specs.FormsBackLemmas.{some_once}
+use Rattle.refspec_commands.specs.declared.call.Form.TheVariants as form
+use Rattle.refspec_commands.specs.declared.mappings.Columns.TheVariants as columns
+use Rattle.refspec_commands.specs.Shown.{IsQuoted, in_quotes}
+use Rattle.refspec_commands.specs.Rows.{AddsMappings, AreSpecTexts, AreRowLines, IsCell, IsLine, PutsCell, PutsCells, PutsLine, Row, fields, first_side, row_of, second_side, source_text}
+
+-- ---- texts
+
+-- each spec has its canonical text, in order
+pub spec_texts : AreSpecTexts (every ∷ short ∷ []) (codes "+refs/heads/*:refs/remotes/origin/*" ∷ codes "main" ∷ [])
+    × ¬ (AreSpecTexts (every ∷ []) (codes "refs/heads/*:refs/remotes/origin/*" ∷ []))
+    × ¬ (AreSpecTexts (every ∷ short ∷ []) (codes "+refs/heads/*:refs/remotes/origin/*" ∷ []))
+    × ¬ (AreSpecTexts [] (codes "main" ∷ []))
+spec_texts = (
+  (refl, (refl, tt)),
+  (λ are. other_byte 0 (codes "+refs/heads/*:refs/remotes/origin/*") (codes "refs/heads/*:refs/remotes/origin/*")
+      (λ byte. omega (arith, byte)) (some_once _ _ are.0)),
+  (λ are. are.1),
+  λ are. are,
+)
+
+-- a source is its name, or the digits of its id in lower case
+pub sources : (source_text (name (codes "refs/heads/A")) ≡ codes "refs/heads/A")
+    × (source_text (id empty_blob) ≡ codes "e69de29bb2d1d6434b8b29ae775ad8c2e48c5391")
+sources = (refl, lower_of-empty_blob)
+
+-- ---- sides
+
+-- a mapping of the second of two specs, and one without a destination
+abbrev to_o : Mapped
+to_o = mapping 0 (codes "refs/heads/main") (Some (codes "refs/remotes/o/main")) 1
+
+abbrev pub alone : Mapped
+alone = mapping 0 (codes "HEAD") None 0
+
+-- `plan` shows the source first, and `track` the destination
+pub sides : (first_side [] columns.SourceFirst to_o ≡ codes "refs/heads/main")
+    × (second_side [] columns.SourceFirst to_o ≡ codes "refs/remotes/o/main")
+    × (first_side [] columns.DestinationFirst to_o ≡ codes "refs/remotes/o/main")
+    × (second_side [] columns.DestinationFirst to_o ≡ codes "refs/heads/main")
+sides = (refl, refl, refl, refl)
+
+-- what stands for a missing destination stands for no other
+pub missing : (second_side (codes "FETCH_HEAD") columns.SourceFirst alone ≡ codes "FETCH_HEAD")
+    × (second_side [] columns.SourceFirst alone ≡ [])
+    × (second_side (codes "FETCH_HEAD") columns.SourceFirst to_o ≡ codes "refs/remotes/o/main")
+    × (first_side (codes "FETCH_HEAD") columns.DestinationFirst alone ≡ codes "FETCH_HEAD")
+missing = (refl, refl, refl, refl)
+
+-- the text is that of the mapping's spec
+pub rows : ((row_of [] columns.SourceFirst (codes "HEAD" ∷ codes "refs/heads/*:refs/remotes/o/*" ∷ []) to_o).spec ≡
+    codes "refs/heads/*:refs/remotes/o/*")
+    × ((row_of [] columns.SourceFirst (codes "HEAD" ∷ codes "refs/heads/*:refs/remotes/o/*" ∷ []) alone).spec ≡ codes
+    "HEAD")
+rows = (refl, refl)
+
+-- ---- lines
+
+-- two spaces or more are behind a field, and quotes around one with a tab
+pub cells : IsCell (codes "HEAD") (codes "HEAD  ") × IsCell (codes "HEAD") (codes "HEAD     ")
+    × IsCell (codes "a\tb") (codes "\"a\\tb\"  ") × PutsCell (codes "b") (codes "a  ") (codes "a  b  ")
+cells = (
+  (codes "HEAD", 0, inl refl, refl),
+  (codes "HEAD", 3, inl refl, refl),
+  (codes "\"a\\tb\"", 0, inr refl, refl),
+  (codes "b  ", (codes "b", 0, inl refl, refl), refl),
+)
+
+-- one space is no end, nor is a tab
+pub no_cells : ¬ (IsCell (codes "HEAD") (codes "HEAD ")) × ¬ (IsCell (codes "HEAD") (codes "HEAD\t "))
+    × ¬ (PutsCell (codes "b") (codes "a") (codes "b  "))
+no_cells = (
+  one_space,
+  a_tab,
+  λ puts. other_byte 0 (codes "b  ") (codes "a" ++ puts.0) (λ byte. omega (arith, byte)) puts.2,
+)
+  where
+    one_space : ¬ (IsCell (codes "HEAD") (codes "HEAD "))
+    one_space (shown, more, inl is, same) =
+        omega (arith, ap length (same ∙ ap (λ (s : List ℕ). s ++ (32 ∷ 32 ∷ replicate more 32)) is))
+    one_space (shown, more, inr is, same) = other_byte 0 (codes "HEAD ") (34 ∷ _) (λ byte. omega (arith, byte)) (same
+        ∙ ap (λ (s : List ℕ). s ++ (32 ∷ 32 ∷ replicate more 32)) is)
+
+    a_tab : ¬ (IsCell (codes "HEAD") (codes "HEAD\t "))
+    a_tab (shown, more, inl is, same) =
+        other_byte 4 (codes "HEAD\t ") (codes "HEAD" ++ (32 ∷ 32 ∷ replicate more 32)) (λ byte. omega (
+          arith,
+          byte,
+        )) (same ∙ ap (λ (s : List ℕ). s ++ (32 ∷ 32 ∷ replicate more 32)) is)
+    a_tab (shown, more, inr is, same) = other_byte 0 (codes "HEAD\t ") (34 ∷ _) (λ byte. omega (arith, byte)) (same
+        ∙ ap (λ (s : List ℕ). s ++ (32 ∷ 32 ∷ replicate more 32)) is)
+
+abbrev row : Row
+row = record {
+  first = codes "refs/heads/a";
+  second = codes "refs/remotes/o/a";
+  spec = codes "refs/heads/*:refs/remotes/o/*";
+}
+
+-- a row as `plan` prints it beside a longer one
+pub line : IsLine row (codes "refs/heads/a       refs/remotes/o/a       refs/heads/*:refs/remotes/o/*\n")
+line = record {
+  first = codes "refs/heads/a       ";
+  second = codes "refs/remotes/o/a       ";
+  last = codes "refs/heads/*:refs/remotes/o/*";
+  is_first = (codes "refs/heads/a", 5, inl refl, refl);
+  is_second = (codes "refs/remotes/o/a", 5, inl refl, refl);
+  is_last = inl refl;
+  is = refl;
+}
+
+-- a line begins with the first field and two spaces, or with a quote
+begins : (l tail cell : List ℕ) → IsCell (codes "refs/heads/a") cell → l ≡ cell ++ tail
+    → ((rest : List ℕ) × (l ≡ codes "refs/heads/a  " ++ rest)) ⊎ ((rest : List ℕ) × (l ≡ 34 ∷ rest))
+begins l tail cell (shown, more, inl is, all) here = inl (
+  replicate more 32 ++ tail,
+  here
+      ∙ ap (λ (c : List ℕ). c ++ tail) (all ∙ ap (λ (s : List ℕ). s ++ (32 ∷ 32 ∷ replicate more 32)) is),
+)
+begins l tail cell (shown, more, inr is, all) here = inr (
+  codes "refs/heads/a\"  " ++ (replicate more 32 ++ tail),
+  here
+      ∙ ap (λ (c : List ℕ). c ++ tail) (all ∙ ap (λ (s : List ℕ). s ++ (32 ∷ 32 ∷ replicate more 32)) is),
+)
+
+-- with one space behind the first field, or the second field before it, it is none
+pub no_line : ¬ (IsLine row (codes "refs/heads/a refs/remotes/o/a  refs/heads/*:refs/remotes/o/*\n"))
+    × ¬ (IsLine row (codes "refs/remotes/o/a  refs/heads/a  refs/heads/*:refs/remotes/o/*\n"))
+no_line = (one_space, swapped)
+  where
+    one_space : ¬ (IsLine row (codes "refs/heads/a refs/remotes/o/a  refs/heads/*:refs/remotes/o/*\n"))
+    one_space is = elim (begins _ _ is.first is.is_first is.is) [
+      | inl field ↦ other_byte 13 (codes "refs/heads/a refs/remotes/o/a  refs/heads/*:refs/remotes/o/*\n")
+          (codes "refs/heads/a  " ++ field.0) (λ byte. omega (arith, byte)) field.1
+      | inr quoted ↦ other_byte 0 (codes "refs/heads/a refs/remotes/o/a  refs/heads/*:refs/remotes/o/*\n")
+          (34 ∷ quoted.0) (λ byte. omega (arith, byte)) quoted.1
+    ]
+
+    swapped : ¬ (IsLine row (codes "refs/remotes/o/a  refs/heads/a  refs/heads/*:refs/remotes/o/*\n"))
+    swapped is = elim (begins _ _ is.first is.is_first is.is) [
+      | inl field ↦ other_byte 5 (codes "refs/remotes/o/a  refs/heads/a  refs/heads/*:refs/remotes/o/*\n")
+          (codes "refs/heads/a  " ++ field.0) (λ byte. omega (arith, byte)) field.1
+      | inr quoted ↦ other_byte 0 (codes "refs/remotes/o/a  refs/heads/a  refs/heads/*:refs/remotes/o/*\n")
+          (34 ∷ quoted.0) (λ byte. omega (arith, byte)) quoted.1
+    ]
+
+-- nor is it without the second field or the last
+pub too_short : ¬ (IsLine row (codes "refs/heads/a  refs/heads/*:refs/remotes/o/*\n"))
+    × ¬ (IsLine row (codes "refs/heads/a  refs/remotes/o/a  \n"))
+too_short = (
+  (λ is. omega (
+    arith,
+    ap length is.is,
+    (long is).0,
+    (long is).1,
+    (long is).2,
+    length-append is.first (is.second ++ (is.last ++ (10 ∷ []))),
+    length-append is.second (is.last ++ (10 ∷ [])),
+    length-append is.last (10 ∷ []),
+  )),
+  λ is. omega (
+    arith,
+    ap length is.is,
+    (long is).0,
+    (long is).1,
+    (long is).2,
+    length-append is.first (is.second ++ (is.last ++ (10 ∷ []))),
+    length-append is.second (is.last ++ (10 ∷ [])),
+    length-append is.last (10 ∷ []),
+  ),
+)
+  where
+    in_cell : (n : ℕ) (field cell : List ℕ) → IsCell field cell → n ≤ length field → n ≤ length (in_quotes field)
+        → n + 2 ≤ length cell
+    in_cell n field cell (shown, more, inl is, all) plain quoted = omega (
+      arith,
+      plain,
+      ap length is,
+      ap length all,
+      length-append shown (32 ∷ 32 ∷ replicate more 32),
+    )
+    in_cell n field cell (shown, more, inr is, all) plain quoted = omega (
+      arith,
+      quoted,
+      ap length is,
+      ap length all,
+      length-append shown (32 ∷ 32 ∷ replicate more 32),
+    )
+
+    shown_last : (last : List ℕ) → IsQuoted (codes "refs/heads/*:refs/remotes/o/*") last → 29 ≤ length last
+    shown_last last (inl is) = omega (arith, ap length is)
+    shown_last last (inr is) = omega (arith, ap length is)
+
+    long : {line : List ℕ} (is : IsLine row line) → (14 ≤ length is.first) × (18 ≤ length is.second)
+        × (29 ≤ length is.last)
+    long is = (
+      in_cell 12 (codes "refs/heads/a") is.first is.is_first (omega arith) (omega arith),
+      in_cell 16 (codes "refs/remotes/o/a") is.second is.is_second (omega arith) (omega arith),
+      shown_last is.last is.is_last,
+    )
+
+-- cells and lines are behind what was there
+pub put : PutsCells (codes "HEAD") (codes "refs/x/y") (codes "a\n") (codes "a\nHEAD  refs/x/y  ")
+    × PutsLine row (codes "a\n") (codes "a\nrefs/heads/a       refs/remotes/o/a       refs/heads/*:refs/remotes/o/*\n")
+put = (
+  (codes "HEAD  ", codes "refs/x/y  ", (codes "HEAD", 0, inl refl, refl), (codes "refs/x/y", 0, inl refl, refl), refl),
+  (codes "refs/heads/a       refs/remotes/o/a       refs/heads/*:refs/remotes/o/*\n", line, refl),
+)
+
+pub not_put : ¬ (PutsLine row (codes "b\n") (codes "refs/heads/a  refs/remotes/o/a  refs/heads/*:refs/remotes/o/*\n"))
+    × ¬ (PutsCells (codes "HEAD") (codes "refs/x/y") (codes "b\n") (codes "HEAD  refs/x/y  "))
+not_put = (
+  (λ puts. other_byte 0 (codes "refs/heads/a  refs/remotes/o/a  refs/heads/*:refs/remotes/o/*\n")
+      (codes "b\n" ++ puts.0) (λ byte. omega (arith, byte)) puts.2),
+  λ puts. other_byte 0 (codes "HEAD  refs/x/y  ") (codes "b\n" ++ (puts.0 ++ puts.1)) (λ byte. omega (
+    arith,
+    byte,
+  )) puts.4,
+)
+
+-- a line for each row, and each row has one
+pub lines : AreRowLines [] []
+    × AreRowLines (row ∷ []) (codes "refs/heads/a       refs/remotes/o/a       refs/heads/*:refs/remotes/o/*\n")
+    × ¬ (AreRowLines (row ∷ []) []) × ¬ (AreRowLines [] (codes "\n"))
+lines = (
+  refl,
+  (codes "refs/heads/a       refs/remotes/o/a       refs/heads/*:refs/remotes/o/*\n", [], line, refl, refl),
+  no_row,
+  λ are. omega (arith, ap length are),
+)
+  where
+    no_row : ¬ (AreRowLines (row ∷ []) [])
+    no_row (l, rest, is, none, same) = elim (begins l _ is.first is.is_first is.is) [
+      | inl field ↦ omega (arith, ap length (same ∙ ap (λ (x : List ℕ). x ++ rest) field.1))
+      | inr quoted ↦ omega (arith, ap length (same ∙ ap (λ (x : List ℕ). x ++ rest) quoted.1))
+    ]
+
+-- ---- mappings
+
+-- each field has its zero byte, and none has another
+pub zero_fields : (fields row ≡ (codes "refs/heads/a" ++ 0 ∷ []) ++
+    ((codes "refs/remotes/o/a" ++ 0 ∷ []) ++ (codes "refs/heads/*:refs/remotes/o/*" ++ 0 ∷ [])))
+zero_fields = refl
+
+abbrev pub texts : List (List ℕ)
+texts = codes "HEAD" ∷ codes "refs/heads/*:refs/remotes/o/*" ∷ []
+
+pub alone_line : IsLine (record { first = codes "HEAD"; second = codes "FETCH_HEAD"; spec = codes "HEAD" })
+    (codes "HEAD  FETCH_HEAD  HEAD\n")
+alone_line = record {
+  first = codes "HEAD  ";
+  second = codes "FETCH_HEAD  ";
+  last = codes "HEAD";
+  is_first = (codes "HEAD", 0, inl refl, refl);
+  is_second = (codes "FETCH_HEAD", 0, inl refl, refl);
+  is_last = inl refl;
+  is = refl;
+}
+
+tracked_line : IsLine (record {
+  first = codes "refs/remotes/o/main";
+  second = codes "refs/heads/main";
+  spec = codes "refs/heads/*:refs/remotes/o/*";
+})
+    (codes "refs/remotes/o/main  refs/heads/main  refs/heads/*:refs/remotes/o/*\n")
+tracked_line = record {
+  first = codes "refs/remotes/o/main  ";
+  second = codes "refs/heads/main  ";
+  last = codes "refs/heads/*:refs/remotes/o/*";
+  is_first = (codes "refs/remotes/o/main", 0, inl refl, refl);
+  is_second = (codes "refs/heads/main", 0, inl refl, refl);
+  is_last = inl refl;
+  is = refl;
+}
+
+-- no destination is `FETCH_HEAD` in a line, and an empty field with zero bytes; `track` has the destination first
+pub told : AddsMappings form.Lines columns.SourceFirst texts (alone ∷ []) [] (codes "HEAD  FETCH_HEAD  HEAD\n")
+    × AddsMappings form.Zeros columns.SourceFirst texts (alone ∷ []) []
+    ((codes "HEAD" ++ 0 ∷ []) ++ (0 ∷ (codes "HEAD" ++ 0 ∷ [])))
+    × AddsMappings form.Lines columns.DestinationFirst texts (to_o ∷ []) (codes "a\n")
+    (codes "a\nrefs/remotes/o/main  refs/heads/main  refs/heads/*:refs/remotes/o/*\n")
+    × AddsMappings form.Lines columns.SourceFirst texts [] (codes "a\n") (codes "a\n")
+told = (
+  (codes "HEAD  FETCH_HEAD  HEAD\n", (codes "HEAD  FETCH_HEAD  HEAD\n", [], alone_line, refl, refl), refl),
+  refl,
+  (
+    codes "refs/remotes/o/main  refs/heads/main  refs/heads/*:refs/remotes/o/*\n",
+    (codes "refs/remotes/o/main  refs/heads/main  refs/heads/*:refs/remotes/o/*\n", [], tracked_line, refl, refl),
+    refl,
+  ),
+  ([], refl, refl),
+)
+
+-- zero bytes have no `FETCH_HEAD` before them, nor the destination of `plan` the source's place, and no mapping is lost
+pub not_told : ¬ (AddsMappings form.Zeros columns.SourceFirst texts (alone ∷ []) []
+    ((codes "HEAD" ++ 0 ∷ []) ++ ((codes "FETCH_HEAD" ++ 0 ∷ []) ++ (codes "HEAD" ++ 0 ∷ []))))
+    × ¬ (AddsMappings form.Zeros columns.SourceFirst texts (to_o ∷ []) []
+    ((codes "refs/remotes/o/main" ++ 0 ∷ []) ++
+    ((codes "refs/heads/main" ++ 0 ∷ []) ++ (codes "refs/heads/*:refs/remotes/o/*" ++ 0 ∷ []))))
+    × ¬ (AddsMappings form.Zeros columns.SourceFirst texts (alone ∷ []) [] [])
+not_told = (
+  (λ same. omega (arith, ap length same)),
+  (λ same. omega (arith, ap (λ (l : List ℕ). get_or l 5 0) same)),
+  λ same. omega (arith, ap length same),
+)

@@ -1,0 +1,16 @@
+-- Each turn reads the first record of the rest; in the end nothing is left.
+use Rattle.std.proofs.Common.{ap, map}
+use Rattle.gix_refspec.specs.Views.Group.{ref_of}
+use Rattle.refspec_commands.specs.Refs.{bad_bytes}
+use Rattle.refspec_commands.proofs.RecordLemmas.{empty_from_test, full_from_test}
+use Rattle.refspec_commands.proofs.RefLemmas.{TellNames-end, TellsNamesSoFar-more, TellsNamesSoFar-start}
+use Rattle.refspec_commands.proofs.refs.Told.read.Goals as goal
+
+pub loop-rest-init : goal.loop-rest-init
+loop-rest-init c = TellsNamesSoFar-start c.args.end _ _ c.args.input.now (ap (map ref_of) c.new.ensures.items) (ap (map bad_bytes) c.new-2.ensures.items)
+
+pub loop-rest-preserved : goal.loop-rest-preserved
+loop-rest-preserved c = TellsNamesSoFar-more c.args.end (map ref_of c.loop-rest.told.items.items) (map ref_of c.add.new.self.items.items) (map bad_bytes c.loop-rest.told.bad.items) (map bad_bytes c.add.new.self.bad.items) c.loop-rest.rest.now c.first_record.result.0.now c.first_record.result.1.now c.args.input.now (full_from_test c.loop-rest.rest.now c.loop-rest-test.ensures) c.first_record.ensures c.in_ok-add.ensures c.loop-rest.invariant
+
+pub returns : goal.returns
+returns c = TellNames-end c.args.end (map ref_of c.loop-rest.told.items.items) (map bad_bytes c.loop-rest.told.bad.items) c.loop-rest.rest.now c.args.input.now (empty_from_test c.loop-rest.rest.now c.loop-rest-test.ensures) c.loop-rest.invariant

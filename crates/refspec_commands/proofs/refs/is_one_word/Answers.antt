@@ -1,0 +1,9 @@
+-- Each byte of white space is looked for.
+use Rattle.refspec_commands.proofs.RecordLemmas.{full_from_test}
+use Rattle.refspec_commands.proofs.RefLemmas.{one_word_if}
+use Rattle.refspec_commands.proofs.refs.is_one_word.Goals as goal
+
+pub returns : goal.returns
+returns c =
+    let text = c.args.text.now in
+    one_word_if text c.holds.result c.holds-2.result c.holds-3.result c.holds-4.result (full_from_test text c.if-is_empty.ensures) c.holds.ensures c.holds-2.ensures c.holds-3.ensures c.holds-4.ensures

@@ -1,0 +1,24 @@
+-- A mapping that has a destination writes one name more.
+use Rattle.std.proofs.Common.{◌++◌, ◌∷◌, [], map, take, take_all, sym, subst, ap, ◌∙◌, List, Bor, ℕ, BTreeSet, Some}
+use Rattle.std.specs.Option.{option_map}
+use Rattle.gix_refspec.specs.Views.Group.{mapped_of, name_bytes}
+use Rattle.gix_refspec_match.specs.declared.types.Mapping.{Mapping}
+use Rattle.refspec_commands.specs.Track.{AreWritten}
+use Rattle.refspec_commands.proofs.TrackLemmas.{AreWritten-more, AreWritten-next, AreWritten-none, AreWritten-start}
+use Rattle.refspec_commands.proofs.track.written_by.Goals as goal
+use Rattle.refspec_commands.proofs.track.written_by.Goals.{in-Some+in_ok-insert, in_default}
+
+pub loop-mapping-init : goal.loop-mapping-init
+loop-mapping-init c = AreWritten-start c.new-written.result c.new-written.ensures.empty
+
+pub loop-mapping-preserved : goal.loop-mapping-preserved
+loop-mapping-preserved c =
+    AreWritten-next c.match-mapping.written c.args.mappings.now c.loop-mapping.mapping-index c.mapping-item.result c.loop-mapping-test.true c.mapping-item.is (elim c.match-mapping.branch [
+      | in-Some+in_ok-insert w ↦ subst (λ (s : BTreeSet (Bor (List ℕ))). AreWritten s (map mapped_of (take c.loop-mapping.mapping-index c.args.mappings.now) ++ mapped_of c.mapping-item.result ∷ [])) (sym w.written-is)
+          (AreWritten-more c.loop-mapping.written w.insert.new.self w.as_bytes.result (map mapped_of (take c.loop-mapping.mapping-index c.args.mappings.now)) (mapped_of c.mapping-item.result) w.in_ok-insert.ensures.updates (ap (option_map name_bytes) w.in-Some.is ∙ ap Some (sym (w.as_bytes.ensures ∙ w.as_bstr.ensures))) c.loop-mapping.invariant)
+      | in_default w ↦ subst (λ (s : BTreeSet (Bor (List ℕ))). AreWritten s (map mapped_of (take c.loop-mapping.mapping-index c.args.mappings.now) ++ mapped_of c.mapping-item.result ∷ [])) (sym w.written-is)
+          (AreWritten-none c.loop-mapping.written (map mapped_of (take c.loop-mapping.mapping-index c.args.mappings.now)) (mapped_of c.mapping-item.result) (ap (option_map name_bytes) w.in_default.is) c.loop-mapping.invariant)
+    ])
+
+pub returns : goal.returns
+returns c = subst (λ (l : List Mapping). AreWritten c.loop-mapping.written (map mapped_of l)) (take_all c.loop-mapping.mapping-index c.args.mappings.now c.loop-mapping-test.false) c.loop-mapping.invariant

@@ -1,0 +1,83 @@
+-- How bytes become strings of JSON, and the objects of texts, by the words of `refspec_json`. This project's own rule.
+use Rattle.std.specs.Prelude.{◌≡◌, ℕ, Bool, false, not, cond, ◌||◌, ◌==◌, List, [], ◌∷◌, ◌++◌, Option, codes}
+use Rattle.std.specs.Str.{is_utf8}
+use Rattle.refspec_json.specs.Objects.{line_of, refused_object, spec_object}
+use Rattle.gix_refspec_text.specs.declared.parsing.Error.{Error}
+use Rattle.gix_refspec_text.specs.declared.parsing.Error.TheVariants as error
+use Rattle.gix_refspec_text.specs.declared.parsing.Operation.{Operation}
+use Rattle.gix_refspec_text.specs.declared.parsing.Operation.TheVariants as operation
+use Rattle.gix_refspec_text.specs.Specs.Explained.{explained}
+use Rattle.refspec_commands.specs.declared.call.Form.{Form}
+use Rattle.refspec_commands.specs.declared.call.Form.TheVariants as form
+use Rattle.refspec_commands.specs.declared.texts.Text.{Text}
+use Rattle.refspec_commands.specs.Messages.{IsPlace}
+use Rattle.refspec_commands.specs.Shown.{in_quotes}
+
+-- whether bytes begin with a double quote
+abbrev pub begins_quoted : List ℕ → Bool
+begins_quoted [] = false
+begins_quoted (b ∷ bytes) = b == 34
+
+-- bytes as a string: as they are, or between double quotes with escapes where they begin with a quote or are not UTF-8
+abbrev pub json_text : List ℕ → List ℕ
+json_text bytes = cond (begins_quoted bytes || not (is_utf8 bytes)) (in_quotes bytes) bytes
+
+-- what an operation is called
+abbrev pub operation_name : Operation → List ℕ
+operation_name operation.Fetch = codes "fetch"
+operation_name operation.Push = codes "push"
+
+-- what a reason is called
+abbrev pub reason_name : Error → List ℕ
+reason_name error.Empty = codes "Empty"
+reason_name error.NegativeWithDestination = codes "NegativeWithDestination"
+reason_name error.NegativeEmpty = codes "NegativeEmpty"
+reason_name error.NegativeObjectHash = codes "NegativeObjectHash"
+reason_name error.NegativePartialName = codes "NegativePartialName"
+reason_name error.NegativeGlobPattern = codes "NegativeGlobPattern"
+reason_name error.InvalidFetchDestination = codes "InvalidFetchDestination"
+reason_name error.PushToEmpty = codes "PushToEmpty"
+reason_name (error.PatternUnsupported pattern) = codes "PatternUnsupported"
+reason_name error.PatternUnbalanced = codes "PatternUnbalanced"
+reason_name (error.ReferenceName fault) = codes "ReferenceName"
+reason_name error.Memory = codes "Memory"
+
+-- the line of the object of a refusal: where the text is, what it is for, the text, and the reason with its sentence; which
+-- part is wrong, where, and the advice are left open
+pub record IsRefusedLine (t : Text) (e : Error) (line : List ℕ) : Type 0 where
+  pub place : List ℕ
+  pub side : Option (List ℕ)
+  pub part : Option (List ℕ)
+  pub index : Option ℕ
+  pub advice : List ℕ
+  pub is_place : IsPlace form.Json t.place place
+  pub is : line ≡ line_of (refused_object place (operation_name t.operation) (json_text t.bytes.now) (reason_name e) (explained e) side part index advice)
+
+-- bytes grew by that line
+abbrev pub PutsRefused : Text → Error → List ℕ → List ℕ → Type 0
+PutsRefused t e old new = (line : List ℕ) × IsRefusedLine t e line × (new ≡ old ++ line)
+
+-- the results grew by it, where the form is JSON, and else stayed as they were
+abbrev pub AddsRefusal : Form → Text → Error → List ℕ → List ℕ → Type 0
+AddsRefusal form.Json t e old new = PutsRefused t e old new
+AddsRefusal _ t e old new = new ≡ old
+
+-- what is told of each of a list, one after another
+abbrev pub AreInOrder : {X : Type 0} → (X → List ℕ → Type 0) → List X → List ℕ → Type 0
+AreInOrder Tells [] lines = lines ≡ []
+AreInOrder Tells (x ∷ xs) lines = (one : List ℕ) × (rest : List ℕ) × Tells x one × AreInOrder Tells xs rest × (lines ≡ one ++ rest)
+
+-- the results grew by it, where the form is JSON, and else stayed as they were
+abbrev pub AddsObjects : {X : Type 0} → Form → (X → List ℕ → Type 0) → List X → List ℕ → List ℕ → Type 0
+AddsObjects form.Json Tells xs old new = (lines : List ℕ) × AreInOrder Tells xs lines × (new ≡ old ++ lines)
+AddsObjects _ Tells xs old new = new ≡ old
+
+-- the line of the object of a spec: where its text is, what it is for, the text, its canonical text and what else is said
+pub record IsSpecLine (kind : List ℕ) (t : Text) (canonical : List ℕ) (meaning same_as : Option (List ℕ)) (line : List ℕ) : Type 0 where
+  pub place : List ℕ
+  pub is_place : IsPlace form.Json t.place place
+  pub is : line ≡ line_of (spec_object kind place (operation_name t.operation) (json_text t.bytes.now) (json_text canonical) meaning same_as)
+
+-- bytes grew by that line
+abbrev pub PutsSpec : List ℕ → Text → List ℕ → Option (List ℕ) → Option (List ℕ) → List ℕ → List ℕ → Type 0
+PutsSpec kind t canonical meaning same_as old new = (line : List ℕ) × IsSpecLine kind t canonical meaning same_as line × (new ≡ old ++ line)

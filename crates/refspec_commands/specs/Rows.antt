@@ -1,0 +1,117 @@
+-- How mappings are written: in lines, ended by zero bytes, and as objects of JSON. This project's own rule.
+use Rattle.std.specs.Prelude.{◌≡◌, ℕ, List, [], ◌∷◌, ◌++◌, Some, map, option_map, unwrap_or, replicate, codes}
+use Rattle.std.specs.List.{AllZip, flat_map, slice_get}
+use Rattle.gix_refspec.specs.Matching.Mappings.{Start, name, id, Mapped}
+use Rattle.gix_refspec.specs.Specs.Meaning.{printed}
+use Rattle.gix_refspec.specs.Texts.ObjectId.{lower_of}
+use Rattle.gix_refspec.specs.Specs.Reading.{Reading}
+use Rattle.refspec_commands.specs.declared.call.Form.{Form}
+use Rattle.refspec_commands.specs.declared.call.Form.TheVariants as form
+use Rattle.refspec_commands.specs.declared.mappings.Columns.{Columns}
+use Rattle.refspec_commands.specs.declared.mappings.Columns.TheVariants as columns
+use Rattle.refspec_json.specs.Objects.{line_of, mapping_object}
+use Rattle.refspec_commands.specs.Json.{json_text}
+use Rattle.refspec_commands.specs.Shown.{IsQuoted, KeepsResults, zero_ended}
+
+-- the canonical texts of the specs, in order
+abbrev pub AreSpecTexts : List Reading → List (List ℕ) → Type 0
+AreSpecTexts g texts = AllZip (λ r text. printed r ≡ Some text) g texts
+
+-- a name, or an id in lower case
+abbrev pub source_text : Start → List ℕ
+source_text (name n) = n
+source_text (id i) = lower_of i
+
+-- the three fields of a row
+pub record Row : Type 0 where
+  pub first : List ℕ
+  pub second : List ℕ
+  pub spec : List ℕ
+
+-- of a source and a destination the one that is shown first
+abbrev pub first_of : Columns → List ℕ → List ℕ → List ℕ
+first_of columns.SourceFirst source destination = source
+first_of columns.DestinationFirst source destination = destination
+
+-- and the other
+abbrev pub second_of : Columns → List ℕ → List ℕ → List ℕ
+second_of columns.SourceFirst source destination = destination
+second_of columns.DestinationFirst source destination = source
+
+-- the side of a mapping that is shown first, with something in place of a destination that isn't there
+abbrev pub first_side : List ℕ → Columns → Mapped → List ℕ
+first_side missing order m = first_of order (source_text m.source) (unwrap_or m.destination missing)
+
+-- and the other
+abbrev pub second_side : List ℕ → Columns → Mapped → List ℕ
+second_side missing order m = second_of order (source_text m.source) (unwrap_or m.destination missing)
+
+-- the row of a mapping with the text of its spec
+abbrev pub mapped_row : List ℕ → Columns → List ℕ → Mapped → Row
+mapped_row missing order text m = record { first = first_side missing order m; second = second_side missing order m; spec = text }
+
+-- the same, where the texts of all specs are given
+abbrev pub row_of : List ℕ → Columns → List (List ℕ) → Mapped → Row
+row_of missing order texts m = mapped_row missing order (unwrap_or (slice_get texts m.spec) []) m
+
+-- what people see of a field, and two spaces or more
+abbrev pub IsCell : List ℕ → List ℕ → Type 0
+IsCell field cell = (shown : List ℕ) × (more : ℕ) × IsQuoted field shown × (cell ≡ shown ++ (32 ∷ 32 ∷ replicate more 32))
+
+-- the results grew by the cell of a field
+abbrev pub PutsCell : List ℕ → List ℕ → List ℕ → Type 0
+PutsCell field old new = (cell : List ℕ) × IsCell field cell × (new ≡ old ++ cell)
+
+-- a line: two cells, and what people see of the last field
+pub record IsLine (r : Row) (line : List ℕ) : Type 0 where
+  pub first : List ℕ
+  pub second : List ℕ
+  pub last : List ℕ
+  pub is_first : IsCell r.first first
+  pub is_second : IsCell r.second second
+  pub is_last : IsQuoted r.spec last
+  pub is : line ≡ first ++ (second ++ (last ++ (10 ∷ [])))
+
+-- the results grew by the cells of two fields
+abbrev pub PutsCells : List ℕ → List ℕ → List ℕ → List ℕ → Type 0
+PutsCells one other old new = (first : List ℕ) × (second : List ℕ) × IsCell one first × IsCell other second × (new ≡ old ++ (first ++ second))
+
+-- the results grew by the line of a row
+abbrev pub PutsLine : Row → List ℕ → List ℕ → Type 0
+PutsLine r old new = (line : List ℕ) × IsLine r line × (new ≡ old ++ line)
+
+-- a line for each row, in order
+abbrev pub AreRowLines : List Row → List ℕ → Type 0
+AreRowLines [] lines = lines ≡ []
+AreRowLines (r ∷ rows) lines = (line : List ℕ) × (rest : List ℕ) × IsLine r line × AreRowLines rows rest × (lines ≡ line ++ rest)
+
+-- the fields of a row, each ended by a zero byte
+abbrev pub fields : Row → List ℕ
+fields r = (zero_ended r.first ++ zero_ended r.second) ++ zero_ended r.spec
+
+-- the results grew by rows in lines
+abbrev pub AddsLines : List Row → List ℕ → List ℕ → Type 0
+AddsLines rows old new = (lines : List ℕ) × AreRowLines rows lines × (new ≡ old ++ lines)
+
+-- the line of the object of a mapping, with the text of its spec
+abbrev pub mapped_object : List ℕ → Mapped → List ℕ
+mapped_object text m = line_of (mapping_object (json_text (source_text m.source)) (option_map json_text m.destination) (json_text text))
+
+-- the same, where the texts of all specs are given
+abbrev pub object_of : List (List ℕ) → Mapped → List ℕ
+object_of texts m = mapped_object (unwrap_or (slice_get texts m.spec) []) m
+
+-- the results grew by mappings, in order: where one has no destination, a line has `FETCH_HEAD`, a record an empty field, and
+-- an object null
+abbrev pub AddsMappings : Form → Columns → List (List ℕ) → List Mapped → List ℕ → List ℕ → Type 0
+AddsMappings form.Lines order texts mappings old new = AddsLines (map (row_of (codes "FETCH_HEAD") order texts) mappings) old new
+AddsMappings form.Zeros order texts mappings old new = new ≡ old ++ flat_map fields (map (row_of [] order texts) mappings)
+AddsMappings form.Json order texts mappings old new = new ≡ old ++ flat_map (object_of texts) mappings
+
+-- so they did, after and before messages, which JSON has among its results
+pub record AddsMappingsAmong (form : Form) (order : Columns) (texts : List (List ℕ)) (mappings : List Mapped) (old new : List ℕ) : Type 0 where
+  pub first : List ℕ
+  pub last : List ℕ
+  pub before : KeepsResults form old first
+  pub told : AddsMappings form order texts mappings first last
+  pub after : KeepsResults form last new

@@ -1,0 +1,140 @@
+//! Results and refusals as JSON, one object a line.
+
+ghost use Rattle.std.specs.Prelude.{◌≡◌, option_map, string_bytes, IfOk, OnOk};
+ghost use Rattle.std.specs.Str.{IsUtf8};
+ghost use Rattle.refspec_commands.specs.Json.{begins_quoted, json_text, operation_name, reason_name, PutsRefused};
+ghost use Rattle.refspec_commands.specs.Messages.{IsPlace};
+ghost use Rattle.refspec_commands.specs.Shown.{in_quotes};
+ghost use Rattle.refspec_commands.specs.declared.call.Form.TheVariants as form;
+
+use crate::blame::{advice_for, blame_of};
+use crate::call::Form;
+use crate::quote::put_in_quotes;
+use crate::texts::{Place, Text};
+use gix_refspec::parsing::{Error, Operation};
+use std::alloc::{AllocError, Global};
+
+/// A text as a string of JSON: as it is where it is UTF-8 and doesn't begin with a quote, else in double
+/// quotes with escapes, as Git quotes paths.
+pub fn text_of(alloc: Global, bytes: &[u8]) -> Result<String, AllocError>
+    ensures { IfOk result (λ text. string_bytes text ≡ json_text bytes.now) }
+{
+    if begins_with_quote(bytes) {
+        return quoted(alloc, bytes);
+    }
+    match str::from_utf8(bytes) {
+        Ok(text) => String::from_str(alloc, text),
+        Err(_) => quoted(alloc, bytes),
+    }
+}
+
+/// The same of a text that may be missing.
+pub fn text_or_none(alloc: Global, bytes: Option<&[u8]>) -> Result<Option<String>, AllocError>
+    ensures { IfOk result (λ text. option_map string_bytes text
+        ≡ option_map json_text (option_map (λ b. b.now) bytes.entry)) }
+{
+    match bytes {
+        None => Ok(None),
+        Some(bytes) => Ok(Some(text_of(alloc, bytes)?)),
+    }
+}
+
+// Whether bytes begin with a double quote.
+fn begins_with_quote(bytes: &[u8]) -> bool
+    ensures { result ≡ begins_quoted bytes.now }
+{
+    match bytes {
+        [first, ..] => *first == b'"',
+        [] => false,
+    }
+}
+
+// A text in double quotes, with escapes.
+fn quoted(alloc: Global, bytes: &[u8]) -> Result<String, AllocError>
+    ensures { IfOk result (λ text. string_bytes text ≡ in_quotes bytes.now) }
+{
+    let mut quoted = Vec::new(alloc);
+    put_in_quotes(&mut quoted, bytes)?;
+    string_of(alloc, quoted.as_slice())
+}
+
+// A text that is UTF-8.
+fn string_of(alloc: Global, bytes: &[u8]) -> Result<String, AllocError>
+    requires { IsUtf8 bytes.now }
+    ensures { IfOk result (λ text. string_bytes text ≡ bytes.now) }
+{
+    match str::from_utf8(bytes) {
+        Ok(text) => String::from_str(alloc, text),
+        Err(_) => unreachable!(),
+    }
+}
+
+/// A place as a string of JSON.
+pub fn shown_place(alloc: Global, place: &Place<'_>) -> Result<String, AllocError>
+    ensures { IfOk result (λ shown. IsPlace form.Json place.now (string_bytes shown)) }
+{
+    let mut shown = Vec::new(alloc);
+    place.put(&mut shown, Form::Json)?;
+    string_of(alloc, shown.as_slice())
+}
+
+/// What an operation is called.
+pub fn operation_of(operation: Operation) -> &'static str
+    ensures { result.now ≡ operation_name operation }
+{
+    match operation {
+        Operation::Fetch => "fetch",
+        Operation::Push => "push",
+    }
+}
+
+/// Puts the object of a refusal at the end.
+pub fn put_refusal(
+    alloc: Global,
+    out: &mut Vec<u8>,
+    text: &Text<'_>,
+    error: &Error,
+) -> Result<(), AllocError>
+    ensures { OnOk result (PutsRefused text.now error.now out.old.items out.new.items) }
+{
+    let place = shown_place(alloc, &text.place)?;
+    let shown = text_of(alloc, text.bytes)?;
+    let blame = blame_of(alloc, text, error)?;
+    let wrong = text_or_none(alloc, blame.map(|blame| blame.part))?;
+    let side = blame.map(|blame| blame.side.as_str());
+    let part = wrong.as_deref();
+    let at = blame.map(|blame| blame.at);
+    let advice = advice_for(alloc, text, error)?;
+    let object = refspec_json::Refused {
+        place: place.as_str(),
+        operation: operation_of(text.operation),
+        text: shown.as_str(),
+        reason: reason_of(error),
+        message: error.explanation(),
+        side,
+        part,
+        at,
+        advice,
+    };
+    object.put_line(alloc, out)
+}
+
+/// The name of a reason.
+pub fn reason_of(error: &Error) -> &'static str
+    ensures { result.now ≡ reason_name error.now }
+{
+    match error {
+        Error::Empty => "Empty",
+        Error::NegativeWithDestination => "NegativeWithDestination",
+        Error::NegativeEmpty => "NegativeEmpty",
+        Error::NegativeObjectHash => "NegativeObjectHash",
+        Error::NegativePartialName => "NegativePartialName",
+        Error::NegativeGlobPattern => "NegativeGlobPattern",
+        Error::InvalidFetchDestination => "InvalidFetchDestination",
+        Error::PushToEmpty => "PushToEmpty",
+        Error::PatternUnsupported { .. } => "PatternUnsupported",
+        Error::PatternUnbalanced => "PatternUnbalanced",
+        Error::ReferenceName(_) => "ReferenceName",
+        Error::Memory => "Memory",
+    }
+}

@@ -1,0 +1,157 @@
+//! Names and texts as people see them.
+
+ghost use Rattle.std.specs.Prelude.{◌≡◌, ◌≤◌, ◌++◌, ◌∷◌, [], List, OnOk, length, ℕ};
+ghost use Rattle.refspec_commands.specs.Messages.{PutsShown};
+ghost use Rattle.refspec_commands.specs.declared.call.Form.TheVariants as form;
+ghost use Rattle.refspec_commands.specs.Shown.{PutsQuoted, escape_letter as letter_of, escaped, in_quotes, plain_or_octal};
+
+use crate::call::Form;
+use std::alloc::AllocError;
+use std::simd::prelude::*;
+
+// How many bytes are looked at at once.
+const LANES: usize = 16;
+
+/// Puts a text at the end: as it is where it can be shown so, else in double quotes with escapes, as Git
+/// quotes paths under `core.quotePath`. The empty text is quoted too.
+pub fn put_quoted(out: &mut Vec<u8>, text: &[u8]) -> Result<(), AllocError>
+    ensures { OnOk result (PutsQuoted text.now out.old.items out.new.items) }
+{
+    if is_plain(text) {
+        return out.extend_from_slice(text);
+    }
+    put_in_quotes(out, text)
+}
+
+/// Puts a text at the end that stands in a sentence: in quotes also where it has a space or ends with a colon, so that
+/// its ends are seen.
+pub fn put_in_message(out: &mut Vec<u8>, text: &[u8]) -> Result<(), AllocError>
+    ensures { OnOk result (PutsQuoted text.now out.old.items out.new.items) }
+{
+    if text.contains(&b' ') || text.ends_with(b":") {
+        return put_in_quotes(out, text);
+    }
+    put_quoted(out, text)
+}
+
+/// Puts a text at the end as a form shows it: raw in records, else as it is or quoted.
+pub fn put_shown(out: &mut Vec<u8>, text: &[u8], form: Form) -> Result<(), AllocError>
+    ensures { OnOk result (PutsShown form text.now out.old.items out.new.items) }
+{
+    match form {
+        Form::Zeros => out.extend_from_slice(text),
+        Form::Lines => put_quoted(out, text),
+        Form::Json => put_text(out, text),
+    }
+}
+
+// Puts a text at the end as it is or quoted, so that what is put is UTF-8.
+fn put_text(out: &mut Vec<u8>, text: &[u8]) -> Result<(), AllocError>
+    ensures { OnOk result (PutsShown form.Json text.now out.old.items out.new.items) }
+{
+    match str::from_utf8(text) {
+        Ok(_) => put_quoted(out, text),
+        Err(_) => put_in_quotes(out, text),
+    }
+}
+
+/// Puts a text in double quotes at the end, with escapes.
+pub fn put_in_quotes(out: &mut Vec<u8>, text: &[u8]) -> Result<(), AllocError>
+    ensures { OnOk result (out.new.items ≡ out.old.items ++ in_quotes text.now) }
+{
+    out.push(b'"')?;
+    for byte in text {
+        put_escaped(out, *byte)?;
+    }
+    out.push(b'"')?;
+    Ok(())
+}
+
+/// Whether a text can be shown as it is: it is UTF-8, and has no control character, quote or backslash.
+pub fn is_plain(text: &[u8]) -> bool {
+    if is_plain_ascii(text) {
+        return true;
+    }
+    if text.is_empty() {
+        return false;
+    }
+    match str::from_utf8(text) {
+        Ok(text) => text.chars().all(|c| is_calm(c)),
+        Err(_) => false,
+    }
+}
+
+/// Whether a text has bytes, and each is a printed character of ASCII that needs no escape.
+pub fn is_plain_ascii(text: &[u8]) -> bool {
+    if text.len() < LANES {
+        return !text.is_empty() && text.iter().all(|byte| is_calm_byte(*byte));
+    }
+    // The last bytes may be looked at once more.
+    let whole = text.chunks_exact(LANES).all(|bytes| are_calm(bytes));
+    whole && are_calm(&text[text.len() - LANES..])
+}
+
+// Whether of the first bytes of a text, which are looked at at once, none needs an escape.
+#[inline(always)]
+fn are_calm(text: &[u8]) -> bool
+    requires { LANES ≤ length text.now }
+{
+    let bytes = u8x16::from_slice(text);
+    let odd = bytes.simd_lt(u8x16::splat(b' '))
+        | bytes.simd_gt(u8x16::splat(b'~'))
+        | bytes.simd_eq(u8x16::splat(b'"'))
+        | bytes.simd_eq(u8x16::splat(b'\\'));
+    !odd.any()
+}
+
+// Whether a byte is a printed character of ASCII that needs no escape.
+fn is_calm_byte(byte: u8) -> bool {
+    (byte >= b' ') & (byte <= b'~') & (byte != b'"') & (byte != b'\\')
+}
+
+// Whether a character needs no escape.
+fn is_calm(c: char) -> bool {
+    !c.is_control() && c != '"' && c != '\\'
+}
+
+// Puts a byte of a quoted text at the end.
+fn put_escaped(out: &mut Vec<u8>, byte: u8) -> Result<(), AllocError>
+    ensures { OnOk result (out.new.items ≡ out.old.items ++ escaped byte) }
+{
+    match escape_letter(byte) {
+        Some(letter) => out.extend_from_slice(&[b'\\', letter]),
+        None => put_plain_or_octal(out, byte),
+    }
+}
+
+// The letter of a byte whose escape has one.
+fn escape_letter(byte: u8) -> Option<u8>
+    ensures { result ≡ letter_of byte }
+{
+    match byte {
+        7 => Some(b'a'),
+        8 => Some(b'b'),
+        b'\t' => Some(b't'),
+        b'\n' => Some(b'n'),
+        11 => Some(b'v'),
+        12 => Some(b'f'),
+        b'\r' => Some(b'r'),
+        b'"' | b'\\' => Some(byte),
+        _ => None,
+    }
+}
+
+// Puts a byte that has no letter at the end: as it is, or by its three octal digits.
+fn put_plain_or_octal(out: &mut Vec<u8>, byte: u8) -> Result<(), AllocError>
+    ensures { OnOk result (out.new.items ≡ out.old.items ++ plain_or_octal byte) }
+{
+    if byte >= b' ' && byte <= b'~' {
+        return out.extend_from_slice(&[byte]);
+    }
+    out.extend_from_slice(&[
+        b'\\',
+        b'0' + byte / 64,
+        b'0' + byte / 8 % 8,
+        b'0' + byte % 8,
+    ])
+}

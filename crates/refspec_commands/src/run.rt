@@ -1,0 +1,177 @@
+//! A call, from its reader to its writers.
+
+ghost use Rattle.std.specs.Prelude.{◌≡◌, map, IfOk, IfErr, OnOk};
+ghost use Rattle.std.specs.Io.KnownBytes.{Appends};
+ghost use Rattle.gix_refspec.specs.Views.Spec.{reading_of};
+ghost use Rattle.refspec_commands.specs.Fault.{IsReadOrMemory, IsWrite, RefusesFormat};
+ghost use Rattle.refspec_commands.specs.Output.{AddsFound, Answers, IsInput, IsOutput, RefusesInput, Tells, status_of as exit_status};
+ghost use Rattle.refspec_commands.specs.Run.{Leaves, ReadsWhole};
+ghost use Rattle.refspec_commands.specs.Settings.{HasNoSettings};
+ghost use Rattle.refspec_commands.specs.Texts.{spec_input as specs_of};
+
+use crate::call::{Call, Command, Task};
+use crate::canon::tell_canon;
+use crate::checked::{Checked, all_good, check_all, has_bad};
+use crate::fault::Fault;
+use crate::input::read_input;
+use crate::lacking::refuse_lacking;
+use crate::page::Page;
+use crate::plan::Discard;
+use crate::planning::tell_plan;
+use crate::prefixes::tell_prefixes;
+use crate::settings::{has_lacking, settings_in};
+use crate::specs::{tell_refusals, tell_specs};
+use crate::texts::{spec_input, texts_of};
+use crate::track::tell_tracking;
+use gix_refspec::RefSpecRef;
+use std::alloc::{AllocError, Global};
+use std::io::{Read, Write};
+
+/// Reads the input to its end, where the call needs it, and writes the results to one writer and the
+/// messages to the other. A plan is handed to `done` before that. Returns the exit status: 1 where
+/// something is refused, conflicting, left out or not found, else 0.
+pub fn run<R: Read, W: Write, E: Write, D: Discard>(
+    alloc: Global,
+    call: &Call<'_>,
+    beside: &[u8],
+    reader: &mut R,
+    output: &mut W,
+    errors: &mut E,
+    done: &mut D,
+) -> Result<u8, Fault>
+    ensures whole { IfOk result (λ _. ReadsWhole
+        call.now.reads_input (R.remaining reader.old) (R.remaining reader.new)) }
+
+    ensures answers { IfOk result (Answers call.now beside.now
+        (R.remaining reader.old) (R.remaining reader.new)
+        (W.contents output.old) (W.contents output.new)
+        (E.contents errors.old) (E.contents errors.new)) }
+
+    // An input that is to be settings, and is refused, is none.
+    ensures format { IfErr result (RefusesInput call.now beside.now
+        (R.remaining reader.old) (R.remaining reader.new)) }
+
+    // Nothing was written before a fault, but where a writer failed.
+    ensures unwritten { IfErr result (Leaves (W.contents output.old) (W.contents output.new)) }
+    ensures untold { IfErr result (Leaves (E.contents errors.old) (E.contents errors.new)) }
+{
+    let input = input_of(alloc, call, reader)?;
+    let (page, refused) = page_of(alloc, call, beside, input.as_slice(), done)?;
+    write_all(output, page.results.as_slice())?;
+    write_all(errors, page.messages.as_slice())?;
+    Ok(status_of(refused))
+}
+
+// What the reader has left, where the call reads it.
+fn input_of<R: Read>(alloc: Global, call: &Call<'_>, reader: &mut R) -> Result<Vec<u8>, Fault>
+    ensures ok { IfOk result (λ _. ReadsWhole
+        call.now.reads_input (R.remaining reader.old) (R.remaining reader.new)) }
+    ensures input { IfOk result (λ input. IsInput
+        call.now.reads_input (R.remaining reader.old) (R.remaining reader.new) input.items) }
+    ensures err { IfErr result IsReadOrMemory }
+{
+    if call.reads_input {
+        return read_input(alloc, reader);
+    }
+    Ok(Vec::new(alloc))
+}
+
+// What a call makes of its input, and whether something is refused, conflicting, left out or not found.
+fn page_of<D: Discard>(
+    alloc: Global,
+    call: &Call<'_>,
+    beside: &[u8],
+    input: &[u8],
+    done: &mut D,
+) -> Result<(Page, bool), Fault>
+    ensures ok { IfOk result (λ made. IsOutput call.now beside.now input.now
+        made.0.messages.items made.1 made.0.results.items) }
+    ensures err { IfErr result (RefusesFormat (HasNoSettings call.now.ends beside.now
+        (specs_of call.now.command input.now))) }
+{
+    let mut page = Page::new(alloc, call.form);
+    let specs = spec_input(call.command, input);
+    let settings = settings_in(alloc, call.ends, beside, specs)?;
+    if has_lacking(settings.as_slice()) {
+        refuse_lacking(alloc, settings.as_slice(), &mut page)?;
+        return Ok((page, true));
+    }
+    let texts = texts_of(alloc, call, beside, input, settings.as_slice())?;
+    let all = check_all(alloc, texts.as_slice())?;
+    let task = Task { call, input };
+    let refused = tell_page(alloc, &task, all.as_slice(), &mut page, done)?;
+    Ok((page, refused))
+}
+
+// Tells what a call asks of its specs. But for three commands, all have to be good.
+fn tell_page<D: Discard>(
+    alloc: Global,
+    task: &Task<'_>,
+    all: &[Checked<'_>],
+    page: &mut Page,
+    done: &mut D,
+) -> Result<bool, AllocError>
+    ensures { IfOk result (λ refused. Tells task.now.call.now.command task.now.call.now
+        task.now.input.now page.old.form page.old.messages.items page.new.messages.items refused
+        all.now page.old.results.items page.new.results.items) }
+{
+    let call = task.call;
+    match call.command {
+        Command::Canon => {
+            tell_canon(alloc, all, page)?;
+            Ok(has_bad(all))
+        }
+        Command::Check | Command::Explain => {
+            tell_specs(alloc, call.command, call.verbose, all, page)?;
+            Ok(has_bad(all))
+        }
+        _ => match all_good(alloc, all)? {
+            None => {
+                tell_refusals(alloc, all, page)?;
+                Ok(true)
+            }
+            Some(specs) => tell_found(alloc, task, specs, page, done),
+        },
+    }
+}
+
+// Tells what a call finds for specs.
+fn tell_found<D: Discard>(
+    alloc: Global,
+    task: &Task<'_>,
+    specs: Vec<RefSpecRef<'_>>,
+    page: &mut Page,
+    done: &mut D,
+) -> Result<bool, AllocError>
+    ensures { IfOk result (λ refused. AddsFound task.now.call.now.command task.now.call.now
+        task.now.input.now page.old.form page.new.messages.items refused
+        (map reading_of specs.entry.items) page.old.results.items page.new.results.items) }
+{
+    let call = task.call;
+    match call.command {
+        Command::Plan => tell_plan(alloc, task, specs, page, done),
+        Command::Track => tell_tracking(alloc, call, specs, page),
+        _ => {
+            tell_prefixes(alloc, specs, call.patterns, page)?;
+            Ok(false)
+        }
+    }
+}
+
+// The exit status of a call.
+fn status_of(refused: bool) -> u8
+    ensures { result ≡ exit_status refused }
+{
+    if refused { 1 } else { 0 }
+}
+
+// Writes bytes in one call, and flushes the writer.
+fn write_all<W: Write>(writer: &mut W, bytes: &[u8]) -> Result<(), Fault>
+    ensures ok { OnOk result (Appends (W.contents writer.old) (W.contents writer.new) bytes.now) }
+    ensures err { IfErr result IsWrite }
+{
+    if writer.write_all(bytes).is_err() || writer.flush().is_err() {
+        return Err(Fault::Write);
+    }
+    Ok(())
+}

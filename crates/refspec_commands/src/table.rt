@@ -1,0 +1,105 @@
+//! Rows of fields, aligned.
+
+ghost use Rattle.std.specs.Prelude.{◌≡◌, ◌++◌, OnOk, replicate};
+ghost use Rattle.refspec_commands.specs.Rows.{PutsCell};
+ghost use Rattle.refspec_commands.specs.Shown.{PutsQuoted};
+
+use crate::quote::{is_plain, is_plain_ascii, put_in_quotes, put_quoted};
+use std::alloc::{AllocError, Global};
+use unicode_width::UnicodeWidthStr;
+
+/// How a table is laid out.
+#[derive(Clone, Copy, Debug)]
+pub struct Layout {
+    /// How wide the widest field of each column is, as it is shown.
+    pub first: usize,
+    pub second: usize,
+    pub last: usize,
+    /// Whether each field so far is shown as it is, and takes a column of the terminal for each byte.
+    pub is_ascii: bool,
+}
+
+impl Layout {
+    /// The layout of a table with no rows.
+    pub fn new() -> Layout {
+        Layout {
+            first: 0,
+            second: 0,
+            last: 0,
+            is_ascii: true,
+        }
+    }
+
+    /// How wide a field is, as it is shown. It is one of the table from then on.
+    pub fn width_of(&mut self, alloc: Global, field: &[u8]) -> Result<usize, AllocError> {
+        if is_plain_ascii(field) {
+            return Ok(field.len());
+        }
+        self.is_ascii = false;
+        width_of(alloc, field)
+    }
+
+    /// How many bytes so many rows have at the most, where each character is a byte.
+    pub fn room(&self, rows: usize) -> usize {
+        let width = self
+            .first
+            .saturating_add(self.second)
+            .saturating_add(self.last);
+        width.saturating_add(5).saturating_mul(rows)
+    }
+
+    /// Puts a field at the end, and spaces up to a width and two more.
+    #[inline]
+    pub fn put_cell(
+        &self,
+        alloc: Global,
+        out: &mut Vec<u8>,
+        field: &[u8],
+        width: usize,
+    ) -> Result<(), AllocError>
+        ensures { OnOk result (PutsCell field.now out.old.items out.new.items) }
+    {
+        let shown = self.shown_width(alloc, field)?;
+        self.put_field(out, field)?;
+        put_spaces(out, width.saturating_sub(shown).saturating_add(2))
+    }
+
+    // How wide one of the fields is, as it is shown.
+    fn shown_width(&self, alloc: Global, field: &[u8]) -> Result<usize, AllocError> {
+        if self.is_ascii {
+            return Ok(field.len());
+        }
+        width_of(alloc, field)
+    }
+
+    /// Puts a field at the end.
+    #[inline(always)]
+    pub fn put_field(&self, out: &mut Vec<u8>, field: &[u8]) -> Result<(), AllocError>
+        ensures { OnOk result (PutsQuoted field.now out.old.items out.new.items) }
+    {
+        if self.is_ascii {
+            return out.extend_from_slice(field);
+        }
+        put_quoted(out, field)
+    }
+}
+
+// How many columns of a terminal a field takes as it is shown. A quoted one is ASCII.
+fn width_of(alloc: Global, field: &[u8]) -> Result<usize, AllocError> {
+    if is_plain(field) {
+        return Ok(str::from_utf8(field).unwrap_or("").width());
+    }
+    let mut quoted = Vec::new(alloc);
+    put_in_quotes(&mut quoted, field)?;
+    Ok(quoted.len())
+}
+
+// Puts spaces at the end.
+fn put_spaces(out: &mut Vec<u8>, count: usize) -> Result<(), AllocError>
+    ensures { OnOk result (out.new.items ≡ out.old.items ++ replicate count 32) }
+{
+    match out.len().checked_add(count) {
+        Some(len) => out.resize(len, b' '),
+        None => Err(AllocError),
+    }
+}

@@ -1,0 +1,199 @@
+//! The texts of specs, and where they are.
+
+ghost use Rattle.std.specs.Prelude.{◌≡◌, ◌++◌, ◌∷◌, [], decimal, map, IfOk, OnOk};
+ghost use Rattle.refspec_commands.specs.Input.{end_byte};
+ghost use Rattle.refspec_commands.specs.Settings.{AreSettingsOf};
+ghost use Rattle.refspec_commands.specs.Texts.{AddsInputs, AddsRecords, AddsValues, AreTexts, given_of, numbered, record_at, spec_input};
+
+use crate::call::{Call, Command, Ends, Form};
+use crate::input::{end_of, records};
+use crate::quote::put_shown;
+use crate::settings::{Setting, operation_of};
+use gix_refspec::parsing::Operation;
+use itoa::Buffer;
+use std::alloc::{AllocError, Global};
+
+/// Where a text is found.
+#[derive(Clone, Copy, Debug)]
+pub enum Place<'a> {
+    /// The word of the call with this number, counted from 1.
+    Word(usize),
+    /// The record of an input with this number, counted from 1.
+    Record { input: &'a str, number: usize },
+    /// The setting of a configuration with this key.
+    Setting { origin: &'a [u8], key: &'a [u8] },
+}
+
+/// The text of a spec.
+#[derive(Clone, Copy, Debug)]
+pub struct Text<'a> {
+    pub place: Place<'a>,
+    pub operation: Operation,
+    pub bytes: &'a [u8],
+}
+
+impl Place<'_> {
+    ghost use Rattle.refspec_commands.specs.Messages.{PutsPlace};
+
+    /// Puts the place at the end, as compilers show places.
+    pub fn put(&self, out: &mut Vec<u8>, form: Form) -> Result<(), AllocError>
+        ensures { OnOk result (PutsPlace form self.now out.old.items out.new.items) }
+    {
+        match self {
+            Place::Word(number) => {
+                out.extend_from_slice(b"spec ")?;
+                put_number(out, *number)
+            }
+            Place::Record { input, number } => {
+                put_shown(out, input.as_bytes(), form)?;
+                out.push(b':')?;
+                put_number(out, *number)
+            }
+            Place::Setting { origin, key } => {
+                put_shown(out, origin, form)?;
+                out.extend_from_slice(b": ")?;
+                put_shown(out, key, form)
+            }
+        }
+    }
+}
+
+/// Puts a number at the end.
+pub fn put_number(out: &mut Vec<u8>, number: usize) -> Result<(), AllocError>
+    ensures { OnOk result (out.new.items ≡ out.old.items ++ decimal number) }
+{
+    let mut buffer = Buffer::new();
+    out.extend_from_slice(buffer.format(number).as_bytes())
+}
+
+/// The texts of the specs of a call: those among its words, those of the file beside the input, and, but
+/// for a plan, those of the input. Where both are settings, these are given.
+pub fn texts_of<'a>(
+    alloc: Global,
+    call: &Call<'a>,
+    beside: &'a [u8],
+    input: &'a [u8],
+    settings: &[Setting<'a>],
+) -> Result<Vec<Text<'a>>, AllocError>
+    ensures { IfOk result (λ texts. AreSettingsOf call.now.ends beside.now
+        (spec_input call.now.command input.now) settings.now
+        → AreTexts call.now beside.now input.now (map given_of texts.items)) }
+{
+    let mut texts = Vec::new(alloc);
+    for word in &call.specs {
+        texts.push(Text {
+            place: Place::Word(texts.len().saturating_add(1)),
+            operation: call.operation,
+            bytes: word.as_bytes(),
+        })?;
+    }
+    let input = spec_input(call.command, input);
+    add_inputs(alloc, call, beside, input, settings, &mut texts)?;
+    Ok(texts)
+}
+
+/// What a command reads of its input as specs: a plan has its refs there.
+pub fn spec_input(command: Command, input: &[u8]) -> &[u8]
+    ensures { result.now ≡ spec_input command input.now }
+{
+    match command {
+        Command::Plan => b"",
+        _ => input,
+    }
+}
+
+// Adds the texts of both inputs: the refspecs among settings, or the records.
+fn add_inputs<'a>(
+    alloc: Global,
+    call: &Call<'a>,
+    beside: &'a [u8],
+    input: &'a [u8],
+    settings: &[Setting<'a>],
+    texts: &mut Vec<Text<'a>>,
+) -> Result<(), AllocError>
+    ensures { OnOk result (AreSettingsOf call.now.ends beside.now input.now settings.now
+        → AddsInputs call.now beside.now input.now
+        (map given_of texts.old.items) (map given_of texts.new.items)) }
+{
+    match call.ends {
+        Ends::Settings => add_values(settings, texts),
+        Ends::Newline | Ends::Zero => {
+            add_texts(alloc, call, call.beside, beside, texts)?;
+            add_texts(alloc, call, call.input, input, texts)
+        }
+    }
+}
+
+// Adds the records of an input, each as a text.
+fn add_texts<'a>(
+    alloc: Global,
+    call: &Call<'a>,
+    name: &'a str,
+    input: &'a [u8],
+    texts: &mut Vec<Text<'a>>,
+) -> Result<(), AllocError>
+    ensures { OnOk result (AddsRecords (end_byte call.now.ends) call.now.operation name.now input.now
+        (map given_of texts.old.items) (map given_of texts.new.items)) }
+{
+    let records = records(alloc, input, end_of(call.ends))?;
+    add_records(call.operation, name, records.as_slice(), texts)
+}
+
+// Adds records, each as a text.
+fn add_records<'a>(
+    operation: Operation,
+    name: &'a str,
+    records: &[&'a [u8]],
+    texts: &mut Vec<Text<'a>>,
+) -> Result<(), AllocError>
+    ensures { OnOk result (map given_of texts.new.items ≡ map given_of texts.old.items
+        ++ numbered (record_at name.now operation) 1 (map (λ r. r.now) records.now)) }
+{
+    texts.reserve(records.len())?;
+    let mut number: usize = 0;
+    for record in records {
+        number = number.saturating_add(1);
+        texts.push(Text {
+            place: Place::Record {
+                input: name,
+                number,
+            },
+            operation,
+            bytes: record,
+        })?;
+    }
+    Ok(())
+}
+
+// Adds the refspecs among settings.
+fn add_values<'a>(settings: &[Setting<'a>], texts: &mut Vec<Text<'a>>) -> Result<(), AllocError>
+    ensures { OnOk result (AddsValues settings.now
+        (map given_of texts.old.items) (map given_of texts.new.items)) }
+{
+    for setting in settings {
+        add_value(setting, texts)?;
+    }
+    Ok(())
+}
+
+// Adds the refspec that a setting has, if it has one.
+fn add_value<'a>(setting: &Setting<'a>, texts: &mut Vec<Text<'a>>) -> Result<(), AllocError>
+    ensures { OnOk result (AddsValues (setting.now ∷ [])
+        (map given_of texts.old.items) (map given_of texts.new.items)) }
+{
+    let Some(operation) = operation_of(setting.key) else {
+        return Ok(());
+    };
+    let Some(bytes) = setting.value else {
+        return Ok(());
+    };
+    texts.push(Text {
+        place: Place::Setting {
+            origin: setting.origin,
+            key: setting.key,
+        },
+        operation,
+        bytes,
+    })?;
+    Ok(())
+}

@@ -1,0 +1,267 @@
+//! Which refs of a remote tracking refs belong to.
+
+ghost use Rattle.std.specs.Prelude.{◌≡◌, ◌++◌, codes, map, replicate, IfOk, MatchBool, OnOk};
+ghost use Rattle.gix_refspec.specs.Views.Group.{mapped_of, ref_of};
+ghost use Rattle.gix_refspec.specs.Laws.Items.{HasIdDestination};
+ghost use Rattle.gix_refspec.specs.Matching.Hits.{AreKeptBackward};
+ghost use Rattle.gix_refspec_text.specs.Matching.Side.{IsId};
+ghost use Rattle.gix_refspec.specs.Texts.ObjectId.{id_bytes};
+ghost use Rattle.gix_refspec.specs.Views.Spec.{reading_of};
+ghost use Rattle.refspec_json.specs.Objects.{line_of, noted_object, untracked_object};
+ghost use Rattle.refspec_commands.specs.Json.{json_text};
+ghost use Rattle.refspec_commands.specs.Shown.{KeepsPage, KeepsResults};
+ghost use Rattle.refspec_commands.specs.Track.{AddsTracked, AreByNames, AreWritten, HasUnwritten, IsEachWritten, named};
+
+use crate::call::{Call, Form};
+use crate::json;
+use crate::mappings::{Columns, canonical_texts, tell_mappings};
+use crate::page::Page;
+use crate::quote::put_quoted;
+use bstr::{BStr, BString};
+use gix_refspec::match_group::{Item, Mapping, match_rhs};
+use gix_refspec::oid::{Kind, ObjectId};
+use gix_refspec::{MatchGroup, RefSpecRef};
+use std::alloc::{AllocError, Global};
+use std::collections::BTreeSet;
+
+/// Tells which refs of the remote the tracking refs of a call are fetched from, and which belong to none. Returns
+/// whether some belong to none, or a spec can't be looked up by names.
+pub fn tell_tracking(
+    alloc: Global,
+    call: &Call<'_>,
+    specs: Vec<RefSpecRef<'_>>,
+    page: &mut Page,
+) -> Result<bool, AllocError>
+    ensures { IfOk result (λ refused. AddsTracked page.old.form
+        (map (λ w. w.now) call.now.refs.items) refused (map reading_of specs.entry.items)
+        page.old.results.items page.new.results.items) }
+{
+    let count = specs.len();
+    let specs = by_names(alloc, specs.as_slice(), page)?;
+    let looked_up = specs.len();
+    let none = ObjectId::null(Kind::shortest());
+    let items = items_named(alloc, call.refs.as_slice(), &none)?;
+    let texts = canonical_texts(alloc, specs.as_slice())?;
+    let outcome = tracked(alloc, specs, items.as_slice())?;
+    let mappings = outcome.mappings.as_slice();
+    tell_mappings(
+        alloc,
+        mappings,
+        texts.as_slice(),
+        Columns::DestinationFirst,
+        page,
+    )?;
+    let has_other = tell_others(alloc, call.refs.as_slice(), mappings, page)?;
+    if looked_up < count {
+        return Ok(true);
+    }
+    Ok(has_other)
+}
+
+// The specs that refs can be looked up by. Of the others is told.
+fn by_names<'a>(
+    alloc: Global,
+    specs: &[RefSpecRef<'a>],
+    page: &mut Page,
+) -> Result<Vec<RefSpecRef<'a>>, AllocError>
+    ensures kept { IfOk result (λ kept. AreByNames
+        (map reading_of specs.now) (map reading_of kept.items)) }
+    ensures page { OnOk result (KeepsPage page.old page.new) }
+{
+    let mut kept = Vec::with_capacity(alloc, specs.len())?;
+    for spec in specs {
+        if has_id_destination(spec) {
+            tell_to_object(alloc, spec, page)?;
+        } else {
+            kept.push(*spec)?;
+        }
+    }
+    Ok(kept)
+}
+
+// Whether the destination of a spec is an object id.
+fn has_id_destination(spec: &RefSpecRef<'_>) -> bool
+    ensures { MatchBool result
+        (HasIdDestination (reading_of spec.now))
+        (¬ (HasIdDestination (reading_of spec.now))) }
+{
+    match spec.destination() {
+        None => false,
+        Some(destination) => is_id(destination.as_bytes()),
+    }
+}
+
+/// Whether a text spells an object id.
+pub fn is_id(text: &[u8]) -> bool
+    ensures { MatchBool result (IsId text.now) (¬ (IsId text.now)) }
+{
+    match ObjectId::from_hex(text) {
+        Ok(_) => true,
+        Err(_) => false,
+    }
+}
+
+const WHY_TO_OBJECT: &str =
+    "The destination reads as an object id, so no ref can be looked up by its name. Write the full name of a ref, such as refs/heads/x.";
+
+// Tells of a spec whose destination is an object id.
+fn tell_to_object(alloc: Global, spec: &RefSpecRef<'_>, page: &mut Page) -> Result<(), AllocError>
+    ensures { OnOk result (KeepsPage page.old page.new) }
+{
+    let canonical = spec.to_bstring(alloc)?;
+    match page.form {
+        Form::Json => put_to_object(
+            alloc,
+            canonical.as_bytes(),
+            WHY_TO_OBJECT,
+            &mut page.results,
+        ),
+        Form::Lines | Form::Zeros => put_line(
+            canonical.as_bytes(),
+            WHY_TO_OBJECT,
+            &mut page.messages,
+        ),
+    }
+}
+
+// Puts the object of such a spec and a sentence on it at the end.
+fn put_to_object(
+    alloc: Global,
+    spec: &[u8],
+    message: &str,
+    out: &mut Vec<u8>,
+) -> Result<(), AllocError>
+    ensures { OnOk result (out.new.items ≡ out.old.items
+        ++ line_of (noted_object (codes "to_object") (json_text spec.now) message.now)) }
+{
+    let shown = json::text_of(alloc, spec)?;
+    let object = refspec_json::ToObject {
+        spec: shown.as_str(),
+        message,
+    };
+    object.put_line(alloc, out)
+}
+
+// Refs with these names. They point to the null id: of a tracking ref the name alone is given.
+fn items_named<'a>(
+    alloc: Global,
+    names: &[&'a str],
+    target: &'a ObjectId,
+) -> Result<Vec<Item<'a>>, AllocError>
+    requires { id_bytes target.now ≡ replicate 20 0 }
+    ensures { IfOk result (λ items. map ref_of items.items ≡ map named (map (λ n. n.now) names.now)) }
+{
+    let mut items = Vec::with_capacity(alloc, names.len())?;
+    for name in names {
+        items.push(Item {
+            full_ref_name: BStr::new(name.as_bytes()),
+            target,
+            object: None,
+        })?;
+    }
+    Ok(items)
+}
+
+// Tells of the refs that no mapping has. Returns whether there are some.
+fn tell_others(
+    alloc: Global,
+    names: &[&str],
+    mappings: &[Mapping<'_, '_>],
+    page: &mut Page,
+) -> Result<bool, AllocError>
+    ensures kept { OnOk result (KeepsResults page.old.form
+        page.old.results.items page.new.results.items) }
+    ensures some { IfOk result (λ some. MatchBool some
+        (HasUnwritten (map (λ n. n.now) names.now) (map mapped_of mappings.now))
+        (IsEachWritten (map (λ n. n.now) names.now) (map mapped_of mappings.now))) }
+{
+    let written = written_by(alloc, mappings)?;
+    let mut has_other = false;
+    for name in names {
+        if !written.contains(name.as_bytes()) {
+            tell_untracked(alloc, name.as_bytes(), page)?;
+            has_other = true;
+        }
+    }
+    Ok(has_other)
+}
+
+// The names of the refs that the mappings write.
+fn written_by<'a>(
+    alloc: Global,
+    mappings: &'a [Mapping<'_, '_>],
+) -> Result<BTreeSet<&'a [u8]>, AllocError>
+    ensures { IfOk result (λ written. AreWritten written (map mapped_of mappings.now)) }
+{
+    let mut written = BTreeSet::new(alloc);
+    for mapping in mappings {
+        if let Some(name) = &mapping.rhs {
+            written.insert(name.as_bstr().as_bytes())?;
+        }
+    }
+    Ok(written)
+}
+
+/// What specs for a fetch map back of the items.
+pub fn tracked<'spec, 'item>(
+    alloc: Global,
+    specs: Vec<RefSpecRef<'spec>>,
+    items: &[Item<'item>],
+) -> Result<match_rhs::Outcome<'spec, 'item>, AllocError>
+    ensures { IfOk result (λ found. AreKeptBackward
+        (map reading_of specs.entry.items) (map ref_of items.now)
+        (map mapped_of found.mappings.items)) }
+{
+    let group = MatchGroup { specs };
+    match group.match_rhs(alloc, items) {
+        Ok(outcome) => Ok(outcome),
+        Err(_) => Err(AllocError),
+    }
+}
+
+// Tells of a ref that no spec writes.
+fn tell_untracked(alloc: Global, name: &[u8], page: &mut Page) -> Result<(), AllocError>
+    ensures { OnOk result (KeepsPage page.old page.new) }
+{
+    let message = why_untracked(name);
+    match page.form {
+        Form::Json => put_object(alloc, name, message, &mut page.results),
+        Form::Lines | Form::Zeros => put_line(name, message, &mut page.messages),
+    }
+}
+
+// What there is to say of such a ref.
+fn why_untracked(name: &[u8]) -> &'static str {
+    if name.starts_with(b"refs/") {
+        "No spec writes this ref."
+    } else {
+        "No spec writes this ref. Give its full name, such as `refs/remotes/origin/main`."
+    }
+}
+
+// Puts the line of such a ref, or of such a spec, at the end.
+fn put_line(name: &[u8], message: &str, out: &mut Vec<u8>) -> Result<(), AllocError> {
+    put_quoted(out, name)?;
+    out.extend_from_slice(b": ")?;
+    out.extend_from_slice(message.as_bytes())?;
+    out.push(b'\n')?;
+    Ok(())
+}
+
+// Puts the object of such a ref at the end.
+fn put_object(
+    alloc: Global,
+    name: &[u8],
+    message: &str,
+    out: &mut Vec<u8>,
+) -> Result<(), AllocError>
+    ensures { OnOk result (out.new.items ≡
+        out.old.items ++ line_of (untracked_object (json_text name.now) message.now)) }
+{
+    let name = json::text_of(alloc, name)?;
+    let object = refspec_json::Untracked {
+        name: name.as_str(),
+        message,
+    };
+    object.put_line(alloc, out)
+}

@@ -1,6 +1,0 @@
--- the results are as they were
-use Rattle.refspec_run.specs.Shown.{KeepsPage}
-use Rattle.refspec_run.proofs.lacking.refuse_lacking.Given as goal
-
-abbrev pub invariant-loop-setting : goal.invariant-loop-setting
-invariant-loop-setting l = KeepsPage l.fn.page l.page

@@ -1,7 +1,0 @@
--- the words so far are texts
-use Rattle.std.proofs.Common.{◌≡◌, map, take}
-use Rattle.refspec_run.specs.Texts.{given_of, numbered, word_at}
-use Rattle.refspec_run.proofs.texts.texts_of.Given as goal
-
-abbrev pub invariant-loop-word : goal.invariant-loop-word
-invariant-loop-word l = map given_of l.texts.items ≡ numbered (word_at l.call.operation) 1 (map (λ w. w.now) (take l.word-index l.call.specs.items))

@@ -1,8 +1,0 @@
--- the names so far are those that mappings write
-use Rattle.std.proofs.Common.{map, take}
-use Rattle.gix_refspec.specs.Views.Group.{mapped_of}
-use Rattle.refspec_run.specs.Track.{AreWritten}
-use Rattle.refspec_run.proofs.track.written_by.Given as goal
-
-abbrev pub invariant-loop-mapping : goal.invariant-loop-mapping
-invariant-loop-mapping l = AreWritten l.written (map mapped_of (take l.mapping-index l.mappings))

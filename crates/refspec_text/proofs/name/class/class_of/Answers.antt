@@ -1,6 +1,0 @@
-use Rattle.std.proofs.Common.{arith}
-use Rattle.refspec_text.proofs.lemmas.texts.TableLemmas.{CLASSES-class_at}
-use Rattle.refspec_text.proofs.name.class.class_of.Goals as goal
-
-pub returns : goal.returns
-returns c = CLASSES-class_at c.args.byte (omega arith)

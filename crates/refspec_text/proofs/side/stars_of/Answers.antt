@@ -1,5 +1,0 @@
--- One star: none is before it and none after it.
-use Rattle.refspec_text.proofs.side.stars_of.Goals as goal
-
-pub returns-in-None : goal.returns-in-None
-returns-in-None c = let cut = c.in-Some.ensures in record { starred = cut.0; first = cut.1; last = c.in-None.ensures }

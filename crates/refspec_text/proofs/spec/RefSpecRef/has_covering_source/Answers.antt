@@ -1,7 +1,0 @@
--- The side that a fetch asks for decides.
-use Rattle.refspec_text.specs.Views.Spec.{reading_of}
-use Rattle.refspec_text.proofs.lemmas.hits.PremiseLemmas.{fetch_from_test, told_source}
-use Rattle.refspec_text.proofs.spec.RefSpecRef.has_covering_source.Goals as goal
-
-pub returns-in-Some : goal.returns-in-Some
-returns-in-Some c = told_source (reading_of c.args.self.now) c.in-Some.side.now c.is_covering.result (fetch_from_test c.args.self.now.op c.if-ne.ensures) c.in-Some.ensures.0 c.is_covering.ensures
