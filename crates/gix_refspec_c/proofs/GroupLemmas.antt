@@ -12,13 +12,7 @@ use Rattle.gix_refspec_c.specs.declared.failure.Failure.{Failure}
 use Rattle.gix_refspec_c.specs.declared.failure.Failure.TheVariants as failure
 use Rattle.gix_refspec_c.specs.Reading.{IsUnread}
 use Rattle.gix_refspec_c.specs.Group.{bytes_of, AreUnread, IsFirstUnread}
-
--- one pair more
-pub pair_more : {X Y : Type 0} (R : X → Y → Type 0) (xs : List X) (ys : List Y) (x : X) (y : Y) → AllZip R xs ys → R x y → AllZip R (xs ++ x ∷ []) (ys ++ y ∷ [])
-pair_more R [] [] x y all one = (one, tt)
-pair_more R [] (b ∷ ys) x y all one = absurd all
-pair_more R (a ∷ xs) [] x y all one = absurd all
-pair_more R (a ∷ xs) (b ∷ ys) x y all one = (all.0, pair_more R xs ys x y all.1 one)
+use Rattle.std.proofs.lemmas.Slice.Zip.{all_zipped_more}
 
 -- the bytes at a place
 at : (texts : List Text) (k : ℕ) (d : Text) (e : List ℕ) → k < length texts → get_or (map bytes_of texts) k e ≡ bytes_of (get_or texts k d)
@@ -30,7 +24,7 @@ text_more op texts k d old new s below reads put so_far =
     let within : k < length (map bytes_of texts) = omega (arith, length-map texts bytes_of, below) in
     let more : take (k + 1) (map bytes_of texts) ≡ take k (map bytes_of texts) ++ bytes_of (get_or texts k d) ∷ [] = take_more (map bytes_of texts) k [] within ∙ ap (λ t. take k (map bytes_of texts) ++ t ∷ []) (at texts k d [] below) in
     let readings : map reading_of new ≡ map reading_of old ++ reading_of s ∷ [] = ap (map reading_of) put ∙ map-append reading_of old (s ∷ []) in
-    let all = pair_more (Reads op) (take k (map bytes_of texts)) (map reading_of old) (bytes_of (get_or texts k d)) (reading_of s) so_far reads in
+    let all = all_zipped_more (Reads op) (take k (map bytes_of texts)) (map reading_of old) (bytes_of (get_or texts k d)) (reading_of s) so_far reads in
     subst (λ (ts : List (List ℕ)). AllZip (Reads op) ts (map reading_of new)) (sym more)
     (subst (λ (rs : List Reading). AllZip (Reads op) (take k (map bytes_of texts) ++ bytes_of (get_or texts k d) ∷ []) rs) (sym readings) all)
 

@@ -25,9 +25,7 @@ use Rattle.gix_refspec.specs.Views.Group.{mapped_of}
 use Rattle.gix_refspec_c.specs.declared.listing.MappingOut.{MappingOut}
 use Rattle.gix_refspec_c.specs.Mapping.{Entry, IsNotPut, LacksAll, Room, Tells, backward_entry, forward_entry, text_of, texts_of, told_at, told_by, told_from}
 use Rattle.gix_refspec_c.specs.Matching.{AreMatched, GoesByName, nameless}
-
-some_once : (x y : List ℕ) → Some x ≡ Some y → x ≡ y
-some_once x y same = cc
+use Rattle.std.proofs.lemmas.Option.{same_Some}
 
 unread : {b : Bool} → IsTrue b → b ≡ false → ⊥
 unread told isnt = cc
@@ -44,7 +42,7 @@ by_name r x (Ok i) b goes law text is = (
   λ by. absurd (by.no_id x goes (id_bytes i, text)),
 )
 by_name r x (Err e) b goes law fault is = (
-  λ told. record { no_id = λ y same spelled. no_text law e fault (spelled.0) (subst (λ (t : List ℕ). IsIdText t spelled.0) (some_once y x (sym same ∙ goes)) spelled.1) },
+  λ told. record { no_id = λ y same spelled. no_text law e fault (spelled.0) (subst (λ (t : List ℕ). IsIdText t spelled.0) (same_Some y x (sym same ∙ goes)) spelled.1) },
   λ by. is,
 )
 
@@ -76,21 +74,6 @@ entries_more f ms k m below is =
     ∙ ap (map f) (map-append mapped_of (take k ms) (get_or ms k m ∷ []))
     ∙ map-append f (map mapped_of (take k ms)) (mapped_of (get_or ms k m) ∷ [])
     ∙ ap (λ x. map f (map mapped_of (take k ms)) ++ f (mapped_of x) ∷ []) (sym is)
-
--- what is so of all specs is so of the one at a place
-pub each_reading : (P : Reading → Type 0) (specs : List RefSpecRef) (k : ℕ) (s : RefSpecRef) → AllByRecursion P (map reading_of specs) → k < length specs → s ≡ get_or specs k s → P (reading_of s)
-each_reading P [] k s all below is = absurd (omega (arith, below))
-each_reading P (t ∷ specs) zero s all below is = subst (λ (q : RefSpecRef). P (reading_of q)) (sym is) all.0
-each_reading P (t ∷ specs) (suc k) s all below is = each_reading P specs k s all.1 (omega (arith, below)) is
-
--- and what is so of those before a place and of the one there is so of those up to it
-one_more_suc : (P : Reading → Type 0) (specs : List RefSpecRef) (k : ℕ) (s : RefSpecRef) → AllByRecursion P (map reading_of (take k specs)) → k < length specs → s ≡ get_or specs k s → P (reading_of s) → AllByRecursion P (map reading_of (take (suc k) specs))
-one_more_suc P [] k s all below is holds = absurd (omega (arith, below))
-one_more_suc P (t ∷ specs) zero s all below is holds = (subst (λ (q : RefSpecRef). P (reading_of q)) is holds, tt)
-one_more_suc P (t ∷ specs) (suc k) s all below is holds = (all.0, one_more_suc P specs k s all.1 (omega (arith, below)) is holds)
-
-pub one_more : (P : Reading → Type 0) (specs : List RefSpecRef) (k : ℕ) (s : RefSpecRef) → AllByRecursion P (map reading_of (take k specs)) → k < length specs → s ≡ get_or specs k s → P (reading_of s) → AllByRecursion P (map reading_of (take (k + 1) specs))
-one_more P specs k s all below is holds = let same : suc k ≡ k + 1 = omega arith in subst (λ (j : ℕ). AllByRecursion P (map reading_of (take j specs))) same (one_more_suc P specs k s all below is holds)
 
 -- a listing that doesn't fit
 pub no_room : (Is : List Entry → Type 0) (Why : Failure → Type 0) (es : List Entry) (structs : List MappingOut) (text : List ℕ) (before after : Room) (r : Result (Unit {0}) Failure) → Is es → Tells es structs text → IfErr r (λ f. (f ≡ failure.TooSmall) × IsNotPut structs text before after) → IfErr r (LacksAll Is Why before after)

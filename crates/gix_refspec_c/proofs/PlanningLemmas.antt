@@ -35,7 +35,7 @@ use Rattle.gix_refspec_c.specs.declared.planning.Verdict.TheVariants.{Written, L
 use Rattle.gix_refspec_c.specs.Mapping.{Entry}
 use Rattle.gix_refspec_c.specs.Matching.{nameless}
 use Rattle.gix_refspec_c.specs.Planning.{HasConflict, HasNoConflict, HasVerdict, IsJudged, IsPlan, destinations_of}
-use Rattle.gix_refspec_c.proofs.GroupLemmas.{pair_more}
+use Rattle.std.proofs.lemmas.Slice.Zip.{all_zipped_more}
 
 -- ---- searching
 
@@ -103,7 +103,7 @@ found_destination issues d r up within at =
 pub judged_more : (g : List Reading) (Met : List ℕ → Type 0) (ms : List Mapping) (k : ℕ) (m : Mapping) (es : List Entry) (e : Entry) → k < length ms → m ≡ get_or ms k m → AllZip (IsJudged g Met) (map mapped_of (take k ms)) es → IsJudged g Met (mapped_of m) e → AllZip (IsJudged g Met) (map mapped_of (take (k + 1) ms)) (es ++ e ∷ [])
 judged_more g Met ms k m es e below is so_far judged =
     let more : map mapped_of (take (k + 1) ms) ≡ map mapped_of (take k ms) ++ mapped_of m ∷ [] = ap (map mapped_of) (take_more ms k m below) ∙ map-append mapped_of (take k ms) (get_or ms k m ∷ []) ∙ ap (λ x. map mapped_of (take k ms) ++ mapped_of x ∷ []) (sym is) in
-    subst (λ (l : List Mapped). AllZip (IsJudged g Met) l (es ++ e ∷ [])) (sym more) (pair_more (IsJudged g Met) (map mapped_of (take k ms)) es (mapped_of m) e so_far judged)
+    subst (λ (l : List Mapped). AllZip (IsJudged g Met) l (es ++ e ∷ [])) (sym more) (all_zipped_more (IsJudged g Met) (map mapped_of (take k ms)) es (mapped_of m) e so_far judged)
 
 -- what isn't untrue is true
 pub unless : (b : Bool) → not b ≡ false → IsTrue b

@@ -6,18 +6,16 @@ use Rattle.gix_refspec.specs.Specs.Grammar.{Reads}
 use Rattle.gix_refspec.specs.Specs.Meaning.{meaning_of, text_of, printed}
 use Rattle.gix_refspec.specs.Laws.Readings.{ReadsOrRefused, IsPrintedBack, EqualReadings}
 use Rattle.gix_refspec_uses.specs.Claims.{IsRefspec, ReadsOnlyAs, AreEqual, IsCanonicalText}
+use Rattle.std.proofs.lemmas.Option.{same_Some}
 
 -- a reading of a text is its only one
 pub reads_only : (op : Operation) (text : List ℕ) (r : Reading) → ReadsOrRefused op text → Reads op text r → ReadsOnlyAs op text r
 reads_only op text r (inl once) reads = record { reads = reads; only = λ q by_q. once.only q by_q ∙ sym (once.only r reads) }
 reads_only op text r (inr refusal) reads = absurd (refusal.1.unread r reads)
 
-some_once : (x y : List ℕ) → Some x ≡ Some y → x ≡ y
-some_once x y same = cc
-
 -- what was printed reads again
 reads_printed : (op : Operation) (r : Reading) (c : List ℕ) (back : IsPrintedBack op r) → printed r ≡ Some c → Reads op c back.again.reading
-reads_printed op r c back is = subst (λ (x : List ℕ). Reads op x back.again.reading) (some_once back.text c (sym back.is ∙ is)) back.again.reads
+reads_printed op r c back is = subst (λ (x : List ℕ). Reads op x back.again.reading) (same_Some back.text c (sym back.is ∙ is)) back.again.reads
 
 -- the canonical text of a text
 pub canonical_text : (op : Operation) (text c : List ℕ) (r : Reading) → Reads op text r → IsPrintedBack op r → printed r ≡ Some c → IsCanonicalText op text c

@@ -15,19 +15,13 @@ use Rattle.gix_refspec_text.specs.declared.spec.RefSpecRef.{RefSpecRef}
 use Rattle.refspec_commands.specs.Json.{AddsObjects, AreInOrder}
 use Rattle.refspec_commands.specs.Read.{AddsIfGood, AddsIfRead, AreGood, AreRead, HasBad, HasRefused, IsChecked, IsReadOrRefusal, IsRefusalOf, IsSpec, TellsRefused}
 use Rattle.refspec_commands.specs.Texts.{given_of, said}
-
--- one more pair
-pub zip_last : {A B : Type 0} (R : A → B → Type 0) (xs : List A) (ys : List B) (x : A) (y : B) → AllZip R xs ys → R x y → AllZip R (xs ++ x ∷ []) (ys ++ y ∷ [])
-zip_last R [] [] x y all is = (is, tt)
-zip_last R [] (z ∷ ys) x y all is = absurd all
-zip_last R (w ∷ xs) [] x y all is = absurd all
-zip_last R (w ∷ xs) (z ∷ ys) x y all is = (all.0, zip_last R xs ys x y all.1 is)
+use Rattle.std.proofs.lemmas.Slice.Zip.{all_zipped_more}
 
 -- one more element
 pub zip_next : {A B : Type 0} (R : A → B → Type 0) (xs : List A) (i : ℕ) (d : A) (ys more : List B) (y : B) → i < length xs → AllZip R (take i xs) ys → R (get_or xs i d) y → more ≡ ys ++ y ∷ [] → AllZip R (take (i + 1) xs) more
 zip_next {A} {B} R xs i d ys more y below so_far is grown =
     subst (λ (l : List A). AllZip R l more) (sym (take_more xs i d below))
-    (subst (AllZip R (take i xs ++ get_or xs i d ∷ [])) (sym grown) (zip_last R (take i xs) ys (get_or xs i d) y so_far is))
+    (subst (AllZip R (take i xs ++ get_or xs i d ∷ [])) (sym grown) (all_zipped_more R (take i xs) ys (get_or xs i d) y so_far is))
 
 -- all elements
 pub zip_all : {A B : Type 0} (R : A → B → Type 0) (xs : List A) (i : ℕ) (ys : List B) → length xs ≤ i → AllZip R (take i xs) ys → AllZip R xs ys

@@ -1,6 +1,6 @@
 -- The lines of mappings below their specs, one after another.
 use Rattle.std.proofs.Common.{◌≡◌, ◌≢◌, ℕ, ◌+◌, ◌<◌, List, [], ◌∷◌, ◌++◌, codes, map, length, take, get_or, unwrap_or, Option, Some, None, inl, inr, refl, sym, ap, ◌∙◌, subst, append_assoc, arith}
-use Rattle.std.proofs.lemmas.List.{append-nil}
+use Rattle.std.proofs.lemmas.List.{append-nil, map_more}
 use Rattle.std.specs.List.{slice_get}
 use Rattle.gix_refspec.specs.Matching.Mappings.{Mapped}
 use Rattle.gix_refspec.specs.Views.Group.{mapped_of}
@@ -8,7 +8,6 @@ use Rattle.gix_refspec_match.specs.declared.types.Mapping.{Mapping}
 use Rattle.refspec_commands.specs.Groups.{AddsGrouped, AddsGroups, AddsShort, AreBelow, AreShort, IsBelow, IsHead, IsShort, PutsHeading, PutsShort}
 use Rattle.refspec_commands.specs.Rows.{PutsCell, source_text}
 use Rattle.refspec_commands.specs.Shown.{PutsQuoted}
-use Rattle.refspec_commands.proofs.RowLemmas.{one_more}
 use Rattle.refspec_commands.proofs.ShownLemmas.{behind}
 
 -- a cell, the other side and a newline are a line
@@ -34,7 +33,7 @@ AddsShort-start old = ([], refl, sym (append-nil old))
 -- one line more
 pub AddsShort-next : (xs : List Mapping) (i : ℕ) (x : Mapping) (old mid new : List ℕ) → i < length xs → x ≡ get_or xs i x → AddsShort (map mapped_of (take i xs)) old mid → PutsShort (mapped_of x) mid new → AddsShort (map mapped_of (take (i + 1) xs)) old new
 AddsShort-next xs i x old mid new below is (lines, are, so_far) (line, short, put) =
-    let step : map mapped_of (take (i + 1) xs) ≡ map mapped_of (take i xs) ++ mapped_of x ∷ [] = one_more mapped_of xs i x below ∙ ap (λ (y : Mapping). map mapped_of (take i xs) ++ mapped_of y ∷ []) (sym is) in
+    let step : map mapped_of (take (i + 1) xs) ≡ map mapped_of (take i xs) ++ mapped_of x ∷ [] = map_more mapped_of xs i x below ∙ ap (λ (y : Mapping). map mapped_of (take i xs) ++ mapped_of y ∷ []) (sym is) in
     subst (λ (l : List Mapped). AddsShort l old new) (sym step) (lines ++ line, AreShort-push (map mapped_of (take i xs)) (mapped_of x) lines line are short, behind old lines mid line new so_far put)
 
 -- the spec of the last mapping
@@ -77,7 +76,7 @@ pub GroupedSoFar-next : (texts : List (List ℕ)) (xs : List Mapping) (i : ℕ) 
 GroupedSoFar-next texts xs i x before next old mid a b new below is so_far head margin (line, short, put) same =
     let front = map mapped_of (take i xs) in
     let m = mapped_of x in
-    let step : map mapped_of (take (i + 1) xs) ≡ front ++ m ∷ [] = one_more mapped_of xs i x below ∙ ap (λ (y : Mapping). front ++ mapped_of y ∷ []) (sym is) in
+    let step : map mapped_of (take (i + 1) xs) ≡ front ++ m ∷ [] = map_more mapped_of xs i x below ∙ ap (λ (y : Mapping). front ++ mapped_of y ∷ []) (sym is) in
     let one = head.head ++ (codes "  " ++ line) in
     let is_one : IsBelow texts (last_spec None front) m one = record {
       head = head.head;

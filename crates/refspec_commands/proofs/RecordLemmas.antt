@@ -47,11 +47,3 @@ Completes-more end old new r text rest input full first grown so_far more cut =
 -- in the end nothing is left
 pub Completes-end : (end : ℕ) (records : List (Bor (List ℕ))) (rest input : List ℕ) → rest ≡ [] → Completes end records rest input → AreRecords end (bytes_of records) input
 Completes-end end records rest input none so_far = subst (λ (rs : List (List ℕ)). AreRecords end rs input) (append-nil (bytes_of records)) (so_far [] none)
-
--- what a test for an empty text says
-pub empty_from_test : (x : List ℕ) → true ≡ (length x == 0) → x ≡ []
-empty_from_test [] test = refl
-empty_from_test (b ∷ x) test = absurd (omega (arith, eqb-true (length (b ∷ x)) 0 (sym test)))
-
-pub full_from_test : (x : List ℕ) → false ≡ (length x == 0) → x ≢ []
-full_from_test x test empty = false≢true (test ∙ ap (λ y. length y == 0) empty)

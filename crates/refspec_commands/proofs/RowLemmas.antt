@@ -1,6 +1,6 @@
 -- Rows, one after another, and their parts.
 use Rattle.std.proofs.Common.{◌≡◌, ℕ, zero, suc, arith, ◌+◌, ◌<◌, ◌≤◌, List, [], ◌∷◌, ◌++◌, map, flat_map, length, take, get_or, unwrap_or, replicate, codes, Option, option_map, Some, refl, sym, ap, ◌∙◌, subst, append_assoc}
-use Rattle.std.proofs.lemmas.List.{append-nil, map-append, take_more}
+use Rattle.std.proofs.lemmas.List.{append-nil, map-append, take_more, map_more}
 use Rattle.std.proofs.lemmas.Grind.{flat_map-append}
 use Rattle.gix_refspec.specs.Matching.Mappings.{Mapped}
 use Rattle.gix_refspec.specs.Views.Group.{mapped_of}
@@ -19,12 +19,8 @@ use Rattle.refspec_commands.specs.declared.mappings.Columns.TheVariants as colum
 use Rattle.refspec_commands.specs.Json.{json_text}
 use Rattle.refspec_commands.specs.Rows.{AddsLines, AddsMappings, AreRowLines, AreSpecTexts, PutsCell, PutsCells, PutsLine, Row, fields, first_side, mapped_object, object_of, row_of, second_side, source_text}
 use Rattle.refspec_commands.specs.Shown.{PutsQuoted, zero_ended}
-use Rattle.refspec_commands.proofs.CheckedLemmas.{zip_last}
 use Rattle.refspec_commands.proofs.ShownLemmas.{behind, flat_map-map, map-twice}
-
--- one more element gives one more row
-pub one_more : {X Y : Type 0} (f : X → Y) (xs : List X) (i : ℕ) (d : X) → i < length xs → map f (take (i + 1) xs) ≡ map f (take i xs) ++ f (get_or xs i d) ∷ []
-one_more f xs i d below = ap (map f) (take_more xs i d below) ∙ map-append f (take i xs) (get_or xs i d ∷ [])
+use Rattle.std.proofs.lemmas.Slice.Zip.{all_zipped_more}
 
 -- the lines of some rows and then those of others
 AreRowLines-append : (xs ys : List Row) (front back : List ℕ) → AreRowLines xs front → AreRowLines ys back → AreRowLines (xs ++ ys) (front ++ back)
@@ -40,7 +36,7 @@ pub AddsLines-next : {X : Type 0} (shown : X → Row) (xs : List X) (i : ℕ) (d
 AddsLines-next shown xs i d r old mid new below same a b =
     let b2 = subst (λ (x : Row). PutsLine x mid new) same b in
     let last : AreRowLines (shown (get_or xs i d) ∷ []) b2.0 = (b2.0, [], b2.1, refl, sym (append-nil b2.0)) in
-    subst (λ (l : List Row). AddsLines l old new) (sym (one_more shown xs i d below)) (a.0 ++ b2.0, AreRowLines-append (map shown (take i xs)) (shown (get_or xs i d) ∷ []) a.0 b2.0 a.1 last, behind old a.0 mid b2.0 new a.2 b2.2)
+    subst (λ (l : List Row). AddsLines l old new) (sym (map_more shown xs i d below)) (a.0 ++ b2.0, AreRowLines-append (map shown (take i xs)) (shown (get_or xs i d) ∷ []) a.0 b2.0 a.1 last, behind old a.0 mid b2.0 new a.2 b2.2)
 
 -- the fields of one more row
 pub fields_next : {X : Type 0} (shown : X → Row) (xs : List X) (i : ℕ) (d : X) (r : Row) (old mid new : List ℕ) → i < length xs → r ≡ shown (get_or xs i d) → mid ≡ old ++ flat_map fields (map shown (take i xs)) → new ≡ mid ++ fields r → new ≡ old ++ flat_map fields (map shown (take (i + 1) xs))
@@ -48,7 +44,7 @@ fields_next shown xs i d r old mid new below same a b =
     let front = map shown (take i xs) in
     let x = shown (get_or xs i d) in
     let all : flat_map fields front ++ fields r ≡ flat_map fields (map shown (take (i + 1) xs)) =
-    ap (λ y. flat_map fields front ++ fields y) same ∙ (ap (λ l. flat_map fields front ++ l) (sym (append-nil (fields x))) ∙ (sym (flat_map-append fields front (x ∷ [])) ∙ ap (flat_map fields) (sym (one_more shown xs i d below)))) in
+    ap (λ y. flat_map fields front ++ fields y) same ∙ (ap (λ l. flat_map fields front ++ l) (sym (append-nil (fields x))) ∙ (sym (flat_map-append fields front (x ∷ [])) ∙ ap (flat_map fields) (sym (map_more shown xs i d below)))) in
     behind old (flat_map fields front) mid (fields r) new a b ∙ ap (λ l. old ++ l) all
 
 -- the cells of a mapping, the source first
@@ -119,6 +115,6 @@ PutsCell-of field old mid new count enough q rest =
 pub texts_next : (specs : List RefSpecRef) (i : ℕ) (d : RefSpecRef) (old new : List BString) (text : BString) → i < length specs → d ≡ get_or specs i d → printed (reading_of d) ≡ Some (bstring_bytes text) → new ≡ old ++ text ∷ [] → AreSpecTexts (map reading_of (take i specs)) (map bstring_bytes old) → AreSpecTexts (map reading_of (take (i + 1) specs)) (map bstring_bytes new)
 texts_next specs i d old new text below here read grown so_far =
     let is : printed (reading_of (get_or specs i d)) ≡ Some (bstring_bytes text) = subst (λ (s : RefSpecRef). printed (reading_of s) ≡ Some (bstring_bytes text)) here read in
-    subst (λ (g : List Reading). AreSpecTexts g (map bstring_bytes new)) (sym (one_more reading_of specs i d below))
+    subst (λ (g : List Reading). AreSpecTexts g (map bstring_bytes new)) (sym (map_more reading_of specs i d below))
     (subst (AreSpecTexts (map reading_of (take i specs) ++ reading_of (get_or specs i d) ∷ [])) (sym (ap (map bstring_bytes) grown ∙ map-append bstring_bytes old (text ∷ [])))
-    (zip_last (λ (r : Reading) (x : List ℕ). printed r ≡ Some x) (map reading_of (take i specs)) (map bstring_bytes old) (reading_of (get_or specs i d)) (bstring_bytes text) so_far is))
+    (all_zipped_more (λ (r : Reading) (x : List ℕ). printed r ≡ Some x) (map reading_of (take i specs)) (map bstring_bytes old) (reading_of (get_or specs i d)) (bstring_bytes text) so_far is))

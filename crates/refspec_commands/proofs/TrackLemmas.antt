@@ -23,6 +23,7 @@ use Rattle.refspec_commands.specs.declared.mappings.Columns.TheVariants as colum
 use Rattle.refspec_commands.specs.Rows.{AddsMappings, AreSpecTexts}
 use Rattle.refspec_commands.specs.Shown.{KeepsResults}
 use Rattle.refspec_commands.specs.Track.{AddsTracked, AreByNames, AreWritten, HasUnwritten, IsEachWritten, IsWritten, named}
+use Rattle.gix_refspec_text.proofs.lemmas.lists.MapLemmas.{map_next}
 
 -- a ref with the name and the target
 abbrev pub plain : List ℕ → List ℕ → Ref
@@ -63,17 +64,14 @@ AreByNames-less [] kept r has is = inl (has, is)
 AreByNames-less (x ∷ xs) kept r has (inl (it, is)) = inl (it, AreByNames-less xs kept r has is)
 AreByNames-less (x ∷ xs) kept r has (inr (other, (rest, is, same))) = inr (other, (rest, AreByNames-less xs rest r has is, same))
 
-readings_more : (specs : List RefSpecRef) (i : ℕ) (s : RefSpecRef) → i < length specs → s ≡ get_or specs i s → map reading_of (take (i + 1) specs) ≡ map reading_of (take i specs) ++ reading_of s ∷ []
-readings_more specs i s below is = ap (map reading_of) (take_more specs i s below) ∙ (map-append reading_of (take i specs) (get_or specs i s ∷ []) ∙ ap (λ x. map reading_of (take i specs) ++ reading_of x ∷ []) (sym is))
-
 pub AreByNames-kept : (specs old new : List RefSpecRef) (i : ℕ) (s : RefSpecRef) → i < length specs → s ≡ get_or specs i s → ¬ (HasIdDestination (reading_of s)) → new ≡ old ++ s ∷ [] → AreByNames (map reading_of (take i specs)) (map reading_of old) → AreByNames (map reading_of (take (i + 1) specs)) (map reading_of new)
 AreByNames-kept specs old new i s below is none grown so_far =
-    subst (λ (l : List Reading). AreByNames l (map reading_of new)) (sym (readings_more specs i s below is))
+    subst (λ (l : List Reading). AreByNames l (map reading_of new)) (sym (map_next reading_of specs i s below is))
     (subst (AreByNames (map reading_of (take i specs) ++ reading_of s ∷ [])) (sym (ap (map reading_of) grown ∙ map-append reading_of old (s ∷ []))) (AreByNames-more (map reading_of (take i specs)) (map reading_of old) (reading_of s) none so_far))
 
 pub AreByNames-left : (specs kept : List RefSpecRef) (i : ℕ) (s : RefSpecRef) → i < length specs → s ≡ get_or specs i s → HasIdDestination (reading_of s) → AreByNames (map reading_of (take i specs)) (map reading_of kept) → AreByNames (map reading_of (take (i + 1) specs)) (map reading_of kept)
 AreByNames-left specs kept i s below is has so_far =
-    subst (λ (l : List Reading). AreByNames l (map reading_of kept)) (sym (readings_more specs i s below is)) (AreByNames-less (map reading_of (take i specs)) (map reading_of kept) (reading_of s) has so_far)
+    subst (λ (l : List Reading). AreByNames l (map reading_of kept)) (sym (map_next reading_of specs i s below is)) (AreByNames-less (map reading_of (take i specs)) (map reading_of kept) (reading_of s) has so_far)
 
 pub AreByNames-all : (specs kept : List RefSpecRef) (i : ℕ) → length specs ≤ i → AreByNames (map reading_of (take i specs)) (map reading_of kept) → AreByNames (map reading_of specs) (map reading_of kept)
 AreByNames-all specs kept i long so_far = subst (λ (l : List RefSpecRef). AreByNames (map reading_of l) (map reading_of kept)) (take_all i specs long) so_far

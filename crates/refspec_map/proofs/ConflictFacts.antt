@@ -20,9 +20,9 @@ use Rattle.refspec_map.specs.Line.{reading, ref}
 use Rattle.refspec_map.specs.Run.{Answers}
 use Rattle.refspec_map.proofs.FormFacts.{blob, ref_lines}
 use Rattle.refspec_map.proofs.LineFacts.{Lacks-tested}
-use Rattle.refspec_map.proofs.LineLemmas.{Lacks-here}
 use Rattle.refspec_map.proofs.MatchFacts.{not_negative}
 use Rattle.refspec_map.proofs.RunFacts.{some_once}
+use Rattle.gix_refspec_text.proofs.lemmas.lists.LacksLemmas.{Lacks-here}
 
 -- a tag and a branch, and a spec for each of them
 abbrev pub the_tag : List ℕ

@@ -13,12 +13,12 @@ use Rattle.refspec_map.specs.declared.fault.Fault.TheVariants as fault
 use Rattle.refspec_map.specs.Input.{newline, AreLines}
 use Rattle.refspec_map.specs.Line.{Entry, reading, ref, spec, item, Says, Gives, IsFaultOf, IsFirstFault}
 use Rattle.refspec_map.specs.Run.{IsBad, IsOutput}
-use Rattle.refspec_map.proofs.LineLemmas.{Lacks-here, cut_once}
 use Rattle.refspec_map.proofs.OutputLemmas.{no_lines}
+use Rattle.gix_refspec_text.proofs.lemmas.lists.LacksLemmas.{Lacks-here, first_once}
 
 same_lines : (x y : List ℕ) (xs ys : List (List ℕ)) (input : List ℕ) → Lacks newline x → Lacks newline y → ((rest : List ℕ) × (input ≡ x ++ (newline ∷ rest)) × AreLines xs rest) ⊎ ((x ≢ []) × (xs ≡ []) × (input ≡ x)) → ((rest : List ℕ) × (input ≡ y ++ (newline ∷ rest)) × AreLines ys rest) ⊎ ((y ≢ []) × (ys ≡ []) × (input ≡ y)) → ((rest : List ℕ) → AreLines xs rest → AreLines ys rest → xs ≡ ys) → x ∷ xs ≡ y ∷ ys
 same_lines x y xs ys input in_x in_y (inl a) (inl b) later =
-    let same = cut_once newline x y a.0 b.0 in_x in_y (sym a.1 ∙ b.1) in
+    let same = first_once newline x y a.0 b.0 in_x in_y (sym a.1 ∙ b.1) in
     ap (λ h. h ∷ xs) same.0 ∙ ap (λ t. y ∷ t) (later a.0 a.2 (subst (AreLines ys) (sym same.1) b.2))
 same_lines x y xs ys input in_x in_y (inl a) (inr b) later = absurd (Lacks-here newline x a.0 (subst (Lacks newline) (sym b.2 ∙ a.1) in_y))
 same_lines x y xs ys input in_x in_y (inr a) (inl b) later = absurd (Lacks-here newline y b.0 (subst (Lacks newline) (sym a.2 ∙ b.1) in_x))

@@ -8,23 +8,6 @@ use Rattle.refspec_map.specs.declared.fault.Fault.TheVariants as fault
 use Rattle.refspec_map.specs.Fault.{IsReadOrMemory}
 use Rattle.refspec_map.specs.Input.{IsReadFault}
 
--- what one read took and what the next took are taken together
-pub Consumes-append : (x y z : Option (List ℕ)) (front back : List ℕ) → Consumes x y front → Consumes y z back → Consumes x z (front ++ back)
-Consumes-append None y z front back a b = tt
-Consumes-append (Some x) None z front back a b = absurd a
-Consumes-append (Some x) (Some y) None front back a b = absurd b
-Consumes-append (Some x) (Some y) (Some z) front back a b = a ∙ (ap (λ r. front ++ r) b ∙ sym (append_assoc front back z))
-
--- nothing taken
-pub Consumes-none : (x : Option (List ℕ)) → Consumes x x []
-Consumes-none None = tt
-Consumes-none (Some x) = refl
-
--- some bytes are at least one
-pub some_bytes : (x : List ℕ) → x ≢ [] → 0 < length x
-some_bytes [] some = absurd (some refl)
-some_bytes (b ∷ x) some = omega arith
-
 -- a fault of the reader or of memory needs no more
 pub explained : (x y : Option (List ℕ)) (f : Fault) → IsReadOrMemory f → IsReadFault x y f
 explained x y fault.Read h = tt

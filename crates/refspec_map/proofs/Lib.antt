@@ -1,4 +1,3 @@
-pub mod AllLemmas
 pub mod EntryLemmas
 pub mod FaultLemmas
 pub mod InputLemmas

@@ -6,8 +6,8 @@ use Rattle.std.proofs.lemmas.Bool.{eqb-false, true≢false}
 use Rattle.std.proofs.lemmas.List.{append-nil}
 use Rattle.gix_refspec.specs.Texts.Words.{Lacks}
 use Rattle.refspec_map.specs.Input.{newline, AreLines, ReadsToEnd, IsTooLong}
-use Rattle.refspec_map.proofs.LineLemmas.{Lacks-here, cut_once}
 use Rattle.refspec_map.proofs.OutputLemmas.{no_lines}
+use Rattle.gix_refspec_text.proofs.lemmas.lists.LacksLemmas.{Lacks-here, first_once}
 
 -- a test of each byte tells that a text lacks one
 pub Lacks-tested : (b : ℕ) (x : List ℕ) → list_any (λ c. c == b) x ≡ false → Lacks b x
@@ -24,7 +24,7 @@ pub lines_once : (ls ms : List (List ℕ)) (input : List ℕ) → AreLines ls in
 lines_once [] ms input cut other = sym (no_lines ms (subst (AreLines ms) cut other))
 lines_once (l ∷ ls) [] input cut other = no_lines (l ∷ ls) (subst (AreLines (l ∷ ls)) other cut)
 lines_once (l ∷ ls) (m ∷ ms) input (in_l, inl (rest, here, more)) (in_m, inl (after, there, later)) =
-    let once = cut_once newline l m rest after in_l in_m (sym here ∙ there) in
+    let once = first_once newline l m rest after in_l in_m (sym here ∙ there) in
     let same = lines_once ls ms after (subst (AreLines ls) once.1 more) later in
     ap (λ x. x ∷ ls) once.0 ∙ ap (λ xs. m ∷ xs) same
 lines_once (l ∷ ls) (m ∷ ms) input (in_l, inl (rest, here, more)) (in_m, inr (some, last, there)) =

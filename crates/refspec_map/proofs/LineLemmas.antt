@@ -15,36 +15,12 @@ use Rattle.gix_refspec.specs.Laws.Readings.{IdOrFault}
 use Rattle.gix_refspec.specs.Matching.Match.{Ref}
 use Rattle.refspec_map.specs.Line.{space, IsIdThen, IsRefLine, IsTagLine, spec, item, IsMalformed}
 use Rattle.refspec_map.specs.Told.{IsReadAs, IsSeenAs}
-
--- a text that lacks a byte has no place with it
-pub Lacks-here : (b : ℕ) (front back : List ℕ) → Lacks b (front ++ (b ∷ back)) → ⊥
-Lacks-here b [] back lacks = lacks.0 refl
-Lacks-here b (c ∷ front) back lacks = Lacks-here b front back lacks.1
-
--- the first place of a byte cuts a text in one way
-pub cut_once : (b : ℕ) (v w x y : List ℕ) → Lacks b v → Lacks b w → v ++ (b ∷ x) ≡ w ++ (b ∷ y) → (v ≡ w) × (x ≡ y)
-cut_once b [] [] x y in_v in_w same = (refl, ap (drop 1) same)
-cut_once b [] (d ∷ w) x y in_v in_w same = absurd (in_w.0 (sym (ap (λ l. get_or l 0 0) same)))
-cut_once b (c ∷ v) [] x y in_v in_w same = absurd (in_v.0 (ap (λ l. get_or l 0 0) same))
-cut_once b (c ∷ v) (d ∷ w) x y in_v in_w same =
-    let first : c ≡ d = ap (λ l. get_or l 0 0) same in
-    let later = cut_once b v w x y in_v.1 in_w.1 (ap (drop 1) same) in
-    (ap (λ h. h ∷ v) first ∙ ap (λ t. d ∷ t) later.0, later.1)
-
--- and so does its last place
-pub cut_last_once : (b : ℕ) (v w x y : List ℕ) → Lacks b x → Lacks b y → v ++ (b ∷ x) ≡ w ++ (b ∷ y) → (v ≡ w) × (x ≡ y)
-cut_last_once b [] [] x y in_x in_y same = (refl, ap (drop 1) same)
-cut_last_once b [] (d ∷ w) x y in_x in_y same = let rest : x ≡ w ++ (b ∷ y) = ap (drop 1) same in absurd (Lacks-here b w y (subst (Lacks b) rest in_x))
-cut_last_once b (c ∷ v) [] x y in_x in_y same = let rest : v ++ (b ∷ x) ≡ y = ap (drop 1) same in absurd (Lacks-here b v x (subst (Lacks b) (sym rest) in_y))
-cut_last_once b (c ∷ v) (d ∷ w) x y in_x in_y same =
-    let first : c ≡ d = ap (λ l. get_or l 0 0) same in
-    let later = cut_last_once b v w x y in_x in_y (ap (drop 1) same) in
-    (ap (λ h. h ∷ v) first ∙ ap (λ t. d ∷ t) later.0, later.1)
+use Rattle.gix_refspec_text.proofs.lemmas.lists.LacksLemmas.{first_once}
 
 -- a text that is cut at its first space begins with no other id, and goes on with nothing else
 pub IsIdThen-cut : (text word rest id after : List ℕ) → text ≡ word ++ (space ∷ rest) → Lacks space word → IsIdThen text id after → IsIdText word id × (rest ≡ after)
 IsIdThen-cut text word rest id after here ends is =
-    let same = cut_once space word is.word rest after ends is.ends (sym here ∙ is.here) in
+    let same = first_once space word is.word rest after ends is.ends (sym here ∙ is.here) in
     (subst (λ w. IsIdText w id) (sym same.0) is.spelled, same.1)
 
 -- a text without a space begins with no id that a space follows

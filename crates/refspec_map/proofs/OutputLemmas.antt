@@ -91,12 +91,3 @@ Completes-end op input output refusal rest empty completes =
     let whole = completes [] [] empty tt in
     subst (λ (x : List ℕ). IsCanon op input x refusal) (append-nil output)
     (subst (λ (b : Bool). IsCanon op input (output ++ []) b) (or_false refusal) whole)
-
--- what a test for emptiness tells
-pub empty_from_test : (x : List ℕ) → true ≡ (length x == 0) → x ≡ []
-empty_from_test [] test = refl
-empty_from_test (b ∷ x) test = absurd (omega (arith, eqb-true (length (b ∷ x)) 0 (sym test)))
-
--- and for bytes
-pub full_from_test : (x : List ℕ) → false ≡ (length x == 0) → x ≢ []
-full_from_test x test empty = false≢true (test ∙ ap (λ y. length y == 0) empty)

@@ -27,8 +27,9 @@ use Rattle.refspec_map.specs.Line.{Entry, reading, ref, Gives, readings_in, refs
 use Rattle.refspec_map.specs.Matching.{tab, item_text, source_text, destination_text, map_line}
 use Rattle.refspec_map.specs.Plan.{AreDistinct, IsFixLine, ShowsValidated, WritesOnce, IsOneLine}
 use Rattle.refspec_map.specs.Run.{PlanOnce, SpecIsRefused}
-use Rattle.refspec_map.proofs.AllLemmas.{all_join, all_right, all_weaker}
-use Rattle.refspec_map.proofs.LineLemmas.{cut_last_once, cut_once}
+use Rattle.gix_refspec_text.proofs.lemmas.lists.AllLemmas.{all_right, all_join, all_weaker}
+use Rattle.gix_refspec_text.proofs.lemmas.lists.EmptyLemmas.{some_bytes}
+use Rattle.gix_refspec_text.proofs.lemmas.lists.LacksLemmas.{first_once, last_once}
 
 -- ---- numbers
 
@@ -77,8 +78,8 @@ line_parts : (m n : Mapped) → HasSmallPlaces m → HasSmallPlaces n → map_li
     → (m.spec ≡ n.spec) × (m.item ≡ n.item) × (source_text m.source ++ (destination_text m.destination ++ (newline ∷ [])) ≡ source_text n.source ++ (destination_text n.destination ++ (newline ∷ [])))
 line_parts m n at_m at_n same =
     let behind = append_cancel_left (codes "map\t") _ _ same in
-    let spec = cut_once tab (decimal m.spec) (decimal n.spec) _ _ (digits_lack (decimal m.spec) (digits m.spec at_m.spec)) (digits_lack (decimal n.spec) (digits n.spec at_n.spec)) behind in
-    let item = cut_once tab (item_text m.item) (item_text n.item) _ _ (item_lacks m.item at_m.item) (item_lacks n.item at_n.item) spec.1 in
+    let spec = first_once tab (decimal m.spec) (decimal n.spec) _ _ (digits_lack (decimal m.spec) (digits m.spec at_m.spec)) (digits_lack (decimal n.spec) (digits n.spec at_n.spec)) behind in
+    let item = first_once tab (item_text m.item) (item_text n.item) _ _ (item_lacks m.item at_m.item) (item_lacks n.item at_n.item) spec.1 in
     (decimal_injective m.spec n.spec at_m.spec at_n.spec spec.0, item_once m.item n.item at_m.item at_n.item item.0, item.1)
 
 -- so it has one pair
@@ -110,7 +111,7 @@ ended_lacks t lacks = all_join (λ c. c ≢ tab) t (newline ∷ []) lacks ((λ s
 fix_once : (f h : Removed) (x y : List ℕ) → IsClearFix f → IsClearFix h → IsFixLine f x → IsFixLine h y → x ≡ y → f.destination ≡ h.destination
 fix_once f h x y clear_f clear_h (t, prints, is) (u, also, it) same =
     let behind = append_cancel_left (codes "fix\t") _ _ (sym is ∙ same ∙ it) in
-    (cut_last_once tab f.destination h.destination (t ++ (newline ∷ [])) (u ++ (newline ∷ [])) (ended_lacks t (clear_f.text tab t (omega arith) prints)) (ended_lacks u (clear_h.text tab u (omega arith) also)) behind).0
+    (last_once tab f.destination h.destination (t ++ (newline ∷ [])) (u ++ (newline ∷ [])) (ended_lacks t (clear_f.text tab t (omega arith) prints)) (ended_lacks u (clear_h.text tab u (omega arith) also)) behind).0
 
 other_fixes : (f : Removed) (x : List ℕ) → IsClearFix f → IsFixLine f x → (fixes : List Removed) (lines : List (List ℕ)) → AllZip IsFixLine fixes lines → AllByRecursion (λ h. h.destination ≢ f.destination) fixes → AllByRecursion IsClearFix fixes → AllByRecursion (λ y. y ≢ x) lines
 other_fixes f x clear is [] [] are apart clears = tt
@@ -150,10 +151,6 @@ fix_parts k (f ∷ fixes) fixed (made, rest, of, more, is) = let (lines, are, sa
 
 -- ---- the input
 
-size_of_full : (x : List ℕ) → x ≢ [] → 0 < length x
-size_of_full [] full = absurd (full refl)
-size_of_full (b ∷ x) full = omega arith
-
 -- an input has no more lines than bytes, and no more specs and refs than lines
 lines_fit : (lines : List (List ℕ)) (input : List ℕ) → AreLines lines input → length lines ≤ length input
 lines_fit [] input cut = omega arith
@@ -164,7 +161,7 @@ lines_fit (line ∷ lines) input (lacks, inl (rest, is, cut)) =
 lines_fit (line ∷ lines) input (lacks, inr (full, none, is)) =
     let size = ap length is in
     let last = ap length none in
-    let some = size_of_full line full in
+    let some = some_bytes line full in
     omega (arith, size, last, some)
 
 given_fit : (lines : List (List ℕ)) (entries : List Entry) → AllZip Gives lines entries → (length (readings_in entries) ≤ length lines) × (length (refs_in entries) ≤ length lines)

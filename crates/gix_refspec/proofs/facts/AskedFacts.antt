@@ -18,7 +18,7 @@ use Rattle.gix_refspec_text.proofs.facts.FitFacts.{blob_kind, cut_at_end, every,
 use Rattle.gix_refspec_match.proofs.facts.MatchFacts.{mapping}
 use Rattle.gix_refspec_text.proofs.facts.PrefixFacts.{bracket_cut, suffix_cut, tells}
 use Rattle.gix_refspec_text.proofs.lemmas.prefixes.PrefixLemmas.{id_not_head, one_asked}
-use Rattle.gix_refspec_text.proofs.lemmas.texts.TextLemmas.{Lacks-here}
+use Rattle.gix_refspec_text.proofs.lemmas.lists.LacksLemmas.{Lacks-here}
 
 below_heads : TellsPrefix (codes "refs/heads/") []
 below_heads = record {

@@ -23,11 +23,11 @@ use Rattle.gix_refspec.proofs.facts.AskedFacts.{lists_of_specs}
 use Rattle.gix_refspec_match.proofs.facts.CandidateFacts.{branch_and_tag, main_branch, main_tag, main_ends, main_to_x, takes_the_tag}
 use Rattle.gix_refspec.proofs.lemmas.prefixes.CoverLemmas.{joined_covers}
 use Rattle.gix_refspec_text.proofs.facts.FaultFacts.{begins_not}
-use Rattle.gix_refspec_text.proofs.lemmas.specs.FormsBackLemmas.{some_once}
 use Rattle.gix_refspec_text.proofs.facts.CoveringFacts.{below_heads, covering, not_covering}
 use Rattle.gix_refspec_text.proofs.facts.ManualFacts.{named, other_length}
 use Rattle.gix_refspec_text.proofs.facts.FitFacts.{dev_ref, every, main_ref, no_dev, origin_cut, other_byte, short, short_no_id, tag_ref}
 use Rattle.gix_refspec_match.proofs.facts.MatchFacts.{are_forward_ends, bytes_in, fetches_all_but_dev, forward_ends, taken_by, takes_no_tag, tracked, tracks_all_but_dev}
+use Rattle.std.proofs.lemmas.Option.{same_Some}
 
 abbrev group : List Reading
 group = every ∷ no_dev ∷ []
@@ -66,7 +66,7 @@ branch_taken = let hit = taken_by all_refs 0 2 (codes "main") in record { ends =
 
 no_tag_taken : ¬ (TakesItem AreForwardEnds (Takes all_refs) tag_ref every)
 no_tag_taken taken =
-    let near : taken.ends.near ≡ codes "refs/heads/*" = sym (some_once (codes "refs/heads/*") taken.ends.near taken.has.near) in
+    let near : taken.ends.near ≡ codes "refs/heads/*" = sym (same_Some (codes "refs/heads/*") taken.ends.near taken.has.near) in
     let hit : Hit = record { spec = 0; item = 1; near = codes "refs/tags/v1"; far = Some (filled (pattern (codes "refs/remotes/origin/") []) taken.word) } in
     takes_no_tag all_refs 1 hit (record {
       word = taken.word;
@@ -161,7 +161,7 @@ head_listed = (
   record { fetch = refl; source = refl; there = inl refl },
   (λ fetches. no_head fetches.there),
   (λ fetches. push_is_none fetches.fetch),
-  λ fetches. other_byte 0 (codes "main") head (λ same. omega (arith, same)) (some_once (codes "main") head fetches.source),
+  λ fetches. other_byte 0 (codes "main") head (λ same. omega (arith, same)) (same_Some (codes "main") head fetches.source),
 )
   where
     no_head : ¬ (HasName (named (codes "refs/heads/HEAD") ∷ []) head)
@@ -172,7 +172,7 @@ head_listed = (
     push_is_none same = cc
 
 every_covering : HasCoveringSource every
-every_covering = record { fetch = refl; source = λ x asked. subst IsCovering (some_once (codes "refs/heads/*") x asked.side) covering.0 }
+every_covering = record { fetch = refl; source = λ x asked. subst IsCovering (same_Some (codes "refs/heads/*") x asked.side) covering.0 }
 
 no_dev_covering : HasCoveringSource no_dev
 no_dev_covering = record { fetch = refl; source = λ x asked. absurd asked.positive }
@@ -187,7 +187,7 @@ listed_sources = (inl every_covering, inl no_dev_covering, inr (record { fetch =
 
     no_star : ¬ (IsListed (named head ∷ []) (fetched Normal (codes "*") None))
     no_star (inl covering) = not_covering.1 (covering.source (codes "*") (record { positive = tt; side = refl }))
-    no_star (inr fetches) = other_length _ _ (λ size. omega (arith, size)) (some_once (codes "*") head fetches.source)
+    no_star (inr fetches) = other_length _ _ (λ size. omega (arith, size)) (same_Some (codes "*") head fetches.source)
 
 -- what the group expands to
 expanded : AreExpansions group (codes "refs/heads/" ∷ [])

@@ -9,11 +9,11 @@ use Rattle.gix_refspec_match.specs.Matching.Hits.{AreKeptForward, AreKeptBackwar
 use Rattle.gix_refspec.specs.Laws.Matching.{MakesForward, MakesBackward, PairsId, KeptExactly, FirstStays, NothingExcluded}
 use Rattle.gix_refspec.specs.Matching.Validation.{ForwardPlaces, IsValidated, PlacesFit, Removed}
 use Rattle.gix_refspec_match.proofs.facts.CandidateFacts.{branch_and_tag, main_tag, main_ends, main_to_x, no_tags, no_other_first, not_excluded, tags_excluded, takes_the_tag, x_kind}
-use Rattle.gix_refspec_text.proofs.lemmas.specs.FormsBackLemmas.{some_once}
 use Rattle.gix_refspec_text.proofs.facts.ManualFacts.{named, other_length}
 use Rattle.gix_refspec_text.proofs.facts.ObjectIdFacts.{empty_blob}
 use Rattle.gix_refspec_text.proofs.facts.FitFacts.{below_tags, blob, blob_kind, dev_ref, every, main_ref, no_dev, short_kind, short_no_id, tag_ref}
 use Rattle.gix_refspec_match.proofs.facts.MatchFacts.{blob_mapping, bytes_in, dev_excluded, main_stays, mapping, maps_all, only_dev, tracked, tracks_all}
+use Rattle.std.proofs.lemmas.Option.{same_Some}
 
 -- whatever its places are
 abbrev tag_pair : Mapped
@@ -38,7 +38,7 @@ pair_there law kept are = (law.forward kept are tag_pair).1 ((0, main_to_x, omeg
 pub branch_unmade : ¬ (MakesForward branch_and_tag (name (codes "refs/heads/main")) (Some (codes "refs/x")) main_to_x)
 branch_unmade made =
     let (at, item, below, is, paired) = made.one in
-    let near : made.ends.near ≡ codes "main" = sym (some_once (codes "main") made.ends.near made.has.near) in
+    let near : made.ends.near ≡ codes "main" = sym (same_Some (codes "main") made.ends.near made.has.near) in
     let first : IsFirstCandidate branch_and_tag (codes "main") item.name = paired.takes.first (codes "main") (subst (λ (x : List ℕ). HasKind x (partial (codes "main"))) (sym near) short_kind) in
     no_other_first.0 (subst (IsFirstCandidate branch_and_tag (codes "main")) paired.name first)
 
@@ -153,7 +153,7 @@ no_other_item_back law rest are =
     let place : 0 ≡ fits.place = ap place_in fits.item in
     let stands : slice_get tracking 0 ≡ Some fits.ref = subst (λ (j : ℕ). slice_get tracking j ≡ Some fits.ref) (sym place) fits.stands in
     let is : named (codes "refs/remotes/origin/dev-a") ≡ fits.ref = cc in
-    let same : codes "refs/remotes/origin/main" ≡ fits.ref.name = some_once (codes "refs/remotes/origin/main") fits.ref.name fits.named in
+    let same : codes "refs/remotes/origin/main" ≡ fits.ref.name = same_Some (codes "refs/remotes/origin/main") fits.ref.name fits.named in
     other_length (codes "refs/remotes/origin/main") (codes "refs/remotes/origin/dev-a") (λ size. omega (arith, size)) (same ∙ ap (λ (x : Ref). x.name) (sym is))
 
 -- what survives a validation has places that fit, where they fitted before

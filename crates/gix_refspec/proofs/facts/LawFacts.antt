@@ -32,7 +32,6 @@ use Rattle.gix_refspec_text.proofs.lemmas.texts.TextLemmas.{Lacks-Holds}
 use Rattle.gix_refspec_text.proofs.lemmas.texts.TestedLemmas.{IsName-tested}
 use Rattle.gix_refspec_text.proofs.lemmas.hits.MatchLemmas.{outside_none}
 use Rattle.gix_refspec_text.proofs.lemmas.parsing.ReadOnceLemmas.{reads_once}
-use Rattle.gix_refspec_text.proofs.lemmas.specs.FormsBackLemmas.{some_once}
 use Rattle.gix_refspec_text.proofs.facts.ManualFacts.{Lacks-tested, IsPattern-tested, other_length, none_some, named, no_sign}
 use Rattle.gix_refspec_text.proofs.facts.FaultFacts.{begins_not}
 use Rattle.gix_refspec_text.proofs.facts.UnreadFacts.{unbalanced_fetches}
@@ -41,6 +40,7 @@ use Rattle.gix_refspec.proofs.facts.ValidationFacts.{both_to_x, foo_fix, validat
 use Rattle.gix_refspec_text.proofs.facts.FitFacts.{every, no_dev, short, short_kind, other_byte, other_first, push_is_none}
 use Rattle.gix_refspec_match.proofs.facts.MatchFacts.{bytes_in, mapping, tracked, fetches_all_but_dev, tracks_all_but_dev, tracks_nothing, tag_to_x, tag_to_foo, tag_alone}
 use Rattle.gix_refspec_text.proofs.facts.CoveringFacts.{below_heads, covering, not_covering}
+use Rattle.std.proofs.lemmas.Option.{same_Some}
 
 -- ---- both directions
 
@@ -52,12 +52,12 @@ starred_end before = record { before = before; after = []; here = refl }
 pub go_both_ways : GoesBothWays every × GoesBothWays (fetched Normal (codes "refs/heads/a") (Some (codes "refs/x/a"))) × GoesBothWays short × GoesBothWays no_dev
 go_both_ways = (
   (λ positive s d is_s is_d. inl (
-    subst HasStar (some_once (codes "refs/heads/*") s is_s) (starred_end (codes "refs/heads/")),
-    subst HasStar (some_once (codes "refs/remotes/origin/*") d is_d) (starred_end (codes "refs/remotes/origin/")),
+    subst HasStar (same_Some (codes "refs/heads/*") s is_s) (starred_end (codes "refs/heads/")),
+    subst HasStar (same_Some (codes "refs/remotes/origin/*") d is_d) (starred_end (codes "refs/remotes/origin/")),
   )),
   (λ positive s d is_s is_d. inr (
-    subst (BeginsWith (codes "refs/")) (some_once (codes "refs/heads/a") s is_s) (record { after = codes "heads/a"; here = refl }),
-    subst (BeginsWith (codes "refs/")) (some_once (codes "refs/x/a") d is_d) (record { after = codes "x/a"; here = refl }),
+    subst (BeginsWith (codes "refs/")) (same_Some (codes "refs/heads/a") s is_s) (record { after = codes "heads/a"; here = refl }),
+    subst (BeginsWith (codes "refs/")) (same_Some (codes "refs/x/a") d is_d) (record { after = codes "x/a"; here = refl }),
   )),
   (λ positive s d is_s is_d. absurd (none_some d is_d)),
   (λ positive. absurd positive),
@@ -99,7 +99,7 @@ reads_unforced =
 pub reads_no_force : ¬ (ReadsAgainAs (fetched Forced (codes "main") None) (fetched Forced (codes "main") None))
 unfolding reads_unforced
 reads_no_force again =
-    let reads = subst (λ (x : List ℕ). Reads Fetch x (fetched Forced (codes "main") None)) (sym (some_once (codes "main") again.text again.is)) again.reads in
+    let reads = subst (λ (x : List ℕ). Reads Fetch x (fetched Forced (codes "main") None)) (sym (same_Some (codes "main") again.text again.is)) again.reads in
     forced_no_normal (ap (λ (r : Reading). r.mode) (reads_once Fetch (codes "main") (fetched Forced (codes "main") None) short reads reads_unforced.reads))
   where
     forced_no_normal : Forced ≢ Normal
@@ -166,7 +166,7 @@ one_reading : (q r : Reading) → Some q ≡ Some r → q ≡ r
 one_reading q r same = cc
 
 every_covering : HasCoveringSource every
-every_covering = record { fetch = refl; source = λ x asked. subst IsCovering (some_once (codes "refs/heads/*") x asked.side) covering.0 }
+every_covering = record { fetch = refl; source = λ x asked. subst IsCovering (same_Some (codes "refs/heads/*") x asked.side) covering.0 }
 
 -- `HEAD` asks for the name `HEAD`, and for no other
 abbrev head_spec : Reading
@@ -333,11 +333,11 @@ said_for r law d means = sym (law (push_delete d) means)
 pub read_back_once : ReadsBack Fetch (codes "+main") → Reads Fetch (codes "+main") (fetched Forced (codes "main") None) → (q : Reading) → Reads Fetch (codes "main") q → meaning_of q ≡ Some (fetch_only (codes "main"))
 read_back_once law reads q again =
     let back = law (fetched Forced (codes "main") None) reads in
-    let text = some_once (codes "main") back.text back.is in
+    let text = same_Some (codes "main") back.text back.is in
     ap meaning_of (back.again.only q (subst (λ (x : List ℕ). Reads Fetch x q) text again)) ∙ back.same
 
 pub reads_its_text : IsPrintedBack Fetch (fetched Forced (codes "main") None) → (q : Reading) × Reads Fetch (codes "main") q
-reads_its_text back = (back.again.reading, subst (λ (x : List ℕ). Reads Fetch x back.again.reading) (sym (some_once (codes "main") back.text back.is)) back.again.reads)
+reads_its_text back = (back.again.reading, subst (λ (x : List ℕ). Reads Fetch x back.again.reading) (sym (same_Some (codes "main") back.text back.is)) back.again.reads)
 
 -- readings with one text mean the same, where they are for one operation; a fetch and a push never do
 pub equal_by_texts : (r q : Reading) → EqualReadings r q → (r.operation ≡ q.operation → printed r ≡ printed q → meaning_of r ≡ meaning_of q) × (meaning_of r ≡ meaning_of q → (r.operation ≡ q.operation) × (printed r ≡ printed q))
@@ -379,7 +379,7 @@ pub read_again : AreReadAgain (fetched Forced (codes "main") None ∷ short ∷ 
 read_again = ((reads_unforced, (reads_itself, tt)), (λ none. none), (λ none. none), λ again. no_push_again None None short again.0)
   where
     reads_itself : ReadsAgainAs short short
-    reads_itself = let again = reads_unforced in record { fetch = refl; text = codes "main"; is = refl; reads = subst (λ (x : List ℕ). Reads Fetch x short) (sym (some_once (codes "main") again.text again.is)) again.reads }
+    reads_itself = let again = reads_unforced in record { fetch = refl; text = codes "main"; is = refl; reads = subst (λ (x : List ℕ). Reads Fetch x short) (sym (same_Some (codes "main") again.text again.is)) again.reads }
 
 -- groups map alike in both directions, each as the other does
 pub all_alike : (g h : List Reading) (items : List Ref) → MapAlike g h items → (kept : List Mapped) → (AreKeptForward h items kept → AreKeptForward g items kept) × (AreKeptBackward g items kept → AreKeptBackward h items kept)
@@ -407,7 +407,7 @@ not_covered law = (by_every, by_none)
     by_every : ¬ (IsCoveredBy (codes "refs/tags/v1") every)
     by_every covers = elim covers.expansion [
       | inl (x, asked, expands) ↦
-          let of_source = subst (λ (y : List ℕ). Expands y covers.entries) (sym (some_once (codes "refs/heads/*") x asked.side)) expands in
+          let of_source = subst (λ (y : List ℕ). Expands y covers.entries) (sym (same_Some (codes "refs/heads/*") x asked.side)) expands in
           let same = law.expanded covers.entries (codes "refs/heads/" ∷ []) of_source (to_prefix (codes "refs/heads/") below_heads refl) in
           outside (subst (λ (l : List (List ℕ)). BeginsWithOne l (codes "refs/tags/v1")) same covers.one)
       | inr (none, same) ↦ none (codes "refs/heads/*") (record { positive = tt; side = refl })

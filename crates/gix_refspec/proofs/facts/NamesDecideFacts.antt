@@ -10,11 +10,11 @@ use Rattle.gix_refspec_text.specs.Specs.Grammar.{fetched}
 use Rattle.gix_refspec_match.specs.Matching.Mappings.{Mapped}
 use Rattle.gix_refspec_match.specs.Matching.Hits.{AreKeptForward, AreKeptBackward}
 use Rattle.gix_refspec.specs.Laws.Items.{AsksForNoId, HasIdDestination, HaveSameNames, NamesDecide, NamesDecideBack}
-use Rattle.gix_refspec_text.proofs.lemmas.specs.FormsBackLemmas.{some_once}
 use Rattle.gix_refspec_text.proofs.facts.ManualFacts.{named, none_some, other_length}
 use Rattle.gix_refspec_text.proofs.facts.ObjectIdFacts.{empty_blob, IsIdText-empty_blob}
 use Rattle.gix_refspec_text.proofs.facts.FitFacts.{blob_kind, dev_ref, every, main_ref, no_dev, tag_ref}
 use Rattle.gix_refspec_match.proofs.facts.MatchFacts.{fetches_all_but_dev, tracked}
+use Rattle.std.proofs.lemmas.Option.{same_Some}
 
 -- a ref of a name, with other ids than the example has
 abbrev moved : List ℕ → Ref
@@ -42,7 +42,7 @@ ids_asked_for = (
     no_digits Sha256 same = omega (arith, same)
 
     no_id : ¬ (HasIdDestination to_x)
-    no_id (text, is, (bytes, spelled)) = no_digits spelled.kind (ap length (some_once (codes "refs/x") text is) ∙ spelled.digits)
+    no_id (text, is, (bytes, spelled)) = no_digits spelled.kind (ap length (same_Some (codes "refs/x") text is) ∙ spelled.digits)
 
 pub names_alone_back : NamesDecideBack (no_dev ∷ to_x ∷ []) (main_ref ∷ []) → (l : List Mapped) → AreKeptBackward (no_dev ∷ to_x ∷ []) (main_ref ∷ []) l → AreKeptBackward (no_dev ∷ to_x ∷ []) (moved main_ref.name ∷ []) l
 names_alone_back law l kept = law ids_asked_for.0 (moved main_ref.name ∷ []) refl l kept

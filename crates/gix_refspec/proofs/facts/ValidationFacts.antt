@@ -13,10 +13,10 @@ use Rattle.gix_refspec_match.specs.Matching.Mappings.{name, Mapped, HasPair}
 use Rattle.gix_refspec.specs.Matching.Validation.{IndexesFit, HasConflictAt, IsFirstTo, IsTextAt, Conflict, IsConflict, AreConflicts, IsWritable, Survives, AreSurvivors, Removed, IsFix, AreFixes, IsValidated, HaveOneSource, MeetAt, NeverMeet}
 use Rattle.gix_refspec.proofs.lemmas.validate.ConflictLemmas.{no_conflicts}
 use Rattle.gix_refspec_match.proofs.lemmas.lists.JoinLemmas.{nothing_made}
-use Rattle.gix_refspec_text.proofs.lemmas.specs.FormsBackLemmas.{some_once}
 use Rattle.gix_refspec_text.proofs.facts.ManualFacts.{other_length, none_some}
 use Rattle.gix_refspec_text.proofs.facts.FitFacts.{other_byte, of_element}
 use Rattle.gix_refspec_match.proofs.facts.MatchFacts.{bytes_in, mapping, tag_to_x, branch_to_x, tag_again, tag_to_foo, tag_alone, pairs}
+use Rattle.std.proofs.lemmas.Option.{same_Some}
 
 -- specs whose patterns meet below `refs/x/`, the second of which is forced
 abbrev pub both_to_x : List Reading
@@ -41,7 +41,7 @@ conflict = record {
 at_x_or_y : (d : List ℕ) (m : Mapped) → Contains meeting m → m.destination ≡ Some d → (d ≡ codes "refs/x/a") ⊎ (m ≡ branch_to_y)
 at_x_or_y d m has to =
     elim (of_element (λ n. (n.destination ≡ Some (codes "refs/x/a")) ⊎ (n ≡ branch_to_y)) meeting m (inr refl, (inl refl, (inl refl, (inl refl, tt)))) has) [
-      | inl x ↦ inl (some_once d (codes "refs/x/a") (sym to ∙ x))
+      | inl x ↦ inl (same_Some d (codes "refs/x/a") (sym to ∙ x))
       | inr y ↦ inr y
     ]
 
@@ -66,7 +66,7 @@ at_x = record {
 }
 
 not_to_x : (k : ℕ) → ¬ (IsFirstTo (codes "refs/x/a") meeting k branch_to_y)
-not_to_x k first = other_byte 7 (codes "refs/x/b") (codes "refs/x/a") (λ byte. omega (arith, byte)) (some_once (codes "refs/x/b") (codes "refs/x/a") first.goes)
+not_to_x k first = other_byte 7 (codes "refs/x/b") (codes "refs/x/a") (λ byte. omega (arith, byte)) (same_Some (codes "refs/x/b") (codes "refs/x/a") first.goes)
 
 not_first : ¬ (IsFirstTo (codes "refs/x/a") meeting 3 tag_again)
 not_first first = first.first (inr (inl pairs.0))
@@ -189,7 +189,7 @@ validated = record {
   fixed = (
     None,
     foo_fix ∷ [],
-    (λ fix made. made.unwritable (subst IsWritable (some_once (codes "refs/x/a") fix.destination made.goes) (inl (record { after = codes "x/a"; here = refl })))),
+    (λ fix made. made.unwritable (subst IsWritable (same_Some (codes "refs/x/a") fix.destination made.goes) (inl (record { after = codes "x/a"; here = refl })))),
     (
       Some foo_fix,
       [],
@@ -220,7 +220,7 @@ meet = (
   (λ one. at_x.differ (one tag_to_x branch_to_x (codes "refs/x/a") at_x.has_one at_x.has_other refl refl)),
   (
     (
-      (λ at. other_length _ _ (λ size. omega (arith, size)) (some_once (codes "refs/x/a") (codes "foo") (at.1 ∙ sym at.2))),
+      (λ at. other_length _ _ (λ size. omega (arith, size)) (same_Some (codes "refs/x/a") (codes "foo") (at.1 ∙ sym at.2))),
       ((λ at. none_some at.0 at.2), ((λ at. none_some at.0 at.2), tt)),
     ),
     (
@@ -248,7 +248,7 @@ texts_at = (
     at_one : ¬ (IsTextAt both_to_x 1 (codes "refs/tags/*:refs/x/*"))
     at_one (r, is, prints) =
         let r_is : fetched Forced (codes "refs/heads/*") (Some (codes "refs/x/*")) ≡ r = cc in
-        other_length _ _ (λ size. omega (arith, size)) (some_once (codes "+refs/heads/*:refs/x/*") (codes "refs/tags/*:refs/x/*") (ap printed r_is ∙ prints))
+        other_length _ _ (λ size. omega (arith, size)) (same_Some (codes "+refs/heads/*:refs/x/*") (codes "refs/tags/*:refs/x/*") (ap printed r_is ∙ prints))
 
 -- a destination in conflict is a conflict, so there is no validation, and no list without it
 pub no_less : ¬ (AreConflicts both_to_x meeting []) × ((rest : List Mapped) (fixes : List Removed) → ¬ (IsValidated both_to_x meeting rest fixes))
@@ -276,7 +276,7 @@ survivors = (
 pub fixes : IsFix both_to_x tag_to_foo foo_fix × ((fix : Removed) → ¬ (IsFix both_to_x tag_to_x fix) × ¬ (IsFix both_to_x tag_alone fix)) × ¬ (IsFix both_to_x tag_to_foo (record { destination = codes "foo"; spec = fetched Normal (codes "refs/tags/*") (Some (codes "refs/x/*")) })) × ¬ (AreFixes both_to_x (tag_to_foo ∷ []) [])
 fixes = (
   foo,
-  (λ fix. ((λ is. is.unwritable (subst IsWritable (some_once (codes "refs/x/a") fix.destination is.goes) (inl (record { after = codes "x/a"; here = refl })))), λ is. none_some fix.destination is.goes)),
+  (λ fix. ((λ is. is.unwritable (subst IsWritable (same_Some (codes "refs/x/a") fix.destination is.goes) (inl (record { after = codes "x/a"; here = refl })))), λ is. none_some fix.destination is.goes)),
   (λ is. forced_normal is.spec),
   λ are. nothing_made (λ k m fix. IsFix both_to_x m fix) 0 [] tag_to_foo [] foo_fix are foo,
 )
@@ -291,6 +291,6 @@ fixes = (
 pub meetings : MeetAt tag_to_x branch_to_x × ¬ (MeetAt tag_to_x tag_to_foo) × ¬ (MeetAt tag_alone tag_alone)
 meetings = (
   (codes "refs/x/a", refl, refl),
-  (λ at. other_length _ _ (λ size. omega (arith, size)) (some_once (codes "refs/x/a") (codes "foo") (at.1 ∙ sym at.2))),
+  (λ at. other_length _ _ (λ size. omega (arith, size)) (same_Some (codes "refs/x/a") (codes "foo") (at.1 ∙ sym at.2))),
   λ at. none_some at.0 at.1,
 )

@@ -11,11 +11,11 @@ use Rattle.gix_refspec_match.specs.Matching.Mappings.{Mapped, IsExcluded, HasPai
 use Rattle.gix_refspec_match.specs.Matching.Hits.{Ends, AreForwardEnds, Hit, IsHit, AreSpecHits, IsIdMapping, AreKeptForward, AreKeptBackward}
 use Rattle.gix_refspec_text.specs.Laws.Readings.{FirstCandidate}
 use Rattle.gix_refspec_text.proofs.lemmas.hits.CandidateLemmas.{first_once, taken_by_first}
-use Rattle.gix_refspec_text.proofs.lemmas.specs.FormsBackLemmas.{some_once}
 use Rattle.gix_refspec_text.proofs.facts.ManualFacts.{Lacks-tested, other_length, named}
 use Rattle.gix_refspec_text.proofs.facts.FitFacts.{below_tags, short_kind, short_no_id}
 use Rattle.gix_refspec_match.proofs.facts.MatchFacts.{mapping}
 use Rattle.gix_refspec_text.proofs.facts.SideFacts.{partial_matches}
+use Rattle.std.proofs.lemmas.Option.{same_Some}
 
 -- a branch and a tag of one name, and the name by itself
 abbrev pub main_branch : Ref
@@ -142,7 +142,7 @@ main_hits : AreSpecHits AreForwardEnds (Takes branch_and_tag) branch_and_tag 0 m
 main_hits = inl (main_ends, record { positive = tt; near = refl; far = refl; no_object = λ bytes kind. short_no_id bytes kind.2 }, (None, tag_hit ∷ [], branch_not_taken, (Some tag_hit, [], tag_taken, refl, refl), refl))
 
 no_main_id : (m : Mapped) → ¬ (IsIdMapping 0 main_to_x m)
-no_main_id m made = short_no_id made.bytes (subst (λ (x : List ℕ). IsIdText x made.bytes) (sym (some_once (codes "main") made.text made.side)) made.object.2)
+no_main_id m made = short_no_id made.bytes (subst (λ (x : List ℕ). IsIdText x made.bytes) (sym (same_Some (codes "main") made.text made.side)) made.object.2)
 
 normal_no_negative : Normal ≢ Negative
 normal_no_negative same = cc
@@ -202,7 +202,7 @@ q_not_excluded n (inl by) = absurd (normal_no_negative by.negative)
 q_not_excluded n (inr none) = none
 
 no_branch_pair : ¬ (HasPair (mapping 0 (codes "refs/q") (Some (codes "refs/heads/main")) 0 ∷ []) (mapping 1 (codes "refs/q") (Some (codes "refs/tags/main")) 0))
-no_branch_pair (inl same) = no_tag (some_once (codes "refs/tags/main") (codes "refs/heads/main") (sym same.destination))
+no_branch_pair (inl same) = no_tag (same_Some (codes "refs/tags/main") (codes "refs/heads/main") (sym same.destination))
 no_branch_pair (inr none) = none
 
 -- the branch and the tag are both mapped back, in the order of the list

@@ -13,13 +13,13 @@ use Rattle.gix_refspec_match.specs.Matching.Mappings.{name, id, Mapped, IsExclud
 use Rattle.gix_refspec_match.specs.Matching.Hits.{Ends, AreForwardEnds, AreBackwardEnds, IsFilled, Hit, IsHit, AreSpecHits, AreHits, forward_of, backward_of, IsIdMapping, AreBackward}
 use Rattle.gix_refspec_text.specs.Matching.Prefix.{of_name}
 use Rattle.gix_refspec_text.proofs.lemmas.hits.MatchLemmas.{prefix_begins}
-use Rattle.gix_refspec_text.proofs.lemmas.specs.FormsBackLemmas.{some_once}
 use Rattle.gix_refspec_text.proofs.facts.ManualFacts.{Lacks-tested, other_length, none_some, some_none}
 use Rattle.gix_refspec_match.proofs.lemmas.lists.JoinLemmas.{nothing_made}
 use Rattle.gix_refspec_text.proofs.facts.FaultFacts.{begins_not}
 use Rattle.gix_refspec_text.proofs.facts.ObjectIdFacts.{empty_blob}
 use Rattle.gix_refspec_text.proofs.facts.FitFacts.{every, no_dev, short, blob, blob_kind, short_no_id, dev_ref, main_ref}
 use Rattle.gix_refspec_match.proofs.facts.MatchFacts.{blob_mapping, mapping, tag_to_x, tag_again, dev_excluded, forward_ends, backward_ends, are_forward_ends, hit_by, taken_by}
+use Rattle.std.proofs.lemmas.Option.{same_Some}
 
 -- ---- exclusions
 
@@ -65,10 +65,10 @@ forward_ends_of = (
   record { positive = tt; near = refl; far = refl; no_object = λ bytes kind. kind.1 (record { after = codes "x/a"; here = refl }) },
   (λ ends. (
     (λ are. are.positive),
-    (λ are. are.no_object empty_blob (subst (λ (x : List ℕ). HasKind x (object empty_blob)) (some_once (codes "e69de29bb2d1d6434b8b29ae775ad8c2e48c5391") ends.near are.near) blob_kind)),
+    (λ are. are.no_object empty_blob (subst (λ (x : List ℕ). HasKind x (object empty_blob)) (same_Some (codes "e69de29bb2d1d6434b8b29ae775ad8c2e48c5391") ends.near are.near) blob_kind)),
     λ are. none_some ends.near are.near,
   )),
-  (λ are. other_length _ _ (λ size. omega (arith, size)) (some_once (codes "refs/heads/*") (codes "refs/remotes/origin/*") are.near)),
+  (λ are. other_length _ _ (λ size. omega (arith, size)) (same_Some (codes "refs/heads/*") (codes "refs/remotes/origin/*") are.near)),
   λ are. some_none (codes "refs/remotes/origin/*") are.far,
 )
 
@@ -88,7 +88,7 @@ backward_ends_of = (
     (λ are. false≢true (subst (λ (far : Option (List ℕ)). is_some far ≡ true) (sym are.far) are.both)),
     λ are. are.positive,
   )),
-  λ are. other_length _ _ (λ size. omega (arith, size)) (some_once (codes "refs/remotes/origin/*") (codes "refs/heads/*") are.near),
+  λ are. other_length _ _ (λ size. omega (arith, size)) (same_Some (codes "refs/remotes/origin/*") (codes "refs/heads/*") are.near),
 )
 
 -- ---- hits
@@ -138,7 +138,7 @@ spec_hits = (missing, inr ((λ ends are. are.positive), refl), added)
   where
     missing : ¬ (AreSpecHits AreForwardEnds (Takes (main_ref ∷ [])) (main_ref ∷ []) 0 every [])
     missing (inl (ends, are, made)) =
-        let near = some_once (codes "refs/heads/*") ends.near are.near in
+        let near = same_Some (codes "refs/heads/*") ends.near are.near in
         let is = taken_by (main_ref ∷ []) 0 0 (codes "main") in
         nothing_made (IsHit (Takes (main_ref ∷ [])) ends 0) 0 [] main_ref [] (hit_by 0 0 (codes "main")) made (record {
           word = is.word;
@@ -171,7 +171,7 @@ id_mappings = (
   record { positive = tt; text = codes "e69de29bb2d1d6434b8b29ae775ad8c2e48c5391"; bytes = empty_blob; side = refl; object = blob_kind; item = refl; source = refl; destination = refl; spec = refl },
   (λ made. omega (arith, made.spec)),
   (λ made. item_no_none made.item),
-  (λ m. ((λ made. made.positive), λ made. short_no_id made.bytes (subst (λ (x : List ℕ). IsIdText x made.bytes) (sym (some_once (codes "main") made.text made.side)) made.object.2))),
+  (λ m. ((λ made. made.positive), λ made. short_no_id made.bytes (subst (λ (x : List ℕ). IsIdText x made.bytes) (sym (same_Some (codes "main") made.text made.side)) made.object.2))),
   λ made. name_no_id made.bytes made.source,
 )
   where

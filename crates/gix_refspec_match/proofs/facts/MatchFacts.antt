@@ -16,10 +16,10 @@ use Rattle.gix_refspec_match.specs.Matching.Hits.{Ends, AreForwardEnds, AreBackw
 use Rattle.gix_refspec_text.specs.Matching.Prefix.{of_pattern}
 use Rattle.gix_refspec_text.proofs.lemmas.hits.CandidateLemmas.{first_of_one, taken_by_first}
 use Rattle.gix_refspec_text.proofs.lemmas.hits.MatchLemmas.{lacks_no_pattern, prefix_begins}
-use Rattle.gix_refspec_text.proofs.lemmas.specs.FormsBackLemmas.{some_once}
 use Rattle.gix_refspec_text.proofs.facts.ManualFacts.{Lacks-tested, other_length, none_some, some_none, named}
 use Rattle.gix_refspec_text.proofs.facts.ObjectIdFacts.{empty_blob}
 use Rattle.gix_refspec_text.proofs.facts.FitFacts.{other_byte, excludes_dev, excludes_no_main, every, no_dev, dev_ref, tag_ref, main_ref, heads_cut, origin_cut, short, blob, below_tags, blob_kind, short_no_id, short_kind}
+use Rattle.std.proofs.lemmas.Option.{same_Some}
 
 -- ---- sides
 
@@ -34,7 +34,7 @@ heads_below = record { after = codes "heads/*"; here = refl }
 
 -- a source below `refs/` is no id
 no_id_mapping : (k : ℕ) (r : Reading) (x : List ℕ) → r.source ≡ Some x → BeginsWith (codes "refs/") x → (m : Mapped) → ¬ (IsIdMapping k r m)
-no_id_mapping k r x is below m made = made.object.1 (subst (BeginsWith (codes "refs/")) (some_once x made.text (sym is ∙ made.side)) below)
+no_id_mapping k r x is below m made = made.object.1 (subst (BeginsWith (codes "refs/")) (same_Some x made.text (sym is ∙ made.side)) below)
 
 no_id_negative : (k : ℕ) (r : Reading) → r.mode ≡ Negative → (m : Mapped) → ¬ (IsIdMapping k r m)
 no_id_negative k r negative m made = subst IsPositive negative made.positive
@@ -88,7 +88,7 @@ forced_no_negative same = cc
 -- no spec of the group excludes a branch that doesn't begin so
 pub main_stays : ¬ (IsStartExcluded (every ∷ no_dev ∷ []) (name (codes "refs/heads/main")))
 main_stays (inl by) = absurd (forced_no_negative by.negative)
-main_stays (inr (inl by)) = excludes_no_main (subst (λ (x : List ℕ). Excludes x (codes "refs/heads/main")) (sym (some_once (codes "refs/heads/dev-*") by.text by.source)) by.excludes)
+main_stays (inr (inl by)) = excludes_no_main (subst (λ (x : List ℕ). Excludes x (codes "refs/heads/main")) (sym (same_Some (codes "refs/heads/dev-*") by.text by.source)) by.excludes)
 main_stays (inr (inr none)) = none
 
 pub dev_excluded : IsExcluded (every ∷ no_dev ∷ []) (codes "refs/heads/dev-a")
@@ -234,7 +234,7 @@ pub pairs : IsSamePair tag_to_x tag_again × ¬ (IsSamePair tag_to_x branch_to_x
 pairs = (
   record { source = refl; destination = refl },
   (λ same. other_byte 5 (codes "refs/tags/a") (codes "refs/heads/a") (λ byte. omega (arith, byte)) (ap bytes_in same.source)),
-  (λ same. other_length _ _ (λ size. omega (arith, size)) (some_once (codes "refs/x/a") (codes "foo") same.destination)),
+  (λ same. other_length _ _ (λ size. omega (arith, size)) (same_Some (codes "refs/x/a") (codes "foo") same.destination)),
   (λ same. some_none (codes "refs/x/a") same.destination),
 )
 
@@ -273,7 +273,7 @@ asks_for_ids_first =
         are_ids = (
           None,
           blob_mapping ∷ [],
-          (λ m made. short_no_id made.bytes (subst (λ (x : List ℕ). IsIdText x made.bytes) (sym (some_once (codes "main") made.text made.side)) made.object.2)),
+          (λ m made. short_no_id made.bytes (subst (λ (x : List ℕ). IsIdText x made.bytes) (sym (same_Some (codes "main") made.text made.side)) made.object.2)),
           (
             Some blob_mapping,
             [],
@@ -307,7 +307,7 @@ asks_for_ids_first =
           (
             [],
             [],
-            inr ((λ other has. has.no_object empty_blob (subst (λ (x : List ℕ). HasKind x (object empty_blob)) (some_once (codes "e69de29bb2d1d6434b8b29ae775ad8c2e48c5391") other.near has.near) blob_kind)), refl),
+            inr ((λ other has. has.no_object empty_blob (subst (λ (x : List ℕ). HasKind x (object empty_blob)) (same_Some (codes "e69de29bb2d1d6434b8b29ae775ad8c2e48c5391") other.near has.near) blob_kind)), refl),
             refl,
             refl,
           ),

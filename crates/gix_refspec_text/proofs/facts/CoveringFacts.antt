@@ -5,11 +5,11 @@ use Rattle.gix_refspec_text.specs.Specs.Reading.{Normal}
 use Rattle.gix_refspec_text.specs.Specs.Grammar.{pushed}
 use Rattle.gix_refspec_text.specs.Matching.Prefix.{IsPrefix, of_head, of_name, of_pattern}
 use Rattle.gix_refspec_text.specs.Laws.Covering.{IsCovering, by_prefix, by_candidates, HasCoveringSource}
-use Rattle.gix_refspec_text.proofs.lemmas.texts.TextLemmas.{Lacks-here}
 use Rattle.gix_refspec_text.proofs.lemmas.hits.MatchLemmas.{cut_once}
-use Rattle.gix_refspec_text.proofs.lemmas.specs.FormsBackLemmas.{some_once}
 use Rattle.gix_refspec_text.proofs.facts.ManualFacts.{Lacks-tested, other_length}
 use Rattle.gix_refspec_text.proofs.facts.FitFacts.{cut_at_end, no_dev, short, short_kind, other_byte, other_first, push_is_none}
+use Rattle.std.proofs.lemmas.Option.{same_Some}
+use Rattle.gix_refspec_text.proofs.lemmas.lists.LacksLemmas.{Lacks-here}
 
 -- the prefix of a pattern
 pub below_heads : IsPrefix (codes "refs/heads/*") (codes "refs/heads/")
@@ -53,6 +53,6 @@ not_covering = (no_head, no_star, no_refs)
 pub covering_sources : HasCoveringSource no_dev × HasCoveringSource short × ¬ (HasCoveringSource (pushed Normal (Some (codes "main")) None))
 covering_sources = (
   record { fetch = refl; source = λ x asked. absurd asked.positive },
-  record { fetch = refl; source = λ x asked. subst IsCovering (some_once (codes "main") x asked.side) covering.2 },
+  record { fetch = refl; source = λ x asked. subst IsCovering (same_Some (codes "main") x asked.side) covering.2 },
   λ has. push_is_none has.fetch,
 )

@@ -13,10 +13,10 @@ use Rattle.gix_refspec_text.specs.Specs.Reading.{Normal, Forced, Negative, Readi
 use Rattle.gix_refspec_text.specs.Specs.Grammar.{fetched}
 use Rattle.gix_refspec_text.specs.Matching.Side.{pattern, full_name, object, partial, HasKind, Fits, Excludes, the_name, by_pattern, filled}
 use Rattle.gix_refspec_text.specs.Matching.Match.{Ref}
-use Rattle.gix_refspec_text.proofs.lemmas.texts.TextLemmas.{Lacks-here}
 use Rattle.gix_refspec_text.proofs.lemmas.hits.MatchLemmas.{cut_once, lacks_no_pattern}
 use Rattle.gix_refspec_text.proofs.facts.ManualFacts.{Lacks-tested, other_length, named}
 use Rattle.gix_refspec_text.proofs.facts.ObjectIdFacts.{empty_blob, IsIdText-empty_blob, lower_of-empty_blob}
+use Rattle.gix_refspec_text.proofs.lemmas.lists.LacksLemmas.{Lacks-here}
 
 -- texts that differ at a place differ
 pub other_byte : (k : ℕ) (x y : List ℕ) → get_or x k 0 ≢ get_or y k 0 → x ≢ y

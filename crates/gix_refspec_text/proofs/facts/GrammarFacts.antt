@@ -15,13 +15,14 @@ use Rattle.gix_refspec_text.specs.Specs.Grammar.{IsUnsigned, IsSigned, with_colo
 use Rattle.gix_refspec_text.specs.declared.name.Error.TheVariants.{Asterisk, InvalidByte}
 use Rattle.gix_refspec_text.specs.Texts.Name.{is_refused_byte, HasFault, IsName, IsPattern}
 use Rattle.gix_refspec_text.proofs.lemmas.parsing.ReadOnceLemmas.{reads_once}
-use Rattle.gix_refspec_text.proofs.lemmas.specs.FormsBackLemmas.{some_once}
-use Rattle.gix_refspec_text.proofs.lemmas.texts.TextLemmas.{Lacks-here, Lacks-Holds}
+use Rattle.gix_refspec_text.proofs.lemmas.texts.TextLemmas.{Lacks-Holds}
 use Rattle.gix_refspec_text.proofs.lemmas.parsing.SideLemmas.{HasStar-pattern}
 use Rattle.gix_refspec_text.proofs.facts.FitFacts.{other_byte}
 use Rattle.gix_refspec_text.proofs.lemmas.texts.TestedLemmas.{is_suspect, IsName-tested}
 use Rattle.gix_refspec_text.proofs.facts.ManualFacts.{Lacks-tested, IsPattern-tested, full, none_some, some_none, other_length, no_sign}
 use Rattle.gix_refspec_text.proofs.facts.RefusalFacts.{too_short}
+use Rattle.std.proofs.lemmas.Option.{same_Some}
+use Rattle.gix_refspec_text.proofs.lemmas.lists.LacksLemmas.{Lacks-here}
 
 -- ---- texts and their parts
 
@@ -275,7 +276,7 @@ no_destination_read = (
 -- `@` isn't read as it is; a sign is no part of a name; and a push isn't cut at its first colon
 pub no_other_source_read : ¬ (Reads Fetch (codes "@") (fetched Normal (codes "@") None)) × ¬ (Reads Fetch (codes "+main") (fetched Normal (codes "+main") None)) × ¬ (Reads Push (codes ":/message:refs/heads/x") (pushed Normal None (Some (codes "/message:refs/heads/x"))))
 no_other_source_read = (
-  no_other Fetch (codes "@") _ _ fetches_main.3 (other_source _ _ (λ same. other_length (codes "HEAD") (codes "@") (λ size. omega (arith, size)) (some_once _ _ same))),
-  no_other Fetch (codes "+main") _ _ fetches_main.1 (other_source _ _ (λ same. other_length (codes "main") (codes "+main") (λ size. omega (arith, size)) (some_once _ _ same))),
+  no_other Fetch (codes "@") _ _ fetches_main.3 (other_source _ _ (λ same. other_length (codes "HEAD") (codes "@") (λ size. omega (arith, size)) (same_Some _ _ same))),
+  no_other Fetch (codes "+main") _ _ fetches_main.1 (other_source _ _ (λ same. other_length (codes "main") (codes "+main") (λ size. omega (arith, size)) (same_Some _ _ same))),
   no_other Push (codes ":/message:refs/heads/x") _ _ pushes_objects.1 (other_source _ _ (some_none (codes ":/message"))),
 )

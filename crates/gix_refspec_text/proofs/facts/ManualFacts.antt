@@ -20,11 +20,12 @@ use Rattle.gix_refspec_text.specs.Specs.Meaning.{Meaning, push_all_matching, pus
 use Rattle.gix_refspec_text.specs.Specs.Refusal.{PatternUnsupported, PushToEmpty, NegativeWithDestination, ReferenceName, IsBadPattern, NeedsMemory, NoReasonBeforeSource, ReachesMemory, MayNeedMemory}
 use Rattle.gix_refspec_text.specs.Matching.Side.{pattern, full_name, object, partial, HasKind, candidates, filled}
 use Rattle.gix_refspec_text.specs.Matching.Match.{Ref, Matches, MatchesAs}
-use Rattle.gix_refspec_text.proofs.lemmas.texts.TextLemmas.{Lacks-here, Lacks-Holds}
+use Rattle.gix_refspec_text.proofs.lemmas.texts.TextLemmas.{Lacks-Holds}
 use Rattle.gix_refspec_text.proofs.lemmas.texts.TestedLemmas.{is_suspect, IsName-tested}
 use Rattle.gix_refspec_text.proofs.lemmas.parsing.SideLemmas.{HasSeveralStars-replaced, HasStar-stars, HasStar-bad}
 use Rattle.gix_refspec_text.proofs.lemmas.parsing.PartsLemmas.{parts_once}
-use Rattle.gix_refspec_text.proofs.lemmas.specs.FormsBackLemmas.{some_once}
+use Rattle.std.proofs.lemmas.Option.{same_Some}
+use Rattle.gix_refspec_text.proofs.lemmas.lists.LacksLemmas.{Lacks-here}
 
 -- a text lacks a byte if a test of each byte says so
 pub Lacks-tested : (b : ℕ) (x : List ℕ) → list_any (λ c. c == b) x ≡ false → Lacks b x
@@ -227,7 +228,7 @@ id_matches = ((refl, inl refl), (refl, inr refl))
 
 pub other_id_differs : ¬ (MatchesAs (object (3 ∷ [])) tag None)
 other_id_differs (none, inl target) = first_byte 1 3 [] (λ same. omega (arith, same)) target
-other_id_differs (none, inr tagged) = first_byte 2 3 [] (λ same. omega (arith, same)) (some_once _ _ tagged)
+other_id_differs (none, inr tagged) = first_byte 2 3 [] (λ same. omega (arith, same)) (same_Some _ _ tagged)
 
 -- nor does a word stand for a star where an id or a partial name matches
 pub others_have_no_word : (word : List ℕ) → ¬ (MatchesAs (object (1 ∷ [])) tag (Some word)) × ¬ (MatchesAs (partial (codes "main")) (named (codes "main")) (Some word))
@@ -315,7 +316,7 @@ before_source op mode s d not_empty alone somewhere = (
 -- so a destination may need memory too
 pub destination_needs_memory : ReachesMemory Push Normal (codes "a..b") (Some (codes "c*d*"))
 destination_needs_memory = (
-  before_source Push Normal (codes "a..b") (Some (codes "c*d*")) (full _ _) (λ negative. absurd (normal_no_negative negative)) (λ same. full 99 (codes "*d*") (some_once (codes "c*d*") [] same)),
+  before_source Push Normal (codes "a..b") (Some (codes "c*d*")) (full _ _) (λ negative. absurd (normal_no_negative negative)) (λ same. full 99 (codes "*d*") (same_Some (codes "c*d*") [] same)),
   inr (
     (λ e bad. Lacks-Holds star (codes "a..b") (Lacks-tested star (codes "a..b") refl) (HasStar-bad (codes "a..b") e bad.refusal)),
     inl (record { before = codes "c"; between = codes "d"; after = []; here = refl }),

@@ -13,11 +13,12 @@ use Rattle.gix_refspec_text.specs.Texts.PatternError.{IsPatternFault}
 use Rattle.gix_refspec_text.specs.Specs.Refusal.{ReferenceName}
 use lib.Count.{count_trailing_zeros}
 use Rattle.gix_refspec_text.specs.Private.Scan.{with_letters, IsStarCount, IsCalm, lowest_of}
-use Rattle.gix_refspec_text.proofs.lemmas.texts.TextLemmas.{Lacks-here, Lacks-Holds}
+use Rattle.gix_refspec_text.proofs.lemmas.texts.TextLemmas.{Lacks-Holds}
 use Rattle.gix_refspec_text.proofs.lemmas.texts.TestedLemmas.{is_suspect, IsName-tested}
 use Rattle.gix_refspec_text.proofs.lemmas.parsing.SideLemmas.{HasStar-pattern, HasSeveralStars-replaced, pattern_fine}
 use Rattle.gix_refspec_text.proofs.facts.FaultFacts.{after_a, just_empty, empty_components, dots_first, locks, dots_last, dots_side_by_side, reflog_portions, star_faults, byte_faults}
 use Rattle.gix_refspec_text.proofs.facts.ManualFacts.{Lacks-tested, ReplacesStar-tested, IsPattern-tested, two_stars}
+use Rattle.gix_refspec_text.proofs.lemmas.lists.LacksLemmas.{Lacks-here}
 
 -- ---- names
 

@@ -10,15 +10,15 @@ use Rattle.gix_refspec_text.specs.Specs.Reading.{Normal, Negative}
 use Rattle.gix_refspec_text.specs.Specs.Grammar.{fetched, pushed}
 use Rattle.gix_refspec_text.specs.Matching.Side.{candidates}
 use Rattle.gix_refspec_text.specs.Matching.Prefix.{TellsPrefix, IsPrefix, of_head, of_name, of_pattern, HasNoPrefix, Expands, to_prefix, to_itself, below_refs, of_object, to_candidates, IsAsked, HasPrefix, IsExpansion}
-use Rattle.gix_refspec_text.proofs.lemmas.texts.TextLemmas.{Lacks-here}
 use Rattle.gix_refspec_text.proofs.lemmas.hits.MatchLemmas.{cut_once, outside_none}
 use Rattle.gix_refspec_text.proofs.lemmas.prefixes.OnePrefixLemmas.{one_prefix}
-use Rattle.gix_refspec_text.proofs.lemmas.specs.FormsBackLemmas.{some_once}
 use Rattle.gix_refspec_text.proofs.facts.ManualFacts.{Lacks-tested, other_length, none_some}
 use Rattle.gix_refspec_text.proofs.facts.FaultFacts.{begins_not}
 use Rattle.gix_refspec_text.proofs.facts.ObjectIdFacts.{empty_blob, IsIdText-empty_blob}
 use Rattle.gix_refspec_text.proofs.facts.FitFacts.{cut_at_end, other_byte, every, no_dev, short_kind, blob_kind}
 use Rattle.gix_refspec_text.proofs.facts.CoveringFacts.{below_heads}
+use Rattle.std.proofs.lemmas.Option.{same_Some}
+use Rattle.gix_refspec_text.proofs.lemmas.lists.LacksLemmas.{Lacks-here}
 
 -- `HEAD` and a full name have themselves
 pub whole_prefixes : IsPrefix (codes "HEAD") (codes "HEAD") × IsPrefix (codes "refs/a]b") (codes "refs/a]b")
@@ -126,7 +126,7 @@ pub asked : IsAsked (fetched Normal (codes "a") (Some (codes "b"))) (codes "a") 
 asked = (
   record { positive = tt; side = refl },
   record { positive = tt; side = refl },
-  (λ is. other_byte 0 (codes "b") (codes "a") (λ byte. omega (arith, byte)) (some_once (codes "b") (codes "a") is.side)),
+  (λ is. other_byte 0 (codes "b") (codes "a") (λ byte. omega (arith, byte)) (same_Some (codes "b") (codes "a") is.side)),
   λ x. ((λ is. is.positive), λ is. none_some x is.side),
 )
 
@@ -135,7 +135,7 @@ pub prefixes : HasPrefix every (codes "refs/heads/") × HasPrefix (pushed Normal
 prefixes = (
   (codes "refs/heads/*", record { positive = tt; side = refl }, below_heads),
   (codes "HEAD", record { positive = tt; side = refl }, whole_prefixes.0),
-  λ p. ((λ has. has.1.positive), λ has. other_prefixes.3 p (subst (λ (x : List ℕ). IsPrefix x p) (sym (some_once (codes "main") has.0 has.1.side)) has.2)),
+  λ p. ((λ has. has.1.positive), λ has. other_prefixes.3 p (subst (λ (x : List ℕ). IsPrefix x p) (sym (same_Some (codes "main") has.0 has.1.side)) has.2)),
 )
 
 -- a reading expands to nothing where nothing is asked for it, and only there
@@ -149,7 +149,7 @@ expansions = (
   where
     head_alone : ¬ (IsExpansion (fetched Normal (codes "HEAD") None) [])
     head_alone (inl (x, is, expands)) =
-        let expands_head = subst (λ (y : List ℕ). Expands y []) (sym (some_once (codes "HEAD") x is.side)) expands in
+        let expands_head = subst (λ (y : List ℕ). Expands y []) (sym (same_Some (codes "HEAD") x is.side)) expands in
         let same : 0 ≡ 1 = ap length ((one_prefix (codes "HEAD")).expanded [] (codes "HEAD" ∷ []) expands_head expansions_outside.1) in
         omega (arith, same)
     head_alone (inr (none, same)) = none (codes "HEAD") (record { positive = tt; side = refl })

@@ -15,12 +15,13 @@ use Rattle.gix_refspec_text.specs.Texts.Bytes.{star, letter}
 use Rattle.gix_refspec_text.specs.Specs.Reading.{Normal, Forced, Negative}
 use Rattle.gix_refspec_text.specs.Specs.Grammar.{LooksLikeObjectHash}
 use Rattle.gix_refspec_text.specs.Specs.Refusal.{Refusal, Empty, NegativeWithDestination, PushToEmpty, PatternUnsupported, ReferenceName, PatternUnbalanced, NegativeEmpty, NegativeObjectHash, IsBadName, IsBadPattern, IsEmptyPush, HasNegativeDestination, PushesNowhere, IsBadSourceFor, HasBadSource, HasBadDestination, IsOneStarred, IsUnbalanced, ExcludesNothing, ExcludesObject, Never, OrElse, IsFirstReason}
-use Rattle.gix_refspec_text.proofs.lemmas.texts.TextLemmas.{Lacks-here, Lacks-Holds, one_not_two}
+use Rattle.gix_refspec_text.proofs.lemmas.texts.TextLemmas.{Lacks-Holds, one_not_two}
 use Rattle.gix_refspec_text.proofs.lemmas.parsing.SideLemmas.{name_not_bad, replaced_once, HasStar-replaced, HasStar-bad}
-use Rattle.gix_refspec_text.proofs.lemmas.specs.FormsBackLemmas.{some_once}
 use Rattle.gix_refspec_text.proofs.facts.ManualFacts.{Lacks-tested, full, none_some, some_none}
 use Rattle.gix_refspec_text.proofs.facts.FaultFacts.{holds_not}
 use Rattle.gix_refspec_text.proofs.facts.RefusalFacts.{replaces_star, locked, normal_positive}
+use Rattle.std.proofs.lemmas.Option.{same_Some}
+use Rattle.gix_refspec_text.proofs.lemmas.lists.LacksLemmas.{Lacks-here}
 
 -- ---- stars
 
@@ -87,7 +88,7 @@ fetch_no_push same = cc
 pub nowhere : PushesNowhere Push (codes "a") (Some []) PushToEmpty × ((e : Refusal) → ¬ (PushesNowhere Push [] (Some []) e) × ¬ (PushesNowhere Push (codes "a") None e) × ¬ (PushesNowhere Push (codes "a") (Some (codes "b")) e) × ¬ (PushesNowhere Fetch (codes "a") (Some []) e)) × ¬ (PushesNowhere Push (codes "a") (Some []) Empty)
 nowhere = (
   record { push = refl; source = full _ _; nowhere = refl; refusal = refl },
-  (λ e. ((λ is. is.source refl), (λ is. none_some [] is.nowhere), (λ is. full _ _ (some_once (codes "b") [] is.nowhere)), λ is. fetch_no_push is.push)),
+  (λ e. ((λ is. is.source refl), (λ is. none_some [] is.nowhere), (λ is. full _ _ (same_Some (codes "b") [] is.nowhere)), λ is. fetch_no_push is.push)),
   λ is. other is.refusal,
 )
   where
@@ -111,14 +112,14 @@ sources = (
 
 -- what is empty is no bad source, and no bad destination
 pub empty_sides : ((op : Operation) (d : Option (List ℕ)) (e : Refusal) → ¬ (HasBadSource op [] d e)) × ((e : Refusal) → ¬ (HasBadDestination (Some []) e) × ¬ (HasBadDestination None e))
-empty_sides = ((λ op d e bad. bad.source refl), λ e. ((λ bad. bad.destination (sym (some_once [] bad.word bad.is))), λ bad. none_some bad.word bad.is))
+empty_sides = ((λ op d e bad. bad.source refl), λ e. ((λ bad. bad.destination (sym (same_Some [] bad.word bad.is))), λ bad. none_some bad.word bad.is))
 
 -- `b..c` and `c*d*` are bad destinations, and `c` isn't
 pub destinations : HasBadDestination (Some (codes "a..b")) (ReferenceName RepeatedDot) × HasBadDestination (Some (codes "a*b*")) (PatternUnsupported (codes "a*b*")) × (IsName (codes "c") → (e : Refusal) → ¬ (HasBadDestination (Some (codes "c")) e))
 destinations = (
   record { word = codes "a..b"; is = refl; destination = full _ _; refusal = inl dots_bad },
   record { word = codes "a*b*"; is = refl; destination = full _ _; refusal = inr two_stars_bad },
-  λ is_name e bad. name_not_bad bad.word (subst IsName (some_once (codes "c") bad.word bad.is) is_name) e bad.refusal,
+  λ is_name e bad. name_not_bad bad.word (subst IsName (same_Some (codes "c") bad.word bad.is) is_name) e bad.refusal,
 )
 
 -- ---- balance

@@ -13,9 +13,9 @@ use Rattle.gix_refspec_text.specs.Specs.Grammar.{LooksLikeObjectHash}
 use Rattle.gix_refspec_text.specs.Specs.Refusal.{IsBadName, IsBadPattern, Refusal, Empty, NegativeWithDestination, PushToEmpty, PatternUnsupported, ReferenceName, PatternUnbalanced, Never, IsEmptyPush, HasNegativeDestination, PushesNowhere, HasBadSource, HasBadDestination, IsUnbalanced, IsFirstReason}
 use Rattle.gix_refspec_text.proofs.lemmas.texts.TestedLemmas.{IsName-tested}
 use Rattle.gix_refspec_text.proofs.lemmas.parsing.SideLemmas.{name_not_bad}
-use Rattle.gix_refspec_text.proofs.lemmas.specs.FormsBackLemmas.{some_once}
 use Rattle.gix_refspec_text.proofs.facts.ManualFacts.{Lacks-tested, ReplacesStar-tested, full}
 use Rattle.gix_refspec_text.proofs.facts.FitFacts.{other_byte}
+use Rattle.std.proofs.lemmas.Option.{same_Some}
 
 pub normal_positive : Normal ≢ Negative
 normal_positive same = cc
@@ -85,7 +85,7 @@ source_before_destination = (
 )
   where
     no_nowhere : Never (PushesNowhere Fetch (codes "a*b*") (Some (codes "c*d*")))
-    no_nowhere e nowhere = full 99 (codes "*d*") (some_once (codes "c*d*") [] nowhere.nowhere)
+    no_nowhere e nowhere = full 99 (codes "*d*") (same_Some (codes "c*d*") [] nowhere.nowhere)
 
     bad : HasBadSource Fetch (codes "a*b*") (Some (codes "c*d*")) (PatternUnsupported (codes "a*b*"))
     bad = record { source = full _ _; refusal = inr (stars, refl) }
@@ -108,7 +108,7 @@ no_empty_a : Never (IsEmptyPush Fetch Normal (codes "a") (Some (codes "b*.lock")
 no_empty_a e empty = full 97 [] empty.no_source
 
 no_nowhere_lock : Never (PushesNowhere Fetch (codes "a") (Some (codes "b*.lock")))
-no_nowhere_lock e nowhere = full 98 (codes "*.lock") (some_once (codes "b*.lock") [] nowhere.nowhere)
+no_nowhere_lock e nowhere = full 98 (codes "*.lock") (same_Some (codes "b*.lock") [] nowhere.nowhere)
 
 no_bad_name : Never (HasBadSource Fetch (codes "a") (Some (codes "b*.lock")))
 no_bad_name e is = name_not_bad (codes "a") (IsName-tested (codes "a") refl) e is.refusal

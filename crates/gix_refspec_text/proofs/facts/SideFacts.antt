@@ -5,13 +5,14 @@ use Rattle.std.specs.List.{AllByRecursion}
 use Rattle.gix_refspec_text.specs.Texts.Bytes.{star}
 use Rattle.gix_refspec_text.specs.Matching.Side.{SideKind, pattern, full_name, object, partial, IsId, HasKind, candidates, IsCandidate, Excludes, the_name, by_pattern, filled}
 use Rattle.gix_refspec_text.specs.Matching.Match.{MatchesAs, Matches}
-use Rattle.gix_refspec_text.proofs.lemmas.texts.TextLemmas.{Lacks-here, one_not_two}
+use Rattle.gix_refspec_text.proofs.lemmas.texts.TextLemmas.{one_not_two}
 use Rattle.gix_refspec_text.proofs.lemmas.texts.ComponentLemmas.{AllByRecursion-parts}
 use Rattle.gix_refspec_text.proofs.lemmas.hits.MatchLemmas.{has_candidates, lacks_no_pattern}
 use Rattle.gix_refspec_text.proofs.facts.ManualFacts.{Lacks-tested, other_length, named}
 use Rattle.gix_refspec_text.proofs.facts.FaultFacts.{begins_not}
 use Rattle.gix_refspec_text.proofs.facts.ObjectIdFacts.{empty_blob, IsIdText-empty_blob, IsIdText-empty_blob_in_upper_case}
 use Rattle.gix_refspec_text.proofs.facts.FitFacts.{other_byte, short_kind, short_no_id}
+use Rattle.gix_refspec_text.proofs.lemmas.lists.LacksLemmas.{Lacks-here}
 
 -- an id has a text in either case, and a short word is none
 pub ids : IsId (codes "e69de29bb2d1d6434b8b29ae775ad8c2e48c5391") × IsId (codes "E69DE29BB2D1D6434B8B29AE775AD8C2E48C5391") × ¬ (IsId (codes "main"))

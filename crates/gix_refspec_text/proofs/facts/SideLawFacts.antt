@@ -8,12 +8,12 @@ use Rattle.gix_refspec_text.specs.Specs.Reading.{Normal}
 use Rattle.gix_refspec_text.specs.Specs.Grammar.{fetched, pushed}
 use Rattle.gix_refspec_text.specs.Matching.Side.{SideKind, partial, object, HasKind, Fits}
 use Rattle.gix_refspec_text.specs.Laws.Sides.{SidesAgree, OneKind, OneId, OneOfEach}
-use Rattle.gix_refspec_text.proofs.lemmas.specs.FormsBackLemmas.{some_once}
 use Rattle.gix_refspec_text.proofs.facts.ManualFacts.{Lacks-tested}
 use Rattle.gix_refspec_text.proofs.facts.FitFacts.{blob_kind, every, heads_cut, origin_cut, short, short_kind}
 use Rattle.gix_refspec_text.proofs.facts.ObjectIdFacts.{empty_blob, IsIdText-empty_blob}
 use Rattle.gix_refspec_text.proofs.facts.ReasonFacts.{one_star_alone}
-use Rattle.gix_refspec_text.proofs.lemmas.texts.TextLemmas.{Lacks-here}
+use Rattle.std.proofs.lemmas.Option.{same_Some}
+use Rattle.gix_refspec_text.proofs.lemmas.lists.LacksLemmas.{Lacks-here}
 
 -- the sides of what `git clone` writes agree, and so does a source alone
 pub agree : SidesAgree every × SidesAgree short
@@ -29,11 +29,11 @@ agree = (
 )
   where
     of_every : (x : List ℕ) → (Some (codes "refs/heads/*") ≡ Some x) ⊎ (Some (codes "refs/remotes/origin/*") ≡ Some x) → HasOneStar x
-    of_every x (inl is) = subst HasOneStar (some_once (codes "refs/heads/*") x is) (codes "refs/heads/", [], heads_cut)
-    of_every x (inr is) = subst HasOneStar (some_once (codes "refs/remotes/origin/*") x is) (codes "refs/remotes/origin/", [], origin_cut)
+    of_every x (inl is) = subst HasOneStar (same_Some (codes "refs/heads/*") x is) (codes "refs/heads/", [], heads_cut)
+    of_every x (inr is) = subst HasOneStar (same_Some (codes "refs/remotes/origin/*") x is) (codes "refs/remotes/origin/", [], origin_cut)
 
     of_short : (x : List ℕ) → (Some (codes "main") ≡ Some x) ⊎ (None ≡ Some x) → Lacks star x
-    of_short x (inl is) = subst (Lacks star) (some_once (codes "main") x is) short_kind.1
+    of_short x (inl is) = subst (Lacks star) (same_Some (codes "main") x is) short_kind.1
     of_short x (inr none) = absurd (cc)
 
 no_star_in_b : ¬ (HasOneStar (codes "b"))

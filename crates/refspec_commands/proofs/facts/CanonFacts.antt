@@ -7,7 +7,6 @@ use Rattle.gix_refspec_text.specs.declared.types.Mode.TheVariants as mode
 use Rattle.gix_refspec.specs.Specs.Meaning.{printed}
 use Rattle.gix_refspec.specs.Specs.Refusal.{ReferenceName}
 use Rattle.gix_refspec_text.proofs.lemmas.parsing.ReadOnceLemmas.{reads_once}
-use Rattle.gix_refspec_text.proofs.lemmas.specs.FormsBackLemmas.{some_once}
 use Rattle.gix_refspec_text.proofs.facts.FitFacts.{other_byte}
 use Rattle.gix_refspec_text.proofs.facts.GrammarFacts.{fetches_head, fetches_main}
 use Rattle.gix_refspec_text.proofs.facts.UnreadFacts.{bad_sources}
@@ -16,6 +15,7 @@ use Rattle.refspec_commands.specs.declared.call.Form.TheVariants as form
 use Rattle.refspec_commands.specs.Canon.{AddsCanonical, AreCanonical, AreCanonicalOf}
 use Rattle.refspec_commands.specs.Shown.{zero_ended}
 use Rattle.refspec_commands.proofs.facts.ReadFacts.{bad, good, head, main}
+use Rattle.std.proofs.lemmas.Option.{same_Some}
 
 -- an empty text of a fetch is `HEAD`; a text that is refused is left out, and what is behind it isn't
 pub canonical : AreCanonical ((Fetch, []) ∷ (Fetch, codes "a b") ∷ (Fetch, codes "main") ∷ [])
@@ -54,7 +54,7 @@ not_canonical = (refused, left_out, as_given)
     as_given : ¬ (AreCanonical ((Fetch, []) ∷ []) ([] ∷ []))
     as_given (inl (r, name, rest, reads, prints, none, same)) =
         let is : codes "HEAD" ≡ name =
-        some_once (codes "HEAD") name (ap printed (reads_once Fetch [] head r fetches_head.0 reads) ∙ prints) in
+        same_Some (codes "HEAD") name (ap printed (reads_once Fetch [] head r fetches_head.0 reads) ∙ prints) in
         other_byte 0 (codes "HEAD") [] (λ byte. omega (arith, byte)) (is
         ∙ sym (ap (λ (l : List (List ℕ)). get_or l 0 []) same))
     as_given (inr (e, is, none)) = is.unread head fetches_head.0
@@ -86,5 +86,5 @@ module _ (accepted : Accepted Fetch mode.Normal (Some (codes "main")) None) wher
             arith,
             ap length (adds
                 ∙ ap (flat_map zero_ended) (same
-                ∙ ap (λ (x : List ℕ). x ∷ rest) (sym (some_once (codes "main") name prints)))),
+                ∙ ap (λ (x : List ℕ). x ∷ rest) (sym (same_Some (codes "main") name prints)))),
           )

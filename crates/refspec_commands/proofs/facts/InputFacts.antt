@@ -1,11 +1,11 @@
 -- Records of an input, on each side of the borders between them.
 use Rattle.std.proofs.Common.{◌≡◌, ℕ, ◌+◌, List, [], ◌∷◌, ◌++◌, Some, inl, inr, codes, length, refl, sym, ap, ◌∙◌, subst, arith}
 use Rattle.gix_refspec.specs.Texts.Words.{Lacks}
-use Rattle.gix_refspec_text.proofs.lemmas.texts.TextLemmas.{Lacks-here, first_once}
 use Rattle.gix_refspec_text.proofs.facts.FitFacts.{other_byte}
 use Rattle.gix_refspec_text.proofs.facts.ManualFacts.{Lacks-tested, full, other_length}
 use Rattle.refspec_commands.specs.declared.call.Ends.TheVariants as ends
 use Rattle.refspec_commands.specs.Input.{AreRecords, IsFirstRecord, ReadsToEnd, end_byte}
+use Rattle.gix_refspec_text.proofs.lemmas.lists.LacksLemmas.{Lacks-here, first_once}
 
 -- a newline or a zero byte, which ends the records of settings too
 pub end_bytes : (end_byte ends.Newline ≡ 10) × (end_byte ends.Zero ≡ 0) × (end_byte ends.Settings ≡ 0)

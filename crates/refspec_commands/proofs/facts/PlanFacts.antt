@@ -11,7 +11,6 @@ use Rattle.gix_refspec.specs.Views.Issue.{ForwardOutcome, conflicts_of, mappings
 use Rattle.gix_refspec.proofs.lemmas.keep.NameOnlyLemmas.{names_decide}
 use Rattle.gix_refspec.proofs.lemmas.validate.ConflictLemmas.{no_conflicts}
 use Rattle.gix_refspec.proofs.lemmas.validate.RefNameLemmas.{bad_unnamed}
-use Rattle.gix_refspec_text.proofs.lemmas.specs.FormsBackLemmas.{some_once}
 use Rattle.gix_refspec_match.proofs.lemmas.hits.HitLemmas.{one_forward}
 use Rattle.gix_refspec_match.proofs.lemmas.lists.JoinLemmas.{nothing_made}
 use Rattle.gix_refspec_match.proofs.facts.MatchFacts.{fetches_all_but_dev, tag_alone, tag_to_foo, tag_to_x, tracked}
@@ -33,6 +32,7 @@ use Rattle.refspec_commands.proofs.facts.ConflictFacts.{conflict as two_sources,
 use Rattle.refspec_commands.proofs.facts.InputFacts.{records_once}
 use Rattle.refspec_commands.proofs.facts.RefFacts.{blob_ref, line_of, none_lost as none_lost_of, plain_word, ref_line}
 use Rattle.refspec_commands.proofs.facts.RowFacts.{alone, alone_line, not_told, texts}
+use Rattle.std.proofs.lemmas.Option.{same_Some}
 
 -- one that was left out for its destination
 abbrev left : LeftOut
@@ -108,7 +108,7 @@ main_valid = record {
     None,
     [],
     (λ fix is. is.unwritable
-        (subst IsWritable (some_once (codes "refs/remotes/origin/main") fix.destination is.goes) main_survives)),
+        (subst IsWritable (same_Some (codes "refs/remotes/origin/main") fix.destination is.goes) main_survives)),
     refl,
     refl,
   );

@@ -7,9 +7,9 @@ use Rattle.gix_refspec.proofs.facts.AskedFacts.{lists_at_brackets, lists_of_spec
 use Rattle.gix_refspec_text.proofs.lemmas.prefixes.PrefixLemmas.{one_asked}
 use Rattle.gix_refspec_text.proofs.facts.FitFacts.{every, no_dev, other_byte}
 use Rattle.gix_refspec_text.proofs.facts.ManualFacts.{other_length}
-use Rattle.gix_refspec_text.proofs.lemmas.specs.FormsBackLemmas.{some_once}
 use Rattle.refspec_commands.specs.declared.call.Form.TheVariants as form
 use Rattle.refspec_commands.specs.Prefixes.{AddsAll, AddsList, AddsNothing, AddsPrefixes, AreOthers, TakesWhole, argument, request}
+use Rattle.std.proofs.lemmas.Option.{same_Some}
 
 -- a prefix has its argument's name before it, and a pattern has a star behind
 pub requests : (argument false ≡ codes "ref-prefix ") × (argument true ≡ [])
@@ -95,10 +95,10 @@ pub wholes : TakesWhole all_refs × ¬ (TakesWhole every) × ¬ (TakesWhole no_d
 wholes = (
   (tt, ([], refl)),
   (λ takes. other_byte 5 (codes "refs/heads/*") (codes "refs/*" ++ takes.1.0) (λ byte. omega (arith, byte))
-      (some_once _ _ takes.1.1)),
+      (same_Some _ _ takes.1.1)),
   (λ takes. takes.0),
   (λ takes. other_byte 5 (codes "refs/a]*") (codes "refs/*" ++ takes.1.0) (λ byte. omega (arith, byte))
-      (some_once _ _ takes.1.1)),
+      (same_Some _ _ takes.1.1)),
   λ takes. takes.0,
 )
 

@@ -7,13 +7,13 @@ use Rattle.gix_refspec.specs.Matching.Match.{Ref}
 use Rattle.gix_refspec.specs.Texts.ObjectId.{digits_of}
 use Rattle.gix_refspec_text.specs.declared.oid.Kind.{Kind}
 use Rattle.gix_refspec_text.specs.declared.oid.Kind.TheVariants.{Sha1, Sha256}
-use Rattle.gix_refspec_text.proofs.lemmas.texts.TextLemmas.{Lacks-here}
 use Rattle.gix_refspec_text.proofs.facts.ObjectIdFacts.{empty_blob, IsIdText-empty_blob}
 use Rattle.gix_refspec_text.proofs.facts.FitFacts.{other_byte}
 use Rattle.gix_refspec_text.proofs.facts.ManualFacts.{Lacks-tested, full, named}
 use Rattle.refspec_commands.specs.Refs.{AddsLine, AddsRefs, AddsTold, HasLast, IsIdThen, IsLast, IsNoRefLine, IsOneWord, IsPeeledLine, IsRefLine, IsTagLine, TellNames, TellRefs, TellsName, bad_bytes, peeled}
 use Rattle.refspec_commands.proofs.RefLemmas.{AddsTold-elsewhere, AddsTold-peeled, space_at}
 use Rattle.refspec_commands.proofs.facts.InputFacts.{records_once}
+use Rattle.gix_refspec_text.proofs.lemmas.lists.LacksLemmas.{Lacks-here}
 
 -- the line of a ref, and of what it points to, as Git prints them
 abbrev head_line : List ℕ

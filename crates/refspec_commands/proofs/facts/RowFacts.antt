@@ -4,11 +4,11 @@ use Rattle.gix_refspec.specs.Matching.Mappings.{Mapped, id, name}
 use Rattle.gix_refspec_match.proofs.facts.MatchFacts.{mapping}
 use Rattle.gix_refspec_text.proofs.facts.FitFacts.{every, other_byte, short}
 use Rattle.gix_refspec_text.proofs.facts.ObjectIdFacts.{empty_blob, lower_of-empty_blob}
-use Rattle.gix_refspec_text.proofs.lemmas.specs.FormsBackLemmas.{some_once}
 use Rattle.refspec_commands.specs.declared.call.Form.TheVariants as form
 use Rattle.refspec_commands.specs.declared.mappings.Columns.TheVariants as columns
 use Rattle.refspec_commands.specs.Shown.{IsQuoted, in_quotes}
 use Rattle.refspec_commands.specs.Rows.{AddsMappings, AreSpecTexts, AreRowLines, IsCell, IsLine, PutsCell, PutsCells, PutsLine, Row, fields, first_side, row_of, second_side, source_text}
+use Rattle.std.proofs.lemmas.Option.{same_Some}
 
 -- ---- texts
 
@@ -20,7 +20,7 @@ pub spec_texts : AreSpecTexts (every ∷ short ∷ []) (codes "+refs/heads/*:ref
 spec_texts = (
   (refl, (refl, tt)),
   (λ are. other_byte 0 (codes "+refs/heads/*:refs/remotes/origin/*") (codes "refs/heads/*:refs/remotes/origin/*")
-      (λ byte. omega (arith, byte)) (some_once _ _ are.0)),
+      (λ byte. omega (arith, byte)) (same_Some _ _ are.0)),
   (λ are. are.1),
   λ are. are,
 )

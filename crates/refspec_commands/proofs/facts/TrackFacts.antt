@@ -8,12 +8,12 @@ use Rattle.gix_refspec.specs.Specs.Reading.{Normal, Reading}
 use Rattle.gix_refspec.specs.Texts.ObjectId.{IsIdText, digits_of}
 use Rattle.gix_refspec_text.specs.declared.oid.Kind.{Kind}
 use Rattle.gix_refspec_text.specs.declared.oid.Kind.TheVariants.{Sha1, Sha256}
-use Rattle.gix_refspec_text.proofs.lemmas.specs.FormsBackLemmas.{some_once}
 use Rattle.gix_refspec_text.proofs.facts.FitFacts.{short}
 use Rattle.gix_refspec_text.proofs.facts.ManualFacts.{none_some}
 use Rattle.gix_refspec_text.proofs.facts.ObjectIdFacts.{IsIdText-empty_blob, empty_blob}
 use Rattle.gix_refspec.specs.Matching.Mappings.{Mapped, name}
 use Rattle.refspec_commands.specs.Track.{AreByNames, AreWritten, HasUnwritten, IsEachWritten, IsWritten, named}
+use Rattle.std.proofs.lemmas.Option.{same_Some}
 
 -- destinations of 40 digits and of 39
 abbrev to_id : Reading
@@ -35,7 +35,7 @@ no_id text id long is = by_kind is.kind is.digits
 
 ends_at_name : ¬ (HasIdDestination to_name)
 ends_at_name (text, is, (id, spelled)) =
-    no_id text id (sym (ap length (some_once (codes "e69de29bb2d1d6434b8b29ae775ad8c2e48c539") text is))) spelled
+    no_id text id (sym (ap length (same_Some (codes "e69de29bb2d1d6434b8b29ae775ad8c2e48c539") text is))) spelled
 
 nowhere : ¬ (HasIdDestination short)
 nowhere (text, is, id) = none_some text is
@@ -82,11 +82,11 @@ writes = (inr (inl refl), nothing, source)
   where
     nothing : ¬ (IsWritten (codes "refs/x/b") (unwritten ∷ written ∷ []))
     nothing (inl same) = none_some (codes "refs/x/b") same
-    nothing (inr (inl same)) = other_byte 7 (codes "refs/x/a") (codes "refs/x/b") (λ byte. omega (arith, byte)) (some_once (codes "refs/x/a") (codes "refs/x/b") same)
+    nothing (inr (inl same)) = other_byte 7 (codes "refs/x/a") (codes "refs/x/b") (λ byte. omega (arith, byte)) (same_Some (codes "refs/x/a") (codes "refs/x/b") same)
     nothing (inr (inr is)) = is
 
     source : ¬ (IsWritten (codes "refs/heads/a") (written ∷ []))
-    source (inl same) = omega (arith, ap length (some_once (codes "refs/x/a") (codes "refs/heads/a") same))
+    source (inl same) = omega (arith, ap length (same_Some (codes "refs/x/a") (codes "refs/heads/a") same))
     source (inr is) = is
 
 -- one name that isn't written is enough, wherever it is

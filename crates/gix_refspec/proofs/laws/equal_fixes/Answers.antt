@@ -8,16 +8,16 @@ use Rattle.gix_refspec.specs.declared.match_group.validate.Fix.TheVariants as fi
 use Rattle.gix_refspec_text.specs.Specs.Meaning.{meaning_of}
 use Rattle.gix_refspec_text.specs.Views.Spec.{owned_reading_of}
 use Rattle.gix_refspec.specs.Views.Issue.{IsSameFix}
-use Rattle.gix_refspec_text.proofs.lemmas.lists.EqualLemmas.{both_true, true_of_both}
 use Rattle.gix_refspec_text.proofs.lemmas.specs.SpecLemmas.{equal_keys}
 use Rattle.gix_refspec.proofs.laws.equal_fixes.Goals as goal
+use Rattle.std.proofs.lemmas.Bool.{and_parts, and_from}
 
 same_fix : (a b : Fix) → IsTrue (ghosts.eq a b) ↔ IsSameFix a b
 same_fix (fix.MappingWithPartialDestinationRemoved n s) (fix.MappingWithPartialDestinationRemoved m t) =
     let names = bytes_eq-Decides (bstring_bytes n) (bstring_bytes m) in
     let specs = equal_keys (meaning_of (owned_reading_of s)) (meaning_of (owned_reading_of t)) in (
-      (λ told. let both = both_true _ _ told in record { destination = names.0 both.0; spec = specs.0 both.1 }),
-      (λ same. true_of_both _ _ (names.1 same.destination) (specs.1 same.spec)),
+      (λ told. let both = and_parts _ _ told in record { destination = names.0 both.0; spec = specs.0 both.1 }),
+      (λ same. and_from _ _ (names.1 same.destination) (specs.1 same.spec)),
     )
 
 pub returns : goal.returns

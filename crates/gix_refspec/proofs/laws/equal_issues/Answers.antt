@@ -14,8 +14,9 @@ use Rattle.gix_refspec_text.specs.Texts.ObjectId.{id_bytes}
 use Rattle.gix_refspec_match.specs.Views.Mapping.{name_bytes, start_of}
 use Rattle.gix_refspec.specs.Matching.Validation.{Conflict}
 use Rattle.gix_refspec.specs.Views.Issue.{conflict_of}
-use Rattle.gix_refspec_text.proofs.lemmas.lists.EqualLemmas.{both_true, same_keys, true_of_both}
+use Rattle.gix_refspec_text.proofs.lemmas.lists.EqualLemmas.{same_keys}
 use Rattle.gix_refspec.proofs.laws.equal_issues.Goals as goal
+use Rattle.std.proofs.lemmas.Bool.{and_parts, and_from}
 
 same_source : (a b : SourceRef) → (compared_sources.eq a b ≡ true) ↔ (start_of a ≡ start_of b)
 same_source (source_ref.FullName n) (source_ref.FullName m) = let names = bytes_eq-Decides (name_bytes n) (name_bytes m) in ((λ told. ap name (names.0 told)), (λ same. names.1 (cc)))
@@ -29,10 +30,10 @@ same_issue (issue.Conflict d sources specs) (issue.Conflict e others texts) =
     let starts = same_keys compared_sources.eq start_of same_source sources.items others.items in
     let words = same_keys compared_texts.eq bstring_bytes (λ n m. let told = bytes_eq-Decides (bstring_bytes n) (bstring_bytes m) in (told.0, told.1)) specs.items texts.items in (
       (λ told.
-          let first = both_true _ _ told in
-          let rest = both_true _ _ first.1 in
+          let first = and_parts _ _ told in
+          let rest = and_parts _ _ first.1 in
           (λ i. record { destination = names.0 first.0 i; sources = starts.0 rest.0 i; texts = words.0 rest.1 i })),
-      (λ same. true_of_both _ _ (names.1 (ap (λ (c : Conflict). c.destination) same)) (true_of_both _ _ (starts.1 (ap (λ (c : Conflict). c.sources) same)) (words.1 (ap (λ (c : Conflict). c.texts) same)))),
+      (λ same. and_from _ _ (names.1 (ap (λ (c : Conflict). c.destination) same)) (and_from _ _ (starts.1 (ap (λ (c : Conflict). c.sources) same)) (words.1 (ap (λ (c : Conflict). c.texts) same)))),
     )
 
 pub returns : goal.returns

@@ -20,9 +20,6 @@ star_or_none (c ∷ x) = elim (cases_eq c star) [
   ]
 ]
 
-same_side : (side : Option (List ℕ)) (x y : List ℕ) → side ≡ Some x → side ≡ Some y → x ≡ y
-same_side side x y of_x of_y = cc
-
 -- where the source has a star, the destination has one
 pub goes_by_star : (r : Reading) (s : List ℕ) → ∥ IsAccepted r ∥₁ → r.source ≡ Some s → HasStar s → IsTrue true ↔ GoesBothWays r
 goes_by_star r s accepted source has = ((λ _ _ x y is_x is_y. inl (starred x is_x, other x y is_x is_y)), (λ _. refl))

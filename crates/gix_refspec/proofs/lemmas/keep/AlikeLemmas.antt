@@ -17,8 +17,8 @@ use Rattle.gix_refspec_match.specs.Matching.Mappings.{Start, name, id, Mapped, I
 use Rattle.gix_refspec_match.specs.Matching.Hits.{Ends, AreForwardEnds, AreBackwardEnds, Hit, IsFilled, AreSpecHits, AreHits, IsIdMapping, AreKeptForward, AreKeptBackward}
 use Rattle.gix_refspec.specs.Laws.Matching.{ReadsAgainAs, AreReadAgain, MapAlike, FetchGroupReadsBack, FetchTheSame, EqualGroups, AreFetches}
 use Rattle.gix_refspec_text.proofs.lemmas.lists.EqualLemmas.{same_keys}
-use Rattle.gix_refspec_text.proofs.lemmas.specs.FormsBackLemmas.{some_once}
 use Rattle.gix_refspec_text.proofs.lemmas.specs.SpecLemmas.{equal_keys, keeps_operation, printed_back, says, says_for_operation}
+use Rattle.std.proofs.lemmas.Option.{same_Some}
 
 -- ---- readings alike
 
@@ -119,7 +119,7 @@ again_alike : (r q : Reading) → ∥ IsAccepted r ∥₁ → ReadsAgainAs r q �
 again_alike r q accepted again =
     let back = printed_back r accepted in
     let said = says r accepted in
-    let text : again.text ≡ back.text = some_once again.text back.text (sym again.is ∙ back.is) in
+    let text : again.text ≡ back.text = same_Some again.text back.text (sym again.is ∙ back.is) in
     let reads : Reads r.operation back.text q = subst (λ (t : List ℕ). Reads r.operation t q) text (subst (λ (op : Operation). Reads op again.text q) (sym again.fetch) again.reads) in
     said_alike r q said.0 again.fetch (keeps_operation Fetch again.text q again.reads) said.1 (ap meaning_of (back.again.only q reads) ∙ back.same)
 

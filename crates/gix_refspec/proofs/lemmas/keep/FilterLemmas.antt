@@ -2,7 +2,7 @@
 use Rattle.std.proofs.Common.{◌≡◌, ℕ, zero, suc, Bool, true, false, ◌||◌, cond, List, [], ◌∷◌, Option, map, refl, sym, ap, ◌∙◌, subst, arith}
 use Rattle.std.specs.Prelude.{nat_eq}
 use Rattle.std.specs.List.{Any, Contains, filter, starts_with}
-use Rattle.std.proofs.lemmas.Bool.{false≢true}
+use Rattle.std.proofs.lemmas.Bool.{false≢true, or_left, or_right}
 use Rattle.std.proofs.lemmas.Bool.Decides.{Decides-eqb}
 use Rattle.std.proofs.lemmas.List.{get_or-map, length-map}
 use Rattle.std.proofs.lemmas.List.Elements.{All-contains_itself, All-filter}
@@ -69,21 +69,13 @@ filtered_items g items some = record {
 
 -- ---- entries
 
-left_true : (a b : Bool) → a ≡ true → (a || b) ≡ true
-left_true true b is = refl
-left_true false b is = absurd (false≢true is)
-
-right_true : (a b : Bool) → b ≡ true → (a || b) ≡ true
-right_true true b is = refl
-right_true false b is = is
-
 -- a name that begins with an entry passes
 begun : (n : List ℕ) (entries : List (List ℕ)) → BeginsWithOne entries n → is_begun entries n ≡ true
 begun n [] (k, e, below, is, begins) = absurd (omega (arith, below))
 begun n (entry ∷ entries) (zero, e, below, is, begins) =
     let first : BeginsWith entry n = subst (λ (x : List ℕ). BeginsWith x n) (sym is) begins in
-    left_true (starts_with nat_eq n entry) (is_begun entries n) ((starts_is Decides-eqb n entry (starts_with nat_eq n entry) refl).1 first.after first.here)
-begun n (entry ∷ entries) (suc k, e, below, is, begins) = right_true (starts_with nat_eq n entry) (is_begun entries n) (begun n entries (k, e, omega (arith, below), is, begins))
+    or_left (starts_with nat_eq n entry) (is_begun entries n) ((starts_is Decides-eqb n entry (starts_with nat_eq n entry) refl).1 first.after first.here)
+begun n (entry ∷ entries) (suc k, e, below, is, begins) = or_right (starts_with nat_eq n entry) (is_begun entries n) (begun n entries (k, e, omega (arith, below), is, begins))
 
 pub filtered_by_list : (items some : List Item) → FilteredByList items some
 filtered_by_list items some entries is =

@@ -14,10 +14,10 @@ use Rattle.gix_refspec.specs.Laws.Matching.{PairsItem, MakesForward, MakesBackwa
 use Rattle.gix_refspec.specs.Laws.Items.{ArePart, TakesItem, HasTaken, HaveSamePairs, FewerItems, IsListed, AreListedItems, ListedItems}
 use Rattle.gix_refspec_text.proofs.lemmas.hits.CandidateLemmas.{first_candidate, first_once, some_first, taken_by_first}
 use Rattle.gix_refspec.proofs.lemmas.prefixes.CoverLemmas.{below_not_head, joined_covers, side_covers, source_asked}
-use Rattle.gix_refspec_text.proofs.lemmas.specs.FormsBackLemmas.{some_once}
 use Rattle.gix_refspec_text.proofs.lemmas.hits.MatchLemmas.{lacks_no_pattern}
 use Rattle.gix_refspec.proofs.lemmas.keep.PairMadeLemmas.{kept_exactly}
-use Rattle.gix_refspec_match.proofs.lemmas.keep.RepeatLemmas.{all_weaker}
+use Rattle.std.proofs.lemmas.Option.{same_Some}
+use Rattle.gix_refspec_text.proofs.lemmas.lists.AllLemmas.{all_weaker}
 
 -- ---- names and items
 
@@ -165,7 +165,7 @@ listed_covers A r ends item word (inl covering) are takes =
     let covers = side_covers ends.near item word (covering.source ends.near asked) are.no_object takes.matches in
     record { entries = covers.0; expansion = inl (ends.near, asked, covers.1); one = covers.2 }
 listed_covers A r ends item word (inr fetches) are takes =
-    let is : ends.near ≡ head = some_once ends.near head (sym are.near ∙ fetches.source) in
+    let is : ends.near ≡ head = same_Some ends.near head (sym are.near ∙ fetches.source) in
     let same : item.name ≡ ends.near = head_taken A ends.near item word takes.matches.kind is fetches.there are.no_object takes.matches.of takes in
     record {
       entries = ends.near ∷ [];

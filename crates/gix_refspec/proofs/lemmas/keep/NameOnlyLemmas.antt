@@ -7,7 +7,7 @@ use Rattle.gix_refspec_text.specs.Matching.Match.{Ref, Matches, MatchesAs, HasNa
 use Rattle.gix_refspec_match.specs.Matching.Lists.{MakesOf, IsMadeFrom, IsJoinedFrom}
 use Rattle.gix_refspec_match.specs.Matching.Hits.{Ends, AreBackwardEnds, AreForwardEnds, Hit, IsHit, AreSpecHits}
 use Rattle.gix_refspec.specs.Laws.Items.{AsksForNoId, HasIdDestination, HaveSameNames, NamesDecide, NamesDecideBack}
-use Rattle.gix_refspec_match.proofs.lemmas.keep.RepeatLemmas.{all_weaker}
+use Rattle.gix_refspec_text.proofs.lemmas.lists.AllLemmas.{all_weaker}
 
 -- lists with the same names are both empty, or begin with the same name
 no_name : (r : Ref) (refs : List Ref) → HaveSameNames [] (r ∷ refs) → ⊥

@@ -24,10 +24,10 @@ ForwardTo s d near far = (name near ≡ s) × (far ≡ d)
 abbrev BackwardTo : Start → Option (List ℕ) → List ℕ → Option (List ℕ) → Type 0
 BackwardTo s d near far = (name (unwrap_or far []) ≡ s) × (Some near ≡ d)
 
-one_name : (n m : List ℕ) → name n ≡ name m → n ≡ m
+pub one_name : (n m : List ℕ) → name n ≡ name m → n ≡ m
 one_name n m same = cc
 
-no_id : (n i : List ℕ) → name n ≡ id i → ⊥
+pub no_id : (n i : List ℕ) → name n ≡ id i → ⊥
 no_id n i same = cc
 
 reach_forward : (items : List Ref) (s : Start) (d : Option (List ℕ)) (r : Reading) → Reaches AreForwardEnds (Takes items) items (ForwardTo s d) r → MakesForward items s d r

@@ -4,7 +4,7 @@ use Rattle.bstr.specs.declared.bstring.BString.{BString}
 use Rattle.bstr.specs.Owned.{bstring_bytes}
 use Rattle.std.specs.List as lists
 use Rattle.std.specs.List.{AllByRecursion}
-use Rattle.std.proofs.lemmas.List.{append-nil, get_or-map, length-map, map-append}
+use Rattle.std.proofs.lemmas.List.{append-nil, get_or-map, length-map, map-append, map_more}
 use Rattle.std.proofs.lemmas.List.Elements.{recursion_from_All}
 use Rattle.gix_refspec_text.specs.declared.parsing.Operation.{Operation}
 use Rattle.gix_refspec_text.specs.declared.parsing.Operation.TheVariants.{Fetch}
@@ -23,7 +23,7 @@ use Rattle.gix_refspec_match.specs.Matching.Hits.{AreForwardEnds}
 use Rattle.gix_refspec.specs.Laws.Matching.{MakesForward, PairsItem}
 use Rattle.gix_refspec.specs.Matching.Asked.{HasNoList, Lists, ListsAs, ListsGroup, ListsSide, Serves}
 use Rattle.gix_refspec_match.proofs.lemmas.hits.HitLemmas.{one_kind}
-use Rattle.gix_refspec_match.proofs.lemmas.lists.JoinLemmas.{joined_next, map_cut, map_long, map_more, nothing_joined}
+use Rattle.gix_refspec_match.proofs.lemmas.lists.JoinLemmas.{joined_next, map_cut, map_long, nothing_joined}
 use Rattle.gix_refspec_match.proofs.lemmas.keep.KeptLemmas.{HasPair-from_place}
 use Rattle.gix_refspec.proofs.lemmas.keep.PairMadeLemmas.{kept_exactly}
 use Rattle.gix_refspec_text.proofs.lemmas.prefixes.PrefixLemmas.{one_asked}

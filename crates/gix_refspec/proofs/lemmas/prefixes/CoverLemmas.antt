@@ -19,7 +19,9 @@ use Rattle.gix_refspec_text.proofs.lemmas.hits.MatchLemmas.{lacks_no_pattern, pr
 use Rattle.gix_refspec_text.proofs.lemmas.prefixes.OnePrefixLemmas.{one_prefix}
 use Rattle.gix_refspec_text.proofs.lemmas.prefixes.PrefixLemmas.{one_asked}
 use Rattle.gix_refspec.proofs.lemmas.validate.PlaceFitLemmas.{stands_behind}
-use Rattle.gix_refspec_match.proofs.lemmas.keep.RepeatLemmas.{all_join, all_weaker}
+use Rattle.std.proofs.lemmas.Option.{same_Some}
+use Rattle.gix_refspec_text.proofs.lemmas.lists.AllLemmas.{all_join, all_weaker}
+use Rattle.gix_refspec.proofs.lemmas.keep.PairMadeLemmas.{one_name, no_id}
 
 -- ---- some element of a list
 
@@ -117,15 +119,9 @@ hits_covered g before (r ∷ rest) items k hits whole place (first, others, of_s
 abbrev SourcesAre : (Mapped → List ℕ → Type 0) → List Mapped → Type 0
 SourcesAre P list = AllByRecursion (λ m. (n : List ℕ) → m.source ≡ name n → P m n) list
 
-same_name : (n m : List ℕ) → name n ≡ name m → n ≡ m
-same_name n m same = cc
-
-id_no_name : (n bytes : List ℕ) → name n ≡ id bytes → ⊥
-id_no_name n bytes same = cc
-
 hit_sources : (P : Mapped → List ℕ → Type 0) (hits : List Hit) → AllByRecursion (λ hit. P (forward_of hit) hit.near) hits → SourcesAre P (map forward_of hits)
 hit_sources P [] all = tt
-hit_sources P (hit ∷ hits) all = ((λ n is. subst (P (forward_of hit)) (same_name hit.near n is) all.0), hit_sources P hits all.1)
+hit_sources P (hit ∷ hits) all = ((λ n is. subst (P (forward_of hit)) (one_name hit.near n is) all.0), hit_sources P hits all.1)
 
 -- what is so of all mappings is so of those that are kept
 kept_each : (Q : Mapped → Type 0) (g : List Reading) (all : List Mapped) (k : ℕ) (xs ys : List Mapped) → AllByRecursion Q xs → IsMadeFrom (λ j m made. (made ≡ m) × IsKeptAt g all j m) k xs ys → AllByRecursion Q ys
@@ -141,14 +137,11 @@ forward_covered : (g : List Reading) (items : List Ref) (all : List Mapped) → 
 forward_covered g items all are =
     subst (SourcesAre (IsSourceCovered g)) (sym are.all)
     (all_join (λ m. (n : List ℕ) → m.source ≡ name n → IsSourceCovered g m n) are.ids (map forward_of are.hits)
-    (made_each IsIdMapping (λ m. (n : List ℕ) → m.source ≡ name n → IsSourceCovered g m n) (λ k r m is n same. absurd (id_no_name n is.bytes (sym same ∙ is.source))) 0 g are.ids are.are_ids)
+    (made_each IsIdMapping (λ m. (n : List ℕ) → m.source ≡ name n → IsSourceCovered g m n) (λ k r m is n same. absurd (no_id n is.bytes (sym same ∙ is.source))) 0 g are.ids are.are_ids)
     (hit_sources (IsSourceCovered g) are.hits (hits_covered g [] g items 0 are.hits refl refl are.are_hits)))
 
 pub cover : (g : List Reading) (items : List Ref) → Cover g items
 cover g items kept stays = kept_each (λ m. (n : List ℕ) → m.source ≡ name n → IsSourceCovered g m n) g stays.all 0 stays.all kept (forward_covered g items stays.all stays.forward) stays.is
-
-some_reading : (q r : Reading) → Some q ≡ Some r → q ≡ r
-some_reading q r same = cc
 
 -- a spec expands to one list
 expansion_once : (r : Reading) (list other : List (List ℕ)) → IsExpansion r list → IsExpansion r other → list ≡ other
@@ -169,7 +162,7 @@ joined_covers n (s ∷ g) k entries (suc i, r, below, here, covered) (first, res
 -- what holds of the one at a place holds of some
 some_at : (P : Reading → Type 0) (g : List Reading) (i : ℕ) (r : Reading) → slice_get g i ≡ Some r → P r → Any P g
 some_at P [] i r here holds = absurd (cc)
-some_at P (s ∷ g) zero r here holds = (0, r, omega arith, some_reading s r here, holds)
+some_at P (s ∷ g) zero r here holds = (0, r, omega arith, same_Some s r here, holds)
 some_at P (s ∷ g) (suc i) r here holds =
     let (k, q, below, is, such) = some_at P g i r here holds in
     (suc k, q, omega (arith, below), is, such)

@@ -9,8 +9,9 @@ use Rattle.gix_refspec_text.specs.Texts.Bytes.{at, brace, dot, slash, star}
 use Rattle.gix_refspec_text.specs.Texts.Words.{BeginsWith, EndsWith, Holds}
 use Rattle.gix_refspec_text.specs.Texts.Name.{is_refused_byte, HasFault, SomeComponent}
 use Rattle.gix_refspec.specs.Laws.Names.{is_plain_component, is_plain_name, is_special_byte, PlainNames}
-use Rattle.gix_refspec_text.proofs.lemmas.texts.ComponentLemmas.{AllByRecursion-append, AllByRecursion-parts}
+use Rattle.gix_refspec_text.proofs.lemmas.texts.ComponentLemmas.{AllByRecursion-parts}
 use Rattle.gix_refspec_text.proofs.facts.FaultFacts.{no_component}
+use Rattle.gix_refspec_text.proofs.lemmas.lists.AllLemmas.{all_join}
 
 -- ---- bytes
 
@@ -37,7 +38,7 @@ joined_fine [] plain = tt
 joined_fine (w ∷ []) plain = none_special w (and_parts (is_plain_component w) true plain).0
 joined_fine (w ∷ v ∷ parts) plain =
     let each = and_parts (is_plain_component w) (list_all is_plain_component (v ∷ parts)) plain in
-    AllByRecursion-append Fine w (slash ∷ join_with_byte slash (v ∷ parts)) (none_special w each.0) (inl refl, joined_fine (v ∷ parts) each.1)
+    all_join Fine w (slash ∷ join_with_byte slash (v ∷ parts)) (none_special w each.0) (inl refl, joined_fine (v ∷ parts) each.1)
 
 -- so no other special byte is there
 not_there : (b : ℕ) (before after x : List ℕ) → b ≢ slash → is_special_byte b ≡ true → AllByRecursion Fine x → x ≡ before ++ (b ∷ after) → ⊥

@@ -10,7 +10,7 @@ use Rattle.gix_refspec_match.specs.Matching.Hits.{AreForwardEnds, AreKeptForward
 use Rattle.gix_refspec.specs.Matching.Validation.{AreConflicts, ForwardFits, HaveOneSource, IsValidated, MeetAt, NeverMeet, Removed, Survives, ValidatedOnce}
 use Rattle.gix_refspec.proofs.lemmas.validate.FirstLemmas.{start_cases}
 use Rattle.gix_refspec_match.proofs.lemmas.keep.KeptLemmas.{kept_once}
-use Rattle.gix_refspec_match.proofs.lemmas.keep.RepeatLemmas.{all_join}
+use Rattle.gix_refspec_text.proofs.lemmas.lists.AllLemmas.{all_join}
 
 -- what is made of each element, where what a relation makes has P
 pub made_each : {X Y : Type 0} (R : ℕ → X → Y → Type 0) (P : Y → Type 0) (n : ℕ) → ((k : ℕ) (x : X) (y : Y) → k < n → R k x y → P y) → (k : ℕ) (xs : List X) (ys : List Y) → k + length xs ≤ n → IsMadeFrom R k xs ys → AllByRecursion P ys

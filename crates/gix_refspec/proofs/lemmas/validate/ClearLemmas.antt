@@ -17,8 +17,8 @@ use Rattle.gix_refspec_text.proofs.lemmas.texts.ObjectIdLemmas.{IsLowerText-lowe
 use Rattle.gix_refspec.proofs.lemmas.validate.AfterLemmas.{stays_each}
 use Rattle.gix_refspec.specs.Laws.Plans.{LacksIn, MappedLacks, NoControlCharacter, SidesLack, StartLacks}
 use Rattle.gix_refspec.proofs.lemmas.validate.PlacedOnceLemmas.{printed_lacks, sides_lack}
-use Rattle.gix_refspec_match.proofs.lemmas.keep.RepeatLemmas.{all_join, all_left, all_right}
 use Rattle.hex.proofs.HexLemmas.{decode_of-ok}
+use Rattle.gix_refspec_text.proofs.lemmas.lists.AllLemmas.{all_left, all_right, all_join}
 
 -- a hit holds no byte b
 abbrev HitLacks : ℕ → Hit → Type 0

@@ -24,22 +24,17 @@ use Rattle.gix_refspec_text.specs.Texts.ObjectId.{id_bytes}
 use Rattle.gix_refspec.specs.Matching.Validation.{AreConflicts, Conflict, IndexesFit, IsConflict, HasConflictAt, IsFirstTo, IsTextAt}
 use Rattle.gix_refspec_match.specs.Private.Kept.{FlagsRepeats, Has, IsFlagged, IsRepeat, Rises}
 use Rattle.gix_refspec.specs.Private.Updates.{AddsConflict, AreUpdates, AreFirstUpdates, AreConflicting, HasUpdate, IsRun, IsFirstAt, IsConflictOf, update_cmp, updated_places}
-use Rattle.gix_refspec_match.proofs.lemmas.keep.RepeatLemmas.{all_join, all_right, all_weaker, some_mapping}
+use Rattle.gix_refspec_match.proofs.lemmas.keep.RepeatLemmas.{some_mapping}
 use Rattle.gix_refspec_match.proofs.lemmas.keep.KeptLemmas.{repeats_at}
 use Rattle.gix_refspec.proofs.lemmas.validate.UpdateLemmas.{HasUpdate-cases, HasUpdate-left, HasUpdate-right, later, mapped_at, not_below_itself, strict_left, strict_right}
 use Rattle.gix_refspec.proofs.lemmas.validate.FirstLemmas.{IsOfPlace, contested_from_firsts, made_at_places, one_mapping, two_firsts}
+use Rattle.std.proofs.lemmas.Slice.Zip.{all_zipped_more}
+use Rattle.gix_refspec_text.proofs.lemmas.lists.AllLemmas.{all_right, all_join, all_weaker}
 
 -- the mappings at the places have these sources, and their specs these texts
 pub record AreTold (g : List Reading) (l : List Mapped) (ns : List ℕ) (sources : List Start) (texts : List (List ℕ)) : Type 0 where
   pub sources_are : AllZip (IsOfPlace (λ m source. source ≡ m.source) l) ns sources
   pub texts_are : AllZip (IsOfPlace (λ m text. IsTextAt g m.spec text) l) ns texts
-
--- one more of each
-pub zip_more : {A B : Type 0} (R : A → B → Type 0) (xs : List A) (ys : List B) (x : A) (y : B) → AllZip R xs ys → R x y → AllZip R (xs ++ x ∷ []) (ys ++ y ∷ [])
-zip_more R [] [] x y zip one = (one, tt)
-zip_more R [] (b ∷ ys) x y zip one = absurd zip
-zip_more R (a ∷ xs) [] x y zip one = absurd zip
-zip_more R (a ∷ xs) (b ∷ ys) x y zip one = (zip.0, zip_more R xs ys x y zip.1 one)
 
 -- updates of one destination have the places of the updates of it
 pub places_to_one : (x : List ℕ) (cs : List Update) (k : ℕ) → AllByRecursion (λ c. c.destination.now ≡ x) cs → Has (updated_places cs) k ↔ HasUpdate cs k x
@@ -142,8 +137,8 @@ told_more g ms run i d m source text sources texts below fits is is_source is_te
     let here : slice_get l (get_or run i d).place ≡ Some (mapped_of m) = mapped_at ms (get_or run i d).place m fits is in
     let places : updated_places (take (i + 1) run) ≡ updated_places (take i run) ++ (get_or run i d).place ∷ [] = ap updated_places (take_more run i d below) ∙ map-append (λ (c : Update). c.place) (take i run) (get_or run i d ∷ []) in
     subst (λ (ns : List ℕ). AreTold g l ns (sources ++ source ∷ []) (texts ++ text ∷ [])) (sym places) (record {
-      sources_are = zip_more (IsOfPlace (λ m s. s ≡ m.source) l) (updated_places (take i run)) sources (get_or run i d).place source told.sources_are (mapped_of m, here, is_source);
-      texts_are = zip_more (IsOfPlace (λ m t. IsTextAt g m.spec t) l) (updated_places (take i run)) texts (get_or run i d).place text told.texts_are (mapped_of m, here, is_text);
+      sources_are = all_zipped_more (IsOfPlace (λ m s. s ≡ m.source) l) (updated_places (take i run)) sources (get_or run i d).place source told.sources_are (mapped_of m, here, is_source);
+      texts_are = all_zipped_more (IsOfPlace (λ m t. IsTextAt g m.spec t) l) (updated_places (take i run)) texts (get_or run i d).place text told.texts_are (mapped_of m, here, is_text);
     })
 
 -- the spec of a mapping has a place among the specs

@@ -10,7 +10,8 @@ use Rattle.gix_refspec_match.specs.Matching.Mappings.{Start, name, id, Mapped, I
 use Rattle.gix_refspec.specs.Matching.Validation.{HasConflictAt}
 use Rattle.gix_refspec_match.specs.Private.Kept.{Has, Rises}
 use Rattle.gix_refspec.specs.Private.Updates.{IsFirstAt}
-use Rattle.gix_refspec_match.proofs.lemmas.keep.RepeatLemmas.{all_weaker, not_below}
+use Rattle.gix_refspec_match.proofs.lemmas.keep.RepeatLemmas.{not_below}
+use Rattle.gix_refspec_text.proofs.lemmas.lists.AllLemmas.{all_weaker}
 
 -- the mapping at place n is one of which Q makes y
 abbrev pub IsOfPlace : {Y : Type 0} → (Mapped → Y → Type 0) → List Mapped → ℕ → Y → Type 0

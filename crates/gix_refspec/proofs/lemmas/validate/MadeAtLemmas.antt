@@ -15,8 +15,8 @@ use Rattle.gix_refspec.proofs.lemmas.validate.AfterLemmas.{stays_each}
 use Rattle.gix_refspec.proofs.lemmas.keep.FirstStaysLemmas.{there, back}
 use Rattle.gix_refspec.proofs.lemmas.keep.PairMadeLemmas.{there_far}
 use Rattle.gix_refspec.proofs.lemmas.validate.PlaceFitLemmas.{stands_behind, map_each}
-use Rattle.gix_refspec_match.proofs.lemmas.keep.RepeatLemmas.{all_join}
 use Rattle.gix_refspec_match.proofs.lemmas.lists.SomeLemmas.{Any, Any-right}
+use Rattle.gix_refspec_text.proofs.lemmas.lists.AllLemmas.{all_join}
 
 -- ---- what is made of the elements of a list, which are at their places
 

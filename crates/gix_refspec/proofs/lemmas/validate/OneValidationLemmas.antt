@@ -19,10 +19,10 @@ use Rattle.gix_refspec.specs.Matching.Validation.{IsFirstTo, IsTextAt, Conflict,
 use Rattle.gix_refspec.specs.Laws.Validation.{ValidateAlike, OneValidation, CopiedOutcome}
 use Rattle.gix_refspec.proofs.lemmas.validate.UpdateLemmas.{not_below_itself, below_trans}
 use Rattle.gix_refspec.proofs.lemmas.validate.ConflictLemmas.{copied_name, copied_source}
-use Rattle.gix_refspec_text.proofs.lemmas.specs.FormsBackLemmas.{some_once}
 use Rattle.gix_refspec_match.proofs.lemmas.hits.HitLemmas.{same_mapped}
 use Rattle.gix_refspec_match.proofs.lemmas.lists.ListsLemmas.{made_once}
 use Rattle.gix_refspec_match.proofs.lemmas.lists.SomeLemmas.{Any}
+use Rattle.std.proofs.lemmas.Option.{same_Some}
 
 -- ---- conflicts
 
@@ -66,14 +66,11 @@ contested g l [] other d each are any = absurd any
 contested g l (c ∷ cs) other d each are (inl here) = subst (λ (z : List ℕ). Any (λ x. x ≡ z) (map (λ (e : Conflict). e.destination) other)) here (among (map (λ (e : Conflict). e.destination) other) c.destination (are.every c.destination each.0.contested))
 contested g l (c ∷ cs) other d each are (inr later) = contested g l cs other d each.1 are later
 
-one_reading : (r q : Reading) → Some r ≡ Some q → r ≡ q
-one_reading r q same = cc
-
 -- a place has one text
 one_text : (g : List Reading) (place : ℕ) (text other : List ℕ) → IsTextAt g place text → IsTextAt g place other → text ≡ other
 one_text g place text other (r, stands, prints) (q, stood, also) =
-    let reading : q ≡ r = one_reading q r (sym stood ∙ stands) in
-    some_once text other (sym prints ∙ subst (λ (z : Reading). printed z ≡ Some other) reading also)
+    let reading : q ≡ r = same_Some q r (sym stood ∙ stands) in
+    same_Some text other (sym prints ∙ subst (λ (z : Reading). printed z ≡ Some other) reading also)
 
 same_conflict : (c e : Conflict) → c.destination ≡ e.destination → c.sources ≡ e.sources → c.texts ≡ e.texts → c ≡ e
 same_conflict c e destination sources texts =
@@ -112,7 +109,7 @@ same_removed a b destination spec =
 
 -- a mapping has one fix
 one_fix : (g : List Reading) (m : Mapped) (a b : Removed) → IsFix g m a → IsFix g m b → a ≡ b
-one_fix g m a b is_a is_b = same_removed a b (some_once a.destination b.destination (sym is_a.goes ∙ is_b.goes)) (one_reading a.spec b.spec (sym is_a.spec ∙ is_b.spec))
+one_fix g m a b is_a is_b = same_removed a b (same_Some a.destination b.destination (sym is_a.goes ∙ is_b.goes)) (same_Some a.spec b.spec (sym is_a.spec ∙ is_b.spec))
 
 pub one_validation : (g : List Reading) (l : List Mapped) → OneValidation g l
 one_validation g l = record {
@@ -122,15 +119,6 @@ one_validation g l = record {
 }
 
 -- ---- copies
-
-copied_destination : (x y : Option NameRef) → IsDestinationCopy x y → option_map name_bytes y ≡ option_map name_bytes x
-copied_destination None None copy = refl
-copied_destination None (Some m) copy = absurd copy
-copied_destination (Some n) None copy = absurd copy
-copied_destination (Some n) (Some m) copy = ap Some (copied_name n m copy)
-
-copied_mapping : (m copy : Mapping) → IsMappingCopy m copy → mapped_of copy ≡ mapped_of m
-copied_mapping m copy is = same_mapped (mapped_of copy) (mapped_of m) is.item (copied_source m.lhs copy.lhs is.source) (copied_destination m.rhs copy.rhs is.destination) is.spec
 
 copied_mappings : (ms copies : List Mapping) → AreMappingCopies ms copies → map mapped_of copies ≡ map mapped_of ms
 copied_mappings [] [] are = refl

@@ -12,7 +12,7 @@ use Rattle.gix_refspec_match.specs.Matching.Hits.{Ends, AreSpecHits, AreHits, Hi
 use Rattle.gix_refspec.specs.Matching.Validation.{BackwardPlaces, ForwardPlaces, PlacesFit, Survives}
 use Rattle.gix_refspec_match.specs.Private.HitViews.{HasEnds, TakesIn}
 use Rattle.gix_refspec.proofs.lemmas.validate.AfterLemmas.{joined_each, made_each, stays_each}
-use Rattle.gix_refspec_match.proofs.lemmas.keep.RepeatLemmas.{all_join}
+use Rattle.gix_refspec_text.proofs.lemmas.lists.AllLemmas.{all_join}
 
 -- the hit has the place of a reading, and that of an item with its name
 record IsPlacedHit (n : ℕ) (items : List Ref) (h : Hit) : Type 0 where

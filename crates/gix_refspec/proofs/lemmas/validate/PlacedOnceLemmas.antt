@@ -20,11 +20,11 @@ use Rattle.gix_refspec.specs.Matching.Validation.{IsFix, MeetAt, NeverMeet, Remo
 use Rattle.gix_refspec.specs.Laws.Plans.{AreFixesApart, LacksIn, SidesLack}
 use Rattle.gix_refspec_text.proofs.lemmas.texts.TextLemmas.{Lacks-from_absent}
 use Rattle.gix_refspec_text.proofs.lemmas.texts.HeadLemmas.{IsName-head}
-use Rattle.gix_refspec_text.proofs.lemmas.specs.FormsBackLemmas.{some_once}
 use Rattle.gix_refspec_text.proofs.lemmas.texts.ObjectIdLemmas.{IsIdText-unique}
 use Rattle.gix_refspec.proofs.lemmas.validate.AfterLemmas.{stays_each}
 use Rattle.gix_refspec.proofs.lemmas.validate.PlaceFitLemmas.{stands_behind}
-use Rattle.gix_refspec_match.proofs.lemmas.keep.RepeatLemmas.{all_join, all_left, all_right}
+use Rattle.std.proofs.lemmas.Option.{same_Some}
+use Rattle.gix_refspec_text.proofs.lemmas.lists.AllLemmas.{all_left, all_right, all_join}
 
 -- ---- fixes
 
@@ -66,16 +66,13 @@ kept_of_specs g items l kept =
     stays_each (λ k m. IsKeptAt g kept.all k m) (IsOfItsSpec g) 0 kept.all l
     (subst (AllByRecursion (IsOfItsSpec g)) (sym are.all) (all_join (IsOfItsSpec g) are.ids (map forward_of are.hits) (ids_of_specs g [] g 0 are.ids refl refl are.are_ids) (hits_have_items g are.hits))) kept.is
 
-some_reading : (q r : Reading) → Some q ≡ Some r → q ≡ r
-some_reading q r same = cc
-
 -- so two of one spec have one source
 pub one_id : (g : List Reading) (m n : Mapped) → IsOfItsSpec g m → IsOfItsSpec g n → m.item ≡ None → n.item ≡ None → m.spec ≡ n.spec → m.source ≡ n.source
 one_id g m n of_m of_n no_m no_n spec =
     let (r, here, is) = of_m no_m in
     let (q, there, also) = of_n no_n in
-    let same : r ≡ q = some_reading r q (sym here ∙ ap (slice_get g) spec ∙ there) in
-    let text : is.text ≡ also.text = some_once is.text also.text (sym is.side ∙ ap (λ (x : Reading). x.source) same ∙ also.side) in
+    let same : r ≡ q = same_Some r q (sym here ∙ ap (slice_get g) spec ∙ there) in
+    let text : is.text ≡ also.text = same_Some is.text also.text (sym is.side ∙ ap (λ (x : Reading). x.source) same ∙ also.side) in
     let bytes : is.bytes ≡ also.bytes = IsIdText-unique also.text is.bytes also.bytes (subst (λ (t : List ℕ). IsIdText t is.bytes) text is.object.2) also.object.2 in
     is.source ∙ ap id bytes ∙ sym also.source
 
@@ -124,11 +121,11 @@ module _ (b : ℕ) (below : b < 32) (refused : IsTrue (is_refused_byte b)) where
   alone_lacks s source = all_join (λ c. c ≢ b) (sign (begins_with_plus s)) s (sign_lacks (begins_with_plus s)) source
 
   fetch_lacks : (mode : Mode) (s : List ℕ) (d : Option (List ℕ)) (t : List ℕ) → Lacks b s → LacksIn b d → printed (fetched mode s d) ≡ Some t → Lacks b t
-  fetch_lacks Normal s None t source destination is = subst (Lacks b) (some_once _ t is) (alone_lacks s source)
-  fetch_lacks Forced s None t source destination is = subst (Lacks b) (some_once _ t is) (alone_lacks s source)
-  fetch_lacks Negative s None t source destination is = subst (Lacks b) (some_once _ t is) ((λ same. omega (arith, same, below)), source)
-  fetch_lacks Normal s (Some d) t source destination is = subst (Lacks b) (some_once _ t is) (forced_lacks false s d source destination)
-  fetch_lacks Forced s (Some d) t source destination is = subst (Lacks b) (some_once _ t is) (forced_lacks true s d source destination)
+  fetch_lacks Normal s None t source destination is = subst (Lacks b) (same_Some _ t is) (alone_lacks s source)
+  fetch_lacks Forced s None t source destination is = subst (Lacks b) (same_Some _ t is) (alone_lacks s source)
+  fetch_lacks Negative s None t source destination is = subst (Lacks b) (same_Some _ t is) ((λ same. omega (arith, same, below)), source)
+  fetch_lacks Normal s (Some d) t source destination is = subst (Lacks b) (same_Some _ t is) (forced_lacks false s d source destination)
+  fetch_lacks Forced s (Some d) t source destination is = subst (Lacks b) (same_Some _ t is) (forced_lacks true s d source destination)
   fetch_lacks Negative s (Some d) t source destination is = absurd (cc)
 
   alike_lack : (s d : List ℕ) → AreAlike s d → Lacks b s × Lacks b d

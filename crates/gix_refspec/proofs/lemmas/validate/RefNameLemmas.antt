@@ -38,7 +38,7 @@ some_unnamed ms i m side below is bad all =
     let named = All-from_recursion IsNamed (map mapped_of ms) all i (mapped_of m) (omega (arith, below, length-map ms mapped_of)) in
     bad_unnamed side (mapped_of m) bad (subst IsNamed (get_or-map mapped_of ms i m (mapped_of m) below ∙ ap mapped_of (sym is)) named)
 
-copied_destination : (d e : Option NameRef) → IsDestinationCopy d e → option_map name_bytes e ≡ option_map name_bytes d
+pub copied_destination : (d e : Option NameRef) → IsDestinationCopy d e → option_map name_bytes e ≡ option_map name_bytes d
 copied_destination None None copy = refl
 copied_destination None (Some m) copy = absurd copy
 copied_destination (Some n) None copy = absurd copy

@@ -21,8 +21,10 @@ use Rattle.gix_refspec_match.specs.Matching.Mappings.{Mapped}
 use Rattle.gix_refspec_match.specs.Views.Mapping.{mapped_of, name_bytes}
 use Rattle.gix_refspec_match.specs.Private.Kept.{IsFlagged, Rises}
 use Rattle.gix_refspec.specs.Private.Updates.{AreUpdates, GoesTo, HasUpdate, IsRun, update_cmp, updated_places}
-use Rattle.gix_refspec_match.proofs.lemmas.keep.PairLemmas.{both_equal, same_texts}
-use Rattle.gix_refspec_match.proofs.lemmas.keep.RepeatLemmas.{Rises-push, all_join, all_left, all_right, all_weaker, apart_places}
+use Rattle.gix_refspec_match.proofs.lemmas.keep.PairLemmas.{same_texts}
+use Rattle.gix_refspec_match.proofs.lemmas.keep.RepeatLemmas.{Rises-push, apart_places}
+use Rattle.std.proofs.lemmas.Map.Lookups.{both_Equal}
+use Rattle.gix_refspec_text.proofs.lemmas.lists.AllLemmas.{all_left, all_right, all_join, all_weaker}
 
 -- there are the updates of the mappings before place p that have a destination and aren't flagged, by place
 pub record AreUpdatesUpto (l : List Mapped) (flags : List Bool) (p : ℕ) (cs : List Update) : Type 0 where
@@ -103,7 +105,7 @@ strict_from_sorted xs ys moved rises sorted =
     turned (update_cmp y x) (update_cmp x y) (update_total.antisymm x y)
     (sorted_far (λ (a : Update) (b : Update). is_lt (update_cmp a b)) weak ys sorted i j d (omega arith) below)
     (λ tied. apart_places (updated_places xs) (updated_places ys) (IsPermutation-map (λ (c : Update). c.place) xs ys moved) rises i j 0 before (omega (arith, length-map ys (λ (c : Update). c.place)))
-    (get_or-map (λ (c : Update). c.place) ys i d 0 (omega arith) ∙ sym (same_from_cmp y.place x.place (both_equal (slice_cmp nat_cmp y.destination.now x.destination.now) (nat_cmp y.place x.place) tied).1) ∙ sym (get_or-map (λ (c : Update). c.place) ys j d 0 below))))
+    (get_or-map (λ (c : Update). c.place) ys i d 0 (omega arith) ∙ sym (same_from_cmp y.place x.place (both_Equal (slice_cmp nat_cmp y.destination.now x.destination.now) (nat_cmp y.place x.place) tied).1) ∙ sym (get_or-map (λ (c : Update). c.place) ys j d 0 below))))
 
 -- an update of some, as one that they contain
 update_within : (cs : List Update) (k : ℕ) (d : List ℕ) → HasUpdate cs k d → (c : Update) × Contains cs c × (c.place ≡ k) × (c.destination.now ≡ d)
@@ -148,12 +150,6 @@ updates_sorted l flags p cs new past made moved sorted = record {
   );
   order = strict_from_sorted cs new moved made.rises sorted;
 }
-
-upto : (k p : ℕ) → k < p + 1 → (k < p) ⊎ (k ≡ p)
-upto k p under = elim (cases_lt k p) [
-  | inl less ↦ inl less
-  | inr more ↦ inr (omega arith)
-]
 
 one_place : (l : List Mapped) (k : ℕ) (d e : List ℕ) → GoesTo l k d → GoesTo l k e → d ≡ e
 one_place l k d e (m, is_m, to_d) (n, is_n, to_e) =

@@ -4,7 +4,7 @@ use Rattle.std.specs.List.Retain.{ReturnsInTurn, IsFiltered}
 use Rattle.std.specs.List.{AllByRecursion, items_where_true}
 use Rattle.std.specs.Prelude.{MatchOption}
 use Rattle.std.proofs.lemmas.Bool.{false≢true}
-use Rattle.std.proofs.lemmas.List.{append-nil, length-map}
+use Rattle.std.proofs.lemmas.List.{append-nil, length-map, map_more}
 use Rattle.std.proofs.lemmas.Option.{slice_get-map, slice_get_read}
 use Rattle.gix_refspec_match.specs.declared.types.Mapping.{Mapping}
 use Rattle.gix_refspec_match.specs.declared.types.NameRef.{NameRef}
@@ -18,8 +18,8 @@ use Rattle.gix_refspec_match.specs.Matching.Mappings.{Mapped}
 use Rattle.gix_refspec_match.specs.Views.Mapping.{mapped_of, name_bytes}
 use Rattle.gix_refspec.specs.Views.Issue.{conflict_of, removed_of}
 use Rattle.gix_refspec.specs.Matching.Validation.{AreConflicts, AreFixes, AreSurvivors, IndexesFit, IsFix, IsValidated, IsWritable, Removed, Survives}
-use Rattle.gix_refspec_match.proofs.lemmas.keep.RepeatLemmas.{all_join}
-use Rattle.gix_refspec_match.proofs.lemmas.lists.JoinLemmas.{made_next, map_long, map_more}
+use Rattle.gix_refspec_match.proofs.lemmas.lists.JoinLemmas.{made_next, map_long}
+use Rattle.gix_refspec_text.proofs.lemmas.lists.AllLemmas.{all_join}
 
 -- what is made of one more mapping
 made_of_next : {Y : Type 0} (R : ℕ → Mapped → Y → Type 0) (ms : List Mapping) (i : ℕ) (m : Mapping) (ys : List Y) (made : Option Y) → i < length ms → m ≡ get_or ms i m → IsMadeFrom R 0 (map mapped_of (take i ms)) ys → MakesOf R i (mapped_of m) made → IsMadeFrom R 0 (map mapped_of (take (i + 1) ms)) (ys ++ option_to_list made)

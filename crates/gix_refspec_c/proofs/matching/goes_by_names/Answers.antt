@@ -5,19 +5,19 @@ use Rattle.gix_refspec_text.specs.declared.spec.RefSpecRef.{RefSpecRef}
 use Rattle.gix_refspec_c.specs.Matching.{GoesByName}
 use Rattle.gix_refspec.specs.Views.Spec.{reading_of}
 use Rattle.std.proofs.lemmas.Bool.{false≢true}
-use Rattle.gix_refspec_c.proofs.MatchingLemmas.{each_reading, one_more}
 use Rattle.gix_refspec_c.proofs.matching.goes_by_names.Goals as goal
+use Rattle.gix_refspec_text.proofs.lemmas.lists.MapLemmas.{one_more_mapped, each_mapped}
 
 pub returns-then-not-goes_by_name : goal.returns-then-not-goes_by_name
 returns-then-not-goes_by_name c = (
   (λ none. absurd (false≢true none)),
   (λ all.
       let told = subst (λ (xs : List RefSpecRef). AllByRecursion GoesByName (map reading_of xs)) (sym c.deref-spec-items.ensures.value) all in
-      absurd (false≢true (c.if-not-goes_by_name.ensures.1 (each_reading GoesByName c.deref-spec-items.result.now c.loop-spec.spec-index c.spec-item.result told c.loop-spec-test.true c.spec-item.is)))),
+      absurd (false≢true (c.if-not-goes_by_name.ensures.1 (each_mapped reading_of GoesByName c.deref-spec-items.result.now c.loop-spec.spec-index c.spec-item.result told c.loop-spec-test.true c.spec-item.is)))),
 )
 
 pub loop-spec-preserved : goal.loop-spec-preserved
 loop-spec-preserved c =
     let before = subst (λ (xs : List RefSpecRef). AllByRecursion GoesByName (map reading_of (take c.loop-spec.spec-index xs))) (sym c.deref-spec-items.ensures.value) c.loop-spec.invariant in
     subst (λ (xs : List RefSpecRef). AllByRecursion GoesByName (map reading_of (take (c.loop-spec.spec-index + 1) xs))) c.deref-spec-items.ensures.value
-    (one_more GoesByName c.deref-spec-items.result.now c.loop-spec.spec-index c.spec-item.result before c.loop-spec-test.true c.spec-item.is (c.goes_by_name.ensures.0 c.if-not-goes_by_name.false))
+    (one_more_mapped reading_of GoesByName c.deref-spec-items.result.now c.loop-spec.spec-index c.spec-item.result before c.loop-spec-test.true c.spec-item.is (c.goes_by_name.ensures.0 c.if-not-goes_by_name.false))

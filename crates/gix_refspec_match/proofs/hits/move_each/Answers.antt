@@ -1,11 +1,10 @@
 -- Each step writes the mapping at its place, moved.
 use Rattle.std.proofs.Common.{◌≡◌, ℕ, ◌+◌, ◌<◌, List, [], ◌∷◌, ◌++◌, Option, length, map, take, drop, get_or, slice_set, sym, ap, ◌∙◌, arith}
-use Rattle.std.proofs.lemmas.List.{drop-set-lt, drop_more, length-set, map-append, take_more_set}
+use Rattle.std.proofs.lemmas.List.{drop-set-lt, drop_more, length-set, map-append, take_more_set, map_more}
 use Rattle.gix_refspec_match.specs.declared.types.Mapping.{Mapping}
 use Rattle.gix_refspec_match.specs.Matching.Mappings.{Mapped}
 use Rattle.gix_refspec_match.specs.Views.Mapping.{mapped_of}
 use Rattle.gix_refspec_match.specs.Private.Part.{moved, place_among}
-use Rattle.gix_refspec_match.proofs.lemmas.lists.JoinLemmas.{map_more}
 use Rattle.gix_refspec_match.proofs.hits.move_each.Goals as goal
 
 abbrev first_of : {A : Type 0} → A → List A → A

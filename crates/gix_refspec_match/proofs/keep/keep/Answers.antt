@@ -5,10 +5,11 @@ use Rattle.gix_refspec_match.specs.declared.types.Mapping.{Mapping}
 use Rattle.gix_refspec_text.specs.Views.Spec.{reading_of}
 use Rattle.gix_refspec_match.specs.Matching.Lists.{IsMadeFrom}
 use Rattle.gix_refspec_match.specs.Private.Kept.{FlagsRepeats, IsKeptBy, IsUnflagged}
-use Rattle.gix_refspec_match.proofs.lemmas.keep.KeptLemmas.{free_remain, no_elements, free_unflagged, remain_free}
+use Rattle.gix_refspec_match.proofs.lemmas.keep.KeptLemmas.{free_remain, free_unflagged, remain_free}
 use Rattle.gix_refspec_match.proofs.lemmas.lists.ListsLemmas.{made_fewer}
 use Rattle.gix_refspec_match.proofs.lemmas.keep.ThinLemmas.{kept_twice}
 use Rattle.gix_refspec_match.proofs.keep.keep.Goals as goal
+use Rattle.std.proofs.lemmas.List.{nil_from_length}
 
 pub returns-in_err-repeats-clause-memory : goal.returns-in_err-repeats-clause-memory
 returns-in_err-repeats-clause-memory c =
@@ -22,7 +23,7 @@ returns-then-is_empty-clause-ok c =
     let es = c.in_ok-exclusions.exclusions in
     let free = c.drop_excluded.new.mappings.items in
     let flags = c.in_ok-repeats.repeats in
-    let no_flags : flags.items ≡ [] = no_elements flags.items (let none = eqb-true _ _ (sym c.if-is_empty.ensures) in omega (arith, none, flags.ok.0, flags.ok.1)) in
+    let no_flags : flags.items ≡ [] = nil_from_length flags.items (let none = eqb-true _ _ (sym c.if-is_empty.ensures) in omega (arith, none, flags.ok.0, flags.ok.1)) in
     kept_twice (map reading_of c.args.specs.now) ms free free es []
     c.in_ok-exclusions.ensures.ok
     c.drop_excluded.ensures

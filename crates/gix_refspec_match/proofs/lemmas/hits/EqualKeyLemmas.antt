@@ -10,7 +10,8 @@ use Rattle.gix_refspec_text.specs.Views.Spec.{reading_of}
 use Rattle.gix_refspec_match.specs.Private.Kept.{IsFlagged, Rises, places_in}
 use Rattle.gix_refspec_match.specs.Private.EqualSpecs.{ArePositiveKeys, FlagsEqual, IsEqualAt, IsPositiveKey}
 use Rattle.gix_refspec_match.proofs.lemmas.keep.KeyLemmas.{lower_rest, places_more}
-use Rattle.gix_refspec_match.proofs.lemmas.keep.RepeatLemmas.{all_join, rises_at}
+use Rattle.gix_refspec_match.proofs.lemmas.keep.RepeatLemmas.{rises_at}
+use Rattle.gix_refspec_text.proofs.lemmas.lists.AllLemmas.{all_join}
 
 read_at : (specs : List RefSpecRef) (place : ℕ) (s : RefSpecRef) (d : Reading) → place < length specs → s ≡ get_or specs place s → get_or (map reading_of specs) place d ≡ reading_of s
 read_at specs place s d below is = get_or-map reading_of specs place s d below ∙ ap reading_of (sym is)

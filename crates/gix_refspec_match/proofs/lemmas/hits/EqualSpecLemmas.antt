@@ -1,6 +1,6 @@
 -- Specs that have the sides of an earlier one: their hits make no pair that is new.
 use Rattle.std.proofs.Common.{◌≡◌, ◌⊎◌, inl, inr, ◌↔◌, ℕ, zero, suc, ◌+◌, ◌<◌, List, [], ◌∷◌, ◌++◌, None, Some, Bool, map, take, get_or, length, refl, sym, ap, ◌∙◌, subst, append_assoc, add-zero, arith}
-use Rattle.std.proofs.lemmas.List.{append-nil, get_or-map, get_or-take, length-map, map-append}
+use Rattle.std.proofs.lemmas.List.{append-nil, get_or-map, get_or-take, length-map, map-append, take-map}
 use Rattle.gix_refspec_match.specs.declared.hits.ends.Direction.{Direction}
 use Rattle.gix_refspec_match.specs.declared.hits.ends.Direction.TheVariants.{Forward, Backward}
 use Rattle.gix_refspec_match.specs.declared.hits.ends.Ends.{Ends as DeclaredEnds}
@@ -18,7 +18,7 @@ use Rattle.gix_refspec_match.specs.Private.EqualSpecs.{HaveSameSides, IsEqualAt,
 use Rattle.gix_refspec_match.proofs.lemmas.hits.HitLemmas.{spec_hits}
 use Rattle.gix_refspec_match.proofs.lemmas.lists.JoinLemmas.{map_long}
 use Rattle.gix_refspec_match.proofs.lemmas.keep.KeptLemmas.{HasPair-left}
-use Rattle.gix_refspec_match.proofs.lemmas.keep.ThinLemmas.{thins_all, thins_both, kept_thinned, take_map}
+use Rattle.gix_refspec_match.proofs.lemmas.keep.ThinLemmas.{thins_all, thins_both, kept_thinned}
 
 -- what hits make
 abbrev of_hits : Direction → List Hit → List Mapped
@@ -160,7 +160,7 @@ most_no_spec direction specs items i s old mid below is so_far none = record {
 
 -- the spec at place b, as it is among those up to a place after it
 up_to : (specs : List RefSpecRef) (b i : ℕ) (d : Reading) → b < i → i < length specs → get_or (map reading_of (take i specs)) b d ≡ get_or (map reading_of specs) b d
-up_to specs b i d less below = ap (λ (l : List Reading). get_or l b d) (sym (take_map reading_of i specs)) ∙ get_or-take i (map reading_of specs) b d less
+up_to specs b i d less below = ap (λ (l : List Reading). get_or l b d) (sym (take-map reading_of i specs)) ∙ get_or-take i (map reading_of specs) b d less
 
 -- a spec that is flagged adds nothing new
 pub most_equal : (direction : Direction) (specs : List RefSpecRef) (items : List Ref) (i : ℕ) (s : RefSpecRef) (flags : List Bool) (old mid : Made) → i < length specs → s ≡ get_or specs i s

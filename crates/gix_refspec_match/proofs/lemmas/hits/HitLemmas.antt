@@ -1,7 +1,7 @@
 -- What specs match, and what becomes of it.
 use Rattle.std.proofs.Common.{◌≡◌, ◌≢◌, ◌⊎◌, inl, inr, ℕ, suc, ◌+◌, ◌<◌, List, [], ◌∷◌, ◌++◌, codes, map, take, drop, get_or, Option, None, Some, option_map, option_to_list, option_copied, nat_eq, IsSome, is_some, Bool, not, true, false, MatchOption, Bor, length, refl, sym, ap, ◌∙◌, subst, append_assoc}
 use Rattle.std.specs.List.{IsSplitAt}
-use Rattle.std.proofs.lemmas.List.{append-nil, append_cancel_left, map-append, take-append-drop}
+use Rattle.std.proofs.lemmas.List.{append-nil, append_cancel_left, map-append, take-append-drop, map_more}
 use Rattle.std.proofs.Math.Seq.{take-append_seam}
 use Rattle.std.specs.Option.{option_eq}
 use Rattle.std.proofs.lemmas.Bool.Decides.{Decides-eqb}
@@ -47,7 +47,8 @@ use Rattle.gix_refspec_text.proofs.lemmas.specs.AcceptedLemmas.{accepted_few}
 use Rattle.gix_refspec_text.proofs.lemmas.hits.CandidateLemmas.{first_candidate, some_first}
 use Rattle.gix_refspec_text.proofs.lemmas.hits.MatchLemmas.{one_word, lacks_no_pattern, cut_once}
 use Rattle.gix_refspec_match.proofs.lemmas.lists.ListsLemmas.{made_once}
-use Rattle.gix_refspec_match.proofs.lemmas.lists.JoinLemmas.{MakesOnce, one_joined, empty_both, made_next, nothing_made, joined_next, nothing_joined, map_more, map_long, map_cut}
+use Rattle.gix_refspec_match.proofs.lemmas.lists.JoinLemmas.{MakesOnce, one_joined, empty_both, made_next, nothing_made, joined_next, nothing_joined, map_long, map_cut}
+use Rattle.gix_refspec_text.proofs.lemmas.lists.MapLemmas.{map_next}
 
 -- a name that a pattern fits begins as the pattern does
 pub front_of_fitted : (before after n word front rest : List ℕ) → IsSplitAt n (length before) front rest → Fits before after n word → front ≡ before
@@ -296,7 +297,7 @@ side_shown : (side : Option (List ℕ)) (k : DeclaredKind) → HasSideKind side 
 side_shown None k kind = absurd kind
 side_shown (Some text) k kind = (text, refl, kind)
 
-same_side : (side : Option (List ℕ)) (x y : List ℕ) → side ≡ Some x → side ≡ Some y → x ≡ y
+pub same_side : (side : Option (List ℕ)) (x y : List ℕ) → side ≡ Some x → side ≡ Some y → x ≡ y
 same_side side x y of_x of_y = cc
 
 -- the source is an id
@@ -345,17 +346,13 @@ pub one_pair : (direction : Direction) (r : Reading) (a b : Ends) → HasEnds di
 one_pair Forward r a b of_a of_b = same_ends a b (same_side r.source a.near b.near of_a.near of_b.near) (sym of_a.far ∙ of_b.far)
 one_pair Backward r a b of_a of_b = same_ends a b (same_side r.destination a.near b.near of_a.near of_b.near) (sym of_a.far ∙ of_b.far)
 
--- the specs up to a place, with the one there
-specs_more : (specs : List RefSpecRef) (i : ℕ) (s : RefSpecRef) → i < length specs → s ≡ get_or specs i s → map reading_of (take (i + 1) specs) ≡ map reading_of (take i specs) ++ reading_of s ∷ []
-specs_more specs i s below is = map_more reading_of specs i s below ∙ ap (λ t. map reading_of (take i specs) ++ reading_of t ∷ []) (sym is)
-
 specs_cut : (specs : List RefSpecRef) (i : ℕ) (s : RefSpecRef) → i < length specs → s ≡ get_or specs i s → map reading_of specs ≡ map reading_of (take i specs) ++ (reading_of s ∷ map reading_of (drop (suc i) specs))
 specs_cut specs i s below is = map_cut reading_of specs i s below ∙ ap (λ t. map reading_of (take i specs) ++ (reading_of t ∷ map reading_of (drop (suc i) specs))) (sym is)
 
 -- one more spec
 pub spec_hits : (direction : Direction) (specs : List RefSpecRef) (items : List Ref) (i : ℕ) (s : RefSpecRef) (g h : List Hit) → i < length specs → s ≡ get_or specs i s → AreHits (HasEnds direction) (TakesIn direction items) (map reading_of (take i specs)) items g → AreSpecHits (HasEnds direction) (TakesIn direction items) items i (reading_of s) h → AreHits (HasEnds direction) (TakesIn direction items) (map reading_of (take (i + 1) specs)) items (g ++ h)
 spec_hits direction specs items i s g h below is so_far here =
-    subst (λ rs. AreHits (HasEnds direction) (TakesIn direction items) rs items (g ++ h)) (sym (specs_more specs i s below is))
+    subst (λ rs. AreHits (HasEnds direction) (TakesIn direction items) rs items (g ++ h)) (sym (map_next reading_of specs i s below is))
     (joined_next (AreSpecHits (HasEnds direction) (TakesIn direction items) items) i (map reading_of (take i specs)) (reading_of s) g h (map_long reading_of specs i below) so_far here)
 
 -- a spec that hits some item
@@ -387,7 +384,7 @@ is_id_mapping k r bytes kind m asks destination item source becomes spec = recor
 -- one more spec, and what it makes
 specs_made : (specs : List RefSpecRef) (i : ℕ) (s : RefSpecRef) (list : List Mapped) (made : Option Mapped) → i < length specs → s ≡ get_or specs i s → IsMadeFrom IsIdMapping 0 (map reading_of (take i specs)) list → MakesOf IsIdMapping i (reading_of s) made → IsMadeFrom IsIdMapping 0 (map reading_of (take (i + 1) specs)) (list ++ option_to_list made)
 specs_made specs i s list made below is so_far here =
-    subst (λ rs. IsMadeFrom IsIdMapping 0 rs (list ++ option_to_list made)) (sym (specs_more specs i s below is))
+    subst (λ rs. IsMadeFrom IsIdMapping 0 rs (list ++ option_to_list made)) (sym (map_next reading_of specs i s below is))
     (made_next IsIdMapping i (map reading_of (take i specs)) (reading_of s) list made (map_long reading_of specs i below) so_far here)
 
 -- a spec that asks for an id adds a mapping

@@ -14,8 +14,9 @@ use Rattle.gix_refspec_match.specs.Views.Mapping.{ref_of}
 use Rattle.gix_refspec_match.specs.Matching.Hits.{Ends, AreHits, IsIdMapping}
 use Rattle.gix_refspec_text.specs.Private.SideViews.{kind_of_side}
 use Rattle.gix_refspec_match.specs.Private.HitViews.{HaveKinds, HasEnds, TakesIn, HasNoHit, AreHitsOfKinds, AreMade}
-use Rattle.gix_refspec_match.proofs.lemmas.lists.JoinLemmas.{map_long, map_more}
+use Rattle.gix_refspec_match.proofs.lemmas.lists.JoinLemmas.{map_long}
 use Rattle.gix_refspec_match.proofs.lemmas.hits.HitLemmas.{hit_missed, no_backward_hits, no_ids, none_hit, spec_hits}
+use Rattle.std.proofs.lemmas.List.{map_more}
 
 -- nothing was found
 pub found_none : {A : Type 0} (P : Type 0) (Q : A → Type 0) (found : Option A) → is_some found ≡ false → MatchOption found P Q → P

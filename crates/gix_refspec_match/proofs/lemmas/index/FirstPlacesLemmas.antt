@@ -22,7 +22,7 @@ has_last : (refs : List Ref) (r : Ref) → HasName (refs ++ r ∷ []) r.name
 has_last [] r = inl refl
 has_last (s ∷ refs) r = inr (has_last refs r)
 
-has_cases : (refs : List Ref) (r : Ref) (n : List ℕ) → HasName (refs ++ r ∷ []) n → HasName refs n ⊎ (r.name ≡ n)
+pub has_cases : (refs : List Ref) (r : Ref) (n : List ℕ) → HasName (refs ++ r ∷ []) n → HasName refs n ⊎ (r.name ≡ n)
 has_cases [] r n (inl same) = inr same
 has_cases [] r n (inr none) = absurd none
 has_cases (s ∷ refs) r n (inl same) = inl (inl same)

@@ -3,7 +3,7 @@ use Rattle.std.proofs.Common.{◌≡◌, inl, inr, ℕ, ◌+◌, ◌<◌, ◌≤
 use Rattle.std.specs.Global.{Vec}
 use Rattle.std.proofs.Math.Seq.{get_or-append_seam}
 use Rattle.std.proofs.lemmas.Bool.{cases_lt}
-use Rattle.std.proofs.lemmas.List.{append-nil, get_or-map, get_or_append_left, get_or_default, length-append, length-map}
+use Rattle.std.proofs.lemmas.List.{append-nil, get_or-map, get_or_append_left, get_or_default, length-append, length-map, map_more}
 use Rattle.gix_refspec_match.specs.declared.types.Item.{Item}
 use Rattle.gix_refspec_match.specs.declared.hits.ends.Direction.{Direction}
 use Rattle.gix_refspec_match.specs.declared.hits.ends.Ends.{Ends as DeclaredEnds}
@@ -20,7 +20,7 @@ use Rattle.gix_refspec_match.specs.Private.HitViews.{FitsRef, HasEnds, HaveKinds
 use Rattle.gix_refspec_match.specs.Private.Kept.{IsFlagged}
 use Rattle.gix_refspec_match.specs.Private.Index.{ArePlacesFitted, ArePlacesFittedTo, HasListed, IsListedStill, ListEach, ListsFitted, ListsFor}
 use Rattle.gix_refspec_match.proofs.lemmas.hits.HitLemmas.{one_kind, one_pair}
-use Rattle.gix_refspec_match.proofs.lemmas.lists.JoinLemmas.{made_next, map_long, map_more}
+use Rattle.gix_refspec_match.proofs.lemmas.lists.JoinLemmas.{made_next, map_long}
 use Rattle.gix_refspec_match.proofs.lemmas.keep.PartMadeLemmas.{some_item}
 
 -- what is listed of a ref

@@ -5,7 +5,7 @@ use Rattle.std.specs.List.{AllByRecursion, Contains}
 use Rattle.std.specs.Str.{bytes_eq}
 use Rattle.std.proofs.Math.Seq.{take-append_seam}
 use Rattle.std.proofs.lemmas.Bool.{cases_lt, false≢true}
-use Rattle.std.proofs.lemmas.List.{append-nil, get_or_past, length-append, length-take-le}
+use Rattle.std.proofs.lemmas.List.{append-nil, get_or_past, length-append, length-take-le, map_more}
 use Rattle.std.proofs.lemmas.Slice.Eq.{bytes_eq-Decides}
 use Rattle.bstr.specs.BStr.{bstr_bytes}
 use Rattle.gix_refspec_match.specs.declared.types.Item.{Item}
@@ -15,7 +15,7 @@ use Rattle.gix_refspec_text.specs.Matching.Match.{Ref}
 use Rattle.gix_refspec_match.specs.Private.Index.{AddsPlace, ArePlacesBehind, HaveLengths, HavePlaces, ListFronts}
 use Rattle.gix_refspec_match.specs.Private.Kept.{IsFlagged}
 use Rattle.gix_refspec_match.proofs.lemmas.index.IndexLemmas.{Puts, put_cases}
-use Rattle.gix_refspec_match.proofs.lemmas.lists.JoinLemmas.{made_next, map_long, map_more}
+use Rattle.gix_refspec_match.proofs.lemmas.lists.JoinLemmas.{made_next, map_long}
 use Rattle.gix_refspec_match.proofs.lemmas.index.PlacesLemmas.{all_at}
 
 -- a name begins with what is taken from it, and with nothing else of that length

@@ -4,7 +4,7 @@ use Rattle.std.specs.Global.{Vec}
 use Rattle.std.specs.List.{Contains}
 use Rattle.std.specs.Str.{bytes_eq}
 use Rattle.std.proofs.lemmas.Bool.{false≢true}
-use Rattle.std.proofs.lemmas.List.{append-nil}
+use Rattle.std.proofs.lemmas.List.{append-nil, map_more}
 use Rattle.std.proofs.lemmas.List.Elements.{Contains-append_left, Contains-push, Contains-push_cases}
 use Rattle.std.proofs.lemmas.Slice.Eq.{bytes_eq-Decides}
 use Rattle.bstr.specs.BStr.{bstr_bytes}
@@ -24,8 +24,8 @@ use Rattle.gix_refspec_match.specs.Private.HitViews.{HasEnds}
 use Rattle.gix_refspec_match.specs.Private.Index.{AllNear, ArePlacesOf, HavePlaces, HasNamesOf, asks_by_id, full_names_of, partial_names_of}
 use Rattle.gix_refspec_match.specs.Private.Part.{HasNoNearId, IsNoNearId}
 use Rattle.gix_refspec_match.proofs.lemmas.hits.HitLemmas.{one_kind, one_pair}
-use Rattle.gix_refspec_match.proofs.lemmas.lists.JoinLemmas.{made_next, map_long, map_more}
-use Rattle.gix_refspec_match.proofs.lemmas.keep.RepeatLemmas.{all_join, all_weaker}
+use Rattle.gix_refspec_match.proofs.lemmas.lists.JoinLemmas.{made_next, map_long}
+use Rattle.gix_refspec_text.proofs.lemmas.lists.AllLemmas.{all_join, all_weaker}
 
 -- the names up to a place, with the one there
 pub names_more : {A : Type 0} (f : A → List ℕ) (names : List A) (i : ℕ) (s : A) (n : List ℕ) → i < length names → s ≡ get_or names i s → n ≡ f s → map f (take (i + 1) names) ≡ map f (take i names) ++ n ∷ []

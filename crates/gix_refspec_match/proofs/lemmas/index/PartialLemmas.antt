@@ -3,7 +3,7 @@ use Rattle.std.proofs.Common.{◌≡◌, ◌⊎◌, inl, inr, ℕ, suc, ◌+◌,
 use Rattle.std.specs.Prelude.{OnOk}
 use Rattle.std.specs.Global.{Vec}
 use Rattle.std.specs.List.{Contains}
-use Rattle.std.proofs.lemmas.List.{append_cancel_left, length-append}
+use Rattle.std.proofs.lemmas.List.{append_cancel_left, length-append, map_more}
 use Rattle.bstr.specs.BStr.{bstr_bytes}
 use Rattle.gix_refspec_match.specs.declared.types.Item.{Item}
 use Rattle.gix_refspec_match.specs.declared.hits.ends.Direction.{Direction}
@@ -18,7 +18,7 @@ use Rattle.gix_refspec_match.proofs.lemmas.index.FirstPlacesLemmas.{taken_joins,
 use Rattle.gix_refspec_match.proofs.lemmas.hits.HitLemmas.{candidate_cases, placed_candidate, remote_candidate}
 use Rattle.gix_refspec_match.proofs.lemmas.index.IndexLemmas.{Puts, put_cases}
 use Rattle.gix_refspec_text.proofs.lemmas.hits.MatchLemmas.{one_word}
-use Rattle.gix_refspec_match.proofs.lemmas.lists.JoinLemmas.{map_cut, map_long, map_more}
+use Rattle.gix_refspec_match.proofs.lemmas.lists.JoinLemmas.{map_cut, map_long}
 
 -- what follows where a call succeeds
 pub on_ok : {T E : Type 0} (r : Result T E) (P Q : Type 0) → (P → Q) → OnOk r P → OnOk r Q

@@ -26,7 +26,7 @@ use Rattle.gix_refspec_match.specs.Private.HitViews.{HasEnds, HaveKinds, TakesIn
 use Rattle.gix_refspec_match.specs.Private.Index.{AllNear, ArePlacesTaken, IsIndexFor, IsIndexOf, IsIndexOfSide, IsListed, HasNamesOf, MatchesWhole, TakesWhole}
 use Rattle.gix_refspec_text.proofs.lemmas.hits.CandidateLemmas.{first_candidate}
 use Rattle.gix_refspec_match.proofs.lemmas.hits.HitLemmas.{is_hit, matches_as, taken_first, taken_matches}
-use Rattle.gix_refspec_match.proofs.lemmas.keep.RepeatLemmas.{all_weaker}
+use Rattle.gix_refspec_text.proofs.lemmas.lists.AllLemmas.{all_weaker}
 
 -- what a read past the end gives
 abbrev pub blank : Ref

@@ -7,7 +7,7 @@ use Rattle.gix_refspec_text.specs.Matching.Side.{IsCandidate, candidates}
 use Rattle.gix_refspec_text.specs.Matching.Match.{Ref}
 use Rattle.gix_refspec_match.specs.Matching.Lists.{IsMadeFrom}
 use Rattle.gix_refspec_match.specs.Private.Kept.{Has}
-use Rattle.gix_refspec_match.proofs.lemmas.keep.RepeatLemmas.{all_weaker}
+use Rattle.gix_refspec_text.proofs.lemmas.lists.AllLemmas.{all_weaker}
 
 -- the places of the refs of which P holds, the first one's being k
 abbrev pub AreWhere : (Ref → Type 0) → ℕ → List Ref → List ℕ → Type 0

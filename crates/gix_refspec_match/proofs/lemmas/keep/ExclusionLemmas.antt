@@ -23,13 +23,11 @@ use Rattle.gix_refspec_match.specs.Matching.Mappings.{IsExcluded, IsExcludedBy}
 use Rattle.gix_refspec_text.specs.Views.Spec.{reading_of}
 use Rattle.gix_refspec_match.specs.Views.Mapping.{name_bytes}
 use Rattle.gix_refspec_match.specs.Private.Kept.{AreExclusionsOf, FitsName, HasNegative, IsFitted, ExcludeName, ExcludesName, has_name}
-use Rattle.gix_refspec_text.proofs.lemmas.texts.TextLemmas.{Lacks-here, first_once}
 use Rattle.gix_refspec_text.proofs.lemmas.parsing.SideLemmas.{Lacks-name}
 use Rattle.gix_refspec_text.proofs.lemmas.specs.ReadBackLemmas.{named_either}
-
--- a reading with a positive mode isn't negative
-not_positive : (mode : Mode) → IsPositive mode → mode ≡ Negative → ⊥
-not_positive mode positive same = subst (λ (m : Mode). IsPositive m) same positive
+use Rattle.gix_refspec_text.proofs.lemmas.lists.LacksLemmas.{Lacks-here, first_once}
+use Rattle.gix_refspec_text.proofs.lemmas.parsing.ReasonLemmas.{positive}
+use Rattle.gix_refspec_text.proofs.lemmas.lists.MapLemmas.{map_next}
 
 -- the source of a negative reading
 negative_source : (s : List ℕ) (r : Reading) (x : List ℕ) → IsNameOrPattern s → Some (named_by s) ≡ r.source → r.source ≡ Some x → IsNameOrPattern x
@@ -40,18 +38,18 @@ negative_source s r x either is source =
 
 -- the source of a negative spec is a name or a pattern
 source_by_form : (op : Operation) (text : List ℕ) (r : Reading) (x : List ℕ) → Reads op text r → r.mode ≡ Negative → r.source ≡ Some x → IsNameOrPattern x
-source_by_form op text r x (fetches_nothing_named mode fetch positive parts is) negative source = absurd (not_positive mode positive (sym (ap (λ (q : Reading). q.mode) is) ∙ negative))
-source_by_form op text r x (fetches_colon mode fetch positive parts is) negative source = absurd (not_positive mode positive (sym (ap (λ (q : Reading). q.mode) is) ∙ negative))
-source_by_form op text r x (fetches mode s fetch positive parts fine is) negative source = absurd (not_positive mode positive (sym (ap (λ (q : Reading). q.mode) is) ∙ negative))
-source_by_form op text r x (updates mode s d fetch positive parts fine is) negative source = absurd (not_positive mode positive (sym (ap (λ (q : Reading). q.mode) is) ∙ negative))
-source_by_form op text r x (updates_from_head mode d fetch positive parts fine is) negative source = absurd (not_positive mode positive (sym (ap (λ (q : Reading). q.mode) is) ∙ negative))
+source_by_form op text r x (fetches_nothing_named mode fetch positive parts is) negative source = absurd (positive mode positive (sym (ap (λ (q : Reading). q.mode) is) ∙ negative))
+source_by_form op text r x (fetches_colon mode fetch positive parts is) negative source = absurd (positive mode positive (sym (ap (λ (q : Reading). q.mode) is) ∙ negative))
+source_by_form op text r x (fetches mode s fetch positive parts fine is) negative source = absurd (positive mode positive (sym (ap (λ (q : Reading). q.mode) is) ∙ negative))
+source_by_form op text r x (updates mode s d fetch positive parts fine is) negative source = absurd (positive mode positive (sym (ap (λ (q : Reading). q.mode) is) ∙ negative))
+source_by_form op text r x (updates_from_head mode d fetch positive parts fine is) negative source = absurd (positive mode positive (sym (ap (λ (q : Reading). q.mode) is) ∙ negative))
 source_by_form op text r x (fetch_excludes s fetch parts either hash is) negative source = negative_source s r x either (sym (ap (λ (q : Reading). q.source) is)) source
-source_by_form op text r x (pushes_plus push parts is) negative source = absurd (not_positive Forced tt (sym (ap (λ (q : Reading). q.mode) is) ∙ negative))
-source_by_form op text r x (pushes_colon mode push positive parts is) negative source = absurd (not_positive mode positive (sym (ap (λ (q : Reading). q.mode) is) ∙ negative))
-source_by_form op text r x (pushes mode s push positive parts fine is) negative source = absurd (not_positive mode positive (sym (ap (λ (q : Reading). q.mode) is) ∙ negative))
-source_by_form op text r x (deletes mode d push positive parts fine is) negative source = absurd (not_positive mode positive (sym (ap (λ (q : Reading). q.mode) is) ∙ negative))
-source_by_form op text r x (pushes_pattern mode s d push positive parts fine also is) negative source = absurd (not_positive mode positive (sym (ap (λ (q : Reading). q.mode) is) ∙ negative))
-source_by_form op text r x (pushes_to mode s d push positive parts full lacks fine is) negative source = absurd (not_positive mode positive (sym (ap (λ (q : Reading). q.mode) is) ∙ negative))
+source_by_form op text r x (pushes_plus push parts is) negative source = absurd (positive Forced tt (sym (ap (λ (q : Reading). q.mode) is) ∙ negative))
+source_by_form op text r x (pushes_colon mode push positive parts is) negative source = absurd (positive mode positive (sym (ap (λ (q : Reading). q.mode) is) ∙ negative))
+source_by_form op text r x (pushes mode s push positive parts fine is) negative source = absurd (positive mode positive (sym (ap (λ (q : Reading). q.mode) is) ∙ negative))
+source_by_form op text r x (deletes mode d push positive parts fine is) negative source = absurd (positive mode positive (sym (ap (λ (q : Reading). q.mode) is) ∙ negative))
+source_by_form op text r x (pushes_pattern mode s d push positive parts fine also is) negative source = absurd (positive mode positive (sym (ap (λ (q : Reading). q.mode) is) ∙ negative))
+source_by_form op text r x (pushes_to mode s d push positive parts full lacks fine is) negative source = absurd (positive mode positive (sym (ap (λ (q : Reading). q.mode) is) ∙ negative))
 source_by_form op text r x (push_excludes s push parts either hash is) negative source = negative_source s r x either (sym (ap (λ (q : Reading). q.source) is)) source
 
 -- that a text lacks a byte has one proof at most
@@ -132,16 +130,13 @@ pub IsFitted-push : (ps : List Pattern) (p : Pattern) (n : List ℕ) → IsFitte
 IsFitted-push [] p n = some_alone (FitsName p n)
 IsFitted-push (q ∷ ps) p n = some_more _ _ _ _ (IsFitted-push ps p n)
 
-readings_more : (specs : List RefSpecRef) (i : ℕ) (s : RefSpecRef) → i < length specs → s ≡ get_or specs i s → map reading_of (take (i + 1) specs) ≡ map reading_of (take i specs) ++ reading_of s ∷ []
-readings_more specs i s below is = ap (map reading_of) (take_more specs i s below ∙ ap (λ (x : RefSpecRef). take i specs ++ x ∷ []) (sym is)) ∙ map-append reading_of (take i specs) (s ∷ [])
-
 -- one more spec, which excludes something
 pub exclusions_more : (specs : List RefSpecRef) (i : ℕ) (s : RefSpecRef) (es new : Exclusions) (e : Exclusion) → i < length specs → s ≡ get_or specs i s → AreExclusionsOf (map reading_of (take i specs)) es → ((n : List ℕ) → ExcludesName e n ↔ IsExcludedBy n (reading_of s)) → ((n : List ℕ) → ExcludeName new n ↔ (ExcludeName es n ⊎ ExcludesName e n)) → AreExclusionsOf (map reading_of (take (i + 1) specs)) new
 exclusions_more specs i s es new e below is before told added n =
     let g = map reading_of (take i specs) in
     let taken = added n in
     let excluded = IsExcluded-push g (reading_of s) n in
-    subst (λ (rs : List Reading). ExcludeName new n ↔ IsExcluded rs n) (sym (readings_more specs i s below is)) (
+    subst (λ (rs : List Reading). ExcludeName new n ↔ IsExcluded rs n) (sym (map_next reading_of specs i s below is)) (
       (λ by. elim (taken.0 by) [
         | inl old ↦ excluded.1 (inl ((before n).0 old))
         | inr last ↦ excluded.1 (inr ((told n).0 last))
@@ -157,7 +152,7 @@ pub exclusions_same : (specs : List RefSpecRef) (i : ℕ) (s : RefSpecRef) (es :
 exclusions_same specs i s es below is before none n =
     let g = map reading_of (take i specs) in
     let excluded = IsExcluded-push g (reading_of s) n in
-    subst (λ (rs : List Reading). ExcludeName es n ↔ IsExcluded rs n) (sym (readings_more specs i s below is)) (
+    subst (λ (rs : List Reading). ExcludeName es n ↔ IsExcluded rs n) (sym (map_next reading_of specs i s below is)) (
       (λ by. excluded.1 (inl ((before n).0 by))),
       (λ by. elim (excluded.0 by) [
         | inl old ↦ (before n).1 old

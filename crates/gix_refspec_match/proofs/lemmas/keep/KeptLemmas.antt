@@ -135,11 +135,6 @@ apart_from g l k (x ∷ xs) ys rest size (Some y, ys2, stays, more, is) =
 pub kept_once : (g : List Reading) (l kept : List Mapped) → IsKept g l kept → AreApart kept
 kept_once g l kept = apart_from g l 0 l kept refl (zero-add (length l))
 
--- a list without length has no elements
-pub no_elements : {X : Type 0} (xs : List X) → length xs ≡ 0 → xs ≡ []
-no_elements [] none = refl
-no_elements (x ∷ xs) none = absurd (omega arith)
-
 -- ---- first what is excluded goes, and then what repeats
 
 -- what isn't excluded

@@ -19,7 +19,9 @@ use Rattle.gix_refspec_match.specs.Views.Mapping.{mapped_of}
 use Rattle.gix_refspec_match.specs.declared.keep.repeats.shared.SharedHashes.{SharedHashes}
 use Rattle.gix_refspec_match.specs.Private.Shared.{HasBit, HasShared, hash_at}
 use Rattle.gix_refspec_match.specs.Private.Kept.{AreKeysOf, FindsRepeats, FlagsRepeats, Has, IsFlagged, IsKey, IsRepeat, IsSameAt, IsSecond, PointsBack, Rises, pair_hash, places_in, source_hash}
-use Rattle.gix_refspec_match.proofs.lemmas.keep.RepeatLemmas.{Contains-from_Has, Has-left, Has-permuted, Has-right, Rises-push, all_join, all_permuted, all_weaker, apart_places, pair_hash-same, rises_at, some_mapping}
+use Rattle.gix_refspec_match.proofs.lemmas.keep.RepeatLemmas.{Contains-from_Has, Has-left, Has-permuted, Has-right, Rises-push, all_permuted, apart_places, pair_hash-same, rises_at, some_mapping}
+use Rattle.gix_refspec_text.proofs.lemmas.lists.AllLemmas.{all_join, all_weaker}
+use Rattle.gix_refspec_text.proofs.lemmas.lists.NumberLemmas.{upto}
 
 packed : (hash place bits : ℕ) → hash < 18446744073709551616 → place < 2 ^ bits → bit_or (hash / 2 ^ bits * 2 ^ bits % 18446744073709551616) place ≡ hash / 2 ^ bits * 2 ^ bits + place
 packed hash place bits fits below =
@@ -45,12 +47,6 @@ pub lower_rest : (a b bits : ℕ) → a / 2 ^ bits ≡ b / 2 ^ bits → a < b �
 lower_rest a b bits same less =
     let up : a / 2 ^ bits * 2 ^ bits ≡ b / 2 ^ bits * 2 ^ bits = ap (λ x. x * 2 ^ bits) same in
     omega (arith, shr_split a bits, shr_split b bits, up, less)
-
-upto : (k n : ℕ) → k < n + 1 → (k < n) ⊎ (k ≡ n)
-upto k n under = elim (cases_lt k n) [
-  | inl less ↦ inl less
-  | inr above ↦ inr (omega arith)
-]
 
 -- a key that was made of the hash of a mapping and its place
 pub key_fits : (seed : FoldHasher) (ms : List Mapping) (bits key hash place : ℕ) (m : Mapping) → place < length ms → key / 2 ^ bits ≡ hash / 2 ^ bits → key % 2 ^ bits ≡ place → hash ≡ pair_hash seed (mapped_of m) → ((d : Mapping) → m ≡ get_or ms place d) → IsKey seed ms bits key

@@ -14,16 +14,11 @@ use Rattle.gix_refspec_match.specs.Private.EqualSpecs.{Thins}
 use Rattle.gix_refspec_match.specs.Private.HitViews.{HasEnds, TakesIn, mapping_of, AreKept}
 use Rattle.gix_refspec_match.specs.Private.Part.{IsPartBehind, IsPart, moved, place_among, HasNoNearId}
 use Rattle.gix_refspec_match.proofs.lemmas.keep.KeptLemmas.{HasPair-left, HasPair-last}
-use Rattle.gix_refspec_match.proofs.lemmas.keep.RepeatLemmas.{all_weaker}
 use Rattle.gix_refspec_match.proofs.lemmas.keep.ThinLemmas.{thins_all, thins_both, pair_alike, kept_thinned, kept_moved}
+use Rattle.gix_refspec_text.proofs.lemmas.lists.AllLemmas.{all_weaker}
+use Rattle.gix_refspec_match.proofs.lemmas.index.FirstPlacesLemmas.{has_cases}
 
 -- ---- names of the part
-
-name_last : (refs : List Ref) (r : Ref) (n : List ℕ) → HasName (refs ++ r ∷ []) n → HasName refs n ⊎ (r.name ≡ n)
-name_last [] r n (inl same) = inr same
-name_last [] r n (inr has) = absurd has
-name_last (s ∷ refs) r n (inl same) = inl (inl same)
-name_last (s ∷ refs) r n (inr has) = elim (name_last refs r n has) [ inl there ↦ inl (inr there) | inr same ↦ inr same ]
 
 name_same : (refs : List Ref) (n m : List ℕ) → n ≡ m → HasName refs n → HasName refs m
 name_same refs n m same has = subst (HasName refs) same has
@@ -45,14 +40,14 @@ has_part before [] part places n is has = absurd has
 has_part before (r ∷ refs) part places n (inl (rest, others, is, at, more)) has = subst (λ (l : List Ref). HasName before n ⊎ HasName l n) (sym is) (elim has [
   | inl same ↦ inr (inl same)
   | inr there ↦ elim (has_part (before ++ r ∷ []) refs rest others n more there) [
-    | inl old ↦ elim (name_last before r n old) [ inl earlier ↦ inl earlier | inr same ↦ inr (inl same) ]
+    | inl old ↦ elim (has_cases before r n old) [ inl earlier ↦ inl earlier | inr same ↦ inr (inl same) ]
     | inr new ↦ inr (inr new)
   ]
 ])
 has_part before (r ∷ refs) part places n (inr (repeats, more)) has = elim has [
   | inl same ↦ inl (name_same before r.name n same repeats)
   | inr there ↦ elim (has_part (before ++ r ∷ []) refs part places n more there) [
-    | inl old ↦ elim (name_last before r n old) [ inl earlier ↦ inl earlier | inr same ↦ inl (name_same before r.name n same repeats) ]
+    | inl old ↦ elim (has_cases before r n old) [ inl earlier ↦ inl earlier | inr same ↦ inl (name_same before r.name n same repeats) ]
     | inr new ↦ inr new
   ]
 ]
@@ -119,13 +114,13 @@ same_pair Forward k j k2 j2 n far = record { source = refl; destination = refl }
 same_pair Backward k j k2 j2 n far = record { source = refl; destination = refl }
 
 pub known_missed : (direction : Direction) (refs : List Ref) (ends : Ends) (made : List Mapped) (before : List Ref) (r : Ref) → Missed direction refs ends r.name → Known direction refs ends made before → Known direction refs ends made (before ++ r ∷ [])
-known_missed direction refs ends made before r missed known n has = elim (name_last before r n has) [
+known_missed direction refs ends made before r missed known n has = elim (has_cases before r n has) [
   | inl earlier ↦ known n earlier
   | inr same ↦ inr (subst (Missed direction refs ends) same missed)
 ]
 
 pub known_reached : (direction : Direction) (refs : List Ref) (ends : Ends) (made : List Mapped) (before : List Ref) (r : Ref) (k j : ℕ) (word far : Option (List ℕ)) → TakesIn direction refs ends.near (ref_named r.name) word → IsFilled ends.far word far → Known direction refs ends made before → Known direction refs ends (made ++ mapping_of direction (hit k j r.name far) ∷ []) (before ++ r ∷ [])
-known_reached direction refs ends made before r k j word far takes becomes known n has = elim (name_last before r n has) [
+known_reached direction refs ends made before r k j word far takes becomes known n has = elim (has_cases before r n has) [
   | inl earlier ↦ elim (known n earlier) [
     | inl (w, f, t, b, pair) ↦ inl (w, f, t, b, HasPair-left made (mapping_of direction (hit k j r.name far) ∷ []) (mapping_of direction (hit 0 0 n f)) pair)
     | inr missed ↦ inr missed

@@ -1,6 +1,6 @@
 -- A part of some items, item by item.
 use Rattle.std.proofs.Common.{◌≡◌, ◌⊎◌, inl, inr, ◌↔◌, ℕ, zero, suc, ◌+◌, ◌<◌, List, [], ◌∷◌, ◌++◌, Bool, true, length, map, take, get_or, refl, sym, ap, ◌∙◌, subst, append_assoc, arith}
-use Rattle.std.proofs.lemmas.List.{append-nil, get_or-map, length-append, length-map, map-append}
+use Rattle.std.proofs.lemmas.List.{append-nil, get_or-map, length-append, length-map, map-append, take-map, map_more}
 use Rattle.std.specs.Str.{bytes_eq}
 use Rattle.std.proofs.lemmas.Slice.Eq.{bytes_eq-Decides}
 use Rattle.bstr.specs.BStr.{bstr_bytes}
@@ -9,8 +9,7 @@ use Rattle.gix_refspec_text.specs.Matching.Match.{Ref, HasName}
 use Rattle.gix_refspec_match.specs.Views.Mapping.{ref_of}
 use Rattle.gix_refspec_match.specs.Private.Kept.{IsFlagged}
 use Rattle.gix_refspec_match.specs.Private.Part.{FlagsRepeated, IsPart, IsPartBehind, IsRepeatedAt}
-use Rattle.gix_refspec_match.proofs.lemmas.lists.JoinLemmas.{map_long, map_more}
-use Rattle.gix_refspec_match.proofs.lemmas.keep.ThinLemmas.{take_map}
+use Rattle.gix_refspec_match.proofs.lemmas.lists.JoinLemmas.{map_long}
 
 pub has_before : (refs : List Ref) (i place : ℕ) (d : Ref) (n : List ℕ) → i < place → i < length refs → (get_or refs i d).name ≡ n → HasName (take place refs) n
 has_before [] i place d n less inside same = absurd (omega arith)
@@ -66,7 +65,7 @@ item_left items i flags part places below all flagged are =
     let same : (get_or (map ref_of items) before (ref_of d)).name ≡ r.name = repeats.same (ref_of d) ∙ ap (λ (s : Ref). s.name) here in
     let has : HasName (take i (map ref_of items)) r.name = has_before (map ref_of items) before i (ref_of d) r.name repeats.earlier (let first = repeats.earlier in let inside = repeats.inside in omega (arith, first, inside)) same in
     subst (λ (l : List Ref). IsPart l (map ref_of part) places) (sym (map_more ref_of items i d below))
-    (part_skip [] refs (map ref_of part) places r (subst (λ (l : List Ref). HasName l r.name) (take_map ref_of i items) has) are)
+    (part_skip [] refs (map ref_of part) places r (subst (λ (l : List Ref). HasName l r.name) (take-map ref_of i items) has) are)
 
 -- of two names at places it was told that they are the same
 pub repeated_told : (items : List Item) (before place : ℕ) (told : Bool) (a b : Item) → before < place → place < length items → told ≡ bytes_eq (bstr_bytes (get_or items before a).full_ref_name) (bstr_bytes (get_or items place b).full_ref_name) → told ≡ true → IsRepeatedAt (map ref_of items) before place

@@ -14,6 +14,7 @@ use Rattle.gix_refspec_match.specs.declared.keep.repeats.Pair.{Pair}
 use Rattle.gix_refspec_match.specs.Matching.Mappings.{Mapped, IsSamePair}
 use Rattle.gix_refspec_match.specs.Views.Hashed.{source_writes}
 use Rattle.gix_refspec_match.specs.Private.Kept.{hash_after, pair_hash, Has, Rises, IsSameAt}
+use Rattle.gix_refspec_text.proofs.lemmas.lists.AllLemmas.{all_join}
 
 -- some pair up to a place is for the mapping at k, which has the pair of the one before it
 abbrev pub FollowsSame : List Mapping → List Pair → ℕ → ℕ → Type 0
@@ -27,22 +28,6 @@ Has-left (x ∷ xs) ys k (inr has) = inr (Has-left xs ys k has)
 pub Has-right : (xs ys : List ℕ) (k : ℕ) → Has ys k → Has (xs ++ ys) k
 Has-right [] ys k has = has
 Has-right (x ∷ xs) ys k has = inr (Has-right xs ys k has)
-
-pub all_left : {X : Type 0} (P : X → Type 0) (xs ys : List X) → AllByRecursion P (xs ++ ys) → AllByRecursion P xs
-all_left P [] ys all = tt
-all_left P (x ∷ xs) ys all = (all.0, all_left P xs ys all.1)
-
-pub all_right : {X : Type 0} (P : X → Type 0) (xs ys : List X) → AllByRecursion P (xs ++ ys) → AllByRecursion P ys
-all_right P [] ys all = all
-all_right P (x ∷ xs) ys all = all_right P xs ys all.1
-
-pub all_join : {X : Type 0} (P : X → Type 0) (xs ys : List X) → AllByRecursion P xs → AllByRecursion P ys → AllByRecursion P (xs ++ ys)
-all_join P [] ys left right = right
-all_join P (x ∷ xs) ys left right = (left.0, all_join P xs ys left.1 right)
-
-pub all_weaker : {X : Type 0} (P Q : X → Type 0) → ((x : X) → P x → Q x) → (xs : List X) → AllByRecursion P xs → AllByRecursion Q xs
-all_weaker P Q weaker [] all = tt
-all_weaker P Q weaker (x ∷ xs) all = (weaker x all.0, all_weaker P Q weaker xs all.1)
 
 -- a number that is below all is not there
 pub not_below : (ns : List ℕ) (n k : ℕ) → AllByRecursion (λ m. n < m) ns → Has ns k → n < k

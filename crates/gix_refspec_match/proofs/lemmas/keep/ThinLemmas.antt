@@ -1,6 +1,6 @@
 -- Mappings without some of those that repeat an earlier pair or are excluded: the same ones of them stay.
 use Rattle.std.proofs.Common.{◌≡◌, ◌⊎◌, inl, inr, ◌↔◌, ℕ, zero, suc, ◌+◌, List, [], ◌∷◌, ◌++◌, Bool, Option, None, Some, length, map, take, refl, sym, ap, ◌∙◌, subst, append_assoc}
-use Rattle.std.proofs.lemmas.List.{append-nil, length-append}
+use Rattle.std.proofs.lemmas.List.{append-nil, length-append, take-map}
 use Rattle.gix_refspec_match.specs.declared.types.Mapping.{Mapping}
 use Rattle.gix_refspec_match.specs.declared.keep.exclusions.Exclusions.{Exclusions}
 use Rattle.gix_refspec_text.specs.Specs.Reading.{Reading}
@@ -120,21 +120,15 @@ pair_moved f (x ∷ l) m = (
   (λ has. elim has [ inl same ↦ inl (record { source = same.source; destination = same.destination }) | inr there ↦ inr ((pair_moved f l m).1 there) ]),
 )
 
-pub take_map : {A B : Type 0} (f : A → B) (k : ℕ) (l : List A) → take k (map f l) ≡ map f (take k l)
-take_map f zero [] = refl
-take_map f (suc k) [] = refl
-take_map f zero (x ∷ l) = refl
-take_map f (suc k) (x ∷ l) = ap (λ t. f x ∷ t) (take_map f k l)
-
 stays_moved : (g : List Reading) (f : ℕ → ℕ) (l : List Mapped) (k : ℕ) (m : Mapped) → IsKeptAt g l k m → IsKeptAt g (map (moved f) l) k (moved f m)
 stays_moved g f l k m stays = record {
-  first = λ has. stays.first ((pair_moved f (take k l) m).0 (subst (λ (b : List Mapped). HasPair b (moved f m)) (take_map (moved f) k l) has));
+  first = λ has. stays.first ((pair_moved f (take k l) m).0 (subst (λ (b : List Mapped). HasPair b (moved f m)) (take-map (moved f) k l) has));
   included = stays.included;
 }
 
 moved_stays : (g : List Reading) (f : ℕ → ℕ) (l : List Mapped) (k : ℕ) (m : Mapped) → IsKeptAt g (map (moved f) l) k (moved f m) → IsKeptAt g l k m
 moved_stays g f l k m stays = record {
-  first = λ has. stays.first (subst (λ (b : List Mapped). HasPair b (moved f m)) (sym (take_map (moved f) k l)) ((pair_moved f (take k l) m).1 has));
+  first = λ has. stays.first (subst (λ (b : List Mapped). HasPair b (moved f m)) (sym (take-map (moved f) k l)) ((pair_moved f (take k l) m).1 has));
   included = stays.included;
 }
 

@@ -4,10 +4,6 @@ use Rattle.std.proofs.lemmas.List.{append-nil, map-append, length-map, length-ta
 use Rattle.gix_refspec_match.specs.Matching.Lists.{MakesOf, IsMadeFrom, IsJoinedFrom}
 use Rattle.gix_refspec_match.proofs.lemmas.lists.ListsLemmas.{made_push}
 
--- the elements up to a place, with the one there
-pub map_more : {A B : Type 0} (f : A → B) (xs : List A) (i : ℕ) (d : A) → i < length xs → map f (take (i + 1) xs) ≡ map f (take i xs) ++ f (get_or xs i d) ∷ []
-map_more f xs i d below = ap (map f) (take_more xs i d below) ∙ map-append f (take i xs) (get_or xs i d ∷ [])
-
 pub map_long : {A B : Type 0} (f : A → B) (xs : List A) (i : ℕ) → i < length xs → length (map f (take i xs)) ≡ i
 map_long f xs i below = let fits : i ≤ length xs = omega arith in length-map (take i xs) f ∙ length-take-le i xs fits
 

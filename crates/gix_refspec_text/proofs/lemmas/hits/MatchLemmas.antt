@@ -9,7 +9,7 @@ use Rattle.gix_refspec_text.specs.Matching.Match.{Ref, MatchesAs}
 use Rattle.gix_refspec_text.specs.Matching.Prefix.{of_head, of_name, of_pattern, HasNoPrefix, Expands, to_prefix, to_itself, below_refs, of_object, to_candidates}
 use Rattle.gix_refspec_text.specs.Laws.Readings.{OneWord, PrefixBegins, Candidates}
 use Rattle.gix_refspec_text.proofs.lemmas.hits.CandidateLemmas.{first_candidate, first_of_one, takes_first}
-use Rattle.gix_refspec_text.proofs.lemmas.texts.TextLemmas.{Lacks-here, first_once}
+use Rattle.gix_refspec_text.proofs.lemmas.lists.LacksLemmas.{Lacks-here, first_once}
 
 -- two words between the same texts are one
 pub one_word : (before after n : List ℕ) → OneWord before after n

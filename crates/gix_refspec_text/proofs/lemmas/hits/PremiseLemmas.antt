@@ -43,21 +43,6 @@ told_source r x b fetch asked told = (
   (λ has. told.1 (has.source x asked)),
 )
 
--- what is so of all readings is so of each
-pub each_reading : (P : Reading → Type 0) (specs : List RefSpecRef) (k : ℕ) (s : RefSpecRef) → AllByRecursion P (map reading_of specs) → k < length specs → s ≡ get_or specs k s → P (reading_of s)
-each_reading P [] k s all below is = absurd (omega (arith, below))
-each_reading P (t ∷ specs) zero s all below is = subst (λ (q : RefSpecRef). P (reading_of q)) (sym is) all.0
-each_reading P (t ∷ specs) (suc k) s all below is = each_reading P specs k s all.1 (omega (arith, below)) is
-
--- and what is so of those before a place and of the one there is so of those up to it
-one_more_suc : (P : Reading → Type 0) (specs : List RefSpecRef) (k : ℕ) (s : RefSpecRef) → AllByRecursion P (map reading_of (take k specs)) → k < length specs → s ≡ get_or specs k s → P (reading_of s) → AllByRecursion P (map reading_of (take (suc k) specs))
-one_more_suc P [] k s all below is holds = absurd (omega (arith, below))
-one_more_suc P (t ∷ specs) zero s all below is holds = (subst (λ (q : RefSpecRef). P (reading_of q)) is holds, tt)
-one_more_suc P (t ∷ specs) (suc k) s all below is holds = (all.0, one_more_suc P specs k s all.1 (omega (arith, below)) is holds)
-
-pub one_more : (P : Reading → Type 0) (specs : List RefSpecRef) (k : ℕ) (s : RefSpecRef) → AllByRecursion P (map reading_of (take k specs)) → k < length specs → s ≡ get_or specs k s → P (reading_of s) → AllByRecursion P (map reading_of (take (k + 1) specs))
-one_more P specs k s all below is holds = let same : suc k ≡ k + 1 = omega arith in subst (λ (j : ℕ). AllByRecursion P (map reading_of (take j specs))) same (one_more_suc P specs k s all below is holds)
-
 -- what a test of the operation tells
 pub fetch_from_test : (o : Operation) → false ≡ not (sameb the_operation o Fetch) → o ≡ Fetch
 fetch_from_test Fetch test = refl

@@ -1,14 +1,7 @@
 -- Lists that are compared element by element.
 use Rattle.std.proofs.Common.{◌≡◌, ◌↔◌, ◌&&◌, Bool, true, false, List, [], ◌∷◌, map, refl}
 use Rattle.std.specs.Cmp.Lexicographic.{pointwise}
-
-pub both_true : (a b : Bool) → (a && b) ≡ true → (a ≡ true) × (b ≡ true)
-both_true true b told = (refl, told)
-both_true false b told = absurd (cc)
-
-pub true_of_both : (a b : Bool) → a ≡ true → b ≡ true → (a && b) ≡ true
-true_of_both true b first second = second
-true_of_both false b first second = absurd (cc)
+use Rattle.std.proofs.lemmas.Bool.{and_parts, and_from}
 
 -- where elements are equal exactly where their keys are, so are lists
 pub same_keys : {A K : Type 0} (E : A → A → Bool) (key : A → K) → ((a b : A) → (E a b ≡ true) ↔ (key a ≡ key b)) → (xs ys : List A) → (pointwise E xs ys ≡ true) ↔ (map key xs ≡ map key ys)
@@ -18,6 +11,6 @@ same_keys E key same (x ∷ xs) [] = ((λ told. absurd (cc)), (λ told. absurd (
 same_keys E key same (x ∷ xs) (y ∷ ys) =
     let one = same x y in
     let more = same_keys E key same xs ys in (
-      (λ told. let both = both_true (E x y) (pointwise E xs ys) told in let first = one.0 both.0 in let rest = more.0 both.1 in cc),
-      (λ told. true_of_both (E x y) (pointwise E xs ys) (one.1 (cc)) (more.1 (cc))),
+      (λ told. let both = and_parts (E x y) (pointwise E xs ys) told in let first = one.0 both.0 in let rest = more.0 both.1 in cc),
+      (λ told. and_from (E x y) (pointwise E xs ys) (one.1 (cc)) (more.1 (cc))),
     )

@@ -4,7 +4,7 @@ use Rattle.gix_refspec_text.specs.Texts.Words.{Lacks}
 use Rattle.gix_refspec_text.specs.Specs.Reading.{Mode, Normal, Forced, Negative}
 use Rattle.gix_refspec_text.specs.Texts.Bytes.{plus, caret, colon}
 use Rattle.gix_refspec_text.specs.Specs.Grammar.{IsUnsigned, IsSigned, with_colon, LastLacksColon, AreParts}
-use Rattle.gix_refspec_text.proofs.lemmas.texts.TextLemmas.{Lacks-here, last_once}
+use Rattle.gix_refspec_text.proofs.lemmas.lists.LacksLemmas.{Lacks-here, last_once}
 
 -- a text in its parts
 pub record Parted (text : List ℕ) : Type 0 where

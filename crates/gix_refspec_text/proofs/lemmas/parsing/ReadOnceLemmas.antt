@@ -6,7 +6,7 @@ use Rattle.gix_refspec_text.specs.Specs.Reading.{Mode, Forced, Negative, Reading
 use Rattle.gix_refspec_text.specs.Specs.Grammar.{named_by, IsNameOrPattern, AreAlike, AreParts, fetched, pushed, Reads, fetches_nothing_named, fetches_colon, fetches, updates, updates_from_head, fetch_excludes, pushes_plus, pushes_colon, pushes, deletes, pushes_pattern, pushes_to, push_excludes}
 use Rattle.gix_refspec_text.specs.Private.Sides.{side_of, named_or_head}
 use Rattle.gix_refspec_text.proofs.lemmas.parsing.PartsLemmas.{Parted, parts_once}
-use Rattle.gix_refspec_text.proofs.lemmas.parsing.ReadsLemmas.{side_of-named, name_not_empty, pattern_not_empty}
+use Rattle.gix_refspec_text.proofs.lemmas.parsing.ReadsLemmas.{side_of-named, name_not_empty, pattern_not_empty, either_not_empty}
 
 -- what parts make, where they read
 abbrev pub made : Operation → Mode → List ℕ → Option (List ℕ) → Reading
@@ -30,10 +30,6 @@ side_of-full (b ∷ s) full = refl
 side_of-named_full : (s : List ℕ) → s ≢ [] → side_of (named_by s) ≡ Some (named_by s)
 side_of-named_full [] full = absurd (full refl)
 side_of-named_full (b ∷ s) full = side_of-named b s
-
-pub either_full : (s : List ℕ) → IsNameOrPattern s → s ≢ []
-either_full s (inl name) = name_not_empty s name
-either_full s (inr pattern) = pattern_not_empty s pattern
 
 pub alike_full : (s d : List ℕ) → AreAlike s d → (s ≢ []) × (d ≢ [])
 alike_full s d (inl names) = (name_not_empty s names.0, name_not_empty d names.1)
@@ -63,14 +59,14 @@ is_made op text r (updates m s d fetch pos parts alike is) =
     let full = alike_full s d alike in
     made_for op text r Fetch m s (Some d) fetch parts (is ∙ fetched_alike m _ _ _ _ (sym (named_or_head-full s full.0)) (sym (side_of-full d full.1)))
 is_made op text r (updates_from_head m d fetch pos parts name is) = made_for op text r Fetch m [] (Some d) fetch parts (is ∙ fetched_alike m _ _ _ _ refl (sym (side_of-full d (name_not_empty d name))))
-is_made op text r (fetch_excludes s fetch parts either hash is) = made_for op text r Fetch Negative s None fetch parts (is ∙ fetched_alike Negative _ _ _ _ (sym (named_or_head-full s (either_full s either))) refl)
+is_made op text r (fetch_excludes s fetch parts either hash is) = made_for op text r Fetch Negative s None fetch parts (is ∙ fetched_alike Negative _ _ _ _ (sym (named_or_head-full s (either_not_empty s either))) refl)
 is_made op text r (pushes_plus push parts is) = made_for op text r Push Forced [] None push parts is
 is_made op text r (pushes_colon m push pos parts is) = made_for op text r Push m [] (Some []) push parts is
-is_made op text r (pushes m s push pos parts either is) = made_for op text r Push m s None push parts (is ∙ pushed_alike m _ _ _ _ (sym (side_of-named_full s (either_full s either))) refl)
+is_made op text r (pushes m s push pos parts either is) = made_for op text r Push m s None push parts (is ∙ pushed_alike m _ _ _ _ (sym (side_of-named_full s (either_not_empty s either))) refl)
 is_made op text r (deletes m d push pos parts name is) = made_for op text r Push m [] (Some d) push parts (is ∙ pushed_alike m _ _ _ _ refl (sym (side_of-full d (name_not_empty d name))))
 is_made op text r (pushes_pattern m s d push pos parts source destination is) = made_for op text r Push m s (Some d) push parts (is ∙ pushed_alike m _ _ _ _ (sym (side_of-named_full s (pattern_not_empty s source))) (sym (side_of-full d (pattern_not_empty d destination))))
 is_made op text r (pushes_to m s d push pos parts full plain name is) = made_for op text r Push m s (Some d) push parts (is ∙ pushed_alike m _ _ _ _ (sym (side_of-named_full s full)) (sym (side_of-full d (name_not_empty d name))))
-is_made op text r (push_excludes s push parts either hash is) = made_for op text r Push Negative s None push parts (is ∙ pushed_alike Negative _ _ _ _ (sym (side_of-named_full s (either_full s either))) refl)
+is_made op text r (push_excludes s push parts either hash is) = made_for op text r Push Negative s None push parts (is ∙ pushed_alike Negative _ _ _ _ (sym (side_of-named_full s (either_not_empty s either))) refl)
 
 -- equal parts make one reading
 made_same : (op : Operation) (m n : Mode) (s t : List ℕ) (d e : Option (List ℕ)) → m ≡ n → s ≡ t → d ≡ e → made op m s d ≡ made op n t e

@@ -111,7 +111,7 @@ name_not_empty x name empty = name Empty empty
 pub pattern_not_empty : (x : List ℕ) → IsPattern x → x ≢ []
 pattern_not_empty x pattern empty = empty_no_pattern (subst IsPattern empty pattern)
 
-either_not_empty : (x : List ℕ) → IsNameOrPattern x → x ≢ []
+pub either_not_empty : (x : List ℕ) → IsNameOrPattern x → x ≢ []
 either_not_empty x (inl name) = name_not_empty x name
 either_not_empty x (inr pattern) = pattern_not_empty x pattern
 

@@ -12,6 +12,7 @@ use Rattle.gix_refspec_text.specs.Laws.Readings.{IsSameReason, OneRefusal}
 use Rattle.gix_refspec_text.proofs.lemmas.texts.TextLemmas.{Lacks-Holds}
 use Rattle.gix_refspec_text.proofs.lemmas.parsing.SideLemmas.{HasStar-bad, HasSeveralStars-replaced}
 use Rattle.gix_refspec_text.proofs.lemmas.parsing.PartsLemmas.{parts_once}
+use Rattle.std.proofs.lemmas.Option.{same_Some}
 
 -- two refusals as P says are for one reason
 abbrev Agree : (Refusal → Type 0) → Type 0
@@ -75,12 +76,9 @@ Agree-source Push None s = Agree-side s
 Agree-source Push (Some d) s = Agree-pattern s
 Agree-source Fetch d s = Agree-side s
 
-some_once : (x y : List ℕ) → Some x ≡ Some y → x ≡ y
-some_once x y same = cc
-
 Agree-destination : (d : Option (List ℕ)) → Agree (HasBadDestination d)
 Agree-destination d e f a b =
-    let word : b.word ≡ a.word = some_once b.word a.word (sym b.is ∙ a.is) in
+    let word : b.word ≡ a.word = same_Some b.word a.word (sym b.is ∙ a.is) in
     Agree-side a.word e f a.refusal (subst (λ (x : List ℕ). IsBadName x f ⊎ IsBadPattern x f) word b.refusal)
 
 -- the first reason against parts is one

@@ -17,7 +17,8 @@ use Rattle.gix_refspec_text.specs.Laws.Readings.{NothingAgainst}
 use Rattle.gix_refspec_text.specs.Private.Sides.{HasShape, HasCheckedShape, IsBadSide}
 use Rattle.gix_refspec_text.specs.declared.types.Mode.TheVariants as declared_mode
 use Rattle.gix_refspec_text.specs.declared.name.PatternError.TheVariants as found
-use Rattle.gix_refspec_text.proofs.lemmas.texts.TextLemmas.{Lacks-Holds, Lacks-from_absent, first_once, one_not_two}
+use Rattle.gix_refspec_text.proofs.lemmas.texts.TextLemmas.{Lacks-Holds, Lacks-from_absent, one_not_two}
+use Rattle.gix_refspec_text.proofs.lemmas.lists.LacksLemmas.{first_once}
 
 -- neither P nor, after it, Q
 pub Never-or : {P Q : Refusal → Type 0} → Never P → Never Q → Never (OrElse P Q)
@@ -116,10 +117,6 @@ checked_starred (b ∷ bs) Pattern fine = fine
 pub now-unwrap_or : (d : Option (Bor (List ℕ))) (e x : Bor (List ℕ)) → x ≡ unwrap_or d e → e.now ≡ [] → x.now ≡ unwrap_or (option_map (λ (y : Bor (List ℕ)). y.now) d) []
 now-unwrap_or None e x is empty = ap (λ (y : Bor (List ℕ)). y.now) is ∙ empty
 now-unwrap_or (Some y) e x is empty = ap (λ (y : Bor (List ℕ)). y.now) is
-
--- a text that was found not to be empty
-pub full_from_test : (x : List ℕ) → false ≡ (length x == 0) → x ≢ []
-full_from_test x test empty = false≢true (test ∙ ap (λ y. length y == 0) empty)
 
 -- a side that was found missing
 pub none_from_test : (d : Option (Bor (List ℕ))) → false ≡ is_some d → option_map (λ (y : Bor (List ℕ)). y.now) d ≡ None

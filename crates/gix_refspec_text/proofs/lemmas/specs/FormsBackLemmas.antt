@@ -12,10 +12,11 @@ use Rattle.gix_refspec_text.specs.Laws.Readings.{IsPrintedBack, ReadsOrRefused, 
 use Rattle.gix_refspec_text.proofs.lemmas.parsing.SideLemmas.{Lacks-name}
 use Rattle.gix_refspec_text.proofs.lemmas.parsing.DecideLemmas.{tested}
 use Rattle.gix_refspec_text.proofs.lemmas.texts.HeadLemmas.{IsName-head, Lacks-colon_name, unsigned_name}
-use Rattle.gix_refspec_text.proofs.lemmas.parsing.ReadsLemmas.{name_not_empty, pattern_not_empty}
-use Rattle.gix_refspec_text.proofs.lemmas.parsing.ReadOnceLemmas.{reads_once, either_full, alike_full}
+use Rattle.gix_refspec_text.proofs.lemmas.parsing.ReadsLemmas.{name_not_empty, pattern_not_empty, either_not_empty}
+use Rattle.gix_refspec_text.proofs.lemmas.parsing.ReadOnceLemmas.{reads_once, alike_full}
 use Rattle.gix_refspec_text.proofs.lemmas.parsing.SettleLemmas.{read_or_refused}
 use Rattle.gix_refspec_text.proofs.lemmas.specs.ReadBackLemmas.{printed_back, named_so, named_name, named_once, named_pattern, named_either, named_alike, named_full, named_parts, is_forced, Lacks-colon_either, head_unsigned, colon_unsigned}
+use Rattle.std.proofs.lemmas.Option.{same_Some}
 
 -- what a positive spec means
 means : (op : Operation) (m : Mode) (s d : Option (List ℕ)) → IsPositive m → meaning op m s d ≡ included op (is_forced m) s d
@@ -108,7 +109,7 @@ back_alone m s text pos parts either =
     let t = named_by s in
     let either_t = named_either s either in
     printed_back Push (pushed m (Some t) None) (push_matching t t (is_forced m)) (sign (is_forced m) ++ (t ++ (colon ∷ t))) (pushed m (Some (named_by t)) (Some t)) (means Push m (Some t) None pos) refl
-    (reads_pair m t t _ pos (named_parts m s t None text pos (either_full s either) parts (Lacks-colon_either t either_t)) (twice t either_t))
+    (reads_pair m t t _ pos (named_parts m s t None text pos (either_not_empty s either) parts (Lacks-colon_either t either_t)) (twice t either_t))
     (means Push m (Some (named_by t)) (Some t) pos ∙ ap (λ (x : List ℕ). Some (push_matching x t (is_forced m))) (named_once s))
 
 -- a push that deletes
@@ -156,13 +157,10 @@ once_or_refused op text = elim (read_or_refused op text) [
   | inr refusal ↦ inr refusal
 ]
 
-pub some_once : (x y : List ℕ) → Some x ≡ Some y → x ≡ y
-some_once x y same = cc
-
 -- readings with one canonical text mean the same, since that text has one reading
 same_meaning_by_text : (op : Operation) (r q : Reading) → IsPrintedBack op r → IsPrintedBack op q → printed r ≡ printed q → meaning_of r ≡ meaning_of q
 same_meaning_by_text op r q back_r back_q same =
-    let texts = some_once back_r.text back_q.text (sym back_r.is ∙ (same ∙ back_q.is)) in
+    let texts = same_Some back_r.text back_q.text (sym back_r.is ∙ (same ∙ back_q.is)) in
     let again = back_q.again.only back_r.again.reading (subst (λ (x : List ℕ). Reads op x back_r.again.reading) texts back_r.again.reads) in
     sym back_r.same ∙ (ap meaning_of again ∙ back_q.same)
 

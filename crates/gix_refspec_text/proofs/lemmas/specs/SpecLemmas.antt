@@ -13,7 +13,8 @@ use Rattle.gix_refspec_text.specs.Specs.Order.{keys}
 use Rattle.gix_refspec_text.specs.Laws.Order.{same_meaning, same_keys}
 use Rattle.gix_refspec_text.specs.Views.Instruction.{meant_for}
 use Rattle.gix_refspec_text.specs.Laws.Readings.{IsPrintedBack, KeepsOperation, SaysForOperation, EqualReadings}
-use Rattle.gix_refspec_text.proofs.lemmas.specs.FormsBackLemmas.{read_back, once_or_refused, equal_texts, some_once}
+use Rattle.gix_refspec_text.proofs.lemmas.specs.FormsBackLemmas.{read_back, once_or_refused, equal_texts}
+use Rattle.std.proofs.lemmas.Option.{same_Some}
 
 -- ---- operations
 
@@ -121,7 +122,7 @@ printed_back r accepted =
     let is : printed r ≡ Some text = ap (option_map text_of) said.1 in
     let reads : (a : IsAccepted r) → Reads r.operation text (read_back r.operation a.0 r a.1).again.reading = λ a.
     let back = read_back r.operation a.0 r a.1 in
-    subst (λ (x : List ℕ). Reads r.operation x back.again.reading) (some_once back.text text (sym back.is ∙ is)) back.again.reads in
+    subst (λ (x : List ℕ). Reads r.operation x back.again.reading) (same_Some back.text text (sym back.is ∙ is)) back.again.reads in
     elim (once_or_refused r.operation text) [
       | inr refusal ↦ absurd (not_there accepted (λ a. refusal.1.unread (read_back r.operation a.0 r a.1).again.reading (reads a)))
       | inl once ↦ record {

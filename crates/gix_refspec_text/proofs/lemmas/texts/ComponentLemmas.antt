@@ -8,6 +8,7 @@ use Rattle.std.proofs.lemmas.List.{append-nil}
 use Rattle.gix_refspec_text.specs.Texts.Words.{Lacks}
 use Rattle.gix_refspec_text.specs.Texts.Bytes.{slash}
 use Rattle.gix_refspec_text.specs.Texts.Name.{SomeComponent}
+use Rattle.gix_refspec_text.proofs.lemmas.lists.AllLemmas.{all_join}
 
 -- nothing, or what begins with a slash: what may be after a component
 abbrev pub IsEnd : List ℕ → Type 0
@@ -18,10 +19,6 @@ IsEnd (b ∷ x) = b ≡ slash
 abbrev pub fenced : List (List ℕ) → List ℕ
 fenced [] = []
 fenced (p ∷ ps) = slash ∷ (p ++ fenced ps)
-
-pub AllByRecursion-append : {X : Type 0} (P : X → Type 0) (xs ys : List X) → AllByRecursion P xs → AllByRecursion P ys → AllByRecursion P (xs ++ ys)
-AllByRecursion-append P [] ys by_xs by_ys = by_ys
-AllByRecursion-append P (x ∷ xs) ys by_xs by_ys = (by_xs.0, AllByRecursion-append P xs ys by_xs.1 by_ys)
 
 pub AllByRecursion-parts : {X : Type 0} (P : X → Type 0) (xs : List X) (y : X) (ys : List X) → AllByRecursion P (xs ++ (y ∷ ys)) → P y
 AllByRecursion-parts P [] y ys every = every.0
@@ -112,7 +109,7 @@ SomeComponent-from P w x found fact =
       after = back.0;
       components = record {
         joined = join_from_fenced (front.0 ++ (w ∷ back.0)) x same;
-        whole = AllByRecursion-append (Lacks slash) front.0 (w ∷ back.0) front.1 (found.whole, back.1);
+        whole = all_join (Lacks slash) front.0 (w ∷ back.0) front.1 (found.whole, back.1);
       };
       fact = fact;
     }

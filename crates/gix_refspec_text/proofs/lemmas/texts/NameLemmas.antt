@@ -14,7 +14,8 @@ use Rattle.gix_refspec_text.specs.Texts.Name.{is_refused_byte, SomeComponent, Ha
 use Rattle.gix_refspec_text.specs.Private.Scan.{AddsFault, Added, IsClean, LeavesFault, Finds}
 use Rattle.std.proofs.Math.ListN.{drop_of_length-le}
 use Rattle.gix_refspec_text.proofs.lemmas.texts.TextLemmas.{cut_at}
-use Rattle.gix_refspec_text.proofs.lemmas.texts.ComponentLemmas.{IsEnd, IsComponent, Pieces, pieces_of, fenced, fenced-IsEnd, LastSlash, last_slash_after_one, SomeComponent-from, SomeComponent-place, AllByRecursion-append}
+use Rattle.gix_refspec_text.proofs.lemmas.texts.ComponentLemmas.{IsEnd, IsComponent, Pieces, pieces_of, fenced, fenced-IsEnd, LastSlash, last_slash_after_one, SomeComponent-from, SomeComponent-place}
+use Rattle.gix_refspec_text.proofs.lemmas.lists.AllLemmas.{all_join}
 
 drop_at : (x : List ℕ) (i : ℕ) → i < length x → drop i x ≡ get_or x i 0 ∷ drop (i + 1) x
 drop_at x i below = rw (add-one, drop-cons x i 0)
@@ -120,7 +121,7 @@ locked_component_after x p after cut here ends =
       before = cut.before;
       after = after;
       here = here ∙ ap (λ z. (z ++ codes ".lock") ++ after) cut.here ∙ regroup cut.before (slash ∷ cut.after) (codes ".lock") after;
-      whole = AllByRecursion-append (λ c. c ≢ slash) cut.after (codes ".lock") cut.last dot_lock_whole;
+      whole = all_join (λ c. c ≢ slash) cut.after (codes ".lock") cut.last dot_lock_whole;
       ends = ends;
     })
     (record { before = cut.after; here = refl })
@@ -226,9 +227,6 @@ IsName-from_clean x some clean none e fault = elim (found_fault x e some fault) 
 pub answer_at_end : (x : List ℕ) (fault : Option Error) → x ≢ [] → IsClean (slash ∷ x) → Finds fault (LeavesFault (slash ∷ x)) → MatchOption fault (IsName x) (HasFault x)
 answer_at_end x None some clean none = IsName-from_clean x some clean none
 answer_at_end x (Some e) some clean left = HasFault-left x e some left
-
-pub some_text : (x : List ℕ) → false ≡ (length x == 0) → x ≢ []
-some_text x tested same = false≢true (tested ∙ ap (λ y. length y == 0) same)
 
 -- the fault that the byte at a place adds
 pub added_at : (x : List ℕ) (i : ℕ) (e : Error) → i < length x → AddsFault (slash ∷ take i x) (get_or x i 0) e → Added (slash ∷ x) e

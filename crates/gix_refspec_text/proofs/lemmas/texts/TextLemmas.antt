@@ -4,6 +4,7 @@ use Rattle.std.proofs.lemmas.List.{drop-drop, get_or-drop, get_or-take, length-t
 use Rattle.std.proofs.lemmas.Bool.{cases_eq, eqb-true, false≢true}
 use Rattle.std.proofs.Math.Numerals.{add-one}
 use Rattle.gix_refspec_text.specs.Texts.Words.{Lacks, Holds}
+use Rattle.gix_refspec_text.proofs.lemmas.lists.LacksLemmas.{Lacks-here}
 
 -- no place of x from n on has the byte b
 abbrev pub NoneFrom : ℕ → List ℕ → ℕ → Type 0
@@ -62,11 +63,6 @@ pub found_whole : (b : ℕ) (x : List ℕ) (n : ℕ) (found : Bool) → length x
 found_whole b x n true past known = known
 found_whole b x n false past known = Lacks-from_places b x (λ k below. known k (omega arith))
 
--- a text that lacks b has no place with b
-pub Lacks-here : (b : ℕ) (front back : List ℕ) → Lacks b (front ++ (b ∷ back)) → ⊥
-Lacks-here b [] back lacks = lacks.0 refl
-Lacks-here b (c ∷ front) back lacks = Lacks-here b front back lacks.1
-
 pub Lacks-Holds : (b : ℕ) (x : List ℕ) → Lacks b x → Holds (b ∷ []) x → ⊥
 Lacks-Holds b x lacks holds = Lacks-here b holds.before holds.after (subst (Lacks b) holds.here lacks)
 
@@ -77,30 +73,6 @@ Lacks-from_absent b (c ∷ x) absent = (
   λ e. absent (record { before = []; after = x; here = ap (λ d. d ∷ x) e }),
   Lacks-from_absent b x (λ holds. absent (record { before = c ∷ holds.before; after = holds.after; here = ap (λ y. c ∷ y) holds.here })),
 )
-
--- a text has one place of b at most where what is before it lacks b
-pub first_once : (b : ℕ) (p q s t : List ℕ) → Lacks b p → Lacks b q → p ++ (b ∷ s) ≡ q ++ (b ∷ t) → (p ≡ q) × (s ≡ t)
-first_once b [] [] s t lacks_p lacks_q same = (refl, cc)
-first_once b [] (c ∷ q) s t lacks_p lacks_q same = absurd (lacks_q.0 (let e : b ≡ c = cc in sym e))
-first_once b (c ∷ p) [] s t lacks_p lacks_q same = absurd (lacks_p.0 (let e : c ≡ b = cc in e))
-first_once b (c ∷ p) (d ∷ q) s t lacks_p lacks_q same =
-    let heads : c ≡ d = cc in
-    let tails : p ++ (b ∷ s) ≡ q ++ (b ∷ t) = cc in
-    let rest = first_once b p q s t lacks_p.1 lacks_q.1 tails in
-    let fronts : p ≡ q = rest.0 in
-    (cc, rest.1)
-
--- a text has one place of b at most where what is after it lacks b
-pub last_once : (b : ℕ) (p q s t : List ℕ) → Lacks b s → Lacks b t → p ++ (b ∷ s) ≡ q ++ (b ∷ t) → (p ≡ q) × (s ≡ t)
-last_once b [] [] s t lacks_s lacks_t same = (refl, cc)
-last_once b [] (c ∷ q) s t lacks_s lacks_t same = let rest : s ≡ q ++ (b ∷ t) = cc in absurd (Lacks-here b q t (subst (Lacks b) rest lacks_s))
-last_once b (c ∷ p) [] s t lacks_s lacks_t same = let rest : p ++ (b ∷ s) ≡ t = cc in absurd (Lacks-here b p s (subst (Lacks b) (sym rest) lacks_t))
-last_once b (c ∷ p) (d ∷ q) s t lacks_s lacks_t same =
-    let heads : c ≡ d = cc in
-    let tails : p ++ (b ∷ s) ≡ q ++ (b ∷ t) = cc in
-    let rest = last_once b p q s t lacks_s lacks_t tails in
-    let fronts : p ≡ q = rest.0 in
-    (cc, rest.1)
 
 -- a text with one place of b doesn't have two
 pub one_not_two : (b : ℕ) (u v p q r : List ℕ) → Lacks b u → Lacks b v → u ++ (b ∷ v) ≡ p ++ (b ∷ (q ++ (b ∷ r))) → ⊥

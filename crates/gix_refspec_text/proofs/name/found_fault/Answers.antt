@@ -2,8 +2,9 @@ use Rattle.std.proofs.Common.{◌≡◌, ◌+◌, [], ◌∷◌, ◌++◌, take,
 use Rattle.std.proofs.lemmas.List.{take_all, take_more}
 use Rattle.gix_refspec_text.specs.Texts.Bytes.{slash}
 use Rattle.gix_refspec_text.specs.Private.Scan.{IsClean}
-use Rattle.gix_refspec_text.proofs.lemmas.texts.NameLemmas.{IsClean-start, IsClean-more, HasFault-added, added_at, answer_at_end, some_text}
+use Rattle.gix_refspec_text.proofs.lemmas.texts.NameLemmas.{IsClean-start, IsClean-more, HasFault-added, added_at, answer_at_end}
 use Rattle.gix_refspec_text.proofs.name.found_fault.Goals as goal
+use Rattle.gix_refspec_text.proofs.lemmas.lists.EmptyLemmas.{full_from_test}
 
 pub loop-index-init : goal.loop-index-init
 loop-index-init c = IsClean-start
@@ -12,7 +13,7 @@ loop-index-init c = IsClean-start
 pub returns-in-Some : goal.returns-in-Some
 returns-in-Some c =
     let x = c.args.text.now in
-    HasFault-added x c.in-Some.fault (some_text x c.if-is_empty.ensures) (added_at x c.loop-index.index _ (omega arith) c.in-Some.ensures)
+    HasFault-added x c.in-Some.fault (full_from_test x c.if-is_empty.ensures) (added_at x c.loop-index.index _ (omega arith) c.in-Some.ensures)
 
 -- one more byte adds none
 pub loop-index-preserved : goal.loop-index-preserved
@@ -27,4 +28,4 @@ pub returns : goal.returns
 returns c =
     let x = c.args.text.now in
     let whole : take c.loop-index.index x ≡ x = take_all c.loop-index.index x (omega arith) in
-    answer_at_end x c.left_fault.result (some_text x c.if-is_empty.ensures) (subst (λ z. IsClean (slash ∷ z)) whole c.loop-index.invariant) c.left_fault.ensures
+    answer_at_end x c.left_fault.result (full_from_test x c.if-is_empty.ensures) (subst (λ z. IsClean (slash ∷ z)) whole c.loop-index.invariant) c.left_fault.ensures

@@ -3,16 +3,16 @@ use Rattle.std.proofs.Common.{◌≡◌, ◌∷◌, Some, None, take, length, su
 use Rattle.std.proofs.lemmas.List.{take_all}
 use Rattle.gix_refspec_text.specs.Texts.Bytes.{slash}
 use Rattle.gix_refspec_text.specs.Private.Scan.{IsClean, IsStarCount, one_if, with_letters}
-use Rattle.gix_refspec_text.proofs.lemmas.texts.NameLemmas.{some_text}
 use Rattle.gix_refspec_text.proofs.lemmas.texts.LetterLemmas.{answer_with_letters}
 use Rattle.gix_refspec_text.proofs.name.starred_name.Goals as goal
+use Rattle.gix_refspec_text.proofs.lemmas.lists.EmptyLemmas.{full_from_test}
 
 pub returns-in-Some : goal.returns-in-Some
 returns-in-Some c =
     let x = c.args.text.now in
     let whole : take (length x) x ≡ x = take_all (length x) x (omega arith) in
     let clean = subst (λ z. IsClean (with_letters (slash ∷ z))) whole c.in_ok-starred.ensures.0 in
-    answer_with_letters x (Some c.in-Some.fault) (some_text x c.if-is_empty.ensures) clean c.in-Some.ensures
+    answer_with_letters x (Some c.in-Some.fault) (full_from_test x c.if-is_empty.ensures) clean c.in-Some.ensures
 
 pub returns-in-None : goal.returns-in-None
 returns-in-None c =
@@ -20,5 +20,5 @@ returns-in-None c =
     let whole : take (length x) x ≡ x = take_all (length x) x (omega arith) in
     let clean = subst (λ z. IsClean (with_letters (slash ∷ z))) whole c.in_ok-starred.ensures.0 in (
       subst (λ z. IsStarCount z (one_if c.in_ok-starred.starred)) whole c.in_ok-starred.ensures.1,
-      answer_with_letters x None (some_text x c.if-is_empty.ensures) clean c.in-None.ensures,
+      answer_with_letters x None (full_from_test x c.if-is_empty.ensures) clean c.in-None.ensures,
     )

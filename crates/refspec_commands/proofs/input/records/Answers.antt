@@ -1,6 +1,7 @@
 -- Each turn cuts the first record of the rest; in the end nothing is left to cut.
-use Rattle.refspec_commands.proofs.RecordLemmas.{Completes-start, Completes-more, Completes-end, empty_from_test, full_from_test}
+use Rattle.refspec_commands.proofs.RecordLemmas.{Completes-start, Completes-more, Completes-end}
 use Rattle.refspec_commands.proofs.input.records.Goals as goal
+use Rattle.gix_refspec_text.proofs.lemmas.lists.EmptyLemmas.{full_from_test, empty_from_test}
 
 pub loop-rest-init : goal.loop-rest-init
 loop-rest-init c = Completes-start c.args.end c.new-records.result.items c.args.input.now c.new-records.ensures.items

@@ -1,7 +1,7 @@
 -- Each byte of white space is looked for.
-use Rattle.refspec_commands.proofs.RecordLemmas.{full_from_test}
 use Rattle.refspec_commands.proofs.RefLemmas.{one_word_if}
 use Rattle.refspec_commands.proofs.refs.is_one_word.Goals as goal
+use Rattle.gix_refspec_text.proofs.lemmas.lists.EmptyLemmas.{full_from_test}
 
 pub returns : goal.returns
 returns c =

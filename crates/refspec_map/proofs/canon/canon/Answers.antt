@@ -1,6 +1,7 @@
 -- Each turn answers the first line of the rest; in the end nothing is left to answer.
-use Rattle.refspec_map.proofs.OutputLemmas.{Completes-line, Completes-end, empty_from_test, full_from_test}
+use Rattle.refspec_map.proofs.OutputLemmas.{Completes-line, Completes-end}
 use Rattle.refspec_map.proofs.canon.canon.Goals as goal
+use Rattle.gix_refspec_text.proofs.lemmas.lists.EmptyLemmas.{full_from_test, empty_from_test}
 
 pub loop-rest-preserved : goal.loop-rest-preserved
 loop-rest-preserved c =

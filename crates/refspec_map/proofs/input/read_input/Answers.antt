@@ -2,14 +2,15 @@
 use Rattle.std.proofs.Common.{◌<◌, ℕ, List, ◌++◌, length, ap, sym, subst, lit≤, length-append, arith}
 use Rattle.std.proofs.lemmas.Result.{err_from_is_err_and}
 use Rattle.std.specs.Io.KnownBytes.{Consumes}
-use Rattle.refspec_map.proofs.InputLemmas.{Consumes-append, Consumes-none, explained, kept_room, ends}
+use Rattle.refspec_map.proofs.InputLemmas.{explained, kept_room, ends}
 use Rattle.refspec_map.proofs.input.read_input.Goals as goal
+use Rattle.std.proofs.KnownBytes.{Consumes-trans, Consumes-nil}
 
 pub loop-input-init : goal.loop-input-init
 loop-input-init g c =
     let empty = c.in-Ok-with_capacity.ensures.items in
     record {
-      taken = subst (λ (x : List ℕ). Consumes (g.R.Read.remaining c.args.reader.now) (g.R.Read.remaining c.args.reader.now) x) (sym empty) (Consumes-none (g.R.Read.remaining c.args.reader.now));
+      taken = subst (λ (x : List ℕ). Consumes (g.R.Read.remaining c.args.reader.now) (g.R.Read.remaining c.args.reader.now) x) (sym empty) (Consumes-nil (g.R.Read.remaining c.args.reader.now));
       within = rw empty (lit≤ tt);
       room = omega (arith, c.in-Ok.ensures.len, c.in-Ok.buffer.ok.0);
     }
@@ -22,13 +23,13 @@ returns-in_err-read_some-clause-err g c =
 pub returns-then-len-gt-INPUT_LIMIT-clause-err : goal.returns-then-len-gt-INPUT_LIMIT-clause-err
 returns-then-len-gt-INPUT_LIMIT-clause-err g c =
     let some = c.in_ok-read_some.ensures.ok in
-    let taken = Consumes-append (g.R.Read.remaining c.args.reader.now) _ _ c.loop-input.input.items some.came c.loop-input.invariant.taken some.taken in
+    let taken = Consumes-trans (g.R.Read.remaining c.args.reader.now) _ _ c.loop-input.input.items some.came c.loop-input.invariant.taken some.taken in
     (c.loop-input.input.items ++ some.came, taken, subst (λ (x : List ℕ). 1048576 < length x) some.put (omega (arith, c.if-len-gt-INPUT_LIMIT.true, c.len.ensures, c.read_some.new.input.ok.0)))
 
 pub loop-input-preserved : goal.loop-input-preserved
 loop-input-preserved g c =
     let some = c.in_ok-read_some.ensures.ok in
-    let taken = Consumes-append (g.R.Read.remaining c.args.reader.now) _ _ c.loop-input.input.items some.came c.loop-input.invariant.taken some.taken in
+    let taken = Consumes-trans (g.R.Read.remaining c.args.reader.now) _ _ c.loop-input.input.items some.came c.loop-input.invariant.taken some.taken in
     record {
       taken = subst (λ (x : List ℕ). Consumes (g.R.Read.remaining c.args.reader.now) (g.R.Read.remaining c.read_some.new.reader) x) (sym some.put) taken;
       within = omega (arith, c.if-len-gt-INPUT_LIMIT.false, c.len.ensures, c.read_some.new.input.ok.0);
@@ -39,7 +40,7 @@ pub returns-clause-ok : goal.returns-clause-ok
 returns-clause-ok g c =
     let some = c.in_ok-read_some.ensures.ok in
     let at_end = ends _ _ c.in_ok-read_some.field-0 c.if-branch.false some.tells in
-    let taken = Consumes-append (g.R.Read.remaining c.args.reader.now) _ _ c.loop-input.input.items some.came c.loop-input.invariant.taken some.taken in
+    let taken = Consumes-trans (g.R.Read.remaining c.args.reader.now) _ _ c.loop-input.input.items some.came c.loop-input.invariant.taken some.taken in
     record {
       taken = subst (λ (x : List ℕ). Consumes (g.R.Read.remaining c.args.reader.now) (g.R.Read.remaining c.read_some.new.reader) x) (sym some.put) taken;
       ended = at_end.1;

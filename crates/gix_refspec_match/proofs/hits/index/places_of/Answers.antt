@@ -8,10 +8,10 @@ use Rattle.gix_refspec_match.specs.Private.Index.{HavePlaces, list_of}
 use Rattle.gix_refspec_match.specs.Private.Filter.{Passes}
 use Rattle.gix_refspec_match.proofs.lemmas.index.KeyLemmas.{key_of}
 use Rattle.gix_refspec_match.proofs.lemmas.index.IndexLemmas.{item_listed, item_unlisted, not_listed, nothing_asked}
-use Rattle.gix_refspec_match.proofs.lemmas.keep.KeptLemmas.{no_elements}
 use Rattle.gix_refspec_match.proofs.lemmas.index.PlacesLemmas.{all_at}
 use Rattle.gix_refspec_match.proofs.hits.index.places_of.Goals as goal
 use Rattle.gix_refspec_match.proofs.hits.index.places_of.Goals.{in-Some+in_ok-push, in_default}
+use Rattle.std.proofs.lemmas.List.{nil_from_length}
 
 pub loop-place-preserved-then-not-passes : goal.loop-place-preserved-then-not-passes
 loop-place-preserved-then-not-passes c =
@@ -44,7 +44,7 @@ loop-place-preserved c =
 
 pub returns-then-is_empty : goal.returns-then-is_empty
 returns-then-is_empty c =
-    let none : c.args.names.now ≡ [] = no_elements c.args.names.now (eqb-true _ _ (sym c.is_empty.ensures ∙ c.if-is_empty.true)) in
+    let none : c.args.names.now ≡ [] = nil_from_length c.args.names.now (eqb-true _ _ (sym c.is_empty.ensures ∙ c.if-is_empty.true)) in
     nothing_asked (map name_bytes c.args.names.now) (map ref_of c.args.items.now) (list_of c.in_ok-places.places) (ap (λ (l : List NameRef). map name_bytes l) none) c.in_ok-places.ensures
 
 pub returns : goal.returns

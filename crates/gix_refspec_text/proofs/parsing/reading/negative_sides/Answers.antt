@@ -6,10 +6,11 @@ use Rattle.gix_refspec_text.specs.Specs.Reading.{Negative}
 use Rattle.gix_refspec_text.specs.Specs.Refusal.{NegativeObjectHash}
 use Rattle.gix_refspec_text.specs.Views.Instruction.{mode_of}
 use Rattle.gix_refspec_text.specs.Private.Sides.{side_of}
-use Rattle.gix_refspec_text.proofs.lemmas.parsing.SideLemmas.{full_from_test, none_from_test}
+use Rattle.gix_refspec_text.proofs.lemmas.parsing.SideLemmas.{none_from_test}
 use Rattle.gix_refspec_text.proofs.lemmas.parsing.ReasonLemmas.{reason_against_object}
 use Rattle.gix_refspec_text.proofs.lemmas.parsing.ReadsLemmas.{read_with, negative_reads}
 use Rattle.gix_refspec_text.proofs.parsing.reading.negative_sides.Goals as goal
+use Rattle.gix_refspec_text.proofs.lemmas.lists.EmptyLemmas.{full_from_test}
 
 pub returns-then-looks_like_object_hash-clause-err : goal.returns-then-looks_like_object_hash-clause-err
 returns-then-looks_like_object_hash-clause-err c =

@@ -2,9 +2,9 @@
 use Rattle.std.proofs.Common.{ap, map}
 use Rattle.gix_refspec.specs.Views.Group.{ref_of}
 use Rattle.refspec_commands.specs.Refs.{bad_bytes}
-use Rattle.refspec_commands.proofs.RecordLemmas.{empty_from_test, full_from_test}
 use Rattle.refspec_commands.proofs.RefLemmas.{TellNames-end, TellsNamesSoFar-more, TellsNamesSoFar-start}
 use Rattle.refspec_commands.proofs.refs.Told.read.Goals as goal
+use Rattle.gix_refspec_text.proofs.lemmas.lists.EmptyLemmas.{full_from_test, empty_from_test}
 
 pub loop-rest-init : goal.loop-rest-init
 loop-rest-init c = TellsNamesSoFar-start c.args.end _ _ c.args.input.now (ap (map ref_of) c.new.ensures.items) (ap (map bad_bytes) c.new-2.ensures.items)

@@ -1,8 +1,8 @@
 -- Each turn adds what the first line of the rest gives, or finds that it is bad.
 use Rattle.std.proofs.lemmas.Result.{err_from_is_err_and}
 use Rattle.refspec_map.proofs.EntryLemmas.{Reaches-start, Reaches-line, Reaches-end, Reaches-fault}
-use Rattle.refspec_map.proofs.OutputLemmas.{empty_from_test, full_from_test}
 use Rattle.refspec_map.proofs.line.Entries.read.Goals as goal
+use Rattle.gix_refspec_text.proofs.lemmas.lists.EmptyLemmas.{full_from_test, empty_from_test}
 
 pub loop-rest-init : goal.loop-rest-init
 loop-rest-init c = Reaches-start c.args.blank c.args.input.now (record { specs = c.new.result; refs = c.new-2.result; items = c.new-3.result }) c.new.ensures.items c.new-2.ensures.items c.new-3.ensures.items

@@ -5,15 +5,15 @@ use Rattle.std.proofs.lemmas.Bool.{eqb-true}
 use Rattle.gix_refspec_match.specs.declared.types.Mapping.{Mapping}
 use Rattle.gix_refspec_match.specs.Views.Mapping.{mapped_of}
 use Rattle.gix_refspec.specs.Matching.RefNames.{AreLeftOut, IsNamed, left_out_of}
-use Rattle.gix_refspec_match.proofs.lemmas.keep.KeptLemmas.{no_elements}
 use Rattle.gix_refspec.proofs.lemmas.validate.ValidationLemmas.{filtered_so, kept_whole}
 use Rattle.gix_refspec.proofs.match_group.names.match_lhs+Outcome.without_bad_names.Goals as goal
+use Rattle.std.proofs.lemmas.List.{nil_from_length}
 
 pub returns-then-is_empty-clause-ok : goal.returns-then-is_empty-clause-ok
 returns-then-is_empty-clause-ok c =
     let bad = c.in-Ok.bad in
     let ms = c.args.self.mappings.items in
-    let empty : bad.items ≡ [] = no_elements bad.items (let none = eqb-true _ _ (sym c.is_empty.ensures ∙ c.if-is_empty.true) in omega (arith, none, bad.ok.0, bad.ok.1)) in (
+    let empty : bad.items ≡ [] = nil_from_length bad.items (let none = eqb-true _ _ (sym c.is_empty.ensures ∙ c.if-is_empty.true) in omega (arith, none, bad.ok.0, bad.ok.1)) in (
       refl,
       record {
         named = kept_whole IsNamed 0 (map mapped_of ms) (subst (λ (xs : List Mapping). AllByRecursion IsNamed (map mapped_of xs)) c.as_slice.ensures.value (c.in-Ok.ensures.none empty));

@@ -5,13 +5,13 @@ use Rattle.gix_refspec_text.specs.declared.spec.RefSpecRef.{RefSpecRef}
 use Rattle.gix_refspec_text.specs.Laws.Covering.{HasCoveringSource}
 use Rattle.gix_refspec_text.specs.Views.Spec.{reading_of}
 use Rattle.std.proofs.lemmas.Bool.{false≢true}
-use Rattle.gix_refspec_text.proofs.lemmas.hits.PremiseLemmas.{each_reading}
 use Rattle.gix_refspec.proofs.match_group.types.MatchGroup.has_covering_sources.Goals as goal
+use Rattle.gix_refspec_text.proofs.lemmas.lists.MapLemmas.{each_mapped}
 
 pub returns-then-not-has_covering_source : goal.returns-then-not-has_covering_source
 returns-then-not-has_covering_source c = (
   (λ none. absurd (false≢true none)),
   (λ all.
       let told = subst (λ (xs : List RefSpecRef). AllByRecursion HasCoveringSource (map reading_of xs)) (sym c.deref-spec-items.ensures.value) all in
-      absurd (false≢true (c.if-not-has_covering_source.ensures.1 (each_reading HasCoveringSource c.deref-spec-items.result.now c.loop-spec.spec-index c.spec-item.result told c.loop-spec-test.true c.spec-item.is)))),
+      absurd (false≢true (c.if-not-has_covering_source.ensures.1 (each_mapped reading_of HasCoveringSource c.deref-spec-items.result.now c.loop-spec.spec-index c.spec-item.result told c.loop-spec-test.true c.spec-item.is)))),
 )

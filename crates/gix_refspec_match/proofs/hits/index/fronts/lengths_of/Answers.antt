@@ -4,8 +4,8 @@ use Rattle.std.specs.List.{AllByRecursion}
 use Rattle.gix_refspec_match.specs.Views.Mapping.{name_bytes}
 use Rattle.gix_refspec_match.specs.Private.Kept.{IsFlagged}
 use Rattle.gix_refspec_match.proofs.lemmas.index.IndexLemmas.{names_more}
-use Rattle.gix_refspec_match.proofs.lemmas.keep.RepeatLemmas.{all_join, all_weaker}
 use Rattle.gix_refspec_match.proofs.hits.index.fronts.lengths_of.Goals as goal
+use Rattle.gix_refspec_text.proofs.lemmas.lists.AllLemmas.{all_join, all_weaker}
 
 pub loop-text-preserved : goal.loop-text-preserved
 loop-text-preserved c =

@@ -7,14 +7,14 @@ use Rattle.gix_refspec_text.specs.Matching.Side.{IsCandidate}
 use Rattle.gix_refspec_match.specs.Views.Mapping.{name_bytes, ref_of}
 use Rattle.gix_refspec_match.specs.Private.Filter.{HasTail, Passes}
 use Rattle.gix_refspec_match.specs.Private.Index.{Joins, ListPartials, list_of}
-use Rattle.gix_refspec_match.proofs.lemmas.keep.KeptLemmas.{no_elements}
 use Rattle.gix_refspec_match.proofs.lemmas.index.PartialLemmas.{adds_nothing, no_partials, partials_more, partials_started}
 use Rattle.gix_refspec_match.proofs.lemmas.index.PlacesLemmas.{all_at}
 use Rattle.gix_refspec_match.proofs.hits.index.partials.PartialIndex.of.Goals as goal
+use Rattle.std.proofs.lemmas.List.{nil_from_length}
 
 pub returns-then-is_empty : goal.returns-then-is_empty
 returns-then-is_empty c =
-    let none : c.args.names.now ≡ [] = no_elements c.args.names.now (eqb-true _ _ (sym c.is_empty.ensures ∙ c.if-is_empty.true)) in
+    let none : c.args.names.now ≡ [] = nil_from_length c.args.names.now (eqb-true _ _ (sym c.is_empty.ensures ∙ c.if-is_empty.true)) in
     no_partials c.args.direction (map name_bytes c.args.names.now) (map ref_of c.args.items.now) (list_of c.in_ok-places.places) (ap (λ (l : List NameRef). map name_bytes l) none)
 
 pub loop-place-init : goal.loop-place-init
