@@ -7,7 +7,7 @@ pub mod PlanLawFacts
 pub mod RefNameFacts
 pub mod PlainNameFacts
 pub mod AskedFacts
-pub mod PlaceFacts
+pub mod IndexFacts
 pub mod LawFacts
 pub mod EqualGroupFacts
 pub mod ItemFacts

@@ -5,7 +5,7 @@ pub use Rattle.gix_refspec_text.specs.Laws.Sides
 pub use Rattle.gix_refspec_text.specs.Laws.Covering
 pub mod Matching
 pub mod Items
-pub mod Places
+pub mod Indexes
 pub mod Validation
 pub mod Plans
 pub mod Reasons

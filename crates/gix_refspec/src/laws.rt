@@ -14,12 +14,12 @@ ghost use Rattle.gix_refspec_match.specs.Matching.Mappings.{IsSamePair};
 ghost use Rattle.gix_refspec_match.specs.Matching.Hits.{KeptOnce, OneForward, OneBackward};
 ghost use Rattle.gix_refspec.specs.Laws.Matching.{Transpose, KeptExactly, FirstStays, NothingExcluded, MapAlike, FetchGroupReadsBack, EqualGroups, AreFetches, Cover, CoverTogether};
 ghost use Rattle.gix_refspec.specs.Laws.Items.{AskedItems, FewerItems, FilteredItems, ListedItems, FilteredByEntries, FilteredByList, NamesDecide, NamesDecideBack};
-ghost use Rattle.gix_refspec.specs.Matching.Validation.{ForwardFits, PlacesFit, ValidatedOnce};
+ghost use Rattle.gix_refspec.specs.Matching.Validation.{ForwardFits, ItemIndexesFit, ValidatedOnce};
 ghost use Rattle.gix_refspec.specs.Laws.Validation.{OneValidation, CopiedOutcome};
 ghost use Rattle.gix_refspec.specs.Views.Issue.{IsSameFix, conflict_of, mappings_of};
 ghost use Rattle.gix_refspec_text.specs.Views.Errors.{IsSameError};
 ghost use Rattle.gix_refspec.specs.Matching.RefNames.{WritesRefs};
-ghost use Rattle.gix_refspec.specs.Laws.Places.{MadeAtPlaces, RemainsExactly};
+ghost use Rattle.gix_refspec.specs.Laws.Indexes.{MadeAtIndexes, RemainsExactly};
 ghost use Rattle.gix_refspec.specs.Laws.Plans.{NoControlCharacter, PlansApart};
 ghost use Rattle.gix_refspec.specs.Laws.Reasons.{ReasonRefuses};
 ghost use Rattle.gix_refspec.specs.Laws.Names.{PlainNames};
@@ -27,7 +27,7 @@ ghost use Rattle.gix_refspec_text.specs.Views.Spec.{reading_of, owned_reading_of
 ghost use Rattle.gix_refspec_text.specs.Views.Instruction.{meaning_of_instruction, meaning_of_fetch, meaning_of_push};
 ghost use Rattle.gix_refspec_match.specs.Views.Hashed.{source_writes, pair_writes};
 
-use crate::match_group::names::BadSide;
+use crate::match_group::ref_names::InvalidSide;
 use crate::match_group::validate::{Fix, Issue};
 use crate::match_group::{Item, Mapping, NameRef, Outcome, SourceRef, match_lhs};
 use crate::{Instruction, MatchGroup, RefSpec, RefSpecRef, name, oid, parsing};
@@ -286,18 +286,18 @@ pub fn forward_fits(group: &MatchGroup<'_>, items: &[Item<'_>])
 /// The places of a mapping that is kept are those of a spec of the group and of an item, whose name is its
 /// source, or from right to left its destination; only the mapping of an id has no item. So it is with
 /// what survives a validation.
-pub fn places_fit(group: &MatchGroup<'_>, items: &[Item<'_>])
-    ensures { PlacesFit (readings_of group.now) (map ref_of items.now) }
+pub fn item_indexes_fit(group: &MatchGroup<'_>, items: &[Item<'_>])
+    ensures { ItemIndexesFit (readings_of group.now) (map ref_of items.now) }
 {}
 
 /// Each mapping that is kept is what the spec at its place makes: of the item at its place, or, where it has
 /// none, of an id that the spec asks for. From right to left each has an item.
-pub fn made_at_places(group: &MatchGroup<'_>, items: &[Item<'_>])
-    ensures { MadeAtPlaces (readings_of group.now) (map ref_of items.now) }
+pub fn made_at_indexes(group: &MatchGroup<'_>, items: &[Item<'_>])
+    ensures { MadeAtIndexes (readings_of group.now) (map ref_of items.now) }
 {}
 
 /// Exactly those mappings survive a validation whose destination begins `refs/`, is `HEAD` or is
-/// missing; and after `without_bad_names` those between names of refs.
+/// missing; and after `without_invalid_names` those between names of refs.
 pub fn remains_exactly(outcome: &match_lhs::Outcome<'_, '_>)
     ensures { RemainsExactly (readings_of outcome.now.group) (mappings_of outcome.now) }
 {}
@@ -336,10 +336,10 @@ pub fn copied_outcome<'a, 'b, 'c, const FORWARD: bool>(
     ensures { CopiedOutcome outcome.now copy.now }
 {}
 
-/// After `validated` and `without_bad_names`, in either order, each destination is the name of a ref. So
+/// After `validated` and `without_invalid_names`, in either order, each destination is the name of a ref. So
 /// it is `HEAD` or begins `refs/`, and no component of it is empty or begins with a dot, as `..` does,
 /// and no byte of it is a control character. If the mappings came from `match_lhs`, no two have one
-/// destination. What `without_bad_names` keeps has the places that it had: so `validated` may be called.
+/// destination. What `without_invalid_names` keeps has the places that it had: so `validated` may be called.
 pub fn writes_refs(group: &MatchGroup<'_>, items: &[Item<'_>])
     ensures { WritesRefs (readings_of group.now) (map ref_of items.now) }
 {}
@@ -378,8 +378,8 @@ fn equal_destinations<'a>(a: &Option<NameRef<'a>>, b: &Option<NameRef<'a>>)
 {}
 
 /// Two sides of mappings are equal exactly where they are the same.
-pub fn equal_bad_sides(a: BadSide, b: BadSide)
-    ensures { IsTrue (⟦<BadSide as PartialEq>⟧.eq a b) ↔ (a ≡ b) }
+pub fn equal_invalid_sides(a: InvalidSide, b: InvalidSide)
+    ensures { IsTrue (⟦<InvalidSide as PartialEq>⟧.eq a b) ↔ (a ≡ b) }
 {}
 
 /// Two kinds of ids are equal exactly where they are the same.
@@ -417,7 +417,7 @@ pub fn same_clones<'a>()
     ensures spec { ClonesExactly
         ⟦<RefSpecRef<'a> as Clone>⟧.is_clone ⟦<RefSpecRef<'a> as Clone>⟧.is_infallible }
     ensures item { ClonesExactly ⟦<Item<'a> as Clone>⟧.is_clone ⟦<Item<'a> as Clone>⟧.is_infallible }
-    ensures bad_side { ClonesExactly ⟦<BadSide as Clone>⟧.is_clone ⟦<BadSide as Clone>⟧.is_infallible }
+    ensures invalid_side { ClonesExactly ⟦<InvalidSide as Clone>⟧.is_clone ⟦<InvalidSide as Clone>⟧.is_infallible }
     ensures kind { ClonesExactly ⟦<Kind as Clone>⟧.is_clone ⟦<Kind as Clone>⟧.is_infallible }
     ensures id { ClonesExactly ⟦<ObjectId as Clone>⟧.is_clone ⟦<ObjectId as Clone>⟧.is_infallible }
     ensures id_fault { ClonesExactly

@@ -8,7 +8,7 @@ ghost use Rattle.gix_refspec.specs.Views.Group.{readings_of, IsOutcome, Maps};
 ghost use Rattle.gix_refspec_match.specs.Private.HitViews.{AreKept, AreMade, mapped_of_made};
 ghost use Rattle.gix_refspec_match.specs.Matching.Hits.{AreForward, AreBackward, AreKeptForward, AreKeptBackward};
 
-pub mod names;
+pub mod ref_names;
 mod prefixes;
 mod premises;
 pub(crate) mod types;
@@ -40,7 +40,7 @@ impl<'spec> MatchGroup<'spec> {
     /// specs. Other destinations are owned: a pattern with the word for its star, and the full names
     /// that partial names and ids become.
     ///
-    /// Names aren't checked: a server may call a ref `refs/heads/../../x`. `without_bad_names` of the
+    /// Names aren't checked: a server may call a ref `refs/heads/../../x`. `without_invalid_names` of the
     /// outcome checks them.
     ///
     /// Fails with `NoRoom` if memory runs out; never if the specs ask for no id and match no item. It
@@ -65,7 +65,7 @@ impl<'spec> MatchGroup<'spec> {
     /// is filled in by the spec. A partial destination takes all items that have one of its six names.
     /// A destination that is an id matches items that have it as target or object, and a source that is
     /// an id becomes the name of a branch. Negative specs exclude by the source. Names aren't checked,
-    /// and `without_bad_names` is for outcomes of `match_lhs` only: see `name_partial`. Otherwise all
+    /// and `without_invalid_names` is for outcomes of `match_lhs` only: see `name_partial`. Otherwise all
     /// is as in `match_lhs`.
     ///
     /// Fails with `NoRoom` if memory runs out; never if no item matches. It holds the group as before.

@@ -1,21 +1,21 @@
 -- The words on the room of a caller, where it is just enough and where one place is missing.
 use Rattle.std.proofs.Common.{◌≡◌, ◌⊎◌, inl, inr, ℕ, ◌<◌, ◌≤◌, List, [], ◌∷◌, codes, refl, arith}
 use Rattle.gix_refspec_c.specs.declared.listing.MappingOut.{MappingOut}
-use Rattle.gix_refspec_c.specs.Buffer.{Holds, IsTooSmall}
+use Rattle.gix_refspec_c.specs.Buffer.{IsWrittenTo, IsTooSmall}
 use Rattle.gix_refspec_c.specs.Mapping.{IsNotPut, IsPut, Room}
 
 -- ---- one buffer
 
 -- three bytes hold an answer of three, and four leave the last as it was
-pub exact_room : Holds (codes "abc") (codes "xyz") (codes "abc") 3 × Holds (codes "abc") (codes "wxyz") (codes "abcz") 3
+pub exact_room : IsWrittenTo (codes "abc") (codes "xyz") (codes "abc") 3 × IsWrittenTo (codes "abc") (codes "wxyz") (codes "abcz") 3
 exact_room = (record { fits = omega arith; put = refl; tells = refl }, record { fits = omega arith; put = refl; tells = refl })
 
 -- an answer of no bytes needs no room
-pub no_room_needed : Holds [] [] [] 0
+pub no_room_needed : IsWrittenTo [] [] [] 0
 no_room_needed = record { fits = omega arith; put = refl; tells = refl }
 
 -- two bytes don't hold it, whatever is there afterwards
-pub one_byte_less : (new : List ℕ) (len : ℕ) → ¬ (Holds (codes "abc") (codes "xy") new len)
+pub one_byte_less : (new : List ℕ) (len : ℕ) → ¬ (IsWrittenTo (codes "abc") (codes "xy") new len)
 one_byte_less new len holds = let fits : 3 ≤ 2 = holds.fits in omega (arith, fits)
 
 -- that is too small, and the length is that of the answer

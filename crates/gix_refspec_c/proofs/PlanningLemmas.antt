@@ -28,7 +28,7 @@ use Rattle.gix_refspec.specs.Matching.Mappings.{Mapped}
 use Rattle.gix_refspec.specs.Views.Group.{mapped_of}
 use Rattle.gix_refspec.specs.Matching.Hits.{AreKeptForward}
 use Rattle.gix_refspec.specs.Views.Issue.{conflict_of}
-use Rattle.gix_refspec.specs.Matching.RefNames.{AreNamed, IsNamed, IsNamedDestination, IsNamedSource, IsRefName}
+use Rattle.gix_refspec.specs.Matching.RefNames.{HaveRefNames, HasRefNames, IsValidDestination, IsValidSource, IsRefName}
 use Rattle.gix_refspec.specs.Matching.Validation.{AreConflicts, IsConflict, HasConflictAt}
 use Rattle.gix_refspec_c.specs.declared.planning.Verdict.{Verdict}
 use Rattle.gix_refspec_c.specs.declared.planning.Verdict.TheVariants.{Written, LeftOut, BadName, Contested, FetchedOnly}
@@ -111,8 +111,8 @@ unless true isnt = refl
 unless false isnt = sym isnt
 
 -- a mapping with an id or a good name as its source, and a good name as its destination, is between names of refs
-pub good_sides : (m : Mapped) (d : List ℕ) → IsNamedSource m.source → m.destination ≡ Some d → IsRefName d → IsNamed m
-good_sides m d source to named = record { source = source; destination = subst IsNamedDestination (sym to) named }
+pub good_sides : (m : Mapped) (d : List ℕ) → IsValidSource m.source → m.destination ≡ Some d → IsRefName d → HasRefNames m
+good_sides m d source to named = record { source = source; destination = subst IsValidDestination (sym to) named }
 
 -- verdicts are the same by another word for the same destinations
 same_verdict : (P Q : List ℕ → Type 0) → ((d : List ℕ) → P d ↔ Q d) → (m : Mapped) (v : Verdict) → HasVerdict P m v → HasVerdict Q m v
@@ -148,7 +148,7 @@ some_or_none g l (issue ∷ issues) true are none = (destination_in issue, are.e
 some_or_none g l (issue ∷ issues) false are none = absurd (false≢true (none ∙ ap not (eqb-suc-zero (length issues))))
 
 -- what is told of mappings by the conflicts of those between names of refs is a plan
-pub planned : (texts names : List (List ℕ)) (group g : List Reading) (refs : List Ref) (kept named : List Mapped) (issues : List Issue) (es : List Entry) (some : Bool) → AllZip (Reads Fetch) texts group → refs ≡ map nameless names → AreKeptForward group refs kept → AreNamed kept named → AreConflicts g named (map conflict_of issues) → some ≡ not (length issues == 0) → g ≡ group → AllZip (IsJudged g (Contains (destinations_of issues))) kept es → IsPlan some texts names es
+pub planned : (texts names : List (List ℕ)) (group g : List Reading) (refs : List Ref) (kept named : List Mapped) (issues : List Issue) (es : List Entry) (some : Bool) → AllZip (Reads Fetch) texts group → refs ≡ map nameless names → AreKeptForward group refs kept → HaveRefNames kept named → AreConflicts g named (map conflict_of issues) → some ≡ not (length issues == 0) → g ≡ group → AllZip (IsJudged g (Contains (destinations_of issues))) kept es → IsPlan some texts names es
 planned texts names group g refs kept named issues es some read same stay between are none whole judged = record {
   group = group;
   read = read;

@@ -12,13 +12,13 @@ use Rattle.gix_refspec.specs.Specs.Meaning.{meaning_of, printed}
 use Rattle.gix_refspec.specs.Specs.Order.{keys}
 use Rattle.gix_refspec_c.specs.declared.failure.Failure.{Failure}
 use Rattle.gix_refspec_c.specs.declared.failure.Failure.TheVariants as failure
-use Rattle.gix_refspec_c.specs.Buffer.{HoldsNone, IsTooSmall}
+use Rattle.gix_refspec_c.specs.Buffer.{WritesNothing, IsTooSmall}
 use Rattle.gix_refspec_c.specs.Single.{AreCompared, sign}
 
 -- a buffer with no room for an answer lacks it
-pub too_small : (Is : List ℕ → Type 0) (Why : Failure → Type 0) (answer old new : List ℕ) (before after : ℕ) (r : Result (Unit {0}) Failure) → Is answer → IfErr r (λ f. (f ≡ failure.TooSmall) × IsTooSmall answer old new after) → IfErr r (HoldsNone Is Why old new before after)
+pub too_small : (Is : List ℕ → Type 0) (Why : Failure → Type 0) (answer old new : List ℕ) (before after : ℕ) (r : Result (Unit {0}) Failure) → Is answer → IfErr r (λ f. (f ≡ failure.TooSmall) × IsTooSmall answer old new after) → IfErr r (WritesNothing Is Why old new before after)
 too_small Is Why answer old new before after (Ok u) is small = tt
-too_small Is Why answer old new before after (Err f) is small = subst (HoldsNone Is Why old new before after) (sym small.0) (answer, is, small.1)
+too_small Is Why answer old new before after (Err f) is small = subst (WritesNothing Is Why old new before after) (sym small.0) (answer, is, small.1)
 
 -- a sign is kept in 32 bits
 signed : (o : Ordering) → to_z w32 (of_z w32 (sign o)) ≡ sign o

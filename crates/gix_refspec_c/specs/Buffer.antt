@@ -4,7 +4,7 @@ use Rattle.gix_refspec_c.specs.declared.failure.Failure.{Failure}
 use Rattle.gix_refspec_c.specs.declared.failure.Failure.TheVariants as failure
 
 -- the buffer begins with the answer, and is as before after it; the length is that of the answer
-pub record Holds (answer old new : List ℕ) (len : ℕ) : Type 0 where
+pub record IsWrittenTo (answer old new : List ℕ) (len : ℕ) : Type 0 where
   pub fits : length answer ≤ length old
   pub put : new ≡ answer ++ drop (length answer) old
   pub tells : len ≡ length answer
@@ -17,6 +17,6 @@ pub record IsTooSmall (answer old new : List ℕ) (len : ℕ) : Type 0 where
 
 -- why the buffer doesn't hold an answer: it has no room for one that is as Is says; or for another reason, as Why says,
 -- and buffer and length are as before
-abbrev pub HoldsNone : (List ℕ → Type 0) → (Failure → Type 0) → List ℕ → List ℕ → ℕ → ℕ → Failure → Type 0
-HoldsNone Is Why old new before after failure.TooSmall = (answer : List ℕ) × Is answer × IsTooSmall answer old new after
-HoldsNone Is Why old new before after f = Why f × (new ≡ old) × (after ≡ before)
+abbrev pub WritesNothing : (List ℕ → Type 0) → (Failure → Type 0) → List ℕ → List ℕ → ℕ → ℕ → Failure → Type 0
+WritesNothing Is Why old new before after failure.TooSmall = (answer : List ℕ) × Is answer × IsTooSmall answer old new after
+WritesNothing Is Why old new before after f = Why f × (new ≡ old) × (after ≡ before)

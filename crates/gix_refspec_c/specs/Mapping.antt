@@ -4,7 +4,7 @@ use Rattle.std.specs.List.{flat_map, slice_get}
 use Rattle.gix_refspec.specs.Texts.ObjectId.{lower_of}
 use Rattle.gix_refspec.specs.Specs.Meaning.{Meaning, meaning_of}
 use Rattle.gix_refspec.specs.Specs.Reading.{Reading}
-use Rattle.gix_refspec.specs.Matching.Mappings.{Start, name, id, Mapped}
+use Rattle.gix_refspec.specs.Matching.Mappings.{Source, name, id, Mapped}
 use Rattle.gix_refspec_c.specs.declared.failure.Failure.{Failure}
 use Rattle.gix_refspec_c.specs.declared.failure.Failure.TheVariants as failure
 use Rattle.gix_refspec_c.specs.declared.listing.MappingOut.{MappingOut}
@@ -31,14 +31,14 @@ number_of_item None = no_item
 number_of_item (Some place) = place
 
 -- the text of a source that is an id
-abbrev pub id_text : Start → List ℕ
+abbrev pub id_text : Source → List ℕ
 id_text (name n) = []
 id_text (id i) = lower_of i
 
 -- the text of a source
-abbrev pub start_text : Start → List ℕ
-start_text (name n) = n
-start_text (id i) = lower_of i
+abbrev pub source_text : Source → List ℕ
+source_text (name n) = n
+source_text (id i) = lower_of i
 
 -- a destination, where there is one
 abbrev pub destination_text : Option (List ℕ) → List ℕ
@@ -70,7 +70,7 @@ forward_entry g verdict m = record { spec = m.spec; item = number_of_item m.item
 
 -- and of one from right to left, of which it makes the source
 abbrev pub backward_entry : List Reading → Mapped → Entry
-backward_entry g m = record { spec = m.spec; item = number_of_item m.item; has_destination = destinations m.destination; forced = forced_at g m.spec; verdict = 0; id = []; made = start_text m.source }
+backward_entry g m = record { spec = m.spec; item = number_of_item m.item; has_destination = destinations m.destination; forced = forced_at g m.spec; verdict = 0; id = []; made = source_text m.source }
 
 -- the texts of a mapping
 abbrev pub text_of : Entry → List ℕ

@@ -10,7 +10,7 @@ use Rattle.gix_refspec.specs.declared.match_group.validate.Issue.{Issue}
 use Rattle.gix_refspec.specs.Views.Issue.{conflict_of}
 use Rattle.gix_refspec.specs.Matching.Hits.{AreKeptForward}
 use Rattle.gix_refspec.specs.Matching.Validation.{HasConflictAt, Survives}
-use Rattle.gix_refspec.specs.Matching.RefNames.{IsNamed, AreNamed}
+use Rattle.gix_refspec.specs.Matching.RefNames.{HasRefNames, HaveRefNames}
 use Rattle.gix_refspec_c.specs.declared.failure.Failure.{Failure}
 use Rattle.gix_refspec_c.specs.declared.failure.Failure.TheVariants as failure
 use Rattle.gix_refspec_c.specs.declared.planning.Verdict.{Verdict}
@@ -32,10 +32,10 @@ verdict_code FetchedOnly = 5
 -- several sources; or one that hasn't
 abbrev pub HasVerdict : (List ℕ → Type 0) → Mapped → Verdict → Type 0
 HasVerdict Met m LeftOut = ¬ (Survives m)
-HasVerdict Met m BadName = Survives m × ¬ (IsNamed m)
-HasVerdict Met m FetchedOnly = IsNamed m × (m.destination ≡ None)
-HasVerdict Met m Contested = IsNamed m × (d : List ℕ) × (m.destination ≡ Some d) × Met d
-HasVerdict Met m Written = IsNamed m × (d : List ℕ) × (m.destination ≡ Some d) × ¬ (Met d)
+HasVerdict Met m BadName = Survives m × ¬ (HasRefNames m)
+HasVerdict Met m FetchedOnly = HasRefNames m × (m.destination ≡ None)
+HasVerdict Met m Contested = HasRefNames m × (d : List ℕ) × (m.destination ≡ Some d) × Met d
+HasVerdict Met m Written = HasRefNames m × (d : List ℕ) × (m.destination ≡ Some d) × ¬ (Met d)
 
 -- the entry tells of the mapping of a group, with its verdict
 abbrev pub IsJudged : List Reading → (List ℕ → Type 0) → Mapped → Entry → Type 0
@@ -61,7 +61,7 @@ pub record IsPlan (some : Bool) (texts names : List (List ℕ)) (es : List Entry
   pub kept : List Mapped
   pub stay : AreKeptForward group (map nameless names) kept
   pub named : List Mapped
-  pub between_names : AreNamed kept named
+  pub between_names : HaveRefNames kept named
   pub judged : AllZip (IsJudged group (HasConflictAt named)) kept es
   pub conflicts : MatchBool some (HasConflict named) (HasNoConflict named)
 

@@ -8,7 +8,7 @@ ghost use Rattle.std.specs.Cmp.Lexicographic.{slice_cmp};
 ghost use Rattle.gix_refspec.specs.Views.Group.{mapped_of, readings_of, start_of};
 ghost use Rattle.gix_refspec.specs.Views.Issue.{conflict_of, mappings_of};
 ghost use Rattle.gix_refspec.specs.Matching.Mappings.{Mapped};
-ghost use Rattle.gix_refspec.specs.Matching.RefNames.{AreNamed, IsNamedSource, IsRefName};
+ghost use Rattle.gix_refspec.specs.Matching.RefNames.{HaveRefNames, IsValidSource, IsRefName};
 ghost use Rattle.gix_refspec.specs.Matching.Validation.{AreConflicts, IndexesFit, IsWritable};
 ghost use Rattle.gix_refspec_c.specs.Group.{AreUnread, bytes_of};
 ghost use Rattle.gix_refspec_c.specs.Mapping.{Entry, HasAll, Room, Tells};
@@ -146,7 +146,7 @@ fn plan_of(alloc: Global, texts: &[Text<'_>], names: &[Text<'_>]) -> Result<Plan
 // The conflicts of those mappings whose names refs may have.
 fn issues_of(alloc: Global, outcome: &match_lhs::Outcome<'_, '_>) -> Result<Vec<Issue>, Failure>
     requires { IndexesFit (readings_of outcome.now.group) (mappings_of outcome.now) }
-    ensures ok { IfOk result (λ issues. (named : List Mapped) × AreNamed (mappings_of outcome.now) named ×
+    ensures ok { IfOk result (λ issues. (named : List Mapped) × HaveRefNames (mappings_of outcome.now) named ×
         AreConflicts (readings_of outcome.now.group) named (map conflict_of issues.items)) }
     ensures err { IfErr result (λ f. f ≡ Failure.NoMemory) }
 {
@@ -156,7 +156,7 @@ fn issues_of(alloc: Global, outcome: &match_lhs::Outcome<'_, '_>) -> Result<Vec<
     };
     laws::copied_outcome(outcome, &copy);
     laws::writes_refs(&copy.group, &[]);
-    let named = match copy.without_bad_names(alloc) {
+    let named = match copy.without_invalid_names(alloc) {
         Ok((named, _)) => named,
         Err(_) => return Err(Failure::NoMemory),
     };
@@ -219,7 +219,7 @@ fn verdict_of(mapping: &Mapping<'_, '_>, issues: &[Issue]) -> Verdict
 
 // Whether a source is an id, or a name that a ref may have.
 fn is_good_source(source: &SourceRef<'_>) -> bool
-    ensures { IsTrue result ↔ IsNamedSource (start_of source.now) }
+    ensures { IsTrue result ↔ IsValidSource (start_of source.now) }
 {
     match source {
         SourceRef::FullName(name) => is_ref_name(name.as_bstr().as_bytes()),

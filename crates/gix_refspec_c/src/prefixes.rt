@@ -3,7 +3,7 @@
 ghost use Rattle.std.specs.Prelude.{◌≡◌, ◌≢◌, ℕ, List, map, IfErr, IfOk, OnOk};
 ghost use Rattle.bstr.specs.Owned.{bstring_bytes};
 ghost use Rattle.gix_refspec.specs.Views.Spec.{reading_of};
-ghost use Rattle.gix_refspec_c.specs.Buffer.{Holds, HoldsNone};
+ghost use Rattle.gix_refspec_c.specs.Buffer.{IsWrittenTo, WritesNothing};
 ghost use Rattle.gix_refspec_c.specs.Group.{HasPrefixOrNothing, IsExpanded, IsExpandedTo, IsPrefixOrNothing, IsToAsk, IsUnasked, IsUnexpanded, bytes_of, lines_of};
 ghost use Rattle.gix_refspec_c.specs.Outcome.{Answers};
 ghost use Rattle.gix_refspec_c.specs.Reading.{IsUnread, code_of};
@@ -52,8 +52,8 @@ pub extern "C" fn gix_refspec_expand_prefixes(
 ) -> u32
     ensures { Answers code_of operation
         (λ op. (answer : List ℕ) × IsExpanded op text.now answer ×
-        Holds answer buffer.old buffer.new len.new)
-        (λ op. HoldsNone (IsExpanded op text.now) (IsUnexpanded op text.now)
+        IsWrittenTo answer buffer.old buffer.new len.new)
+        (λ op. WritesNothing (IsExpanded op text.now) (IsUnexpanded op text.now)
         buffer.old buffer.new len.old len.new)
         ((buffer.new ≡ buffer.old) × (len.new ≡ len.old)) result }
 {
@@ -77,8 +77,8 @@ pub extern "C" fn gix_refspec_prefixes(
 ) -> u32
     ensures { Answers code_of operation
         (λ op. (answer : List ℕ) × IsToAsk op (map bytes_of texts.now) answer ×
-        Holds answer buffer.old buffer.new len.new)
-        (λ op. HoldsNone (IsToAsk op (map bytes_of texts.now))
+        IsWrittenTo answer buffer.old buffer.new len.new)
+        (λ op. WritesNothing (IsToAsk op (map bytes_of texts.now))
         (IsUnasked op (map bytes_of texts.now)) buffer.old buffer.new len.old len.new)
         ((buffer.new ≡ buffer.old) × (len.new ≡ len.old)) result }
 {
@@ -124,8 +124,8 @@ fn expand(
     len: &mut usize,
 ) -> Result<(), Failure>
     ensures ok { OnOk result ((answer : List ℕ) × IsExpanded operation text.now answer ×
-        Holds answer buffer.old buffer.new len.new) }
-    ensures err { IfErr result (HoldsNone
+        IsWrittenTo answer buffer.old buffer.new len.new) }
+    ensures err { IfErr result (WritesNothing
         (IsExpanded operation text.now) (IsUnexpanded operation text.now)
         buffer.old buffer.new len.old len.new) }
 {
@@ -154,8 +154,8 @@ fn ask(
     len: &mut usize,
 ) -> Result<(), Failure>
     ensures ok { OnOk result ((answer : List ℕ) × IsToAsk operation (map bytes_of texts.now) answer ×
-        Holds answer buffer.old buffer.new len.new) }
-    ensures err { IfErr result (HoldsNone
+        IsWrittenTo answer buffer.old buffer.new len.new) }
+    ensures err { IfErr result (WritesNothing
         (IsToAsk operation (map bytes_of texts.now)) (IsUnasked operation (map bytes_of texts.now))
         buffer.old buffer.new len.old len.new) }
 {

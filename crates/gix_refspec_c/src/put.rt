@@ -1,13 +1,13 @@
 //! Answers that go into a buffer of the caller.
 
 ghost use Rattle.std.specs.Prelude.{OnOk, OnErr, ◌≡◌, IfErr};
-ghost use Rattle.gix_refspec_c.specs.Buffer.{Holds, IsTooSmall};
+ghost use Rattle.gix_refspec_c.specs.Buffer.{IsWrittenTo, IsTooSmall};
 
 use crate::failure::Failure;
 
 /// Puts an answer at the front of a buffer, if it has room, and sets the length to what the answer needs.
 pub(crate) fn put(answer: &[u8], buffer: &mut [u8], len: &mut usize) -> Result<(), Failure>
-    ensures ok { OnOk result (Holds answer.now buffer.old buffer.new len.new) }
+    ensures ok { OnOk result (IsWrittenTo answer.now buffer.old buffer.new len.new) }
     ensures small { IfErr result (λ f. (f ≡ Failure.TooSmall) × IsTooSmall answer.now buffer.old buffer.new len.new) }
 {
     *len = answer.len();

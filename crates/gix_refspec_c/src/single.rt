@@ -4,7 +4,7 @@ ghost use Rattle.std.specs.Prelude.{◌≡◌, ℕ, List, OnOk, IfErr};
 ghost use Rattle.std.specs.Ordering.{nat_cmp};
 ghost use Rattle.std.specs.Cmp.Lexicographic.{slice_cmp};
 ghost use Rattle.gix_refspec.specs.Specs.Order.{keys};
-ghost use Rattle.gix_refspec_c.specs.Buffer.{Holds, HoldsNone};
+ghost use Rattle.gix_refspec_c.specs.Buffer.{IsWrittenTo, WritesNothing};
 ghost use Rattle.gix_refspec_c.specs.Outcome.{Answers};
 ghost use Rattle.gix_refspec_c.specs.Reading.{IsRefspec, IsUnread, code_of};
 ghost use Rattle.gix_refspec_c.specs.Single.{AreCompared, AreUncompared, IsCanonical, HasParts, IsUnprinted, sign, parts_in};
@@ -61,8 +61,8 @@ pub extern "C" fn gix_refspec_canonical(
 ) -> u32
     ensures { Answers code_of operation
         (λ op. (answer : List ℕ) × IsCanonical op text.now answer ×
-        Holds answer buffer.old buffer.new len.new)
-        (λ op. HoldsNone (IsCanonical op text.now) (IsUnprinted op text.now)
+        IsWrittenTo answer buffer.old buffer.new len.new)
+        (λ op. WritesNothing (IsCanonical op text.now) (IsUnprinted op text.now)
         buffer.old buffer.new len.old len.new)
         ((buffer.new ≡ buffer.old) × (len.new ≡ len.old)) result }
 {
@@ -126,8 +126,8 @@ fn print(
     len: &mut usize,
 ) -> Result<(), Failure>
     ensures ok { OnOk result ((answer : List ℕ) × IsCanonical operation text.now answer ×
-        Holds answer buffer.old buffer.new len.new) }
-    ensures err { IfErr result (HoldsNone
+        IsWrittenTo answer buffer.old buffer.new len.new) }
+    ensures err { IfErr result (WritesNothing
         (IsCanonical operation text.now) (IsUnprinted operation text.now)
         buffer.old buffer.new len.old len.new) }
 {

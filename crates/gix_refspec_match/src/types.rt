@@ -17,7 +17,7 @@ use std::hash::{Hash, Hasher};
 /// A ref of a repository, as it is matched. Borrows all that it has.
 #[derive(Clone, Copy, Debug)]
 pub struct Item<'a> {
-    /// The full name of the ref, like `refs/heads/main`. Any bytes will do: only `without_bad_names` of
+    /// The full name of the ref, like `refs/heads/main`. Any bytes will do: only `without_invalid_names` of
     /// an outcome checks it.
     pub full_ref_name: BStr<'a>,
     /// The object that the ref points to.

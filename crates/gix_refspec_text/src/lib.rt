@@ -3,13 +3,13 @@
 //! it has all of these under the same names, and groups of specs, which match refs.
 #![tactic(auto)]
 
-pub mod cut;
 pub mod instruction;
 pub mod name;
 pub mod oid;
 pub mod parsing;
 pub mod side;
 pub mod spec;
+pub mod split;
 mod types;
 
 pub use parsing::reading::parse;

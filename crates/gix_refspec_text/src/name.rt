@@ -313,7 +313,7 @@ fn replace_star(text: &mut [u8])
     requires { HasOneStar text.old }
     ensures { ReplacesStar text.old text.new }
 {
-    if let Some(place) = (&*text).find_byte(b'*') {
-        text[place] = b'a';
+    if let Some(index) = (&*text).find_byte(b'*') {
+        text[index] = b'a';
     }
 }

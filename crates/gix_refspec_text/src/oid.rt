@@ -10,9 +10,6 @@ ghost use Rattle.std.proofs.Common.{rules};
 ghost use Rattle.gix_refspec_text.specs.Specs.Explained.{id_explained};
 ghost use Rattle.gix_refspec_text.specs.Texts.ObjectId.{HasIdFault, IsIdLength, IsIdText, bytes_of, digits_of, fault_name, lower_of};
 
-mod digit;
-
-use self::digit::byte_of;
 use std::cmp::Ordering;
 use std::hash::{Hash, Hasher};
 use std::{error, fmt};
@@ -133,11 +130,8 @@ impl ObjectId {
             return Err(Error::Length { len: hex.len() });
         };
         let mut buffer = [0; 32];
-        for place in 0..kind.len_in_bytes() {
-            let Some(byte) = byte_of(hex[2 * place], hex[2 * place + 1]) else {
-                return Err(Error::Digit);
-            };
-            buffer[place] = byte;
+        if hex::decode_to_slice(hex, &mut buffer[..kind.len_in_bytes()]).is_err() {
+            return Err(Error::Digit);
         }
         Ok(ObjectId { kind, buffer })
     }

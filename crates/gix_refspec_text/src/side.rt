@@ -1,18 +1,19 @@
-//! A side of a refspec: how many stars it has and where they cut it, its kind, and its candidates.
+//! A side of a refspec: its stars, its kind, and its candidates.
 
-ghost use Rattle.std.specs.Prelude.{◌≡◌, ◌++◌, codes, map, MatchOption, IfOk};
+ghost use Rattle.std.specs.Prelude.{◌≡◌, ◌∷◌, ◌++◌, codes, map, MatchOption, IfOk};
 ghost use Rattle.bstr.specs.Owned.{bstring_bytes};
-ghost use Rattle.gix_refspec_text.specs.Texts.Words.{BeginsWith};
+ghost use Rattle.gix_refspec_text.specs.Texts.Bytes.{star};
+ghost use Rattle.gix_refspec_text.specs.Texts.Words.{BeginsWith, Lacks};
 ghost use Rattle.gix_refspec_text.specs.Texts.Name.{HasSeveralStars};
 ghost use Rattle.gix_refspec_text.specs.Matching.Side.{HasKind, candidates as candidates_of};
 ghost use Rattle.gix_refspec_text.specs.Private.SideViews.{AreStarsOf, kind_of_side};
 
-use crate::cut::{holds, split_at_first};
 use crate::oid::ObjectId;
+use crate::split::{contains, split_at_first};
 use bstr::BString;
 use std::alloc::{AllocError, Global};
 
-// How many stars a text has, and the text before and after the only one.
+// How many stars a side has, and the text before and after the only one.
 #[derive(Clone, Copy)]
 pub(crate) enum Stars<'a> {
     No,
@@ -33,15 +34,11 @@ pub enum SideKind<'a> {
     Partial(&'a [u8]),
 }
 
-// How many stars a side has, and where the only one cuts it.
+// Counts the stars of a side, up to two, and splits the side at its only one.
 pub(crate) fn stars_of(side: &[u8]) -> Stars<'_>
     ensures { AreStarsOf side.now result }
 {
-    // Most sides have no star, and `holds` tells that sooner than a search.
-    if !holds(side, b'*') {
-        return Stars::No;
-    }
-    let Some((before, after)) = split_at_first(side, b'*') else {
+    let Some((before, after)) = split_at_first_star(side) else {
         return Stars::No;
     };
     match split_at_first(after, b'*') {
@@ -50,15 +47,28 @@ pub(crate) fn stars_of(side: &[u8]) -> Stars<'_>
     }
 }
 
+// Splits a side at its first star.
+fn split_at_first_star(side: &[u8]) -> Option<(&[u8], &[u8])>
+    ensures { MatchOption result
+        (Lacks star side.now)
+        (λ parts. (side.now ≡ parts.0.now ++ (star ∷ parts.1.now)) × Lacks star parts.0.now) }
+{
+    // Most sides have no star, and `contains` finds that out faster than a search.
+    if !contains(side, b'*') {
+        return None;
+    }
+    split_at_first(side, b'*')
+}
+
 /// The kind of a side with one star at most.
 pub fn kind_of(side: &[u8]) -> SideKind<'_>
     requires { ¬ (HasSeveralStars side.now) }
     ensures { HasKind side.now (kind_of_side result) }
 {
-    if let Stars::One { before, after } = stars_of(side) {
+    if let Some((before, after)) = split_at_first_star(side) {
         return SideKind::Pattern { before, after };
     }
-    if below_refs(side).is_some() {
+    if strip_refs(side).is_some() {
         return SideKind::FullName(side);
     }
     match ObjectId::from_hex(side) {
@@ -68,7 +78,7 @@ pub fn kind_of(side: &[u8]) -> SideKind<'_>
 }
 
 /// What follows `refs/`. `None` for a text that doesn't begin so.
-pub fn below_refs(side: &[u8]) -> Option<&[u8]>
+pub fn strip_refs(side: &[u8]) -> Option<&[u8]>
     ensures { MatchOption result
         (¬ (BeginsWith (codes "refs/") side.now))
         (λ rest. side.now ≡ codes "refs/" ++ rest.now) }

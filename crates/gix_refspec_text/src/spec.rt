@@ -8,7 +8,7 @@ ghost use Rattle.gix_refspec_text.specs.Views.Instruction.{mode_of};
 
 mod comparisons;
 pub mod prefix;
-pub mod sign;
+mod sign;
 mod write;
 
 use crate::instruction::{Fetch, Push};

@@ -6,13 +6,13 @@ use Rattle.gix_refspec_text.specs.declared.spec.RefSpecRef.{RefSpecRef}
 use Rattle.gix_refspec.specs.Specs.Reading.{Reading}
 use Rattle.gix_refspec.specs.Views.Spec.{reading_of}
 use Rattle.gix_refspec.specs.Matching.Match.{Ref}
-use Rattle.gix_refspec.specs.Matching.Mappings.{Mapped, IsStartExcluded}
+use Rattle.gix_refspec.specs.Matching.Mappings.{Mapped, IsSourceExcluded}
 use Rattle.gix_refspec.specs.Views.Group.{is_for}
 use Rattle.gix_refspec.specs.Matching.Hits.{AreKeptForward}
 use Rattle.gix_refspec.specs.Laws.Matching.{AtSpec}
-use Rattle.gix_refspec.specs.Laws.Places.{MakesForwardOf}
-use Rattle.gix_refspec.specs.Matching.RefNames.{LeftOut, AreLeftOut, IsNamed, KeepsNamed, WritesRef}
-use Rattle.gix_refspec.specs.Matching.Validation.{Conflict, AreConflicts, NeverMeet}
+use Rattle.gix_refspec.specs.Laws.Indexes.{MakesForwardOf}
+use Rattle.gix_refspec.specs.Matching.RefNames.{LeftOut, AreLeftOut, HasRefNames, KeepsRefNames, WritesRef}
+use Rattle.gix_refspec.specs.Matching.Validation.{Conflict, AreConflicts, HaveDistinctDestinations}
 use Rattle.gix_refspec.specs.Views.Issue.{conflicts_of}
 use Rattle.gix_refspec_uses.specs.declared.planner.NoPlan.{NoPlan}
 use Rattle.gix_refspec_uses.specs.declared.planner.NoPlan.TheVariants as no_plan
@@ -25,8 +25,8 @@ fetch_readings specs = map reading_of (filter (is_for Fetch) specs)
 -- refs
 pub record MayBeWritten (g : List Reading) (items : List Ref) (m : Mapped) : Type 0 where
   pub comes : AtSpec g m (MakesForwardOf items m.item m.source m.destination)
-  pub included : ¬ (IsStartExcluded g m.source)
-  pub named : IsNamed m
+  pub included : ¬ (IsSourceExcluded g m.source)
+  pub named : HasRefNames m
   pub writes : WritesRef m
 
 -- the list has exactly the mappings that stay and are between names of refs, no two of them to one destination, and out has
@@ -34,9 +34,9 @@ pub record MayBeWritten (g : List Reading) (items : List Ref) (m : Mapped) : Typ
 pub record IsPlan (g : List Reading) (items : List Ref) (list : List Mapped) (out : List LeftOut) : Type 0 where
   pub kept : List Mapped
   pub matched : AreKeptForward g items kept
-  pub exactly : (m : Mapped) → Contains list m ↔ (Contains kept m × IsNamed m)
+  pub exactly : (m : Mapped) → Contains list m ↔ (Contains kept m × HasRefNames m)
   pub each : (m : Mapped) → Contains list m → MayBeWritten g items m
-  pub once : NeverMeet list
+  pub once : HaveDistinctDestinations list
   pub others : AreLeftOut kept out
 
 -- these are the conflicts of the mappings that stay and are between names of refs, and there are some
@@ -45,7 +45,7 @@ pub record AreInConflict (g : List Reading) (items : List Ref) (cs : List Confli
   pub matched : AreKeptForward g items kept
   pub named : List Mapped
   pub out : List LeftOut
-  pub parted : KeepsNamed kept named out
+  pub parted : KeepsRefNames kept named out
   pub some : cs ≢ []
   pub are : AreConflicts g named cs
 

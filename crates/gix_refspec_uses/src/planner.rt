@@ -8,7 +8,7 @@ ghost use Rattle.gix_refspec.specs.Matching.RefNames.{left_out_of};
 ghost use Rattle.gix_refspec_uses.specs.Planned.{AreInConflict, IfConflicts, IsPlan, fetch_readings};
 
 use crate::gather::fetches_of;
-use gix_refspec::match_group::names::BadMapping;
+use gix_refspec::match_group::ref_names::InvalidMapping;
 use gix_refspec::match_group::validate::{Error, Refusal};
 use gix_refspec::match_group::{Item, match_lhs};
 use gix_refspec::parsing::Operation;
@@ -21,7 +21,7 @@ pub struct Plan<'spec, 'item> {
     /// The fetch specs, and the mappings to write, in order.
     pub outcome: match_lhs::Outcome<'spec, 'item>,
     /// The mappings with a side that is no name of a ref, in order.
-    pub left_out: Vec<BadMapping<'item, 'spec>>,
+    pub left_out: Vec<InvalidMapping<'item, 'spec>>,
 }
 
 /// Why there is no plan.
@@ -52,7 +52,7 @@ pub fn plan_fetch<'spec, 'item>(
     let Ok(group) = fetches_of(alloc, specs) else {
         return Err(NoPlan::Memory);
     };
-    laws::made_at_places(&group, items);
+    laws::made_at_indexes(&group, items);
     laws::nothing_excluded(&group, items);
     laws::writes_refs(&group, items);
     laws::forward_fits(&group, items);
@@ -60,7 +60,7 @@ pub fn plan_fetch<'spec, 'item>(
         return Err(NoPlan::Memory);
     };
     laws::remains_exactly(&outcome);
-    let Ok((named, left_out)) = outcome.without_bad_names(alloc) else {
+    let Ok((named, left_out)) = outcome.without_invalid_names(alloc) else {
         return Err(NoPlan::Memory);
     };
     laws::remains_exactly(&named);

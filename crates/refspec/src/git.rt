@@ -2,7 +2,7 @@
 
 use crate::AtExit;
 use crate::streams::{CLOSED_STATUS, Stream};
-use refspec_git::answer::{Answer, Machine, Told, answer_call};
+use refspec_git::answer::{Answer, Machine, Output, answer_call};
 use refspec_commands::fault::Fault;
 use refspec_commands::input::read_input;
 use std::alloc::AllocError;
@@ -60,7 +60,7 @@ pub fn run_git(rt: &HostRuntime, path: &str) -> u8 {
     let folder = Folder { rt, path };
     match answer_call(rt.alloc(), &folder, &mut AtExit) {
         Ok(Answer::Asks(lines)) => ask(rt, path, lines.as_slice()),
-        Ok(Answer::Tells(told)) => tell(rt, &told),
+        Ok(Answer::Reports(reported)) => report(rt, &reported),
         Err(fault) => fail(rt, fault),
     }
 }
@@ -77,13 +77,13 @@ fn ask(rt: &HostRuntime, path: &str, lines: &[u8]) -> u8 {
 }
 
 // Writes what is told, and returns its status.
-fn tell(rt: &HostRuntime, told: &Told) -> u8 {
+fn report(rt: &HostRuntime, reported: &Output) -> u8 {
     let mut output = Stream::new(rt.stdout());
     let mut errors = Stream::new(rt.stderr());
-    if output.write_all(told.results.as_slice()).is_ok()
-        && errors.write_all(told.messages.as_slice()).is_ok()
+    if output.write_all(reported.results.as_slice()).is_ok()
+        && errors.write_all(reported.messages.as_slice()).is_ok()
     {
-        return told.status;
+        return reported.status;
     }
     if output.is_closed() || errors.is_closed() {
         return CLOSED_STATUS;

@@ -3,11 +3,11 @@
 
 mod git;
 mod streams;
-mod words;
+mod arguments;
 
 use crate::git::run_git;
 use crate::streams::{CLOSED_STATUS, Stream};
-use crate::words::{call_of, command_line, names_no_file, names_two_inputs};
+use crate::arguments::{call_of, command_line, names_no_file, names_two_inputs};
 use refspec_commands::call::{Call, Command};
 use refspec_commands::fault::Fault;
 use refspec_commands::input::read_input;
@@ -32,8 +32,8 @@ impl Discard for AtExit {
 }
 
 fn main(rt: HostRuntime) -> ExitCode {
-    ExitCode::from(match words_of(&rt) {
-        Ok(words) => run_words(&rt, words.as_slice()),
+    ExitCode::from(match arguments_of(&rt) {
+        Ok(arguments) => run_arguments(&rt, arguments.as_slice()),
         Err(error) if error.kind() == io::ErrorKind::InvalidData => {
             let _ = eprintln!(rt;
                 "refspec: an argument is not UTF-8; specs that aren't can be given by the standard input"
@@ -45,20 +45,20 @@ fn main(rt: HostRuntime) -> ExitCode {
 }
 
 // The words of the call, with the name of the program.
-fn words_of<R: env::Env + AllocGlobal>(rt: &R) -> io::Result<Vec<String>> {
-    let mut words = Vec::new(rt.alloc());
-    for word in env::args(rt)? {
-        words.push(word)?;
+fn arguments_of<R: env::Env + AllocGlobal>(rt: &R) -> io::Result<Vec<String>> {
+    let mut arguments = Vec::new(rt.alloc());
+    for argument in env::args(rt)? {
+        arguments.push(argument)?;
     }
-    Ok(words)
+    Ok(arguments)
 }
 
 // Runs what the words say, and returns the status.
-fn run_words(rt: &HostRuntime, words: &[String]) -> u8 {
+fn run_arguments(rt: &HostRuntime, arguments: &[String]) -> u8 {
     let Ok(command) = command_line(rt.alloc()) else {
         return fail(rt, Fault::Memory);
     };
-    let matches = match command.try_get_matches_from(words) {
+    let matches = match command.try_get_matches_from(arguments) {
         Ok(matches) => matches,
         Err(error) => return show(rt, &error),
     };

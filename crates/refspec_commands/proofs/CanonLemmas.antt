@@ -48,26 +48,26 @@ AddsCanonical-all f xs i old new long so_far = subst (λ (l : List Checked). Add
 
 -- a name that is shown
 pub AddsCanonicalName-shown : (f : Form) (t : Text) (name old new : List ℕ) → (f ≡ form.Lines) ⊎ (f ≡ form.Zeros) → AddsNames f [] (name ∷ []) old new → AddsCanonicalName f t name old new
-AddsCanonicalName-shown f t name old new (inl is) told = subst (λ (x : Form). AddsCanonicalName x t name old new) (sym is) (subst (λ (x : Form). AddsNames x [] (name ∷ []) old new) is told)
-AddsCanonicalName-shown f t name old new (inr is) told = subst (λ (x : Form). AddsCanonicalName x t name old new) (sym is) (subst (λ (x : Form). AddsNames x [] (name ∷ []) old new) is told)
+AddsCanonicalName-shown f t name old new (inl is) reported = subst (λ (x : Form). AddsCanonicalName x t name old new) (sym is) (subst (λ (x : Form). AddsNames x [] (name ∷ []) old new) is reported)
+AddsCanonicalName-shown f t name old new (inr is) reported = subst (λ (x : Form). AddsCanonicalName x t name old new) (sym is) (subst (λ (x : Form). AddsNames x [] (name ∷ []) old new) is reported)
 
 -- the canonical text of a spec was told
 good_one : (f : Form) (text : Text) (spec : RefSpecRef) (old new : List ℕ) → ((name : List ℕ) × (printed (reading_of spec) ≡ Some name) × AddsCanonicalName f text name old new) → AddsCanonical f (checked.Good text spec ∷ []) old new
-good_one form.Lines text spec old new (name, is, told) = (name ∷ [], (name, [], is, refl, refl), told)
-good_one form.Zeros text spec old new (name, is, told) = (name ∷ [], (name, [], is, refl, refl), told)
-good_one form.Json text spec old new (name, is, (line, of, put)) = AddsObjects-one form.Json IsCanonicalOrRefusal (checked.Good text spec) line old new refl (name, is, of) put
+good_one form.Lines text spec old new (name, is, reported) = (name ∷ [], (name, [], is, refl, refl), reported)
+good_one form.Zeros text spec old new (name, is, reported) = (name ∷ [], (name, [], is, refl, refl), reported)
+good_one form.Json text spec old new (name, is, (line, of, write)) = AddsObjects-one form.Json IsCanonicalOrRefusal (checked.Good text spec) line old new refl (name, is, of) write
 
 pub AddsCanonical-good : (f : Form) (c : Checked) (text : Text) (spec : RefSpecRef) (old new : List ℕ) → c ≡ checked.Good text spec → ((name : List ℕ) × (printed (reading_of spec) ≡ Some name) × AddsCanonicalName f text name old new) → AddsCanonical f (c ∷ []) old new
-AddsCanonical-good f c text spec old new is told = subst (λ (x : Checked). AddsCanonical f (x ∷ []) old new) (sym is) (good_one f text spec old new told)
+AddsCanonical-good f c text spec old new is reported = subst (λ (x : Checked). AddsCanonical f (x ∷ []) old new) (sym is) (good_one f text spec old new reported)
 
 -- a text was refused
 bad_one : (f : Form) (text : Text) (error : Error) (old new : List ℕ) → AddsRefusal f text error old new → AddsCanonical f (checked.Bad text error ∷ []) old new
 bad_one form.Lines text error old new kept = ([], refl, AddsNames-none form.Lines [] old new kept)
 bad_one form.Zeros text error old new kept = ([], refl, AddsNames-none form.Zeros [] old new kept)
-bad_one form.Json text error old new put = AddsObjects-refusal form.Json IsCanonicalOrRefusal (checked.Bad text error) text error old new (λ line is. is) put
+bad_one form.Json text error old new write = AddsObjects-refusal form.Json IsCanonicalOrRefusal (checked.Bad text error) text error old new (λ line is. is) write
 
 pub AddsCanonical-bad : (f : Form) (c : Checked) (text : Text) (error : Error) (old new : List ℕ) → c ≡ checked.Bad text error → AddsRefusal f text error old new → AddsCanonical f (c ∷ []) old new
-AddsCanonical-bad f c text error old new is told = subst (λ (x : Checked). AddsCanonical f (x ∷ []) old new) (sym is) (bad_one f text error old new told)
+AddsCanonical-bad f c text error old new is reported = subst (λ (x : Checked). AddsCanonical f (x ∷ []) old new) (sym is) (bad_one f text error old new reported)
 
 -- the canonical texts of what was checked are those of the texts
 AreCanonical-of : (texts : List Text) (all : List Checked) (names : List (List ℕ)) → AllZip IsChecked texts all → AreCanonicalOf all names → AreCanonical (map said (map given_of texts)) names
@@ -79,9 +79,9 @@ AreCanonical-of (t ∷ texts) (checked.Bad text error ∷ all) names is of = inr
 
 -- and so are their objects
 canonical_objects : (texts : List Text) (all : List Checked) (lines : List ℕ) → AllZip IsChecked texts all → AreInOrder IsCanonicalOrRefusal all lines → AreInOrder (λ t line. IsCanonicalObject t line ⊎ IsRefusal t line) (map given_of texts) lines
-canonical_objects [] [] lines is told = told
-canonical_objects [] (c ∷ all) lines is told = absurd is
-canonical_objects (t ∷ texts) [] lines is told = absurd is
+canonical_objects [] [] lines is reported = reported
+canonical_objects [] (c ∷ all) lines is reported = absurd is
+canonical_objects (t ∷ texts) [] lines is reported = absurd is
 canonical_objects (t ∷ texts) (checked.Good text spec ∷ all) lines is (one, rest, (name, printed_as, line), more, sum) =
     (one, rest, inl (record { text = text; reading = reading_of spec; name = name; is_text = ap given_of is.0.0; read = is.0.1; is_name = printed_as; is = line }), canonical_objects texts all rest is.1 more, sum)
 canonical_objects (t ∷ texts) (checked.Bad text error ∷ all) lines is (one, rest, line, more, sum) =
@@ -89,6 +89,6 @@ canonical_objects (t ∷ texts) (checked.Bad text error ∷ all) lines is (one, 
 
 -- what was told of what was checked shows the texts
 pub ShowsCanonical-of : (f : Form) (texts : List Text) (all : List Checked) (new : List ℕ) → AllZip IsChecked texts all → AddsCanonical f all [] new → ShowsCanonical f (map given_of texts) new
-ShowsCanonical-of form.Lines texts all new is told = (told.0, AreCanonical-of texts all told.0 is told.1, told.2)
-ShowsCanonical-of form.Zeros texts all new is told = (told.0, AreCanonical-of texts all told.0 is told.1, told.2)
-ShowsCanonical-of form.Json texts all new is (lines, told, put) = subst (AreInOrder (λ t line. IsCanonicalObject t line ⊎ IsRefusal t line) (map given_of texts)) (sym put) (canonical_objects texts all lines is told)
+ShowsCanonical-of form.Lines texts all new is reported = (reported.0, AreCanonical-of texts all reported.0 is reported.1, reported.2)
+ShowsCanonical-of form.Zeros texts all new is reported = (reported.0, AreCanonical-of texts all reported.0 is reported.1, reported.2)
+ShowsCanonical-of form.Json texts all new is (lines, reported, write) = subst (AreInOrder (λ t line. IsCanonicalObject t line ⊎ IsRefusal t line) (map given_of texts)) (sym write) (canonical_objects texts all lines is reported)

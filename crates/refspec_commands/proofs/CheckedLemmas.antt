@@ -13,7 +13,7 @@ use Rattle.gix_refspec_text.specs.declared.parsing.Error.{Error}
 use Rattle.gix_refspec.specs.Views.Spec.{reading_of}
 use Rattle.gix_refspec_text.specs.declared.spec.RefSpecRef.{RefSpecRef}
 use Rattle.refspec_commands.specs.Json.{AddsObjects, AreInOrder}
-use Rattle.refspec_commands.specs.Read.{AddsIfGood, AddsIfRead, AreGood, AreRead, HasBad, HasRefused, IsChecked, IsReadOrRefusal, IsRefusalOf, IsSpec, TellsRefused}
+use Rattle.refspec_commands.specs.Read.{AddsIfGood, AddsIfRead, AreGood, AreRead, HasBad, HasRefused, IsChecked, IsReadOrRefusal, IsRefusalOf, IsSpec, ReportsRefused}
 use Rattle.refspec_commands.specs.Texts.{given_of, said}
 use Rattle.std.proofs.lemmas.Slice.Zip.{all_zipped_more}
 
@@ -64,20 +64,20 @@ HasRefused-of (t ∷ texts) (checked.Bad text error ∷ all) is bad = inl (is.0.
 
 -- the objects of what was refused are those of the texts
 refusals_of : (texts : List Text) (all : List Checked) (lines : List ℕ) → AllZip IsChecked texts all → AreInOrder IsRefusalOf all lines → AreInOrder IsReadOrRefusal (map given_of texts) lines
-refusals_of [] [] lines is told = told
-refusals_of [] (c ∷ all) lines is told = absurd is
-refusals_of (t ∷ texts) [] lines is told = absurd is
+refusals_of [] [] lines is reported = reported
+refusals_of [] (c ∷ all) lines is reported = absurd is
+refusals_of (t ∷ texts) [] lines is reported = absurd is
 refusals_of (t ∷ texts) (checked.Good text spec ∷ all) lines is (one, rest, none, more, sum) = (one, rest, inl ((reading_of spec, is.0.1), none), refusals_of texts all rest is.1 more, sum)
 refusals_of (t ∷ texts) (checked.Bad text error ∷ all) lines is (one, rest, line, more, sum) = (one, rest, inr (record { text = text; error = error; is_text = ap given_of is.0.0; refused = is.0.1; is = line }), refusals_of texts all rest is.1 more, sum)
 
 AddsRefusals-of : (f : Form) (texts : List Text) (all : List Checked) (old new : List ℕ) → AllZip IsChecked texts all → AddsObjects f IsRefusalOf all old new → AddsObjects f IsReadOrRefusal (map given_of texts) old new
 AddsRefusals-of form.Lines texts all old new is kept = kept
 AddsRefusals-of form.Zeros texts all old new is kept = kept
-AddsRefusals-of form.Json texts all old new is (lines, told, put) = (lines, refusals_of texts all lines is told, put)
+AddsRefusals-of form.Json texts all old new is (lines, reported, write) = (lines, refusals_of texts all lines is reported, write)
 
 -- what is told of what was checked is told of the texts
 pub AddsIfRead-of : (Adds : List Reading → List ℕ → List ℕ → Type 0) (Refuses Says : Type 0) (f : Form) (refused : Bool) (texts : List Text) (all : List Checked) (old new : List ℕ) → AllZip IsChecked texts all → (Refuses → Says) → AddsIfGood Adds Refuses f refused all old new → AddsIfRead Adds Says f refused (map given_of texts) old new
-AddsIfRead-of Adds Refuses Says f refused texts all old new is says (inl told) = inl (told.0, AreRead-of texts all told.0 is told.1, told.2)
+AddsIfRead-of Adds Refuses Says f refused texts all old new is says (inl reported) = inl (reported.0, AreRead-of texts all reported.0 is reported.1, reported.2)
 AddsIfRead-of Adds Refuses Says f refused texts all old new is says (inr kept) = inr (HasRefused-of texts all is kept.0, AddsRefusals-of f texts all old new is kept.1, kept.2, says kept.3)
 
 -- the readings of specs
@@ -91,9 +91,9 @@ all_read (t ∷ texts) (checked.Good text spec ∷ all) is good =
 all_read (t ∷ texts) (checked.Bad text error ∷ all) is good = absurd good
 
 -- whether some text is refused
-pub TellsRefused-of : (refused : Bool) (texts : List Text) (all : List Checked) → AllZip IsChecked texts all → MatchBool refused (HasBad all) (AreGood all) → TellsRefused refused (map said (map given_of texts))
-TellsRefused-of true texts all is bad = HasRefused-of texts all is bad
-TellsRefused-of false texts all is good = all_read texts all is good
+pub ReportsRefused-of : (refused : Bool) (texts : List Text) (all : List Checked) → AllZip IsChecked texts all → MatchBool refused (HasBad all) (AreGood all) → ReportsRefused refused (map said (map given_of texts))
+ReportsRefused-of true texts all is bad = HasRefused-of texts all is bad
+ReportsRefused-of false texts all is good = all_read texts all is good
 
 AreGood-more : (xs : List Checked) (c : Checked) → AreGood xs → AreGood (c ∷ []) → AreGood (xs ++ c ∷ [])
 AreGood-more [] c good is = is

@@ -5,14 +5,14 @@ use Rattle.std.specs.List.{slice_get}
 use Rattle.gix_refspec.specs.Matching.Mappings.{Mapped}
 use Rattle.gix_refspec.specs.Views.Group.{mapped_of}
 use Rattle.gix_refspec_match.specs.declared.types.Mapping.{Mapping}
-use Rattle.refspec_commands.specs.Groups.{AddsGrouped, AddsGroups, AddsShort, AreBelow, AreShort, IsBelow, IsHead, IsShort, PutsHeading, PutsShort}
-use Rattle.refspec_commands.specs.Rows.{PutsCell, source_text}
-use Rattle.refspec_commands.specs.Shown.{PutsQuoted}
+use Rattle.refspec_commands.specs.Groups.{AddsGrouped, AddsGroups, AddsShort, AreBelow, AreShort, IsBelow, IsHead, IsShort, WritesHeading, WritesShort}
+use Rattle.refspec_commands.specs.Rows.{WritesCell, source_text}
+use Rattle.refspec_commands.specs.Shown.{WritesQuoted}
 use Rattle.refspec_commands.proofs.ShownLemmas.{behind}
 
 -- a cell, the other side and a newline are a line
-pub PutsShort-of : (m : Mapped) (old a b new : List ℕ) → PutsCell (source_text m.source) old a → PutsQuoted (unwrap_or m.destination (codes "FETCH_HEAD")) a b → new ≡ b ++ 10 ∷ [] → PutsShort m old new
-PutsShort-of m old a b new cell q ended =
+pub WritesShort-of : (m : Mapped) (old a b new : List ℕ) → WritesCell (source_text m.source) old a → WritesQuoted (unwrap_or m.destination (codes "FETCH_HEAD")) a b → new ≡ b ++ 10 ∷ [] → WritesShort m old new
+WritesShort-of m old a b new cell q ended =
     let nl = 10 ∷ [] in
     let both : b ≡ old ++ (cell.0 ++ q.0) = behind old cell.0 a q.0 b cell.2 q.2 in (
       cell.0 ++ (q.0 ++ nl),
@@ -20,8 +20,8 @@ PutsShort-of m old a b new cell q ended =
       behind old (cell.0 ++ q.0) b nl new both ended ∙ ap (λ l. old ++ l) (append_assoc cell.0 q.0 nl),
     )
 
-pub PutsHeading-of : (text old a new : List ℕ) → PutsQuoted text old a → new ≡ a ++ 10 ∷ [] → PutsHeading text old new
-PutsHeading-of text old a new q ended = (q.0 ++ 10 ∷ [], (q.0, q.1, refl), behind old q.0 a (10 ∷ []) new q.2 ended)
+pub WritesHeading-of : (text old a new : List ℕ) → WritesQuoted text old a → new ≡ a ++ 10 ∷ [] → WritesHeading text old new
+WritesHeading-of text old a new q ended = (q.0 ++ 10 ∷ [], (q.0, q.1, refl), behind old q.0 a (10 ∷ []) new q.2 ended)
 
 AreShort-push : (ms : List Mapped) (m : Mapped) (lines line : List ℕ) → AreShort ms lines → IsShort m line → AreShort (ms ++ m ∷ []) (lines ++ line)
 AreShort-push [] m lines line none is = (line, [], is, refl, ap (λ l. l ++ line) none ∙ sym (append-nil line))
@@ -31,10 +31,10 @@ pub AddsShort-start : (old : List ℕ) → AddsShort [] old old
 AddsShort-start old = ([], refl, sym (append-nil old))
 
 -- one line more
-pub AddsShort-next : (xs : List Mapping) (i : ℕ) (x : Mapping) (old mid new : List ℕ) → i < length xs → x ≡ get_or xs i x → AddsShort (map mapped_of (take i xs)) old mid → PutsShort (mapped_of x) mid new → AddsShort (map mapped_of (take (i + 1) xs)) old new
-AddsShort-next xs i x old mid new below is (lines, are, so_far) (line, short, put) =
+pub AddsShort-next : (xs : List Mapping) (i : ℕ) (x : Mapping) (old mid new : List ℕ) → i < length xs → x ≡ get_or xs i x → AddsShort (map mapped_of (take i xs)) old mid → WritesShort (mapped_of x) mid new → AddsShort (map mapped_of (take (i + 1) xs)) old new
+AddsShort-next xs i x old mid new below is (lines, are, so_far) (line, short, write) =
     let step : map mapped_of (take (i + 1) xs) ≡ map mapped_of (take i xs) ++ mapped_of x ∷ [] = map_more mapped_of xs i x below ∙ ap (λ (y : Mapping). map mapped_of (take i xs) ++ mapped_of y ∷ []) (sym is) in
-    subst (λ (l : List Mapped). AddsShort l old new) (sym step) (lines ++ line, AreShort-push (map mapped_of (take i xs)) (mapped_of x) lines line are short, behind old lines mid line new so_far put)
+    subst (λ (l : List Mapped). AddsShort l old new) (sym step) (lines ++ line, AreShort-push (map mapped_of (take i xs)) (mapped_of x) lines line are short, behind old lines mid line new so_far write)
 
 -- the spec of the last mapping
 abbrev pub last_spec : Option ℕ → List Mapped → Option ℕ
@@ -54,26 +54,26 @@ pub record GroupedSoFar (texts : List (List ℕ)) (ms : List Mapped) (before : O
   pub lines : List ℕ
   pub are : AreBelow texts None ms lines
   pub last : before ≡ last_spec None ms
-  pub put : new ≡ old ++ lines
+  pub write : new ≡ old ++ lines
 
 pub GroupedSoFar-start : (texts : List (List ℕ)) (old : List ℕ) → GroupedSoFar texts [] None old old
-GroupedSoFar-start texts old = record { lines = []; are = refl; last = refl; put = sym (append-nil old) }
+GroupedSoFar-start texts old = record { lines = []; are = refl; last = refl; write = sym (append-nil old) }
 
 -- what stands before a line
-pub record PutsHead (texts : List (List ℕ)) (before : Option ℕ) (m : Mapped) (old new : List ℕ) : Type 0 where
+pub record WritesHead (texts : List (List ℕ)) (before : Option ℕ) (m : Mapped) (old new : List ℕ) : Type 0 where
   pub head : List ℕ
   pub is : IsHead texts before m head
-  pub put : new ≡ old ++ head
+  pub write : new ≡ old ++ head
 
-pub PutsHead-none : (texts : List (List ℕ)) (before : Option ℕ) (m : Mapped) (old : List ℕ) → before ≡ Some m.spec → PutsHead texts before m old old
-PutsHead-none texts before m old same = record { head = []; is = inl (same, refl); put = sym (append-nil old) }
+pub WritesHead-none : (texts : List (List ℕ)) (before : Option ℕ) (m : Mapped) (old : List ℕ) → before ≡ Some m.spec → WritesHead texts before m old old
+WritesHead-none texts before m old same = record { head = []; is = inl (same, refl); write = sym (append-nil old) }
 
-pub PutsHead-some : (texts : List (List ℕ)) (before : Option ℕ) (m : Mapped) (text old new : List ℕ) → before ≢ Some m.spec → text ≡ unwrap_or (slice_get texts m.spec) [] → PutsHeading text old new → PutsHead texts before m old new
-PutsHead-some texts before m text old new other same (line, heading, put) = record { head = line; is = inr (other, rw same at heading); put = put }
+pub WritesHead-some : (texts : List (List ℕ)) (before : Option ℕ) (m : Mapped) (text old new : List ℕ) → before ≢ Some m.spec → text ≡ unwrap_or (slice_get texts m.spec) [] → WritesHeading text old new → WritesHead texts before m old new
+WritesHead-some texts before m text old new other same (line, heading, write) = record { head = line; is = inr (other, rw same at heading); write = write }
 
 -- one mapping more
-pub GroupedSoFar-next : (texts : List (List ℕ)) (xs : List Mapping) (i : ℕ) (x : Mapping) (before next : Option ℕ) (old mid a b new : List ℕ) → i < length xs → x ≡ get_or xs i x → GroupedSoFar texts (map mapped_of (take i xs)) before old mid → PutsHead texts before (mapped_of x) mid a → b ≡ a ++ codes "  " → PutsShort (mapped_of x) b new → next ≡ Some (mapped_of x).spec → GroupedSoFar texts (map mapped_of (take (i + 1) xs)) next old new
-GroupedSoFar-next texts xs i x before next old mid a b new below is so_far head margin (line, short, put) same =
+pub GroupedSoFar-next : (texts : List (List ℕ)) (xs : List Mapping) (i : ℕ) (x : Mapping) (before next : Option ℕ) (old mid a b new : List ℕ) → i < length xs → x ≡ get_or xs i x → GroupedSoFar texts (map mapped_of (take i xs)) before old mid → WritesHead texts before (mapped_of x) mid a → b ≡ a ++ codes "  " → WritesShort (mapped_of x) b new → next ≡ Some (mapped_of x).spec → GroupedSoFar texts (map mapped_of (take (i + 1) xs)) next old new
+GroupedSoFar-next texts xs i x before next old mid a b new below is so_far head margin (line, short, write) same =
     let front = map mapped_of (take i xs) in
     let m = mapped_of x in
     let step : map mapped_of (take (i + 1) xs) ≡ front ++ m ∷ [] = map_more mapped_of xs i x below ∙ ap (λ (y : Mapping). front ++ mapped_of y ∷ []) (sym is) in
@@ -85,11 +85,11 @@ GroupedSoFar-next texts xs i x before next old mid a b new below is so_far head 
       is_line = short;
       is = refl;
     } in
-    let with_margin : b ≡ mid ++ (head.head ++ codes "  ") = behind mid head.head a (codes "  ") b head.put margin in
-    let all : new ≡ mid ++ one = behind mid (head.head ++ codes "  ") b line new with_margin put ∙ ap (λ l. mid ++ l) (append_assoc head.head (codes "  ") line) in
+    let with_margin : b ≡ mid ++ (head.head ++ codes "  ") = behind mid head.head a (codes "  ") b head.write margin in
+    let all : new ≡ mid ++ one = behind mid (head.head ++ codes "  ") b line new with_margin write ∙ ap (λ l. mid ++ l) (append_assoc head.head (codes "  ") line) in
     subst (λ (l : List Mapped). GroupedSoFar texts l next old new) (sym step) (record {
       lines = so_far.lines ++ one;
       are = AreBelow-push texts None front m so_far.lines one so_far.are is_one;
       last = same ∙ sym (last_spec-push None front m);
-      put = behind old so_far.lines mid one new so_far.put all;
+      write = behind old so_far.lines mid one new so_far.write all;
     })

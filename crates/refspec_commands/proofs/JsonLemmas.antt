@@ -11,11 +11,11 @@ use Rattle.gix_refspec_text.specs.declared.parsing.Error.{Error}
 use Rattle.gix_refspec_text.specs.Specs.Explained.{explained}
 use Rattle.refspec_commands.specs.declared.call.Form.{Form}
 use Rattle.refspec_commands.specs.declared.call.Form.TheVariants as form
-use Rattle.refspec_commands.specs.declared.texts.Place.{Place}
-use Rattle.refspec_commands.specs.declared.texts.Place.TheVariants as place
+use Rattle.refspec_commands.specs.declared.texts.Location.{Location}
+use Rattle.refspec_commands.specs.declared.texts.Location.TheVariants as location
 use Rattle.refspec_commands.specs.declared.texts.Text.{Text}
-use Rattle.refspec_commands.specs.Json.{AddsObjects, AddsRefusal, AreInOrder, IsRefusedLine, PutsRefused, PutsSpec, begins_quoted, json_text, operation_name, reason_name}
-use Rattle.refspec_commands.specs.Messages.{IsPlace}
+use Rattle.refspec_commands.specs.Json.{AddsObjects, AddsRefusal, AreInOrder, IsRefusedLine, WritesRefused, WritesSpec, begins_quoted, json_text, operation_name, reason_name}
+use Rattle.refspec_commands.specs.Messages.{IsLocation}
 use Rattle.refspec_commands.specs.Shown.{IsQuoted, escaped, in_quotes}
 use Rattle.refspec_commands.proofs.ShownLemmas.{behind}
 
@@ -94,97 +94,97 @@ IsUtf8-decimal : (n : ℕ) → IsUtf8 (decimal n)
 unfolding digits
 IsUtf8-decimal n = IsUtf8-digits 64 n [] IsUtf8-nil
 
-pub IsUtf8-place : (p : Place) (shown : List ℕ) → IsPlace form.Json p shown → IsUtf8 shown
-IsUtf8-place (place.Word number) shown is = subst IsUtf8 (sym is) (IsUtf8-append (codes "spec ") _ (IsUtf8-are_ascii (codes "spec ") refl) (IsUtf8-decimal number))
-IsUtf8-place (place.Record input number) shown (name, is, all) = subst IsUtf8 (sym all) (IsUtf8-append name _ is.1 (ascii_then 58 _ (omega arith) (IsUtf8-decimal number)))
-IsUtf8-place (place.Setting origin key) shown (one, other, first, second, all) = subst IsUtf8 (sym all) (IsUtf8-append one _ first.1 (IsUtf8-append (codes ": ") other (IsUtf8-are_ascii (codes ": ") refl) second.1))
+pub IsUtf8-location : (p : Location) (shown : List ℕ) → IsLocation form.Json p shown → IsUtf8 shown
+IsUtf8-location (location.Word number) shown is = subst IsUtf8 (sym is) (IsUtf8-append (codes "spec ") _ (IsUtf8-are_ascii (codes "spec ") refl) (IsUtf8-decimal number))
+IsUtf8-location (location.Record input number) shown (name, is, all) = subst IsUtf8 (sym all) (IsUtf8-append name _ is.1 (ascii_then 58 _ (omega arith) (IsUtf8-decimal number)))
+IsUtf8-location (location.Setting origin key) shown (one, other, first, second, all) = subst IsUtf8 (sym all) (IsUtf8-append one _ first.1 (IsUtf8-append (codes ": ") other (IsUtf8-are_ascii (codes ": ") refl) second.1))
 
 -- ---- objects, one after another
 
-AreInOrder-push : {X : Type 0} (Tells : X → List ℕ → Type 0) (xs : List X) (x : X) (lines one : List ℕ) → AreInOrder Tells xs lines → Tells x one → AreInOrder Tells (xs ++ x ∷ []) (lines ++ one)
-AreInOrder-push Tells [] x lines one none is = (one, [], is, refl, ap (λ l. l ++ one) none ∙ sym (append-nil one))
-AreInOrder-push Tells (y ∷ xs) x lines one (first, rest, here, more, all) is = (first, rest ++ one, here, AreInOrder-push Tells xs x rest one more is, ap (λ l. l ++ one) all ∙ append_assoc first rest one)
+AreInOrder-push : {X : Type 0} (Reports : X → List ℕ → Type 0) (xs : List X) (x : X) (lines one : List ℕ) → AreInOrder Reports xs lines → Reports x one → AreInOrder Reports (xs ++ x ∷ []) (lines ++ one)
+AreInOrder-push Reports [] x lines one none is = (one, [], is, refl, ap (λ l. l ++ one) none ∙ sym (append-nil one))
+AreInOrder-push Reports (y ∷ xs) x lines one (first, rest, here, more, all) is = (first, rest ++ one, here, AreInOrder-push Reports xs x rest one more is, ap (λ l. l ++ one) all ∙ append_assoc first rest one)
 
 -- at the start there are none
-pub AddsObjects-start : {X : Type 0} (f : Form) (Tells : X → List ℕ → Type 0) (old : List ℕ) → AddsObjects f Tells [] old old
-AddsObjects-start form.Lines Tells old = refl
-AddsObjects-start form.Zeros Tells old = refl
-AddsObjects-start form.Json Tells old = ([], refl, sym (append-nil old))
+pub AddsObjects-start : {X : Type 0} (f : Form) (Reports : X → List ℕ → Type 0) (old : List ℕ) → AddsObjects f Reports [] old old
+AddsObjects-start form.Lines Reports old = refl
+AddsObjects-start form.Zeros Reports old = refl
+AddsObjects-start form.Json Reports old = ([], refl, sym (append-nil old))
 
-pub AddsObjects-push : {X : Type 0} (f g : Form) (Tells : X → List ℕ → Type 0) (xs : List X) (x : X) (old mid new : List ℕ) → g ≡ f → AddsObjects f Tells xs old mid → AddsObjects g Tells (x ∷ []) mid new → AddsObjects f Tells (xs ++ x ∷ []) old new
-AddsObjects-push {X} form.Lines g Tells xs x old mid new same a b = subst (λ (h : Form). AddsObjects h Tells (x ∷ []) mid new) same b ∙ a
-AddsObjects-push {X} form.Zeros g Tells xs x old mid new same a b = subst (λ (h : Form). AddsObjects h Tells (x ∷ []) mid new) same b ∙ a
-AddsObjects-push {X} form.Json g Tells xs x old mid new same a b = last (subst (λ (h : Form). AddsObjects h Tells (x ∷ []) mid new) same b)
+pub AddsObjects-push : {X : Type 0} (f g : Form) (Reports : X → List ℕ → Type 0) (xs : List X) (x : X) (old mid new : List ℕ) → g ≡ f → AddsObjects f Reports xs old mid → AddsObjects g Reports (x ∷ []) mid new → AddsObjects f Reports (xs ++ x ∷ []) old new
+AddsObjects-push {X} form.Lines g Reports xs x old mid new same a b = subst (λ (h : Form). AddsObjects h Reports (x ∷ []) mid new) same b ∙ a
+AddsObjects-push {X} form.Zeros g Reports xs x old mid new same a b = subst (λ (h : Form). AddsObjects h Reports (x ∷ []) mid new) same b ∙ a
+AddsObjects-push {X} form.Json g Reports xs x old mid new same a b = last (subst (λ (h : Form). AddsObjects h Reports (x ∷ []) mid new) same b)
   where
-    last : AddsObjects form.Json Tells (x ∷ []) mid new → AddsObjects form.Json Tells (xs ++ x ∷ []) old new
-    last (lines, (one, rest, is, none, all), put) =
+    last : AddsObjects form.Json Reports (x ∷ []) mid new → AddsObjects form.Json Reports (xs ++ x ∷ []) old new
+    last (lines, (one, rest, is, none, all), write) =
         let whole : lines ≡ one = all ∙ (ap (λ l. one ++ l) none ∙ append-nil one) in
-        (a.0 ++ one, AreInOrder-push Tells xs x a.0 one a.1 is, behind old a.0 mid one new a.2 (put ∙ ap (λ l. mid ++ l) whole))
+        (a.0 ++ one, AreInOrder-push Reports xs x a.0 one a.1 is, behind old a.0 mid one new a.2 (write ∙ ap (λ l. mid ++ l) whole))
 
 -- what is told of one element more
-pub AddsObjects-next : {X Y : Type 0} (f g : Form) (Tells : Y → List ℕ → Type 0) (shown : X → Y) (xs : List X) (i : ℕ) (d : X) (y : Y) (old mid new : List ℕ) → i < length xs → g ≡ f → y ≡ shown (get_or xs i d) → AddsObjects f Tells (map shown (take i xs)) old mid → AddsObjects g Tells (y ∷ []) mid new → AddsObjects f Tells (map shown (take (i + 1) xs)) old new
-AddsObjects-next {X} {Y} f g Tells shown xs i d y old mid new below same is a b =
+pub AddsObjects-next : {X Y : Type 0} (f g : Form) (Reports : Y → List ℕ → Type 0) (shown : X → Y) (xs : List X) (i : ℕ) (d : X) (y : Y) (old mid new : List ℕ) → i < length xs → g ≡ f → y ≡ shown (get_or xs i d) → AddsObjects f Reports (map shown (take i xs)) old mid → AddsObjects g Reports (y ∷ []) mid new → AddsObjects f Reports (map shown (take (i + 1) xs)) old new
+AddsObjects-next {X} {Y} f g Reports shown xs i d y old mid new below same is a b =
     let step : map shown (take (i + 1) xs) ≡ map shown (take i xs) ++ y ∷ [] = ap (map shown) (take_more xs i d below) ∙ (map-append shown (take i xs) (get_or xs i d ∷ []) ∙ ap (λ z. map shown (take i xs) ++ z ∷ []) (sym is)) in
-    subst (λ (l : List Y). AddsObjects f Tells l old new) (sym step) (AddsObjects-push f g Tells (map shown (take i xs)) y old mid new same a b)
+    subst (λ (l : List Y). AddsObjects f Reports l old new) (sym step) (AddsObjects-push f g Reports (map shown (take i xs)) y old mid new same a b)
 
 -- the same of the elements themselves
-pub AddsObjects-more : {X : Type 0} (f g : Form) (Tells : X → List ℕ → Type 0) (xs : List X) (i : ℕ) (x : X) (old mid new : List ℕ) → i < length xs → g ≡ f → x ≡ get_or xs i x → AddsObjects f Tells (take i xs) old mid → AddsObjects g Tells (x ∷ []) mid new → AddsObjects f Tells (take (i + 1) xs) old new
-AddsObjects-more {X} f g Tells xs i x old mid new below same is a b =
+pub AddsObjects-more : {X : Type 0} (f g : Form) (Reports : X → List ℕ → Type 0) (xs : List X) (i : ℕ) (x : X) (old mid new : List ℕ) → i < length xs → g ≡ f → x ≡ get_or xs i x → AddsObjects f Reports (take i xs) old mid → AddsObjects g Reports (x ∷ []) mid new → AddsObjects f Reports (take (i + 1) xs) old new
+AddsObjects-more {X} f g Reports xs i x old mid new below same is a b =
     let step : take (i + 1) xs ≡ take i xs ++ x ∷ [] = take_more xs i x below ∙ ap (λ z. take i xs ++ z ∷ []) (sym is) in
-    subst (λ (l : List X). AddsObjects f Tells l old new) (sym step) (AddsObjects-push f g Tells (take i xs) x old mid new same a b)
+    subst (λ (l : List X). AddsObjects f Reports l old new) (sym step) (AddsObjects-push f g Reports (take i xs) x old mid new same a b)
 
 -- the same of an element at its index
-pub AddsObjects-item : {X : Type 0} (f g : Form) (Tells : X → List ℕ → Type 0) (xs : List X) (i : ℕ) (d : X) (old mid new : List ℕ) → i < length xs → g ≡ f → AddsObjects f Tells (take i xs) old mid → AddsObjects g Tells (get_or xs i d ∷ []) mid new → AddsObjects f Tells (take (i + 1) xs) old new
-AddsObjects-item {X} f g Tells xs i d old mid new below same a b = subst (λ (l : List X). AddsObjects f Tells l old new) (sym (take_more xs i d below)) (AddsObjects-push f g Tells (take i xs) (get_or xs i d) old mid new same a b)
+pub AddsObjects-item : {X : Type 0} (f g : Form) (Reports : X → List ℕ → Type 0) (xs : List X) (i : ℕ) (d : X) (old mid new : List ℕ) → i < length xs → g ≡ f → AddsObjects f Reports (take i xs) old mid → AddsObjects g Reports (get_or xs i d ∷ []) mid new → AddsObjects f Reports (take (i + 1) xs) old new
+AddsObjects-item {X} f g Reports xs i d old mid new below same a b = subst (λ (l : List X). AddsObjects f Reports l old new) (sym (take_more xs i d below)) (AddsObjects-push f g Reports (take i xs) (get_or xs i d) old mid new same a b)
 
 -- what is told of each element is told of what it is mapped to
-mapped_in_order : {X Y : Type 0} (Tells : X → List ℕ → Type 0) (Says : Y → List ℕ → Type 0) (f : X → Y) (xs : List X) (lines : List ℕ) → ((x : X) (line : List ℕ) → Tells x line → Says (f x) line) → AreInOrder Tells xs lines → AreInOrder Says (map f xs) lines
-mapped_in_order Tells Says f [] lines gives none = none
-mapped_in_order Tells Says f (x ∷ xs) lines gives (one, rest, here, more, all) = (one, rest, gives x one here, mapped_in_order Tells Says f xs rest gives more, all)
+mapped_in_order : {X Y : Type 0} (Reports : X → List ℕ → Type 0) (Says : Y → List ℕ → Type 0) (f : X → Y) (xs : List X) (lines : List ℕ) → ((x : X) (line : List ℕ) → Reports x line → Says (f x) line) → AreInOrder Reports xs lines → AreInOrder Says (map f xs) lines
+mapped_in_order Reports Says f [] lines gives none = none
+mapped_in_order Reports Says f (x ∷ xs) lines gives (one, rest, here, more, all) = (one, rest, gives x one here, mapped_in_order Reports Says f xs rest gives more, all)
 
-pub AddsObjects-map : {X Y : Type 0} (h : Form) (Tells : X → List ℕ → Type 0) (Says : Y → List ℕ → Type 0) (f : X → Y) (xs : List X) (old new : List ℕ) → ((x : X) (line : List ℕ) → Tells x line → Says (f x) line) → AddsObjects h Tells xs old new → AddsObjects h Says (map f xs) old new
-AddsObjects-map form.Lines Tells Says f xs old new gives kept = kept
-AddsObjects-map form.Zeros Tells Says f xs old new gives kept = kept
-AddsObjects-map form.Json Tells Says f xs old new gives (lines, told, put) = (lines, mapped_in_order Tells Says f xs lines gives told, put)
+pub AddsObjects-map : {X Y : Type 0} (h : Form) (Reports : X → List ℕ → Type 0) (Says : Y → List ℕ → Type 0) (f : X → Y) (xs : List X) (old new : List ℕ) → ((x : X) (line : List ℕ) → Reports x line → Says (f x) line) → AddsObjects h Reports xs old new → AddsObjects h Says (map f xs) old new
+AddsObjects-map form.Lines Reports Says f xs old new gives kept = kept
+AddsObjects-map form.Zeros Reports Says f xs old new gives kept = kept
+AddsObjects-map form.Json Reports Says f xs old new gives (lines, reported, write) = (lines, mapped_in_order Reports Says f xs lines gives reported, write)
 
 -- all elements
-pub AddsObjects-all : {X : Type 0} (f : Form) (Tells : X → List ℕ → Type 0) (xs : List X) (i : ℕ) (old new : List ℕ) → length xs ≤ i → AddsObjects f Tells (take i xs) old new → AddsObjects f Tells xs old new
-AddsObjects-all {X} f Tells xs i old new long so_far = subst (λ (l : List X). AddsObjects f Tells l old new) (take_all i xs long) so_far
+pub AddsObjects-all : {X : Type 0} (f : Form) (Reports : X → List ℕ → Type 0) (xs : List X) (i : ℕ) (old new : List ℕ) → length xs ≤ i → AddsObjects f Reports (take i xs) old new → AddsObjects f Reports xs old new
+AddsObjects-all {X} f Reports xs i old new long so_far = subst (λ (l : List X). AddsObjects f Reports l old new) (take_all i xs long) so_far
 
 -- the object of one
-pub AddsObjects-one : {X : Type 0} (f : Form) (Tells : X → List ℕ → Type 0) (x : X) (line old new : List ℕ) → f ≡ form.Json → Tells x line → new ≡ old ++ line → AddsObjects f Tells (x ∷ []) old new
-AddsObjects-one {X} f Tells x line old new same is put = subst (λ (h : Form). AddsObjects h Tells (x ∷ []) old new) (sym same) (line, (line, [], is, refl, sym (append-nil line)), put)
+pub AddsObjects-one : {X : Type 0} (f : Form) (Reports : X → List ℕ → Type 0) (x : X) (line old new : List ℕ) → f ≡ form.Json → Reports x line → new ≡ old ++ line → AddsObjects f Reports (x ∷ []) old new
+AddsObjects-one {X} f Reports x line old new same is write = subst (λ (h : Form). AddsObjects h Reports (x ∷ []) old new) (sym same) (line, (line, [], is, refl, sym (append-nil line)), write)
 
 -- nothing is told of one
-pub AddsObjects-none : {X : Type 0} (f : Form) (Tells : X → List ℕ → Type 0) (x : X) (old new : List ℕ) → Tells x [] → new ≡ old → AddsObjects f Tells (x ∷ []) old new
-AddsObjects-none form.Lines Tells x old new is kept = kept
-AddsObjects-none form.Zeros Tells x old new is kept = kept
-AddsObjects-none form.Json Tells x old new is kept = ([], ([], [], is, refl, refl), kept ∙ sym (append-nil old))
+pub AddsObjects-none : {X : Type 0} (f : Form) (Reports : X → List ℕ → Type 0) (x : X) (old new : List ℕ) → Reports x [] → new ≡ old → AddsObjects f Reports (x ∷ []) old new
+AddsObjects-none form.Lines Reports x old new is kept = kept
+AddsObjects-none form.Zeros Reports x old new is kept = kept
+AddsObjects-none form.Json Reports x old new is kept = ([], ([], [], is, refl, refl), kept ∙ sym (append-nil old))
 
 -- the object of a refusal is one
-pub AddsObjects-refusal : {X : Type 0} (f : Form) (Tells : X → List ℕ → Type 0) (x : X) (t : Text) (e : Error) (old new : List ℕ) → ((line : List ℕ) → IsRefusedLine t e line → Tells x line) → AddsRefusal f t e old new → AddsObjects f Tells (x ∷ []) old new
-AddsObjects-refusal form.Lines Tells x t e old new gives kept = kept
-AddsObjects-refusal form.Zeros Tells x t e old new gives kept = kept
-AddsObjects-refusal {X} form.Json Tells x t e old new gives put = AddsObjects-one form.Json Tells x put.0 old new refl (gives put.0 put.1) put.2
+pub AddsObjects-refusal : {X : Type 0} (f : Form) (Reports : X → List ℕ → Type 0) (x : X) (t : Text) (e : Error) (old new : List ℕ) → ((line : List ℕ) → IsRefusedLine t e line → Reports x line) → AddsRefusal f t e old new → AddsObjects f Reports (x ∷ []) old new
+AddsObjects-refusal form.Lines Reports x t e old new gives kept = kept
+AddsObjects-refusal form.Zeros Reports x t e old new gives kept = kept
+AddsObjects-refusal {X} form.Json Reports x t e old new gives write = AddsObjects-one form.Json Reports x write.0 old new refl (gives write.0 write.1) write.2
 
 -- ---- the object of a refusal
 
-pub PutsRefused-of : (t : Text) (e : Error) (at purpose text reason sentence : List ℕ) (side part : Option (List ℕ)) (index : Option ℕ) (advice old new : List ℕ) → IsPlace form.Json t.place at → purpose ≡ operation_name t.operation → text ≡ json_text t.bytes.now → reason ≡ reason_name e → sentence ≡ explained e → new ≡ old ++ line_of (refused_object at purpose text reason sentence side part index advice) → PutsRefused t e old new
-PutsRefused-of t e at purpose text reason sentence side part index advice old new is_place is_purpose is_text is_reason is_sentence put = (
+pub WritesRefused-of : (t : Text) (e : Error) (at purpose text reason sentence : List ℕ) (side part : Option (List ℕ)) (index : Option ℕ) (advice old new : List ℕ) → IsLocation form.Json t.location at → purpose ≡ operation_name t.operation → text ≡ json_text t.bytes.now → reason ≡ reason_name e → sentence ≡ explained e → new ≡ old ++ line_of (refused_object at purpose text reason sentence side part index advice) → WritesRefused t e old new
+WritesRefused-of t e at purpose text reason sentence side part index advice old new is_location is_purpose is_text is_reason is_sentence write = (
   line_of (refused_object at (operation_name t.operation) (json_text t.bytes.now) (reason_name e) (explained e) side part index advice),
-  record { place = at; side = side; part = part; index = index; advice = advice; is_place = is_place; is = refl },
-  put ∙ (ap (λ x. old ++ line_of (refused_object at x text reason sentence side part index advice)) is_purpose
+  record { location = at; side = side; part = part; index = index; advice = advice; is_location = is_location; is = refl },
+  write ∙ (ap (λ x. old ++ line_of (refused_object at x text reason sentence side part index advice)) is_purpose
       ∙ (ap (λ x. old ++ line_of (refused_object at (operation_name t.operation) x reason sentence side part index advice)) is_text
       ∙ (ap (λ x. old ++ line_of (refused_object at (operation_name t.operation) (json_text t.bytes.now) x sentence side part index advice)) is_reason
       ∙ ap (λ x. old ++ line_of (refused_object at (operation_name t.operation) (json_text t.bytes.now) (reason_name e) x side part index advice)) is_sentence))),
 )
 
 -- and that of a spec
-pub PutsSpec-of : (kind : List ℕ) (t : Text) (canonical : List ℕ) (meaning same_as : Option (List ℕ)) (at purpose text name old new : List ℕ) → IsPlace form.Json t.place at → purpose ≡ operation_name t.operation → text ≡ json_text t.bytes.now → name ≡ json_text canonical → new ≡ old ++ line_of (spec_object kind at purpose text name meaning same_as) → PutsSpec kind t canonical meaning same_as old new
-PutsSpec-of kind t canonical meaning same_as at purpose text name old new is_place is_purpose is_text is_name put = (
+pub WritesSpec-of : (kind : List ℕ) (t : Text) (canonical : List ℕ) (meaning same_as : Option (List ℕ)) (at purpose text name old new : List ℕ) → IsLocation form.Json t.location at → purpose ≡ operation_name t.operation → text ≡ json_text t.bytes.now → name ≡ json_text canonical → new ≡ old ++ line_of (spec_object kind at purpose text name meaning same_as) → WritesSpec kind t canonical meaning same_as old new
+WritesSpec-of kind t canonical meaning same_as at purpose text name old new is_location is_purpose is_text is_name write = (
   line_of (spec_object kind at (operation_name t.operation) (json_text t.bytes.now) (json_text canonical) meaning same_as),
-  record { place = at; is_place = is_place; is = refl },
-  put ∙ (ap (λ x. old ++ line_of (spec_object kind at x text name meaning same_as)) is_purpose
+  record { location = at; is_location = is_location; is = refl },
+  write ∙ (ap (λ x. old ++ line_of (spec_object kind at x text name meaning same_as)) is_purpose
       ∙ (ap (λ x. old ++ line_of (spec_object kind at (operation_name t.operation) x name meaning same_as)) is_text
       ∙ ap (λ x. old ++ line_of (spec_object kind at (operation_name t.operation) (json_text t.bytes.now) x meaning same_as)) is_name)),
 )

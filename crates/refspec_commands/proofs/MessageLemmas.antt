@@ -11,15 +11,15 @@ use Rattle.refspec_commands.specs.declared.call.Form.TheVariants as form
 use Rattle.refspec_commands.specs.declared.checked.Checked.{Checked}
 use Rattle.refspec_commands.specs.declared.checked.Checked.TheVariants as checked
 use Rattle.refspec_commands.specs.declared.texts.Text.{Text}
-use Rattle.refspec_commands.specs.Messages.{AreRefusals, AreToldOf, PutsPlace, PutsReason, PutsRefusal, TellsRefusal, TellsRefusals}
+use Rattle.refspec_commands.specs.Messages.{AreRefusals, AreReportedOf, WritesLocation, WritesReason, WritesRefusal, ReportsRefusal, ReportsRefusals}
 use Rattle.refspec_commands.specs.Read.{IsChecked}
-use Rattle.refspec_commands.specs.Shown.{Grows, PutsQuoted}
+use Rattle.refspec_commands.specs.Shown.{Grows, WritesQuoted}
 use Rattle.refspec_commands.specs.Texts.{given_of}
 use Rattle.refspec_commands.proofs.ShownLemmas.{behind}
 
 -- where, what and why, one after another
-pub PutsReason-of : (t : Text) (e : Error) (sentence old a b c d f new : List ℕ) → PutsPlace form.Lines t.place old a → b ≡ a ++ codes ": " → PutsQuoted t.bytes.now b c → d ≡ c ++ codes ": " → sentence ≡ explained e → f ≡ d ++ sentence → new ≡ f ++ 10 ∷ [] → PutsReason t e old new
-PutsReason-of t e sentence old a b c d f new where_ one what two why three end =
+pub WritesReason-of : (t : Text) (e : Error) (sentence old a b c d f new : List ℕ) → WritesLocation form.Lines t.location old a → b ≡ a ++ codes ": " → WritesQuoted t.bytes.now b c → d ≡ c ++ codes ": " → sentence ≡ explained e → f ≡ d ++ sentence → new ≡ f ++ 10 ∷ [] → WritesReason t e old new
+WritesReason-of t e sentence old a b c d f new where_ one what two why three end =
     let to_b : b ≡ old ++ (where_.0 ++ codes ": ") = behind old where_.0 a (codes ": ") b where_.2 one in
     let to_c : c ≡ old ++ ((where_.0 ++ codes ": ") ++ what.0) = behind old (where_.0 ++ codes ": ") b what.0 c to_b what.2 in
     let to_d : d ≡ old ++ (((where_.0 ++ codes ": ") ++ what.0) ++ codes ": ") = behind old ((where_.0 ++ codes ": ") ++ what.0) c (codes ": ") d to_c two in
@@ -34,58 +34,58 @@ PutsReason-of t e sentence old a b c d f new where_ one what two why three end =
     (line, record { at = where_.0; text = what.0; is_spot = where_.1; is_text = what.1; is = refl }, to_new ∙ ap (λ l. old ++ l) same)
 
 -- and more
-pub PutsRefusal-of : (t : Text) (e : Error) (old mid new : List ℕ) → PutsReason t e old mid → Grows mid new → PutsRefusal t e old new
-PutsRefusal-of t e old mid new reason more = (reason.0, more.0, reason.1, behind old reason.0 mid more.0 new reason.2 more.1)
+pub WritesRefusal-of : (t : Text) (e : Error) (old mid new : List ℕ) → WritesReason t e old mid → Grows mid new → WritesRefusal t e old new
+WritesRefusal-of t e old mid new reason more = (reason.0, more.0, reason.1, behind old reason.0 mid more.0 new reason.2 more.1)
 
 -- the refusals of some texts and then those of others
-TellsRefusals-append : (f : Form) (xs ys : List Checked) (old mid new : List ℕ) → TellsRefusals f xs old mid → TellsRefusals f ys mid new → TellsRefusals f (xs ++ ys) old new
-TellsRefusals-append f [] ys old mid new a b = subst (λ (x : List ℕ). TellsRefusals f ys x new) a b
-TellsRefusals-append f (checked.Good text spec ∷ xs) ys old mid new a b = TellsRefusals-append f xs ys old mid new a b
-TellsRefusals-append f (checked.Bad text error ∷ xs) ys old mid new a b = (a.0, a.1, TellsRefusals-append f xs ys a.0 mid new a.2 b)
+ReportsRefusals-append : (f : Form) (xs ys : List Checked) (old mid new : List ℕ) → ReportsRefusals f xs old mid → ReportsRefusals f ys mid new → ReportsRefusals f (xs ++ ys) old new
+ReportsRefusals-append f [] ys old mid new a b = subst (λ (x : List ℕ). ReportsRefusals f ys x new) a b
+ReportsRefusals-append f (checked.Good text spec ∷ xs) ys old mid new a b = ReportsRefusals-append f xs ys old mid new a b
+ReportsRefusals-append f (checked.Bad text error ∷ xs) ys old mid new a b = (a.0, a.1, ReportsRefusals-append f xs ys a.0 mid new a.2 b)
 
 -- one text more
-pub TellsRefusals-next : (f g : Form) (xs : List Checked) (i : ℕ) (y : Checked) (old mid new : List ℕ) → i < length xs → g ≡ f → y ≡ get_or xs i y → TellsRefusals f (take i xs) old mid → TellsRefusals g (y ∷ []) mid new → TellsRefusals f (take (i + 1) xs) old new
-TellsRefusals-next f g xs i y old mid new below same is a b =
+pub ReportsRefusals-next : (f g : Form) (xs : List Checked) (i : ℕ) (y : Checked) (old mid new : List ℕ) → i < length xs → g ≡ f → y ≡ get_or xs i y → ReportsRefusals f (take i xs) old mid → ReportsRefusals g (y ∷ []) mid new → ReportsRefusals f (take (i + 1) xs) old new
+ReportsRefusals-next f g xs i y old mid new below same is a b =
     let step : take (i + 1) xs ≡ take i xs ++ y ∷ [] = take_more xs i y below ∙ ap (λ z. take i xs ++ z ∷ []) (sym is) in
-    subst (λ (l : List Checked). TellsRefusals f l old new) (sym step) (TellsRefusals-append f (take i xs) (y ∷ []) old mid new a (subst (λ (x : Form). TellsRefusals x (y ∷ []) mid new) same b))
+    subst (λ (l : List Checked). ReportsRefusals f l old new) (sym step) (ReportsRefusals-append f (take i xs) (y ∷ []) old mid new a (subst (λ (x : Form). ReportsRefusals x (y ∷ []) mid new) same b))
 
 -- all texts
-pub TellsRefusals-all : (f : Form) (xs : List Checked) (i : ℕ) (old new : List ℕ) → length xs ≤ i → TellsRefusals f (take i xs) old new → TellsRefusals f xs old new
-TellsRefusals-all f xs i old new long so_far = subst (λ (l : List Checked). TellsRefusals f l old new) (take_all i xs long) so_far
+pub ReportsRefusals-all : (f : Form) (xs : List Checked) (i : ℕ) (old new : List ℕ) → length xs ≤ i → ReportsRefusals f (take i xs) old new → ReportsRefusals f xs old new
+ReportsRefusals-all f xs i old new long so_far = subst (λ (l : List Checked). ReportsRefusals f l old new) (take_all i xs long) so_far
 
 -- a text that is refused, and a spec, of which nothing is told
-pub TellsRefusals-bad : (f : Form) (c : Checked) (text : Text) (error : Error) (old new : List ℕ) → c ≡ checked.Bad text error → TellsRefusal f text error old new → TellsRefusals f (c ∷ []) old new
-TellsRefusals-bad f c text error old new is told = subst (λ (x : Checked). TellsRefusals f (x ∷ []) old new) (sym is) (new, told, refl)
+pub ReportsRefusals-bad : (f : Form) (c : Checked) (text : Text) (error : Error) (old new : List ℕ) → c ≡ checked.Bad text error → ReportsRefusal f text error old new → ReportsRefusals f (c ∷ []) old new
+ReportsRefusals-bad f c text error old new is reported = subst (λ (x : Checked). ReportsRefusals f (x ∷ []) old new) (sym is) (new, reported, refl)
 
-pub TellsRefusals-good : (f : Form) (c : Checked) (text : Text) (spec : RefSpecRef) (old new : List ℕ) → c ≡ checked.Good text spec → new ≡ old → TellsRefusals f (c ∷ []) old new
-TellsRefusals-good f c text spec old new is kept = subst (λ (x : Checked). TellsRefusals f (x ∷ []) old new) (sym is) kept
+pub ReportsRefusals-good : (f : Form) (c : Checked) (text : Text) (spec : RefSpecRef) (old new : List ℕ) → c ≡ checked.Good text spec → new ≡ old → ReportsRefusals f (c ∷ []) old new
+ReportsRefusals-good f c text spec old new is kept = subst (λ (x : Checked). ReportsRefusals f (x ∷ []) old new) (sym is) kept
 
 -- what is told of the texts that were checked
-told_lines : (f : Form) → ((t : Text) (e : Error) (old new : List ℕ) → TellsRefusal f t e old new → PutsRefusal t e old new) → (texts : List Text) (all : List Checked) (old new : List ℕ) → AllZip IsChecked texts all → TellsRefusals f all old new → (lines : List ℕ) × AreToldOf (map given_of texts) lines × (new ≡ old ++ lines)
-told_lines f puts [] [] old new is told = ([], refl, told ∙ sym (append-nil old))
-told_lines f puts [] (c ∷ all) old new is told = absurd is
-told_lines f puts (t ∷ texts) [] old new is told = absurd is
-told_lines f puts (t ∷ texts) (checked.Good text spec ∷ all) old new is told =
-    let rest = told_lines f puts texts all old new is.1 told in
+reported_lines : (f : Form) → ((t : Text) (e : Error) (old new : List ℕ) → ReportsRefusal f t e old new → WritesRefusal t e old new) → (texts : List Text) (all : List Checked) (old new : List ℕ) → AllZip IsChecked texts all → ReportsRefusals f all old new → (lines : List ℕ) × AreReportedOf (map given_of texts) lines × (new ≡ old ++ lines)
+reported_lines f writes [] [] old new is reported = ([], refl, reported ∙ sym (append-nil old))
+reported_lines f writes [] (c ∷ all) old new is reported = absurd is
+reported_lines f writes (t ∷ texts) [] old new is reported = absurd is
+reported_lines f writes (t ∷ texts) (checked.Good text spec ∷ all) old new is reported =
+    let rest = reported_lines f writes texts all old new is.1 reported in
     (rest.0, ([], rest.0, inr (reading_of spec, is.0.1, refl), rest.1, refl), rest.2)
-told_lines f puts (t ∷ texts) (checked.Bad text error ∷ all) old new is told =
-    let put = subst (λ (x : Text). PutsRefusal x error old told.0) is.0.0 (puts text error old told.0 told.1) in
-    let rest = told_lines f puts texts all told.0 new is.1 told.2 in
-    let one = put.0 ++ put.1 in
-    (one ++ rest.0, (one, rest.0, inl (error, put.0, put.1, is.0.1, put.2, refl), rest.1, refl), behind old one told.0 rest.0 new put.3 rest.2)
+reported_lines f writes (t ∷ texts) (checked.Bad text error ∷ all) old new is reported =
+    let write = subst (λ (x : Text). WritesRefusal x error old reported.0) is.0.0 (writes text error old reported.0 reported.1) in
+    let rest = reported_lines f writes texts all reported.0 new is.1 reported.2 in
+    let one = write.0 ++ write.1 in
+    (one ++ rest.0, (one, rest.0, inl (error, write.0, write.1, is.0.1, write.2, refl), rest.1, refl), behind old one reported.0 rest.0 new write.3 rest.2)
 
 -- in JSON no message is
-none_told : (all : List Checked) (old new : List ℕ) → TellsRefusals form.Json all old new → new ≡ old
-none_told [] old new told = told
-none_told (checked.Good text spec ∷ all) old new told = none_told all old new told
-none_told (checked.Bad text error ∷ all) old new told = none_told all told.0 new told.2 ∙ told.1
+none_reported : (all : List Checked) (old new : List ℕ) → ReportsRefusals form.Json all old new → new ≡ old
+none_reported [] old new reported = reported
+none_reported (checked.Good text spec ∷ all) old new reported = none_reported all old new reported
+none_reported (checked.Bad text error ∷ all) old new reported = none_reported all reported.0 new reported.2 ∙ reported.1
 
 -- where no message was before, the messages are the refusals
-pub AreRefusals-of : (f : Form) (texts : List Text) (all : List Checked) (old new : List ℕ) → AllZip IsChecked texts all → old ≡ [] → TellsRefusals f all old new → AreRefusals f (map given_of texts) new
-AreRefusals-of form.Lines texts all old new is none told =
-    let lines = told_lines form.Lines (λ t e a b put. put) texts all old new is told in
-    subst (AreToldOf (map given_of texts)) (sym (lines.2 ∙ ap (λ l. l ++ lines.0) none)) lines.1
-AreRefusals-of form.Zeros texts all old new is none told =
-    let lines = told_lines form.Zeros (λ t e a b put. put) texts all old new is told in
-    subst (AreToldOf (map given_of texts)) (sym (lines.2 ∙ ap (λ l. l ++ lines.0) none)) lines.1
-AreRefusals-of form.Json texts all old new is none told = none_told all old new told ∙ none
+pub AreRefusals-of : (f : Form) (texts : List Text) (all : List Checked) (old new : List ℕ) → AllZip IsChecked texts all → old ≡ [] → ReportsRefusals f all old new → AreRefusals f (map given_of texts) new
+AreRefusals-of form.Lines texts all old new is none reported =
+    let lines = reported_lines form.Lines (λ t e a b write. write) texts all old new is reported in
+    subst (AreReportedOf (map given_of texts)) (sym (lines.2 ∙ ap (λ l. l ++ lines.0) none)) lines.1
+AreRefusals-of form.Zeros texts all old new is none reported =
+    let lines = reported_lines form.Zeros (λ t e a b write. write) texts all old new is reported in
+    subst (AreReportedOf (map given_of texts)) (sym (lines.2 ∙ ap (λ l. l ++ lines.0) none)) lines.1
+AreRefusals-of form.Json texts all old new is none reported = none_reported all old new reported ∙ none

@@ -7,48 +7,48 @@ use Rattle.refspec_commands.specs.declared.call.Command.{Command}
 use Rattle.refspec_commands.specs.declared.call.Command.TheVariants as command
 use Rattle.refspec_commands.specs.declared.call.Form.{Form}
 use Rattle.refspec_commands.specs.declared.checked.Checked.{Checked}
-use Rattle.refspec_commands.specs.declared.page.Page.{Page}
+use Rattle.refspec_commands.specs.declared.report.Report.{Report}
 use Rattle.refspec_commands.specs.declared.settings.Setting.{Setting}
 use Rattle.refspec_commands.specs.declared.texts.Text.{Text}
-use Rattle.refspec_commands.specs.Output.{AddsFound, HasValues, IsOutput, Shows, Tells}
+use Rattle.refspec_commands.specs.Output.{AddsFound, HasValues, IsOutput, Shows, Reports}
 use Rattle.refspec_commands.specs.Input.{end_byte}
 use Rattle.refspec_commands.specs.Plan.{AddsPlan}
 use Rattle.refspec_commands.specs.Prefixes.{AddsPrefixes}
 use Rattle.refspec_commands.specs.Canon.{AddsCanonical}
-use Rattle.refspec_commands.specs.Messages.{AreRefusals, TellsRefusals}
+use Rattle.refspec_commands.specs.Messages.{AreRefusals, ReportsRefusals}
 use Rattle.refspec_commands.specs.Read.{AddsIfGood, AddsIfRead, AreGood, HasBad, IsChecked}
 use Rattle.refspec_commands.specs.Settings.{AreSettingsOf, HasLacking}
-use Rattle.refspec_commands.specs.Shown.{KeepsPage, KeepsResults}
+use Rattle.refspec_commands.specs.Shown.{KeepsReport, KeepsResults}
 use Rattle.refspec_commands.specs.Texts.{AreTexts, given_of, spec_input}
 use Rattle.refspec_commands.specs.Track.{AddsTracked}
 use Rattle.refspec_commands.proofs.CanonLemmas.{ShowsCanonical-of}
-use Rattle.refspec_commands.proofs.CheckedLemmas.{AddsIfRead-of, TellsRefused-of}
+use Rattle.refspec_commands.proofs.CheckedLemmas.{AddsIfRead-of, ReportsRefused-of}
 use Rattle.refspec_commands.proofs.MessageLemmas.{AreRefusals-of}
 
 -- what was found, or else the refusals
-found_or_refused : (Adds : List Reading → List ℕ → List ℕ → Type 0) (call : Call) (before messages : List ℕ) (refused : Bool) (texts : List Text) (all : List Checked) (new : List ℕ) → AllZip IsChecked texts all → before ≡ [] → AddsIfGood Adds (TellsRefusals call.form all before messages) call.form refused all [] new → AddsIfRead Adds (AreRefusals call.form (map given_of texts) messages) call.form refused (map given_of texts) [] new
-found_or_refused Adds call before messages refused texts all new read none told =
-    AddsIfRead-of Adds _ _ call.form refused texts all [] new read (AreRefusals-of call.form texts all before messages read none) told
+found_or_refused : (Adds : List Reading → List ℕ → List ℕ → Type 0) (call : Call) (before messages : List ℕ) (refused : Bool) (texts : List Text) (all : List Checked) (new : List ℕ) → AllZip IsChecked texts all → before ≡ [] → AddsIfGood Adds (ReportsRefusals call.form all before messages) call.form refused all [] new → AddsIfRead Adds (AreRefusals call.form (map given_of texts) messages) call.form refused (map given_of texts) [] new
+found_or_refused Adds call before messages refused texts all new read none reported =
+    AddsIfRead-of Adds _ _ call.form refused texts all [] new read (AreRefusals-of call.form texts all before messages read none) reported
 
-Shows-of : (k : Command) (call : Call) (input before messages : List ℕ) (refused : Bool) (texts : List Text) (all : List Checked) (new : List ℕ) → AllZip IsChecked texts all → before ≡ [] → Tells k call input call.form before messages refused all [] new → Shows k call input (map given_of texts) messages refused new
-Shows-of command.Canon call input before messages refused texts all new read none told =
-    (ShowsCanonical-of call.form texts all new read told.0, TellsRefused-of refused texts all read told.1, AreRefusals-of call.form texts all before messages read none told.2)
-Shows-of command.Check call input before messages refused texts all new read none told = (TellsRefused-of refused texts all read told.0, AreRefusals-of call.form texts all before messages read none told.1)
-Shows-of command.Explain call input before messages refused texts all new read none told = (TellsRefused-of refused texts all read told.0, AreRefusals-of call.form texts all before messages read none told.1)
-Shows-of command.Plan call input before messages refused texts all new read none told = found_or_refused (AddsFound command.Plan call input call.form messages refused) call before messages refused texts all new read none told
-Shows-of command.Track call input before messages refused texts all new read none told = found_or_refused (AddsFound command.Track call input call.form messages refused) call before messages refused texts all new read none told
-Shows-of command.Prefixes call input before messages refused texts all new read none told = found_or_refused (AddsFound command.Prefixes call input call.form messages refused) call before messages refused texts all new read none told
+Shows-of : (k : Command) (call : Call) (input before messages : List ℕ) (refused : Bool) (texts : List Text) (all : List Checked) (new : List ℕ) → AllZip IsChecked texts all → before ≡ [] → Reports k call input call.form before messages refused all [] new → Shows k call input (map given_of texts) messages refused new
+Shows-of command.Canon call input before messages refused texts all new read none reported =
+    (ShowsCanonical-of call.form texts all new read reported.0, ReportsRefused-of refused texts all read reported.1, AreRefusals-of call.form texts all before messages read none reported.2)
+Shows-of command.Check call input before messages refused texts all new read none reported = (ReportsRefused-of refused texts all read reported.0, AreRefusals-of call.form texts all before messages read none reported.1)
+Shows-of command.Explain call input before messages refused texts all new read none reported = (ReportsRefused-of refused texts all read reported.0, AreRefusals-of call.form texts all before messages read none reported.1)
+Shows-of command.Plan call input before messages refused texts all new read none reported = found_or_refused (AddsFound command.Plan call input call.form messages refused) call before messages refused texts all new read none reported
+Shows-of command.Track call input before messages refused texts all new read none reported = found_or_refused (AddsFound command.Track call input call.form messages refused) call before messages refused texts all new read none reported
+Shows-of command.Prefixes call input before messages refused texts all new read none reported = found_or_refused (AddsFound command.Prefixes call input call.form messages refused) call before messages refused texts all new read none reported
 
-pub IsOutput-of : (call : Call) (beside input before messages : List ℕ) (refused : Bool) (f : Form) (lent texts : List Text) (shown all : List Checked) (old new : List ℕ) → HasValues call beside input → AreTexts call beside input (map given_of texts) → lent ≡ texts → AllZip IsChecked lent all → shown ≡ all → f ≡ call.form → old ≡ [] → before ≡ [] → Tells call.command call input f before messages refused shown old new → IsOutput call beside input messages refused new
-IsOutput-of call beside input before messages refused f lent texts shown all old new has are same read same_all same_form empty none told =
+pub IsOutput-of : (call : Call) (beside input before messages : List ℕ) (refused : Bool) (f : Form) (lent texts : List Text) (shown all : List Checked) (old new : List ℕ) → HasValues call beside input → AreTexts call beside input (map given_of texts) → lent ≡ texts → AllZip IsChecked lent all → shown ≡ all → f ≡ call.form → old ≡ [] → before ≡ [] → Reports call.command call input f before messages refused shown old new → IsOutput call beside input messages refused new
+IsOutput-of call beside input before messages refused f lent texts shown all old new has are same read same_all same_form empty none reported =
     let read2 = subst (λ (ts : List Text). AllZip IsChecked ts all) same read in
-    let told2 = subst (λ (cs : List Checked). Tells call.command call input f before messages refused cs old new) same_all told in
-    let told3 = subst (λ (x : Form). Tells call.command call input x before messages refused all old new) same_form told2 in
-    let told4 = subst (λ (x : List ℕ). Tells call.command call input call.form before messages refused all x new) empty told3 in
+    let told2 = subst (λ (cs : List Checked). Reports call.command call input f before messages refused cs old new) same_all reported in
+    let told3 = subst (λ (x : Form). Reports call.command call input x before messages refused all old new) same_form told2 in
+    let told4 = subst (λ (x : List ℕ). Reports call.command call input call.form before messages refused all x new) empty told3 in
     inr (has, (map given_of texts, are, Shows-of call.command call input before messages refused texts all new read2 none told4))
 
 -- a key of refspecs has no value
-pub IsOutput-lacking : (call : Call) (beside input messages : List ℕ) (settings : List Setting) (p q : Page) → AreSettingsOf call.ends beside (spec_input call.command input) settings → HasLacking settings → p.form ≡ call.form → p.results.items ≡ [] → KeepsPage p q → IsOutput call beside input messages true q.results.items
+pub IsOutput-lacking : (call : Call) (beside input messages : List ℕ) (settings : List Setting) (p q : Report) → AreSettingsOf call.ends beside (spec_input call.command input) settings → HasLacking settings → p.form ≡ call.form → p.results.items ≡ [] → KeepsReport p q → IsOutput call beside input messages true q.results.items
 IsOutput-lacking call beside input messages settings p q read lacks form empty kept = inl (record {
   settings = settings;
   read = read;
@@ -58,31 +58,31 @@ IsOutput-lacking call beside input messages settings p q read lacks form empty k
 })
 
 -- what `canon` tells
-pub Tells-canon : (k : Command) (call : Call) (input : List ℕ) (f : Form) (before messages : List ℕ) (refused : Bool) (all : List Checked) (old new : List ℕ) → k ≡ command.Canon → AddsCanonical f all old new → MatchBool refused (HasBad all) (AreGood all) → TellsRefusals f all before messages → Tells k call input f before messages refused all old new
-Tells-canon k call input f before messages refused all old new is told whether refusals = subst (λ (x : Command). Tells x call input f before messages refused all old new) (sym is) (told, whether, refusals)
+pub Reports-canon : (k : Command) (call : Call) (input : List ℕ) (f : Form) (before messages : List ℕ) (refused : Bool) (all : List Checked) (old new : List ℕ) → k ≡ command.Canon → AddsCanonical f all old new → MatchBool refused (HasBad all) (AreGood all) → ReportsRefusals f all before messages → Reports k call input f before messages refused all old new
+Reports-canon k call input f before messages refused all old new is reported whether refusals = subst (λ (x : Command). Reports x call input f before messages refused all old new) (sym is) (reported, whether, refusals)
 
 -- what a command tells that is neither `canon` nor one of specs alone
-pub Tells-found : (k : Command) (call : Call) (input : List ℕ) (f : Form) (before messages : List ℕ) (refused : Bool) (all : List Checked) (old new : List ℕ) → (k ≡ command.Canon → ⊥) → (k ≡ command.Check → ⊥) → (k ≡ command.Explain → ⊥) → AddsIfGood (AddsFound k call input f messages refused) (TellsRefusals f all before messages) f refused all old new → Tells k call input f before messages refused all old new
-Tells-found command.Canon call input f before messages refused all old new no_canon no_check no_explain told = absurd (no_canon refl)
-Tells-found command.Check call input f before messages refused all old new no_canon no_check no_explain told = absurd (no_check refl)
-Tells-found command.Explain call input f before messages refused all old new no_canon no_check no_explain told = absurd (no_explain refl)
-Tells-found command.Plan call input f before messages refused all old new no_canon no_check no_explain told = told
-Tells-found command.Track call input f before messages refused all old new no_canon no_check no_explain told = told
-Tells-found command.Prefixes call input f before messages refused all old new no_canon no_check no_explain told = told
+pub Reports-found : (k : Command) (call : Call) (input : List ℕ) (f : Form) (before messages : List ℕ) (refused : Bool) (all : List Checked) (old new : List ℕ) → (k ≡ command.Canon → ⊥) → (k ≡ command.Check → ⊥) → (k ≡ command.Explain → ⊥) → AddsIfGood (AddsFound k call input f messages refused) (ReportsRefusals f all before messages) f refused all old new → Reports k call input f before messages refused all old new
+Reports-found command.Canon call input f before messages refused all old new no_canon no_check no_explain reported = absurd (no_canon refl)
+Reports-found command.Check call input f before messages refused all old new no_canon no_check no_explain reported = absurd (no_check refl)
+Reports-found command.Explain call input f before messages refused all old new no_canon no_check no_explain reported = absurd (no_explain refl)
+Reports-found command.Plan call input f before messages refused all old new no_canon no_check no_explain reported = reported
+Reports-found command.Track call input f before messages refused all old new no_canon no_check no_explain reported = reported
+Reports-found command.Prefixes call input f before messages refused all old new no_canon no_check no_explain reported = reported
 
 -- neither the mappings of a plan nor those of tracking refs
 pub AddsFound-prefixes : (k : Command) (call : Call) (input : List ℕ) (f : Form) (messages : List ℕ) (g : List Reading) (old new : List ℕ) → (k ≡ command.Plan → ⊥) → (k ≡ command.Track → ⊥) → AddsPrefixes call.patterns f g old new → AddsFound k call input f messages false g old new
-AddsFound-prefixes command.Canon call input f messages g old new no_plan no_track told = tt
-AddsFound-prefixes command.Check call input f messages g old new no_plan no_track told = tt
-AddsFound-prefixes command.Explain call input f messages g old new no_plan no_track told = tt
-AddsFound-prefixes command.Plan call input f messages g old new no_plan no_track told = absurd (no_plan refl)
-AddsFound-prefixes command.Track call input f messages g old new no_plan no_track told = absurd (no_track refl)
-AddsFound-prefixes command.Prefixes call input f messages g old new no_plan no_track told = (told, refl)
+AddsFound-prefixes command.Canon call input f messages g old new no_plan no_track reported = tt
+AddsFound-prefixes command.Check call input f messages g old new no_plan no_track reported = tt
+AddsFound-prefixes command.Explain call input f messages g old new no_plan no_track reported = tt
+AddsFound-prefixes command.Plan call input f messages g old new no_plan no_track reported = absurd (no_plan refl)
+AddsFound-prefixes command.Track call input f messages g old new no_plan no_track reported = absurd (no_track refl)
+AddsFound-prefixes command.Prefixes call input f messages g old new no_plan no_track reported = (reported, refl)
 
 -- the mappings of tracking refs
 pub AddsFound-track : (k : Command) (call : Call) (input : List ℕ) (f : Form) (messages : List ℕ) (refused : Bool) (g : List Reading) (old new : List ℕ) → k ≡ command.Track → AddsTracked f (map (λ w. w.now) call.refs.items) refused g old new → AddsFound k call input f messages refused g old new
-AddsFound-track k call input f messages refused g old new is told = subst (λ (x : Command). AddsFound x call input f messages refused g old new) (sym is) told
+AddsFound-track k call input f messages refused g old new is reported = subst (λ (x : Command). AddsFound x call input f messages refused g old new) (sym is) reported
 
 -- the mappings of a plan
 pub AddsFound-plan : (k : Command) (call : Call) (input : List ℕ) (f : Form) (messages : List ℕ) (refused : Bool) (g : List Reading) (old new : List ℕ) → k ≡ command.Plan → AddsPlan call.long call.all f (end_byte call.ends) input messages refused g old new → AddsFound k call input f messages refused g old new
-AddsFound-plan k call input f messages refused g old new is told = subst (λ (x : Command). AddsFound x call input f messages refused g old new) (sym is) told
+AddsFound-plan k call input f messages refused g old new is reported = subst (λ (x : Command). AddsFound x call input f messages refused g old new) (sym is) reported

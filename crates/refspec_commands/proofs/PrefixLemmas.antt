@@ -18,9 +18,9 @@ use Rattle.refspec_commands.proofs.ShownLemmas.{AddsNames-append, AddsNames-none
 
 -- what stands for all refs, and then one reason more
 pub AddsAll-next : (patterns : Bool) (f g : Form) (specs : List RefSpecRef) (i : ℕ) (s : RefSpecRef) (old mid new : List ℕ) → i < length specs → s ≡ get_or specs i s → g ≡ f → AddsAll patterns f (map reading_of (take i specs)) old mid → AddsObjects g IsReason (reading_of s ∷ []) mid new → AddsAll patterns f (map reading_of (take (i + 1) specs)) old new
-AddsAll-next patterns form.Lines g specs i s old mid new below is same all told = subst (λ (x : Form). AddsObjects x IsReason (reading_of s ∷ []) mid new) same told ∙ all
-AddsAll-next patterns form.Zeros g specs i s old mid new below is same all told = subst (λ (x : Form). AddsObjects x IsReason (reading_of s ∷ []) mid new) same told ∙ all
-AddsAll-next patterns form.Json g specs i s old mid new below is same all told = AddsObjects-next form.Json g IsReason reading_of specs i s (reading_of s) old mid new below same (ap reading_of is) all told
+AddsAll-next patterns form.Lines g specs i s old mid new below is same all reported = subst (λ (x : Form). AddsObjects x IsReason (reading_of s ∷ []) mid new) same reported ∙ all
+AddsAll-next patterns form.Zeros g specs i s old mid new below is same all reported = subst (λ (x : Form). AddsObjects x IsReason (reading_of s ∷ []) mid new) same reported ∙ all
+AddsAll-next patterns form.Json g specs i s old mid new below is same all reported = AddsObjects-next form.Json g IsReason reading_of specs i s (reading_of s) old mid new below same (ap reading_of is) all reported
 
 -- ---- the specs that `refs/` is asked for, and the others
 
@@ -79,13 +79,13 @@ AddsRequests-next patterns f g xs i d p old mid new below same is a b =
 
 -- a prefix that is shown
 pub AddsRequests-shown : (patterns : Bool) (f : Form) (p old new : List ℕ) → (f ≡ form.Lines) ⊎ (f ≡ form.Zeros) → AddsNames f (argument patterns) (request patterns p ∷ []) old new → AddsRequests patterns f (p ∷ []) old new
-AddsRequests-shown patterns f p old new (inl is) told = subst (λ (x : Form). AddsRequests patterns x (p ∷ []) old new) (sym is) (subst (λ (x : Form). AddsNames x (argument patterns) (request patterns p ∷ []) old new) is told)
-AddsRequests-shown patterns f p old new (inr is) told = subst (λ (x : Form). AddsRequests patterns x (p ∷ []) old new) (sym is) (subst (λ (x : Form). AddsNames x (argument patterns) (request patterns p ∷ []) old new) is told)
+AddsRequests-shown patterns f p old new (inl is) reported = subst (λ (x : Form). AddsRequests patterns x (p ∷ []) old new) (sym is) (subst (λ (x : Form). AddsNames x (argument patterns) (request patterns p ∷ []) old new) is reported)
+AddsRequests-shown patterns f p old new (inr is) reported = subst (λ (x : Form). AddsRequests patterns x (p ∷ []) old new) (sym is) (subst (λ (x : Form). AddsNames x (argument patterns) (request patterns p ∷ []) old new) is reported)
 
 -- a list with something in it
 pub AddsList-of : (patterns : Bool) (f : Form) (list : List (List ℕ)) (old new : List ℕ) → (list ≡ [] → ⊥) → AddsRequests patterns f list old new → AddsList patterns f list old new
-AddsList-of patterns f [] old new some told = absurd (some refl)
-AddsList-of patterns f (p ∷ list) old new some told = told
+AddsList-of patterns f [] old new some reported = absurd (some refl)
+AddsList-of patterns f (p ∷ list) old new some reported = reported
 
 -- prefixes after `refs/`, and alone
 pub AddsList-whole : (patterns has : Bool) (f g : Form) (p : List ℕ) (list : List (List ℕ)) (old mid new : List ℕ) → has ≡ true → p ≡ codes "refs/" → g ≡ f → AddsRequests patterns f (p ∷ []) old mid → AddsRequests patterns g list mid new → AddsList patterns f (asked_with has list) old new
@@ -95,11 +95,11 @@ AddsList-whole patterns has f g p list old mid new whole same form first more =
     subst (λ (b : Bool). AddsList patterns f (asked_with b list) old new) (sym whole) (AddsRequests-append patterns f (codes "refs/" ∷ []) list old mid new one rest)
 
 pub AddsList-own : (patterns has : Bool) (f : Form) (list : List (List ℕ)) (old new : List ℕ) → has ≡ false → AddsList patterns f list old new → AddsList patterns f (asked_with has list) old new
-AddsList-own patterns has f list old new none told = subst (λ (b : Bool). AddsList patterns f (asked_with b list) old new) (sym none) told
+AddsList-own patterns has f list old new none reported = subst (λ (b : Bool). AddsList patterns f (asked_with b list) old new) (sym none) reported
 
 -- and one with nothing
 pub AddsList-none : (patterns : Bool) (f : Form) (list : List (List ℕ)) (old new : List ℕ) → list ≡ [] → AddsNothing f old new → AddsList patterns f list old new
-AddsList-none patterns f list old new none told = subst (λ (l : List (List ℕ)). AddsList patterns f l old new) (sym none) told
+AddsList-none patterns f list old new none reported = subst (λ (l : List (List ℕ)). AddsList patterns f l old new) (sym none) reported
 
 -- no prefixes, and some
 pub no_names : {A : Type 0} (f : A → List ℕ) (xs : List A) → true ≡ (length xs == 0) → map f xs ≡ []

@@ -15,32 +15,32 @@ Completes end records rest input = (more : List (List ℕ)) → AreRecords end m
 
 -- at the start the whole input is the rest
 pub Completes-start : (end : ℕ) (records : List (Bor (List ℕ))) (input : List ℕ) → records ≡ [] → Completes end records input input
-Completes-start end records input none more cut = subst (λ (rs : List (Bor (List ℕ))). AreRecords end (bytes_of rs ++ more) input) (sym none) cut
+Completes-start end records input none more split = subst (λ (rs : List (Bor (List ℕ))). AreRecords end (bytes_of rs ++ more) input) (sym none) split
 
 -- there is no end in nothing
 nothing_ends : (end : ℕ) (first rest : List ℕ) → [] ≡ first ++ (end ∷ rest) → ⊥
 nothing_ends end first rest same = omega (arith, ap length same, length-append first (end ∷ rest))
 
 not_of_nothing : (end : ℕ) (first : List ℕ) (more : List (List ℕ)) → ((rest : List ℕ) × ([] ≡ first ++ (end ∷ rest)) × AreRecords end more rest) ⊎ ((first ≢ []) × (more ≡ []) × ([] ≡ first)) → ⊥
-not_of_nothing end first more (inl cut) = nothing_ends end first cut.0 cut.1
-not_of_nothing end first more (inr cut) = cut.0 (sym cut.2)
+not_of_nothing end first more (inl split) = nothing_ends end first split.0 split.1
+not_of_nothing end first more (inr split) = split.0 (sym split.2)
 
 -- nothing has no records
 no_records : (end : ℕ) (more : List (List ℕ)) → AreRecords end more [] → more ≡ []
-no_records end [] cut = refl
-no_records end (first ∷ more) cut = absurd (not_of_nothing end first more cut.1)
+no_records end [] split = refl
+no_records end (first ∷ more) split = absurd (not_of_nothing end first more split.1)
 
 -- the first record and those of the rest are those of the text
 pub first_and_more : (end : ℕ) (text first rest : List ℕ) (more : List (List ℕ)) → text ≢ [] → Lacks end first → AreRecords end more rest → ((text ≡ first ++ (end ∷ rest)) ⊎ ((text ≡ first) × (rest ≡ []))) → AreRecords end (first ∷ more) text
-first_and_more end text first rest more full lacks cut (inl ended) = (lacks, inl (rest, ended, cut))
-first_and_more end text first rest more full lacks cut (inr last) =
-    let none = no_records end more (subst (AreRecords end more) last.1 cut) in
+first_and_more end text first rest more full lacks split (inl ended) = (lacks, inl (rest, ended, split))
+first_and_more end text first rest more full lacks split (inr last) =
+    let none = no_records end more (subst (AreRecords end more) last.1 split) in
     (lacks, inr (λ empty. full (last.0 ∙ empty), none, last.0))
 
 -- one record more
 pub Completes-more : (end : ℕ) (old new : List (Bor (List ℕ))) (r : Bor (List ℕ)) (text rest input : List ℕ) → text ≢ [] → IsFirstRecord end text r.now rest → new ≡ old ++ r ∷ [] → Completes end old text input → Completes end new rest input
-Completes-more end old new r text rest input full first grown so_far more cut =
-    let all = first_and_more end text r.now rest more full first.0 cut first.1 in
+Completes-more end old new r text rest input full first grown so_far more split =
+    let all = first_and_more end text r.now rest more full first.0 split first.1 in
     let same : bytes_of new ++ more ≡ bytes_of old ++ (r.now ∷ more) = ap (λ rs. bytes_of rs ++ more) grown ∙ (ap (λ bs. bs ++ more) (map-append (λ (r : Bor (List ℕ)). r.now) old (r ∷ [])) ∙ append_assoc (bytes_of old) (r.now ∷ []) more) in
     subst (λ (rs : List (List ℕ)). AreRecords end rs input) (sym same) (so_far (r.now ∷ more) all)
 

@@ -11,22 +11,22 @@ use Rattle.gix_refspec.specs.Views.Group.{ref_of}
 use Rattle.gix_refspec_match.specs.declared.types.Item.{Item}
 use Rattle.bstr.specs.BStr.{bstr_bytes}
 use Rattle.gix_refspec.specs.Texts.ObjectId.{HasIdFault, IsIdText, digits_of}
-use Rattle.gix_refspec.specs.Texts.Words.{Holds, Lacks}
+use Rattle.gix_refspec.specs.Texts.Words.{ContainsText, Lacks}
 use Rattle.gix_refspec_text.specs.declared.oid.Error.{Error}
 use Rattle.gix_refspec_text.specs.declared.oid.Kind.{Kind}
 use Rattle.gix_refspec_text.specs.declared.oid.Kind.TheVariants.{Sha1, Sha256}
 use Rattle.gix_refspec_text.proofs.lemmas.texts.ObjectIdLemmas.{id_or_fault}
-use Rattle.gix_refspec_text.proofs.lemmas.texts.TextLemmas.{Lacks-Holds}
+use Rattle.gix_refspec_text.proofs.lemmas.texts.TextLemmas.{Lacks-ContainsText}
 use Rattle.refspec_commands.specs.Input.{AreRecords, IsFirstRecord}
-use Rattle.refspec_commands.specs.Refs.{AddsLine, AddsLineByNames, AddsRefs, AddsTold, HasLast, IsIdThen, IsLast, IsNoRefLine, IsOneWord, TellNames, TellRefs, TellsName, peeled}
+use Rattle.refspec_commands.specs.Refs.{AddsLine, AddsLineByNames, AddsRefs, AddsReported, HasLast, IsIdThen, IsLast, IsNoRefLine, IsOneWord, ReportNames, ReportRefs, ReportsName, peeled}
 use Rattle.refspec_commands.proofs.RecordLemmas.{first_and_more}
 
 -- a text with bytes is one word exactly if it has no white space
-pub one_word_if : (text : List ℕ) (newline return tab gap : Bool) → text ≢ [] → MatchBool newline (Holds (10 ∷ []) text) (Lacks 10 text) → MatchBool return (Holds (13 ∷ []) text) (Lacks 13 text) → MatchBool tab (Holds (9 ∷ []) text) (Lacks 9 text) → MatchBool gap (Holds (32 ∷ []) text) (Lacks 32 text) → MatchBool (not ((newline || return) || (tab || gap))) (IsOneWord text) (¬ (IsOneWord text))
-one_word_if text true r t g full n is_r is_t is_g = λ word. Lacks-Holds 10 text word.2 n
-one_word_if text false true t g full n is_r is_t is_g = λ word. Lacks-Holds 13 text word.3 is_r
-one_word_if text false false true g full n is_r is_t is_g = λ word. Lacks-Holds 9 text word.1 is_t
-one_word_if text false false false true full n is_r is_t is_g = λ word. Lacks-Holds 32 text word.4 is_g
+pub one_word_if : (text : List ℕ) (newline return tab gap : Bool) → text ≢ [] → MatchBool newline (ContainsText (10 ∷ []) text) (Lacks 10 text) → MatchBool return (ContainsText (13 ∷ []) text) (Lacks 13 text) → MatchBool tab (ContainsText (9 ∷ []) text) (Lacks 9 text) → MatchBool gap (ContainsText (32 ∷ []) text) (Lacks 32 text) → MatchBool (not ((newline || return) || (tab || gap))) (IsOneWord text) (¬ (IsOneWord text))
+one_word_if text true r t g full n is_r is_t is_g = λ word. Lacks-ContainsText 10 text word.2 n
+one_word_if text false true t g full n is_r is_t is_g = λ word. Lacks-ContainsText 13 text word.3 is_r
+one_word_if text false false true g full n is_r is_t is_g = λ word. Lacks-ContainsText 9 text word.1 is_t
+one_word_if text false false false true full n is_r is_t is_g = λ word. Lacks-ContainsText 32 text word.4 is_g
 one_word_if text false false false false full n is_r is_t is_g = (full, is_t, n, is_r, is_g)
 
 -- the byte after so many digits is the space, and the name is behind it
@@ -57,24 +57,24 @@ AddsRefs-append (l ∷ lines) line old mid new bad one (more, first, rest, adds,
     (more, first, rest ++ one, adds, AddsRefs-append lines line more mid new rest one those last, ap (λ b. b ++ one) all ∙ append_assoc first rest one)
 
 -- some records told of the refs so far, and whatever cuts the rest completes them to those of the input
-abbrev TellsSoFar : ℕ → List Ref → List (List ℕ) → List ℕ → List ℕ → Type 0
-TellsSoFar end refs bad rest input = (done : List (List ℕ)) × ((more : List (List ℕ)) → AreRecords end more rest → AreRecords end (done ++ more) input) × AddsRefs done [] refs bad
+abbrev ReportsSoFar : ℕ → List Ref → List (List ℕ) → List ℕ → List ℕ → Type 0
+ReportsSoFar end refs bad rest input = (done : List (List ℕ)) × ((more : List (List ℕ)) → AreRecords end more rest → AreRecords end (done ++ more) input) × AddsRefs done [] refs bad
 
 -- at the start the whole input is the rest
-TellsSoFar-start : (end : ℕ) (refs : List Ref) (bad : List (List ℕ)) (input : List ℕ) → refs ≡ [] → bad ≡ [] → TellsSoFar end refs bad input input
-TellsSoFar-start end refs bad input none no_bad = ([], (λ more cut. cut), (none, no_bad))
+ReportsSoFar-start : (end : ℕ) (refs : List Ref) (bad : List (List ℕ)) (input : List ℕ) → refs ≡ [] → bad ≡ [] → ReportsSoFar end refs bad input input
+ReportsSoFar-start end refs bad input none no_bad = ([], (λ more split. split), (none, no_bad))
 
 -- one record more
-TellsSoFar-more : (end : ℕ) (old new : List Ref) (bad one : List (List ℕ)) (text first rest input : List ℕ) → text ≢ [] → IsFirstRecord end text first rest → AddsLine first old new one → TellsSoFar end old bad text input → TellsSoFar end new (bad ++ one) rest input
-TellsSoFar-more end old new bad one text first rest input full is line (done, cut, told) = (
+ReportsSoFar-more : (end : ℕ) (old new : List Ref) (bad one : List (List ℕ)) (text first rest input : List ℕ) → text ≢ [] → IsFirstRecord end text first rest → AddsLine first old new one → ReportsSoFar end old bad text input → ReportsSoFar end new (bad ++ one) rest input
+ReportsSoFar-more end old new bad one text first rest input full is line (done, split, reported) = (
   done ++ first ∷ [],
-  (λ more those. subst (λ (rs : List (List ℕ)). AreRecords end rs input) (sym (append_assoc done (first ∷ []) more)) (cut (first ∷ more) (first_and_more end text first rest more full is.0 those is.1))),
-  AddsRefs-append done first [] old new bad one told line,
+  (λ more those. subst (λ (rs : List (List ℕ)). AreRecords end rs input) (sym (append_assoc done (first ∷ []) more)) (split (first ∷ more) (first_and_more end text first rest more full is.0 those is.1))),
+  AddsRefs-append done first [] old new bad one reported line,
 )
 
 -- in the end nothing is left
-TellRefs-end : (end : ℕ) (refs : List Ref) (bad : List (List ℕ)) (rest input : List ℕ) → rest ≡ [] → TellsSoFar end refs bad rest input → TellRefs end input refs bad
-TellRefs-end end refs bad rest input none (done, cut, told) = (done, subst (λ (rs : List (List ℕ)). AreRecords end rs input) (append-nil done) (cut [] none), told)
+ReportRefs-end : (end : ℕ) (refs : List Ref) (bad : List (List ℕ)) (rest input : List ℕ) → rest ≡ [] → ReportsSoFar end refs bad rest input → ReportRefs end input refs bad
+ReportRefs-end end refs bad rest input none (done, split, reported) = (done, subst (λ (rs : List (List ℕ)). AreRecords end rs input) (append-nil done) (split [] none), reported)
 
 -- what holds of nothing holds by what follows from it
 pub on_none : {T : Type 0} (r : Option T) (P Q : Type 0) → IfNone r P → (P → Q) → IfNone r Q
@@ -129,24 +129,24 @@ last_also refs others n same has =
     last_name others n (ap (λ k. slice_get (map name_of others) (k - 1)) long ∙ (ap (λ ns. slice_get ns (length refs - 1)) (sym same) ∙ name_last refs n has))
 
 -- a line that is good, and one that is bad
-AddsTold-good : (line : List ℕ) (old new : List Ref) (bad_old bad_new : List (List ℕ)) → AddsLineByNames line old new [] → bad_new ≡ bad_old → AddsTold line old new bad_old bad_new
-AddsTold-good line old new bad_old bad_new adds same = ([], adds, same ∙ sym (append-nil bad_old))
+AddsReported-good : (line : List ℕ) (old new : List Ref) (bad_old bad_new : List (List ℕ)) → AddsLineByNames line old new [] → bad_new ≡ bad_old → AddsReported line old new bad_old bad_new
+AddsReported-good line old new bad_old bad_new adds same = ([], adds, same ∙ sym (append-nil bad_old))
 
 -- a line of a ref
-pub AddsTold-ref : (line : List ℕ) (r : Ref) (old new : List Ref) (bad_old bad_new : List (List ℕ)) → TellsName line r.name → ((tag : List ℕ) → ¬ (r.name ≡ tag ++ peeled)) → new ≡ old ++ r ∷ [] → bad_new ≡ bad_old → AddsTold line old new bad_old bad_new
-AddsTold-ref line r old new bad_old bad_new (id, says) whole grown same_bad = AddsTold-good line old new bad_old bad_new adds same_bad
+pub AddsReported-ref : (line : List ℕ) (r : Ref) (old new : List Ref) (bad_old bad_new : List (List ℕ)) → ReportsName line r.name → ((tag : List ℕ) → ¬ (r.name ≡ tag ++ peeled)) → new ≡ old ++ r ∷ [] → bad_new ≡ bad_old → AddsReported line old new bad_old bad_new
+AddsReported-ref line r old new bad_old bad_new (id, says) whole grown same_bad = AddsReported-good line old new bad_old bad_new adds same_bad
   where
     adds : AddsLineByNames line old new []
     adds refs same =
-        let told : Ref = record { name = r.name; target = id; object = None } in (
-          refs ++ told ∷ [],
-          inl (told, record { says = says; whole = whole; object = refl }, refl, refl),
-          ap (map name_of) grown ∙ (map-append name_of old (r ∷ []) ∙ (ap (λ ns. ns ++ r.name ∷ []) same ∙ sym (map-append name_of refs (told ∷ [])))),
+        let reported : Ref = record { name = r.name; target = id; object = None } in (
+          refs ++ reported ∷ [],
+          inl (reported, record { says = says; whole = whole; object = refl }, refl, refl),
+          ap (map name_of) grown ∙ (map-append name_of old (r ∷ []) ∙ (ap (λ ns. ns ++ r.name ∷ []) same ∙ sym (map-append name_of refs (reported ∷ [])))),
         )
 
 -- that of a tag, which is the last ref
-pub AddsTold-peeled : (line tag : List ℕ) (old new : List Ref) (bad_old bad_new : List (List ℕ)) → TellsName line (tag ++ peeled) → HasLast old tag → new ≡ old → bad_new ≡ bad_old → AddsTold line old new bad_old bad_new
-AddsTold-peeled line tag old new bad_old bad_new (id, says) has stays same_bad = AddsTold-good line old new bad_old bad_new adds same_bad
+pub AddsReported-peeled : (line tag : List ℕ) (old new : List Ref) (bad_old bad_new : List (List ℕ)) → ReportsName line (tag ++ peeled) → HasLast old tag → new ≡ old → bad_new ≡ bad_old → AddsReported line old new bad_old bad_new
+AddsReported-peeled line tag old new bad_old bad_new (id, says) has stays same_bad = AddsReported-good line old new bad_old bad_new adds same_bad
   where
     adds : AddsLineByNames line old new []
     adds refs same =
@@ -158,26 +158,26 @@ AddsTold-peeled line tag old new bad_old bad_new (id, says) has stays same_bad =
         )
 
 -- that of a tag which isn't
-pub AddsTold-elsewhere : (line tag : List ℕ) (old new : List Ref) (bad_old bad_new : List (List ℕ)) → TellsName line (tag ++ peeled) → ¬ (HasLast old tag) → new ≡ old → bad_new ≡ bad_old ++ line ∷ [] → AddsTold line old new bad_old bad_new
-AddsTold-elsewhere line tag old new bad_old bad_new (id, says) missing stays grown =
+pub AddsReported-elsewhere : (line tag : List ℕ) (old new : List Ref) (bad_old bad_new : List (List ℕ)) → ReportsName line (tag ++ peeled) → ¬ (HasLast old tag) → new ≡ old → bad_new ≡ bad_old ++ line ∷ [] → AddsReported line old new bad_old bad_new
+AddsReported-elsewhere line tag old new bad_old bad_new (id, says) missing stays grown =
     (line ∷ [], (λ refs same. (refs, inr (inr (inl (record { tag = tag; id = id; says = says; elsewhere = λ has. missing (last_also refs old tag (sym same) has) }), refl, refl)), ap (map name_of) stays ∙ same)), grown)
 
 -- a line that says nothing
-pub AddsTold-none : (line : List ℕ) (old new : List Ref) (bad_old bad_new : List (List ℕ)) → IsNoRefLine line → new ≡ old → bad_new ≡ bad_old ++ line ∷ [] → AddsTold line old new bad_old bad_new
-AddsTold-none line old new bad_old bad_new none stays grown =
+pub AddsReported-none : (line : List ℕ) (old new : List Ref) (bad_old bad_new : List (List ℕ)) → IsNoRefLine line → new ≡ old → bad_new ≡ bad_old ++ line ∷ [] → AddsReported line old new bad_old bad_new
+AddsReported-none line old new bad_old bad_new none stays grown =
     (line ∷ [], (λ refs same. (refs, inr (inr (inr none, refl, refl)), ap (map name_of) stays ∙ same)), grown)
 
 -- some records told of refs with the names so far
-abbrev pub TellsNamesSoFar : ℕ → List Ref → List (List ℕ) → List ℕ → List ℕ → Type 0
-TellsNamesSoFar end named bad rest input = (refs : List Ref) × TellsSoFar end refs bad rest input × HaveSameNames named refs
+abbrev pub ReportsNamesSoFar : ℕ → List Ref → List (List ℕ) → List ℕ → List ℕ → Type 0
+ReportsNamesSoFar end named bad rest input = (refs : List Ref) × ReportsSoFar end refs bad rest input × HaveSameNames named refs
 
-pub TellsNamesSoFar-start : (end : ℕ) (named : List Ref) (bad : List (List ℕ)) (input : List ℕ) → named ≡ [] → bad ≡ [] → TellsNamesSoFar end named bad input input
-TellsNamesSoFar-start end named bad input none no_bad = ([], TellsSoFar-start end [] bad input refl no_bad, ap (map name_of) none)
+pub ReportsNamesSoFar-start : (end : ℕ) (named : List Ref) (bad : List (List ℕ)) (input : List ℕ) → named ≡ [] → bad ≡ [] → ReportsNamesSoFar end named bad input input
+ReportsNamesSoFar-start end named bad input none no_bad = ([], ReportsSoFar-start end [] bad input refl no_bad, ap (map name_of) none)
 
-pub TellsNamesSoFar-more : (end : ℕ) (old new : List Ref) (bad_old bad_new : List (List ℕ)) (text first rest input : List ℕ) → text ≢ [] → IsFirstRecord end text first rest → AddsTold first old new bad_old bad_new → TellsNamesSoFar end old bad_old text input → TellsNamesSoFar end new bad_new rest input
-TellsNamesSoFar-more end old new bad_old bad_new text first rest input full is (one, adds, grown) (refs, told, same) =
+pub ReportsNamesSoFar-more : (end : ℕ) (old new : List Ref) (bad_old bad_new : List (List ℕ)) (text first rest input : List ℕ) → text ≢ [] → IsFirstRecord end text first rest → AddsReported first old new bad_old bad_new → ReportsNamesSoFar end old bad_old text input → ReportsNamesSoFar end new bad_new rest input
+ReportsNamesSoFar-more end old new bad_old bad_new text first rest input full is (one, adds, grown) (refs, reported, same) =
     let (more, line, also) = adds refs same in
-    subst (λ (b : List (List ℕ)). TellsNamesSoFar end new b rest input) (sym grown) (more, TellsSoFar-more end refs more bad_old one text first rest input full is line told, also)
+    subst (λ (b : List (List ℕ)). ReportsNamesSoFar end new b rest input) (sym grown) (more, ReportsSoFar-more end refs more bad_old one text first rest input full is line reported, also)
 
-pub TellNames-end : (end : ℕ) (named : List Ref) (bad : List (List ℕ)) (rest input : List ℕ) → rest ≡ [] → TellsNamesSoFar end named bad rest input → TellNames end input named bad
-TellNames-end end named bad rest input none (refs, told, same) = (refs, TellRefs-end end refs bad rest input none told, same)
+pub ReportNames-end : (end : ℕ) (named : List Ref) (bad : List (List ℕ)) (rest input : List ℕ) → rest ≡ [] → ReportsNamesSoFar end named bad rest input → ReportNames end input named bad
+ReportNames-end end named bad rest input none (refs, reported, same) = (refs, ReportRefs-end end refs bad rest input none reported, same)

@@ -17,8 +17,8 @@ use Rattle.refspec_commands.specs.declared.call.Form.TheVariants as form
 use Rattle.refspec_commands.specs.declared.mappings.Columns.{Columns}
 use Rattle.refspec_commands.specs.declared.mappings.Columns.TheVariants as columns
 use Rattle.refspec_commands.specs.Json.{json_text}
-use Rattle.refspec_commands.specs.Rows.{AddsLines, AddsMappings, AreRowLines, AreSpecTexts, PutsCell, PutsCells, PutsLine, Row, fields, first_side, mapped_object, object_of, row_of, second_side, source_text}
-use Rattle.refspec_commands.specs.Shown.{PutsQuoted, zero_ended}
+use Rattle.refspec_commands.specs.Rows.{AddsLines, AddsMappings, AreRowLines, AreSpecTexts, WritesCell, WritesCells, WritesLine, Row, fields, first_side, mapped_object, object_of, row_of, second_side, source_text}
+use Rattle.refspec_commands.specs.Shown.{WritesQuoted, zero_ended}
 use Rattle.refspec_commands.proofs.ShownLemmas.{behind, flat_map-map, map-twice}
 use Rattle.std.proofs.lemmas.Slice.Zip.{all_zipped_more}
 
@@ -32,9 +32,9 @@ pub AddsLines-start : (old : List ℕ) → AddsLines [] old old
 AddsLines-start old = ([], refl, sym (append-nil old))
 
 -- one line more
-pub AddsLines-next : {X : Type 0} (shown : X → Row) (xs : List X) (i : ℕ) (d : X) (r : Row) (old mid new : List ℕ) → i < length xs → r ≡ shown (get_or xs i d) → AddsLines (map shown (take i xs)) old mid → PutsLine r mid new → AddsLines (map shown (take (i + 1) xs)) old new
+pub AddsLines-next : {X : Type 0} (shown : X → Row) (xs : List X) (i : ℕ) (d : X) (r : Row) (old mid new : List ℕ) → i < length xs → r ≡ shown (get_or xs i d) → AddsLines (map shown (take i xs)) old mid → WritesLine r mid new → AddsLines (map shown (take (i + 1) xs)) old new
 AddsLines-next shown xs i d r old mid new below same a b =
-    let b2 = subst (λ (x : Row). PutsLine x mid new) same b in
+    let b2 = subst (λ (x : Row). WritesLine x mid new) same b in
     let last : AreRowLines (shown (get_or xs i d) ∷ []) b2.0 = (b2.0, [], b2.1, refl, sym (append-nil b2.0)) in
     subst (λ (l : List Row). AddsLines l old new) (sym (map_more shown xs i d below)) (a.0 ++ b2.0, AreRowLines-append (map shown (take i xs)) (shown (get_or xs i d) ∷ []) a.0 b2.0 a.1 last, behind old a.0 mid b2.0 new a.2 b2.2)
 
@@ -48,14 +48,14 @@ fields_next shown xs i d r old mid new below same a b =
     behind old (flat_map fields front) mid (fields r) new a b ∙ ap (λ l. old ++ l) all
 
 -- the cells of a mapping, the source first
-pub PutsCells-source : (o : Columns) (missing : List ℕ) (m : Mapped) (old mid new : List ℕ) → o ≡ columns.SourceFirst → PutsCell (source_text m.source) old mid → PutsCell (unwrap_or m.destination missing) mid new → PutsCells (first_side missing o m) (second_side missing o m) old new
-PutsCells-source o missing m old mid new same a b =
-    subst (λ (x : Columns). PutsCells (first_side missing x m) (second_side missing x m) old new) (sym same) (a.0, b.0, a.1, b.1, behind old a.0 mid b.0 new a.2 b.2)
+pub WritesCells-source : (o : Columns) (missing : List ℕ) (m : Mapped) (old mid new : List ℕ) → o ≡ columns.SourceFirst → WritesCell (source_text m.source) old mid → WritesCell (unwrap_or m.destination missing) mid new → WritesCells (first_side missing o m) (second_side missing o m) old new
+WritesCells-source o missing m old mid new same a b =
+    subst (λ (x : Columns). WritesCells (first_side missing x m) (second_side missing x m) old new) (sym same) (a.0, b.0, a.1, b.1, behind old a.0 mid b.0 new a.2 b.2)
 
 -- and the destination first
-pub PutsCells-destination : (o : Columns) (missing : List ℕ) (m : Mapped) (old mid new : List ℕ) → o ≡ columns.DestinationFirst → PutsCell (unwrap_or m.destination missing) old mid → PutsCell (source_text m.source) mid new → PutsCells (first_side missing o m) (second_side missing o m) old new
-PutsCells-destination o missing m old mid new same a b =
-    subst (λ (x : Columns). PutsCells (first_side missing x m) (second_side missing x m) old new) (sym same) (a.0, b.0, a.1, b.1, behind old a.0 mid b.0 new a.2 b.2)
+pub WritesCells-destination : (o : Columns) (missing : List ℕ) (m : Mapped) (old mid new : List ℕ) → o ≡ columns.DestinationFirst → WritesCell (unwrap_or m.destination missing) old mid → WritesCell (source_text m.source) mid new → WritesCells (first_side missing o m) (second_side missing o m) old new
+WritesCells-destination o missing m old mid new same a b =
+    subst (λ (x : Columns). WritesCells (first_side missing x m) (second_side missing x m) old new) (sym same) (a.0, b.0, a.1, b.1, behind old a.0 mid b.0 new a.2 b.2)
 
 -- the fields of a mapping, the source first
 pub sides-source : (o : Columns) (missing : List ℕ) (m : Mapped) (old mid new : List ℕ) → o ≡ columns.SourceFirst → mid ≡ old ++ zero_ended (source_text m.source) → new ≡ mid ++ zero_ended (unwrap_or m.destination missing) → new ≡ old ++ (zero_ended (first_side missing o m) ++ zero_ended (second_side missing o m))
@@ -68,8 +68,8 @@ sides-destination o missing m old mid new same a b =
     subst (λ (x : Columns). new ≡ old ++ (zero_ended (first_side missing x m) ++ zero_ended (second_side missing x m))) (sym same) (behind old (zero_ended (unwrap_or m.destination missing)) mid (zero_ended (source_text m.source)) new a b)
 
 -- the cells, the last field and a newline are a line
-pub PutsLine-of : (r : Row) (old cells row new : List ℕ) → PutsCells r.first r.second old cells → PutsQuoted r.spec cells row → new ≡ row ++ 10 ∷ [] → PutsLine r old new
-PutsLine-of r old cells row new a q ended =
+pub WritesLine-of : (r : Row) (old cells row new : List ℕ) → WritesCells r.first r.second old cells → WritesQuoted r.spec cells row → new ≡ row ++ 10 ∷ [] → WritesLine r old new
+WritesLine-of r old cells row new a q ended =
     let two = a.0 ++ a.1 in
     let nl = 10 ∷ [] in
     let before : row ≡ old ++ (two ++ q.0) = behind old two cells q.0 row a.4 q.2 in
@@ -78,25 +78,25 @@ PutsLine-of r old cells row new a q ended =
 
 -- mappings in lines
 pub AddsMappings-lines : (f : Form) (o : Columns) (texts : List (List ℕ)) (ms : List Mapping) (old new : List ℕ) → f ≡ form.Lines → AddsLines (map (λ m. row_of (codes "FETCH_HEAD") o texts (mapped_of m)) ms) old new → AddsMappings f o texts (map mapped_of ms) old new
-AddsMappings-lines f o texts ms old new same told =
-    subst (λ (x : Form). AddsMappings x o texts (map mapped_of ms) old new) (sym same) (subst (λ (l : List Row). AddsLines l old new) (map-twice (row_of (codes "FETCH_HEAD") o texts) mapped_of ms) told)
+AddsMappings-lines f o texts ms old new same reported =
+    subst (λ (x : Form). AddsMappings x o texts (map mapped_of ms) old new) (sym same) (subst (λ (l : List Row). AddsLines l old new) (map-twice (row_of (codes "FETCH_HEAD") o texts) mapped_of ms) reported)
 
 -- and ended by zero bytes
 pub AddsMappings-zeros : (f : Form) (o : Columns) (texts : List (List ℕ)) (ms : List Mapping) (old new : List ℕ) → f ≡ form.Zeros → new ≡ old ++ flat_map fields (map (λ m. row_of [] o texts (mapped_of m)) ms) → AddsMappings f o texts (map mapped_of ms) old new
-AddsMappings-zeros f o texts ms old new same told =
-    subst (λ (x : Form). AddsMappings x o texts (map mapped_of ms) old new) (sym same) (told ∙ ap (λ l. old ++ flat_map fields l) (map-twice (row_of [] o texts) mapped_of ms))
+AddsMappings-zeros f o texts ms old new same reported =
+    subst (λ (x : Form). AddsMappings x o texts (map mapped_of ms) old new) (sym same) (reported ∙ ap (λ l. old ++ flat_map fields l) (map-twice (row_of [] o texts) mapped_of ms))
 
 -- the object of a mapping, field by field
 pub mapped_object-of : (m : Mapped) (text source spec : List ℕ) (destination : Option (List ℕ)) (old new : List ℕ) → source ≡ json_text (source_text m.source) → destination ≡ option_map json_text m.destination → spec ≡ json_text text → new ≡ old ++ line_of (mapping_object source destination spec) → new ≡ old ++ mapped_object text m
-mapped_object-of m text source spec destination old new is_source is_destination is_spec put =
-    put ∙ (ap (λ x. old ++ line_of (mapping_object x destination spec)) is_source
+mapped_object-of m text source spec destination old new is_source is_destination is_spec write =
+    write ∙ (ap (λ x. old ++ line_of (mapping_object x destination spec)) is_source
     ∙ (ap (λ x. old ++ line_of (mapping_object (json_text (source_text m.source)) x spec)) is_destination
     ∙ ap (λ x. old ++ line_of (mapping_object (json_text (source_text m.source)) (option_map json_text m.destination) x)) is_spec))
 
 -- and as objects
 pub AddsMappings-json : (f : Form) (o : Columns) (texts : List (List ℕ)) (ms : List Mapping) (old new : List ℕ) → f ≡ form.Json → new ≡ old ++ flat_map (λ m. object_of texts (mapped_of m)) ms → AddsMappings f o texts (map mapped_of ms) old new
-AddsMappings-json f o texts ms old new same told =
-    subst (λ (x : Form). AddsMappings x o texts (map mapped_of ms) old new) (sym same) (told ∙ ap (λ l. old ++ l) (flat_map-map (object_of texts) mapped_of ms))
+AddsMappings-json f o texts ms old new same reported =
+    subst (λ (x : Form). AddsMappings x o texts (map mapped_of ms) old new) (sym same) (reported ∙ ap (λ l. old ++ l) (flat_map-map (object_of texts) mapped_of ms))
 
 -- two spaces or more
 two_or_more : (n : ℕ) → 2 ≤ n → (more : ℕ) × (replicate {A = ℕ} n 32 ≡ 32 ∷ 32 ∷ replicate more 32)
@@ -105,8 +105,8 @@ two_or_more (suc zero) enough = absurd (omega arith)
 two_or_more (suc (suc n)) enough = (n, refl)
 
 -- a field and spaces are a cell
-pub PutsCell-of : (field old mid new : List ℕ) (count : ℕ) → 2 ≤ count → PutsQuoted field old mid → new ≡ mid ++ replicate count 32 → PutsCell field old new
-PutsCell-of field old mid new count enough q rest =
+pub WritesCell-of : (field old mid new : List ℕ) (count : ℕ) → 2 ≤ count → WritesQuoted field old mid → new ≡ mid ++ replicate count 32 → WritesCell field old new
+WritesCell-of field old mid new count enough q rest =
     let spaces = two_or_more count enough in
     let all = 32 ∷ 32 ∷ replicate spaces.0 32 in
     (q.0 ++ all, (q.0, spaces.0, q.1, refl), behind old q.0 mid all new q.2 (rest ∙ ap (λ l. mid ++ l) spaces.1))

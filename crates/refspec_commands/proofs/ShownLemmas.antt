@@ -4,8 +4,8 @@ use Rattle.std.proofs.lemmas.List.{append-nil, map-append, take_more}
 use Rattle.std.proofs.lemmas.Grind.{flat_map-append}
 use Rattle.refspec_commands.specs.declared.call.Form.{Form}
 use Rattle.refspec_commands.specs.declared.call.Form.TheVariants as form
-use Rattle.refspec_commands.specs.declared.page.Page.{Page}
-use Rattle.refspec_commands.specs.Shown.{AddsNames, AreLines, KeepsPage, KeepsResults, escaped, zero_ended}
+use Rattle.refspec_commands.specs.declared.report.Report.{Report}
+use Rattle.refspec_commands.specs.Shown.{AddsNames, AreLines, KeepsReport, KeepsResults, escaped, zero_ended}
 
 -- what holds of a success holds by what follows from it
 pub on_ok : {T E : Type 0} (r : Result T E) (P Q : Type 0) → OnOk r P → (P → Q) → OnOk r Q
@@ -24,7 +24,7 @@ both_ok (Err e) P Q R one other gives = one
 
 -- bytes after others
 pub behind : (old inner mid more new : List ℕ) → mid ≡ old ++ inner → new ≡ mid ++ more → new ≡ old ++ (inner ++ more)
-behind old inner mid more new before put = put ∙ (ap (λ l. l ++ more) before ∙ append_assoc old inner more)
+behind old inner mid more new before write = write ∙ (ap (λ l. l ++ more) before ∙ append_assoc old inner more)
 
 -- mapped twice
 pub map-twice : {X Y Z : Type 0} (f : Y → Z) (g : X → Y) (xs : List X) → map (λ x. f (g x)) xs ≡ map f (map g xs)
@@ -69,11 +69,11 @@ KeepsResults-next form.Json g old mid new same a b =
     (a.0 ++ b2.0, behind old a.0 mid b2.0 new a.1 b2.1)
 
 -- pages that keep their results
-pub KeepsPage-same : (p : Page) → KeepsPage p p
-KeepsPage-same p = record { form = refl; kept = KeepsResults-same p.form p.results.items }
+pub KeepsReport-same : (p : Report) → KeepsReport p p
+KeepsReport-same p = record { form = refl; kept = KeepsResults-same p.form p.results.items }
 
-pub KeepsPage-next : (p q r : Page) → KeepsPage p q → KeepsPage q r → KeepsPage p r
-KeepsPage-next p q r a b = record { form = b.form ∙ a.form; kept = KeepsResults-next p.form q.form p.results.items q.results.items r.results.items a.form a.kept b.kept }
+pub KeepsReport-next : (p q r : Report) → KeepsReport p q → KeepsReport q r → KeepsReport p r
+KeepsReport-next p q r a b = record { form = b.form ∙ a.form; kept = KeepsResults-next p.form q.form p.results.items q.results.items r.results.items a.form a.kept b.kept }
 
 -- one name more
 pub AddsNames-next : {X : Type 0} (f g : Form) (before : List ℕ) (shown : X → List ℕ) (xs : List X) (i : ℕ) (d : X) (name old mid new : List ℕ) → i < length xs → g ≡ f → name ≡ shown (get_or xs i d) → AddsNames f before (map shown (take i xs)) old mid → AddsNames g before (name ∷ []) mid new → AddsNames f before (map shown (take (i + 1) xs)) old new
@@ -89,15 +89,15 @@ flat_map-map f g (x ∷ xs) = ap (λ l. f (g x) ++ l) (flat_map-map f g xs)
 
 -- one piece more
 pub flat_next : {X : Type 0} (f : X → List ℕ) (xs : List X) (i : ℕ) (d : X) (piece old mid new : List ℕ) → i < length xs → piece ≡ f (get_or xs i d) → mid ≡ old ++ flat_map f (take i xs) → new ≡ mid ++ piece → new ≡ old ++ flat_map f (take (i + 1) xs)
-flat_next f xs i d piece old mid new below is before put =
+flat_next f xs i d piece old mid new below is before write =
     let step : flat_map f (take (i + 1) xs) ≡ flat_map f (take i xs) ++ piece = ap (flat_map f) (take_more xs i d below) ∙ (flat_map-append f (take i xs) (get_or xs i d ∷ []) ∙ ap (λ l. flat_map f (take i xs) ++ l) (append-nil (f (get_or xs i d)) ∙ sym is)) in
-    behind old (flat_map f (take i xs)) mid piece new before put ∙ ap (λ l. old ++ l) (sym step)
+    behind old (flat_map f (take i xs)) mid piece new before write ∙ ap (λ l. old ++ l) (sym step)
 
 -- one byte more between quotes
 pub escaped-next : (text : List ℕ) (i d b : ℕ) (old mid new : List ℕ) → i < length text → b ≡ get_or text i d → mid ≡ old ++ (34 ∷ flat_map escaped (take i text)) → new ≡ mid ++ escaped b → new ≡ old ++ (34 ∷ flat_map escaped (take (i + 1) text))
-escaped-next text i d b old mid new below is before put =
+escaped-next text i d b old mid new below is before write =
     let step : flat_map escaped (take (i + 1) text) ≡ flat_map escaped (take i text) ++ escaped b = ap (flat_map escaped) (take_more text i d below) ∙ (flat_map-append escaped (take i text) (get_or text i d ∷ []) ∙ (ap (λ l. flat_map escaped (take i text) ++ l) (append-nil (escaped (get_or text i d))) ∙ ap (λ x. flat_map escaped (take i text) ++ escaped x) (sym is))) in
-    behind old (34 ∷ flat_map escaped (take i text)) mid (escaped b) new before put ∙ ap (λ l. old ++ (34 ∷ l)) (sym step)
+    behind old (34 ∷ flat_map escaped (take i text)) mid (escaped b) new before write ∙ ap (λ l. old ++ (34 ∷ l)) (sym step)
 
 -- all bytes
 pub escaped-all : (text old new : List ℕ) (i : ℕ) → length text ≤ i → new ≡ old ++ (34 ∷ flat_map escaped (take i text)) → new ≡ old ++ (34 ∷ flat_map escaped text)

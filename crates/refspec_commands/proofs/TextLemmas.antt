@@ -2,8 +2,8 @@
 use Rattle.std.proofs.Common.{◌≡◌, ◌⊎◌, inl, inr, subst, ℕ, ◌+◌, ◌<◌, List, [], ◌∷◌, ◌++◌, length, take, get_or, map, suc, refl, sym, ap, ◌∙◌, append_assoc, arith}
 use Rattle.std.proofs.lemmas.List.{length-map, length-take-le, map-append, take_more}
 use Rattle.gix_refspec_text.specs.declared.parsing.Operation.{Operation}
-use Rattle.refspec_commands.specs.declared.call.Ends.{Ends}
-use Rattle.refspec_commands.specs.declared.call.Ends.TheVariants as ends
+use Rattle.refspec_commands.specs.declared.call.Terminator.{Terminator}
+use Rattle.refspec_commands.specs.declared.call.Terminator.TheVariants as ends
 use Rattle.refspec_commands.specs.declared.texts.Text.{Text}
 use Rattle.refspec_commands.specs.Input.{end_byte}
 use Rattle.refspec_commands.specs.declared.settings.Setting.{Setting}
@@ -35,10 +35,10 @@ given_next give h xs i number x old ts more t below is grown same so_far =
     let y = get_or xs i x in
     let front = map h (take i xs) in
     let many : length front ≡ i = length-map (take i xs) h ∙ length-take-le i xs (omega (arith, below)) in
-    let place : number ≡ 1 + length front = omega (arith, is, many) in
+    let location : number ≡ 1 + length front = omega (arith, is, many) in
     let step : map h (take (i + 1) xs) ≡ front ++ h y ∷ [] = ap (map h) (take_more xs i x below) ∙ map-append h (take i xs) (y ∷ []) in
     let last : numbered give 1 (map h (take (i + 1) xs)) ≡ numbered give 1 front ++ give number (h y) ∷ [] =
-    ap (numbered give 1) step ∙ (numbered-last give 1 front (h y) ∙ ap (λ (n : ℕ). numbered give 1 front ++ give n (h y) ∷ []) (sym place)) in
+    ap (numbered give 1) step ∙ (numbered-last give 1 front (h y) ∙ ap (λ (n : ℕ). numbered give 1 front ++ give n (h y) ∷ []) (sym location)) in
     ap (map given_of) grown ∙ (map-append given_of ts (t ∷ []) ∙ (ap (λ l. l ++ given_of t ∷ []) so_far ∙ (append_assoc old (numbered give 1 front) (given_of t ∷ []) ∙ (ap (λ g. old ++ (numbered give 1 front ++ g ∷ [])) same ∙ ap (λ l. old ++ l) (sym last)))))
 
 -- as many texts as were seen
@@ -47,16 +47,16 @@ numbered-length give k [] = refl
 numbered-length give k (x ∷ xs) = ap suc (numbered-length give (k + 1) xs)
 
 -- the records of an input, each a text
-pub AddsTexts-of : (e : Ends) (op : Operation) (name input : List ℕ) (old new : List Given) → (e ≡ ends.Newline) ⊎ (e ≡ ends.Zero) → AddsRecords (end_byte e) op name input old new → AddsTexts e op name input old new
+pub AddsTexts-of : (e : Terminator) (op : Operation) (name input : List ℕ) (old new : List Given) → (e ≡ ends.Newline) ⊎ (e ≡ ends.Zero) → AddsRecords (end_byte e) op name input old new → AddsTexts e op name input old new
 AddsTexts-of ends.Newline op name input old new is added = added
 AddsTexts-of ends.Zero op name input old new is added = added
 AddsTexts-of ends.Settings op name input old new (inl is) added = cc
 AddsTexts-of ends.Settings op name input old new (inr is) added = cc
 
 -- the refspecs among the settings of both inputs
-pub AddsTexts-settings : (e : Ends) (op : Operation) (name other beside input : List ℕ) (settings : List Setting) (old new : List Given) → e ≡ ends.Settings → AreSettingsOf e beside input settings → AddsValues settings old new → (front : List Given) × AddsTexts e op name beside old front × AddsTexts e op other input front new
+pub AddsTexts-settings : (e : Terminator) (op : Operation) (name other beside input : List ℕ) (settings : List Setting) (old new : List Given) → e ≡ ends.Settings → AreSettingsOf e beside input settings → AddsValues settings old new → (front : List Given) × AddsTexts e op name beside old front × AddsTexts e op other input front new
 AddsTexts-settings e op name other beside input settings old new is of added =
-    subst (λ (x : Ends). (front : List Given) × AddsTexts x op name beside old front × AddsTexts x op other input front new) (sym is) (parts (subst (λ (x : Ends). AreSettingsOf x beside input settings) is of))
+    subst (λ (x : Terminator). (front : List Given) × AddsTexts x op name beside old front × AddsTexts x op other input front new) (sym is) (parts (subst (λ (x : Terminator). AreSettingsOf x beside input settings) is of))
   where
     parts : AreSettingsOf ends.Settings beside input settings → (front : List Given) × AddsTexts ends.Settings op name beside old front × AddsTexts ends.Settings op other input front new
     parts (xs, ys, first, second, both) =

@@ -35,18 +35,18 @@ named_of a b target same zeros = ap (λ n. plain n target) same ∙ ap (plain b)
 
 -- mappings of refs with these names, and then nothing more
 pub AddsTracked-of : (f k h : Form) (names : List (List ℕ)) (refused : Bool) (refs : List Ref) (g by_names : List Reading) (texts : List (List ℕ)) (found shown : List Mapped) (old first mid new : List ℕ) → AreByNames g by_names → k ≡ f → KeepsResults f old first → refs ≡ map named names → AreKeptBackward by_names refs found → AreSpecTexts by_names texts → AddsMappings k columns.DestinationFirst texts shown first mid → shown ≡ found → h ≡ k → KeepsResults h mid new → MatchBool refused ((by_names ≢ g) ⊎ HasUnwritten names found) ((by_names ≡ g) × IsEachWritten names found) → AddsTracked f names refused g old new
-AddsTracked-of f k h names refused refs g by_names texts found shown old first mid new looked_up same_form before are kept of_specs told same form rest whether = record {
+AddsTracked-of f k h names refused refs g by_names texts found shown old first mid new looked_up same_form before are kept of_specs reported same form rest whether = record {
   by_names = by_names;
   found = found;
   texts = texts;
   looked_up = looked_up;
   kept = subst (λ (rs : List Ref). AreKeptBackward by_names rs found) are kept;
   of_specs = of_specs;
-  told = record {
+  reported = record {
     first = first;
     last = mid;
     before = before;
-    told = subst (λ (x : Form). AddsMappings x columns.DestinationFirst texts found first mid) same_form (subst (λ (ms : List Mapped). AddsMappings k columns.DestinationFirst texts ms first mid) same told);
+    reported = subst (λ (x : Form). AddsMappings x columns.DestinationFirst texts found first mid) same_form (subst (λ (ms : List Mapped). AddsMappings k columns.DestinationFirst texts ms first mid) same reported);
     after = subst (λ (x : Form). KeepsResults x mid new) (form ∙ same_form) rest;
   };
   status = whether;
@@ -167,25 +167,25 @@ HasUnwritten-here [] name found none = inl none
 HasUnwritten-here (n ∷ names) name found none = inr (HasUnwritten-here names name found none)
 
 -- whether some name isn't written
-abbrev pub Tells : Bool → List (List ℕ) → List Mapped → Type 0
-Tells some names found = MatchBool some (HasUnwritten names found) (IsEachWritten names found)
+abbrev pub Reports : Bool → List (List ℕ) → List Mapped → Type 0
+Reports some names found = MatchBool some (HasUnwritten names found) (IsEachWritten names found)
 
-pub Tells-written : (some : Bool) (names : List (List ℕ)) (name : List ℕ) (found : List Mapped) → Tells some names found → IsWritten name found → Tells some (names ++ name ∷ []) found
-Tells-written true names name found has is = HasUnwritten-front names name found has
-Tells-written false names name found each is = IsEachWritten-more names name found each is
+pub Reports-written : (some : Bool) (names : List (List ℕ)) (name : List ℕ) (found : List Mapped) → Reports some names found → IsWritten name found → Reports some (names ++ name ∷ []) found
+Reports-written true names name found has is = HasUnwritten-front names name found has
+Reports-written false names name found each is = IsEachWritten-more names name found each is
 
-pub Tells-unwritten : (some : Bool) (names : List (List ℕ)) (name : List ℕ) (found : List Mapped) → Tells some names found → ¬ (IsWritten name found) → Tells true (names ++ name ∷ []) found
-Tells-unwritten some names name found told none = HasUnwritten-here names name found none
+pub Reports-unwritten : (some : Bool) (names : List (List ℕ)) (name : List ℕ) (found : List Mapped) → Reports some names found → ¬ (IsWritten name found) → Reports true (names ++ name ∷ []) found
+Reports-unwritten some names name found reported none = HasUnwritten-here names name found none
 
 -- one name more, and all names
-pub Tells-next : (some : Bool) (names : List (Bor (List ℕ))) (i : ℕ) (d : Bor (List ℕ)) (name : List ℕ) (found : List Mapped) → i < length names → name ≡ (get_or names i d).now → Tells some (map (λ n. n.now) (take i names) ++ name ∷ []) found → Tells some (map (λ n. n.now) (take (i + 1) names)) found
-Tells-next some names i d name found below is told =
+pub Reports-next : (some : Bool) (names : List (Bor (List ℕ))) (i : ℕ) (d : Bor (List ℕ)) (name : List ℕ) (found : List Mapped) → i < length names → name ≡ (get_or names i d).now → Reports some (map (λ n. n.now) (take i names) ++ name ∷ []) found → Reports some (map (λ n. n.now) (take (i + 1) names)) found
+Reports-next some names i d name found below is reported =
     let now = λ (n : Bor (List ℕ)). n.now in
     let step : map now (take (i + 1) names) ≡ map now (take i names) ++ name ∷ [] = ap (map now) (take_more names i d below) ∙ (map-append now (take i names) (get_or names i d ∷ []) ∙ ap (λ x. map now (take i names) ++ x ∷ []) (sym is)) in
-    subst (λ l. Tells some l found) (sym step) told
+    subst (λ l. Reports some l found) (sym step) reported
 
-pub Tells-all : (some : Bool) (names : List (Bor (List ℕ))) (i : ℕ) (found : List Mapped) → length names ≤ i → Tells some (map (λ n. n.now) (take i names)) found → Tells some (map (λ n. n.now) names) found
-Tells-all some names i found long told = subst (λ (l : List (Bor (List ℕ))). Tells some (map (λ n. n.now) l) found) (take_all i names long) told
+pub Reports-all : (some : Bool) (names : List (Bor (List ℕ))) (i : ℕ) (found : List Mapped) → length names ≤ i → Reports some (map (λ n. n.now) (take i names)) found → Reports some (map (λ n. n.now) names) found
+Reports-all some names i found long reported = subst (λ (l : List (Bor (List ℕ))). Reports some (map (λ n. n.now) l) found) (take_all i names long) reported
 
 -- some spec isn't looked up, or some name isn't written
 abbrev pub Refuses : Bool → List Reading → List Reading → List (List ℕ) → List Mapped → Type 0
@@ -194,6 +194,6 @@ Refuses refused g by_names names found = MatchBool refused ((by_names ≢ g) ⊎
 pub Refuses-fewer : (specs kept : List RefSpecRef) (names : List (List ℕ)) (found : List Mapped) → length kept < length specs → Refuses true (map reading_of specs) (map reading_of kept) names found
 Refuses-fewer specs kept names found few = inl (by_names-fewer (map reading_of specs) (map reading_of kept) (omega (arith, few, length-map specs reading_of, length-map kept reading_of)))
 
-pub Refuses-whole : (some : Bool) (specs kept : List RefSpecRef) (names : List (List ℕ)) (found : List Mapped) → AreByNames (map reading_of specs) (map reading_of kept) → length specs ≤ length kept → Tells some names found → Refuses some (map reading_of specs) (map reading_of kept) names found
-Refuses-whole true specs kept names found are many told = inr told
-Refuses-whole false specs kept names found are many told = (by_names-whole (map reading_of specs) (map reading_of kept) are (omega (arith, many, length-map specs reading_of, length-map kept reading_of)), told)
+pub Refuses-whole : (some : Bool) (specs kept : List RefSpecRef) (names : List (List ℕ)) (found : List Mapped) → AreByNames (map reading_of specs) (map reading_of kept) → length specs ≤ length kept → Reports some names found → Refuses some (map reading_of specs) (map reading_of kept) names found
+Refuses-whole true specs kept names found are many reported = inr reported
+Refuses-whole false specs kept names found are many reported = (by_names-whole (map reading_of specs) (map reading_of kept) are (omega (arith, many, length-map specs reading_of, length-map kept reading_of)), reported)

@@ -11,7 +11,7 @@ use Rattle.refspec_commands.specs.declared.call.Form.TheVariants as form
 use Rattle.refspec_commands.specs.declared.checked.Checked.{Checked}
 use Rattle.refspec_commands.specs.declared.checked.Checked.TheVariants as checked
 use Rattle.refspec_commands.specs.declared.texts.Text.{Text}
-use Rattle.refspec_commands.specs.Json.{AddsObjects, AreInOrder, IsRefusedLine, IsSpecLine, PutsSpec}
+use Rattle.refspec_commands.specs.Json.{AddsObjects, AreInOrder, IsRefusedLine, IsSpecLine, WritesSpec}
 use Rattle.refspec_commands.specs.Read.{IsRefusal}
 use Rattle.refspec_commands.specs.Shown.{AddsNames}
 use Rattle.refspec_commands.specs.Texts.{Given, given_of, said}
@@ -63,6 +63,6 @@ ShowsCanonical form.Zeros texts output = (names : List (List ℕ)) × AreCanonic
 
 -- the results grew by the canonical text of a spec
 abbrev pub AddsCanonicalName : Form → Text → List ℕ → List ℕ → List ℕ → Type 0
-AddsCanonicalName form.Json t name old new = PutsSpec (codes "canonical") t name None None old new
+AddsCanonicalName form.Json t name old new = WritesSpec (codes "canonical") t name None None old new
 AddsCanonicalName form.Lines t name old new = AddsNames form.Lines [] (name ∷ []) old new
 AddsCanonicalName form.Zeros t name old new = AddsNames form.Zeros [] (name ∷ []) old new

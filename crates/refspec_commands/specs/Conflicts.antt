@@ -1,7 +1,7 @@
 -- How conflicts are told: in lines among the messages, and as objects of JSON among the results. This project's own rule.
 use Rattle.std.specs.Prelude.{◌≡◌, ℕ, zero, suc, ◌+◌, ◌-◌, Bool, true, false, List, [], ◌∷◌, ◌++◌, decimal, length, take, unwrap_or, codes}
 use Rattle.std.specs.List.{slice_get}
-use Rattle.gix_refspec.specs.Matching.Mappings.{Start}
+use Rattle.gix_refspec.specs.Matching.Mappings.{Source}
 use Rattle.gix_refspec.specs.Matching.Validation.{Conflict}
 use Rattle.refspec_json.specs.Objects.{conflict_object, line_of}
 use Rattle.refspec_commands.specs.declared.call.Form.{Form}
@@ -19,21 +19,21 @@ pub record IsClaim (source text line : List ℕ) : Type 0 where
   pub is : line ≡ codes "    " ++ (first ++ (codes " by " ++ (second ++ (10 ∷ []))))
 
 -- the messages grew by that line
-abbrev pub PutsClaim : List ℕ → List ℕ → List ℕ → List ℕ → Type 0
-PutsClaim source text old new = (line : List ℕ) × IsClaim source text line × (new ≡ old ++ line)
+abbrev pub WritesClaim : List ℕ → List ℕ → List ℕ → List ℕ → Type 0
+WritesClaim source text old new = (line : List ℕ) × IsClaim source text line × (new ≡ old ++ line)
 
 -- a line for each source, in order, with the text at its place; the first one's place is k
-abbrev pub AreClaims : ℕ → List Start → List (List ℕ) → List ℕ → Type 0
+abbrev pub AreClaims : ℕ → List Source → List (List ℕ) → List ℕ → Type 0
 AreClaims k [] texts lines = lines ≡ []
 AreClaims k (s ∷ sources) texts lines =
     (line : List ℕ) × (rest : List ℕ) × IsClaim (source_text s) (unwrap_or (slice_get texts k) []) line × AreClaims (k + 1) sources texts rest × (lines ≡ line ++ rest)
 
 -- the messages grew by these lines
-abbrev pub PutsClaims : List Start → List (List ℕ) → List ℕ → List ℕ → Type 0
-PutsClaims sources texts old new = (lines : List ℕ) × AreClaims 0 sources texts lines × (new ≡ old ++ lines)
+abbrev pub WritesClaims : List Source → List (List ℕ) → List ℕ → List ℕ → Type 0
+WritesClaims sources texts old new = (lines : List ℕ) × AreClaims 0 sources texts lines × (new ≡ old ++ lines)
 
 -- what is told of a conflict: its destination, a line for each source that is mapped to it, and what to do
-pub record IsToldConflict (c : Conflict) (lines : List ℕ) : Type 0 where
+pub record IsReportedConflict (c : Conflict) (lines : List ℕ) : Type 0 where
   pub shown : List ℕ
   pub claims : List ℕ
   pub advice : List ℕ
@@ -42,18 +42,18 @@ pub record IsToldConflict (c : Conflict) (lines : List ℕ) : Type 0 where
   pub is : lines ≡ codes "conflict: " ++ (shown ++ (codes " would be written from several refs, so nothing is fetched:\n" ++ (claims ++ advice)))
 
 -- the messages grew by it
-abbrev pub PutsConflict : Conflict → List ℕ → List ℕ → Type 0
-PutsConflict c old new = (lines : List ℕ) × IsToldConflict c lines × (new ≡ old ++ lines)
+abbrev pub WritesConflict : Conflict → List ℕ → List ℕ → Type 0
+WritesConflict c old new = (lines : List ℕ) × IsReportedConflict c lines × (new ≡ old ++ lines)
 
 -- what is told of conflicts, one after another
-abbrev pub AreToldConflicts : List Conflict → List ℕ → Type 0
-AreToldConflicts [] lines = lines ≡ []
-AreToldConflicts (c ∷ cs) lines = (one : List ℕ) × (rest : List ℕ) × IsToldConflict c one × AreToldConflicts cs rest × (lines ≡ one ++ rest)
+abbrev pub AreReportedConflicts : List Conflict → List ℕ → Type 0
+AreReportedConflicts [] lines = lines ≡ []
+AreReportedConflicts (c ∷ cs) lines = (one : List ℕ) × (rest : List ℕ) × IsReportedConflict c one × AreReportedConflicts cs rest × (lines ≡ one ++ rest)
 
 -- the messages grew by what is told of each conflict, but for JSON
 abbrev pub AddsEachConflict : Form → List Conflict → List ℕ → List ℕ → Type 0
 AddsEachConflict form.Json cs old new = new ≡ old
-AddsEachConflict _ cs old new = (lines : List ℕ) × AreToldConflicts cs lines × (new ≡ old ++ lines)
+AddsEachConflict _ cs old new = (lines : List ℕ) × AreReportedConflicts cs lines × (new ≡ old ++ lines)
 
 -- how many of n are told: 20 at the most, unless all are to be
 abbrev pub few : Bool → ℕ → ℕ
@@ -61,10 +61,10 @@ few true n = n
 few false n = n - (n - 20)
 
 -- in JSON each is
-abbrev pub told_count : Form → Bool → ℕ → ℕ
-told_count form.Json all n = n
-told_count form.Lines all n = few all n
-told_count form.Zeros all n = few all n
+abbrev pub reported_count : Form → Bool → ℕ → ℕ
+reported_count form.Json all n = n
+reported_count form.Lines all n = few all n
+reported_count form.Zeros all n = few all n
 
 -- the line that says how many more there are, and nothing where there are none
 abbrev pub more_line : List ℕ → ℕ → List ℕ
@@ -75,7 +75,7 @@ more_line what (suc n) = what ++ (decimal (suc n) ++ codes " more; `--all` lists
 abbrev pub AddsConflicts : Bool → Form → List Conflict → List ℕ → List ℕ → Type 0
 AddsConflicts all form.Json cs old new = new ≡ old
 AddsConflicts all _ cs old new =
-    (lines : List ℕ) × AreToldConflicts (take (few all (length cs)) cs) lines
+    (lines : List ℕ) × AreReportedConflicts (take (few all (length cs)) cs) lines
     × (new ≡ old ++ (lines ++ more_line (codes "conflict: ") (length cs - few all (length cs))))
 
 -- a source and the text of the spec that maps it, as strings
@@ -83,7 +83,7 @@ abbrev pub claim_of : List ℕ → List ℕ → List ℕ × List ℕ
 claim_of source text = (json_text source, json_text text)
 
 -- these for each source, in order, with the text at its place; the first one's place is k
-abbrev pub claims_from : ℕ → List Start → List (List ℕ) → List (List ℕ × List ℕ)
+abbrev pub claims_from : ℕ → List Source → List (List ℕ) → List (List ℕ × List ℕ)
 claims_from k [] texts = []
 claims_from k (s ∷ sources) texts = claim_of (source_text s) (unwrap_or (slice_get texts k) []) ∷ claims_from (k + 1) sources texts
 

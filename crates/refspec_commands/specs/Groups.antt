@@ -15,8 +15,8 @@ pub record IsShort (m : Mapped) (line : List ℕ) : Type 0 where
   pub is : line ≡ cell ++ (last ++ (10 ∷ []))
 
 -- bytes grew by such a line
-abbrev pub PutsShort : Mapped → List ℕ → List ℕ → Type 0
-PutsShort m old new = (line : List ℕ) × IsShort m line × (new ≡ old ++ line)
+abbrev pub WritesShort : Mapped → List ℕ → List ℕ → Type 0
+WritesShort m old new = (line : List ℕ) × IsShort m line × (new ≡ old ++ line)
 
 -- a line for each mapping, in order
 abbrev pub AreShort : List Mapped → List ℕ → Type 0
@@ -30,8 +30,8 @@ AddsShort ms old new = (lines : List ℕ) × AreShort ms lines × (new ≡ old +
 abbrev pub IsHeading : List ℕ → List ℕ → Type 0
 IsHeading text line = (shown : List ℕ) × IsQuoted text shown × (line ≡ shown ++ (10 ∷ []))
 
-abbrev pub PutsHeading : List ℕ → List ℕ → List ℕ → Type 0
-PutsHeading text old new = (line : List ℕ) × IsHeading text line × (new ≡ old ++ line)
+abbrev pub WritesHeading : List ℕ → List ℕ → List ℕ → Type 0
+WritesHeading text old new = (line : List ℕ) × IsHeading text line × (new ≡ old ++ line)
 
 -- what stands before the line of a mapping: that of its spec, unless it is that of the mapping before
 abbrev pub IsHead : List (List ℕ) → Option ℕ → Mapped → List ℕ → Type 0

@@ -3,11 +3,11 @@
 use Rattle.std.specs.Prelude.{◌≡◌, ◌≢◌, ◌⊎◌, ℕ, List, [], ◌∷◌, ◌++◌, Option}
 use Rattle.std.specs.Io.KnownBytes.{Consumes, IsAtEnd}
 use Rattle.gix_refspec.specs.Texts.Words.{Lacks}
-use Rattle.refspec_commands.specs.declared.call.Ends.{Ends}
-use Rattle.refspec_commands.specs.declared.call.Ends.TheVariants as ends
+use Rattle.refspec_commands.specs.declared.call.Terminator.{Terminator}
+use Rattle.refspec_commands.specs.declared.call.Terminator.TheVariants as ends
 
 -- the byte that ends a record
-abbrev pub end_byte : Ends → ℕ
+abbrev pub end_byte : Terminator → ℕ
 end_byte ends.Newline = 10
 end_byte _ = 0
 

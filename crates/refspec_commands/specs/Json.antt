@@ -10,7 +10,7 @@ use Rattle.gix_refspec_text.specs.Specs.Explained.{explained}
 use Rattle.refspec_commands.specs.declared.call.Form.{Form}
 use Rattle.refspec_commands.specs.declared.call.Form.TheVariants as form
 use Rattle.refspec_commands.specs.declared.texts.Text.{Text}
-use Rattle.refspec_commands.specs.Messages.{IsPlace}
+use Rattle.refspec_commands.specs.Messages.{IsLocation}
 use Rattle.refspec_commands.specs.Shown.{in_quotes}
 
 -- whether bytes begin with a double quote
@@ -45,39 +45,39 @@ reason_name error.Memory = codes "Memory"
 -- the line of the object of a refusal: where the text is, what it is for, the text, and the reason with its sentence; which
 -- part is wrong, where, and the advice are left open
 pub record IsRefusedLine (t : Text) (e : Error) (line : List ℕ) : Type 0 where
-  pub place : List ℕ
+  pub location : List ℕ
   pub side : Option (List ℕ)
   pub part : Option (List ℕ)
   pub index : Option ℕ
   pub advice : List ℕ
-  pub is_place : IsPlace form.Json t.place place
-  pub is : line ≡ line_of (refused_object place (operation_name t.operation) (json_text t.bytes.now) (reason_name e) (explained e) side part index advice)
+  pub is_location : IsLocation form.Json t.location location
+  pub is : line ≡ line_of (refused_object location (operation_name t.operation) (json_text t.bytes.now) (reason_name e) (explained e) side part index advice)
 
 -- bytes grew by that line
-abbrev pub PutsRefused : Text → Error → List ℕ → List ℕ → Type 0
-PutsRefused t e old new = (line : List ℕ) × IsRefusedLine t e line × (new ≡ old ++ line)
+abbrev pub WritesRefused : Text → Error → List ℕ → List ℕ → Type 0
+WritesRefused t e old new = (line : List ℕ) × IsRefusedLine t e line × (new ≡ old ++ line)
 
 -- the results grew by it, where the form is JSON, and else stayed as they were
 abbrev pub AddsRefusal : Form → Text → Error → List ℕ → List ℕ → Type 0
-AddsRefusal form.Json t e old new = PutsRefused t e old new
+AddsRefusal form.Json t e old new = WritesRefused t e old new
 AddsRefusal _ t e old new = new ≡ old
 
 -- what is told of each of a list, one after another
 abbrev pub AreInOrder : {X : Type 0} → (X → List ℕ → Type 0) → List X → List ℕ → Type 0
-AreInOrder Tells [] lines = lines ≡ []
-AreInOrder Tells (x ∷ xs) lines = (one : List ℕ) × (rest : List ℕ) × Tells x one × AreInOrder Tells xs rest × (lines ≡ one ++ rest)
+AreInOrder Reports [] lines = lines ≡ []
+AreInOrder Reports (x ∷ xs) lines = (one : List ℕ) × (rest : List ℕ) × Reports x one × AreInOrder Reports xs rest × (lines ≡ one ++ rest)
 
 -- the results grew by it, where the form is JSON, and else stayed as they were
 abbrev pub AddsObjects : {X : Type 0} → Form → (X → List ℕ → Type 0) → List X → List ℕ → List ℕ → Type 0
-AddsObjects form.Json Tells xs old new = (lines : List ℕ) × AreInOrder Tells xs lines × (new ≡ old ++ lines)
-AddsObjects _ Tells xs old new = new ≡ old
+AddsObjects form.Json Reports xs old new = (lines : List ℕ) × AreInOrder Reports xs lines × (new ≡ old ++ lines)
+AddsObjects _ Reports xs old new = new ≡ old
 
 -- the line of the object of a spec: where its text is, what it is for, the text, its canonical text and what else is said
 pub record IsSpecLine (kind : List ℕ) (t : Text) (canonical : List ℕ) (meaning same_as : Option (List ℕ)) (line : List ℕ) : Type 0 where
-  pub place : List ℕ
-  pub is_place : IsPlace form.Json t.place place
-  pub is : line ≡ line_of (spec_object kind place (operation_name t.operation) (json_text t.bytes.now) (json_text canonical) meaning same_as)
+  pub location : List ℕ
+  pub is_location : IsLocation form.Json t.location location
+  pub is : line ≡ line_of (spec_object kind location (operation_name t.operation) (json_text t.bytes.now) (json_text canonical) meaning same_as)
 
 -- bytes grew by that line
-abbrev pub PutsSpec : List ℕ → Text → List ℕ → Option (List ℕ) → Option (List ℕ) → List ℕ → List ℕ → Type 0
-PutsSpec kind t canonical meaning same_as old new = (line : List ℕ) × IsSpecLine kind t canonical meaning same_as line × (new ≡ old ++ line)
+abbrev pub WritesSpec : List ℕ → Text → List ℕ → Option (List ℕ) → Option (List ℕ) → List ℕ → List ℕ → Type 0
+WritesSpec kind t canonical meaning same_as old new = (line : List ℕ) × IsSpecLine kind t canonical meaning same_as line × (new ≡ old ++ line)

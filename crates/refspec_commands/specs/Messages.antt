@@ -11,7 +11,7 @@ use Rattle.refspec_commands.specs.declared.call.Form.{Form}
 use Rattle.refspec_commands.specs.declared.call.Form.TheVariants as form
 use Rattle.refspec_commands.specs.declared.checked.Checked.{Checked}
 use Rattle.refspec_commands.specs.declared.checked.Checked.TheVariants as checked
-use Rattle.refspec_commands.specs.declared.texts.Place.{Place}
+use Rattle.refspec_commands.specs.declared.texts.Location.{Location}
 use Rattle.refspec_commands.specs.declared.texts.Text.{Text}
 use Rattle.refspec_commands.specs.Shown.{IsQuoted}
 use Rattle.refspec_commands.specs.Texts.{Given, Spot, at_record, at_setting, at_word, given_of, spot_of}
@@ -31,16 +31,16 @@ IsSpot f (at_setting file key) shown =
     (one : List ℕ) × (other : List ℕ) × IsShownIn f file one × IsShownIn f key other × (shown ≡ one ++ (codes ": " ++ other))
 
 -- the same of a place
-abbrev pub IsPlace : Form → Place → List ℕ → Type 0
-IsPlace f p shown = IsSpot f (spot_of p) shown
+abbrev pub IsLocation : Form → Location → List ℕ → Type 0
+IsLocation f p shown = IsSpot f (spot_of p) shown
 
 -- bytes grew by a place
-abbrev pub PutsPlace : Form → Place → List ℕ → List ℕ → Type 0
-PutsPlace f p old new = (shown : List ℕ) × IsPlace f p shown × (new ≡ old ++ shown)
+abbrev pub WritesLocation : Form → Location → List ℕ → List ℕ → Type 0
+WritesLocation f p old new = (shown : List ℕ) × IsLocation f p shown × (new ≡ old ++ shown)
 
 -- bytes grew by a name as a form shows it
-abbrev pub PutsShown : Form → List ℕ → List ℕ → List ℕ → Type 0
-PutsShown f name old new = (shown : List ℕ) × IsShownIn f name shown × (new ≡ old ++ shown)
+abbrev pub WritesShown : Form → List ℕ → List ℕ → List ℕ → Type 0
+WritesShown f name old new = (shown : List ℕ) × IsShownIn f name shown × (new ≡ old ++ shown)
 
 -- the first line: where the text is, the text, and the sentence on the reason
 pub record IsReasonLine (t : Given) (e : Error) (line : List ℕ) : Type 0 where
@@ -51,36 +51,36 @@ pub record IsReasonLine (t : Given) (e : Error) (line : List ℕ) : Type 0 where
   pub is : line ≡ at ++ (codes ": " ++ (text ++ (codes ": " ++ (explained e ++ (10 ∷ [])))))
 
 -- bytes grew by that line
-abbrev pub PutsReason : Text → Error → List ℕ → List ℕ → Type 0
-PutsReason t e old new = (line : List ℕ) × IsReasonLine (given_of t) e line × (new ≡ old ++ line)
+abbrev pub WritesReason : Text → Error → List ℕ → List ℕ → Type 0
+WritesReason t e old new = (line : List ℕ) × IsReasonLine (given_of t) e line × (new ≡ old ++ line)
 
 -- bytes grew by that line and more
-abbrev pub PutsRefusal : Text → Error → List ℕ → List ℕ → Type 0
-PutsRefusal t e old new = (line : List ℕ) × (more : List ℕ) × IsReasonLine (given_of t) e line × (new ≡ old ++ (line ++ more))
+abbrev pub WritesRefusal : Text → Error → List ℕ → List ℕ → Type 0
+WritesRefusal t e old new = (line : List ℕ) × (more : List ℕ) × IsReasonLine (given_of t) e line × (new ≡ old ++ (line ++ more))
 
 -- the messages grew so, but for JSON, where the results do
-abbrev pub TellsRefusal : Form → Text → Error → List ℕ → List ℕ → Type 0
-TellsRefusal form.Json t e old new = new ≡ old
-TellsRefusal _ t e old new = PutsRefusal t e old new
+abbrev pub ReportsRefusal : Form → Text → Error → List ℕ → List ℕ → Type 0
+ReportsRefusal form.Json t e old new = new ≡ old
+ReportsRefusal _ t e old new = WritesRefusal t e old new
 
 -- the messages grew by the refusals among what was checked, one after another
-abbrev pub TellsRefusals : Form → List Checked → List ℕ → List ℕ → Type 0
-TellsRefusals f [] old new = new ≡ old
-TellsRefusals f (checked.Good text spec ∷ all) old new = TellsRefusals f all old new
-TellsRefusals f (checked.Bad text error ∷ all) old new = (mid : List ℕ) × TellsRefusal f text error old mid × TellsRefusals f all mid new
+abbrev pub ReportsRefusals : Form → List Checked → List ℕ → List ℕ → Type 0
+ReportsRefusals f [] old new = new ≡ old
+ReportsRefusals f (checked.Good text spec ∷ all) old new = ReportsRefusals f all old new
+ReportsRefusals f (checked.Bad text error ∷ all) old new = (mid : List ℕ) × ReportsRefusal f text error old mid × ReportsRefusals f all mid new
 
 -- what is told of a text that is refused: the line of the first reason against it, and more; of a spec nothing
-abbrev pub IsToldOf : Given → List ℕ → Type 0
-IsToldOf t lines =
+abbrev pub IsReportedOf : Given → List ℕ → Type 0
+IsReportedOf t lines =
     ((e : Error) × (line : List ℕ) × (more : List ℕ) × ShowsRefusal (IsRefused t.operation t.bytes) e × IsReasonLine t e line × (lines ≡ line ++ more))
     ⊎ ((r : Reading) × Reads t.operation t.bytes r × (lines ≡ []))
 
 -- what is told of texts, one after another
-abbrev pub AreToldOf : List Given → List ℕ → Type 0
-AreToldOf [] lines = lines ≡ []
-AreToldOf (t ∷ texts) lines = (one : List ℕ) × (rest : List ℕ) × IsToldOf t one × AreToldOf texts rest × (lines ≡ one ++ rest)
+abbrev pub AreReportedOf : List Given → List ℕ → Type 0
+AreReportedOf [] lines = lines ≡ []
+AreReportedOf (t ∷ texts) lines = (one : List ℕ) × (rest : List ℕ) × IsReportedOf t one × AreReportedOf texts rest × (lines ≡ one ++ rest)
 
 -- the messages are those, but for JSON, where the refusals are among the results
 abbrev pub AreRefusals : Form → List Given → List ℕ → Type 0
 AreRefusals form.Json texts messages = messages ≡ []
-AreRefusals _ texts messages = AreToldOf texts messages
+AreRefusals _ texts messages = AreReportedOf texts messages

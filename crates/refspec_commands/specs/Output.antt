@@ -13,10 +13,10 @@ use Rattle.refspec_commands.specs.declared.fault.Fault.TheVariants as fault
 use Rattle.refspec_commands.specs.declared.settings.Setting.{Setting}
 use Rattle.refspec_commands.specs.Canon.{AddsCanonical, ShowsCanonical}
 use Rattle.refspec_commands.specs.Input.{ReadsToEnd, end_byte}
-use Rattle.refspec_commands.specs.Messages.{AreRefusals, TellsRefusals}
+use Rattle.refspec_commands.specs.Messages.{AreRefusals, ReportsRefusals}
 use Rattle.refspec_commands.specs.Plan.{AddsPlan}
 use Rattle.refspec_commands.specs.Prefixes.{AddsPrefixes}
-use Rattle.refspec_commands.specs.Read.{AddsIfGood, AddsIfRead, AreGood, HasBad, TellsRefused}
+use Rattle.refspec_commands.specs.Read.{AddsIfGood, AddsIfRead, AreGood, HasBad, ReportsRefused}
 use Rattle.refspec_commands.specs.Settings.{AreSettingsOf, HasLacking, HasNoSettings}
 use Rattle.refspec_commands.specs.Shown.{KeepsResults}
 use Rattle.refspec_commands.specs.Texts.{AreTexts, Given, said, spec_input}
@@ -32,9 +32,9 @@ AddsFound _ call input form messages refused g old new = ⊤
 -- what a call makes of its texts and its input; where a text is refused, the messages are the refusals
 abbrev pub Shows : Command → Call → List ℕ → List Given → List ℕ → Bool → List ℕ → Type 0
 Shows command.Canon call input texts messages refused output =
-    ShowsCanonical call.form texts output × TellsRefused refused (map said texts) × AreRefusals call.form texts messages
-Shows command.Check call input texts messages refused output = TellsRefused refused (map said texts) × AreRefusals call.form texts messages
-Shows command.Explain call input texts messages refused output = TellsRefused refused (map said texts) × AreRefusals call.form texts messages
+    ShowsCanonical call.form texts output × ReportsRefused refused (map said texts) × AreRefusals call.form texts messages
+Shows command.Check call input texts messages refused output = ReportsRefused refused (map said texts) × AreRefusals call.form texts messages
+Shows command.Explain call input texts messages refused output = ReportsRefused refused (map said texts) × AreRefusals call.form texts messages
 Shows found call input texts messages refused output =
     AddsIfRead (AddsFound found call input call.form messages refused) (AreRefusals call.form texts messages) call.form refused texts [] output
 
@@ -85,16 +85,16 @@ pub record Answers (call : Call) (beside : List ℕ) (reader_old reader_new writ
   pub read : IsInput call.reads_input reader_old reader_new input
   pub is : IsOutput call beside input messages refused output
   pub written : Appends writer_old writer_new output
-  pub told : Appends errors_old errors_new messages
+  pub reported : Appends errors_old errors_new messages
   pub ended : status ≡ status_of refused
 
 -- what a command told of what was checked and of its input, after these messages
-abbrev pub Tells : Command → Call → List ℕ → Form → List ℕ → List ℕ → Bool → List Checked → List ℕ → List ℕ → Type 0
-Tells command.Canon call input form before messages refused all old new =
-    AddsCanonical form all old new × MatchBool refused (HasBad all) (AreGood all) × TellsRefusals form all before messages
-Tells command.Check call input form before messages refused all old new =
-    MatchBool refused (HasBad all) (AreGood all) × TellsRefusals form all before messages
-Tells command.Explain call input form before messages refused all old new =
-    MatchBool refused (HasBad all) (AreGood all) × TellsRefusals form all before messages
-Tells found call input form before messages refused all old new =
-    AddsIfGood (AddsFound found call input form messages refused) (TellsRefusals form all before messages) form refused all old new
+abbrev pub Reports : Command → Call → List ℕ → Form → List ℕ → List ℕ → Bool → List Checked → List ℕ → List ℕ → Type 0
+Reports command.Canon call input form before messages refused all old new =
+    AddsCanonical form all old new × MatchBool refused (HasBad all) (AreGood all) × ReportsRefusals form all before messages
+Reports command.Check call input form before messages refused all old new =
+    MatchBool refused (HasBad all) (AreGood all) × ReportsRefusals form all before messages
+Reports command.Explain call input form before messages refused all old new =
+    MatchBool refused (HasBad all) (AreGood all) × ReportsRefusals form all before messages
+Reports found call input form before messages refused all old new =
+    AddsIfGood (AddsFound found call input form messages refused) (ReportsRefusals form all before messages) form refused all old new

@@ -7,24 +7,24 @@ use Rattle.gix_refspec.specs.Matching.Mappings.{Mapped}
 use Rattle.gix_refspec.specs.Matching.Hits.{AreKeptForward}
 use Rattle.gix_refspec.specs.Laws.Items.{HaveSameNames}
 use Rattle.gix_refspec.specs.Views.Issue.{conflicts_of, mappings_of}
-use Rattle.gix_refspec.specs.Matching.RefNames.{KeepsNamed, LeftOut}
+use Rattle.gix_refspec.specs.Matching.RefNames.{KeepsRefNames, LeftOut}
 use Rattle.gix_refspec.specs.Matching.Validation.{AreConflicts, IsValidated, Removed}
 use Rattle.refspec_json.specs.Objects.{left_out_object, line_of, malformed_object}
-use Rattle.gix_refspec.specs.declared.match_group.names.BadSide.{BadSide}
-use Rattle.gix_refspec.specs.declared.match_group.names.BadSide.TheVariants as side
+use Rattle.gix_refspec.specs.declared.match_group.ref_names.InvalidSide.{InvalidSide}
+use Rattle.gix_refspec.specs.declared.match_group.ref_names.InvalidSide.TheVariants as side
 use Rattle.refspec_commands.specs.declared.call.Form.{Form}
 use Rattle.refspec_commands.specs.declared.call.Form.TheVariants as form
 use Rattle.refspec_commands.specs.declared.mappings.Columns.TheVariants as columns
 use Rattle.refspec_commands.specs.declared.plan.Written.{Written}
 use Rattle.refspec_commands.specs.declared.plan.Written.TheVariants as written
 use Rattle.refspec_commands.specs.declared.refs.BadRecord.{BadRecord}
-use Rattle.refspec_commands.specs.declared.texts.Place.{Place}
-use Rattle.refspec_commands.specs.declared.texts.Place.TheVariants as place
+use Rattle.refspec_commands.specs.declared.texts.Location.{Location}
+use Rattle.refspec_commands.specs.declared.texts.Location.TheVariants as location
 use Rattle.refspec_commands.specs.Conflicts.{AddsConflicts, IsConflict}
 use Rattle.refspec_commands.specs.Groups.{AddsGroups}
 use Rattle.refspec_commands.specs.Input.{AreRecords}
 use Rattle.refspec_commands.specs.Json.{AddsObjects, json_text}
-use Rattle.refspec_commands.specs.Messages.{IsPlace}
+use Rattle.refspec_commands.specs.Messages.{IsLocation}
 use Rattle.refspec_commands.specs.Refs.{AddsRefs, bad_bytes}
 use Rattle.refspec_commands.specs.Rows.{AddsMappings, AreSpecTexts, source_text}
 
@@ -40,7 +40,7 @@ pub record IsPlan (g : List Reading) (items : List Ref) (made : Written) (out : 
   pub kept : List Mapped
   pub matched : AreKeptForward g items kept
   pub named : List Mapped
-  pub parted : KeepsNamed kept named out
+  pub parted : KeepsRefNames kept named out
   pub writes : Writes g named made
 
 -- it is the plan of any refs that have the names of these
@@ -48,32 +48,32 @@ abbrev pub IsPlanByNames : List Reading → List Ref → Written → List LeftOu
 IsPlanByNames g items made out = (refs : List Ref) → HaveSameNames items refs → IsPlan g refs made out
 
 -- the line of the object of a record that tells of no ref, with a sentence on it and advice
-pub record IsMalformedLine (p : Place) (bytes line : List ℕ) : Type 0 where
-  pub place : List ℕ
+pub record IsMalformedLine (p : Location) (bytes line : List ℕ) : Type 0 where
+  pub location : List ℕ
   pub message : List ℕ
-  pub is_place : IsPlace form.Json p place
+  pub is_location : IsLocation form.Json p location
   pub advice : List ℕ
-  pub is : line ≡ line_of (malformed_object place (json_text bytes) message advice)
+  pub is : line ≡ line_of (malformed_object location (json_text bytes) message advice)
 
 -- bytes grew by that line
-abbrev pub PutsMalformed : Place → List ℕ → List ℕ → List ℕ → Type 0
-PutsMalformed p bytes old new = (line : List ℕ) × IsMalformedLine p bytes line × (new ≡ old ++ line)
+abbrev pub WritesMalformed : Location → List ℕ → List ℕ → List ℕ → Type 0
+WritesMalformed p bytes old new = (line : List ℕ) × IsMalformedLine p bytes line × (new ≡ old ++ line)
 
 -- a place is the record of an input with this number
-abbrev pub IsRecordOf : List ℕ → ℕ → Place → Type 0
-IsRecordOf input number (place.Record name n) = (name.now ≡ input) × (n ≡ number)
+abbrev pub IsRecordOf : List ℕ → ℕ → Location → Type 0
+IsRecordOf input number (location.Record name n) = (name.now ≡ input) × (n ≡ number)
 IsRecordOf input number _ = ⊥
 
 -- the line of a bad record of an input
 abbrev pub IsBadLine : List ℕ → BadRecord → List ℕ → Type 0
-IsBadLine input bad line = (p : Place) × IsRecordOf input bad.number p × IsMalformedLine p (bad_bytes bad) line
+IsBadLine input bad line = (p : Location) × IsRecordOf input bad.number p × IsMalformedLine p (bad_bytes bad) line
 
 -- that line, wherever the record is
 abbrev pub IsMalformed : List ℕ → List ℕ → Type 0
-IsMalformed bytes line = (p : Place) × IsMalformedLine p bytes line
+IsMalformed bytes line = (p : Location) × IsMalformedLine p bytes line
 
 -- what a side that is no name of a ref is called
-abbrev pub side_name : BadSide → List ℕ
+abbrev pub side_name : InvalidSide → List ℕ
 side_name side.Source = codes "source"
 side_name side.Destination = codes "destination"
 side_name side.Both = codes "both"
@@ -129,7 +129,7 @@ pub record AddsPlan (long all : Bool) (form : Form) (end : ℕ) (input messages 
   pub out : List LeftOut
   pub bad : List (List ℕ)
   pub before : List ℕ
-  pub cut : AreRecords end records input
+  pub split : AreRecords end records input
   pub refs : AddsRefs records [] items bad
   pub of_specs : AreSpecTexts g texts
   pub plan : IsPlan g items made out
@@ -137,5 +137,5 @@ pub record AddsPlan (long all : Bool) (form : Form) (end : ℕ) (input messages 
   pub second : List ℕ
   pub malformed : AddsObjects form IsMalformed bad old first
   pub left_out : AddsObjects form (IsLeftOutOf texts) out first second
-  pub told : AddsWritten long all form texts made before messages second new
+  pub reported : AddsWritten long all form texts made before messages second new
   pub status : MatchBool refused ((bad ≢ []) ⊎ LeavesOut made out) ((bad ≡ []) × IsWhole made out)

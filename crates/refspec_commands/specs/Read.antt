@@ -47,8 +47,8 @@ HasRefused [] = ⊥
 HasRefused (t ∷ texts) = ((e : Refusal) × IsRefused t.0 t.1 e) ⊎ HasRefused texts
 
 -- whether some text is refused, or all are read
-abbrev pub TellsRefused : Bool → List (Operation × List ℕ) → Type 0
-TellsRefused refused texts = MatchBool refused (HasRefused texts) ((g : List Reading) × AreRead texts g)
+abbrev pub ReportsRefused : Bool → List (Operation × List ℕ) → Type 0
+ReportsRefused refused texts = MatchBool refused (HasRefused texts) ((g : List Reading) × AreRead texts g)
 
 -- the line of the object of a text, which is refused
 pub record IsRefusal (t : Given) (line : List ℕ) : Type 0 where

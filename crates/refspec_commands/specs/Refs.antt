@@ -26,8 +26,8 @@ pub record IsIdThen (line id name : List ℕ) : Type 0 where
   pub here : line ≡ digits ++ (space ∷ name)
 
 -- the line is an id and this name
-abbrev pub TellsName : List ℕ → List ℕ → Type 0
-TellsName line name = (id : List ℕ) × IsIdThen line id name
+abbrev pub ReportsName : List ℕ → List ℕ → Type 0
+ReportsName line name = (id : List ℕ) × IsIdThen line id name
 
 -- what ends the name in the line of a peeled tag
 abbrev pub peeled : List ℕ
@@ -79,20 +79,20 @@ AddsRefs (line ∷ lines) old new bad =
     (more : List Ref) × (one : List (List ℕ)) × (rest : List (List ℕ)) × AddsLine line old more one × AddsRefs lines more new rest × (bad ≡ one ++ rest)
 
 -- the records of an input tell of these refs, and the bad ones of none
-abbrev pub TellRefs : ℕ → List ℕ → List Ref → List (List ℕ) → Type 0
-TellRefs end input refs bad = (records : List (List ℕ)) × AreRecords end records input × AddsRefs records [] refs bad
+abbrev pub ReportRefs : ℕ → List ℕ → List Ref → List (List ℕ) → Type 0
+ReportRefs end input refs bad = (records : List (List ℕ)) × AreRecords end records input × AddsRefs records [] refs bad
 
 -- of any refs with the names of the old ones, the line makes some with the names of the new ones
 abbrev pub AddsLineByNames : List ℕ → List Ref → List Ref → List (List ℕ) → Type 0
 AddsLineByNames line old new bad = (refs : List Ref) → HaveSameNames old refs → (more : List Ref) × AddsLine line refs more bad × HaveSameNames new more
 
 -- so it does, and the bad records grew by it if it is one
-abbrev pub AddsTold : List ℕ → List Ref → List Ref → List (List ℕ) → List (List ℕ) → Type 0
-AddsTold line old new bad_old bad_new = (bad : List (List ℕ)) × AddsLineByNames line old new bad × (bad_new ≡ bad_old ++ bad)
+abbrev pub AddsReported : List ℕ → List Ref → List Ref → List (List ℕ) → List (List ℕ) → Type 0
+AddsReported line old new bad_old bad_new = (bad : List (List ℕ)) × AddsLineByNames line old new bad × (bad_new ≡ bad_old ++ bad)
 
 -- the records of an input tell of refs with the names of these, and the bad ones of none
-abbrev pub TellNames : ℕ → List ℕ → List Ref → List (List ℕ) → Type 0
-TellNames end input named bad = (refs : List Ref) × TellRefs end input refs bad × HaveSameNames named refs
+abbrev pub ReportNames : ℕ → List ℕ → List Ref → List (List ℕ) → Type 0
+ReportNames end input named bad = (refs : List Ref) × ReportRefs end input refs bad × HaveSameNames named refs
 
 -- the bytes of a bad record
 abbrev pub bad_bytes : BadRecord → List ℕ

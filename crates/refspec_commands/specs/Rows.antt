@@ -1,7 +1,7 @@
 -- How mappings are written: in lines, ended by zero bytes, and as objects of JSON. This project's own rule.
 use Rattle.std.specs.Prelude.{◌≡◌, ℕ, List, [], ◌∷◌, ◌++◌, Some, map, option_map, unwrap_or, replicate, codes}
 use Rattle.std.specs.List.{AllZip, flat_map, slice_get}
-use Rattle.gix_refspec.specs.Matching.Mappings.{Start, name, id, Mapped}
+use Rattle.gix_refspec.specs.Matching.Mappings.{Source, name, id, Mapped}
 use Rattle.gix_refspec.specs.Specs.Meaning.{printed}
 use Rattle.gix_refspec.specs.Texts.ObjectId.{lower_of}
 use Rattle.gix_refspec.specs.Specs.Reading.{Reading}
@@ -18,7 +18,7 @@ abbrev pub AreSpecTexts : List Reading → List (List ℕ) → Type 0
 AreSpecTexts g texts = AllZip (λ r text. printed r ≡ Some text) g texts
 
 -- a name, or an id in lower case
-abbrev pub source_text : Start → List ℕ
+abbrev pub source_text : Source → List ℕ
 source_text (name n) = n
 source_text (id i) = lower_of i
 
@@ -59,8 +59,8 @@ abbrev pub IsCell : List ℕ → List ℕ → Type 0
 IsCell field cell = (shown : List ℕ) × (more : ℕ) × IsQuoted field shown × (cell ≡ shown ++ (32 ∷ 32 ∷ replicate more 32))
 
 -- the results grew by the cell of a field
-abbrev pub PutsCell : List ℕ → List ℕ → List ℕ → Type 0
-PutsCell field old new = (cell : List ℕ) × IsCell field cell × (new ≡ old ++ cell)
+abbrev pub WritesCell : List ℕ → List ℕ → List ℕ → Type 0
+WritesCell field old new = (cell : List ℕ) × IsCell field cell × (new ≡ old ++ cell)
 
 -- a line: two cells, and what people see of the last field
 pub record IsLine (r : Row) (line : List ℕ) : Type 0 where
@@ -73,12 +73,12 @@ pub record IsLine (r : Row) (line : List ℕ) : Type 0 where
   pub is : line ≡ first ++ (second ++ (last ++ (10 ∷ [])))
 
 -- the results grew by the cells of two fields
-abbrev pub PutsCells : List ℕ → List ℕ → List ℕ → List ℕ → Type 0
-PutsCells one other old new = (first : List ℕ) × (second : List ℕ) × IsCell one first × IsCell other second × (new ≡ old ++ (first ++ second))
+abbrev pub WritesCells : List ℕ → List ℕ → List ℕ → List ℕ → Type 0
+WritesCells one other old new = (first : List ℕ) × (second : List ℕ) × IsCell one first × IsCell other second × (new ≡ old ++ (first ++ second))
 
 -- the results grew by the line of a row
-abbrev pub PutsLine : Row → List ℕ → List ℕ → Type 0
-PutsLine r old new = (line : List ℕ) × IsLine r line × (new ≡ old ++ line)
+abbrev pub WritesLine : Row → List ℕ → List ℕ → Type 0
+WritesLine r old new = (line : List ℕ) × IsLine r line × (new ≡ old ++ line)
 
 -- a line for each row, in order
 abbrev pub AreRowLines : List Row → List ℕ → Type 0
@@ -113,5 +113,5 @@ pub record AddsMappingsAmong (form : Form) (order : Columns) (texts : List (List
   pub first : List ℕ
   pub last : List ℕ
   pub before : KeepsResults form old first
-  pub told : AddsMappings form order texts mappings first last
+  pub reported : AddsMappings form order texts mappings first last
   pub after : KeepsResults form last new

@@ -4,8 +4,8 @@ use Rattle.std.specs.Prelude.{◌≡◌, ◌⊎◌, ℕ, List, [], ◌∷◌, �
 use Rattle.gix_refspec.specs.Texts.Words.{BeginsWith, Lacks}
 use Rattle.gix_refspec_text.specs.declared.parsing.Operation.{Operation}
 use Rattle.gix_refspec_text.specs.declared.parsing.Operation.TheVariants as operation
-use Rattle.refspec_commands.specs.declared.call.Ends.{Ends}
-use Rattle.refspec_commands.specs.declared.call.Ends.TheVariants as ends
+use Rattle.refspec_commands.specs.declared.call.Terminator.{Terminator}
+use Rattle.refspec_commands.specs.declared.call.Terminator.TheVariants as ends
 use Rattle.refspec_commands.specs.declared.settings.Setting.{Setting}
 use Rattle.refspec_commands.specs.Input.{AreRecords}
 
@@ -55,12 +55,12 @@ HasLacking [] = ⊥
 HasLacking (s ∷ settings) = LacksValue s ⊎ HasLacking settings
 
 -- the settings of both inputs, where these are settings
-abbrev pub AreSettingsOf : Ends → List ℕ → List ℕ → List Setting → Type 0
+abbrev pub AreSettingsOf : Terminator → List ℕ → List ℕ → List Setting → Type 0
 AreSettingsOf ends.Settings beside input settings =
     (front : List Setting) × (back : List Setting) × AreSettings beside front × AreSettings input back × (settings ≡ front ++ back)
 AreSettingsOf _ beside input settings = settings ≡ []
 
 -- one of both inputs is to be settings, and is none
-abbrev pub HasNoSettings : Ends → List ℕ → List ℕ → Type 0
+abbrev pub HasNoSettings : Terminator → List ℕ → List ℕ → Type 0
 HasNoSettings ends.Settings beside input = IsNoSettings beside ⊎ IsNoSettings input
 HasNoSettings _ beside input = ⊥

@@ -3,7 +3,7 @@ use Rattle.std.specs.Prelude.{◌≡◌, ◌⊎◌, ℕ, ◌+◌, ◌/◌, ◌%�
 use Rattle.std.specs.List.{flat_map}
 use Rattle.refspec_commands.specs.declared.call.Form.{Form}
 use Rattle.refspec_commands.specs.declared.call.Form.TheVariants as form
-use Rattle.refspec_commands.specs.declared.page.Page.{Page}
+use Rattle.refspec_commands.specs.declared.report.Report.{Report}
 
 -- the letter of a byte whose escape has one, as in C: `\a`, `\b`, `\t`, `\n`, `\v`, `\f`, `\r`, a quote and a backslash
 abbrev pub escape_letter : ℕ → Option ℕ
@@ -58,10 +58,10 @@ KeepsResults form.Json old new = Grows old new
 KeepsResults _ old new = new ≡ old
 
 -- so did those of the page, and its form
-pub record KeepsPage (old new : Page) : Type 0 where
+pub record KeepsReport (old new : Report) : Type 0 where
   pub form : new.form ≡ old.form
   pub kept : KeepsResults old.form old.results.items new.results.items
 
 -- what people see of the name was put after the old bytes
-abbrev pub PutsQuoted : List ℕ → List ℕ → List ℕ → Type 0
-PutsQuoted name old new = (shown : List ℕ) × IsQuoted name shown × (new ≡ old ++ shown)
+abbrev pub WritesQuoted : List ℕ → List ℕ → List ℕ → Type 0
+WritesQuoted name old new = (shown : List ℕ) × IsQuoted name shown × (new ≡ old ++ shown)

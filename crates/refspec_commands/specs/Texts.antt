@@ -6,10 +6,10 @@ use Rattle.gix_refspec_text.specs.declared.parsing.Operation.{Operation}
 use Rattle.refspec_commands.specs.declared.call.Call.{Call}
 use Rattle.refspec_commands.specs.declared.call.Command.{Command}
 use Rattle.refspec_commands.specs.declared.call.Command.TheVariants as command
-use Rattle.refspec_commands.specs.declared.call.Ends.{Ends}
-use Rattle.refspec_commands.specs.declared.call.Ends.TheVariants as ends
-use Rattle.refspec_commands.specs.declared.texts.Place.{Place}
-use Rattle.refspec_commands.specs.declared.texts.Place.TheVariants as place
+use Rattle.refspec_commands.specs.declared.call.Terminator.{Terminator}
+use Rattle.refspec_commands.specs.declared.call.Terminator.TheVariants as ends
+use Rattle.refspec_commands.specs.declared.texts.Location.{Location}
+use Rattle.refspec_commands.specs.declared.texts.Location.TheVariants as location
 use Rattle.refspec_commands.specs.declared.texts.Text.{Text}
 use Rattle.refspec_commands.specs.declared.settings.Setting.{Setting}
 use Rattle.refspec_commands.specs.Input.{AreRecords}
@@ -22,10 +22,10 @@ pub data Spot : Type 0 where
   at_setting : (file key : List ℕ) → Spot
 
 -- the place, with the bytes of its names
-abbrev pub spot_of : Place → Spot
-spot_of (place.Word number) = at_word number
-spot_of (place.Record input number) = at_record input.now number
-spot_of (place.Setting origin key) = at_setting origin.now key.now
+abbrev pub spot_of : Location → Spot
+spot_of (location.Word number) = at_word number
+spot_of (location.Record input number) = at_record input.now number
+spot_of (location.Setting origin key) = at_setting origin.now key.now
 
 -- a text: where it is found, the operation that it is read for, and its bytes
 pub record Given : Type 0 where
@@ -34,7 +34,7 @@ pub record Given : Type 0 where
   pub bytes : List ℕ
 
 abbrev pub given_of : Text → Given
-given_of t = record { spot = spot_of t.place; operation = t.operation; bytes = t.bytes.now }
+given_of t = record { spot = spot_of t.location; operation = t.operation; bytes = t.bytes.now }
 
 -- the operation that a text is read for, and its bytes
 abbrev pub said : Given → Operation × List ℕ
@@ -75,7 +75,7 @@ abbrev pub AddsValues : List Setting → List Given → List Given → Type 0
 AddsValues settings old new = (values : List Given) × AreValues settings values × (new ≡ old ++ values)
 
 -- the texts grew by those of an input whose records end so
-abbrev pub AddsTexts : Ends → Operation → List ℕ → List ℕ → List Given → List Given → Type 0
+abbrev pub AddsTexts : Terminator → Operation → List ℕ → List ℕ → List Given → List Given → Type 0
 AddsTexts ends.Newline op name input old new = AddsRecords 10 op name input old new
 AddsTexts ends.Zero op name input old new = AddsRecords 0 op name input old new
 AddsTexts ends.Settings op name input old new = (settings : List Setting) × AreSettings input settings × AddsValues settings old new

@@ -52,5 +52,5 @@ pub record AddsTracked (form : Form) (names : List (List ℕ)) (refused : Bool) 
   pub looked_up : AreByNames g by_names
   pub kept : AreKeptBackward by_names (map named names) found
   pub of_specs : AreSpecTexts by_names texts
-  pub told : AddsMappingsAmong form columns.DestinationFirst texts found old new
+  pub reported : AddsMappingsAmong form columns.DestinationFirst texts found old new
   pub status : MatchBool refused ((by_names ≢ g) ⊎ HasUnwritten names found) ((by_names ≡ g) × IsEachWritten names found)

@@ -72,7 +72,7 @@ pub fn blame_of<'a>(
 
 // The part of a side that a fault of its name speaks of.
 fn blame_of_name<'a>(part: Part<'a>, fault: name::Error) -> Option<Blame<'a>> {
-    let (at, len) = place_of(part.bytes, fault)?;
+    let (at, len) = location_of(part.bytes, fault)?;
     Some(part.blame(at, len))
 }
 
@@ -143,7 +143,7 @@ fn has_fault(alloc: Global, side: &[u8]) -> Result<bool, AllocError> {
 }
 
 // Where in a side the bytes are that a fault speaks of, and how many they are.
-fn place_of(side: &[u8], fault: name::Error) -> Option<(usize, usize)> {
+fn location_of(side: &[u8], fault: name::Error) -> Option<(usize, usize)> {
     match fault {
         name::Error::Empty => None,
         name::Error::RepeatedDot => Some((side.find(b"..")?, 2)),

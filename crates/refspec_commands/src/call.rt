@@ -32,7 +32,7 @@ pub enum Form {
 
 /// What ends a record of the input.
 #[derive(Clone, Copy, Debug, PartialEq, Eq)]
-pub enum Ends {
+pub enum Terminator {
     /// A newline.
     Newline,
     /// A zero byte.
@@ -48,7 +48,7 @@ pub struct Call<'a> {
     pub command: Command,
     pub operation: Operation,
     pub form: Form,
-    pub ends: Ends,
+    pub ends: Terminator,
     /// Good specs are shown too.
     pub verbose: bool,
     /// Prefixes are shown as patterns.

@@ -4,68 +4,68 @@ ghost use Rattle.std.specs.Prelude.{◌≡◌, ◌∷◌, [], List, OnOk, Some, 
 ghost use Rattle.gix_refspec.specs.Specs.Meaning.{printed};
 ghost use Rattle.gix_refspec.specs.Views.Spec.{reading_of};
 ghost use Rattle.refspec_commands.specs.Canon.{AddsCanonical, AddsCanonicalName};
-ghost use Rattle.refspec_commands.specs.Messages.{TellsRefusals};
+ghost use Rattle.refspec_commands.specs.Messages.{ReportsRefusals};
 
 use crate::call::Form;
 use crate::checked::Checked;
-use crate::page::Page;
-use crate::specs::put_told;
+use crate::report::Report;
+use crate::specs::write_reported;
 use crate::texts::Text;
 use gix_refspec::RefSpecRef;
 use refspec_json::SpecKind;
 use std::alloc::{AllocError, Global};
 
 /// Tells the canonical text of each text that is a spec, and refuses the others.
-pub fn tell_canon(alloc: Global, all: &[Checked<'_>], page: &mut Page) -> Result<(), AllocError>
-    ensures told { OnOk result (AddsCanonical page.old.form all.now
-        page.old.results.items page.new.results.items) }
-    ensures refused { OnOk result (TellsRefusals page.old.form all.now
-        page.old.messages.items page.new.messages.items) }
+pub fn report_canon(alloc: Global, all: &[Checked<'_>], report: &mut Report) -> Result<(), AllocError>
+    ensures reported { OnOk result (AddsCanonical report.old.form all.now
+        report.old.results.items report.new.results.items) }
+    ensures refused { OnOk result (ReportsRefusals report.old.form all.now
+        report.old.messages.items report.new.messages.items) }
 {
     for checked in all {
-        tell_checked(alloc, checked, page)?;
+        report_checked(alloc, checked, report)?;
     }
     Ok(())
 }
 
 // Tells the canonical text of a text, or refuses it.
-fn tell_checked(alloc: Global, checked: &Checked<'_>, page: &mut Page) -> Result<(), AllocError>
-    ensures form { OnOk result (page.new.form ≡ page.old.form) }
-    ensures told { OnOk result (AddsCanonical page.old.form (checked.now ∷ [])
-        page.old.results.items page.new.results.items) }
-    ensures refused { OnOk result (TellsRefusals page.old.form (checked.now ∷ [])
-        page.old.messages.items page.new.messages.items) }
+fn report_checked(alloc: Global, checked: &Checked<'_>, report: &mut Report) -> Result<(), AllocError>
+    ensures form { OnOk result (report.new.form ≡ report.old.form) }
+    ensures reported { OnOk result (AddsCanonical report.old.form (checked.now ∷ [])
+        report.old.results.items report.new.results.items) }
+    ensures refused { OnOk result (ReportsRefusals report.old.form (checked.now ∷ [])
+        report.old.messages.items report.new.messages.items) }
 {
     match checked {
-        Checked::Bad { text, error } => page.tell_refusal(alloc, text, error),
-        Checked::Good { text, spec } => tell_canonical(alloc, text, spec, page),
+        Checked::Bad { text, error } => report.report_refusal(alloc, text, error),
+        Checked::Good { text, spec } => report_canonical(alloc, text, spec, report),
     }
 }
 
 // Tells the canonical text of a spec.
-fn tell_canonical(
+fn report_canonical(
     alloc: Global,
     text: &Text<'_>,
     spec: &RefSpecRef<'_>,
-    page: &mut Page,
+    report: &mut Report,
 ) -> Result<(), AllocError>
-    ensures form { OnOk result (page.new.form ≡ page.old.form) }
-    ensures untold { OnOk result (page.new.messages ≡ page.old.messages) }
-    ensures told { OnOk result ((name : List ℕ) × (printed (reading_of spec.now) ≡ Some name)
-        × AddsCanonicalName page.old.form text.now name
-        page.old.results.items page.new.results.items) }
+    ensures form { OnOk result (report.new.form ≡ report.old.form) }
+    ensures untold { OnOk result (report.new.messages ≡ report.old.messages) }
+    ensures reported { OnOk result ((name : List ℕ) × (printed (reading_of spec.now) ≡ Some name)
+        × AddsCanonicalName report.old.form text.now name
+        report.old.results.items report.new.results.items) }
 {
     let canonical = spec.to_bstring(alloc)?;
-    match page.form {
-        Form::Json => put_told(
+    match report.form {
+        Form::Json => write_reported(
             alloc,
             SpecKind::Canonical,
             text,
             &canonical,
             None,
             None,
-            &mut page.results,
+            &mut report.results,
         ),
-        Form::Lines | Form::Zeros => page.put_name(b"", canonical.as_bytes()),
+        Form::Lines | Form::Zeros => report.write_name(b"", canonical.as_bytes()),
     }
 }

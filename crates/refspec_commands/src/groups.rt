@@ -3,10 +3,10 @@
 ghost use Rattle.std.specs.Prelude.{◌≡◌, ◌≢◌, Some, map, MatchBool, OnOk};
 ghost use Rattle.bstr.specs.Owned.{bstring_bytes};
 ghost use Rattle.gix_refspec.specs.Views.Group.{mapped_of};
-ghost use Rattle.refspec_commands.specs.Groups.{AddsGrouped, AddsGroups, AddsShort, PutsHeading, PutsShort};
+ghost use Rattle.refspec_commands.specs.Groups.{AddsGrouped, AddsGroups, AddsShort, WritesHeading, WritesShort};
 
 use crate::mappings::{
-    Columns, NO_DESTINATION, destination_or, layout_of, put_source_cell, text_at,
+    Columns, NO_DESTINATION, destination_or, layout_of, write_source_cell, text_at,
 };
 use crate::table::Layout;
 use bstr::BString;
@@ -15,7 +15,7 @@ use std::alloc::{AllocError, Global};
 
 /// Puts mappings at the end, the source first, in order: those of a spec stand below its text. Where there is one spec
 /// alone, it isn't shown.
-pub fn put_groups(
+pub fn write_groups(
     alloc: Global,
     mappings: &[Mapping<'_, '_>],
     texts: &[BString],
@@ -27,13 +27,13 @@ pub fn put_groups(
     let layout = layout_of(alloc, mappings, texts, Columns::SourceFirst)?;
     out.reserve(layout.room(mappings.len()))?;
     match texts {
-        [_] => put_rows(alloc, &layout, mappings, out),
-        _ => put_grouped(alloc, &layout, mappings, texts, out),
+        [_] => write_rows(alloc, &layout, mappings, out),
+        _ => write_grouped(alloc, &layout, mappings, texts, out),
     }
 }
 
 // Puts mappings at the end, each in a line.
-fn put_rows(
+fn write_rows(
     alloc: Global,
     layout: &Layout,
     mappings: &[Mapping<'_, '_>],
@@ -42,13 +42,13 @@ fn put_rows(
     ensures { OnOk result (AddsShort (map mapped_of mappings.now) out.old.items out.new.items) }
 {
     for mapping in mappings {
-        put_short(alloc, layout, mapping, out)?;
+        write_short(alloc, layout, mapping, out)?;
     }
     Ok(())
 }
 
 // Puts mappings at the end, each in a line, and before the first one of each spec the line of its text.
-fn put_grouped(
+fn write_grouped(
     alloc: Global,
     layout: &Layout,
     mappings: &[Mapping<'_, '_>],
@@ -61,10 +61,10 @@ fn put_grouped(
     let mut before: Option<usize> = None;
     for mapping in mappings {
         if !has_spec(before, mapping.spec_index) {
-            put_heading(layout, text_at(texts, mapping.spec_index), out)?;
+            write_heading(layout, text_at(texts, mapping.spec_index), out)?;
         }
         out.extend_from_slice(b"  ")?;
-        put_short(alloc, layout, mapping, out)?;
+        write_short(alloc, layout, mapping, out)?;
         before = Some(mapping.spec_index);
     }
     Ok(())
@@ -81,23 +81,23 @@ fn has_spec(before: Option<usize>, spec: usize) -> bool
 }
 
 // Puts the line of a spec at the end.
-fn put_heading(layout: &Layout, text: &[u8], out: &mut Vec<u8>) -> Result<(), AllocError>
-    ensures { OnOk result (PutsHeading text.now out.old.items out.new.items) }
+fn write_heading(layout: &Layout, text: &[u8], out: &mut Vec<u8>) -> Result<(), AllocError>
+    ensures { OnOk result (WritesHeading text.now out.old.items out.new.items) }
 {
-    layout.put_field(out, text)?;
+    layout.write_field(out, text)?;
     Ok(out.push(b'\n')?)
 }
 
 // Puts the line of a mapping at the end, without its spec.
-fn put_short(
+fn write_short(
     alloc: Global,
     layout: &Layout,
     mapping: &Mapping<'_, '_>,
     out: &mut Vec<u8>,
 ) -> Result<(), AllocError>
-    ensures { OnOk result (PutsShort (mapped_of mapping.now) out.old.items out.new.items) }
+    ensures { OnOk result (WritesShort (mapped_of mapping.now) out.old.items out.new.items) }
 {
-    put_source_cell(alloc, layout, &mapping.lhs, layout.first, out)?;
-    layout.put_field(out, destination_or(&mapping.rhs, NO_DESTINATION))?;
+    write_source_cell(alloc, layout, &mapping.lhs, layout.first, out)?;
+    layout.write_field(out, destination_or(&mapping.rhs, NO_DESTINATION))?;
     Ok(out.push(b'\n')?)
 }

@@ -4,7 +4,7 @@ ghost use Rattle.std.specs.Prelude.{◌≡◌, IfOk, IfErr, map};
 ghost use Rattle.refspec_commands.specs.Fault.{IsReadOrMemory};
 ghost use Rattle.refspec_commands.specs.Input.{AreRecords, IsFirstRecord, end_byte, ReadsToEnd};
 
-use crate::call::Ends;
+use crate::call::Terminator;
 use crate::fault::Fault;
 use bstr::ByteSlice;
 use std::alloc::{AllocError, Global};
@@ -28,7 +28,7 @@ pub fn read_input<R: Read>(alloc: Global, reader: &mut R) -> Result<Vec<u8>, Fau
 
 /// The records of an input, in order. Each ends with the byte, which the last may lack.
 pub fn records(alloc: Global, input: &[u8], end: u8) -> Result<Vec<&[u8]>, AllocError>
-    ensures { IfOk result (λ cut. AreRecords end (map (λ r. r.now) cut.items) input.now) }
+    ensures { IfOk result (λ split. AreRecords end (map (λ r. r.now) split.items) input.now) }
 {
     let mut records = Vec::new(alloc);
     let mut rest = input;
@@ -46,19 +46,19 @@ pub fn first_record(text: &[u8], end: u8) -> (&[u8], &[u8])
 {
     match text.find_byte(end) {
         None => (text, b""),
-        Some(place) => {
-            let (record, back) = text.split_at(place);
+        Some(location) => {
+            let (record, back) = text.split_at(location);
             (record, &back[1..])
         }
     }
 }
 
 /// The byte that ends a record.
-pub fn end_of(ends: Ends) -> u8
+pub fn end_of(ends: Terminator) -> u8
     ensures { result ≡ end_byte ends }
 {
     match ends {
-        Ends::Newline => b'\n',
-        Ends::Zero | Ends::Settings => 0,
+        Terminator::Newline => b'\n',
+        Terminator::Zero | Terminator::Settings => 0,
     }
 }

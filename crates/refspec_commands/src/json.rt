@@ -2,15 +2,15 @@
 
 ghost use Rattle.std.specs.Prelude.{◌≡◌, option_map, string_bytes, IfOk, OnOk};
 ghost use Rattle.std.specs.Str.{IsUtf8};
-ghost use Rattle.refspec_commands.specs.Json.{begins_quoted, json_text, operation_name, reason_name, PutsRefused};
-ghost use Rattle.refspec_commands.specs.Messages.{IsPlace};
+ghost use Rattle.refspec_commands.specs.Json.{begins_quoted, json_text, operation_name, reason_name, WritesRefused};
+ghost use Rattle.refspec_commands.specs.Messages.{IsLocation};
 ghost use Rattle.refspec_commands.specs.Shown.{in_quotes};
 ghost use Rattle.refspec_commands.specs.declared.call.Form.TheVariants as form;
 
 use crate::blame::{advice_for, blame_of};
 use crate::call::Form;
-use crate::quote::put_in_quotes;
-use crate::texts::{Place, Text};
+use crate::quote::write_in_quotes;
+use crate::texts::{Location, Text};
 use gix_refspec::parsing::{Error, Operation};
 use std::alloc::{AllocError, Global};
 
@@ -54,7 +54,7 @@ fn quoted(alloc: Global, bytes: &[u8]) -> Result<String, AllocError>
     ensures { IfOk result (λ text. string_bytes text ≡ in_quotes bytes.now) }
 {
     let mut quoted = Vec::new(alloc);
-    put_in_quotes(&mut quoted, bytes)?;
+    write_in_quotes(&mut quoted, bytes)?;
     string_of(alloc, quoted.as_slice())
 }
 
@@ -70,11 +70,11 @@ fn string_of(alloc: Global, bytes: &[u8]) -> Result<String, AllocError>
 }
 
 /// A place as a string of JSON.
-pub fn shown_place(alloc: Global, place: &Place<'_>) -> Result<String, AllocError>
-    ensures { IfOk result (λ shown. IsPlace form.Json place.now (string_bytes shown)) }
+pub fn shown_location(alloc: Global, location: &Location<'_>) -> Result<String, AllocError>
+    ensures { IfOk result (λ shown. IsLocation form.Json location.now (string_bytes shown)) }
 {
     let mut shown = Vec::new(alloc);
-    place.put(&mut shown, Form::Json)?;
+    location.write(&mut shown, Form::Json)?;
     string_of(alloc, shown.as_slice())
 }
 
@@ -89,15 +89,15 @@ pub fn operation_of(operation: Operation) -> &'static str
 }
 
 /// Puts the object of a refusal at the end.
-pub fn put_refusal(
+pub fn write_refusal(
     alloc: Global,
     out: &mut Vec<u8>,
     text: &Text<'_>,
     error: &Error,
 ) -> Result<(), AllocError>
-    ensures { OnOk result (PutsRefused text.now error.now out.old.items out.new.items) }
+    ensures { OnOk result (WritesRefused text.now error.now out.old.items out.new.items) }
 {
-    let place = shown_place(alloc, &text.place)?;
+    let location = shown_location(alloc, &text.location)?;
     let shown = text_of(alloc, text.bytes)?;
     let blame = blame_of(alloc, text, error)?;
     let wrong = text_or_none(alloc, blame.map(|blame| blame.part))?;
@@ -106,7 +106,7 @@ pub fn put_refusal(
     let at = blame.map(|blame| blame.at);
     let advice = advice_for(alloc, text, error)?;
     let object = refspec_json::Refused {
-        place: place.as_str(),
+        location: location.as_str(),
         operation: operation_of(text.operation),
         text: shown.as_str(),
         reason: reason_of(error),
@@ -116,7 +116,7 @@ pub fn put_refusal(
         at,
         advice,
     };
-    object.put_line(alloc, out)
+    object.write_line(alloc, out)
 }
 
 /// The name of a reason.

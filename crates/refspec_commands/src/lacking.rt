@@ -2,13 +2,13 @@
 
 ghost use Rattle.std.specs.Prelude.{OnOk};
 ghost use Rattle.refspec_commands.specs.declared.call.Form.TheVariants as form;
-ghost use Rattle.refspec_commands.specs.Shown.{KeepsPage, KeepsResults};
+ghost use Rattle.refspec_commands.specs.Shown.{KeepsReport, KeepsResults};
 
 use crate::call::Form;
 use crate::json;
-use crate::page::{Page, put_advice};
+use crate::report::{Report, write_advice};
 use crate::settings::{Setting, lacks_value, operation_of};
-use crate::texts::Place;
+use crate::texts::Location;
 use gix_refspec::parsing::Operation;
 use std::alloc::{AllocError, Global};
 
@@ -16,26 +16,26 @@ use std::alloc::{AllocError, Global};
 pub fn refuse_lacking(
     alloc: Global,
     settings: &[Setting<'_>],
-    page: &mut Page,
+    report: &mut Report,
 ) -> Result<(), AllocError>
-    ensures { OnOk result (KeepsPage page.old page.new) }
+    ensures { OnOk result (KeepsReport report.old report.new) }
 {
     for setting in settings {
-        refuse_key(alloc, setting, page)?;
+        refuse_key(alloc, setting, report)?;
     }
     Ok(())
 }
 
 // Refuses the key of a setting if it is one of refspecs and has no value.
-fn refuse_key(alloc: Global, setting: &Setting<'_>, page: &mut Page) -> Result<(), AllocError>
-    ensures { OnOk result (KeepsPage page.old page.new) }
+fn refuse_key(alloc: Global, setting: &Setting<'_>, report: &mut Report) -> Result<(), AllocError>
+    ensures { OnOk result (KeepsReport report.old report.new) }
 {
     if !lacks_value(setting) {
         return Ok(());
     }
-    match page.form {
-        Form::Json => put_object(alloc, setting, &mut page.results),
-        Form::Lines | Form::Zeros => put_lines(setting, &mut page.messages),
+    match report.form {
+        Form::Json => write_object(alloc, setting, &mut report.results),
+        Form::Lines | Form::Zeros => write_lines(setting, &mut report.messages),
     }
 }
 
@@ -45,34 +45,34 @@ const ADVICE: &str =
     "Write `=` and a spec behind the key, or remove its line: Git uses no remote until then.";
 
 // Puts the lines of a key at the end.
-fn put_lines(setting: &Setting<'_>, out: &mut Vec<u8>) -> Result<(), AllocError> {
-    place_of(setting).put(out, Form::Lines)?;
+fn write_lines(setting: &Setting<'_>, out: &mut Vec<u8>) -> Result<(), AllocError> {
+    location_of(setting).write(out, Form::Lines)?;
     out.extend_from_slice(b": ")?;
     out.extend_from_slice(MESSAGE.as_bytes())?;
     out.push(b'\n')?;
-    put_advice(out, ADVICE)
+    write_advice(out, ADVICE)
 }
 
 // Puts the object of a key at the end.
-fn put_object(alloc: Global, setting: &Setting<'_>, out: &mut Vec<u8>) -> Result<(), AllocError>
+fn write_object(alloc: Global, setting: &Setting<'_>, out: &mut Vec<u8>) -> Result<(), AllocError>
     ensures { OnOk result (KeepsResults form.Json out.old.items out.new.items) }
 {
-    let place = json::shown_place(alloc, &place_of(setting))?;
+    let location = json::shown_location(alloc, &location_of(setting))?;
     let operation = operation_of(setting.key).unwrap_or(Operation::Fetch);
-    put_missing(alloc, place.as_str(), json::operation_of(operation), out)
+    write_missing(alloc, location.as_str(), json::operation_of(operation), out)
 }
 
 // Puts the object of a key at a place at the end, for an operation with a name.
-fn put_missing<'a>(
+fn write_missing<'a>(
     alloc: Global,
-    place: &'a str,
+    location: &'a str,
     operation: &'a str,
     out: &mut Vec<u8>,
 ) -> Result<(), AllocError>
     ensures { OnOk result (KeepsResults form.Json out.old.items out.new.items) }
 {
     let object = refspec_json::Refused {
-        place,
+        location,
         operation,
         text: "",
         reason: "MissingValue",
@@ -82,12 +82,12 @@ fn put_missing<'a>(
         at: None,
         advice: ADVICE,
     };
-    object.put_line(alloc, out)
+    object.write_line(alloc, out)
 }
 
 // Where a setting is.
-fn place_of<'a>(setting: &Setting<'a>) -> Place<'a> {
-    Place::Setting {
+fn location_of<'a>(setting: &Setting<'a>) -> Location<'a> {
+    Location::Setting {
         origin: setting.origin,
         key: setting.key,
     }

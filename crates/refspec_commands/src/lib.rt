@@ -12,7 +12,7 @@ pub mod input;
 pub mod json;
 mod lacking;
 mod mappings;
-mod page;
+mod report;
 pub mod plan;
 mod planning;
 mod prefixes;

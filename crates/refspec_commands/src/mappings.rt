@@ -6,12 +6,12 @@ ghost use Rattle.bstr.specs.Owned.{bstring_bytes};
 ghost use Rattle.gix_refspec.specs.Views.Group.{mapped_of, name_bytes, start_of};
 ghost use Rattle.gix_refspec.specs.Texts.ObjectId.{id_bytes, lower_of};
 ghost use Rattle.gix_refspec.specs.Views.Spec.{reading_of};
-ghost use Rattle.refspec_commands.specs.Rows.{AddsLines, AddsMappings, AreSpecTexts, PutsCell, PutsCells, PutsLine, fields, first_side, mapped_object, mapped_row, object_of, row_of, second_side, source_text};
+ghost use Rattle.refspec_commands.specs.Rows.{AddsLines, AddsMappings, AreSpecTexts, WritesCell, WritesCells, WritesLine, fields, first_side, mapped_object, mapped_row, object_of, row_of, second_side, source_text};
 ghost use Rattle.refspec_commands.specs.Shown.{zero_ended};
 
 use crate::call::Form;
 use crate::json;
-use crate::page::Page;
+use crate::report::Report;
 use crate::table::Layout;
 use bstr::BString;
 use gix_refspec::RefSpecRef;
@@ -43,37 +43,37 @@ pub fn canonical_texts(alloc: Global, specs: &[RefSpecRef<'_>]) -> Result<Vec<BS
 }
 
 /// Tells mappings, in order: both sides of each, and the spec that makes it, whose texts are given.
-pub fn tell_mappings(
+pub fn report_mappings(
     alloc: Global,
     mappings: &[Mapping<'_, '_>],
     texts: &[BString],
     columns: Columns,
-    page: &mut Page,
+    report: &mut Report,
 ) -> Result<(), AllocError>
-    ensures form { OnOk result (page.new.form ≡ page.old.form) }
-    ensures told { OnOk result (AddsMappings page.old.form columns
+    ensures form { OnOk result (report.new.form ≡ report.old.form) }
+    ensures reported { OnOk result (AddsMappings report.old.form columns
         (map bstring_bytes texts.now) (map mapped_of mappings.now)
-        page.old.results.items page.new.results.items) }
+        report.old.results.items report.new.results.items) }
 {
-    match page.form {
-        Form::Lines => put_table(alloc, mappings, texts, columns, &mut page.results),
-        Form::Zeros => put_records(mappings, texts, columns, &mut page.results),
-        Form::Json => put_objects(alloc, mappings, texts, &mut page.results),
+    match report.form {
+        Form::Lines => write_table(alloc, mappings, texts, columns, &mut report.results),
+        Form::Zeros => write_records(mappings, texts, columns, &mut report.results),
+        Form::Json => write_objects(alloc, mappings, texts, &mut report.results),
     }
 }
 
 /// The text at a place, or none.
-pub fn text_at(texts: &[BString], place: usize) -> &[u8]
-    ensures { result.now ≡ unwrap_or (slice_get (map bstring_bytes texts.now) place) [] }
+pub fn text_at(texts: &[BString], location: usize) -> &[u8]
+    ensures { result.now ≡ unwrap_or (slice_get (map bstring_bytes texts.now) location) [] }
 {
-    match texts.get(place) {
+    match texts.get(location) {
         Some(text) => text.as_bytes(),
         None => b"",
     }
 }
 
 // Puts mappings at the end, as an aligned table.
-fn put_table(
+fn write_table(
     alloc: Global,
     mappings: &[Mapping<'_, '_>],
     texts: &[BString],
@@ -88,7 +88,7 @@ fn put_table(
     out.reserve(layout.room(mappings.len()))?;
     for mapping in mappings {
         let text = text_at(texts, mapping.spec_index);
-        put_row(alloc, &layout, mapping, text, columns, out)?;
+        write_row(alloc, &layout, mapping, text, columns, out)?;
     }
     Ok(())
 }
@@ -139,7 +139,7 @@ pub fn destination_of<'a>(destination: &'a Option<NameRef<'_>>) -> Option<&'a [u
 }
 
 // Puts the row of a mapping at the end.
-fn put_row(
+fn write_row(
     alloc: Global,
     layout: &Layout,
     mapping: &Mapping<'_, '_>,
@@ -147,62 +147,62 @@ fn put_row(
     columns: Columns,
     out: &mut Vec<u8>,
 ) -> Result<(), AllocError>
-    ensures { OnOk result (PutsLine (mapped_row (codes "FETCH_HEAD") columns text.now (mapped_of mapping.now))
+    ensures { OnOk result (WritesLine (mapped_row (codes "FETCH_HEAD") columns text.now (mapped_of mapping.now))
         out.old.items out.new.items) }
 {
-    put_cells(alloc, layout, mapping, columns, out)?;
-    layout.put_field(out, text)?;
+    write_cells(alloc, layout, mapping, columns, out)?;
+    layout.write_field(out, text)?;
     out.push(b'\n')?;
     Ok(())
 }
 
 // Puts both sides of a mapping at the end, each as a cell.
-fn put_cells(
+fn write_cells(
     alloc: Global,
     layout: &Layout,
     mapping: &Mapping<'_, '_>,
     columns: Columns,
     out: &mut Vec<u8>,
 ) -> Result<(), AllocError>
-    ensures { OnOk result (PutsCells (first_side (codes "FETCH_HEAD") columns (mapped_of mapping.now))
+    ensures { OnOk result (WritesCells (first_side (codes "FETCH_HEAD") columns (mapped_of mapping.now))
         (second_side (codes "FETCH_HEAD") columns (mapped_of mapping.now))
         out.old.items out.new.items) }
 {
     let destination = destination_or(&mapping.rhs, NO_DESTINATION);
     match columns {
         Columns::SourceFirst => {
-            put_source_cell(alloc, layout, &mapping.lhs, layout.first, out)?;
-            layout.put_cell(alloc, out, destination, layout.second)
+            write_source_cell(alloc, layout, &mapping.lhs, layout.first, out)?;
+            layout.write_cell(alloc, out, destination, layout.second)
         }
         Columns::DestinationFirst => {
-            layout.put_cell(alloc, out, destination, layout.first)?;
-            put_source_cell(alloc, layout, &mapping.lhs, layout.second, out)
+            layout.write_cell(alloc, out, destination, layout.first)?;
+            write_source_cell(alloc, layout, &mapping.lhs, layout.second, out)
         }
     }
 }
 
 /// Puts a source at the end, as a cell.
-pub fn put_source_cell(
+pub fn write_source_cell(
     alloc: Global,
     layout: &Layout,
     source: &SourceRef<'_>,
     width: usize,
     out: &mut Vec<u8>,
 ) -> Result<(), AllocError>
-    ensures { OnOk result (PutsCell (source_text (start_of source.now)) out.old.items out.new.items) }
+    ensures { OnOk result (WritesCell (source_text (start_of source.now)) out.old.items out.new.items) }
 {
     match source {
-        SourceRef::FullName(name) => layout.put_cell(alloc, out, name.as_bstr().as_bytes(), width),
+        SourceRef::FullName(name) => layout.write_cell(alloc, out, name.as_bstr().as_bytes(), width),
         SourceRef::ObjectId(id) => {
             let mut digits = Vec::new(alloc);
-            put_id(&mut digits, id)?;
-            layout.put_cell(alloc, out, digits.as_slice(), width)
+            write_id(&mut digits, id)?;
+            layout.write_cell(alloc, out, digits.as_slice(), width)
         }
     }
 }
 
 // Puts an id at the end, in lower case.
-fn put_id(out: &mut Vec<u8>, id: &ObjectId) -> Result<(), AllocError>
+fn write_id(out: &mut Vec<u8>, id: &ObjectId) -> Result<(), AllocError>
     ensures { OnOk result (out.new.items ≡ out.old.items ++ lower_of (id_bytes id.now)) }
 {
     match write!(out, "{id}") {
@@ -222,14 +222,14 @@ pub fn source_of<'a>(
         SourceRef::FullName(name) => Ok(name.as_bstr().as_bytes()),
         SourceRef::ObjectId(id) => {
             buffer.clear();
-            put_id(buffer, id)?;
+            write_id(buffer, id)?;
             Ok(buffer.as_slice())
         }
     }
 }
 
 // Puts the fields of mappings at the end. One without a destination has an empty field.
-fn put_records(
+fn write_records(
     mappings: &[Mapping<'_, '_>],
     texts: &[BString],
     columns: Columns,
@@ -239,13 +239,13 @@ fn put_records(
         (map (λ m. row_of [] columns (map bstring_bytes texts.now) (mapped_of m)) mappings.now)) }
 {
     for mapping in mappings {
-        put_fields(mapping, text_at(texts, mapping.spec_index), columns, out)?;
+        write_fields(mapping, text_at(texts, mapping.spec_index), columns, out)?;
     }
     Ok(())
 }
 
 // Puts the fields of a mapping at the end.
-fn put_fields(
+fn write_fields(
     mapping: &Mapping<'_, '_>,
     text: &[u8],
     columns: Columns,
@@ -254,12 +254,12 @@ fn put_fields(
     ensures { OnOk result (out.new.items ≡
         out.old.items ++ fields (mapped_row [] columns text.now (mapped_of mapping.now))) }
 {
-    put_sides(mapping, columns, out)?;
-    put_field(out, text)
+    write_sides(mapping, columns, out)?;
+    write_field(out, text)
 }
 
 // Puts both sides of a mapping at the end, each as a field.
-fn put_sides(
+fn write_sides(
     mapping: &Mapping<'_, '_>,
     columns: Columns,
     out: &mut Vec<u8>,
@@ -271,32 +271,32 @@ fn put_sides(
     let destination = destination_or(&mapping.rhs, b"");
     match columns {
         Columns::SourceFirst => {
-            put_source_field(out, &mapping.lhs)?;
-            put_field(out, destination)
+            write_source_field(out, &mapping.lhs)?;
+            write_field(out, destination)
         }
         Columns::DestinationFirst => {
-            put_field(out, destination)?;
-            put_source_field(out, &mapping.lhs)
+            write_field(out, destination)?;
+            write_source_field(out, &mapping.lhs)
         }
     }
 }
 
 // Puts a source and its end at the end.
-fn put_source_field(out: &mut Vec<u8>, source: &SourceRef<'_>) -> Result<(), AllocError>
+fn write_source_field(out: &mut Vec<u8>, source: &SourceRef<'_>) -> Result<(), AllocError>
     ensures { OnOk result (out.new.items ≡
         out.old.items ++ zero_ended (source_text (start_of source.now))) }
 {
     match source {
-        SourceRef::FullName(name) => put_field(out, name.as_bstr().as_bytes()),
+        SourceRef::FullName(name) => write_field(out, name.as_bstr().as_bytes()),
         SourceRef::ObjectId(id) => {
-            put_id(out, id)?;
-            put_field(out, b"")
+            write_id(out, id)?;
+            write_field(out, b"")
         }
     }
 }
 
 // Puts a field and its end at the end.
-fn put_field(out: &mut Vec<u8>, field: &[u8]) -> Result<(), AllocError>
+fn write_field(out: &mut Vec<u8>, field: &[u8]) -> Result<(), AllocError>
     ensures { OnOk result (out.new.items ≡ out.old.items ++ zero_ended field.now) }
 {
     out.extend_from_slice(field)?;
@@ -305,7 +305,7 @@ fn put_field(out: &mut Vec<u8>, field: &[u8]) -> Result<(), AllocError>
 }
 
 // Puts mappings at the end, each as an object.
-fn put_objects(
+fn write_objects(
     alloc: Global,
     mappings: &[Mapping<'_, '_>],
     texts: &[BString],
@@ -315,13 +315,13 @@ fn put_objects(
         ++ flat_map (λ m. object_of (map bstring_bytes texts.now) (mapped_of m)) mappings.now) }
 {
     for mapping in mappings {
-        put_object(alloc, mapping, text_at(texts, mapping.spec_index), out)?;
+        write_object(alloc, mapping, text_at(texts, mapping.spec_index), out)?;
     }
     Ok(())
 }
 
 // Puts the object of a mapping at the end.
-fn put_object(
+fn write_object(
     alloc: Global,
     mapping: &Mapping<'_, '_>,
     text: &[u8],
@@ -340,5 +340,5 @@ fn put_object(
         destination,
         spec: spec.as_str(),
     };
-    object.put_line(alloc, out)
+    object.write_line(alloc, out)
 }

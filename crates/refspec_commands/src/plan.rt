@@ -6,7 +6,7 @@ ghost use Rattle.gix_refspec.specs.Matching.RefNames.{left_out_of};
 ghost use Rattle.gix_refspec.specs.Views.Spec.{reading_of};
 ghost use Rattle.refspec_commands.specs.Plan.{IsPlanByNames};
 
-use gix_refspec::match_group::names::BadMapping;
+use gix_refspec::match_group::ref_names::InvalidMapping;
 use gix_refspec::match_group::validate::{Error, Refusal};
 use gix_refspec::match_group::{Item, match_lhs};
 use gix_refspec::{MatchGroup, RefSpecRef, laws};
@@ -17,7 +17,7 @@ use std::alloc::{AllocError, Global};
 pub struct Plan<'spec, 'item> {
     pub written: Written<'spec, 'item>,
     /// The mappings with a side that is no name of a ref, in order.
-    pub left_out: Vec<BadMapping<'item, 'spec>>,
+    pub left_out: Vec<InvalidMapping<'item, 'spec>>,
 }
 
 /// What becomes of a plan that was told. To free it name by name takes long, and a process that ends soon
@@ -55,7 +55,7 @@ pub fn plan_of<'spec, 'item>(
     let Ok(outcome) = group.match_lhs(alloc, items) else {
         return Err(AllocError);
     };
-    let Ok((named, left_out)) = outcome.without_bad_names(alloc) else {
+    let Ok((named, left_out)) = outcome.without_invalid_names(alloc) else {
         return Err(AllocError);
     };
     match named.validated(alloc) {

@@ -7,28 +7,28 @@ ghost use Rattle.gix_refspec.specs.Views.Group.{mapped_of, start_of};
 ghost use Rattle.gix_refspec.specs.Views.Issue.{conflict_of};
 ghost use Rattle.gix_refspec.specs.Views.Spec.{reading_of};
 ghost use Rattle.refspec_json.specs.Views.{claim_texts};
-ghost use Rattle.refspec_commands.specs.Conflicts.{AddsConflicts, AddsEachConflict, IsConflict, PutsClaim, PutsClaims, PutsConflict, claim_of, claims_from, conflict_line, few, more_line, told_count};
+ghost use Rattle.refspec_commands.specs.Conflicts.{AddsConflicts, AddsEachConflict, IsConflict, WritesClaim, WritesClaims, WritesConflict, claim_of, claims_from, conflict_line, few, more_line, reported_count};
 ghost use Rattle.refspec_commands.specs.Input.{end_byte};
 ghost use Rattle.refspec_commands.specs.Refs.{bad_bytes};
 ghost use Rattle.refspec_commands.specs.Json.{AddsObjects};
-ghost use Rattle.refspec_commands.specs.Plan.{AddsPlan, AddsPlanned, AddsWritten, IsBadLine, IsLeftOutLine, IsLeftOutOf, IsWhole, LeavesOut, PutsMalformed, side_name};
+ghost use Rattle.refspec_commands.specs.Plan.{AddsPlan, AddsPlanned, AddsWritten, IsBadLine, IsLeftOutLine, IsLeftOutOf, IsWhole, LeavesOut, WritesMalformed, side_name};
 ghost use Rattle.refspec_commands.specs.Rows.{source_text};
 
 use crate::call::{Call, Form, Task};
-use crate::groups::put_groups;
+use crate::groups::write_groups;
 use crate::input::{end_of, first_record};
 use crate::json;
 use crate::mappings::{
-    Columns, canonical_texts, destination_of, source_of, tell_mappings, text_at,
+    Columns, canonical_texts, destination_of, source_of, report_mappings, text_at,
 };
-use crate::page::{Page, put_advice};
+use crate::report::{Report, write_advice};
 use crate::plan::{Discard, Plan, Written, plan_of};
-use crate::quote::put_in_message;
-use crate::refs::{BadRecord, Told};
+use crate::quote::write_in_message;
+use crate::refs::{BadRecord, RefList};
 use crate::summary::Summary;
-use crate::texts::{Place, put_number};
+use crate::texts::{Location, write_number};
 use bstr::{BString, ByteSlice};
-use gix_refspec::match_group::names::{BadMapping, BadSide};
+use gix_refspec::match_group::ref_names::{InvalidMapping, InvalidSide};
 use gix_refspec::match_group::validate::Issue;
 use gix_refspec::match_group::{Mapping, SourceRef};
 use gix_refspec::oid::{Kind, ObjectId};
@@ -38,35 +38,35 @@ use std::alloc::{AllocError, Global};
 
 /// Tells what a fetch with these specs writes of the refs of an input. Returns whether something is left out or
 /// conflicts, or a record is no ref.
-pub fn tell_plan<D: Discard>(
+pub fn report_plan<D: Discard>(
     alloc: Global,
     task: &Task<'_>,
     specs: Vec<RefSpecRef<'_>>,
-    page: &mut Page,
+    report: &mut Report,
     done: &mut D,
 ) -> Result<bool, AllocError>
     ensures { IfOk result (λ refused. AddsPlan task.now.call.now.long task.now.call.now.all
-        page.old.form (end_byte task.now.call.now.ends)
-        task.now.input.now page.new.messages.items refused (map reading_of specs.entry.items)
-        page.old.results.items page.new.results.items) }
+        report.old.form (end_byte task.now.call.now.ends)
+        task.now.input.now report.new.messages.items refused (map reading_of specs.entry.items)
+        report.old.results.items report.new.results.items) }
 {
     let call = task.call;
     let id = ObjectId::null(Kind::shortest());
-    let told = Told::read(alloc, task.input, end_of(call.ends), &id)?;
-    let has_bad = tell_bad_records(alloc, call.input, told.bad.as_slice(), page)?;
+    let reported = RefList::read(alloc, task.input, end_of(call.ends), &id)?;
+    let has_bad = report_bad_records(alloc, call.input, reported.bad.as_slice(), report)?;
     let texts = canonical_texts(alloc, specs.as_slice())?;
-    let summary = Summary::of(alloc, call, specs.as_slice(), told.items.as_slice())?;
-    let plan = plan_of(alloc, specs, told.items.as_slice())?;
-    drop(told);
-    tell_left_out(
+    let summary = Summary::of(alloc, call, specs.as_slice(), reported.items.as_slice())?;
+    let plan = plan_of(alloc, specs, reported.items.as_slice())?;
+    drop(reported);
+    report_left_out(
         alloc,
         plan.left_out.as_slice(),
         texts.as_slice(),
         call.all,
-        page,
+        report,
     )?;
-    tell_written(alloc, call, &plan.written, texts.as_slice(), page)?;
-    summary.put(alloc, &plan, &mut page.messages)?;
+    report_written(alloc, call, &plan.written, texts.as_slice(), report)?;
+    summary.write(alloc, &plan, &mut report.messages)?;
     let refused = is_refused(has_bad, &plan);
     done.discard(plan);
     Ok(refused)
@@ -97,65 +97,65 @@ fn leaves_out(plan: &Plan<'_, '_>) -> bool
 }
 
 // Tells the mappings that are written, or the conflicts for which none is.
-fn tell_written(
+fn report_written(
     alloc: Global,
     call: &Call<'_>,
     written: &Written<'_, '_>,
     texts: &[BString],
-    page: &mut Page,
+    report: &mut Report,
 ) -> Result<(), AllocError>
-    ensures { OnOk result (AddsWritten call.now.long call.now.all page.old.form
+    ensures { OnOk result (AddsWritten call.now.long call.now.all report.old.form
         (map bstring_bytes texts.now) written.now
-        page.old.messages.items page.new.messages.items
-        page.old.results.items page.new.results.items) }
+        report.old.messages.items report.new.messages.items
+        report.old.results.items report.new.results.items) }
 {
     match written {
         Written::Mappings(outcome) => {
-            tell_planned(alloc, outcome.mappings.as_slice(), texts, call.long, page)
+            report_planned(alloc, outcome.mappings.as_slice(), texts, call.long, report)
         }
-        Written::Nothing(error) => tell_conflicts(alloc, error.issues.as_slice(), call.all, page),
+        Written::Nothing(error) => report_conflicts(alloc, error.issues.as_slice(), call.all, report),
     }
 }
 
 // Tells the mappings of a plan, in order: in lines below their specs, unless each is to be shown with its own.
-fn tell_planned(
+fn report_planned(
     alloc: Global,
     mappings: &[Mapping<'_, '_>],
     texts: &[BString],
     long: bool,
-    page: &mut Page,
+    report: &mut Report,
 ) -> Result<(), AllocError>
-    ensures { OnOk result (AddsPlanned long page.old.form (map bstring_bytes texts.now)
-        (map mapped_of mappings.now) page.old.results.items page.new.results.items) }
+    ensures { OnOk result (AddsPlanned long report.old.form (map bstring_bytes texts.now)
+        (map mapped_of mappings.now) report.old.results.items report.new.results.items) }
 {
-    match (page.form, long) {
-        (Form::Lines, false) => put_groups(alloc, mappings, texts, &mut page.results),
-        _ => tell_mappings(alloc, mappings, texts, Columns::SourceFirst, page),
+    match (report.form, long) {
+        (Form::Lines, false) => write_groups(alloc, mappings, texts, &mut report.results),
+        _ => report_mappings(alloc, mappings, texts, Columns::SourceFirst, report),
     }
 }
 
 // Tells of records that tell of no ref. Returns whether there are some.
-fn tell_bad_records(
+fn report_bad_records(
     alloc: Global,
     input: &str,
     bad: &[BadRecord<'_>],
-    page: &mut Page,
+    report: &mut Report,
 ) -> Result<bool, AllocError>
-    ensures form { OnOk result (page.new.form ≡ page.old.form) }
-    ensures told { OnOk result (AddsObjects page.old.form (IsBadLine input.now) bad.now
-        page.old.results.items page.new.results.items) }
+    ensures form { OnOk result (report.new.form ≡ report.old.form) }
+    ensures reported { OnOk result (AddsObjects report.old.form (IsBadLine input.now) bad.now
+        report.old.results.items report.new.results.items) }
     ensures some { IfOk result (λ some. MatchBool some
         (map bad_bytes bad.now ≢ []) (map bad_bytes bad.now ≡ [])) }
 {
     for record in bad {
-        tell_bad_record(alloc, input, record, page)?;
+        report_bad_record(alloc, input, record, report)?;
     }
     Ok(!bad.is_empty())
 }
 
 // How many of some conflicts, or mappings that are left out, are told: in JSON each is.
-fn told_count(form: Form, all: bool, count: usize) -> usize
-    ensures told { result ≡ told_count form all count }
+fn reported_count(form: Form, all: bool, count: usize) -> usize
+    ensures reported { result ≡ reported_count form all count }
     ensures fits { result ≤ count }
 {
     match form {
@@ -166,7 +166,7 @@ fn told_count(form: Form, all: bool, count: usize) -> usize
 
 // How many of some are told: 20 at the most, unless all are to be.
 fn few(all: bool, count: usize) -> usize
-    ensures told { result ≡ few all count }
+    ensures reported { result ≡ few all count }
     ensures fits { result ≤ count }
 {
     if all {
@@ -176,101 +176,101 @@ fn few(all: bool, count: usize) -> usize
 }
 
 // Puts the line at the end that says how many more there are, if there are some.
-fn put_more(what: &str, count: usize, out: &mut Vec<u8>) -> Result<(), AllocError>
+fn write_more(what: &str, count: usize, out: &mut Vec<u8>) -> Result<(), AllocError>
     ensures { OnOk result (out.new.items ≡ out.old.items ++ more_line what.now count) }
 {
     if count == 0 {
         return Ok(());
     }
     out.extend_from_slice(what.as_bytes())?;
-    put_number(out, count)?;
+    write_number(out, count)?;
     out.extend_from_slice(b" more; `--all` lists them\n")?;
     Ok(())
 }
 
 // Tells of mappings that are left out; in lines of the first ones, unless all are to be told.
-fn tell_left_out(
+fn report_left_out(
     alloc: Global,
-    left_out: &[BadMapping<'_, '_>],
+    left_out: &[InvalidMapping<'_, '_>],
     texts: &[BString],
     all: bool,
-    page: &mut Page,
+    report: &mut Report,
 ) -> Result<(), AllocError>
-    ensures form { OnOk result (page.new.form ≡ page.old.form) }
-    ensures told { OnOk result (AddsObjects page.old.form (IsLeftOutOf (map bstring_bytes texts.now))
-        (map left_out_of left_out.now) page.old.results.items page.new.results.items) }
+    ensures form { OnOk result (report.new.form ≡ report.old.form) }
+    ensures reported { OnOk result (AddsObjects report.old.form (IsLeftOutOf (map bstring_bytes texts.now))
+        (map left_out_of left_out.now) report.old.results.items report.new.results.items) }
 {
-    let (told, more) = left_out.split_at(told_count(page.form, all, left_out.len()));
-    tell_all_left_out(alloc, told, texts, page)?;
-    put_more("left out: ", more.len(), &mut page.messages)
+    let (reported, more) = left_out.split_at(reported_count(report.form, all, left_out.len()));
+    report_all_left_out(alloc, reported, texts, report)?;
+    write_more("left out: ", more.len(), &mut report.messages)
 }
 
 // Tells of mappings that are left out.
-fn tell_all_left_out(
+fn report_all_left_out(
     alloc: Global,
-    left_out: &[BadMapping<'_, '_>],
+    left_out: &[InvalidMapping<'_, '_>],
     texts: &[BString],
-    page: &mut Page,
+    report: &mut Report,
 ) -> Result<(), AllocError>
-    ensures form { OnOk result (page.new.form ≡ page.old.form) }
-    ensures told { OnOk result (AddsObjects page.old.form (IsLeftOutOf (map bstring_bytes texts.now))
-        (map left_out_of left_out.now) page.old.results.items page.new.results.items) }
+    ensures form { OnOk result (report.new.form ≡ report.old.form) }
+    ensures reported { OnOk result (AddsObjects report.old.form (IsLeftOutOf (map bstring_bytes texts.now))
+        (map left_out_of left_out.now) report.old.results.items report.new.results.items) }
 {
     for bad in left_out {
-        tell_one_left_out(alloc, bad, texts, page)?;
+        report_one_left_out(alloc, bad, texts, report)?;
     }
     Ok(())
 }
 
 // Tells of conflicts; in lines of the first ones, unless all are to be told.
-fn tell_conflicts(
+fn report_conflicts(
     alloc: Global,
     issues: &[Issue],
     all: bool,
-    page: &mut Page,
+    report: &mut Report,
 ) -> Result<(), AllocError>
-    ensures objects { OnOk result (AddsObjects page.old.form IsConflict (map conflict_of issues.now)
-        page.old.results.items page.new.results.items) }
-    ensures told { OnOk result (AddsConflicts all page.old.form (map conflict_of issues.now)
-        page.old.messages.items page.new.messages.items) }
+    ensures objects { OnOk result (AddsObjects report.old.form IsConflict (map conflict_of issues.now)
+        report.old.results.items report.new.results.items) }
+    ensures reported { OnOk result (AddsConflicts all report.old.form (map conflict_of issues.now)
+        report.old.messages.items report.new.messages.items) }
 {
-    let (told, more) = issues.split_at(told_count(page.form, all, issues.len()));
-    tell_all_conflicts(alloc, told, page)?;
-    put_more("conflict: ", more.len(), &mut page.messages)
+    let (reported, more) = issues.split_at(reported_count(report.form, all, issues.len()));
+    report_all_conflicts(alloc, reported, report)?;
+    write_more("conflict: ", more.len(), &mut report.messages)
 }
 
 // Tells of conflicts, in order.
-fn tell_all_conflicts(alloc: Global, issues: &[Issue], page: &mut Page) -> Result<(), AllocError>
-    ensures form { OnOk result (page.new.form ≡ page.old.form) }
-    ensures objects { OnOk result (AddsObjects page.old.form IsConflict (map conflict_of issues.now)
-        page.old.results.items page.new.results.items) }
-    ensures told { OnOk result (AddsEachConflict page.old.form (map conflict_of issues.now)
-        page.old.messages.items page.new.messages.items) }
+fn report_all_conflicts(alloc: Global, issues: &[Issue], report: &mut Report) -> Result<(), AllocError>
+    ensures form { OnOk result (report.new.form ≡ report.old.form) }
+    ensures objects { OnOk result (AddsObjects report.old.form IsConflict (map conflict_of issues.now)
+        report.old.results.items report.new.results.items) }
+    ensures reported { OnOk result (AddsEachConflict report.old.form (map conflict_of issues.now)
+        report.old.messages.items report.new.messages.items) }
 {
     for issue in issues {
-        tell_conflict(alloc, issue, page)?;
+        report_conflict(alloc, issue, report)?;
     }
     Ok(())
 }
 
 // Tells of a record that tells of no ref.
-fn tell_bad_record(
+fn report_bad_record(
     alloc: Global,
     input: &str,
     bad: &BadRecord<'_>,
-    page: &mut Page,
+    report: &mut Report,
 ) -> Result<(), AllocError>
-    ensures form { OnOk result (page.new.form ≡ page.old.form) }
-    ensures told { OnOk result (AddsObjects page.old.form (IsBadLine input.now) (bad.now ∷ [])
-        page.old.results.items page.new.results.items) }
+    ensures form { OnOk result (report.new.form ≡ report.old.form) }
+    ensures reported { OnOk result (AddsObjects report.old.form (IsBadLine input.now) (bad.now ∷ [])
+        report.old.results.items report.new.results.items) }
 {
-    let place = Place::Record {
+    let location = Location::Record {
         input,
         number: bad.number,
     };
-    match page.form {
-        Form::Json => put_malformed(alloc, &place, bad, &mut page.results),
-        Form::Lines | Form::Zeros => put_bad_record(alloc, &place, bad, &mut page.messages),
+    match report.form {
+        Form::Json => write_malformed(alloc, &location, bad, &mut report.results),
+        Form::Lines | Form::Zeros => write_bad_record(alloc, &location, bad, &mut report.messages),
     }
 }
 
@@ -316,88 +316,88 @@ fn has_type(line: &[u8]) -> bool {
 }
 
 // Puts the object of such a record at the end.
-fn put_malformed(
+fn write_malformed(
     alloc: Global,
-    place: &Place<'_>,
+    location: &Location<'_>,
     bad: &BadRecord<'_>,
     out: &mut Vec<u8>,
 ) -> Result<(), AllocError>
-    ensures { OnOk result (PutsMalformed place.now (bad_bytes bad.now) out.old.items out.new.items) }
+    ensures { OnOk result (WritesMalformed location.now (bad_bytes bad.now) out.old.items out.new.items) }
 {
     let (message, advice) = why_malformed(bad);
-    let place = json::shown_place(alloc, place)?;
+    let location = json::shown_location(alloc, location)?;
     let text = json::text_of(alloc, bad.bytes)?;
     let object = refspec_json::Malformed {
-        place: place.as_str(),
+        location: location.as_str(),
         text: text.as_str(),
         message,
         advice,
     };
-    object.put_line(alloc, out)
+    object.write_line(alloc, out)
 }
 
 // Puts the lines of such a record at the end.
-fn put_bad_record(
+fn write_bad_record(
     alloc: Global,
-    place: &Place<'_>,
+    location: &Location<'_>,
     bad: &BadRecord<'_>,
     out: &mut Vec<u8>,
 ) -> Result<(), AllocError> {
     let (message, advice) = why_malformed(bad);
     // Of many lines the first is enough to see what they are.
     let (line, _) = first_record(bad.bytes, b'\n');
-    place.put(out, Form::Lines)?;
+    location.write(out, Form::Lines)?;
     out.extend_from_slice(b": ")?;
-    put_in_message(out, line)?;
+    write_in_message(out, line)?;
     out.extend_from_slice(b": ")?;
     out.extend_from_slice(message.as_bytes())?;
     out.push(b'\n')?;
-    put_advice(out, advice)
+    write_advice(out, advice)
 }
 
 // Tells of a mapping that is left out, as a side of it is no name of a ref.
-fn tell_one_left_out(
+fn report_one_left_out(
     alloc: Global,
-    bad: &BadMapping<'_, '_>,
+    bad: &InvalidMapping<'_, '_>,
     texts: &[BString],
-    page: &mut Page,
+    report: &mut Report,
 ) -> Result<(), AllocError>
-    ensures form { OnOk result (page.new.form ≡ page.old.form) }
-    ensures told { OnOk result (AddsObjects page.old.form (IsLeftOutOf (map bstring_bytes texts.now))
-        (left_out_of bad.now ∷ []) page.old.results.items page.new.results.items) }
+    ensures form { OnOk result (report.new.form ≡ report.old.form) }
+    ensures reported { OnOk result (AddsObjects report.old.form (IsLeftOutOf (map bstring_bytes texts.now))
+        (left_out_of bad.now ∷ []) report.old.results.items report.new.results.items) }
 {
     let mut buffer = Vec::new(alloc);
     let source = source_of(&bad.mapping.lhs, &mut buffer)?;
     let spec = text_at(texts, bad.mapping.spec_index);
-    match page.form {
-        Form::Json => put_left_out_object(alloc, bad, source, spec, &mut page.results),
-        Form::Lines | Form::Zeros => put_left_out(bad, source, spec, &mut page.messages),
+    match report.form {
+        Form::Json => write_left_out_object(alloc, bad, source, spec, &mut report.results),
+        Form::Lines | Form::Zeros => write_left_out(bad, source, spec, &mut report.messages),
     }
 }
 
 // What a side that is no name of a ref is called.
-fn side_of(side: BadSide) -> &'static str
+fn side_of(side: InvalidSide) -> &'static str
     ensures { result.now ≡ side_name side }
 {
     match side {
-        BadSide::Source => "source",
-        BadSide::Destination => "destination",
-        BadSide::Both => "both",
+        InvalidSide::Source => "source",
+        InvalidSide::Destination => "destination",
+        InvalidSide::Both => "both",
     }
 }
 
 // The side that is no name of a ref, the source if both are.
-fn wrong_of<'a>(bad: &'a BadMapping<'_, '_>, source: &'a [u8]) -> &'a [u8] {
+fn wrong_of<'a>(bad: &'a InvalidMapping<'_, '_>, source: &'a [u8]) -> &'a [u8] {
     match bad.side {
-        BadSide::Source | BadSide::Both => source,
-        BadSide::Destination => destination_of(&bad.mapping.rhs).unwrap_or(b""),
+        InvalidSide::Source | InvalidSide::Both => source,
+        InvalidSide::Destination => destination_of(&bad.mapping.rhs).unwrap_or(b""),
     }
 }
 
 // Puts the object of what is left out at the end.
-fn put_left_out_object(
+fn write_left_out_object(
     alloc: Global,
-    bad: &BadMapping<'_, '_>,
+    bad: &InvalidMapping<'_, '_>,
     source: &[u8],
     spec: &[u8],
     out: &mut Vec<u8>,
@@ -418,27 +418,27 @@ fn put_left_out_object(
         side: side_of(bad.side),
         message,
     };
-    object.put_line(alloc, out)
+    object.write_line(alloc, out)
 }
 
 // Puts the line of what is left out at the end.
-fn put_left_out(
-    bad: &BadMapping<'_, '_>,
+fn write_left_out(
+    bad: &InvalidMapping<'_, '_>,
     source: &[u8],
     spec: &[u8],
     out: &mut Vec<u8>,
 ) -> Result<(), AllocError> {
     let wrong = wrong_of(bad, source);
     out.extend_from_slice(b"left out: ")?;
-    put_in_message(out, source)?;
+    write_in_message(out, source)?;
     if let Some(name) = destination_of(&bad.mapping.rhs) {
         out.extend_from_slice(b" -> ")?;
-        put_in_message(out, name)?;
+        write_in_message(out, name)?;
     }
     out.extend_from_slice(b" (")?;
-    put_in_message(out, spec)?;
+    write_in_message(out, spec)?;
     out.extend_from_slice(b"): ")?;
-    put_in_message(out, wrong)?;
+    write_in_message(out, wrong)?;
     out.extend_from_slice(b" is not a valid ref name. ")?;
     out.extend_from_slice(why_left_out(wrong).as_bytes())?;
     out.push(b'\n')?;
@@ -454,21 +454,21 @@ fn why_left_out(name: &[u8]) -> &'static str {
 }
 
 // Tells of a destination that several sources are mapped to.
-fn tell_conflict(alloc: Global, issue: &Issue, page: &mut Page) -> Result<(), AllocError>
-    ensures form { OnOk result (page.new.form ≡ page.old.form) }
-    ensures objects { OnOk result (AddsObjects page.old.form IsConflict (conflict_of issue.now ∷ [])
-        page.old.results.items page.new.results.items) }
-    ensures told { OnOk result (AddsEachConflict page.old.form (conflict_of issue.now ∷ [])
-        page.old.messages.items page.new.messages.items) }
+fn report_conflict(alloc: Global, issue: &Issue, report: &mut Report) -> Result<(), AllocError>
+    ensures form { OnOk result (report.new.form ≡ report.old.form) }
+    ensures objects { OnOk result (AddsObjects report.old.form IsConflict (conflict_of issue.now ∷ [])
+        report.old.results.items report.new.results.items) }
+    ensures reported { OnOk result (AddsEachConflict report.old.form (conflict_of issue.now ∷ [])
+        report.old.messages.items report.new.messages.items) }
 {
-    match page.form {
-        Form::Json => put_conflict_object(alloc, issue, &mut page.results),
-        Form::Lines | Form::Zeros => put_conflict(alloc, issue, &mut page.messages),
+    match report.form {
+        Form::Json => write_conflict_object(alloc, issue, &mut report.results),
+        Form::Lines | Form::Zeros => write_conflict(alloc, issue, &mut report.messages),
     }
 }
 
 // Puts the object of a conflict at the end.
-fn put_conflict_object(alloc: Global, issue: &Issue, out: &mut Vec<u8>) -> Result<(), AllocError>
+fn write_conflict_object(alloc: Global, issue: &Issue, out: &mut Vec<u8>) -> Result<(), AllocError>
     ensures { OnOk result (out.new.items ≡ out.old.items ++ conflict_line (conflict_of issue.now)) }
 {
     let Issue::Conflict {
@@ -482,7 +482,7 @@ fn put_conflict_object(alloc: Global, issue: &Issue, out: &mut Vec<u8>) -> Resul
         destination: destination.as_str(),
         sources: claims.as_slice(),
     };
-    object.put_line(alloc, out)
+    object.write_line(alloc, out)
 }
 
 // Each source, with the text of the spec at its place.
@@ -496,11 +496,11 @@ fn claims_of(
 {
     let mut buffer = Vec::new(alloc);
     let mut claims = Vec::with_capacity(alloc, sources.len())?;
-    for (place, source) in sources.iter().enumerate() {
+    for (location, source) in sources.iter().enumerate() {
         claims.push(claim_of(
             alloc,
             source_of(source, &mut buffer)?,
-            text_at(texts, place),
+            text_at(texts, location),
         )?)?;
     }
     Ok(claims)
@@ -517,8 +517,8 @@ fn claim_of(alloc: Global, source: &[u8], text: &[u8]) -> Result<Claim, AllocErr
 }
 
 // Puts the lines of a conflict at the end.
-fn put_conflict(alloc: Global, issue: &Issue, out: &mut Vec<u8>) -> Result<(), AllocError>
-    ensures { OnOk result (PutsConflict (conflict_of issue.now) out.old.items out.new.items) }
+fn write_conflict(alloc: Global, issue: &Issue, out: &mut Vec<u8>) -> Result<(), AllocError>
+    ensures { OnOk result (WritesConflict (conflict_of issue.now) out.old.items out.new.items) }
 {
     let Issue::Conflict {
         destination_full_ref_name,
@@ -526,40 +526,40 @@ fn put_conflict(alloc: Global, issue: &Issue, out: &mut Vec<u8>) -> Result<(), A
         specs,
     } = issue;
     out.extend_from_slice(b"conflict: ")?;
-    put_in_message(out, destination_full_ref_name.as_bytes())?;
+    write_in_message(out, destination_full_ref_name.as_bytes())?;
     out.extend_from_slice(b" would be written from several refs, so nothing is fetched:\n")?;
-    put_claims(alloc, sources.as_slice(), specs.as_slice(), out)?;
-    put_advice(
+    write_claims(alloc, sources.as_slice(), specs.as_slice(), out)?;
+    write_advice(
         out,
         "Give one of these specs another destination, or leave a source out by a spec such as `^refs/heads/x`.",
     )
 }
 
 // Puts a line for each source at the end, with the text of the spec at its place.
-fn put_claims(
+fn write_claims(
     alloc: Global,
     sources: &[SourceRef<'_>],
     texts: &[BString],
     out: &mut Vec<u8>,
 ) -> Result<(), AllocError>
-    ensures { OnOk result (PutsClaims (map start_of sources.now) (map bstring_bytes texts.now)
+    ensures { OnOk result (WritesClaims (map start_of sources.now) (map bstring_bytes texts.now)
         out.old.items out.new.items) }
 {
     let mut buffer = Vec::new(alloc);
-    for (place, source) in sources.iter().enumerate() {
-        put_claim(source_of(source, &mut buffer)?, text_at(texts, place), out)?;
+    for (location, source) in sources.iter().enumerate() {
+        write_claim(source_of(source, &mut buffer)?, text_at(texts, location), out)?;
     }
     Ok(())
 }
 
 // Puts the line of a source at the end, with the text of its spec.
-fn put_claim(source: &[u8], text: &[u8], out: &mut Vec<u8>) -> Result<(), AllocError>
-    ensures { OnOk result (PutsClaim source.now text.now out.old.items out.new.items) }
+fn write_claim(source: &[u8], text: &[u8], out: &mut Vec<u8>) -> Result<(), AllocError>
+    ensures { OnOk result (WritesClaim source.now text.now out.old.items out.new.items) }
 {
     out.extend_from_slice(b"    ")?;
-    put_in_message(out, source)?;
+    write_in_message(out, source)?;
     out.extend_from_slice(b" by ")?;
-    put_in_message(out, text)?;
+    write_in_message(out, text)?;
     out.push(b'\n')?;
     Ok(())
 }

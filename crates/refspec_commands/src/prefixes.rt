@@ -12,30 +12,29 @@ ghost use Rattle.refspec_commands.specs.Prefixes.{AddsAll, AddsList, AddsNothing
 
 use crate::call::Form;
 use crate::json;
-use crate::page::Page;
-use crate::quote::put_quoted;
+use crate::report::Report;
+use crate::quote::write_quoted;
 use bstr::BString;
 use gix_refspec::{MatchGroup, RefSpecRef};
-use gix_refspec_text::spec::sign::is_negative;
 use std::alloc::{AllocError, Global};
 
 /// Tells what to ask a server for, so that it tells of each ref that the specs map; or that all refs have
 /// to be asked for, and which specs are the reason.
-pub fn tell_prefixes(
+pub fn report_prefixes(
     alloc: Global,
     specs: Vec<RefSpecRef<'_>>,
     patterns: bool,
-    page: &mut Page,
+    report: &mut Report,
 ) -> Result<(), AllocError>
-    ensures { OnOk result (AddsPrefixes patterns page.old.form (map reading_of specs.entry.items)
-        page.old.results.items page.new.results.items) }
+    ensures { OnOk result (AddsPrefixes patterns report.old.form (map reading_of specs.entry.items)
+        report.old.results.items report.new.results.items) }
 {
     let others = others_of(alloc, specs.as_slice())?;
     let has_whole = are_fewer(others.as_slice(), specs.as_slice());
     let group = MatchGroup { specs: others };
     match prefixes_of(alloc, &group)? {
-        None => tell_all(alloc, &group, patterns, page),
-        Some(prefixes) => tell_asked(alloc, has_whole, prefixes.as_slice(), patterns, page),
+        None => report_all(alloc, &group, patterns, report),
+        Some(prefixes) => report_asked(alloc, has_whole, prefixes.as_slice(), patterns, report),
     }
 }
 
@@ -70,7 +69,7 @@ fn takes_whole(spec: &RefSpecRef<'_>) -> bool
     ensures { MatchBool result
         (TakesWhole (reading_of spec.now)) (¬ (TakesWhole (reading_of spec.now))) }
 {
-    if is_negative(spec) {
+    if spec.is_negative() {
         return false;
     }
     match spec.source() {
@@ -80,22 +79,22 @@ fn takes_whole(spec: &RefSpecRef<'_>) -> bool
 }
 
 // Tells prefixes, after `refs/` if a spec needs it.
-fn tell_asked(
+fn report_asked(
     alloc: Global,
     has_whole: bool,
     prefixes: &[BString],
     patterns: bool,
-    page: &mut Page,
+    report: &mut Report,
 ) -> Result<(), AllocError>
-    ensures { OnOk result (AddsList patterns page.old.form
+    ensures { OnOk result (AddsList patterns report.old.form
         (asked_with has_whole (map bstring_bytes prefixes.now))
-        page.old.results.items page.new.results.items) }
+        report.old.results.items report.new.results.items) }
 {
     if has_whole {
-        tell_prefix(alloc, BELOW, patterns, page)?;
-        return tell_each(alloc, prefixes, patterns, page);
+        report_prefix(alloc, BELOW, patterns, report)?;
+        return report_each(alloc, prefixes, patterns, report);
     }
-    tell_list(alloc, prefixes, patterns, page)
+    report_list(alloc, prefixes, patterns, report)
 }
 
 /// What to ask a server for, or `None` where only a request for all refs is safe.
@@ -113,64 +112,64 @@ pub fn prefixes_of(
 }
 
 // Tells prefixes, or that there are none.
-fn tell_list(
+fn report_list(
     alloc: Global,
     prefixes: &[BString],
     patterns: bool,
-    page: &mut Page,
+    report: &mut Report,
 ) -> Result<(), AllocError>
-    ensures { OnOk result (AddsList patterns page.old.form (map bstring_bytes prefixes.now)
-        page.old.results.items page.new.results.items) }
+    ensures { OnOk result (AddsList patterns report.old.form (map bstring_bytes prefixes.now)
+        report.old.results.items report.new.results.items) }
 {
     if prefixes.is_empty() {
-        return tell_nothing(alloc, page);
+        return report_nothing(alloc, report);
     }
-    tell_each(alloc, prefixes, patterns, page)
+    report_each(alloc, prefixes, patterns, report)
 }
 
 // Tells prefixes, in order.
-fn tell_each(
+fn report_each(
     alloc: Global,
     prefixes: &[BString],
     patterns: bool,
-    page: &mut Page,
+    report: &mut Report,
 ) -> Result<(), AllocError>
-    ensures { OnOk result (AddsRequests patterns page.old.form (map bstring_bytes prefixes.now)
-        page.old.results.items page.new.results.items) }
+    ensures { OnOk result (AddsRequests patterns report.old.form (map bstring_bytes prefixes.now)
+        report.old.results.items report.new.results.items) }
 {
     for prefix in prefixes {
-        tell_prefix(alloc, prefix.as_bytes(), patterns, page)?;
+        report_prefix(alloc, prefix.as_bytes(), patterns, report)?;
     }
     Ok(())
 }
 
 // Tells a prefix: as an argument of protocol v2, or as a pattern that matches each name which begins so.
-fn tell_prefix(
+fn report_prefix(
     alloc: Global,
     prefix: &[u8],
     patterns: bool,
-    page: &mut Page,
+    report: &mut Report,
 ) -> Result<(), AllocError>
-    ensures form { OnOk result (page.new.form ≡ page.old.form) }
-    ensures told { OnOk result (AddsRequests patterns page.old.form (prefix.now ∷ [])
-        page.old.results.items page.new.results.items) }
+    ensures form { OnOk result (report.new.form ≡ report.old.form) }
+    ensures reported { OnOk result (AddsRequests patterns report.old.form (prefix.now ∷ [])
+        report.old.results.items report.new.results.items) }
 {
     let mut pattern = Vec::from_slice(alloc, prefix)?;
     pattern.push(b'*')?;
-    match page.form {
-        Form::Json => put_object(alloc, prefix, pattern.as_slice(), &mut page.results),
+    match report.form {
+        Form::Json => write_object(alloc, prefix, pattern.as_slice(), &mut report.results),
         Form::Lines | Form::Zeros => {
             if patterns {
-                page.put_name(b"", pattern.as_slice())
+                report.write_name(b"", pattern.as_slice())
             } else {
-                page.put_name(b"ref-prefix ", prefix)
+                report.write_name(b"ref-prefix ", prefix)
             }
         }
     }
 }
 
 // Puts the object of a prefix at the end.
-fn put_object(
+fn write_object(
     alloc: Global,
     prefix: &[u8],
     pattern: &[u8],
@@ -185,62 +184,62 @@ fn put_object(
         prefix: prefix.as_str(),
         pattern: pattern.as_str(),
     };
-    object.put_line(alloc, out)
+    object.write_line(alloc, out)
 }
 
 const WHY_NOTHING: &str =
     "No spec takes a ref by its name, so no request is needed. An empty one would ask for all refs.";
 
 // Tells that nothing has to be asked for.
-fn tell_nothing(alloc: Global, page: &mut Page) -> Result<(), AllocError>
-    ensures { OnOk result (AddsNothing page.old.form
-        page.old.results.items page.new.results.items) }
+fn report_nothing(alloc: Global, report: &mut Report) -> Result<(), AllocError>
+    ensures { OnOk result (AddsNothing report.old.form
+        report.old.results.items report.new.results.items) }
 {
-    match page.form {
-        Form::Lines => page.results.extend_from_slice(b"(nothing)\n")?,
+    match report.form {
+        Form::Lines => report.results.extend_from_slice(b"(nothing)\n")?,
         Form::Zeros => {}
-        Form::Json => return put_nothing(alloc, WHY_NOTHING, &mut page.results),
+        Form::Json => return write_nothing(alloc, WHY_NOTHING, &mut report.results),
     }
-    page.messages.extend_from_slice(WHY_NOTHING.as_bytes())?;
-    page.messages.push(b'\n')?;
+    report.messages.extend_from_slice(WHY_NOTHING.as_bytes())?;
+    report.messages.push(b'\n')?;
     Ok(())
 }
 
 // Puts the object of a sentence on that at the end.
-fn put_nothing(alloc: Global, message: &str, out: &mut Vec<u8>) -> Result<(), AllocError>
+fn write_nothing(alloc: Global, message: &str, out: &mut Vec<u8>) -> Result<(), AllocError>
     ensures { OnOk result (AddsNothing form.Json out.old.items out.new.items) }
 {
-    refspec_json::Nothing { message }.put_line(alloc, out)
+    refspec_json::Nothing { message }.write_line(alloc, out)
 }
 
 const WHY_ALL: &str =
     "No safe prefix is known for this spec: its star is outside refs/, or after a ]. So ask for all refs.";
 
 // Tells that all refs have to be asked for, and for which specs.
-fn tell_all(
+fn report_all(
     alloc: Global,
     group: &MatchGroup<'_>,
     patterns: bool,
-    page: &mut Page,
+    report: &mut Report,
 ) -> Result<(), AllocError>
-    ensures { OnOk result (AddsAll patterns page.old.form (readings_of group.now)
-        page.old.results.items page.new.results.items) }
+    ensures { OnOk result (AddsAll patterns report.old.form (readings_of group.now)
+        report.old.results.items report.new.results.items) }
 {
-    put_all(patterns, page)?;
+    write_each(patterns, report)?;
     for spec in &group.specs {
-        tell_if_reason(alloc, spec, page)?;
+        report_if_reason(alloc, spec, report)?;
     }
     Ok(())
 }
 
 // Puts what means all refs at the end of the results: the pattern that each name matches, or else in lines a word, and in
 // records the empty prefix, with which each name begins.
-fn put_all(patterns: bool, page: &mut Page) -> Result<(), AllocError>
-    ensures form { OnOk result (page.new.form ≡ page.old.form) }
-    ensures told { OnOk result (AddsAll patterns page.old.form []
-        page.old.results.items page.new.results.items) }
+fn write_each(patterns: bool, report: &mut Report) -> Result<(), AllocError>
+    ensures form { OnOk result (report.new.form ≡ report.old.form) }
+    ensures reported { OnOk result (AddsAll patterns report.old.form []
+        report.old.results.items report.new.results.items) }
 {
-    page.results.extend_from_slice(match (page.form, patterns) {
+    report.results.extend_from_slice(match (report.form, patterns) {
         (Form::Lines, true) => b"*\n",
         (Form::Lines, false) => b"(all)\n",
         (Form::Zeros, true) => b"*\0",
@@ -250,40 +249,40 @@ fn put_all(patterns: bool, page: &mut Page) -> Result<(), AllocError>
 }
 
 // Tells of a spec, if all refs have to be asked for it.
-fn tell_if_reason(alloc: Global, spec: &RefSpecRef<'_>, page: &mut Page) -> Result<(), AllocError>
-    ensures form { OnOk result (page.new.form ≡ page.old.form) }
-    ensures told { OnOk result (AddsObjects page.old.form IsReason (reading_of spec.now ∷ [])
-        page.old.results.items page.new.results.items) }
+fn report_if_reason(alloc: Global, spec: &RefSpecRef<'_>, report: &mut Report) -> Result<(), AllocError>
+    ensures form { OnOk result (report.new.form ≡ report.old.form) }
+    ensures reported { OnOk result (AddsObjects report.old.form IsReason (reading_of spec.now ∷ [])
+        report.old.results.items report.new.results.items) }
 {
     let specs = Vec::from_slice(alloc, &[*spec])?;
     match prefixes_of(alloc, &MatchGroup { specs })? {
-        None => tell_reason(alloc, spec, page),
+        None => report_reason(alloc, spec, report),
         Some(_) => Ok(()),
     }
 }
 
 // Tells that a spec is the reason for which all refs have to be asked for.
-fn tell_reason(alloc: Global, spec: &RefSpecRef<'_>, page: &mut Page) -> Result<(), AllocError>
+fn report_reason(alloc: Global, spec: &RefSpecRef<'_>, report: &mut Report) -> Result<(), AllocError>
     requires { HasNoList (reading_of spec.now ∷ []) }
-    ensures form { OnOk result (page.new.form ≡ page.old.form) }
-    ensures told { OnOk result (AddsObjects page.old.form IsReason (reading_of spec.now ∷ [])
-        page.old.results.items page.new.results.items) }
+    ensures form { OnOk result (report.new.form ≡ report.old.form) }
+    ensures reported { OnOk result (AddsObjects report.old.form IsReason (reading_of spec.now ∷ [])
+        report.old.results.items report.new.results.items) }
 {
     let canonical = spec.to_bstring(alloc)?;
-    match page.form {
-        Form::Json => put_reason(alloc, canonical.as_bytes(), WHY_ALL, &mut page.results),
+    match report.form {
+        Form::Json => write_reason(alloc, canonical.as_bytes(), WHY_ALL, &mut report.results),
         Form::Lines | Form::Zeros => {
-            put_quoted(&mut page.messages, canonical.as_bytes())?;
-            page.messages.extend_from_slice(b": ")?;
-            page.messages.extend_from_slice(WHY_ALL.as_bytes())?;
-            page.messages.push(b'\n')?;
+            write_quoted(&mut report.messages, canonical.as_bytes())?;
+            report.messages.extend_from_slice(b": ")?;
+            report.messages.extend_from_slice(WHY_ALL.as_bytes())?;
+            report.messages.push(b'\n')?;
             Ok(())
         }
     }
 }
 
 // Puts the object of such a spec and a sentence on it at the end.
-fn put_reason(
+fn write_reason(
     alloc: Global,
     spec: &[u8],
     message: &str,
@@ -297,5 +296,5 @@ fn put_reason(
         spec: shown.as_str(),
         message,
     };
-    object.put_line(alloc, out)
+    object.write_line(alloc, out)
 }

@@ -1,9 +1,9 @@
 //! Names and texts as people see them.
 
 ghost use Rattle.std.specs.Prelude.{◌≡◌, ◌≤◌, ◌++◌, ◌∷◌, [], List, OnOk, length, ℕ};
-ghost use Rattle.refspec_commands.specs.Messages.{PutsShown};
+ghost use Rattle.refspec_commands.specs.Messages.{WritesShown};
 ghost use Rattle.refspec_commands.specs.declared.call.Form.TheVariants as form;
-ghost use Rattle.refspec_commands.specs.Shown.{PutsQuoted, escape_letter as letter_of, escaped, in_quotes, plain_or_octal};
+ghost use Rattle.refspec_commands.specs.Shown.{WritesQuoted, escape_letter as letter_of, escaped, in_quotes, plain_or_octal};
 
 use crate::call::Form;
 use std::alloc::AllocError;
@@ -14,54 +14,54 @@ const LANES: usize = 16;
 
 /// Puts a text at the end: as it is where it can be shown so, else in double quotes with escapes, as Git
 /// quotes paths under `core.quotePath`. The empty text is quoted too.
-pub fn put_quoted(out: &mut Vec<u8>, text: &[u8]) -> Result<(), AllocError>
-    ensures { OnOk result (PutsQuoted text.now out.old.items out.new.items) }
+pub fn write_quoted(out: &mut Vec<u8>, text: &[u8]) -> Result<(), AllocError>
+    ensures { OnOk result (WritesQuoted text.now out.old.items out.new.items) }
 {
     if is_plain(text) {
         return out.extend_from_slice(text);
     }
-    put_in_quotes(out, text)
+    write_in_quotes(out, text)
 }
 
 /// Puts a text at the end that stands in a sentence: in quotes also where it has a space or ends with a colon, so that
 /// its ends are seen.
-pub fn put_in_message(out: &mut Vec<u8>, text: &[u8]) -> Result<(), AllocError>
-    ensures { OnOk result (PutsQuoted text.now out.old.items out.new.items) }
+pub fn write_in_message(out: &mut Vec<u8>, text: &[u8]) -> Result<(), AllocError>
+    ensures { OnOk result (WritesQuoted text.now out.old.items out.new.items) }
 {
     if text.contains(&b' ') || text.ends_with(b":") {
-        return put_in_quotes(out, text);
+        return write_in_quotes(out, text);
     }
-    put_quoted(out, text)
+    write_quoted(out, text)
 }
 
 /// Puts a text at the end as a form shows it: raw in records, else as it is or quoted.
-pub fn put_shown(out: &mut Vec<u8>, text: &[u8], form: Form) -> Result<(), AllocError>
-    ensures { OnOk result (PutsShown form text.now out.old.items out.new.items) }
+pub fn write_shown(out: &mut Vec<u8>, text: &[u8], form: Form) -> Result<(), AllocError>
+    ensures { OnOk result (WritesShown form text.now out.old.items out.new.items) }
 {
     match form {
         Form::Zeros => out.extend_from_slice(text),
-        Form::Lines => put_quoted(out, text),
-        Form::Json => put_text(out, text),
+        Form::Lines => write_quoted(out, text),
+        Form::Json => write_text(out, text),
     }
 }
 
 // Puts a text at the end as it is or quoted, so that what is put is UTF-8.
-fn put_text(out: &mut Vec<u8>, text: &[u8]) -> Result<(), AllocError>
-    ensures { OnOk result (PutsShown form.Json text.now out.old.items out.new.items) }
+fn write_text(out: &mut Vec<u8>, text: &[u8]) -> Result<(), AllocError>
+    ensures { OnOk result (WritesShown form.Json text.now out.old.items out.new.items) }
 {
     match str::from_utf8(text) {
-        Ok(_) => put_quoted(out, text),
-        Err(_) => put_in_quotes(out, text),
+        Ok(_) => write_quoted(out, text),
+        Err(_) => write_in_quotes(out, text),
     }
 }
 
 /// Puts a text in double quotes at the end, with escapes.
-pub fn put_in_quotes(out: &mut Vec<u8>, text: &[u8]) -> Result<(), AllocError>
+pub fn write_in_quotes(out: &mut Vec<u8>, text: &[u8]) -> Result<(), AllocError>
     ensures { OnOk result (out.new.items ≡ out.old.items ++ in_quotes text.now) }
 {
     out.push(b'"')?;
     for byte in text {
-        put_escaped(out, *byte)?;
+        write_escaped(out, *byte)?;
     }
     out.push(b'"')?;
     Ok(())
@@ -115,12 +115,12 @@ fn is_calm(c: char) -> bool {
 }
 
 // Puts a byte of a quoted text at the end.
-fn put_escaped(out: &mut Vec<u8>, byte: u8) -> Result<(), AllocError>
+fn write_escaped(out: &mut Vec<u8>, byte: u8) -> Result<(), AllocError>
     ensures { OnOk result (out.new.items ≡ out.old.items ++ escaped byte) }
 {
     match escape_letter(byte) {
         Some(letter) => out.extend_from_slice(&[b'\\', letter]),
-        None => put_plain_or_octal(out, byte),
+        None => write_plain_or_octal(out, byte),
     }
 }
 
@@ -142,7 +142,7 @@ fn escape_letter(byte: u8) -> Option<u8>
 }
 
 // Puts a byte that has no letter at the end: as it is, or by its three octal digits.
-fn put_plain_or_octal(out: &mut Vec<u8>, byte: u8) -> Result<(), AllocError>
+fn write_plain_or_octal(out: &mut Vec<u8>, byte: u8) -> Result<(), AllocError>
     ensures { OnOk result (out.new.items ≡ out.old.items ++ plain_or_octal byte) }
 {
     if byte >= b' ' && byte <= b'~' {

@@ -3,13 +3,13 @@
 ghost use Rattle.std.specs.Prelude.{◌≡◌, ◌↔◌, ◌⊎◌, ◌++◌, ◌∷◌, [], List, ℕ, length, map, IfNone, IfOk, IfSome, IsTrue, MatchBool, OnOk};
 ghost use Rattle.gix_refspec.specs.Views.Group.{ref_of};
 ghost use Rattle.gix_refspec.specs.Texts.ObjectId.{digits_of, id_bytes};
-ghost use Rattle.refspec_commands.specs.Refs.{AddsTold, HasLast, IsIdThen, IsNoRefLine, IsOneWord, TellNames, TellsName, bad_bytes, peeled};
+ghost use Rattle.refspec_commands.specs.Refs.{AddsReported, HasLast, IsIdThen, IsNoRefLine, IsOneWord, ReportNames, ReportsName, bad_bytes, peeled};
 
 use crate::input::first_record;
 use bstr::{BStr, ByteSlice};
 use gix_refspec::match_group::Item;
 use gix_refspec::oid::{Kind, ObjectId};
-use gix_refspec_text::cut::holds;
+use gix_refspec_text::split::contains;
 use std::alloc::{AllocError, Global};
 
 /// A record that tells of no ref.
@@ -24,7 +24,7 @@ pub struct BadRecord<'a> {
 
 /// What the records of an input tell, each kind in order.
 #[derive(Debug, Drop)]
-pub struct Told<'a> {
+pub struct RefList<'a> {
     /// The refs by their names. All have one id, since a plan goes by names.
     pub items: Vec<Item<'a>>,
     pub bad: Vec<BadRecord<'a>>,
@@ -32,7 +32,7 @@ pub struct Told<'a> {
     id: &'a ObjectId,
 }
 
-impl<'a> Told<'a> {
+impl<'a> RefList<'a> {
     /// What the records of an input tell. Each ends with the byte, which the last may lack. All items are
     /// given one id, whatever the records say.
     pub fn read(
@@ -40,11 +40,11 @@ impl<'a> Told<'a> {
         input: &'a [u8],
         end: u8,
         id: &'a ObjectId,
-    ) -> Result<Told<'a>, AllocError>
-        ensures { IfOk result (λ told. TellNames end input.now
-            (map ref_of told.items.items) (map bad_bytes told.bad.items)) }
+    ) -> Result<RefList<'a>, AllocError>
+        ensures { IfOk result (λ reported. ReportNames end input.now
+            (map ref_of reported.items.items) (map bad_bytes reported.bad.items)) }
     {
-        let mut told = Told {
+        let mut reported = RefList {
             items: Vec::new(alloc),
             bad: Vec::new(alloc),
             id,
@@ -54,19 +54,19 @@ impl<'a> Told<'a> {
         while !rest.is_empty() {
             let (record, after) = first_record(rest, end);
             number = number.saturating_add(1);
-            told.add(number, record)?;
+            reported.add(number, record)?;
             rest = after;
         }
-        Ok(told)
+        Ok(reported)
     }
 
     // Adds what a record tells.
     fn add(&mut self, number: usize, bytes: &'a [u8]) -> Result<(), AllocError>
-        ensures { OnOk result (AddsTold bytes.now
+        ensures { OnOk result (AddsReported bytes.now
             (map ref_of self.old.items.items) (map ref_of self.new.items.items)
             (map bad_bytes self.old.bad.items) (map bad_bytes self.new.bad.items)) }
     {
-        match name_told(bytes) {
+        match name_reported(bytes) {
             None => self.add_bad(number, bytes, false),
             Some(name) => self.add_named(number, bytes, name),
         }
@@ -79,8 +79,8 @@ impl<'a> Told<'a> {
         bytes: &'a [u8],
         name: &'a [u8],
     ) -> Result<(), AllocError>
-        requires { TellsName bytes.now name.now }
-        ensures { OnOk result (AddsTold bytes.now
+        requires { ReportsName bytes.now name.now }
+        ensures { OnOk result (AddsReported bytes.now
             (map ref_of self.old.items.items) (map ref_of self.new.items.items)
             (map bad_bytes self.old.bad.items) (map bad_bytes self.new.bad.items)) }
     {
@@ -92,8 +92,8 @@ impl<'a> Told<'a> {
 
     // Adds what a record tells of a tag, which has to be the last ref so far: its name stays.
     fn add_peeled(&mut self, number: usize, bytes: &'a [u8], tag: &[u8]) -> Result<(), AllocError>
-        requires { TellsName bytes.now (tag.now ++ peeled) }
-        ensures { OnOk result (AddsTold bytes.now
+        requires { ReportsName bytes.now (tag.now ++ peeled) }
+        ensures { OnOk result (AddsReported bytes.now
             (map ref_of self.old.items.items) (map ref_of self.new.items.items)
             (map bad_bytes self.old.bad.items) (map bad_bytes self.new.bad.items)) }
     {
@@ -143,8 +143,8 @@ impl<'a> Told<'a> {
 }
 
 // The name in a line, after an id and the tab or the space that ends it. A name has bytes, and no white space.
-fn name_told(line: &[u8]) -> Option<&[u8]>
-    ensures some { IfSome result (λ name. TellsName line.now name.now) }
+fn name_reported(line: &[u8]) -> Option<&[u8]>
+    ensures some { IfSome result (λ name. ReportsName line.now name.now) }
     ensures none { IfNone result (IsNoRefLine line.now) }
 {
     match name_after(line, Kind::Sha1) {
@@ -155,7 +155,7 @@ fn name_told(line: &[u8]) -> Option<&[u8]>
 
 // The same, for ids of a kind.
 fn name_after(line: &[u8], kind: Kind) -> Option<&[u8]>
-    ensures some { IfSome result (λ name. TellsName line.now name.now) }
+    ensures some { IfSome result (λ name. ReportsName line.now name.now) }
     ensures none { IfNone result ((id name : List ℕ) (says : IsIdThen line.now id name)
         → ¬ (length says.digits ≡ digits_of kind)) }
 {
@@ -184,8 +184,8 @@ fn is_one_word(text: &[u8]) -> bool
     if text.is_empty() {
         return false;
     }
-    let has_line_end = holds(text, b'\n') | holds(text, b'\r');
-    let has_gap = holds(text, b'\t') | holds(text, b' ');
+    let has_line_end = contains(text, b'\n') | contains(text, b'\r');
+    let has_gap = contains(text, b'\t') | contains(text, b' ');
     !(has_line_end | has_gap)
 }
 

@@ -4,25 +4,25 @@ ghost use Rattle.std.specs.Prelude.{◌≡◌, map, IfOk, IfErr, OnOk};
 ghost use Rattle.std.specs.Io.KnownBytes.{Appends};
 ghost use Rattle.gix_refspec.specs.Views.Spec.{reading_of};
 ghost use Rattle.refspec_commands.specs.Fault.{IsReadOrMemory, IsWrite, RefusesFormat};
-ghost use Rattle.refspec_commands.specs.Output.{AddsFound, Answers, IsInput, IsOutput, RefusesInput, Tells, status_of as exit_status};
+ghost use Rattle.refspec_commands.specs.Output.{AddsFound, Answers, IsInput, IsOutput, RefusesInput, Reports, status_of as exit_status};
 ghost use Rattle.refspec_commands.specs.Run.{Leaves, ReadsWhole};
 ghost use Rattle.refspec_commands.specs.Settings.{HasNoSettings};
 ghost use Rattle.refspec_commands.specs.Texts.{spec_input as specs_of};
 
 use crate::call::{Call, Command, Task};
-use crate::canon::tell_canon;
+use crate::canon::report_canon;
 use crate::checked::{Checked, all_good, check_all, has_bad};
 use crate::fault::Fault;
 use crate::input::read_input;
 use crate::lacking::refuse_lacking;
-use crate::page::Page;
+use crate::report::Report;
 use crate::plan::Discard;
-use crate::planning::tell_plan;
-use crate::prefixes::tell_prefixes;
+use crate::planning::report_plan;
+use crate::prefixes::report_prefixes;
 use crate::settings::{has_lacking, settings_in};
-use crate::specs::{tell_refusals, tell_specs};
+use crate::specs::{report_refusals, report_specs};
 use crate::texts::{spec_input, texts_of};
-use crate::track::tell_tracking;
+use crate::track::report_tracking;
 use gix_refspec::RefSpecRef;
 use std::alloc::{AllocError, Global};
 use std::io::{Read, Write};
@@ -56,9 +56,9 @@ pub fn run<R: Read, W: Write, E: Write, D: Discard>(
     ensures untold { IfErr result (Leaves (E.contents errors.old) (E.contents errors.new)) }
 {
     let input = input_of(alloc, call, reader)?;
-    let (page, refused) = page_of(alloc, call, beside, input.as_slice(), done)?;
-    write_all(output, page.results.as_slice())?;
-    write_all(errors, page.messages.as_slice())?;
+    let (report, refused) = report_of(alloc, call, beside, input.as_slice(), done)?;
+    write_all(output, report.results.as_slice())?;
+    write_all(errors, report.messages.as_slice())?;
     Ok(status_of(refused))
 }
 
@@ -77,82 +77,82 @@ fn input_of<R: Read>(alloc: Global, call: &Call<'_>, reader: &mut R) -> Result<V
 }
 
 // What a call makes of its input, and whether something is refused, conflicting, left out or not found.
-fn page_of<D: Discard>(
+fn report_of<D: Discard>(
     alloc: Global,
     call: &Call<'_>,
     beside: &[u8],
     input: &[u8],
     done: &mut D,
-) -> Result<(Page, bool), Fault>
+) -> Result<(Report, bool), Fault>
     ensures ok { IfOk result (λ made. IsOutput call.now beside.now input.now
         made.0.messages.items made.1 made.0.results.items) }
     ensures err { IfErr result (RefusesFormat (HasNoSettings call.now.ends beside.now
         (specs_of call.now.command input.now))) }
 {
-    let mut page = Page::new(alloc, call.form);
+    let mut report = Report::new(alloc, call.form);
     let specs = spec_input(call.command, input);
     let settings = settings_in(alloc, call.ends, beside, specs)?;
     if has_lacking(settings.as_slice()) {
-        refuse_lacking(alloc, settings.as_slice(), &mut page)?;
-        return Ok((page, true));
+        refuse_lacking(alloc, settings.as_slice(), &mut report)?;
+        return Ok((report, true));
     }
     let texts = texts_of(alloc, call, beside, input, settings.as_slice())?;
     let all = check_all(alloc, texts.as_slice())?;
     let task = Task { call, input };
-    let refused = tell_page(alloc, &task, all.as_slice(), &mut page, done)?;
-    Ok((page, refused))
+    let refused = report_results(alloc, &task, all.as_slice(), &mut report, done)?;
+    Ok((report, refused))
 }
 
 // Tells what a call asks of its specs. But for three commands, all have to be good.
-fn tell_page<D: Discard>(
+fn report_results<D: Discard>(
     alloc: Global,
     task: &Task<'_>,
     all: &[Checked<'_>],
-    page: &mut Page,
+    report: &mut Report,
     done: &mut D,
 ) -> Result<bool, AllocError>
-    ensures { IfOk result (λ refused. Tells task.now.call.now.command task.now.call.now
-        task.now.input.now page.old.form page.old.messages.items page.new.messages.items refused
-        all.now page.old.results.items page.new.results.items) }
+    ensures { IfOk result (λ refused. Reports task.now.call.now.command task.now.call.now
+        task.now.input.now report.old.form report.old.messages.items report.new.messages.items refused
+        all.now report.old.results.items report.new.results.items) }
 {
     let call = task.call;
     match call.command {
         Command::Canon => {
-            tell_canon(alloc, all, page)?;
+            report_canon(alloc, all, report)?;
             Ok(has_bad(all))
         }
         Command::Check | Command::Explain => {
-            tell_specs(alloc, call.command, call.verbose, all, page)?;
+            report_specs(alloc, call.command, call.verbose, all, report)?;
             Ok(has_bad(all))
         }
         _ => match all_good(alloc, all)? {
             None => {
-                tell_refusals(alloc, all, page)?;
+                report_refusals(alloc, all, report)?;
                 Ok(true)
             }
-            Some(specs) => tell_found(alloc, task, specs, page, done),
+            Some(specs) => report_found(alloc, task, specs, report, done),
         },
     }
 }
 
 // Tells what a call finds for specs.
-fn tell_found<D: Discard>(
+fn report_found<D: Discard>(
     alloc: Global,
     task: &Task<'_>,
     specs: Vec<RefSpecRef<'_>>,
-    page: &mut Page,
+    report: &mut Report,
     done: &mut D,
 ) -> Result<bool, AllocError>
     ensures { IfOk result (λ refused. AddsFound task.now.call.now.command task.now.call.now
-        task.now.input.now page.old.form page.new.messages.items refused
-        (map reading_of specs.entry.items) page.old.results.items page.new.results.items) }
+        task.now.input.now report.old.form report.new.messages.items refused
+        (map reading_of specs.entry.items) report.old.results.items report.new.results.items) }
 {
     let call = task.call;
     match call.command {
-        Command::Plan => tell_plan(alloc, task, specs, page, done),
-        Command::Track => tell_tracking(alloc, call, specs, page),
+        Command::Plan => report_plan(alloc, task, specs, report, done),
+        Command::Track => report_tracking(alloc, call, specs, report),
         _ => {
-            tell_prefixes(alloc, specs, call.patterns, page)?;
+            report_prefixes(alloc, specs, call.patterns, report)?;
             Ok(false)
         }
     }

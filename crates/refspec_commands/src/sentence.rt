@@ -1,7 +1,7 @@
 //! What a spec means, in one sentence.
 
 use crate::call::Form;
-use crate::quote::put_shown;
+use crate::quote::write_shown;
 use crate::track::is_id;
 use bstr::ByteSlice;
 use gix_refspec::instruction::{Fetch, Push};
@@ -9,7 +9,7 @@ use gix_refspec::{Instruction, RefSpecRef};
 use std::alloc::{AllocError, Global};
 
 /// Puts a sentence at the end that says what a spec does. Records have the names in it raw.
-pub fn put_sentence(
+pub fn write_sentence(
     alloc: Global,
     out: &mut Vec<u8>,
     spec: &RefSpecRef<'_>,
@@ -74,9 +74,9 @@ impl Sentence<'_> {
     fn fetch(&mut self, fetch: Fetch<'_>) -> Result<(), AllocError> {
         match fetch {
             Fetch::Only { src } => {
-                self.put("Fetches ")?;
+                self.write("Fetches ")?;
                 self.refs(src.as_bytes(), "of the remote")?;
-                self.put(" into FETCH_HEAD, and by itself updates no ref.")
+                self.write(" into FETCH_HEAD, and by itself updates no ref.")
             }
             Fetch::Exclude { src } => self.exclusion(src.as_bytes(), "fetch"),
             Fetch::AndUpdate {
@@ -96,22 +96,22 @@ impl Sentence<'_> {
             return self.nothing("Fetches", src);
         }
         if !may_be_below_refs(dst) {
-            self.put("Fetches nothing: Git ignores ")?;
+            self.write("Fetches nothing: Git ignores ")?;
             self.name(dst)?;
-            return self.put(", which is not below refs/.");
+            return self.write(", which is not below refs/.");
         }
-        self.put("Fetches ")?;
+        self.write("Fetches ")?;
         self.refs(src, "of the remote")?;
-        self.put(" and writes each to ")?;
+        self.write(" and writes each to ")?;
         self.name(dst)?;
         self.only_below_refs(dst)?;
-        self.put(Update::of(dst).end(forced))
+        self.write(Update::of(dst).end(forced))
     }
 
     // Says that a name below refs/ is wanted, if a pattern may have others too.
     fn only_below_refs(&mut self, dst: &[u8]) -> Result<(), AllocError> {
         if is_pattern(dst) && !dst.starts_with(b"refs/") {
-            return self.put(" where that is below refs/");
+            return self.write(" where that is below refs/");
         }
         Ok(())
     }
@@ -119,23 +119,23 @@ impl Sentence<'_> {
     // Says what a fetch writes of one ref: Git puts what is missing of a full name before the destination.
     fn update_one(&mut self, src: &[u8], dst: &[u8], forced: bool) -> Result<(), AllocError> {
         if dst == b"@".as_slice() {
-            return self.put("Fetches nothing: Git refuses @ as a destination.");
+            return self.write("Fetches nothing: Git refuses @ as a destination.");
         }
         let folder = folder_of(dst);
-        self.put("Fetches ")?;
+        self.write("Fetches ")?;
         self.refs(src, "of the remote")?;
-        self.put(" and writes it to ")?;
+        self.write(" and writes it to ")?;
         self.name_in(folder, dst)?;
         let update = if dst.starts_with(b"tags/") {
             Update::Tag
         } else {
             Update::of(dst)
         };
-        self.put(update.end(forced))?;
+        self.write(update.end(forced))?;
         if dst.starts_with(b"heads/") {
-            self.put(" Git does so; refspec plan and refspec_map map it to ")?;
+            self.write(" Git does so; refspec plan and refspec_map map it to ")?;
             self.name_in("refs/heads/", dst)?;
-            self.put(".")?;
+            self.write(".")?;
         }
         Ok(())
     }
@@ -146,16 +146,16 @@ impl Sentence<'_> {
             Push::AllMatchingBranches {
                 allow_non_fast_forward,
             } => {
-                self.put("Pushes each local branch that the remote has too")?;
-                self.put(Update::Branch.end(allow_non_fast_forward))
+                self.write("Pushes each local branch that the remote has too")?;
+                self.write(Update::Branch.end(allow_non_fast_forward))
             }
             Push::Delete { ref_or_pattern } if ref_or_pattern.as_bytes() == b"@".as_slice() => {
-                self.put("Deletes nothing: Git refuses @ as a destination.")
+                self.write("Deletes nothing: Git refuses @ as a destination.")
             }
             Push::Delete { ref_or_pattern } => {
-                self.put("Deletes ")?;
+                self.write("Deletes ")?;
                 self.name(ref_or_pattern.as_bytes())?;
-                self.put(" on the remote.")
+                self.write(" on the remote.")
             }
             Push::Matching {
                 src,
@@ -167,17 +167,17 @@ impl Sentence<'_> {
                     return self.nothing("Pushes", src);
                 }
                 if dst == b"@".as_slice() {
-                    return self.put("Pushes nothing: Git refuses @ as a destination.");
+                    return self.write("Pushes nothing: Git refuses @ as a destination.");
                 }
                 if is_one_sided && is_id(src) {
-                    return self.put(
+                    return self.write(
                         "Pushes nothing: an object id needs a destination, as in ID:refs/heads/x.",
                     );
                 }
                 if is_pattern(dst) && !may_be_below_refs(dst) {
-                    self.put("Pushes nothing: the remote refuses ")?;
+                    self.write("Pushes nothing: the remote refuses ")?;
                     self.name(dst)?;
-                    return self.put(", which is not below refs/.");
+                    return self.write(", which is not below refs/.");
                 }
                 self.pushed(src, dst, is_one_sided)?;
                 let update = if is_one_sided && src == b"HEAD".as_slice() {
@@ -187,7 +187,7 @@ impl Sentence<'_> {
                 } else {
                     Update::Either
                 };
-                self.put(update.end(allow_non_fast_forward))
+                self.write(update.end(allow_non_fast_forward))
             }
             Push::Exclude { src } => self.exclusion(src.as_bytes(), "push"),
         }
@@ -195,69 +195,69 @@ impl Sentence<'_> {
 
     // Says that a pattern takes nothing.
     fn nothing(&mut self, verb: &str, src: &[u8]) -> Result<(), AllocError> {
-        self.put(verb)?;
-        self.put(" nothing: full names begin with refs/, so none matches ")?;
+        self.write(verb)?;
+        self.write(" nothing: full names begin with refs/, so none matches ")?;
         self.name(src)?;
-        self.put(".")
+        self.write(".")
     }
 
     // Says what is pushed, and to where.
     fn pushed(&mut self, src: &[u8], dst: &[u8], is_one_sided: bool) -> Result<(), AllocError> {
         if is_one_sided && src == b"HEAD".as_slice() {
-            return self.put("Pushes the current branch to the branch of its name on the remote");
+            return self.write("Pushes the current branch to the branch of its name on the remote");
         }
-        self.put("Pushes ")?;
+        self.write("Pushes ")?;
         self.refs(src, "of this repository")?;
         if is_one_sided && !may_be_below_refs(src) {
-            return self.put(" to the ref of its full name on the remote");
+            return self.write(" to the ref of its full name on the remote");
         }
         if !may_be_below_refs(dst) {
-            self.put(" to the ref that the remote knows as ")?;
+            self.write(" to the ref that the remote knows as ")?;
             self.name(dst)?;
-            return self.put(", or else to a new branch or tag of that name");
+            return self.write(", or else to a new branch or tag of that name");
         }
-        self.put(" to ")?;
+        self.write(" to ")?;
         self.name(dst)?;
-        self.put(" on the remote")?;
+        self.write(" on the remote")?;
         self.only_below_refs(dst)
     }
 
     // Says what an exclusion leaves out. The names of refs are full, and so is what excludes one.
     fn exclusion(&mut self, src: &[u8], operation: &str) -> Result<(), AllocError> {
         if !may_be_ref(src) {
-            self.put(if is_pattern(src) {
+            self.write(if is_pattern(src) {
                 "Leaves out only refs of the remote whose whole names match "
             } else {
                 "Leaves out only a ref of the remote whose whole name is "
             })?;
             self.name(src)?;
-            self.put(", so no branch; ^")?;
+            self.write(", so no branch; ^")?;
             self.name_in(folder_of(src), src)?;
-            return self.put(" is meant.");
+            return self.write(" is meant.");
         }
-        self.put("Leaves out ")?;
+        self.write("Leaves out ")?;
         self.refs(src, "of the remote")?;
-        self.put(", whatever the other specs ")?;
-        self.put(operation)?;
-        self.put(".")
+        self.write(", whatever the other specs ")?;
+        self.write(operation)?;
+        self.write(".")
     }
 
     // The refs that a side takes, and where they are.
-    fn refs(&mut self, side: &[u8], place: &str) -> Result<(), AllocError> {
+    fn refs(&mut self, side: &[u8], location: &str) -> Result<(), AllocError> {
         if is_pattern(side) {
-            self.put("each ref ")?;
-            self.put(place)?;
-            self.put(" that matches ")?;
+            self.write("each ref ")?;
+            self.write(location)?;
+            self.write(" that matches ")?;
             return self.name(side);
         }
         self.name(side)?;
-        self.put(" ")?;
-        self.put(place)
+        self.write(" ")?;
+        self.write(location)
     }
 
     // A name.
     fn name(&mut self, name: &[u8]) -> Result<(), AllocError> {
-        put_shown(self.out, name, self.form)
+        write_shown(self.out, name, self.form)
     }
 
     // A name with the folder that Git puts before it.
@@ -268,7 +268,7 @@ impl Sentence<'_> {
     }
 
     // Bytes of the sentence itself.
-    fn put(&mut self, text: &str) -> Result<(), AllocError> {
+    fn write(&mut self, text: &str) -> Result<(), AllocError> {
         self.out.extend_from_slice(text.as_bytes())
     }
 }

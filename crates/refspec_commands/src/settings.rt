@@ -4,7 +4,7 @@ ghost use Rattle.std.specs.Prelude.{IfErr, IfOk, MatchBool, MatchOption};
 ghost use Rattle.refspec_commands.specs.Fault.{RefusesFormat};
 ghost use Rattle.refspec_commands.specs.Settings.{AreSettings, AreSettingsOf, HasLacking, HasNoSettings, HoldsSpecs, IsNoSettings, IsOrigin, IsSetting, LacksValue};
 
-use crate::call::Ends;
+use crate::call::Terminator;
 use crate::fault::{Fault, NotSettings};
 use crate::input::{first_record, records};
 use bstr::ByteSlice;
@@ -24,7 +24,7 @@ pub struct Setting<'a> {
 /// The settings of both inputs of a call, where their records are those of settings.
 pub fn settings_in<'a>(
     alloc: Global,
-    ends: Ends,
+    ends: Terminator,
     beside: &'a [u8],
     input: &'a [u8],
 ) -> Result<Vec<Setting<'a>>, Fault>
@@ -33,8 +33,8 @@ pub fn settings_in<'a>(
     ensures err { IfErr result (RefusesFormat (HasNoSettings ends beside.now input.now)) }
 {
     match ends {
-        Ends::Newline | Ends::Zero => Ok(Vec::new(alloc)),
-        Ends::Settings => {
+        Terminator::Newline | Terminator::Zero => Ok(Vec::new(alloc)),
+        Terminator::Settings => {
             let mut settings = settings_of(alloc, beside)?;
             let more = settings_of(alloc, input)?;
             settings.extend_from_slice(more.as_slice())?;

@@ -3,17 +3,17 @@
 ghost use Rattle.std.specs.Prelude.{◌≡◌, ◌∷◌, [], option_map, OnOk};
 ghost use Rattle.bstr.specs.Owned.{bstring_bytes};
 ghost use Rattle.refspec_json.specs.Views.{kind_name};
-ghost use Rattle.refspec_commands.specs.Json.{AddsObjects, PutsSpec};
-ghost use Rattle.refspec_commands.specs.Messages.{TellsRefusals};
+ghost use Rattle.refspec_commands.specs.Json.{AddsObjects, WritesSpec};
+ghost use Rattle.refspec_commands.specs.Messages.{ReportsRefusals};
 ghost use Rattle.refspec_commands.specs.Read.{IsRefusalOf};
 
 use crate::call::{Command, Form};
 use crate::checked::Checked;
 use crate::json;
-use crate::page::Page;
-use crate::quote::put_quoted;
-use crate::sentence::put_sentence;
-use crate::texts::{Place, Text};
+use crate::report::Report;
+use crate::quote::write_quoted;
+use crate::sentence::write_sentence;
+use crate::texts::{Location, Text};
 use bstr::BString;
 use gix_refspec::RefSpecRef;
 use gix_refspec::parsing::Operation;
@@ -22,22 +22,22 @@ use std::alloc::{AllocError, Global};
 use std::collections::BTreeMap;
 
 /// Tells what each text is: refusals, and of good texts what the command asks for.
-pub fn tell_specs(
+pub fn report_specs(
     alloc: Global,
     command: Command,
     verbose: bool,
     all: &[Checked<'_>],
-    page: &mut Page,
+    report: &mut Report,
 ) -> Result<(), AllocError>
-    ensures { OnOk result (TellsRefusals page.old.form all.now
-        page.old.messages.items page.new.messages.items) }
+    ensures { OnOk result (ReportsRefusals report.old.form all.now
+        report.old.messages.items report.new.messages.items) }
 {
     let mut seen = Seen::new(alloc);
     for checked in all {
         match checked {
-            Checked::Bad { text, error } => page.tell_refusal(alloc, text, error)?,
+            Checked::Bad { text, error } => report.report_refusal(alloc, text, error)?,
             Checked::Good { text, spec } => {
-                tell_spec(alloc, command, verbose, text, spec, &mut seen, page)?
+                report_spec(alloc, command, verbose, text, spec, &mut seen, report)?
             }
         }
     }
@@ -45,84 +45,84 @@ pub fn tell_specs(
 }
 
 // Tells of a spec what the command asks for.
-fn tell_spec<'a>(
+fn report_spec<'a>(
     alloc: Global,
     command: Command,
     verbose: bool,
     text: &Text<'a>,
     spec: &RefSpecRef<'_>,
     seen: &mut Seen<'a>,
-    page: &mut Page,
+    report: &mut Report,
 ) -> Result<(), AllocError>
-    ensures form { OnOk result (page.new.form ≡ page.old.form) }
-    ensures untold { OnOk result (page.new.messages ≡ page.old.messages) }
+    ensures form { OnOk result (report.new.form ≡ report.old.form) }
+    ensures untold { OnOk result (report.new.messages ≡ report.old.messages) }
 {
     match command {
-        Command::Explain => tell_meaning(alloc, text, spec, page),
-        _ if verbose => tell_good(alloc, text, spec, seen, page),
+        Command::Explain => report_meaning(alloc, text, spec, report),
+        _ if verbose => report_good(alloc, text, spec, seen, report),
         _ => Ok(()),
     }
 }
 
 /// Refuses each text that is no spec, and tells nothing of the others.
-pub fn tell_refusals(alloc: Global, all: &[Checked<'_>], page: &mut Page) -> Result<(), AllocError>
-    ensures objects { OnOk result (AddsObjects page.old.form IsRefusalOf all.now
-        page.old.results.items page.new.results.items) }
-    ensures told { OnOk result (TellsRefusals page.old.form all.now
-        page.old.messages.items page.new.messages.items) }
+pub fn report_refusals(alloc: Global, all: &[Checked<'_>], report: &mut Report) -> Result<(), AllocError>
+    ensures objects { OnOk result (AddsObjects report.old.form IsRefusalOf all.now
+        report.old.results.items report.new.results.items) }
+    ensures reported { OnOk result (ReportsRefusals report.old.form all.now
+        report.old.messages.items report.new.messages.items) }
 {
     for checked in all {
-        refuse_bad(alloc, checked, page)?;
+        refuse_bad(alloc, checked, report)?;
     }
     Ok(())
 }
 
 // Refuses a text that is no spec.
-fn refuse_bad(alloc: Global, checked: &Checked<'_>, page: &mut Page) -> Result<(), AllocError>
-    ensures form { OnOk result (page.new.form ≡ page.old.form) }
-    ensures objects { OnOk result (AddsObjects page.old.form IsRefusalOf (checked.now ∷ [])
-        page.old.results.items page.new.results.items) }
-    ensures told { OnOk result (TellsRefusals page.old.form (checked.now ∷ [])
-        page.old.messages.items page.new.messages.items) }
+fn refuse_bad(alloc: Global, checked: &Checked<'_>, report: &mut Report) -> Result<(), AllocError>
+    ensures form { OnOk result (report.new.form ≡ report.old.form) }
+    ensures objects { OnOk result (AddsObjects report.old.form IsRefusalOf (checked.now ∷ [])
+        report.old.results.items report.new.results.items) }
+    ensures reported { OnOk result (ReportsRefusals report.old.form (checked.now ∷ [])
+        report.old.messages.items report.new.messages.items) }
 {
     match checked {
-        Checked::Bad { text, error } => page.tell_refusal(alloc, text, error),
+        Checked::Bad { text, error } => report.report_refusal(alloc, text, error),
         Checked::Good { .. } => Ok(()),
     }
 }
 
 // Tells what a spec means.
-fn tell_meaning(
+fn report_meaning(
     alloc: Global,
     text: &Text<'_>,
     spec: &RefSpecRef<'_>,
-    page: &mut Page,
+    report: &mut Report,
 ) -> Result<(), AllocError>
-    ensures form { OnOk result (page.new.form ≡ page.old.form) }
-    ensures untold { OnOk result (page.new.messages ≡ page.old.messages) }
+    ensures form { OnOk result (report.new.form ≡ report.old.form) }
+    ensures untold { OnOk result (report.new.messages ≡ report.old.messages) }
 {
-    match page.form {
+    match report.form {
         Form::Lines => {
-            put_sentence(alloc, &mut page.results, spec, page.form)?;
-            page.results.push(b'\n')?;
+            write_sentence(alloc, &mut report.results, spec, report.form)?;
+            report.results.push(b'\n')?;
         }
         Form::Zeros => {
-            put_sentence(alloc, &mut page.results, spec, page.form)?;
-            page.results.push(0)?;
+            write_sentence(alloc, &mut report.results, spec, report.form)?;
+            report.results.push(0)?;
         }
         Form::Json => {
             let canonical = spec.to_bstring(alloc)?;
             let mut sentence = Vec::new(alloc);
-            put_sentence(alloc, &mut sentence, spec, page.form)?;
+            write_sentence(alloc, &mut sentence, spec, report.form)?;
             let sentence = json::text_of(alloc, sentence.as_slice())?;
-            put_told(
+            write_reported(
                 alloc,
                 SpecKind::Meaning,
                 text,
                 &canonical,
                 Some(sentence.as_str()),
                 None,
-                &mut page.results,
+                &mut report.results,
             )?;
         }
     }
@@ -130,62 +130,62 @@ fn tell_meaning(
 }
 
 // Tells that a text is good, and which earlier one says the same.
-fn tell_good<'a>(
+fn report_good<'a>(
     alloc: Global,
     text: &Text<'a>,
     spec: &RefSpecRef<'_>,
     seen: &mut Seen<'a>,
-    page: &mut Page,
+    report: &mut Report,
 ) -> Result<(), AllocError>
-    ensures form { OnOk result (page.new.form ≡ page.old.form) }
-    ensures untold { OnOk result (page.new.messages ≡ page.old.messages) }
+    ensures form { OnOk result (report.new.form ≡ report.old.form) }
+    ensures untold { OnOk result (report.new.messages ≡ report.old.messages) }
 {
     let canonical = spec.to_bstring(alloc)?;
     let earlier = seen.earlier(alloc, text, &canonical)?;
-    if page.form == Form::Json {
-        let place = match &earlier {
+    if report.form == Form::Json {
+        let location = match &earlier {
             None => None,
-            Some(place) => Some(json::shown_place(alloc, place)?),
+            Some(location) => Some(json::shown_location(alloc, location)?),
         };
-        let same_as = place.as_ref().map(|place| place.as_str());
-        return put_told(
+        let same_as = location.as_ref().map(|location| location.as_str());
+        return write_reported(
             alloc,
             SpecKind::Good,
             text,
             &canonical,
             None,
             same_as,
-            &mut page.results,
+            &mut report.results,
         );
     }
-    put_good(text, &canonical, &earlier, page.form, &mut page.results)
+    write_good(text, &canonical, &earlier, report.form, &mut report.results)
 }
 
 // Puts the line, or the fields, of a good text at the end.
-fn put_good(
+fn write_good(
     text: &Text<'_>,
     canonical: &BString,
-    earlier: &Option<Place<'_>>,
+    earlier: &Option<Location<'_>>,
     form: Form,
     out: &mut Vec<u8>,
 ) -> Result<(), AllocError> {
     if form == Form::Zeros {
-        text.place.put(out, form)?;
+        text.location.write(out, form)?;
         out.push(0)?;
         out.extend_from_slice(canonical.as_bytes())?;
         out.push(0)?;
-        if let Some(place) = earlier {
-            place.put(out, form)?;
+        if let Some(location) = earlier {
+            location.write(out, form)?;
         }
         out.push(0)?;
         return Ok(());
     }
-    text.place.put(out, form)?;
+    text.location.write(out, form)?;
     out.extend_from_slice(b": ")?;
-    put_quoted(out, canonical.as_bytes())?;
-    if let Some(place) = earlier {
+    write_quoted(out, canonical.as_bytes())?;
+    if let Some(location) = earlier {
         out.extend_from_slice(b" (says the same as ")?;
-        place.put(out, form)?;
+        location.write(out, form)?;
         out.push(b')')?;
     }
     out.push(b'\n')?;
@@ -193,7 +193,7 @@ fn put_good(
 }
 
 /// Puts the object of a spec at the end.
-pub fn put_told(
+pub fn write_reported(
     alloc: Global,
     kind: SpecKind,
     text: &Text<'_>,
@@ -202,36 +202,36 @@ pub fn put_told(
     same_as: Option<&str>,
     out: &mut Vec<u8>,
 ) -> Result<(), AllocError>
-    ensures { OnOk result (PutsSpec (kind_name kind) text.now (bstring_bytes canonical.now)
+    ensures { OnOk result (WritesSpec (kind_name kind) text.now (bstring_bytes canonical.now)
         (option_map (λ t. t.now) meaning.entry) (option_map (λ t. t.now) same_as.entry)
         out.old.items out.new.items) }
 {
-    let place = json::shown_place(alloc, &text.place)?;
+    let location = json::shown_location(alloc, &text.location)?;
     let shown = json::text_of(alloc, text.bytes)?;
     let canonical = json::text_of(alloc, canonical.as_bytes())?;
     let object = refspec_json::Spec {
         kind,
-        place: place.as_str(),
+        location: location.as_str(),
         operation: json::operation_of(text.operation),
         text: shown.as_str(),
         canonical: canonical.as_str(),
         meaning,
         same_as,
     };
-    object.put_line(alloc, out)
+    object.write_line(alloc, out)
 }
 
 // Where each canonical text stood first, by its operation and its bytes.
 #[derive(Drop)]
 struct Seen<'a> {
-    places: BTreeMap<Vec<u8>, Place<'a>>,
+    locations: BTreeMap<Vec<u8>, Location<'a>>,
 }
 
 impl<'a> Seen<'a> {
     // No texts.
     fn new(alloc: Global) -> Seen<'a> {
         Seen {
-            places: BTreeMap::new(alloc),
+            locations: BTreeMap::new(alloc),
         }
     }
 
@@ -241,14 +241,14 @@ impl<'a> Seen<'a> {
         alloc: Global,
         text: &Text<'a>,
         canonical: &BString,
-    ) -> Result<Option<Place<'a>>, AllocError> {
+    ) -> Result<Option<Location<'a>>, AllocError> {
         let mut key = Vec::new(alloc);
         key.push(u8::from(text.operation == Operation::Push))?;
         key.extend_from_slice(canonical.as_bytes())?;
-        if let Some(place) = self.places.get(&key) {
-            return Ok(Some(*place));
+        if let Some(location) = self.locations.get(&key) {
+            return Ok(Some(*location));
         }
-        self.places.insert(key, text.place)?;
+        self.locations.insert(key, text.location)?;
         Ok(None)
     }
 }

@@ -7,7 +7,6 @@ use crate::call::{Call, Form};
 use crate::plan::{Plan, Written};
 use gix_refspec::match_group::{Item, Mapping};
 use gix_refspec::{MatchGroup, RefSpecRef};
-use gix_refspec_text::spec::sign::is_negative;
 use std::alloc::{AllocError, Global};
 use std::mem;
 
@@ -31,7 +30,7 @@ impl Summary {
         }
         let mut positive = Vec::with_capacity(alloc, specs.len())?;
         for spec in specs {
-            if !is_negative(spec) {
+            if !spec.is_negative() {
                 positive.push(*spec)?;
             }
         }
@@ -49,7 +48,7 @@ impl Summary {
     }
 
     /// Puts the line at the end: how many refs are written by how many specs, and how many are left out by what.
-    pub fn put(
+    pub fn write(
         &self,
         alloc: Global,
         plan: &Plan<'_, '_>,
@@ -71,7 +70,7 @@ impl Summary {
             seen.add(&left_out.mapping);
         }
         let excluded = taken.saturating_sub(seen.refs);
-        put_line(alloc, refs, used, excluded, bad, out)
+        write_line(alloc, refs, used, excluded, bad, out)
     }
 }
 
@@ -122,7 +121,7 @@ fn set(flags: &mut Vec<bool>, index: usize) -> bool {
 }
 
 // Puts the line at the end.
-fn put_line(
+fn write_line(
     alloc: Global,
     refs: usize,
     specs: usize,

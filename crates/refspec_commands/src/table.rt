@@ -1,10 +1,10 @@
 //! Rows of fields, aligned.
 
 ghost use Rattle.std.specs.Prelude.{◌≡◌, ◌++◌, OnOk, replicate};
-ghost use Rattle.refspec_commands.specs.Rows.{PutsCell};
-ghost use Rattle.refspec_commands.specs.Shown.{PutsQuoted};
+ghost use Rattle.refspec_commands.specs.Rows.{WritesCell};
+ghost use Rattle.refspec_commands.specs.Shown.{WritesQuoted};
 
-use crate::quote::{is_plain, is_plain_ascii, put_in_quotes, put_quoted};
+use crate::quote::{is_plain, is_plain_ascii, write_in_quotes, write_quoted};
 use std::alloc::{AllocError, Global};
 use unicode_width::UnicodeWidthStr;
 
@@ -50,18 +50,18 @@ impl Layout {
 
     /// Puts a field at the end, and spaces up to a width and two more.
     #[inline]
-    pub fn put_cell(
+    pub fn write_cell(
         &self,
         alloc: Global,
         out: &mut Vec<u8>,
         field: &[u8],
         width: usize,
     ) -> Result<(), AllocError>
-        ensures { OnOk result (PutsCell field.now out.old.items out.new.items) }
+        ensures { OnOk result (WritesCell field.now out.old.items out.new.items) }
     {
         let shown = self.shown_width(alloc, field)?;
-        self.put_field(out, field)?;
-        put_spaces(out, width.saturating_sub(shown).saturating_add(2))
+        self.write_field(out, field)?;
+        write_spaces(out, width.saturating_sub(shown).saturating_add(2))
     }
 
     // How wide one of the fields is, as it is shown.
@@ -74,13 +74,13 @@ impl Layout {
 
     /// Puts a field at the end.
     #[inline(always)]
-    pub fn put_field(&self, out: &mut Vec<u8>, field: &[u8]) -> Result<(), AllocError>
-        ensures { OnOk result (PutsQuoted field.now out.old.items out.new.items) }
+    pub fn write_field(&self, out: &mut Vec<u8>, field: &[u8]) -> Result<(), AllocError>
+        ensures { OnOk result (WritesQuoted field.now out.old.items out.new.items) }
     {
         if self.is_ascii {
             return out.extend_from_slice(field);
         }
-        put_quoted(out, field)
+        write_quoted(out, field)
     }
 }
 
@@ -90,12 +90,12 @@ fn width_of(alloc: Global, field: &[u8]) -> Result<usize, AllocError> {
         return Ok(str::from_utf8(field).unwrap_or("").width());
     }
     let mut quoted = Vec::new(alloc);
-    put_in_quotes(&mut quoted, field)?;
+    write_in_quotes(&mut quoted, field)?;
     Ok(quoted.len())
 }
 
 // Puts spaces at the end.
-fn put_spaces(out: &mut Vec<u8>, count: usize) -> Result<(), AllocError>
+fn write_spaces(out: &mut Vec<u8>, count: usize) -> Result<(), AllocError>
     ensures { OnOk result (out.new.items ≡ out.old.items ++ replicate count 32) }
 {
     match out.len().checked_add(count) {

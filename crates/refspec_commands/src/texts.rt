@@ -5,9 +5,9 @@ ghost use Rattle.refspec_commands.specs.Input.{end_byte};
 ghost use Rattle.refspec_commands.specs.Settings.{AreSettingsOf};
 ghost use Rattle.refspec_commands.specs.Texts.{AddsInputs, AddsRecords, AddsValues, AreTexts, given_of, numbered, record_at, spec_input};
 
-use crate::call::{Call, Command, Ends, Form};
+use crate::call::{Call, Command, Terminator, Form};
 use crate::input::{end_of, records};
-use crate::quote::put_shown;
+use crate::quote::write_shown;
 use crate::settings::{Setting, operation_of};
 use gix_refspec::parsing::Operation;
 use itoa::Buffer;
@@ -15,7 +15,7 @@ use std::alloc::{AllocError, Global};
 
 /// Where a text is found.
 #[derive(Clone, Copy, Debug)]
-pub enum Place<'a> {
+pub enum Location<'a> {
     /// The word of the call with this number, counted from 1.
     Word(usize),
     /// The record of an input with this number, counted from 1.
@@ -27,39 +27,39 @@ pub enum Place<'a> {
 /// The text of a spec.
 #[derive(Clone, Copy, Debug)]
 pub struct Text<'a> {
-    pub place: Place<'a>,
+    pub location: Location<'a>,
     pub operation: Operation,
     pub bytes: &'a [u8],
 }
 
-impl Place<'_> {
-    ghost use Rattle.refspec_commands.specs.Messages.{PutsPlace};
+impl Location<'_> {
+    ghost use Rattle.refspec_commands.specs.Messages.{WritesLocation};
 
     /// Puts the place at the end, as compilers show places.
-    pub fn put(&self, out: &mut Vec<u8>, form: Form) -> Result<(), AllocError>
-        ensures { OnOk result (PutsPlace form self.now out.old.items out.new.items) }
+    pub fn write(&self, out: &mut Vec<u8>, form: Form) -> Result<(), AllocError>
+        ensures { OnOk result (WritesLocation form self.now out.old.items out.new.items) }
     {
         match self {
-            Place::Word(number) => {
+            Location::Word(number) => {
                 out.extend_from_slice(b"spec ")?;
-                put_number(out, *number)
+                write_number(out, *number)
             }
-            Place::Record { input, number } => {
-                put_shown(out, input.as_bytes(), form)?;
+            Location::Record { input, number } => {
+                write_shown(out, input.as_bytes(), form)?;
                 out.push(b':')?;
-                put_number(out, *number)
+                write_number(out, *number)
             }
-            Place::Setting { origin, key } => {
-                put_shown(out, origin, form)?;
+            Location::Setting { origin, key } => {
+                write_shown(out, origin, form)?;
                 out.extend_from_slice(b": ")?;
-                put_shown(out, key, form)
+                write_shown(out, key, form)
             }
         }
     }
 }
 
 /// Puts a number at the end.
-pub fn put_number(out: &mut Vec<u8>, number: usize) -> Result<(), AllocError>
+pub fn write_number(out: &mut Vec<u8>, number: usize) -> Result<(), AllocError>
     ensures { OnOk result (out.new.items ≡ out.old.items ++ decimal number) }
 {
     let mut buffer = Buffer::new();
@@ -82,7 +82,7 @@ pub fn texts_of<'a>(
     let mut texts = Vec::new(alloc);
     for word in &call.specs {
         texts.push(Text {
-            place: Place::Word(texts.len().saturating_add(1)),
+            location: Location::Word(texts.len().saturating_add(1)),
             operation: call.operation,
             bytes: word.as_bytes(),
         })?;
@@ -116,8 +116,8 @@ fn add_inputs<'a>(
         (map given_of texts.old.items) (map given_of texts.new.items)) }
 {
     match call.ends {
-        Ends::Settings => add_values(settings, texts),
-        Ends::Newline | Ends::Zero => {
+        Terminator::Settings => add_values(settings, texts),
+        Terminator::Newline | Terminator::Zero => {
             add_texts(alloc, call, call.beside, beside, texts)?;
             add_texts(alloc, call, call.input, input, texts)
         }
@@ -154,7 +154,7 @@ fn add_records<'a>(
     for record in records {
         number = number.saturating_add(1);
         texts.push(Text {
-            place: Place::Record {
+            location: Location::Record {
                 input: name,
                 number,
             },
@@ -188,7 +188,7 @@ fn add_value<'a>(setting: &Setting<'a>, texts: &mut Vec<Text<'a>>) -> Result<(),
         return Ok(());
     };
     texts.push(Text {
-        place: Place::Setting {
+        location: Location::Setting {
             origin: setting.origin,
             key: setting.key,
         },

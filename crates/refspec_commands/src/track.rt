@@ -9,14 +9,14 @@ ghost use Rattle.gix_refspec.specs.Texts.ObjectId.{id_bytes};
 ghost use Rattle.gix_refspec.specs.Views.Spec.{reading_of};
 ghost use Rattle.refspec_json.specs.Objects.{line_of, noted_object, untracked_object};
 ghost use Rattle.refspec_commands.specs.Json.{json_text};
-ghost use Rattle.refspec_commands.specs.Shown.{KeepsPage, KeepsResults};
+ghost use Rattle.refspec_commands.specs.Shown.{KeepsReport, KeepsResults};
 ghost use Rattle.refspec_commands.specs.Track.{AddsTracked, AreByNames, AreWritten, HasUnwritten, IsEachWritten, named};
 
 use crate::call::{Call, Form};
 use crate::json;
-use crate::mappings::{Columns, canonical_texts, tell_mappings};
-use crate::page::Page;
-use crate::quote::put_quoted;
+use crate::mappings::{Columns, canonical_texts, report_mappings};
+use crate::report::Report;
+use crate::quote::write_quoted;
 use bstr::{BStr, BString};
 use gix_refspec::match_group::{Item, Mapping, match_rhs};
 use gix_refspec::oid::{Kind, ObjectId};
@@ -26,32 +26,32 @@ use std::collections::BTreeSet;
 
 /// Tells which refs of the remote the tracking refs of a call are fetched from, and which belong to none. Returns
 /// whether some belong to none, or a spec can't be looked up by names.
-pub fn tell_tracking(
+pub fn report_tracking(
     alloc: Global,
     call: &Call<'_>,
     specs: Vec<RefSpecRef<'_>>,
-    page: &mut Page,
+    report: &mut Report,
 ) -> Result<bool, AllocError>
-    ensures { IfOk result (λ refused. AddsTracked page.old.form
+    ensures { IfOk result (λ refused. AddsTracked report.old.form
         (map (λ w. w.now) call.now.refs.items) refused (map reading_of specs.entry.items)
-        page.old.results.items page.new.results.items) }
+        report.old.results.items report.new.results.items) }
 {
     let count = specs.len();
-    let specs = by_names(alloc, specs.as_slice(), page)?;
+    let specs = by_names(alloc, specs.as_slice(), report)?;
     let looked_up = specs.len();
     let none = ObjectId::null(Kind::shortest());
     let items = items_named(alloc, call.refs.as_slice(), &none)?;
     let texts = canonical_texts(alloc, specs.as_slice())?;
     let outcome = tracked(alloc, specs, items.as_slice())?;
     let mappings = outcome.mappings.as_slice();
-    tell_mappings(
+    report_mappings(
         alloc,
         mappings,
         texts.as_slice(),
         Columns::DestinationFirst,
-        page,
+        report,
     )?;
-    let has_other = tell_others(alloc, call.refs.as_slice(), mappings, page)?;
+    let has_other = report_others(alloc, call.refs.as_slice(), mappings, report)?;
     if looked_up < count {
         return Ok(true);
     }
@@ -62,16 +62,16 @@ pub fn tell_tracking(
 fn by_names<'a>(
     alloc: Global,
     specs: &[RefSpecRef<'a>],
-    page: &mut Page,
+    report: &mut Report,
 ) -> Result<Vec<RefSpecRef<'a>>, AllocError>
     ensures kept { IfOk result (λ kept. AreByNames
         (map reading_of specs.now) (map reading_of kept.items)) }
-    ensures page { OnOk result (KeepsPage page.old page.new) }
+    ensures report { OnOk result (KeepsReport report.old report.new) }
 {
     let mut kept = Vec::with_capacity(alloc, specs.len())?;
     for spec in specs {
         if has_id_destination(spec) {
-            tell_to_object(alloc, spec, page)?;
+            report_to_object(alloc, spec, report)?;
         } else {
             kept.push(*spec)?;
         }
@@ -105,27 +105,27 @@ const WHY_TO_OBJECT: &str =
     "The destination reads as an object id, so no ref can be looked up by its name. Write the full name of a ref, such as refs/heads/x.";
 
 // Tells of a spec whose destination is an object id.
-fn tell_to_object(alloc: Global, spec: &RefSpecRef<'_>, page: &mut Page) -> Result<(), AllocError>
-    ensures { OnOk result (KeepsPage page.old page.new) }
+fn report_to_object(alloc: Global, spec: &RefSpecRef<'_>, report: &mut Report) -> Result<(), AllocError>
+    ensures { OnOk result (KeepsReport report.old report.new) }
 {
     let canonical = spec.to_bstring(alloc)?;
-    match page.form {
-        Form::Json => put_to_object(
+    match report.form {
+        Form::Json => write_to_object(
             alloc,
             canonical.as_bytes(),
             WHY_TO_OBJECT,
-            &mut page.results,
+            &mut report.results,
         ),
-        Form::Lines | Form::Zeros => put_line(
+        Form::Lines | Form::Zeros => write_line(
             canonical.as_bytes(),
             WHY_TO_OBJECT,
-            &mut page.messages,
+            &mut report.messages,
         ),
     }
 }
 
 // Puts the object of such a spec and a sentence on it at the end.
-fn put_to_object(
+fn write_to_object(
     alloc: Global,
     spec: &[u8],
     message: &str,
@@ -139,7 +139,7 @@ fn put_to_object(
         spec: shown.as_str(),
         message,
     };
-    object.put_line(alloc, out)
+    object.write_line(alloc, out)
 }
 
 // Refs with these names. They point to the null id: of a tracking ref the name alone is given.
@@ -163,14 +163,14 @@ fn items_named<'a>(
 }
 
 // Tells of the refs that no mapping has. Returns whether there are some.
-fn tell_others(
+fn report_others(
     alloc: Global,
     names: &[&str],
     mappings: &[Mapping<'_, '_>],
-    page: &mut Page,
+    report: &mut Report,
 ) -> Result<bool, AllocError>
-    ensures kept { OnOk result (KeepsResults page.old.form
-        page.old.results.items page.new.results.items) }
+    ensures kept { OnOk result (KeepsResults report.old.form
+        report.old.results.items report.new.results.items) }
     ensures some { IfOk result (λ some. MatchBool some
         (HasUnwritten (map (λ n. n.now) names.now) (map mapped_of mappings.now))
         (IsEachWritten (map (λ n. n.now) names.now) (map mapped_of mappings.now))) }
@@ -179,7 +179,7 @@ fn tell_others(
     let mut has_other = false;
     for name in names {
         if !written.contains(name.as_bytes()) {
-            tell_untracked(alloc, name.as_bytes(), page)?;
+            report_untracked(alloc, name.as_bytes(), report)?;
             has_other = true;
         }
     }
@@ -220,13 +220,13 @@ pub fn tracked<'spec, 'item>(
 }
 
 // Tells of a ref that no spec writes.
-fn tell_untracked(alloc: Global, name: &[u8], page: &mut Page) -> Result<(), AllocError>
-    ensures { OnOk result (KeepsPage page.old page.new) }
+fn report_untracked(alloc: Global, name: &[u8], report: &mut Report) -> Result<(), AllocError>
+    ensures { OnOk result (KeepsReport report.old report.new) }
 {
     let message = why_untracked(name);
-    match page.form {
-        Form::Json => put_object(alloc, name, message, &mut page.results),
-        Form::Lines | Form::Zeros => put_line(name, message, &mut page.messages),
+    match report.form {
+        Form::Json => write_object(alloc, name, message, &mut report.results),
+        Form::Lines | Form::Zeros => write_line(name, message, &mut report.messages),
     }
 }
 
@@ -240,8 +240,8 @@ fn why_untracked(name: &[u8]) -> &'static str {
 }
 
 // Puts the line of such a ref, or of such a spec, at the end.
-fn put_line(name: &[u8], message: &str, out: &mut Vec<u8>) -> Result<(), AllocError> {
-    put_quoted(out, name)?;
+fn write_line(name: &[u8], message: &str, out: &mut Vec<u8>) -> Result<(), AllocError> {
+    write_quoted(out, name)?;
     out.extend_from_slice(b": ")?;
     out.extend_from_slice(message.as_bytes())?;
     out.push(b'\n')?;
@@ -249,7 +249,7 @@ fn put_line(name: &[u8], message: &str, out: &mut Vec<u8>) -> Result<(), AllocEr
 }
 
 // Puts the object of such a ref at the end.
-fn put_object(
+fn write_object(
     alloc: Global,
     name: &[u8],
     message: &str,
@@ -263,5 +263,5 @@ fn put_object(
         name: name.as_str(),
         message,
     };
-    object.put_line(alloc, out)
+    object.write_line(alloc, out)
 }

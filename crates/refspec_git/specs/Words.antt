@@ -7,4 +7,4 @@ pub data BeginsAsSpec : List ℕ → Type 0 where
   empty : BeginsAsSpec []
   forced : (rest : List ℕ) → BeginsAsSpec (43 ∷ rest)
   negative : (rest : List ℕ) → BeginsAsSpec (94 ∷ rest)
-  full : (word : List ℕ) → BeginsWith (codes "refs/") word → BeginsAsSpec word
+  full : (argument : List ℕ) → BeginsWith (codes "refs/") argument → BeginsAsSpec argument

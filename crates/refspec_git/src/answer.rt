@@ -2,14 +2,14 @@
 
 ghost use Rattle.std.specs.Prelude.{◌≤◌, OnOk};
 
-use crate::ask::{BRANCH, CONFIG, FOLDER, GitCall, WORDS};
-use crate::checking::{tell_check, tell_refused_values};
+use crate::ask::{BRANCH, CONFIG, FOLDER, GitCall, ARGUMENTS};
+use crate::checking::{report_check, report_refused_values};
 use crate::choice::{Repository, choice_of};
-use crate::fetch::{tell_plan, tell_prefixes};
+use crate::fetch::{report_plan, report_prefixes};
 use crate::refusal::Refusal;
-use crate::tracking::tell_tracking;
+use crate::tracking::report_tracking;
 use crate::usage::{OPTIONS, USAGE, VERSION};
-use crate::words::{Command, Request, Wish, wish_of};
+use crate::arguments::{Command, Request, Wish, wish_of};
 use refspec_commands::call::Call;
 use refspec_commands::fault::Fault;
 use refspec_commands::input::records;
@@ -46,12 +46,12 @@ pub enum Answer {
     /// It needs the outputs of these commands first, as `GitCall::put` writes them.
     Asks(Vec<u8>),
     /// It ends with these.
-    Tells(Told),
+    Reports(Output),
 }
 
 /// What a call writes, and its exit status.
 #[derive(Debug, Drop)]
-pub struct Told {
+pub struct Output {
     /// What goes to the standard output.
     pub results: Vec<u8>,
     /// What goes to the standard error.
@@ -59,10 +59,10 @@ pub struct Told {
     pub status: u8,
 }
 
-impl Told {
+impl Output {
     /// Nothing, with status 0.
-    pub fn new(alloc: Global) -> Told {
-        Told {
+    pub fn new(alloc: Global) -> Output {
+        Output {
             results: Vec::new(alloc),
             messages: Vec::new(alloc),
             status: 0,
@@ -75,7 +75,7 @@ impl Told {
         ensures kept { self.old.status ≤ self.new.status }
     {
         self.status = self.status.max(refusal.status());
-        refusal.put(&mut self.messages)
+        refusal.write(&mut self.messages)
     }
 
     /// Adds what `refspec` tells of a call. A status that isn't 0 stays so.
@@ -142,13 +142,13 @@ pub fn answer_call<M: Machine, D: Discard>(
     machine: &M,
     done: &mut D,
 ) -> Result<Answer, Fault> {
-    let Some(words) = machine.output(WORDS)? else {
+    let Some(arguments) = machine.output(ARGUMENTS)? else {
         return Err(Fault::Read);
     };
-    let words = records(alloc, words.as_slice(), 0)?;
-    match wish_of(alloc, words.as_slice()) {
+    let arguments = records(alloc, arguments.as_slice(), 0)?;
+    match wish_of(alloc, arguments.as_slice()) {
         Err(refusal) => refused(alloc, &refusal),
-        Ok(Wish::Page) => shown(alloc, &[USAGE, OPTIONS]),
+        Ok(Wish::Report) => shown(alloc, &[USAGE, OPTIONS]),
         Ok(Wish::Version) => shown(alloc, &[VERSION]),
         Ok(Wish::Manual) => asks(alloc, &[GitCall::Manual]),
         Ok(Wish::Request(request)) => answer_request(alloc, machine, &request, done),
@@ -157,25 +157,25 @@ pub fn answer_call<M: Machine, D: Discard>(
 
 // Ends a call with a refusal.
 fn refused(alloc: Global, refusal: &Refusal<'_>) -> Result<Answer, Fault> {
-    let mut told = Told::new(alloc);
-    told.refuse(refusal)?;
-    Ok(Answer::Tells(told))
+    let mut reported = Output::new(alloc);
+    reported.refuse(refusal)?;
+    Ok(Answer::Reports(reported))
 }
 
 // Ends a call with texts.
 fn shown(alloc: Global, texts: &[&str]) -> Result<Answer, Fault> {
-    let mut told = Told::new(alloc);
+    let mut reported = Output::new(alloc);
     for text in texts {
-        told.results.extend_from_slice(text.as_bytes())?;
+        reported.results.extend_from_slice(text.as_bytes())?;
     }
-    Ok(Answer::Tells(told))
+    Ok(Answer::Reports(reported))
 }
 
 /// Asks for commands.
 pub fn asks(alloc: Global, calls: &[GitCall<'_>]) -> Result<Answer, Fault> {
     let mut lines = Vec::new(alloc);
     for call in calls {
-        call.put(alloc, &mut lines)?;
+        call.write(alloc, &mut lines)?;
     }
     Ok(Answer::Asks(lines))
 }
@@ -219,9 +219,9 @@ fn line_of(output: &[u8]) -> &[u8] {
 
 // Whether the first word of a request is a path that exists.
 fn is_path<M: Machine>(machine: &M, request: &Request<'_>) -> bool {
-    match request.words.first() {
+    match request.arguments.first() {
         None => false,
-        Some(word) => match str::from_utf8(word) {
+        Some(argument) => match str::from_utf8(argument) {
             Ok(path) => !path.is_empty() && machine.has(path),
             Err(_) => false,
         },
@@ -259,15 +259,15 @@ fn answer_in<'a, M: Machine, D: Discard>(
     done: &mut D,
 ) -> Result<Answer, Stop<'a>> {
     if request.command == Command::Check {
-        let told = tell_check(alloc, machine, request, repository, done)?;
-        return Ok(Answer::Tells(told));
+        let reported = report_check(alloc, machine, request, repository, done)?;
+        return Ok(Answer::Reports(reported));
     }
-    let told = tell_refused_values(alloc, request, repository.settings, done)?;
-    if told.status != 0 {
-        return Ok(Answer::Tells(told));
+    let reported = report_refused_values(alloc, request, repository.settings, done)?;
+    if reported.status != 0 {
+        return Ok(Answer::Reports(reported));
     }
     match request.command {
-        Command::Track => tell_tracking(alloc, machine, request, repository, done),
+        Command::Track => report_tracking(alloc, machine, request, repository, done),
         command => {
             let choice = choice_of(alloc, request, repository)?;
             if let Some(old) = repository.old_remote(choice.remote) {
@@ -277,9 +277,9 @@ fn answer_in<'a, M: Machine, D: Discard>(
                 if !repository.may_fetch(choice.remote) {
                     return Err(Stop::Refused(Refusal::NoRemoteNoSpec(choice.remote)));
                 }
-                return tell_prefixes(alloc, request, repository, &choice, done);
+                return report_prefixes(alloc, request, repository, &choice, done);
             }
-            tell_plan(alloc, machine, request, repository, &choice, done)
+            report_plan(alloc, machine, request, repository, &choice, done)
         }
     }
 }

@@ -3,7 +3,7 @@
 use std::alloc::{AllocError, Global};
 
 /// The files of the outputs of commands, and that of the words of the call, each ended by a zero byte.
-pub const WORDS: &str = "words";
+pub const ARGUMENTS: &str = "words";
 
 pub const FOLDER: &str = "folder";
 
@@ -46,14 +46,14 @@ pub fn name_file(alloc: Global, number: usize) -> Result<String, AllocError> {
 impl GitCall<'_> {
     /// Puts the command at the end, a line each: the file of its output, or `-` if it is to be shown, the words after
     /// `git`, and an empty line. No word is empty or has a newline.
-    pub fn put(&self, alloc: Global, out: &mut Vec<u8>) -> Result<(), AllocError> {
+    pub fn write(&self, alloc: Global, out: &mut Vec<u8>) -> Result<(), AllocError> {
         match self {
-            GitCall::Manual => put_lines(out, &[SHOWN, b"help", b"refspec"])?,
-            GitCall::Folder => put_lines(
+            GitCall::Manual => write_lines(out, &[SHOWN, b"help", b"refspec"])?,
+            GitCall::Folder => write_lines(
                 out,
                 &[FOLDER.as_bytes(), b"rev-parse", b"--git-common-dir"],
             )?,
-            GitCall::Config => put_lines(
+            GitCall::Config => write_lines(
                 out,
                 &[
                     CONFIG.as_bytes(),
@@ -63,22 +63,22 @@ impl GitCall<'_> {
                     b"--list",
                 ],
             )?,
-            GitCall::Branch => put_lines(out, &[BRANCH.as_bytes(), b"branch", b"--show-current"])?,
+            GitCall::Branch => write_lines(out, &[BRANCH.as_bytes(), b"branch", b"--show-current"])?,
             GitCall::Lines(remote) => {
-                put_lines(out, &[LINES.as_bytes(), b"ls-remote", b"--", remote])?
+                write_lines(out, &[LINES.as_bytes(), b"ls-remote", b"--", remote])?
             }
             GitCall::Refs(names) => {
                 let format: &[u8] = b"--format=%(refname) %(symref)";
-                put_lines(out, &[REFS.as_bytes(), b"for-each-ref", format])?;
+                write_lines(out, &[REFS.as_bytes(), b"for-each-ref", format])?;
                 for name in *names {
-                    put_lines(out, &[name.as_slice()])?;
+                    write_lines(out, &[name.as_slice()])?;
                 }
             }
-            GitCall::FullName(number, word) => {
+            GitCall::FullName(number, argument) => {
                 let file = name_file(alloc, *number)?;
-                put_lines(
+                write_lines(
                     out,
-                    &[file.as_bytes(), b"rev-parse", b"--symbolic-full-name", word],
+                    &[file.as_bytes(), b"rev-parse", b"--symbolic-full-name", argument],
                 )?;
             }
         }
@@ -87,9 +87,9 @@ impl GitCall<'_> {
 }
 
 // Puts words at the end, a line each.
-fn put_lines(out: &mut Vec<u8>, words: &[&[u8]]) -> Result<(), AllocError> {
-    for word in words {
-        out.extend_from_slice(word)?;
+fn write_lines(out: &mut Vec<u8>, arguments: &[&[u8]]) -> Result<(), AllocError> {
+    for argument in arguments {
+        out.extend_from_slice(argument)?;
         out.push(b'\n')?;
     }
     Ok(())

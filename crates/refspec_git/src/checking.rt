@@ -1,10 +1,10 @@
 //! What `git refspec check` tells, and the refused values for which no other command tells anything.
 
-use crate::answer::{Machine, Stop, Told};
+use crate::answer::{Machine, Stop, Output};
 use crate::choice::{Looks, Repository, looks_of};
 use crate::refusal::Refusal;
-use crate::settings::{name_and_variable, put_settings};
-use crate::words::Request;
+use crate::settings::{name_and_variable, write_settings};
+use crate::arguments::Request;
 use gix_refspec::parsing::Operation;
 use refspec_commands::call::{Command, Form};
 use refspec_commands::fault::Fault;
@@ -14,51 +14,51 @@ use std::alloc::{AllocError, Global};
 use std::collections::BTreeSet;
 
 /// Tells the values of the remotes among the words, and the specs; without a word the values of all remotes.
-pub fn tell_check<'a, M: Machine, D: Discard>(
+pub fn report_check<'a, M: Machine, D: Discard>(
     alloc: Global,
     machine: &M,
     request: &Request<'a>,
     repository: &Repository<'a, 'a>,
     done: &mut D,
-) -> Result<Told, Stop<'a>> {
-    let mut told = Told::new(alloc);
+) -> Result<Output, Stop<'a>> {
+    let mut reported = Output::new(alloc);
     let chosen = chosen_of(alloc, request, repository)?;
     let values = values_of(alloc, repository.settings, &chosen.remotes)?;
-    tell_values(
+    report_values(
         alloc,
         request,
         chosen.specs.as_slice(),
         values.as_slice(),
         done,
-        &mut told,
+        &mut reported,
     )?;
-    if told.status == 0 && chosen.names_remotes() {
-        let all = tell_refused_values(alloc, request, repository.settings, done)?;
+    if reported.status == 0 && chosen.names_remotes() {
+        let all = report_refused_values(alloc, request, repository.settings, done)?;
         if all.status != 0 {
-            told.refuse(&Refusal::OtherRefused)?;
+            reported.refuse(&Refusal::OtherRefused)?;
         }
     }
     if chosen.remotes.is_none() {
         for old in repository.old {
             if let Some(refusal) = repository.old_remote(old.name.as_slice()) {
-                told.refuse(&refusal)?;
+                reported.refuse(&refusal)?;
             }
         }
     }
     let count = values.len().saturating_add(chosen.specs.len());
-    if count == 0 && told.status == 0 {
-        told.messages
+    if count == 0 && reported.status == 0 {
+        reported.messages
             .extend_from_slice(b"git refspec: there are no fetch or push values\n")?;
-    } else if is_silent(request, &told) && machine.is_watched() {
+    } else if is_silent(request, &reported) && machine.is_watched() {
         let line = format!(in alloc; "git refspec: {count} checked, all good\n")?;
-        told.messages.extend_from_slice(line.as_bytes())?;
+        reported.messages.extend_from_slice(line.as_bytes())?;
     }
-    Ok(told)
+    Ok(reported)
 }
 
 // Whether a person has been told nothing.
-fn is_silent(request: &Request<'_>, told: &Told) -> bool {
-    request.form == Form::Lines && told.results.is_empty() && told.messages.is_empty()
+fn is_silent(request: &Request<'_>, reported: &Output) -> bool {
+    request.form == Form::Lines && reported.results.is_empty() && reported.messages.is_empty()
 }
 
 // What is to be checked.
@@ -86,7 +86,7 @@ fn chosen_of<'a>(
     repository: &Repository<'a, 'a>,
 ) -> Result<Chosen<'a>, Stop<'a>> {
     let mut specs = Vec::new(alloc);
-    if request.remote.is_none() && request.words.is_empty() {
+    if request.remote.is_none() && request.arguments.is_empty() {
         return Ok(Chosen {
             remotes: None,
             specs,
@@ -99,11 +99,11 @@ fn chosen_of<'a>(
         }
         remotes.insert(name)?;
     }
-    for (number, word) in request.words.iter().enumerate() {
-        if is_remote(request, number, word, repository)? {
-            remotes.insert(*word)?;
+    for (number, argument) in request.arguments.iter().enumerate() {
+        if is_remote(request, number, argument, repository)? {
+            remotes.insert(*argument)?;
         } else {
-            specs.push(text_of(word)?)?;
+            specs.push(text_of(argument)?)?;
         }
     }
     for name in &remotes {
@@ -121,16 +121,16 @@ fn chosen_of<'a>(
 fn is_remote<'a>(
     request: &Request<'a>,
     number: usize,
-    word: &'a [u8],
+    argument: &'a [u8],
     repository: &Repository<'a, 'a>,
 ) -> Result<bool, Refusal<'a>> {
     if request.remote.is_some() {
         return Ok(false);
     }
-    if repository.has_remote(word) {
+    if repository.has_remote(argument) {
         return Ok(true);
     }
-    let is_spec = match (request.dashes, looks_of(word)) {
+    let is_spec = match (request.dashes, looks_of(argument)) {
         (Some(before), _) => number >= before,
         (None, Looks::Spec | Looks::Either) => true,
         (None, Looks::Url | Looks::Plain) => false,
@@ -138,14 +138,14 @@ fn is_remote<'a>(
     if is_spec {
         return Ok(false);
     }
-    Err(Refusal::NoRemoteNoSpec(word))
+    Err(Refusal::NoRemoteNoSpec(argument))
 }
 
 /// A spec among the words, as text.
-pub fn text_of(word: &[u8]) -> Result<&str, Refusal<'_>> {
-    match str::from_utf8(word) {
+pub fn text_of(argument: &[u8]) -> Result<&str, Refusal<'_>> {
+    match str::from_utf8(argument) {
         Ok(text) => Ok(text),
-        Err(_) => Err(Refusal::NotUtf8(word)),
+        Err(_) => Err(Refusal::NotUtf8(argument)),
     }
 }
 
@@ -171,26 +171,26 @@ fn values_of<'a>(
 }
 
 /// Tells the values of remotes that are refused. Git refuses all remotes as long as there is one.
-pub fn tell_refused_values<D: Discard>(
+pub fn report_refused_values<D: Discard>(
     alloc: Global,
     request: &Request<'_>,
     settings: &[Setting<'_>],
     done: &mut D,
-) -> Result<Told, Fault> {
-    let mut told = Told::new(alloc);
+) -> Result<Output, Fault> {
+    let mut reported = Output::new(alloc);
     let values = values_of(alloc, settings, &None)?;
-    tell_values(alloc, request, &[], values.as_slice(), done, &mut told)?;
-    Ok(told)
+    report_values(alloc, request, &[], values.as_slice(), done, &mut reported)?;
+    Ok(reported)
 }
 
 // Tells specs and values, as `refspec check` does: those without a value first, for which Git reads no other.
-fn tell_values<D: Discard>(
+fn report_values<D: Discard>(
     alloc: Global,
     request: &Request<'_>,
     specs: &[&str],
     values: &[Setting<'_>],
     done: &mut D,
-    told: &mut Told,
+    reported: &mut Output,
 ) -> Result<(), Fault> {
     let mut missing = Vec::new(alloc);
     let mut given = Vec::with_capacity(alloc, values.len())?;
@@ -201,8 +201,8 @@ fn tell_values<D: Discard>(
             given.push(*value)?;
         }
     }
-    check(alloc, request, &[], missing.as_slice(), done, told)?;
-    check(alloc, request, specs, given.as_slice(), done, told)
+    check(alloc, request, &[], missing.as_slice(), done, reported)?;
+    check(alloc, request, specs, given.as_slice(), done, reported)
 }
 
 // Tells specs and values, as `refspec check` does.
@@ -212,10 +212,10 @@ fn check<D: Discard>(
     specs: &[&str],
     values: &[Setting<'_>],
     done: &mut D,
-    told: &mut Told,
+    reported: &mut Output,
 ) -> Result<(), Fault> {
     let mut beside = Vec::new(alloc);
-    put_settings(&mut beside, values)?;
+    write_settings(&mut beside, values)?;
     let operation = if request.push {
         Operation::Push
     } else {
@@ -224,5 +224,5 @@ fn check<D: Discard>(
     let mut call = request.call_of(alloc, Command::Check);
     call.operation = operation;
     call.specs = Vec::from_slice(alloc, specs)?;
-    told.run(alloc, &call, beside.as_slice(), b"", done)
+    reported.run(alloc, &call, beside.as_slice(), b"", done)
 }

@@ -1,17 +1,17 @@
 //! Which remote and which specs the words of a call name.
 
 ghost use Rattle.std.specs.Prelude.{◌≡◌, ◌∷◌, [], true};
-ghost use Rattle.gix_refspec_text.specs.Texts.Words.{Holds, Lacks};
+ghost use Rattle.gix_refspec_text.specs.Texts.Words.{ContainsText, Lacks};
 ghost use Rattle.refspec_git.specs.Words.{BeginsAsSpec};
 
 use crate::answer::OldRemote;
 use crate::refusal::Refusal;
 use crate::remotes::{default_remote, is_configured, is_rewritten};
-use crate::words::Request;
+use crate::arguments::Request;
 use bstr::ByteSlice;
 use refspec_commands::settings::Setting;
-use gix_refspec_text::cut::holds;
-use gix_refspec_text::side::below_refs;
+use gix_refspec_text::split::contains;
+use gix_refspec_text::side::strip_refs;
 use std::alloc::Global;
 
 /// What a word looks like that no configuration knows.
@@ -28,53 +28,53 @@ pub enum Looks {
 }
 
 /// What a word looks like.
-pub fn looks_of(word: &[u8]) -> Looks
+pub fn looks_of(argument: &[u8]) -> Looks
     // What begins as a spec or has a star is never taken for a remote.
-    ensures spec { BeginsAsSpec word.now → result ≡ Looks.Spec }
-    ensures star { Holds (42 ∷ []) word.now → result ≡ Looks.Spec }
+    ensures spec { BeginsAsSpec argument.now → result ≡ Looks.Spec }
+    ensures star { ContainsText (42 ∷ []) argument.now → result ≡ Looks.Spec }
     // Only a word with a colon is in doubt, and a plain one has none.
-    ensures either { result ≡ Looks.Either → Holds (58 ∷ []) word.now }
-    ensures plain { result ≡ Looks.Plain → Lacks 58 word.now }
+    ensures either { result ≡ Looks.Either → ContainsText (58 ∷ []) argument.now }
+    ensures plain { result ≡ Looks.Plain → Lacks 58 argument.now }
 {
-    if begins_spec(word) {
+    if begins_spec(argument) {
         return Looks::Spec;
     }
-    if holds(word, b'*') {
+    if contains(argument, b'*') {
         return Looks::Spec;
     }
-    if is_path(word) || has_host(word) {
+    if is_path(argument) || has_host(argument) {
         return Looks::Url;
     }
-    if !holds(word, b':') {
+    if !contains(argument, b':') {
         return Looks::Plain;
     }
-    if word.contains_str(b":refs/") || word.ends_with(b":") {
+    if argument.contains_str(b":refs/") || argument.ends_with(b":") {
         return Looks::Spec;
     }
     Looks::Either
 }
 
 // Whether a word begins as specs alone do.
-fn begins_spec(word: &[u8]) -> bool
-    ensures { BeginsAsSpec word.now → result ≡ true }
+fn begins_spec(argument: &[u8]) -> bool
+    ensures { BeginsAsSpec argument.now → result ≡ true }
 {
-    match word {
+    match argument {
         [] | [b'+' | b'^', ..] => true,
-        _ => below_refs(word).is_some(),
+        _ => strip_refs(argument).is_some(),
     }
 }
 
 // Whether a word begins as paths alone do.
-fn is_path(word: &[u8]) -> bool {
-    match word {
+fn is_path(argument: &[u8]) -> bool {
+    match argument {
         b"." | b".." => true,
-        _ => word.starts_with(b"/") || word.starts_with(b"./") || word.starts_with(b"../"),
+        _ => argument.starts_with(b"/") || argument.starts_with(b"./") || argument.starts_with(b"../"),
     }
 }
 
 // Whether a word has a scheme, a helper or a user before its first colon: `https://host`, `ext::command`, `me@host:path`.
-fn has_host(word: &[u8]) -> bool {
-    match word.split_once_str(b":") {
+fn has_host(argument: &[u8]) -> bool {
+    match argument.split_once_str(b":") {
         None => false,
         Some((before, after)) => {
             after.starts_with(b"//") || after.starts_with(b":") || before.find_byte(b'@').is_some()
@@ -97,8 +97,8 @@ pub struct Repository<'a, 'b> {
 
 impl<'b> Repository<'_, 'b> {
     /// Whether a word is a remote that has a name.
-    pub fn has_remote(&self, word: &[u8]) -> bool {
-        is_configured(self.settings, word) || self.old.iter().any(|old| old.name.as_slice() == word)
+    pub fn has_remote(&self, argument: &[u8]) -> bool {
+        is_configured(self.settings, argument) || self.old.iter().any(|old| old.name.as_slice() == argument)
     }
 
     /// The refusal of a remote that only a file outside the configuration has.
@@ -123,10 +123,10 @@ impl<'b> Repository<'_, 'b> {
     }
 
     // Whether a first word is a remote for sure.
-    fn knows(&self, word: &[u8]) -> bool {
-        self.has_remote(word)
-            || is_rewritten(self.settings, word)
-            || self.is_path && looks_of(word) != Looks::Spec
+    fn knows(&self, argument: &[u8]) -> bool {
+        self.has_remote(argument)
+            || is_rewritten(self.settings, argument)
+            || self.is_path && looks_of(argument) != Looks::Spec
     }
 }
 
@@ -144,15 +144,15 @@ pub fn choice_of<'a>(
     request: &Request<'a>,
     repository: &Repository<'a, '_>,
 ) -> Result<Choice<'a>, Refusal<'a>> {
-    let words = request.words.as_slice();
-    let (remote, specs) = match (request.remote, words) {
-        (Some(remote), _) => (Some(remote), words),
-        (None, []) => (None, words),
+    let arguments = request.arguments.as_slice();
+    let (remote, specs) = match (request.remote, arguments) {
+        (Some(remote), _) => (Some(remote), arguments),
+        (None, []) => (None, arguments),
         (None, [first, rest @ ..]) => {
             if is_remote(request.dashes, first, repository)? {
                 (Some(*first), rest)
             } else {
-                (None, words)
+                (None, arguments)
             }
         }
     };
@@ -183,18 +183,18 @@ pub fn choice_of<'a>(
 // Whether a first word is a remote, and not a spec for the default one.
 fn is_remote<'a>(
     dashes: Option<usize>,
-    word: &'a [u8],
+    argument: &'a [u8],
     repository: &Repository<'_, '_>,
 ) -> Result<bool, Refusal<'a>> {
-    if repository.knows(word) {
+    if repository.knows(argument) {
         return Ok(true);
     }
-    match (dashes, looks_of(word)) {
+    match (dashes, looks_of(argument)) {
         (Some(before), looks) if before > 0 => Ok(true),
         (_, Looks::Spec) => Ok(false),
         (_, Looks::Url) => Ok(true),
         (Some(_), _) => Ok(false),
         (None, Looks::Plain) => Ok(true),
-        (None, Looks::Either) => Err(Refusal::UrlOrSpec(word)),
+        (None, Looks::Either) => Err(Refusal::UrlOrSpec(argument)),
     }
 }

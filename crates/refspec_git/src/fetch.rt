@@ -1,13 +1,13 @@
 //! What `git refspec plan` and `git refspec prefixes` tell of a remote.
 
-use crate::answer::{Answer, Machine, Stop, Told, asks};
+use crate::answer::{Answer, Machine, Stop, Output, asks};
 use crate::ask::{GitCall, LINES};
 use crate::checking::text_of;
 use crate::choice::{Choice, Repository};
-use crate::refusal::{Refusal, put_about};
-use crate::settings::{last_value, put_settings, settings_named};
+use crate::refusal::{Refusal, write_about};
+use crate::settings::{last_value, write_settings, settings_named};
 use crate::sources::{Names, Source, Sources};
-use crate::words::Request;
+use crate::arguments::Request;
 use bstr::BStr;
 use gix_refspec::name;
 use refspec_commands::call::{Call, Command, Form};
@@ -19,7 +19,7 @@ use std::alloc::{AllocError, Global};
 #[derive(Drop)]
 struct Specs<'a> {
     // Those that stand in no file, in order.
-    words: Vec<String>,
+    arguments: Vec<String>,
     // Those of the configuration, which follow.
     values: Vec<Setting<'a>>,
     // The names of `branch.NAME.merge`, which may be missing.
@@ -48,7 +48,7 @@ impl Specs<'_> {
 }
 
 /// Tells what a fetch of a remote writes.
-pub fn tell_plan<'a, M: Machine, D: Discard>(
+pub fn report_plan<'a, M: Machine, D: Discard>(
     alloc: Global,
     machine: &M,
     request: &Request<'a>,
@@ -62,9 +62,9 @@ pub fn tell_plan<'a, M: Machine, D: Discard>(
     };
     let mut specs = specs;
     specs.drop_covered(alloc, lines.as_slice())?;
-    let mut told = Told::new(alloc);
-    if tell_sources(alloc, request.form, &specs, lines.as_slice(), &mut told)? {
-        return Ok(Answer::Tells(told));
+    let mut reported = Output::new(alloc);
+    if report_sources(alloc, request.form, &specs, lines.as_slice(), &mut reported)? {
+        return Ok(Answer::Reports(reported));
     }
     // The specs of the configuration come with zero bytes, and so do the refs.
     for byte in lines.iter_mut() {
@@ -75,17 +75,17 @@ pub fn tell_plan<'a, M: Machine, D: Discard>(
     let mut call = call_of(alloc, Command::Plan, request, &specs)?;
     call.is_watched = machine.is_watched();
     let beside = beside_of(alloc, &specs)?;
-    let noted = told.messages.len();
-    told.run(alloc, &call, beside.as_slice(), lines.as_slice(), done)?;
-    if told.results.is_empty() && told.messages.len() == noted && told.status == 0 {
-        told.messages
+    let noted = reported.messages.len();
+    reported.run(alloc, &call, beside.as_slice(), lines.as_slice(), done)?;
+    if reported.results.is_empty() && reported.messages.len() == noted && reported.status == 0 {
+        reported.messages
             .extend_from_slice(b"git refspec: the specs map no ref of the remote\n")?;
     }
-    Ok(Answer::Tells(told))
+    Ok(Answer::Reports(reported))
 }
 
 /// Tells what to ask a remote for.
-pub fn tell_prefixes<'a, D: Discard>(
+pub fn report_prefixes<'a, D: Discard>(
     alloc: Global,
     request: &Request<'a>,
     repository: &Repository<'a, 'a>,
@@ -93,11 +93,11 @@ pub fn tell_prefixes<'a, D: Discard>(
     done: &mut D,
 ) -> Result<Answer, Stop<'a>> {
     let specs = specs_of(alloc, repository, choice)?;
-    let mut told = Told::new(alloc);
+    let mut reported = Output::new(alloc);
     let call = call_of(alloc, Command::Prefixes, request, &specs)?;
     let beside = beside_of(alloc, &specs)?;
-    told.run(alloc, &call, beside.as_slice(), b"", done)?;
-    Ok(Answer::Tells(told))
+    reported.run(alloc, &call, beside.as_slice(), b"", done)?;
+    Ok(Answer::Reports(reported))
 }
 
 // The fetch values of the remote.
@@ -129,7 +129,7 @@ fn specs_of<'a>(
     specs.values = fetch_values(alloc, repository, choice)?;
     let merges = merges_of(alloc, repository, choice.remote)?;
     if specs.values.is_empty() && merges.is_empty() {
-        specs.words.push(String::from_str(alloc, "HEAD")?)?;
+        specs.arguments.push(String::from_str(alloc, "HEAD")?)?;
     }
     for merge in merges {
         if let Some(name) = merge.value {
@@ -189,24 +189,24 @@ fn merges_of<'a>(
 }
 
 // The specs among the words. `tag NAME` is `refs/tags/NAME:refs/tags/NAME`, as on Git's command line.
-fn given_specs<'a>(alloc: Global, words: &[&'a [u8]]) -> Result<Specs<'a>, Stop<'a>> {
+fn given_specs<'a>(alloc: Global, arguments: &[&'a [u8]]) -> Result<Specs<'a>, Stop<'a>> {
     let mut specs = Specs {
-        words: Vec::new(alloc),
+        arguments: Vec::new(alloc),
         values: Vec::new(alloc),
         merges: Vec::new(alloc),
         tags: Vec::new(alloc),
     };
     let mut is_tag = false;
-    for word in words {
-        let text = text_of(word)?;
+    for argument in arguments {
+        let text = text_of(argument)?;
         if is_tag {
             let spec = format!(in alloc; "refs/tags/{text}:refs/tags/{text}")?;
-            specs.words.push(spec)?;
+            specs.arguments.push(spec)?;
             is_tag = false;
         } else if text == "tag" {
             is_tag = true;
         } else {
-            specs.words.push(String::from_str(alloc, text)?)?;
+            specs.arguments.push(String::from_str(alloc, text)?)?;
         }
     }
     if is_tag {
@@ -222,12 +222,12 @@ fn call_of<'c>(
     request: &Request<'_>,
     specs: &'c Specs<'_>,
 ) -> Result<Call<'c>, AllocError> {
-    let mut words = Vec::with_capacity(alloc, specs.words.len())?;
-    for word in &specs.words {
-        words.push(word.as_str())?;
+    let mut arguments = Vec::with_capacity(alloc, specs.arguments.len())?;
+    for argument in &specs.arguments {
+        arguments.push(argument.as_str())?;
     }
     let mut call = request.call_of(alloc, command);
-    call.specs = words;
+    call.specs = arguments;
     call.reads_input = command == Command::Plan;
     call.input = "git ls-remote";
     Ok(call)
@@ -236,23 +236,23 @@ fn call_of<'c>(
 // The specs of the configuration, as Git prints settings.
 fn beside_of(alloc: Global, specs: &Specs<'_>) -> Result<Vec<u8>, AllocError> {
     let mut beside = Vec::new(alloc);
-    put_settings(&mut beside, specs.values.as_slice())?;
-    put_settings(&mut beside, specs.merges.as_slice())?;
-    put_settings(&mut beside, specs.tags.as_slice())?;
+    write_settings(&mut beside, specs.values.as_slice())?;
+    write_settings(&mut beside, specs.merges.as_slice())?;
+    write_settings(&mut beside, specs.tags.as_slice())?;
     Ok(beside)
 }
 
 // Tells of the specs that take no ref of the lines. Returns whether a name is missing, so that Git fetches nothing.
-fn tell_sources<'s>(
+fn report_sources<'s>(
     alloc: Global,
     form: Form,
     specs: &'s Specs<'s>,
     lines: &[u8],
-    told: &mut Told,
+    reported: &mut Output,
 ) -> Result<bool, AllocError> {
     let mut sources = Sources::new(alloc);
-    for word in &specs.words {
-        let text = word.as_bytes();
+    for argument in &specs.arguments {
+        let text = argument.as_bytes();
         sources.add(alloc, text, false)?;
     }
     for value in &specs.values {
@@ -271,37 +271,37 @@ fn tell_sources<'s>(
     for source in &sources.list {
         if !source.takes_some(alloc, &names)? {
             is_missing |= source.is_needed();
-            tell_source(alloc, form, source, told)?;
+            report_source(alloc, form, source, reported)?;
         }
     }
     Ok(is_missing)
 }
 
 // Tells of a spec that takes no ref of the remote.
-fn tell_source(
+fn report_source(
     alloc: Global,
     form: Form,
     source: &Source<'_>,
-    told: &mut Told,
+    reported: &mut Output,
 ) -> Result<(), AllocError> {
     let canonical = source.spec.to_bstring(alloc)?;
     if source.is_needed() {
-        told.status = 1;
+        reported.status = 1;
     }
     if form == Form::Json {
-        return source.put_object(alloc, canonical.as_bytes(), &mut told.results);
+        return source.write_object(alloc, canonical.as_bytes(), &mut reported.results);
     }
-    let out = &mut told.messages;
+    let out = &mut reported.messages;
     if source.is_needed() {
-        put_about(
+        write_about(
             out,
             "git refspec: couldn't find remote ref ",
             source.side,
             ", so nothing is fetched",
         )?;
-        put_about(out, " (", canonical.as_bytes(), ")\n")
+        write_about(out, " (", canonical.as_bytes(), ")\n")
     } else {
-        put_about(out, "git refspec: note: ", canonical.as_bytes(), "")?;
+        write_about(out, "git refspec: note: ", canonical.as_bytes(), "")?;
         out.extend_from_slice(b": ")?;
         out.extend_from_slice(source.note().as_bytes())?;
         Ok(out.push(b'\n')?)

@@ -16,4 +16,4 @@ mod sources;
 mod tests;
 mod tracking;
 mod usage;
-pub mod words;
+pub mod arguments;

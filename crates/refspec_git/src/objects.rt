@@ -5,7 +5,7 @@ use serde_json::{Value, json};
 use std::alloc::{AllocError, Global};
 
 /// Puts the object of a spec and a message at the end.
-pub fn put_spec_note(
+pub fn write_spec_note(
     alloc: Global,
     out: &mut Vec<u8>,
     kind: &str,
@@ -14,11 +14,11 @@ pub fn put_spec_note(
 ) -> Result<(), AllocError> {
     let spec = text_of(alloc, spec)?;
     let object: Value = json!(in alloc; {"kind": kind, "message": message, "spec": spec.as_str()})?;
-    put_line(alloc, out, &object)
+    write_line(alloc, out, &object)
 }
 
 /// Puts the object of a ref and a message at the end.
-pub fn put_ref_note(
+pub fn write_ref_note(
     alloc: Global,
     out: &mut Vec<u8>,
     kind: &str,
@@ -27,11 +27,11 @@ pub fn put_ref_note(
 ) -> Result<(), AllocError> {
     let name = text_of(alloc, name)?;
     let object: Value = json!(in alloc; {"kind": kind, "message": message, "name": name.as_str()})?;
-    put_line(alloc, out, &object)
+    write_line(alloc, out, &object)
 }
 
 /// Puts the object of a mapping of a remote at the end.
-pub fn put_mapping(
+pub fn write_mapping(
     alloc: Global,
     out: &mut Vec<u8>,
     remote: &[u8],
@@ -50,17 +50,17 @@ pub fn put_mapping(
         "source": source.as_str(),
         "spec": spec.as_str(),
     })?;
-    put_line(alloc, out, &object)
+    write_line(alloc, out, &object)
 }
 
 // Puts an object and a newline at the end.
-fn put_line(alloc: Global, out: &mut Vec<u8>, object: &Value) -> Result<(), AllocError> {
+fn write_line(alloc: Global, out: &mut Vec<u8>, object: &Value) -> Result<(), AllocError> {
     out.extend_from_slice(object.to_vec(alloc)?.as_slice())?;
     Ok(out.push(b'\n')?)
 }
 
 /// Puts lines of objects at the end, each with a remote as its first member.
-pub fn put_with_remote(
+pub fn write_with_remote(
     alloc: Global,
     out: &mut Vec<u8>,
     remote: &[u8],

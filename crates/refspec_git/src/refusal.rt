@@ -3,7 +3,7 @@
 ghost use Rattle.std.specs.Prelude.{◌≤◌};
 
 use crate::usage::USAGE;
-use refspec_commands::quote::put_in_message;
+use refspec_commands::quote::write_in_message;
 use std::alloc::{AllocError, AllocFailed};
 
 /// Why a call is refused.
@@ -62,17 +62,17 @@ impl Refusal<'_> {
     }
 
     /// Puts the lines of the message at the end.
-    pub fn put(&self, out: &mut Vec<u8>) -> Result<(), AllocError> {
+    pub fn write(&self, out: &mut Vec<u8>) -> Result<(), AllocError> {
         out.extend_from_slice(b"git refspec: ")?;
         match self {
             Refusal::OptionElsewhere(option, command) => {
-                put_about(out, "", option.as_bytes(), ": only ")?;
-                put_about(out, "", command.as_bytes(), " takes this option")?
+                write_about(out, "", option.as_bytes(), ": only ")?;
+                write_about(out, "", command.as_bytes(), " takes this option")?
             }
-            Refusal::OldForm { name, folder } => put_old_form(out, name, folder)?,
+            Refusal::OldForm { name, folder } => write_old_form(out, name, folder)?,
             _ => {
-                let (before, word, after) = self.sentence();
-                put_about(out, before, word, after)?
+                let (before, argument, after) = self.sentence();
+                write_about(out, before, argument, after)?
             }
         }
         out.push(b'\n')?;
@@ -88,23 +88,23 @@ impl Refusal<'_> {
     fn sentence(&self) -> (&'static str, &[u8], &'static str) {
         match self {
             Refusal::NoCommand => ("no ", b"command", " is given"),
-            Refusal::NoSuchCommand(word) => ("there is no command ", word, ""),
-            Refusal::NoSuchOption(word) => ("there is no option ", word, ""),
-            Refusal::NeedlessValue(word) => ("", word, ": this option takes no value"),
+            Refusal::NoSuchCommand(argument) => ("there is no command ", argument, ""),
+            Refusal::NoSuchOption(argument) => ("there is no option ", argument, ""),
+            Refusal::NeedlessValue(argument) => ("", argument, ": this option takes no value"),
             Refusal::NoRemoteName => ("", b"--remote", " takes the name of a remote"),
             Refusal::NoRef => (
                 "",
                 b"track",
                 " takes a tracking ref, such as origin/main: git refspec track REF..",
             ),
-            Refusal::UrlOrSpec(word) => (
+            Refusal::UrlOrSpec(argument) => (
                 "",
-                word,
+                argument,
                 " may be a URL or a spec; put the remote before a spec, or `--`, and a URL after --remote",
             ),
-            Refusal::NoRemoteNoSpec(word) => (
+            Refusal::NoRemoteNoSpec(argument) => (
                 "",
-                word,
+                argument,
                 " is no configured remote; `git remote` lists those, and a spec may follow `--`",
             ),
             Refusal::NoDefault => (
@@ -112,15 +112,15 @@ impl Refusal<'_> {
                 b"remote",
                 " is given: the current branch has none, there isn't just one, and none is called origin",
             ),
-            Refusal::NotUtf8(word) => (
+            Refusal::NotUtf8(argument) => (
                 "",
-                word,
+                argument,
                 " is not UTF-8; give such a spec to refspec on its standard input",
             ),
-            Refusal::Newline(word) => ("", word, " has a newline, so it names no remote"),
+            Refusal::Newline(argument) => ("", argument, " has a newline, so it names no remote"),
             Refusal::NoTagName => ("", b"tag", " takes the name of a tag"),
-            Refusal::NoRefName(word) => ("", word, " is not a valid ref name"),
-            Refusal::NotARef(word) => ("", word, " is not a ref"),
+            Refusal::NoRefName(argument) => ("", argument, " is not a valid ref name"),
+            Refusal::NotARef(argument) => ("", argument, " is not a ref"),
             Refusal::NoValuesAtAll => ("no ", b"remote", " has fetch values"),
             Refusal::OtherRefused => (
                 "a value of another remote is refused, so Git uses none; `git refspec ",
@@ -133,27 +133,27 @@ impl Refusal<'_> {
 }
 
 // Puts the sentence on a remote that isn't in the configuration at the end.
-fn put_old_form(out: &mut Vec<u8>, name: &[u8], folder: &str) -> Result<(), AllocError> {
-    put_about(out, "the remote ", name, " is configured in ")?;
-    put_about(
+fn write_old_form(out: &mut Vec<u8>, name: &[u8], folder: &str) -> Result<(), AllocError> {
+    write_about(out, "the remote ", name, " is configured in ")?;
+    write_about(
         out,
         "",
         folder.as_bytes(),
         ", which is not read here; `git remote rename ",
     )?;
-    put_about(out, "", name, " ")?;
-    put_about(out, "", name, "` moves it into the configuration")
+    write_about(out, "", name, " ")?;
+    write_about(out, "", name, "` moves it into the configuration")
 }
 
 /// Puts a name at the end, quoted if it has to be, between two texts.
-pub fn put_about(
+pub fn write_about(
     out: &mut Vec<u8>,
     before: &str,
     name: &[u8],
     after: &str,
 ) -> Result<(), AllocError> {
     out.extend_from_slice(before.as_bytes())?;
-    put_in_message(out, name)?;
+    write_in_message(out, name)?;
     out.extend_from_slice(after.as_bytes())
 }
 

@@ -6,7 +6,7 @@ ghost use Rattle.refspec_git.specs.Settings.{IsKey};
 
 use bstr::ByteSlice;
 use refspec_commands::settings::Setting;
-use gix_refspec_text::cut::split_at_first;
+use gix_refspec_text::split::split_at_first;
 use std::alloc::{AllocError, Global};
 
 /// The name and the variable of a key `SECTION.NAME.VARIABLE`. The name may have dots, and the variable has none. `None`
@@ -74,7 +74,7 @@ fn is_of(setting: &Setting<'_>, section: &[u8], name: &[u8], variable: &[u8]) ->
 }
 
 /// Puts settings at the end, as Git prints them.
-pub fn put_settings(out: &mut Vec<u8>, settings: &[Setting<'_>]) -> Result<(), AllocError> {
+pub fn write_settings(out: &mut Vec<u8>, settings: &[Setting<'_>]) -> Result<(), AllocError> {
     for setting in settings {
         out.extend_from_slice(setting.origin)?;
         out.push(0)?;

@@ -1,13 +1,12 @@
 //! Which specs of a fetch take no ref of the remote.
 
-use crate::objects::put_spec_note;
+use crate::objects::write_spec_note;
 use bstr::{BStr, ByteSlice};
 use gix_refspec::oid::ObjectId;
 use gix_refspec::parsing::{Error, Operation};
 use gix_refspec::{RefSpecRef, parse};
 use refspec_commands::input::records;
 use gix_refspec_text::side::candidates;
-use gix_refspec_text::spec::sign::is_negative;
 use std::alloc::{AllocError, Global};
 
 /// The names of the refs of a remote.
@@ -125,12 +124,12 @@ pub struct Source<'a> {
 impl Source<'_> {
     /// Whether it leaves refs out.
     pub fn is_negative(&self) -> bool {
-        is_negative(&self.spec)
+        self.spec.is_negative()
     }
 
     /// Whether Git fetches nothing if this takes no ref.
     pub fn is_needed(&self) -> bool {
-        !self.may_lack && !is_negative(&self.spec) && self.side.find_byte(b'*').is_none()
+        !self.may_lack && !self.spec.is_negative() && self.side.find_byte(b'*').is_none()
     }
 
     /// Whether it takes some of the names. An object id needs none.
@@ -141,7 +140,7 @@ impl Source<'_> {
         if names.has(self.side) || ObjectId::from_hex(self.side).is_ok() {
             return Ok(true);
         }
-        if self.side.starts_with(b"refs/") || is_negative(&self.spec) {
+        if self.side.starts_with(b"refs/") || self.spec.is_negative() {
             return Ok(false);
         }
         let candidates = candidates(alloc, self.side)?;
@@ -150,7 +149,7 @@ impl Source<'_> {
 
     /// What is noted of it if it takes none.
     pub fn note(&self) -> &'static str {
-        if is_negative(&self.spec) {
+        if self.spec.is_negative() {
             "this spec leaves out no ref of the remote"
         } else {
             "this spec takes no ref of the remote"
@@ -158,7 +157,7 @@ impl Source<'_> {
     }
 
     /// Puts the object of it at the end if it takes none.
-    pub fn put_object(
+    pub fn write_object(
         &self,
         alloc: Global,
         canonical: &[u8],
@@ -172,6 +171,6 @@ impl Source<'_> {
         } else {
             ("unmatched", self.note())
         };
-        put_spec_note(alloc, out, kind, canonical, message)
+        write_spec_note(alloc, out, kind, canonical, message)
     }
 }

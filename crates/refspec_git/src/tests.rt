@@ -3,8 +3,8 @@
 use crate::choice::{Looks, looks_of};
 use crate::refusal::Refusal;
 use crate::remotes::{default_remote, fetch_values, is_configured, is_rewritten};
-use crate::settings::{last_value, name_and_variable, put_settings};
-use crate::words::{Command, Wish, wish_of};
+use crate::settings::{last_value, name_and_variable, write_settings};
+use crate::arguments::{Command, Wish, wish_of};
 use refspec_commands::call::Form;
 use refspec_commands::settings::settings_of;
 use std::alloc::AllocError;
@@ -17,10 +17,10 @@ const CONFIG: &[u8] =
 const ONE_REMOTE: &[u8] = b"file:a\0remote.a.b.fetch\0";
 
 #[test]
-fn puts_settings_as_git_prints_them(rt: HostRuntime) -> Result<(), Fail> {
+fn writes_settings_as_git_prints_them(rt: HostRuntime) -> Result<(), Fail> {
     let settings = settings_of(rt.alloc(), CONFIG).unwrap_or(Vec::new(rt.alloc()));
     let mut out = Vec::new(rt.alloc());
-    put_settings(&mut out, settings.as_slice())?;
+    write_settings(&mut out, settings.as_slice())?;
     assert_eq!(rt; out.as_slice(), CONFIG);
     Ok(())
 }
@@ -66,7 +66,7 @@ fn finds_remotes(rt: HostRuntime) -> Result<(), Fail> {
 }
 
 #[test]
-fn tells_specs_from_urls(rt: HostRuntime) {
+fn reports_specs_from_urls(rt: HostRuntime) {
     let cases = [
         ("", Looks::Spec),
         ("+main", Looks::Spec),
@@ -84,33 +84,33 @@ fn tells_specs_from_urls(rt: HostRuntime) {
         ("origin", Looks::Plain),
         ("@", Looks::Plain),
     ];
-    for (word, looks) in cases {
-        assert_eq!(rt; looks_of(word.as_bytes()), looks, "at {word}");
+    for (argument, looks) in cases {
+        assert_eq!(rt; looks_of(argument.as_bytes()), looks, "at {word}");
     }
 }
 
 #[test]
 fn takes_options_and_words_in_any_order(rt: HostRuntime) -> Result<(), Fail> {
-    let words: [&[u8]; 6] = [b"--json", b"plan", b"origin", b"-z", b"--remote=x", b"main"];
-    let Ok(Wish::Request(request)) = wish_of(rt.alloc(), &words) else {
+    let arguments: [&[u8]; 6] = [b"--json", b"plan", b"origin", b"-z", b"--remote=x", b"main"];
+    let Ok(Wish::Request(request)) = wish_of(rt.alloc(), &arguments) else {
         return Err(Fail::from(AllocError));
     };
     assert_eq!(rt; request.command, Command::Plan);
     assert_eq!(rt; request.form, Form::Json);
     assert_eq!(rt; request.remote, Some(b"x".as_slice()));
     assert_eq!(rt;
-        request.words.as_slice(),
+        request.arguments.as_slice(),
         [b"origin".as_slice(), b"main".as_slice()].as_slice()
     );
     assert_eq!(rt; request.dashes, None);
-    let words: [&[u8]; 5] = [b"check", b"-vz", b"a", b"--", b"-v"];
-    let Ok(Wish::Request(request)) = wish_of(rt.alloc(), &words) else {
+    let arguments: [&[u8]; 5] = [b"check", b"-vz", b"a", b"--", b"-v"];
+    let Ok(Wish::Request(request)) = wish_of(rt.alloc(), &arguments) else {
         return Err(Fail::from(AllocError));
     };
     assert!(rt; request.verbose);
     assert_eq!(rt; request.form, Form::Zeros);
     assert_eq!(rt;
-        request.words.as_slice(),
+        request.arguments.as_slice(),
         [b"a".as_slice(), b"-v".as_slice()].as_slice()
     );
     assert_eq!(rt; request.dashes, Some(1));
@@ -119,38 +119,38 @@ fn takes_options_and_words_in_any_order(rt: HostRuntime) -> Result<(), Fail> {
 
 #[test]
 fn refuses_other_options(rt: HostRuntime) {
-    let words: [&[u8]; 2] = [b"plan", b"--specs=x"];
+    let arguments: [&[u8]; 2] = [b"plan", b"--specs=x"];
     assert!(rt;
         matches!(
-            wish_of(rt.alloc(), &words),
+            wish_of(rt.alloc(), &arguments),
             Err(Refusal::NoSuchOption(b"--specs=x"))
         )
     );
-    let words: [&[u8]; 2] = [b"plan", b"-zq"];
+    let arguments: [&[u8]; 2] = [b"plan", b"-zq"];
     assert!(rt;
         matches!(
-            wish_of(rt.alloc(), &words),
+            wish_of(rt.alloc(), &arguments),
             Err(Refusal::NoSuchOption(b"-zq"))
         )
     );
-    let words: [&[u8]; 2] = [b"plan", b"--push"];
+    let arguments: [&[u8]; 2] = [b"plan", b"--push"];
     assert!(rt;
         matches!(
-            wish_of(rt.alloc(), &words),
+            wish_of(rt.alloc(), &arguments),
             Err(Refusal::OptionElsewhere(_, "check"))
         )
     );
-    let words: [&[u8]; 1] = [b"--json"];
-    assert!(rt; matches!(wish_of(rt.alloc(), &words), Err(Refusal::NoCommand)));
-    let words: [&[u8]; 2] = [b"track", b"--remote"];
-    assert!(rt; matches!(wish_of(rt.alloc(), &words), Err(Refusal::NoRemoteName)));
-    let words: [&[u8]; 3] = [b"nosuch", b"-h", b"--help"];
+    let arguments: [&[u8]; 1] = [b"--json"];
+    assert!(rt; matches!(wish_of(rt.alloc(), &arguments), Err(Refusal::NoCommand)));
+    let arguments: [&[u8]; 2] = [b"track", b"--remote"];
+    assert!(rt; matches!(wish_of(rt.alloc(), &arguments), Err(Refusal::NoRemoteName)));
+    let arguments: [&[u8]; 3] = [b"nosuch", b"-h", b"--help"];
     assert!(rt;
         matches!(
-            wish_of(rt.alloc(), &words),
+            wish_of(rt.alloc(), &arguments),
             Err(Refusal::NoSuchCommand(b"nosuch"))
         )
     );
-    let words: [&[u8]; 3] = [b"track", b"--help", b"-h"];
-    assert!(rt; matches!(wish_of(rt.alloc(), &words), Ok(Wish::Page)));
+    let arguments: [&[u8]; 3] = [b"track", b"--help", b"-h"];
+    assert!(rt; matches!(wish_of(rt.alloc(), &arguments), Ok(Wish::Report)));
 }

@@ -1,14 +1,14 @@
 //! What `git refspec track` tells: from which refs of which remote tracking refs are fetched.
 
-use crate::answer::{Answer, Machine, Stop, Told, asks};
+use crate::answer::{Answer, Machine, Stop, Output, asks};
 use crate::ask::{GitCall, REFS, name_file};
 use crate::choice::Repository;
-use crate::objects::{put_mapping, put_ref_note, put_with_remote};
-use crate::refusal::{Refusal, put_about};
+use crate::objects::{write_mapping, write_ref_note, write_with_remote};
+use crate::refusal::{Refusal, write_about};
 use crate::remotes::fetch_values;
-use crate::settings::{last_value, put_settings};
+use crate::settings::{last_value, write_settings};
 use crate::sources::{Names, Sources};
-use crate::words::Request;
+use crate::arguments::Request;
 use bstr::{BStr, ByteSlice};
 use gix_refspec::match_group::{Item, Mapping};
 use gix_refspec::oid::{Kind, ObjectId};
@@ -27,14 +27,14 @@ use std::collections::{BTreeMap, BTreeSet};
 type Values<'a> = BTreeMap<&'a [u8], Vec<Setting<'a>>>;
 
 /// Tells from which refs of which remotes the refs among the words are fetched.
-pub fn tell_tracking<'a, M: Machine, D: Discard>(
+pub fn report_tracking<'a, M: Machine, D: Discard>(
     alloc: Global,
     machine: &M,
     request: &Request<'a>,
     repository: &Repository<'a, 'a>,
     done: &mut D,
 ) -> Result<Answer, Stop<'a>> {
-    if request.words.is_empty() {
+    if request.arguments.is_empty() {
         return Err(Stop::Refused(Refusal::NoRef));
     }
     let asked = asked_of(alloc, machine, request)?;
@@ -44,24 +44,24 @@ pub fn tell_tracking<'a, M: Machine, D: Discard>(
     let values = values_of(alloc, request, repository)?;
     let names = names_of(alloc, machine, request, &values)?;
     let rows = rows_of(alloc, &values, names.as_slice())?;
-    let mut told = Told::new(alloc);
+    let mut reported = Output::new(alloc);
     for (remote, values) in &values {
-        tell_ids(alloc, request, remote, values.as_slice(), done, &mut told)?;
+        report_ids(alloc, request, remote, values.as_slice(), done, &mut reported)?;
     }
-    put_rows(alloc, request.form, rows.as_slice(), &mut told.results)?;
+    write_rows(alloc, request.form, rows.as_slice(), &mut reported.results)?;
     let found = Found {
         form: request.form,
         rows: rows.as_slice(),
         values: &values,
         settings: repository.settings,
     };
-    tell_others(alloc, &found, names.as_slice(), &mut told)?;
+    report_others(alloc, &found, names.as_slice(), &mut reported)?;
     for old in repository.old {
         if let Some(refusal) = repository.old_remote(old.name.as_slice()) {
-            told.refuse(&refusal)?;
+            reported.refuse(&refusal)?;
         }
     }
-    Ok(Answer::Tells(told))
+    Ok(Answer::Reports(reported))
 }
 
 // The fetch values of the remotes that are looked through.
@@ -92,27 +92,27 @@ fn asked_of<'a, M: Machine>(
 ) -> Result<Vec<u8>, Stop<'a>> {
     let mut asked = Vec::new(alloc);
     let mut names = Vec::new(alloc);
-    for (number, word) in request.words.iter().enumerate() {
-        match meaning_of(word) {
-            Meaning::Full => names.push(Vec::from_slice(alloc, word)?)?,
+    for (number, argument) in request.arguments.iter().enumerate() {
+        match meaning_of(argument) {
+            Meaning::Full => names.push(Vec::from_slice(alloc, argument)?)?,
             Meaning::Expression => {
                 let file = name_file(alloc, number)?;
                 if machine.output(file.as_str())?.is_none() {
-                    GitCall::FullName(number, word).put(alloc, &mut asked)?;
+                    GitCall::FullName(number, argument).write(alloc, &mut asked)?;
                 }
             }
             Meaning::Short => {
-                for candidate in candidates(alloc, word)? {
+                for candidate in candidates(alloc, argument)? {
                     if candidate.as_bytes().starts_with(b"refs/") {
                         names.push(candidate.into_vec())?;
                     }
                 }
             }
-            Meaning::Bad => return Err(Stop::Refused(Refusal::NoRefName(word))),
+            Meaning::Bad => return Err(Stop::Refused(Refusal::NoRefName(argument))),
         }
     }
     if !names.is_empty() && machine.output(REFS)?.is_none() {
-        GitCall::Refs(names.as_slice()).put(alloc, &mut asked)?;
+        GitCall::Refs(names.as_slice()).write(alloc, &mut asked)?;
     }
     Ok(asked)
 }
@@ -131,17 +131,17 @@ enum Meaning {
 }
 
 // How a word names a ref.
-fn meaning_of(word: &[u8]) -> Meaning {
-    if matches!(word, b"HEAD" | b"@") {
+fn meaning_of(argument: &[u8]) -> Meaning {
+    if matches!(argument, b"HEAD" | b"@") {
         return Meaning::Expression;
     }
-    if word.contains_str(b"@{") && !word.starts_with(b"-") && word.find_byte(b'\n').is_none() {
+    if argument.contains_str(b"@{") && !argument.starts_with(b"-") && argument.find_byte(b'\n').is_none() {
         return Meaning::Expression;
     }
-    if name::name_partial(BStr::new(word)).is_err() || word.starts_with(b"-") {
+    if name::name_partial(BStr::new(argument)).is_err() || argument.starts_with(b"-") {
         return Meaning::Bad;
     }
-    if word.starts_with(b"refs/") {
+    if argument.starts_with(b"refs/") {
         Meaning::Full
     } else {
         Meaning::Short
@@ -161,9 +161,9 @@ fn names_of<'a, M: Machine>(
     };
     let existing = existing_of(alloc, refs.as_slice())?;
     let mut seen = BTreeSet::new(alloc);
-    let mut names = Vec::with_capacity(alloc, request.words.len())?;
-    for (number, word) in request.words.iter().enumerate() {
-        let name = match meaning_of(word) {
+    let mut names = Vec::with_capacity(alloc, request.arguments.len())?;
+    for (number, argument) in request.arguments.iter().enumerate() {
+        let name = match meaning_of(argument) {
             Meaning::Expression => {
                 let file = name_file(alloc, number)?;
                 let output = match machine.output(file.as_str())? {
@@ -172,12 +172,12 @@ fn names_of<'a, M: Machine>(
                 };
                 let name = output.as_slice().trim_end();
                 if name.is_empty() {
-                    return Err(Stop::Refused(Refusal::NotARef(word)));
+                    return Err(Stop::Refused(Refusal::NotARef(argument)));
                 }
                 Vec::from_slice(alloc, name)?
             }
-            Meaning::Short => full_name(alloc, word, &existing, values)?,
-            Meaning::Full | Meaning::Bad => Vec::from_slice(alloc, target_of(word, &existing))?,
+            Meaning::Short => full_name(alloc, argument, &existing, values)?,
+            Meaning::Full | Meaning::Bad => Vec::from_slice(alloc, target_of(argument, &existing))?,
         };
         if seen.insert(name.clone()?)? {
             names.push(name)?;
@@ -215,30 +215,30 @@ fn target_of<'n>(name: &'n [u8], existing: &'n Existing) -> &'n [u8] {
 // the tracking ref of a remote.
 fn full_name(
     alloc: Global,
-    word: &[u8],
+    argument: &[u8],
     existing: &Existing,
     values: &Values<'_>,
 ) -> Result<Vec<u8>, AllocError> {
-    let candidates = candidates(alloc, word)?;
+    let candidates = candidates(alloc, argument)?;
     for candidate in &candidates {
         let name = candidate.as_bytes();
         if existing.contains_key(name) {
             return Vec::from_slice(alloc, target_of(name, existing));
         }
     }
-    let is_below = word.starts_with(b"heads/")
-        || word.starts_with(b"tags/")
-        || word.starts_with(b"remotes/");
+    let is_below = argument.starts_with(b"heads/")
+        || argument.starts_with(b"tags/")
+        || argument.starts_with(b"remotes/");
     let mut name = Vec::from_slice(alloc, b"refs/")?;
     if !is_below {
-        let folder: &[u8] = if remote_above(word, values).is_some() {
+        let folder: &[u8] = if remote_above(argument, values).is_some() {
             b"remotes/"
         } else {
             b"heads/"
         };
         name.extend_from_slice(folder)?;
     }
-    name.extend_from_slice(word)?;
+    name.extend_from_slice(argument)?;
     Ok(name)
 }
 
@@ -375,24 +375,24 @@ fn has_id(spec: &RefSpecRef<'_>) -> bool {
 }
 
 // Tells of the values of a remote whose destination is an object id, as `refspec track` does.
-fn tell_ids<D: Discard>(
+fn report_ids<D: Discard>(
     alloc: Global,
     request: &Request<'_>,
     remote: &[u8],
     values: &[Setting<'_>],
     done: &mut D,
-    told: &mut Told,
+    reported: &mut Output,
 ) -> Result<(), Fault> {
     let mut beside = Vec::new(alloc);
-    put_settings(&mut beside, values)?;
+    write_settings(&mut beside, values)?;
     let call = request.call_of(alloc, Command::Track);
-    let mut about_ids = Told::new(alloc);
+    let mut about_ids = Output::new(alloc);
     about_ids.run(alloc, &call, beside.as_slice(), b"", done)?;
-    told.messages
+    reported.messages
         .extend_from_slice(about_ids.messages.as_slice())?;
-    put_with_remote(
+    write_with_remote(
         alloc,
-        &mut told.results,
+        &mut reported.results,
         remote,
         about_ids.results.as_slice(),
     )?;
@@ -400,27 +400,27 @@ fn tell_ids<D: Discard>(
 }
 
 // Puts rows at the end.
-fn put_rows(
+fn write_rows(
     alloc: Global,
     form: Form,
     rows: &[Row<'_>],
     out: &mut Vec<u8>,
 ) -> Result<(), AllocError> {
     match form {
-        Form::Lines => put_table(alloc, rows, out),
+        Form::Lines => write_table(alloc, rows, out),
         Form::Zeros => {
             for row in rows {
-                put_field(out, row.remote)?;
-                put_field(out, row.destination.as_slice())?;
-                put_field(out, row.source.as_slice())?;
-                put_field(out, row.spec.as_slice())?;
+                write_field(out, row.remote)?;
+                write_field(out, row.destination.as_slice())?;
+                write_field(out, row.source.as_slice())?;
+                write_field(out, row.spec.as_slice())?;
             }
             Ok(())
         }
         Form::Json => {
             for row in rows {
                 let (destination, source) = (row.destination.as_slice(), row.source.as_slice());
-                put_mapping(
+                write_mapping(
                     alloc,
                     out,
                     row.remote,
@@ -435,13 +435,13 @@ fn put_rows(
 }
 
 // Puts a field and its end at the end.
-fn put_field(out: &mut Vec<u8>, field: &[u8]) -> Result<(), AllocError> {
+fn write_field(out: &mut Vec<u8>, field: &[u8]) -> Result<(), AllocError> {
     out.extend_from_slice(field)?;
     Ok(out.push(0)?)
 }
 
 // Puts rows at the end, as an aligned table.
-fn put_table(alloc: Global, rows: &[Row<'_>], out: &mut Vec<u8>) -> Result<(), AllocError> {
+fn write_table(alloc: Global, rows: &[Row<'_>], out: &mut Vec<u8>) -> Result<(), AllocError> {
     let mut layout = Layout::new();
     let mut widest: usize = 0;
     for row in rows {
@@ -457,10 +457,10 @@ fn put_table(alloc: Global, rows: &[Row<'_>], out: &mut Vec<u8>) -> Result<(), A
             .max(layout.width_of(alloc, row.spec.as_slice())?);
     }
     for row in rows {
-        layout.put_cell(alloc, out, row.remote, widest)?;
-        layout.put_cell(alloc, out, row.destination.as_slice(), layout.first)?;
-        layout.put_cell(alloc, out, row.source.as_slice(), layout.second)?;
-        layout.put_field(out, row.spec.as_slice())?;
+        layout.write_cell(alloc, out, row.remote, widest)?;
+        layout.write_cell(alloc, out, row.destination.as_slice(), layout.first)?;
+        layout.write_cell(alloc, out, row.source.as_slice(), layout.second)?;
+        layout.write_field(out, row.spec.as_slice())?;
         out.push(b'\n')?;
     }
     Ok(())
@@ -476,17 +476,17 @@ struct Found<'f, 'a> {
 }
 
 // Tells of the refs that no remote or several remotes write.
-fn tell_others(
+fn report_others(
     alloc: Global,
     found: &Found<'_, '_>,
     names: &[Vec<u8>],
-    told: &mut Told,
+    reported: &mut Output,
 ) -> Result<(), AllocError> {
     for (number, name) in names.iter().enumerate() {
         match writers_of(rows_at(found.rows, number)) {
-            0 => tell_untracked(alloc, found, name.as_slice(), told)?,
+            0 => report_untracked(alloc, found, name.as_slice(), reported)?,
             1 => {}
-            writers => tell_ambiguous(alloc, found.form, name.as_slice(), writers, told)?,
+            writers => report_ambiguous(alloc, found.form, name.as_slice(), writers, reported)?,
         }
     }
     Ok(())
@@ -513,26 +513,26 @@ fn writers_of(rows: &[Row<'_>]) -> usize {
 }
 
 // Tells of a ref that no value writes.
-fn tell_untracked(
+fn report_untracked(
     alloc: Global,
     found: &Found<'_, '_>,
     name: &[u8],
-    told: &mut Told,
+    reported: &mut Output,
 ) -> Result<(), AllocError> {
-    told.status = 1;
+    reported.status = 1;
     let message = "No value of a remote writes this ref.";
     if found.form == Form::Json {
-        return put_ref_note(alloc, &mut told.results, "untracked", name, message);
+        return write_ref_note(alloc, &mut reported.results, "untracked", name, message);
     }
-    put_about(&mut told.messages, "", name, ": ")?;
-    told.messages.extend_from_slice(message.as_bytes())?;
-    told.messages.push(b'\n')?;
-    put_untracked_advice(alloc, &mut told.messages, found, name)
+    write_about(&mut reported.messages, "", name, ": ")?;
+    reported.messages.extend_from_slice(message.as_bytes())?;
+    reported.messages.push(b'\n')?;
+    write_untracked_advice(alloc, &mut reported.messages, found, name)
 }
 
 // Puts a line of advice on a ref that no value writes at the end: of a tracking ref how a value is added, or that a
 // negative one leaves it out; of a branch how its upstream is named.
-fn put_untracked_advice(
+fn write_untracked_advice(
     alloc: Global,
     out: &mut Vec<u8>,
     found: &Found<'_, '_>,
@@ -541,17 +541,17 @@ fn put_untracked_advice(
     if let Some(path) = name.strip_prefix(b"refs/remotes/".as_slice()) {
         if let Some((remote, branch)) = remote_above(path, found.values) {
             if is_left_out(alloc, found.values, remote, branch)? {
-                put_about(out, "    A negative value of ", remote, " leaves ")?;
-                put_about(out, "refs/heads/", branch, " out.\n")?;
+                write_about(out, "    A negative value of ", remote, " leaves ")?;
+                write_about(out, "refs/heads/", branch, " out.\n")?;
             } else {
-                put_about(out, "    `git remote set-branches --add ", remote, " ")?;
-                put_about(out, "", branch, "` adds one.\n")?;
+                write_about(out, "    `git remote set-branches --add ", remote, " ")?;
+                write_about(out, "", branch, "` adds one.\n")?;
             }
         }
     }
     if let Some(branch) = name.strip_prefix(b"refs/heads/".as_slice()) {
         if last_value(found.settings, b"branch", branch, b"merge").is_some() {
-            put_about(
+            write_about(
                 out,
                 "    This is a branch of your own; for its upstream give ",
                 branch,
@@ -587,26 +587,26 @@ fn is_left_out<'a>(
 }
 
 // Tells of a ref that several remotes write.
-fn tell_ambiguous(
+fn report_ambiguous(
     alloc: Global,
     form: Form,
     name: &[u8],
     writers: usize,
-    told: &mut Told,
+    reported: &mut Output,
 ) -> Result<(), AllocError> {
-    told.status = 1;
+    reported.status = 1;
     let count = format!(in alloc; "git refspec: {writers} remotes write ")?;
     let why = ", so Git refuses it as an upstream: it is ambiguous";
     if form == Form::Json {
         let message = format!(in alloc; "{writers} remotes write this ref{why}")?;
-        return put_ref_note(
+        return write_ref_note(
             alloc,
-            &mut told.results,
+            &mut reported.results,
             "ambiguous",
             name,
             message.as_str(),
         );
     }
-    put_about(&mut told.messages, count.as_str(), name, why)?;
-    Ok(told.messages.push(b'\n')?)
+    write_about(&mut reported.messages, count.as_str(), name, why)?;
+    Ok(reported.messages.push(b'\n')?)
 }

@@ -24,27 +24,27 @@ text_if k None ms = ms
 text_if k (Some t) ms = member k (string t) ms
 
 -- a text that is refused; the index counts from 1
-abbrev pub refused_object : (place operation text reason message : List ℕ) → (side part : Option (List ℕ)) → (at : Option ℕ) → (advice : List ℕ) → Data
-refused_object place operation text reason message side part at advice = object (
+abbrev pub refused_object : (location operation text reason message : List ℕ) → (side part : Option (List ℕ)) → (at : Option ℕ) → (advice : List ℕ) → Data
+refused_object location operation text reason message side part at advice = object (
     member (codes "advice") (string advice) (
     member (codes "at") (number_or_null at) (
     member (codes "kind") (string (codes "refused")) (
     member (codes "message") (string message) (
     member (codes "operation") (string operation) (
     member (codes "part") (text_or_null part) (
-    member (codes "place") (string place) (
+    member (codes "place") (string location) (
     member (codes "reason") (string reason) (
     member (codes "side") (text_or_null side) (
     member (codes "text") (string text) no_members))))))))))
 
 -- a spec; its meaning and the place of an earlier spec of the same meaning are members only where they are given
-abbrev pub spec_object : (kind place operation text canonical : List ℕ) → (meaning same_as : Option (List ℕ)) → Data
-spec_object kind place operation text canonical meaning same_as = object (
+abbrev pub spec_object : (kind location operation text canonical : List ℕ) → (meaning same_as : Option (List ℕ)) → Data
+spec_object kind location operation text canonical meaning same_as = object (
     member (codes "canonical") (string canonical) (
     member (codes "kind") (string kind) (
     text_if (codes "meaning") meaning (
     member (codes "operation") (string operation) (
-    member (codes "place") (string place) (
+    member (codes "place") (string location) (
     text_if (codes "same_as") same_as (
     member (codes "text") (string text) no_members)))))))
 
@@ -80,12 +80,12 @@ conflict_object destination sources = object (
     member (codes "sources") (array (items_of (map claim_object sources))) no_members)))
 
 -- a record of the input that is no ref, why, and what to do
-abbrev pub malformed_object : (place text message advice : List ℕ) → Data
-malformed_object place text message advice = object (
+abbrev pub malformed_object : (location text message advice : List ℕ) → Data
+malformed_object location text message advice = object (
     member (codes "advice") (string advice) (
     member (codes "kind") (string (codes "malformed")) (
     member (codes "message") (string message) (
-    member (codes "place") (string place) (
+    member (codes "place") (string location) (
     member (codes "text") (string text) no_members)))))
 
 -- a ref that no spec writes

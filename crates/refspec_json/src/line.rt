@@ -9,7 +9,7 @@ use serde_json::Value;
 use std::alloc::{AllocError, Global};
 
 /// Puts a value and a newline at the end.
-pub fn put_value(alloc: Global, out: &mut Vec<u8>, value: &Value) -> Result<(), AllocError>
+pub fn write_value(alloc: Global, out: &mut Vec<u8>, value: &Value) -> Result<(), AllocError>
     ensures { OnOk result (has_float (view value.now) ≡ false
         → out.new.items ≡ out.old.items ++ line_of (view value.now)) }
 {

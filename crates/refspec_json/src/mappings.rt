@@ -5,7 +5,7 @@ ghost use Rattle.serde_json.specs.Data.{array};
 ghost use Rattle.serde_json.specs.View.{view, items_of};
 ghost use Rattle.refspec_json.specs.Objects.{line_of, mapping_object, left_out_object, claim_object, conflict_object};
 
-use crate::line::{put_value, text_or_null};
+use crate::line::{write_value, text_or_null};
 use serde_json::{Value, json};
 use std::alloc::{AllocError, Global};
 
@@ -19,12 +19,12 @@ pub struct Mapping<'a> {
 
 impl Mapping<'_> {
     /// Puts its object and a newline at the end.
-    pub fn put_line(&self, alloc: Global, out: &mut Vec<u8>) -> Result<(), AllocError>
+    pub fn write_line(&self, alloc: Global, out: &mut Vec<u8>) -> Result<(), AllocError>
         ensures { OnOk result (out.new.items ≡ out.old.items ++ line_of (mapping_object
             self.now.source.now (option_map (λ t. t.now) self.now.destination)
             self.now.spec.now)) }
     {
-        put_value(alloc, out, &self.object(alloc)?)
+        write_value(alloc, out, &self.object(alloc)?)
     }
 
     // Its object.
@@ -56,12 +56,12 @@ pub struct LeftOut<'a> {
 
 impl LeftOut<'_> {
     /// Puts its object and a newline at the end.
-    pub fn put_line(&self, alloc: Global, out: &mut Vec<u8>) -> Result<(), AllocError>
+    pub fn write_line(&self, alloc: Global, out: &mut Vec<u8>) -> Result<(), AllocError>
         ensures { OnOk result (out.new.items ≡ out.old.items ++ line_of (left_out_object
             self.now.source.now (option_map (λ t. t.now) self.now.destination)
             self.now.spec.now self.now.side.now self.now.message.now)) }
     {
-        put_value(alloc, out, &self.object(alloc)?)
+        write_value(alloc, out, &self.object(alloc)?)
     }
 
     // Its object.
@@ -93,11 +93,11 @@ impl Conflict<'_> {
     ghost use Rattle.refspec_json.specs.Views.{claim_texts};
 
     /// Puts its object and a newline at the end.
-    pub fn put_line(&self, alloc: Global, out: &mut Vec<u8>) -> Result<(), AllocError>
+    pub fn write_line(&self, alloc: Global, out: &mut Vec<u8>) -> Result<(), AllocError>
         ensures { OnOk result (out.new.items ≡ out.old.items ++ line_of (conflict_object
             self.now.destination.now (map claim_texts self.now.sources.now))) }
     {
-        put_value(alloc, out, &self.object(alloc)?)
+        write_value(alloc, out, &self.object(alloc)?)
     }
 
     // Its object.

@@ -4,7 +4,7 @@ ghost use Rattle.std.specs.Prelude.{◌≡◌, ◌++◌, IfOk, OnOk};
 ghost use Rattle.serde_json.specs.View.{view};
 ghost use Rattle.refspec_json.specs.Objects.{line_of, prefix_object, nothing_object};
 
-use crate::line::put_value;
+use crate::line::write_value;
 use serde_json::{Value, json};
 use std::alloc::{AllocError, Global};
 
@@ -17,11 +17,11 @@ pub struct Prefix<'a> {
 
 impl Prefix<'_> {
     /// Puts its object and a newline at the end.
-    pub fn put_line(&self, alloc: Global, out: &mut Vec<u8>) -> Result<(), AllocError>
+    pub fn write_line(&self, alloc: Global, out: &mut Vec<u8>) -> Result<(), AllocError>
         ensures { OnOk result (out.new.items ≡ out.old.items ++ line_of (prefix_object
             self.now.prefix.now self.now.pattern.now)) }
     {
-        put_value(alloc, out, &self.object(alloc)?)
+        write_value(alloc, out, &self.object(alloc)?)
     }
 
     // Its object.
@@ -45,11 +45,11 @@ pub struct Nothing<'a> {
 
 impl Nothing<'_> {
     /// Puts its object and a newline at the end.
-    pub fn put_line(&self, alloc: Global, out: &mut Vec<u8>) -> Result<(), AllocError>
+    pub fn write_line(&self, alloc: Global, out: &mut Vec<u8>) -> Result<(), AllocError>
         ensures { OnOk result (out.new.items ≡ out.old.items ++ line_of (nothing_object
             self.now.message.now)) }
     {
-        put_value(alloc, out, &self.object(alloc)?)
+        write_value(alloc, out, &self.object(alloc)?)
     }
 
     // Its object.

@@ -4,14 +4,14 @@ ghost use Rattle.std.specs.Prelude.{◌≡◌, ◌++◌, IfOk, OnOk};
 ghost use Rattle.serde_json.specs.View.{view};
 ghost use Rattle.refspec_json.specs.Objects.{line_of, malformed_object, untracked_object};
 
-use crate::line::put_value;
+use crate::line::write_value;
 use serde_json::{Value, json};
 use std::alloc::{AllocError, Global};
 
 /// A record of the input that is no ref.
 #[derive(Drop)]
 pub struct Malformed<'a> {
-    pub place: &'a str,
+    pub location: &'a str,
     pub text: &'a str,
     pub message: &'a str,
     pub advice: &'a str,
@@ -19,23 +19,23 @@ pub struct Malformed<'a> {
 
 impl Malformed<'_> {
     /// Puts its object and a newline at the end.
-    pub fn put_line(&self, alloc: Global, out: &mut Vec<u8>) -> Result<(), AllocError>
+    pub fn write_line(&self, alloc: Global, out: &mut Vec<u8>) -> Result<(), AllocError>
         ensures { OnOk result (out.new.items ≡ out.old.items ++ line_of (malformed_object
-            self.now.place.now self.now.text.now self.now.message.now self.now.advice.now)) }
+            self.now.location.now self.now.text.now self.now.message.now self.now.advice.now)) }
     {
-        put_value(alloc, out, &self.object(alloc)?)
+        write_value(alloc, out, &self.object(alloc)?)
     }
 
     // Its object.
     fn object(&self, alloc: Global) -> Result<Value, AllocError>
         ensures { IfOk result (λ v. view v ≡ malformed_object
-            self.now.place.now self.now.text.now self.now.message.now self.now.advice.now) }
+            self.now.location.now self.now.text.now self.now.message.now self.now.advice.now) }
     {
         json!(in alloc; {
             "advice": self.advice,
             "kind": "malformed",
             "message": self.message,
-            "place": self.place,
+            "place": self.location,
             "text": self.text,
         })
     }
@@ -50,11 +50,11 @@ pub struct Untracked<'a> {
 
 impl Untracked<'_> {
     /// Puts its object and a newline at the end.
-    pub fn put_line(&self, alloc: Global, out: &mut Vec<u8>) -> Result<(), AllocError>
+    pub fn write_line(&self, alloc: Global, out: &mut Vec<u8>) -> Result<(), AllocError>
         ensures { OnOk result (out.new.items ≡ out.old.items ++ line_of (untracked_object
             self.now.name.now self.now.message.now)) }
     {
-        put_value(alloc, out, &self.object(alloc)?)
+        write_value(alloc, out, &self.object(alloc)?)
     }
 
     // Its object.

@@ -5,14 +5,14 @@ ghost use Rattle.serde_json.specs.Data.{string, put as with_member};
 ghost use Rattle.serde_json.specs.View.{view, members_view};
 ghost use Rattle.refspec_json.specs.Objects.{line_of, refused_object, spec_object, noted_object};
 
-use crate::line::{number_or_null, put_value, text_or_null};
+use crate::line::{number_or_null, write_value, text_or_null};
 use serde_json::{Map, Value, json, put};
 use std::alloc::{AllocError, Global};
 
 /// A text that is refused.
 #[derive(Drop)]
 pub struct Refused<'a> {
-    pub place: &'a str,
+    pub location: &'a str,
     pub operation: &'a str,
     pub text: &'a str,
     /// The name of the reason.
@@ -27,19 +27,19 @@ pub struct Refused<'a> {
 
 impl Refused<'_> {
     /// Puts its object and a newline at the end.
-    pub fn put_line(&self, alloc: Global, out: &mut Vec<u8>) -> Result<(), AllocError>
+    pub fn write_line(&self, alloc: Global, out: &mut Vec<u8>) -> Result<(), AllocError>
         ensures { OnOk result (out.new.items ≡ out.old.items ++ line_of (refused_object
-            self.now.place.now self.now.operation.now self.now.text.now self.now.reason.now
+            self.now.location.now self.now.operation.now self.now.text.now self.now.reason.now
             self.now.message.now (option_map (λ t. t.now) self.now.side)
             (option_map (λ t. t.now) self.now.part) self.now.at self.now.advice.now)) }
     {
-        put_value(alloc, out, &self.object(alloc)?)
+        write_value(alloc, out, &self.object(alloc)?)
     }
 
     // Its object.
     fn object(&self, alloc: Global) -> Result<Value, AllocError>
         ensures { IfOk result (λ v. view v ≡ refused_object
-            self.now.place.now self.now.operation.now self.now.text.now self.now.reason.now
+            self.now.location.now self.now.operation.now self.now.text.now self.now.reason.now
             self.now.message.now (option_map (λ t. t.now) self.now.side)
             (option_map (λ t. t.now) self.now.part) self.now.at self.now.advice.now) }
     {
@@ -53,7 +53,7 @@ impl Refused<'_> {
             "message": self.message,
             "operation": self.operation,
             "part": part,
-            "place": self.place,
+            "place": self.location,
             "reason": self.reason,
             "side": side,
             "text": self.text,
@@ -91,7 +91,7 @@ impl SpecKind {
 #[derive(Drop)]
 pub struct Spec<'a> {
     pub kind: SpecKind,
-    pub place: &'a str,
+    pub location: &'a str,
     pub operation: &'a str,
     pub text: &'a str,
     pub canonical: &'a str,
@@ -104,38 +104,38 @@ impl Spec<'_> {
     ghost use Rattle.refspec_json.specs.Views.{kind_name};
 
     /// Puts its object and a newline at the end.
-    pub fn put_line(&self, alloc: Global, out: &mut Vec<u8>) -> Result<(), AllocError>
+    pub fn write_line(&self, alloc: Global, out: &mut Vec<u8>) -> Result<(), AllocError>
         ensures { OnOk result (out.new.items ≡ out.old.items ++ line_of (spec_object
-            (kind_name self.now.kind) self.now.place.now self.now.operation.now
+            (kind_name self.now.kind) self.now.location.now self.now.operation.now
             self.now.text.now self.now.canonical.now
             (option_map (λ t. t.now) self.now.meaning)
             (option_map (λ t. t.now) self.now.same_as))) }
     {
-        put_value(alloc, out, &self.object(alloc)?)
+        write_value(alloc, out, &self.object(alloc)?)
     }
 
     // Its object.
     fn object(&self, alloc: Global) -> Result<Value, AllocError>
         ensures { IfOk result (λ v. view v ≡ spec_object
-            (kind_name self.now.kind) self.now.place.now self.now.operation.now
+            (kind_name self.now.kind) self.now.location.now self.now.operation.now
             self.now.text.now self.now.canonical.now
             (option_map (λ t. t.now) self.now.meaning)
             (option_map (λ t. t.now) self.now.same_as)) }
     {
         let mut members = Map::new(alloc);
-        put_text(alloc, &mut members, "canonical", self.canonical)?;
-        put_text(alloc, &mut members, "kind", self.kind.name())?;
-        put_text(alloc, &mut members, "operation", self.operation)?;
-        put_text(alloc, &mut members, "place", self.place)?;
-        put_text(alloc, &mut members, "text", self.text)?;
-        put_text_if(alloc, &mut members, "meaning", self.meaning)?;
-        put_text_if(alloc, &mut members, "same_as", self.same_as)?;
+        write_text(alloc, &mut members, "canonical", self.canonical)?;
+        write_text(alloc, &mut members, "kind", self.kind.name())?;
+        write_text(alloc, &mut members, "operation", self.operation)?;
+        write_text(alloc, &mut members, "place", self.location)?;
+        write_text(alloc, &mut members, "text", self.text)?;
+        write_text_if(alloc, &mut members, "meaning", self.meaning)?;
+        write_text_if(alloc, &mut members, "same_as", self.same_as)?;
         Ok(Value::Object(members))
     }
 }
 
 // Sets a member to a text.
-fn put_text(
+fn write_text(
     alloc: Global,
     members: &mut Map<String, Value>,
     key: &str,
@@ -148,7 +148,7 @@ fn put_text(
 }
 
 // Sets a member to a text, if there is one.
-fn put_text_if(
+fn write_text_if(
     alloc: Global,
     members: &mut Map<String, Value>,
     key: &str,
@@ -161,7 +161,7 @@ fn put_text_if(
 {
     match text {
         None => Ok(()),
-        Some(text) => put_text(alloc, members, key, text),
+        Some(text) => write_text(alloc, members, key, text),
     }
 }
 
@@ -174,11 +174,11 @@ pub struct All<'a> {
 
 impl All<'_> {
     /// Puts its object and a newline at the end.
-    pub fn put_line(&self, alloc: Global, out: &mut Vec<u8>) -> Result<(), AllocError>
+    pub fn write_line(&self, alloc: Global, out: &mut Vec<u8>) -> Result<(), AllocError>
         ensures { OnOk result (out.new.items ≡ out.old.items ++ line_of (noted_object
             (codes "all") self.now.spec.now self.now.message.now)) }
     {
-        put_value(alloc, out, &noted(alloc, "all", self.spec, self.message)?)
+        write_value(alloc, out, &noted(alloc, "all", self.spec, self.message)?)
     }
 }
 
@@ -191,11 +191,11 @@ pub struct ToObject<'a> {
 
 impl ToObject<'_> {
     /// Puts its object and a newline at the end.
-    pub fn put_line(&self, alloc: Global, out: &mut Vec<u8>) -> Result<(), AllocError>
+    pub fn write_line(&self, alloc: Global, out: &mut Vec<u8>) -> Result<(), AllocError>
         ensures { OnOk result (out.new.items ≡ out.old.items ++ line_of (noted_object
             (codes "to_object") self.now.spec.now self.now.message.now)) }
     {
-        put_value(
+        write_value(
             alloc,
             out,
             &noted(alloc, "to_object", self.spec, self.message)?,

@@ -24,7 +24,7 @@ use Rattle.refspec_map.proofs.FormFacts.{no_length, ref_lines}
 use Rattle.refspec_map.proofs.LineFacts.{Lacks-tested}
 use Rattle.refspec_map.proofs.MatchFacts.{not_negative, taken_by_first}
 use Rattle.refspec_map.proofs.RunFacts.{some_once}
-use Rattle.refspec_map.proofs.ConflictFacts.{the_tag, the_head, target, target_kind, named, the_refs, tag_mapping, apart, spec_line, ref_line, refs_after, refs_cut}
+use Rattle.refspec_map.proofs.ConflictFacts.{the_tag, the_head, target, target_kind, named, the_refs, tag_mapping, apart, spec_line, ref_line, refs_after, refs_split}
 
 -- a partial name, for which both refs are candidates
 abbrev main : List ℕ
@@ -134,7 +134,7 @@ tag_planned law names = record {
   is = record {
     lines = spec_line main ∷ ref_line the_tag ∷ ref_line the_head ∷ [];
     entries = reading the_spec ∷ ref (named the_tag) ∷ ref (named the_head) ∷ [];
-    cut = (Lacks-tested newline (spec_line main) refl, inl (refs_after, refl, refs_cut));
+    split = (Lacks-tested newline (spec_line main) refl, inl (refs_after, refl, refs_split));
     given = ((codes "main:refs/x", refl, main_reads names), (ref_lines the_tag, (ref_lines the_head, tt)));
     is = record { mappings = tag_mapping ∷ []; kept = kept law; shows = record { rest = tag_mapping ∷ []; fixes = []; fixed = []; is = validated; are = refl; written = refl } };
   };

@@ -10,7 +10,7 @@ use Rattle.gix_refspec.specs.Specs.Reading.{Normal, Reading}
 use Rattle.gix_refspec.specs.Specs.Grammar.{Reads, fetched, updates}
 use Rattle.gix_refspec.specs.Matching.Side.{SideKind, pattern, full_name, object, partial, HasKind}
 use Rattle.gix_refspec.specs.Matching.Match.{Ref, MatchesAs, Takes}
-use Rattle.gix_refspec.specs.Matching.Mappings.{Start, name, id, Mapped, HasPair, IsExcluded}
+use Rattle.gix_refspec.specs.Matching.Mappings.{Source, name, id, Mapped, HasPair, IsExcluded}
 use Rattle.gix_refspec.specs.Matching.Hits.{Ends, AreForwardEnds, Hit, IsHit, AreForward, AreKeptForward, IsIdMapping}
 use Rattle.gix_refspec.specs.Matching.Validation.{Conflict, HasConflictAt, IsFirstTo, IsConflict, AreConflicts}
 use Rattle.gix_refspec.specs.Laws.Names.{PlainNames}
@@ -106,7 +106,7 @@ no_id_mapped k n kind m is = is.object.1 (subst (BeginsWith (codes "refs/")) (so
 pub apart : the_tag ≢ the_head
 apart same = omega (arith, ap length same)
 
-text_of_start : Start → List ℕ
+text_of_start : Source → List ℕ
 text_of_start (name n) = n
 text_of_start (id i) = i
 
@@ -209,13 +209,13 @@ the_input = codes "spec refs/tags/main:refs/x\nspec refs/heads/main:refs/x\nref 
 abbrev pub refs_after : List ℕ
 refs_after = codes "ref e69de29bb2d1d6434b8b29ae775ad8c2e48c5391 refs/tags/main\nref e69de29bb2d1d6434b8b29ae775ad8c2e48c5391 refs/heads/main\n"
 
-pub refs_cut : AreLines (ref_line the_tag ∷ ref_line the_head ∷ []) refs_after
-refs_cut = (Lacks-tested newline (ref_line the_tag) refl, inl (ref_line the_head ++ (newline ∷ []), refl, (Lacks-tested newline (ref_line the_head) refl, inl ([], refl, refl))))
+pub refs_split : AreLines (ref_line the_tag ∷ ref_line the_head ∷ []) refs_after
+refs_split = (Lacks-tested newline (ref_line the_tag) refl, inl (ref_line the_head ++ (newline ∷ []), refl, (Lacks-tested newline (ref_line the_head) refl, inl ([], refl, refl))))
 
-lines_cut : AreLines (spec_line the_tag ∷ spec_line the_head ∷ ref_line the_tag ∷ ref_line the_head ∷ []) the_input
-lines_cut = (
+lines_split : AreLines (spec_line the_tag ∷ spec_line the_head ∷ ref_line the_tag ∷ ref_line the_head ∷ []) the_input
+lines_split = (
   Lacks-tested newline (spec_line the_tag) refl,
-  inl (spec_line the_head ++ (newline ∷ refs_after), refl, (Lacks-tested newline (spec_line the_head) refl, inl (refs_after, refl, refs_cut))),
+  inl (spec_line the_head ++ (newline ∷ refs_after), refl, (Lacks-tested newline (spec_line the_head) refl, inl (refs_after, refl, refs_split))),
 )
 
 tag_reads : PlainNames → Reads Fetch (codes "refs/tags/main:refs/x") (spec_of the_tag)
@@ -233,7 +233,7 @@ conflict_planned law = record {
   is = record {
     lines = spec_line the_tag ∷ spec_line the_head ∷ ref_line the_tag ∷ ref_line the_head ∷ [];
     entries = reading (spec_of the_tag) ∷ reading (spec_of the_head) ∷ ref (named the_tag) ∷ ref (named the_head) ∷ [];
-    cut = lines_cut;
+    split = lines_split;
     given = ((codes "refs/tags/main:refs/x", refl, tag_reads law), ((codes "refs/heads/main:refs/x", refl, head_reads law), (ref_lines the_tag, (ref_lines the_head, tt))));
     is = record { mappings = both; kept = kept; shows = record { conflicts = the_conflict ∷ []; are = conflicts; some = λ none. cc; written = refl } };
   };

@@ -67,7 +67,7 @@ Adds-spec r blank line text old new s says reads refs items pushed = on_ok_weake
 pub record Reaches {A : Type 0} (blank : Option A) (input : List ℕ) (made : Entries) (count : ℕ) (rest : List ℕ) : Type 0 where
   pub before : List (List ℕ)
   pub entries : List Entry
-  pub cut : (lines : List (List ℕ)) → AreLines lines rest → AreLines (before ++ lines) input
+  pub split : (lines : List (List ℕ)) → AreLines lines rest → AreLines (before ++ lines) input
   pub given : AllZip Gives before entries
   pub specs : map reading_of made.specs.items ≡ readings_in entries
   pub refs : kept_refs blank made ≡ seen blank (refs_in entries)
@@ -83,7 +83,7 @@ pub Reaches-start : {A : Type 0} (blank : Option A) (input : List ℕ) (made : E
 Reaches-start blank input made no_specs none no_items = record {
   before = [];
   entries = [];
-  cut = λ lines is. is;
+  split = λ lines is. is;
   given = tt;
   specs = ap (map reading_of) no_specs;
   refs = kept_none blank made none no_items;
@@ -96,7 +96,7 @@ pub Reaches-end : {A : Type 0} (blank : Option A) (input : List ℕ) (made : Ent
 Reaches-end blank input made count rest empty reaches = record {
   lines = reaches.before;
   entries = reaches.entries;
-  cut = subst (λ (ls : List (List ℕ)). AreLines ls input) (append-nil reaches.before) (reaches.cut [] empty);
+  split = subst (λ (ls : List (List ℕ)). AreLines ls input) (append-nil reaches.before) (reaches.split [] empty);
   given = reaches.given;
   specs = reaches.specs;
   refs = reaches.refs;
@@ -119,10 +119,10 @@ given_more (l ∷ lines) [] line e given one = absurd given
 given_more (l ∷ lines) (f ∷ entries) line e given one = (given.0, given_more lines entries line e given.1 one)
 
 -- lines of what follows the first line, and those before it, are lines of the input
-cut_more : (input text line rest : List ℕ) (before lines : List (List ℕ)) → text ≢ [] → IsFirstLine text line rest → ((all : List (List ℕ)) → AreLines all text → AreLines (before ++ all) input) → AreLines lines rest → AreLines (before ++ (line ∷ lines)) input
-cut_more input text line rest before lines full first cut of_rest =
+split_more : (input text line rest : List ℕ) (before lines : List (List ℕ)) → text ≢ [] → IsFirstLine text line rest → ((all : List (List ℕ)) → AreLines all text → AreLines (before ++ all) input) → AreLines lines rest → AreLines (before ++ (line ∷ lines)) input
+split_more input text line rest before lines full first split of_rest =
     let all = lines_more text line rest lines full first of_rest in
-    subst (λ (ls : List (List ℕ)). AreLines (before ++ ls) input) all.2 (cut all.0 all.1)
+    subst (λ (ls : List (List ℕ)). AreLines (before ++ ls) input) all.2 (split all.0 all.1)
 
 -- what follows the first line of a text is shorter
 shorter_by : (text line rest : List ℕ) → text ≢ [] → (text ≡ line ++ (newline ∷ rest)) ⊎ ((text ≡ line) × (rest ≡ [])) → 1 + length rest ≤ length text
@@ -139,7 +139,7 @@ pub Reaches-line : {A : Type 0} (blank : Option A) (input : List ℕ) (old new :
 Reaches-line blank input old new count text line rest full first adds reaches = record {
   before = reaches.before ++ line ∷ [];
   entries = reaches.entries ++ adds.entry ∷ [];
-  cut = λ lines is. subst (λ (ls : List (List ℕ)). AreLines ls input) (sym (append_assoc reaches.before (line ∷ []) lines)) (cut_more input text line rest reaches.before lines full first reaches.cut is);
+  split = λ lines is. subst (λ (ls : List (List ℕ)). AreLines ls input) (sym (append_assoc reaches.before (line ∷ []) lines)) (split_more input text line rest reaches.before lines full first reaches.split is);
   given = given_more reaches.before reaches.entries line adds.entry reaches.given adds.gives;
   specs = adds.specs ∙ (ap (λ l. l ++ readings_in (adds.entry ∷ [])) reaches.specs ∙ sym (readings_in-append reaches.entries (adds.entry ∷ [])));
   refs =
@@ -157,13 +157,13 @@ some_byte b x none = omega (arith, ap length none)
 
 -- a byte that is no newline begins the first line
 longer_by : (b : ℕ) (text line : List ℕ) (lines : List (List ℕ)) → ((rest : List ℕ) × (text ≡ line ++ (newline ∷ rest)) × AreLines lines rest) ⊎ ((line ≢ []) × (lines ≡ []) × (text ≡ line)) → ((rest : List ℕ) × (b ∷ text ≡ (b ∷ line) ++ (newline ∷ rest)) × AreLines lines rest) ⊎ ((b ∷ line ≢ []) × (lines ≡ []) × (b ∷ text ≡ b ∷ line))
-longer_by b text line lines (inl cut) = inl (cut.0, ap (λ t. b ∷ t) cut.1, cut.2)
-longer_by b text line lines (inr cut) = inr (some_byte b line, cut.1, ap (λ t. b ∷ t) cut.2)
+longer_by b text line lines (inl split) = inl (split.0, ap (λ t. b ∷ t) split.1, split.2)
+longer_by b text line lines (inr split) = inr (some_byte b line, split.1, ap (λ t. b ∷ t) split.2)
 
 has_lines_by : (b : ℕ) (text : List ℕ) (lines : List (List ℕ)) (ends : Bool) → (b == newline) ≡ ends → AreLines lines text → (all : List (List ℕ)) × AreLines all (b ∷ text)
-has_lines_by b text lines true is cut = ([] ∷ lines, (tt, inl (text, ap (λ c. c ∷ text) (eqb-true b newline is), cut)))
-has_lines_by b text [] false is cut = ((b ∷ []) ∷ [], ((λ same. false≢true (sym is ∙ eq-eqb b newline same), tt), inr (some_byte b [], refl, ap (λ t. b ∷ t) cut)))
-has_lines_by b text (line ∷ lines) false is cut = ((b ∷ line) ∷ lines, ((λ same. false≢true (sym is ∙ eq-eqb b newline same), cut.0), longer_by b text line lines cut.1))
+has_lines_by b text lines true is split = ([] ∷ lines, (tt, inl (text, ap (λ c. c ∷ text) (eqb-true b newline is), split)))
+has_lines_by b text [] false is split = ((b ∷ []) ∷ [], ((λ same. false≢true (sym is ∙ eq-eqb b newline same), tt), inr (some_byte b [], refl, ap (λ t. b ∷ t) split)))
+has_lines_by b text (line ∷ lines) false is split = ((b ∷ line) ∷ lines, ((λ same. false≢true (sym is ∙ eq-eqb b newline same), split.0), longer_by b text line lines split.1))
 
 -- every text has lines
 has_lines : (text : List ℕ) → (lines : List (List ℕ)) × AreLines lines text
@@ -182,7 +182,7 @@ Reaches-fault blank input made count text line rest f full first (inr fault) rea
         before = reaches.before;
         after = lines.0;
         entries = reaches.entries;
-        cut = cut_more input text line rest reaches.before lines.0 full first reaches.cut lines.1;
+        split = split_more input text line rest reaches.before lines.0 full first reaches.split lines.1;
         good = reaches.given;
         counted = ap (λ n. n + 1) reaches.counted;
       },

@@ -39,14 +39,14 @@ main_malformed = malformed (codes "main") not_spec (no_ref_first 109 _ (eqb-fals
 spec_gives : Gives (codes "spec ") (reading (fetched Normal head None))
 spec_gives = ([], refl, nothing_reads)
 
-two_cut : AreLines (codes "spec " ∷ codes "main" ∷ []) two
-two_cut = (Lacks-tested newline (codes "spec ") refl, inl (codes "main\n", refl, (Lacks-tested newline (codes "main") refl, inl ([], refl, refl))))
+two_split : AreLines (codes "spec " ∷ codes "main" ∷ []) two
+two_split = (Lacks-tested newline (codes "spec ") refl, inl (codes "main\n", refl, (Lacks-tested newline (codes "main") refl, inl ([], refl, refl))))
 
 second_bad : IsFirstFault two (fault.Line 2)
 second_bad = (
   2,
   codes "main",
-  record { before = codes "spec " ∷ []; after = []; entries = reading (fetched Normal head None) ∷ []; cut = two_cut; good = (spec_gives, tt); counted = refl },
+  record { before = codes "spec " ∷ []; after = []; entries = reading (fetched Normal head None) ∷ []; split = two_split; good = (spec_gives, tt); counted = refl },
   (refl, main_malformed),
 )
 
@@ -70,7 +70,7 @@ fault_at (b ∷ c ∷ before) line after number f same counted bad = absurd (ome
 
 only_second_bad : (f : Fault) → IsFirstFault two f → f ≡ fault.Line 2
 only_second_bad f (number, line, reached, bad) =
-    fault_at reached.before line reached.after number f (lines_once (reached.before ++ (line ∷ reached.after)) (codes "spec " ∷ codes "main" ∷ []) two reached.cut two_cut) reached.counted bad
+    fault_at reached.before line reached.after number f (lines_once (reached.before ++ (line ∷ reached.after)) (codes "spec " ∷ codes "main" ∷ []) two reached.split two_split) reached.counted bad
 
 -- the input that was read to its end is what the reader had
 read_whole : (x rest input : List ℕ) → ReadsToEnd (Some x) (Some rest) input → input ≡ x
@@ -105,7 +105,7 @@ refusal_reported law = (
   (
     1,
     codes "spec ^",
-    record { before = []; after = []; entries = []; cut = (Lacks-tested newline (codes "spec ^") refl, inl ([], refl, refl)); good = tt; counted = refl },
+    record { before = []; after = []; entries = []; split = (Lacks-tested newline (codes "spec ^") refl, inl ([], refl, refl)); good = tt; counted = refl },
     (codes "^", refl, refl, (NegativeEmpty, refl, caret_refused law)),
   ),
 )

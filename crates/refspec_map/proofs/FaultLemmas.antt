@@ -56,8 +56,8 @@ no_fault line e n fault.Memory given bad = absurd bad
 no_fault line e n fault.Write given bad = absurd bad
 
 no_first_fault : (lines : List (List ℕ)) (entries : List Entry) (input : List ℕ) → AreLines lines input → AllZip Gives lines entries → (f : Fault) → ¬ (IsFirstFault input f)
-no_first_fault lines entries input cut given f bad =
-    let same = AreLines-once lines (bad.2.before ++ (bad.1 ∷ bad.2.after)) input cut bad.2.cut in
+no_first_fault lines entries input split given f bad =
+    let same = AreLines-once lines (bad.2.before ++ (bad.1 ∷ bad.2.after)) input split bad.2.split in
     let at = given_at bad.2.before bad.1 bad.2.after entries (subst (λ (ls : List (List ℕ)). AllZip Gives ls entries) same given) in
     no_fault bad.1 at.0 bad.0 f at.1 bad.3
 
@@ -65,6 +65,6 @@ no_first_fault lines entries input cut given f bad =
 pub no_bad_line : (c : Command) (input output : List ℕ) (refusal : Bool) → IsOutput c input output refusal → (f : Fault) → ¬ (IsBad c input f)
 no_bad_line command.CanonFetch input output refusal is f bad = bad
 no_bad_line command.CanonPush input output refusal is f bad = bad
-no_bad_line command.Lhs input output refusal is f bad = no_first_fault is.lines is.entries input is.cut is.given f bad
-no_bad_line command.Rhs input output refusal is f bad = no_first_fault is.lines is.entries input is.cut is.given f bad
-no_bad_line command.Plan input output refusal is f bad = no_first_fault is.lines is.entries input is.cut is.given f bad
+no_bad_line command.Lhs input output refusal is f bad = no_first_fault is.lines is.entries input is.split is.given f bad
+no_bad_line command.Rhs input output refusal is f bad = no_first_fault is.lines is.entries input is.split is.given f bad
+no_bad_line command.Plan input output refusal is f bad = no_first_fault is.lines is.entries input is.split is.given f bad

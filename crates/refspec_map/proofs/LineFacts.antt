@@ -21,8 +21,8 @@ Lacks-tested b (c ∷ x) none = elim (c == b) as (λ v. (c == b) ≡ v → (v ||
 
 -- an input has one list of lines
 pub lines_once : (ls ms : List (List ℕ)) (input : List ℕ) → AreLines ls input → AreLines ms input → ls ≡ ms
-lines_once [] ms input cut other = sym (no_lines ms (subst (AreLines ms) cut other))
-lines_once (l ∷ ls) [] input cut other = no_lines (l ∷ ls) (subst (AreLines (l ∷ ls)) other cut)
+lines_once [] ms input split other = sym (no_lines ms (subst (AreLines ms) split other))
+lines_once (l ∷ ls) [] input split other = no_lines (l ∷ ls) (subst (AreLines (l ∷ ls)) other split)
 lines_once (l ∷ ls) (m ∷ ms) input (in_l, inl (rest, here, more)) (in_m, inl (after, there, later)) =
     let once = first_once newline l m rest after in_l in_m (sym here ∙ there) in
     let same = lines_once ls ms after (subst (AreLines ls) once.1 more) later in
@@ -44,7 +44,7 @@ two_lines = (Lacks-tested newline (codes "a\r") refl, inl (codes "b", refl, (Lac
 
 -- a newline at the end is no line more
 pub no_line_more : (lines : List (List ℕ)) → AreLines lines (codes "a\n") → lines ≡ codes "a" ∷ []
-no_line_more lines cut = lines_once lines (codes "a" ∷ []) (codes "a\n") cut (Lacks-tested newline (codes "a") refl, inl ([], refl, refl))
+no_line_more lines split = lines_once lines (codes "a" ∷ []) (codes "a\n") split (Lacks-tested newline (codes "a") refl, inl ([], refl, refl))
 
 -- ---- the limit of an input
 

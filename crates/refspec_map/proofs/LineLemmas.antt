@@ -18,8 +18,8 @@ use Rattle.refspec_map.specs.Told.{IsReadAs, IsSeenAs}
 use Rattle.gix_refspec_text.proofs.lemmas.lists.LacksLemmas.{first_once}
 
 -- a text that is cut at its first space begins with no other id, and goes on with nothing else
-pub IsIdThen-cut : (text word rest id after : List ℕ) → text ≡ word ++ (space ∷ rest) → Lacks space word → IsIdThen text id after → IsIdText word id × (rest ≡ after)
-IsIdThen-cut text word rest id after here ends is =
+pub IsIdThen-split : (text word rest id after : List ℕ) → text ≡ word ++ (space ∷ rest) → Lacks space word → IsIdThen text id after → IsIdText word id × (rest ≡ after)
+IsIdThen-split text word rest id after here ends is =
     let same = first_once space word is.word rest after ends is.ends (sym here ∙ is.here) in
     (subst (λ w. IsIdText w id) (sym same.0) is.spelled, same.1)
 
@@ -34,7 +34,7 @@ unspelled t e (inr one) fault i is = one.unread i is
 
 -- where the first word spells no id, none is there
 pub no_IsIdThen-word : (text word rest : List ℕ) → text ≡ word ++ (space ∷ rest) → Lacks space word → ((id : List ℕ) → ¬ (IsIdText word id)) → (id after : List ℕ) → ¬ (IsIdThen text id after)
-no_IsIdThen-word text word rest here ends none id after is = none id (IsIdThen-cut text word rest id after here ends is).0
+no_IsIdThen-word text word rest here ends none id after is = none id (IsIdThen-split text word rest id after here ends is).0
 
 -- as many digits as spell an id have no fault
 no_id_fault : (t : List ℕ) (e : IdError) → IsIdLength (length t) → list_all is_hex_digit t ≡ true → HasIdFault t e → ⊥
@@ -74,7 +74,7 @@ are_digits-tell t false either size same = no_id_byte t either size (sym same)
 
 -- what follows the id is one
 IsIdThen-once : (text id after other_id other : List ℕ) → IsIdThen text id after → IsIdThen text other_id other → after ≡ other
-IsIdThen-once text id after other_id other is also = (IsIdThen-cut text is.word after other_id other is.here is.ends also).1
+IsIdThen-once text id after other_id other is also = (IsIdThen-split text is.word after other_id other is.here is.ends also).1
 
 -- a ref has the ids that were read as its own
 pub ref_seen : {A : Type 0} (blank : Option A) (n id made : List ℕ) → IsReadAs blank id made → IsSeenAs blank (record { name = n; target = id; object = None }) (record { name = n; target = made; object = None })

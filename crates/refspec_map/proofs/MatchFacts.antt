@@ -38,7 +38,7 @@ nothing_mapped = record {
   is = record {
     lines = [];
     entries = [];
-    cut = refl;
+    split = refl;
     given = tt;
     is = record { mappings = []; kept = record { all = []; forward = record { ids = []; hits = []; are_ids = refl; are_hits = refl; all = refl }; is = refl }; written = refl; tells = refl };
   };
@@ -71,8 +71,8 @@ the_entries = reading the_spec ∷ ref the_ref ∷ []
 abbrev the_lines : List (List ℕ)
 the_lines = codes "spec " ∷ codes "ref e69de29bb2d1d6434b8b29ae775ad8c2e48c5391 HEAD" ∷ []
 
-lines_cut : AreLines the_lines the_input
-lines_cut = (
+lines_split : AreLines the_lines the_input
+lines_split = (
   Lacks-tested newline (codes "spec ") refl,
   inl (codes "ref e69de29bb2d1d6434b8b29ae775ad8c2e48c5391 HEAD\n", refl, (Lacks-tested newline (codes "ref e69de29bb2d1d6434b8b29ae775ad8c2e48c5391 HEAD") refl, inl ([], refl, refl))),
 )
@@ -166,7 +166,7 @@ answered command Writes output is_output writes = record {
   output = output;
   refusal = false;
   read = record { taken = refl; ended = refl; within = omega arith };
-  is = is_output (record { lines = the_lines; entries = the_entries; cut = lines_cut; given = (([], refl, nothing_reads), (ref_lines head, tt)); is = writes });
+  is = is_output (record { lines = the_lines; entries = the_entries; split = lines_split; given = (([], refl, nothing_reads), (ref_lines head, tt)); is = writes });
   written = refl;
   tells = refl;
 }

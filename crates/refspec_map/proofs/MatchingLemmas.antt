@@ -63,7 +63,7 @@ IsMatching-of A Writes input output refusal made items refs are lent same is =
     record {
       lines = are.lines;
       entries = are.entries;
-      cut = are.cut;
+      split = are.split;
       given = are.given;
       is = subst (λ (g : List Reading). Writes g (refs_in are.entries) output refusal) are.specs (subst (λ (rs : List Ref). Writes (map reading_of made.specs.items) rs output refusal) all is);
     }
@@ -96,7 +96,7 @@ pub IsMatching-named : {A : Type 0} (blank : A) (Writes : List Reading → List 
 IsMatching-named blank Writes input output refusal made items by are lent is = record {
   lines = are.lines;
   entries = are.entries;
-  cut = are.cut;
+  split = are.split;
   given = are.given;
   is = subst (λ (g : List Reading). Writes g (refs_in are.entries) output refusal) are.specs (by (refs_in are.entries) output refusal (ap (map named) lent ∙ are.refs) is);
 }

@@ -26,7 +26,7 @@ Completes op input output refusal rest =
 
 -- at the start the whole input is the rest
 pub Completes-start : (op : Operation) (input output : List ℕ) → output ≡ [] → Completes op input output false input
-Completes-start op input output empty lines answers cut told = record { lines = lines; answers = answers; cut = cut; told = told; written = ap (λ x. x ++ flat_map answer_line answers) empty; tells = refl }
+Completes-start op input output empty lines answers split told = record { lines = lines; answers = answers; split = split; told = told; written = ap (λ x. x ++ flat_map answer_line answers) empty; tells = refl }
 
 -- there is no newline in nothing
 nothing_ends : (line rest : List ℕ) → [] ≡ line ++ (newline ∷ rest) → ⊥
@@ -34,18 +34,18 @@ nothing_ends line rest same = omega (arith, ap length same, length-append line (
 
 -- nor is a line of nothing
 not_of_nothing : (line : List ℕ) (lines : List (List ℕ)) → ((rest : List ℕ) × ([] ≡ line ++ (newline ∷ rest)) × AreLines lines rest) ⊎ ((line ≢ []) × (lines ≡ []) × ([] ≡ line)) → ⊥
-not_of_nothing line lines (inl cut) = nothing_ends line cut.0 cut.1
-not_of_nothing line lines (inr cut) = cut.0 (sym cut.2)
+not_of_nothing line lines (inl split) = nothing_ends line split.0 split.1
+not_of_nothing line lines (inr split) = split.0 (sym split.2)
 
 -- nothing has no lines
 pub no_lines : (lines : List (List ℕ)) → AreLines lines [] → lines ≡ []
-no_lines [] cut = refl
-no_lines (line ∷ lines) cut = absurd (not_of_nothing line lines cut.1)
+no_lines [] split = refl
+no_lines (line ∷ lines) split = absurd (not_of_nothing line lines split.1)
 
 lines_more_by : (text line rest : List ℕ) (lines : List (List ℕ)) → text ≢ [] → Lacks newline line → AreLines lines rest → ((text ≡ line ++ (newline ∷ rest)) ⊎ ((text ≡ line) × (rest ≡ []))) → (all : List (List ℕ)) × AreLines all text × (all ≡ line ∷ lines)
-lines_more_by text line rest lines full lacks cut (inl ended) = (line ∷ lines, (lacks, inl (rest, ended, cut)), refl)
-lines_more_by text line rest lines full lacks cut (inr last) =
-    let none = no_lines lines (subst (AreLines lines) last.1 cut) in
+lines_more_by text line rest lines full lacks split (inl ended) = (line ∷ lines, (lacks, inl (rest, ended, split)), refl)
+lines_more_by text line rest lines full lacks split (inr last) =
+    let none = no_lines lines (subst (AreLines lines) last.1 split) in
     (line ∷ lines, (lacks, inr (λ empty. full (last.0 ∙ empty), none, last.0)), refl)
 
 -- whether some line is refused, with one line more
@@ -55,7 +55,7 @@ or_more false b c d same = ap (λ x. x || d) (sym same)
 
 -- the first line and the lines of the rest are those of the text
 pub lines_more : (text line rest : List ℕ) (lines : List (List ℕ)) → text ≢ [] → IsFirstLine text line rest → AreLines lines rest → (all : List (List ℕ)) × AreLines all text × (all ≡ line ∷ lines)
-lines_more text line rest lines full first cut = lines_more_by text line rest lines full first.0 cut first.1
+lines_more text line rest lines full first split = lines_more_by text line rest lines full first.0 split first.1
 
 -- what the program made of a line, and the line of it, are an answer
 answer_put : (op : Operation) (line old new : List ℕ) (m : Made) → IsAnsweredBy op line m → PutsLine m old new → PutsAnswer op line old new (is_refusal m)
@@ -64,8 +64,8 @@ answer_put op line old new (made.Refused name) is put = record { answer = refuse
 
 -- one line more
 Completes-answer : (op : Operation) (input old new text line rest : List ℕ) (before refusal : Bool) → text ≢ [] → IsFirstLine text line rest → PutsAnswer op line old new refusal → Completes op input old before text → Completes op input new (before || refusal) rest
-Completes-answer op input old new text line rest before refusal full first put completes lines answers cut told =
-    let lines_of_text = lines_more text line rest lines full first cut in
+Completes-answer op input old new text line rest before refusal full first put completes lines answers split told =
+    let lines_of_text = lines_more text line rest lines full first split in
     let whole = completes lines_of_text.0 (put.answer ∷ answers) lines_of_text.1 (subst (λ (ls : List (List ℕ)). AllZip (IsAnswer op) ls (put.answer ∷ answers)) (sym lines_of_text.2) (put.is, told)) in
     let output : old ++ (answer_line put.answer ++ flat_map answer_line answers) ≡ new ++ flat_map answer_line answers =
     sym (append_assoc old (answer_line put.answer) (flat_map answer_line answers)) ∙ ap (λ x. x ++ flat_map answer_line answers) (sym put.put) in

@@ -8,14 +8,14 @@ use Rattle.bstr.specs.Owned.{bstring_bytes}
 use Rattle.gix_refspec_match.specs.declared.types.SourceRef.{SourceRef}
 use Rattle.gix_refspec.specs.declared.match_group.validate.Fix.{Fix}
 use Rattle.gix_refspec.specs.Matching.Lists.{IsJoinedFrom}
-use Rattle.gix_refspec.specs.Matching.Mappings.{Start}
+use Rattle.gix_refspec.specs.Matching.Mappings.{Source}
 use Rattle.gix_refspec.specs.Views.Group.{start_of}
 use Rattle.gix_refspec.specs.Views.Issue.{removed_of}
 use Rattle.gix_refspec.specs.Matching.Validation.{Removed}
 use Rattle.refspec_map.specs.Plan.{IsFixLine, AreFixLines, PutsFix, PutsFixes}
 
 -- a source and the text of its spec, as plain data
-abbrev pub claim_of : Bor SourceRef × Bor BString → Start × List ℕ
+abbrev pub claim_of : Bor SourceRef × Bor BString → Source × List ℕ
 claim_of claim = (start_of claim.0.now, bstring_bytes claim.1.now)
 
 -- no lines of no fixes

@@ -5,7 +5,7 @@ use Rattle.gix_refspec_text.specs.declared.parsing.Error.TheVariants.{Memory}
 use Rattle.gix_refspec.specs.Specs.Reading.{Reading}
 use Rattle.gix_refspec.specs.Matching.Match.{Ref}
 use Rattle.gix_refspec.specs.Matching.Mappings.{Mapped}
-use Rattle.gix_refspec.specs.Matching.Validation.{NeverMeet}
+use Rattle.gix_refspec.specs.Matching.Validation.{HaveDistinctDestinations}
 use Rattle.gix_refspec.specs.Texts.Words.{Lacks}
 use Rattle.std.specs.List.{AllByRecursion}
 use Rattle.std.proofs.lemmas.List.{append_cancel_right}
@@ -41,7 +41,7 @@ one_line = (
 
 -- by the law no two mappings that were written have one destination
 pub no_destination_twice : (g : List Reading) (items : List Ref) (output : List ℕ) (w : WritesOnce g items output) (m n : Mapped) (d : List ℕ) → m.destination ≡ Some d → n.destination ≡ Some d → ¬ (w.rest ≡ m ∷ n ∷ [])
-no_destination_twice g items output w m n d to also is = (subst NeverMeet is w.apart).0.0 (d, to, also)
+no_destination_twice g items output w m n d to also is = (subst HaveDistinctDestinations is w.apart).0.0 (d, to, also)
 
 -- nor is a line of a mapping or of a fix written twice
 pub no_mapping_twice : (g : List Reading) (items : List Ref) (output : List ℕ) (w : WritesOnce g items output) (m : Mapped) → ¬ (w.rest ≡ m ∷ m ∷ [])

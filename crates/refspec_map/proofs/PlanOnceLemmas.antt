@@ -16,10 +16,10 @@ use Rattle.gix_refspec.specs.Views.Instruction.{ShowsRefusal}
 use Rattle.gix_refspec.specs.Specs.Meaning.{printed}
 use Rattle.gix_refspec.specs.Matching.Match.{Ref}
 use Rattle.gix_refspec.specs.Matching.Lists.{IsJoinedFrom, IsMadeFrom}
-use Rattle.gix_refspec.specs.Matching.Mappings.{name, Mapped, IsSamePair, AreApart, Start, id}
+use Rattle.gix_refspec.specs.Matching.Mappings.{name, Mapped, IsSamePair, AreApart, Source, id}
 use Rattle.gix_refspec.specs.Matching.Hits.{AreKeptForward}
-use Rattle.gix_refspec.specs.Matching.Validation.{ForwardPlaces, Removed, Survives, IsFix}
-use Rattle.gix_refspec.specs.Laws.Plans.{AreFixesApart, HaveOneStart, HaveStartsByPlace, LacksIn, MappedLacks, NoControlCharacter, PlansApart, SidesLack, StartLacks}
+use Rattle.gix_refspec.specs.Matching.Validation.{ForwardIndexes, Removed, Survives, IsFix}
+use Rattle.gix_refspec.specs.Laws.Plans.{AreFixesApart, HaveOneSource, HaveSourcesByIndex, LacksIn, MappedLacks, NoControlCharacter, PlansApart, SidesLack, SourceLacks}
 use Rattle.refspec_map.specs.declared.command.Command.TheVariants as command
 use Rattle.refspec_map.specs.declared.fault.Fault.TheVariants as fault
 use Rattle.refspec_map.specs.Input.{newline, AreLines, input_limit}
@@ -83,18 +83,18 @@ line_parts m n at_m at_n same =
     (decimal_injective m.spec n.spec at_m.spec at_n.spec spec.0, item_once m.item n.item at_m.item at_n.item item.0, item.1)
 
 -- so it has one pair
-pair_once : (m n : Mapped) → HasSmallPlaces m → HasSmallPlaces n → HaveOneStart m n → map_line m ≡ map_line n → IsSamePair m n
+pair_once : (m n : Mapped) → HasSmallPlaces m → HasSmallPlaces n → HaveOneSource m n → map_line m ≡ map_line n → IsSamePair m n
 pair_once m n at_m at_n start same =
     let (spec, item, behind) = line_parts m n at_m at_n same in
     let source = start spec item in
     let rest = append_cancel_left (source_text n.source) _ _ (ap (λ s. source_text s ++ (destination_text m.destination ++ (newline ∷ []))) (sym source) ∙ behind) in
     record { source = source; destination = destination_once m.destination n.destination (append_cancel_right (destination_text m.destination) (destination_text n.destination) (newline ∷ []) rest) }
 
-others_differ : (m : Mapped) (xs : List Mapped) → HasSmallPlaces m → AllByRecursion HasSmallPlaces xs → AllByRecursion (HaveOneStart m) xs → AllByRecursion (λ x. ¬ (IsSamePair m x)) xs → AllByRecursion (λ y. y ≢ map_line m) (map map_line xs)
+others_differ : (m : Mapped) (xs : List Mapped) → HasSmallPlaces m → AllByRecursion HasSmallPlaces xs → AllByRecursion (HaveOneSource m) xs → AllByRecursion (λ x. ¬ (IsSamePair m x)) xs → AllByRecursion (λ y. y ≢ map_line m) (map map_line xs)
 others_differ m [] at_m placed starts apart = tt
 others_differ m (x ∷ xs) at_m placed starts apart = ((λ same. apart.0 (pair_once m x at_m placed.0 starts.0 (sym same))), others_differ m xs at_m placed.1 starts.1 apart.1)
 
-maps_distinct : (xs : List Mapped) → AllByRecursion HasSmallPlaces xs → HaveStartsByPlace xs → AreApart xs → AreDistinct (map map_line xs)
+maps_distinct : (xs : List Mapped) → AllByRecursion HasSmallPlaces xs → HaveSourcesByIndex xs → AreApart xs → AreDistinct (map map_line xs)
 maps_distinct [] placed starts apart = tt
 maps_distinct (m ∷ xs) placed starts apart = (others_differ m xs placed.0 placed.1 starts.0 apart.0, maps_distinct xs placed.1 starts.1 apart.1)
 
@@ -153,9 +153,9 @@ fix_parts k (f ∷ fixes) fixed (made, rest, of, more, is) = let (lines, are, sa
 
 -- an input has no more lines than bytes, and no more specs and refs than lines
 lines_fit : (lines : List (List ℕ)) (input : List ℕ) → AreLines lines input → length lines ≤ length input
-lines_fit [] input cut = omega arith
-lines_fit (line ∷ lines) input (lacks, inl (rest, is, cut)) =
-    let more = lines_fit lines rest cut in
+lines_fit [] input split = omega arith
+lines_fit (line ∷ lines) input (lacks, inl (rest, is, split)) =
+    let more = lines_fit lines rest split in
     let size = ap length is ∙ length-append line (newline ∷ rest) in
     omega (arith, more, size)
 lines_fit (line ∷ lines) input (lacks, inr (full, none, is)) =
@@ -189,7 +189,7 @@ item_whole : (i : Option ℕ) → IsSmall i → Lacks newline (item_text i)
 item_whole None small = ((λ same. omega (arith, same)), tt)
 item_whole (Some j) small = digits_whole (decimal j) (digits j small)
 
-source_whole : (s : Start) → StartLacks newline s → Lacks newline (source_text s)
+source_whole : (s : Source) → SourceLacks newline s → Lacks newline (source_text s)
 source_whole (name n) lacks = lacks
 source_whole (id i) lacks = lacks
 
@@ -248,8 +248,8 @@ clear_fixes law g reads k (m ∷ l) fixes lack (Some f, rest, fix, more, is) = s
 
 -- no line of the input holds a newline, and so no name and no side
 lines_whole : (lines : List (List ℕ)) (input : List ℕ) → AreLines lines input → AllByRecursion (Lacks newline) lines
-lines_whole [] input cut = tt
-lines_whole (line ∷ lines) input (lacks, inl (rest, is, cut)) = (lacks, lines_whole lines rest cut)
+lines_whole [] input split = tt
+lines_whole (line ∷ lines) input (lacks, inl (rest, is, split)) = (lacks, lines_whole lines rest split)
 lines_whole (line ∷ lines) input (lacks, inr (full, none, is)) = (lacks, subst (AllByRecursion (Lacks newline)) (sym none) tt)
 
 -- what follows the first word
@@ -282,7 +282,7 @@ item_small : (items : List Ref) (m : Mapped) (i : Option ℕ) → length items <
 item_small items m None few is places = tt
 item_small items m (Some j) few is places = let (r, here, named) = places j is in let below = slice_get_within items j r here in omega (arith, below, few)
 
-placed : (g : List Reading) (items : List Ref) → length g < 2 ^ 64 → length items < 2 ^ 64 → (xs : List Mapped) → AllByRecursion (ForwardPlaces g items) xs → AllByRecursion HasSmallPlaces xs
+placed : (g : List Reading) (items : List Ref) → length g < 2 ^ 64 → length items < 2 ^ 64 → (xs : List Mapped) → AllByRecursion (ForwardIndexes g items) xs → AllByRecursion HasSmallPlaces xs
 placed g items few_specs few_items [] places = tt
 placed g items few_specs few_items (m ∷ xs) places = (
   (let below = places.0.spec in record { spec = omega (arith, below, few_specs); item = item_small items m m.item few_items refl places.0.item }),
@@ -297,13 +297,13 @@ remain_each P k (m ∷ l) rest all (Some n, others, one, more, is) = subst (AllB
 
 -- a plan without conflicts
 writes_once : PlansApart → NoControlCharacter → (lines : List (List ℕ)) (entries : List Entry) (input output : List ℕ) (l : List Mapped) → AreLines lines input → AllZip Gives lines entries → length input ≤ input_limit → AreKeptForward (readings_in entries) (refs_in entries) l → ShowsValidated (readings_in entries) l output → WritesOnce (readings_in entries) (refs_in entries) output
-writes_once apart control lines entries input output l cut given within kept shows =
+writes_once apart control lines entries input output l split given within kept shows =
     let g = readings_in entries in
     let items = refs_in entries in
     let rest = shows.rest in
     let fixes = shows.fixes in
     let valid = shows.is in
-    let few = lines_fit lines input cut in
+    let few = lines_fit lines input split in
     let fit = given_fit lines entries given in
     let fit_specs = fit.0 in
     let fit_items = fit.1 in
@@ -313,7 +313,7 @@ writes_once apart control lines entries input output l cut given within kept sho
     let all = placed g items few_specs few_items rest told.places in
     let (fixed, are, same) = fix_parts 0 fixes shows.fixed shows.are in
     let sides = sides_whole control lines entries given in
-    let names = refs_whole lines entries given (lines_whole lines input cut) in
+    let names = refs_whole lines entries given (lines_whole lines input split) in
     let lack = control.mapped newline g items l (omega arith) sides names kept in
     let rest_lack = remain_each (MappedLacks newline) 0 l rest lack valid.survive in
     let clear = clear_fixes control g (given_reads lines entries given) 0 l fixes lack valid.fixed in
@@ -349,7 +349,7 @@ plan_once apart control reader_old reader_new writer_old writer_new a =
       a.output,
       a.read,
       a.written,
-      record { lines = all.lines; entries = all.entries; cut = all.cut; given = all.given; is = writes_once apart control all.lines all.entries a.input a.output plan.mappings all.cut all.given a.read.within plan.kept shows },
+      record { lines = all.lines; entries = all.entries; split = all.split; given = all.given; is = writes_once apart control all.lines all.entries a.input a.output plan.mappings all.split all.given a.read.within plan.kept shows },
     )
 
 -- ---- the fault of a spec

@@ -62,7 +62,7 @@ answers_for_a_fetch law = record {
   is = record {
     lines = [] ∷ codes "^" ∷ codes ":" ∷ [];
     answers = accepted (codes "HEAD") ∷ refused NegativeEmpty ∷ accepted (codes "HEAD") ∷ [];
-    cut = (tt, inl (codes "^\n:", refl, (Lacks-tested newline (codes "^") refl, inl (codes ":", refl, (Lacks-tested newline (codes ":") refl, inr (λ none. cc, refl, refl))))));
+    split = (tt, inl (codes "^\n:", refl, (Lacks-tested newline (codes "^") refl, inl (codes ":", refl, (Lacks-tested newline (codes ":") refl, inr (λ none. cc, refl, refl))))));
     told = ((fetched Normal head None, nothing_reads, refl), (caret_refused law, ((fetched Normal head None, colon_reads, refl), tt)));
     written = refl;
     tells = refl;
@@ -87,7 +87,7 @@ one_answer_by op line output refusal (a ∷ b ∷ answers) told written tells = 
 
 one_answer : (op : Operation) (line output : List ℕ) (refusal : Bool) → Lacks newline line → IsCanon op (line ++ (newline ∷ [])) output refusal → OneAnswer op line output refusal
 one_answer op line output refusal lacks is =
-    let one = lines_once is.lines (line ∷ []) (line ++ (newline ∷ [])) is.cut (lacks, inl ([], refl, refl)) in
+    let one = lines_once is.lines (line ∷ []) (line ++ (newline ∷ [])) is.split (lacks, inl ([], refl, refl)) in
     one_answer_by op line output refusal is.answers (subst (λ (ls : List (List ℕ)). AllZip (IsAnswer op) ls is.answers) one is.told) is.written is.tells
 
 -- every answer to the line is written as this one

@@ -16,7 +16,7 @@ use Rattle.refspec_map.specs.Fault.{name_of, status_of, IsMemory}
 use Rattle.refspec_map.specs.Matching.{map_line}
 use Rattle.refspec_map.specs.Output.{accepted, refused, answer_line, any_refused}
 use Rattle.refspec_map.specs.Plan.{conflict_line, IsFixLine}
-use Rattle.refspec_map.specs.Words.{words_of, AreWordsOf}
+use Rattle.refspec_map.specs.Words.{words_of, AreArgumentsOf}
 
 -- ---- words
 
@@ -25,14 +25,14 @@ pub words : map words_of (command.CanonFetch ∷ command.CanonPush ∷ command.L
 words = refl
 
 -- these are no command's
-pub no_words : AreWordsOf [] None
+pub no_words : AreArgumentsOf [] None
 no_words command.CanonFetch same = cc
 no_words command.CanonPush same = cc
 no_words command.Lhs same = cc
 no_words command.Rhs same = cc
 no_words command.Plan same = cc
 
-pub other_words : AreWordsOf (codes "canon" ∷ codes "rhs" ∷ []) None
+pub other_words : AreArgumentsOf (codes "canon" ∷ codes "rhs" ∷ []) None
 other_words command.CanonFetch same = cc
 other_words command.CanonPush same = cc
 other_words command.Lhs same = cc

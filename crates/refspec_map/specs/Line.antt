@@ -83,7 +83,7 @@ pub record IsReached (input : List ℕ) (number : ℕ) (line : List ℕ) : Type 
   pub before : List (List ℕ)
   pub after : List (List ℕ)
   pub entries : List Entry
-  pub cut : AreLines (before ++ (line ∷ after)) input
+  pub split : AreLines (before ++ (line ∷ after)) input
   pub good : AllZip Gives before entries
   pub counted : number ≡ length before + 1
 

@@ -5,7 +5,7 @@ use Rattle.std.specs.List.{AllZip, flat_map}
 use Rattle.gix_refspec.specs.Texts.ObjectId.{lower_of}
 use Rattle.gix_refspec.specs.Specs.Reading.{Reading}
 use Rattle.gix_refspec.specs.Matching.Match.{Ref}
-use Rattle.gix_refspec.specs.Matching.Mappings.{Start, name, id, Mapped}
+use Rattle.gix_refspec.specs.Matching.Mappings.{Source, name, id, Mapped}
 use Rattle.refspec_map.specs.Input.{newline, AreLines}
 use Rattle.refspec_map.specs.Line.{Entry, Gives, readings_in, refs_in}
 
@@ -19,7 +19,7 @@ item_text None = codes "-"
 item_text (Some place) = decimal place
 
 -- a name, or an id in lower case
-abbrev pub source_text : Start → List ℕ
+abbrev pub source_text : Source → List ℕ
 source_text (name n) = n
 source_text (id i) = lower_of i
 
@@ -44,6 +44,6 @@ pub record AreMapLines (AreKept : List Reading → List Ref → List Mapped → 
 pub record IsMatching (Writes : List Reading → List Ref → List ℕ → Bool → Type 0) (input output : List ℕ) (refusal : Bool) : Type 0 where
   pub lines : List (List ℕ)
   pub entries : List Entry
-  pub cut : AreLines lines input
+  pub split : AreLines lines input
   pub given : AllZip Gives lines entries
   pub is : Writes (readings_in entries) (refs_in entries) output refusal

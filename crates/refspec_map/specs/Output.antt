@@ -42,7 +42,7 @@ any_refused (a ∷ answers) = is_refused a || any_refused answers
 pub record IsCanon (op : Operation) (input output : List ℕ) (refusal : Bool) : Type 0 where
   pub lines : List (List ℕ)
   pub answers : List Answer
-  pub cut : AreLines lines input
+  pub split : AreLines lines input
   pub told : AllZip (IsAnswer op) lines answers
   pub written : output ≡ flat_map answer_line answers
   pub tells : refusal ≡ any_refused answers

@@ -8,14 +8,14 @@ use Rattle.gix_refspec.specs.Specs.Reading.{Reading}
 use Rattle.gix_refspec.specs.Specs.Meaning.{printed}
 use Rattle.gix_refspec.specs.Matching.Lists.{IsJoinedFrom}
 use Rattle.gix_refspec.specs.Matching.Match.{Ref}
-use Rattle.gix_refspec.specs.Matching.Mappings.{Start, Mapped}
+use Rattle.gix_refspec.specs.Matching.Mappings.{Source, Mapped}
 use Rattle.gix_refspec.specs.Matching.Hits.{AreKeptForward}
-use Rattle.gix_refspec.specs.Matching.Validation.{Conflict, Removed, AreConflicts, IsValidated, NeverMeet}
+use Rattle.gix_refspec.specs.Matching.Validation.{Conflict, Removed, AreConflicts, IsValidated, HaveDistinctDestinations}
 use Rattle.refspec_map.specs.Input.{newline}
 use Rattle.refspec_map.specs.Matching.{tab, map_line, source_text}
 
 -- a source and the text of its spec, with a tab before each
-abbrev pub claim_text : Start × List ℕ → List ℕ
+abbrev pub claim_text : Source × List ℕ → List ℕ
 claim_text claim = tab ∷ (source_text claim.0 ++ (tab ∷ claim.1))
 
 -- the line of a conflict: `conflict`, the destination, and each source with the text of its spec, with tabs
@@ -74,7 +74,7 @@ pub record WritesOnce (g : List Reading) (items : List Ref) (output : List ℕ) 
   pub is : IsValidated g mappings rest fixes
   pub are : AllZip IsFixLine fixes fixed
   pub written : output ≡ flat_map (λ line. line) (map map_line rest ++ fixed)
-  pub apart : NeverMeet rest
+  pub apart : HaveDistinctDestinations rest
   pub once : AreDistinct (map map_line rest ++ fixed)
   pub whole : AllByRecursion IsOneLine (map map_line rest ++ fixed)
 

@@ -61,7 +61,7 @@ pub record Adds {A : Type 0} (blank : Option A) (line : List ℕ) (old new : Ent
 pub record AreEntries {A : Type 0} (blank : Option A) (input : List ℕ) (made : Entries) : Type 0 where
   pub lines : List (List ℕ)
   pub entries : List Entry
-  pub cut : AreLines lines input
+  pub split : AreLines lines input
   pub given : AllZip Gives lines entries
   pub specs : map reading_of made.specs.items ≡ readings_in entries
   pub refs : kept_refs blank made ≡ seen blank (refs_in entries)

@@ -13,6 +13,6 @@ words_of command.Rhs = codes "rhs" ∷ []
 words_of command.Plan = codes "plan" ∷ []
 
 -- the words are those of the command; without one, they are those of no command
-abbrev pub AreWordsOf : List (List ℕ) → Option Command → Type 0
-AreWordsOf words (Some c) = words ≡ words_of c
-AreWordsOf words None = (c : Command) → words ≢ words_of c
+abbrev pub AreArgumentsOf : List (List ℕ) → Option Command → Type 0
+AreArgumentsOf words (Some c) = words ≡ words_of c
+AreArgumentsOf words None = (c : Command) → words ≢ words_of c

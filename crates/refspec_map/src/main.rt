@@ -3,7 +3,7 @@
 #![tactic(auto)]
 
 ghost use Rattle.std.specs.Prelude.{map, string_bytes};
-ghost use Rattle.refspec_map.specs.Words.{AreWordsOf};
+ghost use Rattle.refspec_map.specs.Words.{AreArgumentsOf};
 
 mod canon;
 mod command;
@@ -54,7 +54,7 @@ fn named_command<R: env::Env + AllocGlobal>(rt: &R) -> io::Result<Option<Command
 
 // The command that words name.
 fn command_of(words: &[String]) -> Option<Command>
-    ensures { AreWordsOf (map string_bytes words.now) result }
+    ensures { AreArgumentsOf (map string_bytes words.now) result }
 {
     match words {
         [first, second] => match (first.as_str(), second.as_str()) {

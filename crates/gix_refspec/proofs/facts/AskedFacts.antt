@@ -7,20 +7,20 @@ use Rattle.gix_refspec_text.specs.Texts.Words.{BeginsWith}
 use Rattle.gix_refspec_text.specs.Specs.Reading.{Normal, Reading}
 use Rattle.gix_refspec_text.specs.Specs.Grammar.{fetched, pushed}
 use Rattle.gix_refspec_text.specs.Matching.Side.{pattern, partial, object, HasKind, candidates}
-use Rattle.gix_refspec_text.specs.Matching.Prefix.{TellsPrefix}
+use Rattle.gix_refspec_text.specs.Matching.Prefix.{IsRefPrefix}
 use Rattle.gix_refspec_text.specs.Matching.Match.{Ref}
 use Rattle.gix_refspec_match.specs.Matching.Mappings.{Mapped}
 use Rattle.gix_refspec_match.specs.Matching.Hits.{AreKeptForward}
 use Rattle.gix_refspec.specs.Matching.Asked.{HasNoList, Lists, ListsGroup, ListsSide, Serves}
 use Rattle.gix_refspec.proofs.lemmas.prefixes.AskedLemmas.{list_as, no_list}
 use Rattle.gix_refspec_text.proofs.facts.ManualFacts.{Lacks-tested, other_length}
-use Rattle.gix_refspec_text.proofs.facts.FitFacts.{blob_kind, cut_at_end, every, no_dev, other_byte, short_kind}
+use Rattle.gix_refspec_text.proofs.facts.FitFacts.{blob_kind, split_at_end, every, no_dev, other_byte, short_kind}
 use Rattle.gix_refspec_match.proofs.facts.MatchFacts.{mapping}
-use Rattle.gix_refspec_text.proofs.facts.PrefixFacts.{bracket_cut, suffix_cut, tells}
+use Rattle.gix_refspec_text.proofs.facts.PrefixFacts.{bracket_split, suffix_split, tells}
 use Rattle.gix_refspec_text.proofs.lemmas.prefixes.PrefixLemmas.{id_not_head, one_asked}
 use Rattle.gix_refspec_text.proofs.lemmas.lists.LacksLemmas.{Lacks-here}
 
-below_heads : TellsPrefix (codes "refs/heads/") []
+below_heads : IsRefPrefix (codes "refs/heads/") []
 below_heads = record {
   below = record { after = codes "heads/"; here = refl };
   further = other_length (codes "refs/heads/") (codes "refs/") (λ size. omega (arith, size));
@@ -39,7 +39,7 @@ head_kind = (
 -- a pattern is asked for by what is before its star, partial names and `HEAD` by their candidates, an id by nothing
 pub lists_of_sides : ListsSide (codes "refs/heads/*") (codes "refs/heads/" ∷ []) × ListsSide (codes "main") (candidates (codes "main")) × ListsSide (codes "HEAD") (candidates (codes "HEAD")) × ListsSide (codes "e69de29bb2d1d6434b8b29ae775ad8c2e48c5391") []
 lists_of_sides = (
-  record { kind = pattern (codes "refs/heads/") []; of = cut_at_end (codes "refs/heads/") refl; is = (below_heads, refl) },
+  record { kind = pattern (codes "refs/heads/") []; of = split_at_end (codes "refs/heads/") refl; is = (below_heads, refl) },
   record { kind = partial (codes "main"); of = short_kind; is = refl },
   record { kind = partial (codes "HEAD"); of = head_kind; is = refl },
   record { kind = object _; of = blob_kind; is = refl },
@@ -48,7 +48,7 @@ lists_of_sides = (
 -- no list serves a star directly after `refs/`, whatever follows it; `HEAD` alone doesn't serve `HEAD`
 pub no_lists_of_sides : (list : List (List ℕ)) → ¬ (ListsSide (codes "refs/*") list) × ¬ (ListsSide (codes "HEAD") (codes "HEAD" ∷ [])) × ¬ (ListsSide (codes "main") [])
 no_lists_of_sides list = (
-  no_list (codes "refs/*") (codes "refs/") [] (cut_at_end (codes "refs/") refl) ((tells.1 []).0) list,
+  no_list (codes "refs/*") (codes "refs/") [] (split_at_end (codes "refs/") refl) ((tells.1 []).0) list,
   (λ lists. let size : 1 ≡ 6 = ap length (list_as (codes "HEAD") (partial (codes "HEAD")) (codes "HEAD" ∷ []) head_kind lists) in omega (arith, size)),
   (λ lists. let size : 0 ≡ 6 = ap length (list_as (codes "main") (partial (codes "main")) [] short_kind lists) in omega (arith, size)),
 )
@@ -58,7 +58,7 @@ pub lists_at_brackets : ListsSide (codes "refs/a*/]") (codes "refs/a" ∷ []) ×
 lists_at_brackets = (
   record {
     kind = pattern (codes "refs/a") (codes "/]");
-    of = suffix_cut;
+    of = suffix_split;
     is = (
       record {
         below = record { after = codes "a"; here = refl };
@@ -69,7 +69,7 @@ lists_at_brackets = (
       refl,
     );
   },
-  no_list (codes "refs/a]*") (codes "refs/a]") [] bracket_cut (λ tells. Lacks-here bracket (codes "refs/a") [] tells.first),
+  no_list (codes "refs/a]*") (codes "refs/a]") [] bracket_split (λ tells. Lacks-here bracket (codes "refs/a") [] tells.first),
 )
 
 every_lists : Lists every (codes "refs/heads/" ∷ [])

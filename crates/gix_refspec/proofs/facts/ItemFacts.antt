@@ -25,7 +25,7 @@ use Rattle.gix_refspec.proofs.lemmas.prefixes.CoverLemmas.{joined_covers}
 use Rattle.gix_refspec_text.proofs.facts.FaultFacts.{begins_not}
 use Rattle.gix_refspec_text.proofs.facts.CoveringFacts.{below_heads, covering, not_covering}
 use Rattle.gix_refspec_text.proofs.facts.ManualFacts.{named, other_length}
-use Rattle.gix_refspec_text.proofs.facts.FitFacts.{dev_ref, every, main_ref, no_dev, origin_cut, other_byte, short, short_no_id, tag_ref}
+use Rattle.gix_refspec_text.proofs.facts.FitFacts.{dev_ref, every, main_ref, no_dev, origin_split, other_byte, short, short_no_id, tag_ref}
 use Rattle.gix_refspec_match.proofs.facts.MatchFacts.{are_forward_ends, bytes_in, fetches_all_but_dev, forward_ends, taken_by, takes_no_tag, tracked, tracks_all_but_dev}
 use Rattle.std.proofs.lemmas.Option.{same_Some}
 
@@ -71,7 +71,7 @@ no_tag_taken taken =
     takes_no_tag all_refs 1 hit (record {
       word = taken.word;
       takes = subst (λ (x : List ℕ). Takes all_refs x tag_ref taken.word) near taken.takes;
-      far = (pattern (codes "refs/remotes/origin/") [], origin_cut, refl);
+      far = (pattern (codes "refs/remotes/origin/") [], origin_split, refl);
       near = refl;
       spec = refl;
       item = refl;

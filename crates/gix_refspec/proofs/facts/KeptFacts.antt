@@ -7,7 +7,7 @@ use Rattle.gix_refspec_text.specs.Matching.Match.{Ref, IsFirstCandidate}
 use Rattle.gix_refspec_match.specs.Matching.Mappings.{name, Mapped, HasPair, IsExcluded}
 use Rattle.gix_refspec_match.specs.Matching.Hits.{AreKeptForward, AreKeptBackward}
 use Rattle.gix_refspec.specs.Laws.Matching.{MakesForward, MakesBackward, PairsId, KeptExactly, FirstStays, NothingExcluded}
-use Rattle.gix_refspec.specs.Matching.Validation.{ForwardPlaces, IsValidated, PlacesFit, Removed}
+use Rattle.gix_refspec.specs.Matching.Validation.{ForwardIndexes, IsValidated, ItemIndexesFit, Removed}
 use Rattle.gix_refspec_match.proofs.facts.CandidateFacts.{branch_and_tag, main_tag, main_ends, main_to_x, no_tags, no_other_first, not_excluded, tags_excluded, takes_the_tag, x_kind}
 use Rattle.gix_refspec_text.proofs.facts.ManualFacts.{named, other_length}
 use Rattle.gix_refspec_text.proofs.facts.ObjectIdFacts.{empty_blob}
@@ -103,14 +103,14 @@ mapped = tracked 0 (codes "dev-a") ∷ tracked 2 (codes "main") ∷ tracked 3 (c
 pub first_there : FirstStays (every ∷ no_dev ∷ []) listed → (kept : List Mapped) → AreKeptForward (every ∷ no_dev ∷ []) listed kept → Contains kept (tracked 2 (codes "main"))
 first_there law kept are = (law.forward mapped kept maps_all are (tracked 2 (codes "main"))).1 (record { before = tracked 0 (codes "dev-a") ∷ []; after = tracked 3 (codes "main") ∷ []; here = refl; first = only_dev 2; included = main_stays })
 
-abbrev place_in : Option ℕ → ℕ
-place_in None = 0
-place_in (Some place) = place
+abbrev index_in : Option ℕ → ℕ
+index_in None = 0
+index_in (Some index) = index
 
 -- the other has its pair, and so isn't the first
 no_first : (before after : List Mapped) → mapped ≡ before ++ (tracked 3 (codes "main") ∷ after) → ¬ (HasPair before (tracked 3 (codes "main"))) → ⊥
-no_first [] after here new = let same : tracked 0 (codes "dev-a") ≡ tracked 3 (codes "main") = cc in let places : 0 ≡ 3 = ap (λ (m : Mapped). place_in m.item) same in absurd (omega (arith, places))
-no_first (x ∷ []) after here new = let same : tracked 2 (codes "main") ≡ tracked 3 (codes "main") = cc in let places : 2 ≡ 3 = ap (λ (m : Mapped). place_in m.item) same in absurd (omega (arith, places))
+no_first [] after here new = let same : tracked 0 (codes "dev-a") ≡ tracked 3 (codes "main") = cc in let indexes : 0 ≡ 3 = ap (λ (m : Mapped). index_in m.item) same in absurd (omega (arith, indexes))
+no_first (x ∷ []) after here new = let same : tracked 2 (codes "main") ≡ tracked 3 (codes "main") = cc in let indexes : 2 ≡ 3 = ap (λ (m : Mapped). index_in m.item) same in absurd (omega (arith, indexes))
 no_first (x ∷ y ∷ before) after here new = let same : y ≡ tracked 2 (codes "main") = cc in new (inr (inl (record { source = ap (λ (m : Mapped). m.source) same; destination = ap (λ (m : Mapped). m.destination) same })))
 
 -- so by the law the other isn't kept, nor does what is excluded
@@ -134,28 +134,28 @@ first_back law kept are =
 -- ---- the places of what is kept
 
 -- by the law a mapping of the branch doesn't have the place of the tag
-pub no_other_item : PlacesFit (every ∷ no_dev ∷ []) listed → (rest : List Mapped) → ¬ (AreKeptForward (every ∷ no_dev ∷ []) listed (tracked 1 (codes "main") ∷ rest))
+pub no_other_item : ItemIndexesFit (every ∷ no_dev ∷ []) listed → (rest : List Mapped) → ¬ (AreKeptForward (every ∷ no_dev ∷ []) listed (tracked 1 (codes "main") ∷ rest))
 no_other_item law rest are =
     let (r, stands, named) = (law.forward (tracked 1 (codes "main") ∷ rest) are).0.item 1 refl in
     let is : tag_ref ≡ r = cc in
     other_length (codes "refs/heads/main") (codes "refs/tags/v1") (λ size. omega (arith, size)) (ap bytes_in named ∙ ap (λ (x : Ref). x.name) (sym is))
 
 -- nor the place of a third spec, where there are two
-pub no_other_spec : PlacesFit (every ∷ no_dev ∷ []) listed → (rest : List Mapped) → ¬ (AreKeptForward (every ∷ no_dev ∷ []) listed (mapping 2 (codes "refs/heads/main") (Some (codes "refs/remotes/origin/main")) 2 ∷ rest))
+pub no_other_spec : ItemIndexesFit (every ∷ no_dev ∷ []) listed → (rest : List Mapped) → ¬ (AreKeptForward (every ∷ no_dev ∷ []) listed (mapping 2 (codes "refs/heads/main") (Some (codes "refs/remotes/origin/main")) 2 ∷ rest))
 no_other_spec law rest are =
     let below = (law.forward (mapping 2 (codes "refs/heads/main") (Some (codes "refs/remotes/origin/main")) 2 ∷ rest) are).0.spec in
     absurd (omega (arith, below))
 
 -- and one from right to left doesn't have the place of another tracking ref
-pub no_other_item_back : PlacesFit (every ∷ no_dev ∷ []) tracking → (rest : List Mapped) → ¬ (AreKeptBackward (every ∷ no_dev ∷ []) tracking (tracked 0 (codes "main") ∷ rest))
+pub no_other_item_back : ItemIndexesFit (every ∷ no_dev ∷ []) tracking → (rest : List Mapped) → ¬ (AreKeptBackward (every ∷ no_dev ∷ []) tracking (tracked 0 (codes "main") ∷ rest))
 no_other_item_back law rest are =
     let fits = (law.backward (tracked 0 (codes "main") ∷ rest) are).0 in
-    let place : 0 ≡ fits.place = ap place_in fits.item in
-    let stands : slice_get tracking 0 ≡ Some fits.ref = subst (λ (j : ℕ). slice_get tracking j ≡ Some fits.ref) (sym place) fits.stands in
+    let index : 0 ≡ fits.index = ap index_in fits.item in
+    let stands : slice_get tracking 0 ≡ Some fits.ref = subst (λ (j : ℕ). slice_get tracking j ≡ Some fits.ref) (sym index) fits.stands in
     let is : named (codes "refs/remotes/origin/dev-a") ≡ fits.ref = cc in
     let same : codes "refs/remotes/origin/main" ≡ fits.ref.name = same_Some (codes "refs/remotes/origin/main") fits.ref.name fits.named in
     other_length (codes "refs/remotes/origin/main") (codes "refs/remotes/origin/dev-a") (λ size. omega (arith, size)) (same ∙ ap (λ (x : Ref). x.name) (sym is))
 
 -- what survives a validation has places that fit, where they fitted before
-pub still_fits : (items : List Ref) → PlacesFit (every ∷ []) items → (l rest : List Mapped) (fixes : List Removed) → IsValidated (every ∷ []) l rest fixes → AllByRecursion (ForwardPlaces (every ∷ []) items) l → AllByRecursion (ForwardPlaces (every ∷ []) items) rest
+pub still_fits : (items : List Ref) → ItemIndexesFit (every ∷ []) items → (l rest : List Mapped) (fixes : List Removed) → IsValidated (every ∷ []) l rest fixes → AllByRecursion (ForwardIndexes (every ∷ []) items) l → AllByRecursion (ForwardIndexes (every ∷ []) items) rest
 still_fits items law l rest fixes valid fit = law.validated l rest fixes valid fit

@@ -12,7 +12,7 @@ use Rattle.gix_refspec_text.specs.Matching.Side.{candidates, IsCandidate, Fits}
 use Rattle.gix_refspec_match.specs.Matching.Mappings.{name, id, Mapped, HasPair, AreApart}
 use Rattle.gix_refspec_match.specs.Matching.Hits.{AreKeptForward, AreKeptBackward, OneForward, OneBackward, KeptOnce}
 use Rattle.gix_refspec_text.specs.Matching.Match.{Ref, Matches, HasName, Takes}
-use Rattle.gix_refspec.specs.Matching.Validation.{ValidatedOnce, HaveOneSource, NeverMeet, ForwardFits, IndexesFit}
+use Rattle.gix_refspec.specs.Matching.Validation.{ValidatedOnce, DestinationsHaveOneSource, HaveDistinctDestinations, ForwardFits, IndexesFit}
 use Rattle.gix_refspec_text.specs.Laws.Readings.{ReadsOnce, ReadsOrRefused, IsSameReason, SaysForOperation, IsPrintedBack, ReadsBack, EqualReadings, HasOneId, HasOneFault, HasCandidates, KeepsOperation, EqualTexts, NothingAgainst, ClonesExactly, OneWord, PrefixBegins, OnePrefix, Candidates, IdOrFault, OneLowerText, OneRefusal}
 use Rattle.gix_refspec_text.specs.Specs.Meaning.{push_delete, fetch_only, printed, meaning_of}
 use Rattle.gix_refspec_text.specs.Texts.PatternError.{IsPatternFault}
@@ -28,7 +28,7 @@ use Rattle.gix_refspec_text.specs.Matching.Prefix.{IsAsked, IsPrefix, Expands, t
 use Rattle.gix_refspec_text.specs.Laws.Covering.{IsCovering, HasCoveringSource}
 use Rattle.gix_refspec.specs.Laws.Reasons.{ReasonRefuses}
 use Rattle.gix_refspec.specs.Laws.Matching.{MapAlike, AreReadAgain, AsksFor, AtSpec, EachSource, Transpose, Cover, CoverTogether, FetchGroupReadsBack, IsCoveredBy, IsSourceAmong, IsDestinationAmong, GoesBothWays, ReadsAgainAs, BeginsWithOne, AreExpansions}
-use Rattle.gix_refspec_text.proofs.lemmas.texts.TextLemmas.{Lacks-Holds}
+use Rattle.gix_refspec_text.proofs.lemmas.texts.TextLemmas.{Lacks-ContainsText}
 use Rattle.gix_refspec_text.proofs.lemmas.texts.TestedLemmas.{IsName-tested}
 use Rattle.gix_refspec_text.proofs.lemmas.hits.MatchLemmas.{outside_none}
 use Rattle.gix_refspec_text.proofs.lemmas.parsing.ReadOnceLemmas.{reads_once}
@@ -69,13 +69,13 @@ go_one_way = (from_partial, to_partial)
   where
     from_partial : ¬ (GoesBothWays (fetched Normal (codes "main") (Some (codes "refs/x/main"))))
     from_partial goes = elim (goes tt (codes "main") (codes "refs/x/main") refl refl) [
-      | inl stars ↦ Lacks-Holds star (codes "main") (Lacks-tested star (codes "main") refl) stars.0
+      | inl stars ↦ Lacks-ContainsText star (codes "main") (Lacks-tested star (codes "main") refl) stars.0
       | inr below ↦ other_first 109 (codes "ain") (λ same. omega (arith, same)) below.0
     ]
 
     to_partial : ¬ (GoesBothWays (fetched Normal (codes "refs/heads/a") (Some (codes "b"))))
     to_partial goes = elim (goes tt (codes "refs/heads/a") (codes "b") refl refl) [
-      | inl stars ↦ Lacks-Holds star (codes "b") (Lacks-tested star (codes "b") refl) stars.1
+      | inl stars ↦ Lacks-ContainsText star (codes "b") (Lacks-tested star (codes "b") refl) stars.1
       | inr below ↦ other_first 98 [] (λ same. omega (arith, same)) below.1
     ]
 
@@ -233,7 +233,7 @@ pub answered_apart : (g : List Reading) (items : List Ref) → KeptOnce g items 
 answered_apart g items law l m forward back = (law l (inl forward), law m (inr back))
 
 -- after a validation each destination has one source, and no two mappings from items have one destination
-pub validated_apart : ValidatedOnce both_to_x remote_refs → HaveOneSource (tag_to_x ∷ tag_alone ∷ []) × (AreKeptForward both_to_x remote_refs (tag_to_x ∷ tag_to_foo ∷ tag_alone ∷ []) → NeverMeet (tag_to_x ∷ tag_alone ∷ []))
+pub validated_apart : ValidatedOnce both_to_x remote_refs → DestinationsHaveOneSource (tag_to_x ∷ tag_alone ∷ []) × (AreKeptForward both_to_x remote_refs (tag_to_x ∷ tag_to_foo ∷ tag_alone ∷ []) → HaveDistinctDestinations (tag_to_x ∷ tag_alone ∷ []))
 validated_apart law = law (tag_to_x ∷ tag_to_foo ∷ tag_alone ∷ []) (tag_to_x ∷ tag_alone ∷ []) (foo_fix ∷ []) validated
 
 -- one word stands for a star

@@ -10,7 +10,7 @@ use Rattle.gix_refspec_text.specs.Matching.Match.{Ref}
 use Rattle.gix_refspec_match.specs.Matching.Mappings.{id, Mapped}
 use Rattle.gix_refspec_match.specs.Matching.Hits.{AreKeptForward}
 use Rattle.gix_refspec.specs.Matching.Validation.{Removed, IsValidated}
-use Rattle.gix_refspec.specs.Laws.Plans.{AreFixesApart, HaveStartsByPlace, LacksIn, MappedLacks, NoControlCharacter, PlansApart, SidesLack, StartLacks}
+use Rattle.gix_refspec.specs.Laws.Plans.{AreFixesApart, HaveSourcesByIndex, LacksIn, MappedLacks, NoControlCharacter, PlansApart, SidesLack, SourceLacks}
 use Rattle.gix_refspec_text.proofs.facts.FitFacts.{other_byte}
 use Rattle.gix_refspec_text.proofs.facts.ManualFacts.{Lacks-tested}
 use Rattle.gix_refspec_text.proofs.facts.ObjectIdFacts.{empty_blob, lower_of-empty_blob}
@@ -24,7 +24,7 @@ abbrev branch_alone : Mapped
 branch_alone = mapping 0 (codes "refs/heads/a") None 1
 
 -- two sources have two items or two specs
-pub starts : HaveStartsByPlace (tag_to_x ∷ branch_to_x ∷ []) × ¬ (HaveStartsByPlace (tag_alone ∷ branch_alone ∷ []))
+pub starts : HaveSourcesByIndex (tag_to_x ∷ branch_to_x ∷ []) × ¬ (HaveSourcesByIndex (tag_alone ∷ branch_alone ∷ []))
 starts = (
   (((λ spec item. absurd (omega (arith, spec))), tt), (tt, tt)),
   λ have. other_byte 5 (codes "refs/tags/a") (codes "refs/heads/a") (λ byte. omega (arith, byte)) (ap bytes_in (have.0.0 refl refl)),
@@ -41,8 +41,8 @@ no_mapping_twice law g items l out kept valid = (law g items l (tag_to_x ∷ tag
 pub no_fix_twice : PlansApart → (g : List Reading) (items : List Ref) (l rest : List Mapped) → AreKeptForward g items l → ¬ (IsValidated g l rest (foo_fix ∷ foo_fix ∷ []))
 no_fix_twice law g items l rest kept valid = fixes.1 (law g items l rest (foo_fix ∷ foo_fix ∷ []) kept valid).fixed
 
-pub no_place_twice : PlansApart → (g : List Reading) (items : List Ref) (l : List Mapped) (out : List Removed) → AreKeptForward g items l → ¬ (IsValidated g l (tag_alone ∷ branch_alone ∷ []) out)
-no_place_twice law g items l out kept valid = starts.1 (law g items l (tag_alone ∷ branch_alone ∷ []) out kept valid).starts
+pub no_index_twice : PlansApart → (g : List Reading) (items : List Ref) (l : List Mapped) (out : List Removed) → AreKeptForward g items l → ¬ (IsValidated g l (tag_alone ∷ branch_alone ∷ []) out)
+no_index_twice law g items l out kept valid = starts.1 (law g items l (tag_alone ∷ branch_alone ∷ []) out kept valid).starts
 
 -- ---- control characters
 
@@ -59,7 +59,7 @@ lacks = (
 )
 
 -- of an id the digits count, in lower case
-pub digits_lack : StartLacks 69 (id empty_blob) × ¬ (StartLacks 101 (id empty_blob))
+pub digits_lack : SourceLacks 69 (id empty_blob) × ¬ (SourceLacks 101 (id empty_blob))
 digits_lack = (
   subst (Lacks 69) (sym lower_of-empty_blob) (Lacks-tested 69 (codes "e69de29bb2d1d6434b8b29ae775ad8c2e48c5391") refl),
   λ lack. (subst (Lacks 101) lower_of-empty_blob lack).0 refl,

@@ -2,16 +2,16 @@
 use Rattle.std.proofs.Common.{◌≡◌, inl, inr, ℕ, List, [], ◌∷◌, ◌++◌, None, Some, codes, refl, arith}
 use Rattle.std.specs.List.{AllByRecursion}
 use Rattle.gix_refspec_text.specs.declared.name.Error.TheVariants.{RepeatedDot}
-use Rattle.gix_refspec.specs.declared.match_group.names.BadMapping.{BadMapping}
-use Rattle.gix_refspec.specs.declared.match_group.names.BadSide.TheVariants.{Source, Destination, Both}
+use Rattle.gix_refspec.specs.declared.match_group.ref_names.InvalidMapping.{InvalidMapping}
+use Rattle.gix_refspec.specs.declared.match_group.ref_names.InvalidSide.TheVariants.{Source, Destination, Both}
 use Rattle.gix_refspec_text.specs.Texts.Bytes.{slash}
 use Rattle.gix_refspec_text.specs.Specs.Reading.{Reading}
 use Rattle.gix_refspec_text.specs.Matching.Match.{Ref}
 use Rattle.gix_refspec_match.specs.Matching.Mappings.{id, Mapped}
 use Rattle.gix_refspec_match.specs.Views.Mapping.{mapped_of}
 use Rattle.gix_refspec_match.specs.Matching.Hits.{AreKeptForward}
-use Rattle.gix_refspec.specs.Matching.Validation.{ForwardPlaces, IndexesFit, IsValidated, Removed}
-use Rattle.gix_refspec.specs.Matching.RefNames.{AreLeftOut, AreNamed, IsBadAt, IsLeftOut, IsNamed, IsNamedDestination, IsNamedSource, IsRefName, KeepsNamed, LeftOut, StaysAmongRefs, WritesRefs, left_out_of}
+use Rattle.gix_refspec.specs.Matching.Validation.{ForwardIndexes, IndexesFit, IsValidated, Removed}
+use Rattle.gix_refspec.specs.Matching.RefNames.{AreLeftOut, HaveRefNames, IsInvalidAt, IsLeftOut, HasRefNames, IsValidDestination, IsValidSource, IsRefName, KeepsRefNames, LeftOut, StaysAmongRefs, WritesRefs, left_out_of}
 use Rattle.gix_refspec_match.proofs.lemmas.lists.JoinLemmas.{nothing_made}
 use Rattle.gix_refspec_text.proofs.facts.ManualFacts.{Lacks-tested, other_length}
 use Rattle.gix_refspec_text.proofs.facts.FitFacts.{other_byte}
@@ -46,7 +46,7 @@ abbrev pub good : List ℕ
 good = codes "refs/heads/main"
 
 -- ids and missing destinations are good
-pub without_names : IsNamedSource (id []) × IsNamedDestination None × ¬ (IsNamedDestination (Some bad))
+pub without_names : IsValidSource (id []) × IsValidDestination None × ¬ (IsValidDestination (Some bad))
 without_names = (tt, tt, no_ref_names.2)
 
 abbrev pub kept : Mapped
@@ -62,7 +62,7 @@ abbrev all_bad : Mapped
 all_bad = mapping 3 bad (Some bad) 0
 
 -- each side by itself
-pub sides : IsNamed kept × IsBadAt Source from_bad × IsBadAt Destination to_bad × IsBadAt Both all_bad
+pub sides : HasRefNames kept × IsInvalidAt Source from_bad × IsInvalidAt Destination to_bad × IsInvalidAt Both all_bad
 sides = (
   record { source = ref_names.0; destination = ref_names.0 },
   (no_ref_names.2, ref_names.0),
@@ -70,7 +70,7 @@ sides = (
   (no_ref_names.2, no_ref_names.2),
 )
 
-pub no_other_sides : ¬ (IsBadAt Both from_bad) × ¬ (IsBadAt Source all_bad) × ¬ (IsBadAt Source to_bad) × ¬ (IsBadAt Destination all_bad) × ¬ (IsBadAt Destination kept)
+pub no_other_sides : ¬ (IsInvalidAt Both from_bad) × ¬ (IsInvalidAt Source all_bad) × ¬ (IsInvalidAt Source to_bad) × ¬ (IsInvalidAt Destination all_bad) × ¬ (IsInvalidAt Destination kept)
 no_other_sides = (
   (λ is. is.1 ref_names.0),
   (λ is. no_ref_names.2 is.1),
@@ -80,14 +80,14 @@ no_other_sides = (
 )
 
 -- a declared one as plain data
-pub left_out_seen : (b : BadMapping) → ((left_out_of b).mapping ≡ mapped_of b.mapping) × ((left_out_of b).side ≡ b.side)
+pub left_out_seen : (b : InvalidMapping) → ((left_out_of b).mapping ≡ mapped_of b.mapping) × ((left_out_of b).side ≡ b.side)
 left_out_seen b = (refl, refl)
 
 abbrev left : List LeftOut
 left = record { mapping = from_bad; side = Source } ∷ record { mapping = to_bad; side = Destination } ∷ record { mapping = all_bad; side = Both } ∷ []
 
 -- one of four is kept, and the others are listed in order, each with its side
-pub parted : KeepsNamed (from_bad ∷ kept ∷ to_bad ∷ all_bad ∷ []) (kept ∷ []) left
+pub parted : KeepsRefNames (from_bad ∷ kept ∷ to_bad ∷ all_bad ∷ []) (kept ∷ []) left
 parted = record {
   named = (
     None,
@@ -124,9 +124,9 @@ parted = record {
 }
 
 -- a good mapping isn't lost, and a bad one is listed
-pub none_lost : ¬ (AreNamed (kept ∷ []) []) × ¬ (AreLeftOut (to_bad ∷ []) [])
+pub none_lost : ¬ (HaveRefNames (kept ∷ []) []) × ¬ (AreLeftOut (to_bad ∷ []) [])
 none_lost = (
-  (λ are. nothing_made (λ k m made. (made ≡ m) × IsNamed m) 0 [] kept [] kept are (refl, sides.0)),
+  (λ are. nothing_made (λ k m made. (made ≡ m) × HasRefNames m) 0 [] kept [] kept are (refl, sides.0)),
   (λ are. nothing_made (λ k m made. IsLeftOut m made) 0 [] to_bad [] (record { mapping = to_bad; side = Destination }) are (record { same = refl; bad = sides.2 })),
 )
 
@@ -148,19 +148,19 @@ pub stays : StaysAmongRefs good × StaysAmongRefs (codes "HEAD")
 stays = (stays_among_refs good ref_names.0, stays_among_refs (codes "HEAD") ref_names.1)
 
 -- by the law no mapping to a bad name is left, whichever of the two calls is first
-pub none_to_bad : (items : List Ref) (g : List Reading) → WritesRefs g items → (l named rest : List Mapped) (out : List LeftOut) (fixes : List Removed) → (KeepsNamed l named out → ¬ (IsValidated g named (to_bad ∷ rest) fixes)) × (IsValidated g l named fixes → ¬ (KeepsNamed named (to_bad ∷ rest) out))
+pub none_to_bad : (items : List Ref) (g : List Reading) → WritesRefs g items → (l named rest : List Mapped) (out : List LeftOut) (fixes : List Removed) → (KeepsRefNames l named out → ¬ (IsValidated g named (to_bad ∷ rest) fixes)) × (IsValidated g l named fixes → ¬ (KeepsRefNames named (to_bad ∷ rest) out))
 none_to_bad items g law l named rest out fixes = (
   (λ keeps valid. no_ref_names.2 ((law.before l named (to_bad ∷ rest) out fixes keeps valid).0.0 bad refl).0),
   (λ valid keeps. no_ref_names.2 ((law.after l named (to_bad ∷ rest) fixes out valid keeps).0.0 bad refl).0),
 )
 
 -- nor two to one name, where they came from items
-pub none_twice : (items : List Ref) (g : List Reading) → WritesRefs g items → (l named rest : List Mapped) (out : List LeftOut) (fixes : List Removed) → AreKeptForward g items l → (KeepsNamed l named out → ¬ (IsValidated g named (kept ∷ kept ∷ rest) fixes)) × (IsValidated g l named fixes → ¬ (KeepsNamed named (kept ∷ kept ∷ rest) out))
+pub none_twice : (items : List Ref) (g : List Reading) → WritesRefs g items → (l named rest : List Mapped) (out : List LeftOut) (fixes : List Removed) → AreKeptForward g items l → (KeepsRefNames l named out → ¬ (IsValidated g named (kept ∷ kept ∷ rest) fixes)) × (IsValidated g l named fixes → ¬ (KeepsRefNames named (kept ∷ kept ∷ rest) out))
 none_twice items g law l named rest out fixes are = (
   (λ keeps valid. ((law.before l named (kept ∷ kept ∷ rest) out fixes keeps valid).1 are).0.0 (good, refl, refl)),
   (λ valid keeps. ((law.after l named (kept ∷ kept ∷ rest) fixes out valid keeps).1 are).0.0 (good, refl, refl)),
 )
 
 -- what is kept may be validated, and its places fit
-pub still_there : (items : List Ref) (g : List Reading) → WritesRefs g items → (l named : List Mapped) (out : List LeftOut) → KeepsNamed l named out → IndexesFit g l → AllByRecursion (ForwardPlaces g items) l → IndexesFit g named × AllByRecursion (ForwardPlaces g items) named
-still_there items g law l named out keeps fit places = (law.fits l named out keeps fit, law.places l named out keeps places)
+pub still_there : (items : List Ref) (g : List Reading) → WritesRefs g items → (l named : List Mapped) (out : List LeftOut) → KeepsRefNames l named out → IndexesFit g l → AllByRecursion (ForwardIndexes g items) l → IndexesFit g named × AllByRecursion (ForwardIndexes g items) named
+still_there items g law l named out keeps fit indexes = (law.fits l named out keeps fit, law.indexes l named out keeps indexes)

@@ -10,7 +10,7 @@ use Rattle.gix_refspec_text.specs.Specs.Reading.{Normal, Forced, Reading}
 use Rattle.gix_refspec_text.specs.Specs.Grammar.{fetched}
 use Rattle.gix_refspec_text.specs.Specs.Meaning.{printed}
 use Rattle.gix_refspec_match.specs.Matching.Mappings.{name, Mapped, HasPair}
-use Rattle.gix_refspec.specs.Matching.Validation.{IndexesFit, HasConflictAt, IsFirstTo, IsTextAt, Conflict, IsConflict, AreConflicts, IsWritable, Survives, AreSurvivors, Removed, IsFix, AreFixes, IsValidated, HaveOneSource, MeetAt, NeverMeet}
+use Rattle.gix_refspec.specs.Matching.Validation.{IndexesFit, HasConflictAt, IsFirstTo, IsTextAt, Conflict, IsConflict, AreConflicts, IsWritable, Survives, AreSurvivors, Removed, IsFix, AreFixes, IsValidated, DestinationsHaveOneSource, ShareDestination, HaveDistinctDestinations}
 use Rattle.gix_refspec.proofs.lemmas.validate.ConflictLemmas.{no_conflicts}
 use Rattle.gix_refspec_match.proofs.lemmas.lists.JoinLemmas.{nothing_made}
 use Rattle.gix_refspec_text.proofs.facts.ManualFacts.{other_length, none_some}
@@ -207,11 +207,11 @@ validated = record {
         contested.differ (tag contested.one (refl, (refl, (refl, tt))) contested.has_one ∙ sym (tag contested.other (refl, (refl, (refl, tt))) contested.has_other))
 
 -- the first spec has a place in a group, and none is after the last one
-pub places : IndexesFit both_to_x (tag_to_x ∷ tag_again ∷ []) × ¬ (IndexesFit both_to_x (tag_to_x ∷ mapping 0 (codes "a") None 2 ∷ []))
-places = ((omega arith, (omega arith, tt)), λ fit. let below : 2 < 2 = fit.1.0 in omega (arith, below))
+pub indexes : IndexesFit both_to_x (tag_to_x ∷ tag_again ∷ []) × ¬ (IndexesFit both_to_x (tag_to_x ∷ mapping 0 (codes "a") None 2 ∷ []))
+indexes = ((omega arith, (omega arith, tt)), λ fit. let below : 2 < 2 = fit.1.0 in omega (arith, below))
 
 -- what the law on validations says of mappings to one destination
-pub meet : HaveOneSource (tag_to_x ∷ tag_again ∷ []) × ¬ (HaveOneSource meeting) × NeverMeet (tag_to_x ∷ tag_to_foo ∷ tag_alone ∷ tag_alone ∷ []) × ¬ (NeverMeet (tag_to_x ∷ tag_alone ∷ tag_again ∷ []))
+pub meet : DestinationsHaveOneSource (tag_to_x ∷ tag_again ∷ []) × ¬ (DestinationsHaveOneSource meeting) × HaveDistinctDestinations (tag_to_x ∷ tag_to_foo ∷ tag_alone ∷ tag_alone ∷ []) × ¬ (HaveDistinctDestinations (tag_to_x ∷ tag_alone ∷ tag_again ∷ []))
 unfolding at_x
 meet = (
   (λ m n d has_m has_n to_m to_n.
@@ -288,7 +288,7 @@ fixes = (
     forced_normal same = let modes : Some Forced ≡ Some Normal = ap (λ (o : Option Reading). option_map (λ (r : Reading). r.mode) o) same in cc
 
 -- mappings meet at a destination that both have
-pub meetings : MeetAt tag_to_x branch_to_x × ¬ (MeetAt tag_to_x tag_to_foo) × ¬ (MeetAt tag_alone tag_alone)
+pub meetings : ShareDestination tag_to_x branch_to_x × ¬ (ShareDestination tag_to_x tag_to_foo) × ¬ (ShareDestination tag_alone tag_alone)
 meetings = (
   (codes "refs/x/a", refl, refl),
   (λ at. other_length _ _ (λ size. omega (arith, size)) (same_Some (codes "refs/x/a") (codes "foo") (at.1 ∙ sym at.2))),

@@ -6,7 +6,7 @@ pub mod ApartLemmas
 pub mod ValidationLemmas
 pub mod OneValidationLemmas
 pub mod AfterLemmas
-pub mod PlaceFitLemmas
+pub mod IndexFitLemmas
 pub mod MadeAtLemmas
 pub mod PlacedOnceLemmas
 pub mod PlanLemmas

@@ -15,13 +15,13 @@ use Rattle.gix_refspec_text.specs.Matching.Match.{Ref, HasName, Matches, Takes}
 use Rattle.gix_refspec_text.specs.Matching.Prefix.{IsAsked, IsExpansion}
 use Rattle.gix_refspec_text.specs.Laws.Covering.{HasCoveringSource}
 use Rattle.gix_refspec_match.specs.Matching.Lists.{IsJoinedFrom}
-use Rattle.gix_refspec_match.specs.Matching.Mappings.{Start, name, id, Mapped, HasPair, IsStartExcluded}
+use Rattle.gix_refspec_match.specs.Matching.Mappings.{Source, name, id, Mapped, HasPair, IsSourceExcluded}
 use Rattle.gix_refspec_match.specs.Matching.Hits.{Ends, AreForwardEnds, AreBackwardEnds, IsFilled, AreForward, AreBackward, AreKeptForward, AreKeptBackward}
 
 -- ---- both directions
 
 -- the source of a mapping is the name of one of the refs
-abbrev pub IsSourceAmong : List Ref → Start → Type 0
+abbrev pub IsSourceAmong : List Ref → Source → Type 0
 IsSourceAmong refs (name n) = HasName refs n
 IsSourceAmong refs (id i) = ⊥
 
@@ -68,12 +68,12 @@ pub record PairsId (bytes : List ℕ) (far : Option (List ℕ)) (r : Reading) : 
   pub becomes : IsFilled r.destination None far
 
 -- from left to right the reading makes the pair of this start and this destination
-abbrev pub MakesForward : List Ref → Start → Option (List ℕ) → Reading → Type 0
+abbrev pub MakesForward : List Ref → Source → Option (List ℕ) → Reading → Type 0
 MakesForward items (name n) far r = PairsItem AreForwardEnds (Takes items) items n far r
 MakesForward items (id bytes) far r = PairsId bytes far r
 
 -- from right to left the reading makes it: the destination is the name of an item, and the source a name
-abbrev pub MakesBackward : List Ref → Start → Option (List ℕ) → Reading → Type 0
+abbrev pub MakesBackward : List Ref → Source → Option (List ℕ) → Reading → Type 0
 MakesBackward items (name n) (Some d) r = PairsItem AreBackwardEnds Matches items d (Some n) r
 MakesBackward items (name n) None r = ⊥
 MakesBackward items (id bytes) far r = ⊥
@@ -81,9 +81,9 @@ MakesBackward items (id bytes) far r = ⊥
 -- a pair is kept exactly where some reading makes it, and none excludes its source
 pub record KeptExactly (g : List Reading) (items : List Ref) : Type 0 where
   pub forward : (kept : List Mapped) → AreKeptForward g items kept → (pair : Mapped)
-      → HasPair kept pair ↔ (Any (MakesForward items pair.source pair.destination) g × ¬ (IsStartExcluded g pair.source))
+      → HasPair kept pair ↔ (Any (MakesForward items pair.source pair.destination) g × ¬ (IsSourceExcluded g pair.source))
   pub backward : (kept : List Mapped) → AreKeptBackward g items kept → (pair : Mapped)
-      → HasPair kept pair ↔ (Any (MakesBackward items pair.source pair.destination) g × ¬ (IsStartExcluded g pair.source))
+      → HasPair kept pair ↔ (Any (MakesBackward items pair.source pair.destination) g × ¬ (IsSourceExcluded g pair.source))
 
 -- the mapping is in the list, none before it has its pair, and no reading excludes its source
 pub record IsFirstOfPair (g : List Reading) (l : List Mapped) (m : Mapped) : Type 0 where
@@ -91,7 +91,7 @@ pub record IsFirstOfPair (g : List Reading) (l : List Mapped) (m : Mapped) : Typ
   pub after : List Mapped
   pub here : l ≡ before ++ (m ∷ after)
   pub first : ¬ (HasPair before m)
-  pub included : ¬ (IsStartExcluded g m.source)
+  pub included : ¬ (IsSourceExcluded g m.source)
 
 -- of the mappings with one pair only the first is kept, as it is, where no reading excludes its source
 pub record FirstStays (g : List Reading) (items : List Ref) : Type 0 where
@@ -100,8 +100,8 @@ pub record FirstStays (g : List Reading) (items : List Ref) : Type 0 where
 
 -- no mapping that is kept, in either direction, has a source that some reading excludes; and none excludes an id
 pub record NothingExcluded (g : List Reading) (items : List Ref) : Type 0 where
-  pub names : (list : List Mapped) → AreKeptForward g items list ⊎ AreKeptBackward g items list → AllByRecursion (λ m. ¬ (IsStartExcluded g m.source)) list
-  pub ids : (bytes : List ℕ) → ¬ (IsStartExcluded g (id bytes))
+  pub names : (list : List Mapped) → AreKeptForward g items list ⊎ AreKeptBackward g items list → AllByRecursion (λ m. ¬ (IsSourceExcluded g m.source)) list
+  pub ids : (bytes : List ℕ) → ¬ (IsSourceExcluded g (id bytes))
 
 -- ---- groups that map alike
 

@@ -10,20 +10,20 @@ use Rattle.gix_refspec_text.specs.Specs.Reading.{Reading}
 use Rattle.gix_refspec_text.specs.Specs.Grammar.{Reads}
 use Rattle.gix_refspec_text.specs.Specs.Meaning.{printed}
 use Rattle.gix_refspec_text.specs.Matching.Match.{Ref}
-use Rattle.gix_refspec_match.specs.Matching.Mappings.{Start, name, id, Mapped, AreApart}
+use Rattle.gix_refspec_match.specs.Matching.Mappings.{Source, name, id, Mapped, AreApart}
 use Rattle.gix_refspec_match.specs.Matching.Hits.{AreKeptForward}
-use Rattle.gix_refspec.specs.Matching.Validation.{ForwardPlaces, Removed, IsValidated, NeverMeet}
+use Rattle.gix_refspec.specs.Matching.Validation.{ForwardIndexes, Removed, IsValidated, HaveDistinctDestinations}
 
 -- ---- what is told apart
 
 -- mappings of one spec and one item, or of one spec and no item, have one source
-abbrev pub HaveOneStart : Mapped → Mapped → Type 0
-HaveOneStart m n = m.spec ≡ n.spec → m.item ≡ n.item → m.source ≡ n.source
+abbrev pub HaveOneSource : Mapped → Mapped → Type 0
+HaveOneSource m n = m.spec ≡ n.spec → m.item ≡ n.item → m.source ≡ n.source
 
 -- so have any two of the mappings
-abbrev pub HaveStartsByPlace : List Mapped → Type 0
-HaveStartsByPlace [] = Unit {0}
-HaveStartsByPlace (m ∷ l) = AllByRecursion (HaveOneStart m) l × HaveStartsByPlace l
+abbrev pub HaveSourcesByIndex : List Mapped → Type 0
+HaveSourcesByIndex [] = Unit {0}
+HaveSourcesByIndex (m ∷ l) = AllByRecursion (HaveOneSource m) l × HaveSourcesByIndex l
 
 -- no two of the fixes have one destination
 abbrev pub AreFixesApart : List Removed → Type 0
@@ -33,10 +33,10 @@ AreFixesApart (f ∷ fixes) = AllByRecursion (λ h. h.destination ≢ f.destinat
 -- the mappings that remain have places, by which their sources are told; no two have one pair, and no two one
 -- destination; nor have two fixes
 pub record AreToldApart (g : List Reading) (items : List Ref) (rest : List Mapped) (fixes : List Removed) : Type 0 where
-  pub places : AllByRecursion (ForwardPlaces g items) rest
-  pub starts : HaveStartsByPlace rest
+  pub indexes : AllByRecursion (ForwardIndexes g items) rest
+  pub starts : HaveSourcesByIndex rest
   pub pairs : AreApart rest
-  pub destinations : NeverMeet rest
+  pub destinations : HaveDistinctDestinations rest
   pub fixed : AreFixesApart fixes
 
 -- so it is after a validation of what came from items, whatever these and the specs are
@@ -55,13 +55,13 @@ abbrev pub SidesLack : ℕ → Reading → Type 0
 SidesLack b r = LacksIn b r.source × LacksIn b r.destination
 
 -- nor in the source of a mapping, as it is printed
-abbrev pub StartLacks : ℕ → Start → Type 0
-StartLacks b (name n) = Lacks b n
-StartLacks b (id i) = Lacks b (lower_of i)
+abbrev pub SourceLacks : ℕ → Source → Type 0
+SourceLacks b (name n) = Lacks b n
+SourceLacks b (id i) = Lacks b (lower_of i)
 
 -- nor in the mapping
 abbrev pub MappedLacks : ℕ → Mapped → Type 0
-MappedLacks b m = StartLacks b m.source × LacksIn b m.destination
+MappedLacks b m = SourceLacks b m.source × LacksIn b m.destination
 
 -- no side of a fetch has a byte below 32, and no canonical text of one; where no side of a group and no name of an
 -- item has it, no mapping has it

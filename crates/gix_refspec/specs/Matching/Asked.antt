@@ -7,7 +7,7 @@ use Rattle.gix_refspec_text.specs.declared.parsing.Operation.TheVariants.{Fetch}
 use Rattle.gix_refspec_text.specs.Texts.Words.{BeginsWith}
 use Rattle.gix_refspec_text.specs.Specs.Reading.{Reading, Negative}
 use Rattle.gix_refspec_text.specs.Matching.Side.{SideKind, pattern, full_name, object, partial, HasKind, candidates}
-use Rattle.gix_refspec_text.specs.Matching.Prefix.{TellsPrefix, IsAsked}
+use Rattle.gix_refspec_text.specs.Matching.Prefix.{IsRefPrefix, IsAsked}
 use Rattle.gix_refspec_text.specs.Matching.Match.{Ref}
 use Rattle.gix_refspec_match.specs.Matching.Lists.{IsJoinedFrom}
 use Rattle.gix_refspec_match.specs.Matching.Mappings.{name, Mapped}
@@ -16,7 +16,7 @@ use Rattle.gix_refspec_match.specs.Matching.Hits.{AreKeptForward}
 -- the list for a side of the kind: the text before the star of a pattern, if that is a prefix whatever follows; a full
 -- name; no name for an id; the candidates of a partial name
 abbrev pub ListsAs : SideKind → List (List ℕ) → Type 0
-ListsAs (pattern before after) list = TellsPrefix before [] × (list ≡ before ∷ [])
+ListsAs (pattern before after) list = IsRefPrefix before [] × (list ≡ before ∷ [])
 ListsAs (full_name n) list = list ≡ n ∷ []
 ListsAs (object id) list = list ≡ []
 ListsAs (partial n) list = list ≡ candidates n

@@ -13,7 +13,7 @@ use Rattle.gix_refspec_text.specs.Specs.Reading.{Reading}
 use Rattle.gix_refspec_text.specs.Specs.Meaning.{printed}
 use Rattle.gix_refspec_match.specs.Matching.Lists.{IsMadeFrom}
 use Rattle.gix_refspec_text.specs.Matching.Match.{Ref}
-use Rattle.gix_refspec_match.specs.Matching.Mappings.{Start, name, id, Mapped, HasPair}
+use Rattle.gix_refspec_match.specs.Matching.Mappings.{Source, name, id, Mapped, HasPair}
 use Rattle.gix_refspec_match.specs.Matching.Hits.{AreKeptForward, AreKeptBackward}
 
 -- the spec of each mapping has a place in the group
@@ -37,12 +37,12 @@ pub record IsFirstTo (d : List ℕ) (l : List Mapped) (k : ℕ) (m : Mapped) : T
 
 -- the spec at a place of the group has this canonical text
 abbrev pub IsTextAt : List Reading → ℕ → List ℕ → Type 0
-IsTextAt g place text = (r : Reading) × (slice_get g place ≡ Some r) × (printed r ≡ Some text)
+IsTextAt g index text = (r : Reading) × (slice_get g index ≡ Some r) × (printed r ≡ Some text)
 
 -- a destination, the sources that are mapped to it, and for each the text of a spec
 pub record Conflict : Type 0 where
   pub destination : List ℕ
-  pub sources : List Start
+  pub sources : List Source
   pub texts : List (List ℕ)
 
 -- two sources or more are mapped to the destination: these, in the order of their first mappings to it, with
@@ -92,22 +92,22 @@ pub record IsValidated (g : List Reading) (l rest : List Mapped) (fixes : List R
   pub fixed : AreFixes g l fixes
 
 -- mappings of the list with one destination have one source
-abbrev pub HaveOneSource : List Mapped → Type 0
-HaveOneSource l = (m n : Mapped) (d : List ℕ) → Contains l m → Contains l n → m.destination ≡ Some d → n.destination ≡ Some d → m.source ≡ n.source
+abbrev pub DestinationsHaveOneSource : List Mapped → Type 0
+DestinationsHaveOneSource l = (m n : Mapped) (d : List ℕ) → Contains l m → Contains l n → m.destination ≡ Some d → n.destination ≡ Some d → m.source ≡ n.source
 
 -- the mappings have the same destination
-abbrev pub MeetAt : Mapped → Mapped → Type 0
-MeetAt m n = (d : List ℕ) × (m.destination ≡ Some d) × (n.destination ≡ Some d)
+abbrev pub ShareDestination : Mapped → Mapped → Type 0
+ShareDestination m n = (d : List ℕ) × (m.destination ≡ Some d) × (n.destination ≡ Some d)
 
 -- no two of the mappings have the same destination
-abbrev pub NeverMeet : List Mapped → Type 0
-NeverMeet [] = Unit {0}
-NeverMeet (m ∷ l) = AllByRecursion (λ n. ¬ (MeetAt m n)) l × NeverMeet l
+abbrev pub HaveDistinctDestinations : List Mapped → Type 0
+HaveDistinctDestinations [] = Unit {0}
+HaveDistinctDestinations (m ∷ l) = AllByRecursion (λ n. ¬ (ShareDestination m n)) l × HaveDistinctDestinations l
 
 -- after a validation, mappings with one destination have one source; where the mappings came from items, no
 -- two have one destination
 abbrev pub ValidatedOnce : List Reading → List Ref → Type 0
-ValidatedOnce g items = (l rest : List Mapped) (fixes : List Removed) → IsValidated g l rest fixes → HaveOneSource rest × (AreKeptForward g items l → NeverMeet rest)
+ValidatedOnce g items = (l rest : List Mapped) (fixes : List Removed) → IsValidated g l rest fixes → DestinationsHaveOneSource rest × (AreKeptForward g items l → HaveDistinctDestinations rest)
 
 -- the specs of mappings that came from items have places in the group
 abbrev pub ForwardFits : List Reading → List Ref → Type 0
@@ -115,22 +115,22 @@ ForwardFits g items = (l : List Mapped) → AreKeptForward g items l → Indexes
 
 -- from left to right, the places of a mapping are those of a reading and of the item whose name is its source; without
 -- an item it begins with an id
-pub record ForwardPlaces (g : List Reading) (items : List Ref) (m : Mapped) : Type 0 where
+pub record ForwardIndexes (g : List Reading) (items : List Ref) (m : Mapped) : Type 0 where
   pub spec : m.spec < length g
   pub item : (j : ℕ) → m.item ≡ Some j → (r : Ref) × (slice_get items j ≡ Some r) × (m.source ≡ name r.name)
   pub start : m.item ≡ None → (bytes : List ℕ) × (m.source ≡ id bytes)
 
 -- from right to left, they are those of a reading and of the item whose name is its destination
-pub record BackwardPlaces (g : List Reading) (items : List Ref) (m : Mapped) : Type 0 where
+pub record BackwardIndexes (g : List Reading) (items : List Ref) (m : Mapped) : Type 0 where
   pub spec : m.spec < length g
-  pub place : ℕ
+  pub index : ℕ
   pub ref : Ref
-  pub item : m.item ≡ Some place
-  pub stands : slice_get items place ≡ Some ref
+  pub item : m.item ≡ Some index
+  pub stands : slice_get items index ≡ Some ref
   pub named : m.destination ≡ Some ref.name
 
 -- so it is with each mapping that is kept, and with each that survives a validation
-pub record PlacesFit (g : List Reading) (items : List Ref) : Type 0 where
-  pub forward : (l : List Mapped) → AreKeptForward g items l → AllByRecursion (ForwardPlaces g items) l
-  pub backward : (l : List Mapped) → AreKeptBackward g items l → AllByRecursion (BackwardPlaces g items) l
-  pub validated : (l rest : List Mapped) (fixes : List Removed) → IsValidated g l rest fixes → AllByRecursion (ForwardPlaces g items) l → AllByRecursion (ForwardPlaces g items) rest
+pub record ItemIndexesFit (g : List Reading) (items : List Ref) : Type 0 where
+  pub forward : (l : List Mapped) → AreKeptForward g items l → AllByRecursion (ForwardIndexes g items) l
+  pub backward : (l : List Mapped) → AreKeptBackward g items l → AllByRecursion (BackwardIndexes g items) l
+  pub validated : (l rest : List Mapped) (fixes : List Removed) → IsValidated g l rest fixes → AllByRecursion (ForwardIndexes g items) l → AllByRecursion (ForwardIndexes g items) rest

@@ -15,15 +15,15 @@ use Rattle.gix_refspec_match.specs.Private.Kept.{IsFlagged, name_hash}
 -- one of the updates is that of the destination d by the mapping at place k
 abbrev pub HasUpdate : List Update → ℕ → List ℕ → Type 0
 HasUpdate [] k d = ⊥
-HasUpdate (c ∷ cs) k d = ((c.place ≡ k) × (c.destination.now ≡ d)) ⊎ HasUpdate cs k d
+HasUpdate (c ∷ cs) k d = ((c.index ≡ k) × (c.destination.now ≡ d)) ⊎ HasUpdate cs k d
 
 -- by the destination, and then by the place
 abbrev pub update_cmp : Update → Update → Ordering
-update_cmp x y = ordering_then (slice_cmp nat_cmp x.destination.now y.destination.now) (nat_cmp x.place y.place)
+update_cmp x y = ordering_then (slice_cmp nat_cmp x.destination.now y.destination.now) (nat_cmp x.index y.index)
 
 -- the places of updates
-abbrev pub updated_places : List Update → List ℕ
-updated_places cs = map (λ c. c.place) cs
+abbrev pub updated_indexes : List Update → List ℕ
+updated_indexes cs = map (λ c. c.index) cs
 
 -- the mapping at place k of the list has the destination d
 abbrev pub GoesTo : List Mapped → ℕ → List ℕ → Type 0

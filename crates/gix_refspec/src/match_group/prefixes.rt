@@ -11,8 +11,7 @@ use crate::match_group::types::MatchGroup;
 use bstr::BString;
 use gix_refspec_text::RefSpecRef;
 use gix_refspec_text::side::{SideKind, candidates, kind_of};
-use gix_refspec_text::spec::prefix::{asked_side, one_entry, tells_prefix};
-use gix_refspec_text::spec::sign::is_negative;
+use gix_refspec_text::spec::prefix::{asked_side, one_entry, is_ref_prefix};
 use std::alloc::{AllocError, Global};
 
 /// What to ask a server for.
@@ -54,7 +53,7 @@ fn names_to_ask(alloc: Global, spec: &RefSpecRef<'_>) -> Result<Option<Vec<BStri
         (λ list. Lists (reading_of spec.now) (map bstring_bytes list.items))) }
     ensures memory { OnErr result (¬ (Lists (reading_of spec.now) [])) }
 {
-    if is_negative(spec) {
+    if spec.is_negative() {
         return Ok(Some(Vec::new(alloc)));
     }
     let Some(side) = asked_side(spec) else {
@@ -73,7 +72,7 @@ fn list_of(alloc: Global, side: &[u8]) -> Result<Option<Vec<BString>>, AllocErro
 {
     Ok(Some(match kind_of(side) {
         SideKind::Pattern { before, .. } => {
-            if !tells_prefix(before, b"") {
+            if !is_ref_prefix(before, b"") {
                 return Ok(None);
             }
             one_entry(alloc, before)?

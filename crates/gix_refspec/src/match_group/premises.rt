@@ -10,9 +10,8 @@ ghost use Rattle.gix_refspec.specs.Laws.Matching.{GoesBothWays};
 
 use crate::match_group::types::MatchGroup;
 use gix_refspec_text::RefSpecRef;
-use gix_refspec_text::cut::holds;
-use gix_refspec_text::side::below_refs;
-use gix_refspec_text::spec::sign::is_negative;
+use gix_refspec_text::split::contains;
+use gix_refspec_text::side::strip_refs;
 
 impl<'a> MatchGroup<'a> {
     /// Whether each positive spec with two sides has two patterns, or two sides that begin `refs/`. Then
@@ -47,13 +46,13 @@ impl<'a> MatchGroup<'a> {
 fn goes_both_ways(spec: &RefSpecRef<'_>) -> bool
     ensures { IsTrue result ↔ GoesBothWays (reading_of spec.now) }
 {
-    if is_negative(spec) {
+    if spec.is_negative() {
         return true;
     }
     match (spec.source(), spec.destination()) {
         (Some(source), Some(destination)) => {
             let (source, destination) = (source.as_bytes(), destination.as_bytes());
-            holds(source, b'*') || are_below_refs(source, destination)
+            contains(source, b'*') || are_below_refs(source, destination)
         }
         _ => true,
     }
@@ -64,5 +63,5 @@ fn are_below_refs(source: &[u8], destination: &[u8]) -> bool
     ensures { IsTrue result ↔
         (BeginsWith (codes "refs/") source.now × BeginsWith (codes "refs/") destination.now) }
 {
-    below_refs(source).is_some() && below_refs(destination).is_some()
+    strip_refs(source).is_some() && strip_refs(destination).is_some()
 }

@@ -149,10 +149,10 @@ impl<'spec, 'item> match_lhs::Outcome<'spec, 'item> {
 
     /// Removes the mappings whose destination neither begins `refs/` nor is `HEAD`, and lists them as
     /// fixes; both lists are in order. Mappings without a destination are kept. That a destination
-    /// below `refs/` is the name of a ref isn't checked: `without_bad_names` does that.
+    /// below `refs/` is the name of a ref isn't checked: `without_invalid_names` does that.
     ///
     /// Requires that the spec of each mapping is one of the group. So it is in what `match_lhs` returns,
-    /// by the law [`forward_fits`](crate::laws::forward_fits), and in what `without_bad_names` keeps of
+    /// by the law [`forward_fits`](crate::laws::forward_fits), and in what `without_invalid_names` keeps of
     /// that, by [`writes_refs`](crate::laws::writes_refs). Of any other outcome `indexes_fit` tells.
     ///
     /// Fails with `Conflicts` if several sources are mapped to one destination, even if that would be

@@ -3,7 +3,7 @@
 use Rattle.std.proofs.Common.{◌≡◌, ◌≢◌, ℕ, List, [], ◌∷◌, ◌++◌, Option, None, Some, codes, refl, sym, ap, ◌∙◌, subst, inl, inr, arith}
 use Rattle.std.proofs.lemmas.List.{append-nil}
 use Rattle.gix_refspec_text.specs.Texts.Words.{BeginsWith}
-use Rattle.gix_refspec_text.specs.Texts.Name.{IsCut}
+use Rattle.gix_refspec_text.specs.Texts.Name.{IsSplit}
 use Rattle.gix_refspec_text.specs.Texts.Bytes.{star, bracket}
 use Rattle.gix_refspec_text.specs.Texts.ObjectId.{IsIdText}
 use Rattle.gix_refspec_text.specs.Specs.Reading.{Normal, Forced, Negative, Reading}
@@ -11,14 +11,14 @@ use Rattle.gix_refspec_text.specs.Specs.Grammar.{fetched, IsPositive}
 use Rattle.gix_refspec_text.specs.Matching.Side.{pattern, full_name, object, HasKind, Excludes, the_name}
 use Rattle.gix_refspec_text.specs.Matching.Match.{Ref, Matches, Takes}
 use Rattle.gix_refspec_match.specs.Matching.Lists.{IsMadeFrom}
-use Rattle.gix_refspec_match.specs.Matching.Mappings.{Start, name, id, Mapped, IsExcluded, IsStartExcluded, IsSamePair, HasPair, AreApart}
+use Rattle.gix_refspec_match.specs.Matching.Mappings.{Source, name, id, Mapped, IsExcluded, IsSourceExcluded, IsSamePair, HasPair, AreApart}
 use Rattle.gix_refspec_match.specs.Matching.Hits.{Ends, AreForwardEnds, AreBackwardEnds, AreHits, Hit, IsHit, IsIdMapping, AreForward, AreBackward, AreKeptForward, AreKeptBackward}
 use Rattle.gix_refspec_text.specs.Matching.Prefix.{of_pattern}
 use Rattle.gix_refspec_text.proofs.lemmas.hits.CandidateLemmas.{first_of_one, taken_by_first}
 use Rattle.gix_refspec_text.proofs.lemmas.hits.MatchLemmas.{lacks_no_pattern, prefix_begins}
 use Rattle.gix_refspec_text.proofs.facts.ManualFacts.{Lacks-tested, other_length, none_some, some_none, named}
 use Rattle.gix_refspec_text.proofs.facts.ObjectIdFacts.{empty_blob}
-use Rattle.gix_refspec_text.proofs.facts.FitFacts.{other_byte, excludes_dev, excludes_no_main, every, no_dev, dev_ref, tag_ref, main_ref, heads_cut, origin_cut, short, blob, below_tags, blob_kind, short_no_id, short_kind}
+use Rattle.gix_refspec_text.proofs.facts.FitFacts.{other_byte, excludes_dev, excludes_no_main, every, no_dev, dev_ref, tag_ref, main_ref, heads_split, origin_split, short, blob, below_tags, blob_kind, short_no_id, short_kind}
 use Rattle.std.proofs.lemmas.Option.{same_Some}
 
 -- ---- sides
@@ -50,11 +50,11 @@ are_forward_ends = record { positive = tt; near = refl; far = refl; no_object = 
 abbrev hit_below : List ℕ → List ℕ → ℕ → ℕ → List ℕ → Hit
 hit_below near far spec item branch = record { spec = spec; item = item; near = near ++ branch; far = Some (far ++ (branch ++ [])) }
 
-takes_below : (near far : List ℕ) → IsCut near [] (near ++ codes "*") → IsCut far [] (far ++ codes "*") → (Taken : List ℕ → Ref → Option (List ℕ) → Type 0) → ((r : Ref) (word : Option (List ℕ)) → Matches (near ++ codes "*") r word → Taken (near ++ codes "*") r word) → (k j : ℕ) (branch : List ℕ) → IsHit Taken (record { near = near ++ codes "*"; far = Some (far ++ codes "*") }) k j (named (near ++ branch)) (hit_below near far k j branch)
-takes_below near far near_cut far_cut Taken taken k j branch = record {
+takes_below : (near far : List ℕ) → IsSplit near [] (near ++ codes "*") → IsSplit far [] (far ++ codes "*") → (Taken : List ℕ → Ref → Option (List ℕ) → Type 0) → ((r : Ref) (word : Option (List ℕ)) → Matches (near ++ codes "*") r word → Taken (near ++ codes "*") r word) → (k j : ℕ) (branch : List ℕ) → IsHit Taken (record { near = near ++ codes "*"; far = Some (far ++ codes "*") }) k j (named (near ++ branch)) (hit_below near far k j branch)
+takes_below near far near_split far_split Taken taken k j branch = record {
   word = Some branch;
-  takes = taken (named (near ++ branch)) (Some branch) (record { kind = pattern near []; of = near_cut; is = ap (λ (y : List ℕ). near ++ y) (sym (append-nil branch)) });
-  far = (pattern far [], far_cut, refl);
+  takes = taken (named (near ++ branch)) (Some branch) (record { kind = pattern near []; of = near_split; is = ap (λ (y : List ℕ). near ++ y) (sym (append-nil branch)) });
+  far = (pattern far [], far_split, refl);
   near = refl;
   spec = refl;
   item = refl;
@@ -65,8 +65,8 @@ abbrev pub hit_by : ℕ → ℕ → List ℕ → Hit
 hit_by spec item branch = hit_below (codes "refs/heads/") (codes "refs/remotes/origin/") spec item branch
 
 pub taken_by : (items : List Ref) (k j : ℕ) (branch : List ℕ) → IsHit (Takes items) forward_ends k j (named (codes "refs/heads/" ++ branch)) (hit_by k j branch)
-taken_by items k j branch = takes_below (codes "refs/heads/") (codes "refs/remotes/origin/") heads_cut origin_cut (Takes items)
-    (λ r word matches. record { matches = matches; first = λ n kind. absurd (lacks_no_pattern (codes "refs/heads/*") (codes "refs/heads/") [] kind.1 heads_cut) })
+taken_by items k j branch = takes_below (codes "refs/heads/") (codes "refs/remotes/origin/") heads_split origin_split (Takes items)
+    (λ r word matches. record { matches = matches; first = λ n kind. absurd (lacks_no_pattern (codes "refs/heads/*") (codes "refs/heads/") [] kind.1 heads_split) })
     k j branch
 
 abbrev branch_hit : ℕ → List ℕ → Hit
@@ -78,7 +78,7 @@ takes_branch items j branch = taken_by items 0 j branch
 -- and no tag
 pub takes_no_tag : (items : List Ref) (j : ℕ) (hit : Hit) → ¬ (IsHit (Takes items) forward_ends 0 j tag_ref hit)
 takes_no_tag items j hit is =
-    let prefix = of_pattern (codes "refs/heads/") [] heads_cut (record { below = record { after = codes "heads/"; here = refl }; further = other_length _ _ (λ same. omega (arith, same)); first = Lacks-tested bracket (codes "refs/heads/") refl; last = tt }) refl in
+    let prefix = of_pattern (codes "refs/heads/") [] heads_split (record { below = record { after = codes "heads/"; here = refl }; further = other_length _ _ (λ same. omega (arith, same)); first = Lacks-tested bracket (codes "refs/heads/") refl; last = tt }) refl in
     let begins = prefix_begins (codes "refs/heads/*") (codes "refs/heads/") tag_ref is.word prefix (other_length _ _ (λ same. omega (arith, same))) is.takes.matches in
     other_byte 5 (codes "refs/tags/v1") (codes "refs/heads/" ++ begins.after) (λ same. omega (arith, same)) begins.here
 
@@ -86,7 +86,7 @@ forced_no_negative : Forced ≢ Negative
 forced_no_negative same = cc
 
 -- no spec of the group excludes a branch that doesn't begin so
-pub main_stays : ¬ (IsStartExcluded (every ∷ no_dev ∷ []) (name (codes "refs/heads/main")))
+pub main_stays : ¬ (IsSourceExcluded (every ∷ no_dev ∷ []) (name (codes "refs/heads/main")))
 main_stays (inl by) = absurd (forced_no_negative by.negative)
 main_stays (inr (inl by)) = excludes_no_main (subst (λ (x : List ℕ). Excludes x (codes "refs/heads/main")) (sym (same_Some (codes "refs/heads/dev-*") by.text by.source)) by.excludes)
 main_stays (inr (inr none)) = none
@@ -95,7 +95,7 @@ pub dev_excluded : IsExcluded (every ∷ no_dev ∷ []) (codes "refs/heads/dev-a
 dev_excluded = inr (inl (record { negative = refl; text = codes "refs/heads/dev-*"; source = refl; excludes = excludes_dev }))
 
 -- the bytes of a start
-abbrev pub bytes_in : Start → List ℕ
+abbrev pub bytes_in : Source → List ℕ
 bytes_in (name n) = n
 bytes_in (id i) = i
 
@@ -165,7 +165,7 @@ abbrev back_hit : ℕ → List ℕ → Hit
 back_hit item branch = hit_below (codes "refs/remotes/origin/") (codes "refs/heads/") 0 item branch
 
 pub takes_back : (j : ℕ) (branch : List ℕ) → IsHit Matches backward_ends 0 j (named (codes "refs/remotes/origin/" ++ branch)) (back_hit j branch)
-takes_back j branch = takes_below (codes "refs/remotes/origin/") (codes "refs/heads/") origin_cut heads_cut Matches (λ r word matches. matches) 0 j branch
+takes_back j branch = takes_below (codes "refs/remotes/origin/") (codes "refs/heads/") origin_split heads_split Matches (λ r word matches. matches) 0 j branch
 
 pub tracks_all_but_dev : AreKeptBackward (every ∷ no_dev ∷ []) (named (codes "refs/remotes/origin/dev-a") ∷ named (codes "refs/remotes/origin/main") ∷ []) (tracked 1 (codes "main") ∷ [])
 tracks_all_but_dev =
@@ -254,7 +254,7 @@ apart = (
 )
 
 -- no spec excludes the id of an object, and one that names it excludes that name alone
-pub ids_stay : ¬ (IsStartExcluded (fetched Negative (codes "a") None ∷ []) (id (codes "a"))) × IsStartExcluded (fetched Negative (codes "a") None ∷ []) (name (codes "a"))
+pub ids_stay : ¬ (IsSourceExcluded (fetched Negative (codes "a") None ∷ []) (id (codes "a"))) × IsSourceExcluded (fetched Negative (codes "a") None ∷ []) (name (codes "a"))
 ids_stay = (λ none. none, inl (record { negative = refl; text = codes "a"; source = refl; excludes = the_name (Lacks-tested star (codes "a") refl) refl }))
 
 abbrev pub blob_mapping : Mapped
@@ -334,7 +334,7 @@ asks_for_ids_first =
     normal_no_negative : Normal ≢ Negative
     normal_no_negative same = cc
 
-    no_exclusion : ¬ (IsStartExcluded (short ∷ blob ∷ []) (name (codes "refs/heads/main")))
+    no_exclusion : ¬ (IsSourceExcluded (short ∷ blob ∷ []) (name (codes "refs/heads/main")))
     no_exclusion (inl by) = absurd (normal_no_negative by.negative)
     no_exclusion (inr (inl by)) = absurd (normal_no_negative by.negative)
     no_exclusion (inr (inr none)) = none

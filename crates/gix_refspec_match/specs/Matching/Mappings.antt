@@ -8,15 +8,15 @@ use Rattle.gix_refspec_text.specs.Matching.Side.{Excludes}
 use Rattle.gix_refspec_match.specs.Matching.Lists.{IsMadeFrom}
 
 -- what a mapping begins with: the name of a ref, or the id of an object
-pub data Start : Type 0 where
-  name : List ℕ → Start
-  id : List ℕ → Start
+pub data Source : Type 0 where
+  name : List ℕ → Source
+  id : List ℕ → Source
 
 -- a mapping: the place of its item, if it has one, its source, its destination, if it has one, and the
 -- place of its spec
 pub record Mapped : Type 0 where
   pub item : Option ℕ
-  pub source : Start
+  pub source : Source
   pub destination : Option (List ℕ)
   pub spec : ℕ
 
@@ -33,9 +33,9 @@ IsExcluded [] n = ⊥
 IsExcluded (r ∷ rs) n = IsExcludedBy n r ⊎ IsExcluded rs n
 
 -- some reading of the group excludes the start, which none does to an id
-abbrev pub IsStartExcluded : List Reading → Start → Type 0
-IsStartExcluded g (name n) = IsExcluded g n
-IsStartExcluded g (id i) = ⊥
+abbrev pub IsSourceExcluded : List Reading → Source → Type 0
+IsSourceExcluded g (name n) = IsExcluded g n
+IsSourceExcluded g (id i) = ⊥
 
 -- the mappings have the same source and the same destination
 pub record IsSamePair (m other : Mapped) : Type 0 where
@@ -56,7 +56,7 @@ AreApart (m ∷ l) = AllByRecursion (λ x. ¬ (IsSamePair m x)) l × AreApart l
 -- excluded
 pub record IsKeptAt (g : List Reading) (l : List Mapped) (k : ℕ) (m : Mapped) : Type 0 where
   pub first : ¬ (HasPair (take k l) m)
-  pub included : ¬ (IsStartExcluded g m.source)
+  pub included : ¬ (IsSourceExcluded g m.source)
 
 -- kept has the mappings of the list that are kept, in order
 abbrev pub IsKept : List Reading → List Mapped → List Mapped → Type 0

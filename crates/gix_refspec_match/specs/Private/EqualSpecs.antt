@@ -8,7 +8,7 @@ use Rattle.gix_refspec_match.specs.declared.hits.ends.Ends.{Ends as DeclaredEnds
 use Rattle.gix_refspec_text.specs.Specs.Reading.{Reading}
 use Rattle.gix_refspec_text.specs.Specs.Grammar.{IsPositive}
 use Rattle.gix_refspec_text.specs.Matching.Match.{Ref}
-use Rattle.gix_refspec_match.specs.Matching.Mappings.{Mapped, HasPair, IsStartExcluded}
+use Rattle.gix_refspec_match.specs.Matching.Mappings.{Mapped, HasPair, IsSourceExcluded}
 use Rattle.gix_refspec_match.specs.Matching.Lists.{IsMadeFrom}
 use Rattle.gix_refspec_match.specs.Matching.Hits.{Ends, Hit, IsHit}
 use Rattle.gix_refspec_match.specs.Private.HitViews.{AreMade, HaveKinds, TakesIn, mapped_of_made, mapping_of}
@@ -42,7 +42,7 @@ ArePositiveKeys g bits keys = AllByRecursion (IsPositiveKey g bits) keys
 
 -- a mapping that may be left out after others: one of them has its pair, or readings of the group exclude it
 abbrev pub MayGo : List Reading → List Mapped → Mapped → Type 0
-MayGo g before m = HasPair before m ⊎ ¬ (¬ (IsStartExcluded g m.source))
+MayGo g before m = HasPair before m ⊎ ¬ (¬ (IsSourceExcluded g m.source))
 
 -- some of the mappings, which follow others: those that are left out may be
 abbrev pub Thins : List Reading → List Mapped → List Mapped → List Mapped → Type 0

@@ -3,10 +3,10 @@
 use Rattle.std.specs.Prelude.{[], ◌∷◌, ◌++◌, pos}
 use Rattle.std.specs.Hash as fed
 use Rattle.std.specs.Hash.{HashWrites}
-use Rattle.gix_refspec_match.specs.Matching.Mappings.{Start, name, id, Mapped}
+use Rattle.gix_refspec_match.specs.Matching.Mappings.{Source, name, id, Mapped}
 
 -- what hashing a source writes: its kind and then its bytes
-abbrev pub source_writes : Start → HashWrites
+abbrev pub source_writes : Source → HashWrites
 source_writes (name n) = fed.isize (pos 0) ++ (n ∷ [])
 source_writes (id i) = fed.isize (pos 1) ++ fed.slice fed.u8 i
 

@@ -11,7 +11,7 @@ use Rattle.gix_refspec_match.specs.declared.types.SourceRef.TheVariants as sourc
 use Rattle.gix_refspec_match.specs.declared.types.Mapping.{Mapping}
 use Rattle.gix_refspec_text.specs.Texts.ObjectId.{id_bytes, lower_of}
 use Rattle.gix_refspec_text.specs.Matching.Match.{Ref}
-use Rattle.gix_refspec_match.specs.Matching.Mappings.{Start, name, id, Mapped}
+use Rattle.gix_refspec_match.specs.Matching.Mappings.{Source, name, id, Mapped}
 use Rattle.bstr.specs.Utf8.{lossy_chars}
 
 -- the bytes of a name
@@ -20,7 +20,7 @@ name_bytes (name_ref.Borrowed n) = bstr_bytes n
 name_bytes (name_ref.Owned n) = bstring_bytes n
 
 -- what a mapping begins with
-abbrev pub start_of : SourceRef → Start
+abbrev pub start_of : SourceRef → Source
 start_of (source_ref.FullName n) = name (name_bytes n)
 start_of (source_ref.ObjectId i) = id (id_bytes i)
 

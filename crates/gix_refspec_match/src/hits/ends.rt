@@ -14,7 +14,6 @@ use bstr::BStr;
 use gix_refspec_text::RefSpecRef;
 use gix_refspec_text::oid::ObjectId;
 use gix_refspec_text::side::{SideKind, kind_of};
-use gix_refspec_text::spec::sign::is_negative;
 
 /// The direction of matching.
 #[derive(Clone, Copy)]
@@ -61,7 +60,7 @@ pub(crate) fn near_of<'spec>(
         (λ near. (ends : EndsOf)
         × HasEnds direction (reading_of spec.now) ends × HasKind ends.near (kind_of_side near)) }
 {
-    if is_negative(spec) || spec.source().is_none() {
+    if spec.is_negative() || spec.source().is_none() {
         return None;
     }
     match direction {
@@ -91,7 +90,7 @@ pub(crate) fn asked_of<'spec>(spec: &RefSpecRef<'spec>) -> Option<Asked<'spec>>
         (λ asked. AsksForId (reading_of spec.now) (id_bytes asked.id)
         × HasSideKind (reading_of spec.now).destination asked.destination) }
 {
-    if is_negative(spec) {
+    if spec.is_negative() {
         return None;
     }
     let Ok(id) = ObjectId::from_hex(spec.source()?.as_bytes()) else {

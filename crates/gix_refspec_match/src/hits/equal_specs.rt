@@ -9,7 +9,6 @@ ghost use Rattle.gix_refspec_match.specs.Private.Kept.{Rises};
 use crate::keep::repeats::{bits_for, bucket_of, key_of, place_in, raise};
 use bstr::BStr;
 use gix_refspec_text::RefSpecRef;
-use gix_refspec_text::spec::sign::is_negative;
 use std::alloc::{AllocError, Global};
 use std::hash::{FoldHasher, Hasher};
 
@@ -46,7 +45,7 @@ fn keys_in_order(alloc: Global, specs: &[RefSpecRef<'_>], bits: u32) -> Result<V
 {
     let mut keys = Vec::with_capacity(alloc, specs.len())?;
     for (place, spec) in specs.iter().enumerate() {
-        if !is_negative(spec) {
+        if !spec.is_negative() {
             keys.push(key_of(hash_of(spec), place, bits))?;
         }
     }

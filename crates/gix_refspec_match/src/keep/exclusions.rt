@@ -11,8 +11,7 @@ use crate::hits::matches::word_between;
 use crate::types::{Mapping, NameRef, SourceRef};
 use bstr::BStr;
 use gix_refspec_text::RefSpecRef;
-use gix_refspec_text::cut::split_at_first;
-use gix_refspec_text::spec::sign::is_negative;
+use gix_refspec_text::split::split_at_first;
 use std::alloc::{AllocError, Global};
 use std::collections::HashSet;
 
@@ -50,7 +49,7 @@ impl<'a> Exclusion<'a> {
             (λ exclusion. (n : List ℕ) → ExcludesName exclusion n ↔ IsExcludedBy n (reading_of spec.entry)) }
         ensures negative { OnSome result ((reading_of spec.entry).mode ≡ Negative) }
     {
-        if !is_negative(&spec) {
+        if !spec.is_negative() {
             return None;
         }
         let source = spec.source()?.as_bytes();

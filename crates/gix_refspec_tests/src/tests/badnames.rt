@@ -2,7 +2,7 @@
 
 use super::mapping::{TARGET, group_of, items_of};
 use bstr::BStr;
-use gix_refspec::match_group::names::{BadSide, NoRoom};
+use gix_refspec::match_group::ref_names::{InvalidSide, OutOfMemory};
 use gix_refspec::match_group::{Mapping, NameRef, SourceRef, match_lhs};
 use gix_refspec::oid::ObjectId;
 use gix_refspec::parsing::Operation;
@@ -23,7 +23,7 @@ fn shown(alloc: Global, mapping: &Mapping<'_, '_>) -> Result<String, Fail> {
 
 // The mappings that are kept, and then those that are left out with their side, each in a line.
 fn checked(alloc: Global, outcome: match_lhs::Outcome<'_, '_>) -> Result<String, Fail> {
-    let (left, bad) = outcome.without_bad_names(alloc)?;
+    let (left, bad) = outcome.without_invalid_names(alloc)?;
     let mut told = String::new(alloc);
     for mapping in &left.mappings {
         let line = shown(alloc, mapping)?;
@@ -139,7 +139,7 @@ fn keeps_names_of_refs_after_a_validation(rt: HostRuntime) -> Result<(), Fail> {
 #[test]
 fn compares_bad_sides_and_prints_the_refusal(rt: HostRuntime) -> Result<(), Fail> {
     let alloc = rt.alloc();
-    assert!(&rt; BadSide::Both == BadSide::Both && BadSide::Source != BadSide::Destination);
+    assert!(&rt; InvalidSide::Both == InvalidSide::Both && InvalidSide::Source != InvalidSide::Destination);
     let mut mappings = Vec::new(alloc);
     mappings.push(Mapping {
         item_index: None,
@@ -151,7 +151,7 @@ fn compares_bad_sides_and_prints_the_refusal(rt: HostRuntime) -> Result<(), Fail
         group: group_of(alloc, Operation::Fetch, "a")?,
         mappings,
     };
-    let refusal = NoRoom { outcome };
+    let refusal = OutOfMemory { outcome };
     assert_eq!(&rt; format!(in alloc; "{refusal}")?.as_str(), "out of memory");
     Ok(())
 }

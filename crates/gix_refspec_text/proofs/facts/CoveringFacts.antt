@@ -5,15 +5,15 @@ use Rattle.gix_refspec_text.specs.Specs.Reading.{Normal}
 use Rattle.gix_refspec_text.specs.Specs.Grammar.{pushed}
 use Rattle.gix_refspec_text.specs.Matching.Prefix.{IsPrefix, of_head, of_name, of_pattern}
 use Rattle.gix_refspec_text.specs.Laws.Covering.{IsCovering, by_prefix, by_candidates, HasCoveringSource}
-use Rattle.gix_refspec_text.proofs.lemmas.hits.MatchLemmas.{cut_once}
+use Rattle.gix_refspec_text.proofs.lemmas.hits.MatchLemmas.{split_once}
 use Rattle.gix_refspec_text.proofs.facts.ManualFacts.{Lacks-tested, other_length}
-use Rattle.gix_refspec_text.proofs.facts.FitFacts.{cut_at_end, no_dev, short, short_kind, other_byte, other_first, push_is_none}
+use Rattle.gix_refspec_text.proofs.facts.FitFacts.{split_at_end, no_dev, short, short_kind, other_byte, other_first, push_is_none}
 use Rattle.std.proofs.lemmas.Option.{same_Some}
 use Rattle.gix_refspec_text.proofs.lemmas.lists.LacksLemmas.{Lacks-here}
 
 -- the prefix of a pattern
 pub below_heads : IsPrefix (codes "refs/heads/*") (codes "refs/heads/")
-below_heads = of_pattern (codes "refs/heads/") [] (cut_at_end (codes "refs/heads/") refl) (record {
+below_heads = of_pattern (codes "refs/heads/") [] (split_at_end (codes "refs/heads/") refl) (record {
   below = record { after = codes "heads/"; here = refl };
   further = other_length _ _ (λ size. omega (arith, size));
   first = Lacks-tested bracket (codes "refs/heads/") refl;
@@ -43,7 +43,7 @@ not_covering = (no_head, no_star, no_refs)
     no_prefix : (p : List ℕ) → ¬ (IsPrefix (codes "refs/*") p)
     no_prefix p (of_head is_head same) = other_length _ _ (λ size. omega (arith, size)) is_head
     no_prefix p (of_name begins lacks same) = Lacks-here star (codes "refs/") [] lacks
-    no_prefix p (of_pattern before after cut tells same) = tells.further ((cut_once (codes "refs/*") before after (codes "refs/") [] cut (cut_at_end (codes "refs/") refl)).0)
+    no_prefix p (of_pattern before after split tells same) = tells.further ((split_once (codes "refs/*") before after (codes "refs/") [] split (split_at_end (codes "refs/") refl)).0)
 
     no_refs : ¬ (IsCovering (codes "refs/*"))
     no_refs (by_prefix p begins prefix) = no_prefix p prefix

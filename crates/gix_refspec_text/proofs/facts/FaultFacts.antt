@@ -8,7 +8,7 @@ use Rattle.std.proofs.lemmas.Bool.Decides.{Decides-eqb}
 use Rattle.std.proofs.lemmas.Slice.Eq.{starts_is, ends_is}
 use Rattle.std.proofs.lemmas.List.Splits.{slice_split_none, slice_split_at}
 use Rattle.gix_refspec_text.specs.declared.name.Error.TheVariants.{Empty, EmptyComponent, StartsWithDot, LockSuffix, EndsWithDot, RepeatedDot, ReflogPortion, Asterisk, InvalidByte}
-use Rattle.gix_refspec_text.specs.Texts.Words.{Lacks, Holds, BeginsWith, EndsWith}
+use Rattle.gix_refspec_text.specs.Texts.Words.{Lacks, ContainsText, BeginsWith, EndsWith}
 use Rattle.gix_refspec_text.specs.Texts.Name.{SomeComponent, HasFault, HasStar}
 use Rattle.gix_refspec_text.specs.Texts.Bytes.{slash}
 use Rattle.gix_refspec_text.proofs.lemmas.texts.ComponentLemmas.{AllByRecursion-parts}
@@ -38,7 +38,7 @@ holds_after w (c ∷ before) after (b ∷ x) here =
     or_true true = refl
     or_true false = refl
 
-pub holds_not : (w x : List ℕ) → holds w x ≡ false → ¬ (Holds w x)
+pub holds_not : (w x : List ℕ) → holds w x ≡ false → ¬ (ContainsText w x)
 holds_not w x none has = true≢false (sym (holds_after w has.before has.after x has.here) ∙ none)
 
 -- ---- components

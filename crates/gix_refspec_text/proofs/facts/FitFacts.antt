@@ -6,14 +6,14 @@ use Rattle.gix_refspec_text.specs.declared.oid.Kind.{Kind}
 use Rattle.gix_refspec_text.specs.declared.oid.Kind.TheVariants.{Sha1, Sha256}
 use Rattle.gix_refspec_text.specs.declared.parsing.Operation.TheVariants.{Fetch, Push}
 use Rattle.gix_refspec_text.specs.Texts.Words.{BeginsWith}
-use Rattle.gix_refspec_text.specs.Texts.Name.{IsCut}
+use Rattle.gix_refspec_text.specs.Texts.Name.{IsSplit}
 use Rattle.gix_refspec_text.specs.Texts.Bytes.{star}
 use Rattle.gix_refspec_text.specs.Texts.ObjectId.{IsIdText, digits_of}
 use Rattle.gix_refspec_text.specs.Specs.Reading.{Normal, Forced, Negative, Reading}
 use Rattle.gix_refspec_text.specs.Specs.Grammar.{fetched}
 use Rattle.gix_refspec_text.specs.Matching.Side.{pattern, full_name, object, partial, HasKind, Fits, Excludes, the_name, by_pattern, filled}
 use Rattle.gix_refspec_text.specs.Matching.Match.{Ref}
-use Rattle.gix_refspec_text.proofs.lemmas.hits.MatchLemmas.{cut_once, lacks_no_pattern}
+use Rattle.gix_refspec_text.proofs.lemmas.hits.MatchLemmas.{split_once, lacks_no_pattern}
 use Rattle.gix_refspec_text.proofs.facts.ManualFacts.{Lacks-tested, other_length, named}
 use Rattle.gix_refspec_text.proofs.facts.ObjectIdFacts.{empty_blob, IsIdText-empty_blob, lower_of-empty_blob}
 use Rattle.gix_refspec_text.proofs.lemmas.lists.LacksLemmas.{Lacks-here}
@@ -43,8 +43,8 @@ pub ends_apart : (word : List ℕ) → ¬ (Fits (codes "a") (codes "a") (codes "
 ends_apart word fits = let size : 1 ≡ suc (length (word ++ codes "a")) = ap length fits in omega (arith, size, length-append word (codes "a"))
 
 -- what is before the star of a pattern, and after it
-pub cut_at_end : (before : List ℕ) → list_any (λ c. c == star) before ≡ false → IsCut before [] (before ++ codes "*")
-cut_at_end before none = record { starred = refl; first = Lacks-tested star before none; last = tt }
+pub split_at_end : (before : List ℕ) → list_any (λ c. c == star) before ≡ false → IsSplit before [] (before ++ codes "*")
+split_at_end before none = record { starred = refl; first = Lacks-tested star before none; last = tt }
 
 -- a negative spec excludes the name that it is, and none that this is short for
 pub excludes_name : Excludes (codes "refs/heads/wip") (codes "refs/heads/wip") × ¬ (Excludes (codes "wip") (codes "refs/heads/wip"))
@@ -52,16 +52,16 @@ excludes_name = (the_name (Lacks-tested star (codes "refs/heads/wip") refl) refl
   where
     no_candidate : ¬ (Excludes (codes "wip") (codes "refs/heads/wip"))
     no_candidate (the_name lacks same) = other_length _ _ (λ length_same. omega (arith, length_same)) same
-    no_candidate (by_pattern before after word cut fits) = lacks_no_pattern (codes "wip") before after (Lacks-tested star (codes "wip") refl) cut
+    no_candidate (by_pattern before after word split fits) = lacks_no_pattern (codes "wip") before after (Lacks-tested star (codes "wip") refl) split
 
 -- a pattern excludes the names that it fits, and no other
 pub excludes_dev : Excludes (codes "refs/heads/dev-*") (codes "refs/heads/dev-a")
-excludes_dev = by_pattern (codes "refs/heads/dev-") [] (codes "a") (cut_at_end (codes "refs/heads/dev-") refl) refl
+excludes_dev = by_pattern (codes "refs/heads/dev-") [] (codes "a") (split_at_end (codes "refs/heads/dev-") refl) refl
 
 pub excludes_no_main : ¬ (Excludes (codes "refs/heads/dev-*") (codes "refs/heads/main"))
 excludes_no_main (the_name lacks same) = Lacks-here star (codes "refs/heads/dev-") [] lacks
-excludes_no_main (by_pattern before after word cut fits) =
-    let once = cut_once (codes "refs/heads/dev-*") before after (codes "refs/heads/dev-") [] cut (cut_at_end (codes "refs/heads/dev-") refl) in
+excludes_no_main (by_pattern before after word split fits) =
+    let once = split_once (codes "refs/heads/dev-*") before after (codes "refs/heads/dev-") [] split (split_at_end (codes "refs/heads/dev-") refl) in
     let here : codes "refs/heads/main" ≡ codes "refs/heads/dev-" ++ (word ++ after) = fits ∙ ap (λ (y : List ℕ). y ++ (word ++ after)) once.0 in
     other_byte 11 (codes "refs/heads/main") (codes "refs/heads/dev-" ++ (word ++ after)) (λ same. omega (arith, same)) here
 
@@ -82,11 +82,11 @@ tag_ref = named (codes "refs/tags/v1")
 abbrev pub main_ref : Ref
 main_ref = named (codes "refs/heads/main")
 
-pub heads_cut : IsCut (codes "refs/heads/") [] (codes "refs/heads/*")
-heads_cut = cut_at_end (codes "refs/heads/") refl
+pub heads_split : IsSplit (codes "refs/heads/") [] (codes "refs/heads/*")
+heads_split = split_at_end (codes "refs/heads/") refl
 
-pub origin_cut : IsCut (codes "refs/remotes/origin/") [] (codes "refs/remotes/origin/*")
-origin_cut = cut_at_end (codes "refs/remotes/origin/") refl
+pub origin_split : IsSplit (codes "refs/remotes/origin/") [] (codes "refs/remotes/origin/*")
+origin_split = split_at_end (codes "refs/remotes/origin/") refl
 
 -- a spec with a source alone, which is a partial name
 abbrev pub short : Reading

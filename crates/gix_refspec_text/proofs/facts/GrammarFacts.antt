@@ -15,7 +15,7 @@ use Rattle.gix_refspec_text.specs.Specs.Grammar.{IsUnsigned, IsSigned, with_colo
 use Rattle.gix_refspec_text.specs.declared.name.Error.TheVariants.{Asterisk, InvalidByte}
 use Rattle.gix_refspec_text.specs.Texts.Name.{is_refused_byte, HasFault, IsName, IsPattern}
 use Rattle.gix_refspec_text.proofs.lemmas.parsing.ReadOnceLemmas.{reads_once}
-use Rattle.gix_refspec_text.proofs.lemmas.texts.TextLemmas.{Lacks-Holds}
+use Rattle.gix_refspec_text.proofs.lemmas.texts.TextLemmas.{Lacks-ContainsText}
 use Rattle.gix_refspec_text.proofs.lemmas.parsing.SideLemmas.{HasStar-pattern}
 use Rattle.gix_refspec_text.proofs.facts.FitFacts.{other_byte}
 use Rattle.gix_refspec_text.proofs.lemmas.texts.TestedLemmas.{is_suspect, IsName-tested}
@@ -80,8 +80,8 @@ pub last_lacks_colon : LastLacksColon (codes "a:b") (Some (codes "c")) × LastLa
 last_lacks_colon = (Lacks-tested colon (codes "c") refl, Lacks-tested colon (codes "a") refl, Lacks-here colon (codes "a") (codes "b"), Lacks-here colon (codes "b") (codes "c"))
 
 -- so a text is cut at its last colon, and at no other
-pub cut_at_last_colon : AreParts Normal (codes "a:b") (Some (codes "c")) (codes "a:b:c") × ¬ (AreParts Normal (codes "a") (Some (codes "b:c")) (codes "a:b:c")) × ¬ (AreParts Normal (codes "a:b:c") None (codes "a:b:c"))
-cut_at_last_colon = (parts Normal (codes "a:b") (Some (codes "c")) refl refl, (λ of. last_lacks_colon.3 of.last), (λ of. Lacks-here colon (codes "a:b") (codes "c") of.last))
+pub split_at_last_colon : AreParts Normal (codes "a:b") (Some (codes "c")) (codes "a:b:c") × ¬ (AreParts Normal (codes "a") (Some (codes "b:c")) (codes "a:b:c")) × ¬ (AreParts Normal (codes "a:b:c") None (codes "a:b:c"))
+split_at_last_colon = (parts Normal (codes "a:b") (Some (codes "c")) refl refl, (λ of. last_lacks_colon.3 of.last), (λ of. Lacks-here colon (codes "a:b") (codes "c") of.last))
 
 -- `@` isn't short for `HEAD` in a longer word, nor is another byte alone, or nothing
 pub at_signs : (named_by (codes "@@") ≡ codes "@@") × (named_by (codes "a@") ≡ codes "a@") × (named_by (codes "a") ≡ codes "a") × (named_by [] ≡ [])
@@ -100,7 +100,7 @@ no_name : ¬ (IsName (codes "a b"))
 no_name name = name (InvalidByte 32) (refused_byte (codes "a") (codes "b") 32 refl)
 
 no_pattern : (x : List ℕ) → list_any (λ c. c == star) x ≡ false → ¬ (IsPattern x)
-no_pattern x none pattern = Lacks-Holds star x (Lacks-tested star x none) (HasStar-pattern x pattern)
+no_pattern x none pattern = Lacks-ContainsText star x (Lacks-tested star x none) (HasStar-pattern x pattern)
 
 no_name_with_star : (x : List ℕ) → IsPattern x → ¬ (IsName x)
 no_name_with_star x pattern name = name Asterisk (HasStar-pattern x pattern)

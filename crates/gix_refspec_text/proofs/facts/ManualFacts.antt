@@ -11,7 +11,7 @@ use Rattle.gix_refspec_text.specs.declared.parsing.Operation.{Operation}
 use Rattle.gix_refspec_text.specs.declared.parsing.Operation.TheVariants.{Push, Fetch}
 use Rattle.gix_refspec_text.specs.declared.name.PatternError.TheVariants.{Memory}
 use Rattle.gix_refspec_text.specs.Texts.Words.{Lacks}
-use Rattle.gix_refspec_text.specs.Texts.Name.{is_refused_byte, HasFault, HasSeveralStars, IsCut, ReplacesStar, IsPattern}
+use Rattle.gix_refspec_text.specs.Texts.Name.{is_refused_byte, HasFault, HasSeveralStars, IsSplit, ReplacesStar, IsPattern}
 use Rattle.gix_refspec_text.specs.Texts.PatternError.{IsPatternFault}
 use Rattle.gix_refspec_text.specs.Texts.Bytes.{slash, star, letter, plus, caret, colon}
 use Rattle.gix_refspec_text.specs.Specs.Reading.{Mode, Normal, Forced, Negative, Reading, HasSide, remote_of, local_of}
@@ -20,7 +20,7 @@ use Rattle.gix_refspec_text.specs.Specs.Meaning.{Meaning, push_all_matching, pus
 use Rattle.gix_refspec_text.specs.Specs.Refusal.{PatternUnsupported, PushToEmpty, NegativeWithDestination, ReferenceName, IsBadPattern, NeedsMemory, NoReasonBeforeSource, ReachesMemory, MayNeedMemory}
 use Rattle.gix_refspec_text.specs.Matching.Side.{pattern, full_name, object, partial, HasKind, candidates, filled}
 use Rattle.gix_refspec_text.specs.Matching.Match.{Ref, Matches, MatchesAs}
-use Rattle.gix_refspec_text.proofs.lemmas.texts.TextLemmas.{Lacks-Holds}
+use Rattle.gix_refspec_text.proofs.lemmas.texts.TextLemmas.{Lacks-ContainsText}
 use Rattle.gix_refspec_text.proofs.lemmas.texts.TestedLemmas.{is_suspect, IsName-tested}
 use Rattle.gix_refspec_text.proofs.lemmas.parsing.SideLemmas.{HasSeveralStars-replaced, HasStar-stars, HasStar-bad}
 use Rattle.gix_refspec_text.proofs.lemmas.parsing.PartsLemmas.{parts_once}
@@ -84,11 +84,11 @@ faults = (
 )
 
 -- texts that lack the star cut a text at its only one, which the letter may replace
-pub IsCut-tested : (before after : List ℕ) → list_any (λ c. c == star) before ≡ false → list_any (λ c. c == star) after ≡ false → IsCut before after (before ++ (star ∷ after))
-IsCut-tested before after first last = record { starred = refl; first = Lacks-tested star before first; last = Lacks-tested star after last }
+pub IsSplit-tested : (before after : List ℕ) → list_any (λ c. c == star) before ≡ false → list_any (λ c. c == star) after ≡ false → IsSplit before after (before ++ (star ∷ after))
+IsSplit-tested before after first last = record { starred = refl; first = Lacks-tested star before first; last = Lacks-tested star after last }
 
 pub ReplacesStar-tested : (before after : List ℕ) → list_any (λ c. c == star) before ≡ false → list_any (λ c. c == star) after ≡ false → ReplacesStar (before ++ (star ∷ after)) (before ++ (letter ∷ after))
-ReplacesStar-tested before after first last = record { before = before; after = after; cut = IsCut-tested before after first last; replaced = refl }
+ReplacesStar-tested before after first last = record { before = before; after = after; split = IsSplit-tested before after first last; replaced = refl }
 
 -- one star may be in a component of a pattern, but not two
 pub one_star : ReplacesStar (codes "foo/bar*/baz") (codes "foo/bara/baz") × ReplacesStar (codes "foo/bar*baz") (codes "foo/barabaz")
@@ -241,7 +241,7 @@ candidates_of_main = refl
 
 -- what is after the star of a pattern has no other star, nor what is before it
 pub two_stars_no_pattern : ¬ (HasKind (codes "a*b*") (pattern (codes "a") (codes "b*"))) × ¬ (HasKind (codes "a*b*") (pattern (codes "a*b") []))
-two_stars_no_pattern = (λ cut. Lacks-here star (codes "b") [] cut.last, λ cut. Lacks-here star (codes "a") (codes "b") cut.first)
+two_stars_no_pattern = (λ split. Lacks-here star (codes "b") [] split.last, λ split. Lacks-here star (codes "a") (codes "b") split.first)
 
 -- a pattern gets a word for its star, or keeps the star, between what is before and after it
 pub filled_patterns : (filled (pattern (codes "refs/x/") (codes "/y")) (Some (codes "main")) ≡ codes "refs/x/main/y") × (filled (pattern (codes "refs/x/") (codes "/y")) None ≡ codes "refs/x/*/y")
@@ -276,8 +276,8 @@ needs_no_memory (inr (starry, long)) = omega (arith, length-replicate 255 letter
 
 -- nor does one of 257 bytes without a star
 pub long_name_needs_none : ¬ (NeedsMemory (replicate 257 letter))
-long_name_needs_none (inl several) = Lacks-Holds star (replicate 257 letter) (Lacks-tested star (replicate 257 letter) refl) (HasStar-stars (replicate 257 letter) several)
-long_name_needs_none (inr (starry, long)) = Lacks-Holds star (replicate 257 letter) (Lacks-tested star (replicate 257 letter) refl) starry
+long_name_needs_none (inl several) = Lacks-ContainsText star (replicate 257 letter) (Lacks-tested star (replicate 257 letter) refl) (HasStar-stars (replicate 257 letter) several)
+long_name_needs_none (inr (starry, long)) = Lacks-ContainsText star (replicate 257 letter) (Lacks-tested star (replicate 257 letter) refl) starry
 
 -- the text is a source alone
 starred_parts : (n : ℕ) → list_any (λ c. c == colon) (starred n) ≡ false → AreParts Normal (starred n) None (starred n)
@@ -318,7 +318,7 @@ pub destination_needs_memory : ReachesMemory Push Normal (codes "a..b") (Some (c
 destination_needs_memory = (
   before_source Push Normal (codes "a..b") (Some (codes "c*d*")) (full _ _) (λ negative. absurd (normal_no_negative negative)) (λ same. full 99 (codes "*d*") (same_Some (codes "c*d*") [] same)),
   inr (
-    (λ e bad. Lacks-Holds star (codes "a..b") (Lacks-tested star (codes "a..b") refl) (HasStar-bad (codes "a..b") e bad.refusal)),
+    (λ e bad. Lacks-ContainsText star (codes "a..b") (Lacks-tested star (codes "a..b") refl) (HasStar-bad (codes "a..b") e bad.refusal)),
     inl (record { before = codes "c"; between = codes "d"; after = []; here = refl }),
   ),
 )
@@ -331,8 +331,8 @@ pub memory_after_reasons : ¬ (ReachesMemory Fetch Normal (codes "a..b") (Some (
 memory_after_reasons = (
   (λ reaches. elim reaches.1 [
     | inl needs ↦ elim needs [
-      | inl several ↦ Lacks-Holds star (codes "a..b") (Lacks-tested star (codes "a..b") refl) (HasStar-stars (codes "a..b") several)
-      | inr long ↦ Lacks-Holds star (codes "a..b") (Lacks-tested star (codes "a..b") refl) long.0
+      | inl several ↦ Lacks-ContainsText star (codes "a..b") (Lacks-tested star (codes "a..b") refl) (HasStar-stars (codes "a..b") several)
+      | inr long ↦ Lacks-ContainsText star (codes "a..b") (Lacks-tested star (codes "a..b") refl) long.0
     ]
     | inr after ↦ after.0 (ReferenceName RepeatedDot) (record { source = full _ _; refusal = inl (Lacks-tested star (codes "a..b") refl, record { before = codes "a"; after = codes "b"; here = refl }) })
   ]),

@@ -13,7 +13,7 @@ use Rattle.gix_refspec_text.specs.Texts.PatternError.{IsPatternFault}
 use Rattle.gix_refspec_text.specs.Specs.Refusal.{ReferenceName}
 use lib.Count.{count_trailing_zeros}
 use Rattle.gix_refspec_text.specs.Private.Scan.{with_letters, IsStarCount, IsCalm, lowest_of}
-use Rattle.gix_refspec_text.proofs.lemmas.texts.TextLemmas.{Lacks-Holds}
+use Rattle.gix_refspec_text.proofs.lemmas.texts.TextLemmas.{Lacks-ContainsText}
 use Rattle.gix_refspec_text.proofs.lemmas.texts.TestedLemmas.{is_suspect, IsName-tested}
 use Rattle.gix_refspec_text.proofs.lemmas.parsing.SideLemmas.{HasStar-pattern, HasSeveralStars-replaced, pattern_fine}
 use Rattle.gix_refspec_text.proofs.facts.FaultFacts.{after_a, just_empty, empty_components, dots_first, locks, dots_last, dots_side_by_side, reflog_portions, star_faults, byte_faults}
@@ -90,8 +90,8 @@ no_patterns = (
   bad_pattern (codes "a/.*") StartsWithDot stars_in_bad_names.0,
   bad_pattern (codes "*/") EmptyComponent stars_in_bad_names.1,
   bad_pattern (codes "a/*.lock") LockSuffix stars_in_bad_names.2,
-  (λ pattern. Lacks-Holds star (codes "refs/heads/main") (Lacks-tested star (codes "refs/heads/main") refl) (HasStar-pattern (codes "refs/heads/main") pattern)),
-  (λ pattern. Lacks-Holds star [] tt (HasStar-pattern [] pattern)),
+  (λ pattern. Lacks-ContainsText star (codes "refs/heads/main") (Lacks-tested star (codes "refs/heads/main") refl) (HasStar-pattern (codes "refs/heads/main") pattern)),
+  (λ pattern. Lacks-ContainsText star [] tt (HasStar-pattern [] pattern)),
   (λ pattern. HasSeveralStars-replaced (codes "foo/bar*/baz*") pattern.with_letter pattern.replaces two_stars),
 )
 

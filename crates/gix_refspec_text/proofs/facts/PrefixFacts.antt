@@ -3,19 +3,19 @@ use Rattle.std.proofs.Common.{◌≡◌, ◌≢◌, ℕ, List, [], ◌∷◌, �
 use Rattle.gix_refspec_text.specs.declared.oid.Kind.{Kind}
 use Rattle.gix_refspec_text.specs.declared.oid.Kind.TheVariants.{Sha1, Sha256}
 use Rattle.gix_refspec_text.specs.Texts.Words.{Lacks}
-use Rattle.gix_refspec_text.specs.Texts.Name.{IsCut}
+use Rattle.gix_refspec_text.specs.Texts.Name.{IsSplit}
 use Rattle.gix_refspec_text.specs.Texts.Bytes.{star, slash, bracket}
 use Rattle.gix_refspec_text.specs.Texts.ObjectId.{IsIdText, digits_of}
 use Rattle.gix_refspec_text.specs.Specs.Reading.{Normal, Negative}
 use Rattle.gix_refspec_text.specs.Specs.Grammar.{fetched, pushed}
 use Rattle.gix_refspec_text.specs.Matching.Side.{candidates}
-use Rattle.gix_refspec_text.specs.Matching.Prefix.{TellsPrefix, IsPrefix, of_head, of_name, of_pattern, HasNoPrefix, Expands, to_prefix, to_itself, below_refs, of_object, to_candidates, IsAsked, HasPrefix, IsExpansion}
-use Rattle.gix_refspec_text.proofs.lemmas.hits.MatchLemmas.{cut_once, outside_none}
+use Rattle.gix_refspec_text.specs.Matching.Prefix.{IsRefPrefix, IsPrefix, of_head, of_name, of_pattern, HasNoPrefix, Expands, to_prefix, to_itself, strip_refs, of_object, to_candidates, IsAsked, HasPrefix, IsExpansion}
+use Rattle.gix_refspec_text.proofs.lemmas.hits.MatchLemmas.{split_once, outside_none}
 use Rattle.gix_refspec_text.proofs.lemmas.prefixes.OnePrefixLemmas.{one_prefix}
 use Rattle.gix_refspec_text.proofs.facts.ManualFacts.{Lacks-tested, other_length, none_some}
 use Rattle.gix_refspec_text.proofs.facts.FaultFacts.{begins_not}
 use Rattle.gix_refspec_text.proofs.facts.ObjectIdFacts.{empty_blob, IsIdText-empty_blob}
-use Rattle.gix_refspec_text.proofs.facts.FitFacts.{cut_at_end, other_byte, every, no_dev, short_kind, blob_kind}
+use Rattle.gix_refspec_text.proofs.facts.FitFacts.{split_at_end, other_byte, every, no_dev, short_kind, blob_kind}
 use Rattle.gix_refspec_text.proofs.facts.CoveringFacts.{below_heads}
 use Rattle.std.proofs.lemmas.Option.{same_Some}
 use Rattle.gix_refspec_text.proofs.lemmas.lists.LacksLemmas.{Lacks-here}
@@ -33,11 +33,11 @@ pattern_prefix = of_pattern (codes "refs/a") (codes "/b") (record { starred = re
   last = Lacks-tested bracket (codes "/b") refl;
 }) refl
 
-pub bracket_cut : IsCut (codes "refs/a]") [] (codes "refs/a]*")
-bracket_cut = cut_at_end (codes "refs/a]") refl
+pub bracket_split : IsSplit (codes "refs/a]") [] (codes "refs/a]*")
+bracket_split = split_at_end (codes "refs/a]") refl
 
-pub suffix_cut : IsCut (codes "refs/a") (codes "/]") (codes "refs/a*/]")
-suffix_cut = record { starred = refl; first = Lacks-tested star (codes "refs/a") refl; last = Lacks-tested star (codes "/]") refl }
+pub suffix_split : IsSplit (codes "refs/a") (codes "/]") (codes "refs/a*/]")
+suffix_split = record { starred = refl; first = Lacks-tested star (codes "refs/a") refl; last = Lacks-tested star (codes "/]") refl }
 
 -- a star after `refs/`, or a bracket before or after the star, leaves none
 pub no_prefixes : HasNoPrefix (codes "refs/*") × HasNoPrefix (codes "refs/a]*") × HasNoPrefix (codes "refs/a*/]") × HasNoPrefix (codes "heads/*")
@@ -46,17 +46,17 @@ no_prefixes = (bare, before_star, after_star, outside_none (codes "heads/*") (ot
     bare : HasNoPrefix (codes "refs/*")
     bare p (of_head is_head same) = other_length _ _ (λ size. omega (arith, size)) is_head
     bare p (of_name begins lacks same) = Lacks-here star (codes "refs/") [] lacks
-    bare p (of_pattern before after cut tells same) = tells.further ((cut_once (codes "refs/*") before after (codes "refs/") [] cut (cut_at_end (codes "refs/") refl)).0)
+    bare p (of_pattern before after split tells same) = tells.further ((split_once (codes "refs/*") before after (codes "refs/") [] split (split_at_end (codes "refs/") refl)).0)
 
     before_star : HasNoPrefix (codes "refs/a]*")
     before_star p (of_head is_head same) = other_length _ _ (λ size. omega (arith, size)) is_head
     before_star p (of_name begins lacks same) = Lacks-here star (codes "refs/a]") [] lacks
-    before_star p (of_pattern before after cut tells same) = Lacks-here bracket (codes "refs/a") [] (subst (Lacks bracket) ((cut_once (codes "refs/a]*") before after (codes "refs/a]") [] cut bracket_cut).0) tells.first)
+    before_star p (of_pattern before after split tells same) = Lacks-here bracket (codes "refs/a") [] (subst (Lacks bracket) ((split_once (codes "refs/a]*") before after (codes "refs/a]") [] split bracket_split).0) tells.first)
 
     after_star : HasNoPrefix (codes "refs/a*/]")
     after_star p (of_head is_head same) = other_length _ _ (λ size. omega (arith, size)) is_head
     after_star p (of_name begins lacks same) = Lacks-here star (codes "refs/a") (codes "/]") lacks
-    after_star p (of_pattern before after cut tells same) = Lacks-here bracket (codes "/") [] (subst (Lacks bracket) ((cut_once (codes "refs/a*/]") before after (codes "refs/a") (codes "/]") cut suffix_cut).1) tells.last)
+    after_star p (of_pattern before after split tells same) = Lacks-here bracket (codes "/") [] (subst (Lacks bracket) ((split_once (codes "refs/a*/]") before after (codes "refs/a") (codes "/]") split suffix_split).1) tells.last)
 
 -- without a prefix, what has one name after `refs/` is expanded to itself, and with a further slash
 -- to nothing
@@ -64,7 +64,7 @@ pub expansions_below : Expands (codes "refs/*") (codes "refs/*" ∷ []) × Expan
 expansions_below = (
   to_itself (codes "*") no_prefixes.0 refl (Lacks-tested slash (codes "*") refl) refl,
   to_itself (codes "a]*") no_prefixes.1 refl (Lacks-tested slash (codes "a]*") refl) refl,
-  below_refs (codes "a*/]") no_prefixes.2 refl (record { before = codes "a*"; after = codes "]"; here = refl }) refl,
+  strip_refs (codes "a*/]") no_prefixes.2 refl (record { before = codes "a*"; after = codes "]"; here = refl }) refl,
 )
 
 -- an id is expanded to nothing, and `HEAD` to itself
@@ -87,7 +87,7 @@ other_prefixes = (
 )
 
 -- the text before a star is a prefix below `refs/`, but not `refs/` itself, nor with a bracket on either side
-pub tells : TellsPrefix (codes "refs/a") (codes "/b") × ((after : List ℕ) → ¬ (TellsPrefix (codes "refs/") after) × ¬ (TellsPrefix (codes "heads/") after) × ¬ (TellsPrefix (codes "refs/a]") after)) × ¬ (TellsPrefix (codes "refs/a") (codes "/]"))
+pub tells : IsRefPrefix (codes "refs/a") (codes "/b") × ((after : List ℕ) → ¬ (IsRefPrefix (codes "refs/") after) × ¬ (IsRefPrefix (codes "heads/") after) × ¬ (IsRefPrefix (codes "refs/a]") after)) × ¬ (IsRefPrefix (codes "refs/a") (codes "/]"))
 tells = (
   record { below = record { after = codes "a"; here = refl }; further = other_length _ _ (λ size. omega (arith, size)); first = Lacks-tested bracket (codes "refs/a") refl; last = Lacks-tested bracket (codes "/b") refl },
   (λ after. ((λ is. is.further refl), (λ is. begins_not (codes "refs/") (codes "heads/") refl is.below), λ is. Lacks-here bracket (codes "refs/a") [] is.first)),

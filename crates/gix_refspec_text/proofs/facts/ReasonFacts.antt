@@ -9,13 +9,13 @@ use Rattle.gix_refspec_text.specs.declared.name.Error.TheVariants.{LockSuffix, R
 use Rattle.gix_refspec_text.specs.declared.name.PatternError.TheVariants.{Name}
 use Rattle.gix_refspec_text.specs.declared.parsing.Operation.{Operation}
 use Rattle.gix_refspec_text.specs.declared.parsing.Operation.TheVariants.{Push, Fetch}
-use Rattle.gix_refspec_text.specs.Texts.Name.{IsName, HasStar, HasFault, HasOneStar, IsCut}
+use Rattle.gix_refspec_text.specs.Texts.Name.{IsName, HasStar, HasFault, HasOneStar, IsSplit}
 use Rattle.gix_refspec_text.specs.Texts.PatternError.{IsPatternFault}
 use Rattle.gix_refspec_text.specs.Texts.Bytes.{star, letter}
 use Rattle.gix_refspec_text.specs.Specs.Reading.{Normal, Forced, Negative}
 use Rattle.gix_refspec_text.specs.Specs.Grammar.{LooksLikeObjectHash}
 use Rattle.gix_refspec_text.specs.Specs.Refusal.{Refusal, Empty, NegativeWithDestination, PushToEmpty, PatternUnsupported, ReferenceName, PatternUnbalanced, NegativeEmpty, NegativeObjectHash, IsBadName, IsBadPattern, IsEmptyPush, HasNegativeDestination, PushesNowhere, IsBadSourceFor, HasBadSource, HasBadDestination, IsOneStarred, IsUnbalanced, ExcludesNothing, ExcludesObject, Never, OrElse, IsFirstReason}
-use Rattle.gix_refspec_text.proofs.lemmas.texts.TextLemmas.{Lacks-Holds, one_not_two}
+use Rattle.gix_refspec_text.proofs.lemmas.texts.TextLemmas.{Lacks-ContainsText, one_not_two}
 use Rattle.gix_refspec_text.proofs.lemmas.parsing.SideLemmas.{name_not_bad, replaced_once, HasStar-replaced, HasStar-bad}
 use Rattle.gix_refspec_text.proofs.facts.ManualFacts.{Lacks-tested, full, none_some, some_none}
 use Rattle.gix_refspec_text.proofs.facts.FaultFacts.{holds_not}
@@ -26,16 +26,16 @@ use Rattle.gix_refspec_text.proofs.lemmas.lists.LacksLemmas.{Lacks-here}
 -- ---- stars
 
 -- a text has one star, not none, and not two
-pub one_star_alone : HasOneStar (codes "a*b") × IsCut (codes "a") (codes "b") (codes "a*b") × ¬ (HasOneStar (codes "ab")) × ¬ (HasOneStar (codes "a*b*"))
+pub one_star_alone : HasOneStar (codes "a*b") × IsSplit (codes "a") (codes "b") (codes "a*b") × ¬ (HasOneStar (codes "ab")) × ¬ (HasOneStar (codes "a*b*"))
 one_star_alone = (
-  (codes "a", codes "b", cut),
-  cut,
-  (λ one. Lacks-Holds star (codes "ab") (Lacks-tested star (codes "ab") refl) (record { before = one.0; after = one.1; here = one.2.starred })),
+  (codes "a", codes "b", split),
+  split,
+  (λ one. Lacks-ContainsText star (codes "ab") (Lacks-tested star (codes "ab") refl) (record { before = one.0; after = one.1; here = one.2.starred })),
   λ one. one_not_two star one.0 one.1 (codes "a") (codes "b") [] one.2.first one.2.last (sym one.2.starred),
 )
   where
-    cut : IsCut (codes "a") (codes "b") (codes "a*b")
-    cut = record { starred = refl; first = Lacks-tested star (codes "a") refl; last = Lacks-tested star (codes "b") refl }
+    split : IsSplit (codes "a") (codes "b") (codes "a*b")
+    split = record { starred = refl; first = Lacks-tested star (codes "a") refl; last = Lacks-tested star (codes "b") refl }
 
 -- ---- names and patterns
 
@@ -45,7 +45,7 @@ bad_patterns = (
   (codes "ba.lock", replaces_star, locked),
   (λ bad. holds_not (codes "*") (codes "ba.lock") refl (subst (λ (y : List ℕ). HasFault y Asterisk) (replaced_once (codes "b*.lock") bad.0 (codes "ba.lock") bad.1 replaces_star) bad.2)),
   (λ bad. one_not_two star (codes "b") (codes ".lock") bad.0.before bad.0.between bad.0.after (Lacks-tested star (codes "b") refl) (Lacks-tested star (codes ".lock") refl) bad.0.here),
-  (λ bad. Lacks-Holds star (codes "b.lock") (Lacks-tested star (codes "b.lock") refl) (HasStar-replaced (codes "b.lock") bad.0 bad.1)),
+  (λ bad. Lacks-ContainsText star (codes "b.lock") (Lacks-tested star (codes "b.lock") refl) (HasStar-replaced (codes "b.lock") bad.0 bad.1)),
   λ none. none,
 )
 
@@ -103,7 +103,7 @@ two_stars_bad = (record { before = codes "a"; between = codes "b"; after = []; h
 -- `a..b` may be pushed to a destination, and not alone, nor fetched; `a*b*` may not be pushed either way
 pub sources : ((e : Refusal) → ¬ (IsBadSourceFor Push (Some (codes "c")) (codes "a..b") e)) × IsBadSourceFor Push None (codes "a..b") (ReferenceName RepeatedDot) × IsBadSourceFor Fetch (Some (codes "c")) (codes "a..b") (ReferenceName RepeatedDot) × IsBadSourceFor Push (Some (codes "c")) (codes "a*b*") (PatternUnsupported (codes "a*b*")) × IsBadSourceFor Push None (codes "a*b*") (PatternUnsupported (codes "a*b*"))
 sources = (
-  (λ e bad. Lacks-Holds star (codes "a..b") (Lacks-tested star (codes "a..b") refl) (HasStar-bad (codes "a..b") e bad)),
+  (λ e bad. Lacks-ContainsText star (codes "a..b") (Lacks-tested star (codes "a..b") refl) (HasStar-bad (codes "a..b") e bad)),
   inl dots_bad,
   inl dots_bad,
   two_stars_bad,
@@ -141,8 +141,8 @@ one_starred = (
     both (inr second) = Lacks-here star (codes "a") [] second.0
 
     none : ¬ (IsOneStarred (codes "a") (codes "b"))
-    none (inl first) = Lacks-Holds star (codes "a") (Lacks-tested star (codes "a") refl) first.0
-    none (inr second) = Lacks-Holds star (codes "b") (Lacks-tested star (codes "b") refl) second.1
+    none (inl first) = Lacks-ContainsText star (codes "a") (Lacks-tested star (codes "a") refl) first.0
+    none (inr second) = Lacks-ContainsText star (codes "b") (Lacks-tested star (codes "b") refl) second.1
 
 -- a push of `a*:b` is unbalanced, and so is one of `:b*`, but `a*:` goes nowhere; the same with a sign
 pub unbalanced_pushes : IsUnbalanced Push Normal (codes "a*") (Some (codes "b")) PatternUnbalanced × IsUnbalanced Push Forced [] (Some (codes "b*")) PatternUnbalanced × ((e : Refusal) → ¬ (IsUnbalanced Push Normal (codes "a*") (Some []) e)) × ¬ (IsUnbalanced Push Normal (codes "a*") (Some (codes "b")) NegativeEmpty)

@@ -39,7 +39,7 @@ partial_names = (
 
 -- a side with two stars has no kind
 pub no_kind : (kind : SideKind) → ¬ (HasKind (codes "a*b*") kind)
-no_kind (pattern before after) cut = one_not_two star before after (codes "a") (codes "b") [] cut.first cut.last (sym cut.starred)
+no_kind (pattern before after) split = one_not_two star before after (codes "a") (codes "b") [] split.first split.last (sym split.starred)
 no_kind (full_name n) kind = Lacks-here star (codes "a") (codes "b*") kind.1
 no_kind (object bytes) kind = Lacks-here star (codes "a") (codes "b*") kind.0
 no_kind (partial n) kind = Lacks-here star (codes "a") (codes "b*") kind.1
@@ -79,11 +79,11 @@ excludes_little = (two_stars, by_pattern (codes "a/") (codes "/c") (codes "b") (
   where
     two_stars : (n : List ℕ) → ¬ (Excludes (codes "a*b*") n)
     two_stars n (the_name lacks same) = Lacks-here star (codes "a") (codes "b*") lacks
-    two_stars n (by_pattern before after word cut fits) = no_kind (pattern before after) cut
+    two_stars n (by_pattern before after word split fits) = no_kind (pattern before after) split
 
     longer : ¬ (Excludes (codes "a/b") (codes "a/bc"))
     longer (the_name lacks same) = other_length _ _ (λ size. omega (arith, size)) same
-    longer (by_pattern before after word cut fits) = lacks_no_pattern (codes "a/b") before after (Lacks-tested star (codes "a/b") refl) cut
+    longer (by_pattern before after word split fits) = lacks_no_pattern (codes "a/b") before after (Lacks-tested star (codes "a/b") refl) split
 
 -- a word changes no side but a pattern, and a partial name gets `refs/` alone only before `tags/` and `remotes/`
 pub filled_with_words : (filled (full_name (codes "refs/x/a")) (Some (codes "w")) ≡ codes "refs/x/a")

@@ -9,7 +9,7 @@ use Rattle.gix_refspec_text.specs.Specs.Grammar.{fetched, pushed}
 use Rattle.gix_refspec_text.specs.Matching.Side.{SideKind, partial, object, HasKind, Fits}
 use Rattle.gix_refspec_text.specs.Laws.Sides.{SidesAgree, OneKind, OneId, OneOfEach}
 use Rattle.gix_refspec_text.proofs.facts.ManualFacts.{Lacks-tested}
-use Rattle.gix_refspec_text.proofs.facts.FitFacts.{blob_kind, every, heads_cut, origin_cut, short, short_kind}
+use Rattle.gix_refspec_text.proofs.facts.FitFacts.{blob_kind, every, heads_split, origin_split, short, short_kind}
 use Rattle.gix_refspec_text.proofs.facts.ObjectIdFacts.{empty_blob, IsIdText-empty_blob}
 use Rattle.gix_refspec_text.proofs.facts.ReasonFacts.{one_star_alone}
 use Rattle.std.proofs.lemmas.Option.{same_Some}
@@ -29,15 +29,15 @@ agree = (
 )
   where
     of_every : (x : List ℕ) → (Some (codes "refs/heads/*") ≡ Some x) ⊎ (Some (codes "refs/remotes/origin/*") ≡ Some x) → HasOneStar x
-    of_every x (inl is) = subst HasOneStar (same_Some (codes "refs/heads/*") x is) (codes "refs/heads/", [], heads_cut)
-    of_every x (inr is) = subst HasOneStar (same_Some (codes "refs/remotes/origin/*") x is) (codes "refs/remotes/origin/", [], origin_cut)
+    of_every x (inl is) = subst HasOneStar (same_Some (codes "refs/heads/*") x is) (codes "refs/heads/", [], heads_split)
+    of_every x (inr is) = subst HasOneStar (same_Some (codes "refs/remotes/origin/*") x is) (codes "refs/remotes/origin/", [], origin_split)
 
     of_short : (x : List ℕ) → (Some (codes "main") ≡ Some x) ⊎ (None ≡ Some x) → Lacks star x
     of_short x (inl is) = subst (Lacks star) (same_Some (codes "main") x is) short_kind.1
     of_short x (inr none) = absurd (cc)
 
 no_star_in_b : ¬ (HasOneStar (codes "b"))
-no_star_in_b (before, after, cut) = Lacks-here star before after (subst (Lacks star) cut.starred (Lacks-tested star (codes "b") refl))
+no_star_in_b (before, after, split) = Lacks-here star before after (subst (Lacks star) split.starred (Lacks-tested star (codes "b") refl))
 
 -- a star on one side alone, on either side, and several stars don't
 pub disagree : ¬ (SidesAgree (fetched Normal (codes "a*") (Some (codes "b")))) × ¬ (SidesAgree (pushed Normal (Some (codes "b")) (Some (codes "a*")))) × ¬ (SidesAgree (fetched Normal (codes "a*b*") None))

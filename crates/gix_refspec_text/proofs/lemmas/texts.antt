@@ -7,6 +7,5 @@ pub mod LetterLemmas
 pub mod CalmLemmas
 pub mod TestedLemmas
 pub mod TableLemmas
-pub mod DigitLemmas
 pub mod ObjectIdLemmas
 pub mod HeadLemmas

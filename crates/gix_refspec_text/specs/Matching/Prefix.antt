@@ -2,15 +2,15 @@
 -- `ls-refs`, and for a partial name those of gitrevisions(7). This project's own rule where a
 -- side has a star outside `refs/`, a star directly after `refs/`, or a star and a `]`.
 use Rattle.std.specs.Prelude.{◌≡◌, ◌≢◌, ◌⊎◌, ℕ, List, [], ◌∷◌, ◌++◌, Some, codes}
-use Rattle.gix_refspec_text.specs.Texts.Words.{Lacks, Holds, BeginsWith}
-use Rattle.gix_refspec_text.specs.Texts.Name.{IsCut}
+use Rattle.gix_refspec_text.specs.Texts.Words.{Lacks, ContainsText, BeginsWith}
+use Rattle.gix_refspec_text.specs.Texts.Name.{IsSplit}
 use Rattle.gix_refspec_text.specs.Texts.Bytes.{star, slash, head, bracket}
 use Rattle.gix_refspec_text.specs.Specs.Grammar.{IsPositive}
 use Rattle.gix_refspec_text.specs.Matching.Side.{IsId, candidates}
 use Rattle.gix_refspec_text.specs.Specs.Reading.{Reading, remote_of}
 
 -- a pattern with these two ends has a prefix: the first goes on after `refs/`, and neither has a `]`
-pub record TellsPrefix (before after : List ℕ) : Type 0 where
+pub record IsRefPrefix (before after : List ℕ) : Type 0 where
   pub below : BeginsWith (codes "refs/") before
   pub further : before ≢ codes "refs/"
   pub first : Lacks bracket before
@@ -23,7 +23,7 @@ pub data IsPrefix (x p : List ℕ) : Type 0 where
   -- so does what begins `refs/` and has no star
   of_name : BeginsWith (codes "refs/") x → Lacks star x → p ≡ x → IsPrefix x p
   -- a pattern below `refs/` has the text before its star
-  of_pattern : (before after : List ℕ) → IsCut before after x → TellsPrefix before after → p ≡ before → IsPrefix x p
+  of_pattern : (before after : List ℕ) → IsSplit before after x → IsRefPrefix before after → p ≡ before → IsPrefix x p
 
 -- the side has no prefix
 abbrev pub HasNoPrefix : List ℕ → Type 0
@@ -36,7 +36,7 @@ pub data Expands (x : List ℕ) (list : List (List ℕ)) : Type 0 where
   -- without one, itself where nothing but one name follows `refs/`
   to_itself : (rest : List ℕ) → HasNoPrefix x → x ≡ codes "refs/" ++ rest → Lacks slash rest → list ≡ x ∷ [] → Expands x list
   -- otherwise nothing below `refs/`
-  below_refs : (rest : List ℕ) → HasNoPrefix x → x ≡ codes "refs/" ++ rest → Holds (codes "/") rest → list ≡ [] → Expands x list
+  strip_refs : (rest : List ℕ) → HasNoPrefix x → x ≡ codes "refs/" ++ rest → ContainsText (codes "/") rest → list ≡ [] → Expands x list
   -- nothing for the id of an object
   of_object : HasNoPrefix x → ¬ (BeginsWith (codes "refs/") x) → IsId x → list ≡ [] → Expands x list
   -- otherwise its candidates, with the star in them if it has one

@@ -4,7 +4,7 @@
 use Rattle.std.specs.Prelude.{◌≡◌, ℕ, ◌||◌, if◌then◌else◌, List, [], ◌∷◌, ◌++◌, Option, None, Some, codes, nat_eq}
 use Rattle.std.specs.List.{starts_with}
 use Rattle.gix_refspec_text.specs.Texts.Words.{Lacks, BeginsWith}
-use Rattle.gix_refspec_text.specs.Texts.Name.{IsCut}
+use Rattle.gix_refspec_text.specs.Texts.Name.{IsSplit}
 use Rattle.gix_refspec_text.specs.Texts.Bytes.{star}
 use Rattle.gix_refspec_text.specs.Texts.ObjectId.{IsIdText, lower_of}
 
@@ -22,7 +22,7 @@ IsId x = (id : List ℕ) × IsIdText x id
 
 -- k is the kind of the side x. A side with several stars has none
 abbrev pub HasKind : List ℕ → SideKind → Type 0
-HasKind x (pattern before after) = IsCut before after x
+HasKind x (pattern before after) = IsSplit before after x
 HasKind x (full_name n) = (n ≡ x) × Lacks star x × BeginsWith (codes "refs/") x
 HasKind x (object id) = Lacks star x × ¬ (BeginsWith (codes "refs/") x) × IsIdText x id
 HasKind x (partial n) = (n ≡ x) × Lacks star x × ¬ (BeginsWith (codes "refs/") x) × ¬ (IsId x)
@@ -53,7 +53,7 @@ pub data Excludes (x n : List ℕ) : Type 0 where
   -- without a star that name alone, whatever the source looks like
   the_name : Lacks star x → n ≡ x → Excludes x n
   -- a pattern each name that it fits
-  by_pattern : (before after word : List ℕ) → IsCut before after x → Fits before after n word → Excludes x n
+  by_pattern : (before after word : List ℕ) → IsSplit before after x → Fits before after n word → Excludes x n
 
 -- the full name that a partial one becomes: with `refs/` before it where it begins `tags/` or `remotes/`,
 -- otherwise with `refs/heads/`

@@ -3,7 +3,7 @@ use Rattle.std.specs.Prelude.{ℕ, List}
 use Rattle.gix_refspec_text.specs.declared.side.Stars.{Stars}
 use Rattle.gix_refspec_text.specs.declared.side.SideKind.{SideKind as DeclaredKind}
 use Rattle.gix_refspec_text.specs.Texts.Words.{Lacks}
-use Rattle.gix_refspec_text.specs.Texts.Name.{IsCut, HasSeveralStars}
+use Rattle.gix_refspec_text.specs.Texts.Name.{IsSplit, HasSeveralStars}
 use Rattle.gix_refspec_text.specs.Texts.Bytes.{star}
 use Rattle.gix_refspec_text.specs.Texts.ObjectId.{id_bytes}
 use Rattle.gix_refspec_text.specs.Matching.Side.{SideKind, pattern, full_name, object, partial}
@@ -13,7 +13,7 @@ use Rattle.gix_refspec_text.specs.declared.side.SideKind.TheVariants as declared
 -- how many stars x has, and where the only one cuts it
 abbrev pub AreStarsOf : List ℕ → Stars → Type 0
 AreStarsOf x stars.No = Lacks star x
-AreStarsOf x (stars.One before after) = IsCut before.now after.now x
+AreStarsOf x (stars.One before after) = IsSplit before.now after.now x
 AreStarsOf x stars.Several = HasSeveralStars x
 
 -- the kind that the private type shows

@@ -6,7 +6,7 @@ use Rattle.std.specs.List.{list_any}
 use Rattle.gix_refspec_text.specs.declared.name.Error.{Error}
 use Rattle.gix_refspec_text.specs.declared.name.Error.TheVariants.{Empty, EmptyComponent, StartsWithDot, LockSuffix, EndsWithDot, RepeatedDot, ReflogPortion, Asterisk, InvalidByte}
 use Rattle.gix_refspec_text.specs.Texts.Bytes.{slash, star, letter}
-use Rattle.gix_refspec_text.specs.Texts.Words.{Lacks, Holds, BeginsWith, EndsWith, ArePartsAt}
+use Rattle.gix_refspec_text.specs.Texts.Words.{Lacks, ContainsText, BeginsWith, EndsWith, ArePartsAt}
 
 -- a control character, or one of these seven, the space among them
 abbrev pub is_refused_byte : ℕ → Bool
@@ -22,7 +22,7 @@ pub record SomeComponent (P : List ℕ → Type 0) (x : List ℕ) : Type 0 where
 
 -- a star is in x
 abbrev pub HasStar : List ℕ → Type 0
-HasStar x = Holds (codes "*") x
+HasStar x = ContainsText (codes "*") x
 
 -- x has the fault e
 abbrev pub HasFault : List ℕ → Error → Type 0
@@ -31,10 +31,10 @@ HasFault x EmptyComponent = (x ≢ []) × SomeComponent (λ w. w ≡ []) x
 HasFault x StartsWithDot = SomeComponent (BeginsWith (codes ".")) x
 HasFault x LockSuffix = SomeComponent (EndsWith (codes ".lock")) x
 HasFault x EndsWithDot = EndsWith (codes ".") x
-HasFault x RepeatedDot = Holds (codes "..") x
-HasFault x ReflogPortion = Holds (codes "@{") x
+HasFault x RepeatedDot = ContainsText (codes "..") x
+HasFault x ReflogPortion = ContainsText (codes "@{") x
 HasFault x Asterisk = HasStar x
-HasFault x (InvalidByte b) = Holds (b ∷ []) x × IsTrue (is_refused_byte b)
+HasFault x (InvalidByte b) = ContainsText (b ∷ []) x × IsTrue (is_refused_byte b)
 
 -- x is a name: no fault holds of it
 abbrev pub IsName : List ℕ → Type 0
@@ -48,20 +48,20 @@ pub record HasSeveralStars (x : List ℕ) : Type 0 where
   pub here : x ≡ before ++ (star ∷ (between ++ (star ∷ after)))
 
 -- x has one star, between these two texts
-pub record IsCut (before after x : List ℕ) : Type 0 where
+pub record IsSplit (before after x : List ℕ) : Type 0 where
   pub starred : x ≡ before ++ (star ∷ after)
   pub first : Lacks star before
   pub last : Lacks star after
 
 -- x has exactly one star
 abbrev pub HasOneStar : List ℕ → Type 0
-HasOneStar x = (before : List ℕ) × (after : List ℕ) × IsCut before after x
+HasOneStar x = (before : List ℕ) × (after : List ℕ) × IsSplit before after x
 
 -- x has one star, and y is x with the letter in its place
 pub record ReplacesStar (x y : List ℕ) : Type 0 where
   pub before : List ℕ
   pub after : List ℕ
-  pub cut : IsCut before after x
+  pub split : IsSplit before after x
   pub replaced : y ≡ before ++ (letter ∷ after)
 
 -- x is a pattern: it has one star, and with the letter in its place it is a name. So no pattern ends

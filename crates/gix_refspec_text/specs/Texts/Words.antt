@@ -7,7 +7,7 @@ abbrev pub Lacks : ℕ → List ℕ → Type 0
 Lacks b x = AllByRecursion (λ c. c ≢ b) x
 
 -- the word w is in x
-pub record Holds (w x : List ℕ) : Type 0 where
+pub record ContainsText (w x : List ℕ) : Type 0 where
   pub before : List ℕ
   pub after : List ℕ
   pub here : x ≡ before ++ (w ++ after)

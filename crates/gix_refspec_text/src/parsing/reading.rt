@@ -10,7 +10,7 @@ ghost use Rattle.gix_refspec_text.specs.Private.Scan.{with_letters};
 ghost use Rattle.gix_refspec_text.specs.Private.Sides.{MemoryOr, IsLook, HasShape, HasCheckedShape, IsBadSide, HasParts, destination_of, ArePositive, AreSidesOf, IsReasonAgainst, named_or_head as named_or_head_of, side_of as side_bytes};
 ghost use Rattle.gix_refspec_text.specs.Views.Spec.{reading_of};
 
-use crate::cut::split_at_last;
+use crate::split::split_at_last;
 use crate::name;
 use crate::name::{Stop, starred_name};
 use crate::oid::Kind;
@@ -90,7 +90,7 @@ impl<'a> Parts<'a> {
         ensures parts { HasParts text.now result }
     {
         let (mode, rest) = take_sign(text);
-        let (source, destination) = cut_at_last_colon(rest);
+        let (source, destination) = split_at_last_colon(rest);
         Parts {
             operation,
             mode,
@@ -112,7 +112,7 @@ fn take_sign(text: &[u8]) -> (Mode, &[u8])
 }
 
 // The source and, where there is a colon, the destination after the last one.
-fn cut_at_last_colon(rest: &[u8]) -> (&[u8], Option<&[u8]>)
+fn split_at_last_colon(rest: &[u8]) -> (&[u8], Option<&[u8]>)
     ensures whole { rest.now ≡ with_colon result.0.now (option_map (λ d. d.now) result.1) }
     ensures last { LastLacksColon result.0.now (option_map (λ d. d.now) result.1) }
 {

@@ -5,13 +5,13 @@ ghost use Rattle.bstr.specs.BStr.{bstr_bytes};
 ghost use Rattle.bstr.specs.Owned.{bstring_bytes};
 ghost use Rattle.gix_refspec_text.specs.Texts.Name.{HasOneStar, HasSeveralStars};
 ghost use Rattle.gix_refspec_text.specs.Texts.Bytes.{head};
-ghost use Rattle.gix_refspec_text.specs.Matching.Prefix.{TellsPrefix, HasNoPrefix, IsPrefix, Expands, HasPrefix, IsExpansion, AppendsExpansion, IsAsked};
+ghost use Rattle.gix_refspec_text.specs.Matching.Prefix.{IsRefPrefix, HasNoPrefix, IsPrefix, Expands, HasPrefix, IsExpansion, AppendsExpansion, IsAsked};
 ghost use Rattle.gix_refspec_text.specs.Laws.Covering.{IsCovering, HasCoveringSource};
 ghost use Rattle.gix_refspec_text.specs.Views.Spec.{reading_of};
 
-use crate::cut::holds;
+use crate::split::contains;
 use crate::parsing::Operation;
-use crate::side::{SideKind, below_refs, candidates, kind_of};
+use crate::side::{SideKind, strip_refs, candidates, kind_of};
 use crate::spec::RefSpecRef;
 use crate::types::Mode;
 use bstr::{BStr, BString};
@@ -95,7 +95,7 @@ fn prefix_of(side: &[u8]) -> Option<&[u8]>
     ensures { MatchOption result (HasNoPrefix side.now) (λ p. IsPrefix side.now p.now) }
 {
     match kind_of(side) {
-        SideKind::Pattern { before, after } => tells_prefix(before, after).then_some(before),
+        SideKind::Pattern { before, after } => is_ref_prefix(before, after).then_some(before),
         SideKind::FullName(name) => Some(name),
         SideKind::Partial(name) => is_head(name).then_some(name),
         SideKind::Object(_) => None,
@@ -111,12 +111,12 @@ pub fn is_head(side: &[u8]) -> bool
 
 /// Whether the text before the star of a pattern is a prefix to ask for: it begins `refs/`, more follows,
 /// and there is no `]` before the star or after it.
-pub fn tells_prefix(before: &[u8], after: &[u8]) -> bool
-    ensures { IsTrue result ↔ TellsPrefix before.now after.now }
+pub fn is_ref_prefix(before: &[u8], after: &[u8]) -> bool
+    ensures { IsTrue result ↔ IsRefPrefix before.now after.now }
 {
-    match below_refs(before) {
+    match strip_refs(before) {
         None | Some([]) => false,
-        Some(_) => !holds(before, b']') && !holds(after, b']'),
+        Some(_) => !contains(before, b']') && !contains(after, b']'),
     }
 }
 
@@ -126,7 +126,7 @@ fn is_covering(source: &[u8]) -> bool
     ensures { IsTrue result ↔ IsCovering source.now }
 {
     match kind_of(source) {
-        SideKind::Pattern { before, after } => tells_prefix(before, after),
+        SideKind::Pattern { before, after } => is_ref_prefix(before, after),
         SideKind::FullName(_) | SideKind::Object(_) => true,
         SideKind::Partial(name) => !is_head(name),
     }
@@ -139,7 +139,7 @@ fn expansions_of(alloc: Global, side: &[u8]) -> Result<Vec<BString>, AllocError>
     ensures memory { OnErr result (¬ (Expands side.now [])) }
 {
     match kind_of(side) {
-        SideKind::Pattern { before, after } if tells_prefix(before, after) => {
+        SideKind::Pattern { before, after } if is_ref_prefix(before, after) => {
             one_entry(alloc, before)
         }
         SideKind::Pattern { .. } => pattern_expansions(alloc, side),
@@ -156,8 +156,8 @@ fn pattern_expansions(alloc: Global, side: &[u8]) -> Result<Vec<BString>, AllocE
     ensures ok { IfOk result (λ list. Expands side.now (map bstring_bytes list.items)) }
     ensures memory { OnErr result (¬ (Expands side.now [])) }
 {
-    match below_refs(side) {
-        Some(rest) if holds(rest, b'/') => Ok(Vec::new(alloc)),
+    match strip_refs(side) {
+        Some(rest) if contains(rest, b'/') => Ok(Vec::new(alloc)),
         Some(_) => one_entry(alloc, side),
         None => candidates(alloc, side),
     }

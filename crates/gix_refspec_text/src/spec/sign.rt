@@ -8,11 +8,13 @@ ghost use Rattle.gix_refspec_text.specs.Views.Spec.{reading_of};
 use crate::spec::RefSpecRef;
 use crate::types::Mode;
 
-/// Whether a spec is negative: its text begins with `^`, and it leaves refs out.
-pub fn is_negative(spec: &RefSpecRef<'_>) -> bool
-    ensures { MatchBool result
-        ((reading_of spec.now).mode ≡ Negative)
-        (IsPositive (reading_of spec.now).mode) }
-{
-    spec.mode == Mode::Negative
+impl RefSpecRef<'_> {
+    /// Whether the spec is negative: its text begins with `^`, and it excludes refs.
+    pub fn is_negative(&self) -> bool
+        ensures { MatchBool result
+            ((reading_of self.now).mode ≡ Negative)
+            (IsPositive (reading_of self.now).mode) }
+    {
+        self.mode == Mode::Negative
+    }
 }

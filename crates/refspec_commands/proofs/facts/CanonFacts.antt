@@ -69,16 +69,16 @@ module _ (accepted : Accepted Fetch mode.Normal (Some (codes "main")) None) wher
     λ are. omega (arith, ap length are.4),
   )
 
-  pub told : AddsCanonical form.Lines (bad ∷ good accepted ∷ []) (codes "a\n") (codes "a\nmain\n")
+  pub reported : AddsCanonical form.Lines (bad ∷ good accepted ∷ []) (codes "a\n") (codes "a\nmain\n")
       × AddsCanonical form.Zeros (good accepted ∷ bad ∷ []) [] (codes "main" ++ 0 ∷ [])
-  told = (
+  reported = (
     (codes "main" ∷ [], canonical_of.0, (codes "main\n", (codes "main", [], inl refl, refl, refl), refl)),
     (codes "main" ∷ [], (codes "main", [], refl, refl, refl), refl),
   )
 
-  pub not_told : ¬ (AddsCanonical form.Zeros (good accepted ∷ []) [] [])
+  pub not_reported : ¬ (AddsCanonical form.Zeros (good accepted ∷ []) [] [])
       × ¬ (AddsCanonical form.Zeros (bad ∷ []) [] (0 ∷ []))
-  not_told = (lost, λ adds. omega (arith, ap length (adds.2 ∙ ap (flat_map zero_ended) adds.1)))
+  not_reported = (lost, λ adds. omega (arith, ap length (adds.2 ∙ ap (flat_map zero_ended) adds.1)))
     where
       lost : ¬ (AddsCanonical form.Zeros (good accepted ∷ []) [] [])
       lost (names, (name, rest, prints, none, same), adds) =

@@ -5,7 +5,7 @@ use Rattle.gix_refspec.specs.Matching.Mappings.{name}
 use Rattle.gix_refspec.specs.Matching.Validation.{Conflict}
 use Rattle.gix_refspec_text.proofs.facts.FitFacts.{other_byte}
 use Rattle.refspec_commands.specs.declared.call.Form.TheVariants as form
-use Rattle.refspec_commands.specs.Conflicts.{AddsConflicts, AddsEachConflict, AreClaims, AreToldConflicts, IsClaim, IsToldConflict, PutsClaim, PutsClaims, PutsConflict, few, more_line, told_count}
+use Rattle.refspec_commands.specs.Conflicts.{AddsConflicts, AddsEachConflict, AreClaims, AreReportedConflicts, IsClaim, IsReportedConflict, WritesClaim, WritesClaims, WritesConflict, few, more_line, reported_count}
 use Rattle.refspec_commands.specs.Shown.{in_quotes}
 
 -- ---- claims
@@ -37,7 +37,7 @@ tags_claim = record {
 -- a source and its spec, each quoted where it has to be
 pub claims : IsClaim (codes "refs/heads/a") heads_text (codes "    refs/heads/a by refs/heads/*:refs/x/*\n")
     × IsClaim (codes "a\tb") heads_text (codes "    \"a\\tb\" by refs/heads/*:refs/x/*\n")
-    × PutsClaim (codes "refs/tags/a") tags_text (codes "x\n") (codes "x\n    refs/tags/a by refs/tags/*:refs/x/*\n")
+    × WritesClaim (codes "refs/tags/a") tags_text (codes "x\n") (codes "x\n    refs/tags/a by refs/tags/*:refs/x/*\n")
 claims = (
   heads_claim,
   record { first = codes "\"a\\tb\""; second = heads_text; is_first = inr refl; is_second = inl refl; is = refl },
@@ -120,16 +120,16 @@ not_each = (
   λ are. omega (arith, ap length (are.4 ∙ ap (λ (l : List ℕ). l ++ are.1) are.2.is)),
 )
 
-pub claims_put : PutsClaims (name (codes "refs/tags/a") ∷ []) (tags_text ∷ []) (codes "x\n")
+pub claims_write : WritesClaims (name (codes "refs/tags/a") ∷ []) (tags_text ∷ []) (codes "x\n")
     (codes "x\n    refs/tags/a by refs/tags/*:refs/x/*\n")
-    × ¬ (PutsClaims [] [] (codes "x\n") [])
-claims_put = (
+    × ¬ (WritesClaims [] [] (codes "x\n") [])
+claims_write = (
   (
     codes "    refs/tags/a by refs/tags/*:refs/x/*\n",
     (codes "    refs/tags/a by refs/tags/*:refs/x/*\n", [], tags_claim, refl, refl),
     refl,
   ),
-  λ puts. omega (arith, ap length puts.2),
+  λ writes. omega (arith, ap length writes.2),
 )
 
 -- ---- conflicts
@@ -147,12 +147,12 @@ head_line = codes "conflict: refs/x/a would be written from several refs, so not
 abbrev advice : List ℕ
 advice = codes "    Give one of these specs another destination, or leave a source out by a spec such as `^refs/heads/x`.\n"
 
-abbrev pub told_lines : List ℕ
-told_lines = head_line ++
+abbrev pub reported_lines : List ℕ
+reported_lines = head_line ++
     (codes "    refs/heads/a by refs/heads/*:refs/x/*\n    refs/tags/a by refs/tags/*:refs/x/*\n" ++ advice)
 
-pub told : IsToldConflict conflict told_lines
-told = record {
+pub reported : IsReportedConflict conflict reported_lines
+reported = record {
   shown = codes "refs/x/a";
   claims = codes "    refs/heads/a by refs/heads/*:refs/x/*\n    refs/tags/a by refs/tags/*:refs/x/*\n";
   advice = advice;
@@ -162,12 +162,12 @@ told = record {
 }
 
 -- neither another destination is told, nor nothing
-pub not_told : ¬ (IsToldConflict conflict
+pub not_reported : ¬ (IsReportedConflict conflict
     (codes "conflict: refs/x/b would be written from several refs, so nothing is fetched:\n" ++ advice))
-    × ¬ (IsToldConflict conflict [])
-not_told = (other, λ is. omega (arith, ap length is.is))
+    × ¬ (IsReportedConflict conflict [])
+not_reported = (other, λ is. omega (arith, ap length is.is))
   where
-    other : ¬ (IsToldConflict conflict
+    other : ¬ (IsReportedConflict conflict
         (codes "conflict: refs/x/b would be written from several refs, so nothing is fetched:\n" ++ advice))
     other is =
         let after = codes " would be written from several refs, so nothing is fetched:\n" ++ (is.claims ++ is.advice) in
@@ -185,7 +185,7 @@ not_told = (other, λ is. omega (arith, ap length is.is))
         ]
 
 -- nor is one told without its sources
-pub unclaimed : ¬ (IsToldConflict conflict (head_line ++ advice))
+pub unclaimed : ¬ (IsReportedConflict conflict (head_line ++ advice))
 unclaimed is =
     let after = codes " would be written from several refs, so nothing is fetched:\n" ++ (is.claims ++ is.advice) in
     elim is.destination [
@@ -199,41 +199,41 @@ unclaimed is =
     sources : (claims : List ℕ) → AreClaims 0 conflict.sources conflict.texts claims
         → ¬ (head_line ++ advice ≡ head_line ++ (claims ++ is.advice))
     sources claims (line, rest, claim, more, all) same =
-        let told = append_cancel_left head_line advice (claims ++ is.advice) same
+        let reported = append_cancel_left head_line advice (claims ++ is.advice) same
         ∙ ap (λ (l : List ℕ). l ++ is.advice) all in
         elim (one_of_four (codes "refs/heads/a") heads_text line claim) [
           | inl raw ↦ elim raw [
             | inl same ↦ omega (
               arith,
-              ap (λ (l : List ℕ). get_or l 4 0) (told ∙ ap (λ (l : List ℕ). (l ++ rest) ++ is.advice) same),
+              ap (λ (l : List ℕ). get_or l 4 0) (reported ∙ ap (λ (l : List ℕ). (l ++ rest) ++ is.advice) same),
             )
             | inr same ↦ omega (
               arith,
-              ap (λ (l : List ℕ). get_or l 4 0) (told ∙ ap (λ (l : List ℕ). (l ++ rest) ++ is.advice) same),
+              ap (λ (l : List ℕ). get_or l 4 0) (reported ∙ ap (λ (l : List ℕ). (l ++ rest) ++ is.advice) same),
             )
           ]
           | inr quoted ↦ elim quoted [
             | inl same ↦ omega (
               arith,
-              ap (λ (l : List ℕ). get_or l 4 0) (told ∙ ap (λ (l : List ℕ). (l ++ rest) ++ is.advice) same),
+              ap (λ (l : List ℕ). get_or l 4 0) (reported ∙ ap (λ (l : List ℕ). (l ++ rest) ++ is.advice) same),
             )
             | inr same ↦ omega (
               arith,
-              ap (λ (l : List ℕ). get_or l 4 0) (told ∙ ap (λ (l : List ℕ). (l ++ rest) ++ is.advice) same),
+              ap (λ (l : List ℕ). get_or l 4 0) (reported ∙ ap (λ (l : List ℕ). (l ++ rest) ++ is.advice) same),
             )
           ]
         ]
 
 -- each conflict is told, in lines as beside records, and where there is none nothing is
-pub all_told : AreToldConflicts (conflict ∷ conflict ∷ []) (told_lines ++ told_lines)
-    × PutsConflict conflict (codes "x\n") (codes "x\n" ++ told_lines)
-    × AddsEachConflict form.Lines (conflict ∷ []) (codes "x\n") (codes "x\n" ++ told_lines)
-    × AddsEachConflict form.Zeros (conflict ∷ []) [] told_lines × AddsEachConflict form.Lines [] (codes "x\n") (codes "x\n")
-all_told = (
-  (told_lines, told_lines, told, (told_lines, [], told, refl, refl), refl),
-  (told_lines, told, refl),
-  (told_lines, (told_lines, [], told, refl, refl), refl),
-  (told_lines, (told_lines, [], told, refl, refl), refl),
+pub all_reported : AreReportedConflicts (conflict ∷ conflict ∷ []) (reported_lines ++ reported_lines)
+    × WritesConflict conflict (codes "x\n") (codes "x\n" ++ reported_lines)
+    × AddsEachConflict form.Lines (conflict ∷ []) (codes "x\n") (codes "x\n" ++ reported_lines)
+    × AddsEachConflict form.Zeros (conflict ∷ []) [] reported_lines × AddsEachConflict form.Lines [] (codes "x\n") (codes "x\n")
+all_reported = (
+  (reported_lines, reported_lines, reported, (reported_lines, [], reported, refl, refl), refl),
+  (reported_lines, reported, refl),
+  (reported_lines, (reported_lines, [], reported, refl, refl), refl),
+  (reported_lines, (reported_lines, [], reported, refl, refl), refl),
   ([], refl, refl),
 )
 
@@ -252,8 +252,8 @@ none_lost = (
 -- ---- the first ones
 
 -- twenty are told, and all if that is asked for, or in JSON
-pub counts : (few false 20 ≡ 20) × (few false 21 ≡ 20) × (few true 21 ≡ 21) × (told_count form.Lines false 21 ≡ 20)
-    × (told_count form.Zeros false 21 ≡ 20) × (told_count form.Json false 21 ≡ 21)
+pub counts : (few false 20 ≡ 20) × (few false 21 ≡ 20) × (few true 21 ≡ 21) × (reported_count form.Lines false 21 ≡ 20)
+    × (reported_count form.Zeros false 21 ≡ 20) × (reported_count form.Json false 21 ≡ 21)
 counts = (refl, refl, refl, refl, refl, refl)
 
 -- how many more there are, and nothing where there are none
@@ -262,14 +262,14 @@ pub more : (more_line (codes "conflict: ") 0 ≡ [])
 more = (refl, refl)
 
 -- a conflict alone is told, with no line behind it
-pub told_alone : AddsConflicts false form.Lines (conflict ∷ []) (codes "x\n") (codes "x\n" ++ told_lines)
+pub reported_alone : AddsConflicts false form.Lines (conflict ∷ []) (codes "x\n") (codes "x\n" ++ reported_lines)
     × ¬ (AddsConflicts false form.Lines (conflict ∷ []) (codes "x\n") (codes "x\n"))
     × ¬ (AddsConflicts true form.Zeros (conflict ∷ []) (codes "x\n") (codes "x\n"))
-told_alone = (
+reported_alone = (
   (
-    told_lines,
-    (told_lines, [], told, refl, sym (append-nil told_lines)),
-    ap (λ (l : List ℕ). codes "x\n" ++ l) (sym (append-nil told_lines)),
+    reported_lines,
+    (reported_lines, [], reported, refl, sym (append-nil reported_lines)),
+    ap (λ (l : List ℕ). codes "x\n" ++ l) (sym (append-nil reported_lines)),
   ),
   (λ adds. none_lost.0 (adds.0, adds.1, adds.2 ∙ ap (λ (l : List ℕ). codes "x\n" ++ l) (append-nil adds.0))),
   λ adds. none_lost.0 (adds.0, adds.1, adds.2 ∙ ap (λ (l : List ℕ). codes "x\n" ++ l) (append-nil adds.0)),

@@ -3,7 +3,7 @@ use Rattle.std.proofs.Common.{◌≡◌, ℕ, ◌+◌, List, [], ◌∷◌, ◌+
 use Rattle.gix_refspec.specs.Texts.Words.{Lacks}
 use Rattle.gix_refspec_text.proofs.facts.FitFacts.{other_byte}
 use Rattle.gix_refspec_text.proofs.facts.ManualFacts.{Lacks-tested, full, other_length}
-use Rattle.refspec_commands.specs.declared.call.Ends.TheVariants as ends
+use Rattle.refspec_commands.specs.declared.call.Terminator.TheVariants as ends
 use Rattle.refspec_commands.specs.Input.{AreRecords, IsFirstRecord, ReadsToEnd, end_byte}
 use Rattle.gix_refspec_text.proofs.lemmas.lists.LacksLemmas.{Lacks-here, first_once}
 
@@ -15,7 +15,7 @@ end_bytes = (refl, refl, refl)
 
 -- nothing has no records
 no_records : (end : ℕ) (records : List (List ℕ)) → AreRecords end records [] → records ≡ []
-no_records end [] cut = refl
+no_records end [] split = refl
 no_records end (first ∷ records) (lacks, inl (rest, here, more)) = absurd (nothing first here)
   where
     nothing : (front : List ℕ) → [] ≡ front ++ (end ∷ rest) → ⊥
@@ -26,8 +26,8 @@ no_records end (first ∷ records) (lacks, inr (some, last, here)) = absurd (som
 -- an input has one list of records
 pub records_once : (end : ℕ) (xs ys : List (List ℕ)) (input : List ℕ) → AreRecords end xs input
     → AreRecords end ys input → xs ≡ ys
-records_once end [] ys input cut other = sym (no_records end ys (subst (AreRecords end ys) cut other))
-records_once end (x ∷ xs) [] input cut other = no_records end (x ∷ xs) (subst (AreRecords end (x ∷ xs)) other cut)
+records_once end [] ys input split other = sym (no_records end ys (subst (AreRecords end ys) split other))
+records_once end (x ∷ xs) [] input split other = no_records end (x ∷ xs) (subst (AreRecords end (x ∷ xs)) other split)
 records_once end (x ∷ xs) (y ∷ ys) input (in_x, inl (rest, here, more)) (in_y, inl (after, there, later)) =
     let once = first_once end x y rest after in_x in_y (sym here ∙ there) in
     let same = records_once end xs ys after (subst (AreRecords end xs) once.1 more) later in
@@ -70,13 +70,13 @@ empty_records = (
 pub no_other_records : ¬ (AreRecords 10 (codes "a" ∷ [] ∷ []) (codes "a\n")) × ¬ (AreRecords 10 ([] ∷ []) [])
     × ¬ (AreRecords 10 (codes "a\n" ∷ []) (codes "a\n")) × ¬ (AreRecords 10 (codes "a\nb" ∷ []) (codes "a\nb"))
 no_other_records = (
-  (λ cut. omega (
+  (λ split. omega (
     arith,
-    ap length (records_once 10 (codes "a" ∷ [] ∷ []) (codes "a" ∷ []) (codes "a\n") cut one_record.0),
+    ap length (records_once 10 (codes "a" ∷ [] ∷ []) (codes "a" ∷ []) (codes "a\n") split one_record.0),
   )),
-  (λ cut. omega (arith, ap length (records_once 10 ([] ∷ []) [] [] cut empty_records.2))),
-  (λ cut. Lacks-here 10 (codes "a") [] cut.0),
-  λ cut. Lacks-here 10 (codes "a") (codes "b") cut.0,
+  (λ split. omega (arith, ap length (records_once 10 ([] ∷ []) [] [] split empty_records.2))),
+  (λ split. Lacks-here 10 (codes "a") [] split.0),
+  λ split. Lacks-here 10 (codes "a") (codes "b") split.0,
 )
 
 -- the first record, and what is behind its end byte

@@ -9,29 +9,29 @@ use Rattle.gix_refspec_text.specs.Specs.Explained.{explained}
 use Rattle.gix_refspec_text.proofs.facts.FitFacts.{other_byte}
 use Rattle.refspec_commands.specs.declared.call.Form.TheVariants as form
 use Rattle.refspec_commands.specs.declared.checked.Checked.TheVariants as checked
-use Rattle.refspec_commands.specs.declared.texts.Place.TheVariants as place
+use Rattle.refspec_commands.specs.declared.texts.Location.TheVariants as location
 use Rattle.refspec_commands.specs.declared.texts.Text.{Text}
 use Rattle.gix_refspec.specs.Specs.Refusal.{Empty}
 use Rattle.gix_refspec_text.proofs.facts.GrammarFacts.{fetches_main}
 use Rattle.gix_refspec_text.proofs.facts.UnreadFacts.{nothing_pushed}
 use Rattle.refspec_commands.specs.Texts.{given_of, word_at}
-use Rattle.refspec_commands.specs.Messages.{AreRefusals, AreToldOf, IsPlace, IsReasonLine, IsToldOf, IsShownIn, PutsPlace, PutsReason, PutsRefusal, PutsShown, TellsRefusal, TellsRefusals}
+use Rattle.refspec_commands.specs.Messages.{AreRefusals, AreReportedOf, IsLocation, IsReasonLine, IsReportedOf, IsShownIn, WritesLocation, WritesReason, WritesRefusal, WritesShown, ReportsRefusal, ReportsRefusals}
 
 abbrev text : List ℕ → Bor (List ℕ)
 text bytes = record { ref_ptr = (0, 0); now = bytes }
 
 -- a spec by its number, a record by its input and its number, a setting by its file and key
-pub places : IsPlace form.Lines (place.Word 2) (codes "spec 2") × IsPlace form.Lines (place.Record (text (codes "-")) 10) (codes "-:10") × IsPlace form.Lines (place.Setting (text (codes "file:c")) (text (codes "remote.o.fetch"))) (codes "file:c: remote.o.fetch")
+pub locations : IsLocation form.Lines (location.Word 2) (codes "spec 2") × IsLocation form.Lines (location.Record (text (codes "-")) 10) (codes "-:10") × IsLocation form.Lines (location.Setting (text (codes "file:c")) (text (codes "remote.o.fetch"))) (codes "file:c: remote.o.fetch")
 unfolding digits
-places = (refl, (codes "-", inl refl, refl), (codes "file:c", codes "remote.o.fetch", inl refl, inl refl, refl))
+locations = (refl, (codes "-", inl refl, refl), (codes "file:c", codes "remote.o.fetch", inl refl, inl refl, refl))
 
 -- quoted in lines, and raw in records
-pub quoted : IsPlace form.Lines (place.Record (text (codes "a\tb")) 1) (codes "\"a\\tb\":1") × IsPlace form.Zeros (place.Record (text (codes "a\tb")) 1) (codes "a\tb:1")
+pub quoted : IsLocation form.Lines (location.Record (text (codes "a\tb")) 1) (codes "\"a\\tb\":1") × IsLocation form.Zeros (location.Record (text (codes "a\tb")) 1) (codes "a\tb:1")
 unfolding digits
 quoted = ((codes "\"a\\tb\"", inr refl, refl), (codes "a\tb", refl, refl))
 
 -- no other number
-pub other_number : IsPlace form.Lines (place.Word 2) (codes "spec 1") → ⊥
+pub other_number : IsLocation form.Lines (location.Word 2) (codes "spec 1") → ⊥
 unfolding digits
 other_number same = omega (arith, ap (λ (l : List ℕ). get_or l 5 0) same)
 
@@ -46,23 +46,23 @@ shown = (inr refl, refl, (λ same. omega (arith, ap length same)), other)
     other (inr same) = omega (arith, ap length same)
 
 -- a place and a name are behind what was there
-pub put : PutsPlace form.Lines (place.Word 2) (codes "x ") (codes "x spec 2")
-    × PutsShown form.Zeros (codes "a\tb") (codes "x ") (codes "x a\tb")
+pub write : WritesLocation form.Lines (location.Word 2) (codes "x ") (codes "x spec 2")
+    × WritesShown form.Zeros (codes "a\tb") (codes "x ") (codes "x a\tb")
 unfolding digits
-put = ((codes "spec 2", refl, refl), (codes "a\tb", refl, refl))
+write = ((codes "spec 2", refl, refl), (codes "a\tb", refl, refl))
 
-pub not_put : ¬ (PutsPlace form.Lines (place.Word 2) (codes "x") (codes "spec 2"))
-    × ¬ (PutsShown form.Zeros (codes "a") (codes "x ") (codes "x "))
-not_put = (
-  (λ puts. other_byte 0 (codes "spec 2") (codes "x" ++ puts.0) (λ byte. omega (arith, byte)) puts.2),
-  λ puts. omega (arith, ap length (puts.2 ∙ ap (λ (s : List ℕ). codes "x " ++ s) puts.1)),
+pub not_write : ¬ (WritesLocation form.Lines (location.Word 2) (codes "x") (codes "spec 2"))
+    × ¬ (WritesShown form.Zeros (codes "a") (codes "x ") (codes "x "))
+not_write = (
+  (λ writes. other_byte 0 (codes "spec 2") (codes "x" ++ writes.0) (λ byte. omega (arith, byte)) writes.2),
+  λ writes. omega (arith, ap length (writes.2 ∙ ap (λ (s : List ℕ). codes "x " ++ s) writes.1)),
 )
 
 -- ---- refusals
 
 -- the second spec of a call, and what is wrong with it
 abbrev dots : Text
-dots = record { place = place.Word 2; operation = Fetch; bytes = text (codes "a..b") }
+dots = record { location = location.Word 2; operation = Fetch; bytes = text (codes "a..b") }
 
 abbrev fault : Error
 fault = error.ReferenceName RepeatedDot
@@ -89,7 +89,7 @@ pub no_reasons : ¬ (IsReasonLine (given_of dots) fault (codes "spec 2: a..b: A 
     × ¬ (IsReasonLine (given_of dots) fault (codes "spec 1: a..b: A ref name must not have two dots in a row.\n"))
     × ¬ (IsReasonLine (given_of dots) fault (codes "spec 2: a..: A ref name must not have two dots in a row.\n"))
 unfolding digits
-no_reasons = (other_sentence, other_place, other_text)
+no_reasons = (other_sentence, other_location, other_text)
   where
     begins : (line : List ℕ) → IsReasonLine (given_of dots) fault line → (line ≡ dots_line)
         ⊎ (line ≡ codes "spec 2: \"a..b\": A ref name must not have two dots in a row.\n")
@@ -111,8 +111,8 @@ no_reasons = (other_sentence, other_place, other_text)
       )
     ]
 
-    other_place : ¬ (IsReasonLine (given_of dots) fault (codes "spec 1: a..b: A ref name must not have two dots in a row.\n"))
-    other_place is = elim (begins _ is) [
+    other_location : ¬ (IsReasonLine (given_of dots) fault (codes "spec 1: a..b: A ref name must not have two dots in a row.\n"))
+    other_location is = elim (begins _ is) [
       | inl same ↦ omega (arith, ap (λ (l : List ℕ). get_or l 5 0) same)
       | inr same ↦ omega (arith, ap (λ (l : List ℕ). get_or l 5 0) same)
     ]
@@ -127,10 +127,10 @@ no_reasons = (other_sentence, other_place, other_text)
     ]
 
 -- the line is behind what was there, and more is behind it; in lines and beside records it is told
-pub refused : PutsReason dots fault (codes "x\n") (codes "x\n" ++ dots_line)
-    × PutsRefusal dots fault [] (dots_line ++ codes "    The source has \"..\" at byte 2.\n")
-    × TellsRefusal form.Lines dots fault [] (dots_line ++ codes "    Write one dot.\n")
-    × TellsRefusal form.Zeros dots fault [] dots_line
+pub refused : WritesReason dots fault (codes "x\n") (codes "x\n" ++ dots_line)
+    × WritesRefusal dots fault [] (dots_line ++ codes "    The source has \"..\" at byte 2.\n")
+    × ReportsRefusal form.Lines dots fault [] (dots_line ++ codes "    Write one dot.\n")
+    × ReportsRefusal form.Zeros dots fault [] dots_line
 refused = (
   (dots_line, reason, refl),
   (dots_line, codes "    The source has \"..\" at byte 2.\n", reason, refl),
@@ -138,13 +138,13 @@ refused = (
   (dots_line, [], reason, refl),
 )
 
-pub not_refused : ¬ (PutsReason dots fault (codes "x\n") (codes "x\n"))
-    × ¬ (TellsRefusal form.Lines dots fault (codes "x\n") (codes "x\n"))
-    × ¬ (TellsRefusal form.Zeros dots fault [] [])
+pub not_refused : ¬ (WritesReason dots fault (codes "x\n") (codes "x\n"))
+    × ¬ (ReportsRefusal form.Lines dots fault (codes "x\n") (codes "x\n"))
+    × ¬ (ReportsRefusal form.Zeros dots fault [] [])
 not_refused = (
-  (λ puts. omega (arith, ap length puts.2, long puts.0 puts.1)),
-  (λ tells. omega (arith, ap length tells.3, length-append tells.0 tells.1, long tells.0 tells.2)),
-  λ tells. omega (arith, ap length tells.3, length-append tells.0 tells.1, long tells.0 tells.2),
+  (λ writes. omega (arith, ap length writes.2, long writes.0 writes.1)),
+  (λ reports. omega (arith, ap length reports.3, length-append reports.0 reports.1, long reports.0 reports.2)),
+  λ reports. omega (arith, ap length reports.3, length-append reports.0 reports.1, long reports.0 reports.2),
 )
   where
     long : (line : List ℕ) → IsReasonLine (given_of dots) fault line → 0 < length line
@@ -157,17 +157,17 @@ not_refused = (
 -- ---- the refusals of a run
 
 -- a text that was refused is told, and of JSON no message is
-pub told : TellsRefusals form.Lines (checked.Bad dots fault ∷ []) (codes "x\n") (codes "x\n" ++ dots_line)
-    × TellsRefusals form.Json (checked.Bad dots fault ∷ []) (codes "x\n") (codes "x\n")
-    × TellsRefusals form.Lines [] (codes "x\n") (codes "x\n")
-told = ((codes "x\n" ++ dots_line, (dots_line, [], reason, refl), refl), (codes "x\n", refl, refl), refl)
+pub reported : ReportsRefusals form.Lines (checked.Bad dots fault ∷ []) (codes "x\n") (codes "x\n" ++ dots_line)
+    × ReportsRefusals form.Json (checked.Bad dots fault ∷ []) (codes "x\n") (codes "x\n")
+    × ReportsRefusals form.Lines [] (codes "x\n") (codes "x\n")
+reported = ((codes "x\n" ++ dots_line, (dots_line, [], reason, refl), refl), (codes "x\n", refl, refl), refl)
 
 -- and none is left out, and none told that wasn't refused
-pub not_told : ¬ (TellsRefusals form.Lines (checked.Bad dots fault ∷ []) [] [])
-    × ¬ (TellsRefusals form.Json (checked.Bad dots fault ∷ []) [] dots_line) × ¬ (TellsRefusals form.Lines [] [] dots_line)
-not_told = (
-  (λ tells. not_refused.2 (subst (TellsRefusal form.Lines dots fault []) (sym tells.2) tells.1)),
-  (λ tells. omega (arith, ap length (tells.2 ∙ tells.1))),
+pub not_reported : ¬ (ReportsRefusals form.Lines (checked.Bad dots fault ∷ []) [] [])
+    × ¬ (ReportsRefusals form.Json (checked.Bad dots fault ∷ []) [] dots_line) × ¬ (ReportsRefusals form.Lines [] [] dots_line)
+not_reported = (
+  (λ reports. not_refused.2 (subst (ReportsRefusal form.Lines dots fault []) (sym reports.2) reports.1)),
+  (λ reports. omega (arith, ap length (reports.2 ∙ reports.1))),
   λ same. omega (arith, ap length same),
 )
 
@@ -175,24 +175,24 @@ not_told = (
 abbrev nothing_line : List ℕ
 nothing_line = codes "spec 1" ++ (codes ": " ++ (codes "\"\"" ++ (codes ": " ++ (explained error.Empty ++ (10 ∷ [])))))
 
-nothing_told : IsToldOf (word_at Push 1 []) nothing_line
+nothing_reported : IsReportedOf (word_at Push 1 []) nothing_line
 unfolding digits
-nothing_told = inl (error.Empty, nothing_line, [], (Empty, refl, nothing_pushed), record { at = codes "spec 1"; text = codes "\"\""; is_spot = refl; is_text = inr refl; is = refl }, refl)
+nothing_reported = inl (error.Empty, nothing_line, [], (Empty, refl, nothing_pushed), record { at = codes "spec 1"; text = codes "\"\""; is_spot = refl; is_text = inr refl; is = refl }, refl)
 
 -- of a text that is refused the line is told, and of a spec nothing
-pub told_of : IsToldOf (word_at Push 1 []) nothing_line × IsToldOf (word_at Fetch 2 (codes "main")) []
-    × AreToldOf (word_at Push 1 [] ∷ word_at Fetch 2 (codes "main") ∷ []) nothing_line
-told_of = (nothing_told, inr (_, fetches_main.0, refl), (nothing_line, [], nothing_told, ([], [], inr (_, fetches_main.0, refl), refl, refl), refl))
+pub reported_of : IsReportedOf (word_at Push 1 []) nothing_line × IsReportedOf (word_at Fetch 2 (codes "main")) []
+    × AreReportedOf (word_at Push 1 [] ∷ word_at Fetch 2 (codes "main") ∷ []) nothing_line
+reported_of = (nothing_reported, inr (_, fetches_main.0, refl), (nothing_line, [], nothing_reported, ([], [], inr (_, fetches_main.0, refl), refl, refl), refl))
 
 -- a refused text isn't passed over
-pub not_told_of : ¬ (IsToldOf (word_at Push 1 []) []) × ¬ (AreToldOf [] nothing_line)
-not_told_of = (passed_over, λ same. omega (arith, ap length same))
+pub not_reported_of : ¬ (IsReportedOf (word_at Push 1 []) []) × ¬ (AreReportedOf [] nothing_line)
+not_reported_of = (passed_over, λ same. omega (arith, ap length same))
   where
-    passed_over : ¬ (IsToldOf (word_at Push 1 []) [])
+    passed_over : ¬ (IsReportedOf (word_at Push 1 []) [])
     passed_over (inl (e, line, more, is, reason, same)) = omega (arith, ap length same, length-append line more, ap length reason.is, length-append reason.at (codes ": " ++ (reason.text ++ (codes ": " ++ (explained e ++ (10 ∷ []))))))
     passed_over (inr (r, reads, same)) = nothing_pushed.unread r reads
 
 -- in JSON the refusals are no messages
 pub refusals : AreRefusals form.Json (word_at Push 1 [] ∷ []) [] × AreRefusals form.Lines (word_at Push 1 [] ∷ []) (nothing_line ++ [])
     × ¬ (AreRefusals form.Json (word_at Push 1 [] ∷ []) nothing_line)
-refusals = (refl, (nothing_line, [], nothing_told, refl, refl), λ same. omega (arith, ap length same))
+refusals = (refl, (nothing_line, [], nothing_reported, refl, refl), λ same. omega (arith, ap length same))

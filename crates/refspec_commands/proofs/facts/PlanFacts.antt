@@ -1,10 +1,10 @@
 -- What a fetch writes of refs, and what it leaves out, at the examples of matching and of validation.
 use Rattle.std.proofs.Common.{◌≡◌, ℕ, true, false, List, [], ◌∷◌, ◌++◌, None, Some, inl, codes, length, refl, sym, ap, ◌∙◌, subst, arith}
 use Rattle.gix_refspec.specs.declared.match_group.validate.Error.{Error}
-use Rattle.gix_refspec.specs.declared.match_group.names.BadSide.TheVariants.{Destination}
+use Rattle.gix_refspec.specs.declared.match_group.ref_names.InvalidSide.TheVariants.{Destination}
 use Rattle.gix_refspec.specs.Matching.Mappings.{Mapped}
 use Rattle.gix_refspec.specs.Matching.Match.{Ref}
-use Rattle.gix_refspec.specs.Matching.RefNames.{AreLeftOut, AreNamed, IsNamed, KeepsNamed, LeftOut}
+use Rattle.gix_refspec.specs.Matching.RefNames.{AreLeftOut, HaveRefNames, HasRefNames, KeepsRefNames, LeftOut}
 use Rattle.gix_refspec.specs.Matching.Validation.{AreConflicts, AreSurvivors, Conflict, HasConflictAt, IsValidated, IsWritable, Survives}
 use Rattle.gix_refspec.specs.Specs.Reading.{Reading}
 use Rattle.gix_refspec.specs.Views.Issue.{ForwardOutcome, conflicts_of, mappings_of}
@@ -28,10 +28,10 @@ use Rattle.refspec_commands.specs.Conflicts.{AddsConflicts}
 use Rattle.refspec_commands.specs.Plan.{AddsPlan, AddsWritten, IsPlan, IsPlanByNames, IsWhole, LeavesOut, Writes}
 use Rattle.refspec_commands.specs.Refs.{AddsRefs}
 use Rattle.refspec_commands.specs.Rows.{AddsMappings, IsLine}
-use Rattle.refspec_commands.proofs.facts.ConflictFacts.{conflict as two_sources, told_alone, told_lines}
+use Rattle.refspec_commands.proofs.facts.ConflictFacts.{conflict as two_sources, reported_alone, reported_lines}
 use Rattle.refspec_commands.proofs.facts.InputFacts.{records_once}
 use Rattle.refspec_commands.proofs.facts.RefFacts.{blob_ref, line_of, none_lost as none_lost_of, plain_word, ref_line}
-use Rattle.refspec_commands.proofs.facts.RowFacts.{alone, alone_line, not_told, texts}
+use Rattle.refspec_commands.proofs.facts.RowFacts.{alone, alone_line, not_reported, texts}
 use Rattle.std.proofs.lemmas.Option.{same_Some}
 
 -- one that was left out for its destination
@@ -82,7 +82,7 @@ refs = dev_ref ∷ tag_ref ∷ main_ref ∷ main_ref ∷ []
 abbrev main_mapping : Mapped
 main_mapping = tracked 2 (codes "main")
 
-main_named : IsNamed main_mapping
+main_named : HasRefNames main_mapping
 main_named = record {
   source = inl (record { after = codes "heads/main"; here = refl }, IsName-tested (codes "refs/heads/main") refl);
   destination = inl (
@@ -91,7 +91,7 @@ main_named = record {
   );
 }
 
-main_kept : KeepsNamed (main_mapping ∷ []) (main_mapping ∷ []) []
+main_kept : KeepsRefNames (main_mapping ∷ []) (main_mapping ∷ []) []
 main_kept = record {
   named = (Some main_mapping, [], (refl, main_named), refl, refl);
   others = (None, [], (λ out is. bad_unnamed out.side main_mapping is.bad main_named), refl, refl);
@@ -140,12 +140,12 @@ other_plans o = (
 )
   where
     parted : (kept named : List Mapped) (out : List LeftOut) → AreKeptForward group refs kept
-        → KeepsNamed kept named out → KeepsNamed (main_mapping ∷ []) named out
+        → KeepsRefNames kept named out → KeepsRefNames (main_mapping ∷ []) named out
     parted kept named out matched keeps =
-        subst (λ (l : List Mapped). KeepsNamed l named out)
+        subst (λ (l : List Mapped). KeepsRefNames l named out)
         (one_forward group refs kept (main_mapping ∷ []) matched fetches_all_but_dev) keeps
 
-    lost : (named : List Mapped) → AreNamed (main_mapping ∷ []) named → (rest : List Mapped) → rest ≡ []
+    lost : (named : List Mapped) → HaveRefNames (main_mapping ∷ []) named → (rest : List Mapped) → rest ≡ []
         → ¬ (AreSurvivors named rest)
     lost named (None, more, unmade, none, same) rest empty survive = unmade main_mapping (refl, main_named)
     lost named (Some m, more, (is, also), none, same) rest empty survive =
@@ -162,12 +162,12 @@ other_plans o = (
 -- ---- what is told of a plan
 
 -- mappings go to the results, and conflicts to the messages, with no result
-pub told_of : (o : ForwardOutcome) (e : Error)
+pub reported_of : (o : ForwardOutcome) (e : Error)
     → (mappings_of o ≡ alone ∷ []
     → AddsWritten true false form.Lines texts (written.Mappings o) [] [] (codes "x\n") (codes "x\nHEAD  FETCH_HEAD  HEAD\n"))
     × (conflicts_of e ≡ two_sources ∷ []
-    → AddsWritten false false form.Lines texts (written.Nothing e) (codes "x\n") (codes "x\n" ++ told_lines) [] [])
-told_of o e = (
+    → AddsWritten false false form.Lines texts (written.Nothing e) (codes "x\n") (codes "x\n" ++ reported_lines) [] [])
+reported_of o e = (
   (λ are. subst (λ (l : List Mapped). AddsMappings form.Lines columns.SourceFirst texts l (codes "x\n")
       (codes "x\nHEAD  FETCH_HEAD  HEAD\n")) (sym are) (
         codes "HEAD  FETCH_HEAD  HEAD\n",
@@ -176,20 +176,20 @@ told_of o e = (
       )),
   λ are. (
     refl,
-    subst (λ (l : List Conflict). AddsConflicts false form.Lines l (codes "x\n") (codes "x\n" ++ told_lines))
-        (sym are) told_alone.0,
+    subst (λ (l : List Conflict). AddsConflicts false form.Lines l (codes "x\n") (codes "x\n" ++ reported_lines))
+        (sym are) reported_alone.0,
   ),
 )
 
-pub not_told_of : (o : ForwardOutcome) (e : Error)
+pub not_reported_of : (o : ForwardOutcome) (e : Error)
     → (mappings_of o ≡ alone ∷ [] → ¬ (AddsWritten false false form.Zeros texts (written.Mappings o) [] [] [] []))
     × (conflicts_of e ≡ two_sources ∷ []
     → ¬ (AddsWritten false false form.Lines texts (written.Nothing e) (codes "x\n") (codes "x\n") [] []))
     × ¬ (AddsWritten false false form.Lines texts (written.Nothing e) [] [] [] (codes "x\n"))
-not_told_of o e = (
-  (λ are adds. not_told.2
+not_reported_of o e = (
+  (λ are adds. not_reported.2
       (subst (λ (l : List Mapped). AddsMappings form.Zeros columns.SourceFirst texts l [] []) are adds)),
-  (λ are adds. told_alone.1
+  (λ are adds. reported_alone.1
       (subst (λ (l : List Conflict). AddsConflicts false form.Lines l (codes "x\n") (codes "x\n")) are adds.1)),
   λ adds. omega (arith, ap length adds.0),
 )
@@ -212,7 +212,7 @@ planned o are = record {
   second = [];
   malformed = refl;
   left_out = refl;
-  cut = (
+  split = (
     Lacks-tested 10 (line_of dev_ref.name) refl,
     inl (
       _,
@@ -262,7 +262,7 @@ planned o are = record {
   of_specs = (refl, (refl, tt));
   plan = plan o are (blob_ref dev_ref.name ∷ blob_ref tag_ref.name ∷ blob_ref main_ref.name ∷ blob_ref main_ref.name ∷
       []) refl;
-  told = subst (λ (l : List Mapped). AddsMappings form.Lines columns.SourceFirst
+  reported = subst (λ (l : List Mapped). AddsMappings form.Lines columns.SourceFirst
       (codes "+refs/heads/*:refs/remotes/origin/*" ∷ codes "^refs/heads/dev-*" ∷ []) l []
       (codes "refs/heads/main  refs/remotes/origin/main  +refs/heads/*:refs/remotes/origin/*\n")) (sym are) (
         _,
@@ -293,7 +293,7 @@ pub refused : (g : List Reading) (messages old new : List ℕ)
     → ¬ (AddsPlan false false form.Lines 10 (codes "ref: refs/heads/a\tHEAD\n") messages false g old new)
 refused g messages old new adds =
     let records = records_once 10 adds.records (codes "ref: refs/heads/a\tHEAD" ∷ [])
-    (codes "ref: refs/heads/a\tHEAD\n") adds.cut (
+    (codes "ref: refs/heads/a\tHEAD\n") adds.split (
       Lacks-tested 10 (codes "ref: refs/heads/a\tHEAD") refl,
       inl ([], refl, refl),
     ) in

@@ -121,11 +121,11 @@ others = (
     kept (inr (other, (rest, none, same))) = other wholes.0
 
 -- what a group asks for, all refs where no list is safe, and nothing for negative specs
-pub told : AddsPrefixes false form.Lines (every ∷ all_refs ∷ no_dev ∷ []) []
+pub reported : AddsPrefixes false form.Lines (every ∷ all_refs ∷ no_dev ∷ []) []
     (codes "ref-prefix refs/\nref-prefix refs/heads/\n")
     × AddsPrefixes true form.Lines (every ∷ by_bracket ∷ []) [] (codes "*\n")
     × AddsPrefixes false form.Lines (no_dev ∷ []) [] (codes "(nothing)\n")
-told = (
+reported = (
   (
     every ∷ no_dev ∷ [],
     others.0,
@@ -162,9 +162,9 @@ told = (
 )
 
 -- a list isn't told as all refs, nor are all as nothing
-pub not_told : ¬ (AddsPrefixes false form.Lines (every ∷ []) [] (codes "(all)\n"))
+pub not_reported : ¬ (AddsPrefixes false form.Lines (every ∷ []) [] (codes "(all)\n"))
     × ¬ (AddsPrefixes false form.Lines (by_bracket ∷ []) [] (codes "(nothing)\n"))
-not_told = (listed_as_all, all_as_nothing)
+not_reported = (listed_as_all, all_as_nothing)
   where
     listed_as_all : ¬ (AddsPrefixes false form.Lines (every ∷ []) [] (codes "(all)\n"))
     listed_as_all (kept, are, inl ([], lists, adds)) = other_words.2 adds

@@ -17,7 +17,7 @@ use Rattle.refspec_commands.specs.declared.call.Form.TheVariants as form
 use Rattle.refspec_commands.specs.declared.checked.Checked.{Checked}
 use Rattle.refspec_commands.specs.declared.checked.Checked.TheVariants as checked
 use Rattle.refspec_commands.specs.declared.texts.Text.{Text}
-use Rattle.refspec_commands.specs.Read.{AddsIfGood, AddsIfRead, AreGood, AreRead, HasBad, HasRefused, IsChecked, IsSpec, TellsRefused}
+use Rattle.refspec_commands.specs.Read.{AddsIfGood, AddsIfRead, AreGood, AreRead, HasBad, HasRefused, IsChecked, IsSpec, ReportsRefused}
 use Rattle.refspec_commands.specs.Texts.{word_at}
 use Rattle.refspec_commands.proofs.facts.TextFacts.{text_for}
 
@@ -57,13 +57,13 @@ not_read = (none, unread, (λ are. are), λ are. are.1)
     unread (r ∷ q ∷ g) are = nothing_pushed.unread q are.1.0
 
 -- so it is told whether one is refused
-pub told : TellsRefused false ((Fetch, codes "main") ∷ (Fetch, []) ∷ [])
-    × TellsRefused true ((Fetch, codes "main") ∷ (Push, []) ∷ []) × TellsRefused false []
-told = ((main ∷ head ∷ [], read.0), read.1, ([], tt))
+pub reported : ReportsRefused false ((Fetch, codes "main") ∷ (Fetch, []) ∷ [])
+    × ReportsRefused true ((Fetch, codes "main") ∷ (Push, []) ∷ []) × ReportsRefused false []
+reported = ((main ∷ head ∷ [], read.0), read.1, ([], tt))
 
-pub not_told : ¬ (TellsRefused true ((Fetch, codes "main") ∷ (Fetch, []) ∷ []))
-    × ¬ (TellsRefused false ((Fetch, codes "main") ∷ (Push, []) ∷ [])) × ¬ (TellsRefused true [])
-not_told = (not_read.0, (λ reads. not_read.1 reads.0 reads.1), λ refuses. refuses)
+pub not_reported : ¬ (ReportsRefused true ((Fetch, codes "main") ∷ (Fetch, []) ∷ []))
+    × ¬ (ReportsRefused false ((Fetch, codes "main") ∷ (Push, []) ∷ [])) × ¬ (ReportsRefused true [])
+not_reported = (not_read.0, (λ reads. not_read.1 reads.0 reads.1), λ refuses. refuses)
 
 -- ---- what the results grow by
 
@@ -72,31 +72,31 @@ abbrev AddsX : List Reading → List ℕ → List ℕ → Type 0
 AddsX g old new = new ≡ old ++ codes "x"
 
 -- what is told of refusals
-abbrev Told : Type 0
-Told = codes "no" ≡ codes "no"
+abbrev RefList : Type 0
+RefList = codes "no" ≡ codes "no"
 
 -- where a text is refused the results stay, and else they grow
-pub grown : AddsIfRead AddsX Told form.Lines false (word_at Fetch 1 (codes "main") ∷ []) (codes "a") (codes "ax")
-    × AddsIfRead AddsX Told form.Lines true (word_at Fetch 1 (codes "main") ∷ word_at Push 2 [] ∷ []) (codes "a") (codes "a")
+pub grown : AddsIfRead AddsX RefList form.Lines false (word_at Fetch 1 (codes "main") ∷ []) (codes "a") (codes "ax")
+    × AddsIfRead AddsX RefList form.Lines true (word_at Fetch 1 (codes "main") ∷ word_at Push 2 [] ∷ []) (codes "a") (codes "a")
 grown = (inl (main ∷ [], (fetches_main.0, tt), refl), inr (read.1, refl, refl, refl))
 
 -- and not the other way, nor is it told otherwise that one is refused
-pub not_grown : ¬ (AddsIfRead AddsX Told form.Lines false (word_at Fetch 1 (codes "main") ∷ word_at Fetch 2 [] ∷ []) (codes "a") (codes "a"))
-    × ¬ (AddsIfRead AddsX Told form.Lines true (word_at Fetch 1 (codes "main") ∷ word_at Push 2 [] ∷ []) (codes "a") (codes "ax"))
-    × ¬ (AddsIfRead AddsX Told form.Lines false (word_at Fetch 1 (codes "main") ∷ word_at Push 2 [] ∷ []) (codes "a") (codes "a"))
+pub not_grown : ¬ (AddsIfRead AddsX RefList form.Lines false (word_at Fetch 1 (codes "main") ∷ word_at Fetch 2 [] ∷ []) (codes "a") (codes "a"))
+    × ¬ (AddsIfRead AddsX RefList form.Lines true (word_at Fetch 1 (codes "main") ∷ word_at Push 2 [] ∷ []) (codes "a") (codes "ax"))
+    × ¬ (AddsIfRead AddsX RefList form.Lines false (word_at Fetch 1 (codes "main") ∷ word_at Push 2 [] ∷ []) (codes "a") (codes "a"))
 not_grown = (stayed, spoiled, unsaid)
   where
-    stayed : ¬ (AddsIfRead AddsX Told form.Lines false (word_at Fetch 1 (codes "main") ∷ word_at Fetch 2 [] ∷ []) (codes "a") (codes "a"))
+    stayed : ¬ (AddsIfRead AddsX RefList form.Lines false (word_at Fetch 1 (codes "main") ∷ word_at Fetch 2 [] ∷ []) (codes "a") (codes "a"))
     stayed (inl (g, are, same)) = omega (arith, ap length same)
-    stayed (inr (has, same, refused, told)) = not_read.0 has
+    stayed (inr (has, same, refused, reported)) = not_read.0 has
 
-    spoiled : ¬ (AddsIfRead AddsX Told form.Lines true (word_at Fetch 1 (codes "main") ∷ word_at Push 2 [] ∷ []) (codes "a") (codes "ax"))
+    spoiled : ¬ (AddsIfRead AddsX RefList form.Lines true (word_at Fetch 1 (codes "main") ∷ word_at Push 2 [] ∷ []) (codes "a") (codes "ax"))
     spoiled (inl (g, are, same)) = not_read.1 g are
-    spoiled (inr (has, same, refused, told)) = omega (arith, ap length same)
+    spoiled (inr (has, same, refused, reported)) = omega (arith, ap length same)
 
-    unsaid : ¬ (AddsIfRead AddsX Told form.Lines false (word_at Fetch 1 (codes "main") ∷ word_at Push 2 [] ∷ []) (codes "a") (codes "a"))
+    unsaid : ¬ (AddsIfRead AddsX RefList form.Lines false (word_at Fetch 1 (codes "main") ∷ word_at Push 2 [] ∷ []) (codes "a") (codes "a"))
     unsaid (inl (g, are, same)) = not_read.1 g are
-    unsaid (inr (has, same, refused, told)) = false≢true refused
+    unsaid (inr (has, same, refused, reported)) = false≢true refused
 
 -- ---- texts that were checked
 
@@ -146,27 +146,27 @@ module _ (accepted : Accepted Fetch mode.Normal (Some (codes "main")) None) wher
   all_good = (tt, tt, (λ are. are), λ are. are)
 
   -- the results grow as above
-  pub grown_of : AddsIfGood AddsX Told form.Lines false (good accepted ∷ []) (codes "a") (codes "ax")
-      × AddsIfGood AddsX Told form.Lines true (good accepted ∷ bad ∷ []) (codes "a") (codes "a")
+  pub grown_of : AddsIfGood AddsX RefList form.Lines false (good accepted ∷ []) (codes "a") (codes "ax")
+      × AddsIfGood AddsX RefList form.Lines true (good accepted ∷ bad ∷ []) (codes "a") (codes "a")
   grown_of = (inl (main ∷ [], (refl, tt), refl), inr (tt, refl, refl, refl))
 
-  pub not_grown_of : ¬ (AddsIfGood AddsX Told form.Lines false (good accepted ∷ []) (codes "a") (codes "a"))
-      × ¬ (AddsIfGood AddsX Told form.Lines true (bad ∷ []) (codes "a") (codes "ax"))
-      × ¬ (AddsIfGood AddsX Told form.Lines false (bad ∷ []) (codes "a") (codes "a"))
+  pub not_grown_of : ¬ (AddsIfGood AddsX RefList form.Lines false (good accepted ∷ []) (codes "a") (codes "a"))
+      × ¬ (AddsIfGood AddsX RefList form.Lines true (bad ∷ []) (codes "a") (codes "ax"))
+      × ¬ (AddsIfGood AddsX RefList form.Lines false (bad ∷ []) (codes "a") (codes "a"))
   not_grown_of = (stayed, spoiled, unsaid)
     where
-      stayed : ¬ (AddsIfGood AddsX Told form.Lines false (good accepted ∷ []) (codes "a") (codes "a"))
+      stayed : ¬ (AddsIfGood AddsX RefList form.Lines false (good accepted ∷ []) (codes "a") (codes "a"))
       stayed (inl (g, are, same)) = omega (arith, ap length same)
-      stayed (inr (has, same, refused, told)) = has
+      stayed (inr (has, same, refused, reported)) = has
 
       no_specs : (g : List Reading) → ¬ (AllZip IsSpec (bad ∷ []) g)
       no_specs [] are = are
       no_specs (r ∷ g) are = are.0
 
-      spoiled : ¬ (AddsIfGood AddsX Told form.Lines true (bad ∷ []) (codes "a") (codes "ax"))
+      spoiled : ¬ (AddsIfGood AddsX RefList form.Lines true (bad ∷ []) (codes "a") (codes "ax"))
       spoiled (inl (g, are, same)) = no_specs g are
-      spoiled (inr (has, same, refused, told)) = omega (arith, ap length same)
+      spoiled (inr (has, same, refused, reported)) = omega (arith, ap length same)
 
-      unsaid : ¬ (AddsIfGood AddsX Told form.Lines false (bad ∷ []) (codes "a") (codes "a"))
+      unsaid : ¬ (AddsIfGood AddsX RefList form.Lines false (bad ∷ []) (codes "a") (codes "a"))
       unsaid (inl (g, are, same)) = no_specs g are
-      unsaid (inr (has, same, refused, told)) = false≢true refused
+      unsaid (inr (has, same, refused, reported)) = false≢true refused

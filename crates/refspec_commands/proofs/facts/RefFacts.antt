@@ -10,8 +10,8 @@ use Rattle.gix_refspec_text.specs.declared.oid.Kind.TheVariants.{Sha1, Sha256}
 use Rattle.gix_refspec_text.proofs.facts.ObjectIdFacts.{empty_blob, IsIdText-empty_blob}
 use Rattle.gix_refspec_text.proofs.facts.FitFacts.{other_byte}
 use Rattle.gix_refspec_text.proofs.facts.ManualFacts.{Lacks-tested, full, named}
-use Rattle.refspec_commands.specs.Refs.{AddsLine, AddsRefs, AddsTold, HasLast, IsIdThen, IsLast, IsNoRefLine, IsOneWord, IsPeeledLine, IsRefLine, IsTagLine, TellNames, TellRefs, TellsName, bad_bytes, peeled}
-use Rattle.refspec_commands.proofs.RefLemmas.{AddsTold-elsewhere, AddsTold-peeled, space_at}
+use Rattle.refspec_commands.specs.Refs.{AddsLine, AddsRefs, AddsReported, HasLast, IsIdThen, IsLast, IsNoRefLine, IsOneWord, IsPeeledLine, IsRefLine, IsTagLine, ReportNames, ReportRefs, ReportsName, bad_bytes, peeled}
+use Rattle.refspec_commands.proofs.RefLemmas.{AddsReported-elsewhere, AddsReported-peeled, space_at}
 use Rattle.refspec_commands.proofs.facts.InputFacts.{records_once}
 use Rattle.gix_refspec_text.proofs.lemmas.lists.LacksLemmas.{Lacks-here}
 
@@ -48,8 +48,8 @@ last_byte l = get_or (reverse l) 0 0
 
 no_tag : (line : List ℕ) (old : List Ref) → last_byte line ≡ 68 → IsTagLine line old → ⊥
 no_tag line old ends is =
-    let cut : line ≡ (is.says.digits ++ (is.says.space ∷ is.tag)) ++ peeled = is.says.here ∙ sym (append_assoc is.says.digits (is.says.space ∷ is.tag) peeled) in
-    let brace : last_byte line ≡ 125 = ap last_byte cut ∙ ap (λ (l : List ℕ). get_or l 0 0) (reverse-append (is.says.digits ++ (is.says.space ∷ is.tag)) peeled) in
+    let split : line ≡ (is.says.digits ++ (is.says.space ∷ is.tag)) ++ peeled = is.says.here ∙ sym (append_assoc is.says.digits (is.says.space ∷ is.tag) peeled) in
+    let brace : last_byte line ≡ 125 = ap last_byte split ∙ ap (λ (l : List ℕ). get_or l 0 0) (reverse-append (is.says.digits ++ (is.says.space ∷ is.tag)) peeled) in
     omega (arith, ends, brace)
 
 -- a line of HEAD is never a bad one, whatever is before it
@@ -123,8 +123,8 @@ no_words = (
         by_kind Sha256 is = omega (arith, few, (space_at (id_then rest) says.digits name says.space 64 is says.here).0)
 
 -- the line of a peeled tag tells its name with the end, with a tab as with a space
-pub told : TellsName head_line (codes "HEAD") × TellsName tag_line (codes "refs/tags/v1" ++ peeled)
-told = ((empty_blob, says_head), (empty_blob, says_tag))
+pub reported : ReportsName head_line (codes "HEAD") × ReportsName tag_line (codes "refs/tags/v1" ++ peeled)
+reported = ((empty_blob, says_head), (empty_blob, says_tag))
 
 -- ---- refs
 
@@ -175,8 +175,8 @@ last = (refl, (tag, refl, refl), first, λ has. let none : None ≡ Some has.0 =
         )) (ap (λ (o : Option Ref). (unwrap_or o tag).name) is ∙ named)
 
 -- the line of the tag tells no other name
-tells_tag : (id n : List ℕ) → IsIdThen tag_line id n → n ≡ codes "refs/tags/v1" ++ peeled
-tells_tag id n says = by_kind says.spelled.kind says.spelled.digits
+reports_tag : (id n : List ℕ) → IsIdThen tag_line id n → n ≡ codes "refs/tags/v1" ++ peeled
+reports_tag id n says = by_kind says.spelled.kind says.spelled.digits
   where
     by_kind : (kind : Kind) → length says.digits ≡ digits_of kind → n ≡ codes "refs/tags/v1" ++ peeled
     by_kind Sha1 long =
@@ -205,7 +205,7 @@ peels_no_other = (right_before, not_before, unchanged, λ is. is.whole (codes "r
     right_before is = is.elsewhere (
       tag,
       refl,
-      append_cancel_right (codes "refs/tags/v1") is.tag peeled (sym (tells_tag is.id (is.tag ++ peeled) is.says)),
+      append_cancel_right (codes "refs/tags/v1") is.tag peeled (sym (reports_tag is.id (is.tag ++ peeled) is.says)),
     )
 
     not_before : (new : List Ref) → ¬ (IsPeeledLine tag_line (tag ∷ blob_ref (codes "HEAD") ∷ []) new)
@@ -214,7 +214,7 @@ peels_no_other = (right_before, not_before, unchanged, λ is. is.whole (codes "r
         other_byte 0 (codes "HEAD" ++ peeled) (codes "refs/tags/v1" ++ peeled) (λ byte. omega (
           arith,
           byte,
-        )) (ap (λ (n : List ℕ). n ++ peeled) named ∙ tells_tag is.id (is.tag.name ++ peeled) is.says)
+        )) (ap (λ (n : List ℕ). n ++ peeled) named ∙ reports_tag is.id (is.tag.name ++ peeled) is.says)
 
     unchanged : ¬ (IsPeeledLine tag_line (tag ∷ []) (tag ∷ []))
     unchanged is = let none : None ≡ Some is.id = ap (λ (l : List Ref). (get_or l 0 tag).object) is.joined in cc
@@ -234,18 +234,18 @@ added = (
 -- a line that is bad is never lost, and that of the last ref is none
 pub not_added : ((old new : List Ref) → ¬ (AddsLine bad_line old new []))
     × ((new : List Ref) → ¬ (AddsLine tag_line (tag ∷ []) new (tag_line ∷ [])))
-not_added = (bad_lost, good_told)
+not_added = (bad_lost, good_reported)
   where
     bad_lost : (old new : List Ref) → ¬ (AddsLine bad_line old new [])
     bad_lost old new (inl (r, is, grown, none)) = no_refs.0 r.target r.name is.says
     bad_lost old new (inr (inl (is, none))) = no_refs.0 is.id (is.tag.name ++ peeled) is.says
     bad_lost old new (inr (inr (is, same, none))) = omega (arith, ap length none)
 
-    good_told : (new : List Ref) → ¬ (AddsLine tag_line (tag ∷ []) new (tag_line ∷ []))
-    good_told new (inl (r, is, grown, none)) = omega (arith, ap length none)
-    good_told new (inr (inl (is, none))) = omega (arith, ap length none)
-    good_told new (inr (inr (inl is, same, bad))) = peels_no_other.0 is
-    good_told new (inr (inr (inr is, same, bad))) = is empty_blob (codes "refs/tags/v1^{}") says_tag
+    good_reported : (new : List Ref) → ¬ (AddsLine tag_line (tag ∷ []) new (tag_line ∷ []))
+    good_reported new (inl (r, is, grown, none)) = omega (arith, ap length none)
+    good_reported new (inr (inl (is, none))) = omega (arith, ap length none)
+    good_reported new (inr (inr (inl is, same, bad))) = peels_no_other.0 is
+    good_reported new (inr (inr (inr is, same, bad))) = is empty_blob (codes "refs/tags/v1^{}") says_tag
 
 -- lines one after another, of which the bad ones are in order
 pub adds : AddsRefs (head_line ∷ bad_line ∷ line_of (codes "refs/tags/v1") ∷ tag_line ∷ [] ∷ []) []
@@ -293,9 +293,9 @@ none_lost new (more, one, rest, line, none, same) =
     nothing (x ∷ one) rest all = absurd (omega (arith, ap length all))
 
 -- the records of an input
-pub tell : TellRefs 10 (head_line ++ (10 ∷ bad_line)) (blob_ref (codes "HEAD") ∷ []) (bad_line ∷ [])
-    × TellRefs 10 [] [] [] × ((refs : List Ref) → ¬ (TellRefs 10 (bad_line ++ (10 ∷ [])) refs []))
-tell = (
+pub report : ReportRefs 10 (head_line ++ (10 ∷ bad_line)) (blob_ref (codes "HEAD") ∷ []) (bad_line ∷ [])
+    × ReportRefs 10 [] [] [] × ((refs : List Ref) → ¬ (ReportRefs 10 (bad_line ++ (10 ∷ [])) refs []))
+report = (
   (
     head_line ∷ bad_line ∷ [],
     (Lacks-tested 10 head_line refl, inl (bad_line, refl, (Lacks-tested 10 bad_line refl, inr (full _ _, refl, refl)))),
@@ -309,28 +309,28 @@ tell = (
     ),
   ),
   ([], refl, (refl, refl)),
-  λ refs tells. none_lost refs
+  λ refs reports. none_lost refs
       (subst (λ (l : List (List ℕ)). AddsRefs l [] refs [])
-      (records_once 10 tells.0 (bad_line ∷ []) (bad_line ++ (10 ∷ [])) tells.1 (
+      (records_once 10 reports.0 (bad_line ∷ []) (bad_line ++ (10 ∷ [])) reports.1 (
         Lacks-tested 10 bad_line refl,
         inl ([], refl, refl),
-      )) tells.2),
+      )) reports.2),
 )
 
 -- ---- the same by names
 
 -- refs of the same names are told, whatever their ids are; the bad records grow behind those that were there
-pub by_names : AddsTold tag_line (named (codes "refs/tags/v1") ∷ []) (named (codes "refs/tags/v1") ∷ []) ([] ∷ [])
+pub by_names : AddsReported tag_line (named (codes "refs/tags/v1") ∷ []) (named (codes "refs/tags/v1") ∷ []) ([] ∷ [])
     ([] ∷ [])
-    × AddsTold tag_line [] [] ([] ∷ []) ([] ∷ tag_line ∷ []) × TellNames 10 head_line (named (codes "HEAD") ∷ []) []
+    × AddsReported tag_line [] [] ([] ∷ []) ([] ∷ tag_line ∷ []) × ReportNames 10 head_line (named (codes "HEAD") ∷ []) []
 by_names = (
-  AddsTold-peeled tag_line (codes "refs/tags/v1") (named (codes "refs/tags/v1") ∷ [])
+  AddsReported-peeled tag_line (codes "refs/tags/v1") (named (codes "refs/tags/v1") ∷ [])
       (named (codes "refs/tags/v1") ∷ []) ([] ∷ []) ([] ∷ []) (empty_blob, says_tag) (
         named (codes "refs/tags/v1"),
         refl,
         refl,
       ) refl refl,
-  AddsTold-elsewhere tag_line (codes "refs/tags/v1") [] [] ([] ∷ []) ([] ∷ tag_line ∷ []) (
+  AddsReported-elsewhere tag_line (codes "refs/tags/v1") [] [] ([] ∷ []) ([] ∷ tag_line ∷ []) (
     empty_blob,
     says_tag,
   ) last.3 refl refl,
@@ -346,10 +346,10 @@ by_names = (
 )
 
 -- and neither a ref is lost nor a bad record
-pub ref_kept : ¬ (TellNames 10 head_line [] [])
-ref_kept (refs, (records, cut, adds), same) =
+pub ref_kept : ¬ (ReportNames 10 head_line [] [])
+ref_kept (refs, (records, split, adds), same) =
     lost refs (nothing refs (sym same))
-    (subst (λ (l : List (List ℕ)). AddsRefs l [] refs []) (records_once 10 records (head_line ∷ []) head_line cut
+    (subst (λ (l : List (List ℕ)). AddsRefs l [] refs []) (records_once 10 records (head_line ∷ []) head_line split
     (Lacks-tested 10 head_line refl, inr (full _ _, refl, refl))) adds)
   where
     nothing : (refs : List Ref) → map (λ (r : Ref). r.name) refs ≡ [] → refs ≡ []
@@ -364,12 +364,12 @@ ref_kept (refs, (records, cut, adds), same) =
     lost refs empty (more, one, rest, inr (inr (is, stays, bad)), (last_one, no_more), all) =
         omega (arith, ap length (all ∙ ap (λ (l : List (List ℕ)). l ++ rest) bad))
 
-pub not_by_names : ((named : List Ref) → ¬ (TellNames 10 (bad_line ++ (10 ∷ [])) named []))
-    × ¬ (AddsTold bad_line [] [] [] [])
+pub not_by_names : ((named : List Ref) → ¬ (ReportNames 10 (bad_line ++ (10 ∷ [])) named []))
+    × ¬ (AddsReported bad_line [] [] [] [])
 not_by_names = (
-  (λ named tells. tell.2 tells.0 tells.1),
-  λ told. not_added.0 [] (told.1 [] refl).0
-      (subst (AddsLine bad_line [] (told.1 [] refl).0) (sym told.2) (told.1 [] refl).1),
+  (λ named reports. report.2 reports.0 reports.1),
+  λ reported. not_added.0 [] (reported.1 [] refl).0
+      (subst (AddsLine bad_line [] (reported.1 [] refl).0) (sym reported.2) (reported.1 [] refl).1),
 )
 
 -- a bad record is told by its bytes

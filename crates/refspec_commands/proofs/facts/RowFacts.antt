@@ -7,7 +7,7 @@ use Rattle.gix_refspec_text.proofs.facts.ObjectIdFacts.{empty_blob, lower_of-emp
 use Rattle.refspec_commands.specs.declared.call.Form.TheVariants as form
 use Rattle.refspec_commands.specs.declared.mappings.Columns.TheVariants as columns
 use Rattle.refspec_commands.specs.Shown.{IsQuoted, in_quotes}
-use Rattle.refspec_commands.specs.Rows.{AddsMappings, AreSpecTexts, AreRowLines, IsCell, IsLine, PutsCell, PutsCells, PutsLine, Row, fields, first_side, row_of, second_side, source_text}
+use Rattle.refspec_commands.specs.Rows.{AddsMappings, AreSpecTexts, AreRowLines, IsCell, IsLine, WritesCell, WritesCells, WritesLine, Row, fields, first_side, row_of, second_side, source_text}
 use Rattle.std.proofs.lemmas.Option.{same_Some}
 
 -- ---- texts
@@ -64,7 +64,7 @@ rows = (refl, refl)
 
 -- two spaces or more are behind a field, and quotes around one with a tab
 pub cells : IsCell (codes "HEAD") (codes "HEAD  ") × IsCell (codes "HEAD") (codes "HEAD     ")
-    × IsCell (codes "a\tb") (codes "\"a\\tb\"  ") × PutsCell (codes "b") (codes "a  ") (codes "a  b  ")
+    × IsCell (codes "a\tb") (codes "\"a\\tb\"  ") × WritesCell (codes "b") (codes "a  ") (codes "a  b  ")
 cells = (
   (codes "HEAD", 0, inl refl, refl),
   (codes "HEAD", 3, inl refl, refl),
@@ -74,11 +74,11 @@ cells = (
 
 -- one space is no end, nor is a tab
 pub no_cells : ¬ (IsCell (codes "HEAD") (codes "HEAD ")) × ¬ (IsCell (codes "HEAD") (codes "HEAD\t "))
-    × ¬ (PutsCell (codes "b") (codes "a") (codes "b  "))
+    × ¬ (WritesCell (codes "b") (codes "a") (codes "b  "))
 no_cells = (
   one_space,
   a_tab,
-  λ puts. other_byte 0 (codes "b  ") (codes "a" ++ puts.0) (λ byte. omega (arith, byte)) puts.2,
+  λ writes. other_byte 0 (codes "b  ") (codes "a" ++ writes.0) (λ byte. omega (arith, byte)) writes.2,
 )
   where
     one_space : ¬ (IsCell (codes "HEAD") (codes "HEAD "))
@@ -206,22 +206,22 @@ too_short = (
     )
 
 -- cells and lines are behind what was there
-pub put : PutsCells (codes "HEAD") (codes "refs/x/y") (codes "a\n") (codes "a\nHEAD  refs/x/y  ")
-    × PutsLine row (codes "a\n") (codes "a\nrefs/heads/a       refs/remotes/o/a       refs/heads/*:refs/remotes/o/*\n")
-put = (
+pub write : WritesCells (codes "HEAD") (codes "refs/x/y") (codes "a\n") (codes "a\nHEAD  refs/x/y  ")
+    × WritesLine row (codes "a\n") (codes "a\nrefs/heads/a       refs/remotes/o/a       refs/heads/*:refs/remotes/o/*\n")
+write = (
   (codes "HEAD  ", codes "refs/x/y  ", (codes "HEAD", 0, inl refl, refl), (codes "refs/x/y", 0, inl refl, refl), refl),
   (codes "refs/heads/a       refs/remotes/o/a       refs/heads/*:refs/remotes/o/*\n", line, refl),
 )
 
-pub not_put : ¬ (PutsLine row (codes "b\n") (codes "refs/heads/a  refs/remotes/o/a  refs/heads/*:refs/remotes/o/*\n"))
-    × ¬ (PutsCells (codes "HEAD") (codes "refs/x/y") (codes "b\n") (codes "HEAD  refs/x/y  "))
-not_put = (
-  (λ puts. other_byte 0 (codes "refs/heads/a  refs/remotes/o/a  refs/heads/*:refs/remotes/o/*\n")
-      (codes "b\n" ++ puts.0) (λ byte. omega (arith, byte)) puts.2),
-  λ puts. other_byte 0 (codes "HEAD  refs/x/y  ") (codes "b\n" ++ (puts.0 ++ puts.1)) (λ byte. omega (
+pub not_write : ¬ (WritesLine row (codes "b\n") (codes "refs/heads/a  refs/remotes/o/a  refs/heads/*:refs/remotes/o/*\n"))
+    × ¬ (WritesCells (codes "HEAD") (codes "refs/x/y") (codes "b\n") (codes "HEAD  refs/x/y  "))
+not_write = (
+  (λ writes. other_byte 0 (codes "refs/heads/a  refs/remotes/o/a  refs/heads/*:refs/remotes/o/*\n")
+      (codes "b\n" ++ writes.0) (λ byte. omega (arith, byte)) writes.2),
+  λ writes. other_byte 0 (codes "HEAD  refs/x/y  ") (codes "b\n" ++ (writes.0 ++ writes.1)) (λ byte. omega (
     arith,
     byte,
-  )) puts.4,
+  )) writes.4,
 )
 
 -- a line for each row, and each row has one
@@ -280,13 +280,13 @@ tracked_line = record {
 }
 
 -- no destination is `FETCH_HEAD` in a line, and an empty field with zero bytes; `track` has the destination first
-pub told : AddsMappings form.Lines columns.SourceFirst texts (alone ∷ []) [] (codes "HEAD  FETCH_HEAD  HEAD\n")
+pub reported : AddsMappings form.Lines columns.SourceFirst texts (alone ∷ []) [] (codes "HEAD  FETCH_HEAD  HEAD\n")
     × AddsMappings form.Zeros columns.SourceFirst texts (alone ∷ []) []
     ((codes "HEAD" ++ 0 ∷ []) ++ (0 ∷ (codes "HEAD" ++ 0 ∷ [])))
     × AddsMappings form.Lines columns.DestinationFirst texts (to_o ∷ []) (codes "a\n")
     (codes "a\nrefs/remotes/o/main  refs/heads/main  refs/heads/*:refs/remotes/o/*\n")
     × AddsMappings form.Lines columns.SourceFirst texts [] (codes "a\n") (codes "a\n")
-told = (
+reported = (
   (codes "HEAD  FETCH_HEAD  HEAD\n", (codes "HEAD  FETCH_HEAD  HEAD\n", [], alone_line, refl, refl), refl),
   refl,
   (
@@ -298,13 +298,13 @@ told = (
 )
 
 -- zero bytes have no `FETCH_HEAD` before them, nor the destination of `plan` the source's place, and no mapping is lost
-pub not_told : ¬ (AddsMappings form.Zeros columns.SourceFirst texts (alone ∷ []) []
+pub not_reported : ¬ (AddsMappings form.Zeros columns.SourceFirst texts (alone ∷ []) []
     ((codes "HEAD" ++ 0 ∷ []) ++ ((codes "FETCH_HEAD" ++ 0 ∷ []) ++ (codes "HEAD" ++ 0 ∷ []))))
     × ¬ (AddsMappings form.Zeros columns.SourceFirst texts (to_o ∷ []) []
     ((codes "refs/remotes/o/main" ++ 0 ∷ []) ++
     ((codes "refs/heads/main" ++ 0 ∷ []) ++ (codes "refs/heads/*:refs/remotes/o/*" ++ 0 ∷ []))))
     × ¬ (AddsMappings form.Zeros columns.SourceFirst texts (alone ∷ []) [] [])
-not_told = (
+not_reported = (
   (λ same. omega (arith, ap length same)),
   (λ same. omega (arith, ap (λ (l : List ℕ). get_or l 5 0) same)),
   λ same. omega (arith, ap length same),

@@ -3,8 +3,8 @@ use Rattle.std.proofs.Common.{◌≡◌, ℕ, List, [], ◌∷◌, ◌++◌, inl
 use Rattle.gix_refspec_text.proofs.facts.FitFacts.{other_byte}
 use Rattle.refspec_commands.specs.declared.call.Form.{Form}
 use Rattle.refspec_commands.specs.declared.call.Form.TheVariants as form
-use Rattle.refspec_commands.specs.declared.page.Page.{Page}
-use Rattle.refspec_commands.specs.Shown.{AddsNames, AreLines, Grows, IsQuoted, KeepsPage, KeepsResults, PutsQuoted, escaped, zero_ended}
+use Rattle.refspec_commands.specs.declared.report.Report.{Report}
+use Rattle.refspec_commands.specs.Shown.{AddsNames, AreLines, Grows, IsQuoted, KeepsReport, KeepsResults, WritesQuoted, escaped, zero_ended}
 
 -- what ASCII prints stands for itself, and every other byte for its three octal digits
 pub bytes : (escaped 0 ≡ codes "\\000") × (escaped 31 ≡ codes "\\037") × (escaped 32 ≡ codes " ") × (escaped 126 ≡ codes "~") × (escaped 127 ≡ codes "\\177") × (escaped 233 ≡ codes "\\351") × (escaped 255 ≡ codes "\\377")
@@ -107,10 +107,10 @@ kept = (
 )
 
 -- a page keeps its form and, in lines, its results
-pub pages : (p q : Page) → p.form ≡ form.Lines → q.form ≡ form.Lines → p.results.items ≡ codes "a"
-    → (q.results.items ≡ codes "a" → KeepsPage p q)
-    × (q.results.items ≡ codes "ab" → ¬ (KeepsPage p q))
-pages p q is also a = (
+pub reports : (p q : Report) → p.form ≡ form.Lines → q.form ≡ form.Lines → p.results.items ≡ codes "a"
+    → (q.results.items ≡ codes "a" → KeepsReport p q)
+    × (q.results.items ≡ codes "ab" → ¬ (KeepsReport p q))
+reports p q is also a = (
   (λ same. record {
     form = also
         ∙ sym is;
@@ -123,17 +123,17 @@ pages p q is also a = (
       ),
 )
 
-pub other_form : (p q : Page) → p.form ≡ form.Lines → q.form ≡ form.Zeros → ¬ (KeepsPage p q)
+pub other_form : (p q : Report) → p.form ≡ form.Lines → q.form ≡ form.Zeros → ¬ (KeepsReport p q)
 other_form p q is other keeps = let same : form.Zeros ≡ form.Lines = sym other ∙ (keeps.form ∙ is) in cc
 
 -- what is put is behind what was there
-pub put : PutsQuoted (codes "a\t") (codes "x ") (codes "x \"a\\t\"") × PutsQuoted (codes "a") [] (codes "a")
-    × ¬ (PutsQuoted (codes "a") (codes "x") (codes "a")) × Grows (codes "a") (codes "ab") × Grows [] []
+pub write : WritesQuoted (codes "a\t") (codes "x ") (codes "x \"a\\t\"") × WritesQuoted (codes "a") [] (codes "a")
+    × ¬ (WritesQuoted (codes "a") (codes "x") (codes "a")) × Grows (codes "a") (codes "ab") × Grows [] []
     × ¬ (Grows (codes "a") (codes "b")) × ¬ (Grows (codes "a") [])
-put = (
+write = (
   (codes "\"a\\t\"", inr refl, refl),
   (codes "a", inl refl, refl),
-  (λ puts. other_byte 0 (codes "a") (codes "x" ++ puts.0) (λ byte. omega (arith, byte)) puts.2),
+  (λ writes. other_byte 0 (codes "a") (codes "x" ++ writes.0) (λ byte. omega (arith, byte)) writes.2),
   (codes "b", refl),
   ([], refl),
   (λ grown. other_byte 0 (codes "b") (codes "a" ++ grown.0) (λ byte. omega (arith, byte)) grown.1),

@@ -4,8 +4,8 @@ use Rattle.gix_refspec_text.specs.declared.parsing.Operation.{Operation}
 use Rattle.gix_refspec_text.specs.declared.parsing.Operation.TheVariants.{Push, Fetch}
 use Rattle.gix_refspec_text.proofs.facts.FitFacts.{push_is_none}
 use Rattle.refspec_commands.specs.declared.call.Command.TheVariants as command
-use Rattle.refspec_commands.specs.declared.call.Ends.TheVariants as ends
-use Rattle.refspec_commands.specs.declared.texts.Place.TheVariants as place
+use Rattle.refspec_commands.specs.declared.call.Terminator.TheVariants as ends
+use Rattle.refspec_commands.specs.declared.texts.Location.TheVariants as location
 use Rattle.refspec_commands.specs.declared.texts.Text.{Text}
 use Rattle.refspec_commands.specs.Input.{AreRecords}
 use Rattle.refspec_commands.specs.Texts.{AddsRecords, AddsTexts, Given, Spot, at_record, at_setting, at_word, given_of, numbered, record_at, said, spec_input, spot_of, word_at}
@@ -13,7 +13,7 @@ use Rattle.refspec_commands.proofs.facts.InputFacts.{one_record, records, record
 
 -- a text that is read for an operation
 abbrev pub text_for : Operation → List ℕ → Text
-text_for op bytes = record { place = place.Word 1; operation = op; bytes = record { ref_ptr = (0, 0); now = bytes } }
+text_for op bytes = record { location = location.Word 1; operation = op; bytes = record { ref_ptr = (0, 0); now = bytes } }
 
 -- a text has its place, its operation and its bytes
 pub what_is_given : (given_of (text_for Push (codes "a")) ≡ word_at Push 1 (codes "a"))
@@ -22,9 +22,9 @@ pub what_is_given : (given_of (text_for Push (codes "a")) ≡ word_at Push 1 (co
 what_is_given = (refl, refl, refl)
 
 -- words and records by their numbers, settings by their files and keys
-pub spots : (spot_of (place.Word 3) ≡ at_word 3)
-    × (spot_of (place.Record (record { ref_ptr = (0, 0); now = codes "-" }) 2) ≡ at_record (codes "-") 2)
-    × (spot_of (place.Setting (record { ref_ptr = (0, 0); now = codes "file:c" }) (record { ref_ptr = (0, 0); now = codes "k" })) ≡ at_setting (codes "file:c") (codes "k"))
+pub spots : (spot_of (location.Word 3) ≡ at_word 3)
+    × (spot_of (location.Record (record { ref_ptr = (0, 0); now = codes "-" }) 2) ≡ at_record (codes "-") 2)
+    × (spot_of (location.Setting (record { ref_ptr = (0, 0); now = codes "file:c" }) (record { ref_ptr = (0, 0); now = codes "k" })) ≡ at_setting (codes "file:c") (codes "k"))
 spots = (refl, refl, refl)
 
 -- the numbers rise by one from the first
@@ -57,7 +57,7 @@ not_added = (
     number (at_setting file key) = 0
 
     once : (found : List (List ℕ)) → AreRecords 10 found (codes "a\n") → found ≡ codes "a" ∷ []
-    once found cut = records_once 10 found (codes "a" ∷ []) (codes "a\n") cut one_record.0
+    once found split = records_once 10 found (codes "a" ∷ []) (codes "a\n") split one_record.0
 
 -- of a plan the input has refs, and of the other commands specs
 pub inputs : (spec_input command.Plan (codes "a\n") ≡ []) × (spec_input command.Check (codes "a\n") ≡ codes "a\n")

@@ -6,7 +6,7 @@ use Rattle.gix_refspec_text.specs.Texts.Bytes.{star}
 use Rattle.gix_refspec_text.specs.Texts.Name.{HasStar}
 use Rattle.gix_refspec_text.specs.Specs.Reading.{Reading}
 use Rattle.gix_refspec_text.specs.Specs.Grammar.{IsAccepted, IsPositive}
-use Rattle.gix_refspec_text.proofs.lemmas.texts.TextLemmas.{Lacks-Holds}
+use Rattle.gix_refspec_text.proofs.lemmas.texts.TextLemmas.{Lacks-ContainsText}
 use Rattle.gix_refspec_text.proofs.lemmas.specs.AcceptedLemmas.{accepted_balanced}
 use Rattle.gix_refspec.specs.Laws.Matching.{GoesBothWays}
 
@@ -41,7 +41,7 @@ goes_below_refs r s d told positive source destination lacks below = (
     subst (BeginsWith (codes "refs/")) (same_side r.destination d y destination is_y) (below.0 so).1,
   )),
   (λ goes. elim (goes positive s d source destination) [
-    | inl stars ↦ absurd (Lacks-Holds star s lacks stars.0)
+    | inl stars ↦ absurd (Lacks-ContainsText star s lacks stars.0)
     | inr both ↦ below.1 both
   ]),
 )

@@ -8,7 +8,7 @@ use Rattle.gix_refspec_match.specs.declared.hits.ends.Direction.TheVariants.{For
 use Rattle.gix_refspec_text.specs.declared.spec.RefSpecRef.{RefSpecRef}
 use Rattle.gix_refspec_text.specs.Texts.Words.{Lacks, BeginsWith}
 use Rattle.gix_refspec_text.specs.Texts.Bytes.{star}
-use Rattle.gix_refspec_text.specs.Texts.Name.{HasStar, HasSeveralStars, HasOneStar, IsCut}
+use Rattle.gix_refspec_text.specs.Texts.Name.{HasStar, HasSeveralStars, HasOneStar, IsSplit}
 use Rattle.gix_refspec_text.specs.Specs.Reading.{Reading}
 use Rattle.gix_refspec_text.specs.Specs.Grammar.{IsAccepted, IsPositive}
 use Rattle.gix_refspec_text.specs.Specs.Refusal.{IsOneStarred}
@@ -18,8 +18,8 @@ use Rattle.gix_refspec_text.specs.Matching.Match.{Ref, MatchesAs, Matches, HasNa
 use Rattle.gix_refspec_match.specs.Matching.Mappings.{name, Mapped, IsSamePair, HasPair}
 use Rattle.gix_refspec_match.specs.Matching.Hits.{Ends, AreForwardEnds, AreBackwardEnds, IsFilled, Hit, forward_of, backward_of, IsIdMapping, AreForward, AreBackward}
 use Rattle.gix_refspec.specs.Laws.Matching.{IsSourceAmong, IsDestinationAmong, GoesBothWays, Transpose}
-use Rattle.gix_refspec_text.proofs.lemmas.texts.TextLemmas.{Lacks-Holds}
-use Rattle.gix_refspec_text.proofs.lemmas.parsing.DecideLemmas.{FirstPlace, lacks_or_first}
+use Rattle.gix_refspec_text.proofs.lemmas.texts.TextLemmas.{Lacks-ContainsText}
+use Rattle.gix_refspec_text.proofs.lemmas.parsing.DecideLemmas.{FirstIndex, lacks_or_first}
 use Rattle.gix_refspec_text.proofs.lemmas.specs.AcceptedLemmas.{accepted_few, accepted_balanced}
 use Rattle.gix_refspec_match.proofs.lemmas.hits.HitLemmas.{one_kind, matches_as}
 use Rattle.gix_refspec_match.proofs.lemmas.keep.KeptPairLemmas.{IsOfPair, Any-HasPair, HasPair-Any, kept_pairs}
@@ -35,7 +35,7 @@ data AreTwins (x y : List ℕ) : Type 0 where
 
 -- what two such sides make of one another: with one word for both stars n and m, or these two names
 data AreMirrored (x y n m : List ℕ) : Type 0 where
-  by_word : (before after front back word : List ℕ) → IsCut before after x → IsCut front back y → Fits before after n word → Fits front back m word → AreMirrored x y n m
+  by_word : (before after front back word : List ℕ) → IsSplit before after x → IsSplit front back y → Fits before after n word → Fits front back m word → AreMirrored x y n m
   by_name : HasKind x (full_name x) → HasKind y (full_name y) → n ≡ x → m ≡ y → AreMirrored x y n m
 
 mirrored_back : (x y n m : List ℕ) → AreMirrored x y n m → AreMirrored y x m n
@@ -53,18 +53,18 @@ twins_back x y (names of_x of_y) = names of_y of_x
 -- a text with a star, but not with several, has one
 pub one_star : (x : List ℕ) → HasStar x → ¬ (HasSeveralStars x) → HasOneStar x
 one_star x has few = elim (lacks_or_first star x) [
-  | inl lacks ↦ absurd (Lacks-Holds star x lacks has)
-  | inr place ↦ cut place (lacks_or_first star place.after)
+  | inl lacks ↦ absurd (Lacks-ContainsText star x lacks has)
+  | inr index ↦ split index (lacks_or_first star index.after)
 ]
   where
-    cut : (p : FirstPlace star x) → Lacks star p.after ⊎ FirstPlace star p.after → HasOneStar x
-    cut p (inl lacks) = (p.before, p.after, record { starred = p.here; first = p.first; last = lacks })
-    cut p (inr next) = absurd (few (record { before = p.before; between = next.before; after = next.after; here = p.here ∙ ap (λ (y : List ℕ). p.before ++ (star ∷ y)) next.here }))
+    split : (p : FirstIndex star x) → Lacks star p.after ⊎ FirstIndex star p.after → HasOneStar x
+    split p (inl lacks) = (p.before, p.after, record { starred = p.here; first = p.first; last = lacks })
+    split p (inr next) = absurd (few (record { before = p.before; between = next.before; after = next.after; here = p.here ∙ ap (λ (y : List ℕ). p.before ++ (star ∷ y)) next.here }))
 
 pub starred : (x : List ℕ) → Lacks star x ⊎ HasStar x
 starred x = elim (lacks_or_first star x) [
   | inl lacks ↦ inl lacks
-  | inr place ↦ inr (record { before = place.before; after = place.after; here = place.here })
+  | inr index ↦ inr (record { before = index.before; after = index.after; here = index.here })
 ]
 
 -- two sides that both begin `refs/`, or both have a star

@@ -13,7 +13,7 @@ use Rattle.gix_refspec_text.specs.Specs.Meaning.{Meaning, fetch_only, fetch_excl
 use Rattle.gix_refspec_text.specs.Views.Spec.{key_of_spec, reading_of}
 use Rattle.gix_refspec_text.specs.Matching.Match.{Ref, Matches, Takes}
 use Rattle.gix_refspec_match.specs.Matching.Lists.{MakesOf, IsMadeFrom, IsJoinedFrom}
-use Rattle.gix_refspec_match.specs.Matching.Mappings.{Start, name, id, Mapped, IsExcludedBy, IsExcluded, IsStartExcluded, IsKeptAt, IsKept}
+use Rattle.gix_refspec_match.specs.Matching.Mappings.{Source, name, id, Mapped, IsExcludedBy, IsExcluded, IsSourceExcluded, IsKeptAt, IsKept}
 use Rattle.gix_refspec_match.specs.Matching.Hits.{Ends, AreForwardEnds, AreBackwardEnds, Hit, IsFilled, AreSpecHits, AreHits, IsIdMapping, AreKeptForward, AreKeptBackward}
 use Rattle.gix_refspec.specs.Laws.Matching.{ReadsAgainAs, AreReadAgain, MapAlike, FetchGroupReadsBack, FetchTheSame, EqualGroups, AreFetches}
 use Rattle.gix_refspec_text.proofs.lemmas.lists.EqualLemmas.{same_keys}
@@ -203,7 +203,7 @@ excluded n (r ∷ g) [] alike is = absurd alike
 excluded n (r ∷ g) (q ∷ h) alike (inl by) = inl (excluded_by n r q alike.0 by)
 excluded n (r ∷ g) (q ∷ h) alike (inr is) = inr (excluded n g h alike.1 is)
 
-start_excluded : (s : Start) (g h : List Reading) → AllZip AreAlike g h → IsStartExcluded g s → IsStartExcluded h s
+start_excluded : (s : Source) (g h : List Reading) → AllZip AreAlike g h → IsSourceExcluded g s → IsSourceExcluded h s
 start_excluded (name n) g h alike is = excluded n g h alike is
 start_excluded (id i) g h alike is = is
 

@@ -6,7 +6,7 @@ use Rattle.std.proofs.lemmas.List.{append_assoc}
 use Rattle.gix_refspec_text.specs.Specs.Reading.{Reading}
 use Rattle.gix_refspec_text.specs.Matching.Match.{Ref}
 use Rattle.gix_refspec_match.specs.Matching.Lists.{IsMadeFrom}
-use Rattle.gix_refspec_match.specs.Matching.Mappings.{Mapped, HasPair, IsKept, IsStartExcluded, IsKeptAt}
+use Rattle.gix_refspec_match.specs.Matching.Mappings.{Mapped, HasPair, IsKept, IsSourceExcluded, IsKeptAt}
 use Rattle.gix_refspec.specs.Laws.Matching.{IsFirstOfPair, FirstStays}
 use Rattle.gix_refspec_match.proofs.lemmas.hits.HitLemmas.{forward_once, backward_once}
 use Rattle.gix_refspec_match.proofs.lemmas.keep.KeptPairLemmas.{Keeps}
@@ -25,21 +25,21 @@ back (y ∷ ys) m (inr later) = let at = back ys m later in (suc at.0, omega (ar
 
 -- what is kept is the first of its pair
 kept_first : (g : List Reading) (l before xs ys : List Mapped) (k : ℕ) (m : Mapped) → before ++ xs ≡ l → length before ≡ k → IsMadeFrom (Keeps g l) k xs ys → Any (λ y. y ≡ m) ys → IsFirstOfPair g l m
-kept_first g l before [] ys k m whole place empty any = absurd (subst (Any (λ y. y ≡ m)) empty any)
-kept_first g l before (x ∷ xs) ys k m whole place (None, rest, none, more, is) any =
-    kept_first g l (before ++ x ∷ []) xs rest (k + 1) m (append_assoc before (x ∷ []) xs ∙ whole) (omega (arith, length-append before (x ∷ []), place)) more (subst (Any (λ y. y ≡ m)) is any)
-kept_first g l before (x ∷ xs) ys k m whole place (Some y, rest, keeps, more, is) any = elim (subst (Any (λ z. z ≡ m)) is any) [
+kept_first g l before [] ys k m whole index empty any = absurd (subst (Any (λ y. y ≡ m)) empty any)
+kept_first g l before (x ∷ xs) ys k m whole index (None, rest, none, more, is) any =
+    kept_first g l (before ++ x ∷ []) xs rest (k + 1) m (append_assoc before (x ∷ []) xs ∙ whole) (omega (arith, length-append before (x ∷ []), index)) more (subst (Any (λ y. y ≡ m)) is any)
+kept_first g l before (x ∷ xs) ys k m whole index (Some y, rest, keeps, more, is) any = elim (subst (Any (λ z. z ≡ m)) is any) [
   | inl here ↦
       let same : x ≡ m = sym keeps.0 ∙ here in
-      let front : take k l ≡ before = ap (λ (z : List Mapped). take k z) (sym whole) ∙ ap (λ (n : ℕ). take n (before ++ (x ∷ xs))) (sym place) ∙ take-append_seam before (x ∷ xs) in
+      let front : take k l ≡ before = ap (λ (z : List Mapped). take k z) (sym whole) ∙ ap (λ (n : ℕ). take n (before ++ (x ∷ xs))) (sym index) ∙ take-append_seam before (x ∷ xs) in
       record {
         before = before;
         after = xs;
         here = sym whole ∙ ap (λ (z : Mapped). before ++ (z ∷ xs)) same;
         first = subst (λ (z : Mapped). ¬ (HasPair before z)) same (subst (λ (z : List Mapped). ¬ (HasPair z x)) front keeps.1.first);
-        included = subst (λ (z : Mapped). ¬ (IsStartExcluded g z.source)) same keeps.1.included;
+        included = subst (λ (z : Mapped). ¬ (IsSourceExcluded g z.source)) same keeps.1.included;
       }
-  | inr later ↦ kept_first g l (before ++ x ∷ []) xs rest (k + 1) m (append_assoc before (x ∷ []) xs ∙ whole) (omega (arith, length-append before (x ∷ []), place)) more later
+  | inr later ↦ kept_first g l (before ++ x ∷ []) xs rest (k + 1) m (append_assoc before (x ∷ []) xs ∙ whole) (omega (arith, length-append before (x ∷ []), index)) more later
 ]
 
 -- and what is kept at its place is kept

@@ -8,7 +8,7 @@ use Rattle.gix_refspec_text.specs.Specs.Reading.{Reading}
 use Rattle.gix_refspec_text.specs.Matching.Side.{SideKind, pattern, full_name, object, partial, HasKind}
 use Rattle.gix_refspec_text.specs.Matching.Match.{Ref, HasName, IsFirstCandidate, Matches, Takes}
 use Rattle.gix_refspec_text.specs.Matching.Prefix.{of_head, to_prefix}
-use Rattle.gix_refspec_match.specs.Matching.Mappings.{Start, name, id, Mapped, HasPair, IsStartExcluded}
+use Rattle.gix_refspec_match.specs.Matching.Mappings.{Source, name, id, Mapped, HasPair, IsSourceExcluded}
 use Rattle.gix_refspec_match.specs.Matching.Hits.{Ends, AreForwardEnds, AreBackwardEnds, AreKeptForward, AreKeptBackward}
 use Rattle.gix_refspec.specs.Laws.Matching.{PairsItem, MakesForward, MakesBackward, IsCoveredBy}
 use Rattle.gix_refspec.specs.Laws.Items.{ArePart, TakesItem, HasTaken, HaveSamePairs, FewerItems, IsListed, AreListedItems, ListedItems}
@@ -85,27 +85,27 @@ pairs_moved HasEnds T U A B n far r moves pairs =
 abbrev HasTakenBy : (Reading → Ends → Type 0) → (List ℕ → Ref → Option (List ℕ) → Type 0) → List Ref → List Ref → Reading → Type 0
 HasTakenBy HasEnds Taken A B r = (item : Ref) → Contains A item → TakesItem HasEnds Taken item r → Contains B item
 
-forward_in_part : (A B : List Ref) → ArePart A B → (s : Start) (far : Option (List ℕ)) (r : Reading) → HasTakenBy AreForwardEnds (Takes A) A B r → MakesForward A s far r → MakesForward B s far r
+forward_in_part : (A B : List Ref) → ArePart A B → (s : Source) (far : Option (List ℕ)) (r : Reading) → HasTakenBy AreForwardEnds (Takes A) A B r → MakesForward A s far r → MakesForward B s far r
 forward_in_part A B part (name n) far r has makes =
     pairs_moved AreForwardEnds (Takes A) (Takes B) A B n far r (λ ends item word of_r there takes.
     let in_part = has item there (record { ends = ends; has = of_r; word = word; takes = takes }) in
     (in_part, takes_in_part A B part ends.near item word in_part takes)) makes
 forward_in_part A B part (id bytes) far r has makes = makes
 
-forward_in_all : (A B : List Ref) → ArePart A B → (s : Start) (far : Option (List ℕ)) (r : Reading) → HasTakenBy AreForwardEnds (Takes A) A B r → MakesForward B s far r → MakesForward A s far r
+forward_in_all : (A B : List Ref) → ArePart A B → (s : Source) (far : Option (List ℕ)) (r : Reading) → HasTakenBy AreForwardEnds (Takes A) A B r → MakesForward B s far r → MakesForward A s far r
 forward_in_all A B part (name n) far r has makes =
     pairs_moved AreForwardEnds (Takes B) (Takes A) B A n far r (λ ends item word of_r there takes.
     (part item there, takes_in_all A B part ends.near (λ other v in_all taken. has other in_all (record { ends = ends; has = of_r; word = v; takes = taken })) item word there takes)) makes
 forward_in_all A B part (id bytes) far r has makes = makes
 
-backward_in_part : (A B : List Ref) (s : Start) (far : Option (List ℕ)) (r : Reading) → HasTakenBy AreBackwardEnds Matches A B r → MakesBackward A s far r → MakesBackward B s far r
+backward_in_part : (A B : List Ref) (s : Source) (far : Option (List ℕ)) (r : Reading) → HasTakenBy AreBackwardEnds Matches A B r → MakesBackward A s far r → MakesBackward B s far r
 backward_in_part A B (name n) (Some d) r has makes =
     pairs_moved AreBackwardEnds Matches Matches A B d (Some n) r (λ ends item word of_r there takes.
     (has item there (record { ends = ends; has = of_r; word = word; takes = takes }), takes)) makes
 backward_in_part A B (name n) None r has makes = makes
 backward_in_part A B (id bytes) far r has makes = makes
 
-backward_in_all : (A B : List Ref) → ArePart A B → (s : Start) (far : Option (List ℕ)) (r : Reading) → MakesBackward B s far r → MakesBackward A s far r
+backward_in_all : (A B : List Ref) → ArePart A B → (s : Source) (far : Option (List ℕ)) (r : Reading) → MakesBackward B s far r → MakesBackward A s far r
 backward_in_all A B part (name n) (Some d) r makes = pairs_moved AreBackwardEnds Matches Matches B A d (Some n) r (λ ends item word of_r there takes. (part item there, takes)) makes
 backward_in_all A B part (name n) None r makes = makes
 backward_in_all A B part (id bytes) far r makes = makes
@@ -125,13 +125,13 @@ same_kept K F X MA MB of_all of_part to back = ((λ k. of_part.1 (to (of_all.0 k
 
 forward_fewer : (g : List Reading) (A B : List Ref) → ArePart A B → ((r : Reading) → Contains g r → HasTakenBy AreForwardEnds (Takes A) A B r) → (kept fewer : List Mapped) → AreKeptForward g A kept → AreKeptForward g B fewer → HaveSamePairs kept fewer
 forward_fewer g A B part has kept fewer of_all of_part pair =
-    same_kept (HasPair kept pair) (HasPair fewer pair) (¬ (IsStartExcluded g pair.source)) (Any (MakesForward A pair.source pair.destination) g) (Any (MakesForward B pair.source pair.destination) g) ((kept_exactly g A).forward kept of_all pair) ((kept_exactly g B).forward fewer of_part pair)
+    same_kept (HasPair kept pair) (HasPair fewer pair) (¬ (IsSourceExcluded g pair.source)) (Any (MakesForward A pair.source pair.destination) g) (Any (MakesForward B pair.source pair.destination) g) ((kept_exactly g A).forward kept of_all pair) ((kept_exactly g B).forward fewer of_part pair)
     (any_each (MakesForward A pair.source pair.destination) (MakesForward B pair.source pair.destination) g (λ r there. forward_in_part A B part pair.source pair.destination r (has r there)))
     (any_each (MakesForward B pair.source pair.destination) (MakesForward A pair.source pair.destination) g (λ r there. forward_in_all A B part pair.source pair.destination r (has r there)))
 
 backward_fewer : (g : List Reading) (A B : List Ref) → ArePart A B → HasTaken AreBackwardEnds Matches g A B → (kept fewer : List Mapped) → AreKeptBackward g A kept → AreKeptBackward g B fewer → HaveSamePairs kept fewer
 backward_fewer g A B part has kept fewer of_all of_part pair =
-    same_kept (HasPair kept pair) (HasPair fewer pair) (¬ (IsStartExcluded g pair.source)) (Any (MakesBackward A pair.source pair.destination) g) (Any (MakesBackward B pair.source pair.destination) g) ((kept_exactly g A).backward kept of_all pair) ((kept_exactly g B).backward fewer of_part pair)
+    same_kept (HasPair kept pair) (HasPair fewer pair) (¬ (IsSourceExcluded g pair.source)) (Any (MakesBackward A pair.source pair.destination) g) (Any (MakesBackward B pair.source pair.destination) g) ((kept_exactly g A).backward kept of_all pair) ((kept_exactly g B).backward fewer of_part pair)
     (any_each (MakesBackward A pair.source pair.destination) (MakesBackward B pair.source pair.destination) g (λ r there. backward_in_part A B pair.source pair.destination r (taken_by_one AreBackwardEnds Matches g A B has r there)))
     (any_each (MakesBackward B pair.source pair.destination) (MakesBackward A pair.source pair.destination) g (λ r there. backward_in_all A B part pair.source pair.destination r))
 

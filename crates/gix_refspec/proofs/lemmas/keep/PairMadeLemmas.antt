@@ -8,7 +8,7 @@ use Rattle.gix_refspec_match.specs.declared.hits.ends.Direction.TheVariants.{For
 use Rattle.gix_refspec_text.specs.Specs.Reading.{Reading}
 use Rattle.gix_refspec_text.specs.Matching.Match.{Ref, Matches, Takes}
 use Rattle.gix_refspec_match.specs.Matching.Lists.{IsMadeFrom}
-use Rattle.gix_refspec_match.specs.Matching.Mappings.{Start, name, id, Mapped, HasPair, IsStartExcluded, IsKeptAt}
+use Rattle.gix_refspec_match.specs.Matching.Mappings.{Source, name, id, Mapped, HasPair, IsSourceExcluded, IsKeptAt}
 use Rattle.gix_refspec_match.specs.Matching.Hits.{Ends, AreForwardEnds, AreBackwardEnds, IsFilled, Hit, IsIdMapping, AreForward, AreBackward, AreKeptForward, AreKeptBackward, forward_of, backward_of}
 use Rattle.gix_refspec.specs.Laws.Matching.{IsPaired, PairsId, MakesForward, MakesBackward, KeptExactly, NothingExcluded}
 use Rattle.gix_refspec_match.proofs.lemmas.hits.HitLemmas.{id_once}
@@ -18,10 +18,10 @@ use Rattle.gix_refspec_match.proofs.lemmas.lists.SomeLemmas.{Any, Any-left, Any-
 
 -- ---- what a reading reaches is what it makes
 
-abbrev ForwardTo : Start → Option (List ℕ) → List ℕ → Option (List ℕ) → Type 0
+abbrev ForwardTo : Source → Option (List ℕ) → List ℕ → Option (List ℕ) → Type 0
 ForwardTo s d near far = (name near ≡ s) × (far ≡ d)
 
-abbrev BackwardTo : Start → Option (List ℕ) → List ℕ → Option (List ℕ) → Type 0
+abbrev BackwardTo : Source → Option (List ℕ) → List ℕ → Option (List ℕ) → Type 0
 BackwardTo s d near far = (name (unwrap_or far []) ≡ s) × (Some near ≡ d)
 
 pub one_name : (n m : List ℕ) → name n ≡ name m → n ≡ m
@@ -30,7 +30,7 @@ one_name n m same = cc
 pub no_id : (n i : List ℕ) → name n ≡ id i → ⊥
 no_id n i same = cc
 
-reach_forward : (items : List Ref) (s : Start) (d : Option (List ℕ)) (r : Reading) → Reaches AreForwardEnds (Takes items) items (ForwardTo s d) r → MakesForward items s d r
+reach_forward : (items : List Ref) (s : Source) (d : Option (List ℕ)) (r : Reading) → Reaches AreForwardEnds (Takes items) items (ForwardTo s d) r → MakesForward items s d r
 reach_forward items (name n) d r (ends, has, some) = record {
   ends = ends;
   has = has;
@@ -48,7 +48,7 @@ there_far r ends word far has becomes = of_far ends.far has.both becomes
     of_far None none filled = absurd (false≢true none)
     of_far (Some x) some filled = (_, filled.2)
 
-reach_backward : (items : List Ref) (s : Start) (d : Option (List ℕ)) (r : Reading) → Reaches AreBackwardEnds Matches items (BackwardTo s d) r → MakesBackward items s d r
+reach_backward : (items : List Ref) (s : Source) (d : Option (List ℕ)) (r : Reading) → Reaches AreBackwardEnds Matches items (BackwardTo s d) r → MakesBackward items s d r
 reach_backward items (name n) (Some m) r (ends, has, some) = record { ends = ends; has = has; one = some_at (IsPaired Matches ends m (Some n)) items (Any-weaker _ _ one items some) }
   where
     one : (i : Ref) → (word : Option (List ℕ)) × (far : Option (List ℕ)) × Matches ends.near i word × IsFilled ends.far word far × BackwardTo (name n) (Some m) i.name far → IsPaired Matches ends m (Some n) i
@@ -67,7 +67,7 @@ backward_reach items n m r makes = (makes.ends, makes.has, Any-weaker _ _ (λ i 
 
 id_made : (items : List Ref) (pair : Mapped) (r : Reading) → (j : ℕ) × (m : Mapped) × IsIdMapping j r m × IsOfPair pair m → MakesForward items pair.source pair.destination r
 id_made items pair r (j, m, is, same) =
-    subst (λ (s : Start). MakesForward items s pair.destination r) (sym is.source ∙ same.source) (record {
+    subst (λ (s : Source). MakesForward items s pair.destination r) (sym is.source ∙ same.source) (record {
       positive = is.positive;
       text = is.text;
       side = is.side;
@@ -103,13 +103,13 @@ forward_pairs g items l pair are = (there, λ any. back pair.source refl any)
     whole : Any (IsOfPair pair) (are.ids ++ map forward_of are.hits) → HasPair l pair
     whole any = subst (λ (z : List Mapped). HasPair z pair) (sym are.all) (HasPair-Any (are.ids ++ map forward_of are.hits) pair any)
 
-    back : (s : Start) → pair.source ≡ s → Any (MakesForward items pair.source pair.destination) g → HasPair l pair
+    back : (s : Source) → pair.source ≡ s → Any (MakesForward items pair.source pair.destination) g → HasPair l pair
     back (name n) is any =
-        let made : Any (MakesForward items (name n) pair.destination) g = subst (λ (t : Start). Any (MakesForward items t pair.destination) g) is any in
+        let made : Any (MakesForward items (name n) pair.destination) g = subst (λ (t : Source). Any (MakesForward items t pair.destination) g) is any in
         let reached = reach_hits Forward g items are.hits (ForwardTo (name n) pair.destination) are.are_hits (Any-weaker _ _ (forward_reach items n pair.destination) g made) in
         whole (Any-right _ are.ids (map forward_of are.hits) (Any-map (IsOfPair pair) forward_of are.hits (Any-weaker _ _ (λ h both. to_hit h (both.0 ∙ sym is, both.1)) are.hits reached)))
     back (id bytes) is any =
-        let made : Any (PairsId bytes pair.destination) g = subst (λ (t : Start). Any (MakesForward items t pair.destination) g) is any in
+        let made : Any (PairsId bytes pair.destination) g = subst (λ (t : Source). Any (MakesForward items t pair.destination) g) is any in
         whole (Any-left _ are.ids (map forward_of are.hits) (any_made IsIdMapping (IsOfPair pair) 0 g are.ids are.are_ids (Any-weaker _ _ (λ r. made_id pair bytes r is) g made)))
 
 backward_pairs : (g : List Reading) (items : List Ref) (l : List Mapped) (pair : Mapped) → AreBackward g items l → HasPair l pair ↔ Any (MakesBackward items pair.source pair.destination) g
@@ -127,14 +127,14 @@ backward_pairs g items l pair are = (there, λ any. back pair.source pair.destin
         subst (λ (z : List Mapped). HasPair z pair) (sym are.all)
         (HasPair-Any (map backward_of are.hits) pair (Any-map (IsOfPair pair) backward_of are.hits (Any-weaker _ _ (λ (h : Hit) both. record { source = both.0 ∙ sym from; destination = both.1 ∙ sym to }) are.hits reached)))
 
-    back : (s : Start) (d : Option (List ℕ)) → pair.source ≡ s → pair.destination ≡ d → Any (MakesBackward items pair.source pair.destination) g → HasPair l pair
-    back (name n) (Some m) from to any = made_from n m from to (subst (λ (d : Option (List ℕ)). Any (MakesBackward items (name n) d) g) to (subst (λ (s : Start). Any (MakesBackward items s pair.destination) g) from any))
-    back (name n) None from to any = absurd (Any-fact ⊥ g (subst (λ (d : Option (List ℕ)). Any (MakesBackward items (name n) d) g) to (subst (λ (s : Start). Any (MakesBackward items s pair.destination) g) from any)))
-    back (id bytes) d from to any = absurd (Any-fact ⊥ g (subst (λ (s : Start). Any (MakesBackward items s pair.destination) g) from any))
+    back : (s : Source) (d : Option (List ℕ)) → pair.source ≡ s → pair.destination ≡ d → Any (MakesBackward items pair.source pair.destination) g → HasPair l pair
+    back (name n) (Some m) from to any = made_from n m from to (subst (λ (d : Option (List ℕ)). Any (MakesBackward items (name n) d) g) to (subst (λ (s : Source). Any (MakesBackward items s pair.destination) g) from any))
+    back (name n) None from to any = absurd (Any-fact ⊥ g (subst (λ (d : Option (List ℕ)). Any (MakesBackward items (name n) d) g) to (subst (λ (s : Source). Any (MakesBackward items s pair.destination) g) from any)))
+    back (id bytes) d from to any = absurd (Any-fact ⊥ g (subst (λ (s : Source). Any (MakesBackward items s pair.destination) g) from any))
 
 -- ---- what is kept
 
-kept_by : (g : List Reading) (l kept : List Mapped) (pair : Mapped) (M : Type 0) → HasPair kept pair ↔ (HasPair l pair × ¬ (IsStartExcluded g pair.source)) → HasPair l pair ↔ M → HasPair kept pair ↔ (M × ¬ (IsStartExcluded g pair.source))
+kept_by : (g : List Reading) (l kept : List Mapped) (pair : Mapped) (M : Type 0) → HasPair kept pair ↔ (HasPair l pair × ¬ (IsSourceExcluded g pair.source)) → HasPair l pair ↔ M → HasPair kept pair ↔ (M × ¬ (IsSourceExcluded g pair.source))
 kept_by g l kept pair M stays made = (
   (λ has. (made.0 (stays.0 has).0, (stays.0 has).1)),
   (λ both. stays.1 (made.1 both.0, both.1)),
@@ -149,17 +149,17 @@ kept_exactly g items = record {
   backward = λ kept are pair. kept_by g are.all kept pair _ (kept_pairs g are.all kept pair are.is) (placed (MakesBackward items pair.source pair.destination) g (backward_pairs g items are.all pair are.backward));
 }
 
-included : (g : List Reading) (l : List Mapped) (k : ℕ) (xs ys : List Mapped) → IsMadeFrom (λ j m made. (made ≡ m) × IsKeptAt g l j m) k xs ys → AllByRecursion (λ y. ¬ (IsStartExcluded g y.source)) ys
-included g l k [] ys empty = subst (AllByRecursion (λ y. ¬ (IsStartExcluded g y.source))) (sym empty) tt
-included g l k (x ∷ xs) ys (None, rest, none, more, is) = subst (AllByRecursion (λ y. ¬ (IsStartExcluded g y.source))) (sym is) (included g l (k + 1) xs rest more)
-included g l k (x ∷ xs) ys (Some y, rest, stays, more, is) = subst (AllByRecursion (λ y. ¬ (IsStartExcluded g y.source))) (sym is) (
-  subst (λ (z : Mapped). ¬ (IsStartExcluded g z.source)) (sym stays.0) stays.1.included,
+included : (g : List Reading) (l : List Mapped) (k : ℕ) (xs ys : List Mapped) → IsMadeFrom (λ j m made. (made ≡ m) × IsKeptAt g l j m) k xs ys → AllByRecursion (λ y. ¬ (IsSourceExcluded g y.source)) ys
+included g l k [] ys empty = subst (AllByRecursion (λ y. ¬ (IsSourceExcluded g y.source))) (sym empty) tt
+included g l k (x ∷ xs) ys (None, rest, none, more, is) = subst (AllByRecursion (λ y. ¬ (IsSourceExcluded g y.source))) (sym is) (included g l (k + 1) xs rest more)
+included g l k (x ∷ xs) ys (Some y, rest, stays, more, is) = subst (AllByRecursion (λ y. ¬ (IsSourceExcluded g y.source))) (sym is) (
+  subst (λ (z : Mapped). ¬ (IsSourceExcluded g z.source)) (sym stays.0) stays.1.included,
   included g l (k + 1) xs rest more,
 )
 
 pub nothing_excluded : (g : List Reading) (items : List Ref) → NothingExcluded g items
 nothing_excluded g items = record { names = both; ids = λ bytes excluded. excluded }
   where
-    both : (list : List Mapped) → AreKeptForward g items list ⊎ AreKeptBackward g items list → AllByRecursion (λ m. ¬ (IsStartExcluded g m.source)) list
+    both : (list : List Mapped) → AreKeptForward g items list ⊎ AreKeptBackward g items list → AllByRecursion (λ m. ¬ (IsSourceExcluded g m.source)) list
     both list (inl are) = included g are.all 0 are.all list are.is
     both list (inr are) = included g are.all 0 are.all list are.is

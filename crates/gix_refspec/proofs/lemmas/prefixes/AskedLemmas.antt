@@ -11,19 +11,19 @@ use Rattle.gix_refspec_text.specs.declared.parsing.Operation.TheVariants.{Fetch}
 use Rattle.gix_refspec_text.specs.declared.spec.RefSpecRef.{RefSpecRef}
 use Rattle.gix_refspec_text.specs.Views.Spec.{reading_of}
 use Rattle.gix_refspec_text.specs.Texts.Words.{BeginsWith}
-use Rattle.gix_refspec_text.specs.Texts.Name.{IsCut}
+use Rattle.gix_refspec_text.specs.Texts.Name.{IsSplit}
 use Rattle.gix_refspec_text.specs.Specs.Grammar.{IsPositive}
 use Rattle.gix_refspec_text.specs.Specs.Reading.{Reading, side_on_remote}
 use Rattle.gix_refspec_text.specs.Matching.Side.{SideKind, pattern, full_name, object, partial, HasKind}
 use Rattle.gix_refspec_text.specs.Matching.Match.{Ref, Matches, MatchesAs, Takes}
-use Rattle.gix_refspec_text.specs.Matching.Prefix.{TellsPrefix, IsAsked}
+use Rattle.gix_refspec_text.specs.Matching.Prefix.{IsRefPrefix, IsAsked}
 use Rattle.gix_refspec_match.specs.Matching.Lists.{IsJoinedFrom}
-use Rattle.gix_refspec_match.specs.Matching.Mappings.{Start, name}
+use Rattle.gix_refspec_match.specs.Matching.Mappings.{Source, name}
 use Rattle.gix_refspec_match.specs.Matching.Hits.{AreForwardEnds}
 use Rattle.gix_refspec.specs.Laws.Matching.{MakesForward, PairsItem}
 use Rattle.gix_refspec.specs.Matching.Asked.{HasNoList, Lists, ListsAs, ListsGroup, ListsSide, Serves}
 use Rattle.gix_refspec_match.proofs.lemmas.hits.HitLemmas.{one_kind}
-use Rattle.gix_refspec_match.proofs.lemmas.lists.JoinLemmas.{joined_next, map_cut, map_long, nothing_joined}
+use Rattle.gix_refspec_match.proofs.lemmas.lists.JoinLemmas.{joined_next, map_split, map_long, nothing_joined}
 use Rattle.gix_refspec_match.proofs.lemmas.keep.KeptLemmas.{HasPair-from_place}
 use Rattle.gix_refspec.proofs.lemmas.keep.PairMadeLemmas.{kept_exactly}
 use Rattle.gix_refspec_text.proofs.lemmas.prefixes.PrefixLemmas.{one_asked}
@@ -36,8 +36,8 @@ pub list_as : (x : List ℕ) (k : SideKind) (list : List (List ℕ)) → HasKind
 list_as x k list kind lists = subst (λ (l : SideKind). ListsAs l list) (one_kind x lists.kind k lists.of kind) lists.is
 
 -- none for a pattern without a prefix
-pub no_list : (x before after : List ℕ) → IsCut before after x → ¬ (TellsPrefix before []) → (list : List (List ℕ)) → ¬ (ListsSide x list)
-no_list x before after cut vague list lists = vague (list_as x (pattern before after) list cut lists).0
+pub no_list : (x before after : List ℕ) → IsSplit before after x → ¬ (IsRefPrefix before []) → (list : List (List ℕ)) → ¬ (ListsSide x list)
+no_list x before after split vague list lists = vague (list_as x (pattern before after) list split lists).0
 
 -- ---- what begins with an entry
 
@@ -60,7 +60,7 @@ reading_serves : (r : Reading) (items : List Ref) (n : List ℕ) (far : Option (
 reading_serves r items n far list fetch pairs (inl (negative, empty)) = absurd (subst IsPositive negative pairs.has.positive)
 reading_serves r items n far list fetch pairs (inr (x, asked, lists)) =
     let near : IsAsked r pairs.ends.near = record { positive = pairs.has.positive; side = ap (λ (op : Operation). side_on_remote op r.source r.destination) fetch ∙ pairs.has.near } in
-    let (place, item, below, at, one) = pairs.one in
+    let (index, item, below, at, one) = pairs.one in
     subst (λ (m : List ℕ). BeginsWithSome m list) one.name
     (side_serves pairs.ends.near list item one.word pairs.has.no_object one.takes.matches (subst (λ (y : List ℕ). ListsSide y list) (one_asked r x pairs.ends.near asked near) lists))
 
@@ -74,7 +74,7 @@ serves g list joined fetches items kept are =
     recursion_from_All (λ m. (n : List ℕ) → m.source ≡ name n → lists.Any (λ p. BeginsWith p n) list) kept (λ k d below n is.
     let m = get_or kept k d in
     let made = (((kept_exactly g items).forward kept are m).0 (HasPair-from_place kept k d m below (record { source = refl; destination = refl }))).0 in
-    let pairs : lists.Any (MakesForward items (name n) m.destination) g = subst (λ (s : Start). lists.Any (MakesForward items s m.destination) g) is made in
+    let pairs : lists.Any (MakesForward items (name n) m.destination) g = subst (λ (s : Source). lists.Any (MakesForward items s m.destination) g) is made in
     some_at (λ p. BeginsWith p n) list (group_serves g items n m.destination 0 list fetches (some_of (MakesForward items (name n) m.destination) g pairs) joined))
 
 -- ---- the lists that the code makes
@@ -104,7 +104,7 @@ lists_once r a b (inr (x, asked, one)) (inr (y, also, other)) = as_once one.kind
 nothing_at : (specs : List RefSpecRef) (i : ℕ) (spec : RefSpecRef) → i < length specs → spec ≡ get_or specs i spec → ListsGroup (map reading_of specs) [] → Lists (reading_of spec) []
 nothing_at specs i spec below is asks =
     nothing_joined (λ k r names. Lists r names) 0 (map reading_of (take i specs)) (reading_of spec) (map reading_of (drop (suc i) specs))
-    (subst (λ (g : List Reading). ListsGroup g []) (map_cut reading_of specs i spec below ∙ ap (λ (s : RefSpecRef). map reading_of (take i specs) ++ (reading_of s ∷ map reading_of (drop (suc i) specs))) (sym is)) asks)
+    (subst (λ (g : List Reading). ListsGroup g []) (map_split reading_of specs i spec below ∙ ap (λ (s : RefSpecRef). map reading_of (take i specs) ++ (reading_of s ∷ map reading_of (drop (suc i) specs))) (sym is)) asks)
 
 pub asks_something : (specs : List RefSpecRef) (i : ℕ) (spec : RefSpecRef) → i < length specs → spec ≡ get_or specs i spec → ¬ (Lists (reading_of spec) []) → ¬ (ListsGroup (map reading_of specs) [])
 asks_something specs i spec below is some asks = some (nothing_at specs i spec below is asks)

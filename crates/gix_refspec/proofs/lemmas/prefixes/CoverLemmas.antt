@@ -18,7 +18,7 @@ use Rattle.gix_refspec.specs.Laws.Matching.{BeginsWithOne, IsCoveredBy, AsksFor,
 use Rattle.gix_refspec_text.proofs.lemmas.hits.MatchLemmas.{lacks_no_pattern, prefix_begins, has_candidates}
 use Rattle.gix_refspec_text.proofs.lemmas.prefixes.OnePrefixLemmas.{one_prefix}
 use Rattle.gix_refspec_text.proofs.lemmas.prefixes.PrefixLemmas.{one_asked}
-use Rattle.gix_refspec.proofs.lemmas.validate.PlaceFitLemmas.{stands_behind}
+use Rattle.gix_refspec.proofs.lemmas.validate.IndexFitLemmas.{stands_behind}
 use Rattle.std.proofs.lemmas.Option.{same_Some}
 use Rattle.gix_refspec_text.proofs.lemmas.lists.AllLemmas.{all_join, all_weaker}
 use Rattle.gix_refspec.proofs.lemmas.keep.PairMadeLemmas.{one_name, no_id}
@@ -108,12 +108,12 @@ spec_covers g r items k hits here (inr (none, empty)) = subst (AllByRecursion (I
 
 -- so each name that is taken is covered by the spec that takes it
 hits_covered : (g before rest : List Reading) (items : List Ref) (k : ℕ) (hits : List Hit) → before ++ rest ≡ g → length before ≡ k → IsJoinedFrom (AreSpecHits AreForwardEnds (Takes items) items) k rest hits → AllByRecursion (IsHitCovered g) hits
-hits_covered g before [] items k hits whole place none = subst (AllByRecursion (IsHitCovered g)) (sym none) tt
-hits_covered g before (r ∷ rest) items k hits whole place (first, others, of_spec, more, is) =
+hits_covered g before [] items k hits whole index none = subst (AllByRecursion (IsHitCovered g)) (sym none) tt
+hits_covered g before (r ∷ rest) items k hits whole index (first, others, of_spec, more, is) =
     subst (AllByRecursion (IsHitCovered g)) (sym is)
     (all_join (IsHitCovered g) first others
-    (spec_covers g r items k first (subst (λ (i : ℕ). slice_get g i ≡ Some r) place (subst (λ (z : List Reading). slice_get z (length before) ≡ Some r) whole (stands_behind before r rest))) of_spec)
-    (hits_covered g (before ++ r ∷ []) rest items (k + 1) others (append_assoc before (r ∷ []) rest ∙ whole) (omega (arith, length-append before (r ∷ []), place)) more))
+    (spec_covers g r items k first (subst (λ (i : ℕ). slice_get g i ≡ Some r) index (subst (λ (z : List Reading). slice_get z (length before) ≡ Some r) whole (stands_behind before r rest))) of_spec)
+    (hits_covered g (before ++ r ∷ []) rest items (k + 1) others (append_assoc before (r ∷ []) rest ∙ whole) (omega (arith, length-append before (r ∷ []), index)) more))
 
 -- the names that mappings have as sources are as P says
 abbrev SourcesAre : (Mapped → List ℕ → Type 0) → List Mapped → Type 0

@@ -6,7 +6,7 @@ use Rattle.std.proofs.lemmas.List.Splits.{join_with_byte-slice_split}
 use Rattle.gix_refspec_text.specs.declared.name.Error.{Error}
 use Rattle.gix_refspec_text.specs.declared.name.Error.TheVariants.{Empty, EmptyComponent, StartsWithDot, LockSuffix, EndsWithDot, RepeatedDot, ReflogPortion, Asterisk, InvalidByte}
 use Rattle.gix_refspec_text.specs.Texts.Bytes.{at, brace, dot, slash, star}
-use Rattle.gix_refspec_text.specs.Texts.Words.{BeginsWith, EndsWith, Holds}
+use Rattle.gix_refspec_text.specs.Texts.Words.{BeginsWith, EndsWith, ContainsText}
 use Rattle.gix_refspec_text.specs.Texts.Name.{is_refused_byte, HasFault, SomeComponent}
 use Rattle.gix_refspec.specs.Laws.Names.{is_plain_component, is_plain_name, is_special_byte, PlainNames}
 use Rattle.gix_refspec_text.proofs.lemmas.texts.ComponentLemmas.{AllByRecursion-parts}
@@ -87,7 +87,7 @@ refused_other b refused same = false≢true (ap is_refused_byte (sym same) ∙ r
 no_refused : (b : ℕ) (before after x : List ℕ) → is_refused_byte b ≡ true → AllByRecursion Fine x → ¬ (x ≡ before ++ (b ∷ after))
 no_refused b before after x refused fine here = not_there b before after x (refused_other b refused) (refused_special b refused) fine here
 
-no_portion : (x : List ℕ) → AllByRecursion Fine x → ¬ (Holds (codes "@{") x)
+no_portion : (x : List ℕ) → AllByRecursion Fine x → ¬ (ContainsText (codes "@{") x)
 no_portion x fine holds = no_brace (holds.before ++ at ∷ []) holds.after x fine (holds.here ∙ sym (append_assoc holds.before (at ∷ []) (brace ∷ holds.after)))
 
 not_nothing : (x : List ℕ) → is_plain_name x ≡ true → x ≢ []

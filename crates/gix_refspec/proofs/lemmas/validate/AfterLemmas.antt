@@ -7,7 +7,7 @@ use Rattle.gix_refspec_match.specs.Matching.Lists.{IsMadeFrom, IsJoinedFrom}
 use Rattle.gix_refspec_text.specs.Matching.Match.{Ref, Takes}
 use Rattle.gix_refspec_match.specs.Matching.Mappings.{Mapped, IsSamePair, AreApart, IsKeptAt}
 use Rattle.gix_refspec_match.specs.Matching.Hits.{AreForwardEnds, AreKeptForward, AreSpecHits, Hit, IsHit, IsIdMapping, forward_of}
-use Rattle.gix_refspec.specs.Matching.Validation.{AreConflicts, ForwardFits, HaveOneSource, IsValidated, MeetAt, NeverMeet, Removed, Survives, ValidatedOnce}
+use Rattle.gix_refspec.specs.Matching.Validation.{AreConflicts, ForwardFits, DestinationsHaveOneSource, IsValidated, ShareDestination, HaveDistinctDestinations, Removed, Survives, ValidatedOnce}
 use Rattle.gix_refspec.proofs.lemmas.validate.FirstLemmas.{start_cases}
 use Rattle.gix_refspec_match.proofs.lemmas.keep.KeptLemmas.{kept_once}
 use Rattle.gix_refspec_text.proofs.lemmas.lists.AllLemmas.{all_join}
@@ -57,40 +57,40 @@ apart_still S k (x ∷ xs) ys apart (Some y, rest, one, more, is) = subst AreApa
 )
 
 -- mappings with one source for each destination, and no pair twice, have no destination twice
-never_meet : (l : List Mapped) → HaveOneSource l → AreApart l → NeverMeet l
-never_meet [] one apart = tt
-never_meet (m ∷ l) one apart = (
-  recursion_from_All (λ n. ¬ (MeetAt m n)) l (λ k d below meet.
+distinct_destinations : (l : List Mapped) → DestinationsHaveOneSource l → AreApart l → HaveDistinctDestinations l
+distinct_destinations [] one apart = tt
+distinct_destinations (m ∷ l) one apart = (
+  recursion_from_All (λ n. ¬ (ShareDestination m n)) l (λ k d below meet.
       let n = get_or l k d in
       let there : Contains (m ∷ l) n = within n (Contains-get_or l k d below) in
       All-from_recursion (λ z. ¬ (IsSamePair m z)) l apart.0 k d below (record { source = one m n meet.0 (0, omega arith, refl) there meet.1 meet.2; destination = meet.1 ∙ sym meet.2 })),
-  never_meet l (λ a b d has_a has_b. one a b d (within a has_a) (within b has_b)) apart.1,
+  distinct_destinations l (λ a b d has_a has_b. one a b d (within a has_a) (within b has_b)) apart.1,
 )
   where
     within : (n : Mapped) → Contains l n → Contains (m ∷ l) n
     within n (k, below, is) = (suc k, omega (arith, below), is)
 
 -- mappings of which no destination is in conflict have one source for each
-pub free_one_source : (g : List Reading) (l : List Mapped) → AreConflicts g l [] → HaveOneSource l
+pub free_one_source : (g : List Reading) (l : List Mapped) → AreConflicts g l [] → DestinationsHaveOneSource l
 free_one_source g l free m n d has_m has_n m_to n_to = elim (start_cases m.source n.source) [
   | inl same ↦ same
   | inr apart ↦ let none = free.every d (record { one = m; other = n; has_one = has_m; has_other = has_n; one_to = m_to; other_to = n_to; differ = apart }) in let inside = none.1 in absurd (omega (arith, inside))
 ]
 
 -- so where they came from items, no two have one destination
-pub kept_never_meet : (g : List Reading) (items : List Ref) (l : List Mapped) → AreKeptForward g items l → AreConflicts g l [] → NeverMeet l
-kept_never_meet g items l kept free = never_meet l (free_one_source g l free) (kept_once g kept.all l kept.is)
+pub kept_distinct_destinations : (g : List Reading) (items : List Ref) (l : List Mapped) → AreKeptForward g items l → AreConflicts g l [] → HaveDistinctDestinations l
+kept_distinct_destinations g items l kept free = distinct_destinations l (free_one_source g l free) (kept_once g kept.all l kept.is)
 
 -- what is left has one source for each destination
-one_source : (g : List Reading) (l rest : List Mapped) (fixes : List Removed) → IsValidated g l rest fixes → HaveOneSource rest
+one_source : (g : List Reading) (l rest : List Mapped) (fixes : List Removed) → IsValidated g l rest fixes → DestinationsHaveOneSource rest
 one_source g l rest fixes valid m n d has_m has_n m_to n_to = free_one_source g l valid.free m n d (was m has_m) (was n has_n) m_to n_to
   where
     was : (m : Mapped) → Contains rest m → Contains l m
     was m (k, below, is) = subst (Contains l) is (All-from_recursion (Contains l) rest (stays_each (λ j x. Survives x) (Contains l) 0 l rest (recursion_from_All (Contains l) l (All-contains_itself l)) valid.survive) k m below)
 
 -- and where no pair was there twice, no destination is
-pub never_meet_after : (g : List Reading) (l rest : List Mapped) (fixes : List Removed) → IsValidated g l rest fixes → AreApart l → NeverMeet rest
-never_meet_after g l rest fixes valid apart = never_meet rest (one_source g l rest fixes valid) (apart_still (λ k m. Survives m) 0 l rest apart valid.survive)
+pub distinct_destinations_after : (g : List Reading) (l rest : List Mapped) (fixes : List Removed) → IsValidated g l rest fixes → AreApart l → HaveDistinctDestinations rest
+distinct_destinations_after g l rest fixes valid apart = distinct_destinations rest (one_source g l rest fixes valid) (apart_still (λ k m. Survives m) 0 l rest apart valid.survive)
 
 pub validated_once : (g : List Reading) (items : List Ref) → ValidatedOnce g items
-validated_once g items l rest fixes valid = (one_source g l rest fixes valid, λ kept. never_meet_after g l rest fixes valid (kept_once g kept.all l kept.is))
+validated_once g items l rest fixes valid = (one_source g l rest fixes valid, λ kept. distinct_destinations_after g l rest fixes valid (kept_once g kept.all l kept.is))

@@ -46,13 +46,13 @@ first_alone x xs k m d apart goes is also =
     apart_first (name_hash d) (destination_hashes xs) (subst (λ (ns : List ℕ). AreApart (ns ++ destination_hashes xs)) there apart) (has_hash xs k m d is also)
 
 -- mappings to one destination are one
-one_place : (l : List Mapped) (j k : ℕ) (m n : Mapped) (d : List ℕ) → AreApart (destination_hashes l) → slice_get l j ≡ Some m → slice_get l k ≡ Some n → m.destination ≡ Some d → n.destination ≡ Some d → m ≡ n
+one_index : (l : List Mapped) (j k : ℕ) (m n : Mapped) (d : List ℕ) → AreApart (destination_hashes l) → slice_get l j ≡ Some m → slice_get l k ≡ Some n → m.destination ≡ Some d → n.destination ≡ Some d → m ≡ n
 unfolding hash_of
-one_place [] j k m n d apart is_m is_n to_m to_n = absurd (cc)
-one_place (x ∷ xs) zero zero m n d apart is_m is_n to_m to_n = let same : Some m ≡ Some n = sym is_m ∙ is_n in cc
-one_place (x ∷ xs) zero (suc k) m n d apart is_m is_n to_m to_n = let same : Some x ≡ Some m = is_m in let to_x : x.destination ≡ Some d = cc in absurd (first_alone x xs k n d apart to_x is_n to_n)
-one_place (x ∷ xs) (suc j) zero m n d apart is_m is_n to_m to_n = let same : Some x ≡ Some n = is_n in let to_x : x.destination ≡ Some d = cc in absurd (first_alone x xs j m d apart to_x is_m to_m)
-one_place (x ∷ xs) (suc j) (suc k) m n d apart is_m is_n to_m to_n = one_place xs j k m n d (apart_right (hash_of x) (destination_hashes xs) apart) is_m is_n to_m to_n
+one_index [] j k m n d apart is_m is_n to_m to_n = absurd (cc)
+one_index (x ∷ xs) zero zero m n d apart is_m is_n to_m to_n = let same : Some m ≡ Some n = sym is_m ∙ is_n in cc
+one_index (x ∷ xs) zero (suc k) m n d apart is_m is_n to_m to_n = let same : Some x ≡ Some m = is_m in let to_x : x.destination ≡ Some d = cc in absurd (first_alone x xs k n d apart to_x is_n to_n)
+one_index (x ∷ xs) (suc j) zero m n d apart is_m is_n to_m to_n = let same : Some x ≡ Some n = is_n in let to_x : x.destination ≡ Some d = cc in absurd (first_alone x xs j m d apart to_x is_m to_m)
+one_index (x ∷ xs) (suc j) (suc k) m n d apart is_m is_n to_m to_n = one_index xs j k m n d (apart_right (hash_of x) (destination_hashes xs) apart) is_m is_n to_m to_n
 
 -- numbers of which each is below the next rise
 pub rises_from_next : (ns : List ℕ) → ((k : ℕ) → suc k < length ns → get_or ns k 0 < get_or ns (suc k) 0) → Rises ns
@@ -74,4 +74,4 @@ none_contested l sorted moved rises d c =
     let apart : AreApart (destination_hashes l) = apart_places sorted (destination_hashes l) (IsPermutation-sym (destination_hashes l) sorted moved) rises in
     let one = at_contained l c.one c.has_one in
     let other = at_contained l c.other c.has_other in
-    c.differ (ap (λ (m : Mapped). m.source) (one_place l one.0 other.0 c.one c.other d apart one.1 other.1 c.one_to c.other_to))
+    c.differ (ap (λ (m : Mapped). m.source) (one_index l one.0 other.0 c.one c.other d apart one.1 other.1 c.one_to c.other_to))

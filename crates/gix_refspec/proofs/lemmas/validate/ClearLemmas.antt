@@ -12,10 +12,10 @@ use Rattle.gix_refspec_text.specs.Matching.Match.{Ref, MatchesAs, Takes}
 use Rattle.gix_refspec_match.specs.Matching.Lists.{IsMadeFrom, IsJoinedFrom}
 use Rattle.gix_refspec_match.specs.Matching.Mappings.{Mapped, IsKeptAt}
 use Rattle.gix_refspec_match.specs.Matching.Hits.{Ends, AreForwardEnds, AreSpecHits, IsFilled, Hit, IsHit, IsIdMapping, AreKeptForward, forward_of}
-use Rattle.gix_refspec_text.proofs.lemmas.texts.TextLemmas.{Lacks-from_places}
+use Rattle.gix_refspec_text.proofs.lemmas.texts.TextLemmas.{Lacks-from_indexes}
 use Rattle.gix_refspec_text.proofs.lemmas.texts.ObjectIdLemmas.{IsLowerText-lower_of, decode_of-IsIdText}
 use Rattle.gix_refspec.proofs.lemmas.validate.AfterLemmas.{stays_each}
-use Rattle.gix_refspec.specs.Laws.Plans.{LacksIn, MappedLacks, NoControlCharacter, SidesLack, StartLacks}
+use Rattle.gix_refspec.specs.Laws.Plans.{LacksIn, MappedLacks, NoControlCharacter, SidesLack, SourceLacks}
 use Rattle.gix_refspec.proofs.lemmas.validate.PlacedOnceLemmas.{printed_lacks, sides_lack}
 use Rattle.hex.proofs.HexLemmas.{decode_of-ok}
 use Rattle.gix_refspec_text.proofs.lemmas.lists.AllLemmas.{all_left, all_right, all_join}
@@ -29,7 +29,7 @@ module _ (b : ℕ) (below : b < 32) (no_digit : is_lower_digit b ≡ false) wher
   lower_lacks t i text =
       let bytes = (decode_of-ok t i (decode_of-IsIdText t i text)).3 in
       let lower = (IsLowerText-lower_of text.kind i text.bytes bytes).1 in
-      Lacks-from_places b (lower_of i) (λ k inside same. false≢true (sym no_digit ∙ ap is_lower_digit (sym (eqb-true (get_or (lower_of i) k 0) b same)) ∙ lower k 0 inside))
+      Lacks-from_indexes b (lower_of i) (λ k inside same. false≢true (sym no_digit ∙ ap is_lower_digit (sym (eqb-true (get_or (lower_of i) k 0) b same)) ∙ lower k 0 inside))
 
   high : (c : ℕ) → 32 < c → c ≢ b
   high c above same = omega (arith, above, same, below)
@@ -47,9 +47,9 @@ module _ (b : ℕ) (below : b < 32) (no_digit : is_lower_digit b ≡ false) wher
   chosen_lacks false x lacks = all_join (λ c. c ≢ b) (codes "refs/heads/") x branch_lacks lacks
 
   filled_lacks : (x : List ℕ) (kind : SideKind) (word : Option (List ℕ)) → HasKind x kind → Lacks b x → LacksIn b word → Lacks b (filled kind word)
-  filled_lacks x (pattern before after) None cut lacks clear = subst (Lacks b) cut.starred lacks
-  filled_lacks x (pattern before after) (Some w) cut lacks clear =
-      let all = subst (Lacks b) cut.starred lacks in
+  filled_lacks x (pattern before after) None split lacks clear = subst (Lacks b) split.starred lacks
+  filled_lacks x (pattern before after) (Some w) split lacks clear =
+      let all = subst (Lacks b) split.starred lacks in
       all_join (λ c. c ≢ b) before (w ++ after) (all_left (λ c. c ≢ b) before (star ∷ after) all) (all_join (λ c. c ≢ b) w after clear (all_right (λ c. c ≢ b) before (star ∷ after) all).1)
   filled_lacks x (full_name n) word has lacks clear = subst (Lacks b) (sym has.0) lacks
   filled_lacks x (object i) word has lacks clear = all_join (λ c. c ≢ b) (codes "refs/heads/") (lower_of i) branch_lacks (lower_lacks x i has.2)
@@ -94,7 +94,7 @@ module _ (b : ℕ) (below : b < 32) (no_digit : is_lower_digit b ≡ false) wher
   ids_lack k [] ids sides empty = subst (AllByRecursion (MappedLacks b)) (sym empty) tt
   ids_lack k (r ∷ g) ids sides (None, rest, none, more, is) = subst (AllByRecursion (MappedLacks b)) (sym is) (ids_lack (k + 1) g rest sides.1 more)
   ids_lack k (r ∷ g) ids sides (Some m, rest, made, more, is) = subst (AllByRecursion (MappedLacks b)) (sym is) (
-    (subst (StartLacks b) (sym made.source) (lower_lacks made.text made.bytes made.object.2), far_lacks r.destination None m.destination made.destination sides.0.1 tt),
+    (subst (SourceLacks b) (sym made.source) (lower_lacks made.text made.bytes made.object.2), far_lacks r.destination None m.destination made.destination sides.0.1 tt),
     ids_lack (k + 1) g rest sides.1 more,
   )
 

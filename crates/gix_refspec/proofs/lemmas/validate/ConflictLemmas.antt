@@ -18,72 +18,72 @@ use Rattle.gix_refspec_text.specs.declared.spec.RefSpecRef.{RefSpecRef}
 use Rattle.gix_refspec_text.specs.Specs.Reading.{Reading}
 use Rattle.gix_refspec_text.specs.Specs.Meaning.{printed}
 use Rattle.gix_refspec_text.specs.Views.Spec.{reading_of}
-use Rattle.gix_refspec_match.specs.Matching.Mappings.{Start, name, id, Mapped, HasPair}
+use Rattle.gix_refspec_match.specs.Matching.Mappings.{Source, name, id, Mapped, HasPair}
 use Rattle.gix_refspec_match.specs.Views.Mapping.{mapped_of, name_bytes, start_of, IsNameCopy, IsSourceCopy}
 use Rattle.gix_refspec_text.specs.Texts.ObjectId.{id_bytes}
 use Rattle.gix_refspec.specs.Matching.Validation.{AreConflicts, Conflict, IndexesFit, IsConflict, HasConflictAt, IsFirstTo, IsTextAt}
 use Rattle.gix_refspec_match.specs.Private.Kept.{FlagsRepeats, Has, IsFlagged, IsRepeat, Rises}
-use Rattle.gix_refspec.specs.Private.Updates.{AddsConflict, AreUpdates, AreFirstUpdates, AreConflicting, HasUpdate, IsRun, IsFirstAt, IsConflictOf, update_cmp, updated_places}
+use Rattle.gix_refspec.specs.Private.Updates.{AddsConflict, AreUpdates, AreFirstUpdates, AreConflicting, HasUpdate, IsRun, IsFirstAt, IsConflictOf, update_cmp, updated_indexes}
 use Rattle.gix_refspec_match.proofs.lemmas.keep.RepeatLemmas.{some_mapping}
 use Rattle.gix_refspec_match.proofs.lemmas.keep.KeptLemmas.{repeats_at}
 use Rattle.gix_refspec.proofs.lemmas.validate.UpdateLemmas.{HasUpdate-cases, HasUpdate-left, HasUpdate-right, later, mapped_at, not_below_itself, strict_left, strict_right}
-use Rattle.gix_refspec.proofs.lemmas.validate.FirstLemmas.{IsOfPlace, contested_from_firsts, made_at_places, one_mapping, two_firsts}
+use Rattle.gix_refspec.proofs.lemmas.validate.FirstLemmas.{IsOfIndex, contested_from_firsts, made_at_indexes, one_mapping, two_firsts}
 use Rattle.std.proofs.lemmas.Slice.Zip.{all_zipped_more}
 use Rattle.gix_refspec_text.proofs.lemmas.lists.AllLemmas.{all_right, all_join, all_weaker}
 
 -- the mappings at the places have these sources, and their specs these texts
-pub record AreTold (g : List Reading) (l : List Mapped) (ns : List ℕ) (sources : List Start) (texts : List (List ℕ)) : Type 0 where
-  pub sources_are : AllZip (IsOfPlace (λ m source. source ≡ m.source) l) ns sources
-  pub texts_are : AllZip (IsOfPlace (λ m text. IsTextAt g m.spec text) l) ns texts
+pub record AreTold (g : List Reading) (l : List Mapped) (ns : List ℕ) (sources : List Source) (texts : List (List ℕ)) : Type 0 where
+  pub sources_are : AllZip (IsOfIndex (λ m source. source ≡ m.source) l) ns sources
+  pub texts_are : AllZip (IsOfIndex (λ m text. IsTextAt g m.spec text) l) ns texts
 
 -- updates of one destination have the places of the updates of it
-pub places_to_one : (x : List ℕ) (cs : List Update) (k : ℕ) → AllByRecursion (λ c. c.destination.now ≡ x) cs → Has (updated_places cs) k ↔ HasUpdate cs k x
-places_to_one x [] k same = ((λ none. none), (λ none. none))
-places_to_one x (c ∷ cs) k same = (
+pub indexes_to_one : (x : List ℕ) (cs : List Update) (k : ℕ) → AllByRecursion (λ c. c.destination.now ≡ x) cs → Has (updated_indexes cs) k ↔ HasUpdate cs k x
+indexes_to_one x [] k same = ((λ none. none), (λ none. none))
+indexes_to_one x (c ∷ cs) k same = (
   (λ has. elim has [
     | inl here ↦ inl (here, same.0)
-    | inr there ↦ inr ((places_to_one x cs k same.1).0 there)
+    | inr there ↦ inr ((indexes_to_one x cs k same.1).0 there)
   ]),
   (λ has. elim has [
     | inl here ↦ inl here.0
-    | inr there ↦ inr ((places_to_one x cs k same.1).1 there)
+    | inr there ↦ inr ((indexes_to_one x cs k same.1).1 there)
   ]),
 )
 
 -- and in order these rise
-pub places_rise : (x : List ℕ) (cs : List Update) → AllByRecursion (λ c. c.destination.now ≡ x) cs → IsStrictlySortedBy update_cmp cs → Rises (updated_places cs)
+pub indexes_rise : (x : List ℕ) (cs : List Update) → AllByRecursion (λ c. c.destination.now ≡ x) cs → IsStrictlySortedBy update_cmp cs → Rises (updated_indexes cs)
 unfolding IsStrictlySortedBy
-places_rise x [] same strict = tt
-places_rise x (c ∷ cs) same strict = (each cs same.1 strict.0, places_rise x cs same.1 strict.1)
+indexes_rise x [] same strict = tt
+indexes_rise x (c ∷ cs) same strict = (each cs same.1 strict.0, indexes_rise x cs same.1 strict.1)
   where
-    each : (ys : List Update) → AllByRecursion (λ y. y.destination.now ≡ x) ys → AllByRecursion (λ y. update_cmp c y ≡ Less) ys → AllByRecursion (λ n. c.place < n) (updated_places ys)
+    each : (ys : List Update) → AllByRecursion (λ y. y.destination.now ≡ x) ys → AllByRecursion (λ y. update_cmp c y ≡ Less) ys → AllByRecursion (λ n. c.index < n) (updated_indexes ys)
     each [] same2 less = tt
     each (y ∷ ys) same2 less = (one y same2.0 less.0, each ys same2.1 less.1)
       where
-        one : (y : Update) → y.destination.now ≡ x → update_cmp c y ≡ Less → c.place < y.place
+        one : (y : Update) → y.destination.now ≡ x → update_cmp c y ≡ Less → c.index < y.index
         one y to_x is = elim (later c y is) [
           | inl below ↦ absurd (not_below_itself x (subst (λ (d : List ℕ). slice_cmp nat_cmp d x ≡ Less) same.0 (subst (λ (d : List ℕ). slice_cmp nat_cmp c.destination.now d ≡ Less) to_x below)))
           | inr tied ↦ tied.1
         ]
 
 -- each conflicting has a place among the mappings
-pub conflicting_fits : (ms : List Mapping) (run : List Update) (i : ℕ) (d : Update) → AreConflicting (map mapped_of ms) run → i < length run → (get_or run i d).place < length ms
-conflicting_fits ms run i d conflicting below = All-from_recursion (λ (c : Update). c.place < length ms) run (each run conflicting.same (λ k has. (conflicting.are k).0 has)) i d below
+pub conflicting_fits : (ms : List Mapping) (run : List Update) (i : ℕ) (d : Update) → AreConflicting (map mapped_of ms) run → i < length run → (get_or run i d).index < length ms
+conflicting_fits ms run i d conflicting below = All-from_recursion (λ (c : Update). c.index < length ms) run (each run conflicting.same (λ k has. (conflicting.are k).0 has)) i d below
   where
-    each : (cs : List Update) → AllByRecursion (λ c. c.destination.now ≡ conflicting.destination) cs → ((k : ℕ) → HasUpdate cs k conflicting.destination → IsFirstAt (map mapped_of ms) k conflicting.destination) → AllByRecursion (λ c. c.place < length ms) cs
+    each : (cs : List Update) → AllByRecursion (λ c. c.destination.now ≡ conflicting.destination) cs → ((k : ℕ) → HasUpdate cs k conflicting.destination → IsFirstAt (map mapped_of ms) k conflicting.destination) → AllByRecursion (λ c. c.index < length ms) cs
     each [] same told = tt
     each (c ∷ cs) same told =
-        let first = told c.place (inl (refl, same.0)) in
-        let below = slice_get_within (map mapped_of ms) c.place first.0 first.1 in
+        let first = told c.index (inl (refl, same.0)) in
+        let below = slice_get_within (map mapped_of ms) c.index first.0 first.1 in
         (omega (arith, below, length-map ms mapped_of), each cs same.1 (λ k has. told k (inr has)))
 
 -- what the updates of all sources of a destination tell is its conflict
-pub conflict_from_conflicting : (g : List Reading) (l : List Mapped) (run : List Update) (d : List ℕ) (sources : List Start) (texts : List (List ℕ)) → (conflicting : AreConflicting l run) → AreTold g l (updated_places run) sources texts → d ≡ conflicting.destination → IsConflictOf g l run (record { destination = d; sources = sources; texts = texts })
+pub conflict_from_conflicting : (g : List Reading) (l : List Mapped) (run : List Update) (d : List ℕ) (sources : List Source) (texts : List (List ℕ)) → (conflicting : AreConflicting l run) → AreTold g l (updated_indexes run) sources texts → d ≡ conflicting.destination → IsConflictOf g l run (record { destination = d; sources = sources; texts = texts })
 conflict_from_conflicting g l run d sources texts conflicting told to = subst (λ (e : List ℕ). IsConflictOf g l run (record { destination = e; sources = sources; texts = texts })) (sym to) (record {
   is = record {
-    contested = two run conflicting.several rises (λ k has. (conflicting.are k).0 ((places_to_one x run k conflicting.same).0 has));
-    sources = made_at_places (λ k m. IsFirstTo x l k m) (λ m source. source ≡ m.source) l 0 l (updated_places run) sources at has rises (any_above (updated_places run)) told.sources_are;
-    texts = made_at_places (λ k m. IsFirstTo x l k m) (λ m text. IsTextAt g m.spec text) l 0 l (updated_places run) texts at has rises (any_above (updated_places run)) told.texts_are;
+    contested = two run conflicting.several rises (λ k has. (conflicting.are k).0 ((indexes_to_one x run k conflicting.same).0 has));
+    sources = made_at_indexes (λ k m. IsFirstTo x l k m) (λ m source. source ≡ m.source) l 0 l (updated_indexes run) sources at has rises (any_above (updated_indexes run)) told.sources_are;
+    texts = made_at_indexes (λ k m. IsFirstTo x l k m) (λ m text. IsTextAt g m.spec text) l 0 l (updated_indexes run) texts at has rises (any_above (updated_indexes run)) told.texts_are;
   };
   same = conflicting.same;
 })
@@ -91,8 +91,8 @@ conflict_from_conflicting g l run d sources texts conflicting told to = subst (�
     x : List ℕ
     x = conflicting.destination
 
-    rises : Rises (updated_places run)
-    rises = places_rise x run conflicting.same conflicting.order
+    rises : Rises (updated_indexes run)
+    rises = indexes_rise x run conflicting.same conflicting.order
 
     at : (j : ℕ) → slice_get l j ≡ slice_get l (0 + j)
     at j = let same : j ≡ 0 + j = omega arith in ap (slice_get l) same
@@ -101,16 +101,16 @@ conflict_from_conflicting g l run d sources texts conflicting told to = subst (�
     any_above [] = tt
     any_above (n ∷ ns) = (omega arith, any_above ns)
 
-    has : (j : ℕ) (m : Mapped) → 0 ≤ j → slice_get l j ≡ Some m → Has (updated_places run) j ↔ IsFirstTo x l j m
+    has : (j : ℕ) (m : Mapped) → 0 ≤ j → slice_get l j ≡ Some m → Has (updated_indexes run) j ↔ IsFirstTo x l j m
     has j m low is = (
-      (λ there. let first = (conflicting.are j).0 ((places_to_one x run j conflicting.same).0 there) in subst (λ (n : Mapped). IsFirstTo x l j n) (one_mapping l j first.0 m first.1 is) first.2),
-      (λ first. (places_to_one x run j conflicting.same).1 ((conflicting.are j).1 (m, is, first))),
+      (λ there. let first = (conflicting.are j).0 ((indexes_to_one x run j conflicting.same).0 there) in subst (λ (n : Mapped). IsFirstTo x l j n) (one_mapping l j first.0 m first.1 is) first.2),
+      (λ first. (indexes_to_one x run j conflicting.same).1 ((conflicting.are j).1 (m, is, first))),
     )
 
-    two : (cs : List Update) → 1 < length cs → Rises (updated_places cs) → ((k : ℕ) → Has (updated_places cs) k → IsFirstAt l k x) → HasConflictAt l x
+    two : (cs : List Update) → 1 < length cs → Rises (updated_indexes cs) → ((k : ℕ) → Has (updated_indexes cs) k → IsFirstAt l k x) → HasConflictAt l x
     two [] several up first = absurd (omega arith)
     two (c ∷ []) several up first = absurd (omega arith)
-    two (c ∷ y ∷ cs) several up first = contested_from_firsts l x c.place y.place up.0.0 (first c.place (inl refl)) (first y.place (inr (inl refl)))
+    two (c ∷ y ∷ cs) several up first = contested_from_firsts l x c.index y.index up.0.0 (first c.index (inl refl)) (first y.index (inr (inl refl)))
 
 -- a copy of a name has the same bytes
 pub copied_name : (n m : NameRef) → IsNameCopy n m → name_bytes m ≡ name_bytes n
@@ -131,14 +131,14 @@ pub text_at : (specs : List RefSpecRef) (k : ℕ) (spec : RefSpecRef) (text : Li
 text_at specs k spec text below is prints = (reading_of spec, slice_get-map reading_of specs k ∙ ap (option_map reading_of) (slice_get_read specs (length specs) k spec refl below is), prints)
 
 -- one more update has given its source and its text
-pub told_more : (g : List Reading) (ms : List Mapping) (run : List Update) (i : ℕ) (d : Update) (m : Mapping) (source : Start) (text : List ℕ) (sources : List Start) (texts : List (List ℕ)) → i < length run → (get_or run i d).place < length ms → m ≡ get_or ms (get_or run i d).place m → source ≡ start_of m.lhs → IsTextAt g m.spec_index text → AreTold g (map mapped_of ms) (updated_places (take i run)) sources texts → AreTold g (map mapped_of ms) (updated_places (take (i + 1) run)) (sources ++ source ∷ []) (texts ++ text ∷ [])
+pub told_more : (g : List Reading) (ms : List Mapping) (run : List Update) (i : ℕ) (d : Update) (m : Mapping) (source : Source) (text : List ℕ) (sources : List Source) (texts : List (List ℕ)) → i < length run → (get_or run i d).index < length ms → m ≡ get_or ms (get_or run i d).index m → source ≡ start_of m.lhs → IsTextAt g m.spec_index text → AreTold g (map mapped_of ms) (updated_indexes (take i run)) sources texts → AreTold g (map mapped_of ms) (updated_indexes (take (i + 1) run)) (sources ++ source ∷ []) (texts ++ text ∷ [])
 told_more g ms run i d m source text sources texts below fits is is_source is_text told =
     let l = map mapped_of ms in
-    let here : slice_get l (get_or run i d).place ≡ Some (mapped_of m) = mapped_at ms (get_or run i d).place m fits is in
-    let places : updated_places (take (i + 1) run) ≡ updated_places (take i run) ++ (get_or run i d).place ∷ [] = ap updated_places (take_more run i d below) ∙ map-append (λ (c : Update). c.place) (take i run) (get_or run i d ∷ []) in
-    subst (λ (ns : List ℕ). AreTold g l ns (sources ++ source ∷ []) (texts ++ text ∷ [])) (sym places) (record {
-      sources_are = all_zipped_more (IsOfPlace (λ m s. s ≡ m.source) l) (updated_places (take i run)) sources (get_or run i d).place source told.sources_are (mapped_of m, here, is_source);
-      texts_are = all_zipped_more (IsOfPlace (λ m t. IsTextAt g m.spec t) l) (updated_places (take i run)) texts (get_or run i d).place text told.texts_are (mapped_of m, here, is_text);
+    let here : slice_get l (get_or run i d).index ≡ Some (mapped_of m) = mapped_at ms (get_or run i d).index m fits is in
+    let indexes : updated_indexes (take (i + 1) run) ≡ updated_indexes (take i run) ++ (get_or run i d).index ∷ [] = ap updated_indexes (take_more run i d below) ∙ map-append (λ (c : Update). c.index) (take i run) (get_or run i d ∷ []) in
+    subst (λ (ns : List ℕ). AreTold g l ns (sources ++ source ∷ []) (texts ++ text ∷ [])) (sym indexes) (record {
+      sources_are = all_zipped_more (IsOfIndex (λ m s. s ≡ m.source) l) (updated_indexes (take i run)) sources (get_or run i d).index source told.sources_are (mapped_of m, here, is_source);
+      texts_are = all_zipped_more (IsOfIndex (λ m t. IsTextAt g m.spec t) l) (updated_indexes (take i run)) texts (get_or run i d).index text told.texts_are (mapped_of m, here, is_text);
     })
 
 -- the spec of a mapping has a place among the specs
@@ -194,37 +194,37 @@ to_same x (c ∷ cs) k d same (inl is) = sym is.1 ∙ same.0
 to_same x (c ∷ cs) k d same (inr has) = to_same x cs k d same.1 has
 
 -- what begins the rest has all first mappings to its destination
-firsts_of_run : (g : List Reading) (l : List Mapped) (run others : List Update) (cs : List Conflict) → 0 < length run → (cut : IsRun run others) → AreReported g l (run ++ others) cs → (k : ℕ) → HasUpdate run k cut.destination ↔ IsFirstAt l k cut.destination
-firsts_of_run g l [] others cs some cut settled k = absurd (omega arith)
-firsts_of_run g l (c ∷ run) others cs some cut settled k = (
-  (λ has. settled.left k cut.destination (HasUpdate-left (c ∷ run) others k cut.destination has)),
-  (λ first. elim (settled.all k cut.destination first) [
-    | inl has ↦ elim (HasUpdate-cases (c ∷ run) others k cut.destination has) [
+firsts_of_run : (g : List Reading) (l : List Mapped) (run others : List Update) (cs : List Conflict) → 0 < length run → (split : IsRun run others) → AreReported g l (run ++ others) cs → (k : ℕ) → HasUpdate run k split.destination ↔ IsFirstAt l k split.destination
+firsts_of_run g l [] others cs some split settled k = absurd (omega arith)
+firsts_of_run g l (c ∷ run) others cs some split settled k = (
+  (λ has. settled.left k split.destination (HasUpdate-left (c ∷ run) others k split.destination has)),
+  (λ first. elim (settled.all k split.destination first) [
+    | inl has ↦ elim (HasUpdate-cases (c ∷ run) others k split.destination has) [
       | inl here ↦ here
-      | inr there ↦ absurd (not_beyond cut.destination others k cut.beyond there)
+      | inr there ↦ absurd (not_beyond split.destination others k split.beyond there)
     ]
-    | inr past ↦ absurd (not_beyond cut.destination ((c ∷ run) ++ others) c.place past (inl (refl, cut.same.0)))
+    | inr past ↦ absurd (not_beyond split.destination ((c ∷ run) ++ others) c.index past (inl (refl, split.same.0)))
   ]),
 )
 
 -- several updates of a run are conflicting
-pub conflicting_of_run : (g : List Reading) (l : List Mapped) (rest : List Update) (n : ℕ) (cs : List Conflict) → 1 < length (take n rest) → (cut : IsRun (take n rest) (drop n rest)) → AreReported g l rest cs → AreConflicting l (take n rest)
-conflicting_of_run g l rest n cs several cut settled =
+pub conflicting_of_run : (g : List Reading) (l : List Mapped) (rest : List Update) (n : ℕ) (cs : List Conflict) → 1 < length (take n rest) → (split : IsRun (take n rest) (drop n rest)) → AreReported g l rest cs → AreConflicting l (take n rest)
+conflicting_of_run g l rest n cs several split settled =
     let whole : take n rest ++ drop n rest ≡ rest = take-append-drop n rest in record {
       several = several;
-      destination = cut.destination;
-      same = cut.same;
-      are = firsts_of_run g l (take n rest) (drop n rest) cs (omega (arith, several)) cut (subst (λ (xs : List Update). AreReported g l xs cs) (sym whole) settled);
+      destination = split.destination;
+      same = split.same;
+      are = firsts_of_run g l (take n rest) (drop n rest) cs (omega (arith, several)) split (subst (λ (xs : List Update). AreReported g l xs cs) (sym whole) settled);
       order = strict_left update_cmp (take n rest) (drop n rest) (subst (λ (xs : List Update). IsStrictlySortedBy update_cmp xs) (sym whole) settled.order);
     }
 
 -- after a run all else stays as it was
-behind_run : (l : List Mapped) (run others : List Update) (k : ℕ) (d : List ℕ) → (cut : IsRun run others) → HasUpdate (run ++ others) k d ⊎ AllByRecursion (λ c. slice_cmp nat_cmp d c.destination.now ≡ Less) (run ++ others) → HasUpdate others k d ⊎ AllByRecursion (λ c. slice_cmp nat_cmp d c.destination.now ≡ Less) others
-behind_run l run others k d cut (inl has) = elim (HasUpdate-cases run others k d has) [
-  | inl here ↦ inr (subst (λ (x : List ℕ). AllByRecursion (λ c. slice_cmp nat_cmp x c.destination.now ≡ Less) others) (sym (to_same cut.destination run k d cut.same here)) cut.beyond)
+behind_run : (l : List Mapped) (run others : List Update) (k : ℕ) (d : List ℕ) → (split : IsRun run others) → HasUpdate (run ++ others) k d ⊎ AllByRecursion (λ c. slice_cmp nat_cmp d c.destination.now ≡ Less) (run ++ others) → HasUpdate others k d ⊎ AllByRecursion (λ c. slice_cmp nat_cmp d c.destination.now ≡ Less) others
+behind_run l run others k d split (inl has) = elim (HasUpdate-cases run others k d has) [
+  | inl here ↦ inr (subst (λ (x : List ℕ). AllByRecursion (λ c. slice_cmp nat_cmp x c.destination.now ≡ Less) others) (sym (to_same split.destination run k d split.same here)) split.beyond)
   | inr there ↦ inl there
 ]
-behind_run l run others k d cut (inr past) = inr (all_right (λ c. slice_cmp nat_cmp d c.destination.now ≡ Less) run others past)
+behind_run l run others k d split (inr past) = inr (all_right (λ c. slice_cmp nat_cmp d c.destination.now ≡ Less) run others past)
 
 all_still_below : (run others : List Update) (cs : List Conflict) → AllByRecursion (λ c. AllByRecursion (λ x. slice_cmp nat_cmp c.destination x.destination.now ≡ Less) (run ++ others)) cs → AllByRecursion (λ c. AllByRecursion (λ x. slice_cmp nat_cmp c.destination x.destination.now ≡ Less) others) cs
 all_still_below run others cs = all_weaker (λ c. AllByRecursion (λ x. slice_cmp nat_cmp c.destination x.destination.now ≡ Less) (run ++ others)) (λ c. AllByRecursion (λ x. slice_cmp nat_cmp c.destination x.destination.now ≡ Less) others) (λ c below. all_right (λ x. slice_cmp nat_cmp c.destination x.destination.now ≡ Less) run others below) cs
@@ -238,9 +238,9 @@ one_update_only x (c ∷ y ∷ run) j k few has also = absurd (omega arith)
 
 -- a run of one update has no conflict
 skipped : (g : List Reading) (l : List Mapped) (run others : List Update) (cs : List Conflict) → 0 < length run → length run ≤ 1 → IsRun run others → AreReported g l (run ++ others) cs → AreReported g l others cs
-skipped g l run others cs some few cut settled = record {
+skipped g l run others cs some few split settled = record {
   left = λ k d has. settled.left k d (HasUpdate-right run others k d has);
-  all = λ k d first. behind_run l run others k d cut (settled.all k d first);
+  all = λ k d first. behind_run l run others k d split (settled.all k d first);
   order = strict_right update_cmp run others settled.order;
   each = settled.each;
   below = all_still_below run others cs settled.below;
@@ -249,10 +249,10 @@ skipped g l run others cs some few cut settled = record {
     | inl told ↦ inl told
     | inr has ↦ elim (HasUpdate-cases run others has.0 d has.1) [
       | inl here ↦
-          let x = cut.destination in
-          let to : d ≡ x = to_same x run has.0 d cut.same here in
+          let x = split.destination in
+          let to : d ≡ x = to_same x run has.0 d split.same here in
           let two = two_firsts l x (subst (HasConflictAt l) to contested) in
-          let are = firsts_of_run g l run others cs some cut settled in
+          let are = firsts_of_run g l run others cs some split settled in
           absurd (two.2 (one_update_only x run two.0 two.1 few ((are two.0).1 two.3) ((are two.1).1 two.4)))
       | inr there ↦ inr (has.0, there)
     ]
@@ -266,22 +266,22 @@ rise_more (d ∷ ds) x strict below = (all_join (λ y. slice_cmp nat_cmp d y ≡
 
 -- a run of several updates has one
 reported : (g : List Reading) (l : List Mapped) (run others : List Update) (cs : List Conflict) (c : Conflict) → 1 < length run → IsRun run others → IsConflictOf g l run c → AreReported g l (run ++ others) cs → AreReported g l others (cs ++ c ∷ [])
-reported g l [] others cs c several cut over settled = absurd (omega arith)
-reported g l (r ∷ run) others cs c several cut over settled =
-    let x = cut.destination in
-    let to : c.destination ≡ x = sym over.same.0 ∙ cut.same.0 in
+reported g l [] others cs c several split over settled = absurd (omega arith)
+reported g l (r ∷ run) others cs c several split over settled =
+    let x = split.destination in
+    let to : c.destination ≡ x = sym over.same.0 ∙ split.same.0 in
     let destinations : map (λ (y : Conflict). y.destination) (cs ++ c ∷ []) ≡ map (λ (y : Conflict). y.destination) cs ++ c.destination ∷ [] = map-append (λ (y : Conflict). y.destination) cs (c ∷ []) in record {
       left = λ k d has. settled.left k d (HasUpdate-right (r ∷ run) others k d has);
-      all = λ k d first. behind_run l (r ∷ run) others k d cut (settled.all k d first);
+      all = λ k d first. behind_run l (r ∷ run) others k d split (settled.all k d first);
       order = strict_right update_cmp (r ∷ run) others settled.order;
       each = all_join (IsConflict g l) cs (c ∷ []) settled.each (over.is, tt);
-      below = all_join (λ y. AllByRecursion (λ z. slice_cmp nat_cmp y.destination z.destination.now ≡ Less) others) cs (c ∷ []) (all_still_below (r ∷ run) others cs settled.below) (subst (λ (d : List ℕ). AllByRecursion (λ z. slice_cmp nat_cmp d z.destination.now ≡ Less) others) (sym to) cut.beyond, tt);
+      below = all_join (λ y. AllByRecursion (λ z. slice_cmp nat_cmp y.destination z.destination.now ≡ Less) others) cs (c ∷ []) (all_still_below (r ∷ run) others cs settled.below) (subst (λ (d : List ℕ). AllByRecursion (λ z. slice_cmp nat_cmp d z.destination.now ≡ Less) others) (sym to) split.beyond, tt);
       rise = subst (λ (ds : List (List ℕ)). IsStrictlySortedBy (slice_cmp nat_cmp) ds) (sym destinations) (rise_more (map (λ (y : Conflict). y.destination) cs) c.destination settled.rise (lower cs settled.below));
       every = λ d contested. subst (λ (ds : List (List ℕ)). Contains ds d ⊎ ((k : ℕ) × HasUpdate others k d)) (sym destinations) (elim (settled.every d contested) [
         | inl told ↦ inl (Contains-append_left (map (λ (y : Conflict). y.destination) cs) (c.destination ∷ []) d told)
         | inr has ↦ elim (HasUpdate-cases (r ∷ run) others has.0 d has.1) [
           | inl here ↦
-              let same : c.destination ≡ d = to ∙ sym (to_same x (r ∷ run) has.0 d cut.same here) in
+              let same : c.destination ≡ d = to ∙ sym (to_same x (r ∷ run) has.0 d split.same here) in
               inl (subst (λ (e : List ℕ). Contains (map (λ (y : Conflict). y.destination) cs ++ c.destination ∷ []) e) same (Contains-push (map (λ (y : Conflict). y.destination) cs) c.destination))
           | inr there ↦ inr (has.0, there)
         ]
@@ -299,11 +299,11 @@ no_conflicts g l free = record { each = tt; every = λ d contested. absurd (free
 
 -- a loop's step: once a run has added what it adds, the others are left
 pub reported_more : (g : List Reading) (l : List Mapped) (rest : List Update) (n : ℕ) (cs new : List Conflict) → 0 < n → n ≤ length rest → IsRun (take n rest) (drop n rest) → AddsConflict g l (take n rest) cs new → AreReported g l rest cs → AreReported g l (drop n rest) new
-reported_more g l rest n cs new some fits cut added settled =
+reported_more g l rest n cs new some fits split added settled =
     let whole : AreReported g l (take n rest ++ drop n rest) cs = subst (λ (xs : List Update). AreReported g l xs cs) (sym (take-append-drop n rest)) settled in
     elim added [
-      | inl few ↦ subst (λ (ds : List Conflict). AreReported g l (drop n rest) ds) (sym few.1) (skipped g l (take n rest) (drop n rest) cs (omega (arith, some, length-take-le n rest fits)) few.0 cut whole)
-      | inr more ↦ subst (λ (ds : List Conflict). AreReported g l (drop n rest) ds) (sym more.3) (reported g l (take n rest) (drop n rest) cs more.0 more.1 cut more.2 whole)
+      | inl few ↦ subst (λ (ds : List Conflict). AreReported g l (drop n rest) ds) (sym few.1) (skipped g l (take n rest) (drop n rest) cs (omega (arith, some, length-take-le n rest fits)) few.0 split whole)
+      | inr more ↦ subst (λ (ds : List Conflict). AreReported g l (drop n rest) ds) (sym more.3) (reported g l (take n rest) (drop n rest) cs more.0 more.1 split more.2 whole)
     ]
 
 -- where there are no mappings nothing is in conflict

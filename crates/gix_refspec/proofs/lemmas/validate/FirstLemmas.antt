@@ -6,7 +6,7 @@ use Rattle.std.proofs.lemmas.Bool.{cases_lt, false≢true}
 use Rattle.std.proofs.lemmas.Option.{get_or_from_slice_get, slice_get-get_or, slice_get_within}
 use Rattle.std.proofs.lemmas.Slice.Eq.{bytes_eq-Decides}
 use Rattle.gix_refspec_match.specs.Matching.Lists.{IsMadeFrom}
-use Rattle.gix_refspec_match.specs.Matching.Mappings.{Start, name, id, Mapped, IsSamePair, HasPair}
+use Rattle.gix_refspec_match.specs.Matching.Mappings.{Source, name, id, Mapped, IsSamePair, HasPair}
 use Rattle.gix_refspec.specs.Matching.Validation.{HasConflictAt}
 use Rattle.gix_refspec_match.specs.Private.Kept.{Has, Rises}
 use Rattle.gix_refspec.specs.Private.Updates.{IsFirstAt}
@@ -14,8 +14,8 @@ use Rattle.gix_refspec_match.proofs.lemmas.keep.RepeatLemmas.{not_below}
 use Rattle.gix_refspec_text.proofs.lemmas.lists.AllLemmas.{all_weaker}
 
 -- the mapping at place n is one of which Q makes y
-abbrev pub IsOfPlace : {Y : Type 0} → (Mapped → Y → Type 0) → List Mapped → ℕ → Y → Type 0
-IsOfPlace Q l n y = (m : Mapped) × (slice_get l n ≡ Some m) × Q m y
+abbrev pub IsOfIndex : {Y : Type 0} → (Mapped → Y → Type 0) → List Mapped → ℕ → Y → Type 0
+IsOfIndex Q l n y = (m : Mapped) × (slice_get l n ≡ Some m) × Q m y
 
 -- two readings of one place
 pub one_mapping : (l : List Mapped) (k : ℕ) (m n : Mapped) → slice_get l k ≡ Some m → slice_get l k ≡ Some n → m ≡ n
@@ -34,23 +34,23 @@ tail_at : (l : List Mapped) (k : ℕ) (x : Mapped) (rest : List Mapped) → ((j 
 tail_at l k x rest at j = let same : k + suc j ≡ (k + 1) + j = omega arith in at (suc j) ∙ ap (slice_get l) same
 
 -- what is made of the mappings at some places, which rise and are those where P holds
-pub made_at_places : {Y : Type 0} (P : ℕ → Mapped → Type 0) (Q : Mapped → Y → Type 0) (l : List Mapped) (k : ℕ) (rest : List Mapped) (ns : List ℕ) (ys : List Y) → ((j : ℕ) → slice_get rest j ≡ slice_get l (k + j)) → ((j : ℕ) (m : Mapped) → k ≤ j → slice_get l j ≡ Some m → Has ns j ↔ P j m) → Rises ns → AllByRecursion (λ n. k ≤ n) ns → AllZip (IsOfPlace Q l) ns ys → IsMadeFrom (λ j m y. P j m × Q m y) k rest ys
-made_at_places P Q l k [] [] [] at has rises above zip = refl
-made_at_places P Q l k [] [] (y ∷ ys) at has rises above zip = absurd zip
-made_at_places P Q l k [] (n ∷ ns) [] at has rises above zip = absurd zip
-made_at_places P Q l k [] (n ∷ ns) (y ∷ ys) at has rises above zip =
+pub made_at_indexes : {Y : Type 0} (P : ℕ → Mapped → Type 0) (Q : Mapped → Y → Type 0) (l : List Mapped) (k : ℕ) (rest : List Mapped) (ns : List ℕ) (ys : List Y) → ((j : ℕ) → slice_get rest j ≡ slice_get l (k + j)) → ((j : ℕ) (m : Mapped) → k ≤ j → slice_get l j ≡ Some m → Has ns j ↔ P j m) → Rises ns → AllByRecursion (λ n. k ≤ n) ns → AllZip (IsOfIndex Q l) ns ys → IsMadeFrom (λ j m y. P j m × Q m y) k rest ys
+made_at_indexes P Q l k [] [] [] at has rises above zip = refl
+made_at_indexes P Q l k [] [] (y ∷ ys) at has rises above zip = absurd zip
+made_at_indexes P Q l k [] (n ∷ ns) [] at has rises above zip = absurd zip
+made_at_indexes P Q l k [] (n ∷ ns) (y ∷ ys) at has rises above zip =
     let same : k + (n - k) ≡ n = (let low = above.0 in omega (arith, low)) in
     let none : None ≡ Some zip.0.0 = at (n - k) ∙ ap (slice_get l) same ∙ zip.0.1 in
     absurd (cc)
-made_at_places {Y} P Q l k (x ∷ rest) [] ys at has rises above zip =
-    (None, ys, (λ y both. (has k x (omega arith) (here_at l k x rest at)).1 both.0), made_at_places P Q l (k + 1) rest [] ys (tail_at l k x rest at) (λ j m low is. has j m (omega arith) is) rises tt zip, refl)
-made_at_places {Y} P Q l k (x ∷ rest) (n ∷ ns) [] at has rises above zip = absurd zip
-made_at_places {Y} P Q l k (x ∷ rest) (n ∷ ns) (y ∷ ys) at has rises above zip = elim (cases_lt k n) [
+made_at_indexes {Y} P Q l k (x ∷ rest) [] ys at has rises above zip =
+    (None, ys, (λ y both. (has k x (omega arith) (here_at l k x rest at)).1 both.0), made_at_indexes P Q l (k + 1) rest [] ys (tail_at l k x rest at) (λ j m low is. has j m (omega arith) is) rises tt zip, refl)
+made_at_indexes {Y} P Q l k (x ∷ rest) (n ∷ ns) [] at has rises above zip = absurd zip
+made_at_indexes {Y} P Q l k (x ∷ rest) (n ∷ ns) (y ∷ ys) at has rises above zip = elim (cases_lt k n) [
   | inl less ↦ (
     None,
     y ∷ ys,
     (λ z both. not_there less ((has k x (omega arith) (here_at l k x rest at)).1 both.0)),
-    made_at_places P Q l (k + 1) rest (n ∷ ns) (y ∷ ys) (tail_at l k x rest at) (λ j m low is. has j m (omega arith) is) rises ((omega (arith, less)), all_weaker (λ m. n < m) (λ m. k + 1 ≤ m) (λ m below. omega (arith, below, less)) ns rises.0) zip,
+    made_at_indexes P Q l (k + 1) rest (n ∷ ns) (y ∷ ys) (tail_at l k x rest at) (λ j m low is. has j m (omega arith) is) rises ((omega (arith, less)), all_weaker (λ m. n < m) (λ m. k + 1 ≤ m) (λ m below. omega (arith, below, less)) ns rises.0) zip,
     refl,
   )
   | inr more ↦
@@ -60,7 +60,7 @@ made_at_places {Y} P Q l k (x ∷ rest) (n ∷ ns) (y ∷ ys) at has rises above
         Some y,
         ys,
         ((has k x (omega arith) is_x).0 (inl same), subst (λ (m : Mapped). Q m y) one zip.0.2),
-        made_at_places P Q l (k + 1) rest ns ys (tail_at l k x rest at) (later same) rises.1 (all_weaker (λ m. n < m) (λ m. k + 1 ≤ m) (λ m below. omega (arith, below, same)) ns rises.0) zip.1,
+        made_at_indexes P Q l (k + 1) rest ns ys (tail_at l k x rest at) (later same) rises.1 (all_weaker (λ m. n < m) (λ m. k + 1 ≤ m) (λ m below. omega (arith, below, same)) ns rises.0) zip.1,
         refl,
       )
 ]
@@ -92,7 +92,7 @@ text_cases x y = go (bytes_eq x y) refl
     go true is = inl ((bytes_eq-Decides x y).0 (sym is))
     go false is = inr (λ same. false≢true (is ∙ (bytes_eq-Decides x y).1 same))
 
-pub start_cases : (a b : Start) → (a ≡ b) ⊎ (a ≢ b)
+pub start_cases : (a b : Source) → (a ≡ b) ⊎ (a ≢ b)
 start_cases (name x) (name y) = elim (text_cases x y) [
   | inl same ↦ inl (ap name same)
   | inr apart ↦ inr (λ same. apart (cc))
@@ -112,10 +112,10 @@ destination_cases (Some e) d = elim (text_cases e d) [
 ]
 
 -- the mapping goes from the source to the destination
-abbrev Links : Start → List ℕ → Mapped → Type 0
+abbrev Links : Source → List ℕ → Mapped → Type 0
 Links source d m = (m.source ≡ source) × (m.destination ≡ Some d)
 
-links_cases : (source : Start) (d : List ℕ) (m : Mapped) → Links source d m ⊎ ¬ (Links source d m)
+links_cases : (source : Source) (d : List ℕ) (m : Mapped) → Links source d m ⊎ ¬ (Links source d m)
 links_cases source d m = elim (start_cases m.source source) [
   | inl from ↦ elim (destination_cases m.destination d) [
     | inl to ↦ inl (from, to)
@@ -125,7 +125,7 @@ links_cases source d m = elim (start_cases m.source source) [
 ]
 
 -- of the mappings from a source to a destination, the first
-first_link : (source : Start) (d : List ℕ) (l : List Mapped) (i : ℕ) (m : Mapped) → slice_get l i ≡ Some m → Links source d m → (j : ℕ) × (n : Mapped) × (slice_get l j ≡ Some n) × Links source d n × ¬ (HasPair (take j l) n)
+first_link : (source : Source) (d : List ℕ) (l : List Mapped) (i : ℕ) (m : Mapped) → slice_get l i ≡ Some m → Links source d m → (j : ℕ) × (n : Mapped) × (slice_get l j ≡ Some n) × Links source d n × ¬ (HasPair (take j l) n)
 first_link source d [] i m is links = absurd (cc)
 first_link source d (x ∷ l) i m is links = elim (links_cases source d x) [
   | inl here ↦ (0, x, refl, here, λ none. none)

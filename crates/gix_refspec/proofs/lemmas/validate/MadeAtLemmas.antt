@@ -5,41 +5,41 @@ use Rattle.std.proofs.lemmas.List.{append_assoc}
 use Rattle.gix_refspec_text.specs.Specs.Reading.{Reading}
 use Rattle.gix_refspec_text.specs.Matching.Match.{Ref, Matches, Takes}
 use Rattle.gix_refspec_match.specs.Matching.Lists.{IsMadeFrom, IsJoinedFrom}
-use Rattle.gix_refspec_match.specs.Matching.Mappings.{Start, Mapped, IsKeptAt}
+use Rattle.gix_refspec_match.specs.Matching.Mappings.{Source, Mapped, IsKeptAt}
 use Rattle.gix_refspec_match.specs.Matching.Hits.{Ends, AreForwardEnds, AreBackwardEnds, Hit, IsHit, AreSpecHits, AreHits, IsIdMapping, AreForward, AreBackward, forward_of, backward_of}
 use Rattle.gix_refspec.specs.Laws.Matching.{AtSpec}
-use Rattle.gix_refspec.specs.Laws.Places.{TakesAt, MakesForwardOf, MakesBackwardOf, MadeAtPlaces, RemainsExactly}
+use Rattle.gix_refspec.specs.Laws.Indexes.{TakesAt, MakesForwardOf, MakesBackwardOf, MadeAtIndexes, RemainsExactly}
 use Rattle.gix_refspec.specs.Matching.Validation.{Survives}
-use Rattle.gix_refspec.specs.Matching.RefNames.{IsNamed}
+use Rattle.gix_refspec.specs.Matching.RefNames.{HasRefNames}
 use Rattle.gix_refspec.proofs.lemmas.validate.AfterLemmas.{stays_each}
 use Rattle.gix_refspec.proofs.lemmas.keep.FirstStaysLemmas.{there, back}
 use Rattle.gix_refspec.proofs.lemmas.keep.PairMadeLemmas.{there_far}
-use Rattle.gix_refspec.proofs.lemmas.validate.PlaceFitLemmas.{stands_behind, map_each}
+use Rattle.gix_refspec.proofs.lemmas.validate.IndexFitLemmas.{stands_behind, map_each}
 use Rattle.gix_refspec_match.proofs.lemmas.lists.SomeLemmas.{Any, Any-right}
 use Rattle.gix_refspec_text.proofs.lemmas.lists.AllLemmas.{all_join}
 
 -- ---- what is made of the elements of a list, which are at their places
 
 stands_at : {X : Type 0} (all before : List X) (x : X) (after : List X) (k : ℕ) → before ++ (x ∷ after) ≡ all → length before ≡ k → slice_get all k ≡ Some x
-stands_at {X} all before x after k whole place = subst (λ (i : ℕ). slice_get all i ≡ Some x) place (subst (λ (z : List X). slice_get z (length before) ≡ Some x) whole (stands_behind before x after))
+stands_at {X} all before x after k whole index = subst (λ (i : ℕ). slice_get all i ≡ Some x) index (subst (λ (z : List X). slice_get z (length before) ≡ Some x) whole (stands_behind before x after))
 
 made_standing : {X Y : Type 0} (R : ℕ → X → Y → Type 0) (P : Y → Type 0) (all : List X) → ((k : ℕ) (x : X) (y : Y) → slice_get all k ≡ Some x → R k x y → P y)
     → (before xs : List X) (k : ℕ) (ys : List Y) → before ++ xs ≡ all → length before ≡ k → IsMadeFrom R k xs ys → AllByRecursion P ys
-made_standing R P all each before [] k ys whole place empty = subst (AllByRecursion P) (sym empty) tt
-made_standing R P all each before (x ∷ xs) k ys whole place (None, rest, none, more, is) =
-    subst (AllByRecursion P) (sym is) (made_standing R P all each (before ++ x ∷ []) xs (k + 1) rest (append_assoc before (x ∷ []) xs ∙ whole) (omega (arith, length-append before (x ∷ []), place)) more)
-made_standing R P all each before (x ∷ xs) k ys whole place (Some y, rest, makes, more, is) = subst (AllByRecursion P) (sym is) (
-  each k x y (stands_at all before x xs k whole place) makes,
-  made_standing R P all each (before ++ x ∷ []) xs (k + 1) rest (append_assoc before (x ∷ []) xs ∙ whole) (omega (arith, length-append before (x ∷ []), place)) more,
+made_standing R P all each before [] k ys whole index empty = subst (AllByRecursion P) (sym empty) tt
+made_standing R P all each before (x ∷ xs) k ys whole index (None, rest, none, more, is) =
+    subst (AllByRecursion P) (sym is) (made_standing R P all each (before ++ x ∷ []) xs (k + 1) rest (append_assoc before (x ∷ []) xs ∙ whole) (omega (arith, length-append before (x ∷ []), index)) more)
+made_standing R P all each before (x ∷ xs) k ys whole index (Some y, rest, makes, more, is) = subst (AllByRecursion P) (sym is) (
+  each k x y (stands_at all before x xs k whole index) makes,
+  made_standing R P all each (before ++ x ∷ []) xs (k + 1) rest (append_assoc before (x ∷ []) xs ∙ whole) (omega (arith, length-append before (x ∷ []), index)) more,
 )
 
 joined_standing : {X Y : Type 0} (R : ℕ → X → List Y → Type 0) (P : Y → Type 0) (all : List X) → ((k : ℕ) (x : X) (ys : List Y) → slice_get all k ≡ Some x → R k x ys → AllByRecursion P ys)
     → (before xs : List X) (k : ℕ) (ys : List Y) → before ++ xs ≡ all → length before ≡ k → IsJoinedFrom R k xs ys → AllByRecursion P ys
-joined_standing R P all each before [] k ys whole place empty = subst (AllByRecursion P) (sym empty) tt
-joined_standing R P all each before (x ∷ xs) k ys whole place (made, rest, makes, more, is) =
+joined_standing R P all each before [] k ys whole index empty = subst (AllByRecursion P) (sym empty) tt
+joined_standing R P all each before (x ∷ xs) k ys whole index (made, rest, makes, more, is) =
     subst (AllByRecursion P) (sym is)
-    (all_join P made rest (each k x made (stands_at all before x xs k whole place) makes)
-    (joined_standing R P all each (before ++ x ∷ []) xs (k + 1) rest (append_assoc before (x ∷ []) xs ∙ whole) (omega (arith, length-append before (x ∷ []), place)) more))
+    (all_join P made rest (each k x made (stands_at all before x xs k whole index) makes)
+    (joined_standing R P all each (before ++ x ∷ []) xs (k + 1) rest (append_assoc before (x ∷ []) xs ∙ whole) (omega (arith, length-append before (x ∷ []), index)) more))
 
 -- ---- hits
 
@@ -55,7 +55,7 @@ spec_takes HasEnds Taken g items k r hits here (inl (ends, has, made)) =
     (λ j ref hit stands is. record {
       reading = r;
       here = subst (λ (i : ℕ). slice_get g i ≡ Some r) (sym is.spec) here;
-      takes = record { place = j; is = ap Some is.item; ref = ref; stands = stands; ends = ends; has = has; paired = record { word = is.word; name = sym is.near; takes = is.takes; becomes = is.far } };
+      takes = record { index = j; is = ap Some is.item; ref = ref; stands = stands; ends = ends; has = has; paired = record { word = is.word; name = sym is.near; takes = is.takes; becomes = is.far } };
     })
     [] items 0 hits refl refl made
 spec_takes HasEnds Taken g items k r hits here (inr (none, empty)) = subst (AllByRecursion (IsTakenHit HasEnds Taken g items)) (sym empty) tt
@@ -75,7 +75,7 @@ id_at : (g : List Reading) (items : List Ref) (k : ℕ) (r : Reading) (m : Mappe
 id_at g items k r m here is = (
   r,
   subst (λ (i : ℕ). slice_get g i ≡ Some r) (sym is.spec) here,
-  subst (λ (s : Start). MakesForwardOf items m.item s m.destination r) (sym is.source) (is.item, record { positive = is.positive; text = is.text; side = is.side; object = is.object; becomes = is.destination }),
+  subst (λ (s : Source). MakesForwardOf items m.item s m.destination r) (sym is.source) (is.item, record { positive = is.positive; text = is.text; side = is.side; object = is.object; becomes = is.destination }),
 )
 
 hit_back : (g : List Reading) (items : List Ref) (h : Hit) → IsTakenHit AreBackwardEnds Matches g items h → BackwardAt g items (backward_of h)
@@ -95,8 +95,8 @@ forward_all g items l are =
 backward_all : (g : List Reading) (items : List Ref) (l : List Mapped) → AreBackward g items l → AllByRecursion (BackwardAt g items) l
 backward_all g items l are = subst (AllByRecursion (BackwardAt g items)) (sym are.all) (map_each _ _ backward_of (hit_back g items) are.hits (hits_taken AreBackwardEnds Matches g items are.hits are.are_hits))
 
-pub made_at_places : (g : List Reading) (items : List Ref) → MadeAtPlaces g items
-made_at_places g items = record {
+pub made_at_indexes : (g : List Reading) (items : List Ref) → MadeAtIndexes g items
+made_at_indexes g items = record {
   forward = λ kept are. stays_each (λ k m. IsKeptAt g are.all k m) (ForwardAt g items) 0 are.all kept (forward_all g items are.all are.forward) are.is;
   backward = λ kept are. stays_each (λ k m. IsKeptAt g are.all k m) (BackwardAt g items) 0 are.all kept (backward_all g items are.all are.backward) are.is;
 }
@@ -126,5 +126,5 @@ exactly S xs ys made m = (
 pub remains_exactly : (g : List Reading) (l : List Mapped) → RemainsExactly g l
 remains_exactly g l = record {
   validated = λ rest fixes valid. exactly Survives l rest valid.survive;
-  named = λ rest out keeps. exactly IsNamed l rest keeps.named;
+  named = λ rest out keeps. exactly HasRefNames l rest keeps.named;
 }

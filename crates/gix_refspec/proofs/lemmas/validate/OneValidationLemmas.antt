@@ -12,7 +12,7 @@ use Rattle.gix_refspec_text.specs.Specs.Reading.{Reading}
 use Rattle.gix_refspec_text.specs.Views.Spec.{reading_of}
 use Rattle.gix_refspec_match.specs.Matching.Lists.{IsMadeFrom}
 use Rattle.gix_refspec_text.specs.Specs.Meaning.{printed}
-use Rattle.gix_refspec_match.specs.Matching.Mappings.{Start, Mapped}
+use Rattle.gix_refspec_match.specs.Matching.Mappings.{Source, Mapped}
 use Rattle.gix_refspec_match.specs.Views.Mapping.{mapped_of, name_bytes, IsDestinationCopy, IsMappingCopy, AreMappingCopies}
 use Rattle.gix_refspec.specs.Views.Group.{readings_of}
 use Rattle.gix_refspec.specs.Matching.Validation.{IsFirstTo, IsTextAt, Conflict, IsConflict, AreConflicts, Survives, Removed, IsFix}
@@ -67,15 +67,15 @@ contested g l (c ∷ cs) other d each are (inl here) = subst (λ (z : List ℕ).
 contested g l (c ∷ cs) other d each are (inr later) = contested g l cs other d each.1 are later
 
 -- a place has one text
-one_text : (g : List Reading) (place : ℕ) (text other : List ℕ) → IsTextAt g place text → IsTextAt g place other → text ≡ other
-one_text g place text other (r, stands, prints) (q, stood, also) =
+one_text : (g : List Reading) (index : ℕ) (text other : List ℕ) → IsTextAt g index text → IsTextAt g index other → text ≡ other
+one_text g index text other (r, stands, prints) (q, stood, also) =
     let reading : q ≡ r = same_Some q r (sym stood ∙ stands) in
     same_Some text other (sym prints ∙ subst (λ (z : Reading). printed z ≡ Some other) reading also)
 
 same_conflict : (c e : Conflict) → c.destination ≡ e.destination → c.sources ≡ e.sources → c.texts ≡ e.texts → c ≡ e
 same_conflict c e destination sources texts =
-    let build : List ℕ → List Start → List (List ℕ) → Conflict = λ d s t. record { destination = d; sources = s; texts = t } in
-    ap (λ (d : List ℕ). build d c.sources c.texts) destination ∙ ap (λ (s : List Start). build e.destination s c.texts) sources ∙ ap (build e.destination e.sources) texts
+    let build : List ℕ → List Source → List (List ℕ) → Conflict = λ d s t. record { destination = d; sources = s; texts = t } in
+    ap (λ (d : List ℕ). build d c.sources c.texts) destination ∙ ap (λ (s : List Source). build e.destination s c.texts) sources ∙ ap (build e.destination e.sources) texts
 
 -- a destination has one conflict
 one_conflict : (g : List Reading) (l : List Mapped) (c e : Conflict) → c.destination ≡ e.destination → IsConflict g l c → IsConflict g l e → c ≡ e

@@ -16,26 +16,26 @@ use Rattle.gix_refspec_match.specs.Matching.Lists.{IsMadeFrom}
 use Rattle.gix_refspec_text.specs.Texts.ObjectId.{IsIdText}
 use Rattle.gix_refspec_match.specs.Matching.Mappings.{id, Mapped, IsKeptAt}
 use Rattle.gix_refspec_match.specs.Matching.Hits.{Hit, IsIdMapping, AreKeptForward, forward_of}
-use Rattle.gix_refspec.specs.Matching.Validation.{IsFix, MeetAt, NeverMeet, Removed}
+use Rattle.gix_refspec.specs.Matching.Validation.{IsFix, ShareDestination, HaveDistinctDestinations, Removed}
 use Rattle.gix_refspec.specs.Laws.Plans.{AreFixesApart, LacksIn, SidesLack}
 use Rattle.gix_refspec_text.proofs.lemmas.texts.TextLemmas.{Lacks-from_absent}
 use Rattle.gix_refspec_text.proofs.lemmas.texts.HeadLemmas.{IsName-head}
 use Rattle.gix_refspec_text.proofs.lemmas.texts.ObjectIdLemmas.{IsIdText-unique}
 use Rattle.gix_refspec.proofs.lemmas.validate.AfterLemmas.{stays_each}
-use Rattle.gix_refspec.proofs.lemmas.validate.PlaceFitLemmas.{stands_behind}
+use Rattle.gix_refspec.proofs.lemmas.validate.IndexFitLemmas.{stands_behind}
 use Rattle.std.proofs.lemmas.Option.{same_Some}
 use Rattle.gix_refspec_text.proofs.lemmas.lists.AllLemmas.{all_left, all_right, all_join}
 
 -- ---- fixes
 
 -- what no mapping meets, no fix has as its destination
-others_apart : (g : List Reading) (x : Mapped) (d : List ℕ) → x.destination ≡ Some d → (k : ℕ) (xs : List Mapped) (fixes : List Removed) → AllByRecursion (λ n. ¬ (MeetAt x n)) xs → IsMadeFrom (λ j m fix. IsFix g m fix) k xs fixes → AllByRecursion (λ h. h.destination ≢ d) fixes
+others_apart : (g : List Reading) (x : Mapped) (d : List ℕ) → x.destination ≡ Some d → (k : ℕ) (xs : List Mapped) (fixes : List Removed) → AllByRecursion (λ n. ¬ (ShareDestination x n)) xs → IsMadeFrom (λ j m fix. IsFix g m fix) k xs fixes → AllByRecursion (λ h. h.destination ≢ d) fixes
 others_apart g x d goes k [] fixes none empty = subst (AllByRecursion (λ h. h.destination ≢ d)) (sym empty) tt
 others_apart g x d goes k (y ∷ xs) fixes none (None, rest, no_fix, more, is) = subst (AllByRecursion (λ h. h.destination ≢ d)) (sym is) (others_apart g x d goes (k + 1) xs rest none.1 more)
 others_apart g x d goes k (y ∷ xs) fixes none (Some h, rest, fix, more, is) =
     subst (AllByRecursion (λ h. h.destination ≢ d)) (sym is) ((λ same. none.0 (d, goes, fix.goes ∙ ap Some same)), others_apart g x d goes (k + 1) xs rest none.1 more)
 
-pub fixes_apart : (g : List Reading) (k : ℕ) (l : List Mapped) (fixes : List Removed) → NeverMeet l → IsMadeFrom (λ j m fix. IsFix g m fix) k l fixes → AreFixesApart fixes
+pub fixes_apart : (g : List Reading) (k : ℕ) (l : List Mapped) (fixes : List Removed) → HaveDistinctDestinations l → IsMadeFrom (λ j m fix. IsFix g m fix) k l fixes → AreFixesApart fixes
 fixes_apart g k [] fixes apart empty = subst AreFixesApart (sym empty) tt
 fixes_apart g k (m ∷ l) fixes apart (None, rest, no_fix, more, is) = subst AreFixesApart (sym is) (fixes_apart g (k + 1) l rest apart.1 more)
 fixes_apart g k (m ∷ l) fixes apart (Some f, rest, fix, more, is) = subst AreFixesApart (sym is) (others_apart g m f.destination fix.goes (k + 1) l rest apart.0 more, fixes_apart g (k + 1) l rest apart.1 more)
@@ -47,13 +47,13 @@ abbrev pub IsOfItsSpec : List Reading → Mapped → Type 0
 IsOfItsSpec g m = m.item ≡ None → (r : Reading) × (slice_get g m.spec ≡ Some r) × IsIdMapping m.spec r m
 
 ids_of_specs : (g before rest : List Reading) (k : ℕ) (ids : List Mapped) → before ++ rest ≡ g → length before ≡ k → IsMadeFrom IsIdMapping k rest ids → AllByRecursion (IsOfItsSpec g) ids
-ids_of_specs g before [] k ids whole place empty = subst (AllByRecursion (IsOfItsSpec g)) (sym empty) tt
-ids_of_specs g before (r ∷ rest) k ids whole place (None, others, none, more, is) =
-    subst (AllByRecursion (IsOfItsSpec g)) (sym is) (ids_of_specs g (before ++ r ∷ []) rest (k + 1) others (append_assoc before (r ∷ []) rest ∙ whole) (omega (arith, length-append before (r ∷ []), place)) more)
-ids_of_specs g before (r ∷ rest) k ids whole place (Some m, others, made, more, is) =
+ids_of_specs g before [] k ids whole index empty = subst (AllByRecursion (IsOfItsSpec g)) (sym empty) tt
+ids_of_specs g before (r ∷ rest) k ids whole index (None, others, none, more, is) =
+    subst (AllByRecursion (IsOfItsSpec g)) (sym is) (ids_of_specs g (before ++ r ∷ []) rest (k + 1) others (append_assoc before (r ∷ []) rest ∙ whole) (omega (arith, length-append before (r ∷ []), index)) more)
+ids_of_specs g before (r ∷ rest) k ids whole index (Some m, others, made, more, is) =
     subst (AllByRecursion (IsOfItsSpec g)) (sym is) (
-      (λ none. (r, subst (λ (i : ℕ). slice_get g i ≡ Some r) (place ∙ sym made.spec) (subst (λ (z : List Reading). slice_get z (length before) ≡ Some r) whole (stands_behind before r rest)), subst (λ (i : ℕ). IsIdMapping i r m) (sym made.spec) made)),
-      ids_of_specs g (before ++ r ∷ []) rest (k + 1) others (append_assoc before (r ∷ []) rest ∙ whole) (omega (arith, length-append before (r ∷ []), place)) more,
+      (λ none. (r, subst (λ (i : ℕ). slice_get g i ≡ Some r) (index ∙ sym made.spec) (subst (λ (z : List Reading). slice_get z (length before) ≡ Some r) whole (stands_behind before r rest)), subst (λ (i : ℕ). IsIdMapping i r m) (sym made.spec) made)),
+      ids_of_specs g (before ++ r ∷ []) rest (k + 1) others (append_assoc before (r ∷ []) rest ∙ whole) (omega (arith, length-append before (r ∷ []), index)) more,
     )
 
 hits_have_items : (g : List Reading) (hits : List Hit) → AllByRecursion (IsOfItsSpec g) (map forward_of hits)
@@ -96,7 +96,7 @@ module _ (b : ℕ) (below : b < 32) (refused : IsTrue (is_refused_byte b)) where
   pattern_lacks x pattern =
       let r = pattern.replaces in
       let lacks = subst (Lacks b) r.replaced (name_lacks pattern.with_letter pattern.name) in
-      subst (Lacks b) (sym r.cut.starred) (all_join (λ c. c ≢ b) r.before (star ∷ r.after) (all_left (λ c. c ≢ b) r.before (letter ∷ r.after) lacks) ((λ same. omega (arith, same, below)), (all_right (λ c. c ≢ b) r.before (letter ∷ r.after) lacks).1))
+      subst (Lacks b) (sym r.split.starred) (all_join (λ c. c ≢ b) r.before (star ∷ r.after) (all_left (λ c. c ≢ b) r.before (letter ∷ r.after) lacks) ((λ same. omega (arith, same, below)), (all_right (λ c. c ≢ b) r.before (letter ∷ r.after) lacks).1))
 
   head_lacks : Lacks b head
   head_lacks = name_lacks head IsName-head

@@ -8,8 +8,8 @@ use Rattle.std.proofs.lemmas.List.{get_or-map, length-map}
 use Rattle.std.proofs.lemmas.List.Elements.{All-from_recursion}
 use Rattle.gix_refspec_match.specs.declared.types.Mapping.{Mapping}
 use Rattle.gix_refspec_match.specs.declared.types.NameRef.{NameRef}
-use Rattle.gix_refspec.specs.declared.match_group.names.BadSide.{BadSide}
-use Rattle.gix_refspec.specs.declared.match_group.names.BadSide.TheVariants.{Source, Destination, Both}
+use Rattle.gix_refspec.specs.declared.match_group.ref_names.InvalidSide.{InvalidSide}
+use Rattle.gix_refspec.specs.declared.match_group.ref_names.InvalidSide.TheVariants.{Source, Destination, Both}
 use Rattle.gix_refspec_text.specs.declared.name.Error.TheVariants.{Empty, EmptyComponent, StartsWithDot, InvalidByte}
 use Rattle.gix_refspec_text.specs.Texts.Bytes.{head, slash}
 use Rattle.gix_refspec_text.specs.Texts.Words.{ArePartsAt, BeginsWith}
@@ -19,24 +19,24 @@ use Rattle.gix_refspec_match.specs.Matching.Lists.{IsMadeFrom}
 use Rattle.gix_refspec_text.specs.Matching.Match.{Ref}
 use Rattle.gix_refspec_match.specs.Matching.Mappings.{Mapped}
 use Rattle.gix_refspec_match.specs.Views.Mapping.{mapped_of, name_bytes, IsMappingCopy, IsDestinationCopy}
-use Rattle.gix_refspec.specs.Matching.Validation.{ForwardPlaces, MeetAt, NeverMeet, Survives}
-use Rattle.gix_refspec.specs.Matching.RefNames.{AreNamed, IsBadAt, IsNamed, IsNamedDestination, IsRefName, StaysAmongRefs, WritesRef, WritesRefs}
-use Rattle.gix_refspec.proofs.lemmas.validate.AfterLemmas.{apart_still, made_each, never_meet_after, stays_each, validated_once}
+use Rattle.gix_refspec.specs.Matching.Validation.{ForwardIndexes, ShareDestination, HaveDistinctDestinations, Survives}
+use Rattle.gix_refspec.specs.Matching.RefNames.{HaveRefNames, IsInvalidAt, HasRefNames, IsValidDestination, IsRefName, StaysAmongRefs, WritesRef, WritesRefs}
+use Rattle.gix_refspec.proofs.lemmas.validate.AfterLemmas.{apart_still, made_each, distinct_destinations_after, stays_each, validated_once}
 use Rattle.gix_refspec.proofs.lemmas.validate.ConflictLemmas.{copied_name, copied_source}
 use Rattle.gix_refspec_text.proofs.lemmas.texts.HeadLemmas.{IsName-head}
 use Rattle.gix_refspec_match.proofs.lemmas.keep.KeptLemmas.{kept_once}
 
 -- a mapping of which a side is bad isn't named
-pub bad_unnamed : (side : BadSide) (m : Mapped) → IsBadAt side m → ¬ (IsNamed m)
+pub bad_unnamed : (side : InvalidSide) (m : Mapped) → IsInvalidAt side m → ¬ (HasRefNames m)
 bad_unnamed Source m bad named = bad.0 named.source
 bad_unnamed Destination m bad named = bad.1 named.destination
 bad_unnamed Both m bad named = bad.0 named.source
 
 -- nor are all of a list that has it
-pub some_unnamed : (ms : List Mapping) (i : ℕ) (m : Mapping) (side : BadSide) → i < length ms → m ≡ get_or ms i m → IsBadAt side (mapped_of m) → ¬ (AllByRecursion IsNamed (map mapped_of ms))
+pub some_unnamed : (ms : List Mapping) (i : ℕ) (m : Mapping) (side : InvalidSide) → i < length ms → m ≡ get_or ms i m → IsInvalidAt side (mapped_of m) → ¬ (AllByRecursion HasRefNames (map mapped_of ms))
 some_unnamed ms i m side below is bad all =
-    let named = All-from_recursion IsNamed (map mapped_of ms) all i (mapped_of m) (omega (arith, below, length-map ms mapped_of)) in
-    bad_unnamed side (mapped_of m) bad (subst IsNamed (get_or-map mapped_of ms i m (mapped_of m) below ∙ ap mapped_of (sym is)) named)
+    let named = All-from_recursion HasRefNames (map mapped_of ms) all i (mapped_of m) (omega (arith, below, length-map ms mapped_of)) in
+    bad_unnamed side (mapped_of m) bad (subst HasRefNames (get_or-map mapped_of ms i m (mapped_of m) below ∙ ap mapped_of (sym is)) named)
 
 pub copied_destination : (d e : Option NameRef) → IsDestinationCopy d e → option_map name_bytes e ≡ option_map name_bytes d
 copied_destination None None copy = refl
@@ -57,9 +57,9 @@ name_of_ref : (n : List ℕ) → IsRefName n → IsName n
 name_of_ref n (inl full) = full.1
 name_of_ref n (inr is) = subst IsName (sym is) IsName-head
 
-below_refs : (n : List ℕ) → IsRefName n → BeginsWith (codes "refs/") n ⊎ (n ≡ head)
-below_refs n (inl full) = inl full.0
-below_refs n (inr is) = inr is
+strip_refs : (n : List ℕ) → IsRefName n → BeginsWith (codes "refs/") n ⊎ (n ≡ head)
+strip_refs n (inl full) = inl full.0
+strip_refs n (inr is) = inr is
 
 -- each component of a name is there, and begins with no dot
 components_fine : (n : List ℕ) → IsName n → (before parts : List (List ℕ)) → ArePartsAt slash (before ++ parts) n → AllByRecursion (λ w. (w ≢ []) × ¬ (BeginsWith (codes ".") w)) parts
@@ -92,41 +92,41 @@ bytes_fine n is before (b ∷ rest) here = (
 pub stays_among_refs : (n : List ℕ) → IsRefName n → StaysAmongRefs n
 stays_among_refs n ref =
     let is = name_of_ref n ref in
-    record { below = below_refs n ref; components = λ parts are. components_fine n is [] parts are; bytes = bytes_fine n is [] n refl }
+    record { below = strip_refs n ref; components = λ parts are. components_fine n is [] parts are; bytes = bytes_fine n is [] n refl }
 
 -- ---- what is kept
 
-named_writes : (m : Mapped) → IsNamed m → WritesRef m
+named_writes : (m : Mapped) → HasRefNames m → WritesRef m
 named_writes m named d to =
-    let ref : IsRefName d = subst IsNamedDestination to named.destination in
+    let ref : IsRefName d = subst IsValidDestination to named.destination in
     (ref, stays_among_refs d ref)
 
-each_named : (l named : List Mapped) → AreNamed l named → AllByRecursion IsNamed named
-each_named l named are = made_each (λ k m made. (made ≡ m) × IsNamed m) IsNamed (length l) (λ k m made below one. subst IsNamed (sym one.0) one.1) 0 l named (omega arith) are
+each_named : (l named : List Mapped) → HaveRefNames l named → AllByRecursion HasRefNames named
+each_named l named are = made_each (λ k m made. (made ≡ m) × HasRefNames m) HasRefNames (length l) (λ k m made below one. subst HasRefNames (sym one.0) one.1) 0 l named (omega arith) are
 
-each_writes : (l : List Mapped) → AllByRecursion IsNamed l → AllByRecursion WritesRef l
+each_writes : (l : List Mapped) → AllByRecursion HasRefNames l → AllByRecursion WritesRef l
 each_writes [] all = tt
 each_writes (m ∷ l) all = (named_writes m all.0, each_writes l all.1)
 
 -- what is kept of mappings that never meet doesn't either
-never_meets : (k : ℕ) (l named : List Mapped) → NeverMeet l → IsMadeFrom (λ j m made. (made ≡ m) × IsNamed m) k l named → NeverMeet named
-never_meets k [] named apart empty = subst NeverMeet (sym empty) tt
-never_meets k (m ∷ l) named apart (None, rest, none, more, is) = subst NeverMeet (sym is) (never_meets (k + 1) l rest apart.1 more)
-never_meets k (m ∷ l) named apart (Some made, rest, one, more, is) = subst NeverMeet (sym is) (
-  subst (λ (x : Mapped). AllByRecursion (λ y. ¬ (MeetAt x y)) rest) (sym one.0) (stays_each (λ j x. IsNamed x) (λ y. ¬ (MeetAt m y)) (k + 1) l rest apart.0 more),
+never_meets : (k : ℕ) (l named : List Mapped) → HaveDistinctDestinations l → IsMadeFrom (λ j m made. (made ≡ m) × HasRefNames m) k l named → HaveDistinctDestinations named
+never_meets k [] named apart empty = subst HaveDistinctDestinations (sym empty) tt
+never_meets k (m ∷ l) named apart (None, rest, none, more, is) = subst HaveDistinctDestinations (sym is) (never_meets (k + 1) l rest apart.1 more)
+never_meets k (m ∷ l) named apart (Some made, rest, one, more, is) = subst HaveDistinctDestinations (sym is) (
+  subst (λ (x : Mapped). AllByRecursion (λ y. ¬ (ShareDestination x y)) rest) (sym one.0) (stays_each (λ j x. HasRefNames x) (λ y. ¬ (ShareDestination m y)) (k + 1) l rest apart.0 more),
   never_meets (k + 1) l rest apart.1 more,
 )
 
 pub writes_refs : (g : List Reading) (items : List Ref) → WritesRefs g items
 writes_refs g items = record {
   before = λ l named rest out fixes keeps valid. (
-    each_writes rest (stays_each (λ j x. Survives x) IsNamed 0 named rest (each_named l named keeps.named) valid.survive),
-    λ kept. never_meet_after g named rest fixes valid (apart_still (λ j x. IsNamed x) 0 l named (kept_once g kept.all l kept.is) keeps.named),
+    each_writes rest (stays_each (λ j x. Survives x) HasRefNames 0 named rest (each_named l named keeps.named) valid.survive),
+    λ kept. distinct_destinations_after g named rest fixes valid (apart_still (λ j x. HasRefNames x) 0 l named (kept_once g kept.all l kept.is) keeps.named),
   );
   after = λ l rest named fixes out valid keeps. (
     each_writes named (each_named rest named keeps.named),
     λ kept. never_meets 0 rest named ((validated_once g items l rest fixes valid).1 kept) keeps.named,
   );
-  fits = λ l named out keeps fit. stays_each (λ j x. IsNamed x) (λ m. m.spec < length g) 0 l named fit keeps.named;
-  places = λ l named out keeps fit. stays_each (λ j x. IsNamed x) (ForwardPlaces g items) 0 l named fit keeps.named;
+  fits = λ l named out keeps fit. stays_each (λ j x. HasRefNames x) (λ m. m.spec < length g) 0 l named fit keeps.named;
+  indexes = λ l named out keeps fit. stays_each (λ j x. HasRefNames x) (ForwardIndexes g items) 0 l named fit keeps.named;
 }

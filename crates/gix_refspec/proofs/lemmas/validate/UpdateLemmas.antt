@@ -20,7 +20,7 @@ use Rattle.gix_refspec_match.specs.declared.types.NameRef.{NameRef}
 use Rattle.gix_refspec_match.specs.Matching.Mappings.{Mapped}
 use Rattle.gix_refspec_match.specs.Views.Mapping.{mapped_of, name_bytes}
 use Rattle.gix_refspec_match.specs.Private.Kept.{IsFlagged, Rises}
-use Rattle.gix_refspec.specs.Private.Updates.{AreUpdates, GoesTo, HasUpdate, IsRun, update_cmp, updated_places}
+use Rattle.gix_refspec.specs.Private.Updates.{AreUpdates, GoesTo, HasUpdate, IsRun, update_cmp, updated_indexes}
 use Rattle.gix_refspec_match.proofs.lemmas.keep.PairLemmas.{same_texts}
 use Rattle.gix_refspec_match.proofs.lemmas.keep.RepeatLemmas.{Rises-push, apart_places}
 use Rattle.std.proofs.lemmas.Map.Lookups.{both_Equal}
@@ -29,8 +29,8 @@ use Rattle.gix_refspec_text.proofs.lemmas.lists.AllLemmas.{all_left, all_right, 
 -- there are the updates of the mappings before place p that have a destination and aren't flagged, by place
 pub record AreUpdatesUpto (l : List Mapped) (flags : List Bool) (p : ℕ) (cs : List Update) : Type 0 where
   pub are : (k : ℕ) (d : List ℕ) → HasUpdate cs k d ↔ ((k < p) × (GoesTo l k d × ¬ (IsFlagged flags k)))
-  pub rises : Rises (updated_places cs)
-  pub below : AllByRecursion (λ n. n < p) (updated_places cs)
+  pub rises : Rises (updated_indexes cs)
+  pub below : AllByRecursion (λ n. n < p) (updated_indexes cs)
 
 unequal : Less ≡ Equal → ⊥
 unequal same = absurd (cc)
@@ -62,14 +62,14 @@ less_of_two Equal b is = inr (refl, is)
 less_of_two Greater b is = absurd (cc)
 
 -- what is later is to a later destination, or to the same one from a later place
-pub later : (x y : Update) → update_cmp x y ≡ Less → (slice_cmp nat_cmp x.destination.now y.destination.now ≡ Less) ⊎ ((x.destination.now ≡ y.destination.now) × (x.place < y.place))
-later x y is = elim (less_of_two (slice_cmp nat_cmp x.destination.now y.destination.now) (nat_cmp x.place y.place) is) [
+pub later : (x y : Update) → update_cmp x y ≡ Less → (slice_cmp nat_cmp x.destination.now y.destination.now ≡ Less) ⊎ ((x.destination.now ≡ y.destination.now) × (x.index < y.index))
+later x y is = elim (less_of_two (slice_cmp nat_cmp x.destination.now y.destination.now) (nat_cmp x.index y.index) is) [
   | inl less ↦ inl less
-  | inr tied ↦ inr (same_texts x.destination.now y.destination.now tied.0, less_from_cmp x.place y.place tied.1)
+  | inr tied ↦ inr (same_texts x.destination.now y.destination.now tied.0, less_from_cmp x.index y.index tied.1)
 ]
 
 update_total : IsTotalOrder update_cmp
-update_total = then_total (on_total (λ (c : Update). c.destination.now) nat_list_cmp_total) (on_total (λ (c : Update). c.place) nat_cmp_total)
+update_total = then_total (on_total (λ (c : Update). c.destination.now) nat_list_cmp_total) (on_total (λ (c : Update). c.index) nat_cmp_total)
 
 pub strict_left : {X : Type 0} (cmp : X → X → Ordering) (xs ys : List X) → IsStrictlySortedBy cmp (xs ++ ys) → IsStrictlySortedBy cmp xs
 unfolding IsStrictlySortedBy
@@ -81,10 +81,10 @@ unfolding IsStrictlySortedBy
 strict_right cmp [] ys strict = strict
 strict_right cmp (x ∷ xs) ys strict = strict_right cmp xs ys strict.1
 
-strict_from_places : {X : Type 0} (cmp : X → X → Ordering) (xs : List X) → ((i j : ℕ) (d : X) → i < j → j < length xs → cmp (get_or xs i d) (get_or xs j d) ≡ Less) → IsStrictlySortedBy cmp xs
+strict_from_indexes : {X : Type 0} (cmp : X → X → Ordering) (xs : List X) → ((i j : ℕ) (d : X) → i < j → j < length xs → cmp (get_or xs i d) (get_or xs j d) ≡ Less) → IsStrictlySortedBy cmp xs
 unfolding IsStrictlySortedBy
-strict_from_places cmp [] each = tt
-strict_from_places {X} cmp (x ∷ xs) each = (first xs (λ j d below. each 0 (suc j) d (omega arith) (omega arith)), strict_from_places cmp xs (λ i j d before below. each (suc i) (suc j) d (omega arith) (omega arith)))
+strict_from_indexes cmp [] each = tt
+strict_from_indexes {X} cmp (x ∷ xs) each = (first xs (λ j d below. each 0 (suc j) d (omega arith) (omega arith)), strict_from_indexes cmp xs (λ i j d before below. each (suc i) (suc j) d (omega arith) (omega arith)))
   where
     first : (ys : List X) → ((j : ℕ) (d : X) → j < length ys → cmp x (get_or ys j d) ≡ Less) → AllByRecursion (λ y. cmp x y ≡ Less) ys
     first [] told = tt
@@ -96,27 +96,27 @@ turned Equal r is told apart = absurd (apart refl)
 turned Greater r is told apart = is
 
 -- updates that are sorted are strictly so, since their places differ
-strict_from_sorted : (xs ys : List Update) → IsPermutation xs ys → Rises (updated_places xs) → IsSorted update_cmp ys → IsStrictlySortedBy update_cmp ys
+strict_from_sorted : (xs ys : List Update) → IsPermutation xs ys → Rises (updated_indexes xs) → IsSorted update_cmp ys → IsStrictlySortedBy update_cmp ys
 strict_from_sorted xs ys moved rises sorted =
     let weak : IsStrictWeakOrder (λ (x : Update) (y : Update). is_lt (update_cmp x y)) = ranks_by update_total (λ (c : Update). c) in
-    strict_from_places update_cmp ys (λ i j d before below.
+    strict_from_indexes update_cmp ys (λ i j d before below.
     let x = get_or ys i d in
     let y = get_or ys j d in
     turned (update_cmp y x) (update_cmp x y) (update_total.antisymm x y)
     (sorted_far (λ (a : Update) (b : Update). is_lt (update_cmp a b)) weak ys sorted i j d (omega arith) below)
-    (λ tied. apart_places (updated_places xs) (updated_places ys) (IsPermutation-map (λ (c : Update). c.place) xs ys moved) rises i j 0 before (omega (arith, length-map ys (λ (c : Update). c.place)))
-    (get_or-map (λ (c : Update). c.place) ys i d 0 (omega arith) ∙ sym (same_from_cmp y.place x.place (both_Equal (slice_cmp nat_cmp y.destination.now x.destination.now) (nat_cmp y.place x.place) tied).1) ∙ sym (get_or-map (λ (c : Update). c.place) ys j d 0 below))))
+    (λ tied. apart_places (updated_indexes xs) (updated_indexes ys) (IsPermutation-map (λ (c : Update). c.index) xs ys moved) rises i j 0 before (omega (arith, length-map ys (λ (c : Update). c.index)))
+    (get_or-map (λ (c : Update). c.index) ys i d 0 (omega arith) ∙ sym (same_from_cmp y.index x.index (both_Equal (slice_cmp nat_cmp y.destination.now x.destination.now) (nat_cmp y.index x.index) tied).1) ∙ sym (get_or-map (λ (c : Update). c.index) ys j d 0 below))))
 
 -- an update of some, as one that they contain
-update_within : (cs : List Update) (k : ℕ) (d : List ℕ) → HasUpdate cs k d → (c : Update) × Contains cs c × (c.place ≡ k) × (c.destination.now ≡ d)
+update_within : (cs : List Update) (k : ℕ) (d : List ℕ) → HasUpdate cs k d → (c : Update) × Contains cs c × (c.index ≡ k) × (c.destination.now ≡ d)
 update_within [] k d has = absurd has
 update_within (c ∷ cs) k d (inl is) = (c, (0, omega arith, refl), is.0, is.1)
 update_within (c ∷ cs) k d (inr has) = let at = update_within cs k d has in (at.0, (suc at.1.0, (let below = at.1.1 in omega (arith, below)), at.1.2), at.2, at.3)
 
-update_at : (cs : List Update) (i : ℕ) (c : Update) (k : ℕ) (d : List ℕ) → i < length cs → get_or cs i c ≡ c → c.place ≡ k → c.destination.now ≡ d → HasUpdate cs k d
-update_at [] i c k d below is place to = absurd (omega arith)
-update_at (x ∷ cs) zero c k d below is place to = inl (ap (λ (y : Update). y.place) is ∙ place, ap (λ (y : Update). y.destination.now) is ∙ to)
-update_at (x ∷ cs) (suc i) c k d below is place to = inr (update_at cs i c k d (omega arith) is place to)
+update_at : (cs : List Update) (i : ℕ) (c : Update) (k : ℕ) (d : List ℕ) → i < length cs → get_or cs i c ≡ c → c.index ≡ k → c.destination.now ≡ d → HasUpdate cs k d
+update_at [] i c k d below is index to = absurd (omega arith)
+update_at (x ∷ cs) zero c k d below is index to = inl (ap (λ (y : Update). y.index) is ∙ index, ap (λ (y : Update). y.destination.now) is ∙ to)
+update_at (x ∷ cs) (suc i) c k d below is index to = inr (update_at cs i c k d (omega arith) is index to)
 
 HasUpdate-permuted : (xs ys : List Update) (k : ℕ) (d : List ℕ) → IsPermutation xs ys → HasUpdate xs k d → HasUpdate ys k d
 HasUpdate-permuted xs ys k d moved has =
@@ -142,7 +142,7 @@ HasUpdate-cases (x ∷ xs) ys k d (inr has) = elim (HasUpdate-cases xs ys k d ha
 ]
 
 -- all updates that were made, in order, are those of all mappings
-pub updates_sorted : (l : List Mapped) (flags : List Bool) (p : ℕ) (cs new : List Update) → length l ≤ p → AreUpdatesUpto l flags p cs → IsPermutation cs new → IsSorted (λ (x : Update) (y : Update). ordering_then (slice_cmp nat_cmp x.destination.now y.destination.now) (nat_cmp x.place y.place)) new → AreUpdates l flags new
+pub updates_sorted : (l : List Mapped) (flags : List Bool) (p : ℕ) (cs new : List Update) → length l ≤ p → AreUpdatesUpto l flags p cs → IsPermutation cs new → IsSorted (λ (x : Update) (y : Update). ordering_then (slice_cmp nat_cmp x.destination.now y.destination.now) (nat_cmp x.index y.index)) new → AreUpdates l flags new
 updates_sorted l flags p cs new past made moved sorted = record {
   are = λ k d. (
     (λ has. ((made.are k d).0 (HasUpdate-permuted new cs k d (IsPermutation-sym cs new moved) has)).1),
@@ -151,35 +151,35 @@ updates_sorted l flags p cs new past made moved sorted = record {
   order = strict_from_sorted cs new moved made.rises sorted;
 }
 
-one_place : (l : List Mapped) (k : ℕ) (d e : List ℕ) → GoesTo l k d → GoesTo l k e → d ≡ e
-one_place l k d e (m, is_m, to_d) (n, is_n, to_e) =
+one_index : (l : List Mapped) (k : ℕ) (d e : List ℕ) → GoesTo l k d → GoesTo l k e → d ≡ e
+one_index l k d e (m, is_m, to_d) (n, is_n, to_e) =
     let same : Some m ≡ Some n = sym is_m ∙ is_n in
     let one : m ≡ n = cc in
     let both : Some d ≡ Some e = sym to_d ∙ ap (λ (x : Mapped). x.destination) one ∙ to_e in
     cc
 
 -- one more update
-pub updates_more : (l : List Mapped) (flags : List Bool) (cs new : List Update) (c : Update) → new ≡ cs ++ c ∷ [] → GoesTo l c.place c.destination.now → ¬ (IsFlagged flags c.place) → AreUpdatesUpto l flags c.place cs → AreUpdatesUpto l flags (c.place + 1) new
+pub updates_more : (l : List Mapped) (flags : List Bool) (cs new : List Update) (c : Update) → new ≡ cs ++ c ∷ [] → GoesTo l c.index c.destination.now → ¬ (IsFlagged flags c.index) → AreUpdatesUpto l flags c.index cs → AreUpdatesUpto l flags (c.index + 1) new
 updates_more l flags cs new c is goes unflagged made =
-    let places : updated_places new ≡ updated_places cs ++ c.place ∷ [] = ap updated_places is ∙ map-append (λ (x : Update). x.place) cs (c ∷ []) in record {
-      are = λ k d. subst (λ (xs : List Update). HasUpdate xs k d ↔ ((k < c.place + 1) × (GoesTo l k d × ¬ (IsFlagged flags k)))) (sym is) (
+    let indexes : updated_indexes new ≡ updated_indexes cs ++ c.index ∷ [] = ap updated_indexes is ∙ map-append (λ (x : Update). x.index) cs (c ∷ []) in record {
+      are = λ k d. subst (λ (xs : List Update). HasUpdate xs k d ↔ ((k < c.index + 1) × (GoesTo l k d × ¬ (IsFlagged flags k)))) (sym is) (
         (λ has. elim (HasUpdate-cases cs (c ∷ []) k d has) [
           | inl old ↦ let told = (made.are k d).0 old in ((let less = told.0 in omega (arith, less)), told.1)
           | inr last ↦ only last
         ]),
-        (λ told. elim (upto k c.place told.0) [
+        (λ told. elim (upto k c.index told.0) [
           | inl less ↦ HasUpdate-left cs (c ∷ []) k d ((made.are k d).1 (less, told.1))
-          | inr here ↦ HasUpdate-right cs (c ∷ []) k d (inl (sym here, one_place l k c.destination.now d (subst (λ (n : ℕ). GoesTo l n c.destination.now) (sym here) goes) told.1.0))
+          | inr here ↦ HasUpdate-right cs (c ∷ []) k d (inl (sym here, one_index l k c.destination.now d (subst (λ (n : ℕ). GoesTo l n c.destination.now) (sym here) goes) told.1.0))
         ]),
       );
-      rises = subst Rises (sym places) (Rises-push (updated_places cs) c.place made.rises made.below);
-      below = subst (λ (ns : List ℕ). AllByRecursion (λ n. n < c.place + 1) ns) (sym places) (all_join (λ n. n < c.place + 1) (updated_places cs) (c.place ∷ []) (all_weaker (λ n. n < c.place) (λ n. n < c.place + 1) (λ n less. omega arith) (updated_places cs) made.below) (omega arith, tt));
+      rises = subst Rises (sym indexes) (Rises-push (updated_indexes cs) c.index made.rises made.below);
+      below = subst (λ (ns : List ℕ). AllByRecursion (λ n. n < c.index + 1) ns) (sym indexes) (all_join (λ n. n < c.index + 1) (updated_indexes cs) (c.index ∷ []) (all_weaker (λ n. n < c.index) (λ n. n < c.index + 1) (λ n less. omega arith) (updated_indexes cs) made.below) (omega arith, tt));
     }
   where
-    only : {k : ℕ} {d : List ℕ} → HasUpdate (c ∷ []) k d → (k < c.place + 1) × (GoesTo l k d × ¬ (IsFlagged flags k))
+    only : {k : ℕ} {d : List ℕ} → HasUpdate (c ∷ []) k d → (k < c.index + 1) × (GoesTo l k d × ¬ (IsFlagged flags k))
     only {k} {d} (inl at) = (
-      (let place = at.0 in omega (arith, place)),
-      (subst (λ (n : ℕ). GoesTo l n d) at.0 (subst (λ (x : List ℕ). GoesTo l c.place x) at.1 goes), subst (λ (n : ℕ). ¬ (IsFlagged flags n)) at.0 unflagged),
+      (let index = at.0 in omega (arith, index)),
+      (subst (λ (n : ℕ). GoesTo l n d) at.0 (subst (λ (x : List ℕ). GoesTo l c.index x) at.1 goes), subst (λ (n : ℕ). ¬ (IsFlagged flags n)) at.0 unflagged),
     )
     only (inr none) = absurd none
 
@@ -194,7 +194,7 @@ updates_same l flags p cs none made = record {
     ]),
   );
   rises = made.rises;
-  below = all_weaker (λ n. n < p) (λ n. n < p + 1) (λ n less. omega arith) (updated_places cs) made.below;
+  below = all_weaker (λ n. n < p) (λ n. n < p + 1) (λ n less. omega arith) (updated_indexes cs) made.below;
 }
 
 pub differ_from_test : (xs ys : List ℕ) (b : Bool) → b ≡ not (bytes_eq xs ys) → b ≡ true → xs ≢ ys
@@ -221,18 +221,18 @@ all_behind x (c ∷ cs) strict from other =
     (first, all_weaker (λ y. update_cmp c y ≡ Less) (λ y. slice_cmp nat_cmp x y.destination.now ≡ Less) (λ y is. behind x c y first is) cs strict.0)
 
 -- where the updates before a place are to the first one's destination, and that there is not, the place cuts them
-pub cut_at : (cs : List Update) (n : ℕ) (d : Update) → 0 < length cs → IsStrictlySortedBy update_cmp cs → AllByRecursion (λ c. c.destination.now ≡ (get_or cs 0 d).destination.now) (take n cs) → (n < length cs → (get_or cs n d).destination.now ≢ (get_or cs 0 d).destination.now) → IsRun (take n cs) (drop n cs)
+pub split_at : (cs : List Update) (n : ℕ) (d : Update) → 0 < length cs → IsStrictlySortedBy update_cmp cs → AllByRecursion (λ c. c.destination.now ≡ (get_or cs 0 d).destination.now) (take n cs) → (n < length cs → (get_or cs n d).destination.now ≢ (get_or cs 0 d).destination.now) → IsRun (take n cs) (drop n cs)
 unfolding IsStrictlySortedBy
-cut_at [] n d some strict same end = absurd (omega arith)
-cut_at (h ∷ cs) zero d some strict same end = absurd (end (omega arith) refl)
-cut_at (h ∷ cs) (suc n) d some strict same end =
-    let cut : take n cs ++ drop n cs ≡ cs = take-append-drop n cs in record {
+split_at [] n d some strict same end = absurd (omega arith)
+split_at (h ∷ cs) zero d some strict same end = absurd (end (omega arith) refl)
+split_at (h ∷ cs) (suc n) d some strict same end =
+    let split : take n cs ++ drop n cs ≡ cs = take-append-drop n cs in record {
       destination = h.destination.now;
       same = same;
       beyond = all_behind h.destination.now (drop n cs)
-          (strict_right update_cmp (take n cs) (drop n cs) (subst (λ (xs : List Update). IsStrictlySortedBy update_cmp xs) (sym cut) strict.1))
+          (strict_right update_cmp (take n cs) (drop n cs) (subst (λ (xs : List Update). IsStrictlySortedBy update_cmp xs) (sym split) strict.1))
           (all_weaker (λ y. update_cmp h y ≡ Less) (λ y. (slice_cmp nat_cmp h.destination.now y.destination.now ≡ Less) ⊎ (h.destination.now ≡ y.destination.now)) not_before (drop n cs)
-          (all_right (λ y. update_cmp h y ≡ Less) (take n cs) (drop n cs) (subst (λ (xs : List Update). AllByRecursion (λ y. update_cmp h y ≡ Less) xs) (sym cut) strict.0)))
+          (all_right (λ y. update_cmp h y ≡ Less) (take n cs) (drop n cs) (subst (λ (xs : List Update). AllByRecursion (λ y. update_cmp h y ≡ Less) xs) (sym split) strict.0)))
           (λ c rest is same2. elim (cases_lt n (length cs)) [
             | inl inside ↦
                 let here : get_or cs n d ∷ drop (n + 1) cs ≡ c ∷ rest = sym (drop_more cs n d inside) ∙ is in

@@ -25,7 +25,7 @@ use std::alloc::{AllocError, Global};
 #[derive(Clone, Copy, PartialEq, Eq, PartialOrd, Ord)]
 struct Update<'m> {
     destination: &'m [u8],
-    place: usize,
+    index: usize,
 }
 
 // The conflicts of some mappings. Fails if memory runs out; never without mappings.
@@ -96,14 +96,14 @@ fn updates_in_order<'m>(
     ensures { IfOk result (λ updates. AreUpdates (map mapped_of mappings.now) flags.now updates.items) }
 {
     let mut updates = Vec::with_capacity(alloc, mappings.len())?;
-    for (place, mapping) in mappings.iter().enumerate() {
+    for (index, mapping) in mappings.iter().enumerate() {
         let Some(name) = &mapping.rhs else {
             continue;
         };
-        if !is_flagged(flags, place) {
+        if !is_flagged(flags, index) {
             updates.push(Update {
                 destination: name.as_bstr().as_bytes(),
-                place,
+                index,
             })?;
         }
     }
@@ -160,7 +160,7 @@ fn len_of_run(updates: &[Update<'_>]) -> usize
     requires order { IsStrictlySortedBy update_cmp updates.now }
     ensures some { 0 < result }
     ensures fits { result ≤ length updates.now }
-    ensures cut { IsRun (take result updates.now) (drop result updates.now) }
+    ensures split { IsRun (take result updates.now) (drop result updates.now) }
 {
     for (len, update) in updates.iter().enumerate() {
         if update.destination != updates[0].destination {
@@ -185,7 +185,7 @@ fn issue_of(
     let mut sources = Vec::with_capacity(alloc, run.len())?;
     let mut texts = Vec::with_capacity(alloc, run.len())?;
     for update in run {
-        let mapping = &mappings[update.place];
+        let mapping = &mappings[update.index];
         sources.push(mapping.lhs.clone(alloc)?.into_owned(alloc)?)?;
         texts.push(specs[mapping.spec_index].to_bstring(alloc)?)?;
     }

@@ -45,14 +45,14 @@ use Rattle.gix_refspec_match.specs.Matching.Mappings as mappings
 use Rattle.gix_refspec_text.proofs.lemmas.texts.ObjectIdLemmas.{AllPass-IsIdText, IsIdText-sound, IsIdText-unique}
 use Rattle.gix_refspec_text.proofs.lemmas.specs.AcceptedLemmas.{accepted_few}
 use Rattle.gix_refspec_text.proofs.lemmas.hits.CandidateLemmas.{first_candidate, some_first}
-use Rattle.gix_refspec_text.proofs.lemmas.hits.MatchLemmas.{one_word, lacks_no_pattern, cut_once}
+use Rattle.gix_refspec_text.proofs.lemmas.hits.MatchLemmas.{one_word, lacks_no_pattern, split_once}
 use Rattle.gix_refspec_match.proofs.lemmas.lists.ListsLemmas.{made_once}
-use Rattle.gix_refspec_match.proofs.lemmas.lists.JoinLemmas.{MakesOnce, one_joined, empty_both, made_next, nothing_made, joined_next, nothing_joined, map_long, map_cut}
+use Rattle.gix_refspec_match.proofs.lemmas.lists.JoinLemmas.{MakesOnce, one_joined, empty_both, made_next, nothing_made, joined_next, nothing_joined, map_long, map_split}
 use Rattle.gix_refspec_text.proofs.lemmas.lists.MapLemmas.{map_next}
 
 -- a name that a pattern fits begins as the pattern does
 pub front_of_fitted : (before after n word front rest : List ℕ) → IsSplitAt n (length before) front rest → Fits before after n word → front ≡ before
-front_of_fitted before after n word front rest cut fits = cut.1 ∙ (ap (take (length before)) fits ∙ take-append_seam before (word ++ after))
+front_of_fitted before after n word front rest split fits = split.1 ∙ (ap (take (length before)) fits ∙ take-append_seam before (word ++ after))
 
 -- texts that are the same end with the same byte
 pub same_end : (a b : Option (Bor ℕ)) → option_copied a ≡ option_copied b → option_eq (λ x y. nat_eq x.now y.now) a b ≡ true
@@ -63,7 +63,7 @@ same_end (Some x) (Some y) same = (Decides-eqb x.now y.now).1 (cc)
 
 -- a name that begins as a pattern does is that text and what is left of it
 pub front_and_rest : (before n front rest : List ℕ) → IsSplitAt n (length before) front rest → front ≡ before → n ≡ before ++ rest
-front_and_rest before n front rest cut same = sym (take-append-drop (length before) n) ∙ (ap (λ x. x ++ drop (length before) n) (sym cut.1 ∙ same) ∙ ap (λ x. before ++ x) (sym cut.2))
+front_and_rest before n front rest split same = sym (take-append-drop (length before) n) ∙ (ap (λ x. x ++ drop (length before) n) (sym split.1 ∙ same) ∙ ap (λ x. before ++ x) (sym split.2))
 
 -- the word is what is left of the name after its front, without its end
 pub word_left : (before after n rest : List ℕ) (r : Option (Bor (List ℕ))) → n ≡ before ++ rest → MatchOption r ((front : List ℕ) → rest ≢ front ++ after) (λ x. rest ≡ x.now ++ after) → MatchOption r ((word : List ℕ) → ¬ (Fits before after n word)) (λ word. Fits before after n word.now)
@@ -122,7 +122,7 @@ remote_candidate x n same = candidate_at x n (inr (inr (inr (inr (inr (inl same)
 
 -- a side has one kind
 pub one_kind : (x : List ℕ) (k l : SideKind) → HasKind x k → HasKind x l → k ≡ l
-one_kind x (pattern before after) (pattern fixed rest) a b = let once = cut_once x before after fixed rest a b in let front : before ≡ fixed = once.0 in let back : after ≡ rest = once.1 in cc
+one_kind x (pattern before after) (pattern fixed rest) a b = let once = split_once x before after fixed rest a b in let front : before ≡ fixed = once.0 in let back : after ≡ rest = once.1 in cc
 one_kind x (pattern before after) (full_name n) a b = absurd (lacks_no_pattern x before after b.1 a)
 one_kind x (pattern before after) (object id) a b = absurd (lacks_no_pattern x before after b.0 a)
 one_kind x (pattern before after) (partial n) a b = absurd (lacks_no_pattern x before after b.1 a)
@@ -285,7 +285,7 @@ adds_nothing direction kinds k xs i d old mid below so_far none =
 
 -- where the item at a place is matched, one is hit
 pub item_hit : (kinds : DeclaredEnds) (xs : List Item) (i : ℕ) (d : Item) (found : Match) → i < length xs → MatchesAs (kind_of_side kinds.near) (ref_of (get_or xs i d)) (word_of found) → HasHit kinds (map ref_of xs)
-item_hit kinds xs i d found below matches = subst (HasHit kinds) (sym (map_cut ref_of xs i d below)) (some_hit kinds (map ref_of (take i xs)) (ref_of (get_or xs i d)) (map ref_of (drop (suc i) xs)) (word_of found) matches)
+item_hit kinds xs i d found below matches = subst (HasHit kinds) (sym (map_split ref_of xs i d below)) (some_hit kinds (map ref_of (take i xs)) (ref_of (get_or xs i d)) (map ref_of (drop (suc i) xs)) (word_of found) matches)
 
 -- each side of an accepted reading has one star at most
 pub few_side : (r : Reading) (side : Option BStr) → ∥ IsAccepted r ∥₁ → ((x : List ℕ) → option_map bstr_bytes side ≡ Some x → (r.source ≡ Some x) ⊎ (r.destination ≡ Some x)) → MatchOption side (Unit {0}) (λ s. ¬ (HasSeveralStars (bstr_bytes s)))
@@ -346,8 +346,8 @@ pub one_pair : (direction : Direction) (r : Reading) (a b : Ends) → HasEnds di
 one_pair Forward r a b of_a of_b = same_ends a b (same_side r.source a.near b.near of_a.near of_b.near) (sym of_a.far ∙ of_b.far)
 one_pair Backward r a b of_a of_b = same_ends a b (same_side r.destination a.near b.near of_a.near of_b.near) (sym of_a.far ∙ of_b.far)
 
-specs_cut : (specs : List RefSpecRef) (i : ℕ) (s : RefSpecRef) → i < length specs → s ≡ get_or specs i s → map reading_of specs ≡ map reading_of (take i specs) ++ (reading_of s ∷ map reading_of (drop (suc i) specs))
-specs_cut specs i s below is = map_cut reading_of specs i s below ∙ ap (λ t. map reading_of (take i specs) ++ (reading_of t ∷ map reading_of (drop (suc i) specs))) (sym is)
+specs_split : (specs : List RefSpecRef) (i : ℕ) (s : RefSpecRef) → i < length specs → s ≡ get_or specs i s → map reading_of specs ≡ map reading_of (take i specs) ++ (reading_of s ∷ map reading_of (drop (suc i) specs))
+specs_split specs i s below is = map_split reading_of specs i s below ∙ ap (λ t. map reading_of (take i specs) ++ (reading_of t ∷ map reading_of (drop (suc i) specs))) (sym is)
 
 -- one more spec
 pub spec_hits : (direction : Direction) (specs : List RefSpecRef) (items : List Ref) (i : ℕ) (s : RefSpecRef) (g h : List Hit) → i < length specs → s ≡ get_or specs i s → AreHits (HasEnds direction) (TakesIn direction items) (map reading_of (take i specs)) items g → AreSpecHits (HasEnds direction) (TakesIn direction items) items i (reading_of s) h → AreHits (HasEnds direction) (TakesIn direction items) (map reading_of (take (i + 1) specs)) items (g ++ h)
@@ -365,7 +365,7 @@ specs_hit direction specs items i s kinds below is found some none =
     let before = map reading_of (take i specs) in
     let after = map reading_of (drop (suc i) specs) in
     no_spec_hits direction items (0 + length before) (reading_of s) found.0 kinds found.1 found.2 some
-    (nothing_joined (AreSpecHits (HasEnds direction) (TakesIn direction items) items) 0 before (reading_of s) after (subst (λ rs. AreHits (HasEnds direction) (TakesIn direction items) rs items []) (specs_cut specs i s below is) none))
+    (nothing_joined (AreSpecHits (HasEnds direction) (TakesIn direction items) items) 0 before (reading_of s) after (subst (λ rs. AreHits (HasEnds direction) (TakesIn direction items) rs items []) (specs_split specs i s below is) none))
 
 -- what a spec makes that asks for an id
 is_id_mapping : (k : ℕ) (r : Reading) (bytes : List ℕ) (kind : Option DeclaredKind) (m : Mapped) → AsksForId r bytes → HasSideKind r.destination kind → m.item ≡ None → m.source ≡ mappings.id bytes → m.destination ≡ filled_end kind None → m.spec ≡ k → IsIdMapping k r m
@@ -414,7 +414,7 @@ some_id specs i s asked below is asks none =
     let before = map reading_of (take i specs) in
     let after = map reading_of (drop (suc i) specs) in
     let m : Mapped = record { item = None; source = mappings.id (id_bytes asked.id); destination = filled_end asked.destination None; spec = 0 + length before } in
-    nothing_made IsIdMapping 0 before (reading_of s) after m (subst (λ rs. IsMadeFrom IsIdMapping 0 rs []) (specs_cut specs i s below is) none) (is_id_mapping (0 + length before) (reading_of s) (id_bytes asked.id) asked.destination m asks.0 asks.1 refl refl refl refl)
+    nothing_made IsIdMapping 0 before (reading_of s) after m (subst (λ rs. IsMadeFrom IsIdMapping 0 rs []) (specs_split specs i s below is) none) (is_id_mapping (0 + length before) (reading_of s) (id_bytes asked.id) asked.destination m asks.0 asks.1 refl refl refl refl)
 
 -- what was found
 pub found_some : {A : Type 0} (P : Type 0) (Q : A → Type 0) (found : Option A) → is_some found ≡ true → MatchOption found P Q → (x : A) × Q x
@@ -501,7 +501,7 @@ hits_once direction rs items g h a b = one_joined (AreSpecHits (HasEnds directio
 
 pub same_mapped : (m n : Mapped) → m.item ≡ n.item → m.source ≡ n.source → m.destination ≡ n.destination → m.spec ≡ n.spec → m ≡ n
 same_mapped m n item source destination spec =
-    let build : Option ℕ → mappings.Start → Option (List ℕ) → ℕ → Mapped = λ i s d k. record { item = i; source = s; destination = d; spec = k } in
+    let build : Option ℕ → mappings.Source → Option (List ℕ) → ℕ → Mapped = λ i s d k. record { item = i; source = s; destination = d; spec = k } in
     ap (λ i. build i m.source m.destination m.spec) item ∙ ap (λ s. build n.item s m.destination m.spec) source ∙ ap (λ d. build n.item n.source d m.spec) destination ∙ ap (build n.item n.source n.destination) spec
 
 -- a spec asks for one id

@@ -115,8 +115,8 @@ was_first refs r x n other first =
     })
 
 -- the places of the refs whose names are as Q says
-abbrev AreNamed : (List ℕ → Type 0) → List Ref → List ℕ → Type 0
-AreNamed Q refs places = IsMadeFrom (λ k r place. Q r.name × (place ≡ k)) 0 refs places
+abbrev HaveRefNames : (List ℕ → Type 0) → List Ref → List ℕ → Type 0
+HaveRefNames Q refs places = IsMadeFrom (λ k r place. Q r.name × (place ≡ k)) 0 refs places
 
 -- by two words that agree
 named_alike : (P Q : List ℕ → Type 0) → ((n : List ℕ) → P n → Q n) → ((n : List ℕ) → Q n → P n) → (k : ℕ) (refs : List Ref) (ps : List ℕ) → AreWhere (λ r. P r.name) k refs ps → AreWhere (λ r. Q r.name) k refs ps
@@ -136,12 +136,12 @@ named_none Q k (r ∷ refs) (None, rest, here, more, is) n (inl same) holds = he
 named_none Q k (r ∷ refs) (None, rest, here, more, is) n (inr has) holds = named_none Q (k + 1) refs (subst (AreWhere (λ r. Q r.name) (k + 1) refs) (sym is) more) n has holds
 
 -- one more ref, with such a name or with another
-named_next : (Q : List ℕ → Type 0) (i : ℕ) (refs : List Ref) (r : Ref) (ps : List ℕ) → length refs ≡ i → AreNamed Q refs ps → Q r.name → AreNamed Q (refs ++ r ∷ []) (ps ++ i ∷ [])
+named_next : (Q : List ℕ → Type 0) (i : ℕ) (refs : List Ref) (r : Ref) (ps : List ℕ) → length refs ≡ i → HaveRefNames Q refs ps → Q r.name → HaveRefNames Q (refs ++ r ∷ []) (ps ++ i ∷ [])
 named_next Q i refs r ps long are here = made_next (λ k s place. Q s.name × (place ≡ k)) i refs r ps (Some i) long are (here, refl)
 
-named_same : (Q : List ℕ → Type 0) (i : ℕ) (refs : List Ref) (r : Ref) (ps : List ℕ) → length refs ≡ i → AreNamed Q refs ps → ¬ (Q r.name) → AreNamed Q (refs ++ r ∷ []) ps
+named_same : (Q : List ℕ → Type 0) (i : ℕ) (refs : List Ref) (r : Ref) (ps : List ℕ) → length refs ≡ i → HaveRefNames Q refs ps → ¬ (Q r.name) → HaveRefNames Q (refs ++ r ∷ []) ps
 named_same Q i refs r ps long are other =
-    subst (AreNamed Q (refs ++ r ∷ [])) (append-nil ps)
+    subst (HaveRefNames Q (refs ++ r ∷ [])) (append-nil ps)
     (made_next (λ k s place. Q s.name × (place ≡ k)) i refs r ps None long are (λ place both. other both.0))
 
 -- what is read of the refs, with more after them
@@ -160,7 +160,7 @@ read_name : (refs : List Ref) (i : ℕ) (s : Ref) → slice_get refs i ≡ Some 
 read_name refs i s is = ap (λ (o : Option Ref). unwrap_or (option_map (λ r. r.name) o) []) is
 
 -- one more candidate, where none was there
-first_alone : (x : List ℕ) (i : ℕ) (refs : List Ref) (r : Ref) → length refs ≡ i → IsCandidate x r.name → AreNamed (IsFirstCandidate refs x) refs [] → AreNamed (IsFirstCandidate (refs ++ r ∷ []) x) (refs ++ r ∷ []) (i ∷ [])
+first_alone : (x : List ℕ) (i : ℕ) (refs : List Ref) (r : Ref) → length refs ≡ i → IsCandidate x r.name → HaveRefNames (IsFirstCandidate refs x) refs [] → HaveRefNames (IsFirstCandidate (refs ++ r ∷ []) x) (refs ++ r ∷ []) (i ∷ [])
 first_alone x i refs r long one are =
     let more = refs ++ r ∷ [] in
     let absent : (n : List ℕ) → IsCandidate x n → ¬ (HasName refs n) = λ n other has. let (f, first) = some_first refs x n other has in named_none (IsFirstCandidate refs x) 0 refs are f first.present first in
@@ -169,13 +169,13 @@ first_alone x i refs r long one are =
     (becomes_first refs r x one (λ m other has. absurd (absent m other has)))
 
 -- one more candidate, where m was the first
-first_more : (x : List ℕ) (i : ℕ) (refs : List Ref) (r : Ref) (m : List ℕ) (ps qs : List ℕ) → length refs ≡ i → IsCandidate x r.name → IsFirstCandidate refs x m → AreNamed (IsFirstCandidate refs x) refs ps
+first_more : (x : List ℕ) (i : ℕ) (refs : List Ref) (r : Ref) (m : List ℕ) (ps qs : List ℕ) → length refs ≡ i → IsCandidate x r.name → IsFirstCandidate refs x m → HaveRefNames (IsFirstCandidate refs x) refs ps
     → (length m < length r.name × (qs ≡ ps)) ⊎ (length r.name < length m × (qs ≡ i ∷ [])) ⊎ ((length r.name ≡ length m) × (qs ≡ ps ++ i ∷ []))
-    → AreNamed (IsFirstCandidate (refs ++ r ∷ []) x) (refs ++ r ∷ []) qs
+    → HaveRefNames (IsFirstCandidate (refs ++ r ∷ []) x) (refs ++ r ∷ []) qs
 first_more x i refs r m ps qs long one first are (inl (longer, is)) =
     let more = refs ++ r ∷ [] in
     let still : IsFirstCandidate more x m = stays_first refs r x m (λ other. omega (arith, longer)) first in
-    subst (AreNamed (IsFirstCandidate more x) more) (sym is)
+    subst (HaveRefNames (IsFirstCandidate more x) more) (sym is)
     (named_same (IsFirstCandidate more x) i refs r ps long
     (named_alike (IsFirstCandidate refs x) (IsFirstCandidate more x) (λ n also. subst (IsFirstCandidate more x) (first_once refs x m n first also) still) (λ n also. subst (IsFirstCandidate refs x) (first_once more x m n still also) first) 0 refs ps are)
     (λ also. let equal : length m ≡ length r.name = ap length (first_once more x m r.name still also) in omega (arith, longer, equal)))
@@ -183,7 +183,7 @@ first_more x i refs r m ps qs long one first are (inr (inl (shorter, is))) =
     let more = refs ++ r ∷ [] in
     let short = first_shortest refs x m first in
     let now : IsFirstCandidate more x r.name = becomes_first refs r x one (λ n other has. let above : length m ≤ length n = short.least n other has in omega (arith, shorter, above)) in
-    subst (AreNamed (IsFirstCandidate more x) more) (sym is)
+    subst (HaveRefNames (IsFirstCandidate more x) more) (sym is)
     (named_next (IsFirstCandidate more x) i refs r [] long
     (none_named (IsFirstCandidate more x) 0 refs (λ n has also.
     let same : r.name ≡ n = first_once more x r.name n now also in
@@ -194,14 +194,14 @@ first_more x i refs r m ps qs long one first are (inr (inr (equal, is))) =
     let more = refs ++ r ∷ [] in
     let still : IsFirstCandidate more x m = stays_first refs r x m (λ other. omega (arith, equal)) first in
     let same : m ≡ r.name = one_size x m r.name (first_candidate refs x m first) one (sym equal) in
-    subst (AreNamed (IsFirstCandidate more x) more) (sym is)
+    subst (HaveRefNames (IsFirstCandidate more x) more) (sym is)
     (named_next (IsFirstCandidate more x) i refs r ps long
     (named_alike (IsFirstCandidate refs x) (IsFirstCandidate more x) (λ n also. subst (IsFirstCandidate more x) (first_once refs x m n first also) still) (λ n also. subst (IsFirstCandidate refs x) (first_once more x m n still also) first) 0 refs ps are)
     (subst (IsFirstCandidate more x) same still))
 
 -- one more candidate joins the first ones
-first_joins : (x : List ℕ) (i : ℕ) (refs : List Ref) (r : Ref) (rest : List Ref) (ps qs : List ℕ) → length refs ≡ i → IsCandidate x r.name → AreNamed (IsFirstCandidate refs x) refs ps → JoinsFirst (refs ++ (r ∷ rest)) i ps qs → AreNamed (IsFirstCandidate (refs ++ r ∷ []) x) (refs ++ r ∷ []) qs
-first_joins x i refs r rest [] qs long one are joins = subst (AreNamed (IsFirstCandidate (refs ++ r ∷ []) x) (refs ++ r ∷ [])) (sym joins) (first_alone x i refs r long one are)
+first_joins : (x : List ℕ) (i : ℕ) (refs : List Ref) (r : Ref) (rest : List Ref) (ps qs : List ℕ) → length refs ≡ i → IsCandidate x r.name → HaveRefNames (IsFirstCandidate refs x) refs ps → JoinsFirst (refs ++ (r ∷ rest)) i ps qs → HaveRefNames (IsFirstCandidate (refs ++ r ∷ []) x) (refs ++ r ∷ []) qs
+first_joins x i refs r rest [] qs long one are joins = subst (HaveRefNames (IsFirstCandidate (refs ++ r ∷ []) x) (refs ++ r ∷ [])) (sym joins) (first_alone x i refs r long one are)
 first_joins x i refs r rest (p ∷ ps) qs long one are joins =
     let all = refs ++ (r ∷ rest) in
     let at = has_only (λ s. IsFirstCandidate refs x s.name) 0 refs (p ∷ ps) p are (inl refl) in

@@ -63,8 +63,8 @@ adds_unlisted l n place old new none so_far front v is =
     let (w, was, before, from) = so_far front v is in
     let now = one_length l n place front v w before from (λ same. inr (
       (λ begins.
-          let cut : take l n ≡ front = subst (λ (k : ℕ). take k n ≡ front) same (taken_begins front n begins) in
-          let both : None ≡ Some v = sym none ∙ ap new cut ∙ is in
+          let split : take l n ≡ front = subst (λ (k : ℕ). take k n ≡ front) same (taken_begins front n begins) in
+          let both : None ≡ Some v = sym none ∙ ap new split ∙ is in
           absurd (cc)),
       from (omega (arith, same)),
     )) in

@@ -18,7 +18,7 @@ use Rattle.gix_refspec_match.proofs.lemmas.index.FirstPlacesLemmas.{taken_joins,
 use Rattle.gix_refspec_match.proofs.lemmas.hits.HitLemmas.{candidate_cases, placed_candidate, remote_candidate}
 use Rattle.gix_refspec_match.proofs.lemmas.index.IndexLemmas.{Puts, put_cases}
 use Rattle.gix_refspec_text.proofs.lemmas.hits.MatchLemmas.{one_word}
-use Rattle.gix_refspec_match.proofs.lemmas.lists.JoinLemmas.{map_cut, map_long}
+use Rattle.gix_refspec_match.proofs.lemmas.lists.JoinLemmas.{map_split, map_long}
 
 -- what follows where a call succeeds
 pub on_ok : {T E : Type 0} (r : Result T E) (P Q : Type 0) → (P → Q) → OnOk r P → OnOk r Q
@@ -233,7 +233,7 @@ partials_more direction names items i d n Known old new below is known adds list
     let (w, was, taken) = listed x there in
     let (v, now, told) = adds x w (known x there) was in
     let all : ArePlacesTaken (partial x) direction (refs ++ r ∷ []) v.items = elim told [
-      | inl here ↦ taken_joins direction x i refs r rest w.items v.items (map_long ref_of items i below) (subst (IsCandidate x) is here.0) taken (subst (λ (l : List Ref). Joins direction l i w.items v.items) (map_cut ref_of items i d below) here.1)
+      | inl here ↦ taken_joins direction x i refs r rest w.items v.items (map_long ref_of items i below) (subst (IsCandidate x) is here.0) taken (subst (λ (l : List Ref). Joins direction l i w.items v.items) (map_split ref_of items i d below) here.1)
       | inr other ↦ subst (ArePlacesTaken (partial x) direction (refs ++ r ∷ [])) (sym other.1) (taken_stays direction x i refs r w.items (map_long ref_of items i below) (λ one. other.0 (subst (IsCandidate x) (sym is) one)) taken)
     ] in
     (v, now, subst (λ (l : List Ref). ArePlacesTaken (partial x) direction l v.items) (sym (map_more ref_of items i d below)) all)

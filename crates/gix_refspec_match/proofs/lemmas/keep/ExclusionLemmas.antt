@@ -62,8 +62,8 @@ one_star : (x before after : List ℕ) → IsNameOrPattern x → x ≡ before ++
 one_star x before after (inl is_name) starred lacks = absurd (Lacks-here star before after (subst (Lacks star) starred (Lacks-name x is_name)))
 one_star x before after (inr pattern) starred lacks =
     let r = pattern.replaces in
-    let once = first_once star before r.before after r.after lacks r.cut.first (sym starred ∙ r.cut.starred) in
-    subst (Lacks star) (sym once.1) r.cut.last
+    let once = first_once star before r.before after r.after lacks r.split.first (sym starred ∙ r.split.starred) in
+    subst (Lacks star) (sym once.1) r.split.last
 
 -- so it is for the source of a negative spec
 source_star : (r : Reading) (x before after : List ℕ) → ∥ IsAccepted r ∥₁ → r.mode ≡ Negative → r.source ≡ Some x → x ≡ before ++ (star ∷ after) → Lacks star before → Lacks star after
@@ -79,7 +79,7 @@ name_excludes r x negative source lacks n = (
   where
     only_name : (t : List ℕ) → x ≡ t → Excludes t n → n ≡ x
     only_name t is (the_name _ same) = same ∙ sym is
-    only_name t is (by_pattern before after word cut covers) = absurd (Lacks-here star before after (subst (Lacks star) (is ∙ cut.starred) lacks))
+    only_name t is (by_pattern before after word split covers) = absurd (Lacks-here star before after (subst (Lacks star) (is ∙ split.starred) lacks))
 
 -- one with a star excludes the names of its pattern
 pub pattern_excludes : (r : Reading) (x before after : List ℕ) → ∥ IsAccepted r ∥₁ → r.mode ≡ Negative → r.source ≡ Some x → x ≡ before ++ (star ∷ after) → Lacks star before → (n : List ℕ) → ((word : List ℕ) × Fits before after n word) ↔ IsExcludedBy n r
@@ -90,8 +90,8 @@ pattern_excludes r x before after accepted negative source starred lacks n = (
   where
     only_pattern : (t : List ℕ) → x ≡ t → Excludes t n → (word : List ℕ) × Fits before after n word
     only_pattern t is (the_name none same) = absurd (Lacks-here star before after (subst (Lacks star) (sym is ∙ starred) none))
-    only_pattern t is (by_pattern before2 after2 word cut covers) =
-        let once = first_once star before before2 after after2 lacks cut.first (sym starred ∙ is ∙ cut.starred) in
+    only_pattern t is (by_pattern before2 after2 word split covers) =
+        let once = first_once star before before2 after after2 lacks split.first (sym starred ∙ is ∙ split.starred) in
         (word, covers ∙ sym (λ i. once.0 i ++ (word ++ once.1 i)))
 
 -- what some of a list do, one of the list with one more at its end does, or that one

@@ -8,7 +8,7 @@ use Rattle.gix_refspec_match.specs.declared.types.Mapping.{Mapping}
 use Rattle.gix_refspec_match.specs.declared.keep.exclusions.Exclusions.{Exclusions}
 use Rattle.gix_refspec_text.specs.Specs.Reading.{Reading}
 use Rattle.gix_refspec_match.specs.Matching.Lists.{MakesOf, IsMadeFrom}
-use Rattle.gix_refspec_match.specs.Matching.Mappings.{Start, name, id, Mapped, IsSamePair, HasPair, AreApart, IsStartExcluded, IsKeptAt, IsKept}
+use Rattle.gix_refspec_match.specs.Matching.Mappings.{Source, name, id, Mapped, IsSamePair, HasPair, AreApart, IsSourceExcluded, IsKeptAt, IsKept}
 use Rattle.gix_refspec_match.specs.Views.Mapping.{mapped_of}
 use Rattle.gix_refspec_match.specs.Private.EqualSpecs.{Thins}
 use Rattle.gix_refspec_match.specs.Private.Kept.{AreExclusionsOf, FlagsRepeats, IsRepeat, ExcludeStart, ExcludeName, IsKeptBy, IsUnflagged}
@@ -66,7 +66,7 @@ repeats_at ms k d below =
     )
 
 -- the same starts are excluded
-starts_agree : (g : List Reading) (es : Exclusions) (s : Start) → AreExclusionsOf g es → ExcludeStart es s ↔ IsStartExcluded g s
+starts_agree : (g : List Reading) (es : Exclusions) (s : Source) → AreExclusionsOf g es → ExcludeStart es s ↔ IsSourceExcluded g s
 starts_agree g es (name n) are = are n
 starts_agree g es (id i) are = ((λ none. none), (λ none. none))
 
@@ -92,7 +92,7 @@ kept_from_remains g ms rest es flags are repeats made =
       (remains_stays g ms es flags i d are repeats below).0 (record { same = refl; unflagged = remains.unflagged; included = remains.included }),
     )
 
-untaken : (es : Exclusions) → ((n : List ℕ) → ¬ (ExcludeName es n)) → (s : Start) → ¬ (ExcludeStart es s)
+untaken : (es : Exclusions) → ((n : List ℕ) → ¬ (ExcludeName es n)) → (s : Source) → ¬ (ExcludeStart es s)
 untaken es free (name n) taken = free n taken
 untaken es free (id i) taken = taken
 
@@ -113,13 +113,13 @@ later_apart g l n k (x ∷ xs) ys fits (Some y, rest, stays, more, is) = subst (
 apart_from : (g : List Reading) (l : List Mapped) (k : ℕ) (xs ys : List Mapped) → drop k l ≡ xs → k + length xs ≡ length l → IsMadeFrom (λ j m made. (made ≡ m) × IsKeptAt g l j m) k xs ys → AreApart ys
 apart_from g l k [] ys rest size empty = subst AreApart (sym empty) tt
 apart_from g l k (x ∷ xs) ys rest size (None, ys2, none, more, is) =
-    let cut : drop k l ≡ get_or l k x ∷ drop (k + 1) l = drop_more l k x (omega arith) in
-    let both : get_or l k x ∷ drop (k + 1) l ≡ x ∷ xs = sym cut ∙ rest in
+    let split : drop k l ≡ get_or l k x ∷ drop (k + 1) l = drop_more l k x (omega arith) in
+    let both : get_or l k x ∷ drop (k + 1) l ≡ x ∷ xs = sym split ∙ rest in
     let tail : drop (k + 1) l ≡ xs = cc in
     subst AreApart (sym is) (apart_from g l (k + 1) xs ys2 tail (omega arith) more)
 apart_from g l k (x ∷ xs) ys rest size (Some y, ys2, stays, more, is) =
-    let cut : drop k l ≡ get_or l k x ∷ drop (k + 1) l = drop_more l k x (omega arith) in
-    let both : get_or l k x ∷ drop (k + 1) l ≡ x ∷ xs = sym cut ∙ rest in
+    let split : drop k l ≡ get_or l k x ∷ drop (k + 1) l = drop_more l k x (omega arith) in
+    let both : get_or l k x ∷ drop (k + 1) l ≡ x ∷ xs = sym split ∙ rest in
     let tail : drop (k + 1) l ≡ xs = cc in
     let head : get_or l k x ≡ x = cc in
     let front : take (k + 1) l ≡ take k l ++ y ∷ [] = take_more l k x (omega arith) ∙ ap (λ (z : Mapped). take k l ++ z ∷ []) (head ∙ sym stays.0) in

@@ -4,7 +4,7 @@ use Rattle.std.proofs.Math.Seq.{take-append_seam}
 use Rattle.std.proofs.lemmas.List.{append_assoc}
 use Rattle.gix_refspec_text.specs.Specs.Reading.{Reading}
 use Rattle.gix_refspec_match.specs.Matching.Lists.{MakesOf, IsMadeFrom}
-use Rattle.gix_refspec_match.specs.Matching.Mappings.{Start, name, id, Mapped, IsSamePair, HasPair, IsStartExcluded, IsKeptAt, IsKept}
+use Rattle.gix_refspec_match.specs.Matching.Mappings.{Source, name, id, Mapped, IsSamePair, HasPair, IsSourceExcluded, IsKeptAt, IsKept}
 use Rattle.gix_refspec_text.proofs.lemmas.parsing.DecideLemmas.{Decided, decided_byte}
 use Rattle.gix_refspec_match.proofs.lemmas.lists.SomeLemmas.{Any, Any-right, Any-cases, Any-weaker, Any-both, made_any}
 
@@ -36,7 +36,7 @@ decided_text (b ∷ x) (c ∷ y) = elim (decided_byte b c) [
   | inl head ↦ decided_by (λ (tail : x ≡ y). cc) (λ (same : b ∷ x ≡ c ∷ y). cc) (decided_text x y)
 ]
 
-decided_start : (s t : Start) → Decided (s ≡ t)
+decided_start : (s t : Source) → Decided (s ≡ t)
 decided_start (name n) (name m) = decided_by (ap name) (λ (same : name n ≡ name m). cc) (decided_text n m)
 decided_start (name n) (id i) = inr (λ same. cc)
 decided_start (id i) (name m) = inr (λ same. cc)
@@ -59,10 +59,10 @@ abbrev pub Keeps : List Reading → List Mapped → ℕ → Mapped → Mapped �
 Keeps g l k m made = (made ≡ m) × IsKeptAt g l k m
 
 -- the first mapping with a pair whose source isn't excluded is kept
-first_stays : (g : List Reading) (before xs : List Mapped) (pair m : Mapped) → IsOfPair pair m → ¬ (Any (IsOfPair pair) before) → ¬ (IsStartExcluded g pair.source) → IsKeptAt g (before ++ xs) (length before) m
+first_stays : (g : List Reading) (before xs : List Mapped) (pair m : Mapped) → IsOfPair pair m → ¬ (Any (IsOfPair pair) before) → ¬ (IsSourceExcluded g pair.source) → IsKeptAt g (before ++ xs) (length before) m
 first_stays g before xs pair m same new included = record {
   first = λ has. new (Any-weaker (IsOfPair m) (IsOfPair pair) of_pair before (Any-HasPair before m (subst (λ (l : List Mapped). HasPair l m) (take-append_seam before xs) has)));
-  included = λ by. included (subst (IsStartExcluded g) same.source by);
+  included = λ by. included (subst (IsSourceExcluded g) same.source by);
 }
   where
     of_pair : (x : Mapped) → IsOfPair m x → IsOfPair pair x
@@ -77,7 +77,7 @@ later_pair pair m xs other (inl same) = absurd (other same)
 later_pair pair m xs other (inr later) = later
 
 -- what has a pair, and nothing before it has
-kept_from : (g : List Reading) (l before xs ys : List Mapped) (k : ℕ) (pair : Mapped) → before ++ xs ≡ l → length before ≡ k → ¬ (Any (IsOfPair pair) before) → ¬ (IsStartExcluded g pair.source) → IsMadeFrom (Keeps g l) k xs ys → Any (IsOfPair pair) xs → Any (IsOfPair pair) ys
+kept_from : (g : List Reading) (l before xs ys : List Mapped) (k : ℕ) (pair : Mapped) → before ++ xs ≡ l → length before ≡ k → ¬ (Any (IsOfPair pair) before) → ¬ (IsSourceExcluded g pair.source) → IsMadeFrom (Keeps g l) k xs ys → Any (IsOfPair pair) xs → Any (IsOfPair pair) ys
 kept_from g l before [] ys k pair whole place new included made any = absurd any
 kept_from g l before (m ∷ xs) ys k pair whole place new included (made, rest, makes, more, is) any = subst (Any (IsOfPair pair)) (sym is) (elim (decided_pair pair m) [
   | inl same ↦
@@ -91,16 +91,16 @@ kept_from g l before (m ∷ xs) ys k pair whole place new included (made, rest, 
 ])
 
 -- the pairs that are kept are those whose source isn't excluded
-pub kept_pairs : (g : List Reading) (l kept : List Mapped) (pair : Mapped) → IsKept g l kept → HasPair kept pair ↔ (HasPair l pair × ¬ (IsStartExcluded g pair.source))
+pub kept_pairs : (g : List Reading) (l kept : List Mapped) (pair : Mapped) → IsKept g l kept → HasPair kept pair ↔ (HasPair l pair × ¬ (IsSourceExcluded g pair.source))
 kept_pairs g l kept pair is = (
   (λ has.
       let made = made_any (Keeps g l) (IsOfPair pair) 0 l kept is (Any-HasPair kept pair has) in
-      let both = Any-both (IsOfPair pair) (¬ (IsStartExcluded g pair.source)) l (Any-weaker _ _ one l made) in
+      let both = Any-both (IsOfPair pair) (¬ (IsSourceExcluded g pair.source)) l (Any-weaker _ _ one l made) in
       (HasPair-Any l pair both.0, both.1)),
   (λ both. HasPair-Any kept pair (kept_from g l [] l kept 0 pair refl refl (λ none. none) both.1 is (Any-HasPair l pair both.0))),
 )
   where
-    one : (m : Mapped) → (j : ℕ) × (y : Mapped) × Keeps g l j m y × IsSamePair y pair → IsOfPair pair m × ¬ (IsStartExcluded g pair.source)
+    one : (m : Mapped) → (j : ℕ) × (y : Mapped) × Keeps g l j m y × IsSamePair y pair → IsOfPair pair m × ¬ (IsSourceExcluded g pair.source)
     one m (j, y, keeps, same) =
         let of_m : IsOfPair pair m = subst (IsOfPair pair) keeps.0 same in
-        (of_m, λ by. keeps.1.included (subst (IsStartExcluded g) (sym of_m.source) by))
+        (of_m, λ by. keeps.1.included (subst (IsSourceExcluded g) (sym of_m.source) by))

@@ -5,7 +5,7 @@ use Rattle.gix_refspec_match.specs.declared.types.Mapping.{Mapping}
 use Rattle.gix_refspec_match.specs.declared.keep.exclusions.Exclusions.{Exclusions}
 use Rattle.gix_refspec_text.specs.Specs.Reading.{Reading}
 use Rattle.gix_refspec_match.specs.Matching.Lists.{MakesOf, IsMadeFrom}
-use Rattle.gix_refspec_match.specs.Matching.Mappings.{Mapped, IsSamePair, HasPair, IsStartExcluded, IsKeptAt, IsKept}
+use Rattle.gix_refspec_match.specs.Matching.Mappings.{Mapped, IsSamePair, HasPair, IsSourceExcluded, IsKeptAt, IsKept}
 use Rattle.gix_refspec_match.specs.Private.EqualSpecs.{MayGo, Thins}
 use Rattle.gix_refspec_match.specs.Private.Part.{moved}
 use Rattle.gix_refspec_match.specs.Views.Mapping.{mapped_of}
@@ -46,7 +46,7 @@ Keeps g l k m made = (made ≡ m) × IsKeptAt g l k m
 
 -- of what isn't excluded the same pairs are before it
 abbrev SamePairs : List Reading → List Mapped → List Mapped → Type 0
-SamePairs g before some = (m : Mapped) → ¬ (IsStartExcluded g m.source) → HasPair before m ↔ HasPair some m
+SamePairs g before some = (m : Mapped) → ¬ (IsSourceExcluded g m.source) → HasPair before m ↔ HasPair some m
 
 same_more : (g : List Reading) (before some : List Mapped) (x : Mapped) → SamePairs g before some → SamePairs g (before ++ x ∷ []) (some ++ x ∷ [])
 same_more g before some x same m free = (
@@ -55,9 +55,9 @@ same_more g before some x same m free = (
 )
 
 -- what has the pair of a mapping that may go has an earlier one's
-gone : (g : List Reading) (before : List Mapped) (x m : Mapped) → MayGo g before x → ¬ (IsStartExcluded g m.source) → IsSamePair x m → HasPair before m
+gone : (g : List Reading) (before : List Mapped) (x m : Mapped) → MayGo g before x → ¬ (IsSourceExcluded g m.source) → IsSamePair x m → HasPair before m
 gone g before x m (inl repeats) free same = pair_alike before x m same repeats
-gone g before x m (inr excluded) free same = absurd (excluded (λ of_x. free (subst (IsStartExcluded g) same.source of_x)))
+gone g before x m (inr excluded) free same = absurd (excluded (λ of_x. free (subst (IsSourceExcluded g) same.source of_x)))
 
 same_without : (g : List Reading) (before some : List Mapped) (x : Mapped) → MayGo g before x → SamePairs g before some → SamePairs g (before ++ x ∷ []) some
 same_without g before some x may same m free = (

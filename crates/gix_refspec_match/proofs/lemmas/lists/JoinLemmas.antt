@@ -8,10 +8,10 @@ pub map_long : {A B : Type 0} (f : A → B) (xs : List A) (i : ℕ) → i < leng
 map_long f xs i below = let fits : i ≤ length xs = omega arith in length-map (take i xs) f ∙ length-take-le i xs fits
 
 -- a place cuts the elements
-pub map_cut : {A B : Type 0} (f : A → B) (xs : List A) (i : ℕ) (d : A) → i < length xs → map f xs ≡ map f (take i xs) ++ (f (get_or xs i d) ∷ map f (drop (suc i) xs))
-map_cut f xs i d below =
-    let cut : xs ≡ take i xs ++ (get_or xs i d ∷ drop (suc i) xs) = sym (take-append-drop i xs) ∙ ap (λ y. take i xs ++ y) (drop-cons xs i d below) in
-    ap (map f) cut ∙ map-append f (take i xs) (get_or xs i d ∷ drop (suc i) xs)
+pub map_split : {A B : Type 0} (f : A → B) (xs : List A) (i : ℕ) (d : A) → i < length xs → map f xs ≡ map f (take i xs) ++ (f (get_or xs i d) ∷ map f (drop (suc i) xs))
+map_split f xs i d below =
+    let split : xs ≡ take i xs ++ (get_or xs i d ∷ drop (suc i) xs) = sym (take-append-drop i xs) ∙ ap (λ y. take i xs ++ y) (drop-cons xs i d below) in
+    ap (map f) split ∙ map-append f (take i xs) (get_or xs i d ∷ drop (suc i) xs)
 
 -- one more element after the others, which makes one more, or nothing
 pub made_next : {X Y : Type 0} (R : ℕ → X → Y → Type 0) (i : ℕ) (xs : List X) (x : X) (ys : List Y) (made : Option Y) → length xs ≡ i → IsMadeFrom R 0 xs ys → MakesOf R i x made → IsMadeFrom R 0 (xs ++ x ∷ []) (ys ++ option_to_list made)

@@ -14,7 +14,7 @@ use super::short_tails::ShortTails;
 use super::{listed_in, without_places};
 use crate::hits::ends::Direction;
 use crate::types::{Item, NameRef};
-use gix_refspec_text::side::below_refs;
+use gix_refspec_text::side::strip_refs;
 use std::alloc::{AllocError, Global};
 use std::collections::HashMap;
 
@@ -113,7 +113,7 @@ impl<'l, 'item> Lookup<'l, 'item> {
             (list_of places.old) (list_of places.new)) }
     {
         self.add(name, place, places)?;
-        let Some(below) = below_refs(name) else {
+        let Some(below) = strip_refs(name) else {
             return Ok(());
         };
         self.add(below, place, places)?;

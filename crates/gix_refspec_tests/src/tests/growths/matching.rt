@@ -133,7 +133,7 @@ fn leaves_bad_names_out(rt: HostRuntime) -> Result<(), Fail> {
     let names = "refs/heads/a refs/heads/../b refs/heads/c.";
     let given = mapped(alloc, "refs/heads/*:refs/x/*", names, &target)?;
     let before = lines(alloc, given.mappings.as_slice())?;
-    match marked!(alloc, given.without_bad_names(alloc)) {
+    match marked!(alloc, given.without_invalid_names(alloc)) {
         Ok((left, bad)) => {
             let wanted = "0 0 refs/heads/a =refs/x/a\n";
             assert_eq!(&rt; lines(alloc, left.mappings.as_slice())?.as_str(), wanted);

@@ -2,11 +2,11 @@
 use Rattle.std.proofs.Common.{◌≡◌, ◌≢◌, ℕ, List, [], ◌∷◌, ◌++◌, codes, Option, None, Some, refl, sym, ap, ◌∙◌, subst}
 use Rattle.std.proofs.lemmas.List.{append-nil, append_cancel_left, append_cancel_right}
 use Rattle.gix_refspec_text.specs.Texts.Words.{Lacks, BeginsWith}
-use Rattle.gix_refspec_text.specs.Texts.Name.{IsCut}
+use Rattle.gix_refspec_text.specs.Texts.Name.{IsSplit}
 use Rattle.gix_refspec_text.specs.Texts.Bytes.{star, head}
 use Rattle.gix_refspec_text.specs.Matching.Side.{SideKind, pattern, full_name, object, partial, HasKind, IsId, candidates, IsCandidate}
 use Rattle.gix_refspec_text.specs.Matching.Match.{Ref, MatchesAs}
-use Rattle.gix_refspec_text.specs.Matching.Prefix.{of_head, of_name, of_pattern, HasNoPrefix, Expands, to_prefix, to_itself, below_refs, of_object, to_candidates}
+use Rattle.gix_refspec_text.specs.Matching.Prefix.{of_head, of_name, of_pattern, HasNoPrefix, Expands, to_prefix, to_itself, strip_refs, of_object, to_candidates}
 use Rattle.gix_refspec_text.specs.Laws.Readings.{OneWord, PrefixBegins, Candidates}
 use Rattle.gix_refspec_text.proofs.lemmas.hits.CandidateLemmas.{first_candidate, first_of_one, takes_first}
 use Rattle.gix_refspec_text.proofs.lemmas.lists.LacksLemmas.{Lacks-here, first_once}
@@ -16,12 +16,12 @@ pub one_word : (before after n : List ℕ) → OneWord before after n
 one_word before after n v w by_v by_w = append_cancel_right v w after (append_cancel_left before (v ++ after) (w ++ after) (sym by_v ∙ by_w))
 
 -- what lacks the star is no pattern
-pub lacks_no_pattern : (x before after : List ℕ) → Lacks star x → IsCut before after x → ⊥
-lacks_no_pattern x before after lacks cut = Lacks-here star before after (subst (Lacks star) cut.starred lacks)
+pub lacks_no_pattern : (x before after : List ℕ) → Lacks star x → IsSplit before after x → ⊥
+lacks_no_pattern x before after lacks split = Lacks-here star before after (subst (Lacks star) split.starred lacks)
 
 -- a text has one star at one place
-pub cut_once : (x before after fixed rest : List ℕ) → IsCut before after x → IsCut fixed rest x → (before ≡ fixed) × (after ≡ rest)
-cut_once x before after fixed rest a b = first_once star before fixed after rest a.first b.first (sym a.starred ∙ b.starred)
+pub split_once : (x before after fixed rest : List ℕ) → IsSplit before after x → IsSplit fixed rest x → (before ≡ fixed) × (after ≡ rest)
+split_once x before after fixed rest a b = first_once star before fixed after rest a.first b.first (sym a.starred ∙ b.starred)
 
 -- the whole text begins with itself
 begins_itself : (x n : List ℕ) → n ≡ x → BeginsWith x n
@@ -35,37 +35,37 @@ name_begins x (object id) r word begins lacks kind fits = absurd (kind.1 begins)
 name_begins x (partial n) r word begins lacks kind fits = absurd (kind.2 begins)
 
 -- a pattern, of which what is before its star is the prefix
-pattern_begins : (x fixed rest : List ℕ) (k : SideKind) (r : Ref) (word : Option (List ℕ)) → IsCut fixed rest x → HasKind x k → MatchesAs k r word → BeginsWith fixed r.name
-pattern_begins x fixed rest (pattern before after) r None cut kind fits = absurd fits
-pattern_begins x fixed rest (pattern before after) r (Some word) cut kind fits =
-    let once = cut_once x before after fixed rest kind cut in
+pattern_begins : (x fixed rest : List ℕ) (k : SideKind) (r : Ref) (word : Option (List ℕ)) → IsSplit fixed rest x → HasKind x k → MatchesAs k r word → BeginsWith fixed r.name
+pattern_begins x fixed rest (pattern before after) r None split kind fits = absurd fits
+pattern_begins x fixed rest (pattern before after) r (Some word) split kind fits =
+    let once = split_once x before after fixed rest kind split in
     record { after = word ++ after; here = fits ∙ ap (λ (y : List ℕ). y ++ (word ++ after)) once.0 }
-pattern_begins x fixed rest (full_name n) r word cut kind fits = absurd (lacks_no_pattern x fixed rest kind.1 cut)
-pattern_begins x fixed rest (object id) r word cut kind fits = absurd (lacks_no_pattern x fixed rest kind.0 cut)
-pattern_begins x fixed rest (partial n) r word cut kind fits = absurd (lacks_no_pattern x fixed rest kind.1 cut)
+pattern_begins x fixed rest (full_name n) r word split kind fits = absurd (lacks_no_pattern x fixed rest kind.1 split)
+pattern_begins x fixed rest (object id) r word split kind fits = absurd (lacks_no_pattern x fixed rest kind.0 split)
+pattern_begins x fixed rest (partial n) r word split kind fits = absurd (lacks_no_pattern x fixed rest kind.1 split)
 
 -- each ref that a side matches begins with its prefix
 pub prefix_begins : (x : List ℕ) → PrefixBegins x
 prefix_begins x p r word (of_head is_head _) other matches = absurd (other is_head)
 prefix_begins x p r word (of_name begins lacks same) other matches = subst (λ (y : List ℕ). BeginsWith y r.name) (sym same) (name_begins x matches.kind r word begins lacks matches.of matches.is)
-prefix_begins x p r word (of_pattern before after cut tells same) other matches =
-    subst (λ (y : List ℕ). BeginsWith y r.name) (sym same) (pattern_begins x before after matches.kind r word cut matches.of matches.is)
+prefix_begins x p r word (of_pattern before after split tells same) other matches =
+    subst (λ (y : List ℕ). BeginsWith y r.name) (sym same) (pattern_begins x before after matches.kind r word split matches.of matches.is)
 
 -- what begins `refs/` before its star begins so
-pub begins_cut : (x before after : List ℕ) → IsCut before after x → BeginsWith (codes "refs/") before → BeginsWith (codes "refs/") x
-begins_cut x before after cut below = record { after = below.after ++ (star ∷ after); here = cut.starred ∙ ap (λ (y : List ℕ). y ++ (star ∷ after)) below.here }
+pub begins_split : (x before after : List ℕ) → IsSplit before after x → BeginsWith (codes "refs/") before → BeginsWith (codes "refs/") x
+begins_split x before after split below = record { after = below.after ++ (star ∷ after); here = split.starred ∙ ap (λ (y : List ℕ). y ++ (star ∷ after)) below.here }
 
 -- a side outside `refs/` other than `HEAD` has no prefix
 pub outside_none : (x : List ℕ) → x ≢ head → ¬ (BeginsWith (codes "refs/") x) → HasNoPrefix x
 outside_none x other outside p (of_head is_head _) = other is_head
 outside_none x other outside p (of_name begins _ _) = outside begins
-outside_none x other outside p (of_pattern before after cut tells _) = outside (begins_cut x before after cut tells.below)
+outside_none x other outside p (of_pattern before after split tells _) = outside (begins_split x before after split tells.below)
 
 -- nothing but the candidates
 only_candidates : (x : List ℕ) → x ≢ head → ¬ (BeginsWith (codes "refs/") x) → ¬ (IsId x) → (list : List (List ℕ)) → Expands x list → list ≡ candidates x
 only_candidates x other outside no_id list (to_prefix p prefix _) = absurd (outside_none x other outside p prefix)
 only_candidates x other outside no_id list (to_itself rest _ below _ _) = absurd (outside (record { after = rest; here = below }))
-only_candidates x other outside no_id list (below_refs rest _ below _ _) = absurd (outside (record { after = rest; here = below }))
+only_candidates x other outside no_id list (strip_refs rest _ below _ _) = absurd (outside (record { after = rest; here = below }))
 only_candidates x other outside no_id list (of_object _ _ id _) = absurd (no_id id)
 only_candidates x other outside no_id list (to_candidates _ _ _ is) = is
 

@@ -13,28 +13,28 @@ use Rattle.gix_refspec_text.specs.declared.side.SideKind.TheVariants as kind
 use Rattle.gix_refspec_text.specs.declared.spec.RefSpecRef.{RefSpecRef}
 use Rattle.gix_refspec_text.specs.Texts.Words.{BeginsWith}
 use Rattle.gix_refspec_text.specs.Texts.Bytes.{star}
-use Rattle.gix_refspec_text.specs.Texts.Name.{IsCut}
+use Rattle.gix_refspec_text.specs.Texts.Name.{IsSplit}
 use Rattle.gix_refspec_text.specs.Specs.Reading.{Reading}
 use Rattle.gix_refspec_text.specs.Views.Spec.{reading_of}
 use Rattle.gix_refspec_text.specs.Texts.ObjectId.{id_bytes}
 use Rattle.gix_refspec_text.specs.Matching.Side.{HasKind}
 use Rattle.gix_refspec_text.specs.Private.SideViews.{kind_of_side}
-use Rattle.gix_refspec_text.specs.Matching.Prefix.{TellsPrefix, of_name, of_pattern, IsAsked}
+use Rattle.gix_refspec_text.specs.Matching.Prefix.{IsRefPrefix, of_name, of_pattern, IsAsked}
 use Rattle.gix_refspec_text.specs.Laws.Covering.{IsCovering, by_prefix, by_candidates, HasCoveringSource}
 use Rattle.gix_refspec_text.proofs.lemmas.hits.MatchLemmas.{lacks_no_pattern}
 use Rattle.gix_refspec_text.proofs.lemmas.prefixes.PrefixLemmas.{id_not_head, no_prefix, one_asked}
 
 -- a pattern is covering exactly where it tells a prefix
-pub told_pattern : (x before after : List ℕ) (r : Bool) → IsCut before after x → IsTrue r ↔ TellsPrefix before after → IsTrue r ↔ IsCovering x
-told_pattern x before after true cut told =
+pub told_pattern : (x before after : List ℕ) (r : Bool) → IsSplit before after x → IsTrue r ↔ IsRefPrefix before after → IsTrue r ↔ IsCovering x
+told_pattern x before after true split told =
     let tells = told.0 refl in
-    let below : BeginsWith (codes "refs/") x = record { after = tells.below.after ++ (star ∷ after); here = cut.starred ∙ ap (λ (y : List ℕ). y ++ (star ∷ after)) tells.below.here ∙ append_assoc (codes "refs/") tells.below.after (star ∷ after) } in
-    ((λ _. by_prefix before below (of_pattern before after cut tells refl)), (λ _. refl))
-told_pattern x before after false cut told = ((λ so. absurd (false≢true so)), never)
+    let below : BeginsWith (codes "refs/") x = record { after = tells.below.after ++ (star ∷ after); here = split.starred ∙ ap (λ (y : List ℕ). y ++ (star ∷ after)) tells.below.here ∙ append_assoc (codes "refs/") tells.below.after (star ∷ after) } in
+    ((λ _. by_prefix before below (of_pattern before after split tells refl)), (λ _. refl))
+told_pattern x before after false split told = ((λ so. absurd (false≢true so)), never)
   where
     never : IsCovering x → false ≡ true
-    never (by_prefix p below is) = absurd (no_prefix x before after cut (λ tells. false≢true (told.1 tells)) p is)
-    never (by_candidates lacks other outside) = absurd (lacks_no_pattern x before after lacks cut)
+    never (by_prefix p below is) = absurd (no_prefix x before after split (λ tells. false≢true (told.1 tells)) p is)
+    never (by_candidates lacks other outside) = absurd (lacks_no_pattern x before after lacks split)
 
 -- a fetch that asks for a side has a covering source exactly where that side is covering
 pub told_source : (r : Reading) (x : List ℕ) (b : Bool) → r.operation ≡ Fetch → IsAsked r x → IsTrue b ↔ IsCovering x → IsTrue b ↔ HasCoveringSource r

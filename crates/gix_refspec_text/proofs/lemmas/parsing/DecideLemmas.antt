@@ -119,18 +119,18 @@ name_or_fault (b ∷ x) =
     ]
 
 -- the first place of a byte
-pub record FirstPlace (b : ℕ) (x : List ℕ) : Type 0 where
+pub record FirstIndex (b : ℕ) (x : List ℕ) : Type 0 where
   pub before : List ℕ
   pub after : List ℕ
   pub here : x ≡ before ++ (b ∷ after)
   pub first : Lacks b before
 
-pub lacks_or_first : (b : ℕ) (x : List ℕ) → Lacks b x ⊎ FirstPlace b x
+pub lacks_or_first : (b : ℕ) (x : List ℕ) → Lacks b x ⊎ FirstIndex b x
 lacks_or_first b [] = inl tt
 lacks_or_first b (c ∷ x) = elim (decided_byte c b) [
   | inl same ↦ inr (record { before = []; after = x; here = ap (λ d. d ∷ x) same; first = tt })
   | inr other ↦ elim (lacks_or_first b x) [
     | inl lacks ↦ inl (other, lacks)
-    | inr place ↦ inr (record { before = c ∷ place.before; after = place.after; here = ap (λ y. c ∷ y) place.here; first = (other, place.first) })
+    | inr index ↦ inr (record { before = c ∷ index.before; after = index.after; here = ap (λ y. c ∷ y) index.here; first = (other, index.first) })
   ]
 ]

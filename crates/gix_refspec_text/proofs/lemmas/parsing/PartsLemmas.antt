@@ -39,11 +39,11 @@ signed_once Negative Normal text r s a b = absurd ((signed_not_unsigned s r care
 signed_once Negative Forced text r s a b = absurd (plus_not_caret (sym (heads caret plus r s (sym a ∙ b))))
 signed_once Negative Negative text r s a b = (refl, tails caret caret r s (sym a ∙ b))
 
-pub cut_once : (s t : List ℕ) (d e : Option (List ℕ)) → LastLacksColon s d → LastLacksColon t e → with_colon s d ≡ with_colon t e → (s ≡ t) × (d ≡ e)
-cut_once s t None None a b same = (same, refl)
-cut_once s t None (Some e) a b same = absurd (Lacks-here colon t e (subst (Lacks colon) same a))
-cut_once s t (Some d) None a b same = absurd (Lacks-here colon s d (subst (Lacks colon) (sym same) b))
-cut_once s t (Some d) (Some e) a b same = let once = last_once colon s t d e a b same in (once.0, ap (λ (x : List ℕ). Some x) once.1)
+pub split_once : (s t : List ℕ) (d e : Option (List ℕ)) → LastLacksColon s d → LastLacksColon t e → with_colon s d ≡ with_colon t e → (s ≡ t) × (d ≡ e)
+split_once s t None None a b same = (same, refl)
+split_once s t None (Some e) a b same = absurd (Lacks-here colon t e (subst (Lacks colon) same a))
+split_once s t (Some d) None a b same = absurd (Lacks-here colon s d (subst (Lacks colon) (sym same) b))
+split_once s t (Some d) (Some e) a b same = let once = last_once colon s t d e a b same in (once.0, ap (λ (x : List ℕ). Some x) once.1)
 
 -- the parts of a text are the same whichever way it is written
 pub record SameParts (m n : Mode) (s t : List ℕ) (d e : Option (List ℕ)) : Type 0 where
@@ -54,5 +54,5 @@ pub record SameParts (m n : Mode) (s t : List ℕ) (d e : Option (List ℕ)) : T
 pub parts_once : (m n : Mode) (s t : List ℕ) (d e : Option (List ℕ)) (text : List ℕ) → AreParts m s d text → AreParts n t e text → SameParts m n s t d e
 parts_once m n s t d e text a b =
     let signed = signed_once m n text (with_colon s d) (with_colon t e) a.signed b.signed in
-    let cut = cut_once s t d e a.last b.last signed.1 in
-    record { mode = signed.0; source = cut.0; destination = cut.1 }
+    let split = split_once s t d e a.last b.last signed.1 in
+    record { mode = signed.0; source = split.0; destination = split.1 }

@@ -219,8 +219,8 @@ refused op m s d text e parts first = record { unread = λ r. unread op m s d te
 
 -- an error of the parts that a text was cut into is an error of the text
 pub error_of_text : (p : Parts) (bytes text : List ℕ) (e : Error) → bytes ≡ text → HasParts bytes p → IsReasonAgainst p e → IsErrorOf p.operation text e
-error_of_text p bytes text e same cut =
-    let parts = subst (λ (x : List ℕ). HasParts x p) same cut in
+error_of_text p bytes text e same split =
+    let parts = subst (λ (x : List ℕ). HasParts x p) same split in
     let op = p.operation in
     let m = mode_of p.mode in
     let s = p.source.now in

@@ -12,7 +12,7 @@ use Rattle.gix_refspec_text.specs.Specs.Refusal.{Refusal, PatternUnbalanced, Neg
 use Rattle.gix_refspec_text.specs.Specs.Grammar.{IsPositive, LooksLikeObjectHash}
 use Rattle.gix_refspec_text.specs.Private.Sides.{MemoryOr, HasShape, HasCheckedShape, IsBadSide, IsReason}
 use Rattle.gix_refspec_text.specs.declared.parsing.Error.TheVariants as error
-use Rattle.gix_refspec_text.proofs.lemmas.texts.TextLemmas.{Lacks-Holds}
+use Rattle.gix_refspec_text.proofs.lemmas.texts.TextLemmas.{Lacks-ContainsText}
 use Rattle.gix_refspec_text.proofs.lemmas.parsing.SideLemmas.{checked_fine, starred_fine, checked_starred, HasStar-pattern, HasStar-bad}
 
 -- an error for P, or for memory, is one for what follows from it
@@ -47,11 +47,11 @@ push_reaches m s t pos somewhere = (
 
 -- a bad pattern isn't empty, and is a bad source of a push to a destination
 pub bad_source_of_push : (s t : List ℕ) (f : Refusal) → IsBadPattern s f → HasBadSource Push s (Some t) f
-bad_source_of_push s t f bad = record { source = λ empty. Lacks-Holds star [] tt (subst HasStar empty (HasStar-bad s f bad)); refusal = bad }
+bad_source_of_push s t f bad = record { source = λ empty. Lacks-ContainsText star [] tt (subst HasStar empty (HasStar-bad s f bad)); refusal = bad }
 
 -- a text with a star isn't empty
 pub starred_not_empty : (t : List ℕ) → HasStar t → t ≢ []
-starred_not_empty t has empty = Lacks-Holds star [] tt (subst HasStar empty has)
+starred_not_empty t has empty = Lacks-ContainsText star [] tt (subst HasStar empty has)
 
 -- nor to a positive push of a source alone, unless the text is empty
 pub push_alone_reaches : (m : Mode) (s : List ℕ) → IsPositive m → (s ≡ [] → m ≡ Normal → ⊥) → NoReasonBeforeSource Push m s None
@@ -94,10 +94,10 @@ destination_fine d k fine e bad =
 
 -- two sides of one kind are balanced
 pub sides_balanced : (s t : List ℕ) (k : Shape) → HasShape s k → HasShape t k → IsOneStarred s t → ⊥
-sides_balanced s t Plain a b (inl h) = Lacks-Holds star s a h.0
-sides_balanced s t Plain a b (inr h) = Lacks-Holds star t b h.1
-sides_balanced s t Pattern a b (inl h) = Lacks-Holds star t h.1 (HasStar-pattern t b)
-sides_balanced s t Pattern a b (inr h) = Lacks-Holds star s h.0 (HasStar-pattern s a)
+sides_balanced s t Plain a b (inl h) = Lacks-ContainsText star s a h.0
+sides_balanced s t Plain a b (inr h) = Lacks-ContainsText star t b h.1
+sides_balanced s t Pattern a b (inl h) = Lacks-ContainsText star t h.1 (HasStar-pattern t b)
+sides_balanced s t Pattern a b (inr h) = Lacks-ContainsText star s h.0 (HasStar-pattern s a)
 
 -- two sides of two kinds aren't
 pub sides_unbalanced : (s t : List ℕ) (j k : Shape) → HasShape s j → HasShape t k → j ≢ k → IsOneStarred s t
@@ -113,8 +113,8 @@ unbalanced_somewhere s t (inr h) somewhere empty = starred_not_empty t h.1 empty
 
 -- the empty text never needs memory
 pub empty_needs_none : NeedsMemory [] → ⊥
-empty_needs_none (inl several) = Lacks-Holds star [] tt (record { before = several.before; after = _; here = several.here })
-empty_needs_none (inr long) = Lacks-Holds star [] tt long.0
+empty_needs_none (inl several) = Lacks-ContainsText star [] tt (record { before = several.before; after = _; here = several.here })
+empty_needs_none (inr long) = Lacks-ContainsText star [] tt long.0
 
 -- a bad side after the colon is a bad destination
 pub bad_destination : (d : Option (List ℕ)) (e : Refusal) → IsBadSide (unwrap_or d []) e → HasBadDestination d e

@@ -9,7 +9,7 @@ use Rattle.gix_refspec_text.specs.Texts.Bytes.{star}
 use Rattle.gix_refspec_text.specs.Specs.Reading.{Mode}
 use Rattle.gix_refspec_text.specs.Specs.Refusal.{Refusal, Empty, NegativeWithDestination, PushToEmpty, PatternUnsupported, ReferenceName, PatternUnbalanced, NegativeEmpty, NegativeObjectHash, IsBadName, IsBadPattern, IsBadSourceFor, HasBadDestination, OrElse, IsFirstReason}
 use Rattle.gix_refspec_text.specs.Laws.Readings.{IsSameReason, OneRefusal}
-use Rattle.gix_refspec_text.proofs.lemmas.texts.TextLemmas.{Lacks-Holds}
+use Rattle.gix_refspec_text.proofs.lemmas.texts.TextLemmas.{Lacks-ContainsText}
 use Rattle.gix_refspec_text.proofs.lemmas.parsing.SideLemmas.{HasStar-bad, HasSeveralStars-replaced}
 use Rattle.gix_refspec_text.proofs.lemmas.parsing.PartsLemmas.{parts_once}
 use Rattle.std.proofs.lemmas.Option.{same_Some}
@@ -63,7 +63,7 @@ Agree-pattern x e f a b = elim (reason_of_pattern x e a) [
 
 -- a text without a star is no bad pattern
 name_no_pattern : (x : List ℕ) (e f : Refusal) → IsBadName x e → IsBadPattern x f → ⊥
-name_no_pattern x e f name pattern = Lacks-Holds star x (reason_of_name x e name).0 (HasStar-bad x f pattern)
+name_no_pattern x e f name pattern = Lacks-ContainsText star x (reason_of_name x e name).0 (HasStar-bad x f pattern)
 
 Agree-side : (x : List ℕ) → Agree (λ e. IsBadName x e ⊎ IsBadPattern x e)
 Agree-side x e f (inl a) (inl b) = both_for_fault e f (reason_of_name x e a).1 (reason_of_name x f b).1

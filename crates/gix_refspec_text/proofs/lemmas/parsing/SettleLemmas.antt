@@ -15,7 +15,7 @@ use Rattle.gix_refspec_text.specs.Specs.Reading.{Mode, Normal, Forced, Negative,
 use Rattle.gix_refspec_text.specs.Specs.Refusal.{Refusal, Empty, NegativeWithDestination, PushToEmpty, PatternUnsupported, ReferenceName, PatternUnbalanced, NegativeEmpty, NegativeObjectHash, IsBadPattern, IsFirstReason, IsRefused}
 use Rattle.gix_refspec_text.specs.Specs.Grammar.{named_by, IsSigned, IsPositive, with_colon, LastLacksColon, AreParts, LooksLikeObjectHash, Reads, fetched, pushed}
 use Rattle.gix_refspec_text.specs.Private.Sides.{HasShape, HasCheckedShape, IsBadSide, side_of, named_or_head}
-use Rattle.gix_refspec_text.proofs.lemmas.parsing.DecideLemmas.{Decided, FirstPlace, tested, decided_byte, name_or_fault, lacks_or_first}
+use Rattle.gix_refspec_text.proofs.lemmas.parsing.DecideLemmas.{Decided, FirstIndex, tested, decided_byte, name_or_fault, lacks_or_first}
 use Rattle.gix_refspec_text.proofs.lemmas.parsing.PartsLemmas.{Parted}
 use Rattle.gix_refspec_text.proofs.lemmas.parsing.ReasonLemmas.{fetch_reaches, push_reaches, push_alone_reaches, negative_reaches, reason_at_source, reason_at_destination, reason_against_object, reason_against_nothing, fetch_source_fine, push_source_fine, bad_destination, bad_source_of_push, unbalanced_fetch, unbalanced_push, bad_negative, no_negative}
 use Rattle.gix_refspec_text.proofs.lemmas.parsing.ReadsLemmas.{fetch_reads, push_alone_reads, push_reads, negative_reads, refused}
@@ -24,10 +24,10 @@ use Rattle.gix_refspec_text.proofs.lemmas.parsing.ReadsLemmas.{fetch_reads, push
 abbrev pub Starred : List ℕ → Type 0
 Starred x = ((k : Shape) × HasShape x k) ⊎ ((e : Refusal) × IsBadPattern x e)
 
-one_star : (x : List ℕ) (place : FirstPlace star x) → Lacks star place.after → Starred x
-one_star x place lacks =
-    let y = place.before ++ (letter ∷ place.after) in
-    let replaces : ReplacesStar x y = record { before = place.before; after = place.after; cut = record { starred = place.here; first = place.first; last = lacks }; replaced = refl } in
+one_star : (x : List ℕ) (index : FirstIndex star x) → Lacks star index.after → Starred x
+one_star x index lacks =
+    let y = index.before ++ (letter ∷ index.after) in
+    let replaces : ReplacesStar x y = record { before = index.before; after = index.after; split = record { starred = index.here; first = index.first; last = lacks }; replaced = refl } in
     elim (name_or_fault y) [
       | inl name ↦ inl (Pattern, record { with_letter = y; replaces = replaces; name = name })
       | inr fault ↦ inr (ReferenceName fault.0, (y, replaces, fault.1))
@@ -36,9 +36,9 @@ one_star x place lacks =
 pub starred : (x : List ℕ) → Starred x
 starred x = elim (lacks_or_first star x) [
   | inl lacks ↦ inl (Plain, lacks)
-  | inr place ↦ elim (lacks_or_first star place.after) [
-    | inl lacks ↦ one_star x place lacks
-    | inr second ↦ inr (PatternUnsupported x, (record { before = place.before; between = second.before; after = second.after; here = place.here ∙ ap (λ z. place.before ++ (star ∷ z)) second.here }, refl))
+  | inr index ↦ elim (lacks_or_first star index.after) [
+    | inl lacks ↦ one_star x index lacks
+    | inr second ↦ inr (PatternUnsupported x, (record { before = index.before; between = second.before; after = second.after; here = index.here ∙ ap (λ z. index.before ++ (star ∷ z)) second.here }, refl))
   ]
 ]
 
@@ -188,28 +188,28 @@ signs (b ∷ x) = elim (decided_byte b plus) [
 ]
 
 -- a text cut at its last colon, or uncut if it has none
-record Cut (x : List ℕ) : Type 0 where
+record Split (x : List ℕ) : Type 0 where
   source : List ℕ
   destination : Option (List ℕ)
   whole : x ≡ with_colon source destination
   last : LastLacksColon source destination
 
-cut_before : (b : ℕ) (x s : List ℕ) (d : Option (List ℕ)) → x ≡ with_colon s d → LastLacksColon s d → Cut (b ∷ x)
-cut_before b x s (Some d) whole last = record { source = b ∷ s; destination = Some d; whole = ap (λ (y : List ℕ). b ∷ y) whole; last = last }
-cut_before b x s None whole lacks = elim (decided_byte b colon) [
+split_before : (b : ℕ) (x s : List ℕ) (d : Option (List ℕ)) → x ≡ with_colon s d → LastLacksColon s d → Split (b ∷ x)
+split_before b x s (Some d) whole last = record { source = b ∷ s; destination = Some d; whole = ap (λ (y : List ℕ). b ∷ y) whole; last = last }
+split_before b x s None whole lacks = elim (decided_byte b colon) [
   | inl same ↦ record { source = []; destination = Some x; whole = ap (λ c. c ∷ x) same; last = subst (Lacks colon) (sym whole) lacks }
   | inr other ↦ record { source = b ∷ s; destination = None; whole = ap (λ (y : List ℕ). b ∷ y) whole; last = (other, lacks) }
 ]
 
-cut : (x : List ℕ) → Cut x
-cut [] = record { source = []; destination = None; whole = refl; last = tt }
-cut (b ∷ x) = let later = cut x in cut_before b x later.source later.destination later.whole later.last
+split : (x : List ℕ) → Split x
+split [] = record { source = []; destination = None; whole = refl; last = tt }
+split (b ∷ x) = let later = split x in split_before b x later.source later.destination later.whole later.last
 
 -- each text has parts
 pub parted : (text : List ℕ) → Parted text
 parted text =
     let s = signs text in
-    let c = cut s.rest in
+    let c = split s.rest in
     record { mode = s.mode; source = c.source; destination = c.destination; parts = record { signed = subst (IsSigned s.mode text) c.whole s.signed; last = c.last } }
 
 -- each text reads, or is refused

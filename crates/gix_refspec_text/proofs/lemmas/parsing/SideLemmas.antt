@@ -17,7 +17,7 @@ use Rattle.gix_refspec_text.specs.Laws.Readings.{NothingAgainst}
 use Rattle.gix_refspec_text.specs.Private.Sides.{HasShape, HasCheckedShape, IsBadSide}
 use Rattle.gix_refspec_text.specs.declared.types.Mode.TheVariants as declared_mode
 use Rattle.gix_refspec_text.specs.declared.name.PatternError.TheVariants as found
-use Rattle.gix_refspec_text.proofs.lemmas.texts.TextLemmas.{Lacks-Holds, Lacks-from_absent, one_not_two}
+use Rattle.gix_refspec_text.proofs.lemmas.texts.TextLemmas.{Lacks-ContainsText, Lacks-from_absent, one_not_two}
 use Rattle.gix_refspec_text.proofs.lemmas.lists.LacksLemmas.{first_once}
 
 -- neither P nor, after it, Q
@@ -31,7 +31,7 @@ Lacks-name x name = Lacks-from_absent star x (name Asterisk)
 
 -- a text whose star is replaced has one
 pub HasStar-replaced : (x y : List ℕ) → ReplacesStar x y → HasStar x
-HasStar-replaced x y replaces = record { before = replaces.before; after = replaces.after; here = replaces.cut.starred }
+HasStar-replaced x y replaces = record { before = replaces.before; after = replaces.after; here = replaces.split.starred }
 
 pub HasStar-pattern : (x : List ℕ) → IsPattern x → HasStar x
 HasStar-pattern x pattern = HasStar-replaced x pattern.with_letter pattern.replaces
@@ -42,7 +42,7 @@ HasStar-stars x stars = record { before = stars.before; after = stars.between ++
 -- one star is replaced in one way
 pub replaced_once : (x y z : List ℕ) → ReplacesStar x y → ReplacesStar x z → y ≡ z
 replaced_once x y z a b =
-    let same = first_once star a.before b.before a.after b.after a.cut.first b.cut.first (sym a.cut.starred ∙ b.cut.starred) in
+    let same = first_once star a.before b.before a.after b.after a.split.first b.split.first (sym a.split.starred ∙ b.split.starred) in
     let fronts : a.before ≡ b.before = same.0 in
     let backs : a.after ≡ b.after = same.1 in
     let of_y = a.replaced in
@@ -51,7 +51,7 @@ replaced_once x y z a b =
 
 -- a text with one star doesn't have several
 pub HasSeveralStars-replaced : (x y : List ℕ) → ReplacesStar x y → HasSeveralStars x → ⊥
-HasSeveralStars-replaced x y replaces stars = one_not_two star replaces.before replaces.after stars.before stars.between stars.after replaces.cut.first replaces.cut.last (sym replaces.cut.starred ∙ stars.here)
+HasSeveralStars-replaced x y replaces stars = one_not_two star replaces.before replaces.after stars.before stars.between stars.after replaces.split.first replaces.split.last (sym replaces.split.starred ∙ stars.here)
 
 -- a text with a reason against it as a pattern has a star
 pub HasStar-bad : (x : List ℕ) (e : Refusal) → IsBadPattern x e → HasStar x
@@ -73,7 +73,7 @@ nothing_against x pattern found.Memory long = (refl, long)
 
 -- a text that lacks the star isn't a bad pattern
 pub plain_fine : (x : List ℕ) → Lacks star x → Never (IsBadPattern x)
-plain_fine x lacks e bad = Lacks-Holds star x lacks (HasStar-bad x e bad)
+plain_fine x lacks e bad = Lacks-ContainsText star x lacks (HasStar-bad x e bad)
 
 -- a text with a reason against it as a name has no star, and is no name
 pub bad_name : (x : List ℕ) (e : Refusal) → IsBadName x e → Lacks star x × ¬ (IsName x)
@@ -85,7 +85,7 @@ name_not_bad x name e (inl bad) = (bad_name x e bad).1 name
 name_not_bad x name e (inr bad) = plain_fine x (Lacks-name x name) e bad
 
 pub pattern_not_bad : (x : List ℕ) → IsPattern x → (e : Refusal) → IsBadName x e ⊎ IsBadPattern x e → ⊥
-pattern_not_bad x pattern e (inl bad) = Lacks-Holds star x (bad_name x e bad).0 (HasStar-pattern x pattern)
+pattern_not_bad x pattern e (inl bad) = Lacks-ContainsText star x (bad_name x e bad).0 (HasStar-pattern x pattern)
 pattern_not_bad x pattern e (inr bad) = pattern_fine x pattern e bad
 
 -- nothing is against a side that was found fine
@@ -100,7 +100,7 @@ starred_fine x Pattern fine = pattern_fine x fine
 
 -- the empty text is no pattern
 pub empty_no_pattern : IsPattern [] → ⊥
-empty_no_pattern pattern = Lacks-Holds star [] tt (HasStar-pattern [] pattern)
+empty_no_pattern pattern = Lacks-ContainsText star [] tt (HasStar-pattern [] pattern)
 
 -- a side that is plain has no star, and one that is a pattern has one
 pub checked_plain : (x : List ℕ) → HasCheckedShape x Plain → Lacks star x

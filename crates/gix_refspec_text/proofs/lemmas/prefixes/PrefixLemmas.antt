@@ -8,18 +8,18 @@ use Rattle.std.proofs.lemmas.Bool.{false≢true}
 use Rattle.gix_refspec_text.specs.declared.oid.Error.{Error}
 use Rattle.gix_refspec_text.specs.declared.oid.ObjectId.{ObjectId}
 use Rattle.gix_refspec_text.specs.Texts.ObjectId.{IsIdText, HasIdFault, digits_of, id_bytes}
-use Rattle.gix_refspec_text.specs.Texts.Words.{Lacks, Holds, BeginsWith}
-use Rattle.gix_refspec_text.specs.Texts.Name.{IsCut, HasOneStar}
+use Rattle.gix_refspec_text.specs.Texts.Words.{Lacks, ContainsText, BeginsWith}
+use Rattle.gix_refspec_text.specs.Texts.Name.{IsSplit, HasOneStar}
 use Rattle.gix_refspec_text.specs.Texts.Bytes.{star, slash, head, bracket}
 use Rattle.gix_refspec_text.specs.Specs.Reading.{Reading}
 use Rattle.gix_refspec_text.specs.Matching.Side.{HasKind, object, partial, IsId}
-use Rattle.gix_refspec_text.specs.Matching.Prefix.{TellsPrefix, IsPrefix, of_head, of_name, of_pattern, HasNoPrefix, Expands, to_prefix, to_itself, below_refs, of_object, to_candidates, IsAsked, IsExpansion}
+use Rattle.gix_refspec_text.specs.Matching.Prefix.{IsRefPrefix, IsPrefix, of_head, of_name, of_pattern, HasNoPrefix, Expands, to_prefix, to_itself, strip_refs, of_object, to_candidates, IsAsked, IsExpansion}
 use Rattle.gix_refspec_text.specs.declared.oid.Kind.{Kind}
 use Rattle.gix_refspec_text.specs.declared.oid.Kind.TheVariants.{Sha1, Sha256}
-use Rattle.gix_refspec_text.proofs.lemmas.texts.TextLemmas.{Lacks-Holds}
+use Rattle.gix_refspec_text.proofs.lemmas.texts.TextLemmas.{Lacks-ContainsText}
 use Rattle.gix_refspec_text.proofs.lemmas.parsing.SideLemmas.{Lacks-name}
 use Rattle.gix_refspec_text.proofs.lemmas.texts.HeadLemmas.{IsName-head}
-use Rattle.gix_refspec_text.proofs.lemmas.hits.MatchLemmas.{lacks_no_pattern, cut_once, outside_none}
+use Rattle.gix_refspec_text.proofs.lemmas.hits.MatchLemmas.{lacks_no_pattern, split_once, outside_none}
 use Rattle.gix_refspec_text.proofs.lemmas.texts.ObjectIdLemmas.{IsIdText-sound, AllPass-IsIdText}
 use Rattle.hex.specs.Hex.{is_hex_digit}
 
@@ -33,21 +33,21 @@ pub id_not_head : (x id : List ℕ) → IsIdText x id → x ≢ head
 id_not_head x id text is = short text.kind (sym (ap length is) ∙ text.digits)
 
 -- `HEAD` has no star
-pub head_no_cut : (x before after : List ℕ) → x ≡ head → IsCut before after x → ⊥
-head_no_cut x before after is cut = lacks_no_pattern x before after (subst (Lacks star) (sym is) (Lacks-name head IsName-head)) cut
+pub head_no_split : (x before after : List ℕ) → x ≡ head → IsSplit before after x → ⊥
+head_no_split x before after is split = lacks_no_pattern x before after (subst (Lacks star) (sym is) (Lacks-name head IsName-head)) split
 
 -- a pattern has no prefix where its ends give none
-pub no_prefix : (x before after : List ℕ) → IsCut before after x → ¬ (TellsPrefix before after) → HasNoPrefix x
-no_prefix x before after cut vague p (of_head is _) = head_no_cut x before after is cut
-no_prefix x before after cut vague p (of_name begins lacks _) = lacks_no_pattern x before after lacks cut
-no_prefix x before after cut vague p (of_pattern first last other tells _) =
-    let once = cut_once x first last before after other cut in
+pub no_prefix : (x before after : List ℕ) → IsSplit before after x → ¬ (IsRefPrefix before after) → HasNoPrefix x
+no_prefix x before after split vague p (of_head is _) = head_no_split x before after is split
+no_prefix x before after split vague p (of_name begins lacks _) = lacks_no_pattern x before after lacks split
+no_prefix x before after split vague p (of_pattern first last other tells _) =
+    let once = split_once x first last before after other split in
     let same_first : first ≡ before = once.0 in
     let same_last : last ≡ after = once.1 in
-    vague (subst (λ (a : List ℕ). TellsPrefix before a) same_last (subst (λ (b : List ℕ). TellsPrefix b last) same_first tells))
+    vague (subst (λ (a : List ℕ). IsRefPrefix before a) same_last (subst (λ (b : List ℕ). IsRefPrefix b last) same_first tells))
 
 -- the text before a star gives a prefix if it goes on below `refs/` and neither end has a bracket
-pub tells : (before after rest : List ℕ) → before ≡ codes "refs/" ++ rest → 1 ≤ length rest → Lacks bracket before → Lacks bracket after → TellsPrefix before after
+pub tells : (before after rest : List ℕ) → before ≡ codes "refs/" ++ rest → 1 ≤ length rest → Lacks bracket before → Lacks bracket after → IsRefPrefix before after
 tells before after rest below full first last = record {
   below = record { after = rest; here = below };
   further = λ same. let none : rest ≡ [] = append_cancel_left (codes "refs/") rest [] (sym below ∙ same) in let size = ap length none in omega (arith, size, full);
@@ -56,19 +56,19 @@ tells before after rest below full first last = record {
 }
 
 -- a test for brackets decides whether a pattern below `refs/` has a prefix
-pub told_clear : (before after rest : List ℕ) → before ≡ codes "refs/" ++ rest → 1 ≤ length rest → Lacks bracket before → (r : Bool) → MatchBool r (Holds (bracket ∷ []) after) (Lacks bracket after) → IsTrue (not r) ↔ TellsPrefix before after
-told_clear before after rest below full first true holds = ((λ so. absurd (false≢true so)), (λ told. absurd (Lacks-Holds bracket after told.last holds)))
+pub told_clear : (before after rest : List ℕ) → before ≡ codes "refs/" ++ rest → 1 ≤ length rest → Lacks bracket before → (r : Bool) → MatchBool r (ContainsText (bracket ∷ []) after) (Lacks bracket after) → IsTrue (not r) ↔ IsRefPrefix before after
+told_clear before after rest below full first true holds = ((λ so. absurd (false≢true so)), (λ told. absurd (Lacks-ContainsText bracket after told.last holds)))
 told_clear before after rest below full first false lacks = ((λ _. tells before after rest below full first lacks), (λ _. refl))
 
-pub told_bracket : (before after : List ℕ) (r : Bool) → MatchBool r (Holds (bracket ∷ []) before) (Lacks bracket before) → Holds (bracket ∷ []) before → IsTrue (not r) ↔ TellsPrefix before after
-told_bracket before after true told holds = ((λ so. absurd (false≢true so)), (λ tells. absurd (Lacks-Holds bracket before tells.first holds)))
-told_bracket before after false lacks holds = absurd (Lacks-Holds bracket before lacks holds)
+pub told_bracket : (before after : List ℕ) (r : Bool) → MatchBool r (ContainsText (bracket ∷ []) before) (Lacks bracket before) → ContainsText (bracket ∷ []) before → IsTrue (not r) ↔ IsRefPrefix before after
+told_bracket before after true told holds = ((λ so. absurd (false≢true so)), (λ tells. absurd (Lacks-ContainsText bracket before tells.first holds)))
+told_bracket before after false lacks holds = absurd (Lacks-ContainsText bracket before lacks holds)
 
 -- a side with a prefix expands to something
 pub prefix_expands : (x p : List ℕ) → IsPrefix x p → ¬ (Expands x [])
 prefix_expands x p is (to_prefix q has one) = absurd (cc)
 prefix_expands x p is (to_itself rest none below lacks one) = absurd (cc)
-prefix_expands x p is (below_refs rest none below holds empty) = none p is
+prefix_expands x p is (strip_refs rest none below holds empty) = none p is
 prefix_expands x p is (of_object none outside id empty) = none p is
 prefix_expands x p is (to_candidates none outside unlike six) = absurd (cc)
 
@@ -76,9 +76,9 @@ prefix_expands x p is (to_candidates none outside unlike six) = absurd (cc)
 pub itself_expands : (x rest : List ℕ) → x ≡ codes "refs/" ++ rest → Lacks slash rest → ¬ (Expands x [])
 itself_expands x rest below lacks (to_prefix q has one) = absurd (cc)
 itself_expands x rest below lacks (to_itself rest2 none below2 lacks2 one) = absurd (cc)
-itself_expands x rest below lacks (below_refs rest2 none below2 holds empty) =
+itself_expands x rest below lacks (strip_refs rest2 none below2 holds empty) =
     let same : rest ≡ rest2 = append_cancel_left (codes "refs/") rest rest2 (sym below ∙ below2) in
-    Lacks-Holds slash rest2 (subst (Lacks slash) same lacks) holds
+    Lacks-ContainsText slash rest2 (subst (Lacks slash) same lacks) holds
 itself_expands x rest below lacks (of_object none outside id empty) = outside (record { after = rest; here = below })
 itself_expands x rest below lacks (to_candidates none outside unlike six) = absurd (cc)
 
@@ -86,7 +86,7 @@ itself_expands x rest below lacks (to_candidates none outside unlike six) = absu
 pub partial_expands : (x : List ℕ) → ¬ (BeginsWith (codes "refs/") x) → ¬ (IsId x) → ¬ (Expands x [])
 partial_expands x outside unlike (to_prefix q has one) = absurd (cc)
 partial_expands x outside unlike (to_itself rest none below lacks one) = absurd (cc)
-partial_expands x outside unlike (below_refs rest none below holds empty) = outside (record { after = rest; here = below })
+partial_expands x outside unlike (strip_refs rest none below holds empty) = outside (record { after = rest; here = below })
 partial_expands x outside unlike (of_object none outside2 id empty) = unlike id
 partial_expands x outside unlike (to_candidates none outside2 unlike2 six) = absurd (cc)
 
@@ -94,7 +94,7 @@ partial_expands x outside unlike (to_candidates none outside2 unlike2 six) = abs
 pub nothing_else : (x : List ℕ) (list : List (List ℕ)) → Expands x list → Expands x [] → list ≡ []
 nothing_else x list (to_prefix p is one) nothing = absurd (prefix_expands x p is nothing)
 nothing_else x list (to_itself rest none below lacks one) nothing = absurd (itself_expands x rest below lacks nothing)
-nothing_else x list (below_refs rest none below holds empty) nothing = empty
+nothing_else x list (strip_refs rest none below holds empty) nothing = empty
 nothing_else x list (of_object none outside id empty) nothing = empty
 nothing_else x list (to_candidates none outside unlike six) nothing = absurd (partial_expands x outside unlike nothing)
 
@@ -123,14 +123,14 @@ appended_ok f (Err e) old more new is = tt
 
 -- a text with one star is no id
 pub starred_no_id : (x : List ℕ) → HasOneStar x → ¬ (IsId x)
-starred_no_id x (before, after, cut) id =
+starred_no_id x (before, after, split) id =
     let all = AllPass-IsIdText x id.0 id.1 in
-    let size = ap length cut.starred ∙ length-append before (star ∷ after) in
+    let size = ap length split.starred ∙ length-append before (star ∷ after) in
     let inside : length before < length x = omega (arith, size) in
-    let here : get_or x (length before) 0 ≡ star = ap (λ (y : List ℕ). get_or y (length before) 0) cut.starred ∙ get_or-append_seam before star after 0 in
+    let here : get_or x (length before) 0 ≡ star = ap (λ (y : List ℕ). get_or y (length before) 0) split.starred ∙ get_or-append_seam before star after 0 in
     false≢true (ap is_hex_digit (sym here) ∙ all (length before) 0 inside)
 
 -- the prefix of a pattern is the text before its star, if it has a prefix
-pub pattern_prefix : (x : List ℕ) (before after : Bor (List ℕ)) (r : Bool) → IsCut before.now after.now x → IsTrue r ↔ TellsPrefix before.now after.now → MatchOption (then_some r before) (HasNoPrefix x) (λ p. IsPrefix x p.now)
-pattern_prefix x before after true cut told = of_pattern before.now after.now cut (told.0 refl) refl
-pattern_prefix x before after false cut told = no_prefix x before.now after.now cut (λ tells. false≢true (told.1 tells))
+pub pattern_prefix : (x : List ℕ) (before after : Bor (List ℕ)) (r : Bool) → IsSplit before.now after.now x → IsTrue r ↔ IsRefPrefix before.now after.now → MatchOption (then_some r before) (HasNoPrefix x) (λ p. IsPrefix x p.now)
+pattern_prefix x before after true split told = of_pattern before.now after.now split (told.0 refl) refl
+pattern_prefix x before after false split told = no_prefix x before.now after.now split (λ tells. false≢true (told.1 tells))

@@ -9,7 +9,7 @@ use Rattle.gix_refspec_text.specs.Specs.Reading.{Reading, side_on_remote, remote
 use Rattle.gix_refspec_text.specs.Specs.Grammar.{named_by, IsNameOrPattern, AreAlike, Reads, IsAccepted, fetches_nothing_named, fetches_colon, fetches, updates, updates_from_head, fetch_excludes, pushes_plus, pushes_colon, pushes, deletes, pushes_pattern, pushes_to, push_excludes}
 use Rattle.gix_refspec_text.specs.Specs.Refusal.{IsOneStarred}
 use Rattle.gix_refspec_text.specs.declared.parsing.Operation.TheVariants.{Push, Fetch}
-use Rattle.gix_refspec_text.proofs.lemmas.texts.TextLemmas.{Lacks-Holds}
+use Rattle.gix_refspec_text.proofs.lemmas.texts.TextLemmas.{Lacks-ContainsText}
 use Rattle.gix_refspec_text.proofs.lemmas.parsing.SideLemmas.{Lacks-name, HasStar-pattern, HasStar-stars, HasSeveralStars-replaced}
 use Rattle.gix_refspec_text.proofs.lemmas.texts.HeadLemmas.{IsName-head}
 use Rattle.gix_refspec_text.proofs.lemmas.specs.ReadBackLemmas.{named_so, named_name, named_pattern}
@@ -20,7 +20,7 @@ HasFew None = Unit {0}
 HasFew (Some x) = ¬ (HasSeveralStars x)
 
 lacks_few : (x : List ℕ) → Lacks star x → ¬ (HasSeveralStars x)
-lacks_few x lacks stars = Lacks-Holds star x lacks (HasStar-stars x stars)
+lacks_few x lacks stars = Lacks-ContainsText star x lacks (HasStar-stars x stars)
 
 name_few : (x : List ℕ) → IsName x → ¬ (HasSeveralStars x)
 name_few x name = lacks_few x (Lacks-name x name)
@@ -82,12 +82,12 @@ remote_few r x accepted is = accepted_few r x accepted (remote_is r.operation r.
 
 -- two texts without a star, or two patterns, are alike in their stars
 neither_starred : (s d : List ℕ) → Lacks star s → Lacks star d → ¬ (IsOneStarred s d)
-neither_starred s d lacks_s lacks_d (inl one) = Lacks-Holds star s lacks_s one.0
-neither_starred s d lacks_s lacks_d (inr one) = Lacks-Holds star d lacks_d one.1
+neither_starred s d lacks_s lacks_d (inl one) = Lacks-ContainsText star s lacks_s one.0
+neither_starred s d lacks_s lacks_d (inr one) = Lacks-ContainsText star d lacks_d one.1
 
 both_starred : (s d : List ℕ) → HasStar s → HasStar d → ¬ (IsOneStarred s d)
-both_starred s d has_s has_d (inl one) = Lacks-Holds star d one.1 has_d
-both_starred s d has_s has_d (inr one) = Lacks-Holds star s one.0 has_s
+both_starred s d has_s has_d (inl one) = Lacks-ContainsText star d one.1 has_d
+both_starred s d has_s has_d (inr one) = Lacks-ContainsText star s one.0 has_s
 
 alike_balanced : (s d : List ℕ) → AreAlike s d → ¬ (IsOneStarred (named_by s) d)
 alike_balanced s d (inl names) = neither_starred (named_by s) d (Lacks-name (named_by s) (named_name s names.0)) (Lacks-name d names.1)

@@ -9,7 +9,7 @@ use Rattle.gix_refspec_text.specs.Specs.Grammar.{named_by, IsUnsigned, IsPositiv
 use Rattle.gix_refspec_text.specs.Specs.Meaning.{Meaning, meaning_of, text_of, sign}
 use Rattle.gix_refspec_text.specs.Laws.Readings.{IsPrintedBack}
 use Rattle.std.proofs.lemmas.Bool.{eqb-true}
-use Rattle.gix_refspec_text.proofs.lemmas.texts.TextLemmas.{Lacks-Holds}
+use Rattle.gix_refspec_text.proofs.lemmas.texts.TextLemmas.{Lacks-ContainsText}
 use Rattle.gix_refspec_text.proofs.lemmas.parsing.SideLemmas.{HasStar-pattern}
 use Rattle.gix_refspec_text.proofs.lemmas.parsing.DecideLemmas.{tested}
 use Rattle.gix_refspec_text.proofs.lemmas.texts.HeadLemmas.{IsName-head, Lacks-colon_name, Lacks-colon_pattern}
@@ -62,7 +62,7 @@ named_once (b ∷ c ∷ bs) = refl
 pub named_pattern : (s : List ℕ) → IsPattern s → named_by s ≡ s
 named_pattern [] pattern = refl
 named_pattern (b ∷ []) pattern = elim (tested (b == at)) [
-  | inl is_at ↦ absurd (Lacks-Holds star (b ∷ []) ((λ same. at_no_star (sym (eqb-true b at is_at) ∙ same)), tt) (HasStar-pattern (b ∷ []) pattern))
+  | inl is_at ↦ absurd (Lacks-ContainsText star (b ∷ []) ((λ same. at_no_star (sym (eqb-true b at is_at) ∙ same)), tt) (HasStar-pattern (b ∷ []) pattern))
   | inr other ↦ ap (λ v. if v then head else b ∷ []) other
 ]
 named_pattern (b ∷ c ∷ bs) pattern = refl

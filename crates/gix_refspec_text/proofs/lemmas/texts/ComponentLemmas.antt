@@ -61,8 +61,8 @@ pieces_of (b ∷ x) =
 fence_parts : (x : List ℕ) → IsEnd x → (ps : List (List ℕ)) × AllByRecursion (Lacks slash) ps × (fenced ps ≡ x)
 fence_parts [] ends = ([], tt, refl)
 fence_parts (b ∷ x) ends =
-    let cut : Pieces x = pieces_of x in
-    (cut.first ∷ cut.others, (cut.first_whole, cut.others_whole), ap (λ y. slash ∷ y) cut.here ∙ ap (λ c. c ∷ x) (sym ends))
+    let split : Pieces x = pieces_of x in
+    (split.first ∷ split.others, (split.first_whole, split.others_whole), ap (λ y. slash ∷ y) split.here ∙ ap (λ c. c ∷ x) (sym ends))
 
 -- where a text's last slash is
 pub record LastSlash (x : List ℕ) : Type 0 where
@@ -118,8 +118,8 @@ fenced_from_join : (ps : List (List ℕ)) (w : List ℕ) (qs : List (List ℕ)) 
 fenced_from_join [] w qs x joined = fenced-join w qs ∙ ap (λ y. slash ∷ y) joined
 fenced_from_join (p ∷ ps) w qs x joined = fenced-join p (ps ++ (w ∷ qs)) ∙ ap (λ y. slash ∷ y) joined
 
-pub SomeComponent-place : (P : List ℕ → Type 0) (x : List ℕ) (some : SomeComponent P x) → IsComponent some.component x
-SomeComponent-place P x some = record {
+pub SomeComponent-index : (P : List ℕ → Type 0) (x : List ℕ) (some : SomeComponent P x) → IsComponent some.component x
+SomeComponent-index P x some = record {
   before = fenced some.before;
   after = fenced some.after;
   here = sym (fenced_from_join some.before some.component some.after x some.components.joined) ∙ fenced-append some.before (some.component ∷ some.after);

@@ -8,9 +8,9 @@ use Rattle.gix_refspec_text.specs.declared.name.Error.{Error}
 use Rattle.gix_refspec_text.specs.declared.name.Error.TheVariants.{Empty, EmptyComponent, StartsWithDot, LockSuffix, EndsWithDot, RepeatedDot, ReflogPortion, Asterisk, InvalidByte}
 use Rattle.gix_refspec_text.specs.Texts.Words.{Lacks, EndsWith}
 use Rattle.gix_refspec_text.specs.Texts.Bytes.{slash, star, letter, dot, brace}
-use Rattle.gix_refspec_text.specs.Texts.Name.{is_refused_byte, HasFault, IsName, IsCut, IsPattern, HasOneStar, ReplacesStar}
+use Rattle.gix_refspec_text.specs.Texts.Name.{is_refused_byte, HasFault, IsName, IsSplit, IsPattern, HasOneStar, ReplacesStar}
 use Rattle.gix_refspec_text.specs.Private.Scan.{class_at, AddsFault, IsClean, LeavesFault, Finds, letter_for, with_letters, IsScanned, IsCalm, AreCalm}
-use Rattle.gix_refspec_text.proofs.lemmas.texts.TextLemmas.{cut_at}
+use Rattle.gix_refspec_text.proofs.lemmas.texts.TextLemmas.{split_at}
 use Rattle.gix_refspec_text.proofs.lemmas.texts.NameLemmas.{IsClean-more, HasFault-added, answer_at_end, slash_adds, last_byte}
 
 letter_for-star : (b : ℕ) → b ≡ star → letter_for b ≡ letter
@@ -120,15 +120,15 @@ some_letters [] some same = some refl
 some_letters (b ∷ x) some same = cc
 
 -- a text with a place isn't empty
-pub some_place : (x : List ℕ) (i : ℕ) → i < length x → x ≢ []
-some_place [] i below same = absurd (omega (arith, below))
-some_place (b ∷ x) i below same = cc
+pub some_index : (x : List ℕ) (i : ℕ) → i < length x → x ≢ []
+some_index [] i below same = absurd (omega (arith, below))
+some_index (b ∷ x) i below same = cc
 
 -- a fault that a byte other than a star adds is one of the text with letters
 pub fault_with_letters : (x : List ℕ) (i : ℕ) (e : Error) → x ≢ [] → i < length x → get_or x i 0 ≢ star → AddsFault (slash ∷ take i x) (get_or x i 0) e → HasFault (with_letters x) e
 fault_with_letters x i e some below other fault =
     let b = get_or x i 0 in
-    let whole : with_letters x ≡ with_letters (take i x) ++ (letter_for b ∷ with_letters (drop (suc i) x)) = ap with_letters (cut_at x i b below refl) ∙ letters-append (take i x) (b ∷ drop (suc i) x) in
+    let whole : with_letters x ≡ with_letters (take i x) ++ (letter_for b ∷ with_letters (drop (suc i) x)) = ap with_letters (split_at x i b below refl) ∙ letters-append (take i x) (b ∷ drop (suc i) x) in
     HasFault-added (with_letters x) e (some_letters x some) (record {
       before = with_letters (slash ∷ take i x);
       byte = b;
@@ -150,16 +150,16 @@ pub letters-Lacks : (x : List ℕ) → Lacks star x → with_letters x ≡ x
 letters-Lacks [] lacks = refl
 letters-Lacks (b ∷ x) lacks = ap (λ c. c ∷ with_letters x) (letter_for-other b lacks.0) ∙ ap (λ y. b ∷ y) (letters-Lacks x lacks.1)
 
-letters-cut : (before after x : List ℕ) → IsCut before after x → with_letters x ≡ before ++ (letter ∷ after)
-letters-cut before after x cut =
-    ap with_letters cut.starred ∙ letters-append before (star ∷ after) ∙ ap (λ y. y ++ (letter ∷ with_letters after)) (letters-Lacks before cut.first) ∙ ap (λ y. before ++ (letter ∷ y)) (letters-Lacks after cut.last)
+letters-split : (before after x : List ℕ) → IsSplit before after x → with_letters x ≡ before ++ (letter ∷ after)
+letters-split before after x split =
+    ap with_letters split.starred ∙ letters-append before (star ∷ after) ∙ ap (λ y. y ++ (letter ∷ with_letters after)) (letters-Lacks before split.first) ∙ ap (λ y. before ++ (letter ∷ y)) (letters-Lacks after split.last)
 
 -- one star is replaced where letters stand for all
-pub replaces_one : (before after x : List ℕ) → IsCut before after x → ReplacesStar x (with_letters x)
-replaces_one before after x cut = record { before = before; after = after; cut = cut; replaced = letters-cut before after x cut }
+pub replaces_one : (before after x : List ℕ) → IsSplit before after x → ReplacesStar x (with_letters x)
+replaces_one before after x split = record { before = before; after = after; split = split; replaced = letters-split before after x split }
 
 pub pattern_with_letter : (x : List ℕ) → HasOneStar x → IsName (with_letters x) → IsPattern x
-pattern_with_letter x (before, after, cut) name = record { with_letter = with_letters x; replaces = replaces_one before after x cut; name = name }
+pattern_with_letter x (before, after, split) name = record { with_letter = with_letters x; replaces = replaces_one before after x split; name = name }
 
 -- what is found with letters is found of a text without stars
 pub fault_without_stars : (x : List ℕ) (e : Error) → Lacks star x → HasFault (with_letters x) e → HasFault x e

@@ -8,13 +8,13 @@ use Rattle.std.specs.Prelude.{◌⊎◌}
 use Rattle.std.proofs.lemmas.Bool.{false≢true}
 use Rattle.gix_refspec_text.specs.declared.name.Error.{Error}
 use Rattle.gix_refspec_text.specs.declared.name.Error.TheVariants.{Empty, EmptyComponent, StartsWithDot, LockSuffix, EndsWithDot, RepeatedDot, ReflogPortion, Asterisk, InvalidByte}
-use Rattle.gix_refspec_text.specs.Texts.Words.{Lacks, Holds, BeginsWith, EndsWith}
+use Rattle.gix_refspec_text.specs.Texts.Words.{Lacks, ContainsText, BeginsWith, EndsWith}
 use Rattle.gix_refspec_text.specs.Texts.Bytes.{slash, star, dot, brace}
 use Rattle.gix_refspec_text.specs.Texts.Name.{is_refused_byte, SomeComponent, HasFault, IsName}
 use Rattle.gix_refspec_text.specs.Private.Scan.{AddsFault, Added, IsClean, LeavesFault, Finds}
 use Rattle.std.proofs.Math.ListN.{drop_of_length-le}
-use Rattle.gix_refspec_text.proofs.lemmas.texts.TextLemmas.{cut_at}
-use Rattle.gix_refspec_text.proofs.lemmas.texts.ComponentLemmas.{IsEnd, IsComponent, Pieces, pieces_of, fenced, fenced-IsEnd, LastSlash, last_slash_after_one, SomeComponent-from, SomeComponent-place}
+use Rattle.gix_refspec_text.proofs.lemmas.texts.TextLemmas.{split_at}
+use Rattle.gix_refspec_text.proofs.lemmas.texts.ComponentLemmas.{IsEnd, IsComponent, Pieces, pieces_of, fenced, fenced-IsEnd, LastSlash, last_slash_after_one, SomeComponent-from, SomeComponent-index}
 use Rattle.gix_refspec_text.proofs.lemmas.lists.AllLemmas.{all_join}
 
 drop_at : (x : List ℕ) (i : ℕ) → i < length x → drop i x ≡ get_or x i 0 ∷ drop (i + 1) x
@@ -29,16 +29,16 @@ record Before (y p : List ℕ) (b : ℕ) : Type 0 where
   after : List ℕ
   here : y ≡ p ++ (b ∷ after)
 
-place_with_one_more : (y p r : List ℕ) (c b : ℕ) → y ++ (c ∷ []) ≡ p ++ (b ∷ r) → ((y ≡ p) × (c ≡ b)) ⊎ Before y p b
-place_with_one_more [] [] r c b same = inl (refl, cc)
-place_with_one_more (x ∷ y) [] r c b same = inr (record { after = y; here = cc })
-place_with_one_more [] (q ∷ p) r c b same = let tails : [] ≡ p ++ (b ∷ r) = cc in absurd (no_middle p r b tails)
-place_with_one_more (x ∷ y) (q ∷ p) r c b same =
+index_with_one_more : (y p r : List ℕ) (c b : ℕ) → y ++ (c ∷ []) ≡ p ++ (b ∷ r) → ((y ≡ p) × (c ≡ b)) ⊎ Before y p b
+index_with_one_more [] [] r c b same = inl (refl, cc)
+index_with_one_more (x ∷ y) [] r c b same = inr (record { after = y; here = cc })
+index_with_one_more [] (q ∷ p) r c b same = let tails : [] ≡ p ++ (b ∷ r) = cc in absurd (no_middle p r b tails)
+index_with_one_more (x ∷ y) (q ∷ p) r c b same =
     let heads : x ≡ q = cc in
     let tails : y ++ (c ∷ []) ≡ p ++ (b ∷ r) = cc in
-    elim (place_with_one_more y p r c b tails) [
+    elim (index_with_one_more y p r c b tails) [
       | inl last ↦ inl (ap (λ z. x ∷ z) last.0 ∙ ap (λ h. h ∷ p) heads, last.1)
-      | inr place ↦ inr (record { after = place.after; here = ap (λ z. x ∷ z) place.here ∙ ap (λ h. h ∷ (p ++ (b ∷ place.after))) heads })
+      | inr index ↦ inr (record { after = index.after; here = ap (λ z. x ∷ z) index.here ∙ ap (λ h. h ∷ (p ++ (b ∷ index.after))) heads })
     ]
 
 rest_of_last : (p y after : List ℕ) (c b : ℕ) → y ≡ p ++ (b ∷ after) → y ++ (c ∷ []) ≡ p ++ (b ∷ []) → after ++ (c ∷ []) ≡ []
@@ -50,16 +50,16 @@ rest_of_last p y after c b here same =
 -- the last byte of a text is one byte
 pub last_byte : (y : List ℕ) (c b : ℕ) → EndsWith (c ∷ []) y → EndsWith (b ∷ []) y → c ≡ b
 last_byte y c b by_c by_b =
-    elim (place_with_one_more by_c.before by_b.before [] c b (sym by_c.here ∙ by_b.here)) [
+    elim (index_with_one_more by_c.before by_b.before [] c b (sym by_c.here ∙ by_b.here)) [
       | inl same ↦ same.1
-      | inr place ↦ absurd (no_middle place.after [] c (sym (rest_of_last by_b.before by_c.before place.after c b place.here (sym by_c.here ∙ by_b.here))))
+      | inr index ↦ absurd (no_middle index.after [] c (sym (rest_of_last by_b.before by_c.before index.after c b index.here (sym by_c.here ∙ by_b.here))))
     ]
 
 pub IsClean-more : (y : List ℕ) (c : ℕ) → IsClean y → ((e : Error) → ¬ (AddsFault y c e)) → IsClean (y ++ (c ∷ []))
 IsClean-more y c clean none e added =
-    elim (place_with_one_more y added.before added.after c added.byte added.here) [
+    elim (index_with_one_more y added.before added.after c added.byte added.here) [
       | inl last ↦ none e (subst (λ z. AddsFault z c e) (sym last.0) (subst (λ b. AddsFault added.before b e) (sym last.1) added.fault))
-      | inr place ↦ clean e (record { before = added.before; byte = added.byte; after = place.after; here = place.here; fault = added.fault })
+      | inr index ↦ clean e (record { before = added.before; byte = added.byte; after = index.after; here = index.here; fault = added.fault })
     ]
 
 IsClean-nil : IsClean []
@@ -97,16 +97,16 @@ dot_no_slash same = omega (arith, same)
 
 dotted_component : (x p after : List ℕ) → slash ∷ x ≡ (p ++ (slash ∷ [])) ++ (dot ∷ after) → SomeComponent (BeginsWith (codes ".")) x
 dotted_component x p after here =
-    let cut : Pieces after = pieces_of after in
-    SomeComponent-from (BeginsWith (codes ".")) (dot ∷ cut.first) x
+    let split : Pieces after = pieces_of after in
+    SomeComponent-from (BeginsWith (codes ".")) (dot ∷ split.first) x
     (record {
       before = p;
-      after = fenced cut.others;
-      here = here ∙ append_assoc p (slash ∷ []) (dot ∷ after) ∙ ap (λ z. p ++ (slash ∷ (dot ∷ z))) (sym cut.here);
-      whole = (dot_no_slash, cut.first_whole);
-      ends = fenced-IsEnd cut.others;
+      after = fenced split.others;
+      here = here ∙ append_assoc p (slash ∷ []) (dot ∷ after) ∙ ap (λ z. p ++ (slash ∷ (dot ∷ z))) (sym split.here);
+      whole = (dot_no_slash, split.first_whole);
+      ends = fenced-IsEnd split.others;
     })
-    (record { after = cut.first; here = refl })
+    (record { after = split.first; here = refl })
 
 dot_lock_whole : Lacks slash (codes ".lock")
 dot_lock_whole = ((λ e. omega (arith, e)), ((λ e. omega (arith, e)), ((λ e. omega (arith, e)), ((λ e. omega (arith, e)), ((λ e. omega (arith, e)), tt)))))
@@ -115,16 +115,16 @@ regroup : (a b c d : List ℕ) → ((a ++ b) ++ c) ++ d ≡ a ++ ((b ++ c) ++ d)
 regroup a b c d = simp append_assoc
 
 locked_component_after : (x p after : List ℕ) → LastSlash p → slash ∷ x ≡ (p ++ codes ".lock") ++ after → IsEnd after → SomeComponent (EndsWith (codes ".lock")) x
-locked_component_after x p after cut here ends =
-    SomeComponent-from (EndsWith (codes ".lock")) (cut.after ++ codes ".lock") x
+locked_component_after x p after split here ends =
+    SomeComponent-from (EndsWith (codes ".lock")) (split.after ++ codes ".lock") x
     (record {
-      before = cut.before;
+      before = split.before;
       after = after;
-      here = here ∙ ap (λ z. (z ++ codes ".lock") ++ after) cut.here ∙ regroup cut.before (slash ∷ cut.after) (codes ".lock") after;
-      whole = all_join (λ c. c ≢ slash) cut.after (codes ".lock") cut.last dot_lock_whole;
+      here = here ∙ ap (λ z. (z ++ codes ".lock") ++ after) split.here ∙ regroup split.before (slash ∷ split.after) (codes ".lock") after;
+      whole = all_join (λ c. c ≢ slash) split.after (codes ".lock") split.last dot_lock_whole;
       ends = ends;
     })
-    (record { before = cut.after; here = refl })
+    (record { before = split.after; here = refl })
 
 locked_component : (x p after : List ℕ) → slash ∷ x ≡ (p ++ codes ".lock") ++ after → IsEnd after → SomeComponent (EndsWith (codes ".lock")) x
 locked_component x [] after here ends = let first : slash ≡ dot = cc in absurd (dot_no_slash (sym first))
@@ -132,12 +132,12 @@ locked_component x (c ∷ p) after here ends =
     let first : slash ≡ c = cc in
     locked_component_after x (c ∷ p) after (subst (λ b. LastSlash (b ∷ p)) first (last_slash_after_one p)) here ends
 
-byte_in_text : (x p after : List ℕ) (b c : ℕ) → c ≢ slash → slash ∷ x ≡ p ++ (b ∷ after) → b ≡ c → Holds (c ∷ []) x
+byte_in_text : (x p after : List ℕ) (b c : ℕ) → c ≢ slash → slash ∷ x ≡ p ++ (b ∷ after) → b ≡ c → ContainsText (c ∷ []) x
 byte_in_text x p after b c other here same =
     let found : InText x (c ∷ after) = after_slash x p after c other (here ∙ ap (λ d. p ++ (d ∷ after)) same) in
     record { before = found.before; after = after; here = found.here }
 
-pair_in_text : (x p after : List ℕ) (a b c : ℕ) → a ≢ slash → slash ∷ x ≡ p ++ (b ∷ after) → EndsWith (a ∷ []) p → b ≡ c → Holds (a ∷ c ∷ []) x
+pair_in_text : (x p after : List ℕ) (a b c : ℕ) → a ≢ slash → slash ∷ x ≡ p ++ (b ∷ after) → EndsWith (a ∷ []) p → b ≡ c → ContainsText (a ∷ c ∷ []) x
 pair_in_text x p after a b c other here ends same =
     let whole : slash ∷ x ≡ ends.before ++ (a ∷ (c ∷ after)) = here ∙ ap (λ d. p ++ (d ∷ after)) same ∙ ap (λ z. z ++ (c ∷ after)) ends.here ∙ append_assoc ends.before (a ∷ []) (c ∷ after) in
     let found : InText x (a ∷ c ∷ after) = after_slash x ends.before (c ∷ after) a other whole in
@@ -177,7 +177,7 @@ shown_by_end : (y p after : List ℕ) (e : Error) → y ≡ p ++ after → IsEnd
 shown_by_end y p [] e here ends adds leaves = inr (subst (λ z. LeavesFault z e) (sym (here ∙ append-nil p)) leaves)
 shown_by_end y p (b ∷ after) e here ends adds leaves = inl (record { before = p; byte = b; after = after; here = here; fault = subst (λ c. AddsFault p c e) (sym ends) adds })
 
-pair_added : (x : List ℕ) (a b : ℕ) (e : Error) → Holds (a ∷ b ∷ []) x → ((p : List ℕ) → EndsWith (a ∷ []) p → AddsFault p b e) → Added (slash ∷ x) e
+pair_added : (x : List ℕ) (a b : ℕ) (e : Error) → ContainsText (a ∷ b ∷ []) x → ((p : List ℕ) → EndsWith (a ∷ []) p → AddsFault p b e) → Added (slash ∷ x) e
 pair_added x a b e held adds =
     let front = (slash ∷ held.before) ++ (a ∷ []) in
     record {
@@ -192,27 +192,27 @@ pair_added x a b e held adds =
 found_fault : (x : List ℕ) (e : Error) → x ≢ [] → HasFault x e → Added (slash ∷ x) e ⊎ LeavesFault (slash ∷ x) e
 found_fault x Empty some fault = absurd (some fault)
 found_fault x EmptyComponent some fault =
-    let place : IsComponent fault.1.component x = SomeComponent-place (λ w. w ≡ []) x fault.1 in
-    let here : slash ∷ x ≡ (place.before ++ (slash ∷ [])) ++ place.after =
-    place.here ∙ ap (λ w. place.before ++ (slash ∷ (w ++ place.after))) fault.1.fact ∙ sym (append_assoc place.before (slash ∷ []) place.after) in
-    let ends : EndsWith (codes "/") (place.before ++ (slash ∷ [])) = record { before = place.before; here = refl } in
-    shown_by_end (slash ∷ x) (place.before ++ (slash ∷ [])) place.after EmptyComponent here place.ends (refl, ends) ends
+    let index : IsComponent fault.1.component x = SomeComponent-index (λ w. w ≡ []) x fault.1 in
+    let here : slash ∷ x ≡ (index.before ++ (slash ∷ [])) ++ index.after =
+    index.here ∙ ap (λ w. index.before ++ (slash ∷ (w ++ index.after))) fault.1.fact ∙ sym (append_assoc index.before (slash ∷ []) index.after) in
+    let ends : EndsWith (codes "/") (index.before ++ (slash ∷ [])) = record { before = index.before; here = refl } in
+    shown_by_end (slash ∷ x) (index.before ++ (slash ∷ [])) index.after EmptyComponent here index.ends (refl, ends) ends
 found_fault x StartsWithDot some fault =
-    let place : IsComponent fault.component x = SomeComponent-place (BeginsWith (codes ".")) x fault in
+    let index : IsComponent fault.component x = SomeComponent-index (BeginsWith (codes ".")) x fault in
     inl (record {
-      before = place.before ++ (slash ∷ []);
+      before = index.before ++ (slash ∷ []);
       byte = dot;
-      after = fault.fact.after ++ place.after;
-      here = place.here ∙ ap (λ w. place.before ++ (slash ∷ (w ++ place.after))) fault.fact.here ∙ sym (append_assoc place.before (slash ∷ []) (dot ∷ (fault.fact.after ++ place.after)));
-      fault = (refl, record { before = place.before; here = refl });
+      after = fault.fact.after ++ index.after;
+      here = index.here ∙ ap (λ w. index.before ++ (slash ∷ (w ++ index.after))) fault.fact.here ∙ sym (append_assoc index.before (slash ∷ []) (dot ∷ (fault.fact.after ++ index.after)));
+      fault = (refl, record { before = index.before; here = refl });
     })
 found_fault x LockSuffix some fault =
-    let place : IsComponent fault.component x = SomeComponent-place (EndsWith (codes ".lock")) x fault in
-    let front = place.before ++ (slash ∷ fault.fact.before) in
-    let here : slash ∷ x ≡ (front ++ codes ".lock") ++ place.after =
-    place.here ∙ ap (λ w. place.before ++ (slash ∷ (w ++ place.after))) fault.fact.here ∙ sym (regroup place.before (slash ∷ fault.fact.before) (codes ".lock") place.after) in
+    let index : IsComponent fault.component x = SomeComponent-index (EndsWith (codes ".lock")) x fault in
+    let front = index.before ++ (slash ∷ fault.fact.before) in
+    let here : slash ∷ x ≡ (front ++ codes ".lock") ++ index.after =
+    index.here ∙ ap (λ w. index.before ++ (slash ∷ (w ++ index.after))) fault.fact.here ∙ sym (regroup index.before (slash ∷ fault.fact.before) (codes ".lock") index.after) in
     let ends : EndsWith (codes ".lock") (front ++ codes ".lock") = record { before = front; here = refl } in
-    shown_by_end (slash ∷ x) (front ++ codes ".lock") place.after LockSuffix here place.ends (refl, ends) ends
+    shown_by_end (slash ∷ x) (front ++ codes ".lock") index.after LockSuffix here index.ends (refl, ends) ends
 found_fault x EndsWithDot some fault = inr (record { before = slash ∷ fault.before; here = ap (λ z. slash ∷ z) fault.here })
 found_fault x RepeatedDot some fault = inl (pair_added x dot dot RepeatedDot fault (λ p ends. (refl, ends)))
 found_fault x ReflogPortion some fault = inl (pair_added x 64 brace ReflogPortion fault (λ p ends. (refl, ends)))
@@ -276,5 +276,5 @@ ends_last x some =
     let k = length x - 1 in
     let inside : k < length x = omega arith in
     let rest : drop (suc k) x ≡ [] = drop_of_length-le x {i = suc k} (omega arith) in
-    let whole : x ≡ take k x ++ (get_or x k 0 ∷ []) = cut_at x k (get_or x k 0) inside refl ∙ ap (λ y. take k x ++ (get_or x k 0 ∷ y)) rest in
+    let whole : x ≡ take k x ++ (get_or x k 0 ∷ []) = split_at x k (get_or x k 0) inside refl ∙ ap (λ y. take k x ++ (get_or x k 0 ∷ y)) rest in
     record { before = slash ∷ take k x; here = ap (λ y. slash ∷ y) whole }

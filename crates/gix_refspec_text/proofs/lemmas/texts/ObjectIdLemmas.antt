@@ -141,7 +141,7 @@ IsIdText-digits t (kind, digits) all =
 -- the text of an id has no fault
 pub IsIdText-sound : (t i : List ℕ) (e : Error) → IsIdText t i → HasIdFault t e → ⊥
 IsIdText-sound t i (Length len) text (same, other) = other (text.kind, text.digits)
-IsIdText-sound t i Digit text (len, place) = cc (sym place.2 ∙ AllPass-IsIdText t i text place.0 0 place.1)
+IsIdText-sound t i Digit text (len, index) = cc (sym index.2 ∙ AllPass-IsIdText t i text index.0 0 index.1)
 
 -- a text has one fault
 one_fault : (t : List ℕ) (e f : Error) → HasIdFault t e → HasIdFault t f → e ≡ f
@@ -163,7 +163,7 @@ digits_or_not (c ∷ t) = elim (cases_Bool (is_hex_digit c)) [
   | inr other ↦ inr (0, omega arith, other)
   | inl digit ↦ elim (digits_or_not t) [
     | inl digits ↦ inl (All-cons (λ c. is_hex_digit c ≡ true) c t digit digits)
-    | inr place ↦ inr (suc place.0, (let below = place.1 in omega arith), place.2)
+    | inr index ↦ inr (suc index.0, (let below = index.1 in omega arith), index.2)
   ]
 ]
 
@@ -187,7 +187,7 @@ id_or_fault t = elim (length_or_not (length t)) [
   | inr other ↦ inr (has_one_fault t (Length (length t)) (refl, other))
   | inl len ↦ elim (digits_or_not t) [
     | inl digits ↦ let id = IsIdText-digits t len digits in inl (has_one_id t id.0 id.1)
-    | inr place ↦ inr (has_one_fault t Digit (len, place))
+    | inr index ↦ inr (has_one_fault t Digit (len, index))
   ]
 ]
 

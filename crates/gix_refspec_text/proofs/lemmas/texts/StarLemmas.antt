@@ -6,7 +6,7 @@ use Rattle.std.proofs.lemmas.List.Sums.{sum_by-append}
 use Rattle.gix_refspec_text.specs.Texts.Words.{Lacks}
 use Rattle.gix_refspec_text.specs.Texts.Bytes.{star}
 use Rattle.gix_refspec_text.specs.Texts.Name.{HasOneStar, HasStar, HasSeveralStars}
-use Rattle.gix_refspec_text.proofs.lemmas.texts.TextLemmas.{cut_at}
+use Rattle.gix_refspec_text.proofs.lemmas.texts.TextLemmas.{split_at}
 
 stars : List ℕ → ℕ
 stars x = count_by (λ b. b == star) x
@@ -64,9 +64,9 @@ no_stars [] lacks = refl
 no_stars (b ∷ x) lacks = stars-other b x lacks.0 ∙ no_stars x lacks.1
 
 counted : (x : List ℕ) → HasOneStar x → stars x ≡ 1
-counted x (before, after, cut) =
-    let whole : stars x ≡ stars before + stars (star ∷ after) = ap stars cut.starred ∙ stars-append before (star ∷ after) in
-    omega (arith, whole, no_stars before cut.first, stars-star star after refl, no_stars after cut.last)
+counted x (before, after, split) =
+    let whole : stars x ≡ stars before + stars (star ∷ after) = ap stars split.starred ∙ stars-append before (star ∷ after) in
+    omega (arith, whole, no_stars before split.first, stars-star star after refl, no_stars after split.last)
 
 -- and in a text with one star one is counted
 pub count_by-HasOneStar : (x : List ℕ) → HasOneStar x → count_by (λ b. b == star) x ≡ 1
@@ -81,10 +81,10 @@ Lacks-count_by x none = Lacks-no_stars x none
 -- a star after a part of a text that has one is a second one
 pub second_star : (x : List ℕ) (i : ℕ) → i < length x → get_or x i 0 ≡ star → count_by (λ b. b == star) (take i x) ≡ 1 → HasSeveralStars x
 second_star x i below here one =
-    let (before, after, cut) = HasOneStar-count_by (take i x) one in
+    let (before, after, split) = HasOneStar-count_by (take i x) one in
     record {
       before = before;
       between = after;
       after = drop (suc i) x;
-      here = cut_at x i star below here ∙ ap (λ y. y ++ (star ∷ drop (suc i) x)) cut.starred ∙ append_assoc before (star ∷ after) (star ∷ drop (suc i) x);
+      here = split_at x i star below here ∙ ap (λ y. y ++ (star ∷ drop (suc i) x)) split.starred ∙ append_assoc before (star ∷ after) (star ∷ drop (suc i) x);
     }

@@ -3,7 +3,7 @@ use Rattle.std.proofs.Common.{◌≡◌, ◌||◌, MatchBool, inl, inr, nat_eq, 
 use Rattle.std.proofs.lemmas.List.{drop-drop, get_or-drop, get_or-take, length-take-le, take_all}
 use Rattle.std.proofs.lemmas.Bool.{cases_eq, eqb-true, false≢true}
 use Rattle.std.proofs.Math.Numerals.{add-one}
-use Rattle.gix_refspec_text.specs.Texts.Words.{Lacks, Holds}
+use Rattle.gix_refspec_text.specs.Texts.Words.{Lacks, ContainsText}
 use Rattle.gix_refspec_text.proofs.lemmas.lists.LacksLemmas.{Lacks-here}
 
 -- no place of x from n on has the byte b
@@ -11,43 +11,43 @@ abbrev pub NoneFrom : ℕ → List ℕ → ℕ → Type 0
 NoneFrom b x n = (k : ℕ) → n ≤ k → k < length x → ¬ ((get_or x k 0 == b) ≡ true)
 
 -- no place of x has b, so x lacks it
-pub Lacks-from_places : (b : ℕ) (x : List ℕ) → ((k : ℕ) → k < length x → ¬ ((get_or x k 0 == b) ≡ true)) → Lacks b x
-Lacks-from_places b [] none = tt
-Lacks-from_places b (c ∷ x) none = (λ e. none 0 (omega arith) (eq-eqb c b e), Lacks-from_places b x (λ k below. none (suc k) (omega arith)))
+pub Lacks-from_indexes : (b : ℕ) (x : List ℕ) → ((k : ℕ) → k < length x → ¬ ((get_or x k 0 == b) ≡ true)) → Lacks b x
+Lacks-from_indexes b [] none = tt
+Lacks-from_indexes b (c ∷ x) none = (λ e. none 0 (omega arith) (eq-eqb c b e), Lacks-from_indexes b x (λ k below. none (suc k) (omega arith)))
 
 -- what follows the last place that may have b lacks it
 pub Lacks-drop : (b : ℕ) (x : List ℕ) (n : ℕ) → NoneFrom b x n → Lacks b (drop n x)
-Lacks-drop b x n none = Lacks-from_places b (drop n x) (λ k below.
+Lacks-drop b x n none = Lacks-from_indexes b (drop n x) (λ k below.
     let inside : n + k < length x = omega (arith, length-drop n x) in
     rw get_or-drop (none (n + k) (omega arith) inside))
 
 -- x is what is before a place, its byte, and what is after it
-pub cut_at : (x : List ℕ) (n b : ℕ) → n < length x → get_or x n 0 ≡ b → x ≡ take n x ++ (b ∷ drop (suc n) x)
-cut_at x n b inside here = sym (take-append-drop n x) ∙ ap (λ y. take n x ++ y) (drop-cons x n 0 inside ∙ ap (λ c. c ∷ drop (suc n) x) here)
+pub split_at : (x : List ℕ) (n b : ℕ) → n < length x → get_or x n 0 ≡ b → x ≡ take n x ++ (b ∷ drop (suc n) x)
+split_at x n b inside here = sym (take-append-drop n x) ∙ ap (λ y. take n x ++ y) (drop-cons x n 0 inside ∙ ap (λ c. c ∷ drop (suc n) x) here)
 
 -- what is after a place, as the code takes it
-pub after_place : (x : List ℕ) (n : ℕ) → n < length x → take (length (drop n x) - 1) (drop 1 (drop n x)) ≡ drop (suc n) x
-after_place x n inside =
+pub after_index : (x : List ℕ) (n : ℕ) → n < length x → take (length (drop n x) - 1) (drop 1 (drop n x)) ≡ drop (suc n) x
+after_index x n inside =
     let later : drop 1 (drop n x) ≡ drop (n + 1) x = drop-drop 1 n x in
     let size = length-drop n x in
     let size_later = length-drop (n + 1) x in
     rw later (rw add-one (take_all (length (drop n x) - 1) (drop (suc n) x) (omega (arith, length-drop (suc n) x))))
 
 -- the last place of b cuts a text
-pub cut_at_last : (x front back : List ℕ) (n b : ℕ) → n < length x → (get_or x n 0 == b) ≡ true → NoneFrom b x (n + 1) → front ≡ take n x → back ≡ drop n x → (x ≡ front ++ (b ∷ take (length back - 1) (drop 1 back))) × Lacks b (take (length back - 1) (drop 1 back))
-cut_at_last x front back n b inside here none front_is back_is =
-    let rest : take (length back - 1) (drop 1 back) ≡ drop (suc n) x = ap (λ y. take (length y - 1) (drop 1 y)) back_is ∙ after_place x n inside in
+pub split_at_last : (x front back : List ℕ) (n b : ℕ) → n < length x → (get_or x n 0 == b) ≡ true → NoneFrom b x (n + 1) → front ≡ take n x → back ≡ drop n x → (x ≡ front ++ (b ∷ take (length back - 1) (drop 1 back))) × Lacks b (take (length back - 1) (drop 1 back))
+split_at_last x front back n b inside here none front_is back_is =
+    let rest : take (length back - 1) (drop 1 back) ≡ drop (suc n) x = ap (λ y. take (length y - 1) (drop 1 y)) back_is ∙ after_index x n inside in
     let lacks : Lacks b (drop (suc n) x) = rw (← add-one) (Lacks-drop b x (n + 1) none) in (
-      rw (front_is, rest) (cut_at x n b inside (eqb-true (get_or x n 0) b here)),
+      rw (front_is, rest) (split_at x n b inside (eqb-true (get_or x n 0) b here)),
       subst (Lacks b) (sym rest) lacks,
     )
 
 -- b is in the text, or at none of its first n places
 abbrev pub FoundBefore : ℕ → List ℕ → ℕ → Bool → Type 0
-FoundBefore b x n found = MatchBool found (Holds (b ∷ []) x) ((k : ℕ) → k < n → ¬ ((get_or x k 0 == b) ≡ true))
+FoundBefore b x n found = MatchBool found (ContainsText (b ∷ []) x) ((k : ℕ) → k < n → ¬ ((get_or x k 0 == b) ≡ true))
 
 found_by : (b : ℕ) (x : List ℕ) (n : ℕ) (test : Bool) → n < length x → (get_or x n 0 == b) ≡ test → ((k : ℕ) → k < n → ¬ ((get_or x k 0 == b) ≡ true)) → FoundBefore b x (n + 1) test
-found_by b x n true inside is none = record { before = take n x; after = drop (suc n) x; here = cut_at x n b inside (eqb-true (get_or x n 0) b is) }
+found_by b x n true inside is none = record { before = take n x; after = drop (suc n) x; here = split_at x n b inside (eqb-true (get_or x n 0) b is) }
 found_by b x n false inside is none = λ k below. elim (cases_eq k n) [
   | inl same ↦ λ here. false≢true (sym is ∙ subst (λ j. (get_or x j 0 == b) ≡ true) same here)
   | inr other ↦ none k (omega arith)
@@ -59,15 +59,15 @@ found_further b x n true inside known = known
 found_further b x n false inside known = found_by b x n (nat_eq (get_or x n 0) b) inside refl known
 
 -- all places were looked at
-pub found_whole : (b : ℕ) (x : List ℕ) (n : ℕ) (found : Bool) → length x ≤ n → FoundBefore b x n found → MatchBool found (Holds (b ∷ []) x) (Lacks b x)
+pub found_whole : (b : ℕ) (x : List ℕ) (n : ℕ) (found : Bool) → length x ≤ n → FoundBefore b x n found → MatchBool found (ContainsText (b ∷ []) x) (Lacks b x)
 found_whole b x n true past known = known
-found_whole b x n false past known = Lacks-from_places b x (λ k below. known k (omega arith))
+found_whole b x n false past known = Lacks-from_indexes b x (λ k below. known k (omega arith))
 
-pub Lacks-Holds : (b : ℕ) (x : List ℕ) → Lacks b x → Holds (b ∷ []) x → ⊥
-Lacks-Holds b x lacks holds = Lacks-here b holds.before holds.after (subst (Lacks b) holds.here lacks)
+pub Lacks-ContainsText : (b : ℕ) (x : List ℕ) → Lacks b x → ContainsText (b ∷ []) x → ⊥
+Lacks-ContainsText b x lacks holds = Lacks-here b holds.before holds.after (subst (Lacks b) holds.here lacks)
 
 -- a text in which b isn't lacks it
-pub Lacks-from_absent : (b : ℕ) (x : List ℕ) → ¬ (Holds (b ∷ []) x) → Lacks b x
+pub Lacks-from_absent : (b : ℕ) (x : List ℕ) → ¬ (ContainsText (b ∷ []) x) → Lacks b x
 Lacks-from_absent b [] absent = tt
 Lacks-from_absent b (c ∷ x) absent = (
   λ e. absent (record { before = []; after = x; here = ap (λ d. d ∷ x) e }),

@@ -7,7 +7,7 @@ use Rattle.gix_refspec_text.specs.declared.name.Error.TheVariants.{Asterisk}
 use Rattle.gix_refspec_text.specs.Texts.Bytes.{slash, star}
 use Rattle.gix_refspec_text.specs.Private.Scan.{IsClean, IsScanned, one_if, with_letters}
 use Rattle.gix_refspec_text.proofs.lemmas.texts.StarLemmas.{second_star}
-use Rattle.gix_refspec_text.proofs.lemmas.texts.LetterLemmas.{clean_after_star, clean_after_other, some_place, fault_with_letters}
+use Rattle.gix_refspec_text.proofs.lemmas.texts.LetterLemmas.{clean_after_star, clean_after_other, some_index, fault_with_letters}
 use Rattle.gix_refspec_text.proofs.name.scanned_to.Goals as goal
 use Rattle.gix_refspec_text.proofs.name.scanned_to.Goals.{then-byte-eq42+else-starred, else-byte-eq42+in_default}
 
@@ -37,7 +37,7 @@ returns-in-Some c =
     let x = c.args.text.now in
     let i = c.loop-index.index in
     let other : get_or x i 0 ≢ star = grind (arith, common_steps) in
-    fault_with_letters x i c.in-Some.fault (some_place x i (omega arith)) (omega arith) other c.in-Some.ensures
+    fault_with_letters x i c.in-Some.fault (some_index x i (omega arith)) (omega arith) other c.in-Some.ensures
 
 -- the first star is noted, and any other byte adds no fault
 pub loop-index-preserved : goal.loop-index-preserved

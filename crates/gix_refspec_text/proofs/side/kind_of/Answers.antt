@@ -1,7 +1,25 @@
--- Without a star, outside `refs/` and with a fault of an id, a side is a partial name.
-use Rattle.std.proofs.Common.{refl, rules}
+-- A star, which is the only one; or none: outside `refs/` and with a fault of an id, the side is a partial name.
+use Rattle.std.proofs.Common.{refl, rules, ◌∷◌, ◌++◌, ◌∙◌, ap}
+use Rattle.gix_refspec_text.specs.Texts.Bytes.{star}
 use Rattle.gix_refspec_text.proofs.lemmas.texts.ObjectIdLemmas.{IsIdText-sound}
+use Rattle.gix_refspec_text.proofs.lemmas.texts.TextLemmas.{Lacks-from_absent}
 use Rattle.gix_refspec_text.proofs.side.kind_of.Goals as goal
+
+pub returns-in-Some : goal.returns-in-Some
+returns-in-Some c =
+    let split = c.in-Some.ensures in
+    let before = c.in-Some.before.now in
+    let after = c.in-Some.after.now in
+    record {
+      starred = split.0;
+      first = split.1;
+      last = Lacks-from_absent star after (λ more. c.requires (record {
+        before = before;
+        between = more.before;
+        after = more.after;
+        here = split.0 ∙ ap (λ y. before ++ (star ∷ y)) more.here;
+      }));
+    }
 
 pub returns-in-Err : goal.returns-in-Err
 returns-in-Err c = (refl, search rules, search rules, λ id. IsIdText-sound c.args.side.now id.0 c.in-Err.field-0 id.1 c.in-Err.ensures)

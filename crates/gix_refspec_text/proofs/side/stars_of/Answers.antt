@@ -2,4 +2,4 @@
 use Rattle.gix_refspec_text.proofs.side.stars_of.Goals as goal
 
 pub returns-in-None : goal.returns-in-None
-returns-in-None c = let cut = c.in-Some.ensures in record { starred = cut.0; first = cut.1; last = c.in-None.ensures }
+returns-in-None c = let split = c.in-Some.ensures in record { starred = split.0; first = split.1; last = c.in-None.ensures }

@@ -6,5 +6,5 @@ use Rattle.refspec_json.specs.Views.{claim_texts}
 use Rattle.refspec_commands.specs.Conflicts.{claims_from}
 use Rattle.refspec_commands.proofs.planning.claims_of.Given as goal
 
-abbrev pub invariant-loop-place : goal.invariant-loop-place
-invariant-loop-place l = map claim_texts l.claims.items ≡ claims_from 0 (map start_of (take l.place l.sources)) (map bstring_bytes l.texts)
+abbrev pub invariant-loop-location : goal.invariant-loop-location
+invariant-loop-location l = map claim_texts l.claims.items ≡ claims_from 0 (map start_of (take l.location l.sources)) (map bstring_bytes l.texts)

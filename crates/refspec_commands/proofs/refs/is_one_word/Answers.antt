@@ -6,4 +6,4 @@ use Rattle.gix_refspec_text.proofs.lemmas.lists.EmptyLemmas.{full_from_test}
 pub returns : goal.returns
 returns c =
     let text = c.args.text.now in
-    one_word_if text c.holds.result c.holds-2.result c.holds-3.result c.holds-4.result (full_from_test text c.if-is_empty.ensures) c.holds.ensures c.holds-2.ensures c.holds-3.ensures c.holds-4.ensures
+    one_word_if text c.contains.result c.contains-2.result c.contains-3.result c.contains-4.result (full_from_test text c.if-is_empty.ensures) c.contains.ensures c.contains-2.ensures c.contains-3.ensures c.contains-4.ensures

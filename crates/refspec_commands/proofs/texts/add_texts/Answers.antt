@@ -9,9 +9,9 @@ pub returns : goal.returns
 returns c =
     let op = c.args.call.now.operation in
     let read = map (λ (r : Bor (List ℕ)). r.now) c.in_ok-records.records.items in
-    let cut = subst (λ (e : ℕ). AreRecords e read c.args.input.now) c.end_of.ensures c.in_ok-records.ensures in
-    on_ok c.add_records.result _ _ c.add_records.ensures (λ put. (
+    let split = subst (λ (e : ℕ). AreRecords e read c.args.input.now) c.end_of.ensures c.in_ok-records.ensures in
+    on_ok c.add_records.result _ _ c.add_records.ensures (λ write. (
       read,
-      cut,
-      put ∙ ap (λ (l : List (Bor (List ℕ))). map given_of c.args.texts.now.items ++ numbered (record_at c.args.name.now op) 1 (map (λ (r : Bor (List ℕ)). r.now) l)) c.as_slice.ensures.value,
+      split,
+      write ∙ ap (λ (l : List (Bor (List ℕ))). map given_of c.args.texts.now.items ++ numbered (record_at c.args.name.now op) 1 (map (λ (r : Bor (List ℕ)). r.now) l)) c.as_slice.ensures.value,
     ))

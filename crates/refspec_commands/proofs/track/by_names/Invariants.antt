@@ -1,12 +1,12 @@
 -- the specs so far that names look up, and the results are as they were
 use Rattle.std.proofs.Common.{map, take}
 use Rattle.gix_refspec.specs.Views.Spec.{reading_of}
-use Rattle.refspec_commands.specs.Shown.{KeepsPage}
+use Rattle.refspec_commands.specs.Shown.{KeepsReport}
 use Rattle.refspec_commands.specs.Track.{AreByNames}
 use Rattle.refspec_commands.proofs.track.by_names.Given as goal
 
 abbrev pub invariant-loop-spec : goal.invariant-loop-spec
 invariant-loop-spec l = record {
   kept : AreByNames (map reading_of (take l.spec-index l.specs)) (map reading_of l.kept.items);
-  page : KeepsPage l.fn.page l.page;
+  report : KeepsReport l.fn.report l.report;
 }

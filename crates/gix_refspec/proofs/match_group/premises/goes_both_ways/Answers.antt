@@ -6,15 +6,15 @@ use Rattle.gix_refspec.specs.Laws.Matching.{GoesBothWays}
 use Rattle.gix_refspec.proofs.lemmas.hits.PremiseLemmas.{goes_below_refs, goes_by_star}
 use Rattle.gix_refspec.proofs.match_group.premises.goes_both_ways.Goals as goal
 
-pub returns-then-holds : goal.returns-then-holds
-returns-then-holds c =
-    subst (λ b. IsTrue b ↔ GoesBothWays (reading_of c.args.spec.now)) (sym c.if-holds.true)
+pub returns-then-contains : goal.returns-then-contains
+returns-then-contains c =
+    subst (λ b. IsTrue b ↔ GoesBothWays (reading_of c.args.spec.now)) (sym c.if-contains.true)
     (goes_by_star (reading_of c.args.spec.now) c.as_bytes-source.result.now c.args.spec.now.accepted
-    (sym c.source.ensures ∙ ap (option_map bstr_bytes) c.in-Some-Some.is-0 ∙ ap (λ (x : List ℕ). Some x) (sym c.as_bytes-source.ensures)) c.if-holds.ensures)
+    (sym c.source.ensures ∙ ap (option_map bstr_bytes) c.in-Some-Some.is-0 ∙ ap (λ (x : List ℕ). Some x) (sym c.as_bytes-source.ensures)) c.if-contains.ensures)
 
-pub returns-else-holds : goal.returns-else-holds
-returns-else-holds c =
+pub returns-else-contains : goal.returns-else-contains
+returns-else-contains c =
     goes_below_refs (reading_of c.args.spec.now) c.as_bytes-source.result.now c.as_bytes-destination.result.now c.are_below_refs.result c.if-is_negative.ensures
     (sym c.source.ensures ∙ ap (option_map bstr_bytes) c.in-Some-Some.is-0 ∙ ap (λ (x : List ℕ). Some x) (sym c.as_bytes-source.ensures))
     (sym c.destination.ensures ∙ ap (option_map bstr_bytes) c.in-Some-Some.is-1 ∙ ap (λ (x : List ℕ). Some x) (sym c.as_bytes-destination.ensures))
-    c.if-holds.ensures c.are_below_refs.ensures
+    c.if-contains.ensures c.are_below_refs.ensures

@@ -9,17 +9,17 @@ use Rattle.gix_refspec_text.proofs.spec.prefix.expansions_of.Goals as goal
 pub pattern_expansions-requires : goal.pattern_expansions-requires
 pattern_expansions-requires c =
     let k = c.in-Pattern in
-    (no_prefix c.args.side.now k.before.now k.after.now k.ensures (λ tells. false≢true (c.if-tells_prefix.ensures.1 tells)), (k.before.now, k.after.now, k.ensures))
+    (no_prefix c.args.side.now k.before.now k.after.now k.ensures (λ tells. false≢true (c.if-is_ref_prefix.ensures.1 tells)), (k.before.now, k.after.now, k.ensures))
 
 pub returns-in-Pattern-clause-ok : goal.returns-in-Pattern-clause-ok
 returns-in-Pattern-clause-ok c =
     let k = c.in-Pattern in
-    IfOk-weaker c.one_entry.result _ _ (λ list is. to_prefix k.before.now (of_pattern k.before.now k.after.now k.ensures (c.if-tells_prefix.ensures.0 refl) refl) is) c.one_entry.ensures
+    IfOk-weaker c.one_entry.result _ _ (λ list is. to_prefix k.before.now (of_pattern k.before.now k.after.now k.ensures (c.if-is_ref_prefix.ensures.0 refl) refl) is) c.one_entry.ensures
 
 pub returns-in-Pattern-clause-memory : goal.returns-in-Pattern-clause-memory
 returns-in-Pattern-clause-memory c =
     let k = c.in-Pattern in
-    on_any_error c.one_entry.result (prefix_expands c.args.side.now k.before.now (of_pattern k.before.now k.after.now k.ensures (c.if-tells_prefix.ensures.0 refl) refl))
+    on_any_error c.one_entry.result (prefix_expands c.args.side.now k.before.now (of_pattern k.before.now k.after.now k.ensures (c.if-is_ref_prefix.ensures.0 refl) refl))
 
 pub returns-in-FullName-clause-ok : goal.returns-in-FullName-clause-ok
 returns-in-FullName-clause-ok c =

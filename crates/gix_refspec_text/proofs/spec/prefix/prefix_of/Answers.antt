@@ -8,4 +8,4 @@ pub returns-in-Pattern : goal.returns-in-Pattern
 returns-in-Pattern c =
     let x = c.args.side.now in
     let k = c.in-Pattern in
-    subst (λ r. MatchOption r (HasNoPrefix x) (λ p. IsPrefix x p.now)) (sym c.then_some.ensures) (pattern_prefix x k.before k.after c.tells_prefix.result k.ensures c.tells_prefix.ensures)
+    subst (λ r. MatchOption r (HasNoPrefix x) (λ p. IsPrefix x p.now)) (sym c.then_some.ensures) (pattern_prefix x k.before k.after c.is_ref_prefix.result k.ensures c.is_ref_prefix.ensures)

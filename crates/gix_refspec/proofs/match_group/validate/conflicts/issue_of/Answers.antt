@@ -5,15 +5,15 @@ use Rattle.std.proofs.lemmas.List.{map-append, take_all}
 use Rattle.std.proofs.lemmas.List.Elements.{All-from_recursion}
 use Rattle.gix_refspec.specs.declared.match_group.validate.conflicts.Update.{Update}
 use Rattle.gix_refspec_text.specs.Views.Spec.{reading_of}
-use Rattle.gix_refspec_match.specs.Matching.Mappings.{Start}
+use Rattle.gix_refspec_match.specs.Matching.Mappings.{Source}
 use Rattle.gix_refspec_match.specs.Views.Mapping.{mapped_of, start_of}
-use Rattle.gix_refspec.specs.Private.Updates.{updated_places}
+use Rattle.gix_refspec.specs.Private.Updates.{updated_indexes}
 use Rattle.gix_refspec.proofs.lemmas.validate.ConflictLemmas.{AreTold, conflict_from_conflicting, copied_source, conflicting_fits, spec_fits, text_at, told_more}
 use Rattle.gix_refspec.proofs.match_group.validate.conflicts.issue_of.Goals as goal
 
 -- what a read past the end gives
 none : Update
-none = record { destination = record { ref_ptr = (0, 0); now = [] }; place = 0 }
+none = record { destination = record { ref_ptr = (0, 0); now = [] }; index = 0 }
 
 pub bounds-mappings-update : goal.bounds-mappings-update
 unfolding none
@@ -26,7 +26,7 @@ pub bounds-specs-mapping : goal.bounds-specs-mapping
 unfolding none
 bounds-specs-mapping c =
     let fits = conflicting_fits c.args.mappings.now c.args.run.now c.loop-update.update-index none c.requires.conflicting c.loop-update-test.true in
-    spec_fits c.args.specs.now c.args.mappings.now (get_or c.args.run.now c.loop-update.update-index none).place c.index-mappings-update.result c.requires.fits fits c.index-mappings-update.is
+    spec_fits c.args.specs.now c.args.mappings.now (get_or c.args.run.now c.loop-update.update-index none).index c.index-mappings-update.result c.requires.fits fits c.index-mappings-update.is
 
 pub offset_bounds-specs-mapping : goal.offset_bounds-specs-mapping
 offset_bounds-specs-mapping c = let below = bounds-specs-mapping c in search rules
@@ -46,10 +46,10 @@ loop-update-preserved c =
     let texts : map bstring_bytes c.push-in-loop-update.new.self.items ≡ map bstring_bytes c.loop-update.texts.items ++ bstring_bytes text ∷ [] = ap (map bstring_bytes) c.in_ok-push-2.ensures.items ∙ map-append bstring_bytes c.loop-update.texts.items (text ∷ []) in
     let told = told_more g ms run i none m (start_of source) (bstring_bytes text) (map start_of c.loop-update.sources.items) (map bstring_bytes c.loop-update.texts.items) c.loop-update-test.true fits c.index-mappings-update.is
     (c.in_ok-into_owned.ensures.keeps ∙ copied_source m.lhs c.in_ok-clone.field-0 c.in_ok-clone.ensures.keeps)
-    (text_at c.args.specs.now m.spec_index c.index-specs-mapping.result (bstring_bytes text) (spec_fits c.args.specs.now ms (get_or run i none).place m c.requires.fits fits c.index-mappings-update.is) c.index-specs-mapping.is c.in_ok-to_bstring.ensures)
+    (text_at c.args.specs.now m.spec_index c.index-specs-mapping.result (bstring_bytes text) (spec_fits c.args.specs.now ms (get_or run i none).index m c.requires.fits fits c.index-mappings-update.is) c.index-specs-mapping.is c.in_ok-to_bstring.ensures)
     c.loop-update.invariant in
-    subst (λ (ss : List Start). AreTold g (map mapped_of ms) (updated_places (take (i + 1) run)) ss (map bstring_bytes c.push-in-loop-update.new.self.items)) (sym sources)
-    (subst (λ (ts : List (List ℕ)). AreTold g (map mapped_of ms) (updated_places (take (i + 1) run)) (map start_of c.loop-update.sources.items ++ start_of source ∷ []) ts) (sym texts) told)
+    subst (λ (ss : List Source). AreTold g (map mapped_of ms) (updated_indexes (take (i + 1) run)) ss (map bstring_bytes c.push-in-loop-update.new.self.items)) (sym sources)
+    (subst (λ (ts : List (List ℕ)). AreTold g (map mapped_of ms) (updated_indexes (take (i + 1) run)) (map start_of c.loop-update.sources.items ++ start_of source ∷ []) ts) (sym texts) told)
 
 pub returns : goal.returns
 unfolding none
@@ -61,5 +61,5 @@ returns c =
     let several = conflicting.several in
     let first : (get_or run 0 none).destination.now ≡ conflicting.destination = All-from_recursion (λ (x : Update). x.destination.now ≡ conflicting.destination) run conflicting.same 0 none (omega (arith, several)) in
     conflict_from_conflicting g l run (bstring_bytes c.in_ok-from_slice.field-0) (map start_of c.loop-update.sources.items) (map bstring_bytes c.loop-update.texts.items) conflicting
-    (subst (λ (cs : List Update). AreTold g l (updated_places cs) (map start_of c.loop-update.sources.items) (map bstring_bytes c.loop-update.texts.items)) (take_all c.loop-update.update-index run (omega arith)) c.loop-update.invariant)
+    (subst (λ (cs : List Update). AreTold g l (updated_indexes cs) (map start_of c.loop-update.sources.items) (map bstring_bytes c.loop-update.texts.items)) (take_all c.loop-update.update-index run (omega arith)) c.loop-update.invariant)
     (c.in_ok-from_slice.ensures ∙ c.new.ensures ∙ first)

@@ -26,7 +26,7 @@ add_issue-requires-clause-conflicting c =
     let cs = map conflict_of c.loop-at.issues.items in
     let rest : take (length firsts - at) (drop at firsts) ≡ drop at firsts = take_all (length firsts - at) (drop at firsts) (omega (arith, length-drop at firsts)) in
     subst (λ (xs : List Update). IsRun (take n xs) (drop n xs) → 1 < length (take n xs) → AreConflicting l (take n xs)) (sym rest)
-    (λ cut several. conflicting_of_run g l (drop at firsts) n cs several cut c.loop-at.invariant.1) c.len_of_run-len.ensures.cut
+    (λ split several. conflicting_of_run g l (drop at firsts) n cs several split c.loop-at.invariant.1) c.len_of_run-len.ensures.split
 
 pub loop-at-preserved : goal.loop-at-preserved
 loop-at-preserved c =
@@ -42,7 +42,7 @@ loop-at-preserved c =
     let fits : n ≤ length (drop at firsts) = subst (λ (xs : List Update). n ≤ length xs) rest told.fits in (
       omega (arith, fits, length-drop at firsts),
       subst (λ (xs : List Update). AreReported g l xs new) (drop-drop n at firsts)
-          (reported_more g l (drop at firsts) n cs new told.some fits (subst (λ (xs : List Update). IsRun (take n xs) (drop n xs)) rest told.cut) (subst (λ (xs : List Update). AddsConflict g l (take n xs) cs new) rest c.in_ok-add_issue.ensures) c.loop-at.invariant.1),
+          (reported_more g l (drop at firsts) n cs new told.some fits (subst (λ (xs : List Update). IsRun (take n xs) (drop n xs)) rest told.split) (subst (λ (xs : List Update). AddsConflict g l (take n xs) cs new) rest c.in_ok-add_issue.ensures) c.loop-at.invariant.1),
     )
 
 pub returns : goal.returns

@@ -4,16 +4,16 @@ use Rattle.std.proofs.lemmas.List.{get_or_default}
 use Rattle.gix_refspec.specs.declared.match_group.validate.conflicts.Update.{Update}
 use Rattle.gix_refspec.specs.Private.Updates.{IsRun}
 use Rattle.gix_refspec_match.proofs.lemmas.keep.RepeatLemmas.{all_more}
-use Rattle.gix_refspec.proofs.lemmas.validate.UpdateLemmas.{cut_at, differ_from_test, same_from_test}
+use Rattle.gix_refspec.proofs.lemmas.validate.UpdateLemmas.{split_at, differ_from_test, same_from_test}
 use Rattle.gix_refspec.proofs.match_group.validate.conflicts.len_of_run.Goals as goal
 
 -- what a read past the end gives
 none : Update
-none = record { destination = record { ref_ptr = (0, 0); now = [] }; place = 0 }
+none = record { destination = record { ref_ptr = (0, 0); now = [] }; index = 0 }
 
-pub returns-then-ne-clause-cut : goal.returns-then-ne-clause-cut
+pub returns-then-ne-clause-split : goal.returns-then-ne-clause-split
 unfolding none
-returns-then-ne-clause-cut c = cut_at c.args.updates.now c.loop-len.len none c.requires.some c.requires.order (c.loop-len.invariant none) (λ below. differ_from_test (get_or c.args.updates.now c.loop-len.len none).destination.now (get_or c.args.updates.now 0 none).destination.now c.ne.result c.ne.ensures c.if-ne.true)
+returns-then-ne-clause-split c = split_at c.args.updates.now c.loop-len.len none c.requires.some c.requires.order (c.loop-len.invariant none) (λ below. differ_from_test (get_or c.args.updates.now c.loop-len.len none).destination.now (get_or c.args.updates.now 0 none).destination.now c.ne.result c.ne.ensures c.if-ne.true)
 
 pub loop-len-preserved : goal.loop-len-preserved
 unfolding none
@@ -22,8 +22,8 @@ loop-len-preserved c d =
     let same : (get_or cs c.loop-len.len none).destination.now ≡ (get_or cs 0 none).destination.now = same_from_test (get_or cs c.loop-len.len none).destination.now (get_or cs 0 none).destination.now c.ne.result c.ne.ensures c.if-ne.false in
     all_more (λ (x : Update). x.destination.now ≡ (get_or cs 0 d).destination.now) cs c.loop-len.len none c.loop-len-test.true (c.loop-len.invariant d) (same ∙ ap (λ (x : Update). x.destination.now) (get_or_default cs 0 none d (omega arith)))
 
-pub returns-clause-cut : goal.returns-clause-cut
-returns-clause-cut c =
+pub returns-clause-split : goal.returns-clause-split
+returns-clause-split c =
     let cs = c.args.updates.now in
     let whole : c.loop-len.len ≡ length cs = omega arith in
-    subst (λ (n : ℕ). IsRun (take n cs) (drop n cs)) whole (cut_at cs c.loop-len.len none c.requires.some c.requires.order (c.loop-len.invariant none) (λ below. absurd (omega arith)))
+    subst (λ (n : ℕ). IsRun (take n cs) (drop n cs)) whole (split_at cs c.loop-len.len none c.requires.some c.requires.order (c.loop-len.invariant none) (λ below. absurd (omega arith)))

@@ -4,5 +4,5 @@ use Rattle.gix_refspec_match.specs.Views.Mapping.{mapped_of}
 use Rattle.gix_refspec.proofs.lemmas.validate.UpdateLemmas.{AreUpdatesUpto}
 use Rattle.gix_refspec.proofs.match_group.validate.conflicts.updates_in_order.Given as goal
 
-abbrev pub invariant-loop-place : goal.invariant-loop-place
-invariant-loop-place l = AreUpdatesUpto (map mapped_of l.mappings) l.flags l.place l.updates.items
+abbrev pub invariant-loop-index : goal.invariant-loop-index
+invariant-loop-index l = AreUpdatesUpto (map mapped_of l.mappings) l.flags l.index l.updates.items

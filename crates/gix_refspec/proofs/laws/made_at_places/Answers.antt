@@ -1,9 +1,0 @@
--- Whatever the readings and the refs are.
-use Rattle.std.proofs.Common.{map}
-use Rattle.gix_refspec_match.specs.Views.Mapping.{ref_of}
-use Rattle.gix_refspec.specs.Views.Group.{readings_of}
-use Rattle.gix_refspec.proofs.lemmas.validate.MadeAtLemmas.{made_at_places}
-use Rattle.gix_refspec.proofs.laws.made_at_places.Goals as goal
-
-pub returns : goal.returns
-returns c = made_at_places (readings_of c.args.group.now) (map ref_of c.args.items.now)

@@ -1,0 +1,11 @@
+-- of the mappings so far, those of which a side is bad are there; if none is, all are named
+use Rattle.std.proofs.Common.{◌≡◌, [], map, take}
+use Rattle.std.specs.List.{AllByRecursion}
+use Rattle.gix_refspec_match.specs.Views.Mapping.{mapped_of}
+use Rattle.gix_refspec.specs.Matching.RefNames.{AreLeftOut, HasRefNames, left_out_of}
+use Rattle.gix_refspec.proofs.match_group.ref_names.invalid_mappings.Given as goal
+
+abbrev pub invariant-loop-mapping : goal.invariant-loop-mapping
+invariant-loop-mapping l =
+    AreLeftOut (map mapped_of (take l.mapping-index l.mappings)) (map left_out_of l.bad.items)
+    × (l.bad.items ≡ [] → AllByRecursion HasRefNames (map mapped_of (take l.mapping-index l.mappings)))

@@ -1,0 +1,32 @@
+-- where none is listed all are named; else what the test keeps is, and the others are listed
+use Rattle.std.proofs.Common.{◌≡◌, [], List, map, refl, sym, ◌∙◌, subst, arith, rules}
+use Rattle.std.specs.List.{AllByRecursion}
+use Rattle.std.proofs.lemmas.Bool.{eqb-true}
+use Rattle.gix_refspec_match.specs.declared.types.Mapping.{Mapping}
+use Rattle.gix_refspec_match.specs.Views.Mapping.{mapped_of}
+use Rattle.gix_refspec.specs.Matching.RefNames.{AreLeftOut, HasRefNames, left_out_of}
+use Rattle.gix_refspec.proofs.lemmas.validate.ValidationLemmas.{filtered_so, kept_whole}
+use Rattle.gix_refspec.proofs.match_group.ref_names.match_lhs+Outcome.without_invalid_names.Goals as goal
+use Rattle.std.proofs.lemmas.List.{nil_from_length}
+
+pub returns-then-is_empty-clause-ok : goal.returns-then-is_empty-clause-ok
+returns-then-is_empty-clause-ok c =
+    let bad = c.in-Ok.bad in
+    let ms = c.args.self.mappings.items in
+    let empty : bad.items ≡ [] = nil_from_length bad.items (let none = eqb-true _ _ (sym c.is_empty.ensures ∙ c.if-is_empty.true) in omega (arith, none, bad.ok.0, bad.ok.1)) in (
+      refl,
+      record {
+        named = kept_whole HasRefNames 0 (map mapped_of ms) (subst (λ (xs : List Mapping). AllByRecursion HasRefNames (map mapped_of xs)) c.as_slice.ensures.value (c.in-Ok.ensures.none empty));
+        others = subst (λ (xs : List Mapping). AreLeftOut (map mapped_of xs) (map left_out_of bad.items)) c.as_slice.ensures.value c.in-Ok.ensures.ok;
+      },
+    )
+
+pub returns-clause-ok : goal.returns-clause-ok
+returns-clause-ok c =
+    let ms = c.args.self.mappings.items in (
+      refl,
+      record {
+        named = filtered_so HasRefNames _ (λ p m b q told. search rules) _ ms c.retain.new.self.items c.retain.ensures.filtered;
+        others = subst (λ (xs : List Mapping). AreLeftOut (map mapped_of xs) (map left_out_of c.in-Ok.bad.items)) c.as_slice.ensures.value c.in-Ok.ensures.ok;
+      },
+    )

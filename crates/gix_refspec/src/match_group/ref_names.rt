@@ -1,0 +1,150 @@
+//! Whether the sides of mappings are names of refs.
+
+ghost use Rattle.std.specs.Prelude.{◌≡◌, ◌↔◌, [], map, IfOk, IfErr, OnErr, IsTrue, MatchOption, Some};
+ghost use Rattle.std.specs.List.{AllByRecursion};
+ghost use Rattle.gix_refspec_match.specs.Views.Mapping.{mapped_of, name_bytes, start_of};
+ghost use Rattle.gix_refspec.specs.Matching.RefNames.{AreLeftOut, IsInvalidAt, HasRefNames, IsRefName, KeepsRefNames, left_out_of};
+ghost use Rattle.gix_refspec.specs.Views.Issue.{mappings_of};
+
+use crate::match_group::types::match_lhs;
+use gix_refspec_match::types::{Mapping, NameRef, SourceRef};
+use gix_refspec_text::name::name_partial;
+use gix_refspec_text::spec::prefix::is_head;
+use std::alloc::{AllocError, Global};
+use std::{error, fmt};
+
+/// Which side of a mapping is no name of a ref.
+#[derive(Clone, Copy, Debug, PartialEq, Eq)]
+pub enum InvalidSide {
+    /// The source alone.
+    Source,
+    /// The destination alone.
+    Destination,
+    /// Both.
+    Both,
+}
+
+/// A mapping that was left out because a side of it is no name of a ref.
+#[derive(Debug, Drop)]
+pub struct InvalidMapping<'a, 'b> {
+    /// A copy of the mapping, which borrows what the mapping that was left out did.
+    pub mapping: Mapping<'a, 'b>,
+    /// The side that is no name of a ref.
+    pub side: InvalidSide,
+}
+
+/// Memory ran out while names were checked. The outcome is returned as it was.
+#[derive(Debug, Drop)]
+pub struct OutOfMemory<'spec, 'item> {
+    /// The outcome whose names were to be checked.
+    pub outcome: match_lhs::Outcome<'spec, 'item>,
+}
+
+impl<'spec, 'item> fmt::Display for OutOfMemory<'spec, 'item> {
+    ghost use Rattle.std.specs.Prelude.{codes};
+
+    ghost output = { λ _. Some (codes "out of memory") };
+
+    fn fmt<W: fmt::Write>(&self, f: &mut fmt::Formatter<W>) -> fmt::Result {
+        f.write_str("out of memory")
+    }
+}
+
+impl<'spec, 'item> error::Error for OutOfMemory<'spec, 'item> {}
+
+/// The check of names.
+impl<'spec, 'item> match_lhs::Outcome<'spec, 'item> {
+    /// Removes the mappings whose source or destination is no name of a ref, and lists them, each with
+    /// the bad side; both lists are in order. A name of a ref is `HEAD`, or begins `refs/` and passes
+    /// `name_partial`. An id as source is no bad side, nor is a missing destination.
+    ///
+    /// A server may call a ref `refs/heads/../../x`. After this call each destination is a path below
+    /// `refs/`, or `HEAD`. May be called before `validated` or after it.
+    ///
+    /// Fails if memory runs out; never if no mapping has to be removed. The error holds the outcome as
+    /// before.
+    pub fn without_invalid_names(
+        mut self,
+        alloc: Global,
+    ) -> Result<
+        (
+            match_lhs::Outcome<'spec, 'item>,
+            Vec<InvalidMapping<'item, 'spec>>,
+        ),
+        OutOfMemory<'spec, 'item>,
+    >
+        ensures ok { IfOk result (λ v. (v.0.group ≡ self.entry.group) × KeepsRefNames
+            (mappings_of self.entry) (mappings_of v.0) (map left_out_of v.1.items)) }
+        ensures memory { IfErr result (λ e. (e.outcome ≡ self.entry) ×
+            ¬ (AllByRecursion HasRefNames (mappings_of self.entry))) }
+    {
+        let Ok(bad) = invalid_mappings(alloc, self.mappings.as_slice()) else {
+            return Err(OutOfMemory { outcome: self });
+        };
+        if bad.is_empty() {
+            return Ok((self, bad));
+        }
+        self.mappings.retain(|mapping| has_ref_names(mapping));
+        Ok((self, bad))
+    }
+}
+
+// Copies of the mappings of which a side is no name of a ref, in order.
+fn invalid_mappings<'a, 'b>(
+    alloc: Global,
+    mappings: &[Mapping<'a, 'b>],
+) -> Result<Vec<InvalidMapping<'a, 'b>>, AllocError>
+    ensures ok { IfOk result (λ bad. AreLeftOut
+        (map mapped_of mappings.now) (map left_out_of bad.items)) }
+    ensures none { IfOk result (λ bad. bad.items ≡ [] →
+        AllByRecursion HasRefNames (map mapped_of mappings.now)) }
+    ensures memory { OnErr result (¬ (AllByRecursion HasRefNames (map mapped_of mappings.now))) }
+{
+    let mut bad = Vec::new(alloc);
+    for mapping in mappings {
+        if let Some(side) = invalid_side(mapping) {
+            bad.push(InvalidMapping {
+                mapping: mapping.clone(alloc)?,
+                side,
+            })?;
+        }
+    }
+    Ok(bad)
+}
+
+// Whether each side of a mapping is a name of a ref, as far as it is a name.
+fn has_ref_names(mapping: &Mapping<'_, '_>) -> bool
+    ensures { IsTrue result ↔ HasRefNames (mapped_of mapping.now) }
+{
+    invalid_side(mapping).is_none()
+}
+
+// The side of a mapping that is no name of a ref.
+fn invalid_side(mapping: &Mapping<'_, '_>) -> Option<InvalidSide>
+    ensures { MatchOption result
+        (HasRefNames (mapped_of mapping.now)) (λ side. IsInvalidAt side (mapped_of mapping.now)) }
+{
+    let source = match &mapping.lhs {
+        SourceRef::FullName(name) => is_ref_name(name),
+        SourceRef::ObjectId(_) => true,
+    };
+    let destination = match &mapping.rhs {
+        None => true,
+        Some(name) => is_ref_name(name),
+    };
+    match (source, destination) {
+        (true, true) => None,
+        (false, true) => Some(InvalidSide::Source),
+        (true, false) => Some(InvalidSide::Destination),
+        (false, false) => Some(InvalidSide::Both),
+    }
+}
+
+// Whether a name is that of a ref: it begins `refs/` and has no fault, or is `HEAD`.
+fn is_ref_name(name: &NameRef<'_>) -> bool
+    ensures { IsTrue result ↔ IsRefName (name_bytes name.now) }
+{
+    let name = name.as_bstr();
+    let bytes = name.as_bytes();
+    is_head(bytes) || bytes.starts_with(b"refs/") && name_partial(name).is_ok()
+}

@@ -1,6 +1,0 @@
--- the byte was found, or it isn't at one of the places so far
-use Rattle.gix_refspec_text.proofs.lemmas.texts.TextLemmas.{FoundBefore}
-use Rattle.gix_refspec_text.proofs.cut.holds.Given as goal
-
-abbrev pub invariant-loop-other : goal.invariant-loop-other
-invariant-loop-other l = FoundBefore l.byte l.text l.other-index l.holds

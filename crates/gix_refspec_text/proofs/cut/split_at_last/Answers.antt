@@ -1,8 +1,0 @@
--- What is after the place that was found is the text from the next place on.
-use Rattle.gix_refspec_text.proofs.lemmas.texts.TextLemmas.{cut_at_last}
-use Rattle.gix_refspec_text.proofs.cut.split_at_last.Goals as goal
-
-pub returns : goal.returns
-returns c =
-    let found = c.in_ok-at.ensures in
-    cut_at_last c.args.text.now c.split_at.result.0.now c.split_at.result.1.now c.in_ok-at.at c.args.byte found.0.high found.1 found.0.after c.split_at.ensures.front c.split_at.ensures.back

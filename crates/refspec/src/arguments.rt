@@ -1,0 +1,317 @@
+//! The words of the call.
+
+use clap::{Arg, ArgAction, ArgMatches};
+use gix_refspec::parsing::Operation;
+use refspec_commands::call::{Call, Command, Terminator, Form};
+use std::alloc::{AllocError, Global};
+
+// What stands for the standard input in place of a spec or of the name of a file.
+const INPUT: &str = "-";
+
+/// The command line, with its pages of help.
+pub fn command_line<'a>(alloc: Global) -> Result<clap::Command<'a>, AllocError> {
+    clap::Command::new(alloc, "refspec")
+        .version("0.45.1")
+        .about(
+            "Says whether Git refspecs are right, what they mean, and what a fetch with them writes.",
+        )
+        .subcommand_required(true)
+        .arg_required_else_help(true)
+        .disable_help_subcommand(true)
+        .after_help(
+            "Results go to the standard output, messages to the standard error.\nThe exit status is 0 if all is well, 1 if something is refused, conflicts, is left out or isn't found, 2 for a usage error, and 3 if a file, a device or memory fails.",
+        )
+        .subcommand(check_line(alloc)?)?
+        .subcommand(explain_line(alloc)?)?
+        .subcommand(canon_line(alloc)?)?
+        .subcommand(plan_line(alloc)?)?
+        .subcommand(track_line(alloc)?)?
+        .subcommand(prefixes_line(alloc)?)?
+        .subcommand(git_line(alloc)?)
+}
+
+// The command that the script `git-refspec` calls.
+fn git_line<'a>(alloc: Global) -> Result<clap::Command<'a>, AllocError> {
+    clap::Command::new(alloc, "git")
+        .hide(true)
+        .about(
+            "Answers a call of `git refspec`, whose words and whose repository are in the files of a folder",
+        )
+        .arg(
+            Arg::new(alloc, "folder")
+                .value_name("FOLDER")
+                .action(ArgAction::Set)
+                .required(true),
+        )
+}
+
+// A command that takes its specs from the input too, with the options that all have.
+fn line<'a>(alloc: Global, name: &'a str, about: &'a str) -> Result<clap::Command<'a>, AllocError> {
+    line_of(
+        alloc,
+        name,
+        about,
+        "A refspec. Without any, or for `-`, specs are read from the input, one a line",
+    )
+}
+
+// A command with the options that all have, and what it says of its specs.
+fn line_of<'a>(
+    alloc: Global,
+    name: &'a str,
+    about: &'a str,
+    specs: &'a str,
+) -> Result<clap::Command<'a>, AllocError> {
+    clap::Command::new(alloc, name)
+        .about(about)
+        .arg(
+            Arg::new(alloc, "spec")
+                .value_name("SPEC")
+                .num_args(0..)
+                .action(ArgAction::Append)
+                .help(specs),
+        )?
+        .arg(
+            Arg::new(alloc, "specs")
+                .long("specs")
+                .value_name("FILE")
+                .action(ArgAction::Set)
+                .help("Reads specs from this file too, or from the standard input for `-`"),
+        )?
+        .arg(flag(
+            alloc,
+            "zero",
+            "Reads and writes raw records that end with a zero byte; messages quote names",
+        )
+        .short('z'))?
+        .arg(flag(
+            alloc,
+            "read-zero",
+            "Reads records that end with a zero byte, and writes lines",
+        )
+        .long("read-z"))?
+        .arg(flag(alloc, "json", "Writes one JSON object a line, refusals too").long("json"))
+}
+
+// An option without a value.
+fn flag<'a>(alloc: Global, id: &'a str, help: &'a str) -> Arg<'a> {
+    Arg::new(alloc, id).action(ArgAction::SetTrue).help(help)
+}
+
+// The option that reads specs for a push.
+fn push_flag<'a>(alloc: Global) -> Arg<'a> {
+    flag(
+        alloc,
+        "push",
+        "The specs are for a push, and not for a fetch",
+    )
+    .long("push")
+}
+
+fn check_line<'a>(alloc: Global) -> Result<clap::Command<'a>, AllocError> {
+    line(
+        alloc,
+        "check",
+        "Tells each refspec that is refused, with the reason",
+    )?
+    .arg(push_flag(alloc))?
+    .arg(
+        flag(
+            alloc,
+            "verbose",
+            "Tells good specs too, and which say the same as an earlier one",
+        )
+        .short('v')
+        .long("verbose"),
+    )?
+    .arg(flag(
+        alloc,
+        "config",
+        "Reads what `git config --show-origin -z --get-regexp` prints",
+    )
+    .long("config"))
+}
+
+fn explain_line<'a>(alloc: Global) -> Result<clap::Command<'a>, AllocError> {
+    line(
+        alloc,
+        "explain",
+        "Says in a sentence what each refspec does",
+    )?
+    .arg(push_flag(alloc))
+}
+
+fn canon_line<'a>(alloc: Global) -> Result<clap::Command<'a>, AllocError> {
+    line(alloc, "canon", "Prints the canonical text of each refspec")?.arg(push_flag(alloc))
+}
+
+fn plan_line<'a>(alloc: Global) -> Result<clap::Command<'a>, AllocError> {
+    line_of(
+        alloc,
+        "plan",
+        "Tells what a fetch with these refspecs writes",
+        "A refspec. The refs are read from the input, one a line",
+    )?
+    .arg(
+        Arg::new(alloc, "refs")
+            .long("refs")
+            .value_name("FILE")
+            .action(ArgAction::Set)
+            .help("Reads the refs of the remote from this file, and not from the standard input"),
+    )?
+    .arg(flag(
+        alloc,
+        "long",
+        "Shows each mapping with its spec, and not below it",
+    )
+    .long("long"))?
+    .arg(flag(
+        alloc,
+        "all",
+        "Tells every conflict and all that is left out, and not only the first 20 of each",
+    )
+    .long("all"))
+}
+
+fn track_line<'a>(alloc: Global) -> Result<clap::Command<'a>, AllocError> {
+    line(
+        alloc,
+        "track",
+        "Tells from which refs of the remote the tracking refs are fetched",
+    )?
+    .arg(
+        Arg::new(alloc, "ref")
+            .long("ref")
+            .value_name("NAME")
+            .num_args(1)
+            .action(ArgAction::Append)
+            .required(true)
+            .help("The full name of a tracking ref; may be given again"),
+    )
+}
+
+fn prefixes_line<'a>(alloc: Global) -> Result<clap::Command<'a>, AllocError> {
+    line(alloc, "prefixes", "Lists what to ask a server for")?.arg(flag(
+        alloc,
+        "patterns",
+        "Writes patterns for `git ls-remote` instead of arguments of protocol v2",
+    )
+    .long("patterns"))
+}
+
+/// The call that the matches of a command say. Its inputs are named by the words too.
+pub fn call_of<'a>(
+    alloc: Global,
+    name: &str,
+    matches: &ArgMatches<'a>,
+    is_watched: bool,
+) -> Result<Call<'a>, AllocError> {
+    let refs = listed(alloc, matches, "ref")?;
+    let mut specs = listed(alloc, matches, "spec")?;
+    let count = specs.len();
+    specs.retain(|spec| *spec != INPUT);
+    let has_dash = specs.len() < count;
+    let command = command_of(name);
+    let is_plan = command == Command::Plan;
+    let file = matches.get_str("specs");
+    // The standard input and a file may both have specs.
+    let (input, beside) = match (is_plan, has_dash, file) {
+        (true, true, _) => (or_else(matches.get_str("refs"), INPUT), INPUT),
+        (true, false, _) => (or_else(matches.get_str("refs"), INPUT), or_else(file, "")),
+        (false, true, _) => (INPUT, or_else(file, "")),
+        (false, false, _) => (or_else(file, INPUT), ""),
+    };
+    let operation = if matches.get_flag("push") {
+        Operation::Push
+    } else {
+        Operation::Fetch
+    };
+    Ok(Call {
+        command,
+        operation,
+        form: form_of(matches),
+        ends: ends_of(matches),
+        verbose: matches.get_flag("verbose"),
+        patterns: matches.get_flag("patterns"),
+        long: matches.get_flag("long"),
+        all: matches.get_flag("all"),
+        is_watched,
+        reads_input: is_plan || has_dash || file.is_some() || specs.is_empty(),
+        specs,
+        refs,
+        input,
+        beside,
+    })
+}
+
+/// Whether the specs of a plan are to be read from two inputs.
+pub fn names_two_inputs(name: &str, matches: &ArgMatches<'_>) -> bool {
+    let has_dash = match matches.get_strs("spec") {
+        None => false,
+        Some(arguments) => arguments.iter().any(|argument| *argument == INPUT),
+    };
+    let is_file = matches.get_str("specs").is_some_and(|file| file != INPUT);
+    command_of(name) == Command::Plan && has_dash && is_file
+}
+
+/// Whether a file is given by an empty name.
+pub fn names_no_file(matches: &ArgMatches<'_>) -> bool {
+    matches.get_str("specs") == Some("") || matches.get_str("refs") == Some("")
+}
+
+// The values of an option or of the words, in order.
+fn listed<'a>(
+    alloc: Global,
+    matches: &ArgMatches<'a>,
+    id: &str,
+) -> Result<Vec<&'a str>, AllocError> {
+    let mut all = Vec::new(alloc);
+    if let Some(values) = matches.get_strs(id) {
+        for value in values {
+            all.push(*value)?;
+        }
+    }
+    Ok(all)
+}
+
+// A word, or another where it isn't there.
+fn or_else<'a>(argument: Option<&'a str>, other: &'a str) -> &'a str {
+    match argument {
+        Some(argument) => argument,
+        None => other,
+    }
+}
+
+// The command with a name.
+fn command_of(name: &str) -> Command {
+    match name {
+        "check" => Command::Check,
+        "explain" => Command::Explain,
+        "canon" => Command::Canon,
+        "plan" => Command::Plan,
+        "track" => Command::Track,
+        _ => Command::Prefixes,
+    }
+}
+
+// How results are to be written.
+fn form_of(matches: &ArgMatches<'_>) -> Form {
+    if matches.get_flag("json") {
+        return Form::Json;
+    }
+    if matches.get_flag("zero") {
+        return Form::Zeros;
+    }
+    Form::Lines
+}
+
+// What ends a record of the input.
+fn ends_of(matches: &ArgMatches<'_>) -> Terminator {
+    if matches.get_flag("config") {
+        return Terminator::Settings;
+    }
+    if matches.get_flag("zero") || matches.get_flag("read-zero") {
+        return Terminator::Zero;
+    }
+    Terminator::Newline
+}

@@ -1,9 +1,0 @@
--- the mappings so far have their lines, and the last one's spec is known
-use Rattle.std.proofs.Common.{map, take}
-use Rattle.bstr.specs.Owned.{bstring_bytes}
-use Rattle.gix_refspec.specs.Views.Group.{mapped_of}
-use Rattle.refspec_commands.proofs.GroupLemmas.{GroupedSoFar}
-use Rattle.refspec_commands.proofs.groups.put_grouped.Given as goal
-
-abbrev pub invariant-loop-mapping : goal.invariant-loop-mapping
-invariant-loop-mapping l = GroupedSoFar (map bstring_bytes l.texts) (map mapped_of (take l.mapping-index l.mappings)) l.before l.fn.out.items l.out.items

@@ -1,7 +1,0 @@
--- The parts of the line.
-use Rattle.std.proofs.Common.{◌∙◌}
-use Rattle.refspec_commands.proofs.MessageLemmas.{PutsReason-of}
-use Rattle.refspec_commands.proofs.page.put_reason.Goals as goal
-
-pub returns : goal.returns
-returns c = PutsReason-of c.args.text.now c.args.error.now _ _ _ _ _ _ _ _ c.in_ok-put.ensures c.in_ok-extend_from_slice.ensures.items c.in_ok-put_in_message.ensures c.in_ok-extend_from_slice-2.ensures.items (c.as_bytes.ensures.value ∙ c.explanation.ensures) c.in_ok-extend_from_slice-3.ensures.items c.in_ok-push.ensures.items

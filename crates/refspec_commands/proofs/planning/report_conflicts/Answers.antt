@@ -1,0 +1,17 @@
+-- The first ones are told, and how many more there are.
+use Rattle.std.proofs.Common.{List, map, subst}
+use Rattle.gix_refspec.specs.Matching.Validation.{Conflict}
+use Rattle.gix_refspec.specs.Views.Issue.{conflict_of}
+use Rattle.refspec_commands.specs.Conflicts.{AddsEachConflict, IsConflict}
+use Rattle.refspec_commands.specs.Json.{AddsObjects}
+use Rattle.refspec_commands.proofs.ConflictLemmas.{AddsConflicts-of, AddsObjects-first, first_of, others_of}
+use Rattle.refspec_commands.proofs.ShownLemmas.{on_ok}
+use Rattle.refspec_commands.proofs.planning.report_conflicts.Goals as goal
+
+pub returns-clause-objects : goal.returns-clause-objects
+returns-clause-objects c = on_ok c.write_more.result _ _ c.write_more.ensures (λ write. AddsObjects-first c.args.report.now.form IsConflict c.args.all (map conflict_of c.args.issues.now) c.args.report.now.results.items c.report_all_conflicts.new.report.results.items (subst (λ (l : List Conflict). AddsObjects c.args.report.now.form IsConflict l c.args.report.now.results.items c.report_all_conflicts.new.report.results.items) (first_of conflict_of c.args.report.now.form c.args.all c.args.issues.now c.split_at.result.0.now c.reported_count.result c.reported_count.ensures.reported c.split_at.ensures.front) c.in_ok-report_all_conflicts.ensures.objects))
+
+pub returns-clause-reported : goal.returns-clause-reported
+returns-clause-reported c =
+    let first = subst (λ (l : List Conflict). AddsEachConflict c.args.report.now.form l c.args.report.now.messages.items c.report_all_conflicts.new.report.messages.items) (first_of conflict_of c.args.report.now.form c.args.all c.args.issues.now c.split_at.result.0.now c.reported_count.result c.reported_count.ensures.reported c.split_at.ensures.front) c.in_ok-report_all_conflicts.ensures.reported in
+    on_ok c.write_more.result _ _ c.write_more.ensures (AddsConflicts-of c.args.report.now.form c.args.all (map conflict_of c.args.issues.now) _ c.args.report.now.messages.items c.report_all_conflicts.new.report.messages.items c.write_more.new.out.items (others_of conflict_of c.args.report.now.form c.args.all c.args.issues.now c.split_at.result.1.now c.reported_count.result c.reported_count.ensures.reported c.split_at.ensures.back) first)

@@ -1,8 +1,0 @@
--- The object has the spec and the sentence.
-use Rattle.std.proofs.Common.{◌++◌, ap, codes, ◌∙◌}
-use Rattle.refspec_json.specs.Objects.{line_of, noted_object}
-use Rattle.refspec_commands.proofs.ShownLemmas.{on_ok}
-use Rattle.refspec_commands.proofs.prefixes.put_reason.Goals as goal
-
-pub returns : goal.returns
-returns c = on_ok c.put_line.result _ _ c.put_line.ensures (λ put. (c.args.message.now, put ∙ ap (λ x. c.args.out.now.items ++ line_of (noted_object (codes "all") x c.args.message.now)) (c.as_str.ensures.value ∙ c.in_ok-shown.ensures)))

@@ -1,0 +1,16 @@
+-- In JSON an object with the text of the spec.
+use Rattle.std.proofs.Common.{Some, ap, codes, inl, refl, sym, ◌∙◌}
+use Rattle.gix_refspec.specs.Views.Spec.{reading_of}
+use Rattle.refspec_json.specs.Objects.{line_of, noted_object}
+use Rattle.refspec_commands.specs.Json.{json_text}
+use Rattle.refspec_commands.specs.Prefixes.{IsReason}
+use Rattle.refspec_commands.proofs.JsonLemmas.{AddsObjects-one}
+use Rattle.refspec_commands.proofs.ShownLemmas.{on_ok}
+use Rattle.refspec_commands.proofs.prefixes.report_reason.Goals as goal
+
+pub returns-in-Json-clause-reported : goal.returns-in-Json-clause-reported
+returns-in-Json-clause-reported c = on_ok c.write_reason.result _ _ c.write_reason.ensures (λ write.
+    let text = c.as_bytes.result.now in
+    let line = line_of (noted_object (codes "all") (json_text text) write.0) in
+    let printed = c.in_ok-canonical.ensures ∙ ap Some (sym c.as_bytes.ensures) in
+    AddsObjects-one c.args.report.now.form IsReason (reading_of c.args.spec.now) line c.args.report.now.results.items c.write_reason.new.out.items c.in-Json.is (inl (c.requires, record { text = text; message = write.0; is_text = printed; is = refl })) write.1)

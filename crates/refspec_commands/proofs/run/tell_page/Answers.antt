@@ -1,9 +1,0 @@
--- A command that is neither `canon` nor one of specs alone tells what it finds, or that some text is refused.
-use Rattle.std.proofs.Common.{inl, map}
-use Rattle.gix_refspec.specs.Views.Spec.{reading_of}
-use Rattle.refspec_commands.proofs.OutputLemmas.{Tells-found}
-use Rattle.refspec_commands.proofs.ShownLemmas.{if_ok}
-use Rattle.refspec_commands.proofs.run.tell_page.Goals as goal
-
-pub returns-in-Some : goal.returns-in-Some
-returns-in-Some g c = if_ok c.tell_found.result _ _ c.tell_found.ensures (λ refused told. Tells-found c.args.task.now.call.now.command c.args.task.now.call.now c.args.task.now.input.now c.args.page.now.form c.args.page.now.messages.items _ refused c.args.all.now _ _ c.in_default.not-Canon c.in_default.not-Check c.in_default.not-Explain (inl (map reading_of c.in-Some.specs.items, rw c.in-Some.is at c.in_ok-all_good-in_default.ensures, told)))

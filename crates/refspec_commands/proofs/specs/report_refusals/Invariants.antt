@@ -1,0 +1,13 @@
+-- the refusals so far were told
+use Rattle.std.proofs.Common.{◌≡◌, take}
+use Rattle.refspec_commands.specs.Json.{AddsObjects}
+use Rattle.refspec_commands.specs.Messages.{ReportsRefusals}
+use Rattle.refspec_commands.specs.Read.{IsRefusalOf}
+use Rattle.refspec_commands.proofs.specs.report_refusals.Given as goal
+
+abbrev pub invariant-loop-checked : goal.invariant-loop-checked
+invariant-loop-checked l = record {
+  form : l.report.form ≡ l.fn.report.form;
+  objects : AddsObjects l.fn.report.form IsRefusalOf (take l.checked-index l.all) l.fn.report.results.items l.report.results.items;
+  reported : ReportsRefusals l.fn.report.form (take l.checked-index l.all) l.fn.report.messages.items l.report.messages.items;
+}
