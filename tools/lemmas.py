@@ -1,9 +1,10 @@
 #!/usr/bin/env python3
-"""Lists the lemmas that nothing cites, and those whose statements are equal up to their variables: tools/lemmas.py [SHARED]
+"""Lists the lemmas that nothing cites, and those with equal statements: tools/lemmas.py
 
-A lemma is a top-level name with a type in crates/*/proofs/lemmas. It is cited where its name stands as a word in any
-file of a crate outside its own statement and equations. Two statements are equal where they are after their bound
-variables are numbered in order.
+A lemma is a name with a type at the margin of a file in crates/*/proofs/lemmas, or of a file *Lemmas.antt there. It is
+cited if its name is a word of a block of some file of a crate, other than its own and `use` lines. Two statements are
+equal if they are after their variables are numbered in the order in which they are bound, and each word of them comes
+from the same module. Statements of functions, which return data, are not compared.
 """
 import os
 import re
@@ -12,6 +13,9 @@ import sys
 ROOT = os.path.join(os.path.dirname(os.path.abspath(__file__)), os.pardir)
 WORD = re.compile(r"[^\s(){}\[\],;.→×λ]+")
 SIGNATURE = re.compile(r"^(?:opaque |abbrev )?(?:pub )?([^\s:(){}]+) : (.*)$")
+USE = re.compile(r"^\s*(?:ghost )?(?:pub )?use (Rattle\.[^\s{]+?)\.\{(.*)\}")
+LEMMAS = re.compile(r"crates/[^/]+/proofs/(lemmas/.*|.*Lemmas)\.antt$")
+DATA = re.compile(r"(^|→ )(Bool|Ordering|ℕ|List ℕ|List \(List ℕ\)|Option \(List ℕ\)|Type 0|Mapping|Reading)$")
 
 
 def files_below(folder, endings):
@@ -22,13 +26,8 @@ def files_below(folder, endings):
                 yield os.path.relpath(os.path.join(place, name), ROOT)
 
 
-def read(path):
-    with open(os.path.join(ROOT, path), encoding="utf-8") as file:
-        return file.read()
-
-
 def blocks(text):
-    """The top-level blocks of a file: a line that begins at the margin and the indented ones below it."""
+    """The blocks of a file: a line at the margin, and the indented lines below it."""
     block = []
     for line in text.split("\n"):
         if line.startswith("--"):
@@ -37,37 +36,36 @@ def blocks(text):
             yield block
             block = []
         if line.strip():
-            block.append(line)
+            block.append(line.split(" -- ")[0])
     if block:
         yield block
 
 
-def definitions(path):
-    """Each name that a file gives a type, with its whole statement and the text of its equations."""
-    found, equations = {}, {}
-    for block in blocks(read(path)):
-        if block[0].startswith("use "):
+def head_of(block):
+    """The name that a block gives a type or an equation."""
+    found = WORD.match(re.sub(r"^(opaque |abbrev )?(pub )?", "", block[0]))
+    return found[0] if found else None
+
+
+def definitions(text):
+    """Each name that a file gives a type, with its statement; and the names that have equations."""
+    found, equations = {}, set()
+    for block in blocks(text):
+        if USE.match(block[0]):
             continue
-        text = "\n".join(block)
         signature = SIGNATURE.match(block[0])
-        if signature and not re.match(r"^\S+ .*=", block[0].split(" : ")[0]):
-            found[signature[1]] = " ".join(text.split(" : ", 1)[1].split())
+        if signature:
+            found[signature[1]] = " ".join("\n".join(block).split(" : ", 1)[1].split())
         else:
-            name = WORD.match(block[0])
-            if name:
-                equations.setdefault(name[0], []).append(text)
+            equations.add(head_of(block))
     return found, equations
 
 
-def module_of(path):
-    return "Rattle." + re.sub(r"^crates/", "", path)[: -len(".antt")].replace("/", ".")
-
-
 def imports(text):
-    """What each imported name is: its module and the name there."""
+    """Where each imported name comes from: its module, and its name there."""
     known = {}
     for line in text.split("\n"):
-        used = re.match(r"^\s*use (Rattle\.[^\s{]+?)\.\{(.*)\}$", line)
+        used = USE.match(line)
         if used:
             for item in used[2].split(","):
                 name = item.strip().split(" as ")
@@ -75,52 +73,69 @@ def imports(text):
     return known
 
 
-def normal(statement):
-    """The statement with its variables numbered in the order in which they are bound."""
-    bound = re.findall(r"[({]([^(){}:]+?) :", statement)
+def grouped(statement):
+    """The statement with a group of its own for each variable: `(x y : A)` as `(x : A) (y : A)`."""
+    result, at = "", 0
+    while at < len(statement):
+        group = re.match(r"([({])([^(){}:]+?) : ", statement[at:])
+        if not group:
+            result, at = result + statement[at], at + 1
+            continue
+        depth, end = 0, at
+        while True:
+            depth += (statement[end] in "({[") - (statement[end] in ")}]")
+            if depth == 0:
+                break
+            end += 1
+        of = grouped(statement[at + group.end():end])
+        result += " ".join(f"{group[1]}{name} : {of}{statement[end]}" for name in group[2].split())
+        at = end + 1
+    return result
+
+
+def normal(statement, known, path):
+    statement = grouped(statement)
     numbers = {}
-    for group in bound:
-        for name in group.split():
-            numbers.setdefault(name, f"#{len(numbers)}")
-    return WORD.sub(lambda word: numbers.get(word[0], word[0]), statement)
+    for name in re.findall(r"[({]([^\s(){}:]+) : ", statement):
+        numbers.setdefault(name, f"#{len(numbers)}")
+    return WORD.sub(lambda word: numbers.get(word[0], str(known.get(word[0], word[0]))), statement)
 
 
 def main():
-    paths = sorted(files_below("crates", (".antt", ".rt")))
-    texts = {path: read(path) for path in paths}
-    lemmas = {path: definitions(path) for path in paths if re.match(r"crates/[^/]+/proofs/lemmas/.*\.antt$", path)}
-    modules = {module_of(path): path for path in lemmas}
+    texts = {}
+    for path in files_below("crates", (".antt", ".rt")):
+        with open(os.path.join(ROOT, path), encoding="utf-8") as file:
+            texts[path] = file.read()
+    lemmas = {path: definitions(text) for path, text in texts.items() if LEMMAS.match(path)}
+    modules = {"Rattle." + path[len("crates/"):-len(".antt")].replace("/", "."): path for path in lemmas}
 
     cited = {(path, name): set() for path, (found, _) in lemmas.items() for name in found}
     for path, text in texts.items():
-        known = {}
-        for local, (module, name) in imports(text).items():
-            if module in modules:
-                known[local] = (modules[module], name)
-        for name in lemmas.get(path, ({},))[0]:
-            known[name] = (path, name)
+        known = {local: (modules.get(module), name) for local, (module, name) in imports(text).items()}
+        known.update((name, (path, name)) for name in lemmas.get(path, ({},))[0])
         for block in blocks(text):
-            if re.match(r"^\s*(ghost )?use ", block[0]):
+            head = head_of(block)
+            if USE.match(block[0]):
                 continue
-            head = WORD.match(re.sub(r"^(opaque |abbrev )?(pub )?", "", block[0]))
-            for word in set(WORD.findall("\n".join(line.split(" -- ")[0] for line in block))):
-                for part in {word, word.split(".")[0]}:
-                    if known.get(part) in cited and not (head and head[0] == part and path == known[part][0]):
-                        cited[known[part]].add((path, head[0] if head else None))
+            for word in WORD.findall("\n".join(block)):
+                lemma = known.get(word)
+                if lemma in cited and lemma != (path, head):
+                    cited[lemma].add((path, head))
 
-    # a lemma that only uncited ones cite is as good as uncited
-    live = {lemma for lemma, by in cited.items() if any((path, name) not in cited for path, name in by)}
-    more = True
+    # what only uncited lemmas cite isn't cited
+    live = {lemma for lemma, places in cited.items() if any(place not in cited for place in places)}
+    more = live
     while more:
-        more = {lemma for lemma, by in cited.items() if lemma not in live and any(one in live for one in by)}
+        more = {lemma for lemma, places in cited.items() if lemma not in live and places & live}
         live |= more
     faults = [f"{path}: nothing cites {name}" for path, name in cited if (path, name) not in live]
 
     same = {}
     for path, (found, equations) in lemmas.items():
+        known = imports(texts[path])
         for name, statement in found.items():
-            if name in equations and not re.search(r"→ Type 0$", statement):
-                same.setdefault(normal(statement), []).append(f"{path}: {name}")
+            if name in equations and not DATA.search(statement):
+                same.setdefault(normal(statement, known, path), []).append(f"{path}: {name}")
     faults += ["equal statements: " + ", ".join(places) for places in same.values() if len(places) > 1]
 
     for fault in faults:

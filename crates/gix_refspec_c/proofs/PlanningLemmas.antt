@@ -36,6 +36,7 @@ use Rattle.gix_refspec_c.specs.Mapping.{Entry}
 use Rattle.gix_refspec_c.specs.Matching.{nameless}
 use Rattle.gix_refspec_c.specs.Planning.{HasConflict, HasNoConflict, HasVerdict, IsJudged, IsPlan, destinations_of}
 use Rattle.std.proofs.lemmas.Slice.Zip.{all_zipped_more}
+use Rattle.gix_refspec_text.proofs.lemmas.lists.OrderLemmas.{not_below_itself}
 
 -- ---- searching
 
@@ -44,9 +45,6 @@ itself : (o : Ordering) → o ≡ ordering_reverse o → o ≡ Equal
 itself Less same = cc
 itself Equal same = refl
 itself Greater same = cc
-
-not_less : (x : List ℕ) → slice_cmp nat_cmp x x ≡ Less → ⊥
-not_less x less = let same = itself (slice_cmp nat_cmp x x) (nat_list_cmp_total.antisymm x x) in cc
 
 not_greater : (x : List ℕ) → slice_cmp nat_cmp x x ≡ Greater → ⊥
 not_greater x greater = let same = itself (slice_cmp nat_cmp x x) (nat_list_cmp_total.antisymm x x) in cc
@@ -81,7 +79,7 @@ module _ {X : Type 0} (key : X → List ℕ) where
       missed [] k below is apart = absurd (omega (arith, below))
       missed (e ∷ ys) k below is apart =
           let same : key (get_or (e ∷ ys) k e) ≡ x = sym (get_or-map key (e ∷ ys) k e x below) ∙ is in
-          ⊎_elim (λ before. not_less x (subst (λ t. slice_cmp nat_cmp t x ≡ Less) same (apart.0 k e (omega arith) before))) (λ after. not_greater x (subst (λ t. slice_cmp nat_cmp t x ≡ Greater) same (apart.1 k e after below))) (cases_lt k i)
+          ⊎_elim (λ before. not_below_itself x (subst (λ t. slice_cmp nat_cmp t x ≡ Less) same (apart.0 k e (omega arith) before))) (λ after. not_greater x (subst (λ t. slice_cmp nat_cmp t x ≡ Greater) same (apart.1 k e after below))) (cases_lt k i)
 
 -- the destination of a conflict
 abbrev pub destination_in : Issue → List ℕ

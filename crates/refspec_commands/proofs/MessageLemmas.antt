@@ -33,10 +33,6 @@ WritesReason-of t e sentence old a b c d f new where_ one what two why three end
     ∙ append_assoc where_.0 (codes ": ") (what.0 ++ (codes ": " ++ (explained e ++ 10 ∷ []))))) in
     (line, record { at = where_.0; text = what.0; is_spot = where_.1; is_text = what.1; is = refl }, to_new ∙ ap (λ l. old ++ l) same)
 
--- and more
-pub WritesRefusal-of : (t : Text) (e : Error) (old mid new : List ℕ) → WritesReason t e old mid → Grows mid new → WritesRefusal t e old new
-WritesRefusal-of t e old mid new reason more = (reason.0, more.0, reason.1, behind old reason.0 mid more.0 new reason.2 more.1)
-
 -- the refusals of some texts and then those of others
 ReportsRefusals-append : (f : Form) (xs ys : List Checked) (old mid new : List ℕ) → ReportsRefusals f xs old mid → ReportsRefusals f ys mid new → ReportsRefusals f (xs ++ ys) old new
 ReportsRefusals-append f [] ys old mid new a b = subst (λ (x : List ℕ). ReportsRefusals f ys x new) a b

@@ -57,10 +57,6 @@ IsOutput-lacking call beside input messages settings p q read lacks form empty k
   kept = subst (λ (x : List ℕ). KeepsResults call.form x q.results.items) empty (subst (λ (x : Form). KeepsResults x p.results.items q.results.items) form kept.kept);
 })
 
--- what `canon` tells
-pub Reports-canon : (k : Command) (call : Call) (input : List ℕ) (f : Form) (before messages : List ℕ) (refused : Bool) (all : List Checked) (old new : List ℕ) → k ≡ command.Canon → AddsCanonical f all old new → MatchBool refused (HasBad all) (AreGood all) → ReportsRefusals f all before messages → Reports k call input f before messages refused all old new
-Reports-canon k call input f before messages refused all old new is reported whether refusals = subst (λ (x : Command). Reports x call input f before messages refused all old new) (sym is) (reported, whether, refusals)
-
 -- what a command tells that is neither `canon` nor one of specs alone
 pub Reports-found : (k : Command) (call : Call) (input : List ℕ) (f : Form) (before messages : List ℕ) (refused : Bool) (all : List Checked) (old new : List ℕ) → (k ≡ command.Canon → ⊥) → (k ≡ command.Check → ⊥) → (k ≡ command.Explain → ⊥) → AddsIfGood (AddsFound k call input f messages refused) (ReportsRefusals f all before messages) f refused all old new → Reports k call input f before messages refused all old new
 Reports-found command.Canon call input f before messages refused all old new no_canon no_check no_explain reported = absurd (no_canon refl)

@@ -75,13 +75,6 @@ KeepsReport-same p = record { form = refl; kept = KeepsResults-same p.form p.res
 pub KeepsReport-next : (p q r : Report) → KeepsReport p q → KeepsReport q r → KeepsReport p r
 KeepsReport-next p q r a b = record { form = b.form ∙ a.form; kept = KeepsResults-next p.form q.form p.results.items q.results.items r.results.items a.form a.kept b.kept }
 
--- one name more
-pub AddsNames-next : {X : Type 0} (f g : Form) (before : List ℕ) (shown : X → List ℕ) (xs : List X) (i : ℕ) (d : X) (name old mid new : List ℕ) → i < length xs → g ≡ f → name ≡ shown (get_or xs i d) → AddsNames f before (map shown (take i xs)) old mid → AddsNames g before (name ∷ []) mid new → AddsNames f before (map shown (take (i + 1) xs)) old new
-AddsNames-next f g before shown xs i d name old mid new below same is a b =
-    let b2 = subst (λ (x : Form). AddsNames x before (name ∷ []) mid new) same b in
-    let step : map shown (take (i + 1) xs) ≡ map shown (take i xs) ++ name ∷ [] = ap (map shown) (take_more xs i d below) ∙ (map-append shown (take i xs) (get_or xs i d ∷ []) ∙ ap (λ z. map shown (take i xs) ++ z ∷ []) (sym is)) in
-    subst (λ (l : List (List ℕ)). AddsNames f before l old new) (sym step) (AddsNames-append f before (map shown (take i xs)) (name ∷ []) old mid new a b2)
-
 -- mapped and then joined
 pub flat_map-map : {X Y Z : Type 0} (f : Y → List Z) (g : X → Y) (xs : List X) → flat_map (λ x. f (g x)) xs ≡ flat_map f (map g xs)
 flat_map-map f g [] = refl

@@ -59,9 +59,6 @@ some_other (c ∷ t) all = some_other_by c t (is_hex_digit c) refl all (some_oth
 pub no_id_byte : (t : List ℕ) → IdOrFault t → IsIdLength (length t) → list_all is_hex_digit t ≡ false → ¬ (IsId t)
 no_id_byte t either size all is = unspelled t Digit either (size, some_other t all) is.0 is.1
 
-pub no_id_length : (t : List ℕ) → IdOrFault t → ¬ (IsIdLength (length t)) → ¬ (IsId t)
-no_id_length t either size is = unspelled t (Length (length t)) either (refl, size) is.0 is.1
-
 -- these are the lengths of ids
 pub id_size : (n : ℕ) → (n ≡ 40) ⊎ (n ≡ 64) → IsIdLength n
 id_size n (inl same) = (Sha1, same)

@@ -27,13 +27,6 @@ use Rattle.gix_refspec.specs.Matching.Hits.{AreKeptForward, AreKeptBackward}
 use Rattle.gix_refspec.specs.Laws.Items.{AsksForNoId, HasIdDestination, NamesDecide, NamesDecideBack}
 use Rattle.refspec_map.proofs.NameLemmas.{kept_by_name, kept_back_by_name}
 
--- one item more
-pub items_more : (refs : List ToldRef) (k : ℕ) (t : ToldRef) (old new : List Item) (i : Item) → k < length refs → ref_of i ≡ told_ref (get_or refs k t) → new ≡ old ++ i ∷ [] → map ref_of old ≡ map told_ref (take k refs) → map ref_of new ≡ map told_ref (take (k + 1) refs)
-items_more refs k t old new i below is put so_far =
-    let items : map ref_of new ≡ map ref_of old ++ ref_of i ∷ [] = ap (map ref_of) put ∙ map-append ref_of old (i ∷ []) in
-    let told_refs : map told_ref (take (k + 1) refs) ≡ map told_ref (take k refs) ++ told_ref (get_or refs k t) ∷ [] = ap (map told_ref) (take_more refs k t below) ∙ map-append told_ref (take k refs) (get_or refs k t ∷ []) in
-    items ∙ (ap (λ l. l ++ ref_of i ∷ []) so_far ∙ (ap (λ r. map told_ref (take k refs) ++ r ∷ []) is ∙ sym told_refs))
-
 -- one line more
 pub lines_more : {X : Type 0} (line : X → List ℕ) (xs : List X) (k : ℕ) (x : X) (old new : List ℕ) → k < length xs → x ≡ get_or xs k x → new ≡ old ++ line x → old ≡ flat_map line (take k xs) → new ≡ flat_map line (take (k + 1) xs)
 lines_more line xs k x old new below is put so_far =

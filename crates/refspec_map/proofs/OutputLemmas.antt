@@ -24,10 +24,6 @@ Completes op input output refusal rest =
     (lines : List (List ℕ)) (answers : List Answer) → AreLines lines rest → AllZip (IsAnswer op) lines answers
     → IsCanon op input (output ++ flat_map answer_line answers) (refusal || any_refused answers)
 
--- at the start the whole input is the rest
-pub Completes-start : (op : Operation) (input output : List ℕ) → output ≡ [] → Completes op input output false input
-Completes-start op input output empty lines answers split told = record { lines = lines; answers = answers; split = split; told = told; written = ap (λ x. x ++ flat_map answer_line answers) empty; tells = refl }
-
 -- there is no newline in nothing
 nothing_ends : (line rest : List ℕ) → [] ≡ line ++ (newline ∷ rest) → ⊥
 nothing_ends line rest same = omega (arith, ap length same, length-append line (newline ∷ rest))

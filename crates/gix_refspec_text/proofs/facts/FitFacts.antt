@@ -11,7 +11,7 @@ use Rattle.gix_refspec_text.specs.Texts.Bytes.{star}
 use Rattle.gix_refspec_text.specs.Texts.ObjectId.{IsIdText, digits_of}
 use Rattle.gix_refspec_text.specs.Specs.Reading.{Normal, Forced, Negative, Reading}
 use Rattle.gix_refspec_text.specs.Specs.Grammar.{fetched}
-use Rattle.gix_refspec_text.specs.Matching.Side.{pattern, full_name, object, partial, HasKind, Fits, Excludes, the_name, by_pattern, filled}
+use Rattle.gix_refspec_text.specs.Matching.Side.{full_name, object, partial, HasKind, Fits, Excludes, the_name, by_pattern, filled}
 use Rattle.gix_refspec_text.specs.Matching.Match.{Ref}
 use Rattle.gix_refspec_text.proofs.lemmas.hits.MatchLemmas.{split_once, lacks_no_pattern}
 use Rattle.gix_refspec_text.proofs.facts.ManualFacts.{Lacks-tested, other_length, named}

@@ -5,3 +5,4 @@ pub mod EqualLemmas
 pub mod LacksLemmas
 pub mod MapLemmas
 pub mod NumberLemmas
+pub mod OrderLemmas

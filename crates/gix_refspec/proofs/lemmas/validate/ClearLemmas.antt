@@ -13,11 +13,10 @@ use Rattle.gix_refspec_match.specs.Matching.Lists.{IsMadeFrom, IsJoinedFrom}
 use Rattle.gix_refspec_match.specs.Matching.Mappings.{Mapped, IsKeptAt}
 use Rattle.gix_refspec_match.specs.Matching.Hits.{Ends, AreForwardEnds, AreSpecHits, IsFilled, Hit, IsHit, IsIdMapping, AreKeptForward, forward_of}
 use Rattle.gix_refspec_text.proofs.lemmas.texts.TextLemmas.{Lacks-from_indexes}
-use Rattle.gix_refspec_text.proofs.lemmas.texts.ObjectIdLemmas.{IsLowerText-lower_of, decode_of-IsIdText}
+use Rattle.gix_refspec_text.proofs.lemmas.texts.ObjectIdLemmas.{lower_of-digits}
 use Rattle.gix_refspec.proofs.lemmas.validate.AfterLemmas.{stays_each}
 use Rattle.gix_refspec.specs.Laws.Plans.{LacksIn, MappedLacks, NoControlCharacter, SidesLack, SourceLacks}
 use Rattle.gix_refspec.proofs.lemmas.validate.PlacedOnceLemmas.{printed_lacks, sides_lack}
-use Rattle.hex.proofs.HexLemmas.{decode_of-ok}
 use Rattle.gix_refspec_text.proofs.lemmas.lists.AllLemmas.{all_left, all_right, all_join}
 
 -- a hit holds no byte b
@@ -27,8 +26,7 @@ HitLacks b h = Lacks b h.near × LacksIn b h.far
 module _ (b : ℕ) (below : b < 32) (no_digit : is_lower_digit b ≡ false) where
   lower_lacks : (t i : List ℕ) → IsIdText t i → Lacks b (lower_of i)
   lower_lacks t i text =
-      let bytes = (decode_of-ok t i (decode_of-IsIdText t i text)).3 in
-      let lower = (IsLowerText-lower_of text.kind i text.bytes bytes).1 in
+      let lower = lower_of-digits t i text in
       Lacks-from_indexes b (lower_of i) (λ k inside same. false≢true (sym no_digit ∙ ap is_lower_digit (sym (eqb-true (get_or (lower_of i) k 0) b same)) ∙ lower k 0 inside))
 
   high : (c : ℕ) → 32 < c → c ≢ b

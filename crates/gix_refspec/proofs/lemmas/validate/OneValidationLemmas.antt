@@ -17,12 +17,13 @@ use Rattle.gix_refspec_match.specs.Views.Mapping.{mapped_of, name_bytes, IsDesti
 use Rattle.gix_refspec.specs.Views.Group.{readings_of}
 use Rattle.gix_refspec.specs.Matching.Validation.{IsFirstTo, IsTextAt, Conflict, IsConflict, AreConflicts, Survives, Removed, IsFix}
 use Rattle.gix_refspec.specs.Laws.Validation.{ValidateAlike, OneValidation, CopiedOutcome}
-use Rattle.gix_refspec.proofs.lemmas.validate.UpdateLemmas.{not_below_itself, below_trans}
+use Rattle.gix_refspec.proofs.lemmas.validate.UpdateLemmas.{below_trans}
 use Rattle.gix_refspec.proofs.lemmas.validate.ConflictLemmas.{copied_name, copied_source}
 use Rattle.gix_refspec_match.proofs.lemmas.hits.HitLemmas.{same_mapped}
 use Rattle.gix_refspec_match.proofs.lemmas.lists.ListsLemmas.{made_once}
 use Rattle.gix_refspec_match.proofs.lemmas.lists.SomeLemmas.{Any}
 use Rattle.std.proofs.lemmas.Option.{same_Some}
+use Rattle.gix_refspec_text.proofs.lemmas.lists.OrderLemmas.{not_below_itself}
 
 -- ---- conflicts
 

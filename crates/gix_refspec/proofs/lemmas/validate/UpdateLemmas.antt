@@ -35,10 +35,6 @@ pub record AreUpdatesUpto (l : List Mapped) (flags : List Bool) (p : ℕ) (cs : 
 unequal : Less ≡ Equal → ⊥
 unequal same = absurd (cc)
 
--- no text is below itself
-pub not_below_itself : (x : List ℕ) → slice_cmp nat_cmp x x ≡ Less → ⊥
-not_below_itself x less = unequal (sym less ∙ tied_itself nat_list_cmp_total x)
-
 pub below_trans : (x y z : List ℕ) → slice_cmp nat_cmp x y ≡ Less → slice_cmp nat_cmp y z ≡ Less → slice_cmp nat_cmp x z ≡ Less
 below_trans = nat_list_cmp_total.trans
 

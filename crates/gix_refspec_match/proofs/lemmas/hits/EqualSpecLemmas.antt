@@ -15,14 +15,10 @@ use Rattle.gix_refspec_match.specs.Matching.Hits.{Ends, Hit, IsHit, AreHits, Are
 use Rattle.gix_refspec_match.specs.Private.HitViews.{HasEnds, HaveKinds, TakesIn, AreHitsOfKinds, AddsHits, AreIdMappings, AreKept, mapped_of_made, mapping_of}
 use Rattle.gix_refspec_match.specs.Private.Kept.{IsFlagged}
 use Rattle.gix_refspec_match.specs.Private.EqualSpecs.{HaveSameSides, IsEqualAt, FlagsEqual, MayGo, Thins, AddsMost, AddsMostOfKinds, AreMostMade}
-use Rattle.gix_refspec_match.proofs.lemmas.hits.HitLemmas.{spec_hits}
+use Rattle.gix_refspec_match.proofs.lemmas.hits.HitLemmas.{spec_hits, of_hits}
 use Rattle.gix_refspec_match.proofs.lemmas.lists.JoinLemmas.{map_long}
 use Rattle.gix_refspec_match.proofs.lemmas.keep.KeptLemmas.{HasPair-left}
 use Rattle.gix_refspec_match.proofs.lemmas.keep.ThinLemmas.{thins_all, thins_both, kept_thinned}
-
--- what hits make
-abbrev of_hits : Direction → List Hit → List Mapped
-of_hits direction hits = map (mapping_of direction) hits
 
 -- the same hit, by the spec at place k
 abbrev at_spec : ℕ → Hit → Hit

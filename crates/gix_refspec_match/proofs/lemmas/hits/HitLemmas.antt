@@ -538,3 +538,7 @@ one_backward rs items l m a b = kept_once rs a.all b.all l m (backward_once rs i
 pub none_hit : (direction : Direction) (g : List Reading) (items : List Ref) → AreMade direction g items [] → AreHits (HasEnds direction) (TakesIn direction items) g items []
 none_hit Forward g items none = no_forward_hits g items none
 none_hit Backward g items none = no_backward_hits g items none
+
+-- the mappings that hits make
+abbrev pub of_hits : Direction → List Hit → List Mapped
+of_hits direction hits = map (mapping_of direction) hits

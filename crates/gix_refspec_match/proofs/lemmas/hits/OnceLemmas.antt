@@ -18,11 +18,11 @@ use Rattle.gix_refspec_match.specs.Private.EqualSpecs.{AddsMostOfKinds, Thins}
 use Rattle.gix_refspec_match.specs.Private.Index.{ArePlacesFittedTo}
 use Rattle.gix_refspec_match.specs.Private.Kept.{Has, IsFlagged}
 use Rattle.gix_refspec_match.specs.Private.Part.{FlagsRepeated}
-use Rattle.gix_refspec_match.proofs.lemmas.hits.HitLemmas.{matches_as, one_kind, taken_matches}
+use Rattle.gix_refspec_match.proofs.lemmas.hits.HitLemmas.{matches_as, one_kind, taken_matches, of_hits}
 use Rattle.gix_refspec_match.proofs.lemmas.index.FrontHitLemmas.{AreHitsAt, AreIn, HitAt}
 use Rattle.gix_refspec_match.proofs.lemmas.index.PlacedLemmas.{blank}
 use Rattle.gix_refspec_match.proofs.lemmas.index.PlacesLemmas.{IsAt, one_behind}
-use Rattle.gix_refspec_match.proofs.lemmas.keep.PartLemmas.{IsNoId, Known, Missed, hit, known_missed, known_reached, made_cases, missed_none, next, of_hits, ref_named, same_pair, takes_named}
+use Rattle.gix_refspec_match.proofs.lemmas.keep.PartLemmas.{IsNoId, Known, Missed, hit, known_missed, known_reached, made_cases, missed_none, next, ref_named, same_pair, takes_named}
 use Rattle.gix_refspec_match.proofs.lemmas.keep.PartMadeLemmas.{has_before}
 use Rattle.gix_refspec_match.proofs.lemmas.keep.ThinLemmas.{pair_alike}
 

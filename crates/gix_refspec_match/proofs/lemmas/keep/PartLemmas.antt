@@ -141,10 +141,6 @@ moved_hit Backward f h k i p n item at near spec = (let place : f h.item ≡ p =
 pub next : (before : List Ref) (r : Ref) → length before + 1 ≡ length (before ++ r ∷ [])
 next before r = sym (length-append before (r ∷ []))
 
--- the mappings of hits
-abbrev pub of_hits : Direction → List Hit → List Mapped
-of_hits direction hits = map (mapping_of direction) hits
-
 -- from those of the part the hits of a spec among all
 abbrev SpecThins : List Reading → Direction → List Ref → Ends → ℕ → (ℕ → ℕ) → List Ref → List Ref → List Mapped → List Hit → Type 0
 SpecThins g direction all ends k f before refs made some = (hits : List Hit) × IsMadeFrom (IsHit (TakesIn direction all) ends k) (length before) refs hits × Thins g made (of_hits direction hits) (map (moved f) (of_hits direction some))

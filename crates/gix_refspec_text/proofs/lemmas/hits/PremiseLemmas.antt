@@ -1,6 +1,5 @@
 -- What tests of the premises of laws tell.
-use Rattle.std.proofs.Common.{◌≡◌, ◌⊎◌, inl, inr, ◌↔◌, IsTrue, ℕ, zero, suc, ◌+◌, ◌<◌, Bool, Bor, true, false, not, take, List, [], ◌∷◌, ◌++◌, codes, get_or, length, map, refl, sym, ap, ◌∙◌, subst, arith}
-use Rattle.std.specs.List.{AllByRecursion}
+use Rattle.std.proofs.Common.{◌≡◌, ◌⊎◌, inl, inr, ◌↔◌, IsTrue, ℕ, Bool, Bor, true, false, not, List, ◌∷◌, ◌++◌, codes, refl, ap, ◌∙◌, subst}
 use Rattle.std.proofs.lemmas.Bool.{false≢true}
 use Rattle.std.proofs.lemmas.List.{append_assoc}
 use denote.Enum.Bare.{sameb}
@@ -10,12 +9,10 @@ use Rattle.gix_refspec_text.specs.declared.parsing.Operation.TheVariants.{Fetch,
 use Rattle.gix_refspec_text.specs.declared.oid.ObjectId.{ObjectId}
 use Rattle.gix_refspec_text.specs.declared.side.SideKind.{SideKind as DeclaredKind}
 use Rattle.gix_refspec_text.specs.declared.side.SideKind.TheVariants as kind
-use Rattle.gix_refspec_text.specs.declared.spec.RefSpecRef.{RefSpecRef}
 use Rattle.gix_refspec_text.specs.Texts.Words.{BeginsWith}
 use Rattle.gix_refspec_text.specs.Texts.Bytes.{star}
 use Rattle.gix_refspec_text.specs.Texts.Name.{IsSplit}
 use Rattle.gix_refspec_text.specs.Specs.Reading.{Reading}
-use Rattle.gix_refspec_text.specs.Views.Spec.{reading_of}
 use Rattle.gix_refspec_text.specs.Texts.ObjectId.{id_bytes}
 use Rattle.gix_refspec_text.specs.Matching.Side.{HasKind}
 use Rattle.gix_refspec_text.specs.Private.SideViews.{kind_of_side}

@@ -3,7 +3,7 @@ use Rattle.std.proofs.Common.{◌≡◌, ◌≢◌, ◌⊎◌, inl, inr, ℕ, Li
 use Rattle.gix_refspec_text.specs.declared.parsing.Operation.{Operation}
 use Rattle.gix_refspec_text.specs.declared.parsing.Operation.TheVariants.{Push, Fetch}
 use Rattle.gix_refspec_text.specs.Specs.Reading.{Mode, Forced, Negative, Reading}
-use Rattle.gix_refspec_text.specs.Specs.Grammar.{named_by, IsNameOrPattern, AreAlike, AreParts, fetched, pushed, Reads, fetches_nothing_named, fetches_colon, fetches, updates, updates_from_head, fetch_excludes, pushes_plus, pushes_colon, pushes, deletes, pushes_pattern, pushes_to, push_excludes}
+use Rattle.gix_refspec_text.specs.Specs.Grammar.{named_by, AreAlike, AreParts, fetched, pushed, Reads, fetches_nothing_named, fetches_colon, fetches, updates, updates_from_head, fetch_excludes, pushes_plus, pushes_colon, pushes, deletes, pushes_pattern, pushes_to, push_excludes}
 use Rattle.gix_refspec_text.specs.Private.Sides.{side_of, named_or_head}
 use Rattle.gix_refspec_text.proofs.lemmas.parsing.PartsLemmas.{Parted, parts_once}
 use Rattle.gix_refspec_text.proofs.lemmas.parsing.ReadsLemmas.{side_of-named, name_not_empty, pattern_not_empty, either_not_empty}

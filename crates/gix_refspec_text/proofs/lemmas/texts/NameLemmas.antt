@@ -1,5 +1,5 @@
 -- What one pass over the bytes finds, a byte at a time, against the faults of a name.
-use Rattle.std.proofs.Common.{◌≡◌, ◌≢◌, ℕ, List, [], ◌∷◌, ◌++◌, codes, length, take, drop, get_or, ◌==◌, ◌+◌, ◌<◌, ◌≤◌, suc, Option, Some, None, MatchOption, false, true, IsTrue, refl, sym, ap, ◌∙◌, subst, inl, inr, append_assoc, arith, add-one, drop-cons, take-append-drop, Bool, ◌-◌, nat_eq, Decides}
+use Rattle.std.proofs.Common.{◌≡◌, ◌≢◌, ℕ, List, [], ◌∷◌, ◌++◌, codes, length, take, drop, get_or, ◌+◌, ◌<◌, ◌≤◌, suc, Option, Some, None, MatchOption, true, IsTrue, refl, sym, ap, ◌∙◌, subst, inl, inr, append_assoc, arith, add-one, drop-cons, take-append-drop, Bool, ◌-◌, nat_eq, Decides}
 use Rattle.std.specs.List.{ends_with}
 use Rattle.std.proofs.lemmas.Slice.Eq.{ends_is}
 use Rattle.std.proofs.lemmas.Bool.Decides.{Decides-eqb}

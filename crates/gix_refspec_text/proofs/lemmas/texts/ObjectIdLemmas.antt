@@ -1,18 +1,18 @@
 -- Facts on the texts of ids: which texts they are, that each is the text of one id, and that decoding finds it.
-use Rattle.std.proofs.Common.{◌≡◌, ℕ, zero, suc, ◌+◌, ◌-◌, ◌*◌, ◌/◌, ◌%◌, ◌<◌, ◌≤◌, Bool, List, [], ◌∷◌, length, slice_index, slice_set, take, nat_le, nat_lt, ◌&&◌, ◌⊎◌, inl, inr, Option, Some, None, unwrap_or, is_some, true, false, Result, Ok, Err, refl, sym, ap, ◌∙◌, subst, arith}
-use Rattle.std.specs.Prelude.{IsOk, MatchResult}
+use Rattle.std.proofs.Common.{◌≡◌, ℕ, zero, suc, ◌+◌, ◌-◌, ◌*◌, ◌/◌, ◌%◌, ◌<◌, ◌≤◌, Bool, List, [], ◌∷◌, length, slice_index, take, nat_le, nat_lt, ◌&&◌, ◌⊎◌, inl, inr, Option, Some, None, unwrap_or, is_some, true, false, Result, Ok, Err, refl, sym, ap, ◌∙◌, subst, arith, ◌++◌, drop}
+use Rattle.std.specs.Prelude.{IsOk, MatchBool, MatchResult}
 use Rattle.std.specs.List.{AllPass, SomeIndex}
-use Rattle.std.specs.Result.{result_unwrap_or}
+use Rattle.std.specs.Result.{is_err, result_unwrap_or}
 use Rattle.std.specs.Str.{IsAscii, IsUtf8}
 use Rattle.std.proofs.lemmas.Bool.{and_parts, cases_Bool, cases_eq, leb-true, ltb-true, or_cases}
-use Rattle.std.proofs.lemmas.List.{get_or-set_other, get_or-set_same, get_or-take, length-take-le}
+use Rattle.std.proofs.lemmas.List.{length-take-le, take-append-le, take_all}
 use Rattle.std.proofs.lemmas.List.Elements.{All-cons, All-head, All-nil, All-tail, All-weaker}
 use Rattle.std.proofs.lemmas.List.Sums.{AllPass-from_list_all}
 use Rattle.std.proofs.lemmas.Str.{IsUtf8-from_ascii}
 use Rattle.std.proofs.lemmas.Str.Ascii.{IsAscii-from_all}
 use Rattle.hex.specs.Hex.{IsBytes, decode_of, decode_pairs, decode_sized, encode_with, hex_digit_value, is_hex_digit, lower_digits, pair_value}
 use Rattle.hex.specs.declared.error.FromHexError.{FromHexError}
-use Rattle.hex.proofs.HexLemmas.{IsAscii-encode_with, decode_of-ok, decode_of-same, decode_pairs-ok, decode_sized-encode_lower, decode_sized-twice, length-encode_with}
+use Rattle.hex.proofs.HexLemmas.{IsAscii-encode_with, IsOk-decode_sized, decode_of-ok, decode_of-same, decode_pairs-ok, decode_sized-encode_lower, decode_sized-twice, length-encode_with}
 use Rattle.hex.proofs.Pairs.{cons_byte, decode_pairs-ok_pair, decode_sized-pairs}
 use Rattle.gix_refspec_text.specs.declared.oid.Error.{Error}
 use Rattle.gix_refspec_text.specs.declared.oid.Error.TheVariants.{Digit, Length}
@@ -105,13 +105,20 @@ Spells-decode_pairs t i decoded =
 
 -- ---- texts of ids
 
+-- a text as long as an id decodes to as many bytes as an id has
+decoded_long : (kind : Kind) (t i : List ℕ) → length t ≡ digits_of kind → decode_sized t (bytes_of kind) ≡ Ok i → length i ≡ bytes_of kind
+decoded_long kind t i digits decoded =
+    let two = digits_of-twice kind in
+    let pairs = sym (decode_sized-pairs t (bytes_of kind) (omega arith) (omega arith)) ∙ decoded in
+    let len = (decode_pairs-ok 0 t i pairs).1 in
+    omega arith
+
 -- what decodes into room for the bytes of an id is the text of that id
 pub IsIdText-decoded : (kind : Kind) (t i : List ℕ) → length t ≡ digits_of kind → decode_sized t (bytes_of kind) ≡ Ok i → IsIdText t i
 IsIdText-decoded kind t i digits decoded =
     let two = digits_of-twice kind in
     let pairs = sym (decode_sized-pairs t (bytes_of kind) (omega arith) (omega arith)) ∙ decoded in
-    let len = (decode_pairs-ok 0 t i pairs).1 in
-    record { kind = kind; digits = digits; bytes = omega arith; spelled = Spells-decode_pairs t i pairs }
+    record { kind = kind; digits = digits; bytes = decoded_long kind t i digits decoded; spelled = Spells-decode_pairs t i pairs }
 
 -- the text of an id decodes to its bytes
 pub decode_of-IsIdText : (t i : List ℕ) → IsIdText t i → decode_of t ≡ Ok i
@@ -191,23 +198,7 @@ id_or_fault t = elim (length_or_not (length t)) [
   ]
 ]
 
--- ---- bytes that are put into a buffer, one after another
-
--- the digits of t spell the first n bytes of a buffer
-abbrev pub SpellsFirst : ℕ → List ℕ → List ℕ → Type 0
-SpellsFirst n t buffer = (k : ℕ) → k < n → IsSpelledBy (slice_index buffer k) (slice_index t (2 * k)) (slice_index t (2 * k + 1))
-
--- the byte that the next two digits spell is put after those that are there
-pub SpellsFirst-more : (n : ℕ) (t buffer : List ℕ) (x : ℕ) → n < length buffer → SpellsFirst n t buffer
-    → IsSpelledBy x (slice_index t (2 * n)) (slice_index t (2 * n + 1)) → SpellsFirst (n + 1) t (slice_set buffer n x)
-SpellsFirst-more n t buffer x room first spelled k below = elim (cases_eq k n) [
-  | inl same ↦
-      let put : slice_index (slice_set buffer n x) n ≡ x = get_or-set_same buffer n x 0 room in
-      rw (same, put) spelled
-  | inr other ↦
-      let kept : slice_index (slice_set buffer n x) k ≡ slice_index buffer k = get_or-set_other buffer n k x 0 other in
-      rw kept (first k (omega arith))
-]
+-- ---- bytes that are decoded into a buffer
 
 -- a buffer of 32 bytes has room for the bytes of an id
 length-room : (kind : Kind) (buffer : List ℕ) → length buffer ≡ 32 → length (take (bytes_of kind) buffer) ≡ bytes_of kind
@@ -215,37 +206,34 @@ length-room kind buffer room =
     let fits = bytes_of-fits kind in
     length-take-le (bytes_of kind) buffer (omega arith)
 
--- where all digits of a text as long as that of an id are read into a buffer, its first bytes are the id
-pub IsIdText-first : (kind : Kind) (t buffer : List ℕ) → length t ≡ digits_of kind → length buffer ≡ 32
-    → SpellsFirst (bytes_of kind) t buffer → IsIdText t (take (bytes_of kind) buffer)
-IsIdText-first kind t buffer digits room first =
-    let size = length-room kind buffer room in
-    record {
-      kind = kind;
-      digits = digits;
-      bytes = size;
-      spelled = λ k below. rw (get_or-take (bytes_of kind) buffer k 0 (omega arith)) (first k (omega arith));
-    }
+-- a call that decodes fails exactly where the text doesn't decode, and else writes the bytes
+decoded : (d : Result (List ℕ) FromHexError) (r : Result (Unit {0}) FromHexError) (new : List ℕ) → MatchResult d (λ bytes. (r ≡ Ok tt) × (new ≡ bytes)) (λ e. r ≡ Err e) → MatchBool (is_err r) (¬ (IsOk d)) (d ≡ Ok new)
+decoded (Ok bytes) r new (is, same) =
+    let d : Result (List ℕ) FromHexError = Ok bytes in
+    let made : d ≡ Ok new = ap Ok (sym same) in
+    subst (λ x. MatchBool (is_err x) (¬ (IsOk d)) (d ≡ Ok new)) (sym is) made
+decoded (Err e) r new is =
+    let d : Result (List ℕ) FromHexError = Err e in
+    let refused : ¬ (IsOk d) = λ (ok : IsOk d). cc ok in
+    subst (λ x. MatchBool (is_err x) (¬ (IsOk d)) (d ≡ Ok new)) (sym is) refused
 
--- of two bytes that aren't both digits, some is none
-HasFault-either : (t : List ℕ) (k : ℕ) → k + 1 < length t
-    → ¬ ((is_hex_digit (slice_index t k) ≡ true) × (is_hex_digit (slice_index t (k + 1)) ≡ true))
-    → SomeIndex t (λ j. is_hex_digit (slice_index t j) ≡ false)
-HasFault-either t k below fault = elim (cases_Bool (is_hex_digit (slice_index t k))) [
-  | inr high ↦ (k, omega arith, high)
-  | inl digit ↦ elim (cases_Bool (is_hex_digit (slice_index t (k + 1)))) [
-    | inr low ↦ (k + 1, below, low)
-    | inl another ↦ absurd (fault (digit, another))
-  ]
+-- so it reads the id, or finds that some byte is no digit
+reads : (kind : Kind) (t room new : List ℕ) (n : ℕ) (failed : Bool) → n ≡ bytes_of kind → length t ≡ digits_of kind → MatchBool failed (¬ (IsOk (decode_sized t (bytes_of kind)))) (decode_sized t (bytes_of kind) ≡ Ok new) → MatchBool failed (HasIdFault t Digit) (IsIdText t (take (bytes_of kind) (new ++ drop n room)))
+reads kind t room new n true size digits refused = elim (digits_or_not t) [
+  | inl all ↦ absurd (refused ((IsOk-decode_sized t (bytes_of kind)).1 ((let two = digits_of-twice kind in omega arith), all)))
+  | inr index ↦ ((kind, digits), index)
 ]
+reads kind t room new n false size digits made =
+    let text = IsIdText-decoded kind t new digits made in
+    let long : length new ≡ bytes_of kind = decoded_long kind t new digits made in
+    let whole : take (bytes_of kind) (new ++ drop n room) ≡ new = take-append-le (bytes_of kind) new (drop n room) (omega arith) ∙ take_all (bytes_of kind) new (omega arith) in
+    subst (IsIdText t) (sym whole) text
 
--- a text as long as that of an id has a fault where two of its bytes don't spell one
-pub HasFault-pair : (kind : Kind) (t : List ℕ) (k : ℕ) → length t ≡ digits_of kind → k < bytes_of kind
-    → ¬ ((is_hex_digit (slice_index t (2 * k)) ≡ true) × (is_hex_digit (slice_index t (2 * k + 1)) ≡ true))
-    → HasIdFault t Digit
-HasFault-pair kind t k digits below fault =
-    let two = digits_of-twice kind in
-    ((kind, digits), HasFault-either t (2 * k) (omega arith) fault)
+-- an id is read into the first bytes of a buffer
+pub read_id : (kind : Kind) (t room new : List ℕ) (n : ℕ) (r : Result (Unit {0}) FromHexError) → n ≡ bytes_of kind → length room ≡ 32 → length t ≡ digits_of kind → MatchResult (decode_sized t (length (take n room))) (λ bytes. (r ≡ Ok tt) × (new ≡ bytes)) (λ e. r ≡ Err e) → MatchBool (is_err r) (HasIdFault t Digit) (IsIdText t (take (bytes_of kind) (new ++ drop n room)))
+read_id kind t room new n r size fits digits told =
+    let long : length (take n room) ≡ bytes_of kind = ap (λ k. length (take k room)) size ∙ length-room kind room fits in
+    reads kind t room new n (is_err r) size digits (decoded (decode_sized t (bytes_of kind)) r new (subst (λ k. MatchResult (decode_sized t k) (λ bytes. (r ≡ Ok tt) × (new ≡ bytes)) (λ e. r ≡ Err e)) long told))
 
 -- ---- texts in lower case
 
@@ -369,6 +357,12 @@ lower_texts-same (a ∷ b ∷ t) (c ∷ d ∷ u) (x ∷ i) len_t len_u lower_t l
     let first = pair.0 in
     let second = pair.1 in
     cc
+
+-- the digits that an id is printed with are lower-case ones
+pub lower_of-digits : (t i : List ℕ) → IsIdText t i → AllPass is_lower_digit (lower_of i)
+lower_of-digits t i text =
+    let bytes = (decode_of-ok t i (decode_of-IsIdText t i text)).3 in
+    (IsLowerText-lower_of text.kind i text.bytes bytes).1
 
 -- an id has one text in lower case
 pub IsLowerText-unique : (t u i : List ℕ) → IsLowerText t i → IsLowerText u i → t ≡ u

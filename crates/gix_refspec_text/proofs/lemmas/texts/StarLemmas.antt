@@ -5,7 +5,7 @@ use Rattle.std.proofs.lemmas.Bool.{cases_eq, eq-eqb, ne_eqb}
 use Rattle.std.proofs.lemmas.List.Sums.{sum_by-append}
 use Rattle.gix_refspec_text.specs.Texts.Words.{Lacks}
 use Rattle.gix_refspec_text.specs.Texts.Bytes.{star}
-use Rattle.gix_refspec_text.specs.Texts.Name.{HasOneStar, HasStar, HasSeveralStars}
+use Rattle.gix_refspec_text.specs.Texts.Name.{HasOneStar, HasSeveralStars}
 use Rattle.gix_refspec_text.proofs.lemmas.texts.TextLemmas.{split_at}
 
 stars : List ℕ → ℕ

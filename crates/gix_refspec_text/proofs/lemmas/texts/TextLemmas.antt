@@ -1,6 +1,6 @@
 -- Bytes that a text lacks, and texts that are cut at a place.
 use Rattle.std.proofs.Common.{◌≡◌, ◌||◌, MatchBool, inl, inr, nat_eq, ℕ, suc, ◌+◌, ◌-◌, ◌<◌, ◌≤◌, ◌==◌, Bool, true, false, List, [], ◌∷◌, ◌++◌, length, get_or, take, drop, refl, sym, ap, ◌∙◌, subst, arith, eq-eqb, take-append-drop, drop-cons, length-drop}
-use Rattle.std.proofs.lemmas.List.{drop-drop, get_or-drop, get_or-take, length-take-le, take_all}
+use Rattle.std.proofs.lemmas.List.{drop-drop, get_or-drop, take_all}
 use Rattle.std.proofs.lemmas.Bool.{cases_eq, eqb-true, false≢true}
 use Rattle.std.proofs.Math.Numerals.{add-one}
 use Rattle.gix_refspec_text.specs.Texts.Words.{Lacks, ContainsText}
