@@ -1,7 +1,7 @@
 # make help    prints these lines
 # make build   proves and builds the programs, at crates/refspec_map/out/refspec_map and crates/refspec/out/refspec
 # make run     its stored run, compared with what is stored; without proof where no program of these sources is built
-# make test    the gate, and then the scripts of tests/ over what it built
+# make test    tables and lemmas, the gate, and then the scripts of tests/ over what it built
 # make install PREFIX=FOLDER, uninstall: programs, git-refspec, manual pages, completions, and what install-lib puts there
 # make lib     proves and builds the library for C, at out/lib
 # make install-lib PREFIX=FOLDER, uninstall-lib: its header, archive, shared library, .pc and cmake files, below FOLDER
@@ -36,14 +36,14 @@ $(PROGRAM): $(SOURCES) | kit
 	@mkdir -p $(LOGS)
 	@echo "make: proving and building the library and the program: $(FIRST), then less; log: $(LOGS)/build.log" >&2
 	@{ for crate in $(LIBRARY); do (cd $$crate && rt check) || exit; done && (cd $(FOLDER) && rt check && rt run -- canon push); } </dev/null 2>&1 \
-	| tee $(LOGS)/build.log | tools/progress >&2 \
+	| tee $(LOGS)/build.log | tools/progress.sh >&2 \
 	|| { status=$$?; echo "make: not built, as $(LOGS)/build.log says" >&2; exit $$status; }
 	@touch $@
 
 $(PEOPLE_PROGRAM): $(PEOPLE_SOURCES) | kit $(PROGRAM)
 	@mkdir -p $(LOGS)
 	@{ for crate in $(PEOPLE_LIBRARY) $(PEOPLE); do (cd $$crate && rt check) || exit; done && (cd $(PEOPLE) && rt run -- canon main); } </dev/null 2>&1 \
-	| tee $(LOGS)/build-refspec.log | tools/progress >&2 \
+	| tee $(LOGS)/build-refspec.log | tools/progress.sh >&2 \
 	|| { status=$$?; echo "make: not built, as $(LOGS)/build-refspec.log says" >&2; exit $$status; }
 	@touch $@
 
@@ -80,19 +80,21 @@ uninstall: uninstall-lib
 run: kit
 	@mkdir -p $(LOGS)
 	@if [ -x $(PROGRAM) ] && [ -z "$$(find $(SOURCES) -newer $(PROGRAM) -print -quit)" ]; then \
-	    tools/stored $(FOLDER); \
+	    tools/stored.sh $(FOLDER); \
 	else \
 	    echo "make: a quick look without proof, within a minute; make build proves and builds" \
 	        "($(FIRST); log: $(LOGS)/build.log)" >&2; \
-	    tools/stored $(FOLDER) rt try -- 2>$(LOGS)/run.log || { cat $(LOGS)/run.log >&2; exit 1; }; \
+	    tools/stored.sh $(FOLDER) rt try -- 2>$(LOGS)/run.log || { cat $(LOGS)/run.log >&2; exit 1; }; \
 	fi
 
 # The gate leaves the programs, the tests and the library for C that it proved and built, so that build and lib have
 # nothing to do.
 test: kit
-	@tools/gate $(LOGS)
+	@tools/claims.py
+	@tools/lemmas.py
+	@tools/gate.sh $(LOGS)
 	@$(MAKE) --no-print-directory build
-	@tests/run $(PROGRAM) $(TESTS) $(PEOPLE_PROGRAM)
+	@tests/run.sh $(PROGRAM) $(TESTS) $(PEOPLE_PROGRAM)
 	@grep -E '^[0-9]+ passed, 0 failed' $(LOGS)/gate.log | tail -n 1
 
 # The library for C: the archive, the shared library, and what pkg-config and cmake read of them. LIBDIR is the folder below
@@ -110,14 +112,14 @@ SHARED := libgix_refspec.so
 C_VERSION := $(shell sed -n 's/^.define GIX_REFSPEC_VERSION "\(.*\)"/\1/p' $(HEADER))
 # What a program asks for: major and minor version, as before 1.0 every new minor version may break callers.
 SONAME := $(SHARED).$(basename $(C_VERSION))
-C_SOURCES := crates.txt tools/archive $(shell find $(LIBRARY) $(C_LIBRARY) \( -name out -o -name must-fail \) -prune -o -type f -print)
+C_SOURCES := crates.txt tools/archive.sh $(shell find $(LIBRARY) $(C_LIBRARY) \( -name out -o -name must-fail \) -prune -o -type f -print)
 
 lib: $(ARCHIVE)
 
 $(ARCHIVE): $(C_SOURCES) | kit
 	@mkdir -p $(LIB)
 	@(cd $(C_LIBRARY) && rt lib) </dev/null >$(LOGS)/lib.log 2>&1 || { cat $(LOGS)/lib.log >&2; exit 1; }
-	@tools/archive $(LIB) $(SONAME)
+	@tools/archive.sh $(LIB) $(SONAME)
 
 CMAKE_FOLDER = $(TO)/$(LIBDIR)/cmake/gix_refspec
 FILLED = sed -e 's|@PREFIX@|$(PC_PREFIX)|' -e 's|@LIBDIR@|$(LIBDIR)|' -e 's|@VERSION@|$(C_VERSION)|' -e 's|@SONAME@|$(SONAME)|'
@@ -141,7 +143,7 @@ uninstall-lib:
 	@rm -rf $(CMAKE_FOLDER) $(TO)/share/doc/gix_refspec
 
 test-bindings: kit
-	@tests/bindings
+	@tests/bindings.sh
 
 # Packages, each the same bytes at each run: the times in them are SOURCE_DATE_EPOCH, or that of the last commit.
 .PHONY: dist test-dist
@@ -150,7 +152,7 @@ DIST ?= $(LOGS)/dist
 SOURCE_DATE_EPOCH ?= $(shell git log -1 --format=%ct 2>/dev/null || echo 0)
 
 dist: build lib
-	@SOURCE_DATE_EPOCH=$(SOURCE_DATE_EPOCH) tools/dist $(DIST) $(VERSION) $(C_VERSION) $(SONAME)
+	@SOURCE_DATE_EPOCH=$(SOURCE_DATE_EPOCH) tools/dist.sh $(DIST) $(VERSION) $(C_VERSION) $(SONAME)
 
 test-dist: dist
 	@tests/packages.sh $(DIST)

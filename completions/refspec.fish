@@ -1,4 +1,4 @@
-# Completion of refspec, for fish. Made by tools/completions from the pages of help.
+# Completion of refspec, for fish. Made by tools/completions.py from the pages of help.
 
 complete -c refspec -f
 complete -c refspec -n '__fish_use_subcommand' -s h -l help -d 'Print help'

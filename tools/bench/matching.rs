@@ -1,5 +1,5 @@
 //! Times parsing, matching and validation in this process: the library, behind the archive of
-//! `gix_refspec_bench`, and the original crate, in turns on the same specs and names. `tools/bench/bench`
+//! `gix_refspec_bench`, and the original crate, in turns on the same specs and names. `tools/bench/bench.py`
 //! builds it, and once more with `--cfg counting`, to count memory instead.
 //!
 //!     matching WORK SPECS NAMES TIMES RUNS

@@ -1,4 +1,4 @@
-"""Lists of fetch specs, and refs to fetch or to track with them, by a given chooser: for tools/oracle/compare-git.
+"""Lists of fetch specs, and refs to fetch or to track with them, by a given chooser: for tools/oracle/compare-git.py.
 
 The names share words, so that a partial name may stand for several refs.
 """

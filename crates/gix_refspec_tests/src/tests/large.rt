@@ -1,4 +1,4 @@
-//! Thousands of names at once, for which `tests/large` gives little time and memory.
+//! Thousands of names at once, for which `tests/large.py` gives little time and memory.
 
 use super::mapping::{TARGET, item_of};
 use bstr::BStr;

@@ -1,5 +1,5 @@
 #!/usr/bin/env python3
-"""Fails one read or one write of a program: tests/devices PROGRAM
+"""Fails one read or one write of a program: tests/devices.py PROGRAM
 
 A small input takes two reads, of which the second finds its end, and an output one write. After a read that
 fails nothing more is read, and after a write that fails just the fault is written. After an answer the program
@@ -36,7 +36,7 @@ def check(program, library, case, failing, wanted):
     ended, told = runs.run_with(library, [program, *words.split()], failing, input=given)
     made = ended.stdout, ended.returncode, told.decode()
     if made != wanted:
-        sys.exit(f"tests/devices: {words} of {given!r}, {failing or 'nothing fails'}: {made}, not {wanted}")
+        sys.exit(f"tests/devices.py: {words} of {given!r}, {failing or 'nothing fails'}: {made}, not {wanted}")
 
 
 def check_run(program, library, case):

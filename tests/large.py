@@ -1,5 +1,5 @@
 #!/usr/bin/env python3
-"""Runs the tests of large groups within bounds: tests/large TESTS
+"""Runs the tests of large groups within bounds: tests/large.py TESTS
 
 TESTS is the built tests of gix_refspec_tests. Each of tests::large has some three times the memory that it takes, and some
 twenty times the processor time.
@@ -27,7 +27,7 @@ def main():
         made = subprocess.run([tests, f"tests::large::{name}"], stdout=subprocess.PIPE, stderr=subprocess.STDOUT,
                               preexec_fn=lambda: bounds(room), check=False)
         if made.returncode != 0:
-            sys.exit(f"tests/large: {name}: status {made.returncode}: {made.stdout.decode(errors='replace')}")
+            sys.exit(f"tests/large.py: {name}: status {made.returncode}: {made.stdout.decode(errors='replace')}")
     print("large: " + ", ".join(f"{name} in {room} MB" for name, room in TESTS) + f", in {SECONDS} seconds each")
 
 

@@ -1,5 +1,5 @@
 #!/usr/bin/env python3
-"""Runs a program on inputs up to the limit: tests/stack PROGRAM
+"""Runs a program on inputs up to the limit: tests/stack.py PROGRAM
 
 Each run has a stack of 64 kB, 64 MB of memory, some three times what the largest one needs, and 4 seconds of
 processor time, some ten times what the longest one takes.
@@ -96,7 +96,7 @@ def main():
         made = subprocess.run([program, *words.split()], input=text, stdout=subprocess.PIPE,
                               env={}, preexec_fn=bounds, check=False)
         if (made.stdout, made.returncode) != (answer, status):
-            sys.exit(f"tests/stack: {words}, {what}: status {made.returncode},"
+            sys.exit(f"tests/stack.py: {words}, {what}: status {made.returncode},"
                      f" {len(made.stdout)} bytes {made.stdout[:60]!r}")
     print(f"stack: {len(CASES)} inputs of up to {LIMIT} bytes, answered with a stack of {STACK} bytes, in {ROOM >> 20} MB and"
           f" less than {SECONDS} seconds each")

@@ -1,7 +1,7 @@
 #!/usr/bin/env python3
-"""Compares the completions of refspec with its pages of help: tests/completions PROGRAM
+"""Compares the completions of refspec with its pages of help: tests/completions.py PROGRAM
 
-Bash is asked for each command; the files for zsh and fish have to be those that tools/completions makes, and those shells
+Bash is asked for each command; the files for zsh and fish have to be those that tools/completions.py makes, and those shells
 are asked for some words. Says which shells it leaves out, as they aren't there.
 """
 import os
@@ -119,7 +119,7 @@ def main():
     if len(sys.argv) != 2:
         sys.exit(__doc__)
     program, left_out = os.path.abspath(sys.argv[1]), []
-    if subprocess.run([os.path.join(HERE, os.pardir, "tools", "completions"), program, "--check"], check=False).returncode:
+    if subprocess.run([os.path.join(HERE, os.pardir, "tools", "completions.py"), program, "--check"], check=False).returncode:
         sys.exit(1)
     count = check_bash(program)
     check_git_refspec(program)

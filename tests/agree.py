@@ -1,5 +1,5 @@
 #!/usr/bin/env python3
-"""Matches random groups both ways over a program: tests/agree PROGRAM
+"""Matches random groups both ways over a program: tests/agree.py PROGRAM
 
 Each spec of two sides has two patterns, or two sides that begin refs/. So of the names on the left and
 on the right, `lhs` over the left ones and `rhs` over the right ones have to map the same pairs. The groups
@@ -52,7 +52,7 @@ def mapped(program, command, specs, refs):
     made = subprocess.run([program, command], input=text, stdout=subprocess.PIPE, check=False)
     fields = [line.split(b"\t")[3:] for line in made.stdout.splitlines()]
     if made.returncode != 0:
-        sys.exit(f"tests/agree: {command}: status {made.returncode}, {made.stdout!r} for {text!r}")
+        sys.exit(f"tests/agree.py: {command}: status {made.returncode}, {made.stdout!r} for {text!r}")
     return {tuple(pair) for pair in fields}
 
 
@@ -61,7 +61,7 @@ def check_group(program, specs, left, right):
     forward = {pair for pair in mapped(program, "lhs", specs, left) if pair[1:] and pair[1] in right}
     backward = {pair for pair in mapped(program, "rhs", specs, right) if pair[0] in left}
     if forward != backward:
-        sys.exit(f"tests/agree: {specs} with {left} and {right}: only lhs maps {forward - backward}, only rhs"
+        sys.exit(f"tests/agree.py: {specs} with {left} and {right}: only lhs maps {forward - backward}, only rhs"
                  f" {backward - forward}")
     return len(forward)
 
@@ -69,7 +69,7 @@ def check_group(program, specs, left, right):
 def check_other(program):
     specs, left, right, forward, backward = OTHER
     if (mapped(program, "lhs", specs, left), mapped(program, "rhs", specs, right)) != (forward, backward):
-        sys.exit(f"tests/agree: {specs} with {left} and {right} isn't mapped as stored")
+        sys.exit(f"tests/agree.py: {specs} with {left} and {right} isn't mapped as stored")
 
 
 def main():
@@ -85,7 +85,7 @@ def main():
         right = names(random_, [side[1] for side in sides if side[1:]])
         counts.append(check_group(program, specs, left, right))
     if 2 * counts.count(0) > GROUPS:
-        sys.exit(f"tests/agree: {counts.count(0)} groups of {GROUPS} map nothing between their names")
+        sys.exit(f"tests/agree.py: {counts.count(0)} groups of {GROUPS} map nothing between their names")
     check_other(program)
     print(f"agree: {sum(counts)} pairs of {GROUPS} groups, the same both ways, and a stored group where they differ")
 

@@ -1,6 +1,6 @@
 #!/usr/bin/env python3
 """Runs the examples of README.md, each in a folder of its own, and compares what they print:
-tests/readme PROGRAM REFSPEC
+tests/readme.py PROGRAM REFSPEC
 
 PROGRAM is the built program refspec_map, and REFSPEC the built program refspec. The program in Rattle is run without
 proof, over a copy of the library; the lines of C, Rust and Python over out/lib, as `make lib` leaves it. Says what it
@@ -55,20 +55,20 @@ def blocks(text, language, start=""):
 def block(text, language, start=""):
     found = blocks(text, language, start)
     if len(found) != 1:
-        sys.exit(f"tests/readme: {len(found)} blocks of {language} begin {start!r}")
+        sys.exit(f"tests/readme.py: {len(found)} blocks of {language} begin {start!r}")
     return found[0]
 
 
 def compare(name, made, wanted):
     if made != wanted:
-        sys.exit(f"tests/readme: {name}\nprinted:\n{made}in README.md:\n{wanted}")
+        sys.exit(f"tests/readme.py: {name}\nprinted:\n{made}in README.md:\n{wanted}")
 
 
 def run(words, folder, name, **more):
     """Runs a command that has to end well, and gives what it printed."""
     made = subprocess.run(words, cwd=folder, text=True, capture_output=True, check=False, **more)
     if made.returncode:
-        sys.exit(f"tests/readme: {name}: status {made.returncode}:\n{made.stdout}{made.stderr}")
+        sys.exit(f"tests/readme.py: {name}: status {made.returncode}:\n{made.stdout}{made.stderr}")
     return made.stdout
 
 

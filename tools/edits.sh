@@ -1,8 +1,8 @@
 #!/bin/bash
-# Tries some must-fail edits of a crate, in a copy of the repository: tools/edits CRATE NAME..
+# Tries some must-fail edits of a crate, in a copy of the repository: tools/edits.sh CRATE NAME..
 # NAME is what a file of must-fail/ begins with: a module, as `name.`, or more of it.
 set -eu
-usage="usage: tools/edits CRATE NAME.."
+usage="usage: tools/edits.sh CRATE NAME.."
 crate=${1:?$usage}
 shift
 [ $# -gt 0 ] || { echo "$usage" >&2; exit 2; }

@@ -1,13 +1,13 @@
 #!/bin/bash
-# Makes the archive and the shared library of gix_refspec_c from what `rt lib` built: tools/archive FOLDER SONAME
+# Makes the archive and the shared library of gix_refspec_c from what `rt lib` built: tools/archive.sh FOLDER SONAME
 #
 # Into FOLDER go libgix_refspec.a, of one object whose only global names are those of the header, and
 # libgix_refspec.so, which programs ask for by SONAME. The toolchain's calls of malloc, realloc and free are in it,
 # under local names. The shared library names the processors that it is for, so that the loader refuses others.
 set -eu -o pipefail
 here=$(cd "$(dirname "${BASH_SOURCE[0]}")/.." && pwd)
-folder=${1:?usage: tools/archive FOLDER SONAME}
-soname=${2:?usage: tools/archive FOLDER SONAME}
+folder=${1:?usage: tools/archive.sh FOLDER SONAME}
+soname=${2:?usage: tools/archive.sh FOLDER SONAME}
 kit=$(dirname "$(rt doc)")
 made=$(mktemp -d)
 trap 'rm -rf "$made"' EXIT

@@ -1,12 +1,12 @@
 #!/bin/bash
 # Runs rt ci, and beside it builds the library for C in a copy, as rt ci keeps nothing that rt lib may use:
-# tools/gate LOGS
+# tools/gate.sh LOGS
 #
 # rt ci begins what its own estimate of memory allows, which is some three times what a check takes. Where there are 5 GB
 # for each processor it is told to use them all.
 set -eu -o pipefail
 cd "$(dirname "${BASH_SOURCE[0]}")/.."
-logs=${1:?usage: tools/gate LOGS}
+logs=${1:?usage: tools/gate.sh LOGS}
 mkdir -p "$logs"
 
 processors=$(nproc)

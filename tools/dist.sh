@@ -1,12 +1,12 @@
 #!/bin/bash
-# Makes the packages of what was proved and built: tools/dist FOLDER VERSION C_VERSION SONAME
+# Makes the packages of what was proved and built: tools/dist.sh FOLDER VERSION C_VERSION SONAME
 #
 # Into FOLDER go an archive for any Linux, three packages for Debian, a wheel for Python and the crates in Rust. `make install`
 # says what is in them. SOURCE_DATE_EPOCH is the time of each file, so that two runs make the same bytes. Says what it leaves
 # out for want of a tool.
 set -eu -o pipefail
 cd "$(dirname "${BASH_SOURCE[0]}")/.."
-usage="usage: tools/dist FOLDER VERSION C_VERSION SONAME"
+usage="usage: tools/dist.sh FOLDER VERSION C_VERSION SONAME"
 folder=${1:?$usage} version=${2:?$usage} c_version=${3:?$usage} soname=${4:?$usage}
 export SOURCE_DATE_EPOCH=${SOURCE_DATE_EPOCH:?} LC_ALL=C TZ=UTC
 umask 022

@@ -1,5 +1,5 @@
 #!/usr/bin/env python3
-"""Holds each JSON line of samples/refspec.sample against docs/refspec.schema.json: tests/schema
+"""Holds each JSON line of samples/refspec.sample against docs/refspec.schema.json: tests/schema.py
 
 Knows the words of JSON Schema that the file has, and refuses others. Each kind of object has to occur.
 """

@@ -1,6 +1,6 @@
 #!/usr/bin/env python3
 """Runs a program with words that name no command, and with inputs and outputs that fail:
-tests/words PROGRAM
+tests/words.py PROGRAM
 """
 import os
 import subprocess
@@ -54,7 +54,7 @@ OUTPUTS = [
 
 
 def fail(words, what, made):
-    sys.exit(f"tests/words: words {words}, {what}: status {made.returncode}, output {(made.stdout or b'')[:60]!r}")
+    sys.exit(f"tests/words.py: words {words}, {what}: status {made.returncode}, output {(made.stdout or b'')[:60]!r}")
 
 
 def check_others(program):

@@ -1,5 +1,5 @@
 #!/usr/bin/env python3
-"""Times a program and the original on hostile inputs: tools/bench/limits PROGRAM ORIGINAL [--colliding FILE] [--rows TEXT]
+"""Times a program and the original on hostile inputs: tools/bench/limits.py PROGRAM ORIGINAL [--colliding FILE] [--rows TEXT]
 
 For each input up to the program's limit it prints our processor time, its ratio to the original's, and the peak of
 our memory for each byte of the input; at the end the greatest of each. The shortest of seven runs counts. An original

@@ -1,6 +1,6 @@
 #!/bin/bash
 # Builds the original crate behind the commands of refspec_map, as README.md beside this script says:
-#   tools/oracle/build SOURCE FOLDER [--stand-ins]
+#   tools/oracle/build.sh SOURCE FOLDER [--stand-ins]
 set -euo pipefail
 here=$(cd "$(dirname "$0")" && pwd)
 registry=/usr/share/cargo/registry # of Debian's packages
@@ -10,7 +10,7 @@ fail() {
     exit 1
 }
 
-[ $# -ge 2 ] || fail "usage: tools/oracle/build SOURCE FOLDER [--stand-ins]"
+[ $# -ge 2 ] || fail "usage: tools/oracle/build.sh SOURCE FOLDER [--stand-ins]"
 [ -e "$1/src/lib.rs" ] || fail "no source of gix-refspec in $1: it has no src/lib.rs"
 command -v cargo >/dev/null || fail "the command cargo is missing"
 source=$(cd "$1" && pwd)

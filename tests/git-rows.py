@@ -1,5 +1,5 @@
 #!/usr/bin/env python3
-"""Tries the rows of docs/GIT.md that tests/git doesn't, each with the input of the row: tests/git-rows [PROGRAM]
+"""Tries the rows of docs/GIT.md that tests/git.py doesn't, each with the input of the row: tests/git-rows.py [PROGRAM]
 
 PROGRAM is the built refspec_map, which has to answer as the row says, and so has the Git on the PATH. Left out where
 there is none. Without PROGRAM only the rows that speak of Git alone are tried.
@@ -19,7 +19,7 @@ TRACKING = "+refs/heads/*:refs/remotes/origin/*"
 
 def expect(row, seen, wanted):
     if seen != wanted:
-        sys.exit(f"tests/git-rows: {row}: {seen!r}, and not {wanted!r}")
+        sys.exit(f"tests/git-rows.py: {row}: {seen!r}, and not {wanted!r}")
 
 
 class Tried:
@@ -39,7 +39,7 @@ class Tried:
     def git(self, folder, *words):
         made = self.run(["git", *words], folder)
         if made.returncode:
-            sys.exit(f"tests/git-rows: git {words}: {made.stderr!r}")
+            sys.exit(f"tests/git-rows.py: git {words}: {made.stderr!r}")
         return made.stdout.decode().strip()
 
     def repository(self, *words, commit=False):

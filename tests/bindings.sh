@@ -1,5 +1,5 @@
 #!/bin/bash
-# Builds the archive of gix_refspec_c and tests it from C, Rust and Python: tests/bindings
+# Builds the archive of gix_refspec_c and tests it from C, Rust and Python: tests/bindings.sh
 #
 # Says what it leaves out where there is no gcc or no cargo.
 set -eu -o pipefail

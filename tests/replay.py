@@ -1,5 +1,5 @@
 #!/usr/bin/env python3
-"""Replays stored answers over a program: tests/replay PROGRAM
+"""Replays stored answers over a program: tests/replay.py PROGRAM
 
 They are the original's, and where it is known to answer otherwise, this program's own. Each text of
 canon.sample is given alone, and those of an operation together. The groups of lhs.sample, of rhs.sample
@@ -55,11 +55,11 @@ def replay(program, operation, cases, what):
     given = made.stdout.split(b"\n")
     for case, answer in zip(cases, given):
         if case[3] != answer:
-            sys.exit(f"tests/replay: line {case[0]} of canon.sample, {what}: {case[2]!r} is answered {answer!r},"
+            sys.exit(f"tests/replay.py: line {case[0]} of canon.sample, {what}: {case[2]!r} is answered {answer!r},"
                      f" not {case[3]!r}")
     status = int(any(case[3].startswith(b"err ") for case in cases))
     if len(given) != len(cases) + 1 or given[-1] != b"" or made.returncode != status:
-        sys.exit(f"tests/replay: {what}, from line {cases[0][0]} of canon.sample: {len(given) - 1} answers to"
+        sys.exit(f"tests/replay.py: {what}, from line {cases[0][0]} of canon.sample: {len(given) - 1} answers to"
                  f" {len(cases)} texts, status {made.returncode} and not {status}")
 
 
@@ -68,7 +68,7 @@ def replay_texts(program):
     for operation in ("fetch", "push"):
         alike = [case for case in cases if case[1] == operation]
         if not alike:
-            sys.exit(f"tests/replay: canon.sample has no text for {operation}")
+            sys.exit(f"tests/replay.py: canon.sample has no text for {operation}")
         replay(program, operation, alike, "all together")
         for case in alike:
             replay(program, operation, [case], "alone")
@@ -79,11 +79,11 @@ def replay_groups(program, command):
     name = f"{command}.sample"
     groups = stored_groups(name)
     if not groups:
-        sys.exit(f"tests/replay: {name} has no group")
+        sys.exit(f"tests/replay.py: {name} has no group")
     for number, given, answer, _ in groups:
         made = subprocess.run([program, command], input=given, stdout=subprocess.PIPE, check=False)
         if (made.stdout, made.returncode) != (answer, int(answer.startswith((b"line ", b"conflict\t")))):
-            sys.exit(f"tests/replay: the group behind line {number} of {name}: status {made.returncode},"
+            sys.exit(f"tests/replay.py: the group behind line {number} of {name}: status {made.returncode},"
                      f" {made.stdout!r}, not {answer!r}")
     say(f"groups for {command}, answered as stored", groups)
 

@@ -1,7 +1,7 @@
 #!/usr/bin/env python3
 """Gives random bytes and mutations of good inputs to all five commands of a program, until something is wrong:
 
-    tools/oracle/fuzz PROGRAM [ORIGINAL] [--inputs N] [--seed S] [--jobs J] [--keep FOLDER]
+    tools/oracle/fuzz.py PROGRAM [ORIGINAL] [--inputs N] [--seed S] [--jobs J] [--keep FOLDER]
 
 Six inputs in ten are texts. Each is given to both canon commands, with others in one process. The rest are groups
 of specs and refs. Each is given to `lhs`, `rhs` and `plan`, in a process of its own. ORIGINAL is the original

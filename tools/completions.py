@@ -1,5 +1,5 @@
 #!/usr/bin/env python3
-"""Makes the completions for zsh and fish from the program's pages of help: tools/completions PROGRAM [--check]
+"""Makes the completions for zsh and fish from the program's pages of help: tools/completions.py PROGRAM [--check]
 
 Writes completions/_refspec and completions/refspec.fish, or with --check says which of them isn't what it would write.
 """
@@ -12,7 +12,7 @@ FOLDER = os.path.join(os.path.dirname(os.path.abspath(__file__)), os.pardir, "co
 COMMAND = re.compile(r"^  ([a-z][a-z-]*) {2,}(.*)$")
 OPTION = re.compile(r"^ {2,6}(?:(-\w)(?:, )?)?(--[a-z][a-z-]*)?(?: <(\w+)>)? {2,}(.*)$")
 REFS = "git for-each-ref --format='%(refname)' refs/remotes 2>/dev/null"
-HEAD = "Made by tools/completions from the pages of help"
+HEAD = "Made by tools/completions.py from the pages of help"
 
 
 def page(program, *words):
@@ -96,7 +96,7 @@ def main():
         else:
             with open(path, encoding="utf-8") as file:
                 if file.read() != text:
-                    status = f"completions/{name} isn't what the pages of help say: run tools/completions PROGRAM"
+                    status = f"completions/{name} isn't what the pages of help say: run tools/completions.py PROGRAM"
                     print(status, file=sys.stderr)
     return 1 if status else 0
 

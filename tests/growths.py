@@ -1,5 +1,5 @@
 #!/usr/bin/env python3
-"""Refuses each growth of the library's calls in turn: tests/growths TESTS
+"""Refuses each growth of the library's calls in turn: tests/growths.py TESTS
 
 TESTS is the built tests of gix_refspec_tests. A test of tests::growths makes a call between two marks, and fails
 where the call answers or leaves anything else than it should. It prints `answered` or `refused`. Here the first
@@ -58,7 +58,7 @@ def growths(tests, library, name, later):
         says = [word for word in (b"answered", b"refused") if word in made.stdout.split()]
         if made.returncode != 0 or len(says) != 1 or says == [b"refused"] and not refused:
             kind = "and all later ones" if later else "alone"
-            sys.exit(f"tests/growths: {name}, growth {call} {kind} refused: {made.stdout.decode(errors='replace')}")
+            sys.exit(f"tests/growths.py: {name}, growth {call} {kind} refused: {made.stdout.decode(errors='replace')}")
         if not refused:
             return call - 1, ended
         ended += says == [b"refused"]
@@ -69,7 +69,7 @@ def check(tests, library, name, least, ends):
     counts = [growths(tests, library, name, later) for later in (False, True)]
     for count, ended in counts:
         if count < least or ends != (ended > 0):
-            sys.exit(f"tests/growths: {name}: {count} growths were refused, and {ended} of these ended the call;"
+            sys.exit(f"tests/growths.py: {name}: {count} growths were refused, and {ended} of these ended the call;"
                      f" {least} are expected at the least")
     return counts[0][0]
 
@@ -84,7 +84,7 @@ def main():
         for name in NO_GROWTH:
             told.append((name, check(tests, library, name, 0, False)))
             if told[-1][1] != 0:
-                sys.exit(f"tests/growths: {name} asks for {told[-1][1]} growths")
+                sys.exit(f"tests/growths.py: {name} asks for {told[-1][1]} growths")
     print("growths: " + ", ".join(f"{count} of {name.partition('::')[2]}" for name, count in told))
 
 

@@ -1,5 +1,5 @@
 #!/usr/bin/env python3
-"""Tries `git refspec`: tests/git-refspec [--record] PROGRAM
+"""Tries `git refspec`: tests/git-refspec.py [--record] PROGRAM
 
 Replays the calls of samples/git-refspec.sample in repositories that are made here, each in a UTF-8 locale and in C. Compares
 what `git refspec plan` says with what `git fetch --dry-run` and `git fetch` do. Runs the synopses and the examples of the
@@ -41,7 +41,7 @@ USUAL = re.compile(rb"^refs/(heads|tags|remotes)/")
 
 
 def fail(what):
-    sys.exit(f"tests/git-refspec: {what}")
+    sys.exit(f"tests/git-refspec.py: {what}")
 
 
 def environment(program, locale="C"):

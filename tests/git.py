@@ -1,5 +1,5 @@
 #!/usr/bin/env python3
-"""Gives the stored lists of git.sample to git and to a program: tests/git PROGRAM
+"""Gives the stored lists of git.sample to git and to a program: tests/git.py PROGRAM
 
 The program has to answer what is stored, and git has to fetch or to track what that says. Where git is known to do
 otherwise, it may also do what is stored. Without a git on the PATH nothing is compared.
@@ -40,14 +40,14 @@ def read_given(store, stored):
     names = [line.split(b" ")[-1] for line in lines]
     refs = store.refs(names, [name for name, line in zip(names, lines) if line.startswith(b"tag ")])
     if gitfetch.lines_of([], refs) != lines:
-        sys.exit(f"tests/git: the list at line {stored.number} of git.sample: git has other ids, {refs}")
+        sys.exit(f"tests/git.py: the list at line {stored.number} of git.sample: git has other ids, {refs}")
     return specs, refs
 
 
 def check_program(program, stored, specs, refs):
     lines = gitfetch.answered(program, stored.command, specs, refs)
     if lines != stored.answer:
-        sys.exit(f"tests/git: the list at line {stored.number} of git.sample: {lines}, not {stored.answer}")
+        sys.exit(f"tests/git.py: the list at line {stored.number} of git.sample: {lines}, not {stored.answer}")
 
 
 def check_git(store, stored, specs, refs):
@@ -61,7 +61,7 @@ def check_git(store, stored, specs, refs):
         done = gitfetch.source_lines(sources, refs)
         alike = sources == gitfetch.first_sources(stored.answer, refs)
     if not alike and (not stored.kinds or done != stored.done):
-        sys.exit(f"tests/git: the list at line {stored.number} of git.sample: git did {done}, which isn't what"
+        sys.exit(f"tests/git.py: the list at line {stored.number} of git.sample: git did {done}, which isn't what"
                  f" {stored.command} says, {stored.answer}, nor what is stored, {stored.done}")
     return alike
 
@@ -81,7 +81,7 @@ def main():
             check_program(program, stored, specs, refs)
             alike[stored.command] += check_git(store, stored, specs, refs)
     if not (alike["plan"] and alike["rhs"]):
-        sys.exit("tests/git: git.sample has no list that git fetches, or none that it tracks, as is answered")
+        sys.exit("tests/git.py: git.sample has no list that git fetches, or none that it tracks, as is answered")
     print(f"git: {len(lists)} stored lists: {alike['plan']} fetched by git as plan says, {alike['rhs']} tracked as"
           f" rhs says, and {len(lists) - alike['plan'] - alike['rhs']} otherwise in known ways")
 

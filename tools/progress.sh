@@ -1,6 +1,6 @@
 #!/bin/bash
 # Of what `rt check` prints, passes on the lines that say how far it is, at most one every five seconds:
-# rt check | tools/progress
+# rt check | tools/progress.sh
 set -u
 next=0
 while IFS= read -r line; do

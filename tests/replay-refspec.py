@@ -1,5 +1,5 @@
 #!/usr/bin/env python3
-"""Replays the runs of refspec.sample over the program refspec: tests/replay-refspec [--record] PROGRAM
+"""Replays the runs of refspec.sample over the program refspec: tests/replay-refspec.py [--record] PROGRAM
 
 With --record the answers of the program are put into the sample, to be read before they are committed.
 """
@@ -74,7 +74,7 @@ def compare(runs, answers):
     if others:
         lines, made = others[0]
         first = b"\n".join([*lines, b"", b"Now it is answered:", *made]).decode()
-        sys.exit(f"tests/replay-refspec: {len(others)} of {len(runs)} runs are answered otherwise; the first:\n{first}")
+        sys.exit(f"tests/replay-refspec.py: {len(others)} of {len(runs)} runs are answered otherwise; the first:\n{first}")
 
 
 def main():

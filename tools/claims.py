@@ -1,5 +1,5 @@
 #!/usr/bin/env python3
-"""Checks the tables of docs/CLAIMS.md against the crates: tools/claims
+"""Checks the tables of docs/CLAIMS.md against the crates: tools/claims.py
 
 Each function, clause, wrong body and test that they name has to exist, and each must-fail edit has to be named.
 """

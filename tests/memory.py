@@ -1,5 +1,5 @@
 #!/usr/bin/env python3
-"""Refuses each growth of a program in turn: tests/memory PROGRAM
+"""Refuses each growth of a program in turn: tests/memory.py PROGRAM
 
 Each run ends in its whole answer, or in the line `out of memory` with status 3. The runs of an
 input end with the first that asks for no more growths than were granted.
@@ -92,7 +92,7 @@ CASES = [
 def fail(case, call, later, what):
     words, text, *_ = CASES[case]
     kind = "and all later ones" if later else "alone"
-    sys.exit(f"tests/memory: case {case}, {words} of {len(text)} bytes {text[:20]!r}..,"
+    sys.exit(f"tests/memory.py: case {case}, {words} of {len(text)} bytes {text[:20]!r}..,"
              f" call {call} {kind} refused: {what}")
 
 

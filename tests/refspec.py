@@ -1,8 +1,8 @@
 #!/usr/bin/env python3
 """Runs the program refspec where no stored run can: inputs, outputs and memory that fail, the line that sums a plan up on a
-terminal, the options of its manual page, and its time: tests/refspec PROGRAM
+terminal, the options of its manual page, and its time: tests/refspec.py PROGRAM
 
-All else is in tests/samples/refspec.sample, which tests/replay-refspec replays.
+All else is in tests/samples/refspec.sample, which tests/replay-refspec.py replays.
 """
 import os
 import pty
@@ -45,7 +45,7 @@ GROWING = [
 def expect(made, words, what, message=None, status=3):
     """The run has the status, and says only the message, or nothing where that can't be written."""
     if made.returncode != status or made.stdout or made.stderr != message:
-        sys.exit(f"tests/refspec: {words}: {what}: status {made.returncode}, output {made.stdout!r},"
+        sys.exit(f"tests/refspec.py: {words}: {what}: status {made.returncode}, output {made.stdout!r},"
                  f" messages {made.stderr!r}")
 
 
@@ -85,10 +85,10 @@ def check_memory(program):
                     if refused and answer_of(made) == (b"", NO_MEMORY, 3):
                         early += 1
                     elif answer_of(made) != whole:
-                        sys.exit(f"tests/refspec: {words}: growth {call} is refused: {answer_of(made)}")
+                        sys.exit(f"tests/refspec.py: {words}: growth {call} is refused: {answer_of(made)}")
                     call += 1
                 if early == 0:
-                    sys.exit(f"tests/refspec: {words}: no run ended early")
+                    sys.exit(f"tests/refspec.py: {words}: no run ended early")
 
 
 def answer_of(made):
@@ -128,10 +128,10 @@ def check_summary(program):
             (["refs/heads/a:refs/o/a", "refs/heads/b:refs/o/a"], None)):
         told = told_on_terminal([program, "plan", *words], refs)
         if told != wanted and (wanted is not None or re.search(rb"refs? by [0-9]", told)):
-            sys.exit(f"tests/refspec: plan {words} on a terminal: {told!r}")
+            sys.exit(f"tests/refspec.py: plan {words} on a terminal: {told!r}")
     told = told_on_terminal([program, "plan", "refs/heads/*:refs/o/*"], refs + f"{ID}\trefs/heads/a..b\n".encode())
     if not told.endswith(b"\n3 refs by 1 spec; 1 left out for an invalid name\n"):
-        sys.exit(f"tests/refspec: a plan with an invalid name on a terminal: {told!r}")
+        sys.exit(f"tests/refspec.py: a plan with an invalid name on a terminal: {told!r}")
 
 
 def check_page(program):
@@ -143,7 +143,7 @@ def check_page(program):
         made = subprocess.run([program, *words, "--help"], capture_output=True, text=True, check=True)
         missing = set(re.findall(r"--([a-z][a-z-]*)", made.stdout)) - known
         if missing:
-            sys.exit(f"tests/refspec: man/refspec.1 has no {sorted(missing)} of {[*words, '--help']}")
+            sys.exit(f"tests/refspec.py: man/refspec.1 has no {sorted(missing)} of {[*words, '--help']}")
 
 
 def check_time(program):
@@ -161,7 +161,7 @@ def check_time(program):
                 best = min(best, time.monotonic() - begun)
             taken.append(best)
     if taken[1] > 4 * taken[0] + 1:
-        sys.exit(f"tests/refspec: 200,000 refs take {taken[1]:.2f} s, and sort {taken[0]:.2f} s")
+        sys.exit(f"tests/refspec.py: 200,000 refs take {taken[1]:.2f} s, and sort {taken[0]:.2f} s")
     return taken
 
 

@@ -8,7 +8,7 @@ The lists are generated from a seed, so many for each of the two. They leave out
 writes refs: a name that is a folder for another, and an annotated tag as a branch. A partial source is fetched with
 each set of its candidates too. It needs git and python3, and no network.
 
-With --samples FOLDER it writes git.sample for tests/git: the smallest list of each known kind, and lists of many
+With --samples FOLDER it writes git.sample for tests/git.py: the smallest list of each known kind, and lists of many
 forms among those where both agree.
 """
 import argparse
@@ -35,7 +35,7 @@ SAMPLE_HEAD = """\
 # after `! ` what git did where it did otherwise: `ref` with an id and a name that it wrote, `head` with an id of
 # FETCH_HEAD, `fails` and why, or `tracks` with a ref and what a branch made from it tracks. A space at the end of
 # a line is written \\x20. Made with {git} by
-#   tools/oracle/compare-git PROGRAM --lists {options.lists} --seed {options.seed} --samples FOLDER
+#   tools/oracle/compare-git.py PROGRAM --lists {options.lists} --seed {options.seed} --samples FOLDER
 """
 # How many of the lists where both agree are stored.
 STORED = {"plan": 26, "rhs": 14}
