@@ -19,6 +19,7 @@ use gix_refspec_match::hits::{Made, Matching};
 pub use gix_refspec_match::types::{Item, Mapping, NameRef, Source, SourceRef};
 use gix_refspec_text::RefSpecRef;
 use std::alloc::{AllocError, Global};
+pub use premises::has_id_destination;
 use types::MatchGroup;
 pub use types::{NoRoom, Outcome, match_lhs, match_rhs};
 

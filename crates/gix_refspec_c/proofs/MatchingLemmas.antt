@@ -24,27 +24,9 @@ use Rattle.gix_refspec.specs.Matching.Mappings.{Mapped}
 use Rattle.gix_refspec.specs.Views.Group.{mapped_of}
 use Rattle.gix_refspec_c.specs.declared.listing.MappingOut.{MappingOut}
 use Rattle.gix_refspec_c.specs.Mapping.{Entry, IsNotPut, LacksAll, Room, Tells, backward_entry, forward_entry, text_of, texts_of, told_at, told_by, told_from}
-use Rattle.gix_refspec_c.specs.Matching.{AreMatched, GoesByName, nameless}
+use Rattle.gix_refspec.specs.Laws.Items.{AsksForNoId}
+use Rattle.gix_refspec_c.specs.Matching.{AreMatched, nameless}
 use Rattle.std.proofs.lemmas.Option.{same_Some}
-
-unread : {b : Bool} → IsTrue b → b ≡ false → ⊥
-unread told isnt = cc
-
--- a text with a fault spells no id
-no_text : {x : List ℕ} → IdOrFault x → (e : Error) → HasIdFault x e → (i : List ℕ) → IsIdText x i → ⊥
-no_text (inl one) e fault i text = one.sound e fault
-no_text (inr one) e fault i text = one.unread i text
-
--- a text that isn't read as an id is none
-pub by_name : (r : Reading) (x : List ℕ) (read : Result ObjectId Error) (b : Bool) → r.destination ≡ Some x → IdOrFault x → MatchResult read (λ i. IsIdText x (id_bytes i)) (λ e. HasIdFault x e) → b ≡ is_err read → IsTrue b ↔ GoesByName r
-by_name r x (Ok i) b goes law text is = (
-  λ told. absurd (unread told is),
-  λ by. absurd (by.no_id x goes (id_bytes i, text)),
-)
-by_name r x (Err e) b goes law fault is = (
-  λ told. record { no_id = λ y same spelled. no_text law e fault (spelled.0) (subst (λ (t : List ℕ). IsIdText t spelled.0) (same_Some y x (sym same ∙ goes)) spelled.1) },
-  λ by. is,
-)
 
 -- what follows a listing of some mappings
 told_more : (at : ℕ) (es : List Entry) (e : Entry) → told_from at (es ++ e ∷ []) ≡ told_from at es ++ told_at (at + length (texts_of es)) e ∷ []
@@ -88,7 +70,7 @@ matched_forward d texts names group g refs kept (Ok l) is whole read same stay t
     (map (forward_entry group 0) kept, subst (λ (e : Direction). AreMatched e texts names (map (forward_entry group 0) kept)) (sym is) matched, subst (λ (specs : List Reading). Tells (map (forward_entry specs 0) kept) l.mappings.items l.text.items) whole tells)
 
 -- and so it is from right to left, where no destination is an id
-pub matched_backward : (d : Direction) (texts names : List (List ℕ)) (group g : List Reading) (refs : List Ref) (kept : List Mapped) (r : Result Listing Failure) → d ≡ Backward → g ≡ group → AllZip (Reads Fetch) texts group → refs ≡ map nameless names → AreKeptBackward group refs kept → AllByRecursion GoesByName group → IfOk r (λ l. Tells (map (backward_entry g) kept) l.mappings.items l.text.items) → IfOk r (λ l. (es : List Entry) × AreMatched d texts names es × Tells es l.mappings.items l.text.items)
+pub matched_backward : (d : Direction) (texts names : List (List ℕ)) (group g : List Reading) (refs : List Ref) (kept : List Mapped) (r : Result Listing Failure) → d ≡ Backward → g ≡ group → AllZip (Reads Fetch) texts group → refs ≡ map nameless names → AreKeptBackward group refs kept → AsksForNoId group → IfOk r (λ l. Tells (map (backward_entry g) kept) l.mappings.items l.text.items) → IfOk r (λ l. (es : List Entry) × AreMatched d texts names es × Tells es l.mappings.items l.text.items)
 matched_backward d texts names group g refs kept (Err f) is whole read same stay by tells = tt
 matched_backward d texts names group g refs kept (Ok l) is whole read same stay by tells =
     let matched : AreMatched Backward texts names (map (backward_entry group) kept) = record { group = group; read = read; kept = kept; stay = (subst (λ (rs : List Ref). AreKeptBackward group rs kept) same stay, by); are = refl } in

@@ -7,6 +7,7 @@ use Rattle.gix_refspec.specs.Specs.Grammar.{Reads}
 use Rattle.gix_refspec.specs.Matching.Side.{IsId}
 use Rattle.gix_refspec.specs.Matching.Match.{Ref}
 use Rattle.gix_refspec.specs.Matching.Mappings.{Mapped}
+use Rattle.gix_refspec.specs.Laws.Items.{AsksForNoId}
 use Rattle.gix_refspec.specs.Matching.Hits.{AreKeptForward, AreKeptBackward}
 use Rattle.gix_refspec_c.specs.declared.failure.Failure.{Failure}
 use Rattle.gix_refspec_c.specs.declared.failure.Failure.TheVariants as failure
@@ -24,14 +25,10 @@ direction_code Backward = 2
 abbrev pub nameless : List ℕ → Ref
 nameless n = record { name = n; target = replicate 20 0; object = None }
 
--- the destination of the reading, if it has one, is no id: so which refs it matches is seen from their names
-pub record GoesByName (r : Reading) : Type 0 where
-  pub no_id : (x : List ℕ) → r.destination ≡ Some x → ¬ (IsId x)
-
 -- what stays in a direction. From right to left only names count
 abbrev pub Stay : Direction → List Reading → List Ref → List Mapped → Type 0
 Stay Forward g refs kept = AreKeptForward g refs kept
-Stay Backward g refs kept = AreKeptBackward g refs kept × AllByRecursion GoesByName g
+Stay Backward g refs kept = AreKeptBackward g refs kept × AsksForNoId g
 
 -- what is told of a mapping of a group in a direction
 abbrev pub entry_of : Direction → List Reading → Mapped → Entry
@@ -50,7 +47,7 @@ pub record AreMatched (d : Direction) (texts names : List (List ℕ)) (es : List
 pub record WantIds (texts : List (List ℕ)) : Type 0 where
   pub group : List Reading
   pub read : AllZip (Reads Fetch) texts group
-  pub by_id : ¬ (AllByRecursion GoesByName group)
+  pub by_id : ¬ (AsksForNoId group)
 
 -- why texts weren't matched: they weren't read, or memory ran out; or from right to left one asks for an id
 abbrev pub AreUnmatched : Direction → List (List ℕ) → Failure → Type 0

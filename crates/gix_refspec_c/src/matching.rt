@@ -8,7 +8,7 @@ ghost use Rattle.gix_refspec.specs.Texts.ObjectId.{id_bytes};
 ghost use Rattle.gix_refspec.specs.Views.Spec.{reading_of};
 ghost use Rattle.gix_refspec_c.specs.Group.{bytes_of};
 ghost use Rattle.gix_refspec_c.specs.Mapping.{Entry, HasAll, LacksAll, Room, Tells, backward_entry, forward_entry};
-ghost use Rattle.gix_refspec_c.specs.Matching.{AreMatched, AreUnmatched, GoesByName, direction_code, nameless};
+ghost use Rattle.gix_refspec_c.specs.Matching.{AreMatched, AreUnmatched, direction_code, nameless};
 ghost use Rattle.gix_refspec_c.specs.Outcome.{Answers};
 
 use crate::explanation::Text;
@@ -102,7 +102,7 @@ fn listing_of(
             Err(_) => Err(Failure::NoMemory),
         },
         Direction::Backward => {
-            if !goes_by_names(&group) {
+            if !group.asks_for_no_id() {
                 return Err(Failure::NeedsIds);
             }
             match group.match_rhs(alloc, items.as_slice()) {
@@ -131,32 +131,6 @@ pub(crate) fn items_of<'a>(
         })?;
     }
     Ok(items)
-}
-
-// Whether no destination is an id.
-fn goes_by_names(group: &MatchGroup<'_>) -> bool
-    ensures { IsTrue result ↔ AllByRecursion GoesByName (readings_of group.now) }
-{
-    for spec in &group.specs {
-        if !goes_by_name(spec) {
-            return false;
-        }
-    }
-    true
-}
-
-// Whether a spec has no destination that is an id.
-fn goes_by_name(spec: &RefSpecRef<'_>) -> bool
-    ensures { IsTrue result ↔ GoesByName (reading_of spec.now) }
-{
-    match spec.destination() {
-        None => true,
-        Some(destination) => {
-            let text = destination.as_bytes();
-            laws::id_or_fault(text);
-            ObjectId::from_hex(text).is_err()
-        }
-    }
 }
 
 // What there is to tell of mappings of a group from left to right.

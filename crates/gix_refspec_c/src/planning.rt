@@ -8,8 +8,8 @@ ghost use Rattle.std.specs.Cmp.Lexicographic.{slice_cmp};
 ghost use Rattle.gix_refspec.specs.Views.Group.{mapped_of, readings_of, start_of};
 ghost use Rattle.gix_refspec.specs.Views.Issue.{conflict_of, mappings_of};
 ghost use Rattle.gix_refspec.specs.Matching.Mappings.{Mapped};
-ghost use Rattle.gix_refspec.specs.Matching.RefNames.{HaveRefNames, IsValidSource, IsRefName};
-ghost use Rattle.gix_refspec.specs.Matching.Validation.{AreConflicts, IndexesFit, IsWritable};
+ghost use Rattle.gix_refspec.specs.Matching.RefNames.{HaveRefNames, IsValidSource};
+ghost use Rattle.gix_refspec.specs.Matching.Validation.{AreConflicts, IndexesFit};
 ghost use Rattle.gix_refspec_c.specs.Group.{AreUnread, bytes_of};
 ghost use Rattle.gix_refspec_c.specs.Mapping.{Entry, HasAll, Room, Tells};
 ghost use Rattle.gix_refspec_c.specs.Outcome.{Concludes};
@@ -20,10 +20,9 @@ use crate::failure::Failure;
 use crate::listing::{Listing, MappingOut, put_all};
 use crate::matching::items_of;
 use crate::reading::read_all;
-use bstr::BStr;
-use gix_refspec::match_group::validate::{Issue, Refusal};
+use gix_refspec::match_group::ref_names::is_ref_name;
+use gix_refspec::match_group::validate::{Issue, Refusal, is_writable};
 use gix_refspec::match_group::{Mapping, SourceRef, match_lhs};
-use gix_refspec::name::name_partial;
 use gix_refspec::oid::{Kind, ObjectId};
 use gix_refspec::parsing::Operation;
 use gix_refspec::{MatchGroup, laws};
@@ -225,21 +224,6 @@ fn is_good_source(source: &SourceRef<'_>) -> bool
         SourceRef::FullName(name) => is_ref_name(name.as_bstr().as_bytes()),
         SourceRef::ObjectId(_) => true,
     }
-}
-
-// Whether a name begins `refs/` or is `HEAD`.
-fn is_writable(name: &[u8]) -> bool
-    ensures { IsTrue result ↔ IsWritable name.now }
-{
-    name.starts_with(b"refs/") || name == b"HEAD".as_slice()
-}
-
-// Whether a ref may have a name.
-fn is_ref_name(name: &[u8]) -> bool
-    ensures { IsTrue result ↔ IsRefName name.now }
-{
-    name == b"HEAD".as_slice()
-        || name.starts_with(b"refs/") && name_partial(BStr::new(name)).is_ok()
 }
 
 // Whether a destination is one of those of the conflicts.

@@ -1,12 +1,15 @@
 //! The ids of Git objects: read from hexadecimal digits, compared by their bytes, printed again.
 
-ghost use Rattle.std.specs.Prelude.{◌≡◌, length, nat_eq, refl, replicate, Some, IfSome, IfNone, MatchResult};
+ghost use Rattle.std.specs.Prelude.{◌≡◌, length, nat_eq, refl, replicate, Some, IfSome, IfNone, MatchBool, MatchResult};
+ghost use Rattle.std.specs.List.{list_all};
 ghost use Rattle.std.specs.Ordering.{nat_cmp};
 ghost use Rattle.std.specs.Hash as fed;
 ghost use Rattle.std.specs.Cmp.Lexicographic.{pointwise, slice_cmp, nat_list_eq_equiv, nat_list_cmp_total, texts_ties, texts_po};
 ghost use Rattle.std.specs.Cmp.{partial_equiv_from_equiv, on_per, on_equiv, on_po, on_total};
 ghost use Rattle.std.specs.Cmp.Rules.{hashing};
 ghost use Rattle.std.proofs.Common.{rules};
+ghost use Rattle.hex.specs.Hex.{is_hex_digit};
+ghost use Rattle.gix_refspec_text.specs.Matching.Side.{IsId};
 ghost use Rattle.gix_refspec_text.specs.Specs.Explained.{id_explained};
 ghost use Rattle.gix_refspec_text.specs.Texts.ObjectId.{HasIdFault, IsIdLength, IsIdText, bytes_of, digits_of, fault_name, lower_of};
 
@@ -101,6 +104,34 @@ impl Kind {
             _ => None,
         }
     }
+}
+
+/// Whether a text spells an object id: 40 or 64 hexadecimal digits, of either case. Nothing is decoded.
+pub fn is_id(text: &[u8]) -> bool
+    ensures { MatchBool result (IsId text.now) (¬ (IsId text.now)) }
+{
+    match text.len() {
+        40 | 64 => are_digits(text),
+        _ => false,
+    }
+}
+
+// Whether all bytes of a text are hexadecimal digits. There is no early end, so that the loop runs over many bytes at once.
+#[inline(always)]
+fn are_digits(text: &[u8]) -> bool
+    ensures { result ≡ list_all is_hex_digit text.now }
+{
+    let mut all = true;
+    for byte in text {
+        all &= is_digit(*byte);
+    }
+    all
+}
+
+fn is_digit(byte: u8) -> bool
+    ensures { result ≡ is_hex_digit byte }
+{
+    matches!(byte, b'A'..=b'F' | b'a'..=b'f' | b'0'..=b'9')
 }
 
 /// The id of a Git object, called its object name in gitglossary(7). As text it has two hexadecimal

@@ -1,7 +1,7 @@
 //! What a refspec is read for, and why a text is refused.
 
 ghost use Rattle.std.specs.Prelude.{◌≡◌};
-ghost use Rattle.gix_refspec_text.specs.Specs.Explained.{explained};
+ghost use Rattle.gix_refspec_text.specs.Specs.Explained.{explained, reason_name};
 ghost use Rattle.gix_refspec_text.specs.Specs.Refusal.{ReferenceName};
 ghost use Rattle.gix_refspec_text.specs.Views.Instruction.{IsShownAs};
 
@@ -68,6 +68,26 @@ pub enum Error {
 }
 
 impl Error {
+    /// The name of the reason, as its variant has it, without what the variant holds.
+    pub fn reason(&self) -> &'static str
+        ensures { result.now ≡ reason_name self.now }
+    {
+        match self {
+            Error::Empty => "Empty",
+            Error::NegativeWithDestination => "NegativeWithDestination",
+            Error::NegativeEmpty => "NegativeEmpty",
+            Error::NegativeObjectHash => "NegativeObjectHash",
+            Error::NegativePartialName => "NegativePartialName",
+            Error::NegativeGlobPattern => "NegativeGlobPattern",
+            Error::InvalidFetchDestination => "InvalidFetchDestination",
+            Error::PushToEmpty => "PushToEmpty",
+            Error::PatternUnsupported { .. } => "PatternUnsupported",
+            Error::PatternUnbalanced => "PatternUnbalanced",
+            Error::ReferenceName(_) => "ReferenceName",
+            Error::Memory => "Memory",
+        }
+    }
+
     /// What is wrong with the refspec, in one sentence for a user of Git.
     pub fn explanation(&self) -> &'static str
         ensures { result.now ≡ explained self.now }

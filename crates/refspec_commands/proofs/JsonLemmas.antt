@@ -8,13 +8,13 @@ use Rattle.std.specs.Str.{IsUtf8, is_utf8}
 use lib.Utf8.{low_scalar}
 use Rattle.refspec_json.specs.Objects.{line_of, refused_object, spec_object}
 use Rattle.gix_refspec_text.specs.declared.parsing.Error.{Error}
-use Rattle.gix_refspec_text.specs.Specs.Explained.{explained}
+use Rattle.gix_refspec_text.specs.Specs.Explained.{explained, reason_name}
 use Rattle.refspec_commands.specs.declared.call.Form.{Form}
 use Rattle.refspec_commands.specs.declared.call.Form.TheVariants as form
 use Rattle.refspec_commands.specs.declared.texts.Location.{Location}
 use Rattle.refspec_commands.specs.declared.texts.Location.TheVariants as location
 use Rattle.refspec_commands.specs.declared.texts.Text.{Text}
-use Rattle.refspec_commands.specs.Json.{AddsObjects, AddsRefusal, AreInOrder, IsRefusedLine, WritesRefused, WritesSpec, begins_quoted, json_text, operation_name, reason_name}
+use Rattle.refspec_commands.specs.Json.{AddsObjects, AddsRefusal, AreInOrder, IsRefusedLine, WritesRefused, WritesSpec, begins_quoted, json_text, operation_name}
 use Rattle.refspec_commands.specs.Messages.{IsLocation}
 use Rattle.refspec_commands.specs.Shown.{IsQuoted, escaped, in_quotes}
 use Rattle.refspec_commands.proofs.ShownLemmas.{behind}

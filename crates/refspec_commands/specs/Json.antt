@@ -6,7 +6,7 @@ use Rattle.gix_refspec_text.specs.declared.parsing.Error.{Error}
 use Rattle.gix_refspec_text.specs.declared.parsing.Error.TheVariants as error
 use Rattle.gix_refspec_text.specs.declared.parsing.Operation.{Operation}
 use Rattle.gix_refspec_text.specs.declared.parsing.Operation.TheVariants as operation
-use Rattle.gix_refspec_text.specs.Specs.Explained.{explained}
+use Rattle.gix_refspec_text.specs.Specs.Explained.{explained, reason_name}
 use Rattle.refspec_commands.specs.declared.call.Form.{Form}
 use Rattle.refspec_commands.specs.declared.call.Form.TheVariants as form
 use Rattle.refspec_commands.specs.declared.texts.Text.{Text}
@@ -26,21 +26,6 @@ json_text bytes = cond (begins_quoted bytes || not (is_utf8 bytes)) (in_quotes b
 abbrev pub operation_name : Operation → List ℕ
 operation_name operation.Fetch = codes "fetch"
 operation_name operation.Push = codes "push"
-
--- what a reason is called
-abbrev pub reason_name : Error → List ℕ
-reason_name error.Empty = codes "Empty"
-reason_name error.NegativeWithDestination = codes "NegativeWithDestination"
-reason_name error.NegativeEmpty = codes "NegativeEmpty"
-reason_name error.NegativeObjectHash = codes "NegativeObjectHash"
-reason_name error.NegativePartialName = codes "NegativePartialName"
-reason_name error.NegativeGlobPattern = codes "NegativeGlobPattern"
-reason_name error.InvalidFetchDestination = codes "InvalidFetchDestination"
-reason_name error.PushToEmpty = codes "PushToEmpty"
-reason_name (error.PatternUnsupported pattern) = codes "PatternUnsupported"
-reason_name error.PatternUnbalanced = codes "PatternUnbalanced"
-reason_name (error.ReferenceName fault) = codes "ReferenceName"
-reason_name error.Memory = codes "Memory"
 
 -- the line of the object of a refusal: where the text is, what it is for, the text, and the reason with its sentence; which
 -- part is wrong, where, and the advice are left open

@@ -2,7 +2,7 @@
 
 ghost use Rattle.std.specs.Prelude.{◌≡◌, option_map, string_bytes, IfOk, OnOk};
 ghost use Rattle.std.specs.Str.{IsUtf8};
-ghost use Rattle.refspec_commands.specs.Json.{begins_quoted, json_text, operation_name, reason_name, WritesRefused};
+ghost use Rattle.refspec_commands.specs.Json.{begins_quoted, json_text, operation_name, WritesRefused};
 ghost use Rattle.refspec_commands.specs.Messages.{IsLocation};
 ghost use Rattle.refspec_commands.specs.Shown.{in_quotes};
 ghost use Rattle.refspec_commands.specs.declared.call.Form.TheVariants as form;
@@ -109,7 +109,7 @@ pub fn write_refusal(
         location: location.as_str(),
         operation: operation_of(text.operation),
         text: shown.as_str(),
-        reason: reason_of(error),
+        reason: error.reason(),
         message: error.explanation(),
         side,
         part,
@@ -117,24 +117,4 @@ pub fn write_refusal(
         advice,
     };
     object.write_line(alloc, out)
-}
-
-/// The name of a reason.
-pub fn reason_of(error: &Error) -> &'static str
-    ensures { result.now ≡ reason_name error.now }
-{
-    match error {
-        Error::Empty => "Empty",
-        Error::NegativeWithDestination => "NegativeWithDestination",
-        Error::NegativeEmpty => "NegativeEmpty",
-        Error::NegativeObjectHash => "NegativeObjectHash",
-        Error::NegativePartialName => "NegativePartialName",
-        Error::NegativeGlobPattern => "NegativeGlobPattern",
-        Error::InvalidFetchDestination => "InvalidFetchDestination",
-        Error::PushToEmpty => "PushToEmpty",
-        Error::PatternUnsupported { .. } => "PatternUnsupported",
-        Error::PatternUnbalanced => "PatternUnbalanced",
-        Error::ReferenceName(_) => "ReferenceName",
-        Error::Memory => "Memory",
-    }
 }

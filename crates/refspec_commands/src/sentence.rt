@@ -2,9 +2,9 @@
 
 use crate::call::Form;
 use crate::quote::write_shown;
-use crate::track::is_id;
 use bstr::ByteSlice;
 use gix_refspec::instruction::{Fetch, Push};
+use gix_refspec::oid::is_id;
 use gix_refspec::{Instruction, RefSpecRef};
 use std::alloc::{AllocError, Global};
 

@@ -2,9 +2,7 @@
 
 ghost use Rattle.std.specs.Prelude.{◌≡◌, ◌++◌, codes, map, replicate, IfOk, MatchBool, OnOk};
 ghost use Rattle.gix_refspec.specs.Views.Group.{mapped_of, ref_of};
-ghost use Rattle.gix_refspec.specs.Laws.Items.{HasIdDestination};
 ghost use Rattle.gix_refspec.specs.Matching.Hits.{AreKeptBackward};
-ghost use Rattle.gix_refspec_text.specs.Matching.Side.{IsId};
 ghost use Rattle.gix_refspec.specs.Texts.ObjectId.{id_bytes};
 ghost use Rattle.gix_refspec.specs.Views.Spec.{reading_of};
 ghost use Rattle.refspec_json.specs.Objects.{line_of, noted_object, untracked_object};
@@ -18,7 +16,7 @@ use crate::mappings::{Columns, canonical_texts, report_mappings};
 use crate::report::Report;
 use crate::quote::write_quoted;
 use bstr::{BStr, BString};
-use gix_refspec::match_group::{Item, Mapping, match_rhs};
+use gix_refspec::match_group::{Item, Mapping, has_id_destination, match_rhs};
 use gix_refspec::oid::{Kind, ObjectId};
 use gix_refspec::{MatchGroup, RefSpecRef};
 use std::alloc::{AllocError, Global};
@@ -77,28 +75,6 @@ fn by_names<'a>(
         }
     }
     Ok(kept)
-}
-
-// Whether the destination of a spec is an object id.
-fn has_id_destination(spec: &RefSpecRef<'_>) -> bool
-    ensures { MatchBool result
-        (HasIdDestination (reading_of spec.now))
-        (¬ (HasIdDestination (reading_of spec.now))) }
-{
-    match spec.destination() {
-        None => false,
-        Some(destination) => is_id(destination.as_bytes()),
-    }
-}
-
-/// Whether a text spells an object id.
-pub fn is_id(text: &[u8]) -> bool
-    ensures { MatchBool result (IsId text.now) (¬ (IsId text.now)) }
-{
-    match ObjectId::from_hex(text) {
-        Ok(_) => true,
-        Err(_) => false,
-    }
 }
 
 const WHY_TO_OBJECT: &str =

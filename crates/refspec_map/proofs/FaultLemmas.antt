@@ -15,6 +15,11 @@ use Rattle.refspec_map.specs.Line.{Entry, reading, ref, spec, item, Says, Gives,
 use Rattle.refspec_map.specs.Run.{IsBad, IsOutput}
 use Rattle.refspec_map.proofs.OutputLemmas.{no_lines}
 use Rattle.gix_refspec_text.proofs.lemmas.lists.LacksLemmas.{Lacks-here, first_once}
+use Rattle.gix_refspec_text.specs.declared.parsing.Error.{Error as RefspecError}
+use Rattle.gix_refspec_text.specs.declared.parsing.Error.TheVariants as refspec_error
+use Rattle.gix_refspec_text.specs.Specs.Explained.{reason_name}
+use Rattle.gix_refspec.specs.Specs.Refusal.{Refusal}
+use Rattle.gix_refspec.specs.Views.Instruction.{IsShownAs}
 
 same_lines : (x y : List ℕ) (xs ys : List (List ℕ)) (input : List ℕ) → Lacks newline x → Lacks newline y → ((rest : List ℕ) × (input ≡ x ++ (newline ∷ rest)) × AreLines xs rest) ⊎ ((x ≢ []) × (xs ≡ []) × (input ≡ x)) → ((rest : List ℕ) × (input ≡ y ++ (newline ∷ rest)) × AreLines ys rest) ⊎ ((y ≢ []) × (ys ≡ []) × (input ≡ y)) → ((rest : List ℕ) → AreLines xs rest → AreLines ys rest → xs ≡ ys) → x ∷ xs ≡ y ∷ ys
 same_lines x y xs ys input in_x in_y (inl a) (inl b) later =
@@ -68,3 +73,18 @@ no_bad_line command.CanonPush input output refusal is f bad = bad
 no_bad_line command.Lhs input output refusal is f bad = no_first_fault is.lines is.entries input is.split is.given f bad
 no_bad_line command.Rhs input output refusal is f bad = no_first_fault is.lines is.entries input is.split is.given f bad
 no_bad_line command.Plan input output refusal is f bad = no_first_fault is.lines is.entries input is.split is.given f bad
+
+-- the name of a reason is that of the refusal that it shows
+pub reason_shown : (e : RefspecError) (f : Refusal) → IsShownAs e f → reason_name e ≡ name_of f
+reason_shown refspec_error.Empty f is = sym (ap name_of is)
+reason_shown refspec_error.NegativeWithDestination f is = sym (ap name_of is)
+reason_shown refspec_error.NegativeEmpty f is = sym (ap name_of is)
+reason_shown refspec_error.NegativeObjectHash f is = sym (ap name_of is)
+reason_shown refspec_error.PushToEmpty f is = sym (ap name_of is)
+reason_shown refspec_error.PatternUnbalanced f is = sym (ap name_of is)
+reason_shown (refspec_error.PatternUnsupported pattern) f is = sym (ap name_of is)
+reason_shown (refspec_error.ReferenceName fault) f is = sym (ap name_of is)
+reason_shown refspec_error.NegativePartialName f is = absurd is
+reason_shown refspec_error.NegativeGlobPattern f is = absurd is
+reason_shown refspec_error.InvalidFetchDestination f is = absurd is
+reason_shown refspec_error.Memory f is = absurd is

@@ -15,7 +15,7 @@ use Rattle.gix_refspec.specs.Laws.Readings.{IdOrFault}
 use Rattle.gix_refspec.specs.Matching.Match.{Ref}
 use Rattle.refspec_map.specs.Line.{space, IsIdThen, IsRefLine, IsTagLine, spec, item, IsMalformed}
 use Rattle.refspec_map.specs.Told.{IsReadAs, IsSeenAs}
-use Rattle.gix_refspec_text.proofs.lemmas.lists.LacksLemmas.{first_once}
+use Rattle.gix_refspec_text.proofs.lemmas.lists.LacksLemmas.{first_once, Lacks-here}
 
 -- a text that is cut at its first space begins with no other id, and goes on with nothing else
 pub IsIdThen-split : (text word rest id after : List ℕ) → text ≡ word ++ (space ∷ rest) → Lacks space word → IsIdThen text id after → IsIdText word id × (rest ≡ after)
@@ -35,39 +35,6 @@ unspelled t e (inr one) fault i is = one.unread i is
 -- where the first word spells no id, none is there
 pub no_IsIdThen-word : (text word rest : List ℕ) → text ≡ word ++ (space ∷ rest) → Lacks space word → ((id : List ℕ) → ¬ (IsIdText word id)) → (id after : List ℕ) → ¬ (IsIdThen text id after)
 no_IsIdThen-word text word rest here ends none id after is = none id (IsIdThen-split text word rest id after here ends is).0
-
--- as many digits as spell an id have no fault
-no_id_fault : (t : List ℕ) (e : IdError) → IsIdLength (length t) → list_all is_hex_digit t ≡ true → HasIdFault t e → ⊥
-no_id_fault t (Length len) size all has = has.1 size
-no_id_fault t Digit size all has = false≢true (sym has.1.2 ∙ AllPass-from_list_all is_hex_digit t all has.1.0 0 has.1.1)
-
--- they spell an id
-pub IsId-digits : (t : List ℕ) → IdOrFault t → IsIdLength (length t) → list_all is_hex_digit t ≡ true → IsId t
-IsId-digits t (inl one) size all = (one.id, one.text)
-IsId-digits t (inr one) size all = absurd (no_id_fault t one.fault size all one.has)
-
-some_other_by : (c : ℕ) (t : List ℕ) (digit : Bool) → is_hex_digit c ≡ digit → (digit && list_all is_hex_digit t) ≡ false → (list_all is_hex_digit t ≡ false → SomeIndex t (λ k. is_hex_digit (slice_index t k) ≡ false)) → SomeIndex (c ∷ t) (λ k. is_hex_digit (slice_index (c ∷ t) k) ≡ false)
-some_other_by c t false is all later = (0, omega arith, is)
-some_other_by c t true is all later = let rest = later all in (suc rest.0, (let below = rest.1 in omega arith), rest.2)
-
--- where not all bytes are digits, some byte is none
-some_other : (t : List ℕ) → list_all is_hex_digit t ≡ false → SomeIndex t (λ k. is_hex_digit (slice_index t k) ≡ false)
-some_other [] all = absurd (false≢true (sym all))
-some_other (c ∷ t) all = some_other_by c t (is_hex_digit c) refl all (some_other t)
-
--- a text with another byte, or of another length, spells no id
-pub no_id_byte : (t : List ℕ) → IdOrFault t → IsIdLength (length t) → list_all is_hex_digit t ≡ false → ¬ (IsId t)
-no_id_byte t either size all is = unspelled t Digit either (size, some_other t all) is.0 is.1
-
--- these are the lengths of ids
-pub id_size : (n : ℕ) → (n ≡ 40) ⊎ (n ≡ 64) → IsIdLength n
-id_size n (inl same) = (Sha1, same)
-id_size n (inr same) = (Sha256, same)
-
--- whether as many bytes as spell an id are digits tells whether they spell one
-pub are_digits-tell : (t : List ℕ) (digits : Bool) → IdOrFault t → IsIdLength (length t) → digits ≡ list_all is_hex_digit t → MatchBool digits (IsId t) (¬ (IsId t))
-are_digits-tell t true either size same = IsId-digits t either size (sym same)
-are_digits-tell t false either size same = no_id_byte t either size (sym same)
 
 -- what follows the id is one
 IsIdThen-once : (text id after other_id other : List ℕ) → IsIdThen text id after → IsIdThen text other_id other → after ≡ other

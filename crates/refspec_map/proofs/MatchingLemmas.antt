@@ -94,23 +94,6 @@ IsMatching-named blank Writes input output refusal made items by are lent is = r
   is = subst (λ (g : List Reading). Writes g (refs_in are.entries) output refusal) are.specs (by (refs_in are.entries) output refusal (ap (map named) lent ∙ are.refs) is);
 }
 
-no_ids_append : (g h : List Reading) → AsksForNoId g → AsksForNoId h → AsksForNoId (g ++ h)
-no_ids_append [] h first second = second
-no_ids_append (r ∷ g) h first second = (first.0, no_ids_append g h first.1 second)
-
--- one spec more whose destination is no id
-pub no_ids_more : (specs : List RefSpecRef) (k : ℕ) (s : RefSpecRef) → k < length specs → s ≡ get_or specs k s → ¬ (HasIdDestination (reading_of s)) → AsksForNoId (map reading_of (take k specs)) → AsksForNoId (map reading_of (take (k + 1) specs))
-no_ids_more specs k s below is none so_far =
-    let all : map reading_of (take (k + 1) specs) ≡ map reading_of (take k specs) ++ reading_of (get_or specs k s) ∷ [] = ap (map reading_of) (take_more specs k s below) ∙ map-append reading_of (take k specs) (get_or specs k s ∷ []) in
-    let one : AsksForNoId (reading_of (get_or specs k s) ∷ []) = (subst (λ (t : RefSpecRef). ¬ (HasIdDestination (reading_of t))) is none, tt) in
-    subst AsksForNoId (sym all) (no_ids_append (map reading_of (take k specs)) (reading_of (get_or specs k s) ∷ []) so_far one)
-
--- one of the specs whose destination is an id
-pub some_id : (specs : List RefSpecRef) (k : ℕ) (s : RefSpecRef) → k < length specs → s ≡ get_or specs k s → HasIdDestination (reading_of s) → ¬ (AsksForNoId (map reading_of specs))
-some_id (x ∷ specs) zero s below is has none = none.0 (subst (λ (t : RefSpecRef). HasIdDestination (reading_of t)) is has)
-some_id (x ∷ specs) (suc k) s below is has none = some_id specs k s (omega (arith, below)) is has none.1
-some_id [] k s below is has none = omega (arith, below)
-
 -- what remains after validation is written, and then the fixes
 pub validated_shown : (g h : MatchGroup) (items : List Ref) (mappings valid lent : List Mapping) (fixes lent_fixes : List Fix) (lines output : List ℕ) → h ≡ g → AreKeptForward (readings_of g) items (map mapped_of mappings) → IsValidated (readings_of h) (map mapped_of mappings) (map mapped_of valid) (map removed_of fixes) → lent ≡ valid → lines ≡ flat_map (λ m. map_line (mapped_of m)) lent → lent_fixes ≡ fixes → PutsFixes (map removed_of lent_fixes) lines output → IsPlan (readings_of g) items output false
 validated_shown g h items mappings valid lent fixes lent_fixes lines output same kept is of_valid are_lines of_fixes (fixed, are, put) = record {

@@ -4,7 +4,7 @@ ghost use Rattle.std.specs.Prelude.{IfOk, IfErr};
 ghost use Rattle.refspec_map.specs.Fault.{IsMemory};
 ghost use Rattle.refspec_map.specs.Output.{IsAnsweredBy, IsCanon};
 
-use crate::fault::{Fault, variant_name};
+use crate::fault::Fault;
 use crate::input::first_line;
 use crate::output::Answer;
 use bstr::BStr;
@@ -45,7 +45,7 @@ fn answer_to(alloc: Global, operation: Operation, line: &[u8]) -> Result<Answer<
             if matches!(error, Error::Memory) {
                 return Err(Fault::Memory);
             }
-            Ok(Answer::Refused(variant_name(&error)))
+            Ok(Answer::Refused(error.reason()))
         }
     }
 }

@@ -47,7 +47,7 @@ impl fmt::Display for Fault {
             Fault::Read => write!(f, "read failed"),
             Fault::Line(number) => write!(f, "line {number} is malformed"),
             Fault::Spec { line, error } => {
-                let name = variant_name(error);
+                let name = error.reason();
                 write!(f, "line {line}: {name}")
             }
             Fault::Memory => write!(f, "out of memory"),
@@ -65,25 +65,5 @@ impl<'a> From<NoRoom<'a>> for Fault {
 
     fn from(_: NoRoom<'a>) -> Fault {
         Fault::Memory
-    }
-}
-
-/// The name of a refusal, alone.
-pub(crate) fn variant_name(error: &Error) -> &'static str
-    ensures { (f : Refusal) → IsShownAs error.now f → result.now ≡ name_of f }
-{
-    match error {
-        Error::Empty => "Empty",
-        Error::NegativeWithDestination => "NegativeWithDestination",
-        Error::NegativeEmpty => "NegativeEmpty",
-        Error::NegativeObjectHash => "NegativeObjectHash",
-        Error::NegativePartialName => "NegativePartialName",
-        Error::NegativeGlobPattern => "NegativeGlobPattern",
-        Error::InvalidFetchDestination => "InvalidFetchDestination",
-        Error::PushToEmpty => "PushToEmpty",
-        Error::PatternUnsupported { .. } => "PatternUnsupported",
-        Error::PatternUnbalanced => "PatternUnbalanced",
-        Error::ReferenceName(_) => "ReferenceName",
-        Error::Memory => "Memory",
     }
 }

@@ -1,14 +1,11 @@
 //! The lines that a matching command reads: specs, and the refs of a repository.
 
 ghost use Rattle.std.specs.Prelude.{◌≡◌, ◌⊎◌, List, ℕ, [], ◌∷◌, ◌++◌, IfOk, IfErr, OnOk, MatchBool, MatchOption};
-ghost use Rattle.std.specs.List.{list_all};
-ghost use Rattle.hex.specs.Hex.{is_hex_digit};
 ghost use Rattle.bstr.specs.BStr.{bstr_bytes};
 ghost use Rattle.gix_refspec_text.specs.declared.parsing.Operation.TheVariants.{Fetch};
 ghost use Rattle.gix_refspec.specs.Texts.Words.{Lacks};
 ghost use Rattle.gix_refspec.specs.Specs.Grammar.{Reads};
 ghost use Rattle.gix_refspec.specs.Texts.ObjectId.{IsIdText, id_bytes};
-ghost use Rattle.gix_refspec.specs.Matching.Side.{IsId};
 ghost use Rattle.gix_refspec.specs.Views.Spec.{reading_of};
 ghost use Rattle.gix_refspec.specs.Views.Group.{ref_of};
 ghost use Rattle.refspec_map.specs.Fault.{IsMemory};
@@ -19,7 +16,7 @@ use crate::fault::Fault;
 use crate::input::first_line;
 use bstr::{BStr, ByteSlice};
 use gix_refspec::match_group::Item;
-use gix_refspec::oid::ObjectId;
+use gix_refspec::oid::{ObjectId, is_id};
 use gix_refspec::parsing::{Error, Operation};
 use gix_refspec::{RefSpecRef, laws, parse};
 use std::alloc::Global;
@@ -211,37 +208,6 @@ fn id_of(word: &[u8], blank: Option<&ObjectId>) -> Option<ObjectId>
         Some(id) if is_id(word) => Some(*id),
         Some(_) => None,
     }
-}
-
-/// Whether a text spells an id.
-#[inline(always)]
-pub(crate) fn is_id(text: &[u8]) -> bool
-    ensures { MatchBool result (IsId text.now) (¬ (IsId text.now)) }
-{
-    laws::id_or_fault(text);
-    match text.len() {
-        40 | 64 => are_digits(text),
-        _ => false,
-    }
-}
-
-// Whether all bytes of a text are hexadecimal digits. Without an early end, several are tested at once.
-#[inline(always)]
-fn are_digits(text: &[u8]) -> bool
-    ensures { result ≡ list_all is_hex_digit text.now }
-{
-    let mut all = true;
-    for byte in text {
-        all &= is_digit(*byte);
-    }
-    all
-}
-
-// Whether a byte is a hexadecimal digit.
-fn is_digit(byte: u8) -> bool
-    ensures { result ≡ is_hex_digit byte }
-{
-    matches!(byte, b'A'..=b'F' | b'a'..=b'f' | b'0'..=b'9')
 }
 
 // What precedes and follows the first space of a text.

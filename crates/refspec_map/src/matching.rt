@@ -4,7 +4,6 @@ ghost use Rattle.std.specs.Prelude.{◌≡◌, ◌⊎◌, map, IfOk, IfErr, IfSo
 ghost use Rattle.gix_refspec.specs.Views.Group.{ref_of};
 ghost use Rattle.gix_refspec.specs.Views.Spec.{reading_of};
 ghost use Rattle.gix_refspec.specs.Matching.Hits.{AreKeptBackward, AreKeptForward};
-ghost use Rattle.gix_refspec.specs.Laws.Items.{AsksForNoId, HasIdDestination};
 ghost use Rattle.refspec_map.specs.Fault.{IsMemory};
 ghost use Rattle.refspec_map.specs.Line.{IsFirstFault};
 ghost use Rattle.refspec_map.specs.Matching.{AreMapLines, IsMatching};
@@ -12,7 +11,7 @@ ghost use Rattle.refspec_map.specs.Plan.{IsPlan};
 ghost use Rattle.refspec_map.specs.Told.{told_ref};
 
 use crate::fault::Fault;
-use crate::line::{Entries, ToldRef, is_id, push};
+use crate::line::{Entries, ToldRef, push};
 use crate::output::lines_of;
 use crate::plan::plan;
 use bstr::ByteSlice;
@@ -69,10 +68,10 @@ fn rhs_by_name(alloc: Global, input: &[u8]) -> Result<Option<(Vec<u8>, bool)>, F
 {
     let blank = ObjectId::null(Kind::Sha1);
     let Entries { specs, items, .. } = Entries::read(alloc, input, Some(&blank))?;
-    if asks_for_ids(specs.as_slice()) {
+    let group = MatchGroup { specs };
+    if !group.asks_for_no_id() {
         return Ok(None);
     }
-    let group = MatchGroup { specs };
     let items = items.as_slice();
     laws::names_decide_back(&group, items);
     let outcome = group.match_rhs(alloc, items)?;
@@ -90,32 +89,6 @@ fn rhs_by_id(alloc: Global, input: &[u8]) -> Result<(Vec<u8>, bool), Fault>
     let group = MatchGroup { specs };
     let outcome = group.match_rhs(alloc, items.as_slice())?;
     Ok((lines_of(alloc, outcome.mappings.as_slice())?, false))
-}
-
-// Whether the destination of some spec is an id.
-fn asks_for_ids(specs: &[RefSpecRef<'_>]) -> bool
-    ensures { MatchBool result
-        (¬ (AsksForNoId (map reading_of specs.now)))
-        (AsksForNoId (map reading_of specs.now)) }
-{
-    for spec in specs {
-        if has_id_destination(spec) {
-            return true;
-        }
-    }
-    false
-}
-
-// Whether the destination of a spec is an id.
-fn has_id_destination(spec: &RefSpecRef<'_>) -> bool
-    ensures { MatchBool result
-        (HasIdDestination (reading_of spec.now))
-        (¬ (HasIdDestination (reading_of spec.now))) }
-{
-    match spec.destination() {
-        None => false,
-        Some(destination) => is_id(destination.as_bytes()),
-    }
 }
 
 // The refs as items, in order.

@@ -1,17 +1,19 @@
 //! Tests for the conditions of the laws on matching.
 
-ghost use Rattle.std.specs.Prelude.{◌↔◌, IsTrue, codes};
+ghost use Rattle.std.specs.Prelude.{◌↔◌, IsTrue, MatchBool, codes};
 ghost use Rattle.std.specs.List.{AllByRecursion};
 ghost use Rattle.gix_refspec_text.specs.Texts.Words.{BeginsWith};
 ghost use Rattle.gix_refspec_text.specs.Views.Spec.{reading_of};
 ghost use Rattle.gix_refspec.specs.Views.Group.{readings_of};
 ghost use Rattle.gix_refspec_text.specs.Laws.Covering.{HasCoveringSource};
+ghost use Rattle.gix_refspec.specs.Laws.Items.{AsksForNoId, HasIdDestination};
 ghost use Rattle.gix_refspec.specs.Laws.Matching.{GoesBothWays};
 
 use crate::match_group::types::MatchGroup;
 use gix_refspec_text::RefSpecRef;
-use gix_refspec_text::split::contains;
+use gix_refspec_text::oid::is_id;
 use gix_refspec_text::side::strip_refs;
+use gix_refspec_text::split::contains;
 
 impl<'a> MatchGroup<'a> {
     /// Whether each positive spec with two sides has two patterns, or two sides that begin `refs/`. Then
@@ -38,6 +40,31 @@ impl<'a> MatchGroup<'a> {
             }
         }
         true
+    }
+
+    /// Whether no spec has an object id as its destination. Then the names of items decide alone which are mapped
+    /// back, by the law `names_decide_back`.
+    pub fn asks_for_no_id(&self) -> bool
+        ensures { IsTrue result ↔ AsksForNoId (readings_of self.now) }
+    {
+        for spec in &self.specs {
+            if has_id_destination(spec) {
+                return false;
+            }
+        }
+        true
+    }
+}
+
+/// Whether the destination of a spec is an object id: from right to left the spec then matches items by their ids.
+pub fn has_id_destination(spec: &RefSpecRef<'_>) -> bool
+    ensures { MatchBool result
+        (HasIdDestination (reading_of spec.now))
+        (¬ (HasIdDestination (reading_of spec.now))) }
+{
+    match spec.destination() {
+        None => false,
+        Some(destination) => is_id(destination.as_bytes()),
     }
 }
 

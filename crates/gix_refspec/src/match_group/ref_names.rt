@@ -7,6 +7,7 @@ ghost use Rattle.gix_refspec.specs.Matching.RefNames.{AreLeftOut, IsInvalidAt, H
 ghost use Rattle.gix_refspec.specs.Views.Issue.{mappings_of};
 
 use crate::match_group::types::match_lhs;
+use bstr::BStr;
 use gix_refspec_match::types::{Mapping, NameRef, SourceRef};
 use gix_refspec_text::name::name_partial;
 use gix_refspec_text::spec::prefix::is_head;
@@ -125,12 +126,12 @@ fn invalid_side(mapping: &Mapping<'_, '_>) -> Option<InvalidSide>
         (HasRefNames (mapped_of mapping.now)) (λ side. IsInvalidAt side (mapped_of mapping.now)) }
 {
     let source = match &mapping.lhs {
-        SourceRef::FullName(name) => is_ref_name(name),
+        SourceRef::FullName(name) => is_valid(name),
         SourceRef::ObjectId(_) => true,
     };
     let destination = match &mapping.rhs {
         None => true,
-        Some(name) => is_ref_name(name),
+        Some(name) => is_valid(name),
     };
     match (source, destination) {
         (true, true) => None,
@@ -140,11 +141,15 @@ fn invalid_side(mapping: &Mapping<'_, '_>) -> Option<InvalidSide>
     }
 }
 
-// Whether a name is that of a ref: it begins `refs/` and has no fault, or is `HEAD`.
-fn is_ref_name(name: &NameRef<'_>) -> bool
+fn is_valid(name: &NameRef<'_>) -> bool
     ensures { IsTrue result ↔ IsRefName (name_bytes name.now) }
 {
-    let name = name.as_bstr();
-    let bytes = name.as_bytes();
-    is_head(bytes) || bytes.starts_with(b"refs/") && name_partial(name).is_ok()
+    is_ref_name(name.as_bstr().as_bytes())
+}
+
+/// Whether a text is a valid ref name: `HEAD`, or what begins `refs/` and is a name by git-check-ref-format(1).
+pub fn is_ref_name(text: &[u8]) -> bool
+    ensures { IsTrue result ↔ IsRefName text.now }
+{
+    is_head(text) || text.starts_with(b"refs/") && name_partial(BStr::new(text)).is_ok()
 }

@@ -209,7 +209,7 @@ fn fixes_of(
     let mut fixes = Vec::new(alloc);
     for mapping in mappings {
         if let Some(name) = &mapping.rhs {
-            if !is_writable(name) {
+            if !can_be_written(name) {
                 fixes.push(Fix::MappingWithPartialDestinationRemoved {
                     name: BString::from_slice(alloc, name.as_bstr())?,
                     spec: specs[mapping.spec_index].to_owned(alloc)?,
@@ -226,14 +226,19 @@ fn survives(mapping: &Mapping<'_, '_>) -> bool
 {
     match &mapping.rhs {
         None => true,
-        Some(name) => is_writable(name),
+        Some(name) => can_be_written(name),
     }
 }
 
-// Whether a destination begins `refs/` or is `HEAD`.
-fn is_writable(name: &NameRef<'_>) -> bool
+fn can_be_written(name: &NameRef<'_>) -> bool
     ensures { IsTrue result ↔ IsWritable (name_bytes name.now) }
 {
-    let bytes = name.as_bstr().as_bytes();
-    bytes.starts_with(b"refs/") || is_head(bytes)
+    is_writable(name.as_bstr().as_bytes())
+}
+
+/// Whether a destination can be written: it begins `refs/`, or is `HEAD`. It need not be a valid ref name.
+pub fn is_writable(destination: &[u8]) -> bool
+    ensures { IsTrue result ↔ IsWritable destination.now }
+{
+    destination.starts_with(b"refs/") || is_head(destination)
 }

@@ -2,7 +2,7 @@
 
 use super::mapping::{group_of, items_of};
 use gix_refspec::laws;
-use gix_refspec::match_group::{Item, Mapping, SourceRef};
+use gix_refspec::match_group::{has_id_destination, Item, Mapping, SourceRef};
 use gix_refspec::oid::ObjectId;
 use gix_refspec::parsing::Operation;
 use std::alloc::{AllocError, Global};
@@ -100,6 +100,28 @@ fn agrees_in_both_directions(rt: HostRuntime) -> Result<(), Fail> {
         let back = there.group.match_rhs(alloc, right)?;
         let found = pairs(alloc, back.mappings.as_slice(), left, right)?;
         assert_eq!(&rt; found.as_str(), backward, "{specs} back");
+    }
+    Ok(())
+}
+
+// Specs, and whether the destination of none is an object id.
+const BY_NAME: [(&str, bool); 7] = [
+    ("refs/heads/a:refs/x/a", true),
+    ("refs/heads/a", true),
+    ("^refs/heads/a refs/heads/*:refs/x/*", true),
+    ("aaaaaaaaaaaaaaaaaaaaaaaaaaaaaaaaaaaaaaaa:refs/heads/a", true),
+    ("refs/heads/a:aaaaaaaaaaaaaaaaaaaaaaaaaaaaaaaaaaaaaaa", true),
+    ("refs/heads/a:aaaaaaaaaaaaaaaaaaaaaaaaaaaaaaaaaaaaaaaa", false),
+    ("refs/heads/b:refs/x/b +refs/heads/a:AAAAAAAAAAAAAAAAAAAAAAAAAAAAAAAAAAAAAAAA", false),
+];
+
+#[test]
+fn finds_ids_as_destinations(rt: HostRuntime) -> Result<(), Fail> {
+    for (specs, none) in BY_NAME {
+        let group = group_of(rt.alloc(), Operation::Fetch, specs)?;
+        assert_eq!(rt; group.asks_for_no_id(), none, "{specs}");
+        let found = group.specs.iter().any(|spec| has_id_destination(spec));
+        assert_eq!(rt; found, !none, "{specs}");
     }
     Ok(())
 }

@@ -2,7 +2,8 @@
 
 use super::mapping::{TARGET, group_of, items_of};
 use bstr::BStr;
-use gix_refspec::match_group::ref_names::{InvalidSide, OutOfMemory};
+use gix_refspec::match_group::ref_names::{InvalidSide, OutOfMemory, is_ref_name};
+use gix_refspec::match_group::validate::is_writable;
 use gix_refspec::match_group::{Mapping, NameRef, SourceRef, match_lhs};
 use gix_refspec::oid::ObjectId;
 use gix_refspec::parsing::Operation;
@@ -134,6 +135,32 @@ fn keeps_names_of_refs_after_a_validation(rt: HostRuntime) -> Result<(), Fail> {
         "refs/heads/a:refs/x/a\nBoth refs/heads/../b:refs/x/../b\n"
     );
     Ok(())
+}
+
+// Texts, whether they are valid ref names, as `git check-ref-format` says of those that begin `refs/`, and whether a
+// destination of this name is written.
+const TEXTS: [(&str, bool, bool); 13] = [
+    ("refs/heads/main", true, true),
+    ("refs/a", true, true),
+    ("refs/heads/é", true, true),
+    ("HEAD", true, true),
+    ("refs/heads/../x", false, true),
+    ("refs/heads/a.lock", false, true),
+    ("refs/heads/a b", false, true),
+    ("refs/heads/", false, true),
+    ("refs/", false, true),
+    ("refs", false, false),
+    ("heads/main", false, false),
+    ("FETCH_HEAD", false, false),
+    ("", false, false),
+];
+
+#[test]
+fn recognises_ref_names(rt: HostRuntime) {
+    for (text, is_name, writable) in TEXTS {
+        assert_eq!(rt; is_ref_name(text.as_bytes()), is_name, "at {text}");
+        assert_eq!(rt; is_writable(text.as_bytes()), writable, "at {text}");
+    }
 }
 
 #[test]

@@ -1,4 +1,4 @@
--- The sentence that explains each fault to a user of Git.
+-- The sentence that explains each fault to a user of Git, and the name of each reason for a refusal.
 use Rattle.std.specs.Prelude.{ℕ, List, codes}
 use Rattle.gix_refspec_text.specs.declared.name.Error.{Error as NameError}
 use Rattle.gix_refspec_text.specs.declared.name.Error.TheVariants as of_name
@@ -38,3 +38,18 @@ explained (of_text.PatternUnsupported pattern) = codes "A side of a refspec must
 explained of_text.PatternUnbalanced = codes "Either both sides of a refspec have a `*`, or neither has."
 explained (of_text.ReferenceName fault) = name_explained fault
 explained of_text.Memory = codes "There was not enough memory to read the refspec."
+
+-- the name of the reason, without what its variant holds
+abbrev pub reason_name : Error → List ℕ
+reason_name of_text.Empty = codes "Empty"
+reason_name of_text.NegativeWithDestination = codes "NegativeWithDestination"
+reason_name of_text.NegativeEmpty = codes "NegativeEmpty"
+reason_name of_text.NegativeObjectHash = codes "NegativeObjectHash"
+reason_name of_text.NegativePartialName = codes "NegativePartialName"
+reason_name of_text.NegativeGlobPattern = codes "NegativeGlobPattern"
+reason_name of_text.InvalidFetchDestination = codes "InvalidFetchDestination"
+reason_name of_text.PushToEmpty = codes "PushToEmpty"
+reason_name (of_text.PatternUnsupported pattern) = codes "PatternUnsupported"
+reason_name of_text.PatternUnbalanced = codes "PatternUnbalanced"
+reason_name (of_text.ReferenceName fault) = codes "ReferenceName"
+reason_name of_text.Memory = codes "Memory"

@@ -124,6 +124,29 @@ fn explains_refusals(rt: HostRuntime) -> Result<(), Fail> {
 }
 
 #[test]
+fn names_the_reason(rt: HostRuntime) -> Result<(), Fail> {
+    let pattern = BString::from_slice(rt.alloc(), b"a*b*")?;
+    let cases = [
+        (Error::Empty, "Empty"),
+        (Error::NegativeWithDestination, "NegativeWithDestination"),
+        (Error::NegativeEmpty, "NegativeEmpty"),
+        (Error::NegativeObjectHash, "NegativeObjectHash"),
+        (Error::NegativePartialName, "NegativePartialName"),
+        (Error::NegativeGlobPattern, "NegativeGlobPattern"),
+        (Error::InvalidFetchDestination, "InvalidFetchDestination"),
+        (Error::PushToEmpty, "PushToEmpty"),
+        (Error::PatternUnsupported { pattern }, "PatternUnsupported"),
+        (Error::PatternUnbalanced, "PatternUnbalanced"),
+        (Error::ReferenceName(name::Error::LockSuffix), "ReferenceName"),
+        (Error::Memory, "Memory"),
+    ];
+    for (error, name) in cases {
+        assert_eq!(rt; error.reason(), name, "at {error:?}");
+    }
+    Ok(())
+}
+
+#[test]
 fn explains_faults_of_names_and_ids(rt: HostRuntime) {
     let names = [
         (name::Error::Empty, "A ref name must not be empty."),

@@ -1,7 +1,7 @@
 //! Ids from outside, what they print, how they are ordered, and which texts are refused.
 
 use super::check_equal;
-use gix_refspec_text::oid::{Error, Kind, ObjectId};
+use gix_refspec_text::oid::{Error, Kind, ObjectId, is_id};
 use std::test::Fail;
 
 // The ids that Git gives the empty blob, under either hash function.
@@ -69,6 +69,24 @@ fn refuses_other_bytes(rt: HostRuntime) {
     for text in cases {
         let read = ObjectId::from_hex(text.as_bytes());
         assert_eq!(rt; read, Err(Error::Digit), "at {text}");
+    }
+}
+
+#[test]
+fn recognises_ids(rt: HostRuntime) {
+    let cases = [
+        (EMPTY_BLOB, true),
+        (EMPTY_BLOB_SHA256, true),
+        ("E69DE29bb2d1d6434b8b29ae775ad8c2e48c5391", true),
+        (ZEROS_64, true),
+        ("", false),
+        ("e69de29bb2d1d6434b8b29ae775ad8c2e48c539", false),
+        ("e69de29bb2d1d6434b8b29ae775ad8c2e48c53911", false),
+        ("e69de29bb2d1d6434b8b29ae775ad8c2e48c539g", false),
+        ("473a0f4c3be8a93681a267e3b1e9a7dcda1185436fe141f7749120a30372181:", false),
+    ];
+    for (text, is) in cases {
+        assert_eq!(rt; is_id(text.as_bytes()), is, "at {text}");
     }
 }
 

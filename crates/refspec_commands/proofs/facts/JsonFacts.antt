@@ -8,7 +8,8 @@ use Rattle.gix_refspec_text.specs.declared.parsing.Operation.TheVariants as oper
 use Rattle.refspec_commands.specs.declared.call.Form.TheVariants as form
 use Rattle.refspec_commands.specs.declared.mappings.Columns.TheVariants as columns
 use Rattle.refspec_commands.specs.Conflicts.{conflict_line}
-use Rattle.refspec_commands.specs.Json.{AddsObjects, json_text, operation_name, reason_name}
+use Rattle.gix_refspec_text.specs.Specs.Explained.{reason_name}
+use Rattle.refspec_commands.specs.Json.{AddsObjects, json_text, operation_name}
 use Rattle.refspec_commands.specs.Prefixes.{asked_object}
 use Rattle.refspec_commands.specs.Rows.{AddsMappings}
 use Rattle.refspec_commands.specs.Shown.{KeepsResults}

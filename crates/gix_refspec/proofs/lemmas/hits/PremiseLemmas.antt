@@ -9,6 +9,7 @@ use Rattle.gix_refspec_text.specs.Specs.Grammar.{IsAccepted, IsPositive}
 use Rattle.gix_refspec_text.proofs.lemmas.texts.TextLemmas.{Lacks-ContainsText}
 use Rattle.gix_refspec_text.proofs.lemmas.specs.AcceptedLemmas.{accepted_balanced}
 use Rattle.gix_refspec.specs.Laws.Matching.{GoesBothWays}
+use Rattle.gix_refspec_match.proofs.lemmas.hits.HitLemmas.{same_side}
 
 star_or_none : (x : List ℕ) → HasStar x ⊎ Lacks star x
 star_or_none [] = inr tt

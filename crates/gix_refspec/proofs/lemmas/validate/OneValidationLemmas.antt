@@ -24,6 +24,7 @@ use Rattle.gix_refspec_match.proofs.lemmas.lists.ListsLemmas.{made_once}
 use Rattle.gix_refspec_match.proofs.lemmas.lists.SomeLemmas.{Any}
 use Rattle.std.proofs.lemmas.Option.{same_Some}
 use Rattle.gix_refspec_text.proofs.lemmas.lists.OrderLemmas.{not_below_itself}
+use Rattle.gix_refspec.proofs.lemmas.validate.RefNameLemmas.{copied_mapping}
 
 -- ---- conflicts
 

@@ -21,10 +21,10 @@ use Rattle.gix_refspec_match.specs.Matching.Mappings.{Mapped}
 use Rattle.gix_refspec_match.specs.Views.Mapping.{mapped_of, name_bytes}
 use Rattle.gix_refspec_match.specs.Private.Kept.{IsFlagged, Rises}
 use Rattle.gix_refspec.specs.Private.Updates.{AreUpdates, GoesTo, HasUpdate, IsRun, update_cmp, updated_indexes}
-use Rattle.gix_refspec_match.proofs.lemmas.keep.PairLemmas.{same_texts}
+use Rattle.gix_refspec_match.proofs.lemmas.keep.PairLemmas.{same_texts, both_equal}
 use Rattle.gix_refspec_match.proofs.lemmas.keep.RepeatLemmas.{Rises-push, apart_places}
-use Rattle.std.proofs.lemmas.Map.Lookups.{both_Equal}
 use Rattle.gix_refspec_text.proofs.lemmas.lists.AllLemmas.{all_left, all_right, all_join, all_weaker}
+use Rattle.gix_refspec_text.proofs.lemmas.lists.NumberLemmas.{upto}
 
 -- there are the updates of the mappings before place p that have a destination and aren't flagged, by place
 pub record AreUpdatesUpto (l : List Mapped) (flags : List Bool) (p : ℕ) (cs : List Update) : Type 0 where
@@ -101,7 +101,7 @@ strict_from_sorted xs ys moved rises sorted =
     turned (update_cmp y x) (update_cmp x y) (update_total.antisymm x y)
     (sorted_far (λ (a : Update) (b : Update). is_lt (update_cmp a b)) weak ys sorted i j d (omega arith) below)
     (λ tied. apart_places (updated_indexes xs) (updated_indexes ys) (IsPermutation-map (λ (c : Update). c.index) xs ys moved) rises i j 0 before (omega (arith, length-map ys (λ (c : Update). c.index)))
-    (get_or-map (λ (c : Update). c.index) ys i d 0 (omega arith) ∙ sym (same_from_cmp y.index x.index (both_Equal (slice_cmp nat_cmp y.destination.now x.destination.now) (nat_cmp y.index x.index) tied).1) ∙ sym (get_or-map (λ (c : Update). c.index) ys j d 0 below))))
+    (get_or-map (λ (c : Update). c.index) ys i d 0 (omega arith) ∙ sym (same_from_cmp y.index x.index (both_equal (slice_cmp nat_cmp y.destination.now x.destination.now) (nat_cmp y.index x.index) tied).1) ∙ sym (get_or-map (λ (c : Update). c.index) ys j d 0 below))))
 
 -- an update of some, as one that they contain
 update_within : (cs : List Update) (k : ℕ) (d : List ℕ) → HasUpdate cs k d → (c : Update) × Contains cs c × (c.index ≡ k) × (c.destination.now ≡ d)

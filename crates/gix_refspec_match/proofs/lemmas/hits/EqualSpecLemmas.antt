@@ -1,6 +1,6 @@
 -- Specs that have the sides of an earlier one: their hits make no pair that is new.
-use Rattle.std.proofs.Common.{◌≡◌, ◌⊎◌, inl, inr, ◌↔◌, ℕ, zero, suc, ◌+◌, ◌<◌, List, [], ◌∷◌, ◌++◌, None, Some, Bool, map, take, get_or, length, refl, sym, ap, ◌∙◌, subst, append_assoc, add-zero, arith}
-use Rattle.std.proofs.lemmas.List.{append-nil, get_or-map, get_or-take, length-map, map-append, take-map}
+use Rattle.std.proofs.Common.{◌≡◌, inl, inr, ℕ, zero, suc, ◌+◌, ◌<◌, List, [], ◌∷◌, ◌++◌, None, Some, Bool, map, take, get_or, length, refl, sym, ap, ◌∙◌, subst, append_assoc, add-zero, arith}
+use Rattle.std.proofs.lemmas.List.{append-nil, get_or-map, get_or-take, map-append, take-map}
 use Rattle.gix_refspec_match.specs.declared.hits.ends.Direction.{Direction}
 use Rattle.gix_refspec_match.specs.declared.hits.ends.Direction.TheVariants.{Forward, Backward}
 use Rattle.gix_refspec_match.specs.declared.hits.ends.Ends.{Ends as DeclaredEnds}
@@ -14,7 +14,7 @@ use Rattle.gix_refspec_match.specs.Matching.Mappings.{Mapped, IsSamePair, HasPai
 use Rattle.gix_refspec_match.specs.Matching.Hits.{Ends, Hit, IsHit, AreHits, AreSpecHits}
 use Rattle.gix_refspec_match.specs.Private.HitViews.{HasEnds, HaveKinds, TakesIn, AreHitsOfKinds, AddsHits, AreIdMappings, AreKept, mapped_of_made, mapping_of}
 use Rattle.gix_refspec_match.specs.Private.Kept.{IsFlagged}
-use Rattle.gix_refspec_match.specs.Private.EqualSpecs.{HaveSameSides, IsEqualAt, FlagsEqual, MayGo, Thins, AddsMost, AddsMostOfKinds, AreMostMade}
+use Rattle.gix_refspec_match.specs.Private.EqualSpecs.{HaveSameSides, FlagsEqual, MayGo, Thins, AddsMost, AddsMostOfKinds, AreMostMade}
 use Rattle.gix_refspec_match.proofs.lemmas.hits.HitLemmas.{spec_hits, of_hits}
 use Rattle.gix_refspec_match.proofs.lemmas.lists.JoinLemmas.{map_long}
 use Rattle.gix_refspec_match.proofs.lemmas.keep.KeptLemmas.{HasPair-left}

@@ -40,7 +40,7 @@ use Rattle.gix_refspec_match.specs.Matching.Mappings.{Mapped, IsKept, IsKeptAt}
 use Rattle.gix_refspec_match.specs.Views.Mapping.{name_bytes, mapped_of, ref_of}
 use Rattle.gix_refspec_match.specs.Matching.Hits.{Ends, OneForward, OneBackward, IsIdMapping, AreForward, AreBackward, forward_of, backward_of, AreForwardEnds, AreBackwardEnds, AreSpecHits, AreHits, Hit, IsHit, IsFilled}
 use Rattle.gix_refspec_text.specs.Private.SideViews.{kind_of_side}
-use Rattle.gix_refspec_match.specs.Private.HitViews.{AsksForId, word_of, IsFolder, HasSideKind, HaveKinds, HasEnds, TakesIn, IsFirstIn, TakesEach, filled_end, AreHitsOfKinds, HasHit, mapping_of, mapped_of_made, AddsHits, AreIdMappings, AreMade}
+use Rattle.gix_refspec_match.specs.Private.HitViews.{AsksForId, word_of, IsFolder, HasSideKind, HaveKinds, HasEnds, TakesIn, IsFirstIn, TakesEach, filled_end, AreHitsOfKinds, HasHit, mapping_of, mapped_of_made, AddsHits, AreMade}
 use Rattle.gix_refspec_match.specs.Matching.Mappings as mappings
 use Rattle.gix_refspec_text.proofs.lemmas.texts.ObjectIdLemmas.{AllPass-IsIdText, IsIdText-sound, IsIdText-unique}
 use Rattle.gix_refspec_text.proofs.lemmas.specs.AcceptedLemmas.{accepted_few}

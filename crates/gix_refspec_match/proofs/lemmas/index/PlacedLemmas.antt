@@ -1,12 +1,10 @@
 -- Hits at places that were looked up.
-use Rattle.std.proofs.Common.{◌≡◌, ℕ, zero, suc, ◌+◌, ◌<◌, List, [], ◌∷◌, ◌++◌, map, take, get_or, length, Option, None, Some, option_map, option_to_list, unwrap_or, refl, sym, ap, ◌∙◌, subst, append_assoc, arith}
+use Rattle.std.proofs.Common.{◌≡◌, ℕ, zero, suc, ◌+◌, ◌<◌, List, [], ◌∷◌, ◌++◌, map, get_or, length, Option, None, Some, option_map, option_to_list, unwrap_or, refl, sym, ap, ◌∙◌, subst, arith}
 use Rattle.std.specs.Global.{Vec}
 use Rattle.std.specs.List.{AllByRecursion}
-use Rattle.std.proofs.lemmas.List.{get_or-map, length-map, map-append, take_more}
+use Rattle.std.proofs.lemmas.List.{get_or-map, length-map}
 use Rattle.std.proofs.lemmas.List.Elements.{All-from_recursion}
-use Rattle.bstr.specs.BStr.{bstr_bytes}
 use Rattle.gix_refspec_match.specs.declared.types.Item.{Item}
-use Rattle.gix_refspec_match.specs.declared.types.NameRef.{NameRef}
 use Rattle.gix_refspec_match.specs.declared.hits.ends.Direction.{Direction}
 use Rattle.gix_refspec_match.specs.declared.hits.ends.Direction.TheVariants.{Forward, Backward}
 use Rattle.gix_refspec_match.specs.declared.hits.ends.Ends.{Ends as DeclaredEnds}
@@ -19,7 +17,7 @@ use Rattle.gix_refspec_text.specs.Views.Spec.{reading_of}
 use Rattle.gix_refspec_text.specs.Matching.Side.{HasKind, SideKind, pattern, full_name, object, partial}
 use Rattle.gix_refspec_text.specs.Matching.Match.{Ref, MatchesAs}
 use Rattle.gix_refspec_match.specs.Matching.Lists.{MakesOf, IsMadeFrom}
-use Rattle.gix_refspec_match.specs.Views.Mapping.{name_bytes, ref_of}
+use Rattle.gix_refspec_match.specs.Views.Mapping.{ref_of}
 use Rattle.gix_refspec_match.specs.Matching.Hits.{Ends, Hit, IsHit}
 use Rattle.gix_refspec_text.specs.Private.SideViews.{kind_of_side}
 use Rattle.gix_refspec_match.specs.Private.HitViews.{HasEnds, HaveKinds, TakesIn, IsFirstIn, filled_end, AreHitsOfKinds, mapping_of, mapped_of_made, AddsHits}

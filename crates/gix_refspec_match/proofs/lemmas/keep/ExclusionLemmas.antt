@@ -6,7 +6,7 @@ use Rattle.std.specs.HashSet.{HashSet}
 use Rattle.std.specs.Set.{KeepsOthers}
 use Rattle.std.proofs.Math.Logic.{∥∥₁_elim}
 use Rattle.std.proofs.lemmas.Bool.{cases_Bool, false≢true}
-use Rattle.std.proofs.lemmas.List.{map-append, take_more}
+use Rattle.std.proofs.lemmas.List.{take_more}
 use Rattle.gix_refspec_match.specs.declared.keep.exclusions.Exclusion.{Exclusion}
 use Rattle.gix_refspec_match.specs.declared.keep.exclusions.Exclusion.TheVariants as exclusion
 use Rattle.gix_refspec_match.specs.declared.keep.exclusions.Exclusions.{Exclusions}
@@ -16,8 +16,8 @@ use Rattle.gix_refspec_text.specs.declared.spec.RefSpecRef.{RefSpecRef}
 use Rattle.gix_refspec_text.specs.declared.parsing.Operation.{Operation}
 use Rattle.gix_refspec_text.specs.Texts.Words.{Lacks}
 use Rattle.gix_refspec_text.specs.Texts.Bytes.{star}
-use Rattle.gix_refspec_text.specs.Specs.Reading.{Mode, Forced, Negative, Reading}
-use Rattle.gix_refspec_text.specs.Specs.Grammar.{IsAccepted, IsNameOrPattern, IsPositive, Reads, fetches_nothing_named, fetches_colon, fetches, updates, updates_from_head, fetch_excludes, pushes_plus, pushes_colon, pushes, deletes, pushes_pattern, pushes_to, push_excludes, named_by}
+use Rattle.gix_refspec_text.specs.Specs.Reading.{Forced, Negative, Reading}
+use Rattle.gix_refspec_text.specs.Specs.Grammar.{IsAccepted, IsNameOrPattern, Reads, fetches_nothing_named, fetches_colon, fetches, updates, updates_from_head, fetch_excludes, pushes_plus, pushes_colon, pushes, deletes, pushes_pattern, pushes_to, push_excludes, named_by}
 use Rattle.gix_refspec_text.specs.Matching.Side.{Fits, Excludes, the_name, by_pattern}
 use Rattle.gix_refspec_match.specs.Matching.Mappings.{IsExcluded, IsExcludedBy}
 use Rattle.gix_refspec_text.specs.Views.Spec.{reading_of}
@@ -26,7 +26,7 @@ use Rattle.gix_refspec_match.specs.Private.Kept.{AreExclusionsOf, FitsName, HasN
 use Rattle.gix_refspec_text.proofs.lemmas.parsing.SideLemmas.{Lacks-name}
 use Rattle.gix_refspec_text.proofs.lemmas.specs.ReadBackLemmas.{named_either}
 use Rattle.gix_refspec_text.proofs.lemmas.lists.LacksLemmas.{Lacks-here, first_once}
-use Rattle.gix_refspec_text.proofs.lemmas.parsing.ReasonLemmas.{positive}
+use Rattle.gix_refspec_text.proofs.lemmas.parsing.ReasonLemmas.{positive as not_negative}
 use Rattle.gix_refspec_text.proofs.lemmas.lists.MapLemmas.{map_next}
 
 -- the source of a negative reading
@@ -38,18 +38,18 @@ negative_source s r x either is source =
 
 -- the source of a negative spec is a name or a pattern
 source_by_form : (op : Operation) (text : List ℕ) (r : Reading) (x : List ℕ) → Reads op text r → r.mode ≡ Negative → r.source ≡ Some x → IsNameOrPattern x
-source_by_form op text r x (fetches_nothing_named mode fetch positive parts is) negative source = absurd (positive mode positive (sym (ap (λ (q : Reading). q.mode) is) ∙ negative))
-source_by_form op text r x (fetches_colon mode fetch positive parts is) negative source = absurd (positive mode positive (sym (ap (λ (q : Reading). q.mode) is) ∙ negative))
-source_by_form op text r x (fetches mode s fetch positive parts fine is) negative source = absurd (positive mode positive (sym (ap (λ (q : Reading). q.mode) is) ∙ negative))
-source_by_form op text r x (updates mode s d fetch positive parts fine is) negative source = absurd (positive mode positive (sym (ap (λ (q : Reading). q.mode) is) ∙ negative))
-source_by_form op text r x (updates_from_head mode d fetch positive parts fine is) negative source = absurd (positive mode positive (sym (ap (λ (q : Reading). q.mode) is) ∙ negative))
+source_by_form op text r x (fetches_nothing_named mode fetch positive parts is) negative source = absurd (not_negative mode positive (sym (ap (λ (q : Reading). q.mode) is) ∙ negative))
+source_by_form op text r x (fetches_colon mode fetch positive parts is) negative source = absurd (not_negative mode positive (sym (ap (λ (q : Reading). q.mode) is) ∙ negative))
+source_by_form op text r x (fetches mode s fetch positive parts fine is) negative source = absurd (not_negative mode positive (sym (ap (λ (q : Reading). q.mode) is) ∙ negative))
+source_by_form op text r x (updates mode s d fetch positive parts fine is) negative source = absurd (not_negative mode positive (sym (ap (λ (q : Reading). q.mode) is) ∙ negative))
+source_by_form op text r x (updates_from_head mode d fetch positive parts fine is) negative source = absurd (not_negative mode positive (sym (ap (λ (q : Reading). q.mode) is) ∙ negative))
 source_by_form op text r x (fetch_excludes s fetch parts either hash is) negative source = negative_source s r x either (sym (ap (λ (q : Reading). q.source) is)) source
-source_by_form op text r x (pushes_plus push parts is) negative source = absurd (positive Forced tt (sym (ap (λ (q : Reading). q.mode) is) ∙ negative))
-source_by_form op text r x (pushes_colon mode push positive parts is) negative source = absurd (positive mode positive (sym (ap (λ (q : Reading). q.mode) is) ∙ negative))
-source_by_form op text r x (pushes mode s push positive parts fine is) negative source = absurd (positive mode positive (sym (ap (λ (q : Reading). q.mode) is) ∙ negative))
-source_by_form op text r x (deletes mode d push positive parts fine is) negative source = absurd (positive mode positive (sym (ap (λ (q : Reading). q.mode) is) ∙ negative))
-source_by_form op text r x (pushes_pattern mode s d push positive parts fine also is) negative source = absurd (positive mode positive (sym (ap (λ (q : Reading). q.mode) is) ∙ negative))
-source_by_form op text r x (pushes_to mode s d push positive parts full lacks fine is) negative source = absurd (positive mode positive (sym (ap (λ (q : Reading). q.mode) is) ∙ negative))
+source_by_form op text r x (pushes_plus push parts is) negative source = absurd (not_negative Forced tt (sym (ap (λ (q : Reading). q.mode) is) ∙ negative))
+source_by_form op text r x (pushes_colon mode push positive parts is) negative source = absurd (not_negative mode positive (sym (ap (λ (q : Reading). q.mode) is) ∙ negative))
+source_by_form op text r x (pushes mode s push positive parts fine is) negative source = absurd (not_negative mode positive (sym (ap (λ (q : Reading). q.mode) is) ∙ negative))
+source_by_form op text r x (deletes mode d push positive parts fine is) negative source = absurd (not_negative mode positive (sym (ap (λ (q : Reading). q.mode) is) ∙ negative))
+source_by_form op text r x (pushes_pattern mode s d push positive parts fine also is) negative source = absurd (not_negative mode positive (sym (ap (λ (q : Reading). q.mode) is) ∙ negative))
+source_by_form op text r x (pushes_to mode s d push positive parts full lacks fine is) negative source = absurd (not_negative mode positive (sym (ap (λ (q : Reading). q.mode) is) ∙ negative))
 source_by_form op text r x (push_excludes s push parts either hash is) negative source = negative_source s r x either (sym (ap (λ (q : Reading). q.source) is)) source
 
 -- that a text lacks a byte has one proof at most

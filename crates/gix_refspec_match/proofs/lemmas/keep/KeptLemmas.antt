@@ -12,7 +12,7 @@ use Rattle.gix_refspec_match.specs.Matching.Mappings.{Source, name, id, Mapped, 
 use Rattle.gix_refspec_match.specs.Views.Mapping.{mapped_of}
 use Rattle.gix_refspec_match.specs.Private.EqualSpecs.{Thins}
 use Rattle.gix_refspec_match.specs.Private.Kept.{AreExclusionsOf, FlagsRepeats, IsRepeat, ExcludeStart, ExcludeName, IsKeptBy, IsUnflagged}
-use Rattle.gix_refspec_match.proofs.lemmas.lists.ListsLemmas.{made_all, made_map, made_once}
+use Rattle.gix_refspec_match.proofs.lemmas.lists.ListsLemmas.{made_all, made_map}
 
 -- a pair that is in a list, by its place
 pub HasPair-from_place : (l : List Mapped) (j : ℕ) (d m : Mapped) → j < length l → IsSamePair (get_or l j d) m → HasPair l m

@@ -20,8 +20,8 @@ use Rattle.gix_refspec_match.specs.Matching.Mappings.{Mapped, IsSamePair}
 use Rattle.gix_refspec_match.specs.Views.Mapping.{mapped_of}
 use Rattle.gix_refspec_match.specs.Private.Kept.{ArePairsOf, FlagsRepeats, Has, IsFlagged, IsPairOf, IsRepeat, IsSameAt, Rises, pair_places, start_made}
 use Rattle.gix_refspec_match.proofs.lemmas.keep.RepeatLemmas.{Contains-from_Has, FollowsSame, Has-left, Has-permuted, Has-right, Rises-push, all_permuted, apart_places, some_mapping}
-use Rattle.std.proofs.lemmas.Map.Lookups.{both_Equal}
 use Rattle.gix_refspec_text.proofs.lemmas.lists.AllLemmas.{all_join, all_weaker}
+use Rattle.gix_refspec_text.proofs.lemmas.lists.NumberLemmas.{upto}
 
 -- the pair has a place among the mappings, and is that of the mapping there
 abbrev pub FitsPair : List Mapping → Pair → Type 0
@@ -122,6 +122,11 @@ squeezed a m b after before same =
     (first_not_less (key_cmp m a) (nat_cmp m.place a.place) (sym (ap is_lt (by_key m a)) ∙ after))
     (first_not_less (key_cmp b m) (nat_cmp b.place m.place) (sym (ap is_lt (by_key b m)) ∙ before))
 
+pub both_equal : (a b : Ordering) → ordering_then a b ≡ Equal → (a ≡ Equal) × (b ≡ Equal)
+both_equal Less b is = absurd (cc)
+both_equal Equal b is = (refl, is)
+both_equal Greater b is = absurd (cc)
+
 same_bits : (a b : Bool) → bool_cmp a b ≡ Equal → a ≡ b
 same_bits true true is = refl
 same_bits true false is = absurd (cc)
@@ -140,8 +145,8 @@ same_destinations (Some x) (Some y) is = ap Some (same_texts x.now y.now is)
 -- mappings whose pairs have one key have the same pair
 pub pair_from_key : (m other : Mapped) (p q : Pair) → IsPairOf m p → IsPairOf other q → key_cmp p q ≡ Equal → IsSamePair m other
 pair_from_key m other p q is_m is_other same =
-    let first = both_Equal (bool_cmp p.is_id q.is_id) _ same in
-    let second = both_Equal (slice_cmp nat_cmp p.source.now q.source.now) _ first.1 in
+    let first = both_equal (bool_cmp p.is_id q.is_id) _ same in
+    let second = both_equal (slice_cmp nat_cmp p.source.now q.source.now) _ first.1 in
     let bits = same_bits p.is_id q.is_id first.0 in
     let texts = same_texts p.source.now q.source.now second.0 in
     record {

@@ -17,6 +17,7 @@ use Rattle.gix_refspec_match.proofs.lemmas.keep.KeptLemmas.{HasPair-left, HasPai
 use Rattle.gix_refspec_match.proofs.lemmas.keep.ThinLemmas.{thins_all, thins_both, pair_alike, kept_thinned, kept_moved}
 use Rattle.gix_refspec_text.proofs.lemmas.lists.AllLemmas.{all_weaker}
 use Rattle.gix_refspec_match.proofs.lemmas.index.FirstPlacesLemmas.{has_cases}
+use Rattle.gix_refspec_match.proofs.lemmas.hits.HitLemmas.{of_hits}
 
 -- ---- names of the part
 

@@ -1,6 +1,6 @@
 -- Lists that are joined from lists, and lists of which nothing is made.
 use Rattle.std.proofs.Common.{◌≡◌, ℕ, suc, ◌+◌, ◌<◌, ◌≤◌, map, take, drop, get_or, take-append-drop, drop-cons, List, [], ◌∷◌, ◌++◌, Option, None, Some, option_to_list, length, refl, sym, ap, ◌∙◌, subst, append_assoc, arith}
-use Rattle.std.proofs.lemmas.List.{append-nil, map-append, length-map, length-take-le, take_more}
+use Rattle.std.proofs.lemmas.List.{append-nil, map-append, length-map, length-take-le}
 use Rattle.gix_refspec_match.specs.Matching.Lists.{MakesOf, IsMadeFrom, IsJoinedFrom}
 use Rattle.gix_refspec_match.proofs.lemmas.lists.ListsLemmas.{made_push}
 

@@ -1,10 +1,10 @@
 -- Facts on the texts of ids: which texts they are, that each is the text of one id, and that decoding finds it.
 use Rattle.std.proofs.Common.{◌≡◌, ℕ, zero, suc, ◌+◌, ◌-◌, ◌*◌, ◌/◌, ◌%◌, ◌<◌, ◌≤◌, Bool, List, [], ◌∷◌, length, slice_index, take, nat_le, nat_lt, ◌&&◌, ◌⊎◌, inl, inr, Option, Some, None, unwrap_or, is_some, true, false, Result, Ok, Err, refl, sym, ap, ◌∙◌, subst, arith, ◌++◌, drop}
 use Rattle.std.specs.Prelude.{IsOk, MatchBool, MatchResult}
-use Rattle.std.specs.List.{AllPass, SomeIndex}
+use Rattle.std.specs.List.{AllPass, SomeIndex, list_all}
 use Rattle.std.specs.Result.{is_err, result_unwrap_or}
 use Rattle.std.specs.Str.{IsAscii, IsUtf8}
-use Rattle.std.proofs.lemmas.Bool.{and_parts, cases_Bool, cases_eq, leb-true, ltb-true, or_cases}
+use Rattle.std.proofs.lemmas.Bool.{and_cases, false≢true, and_parts, cases_Bool, cases_eq, leb-true, ltb-true, or_cases}
 use Rattle.std.proofs.lemmas.List.{length-take-le, take-append-le, take_all}
 use Rattle.std.proofs.lemmas.List.Elements.{All-cons, All-head, All-nil, All-tail, All-weaker}
 use Rattle.std.proofs.lemmas.List.Sums.{AllPass-from_list_all}
@@ -19,6 +19,7 @@ use Rattle.gix_refspec_text.specs.declared.oid.Error.TheVariants.{Digit, Length}
 use Rattle.gix_refspec_text.specs.declared.oid.Kind.{Kind}
 use Rattle.gix_refspec_text.specs.declared.oid.Kind.TheVariants.{Sha1, Sha256}
 use Rattle.gix_refspec_text.specs.Texts.ObjectId.{HasIdFault, IsIdLength, IsIdText, IsLowerText, IsSpelledBy, Spells, bytes_of, digits_of, is_lower_digit, lower_of}
+use Rattle.gix_refspec_text.specs.Matching.Side.{IsId}
 use Rattle.gix_refspec_text.specs.Laws.Readings.{HasOneId, HasOneFault, IdOrFault, OneLowerText}
 
 -- an id has two digits for each byte
@@ -197,6 +198,23 @@ id_or_fault t = elim (length_or_not (length t)) [
     | inr index ↦ inr (has_one_fault t Digit (len, index))
   ]
 ]
+
+-- these are the lengths of ids
+pub id_size : (n : ℕ) → (n ≡ 40) ⊎ (n ≡ 64) → IsIdLength n
+id_size n (inl same) = (Sha1, same)
+id_size n (inr same) = (Sha256, same)
+
+not_all : (t : List ℕ) → list_all is_hex_digit t ≡ false → ¬ (AllPass is_hex_digit t)
+not_all [] other all = false≢true (sym other)
+not_all (c ∷ t) other all = elim (and_cases (is_hex_digit c) (list_all is_hex_digit t) other) [
+  | inl here ↦ false≢true (sym here ∙ All-head (λ d. is_hex_digit d ≡ true) c t all)
+  | inr later ↦ not_all t later (All-tail (λ d. is_hex_digit d ≡ true) c t all)
+]
+
+-- a text as long as an id spells one exactly if all its bytes are digits
+pub IsId-by_digits : (t : List ℕ) (digits : Bool) → IsIdLength (length t) → digits ≡ list_all is_hex_digit t → MatchBool digits (IsId t) (¬ (IsId t))
+IsId-by_digits t true size same = IsIdText-digits t size (AllPass-from_list_all is_hex_digit t (sym same))
+IsId-by_digits t false size same = λ id. not_all t (sym same) (AllPass-IsIdText t id.0 id.1)
 
 -- ---- bytes that are decoded into a buffer
 

@@ -9,4 +9,4 @@ use Rattle.refspec_commands.proofs.json.write_refusal.Goals as goal
 pub returns : goal.returns
 returns c =
     let at = subst (IsLocation form.Json c.args.text.now.location) (sym c.as_str.ensures.value) c.in_ok-location.ensures in
-    on_ok c.write_line.result _ _ c.write_line.ensures (WritesRefused-of c.args.text.now c.args.error.now c.as_str.result.now c.operation_of.result.now c.as_str-2.result.now c.reason_of.result.now c.explanation.result.now (option_map (λ t. t.now) c.map-side.result) (option_map (λ t. t.now) c.as_deref-part.result) c.map-at.result c.in_ok-advice.advice.now c.args.out.now.items c.write_line.new.out.items at c.operation_of.ensures (c.as_str-2.ensures.value ∙ c.in_ok-shown.ensures) c.reason_of.ensures c.explanation.ensures)
+    on_ok c.write_line.result _ _ c.write_line.ensures (WritesRefused-of c.args.text.now c.args.error.now c.as_str.result.now c.operation_of.result.now c.as_str-2.result.now c.reason.result.now c.explanation.result.now (option_map (λ t. t.now) c.map-side.result) (option_map (λ t. t.now) c.as_deref-part.result) c.map-at.result c.in_ok-advice.advice.now c.args.out.now.items c.write_line.new.out.items at c.operation_of.ensures (c.as_str-2.ensures.value ∙ c.in_ok-shown.ensures) c.reason.ensures c.explanation.ensures)

@@ -12,7 +12,7 @@ use Rattle.gix_refspec.specs.Views.Issue.{removed_of}
 use Rattle.gix_refspec.proofs.lemmas.validate.ConflictLemmas.{spec_fits}
 use Rattle.gix_refspec.proofs.lemmas.validate.ValidationLemmas.{all_next, fix_of, no_fix_nowhere, no_fix_written, not_empty, nothing_more, one_more, survives_nowhere, survives_to}
 use Rattle.gix_refspec.proofs.match_group.validate.fixes_of.Goals as goal
-use Rattle.gix_refspec.proofs.match_group.validate.fixes_of.Goals.{in-Some+then-not-is_writable+in_ok-from_slice+in_ok-to_owned+in_ok-push, in-Some+else-not-is_writable, in_default}
+use Rattle.gix_refspec.proofs.match_group.validate.fixes_of.Goals.{in-Some+then-not-can_be_written+in_ok-from_slice+in_ok-to_owned+in_ok-push, in-Some+else-not-can_be_written, in_default}
 
 pub bounds-specs-mapping : goal.bounds-specs-mapping
 bounds-specs-mapping c = spec_fits c.args.specs.now c.args.mappings.now c.loop-mapping.mapping-index c.mapping-item.result c.requires c.loop-mapping-test.true c.mapping-item.is
@@ -31,16 +31,16 @@ loop-mapping-preserved c =
     let after = map mapped_of (take (i + 1) ms) in
     let stays : Vec Fix Global → Type 0 = λ v. AreFixes g after (map removed_of v.items) × (v.items ≡ [] → AllByRecursion Survives after) in
     elim c.match-mapping.branch [
-      | in-Some+then-not-is_writable+in_ok-from_slice+in_ok-to_owned+in_ok-push w ↦
+      | in-Some+then-not-can_be_written+in_ok-from_slice+in_ok-to_owned+in_ok-push w ↦
           let one : Fix = fix.MappingWithPartialDestinationRemoved w.in_ok-from_slice.field-0 w.in_ok-to_owned.field-0 in
           let pushed : map removed_of w.push.new.self.items ≡ fixes ++ removed_of one ∷ [] = ap (map removed_of) w.in_ok-push.ensures.items ∙ map-append removed_of c.loop-mapping.fixes.items (one ∷ []) in
-          let is = fix_of specs m w.in-Some.name w.index-specs-mapping.result (removed_of one) w.in-Some.is (λ writable. false≢true (sym w.if-not-is_writable.true ∙ w.is_writable.ensures.1 writable)) (spec_fits specs ms i m c.requires c.loop-mapping-test.true c.mapping-item.is) w.index-specs-mapping.is (w.in_ok-from_slice.ensures ∙ w.as_bstr.ensures) w.in_ok-to_owned.ensures.keeps in
+          let is = fix_of specs m w.in-Some.name w.index-specs-mapping.result (removed_of one) w.in-Some.is (λ writable. false≢true (sym w.if-not-can_be_written.true ∙ w.can_be_written.ensures.1 writable)) (spec_fits specs ms i m c.requires c.loop-mapping-test.true c.mapping-item.is) w.index-specs-mapping.is (w.in_ok-from_slice.ensures ∙ w.as_bstr.ensures) w.in_ok-to_owned.ensures.keeps in
           subst stays (sym w.fixes-is) (
             one_more (λ k n fix. IsFix g n fix) ms i m fixes (map removed_of w.push.new.self.items) (removed_of one) c.loop-mapping-test.true c.mapping-item.is pushed is c.loop-mapping.invariant.0,
             λ empty. absurd (not_empty c.loop-mapping.fixes.items w.push.new.self.items one w.in_ok-push.ensures.items empty),
           )
-      | in-Some+else-not-is_writable w ↦
-          let writable = w.is_writable.ensures.0 w.if-not-is_writable.false in
+      | in-Some+else-not-can_be_written w ↦
+          let writable = w.can_be_written.ensures.0 w.if-not-can_be_written.false in
           subst stays (sym w.fixes-is) (
             nothing_more (λ k n fix. IsFix g n fix) ms i m fixes c.loop-mapping-test.true c.mapping-item.is (no_fix_written g m w.in-Some.name w.in-Some.is writable) c.loop-mapping.invariant.0,
             λ empty. all_next Survives ms i m c.loop-mapping-test.true c.mapping-item.is (survives_to m w.in-Some.name w.in-Some.is writable) (c.loop-mapping.invariant.1 empty),

@@ -1,7 +1,7 @@
 use Rattle.std.proofs.Common.{◌≡◌, take}
 use Rattle.std.specs.List.{list_all}
 use Rattle.hex.specs.Hex.{is_hex_digit}
-use Rattle.refspec_map.proofs.line.are_digits.Given as goal
+use Rattle.gix_refspec_text.proofs.oid.are_digits.Given as goal
 
 -- whether the bytes so far are digits
 abbrev pub invariant-loop-byte : goal.invariant-loop-byte

@@ -1,8 +1,0 @@
-use Rattle.std.proofs.Common.{map, take}
-use Rattle.gix_refspec.specs.Views.Spec.{reading_of}
-use Rattle.gix_refspec.specs.Laws.Items.{AsksForNoId}
-use Rattle.refspec_map.proofs.matching.asks_for_ids.Given as goal
-
--- no destination of the specs so far is an id
-abbrev pub invariant-loop-spec : goal.invariant-loop-spec
-invariant-loop-spec l = AsksForNoId (map reading_of (take l.spec-index l.specs))
