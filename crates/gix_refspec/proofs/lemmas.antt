@@ -1,4 +1,4 @@
--- What proofs share, by subject.
+-- Lemmas that several proofs use, by subject.
 pub mod specs
 pub mod prefixes
 pub mod hits

@@ -1,4 +1,4 @@
--- What follows from the other definitions: the laws of the library.
+-- The laws of the library, which follow from the other definitions.
 pub use Rattle.gix_refspec_text.specs.Laws.Readings
 pub use Rattle.gix_refspec_text.specs.Laws.Order
 pub use Rattle.gix_refspec_text.specs.Laws.Sides

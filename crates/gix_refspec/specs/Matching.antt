@@ -1,4 +1,4 @@
--- What specs match, ask for and map, and which mappings can be written.
+-- What specs match and map, their ref prefixes, and which mappings can be written.
 pub use Rattle.gix_refspec_text.specs.Matching.Side
 pub use Rattle.gix_refspec_text.specs.Matching.Match
 pub use Rattle.gix_refspec_text.specs.Matching.Prefix

@@ -1,2 +1,2 @@
--- The words that only private functions cite, for their steps.
+-- The definitions that only private functions use, for their steps.
 pub mod Updates

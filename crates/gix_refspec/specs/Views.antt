@@ -1,4 +1,4 @@
--- How a clause sees a Rust value as plain data.
+-- Rust values as plain data, for contracts.
 pub use Rattle.gix_refspec_text.specs.Views.Instruction
 pub use Rattle.gix_refspec_text.specs.Views.Spec
 pub use Rattle.gix_refspec_text.specs.Views.Errors

@@ -1,5 +1,5 @@
-//! Laws, for proofs: the contract of each function states a law of the values that it takes. A caller
-//! that is proved calls it to get that fact. It does nothing when it runs, and no other caller needs it.
+//! Laws, for proofs: the contract of each function states a law of its arguments. A proved caller calls
+//! it to get that fact. At run time it does nothing, and no other caller needs it.
 
 ghost use Rattle.std.specs.Prelude.{◌≡◌, ◌↔◌, map, option_map, IsTrue};
 ghost use Rattle.std.specs.Ordering.{nat_cmp};
@@ -42,7 +42,7 @@ pub fn reads_or_refused(operation: Operation, text: &[u8])
     ensures { ReadsOrRefused operation text.now }
 {}
 
-/// A text is refused for one reason. For a bad name any of its faults may be reported.
+/// A text is refused for one reason. For an invalid name any of its faults may be reported.
 pub fn one_refusal(operation: Operation, text: &[u8])
     ensures { OneRefusal operation text.now }
 {}
@@ -52,23 +52,22 @@ pub fn reason_refuses(operation: Operation, text: &[u8])
     ensures { ReasonRefuses operation text.now }
 {}
 
-/// What a text reads as for an operation is for that operation.
+/// The reading of a text is for the operation that the text was read for.
 pub fn keeps_operation(operation: Operation, text: &[u8])
     ensures { KeepsOperation operation text.now }
 {}
 
-/// What a text reads as has a canonical text, which has exactly one reading, with the same meaning.
+/// The reading of a text has a canonical text, which has exactly one reading, with the same meaning.
 pub fn reads_back(operation: Operation, text: &[u8])
     ensures { ReadsBack operation text.now }
 {}
 
-/// Two texts that read for one operation mean the same exactly where their canonical texts are
-/// equal.
+/// Two texts that are read for one operation mean the same exactly if their canonical texts are equal.
 pub fn equal_texts(operation: Operation, a: &[u8], b: &[u8])
     ensures { EqualTexts operation a.now b.now }
 {}
 
-/// Two specs are equal exactly where they are for one operation and have one canonical text.
+/// Two specs are equal exactly if they are for one operation and have the same canonical text.
 pub fn equal_specs<'a>(a: &RefSpecRef<'a>, b: &RefSpecRef<'_>)
     ensures same { IsTrue (⟦<RefSpecRef<'a> as PartialEq>⟧.eq a.now b.now) ↔
         (meaning_of (reading_of a.now) ≡ meaning_of (reading_of b.now)) }
@@ -97,7 +96,7 @@ pub fn says_for_operation(spec: &RefSpecRef<'_>)
     ensures { SaysForOperation (reading_of spec.now) }
 {}
 
-/// Each side of a spec has one star or none. Of two sides both have one, or neither has.
+/// Each side of a spec has at most one star. If it has two sides, both have a star or neither has.
 pub fn sides_agree(spec: &RefSpecRef<'_>)
     ensures { SidesAgree (reading_of spec.now) }
 {}
@@ -107,25 +106,25 @@ pub fn owned_sides_agree(spec: &RefSpec)
     ensures { SidesAgree (owned_reading_of spec.now) }
 {}
 
-/// A text is that of one id, or it has one fault; never both.
+/// A text spells exactly one id, or has exactly one fault; never both.
 pub fn id_or_fault(text: &[u8])
     ensures { IdOrFault text.now }
 {}
 
-/// An id prints as its one text in lower case, from which it is read again.
+/// An id prints as its one text in lower case, from which the same id is read.
 pub fn one_lower_text(id: ObjectId)
     ensures { OneLowerText (id_bytes id) }
 {}
 
-/// Whatever a text is, it is a ref name, as `name_partial` has it, if none of the words between its slashes
-/// is empty, and none of its bytes is a control character, a space or one of `~^:?[\*.{`. Of other texts the
-/// law says nothing: `v1.0` is a ref name as well. So a proof that writes out a name, as `refs/heads/main`,
-/// shows by computing that it is one.
+/// A text is a ref name, as `name_partial` checks it, if no component between its slashes is empty, and
+/// no byte is a control character, a space or one of `~^:?[\*.{`. The law covers all such texts, but
+/// not all ref names: `v1.0` is one too. So a proof that writes out a name, as `refs/heads/main`, shows
+/// by computing that it is valid.
 pub fn plain_names()
     ensures { PlainNames }
 {}
 
-/// Nothing is against a pattern, unless it has more than 256 bytes and memory runs out.
+/// A valid pattern is refused only if it has more than 256 bytes and memory runs out.
 pub fn nothing_against(pattern: &[u8])
     ensures { NothingAgainst pattern.now }
 {}
@@ -135,19 +134,18 @@ pub fn one_word(before: &[u8], after: &[u8], name: &[u8])
     ensures { OneWord before.now after.now name.now }
 {}
 
-/// A side has at most one kind: a pattern, the full name of a ref, the id of an object, or a partial
-/// name.
+/// A side has at most one kind: a pattern, a full name, an object id, or a partial name.
 pub fn one_kind(side: &[u8])
     ensures { OneKind side.now }
 {}
 
-/// Whatever the bytes are, a side has at most one kind, a name one word between two texts, and a text
-/// one id. `one_kind`, `one_word` and `id_or_fault` say so of slices at hand.
+/// For all bytes: a side has at most one kind, a pattern's star matches at most one word of a name, and
+/// a text spells at most one id. `one_kind`, `one_word` and `id_or_fault` say so of given slices.
 pub fn one_of_each()
     ensures { OneOfEach }
 {}
 
-/// Each ref that a side matches begins with the prefix of the side, but for the side `HEAD`.
+/// Each ref that a side matches begins with the prefix of the side, except for the side `HEAD`.
 pub fn prefix_begins(side: &[u8])
     ensures { PrefixBegins side.now }
 {}
@@ -157,21 +155,21 @@ pub fn one_prefix(side: &[u8])
     ensures { OnePrefix side.now }
 {}
 
-/// A side without a star that isn't `HEAD`, doesn't begin `refs/` and is no id expands to its six
+/// A side without a star that isn't `HEAD`, doesn't begin `refs/` and isn't an id expands to its six
 /// candidates, and matches exactly the refs with one of these names. As the source of a spec, over a
 /// list of one ref, it takes this ref exactly if its name is one of them.
 pub fn candidates(side: &[u8])
     ensures { Candidates side.now }
 {}
 
-/// Among items, a source without a star that doesn't begin `refs/` and is no id takes exactly those
+/// Among items, a source without a star that doesn't begin `refs/` and isn't an id takes exactly those
 /// whose name is the first of its candidates that some item has. There is at most one such name, and
 /// there is one if some item has a candidate as its name.
 pub fn first_candidate(side: &[u8], items: &[Item<'_>])
     ensures { FirstCandidate side.now (map ref_of items.now) }
 {}
 
-/// A group and items have no two lists of mappings from left to right that are kept: the contract of
+/// A group and items have at most one list of kept mappings from left to right: the contract of
 /// `match_lhs` determines what it lists.
 pub fn one_forward(group: &MatchGroup<'_>, items: &[Item<'_>])
     ensures { OneForward (readings_of group.now) (map ref_of items.now) }
@@ -187,32 +185,33 @@ pub fn kept_once(group: &MatchGroup<'_>, items: &[Item<'_>])
     ensures { KeptOnce (readings_of group.now) (map ref_of items.now) }
 {}
 
-/// Both directions agree where each positive spec with two sides has two patterns, or two sides that
-/// begin `refs/`: between the names of `left` and of `right`, `match_lhs` over `left` maps the same
-/// pairs as `match_rhs` over `right`.
+/// Both directions agree if each positive spec with two sides has two patterns, or two sides that begin
+/// `refs/`: between the names of `left` and of `right`, `match_lhs` over `left` maps the same pairs as
+/// `match_rhs` over `right`.
 pub fn transpose(group: &MatchGroup<'_>, left: &[Item<'_>], right: &[Item<'_>])
     ensures { Transpose (readings_of group.now) (map ref_of left.now) (map ref_of right.now) }
 {}
 
-/// A pair is kept exactly where some spec makes it and none excludes its source: from left to right of an
-/// item that the source takes, or of an id; from right to left of an item that the destination matches.
+/// A pair is kept exactly if some spec makes it and no spec excludes its source: from left to right of
+/// an item that the source takes, or of an id; from right to left of an item that the destination
+/// matches.
 pub fn kept_exactly(group: &MatchGroup<'_>, items: &[Item<'_>])
     ensures { KeptExactly (readings_of group.now) (map ref_of items.now) }
 {}
 
-/// Of the mappings with the same source and destination only the first is kept, with its indexes, if no
-/// negative spec excludes its source, in both directions.
+/// In both directions: of the mappings with the same source and destination only the first is kept,
+/// with its indexes, if no negative spec excludes its source.
 pub fn first_stays(group: &MatchGroup<'_>, items: &[Item<'_>])
     ensures { FirstStays (readings_of group.now) (map ref_of items.now) }
 {}
 
-/// No mapping that is kept has a source that a negative spec excludes, in either direction, and none
-/// excludes an id.
+/// In both directions: no kept mapping has a source that a negative spec excludes, and no spec excludes
+/// an id.
 pub fn nothing_excluded(group: &MatchGroup<'_>, items: &[Item<'_>])
     ensures { NothingExcluded (readings_of group.now) (map ref_of items.now) }
 {}
 
-/// A group of fetches maps as the group that its canonical texts read as, in both directions and
+/// A group of fetches and the group read from its canonical texts map alike, in both directions and
 /// over all items.
 pub fn fetch_group_reads_back(group: &MatchGroup<'_>, again: &MatchGroup<'_>, items: &[Item<'_>])
     ensures { FetchGroupReadsBack
@@ -229,43 +228,44 @@ pub fn equal_groups<'a>(group: &MatchGroup<'a>, other: &MatchGroup<'a>, items: &
         MapAlike (readings_of group.now) (readings_of other.now) (map ref_of items.now) }
 {}
 
-/// Each name that a fetch of a group maps from left to right begins with an entry of what this spec
-/// expands to, whatever the other specs are, and so with one of the entries of all. Its source has to
-/// begin `refs/` and have a prefix, or to be a partial name other than `HEAD`, or an id. Of `HEAD` the
-/// name `HEAD` alone is covered, since it takes `refs/heads/HEAD` too where there is no `HEAD`.
+/// Each name that a fetch of a group maps from left to right begins with an entry of the expansion of
+/// this spec, whatever the other specs are, and so with one of the expansion of the group. The source
+/// has to begin `refs/` and have a prefix, or to be a partial name other than `HEAD`, or an id. A
+/// source `HEAD` covers only the name `HEAD`: it takes `refs/heads/HEAD` too if there is no `HEAD`.
 pub fn cover(group: &MatchGroup<'_>, items: &[Item<'_>])
     ensures some { Cover (readings_of group.now) (map ref_of items.now) }
     ensures together { CoverTogether (readings_of group.now) (map ref_of items.now) }
 {}
 
-/// Items that no spec takes may be left out: over a part of the items that has each one which some spec
-/// takes, the same pairs are kept, in both directions. What a partial source takes is decided among all.
+/// Items that no spec takes may be left out: over a subset of the items with each one that some spec
+/// takes, the same pairs are kept, in both directions. What a partial source takes is decided among all
+/// items.
 pub fn fewer_items(group: &MatchGroup<'_>, items: &[Item<'_>], part: &[Item<'_>])
     ensures kept { FewerItems (readings_of group.now) (map ref_of items.now) (map ref_of part.now) }
 
-    // So it is with what a test lets through.
+    // A filter that passes each item that some spec takes gives such a subset.
     ensures filtered { FilteredItems (readings_of group.now) items.now part.now }
 {}
 
-/// From left to right the names of refs alone decide what is kept: over refs with the same names the same
-/// mappings are. So a caller of `match_lhs` needs no id of a ref.
+/// From left to right only the names of refs decide what is kept: refs with the same names have the
+/// same mappings. So a caller of `match_lhs` needs no ids of refs.
 pub fn names_decide(group: &MatchGroup<'_>, items: &[Item<'_>])
     ensures { NamesDecide (readings_of group.now) (map ref_of items.now) }
 {}
 
-/// From right to left the names of refs alone decide where no destination is an id, as an id matches by ids.
+/// As `names_decide`, from right to left, if no destination is an id: an id matches the ids of refs.
 pub fn names_decide_back(group: &MatchGroup<'_>, items: &[Item<'_>])
     ensures { NamesDecideBack (readings_of group.now) (map ref_of items.now) }
 {}
 
-/// A client that lists only the refs whose names begin with an entry of what a group expands to loses
-/// no pair of a spec whose source is as `cover` asks, or is `HEAD` where there is such a ref. If each
-/// spec is so or negative, the same pairs are kept.
+/// A client that lists only the refs whose names begin with an entry of the expansion of a group loses
+/// no pair of a spec whose source is as `cover` asks, or is `HEAD` if there is such a ref. If each spec
+/// is one of these or negative, the same pairs are kept.
 pub fn listed_items(group: &MatchGroup<'_>, items: &[Item<'_>], listed: &[Item<'_>])
     ensures kept { ListedItems
         (readings_of group.now) (map ref_of items.now) (map ref_of listed.now) }
 
-    // So it is with what a test for the entries lets through.
+    // A filter by these entries gives such a list.
     ensures filtered { FilteredByEntries (readings_of group.now) items.now listed.now }
 {}
 
@@ -274,49 +274,51 @@ pub fn listed_items(group: &MatchGroup<'_>, items: &[Item<'_>], listed: &[Item<'
 pub fn asked_items(group: &MatchGroup<'_>, items: &[Item<'_>], asked: &[Item<'_>])
     ensures kept { AskedItems (readings_of group.now) (map ref_of items.now) (map ref_of asked.now) }
 
-    // So it is with what a test for the entries lets through.
+    // A filter by these entries gives such a list.
     ensures filtered { FilteredByList items.now asked.now }
 {}
 
-/// Each mapping that `match_lhs` lists has a spec of the group: the condition of `validated`.
+/// The `spec_index` of each mapping of `match_lhs` is that of a spec of the group: the condition of
+/// `validated`.
 pub fn forward_fits(group: &MatchGroup<'_>, items: &[Item<'_>])
     ensures { ForwardFits (readings_of group.now) (map ref_of items.now) }
 {}
 
-/// The places of a mapping that is kept are those of a spec of the group and of an item, whose name is its
-/// source, or from right to left its destination; only the mapping of an id has no item. So it is with
-/// what survives a validation.
+/// The indexes of a kept mapping are those of a spec of the group and of an item, whose name is the
+/// source, or from right to left the destination; only the mapping of an id has no item. The same holds
+/// of the mappings that survive a validation.
 pub fn item_indexes_fit(group: &MatchGroup<'_>, items: &[Item<'_>])
     ensures { ItemIndexesFit (readings_of group.now) (map ref_of items.now) }
 {}
 
-/// Each mapping that is kept is what the spec at its place makes: of the item at its place, or, where it has
-/// none, of an id that the spec asks for. From right to left each has an item.
+/// Each kept mapping is made by the spec at its index: of the item at its index, or, without an item,
+/// of an id that the spec asks for. From right to left each mapping has an item.
 pub fn made_at_indexes(group: &MatchGroup<'_>, items: &[Item<'_>])
     ensures { MadeAtIndexes (readings_of group.now) (map ref_of items.now) }
 {}
 
-/// Exactly those mappings survive a validation whose destination begins `refs/`, is `HEAD` or is
-/// missing; and after `without_invalid_names` those between names of refs.
+/// A mapping survives a validation exactly if its destination begins `refs/`, is `HEAD` or is missing,
+/// and `without_invalid_names` exactly if neither side is an invalid ref name.
 pub fn remains_exactly(outcome: &match_lhs::Outcome<'_, '_>)
     ensures { RemainsExactly (readings_of outcome.now.group) (mappings_of outcome.now) }
 {}
 
-/// After a validation, mappings with one destination have one source. If the mappings came from
-/// `match_lhs`, no two have one destination.
+/// After a validation, mappings with the same destination have the same source. If the mappings came
+/// from `match_lhs`, no two have the same destination.
 pub fn validated_once(group: &MatchGroup<'_>, items: &[Item<'_>])
     ensures { ValidatedOnce (readings_of group.now) (map ref_of items.now) }
 {}
 
-/// Whatever a group and items are, of what `validated` leaves of `match_lhs` no two mappings have the same
-/// destination, or are the same pair, and no two fixes have the same destination. Mappings of one spec and one
-/// item have one source. So a caller that writes them out, with their indexes, writes no two alike.
+/// For all groups and items: if the outcome of `match_lhs` is validated, no two of the remaining
+/// mappings have the same destination, or are the same pair, and no two fixes have the same
+/// destination. Mappings of one spec and one item have one source. So a caller that writes them out,
+/// with their indexes, writes no duplicates.
 pub fn plans_apart()
     ensures { PlansApart }
 {}
 
-/// Whatever a text is, no side of the fetch that it reads as has a byte below 32, nor has its canonical
-/// text. So no mapping of `match_lhs` has one, if no name of an item does.
+/// For all texts: neither a side of the fetch that a text is read as, nor its canonical text, contains
+/// a byte below 32. So no mapping of `match_lhs` contains one, if no name of an item does.
 pub fn no_control_character()
     ensures { NoControlCharacter }
 {}
@@ -327,8 +329,8 @@ pub fn one_validation(outcome: &match_lhs::Outcome<'_, '_>)
     ensures { OneValidation (readings_of outcome.now.group) (mappings_of outcome.now) }
 {}
 
-/// An outcome and what its `clone` gave have the same specs and the same mappings. So both have the
-/// same conflicts, survivors and fixes.
+/// An outcome and its `clone` have the same specs and the same mappings. So both have the same
+/// conflicts, survivors and fixes.
 pub fn copied_outcome<'a, 'b, 'c, const FORWARD: bool>(
     outcome: &Outcome<'a, 'b, 'c, FORWARD>,
     copy: &Outcome<'a, 'b, 'c, FORWARD>,
@@ -336,33 +338,34 @@ pub fn copied_outcome<'a, 'b, 'c, const FORWARD: bool>(
     ensures { CopiedOutcome outcome.now copy.now }
 {}
 
-/// After `validated` and `without_invalid_names`, in either order, each destination is the name of a ref. So
-/// it is `HEAD` or begins `refs/`, and no component of it is empty or begins with a dot, as `..` does,
-/// and no byte of it is a control character. If the mappings came from `match_lhs`, no two have one
-/// destination. What `without_invalid_names` keeps has the places that it had: so `validated` may be called.
+/// After `validated` and `without_invalid_names`, in either order, each destination is a valid ref
+/// name: it is `HEAD` or begins `refs/`, no component of it is empty or begins with a dot, as `..`
+/// does, and no byte of it is a control character. If the mappings came from `match_lhs`, no two have
+/// the same destination. What `without_invalid_names` keeps has its indexes unchanged: so `validated`
+/// may be called.
 pub fn writes_refs(group: &MatchGroup<'_>, items: &[Item<'_>])
     ensures { WritesRefs (readings_of group.now) (map ref_of items.now) }
 {}
 
-/// Two issues are equal exactly where they report the same conflict.
+/// Two issues are equal exactly if they report the same conflict.
 pub fn equal_issues(a: &Issue, b: &Issue)
     ensures { IsTrue (⟦<Issue as PartialEq>⟧.eq a.now b.now) ↔
         (conflict_of a.now ≡ conflict_of b.now) }
 {}
 
-/// Two fixes are equal exactly where they have the same destination, and specs that say the same.
+/// Two fixes are equal exactly if they have the same destination, and specs with the same meaning.
 pub fn equal_fixes(a: &Fix, b: &Fix)
     ensures { IsTrue (⟦<Fix as PartialEq>⟧.eq a.now b.now) ↔ IsSameFix a.now b.now }
 {}
 
-/// Two sources are equal exactly where they are the same name or the same id.
+/// Two sources are equal exactly if they are the same name or the same id.
 pub fn equal_sources<'a>(a: &SourceRef<'a>, b: &SourceRef<'a>)
     ensures { IsTrue (⟦<SourceRef<'a> as PartialEq>⟧.eq a.now b.now) ↔
         (start_of a.now ≡ start_of b.now) }
 {}
 
-/// Two mappings are equal exactly where they have the same source and the same destination, wherever
-/// they come from.
+/// Two mappings are equal exactly if they have the same source and the same destination, whatever their
+/// indexes are.
 pub fn equal_mappings<'a, 'b>(a: &Mapping<'a, 'b>, b: &Mapping<'a, 'b>)
     ensures { IsTrue (⟦<Mapping<'a, 'b> as PartialEq>⟧.eq a.now b.now) ↔
         IsSamePair (mapped_of a.now) (mapped_of b.now) }
@@ -371,38 +374,38 @@ pub fn equal_mappings<'a, 'b>(a: &Mapping<'a, 'b>, b: &Mapping<'a, 'b>)
     equal_destinations(&a.rhs, &b.rhs);
 }
 
-// Two destinations are equal exactly where both are there with the same bytes, or neither is there.
+// Two destinations are equal exactly if both are present with the same bytes, or both are missing.
 fn equal_destinations<'a>(a: &Option<NameRef<'a>>, b: &Option<NameRef<'a>>)
     ensures { IsTrue (⟦<Option<NameRef<'a>> as PartialEq>⟧.eq a.now b.now) ↔
         (option_map name_bytes a.now ≡ option_map name_bytes b.now) }
 {}
 
-/// Two sides of mappings are equal exactly where they are the same.
+/// Two invalid sides are equal exactly if they are the same variant.
 pub fn equal_invalid_sides(a: InvalidSide, b: InvalidSide)
     ensures { IsTrue (⟦<InvalidSide as PartialEq>⟧.eq a b) ↔ (a ≡ b) }
 {}
 
-/// Two kinds of ids are equal exactly where they are the same.
+/// Two kinds of ids are equal exactly if they are the same.
 pub fn equal_kinds(a: Kind, b: Kind)
     ensures { IsTrue (⟦<Kind as PartialEq>⟧.eq a b) ↔ (a ≡ b) }
 {}
 
-/// Two faults of ids are equal exactly where they are the same variant with equal fields.
+/// Two faults of ids are equal exactly if they are the same variant with equal fields.
 pub fn equal_id_faults(a: oid::Error, b: oid::Error)
     ensures { IsTrue (⟦<oid::Error as PartialEq>⟧.eq a b) ↔ (a ≡ b) }
 {}
 
-/// Two faults of names are equal exactly where they are the same variant with equal fields.
+/// Two faults of names are equal exactly if they are the same variant with equal fields.
 pub fn equal_name_faults(a: name::Error, b: name::Error)
     ensures { IsTrue (⟦<name::Error as PartialEq>⟧.eq a b) ↔ (a ≡ b) }
 {}
 
-/// Two refusals of texts are equal exactly where they are the same variant with equal fields.
+/// Two refusals of texts are equal exactly if they are the same variant with equal fields.
 pub fn equal_errors(a: &parsing::Error, b: &parsing::Error)
     ensures { IsTrue (⟦<parsing::Error as PartialEq>⟧.eq a.now b.now) ↔ IsSameError a.now b.now }
 {}
 
-/// Two faults of patterns are equal exactly where they are the same variant with equal fields.
+/// Two faults of patterns are equal exactly if they are the same variant with equal fields.
 pub fn equal_pattern_errors(a: PatternError, b: PatternError)
     ensures { IsTrue (⟦<PatternError as PartialEq>⟧.eq a b) ↔ (a ≡ b) }
 {}
@@ -477,8 +480,8 @@ pub fn hashed_sources<'a>(a: &SourceRef<'a>, b: &SourceRef<'a>)
     equal_sources(a, b);
 }
 
-/// Hashing a mapping writes its source and its destination alone, wherever it comes from. So equal
-/// mappings are hashed alike.
+/// Hashing a mapping writes its source and its destination alone, not its indexes. So equal mappings
+/// are hashed alike.
 pub fn hashed_mappings<'a, 'b>(a: &Mapping<'a, 'b>, b: &Mapping<'a, 'b>)
     ensures writes { ⟦<Mapping<'a, 'b> as Hash>⟧.hash_input a.now ≡ pair_writes (mapped_of a.now) }
     ensures alike { IsTrue (⟦<Mapping<'a, 'b> as PartialEq>⟧.eq a.now b.now) →

@@ -1,4 +1,4 @@
-//! Groups of refspecs, and what they match among the refs of two repositories.
+//! Matching a group of refspecs against the refs of a repository.
 
 ghost use Rattle.std.specs.Prelude.{◌≡◌, ◌≢◌, [], map, IfOk, IfErr, OnOk, OnErr};
 ghost use Rattle.gix_refspec_text.specs.Views.Spec.{reading_of};
@@ -8,9 +8,9 @@ ghost use Rattle.gix_refspec.specs.Views.Group.{readings_of, IsOutcome, Maps};
 ghost use Rattle.gix_refspec_match.specs.Private.HitViews.{AreKept, AreMade, mapped_of_made};
 ghost use Rattle.gix_refspec_match.specs.Matching.Hits.{AreForward, AreBackward, AreKeptForward, AreKeptBackward};
 
-pub mod ref_names;
 mod prefixes;
 mod premises;
+pub mod ref_names;
 pub(crate) mod types;
 pub mod validate;
 
@@ -18,34 +18,34 @@ use gix_refspec_match::hits::ends::Direction;
 use gix_refspec_match::hits::{Made, Matching};
 pub use gix_refspec_match::types::{Item, Mapping, NameRef, Source, SourceRef};
 use gix_refspec_text::RefSpecRef;
-use std::alloc::{AllocError, Global};
 pub use premises::has_id_destination;
+use std::alloc::{AllocError, Global};
 use types::MatchGroup;
 pub use types::{NoRoom, Outcome, match_lhs, match_rhs};
 
 /// Matching, from left to right and from right to left.
 impl<'spec> MatchGroup<'spec> {
-    /// Matches items by the sources of the specs, and maps them to their destinations, as
-    /// git-fetch(1) does with the refs of a remote.
+    /// Matches items by the sources of the specs, and maps them to their destinations, as git-fetch(1)
+    /// does with the refs of a remote.
     ///
-    /// Mappings are in this order: first the ids that positive specs have as sources, by spec, each
-    /// without an item; then, by spec and then by item, the items that the source of a positive spec
-    /// takes. A pattern takes each name that it matches, a full name only itself. A partial name takes
-    /// the first of the six names that gitrevisions(7) tries which some item has: the tag
-    /// `refs/tags/main` for `main`, even if there is a branch of that name too. Negative specs exclude
-    /// after that choice: if one excludes the tag, `main` maps nothing. A mapping without a destination
-    /// is of a spec without one. Of mappings with the same source and destination only the first is
-    /// kept, and none whose source is a name that a negative spec excludes.
+    /// The order of the mappings: first those of positive specs with an id as source, by spec and
+    /// without an item; then, by spec and then by item, those of the items that the source of a
+    /// positive spec takes. A pattern takes each name that it matches, a full name only itself. A
+    /// partial name takes the first of the six names tried by gitrevisions(7) that some item has: the
+    /// tag `refs/tags/main` for `main`, even if there is a branch of that name too. Negative specs
+    /// exclude after that choice: if one excludes the tag, `main` maps nothing. A spec without a
+    /// destination gives mappings without one. Of mappings with the same source and destination only
+    /// the first is kept, and none whose source is a name that a negative spec excludes.
     ///
-    /// Names of items are borrowed from the items, and destinations that are full names from the
-    /// specs. Other destinations are owned: a pattern with the word for its star, and the full names
-    /// that partial names and ids become.
+    /// Names of items are borrowed from the items, and destinations that are full names from the specs.
+    /// Other destinations are owned: a pattern with the word for its star, and the full names that
+    /// partial names and ids become.
     ///
-    /// Names aren't checked: a server may call a ref `refs/heads/../../x`. `without_invalid_names` of the
-    /// outcome checks them.
+    /// Names aren't checked: a server may advertise `refs/heads/../../x`. `without_invalid_names` of
+    /// the outcome checks them.
     ///
-    /// Fails with `NoRoom` if memory runs out; never if the specs ask for no id and match no item. It
-    /// holds the group as before.
+    /// Fails with `NoRoom` if memory runs out; never if the specs ask for no id and match no item. The
+    /// error holds the unchanged group.
     pub fn match_lhs<'i>(self, alloc: Global, items: &[Item<'i>]) -> match_lhs::Result<'spec, 'i>
         ensures ok { IfOk result (IsOutcome AreKeptForward self.entry items.now) }
         ensures err { IfErr result (λ e. e.group ≡ self.entry) }
@@ -58,18 +58,19 @@ impl<'spec> MatchGroup<'spec> {
         })
     }
 
-    /// Matches items by the destinations of the specs, and maps them back to their sources: which
-    /// refs of a remote belong to these tracking refs.
+    /// Matches items by the destinations of the specs, and maps them back to their sources: which refs
+    /// of a remote belong to these tracking refs.
     ///
     /// Only positive specs with both sides take part. Mappings are ordered by spec and then by item.
     /// The sides swap roles: the destination is the name of an item, borrowed from it, and the source
     /// is filled in by the spec. A partial destination takes all items that have one of its six names.
     /// A destination that is an id matches items that have it as target or object, and a source that is
-    /// an id becomes the name of a branch. Negative specs exclude by the source. Names aren't checked,
-    /// and `without_invalid_names` is for outcomes of `match_lhs` only: see `name_partial`. Otherwise all
-    /// is as in `match_lhs`.
+    /// an id becomes the name of a branch. Negative specs exclude by the source. Names aren't checked:
+    /// `without_invalid_names` is for outcomes of `match_lhs` only, and `name_partial` checks a single
+    /// name. All else is as in `match_lhs`.
     ///
-    /// Fails with `NoRoom` if memory runs out; never if no item matches. It holds the group as before.
+    /// Fails with `NoRoom` if memory runs out; never if no item matches. The error holds the unchanged
+    /// group.
     pub fn match_rhs<'i>(self, alloc: Global, items: &[Item<'i>]) -> match_rhs::Result<'spec, 'i>
         ensures ok { IfOk result (IsOutcome AreKeptBackward self.entry items.now) }
         ensures err { IfErr result (λ e. e.group ≡ self.entry) }
@@ -82,7 +83,7 @@ impl<'spec> MatchGroup<'spec> {
         })
     }
 
-    // The group, with the mappings of a direction that are kept.
+    // Matches in one direction. Returns the group, and the mappings that are kept.
     fn kept<'item>(
         self,
         alloc: Global,
@@ -109,7 +110,7 @@ impl<'spec> MatchGroup<'spec> {
     }
 }
 
-// A group, and the mappings of a direction that are kept.
+// A group, and its kept mappings in one direction.
 #[derive(Drop)]
 struct Kept<'spec, 'item> {
     group: MatchGroup<'spec>,

@@ -1,4 +1,5 @@
-//! What a benchmark calls to time parsing, printing, matching and validation within its own process.
+//! The entry point of a benchmark that times parsing, printing, matching and validation within its own
+//! process.
 #![tactic(auto)]
 
 use bstr::BStr;
@@ -10,17 +11,17 @@ use gix_refspec::parsing::Operation;
 use gix_refspec::{MatchGroup, parse};
 use std::alloc::{AllocError, Global};
 
-/// Does the work that a word names as often as `times` says. Specs and names are given one a line; the
-/// last byte of either text is no newline. All refs point to one object.
+/// Does the work named by `work`, `times` times. Specs and names are one per line, without a newline at
+/// the end of either text. All refs point to one object.
 ///
-/// `match` reads fetch specs and the names of refs, and matches them from left to right; `reverse` matches
-/// names of local refs from right to left; and `validate` validates each outcome of `match` too. `parse` and
-/// `print` parse specs, for a push if `names` is `push`, else for a fetch, and `print` prints each accepted
-/// one too.
+/// `match` reads fetch specs and ref names, and matches them from left to right; `reverse` matches
+/// names of local refs from right to left; and `validate` validates each outcome of `match` too.
+/// `parse` and `print` parse specs, for a push if `names` is `push`, else for a fetch, and `print`
+/// prints each accepted one too.
 ///
-/// Returns 0, and sets `count` to how many results there were in all: mappings; mappings left or removed by
-/// a validation, or conflicts; accepted specs; or printed bytes. Returns 1 if no work has this name, memory
-/// runs out, or a spec is refused that is to be matched.
+/// Returns 0, and sets `count` to the total number of results: mappings; mappings left or removed by a
+/// validation, or conflicts; accepted specs; or printed bytes. Returns 1 if the work is unknown, memory
+/// runs out, or a spec to be matched is refused, and then `count` is unchanged.
 #[unsafe(no_mangle)]
 pub extern "C" fn gix_refspec_bench(
     alloc: Global,
@@ -39,7 +40,7 @@ pub extern "C" fn gix_refspec_bench(
     }
 }
 
-// How many results there are in all of the work that a word names.
+// The total number of results of the work with this name. `None` if there is no such work, or it fails.
 fn result_count(
     alloc: Global,
     work: &[u8],
@@ -68,7 +69,7 @@ enum Work {
     Validate,
 }
 
-// How many results there are in all of work on a group and items.
+// The total number of results of work on a group and items.
 fn match_often(
     alloc: Global,
     work: Work,
@@ -88,7 +89,7 @@ fn match_often(
     Some(results)
 }
 
-// Does the work once. Hands the group back, with how many results there were.
+// Does the work once. Returns the group, and the number of results.
 fn match_once<'a>(
     alloc: Global,
     work: Work,
@@ -126,7 +127,7 @@ fn validated_count(alloc: Global, outcome: Outcome<'_, '_>) -> Option<usize> {
     }
 }
 
-// The operation of a word.
+// `push` names a push, and anything else a fetch.
 fn named(operation: &[u8]) -> Operation {
     match operation {
         b"push" => Operation::Push,
@@ -134,7 +135,7 @@ fn named(operation: &[u8]) -> Operation {
     }
 }
 
-// How many specs were accepted in all, or how many bytes they were printed as.
+// The total number of accepted specs, or of the bytes that they are printed as.
 fn parse_often(
     alloc: Global,
     specs: &[u8],
@@ -159,7 +160,7 @@ fn parse_often(
     Some(results)
 }
 
-// The lines of a text. They are counted first, so that they are never moved.
+// The lines of a text. They are counted first, so that the vector never grows.
 fn lines_of(alloc: Global, text: &[u8]) -> Result<Vec<BStr<'_>>, AllocError> {
     let mut lines = Vec::with_capacity(alloc, line_count(text))?;
     for line in text.split(|b| *b == b'\n') {
@@ -176,7 +177,7 @@ fn line_count(text: &[u8]) -> usize {
     count
 }
 
-// The specs of the lines, where none is refused.
+// The fetch specs of the lines. `None` if one is refused or memory runs out.
 fn group_of(alloc: Global, lines: &[u8]) -> Option<MatchGroup<'_>> {
     let mut group = MatchGroup::new(alloc);
     for line in lines.split(|b| *b == b'\n') {
@@ -186,7 +187,7 @@ fn group_of(alloc: Global, lines: &[u8]) -> Option<MatchGroup<'_>> {
     Some(group)
 }
 
-// A ref for each line, which is its name.
+// A ref for each line, with the line as its name.
 fn items_of<'a>(
     alloc: Global,
     lines: &'a [u8],

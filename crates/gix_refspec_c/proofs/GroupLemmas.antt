@@ -14,7 +14,7 @@ use Rattle.gix_refspec_c.specs.Reading.{IsUnread}
 use Rattle.gix_refspec_c.specs.Group.{bytes_of, AreUnread, IsFirstUnread}
 use Rattle.std.proofs.lemmas.Slice.Zip.{all_zipped_more}
 
--- the bytes at a place
+-- the bytes at an index
 at : (texts : List Text) (k : ℕ) (d : Text) (e : List ℕ) → k < length texts → get_or (map bytes_of texts) k e ≡ bytes_of (get_or texts k d)
 at texts k d e below = get_or-map bytes_of texts k d e below
 
@@ -28,7 +28,7 @@ text_more op texts k d old new s below reads put so_far =
     subst (λ (ts : List (List ℕ)). AllZip (Reads op) ts (map reading_of new)) (sym more)
     (subst (λ (rs : List Reading). AllZip (Reads op) (take k (map bytes_of texts) ++ bytes_of (get_or texts k d) ∷ []) rs) (sym readings) all)
 
--- the first text that isn't read is why
+-- the failure of the first text that isn't read is that of all
 are_unread : (op : Operation) (texts : List (List ℕ)) (f : Failure) → IsFirstUnread op texts f → AreUnread op texts f
 are_unread op texts failure.Empty first = first
 are_unread op texts failure.NegativeWithDestination first = first

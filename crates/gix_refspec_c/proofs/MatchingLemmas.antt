@@ -1,12 +1,7 @@
 -- Destinations that are ids, and what is told of mappings one after another.
-use Rattle.std.proofs.Common.{◌≡◌, ◌↔◌, ℕ, zero, suc, ◌+◌, ◌<◌, IfErr, IfOk, take, get_or, arith, false, List, [], ◌∷◌, ◌++◌, length, map, Bool, Some, Result, Ok, Err, IsTrue, MatchResult, refl, sym, ap, subst, ◌∙◌, inl, inr}
-use Rattle.gix_refspec_text.specs.declared.oid.Error.{Error}
-use Rattle.gix_refspec_text.specs.declared.oid.ObjectId.{ObjectId}
-use Rattle.gix_refspec.specs.Texts.ObjectId.{id_bytes, IsIdText, HasIdFault}
-use Rattle.gix_refspec.specs.Laws.Readings.{IdOrFault}
+use Rattle.std.proofs.Common.{◌≡◌, ℕ, ◌+◌, ◌<◌, IfErr, IfOk, take, get_or, arith, List, [], ◌∷◌, ◌++◌, length, map, Result, Ok, Err, refl, sym, ap, subst, ◌∙◌, inl}
 use Rattle.gix_refspec.specs.Specs.Reading.{Reading}
-use Rattle.std.specs.Result.{is_err}
-use Rattle.std.specs.List.{AllByRecursion, AllZip}
+use Rattle.std.specs.List.{AllZip}
 use Rattle.gix_refspec_text.specs.declared.parsing.Operation.TheVariants.{Fetch}
 use Rattle.gix_refspec.specs.Specs.Grammar.{Reads}
 use Rattle.gix_refspec.specs.Matching.Match.{Ref}
@@ -14,8 +9,6 @@ use Rattle.gix_refspec.specs.Matching.Hits.{AreKeptForward, AreKeptBackward}
 use Rattle.gix_refspec_c.specs.declared.listing.Listing.{Listing}
 use Rattle.gix_refspec_c.specs.declared.matching.Direction.{Direction}
 use Rattle.gix_refspec_c.specs.declared.matching.Direction.TheVariants.{Forward, Backward}
-use Rattle.gix_refspec_text.specs.declared.spec.RefSpecRef.{RefSpecRef}
-use Rattle.gix_refspec.specs.Views.Spec.{reading_of}
 use Rattle.gix_refspec_c.specs.declared.failure.Failure.{Failure}
 use Rattle.gix_refspec_c.specs.declared.failure.Failure.TheVariants as failure
 use Rattle.std.proofs.lemmas.List.{length-append, append-nil, append_assoc, map-append, take_more}
@@ -26,7 +19,6 @@ use Rattle.gix_refspec_c.specs.declared.listing.MappingOut.{MappingOut}
 use Rattle.gix_refspec_c.specs.Mapping.{Entry, IsNotPut, LacksAll, Room, Tells, backward_entry, forward_entry, text_of, texts_of, told_at, told_by, told_from}
 use Rattle.gix_refspec.specs.Laws.Items.{AsksForNoId}
 use Rattle.gix_refspec_c.specs.Matching.{AreMatched, nameless}
-use Rattle.std.proofs.lemmas.Option.{same_Some}
 
 -- what follows a listing of some mappings
 told_more : (at : ℕ) (es : List Entry) (e : Entry) → told_from at (es ++ e ∷ []) ≡ told_from at es ++ told_at (at + length (texts_of es)) e ∷ []

@@ -12,12 +12,12 @@ use Rattle.gix_refspec_c.specs.declared.failure.Failure.TheVariants as failure
 use Rattle.gix_refspec_c.specs.Outcome.{Answers, done, fails, IsNumberOf, of_fault, of_refusal}
 use Rattle.gix_refspec_c.specs.Reading.{IsUnread}
 
--- what a call ended with, and the outcome of that, are an answer
+-- a result of a call, and its number, are an answer
 pub answered : {X : Type 0} (code_of : X → ℕ) (code : ℕ) (Done : X → Type 0) (Fails : X → Failure → Type 0) (Same : Type 0) (x : X) (r : Result (Unit {0}) Failure) (n : ℕ) → code ≡ code_of x → IsNumberOf r n → OnOk r (Done x) → IfErr r (Fails x) → Answers code_of code Done Fails Same n
 answered code_of code Done Fails Same x (Ok u) n is number ok err = done x is number ok
 answered code_of code Done Fails Same x (Err f) n is number ok err = fails x is f number err
 
--- a bad name tells of its fault
+-- the failure of an invalid name is that of its fault
 named : (op : Operation) (text : List ℕ) (fault : NameError) → IsRefused op text (ReferenceName fault) → IsUnread op text (of_fault fault)
 named op text of_name.Empty is = (ReferenceName of_name.Empty, is, refl)
 named op text of_name.EmptyComponent is = (ReferenceName of_name.EmptyComponent, is, refl)
@@ -29,7 +29,7 @@ named op text of_name.ReflogPortion is = (ReferenceName of_name.ReflogPortion, i
 named op text of_name.Asterisk is = (ReferenceName of_name.Asterisk, is, refl)
 named op text (of_name.InvalidByte b) is = (ReferenceName (of_name.InvalidByte b), is, refl)
 
--- a refusal tells of itself
+-- the failure of a refusal
 refused : (op : Operation) (text : List ℕ) (e : Refusal) → IsRefused op text e → IsUnread op text (of_refusal e)
 refused op text Empty is = (Empty, is, refl)
 refused op text NegativeWithDestination is = (NegativeWithDestination, is, refl)

@@ -1,4 +1,4 @@
--- Which destinations are those of conflicts, what becomes of mappings, and what a plan tells.
+-- The destinations of conflicts, verdicts on mappings, and plans.
 use Rattle.std.proofs.Common.{◌≡◌, ◌↔◌, ◌≤◌, ℕ, zero, suc, ◌+◌, ◌<◌, Bool, true, false, IsTrue, List, [], ◌∷◌, ◌++◌, length, map, take, get_or, Some, Result, Ok, Err, refl, sym, ap, subst, ◌∙◌, arith}
 use Rattle.std.specs.Prelude.{MatchBool, not, ◌==◌}
 use Rattle.std.specs.List.{AllByRecursion, AllZip, Contains}
@@ -40,7 +40,7 @@ use Rattle.gix_refspec_text.proofs.lemmas.lists.OrderLemmas.{not_below_itself}
 
 -- ---- searching
 
--- no text is below itself, nor above
+-- a text isn't greater than itself
 itself : (o : Ordering) → o ≡ ordering_reverse o → o ≡ Equal
 itself Less same = cc
 itself Equal same = refl
@@ -50,7 +50,7 @@ not_greater : (x : List ℕ) → slice_cmp nat_cmp x x ≡ Greater → ⊥
 not_greater x greater = let same = itself (slice_cmp nat_cmp x x) (nat_list_cmp_total.antisymm x x) in cc
 
 module _ {X : Type 0} (key : X → List ℕ) where
-  -- keys of which each is below those after it are in order
+  -- no key of a strictly sorted list is less than the one before it
   in_order_at : (xs : List X) → IsStrictlySortedBy (slice_cmp nat_cmp) (map key xs) → (k j : ℕ) (d : X) → j ≡ k + 1 → j < length xs → is_lt (slice_cmp nat_cmp (key (get_or xs j d)) (key (get_or xs k d))) ≡ false
   in_order_at [] up k j d next below = absurd (omega (arith, below))
   in_order_at (x ∷ []) up k zero d next below = absurd (omega (arith, next))
@@ -65,7 +65,7 @@ module _ {X : Type 0} (key : X → List ℕ) where
   in_order : (xs : List X) → IsStrictlySortedBy (slice_cmp nat_cmp) (map key xs) → IsSortedBy (λ a b. is_lt (slice_cmp nat_cmp (key a) (key b))) xs
   in_order xs up k d low below = in_order_at xs up k (k + 1) d refl below
 
-  -- a search finds a text just where some key is that text
+  -- a binary search finds a text exactly if some key is that text
   pub found : (xs : List X) (x : List ℕ) (r : Result ℕ ℕ) → IsStrictlySortedBy (slice_cmp nat_cmp) (map key xs) → IsSearchInRange r (length xs) → IsBinarySearchResult (λ y. slice_cmp nat_cmp (key y) x) xs r → IsTrue (is_ok r) ↔ Contains (map key xs) x
   found [] x (Ok i) up within at = absurd (omega (arith, within))
   found (e ∷ xs) x (Ok i) up within at =
@@ -89,7 +89,7 @@ destinations_in : (issues : List Issue) → destinations_of issues ≡ map desti
 destinations_in [] = refl
 destinations_in (issue ∷ issues) = ap (λ ds. destination_in issue ∷ ds) (destinations_in issues)
 
--- a search by destination finds a destination just where some conflict has it
+-- a binary search finds a destination exactly if some conflict has it
 pub found_destination : (issues : List Issue) (d : List ℕ) (r : Result ℕ ℕ) → IsStrictlySortedBy (slice_cmp nat_cmp) (destinations_of issues) → IsSearchInRange r (length issues) → IsBinarySearchResult (λ issue. slice_cmp nat_cmp (destination_in issue) d) issues r → IsTrue (is_ok r) ↔ Contains (destinations_of issues) d
 found_destination issues d r up within at =
     let same = destinations_in issues in
@@ -97,22 +97,21 @@ found_destination issues d r up within at =
 
 -- ---- verdicts
 
--- one mapping more is judged
+-- the verdict on one more mapping is appended
 pub judged_more : (g : List Reading) (Met : List ℕ → Type 0) (ms : List Mapping) (k : ℕ) (m : Mapping) (es : List Entry) (e : Entry) → k < length ms → m ≡ get_or ms k m → AllZip (IsJudged g Met) (map mapped_of (take k ms)) es → IsJudged g Met (mapped_of m) e → AllZip (IsJudged g Met) (map mapped_of (take (k + 1) ms)) (es ++ e ∷ [])
 judged_more g Met ms k m es e below is so_far judged =
     let more : map mapped_of (take (k + 1) ms) ≡ map mapped_of (take k ms) ++ mapped_of m ∷ [] = ap (map mapped_of) (take_more ms k m below) ∙ map-append mapped_of (take k ms) (get_or ms k m ∷ []) ∙ ap (λ x. map mapped_of (take k ms) ++ mapped_of x ∷ []) (sym is) in
     subst (λ (l : List Mapped). AllZip (IsJudged g Met) l (es ++ e ∷ [])) (sym more) (all_zipped_more (IsJudged g Met) (map mapped_of (take k ms)) es (mapped_of m) e so_far judged)
 
--- what isn't untrue is true
 pub unless : (b : Bool) → not b ≡ false → IsTrue b
 unless true isnt = refl
 unless false isnt = sym isnt
 
--- a mapping with an id or a good name as its source, and a good name as its destination, is between names of refs
+-- a mapping with a valid source, and a valid ref name as its destination, has ref names
 pub good_sides : (m : Mapped) (d : List ℕ) → IsValidSource m.source → m.destination ≡ Some d → IsRefName d → HasRefNames m
 good_sides m d source to named = record { source = source; destination = subst IsValidDestination (sym to) named }
 
--- verdicts are the same by another word for the same destinations
+-- equivalent predicates of destinations give the same verdicts
 same_verdict : (P Q : List ℕ → Type 0) → ((d : List ℕ) → P d ↔ Q d) → (m : Mapped) (v : Verdict) → HasVerdict P m v → HasVerdict Q m v
 same_verdict P Q same m LeftOut has = has
 same_verdict P Q same m BadName has = has
@@ -126,12 +125,12 @@ same_verdicts g P Q same [] (e ∷ es) all = all
 same_verdicts g P Q same (m ∷ l) [] all = all
 same_verdicts g P Q same (m ∷ l) (e ∷ es) all = ((all.0.0, same_verdict P Q same m all.0.0 all.0.1, all.0.2), same_verdicts g P Q same l es all.1)
 
--- each conflict is over a destination with several sources
+-- the destination of each conflict has several sources
 each_contested : (g : List Reading) (l : List Mapped) (issues : List Issue) → AllByRecursion (IsConflict g l) (map conflict_of issues) → AllByRecursion (HasConflictAt l) (destinations_of issues)
 each_contested g l [] all = tt
 each_contested g l (issue ∷ issues) all = (all.0.contested, each_contested g l issues all.1)
 
--- the destinations of all conflicts are just those with several sources
+-- the destinations of all conflicts are exactly those with several sources
 contested : (g : List Reading) (l : List Mapped) (issues : List Issue) → AreConflicts g l (map conflict_of issues) → (d : List ℕ) → Contains (destinations_of issues) d ↔ HasConflictAt l d
 contested g l issues are d = (
   (λ has. All-contains (HasConflictAt l) (destinations_of issues) d (All-from_recursion (HasConflictAt l) (destinations_of issues) (each_contested g l issues are.each)) has),
@@ -145,7 +144,7 @@ some_or_none g l [] false are none = λ d is. absurd (omega (arith, (are.every d
 some_or_none g l (issue ∷ issues) true are none = (destination_in issue, are.each.0.contested)
 some_or_none g l (issue ∷ issues) false are none = absurd (false≢true (none ∙ ap not (eqb-suc-zero (length issues))))
 
--- what is told of mappings by the conflicts of those between names of refs is a plan
+-- the entries of the kept mappings, with verdicts by the conflicts of those without an invalid ref name, are a plan
 pub planned : (texts names : List (List ℕ)) (group g : List Reading) (refs : List Ref) (kept named : List Mapped) (issues : List Issue) (es : List Entry) (some : Bool) → AllZip (Reads Fetch) texts group → refs ≡ map nameless names → AreKeptForward group refs kept → HaveRefNames kept named → AreConflicts g named (map conflict_of issues) → some ≡ not (length issues == 0) → g ≡ group → AllZip (IsJudged g (Contains (destinations_of issues))) kept es → IsPlan some texts names es
 planned texts names group g refs kept named issues es some read same stay between are none whole judged = record {
   group = group;

@@ -1,4 +1,4 @@
--- What an outcome says: one sentence for each, those of the library where it has one.
+-- The sentence that explains an outcome: that of the library, if it has one.
 use Rattle.std.specs.Prelude.{ℕ, List, [], ◌∷◌, ◌++◌, codes}
 use Rattle.gix_refspec_text.specs.declared.name.Error.TheVariants as of_name
 use Rattle.gix_refspec_text.specs.declared.parsing.Error.TheVariants as of_text
@@ -14,11 +14,11 @@ ended sentence = sentence ++ (0 ∷ [])
 abbrev pub version : List ℕ
 version = codes "0.2.0"
 
--- what is said where a call didn't fail
+-- the sentence for a call without a failure
 abbrev pub well : List ℕ
 well = codes "The call has its answer."
 
--- what is said of a failure
+-- the sentence for a failure
 abbrev pub said : Failure → List ℕ
 said failure.Empty = explained of_text.Empty
 said failure.NegativeWithDestination = explained of_text.NegativeWithDestination

@@ -1,4 +1,4 @@
--- Texts that are read together, and what a client asks a server for by one of them, or by all.
+-- Texts that are read together, and the ref prefixes of one of them, or of all.
 use Rattle.std.specs.Prelude.{◌≡◌, ◌<◌, ◌⊎◌, ℕ, List, [], ◌∷◌, ◌++◌, length, take, get_or}
 use Rattle.std.specs.List.{AllZip, flat_map}
 use Rattle.gix_refspec_text.specs.declared.parsing.Operation.{Operation}
@@ -15,7 +15,7 @@ use Rattle.gix_refspec_c.specs.Reading.{IsRefspec, IsUnread}
 abbrev pub bytes_of : Text → List ℕ
 bytes_of t = t.bytes.now
 
--- f tells why the text at some place wasn't read, and all texts before it are refspecs for the operation
+-- f is why the text at some index was refused, and all texts before it are refspecs for the operation
 pub record IsFirstUnread (op : Operation) (texts : List (List ℕ)) (f : Failure) : Type 0 where
   pub place : ℕ
   pub within : place < length texts
@@ -23,34 +23,33 @@ pub record IsFirstUnread (op : Operation) (texts : List (List ℕ)) (f : Failure
   pub read : AllZip (Reads op) (take place texts) before
   pub why : IsUnread op (get_or texts place []) f
 
--- why texts weren't read: memory ran out, or it is the failure of the first that wasn't
+-- why texts weren't read: memory ran out, or the first one refused has this failure
 abbrev pub AreUnread : Operation → List (List ℕ) → Failure → Type 0
 AreUnread op texts failure.NoMemory = Unit {0}
 AreUnread op texts f = IsFirstUnread op texts f
 
--- the newline
 abbrev pub newline : ℕ
 newline = 10
 
--- the names, each with a newline at its end
+-- the names, each followed by a newline
 abbrev pub lines_of : List (List ℕ) → List ℕ
 lines_of names = flat_map (λ n. n ++ (newline ∷ [])) names
 
--- the prefix of a reading, or nothing if it has none
+-- the prefix of a reading, or empty if it has none
 abbrev pub IsPrefixOrNothing : Reading → List ℕ → Type 0
 IsPrefixOrNothing r p = HasPrefix r p ⊎ (((q : List ℕ) → ¬ (HasPrefix r q)) × (p ≡ []))
 
--- the text is a refspec for the operation, and this is its prefix, or nothing
+-- the text is a refspec for the operation, and this is its prefix, or empty
 pub record HasPrefixOrNothing (op : Operation) (text p : List ℕ) : Type 0 where
   pub reading : Reading
   pub reads : Reads op text reading
   pub is : IsPrefixOrNothing reading p
 
--- the answer has what a reading expands to, a newline after each entry
+-- the answer is the expansion of a reading, with a newline after each entry
 abbrev pub IsExpandedTo : Reading → List ℕ → Type 0
 IsExpandedTo r answer = (names : List (List ℕ)) × IsExpansion r names × (answer ≡ lines_of names)
 
--- the text is a refspec for the operation, and the answer has what it expands to
+-- the text is a refspec for the operation, and the answer is its expansion
 pub record IsExpanded (op : Operation) (text answer : List ℕ) : Type 0 where
   pub reading : Reading
   pub reads : Reads op text reading
@@ -60,8 +59,8 @@ pub record IsExpanded (op : Operation) (text answer : List ℕ) : Type 0 where
 abbrev pub IsUnexpanded : Operation → List ℕ → Failure → Type 0
 IsUnexpanded op text f = IsUnread op text f ⊎ ((f ≡ failure.NoMemory) × IsRefspec op text)
 
--- the texts are refspecs for the operation, and the answer has the names to ask for for all of them, a newline after
--- each: with these a server tells of each name that a group of fetches maps from left to right
+-- the texts are refspecs for the operation, and the answer has the ref prefixes of all of them, with a newline after
+-- each: for these a server lists each name that a group of fetches maps from left to right
 pub record IsToAsk (op : Operation) (texts : List (List ℕ)) (answer : List ℕ) : Type 0 where
   pub group : List Reading
   pub read : AllZip (Reads op) texts group
@@ -70,13 +69,13 @@ pub record IsToAsk (op : Operation) (texts : List (List ℕ)) (answer : List ℕ
   pub serves : Serves names group
   pub is : answer ≡ lines_of names
 
--- the texts are refspecs for the operation, of which some has no list that is safe to ask for
+-- the texts are refspecs for the operation, and for some of them only a request for all refs is safe
 pub record HaveNoList (op : Operation) (texts : List (List ℕ)) : Type 0 where
   pub group : List Reading
   pub read : AllZip (Reads op) texts group
   pub none : HasNoList group
 
--- why there are no names to ask for
+-- why there are no ref prefixes
 abbrev pub IsUnasked : Operation → List (List ℕ) → Failure → Type 0
 IsUnasked op texts failure.NoList = HaveNoList op texts
 IsUnasked op texts f = AreUnread op texts f

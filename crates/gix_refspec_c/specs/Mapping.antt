@@ -1,4 +1,4 @@
--- What a caller is told of mappings: a struct for each, and their texts one after the other.
+-- Mappings as a caller receives them: a struct for each, and their texts one after the other.
 use Rattle.std.specs.Prelude.{◌≡◌, ◌⊎◌, ◌<◌, ◌≤◌, ◌+◌, ℕ, List, [], ◌∷◌, ◌++◌, length, drop, map, Option, None, Some}
 use Rattle.std.specs.List.{flat_map, slice_get}
 use Rattle.gix_refspec.specs.Texts.ObjectId.{lower_of}
@@ -10,8 +10,8 @@ use Rattle.gix_refspec_c.specs.declared.failure.Failure.TheVariants as failure
 use Rattle.gix_refspec_c.specs.declared.listing.MappingOut.{MappingOut}
 use Rattle.gix_refspec_c.specs.Single.{parts_of}
 
--- what there is to tell of a mapping: the indexes of its spec and of its name, whether it has a destination, whether its
--- spec is forced, a verdict, the text of a source that is an id, and the name that the spec makes
+-- the data of a mapping: the indexes of its spec and of its name, whether it has a destination, whether its spec is
+-- forced, a verdict, the text of a source that is an id, and the name that the spec makes
 pub record Entry : Type 0 where
   pub spec : ℕ
   pub item : ℕ
@@ -21,16 +21,16 @@ pub record Entry : Type 0 where
   pub id : List ℕ
   pub made : List ℕ
 
--- the number that stands for no item
+-- `usize::MAX`, which stands for no item
 abbrev pub no_item : ℕ
 no_item = 18446744073709551615
 
--- the number of an item: its place, where it has one
+-- the index of an item, or `no_item`
 abbrev pub number_of_item : Option ℕ → ℕ
 number_of_item None = no_item
 number_of_item (Some place) = place
 
--- the text of a source that is an id
+-- the text of a source that is an id, and empty for a name
 abbrev pub id_text : Source → List ℕ
 id_text (name n) = []
 id_text (id i) = lower_of i
@@ -40,31 +40,31 @@ abbrev pub source_text : Source → List ℕ
 source_text (name n) = n
 source_text (id i) = lower_of i
 
--- a destination, where there is one
+-- a destination, or empty if it is missing
 abbrev pub destination_text : Option (List ℕ) → List ℕ
 destination_text None = []
 destination_text (Some d) = d
 
--- 1 where there is a destination
+-- 1 if there is a destination
 abbrev pub destinations : Option (List ℕ) → ℕ
 destinations None = 0
 destinations (Some d) = 1
 
--- 1 where an instruction is forced
+-- 1 if an instruction is forced
 abbrev pub forced_by : Option Meaning → ℕ
 forced_by None = 0
 forced_by (Some m) = (parts_of m).forced
 
--- 1 where that of a spec is
+-- 1 if the instruction of a spec is forced
 abbrev pub forced_of : Option Reading → ℕ
 forced_of None = 0
 forced_of (Some r) = forced_by (meaning_of r)
 
--- 1 where the spec with this index in the group is forced
+-- 1 if the spec with this index in the group is forced
 abbrev pub forced_at : List Reading → ℕ → ℕ
 forced_at g k = forced_of (slice_get g k)
 
--- what is told of a mapping from left to right, of which the spec makes the destination
+-- the entry of a mapping from left to right, of which the spec makes the destination
 abbrev pub forward_entry : List Reading → ℕ → Mapped → Entry
 forward_entry g verdict m = record { spec = m.spec; item = number_of_item m.item; has_destination = destinations m.destination; forced = forced_at g m.spec; verdict = verdict; id = id_text m.source; made = destination_text m.destination }
 
@@ -72,15 +72,15 @@ forward_entry g verdict m = record { spec = m.spec; item = number_of_item m.item
 abbrev pub backward_entry : List Reading → Mapped → Entry
 backward_entry g m = record { spec = m.spec; item = number_of_item m.item; has_destination = destinations m.destination; forced = forced_at g m.spec; verdict = 0; id = []; made = source_text m.source }
 
--- the texts of a mapping
+-- the texts of an entry
 abbrev pub text_of : Entry → List ℕ
 text_of e = e.id ++ e.made
 
--- the texts of mappings, in order
+-- the texts of entries, in order
 abbrev pub texts_of : List Entry → List ℕ
 texts_of es = flat_map text_of es
 
--- what the struct of a mapping says: its texts are places in the buffer
+-- the struct of a mapping as plain data: its texts are in the buffer, each with an offset and a length
 pub record Told : Type 0 where
   pub spec : ℕ
   pub item : ℕ
@@ -92,32 +92,32 @@ pub record Told : Type 0 where
   pub made_at : ℕ
   pub made_len : ℕ
 
--- what a struct says
+-- a struct as plain data
 abbrev pub told_by : MappingOut → Told
 told_by m = record { spec = m.spec; item = m.item; has_destination = m.has_destination; forced = m.forced; verdict = m.verdict; id_at = m.id_at; id_len = m.id_len; made_at = m.made_at; made_len = m.made_len }
 
--- what is told of a mapping whose texts begin at a place of the buffer
+-- the struct of an entry whose texts begin at this offset of the buffer
 abbrev pub told_at : ℕ → Entry → Told
 told_at at e = record { spec = e.spec; item = e.item; has_destination = e.has_destination; forced = e.forced; verdict = e.verdict; id_at = at; id_len = length e.id; made_at = at + length e.id; made_len = length e.made }
 
--- what is told of mappings whose texts are one after the other from a place of the buffer on
+-- the structs of entries whose texts are one after the other from this offset of the buffer on
 abbrev pub told_from : ℕ → List Entry → List Told
 told_from at [] = []
 told_from at (e ∷ es) = told_at at e ∷ told_from (at + length (text_of e)) es
 
--- the structs and the text tell of the mappings
+-- the structs and the text are those of the entries
 pub record Tells (es : List Entry) (structs : List MappingOut) (text : List ℕ) : Type 0 where
   pub told : map told_by structs ≡ told_from 0 es
   pub texts : text ≡ texts_of es
 
--- what a caller gives an answer to
+-- what a caller passes for an answer: two slices and two counts
 pub record Room : Type 0 where
   pub mappings : List MappingOut
   pub buffer : List ℕ
   pub count : ℕ
   pub len : ℕ
 
--- the lists of the caller begin with the structs and the text, and are as before after them
+-- the slices of the caller begin with the structs and the text, and are unchanged after them
 pub record IsPut (structs : List MappingOut) (text : List ℕ) (before after : Room) : Type 0 where
   pub fits : length structs ≤ length before.mappings
   pub text_fits : length text ≤ length before.buffer
@@ -126,7 +126,8 @@ pub record IsPut (structs : List MappingOut) (text : List ℕ) (before after : R
   pub count : after.count ≡ length structs
   pub len : after.len ≡ length text
 
--- one of the lists is too small for the structs or for the text. Both are as before, and the counts are what is needed
+-- one of the slices is too small for the structs or for the text. Both are unchanged, and the counts are the required
+-- sizes
 pub record IsNotPut (structs : List MappingOut) (text : List ℕ) (before after : Room) : Type 0 where
   pub small : (length before.mappings < length structs) ⊎ (length before.buffer < length text)
   pub mappings : after.mappings ≡ before.mappings
@@ -134,21 +135,21 @@ pub record IsNotPut (structs : List MappingOut) (text : List ℕ) (before after 
   pub count : after.count ≡ length structs
   pub len : after.len ≡ length text
 
--- the caller got what tells of the mappings
+-- the caller got the structs and the text of the entries
 pub record HasAll (es : List Entry) (before after : Room) : Type 0 where
   pub structs : List MappingOut
   pub text : List ℕ
   pub tells : Tells es structs text
   pub put : IsPut structs text before after
 
--- the caller has no room for it
+-- a slice of the caller is too small for them
 pub record HasNoRoom (es : List Entry) (before after : Room) : Type 0 where
   pub structs : List MappingOut
   pub text : List ℕ
   pub tells : Tells es structs text
   pub not_put : IsNotPut structs text before after
 
--- why a caller is told of no mappings: there is no room for those that are as Is says; or for another reason, as Why says,
--- and all is as before
+-- why a caller gets no mappings: a slice is too small for entries of which Is holds; or Why holds of the failure, and
+-- all is unchanged
 abbrev pub LacksAll : (List Entry → Type 0) → (Failure → Type 0) → Room → Room → Failure → Type 0
 LacksAll Is Why before after f = ((f ≡ failure.TooSmall) × (es : List Entry) × Is es × HasNoRoom es before after) ⊎ (Why f × (after ≡ before))

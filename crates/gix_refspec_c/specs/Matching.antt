@@ -1,10 +1,9 @@
 -- What fetches match among names alone, in the library's words.
-use Rattle.std.specs.Prelude.{◌≡◌, ◌⊎◌, ℕ, List, map, None, Some, replicate}
-use Rattle.std.specs.List.{AllByRecursion, AllZip}
+use Rattle.std.specs.Prelude.{◌≡◌, ◌⊎◌, ℕ, List, map, None, replicate}
+use Rattle.std.specs.List.{AllZip}
 use Rattle.gix_refspec_text.specs.declared.parsing.Operation.TheVariants.{Fetch}
 use Rattle.gix_refspec.specs.Specs.Reading.{Reading}
 use Rattle.gix_refspec.specs.Specs.Grammar.{Reads}
-use Rattle.gix_refspec.specs.Matching.Side.{IsId}
 use Rattle.gix_refspec.specs.Matching.Match.{Ref}
 use Rattle.gix_refspec.specs.Matching.Mappings.{Mapped}
 use Rattle.gix_refspec.specs.Laws.Items.{AsksForNoId}

@@ -1,4 +1,4 @@
--- What a call answers: 0, or the number of a failure. The numbers are this project's own, and are those of
+-- What a call returns: 0, or the number of a failure. The numbers are this project's own, and are those of
 -- include/gix_refspec.h.
 use Rattle.std.specs.Prelude.{◌≡◌, ℕ, Result, Ok, Err, OnOk, IfErr}
 use Rattle.gix_refspec_text.specs.declared.name.Error.{Error as NameError}
@@ -32,7 +32,7 @@ number_of failure.NoOperation = 20
 number_of failure.NeedsIds = 21
 number_of failure.InConflict = 22
 
--- the failure that tells of a fault of a name
+-- the failure that reports a fault of a name
 abbrev pub of_fault : NameError → Failure
 of_fault of_name.Empty = failure.NameEmpty
 of_fault of_name.EmptyComponent = failure.NameEmptyComponent
@@ -44,7 +44,7 @@ of_fault of_name.ReflogPortion = failure.NameReflogPortion
 of_fault of_name.Asterisk = failure.NameAsterisk
 of_fault (of_name.InvalidByte b) = failure.NameInvalidByte
 
--- the failure that tells of a refusal
+-- the failure that reports a refusal
 abbrev pub of_refusal : Refusal → Failure
 of_refusal Empty = failure.Empty
 of_refusal NegativeWithDestination = failure.NegativeWithDestination
@@ -55,17 +55,18 @@ of_refusal PatternUnbalanced = failure.PatternUnbalanced
 of_refusal NegativeEmpty = failure.NegativeEmpty
 of_refusal NegativeObjectHash = failure.NegativeObjectHash
 
--- the outcome is 0 of what ended well, and else the number of the failure
+-- the outcome of a success is 0, and otherwise the number of the failure
 abbrev pub IsNumberOf : Result (Unit {0}) Failure → ℕ → Type 0
 IsNumberOf (Ok done) n = n ≡ 0
 IsNumberOf (Err f) n = n ≡ number_of f
 
--- the call is done as Done says, and answers 0, or fails as Fails says, and answers the number of the failure
+-- either Done holds and the call returns 0, or Fails holds of a failure and the call returns its number
 abbrev pub Concludes : Type 0 → (Failure → Type 0) → ℕ → Type 0
 Concludes Done Fails outcome = (r : Result (Unit {0}) Failure) × IsNumberOf r outcome × OnOk r Done × IfErr r Fails
 
--- of what a number stands for, as of an operation, the call is done as Done says, and answers 0, or fails as Fails
--- says, and answers the number of the failure; where it stands for nothing, Same holds
+-- if the code stands for some x, such as an operation, either Done holds of x and the call returns 0, or Fails holds of
+-- x and a failure and the call returns its number; if the code is unknown, Same holds and the call returns the number
+-- of `NoOperation`
 pub data Answers {X : Type 0} (code_of : X → ℕ) (code : ℕ) (Done : X → Type 0) (Fails : X → Failure → Type 0) (Same : Type 0) (outcome : ℕ) : Type 0 where
   done : (x : X) → code ≡ code_of x → outcome ≡ 0 → Done x → Answers code_of code Done Fails Same outcome
   fails : (x : X) → code ≡ code_of x → (f : Failure) → outcome ≡ number_of f → Fails x f → Answers code_of code Done Fails Same outcome

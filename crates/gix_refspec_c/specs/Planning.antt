@@ -1,5 +1,5 @@
--- What a fetch does with each of its mappings, in the library's words. That each has one verdict, and which comes first, are
--- this project's own rules.
+-- What a fetch does with each of its mappings, by the definitions of the library. That each has one verdict, and which
+-- comes first, are this project's own rules.
 use Rattle.std.specs.Prelude.{◌≡◌, ◌⊎◌, ℕ, Bool, true, MatchBool, List, map, None, Some}
 use Rattle.std.specs.List.{AllZip}
 use Rattle.gix_refspec_text.specs.declared.parsing.Operation.TheVariants.{Fetch}
@@ -27,9 +27,9 @@ verdict_code BadName = 3
 verdict_code Contested = 4
 verdict_code FetchedOnly = 5
 
--- the mapping has the verdict, where Met says which destinations have several sources: its destination neither begins
--- `refs/` nor is `HEAD`; or a side of it is none that a ref may be called; or it has no destination; or one that has
--- several sources; or one that hasn't
+-- the mapping has the verdict, if Met holds of the destinations with several sources: its destination neither begins
+-- `refs/` nor is `HEAD`; or a side of it is an invalid ref name; or it has no destination; or one with several sources;
+-- or one with a single source
 abbrev pub HasVerdict : (List ℕ → Type 0) → Mapped → Verdict → Type 0
 HasVerdict Met m LeftOut = ¬ (Survives m)
 HasVerdict Met m BadName = Survives m × ¬ (HasRefNames m)
@@ -37,7 +37,7 @@ HasVerdict Met m FetchedOnly = HasRefNames m × (m.destination ≡ None)
 HasVerdict Met m Contested = HasRefNames m × (d : List ℕ) × (m.destination ≡ Some d) × Met d
 HasVerdict Met m Written = HasRefNames m × (d : List ℕ) × (m.destination ≡ Some d) × ¬ (Met d)
 
--- the entry tells of the mapping of a group, with its verdict
+-- the entry is that of the mapping of a group, with its verdict
 abbrev pub IsJudged : List Reading → (List ℕ → Type 0) → Mapped → Entry → Type 0
 IsJudged g Met m e = (v : Verdict) × HasVerdict Met m v × (e ≡ forward_entry g (verdict_code v) m)
 
@@ -45,7 +45,7 @@ IsJudged g Met m e = (v : Verdict) × HasVerdict Met m v × (e ≡ forward_entry
 abbrev pub HasConflict : List Mapped → Type 0
 HasConflict l = (d : List ℕ) × HasConflictAt l d
 
--- none has
+-- no destination has several sources among the mappings
 abbrev pub HasNoConflict : List Mapped → Type 0
 HasNoConflict l = (d : List ℕ) → ¬ (HasConflictAt l d)
 
@@ -53,8 +53,8 @@ HasNoConflict l = (d : List ℕ) → ¬ (HasConflictAt l d)
 abbrev pub destinations_of : List Issue → List (List ℕ)
 destinations_of issues = map (λ c. c.destination) (map conflict_of issues)
 
--- the texts are fetches, and these entries tell of the mappings that stay of them over the names. Conflicts are those of
--- the mappings between names of refs, and there are some or none
+-- the texts are fetches, and these are the entries of the mappings that they keep over the names. `some` is whether
+-- there are conflicts among the mappings without an invalid ref name
 pub record IsPlan (some : Bool) (texts names : List (List ℕ)) (es : List Entry) : Type 0 where
   pub group : List Reading
   pub read : AllZip (Reads Fetch) texts group
@@ -65,7 +65,7 @@ pub record IsPlan (some : Bool) (texts names : List (List ℕ)) (es : List Entry
   pub judged : AllZip (IsJudged group (HasConflictAt named)) kept es
   pub conflicts : MatchBool some (HasConflict named) (HasNoConflict named)
 
--- why a plan isn't told, or can't be written as it is told: some destination has several sources; or there is no room for
+-- why there is no plan, or one that can't be written: some destination has several sources; or a slice is too small for
 -- the plan; or the texts weren't read, or memory ran out
 abbrev pub LacksPlan : List (List ℕ) → List (List ℕ) → Room → Room → Failure → Type 0
 LacksPlan texts names before after f =

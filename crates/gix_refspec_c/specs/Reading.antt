@@ -1,4 +1,4 @@
--- For what a text is read, and why it is not.
+-- The operation that a text is read for, and why it isn't read.
 use Rattle.std.specs.Prelude.{◌≡◌, ℕ, List}
 use Rattle.gix_refspec_text.specs.declared.parsing.Operation.{Operation}
 use Rattle.gix_refspec_text.specs.declared.parsing.Operation.TheVariants.{Push, Fetch}
@@ -18,7 +18,7 @@ code_of Push = 2
 abbrev pub IsRefspec : Operation → List ℕ → Type 0
 IsRefspec op text = (r : Reading) × Reads op text r
 
--- why the text wasn't read: memory ran out where it may, or the failure tells of the first reason against the text
+-- why the text wasn't read: memory ran out where it may, or the failure reports the first reason against the text
 abbrev pub IsUnread : Operation → List ℕ → Failure → Type 0
 IsUnread op text failure.NoMemory = MayNeedMemory op text
 IsUnread op text f = (e : Refusal) × IsRefused op text e × (f ≡ of_refusal e)

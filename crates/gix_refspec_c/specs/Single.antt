@@ -1,4 +1,4 @@
--- What the calls on one text, and on two, answer.
+-- What the calls on one text, or on two, return.
 use Rattle.std.specs.Prelude.{◌≡◌, ◌⊎◌, ◌↔◌, ℕ, ℤ, pos, negsuc, Bool, true, false, List, [], Some}
 use Rattle.std.specs.declared.cmp.Ordering.{Ordering}
 use Rattle.std.specs.declared.cmp.Ordering.TheVariants.{Less, Equal, Greater}
@@ -14,8 +14,8 @@ use Rattle.gix_refspec_c.specs.declared.failure.Failure.TheVariants as failure
 use Rattle.gix_refspec_c.specs.declared.parts.Parts.{Parts}
 use Rattle.gix_refspec_c.specs.Reading.{IsRefspec, IsUnread}
 
--- the parts of an instruction that a caller gets: the number of its kind, 1 where it is forced, and its sides, of which one that
--- it hasn't is empty
+-- the parts of an instruction that a caller gets: the number of its kind, 1 if it is forced, and its sides, of which a
+-- missing one is empty
 pub record PartsShown : Type 0 where
   pub kind : ℕ
   pub forced : ℕ
@@ -37,11 +37,11 @@ parts_of (fetch_only s) = record { kind = 5; forced = 0; source = s; destination
 parts_of (fetch_exclude s) = record { kind = 6; forced = 0; source = s; destination = [] }
 parts_of (fetch_and_update s d forced) = record { kind = 7; forced = bit forced; source = s; destination = d }
 
--- those in the struct of the caller
+-- the parts in the struct of the caller
 abbrev pub parts_in : Parts → PartsShown
 parts_in p = record { kind = p.kind; forced = p.forced; source = p.source.now; destination = p.destination.now }
 
--- the text is a refspec for the operation, and these are the parts of what it says to do
+-- the text is a refspec for the operation, and these are the parts of its instruction
 pub record HasParts (op : Operation) (text : List ℕ) (parts : PartsShown) : Type 0 where
   pub reading : Reading
   pub reads : Reads op text reading
@@ -49,13 +49,13 @@ pub record HasParts (op : Operation) (text : List ℕ) (parts : PartsShown) : Ty
   pub means : meaning_of reading ≡ Some meaning
   pub is : parts ≡ parts_of meaning
 
--- the text is a refspec for the operation, whose canonical text this is
+-- the text is a refspec for the operation, and this is its canonical text
 pub record IsCanonical (op : Operation) (text canonical : List ℕ) : Type 0 where
   pub reading : Reading
   pub reads : Reads op text reading
   pub is : printed reading ≡ Some canonical
 
--- why a text has no canonical text here: it wasn't read, or there was no memory to print it
+-- why no canonical text is returned: the text wasn't read, or memory ran out
 abbrev pub IsUnprinted : Operation → List ℕ → Failure → Type 0
 IsUnprinted op text f = IsUnread op text f ⊎ ((f ≡ failure.NoMemory) × IsRefspec op text)
 
@@ -65,7 +65,7 @@ sign Less = negsuc 0
 sign Equal = pos 0
 sign Greater = pos 1
 
--- both texts are refspecs for the operation, which compare so; 0 exactly for equal canonical texts
+-- both texts are refspecs for the operation, and compare as order says; it is 0 exactly for equal canonical texts
 pub record AreCompared (op : Operation) (a b : List ℕ) (order : ℤ) : Type 0 where
   pub first : Reading
   pub second : Reading

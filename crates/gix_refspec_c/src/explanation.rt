@@ -1,4 +1,4 @@
-//! What an outcome says, in one sentence for a user of Git.
+//! The outcomes explained, each in one sentence for a user of Git.
 
 ghost use Rattle.std.specs.Prelude.{◌≡◌, ◌≢◌, ℕ, List, ◌++◌, ◌∷◌, [], MatchOption};
 ghost use Rattle.gix_refspec_c.specs.Explanation.{ended, said, well};
@@ -14,8 +14,8 @@ pub struct Text<'a> {
     pub bytes: &'a [u8],
 }
 
-/// The sentence for an outcome. In memory a NUL follows it, which its length doesn't count. For a number
-/// that is no outcome the text is as before.
+/// Sets `sentence` to the sentence for an outcome, followed in memory by a NUL that its length doesn't
+/// count. For an unknown outcome the text is unchanged, and the number of `NoOperation` is returned.
 #[unsafe(no_mangle)]
 pub extern "C" fn gix_refspec_explanation(outcome: u32, sentence: &mut Text<'static>) -> u32
     ensures done { outcome ≡ 0 → (result ≡ 0) × (sentence.new.bytes.now ≡ well) }
@@ -36,7 +36,7 @@ pub extern "C" fn gix_refspec_explanation(outcome: u32, sentence: &mut Text<'sta
     }
 }
 
-/// What is before the NUL at the end of a text.
+/// The text without the NUL at its end.
 pub(crate) fn before_nul(text: &'static [u8]) -> Text<'static>
     ensures { (sentence : List ℕ) → text.now ≡ ended sentence → result.bytes.now ≡ sentence }
 {
@@ -47,7 +47,7 @@ pub(crate) fn before_nul(text: &'static [u8]) -> Text<'static>
     Text { bytes: sentence }
 }
 
-// The failure that has a number.
+// The failure with this number.
 fn failure_numbered(number: u32) -> Option<Failure>
     ensures { MatchOption result
         ((f : Failure) → ¬ (number ≡ number_of f)) (λ f. number ≡ number_of f) }

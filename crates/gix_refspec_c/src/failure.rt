@@ -1,4 +1,4 @@
-//! Why a call gives no answer, or what is to be said of it.
+//! The failures of calls, and their numbers in C.
 
 ghost use Rattle.std.specs.Prelude.{◌≡◌};
 ghost use Rattle.gix_refspec.specs.Specs.Refusal.{Refusal};
@@ -8,10 +8,10 @@ ghost use Rattle.gix_refspec_c.specs.Outcome.{IsNumberOf, number_of, of_fault, o
 use gix_refspec::name;
 use gix_refspec::parsing::Error;
 
-/// Why a call gives no answer, or not the one that was hoped for.
+/// Why a call fails. At `InConflict` its lists are filled all the same.
 #[derive(Clone, Copy)]
 pub enum Failure {
-    /// Nothing is to be pushed.
+    /// The text for a push is empty.
     Empty,
     /// A negative spec has a colon.
     NegativeWithDestination,
@@ -25,9 +25,9 @@ pub enum Failure {
     PatternUnsupported,
     /// Exactly one side has a star.
     PatternUnbalanced,
-    /// A side is empty. Kept for the fault of that name, and never given.
+    /// A side is empty. Kept for the fault of that name, and never returned.
     NameEmpty,
-    /// A slash begins or ends a side, or follows another.
+    /// A side begins or ends with a slash, or contains two in a row.
     NameEmptyComponent,
     /// A component begins with a dot.
     NameStartsWithDot,
@@ -35,30 +35,30 @@ pub enum Failure {
     NameLockSuffix,
     /// A side ends with a dot.
     NameEndsWithDot,
-    /// Two dots are side by side.
+    /// A side contains two dots in a row.
     NameRepeatedDot,
-    /// `@{` is in a side.
+    /// A side contains `@{`.
     NameReflogPortion,
-    /// A star is in a name. Kept for the fault of that name, and never given.
+    /// A name contains a star. Kept for the fault of that name, and never returned.
     NameAsterisk,
-    /// A control character, a space or one of `~ ^ : ? [ \` is in a side.
+    /// A side contains a control character, a space or one of `~ ^ : ? [ \`.
     NameInvalidByte,
     /// Only a request for all refs is safe.
     NoList,
-    /// The buffer has no room for the answer.
+    /// The buffer is too small for the answer.
     TooSmall,
     /// Memory ran out.
     NoMemory,
-    /// The number is that of no operation, of no direction, or of no outcome.
+    /// The number isn't that of an operation, a direction or an outcome.
     NoOperation,
-    /// A destination is an id, which names don't tell of.
+    /// A destination is an id, which can't be matched by names alone.
     NeedsIds,
     /// A destination has several sources.
     InConflict,
 }
 
 impl Failure {
-    /// The number that C has for it.
+    /// Its number in C.
     pub fn number(self) -> u32
         ensures { result ≡ number_of self }
     {
@@ -99,8 +99,8 @@ pub(crate) fn outcome_of(ended: Result<(), Failure>) -> u32
     }
 }
 
-/// The failure that tells of a refusal, or that memory ran out. The variants that are never given count
-/// as the latter.
+/// The failure that reports a refusal, or `NoMemory` if memory ran out. Variants of `Error` that are
+/// never returned give `NoMemory` too.
 pub(crate) fn failure_of(error: &Error) -> Failure
     ensures refusal { (e : Refusal) → IsShownAs error.now e → result ≡ of_refusal e }
     ensures memory { error.now ≡ Error.Memory → result ≡ Failure.NoMemory }
@@ -121,7 +121,7 @@ pub(crate) fn failure_of(error: &Error) -> Failure
     }
 }
 
-// The failure that tells of a fault of a name.
+// The failure that reports a fault of a name.
 fn failure_of_name(fault: &name::Error) -> Failure
     ensures { result ≡ of_fault fault.now }
 {

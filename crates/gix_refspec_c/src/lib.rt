@@ -1,7 +1,7 @@
-//! Refspecs for callers in C: checked, taken apart, printed, compared, made into what to ask a server
-//! for, and matched. `include/gix_refspec.h` has the prototypes.
+//! Refspecs for callers in C: checked, split into parts, printed, compared, turned into ref prefixes,
+//! and matched. `include/gix_refspec.h` has the prototypes.
 //!
-//! Each call answers an outcome: 0, or the number of a [`failure::Failure`]. The caller owns every
+//! Each call returns an outcome: 0, or the number of a [`failure::Failure`]. The caller owns every
 //! buffer, and nothing is kept from call to call.
 #![tactic(auto)]
 

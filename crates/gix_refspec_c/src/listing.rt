@@ -1,4 +1,4 @@
-//! What a caller is told of mappings: a struct for each, and their texts.
+//! Mappings as a caller receives them: a struct for each, and their texts.
 
 ghost use Rattle.std.specs.Prelude.{◌≡◌, ◌++◌, ◌∷◌, [], map, length, IfErr, IfOk, OnOk};
 ghost use Rattle.std.specs.String.{string_bytes};
@@ -11,32 +11,31 @@ use gix_refspec::MatchGroup;
 use gix_refspec::match_group::{Mapping, SourceRef};
 use std::alloc::{AllocError, Global};
 
-/// What C is told of a mapping. Texts are places in the buffer: where they begin, and how long they are.
+/// A mapping for C. Its texts are in the buffer, each with an offset and a length.
 #[repr(C)]
 #[derive(Clone, Copy)]
 pub struct MappingOut {
-    /// The place of the spec among the texts.
+    /// The index of the spec in the texts.
     pub spec: usize,
-    /// The place of the name among the names, or the greatest number for an object that is asked for by
-    /// its id.
+    /// The index of the name in the names, or `usize::MAX` for an object that is asked for by its id.
     pub item: usize,
-    /// 1 where there is a destination, else 0.
+    /// 1 if there is a destination, else 0.
     pub has_destination: u32,
-    /// 1 where the spec lets refs move also where that is no fast-forward, else 0.
+    /// 1 if the spec allows non-fast-forward updates, else 0.
     pub forced: u32,
-    /// What becomes of it in a plan, else 0.
+    /// The number of the verdict in a plan, and 0 in a match.
     pub verdict: u32,
-    /// The text of a source that is an id. Of another its length is 0.
+    /// The offset of the text of a source that is an id. For any other source its length is 0.
     pub id_at: usize,
     /// Its length.
     pub id_len: usize,
-    /// The name that the spec makes: the destination, or from right to left the source.
+    /// The offset of the name that the spec makes: the destination, or from right to left the source.
     pub made_at: usize,
     /// Its length.
     pub made_len: usize,
 }
 
-/// What is told of mappings.
+/// The structs and the texts of mappings.
 #[derive(Drop)]
 pub(crate) struct Listing {
     pub(crate) mappings: Vec<MappingOut>,
@@ -44,7 +43,7 @@ pub(crate) struct Listing {
 }
 
 impl Listing {
-    /// A listing of nothing.
+    /// An empty listing.
     pub(crate) fn new(alloc: Global) -> Listing
         ensures { Tells [] result.mappings.items result.text.items }
     {
@@ -54,7 +53,7 @@ impl Listing {
         }
     }
 
-    /// Tells of one more mapping of a group from left to right.
+    /// Adds a mapping of a group from left to right.
     pub(crate) fn add_forward(
         &mut self,
         alloc: Global,
@@ -88,7 +87,7 @@ impl Listing {
         )
     }
 
-    /// Tells of one more mapping of a group from right to left.
+    /// Adds a mapping of a group from right to left.
     pub(crate) fn add_backward(
         &mut self,
         alloc: Global,
@@ -115,7 +114,7 @@ impl Listing {
         self.add(mapping, has_destination, forced, 0, b"", made)
     }
 
-    // Tells of one more mapping, with these texts.
+    // Adds a mapping with these texts.
     fn add(
         &mut self,
         mapping: &Mapping<'_, '_>,
@@ -157,7 +156,7 @@ impl Listing {
     }
 }
 
-// 1 if the spec with this index lets refs move also where that is no fast-forward, else 0.
+// 1 if the spec with this index allows non-fast-forward updates, else 0.
 fn forced_of(group: &MatchGroup<'_>, index: usize) -> u32
     ensures { result ≡ forced_at (readings_of group.now) index }
 {
@@ -167,7 +166,7 @@ fn forced_of(group: &MatchGroup<'_>, index: usize) -> u32
     }
 }
 
-// The place of an item, or the greatest number.
+// The index of an item, or `usize::MAX`.
 fn item_number(index: Option<usize>) -> usize
     ensures { result ≡ number_of_item index }
 {
@@ -177,7 +176,7 @@ fn item_number(index: Option<usize>) -> usize
     }
 }
 
-// The text of a source that is an id. Of another it is empty.
+// The hexadecimal digits of a source that is an id, and none for a name.
 fn id_digits(alloc: Global, source: &SourceRef<'_>) -> Result<String, AllocError>
     ensures { IfOk result (λ digits. string_bytes digits ≡ id_text (start_of source.now)) }
 {
@@ -187,7 +186,8 @@ fn id_digits(alloc: Global, source: &SourceRef<'_>) -> Result<String, AllocError
     }
 }
 
-/// Puts a listing at the front of two lists, if both have room, and sets the counts to what it needs.
+/// Copies a listing to the start of two slices, if both are long enough, and sets the counts to the
+/// required sizes in any case.
 pub(crate) fn put_all(
     listing: &Listing,
     mappings: &mut [MappingOut],

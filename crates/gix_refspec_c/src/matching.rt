@@ -1,4 +1,4 @@
-//! What fetches match among names.
+//! Matching fetch specs against names.
 
 ghost use Rattle.std.specs.Prelude.{◌≡◌, ◌↔◌, ℕ, List, map, replicate, IfErr, IfOk, IsTrue, MatchOption, OnOk};
 ghost use Rattle.std.specs.List.{AllByRecursion, AllZip};
@@ -31,9 +31,9 @@ pub enum Direction {
     Backward,
 }
 
-/// What fetches map of names, or back from names. The count and the length are set to what the answer
-/// needs, also where there is no room for it, and then the rest is as before; after any other failure all
-/// is.
+/// Maps names by fetch specs, from left to right or from right to left. The latter fails with `NeedsIds` if a
+/// destination is an id. Sets `count` and `len` to the required sizes even if `mappings` or `buffer` is
+/// too small, and leaves both of these unchanged then; after any other failure nothing has changed.
 #[unsafe(no_mangle)]
 pub extern "C" fn gix_refspec_match(
     alloc: Global,
@@ -66,7 +66,7 @@ pub extern "C" fn gix_refspec_match(
     }
 }
 
-// The direction that has a number in C.
+// The direction with this number in C.
 fn direction_of(number: u32) -> Option<Direction>
     ensures { MatchOption result
         ((d : Direction) → ¬ (number ≡ direction_code d)) (λ d. number ≡ direction_code d) }
@@ -78,7 +78,7 @@ fn direction_of(number: u32) -> Option<Direction>
     }
 }
 
-// What there is to tell of what fetches map.
+// The listing of what fetch specs map.
 fn listing_of(
     alloc: Global,
     texts: &[Text<'_>],
@@ -133,7 +133,7 @@ pub(crate) fn items_of<'a>(
     Ok(items)
 }
 
-// What there is to tell of mappings of a group from left to right.
+// The listing of mappings of a group from left to right.
 fn listed_forward(
     alloc: Global,
     group: &MatchGroup<'_>,
@@ -150,7 +150,7 @@ fn listed_forward(
     Ok(listing)
 }
 
-// What there is to tell of mappings of a group from right to left.
+// The listing of mappings of a group from right to left.
 fn listed_backward(
     alloc: Global,
     group: &MatchGroup<'_>,

@@ -1,4 +1,4 @@
-//! What an instruction consists of, as C sees it.
+//! The parts of an instruction, for C.
 
 ghost use Rattle.std.specs.Prelude.{◌≡◌};
 ghost use Rattle.gix_refspec.specs.Views.Instruction.{meaning_of_instruction, meaning_of_fetch, meaning_of_push};
@@ -7,18 +7,18 @@ ghost use Rattle.gix_refspec_c.specs.Single.{bit, parts_in, parts_of};
 use gix_refspec::Instruction;
 use gix_refspec::instruction::{Fetch, Push};
 
-/// What a refspec says to do. A side that it hasn't is empty; none that it has is.
+/// The instruction of a refspec. A missing side is empty; a present side never is.
 #[repr(C)]
 #[derive(Clone, Copy)]
 pub struct Parts<'a> {
     /// From 1: a push of all matching branches, a push that deletes, a push, a push that excludes, a
     /// fetch of a source alone, a fetch that excludes, a fetch that updates.
     pub kind: u32,
-    /// 1 where refs may also move where that is no fast-forward, else 0.
+    /// 1 if non-fast-forward updates are allowed, else 0.
     pub forced: u32,
-    /// A place in the text, or the constant `HEAD`.
+    /// A slice of the text, or the constant `HEAD`.
     pub source: &'a [u8],
-    /// A place in the text.
+    /// A slice of the text, or the constant `HEAD` for a push of `@`.
     pub destination: &'a [u8],
 }
 
@@ -32,7 +32,6 @@ pub(crate) fn parts_of(instruction: Instruction<'_>) -> Parts<'_>
     }
 }
 
-// The parts of a push.
 fn parts_of_push(push: Push<'_>) -> Parts<'_>
     ensures { parts_in result ≡ parts_of (meaning_of_push push.entry) }
 {
@@ -50,7 +49,6 @@ fn parts_of_push(push: Push<'_>) -> Parts<'_>
     }
 }
 
-// The parts of a fetch.
 fn parts_of_fetch(fetch: Fetch<'_>) -> Parts<'_>
     ensures { parts_in result ≡ parts_of (meaning_of_fetch fetch.entry) }
 {
@@ -65,7 +63,7 @@ fn parts_of_fetch(fetch: Fetch<'_>) -> Parts<'_>
     }
 }
 
-// The parts that these are.
+// `Parts` of these values, with 1 or 0 for `forced`.
 fn made_of<'a>(kind: u32, forced: bool, source: &'a [u8], destination: &'a [u8]) -> Parts<'a>
     ensures { parts_in result ≡ record { kind = kind; forced = bit forced; source = source.now; destination = destination.now } }
 {

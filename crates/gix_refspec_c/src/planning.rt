@@ -29,14 +29,14 @@ use gix_refspec::{MatchGroup, laws};
 use std::alloc::Global;
 use std::cmp::Ordering;
 
-/// What becomes of a mapping.
+/// What a fetch does with a mapping.
 #[derive(Clone, Copy)]
 pub enum Verdict {
     /// Its destination is written.
     Written,
     /// Its destination neither begins `refs/` nor is `HEAD`.
     LeftOut,
-    /// Its source or its destination is none that a ref may be called.
+    /// Its source or its destination isn't a valid ref name.
     BadName,
     /// Its destination has several sources.
     Contested,
@@ -45,7 +45,7 @@ pub enum Verdict {
 }
 
 impl Verdict {
-    /// The number that C has for it.
+    /// Its number in C.
     pub fn number(self) -> u32
         ensures { result ≡ verdict_code self }
     {
@@ -59,10 +59,10 @@ impl Verdict {
     }
 }
 
-/// What a fetch does with each of its mappings. Conflicts are looked for among those whose names refs may
-/// have, and where there are some, the lists are filled all the same. The count and the length are set to
-/// what the answer needs, also where there is no room for it, and then the rest is as before; after any
-/// other failure all is.
+/// What a fetch does with each of its mappings. Conflicts are those among the mappings without an
+/// invalid ref name; if there are any, the number of `InConflict` is returned, with the lists filled
+/// all the same. Sets `count` and `len` to the required sizes even if `mappings` or `buffer` is too
+/// small, and leaves both of these unchanged then; after any other failure nothing has changed.
 #[unsafe(no_mangle)]
 pub extern "C" fn gix_refspec_plan(
     alloc: Global,
@@ -98,14 +98,14 @@ pub extern "C" fn gix_refspec_plan(
     }
 }
 
-// What there is to tell of a fetch, and whether several refs would be written to one destination.
+// The listing of a fetch, and whether several refs would be written to one destination.
 #[derive(Drop)]
 struct Plan {
     listing: Listing,
     has_conflict: bool,
 }
 
-// What there is to tell of what a fetch does with its mappings.
+// Lists the mappings of a fetch with their verdicts.
 fn plan_of(alloc: Global, texts: &[Text<'_>], names: &[Text<'_>]) -> Result<Plan, Failure>
     ensures ok { IfOk result (λ plan. (es : List Entry) ×
         IsPlan plan.has_conflict (map bytes_of texts.now) (map bytes_of names.now) es ×
@@ -142,7 +142,7 @@ fn plan_of(alloc: Global, texts: &[Text<'_>], names: &[Text<'_>]) -> Result<Plan
     }
 }
 
-// The conflicts of those mappings whose names refs may have.
+// The conflicts of the mappings without an invalid ref name.
 fn issues_of(alloc: Global, outcome: &match_lhs::Outcome<'_, '_>) -> Result<Vec<Issue>, Failure>
     requires { IndexesFit (readings_of outcome.now.group) (mappings_of outcome.now) }
     ensures ok { IfOk result (λ issues. (named : List Mapped) × HaveRefNames (mappings_of outcome.now) named ×
@@ -166,7 +166,7 @@ fn issues_of(alloc: Global, outcome: &match_lhs::Outcome<'_, '_>) -> Result<Vec<
     }
 }
 
-// What there is to tell of mappings of a group, of which these are the conflicts.
+// The listing of mappings of a group, with the verdicts that these conflicts give.
 fn listed(
     alloc: Global,
     group: &MatchGroup<'_>,
@@ -187,7 +187,7 @@ fn listed(
     Ok(listing)
 }
 
-// What becomes of a mapping where these are the conflicts.
+// The verdict on a mapping, if these are the conflicts.
 fn verdict_of(mapping: &Mapping<'_, '_>, issues: &[Issue]) -> Verdict
     requires { IsStrictlySortedBy (slice_cmp nat_cmp) (destinations_of issues.now) }
     ensures { HasVerdict (Contains (destinations_of issues.now)) (mapped_of mapping.now) result }
@@ -216,7 +216,7 @@ fn verdict_of(mapping: &Mapping<'_, '_>, issues: &[Issue]) -> Verdict
     }
 }
 
-// Whether a source is an id, or a name that a ref may have.
+// Whether a source is an id, or a valid ref name.
 fn is_good_source(source: &SourceRef<'_>) -> bool
     ensures { IsTrue result ↔ IsValidSource (start_of source.now) }
 {
@@ -226,7 +226,7 @@ fn is_good_source(source: &SourceRef<'_>) -> bool
     }
 }
 
-// Whether a destination is one of those of the conflicts.
+// Whether a destination is that of a conflict.
 fn is_contested(destination: &[u8], issues: &[Issue]) -> bool
     requires { IsStrictlySortedBy (slice_cmp nat_cmp) (destinations_of issues.now) }
     ensures { IsTrue result ↔ Contains (destinations_of issues.now) destination.now }

@@ -1,4 +1,4 @@
-//! What to ask a server for.
+//! Ref prefixes to send to a server.
 
 ghost use Rattle.std.specs.Prelude.{◌≡◌, ◌≢◌, ℕ, List, map, IfErr, IfOk, OnOk};
 ghost use Rattle.bstr.specs.Owned.{bstring_bytes};
@@ -18,8 +18,8 @@ use gix_refspec::parsing::Operation;
 use std::alloc::{AllocError, Global};
 
 /// The prefix of the ref names that a refspec has on the remote, by the source of a fetch or the
-/// destination of a push: a full name, `HEAD`, or what is before the star of a pattern below `refs/`.
-/// Empty if it has none. After a failure the prefix is as before.
+/// destination of a push: a full name, `HEAD`, or the prefix of a pattern below `refs/`. Empty if it
+/// has none. After a failure `prefix` is unchanged.
 #[unsafe(no_mangle)]
 pub extern "C" fn gix_refspec_prefix<'a>(
     alloc: Global,
@@ -38,10 +38,10 @@ pub extern "C" fn gix_refspec_prefix<'a>(
     }
 }
 
-/// What a client may ask a server for by one refspec: its prefix, or the six names that a partial name
-/// may stand for, a line each. No list is safe if it is empty or has a star in it; `gix_refspec_prefixes`
-/// knows that. The length is set to what the lines need, also where the buffer has no room. A buffer that
-/// doesn't get them is as before, and so is the length after any other failure.
+/// The expansion of a refspec: its prefix, or the six names that a partial name may stand for, one per
+/// line. If a positive refspec gives no line, or one with a star, only a request for all refs is safe;
+/// `gix_refspec_prefixes` checks that. Sets `len` to the required size even if `buffer` is too small,
+/// and leaves `buffer` unchanged then; after any other failure nothing has changed.
 #[unsafe(no_mangle)]
 pub extern "C" fn gix_refspec_expand_prefixes(
     alloc: Global,
@@ -63,10 +63,10 @@ pub extern "C" fn gix_refspec_expand_prefixes(
     }
 }
 
-/// What to ask a server for, so that it tells of each ref that the texts take: a prefix a line. To a
-/// server none at all is a request for all refs. The length is set to what the lines need, also where the
-/// buffer has no room. A buffer that doesn't get them is as before, and so is the length after any other
-/// failure.
+/// The ref prefixes to send to a server, one per line, so that it lists each ref that the refspecs
+/// take. A server takes an empty list as a request for all refs. Fails with `NoList` if only such a
+/// request is safe. Sets `len` to the required size even if `buffer` is too small, and leaves `buffer`
+/// unchanged then; after any other failure nothing has changed.
 #[unsafe(no_mangle)]
 pub extern "C" fn gix_refspec_prefixes(
     alloc: Global,
@@ -88,7 +88,7 @@ pub extern "C" fn gix_refspec_prefixes(
     }
 }
 
-// Sets the prefix to that of a refspec for the operation, or to nothing.
+// Sets `prefix` to that of a refspec for the operation, or to an empty text if it has none.
 fn find_prefix<'a>(
     alloc: Global,
     text: &'a [u8],
@@ -105,7 +105,7 @@ fn find_prefix<'a>(
     Ok(())
 }
 
-// The prefix of a spec, or nothing.
+// The prefix of a spec, or an empty slice.
 fn prefix_or_nothing<'a>(spec: &RefSpecRef<'a>) -> &'a [u8]
     ensures { IsPrefixOrNothing (reading_of spec.now) result.now }
 {
@@ -115,7 +115,7 @@ fn prefix_or_nothing<'a>(spec: &RefSpecRef<'a>) -> &'a [u8]
     }
 }
 
-// Puts what a refspec for the operation expands to into a buffer.
+// Writes the expansion of a refspec for the operation to a buffer.
 fn expand(
     alloc: Global,
     text: &[u8],
@@ -136,7 +136,7 @@ fn expand(
     put(lines.as_slice(), buffer, len)
 }
 
-// What a spec expands to, an entry a line.
+// The expansion of a spec, one entry per line.
 fn expanded(alloc: Global, spec: &RefSpecRef<'_>) -> Result<Vec<u8>, AllocError>
     ensures { IfOk result (λ lines. IsExpandedTo (reading_of spec.now) lines.items) }
 {
@@ -145,7 +145,7 @@ fn expanded(alloc: Global, spec: &RefSpecRef<'_>) -> Result<Vec<u8>, AllocError>
     joined(alloc, names.as_slice())
 }
 
-// Puts what there is to ask for into a buffer.
+// Writes the ref prefixes of refspecs to a buffer.
 fn ask(
     alloc: Global,
     texts: &[Text<'_>],
@@ -166,7 +166,7 @@ fn ask(
     put(lines.as_slice(), buffer, len)
 }
 
-// What there is to ask for, a prefix a line.
+// The ref prefixes of refspecs, one per line.
 fn lines_to_ask(alloc: Global, texts: &[Text<'_>], operation: Operation) -> Result<Vec<u8>, Failure>
     ensures ok { IfOk result (λ lines. IsToAsk operation (map bytes_of texts.now) lines.items) }
     ensures err { IfErr result (λ f.

@@ -1,11 +1,12 @@
-//! Answers that go into a buffer of the caller.
+//! Writing an answer to a buffer of the caller.
 
 ghost use Rattle.std.specs.Prelude.{OnOk, OnErr, ◌≡◌, IfErr};
 ghost use Rattle.gix_refspec_c.specs.Buffer.{IsWrittenTo, IsTooSmall};
 
 use crate::failure::Failure;
 
-/// Puts an answer at the front of a buffer, if it has room, and sets the length to what the answer needs.
+/// Copies an answer to the start of a buffer, if it is long enough, and sets the length to that of the
+/// answer.
 pub(crate) fn put(answer: &[u8], buffer: &mut [u8], len: &mut usize) -> Result<(), Failure>
     ensures ok { OnOk result (IsWrittenTo answer.now buffer.old buffer.new len.new) }
     ensures small { IfErr result (λ f. (f ≡ Failure.TooSmall) × IsTooSmall answer.now buffer.old buffer.new len.new) }

@@ -15,7 +15,7 @@ use gix_refspec::parsing::Operation;
 use gix_refspec::{MatchGroup, RefSpecRef, parse};
 use std::alloc::Global;
 
-/// The operation that has a number in C.
+/// The operation with this number in C.
 pub(crate) fn operation_of(number: u32) -> Option<Operation>
     ensures { MatchOption result
         ((op : Operation) → ¬ (number ≡ code_of op)) (λ op. number ≡ code_of op) }
@@ -42,7 +42,8 @@ pub(crate) fn read<'a>(
     }
 }
 
-/// Reads texts for an operation, in order. The failure is that of the first text that isn't read.
+/// Reads texts for an operation, in order. Fails at the first text that is refused, or if memory runs
+/// out.
 pub(crate) fn read_all<'a>(
     alloc: Global,
     texts: &[Text<'a>],
@@ -63,7 +64,6 @@ pub(crate) fn read_all<'a>(
     Ok(group)
 }
 
-// Adds a spec to a group.
 fn add<'a>(group: &mut MatchGroup<'a>, spec: RefSpecRef<'a>) -> Result<(), Failure>
     ensures ok { OnOk result (group.new.specs.items ≡ group.old.specs.items ++ spec.entry ∷ []) }
     ensures err { IfErr result (λ f. f ≡ Failure.NoMemory) }

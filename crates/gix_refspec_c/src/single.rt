@@ -30,7 +30,7 @@ pub extern "C" fn gix_refspec_check(alloc: Global, text: &[u8], operation: u32) 
     }
 }
 
-/// What a refspec says to do, and its sides. After a failure the parts are as before.
+/// The instruction of a refspec, and its sides. After a failure `parts` is unchanged.
 #[unsafe(no_mangle)]
 pub extern "C" fn gix_refspec_parts<'a>(
     alloc: Global,
@@ -49,8 +49,8 @@ pub extern "C" fn gix_refspec_parts<'a>(
     }
 }
 
-/// The canonical text of a refspec. The length is set to what it needs, also where the buffer has no
-/// room. A buffer that doesn't get it is as before, and so is the length after any other failure.
+/// The canonical text of a refspec. Sets `len` to the required size even if `buffer` is too small, and
+/// leaves `buffer` unchanged then; after any other failure nothing has changed.
 #[unsafe(no_mangle)]
 pub extern "C" fn gix_refspec_canonical(
     alloc: Global,
@@ -72,8 +72,8 @@ pub extern "C" fn gix_refspec_canonical(
     }
 }
 
-/// How two refspecs compare: -1, 0 or 1. It is 0 exactly if their canonical texts are equal. After a
-/// failure, which is the first text's where both have one, the order is as before.
+/// How two refspecs compare: -1, 0 or 1. It is 0 exactly if their canonical texts are equal. If both
+/// texts are refused, the failure is that of the first. After a failure `order` is unchanged.
 #[unsafe(no_mangle)]
 pub extern "C" fn gix_refspec_compare(
     alloc: Global,
@@ -117,7 +117,7 @@ fn take_apart<'a>(
     Ok(())
 }
 
-// Puts the canonical text of a refspec for the operation into a buffer.
+// Writes the canonical text of a refspec for the operation to a buffer.
 fn print(
     alloc: Global,
     text: &[u8],

@@ -27,11 +27,11 @@ use bstr::BStr;
 use ends::{Direction, Ends, asked_of, ends_of, near_of};
 use equal_specs::equal_specs;
 use fill::filled_end;
+use gix_refspec_text::RefSpecRef;
+use gix_refspec_text::side::SideKind;
 use ids::id_mappings;
 use index::NameIndex;
 use matches::{fitted_word, match_of, word_between};
-use gix_refspec_text::RefSpecRef;
-use gix_refspec_text::side::SideKind;
 use std::alloc::{AllocError, Global};
 
 /// What is matched: specs with items, in a direction.

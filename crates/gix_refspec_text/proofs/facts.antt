@@ -1,4 +1,4 @@
--- Examples of the definitions in specs/, each on one side of a border, so that a wrong definition is noticed.
+-- Examples of the definitions in specs/, on both sides of each boundary, so that a wrong definition is noticed.
 pub mod ManualFacts
 pub mod NameFacts
 pub mod ObjectIdFacts

@@ -1,4 +1,4 @@
--- What proofs share, by subject.
+-- The lemmas that proofs share, by subject.
 pub mod texts
 pub mod parsing
 pub mod specs

@@ -1,4 +1,4 @@
--- What a side matches and takes of refs, and what is asked for a spec.
+-- Which refs a side matches and takes, and the ref prefixes of a spec.
 pub mod Side
 pub mod Match
 pub mod Prefix

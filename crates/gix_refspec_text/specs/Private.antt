@@ -1,4 +1,4 @@
--- The words of functions that callers of the library can't reach, for their steps.
+-- Definitions for functions that callers of `gix_refspec` can't reach.
 pub mod Scan
 pub mod Pieces
 pub mod SideViews

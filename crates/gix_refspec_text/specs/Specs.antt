@@ -1,4 +1,4 @@
--- What a text is read as, why it is refused, and what a spec says to do.
+-- The reading of a text, the reasons to refuse it, and the meaning of a spec.
 pub mod Reading
 pub mod Grammar
 pub mod Refusal

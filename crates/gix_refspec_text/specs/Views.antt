@@ -1,4 +1,4 @@
--- How a clause sees a Rust value as plain data.
+-- Rust values as the plain data that contracts see.
 pub mod Instruction
 pub mod Spec
 pub mod Errors

@@ -1,4 +1,4 @@
-//! What a refspec says to do, by operation.
+//! The instructions of refspecs, by operation.
 
 ghost use Rattle.std.specs.Prelude.{◌≡◌};
 ghost use Rattle.gix_refspec_text.specs.Views.Instruction.{meaning_of_instruction, meant_for};
@@ -12,26 +12,26 @@ use bstr::BStr;
 pub enum Push<'a> {
     /// Pushes each local branch that the remote has too.
     AllMatchingBranches {
-        /// Whether the spec had a `+`: refs may also move where that is no fast-forward.
+        /// Whether the spec had a `+`: non-fast-forward updates are allowed.
         allow_non_fast_forward: bool,
     },
     /// Deletes the remote ref. A `+` changes nothing.
     Delete {
-        /// The name of the ref, full or partial. No spec deletes a pattern, though Rust's name of the
-        /// field says so.
+        /// The ref name, full or partial. No spec deletes a pattern; the field has its name from the Rust
+        /// crate.
         ref_or_pattern: BStr<'a>,
     },
     /// Pushes the source to the destination; both are patterns, or neither.
     Matching {
-        /// The local side. With a destination in the text it may be whatever names an object, as `main~2`:
-        /// any bytes but a star.
+        /// The local side. If the text has a destination, it may also be any expression for an object, such
+        /// as `main~2`: any bytes but a star.
         src: BStr<'a>,
-        /// The side on the remote. It is the source where the text has none.
+        /// The side on the remote. It is the source if the text has no destination.
         dst: BStr<'a>,
-        /// Whether the spec had a `+`: refs may also move where that is no fast-forward.
+        /// Whether the spec had a `+`: non-fast-forward updates are allowed.
         allow_non_fast_forward: bool,
     },
-    /// Leaves out what the source matches.
+    /// Excludes the refs that the source matches.
     Exclude {
         /// A name or a pattern, without the `^`.
         src: BStr<'a>,
@@ -46,7 +46,7 @@ pub enum Fetch<'a> {
         /// The side on the remote: a name, full or partial, or an object id.
         src: BStr<'a>,
     },
-    /// Leaves out what the source matches.
+    /// Excludes the refs that the source matches.
     Exclude {
         /// A name or a pattern, without the `^`.
         src: BStr<'a>,
@@ -57,7 +57,7 @@ pub enum Fetch<'a> {
         src: BStr<'a>,
         /// The local side.
         dst: BStr<'a>,
-        /// Whether the spec had a `+`: refs may also move where that is no fast-forward.
+        /// Whether the spec had a `+`: non-fast-forward updates are allowed.
         allow_non_fast_forward: bool,
     },
 }

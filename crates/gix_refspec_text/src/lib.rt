@@ -1,6 +1,6 @@
-//! Refspecs as texts: names, ids, and single refspecs that are read, compared, printed, and made into
-//! what a client asks a server for. The library to use is `gix_refspec`, which is built on this crate:
-//! it has all of these under the same names, and groups of specs, which match refs.
+//! Refspecs as texts: ref names, object ids, and single refspecs, which are parsed, compared, printed, and
+//! turned into the ref prefixes that a client sends to a server. Use `gix_refspec` instead, which is built
+//! on this crate: it has all of these under the same names, and groups of specs that match refs.
 #![tactic(auto)]
 
 pub mod instruction;

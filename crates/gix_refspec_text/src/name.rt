@@ -1,4 +1,4 @@
-//! The names of refs and the patterns over them, by git-check-ref-format(1).
+//! Checks ref names and patterns, by git-check-ref-format(1).
 
 ghost use Rattle.std.specs.Prelude.{◌≡◌, ◌↔◌, IsTrue, MatchOption, MatchResult, ◌∷◌, ◌≤◌, [], List, ℕ, length};
 ghost use Rattle.std.specs.Bool.{OnTrue};
@@ -20,7 +20,7 @@ use bstr::{BStr, ByteSlice};
 use smallvec::SmallVec;
 use std::alloc::Global;
 
-/// Why a text is no name of a ref. With several faults, which one is reported is left open.
+/// Why a text is not a valid ref name. Which of several faults is reported is left open.
 #[derive(Clone, Copy, Debug, PartialEq, Eq, thiserror::Error)]
 pub enum Error {
     /// The text is empty.
@@ -41,16 +41,16 @@ pub enum Error {
     /// The text has two dots in a row.
     #[error("RepeatedDot")]
     RepeatedDot,
-    /// The text has `@{` in it.
+    /// The text contains `@{`.
     #[error("ReflogPortion")]
     ReflogPortion,
-    /// The text has a star in it.
+    /// The text contains a star.
     #[error("Asterisk")]
     Asterisk,
-    /// The text has a control character, a space or one of `~ ^ : ? [ \` in it.
+    /// The text contains a control character, a space or one of `~ ^ : ? [ \`.
     #[error("InvalidByte")]
     InvalidByte {
-        /// Such a byte.
+        /// One such byte of the text.
         byte: u8,
     },
 }
@@ -78,23 +78,23 @@ impl Error {
     }
 }
 
-/// Why a text with exactly one star is no pattern.
+/// Why a text with exactly one star is not a valid pattern.
 #[derive(Clone, Copy, Debug, PartialEq, Eq, thiserror::Error)]
 pub enum PatternError {
-    /// With a letter for its star the text is no name, for this fault.
+    /// The text has this fault of a ref name, with a letter in place of its star.
     #[error("{0}")]
     Name(Error),
-    /// The text has more than 256 bytes, and memory ran out for its copy.
+    /// The text has more than 256 bytes, and memory ran out while copying it.
     #[error("out of memory")]
     Memory,
 }
 
-/// Checks a name of a ref, by git-check-ref-format(1) with `--allow-onelevel`. Unlike there, `@` alone
-/// is a name.
+/// Checks a ref name, by git-check-ref-format(1) with `--allow-onelevel`. Unlike there, `@` alone is
+/// valid.
 ///
-/// Refused are the empty text, a component that is empty, begins with a dot or ends with `.lock`,
-/// a dot at the end, `..`, `@{`, a star, and the bytes that `Error::InvalidByte` lists. A text with
-/// several of these faults is reported by one of them. Nothing is borrowed or allocated.
+/// Refuses the empty text, a component that is empty, begins with a dot or ends with `.lock`, a dot at
+/// the end, `..`, `@{`, a star, and the bytes listed at `Error::InvalidByte`. If the text has several of
+/// these faults, the error is any one of them. Nothing is borrowed or allocated.
 pub fn name_partial(name: BStr<'_>) -> Result<(), Error>
     ensures { MatchResult result
         (λ _. IsName (bstr_bytes name.entry))
@@ -113,13 +113,13 @@ pub fn has_one_star(text: BStr<'_>) -> bool
     text.as_bytes().iter().filter(|byte| **byte == b'*').count() == 1
 }
 
-/// Checks a pattern, as git-check-ref-format(1) does with `--refspec-pattern`: it has to be a name once
-/// a letter replaces its star. A text that ends with a slash is refused, as by Git's command, although
-/// its manual has one as an example.
+/// Checks a pattern, as git-check-ref-format(1) does with `--refspec-pattern`: with a letter in place of
+/// its star it must be a valid ref name. A text that ends with a slash is refused, as by Git's command,
+/// although the manual gives one as an example.
 ///
-/// Requires exactly one star, as [`has_one_star`] tests. `Name` holds one fault of the name with the
+/// Requires exactly one star, as [`has_one_star`] tests. `Name` holds one fault of the text with the
 /// letter. A text of more than 256 bytes is copied to the heap until the call ends; if memory runs out
-/// there, the refusal is `Memory`.
+/// there, the error is `Memory`.
 pub fn pattern_partial(alloc: Global, pattern: BStr<'_>) -> Result<(), PatternError>
     requires { HasOneStar (bstr_bytes pattern) }
     ensures { MatchResult result
@@ -137,7 +137,7 @@ pub fn pattern_partial(alloc: Global, pattern: BStr<'_>) -> Result<(), PatternEr
     }
 }
 
-// A fault of the text, or `None` if the text is a name. One look is enough for most names.
+// A fault of the text, or `None` if it is a valid ref name. Most names need only one pass.
 fn fault_of(text: &[u8]) -> Option<Error>
     ensures { MatchOption result (IsName text.now) (λ e. HasFault text.now e) }
 {
@@ -147,7 +147,7 @@ fn fault_of(text: &[u8]) -> Option<Error>
     found_fault(text)
 }
 
-// A fault of the text, byte by byte, or `None` if the text is a name.
+// The same, checked byte by byte.
 fn found_fault(text: &[u8]) -> Option<Error>
     ensures { MatchOption result (IsName text.now) (λ e. HasFault text.now e) }
 {
@@ -162,16 +162,17 @@ fn found_fault(text: &[u8]) -> Option<Error>
     left_fault(text, last_of(text))
 }
 
-// Why a text is neither a name nor a pattern.
+// Why a text is neither a valid ref name nor a pattern.
 #[derive(Clone, Copy)]
 pub(crate) enum Stop {
     // It has a second star.
     SecondStar,
-    // It has a fault with letters for its stars.
+    // It has this fault, with letters in place of its stars.
     Fault(Error),
 }
 
-// Whether a text has a star, if it is a name with a letter for its one star at most.
+// Whether a ref name or pattern has a star. Fails at a second star, or with a fault that the text has
+// with letters in place of its stars.
 #[inline(never)]
 pub(crate) fn starred_name(text: &[u8]) -> Result<bool, Stop>
     ensures { MatchResult result
@@ -188,7 +189,7 @@ pub(crate) fn starred_name(text: &[u8]) -> Result<bool, Stop>
     }
 }
 
-// Whether a text has a star, if no byte adds a fault, nor is a second star.
+// Scans all bytes. Returns whether there is a star; fails at a second star or at a byte that adds a fault.
 #[inline(always)]
 fn scanned(text: &[u8]) -> Result<bool, Stop>
     ensures { MatchResult result
@@ -201,7 +202,7 @@ fn scanned(text: &[u8]) -> Result<bool, Stop>
     let mut starred = scanned_to(text, 0, 1, false)?;
     let mut index = 1;
     while index < text.len() {
-        // The last bytes may be looked at once more.
+        // The last sixteen bytes may overlap those checked before.
         let from = index.min(text.len() - LANES);
         let calm = index.max(from + calm_run(text, from));
         starred = scanned_to(text, calm, from + LANES, starred)?;
@@ -210,8 +211,8 @@ fn scanned(text: &[u8]) -> Result<bool, Stop>
     Ok(starred)
 }
 
-// Whether a text has a star before a place, where that is known up to an earlier place; if no byte
-// between adds a fault, nor is a second star.
+// Continues a scan from `from` to `to`; `known` says whether there is a star before `from`. Returns
+// whether there is one before `to`, and fails as `scanned` does.
 #[inline(always)]
 fn scanned_to(text: &[u8], from: usize, to: usize, known: bool) -> Result<bool, Stop>
     requires { (from ≤ to) × (to ≤ length text.now) × IsScanned text.now from known }
@@ -237,7 +238,7 @@ fn scanned_to(text: &[u8], from: usize, to: usize, known: bool) -> Result<bool, 
     Ok(starred)
 }
 
-// The last byte of a text, or a slash: the first component begins as if one were before it.
+// The last byte of a text, or a slash if it is empty: the first component begins as if after a slash.
 fn last_of(text: &[u8]) -> u8
     ensures { EndsWith (result ∷ []) (slash ∷ text.now) }
 {
@@ -252,14 +253,14 @@ fn last_of(text: &[u8]) -> u8
 fn added_fault(before: &[u8], byte: u8) -> Option<Error>
     ensures { Finds result (AddsFault (slash ∷ before.now) byte) }
 {
-    // Most bytes are plain, and are done with here.
+    // Most bytes are plain and need no further check.
     if is_plain(byte) {
         return None;
     }
     special_fault(before, last_of(before), byte)
 }
 
-// Whether a byte may be anywhere.
+// Whether a byte is allowed anywhere in a ref name.
 #[inline(always)]
 fn is_plain(byte: u8) -> bool
     ensures { OnTrue result ((y : List ℕ) (e : Error) → ¬ (AddsFault y byte e)) }
@@ -267,8 +268,8 @@ fn is_plain(byte: u8) -> bool
     matches!(class_of(byte), Class::Plain)
 }
 
-// The fault that a byte that need not be plain adds to the text before it. The previous byte is the
-// last one there.
+// The fault that any byte, plain or not, adds to the text before it. `previous` is the last byte of that
+// text, or a slash if it is empty.
 fn special_fault(before: &[u8], previous: u8, byte: u8) -> Option<Error>
     requires { EndsWith (previous ∷ []) (slash ∷ before.now) }
     ensures { Finds result (AddsFault (slash ∷ before.now) byte) }
@@ -295,7 +296,7 @@ fn special_fault(before: &[u8], previous: u8, byte: u8) -> Option<Error>
     }
 }
 
-// The fault that shows at the end of a text. The previous byte is the last one there.
+// The fault at the end of a text. `previous` is its last byte, or a slash if it is empty.
 fn left_fault(text: &[u8], previous: u8) -> Option<Error>
     requires { EndsWith (previous ∷ []) (slash ∷ text.now) }
     ensures { Finds result (LeavesFault (slash ∷ text.now)) }
@@ -308,7 +309,7 @@ fn left_fault(text: &[u8], previous: u8) -> Option<Error>
     }
 }
 
-// Puts the letter where the star is.
+// Replaces the star with the letter `a`.
 fn replace_star(text: &mut [u8])
     requires { HasOneStar text.old }
     ensures { ReplacesStar text.old text.new }

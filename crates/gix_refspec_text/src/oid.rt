@@ -17,7 +17,7 @@ use std::cmp::Ordering;
 use std::hash::{Hash, Hasher};
 use std::{error, fmt};
 
-/// Why a text is no object id.
+/// Why a text is not an object id.
 #[derive(Clone, Copy, Debug, PartialEq, Eq)]
 pub enum Error {
     /// The text has neither 40 bytes, as for SHA-1, nor 64, as for SHA-256.
@@ -25,7 +25,7 @@ pub enum Error {
         /// How many bytes the text has.
         len: usize,
     },
-    /// The text is as long as an id, but some byte of it is no hexadecimal digit.
+    /// The text is as long as an id, but some byte of it is not a hexadecimal digit.
     Digit,
 }
 
@@ -54,7 +54,7 @@ impl Error {
     }
 }
 
-/// The hash function that made an id, as `git init --object-format` selects it for a repository.
+/// The hash function of an id, as `git init --object-format` selects it for a repository.
 #[derive(Clone, Copy, Debug, PartialEq, Eq)]
 pub enum Kind {
     /// SHA-1, with ids of 20 bytes.
@@ -141,17 +141,17 @@ fn is_digit(byte: u8) -> bool
 #[derive(Clone, Copy)]
 pub struct ObjectId {
     kind: Kind,
-    // The bytes of the id, and zeros after those of a SHA-1.
+    // The bytes of the id; a SHA-1 is padded with zeros.
     buffer: [u8; 32],
 }
 
 impl ObjectId {
     ghost use Rattle.gix_refspec_text.specs.Texts.ObjectId.{id_bytes};
 
-    /// Reads an id from its digits, of either case.
+    /// Reads an id from its hexadecimal digits, in either case.
     ///
     /// Fails with `Error::Length` if the text has neither 40 nor 64 bytes, whatever they are, otherwise
-    /// with `Error::Digit` if some byte is no hexadecimal digit.
+    /// with `Error::Digit` if some byte is not a hexadecimal digit.
     pub fn from_hex(hex: &[u8]) -> Result<ObjectId, Error>
         ensures { MatchResult result
             (λ id. IsIdText hex.now (id_bytes id))
@@ -167,7 +167,7 @@ impl ObjectId {
         Ok(ObjectId { kind, buffer })
     }
 
-    /// The id whose bytes are all 0, which Git uses for no object.
+    /// The null id, whose bytes are all 0. Git uses it to say that there is no object.
     pub fn null(kind: Kind) -> ObjectId
         ensures { id_bytes result ≡ replicate (bytes_of kind) 0 }
     {
@@ -177,7 +177,7 @@ impl ObjectId {
         }
     }
 
-    /// The hash function that made the id, by the length of the id.
+    /// The hash function of the id, given by its length.
     pub fn kind(&self) -> Kind
         ensures { length (id_bytes self.now) ≡ bytes_of result }
     {
@@ -198,8 +198,7 @@ impl fmt::Display for ObjectId {
     ghost output = { λ id. Some (lower_of (id_bytes id)) };
 
     fn fmt<W: fmt::Write>(&self, f: &mut fmt::Formatter<W>) -> fmt::Result {
-        // The buffer has exactly the room for the digits, and digits are ASCII: neither call is
-        // refused.
+        // The buffer is exactly as long as the digits, and digits are ASCII: neither call fails.
         let mut buffer = [0; 64];
         let digits = &mut buffer[..self.kind.len_in_hex()];
         hex::encode_to_slice(self.as_slice(), digits).unwrap();

@@ -1,4 +1,4 @@
-//! What a refspec is read for, and why a text is refused.
+//! The operation that a refspec is parsed for, and the errors of parsing.
 
 ghost use Rattle.std.specs.Prelude.{◌≡◌};
 ghost use Rattle.gix_refspec_text.specs.Specs.Explained.{explained, reason_name};
@@ -19,10 +19,10 @@ pub enum Operation {
     Fetch,
 }
 
-/// Why a text is no refspec. If several reasons apply, the first in this order is given: `Empty`,
+/// Why a text is not a refspec. If several reasons apply, the first in this order is returned: `Empty`,
 /// `NegativeWithDestination`, `PushToEmpty`, `PatternUnsupported` or `ReferenceName` of the source,
 /// the same of the destination, `PatternUnbalanced`, `NegativeEmpty`, `NegativeObjectHash`. `Memory`
-/// is given only if none of them applies before the side that needs the memory.
+/// is returned only if no reason applies before the check of the side that needs the memory.
 #[derive(Debug, Drop, PartialEq, Eq, thiserror::Error)]
 pub enum Error {
     /// The text for a push is empty.
@@ -34,16 +34,16 @@ pub enum Error {
     /// A negative spec has no source.
     #[error("Negative specs must not be empty")]
     NegativeEmpty,
-    /// A negative spec is made of 40 or more hex digits.
+    /// A negative spec has 40 or more hex digits and nothing else.
     #[error("Negative specs must not be object hashes")]
     NegativeObjectHash,
-    /// Kept for callers that match on it, and never given: a negative spec may be a partial name.
+    /// Kept for callers that match on it, and never returned: a negative spec may be a partial name.
     #[error("Negative specs must be full ref names, starting with \"refs/\"")]
     NegativePartialName,
-    /// Kept for callers that match on it, and never given: a negative spec may be a pattern.
+    /// Kept for callers that match on it, and never returned: a negative spec may be a pattern.
     #[error("Negative glob patterns are not allowed")]
     NegativeGlobPattern,
-    /// Kept for callers that match on it, and never given: a bad destination is a `ReferenceName`.
+    /// Kept for callers that match on it, and never returned: a bad destination is a `ReferenceName`.
     #[error("Fetch destinations must be ref-names, like 'HEAD:refs/heads/branch'")]
     InvalidFetchDestination,
     /// A push has a source, a colon, and no destination after it.
@@ -55,14 +55,15 @@ pub enum Error {
         /// The side, whole.
         pattern: BString,
     },
-    /// Exactly one side has a star. A missing destination has none.
+    /// Exactly one side has a star. A missing side has none, but a push of a source alone is balanced, as
+    /// its source is its destination too.
     #[error("Both sides of a two-sided specification need a pattern, like 'a/*:b/*'")]
     PatternUnbalanced,
-    /// A side is neither a name nor a pattern. Holds one fault of it; its one star is read as a letter.
+    /// A side is neither a ref name nor a pattern. Holds one fault of it, with a letter for its only star.
     #[error(transparent)]
     ReferenceName(name::Error),
-    /// Memory ran out. Only for a side with several stars, which is reported whole; the contract leaves
-    /// it open for one with a star and more than 256 bytes too.
+    /// Memory ran out. Only for a side with several stars, which the error would hold whole; the contract
+    /// also allows it for a side with a star and more than 256 bytes.
     #[error("out of memory")]
     Memory,
 }

@@ -13,7 +13,7 @@ use crate::split::{contains, split_at_first};
 use bstr::BString;
 use std::alloc::{AllocError, Global};
 
-// How many stars a side has, and the text before and after the only one.
+// How many stars a side has, and the text before and after its only one.
 #[derive(Clone, Copy)]
 pub(crate) enum Stars<'a> {
     No,
@@ -21,16 +21,16 @@ pub(crate) enum Stars<'a> {
     Several,
 }
 
-/// What a side is. Its texts are borrowed from the side.
+/// The kind of a side. Its texts borrow from the side.
 #[derive(Clone, Copy)]
 pub enum SideKind<'a> {
     /// One star between two texts.
     Pattern { before: &'a [u8], after: &'a [u8] },
-    /// A name that begins `refs/`.
+    /// A name that begins with `refs/`.
     FullName(&'a [u8]),
-    /// The id of an object.
+    /// An object id.
     Object(ObjectId),
-    /// Any other name.
+    /// Any other side, taken as a partial name.
     Partial(&'a [u8]),
 }
 
@@ -60,7 +60,7 @@ fn split_at_first_star(side: &[u8]) -> Option<(&[u8], &[u8])>
     split_at_first(side, b'*')
 }
 
-/// The kind of a side with one star at most.
+/// The kind of a side, which must have at most one star.
 pub fn kind_of(side: &[u8]) -> SideKind<'_>
     requires { ¬ (HasSeveralStars side.now) }
     ensures { HasKind side.now (kind_of_side result) }
@@ -77,7 +77,7 @@ pub fn kind_of(side: &[u8]) -> SideKind<'_>
     }
 }
 
-/// What follows `refs/`. `None` for a text that doesn't begin so.
+/// Strips `refs/` from the front. `None` if the text doesn't begin with it.
 pub fn strip_refs(side: &[u8]) -> Option<&[u8]>
     ensures { MatchOption result
         (¬ (BeginsWith (codes "refs/") side.now))
@@ -103,7 +103,7 @@ pub fn candidates(alloc: Global, name: &[u8]) -> Result<Vec<BString>, AllocError
     Ok(names)
 }
 
-/// A name between two texts. Fails if memory runs out.
+/// `before`, `name` and `after` as one text. Fails if memory runs out.
 pub fn joined(
     alloc: Global,
     before: &[u8],
@@ -119,7 +119,7 @@ pub fn joined(
     let mut text = Vec::with_capacity(alloc, room)?;
     text.extend_from_slice(before)?;
     text.extend_from_slice(name)?;
-    // Most patterns end with their star. This is called for each mapping that one makes.
+    // Mostly empty, as most patterns end with their star. This runs for each mapping of a pattern.
     if !after.is_empty() {
         text.extend_from_slice(after)?;
     }

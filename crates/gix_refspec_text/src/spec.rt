@@ -1,4 +1,4 @@
-//! Refspecs as they were read.
+//! Parsed refspecs, borrowed and owned.
 
 ghost use Rattle.std.specs.Prelude.{◌≡◌, option_map, IfOk, OnErr, IsSome};
 ghost use Rattle.bstr.specs.BStr.{bstr_bytes};
@@ -17,11 +17,11 @@ use crate::types::{Instruction, Mode};
 use bstr::{BStr, BString};
 use std::alloc::{AllocError, Global};
 
-/// A refspec that borrows its sides from the text that it was read from, or from a [`RefSpec`].
+/// A refspec that borrows its sides from the text that it was parsed from, or from a [`RefSpec`].
 ///
-/// Only [`parse`](crate::parse) makes specs, and others are copies of these. So each one is a reading of
-/// some text of the grammar. Specs are compared, ordered and hashed by meaning, which is their
-/// instruction: a push of `main` equals one of `main:main`, and no push equals a fetch.
+/// Only [`parse`](crate::parse) makes specs, and all others are copies of these. So each spec is a reading
+/// of some text of the grammar. Specs are compared, ordered and hashed by meaning, which is their
+/// instruction: a push of `main` equals one of `main:main`, and a push never equals a fetch.
 #[derive(Clone, Copy, Debug)]
 pub struct RefSpecRef<'a> {
     pub(crate) op: Operation,
@@ -31,8 +31,8 @@ pub struct RefSpecRef<'a> {
     ghost accepted: { ∥ IsAccepted (record { operation = op; mode = mode_of mode; source = option_map bstr_bytes src; destination = option_map bstr_bytes dst }) ∥₁ },
 }
 
-/// A refspec that owns its sides: a copy of a [`RefSpecRef`], made by its `to_owned`, or a copy of such a
-/// copy. It is compared, ordered and hashed by meaning, as those are.
+/// A refspec that owns its sides. Only [`RefSpecRef::to_owned`] and [`RefSpec::clone`] make one, so it is a
+/// reading of some text too. Compared, ordered and hashed by meaning, as a [`RefSpecRef`].
 #[derive(Debug, Drop)]
 pub struct RefSpec {
     op: Operation,
@@ -56,16 +56,16 @@ impl<'a> RefSpecRef<'a> {
         self.op
     }
 
-    /// Whether the text began with the sign `+`. That is true too of a deletion and of a fetch without a
-    /// destination, whose instructions don't say so.
+    /// Whether the text began with `+`. This also shows the sign of a deletion and of a fetch without a
+    /// destination, whose instructions don't have it.
     pub fn allow_non_fast_forward(&self) -> bool
         ensures { IsTrue result ↔ ((reading_of self.now).mode ≡ Forced) }
     {
         self.mode == Mode::Force
     }
 
-    /// The left side, with `HEAD` for a lone `@`, and for the missing source of a fetch. `None` for a
-    /// push that deletes a ref or takes all matching branches.
+    /// The left side, with `HEAD` for a lone `@` and for the missing source of a fetch. `None` for a push
+    /// that deletes a ref or pushes all matching branches.
     pub fn source(&self) -> Option<BStr<'a>>
         ensures { option_map bstr_bytes result ≡ (reading_of self.now).source }
     {
@@ -92,7 +92,7 @@ impl<'a> RefSpecRef<'a> {
     }
 
     /// The local side: the destination of a fetch, the source of a push. `None` for a fetch that is
-    /// negative or of a source alone, and for a push that deletes a ref or takes all matching
+    /// negative or of a source alone, and for a push that deletes a ref or pushes all matching
     /// branches.
     pub fn local(&self) -> Option<BStr<'a>>
         ensures { option_map bstr_bytes result ≡ local_of (reading_of self.now) }
@@ -116,7 +116,7 @@ impl<'a> RefSpecRef<'a> {
         })
     }
 
-    /// What the spec says to do. Its sides borrow what those of the spec borrow.
+    /// The instruction of the spec. Its sides borrow from the same text as those of the spec.
     pub fn instruction(&self) -> Instruction<'a>
         ensures { meaning_of (reading_of self.now) ≡ Some (meaning_of_instruction result) }
     {
@@ -126,7 +126,7 @@ impl<'a> RefSpecRef<'a> {
         }
     }
 
-    // What a fetch spec says to do.
+    // The instruction of a spec for a fetch.
     fn fetch(&self) -> Fetch<'a>
         requires { self.now.op ≡ Operation.Fetch }
         ensures { meaning_of (reading_of self.now) ≡ Some (meaning_of_instruction (Instruction.Fetch result)) }
@@ -143,7 +143,7 @@ impl<'a> RefSpecRef<'a> {
         }
     }
 
-    // What a push spec says to do.
+    // The instruction of a spec for a push.
     fn push(&self) -> Push<'a>
         requires { self.now.op ≡ Operation.Push }
         ensures { meaning_of (reading_of self.now) ≡ Some (meaning_of_instruction (Instruction.Push result)) }
@@ -172,7 +172,7 @@ impl RefSpec {
     ghost use Rattle.gix_refspec_text.specs.Specs.Reading.{Forced, HasSide};
     ghost use Rattle.gix_refspec_text.specs.Views.Spec.{reading_of, owned_reading_of};
 
-    /// The same spec, with sides that are borrowed from this one.
+    /// The same spec, with sides borrowed from this one.
     pub fn to_ref(&self) -> RefSpecRef<'_>
         ensures { reading_of result ≡ owned_reading_of self.now }
     {
@@ -200,7 +200,6 @@ impl RefSpec {
     }
 }
 
-// A side that owns its bytes.
 fn owned_side(alloc: Global, side: Option<BStr<'_>>) -> Result<Option<BString>, AllocError>
     ensures keeps { IfOk result (λ owned.
         option_map bstring_bytes owned ≡ option_map bstr_bytes side.entry) }
@@ -212,7 +211,6 @@ fn owned_side(alloc: Global, side: Option<BStr<'_>>) -> Result<Option<BString>, 
     }
 }
 
-// A side that borrows its bytes.
 fn borrowed_side(side: &Option<BString>) -> Option<BStr<'_>>
     ensures { option_map bstr_bytes result ≡ option_map bstring_bytes side.now }
 {

@@ -27,7 +27,7 @@ pub fn split_at_first(text: &[u8], byte: u8) -> Option<(&[u8], &[u8])>
     Some((front, &back[1..]))
 }
 
-/// Whether a text contains a byte. There is no early end, so that the loop runs over many bytes at once.
+/// Whether a text contains a byte. The loop has no early exit, so that it can be vectorized.
 pub fn contains(text: &[u8], byte: u8) -> bool
     ensures { MatchBool result (ContainsText (byte ∷ []) text.now) (Lacks byte text.now) }
 {

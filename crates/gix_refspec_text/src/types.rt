@@ -2,20 +2,20 @@
 
 use crate::instruction;
 
-/// What the sign of a refspec says.
+/// The mode of a refspec, given by its sign.
 #[derive(Clone, Copy, Debug, PartialEq, Eq)]
 pub(crate) enum Mode {
     /// No sign.
     Normal,
-    /// `+`: refs may also move where that is no fast-forward.
+    /// `+`: non-fast-forward updates are allowed.
     Force,
-    /// `^`: matching refs are left out.
+    /// `^`: matching refs are excluded.
     Negative,
 }
 
-/// What a refspec says to do. Instructions are compared, ordered and hashed by their operation, their
-/// variant and then their fields, and so are specs, by their instructions. That of a spec is what `parse`
-/// lets through; one that a caller makes is not checked.
+/// What a refspec says to do. Instructions are compared, ordered and hashed by their operation, then their
+/// variant, then their fields; specs by their instructions. The instruction of a spec is one that `parse`
+/// accepts; an instruction built by a caller is not checked.
 #[derive(Clone, Copy, Debug, PartialEq, Eq, PartialOrd, Ord, Hash)]
 pub enum Instruction<'a> {
     /// For a push.

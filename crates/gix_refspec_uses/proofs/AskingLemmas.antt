@@ -1,4 +1,4 @@
--- What a group of fetches holds.
+-- Groups of fetches.
 use Rattle.std.proofs.Common.{◌≡◌, true, List, filter, map, refl}
 use Rattle.std.proofs.lemmas.Bool.{false≢true}
 use Rattle.std.proofs.lemmas.List.Elements.{All-map, All-weaker, filter_passes, recursion_from_All}

@@ -1,4 +1,4 @@
--- What the laws of the library come to.
+-- Consequences of the laws of the library.
 use Rattle.std.proofs.Common.{◌≡◌, inl, inr, ℕ, List, Some, option_map, sym, ap, ◌∙◌, subst}
 use Rattle.gix_refspec_text.specs.declared.parsing.Operation.{Operation}
 use Rattle.gix_refspec.specs.Specs.Reading.{Reading}
@@ -13,7 +13,7 @@ pub reads_only : (op : Operation) (text : List ℕ) (r : Reading) → ReadsOrRef
 reads_only op text r (inl once) reads = record { reads = reads; only = λ q by_q. once.only q by_q ∙ sym (once.only r reads) }
 reads_only op text r (inr refusal) reads = absurd (refusal.1.unread r reads)
 
--- what was printed reads again
+-- a canonical text has a reading
 reads_printed : (op : Operation) (r : Reading) (c : List ℕ) (back : IsPrintedBack op r) → printed r ≡ Some c → Reads op c back.again.reading
 reads_printed op r c back is = subst (λ (x : List ℕ). Reads op x back.again.reading) (same_Some back.text c (sym back.is ∙ is)) back.again.reads
 
@@ -29,14 +29,14 @@ canonical_text op text c r reads back is = record {
   fixed = ap (option_map text_of) back.same ∙ is;
 }
 
--- so does what a spec printed, for its operation
+-- so has the text that a spec prints, for the operation of the spec
 reads_again : (op : Operation) (r : Reading) (c : List ℕ) (back : IsPrintedBack r.operation r) → op ≡ r.operation → printed r ≡ Some c → Reads op c back.again.reading
 reads_again op r c back same is = subst (λ (o : Operation). Reads o c back.again.reading) (sym same) (reads_printed r.operation r c back is)
 
 pub printed_is_refspec : (op : Operation) (r : Reading) (c : List ℕ) → IsPrintedBack r.operation r → op ≡ r.operation → printed r ≡ Some c → IsRefspec op c
 printed_is_refspec op r c back same is = (back.again.reading, reads_again op r c back same is)
 
--- and as an equal spec
+-- and it is read as an equal spec
 pub printed_is_equal : (op : Operation) (r q : Reading) (c : List ℕ) → IsPrintedBack r.operation r → op ≡ r.operation → printed r ≡ Some c → ReadsOnlyAs op c q → EqualReadings q r → AreEqual q r
 printed_is_equal op r q c back same is reads equal =
     let again = reads.only back.again.reading (reads_again op r c back same is) in

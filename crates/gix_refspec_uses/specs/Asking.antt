@@ -1,4 +1,4 @@
--- What a client matches that asks a server only for the entries of its group, in the words of the library.
+-- Matching by a client that asks a server only for the ref prefixes of its group, by the definitions of the library.
 use Rattle.std.specs.Prelude.{◌≡◌, ℕ, List, map, filter}
 use Rattle.bstr.specs.BStr.{bstr_bytes}
 use Rattle.gix_refspec_match.specs.declared.types.Item.{Item}
@@ -13,8 +13,8 @@ use Rattle.gix_refspec.specs.Laws.Items.{HaveSamePairs, is_begun}
 abbrev pub items_asked : List (List ℕ) → List Item → List Item
 items_asked entries items = filter (λ item. is_begun entries (bstr_bytes item.full_ref_name)) items
 
--- some has the items that there is to ask for for the group, in order, and list the mappings that stay of these, with the
--- pairs that stay of all items
+-- some has the items whose names begin with a ref prefix of the group, in order, and list their kept mappings, with the
+-- same pairs as over all items
 pub record LosesNothing (g : List Reading) (items some : List Item) (list : List Mapped) : Type 0 where
   pub entries : List (List ℕ)
   pub to_ask : ListsGroup g entries

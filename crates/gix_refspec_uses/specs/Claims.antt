@@ -1,4 +1,4 @@
--- What a caller shows of refspecs, in the words of the library.
+-- What a caller proves about refspecs, by the definitions of the library.
 use Rattle.std.specs.Prelude.{◌≡◌, ℕ, List, Some, Result, filter_map}
 use Rattle.std.specs.Result.{result_ok}
 use Rattle.gix_refspec_text.specs.declared.parsing.Operation.{Operation}
@@ -12,18 +12,18 @@ use Rattle.gix_refspec.specs.Specs.Meaning.{meaning_of, printed}
 abbrev pub IsRefspec : Operation → List ℕ → Type 0
 IsRefspec op text = (r : Reading) × Reads op text r
 
--- for the operation, the text reads as r, and as nothing else
+-- for the operation, r is the only reading of the text
 pub record ReadsOnlyAs (op : Operation) (text : List ℕ) (r : Reading) : Type 0 where
   pub reads : Reads op text r
   pub only : (q : Reading) → Reads op text q → q ≡ r
 
--- two specs are equal: they are for one operation, say the same and print the same
+-- two specs are equal: they are for one operation, mean the same and print the same
 pub record AreEqual (r q : Reading) : Type 0 where
   pub operation : r.operation ≡ q.operation
   pub meaning : meaning_of r ≡ meaning_of q
   pub text : printed r ≡ printed q
 
--- c is the canonical text of a refspec, and is a refspec that says the same, with itself as canonical text
+-- c is the canonical text of a refspec, and is itself a refspec with the same meaning, and its own canonical text
 pub record IsCanonicalText (op : Operation) (text c : List ℕ) : Type 0 where
   pub reading : Reading
   pub reads : Reads op text reading
@@ -37,13 +37,13 @@ pub record IsCanonicalText (op : Operation) (text c : List ℕ) : Type 0 where
 abbrev pub PrintsSame : Reading → Reading → Type 0
 PrintsSame r q = (r.operation ≡ q.operation) × (printed r ≡ printed q)
 
--- what a spec of the reading r prints reads for its operation as q, and as nothing else; q is equal to r
+-- for the operation of r, q is the only reading of the text that a spec with the reading r prints, and is equal to r
 pub record IsReadAgain (r q : Reading) : Type 0 where
   pub text : List ℕ
   pub is : printed r ≡ Some text
   pub reads : ReadsOnlyAs r.operation text q
   pub equal : AreEqual q r
 
--- the specs among the answers of `parse`, in order
+-- the specs among the results of `parse`, in order
 abbrev pub specs_read : List (Result RefSpecRef Error) → List RefSpecRef
 specs_read answers = filter_map result_ok answers

@@ -1,4 +1,4 @@
--- What a fetch may write, in the words of the library.
+-- What a fetch may write, by the definitions of the library.
 use Rattle.std.specs.Prelude.{◌≢◌, ◌↔◌, List, [], map, filter}
 use Rattle.std.specs.List.{Contains}
 use Rattle.gix_refspec_text.specs.declared.parsing.Operation.TheVariants.{Fetch}
@@ -21,16 +21,16 @@ use Rattle.gix_refspec_uses.specs.declared.planner.NoPlan.TheVariants as no_plan
 abbrev pub fetch_readings : List RefSpecRef → List Reading
 fetch_readings specs = map reading_of (filter (is_for Fetch) specs)
 
--- the mapping is what the spec and the item at its places make, no spec excludes its source, and it is between names of
--- refs
+-- the mapping is what the spec and the item at its indexes make, no spec excludes its source, and neither side is an
+-- invalid ref name
 pub record MayBeWritten (g : List Reading) (items : List Ref) (m : Mapped) : Type 0 where
   pub comes : AtSpec g m (MakesForwardOf items m.item m.source m.destination)
   pub included : ¬ (IsSourceExcluded g m.source)
   pub named : HasRefNames m
   pub writes : WritesRef m
 
--- the list has exactly the mappings that stay and are between names of refs, no two of them to one destination, and out has
--- the others that stay
+-- the list has exactly the kept mappings without an invalid ref name, no two of them to one destination, and out has
+-- the other kept mappings
 pub record IsPlan (g : List Reading) (items : List Ref) (list : List Mapped) (out : List LeftOut) : Type 0 where
   pub kept : List Mapped
   pub matched : AreKeptForward g items kept
@@ -39,7 +39,7 @@ pub record IsPlan (g : List Reading) (items : List Ref) (list : List Mapped) (ou
   pub once : HaveDistinctDestinations list
   pub others : AreLeftOut kept out
 
--- these are the conflicts of the mappings that stay and are between names of refs, and there are some
+-- these are the conflicts of the kept mappings without an invalid ref name, and there are some
 pub record AreInConflict (g : List Reading) (items : List Ref) (cs : List Conflict) : Type 0 where
   pub kept : List Mapped
   pub matched : AreKeptForward g items kept
@@ -49,7 +49,7 @@ pub record AreInConflict (g : List Reading) (items : List Ref) (cs : List Confli
   pub some : cs ≢ []
   pub are : AreConflicts g named cs
 
--- where conflicts are why there is no plan, they are as P says
+-- if there is no plan because of conflicts, P holds of them
 abbrev pub IfConflicts : NoPlan → (List Conflict → Type 0) → Type 0
 IfConflicts (no_plan.Conflicts e) P = P (conflicts_of e)
 IfConflicts no_plan.Memory P = Unit {0}

@@ -1,4 +1,4 @@
-//! Matching only those refs of a server that there is to ask for.
+//! Matching only the refs that a server lists for the ref prefixes of a group.
 
 ghost use Rattle.std.specs.Prelude.{◌≡◌, map, IfOk, MatchOption};
 ghost use Rattle.bstr.specs.Owned.{bstring_bytes};
@@ -14,18 +14,18 @@ use gix_refspec::match_group::{Item, match_lhs};
 use gix_refspec::{RefSpecRef, laws};
 use std::alloc::{AllocError, Global};
 
-/// The items that were asked for, and what is matched of them.
+/// The items listed for the ref prefixes of a group, and their mappings.
 #[derive(Debug, Drop)]
 pub struct Asked<'spec, 'item> {
-    /// The items whose names begin with an entry, in order.
+    /// The items whose names begin with a ref prefix, in order.
     pub items: Vec<Item<'item>>,
     /// The mappings of these items.
     pub outcome: match_lhs::Outcome<'spec, 'item>,
 }
 
-/// Matches the fetch specs among these over only the items that a client asks a server for. The same
-/// pairs stay as over all items. `None` exactly where some spec has no list that is safe to ask for.
-/// Fails if memory runs out.
+/// Matches the fetch specs among these over only the items listed for their ref prefixes. The same
+/// pairs are kept as over all items. `None` exactly if only a request for all refs is safe. Fails if
+/// memory runs out.
 pub fn match_asked<'spec, 'item>(
     alloc: Global,
     specs: Vec<RefSpecRef<'spec>>,

@@ -1,4 +1,4 @@
-//! Groups of the specs in a list, in a slice, or among the answers of `parse`.
+//! Groups of the specs in a vector, in a slice, or among results of `parse`.
 
 ghost use Rattle.std.specs.Prelude.{◌≡◌, filter, IfOk};
 ghost use Rattle.gix_refspec.specs.Views.Group.{is_for};
@@ -8,7 +8,7 @@ use gix_refspec::parsing::{Error, Operation};
 use gix_refspec::{MatchGroup, RefSpecRef};
 use std::alloc::{AllocError, Global};
 
-/// The group of the fetch specs of a list, in order. Fails if memory runs out.
+/// The group of the fetch specs of a vector, in order. Fails if memory runs out.
 pub fn fetches_of<'a>(
     alloc: Global,
     specs: Vec<RefSpecRef<'a>>,
@@ -30,7 +30,7 @@ pub fn pushes_among<'a>(
     MatchGroup::from_push_specs(alloc, specs.iter().copied())
 }
 
-/// The group of the fetch specs among answers of `parse`, in order, without the refusals. Fails if
+/// The group of the fetch specs among results of `parse`, in order and without the errors. Fails if
 /// memory runs out.
 pub fn fetches_read<'a>(
     alloc: Global,

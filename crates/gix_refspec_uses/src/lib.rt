@@ -1,10 +1,10 @@
-//! What a caller can prove of refspecs, from the public words, contracts, laws and lemmas of
+//! What a caller can prove about refspecs, from the public definitions, contracts, laws and lemmas of
 //! `gix_refspec` alone.
 //!
 //! Unless memory runs out, `parse` accepts exactly the texts of the grammar, two specs are equal
-//! exactly if they are for one operation and print the same, and what a spec prints is read again as
+//! exactly if they are for one operation and print the same, and the printed text of a spec is read as
 //! an equal spec. The modules gather groups, plan a fetch, look up tracking branches, and match only
-//! the refs that a client asks a server for.
+//! the refs listed for the ref prefixes of a group.
 #![tactic(auto)]
 
 ghost use Rattle.std.specs.Prelude.{◌≡◌, ◌≢◌, ◌↔◌, IsTrue, IfOk, OnOk, OnErr, MatchOption};
@@ -24,8 +24,8 @@ use gix_refspec::parsing::{Error, Operation};
 use gix_refspec::{RefSpec, RefSpecRef, laws, parse};
 use std::alloc::{AllocError, Global};
 
-/// Reads a text for an operation. `None` exactly if it is no refspec. Fails if memory runs out,
-/// which can only happen for a side with several stars, or with one star and more than 256 bytes.
+/// Reads a text for an operation. `None` exactly if it isn't a refspec. Fails if memory runs out, which
+/// can only happen for a side with several stars, or with one star and more than 256 bytes.
 pub fn read<'a>(
     alloc: Global,
     text: BStr<'a>,
@@ -57,8 +57,8 @@ fn unless_memory(error: &Error) -> Result<(), AllocError>
     }
 }
 
-/// Whether two specs are for one operation and print the same text: that is what `==` tells. Fails
-/// if memory runs out.
+/// Whether two specs are for one operation and print the same text: the same as `==`. Fails if memory
+/// runs out.
 pub fn same_text<'a>(
     alloc: Global,
     a: &RefSpecRef<'a>,
@@ -86,8 +86,8 @@ pub fn same_owned_text(alloc: Global, a: &RefSpec, b: &RefSpec) -> Result<bool, 
     same_text(alloc, &a.to_ref(), &b.to_ref())
 }
 
-/// Prints a spec, and reads what it printed for its operation: an equal spec, with sides of its
-/// own. Fails if memory runs out, and never because the text is refused.
+/// Prints a spec, and reads the text again for its operation. Returns an equal spec that owns its
+/// sides. Fails only if memory runs out: the text is never refused.
 pub fn reread(alloc: Global, spec: &RefSpecRef<'_>) -> Result<RefSpec, AllocError>
     ensures { IfOk result (λ again. IsReadAgain (reading_of spec.now) (owned_reading_of again)) }
 {
@@ -114,7 +114,7 @@ pub fn reread_owned(alloc: Global, spec: &RefSpec) -> Result<RefSpec, AllocError
     Ok(again)
 }
 
-/// The canonical text of a refspec, which is its own canonical text. `None` exactly if the text is no
+/// The canonical text of a refspec, which is its own canonical text. `None` exactly if the text isn't a
 /// refspec. Fails if memory runs out.
 pub fn canonical(
     alloc: Global,

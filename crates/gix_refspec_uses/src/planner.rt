@@ -1,5 +1,5 @@
-//! What a fetch may write: between names of refs alone, to no destination twice, and from no source
-//! that is excluded.
+//! What a fetch may write: mappings between valid ref names, with distinct destinations and without
+//! excluded sources.
 
 ghost use Rattle.std.specs.Prelude.{◌≡◌, map, filter, IfOk, IfErr};
 ghost use Rattle.gix_refspec.specs.Views.Group.{is_for, ref_of};
@@ -20,7 +20,7 @@ use std::alloc::Global;
 pub struct Plan<'spec, 'item> {
     /// The fetch specs, and the mappings to write, in order.
     pub outcome: match_lhs::Outcome<'spec, 'item>,
-    /// The mappings with a side that is no name of a ref, in order.
+    /// The mappings with an invalid ref name, in order.
     pub left_out: Vec<InvalidMapping<'item, 'spec>>,
 }
 
@@ -33,9 +33,11 @@ pub enum NoPlan {
     Memory,
 }
 
-/// Plans what the fetch specs among these write of the items. Mappings whose names are none of refs are
-/// left out first, as Git leaves out a "funny ref", and conflicts are looked for among the others. No
-/// fixes are left then: a name of a ref begins `refs/` or is `HEAD`.
+/// Plans what the fetch specs among these write of the items. Mappings with an invalid ref name are
+/// left out first, as Git leaves out a "funny ref", and so cause no conflicts. There are no fixes then:
+/// a valid ref name begins `refs/` or is `HEAD`.
+///
+/// Fails with the conflicts of the other mappings if there are any, or if memory runs out.
 pub fn plan_fetch<'spec, 'item>(
     alloc: Global,
     specs: Vec<RefSpecRef<'spec>>,

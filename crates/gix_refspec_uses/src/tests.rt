@@ -1,4 +1,4 @@
-//! Each function once, on texts that Git's manuals show.
+//! Each function once, on texts from Git's manuals.
 
 mod matching;
 

@@ -13,8 +13,8 @@ use gix_refspec::match_group::{Item, match_lhs, match_rhs};
 use gix_refspec::{MatchGroup, laws};
 use std::alloc::Global;
 
-/// The mappings of a remote ref to the tracking branches that it is fetched to. Fails with the group as
-/// it was if memory runs out.
+/// The mappings of a remote ref to the tracking branches that it is fetched to. If memory runs out,
+/// fails with the unchanged group.
 pub fn tracking_branches<'spec, 'item>(
     alloc: Global,
     group: MatchGroup<'spec>,
@@ -30,8 +30,8 @@ pub fn tracking_branches<'spec, 'item>(
     group.match_lhs(alloc, items.as_slice())
 }
 
-/// The mappings of the remote refs that a tracking branch is fetched from. Fails with the group as it
-/// was if memory runs out.
+/// The mappings of the remote refs that a tracking branch is fetched from. If memory runs out, fails
+/// with the unchanged group.
 pub fn remote_refs<'spec, 'item>(
     alloc: Global,
     group: MatchGroup<'spec>,
@@ -59,16 +59,17 @@ pub struct LookUp<'spec, 'item> {
 /// Why there is no look-up.
 #[derive(Debug, Drop)]
 pub enum NoLookUp<'spec> {
-    /// The group doesn't go both ways. It is handed back as it was.
+    /// The group doesn't go both ways. Holds the unchanged group.
     OneWay(MatchGroup<'spec>),
     /// Memory ran out.
     Memory,
 }
 
 /// Looks up the tracking branches of a remote ref, and the remote refs of a tracking branch. The remote
-/// ref has this tracking branch exactly where the tracking branch has this remote ref.
+/// ref has this tracking branch exactly if the tracking branch has this remote ref.
 ///
-/// Fails with `OneWay` exactly where the group doesn't go both ways, as `goes_both_ways` tells.
+/// Fails with `OneWay` exactly if `goes_both_ways` is false for the group, and with `Memory` if memory
+/// runs out.
 pub fn there_and_back<'spec, 'item>(
     alloc: Global,
     group: MatchGroup<'spec>,

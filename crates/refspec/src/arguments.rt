@@ -1,14 +1,14 @@
-//! The words of the call.
+//! The arguments of the call.
 
 use clap::{Arg, ArgAction, ArgMatches};
 use gix_refspec::parsing::Operation;
-use refspec_commands::call::{Call, Command, Terminator, Form};
+use refspec_commands::call::{Call, Command, Form, Terminator};
 use std::alloc::{AllocError, Global};
 
-// What stands for the standard input in place of a spec or of the name of a file.
+// The argument that means the standard input, for a spec or the name of a file.
 const INPUT: &str = "-";
 
-/// The command line, with its pages of help.
+/// The command line, with its help. Fails if memory runs out.
 pub fn command_line<'a>(alloc: Global) -> Result<clap::Command<'a>, AllocError> {
     clap::Command::new(alloc, "refspec")
         .version("0.45.1")
@@ -45,7 +45,7 @@ fn git_line<'a>(alloc: Global) -> Result<clap::Command<'a>, AllocError> {
         )
 }
 
-// A command that takes its specs from the input too, with the options that all have.
+// A command that may read its specs from the input, with the options that all commands have.
 fn line<'a>(alloc: Global, name: &'a str, about: &'a str) -> Result<clap::Command<'a>, AllocError> {
     line_of(
         alloc,
@@ -55,7 +55,7 @@ fn line<'a>(alloc: Global, name: &'a str, about: &'a str) -> Result<clap::Comman
     )
 }
 
-// A command with the options that all have, and what it says of its specs.
+// A command with the options that all commands have, and a help text for its specs.
 fn line_of<'a>(
     alloc: Global,
     name: &'a str,
@@ -98,7 +98,7 @@ fn flag<'a>(alloc: Global, id: &'a str, help: &'a str) -> Arg<'a> {
     Arg::new(alloc, id).action(ArgAction::SetTrue).help(help)
 }
 
-// The option that reads specs for a push.
+// The option for specs of a push.
 fn push_flag<'a>(alloc: Global) -> Arg<'a> {
     flag(
         alloc,
@@ -199,7 +199,7 @@ fn prefixes_line<'a>(alloc: Global) -> Result<clap::Command<'a>, AllocError> {
     .long("patterns"))
 }
 
-/// The call that the matches of a command say. Its inputs are named by the words too.
+/// The call for the matches of a command, from which it borrows. It names its inputs. Fails if memory runs out.
 pub fn call_of<'a>(
     alloc: Global,
     name: &str,
@@ -244,7 +244,7 @@ pub fn call_of<'a>(
     })
 }
 
-/// Whether the specs of a plan are to be read from two inputs.
+/// Whether the specs of a plan are given in two inputs: by `-` and in a file.
 pub fn names_two_inputs(name: &str, matches: &ArgMatches<'_>) -> bool {
     let has_dash = match matches.get_strs("spec") {
         None => false,
@@ -254,12 +254,12 @@ pub fn names_two_inputs(name: &str, matches: &ArgMatches<'_>) -> bool {
     command_of(name) == Command::Plan && has_dash && is_file
 }
 
-/// Whether a file is given by an empty name.
+/// Whether `--specs` or `--refs` has an empty name.
 pub fn names_no_file(matches: &ArgMatches<'_>) -> bool {
     matches.get_str("specs") == Some("") || matches.get_str("refs") == Some("")
 }
 
-// The values of an option or of the words, in order.
+// The values of an option, or of an argument that may be repeated, in order.
 fn listed<'a>(
     alloc: Global,
     matches: &ArgMatches<'a>,
@@ -274,7 +274,6 @@ fn listed<'a>(
     Ok(all)
 }
 
-// A word, or another where it isn't there.
 fn or_else<'a>(argument: Option<&'a str>, other: &'a str) -> &'a str {
     match argument {
         Some(argument) => argument,
@@ -282,7 +281,6 @@ fn or_else<'a>(argument: Option<&'a str>, other: &'a str) -> &'a str {
     }
 }
 
-// The command with a name.
 fn command_of(name: &str) -> Command {
     match name {
         "check" => Command::Check,
@@ -294,7 +292,7 @@ fn command_of(name: &str) -> Command {
     }
 }
 
-// How results are to be written.
+// The form of the results.
 fn form_of(matches: &ArgMatches<'_>) -> Form {
     if matches.get_flag("json") {
         return Form::Json;
@@ -305,7 +303,7 @@ fn form_of(matches: &ArgMatches<'_>) -> Form {
     Form::Lines
 }
 
-// What ends a record of the input.
+// The terminator of the records of the input.
 fn ends_of(matches: &ArgMatches<'_>) -> Terminator {
     if matches.get_flag("config") {
         return Terminator::Settings;

@@ -2,17 +2,17 @@
 
 use crate::AtExit;
 use crate::streams::{CLOSED_STATUS, Stream};
-use refspec_git::answer::{Answer, Machine, Output, answer_call};
 use refspec_commands::fault::Fault;
 use refspec_commands::input::read_input;
+use refspec_git::answer::{Answer, Machine, Output, answer_call};
 use std::alloc::AllocError;
 use std::fs::{self, File};
 use std::io::{ErrorKind, IsTerminal, Write};
 
-// The file of the commands that are asked for.
+// The file for the commands to run.
 const ASKED: &str = "asked";
 
-// A folder with the words of a call, and with what commands of Git printed.
+// A folder with the arguments of a call, and with the outputs of Git commands.
 #[derive(Drop)]
 struct Folder<'a> {
     rt: &'a HostRuntime,
@@ -54,8 +54,8 @@ impl Machine for Folder<'_> {
     }
 }
 
-/// Answers the call of `git refspec` whose words are in a folder, and returns the status; or writes there which
-/// commands of Git are needed first.
+/// Answers the call of `git refspec` whose arguments are in a folder, and returns the exit status; or writes there
+/// which Git commands must run first, and returns 0.
 pub fn run_git(rt: &HostRuntime, path: &str) -> u8 {
     let folder = Folder { rt, path };
     match answer_call(rt.alloc(), &folder, &mut AtExit) {
@@ -65,7 +65,7 @@ pub fn run_git(rt: &HostRuntime, path: &str) -> u8 {
     }
 }
 
-// Writes which commands are asked for.
+// Writes the commands to run.
 fn ask(rt: &HostRuntime, path: &str, lines: &[u8]) -> u8 {
     let Ok(path) = format!(in rt.alloc(); "{path}/{ASKED}") else {
         return fail(rt, Fault::Memory);
@@ -76,7 +76,7 @@ fn ask(rt: &HostRuntime, path: &str, lines: &[u8]) -> u8 {
     }
 }
 
-// Writes what is told, and returns its status.
+// Writes a report, and returns its exit status.
 fn report(rt: &HostRuntime, reported: &Output) -> u8 {
     let mut output = Stream::new(rt.stdout());
     let mut errors = Stream::new(rt.stderr());
@@ -91,7 +91,7 @@ fn report(rt: &HostRuntime, reported: &Output) -> u8 {
     fail(rt, Fault::Write)
 }
 
-// Tells of a fault.
+// Reports a fault, and returns its exit status.
 fn fail(rt: &HostRuntime, fault: Fault) -> u8 {
     let _ = eprintln!(rt; "git refspec: {fault}");
     fault.status()

@@ -1,13 +1,13 @@
-//! Says whether refspecs are right, what they mean, and what a fetch with them writes.
+//! Reports whether refspecs are valid, what they mean, and what a fetch with them writes.
 #![tactic(auto)]
 
+mod arguments;
 mod git;
 mod streams;
-mod arguments;
 
+use crate::arguments::{call_of, command_line, names_no_file, names_two_inputs};
 use crate::git::run_git;
 use crate::streams::{CLOSED_STATUS, Stream};
-use crate::arguments::{call_of, command_line, names_no_file, names_two_inputs};
 use refspec_commands::call::{Call, Command};
 use refspec_commands::fault::Fault;
 use refspec_commands::input::read_input;
@@ -21,7 +21,7 @@ use std::{env, io, mem};
 // The exit status of a usage error.
 const USAGE_STATUS: u8 = 2;
 
-// Leaves a plan to the end of the process, which frees it at once.
+// Leaks a plan, since the end of the process frees it at once.
 #[derive(Drop)]
 struct AtExit;
 
@@ -44,7 +44,7 @@ fn main(rt: HostRuntime) -> ExitCode {
     })
 }
 
-// The words of the call, with the name of the program.
+// The arguments of the call, after the name of the program.
 fn arguments_of<R: env::Env + AllocGlobal>(rt: &R) -> io::Result<Vec<String>> {
     let mut arguments = Vec::new(rt.alloc());
     for argument in env::args(rt)? {
@@ -53,7 +53,7 @@ fn arguments_of<R: env::Env + AllocGlobal>(rt: &R) -> io::Result<Vec<String>> {
     Ok(arguments)
 }
 
-// Runs what the words say, and returns the status.
+// Runs what the arguments ask for, and returns the exit status.
 fn run_arguments(rt: &HostRuntime, arguments: &[String]) -> u8 {
     let Ok(command) = command_line(rt.alloc()) else {
         return fail(rt, Fault::Memory);
@@ -84,7 +84,7 @@ fn run_arguments(rt: &HostRuntime, arguments: &[String]) -> u8 {
     }
 }
 
-// Shows a page of help or what is wrong with the words.
+// Shows the help or a usage error, and returns the exit status.
 fn show(rt: &HostRuntime, error: &clap::Error) -> u8 {
     if error.kind() == clap::error::ErrorKind::OutOfMemory {
         return fail(rt, Fault::Memory);
@@ -97,7 +97,8 @@ fn show(rt: &HostRuntime, error: &clap::Error) -> u8 {
     }
 }
 
-// Runs a call from its inputs to the standard output, and its messages to the standard error.
+// Runs a call on its inputs, writes its results to the standard output and its messages to the standard error, and
+// returns the exit status.
 fn run_call(rt: &HostRuntime, call: &Call<'_>) -> u8 {
     if call.command == Command::Plan && call.specs.is_empty() && call.beside.is_empty() {
         let _ = eprintln!(rt;
@@ -148,7 +149,7 @@ fn run_call(rt: &HostRuntime, call: &Call<'_>) -> u8 {
     }
 }
 
-// The file of specs beside the input.
+// Reads the specs that are given besides the input, if any.
 fn beside_of(rt: &HostRuntime, call: &Call<'_>) -> Result<Vec<u8>, Fault> {
     if call.beside.is_empty() {
         return Ok(Vec::new(rt.alloc()));
@@ -162,7 +163,7 @@ fn beside_of(rt: &HostRuntime, call: &Call<'_>) -> Result<Vec<u8>, Fault> {
     }
 }
 
-// Tells of a fault, and of the file where it cannot be read or has another format.
+// Reports a fault, with the file if it can't be read or has another format, and returns its exit status.
 fn fail_at(rt: &HostRuntime, fault: Fault, file: &str) -> u8 {
     match fault {
         Fault::Read if file != "-" => {
@@ -176,7 +177,7 @@ fn fail_at(rt: &HostRuntime, fault: Fault, file: &str) -> u8 {
     fault.status()
 }
 
-// Tells of a fault.
+// Reports a fault, and returns its exit status.
 fn fail(rt: &HostRuntime, fault: Fault) -> u8 {
     let _ = eprintln!(rt; "refspec: {fault}");
     fault.status()

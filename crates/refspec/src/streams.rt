@@ -1,8 +1,8 @@
-//! The streams that a run writes.
+//! The streams that a run writes to.
 
 use std::io::{ErrorKind, Result, Write};
 
-/// The exit status of a program that wrote to a closed pipe, as a shell tells it.
+/// The exit status that a shell reports for a program that wrote to a closed pipe: 128 and the number of SIGPIPE.
 pub const CLOSED_STATUS: u8 = 141;
 
 /// A stream that remembers whether its reader has closed it.
@@ -21,7 +21,7 @@ impl<W: Write + Drop> Stream<W> {
         }
     }
 
-    /// Whether a write found that nobody reads.
+    /// Whether a write found that the reader has closed the stream.
     pub fn is_closed(&self) -> bool {
         self.is_closed
     }

@@ -1,4 +1,4 @@
--- Canonical texts of what was checked, one after another.
+-- The canonical texts of checked texts, in order.
 use Rattle.std.proofs.Common.{◌≡◌, ◌⊎◌, ℕ, ◌+◌, ◌<◌, List, [], ◌∷◌, ◌++◌, map, Some, inl, inr, length, take, take_all, ◌≤◌, get_or, refl, sym, ap, ◌∙◌, subst}
 use Rattle.std.specs.List.{AllZip}
 use Rattle.std.proofs.lemmas.List.{take_more}
@@ -24,7 +24,7 @@ AreCanonicalOf-append [] ys ns ms none more = subst (λ (l : List (List ℕ)). A
 AreCanonicalOf-append (checked.Good text spec ∷ xs) ys ns ms some more = (some.0, some.1 ++ ms, some.2, AreCanonicalOf-append xs ys some.1 ms some.3 more, ap (λ l. l ++ ms) some.4)
 AreCanonicalOf-append (checked.Bad text error ∷ xs) ys ns ms some more = AreCanonicalOf-append xs ys ns ms some more
 
--- at the start nothing was told
+-- at the start nothing was reported
 pub AddsCanonical-start : (f : Form) (old : List ℕ) → AddsCanonical f [] old old
 AddsCanonical-start form.Lines old = ([], refl, AddsNames-none form.Lines [] old old refl)
 AddsCanonical-start form.Zeros old = ([], refl, AddsNames-none form.Zeros [] old old refl)
@@ -35,7 +35,7 @@ AddsCanonical-push form.Lines xs y old mid new a b = (a.0 ++ b.0, AreCanonicalOf
 AddsCanonical-push form.Zeros xs y old mid new a b = (a.0 ++ b.0, AreCanonicalOf-append xs (y ∷ []) a.0 b.0 a.1 b.1, AddsNames-append form.Zeros [] a.0 b.0 old mid new a.2 b.2)
 AddsCanonical-push form.Json xs y old mid new a b = AddsObjects-push form.Json form.Json IsCanonicalOrRefusal xs y old mid new refl a b
 
--- one text more
+-- one more text
 pub AddsCanonical-next : (f g : Form) (xs : List Checked) (i : ℕ) (y : Checked) (old mid new : List ℕ) → i < length xs → g ≡ f → y ≡ get_or xs i y → AddsCanonical f (take i xs) old mid → AddsCanonical g (y ∷ []) mid new → AddsCanonical f (take (i + 1) xs) old new
 AddsCanonical-next f g xs i y old mid new below same is a b =
     let b2 = subst (λ (x : Form). AddsCanonical x (y ∷ []) mid new) same b in
@@ -51,7 +51,7 @@ pub AddsCanonicalName-shown : (f : Form) (t : Text) (name old new : List ℕ) �
 AddsCanonicalName-shown f t name old new (inl is) reported = subst (λ (x : Form). AddsCanonicalName x t name old new) (sym is) (subst (λ (x : Form). AddsNames x [] (name ∷ []) old new) is reported)
 AddsCanonicalName-shown f t name old new (inr is) reported = subst (λ (x : Form). AddsCanonicalName x t name old new) (sym is) (subst (λ (x : Form). AddsNames x [] (name ∷ []) old new) is reported)
 
--- the canonical text of a spec was told
+-- the canonical text of a spec was reported
 good_one : (f : Form) (text : Text) (spec : RefSpecRef) (old new : List ℕ) → ((name : List ℕ) × (printed (reading_of spec) ≡ Some name) × AddsCanonicalName f text name old new) → AddsCanonical f (checked.Good text spec ∷ []) old new
 good_one form.Lines text spec old new (name, is, reported) = (name ∷ [], (name, [], is, refl, refl), reported)
 good_one form.Zeros text spec old new (name, is, reported) = (name ∷ [], (name, [], is, refl, refl), reported)
@@ -69,7 +69,7 @@ bad_one form.Json text error old new write = AddsObjects-refusal form.Json IsCan
 pub AddsCanonical-bad : (f : Form) (c : Checked) (text : Text) (error : Error) (old new : List ℕ) → c ≡ checked.Bad text error → AddsRefusal f text error old new → AddsCanonical f (c ∷ []) old new
 AddsCanonical-bad f c text error old new is reported = subst (λ (x : Checked). AddsCanonical f (x ∷ []) old new) (sym is) (bad_one f text error old new reported)
 
--- the canonical texts of what was checked are those of the texts
+-- the canonical texts of the checked texts are those of the texts
 AreCanonical-of : (texts : List Text) (all : List Checked) (names : List (List ℕ)) → AllZip IsChecked texts all → AreCanonicalOf all names → AreCanonical (map said (map given_of texts)) names
 AreCanonical-of [] [] names is none = none
 AreCanonical-of [] (c ∷ all) names is of = absurd is
@@ -87,7 +87,7 @@ canonical_objects (t ∷ texts) (checked.Good text spec ∷ all) lines is (one, 
 canonical_objects (t ∷ texts) (checked.Bad text error ∷ all) lines is (one, rest, line, more, sum) =
     (one, rest, inr (record { text = text; error = error; is_text = ap given_of is.0.0; refused = is.0.1; is = line }), canonical_objects texts all rest is.1 more, sum)
 
--- what was told of what was checked shows the texts
+-- the report on the checked texts shows the canonical texts of the texts
 pub ShowsCanonical-of : (f : Form) (texts : List Text) (all : List Checked) (new : List ℕ) → AllZip IsChecked texts all → AddsCanonical f all [] new → ShowsCanonical f (map given_of texts) new
 ShowsCanonical-of form.Lines texts all new is reported = (reported.0, AreCanonical-of texts all reported.0 is reported.1, reported.2)
 ShowsCanonical-of form.Zeros texts all new is reported = (reported.0, AreCanonical-of texts all reported.0 is reported.1, reported.2)

@@ -1,4 +1,4 @@
--- Texts that were checked, one after another.
+-- Checked texts, in order.
 use Rattle.std.proofs.Common.{◌≡◌, ℕ, ◌+◌, ◌<◌, ◌≤◌, Bool, true, false, MatchBool, List, [], ◌∷◌, ◌++◌, length, map, take, take_all, get_or, zero, suc, inl, inr, refl, sym, ap, ◌∙◌, subst, arith}
 use Rattle.std.proofs.lemmas.List.{map-append, take_more}
 use Rattle.std.specs.List.{AllZip}
@@ -13,7 +13,7 @@ use Rattle.gix_refspec_text.specs.declared.parsing.Error.{Error}
 use Rattle.gix_refspec.specs.Views.Spec.{reading_of}
 use Rattle.gix_refspec_text.specs.declared.spec.RefSpecRef.{RefSpecRef}
 use Rattle.refspec_commands.specs.Json.{AddsObjects, AreInOrder}
-use Rattle.refspec_commands.specs.Read.{AddsIfGood, AddsIfRead, AreGood, AreRead, HasBad, HasRefused, IsChecked, IsReadOrRefusal, IsRefusalOf, IsSpec, ReportsRefused}
+use Rattle.refspec_commands.specs.Read.{AddsIfGood, AddsIfRead, AreGood, AreRead, HasBad, HasRefused, IsChecked, IsReadOrRefusal, IsRefusalOf, IsSpec, DecidesRefused}
 use Rattle.refspec_commands.specs.Texts.{given_of, said}
 use Rattle.std.proofs.lemmas.Slice.Zip.{all_zipped_more}
 
@@ -33,7 +33,7 @@ specs_next all i c t spec old new below here is grown so_far =
     let good : IsSpec (get_or all i c) (reading_of spec) = subst (λ (x : Checked). IsSpec x (reading_of spec)) (sym (sym here ∙ is)) refl in
     zip_next IsSpec all i c (map reading_of old) (map reading_of new) (reading_of spec) below so_far good (ap (map reading_of) grown ∙ map-append reading_of old (spec ∷ []))
 
--- the text that is no spec is one of all
+-- a refused text is one of all
 pub HasBad-at : (all : List Checked) (i : ℕ) (c : Checked) (t : Text) (error : Error) → i < length all → c ≡ get_or all i c → c ≡ checked.Bad t error → HasBad all
 HasBad-at [] i c t error below here is = absurd (omega (arith, below))
 HasBad-at (checked.Bad u e ∷ all) i c t error below here is = tt
@@ -43,7 +43,7 @@ HasBad-at (checked.Good u spec ∷ all) zero c t error below here is = absurd (g
     good_is_bad same = cc
 HasBad-at (checked.Good u spec ∷ all) (suc i) c t error below here is = HasBad-at all i c t error (omega (arith, below)) here is
 
--- what the specs are read as is what their texts are read as
+-- the readings of the specs are those of their texts
 pub AreRead-of : (texts : List Text) (all : List Checked) (g : List Reading) → AllZip IsChecked texts all → AllZip IsSpec all g → AreRead (map said (map given_of texts)) g
 AreRead-of [] [] [] is good = tt
 AreRead-of [] [] (r ∷ g) is good = absurd good
@@ -54,7 +54,7 @@ AreRead-of (t ∷ texts) (checked.Good text spec ∷ all) (r ∷ g) is good = (s
 AreRead-of (t ∷ texts) (checked.Bad text error ∷ all) [] is good = absurd good
 AreRead-of (t ∷ texts) (checked.Bad text error ∷ all) (r ∷ g) is good = absurd good.0
 
--- a text that is no spec is refused
+-- if some checked text is bad, some text is refused
 pub HasRefused-of : (texts : List Text) (all : List Checked) → AllZip IsChecked texts all → HasBad all → HasRefused (map said (map given_of texts))
 HasRefused-of [] [] is bad = absurd bad
 HasRefused-of [] (c ∷ all) is bad = absurd is
@@ -62,7 +62,7 @@ HasRefused-of (t ∷ texts) [] is bad = absurd is
 HasRefused-of (t ∷ texts) (checked.Good text spec ∷ all) is bad = inr (HasRefused-of texts all is.1 bad)
 HasRefused-of (t ∷ texts) (checked.Bad text error ∷ all) is bad = inl (is.0.1.0, is.0.1.2)
 
--- the objects of what was refused are those of the texts
+-- the objects of refused checked texts are those of the texts
 refusals_of : (texts : List Text) (all : List Checked) (lines : List ℕ) → AllZip IsChecked texts all → AreInOrder IsRefusalOf all lines → AreInOrder IsReadOrRefusal (map given_of texts) lines
 refusals_of [] [] lines is reported = reported
 refusals_of [] (c ∷ all) lines is reported = absurd is
@@ -75,12 +75,12 @@ AddsRefusals-of form.Lines texts all old new is kept = kept
 AddsRefusals-of form.Zeros texts all old new is kept = kept
 AddsRefusals-of form.Json texts all old new is (lines, reported, write) = (lines, refusals_of texts all lines is reported, write)
 
--- what is told of what was checked is told of the texts
+-- a report on the checked texts is one on the texts
 pub AddsIfRead-of : (Adds : List Reading → List ℕ → List ℕ → Type 0) (Refuses Says : Type 0) (f : Form) (refused : Bool) (texts : List Text) (all : List Checked) (old new : List ℕ) → AllZip IsChecked texts all → (Refuses → Says) → AddsIfGood Adds Refuses f refused all old new → AddsIfRead Adds Says f refused (map given_of texts) old new
 AddsIfRead-of Adds Refuses Says f refused texts all old new is says (inl reported) = inl (reported.0, AreRead-of texts all reported.0 is reported.1, reported.2)
 AddsIfRead-of Adds Refuses Says f refused texts all old new is says (inr kept) = inr (HasRefused-of texts all is kept.0, AddsRefusals-of f texts all old new is kept.1, kept.2, says kept.3)
 
--- the readings of specs
+-- if all checked texts are specs, all texts have readings
 all_read : (texts : List Text) (all : List Checked) → AllZip IsChecked texts all → AreGood all → (g : List Reading) × AreRead (map said (map given_of texts)) g
 all_read [] [] is good = ([], tt)
 all_read [] (c ∷ all) is good = absurd is
@@ -91,9 +91,9 @@ all_read (t ∷ texts) (checked.Good text spec ∷ all) is good =
 all_read (t ∷ texts) (checked.Bad text error ∷ all) is good = absurd good
 
 -- whether some text is refused
-pub ReportsRefused-of : (refused : Bool) (texts : List Text) (all : List Checked) → AllZip IsChecked texts all → MatchBool refused (HasBad all) (AreGood all) → ReportsRefused refused (map said (map given_of texts))
-ReportsRefused-of true texts all is bad = HasRefused-of texts all is bad
-ReportsRefused-of false texts all is good = all_read texts all is good
+pub DecidesRefused-of : (refused : Bool) (texts : List Text) (all : List Checked) → AllZip IsChecked texts all → MatchBool refused (HasBad all) (AreGood all) → DecidesRefused refused (map said (map given_of texts))
+DecidesRefused-of true texts all is bad = HasRefused-of texts all is bad
+DecidesRefused-of false texts all is good = all_read texts all is good
 
 AreGood-more : (xs : List Checked) (c : Checked) → AreGood xs → AreGood (c ∷ []) → AreGood (xs ++ c ∷ [])
 AreGood-more [] c good is = is
@@ -105,11 +105,11 @@ pub AreGood-next : (all : List Checked) (i : ℕ) (c : Checked) → i < length a
 AreGood-next all i c below is good so_far =
     subst AreGood (sym (take_more all i c below)) (AreGood-more (take i all) (get_or all i c) so_far (subst (λ (x : Checked). AreGood (x ∷ [])) is good))
 
--- all are
+-- all specs
 pub AreGood-all : (all : List Checked) (i : ℕ) → length all ≤ i → AreGood (take i all) → AreGood all
 AreGood-all all i long so_far = subst AreGood (take_all i all long) so_far
 
--- one that is bad is one of all
+-- a bad text is one of all
 pub HasBad-here : (all : List Checked) (i : ℕ) (c : Checked) → i < length all → c ≡ get_or all i c → HasBad (c ∷ []) → HasBad all
 HasBad-here all i (checked.Good text spec) below here bad = absurd bad
 HasBad-here all i (checked.Bad text error) below here bad = HasBad-at all i (checked.Bad text error) text error below here refl

@@ -1,4 +1,4 @@
--- What is told of conflicts, piece by piece.
+-- The lines and the objects on conflicts, part by part.
 use Rattle.std.proofs.Common.{◌≡◌, ◌⊎◌, inl, inr, ℕ, zero, suc, ◌+◌, ◌-◌, ◌<◌, ◌≤◌, Bool, true, false, List, [], ◌∷◌, ◌++◌, decimal, drop, length, map, take, take_all, get_or, unwrap_or, codes, refl, sym, ap, ◌∙◌, subst, append_assoc, arith}
 use Rattle.std.specs.List.{slice_get}
 use Rattle.std.proofs.lemmas.List.{append-nil, length-drop, length-map, length-take-le, map-append, take-map, take_more}
@@ -19,7 +19,7 @@ use Rattle.refspec_commands.specs.Rows.{source_text}
 use Rattle.refspec_commands.specs.Shown.{Grows, WritesQuoted}
 use Rattle.refspec_commands.proofs.ShownLemmas.{behind}
 
--- five pieces, one after another
+-- five appended parts
 five : (old a b c d new v w x y z : List ℕ) → a ≡ old ++ v → b ≡ a ++ w → c ≡ b ++ x → d ≡ c ++ y → new ≡ d ++ z → new ≡ old ++ (v ++ (w ++ (x ++ (y ++ z))))
 five old a b c d new v w x y z is_a is_b is_c is_d is_new =
     let at_b = behind old v a w b is_a is_b in
@@ -28,7 +28,7 @@ five old a b c d new v w x y z is_a is_b is_c is_d is_new =
     let at_new = behind old (((v ++ w) ++ x) ++ y) d z new at_d is_new in
     at_new ∙ ap (λ l. old ++ l) (append_assoc ((v ++ w) ++ x) y z ∙ (append_assoc (v ++ w) x (y ++ z) ∙ append_assoc v w (x ++ (y ++ z))))
 
--- the pieces of a line
+-- the parts of the line of a claim
 pub WritesClaim-of : (source text old a b c d new : List ℕ) → a ≡ old ++ codes "    " → WritesQuoted source a b → c ≡ b ++ codes " by " → WritesQuoted text c d → new ≡ d ++ 10 ∷ [] → WritesClaim source text old new
 WritesClaim-of source text old a b c d new is_a write_source is_c write_text is_new = (
   codes "    " ++ (write_source.0 ++ (codes " by " ++ (write_text.0 ++ (10 ∷ [])))),
@@ -36,7 +36,7 @@ WritesClaim-of source text old a b c d new is_a write_source is_c write_text is_
   five old a b c d new (codes "    ") write_source.0 (codes " by ") write_text.0 (10 ∷ []) is_a write_source.2 is_c write_text.2 is_new,
 )
 
--- one line more
+-- one more line
 AreClaims-push : (k : ℕ) (sources : List Source) (s : Source) (texts : List (List ℕ)) (lines line : List ℕ) → AreClaims k sources texts lines → IsClaim (source_text s) (unwrap_or (slice_get texts (k + length sources)) []) line → AreClaims k (sources ++ s ∷ []) texts (lines ++ line)
 AreClaims-push k [] s texts lines line none claim =
     let at : k + length {A = Source} [] ≡ k = omega arith in
@@ -45,7 +45,7 @@ AreClaims-push k (x ∷ sources) s texts lines line (one, rest, here, more, is) 
     let at : k + length (x ∷ sources) ≡ (k + 1) + length sources = omega arith in
     (one, rest ++ line, here, AreClaims-push (k + 1) sources s texts rest line more (subst (λ (n : ℕ). IsClaim (source_text s) (unwrap_or (slice_get texts n) []) line) at claim), ap (λ l. l ++ line) is ∙ append_assoc one rest line)
 
--- at the start there is none
+-- at the start there is no line
 pub WritesClaims-start : (texts : List (List ℕ)) (old : List ℕ) → WritesClaims [] texts old old
 WritesClaims-start texts old = ([], refl, sym (append-nil old))
 
@@ -57,7 +57,7 @@ WritesClaims-next xs i s texts source text old mid new below is of_source of_tex
     let step : map start_of (take (i + 1) xs) ≡ front ++ start_of s ∷ [] = ap (map start_of) (take_more xs i s below) ∙ (map-append start_of (take i xs) (get_or xs i s ∷ []) ∙ ap (λ (x : SourceRef). front ++ start_of x ∷ []) (sym is)) in
     subst (λ (l : List Source). WritesClaims l texts old new) (sym step) (a.0 ++ b.0, AreClaims-push 0 front (start_of s) texts a.0 b.0 a.1 claim, behind old a.0 mid b.0 new a.2 b.2)
 
--- the pieces of a conflict
+-- the parts of the lines on a conflict
 pub WritesConflict-of : (c : Conflict) (name : List ℕ) (sources : List Source) (texts : List (List ℕ)) (old a b d e new : List ℕ) → name ≡ c.destination → sources ≡ c.sources → texts ≡ c.texts → a ≡ old ++ codes "conflict: " → WritesQuoted name a b → d ≡ b ++ codes " would be written from several refs, so nothing is fetched:\n" → WritesClaims sources texts d e → Grows e new → WritesConflict c old new
 WritesConflict-of c name sources texts old a b d e new same same_sources same_texts is_a write is_d claims grows =
     let head = codes "conflict: " in
@@ -74,15 +74,15 @@ WritesConflict-of c name sources texts old a b d e new same same_sources same_te
       five old a b d e new head write.0 words claims.0 grows.0 is_a write.2 is_d claims.2 grows.1,
     )
 
--- the object of a conflict, field by field
+-- the object of a conflict, member by member
 pub conflict_line-of : (c : Conflict) (name : List ℕ) (claims : List (List ℕ × List ℕ)) (old new : List ℕ) → name ≡ json_text c.destination → claims ≡ claims_from 0 c.sources c.texts → new ≡ old ++ line_of (conflict_object name claims) → new ≡ old ++ conflict_line c
 conflict_line-of c name claims old new is_name are_claims write = write ∙ (ap (λ x. old ++ line_of (conflict_object x claims)) is_name ∙ ap (λ x. old ++ line_of (conflict_object (json_text c.destination) x)) are_claims)
 
--- both of a claim
+-- the source and the text of a claim
 pub claim_of-both : (a b source text : List ℕ) → a ≡ json_text source → b ≡ json_text text → ◌≡◌ {A = List ℕ × List ℕ} (a, b) (claim_of source text)
 claim_of-both a b source text is_a is_b = rw is_a (rw is_b refl)
 
--- a source more, as strings
+-- the claim of one more source
 claims_from-push : (k : ℕ) (sources : List Source) (s : Source) (texts : List (List ℕ)) → claims_from k (sources ++ s ∷ []) texts ≡ claims_from k sources texts ++ claim_of (source_text s) (unwrap_or (slice_get texts (k + length sources)) []) ∷ []
 claims_from-push k [] s texts =
     let at : k + length {A = Source} [] ≡ k = omega arith in
@@ -100,7 +100,7 @@ claims_next xs i s texts source text old new c below is of_source of_text report
     reported ∙ (ap (λ x. claim_of x text) of_source ∙ (ap (λ x. claim_of (source_text (start_of s)) x) of_text ∙ ap (λ (n : ℕ). claim_of (source_text (start_of s)) (unwrap_or (slice_get texts n) [])) long)) in
     ap (map claim_texts) grown ∙ (map-append claim_texts old (c ∷ []) ∙ (ap (λ l. l ++ claim_texts c ∷ []) so_far ∙ (ap (λ x. claims_from 0 front texts ++ x ∷ []) last ∙ (sym (claims_from-push 0 front (start_of s) texts) ∙ ap (λ (l : List Source). claims_from 0 l texts) (sym step)))))
 
--- ---- one after another
+-- ---- conflicts, in order
 
 AreReportedConflicts-push : (cs : List Conflict) (c : Conflict) (lines one : List ℕ) → AreReportedConflicts cs lines → IsReportedConflict c one → AreReportedConflicts (cs ++ c ∷ []) (lines ++ one)
 AreReportedConflicts-push [] c lines one none reported = (one, [], reported, refl, ap (λ l. l ++ one) none ∙ sym (append-nil one))
@@ -125,21 +125,21 @@ AddsEachConflict-next f g xs i x old mid new below is same a b =
     let step : map conflict_of (take (i + 1) xs) ≡ map conflict_of (take i xs) ++ conflict_of x ∷ [] = ap (map conflict_of) (take_more xs i x below) ∙ (map-append conflict_of (take i xs) (get_or xs i x ∷ []) ∙ ap (λ (y : Issue). map conflict_of (take i xs) ++ conflict_of y ∷ []) (sym is)) in
     subst (λ (l : List Conflict). AddsEachConflict f l old new) (sym step) (AddsEachConflict-push f (map conflict_of (take i xs)) (conflict_of x) old mid new a (subst (λ (h : Form). AddsEachConflict h (conflict_of x ∷ []) mid new) same b))
 
--- ---- the first ones, and how many more
+-- ---- the first conflicts, and how many more
 
--- the first of some, each as something else
+-- the first n elements, mapped
 pub first_of : {X Y : Type 0} (h : X → Y) (f : Form) (all : Bool) (xs first : List X) (n : ℕ) → n ≡ reported_count f all (length xs) → first ≡ take n xs → map h first ≡ take (reported_count f all (length (map h xs))) (map h xs)
 first_of h f all xs first n is split =
     let long : n ≡ reported_count f all (length (map h xs)) = is ∙ ap (reported_count f all) (sym (length-map xs h)) in
     ap (map h) split ∙ (sym (take-map h n xs) ∙ ap (λ (k : ℕ). take k (map h xs)) long)
 
--- how many are behind them
+-- the number of elements after the first n
 pub others_of : {X Y : Type 0} (h : X → Y) (f : Form) (all : Bool) (xs rest : List X) (n : ℕ) → n ≡ reported_count f all (length xs) → rest ≡ drop n xs → length rest ≡ length (map h xs) - reported_count f all (length (map h xs))
 others_of h f all xs rest n is split =
     let size = length-map xs h in
     ap length split ∙ (length-drop n xs ∙ (ap (λ (k : ℕ). length xs - k) is ∙ ap (λ (k : ℕ). k - reported_count f all k) (sym size)))
 
--- what is told of the first ones in JSON is told of all, and else nothing is
+-- the first objects in JSON are all of them; in other forms there are none
 pub AddsObjects-first : {X : Type 0} (f : Form) (Reports : X → List ℕ → Type 0) (all : Bool) (xs : List X) (old new : List ℕ) → AddsObjects f Reports (take (reported_count f all (length xs)) xs) old new → AddsObjects f Reports xs old new
 AddsObjects-first form.Json Reports all xs old new reported = subst (λ l. AddsObjects form.Json Reports l old new) (take_all (length xs) xs (omega arith)) reported
 AddsObjects-first form.Lines Reports all xs old new reported = reported
@@ -153,7 +153,7 @@ AddsConflicts-of form.Json all cs n old mid new is same more =
 AddsConflicts-of form.Lines all cs n old mid new is (lines, reported, write) more = (lines, reported, behind old lines mid (more_line (codes "conflict: ") n) new write more ∙ ap (λ (k : ℕ). old ++ (lines ++ more_line (codes "conflict: ") k)) is)
 AddsConflicts-of form.Zeros all cs n old mid new is (lines, reported, write) more = (lines, reported, behind old lines mid (more_line (codes "conflict: ") n) new write more ∙ ap (λ (k : ℕ). old ++ (lines ++ more_line (codes "conflict: ") k)) is)
 
--- the line on some
+-- the line that says how many more there are, if not 0
 pub more_line-some : (what : List ℕ) (n : ℕ) (old a b new : List ℕ) → (n ≡ 0 → ⊥) → a ≡ old ++ what → b ≡ a ++ decimal n → new ≡ b ++ codes " more; `--all` lists them\n" → new ≡ old ++ more_line what n
 more_line-some what zero old a b new some is_a is_b is_new = absurd (some refl)
 more_line-some what (suc n) old a b new some is_a is_b is_new =

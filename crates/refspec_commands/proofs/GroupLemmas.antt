@@ -1,4 +1,4 @@
--- The lines of mappings below their specs, one after another.
+-- The lines of mappings, grouped below their specs, in order.
 use Rattle.std.proofs.Common.{◌≡◌, ◌≢◌, ℕ, ◌+◌, ◌<◌, List, [], ◌∷◌, ◌++◌, codes, map, length, take, get_or, unwrap_or, Option, Some, None, inl, inr, refl, sym, ap, ◌∙◌, subst, append_assoc, arith}
 use Rattle.std.proofs.lemmas.List.{append-nil, map_more}
 use Rattle.std.specs.List.{slice_get}
@@ -30,7 +30,7 @@ AreShort-push (x ∷ ms) m lines line (first, rest, here, more, all) is = (first
 pub AddsShort-start : (old : List ℕ) → AddsShort [] old old
 AddsShort-start old = ([], refl, sym (append-nil old))
 
--- one line more
+-- one more line
 pub AddsShort-next : (xs : List Mapping) (i : ℕ) (x : Mapping) (old mid new : List ℕ) → i < length xs → x ≡ get_or xs i x → AddsShort (map mapped_of (take i xs)) old mid → WritesShort (mapped_of x) mid new → AddsShort (map mapped_of (take (i + 1) xs)) old new
 AddsShort-next xs i x old mid new below is (lines, are, so_far) (line, short, write) =
     let step : map mapped_of (take (i + 1) xs) ≡ map mapped_of (take i xs) ++ mapped_of x ∷ [] = map_more mapped_of xs i x below ∙ ap (λ (y : Mapping). map mapped_of (take i xs) ++ mapped_of y ∷ []) (sym is) in
@@ -49,7 +49,7 @@ AreBelow-push : (texts : List (List ℕ)) (before : Option ℕ) (ms : List Mappe
 AreBelow-push texts before [] m lines one none is = (one, [], is, refl, ap (λ l. l ++ one) none ∙ sym (append-nil one))
 AreBelow-push texts before (x ∷ ms) m lines one (first, rest, here, more, all) is = (first, rest ++ one, here, AreBelow-push texts (Some x.spec) ms m rest one more is, ap (λ l. l ++ one) all ∙ append_assoc first rest one)
 
--- the mappings so far have their lines, and the spec of the last one is known
+-- the lines of the mappings so far were written, and before is the spec of the last one
 pub record GroupedSoFar (texts : List (List ℕ)) (ms : List Mapped) (before : Option ℕ) (old new : List ℕ) : Type 0 where
   pub lines : List ℕ
   pub are : AreBelow texts None ms lines
@@ -59,7 +59,7 @@ pub record GroupedSoFar (texts : List (List ℕ)) (ms : List Mapped) (before : O
 pub GroupedSoFar-start : (texts : List (List ℕ)) (old : List ℕ) → GroupedSoFar texts [] None old old
 GroupedSoFar-start texts old = record { lines = []; are = refl; last = refl; write = sym (append-nil old) }
 
--- what stands before a line
+-- the heading before a line, if needed
 pub record WritesHead (texts : List (List ℕ)) (before : Option ℕ) (m : Mapped) (old new : List ℕ) : Type 0 where
   pub head : List ℕ
   pub is : IsHead texts before m head
@@ -71,7 +71,7 @@ WritesHead-none texts before m old same = record { head = []; is = inl (same, re
 pub WritesHead-some : (texts : List (List ℕ)) (before : Option ℕ) (m : Mapped) (text old new : List ℕ) → before ≢ Some m.spec → text ≡ unwrap_or (slice_get texts m.spec) [] → WritesHeading text old new → WritesHead texts before m old new
 WritesHead-some texts before m text old new other same (line, heading, write) = record { head = line; is = inr (other, rw same at heading); write = write }
 
--- one mapping more
+-- one more mapping
 pub GroupedSoFar-next : (texts : List (List ℕ)) (xs : List Mapping) (i : ℕ) (x : Mapping) (before next : Option ℕ) (old mid a b new : List ℕ) → i < length xs → x ≡ get_or xs i x → GroupedSoFar texts (map mapped_of (take i xs)) before old mid → WritesHead texts before (mapped_of x) mid a → b ≡ a ++ codes "  " → WritesShort (mapped_of x) b new → next ≡ Some (mapped_of x).spec → GroupedSoFar texts (map mapped_of (take (i + 1) xs)) next old new
 GroupedSoFar-next texts xs i x before next old mid a b new below is so_far head margin (line, short, write) same =
     let front = map mapped_of (take i xs) in

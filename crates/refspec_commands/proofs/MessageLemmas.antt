@@ -1,4 +1,4 @@
--- What the message of a refused text tells.
+-- The message on a refused text.
 use Rattle.std.proofs.Common.{◌≡◌, ℕ, ◌+◌, ◌<◌, ◌≤◌, List, [], ◌∷◌, ◌++◌, codes, length, map, take, take_all, get_or, inl, inr, refl, sym, ap, ◌∙◌, subst, append_assoc}
 use Rattle.std.proofs.lemmas.List.{append-nil, take_more}
 use Rattle.std.specs.List.{AllZip}
@@ -17,7 +17,7 @@ use Rattle.refspec_commands.specs.Shown.{Grows, WritesQuoted}
 use Rattle.refspec_commands.specs.Texts.{given_of}
 use Rattle.refspec_commands.proofs.ShownLemmas.{behind}
 
--- where, what and why, one after another
+-- the location, the text and the reason, in order
 pub WritesReason-of : (t : Text) (e : Error) (sentence old a b c d f new : List ℕ) → WritesLocation form.Lines t.location old a → b ≡ a ++ codes ": " → WritesQuoted t.bytes.now b c → d ≡ c ++ codes ": " → sentence ≡ explained e → f ≡ d ++ sentence → new ≡ f ++ 10 ∷ [] → WritesReason t e old new
 WritesReason-of t e sentence old a b c d f new where_ one what two why three end =
     let to_b : b ≡ old ++ (where_.0 ++ codes ": ") = behind old where_.0 a (codes ": ") b where_.2 one in
@@ -33,13 +33,13 @@ WritesReason-of t e sentence old a b c d f new where_ one what two why three end
     ∙ append_assoc where_.0 (codes ": ") (what.0 ++ (codes ": " ++ (explained e ++ 10 ∷ []))))) in
     (line, record { at = where_.0; text = what.0; is_spot = where_.1; is_text = what.1; is = refl }, to_new ∙ ap (λ l. old ++ l) same)
 
--- the refusals of some texts and then those of others
+-- the refusals of some texts, and then those of others
 ReportsRefusals-append : (f : Form) (xs ys : List Checked) (old mid new : List ℕ) → ReportsRefusals f xs old mid → ReportsRefusals f ys mid new → ReportsRefusals f (xs ++ ys) old new
 ReportsRefusals-append f [] ys old mid new a b = subst (λ (x : List ℕ). ReportsRefusals f ys x new) a b
 ReportsRefusals-append f (checked.Good text spec ∷ xs) ys old mid new a b = ReportsRefusals-append f xs ys old mid new a b
 ReportsRefusals-append f (checked.Bad text error ∷ xs) ys old mid new a b = (a.0, a.1, ReportsRefusals-append f xs ys a.0 mid new a.2 b)
 
--- one text more
+-- one more text
 pub ReportsRefusals-next : (f g : Form) (xs : List Checked) (i : ℕ) (y : Checked) (old mid new : List ℕ) → i < length xs → g ≡ f → y ≡ get_or xs i y → ReportsRefusals f (take i xs) old mid → ReportsRefusals g (y ∷ []) mid new → ReportsRefusals f (take (i + 1) xs) old new
 ReportsRefusals-next f g xs i y old mid new below same is a b =
     let step : take (i + 1) xs ≡ take i xs ++ y ∷ [] = take_more xs i y below ∙ ap (λ z. take i xs ++ z ∷ []) (sym is) in
@@ -49,14 +49,14 @@ ReportsRefusals-next f g xs i y old mid new below same is a b =
 pub ReportsRefusals-all : (f : Form) (xs : List Checked) (i : ℕ) (old new : List ℕ) → length xs ≤ i → ReportsRefusals f (take i xs) old new → ReportsRefusals f xs old new
 ReportsRefusals-all f xs i old new long so_far = subst (λ (l : List Checked). ReportsRefusals f l old new) (take_all i xs long) so_far
 
--- a text that is refused, and a spec, of which nothing is told
+-- one refused text, and one spec, on which there is no message
 pub ReportsRefusals-bad : (f : Form) (c : Checked) (text : Text) (error : Error) (old new : List ℕ) → c ≡ checked.Bad text error → ReportsRefusal f text error old new → ReportsRefusals f (c ∷ []) old new
 ReportsRefusals-bad f c text error old new is reported = subst (λ (x : Checked). ReportsRefusals f (x ∷ []) old new) (sym is) (new, reported, refl)
 
 pub ReportsRefusals-good : (f : Form) (c : Checked) (text : Text) (spec : RefSpecRef) (old new : List ℕ) → c ≡ checked.Good text spec → new ≡ old → ReportsRefusals f (c ∷ []) old new
 ReportsRefusals-good f c text spec old new is kept = subst (λ (x : Checked). ReportsRefusals f (x ∷ []) old new) (sym is) kept
 
--- what is told of the texts that were checked
+-- the lines on the checked texts are those on the texts
 reported_lines : (f : Form) → ((t : Text) (e : Error) (old new : List ℕ) → ReportsRefusal f t e old new → WritesRefusal t e old new) → (texts : List Text) (all : List Checked) (old new : List ℕ) → AllZip IsChecked texts all → ReportsRefusals f all old new → (lines : List ℕ) × AreReportedOf (map given_of texts) lines × (new ≡ old ++ lines)
 reported_lines f writes [] [] old new is reported = ([], refl, reported ∙ sym (append-nil old))
 reported_lines f writes [] (c ∷ all) old new is reported = absurd is
@@ -70,13 +70,13 @@ reported_lines f writes (t ∷ texts) (checked.Bad text error ∷ all) old new i
     let one = write.0 ++ write.1 in
     (one ++ rest.0, (one, rest.0, inl (error, write.0, write.1, is.0.1, write.2, refl), rest.1, refl), behind old one reported.0 rest.0 new write.3 rest.2)
 
--- in JSON no message is
+-- in JSON there is no message
 none_reported : (all : List Checked) (old new : List ℕ) → ReportsRefusals form.Json all old new → new ≡ old
 none_reported [] old new reported = reported
 none_reported (checked.Good text spec ∷ all) old new reported = none_reported all old new reported
 none_reported (checked.Bad text error ∷ all) old new reported = none_reported all reported.0 new reported.2 ∙ reported.1
 
--- where no message was before, the messages are the refusals
+-- if there was no message before, the messages are the refusals
 pub AreRefusals-of : (f : Form) (texts : List Text) (all : List Checked) (old new : List ℕ) → AllZip IsChecked texts all → old ≡ [] → ReportsRefusals f all old new → AreRefusals f (map given_of texts) new
 AreRefusals-of form.Lines texts all old new is none reported =
     let lines = reported_lines form.Lines (λ t e a b write. write) texts all old new is reported in

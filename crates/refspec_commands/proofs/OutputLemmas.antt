@@ -1,4 +1,4 @@
--- What was told of the texts of a call is its output.
+-- The report on the texts of a call is its output.
 use Rattle.std.proofs.Common.{◌≡◌, ℕ, Bool, true, false, MatchBool, List, [], inl, inr, map, refl, sym, subst}
 use Rattle.std.specs.List.{AllZip}
 use Rattle.gix_refspec.specs.Specs.Reading.{Reading}
@@ -22,19 +22,19 @@ use Rattle.refspec_commands.specs.Shown.{KeepsReport, KeepsResults}
 use Rattle.refspec_commands.specs.Texts.{AreTexts, given_of, spec_input}
 use Rattle.refspec_commands.specs.Track.{AddsTracked}
 use Rattle.refspec_commands.proofs.CanonLemmas.{ShowsCanonical-of}
-use Rattle.refspec_commands.proofs.CheckedLemmas.{AddsIfRead-of, ReportsRefused-of}
+use Rattle.refspec_commands.proofs.CheckedLemmas.{AddsIfRead-of, DecidesRefused-of}
 use Rattle.refspec_commands.proofs.MessageLemmas.{AreRefusals-of}
 
--- what was found, or else the refusals
+-- the results of a command, or else the refusals
 found_or_refused : (Adds : List Reading → List ℕ → List ℕ → Type 0) (call : Call) (before messages : List ℕ) (refused : Bool) (texts : List Text) (all : List Checked) (new : List ℕ) → AllZip IsChecked texts all → before ≡ [] → AddsIfGood Adds (ReportsRefusals call.form all before messages) call.form refused all [] new → AddsIfRead Adds (AreRefusals call.form (map given_of texts) messages) call.form refused (map given_of texts) [] new
 found_or_refused Adds call before messages refused texts all new read none reported =
     AddsIfRead-of Adds _ _ call.form refused texts all [] new read (AreRefusals-of call.form texts all before messages read none) reported
 
 Shows-of : (k : Command) (call : Call) (input before messages : List ℕ) (refused : Bool) (texts : List Text) (all : List Checked) (new : List ℕ) → AllZip IsChecked texts all → before ≡ [] → Reports k call input call.form before messages refused all [] new → Shows k call input (map given_of texts) messages refused new
 Shows-of command.Canon call input before messages refused texts all new read none reported =
-    (ShowsCanonical-of call.form texts all new read reported.0, ReportsRefused-of refused texts all read reported.1, AreRefusals-of call.form texts all before messages read none reported.2)
-Shows-of command.Check call input before messages refused texts all new read none reported = (ReportsRefused-of refused texts all read reported.0, AreRefusals-of call.form texts all before messages read none reported.1)
-Shows-of command.Explain call input before messages refused texts all new read none reported = (ReportsRefused-of refused texts all read reported.0, AreRefusals-of call.form texts all before messages read none reported.1)
+    (ShowsCanonical-of call.form texts all new read reported.0, DecidesRefused-of refused texts all read reported.1, AreRefusals-of call.form texts all before messages read none reported.2)
+Shows-of command.Check call input before messages refused texts all new read none reported = (DecidesRefused-of refused texts all read reported.0, AreRefusals-of call.form texts all before messages read none reported.1)
+Shows-of command.Explain call input before messages refused texts all new read none reported = (DecidesRefused-of refused texts all read reported.0, AreRefusals-of call.form texts all before messages read none reported.1)
 Shows-of command.Plan call input before messages refused texts all new read none reported = found_or_refused (AddsFound command.Plan call input call.form messages refused) call before messages refused texts all new read none reported
 Shows-of command.Track call input before messages refused texts all new read none reported = found_or_refused (AddsFound command.Track call input call.form messages refused) call before messages refused texts all new read none reported
 Shows-of command.Prefixes call input before messages refused texts all new read none reported = found_or_refused (AddsFound command.Prefixes call input call.form messages refused) call before messages refused texts all new read none reported
@@ -47,7 +47,7 @@ IsOutput-of call beside input before messages refused f lent texts shown all old
     let told4 = subst (λ (x : List ℕ). Reports call.command call input call.form before messages refused all x new) empty told3 in
     inr (has, (map given_of texts, are, Shows-of call.command call input before messages refused texts all new read2 none told4))
 
--- a key of refspecs has no value
+-- some key of refspecs has no value
 pub IsOutput-lacking : (call : Call) (beside input messages : List ℕ) (settings : List Setting) (p q : Report) → AreSettingsOf call.ends beside (spec_input call.command input) settings → HasLacking settings → p.form ≡ call.form → p.results.items ≡ [] → KeepsReport p q → IsOutput call beside input messages true q.results.items
 IsOutput-lacking call beside input messages settings p q read lacks form empty kept = inl (record {
   settings = settings;
@@ -57,7 +57,7 @@ IsOutput-lacking call beside input messages settings p q read lacks form empty k
   kept = subst (λ (x : List ℕ). KeepsResults call.form x q.results.items) empty (subst (λ (x : Form). KeepsResults x p.results.items q.results.items) form kept.kept);
 })
 
--- what a command tells that is neither `canon` nor one of specs alone
+-- the report of a command other than `canon`, `check` and `explain`
 pub Reports-found : (k : Command) (call : Call) (input : List ℕ) (f : Form) (before messages : List ℕ) (refused : Bool) (all : List Checked) (old new : List ℕ) → (k ≡ command.Canon → ⊥) → (k ≡ command.Check → ⊥) → (k ≡ command.Explain → ⊥) → AddsIfGood (AddsFound k call input f messages refused) (ReportsRefusals f all before messages) f refused all old new → Reports k call input f before messages refused all old new
 Reports-found command.Canon call input f before messages refused all old new no_canon no_check no_explain reported = absurd (no_canon refl)
 Reports-found command.Check call input f before messages refused all old new no_canon no_check no_explain reported = absurd (no_check refl)
@@ -66,7 +66,7 @@ Reports-found command.Plan call input f before messages refused all old new no_c
 Reports-found command.Track call input f before messages refused all old new no_canon no_check no_explain reported = reported
 Reports-found command.Prefixes call input f before messages refused all old new no_canon no_check no_explain reported = reported
 
--- neither the mappings of a plan nor those of tracking refs
+-- the results of a command other than `plan` and `track`
 pub AddsFound-prefixes : (k : Command) (call : Call) (input : List ℕ) (f : Form) (messages : List ℕ) (g : List Reading) (old new : List ℕ) → (k ≡ command.Plan → ⊥) → (k ≡ command.Track → ⊥) → AddsPrefixes call.patterns f g old new → AddsFound k call input f messages false g old new
 AddsFound-prefixes command.Canon call input f messages g old new no_plan no_track reported = tt
 AddsFound-prefixes command.Check call input f messages g old new no_plan no_track reported = tt
@@ -75,10 +75,10 @@ AddsFound-prefixes command.Plan call input f messages g old new no_plan no_track
 AddsFound-prefixes command.Track call input f messages g old new no_plan no_track reported = absurd (no_track refl)
 AddsFound-prefixes command.Prefixes call input f messages g old new no_plan no_track reported = (reported, refl)
 
--- the mappings of tracking refs
+-- the results of `track`
 pub AddsFound-track : (k : Command) (call : Call) (input : List ℕ) (f : Form) (messages : List ℕ) (refused : Bool) (g : List Reading) (old new : List ℕ) → k ≡ command.Track → AddsTracked f (map (λ w. w.now) call.refs.items) refused g old new → AddsFound k call input f messages refused g old new
 AddsFound-track k call input f messages refused g old new is reported = subst (λ (x : Command). AddsFound x call input f messages refused g old new) (sym is) reported
 
--- the mappings of a plan
+-- the results of `plan`
 pub AddsFound-plan : (k : Command) (call : Call) (input : List ℕ) (f : Form) (messages : List ℕ) (refused : Bool) (g : List Reading) (old new : List ℕ) → k ≡ command.Plan → AddsPlan call.long call.all f (end_byte call.ends) input messages refused g old new → AddsFound k call input f messages refused g old new
 AddsFound-plan k call input f messages refused g old new is reported = subst (λ (x : Command). AddsFound x call input f messages refused g old new) (sym is) reported

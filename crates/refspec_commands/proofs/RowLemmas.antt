@@ -1,4 +1,4 @@
--- Rows, one after another, and their parts.
+-- Rows in order, and their parts.
 use Rattle.std.proofs.Common.{◌≡◌, ℕ, zero, suc, arith, ◌+◌, ◌<◌, ◌≤◌, List, [], ◌∷◌, ◌++◌, map, flat_map, length, take, get_or, unwrap_or, replicate, codes, Option, option_map, Some, refl, sym, ap, ◌∙◌, subst, append_assoc}
 use Rattle.std.proofs.lemmas.List.{append-nil, map-append, take_more, map_more}
 use Rattle.std.proofs.lemmas.Grind.{flat_map-append}
@@ -22,7 +22,7 @@ use Rattle.refspec_commands.specs.Shown.{WritesQuoted, zero_ended}
 use Rattle.refspec_commands.proofs.ShownLemmas.{behind, flat_map-map, map-twice}
 use Rattle.std.proofs.lemmas.Slice.Zip.{all_zipped_more}
 
--- the lines of some rows and then those of others
+-- the lines of some rows, and then those of others
 AreRowLines-append : (xs ys : List Row) (front back : List ℕ) → AreRowLines xs front → AreRowLines ys back → AreRowLines (xs ++ ys) (front ++ back)
 AreRowLines-append [] ys front back none more = subst (λ (l : List ℕ). AreRowLines ys (l ++ back)) (sym none) more
 AreRowLines-append (x ∷ xs) ys front back some more = (some.0, some.1 ++ back, some.2, AreRowLines-append xs ys some.1 back some.3 more, ap (λ l. l ++ back) some.4 ∙ append_assoc some.0 some.1 back)
@@ -31,7 +31,7 @@ AreRowLines-append (x ∷ xs) ys front back some more = (some.0, some.1 ++ back,
 pub AddsLines-start : (old : List ℕ) → AddsLines [] old old
 AddsLines-start old = ([], refl, sym (append-nil old))
 
--- one line more
+-- one more line
 pub AddsLines-next : {X : Type 0} (shown : X → Row) (xs : List X) (i : ℕ) (d : X) (r : Row) (old mid new : List ℕ) → i < length xs → r ≡ shown (get_or xs i d) → AddsLines (map shown (take i xs)) old mid → WritesLine r mid new → AddsLines (map shown (take (i + 1) xs)) old new
 AddsLines-next shown xs i d r old mid new below same a b =
     let b2 = subst (λ (x : Row). WritesLine x mid new) same b in
@@ -52,7 +52,7 @@ pub WritesCells-source : (o : Columns) (missing : List ℕ) (m : Mapped) (old mi
 WritesCells-source o missing m old mid new same a b =
     subst (λ (x : Columns). WritesCells (first_side missing x m) (second_side missing x m) old new) (sym same) (a.0, b.0, a.1, b.1, behind old a.0 mid b.0 new a.2 b.2)
 
--- and the destination first
+-- the same, the destination first
 pub WritesCells-destination : (o : Columns) (missing : List ℕ) (m : Mapped) (old mid new : List ℕ) → o ≡ columns.DestinationFirst → WritesCell (unwrap_or m.destination missing) old mid → WritesCell (source_text m.source) mid new → WritesCells (first_side missing o m) (second_side missing o m) old new
 WritesCells-destination o missing m old mid new same a b =
     subst (λ (x : Columns). WritesCells (first_side missing x m) (second_side missing x m) old new) (sym same) (a.0, b.0, a.1, b.1, behind old a.0 mid b.0 new a.2 b.2)
@@ -62,7 +62,7 @@ pub sides-source : (o : Columns) (missing : List ℕ) (m : Mapped) (old mid new 
 sides-source o missing m old mid new same a b =
     subst (λ (x : Columns). new ≡ old ++ (zero_ended (first_side missing x m) ++ zero_ended (second_side missing x m))) (sym same) (behind old (zero_ended (source_text m.source)) mid (zero_ended (unwrap_or m.destination missing)) new a b)
 
--- and the destination first
+-- the same, the destination first
 pub sides-destination : (o : Columns) (missing : List ℕ) (m : Mapped) (old mid new : List ℕ) → o ≡ columns.DestinationFirst → mid ≡ old ++ zero_ended (unwrap_or m.destination missing) → new ≡ mid ++ zero_ended (source_text m.source) → new ≡ old ++ (zero_ended (first_side missing o m) ++ zero_ended (second_side missing o m))
 sides-destination o missing m old mid new same a b =
     subst (λ (x : Columns). new ≡ old ++ (zero_ended (first_side missing x m) ++ zero_ended (second_side missing x m))) (sym same) (behind old (zero_ended (unwrap_or m.destination missing)) mid (zero_ended (source_text m.source)) new a b)
@@ -76,29 +76,29 @@ WritesLine-of r old cells row new a q ended =
     let all : new ≡ old ++ ((two ++ q.0) ++ nl) = behind old (two ++ q.0) row nl new before ended in
     (a.0 ++ (a.1 ++ (q.0 ++ nl)), record { first = a.0; second = a.1; last = q.0; is_first = a.2; is_second = a.3; is_last = q.1; is = refl }, all ∙ ap (λ l. old ++ l) (append_assoc two q.0 nl ∙ append_assoc a.0 a.1 (q.0 ++ nl)))
 
--- mappings in lines
+-- mappings as lines
 pub AddsMappings-lines : (f : Form) (o : Columns) (texts : List (List ℕ)) (ms : List Mapping) (old new : List ℕ) → f ≡ form.Lines → AddsLines (map (λ m. row_of (codes "FETCH_HEAD") o texts (mapped_of m)) ms) old new → AddsMappings f o texts (map mapped_of ms) old new
 AddsMappings-lines f o texts ms old new same reported =
     subst (λ (x : Form). AddsMappings x o texts (map mapped_of ms) old new) (sym same) (subst (λ (l : List Row). AddsLines l old new) (map-twice (row_of (codes "FETCH_HEAD") o texts) mapped_of ms) reported)
 
--- and ended by zero bytes
+-- mappings as fields ended by zero bytes
 pub AddsMappings-zeros : (f : Form) (o : Columns) (texts : List (List ℕ)) (ms : List Mapping) (old new : List ℕ) → f ≡ form.Zeros → new ≡ old ++ flat_map fields (map (λ m. row_of [] o texts (mapped_of m)) ms) → AddsMappings f o texts (map mapped_of ms) old new
 AddsMappings-zeros f o texts ms old new same reported =
     subst (λ (x : Form). AddsMappings x o texts (map mapped_of ms) old new) (sym same) (reported ∙ ap (λ l. old ++ flat_map fields l) (map-twice (row_of [] o texts) mapped_of ms))
 
--- the object of a mapping, field by field
+-- the object of a mapping, member by member
 pub mapped_object-of : (m : Mapped) (text source spec : List ℕ) (destination : Option (List ℕ)) (old new : List ℕ) → source ≡ json_text (source_text m.source) → destination ≡ option_map json_text m.destination → spec ≡ json_text text → new ≡ old ++ line_of (mapping_object source destination spec) → new ≡ old ++ mapped_object text m
 mapped_object-of m text source spec destination old new is_source is_destination is_spec write =
     write ∙ (ap (λ x. old ++ line_of (mapping_object x destination spec)) is_source
     ∙ (ap (λ x. old ++ line_of (mapping_object (json_text (source_text m.source)) x spec)) is_destination
     ∙ ap (λ x. old ++ line_of (mapping_object (json_text (source_text m.source)) (option_map json_text m.destination) x)) is_spec))
 
--- and as objects
+-- mappings as objects
 pub AddsMappings-json : (f : Form) (o : Columns) (texts : List (List ℕ)) (ms : List Mapping) (old new : List ℕ) → f ≡ form.Json → new ≡ old ++ flat_map (λ m. object_of texts (mapped_of m)) ms → AddsMappings f o texts (map mapped_of ms) old new
 AddsMappings-json f o texts ms old new same reported =
     subst (λ (x : Form). AddsMappings x o texts (map mapped_of ms) old new) (sym same) (reported ∙ ap (λ l. old ++ l) (flat_map-map (object_of texts) mapped_of ms))
 
--- two spaces or more
+-- two or more spaces
 two_or_more : (n : ℕ) → 2 ≤ n → (more : ℕ) × (replicate {A = ℕ} n 32 ≡ 32 ∷ 32 ∷ replicate more 32)
 two_or_more zero enough = absurd (omega arith)
 two_or_more (suc zero) enough = absurd (omega arith)

@@ -1,4 +1,4 @@
--- Settings that pairs of records say, and the refspecs among them.
+-- Settings from pairs of records, and the refspecs among them.
 use Rattle.std.proofs.Common.{◌≡◌, ◌⊎◌, Bool, true, false, ◌||◌, MatchBool, MatchOption, ℕ, ◌+◌, ◌<◌, ◌≤◌, List, [], ◌∷◌, ◌++◌, Option, None, Some, Bor, inl, inr, codes, length, take, take_all, drop, get_or, refl, sym, ap, ◌∙◌, subst, append_assoc, zero, suc, arith}
 use Rattle.std.specs.Bool.{⊤}
 use Rattle.std.proofs.lemmas.Bool.{false≢true}
@@ -10,12 +10,12 @@ use Rattle.refspec_commands.specs.Settings.{ArePairs, HasLacking, HoldsSpecs, Is
 use Rattle.refspec_commands.specs.Texts.{AddsValues, AreValues, Given, at_setting}
 use Rattle.refspec_commands.proofs.RecordLemmas.{bytes_of}
 
--- a text begins with a word, or doesn't
+-- a text begins with w, or doesn't
 pub begins_if : (w o : List ℕ) (r : Bool) → (r ≡ true → o ≡ w ++ drop (length w) o) × ((rest : List ℕ) → o ≡ w ++ rest → r ≡ true) → MatchBool r (BeginsWith w o) (¬ (BeginsWith w o))
 begins_if w o true is = record { after = drop (length w) o; here = is.0 refl }
 begins_if w o false is = λ begins. false≢true (is.1 begins.after begins.here)
 
--- a record begins with one of four words, or with none
+-- a record begins with one of the four prefixes of an origin, or with none
 pub origin_if : (o : List ℕ) (a b c d : Bool) → MatchBool a (BeginsWith (codes "file:") o) (¬ (BeginsWith (codes "file:") o)) → MatchBool b (BeginsWith (codes "standard input:") o) (¬ (BeginsWith (codes "standard input:") o)) → MatchBool c (BeginsWith (codes "blob:") o) (¬ (BeginsWith (codes "blob:") o)) → MatchBool d (BeginsWith (codes "command line:") o) (¬ (BeginsWith (codes "command line:") o)) → MatchBool ((a || b) || (c || d)) (IsOrigin o) (¬ (IsOrigin o))
 origin_if o true b c d is_a is_b is_c is_d = inl is_a
 origin_if o false true c d is_a is_b is_c is_d = inr (inl is_b)
@@ -29,12 +29,13 @@ origin_if o false false false false is_a is_b is_c is_d = none
     none (inr (inr (inl is))) = is_c is
     none (inr (inr (inr is))) = is_d is
 
--- whatever pairs the rest says completes the settings so far to those of all, and whatever all says has a rest
+-- settings of the rest complete the settings so far to those of all records, and settings of all records end with
+-- settings of the rest
 pub record Pairing (all rest : List (List ℕ)) (done : List Setting) : Type 0 where
   pub forth : (more : List Setting) → ArePairs rest more → ArePairs all (done ++ more)
   pub back : (whole : List Setting) → ArePairs all whole → (more : List Setting) × ArePairs rest more
 
--- the rest, with the origin before it that was read
+-- the rest, after the origin that was read before it, if there is one
 abbrev pub with_origin : Option (Bor (List ℕ)) → List (List ℕ) → List (List ℕ)
 with_origin None rest = rest
 with_origin (Some origin) rest = origin.now ∷ rest
@@ -43,7 +44,7 @@ abbrev pub IsReadOrigin : Option (Bor (List ℕ)) → Type 0
 IsReadOrigin None = ⊤
 IsReadOrigin (Some origin) = IsOrigin origin.now
 
--- the records up to an index said these settings, and maybe the origin of the next
+-- the records up to an index are these settings, and maybe the origin of the next one
 pub record PairsSoFar (records : List (Bor (List ℕ))) (i : ℕ) (origin : Option (Bor (List ℕ))) (done : List Setting) : Type 0 where
   pub pairing : Pairing (bytes_of records) (with_origin origin (bytes_of (drop i records))) done
   pub from : IsReadOrigin origin
@@ -51,7 +52,7 @@ pub record PairsSoFar (records : List (Bor (List ℕ))) (i : ℕ) (origin : Opti
 bytes_more : (records : List (Bor (List ℕ))) (i : ℕ) (d : Bor (List ℕ)) → i < length records → bytes_of (drop i records) ≡ (get_or records i d).now ∷ bytes_of (drop (i + 1) records)
 bytes_more records i d below = ap bytes_of (drop_more records i d below)
 
--- an origin more
+-- one more origin
 pub PairsSoFar-origin : (records : List (Bor (List ℕ))) (i : ℕ) (d : Bor (List ℕ)) (origin next : Option (Bor (List ℕ))) (done new : List Setting) → i < length records → IsOrigin (get_or records i d).now → origin ≡ None → next ≡ Some (get_or records i d) → new ≡ done → PairsSoFar records i origin done → PairsSoFar records (i + 1) next new
 PairsSoFar-origin records i d origin next done new below is none some same so_far =
     let before : PairsSoFar records i None done = subst (λ (o : Option (Bor (List ℕ))). PairsSoFar records i o done) none so_far in
@@ -61,7 +62,7 @@ PairsSoFar-origin records i d origin next done new below is none some same so_fa
     } in
     subst (PairsSoFar records (i + 1) next) (sym same) (subst (λ (o : Option (Bor (List ℕ))). PairsSoFar records (i + 1) o done) (sym some) after)
 
--- a setting more
+-- one more setting
 pub PairsSoFar-setting : (records : List (Bor (List ℕ))) (i : ℕ) (o d : Bor (List ℕ)) (origin next : Option (Bor (List ℕ))) (done new : List Setting) (s : Setting) → i < length records → IsSetting o.now (get_or records i d).now s → origin ≡ Some o → next ≡ None → new ≡ done ++ s ∷ [] → PairsSoFar records i origin done → PairsSoFar records (i + 1) next new
 PairsSoFar-setting records i o d origin next done new s below is some none grown so_far =
     let rest = bytes_of (drop (i + 1) records) in
@@ -76,13 +77,13 @@ PairsSoFar-setting records i o d origin next done new s below is some none grown
     } in
     subst (λ (o : Option (Bor (List ℕ))). PairsSoFar records (i + 1) o new) (sym none) after
 
--- the whole
+-- all records
 pub PairsSoFar-end : (records : List (Bor (List ℕ))) (i : ℕ) (origin : Option (Bor (List ℕ))) (done : List Setting) → length records ≤ i → origin ≡ None → PairsSoFar records i origin done → ArePairs (bytes_of records) done
 PairsSoFar-end records i origin done long none so_far =
     let whole : PairsSoFar records i None done = subst (λ (o : Option (Bor (List ℕ))). PairsSoFar records i o done) none so_far in
     subst (ArePairs (bytes_of records)) (append-nil done) (whole.pairing.forth [] (subst (λ (l : List (Bor (List ℕ))). ArePairs (bytes_of l) []) (sym (drop_all i records long)) refl))
 
--- something else is where an origin should be
+-- a record that should be an origin isn't
 pub no_pairs : (records : List (Bor (List ℕ))) (i : ℕ) (d : Bor (List ℕ)) (origin : Option (Bor (List ℕ))) (done settings : List Setting) → i < length records → ¬ (IsOrigin (get_or records i d).now) → origin ≡ None → PairsSoFar records i origin done → ¬ (ArePairs (bytes_of records) settings)
 no_pairs records i d origin done settings below other none so_far pairs =
     let before : PairsSoFar records i None done = subst (λ (o : Option (Bor (List ℕ))). PairsSoFar records i o done) none so_far in
@@ -93,7 +94,7 @@ no_pairs records i d origin done settings below other none so_far pairs =
     from_origin [] more none = none
     from_origin (x ∷ rest) more (s, others, is, those, same) = other is.from
 
--- a key without its value is found at its index
+-- a key without a value is found at its index
 pub HasLacking-at : (xs : List Setting) (i : ℕ) (d : Setting) → i < length xs → LacksValue (get_or xs i d) → HasLacking xs
 HasLacking-at [] i d below lacks = absurd (omega (arith, below))
 HasLacking-at (x ∷ xs) zero d below lacks = inl lacks
@@ -105,7 +106,7 @@ last_or_before [] y (inr none) = absurd none
 last_or_before (x ∷ xs) y (inl lacks) = inl (inl lacks)
 last_or_before (x ∷ xs) y (inr more) = elim (last_or_before xs y more) [ inl before ↦ inl (inr before) | inr lacks ↦ inr lacks ]
 
--- one setting more lacks nothing
+-- one more setting that doesn't lack its value
 pub none_lacking_next : (xs : List Setting) (i : ℕ) (d : Setting) → i < length xs → ¬ (LacksValue (get_or xs i d)) → ¬ (HasLacking (take i xs)) → ¬ (HasLacking (take (i + 1) xs))
 none_lacking_next xs i d below has none lacking =
     elim (last_or_before (take i xs) (get_or xs i d) (subst HasLacking (take_more xs i d below) lacking)) [ inl before ↦ none before | inr lacks ↦ has lacks ]
@@ -123,11 +124,11 @@ AreValues-append (x ∷ xs) ys us vs (inr (other, those)) more = inr (other, Are
 pub AddsValues-none : (old : List Given) → AddsValues [] old old
 AddsValues-none old = ([], refl, sym (append-nil old))
 
--- the key of other settings
+-- a setting whose key isn't one of refspecs
 pub AddsValues-other : (s : Setting) (old : List Given) → ((op : Operation) → ¬ (HoldsSpecs s.key.now op)) → AddsValues (s ∷ []) old old
 AddsValues-other s old other = ([], inr (λ text is. other text.operation is.holds, refl), sym (append-nil old))
 
--- a refspec
+-- a setting with a refspec
 pub AddsValues-one : (s : Setting) (t : Given) (value : Bor (List ℕ)) (old new : List Given) → HoldsSpecs s.key.now t.operation → s.value ≡ Some value → t.spot ≡ at_setting s.origin.now s.key.now → t.bytes ≡ value.now → new ≡ old ++ t ∷ [] → AddsValues (s ∷ []) old new
 AddsValues-one s t value old new holds some spot same grown = (
   t ∷ [],
@@ -145,7 +146,7 @@ AddsValues-one s t value old new holds some spot same grown = (
   grown,
 )
 
--- one setting more
+-- the texts of one more setting
 pub AddsValues-next : (xs : List Setting) (i : ℕ) (d : Setting) (old mid new : List Given) → i < length xs → AddsValues (take i xs) old mid → AddsValues (get_or xs i d ∷ []) mid new → AddsValues (take (i + 1) xs) old new
 AddsValues-next xs i d old mid new below (us, some, so_far) (vs, more, grown) = (
   us ++ vs,
@@ -156,7 +157,7 @@ AddsValues-next xs i d old mid new below (us, some, so_far) (vs, more, grown) = 
 pub AddsValues-all : (xs : List Setting) (i : ℕ) (old new : List Given) → length xs ≤ i → AddsValues (take i xs) old new → AddsValues xs old new
 AddsValues-all xs i old new long so_far = subst (λ (l : List Setting). AddsValues l old new) (take_all i xs long) so_far
 
--- first those of some settings, and then those of others
+-- the refspecs among some settings and then others are those of the ones and then of the others
 AreValues-split : (xs ys : List Setting) (all : List Given) → AreValues (xs ++ ys) all → (us : List Given) × (vs : List Given) × AreValues xs us × AreValues ys vs × (all ≡ us ++ vs)
 AreValues-split [] ys all are = ([], all, refl, are, refl)
 AreValues-split (x ∷ xs) ys all (inl (text, more, is, those, same)) =

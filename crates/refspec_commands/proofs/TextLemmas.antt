@@ -1,4 +1,4 @@
--- Texts that are gathered one after another.
+-- Texts that are added one by one.
 use Rattle.std.proofs.Common.{◌≡◌, ◌⊎◌, inl, inr, subst, ℕ, ◌+◌, ◌<◌, List, [], ◌∷◌, ◌++◌, length, take, get_or, map, suc, refl, sym, ap, ◌∙◌, append_assoc, arith}
 use Rattle.std.proofs.lemmas.List.{length-map, length-take-le, map-append, take_more}
 use Rattle.gix_refspec_text.specs.declared.parsing.Operation.{Operation}
@@ -11,7 +11,7 @@ use Rattle.refspec_commands.specs.Settings.{AreSettingsOf}
 use Rattle.refspec_commands.specs.Texts.{AddsRecords, AddsTexts, AddsValues, Given, given_of, numbered}
 use Rattle.refspec_commands.proofs.SettingLemmas.{AddsValues-split}
 
--- one element more was seen, and what it gives was put after the others
+-- one more element was read, and what it gives was added
 pub seen_next : {W X Y Z : Type 0} (f : W → Y) (h : X → W) (g : Z → Y) (xs : List X) (i : ℕ) (x : X) (old : List Y) (ts more : List Z) (z : Z) → i < length xs → more ≡ ts ++ z ∷ [] → g z ≡ f (h (get_or xs i x)) → map g ts ≡ old ++ map f (map h (take i xs)) → map g more ≡ old ++ map f (map h (take (i + 1) xs))
 seen_next f h g xs i x old ts more z below grown same so_far =
     let y = get_or xs i x in
@@ -19,7 +19,7 @@ seen_next f h g xs i x old ts more z below grown same so_far =
     sym (map-append f (map h (take i xs)) (h y ∷ [])) ∙ ap (map f) (sym (map-append h (take i xs) (y ∷ [])) ∙ sym (ap (map h) (take_more xs i x below))) in
     ap (map g) grown ∙ (map-append g ts (z ∷ []) ∙ (ap (λ l. l ++ g z ∷ []) so_far ∙ (append_assoc old (map f (map h (take i xs))) (g z ∷ []) ∙ (ap (λ y. old ++ (map f (map h (take i xs)) ++ y ∷ [])) same ∙ ap (λ l. old ++ l) all))))
 
--- bytes after others have the next numbers
+-- the last bytes have the last number
 numbered-last : (give : ℕ → List ℕ → Given) (k : ℕ) (xs : List (List ℕ)) (y : List ℕ) → numbered give k (xs ++ y ∷ []) ≡ numbered give k xs ++ give (k + length xs) y ∷ []
 numbered-last give k [] y = ap (λ (n : ℕ). give n y ∷ []) (sym (+0 k))
   where
@@ -29,7 +29,7 @@ numbered-last give k (x ∷ xs) y =
     let next : (k + 1) + length xs ≡ k + length (x ∷ xs) = omega arith in
     ap (λ l. give k x ∷ l) (numbered-last give (k + 1) xs y ∙ ap (λ (n : ℕ). numbered give (k + 1) xs ++ give n y ∷ []) next)
 
--- one text more was gathered, with its number
+-- one more text was added, with its number
 pub given_next : {X : Type 0} (give : ℕ → List ℕ → Given) (h : X → List ℕ) (xs : List X) (i number : ℕ) (x : X) (old : List Given) (ts more : List Text) (t : Text) → i < length xs → number ≡ i + 1 → more ≡ ts ++ t ∷ [] → given_of t ≡ give number (h (get_or xs i x)) → map given_of ts ≡ old ++ numbered give 1 (map h (take i xs)) → map given_of more ≡ old ++ numbered give 1 (map h (take (i + 1) xs))
 given_next give h xs i number x old ts more t below is grown same so_far =
     let y = get_or xs i x in
@@ -41,7 +41,7 @@ given_next give h xs i number x old ts more t below is grown same so_far =
     ap (numbered give 1) step ∙ (numbered-last give 1 front (h y) ∙ ap (λ (n : ℕ). numbered give 1 front ++ give n (h y) ∷ []) (sym location)) in
     ap (map given_of) grown ∙ (map-append given_of ts (t ∷ []) ∙ (ap (λ l. l ++ given_of t ∷ []) so_far ∙ (append_assoc old (numbered give 1 front) (given_of t ∷ []) ∙ (ap (λ g. old ++ (numbered give 1 front ++ g ∷ [])) same ∙ ap (λ l. old ++ l) (sym last)))))
 
--- as many texts as were seen
+-- as many texts as elements
 pub numbered-length : (give : ℕ → List ℕ → Given) (k : ℕ) (xs : List (List ℕ)) → length (numbered give k xs) ≡ length xs
 numbered-length give k [] = refl
 numbered-length give k (x ∷ xs) = ap suc (numbered-length give (k + 1) xs)

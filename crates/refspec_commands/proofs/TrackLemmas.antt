@@ -1,4 +1,4 @@
--- Refs of which the name alone is given, and what is told of them.
+-- Refs of which only the name is known, and the report on them.
 use Rattle.std.proofs.Common.{◌≡◌, ◌≢◌, ◌↔◌, ◌⊎◌, ℕ, ◌+◌, ◌<◌, ◌≤◌, Bool, Bor, true, false, cond, IsTrue, MatchBool, List, [], ◌∷◌, ◌++◌, None, Some, inl, inr, length, map, take, take_all, get_or, replicate, refl, sym, ap, ◌∙◌, subst, arith}
 use Rattle.std.specs.BTreeMap.{is_at}
 use Rattle.std.specs.BTreeSet.{BTreeSet, Updates, contains_by}
@@ -29,11 +29,11 @@ use Rattle.gix_refspec_text.proofs.lemmas.lists.MapLemmas.{map_next}
 abbrev pub plain : List ℕ → List ℕ → Ref
 plain n t = record { name = n; target = t; object = None }
 
--- the ref with the name, where the target is the id of zeros
+-- the ref with the name, if the target is the null id
 pub named_of : (a b target : List ℕ) → a ≡ b → target ≡ replicate 20 0 → plain a target ≡ named b
 named_of a b target same zeros = ap (λ n. plain n target) same ∙ ap (plain b) zeros
 
--- mappings of refs with these names, and then nothing more
+-- the mappings from refs with these names
 pub AddsTracked-of : (f k h : Form) (names : List (List ℕ)) (refused : Bool) (refs : List Ref) (g by_names : List Reading) (texts : List (List ℕ)) (found shown : List Mapped) (old first mid new : List ℕ) → AreByNames g by_names → k ≡ f → KeepsResults f old first → refs ≡ map named names → AreKeptBackward by_names refs found → AreSpecTexts by_names texts → AddsMappings k columns.DestinationFirst texts shown first mid → shown ≡ found → h ≡ k → KeepsResults h mid new → MatchBool refused ((by_names ≢ g) ⊎ HasUnwritten names found) ((by_names ≡ g) × IsEachWritten names found) → AddsTracked f names refused g old new
 AddsTracked-of f k h names refused refs g by_names texts found shown old first mid new looked_up same_form before are kept of_specs reported same form rest whether = record {
   by_names = by_names;
@@ -52,13 +52,13 @@ AddsTracked-of f k h names refused refs g by_names texts found shown old first m
   status = whether;
 }
 
--- one spec more that names look up
+-- one more spec by which names are looked up
 AreByNames-more : (xs : List Reading) (kept : List Reading) (r : Reading) → ¬ (HasIdDestination r) → AreByNames xs kept → AreByNames (xs ++ r ∷ []) (kept ++ r ∷ [])
 AreByNames-more [] kept r none is = inr (none, ([], refl, ap (λ l. l ++ r ∷ []) is))
 AreByNames-more (x ∷ xs) kept r none (inl (has, is)) = inl (has, AreByNames-more xs kept r none is)
 AreByNames-more (x ∷ xs) kept r none (inr (other, (rest, is, same))) = inr (other, (rest ++ r ∷ [], AreByNames-more xs rest r none is, ap (λ l. l ++ r ∷ []) same))
 
--- one that they don't
+-- one more spec whose destination is an object id
 AreByNames-less : (xs : List Reading) (kept : List Reading) (r : Reading) → HasIdDestination r → AreByNames xs kept → AreByNames (xs ++ r ∷ []) kept
 AreByNames-less [] kept r has is = inl (has, is)
 AreByNames-less (x ∷ xs) kept r has (inl (it, is)) = inl (it, AreByNames-less xs kept r has is)
@@ -76,7 +76,7 @@ AreByNames-left specs kept i s below is has so_far =
 pub AreByNames-all : (specs kept : List RefSpecRef) (i : ℕ) → length specs ≤ i → AreByNames (map reading_of (take i specs)) (map reading_of kept) → AreByNames (map reading_of specs) (map reading_of kept)
 AreByNames-all specs kept i long so_far = subst (λ (l : List RefSpecRef). AreByNames (map reading_of l) (map reading_of kept)) (take_all i specs long) so_far
 
--- specs that names look up are not more than all, and all where they are as many
+-- the specs by which names are looked up are at most as many as all, and if as many, they are all
 by_names-few : (g kept : List Reading) → AreByNames g kept → length kept ≤ length g
 by_names-few [] kept is = omega (arith, ap length is)
 by_names-few (r ∷ g) kept (inl (has, is)) = omega (arith, by_names-few g kept is)
@@ -90,7 +90,7 @@ by_names-whole (r ∷ g) kept (inr (other, (rest, is, same))) many = same ∙ ap
 pub by_names-fewer : (g kept : List Reading) → length kept < length g → kept ≢ g
 by_names-fewer g kept few same = omega (arith, few, ap length same)
 
--- a mapping more
+-- one more mapping
 IsWritten-front : (name : List ℕ) (ms : List Mapped) (m : Mapped) → IsWritten name ms → IsWritten name (ms ++ m ∷ [])
 IsWritten-front name [] m is = absurd is
 IsWritten-front name (x ∷ ms) m (inl same) = inl same
@@ -110,17 +110,17 @@ IsWritten-cases name (x ∷ ms) m (inr is) = later (IsWritten-cases name ms m is
     later (inl before) = inl (inr before)
     later (inr here) = inr here
 
--- an empty set has the names that no mappings write
+-- at the start the set is empty
 pub AreWritten-start : (set : BTreeSet (Bor (List ℕ))) → set.keys ≡ [] → AreWritten set []
 AreWritten-start set none name = ((λ has. absurd (false≢true (sym (ap (list_any (is_at (λ (n : Bor (List ℕ)). slice_cmp nat_cmp name n.now))) none) ∙ has))), (λ is. absurd is))
 
--- the mappings so far, and one more
+-- the mappings before an index, and the one at it
 pub AreWritten-next : (set : BTreeSet (Bor (List ℕ))) (ms : List Mapping) (i : ℕ) (m : Mapping) → i < length ms → m ≡ get_or ms i m → AreWritten set (map mapped_of (take i ms) ++ mapped_of m ∷ []) → AreWritten set (map mapped_of (take (i + 1) ms))
 AreWritten-next set ms i m below is so_far =
     let step : map mapped_of (take (i + 1) ms) ≡ map mapped_of (take i ms) ++ mapped_of m ∷ [] = ap (map mapped_of) (take_more ms i m below) ∙ (map-append mapped_of (take i ms) (get_or ms i m ∷ []) ∙ ap (λ (x : Mapping). map mapped_of (take i ms) ++ mapped_of x ∷ []) (sym is)) in
     subst (AreWritten set) (sym step) so_far
 
--- a set of the names that mappings write, and one more that writes none
+-- one more mapping, without a destination
 pub AreWritten-none : (set : BTreeSet (Bor (List ℕ))) (ms : List Mapped) (m : Mapped) → m.destination ≡ None → AreWritten set ms → AreWritten set (ms ++ m ∷ [])
 AreWritten-none set ms m none so_far name = ((λ has. IsWritten-front name ms m ((so_far name).0 has)), (λ is. back (IsWritten-cases name ms m is)))
   where
@@ -131,7 +131,7 @@ AreWritten-none set ms m none so_far name = ((λ has. IsWritten-front name ms m 
         no_name : None ≡ Some name → ⊥
         no_name same = cc
 
--- and one more that writes one, which was put into the set
+-- one more mapping, whose destination was inserted into the set
 pub AreWritten-more : (old new : BTreeSet (Bor (List ℕ))) (key : Bor (List ℕ)) (ms : List Mapped) (m : Mapped) → Updates (λ x y. slice_cmp nat_cmp x.now y.now) old new key true → m.destination ≡ Some key.now → AreWritten old ms → AreWritten new (ms ++ m ∷ [])
 AreWritten-more old new key ms m updates is so_far name = by (is_eq (slice_cmp nat_cmp key.now name)) refl (updates.0 (record { ref_ptr = (0, 0); now = name }))
   where
@@ -152,7 +152,7 @@ AreWritten-more old new key ms m updates is so_far name = by (is_eq (slice_cmp n
             one_name : Some key.now ≡ Some name → key.now ≡ name
             one_name same = cc
 
--- a name more: each so far is written, or one isn't
+-- one more name: all so far are written, or one isn't
 IsEachWritten-more : (names : List (List ℕ)) (name : List ℕ) (found : List Mapped) → IsEachWritten names found → IsWritten name found → IsEachWritten (names ++ name ∷ []) found
 IsEachWritten-more [] name found each is = (is, tt)
 IsEachWritten-more (n ∷ names) name found each is = (each.0, IsEachWritten-more names name found each.1 is)
@@ -177,7 +177,7 @@ Reports-written false names name found each is = IsEachWritten-more names name f
 pub Reports-unwritten : (some : Bool) (names : List (List ℕ)) (name : List ℕ) (found : List Mapped) → Reports some names found → ¬ (IsWritten name found) → Reports true (names ++ name ∷ []) found
 Reports-unwritten some names name found reported none = HasUnwritten-here names name found none
 
--- one name more, and all names
+-- one more name, and all names
 pub Reports-next : (some : Bool) (names : List (Bor (List ℕ))) (i : ℕ) (d : Bor (List ℕ)) (name : List ℕ) (found : List Mapped) → i < length names → name ≡ (get_or names i d).now → Reports some (map (λ n. n.now) (take i names) ++ name ∷ []) found → Reports some (map (λ n. n.now) (take (i + 1) names)) found
 Reports-next some names i d name found below is reported =
     let now = λ (n : Bor (List ℕ)). n.now in

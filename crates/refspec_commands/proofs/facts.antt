@@ -1,4 +1,4 @@
--- Examples of the definitions in specs/, each on one side of a border, so that a wrong definition is noticed.
+-- Examples and counterexamples of the definitions in specs/, so that a wrong definition is noticed.
 pub mod CanonFacts
 pub mod ConflictFacts
 pub mod GroupFacts

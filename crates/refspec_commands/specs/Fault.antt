@@ -14,18 +14,18 @@ IsReadOrMemory fault.Read = ⊤
 IsReadOrMemory fault.Memory = ⊤
 IsReadOrMemory _ = ⊥
 
--- memory ran out, or the input has another format and this is so
+-- memory ran out, or the format of the input is refused and P holds
 abbrev pub RefusesFormat : Type 0 → Fault → Type 0
 RefusesFormat P (fault.Settings why) = P
 RefusesFormat P fault.Memory = ⊤
 RefusesFormat P _ = ⊥
 
--- the exit status of a run that ends so
+-- the exit status after a fault
 abbrev pub status_of : Fault → ℕ
 status_of (fault.Settings why) = 2
 status_of _ = 3
 
--- the fault is of a writer
+-- a writer failed
 abbrev pub IsWrite : Fault → Type 0
 IsWrite fault.Write = ⊤
 IsWrite _ = ⊥

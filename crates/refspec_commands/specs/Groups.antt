@@ -1,12 +1,12 @@
--- How the mappings of a plan are shown in lines without their specs. This project's own rule: those of a spec, which are together,
--- stand below its text; where there is one spec alone, it isn't shown.
+-- How the mappings of a plan are shown in lines, grouped below their specs. This project's own rule: consecutive
+-- mappings of a spec are below its text; if there is only one spec, its text isn't shown.
 use Rattle.std.specs.Prelude.{◌≡◌, ◌≢◌, ◌⊎◌, ℕ, List, [], ◌∷◌, ◌++◌, Option, Some, None, unwrap_or, codes}
 use Rattle.std.specs.List.{slice_get}
 use Rattle.gix_refspec.specs.Matching.Mappings.{Mapped}
 use Rattle.refspec_commands.specs.Rows.{IsCell, source_text}
 use Rattle.refspec_commands.specs.Shown.{IsQuoted}
 
--- a line: the source as a cell, and what people see of the destination, which may be missing
+-- a line: the source as a cell, and the destination as shown, or FETCH_HEAD if it is missing
 pub record IsShort (m : Mapped) (line : List ℕ) : Type 0 where
   pub cell : List ℕ
   pub last : List ℕ
@@ -14,7 +14,7 @@ pub record IsShort (m : Mapped) (line : List ℕ) : Type 0 where
   pub is_last : IsQuoted (unwrap_or m.destination (codes "FETCH_HEAD")) last
   pub is : line ≡ cell ++ (last ++ (10 ∷ []))
 
--- bytes grew by such a line
+-- the results grew by the line of a mapping
 abbrev pub WritesShort : Mapped → List ℕ → List ℕ → Type 0
 WritesShort m old new = (line : List ℕ) × IsShort m line × (new ≡ old ++ line)
 
@@ -26,20 +26,20 @@ AreShort (m ∷ ms) lines = (line : List ℕ) × (rest : List ℕ) × IsShort m 
 abbrev pub AddsShort : List Mapped → List ℕ → List ℕ → Type 0
 AddsShort ms old new = (lines : List ℕ) × AreShort ms lines × (new ≡ old ++ lines)
 
--- the line of a spec
+-- the line of a spec: its text as shown
 abbrev pub IsHeading : List ℕ → List ℕ → Type 0
 IsHeading text line = (shown : List ℕ) × IsQuoted text shown × (line ≡ shown ++ (10 ∷ []))
 
 abbrev pub WritesHeading : List ℕ → List ℕ → List ℕ → Type 0
 WritesHeading text old new = (line : List ℕ) × IsHeading text line × (new ≡ old ++ line)
 
--- what stands before the line of a mapping: that of its spec, unless it is that of the mapping before
+-- the line before that of a mapping: the heading of its spec, unless the previous mapping has the same spec
 abbrev pub IsHead : List (List ℕ) → Option ℕ → Mapped → List ℕ → Type 0
 IsHead texts before m head =
     ((before ≡ Some m.spec) × (head ≡ []))
     ⊎ ((before ≢ Some m.spec) × IsHeading (unwrap_or (slice_get texts m.spec) []) head)
 
--- the lines of a mapping, of which its own begins with two spaces
+-- the lines of a mapping: a heading if needed, and its own line, indented by two spaces
 pub record IsBelow (texts : List (List ℕ)) (before : Option ℕ) (m : Mapped) (lines : List ℕ) : Type 0 where
   pub head : List ℕ
   pub line : List ℕ
@@ -47,7 +47,7 @@ pub record IsBelow (texts : List (List ℕ)) (before : Option ℕ) (m : Mapped) 
   pub is_line : IsShort m line
   pub is : lines ≡ head ++ (codes "  " ++ line)
 
--- those of each mapping, in order
+-- the lines of mappings, in order
 abbrev pub AreBelow : List (List ℕ) → Option ℕ → List Mapped → List ℕ → Type 0
 AreBelow texts before [] lines = lines ≡ []
 AreBelow texts before (m ∷ ms) lines =
@@ -56,7 +56,7 @@ AreBelow texts before (m ∷ ms) lines =
 abbrev pub AddsGrouped : List (List ℕ) → List Mapped → List ℕ → List ℕ → Type 0
 AddsGrouped texts ms old new = (lines : List ℕ) × AreBelow texts None ms lines × (new ≡ old ++ lines)
 
--- the results grew by mappings, where the texts of all specs are given
+-- the results grew by mappings, given the texts of all specs: with one text, without headings
 abbrev pub AddsGroups : List (List ℕ) → List Mapped → List ℕ → List ℕ → Type 0
 AddsGroups [] ms old new = AddsGrouped [] ms old new
 AddsGroups (text ∷ []) ms old new = AddsShort ms old new

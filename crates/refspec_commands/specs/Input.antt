@@ -1,5 +1,5 @@
--- An input that is read to its end, and its records. This project's own rule: one byte ends a record, and every
--- other byte is a byte of it.
+-- An input that is read to its end, and its records. This project's own rule: one byte ends a record, and every other
+-- byte belongs to it.
 use Rattle.std.specs.Prelude.{◌≡◌, ◌≢◌, ◌⊎◌, ℕ, List, [], ◌∷◌, ◌++◌, Option}
 use Rattle.std.specs.Io.KnownBytes.{Consumes, IsAtEnd}
 use Rattle.gix_refspec.specs.Texts.Words.{Lacks}
@@ -16,13 +16,13 @@ pub record ReadsToEnd (old new : Option (List ℕ)) (input : List ℕ) : Type 0 
   pub taken : Consumes old new input
   pub ended : IsAtEnd new
 
--- each record lacks the byte, and the byte follows it; the last may lack it there if it isn't empty
+-- no record contains the byte, and the byte follows each; it may be missing after the last record, if that isn't empty
 abbrev pub AreRecords : ℕ → List (List ℕ) → List ℕ → Type 0
 AreRecords end [] input = input ≡ []
 AreRecords end (record_ ∷ records) input =
     Lacks end record_
     × (((rest : List ℕ) × (input ≡ record_ ++ (end ∷ rest)) × AreRecords end records rest) ⊎ ((record_ ≢ []) × (records ≡ []) × (input ≡ record_)))
 
--- the record is the first of the text, and the rest is what follows its end
+-- first is the first record of the text, and rest is what follows its end byte
 abbrev pub IsFirstRecord : ℕ → List ℕ → List ℕ → List ℕ → Type 0
 IsFirstRecord end text first rest = Lacks end first × ((text ≡ first ++ (end ∷ rest)) ⊎ ((text ≡ first) × (rest ≡ [])))

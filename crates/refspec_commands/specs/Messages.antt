@@ -1,4 +1,4 @@
--- What the message of a refused text tells. This project's own rule.
+-- The message on a refused text. This project's own rule.
 use Rattle.std.specs.Prelude.{◌≡◌, ◌⊎◌, ℕ, List, [], ◌∷◌, ◌++◌, codes, decimal}
 use Rattle.std.specs.Str.{IsUtf8}
 use Rattle.gix_refspec_text.specs.declared.parsing.Error.{Error}
@@ -14,27 +14,27 @@ use Rattle.refspec_commands.specs.declared.checked.Checked.TheVariants as checke
 use Rattle.refspec_commands.specs.declared.texts.Location.{Location}
 use Rattle.refspec_commands.specs.declared.texts.Text.{Text}
 use Rattle.refspec_commands.specs.Shown.{IsQuoted}
-use Rattle.refspec_commands.specs.Texts.{Given, Spot, at_record, at_setting, at_word, given_of, spot_of}
+use Rattle.refspec_commands.specs.Texts.{Given, Spot, at_record, at_setting, at_argument, given_of, spot_of}
 
--- a name as a form shows it: raw in records, else as people see it, and in JSON as UTF-8
+-- a name as a form shows it: raw in records, else quoted if needed, and in JSON as UTF-8
 abbrev pub IsShownIn : Form → List ℕ → List ℕ → Type 0
 IsShownIn form.Zeros name shown = shown ≡ name
 IsShownIn form.Lines name shown = IsQuoted name shown
 IsShownIn form.Json name shown = IsQuoted name shown × IsUtf8 shown
 
--- where a text is found, as compilers show places: a spec by its number, a record by its input and its number, a setting by
--- its file and key
+-- the location of a text, in the format of compilers: a spec by its number, a record by its input and its number, a
+-- setting by its file and key
 abbrev pub IsSpot : Form → Spot → List ℕ → Type 0
-IsSpot f (at_word number) shown = shown ≡ codes "spec " ++ decimal number
+IsSpot f (at_argument number) shown = shown ≡ codes "spec " ++ decimal number
 IsSpot f (at_record input number) shown = (name : List ℕ) × IsShownIn f input name × (shown ≡ name ++ (58 ∷ decimal number))
 IsSpot f (at_setting file key) shown =
     (one : List ℕ) × (other : List ℕ) × IsShownIn f file one × IsShownIn f key other × (shown ≡ one ++ (codes ": " ++ other))
 
--- the same of a place
+-- the same for a `Location`
 abbrev pub IsLocation : Form → Location → List ℕ → Type 0
 IsLocation f p shown = IsSpot f (spot_of p) shown
 
--- bytes grew by a place
+-- bytes grew by a location
 abbrev pub WritesLocation : Form → Location → List ℕ → List ℕ → Type 0
 WritesLocation f p old new = (shown : List ℕ) × IsLocation f p shown × (new ≡ old ++ shown)
 
@@ -42,7 +42,7 @@ WritesLocation f p old new = (shown : List ℕ) × IsLocation f p shown × (new 
 abbrev pub WritesShown : Form → List ℕ → List ℕ → List ℕ → Type 0
 WritesShown f name old new = (shown : List ℕ) × IsShownIn f name shown × (new ≡ old ++ shown)
 
--- the first line: where the text is, the text, and the sentence on the reason
+-- the first line: the location of the text, the text, and the sentence on the reason
 pub record IsReasonLine (t : Given) (e : Error) (line : List ℕ) : Type 0 where
   pub at : List ℕ
   pub text : List ℕ
@@ -58,29 +58,29 @@ WritesReason t e old new = (line : List ℕ) × IsReasonLine (given_of t) e line
 abbrev pub WritesRefusal : Text → Error → List ℕ → List ℕ → Type 0
 WritesRefusal t e old new = (line : List ℕ) × (more : List ℕ) × IsReasonLine (given_of t) e line × (new ≡ old ++ (line ++ more))
 
--- the messages grew so, but for JSON, where the results do
+-- the messages grew by a refusal; in JSON they stayed as they were
 abbrev pub ReportsRefusal : Form → Text → Error → List ℕ → List ℕ → Type 0
 ReportsRefusal form.Json t e old new = new ≡ old
 ReportsRefusal _ t e old new = WritesRefusal t e old new
 
--- the messages grew by the refusals among what was checked, one after another
+-- the messages grew by the refusals among the checked texts, in order
 abbrev pub ReportsRefusals : Form → List Checked → List ℕ → List ℕ → Type 0
 ReportsRefusals f [] old new = new ≡ old
 ReportsRefusals f (checked.Good text spec ∷ all) old new = ReportsRefusals f all old new
 ReportsRefusals f (checked.Bad text error ∷ all) old new = (mid : List ℕ) × ReportsRefusal f text error old mid × ReportsRefusals f all mid new
 
--- what is told of a text that is refused: the line of the first reason against it, and more; of a spec nothing
+-- the lines on a text: for a refused text the line of the first reason against it, and more; for a spec none
 abbrev pub IsReportedOf : Given → List ℕ → Type 0
 IsReportedOf t lines =
     ((e : Error) × (line : List ℕ) × (more : List ℕ) × ShowsRefusal (IsRefused t.operation t.bytes) e × IsReasonLine t e line × (lines ≡ line ++ more))
     ⊎ ((r : Reading) × Reads t.operation t.bytes r × (lines ≡ []))
 
--- what is told of texts, one after another
+-- the lines on texts, in order
 abbrev pub AreReportedOf : List Given → List ℕ → Type 0
 AreReportedOf [] lines = lines ≡ []
 AreReportedOf (t ∷ texts) lines = (one : List ℕ) × (rest : List ℕ) × IsReportedOf t one × AreReportedOf texts rest × (lines ≡ one ++ rest)
 
--- the messages are those, but for JSON, where the refusals are among the results
+-- the messages are the lines on the texts; in JSON, where refusals are results, there are none
 abbrev pub AreRefusals : Form → List Given → List ℕ → Type 0
 AreRefusals form.Json texts messages = messages ≡ []
 AreRefusals _ texts messages = AreReportedOf texts messages

@@ -1,4 +1,4 @@
--- What a text is, in the words of the library.
+-- Whether a text is a spec or refused, in the terms of the library.
 use Rattle.std.specs.Prelude.{◌≡◌, ◌⊎◌, ℕ, Bool, true, List, [], ◌∷◌, map, MatchBool, ⊤}
 use Rattle.std.specs.List.{AllZip}
 use Rattle.gix_refspec_text.specs.declared.parsing.Error.{Error}
@@ -15,29 +15,29 @@ use Rattle.refspec_commands.specs.declared.texts.Text.{Text}
 use Rattle.refspec_commands.specs.Json.{AddsObjects, IsRefusedLine}
 use Rattle.refspec_commands.specs.Texts.{Given, given_of, said}
 
--- a text was read as a spec for its operation, or the first reason against it was found
+-- the text was read as a spec for its operation, or refused for the first reason against it
 abbrev pub IsChecked : Text → Checked → Type 0
 IsChecked t (checked.Good text spec) = (text ≡ t) × Reads t.operation t.bytes.now (reading_of spec)
 IsChecked t (checked.Bad text error) = (text ≡ t) × ShowsRefusal (IsRefused t.operation t.bytes.now) error
 
--- what was checked is a spec, read as this
+-- the checked text is a spec with this reading
 abbrev pub IsSpec : Checked → Reading → Type 0
 IsSpec (checked.Good text spec) r = r ≡ reading_of spec
 IsSpec (checked.Bad text error) r = ⊥
 
--- something that was checked is no spec
+-- some checked text is refused
 abbrev pub HasBad : List Checked → Type 0
 HasBad [] = ⊥
 HasBad (checked.Good text spec ∷ all) = HasBad all
 HasBad (checked.Bad text error ∷ all) = ⊤
 
--- all that was checked are specs
+-- all checked texts are specs
 abbrev pub AreGood : List Checked → Type 0
 AreGood [] = ⊤
 AreGood (checked.Good text spec ∷ all) = AreGood all
 AreGood (checked.Bad text error ∷ all) = ⊥
 
--- the texts are read as these, in order
+-- the texts have these readings, in order
 abbrev pub AreRead : List (Operation × List ℕ) → List Reading → Type 0
 AreRead texts g = AllZip (λ t r. Reads t.0 t.1 r) texts g
 
@@ -47,10 +47,10 @@ HasRefused [] = ⊥
 HasRefused (t ∷ texts) = ((e : Refusal) × IsRefused t.0 t.1 e) ⊎ HasRefused texts
 
 -- whether some text is refused, or all are read
-abbrev pub ReportsRefused : Bool → List (Operation × List ℕ) → Type 0
-ReportsRefused refused texts = MatchBool refused (HasRefused texts) ((g : List Reading) × AreRead texts g)
+abbrev pub DecidesRefused : Bool → List (Operation × List ℕ) → Type 0
+DecidesRefused refused texts = MatchBool refused (HasRefused texts) ((g : List Reading) × AreRead texts g)
 
--- the line of the object of a text, which is refused
+-- the object of a refused text, as a line
 pub record IsRefusal (t : Given) (line : List ℕ) : Type 0 where
   pub text : Text
   pub error : Error
@@ -58,23 +58,23 @@ pub record IsRefusal (t : Given) (line : List ℕ) : Type 0 where
   pub refused : ShowsRefusal (IsRefused t.operation t.bytes) error
   pub is : IsRefusedLine text error line
 
--- what is told of a text: that line, if it is refused
+-- the report on a text: that line if it is refused, else nothing
 abbrev pub IsReadOrRefusal : Given → List ℕ → Type 0
 IsReadOrRefusal t line = (((r : Reading) × Reads t.operation t.bytes r) × (line ≡ [])) ⊎ IsRefusal t line
 
--- the same of a text that was checked
+-- the same for a checked text
 abbrev pub IsRefusalOf : Checked → List ℕ → Type 0
 IsRefusalOf (checked.Good text spec) line = line ≡ []
 IsRefusalOf (checked.Bad text error) line = IsRefusedLine text error line
 
--- the results grew by what is told of specs that are read so; where some text is refused, they stayed as they were, but for the
--- objects of JSON, and of the refusals is told
+-- all texts are specs, and the results grew by what Adds says of their readings; or some text is refused, the results
+-- grew in JSON by the refusals and else stayed as they were, and Refuses holds
 abbrev pub AddsIfRead : (List Reading → List ℕ → List ℕ → Type 0) → Type 0 → Form → Bool → List Given → List ℕ → List ℕ → Type 0
 AddsIfRead Adds Refuses form refused texts old new =
     ((g : List Reading) × AreRead (map said texts) g × Adds g old new)
     ⊎ (HasRefused (map said texts) × AddsObjects form IsReadOrRefusal texts old new × (refused ≡ true) × Refuses)
 
--- the same of texts that were checked
+-- the same for checked texts
 abbrev pub AddsIfGood : (List Reading → List ℕ → List ℕ → Type 0) → Type 0 → Form → Bool → List Checked → List ℕ → List ℕ → Type 0
 AddsIfGood Adds Refuses form refused all old new =
     ((g : List Reading) × AllZip IsSpec all g × Adds g old new)

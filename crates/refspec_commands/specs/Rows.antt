@@ -1,4 +1,4 @@
--- How mappings are written: in lines, ended by zero bytes, and as objects of JSON. This project's own rule.
+-- How mappings are written: as aligned lines, fields ended by zero bytes, or JSON objects. This project's own rule.
 use Rattle.std.specs.Prelude.{◌≡◌, ℕ, List, [], ◌∷◌, ◌++◌, Some, map, option_map, unwrap_or, replicate, codes}
 use Rattle.std.specs.List.{AllZip, flat_map, slice_get}
 use Rattle.gix_refspec.specs.Matching.Mappings.{Source, name, id, Mapped}
@@ -17,7 +17,7 @@ use Rattle.refspec_commands.specs.Shown.{IsQuoted, KeepsResults, zero_ended}
 abbrev pub AreSpecTexts : List Reading → List (List ℕ) → Type 0
 AreSpecTexts g texts = AllZip (λ r text. printed r ≡ Some text) g texts
 
--- a name, or an id in lower case
+-- a name, or an id in lower-case hex
 abbrev pub source_text : Source → List ℕ
 source_text (name n) = n
 source_text (id i) = lower_of i
@@ -28,21 +28,21 @@ pub record Row : Type 0 where
   pub second : List ℕ
   pub spec : List ℕ
 
--- of a source and a destination the one that is shown first
+-- the side that is shown first
 abbrev pub first_of : Columns → List ℕ → List ℕ → List ℕ
 first_of columns.SourceFirst source destination = source
 first_of columns.DestinationFirst source destination = destination
 
--- and the other
+-- the side that is shown second
 abbrev pub second_of : Columns → List ℕ → List ℕ → List ℕ
 second_of columns.SourceFirst source destination = destination
 second_of columns.DestinationFirst source destination = source
 
--- the side of a mapping that is shown first, with something in place of a destination that isn't there
+-- the side of a mapping that is shown first; missing stands for a missing destination
 abbrev pub first_side : List ℕ → Columns → Mapped → List ℕ
 first_side missing order m = first_of order (source_text m.source) (unwrap_or m.destination missing)
 
--- and the other
+-- the side that is shown second
 abbrev pub second_side : List ℕ → Columns → Mapped → List ℕ
 second_side missing order m = second_of order (source_text m.source) (unwrap_or m.destination missing)
 
@@ -50,11 +50,11 @@ second_side missing order m = second_of order (source_text m.source) (unwrap_or 
 abbrev pub mapped_row : List ℕ → Columns → List ℕ → Mapped → Row
 mapped_row missing order text m = record { first = first_side missing order m; second = second_side missing order m; spec = text }
 
--- the same, where the texts of all specs are given
+-- the same, given the texts of all specs
 abbrev pub row_of : List ℕ → Columns → List (List ℕ) → Mapped → Row
 row_of missing order texts m = mapped_row missing order (unwrap_or (slice_get texts m.spec) []) m
 
--- what people see of a field, and two spaces or more
+-- a field as shown, and two or more spaces
 abbrev pub IsCell : List ℕ → List ℕ → Type 0
 IsCell field cell = (shown : List ℕ) × (more : ℕ) × IsQuoted field shown × (cell ≡ shown ++ (32 ∷ 32 ∷ replicate more 32))
 
@@ -62,7 +62,7 @@ IsCell field cell = (shown : List ℕ) × (more : ℕ) × IsQuoted field shown �
 abbrev pub WritesCell : List ℕ → List ℕ → List ℕ → Type 0
 WritesCell field old new = (cell : List ℕ) × IsCell field cell × (new ≡ old ++ cell)
 
--- a line: two cells, and what people see of the last field
+-- a line: two cells, and the last field as shown
 pub record IsLine (r : Row) (line : List ℕ) : Type 0 where
   pub first : List ℕ
   pub second : List ℕ
@@ -93,22 +93,22 @@ fields r = (zero_ended r.first ++ zero_ended r.second) ++ zero_ended r.spec
 abbrev pub AddsLines : List Row → List ℕ → List ℕ → Type 0
 AddsLines rows old new = (lines : List ℕ) × AreRowLines rows lines × (new ≡ old ++ lines)
 
--- the line of the object of a mapping, with the text of its spec
+-- the object of a mapping, as a line, with the text of its spec
 abbrev pub mapped_object : List ℕ → Mapped → List ℕ
 mapped_object text m = line_of (mapping_object (json_text (source_text m.source)) (option_map json_text m.destination) (json_text text))
 
--- the same, where the texts of all specs are given
+-- the same, given the texts of all specs
 abbrev pub object_of : List (List ℕ) → Mapped → List ℕ
 object_of texts m = mapped_object (unwrap_or (slice_get texts m.spec) []) m
 
--- the results grew by mappings, in order: where one has no destination, a line has `FETCH_HEAD`, a record an empty field, and
--- an object null
+-- the results grew by mappings, in order; a missing destination is `FETCH_HEAD` in a line, an empty field in a record,
+-- and null in an object
 abbrev pub AddsMappings : Form → Columns → List (List ℕ) → List Mapped → List ℕ → List ℕ → Type 0
 AddsMappings form.Lines order texts mappings old new = AddsLines (map (row_of (codes "FETCH_HEAD") order texts) mappings) old new
 AddsMappings form.Zeros order texts mappings old new = new ≡ old ++ flat_map fields (map (row_of [] order texts) mappings)
 AddsMappings form.Json order texts mappings old new = new ≡ old ++ flat_map (object_of texts) mappings
 
--- so they did, after and before messages, which JSON has among its results
+-- the results grew by mappings; in JSON there may be messages before and after them
 pub record AddsMappingsAmong (form : Form) (order : Columns) (texts : List (List ℕ)) (mappings : List Mapped) (old new : List ℕ) : Type 0 where
   pub first : List ℕ
   pub last : List ℕ

@@ -9,7 +9,7 @@ use Rattle.refspec_commands.specs.Input.{ReadsToEnd}
 abbrev pub ReadsWhole : Bool → Option (List ℕ) → Option (List ℕ) → Type 0
 ReadsWhole reads old new = reads ≡ true → (input : List ℕ) × ReadsToEnd old new input
 
--- what was written before a fault: nothing, but where a writer failed
+-- before a fault nothing was written, unless a writer failed
 abbrev pub Leaves : Option (List ℕ) → Option (List ℕ) → Fault → Type 0
 Leaves old new fault.Write = ⊤
 Leaves old new _ = Keeps old new

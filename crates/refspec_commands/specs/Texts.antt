@@ -1,6 +1,6 @@
--- The texts that a call is about, and where each is found. This project's own rule: those among its words, those of the
--- file beside the input, and, but for a plan, those of the input, a text a record, or those that are refspecs among settings.
--- Words and records are counted from 1.
+-- The texts of specs of a call, and their locations. This project's own rule: those among its arguments, those of the
+-- file of specs, and, except for a plan, those of the input. A file or an input has one text per record, or, if its
+-- records are settings, the refspecs among these. Arguments and records are counted from 1.
 use Rattle.std.specs.Prelude.{◌≡◌, ◌⊎◌, ℕ, ◌+◌, List, [], ◌∷◌, ◌++◌, map, MatchOption}
 use Rattle.gix_refspec_text.specs.declared.parsing.Operation.{Operation}
 use Rattle.refspec_commands.specs.declared.call.Call.{Call}
@@ -15,19 +15,19 @@ use Rattle.refspec_commands.specs.declared.settings.Setting.{Setting}
 use Rattle.refspec_commands.specs.Input.{AreRecords}
 use Rattle.refspec_commands.specs.Settings.{AreSettings, HoldsSpecs}
 
--- where a text is found: the word of the call with a number, the record of an input with a number, or a setting of a file
+-- a location: the spec with a number among the arguments, the record with a number of an input, or a setting of a file
 pub data Spot : Type 0 where
-  at_word : ℕ → Spot
+  at_argument : ℕ → Spot
   at_record : (input : List ℕ) → ℕ → Spot
   at_setting : (file key : List ℕ) → Spot
 
--- the place, with the bytes of its names
+-- a `Location` with its names as bytes
 abbrev pub spot_of : Location → Spot
-spot_of (location.Word number) = at_word number
+spot_of (location.Argument number) = at_argument number
 spot_of (location.Record input number) = at_record input.now number
 spot_of (location.Setting origin key) = at_setting origin.now key.now
 
--- a text: where it is found, the operation that it is read for, and its bytes
+-- a text: its location, the operation that it is read for, and its bytes
 pub record Given : Type 0 where
   pub spot : Spot
   pub operation : Operation
@@ -40,24 +40,24 @@ given_of t = record { spot = spot_of t.location; operation = t.operation; bytes 
 abbrev pub said : Given → Operation × List ℕ
 said t = (t.operation, t.bytes)
 
--- the word with a number, and the record of an input with a number, each a text
-abbrev pub word_at : Operation → ℕ → List ℕ → Given
-word_at op number bytes = record { spot = at_word number; operation = op; bytes = bytes }
+-- the text of the argument with a number, and of the record of an input with a number
+abbrev pub argument_at : Operation → ℕ → List ℕ → Given
+argument_at op number bytes = record { spot = at_argument number; operation = op; bytes = bytes }
 
 abbrev pub record_at : List ℕ → Operation → ℕ → List ℕ → Given
 record_at input op number bytes = record { spot = at_record input number; operation = op; bytes = bytes }
 
--- what bytes give, one after another, each with its number, the first of which is k
+-- the texts that give makes of elements and their numbers, counted from k
 abbrev pub numbered : (ℕ → List ℕ → Given) → ℕ → List (List ℕ) → List Given
 numbered give k [] = []
 numbered give k (bytes ∷ all) = give k bytes ∷ numbered give (k + 1) all
 
--- the texts grew by the records of an input with the name
+-- the texts grew by the records of the input with this name
 abbrev pub AddsRecords : ℕ → Operation → List ℕ → List ℕ → List Given → List Given → Type 0
 AddsRecords end op name input old new =
     (records : List (List ℕ)) × AreRecords end records input × (new ≡ old ++ numbered (record_at name op) 1 records)
 
--- the text is the refspec that a setting has
+-- the text is the refspec of a setting: its key is one of refspecs, and its value the text
 pub record IsValue (s : Setting) (t : Given) : Type 0 where
   pub holds : HoldsSpecs s.key.now t.operation
   pub at : t.spot ≡ at_setting s.origin.now s.key.now
@@ -74,27 +74,27 @@ AreValues (s ∷ settings) texts =
 abbrev pub AddsValues : List Setting → List Given → List Given → Type 0
 AddsValues settings old new = (values : List Given) × AreValues settings values × (new ≡ old ++ values)
 
--- the texts grew by those of an input whose records end so
+-- the texts grew by those of an input, given what ends its records
 abbrev pub AddsTexts : Terminator → Operation → List ℕ → List ℕ → List Given → List Given → Type 0
 AddsTexts ends.Newline op name input old new = AddsRecords 10 op name input old new
 AddsTexts ends.Zero op name input old new = AddsRecords 0 op name input old new
 AddsTexts ends.Settings op name input old new = (settings : List Setting) × AreSettings input settings × AddsValues settings old new
 
--- the texts grew by those of both inputs of a call
+-- the texts grew by those of the file of specs and of the input
 abbrev pub AddsInputs : Call → List ℕ → List ℕ → List Given → List Given → Type 0
 AddsInputs call beside input old new =
     (front : List Given) × AddsTexts call.ends call.operation call.beside.now beside old front
     × AddsTexts call.ends call.operation call.input.now input front new
 
--- what a command reads of its input as specs
+-- the part of its input that a command reads as specs: nothing for a plan
 abbrev pub spec_input : Command → List ℕ → List ℕ
 spec_input command.Plan input = []
 spec_input _ input = input
 
--- the words of a call, each a text
+-- the specs among the arguments of a call, each a text
 abbrev pub words_of : Call → List Given
-words_of call = numbered (word_at call.operation) 1 (map (λ w. w.now) call.specs.items)
+words_of call = numbered (argument_at call.operation) 1 (map (λ w. w.now) call.specs.items)
 
--- the texts of a call: its words, those of the file beside the input, and those of what it reads of the input as specs
+-- the texts of a call: those among its arguments, of the file of specs, and of the part of the input read as specs
 abbrev pub AreTexts : Call → List ℕ → List ℕ → List Given → Type 0
 AreTexts call beside input texts = AddsInputs call beside (spec_input call.command input) (words_of call) texts

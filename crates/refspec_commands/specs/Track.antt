@@ -1,4 +1,4 @@
--- What `track` writes, in the words of the library.
+-- The output of `track`, in the terms of the library.
 use Rattle.std.specs.Prelude.{◌≡◌, ◌≢◌, ◌↔◌, ◌⊎◌, ℕ, Bool, List, [], ◌∷◌, map, replicate, None, Some, IsTrue, MatchBool, ⊤}
 use Rattle.std.specs.Borrow.{Bor}
 use Rattle.std.specs.BTreeSet.{BTreeSet, contains_by}
@@ -13,38 +13,38 @@ use Rattle.refspec_commands.specs.declared.call.Form.{Form}
 use Rattle.refspec_commands.specs.declared.mappings.Columns.TheVariants as columns
 use Rattle.refspec_commands.specs.Rows.{AddsMappingsAmong, AreSpecTexts}
 
--- a ref of which the name alone is given: it points to the id of zeros, which is that of no object
+-- a ref of which only the name is known: it points to the null id
 abbrev pub named : List ℕ → Ref
 named n = record { name = n; target = replicate 20 0; object = None }
 
--- the specs that refs can be looked up by, in order: those whose destination is no object id
+-- the specs by which refs can be looked up, in order: those whose destination is not an object id
 abbrev pub AreByNames : List Reading → List Reading → Type 0
 AreByNames [] kept = kept ≡ []
 AreByNames (r ∷ g) kept =
     (HasIdDestination r × AreByNames g kept)
     ⊎ ((¬ (HasIdDestination r)) × ((rest : List Reading) × AreByNames g rest × (kept ≡ r ∷ rest)))
 
--- some mapping writes the ref with the name
+-- some mapping writes the ref with this name
 abbrev pub IsWritten : List ℕ → List Mapped → Type 0
 IsWritten name [] = ⊥
 IsWritten name (m ∷ found) = (m.destination ≡ Some name) ⊎ IsWritten name found
 
--- the set has exactly the names of the refs that mappings write
+-- the set contains exactly the names of the refs that mappings write
 abbrev pub AreWritten : BTreeSet (Bor (List ℕ)) → List Mapped → Type 0
 AreWritten set found = (name : List ℕ) → IsTrue (contains_by (λ n. slice_cmp nat_cmp name n.now) set) ↔ IsWritten name found
 
--- each of the names is that of a ref that some mapping writes
+-- some mapping writes each of these refs
 abbrev pub IsEachWritten : List (List ℕ) → List Mapped → Type 0
 IsEachWritten [] found = ⊤
 IsEachWritten (name ∷ names) found = IsWritten name found × IsEachWritten names found
 
--- some name isn't
+-- some of these refs is not written by any mapping
 abbrev pub HasUnwritten : List (List ℕ) → List Mapped → Type 0
 HasUnwritten [] found = ⊥
 HasUnwritten (name ∷ names) found = (¬ (IsWritten name found)) ⊎ HasUnwritten names found
 
--- the results grew by the mappings from right to left of refs with these names by these specs, the destination first;
--- something is refused where a spec can't look a ref up by its name, or no spec writes a ref
+-- the results grew by the mappings by which these specs map refs with these names back to sources, the destination
+-- first; something is refused if the destination of a spec is an object id, or no spec writes a ref
 pub record AddsTracked (form : Form) (names : List (List ℕ)) (refused : Bool) (g : List Reading) (old new : List ℕ) : Type 0 where
   pub by_names : List Reading
   pub found : List Mapped

@@ -15,7 +15,7 @@ pub enum Side {
 }
 
 impl Side {
-    /// What the side is called.
+    /// The name of the side.
     pub fn as_str(self) -> &'static str {
         match self {
             Side::Source => "source",
@@ -29,11 +29,11 @@ impl Side {
 pub struct Blame<'a> {
     pub side: Side,
     pub part: &'a [u8],
-    /// Where the bytes begin in the text, counted from 1.
+    /// The index of the first of these bytes in the text, counted from 1.
     pub at: usize,
 }
 
-// A side within a text, after so many bytes.
+// A side of a text, and the number of bytes before it.
 #[derive(Clone, Copy)]
 struct Part<'a> {
     side: Side,
@@ -42,7 +42,7 @@ struct Part<'a> {
 }
 
 impl<'a> Part<'a> {
-    // Some bytes of the side, from a place on.
+    // At most `len` bytes of the side, from the index `at` on.
     fn blame(&self, at: usize, len: usize) -> Blame<'a> {
         let from = at.min(self.bytes.len());
         let (_, back) = self.bytes.split_at(from);
@@ -55,7 +55,7 @@ impl<'a> Part<'a> {
     }
 }
 
-/// The part of a text that is wrong, where its reason speaks of one.
+/// The part of a refused text that is wrong, if the reason concerns one. It borrows the text.
 pub fn blame_of<'a>(
     alloc: Global,
     text: &Text<'a>,
@@ -70,13 +70,13 @@ pub fn blame_of<'a>(
     }
 }
 
-// The part of a side that a fault of its name speaks of.
+// The bytes of a side at which its name has the fault.
 fn blame_of_name<'a>(part: Part<'a>, fault: name::Error) -> Option<Blame<'a>> {
-    let (at, len) = location_of(part.bytes, fault)?;
+    let (at, len) = fault_span(part.bytes, fault)?;
     Some(part.blame(at, len))
 }
 
-// The part of a text that a reason speaks of which no name is to blame for.
+// The part that is wrong, for a reason other than an invalid name.
 fn blame_of_sides<'a>(text: &'a [u8], error: &Error) -> Option<Blame<'a>> {
     let (source, destination) = parts_of(text);
     match error {
@@ -90,7 +90,7 @@ fn blame_of_sides<'a>(text: &'a [u8], error: &Error) -> Option<Blame<'a>> {
     }
 }
 
-// The source of a text, and its destination where it has a colon.
+// The source of a text, after its sign, and its destination if the text has a colon. The last colon counts.
 fn parts_of(text: &[u8]) -> (Part<'_>, Option<Part<'_>>) {
     let (signs, rest) = match text {
         [b'^' | b'+', rest @ ..] => (1usize, rest),
@@ -113,7 +113,7 @@ fn parts_of(text: &[u8]) -> (Part<'_>, Option<Part<'_>>) {
     (source(front), Some(destination))
 }
 
-// The first side that is neither a name nor a pattern. The source of a push to a destination may be any
+// The first side that is neither a name nor a pattern. The source of a push with a destination may be any
 // expression without a star.
 fn part_with_fault<'a>(alloc: Global, text: &Text<'a>) -> Result<Option<Part<'a>>, AllocError> {
     let (source, destination) = parts_of(text.bytes);
@@ -142,8 +142,8 @@ fn has_fault(alloc: Global, side: &[u8]) -> Result<bool, AllocError> {
     }
 }
 
-// Where in a side the bytes are that a fault speaks of, and how many they are.
-fn location_of(side: &[u8], fault: name::Error) -> Option<(usize, usize)> {
+// The index and the number of the bytes at which a side has a fault. `None` for an empty side.
+fn fault_span(side: &[u8], fault: name::Error) -> Option<(usize, usize)> {
     match fault {
         name::Error::Empty => None,
         name::Error::RepeatedDot => Some((side.find(b"..")?, 2)),
@@ -157,7 +157,7 @@ fn location_of(side: &[u8], fault: name::Error) -> Option<(usize, usize)> {
     }
 }
 
-// Where a slash begins or ends an empty component.
+// The index and the number of the slashes around an empty component.
 fn empty_component(side: &[u8]) -> (usize, usize) {
     if side.starts_with(b"/") {
         return (0, 1);
@@ -168,7 +168,7 @@ fn empty_component(side: &[u8]) -> (usize, usize) {
     }
 }
 
-// Where a component begins with a dot.
+// The index of a component's leading dot, or of the slash before it, and the number of bytes.
 fn starting_dot(side: &[u8]) -> (usize, usize) {
     match side.find(b"/.") {
         Some(at) if !side.starts_with(b".") => (at, 2),
@@ -176,7 +176,7 @@ fn starting_dot(side: &[u8]) -> (usize, usize) {
     }
 }
 
-// Where a component ends with `.lock`.
+// The index and the length of a `.lock` at the end of a component.
 fn lock_suffix(side: &[u8]) -> (usize, usize) {
     match side.find(b".lock/") {
         Some(at) => (at, 5),
@@ -184,7 +184,7 @@ fn lock_suffix(side: &[u8]) -> (usize, usize) {
     }
 }
 
-// What is blamed, unless it has no bytes.
+// `None` for a part without bytes.
 fn non_empty(blame: Blame<'_>) -> Option<Blame<'_>> {
     if blame.part.is_empty() {
         return None;
@@ -206,7 +206,7 @@ fn first_star(part: Part<'_>) -> Option<Blame<'_>> {
     Some(part.blame(first, 1))
 }
 
-/// What to do about a refused text, or nothing where the reason says it.
+/// What to do about a refused text, or an empty text if the reason says it.
 pub fn advice_for(
     alloc: Global,
     text: &Text<'_>,
@@ -220,7 +220,7 @@ pub fn advice_for(
     Ok(advice_for_one(text, error))
 }
 
-// What to do about a text that is to be one spec.
+// What to do about a text that isn't several specs.
 fn advice_for_one(text: &Text<'_>, error: &Error) -> &'static str {
     match error {
         Error::Empty => "To push all matching branches, write `:`.",
@@ -239,7 +239,7 @@ fn advice_for_one(text: &Text<'_>, error: &Error) -> &'static str {
     }
 }
 
-// What to do about a pattern on one side alone.
+// What to do about a pattern on only one side.
 fn advice_for_pattern(text: &Text<'_>) -> &'static str {
     match parts_of(text.bytes) {
         (Part { bytes: b"", .. }, _) if text.operation == Operation::Push => {
@@ -254,7 +254,7 @@ fn advice_for_pattern(text: &Text<'_>) -> &'static str {
     }
 }
 
-// What to do about a pattern without a destination: which one is usual, with the sign that the spec has.
+// What to do about a pattern without a destination: an example of the usual one, forced if the spec is.
 fn advice_for_source(source: &[u8], is_forced: bool) -> &'static str {
     match (source.starts_with(b"refs/tags/"), is_forced) {
         (false, false) => {
@@ -272,8 +272,9 @@ fn advice_for_source(source: &[u8], is_forced: bool) -> &'static str {
     }
 }
 
-// Whether a text is several specs with spaces between them, each with a colon or a star, or negative: other words may be
-// meant as parts of a name. None begins or ends with a colon, as a space may only have been put beside one.
+// Whether a text is several specs separated by white space. Each must contain a colon or a star, or be negative:
+// otherwise the text may be a name with spaces. None begins or ends with a colon: otherwise it may be one spec
+// with a space beside its colon.
 fn are_specs(alloc: Global, text: &Text<'_>) -> Result<bool, AllocError> {
     let mut count: usize = 0;
     for part in text.bytes.fields() {
@@ -287,7 +288,6 @@ fn are_specs(alloc: Global, text: &Text<'_>) -> Result<bool, AllocError> {
     Ok(count > 1)
 }
 
-// Whether a text is a spec.
 fn is_spec(alloc: Global, text: &[u8], operation: Operation) -> Result<bool, AllocError> {
     match parse(alloc, BStr::new(text), operation) {
         Ok(_) => Ok(true),
@@ -296,7 +296,7 @@ fn is_spec(alloc: Global, text: &[u8], operation: Operation) -> Result<bool, All
     }
 }
 
-// What to do about a bad name.
+// What to do about an invalid name.
 fn advice_for_name(text: &[u8], fault: name::Error) -> &'static str {
     match fault {
         name::Error::InvalidByte { byte: b' ' } if text.starts_with(b"tag ") => {
@@ -337,26 +337,26 @@ fn advice_for_name(text: &[u8], fault: name::Error) -> &'static str {
     }
 }
 
-// Whether a component of a side is `..`, as in a path.
+// Whether a side has a component `..`, as a path may.
 fn has_parent(text: &[u8]) -> bool {
     sides_of(text).iter().any(|side| side.starts_with(b"../")
         || side.find(b"/../").is_some()
         || side.ends_with(b"/.."))
 }
 
-// Whether a side of a spec begins with a byte.
+// Whether some side of a spec begins with a byte.
 fn begins(text: &[u8], byte: u8) -> bool {
     sides_of(text)
         .iter()
         .any(|side| side.first() == Some(&byte))
 }
 
-// Whether a side of a spec begins or ends with a byte.
+// Whether some side of a spec begins or ends with a byte.
 fn begins_or_ends(text: &[u8], byte: u8) -> bool {
     begins(text, byte) || sides_of(text).iter().any(|side| side.last() == Some(&byte))
 }
 
-// Both sides of a spec. One that is missing is empty.
+// The source and the destination of a spec. A missing destination is empty.
 fn sides_of(text: &[u8]) -> [&[u8]; 2] {
     let (source, destination) = parts_of(text);
     [

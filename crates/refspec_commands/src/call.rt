@@ -1,30 +1,30 @@
-//! What a call of the program asks for.
+//! A call of the program: its command, options and arguments.
 
 use gix_refspec::parsing::Operation;
 
-/// What the program does.
+/// A command of the program.
 #[derive(Clone, Copy, Debug, PartialEq, Eq)]
 pub enum Command {
-    /// Tells which specs are refused, and why.
+    /// Reports which specs are refused, and why.
     Check,
     /// Says in a sentence what each spec does.
     Explain,
     /// Prints the canonical text of each spec.
     Canon,
-    /// Tells what a fetch writes of the refs of a remote.
+    /// Shows which refs a fetch writes, given the refs of a remote.
     Plan,
-    /// Tells which refs of a remote tracking refs belong to.
+    /// Shows the remote refs that tracking refs are fetched from.
     Track,
-    /// Lists what to ask a server for.
+    /// Lists the ref prefixes to request from a server.
     Prefixes,
 }
 
 /// How results are written.
 #[derive(Clone, Copy, Debug, PartialEq, Eq)]
 pub enum Form {
-    /// Lines for people, with names quoted where they have to be.
+    /// Lines for people, with names quoted if needed.
     Lines,
-    /// Fields that end with a zero byte, each as it is.
+    /// Raw fields, each ended by a zero byte.
     Zeros,
     /// One JSON object a line, refusals too.
     Json,
@@ -37,12 +37,12 @@ pub enum Terminator {
     Newline,
     /// A zero byte.
     Zero,
-    /// A zero byte, and two records a setting: its file, and its key, a newline and its value, as
+    /// A zero byte, with two records per setting: its origin, and its key, a newline and its value, as
     /// `git config --show-origin -z --get-regexp` prints them.
     Settings,
 }
 
-/// A call.
+/// A call of the program, from its arguments.
 #[derive(Debug, Drop)]
 pub struct Call<'a> {
     pub command: Command,
@@ -53,30 +53,30 @@ pub struct Call<'a> {
     pub verbose: bool,
     /// Prefixes are shown as patterns.
     pub patterns: bool,
-    /// Each mapping of a plan is shown with its spec, and not below it.
+    /// Each mapping of a plan is shown in one line with its spec, rather than below it.
     pub long: bool,
-    /// Each conflict, and each mapping that is left out, is told, and not only the first ones.
+    /// All conflicts and all left out mappings are reported, rather than only the first 20 of each.
     pub all: bool,
     /// Messages go to a terminal.
     pub is_watched: bool,
-    /// The specs among the words.
+    /// The specs among the arguments.
     pub specs: Vec<&'a str>,
-    /// The tracking refs among the words.
+    /// The tracking refs among the arguments.
     pub refs: Vec<&'a str>,
-    /// Whether the input is read: a plan has its refs there, and other calls their specs, unless those are
-    /// all among the words.
+    /// Whether the input is read: a plan reads its refs there, and other calls their specs, unless those are
+    /// all among the arguments.
     pub reads_input: bool,
-    /// What the input is called in messages.
+    /// The name of the input in messages.
     pub input: &'a str,
-    /// What the file of specs beside the input is called.
+    /// The name in messages of the file of specs that is read beside the input.
     pub beside: &'a str,
 }
 
 /// A call, and the input that it reads.
 #[derive(Clone, Copy, Debug)]
 pub struct Task<'a> {
-    /// What is asked for.
+    /// The call.
     pub call: &'a Call<'a>,
-    /// What it reads; empty if it reads none.
+    /// The bytes that it reads; empty if it reads no input.
     pub input: &'a [u8],
 }

@@ -9,14 +9,18 @@ ghost use Rattle.refspec_commands.specs.Messages.{ReportsRefusals};
 use crate::call::Form;
 use crate::checked::Checked;
 use crate::report::Report;
-use crate::specs::write_reported;
+use crate::specs::write_spec;
 use crate::texts::Text;
 use gix_refspec::RefSpecRef;
 use refspec_json::SpecKind;
 use std::alloc::{AllocError, Global};
 
-/// Tells the canonical text of each text that is a spec, and refuses the others.
-pub fn report_canon(alloc: Global, all: &[Checked<'_>], report: &mut Report) -> Result<(), AllocError>
+/// Reports the canonical text of each spec, and each refusal, in order.
+pub fn report_canon(
+    alloc: Global,
+    all: &[Checked<'_>],
+    report: &mut Report,
+) -> Result<(), AllocError>
     ensures reported { OnOk result (AddsCanonical report.old.form all.now
         report.old.results.items report.new.results.items) }
     ensures refused { OnOk result (ReportsRefusals report.old.form all.now
@@ -28,8 +32,12 @@ pub fn report_canon(alloc: Global, all: &[Checked<'_>], report: &mut Report) -> 
     Ok(())
 }
 
-// Tells the canonical text of a text, or refuses it.
-fn report_checked(alloc: Global, checked: &Checked<'_>, report: &mut Report) -> Result<(), AllocError>
+// Reports the canonical text of a checked text, or its refusal.
+fn report_checked(
+    alloc: Global,
+    checked: &Checked<'_>,
+    report: &mut Report,
+) -> Result<(), AllocError>
     ensures form { OnOk result (report.new.form ≡ report.old.form) }
     ensures reported { OnOk result (AddsCanonical report.old.form (checked.now ∷ [])
         report.old.results.items report.new.results.items) }
@@ -42,7 +50,7 @@ fn report_checked(alloc: Global, checked: &Checked<'_>, report: &mut Report) -> 
     }
 }
 
-// Tells the canonical text of a spec.
+// Reports the canonical text of a spec.
 fn report_canonical(
     alloc: Global,
     text: &Text<'_>,
@@ -50,14 +58,14 @@ fn report_canonical(
     report: &mut Report,
 ) -> Result<(), AllocError>
     ensures form { OnOk result (report.new.form ≡ report.old.form) }
-    ensures untold { OnOk result (report.new.messages ≡ report.old.messages) }
+    ensures no_message { OnOk result (report.new.messages ≡ report.old.messages) }
     ensures reported { OnOk result ((name : List ℕ) × (printed (reading_of spec.now) ≡ Some name)
         × AddsCanonicalName report.old.form text.now name
         report.old.results.items report.new.results.items) }
 {
     let canonical = spec.to_bstring(alloc)?;
     match report.form {
-        Form::Json => write_reported(
+        Form::Json => write_spec(
             alloc,
             SpecKind::Canonical,
             text,

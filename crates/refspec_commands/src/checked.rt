@@ -11,22 +11,22 @@ use gix_refspec::parsing::Error;
 use gix_refspec::{RefSpecRef, parse};
 use std::alloc::{AllocError, Global};
 
-/// What a text is.
+/// The result of parsing a text.
 #[derive(Debug, Drop)]
 pub enum Checked<'a> {
-    /// It is this spec.
+    /// The text is this spec.
     Good {
         text: Text<'a>,
         spec: RefSpecRef<'a>,
     },
-    /// It is none, for this reason, which is never `Error::Memory`.
+    /// The text is refused for this reason, which is never `Error::Memory`.
     Bad {
         text: Text<'a>,
         error: Error,
     },
 }
 
-/// What each text is, in order.
+/// Parses each text, in order. Fails only if memory runs out: a refused text is a `Bad` one.
 pub fn check_all<'a>(alloc: Global, texts: &[Text<'a>]) -> Result<Vec<Checked<'a>>, AllocError>
     ensures { IfOk result (λ all. AllZip IsChecked texts.now all.items) }
 {
@@ -37,7 +37,7 @@ pub fn check_all<'a>(alloc: Global, texts: &[Text<'a>]) -> Result<Vec<Checked<'a
     Ok(all)
 }
 
-// What a text is.
+// Parses a text. Running out of memory is an error here, and never a refusal.
 fn check(alloc: Global, text: Text<'_>) -> Result<Checked<'_>, AllocError>
     ensures { IfOk result (IsChecked text.entry) }
 {
@@ -64,7 +64,6 @@ pub fn has_bad(all: &[Checked<'_>]) -> bool
     false
 }
 
-// Whether a text is refused.
 fn is_bad(checked: &Checked<'_>) -> bool
     ensures { MatchBool result (HasBad (checked.now ∷ [])) (AreGood (checked.now ∷ [])) }
 {
@@ -74,7 +73,7 @@ fn is_bad(checked: &Checked<'_>) -> bool
     }
 }
 
-/// The specs among the checked texts, or none where some text is refused.
+/// The specs of the checked texts, in order, or `None` if some text is refused.
 pub fn all_good<'a>(
     alloc: Global,
     all: &[Checked<'a>],

@@ -15,7 +15,7 @@ pub enum Fault {
     Write,
     /// Memory ran out. Nothing was written.
     Memory,
-    /// The input is not what Git prints of settings. Nothing was written.
+    /// The input is not in the format in which Git prints settings. Nothing was written.
     Settings(NotSettings),
 }
 
@@ -35,7 +35,7 @@ pub enum NotSettings {
 }
 
 impl Fault {
-    /// The exit status of a run that ends so: 2 for an input of another format, else 3.
+    /// The exit status after this fault: 2 for an input in another format, else 3.
     pub fn status(self) -> u8
         ensures { result ≡ fault_status self }
     {
@@ -60,7 +60,7 @@ impl fmt::Display for Fault {
 impl error::Error for Fault {}
 
 impl NotSettings {
-    // What the input is, and the command that makes the right one.
+    // What the input is, and the Git command that prints the right format.
     fn explanation(self) -> &'static str {
         match self {
             NotSettings::ConfigurationFile => {

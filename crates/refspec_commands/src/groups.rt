@@ -1,4 +1,4 @@
-//! The mappings of a plan below their specs.
+//! The mappings of a plan, grouped below their specs.
 
 ghost use Rattle.std.specs.Prelude.{◌≡◌, ◌≢◌, Some, map, MatchBool, OnOk};
 ghost use Rattle.bstr.specs.Owned.{bstring_bytes};
@@ -6,15 +6,15 @@ ghost use Rattle.gix_refspec.specs.Views.Group.{mapped_of};
 ghost use Rattle.refspec_commands.specs.Groups.{AddsGrouped, AddsGroups, AddsShort, WritesHeading, WritesShort};
 
 use crate::mappings::{
-    Columns, NO_DESTINATION, destination_or, layout_of, write_source_cell, text_at,
+    Columns, NO_DESTINATION, destination_or, layout_of, text_at, write_source_cell,
 };
 use crate::table::Layout;
 use bstr::BString;
 use gix_refspec::match_group::Mapping;
 use std::alloc::{AllocError, Global};
 
-/// Puts mappings at the end, the source first, in order: those of a spec stand below its text. Where there is one spec
-/// alone, it isn't shown.
+/// Appends mappings, in order, the source first: those of a spec below its text. If there is only one spec, its
+/// text isn't shown.
 pub fn write_groups(
     alloc: Global,
     mappings: &[Mapping<'_, '_>],
@@ -32,7 +32,7 @@ pub fn write_groups(
     }
 }
 
-// Puts mappings at the end, each in a line.
+// Appends mappings, each in a line.
 fn write_rows(
     alloc: Global,
     layout: &Layout,
@@ -47,7 +47,7 @@ fn write_rows(
     Ok(())
 }
 
-// Puts mappings at the end, each in a line, and before the first one of each spec the line of its text.
+// Appends mappings, each in a line, and the text of a spec in a line wherever the spec changes.
 fn write_grouped(
     alloc: Global,
     layout: &Layout,
@@ -70,7 +70,7 @@ fn write_grouped(
     Ok(())
 }
 
-// Whether the mapping before has the spec.
+// Whether the previous mapping has the spec with this index.
 fn has_spec(before: Option<usize>, spec: usize) -> bool
     ensures { MatchBool result (before ≡ Some spec) (before ≢ Some spec) }
 {
@@ -80,7 +80,7 @@ fn has_spec(before: Option<usize>, spec: usize) -> bool
     }
 }
 
-// Puts the line of a spec at the end.
+// Appends the text of a spec as a line.
 fn write_heading(layout: &Layout, text: &[u8], out: &mut Vec<u8>) -> Result<(), AllocError>
     ensures { OnOk result (WritesHeading text.now out.old.items out.new.items) }
 {
@@ -88,7 +88,7 @@ fn write_heading(layout: &Layout, text: &[u8], out: &mut Vec<u8>) -> Result<(), 
     Ok(out.push(b'\n')?)
 }
 
-// Puts the line of a mapping at the end, without its spec.
+// Appends a mapping as a line, without its spec.
 fn write_short(
     alloc: Global,
     layout: &Layout,

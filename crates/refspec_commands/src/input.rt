@@ -1,4 +1,4 @@
-//! The input, read whole, and cut into records.
+//! The input, read whole, and split into records.
 
 ghost use Rattle.std.specs.Prelude.{◌≡◌, IfOk, IfErr, map};
 ghost use Rattle.refspec_commands.specs.Fault.{IsReadOrMemory};
@@ -10,7 +10,7 @@ use bstr::ByteSlice;
 use std::alloc::{AllocError, Global};
 use std::io::{ErrorKind, Read};
 
-/// All that a reader has left. An interrupted read is repeated.
+/// Reads everything that the reader has left. An interrupted read is retried.
 pub fn read_input<R: Read>(alloc: Global, reader: &mut R) -> Result<Vec<u8>, Fault>
     ensures ok { IfOk result (λ input.
         ReadsToEnd (R.remaining reader.old) (R.remaining reader.new) input.items) }
@@ -26,7 +26,7 @@ pub fn read_input<R: Read>(alloc: Global, reader: &mut R) -> Result<Vec<u8>, Fau
     }
 }
 
-/// The records of an input, in order. Each ends with the byte, which the last may lack.
+/// The records of an input, in order, without the `end` byte that ends each. The last one may lack it.
 pub fn records(alloc: Global, input: &[u8], end: u8) -> Result<Vec<&[u8]>, AllocError>
     ensures { IfOk result (λ split. AreRecords end (map (λ r. r.now) split.items) input.now) }
 {
@@ -40,14 +40,14 @@ pub fn records(alloc: Global, input: &[u8], end: u8) -> Result<Vec<&[u8]>, Alloc
     Ok(records)
 }
 
-/// The first record of a text, and what follows its end.
+/// The first record of a text, and the bytes after its `end` byte.
 pub fn first_record(text: &[u8], end: u8) -> (&[u8], &[u8])
     ensures { IsFirstRecord end text.now result.0.now result.1.now }
 {
     match text.find_byte(end) {
         None => (text, b""),
-        Some(location) => {
-            let (record, back) = text.split_at(location);
+        Some(index) => {
+            let (record, back) = text.split_at(index);
             (record, &back[1..])
         }
     }

@@ -14,7 +14,7 @@ use crate::texts::{Location, Text};
 use gix_refspec::parsing::{Error, Operation};
 use std::alloc::{AllocError, Global};
 
-/// A text as a string of JSON: as it is where it is UTF-8 and doesn't begin with a quote, else in double
+/// A text for a JSON string: unchanged if it is UTF-8 and doesn't begin with a double quote, else in double
 /// quotes with escapes, as Git quotes paths.
 pub fn text_of(alloc: Global, bytes: &[u8]) -> Result<String, AllocError>
     ensures { IfOk result (λ text. string_bytes text ≡ json_text bytes.now) }
@@ -28,7 +28,7 @@ pub fn text_of(alloc: Global, bytes: &[u8]) -> Result<String, AllocError>
     }
 }
 
-/// The same of a text that may be missing.
+/// `text_of` for a text that may be missing.
 pub fn text_or_none(alloc: Global, bytes: Option<&[u8]>) -> Result<Option<String>, AllocError>
     ensures { IfOk result (λ text. option_map string_bytes text
         ≡ option_map json_text (option_map (λ b. b.now) bytes.entry)) }
@@ -39,7 +39,6 @@ pub fn text_or_none(alloc: Global, bytes: Option<&[u8]>) -> Result<Option<String
     }
 }
 
-// Whether bytes begin with a double quote.
 fn begins_with_quote(bytes: &[u8]) -> bool
     ensures { result ≡ begins_quoted bytes.now }
 {
@@ -58,7 +57,7 @@ fn quoted(alloc: Global, bytes: &[u8]) -> Result<String, AllocError>
     string_of(alloc, quoted.as_slice())
 }
 
-// A text that is UTF-8.
+// Copies bytes, which must be UTF-8, to a string.
 fn string_of(alloc: Global, bytes: &[u8]) -> Result<String, AllocError>
     requires { IsUtf8 bytes.now }
     ensures { IfOk result (λ text. string_bytes text ≡ bytes.now) }
@@ -69,7 +68,7 @@ fn string_of(alloc: Global, bytes: &[u8]) -> Result<String, AllocError>
     }
 }
 
-/// A place as a string of JSON.
+/// A location for a JSON string.
 pub fn shown_location(alloc: Global, location: &Location<'_>) -> Result<String, AllocError>
     ensures { IfOk result (λ shown. IsLocation form.Json location.now (string_bytes shown)) }
 {
@@ -78,7 +77,7 @@ pub fn shown_location(alloc: Global, location: &Location<'_>) -> Result<String, 
     string_of(alloc, shown.as_slice())
 }
 
-/// What an operation is called.
+/// The name of an operation, for the member `operation`.
 pub fn operation_of(operation: Operation) -> &'static str
     ensures { result.now ≡ operation_name operation }
 {
@@ -88,7 +87,7 @@ pub fn operation_of(operation: Operation) -> &'static str
     }
 }
 
-/// Puts the object of a refusal at the end.
+/// Appends the object of a refusal, as a line.
 pub fn write_refusal(
     alloc: Global,
     out: &mut Vec<u8>,

@@ -1,4 +1,4 @@
-//! Settings that are to have a refspec, and have no value.
+//! Settings with a key of refspecs and without a value.
 
 ghost use Rattle.std.specs.Prelude.{OnOk};
 ghost use Rattle.refspec_commands.specs.declared.call.Form.TheVariants as form;
@@ -12,7 +12,7 @@ use crate::texts::Location;
 use gix_refspec::parsing::Operation;
 use std::alloc::{AllocError, Global};
 
-/// Refuses each key of refspecs that has no value, and tells nothing of the others.
+/// Reports each key of refspecs without a value as refused, and nothing about the other settings.
 pub fn refuse_lacking(
     alloc: Global,
     settings: &[Setting<'_>],
@@ -26,7 +26,7 @@ pub fn refuse_lacking(
     Ok(())
 }
 
-// Refuses the key of a setting if it is one of refspecs and has no value.
+// Reports a setting as refused if its key is one of refspecs and its value is missing.
 fn refuse_key(alloc: Global, setting: &Setting<'_>, report: &mut Report) -> Result<(), AllocError>
     ensures { OnOk result (KeepsReport report.old report.new) }
 {
@@ -44,7 +44,7 @@ const MESSAGE: &str = "The value is missing.";
 const ADVICE: &str =
     "Write `=` and a spec behind the key, or remove its line: Git uses no remote until then.";
 
-// Puts the lines of a key at the end.
+// Appends the lines on a key without a value.
 fn write_lines(setting: &Setting<'_>, out: &mut Vec<u8>) -> Result<(), AllocError> {
     location_of(setting).write(out, Form::Lines)?;
     out.extend_from_slice(b": ")?;
@@ -53,7 +53,7 @@ fn write_lines(setting: &Setting<'_>, out: &mut Vec<u8>) -> Result<(), AllocErro
     write_advice(out, ADVICE)
 }
 
-// Puts the object of a key at the end.
+// Appends the object of a key without a value.
 fn write_object(alloc: Global, setting: &Setting<'_>, out: &mut Vec<u8>) -> Result<(), AllocError>
     ensures { OnOk result (KeepsResults form.Json out.old.items out.new.items) }
 {
@@ -62,7 +62,7 @@ fn write_object(alloc: Global, setting: &Setting<'_>, out: &mut Vec<u8>) -> Resu
     write_missing(alloc, location.as_str(), json::operation_of(operation), out)
 }
 
-// Puts the object of a key at a place at the end, for an operation with a name.
+// Appends the object of a key without a value, from its location and the name of its operation.
 fn write_missing<'a>(
     alloc: Global,
     location: &'a str,
@@ -85,7 +85,6 @@ fn write_missing<'a>(
     object.write_line(alloc, out)
 }
 
-// Where a setting is.
 fn location_of<'a>(setting: &Setting<'a>) -> Location<'a> {
     Location::Setting {
         origin: setting.origin,

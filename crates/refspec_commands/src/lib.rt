@@ -1,5 +1,5 @@
-//! What the program `refspec` does: it tells of refspecs whether they are right, what they mean, and what
-//! a fetch with them writes. The program reads the words of a call, and names the input and the outputs.
+//! The commands of the program `refspec`: whether refspecs are valid, what they mean, and what a fetch with
+//! them writes. The program itself parses the arguments, and supplies the input and the outputs.
 #![tactic(auto)]
 
 mod blame;
@@ -12,12 +12,12 @@ pub mod input;
 pub mod json;
 mod lacking;
 mod mappings;
-mod report;
 pub mod plan;
 mod planning;
 mod prefixes;
 pub mod quote;
 mod refs;
+mod report;
 pub mod run;
 mod sentence;
 pub mod settings;

@@ -1,4 +1,4 @@
-//! How mappings are shown.
+//! Mappings as results: a table, records or JSON objects.
 
 ghost use Rattle.std.specs.Prelude.{◌≡◌, ◌++◌, [], map, option_map, unwrap_or, codes, IfOk, OnOk};
 ghost use Rattle.std.specs.List.{flat_map, slice_get};
@@ -27,7 +27,7 @@ pub enum Columns {
     DestinationFirst,
 }
 
-/// What is shown where a mapping has no destination.
+/// The field shown in lines for a missing destination.
 pub const NO_DESTINATION: &[u8] = b"FETCH_HEAD";
 
 /// The canonical texts of specs, in order.
@@ -42,7 +42,8 @@ pub fn canonical_texts(alloc: Global, specs: &[RefSpecRef<'_>]) -> Result<Vec<BS
     Ok(texts)
 }
 
-/// Tells mappings, in order: both sides of each, and the spec that makes it, whose texts are given.
+/// Reports mappings, in order: both sides of each, and the text of its spec. `texts` has the text of each spec
+/// of the group, in order.
 pub fn report_mappings(
     alloc: Global,
     mappings: &[Mapping<'_, '_>],
@@ -62,17 +63,17 @@ pub fn report_mappings(
     }
 }
 
-/// The text at a place, or none.
-pub fn text_at(texts: &[BString], location: usize) -> &[u8]
-    ensures { result.now ≡ unwrap_or (slice_get (map bstring_bytes texts.now) location) [] }
+/// The text at an index, or an empty text if the index is out of bounds.
+pub fn text_at(texts: &[BString], index: usize) -> &[u8]
+    ensures { result.now ≡ unwrap_or (slice_get (map bstring_bytes texts.now) index) [] }
 {
-    match texts.get(location) {
+    match texts.get(index) {
         Some(text) => text.as_bytes(),
         None => b"",
     }
 }
 
-// Puts mappings at the end, as an aligned table.
+// Appends mappings as an aligned table.
 fn write_table(
     alloc: Global,
     mappings: &[Mapping<'_, '_>],
@@ -93,7 +94,8 @@ fn write_table(
     Ok(())
 }
 
-/// How a table of mappings is laid out.
+/// Measures the layout of a table of mappings. Its last column is as wide as the longest text, even if no
+/// mapping has that spec.
 pub fn layout_of(
     alloc: Global,
     mappings: &[Mapping<'_, '_>],
@@ -118,7 +120,7 @@ pub fn layout_of(
     Ok(layout)
 }
 
-/// A destination, or something else where there is none.
+/// The bytes of a destination, or `none` if it is missing.
 pub fn destination_or<'a>(destination: &'a Option<NameRef<'_>>, none: &'a [u8]) -> &'a [u8]
     ensures { result.now ≡ unwrap_or (option_map name_bytes destination.now) none.now }
 {
@@ -128,7 +130,7 @@ pub fn destination_or<'a>(destination: &'a Option<NameRef<'_>>, none: &'a [u8]) 
     }
 }
 
-/// The bytes of a destination.
+/// The bytes of a destination, if there is one.
 pub fn destination_of<'a>(destination: &'a Option<NameRef<'_>>) -> Option<&'a [u8]>
     ensures { option_map (λ b. b.now) result ≡ option_map name_bytes destination.now }
 {
@@ -138,7 +140,7 @@ pub fn destination_of<'a>(destination: &'a Option<NameRef<'_>>) -> Option<&'a [u
     }
 }
 
-// Puts the row of a mapping at the end.
+// Appends a mapping as a row of the table.
 fn write_row(
     alloc: Global,
     layout: &Layout,
@@ -156,7 +158,7 @@ fn write_row(
     Ok(())
 }
 
-// Puts both sides of a mapping at the end, each as a cell.
+// Appends both sides of a mapping, each as a cell.
 fn write_cells(
     alloc: Global,
     layout: &Layout,
@@ -181,7 +183,7 @@ fn write_cells(
     }
 }
 
-/// Puts a source at the end, as a cell.
+/// Appends a source as a cell, padded to a width.
 pub fn write_source_cell(
     alloc: Global,
     layout: &Layout,
@@ -192,7 +194,12 @@ pub fn write_source_cell(
     ensures { OnOk result (WritesCell (source_text (start_of source.now)) out.old.items out.new.items) }
 {
     match source {
-        SourceRef::FullName(name) => layout.write_cell(alloc, out, name.as_bstr().as_bytes(), width),
+        SourceRef::FullName(name) => layout.write_cell(
+            alloc,
+            out,
+            name.as_bstr().as_bytes(),
+            width,
+        ),
         SourceRef::ObjectId(id) => {
             let mut digits = Vec::new(alloc);
             write_id(&mut digits, id)?;
@@ -201,7 +208,7 @@ pub fn write_source_cell(
     }
 }
 
-// Puts an id at the end, in lower case.
+// Appends an object id in lower-case hex.
 fn write_id(out: &mut Vec<u8>, id: &ObjectId) -> Result<(), AllocError>
     ensures { OnOk result (out.new.items ≡ out.old.items ++ lower_of (id_bytes id.now)) }
 {
@@ -211,7 +218,8 @@ fn write_id(out: &mut Vec<u8>, id: &ObjectId) -> Result<(), AllocError>
     }
 }
 
-/// The bytes of a source: those of its name, or its id in lower case, which is put into the buffer.
+/// The bytes of a source: its name, or its object id in lower-case hex, which then replaces the contents of
+/// `buffer`.
 pub fn source_of<'a>(
     source: &'a SourceRef<'_>,
     buffer: &'a mut Vec<u8>,
@@ -228,7 +236,7 @@ pub fn source_of<'a>(
     }
 }
 
-// Puts the fields of mappings at the end. One without a destination has an empty field.
+// Appends mappings as records of three fields. A missing destination is an empty field.
 fn write_records(
     mappings: &[Mapping<'_, '_>],
     texts: &[BString],
@@ -244,7 +252,7 @@ fn write_records(
     Ok(())
 }
 
-// Puts the fields of a mapping at the end.
+// Appends the three fields of a mapping.
 fn write_fields(
     mapping: &Mapping<'_, '_>,
     text: &[u8],
@@ -258,7 +266,7 @@ fn write_fields(
     write_field(out, text)
 }
 
-// Puts both sides of a mapping at the end, each as a field.
+// Appends both sides of a mapping, each as a field.
 fn write_sides(
     mapping: &Mapping<'_, '_>,
     columns: Columns,
@@ -281,7 +289,7 @@ fn write_sides(
     }
 }
 
-// Puts a source and its end at the end.
+// Appends a source as a field.
 fn write_source_field(out: &mut Vec<u8>, source: &SourceRef<'_>) -> Result<(), AllocError>
     ensures { OnOk result (out.new.items ≡
         out.old.items ++ zero_ended (source_text (start_of source.now))) }
@@ -295,7 +303,7 @@ fn write_source_field(out: &mut Vec<u8>, source: &SourceRef<'_>) -> Result<(), A
     }
 }
 
-// Puts a field and its end at the end.
+// Appends a field and the zero byte that ends it.
 fn write_field(out: &mut Vec<u8>, field: &[u8]) -> Result<(), AllocError>
     ensures { OnOk result (out.new.items ≡ out.old.items ++ zero_ended field.now) }
 {
@@ -304,7 +312,7 @@ fn write_field(out: &mut Vec<u8>, field: &[u8]) -> Result<(), AllocError>
     Ok(())
 }
 
-// Puts mappings at the end, each as an object.
+// Appends mappings, each as an object in a line.
 fn write_objects(
     alloc: Global,
     mappings: &[Mapping<'_, '_>],
@@ -320,7 +328,7 @@ fn write_objects(
     Ok(())
 }
 
-// Puts the object of a mapping at the end.
+// Appends the object of a mapping, as a line.
 fn write_object(
     alloc: Global,
     mapping: &Mapping<'_, '_>,

@@ -1,4 +1,4 @@
-//! What a fetch writes of the refs of a remote.
+//! The plan of a fetch: which refs it writes.
 
 ghost use Rattle.std.specs.Prelude.{map, IfOk};
 ghost use Rattle.gix_refspec.specs.Views.Group.{ref_of};
@@ -16,14 +16,14 @@ use std::alloc::{AllocError, Global};
 #[derive(Debug, Drop)]
 pub struct Plan<'spec, 'item> {
     pub written: Written<'spec, 'item>,
-    /// The mappings with a side that is no name of a ref, in order.
+    /// The mappings with a side that is not a valid ref name, in order.
     pub left_out: Vec<InvalidMapping<'item, 'spec>>,
 }
 
-/// What becomes of a plan that was told. To free it name by name takes long, and a process that ends soon
-/// need not.
+/// Disposes of a plan that was reported. Freeing it name by name takes long, and a process that ends soon
+/// needn't.
 pub trait Discard {
-    /// Takes the plan.
+    /// Takes the plan, to drop or to forget it.
     fn discard(&mut self, plan: Plan<'_, '_>);
 }
 
@@ -36,9 +36,9 @@ pub enum Written<'spec, 'item> {
     Nothing(Error),
 }
 
-/// Plans what specs for a fetch write of the items. Mappings whose names are none of refs are left out
-/// first, as Git leaves out a "funny ref", and conflicts are looked for among the others. The ids of the
-/// items change nothing.
+/// Plans a fetch of the items by specs. Mappings with an invalid ref name are left out first, as Git ignores a
+/// "funny ref", and only the others can conflict. The plan doesn't depend on the ids of the items. It borrows
+/// the texts of the specs and the names of the items.
 pub fn plan_of<'spec, 'item>(
     alloc: Global,
     specs: Vec<RefSpecRef<'spec>>,

@@ -1,4 +1,5 @@
-//! How a plan is shown: its mappings as results, and conflicts and what is left out as messages.
+//! The report of a plan: its mappings are results; conflicts and left out mappings are messages, or in JSON
+//! results.
 
 ghost use Rattle.std.specs.Prelude.{◌≡◌, ◌≢◌, ◌≤◌, ◌⊎◌, ◌++◌, ◌∷◌, [], List, false, map, true, IfOk, MatchBool, OnOk, ℕ};
 ghost use Rattle.bstr.specs.Owned.{bstring_bytes};
@@ -19,12 +20,12 @@ use crate::groups::write_groups;
 use crate::input::{end_of, first_record};
 use crate::json;
 use crate::mappings::{
-    Columns, canonical_texts, destination_of, source_of, report_mappings, text_at,
+    Columns, canonical_texts, destination_of, report_mappings, source_of, text_at,
 };
-use crate::report::{Report, write_advice};
 use crate::plan::{Discard, Plan, Written, plan_of};
 use crate::quote::write_in_message;
 use crate::refs::{BadRecord, RefList};
+use crate::report::{Report, write_advice};
 use crate::summary::Summary;
 use crate::texts::{Location, write_number};
 use bstr::{BString, ByteSlice};
@@ -36,8 +37,8 @@ use gix_refspec::{RefSpecRef, name};
 use refspec_json::Claim;
 use std::alloc::{AllocError, Global};
 
-/// Tells what a fetch with these specs writes of the refs of an input. Returns whether something is left out or
-/// conflicts, or a record is no ref.
+/// Reports which refs a fetch with these specs writes, given the refs in the input. Returns whether a mapping is
+/// left out, mappings conflict, or a record is bad.
 pub fn report_plan<D: Discard>(
     alloc: Global,
     task: &Task<'_>,
@@ -72,7 +73,7 @@ pub fn report_plan<D: Discard>(
     Ok(refused)
 }
 
-// Whether some records are no refs, or a plan leaves out a mapping or has conflicts.
+// Whether there are bad records, or a plan leaves out a mapping or has conflicts.
 fn is_refused(has_bad: bool, plan: &Plan<'_, '_>) -> bool
     ensures { MatchBool result
         ((has_bad ≡ true) ⊎ LeavesOut plan.now.written (map left_out_of plan.now.left_out.items))
@@ -96,7 +97,7 @@ fn leaves_out(plan: &Plan<'_, '_>) -> bool
     }
 }
 
-// Tells the mappings that are written, or the conflicts for which none is.
+// Reports the mappings that are written, or the conflicts because of which none is.
 fn report_written(
     alloc: Global,
     call: &Call<'_>,
@@ -113,11 +114,16 @@ fn report_written(
         Written::Mappings(outcome) => {
             report_planned(alloc, outcome.mappings.as_slice(), texts, call.long, report)
         }
-        Written::Nothing(error) => report_conflicts(alloc, error.issues.as_slice(), call.all, report),
+        Written::Nothing(error) => report_conflicts(
+            alloc,
+            error.issues.as_slice(),
+            call.all,
+            report,
+        ),
     }
 }
 
-// Tells the mappings of a plan, in order: in lines below their specs, unless each is to be shown with its own.
+// Reports the mappings of a plan, in order: in lines grouped below their specs, unless `long`.
 fn report_planned(
     alloc: Global,
     mappings: &[Mapping<'_, '_>],
@@ -134,7 +140,7 @@ fn report_planned(
     }
 }
 
-// Tells of records that tell of no ref. Returns whether there are some.
+// Reports bad records, in order. Returns whether there are any.
 fn report_bad_records(
     alloc: Global,
     input: &str,
@@ -153,7 +159,7 @@ fn report_bad_records(
     Ok(!bad.is_empty())
 }
 
-// How many of some conflicts, or mappings that are left out, are told: in JSON each is.
+// How many of the conflicts or left out mappings are reported: in JSON all.
 fn reported_count(form: Form, all: bool, count: usize) -> usize
     ensures reported { result ≡ reported_count form all count }
     ensures fits { result ≤ count }
@@ -164,7 +170,7 @@ fn reported_count(form: Form, all: bool, count: usize) -> usize
     }
 }
 
-// How many of some are told: 20 at the most, unless all are to be.
+// `count`, but at most 20 unless `all`.
 fn few(all: bool, count: usize) -> usize
     ensures reported { result ≡ few all count }
     ensures fits { result ≤ count }
@@ -175,7 +181,7 @@ fn few(all: bool, count: usize) -> usize
     count - count.saturating_sub(20)
 }
 
-// Puts the line at the end that says how many more there are, if there are some.
+// Appends a line that says how many more there are, unless `count` is 0.
 fn write_more(what: &str, count: usize, out: &mut Vec<u8>) -> Result<(), AllocError>
     ensures { OnOk result (out.new.items ≡ out.old.items ++ more_line what.now count) }
 {
@@ -188,7 +194,7 @@ fn write_more(what: &str, count: usize, out: &mut Vec<u8>) -> Result<(), AllocEr
     Ok(())
 }
 
-// Tells of mappings that are left out; in lines of the first ones, unless all are to be told.
+// Reports left out mappings: all in JSON or if `all`, else the first 20, and how many more there are.
 fn report_left_out(
     alloc: Global,
     left_out: &[InvalidMapping<'_, '_>],
@@ -205,7 +211,7 @@ fn report_left_out(
     write_more("left out: ", more.len(), &mut report.messages)
 }
 
-// Tells of mappings that are left out.
+// Reports left out mappings, in order.
 fn report_all_left_out(
     alloc: Global,
     left_out: &[InvalidMapping<'_, '_>],
@@ -222,7 +228,7 @@ fn report_all_left_out(
     Ok(())
 }
 
-// Tells of conflicts; in lines of the first ones, unless all are to be told.
+// Reports conflicts: all in JSON or if `all`, else the first 20, and how many more there are.
 fn report_conflicts(
     alloc: Global,
     issues: &[Issue],
@@ -239,8 +245,12 @@ fn report_conflicts(
     write_more("conflict: ", more.len(), &mut report.messages)
 }
 
-// Tells of conflicts, in order.
-fn report_all_conflicts(alloc: Global, issues: &[Issue], report: &mut Report) -> Result<(), AllocError>
+// Reports conflicts, in order.
+fn report_all_conflicts(
+    alloc: Global,
+    issues: &[Issue],
+    report: &mut Report,
+) -> Result<(), AllocError>
     ensures form { OnOk result (report.new.form ≡ report.old.form) }
     ensures objects { OnOk result (AddsObjects report.old.form IsConflict (map conflict_of issues.now)
         report.old.results.items report.new.results.items) }
@@ -253,7 +263,7 @@ fn report_all_conflicts(alloc: Global, issues: &[Issue], report: &mut Report) ->
     Ok(())
 }
 
-// Tells of a record that tells of no ref.
+// Reports a bad record.
 fn report_bad_record(
     alloc: Global,
     input: &str,
@@ -274,7 +284,7 @@ fn report_bad_record(
     }
 }
 
-// Why a record tells of no ref, and what to do.
+// Why a record is bad, and what to do.
 fn why_malformed(bad: &BadRecord<'_>) -> (&'static str, &'static str) {
     if bad.is_peeled {
         return (
@@ -306,7 +316,7 @@ fn why_malformed(bad: &BadRecord<'_>) -> (&'static str, &'static str) {
     )
 }
 
-// Whether the type of an object and a tab follow the first space, as `git for-each-ref` prints by itself.
+// Whether an object type and a tab follow the first space, as in the default format of `git for-each-ref`.
 fn has_type(line: &[u8]) -> bool {
     let Some((_, back)) = line.split_once_str(b" ") else {
         return false;
@@ -315,7 +325,7 @@ fn has_type(line: &[u8]) -> bool {
     types.iter().any(|kind| back.starts_with(kind))
 }
 
-// Puts the object of such a record at the end.
+// Appends the object of a bad record, as a line.
 fn write_malformed(
     alloc: Global,
     location: &Location<'_>,
@@ -336,7 +346,7 @@ fn write_malformed(
     object.write_line(alloc, out)
 }
 
-// Puts the lines of such a record at the end.
+// Appends the lines on a bad record.
 fn write_bad_record(
     alloc: Global,
     location: &Location<'_>,
@@ -344,7 +354,7 @@ fn write_bad_record(
     out: &mut Vec<u8>,
 ) -> Result<(), AllocError> {
     let (message, advice) = why_malformed(bad);
-    // Of many lines the first is enough to see what they are.
+    // Of a record with several lines, the first is enough to recognise it.
     let (line, _) = first_record(bad.bytes, b'\n');
     location.write(out, Form::Lines)?;
     out.extend_from_slice(b": ")?;
@@ -355,7 +365,7 @@ fn write_bad_record(
     write_advice(out, advice)
 }
 
-// Tells of a mapping that is left out, as a side of it is no name of a ref.
+// Reports a mapping that is left out for an invalid ref name.
 fn report_one_left_out(
     alloc: Global,
     bad: &InvalidMapping<'_, '_>,
@@ -375,7 +385,7 @@ fn report_one_left_out(
     }
 }
 
-// What a side that is no name of a ref is called.
+// The name of the side whose ref name is invalid, for the member `side`.
 fn side_of(side: InvalidSide) -> &'static str
     ensures { result.now ≡ side_name side }
 {
@@ -386,7 +396,7 @@ fn side_of(side: InvalidSide) -> &'static str
     }
 }
 
-// The side that is no name of a ref, the source if both are.
+// The invalid ref name; the source if both sides are invalid.
 fn wrong_of<'a>(bad: &'a InvalidMapping<'_, '_>, source: &'a [u8]) -> &'a [u8] {
     match bad.side {
         InvalidSide::Source | InvalidSide::Both => source,
@@ -394,7 +404,7 @@ fn wrong_of<'a>(bad: &'a InvalidMapping<'_, '_>, source: &'a [u8]) -> &'a [u8] {
     }
 }
 
-// Puts the object of what is left out at the end.
+// Appends the object of a left out mapping, as a line.
 fn write_left_out_object(
     alloc: Global,
     bad: &InvalidMapping<'_, '_>,
@@ -421,7 +431,7 @@ fn write_left_out_object(
     object.write_line(alloc, out)
 }
 
-// Puts the line of what is left out at the end.
+// Appends the line on a left out mapping.
 fn write_left_out(
     bad: &InvalidMapping<'_, '_>,
     source: &[u8],
@@ -445,7 +455,7 @@ fn write_left_out(
     Ok(())
 }
 
-// Why a name is none of a ref.
+// Why a name is not a valid ref name.
 fn why_left_out(name: &[u8]) -> &'static str {
     match name::name_partial(bstr::BStr::new(name)) {
         Err(fault) => fault.explanation(),
@@ -453,7 +463,7 @@ fn why_left_out(name: &[u8]) -> &'static str {
     }
 }
 
-// Tells of a destination that several sources are mapped to.
+// Reports a destination that several sources are mapped to.
 fn report_conflict(alloc: Global, issue: &Issue, report: &mut Report) -> Result<(), AllocError>
     ensures form { OnOk result (report.new.form ≡ report.old.form) }
     ensures objects { OnOk result (AddsObjects report.old.form IsConflict (conflict_of issue.now ∷ [])
@@ -467,7 +477,7 @@ fn report_conflict(alloc: Global, issue: &Issue, report: &mut Report) -> Result<
     }
 }
 
-// Puts the object of a conflict at the end.
+// Appends the object of a conflict, as a line.
 fn write_conflict_object(alloc: Global, issue: &Issue, out: &mut Vec<u8>) -> Result<(), AllocError>
     ensures { OnOk result (out.new.items ≡ out.old.items ++ conflict_line (conflict_of issue.now)) }
 {
@@ -485,7 +495,7 @@ fn write_conflict_object(alloc: Global, issue: &Issue, out: &mut Vec<u8>) -> Res
     object.write_line(alloc, out)
 }
 
-// Each source, with the text of the spec at its place.
+// Each source, with the text of the spec at the same index.
 fn claims_of(
     alloc: Global,
     sources: &[SourceRef<'_>],
@@ -496,17 +506,16 @@ fn claims_of(
 {
     let mut buffer = Vec::new(alloc);
     let mut claims = Vec::with_capacity(alloc, sources.len())?;
-    for (location, source) in sources.iter().enumerate() {
+    for (index, source) in sources.iter().enumerate() {
         claims.push(claim_of(
             alloc,
             source_of(source, &mut buffer)?,
-            text_at(texts, location),
+            text_at(texts, index),
         )?)?;
     }
     Ok(claims)
 }
 
-// A source with the text of its spec.
 fn claim_of(alloc: Global, source: &[u8], text: &[u8]) -> Result<Claim, AllocError>
     ensures { IfOk result (λ claim. claim_texts claim ≡ claim_of source.now text.now) }
 {
@@ -516,7 +525,7 @@ fn claim_of(alloc: Global, source: &[u8], text: &[u8]) -> Result<Claim, AllocErr
     })
 }
 
-// Puts the lines of a conflict at the end.
+// Appends the lines on a conflict.
 fn write_conflict(alloc: Global, issue: &Issue, out: &mut Vec<u8>) -> Result<(), AllocError>
     ensures { OnOk result (WritesConflict (conflict_of issue.now) out.old.items out.new.items) }
 {
@@ -535,7 +544,7 @@ fn write_conflict(alloc: Global, issue: &Issue, out: &mut Vec<u8>) -> Result<(),
     )
 }
 
-// Puts a line for each source at the end, with the text of the spec at its place.
+// Appends a line for each source, with the text of the spec at the same index.
 fn write_claims(
     alloc: Global,
     sources: &[SourceRef<'_>],
@@ -546,13 +555,13 @@ fn write_claims(
         out.old.items out.new.items) }
 {
     let mut buffer = Vec::new(alloc);
-    for (location, source) in sources.iter().enumerate() {
-        write_claim(source_of(source, &mut buffer)?, text_at(texts, location), out)?;
+    for (index, source) in sources.iter().enumerate() {
+        write_claim(source_of(source, &mut buffer)?, text_at(texts, index), out)?;
     }
     Ok(())
 }
 
-// Puts the line of a source at the end, with the text of its spec.
+// Appends the line of a source and the text of its spec.
 fn write_claim(source: &[u8], text: &[u8], out: &mut Vec<u8>) -> Result<(), AllocError>
     ensures { OnOk result (WritesClaim source.now text.now out.old.items out.new.items) }
 {

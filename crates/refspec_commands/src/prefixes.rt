@@ -1,4 +1,4 @@
-//! What to ask a server for.
+//! The ref prefixes to request from a server.
 
 ghost use Rattle.std.specs.Prelude.{◌≡◌, ◌<◌, ◌≤◌, ◌++◌, ◌∷◌, [], List, codes, length, map, true, IfOk, IfSome, MatchBool, MatchOption, OnOk, ℕ};
 ghost use Rattle.bstr.specs.Owned.{bstring_bytes};
@@ -12,14 +12,14 @@ ghost use Rattle.refspec_commands.specs.Prefixes.{AddsAll, AddsList, AddsNothing
 
 use crate::call::Form;
 use crate::json;
-use crate::report::Report;
 use crate::quote::write_quoted;
+use crate::report::Report;
 use bstr::BString;
 use gix_refspec::{MatchGroup, RefSpecRef};
 use std::alloc::{AllocError, Global};
 
-/// Tells what to ask a server for, so that it tells of each ref that the specs map; or that all refs have
-/// to be asked for, and which specs are the reason.
+/// Reports ref prefixes for which a server lists every ref that the specs map; or that all refs must be
+/// requested, and which specs are the reason.
 pub fn report_prefixes(
     alloc: Global,
     specs: Vec<RefSpecRef<'_>>,
@@ -38,7 +38,6 @@ pub fn report_prefixes(
     }
 }
 
-// Whether some specs are fewer than others.
 fn are_fewer(some: &[RefSpecRef<'_>], others: &[RefSpecRef<'_>]) -> bool
     ensures { MatchBool result
         (length some.now < length others.now) (length others.now ≤ length some.now) }
@@ -46,11 +45,11 @@ fn are_fewer(some: &[RefSpecRef<'_>], others: &[RefSpecRef<'_>]) -> bool
     some.len() < others.len()
 }
 
-// What all refs but `HEAD` begin with.
+// The prefix of every full ref name except `HEAD`.
 const BELOW: &[u8] = b"refs/";
 
-// The specs whose star doesn't stand right behind `refs/`: the library has no prefix for those, for which Git asks by
-// `refs/` itself.
+// The specs, in order, except positive ones with a star right after `refs/`: for those Git requests `refs/`
+// itself, and the library has no prefix.
 fn others_of<'a>(alloc: Global, specs: &[RefSpecRef<'a>]) -> Result<Vec<RefSpecRef<'a>>, AllocError>
     ensures { IfOk result (λ others. AreOthers
         (map reading_of specs.now) (map reading_of others.items)) }
@@ -64,7 +63,7 @@ fn others_of<'a>(alloc: Global, specs: &[RefSpecRef<'a>]) -> Result<Vec<RefSpecR
     Ok(others)
 }
 
-// Whether a spec takes refs, and its star stands right behind `refs/`.
+// Whether a spec is positive, and the star of its source is right after `refs/`.
 fn takes_whole(spec: &RefSpecRef<'_>) -> bool
     ensures { MatchBool result
         (TakesWhole (reading_of spec.now)) (¬ (TakesWhole (reading_of spec.now))) }
@@ -78,7 +77,7 @@ fn takes_whole(spec: &RefSpecRef<'_>) -> bool
     }
 }
 
-// Tells prefixes, after `refs/` if a spec needs it.
+// Reports prefixes, after `refs/` if a spec needs it.
 fn report_asked(
     alloc: Global,
     has_whole: bool,
@@ -97,7 +96,7 @@ fn report_asked(
     report_list(alloc, prefixes, patterns, report)
 }
 
-/// What to ask a server for, or `None` where only a request for all refs is safe.
+/// The ref prefixes to request from a server, in order, or `None` if only a request for all refs is safe.
 pub fn prefixes_of(
     alloc: Global,
     group: &MatchGroup<'_>,
@@ -111,7 +110,7 @@ pub fn prefixes_of(
     group.ref_prefixes(alloc)
 }
 
-// Tells prefixes, or that there are none.
+// Reports prefixes, or that no request is needed.
 fn report_list(
     alloc: Global,
     prefixes: &[BString],
@@ -127,7 +126,7 @@ fn report_list(
     report_each(alloc, prefixes, patterns, report)
 }
 
-// Tells prefixes, in order.
+// Reports prefixes, in order.
 fn report_each(
     alloc: Global,
     prefixes: &[BString],
@@ -143,7 +142,7 @@ fn report_each(
     Ok(())
 }
 
-// Tells a prefix: as an argument of protocol v2, or as a pattern that matches each name which begins so.
+// Reports a prefix: as an argument of protocol v2, or as a pattern that matches each name with this prefix.
 fn report_prefix(
     alloc: Global,
     prefix: &[u8],
@@ -168,7 +167,7 @@ fn report_prefix(
     }
 }
 
-// Puts the object of a prefix at the end.
+// Appends the object of a prefix, as a line.
 fn write_object(
     alloc: Global,
     prefix: &[u8],
@@ -190,7 +189,7 @@ fn write_object(
 const WHY_NOTHING: &str =
     "No spec takes a ref by its name, so no request is needed. An empty one would ask for all refs.";
 
-// Tells that nothing has to be asked for.
+// Reports that no request is needed.
 fn report_nothing(alloc: Global, report: &mut Report) -> Result<(), AllocError>
     ensures { OnOk result (AddsNothing report.old.form
         report.old.results.items report.new.results.items) }
@@ -205,7 +204,7 @@ fn report_nothing(alloc: Global, report: &mut Report) -> Result<(), AllocError>
     Ok(())
 }
 
-// Puts the object of a sentence on that at the end.
+// Appends the object that says so in a sentence, as a line.
 fn write_nothing(alloc: Global, message: &str, out: &mut Vec<u8>) -> Result<(), AllocError>
     ensures { OnOk result (AddsNothing form.Json out.old.items out.new.items) }
 {
@@ -215,7 +214,7 @@ fn write_nothing(alloc: Global, message: &str, out: &mut Vec<u8>) -> Result<(), 
 const WHY_ALL: &str =
     "No safe prefix is known for this spec: its star is outside refs/, or after a ]. So ask for all refs.";
 
-// Tells that all refs have to be asked for, and for which specs.
+// Reports that all refs must be requested, and for which specs.
 fn report_all(
     alloc: Global,
     group: &MatchGroup<'_>,
@@ -232,24 +231,30 @@ fn report_all(
     Ok(())
 }
 
-// Puts what means all refs at the end of the results: the pattern that each name matches, or else in lines a word, and in
-// records the empty prefix, with which each name begins.
+// Appends to the results what stands for all refs: the pattern `*`, or else in lines `(all)`, and in records
+// the empty prefix. In JSON nothing is appended.
 fn write_each(patterns: bool, report: &mut Report) -> Result<(), AllocError>
     ensures form { OnOk result (report.new.form ≡ report.old.form) }
     ensures reported { OnOk result (AddsAll patterns report.old.form []
         report.old.results.items report.new.results.items) }
 {
-    report.results.extend_from_slice(match (report.form, patterns) {
-        (Form::Lines, true) => b"*\n",
-        (Form::Lines, false) => b"(all)\n",
-        (Form::Zeros, true) => b"*\0",
-        (Form::Zeros, false) => b"\0",
-        (Form::Json, _) => b"",
-    })
+    report
+        .results
+        .extend_from_slice(match (report.form, patterns) {
+            (Form::Lines, true) => b"*\n",
+            (Form::Lines, false) => b"(all)\n",
+            (Form::Zeros, true) => b"*\0",
+            (Form::Zeros, false) => b"\0",
+            (Form::Json, _) => b"",
+        })
 }
 
-// Tells of a spec, if all refs have to be asked for it.
-fn report_if_reason(alloc: Global, spec: &RefSpecRef<'_>, report: &mut Report) -> Result<(), AllocError>
+// Reports a spec, if all refs must be requested for it.
+fn report_if_reason(
+    alloc: Global,
+    spec: &RefSpecRef<'_>,
+    report: &mut Report,
+) -> Result<(), AllocError>
     ensures form { OnOk result (report.new.form ≡ report.old.form) }
     ensures reported { OnOk result (AddsObjects report.old.form IsReason (reading_of spec.now ∷ [])
         report.old.results.items report.new.results.items) }
@@ -261,8 +266,12 @@ fn report_if_reason(alloc: Global, spec: &RefSpecRef<'_>, report: &mut Report) -
     }
 }
 
-// Tells that a spec is the reason for which all refs have to be asked for.
-fn report_reason(alloc: Global, spec: &RefSpecRef<'_>, report: &mut Report) -> Result<(), AllocError>
+// Reports a spec as a reason why all refs must be requested.
+fn report_reason(
+    alloc: Global,
+    spec: &RefSpecRef<'_>,
+    report: &mut Report,
+) -> Result<(), AllocError>
     requires { HasNoList (reading_of spec.now ∷ []) }
     ensures form { OnOk result (report.new.form ≡ report.old.form) }
     ensures reported { OnOk result (AddsObjects report.old.form IsReason (reading_of spec.now ∷ [])
@@ -281,7 +290,7 @@ fn report_reason(alloc: Global, spec: &RefSpecRef<'_>, report: &mut Report) -> R
     }
 }
 
-// Puts the object of such a spec and a sentence on it at the end.
+// Appends the object of such a spec and a sentence on it, as a line.
 fn write_reason(
     alloc: Global,
     spec: &[u8],

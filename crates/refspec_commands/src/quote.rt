@@ -1,4 +1,4 @@
-//! Names and texts as people see them.
+//! Names and texts as they are shown: raw, or in double quotes with escapes.
 
 ghost use Rattle.std.specs.Prelude.{◌≡◌, ◌≤◌, ◌++◌, ◌∷◌, [], List, OnOk, length, ℕ};
 ghost use Rattle.refspec_commands.specs.Messages.{WritesShown};
@@ -9,11 +9,11 @@ use crate::call::Form;
 use std::alloc::AllocError;
 use std::simd::prelude::*;
 
-// How many bytes are looked at at once.
+// The number of bytes that are checked at once.
 const LANES: usize = 16;
 
-/// Puts a text at the end: as it is where it can be shown so, else in double quotes with escapes, as Git
-/// quotes paths under `core.quotePath`. The empty text is quoted too.
+/// Appends a text: unquoted if it is plain, else in double quotes with escapes, as Git quotes paths under
+/// `core.quotePath`. The empty text is quoted too.
 pub fn write_quoted(out: &mut Vec<u8>, text: &[u8]) -> Result<(), AllocError>
     ensures { OnOk result (WritesQuoted text.now out.old.items out.new.items) }
 {
@@ -23,8 +23,8 @@ pub fn write_quoted(out: &mut Vec<u8>, text: &[u8]) -> Result<(), AllocError>
     write_in_quotes(out, text)
 }
 
-/// Puts a text at the end that stands in a sentence: in quotes also where it has a space or ends with a colon, so that
-/// its ends are seen.
+/// Appends a text within a message: quoted also if it contains a space or ends with a colon, so that its ends
+/// can be seen.
 pub fn write_in_message(out: &mut Vec<u8>, text: &[u8]) -> Result<(), AllocError>
     ensures { OnOk result (WritesQuoted text.now out.old.items out.new.items) }
 {
@@ -34,7 +34,7 @@ pub fn write_in_message(out: &mut Vec<u8>, text: &[u8]) -> Result<(), AllocError
     write_quoted(out, text)
 }
 
-/// Puts a text at the end as a form shows it: raw in records, else as it is or quoted.
+/// Appends a text as a form shows it: raw in records, else quoted if needed.
 pub fn write_shown(out: &mut Vec<u8>, text: &[u8], form: Form) -> Result<(), AllocError>
     ensures { OnOk result (WritesShown form text.now out.old.items out.new.items) }
 {
@@ -45,7 +45,7 @@ pub fn write_shown(out: &mut Vec<u8>, text: &[u8], form: Form) -> Result<(), All
     }
 }
 
-// Puts a text at the end as it is or quoted, so that what is put is UTF-8.
+// Appends a text, quoted if needed or if it isn't UTF-8, so that the appended bytes are UTF-8.
 fn write_text(out: &mut Vec<u8>, text: &[u8]) -> Result<(), AllocError>
     ensures { OnOk result (WritesShown form.Json text.now out.old.items out.new.items) }
 {
@@ -55,7 +55,7 @@ fn write_text(out: &mut Vec<u8>, text: &[u8]) -> Result<(), AllocError>
     }
 }
 
-/// Puts a text in double quotes at the end, with escapes.
+/// Appends a text in double quotes, with escapes.
 pub fn write_in_quotes(out: &mut Vec<u8>, text: &[u8]) -> Result<(), AllocError>
     ensures { OnOk result (out.new.items ≡ out.old.items ++ in_quotes text.now) }
 {
@@ -67,7 +67,8 @@ pub fn write_in_quotes(out: &mut Vec<u8>, text: &[u8]) -> Result<(), AllocError>
     Ok(())
 }
 
-/// Whether a text can be shown as it is: it is UTF-8, and has no control character, quote or backslash.
+/// Whether a text can be shown unquoted: it is UTF-8, not empty, and contains no control character, double
+/// quote or backslash.
 pub fn is_plain(text: &[u8]) -> bool {
     if is_plain_ascii(text) {
         return true;
@@ -81,17 +82,17 @@ pub fn is_plain(text: &[u8]) -> bool {
     }
 }
 
-/// Whether a text has bytes, and each is a printed character of ASCII that needs no escape.
+/// Whether a text is not empty, and all its bytes are printable ASCII other than `"` and `\`.
 pub fn is_plain_ascii(text: &[u8]) -> bool {
     if text.len() < LANES {
         return !text.is_empty() && text.iter().all(|byte| is_calm_byte(*byte));
     }
-    // The last bytes may be looked at once more.
+    // Some of the last bytes may be checked twice.
     let whole = text.chunks_exact(LANES).all(|bytes| are_calm(bytes));
     whole && are_calm(&text[text.len() - LANES..])
 }
 
-// Whether of the first bytes of a text, which are looked at at once, none needs an escape.
+// Whether none of the first `LANES` bytes of a text needs an escape.
 #[inline(always)]
 fn are_calm(text: &[u8]) -> bool
     requires { LANES ≤ length text.now }
@@ -104,7 +105,7 @@ fn are_calm(text: &[u8]) -> bool
     !odd.any()
 }
 
-// Whether a byte is a printed character of ASCII that needs no escape.
+// Whether a byte is printable ASCII and needs no escape.
 fn is_calm_byte(byte: u8) -> bool {
     (byte >= b' ') & (byte <= b'~') & (byte != b'"') & (byte != b'\\')
 }
@@ -114,7 +115,7 @@ fn is_calm(c: char) -> bool {
     !c.is_control() && c != '"' && c != '\\'
 }
 
-// Puts a byte of a quoted text at the end.
+// Appends a byte of a quoted text, escaped if needed.
 fn write_escaped(out: &mut Vec<u8>, byte: u8) -> Result<(), AllocError>
     ensures { OnOk result (out.new.items ≡ out.old.items ++ escaped byte) }
 {
@@ -124,7 +125,7 @@ fn write_escaped(out: &mut Vec<u8>, byte: u8) -> Result<(), AllocError>
     }
 }
 
-// The letter of a byte whose escape has one.
+// The letter after the backslash, for a byte whose escape has one.
 fn escape_letter(byte: u8) -> Option<u8>
     ensures { result ≡ letter_of byte }
 {
@@ -141,7 +142,7 @@ fn escape_letter(byte: u8) -> Option<u8>
     }
 }
 
-// Puts a byte that has no letter at the end: as it is, or by its three octal digits.
+// Appends a byte whose escape has no letter: as it is if printable, else as `\` and three octal digits.
 fn write_plain_or_octal(out: &mut Vec<u8>, byte: u8) -> Result<(), AllocError>
     ensures { OnOk result (out.new.items ≡ out.old.items ++ plain_or_octal byte) }
 {

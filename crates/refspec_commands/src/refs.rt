@@ -1,9 +1,9 @@
-//! Refs as Git prints them.
+//! Lists of refs, as Git prints them.
 
 ghost use Rattle.std.specs.Prelude.{◌≡◌, ◌↔◌, ◌⊎◌, ◌++◌, ◌∷◌, [], List, ℕ, length, map, IfNone, IfOk, IfSome, IsTrue, MatchBool, OnOk};
 ghost use Rattle.gix_refspec.specs.Views.Group.{ref_of};
 ghost use Rattle.gix_refspec.specs.Texts.ObjectId.{digits_of, id_bytes};
-ghost use Rattle.refspec_commands.specs.Refs.{AddsReported, HasLast, IsIdThen, IsNoRefLine, IsOneWord, ReportNames, ReportsName, bad_bytes, peeled};
+ghost use Rattle.refspec_commands.specs.Refs.{AddsListed, HasLast, IsIdThen, IsNoRefLine, IsOneWord, ListsNames, ListsName, bad_bytes, peeled};
 
 use crate::input::first_record;
 use bstr::{BStr, ByteSlice};
@@ -12,36 +12,36 @@ use gix_refspec::oid::{Kind, ObjectId};
 use gix_refspec_text::split::contains;
 use std::alloc::{AllocError, Global};
 
-/// A record that tells of no ref.
+/// A record that is neither a ref nor the target of the tag before it.
 #[derive(Clone, Copy, Debug)]
 pub struct BadRecord<'a> {
-    /// Its number, counted from 1.
+    /// The number of the record, counted from 1.
     pub number: usize,
     pub bytes: &'a [u8],
-    /// Whether it tells what a tag points to, and that tag isn't right before it.
+    /// Whether it is the line of a peeled tag (`^{}`) without that tag right before it.
     pub is_peeled: bool,
 }
 
-/// What the records of an input tell, each kind in order.
+/// The refs and the bad records of an input, each in order.
 #[derive(Debug, Drop)]
 pub struct RefList<'a> {
-    /// The refs by their names. All have one id, since a plan goes by names.
+    /// The refs. Only their names are read: all have the same id, since a plan depends on names alone.
     pub items: Vec<Item<'a>>,
     pub bad: Vec<BadRecord<'a>>,
-    // The id that each item is given.
+    // The id of every item.
     id: &'a ObjectId,
 }
 
 impl<'a> RefList<'a> {
-    /// What the records of an input tell. Each ends with the byte, which the last may lack. All items are
-    /// given one id, whatever the records say.
+    /// Reads the records of an input. The byte `end` ends each; the last may lack it. All items get `id`,
+    /// whatever the records say. Names borrow the input.
     pub fn read(
         alloc: Global,
         input: &'a [u8],
         end: u8,
         id: &'a ObjectId,
     ) -> Result<RefList<'a>, AllocError>
-        ensures { IfOk result (λ reported. ReportNames end input.now
+        ensures { IfOk result (λ reported. ListsNames end input.now
             (map ref_of reported.items.items) (map bad_bytes reported.bad.items)) }
     {
         let mut reported = RefList {
@@ -60,27 +60,27 @@ impl<'a> RefList<'a> {
         Ok(reported)
     }
 
-    // Adds what a record tells.
+    // Adds a record: a ref, the target of the tag before it, or a bad record.
     fn add(&mut self, number: usize, bytes: &'a [u8]) -> Result<(), AllocError>
-        ensures { OnOk result (AddsReported bytes.now
+        ensures { OnOk result (AddsListed bytes.now
             (map ref_of self.old.items.items) (map ref_of self.new.items.items)
             (map bad_bytes self.old.bad.items) (map bad_bytes self.new.bad.items)) }
     {
-        match name_reported(bytes) {
+        match name_of_line(bytes) {
             None => self.add_bad(number, bytes, false),
             Some(name) => self.add_named(number, bytes, name),
         }
     }
 
-    // Adds what a record tells of a name.
+    // Adds a record that has an id and this name.
     fn add_named(
         &mut self,
         number: usize,
         bytes: &'a [u8],
         name: &'a [u8],
     ) -> Result<(), AllocError>
-        requires { ReportsName bytes.now name.now }
-        ensures { OnOk result (AddsReported bytes.now
+        requires { ListsName bytes.now name.now }
+        ensures { OnOk result (AddsListed bytes.now
             (map ref_of self.old.items.items) (map ref_of self.new.items.items)
             (map bad_bytes self.old.bad.items) (map bad_bytes self.new.bad.items)) }
     {
@@ -90,10 +90,10 @@ impl<'a> RefList<'a> {
         }
     }
 
-    // Adds what a record tells of a tag, which has to be the last ref so far: its name stays.
+    // Adds the line of a peeled tag. If the tag is the last ref so far, nothing changes; else the record is bad.
     fn add_peeled(&mut self, number: usize, bytes: &'a [u8], tag: &[u8]) -> Result<(), AllocError>
-        requires { ReportsName bytes.now (tag.now ++ peeled) }
-        ensures { OnOk result (AddsReported bytes.now
+        requires { ListsName bytes.now (tag.now ++ peeled) }
+        ensures { OnOk result (AddsListed bytes.now
             (map ref_of self.old.items.items) (map ref_of self.new.items.items)
             (map bad_bytes self.old.bad.items) (map bad_bytes self.new.bad.items)) }
     {
@@ -113,7 +113,6 @@ impl<'a> RefList<'a> {
         }
     }
 
-    // Adds a ref.
     fn add_ref(&mut self, name: &'a [u8]) -> Result<(), AllocError>
         ensures items { OnOk result (map ref_of self.new.items.items ≡ map ref_of self.old.items.items
             ++ record { name = name.now; target = id_bytes self.old.id.now; object = None } ∷ []) }
@@ -127,7 +126,6 @@ impl<'a> RefList<'a> {
         Ok(())
     }
 
-    // Adds a record that tells of no ref.
     fn add_bad(&mut self, number: usize, bytes: &'a [u8], is_peeled: bool) -> Result<(), AllocError>
         ensures items { OnOk result (self.new.items.items ≡ self.old.items.items) }
         ensures bad { OnOk result (map bad_bytes self.new.bad.items
@@ -142,9 +140,9 @@ impl<'a> RefList<'a> {
     }
 }
 
-// The name in a line, after an id and the tab or the space that ends it. A name has bytes, and no white space.
-fn name_reported(line: &[u8]) -> Option<&[u8]>
-    ensures some { IfSome result (λ name. ReportsName line.now name.now) }
+// The name in a line, after an object id and a tab or a space. It isn't empty, and contains no white space.
+fn name_of_line(line: &[u8]) -> Option<&[u8]>
+    ensures some { IfSome result (λ name. ListsName line.now name.now) }
     ensures none { IfNone result (IsNoRefLine line.now) }
 {
     match name_after(line, Kind::Sha1) {
@@ -153,9 +151,9 @@ fn name_reported(line: &[u8]) -> Option<&[u8]>
     }
 }
 
-// The same, for ids of a kind.
+// `name_of_line` for ids of one kind.
 fn name_after(line: &[u8], kind: Kind) -> Option<&[u8]>
-    ensures some { IfSome result (λ name. ReportsName line.now name.now) }
+    ensures some { IfSome result (λ name. ListsName line.now name.now) }
     ensures none { IfNone result ((id name : List ℕ) (says : IsIdThen line.now id name)
         → ¬ (length says.digits ≡ digits_of kind)) }
 {
@@ -177,7 +175,7 @@ fn name_after(line: &[u8], kind: Kind) -> Option<&[u8]>
     }
 }
 
-// Whether a text may stand for a name in a line: it has bytes, and no white space, which no ref name has.
+// Whether a text is accepted as a name in a line: it isn't empty, and contains no white space.
 fn is_one_word(text: &[u8]) -> bool
     ensures { MatchBool result (IsOneWord text.now) (¬ (IsOneWord text.now)) }
 {
@@ -189,7 +187,7 @@ fn is_one_word(text: &[u8]) -> bool
     !(has_line_end | has_gap)
 }
 
-// The name of the tag, where the name is that of a peeled one.
+// The name of the tag, if the name is that of a peeled tag.
 fn tag_of(name: &[u8]) -> Option<&[u8]>
     ensures some { IfSome result (λ tag. name.now ≡ tag.now ++ peeled) }
     ensures none { IfNone result ((tag : List ℕ) → ¬ (name.now ≡ tag ++ peeled)) }
@@ -197,7 +195,6 @@ fn tag_of(name: &[u8]) -> Option<&[u8]>
     name.strip_suffix(b"^{}")
 }
 
-// Whether a byte is a tab or a space.
 fn is_space(byte: u8) -> bool
     ensures { IsTrue result ↔ ((byte ≡ 9) ⊎ (byte ≡ 32)) }
 {

@@ -24,11 +24,11 @@ pub struct Report {
 }
 
 impl Report {
-    /// A page with nothing on it.
+    /// An empty report.
     pub fn new(alloc: Global, form: Form) -> Report
         ensures form { result.form ≡ form }
         ensures empty { result.results.items ≡ [] }
-        ensures untold { result.messages.items ≡ [] }
+        ensures no_message { result.messages.items ≡ [] }
     {
         Report {
             form,
@@ -37,7 +37,7 @@ impl Report {
         }
     }
 
-    /// Tells that a text is refused: its place, the text, the reason, the part that is wrong and
+    /// Reports that a text is refused: its location, the text, the reason, the part that is wrong and
     /// what to do.
     pub fn report_refusal(
         &mut self,
@@ -57,11 +57,11 @@ impl Report {
         }
     }
 
-    /// Puts a name at the end of the results: in a line after some bytes, or ended by a zero byte. In JSON
-    /// it is no row by itself.
+    /// Appends a name to the results: in a line, quoted if needed and after the bytes `before`, or raw and ended
+    /// by a zero byte. In JSON nothing is appended.
     pub fn write_name(&mut self, before: &[u8], name: &[u8]) -> Result<(), AllocError>
         ensures form { OnOk result (self.new.form ≡ self.old.form) }
-        ensures untold { OnOk result (self.new.messages ≡ self.old.messages) }
+        ensures no_message { OnOk result (self.new.messages ≡ self.old.messages) }
         ensures reported { OnOk result (AddsNames self.old.form before.now (name.now ∷ [])
             self.old.results.items self.new.results.items) }
     {
@@ -81,7 +81,7 @@ impl Report {
     }
 }
 
-// Puts the lines of a refusal at the end.
+// Appends the lines of a refusal.
 fn write_refusal(
     alloc: Global,
     out: &mut Vec<u8>,
@@ -94,7 +94,7 @@ fn write_refusal(
     write_details(alloc, out, text, error)
 }
 
-// Puts the line of a refusal at the end that says where, what and why.
+// Appends the first line of a refusal: the location, the text and the reason.
 fn write_reason(out: &mut Vec<u8>, text: &Text<'_>, error: &Error) -> Result<(), AllocError>
     ensures { OnOk result (WritesReason text.now error.now out.old.items out.new.items) }
 {
@@ -107,7 +107,7 @@ fn write_reason(out: &mut Vec<u8>, text: &Text<'_>, error: &Error) -> Result<(),
     Ok(())
 }
 
-// Puts the lines of a refusal at the end that say which part is wrong, and what to do.
+// Appends the other lines of a refusal: which part is wrong, if the reason concerns one, and the advice.
 fn write_details(
     alloc: Global,
     out: &mut Vec<u8>,
@@ -126,7 +126,7 @@ fn write_details(
     }
 }
 
-// Puts the line of the part that is wrong at the end.
+// Appends the line on the part that is wrong.
 fn write_blame(alloc: Global, out: &mut Vec<u8>, blame: &Blame<'_>) -> Result<(), AllocError>
     ensures { OnOk result (Grows out.old.items out.new.items) }
 {
@@ -141,7 +141,7 @@ fn write_blame(alloc: Global, out: &mut Vec<u8>, blame: &Blame<'_>) -> Result<()
     out.extend_from_slice(line.as_slice())
 }
 
-/// Puts a line of advice at the end, where there is some.
+/// Appends an indented line of advice, unless the advice is empty.
 pub fn write_advice(out: &mut Vec<u8>, advice: &str) -> Result<(), AllocError>
     ensures { OnOk result (Grows out.old.items out.new.items) }
 {

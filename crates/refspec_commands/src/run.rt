@@ -1,4 +1,4 @@
-//! A call, from its reader to its writers.
+//! A run of the program, from its reader to its writers.
 
 ghost use Rattle.std.specs.Prelude.{◌≡◌, map, IfOk, IfErr, OnOk};
 ghost use Rattle.std.specs.Io.KnownBytes.{Appends};
@@ -15,10 +15,10 @@ use crate::checked::{Checked, all_good, check_all, has_bad};
 use crate::fault::Fault;
 use crate::input::read_input;
 use crate::lacking::refuse_lacking;
-use crate::report::Report;
 use crate::plan::Discard;
 use crate::planning::report_plan;
 use crate::prefixes::report_prefixes;
+use crate::report::Report;
 use crate::settings::{has_lacking, settings_in};
 use crate::specs::{report_refusals, report_specs};
 use crate::texts::{spec_input, texts_of};
@@ -27,9 +27,9 @@ use gix_refspec::RefSpecRef;
 use std::alloc::{AllocError, Global};
 use std::io::{Read, Write};
 
-/// Reads the input to its end, where the call needs it, and writes the results to one writer and the
-/// messages to the other. A plan is handed to `done` before that. Returns the exit status: 1 where
-/// something is refused, conflicting, left out or not found, else 0.
+/// Reads the input to its end, if the call needs it, and writes the results to `output` and the messages to
+/// `errors`. A plan is handed to `done` before that. Returns the exit status: 1 if something is refused,
+/// conflicting, left out or not found, else 0.
 pub fn run<R: Read, W: Write, E: Write, D: Discard>(
     alloc: Global,
     call: &Call<'_>,
@@ -47,13 +47,13 @@ pub fn run<R: Read, W: Write, E: Write, D: Discard>(
         (W.contents output.old) (W.contents output.new)
         (E.contents errors.old) (E.contents errors.new)) }
 
-    // An input that is to be settings, and is refused, is none.
+    // If an input is refused as settings, it isn't in their format.
     ensures format { IfErr result (RefusesInput call.now beside.now
         (R.remaining reader.old) (R.remaining reader.new)) }
 
-    // Nothing was written before a fault, but where a writer failed.
+    // Before a fault nothing was written, unless a writer failed.
     ensures unwritten { IfErr result (Leaves (W.contents output.old) (W.contents output.new)) }
-    ensures untold { IfErr result (Leaves (E.contents errors.old) (E.contents errors.new)) }
+    ensures no_message { IfErr result (Leaves (E.contents errors.old) (E.contents errors.new)) }
 {
     let input = input_of(alloc, call, reader)?;
     let (report, refused) = report_of(alloc, call, beside, input.as_slice(), done)?;
@@ -62,7 +62,7 @@ pub fn run<R: Read, W: Write, E: Write, D: Discard>(
     Ok(status_of(refused))
 }
 
-// What the reader has left, where the call reads it.
+// Everything that the reader has left, if the call reads the input; else nothing.
 fn input_of<R: Read>(alloc: Global, call: &Call<'_>, reader: &mut R) -> Result<Vec<u8>, Fault>
     ensures ok { IfOk result (λ _. ReadsWhole
         call.now.reads_input (R.remaining reader.old) (R.remaining reader.new)) }
@@ -76,7 +76,7 @@ fn input_of<R: Read>(alloc: Global, call: &Call<'_>, reader: &mut R) -> Result<V
     Ok(Vec::new(alloc))
 }
 
-// What a call makes of its input, and whether something is refused, conflicting, left out or not found.
+// The report of a call, and whether something is refused, conflicting, left out or not found.
 fn report_of<D: Discard>(
     alloc: Global,
     call: &Call<'_>,
@@ -103,7 +103,8 @@ fn report_of<D: Discard>(
     Ok((report, refused))
 }
 
-// Tells what a call asks of its specs. But for three commands, all have to be good.
+// Reports what a call asks for. If a text is refused, commands other than `canon`, `check` and `explain` report
+// only the refusals.
 fn report_results<D: Discard>(
     alloc: Global,
     task: &Task<'_>,
@@ -135,7 +136,7 @@ fn report_results<D: Discard>(
     }
 }
 
-// Tells what a call finds for specs.
+// Reports the results of `plan`, `track` or `prefixes` for specs.
 fn report_found<D: Discard>(
     alloc: Global,
     task: &Task<'_>,
@@ -158,14 +159,13 @@ fn report_found<D: Discard>(
     }
 }
 
-// The exit status of a call.
 fn status_of(refused: bool) -> u8
     ensures { result ≡ exit_status refused }
 {
     if refused { 1 } else { 0 }
 }
 
-// Writes bytes in one call, and flushes the writer.
+// Writes all bytes, and flushes the writer.
 fn write_all<W: Write>(writer: &mut W, bytes: &[u8]) -> Result<(), Fault>
     ensures ok { OnOk result (Appends (W.contents writer.old) (W.contents writer.new) bytes.now) }
     ensures err { IfErr result IsWrite }

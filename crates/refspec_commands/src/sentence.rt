@@ -1,4 +1,4 @@
-//! What a spec means, in one sentence.
+//! The meaning of a spec, in one sentence.
 
 use crate::call::Form;
 use crate::quote::write_shown;
@@ -8,7 +8,7 @@ use gix_refspec::oid::is_id;
 use gix_refspec::{Instruction, RefSpecRef};
 use std::alloc::{AllocError, Global};
 
-/// Puts a sentence at the end that says what a spec does. Records have the names in it raw.
+/// Appends a sentence that says what a spec does, without a newline. In records its names are raw.
 pub fn write_sentence(
     alloc: Global,
     out: &mut Vec<u8>,
@@ -22,20 +22,19 @@ pub fn write_sentence(
     }
 }
 
-// When a ref that is there already is updated.
+// When a ref that exists already is updated.
 #[derive(Clone, Copy)]
 enum Update {
-    // By a fast-forward.
+    // Only by a fast-forward, unless forced.
     Branch,
     // Never, unless forced: Git keeps tags as they are.
     Tag,
-    // As a branch or as a tag: the names under a pattern may be of both kinds, and a name that isn't full may be
-    // of either.
+    // As a branch or as a tag: a pattern may match both, and a partial name may be either.
     Either,
 }
 
 impl Update {
-    // How a ref with a full name, or refs under a full pattern, are updated.
+    // How a ref with this full name, or the refs that match this full pattern, are updated.
     fn of(full: &[u8]) -> Update {
         let tags = b"refs/tags/".as_slice();
         if full.starts_with(tags) {
@@ -47,7 +46,7 @@ impl Update {
         }
     }
 
-    // How a sentence on it ends.
+    // The end of a sentence on such an update.
     fn end(self, allow_non_fast_forward: bool) -> &'static str {
         match (self, allow_non_fast_forward) {
             (Update::Branch, false) => ", if that is a fast-forward.",
@@ -61,7 +60,7 @@ impl Update {
     }
 }
 
-// A sentence that is being put at the end of bytes.
+// Appends the parts of one sentence to `out`.
 #[derive(Drop)]
 struct Sentence<'a> {
     alloc: Global,
@@ -70,7 +69,7 @@ struct Sentence<'a> {
 }
 
 impl Sentence<'_> {
-    // Says what a fetch does.
+    // Appends the sentence on a spec for a fetch.
     fn fetch(&mut self, fetch: Fetch<'_>) -> Result<(), AllocError> {
         match fetch {
             Fetch::Only { src } => {
@@ -87,7 +86,7 @@ impl Sentence<'_> {
         }
     }
 
-    // Says what a fetch writes.
+    // Appends the sentence on a fetch that updates refs.
     fn update(&mut self, src: &[u8], dst: &[u8], forced: bool) -> Result<(), AllocError> {
         if !is_pattern(dst) {
             return self.update_one(src, dst, forced);
@@ -108,7 +107,7 @@ impl Sentence<'_> {
         self.write(Update::of(dst).end(forced))
     }
 
-    // Says that a name below refs/ is wanted, if a pattern may have others too.
+    // Appends the restriction to names below `refs/`, if the pattern may match others too.
     fn only_below_refs(&mut self, dst: &[u8]) -> Result<(), AllocError> {
         if is_pattern(dst) && !dst.starts_with(b"refs/") {
             return self.write(" where that is below refs/");
@@ -116,7 +115,7 @@ impl Sentence<'_> {
         Ok(())
     }
 
-    // Says what a fetch writes of one ref: Git puts what is missing of a full name before the destination.
+    // Appends the sentence on a fetch of one ref. Git completes a partial destination to a full name.
     fn update_one(&mut self, src: &[u8], dst: &[u8], forced: bool) -> Result<(), AllocError> {
         if dst == b"@".as_slice() {
             return self.write("Fetches nothing: Git refuses @ as a destination.");
@@ -140,7 +139,7 @@ impl Sentence<'_> {
         Ok(())
     }
 
-    // Says what a push does. One without a destination pushes to the name that its source has.
+    // Appends the sentence on a spec for a push. Without a destination it pushes to the name of its source.
     fn push(&mut self, push: Push<'_>, is_one_sided: bool) -> Result<(), AllocError> {
         match push {
             Push::AllMatchingBranches {
@@ -193,7 +192,7 @@ impl Sentence<'_> {
         }
     }
 
-    // Says that a pattern takes nothing.
+    // Appends the sentence on a pattern that can match no ref.
     fn nothing(&mut self, verb: &str, src: &[u8]) -> Result<(), AllocError> {
         self.write(verb)?;
         self.write(" nothing: full names begin with refs/, so none matches ")?;
@@ -201,7 +200,7 @@ impl Sentence<'_> {
         self.write(".")
     }
 
-    // Says what is pushed, and to where.
+    // Appends what is pushed, and where to.
     fn pushed(&mut self, src: &[u8], dst: &[u8], is_one_sided: bool) -> Result<(), AllocError> {
         if is_one_sided && src == b"HEAD".as_slice() {
             return self.write("Pushes the current branch to the branch of its name on the remote");
@@ -222,7 +221,8 @@ impl Sentence<'_> {
         self.only_below_refs(dst)
     }
 
-    // Says what an exclusion leaves out. The names of refs are full, and so is what excludes one.
+    // Appends the sentence on a negative spec. It is matched against full ref names, so a side that can't be or
+    // match one excludes no branch.
     fn exclusion(&mut self, src: &[u8], operation: &str) -> Result<(), AllocError> {
         if !may_be_ref(src) {
             self.write(if is_pattern(src) {
@@ -242,38 +242,38 @@ impl Sentence<'_> {
         self.write(".")
     }
 
-    // The refs that a side takes, and where they are.
-    fn refs(&mut self, side: &[u8], location: &str) -> Result<(), AllocError> {
+    // Appends the refs that a side selects, and where they are.
+    fn refs(&mut self, side: &[u8], owner: &str) -> Result<(), AllocError> {
         if is_pattern(side) {
             self.write("each ref ")?;
-            self.write(location)?;
+            self.write(owner)?;
             self.write(" that matches ")?;
             return self.name(side);
         }
         self.name(side)?;
         self.write(" ")?;
-        self.write(location)
+        self.write(owner)
     }
 
-    // A name.
+    // Appends a name as the form shows it.
     fn name(&mut self, name: &[u8]) -> Result<(), AllocError> {
         write_shown(self.out, name, self.form)
     }
 
-    // A name with the folder that Git puts before it.
+    // Appends a name with the folder that Git puts before it.
     fn name_in(&mut self, folder: &str, name: &[u8]) -> Result<(), AllocError> {
         let mut full = Vec::from_slice(self.alloc, folder.as_bytes())?;
         full.extend_from_slice(name)?;
         self.name(full.as_slice())
     }
 
-    // Bytes of the sentence itself.
+    // Appends text of the sentence itself, unquoted.
     fn write(&mut self, text: &str) -> Result<(), AllocError> {
         self.out.extend_from_slice(text.as_bytes())
     }
 }
 
-// What Git puts before the destination of a fetch that is to be a full name.
+// The prefix with which Git completes the destination of a fetch to a full name.
 fn folder_of(name: &[u8]) -> &'static str {
     if name.starts_with(b"refs/") {
         ""
@@ -292,19 +292,19 @@ fn is_pattern(side: &[u8]) -> bool {
     side.contains(&b'*')
 }
 
-// Whether a side is a name below `refs/`, or a pattern that such a name may match.
+// Whether a side is a name below `refs/`, or a pattern that may match one.
 fn may_be_below_refs(side: &[u8]) -> bool {
     may_begin(side, b"refs/")
 }
 
-// Whether a side is a full name, or a pattern that one may match.
+// Whether a side is a full name, or a pattern that may match one.
 fn may_be_ref(side: &[u8]) -> bool {
     side == b"HEAD".as_slice()
         || may_be_below_refs(side)
         || is_pattern(side) && may_begin(side, b"HEAD")
 }
 
-// Whether a side begins so, or is a pattern whose names may begin so.
+// Whether a side begins with `start`, or is a pattern that may match a name that does.
 fn may_begin(side: &[u8], start: &[u8]) -> bool {
     if side.starts_with(start) {
         return true;

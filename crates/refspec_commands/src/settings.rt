@@ -1,4 +1,4 @@
-//! The settings of a configuration, as Git prints them.
+//! The settings of a Git configuration, as `git config --show-origin -z` prints them.
 
 ghost use Rattle.std.specs.Prelude.{IfErr, IfOk, MatchBool, MatchOption};
 ghost use Rattle.refspec_commands.specs.Fault.{RefusesFormat};
@@ -11,17 +11,18 @@ use bstr::ByteSlice;
 use gix_refspec::parsing::Operation;
 use std::alloc::Global;
 
-/// A setting, which `git config --show-origin -z` prints as two records.
+/// A setting, read from two records.
 #[derive(Clone, Copy, Debug)]
 pub struct Setting<'a> {
-    /// Where it is from, as `file:.git/config`.
+    /// The origin, such as `file:.git/config`.
     pub origin: &'a [u8],
     pub key: &'a [u8],
-    /// Its value, unless the key stands alone.
+    /// The value; `None` for a key without `=`.
     pub value: Option<&'a [u8]>,
 }
 
-/// The settings of both inputs of a call, where their records are those of settings.
+/// The settings of the file of specs (`beside`) and then of the input, if the call reads settings; else none.
+/// Refused if one of them isn't in the format of settings.
 pub fn settings_in<'a>(
     alloc: Global,
     ends: Terminator,
@@ -43,7 +44,7 @@ pub fn settings_in<'a>(
     }
 }
 
-/// The settings of an input.
+/// The settings of an input. Refused if the input isn't in the format of settings.
 pub fn settings_of(alloc: Global, input: &[u8]) -> Result<Vec<Setting<'_>>, Fault>
     ensures ok { IfOk result (λ settings. AreSettings input.now settings.items) }
     ensures err { IfErr result (RefusesFormat (IsNoSettings input.now)) }
@@ -71,7 +72,7 @@ pub fn settings_of(alloc: Global, input: &[u8]) -> Result<Vec<Setting<'_>>, Faul
     }
 }
 
-// The setting that an origin and the text of a record say.
+// Reads a setting from its origin and the record after it.
 fn read_setting<'a>(origin: &'a [u8], text: &'a [u8]) -> Setting<'a>
     requires { IsOrigin origin.now }
     ensures { IsSetting origin.now text.now result }
@@ -93,7 +94,7 @@ fn read_setting<'a>(origin: &'a [u8], text: &'a [u8]) -> Setting<'a>
     }
 }
 
-// Whether the text of a record says where a setting is from.
+// Whether the text of a record is the origin of a setting.
 fn is_origin(text: &[u8]) -> bool
     ensures { MatchBool result (IsOrigin text.now) (¬ (IsOrigin text.now)) }
 {
@@ -102,7 +103,7 @@ fn is_origin(text: &[u8]) -> bool
     is_file | is_other
 }
 
-/// The operation of the refspecs that a key has, if it has some.
+/// The operation of the refspecs under a key, or `None` if the key isn't one of refspecs.
 pub fn operation_of(key: &[u8]) -> Option<Operation>
     ensures { MatchOption result ((op : Operation) → ¬ (HoldsSpecs key.now op)) (HoldsSpecs key.now) }
 {
@@ -128,7 +129,7 @@ pub fn has_lacking(settings: &[Setting<'_>]) -> bool
     false
 }
 
-/// Whether a setting is to have a refspec, and has no value.
+/// Whether the key of a setting is one of refspecs, and its value is missing.
 pub fn lacks_value(setting: &Setting<'_>) -> bool
     ensures { MatchBool result (LacksValue setting.now) (¬ (LacksValue setting.now)) }
 {
@@ -141,7 +142,7 @@ pub fn lacks_value(setting: &Setting<'_>) -> bool
     }
 }
 
-// Why an input is not settings.
+// Why an input isn't in the format of settings.
 fn why_not(input: &[u8]) -> NotSettings {
     let (first, _) = first_record(input, 0);
     if first.len() == input.len() {
@@ -160,7 +161,7 @@ fn why_not(input: &[u8]) -> NotSettings {
     }
 }
 
-// Whether the first line that is no comment begins a section.
+// Whether the first line that is neither empty nor a comment begins a section.
 fn is_configuration_file(input: &[u8]) -> bool {
     let mut lines = input.lines().map(|line| line.trim_start());
     match lines.find(|line| !matches!(line.first(), None | Some(b'#' | b';'))) {

@@ -1,4 +1,4 @@
-//! What is shown of specs alone: whether they are good, and what they mean.
+//! Results on specs alone, without refs: whether they are good, and what they mean.
 
 ghost use Rattle.std.specs.Prelude.{◌≡◌, ◌∷◌, [], option_map, OnOk};
 ghost use Rattle.bstr.specs.Owned.{bstring_bytes};
@@ -10,8 +10,8 @@ ghost use Rattle.refspec_commands.specs.Read.{IsRefusalOf};
 use crate::call::{Command, Form};
 use crate::checked::Checked;
 use crate::json;
-use crate::report::Report;
 use crate::quote::write_quoted;
+use crate::report::Report;
 use crate::sentence::write_sentence;
 use crate::texts::{Location, Text};
 use bstr::BString;
@@ -21,7 +21,7 @@ use refspec_json::SpecKind;
 use std::alloc::{AllocError, Global};
 use std::collections::BTreeMap;
 
-/// Tells what each text is: refusals, and of good texts what the command asks for.
+/// Reports each refusal and, for each spec, what the command asks for, in order.
 pub fn report_specs(
     alloc: Global,
     command: Command,
@@ -44,7 +44,7 @@ pub fn report_specs(
     Ok(())
 }
 
-// Tells of a spec what the command asks for.
+// Reports the meaning of a spec for `explain`; for `check`, that the spec is good, if `verbose`.
 fn report_spec<'a>(
     alloc: Global,
     command: Command,
@@ -55,7 +55,7 @@ fn report_spec<'a>(
     report: &mut Report,
 ) -> Result<(), AllocError>
     ensures form { OnOk result (report.new.form ≡ report.old.form) }
-    ensures untold { OnOk result (report.new.messages ≡ report.old.messages) }
+    ensures no_message { OnOk result (report.new.messages ≡ report.old.messages) }
 {
     match command {
         Command::Explain => report_meaning(alloc, text, spec, report),
@@ -64,8 +64,12 @@ fn report_spec<'a>(
     }
 }
 
-/// Refuses each text that is no spec, and tells nothing of the others.
-pub fn report_refusals(alloc: Global, all: &[Checked<'_>], report: &mut Report) -> Result<(), AllocError>
+/// Reports each refusal, in order, and nothing about the specs.
+pub fn report_refusals(
+    alloc: Global,
+    all: &[Checked<'_>],
+    report: &mut Report,
+) -> Result<(), AllocError>
     ensures objects { OnOk result (AddsObjects report.old.form IsRefusalOf all.now
         report.old.results.items report.new.results.items) }
     ensures reported { OnOk result (ReportsRefusals report.old.form all.now
@@ -77,7 +81,7 @@ pub fn report_refusals(alloc: Global, all: &[Checked<'_>], report: &mut Report) 
     Ok(())
 }
 
-// Refuses a text that is no spec.
+// Reports the refusal of a checked text, if it is refused.
 fn refuse_bad(alloc: Global, checked: &Checked<'_>, report: &mut Report) -> Result<(), AllocError>
     ensures form { OnOk result (report.new.form ≡ report.old.form) }
     ensures objects { OnOk result (AddsObjects report.old.form IsRefusalOf (checked.now ∷ [])
@@ -91,7 +95,7 @@ fn refuse_bad(alloc: Global, checked: &Checked<'_>, report: &mut Report) -> Resu
     }
 }
 
-// Tells what a spec means.
+// Reports the meaning of a spec.
 fn report_meaning(
     alloc: Global,
     text: &Text<'_>,
@@ -99,7 +103,7 @@ fn report_meaning(
     report: &mut Report,
 ) -> Result<(), AllocError>
     ensures form { OnOk result (report.new.form ≡ report.old.form) }
-    ensures untold { OnOk result (report.new.messages ≡ report.old.messages) }
+    ensures no_message { OnOk result (report.new.messages ≡ report.old.messages) }
 {
     match report.form {
         Form::Lines => {
@@ -115,7 +119,7 @@ fn report_meaning(
             let mut sentence = Vec::new(alloc);
             write_sentence(alloc, &mut sentence, spec, report.form)?;
             let sentence = json::text_of(alloc, sentence.as_slice())?;
-            write_reported(
+            write_spec(
                 alloc,
                 SpecKind::Meaning,
                 text,
@@ -129,7 +133,7 @@ fn report_meaning(
     Ok(())
 }
 
-// Tells that a text is good, and which earlier one says the same.
+// Reports that a spec is good, and the location of an earlier duplicate, if there is one.
 fn report_good<'a>(
     alloc: Global,
     text: &Text<'a>,
@@ -138,7 +142,7 @@ fn report_good<'a>(
     report: &mut Report,
 ) -> Result<(), AllocError>
     ensures form { OnOk result (report.new.form ≡ report.old.form) }
-    ensures untold { OnOk result (report.new.messages ≡ report.old.messages) }
+    ensures no_message { OnOk result (report.new.messages ≡ report.old.messages) }
 {
     let canonical = spec.to_bstring(alloc)?;
     let earlier = seen.earlier(alloc, text, &canonical)?;
@@ -148,7 +152,7 @@ fn report_good<'a>(
             Some(location) => Some(json::shown_location(alloc, location)?),
         };
         let same_as = location.as_ref().map(|location| location.as_str());
-        return write_reported(
+        return write_spec(
             alloc,
             SpecKind::Good,
             text,
@@ -161,7 +165,8 @@ fn report_good<'a>(
     write_good(text, &canonical, &earlier, report.form, &mut report.results)
 }
 
-// Puts the line, or the fields, of a good text at the end.
+// Appends the line of a good spec, or its three fields: location, canonical text, and the location of an
+// earlier duplicate.
 fn write_good(
     text: &Text<'_>,
     canonical: &BString,
@@ -192,8 +197,8 @@ fn write_good(
     Ok(())
 }
 
-/// Puts the object of a spec at the end.
-pub fn write_reported(
+/// Appends the object of a spec, as a line.
+pub fn write_spec(
     alloc: Global,
     kind: SpecKind,
     text: &Text<'_>,
@@ -221,21 +226,20 @@ pub fn write_reported(
     object.write_line(alloc, out)
 }
 
-// Where each canonical text stood first, by its operation and its bytes.
+// The first location of each canonical text. A key is one byte for the operation, and the text.
 #[derive(Drop)]
 struct Seen<'a> {
     locations: BTreeMap<Vec<u8>, Location<'a>>,
 }
 
 impl<'a> Seen<'a> {
-    // No texts.
     fn new(alloc: Global) -> Seen<'a> {
         Seen {
             locations: BTreeMap::new(alloc),
         }
     }
 
-    // Where an earlier text stood that says the same. If there is none, this one is kept.
+    // The location of an earlier spec with the same operation and canonical text. Without one, adds this spec.
     fn earlier(
         &mut self,
         alloc: Global,

@@ -1,4 +1,4 @@
-//! The line on a terminal that sums up a plan.
+//! The line that sums up a plan on a terminal.
 
 ghost use Rattle.std.specs.Prelude.{OnOk};
 ghost use Rattle.refspec_commands.specs.Plan.{KeepsConflicts};
@@ -10,15 +10,16 @@ use gix_refspec::{MatchGroup, RefSpecRef};
 use std::alloc::{AllocError, Global};
 use std::mem;
 
-/// What is known of a plan before it is made, if it is to be summed up.
+/// The counts that must be taken before a plan consumes its specs, if it is to be summed up.
 #[derive(Clone, Copy, Debug)]
 pub struct Summary {
-    // How many refs there are, and how many of them the specs take, if the negative ones are passed over.
+    // The number of refs, and how many of them the positive specs map, without exclusions.
     counts: Option<(usize, usize)>,
 }
 
 impl Summary {
-    /// Counts the refs that specs take without the negative ones, if lines of the call are shown on a terminal.
+    /// Counts the refs that the positive specs map, without exclusions, if the results are lines and messages go
+    /// to a terminal.
     pub fn of(
         alloc: Global,
         call: &Call<'_>,
@@ -47,7 +48,8 @@ impl Summary {
         })
     }
 
-    /// Puts the line at the end: how many refs are written by how many specs, and how many are left out by what.
+    /// Appends the line: how many refs are written by how many specs, how many negative specs leave out, and how
+    /// many are left out for an invalid name. Appends nothing without counts, or if the plan has conflicts.
     pub fn write(
         &self,
         alloc: Global,
@@ -74,7 +76,7 @@ impl Summary {
     }
 }
 
-// Which refs and which specs mappings have, each counted once.
+// The distinct refs and the distinct specs of mappings.
 #[derive(Drop)]
 struct Seen {
     refs: usize,
@@ -84,7 +86,7 @@ struct Seen {
 }
 
 impl Seen {
-    // None of so many refs and specs.
+    // Nothing counted yet, of at most this many refs and specs.
     fn new(alloc: Global, refs: usize, specs: usize) -> Result<Seen, AllocError> {
         let mut seen = Seen {
             refs: 0,
@@ -97,7 +99,7 @@ impl Seen {
         Ok(seen)
     }
 
-    // Counts the ref and the spec of a mapping. An object id stands for a ref.
+    // Counts the ref and the spec of a mapping, if they are new. An object id always counts as a new ref.
     fn add(&mut self, mapping: &Mapping<'_, '_>) {
         let is_new = match mapping.item_index {
             None => true,
@@ -120,7 +122,6 @@ fn set(flags: &mut Vec<bool>, index: usize) -> bool {
     }
 }
 
-// Puts the line at the end.
 fn write_line(
     alloc: Global,
     refs: usize,
@@ -144,7 +145,7 @@ fn write_line(
     Ok(out.push(b'\n')?)
 }
 
-// A number of things.
+// A number and a noun, in the singular or the plural.
 fn counted(alloc: Global, count: usize, thing: &str) -> Result<String, AllocError> {
     match count {
         1 => format!(in alloc; "1 {thing}"),

@@ -8,14 +8,14 @@ use crate::quote::{is_plain, is_plain_ascii, write_in_quotes, write_quoted};
 use std::alloc::{AllocError, Global};
 use unicode_width::UnicodeWidthStr;
 
-/// How a table is laid out.
+/// The column widths of a table.
 #[derive(Clone, Copy, Debug)]
 pub struct Layout {
-    /// How wide the widest field of each column is, as it is shown.
+    /// The width of the widest field of each column, as shown.
     pub first: usize,
     pub second: usize,
     pub last: usize,
-    /// Whether each field so far is shown as it is, and takes a column of the terminal for each byte.
+    /// Whether every field so far is plain ASCII: shown unquoted, and as wide as it has bytes.
     pub is_ascii: bool,
 }
 
@@ -30,7 +30,7 @@ impl Layout {
         }
     }
 
-    /// How wide a field is, as it is shown. It is one of the table from then on.
+    /// The width of a field as shown, in terminal columns. Clears `is_ascii` unless the field is plain ASCII.
     pub fn width_of(&mut self, alloc: Global, field: &[u8]) -> Result<usize, AllocError> {
         if is_plain_ascii(field) {
             return Ok(field.len());
@@ -39,7 +39,7 @@ impl Layout {
         width_of(alloc, field)
     }
 
-    /// How many bytes so many rows have at the most, where each character is a byte.
+    /// The most bytes that this many rows take, if each column is one byte. Saturates.
     pub fn room(&self, rows: usize) -> usize {
         let width = self
             .first
@@ -48,7 +48,7 @@ impl Layout {
         width.saturating_add(5).saturating_mul(rows)
     }
 
-    /// Puts a field at the end, and spaces up to a width and two more.
+    /// Appends a field as shown, padded with spaces to a width, and two more spaces.
     #[inline]
     pub fn write_cell(
         &self,
@@ -64,7 +64,7 @@ impl Layout {
         write_spaces(out, width.saturating_sub(shown).saturating_add(2))
     }
 
-    // How wide one of the fields is, as it is shown.
+    // The width as shown of a field that `width_of` has measured.
     fn shown_width(&self, alloc: Global, field: &[u8]) -> Result<usize, AllocError> {
         if self.is_ascii {
             return Ok(field.len());
@@ -72,7 +72,7 @@ impl Layout {
         width_of(alloc, field)
     }
 
-    /// Puts a field at the end.
+    /// Appends a field as shown, without padding.
     #[inline(always)]
     pub fn write_field(&self, out: &mut Vec<u8>, field: &[u8]) -> Result<(), AllocError>
         ensures { OnOk result (WritesQuoted field.now out.old.items out.new.items) }
@@ -84,7 +84,7 @@ impl Layout {
     }
 }
 
-// How many columns of a terminal a field takes as it is shown. A quoted one is ASCII.
+// The width of a field as shown, in terminal columns. A quoted field is ASCII.
 fn width_of(alloc: Global, field: &[u8]) -> Result<usize, AllocError> {
     if is_plain(field) {
         return Ok(str::from_utf8(field).unwrap_or("").width());
@@ -94,7 +94,7 @@ fn width_of(alloc: Global, field: &[u8]) -> Result<usize, AllocError> {
     Ok(quoted.len())
 }
 
-// Puts spaces at the end.
+// Appends spaces. Fails if the length would overflow, or memory runs out.
 fn write_spaces(out: &mut Vec<u8>, count: usize) -> Result<(), AllocError>
     ensures { OnOk result (out.new.items ≡ out.old.items ++ replicate count 32) }
 {

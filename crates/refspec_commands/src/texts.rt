@@ -1,11 +1,11 @@
-//! The texts of specs, and where they are.
+//! The texts of specs, and their locations.
 
 ghost use Rattle.std.specs.Prelude.{◌≡◌, ◌++◌, ◌∷◌, [], decimal, map, IfOk, OnOk};
 ghost use Rattle.refspec_commands.specs.Input.{end_byte};
 ghost use Rattle.refspec_commands.specs.Settings.{AreSettingsOf};
 ghost use Rattle.refspec_commands.specs.Texts.{AddsInputs, AddsRecords, AddsValues, AreTexts, given_of, numbered, record_at, spec_input};
 
-use crate::call::{Call, Command, Terminator, Form};
+use crate::call::{Call, Command, Form, Terminator};
 use crate::input::{end_of, records};
 use crate::quote::write_shown;
 use crate::settings::{Setting, operation_of};
@@ -13,11 +13,11 @@ use gix_refspec::parsing::Operation;
 use itoa::Buffer;
 use std::alloc::{AllocError, Global};
 
-/// Where a text is found.
+/// Where the text of a spec was given.
 #[derive(Clone, Copy, Debug)]
 pub enum Location<'a> {
-    /// The word of the call with this number, counted from 1.
-    Word(usize),
+    /// The spec with this number among the arguments, counted from 1.
+    Argument(usize),
     /// The record of an input with this number, counted from 1.
     Record { input: &'a str, number: usize },
     /// The setting of a configuration with this key.
@@ -35,12 +35,12 @@ pub struct Text<'a> {
 impl Location<'_> {
     ghost use Rattle.refspec_commands.specs.Messages.{WritesLocation};
 
-    /// Puts the place at the end, as compilers show places.
+    /// Appends the location, in the format of compilers: `spec 1`, `INPUT:1`, or `ORIGIN: KEY`.
     pub fn write(&self, out: &mut Vec<u8>, form: Form) -> Result<(), AllocError>
         ensures { OnOk result (WritesLocation form self.now out.old.items out.new.items) }
     {
         match self {
-            Location::Word(number) => {
+            Location::Argument(number) => {
                 out.extend_from_slice(b"spec ")?;
                 write_number(out, *number)
             }
@@ -58,7 +58,7 @@ impl Location<'_> {
     }
 }
 
-/// Puts a number at the end.
+/// Appends a number in decimal.
 pub fn write_number(out: &mut Vec<u8>, number: usize) -> Result<(), AllocError>
     ensures { OnOk result (out.new.items ≡ out.old.items ++ decimal number) }
 {
@@ -66,8 +66,8 @@ pub fn write_number(out: &mut Vec<u8>, number: usize) -> Result<(), AllocError>
     out.extend_from_slice(buffer.format(number).as_bytes())
 }
 
-/// The texts of the specs of a call: those among its words, those of the file beside the input, and, but
-/// for a plan, those of the input. Where both are settings, these are given.
+/// The texts of the specs of a call: those among its arguments, those of the file of specs (`beside`), and,
+/// except for a plan, those of the input. If the call reads settings, `settings` has those of both.
 pub fn texts_of<'a>(
     alloc: Global,
     call: &Call<'a>,
@@ -82,7 +82,7 @@ pub fn texts_of<'a>(
     let mut texts = Vec::new(alloc);
     for word in &call.specs {
         texts.push(Text {
-            location: Location::Word(texts.len().saturating_add(1)),
+            location: Location::Argument(texts.len().saturating_add(1)),
             operation: call.operation,
             bytes: word.as_bytes(),
         })?;
@@ -92,7 +92,7 @@ pub fn texts_of<'a>(
     Ok(texts)
 }
 
-/// What a command reads of its input as specs: a plan has its refs there.
+/// The part of its input that a command reads as specs: nothing for a plan, whose input is refs.
 pub fn spec_input(command: Command, input: &[u8]) -> &[u8]
     ensures { result.now ≡ spec_input command input.now }
 {
@@ -102,7 +102,7 @@ pub fn spec_input(command: Command, input: &[u8]) -> &[u8]
     }
 }
 
-// Adds the texts of both inputs: the refspecs among settings, or the records.
+// Adds the texts of the file of specs and of the input: the refspecs among settings, or the records.
 fn add_inputs<'a>(
     alloc: Global,
     call: &Call<'a>,
@@ -124,7 +124,7 @@ fn add_inputs<'a>(
     }
 }
 
-// Adds the records of an input, each as a text.
+// Splits an input into records, and adds each as a text.
 fn add_texts<'a>(
     alloc: Global,
     call: &Call<'a>,
@@ -139,7 +139,7 @@ fn add_texts<'a>(
     add_records(call.operation, name, records.as_slice(), texts)
 }
 
-// Adds records, each as a text.
+// Adds each record as a text, numbered from 1.
 fn add_records<'a>(
     operation: Operation,
     name: &'a str,
@@ -165,7 +165,7 @@ fn add_records<'a>(
     Ok(())
 }
 
-// Adds the refspecs among settings.
+// Adds the text of each refspec among settings.
 fn add_values<'a>(settings: &[Setting<'a>], texts: &mut Vec<Text<'a>>) -> Result<(), AllocError>
     ensures { OnOk result (AddsValues settings.now
         (map given_of texts.old.items) (map given_of texts.new.items)) }
@@ -176,7 +176,7 @@ fn add_values<'a>(settings: &[Setting<'a>], texts: &mut Vec<Text<'a>>) -> Result
     Ok(())
 }
 
-// Adds the refspec that a setting has, if it has one.
+// Adds the refspec of a setting, if its key is one of refspecs and it has a value.
 fn add_value<'a>(setting: &Setting<'a>, texts: &mut Vec<Text<'a>>) -> Result<(), AllocError>
     ensures { OnOk result (AddsValues (setting.now ∷ [])
         (map given_of texts.old.items) (map given_of texts.new.items)) }

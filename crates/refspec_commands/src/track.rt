@@ -1,4 +1,4 @@
-//! Which refs of a remote tracking refs belong to.
+//! The remote refs that tracking refs are fetched from.
 
 ghost use Rattle.std.specs.Prelude.{◌≡◌, ◌++◌, codes, map, replicate, IfOk, MatchBool, OnOk};
 ghost use Rattle.gix_refspec.specs.Views.Group.{mapped_of, ref_of};
@@ -13,8 +13,8 @@ ghost use Rattle.refspec_commands.specs.Track.{AddsTracked, AreByNames, AreWritt
 use crate::call::{Call, Form};
 use crate::json;
 use crate::mappings::{Columns, canonical_texts, report_mappings};
-use crate::report::Report;
 use crate::quote::write_quoted;
+use crate::report::Report;
 use bstr::{BStr, BString};
 use gix_refspec::match_group::{Item, Mapping, has_id_destination, match_rhs};
 use gix_refspec::oid::{Kind, ObjectId};
@@ -22,8 +22,8 @@ use gix_refspec::{MatchGroup, RefSpecRef};
 use std::alloc::{AllocError, Global};
 use std::collections::BTreeSet;
 
-/// Tells which refs of the remote the tracking refs of a call are fetched from, and which belong to none. Returns
-/// whether some belong to none, or a spec can't be looked up by names.
+/// Reports the remote refs from which the tracking refs of a call are fetched, and the tracking refs that no spec
+/// writes. Returns whether there are such refs, or a spec whose destination is an object id.
 pub fn report_tracking(
     alloc: Global,
     call: &Call<'_>,
@@ -56,7 +56,7 @@ pub fn report_tracking(
     Ok(has_other)
 }
 
-// The specs that refs can be looked up by. Of the others is told.
+// The specs by which refs can be looked up, in order. Reports the others, whose destination is an object id.
 fn by_names<'a>(
     alloc: Global,
     specs: &[RefSpecRef<'a>],
@@ -80,8 +80,12 @@ fn by_names<'a>(
 const WHY_TO_OBJECT: &str =
     "The destination reads as an object id, so no ref can be looked up by its name. Write the full name of a ref, such as refs/heads/x.";
 
-// Tells of a spec whose destination is an object id.
-fn report_to_object(alloc: Global, spec: &RefSpecRef<'_>, report: &mut Report) -> Result<(), AllocError>
+// Reports a spec whose destination is an object id.
+fn report_to_object(
+    alloc: Global,
+    spec: &RefSpecRef<'_>,
+    report: &mut Report,
+) -> Result<(), AllocError>
     ensures { OnOk result (KeepsReport report.old report.new) }
 {
     let canonical = spec.to_bstring(alloc)?;
@@ -100,7 +104,7 @@ fn report_to_object(alloc: Global, spec: &RefSpecRef<'_>, report: &mut Report) -
     }
 }
 
-// Puts the object of such a spec and a sentence on it at the end.
+// Appends the object of such a spec and a sentence on it, as a line.
 fn write_to_object(
     alloc: Global,
     spec: &[u8],
@@ -118,7 +122,7 @@ fn write_to_object(
     object.write_line(alloc, out)
 }
 
-// Refs with these names. They point to the null id: of a tracking ref the name alone is given.
+// Refs with these names, in order. All have the target `target`, since only their names are known.
 fn items_named<'a>(
     alloc: Global,
     names: &[&'a str],
@@ -138,7 +142,7 @@ fn items_named<'a>(
     Ok(items)
 }
 
-// Tells of the refs that no mapping has. Returns whether there are some.
+// Reports the refs that no mapping writes. Returns whether there are any.
 fn report_others(
     alloc: Global,
     names: &[&str],
@@ -178,7 +182,7 @@ fn written_by<'a>(
     Ok(written)
 }
 
-/// What specs for a fetch map back of the items.
+/// Maps the items, as destinations, back to their sources by specs for a fetch.
 pub fn tracked<'spec, 'item>(
     alloc: Global,
     specs: Vec<RefSpecRef<'spec>>,
@@ -195,7 +199,7 @@ pub fn tracked<'spec, 'item>(
     }
 }
 
-// Tells of a ref that no spec writes.
+// Reports a ref that no spec writes.
 fn report_untracked(alloc: Global, name: &[u8], report: &mut Report) -> Result<(), AllocError>
     ensures { OnOk result (KeepsReport report.old report.new) }
 {
@@ -206,7 +210,7 @@ fn report_untracked(alloc: Global, name: &[u8], report: &mut Report) -> Result<(
     }
 }
 
-// What there is to say of such a ref.
+// The message on a ref that no spec writes.
 fn why_untracked(name: &[u8]) -> &'static str {
     if name.starts_with(b"refs/") {
         "No spec writes this ref."
@@ -215,7 +219,7 @@ fn why_untracked(name: &[u8]) -> &'static str {
     }
 }
 
-// Puts the line of such a ref, or of such a spec, at the end.
+// Appends a line with a name or a spec, and a message on it.
 fn write_line(name: &[u8], message: &str, out: &mut Vec<u8>) -> Result<(), AllocError> {
     write_quoted(out, name)?;
     out.extend_from_slice(b": ")?;
@@ -224,7 +228,7 @@ fn write_line(name: &[u8], message: &str, out: &mut Vec<u8>) -> Result<(), Alloc
     Ok(())
 }
 
-// Puts the object of such a ref at the end.
+// Appends the object of a ref that no spec writes, as a line.
 fn write_object(
     alloc: Global,
     name: &[u8],

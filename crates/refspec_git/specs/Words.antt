@@ -1,8 +1,8 @@
--- Words of a call of `git refspec`.
+-- The arguments of a call of `git refspec`.
 use Rattle.std.specs.Prelude.{ℕ, List, [], ◌∷◌, codes}
 use Rattle.gix_refspec_text.specs.Texts.Words.{BeginsWith}
 
--- what begins as specs alone do: with nothing, a plus, a caret or refs/
+-- arguments that begin as only specs do: the empty one, and those that begin with `+`, `^` or `refs/`
 pub data BeginsAsSpec : List ℕ → Type 0 where
   empty : BeginsAsSpec []
   forced : (rest : List ℕ) → BeginsAsSpec (43 ∷ rest)

@@ -1,15 +1,15 @@
-//! The answer of a call, or what it needs of Git first.
+//! The answer to a call, or the Git commands that it needs first.
 
 ghost use Rattle.std.specs.Prelude.{◌≤◌, OnOk};
 
-use crate::ask::{BRANCH, CONFIG, FOLDER, GitCall, ARGUMENTS};
+use crate::arguments::{Command, Request, Wish, wish_of};
+use crate::ask::{ARGUMENTS, BRANCH, CONFIG, FOLDER, GitCall};
 use crate::checking::{report_check, report_refused_values};
 use crate::choice::{Repository, choice_of};
 use crate::fetch::{report_plan, report_prefixes};
 use crate::refusal::Refusal;
 use crate::tracking::report_tracking;
 use crate::usage::{OPTIONS, USAGE, VERSION};
-use crate::arguments::{Command, Request, Wish, wish_of};
 use refspec_commands::call::Call;
 use refspec_commands::fault::Fault;
 use refspec_commands::input::records;
@@ -18,34 +18,34 @@ use refspec_commands::run::run;
 use refspec_commands::settings::settings_of;
 use std::alloc::{AllocError, AllocFailed, Global};
 
-/// The machine that a call runs on.
+/// The files of a call, and its terminal.
 pub trait Machine {
-    /// The words of the call, or what a command of Git printed. `None` before it ran.
+    /// The arguments of the call, or the output of a Git command. `None` before the command ran.
     fn output(&self, file: &str) -> Result<Option<Vec<u8>>, Fault>;
 
-    /// The names of the files of a folder, sorted. None if there is no such folder.
+    /// The names of the files of a folder, sorted. Empty if there is no such folder.
     fn names(&self, folder: &str) -> Result<Vec<String>, Fault>;
 
-    /// Whether something has this path.
+    /// Whether a file or folder has this path.
     fn has(&self, path: &str) -> bool;
 
     /// Whether messages go to a terminal.
     fn is_watched(&self) -> bool;
 }
 
-/// A remote of a file of `.git/remotes` or `.git/branches`.
+/// A remote that has a file in `.git/remotes` or `.git/branches`.
 #[derive(Debug, Drop)]
 pub struct OldRemote {
     pub name: Vec<u8>,
     pub folder: String,
 }
 
-/// What a call comes to.
+/// The result of a call.
 #[derive(Debug, Drop)]
 pub enum Answer {
-    /// It needs the outputs of these commands first, as `GitCall::put` writes them.
+    /// It needs the outputs of these commands first, as `GitCall::write` writes them.
     Asks(Vec<u8>),
-    /// It ends with these.
+    /// It ends with this output and exit status.
     Reports(Output),
 }
 
@@ -60,7 +60,7 @@ pub struct Output {
 }
 
 impl Output {
-    /// Nothing, with status 0.
+    /// An empty output, with exit status 0.
     pub fn new(alloc: Global) -> Output {
         Output {
             results: Vec::new(alloc),
@@ -69,7 +69,7 @@ impl Output {
         }
     }
 
-    /// Adds the message of a refusal. The status is no longer 0 then.
+    /// Adds the message of a refusal, and raises the exit status to that of the refusal. Fails if memory runs out.
     pub fn refuse(&mut self, refusal: &Refusal<'_>) -> Result<(), AllocError>
         ensures ok { OnOk result (1 ≤ self.new.status) }
         ensures kept { self.old.status ≤ self.new.status }
@@ -78,7 +78,7 @@ impl Output {
         refusal.write(&mut self.messages)
     }
 
-    /// Adds what `refspec` tells of a call. A status that isn't 0 stays so.
+    /// Runs a call of `refspec`, and adds its output. The exit status becomes the greater of both.
     pub fn run<D: Discard>(
         &mut self,
         alloc: Global,
@@ -106,9 +106,9 @@ impl Output {
 /// Why a call stops early.
 #[derive(Debug)]
 pub enum Stop<'a> {
-    /// Words or settings are refused.
+    /// Arguments or settings are refused.
     Refused(Refusal<'a>),
-    /// A file or memory fails.
+    /// A file fails, or memory runs out.
     Failed(Fault),
 }
 
@@ -136,7 +136,8 @@ impl<'a, T: Drop> From<AllocFailed<T>> for Stop<'a> {
     }
 }
 
-/// What a call comes to, on a machine. A plan is handed to `done`.
+/// The result of the call whose arguments a machine has. A plan is passed to `done`. Fails if a file can't be read or
+/// is malformed, or memory runs out; a refused argument or setting is an answer.
 pub fn answer_call<M: Machine, D: Discard>(
     alloc: Global,
     machine: &M,
@@ -148,7 +149,7 @@ pub fn answer_call<M: Machine, D: Discard>(
     let arguments = records(alloc, arguments.as_slice(), 0)?;
     match wish_of(alloc, arguments.as_slice()) {
         Err(refusal) => refused(alloc, &refusal),
-        Ok(Wish::Report) => shown(alloc, &[USAGE, OPTIONS]),
+        Ok(Wish::Usage) => shown(alloc, &[USAGE, OPTIONS]),
         Ok(Wish::Version) => shown(alloc, &[VERSION]),
         Ok(Wish::Manual) => asks(alloc, &[GitCall::Manual]),
         Ok(Wish::Request(request)) => answer_request(alloc, machine, &request, done),
@@ -171,7 +172,7 @@ fn shown(alloc: Global, texts: &[&str]) -> Result<Answer, Fault> {
     Ok(Answer::Reports(reported))
 }
 
-/// Asks for commands.
+/// An answer that asks for commands. Fails if memory runs out.
 pub fn asks(alloc: Global, calls: &[GitCall<'_>]) -> Result<Answer, Fault> {
     let mut lines = Vec::new(alloc);
     for call in calls {
@@ -180,7 +181,7 @@ pub fn asks(alloc: Global, calls: &[GitCall<'_>]) -> Result<Answer, Fault> {
     Ok(Answer::Asks(lines))
 }
 
-// Answers a request.
+// Answers a request, or asks for the commands on the repository that haven't run.
 fn answer_request<M: Machine, D: Discard>(
     alloc: Global,
     machine: &M,
@@ -209,7 +210,7 @@ fn answer_request<M: Machine, D: Discard>(
     }
 }
 
-// An output of one line, without its end.
+// An output of one line, without its newline.
 fn line_of(output: &[u8]) -> &[u8] {
     match output {
         [line @ .., b'\n'] => line,
@@ -217,7 +218,7 @@ fn line_of(output: &[u8]) -> &[u8] {
     }
 }
 
-// Whether the first word of a request is a path that exists.
+// Whether the first argument of a request is an existing path.
 fn is_path<M: Machine>(machine: &M, request: &Request<'_>) -> bool {
     match request.arguments.first() {
         None => false,
@@ -228,7 +229,7 @@ fn is_path<M: Machine>(machine: &M, request: &Request<'_>) -> bool {
     }
 }
 
-// The remotes of the folder of a repository that have files of their own.
+// The remotes that have files of their own in the folder of a repository.
 fn old_remotes<M: Machine>(
     alloc: Global,
     machine: &M,
@@ -250,7 +251,7 @@ fn old_remotes<M: Machine>(
     Ok(old)
 }
 
-// Answers a request in a repository. Git refuses each remote as long as a value of one of them is refused.
+// Answers a request in a repository. If Git refuses a value of one remote, it refuses to use any remote.
 fn answer_in<'a, M: Machine, D: Discard>(
     alloc: Global,
     machine: &M,

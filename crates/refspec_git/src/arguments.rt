@@ -1,57 +1,57 @@
-//! The words of a call of `git refspec`, with options and other words in any order.
+//! The arguments of `git refspec`, with options and other arguments in any order.
 
 use crate::refusal::Refusal;
 use bstr::ByteSlice;
 use gix_refspec::parsing::Operation;
-use refspec_commands::call::{self, Call, Terminator, Form};
+use refspec_commands::call::{self, Call, Form, Terminator};
 use std::alloc::{AllocError, Global};
 
 /// The commands of `git refspec`.
 #[derive(Clone, Copy, Debug, PartialEq, Eq)]
 pub enum Command {
-    /// Tells which values of remotes, or which specs, are refused.
+    /// Reports the refused values of remotes, or the refused specs.
     Check,
-    /// Tells what a fetch writes.
+    /// Reports what a fetch writes.
     Plan,
-    /// Tells from which refs of remotes tracking refs are fetched.
+    /// Reports from which refs of which remotes tracking refs are fetched.
     Track,
-    /// Lists what to ask a server for.
+    /// Lists the ref prefixes to send to a server.
     Prefixes,
 }
 
-/// What the words of a call ask for.
+/// What the arguments ask for.
 #[derive(Debug, Drop)]
 pub enum Wish<'a> {
-    /// The page on usage.
-    Report,
+    /// The usage.
+    Usage,
     /// The manual page.
     Manual,
     /// The version.
     Version,
-    /// What a command tells.
+    /// The usage of a command.
     Request(Request<'a>),
 }
 
-/// What is asked of a command.
+/// A command with its options and arguments.
 #[derive(Debug, Drop)]
 pub struct Request<'a> {
     pub command: Command,
     pub form: Form,
-    /// Good values are told too.
+    /// Report good values too.
     pub verbose: bool,
-    /// Given specs are for a push.
+    /// The given specs are for a push.
     pub push: bool,
-    /// Prefixes are told as patterns.
+    /// Write ref prefixes as patterns.
     pub patterns: bool,
-    /// Each mapping of a plan is told with its spec, and not below it.
+    /// Report each mapping of a plan with its spec, and not below it.
     pub long: bool,
-    /// Each conflict, and all that is left out, is told.
+    /// Report every conflict, and all that is left out.
     pub all: bool,
     /// The remote that `--remote` names.
     pub remote: Option<&'a [u8]>,
-    /// The words that are neither the command nor options, in order.
+    /// The arguments that are neither the command nor options, in order.
     pub arguments: Vec<&'a [u8]>,
-    /// How many of them stand before the first `--`, if there is one.
+    /// How many of them precede the first `--`, if there is one.
     pub dashes: Option<usize>,
 }
 
@@ -77,7 +77,8 @@ impl Request<'_> {
     }
 }
 
-/// What the words of a call ask for. The first word that isn't an option is the command.
+/// Parses arguments, from which the result borrows. The first that isn't an option is the command. Fails with the
+/// refusal of a usage error, or with `Refusal::Memory`.
 pub fn wish_of<'a>(alloc: Global, arguments: &[&'a [u8]]) -> Result<Wish<'a>, Refusal<'a>> {
     let mut reading = Reading::new(alloc);
     for argument in arguments {
@@ -96,12 +97,11 @@ enum Switch {
     Patterns,
     Long,
     All,
-    Report,
+    Usage,
     Manual,
     Version,
 }
 
-// The option with a long name.
 fn switch_named(name: &[u8]) -> Option<Switch> {
     match name {
         b"--json" => Some(Switch::Json),
@@ -116,17 +116,15 @@ fn switch_named(name: &[u8]) -> Option<Switch> {
     }
 }
 
-// The option with a letter.
 fn switch_lettered(letter: u8) -> Option<Switch> {
     match letter {
         b'z' => Some(Switch::Zeros),
         b'v' => Some(Switch::Verbose),
-        b'h' => Some(Switch::Report),
+        b'h' => Some(Switch::Usage),
         _ => None,
     }
 }
 
-// The command with a name.
 fn command_named(name: &[u8]) -> Option<Command> {
     match name {
         b"check" => Some(Command::Check),
@@ -137,7 +135,7 @@ fn command_named(name: &[u8]) -> Option<Command> {
     }
 }
 
-// What the words so far say.
+// The arguments so far, parsed.
 #[derive(Drop)]
 struct Reading<'a> {
     command: Option<Command>,
@@ -148,11 +146,11 @@ struct Reading<'a> {
     patterns: bool,
     long: bool,
     all: bool,
-    report: bool,
+    usage: bool,
     manual: bool,
     version: bool,
     remote: Option<&'a [u8]>,
-    // Whether the next word is the value of `--remote`.
+    // Whether the next argument is the value of `--remote`.
     wants_remote: bool,
     arguments: Vec<&'a [u8]>,
     dashes: Option<usize>,
@@ -169,7 +167,7 @@ impl<'a> Reading<'a> {
             patterns: false,
             long: false,
             all: false,
-            report: false,
+            usage: false,
             manual: false,
             version: false,
             remote: None,
@@ -179,7 +177,7 @@ impl<'a> Reading<'a> {
         }
     }
 
-    // Takes the next word.
+    // Takes the next argument.
     fn take(&mut self, argument: &'a [u8]) -> Result<(), Refusal<'a>> {
         if self.wants_remote {
             self.wants_remote = false;
@@ -200,7 +198,7 @@ impl<'a> Reading<'a> {
         }
     }
 
-    // Takes a word that isn't an option.
+    // Takes an argument that isn't an option: the command, if there is none yet.
     fn add_argument(&mut self, argument: &'a [u8]) -> Result<(), Refusal<'a>> {
         if self.command.is_some() {
             self.arguments.push(argument)?;
@@ -213,7 +211,7 @@ impl<'a> Reading<'a> {
         Ok(())
     }
 
-    // Takes an option with a long name.
+    // Takes an option with a long name, and its value after `=`.
     fn take_long(&mut self, argument: &'a [u8]) -> Result<(), Refusal<'a>> {
         let (name, value) = match argument.split_once_str(b"=") {
             None => (argument, None),
@@ -234,7 +232,7 @@ impl<'a> Reading<'a> {
         }
     }
 
-    // Takes options that are letters.
+    // Takes the one-letter options of an argument.
     fn take_letters(&mut self, argument: &'a [u8], letters: &[u8]) -> Result<(), Refusal<'a>> {
         for letter in letters {
             match switch_lettered(*letter) {
@@ -245,7 +243,7 @@ impl<'a> Reading<'a> {
         Ok(())
     }
 
-    // Notes an option.
+    // Sets the flag of an option.
     fn set(&mut self, switch: Switch) {
         match switch {
             Switch::Zeros => self.zeros = true,
@@ -255,16 +253,16 @@ impl<'a> Reading<'a> {
             Switch::Patterns => self.patterns = true,
             Switch::Long => self.long = true,
             Switch::All => self.all = true,
-            Switch::Report => self.report = true,
+            Switch::Usage => self.usage = true,
             Switch::Manual => self.manual = true,
             Switch::Version => self.version = true,
         }
     }
 
-    // What all words say.
+    // The result after the last argument. Refuses an option that the command doesn't take.
     fn finish(self) -> Result<Wish<'a>, Refusal<'a>> {
-        if self.report {
-            return Ok(Wish::Report);
+        if self.usage {
+            return Ok(Wish::Usage);
         }
         if self.manual {
             return Ok(Wish::Manual);
@@ -304,7 +302,7 @@ impl<'a> Reading<'a> {
     }
 }
 
-// How results are written. `--json` wins over `-z`.
+// The form of the results. `--json` overrides `-z`.
 fn form_of(json: bool, zeros: bool) -> Form {
     if json {
         return Form::Json;

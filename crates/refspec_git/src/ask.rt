@@ -1,8 +1,9 @@
-//! The commands of Git that are asked for.
+//! The Git commands whose output `git refspec` needs.
 
 use std::alloc::{AllocError, Global};
 
-/// The files of the outputs of commands, and that of the words of the call, each ended by a zero byte.
+/// The file of the arguments of the call, each ended by a zero byte. The constants after it name the files of the
+/// outputs of Git commands.
 pub const ARGUMENTS: &str = "words";
 
 pub const FOLDER: &str = "folder";
@@ -15,37 +16,37 @@ pub const LINES: &str = "lines";
 
 pub const REFS: &str = "refs";
 
-// What stands for the standard output in place of a file.
+// The name that means the standard output, and not a file.
 const SHOWN: &[u8] = b"-";
 
-/// A command of Git.
+/// A Git command.
 #[derive(Clone, Copy, Debug)]
 pub enum GitCall<'a> {
     /// Shows the manual page of `git refspec`.
     Manual,
-    /// The folder of the repository, which its worktrees share.
+    /// Prints the folder of the repository that its worktrees share.
     Folder,
-    /// The configuration.
+    /// Prints the configuration.
     Config,
-    /// The current branch; nothing if there is none.
+    /// Prints the current branch; nothing if there is none.
     Branch,
-    /// The refs of a remote.
+    /// Prints the refs of a remote.
     Lines(&'a [u8]),
-    /// The refs with these names, and those below them: each with a space and the ref that it points to, if it is a
-    /// symbolic one.
+    /// Prints the refs with these names, and those below them, one per line: the name, a space, and the target of a
+    /// symbolic ref.
     Refs(&'a [Vec<u8>]),
-    /// The full name of what the word with this number means, counted from 0.
+    /// Prints the full name of the ref that the argument with this index, counted from 0, means.
     FullName(usize, &'a [u8]),
 }
 
-/// The file of the full name of a word.
+/// The file of the full name for the argument with an index. Fails if memory runs out.
 pub fn name_file(alloc: Global, number: usize) -> Result<String, AllocError> {
     format!(in alloc; "name.{number}")
 }
 
 impl GitCall<'_> {
-    /// Puts the command at the end, a line each: the file of its output, or `-` if it is to be shown, the words after
-    /// `git`, and an empty line. No word is empty or has a newline.
+    /// Appends the command, one line each: the file of its output, or `-` for the standard output, the arguments of
+    /// `git`, and an empty line. An argument must not be empty or contain a newline. Fails if memory runs out.
     pub fn write(&self, alloc: Global, out: &mut Vec<u8>) -> Result<(), AllocError> {
         match self {
             GitCall::Manual => write_lines(out, &[SHOWN, b"help", b"refspec"])?,
@@ -63,7 +64,10 @@ impl GitCall<'_> {
                     b"--list",
                 ],
             )?,
-            GitCall::Branch => write_lines(out, &[BRANCH.as_bytes(), b"branch", b"--show-current"])?,
+            GitCall::Branch => write_lines(
+                out,
+                &[BRANCH.as_bytes(), b"branch", b"--show-current"],
+            )?,
             GitCall::Lines(remote) => {
                 write_lines(out, &[LINES.as_bytes(), b"ls-remote", b"--", remote])?
             }
@@ -78,7 +82,12 @@ impl GitCall<'_> {
                 let file = name_file(alloc, *number)?;
                 write_lines(
                     out,
-                    &[file.as_bytes(), b"rev-parse", b"--symbolic-full-name", argument],
+                    &[
+                        file.as_bytes(),
+                        b"rev-parse",
+                        b"--symbolic-full-name",
+                        argument,
+                    ],
                 )?;
             }
         }
@@ -86,7 +95,7 @@ impl GitCall<'_> {
     }
 }
 
-// Puts words at the end, a line each.
+// Appends arguments, one per line.
 fn write_lines(out: &mut Vec<u8>, arguments: &[&[u8]]) -> Result<(), AllocError> {
     for argument in arguments {
         out.extend_from_slice(argument)?;

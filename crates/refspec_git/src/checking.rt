@@ -1,10 +1,10 @@
-//! What `git refspec check` tells, and the refused values for which no other command tells anything.
+//! What `git refspec check` reports, and the refused values that stop the other commands.
 
-use crate::answer::{Machine, Stop, Output};
+use crate::answer::{Machine, Output, Stop};
+use crate::arguments::Request;
 use crate::choice::{Looks, Repository, looks_of};
 use crate::refusal::Refusal;
 use crate::settings::{name_and_variable, write_settings};
-use crate::arguments::Request;
 use gix_refspec::parsing::Operation;
 use refspec_commands::call::{Command, Form};
 use refspec_commands::fault::Fault;
@@ -13,7 +13,7 @@ use refspec_commands::settings::Setting;
 use std::alloc::{AllocError, Global};
 use std::collections::BTreeSet;
 
-/// Tells the values of the remotes among the words, and the specs; without a word the values of all remotes.
+/// Reports the values of the remotes in the arguments, and the specs; without arguments the values of all remotes.
 pub fn report_check<'a, M: Machine, D: Discard>(
     alloc: Global,
     machine: &M,
@@ -47,7 +47,8 @@ pub fn report_check<'a, M: Machine, D: Discard>(
     }
     let count = values.len().saturating_add(chosen.specs.len());
     if count == 0 && reported.status == 0 {
-        reported.messages
+        reported
+            .messages
             .extend_from_slice(b"git refspec: there are no fetch or push values\n")?;
     } else if is_silent(request, &reported) && machine.is_watched() {
         let line = format!(in alloc; "git refspec: {count} checked, all good\n")?;
@@ -56,12 +57,12 @@ pub fn report_check<'a, M: Machine, D: Discard>(
     Ok(reported)
 }
 
-// Whether a person has been told nothing.
+// Whether nothing was written, in the form for people.
 fn is_silent(request: &Request<'_>, reported: &Output) -> bool {
     request.form == Form::Lines && reported.results.is_empty() && reported.messages.is_empty()
 }
 
-// What is to be checked.
+// The remotes and specs to check.
 #[derive(Drop)]
 struct Chosen<'a> {
     // The names of remotes, or all remotes.
@@ -70,7 +71,7 @@ struct Chosen<'a> {
 }
 
 impl Chosen<'_> {
-    // Whether some remotes are named.
+    // Whether the arguments name remotes.
     fn names_remotes(&self) -> bool {
         match &self.remotes {
             None => false,
@@ -79,7 +80,7 @@ impl Chosen<'_> {
     }
 }
 
-// What the words choose.
+// The remotes and specs that the arguments choose.
 fn chosen_of<'a>(
     alloc: Global,
     request: &Request<'a>,
@@ -117,7 +118,8 @@ fn chosen_of<'a>(
     })
 }
 
-// Whether a word is a remote, and not a spec. Words before `--` are remotes, and others behind it are specs.
+// Whether an argument is a remote, and not a spec. With `--remote` all are specs; otherwise the name of a remote is
+// one. Any other argument is a spec after `--`, and refused before it; without `--` its looks decide which.
 fn is_remote<'a>(
     request: &Request<'a>,
     number: usize,
@@ -141,7 +143,7 @@ fn is_remote<'a>(
     Err(Refusal::NoRemoteNoSpec(argument))
 }
 
-/// A spec among the words, as text.
+/// An argument as text. Refuses one that isn't UTF-8.
 pub fn text_of(argument: &[u8]) -> Result<&str, Refusal<'_>> {
     match str::from_utf8(argument) {
         Ok(text) => Ok(text),
@@ -149,7 +151,7 @@ pub fn text_of(argument: &[u8]) -> Result<&str, Refusal<'_>> {
     }
 }
 
-// The fetch and push values of remotes, in order.
+// The fetch and push values of these remotes, or of all, in order.
 fn values_of<'a>(
     alloc: Global,
     settings: &[Setting<'a>],
@@ -170,7 +172,7 @@ fn values_of<'a>(
     Ok(values)
 }
 
-/// Tells the values of remotes that are refused. Git refuses all remotes as long as there is one.
+/// Reports the refused values of all remotes. As long as there is one, Git refuses to use any remote.
 pub fn report_refused_values<D: Discard>(
     alloc: Global,
     request: &Request<'_>,
@@ -183,7 +185,8 @@ pub fn report_refused_values<D: Discard>(
     Ok(reported)
 }
 
-// Tells specs and values, as `refspec check` does: those without a value first, for which Git reads no other.
+// Reports specs and values, as `refspec check` does. Settings without a value are first, as Git fails at these before
+// it reads any other.
 fn report_values<D: Discard>(
     alloc: Global,
     request: &Request<'_>,
@@ -205,7 +208,7 @@ fn report_values<D: Discard>(
     check(alloc, request, specs, given.as_slice(), done, reported)
 }
 
-// Tells specs and values, as `refspec check` does.
+// Reports specs and values, as `refspec check` does, in order.
 fn check<D: Discard>(
     alloc: Global,
     request: &Request<'_>,

@@ -1,38 +1,38 @@
-//! Which remote and which specs the words of a call name.
+//! The remote and the specs that the arguments of a call name.
 
 ghost use Rattle.std.specs.Prelude.{◌≡◌, ◌∷◌, [], true};
 ghost use Rattle.gix_refspec_text.specs.Texts.Words.{ContainsText, Lacks};
 ghost use Rattle.refspec_git.specs.Words.{BeginsAsSpec};
 
 use crate::answer::OldRemote;
+use crate::arguments::Request;
 use crate::refusal::Refusal;
 use crate::remotes::{default_remote, is_configured, is_rewritten};
-use crate::arguments::Request;
 use bstr::ByteSlice;
-use refspec_commands::settings::Setting;
-use gix_refspec_text::split::contains;
 use gix_refspec_text::side::strip_refs;
+use gix_refspec_text::split::contains;
+use refspec_commands::settings::Setting;
 use std::alloc::Global;
 
-/// What a word looks like that no configuration knows.
+/// What an argument looks like, regardless of the configuration.
 #[derive(Clone, Copy, Debug, PartialEq, Eq)]
 pub enum Looks {
-    /// A spec: it is empty, begins with `+`, `^` or `refs/`, has a star, has `:refs/`, or ends with a colon.
+    /// A spec: it is empty, begins with `+`, `^` or `refs/`, contains a star or `:refs/`, or ends with a colon.
     Spec,
     /// A URL or a path.
     Url,
-    /// Both, as `host:path` and `main:other`.
+    /// A URL or a spec, as `host:path` and `main:other`.
     Either,
     /// A plain word, as `origin` and `main`.
     Plain,
 }
 
-/// What a word looks like.
+/// Classifies an argument by its text alone.
 pub fn looks_of(argument: &[u8]) -> Looks
-    // What begins as a spec or has a star is never taken for a remote.
+    // What begins like a spec or contains a star is never taken for a remote.
     ensures spec { BeginsAsSpec argument.now → result ≡ Looks.Spec }
     ensures star { ContainsText (42 ∷ []) argument.now → result ≡ Looks.Spec }
-    // Only a word with a colon is in doubt, and a plain one has none.
+    // Only an argument with a colon is in doubt, and a plain one contains none.
     ensures either { result ≡ Looks.Either → ContainsText (58 ∷ []) argument.now }
     ensures plain { result ≡ Looks.Plain → Lacks 58 argument.now }
 {
@@ -54,7 +54,7 @@ pub fn looks_of(argument: &[u8]) -> Looks
     Looks::Either
 }
 
-// Whether a word begins as specs alone do.
+// Whether an argument begins as only specs do.
 fn begins_spec(argument: &[u8]) -> bool
     ensures { BeginsAsSpec argument.now → result ≡ true }
 {
@@ -64,15 +64,18 @@ fn begins_spec(argument: &[u8]) -> bool
     }
 }
 
-// Whether a word begins as paths alone do.
+// Whether an argument begins as only paths do.
 fn is_path(argument: &[u8]) -> bool {
     match argument {
         b"." | b".." => true,
-        _ => argument.starts_with(b"/") || argument.starts_with(b"./") || argument.starts_with(b"../"),
+        _ => argument.starts_with(b"/")
+            || argument.starts_with(b"./")
+            || argument.starts_with(b"../"),
     }
 }
 
-// Whether a word has a scheme, a helper or a user before its first colon: `https://host`, `ext::command`, `me@host:path`.
+// Whether an argument has a scheme, a helper or a user before its first colon: `https://host`, `ext::command`,
+// `me@host:path`.
 fn has_host(argument: &[u8]) -> bool {
     match argument.split_once_str(b":") {
         None => false,
@@ -82,26 +85,27 @@ fn has_host(argument: &[u8]) -> bool {
     }
 }
 
-/// What decides of a first word, beside its looks.
+/// What decides whether a first argument is a remote, besides its looks.
 #[derive(Clone, Copy, Debug)]
 pub struct Repository<'a, 'b> {
     /// The configuration.
     pub settings: &'b [Setting<'a>],
     /// The current branch; empty if there is none.
     pub branch: &'b [u8],
-    /// The remotes of other files than the configuration.
+    /// The remotes that have files of their own, outside the configuration.
     pub old: &'b [OldRemote],
-    /// Whether the first word is a path that exists.
+    /// Whether the first argument is an existing path.
     pub is_path: bool,
 }
 
 impl<'b> Repository<'_, 'b> {
-    /// Whether a word is a remote that has a name.
+    /// Whether an argument is the name of a remote.
     pub fn has_remote(&self, argument: &[u8]) -> bool {
-        is_configured(self.settings, argument) || self.old.iter().any(|old| old.name.as_slice() == argument)
+        is_configured(self.settings, argument)
+            || self.old.iter().any(|old| old.name.as_slice() == argument)
     }
 
-    /// The refusal of a remote that only a file outside the configuration has.
+    /// The refusal of a remote that isn't in the configuration, and has a file of its own. `None` for any other.
     pub fn old_remote(&self, name: &'b [u8]) -> Option<Refusal<'b>> {
         if is_configured(self.settings, name) {
             return None;
@@ -117,12 +121,12 @@ impl<'b> Repository<'_, 'b> {
         None
     }
 
-    /// Whether a remote that was chosen is one: Git takes any other word for a path.
+    /// Whether a chosen remote may be one: it is known, or doesn't look like a plain word, which Git takes for a path.
     pub fn may_fetch(&self, remote: &[u8]) -> bool {
         self.knows(remote) || looks_of(remote) != Looks::Plain
     }
 
-    // Whether a first word is a remote for sure.
+    // Whether a first argument is certainly a remote.
     fn knows(&self, argument: &[u8]) -> bool {
         self.has_remote(argument)
             || is_rewritten(self.settings, argument)
@@ -130,15 +134,17 @@ impl<'b> Repository<'_, 'b> {
     }
 }
 
-/// The remote and the specs of a call, where words are left out that name none.
+/// The remote and the specs of a call.
 #[derive(Debug, Drop)]
 pub struct Choice<'a> {
     pub remote: &'a [u8],
     pub specs: Vec<&'a [u8]>,
 }
 
-/// The remote and the specs that the words of a request name. The remote is that of `--remote`, else a word alone
-/// before `--`, else a first word that is or looks like one, else the default.
+/// The remote and the specs that the arguments of a request name, and from which they borrow. The remote is that of
+/// `--remote`, else the first argument if it precedes `--`, or is or looks like a remote, else the default.
+/// Refuses an argument that may be a URL or a spec, a call without a remote, and a remote with a newline. Fails with
+/// `Refusal::Memory` if memory runs out.
 pub fn choice_of<'a>(
     alloc: Global,
     request: &Request<'a>,
@@ -180,7 +186,7 @@ pub fn choice_of<'a>(
     })
 }
 
-// Whether a first word is a remote, and not a spec for the default one.
+// Whether a first argument is a remote, and not a spec for the default one.
 fn is_remote<'a>(
     dashes: Option<usize>,
     argument: &'a [u8],

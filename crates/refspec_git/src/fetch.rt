@@ -1,13 +1,13 @@
-//! What `git refspec plan` and `git refspec prefixes` tell of a remote.
+//! What `git refspec plan` and `git refspec prefixes` report about a remote.
 
-use crate::answer::{Answer, Machine, Stop, Output, asks};
+use crate::answer::{Answer, Machine, Output, Stop, asks};
+use crate::arguments::Request;
 use crate::ask::{GitCall, LINES};
 use crate::checking::text_of;
 use crate::choice::{Choice, Repository};
 use crate::refusal::{Refusal, write_about};
-use crate::settings::{last_value, write_settings, settings_named};
+use crate::settings::{last_value, settings_named, write_settings};
 use crate::sources::{Names, Source, Sources};
-use crate::arguments::Request;
 use bstr::BStr;
 use gix_refspec::name;
 use refspec_commands::call::{Call, Command, Form};
@@ -18,18 +18,18 @@ use std::alloc::{AllocError, Global};
 // The specs of a fetch.
 #[derive(Drop)]
 struct Specs<'a> {
-    // Those that stand in no file, in order.
+    // Those among the arguments, in order; or `HEAD`.
     arguments: Vec<String>,
-    // Those of the configuration, which follow.
+    // The fetch values of the remote, in order.
     values: Vec<Setting<'a>>,
-    // The names of `branch.NAME.merge`, which may be missing.
+    // The ref names of `branch.NAME.merge`, which the remote may lack.
     merges: Vec<Setting<'a>>,
-    // All tags, where the remote says so.
+    // The spec for all tags, if the remote has `tagOpt = --tags`.
     tags: Vec<Setting<'a>>,
 }
 
 impl Specs<'_> {
-    // Drops the merged names that the values fetch already, of the refs of these lines.
+    // Drops the names of `merges` that the values fetch already from the refs in these lines.
     fn drop_covered(&mut self, alloc: Global, lines: &[u8]) -> Result<(), AllocError> {
         let names = Names::of(alloc, lines)?;
         let mut sources = Sources::new(alloc);
@@ -47,7 +47,7 @@ impl Specs<'_> {
     }
 }
 
-/// Tells what a fetch of a remote writes.
+/// Reports what a fetch of a remote writes, or asks for the refs of the remote.
 pub fn report_plan<'a, M: Machine, D: Discard>(
     alloc: Global,
     machine: &M,
@@ -66,7 +66,7 @@ pub fn report_plan<'a, M: Machine, D: Discard>(
     if report_sources(alloc, request.form, &specs, lines.as_slice(), &mut reported)? {
         return Ok(Answer::Reports(reported));
     }
-    // The specs of the configuration come with zero bytes, and so do the refs.
+    // The specs of the configuration end with zero bytes, and so must the refs.
     for byte in lines.iter_mut() {
         if *byte == b'\n' {
             *byte = 0;
@@ -78,13 +78,14 @@ pub fn report_plan<'a, M: Machine, D: Discard>(
     let noted = reported.messages.len();
     reported.run(alloc, &call, beside.as_slice(), lines.as_slice(), done)?;
     if reported.results.is_empty() && reported.messages.len() == noted && reported.status == 0 {
-        reported.messages
+        reported
+            .messages
             .extend_from_slice(b"git refspec: the specs map no ref of the remote\n")?;
     }
     Ok(Answer::Reports(reported))
 }
 
-/// Tells what to ask a remote for.
+/// Reports the ref prefixes to send to a remote.
 pub fn report_prefixes<'a, D: Discard>(
     alloc: Global,
     request: &Request<'a>,
@@ -115,8 +116,8 @@ fn fetch_values<'a>(
     )
 }
 
-// The specs of a fetch: the given ones, else the fetch values and what the branch merges from this remote, else `HEAD`. With
-// `tagOpt = --tags` all tags too, unless specs are given.
+// The specs of a fetch: the given ones, else the fetch values and what the branch merges from this remote, else
+// `HEAD`. With `tagOpt = --tags` all tags too, unless specs are given.
 fn specs_of<'a>(
     alloc: Global,
     repository: &Repository<'a, 'a>,
@@ -142,13 +143,14 @@ fn specs_of<'a>(
     Ok(specs)
 }
 
-// Whether Git finds what a branch merges on a remote: it asks for just this name by protocol v2, so for no short one.
+// Whether Git finds what a branch merges on a remote. In protocol v2 it asks for exactly this name, so a partial name
+// isn't found.
 fn may_be_merged(name: &[u8]) -> bool {
     let is_whole = name.starts_with(b"refs/") || name == b"HEAD".as_slice();
     is_whole && name::name_partial(BStr::new(name)).is_ok()
 }
 
-// A fetch value in the place of another setting. It is a spec, so that no message shows its key.
+// A fetch value made from another setting. Its key is that of a spec, so that no message shows the key.
 fn value_of<'a>(setting: &Setting<'a>, spec: &'a [u8]) -> Setting<'a> {
     Setting {
         origin: setting.origin,
@@ -157,7 +159,7 @@ fn value_of<'a>(setting: &Setting<'a>, spec: &'a [u8]) -> Setting<'a> {
     }
 }
 
-// The spec for all tags, in the place of the setting `tagOpt = --tags` of a remote.
+// The spec for all tags, if the last `tagOpt` of a remote is `--tags`.
 fn tags_of<'a>(
     alloc: Global,
     repository: &Repository<'a, 'a>,
@@ -173,7 +175,7 @@ fn tags_of<'a>(
     Ok(tags)
 }
 
-// What the current branch merges, if that is of the remote.
+// What the current branch merges, if it merges from this remote.
 fn merges_of<'a>(
     alloc: Global,
     repository: &Repository<'a, 'a>,
@@ -188,7 +190,7 @@ fn merges_of<'a>(
     }
 }
 
-// The specs among the words. `tag NAME` is `refs/tags/NAME:refs/tags/NAME`, as on Git's command line.
+// The specs in the arguments. `tag NAME` is `refs/tags/NAME:refs/tags/NAME`, as on Git's command line.
 fn given_specs<'a>(alloc: Global, arguments: &[&'a [u8]]) -> Result<Specs<'a>, Stop<'a>> {
     let mut specs = Specs {
         arguments: Vec::new(alloc),
@@ -215,7 +217,7 @@ fn given_specs<'a>(alloc: Global, arguments: &[&'a [u8]]) -> Result<Specs<'a>, S
     Ok(specs)
 }
 
-// The call of `refspec` for specs.
+// The call of `refspec` for the specs among the arguments.
 fn call_of<'c>(
     alloc: Global,
     command: Command,
@@ -233,7 +235,7 @@ fn call_of<'c>(
     Ok(call)
 }
 
-// The specs of the configuration, as Git prints settings.
+// The specs of the configuration, as `git config` prints settings.
 fn beside_of(alloc: Global, specs: &Specs<'_>) -> Result<Vec<u8>, AllocError> {
     let mut beside = Vec::new(alloc);
     write_settings(&mut beside, specs.values.as_slice())?;
@@ -242,7 +244,7 @@ fn beside_of(alloc: Global, specs: &Specs<'_>) -> Result<Vec<u8>, AllocError> {
     Ok(beside)
 }
 
-// Tells of the specs that take no ref of the lines. Returns whether a name is missing, so that Git fetches nothing.
+// Reports the specs that match no ref of the lines. Returns whether a ref is missing without which Git fetches nothing.
 fn report_sources<'s>(
     alloc: Global,
     form: Form,
@@ -277,7 +279,7 @@ fn report_sources<'s>(
     Ok(is_missing)
 }
 
-// Tells of a spec that takes no ref of the remote.
+// Reports a spec that matches no ref of the remote.
 fn report_source(
     alloc: Global,
     form: Form,

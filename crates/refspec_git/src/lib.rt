@@ -1,8 +1,9 @@
-//! What `git refspec` does with its words, and with what Git prints of a repository. It touches nothing itself: it asks
-//! for commands of Git to be run, and tells its answer once their outputs are there.
+//! What `git refspec` does with its arguments, and with what Git prints about a repository. It runs nothing itself: it
+//! asks for Git commands to be run, and returns its answer once their outputs are there.
 #![tactic(auto)]
 
 pub mod answer;
+pub mod arguments;
 pub mod ask;
 mod checking;
 pub mod choice;
@@ -16,4 +17,3 @@ mod sources;
 mod tests;
 mod tracking;
 mod usage;
-pub mod arguments;

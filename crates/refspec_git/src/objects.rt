@@ -4,7 +4,7 @@ use refspec_commands::json::text_of;
 use serde_json::{Value, json};
 use std::alloc::{AllocError, Global};
 
-/// Puts the object of a spec and a message at the end.
+/// Appends the object of a spec and a message, as a line. Fails if memory runs out.
 pub fn write_spec_note(
     alloc: Global,
     out: &mut Vec<u8>,
@@ -17,7 +17,7 @@ pub fn write_spec_note(
     write_line(alloc, out, &object)
 }
 
-/// Puts the object of a ref and a message at the end.
+/// Appends the object of a ref and a message, as a line. Fails if memory runs out.
 pub fn write_ref_note(
     alloc: Global,
     out: &mut Vec<u8>,
@@ -30,7 +30,7 @@ pub fn write_ref_note(
     write_line(alloc, out, &object)
 }
 
-/// Puts the object of a mapping of a remote at the end.
+/// Appends the object of a mapping of a remote, as a line. Fails if memory runs out.
 pub fn write_mapping(
     alloc: Global,
     out: &mut Vec<u8>,
@@ -53,13 +53,14 @@ pub fn write_mapping(
     write_line(alloc, out, &object)
 }
 
-// Puts an object and a newline at the end.
+// Appends an object and a newline.
 fn write_line(alloc: Global, out: &mut Vec<u8>, object: &Value) -> Result<(), AllocError> {
     out.extend_from_slice(object.to_vec(alloc)?.as_slice())?;
     Ok(out.push(b'\n')?)
 }
 
-/// Puts lines of objects at the end, each with a remote as its first member.
+/// Appends lines of objects, each with the remote as its first member. Other lines are skipped. Fails if memory runs
+/// out.
 pub fn write_with_remote(
     alloc: Global,
     out: &mut Vec<u8>,

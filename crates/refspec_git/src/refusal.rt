@@ -9,48 +9,48 @@ use std::alloc::{AllocError, AllocFailed};
 /// Why a call is refused.
 #[derive(Clone, Copy, Debug)]
 pub enum Refusal<'a> {
-    /// There is no command among the words.
+    /// No argument is a command.
     NoCommand,
-    /// A word stands where the command is wanted.
+    /// The first argument that isn't an option isn't a command.
     NoSuchCommand(&'a [u8]),
-    /// A word begins with `-`, and is no option.
+    /// An argument begins with `-`, and isn't an option.
     NoSuchOption(&'a [u8]),
-    /// An option has a value, and takes none.
+    /// A value for an option that takes none.
     NeedlessValue(&'a [u8]),
-    /// An option, and the only command that takes it.
+    /// An option of another command: the option, and the only command that takes it.
     OptionElsewhere(&'static str, &'static str),
     /// `--remote` has no name.
     NoRemoteName,
     /// `track` has no ref.
     NoRef,
-    /// A word may be a URL or a spec.
+    /// An argument may be a URL or a spec.
     UrlOrSpec(&'a [u8]),
-    /// A word is neither a configured remote nor a spec.
+    /// An argument is neither a configured remote nor a spec.
     NoRemoteNoSpec(&'a [u8]),
-    /// No remote is given, and none is the default.
+    /// No remote is given, and there is no default.
     NoDefault,
     /// A spec isn't UTF-8.
     NotUtf8(&'a [u8]),
-    /// The name of a remote has a newline.
+    /// The name of a remote contains a newline.
     Newline(&'a [u8]),
-    /// `tag` is the last word, and takes the name of a tag.
+    /// `tag` is the last argument, without the name of a tag.
     NoTagName,
-    /// A name that no ref may have.
+    /// An invalid ref name.
     NoRefName(&'a [u8]),
-    /// A word that Git knows, and that isn't a ref.
+    /// An expression that Git doesn't resolve to a ref.
     NotARef(&'a [u8]),
-    /// The remote of a folder of Git's that isn't its configuration.
+    /// A remote whose configuration is a file of `.git/remotes` or `.git/branches`.
     OldForm { name: &'a [u8], folder: &'a str },
     /// No remote has fetch values.
     NoValuesAtAll,
-    /// A value of a remote that isn't named is refused.
+    /// A value of a remote that the arguments don't name is refused.
     OtherRefused,
     /// Memory ran out.
     Memory,
 }
 
 impl Refusal<'_> {
-    /// The exit status: 1 for what the configuration says, 2 for what the words say, 3 for memory.
+    /// The exit status: 1 for the configuration, 2 for a usage error, 3 for out of memory.
     pub fn status(&self) -> u8
         ensures { 1 ≤ result }
     {
@@ -61,7 +61,7 @@ impl Refusal<'_> {
         }
     }
 
-    /// Puts the lines of the message at the end.
+    /// Appends the lines of the message. Fails if memory runs out.
     pub fn write(&self, out: &mut Vec<u8>) -> Result<(), AllocError> {
         out.extend_from_slice(b"git refspec: ")?;
         match self {
@@ -84,7 +84,7 @@ impl Refusal<'_> {
         }
     }
 
-    // What is said of a word: the text before it, the word, and the text after it.
+    // The sentence about an argument: the text before the argument, the argument, and the text after it.
     fn sentence(&self) -> (&'static str, &[u8], &'static str) {
         match self {
             Refusal::NoCommand => ("no ", b"command", " is given"),
@@ -132,7 +132,7 @@ impl Refusal<'_> {
     }
 }
 
-// Puts the sentence on a remote that isn't in the configuration at the end.
+// Appends the sentence on a remote that isn't in the configuration.
 fn write_old_form(out: &mut Vec<u8>, name: &[u8], folder: &str) -> Result<(), AllocError> {
     write_about(out, "the remote ", name, " is configured in ")?;
     write_about(
@@ -145,7 +145,7 @@ fn write_old_form(out: &mut Vec<u8>, name: &[u8], folder: &str) -> Result<(), Al
     write_about(out, "", name, "` moves it into the configuration")
 }
 
-/// Puts a name at the end, quoted if it has to be, between two texts.
+/// Appends a name, quoted if necessary, between two texts. Fails if memory runs out.
 pub fn write_about(
     out: &mut Vec<u8>,
     before: &str,

@@ -5,7 +5,7 @@ use refspec_commands::settings::Setting;
 use std::alloc::{AllocError, Global};
 use std::collections::BTreeMap;
 
-/// The names of the remotes that some setting `remote.NAME.VARIABLE` has, sorted, each with its fetch values in order.
+/// The names in settings `remote.NAME.VARIABLE`, sorted, each with its fetch values in order. Fails if memory runs out.
 pub fn fetch_values<'a>(
     alloc: Global,
     settings: &[Setting<'a>],
@@ -22,7 +22,7 @@ pub fn fetch_values<'a>(
     Ok(remotes)
 }
 
-/// Whether some setting `remote.NAME.VARIABLE` has this name.
+/// Whether there is a setting `remote.NAME.VARIABLE` with this name.
 pub fn is_configured(settings: &[Setting<'_>], name: &[u8]) -> bool {
     settings.iter().any(|setting| match name_and_variable(b"remote", setting.key) {
         None => false,
@@ -35,7 +35,7 @@ pub fn is_rewritten(settings: &[Setting<'_>], url: &[u8]) -> bool {
     settings.iter().any(|setting| rewrites(setting, url))
 }
 
-// Whether a setting is a beginning of a URL that Git rewrites.
+// Whether the value of a setting `url.BASE.insteadOf` is a prefix of a URL.
 fn rewrites(setting: &Setting<'_>, url: &[u8]) -> bool {
     match (name_and_variable(b"url", setting.key), setting.value) {
         (Some((_, variable)), Some(start)) => {
@@ -45,7 +45,7 @@ fn rewrites(setting: &Setting<'_>, url: &[u8]) -> bool {
     }
 }
 
-/// The remote that `git fetch` takes without a word, on a branch: that of the branch, else the only one, else `origin`,
+/// The remote that `git fetch` without arguments takes: that of the current branch, else the only one, else `origin`
 /// if it is configured. The branch is empty if there is none.
 pub fn default_remote<'a>(settings: &[Setting<'a>], branch: &[u8]) -> Option<&'a [u8]> {
     if let Some(name) = last_value(settings, b"branch", branch, b"remote") {
@@ -57,7 +57,7 @@ pub fn default_remote<'a>(settings: &[Setting<'a>], branch: &[u8]) -> Option<&'a
     }
 }
 
-// The remote, if there is one alone.
+// The remote, if exactly one is configured.
 fn only_remote<'a>(settings: &[Setting<'a>]) -> Option<&'a [u8]> {
     let mut only = None;
     for setting in settings {
@@ -72,7 +72,7 @@ fn only_remote<'a>(settings: &[Setting<'a>]) -> Option<&'a [u8]> {
     only
 }
 
-// The name origin, if a remote has it.
+// The name `origin`, if a remote has it.
 fn configured_origin<'a>(settings: &[Setting<'a>]) -> Option<&'a [u8]> {
     for setting in settings {
         if let Some((name, _)) = name_and_variable(b"remote", setting.key) {

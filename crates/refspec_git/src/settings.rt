@@ -5,12 +5,12 @@ ghost use Rattle.gix_refspec_text.specs.Texts.Words.{Lacks};
 ghost use Rattle.refspec_git.specs.Settings.{IsKey};
 
 use bstr::ByteSlice;
-use refspec_commands::settings::Setting;
 use gix_refspec_text::split::split_at_first;
+use refspec_commands::settings::Setting;
 use std::alloc::{AllocError, Global};
 
-/// The name and the variable of a key `SECTION.NAME.VARIABLE`. The name may have dots, and the variable has none. `None`
-/// for any other key.
+/// The name and the variable of a key `SECTION.NAME.VARIABLE`. The name may contain dots, the variable none. `None` for
+/// any other key.
 pub fn name_and_variable<'a>(section: &[u8], key: &'a [u8]) -> Option<(&'a [u8], &'a [u8])>
     ensures { IfSome result (λ parts. IsKey section.now parts.0.now parts.1.now key.now) }
 {
@@ -32,7 +32,8 @@ fn split_at_last(text: &[u8], byte: u8) -> Option<(&[u8], &[u8])>
     Some((front, &back[1..]))
 }
 
-/// The last value of a setting `SECTION.NAME.VARIABLE`, which is the one that counts.
+/// The value of the last setting `SECTION.NAME.VARIABLE`, which overrides the others. `None` if there is no such
+/// setting, or the last has no value.
 pub fn last_value<'a>(
     settings: &[Setting<'a>],
     section: &[u8],
@@ -48,7 +49,7 @@ pub fn last_value<'a>(
     last
 }
 
-/// The settings `SECTION.NAME.VARIABLE`, in order.
+/// The settings `SECTION.NAME.VARIABLE`, in order. Fails if memory runs out.
 pub fn settings_named<'a>(
     alloc: Global,
     settings: &[Setting<'a>],
@@ -73,7 +74,7 @@ fn is_of(setting: &Setting<'_>, section: &[u8], name: &[u8], variable: &[u8]) ->
     }
 }
 
-/// Puts settings at the end, as Git prints them.
+/// Appends settings, as `git config --show-origin -z` prints them. Fails if memory runs out.
 pub fn write_settings(out: &mut Vec<u8>, settings: &[Setting<'_>]) -> Result<(), AllocError> {
     for setting in settings {
         out.extend_from_slice(setting.origin)?;

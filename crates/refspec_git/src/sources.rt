@@ -1,23 +1,24 @@
-//! Which specs of a fetch take no ref of the remote.
+//! Finds the specs of a fetch that match no ref of the remote.
 
 use crate::objects::write_spec_note;
 use bstr::{BStr, ByteSlice};
 use gix_refspec::oid::ObjectId;
 use gix_refspec::parsing::{Error, Operation};
 use gix_refspec::{RefSpecRef, parse};
-use refspec_commands::input::records;
 use gix_refspec_text::side::candidates;
+use refspec_commands::input::records;
 use std::alloc::{AllocError, Global};
 
-/// The names of the refs of a remote.
+/// The ref names of a remote.
 #[derive(Drop)]
 pub struct Names<'a> {
-    // Sorted.
+    // In byte order.
     sorted: Vec<&'a [u8]>,
 }
 
 impl<'a> Names<'a> {
-    /// The names in the lines of `git ls-remote`: an id, a tab and a name. What tags point to is left out.
+    /// The ref names in the lines of `git ls-remote`: an id, a tab and a name. They borrow from the lines. Peeled tags
+    /// are skipped. Fails if memory runs out.
     pub fn of(alloc: Global, lines: &'a [u8]) -> Result<Names<'a>, AllocError> {
         let mut sorted = Vec::new(alloc);
         for line in records(alloc, lines, b'\n')? {
@@ -31,19 +32,19 @@ impl<'a> Names<'a> {
         Ok(Names { sorted })
     }
 
-    /// One name.
+    /// A single ref name. Fails if memory runs out.
     pub fn of_one(alloc: Global, name: &'a [u8]) -> Result<Names<'a>, AllocError> {
         let mut sorted = Vec::new(alloc);
         sorted.push(name)?;
         Ok(Names { sorted })
     }
 
-    // Whether a name is among them.
+    // Whether this is one of the names.
     fn has(&self, name: &[u8]) -> bool {
         self.sorted.binary_search(&name).is_ok()
     }
 
-    // Whether some name is a text, any word, and another text.
+    // Whether a name begins with one text and ends with another, without overlap.
     fn has_between(&self, before: &[u8], after: &[u8]) -> bool {
         let least = before.len().saturating_add(after.len());
         let first = self.sorted.partition_point(|name| *name < before);
@@ -58,12 +59,12 @@ impl<'a> Names<'a> {
 #[derive(Drop)]
 pub struct Sources<'a> {
     pub list: Vec<Source<'a>>,
-    /// Whether some text was no spec.
+    /// Whether a text was refused.
     pub has_bad: bool,
 }
 
 impl<'a> Sources<'a> {
-    /// No sources.
+    /// An empty list.
     pub fn new(alloc: Global) -> Sources<'a> {
         Sources {
             list: Vec::new(alloc),
@@ -71,7 +72,7 @@ impl<'a> Sources<'a> {
         }
     }
 
-    /// Adds the source of a spec.
+    /// Adds the source of a spec. A text that is refused sets `has_bad`. Fails if memory runs out.
     pub fn add(&mut self, alloc: Global, text: &'a [u8], may_lack: bool) -> Result<(), AllocError> {
         let spec = match parse(alloc, BStr::new(text), Operation::Fetch) {
             Ok(spec) => spec,
@@ -92,7 +93,7 @@ impl<'a> Sources<'a> {
         Ok(())
     }
 
-    /// Whether a positive source takes the ref with a full name, which is among these.
+    /// Whether a name is one of these, and a positive source matches it. Fails if memory runs out.
     pub fn take_named(
         &self,
         alloc: Global,
@@ -117,22 +118,22 @@ impl<'a> Sources<'a> {
 pub struct Source<'a> {
     pub spec: RefSpecRef<'a>,
     pub side: &'a [u8],
-    /// Whether Git says nothing if the remote has no such ref.
+    /// Whether Git accepts that the remote has no such ref.
     pub may_lack: bool,
 }
 
 impl Source<'_> {
-    /// Whether it leaves refs out.
+    /// Whether the spec is negative.
     pub fn is_negative(&self) -> bool {
         self.spec.is_negative()
     }
 
-    /// Whether Git fetches nothing if this takes no ref.
+    /// Whether Git fetches nothing at all if this matches no ref.
     pub fn is_needed(&self) -> bool {
         !self.may_lack && !self.spec.is_negative() && self.side.find_byte(b'*').is_none()
     }
 
-    /// Whether it takes some of the names. An object id needs none.
+    /// Whether it matches one of the names. True for an object id, which needs none. Fails if memory runs out.
     pub fn takes_some(&self, alloc: Global, names: &Names<'_>) -> Result<bool, AllocError> {
         if let Some((before, after)) = self.side.split_once_str(b"*") {
             return Ok(names.has_between(before, after));
@@ -147,7 +148,7 @@ impl Source<'_> {
         Ok(candidates.iter().any(|name| names.has(name.as_bytes())))
     }
 
-    /// What is noted of it if it takes none.
+    /// The note on a source that matches no ref.
     pub fn note(&self) -> &'static str {
         if self.spec.is_negative() {
             "this spec leaves out no ref of the remote"
@@ -156,7 +157,8 @@ impl Source<'_> {
         }
     }
 
-    /// Puts the object of it at the end if it takes none.
+    /// Appends the object of a source that matches no ref, with the canonical text of its spec. Fails if memory runs
+    /// out.
     pub fn write_object(
         &self,
         alloc: Global,

@@ -1,10 +1,10 @@
 //! Tests.
 
+use crate::arguments::{Command, Wish, wish_of};
 use crate::choice::{Looks, looks_of};
 use crate::refusal::Refusal;
 use crate::remotes::{default_remote, fetch_values, is_configured, is_rewritten};
 use crate::settings::{last_value, name_and_variable, write_settings};
-use crate::arguments::{Command, Wish, wish_of};
 use refspec_commands::call::Form;
 use refspec_commands::settings::settings_of;
 use std::alloc::AllocError;
@@ -13,7 +13,7 @@ use std::test::Fail;
 const CONFIG: &[u8] =
     b"file:.git/config\0remote.origin.url\nx\0file:.git/config\0remote.origin.fetch\n+a:b\0file:a\0remote.a.b.fetch\0file:a\0remote.pushdefault\nmine\0file:a\0url.https://host/.insteadof\ngh:\0file:a\0branch.main.remote\na.b\0";
 
-// One remote alone, whose name has a dot.
+// A single remote, whose name contains a dot.
 const ONE_REMOTE: &[u8] = b"file:a\0remote.a.b.fetch\0";
 
 #[test]
@@ -66,7 +66,7 @@ fn finds_remotes(rt: HostRuntime) -> Result<(), Fail> {
 }
 
 #[test]
-fn reports_specs_from_urls(rt: HostRuntime) {
+fn distinguishes_specs_from_urls(rt: HostRuntime) {
     let cases = [
         ("", Looks::Spec),
         ("+main", Looks::Spec),
@@ -85,7 +85,7 @@ fn reports_specs_from_urls(rt: HostRuntime) {
         ("@", Looks::Plain),
     ];
     for (argument, looks) in cases {
-        assert_eq!(rt; looks_of(argument.as_bytes()), looks, "at {word}");
+        assert_eq!(rt; looks_of(argument.as_bytes()), looks, "at {argument}");
     }
 }
 
@@ -152,5 +152,5 @@ fn refuses_other_options(rt: HostRuntime) {
         )
     );
     let arguments: [&[u8]; 3] = [b"track", b"--help", b"-h"];
-    assert!(rt; matches!(wish_of(rt.alloc(), &arguments), Ok(Wish::Report)));
+    assert!(rt; matches!(wish_of(rt.alloc(), &arguments), Ok(Wish::Usage)));
 }

@@ -1,6 +1,7 @@
-//! What `git refspec track` tells: from which refs of which remote tracking refs are fetched.
+//! What `git refspec track` reports: from which refs of which remotes tracking refs are fetched.
 
-use crate::answer::{Answer, Machine, Stop, Output, asks};
+use crate::answer::{Answer, Machine, Output, Stop, asks};
+use crate::arguments::Request;
 use crate::ask::{GitCall, REFS, name_file};
 use crate::choice::Repository;
 use crate::objects::{write_mapping, write_ref_note, write_with_remote};
@@ -8,25 +9,25 @@ use crate::refusal::{Refusal, write_about};
 use crate::remotes::fetch_values;
 use crate::settings::{last_value, write_settings};
 use crate::sources::{Names, Sources};
-use crate::arguments::Request;
 use bstr::{BStr, ByteSlice};
 use gix_refspec::match_group::{Item, Mapping};
 use gix_refspec::oid::{Kind, ObjectId};
 use gix_refspec::parsing::{Error, Operation};
 use gix_refspec::{MatchGroup, RefSpecRef, name, parse};
+use gix_refspec_text::side::{candidates, joined};
 use refspec_commands::call::{Command, Form};
 use refspec_commands::fault::Fault;
 use refspec_commands::plan::Discard;
 use refspec_commands::settings::Setting;
 use refspec_commands::table::Layout;
-use gix_refspec_text::side::{candidates, joined};
 use std::alloc::{AllocError, Global};
 use std::collections::{BTreeMap, BTreeSet};
 
 // The fetch values of remotes, by the remotes' names.
 type Values<'a> = BTreeMap<&'a [u8], Vec<Setting<'a>>>;
 
-/// Tells from which refs of which remotes the refs among the words are fetched.
+/// Reports from which refs of which remotes the refs in the arguments are fetched, or asks for the commands that find
+/// these refs.
 pub fn report_tracking<'a, M: Machine, D: Discard>(
     alloc: Global,
     machine: &M,
@@ -46,7 +47,14 @@ pub fn report_tracking<'a, M: Machine, D: Discard>(
     let rows = rows_of(alloc, &values, names.as_slice())?;
     let mut reported = Output::new(alloc);
     for (remote, values) in &values {
-        report_ids(alloc, request, remote, values.as_slice(), done, &mut reported)?;
+        report_ids(
+            alloc,
+            request,
+            remote,
+            values.as_slice(),
+            done,
+            &mut reported,
+        )?;
     }
     write_rows(alloc, request.form, rows.as_slice(), &mut reported.results)?;
     let found = Found {
@@ -64,7 +72,7 @@ pub fn report_tracking<'a, M: Machine, D: Discard>(
     Ok(Answer::Reports(reported))
 }
 
-// The fetch values of the remotes that are looked through.
+// The fetch values of the remote that `--remote` names, or of all remotes.
 fn values_of<'a>(
     alloc: Global,
     request: &Request<'a>,
@@ -84,7 +92,7 @@ fn values_of<'a>(
     Ok(values)
 }
 
-// The commands that are still needed to know which refs the words mean.
+// The commands that must still run to resolve the arguments to refs.
 fn asked_of<'a, M: Machine>(
     alloc: Global,
     machine: &M,
@@ -117,25 +125,27 @@ fn asked_of<'a, M: Machine>(
     Ok(asked)
 }
 
-// How a word names a ref.
+// How an argument names a ref.
 #[derive(Clone, Copy, Debug, PartialEq, Eq)]
 enum Meaning {
     // By its full name.
     Full,
-    // By a name that Git looks for below some folders.
+    // By a partial name, which Git completes to candidates.
     Short,
-    // By the current branch, or by an upstream, as `HEAD` and `main@{upstream}`.
+    // By an expression that Git resolves, as `HEAD` and `main@{upstream}`.
     Expression,
-    // No ref has such a name.
+    // By an invalid ref name.
     Bad,
 }
 
-// How a word names a ref.
 fn meaning_of(argument: &[u8]) -> Meaning {
     if matches!(argument, b"HEAD" | b"@") {
         return Meaning::Expression;
     }
-    if argument.contains_str(b"@{") && !argument.starts_with(b"-") && argument.find_byte(b'\n').is_none() {
+    if argument.contains_str(b"@{")
+        && !argument.starts_with(b"-")
+        && argument.find_byte(b'\n').is_none()
+    {
         return Meaning::Expression;
     }
     if name::name_partial(BStr::new(argument)).is_err() || argument.starts_with(b"-") {
@@ -148,7 +158,7 @@ fn meaning_of(argument: &[u8]) -> Meaning {
     }
 }
 
-// The full names of the refs that the words mean, each once, in order.
+// The full names of the refs that the arguments mean, without duplicates, in order.
 fn names_of<'a, M: Machine>(
     alloc: Global,
     machine: &M,
@@ -186,10 +196,10 @@ fn names_of<'a, M: Machine>(
     Ok(names)
 }
 
-// The refs that exist, each with the ref that it points to, if it is a symbolic one.
+// The existing refs, each with its target; empty if it isn't symbolic.
 type Existing = BTreeMap<Vec<u8>, Vec<u8>>;
 
-// The refs in the lines of `git for-each-ref`: a name, a space, and what a symbolic one points to.
+// Parses the lines of `git for-each-ref`: a name, a space, and the target of a symbolic ref.
 fn existing_of(alloc: Global, lines: &[u8]) -> Result<Existing, AllocError> {
     let mut existing = BTreeMap::new(alloc);
     for line in lines.split(|byte| *byte == b'\n') {
@@ -203,7 +213,7 @@ fn existing_of(alloc: Global, lines: &[u8]) -> Result<Existing, AllocError> {
     Ok(existing)
 }
 
-// The ref that a symbolic one points to, or the ref itself.
+// The target of a symbolic ref, or the ref itself.
 fn target_of<'n>(name: &'n [u8], existing: &'n Existing) -> &'n [u8] {
     match existing.get(name) {
         Some(target) if !target.is_empty() => target.as_slice(),
@@ -211,8 +221,9 @@ fn target_of<'n>(name: &'n [u8], existing: &'n Existing) -> &'n [u8] {
     }
 }
 
-// The full name that a word means: the first candidate that exists, else one below a folder that the word names, else
-// the tracking ref of a remote.
+// The full name that an argument means: the first existing candidate, or its target if it is symbolic. Without one,
+// the argument below `refs/` if it begins with `heads/`, `tags/` or `remotes/`, below `refs/remotes/` if it begins
+// with the name of a remote, and else below `refs/heads/`.
 fn full_name(
     alloc: Global,
     argument: &[u8],
@@ -242,7 +253,7 @@ fn full_name(
     Ok(name)
 }
 
-// The longest name of a remote that a path begins with, and what follows its slash.
+// The longest name of a remote that is followed by a slash at the start of a path, and the rest after the slash.
 fn remote_above<'a, 'p>(path: &'p [u8], values: &Values<'a>) -> Option<(&'a [u8], &'p [u8])> {
     let mut found: Option<(&'a [u8], &'p [u8])> = None;
     for remote in values.keys() {
@@ -255,10 +266,10 @@ fn remote_above<'a, 'p>(path: &'p [u8], values: &Values<'a>) -> Option<(&'a [u8]
     found
 }
 
-// A ref, and what a remote fetches it from.
+// A ref, and the source from which a remote fetches it.
 #[derive(Drop)]
 struct Row<'a> {
-    // The index of the ref.
+    // The index of the ref among the names.
     number: usize,
     remote: &'a [u8],
     destination: Vec<u8>,
@@ -266,7 +277,7 @@ struct Row<'a> {
     spec: Vec<u8>,
 }
 
-// What the remotes fetch the refs from: by the order of the refs, and by the names of the remotes.
+// The sources from which remotes fetch the refs: sorted by the index of the ref, and then by the name of the remote.
 fn rows_of<'a>(
     alloc: Global,
     values: &Values<'a>,
@@ -280,7 +291,7 @@ fn rows_of<'a>(
     Ok(rows)
 }
 
-// Adds what a remote fetches refs from.
+// Adds the sources from which a remote fetches refs.
 fn add_rows<'a>(
     alloc: Global,
     remote: &'a [u8],
@@ -307,7 +318,7 @@ fn add_rows<'a>(
     Ok(())
 }
 
-// Refs with these names. They point to one id: of a tracking ref the name alone is known.
+// Items with these names and one id, as only the names of tracking refs are known.
 fn items_of<'a>(
     alloc: Global,
     names: &'a [Vec<u8>],
@@ -324,7 +335,7 @@ fn items_of<'a>(
     Ok(items)
 }
 
-// The row of what a remote fetches a ref from, by a spec with this text.
+// The row of a mapping of a remote, by a spec with this canonical text.
 fn row_of<'a>(
     alloc: Global,
     remote: &'a [u8],
@@ -345,7 +356,7 @@ fn row_of<'a>(
     })
 }
 
-// The specs of values whose destination isn't an object id.
+// The specs of values, but for refused ones and those whose destination is an object id.
 fn specs_of<'a>(alloc: Global, values: &[Setting<'a>]) -> Result<Vec<RefSpecRef<'a>>, AllocError> {
     let mut specs = Vec::with_capacity(alloc, values.len())?;
     for value in values {
@@ -374,7 +385,7 @@ fn has_id(spec: &RefSpecRef<'_>) -> bool {
     }
 }
 
-// Tells of the values of a remote whose destination is an object id, as `refspec track` does.
+// Reports the values of a remote whose destination is an object id, as `refspec track` does.
 fn report_ids<D: Discard>(
     alloc: Global,
     request: &Request<'_>,
@@ -388,7 +399,8 @@ fn report_ids<D: Discard>(
     let call = request.call_of(alloc, Command::Track);
     let mut about_ids = Output::new(alloc);
     about_ids.run(alloc, &call, beside.as_slice(), b"", done)?;
-    reported.messages
+    reported
+        .messages
         .extend_from_slice(about_ids.messages.as_slice())?;
     write_with_remote(
         alloc,
@@ -399,7 +411,7 @@ fn report_ids<D: Discard>(
     Ok(())
 }
 
-// Puts rows at the end.
+// Appends rows.
 fn write_rows(
     alloc: Global,
     form: Form,
@@ -434,13 +446,13 @@ fn write_rows(
     }
 }
 
-// Puts a field and its end at the end.
+// Appends a field and a zero byte.
 fn write_field(out: &mut Vec<u8>, field: &[u8]) -> Result<(), AllocError> {
     out.extend_from_slice(field)?;
     Ok(out.push(0)?)
 }
 
-// Puts rows at the end, as an aligned table.
+// Appends rows, as an aligned table.
 fn write_table(alloc: Global, rows: &[Row<'_>], out: &mut Vec<u8>) -> Result<(), AllocError> {
     let mut layout = Layout::new();
     let mut widest: usize = 0;
@@ -466,7 +478,7 @@ fn write_table(alloc: Global, rows: &[Row<'_>], out: &mut Vec<u8>) -> Result<(),
     Ok(())
 }
 
-// What was found for refs, and the settings that were looked through.
+// The rows that were found, and the settings in which they were searched.
 #[derive(Clone, Copy)]
 struct Found<'f, 'a> {
     form: Form,
@@ -475,7 +487,7 @@ struct Found<'f, 'a> {
     settings: &'f [Setting<'a>],
 }
 
-// Tells of the refs that no remote or several remotes write.
+// Reports the refs that no remote or several remotes write.
 fn report_others(
     alloc: Global,
     found: &Found<'_, '_>,
@@ -492,14 +504,14 @@ fn report_others(
     Ok(())
 }
 
-// The rows of the ref with this number.
+// The rows of the ref with this index.
 fn rows_at<'r, 'a>(rows: &'r [Row<'a>], number: usize) -> &'r [Row<'a>] {
     let (_, rest) = rows.split_at(rows.partition_point(|row| row.number < number));
     let (mine, _) = rest.split_at(rest.partition_point(|row| row.number == number));
     mine
 }
 
-// How many remotes the rows of one ref have. Rows of a remote stand together.
+// How many remotes the rows of one ref have. The rows of a remote are adjacent.
 fn writers_of(rows: &[Row<'_>]) -> usize {
     let mut writers: usize = 0;
     let mut last: Option<&[u8]> = None;
@@ -512,7 +524,7 @@ fn writers_of(rows: &[Row<'_>]) -> usize {
     writers
 }
 
-// Tells of a ref that no value writes.
+// Reports a ref that no value writes.
 fn report_untracked(
     alloc: Global,
     found: &Found<'_, '_>,
@@ -530,8 +542,8 @@ fn report_untracked(
     write_untracked_advice(alloc, &mut reported.messages, found, name)
 }
 
-// Puts a line of advice on a ref that no value writes at the end: of a tracking ref how a value is added, or that a
-// negative one leaves it out; of a branch how its upstream is named.
+// Appends a line of advice on a ref that no value writes: for a tracking ref how to add a value, or that a negative
+// value excludes its source; for a branch how to name its upstream.
 fn write_untracked_advice(
     alloc: Global,
     out: &mut Vec<u8>,
@@ -562,7 +574,7 @@ fn write_untracked_advice(
     Ok(())
 }
 
-// Whether a negative value of a remote leaves a branch of it out.
+// Whether a negative value of a remote excludes a branch of it.
 fn is_left_out<'a>(
     alloc: Global,
     values: &Values<'a>,
@@ -586,7 +598,7 @@ fn is_left_out<'a>(
     Ok(false)
 }
 
-// Tells of a ref that several remotes write.
+// Reports a ref that several remotes write.
 fn report_ambiguous(
     alloc: Global,
     form: Form,

@@ -1,4 +1,4 @@
-//! The page on usage.
+//! The texts of `-h` and `--version`.
 
 /// The synopses.
 pub const USAGE: &str = "usage: git refspec check [-v] [--push] [<remote> | <spec>]...

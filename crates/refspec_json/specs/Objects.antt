@@ -8,22 +8,22 @@ use Rattle.serde_json.specs.Written.{compact_text}
 abbrev pub line_of : Data → List ℕ
 line_of d = compact_text d ++ 10 ∷ []
 
--- a text, or null where there is none
+-- a text, or null for None
 abbrev pub text_or_null : Option (List ℕ) → Data
 text_or_null None = null
 text_or_null (Some t) = string t
 
--- a number, or null where there is none
+-- a number, or null for None
 abbrev pub number_or_null : Option ℕ → Data
 number_or_null None = null
 number_or_null (Some n) = number (unsigned n)
 
--- the members, after a text at k where there is one
+-- the members, after a text under the key k, if there is one
 abbrev pub text_if : (k : List ℕ) → Option (List ℕ) → Members → Members
 text_if k None ms = ms
 text_if k (Some t) ms = member k (string t) ms
 
--- a text that is refused; the index counts from 1
+-- a refused text; at counts bytes from 1
 abbrev pub refused_object : (location operation text reason message : List ℕ) → (side part : Option (List ℕ)) → (at : Option ℕ) → (advice : List ℕ) → Data
 refused_object location operation text reason message side part at advice = object (
     member (codes "advice") (string advice) (
@@ -37,7 +37,7 @@ refused_object location operation text reason message side part at advice = obje
     member (codes "side") (text_or_null side) (
     member (codes "text") (string text) no_members))))))))))
 
--- a spec; its meaning and the place of an earlier spec of the same meaning are members only where they are given
+-- a spec; its meaning and the location of an earlier duplicate are members only if they are given
 abbrev pub spec_object : (kind location operation text canonical : List ℕ) → (meaning same_as : Option (List ℕ)) → Data
 spec_object kind location operation text canonical meaning same_as = object (
     member (codes "canonical") (string canonical) (
@@ -56,7 +56,7 @@ mapping_object source destination spec = object (
     member (codes "source") (string source) (
     member (codes "spec") (string spec) no_members))))
 
--- a mapping that is left out, which side of it is wrong, and why
+-- a mapping that is left out, the side whose ref name is invalid, and why
 abbrev pub left_out_object : (source : List ℕ) → (destination : Option (List ℕ)) → (spec side message : List ℕ) → Data
 left_out_object source destination spec side message = object (
     member (codes "destination") (text_or_null destination) (
@@ -79,7 +79,7 @@ conflict_object destination sources = object (
     member (codes "kind") (string (codes "conflict")) (
     member (codes "sources") (array (items_of (map claim_object sources))) no_members)))
 
--- a record of the input that is no ref, why, and what to do
+-- a record of the input that is not a ref, why, and what to do
 abbrev pub malformed_object : (location text message advice : List ℕ) → Data
 malformed_object location text message advice = object (
     member (codes "advice") (string advice) (
@@ -95,21 +95,21 @@ untracked_object name message = object (
     member (codes "message") (string message) (
     member (codes "name") (string name) no_members)))
 
--- a ref prefix of protocol v2, and the same as a pattern of `git ls-remote`
+-- a ref prefix, as an argument of protocol v2 and as a pattern of `git ls-remote`
 abbrev pub prefix_object : (prefix pattern : List ℕ) → Data
 prefix_object prefix pattern = object (
     member (codes "kind") (string (codes "prefix")) (
     member (codes "pattern") (string pattern) (
     member (codes "prefix") (string prefix) no_members)))
 
--- a spec and a message, of either kind that has just these
+-- a spec and a message, for the kinds `all` and `to_object`
 abbrev pub noted_object : (kind spec message : List ℕ) → Data
 noted_object kind spec message = object (
     member (codes "kind") (string kind) (
     member (codes "message") (string message) (
     member (codes "spec") (string spec) no_members)))
 
--- nothing to ask a server for
+-- no request to the server is needed
 abbrev pub nothing_object : (message : List ℕ) → Data
 nothing_object message = object (
     member (codes "kind") (string (codes "nothing")) (

@@ -1,4 +1,4 @@
--- How a contract sees the parts of an object.
+-- The parts of an object as contracts read them.
 use Rattle.std.specs.Prelude.{ℕ, List, codes, string_bytes}
 use Rattle.refspec_json.specs.declared.mappings.Claim.{Claim}
 use Rattle.refspec_json.specs.declared.specs.SpecKind.{SpecKind}

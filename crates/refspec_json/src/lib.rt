@@ -1,5 +1,5 @@
-//! The JSON objects that the program `refspec` writes for `--json`, one a line. A reader tells them apart
-//! by their member `kind`. Names in them are UTF-8: the caller quotes others.
+//! The JSON objects that the program `refspec` writes for `--json`, one per line. The member `kind` tells them
+//! apart. All strings are UTF-8: the caller quotes names that aren't.
 #![tactic(auto)]
 
 mod line;

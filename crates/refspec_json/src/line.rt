@@ -1,4 +1,4 @@
-//! Values as lines.
+//! JSON values, each written as a line.
 
 ghost use Rattle.std.specs.Prelude.{◌≡◌, ◌++◌, option_map, false, IfOk, OnOk};
 ghost use Rattle.serde_json.specs.View.{view};
@@ -8,7 +8,7 @@ ghost use Rattle.refspec_json.specs.Objects.{line_of, text_or_null as text_data,
 use serde_json::Value;
 use std::alloc::{AllocError, Global};
 
-/// Puts a value and a newline at the end.
+/// Appends a value and a newline.
 pub fn write_value(alloc: Global, out: &mut Vec<u8>, value: &Value) -> Result<(), AllocError>
     ensures { OnOk result (has_float (view value.now) ≡ false
         → out.new.items ≡ out.old.items ++ line_of (view value.now)) }
@@ -19,7 +19,7 @@ pub fn write_value(alloc: Global, out: &mut Vec<u8>, value: &Value) -> Result<()
     Ok(())
 }
 
-/// A text as a string, or null.
+/// A text as a JSON string, or null for `None`.
 pub fn text_or_null(alloc: Global, text: Option<&str>) -> Result<Value, AllocError>
     ensures { IfOk result (λ v. view v ≡ text_data (option_map (λ t. t.now) text.entry)) }
 {
@@ -29,7 +29,7 @@ pub fn text_or_null(alloc: Global, text: Option<&str>) -> Result<Value, AllocErr
     }
 }
 
-/// A number, or null.
+/// A number, or null for `None`.
 pub fn number_or_null(number: Option<usize>) -> Value
     ensures { view result ≡ number_data number }
 {

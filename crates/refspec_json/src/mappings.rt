@@ -5,7 +5,7 @@ ghost use Rattle.serde_json.specs.Data.{array};
 ghost use Rattle.serde_json.specs.View.{view, items_of};
 ghost use Rattle.refspec_json.specs.Objects.{line_of, mapping_object, left_out_object, claim_object, conflict_object};
 
-use crate::line::{write_value, text_or_null};
+use crate::line::{text_or_null, write_value};
 use serde_json::{Value, json};
 use std::alloc::{AllocError, Global};
 
@@ -18,7 +18,7 @@ pub struct Mapping<'a> {
 }
 
 impl Mapping<'_> {
-    /// Puts its object and a newline at the end.
+    /// Appends its object and a newline.
     pub fn write_line(&self, alloc: Global, out: &mut Vec<u8>) -> Result<(), AllocError>
         ensures { OnOk result (out.new.items ≡ out.old.items ++ line_of (mapping_object
             self.now.source.now (option_map (λ t. t.now) self.now.destination)
@@ -27,7 +27,6 @@ impl Mapping<'_> {
         write_value(alloc, out, &self.object(alloc)?)
     }
 
-    // Its object.
     fn object(&self, alloc: Global) -> Result<Value, AllocError>
         ensures { IfOk result (λ v. view v ≡ mapping_object
             self.now.source.now (option_map (λ t. t.now) self.now.destination)
@@ -43,19 +42,19 @@ impl Mapping<'_> {
     }
 }
 
-/// A mapping that is left out.
+/// A mapping that is left out for an invalid ref name.
 #[derive(Drop)]
 pub struct LeftOut<'a> {
     pub source: &'a str,
     pub destination: Option<&'a str>,
     pub spec: &'a str,
-    /// Which side is wrong: `source`, `destination` or `both`.
+    /// The side whose ref name is invalid: `source`, `destination` or `both`.
     pub side: &'a str,
     pub message: &'a str,
 }
 
 impl LeftOut<'_> {
-    /// Puts its object and a newline at the end.
+    /// Appends its object and a newline.
     pub fn write_line(&self, alloc: Global, out: &mut Vec<u8>) -> Result<(), AllocError>
         ensures { OnOk result (out.new.items ≡ out.old.items ++ line_of (left_out_object
             self.now.source.now (option_map (λ t. t.now) self.now.destination)
@@ -64,7 +63,6 @@ impl LeftOut<'_> {
         write_value(alloc, out, &self.object(alloc)?)
     }
 
-    // Its object.
     fn object(&self, alloc: Global) -> Result<Value, AllocError>
         ensures { IfOk result (λ v. view v ≡ left_out_object
             self.now.source.now (option_map (λ t. t.now) self.now.destination)
@@ -92,7 +90,7 @@ pub struct Conflict<'a> {
 impl Conflict<'_> {
     ghost use Rattle.refspec_json.specs.Views.{claim_texts};
 
-    /// Puts its object and a newline at the end.
+    /// Appends its object and a newline.
     pub fn write_line(&self, alloc: Global, out: &mut Vec<u8>) -> Result<(), AllocError>
         ensures { OnOk result (out.new.items ≡ out.old.items ++ line_of (conflict_object
             self.now.destination.now (map claim_texts self.now.sources.now))) }
@@ -100,7 +98,6 @@ impl Conflict<'_> {
         write_value(alloc, out, &self.object(alloc)?)
     }
 
-    // Its object.
     fn object(&self, alloc: Global) -> Result<Value, AllocError>
         ensures { IfOk result (λ v. view v ≡ conflict_object
             self.now.destination.now (map claim_texts self.now.sources.now)) }
@@ -124,14 +121,13 @@ pub struct Claim {
 impl Claim {
     ghost use Rattle.refspec_json.specs.Views.{claim_texts};
 
-    // Its object.
     fn object(&self, alloc: Global) -> Result<Value, AllocError>
         ensures { IfOk result (λ v. view v ≡ claim_object (claim_texts self.now)) }
     {
         json!(in alloc; {"source": &self.source, "spec": &self.spec})
     }
 
-    // The array of the objects of some.
+    // The objects of several claims, as an array.
     fn array_of(claims: &[Claim], alloc: Global) -> Result<Value, AllocError>
         ensures { IfOk result (λ v. view v
             ≡ array (items_of (map claim_object (map claim_texts claims.now)))) }

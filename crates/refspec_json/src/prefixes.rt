@@ -1,4 +1,4 @@
-//! What to ask a server for.
+//! Ref prefixes to request from a server.
 
 ghost use Rattle.std.specs.Prelude.{◌≡◌, ◌++◌, IfOk, OnOk};
 ghost use Rattle.serde_json.specs.View.{view};
@@ -8,7 +8,7 @@ use crate::line::write_value;
 use serde_json::{Value, json};
 use std::alloc::{AllocError, Global};
 
-/// A ref prefix: an argument of protocol v2, and the same as a pattern of `git ls-remote`.
+/// A ref prefix, as an argument of protocol v2 and as a pattern of `git ls-remote`.
 #[derive(Drop)]
 pub struct Prefix<'a> {
     pub prefix: &'a str,
@@ -16,7 +16,7 @@ pub struct Prefix<'a> {
 }
 
 impl Prefix<'_> {
-    /// Puts its object and a newline at the end.
+    /// Appends its object and a newline.
     pub fn write_line(&self, alloc: Global, out: &mut Vec<u8>) -> Result<(), AllocError>
         ensures { OnOk result (out.new.items ≡ out.old.items ++ line_of (prefix_object
             self.now.prefix.now self.now.pattern.now)) }
@@ -24,7 +24,6 @@ impl Prefix<'_> {
         write_value(alloc, out, &self.object(alloc)?)
     }
 
-    // Its object.
     fn object(&self, alloc: Global) -> Result<Value, AllocError>
         ensures { IfOk result (λ v. view v ≡ prefix_object
             self.now.prefix.now self.now.pattern.now) }
@@ -37,14 +36,14 @@ impl Prefix<'_> {
     }
 }
 
-/// Nothing has to be asked for.
+/// No request to the server is needed.
 #[derive(Drop)]
 pub struct Nothing<'a> {
     pub message: &'a str,
 }
 
 impl Nothing<'_> {
-    /// Puts its object and a newline at the end.
+    /// Appends its object and a newline.
     pub fn write_line(&self, alloc: Global, out: &mut Vec<u8>) -> Result<(), AllocError>
         ensures { OnOk result (out.new.items ≡ out.old.items ++ line_of (nothing_object
             self.now.message.now)) }
@@ -52,7 +51,6 @@ impl Nothing<'_> {
         write_value(alloc, out, &self.object(alloc)?)
     }
 
-    // Its object.
     fn object(&self, alloc: Global) -> Result<Value, AllocError>
         ensures { IfOk result (λ v. view v ≡ nothing_object self.now.message.now) }
     {

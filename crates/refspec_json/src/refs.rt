@@ -1,4 +1,4 @@
-//! Refs and records of the input.
+//! Bad records of the input, and refs that no spec writes.
 
 ghost use Rattle.std.specs.Prelude.{◌≡◌, ◌++◌, IfOk, OnOk};
 ghost use Rattle.serde_json.specs.View.{view};
@@ -8,7 +8,7 @@ use crate::line::write_value;
 use serde_json::{Value, json};
 use std::alloc::{AllocError, Global};
 
-/// A record of the input that is no ref.
+/// A record of the input that is not a ref.
 #[derive(Drop)]
 pub struct Malformed<'a> {
     pub location: &'a str,
@@ -18,7 +18,7 @@ pub struct Malformed<'a> {
 }
 
 impl Malformed<'_> {
-    /// Puts its object and a newline at the end.
+    /// Appends its object and a newline.
     pub fn write_line(&self, alloc: Global, out: &mut Vec<u8>) -> Result<(), AllocError>
         ensures { OnOk result (out.new.items ≡ out.old.items ++ line_of (malformed_object
             self.now.location.now self.now.text.now self.now.message.now self.now.advice.now)) }
@@ -26,7 +26,6 @@ impl Malformed<'_> {
         write_value(alloc, out, &self.object(alloc)?)
     }
 
-    // Its object.
     fn object(&self, alloc: Global) -> Result<Value, AllocError>
         ensures { IfOk result (λ v. view v ≡ malformed_object
             self.now.location.now self.now.text.now self.now.message.now self.now.advice.now) }
@@ -49,7 +48,7 @@ pub struct Untracked<'a> {
 }
 
 impl Untracked<'_> {
-    /// Puts its object and a newline at the end.
+    /// Appends its object and a newline.
     pub fn write_line(&self, alloc: Global, out: &mut Vec<u8>) -> Result<(), AllocError>
         ensures { OnOk result (out.new.items ≡ out.old.items ++ line_of (untracked_object
             self.now.name.now self.now.message.now)) }
@@ -57,7 +56,6 @@ impl Untracked<'_> {
         write_value(alloc, out, &self.object(alloc)?)
     }
 
-    // Its object.
     fn object(&self, alloc: Global) -> Result<Value, AllocError>
         ensures { IfOk result (λ v. view v ≡ untracked_object
             self.now.name.now self.now.message.now) }

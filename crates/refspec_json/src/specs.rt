@@ -1,11 +1,11 @@
-//! Specs, and texts that aren't.
+//! Specs, and refused texts.
 
 ghost use Rattle.std.specs.Prelude.{◌≡◌, ◌++◌, option_map, codes, IfOk, OnOk, MatchOption};
 ghost use Rattle.serde_json.specs.Data.{string, put as with_member};
 ghost use Rattle.serde_json.specs.View.{view, members_view};
 ghost use Rattle.refspec_json.specs.Objects.{line_of, refused_object, spec_object, noted_object};
 
-use crate::line::{number_or_null, write_value, text_or_null};
+use crate::line::{number_or_null, text_or_null, write_value};
 use serde_json::{Map, Value, json, put};
 use std::alloc::{AllocError, Global};
 
@@ -18,7 +18,7 @@ pub struct Refused<'a> {
     /// The name of the reason.
     pub reason: &'a str,
     pub message: &'a str,
-    /// The side, the part of it that is wrong, and where in the text this is, counted in bytes from 1.
+    /// The side, the part of it that is wrong, and the index of this part in the text, in bytes from 1.
     pub side: Option<&'a str>,
     pub part: Option<&'a str>,
     pub at: Option<usize>,
@@ -26,7 +26,7 @@ pub struct Refused<'a> {
 }
 
 impl Refused<'_> {
-    /// Puts its object and a newline at the end.
+    /// Appends its object and a newline.
     pub fn write_line(&self, alloc: Global, out: &mut Vec<u8>) -> Result<(), AllocError>
         ensures { OnOk result (out.new.items ≡ out.old.items ++ line_of (refused_object
             self.now.location.now self.now.operation.now self.now.text.now self.now.reason.now
@@ -36,7 +36,6 @@ impl Refused<'_> {
         write_value(alloc, out, &self.object(alloc)?)
     }
 
-    // Its object.
     fn object(&self, alloc: Global) -> Result<Value, AllocError>
         ensures { IfOk result (λ v. view v ≡ refused_object
             self.now.location.now self.now.operation.now self.now.text.now self.now.reason.now
@@ -61,14 +60,14 @@ impl Refused<'_> {
     }
 }
 
-/// What is said of a spec.
+/// What the object of a spec says about it.
 #[derive(Clone, Copy)]
 pub enum SpecKind {
     /// Its canonical text.
     Canonical,
     /// Its meaning too.
     Meaning,
-    /// That it is a good spec.
+    /// That it is good, and its canonical text.
     Good,
 }
 
@@ -87,7 +86,7 @@ impl SpecKind {
     }
 }
 
-/// A spec, and what is said of it.
+/// A spec, and its canonical text and meaning.
 #[derive(Drop)]
 pub struct Spec<'a> {
     pub kind: SpecKind,
@@ -96,14 +95,14 @@ pub struct Spec<'a> {
     pub text: &'a str,
     pub canonical: &'a str,
     pub meaning: Option<&'a str>,
-    /// The place of an earlier spec that says the same.
+    /// The location of an earlier duplicate.
     pub same_as: Option<&'a str>,
 }
 
 impl Spec<'_> {
     ghost use Rattle.refspec_json.specs.Views.{kind_name};
 
-    /// Puts its object and a newline at the end.
+    /// Appends its object and a newline.
     pub fn write_line(&self, alloc: Global, out: &mut Vec<u8>) -> Result<(), AllocError>
         ensures { OnOk result (out.new.items ≡ out.old.items ++ line_of (spec_object
             (kind_name self.now.kind) self.now.location.now self.now.operation.now
@@ -114,7 +113,6 @@ impl Spec<'_> {
         write_value(alloc, out, &self.object(alloc)?)
     }
 
-    // Its object.
     fn object(&self, alloc: Global) -> Result<Value, AllocError>
         ensures { IfOk result (λ v. view v ≡ spec_object
             (kind_name self.now.kind) self.now.location.now self.now.operation.now
@@ -123,19 +121,19 @@ impl Spec<'_> {
             (option_map (λ t. t.now) self.now.same_as)) }
     {
         let mut members = Map::new(alloc);
-        write_text(alloc, &mut members, "canonical", self.canonical)?;
-        write_text(alloc, &mut members, "kind", self.kind.name())?;
-        write_text(alloc, &mut members, "operation", self.operation)?;
-        write_text(alloc, &mut members, "place", self.location)?;
-        write_text(alloc, &mut members, "text", self.text)?;
-        write_text_if(alloc, &mut members, "meaning", self.meaning)?;
-        write_text_if(alloc, &mut members, "same_as", self.same_as)?;
+        set_text(alloc, &mut members, "canonical", self.canonical)?;
+        set_text(alloc, &mut members, "kind", self.kind.name())?;
+        set_text(alloc, &mut members, "operation", self.operation)?;
+        set_text(alloc, &mut members, "place", self.location)?;
+        set_text(alloc, &mut members, "text", self.text)?;
+        set_text_if(alloc, &mut members, "meaning", self.meaning)?;
+        set_text_if(alloc, &mut members, "same_as", self.same_as)?;
         Ok(Value::Object(members))
     }
 }
 
 // Sets a member to a text.
-fn write_text(
+fn set_text(
     alloc: Global,
     members: &mut Map<String, Value>,
     key: &str,
@@ -147,8 +145,8 @@ fn write_text(
     put(members, alloc, key, Value::try_from_str(alloc, text)?)
 }
 
-// Sets a member to a text, if there is one.
-fn write_text_if(
+// Sets a member to a text, if it isn't `None`.
+fn set_text_if(
     alloc: Global,
     members: &mut Map<String, Value>,
     key: &str,
@@ -161,11 +159,11 @@ fn write_text_if(
 {
     match text {
         None => Ok(()),
-        Some(text) => write_text(alloc, members, key, text),
+        Some(text) => set_text(alloc, members, key, text),
     }
 }
 
-/// A spec for which all refs have to be asked for.
+/// A spec for which all refs must be requested.
 #[derive(Drop)]
 pub struct All<'a> {
     pub spec: &'a str,
@@ -173,7 +171,7 @@ pub struct All<'a> {
 }
 
 impl All<'_> {
-    /// Puts its object and a newline at the end.
+    /// Appends its object and a newline.
     pub fn write_line(&self, alloc: Global, out: &mut Vec<u8>) -> Result<(), AllocError>
         ensures { OnOk result (out.new.items ≡ out.old.items ++ line_of (noted_object
             (codes "all") self.now.spec.now self.now.message.now)) }
@@ -190,7 +188,7 @@ pub struct ToObject<'a> {
 }
 
 impl ToObject<'_> {
-    /// Puts its object and a newline at the end.
+    /// Appends its object and a newline.
     pub fn write_line(&self, alloc: Global, out: &mut Vec<u8>) -> Result<(), AllocError>
         ensures { OnOk result (out.new.items ≡ out.old.items ++ line_of (noted_object
             (codes "to_object") self.now.spec.now self.now.message.now)) }

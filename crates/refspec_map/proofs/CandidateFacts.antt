@@ -1,4 +1,4 @@
--- A whole run of `plan` for a branch and a tag of one name, of which a partial source takes the tag.
+-- A whole run of `plan` for a branch and a tag of the same short name: a partial source takes the tag.
 use Rattle.std.proofs.Common.{◌≡◌, ◌≢◌, ◌<◌, inl, inr, ℕ, zero, suc, length, false, List, [], ◌∷◌, ◌++◌, None, Some, codes, refl, sym, ap, ◌∙◌, subst, arith}
 use Rattle.std.specs.Fmt.{digits}
 use Rattle.std.specs.List.{Contains}
@@ -67,7 +67,7 @@ ends = record { near = main; far = Some target }
 tag_taken : IsHit (Takes the_refs) ends 0 0 (named the_tag) tag_hit
 tag_taken = record { word = None; takes = taken_by_first the_refs main (named the_tag) main_kind tag_first; far = (full_name target, target_kind, refl); near = refl; spec = refl; item = refl }
 
--- by the law the first candidate is one name
+-- by the law the first candidate is unique
 head_not_taken : FirstCandidate main the_refs → (hit : Hit) → ¬ (IsHit (Takes the_refs) ends 0 1 (named the_head) hit)
 head_not_taken law hit is = apart ((law main_kind.1 main_kind.2 main_kind.3).one the_tag the_head tag_first (is.takes.first main main_kind))
 

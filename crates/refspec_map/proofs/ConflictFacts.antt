@@ -102,7 +102,7 @@ other_taken k j n m hit kind is = let matches = is.takes.matches in full_matches
 no_id_mapped : (k : ℕ) (n : List ℕ) → HasKind n (full_name n) → (m : Mapped) → ¬ (IsIdMapping k (spec_of n) m)
 no_id_mapped k n kind m is = is.object.1 (subst (BeginsWith (codes "refs/")) (some_once n is.text is.side) kind.2)
 
--- their names differ, and so do their starts
+-- their names differ, and so do their sources
 pub apart : the_tag ≢ the_head
 apart same = omega (arith, ap length same)
 

@@ -1,5 +1,5 @@
--- When a run ends with a fault, and what was written then, at examples on both sides of a border, so that a
--- wrong rule in specs/ doesn't check.
+-- When a run ends with a fault, and what was written before it, at examples on both sides of a border, so
+-- that a wrong rule in specs/ doesn't check.
 use Rattle.std.proofs.Common.{◌≡◌, ◌≢◌, ◌⊎◌, inl, inr, ℕ, ◌+◌, List, [], ◌∷◌, ◌++◌, Option, None, Some, length, get_or, codes, refl, sym, ap, ◌∙◌, subst, length-append, arith}
 use Rattle.std.proofs.lemmas.Bool.{eqb-false}
 use Rattle.std.proofs.lemmas.List.{append-nil}
@@ -25,11 +25,11 @@ use Rattle.refspec_map.proofs.RunFacts.{nothing_reads, caret_refused}
 
 -- ---- the first bad line
 
--- an input whose second line has no form
+-- an input whose second line is malformed
 abbrev two : List ℕ
 two = codes "spec \nmain\n"
 
--- `main` has none of the words that a line begins with
+-- `main` begins with no keyword of a line
 not_spec : (text : List ℕ) → codes "main" ≢ codes "spec " ++ text
 not_spec = no_spec_first 109 _ (eqb-false 109 115 refl)
 
@@ -50,7 +50,7 @@ second_bad = (
   (refl, main_malformed),
 )
 
--- `main` is no line of a spec, so its fault is that it has no form
+-- `main` isn't the line of a spec, so its fault is that it is malformed
 main_fault : (number : ℕ) (f : Fault) → number ≡ 2 → IsFaultOf number (codes "main") f → f ≡ fault.Line 2
 main_fault number (fault.Line n) second bad = ap (λ k. fault.Line k) (bad.0 ∙ second)
 main_fault number (fault.Spec n error) second bad = absurd (not_spec bad.0 bad.2)
@@ -83,7 +83,7 @@ two_read = record { taken = refl; ended = refl; within = omega arith }
 pub second_line_reported : Explains command.Lhs (Some two) (Some []) (fault.Line 2)
 second_line_reported = (two, two_read, second_bad)
 
--- the number of a line that has no form
+-- the number of a malformed line
 abbrev number_of : Fault → ℕ
 number_of (fault.Line n) = n
 number_of _ = 0
@@ -93,11 +93,11 @@ pub no_other_line_reported : (rest : List ℕ) (n : ℕ) → Explains command.Pl
 no_other_line_reported rest n (input, read, bad) =
     ap number_of (only_second_bad (fault.Line n) (subst (λ (x : List ℕ). IsFirstFault x (fault.Line n)) (read_whole two rest input read) bad))
 
--- a canon command reports no line
+-- a canon command never reports a line
 pub no_line_reported : (old new : Option (List ℕ)) (n : ℕ) → ¬ (Explains command.CanonFetch old new (fault.Line n))
 no_line_reported old new n (input, read, bad) = bad
 
--- a spec that is refused is reported by its line, with the reason
+-- a refused spec is reported with the number of its line and the reason
 pub refusal_reported : ReasonRefuses Fetch (codes "^") → Explains command.Rhs (Some (codes "spec ^\n")) (Some []) (fault.Spec 1 error.NegativeEmpty)
 refusal_reported law = (
   codes "spec ^\n",
@@ -110,7 +110,7 @@ refusal_reported law = (
   ),
 )
 
--- a matching command doesn't take this input, and a canon command does
+-- to a matching command this input is bad, and to a canon command it is good
 pub two_not_good : (rest : List ℕ) → ¬ (IsGood command.Rhs (Some two) (Some rest))
 two_not_good rest is = is.good (fault.Line 2) (subst (λ (x : List ℕ). IsFirstFault x (fault.Line 2)) (sym (read_whole two rest is.input is.read)) second_bad)
 
@@ -119,14 +119,14 @@ two_good = record { input = two; read = two_read; good = λ f bad. bad }
 
 -- ---- the other faults
 
--- an input is too long past 1,048,576 bytes, whatever the command
+-- an input of more than 1,048,576 bytes is too long, whatever the command
 pub length_reported : (c : Command) (x : List ℕ) → length x ≡ 1048577 → Explains c (Some x) (Some []) fault.TooLong
 length_reported c x long = too_long x long
 
 pub length_not_reported : (c : Command) (x rest : List ℕ) → length x ≡ 1048576 → ¬ (Explains c (Some x) (Some rest) fault.TooLong)
 length_not_reported c x rest long = not_too_long x rest long
 
--- before a fault nothing was written, unless it is the writer's
+-- before a fault nothing was written, unless a write failed
 pub nothing_written : (before after : List ℕ) (f : Fault) → Leaves (Some before) (Some after) f → (f ≡ fault.Write) ⊎ (after ≡ before)
 nothing_written before after fault.Write left = inl refl
 nothing_written before after fault.TooLong left = inr left
@@ -135,6 +135,6 @@ nothing_written before after (fault.Line n) left = inr left
 nothing_written before after (fault.Spec n e) left = inr left
 nothing_written before after fault.Memory left = inr left
 
--- a writer that failed may have taken a part
+-- a writer that failed may have taken a part of the output
 pub part_written : Leaves (Some []) (Some (codes "ok")) fault.Write
 part_written = tt

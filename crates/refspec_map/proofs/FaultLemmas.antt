@@ -1,4 +1,4 @@
--- An input whose lines all give something has no bad line.
+-- An input whose lines all add an entry has no bad line.
 use Rattle.std.proofs.Common.{◌≡◌, ◌≢◌, ◌⊎◌, inl, inr, ℕ, Bool, List, [], ◌∷◌, ◌++◌, codes, get_or, sym, ap, ◌∙◌, subst, arith}
 use Rattle.std.specs.List.{AllZip}
 use Rattle.std.proofs.lemmas.List.{append_cancel_left}
@@ -29,25 +29,25 @@ same_lines x y xs ys input in_x in_y (inl a) (inr b) later = absurd (Lacks-here 
 same_lines x y xs ys input in_x in_y (inr a) (inl b) later = absurd (Lacks-here newline y b.0 (subst (Lacks newline) (sym a.2 ∙ b.1) in_x))
 same_lines x y xs ys input in_x in_y (inr a) (inr b) later = ap (λ h. h ∷ xs) (sym a.2 ∙ b.2) ∙ ap (λ t. y ∷ t) (a.1 ∙ sym b.1)
 
--- an input is cut into lines in one way
+-- an input is split into lines in one way
 AreLines-once : (xs ys : List (List ℕ)) (input : List ℕ) → AreLines xs input → AreLines ys input → xs ≡ ys
 AreLines-once [] ys input a b = sym (no_lines ys (subst (AreLines ys) a b))
 AreLines-once (x ∷ xs) [] input a b = no_lines (x ∷ xs) (subst (AreLines (x ∷ xs)) b a)
 AreLines-once (x ∷ xs) (y ∷ ys) input a b = same_lines x y xs ys input a.0 b.0 a.1 b.1 (λ rest p q. AreLines-once xs ys rest p q)
 
--- each line gives something
+-- a line in the list adds an entry
 given_at : (before : List (List ℕ)) (line : List ℕ) (after : List (List ℕ)) (entries : List Entry) → AllZip Gives (before ++ (line ∷ after)) entries → (e : Entry) × Gives line e
 given_at [] line after [] given = absurd given
 given_at [] line after (e ∷ entries) given = (e, given.0)
 given_at (b ∷ before) line after [] given = absurd given
 given_at (b ∷ before) line after (e ∷ entries) given = given_at before line after entries given.1
 
--- a line that tells of a ref is no spec
+-- a line of a ref isn't the line of a spec
 no_spec : (line text : List ℕ) (r : Ref) → Says line (spec text) → Says line (item r) → ⊥
 no_spec line text r says (inl is) = omega (arith, ap (λ l. get_or l 0 0) (sym says ∙ is.here))
 no_spec line text r says (inr is) = omega (arith, ap (λ l. get_or l 0 0) (sym says ∙ is.here))
 
--- a line that gives something has no fault
+-- a line that adds an entry has no fault
 pub no_fault : (line : List ℕ) (e : Entry) (n : ℕ) (f : Fault) → Gives line e → IsFaultOf n line f → ⊥
 no_fault line (reading r) n (fault.Line m) given bad = bad.1 (spec given.0) given.1
 no_fault line (ref r) n (fault.Line m) given bad = bad.1 (item r) given

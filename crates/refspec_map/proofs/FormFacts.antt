@@ -15,7 +15,7 @@ use Rattle.refspec_map.proofs.LineFacts.{Lacks-tested}
 other_first : (b c : ℕ) (x y : List ℕ) → b ≢ c → b ∷ x ≢ c ∷ y
 other_first b c x y differ same = differ (ap (λ (l : List ℕ). get_or l 0 0) same)
 
--- a line that begins with another byte than a keyword doesn't begin with it
+-- a line whose first byte isn't that of a keyword doesn't begin with the keyword
 pub no_spec_first : (b : ℕ) (x : List ℕ) → b ≢ 115 → (text : List ℕ) → b ∷ x ≢ codes "spec " ++ text
 no_spec_first b x differ text = other_first b 115 x _ differ
 
@@ -39,7 +39,7 @@ two c d high low high_read low_read = record { high_value = high; low_value = lo
 spells_none : Spells [] []
 spells_none k below = absurd (omega (arith, below))
 
--- digits that spell a byte, before those that spell others
+-- two digits that spell a byte, before the digits of the other bytes
 spells_more : {b c d : ℕ} (t i : List ℕ) → IsSpelledBy b c d → Spells t i → Spells (c ∷ d ∷ t) (b ∷ i)
 spells_more t i one more zero below = one
 spells_more {b} {c} {d} t i one more (suc k) below =
@@ -52,7 +52,7 @@ spells_more {b} {c} {d} t i one more (suc k) below =
     low : (k : ℕ) → suc (suc (2 * k + 1)) ≡ 2 * suc k + 1
     low k = omega arith
 
--- the digits spell the bytes, two after two
+-- each two digits spell a byte
 abbrev SpellEach : List ℕ → List ℕ → Type 0
 SpellEach [] [] = Unit {0}
 SpellEach [] (b ∷ i) = ⊥
@@ -83,14 +83,14 @@ blob_then rest = record { word = blob_digits; ends = Lacks-tested space blob_dig
 pub spec_lines : Says (codes "spec ") (spec []) × Says (codes "spec  a:b") (spec (codes " a:b"))
 spec_lines = (refl, refl)
 
--- but the space after the keyword may not be missing
+-- but the space after the keyword must not be missing
 no_space : (text : List ℕ) → codes "spec" ≢ codes "spec " ++ text
 no_space text same = omega (arith, ap length same)
 
 pub no_spec_line : IsMalformed (codes "spec")
 no_spec_line = malformed (codes "spec") no_space (no_ref_first 115 _ (eqb-false 115 114 refl)) (no_tag_first 115 _ (eqb-false 115 116 refl))
 
--- nor has the keyword another case
+-- nor may the keyword be in upper case
 pub no_upper_spec_line : IsMalformed (codes "Spec a")
 no_upper_spec_line = malformed (codes "Spec a") (no_spec_first 83 _ (eqb-false 83 115 refl)) (no_ref_first 83 _ (eqb-false 83 114 refl)) (no_tag_first 83 _ (eqb-false 83 116 refl))
 
@@ -100,19 +100,19 @@ no_upper_spec_line = malformed (codes "Spec a") (no_spec_first 83 _ (eqb-false 8
 pub ref_lines : (rest : List ℕ) → Says (codes "ref " ++ (blob_digits ++ (space ∷ rest))) (item (record { name = rest; target = blob; object = None }))
 ref_lines rest = inl (record { words = blob_digits ++ (space ∷ rest); here = refl; target = blob_then rest; object = refl })
 
--- fewer than 40 digits spell no id
+-- an id has no fewer than 40 digits
 pub no_length : (n : ℕ) (kind : Kind) → n < 40 → n ≢ digits_of kind
 no_length n Sha1 few same = omega (arith, few, same)
 no_length n Sha256 few same = omega (arith, few, same)
 
--- the first word has the digits of an id
+-- the first word must have all digits of an id
 short_id : (id rest : List ℕ) → ¬ (IsIdThen (codes "e69de2 HEAD") id rest)
 short_id = no_IsIdThen-word (codes "e69de2 HEAD") (codes "e69de2") (codes "HEAD") refl (Lacks-tested space (codes "e69de2") refl) (λ id is. no_length 6 is.kind (omega arith) is.digits)
 
 pub no_short_ref_line : IsMalformed (codes "ref e69de2 HEAD")
 no_short_ref_line = malformed (codes "ref e69de2 HEAD") (no_spec_first 114 _ (eqb-false 114 115 refl)) (no_ref_id (codes "ref e69de2 HEAD") (codes "e69de2 HEAD") refl short_id) (no_tag_first 114 _ (eqb-false 114 116 refl))
 
--- and a space follows it
+-- and a space must follow it
 pub no_bare_ref_line : IsMalformed (codes "ref e69de29bb2d1d6434b8b29ae775ad8c2e48c5391")
 no_bare_ref_line =
     let line = codes "ref e69de29bb2d1d6434b8b29ae775ad8c2e48c5391" in
@@ -120,7 +120,7 @@ no_bare_ref_line =
 
 -- ---- tags
 
--- two ids, of which the second is what was tagged
+-- two ids, of which the second is that of the tagged object
 pub tag_lines : (rest : List ℕ) → Says (codes "tag " ++ (blob_digits ++ (space ∷ (blob_digits ++ (space ∷ rest))))) (item (record { name = rest; target = blob; object = Some blob }))
 tag_lines rest = inr (record {
   words = blob_digits ++ (space ∷ (blob_digits ++ (space ∷ rest)));

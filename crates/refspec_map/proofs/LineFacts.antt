@@ -1,5 +1,5 @@
--- The words on lines and faults at inputs and lines on both sides of a border, so that a wrong rule in
--- specs/ doesn't check.
+-- The definitions on lines and on the limit, at inputs on both sides of a border, so that a wrong rule in specs/
+-- doesn't check.
 use Rattle.std.proofs.Common.{◌≡◌, inl, inr, ℕ, ◌≤◌, ◌<◌, ◌==◌, true, false, ◌||◌, List, [], ◌∷◌, Some, length, codes, refl, sym, ap, ◌∙◌, subst, length-append, arith}
 use Rattle.std.specs.List.{list_any}
 use Rattle.std.proofs.lemmas.Bool.{eqb-false, true≢false}
@@ -9,7 +9,7 @@ use Rattle.refspec_map.specs.Input.{newline, AreLines, ReadsToEnd, IsTooLong}
 use Rattle.refspec_map.proofs.OutputLemmas.{no_lines}
 use Rattle.gix_refspec_text.proofs.lemmas.lists.LacksLemmas.{Lacks-here, first_once}
 
--- a test of each byte tells that a text lacks one
+-- a text whose bytes are all tested for a byte, and differ from it, lacks the byte
 pub Lacks-tested : (b : ℕ) (x : List ℕ) → list_any (λ c. c == b) x ≡ false → Lacks b x
 Lacks-tested b [] none = tt
 Lacks-tested b (c ∷ x) none = elim (c == b) as (λ v. (c == b) ≡ v → (v || list_any (λ c. c == b) x) ≡ false → Lacks b (c ∷ x)) [
@@ -34,15 +34,15 @@ lines_once (l ∷ ls) (m ∷ ms) input (in_l, inr (some, last, here)) (in_m, inl
 lines_once (l ∷ ls) (m ∷ ms) input (in_l, inr (some, last, here)) (in_m, inr (full, end, there)) =
     ap (λ x. x ∷ ls) (sym here ∙ there) ∙ ap (λ xs. m ∷ xs) (last ∙ sym end)
 
--- nothing has no lines, and a newline alone one that is empty
+-- the empty input has no lines, and a newline alone has one empty line
 pub no_line : AreLines [] [] × AreLines ([] ∷ []) (codes "\n")
 no_line = (refl, (tt, inl ([], refl, refl)))
 
--- a carriage return is a byte of its line, and the last line may lack its newline
+-- a carriage return belongs to its line, and the last line may lack its newline
 pub two_lines : AreLines (codes "a\r" ∷ codes "b" ∷ []) (codes "a\r\nb")
 two_lines = (Lacks-tested newline (codes "a\r") refl, inl (codes "b", refl, (Lacks-tested newline (codes "b") refl, inr (λ none. cc, refl, refl))))
 
--- a newline at the end is no line more
+-- a newline at the end doesn't begin another line
 pub no_line_more : (lines : List (List ℕ)) → AreLines lines (codes "a\n") → lines ≡ codes "a" ∷ []
 no_line_more lines split = lines_once lines (codes "a" ∷ []) (codes "a\n") split (Lacks-tested newline (codes "a") refl, inl ([], refl, refl))
 
@@ -57,7 +57,7 @@ not_too_long x rest long (input, taken, over) =
     let past : 1048576 < length input = over in
     omega (arith, long, ap length taken, length-append input rest, past)
 
--- and one of a byte more is past it
+-- and an input of one byte more isn't
 pub past_the_limit : (x rest input : List ℕ) → length x ≡ 1048577 → ¬ (ReadsToEnd (Some x) (Some rest) input)
 past_the_limit x rest input long read =
     let within : length input ≤ 1048576 = read.within in

@@ -1,5 +1,5 @@
--- Whole runs of the matching commands, from the bytes of an input to those of its output, and runs that none
--- of them has, so that a wrong rule in specs/ doesn't check.
+-- Whole runs of the matching commands, from the bytes of an input to those of its output, and runs that are
+-- ruled out, so that a wrong rule in specs/ doesn't check.
 use Rattle.std.proofs.Common.{◌≡◌, ◌≢◌, inl, inr, ℕ, zero, suc, MatchBool, Bool, true, false, List, [], ◌∷◌, ◌++◌, Option, None, Some, length, codes, refl, sym, ap, ◌∙◌, subst, length-append, arith}
 use Rattle.std.specs.Fmt.{digits}
 use Rattle.std.specs.Prelude.{if◌then◌else◌}
@@ -28,7 +28,7 @@ use Rattle.refspec_map.proofs.RunFacts.{none_some, nothing_reads, some_once}
 
 -- ---- an empty input
 
--- maps nothing
+-- the empty input maps nothing
 pub nothing_mapped : Answers command.Lhs (Some []) (Some []) (Some []) (Some []) 0
 nothing_mapped = record {
   input = [];
@@ -80,7 +80,7 @@ lines_split = (
 not_refs : (after : List ℕ) → head ≢ codes "refs/" ++ after
 not_refs after same = cc
 
--- `HEAD` is no id, and a partial name
+-- `HEAD` is a partial name, and not an id
 no_id : (i : List ℕ) → ¬ (IsIdText head i)
 no_id i is = no_length 4 is.kind (omega arith) is.digits
 
@@ -100,7 +100,7 @@ no_id_mapped m is = no_id is.bytes (subst (λ (x : List ℕ). IsIdText x is.byte
 ends : AreForwardEnds the_spec (record { near = head; far = None })
 ends = record { positive = tt; near = refl; far = refl; no_object = λ i kind. no_id i kind.2 }
 
--- a partial name takes the refs with the first of its candidates that is there
+-- a partial name takes the refs that have the first existing one of its candidates
 pub taken_by_first : (refs : List Ref) (x : List ℕ) (r : Ref) → HasKind x (partial x) → IsFirstCandidate refs x r.name → Takes refs x r None
 taken_by_first refs x r kind first = record {
   matches = record { kind = partial x; of = kind; is = (refl, record { earlier = first.earlier; later = first.later; here = first.here }) };
@@ -159,7 +159,7 @@ not_excluded (inr none) = none
 kept : AreKeptForward (the_spec ∷ []) (the_ref ∷ []) (the_mapping ∷ [])
 kept = record { all = the_mapping ∷ []; forward = mapped; is = (Some the_mapping, [], (refl, record { first = λ pair. pair; included = not_excluded }), refl, refl) }
 
--- a run that reads the input answers it where its output is one of the spec and the ref
+-- a run that reads the input answers it if its output is an output for the spec and the ref
 answered : (command : Command) (Writes : List Reading → List Ref → List ℕ → Bool → Type 0) (output : List ℕ) → (IsMatching Writes the_input output false → IsOutput command the_input output false) → Writes (the_spec ∷ []) (the_ref ∷ []) output false → Answers command (Some the_input) (Some []) (Some []) (Some output) 0
 answered command Writes output is_output writes = record {
   input = the_input;
@@ -185,12 +185,12 @@ nothing_mapped_back = answered command.Rhs (AreMapLines AreKeptBackward) [] (λ 
 
 -- ---- a plan
 
--- a list of one holds nothing else
+-- a list of one mapping contains no other
 only : (m : Mapped) → Contains (the_mapping ∷ []) m → the_mapping ≡ m
 only m (zero, below, is) = is
 only m (suc k, below, is) = absurd (omega (arith, below))
 
--- one mapping meets no other, and without a destination it survives
+-- a single mapping has no conflict, and without a destination it survives
 not_contested : (d : List ℕ) → ¬ (HasConflictAt (the_mapping ∷ []) d)
 not_contested d is = none_some d (ap (λ (m : Mapped). m.destination) (only is.one is.has_one) ∙ is.one_to)
 
@@ -207,7 +207,7 @@ pub head_planned : Answers command.Plan (Some the_input) (Some []) (Some []) (So
 unfolding digits
 head_planned = answered command.Plan IsPlan (codes "map\t0\t0\tHEAD\n") (λ is. is) (record { mappings = the_mapping ∷ []; kept = kept; shows = record { rest = the_mapping ∷ []; fixes = []; fixed = []; is = validated; are = refl; written = refl } })
 
--- a plan has the status 1 only where it writes conflicts
+-- a plan has exit status 1 only if it writes conflicts
 nothing_more : (b : ℕ) (rest output before : List ℕ) → output ≡ b ∷ rest → before ≢ before ++ output
 nothing_more b rest output before is same = omega (arith, ap length is, ap length same, length-append before output)
 

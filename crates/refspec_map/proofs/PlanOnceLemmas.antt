@@ -1,4 +1,4 @@
--- A plan that ends with status 0 writes no destination from two sources, and no line twice.
+-- A plan with exit status 0 writes no destination from two sources, and no duplicate line.
 use Rattle.std.proofs.Common.{◌≡◌, ◌≢◌, ◌⊎◌, inl, inr, ℕ, zero, suc, ◌+◌, ◌<◌, ◌≤◌, ◌%◌, ◌^◌, Bool, true, false, List, [], ◌∷◌, ◌++◌, Option, None, Some, flat_map, get_or, length, length-append, map, codes, refl, sym, ap, ◌∙◌, subst, append_assoc, arith}
 use Rattle.std.specs.Prelude.{decimal, if◌then◌else◌, MatchBool}
 use Rattle.std.specs.List.{AllByRecursion, AllZip, slice_get}
@@ -42,7 +42,7 @@ digits n small = decimal_by_steps (λ _ ds. AreDigits ds) (λ k below. (omega ar
 digits_lack : (ds : List ℕ) → AreDigits ds → Lacks tab ds
 digits_lack ds all = all_weaker (λ c. 48 ≤ c) (λ c. c ≢ tab) (λ c high same. omega (arith, high, same)) ds all
 
--- the place of an item, where there is one, is written
+-- the index of an item, if any, is small enough for `decimal` to be injective
 abbrev IsSmall : Option ℕ → Type 0
 IsSmall None = Unit {0}
 IsSmall (Some j) = j < 2 ^ 64
@@ -68,13 +68,13 @@ destination_once (Some d) (Some e) same = let rest : d ≡ e = cc in ap Some res
 
 -- ---- the lines of mappings
 
--- the places of the mapping can be written
-record HasSmallPlaces (m : Mapped) : Type 0 where
+-- the indexes of the mapping are small enough for `decimal` to be injective
+record HasSmallIndexes (m : Mapped) : Type 0 where
   spec : m.spec < 2 ^ 64
   item : IsSmall m.item
 
--- one line has one spec, one item and then the same text
-line_parts : (m n : Mapped) → HasSmallPlaces m → HasSmallPlaces n → map_line m ≡ map_line n
+-- mappings with the same line have the same spec and item, and the same text after these
+line_parts : (m n : Mapped) → HasSmallIndexes m → HasSmallIndexes n → map_line m ≡ map_line n
     → (m.spec ≡ n.spec) × (m.item ≡ n.item) × (source_text m.source ++ (destination_text m.destination ++ (newline ∷ [])) ≡ source_text n.source ++ (destination_text n.destination ++ (newline ∷ [])))
 line_parts m n at_m at_n same =
     let behind = append_cancel_left (codes "map\t") _ _ same in
@@ -82,25 +82,25 @@ line_parts m n at_m at_n same =
     let item = first_once tab (item_text m.item) (item_text n.item) _ _ (item_lacks m.item at_m.item) (item_lacks n.item at_n.item) spec.1 in
     (decimal_injective m.spec n.spec at_m.spec at_n.spec spec.0, item_once m.item n.item at_m.item at_n.item item.0, item.1)
 
--- so it has one pair
-pair_once : (m n : Mapped) → HasSmallPlaces m → HasSmallPlaces n → HaveOneSource m n → map_line m ≡ map_line n → IsSamePair m n
+-- so they have the same pair
+pair_once : (m n : Mapped) → HasSmallIndexes m → HasSmallIndexes n → HaveOneSource m n → map_line m ≡ map_line n → IsSamePair m n
 pair_once m n at_m at_n start same =
     let (spec, item, behind) = line_parts m n at_m at_n same in
     let source = start spec item in
     let rest = append_cancel_left (source_text n.source) _ _ (ap (λ s. source_text s ++ (destination_text m.destination ++ (newline ∷ []))) (sym source) ∙ behind) in
     record { source = source; destination = destination_once m.destination n.destination (append_cancel_right (destination_text m.destination) (destination_text n.destination) (newline ∷ []) rest) }
 
-others_differ : (m : Mapped) (xs : List Mapped) → HasSmallPlaces m → AllByRecursion HasSmallPlaces xs → AllByRecursion (HaveOneSource m) xs → AllByRecursion (λ x. ¬ (IsSamePair m x)) xs → AllByRecursion (λ y. y ≢ map_line m) (map map_line xs)
+others_differ : (m : Mapped) (xs : List Mapped) → HasSmallIndexes m → AllByRecursion HasSmallIndexes xs → AllByRecursion (HaveOneSource m) xs → AllByRecursion (λ x. ¬ (IsSamePair m x)) xs → AllByRecursion (λ y. y ≢ map_line m) (map map_line xs)
 others_differ m [] at_m placed starts apart = tt
 others_differ m (x ∷ xs) at_m placed starts apart = ((λ same. apart.0 (pair_once m x at_m placed.0 starts.0 (sym same))), others_differ m xs at_m placed.1 starts.1 apart.1)
 
-maps_distinct : (xs : List Mapped) → AllByRecursion HasSmallPlaces xs → HaveSourcesByIndex xs → AreApart xs → AreDistinct (map map_line xs)
+maps_distinct : (xs : List Mapped) → AllByRecursion HasSmallIndexes xs → HaveSourcesByIndex xs → AreApart xs → AreDistinct (map map_line xs)
 maps_distinct [] placed starts apart = tt
 maps_distinct (m ∷ xs) placed starts apart = (others_differ m xs placed.0 placed.1 starts.0 apart.0, maps_distinct xs placed.1 starts.1 apart.1)
 
 -- ---- the lines of fixes
 
--- the canonical text of the fix's spec holds no control character, and its destination no newline
+-- the canonical text of the fix's spec contains no control character, and its destination no newline
 record IsClearFix (f : Removed) : Type 0 where
   text : (b : ℕ) (t : List ℕ) → b < 32 → printed f.spec ≡ Some t → Lacks b t
   destination : Lacks newline f.destination
@@ -210,14 +210,14 @@ map_is m =
     ∙ ap (λ z. codes "map\t" ++ z) (sym (append_assoc (decimal m.spec) (tab ∷ behind) (newline ∷ [])))
     ∙ sym (append_assoc (codes "map\t") (decimal m.spec ++ (tab ∷ behind)) (newline ∷ []))
 
-map_whole : (m : Mapped) → HasSmallPlaces m → MappedLacks newline m → IsOneLine (map_line m)
+map_whole : (m : Mapped) → HasSmallIndexes m → MappedLacks newline m → IsOneLine (map_line m)
 map_whole m at_m lacks =
     let words = all_join (λ c. c ≢ newline) (source_text m.source) (destination_text m.destination) (source_whole m.source lacks.0) (destination_whole m.destination lacks.1) in
     let item = all_join (λ c. c ≢ newline) (item_text m.item) (tab ∷ (source_text m.source ++ destination_text m.destination)) (item_whole m.item at_m.item) ((λ same. omega (arith, same)), words) in
     let spec = all_join (λ c. c ≢ newline) (decimal m.spec) (tab ∷ (item_text m.item ++ (tab ∷ (source_text m.source ++ destination_text m.destination)))) (digits_whole (decimal m.spec) (digits m.spec at_m.spec)) ((λ same. omega (arith, same)), item) in
     (map_body m, ((λ same. omega (arith, same)), ((λ same. omega (arith, same)), ((λ same. omega (arith, same)), ((λ same. omega (arith, same)), spec)))), map_is m)
 
-maps_whole : (xs : List Mapped) → AllByRecursion HasSmallPlaces xs → AllByRecursion (MappedLacks newline) xs → AllByRecursion IsOneLine (map map_line xs)
+maps_whole : (xs : List Mapped) → AllByRecursion HasSmallIndexes xs → AllByRecursion (MappedLacks newline) xs → AllByRecursion IsOneLine (map map_line xs)
 maps_whole [] placed lack = tt
 maps_whole (m ∷ xs) placed lack = (map_whole m placed.0 lack.0, maps_whole xs placed.1 lack.1)
 
@@ -246,13 +246,13 @@ clear_fixes law g reads k (m ∷ l) fixes lack (Some f, rest, fix, more, is) = s
   clear_fixes law g reads (k + 1) l rest lack.1 more,
 )
 
--- no line of the input holds a newline, and so no name and no side
+-- no line of the input contains a newline, and so no name and no side does
 lines_whole : (lines : List (List ℕ)) (input : List ℕ) → AreLines lines input → AllByRecursion (Lacks newline) lines
 lines_whole [] input split = tt
 lines_whole (line ∷ lines) input (lacks, inl (rest, is, split)) = (lacks, lines_whole lines rest split)
 lines_whole (line ∷ lines) input (lacks, inr (full, none, is)) = (lacks, subst (AllByRecursion (Lacks newline)) (sym none) tt)
 
--- what follows the first word
+-- nor does what follows the id
 rest_whole : (text target rest : List ℕ) → IsIdThen text target rest → Lacks newline text → Lacks newline rest
 rest_whole text target rest told lacks = (all_right (λ c. c ≢ newline) told.word (space ∷ rest) (subst (Lacks newline) told.here lacks)).1
 
@@ -282,7 +282,7 @@ item_small : (items : List Ref) (m : Mapped) (i : Option ℕ) → length items <
 item_small items m None few is places = tt
 item_small items m (Some j) few is places = let (r, here, named) = places j is in let below = slice_get_within items j r here in omega (arith, below, few)
 
-placed : (g : List Reading) (items : List Ref) → length g < 2 ^ 64 → length items < 2 ^ 64 → (xs : List Mapped) → AllByRecursion (ForwardIndexes g items) xs → AllByRecursion HasSmallPlaces xs
+placed : (g : List Reading) (items : List Ref) → length g < 2 ^ 64 → length items < 2 ^ 64 → (xs : List Mapped) → AllByRecursion (ForwardIndexes g items) xs → AllByRecursion HasSmallIndexes xs
 placed g items few_specs few_items [] places = tt
 placed g items few_specs few_items (m ∷ xs) places = (
   (let below = places.0.spec in record { spec = omega (arith, below, few_specs); item = item_small items m m.item few_items refl places.0.item }),
@@ -295,7 +295,7 @@ remain_each P k [] rest all empty = subst (AllByRecursion P) (sym empty) tt
 remain_each P k (m ∷ l) rest all (None, others, none, more, is) = subst (AllByRecursion P) (sym is) (remain_each P (k + 1) l others all.1 more)
 remain_each P k (m ∷ l) rest all (Some n, others, one, more, is) = subst (AllByRecursion P) (sym is) (subst P (sym one.0) all.0, remain_each P (k + 1) l others all.1 more)
 
--- a plan without conflicts
+-- a plan without conflicts writes no destination from two sources, and no duplicate line
 writes_once : PlansApart → NoControlCharacter → (lines : List (List ℕ)) (entries : List Entry) (input output : List ℕ) (l : List Mapped) → AreLines lines input → AllZip Gives lines entries → length input ≤ input_limit → AreKeptForward (readings_in entries) (refs_in entries) l → ShowsValidated (readings_in entries) l output → WritesOnce (readings_in entries) (refs_in entries) output
 writes_once apart control lines entries input output l split given within kept shows =
     let g = readings_in entries in
@@ -331,7 +331,7 @@ writes_once apart control lines entries input output l split given within kept s
       whole = all_join IsOneLine (map map_line rest) fixed (maps_whole rest all rest_lack) (fixes_whole fixes fixed are clear);
     }
 
--- no line is refused, and no plan has conflicts, where the status is 0
+-- with exit status 0 no line is refused, and no plan has conflicts
 calm : (b : Bool) → ◌≡◌ {A = ℕ} 0 (if b then 1 else 0) → b ≡ false
 calm true same = absurd (omega (arith, same))
 calm false same = refl

@@ -23,24 +23,24 @@ use Rattle.refspec_map.specs.Run.{Answers}
 use Rattle.refspec_map.proofs.LineFacts.{Lacks-tested, lines_once}
 use Rattle.refspec_map.proofs.OutputLemmas.{or_false}
 
--- a missing word is no word
+-- a missing text differs from every text
 pub none_some : (x : List ℕ) → None ≢ Some x
 none_some x same = cc
 
--- and a word that is there is one
+-- and `Some` is injective
 pub some_once : (x y : List ℕ) → Some x ≡ Some y → x ≡ y
 some_once x y same = cc
 
 -- ---- canon fetch
 
--- a line of nothing, and a colon, are specs of a fetch of `HEAD`
+-- an empty line, and a colon, are specs that fetch `HEAD`
 pub nothing_reads : Reads Fetch [] (fetched Normal head None)
 nothing_reads = fetches_nothing_named Normal refl tt (record { signed = (refl, tt); last = tt }) refl
 
 colon_reads : Reads Fetch (codes ":") (fetched Normal head None)
 colon_reads = fetches_colon Normal refl tt (record { signed = (refl, (eqb-false 58 plus refl, eqb-false 58 caret refl)); last = tt }) refl
 
--- no earlier reason is against a caret alone, which excludes nothing
+-- a caret alone excludes nothing, and no earlier reason applies to it
 caret_reaches : NoReasonBeforeSource Fetch Negative [] None
 caret_reaches = (λ e h. let i = h.unsigned in absurd (cc), λ e h. let i = h.colon in absurd (cc), λ e h. let i = h.nowhere in absurd (cc))
 
@@ -52,7 +52,7 @@ caret_reason =
 pub caret_refused : ReasonRefuses Fetch (codes "^") → IsRefused Fetch (codes "^") NegativeEmpty
 caret_refused law = law Negative [] None NegativeEmpty (record { signed = refl; last = tt }) caret_reason
 
--- three lines, of which the last has no newline, after what was written before
+-- three lines, the last without a newline; the output follows what was written before
 pub answers_for_a_fetch : ReasonRefuses Fetch (codes "^") → Answers command.CanonFetch (Some (codes "\n^\n:")) (Some []) (Some (codes "old\n")) (Some (codes "old\nok HEAD\nerr NegativeEmpty\nok HEAD\n")) 1
 answers_for_a_fetch law = record {
   input = codes "\n^\n:";
@@ -71,7 +71,7 @@ answers_for_a_fetch law = record {
   tells = refl;
 }
 
--- ---- that a run has one answer
+-- ---- the answer of a run is unique
 
 -- the answer to the only line of an input
 record OneAnswer (op : Operation) (line output : List ℕ) (refusal : Bool) : Type 0 where
@@ -90,7 +90,7 @@ one_answer op line output refusal lacks is =
     let one = lines_once is.lines (line ∷ []) (line ++ (newline ∷ [])) is.split (lacks, inl ([], refl, refl)) in
     one_answer_by op line output refusal is.answers (subst (λ (ls : List (List ℕ)). AllZip (IsAnswer op) ls is.answers) one is.told) is.written is.tells
 
--- every answer to the line is written as this one
+-- every answer to the line has the same output line, and the same refusal
 abbrev IsOnly : Operation → List ℕ → Answer → Type 0
 IsOnly op line a = (b : Answer) → IsAnswer op line b → (answer_line b ≡ answer_line a) × (is_refused b ≡ is_refused a)
 
@@ -112,7 +112,7 @@ only_refused : (op : Operation) (line : List ℕ) (e : Refusal) → OneRefusal o
 only_refused op line e law is (accepted other) (r, reads, prints) = absurd (is.unread r reads)
 only_refused op line e law is (refused f) also = (ap (λ n. codes "err " ++ (n ++ (newline ∷ []))) (same_name f e (law f e also is)), refl)
 
--- what a run over an input of one line leaves and writes, and its status
+-- what a run over an input of one line leaves in the reader, what it writes, and its exit status
 record Ends (rest before after : List ℕ) (status : ℕ) (a : Answer) : Type 0 where
   pub left : rest ≡ []
   pub written : after ≡ before ++ answer_line a
@@ -129,13 +129,13 @@ ends_by op line a input output rest before after refusal status lacks only read 
       tells = tells ∙ ap (λ (b : Bool). if b then 1 else 0) (one.tells ∙ same.1);
     }
 
--- for a fetch the empty line gives this output and status, and no other, by the laws on texts
+-- for a fetch the empty line has this output and exit status, and no other, by the laws on texts
 pub empty_line_fetched : ReadsOrRefused Fetch [] → (rest before after : List ℕ) (status : ℕ) → Answers command.CanonFetch (Some (codes "\n")) (Some rest) (Some before) (Some after) status → (rest ≡ []) × (after ≡ before ++ codes "ok HEAD\n") × (status ≡ 0)
 empty_line_fetched law rest before after status a =
     let ends = ends_by Fetch [] (accepted (codes "HEAD")) a.input a.output rest before after a.refusal status tt (only_read Fetch [] (fetched Normal head None) (codes "HEAD") law nothing_reads refl) a.read a.is a.written a.tells in
     (ends.left, ends.written, ends.tells)
 
--- and so does a caret
+-- and so for a caret
 pub caret_fetched : ReasonRefuses Fetch (codes "^") → OneRefusal Fetch (codes "^") → (rest before after : List ℕ) (status : ℕ) → Answers command.CanonFetch (Some (codes "^\n")) (Some rest) (Some before) (Some after) status → (rest ≡ []) × (after ≡ before ++ codes "err NegativeEmpty\n") × (status ≡ 1)
 caret_fetched refuses one rest before after status a =
     let ends = ends_by Fetch (codes "^") (refused NegativeEmpty) a.input a.output rest before after a.refusal status (Lacks-tested newline (codes "^") refl) (only_refused Fetch (codes "^") NegativeEmpty one (caret_refused refuses)) a.read a.is a.written a.tells in

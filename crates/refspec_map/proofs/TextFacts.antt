@@ -1,4 +1,4 @@
--- The words of the call, the names of reasons, and the lines that the program prints, at examples on both
+-- The arguments of a call, the names of reasons, and the lines that the program prints, at examples on both
 -- sides of a border, so that a wrong rule in specs/ doesn't check.
 use Rattle.std.proofs.Common.{◌≡◌, ℕ, true, false, List, [], ◌∷◌, ◌++◌, None, Some, map, codes, refl}
 use Rattle.std.specs.Fmt.{digits}
@@ -16,15 +16,15 @@ use Rattle.refspec_map.specs.Fault.{name_of, status_of, IsMemory}
 use Rattle.refspec_map.specs.Matching.{map_line}
 use Rattle.refspec_map.specs.Output.{accepted, refused, answer_line, any_refused}
 use Rattle.refspec_map.specs.Plan.{conflict_line, IsFixLine}
-use Rattle.refspec_map.specs.Words.{words_of, AreArgumentsOf}
+use Rattle.refspec_map.specs.Words.{arguments_of, AreArgumentsOf}
 
--- ---- words
+-- ---- arguments
 
-pub words : map words_of (command.CanonFetch ∷ command.CanonPush ∷ command.Lhs ∷ command.Rhs ∷ command.Plan ∷ [])
+pub words : map arguments_of (command.CanonFetch ∷ command.CanonPush ∷ command.Lhs ∷ command.Rhs ∷ command.Plan ∷ [])
     ≡ (codes "canon" ∷ codes "fetch" ∷ []) ∷ (codes "canon" ∷ codes "push" ∷ []) ∷ (codes "lhs" ∷ []) ∷ (codes "rhs" ∷ []) ∷ (codes "plan" ∷ []) ∷ []
 words = refl
 
--- these are no command's
+-- these are the arguments of no command
 pub no_words : AreArgumentsOf [] None
 no_words command.CanonFetch same = cc
 no_words command.CanonPush same = cc
@@ -48,7 +48,7 @@ names = refl
 pub statuses : map status_of (fault.TooLong ∷ fault.Read ∷ fault.Line 2 ∷ fault.Spec 2 error.NegativeEmpty ∷ fault.Memory ∷ fault.Write ∷ []) ≡ 3 ∷ 3 ∷ 1 ∷ 1 ∷ 3 ∷ 3 ∷ []
 statuses = refl
 
--- a match call without memory ends a run by this fault alone
+-- a match that runs out of memory ends a run with this fault and no other
 pub memory : IsMemory fault.Memory × ¬ (IsMemory fault.Read) × ¬ (IsMemory fault.Write)
 memory = (tt, λ is. is, λ is. is)
 
@@ -61,12 +61,12 @@ answer_lines = refl
 pub some_refused : map any_refused ([] ∷ (accepted [] ∷ []) ∷ (accepted [] ∷ refused Empty ∷ accepted [] ∷ []) ∷ []) ≡ false ∷ false ∷ true ∷ []
 some_refused = refl
 
--- the spec is told before the item
+-- the index of the spec is before that of the item
 pub name_line : map_line (record { item = Some 12; source = name (codes "refs/heads/a"); destination = Some (codes "refs/x/a"); spec = 3 }) ≡ codes "map\t3\t12\trefs/heads/a\trefs/x/a\n"
 unfolding digits
 name_line = refl
 
--- a destination that is empty isn't one that is missing
+-- an empty destination differs from a missing one
 pub no_destination_line : map_line (record { item = Some 0; source = name []; destination = None; spec = 0 }) ≡ codes "map\t0\t0\t\n"
 unfolding digits
 no_destination_line = refl
@@ -75,7 +75,7 @@ pub empty_destination_line : map_line (record { item = Some 0; source = name [];
 unfolding digits
 empty_destination_line = refl
 
--- an id is in lower case, and takes no item
+-- an id is in lower case, and its mapping has no item
 pub id_line : (bytes : List ℕ) → map_line (record { item = None; source = id bytes; destination = Some (codes "refs/x"); spec = 1 }) ≡ codes "map\t1\t-\t" ++ (lower_of bytes ++ codes "\trefs/x\n")
 unfolding digits
 id_line bytes = refl

@@ -4,7 +4,7 @@ use Rattle.gix_refspec.specs.Specs.Refusal.{Refusal, Empty, NegativeWithDestinat
 use Rattle.refspec_map.specs.declared.fault.Fault.{Fault}
 use Rattle.refspec_map.specs.declared.fault.Fault.TheVariants as fault
 
--- the name of a reason, alone
+-- the name of a reason, without its data
 abbrev pub name_of : Refusal → List ℕ
 name_of Empty = codes "Empty"
 name_of NegativeWithDestination = codes "NegativeWithDestination"
@@ -15,24 +15,24 @@ name_of PatternUnbalanced = codes "PatternUnbalanced"
 name_of NegativeEmpty = codes "NegativeEmpty"
 name_of NegativeObjectHash = codes "NegativeObjectHash"
 
--- the status of a fault: 1 if a line is at fault, otherwise 3
+-- the exit status of a fault: 1 if a line is at fault, otherwise 3
 abbrev pub status_of : Fault → ℕ
 status_of (fault.Line number) = 1
 status_of (fault.Spec number error) = 1
 status_of _ = 3
 
--- the fault is that memory ran out
+-- memory ran out
 abbrev pub IsMemory : Fault → Type 0
 IsMemory fault.Memory = ⊤
 IsMemory _ = ⊥
 
--- the fault is of the reader, or that memory ran out
+-- a read failed, or memory ran out
 abbrev pub IsReadOrMemory : Fault → Type 0
 IsReadOrMemory fault.Read = ⊤
 IsReadOrMemory fault.Memory = ⊤
 IsReadOrMemory _ = ⊥
 
--- the fault is of the writer
+-- a write failed
 abbrev pub IsWrite : Fault → Type 0
 IsWrite fault.Write = ⊤
 IsWrite _ = ⊥

@@ -1,12 +1,12 @@
 -- An input that is read to its end, and its lines. This project's own rule: a newline ends a line, and
--- every other byte, a carriage return too, is a byte of it.
+-- every other byte, even a carriage return, belongs to it.
 use Rattle.std.specs.Prelude.{◌≡◌, ◌≢◌, ◌<◌, ◌≤◌, ◌⊎◌, ℕ, Bool, List, [], ◌∷◌, ◌++◌, Option, length, MatchBool, ⊤}
 use Rattle.std.specs.Io.KnownBytes.{Consumes, IsAtEnd}
 use Rattle.gix_refspec.specs.Texts.Words.{Lacks}
 use Rattle.refspec_map.specs.declared.fault.Fault.{Fault}
 use Rattle.refspec_map.specs.declared.fault.Fault.TheVariants as fault
 
--- the most bytes that an input may have
+-- the maximum length of an input, in bytes
 abbrev pub input_limit : ℕ
 input_limit = 1048576
 
@@ -14,7 +14,7 @@ input_limit = 1048576
 pub record ReadsSome (more : Bool) (reader_old reader_new : Option (List ℕ)) (old new : List ℕ) : Type 0 where
   pub came : List ℕ
   pub taken : Consumes reader_old reader_new came
-  pub put : new ≡ old ++ came
+  pub append : new ≡ old ++ came
   pub tells : MatchBool more (came ≢ []) ((came ≡ []) × IsAtEnd reader_new)
 
 -- the input was read from old to its end, and is within the limit
@@ -34,11 +34,10 @@ IsReadFault old new fault.Read = ⊤
 IsReadFault old new fault.Memory = ⊤
 IsReadFault old new _ = ⊥
 
--- the newline
 abbrev pub newline : ℕ
 newline = 10
 
--- no line has a newline, and each ends with one; the last may lack it if it isn't empty
+-- the lines of the input, without the newlines that end them; the last may lack its newline if it isn't empty
 abbrev pub AreLines : List (List ℕ) → List ℕ → Type 0
 AreLines [] input = input ≡ []
 AreLines (line ∷ lines) input =

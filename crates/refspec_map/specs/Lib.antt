@@ -5,5 +5,5 @@ pub mod Matching
 pub mod Output
 pub mod Plan
 pub mod Run
-pub mod Told
+pub mod Parsed
 pub mod Words

@@ -1,5 +1,5 @@
--- What a matching command writes: a line for each mapping that is kept. The form of the line is this
--- project's own rule.
+-- What a matching command writes: a line for each kept mapping. The form of the line is this project's own
+-- rule.
 use Rattle.std.specs.Prelude.{◌≡◌, ℕ, Bool, false, List, [], ◌∷◌, ◌++◌, Option, None, Some, codes, decimal}
 use Rattle.std.specs.List.{AllZip, flat_map}
 use Rattle.gix_refspec.specs.Texts.ObjectId.{lower_of}
@@ -9,7 +9,6 @@ use Rattle.gix_refspec.specs.Matching.Mappings.{Source, name, id, Mapped}
 use Rattle.refspec_map.specs.Input.{newline, AreLines}
 use Rattle.refspec_map.specs.Line.{Entry, Gives, readings_in, refs_in}
 
--- the tab
 abbrev pub tab : ℕ
 tab = 9
 
@@ -28,19 +27,19 @@ abbrev pub destination_text : Option (List ℕ) → List ℕ
 destination_text None = []
 destination_text (Some d) = tab ∷ d
 
--- the line of a mapping: `map`, the places of its spec and its item, its source and its destination, with
+-- the line of a mapping: `map`, the indexes of its spec and its item, its source and its destination, with
 -- tabs between
 abbrev pub map_line : Mapped → List ℕ
 map_line m = codes "map\t" ++ (decimal m.spec ++ (tab ∷ (item_text m.item ++ (tab ∷ (source_text m.source ++ (destination_text m.destination ++ (newline ∷ [])))))))
 
--- the output for the specs and refs of an input: a line for each mapping that is kept, and nothing is refused
+-- the output for the specs and refs of an input: a line for each kept mapping, and nothing is refused
 pub record AreMapLines (AreKept : List Reading → List Ref → List Mapped → Type 0) (g : List Reading) (items : List Ref) (output : List ℕ) (refusal : Bool) : Type 0 where
   pub mappings : List Mapped
   pub kept : AreKept g items mappings
   pub written : output ≡ flat_map map_line mappings
   pub tells : refusal ≡ false
 
--- each line of the input gives something, and of these specs and refs the output is what Writes says
+-- each line of the input adds an entry, and Writes relates their specs and refs to the output
 pub record IsMatching (Writes : List Reading → List Ref → List ℕ → Bool → Type 0) (input output : List ℕ) (refusal : Bool) : Type 0 where
   pub lines : List (List ℕ)
   pub entries : List Entry

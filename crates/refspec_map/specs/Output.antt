@@ -23,17 +23,15 @@ abbrev pub IsAnswer : Operation → List ℕ → Answer → Type 0
 IsAnswer op line (accepted text) = (r : Reading) × Reads op line r × (printed r ≡ Some text)
 IsAnswer op line (refused e) = IsRefused op line e
 
--- the line of an answer
+-- `ok` and the canonical text, or `err` and the name of the reason
 abbrev pub answer_line : Answer → List ℕ
 answer_line (accepted text) = codes "ok " ++ (text ++ (newline ∷ []))
 answer_line (refused e) = codes "err " ++ (name_of e ++ (newline ∷ []))
 
--- whether a line is refused
 abbrev pub is_refused : Answer → Bool
 is_refused (accepted text) = false
 is_refused (refused e) = true
 
--- whether some line is refused
 abbrev pub any_refused : List Answer → Bool
 any_refused [] = false
 any_refused (a ∷ answers) = is_refused a || any_refused answers
@@ -47,17 +45,17 @@ pub record IsCanon (op : Operation) (input output : List ℕ) (refusal : Bool) :
   pub written : output ≡ flat_map answer_line answers
   pub tells : refusal ≡ any_refused answers
 
--- what the program made of a line, read for the operation: a reading that it has, or the name of the first reason
+-- the program's answer to a line, read for the operation: a spec with its reading, or the name of the first reason
 abbrev pub IsAnsweredBy : Operation → List ℕ → Made → Type 0
 IsAnsweredBy op line (made.Accepted s) = Reads op line (reading_of s)
 IsAnsweredBy op line (made.Refused name) = (e : Refusal) × IsRefused op line e × (name.now ≡ name_of e)
 
--- the line of what the program made was appended to the old output
-abbrev pub PutsLine : Made → List ℕ → List ℕ → Type 0
-PutsLine (made.Accepted s) old new = (text : List ℕ) × (printed (reading_of s) ≡ Some text) × (new ≡ old ++ answer_line (accepted text))
-PutsLine (made.Refused name) old new = (e : Refusal) → name.now ≡ name_of e → new ≡ old ++ answer_line (refused e)
+-- the line of the program's answer was appended to the old output
+abbrev pub AppendsLine : Made → List ℕ → List ℕ → Type 0
+AppendsLine (made.Accepted s) old new = (text : List ℕ) × (printed (reading_of s) ≡ Some text) × (new ≡ old ++ answer_line (accepted text))
+AppendsLine (made.Refused name) old new = (e : Refusal) → name.now ≡ name_of e → new ≡ old ++ answer_line (refused e)
 
--- whether what the program made is a refusal
+-- whether the program's answer is a refusal
 abbrev pub is_refusal : Made → Bool
 is_refusal (made.Accepted s) = false
 is_refusal (made.Refused name) = true

@@ -1,6 +1,6 @@
 -- What a plan writes: if several sources are mapped to one destination, a line for each such
--- destination, otherwise a line for each mapping that remains and for each that is removed. The forms of
--- these lines are this project's own rule.
+-- destination, otherwise a line for each remaining mapping and for each fix. The forms of these lines are
+-- this project's own rule.
 use Rattle.std.specs.Prelude.{◌≡◌, ◌≢◌, ℕ, Bool, List, [], ◌∷◌, ◌++◌, Some, MatchBool, codes, map}
 use Rattle.std.specs.List.{AllByRecursion, AllZip, flat_map, zip}
 use Rattle.gix_refspec.specs.Texts.Words.{Lacks}
@@ -39,7 +39,7 @@ pub record ShowsConflicts (g : List Reading) (mappings : List Mapped) (output : 
   pub some : conflicts ≢ []
   pub written : output ≡ flat_map conflict_line conflicts
 
--- there are none, and the output has the line of each mapping that remains, and then that of each fix
+-- there are no conflicts, and the output has the line of each remaining mapping, and then that of each fix
 pub record ShowsValidated (g : List Reading) (mappings : List Mapped) (output : List ℕ) : Type 0 where
   pub rest : List Mapped
   pub fixes : List Removed
@@ -54,7 +54,7 @@ pub record IsPlan (g : List Reading) (items : List Ref) (output : List ℕ) (con
   pub kept : AreKeptForward g items mappings
   pub shows : MatchBool conflicting (ShowsConflicts g mappings output) (ShowsValidated g mappings output)
 
--- no two of the lines are the same
+-- there are no duplicate lines
 abbrev pub AreDistinct : List (List ℕ) → Type 0
 AreDistinct [] = Unit {0}
 AreDistinct (line ∷ lines) = AllByRecursion (λ other. other ≢ line) lines × AreDistinct lines
@@ -63,8 +63,8 @@ AreDistinct (line ∷ lines) = AllByRecursion (λ other. other ≢ line) lines �
 abbrev pub IsOneLine : List ℕ → Type 0
 IsOneLine text = (line : List ℕ) × Lacks newline line × (text ≡ line ++ (newline ∷ []))
 
--- the output has the lines of the mappings that remain and of the fixes. No two of these mappings have the same
--- destination. Each of these is one line, and no two lines are the same
+-- the output has the lines of the remaining mappings and of the fixes: each is one line, and there are no
+-- duplicates. No two of these mappings have the same destination
 pub record WritesOnce (g : List Reading) (items : List Ref) (output : List ℕ) : Type 0 where
   pub mappings : List Mapped
   pub rest : List Mapped
@@ -79,9 +79,9 @@ pub record WritesOnce (g : List Reading) (items : List Ref) (output : List ℕ) 
   pub whole : AllByRecursion IsOneLine (map map_line rest ++ fixed)
 
 -- the line of the fix was appended to the old output
-abbrev pub PutsFix : Removed → List ℕ → List ℕ → Type 0
-PutsFix fix old new = (line : List ℕ) × IsFixLine fix line × (new ≡ old ++ line)
+abbrev pub AppendsFix : Removed → List ℕ → List ℕ → Type 0
+AppendsFix fix old new = (line : List ℕ) × IsFixLine fix line × (new ≡ old ++ line)
 
 -- the lines of the fixes were appended to the old output
-abbrev pub PutsFixes : List Removed → List ℕ → List ℕ → Type 0
-PutsFixes fixes old new = (lines : List ℕ) × AreFixLines fixes lines × (new ≡ old ++ lines)
+abbrev pub AppendsFixes : List Removed → List ℕ → List ℕ → Type 0
+AppendsFixes fixes old new = (lines : List ℕ) × AreFixLines fixes lines × (new ≡ old ++ lines)

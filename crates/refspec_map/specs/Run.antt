@@ -17,7 +17,7 @@ use Rattle.refspec_map.specs.Matching.{AreMapLines, IsMatching}
 use Rattle.refspec_map.specs.Output.{IsCanon}
 use Rattle.refspec_map.specs.Plan.{IsPlan, WritesOnce}
 
--- the output of a command for an input, and whether some line is refused, or a plan for its conflicts
+-- the output of a command for an input, and whether some line is refused or a plan has conflicts
 abbrev pub IsOutput : Command → List ℕ → List ℕ → Bool → Type 0
 IsOutput command.CanonFetch input output refusal = IsCanon Fetch input output refusal
 IsOutput command.CanonPush input output refusal = IsCanon Push input output refusal
@@ -25,7 +25,7 @@ IsOutput command.Lhs input output refusal = IsMatching (AreMapLines AreKeptForwa
 IsOutput command.Rhs input output refusal = IsMatching (AreMapLines AreKeptBackward) input output refusal
 IsOutput command.Plan input output refusal = IsMatching IsPlan input output refusal
 
--- what is wrong with an input: the fault of the first bad line. A canon command takes every line
+-- the fault of an input: that of its first bad line. To a canon command no line is bad
 abbrev pub IsBad : Command → List ℕ → Fault → Type 0
 IsBad command.CanonFetch input f = ⊥
 IsBad command.CanonPush input f = ⊥
@@ -33,7 +33,7 @@ IsBad command.Lhs input f = IsFirstFault input f
 IsBad command.Rhs input f = IsFirstFault input f
 IsBad command.Plan input f = IsFirstFault input f
 
--- the input was read to its end, and its output was written
+-- the input was read to its end, its output was written, and the exit status shows a refusal or conflict
 pub record Answers (command : Command) (reader_old reader_new writer_old writer_new : Option (List ℕ)) (status : ℕ) : Type 0 where
   pub input : List ℕ
   pub output : List ℕ
@@ -43,7 +43,7 @@ pub record Answers (command : Command) (reader_old reader_new writer_old writer_
   pub written : Appends writer_old writer_new output
   pub tells : status ≡ (if refusal then 1 else 0)
 
--- the input was read to its end, and nothing is wrong with it
+-- the input was read to its end, and has no fault
 pub record IsGood (command : Command) (old new : Option (List ℕ)) : Type 0 where
   pub input : List ℕ
   pub read : ReadsToEnd old new input
@@ -63,11 +63,11 @@ abbrev pub Leaves : Option (List ℕ) → Option (List ℕ) → Fault → Type 0
 Leaves old new fault.Write = ⊤
 Leaves old new _ = Keeps old new
 
--- a plan that ends with status 0 writes no destination from two sources, and no line twice
+-- a plan with exit status 0 writes no destination from two sources, and no duplicate line
 abbrev pub PlanOnce : Type 0
 PlanOnce = (reader_old reader_new writer_old writer_new : Option (List ℕ)) → Answers command.Plan reader_old reader_new writer_old writer_new 0
     → (input : List ℕ) × (output : List ℕ) × ReadsToEnd reader_old reader_new input × Appends writer_old writer_new output × IsMatching (λ g items written refusal. WritesOnce g items written) input output false
 
--- the error in the fault of a spec is the first reason against a text, and never that memory ran out
+-- the error in the fault of a spec is the first reason that applies to some text, and never `Memory`
 abbrev pub SpecIsRefused : Type 0
 SpecIsRefused = (command : Command) (old new : Option (List ℕ)) (number : ℕ) (error : Error) → Explains command old new (fault.Spec number error) → (error ≢ Memory) × (text : List ℕ) × ShowsRefusal (IsRefused Fetch text) error

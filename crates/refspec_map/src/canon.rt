@@ -27,14 +27,14 @@ pub(crate) fn canon(
     while !rest.is_empty() {
         let (line, after) = first_line(rest);
         let answer = answer_to(alloc, operation, line)?;
-        answer.put(&mut output)?;
+        answer.append(&mut output)?;
         refusal |= answer.is_refused();
         rest = after;
     }
     Ok((output, refusal))
 }
 
-// The answer to a line.
+// Parses a line for the operation. A refusal is an answer; only running out of memory is an error.
 fn answer_to(alloc: Global, operation: Operation, line: &[u8]) -> Result<Answer<'_>, Fault>
     ensures ok { IfOk result (IsAnsweredBy operation line.now) }
     ensures err { IfErr result IsMemory }

@@ -12,9 +12,8 @@ pub enum Command {
     Lhs,
     /// Reads specs for a fetch and local refs, and writes the mappings from right to left.
     Rhs,
-    /// Reads what `Lhs` reads, and writes what a fetch can write of it: the mappings that remain after
-    /// validation, and those that were removed since their destination neither begins `refs/` nor
-    /// is `HEAD`. If several sources are mapped to one destination, it writes each such conflict
-    /// instead.
+    /// Reads what `Lhs` reads, and writes the mappings that remain after validation, and a fix for each
+    /// mapping that was removed because its destination neither begins with `refs/` nor is `HEAD`. If
+    /// several sources are mapped to one destination, it writes each such conflict instead.
     Plan,
 }

@@ -16,11 +16,11 @@ pub enum Fault {
     TooLong,
     /// The input could not be read to its end.
     Read,
-    /// The line with this number, counted from 1, has no form that the command takes. A canon
-    /// command takes every line, and never gives it.
+    /// The line with this number, counted from 1, is malformed. Canon commands answer every line, and
+    /// never return it.
     Line(usize),
-    /// The line with this number, counted from 1, holds a spec that is refused. A canon command
-    /// writes the refusal as the answer to the line, and never gives it.
+    /// The spec in the line with this number, counted from 1, is refused. Canon commands write the
+    /// refusal as the answer to the line, and never return it.
     Spec { line: usize, error: Error },
     /// Memory ran out, for the input, a spec, the mappings or the output.
     Memory,
@@ -29,7 +29,7 @@ pub enum Fault {
 }
 
 impl Fault {
-    /// The status that the program ends with: 1 if a line is at fault, otherwise 3.
+    /// The exit status: 1 if a line is at fault, otherwise 3.
     pub fn status(&self) -> u8
         ensures { result ≡ status_of self.now }
     {

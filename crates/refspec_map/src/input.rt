@@ -1,4 +1,4 @@
-//! The input, read whole, and cut into lines.
+//! The input, read whole, and split into lines.
 
 ghost use Rattle.std.specs.Prelude.{◌<◌, IfOk, IfErr, length};
 ghost use Rattle.refspec_map.specs.Fault.{IsReadOrMemory};
@@ -9,13 +9,13 @@ use bstr::ByteSlice;
 use std::alloc::Global;
 use std::io::Read;
 
-/// The most bytes that an input may have.
+/// The maximum length of an input, in bytes.
 pub const INPUT_LIMIT: usize = 1_048_576;
 
-/// The most bytes that one read asks for.
+/// The length of the buffer for one read, in bytes.
 const CHUNK: usize = 65_536;
 
-/// Reads all that the reader has left, in chunks, until a read returns no byte or the limit is passed.
+/// Reads the rest of the reader, in chunks, until a read returns 0 or the limit is exceeded.
 pub(crate) fn read_input<R: Read>(alloc: Global, reader: &mut R) -> Result<Vec<u8>, Fault>
     ensures ok { IfOk result (λ input.
         ReadsToEnd (R.remaining reader.old) (R.remaining reader.new) input.items) }
@@ -24,7 +24,7 @@ pub(crate) fn read_input<R: Read>(alloc: Global, reader: &mut R) -> Result<Vec<u
     let Ok(mut buffer) = vec![in alloc; 0; CHUNK] else {
         return Err(Fault::Memory);
     };
-    // With room for all that may be read, the input is never moved.
+    // There is room for the longest input and one more chunk, so that the input is never reallocated.
     let Ok(mut input) = Vec::with_capacity(alloc, INPUT_LIMIT + CHUNK) else {
         return Err(Fault::Memory);
     };
@@ -36,7 +36,7 @@ pub(crate) fn read_input<R: Read>(alloc: Global, reader: &mut R) -> Result<Vec<u
     Ok(input)
 }
 
-// Reads once, and appends the bytes to the input; false at the end of the reader.
+// Reads once, and appends the bytes to the input. Returns false at the end of the reader.
 fn read_some<R: Read>(reader: &mut R, buffer: &mut [u8], input: &mut Vec<u8>) -> Result<bool, Fault>
     requires { 0 < length buffer.old }
     ensures ok { IfOk result (λ more. ReadsSome more
@@ -52,7 +52,7 @@ fn read_some<R: Read>(reader: &mut R, buffer: &mut [u8], input: &mut Vec<u8>) ->
     }
 }
 
-/// The first line of a text, and what follows its newline.
+/// The first line of a text, without its newline, and the text after that.
 pub(crate) fn first_line(text: &[u8]) -> (&[u8], &[u8])
     ensures { IsFirstLine text.now result.0.now result.1.now }
 {

@@ -10,7 +10,7 @@ ghost use Rattle.gix_refspec.specs.Views.Spec.{reading_of};
 ghost use Rattle.gix_refspec.specs.Views.Group.{ref_of};
 ghost use Rattle.refspec_map.specs.Fault.{IsMemory};
 ghost use Rattle.refspec_map.specs.Line.{space, IsFaultOf, IsFirstFault, IsIdThen, IsMalformed, Says, spec};
-ghost use Rattle.refspec_map.specs.Told.{IsReadAs, IsSaidAs, told_ref};
+ghost use Rattle.refspec_map.specs.Parsed.{IsReadAs, IsSaidAs, parsed_ref};
 
 use crate::fault::Fault;
 use crate::input::first_line;
@@ -21,18 +21,18 @@ use gix_refspec::parsing::{Error, Operation};
 use gix_refspec::{RefSpecRef, laws, parse};
 use std::alloc::Global;
 
-/// A ref that a line told of. It holds the ids, which an item borrows.
+/// A ref of the input. It owns the ids that an item borrows.
 #[derive(Clone, Copy)]
-pub(crate) struct ToldRef<'a> {
+pub(crate) struct ParsedRef<'a> {
     name: BStr<'a>,
     target: ObjectId,
     object: Option<ObjectId>,
 }
 
-impl<'a> ToldRef<'a> {
-    /// The ref as an item.
+impl<'a> ParsedRef<'a> {
+    /// An item that borrows the ids of the ref.
     pub(crate) fn as_item(&self) -> Item<'_>
-        ensures { ref_of result ≡ told_ref self.now }
+        ensures { ref_of result ≡ parsed_ref self.now }
     {
         Item {
             full_ref_name: self.name,
@@ -45,28 +45,28 @@ impl<'a> ToldRef<'a> {
     }
 }
 
-// What a line says.
+// The content of a line.
 #[derive(Clone, Copy)]
 enum Said<'a> {
     // The text of a spec.
     Spec(BStr<'a>),
-    Ref(ToldRef<'a>),
+    Ref(ParsedRef<'a>),
 }
 
-/// The specs and refs of an input, each kind in order. Refs are in one of the two lists: with their ids,
-/// or as items with only their names.
+/// The specs and refs of an input, each kind in order. The refs are either in `refs`, with their ids, or in
+/// `items`, with only their names.
 #[derive(Drop)]
 pub(crate) struct Entries<'a> {
     pub(crate) specs: Vec<RefSpecRef<'a>>,
-    pub(crate) refs: Vec<ToldRef<'a>>,
+    pub(crate) refs: Vec<ParsedRef<'a>>,
     pub(crate) items: Vec<Item<'a>>,
 }
 
 impl<'a> Entries<'a> {
-    ghost use Rattle.refspec_map.specs.Told.{Adds, AreEntries};
+    ghost use Rattle.refspec_map.specs.Parsed.{Adds, AreEntries};
 
-    /// Reads the lines of an input, up to the first bad one. Refs have their ids; with `blank` they are
-    /// items with only their names, and that id instead of their own.
+    /// Parses the lines of an input. Fails at the first bad line. Without `blank`, refs are kept with their
+    /// ids; with it, as items that have only their names, and `blank` as their id.
     pub(crate) fn read(
         alloc: Global,
         input: &'a [u8],
@@ -123,7 +123,7 @@ impl<'a> Entries<'a> {
     }
 }
 
-/// Appends a value to a list.
+/// Appends a value to a list. Fails with `Fault::Memory` if memory runs out.
 pub(crate) fn push<T: Drop>(list: &mut Vec<T>, value: T) -> Result<(), Fault>
     ensures ok { OnOk result (list.new.items ≡ list.old.items ++ value ∷ []) }
     ensures err { IfErr result IsMemory }
@@ -134,7 +134,7 @@ pub(crate) fn push<T: Drop>(list: &mut Vec<T>, value: T) -> Result<(), Fault>
     }
 }
 
-// The spec that a text reads as for a fetch. Its line has this number.
+// Parses a spec for a fetch. The number is that of its line.
 fn spec_of(alloc: Global, number: usize, text: BStr<'_>) -> Result<RefSpecRef<'_>, Fault>
     ensures ok { IfOk result (λ s. Reads Fetch (bstr_bytes text.entry) (reading_of s)) }
     ensures err { IfErr result (λ f. IsMemory f
@@ -154,13 +154,13 @@ fn spec_of(alloc: Global, number: usize, text: BStr<'_>) -> Result<RefSpecRef<'_
     }
 }
 
-// What a line says; `None` if it is malformed. With `blank` a ref has that id instead of its own.
+// Parses a line; `None` if it is malformed. With `blank`, a ref has that id instead of its own ids.
 fn said_by<'a>(line: &'a [u8], blank: Option<&ObjectId>) -> Option<Said<'a>>
     ensures { MatchOption result (IsMalformed line.now) (IsSaidAs blank.entry line.now) }
 {
     if let Some(words) = line.strip_prefix(b"ref ") {
         let (target, name) = id_then(words, blank)?;
-        return Some(Said::Ref(ToldRef {
+        return Some(Said::Ref(ParsedRef {
             name: BStr::new(name),
             target,
             object: None,
@@ -169,7 +169,7 @@ fn said_by<'a>(line: &'a [u8], blank: Option<&ObjectId>) -> Option<Said<'a>>
     if let Some(words) = line.strip_prefix(b"tag ") {
         let (target, rest) = id_then(words, blank)?;
         let (object, name) = id_then(rest, blank)?;
-        return Some(Said::Ref(ToldRef {
+        return Some(Said::Ref(ParsedRef {
             name: BStr::new(name),
             target,
             object: Some(object),
@@ -179,7 +179,8 @@ fn said_by<'a>(line: &'a [u8], blank: Option<&ObjectId>) -> Option<Said<'a>>
     Some(Said::Spec(BStr::new(text)))
 }
 
-// The id that the first word of a text spells, or `blank`, and what follows the space after that word.
+// Splits a text into an id and what follows the space after it; `None` if it doesn't begin so. With
+// `blank`, that id is returned.
 #[inline(always)]
 fn id_then<'a>(text: &'a [u8], blank: Option<&ObjectId>) -> Option<(ObjectId, &'a [u8])>
     ensures { MatchOption result
@@ -192,7 +193,7 @@ fn id_then<'a>(text: &'a [u8], blank: Option<&ObjectId>) -> Option<(ObjectId, &'
     Some((id, rest))
 }
 
-// The id that a word spells. With `blank` the word is only checked, and that id is returned.
+// Parses an id. With `blank`, the word is only checked, and that id is returned.
 #[inline(always)]
 fn id_of(word: &[u8], blank: Option<&ObjectId>) -> Option<ObjectId>
     ensures { MatchOption result
@@ -210,7 +211,7 @@ fn id_of(word: &[u8], blank: Option<&ObjectId>) -> Option<ObjectId>
     }
 }
 
-// What precedes and follows the first space of a text.
+// Splits a text at its first space; `None` without one.
 fn first_word(text: &[u8]) -> Option<(&[u8], &[u8])>
     ensures { MatchOption result
         (Lacks space text.now)

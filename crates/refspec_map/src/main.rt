@@ -1,5 +1,5 @@
-//! Reads refspecs, one a line, and prints their canonical texts; or reads refspecs and refs, and
-//! prints what the specs map, or what of it can be written.
+//! Reads refspecs, one per line, and prints their canonical texts; or reads refspecs and refs, and
+//! prints the mappings, or those that a fetch can write.
 #![tactic(auto)]
 
 ghost use Rattle.std.specs.Prelude.{map, string_bytes};
@@ -23,21 +23,21 @@ use std::{env, io};
 
 const USAGE: &str = "usage: refspec_map canon fetch | canon push | lhs | rhs | plan";
 
-// The status if the words name no command.
+// The exit status of a usage error.
 const USAGE_STATUS: u8 = 2;
 
 fn main(rt: HostRuntime) -> ExitCode {
     let status = match named_command(&rt) {
         Ok(Some(command)) => run_command(&rt, command),
         Ok(None) => report_usage(&rt),
-        // A word that isn't UTF-8 names no command.
+        // An argument that isn't UTF-8 names no command.
         Err(error) if error.kind() == io::ErrorKind::InvalidData => report_usage(&rt),
         Err(_) => report(&rt, &Fault::Memory),
     };
     ExitCode::from(status)
 }
 
-// Prints the usage line. If that fails, only the status tells.
+// Prints the usage line. If that fails, only the exit status shows it.
 fn report_usage(rt: &HostRuntime) -> u8 {
     let _ = println!(rt; "{USAGE}");
     USAGE_STATUS
@@ -52,7 +52,7 @@ fn named_command<R: env::Env + AllocGlobal>(rt: &R) -> io::Result<Option<Command
     Ok(command_of(words.as_slice()))
 }
 
-// The command that words name.
+// The command that the arguments name; `None` for a usage error.
 fn command_of(words: &[String]) -> Option<Command>
     ensures { AreArgumentsOf (map string_bytes words.now) result }
 {
@@ -80,7 +80,7 @@ fn run_command(rt: &HostRuntime, command: Command) -> u8 {
     }
 }
 
-// Prints the line of a fault. If that fails, only the status tells.
+// Prints the line of a fault. If that fails, only the exit status shows it.
 fn report(rt: &HostRuntime, fault: &Fault) -> u8 {
     let _ = println!(rt; "{fault}");
     fault.status()

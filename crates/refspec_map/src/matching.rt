@@ -8,10 +8,10 @@ ghost use Rattle.refspec_map.specs.Fault.{IsMemory};
 ghost use Rattle.refspec_map.specs.Line.{IsFirstFault};
 ghost use Rattle.refspec_map.specs.Matching.{AreMapLines, IsMatching};
 ghost use Rattle.refspec_map.specs.Plan.{IsPlan};
-ghost use Rattle.refspec_map.specs.Told.{told_ref};
+ghost use Rattle.refspec_map.specs.Parsed.{parsed_ref};
 
 use crate::fault::Fault;
-use crate::line::{Entries, ToldRef, push};
+use crate::line::{Entries, ParsedRef, push};
 use crate::output::lines_of;
 use crate::plan::plan;
 use bstr::ByteSlice;
@@ -20,7 +20,7 @@ use gix_refspec::oid::{Kind, ObjectId};
 use gix_refspec::{MatchGroup, RefSpecRef, laws};
 use std::alloc::Global;
 
-/// The lines of the mappings from left to right, and false. They depend on no id of a ref.
+/// The lines of the mappings from left to right, and false. The names of the refs determine them.
 pub(crate) fn lhs_lines(alloc: Global, input: &[u8]) -> Result<(Vec<u8>, bool), Fault>
     ensures ok { IfOk result (λ made.
         IsMatching (AreMapLines AreKeptForward) input.now made.0.items made.1) }
@@ -60,7 +60,7 @@ pub(crate) fn rhs_lines(alloc: Global, input: &[u8]) -> Result<(Vec<u8>, bool), 
     }
 }
 
-// The same from the names of the refs alone. `None` if a destination is an id, which matches ids of refs.
+// The same from the names of the refs alone. `None` if a destination is an id, which matches the ids of refs.
 fn rhs_by_name(alloc: Global, input: &[u8]) -> Result<Option<(Vec<u8>, bool)>, Fault>
     ensures ok { IfOk result (λ found. IfSome found (λ made.
         IsMatching (AreMapLines AreKeptBackward) input.now made.0.items made.1)) }
@@ -78,7 +78,7 @@ fn rhs_by_name(alloc: Global, input: &[u8]) -> Result<Option<(Vec<u8>, bool)>, F
     Ok(Some((lines_of(alloc, outcome.mappings.as_slice())?, false)))
 }
 
-// The same from refs with their ids, for which the input is read again.
+// The same from refs with their ids, for which the input is parsed again.
 fn rhs_by_id(alloc: Global, input: &[u8]) -> Result<(Vec<u8>, bool), Fault>
     ensures ok { IfOk result (λ made.
         IsMatching (AreMapLines AreKeptBackward) input.now made.0.items made.1) }
@@ -92,8 +92,8 @@ fn rhs_by_id(alloc: Global, input: &[u8]) -> Result<(Vec<u8>, bool), Fault>
 }
 
 // The refs as items, in order.
-fn items_of<'a>(alloc: Global, refs: &'a [ToldRef<'_>]) -> Result<Vec<Item<'a>>, Fault>
-    ensures ok { IfOk result (λ items. map ref_of items.items ≡ map told_ref refs.now) }
+fn items_of<'a>(alloc: Global, refs: &'a [ParsedRef<'_>]) -> Result<Vec<Item<'a>>, Fault>
+    ensures ok { IfOk result (λ items. map ref_of items.items ≡ map parsed_ref refs.now) }
     ensures err { IfErr result IsMemory }
 {
     let Ok(mut items) = Vec::with_capacity(alloc, refs.len()) else {

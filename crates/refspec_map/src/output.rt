@@ -8,7 +8,7 @@ ghost use Rattle.gix_refspec.specs.Views.Issue.{removed_of};
 ghost use Rattle.gix_refspec.specs.Texts.ObjectId.{id_bytes, lower_of};
 ghost use Rattle.refspec_map.specs.Fault.{IsMemory};
 ghost use Rattle.refspec_map.specs.Matching.{destination_text, item_text, source_text, tab};
-ghost use Rattle.refspec_map.specs.Plan.{PutsFix, PutsFixes, claim_text};
+ghost use Rattle.refspec_map.specs.Plan.{AppendsFix, AppendsFixes, claim_text};
 
 use crate::fault::Fault;
 use bstr::BString;
@@ -24,16 +24,15 @@ use std::io::Write;
 /// The answer of a canon command to a line.
 #[derive(Clone, Copy)]
 pub(crate) enum Answer<'a> {
-    /// The line reads as this spec.
+    /// The line is this spec.
     Accepted(RefSpecRef<'a>),
     /// The line is refused for the reason with this name.
     Refused(&'static str),
 }
 
 impl<'a> Answer<'a> {
-    ghost use Rattle.refspec_map.specs.Output.{PutsLine, is_refusal};
+    ghost use Rattle.refspec_map.specs.Output.{AppendsLine, is_refusal};
 
-    /// Whether the line is refused.
     pub(crate) fn is_refused(&self) -> bool
         ensures { result ≡ is_refusal self.now }
     {
@@ -42,16 +41,16 @@ impl<'a> Answer<'a> {
 
     /// Appends the answer as a line: `ok` and the canonical text, or `err` and the name of the
     /// reason.
-    pub(crate) fn put(&self, output: &mut Vec<u8>) -> Result<(), Fault>
-        ensures ok { OnOk result (PutsLine self.now output.old.items output.new.items) }
+    pub(crate) fn append(&self, output: &mut Vec<u8>) -> Result<(), Fault>
+        ensures ok { OnOk result (AppendsLine self.now output.old.items output.new.items) }
         ensures err { IfErr result IsMemory }
     {
         grown(self.write_to(output))
     }
 
-    // Writes the answer as a line.
+    // The same, but returns the error of the writer.
     fn write_to(&self, output: &mut Vec<u8>) -> io::Result<()>
-        ensures { OnOk result (PutsLine self.now output.old.items output.new.items) }
+        ensures { OnOk result (AppendsLine self.now output.old.items output.new.items) }
     {
         match self {
             Answer::Accepted(spec) => {
@@ -67,11 +66,11 @@ impl<'a> Answer<'a> {
     }
 }
 
-/// A value that the output shows in a line of its own.
+/// A value that has a line of its own in the output.
 pub(crate) trait HasLine {
     ghost line: { Self → List ℕ };
 
-    /// Writes the line.
+    /// Appends the line, with its newline.
     fn write_line(&self, output: &mut Vec<u8>) -> Result<(), AllocError>
         ensures { OnOk result (output.new.items ≡ output.old.items ++ line self.now) };
 }
@@ -91,8 +90,8 @@ pub(crate) fn lines_of<L: HasLine>(alloc: Global, shown: &[L]) -> Result<Vec<u8>
 }
 
 /// Appends the lines of fixes, in order.
-pub(crate) fn put_fixes(output: &mut Vec<u8>, fixes: &[Fix]) -> Result<(), Fault>
-    ensures ok { OnOk result (PutsFixes
+pub(crate) fn append_fixes(output: &mut Vec<u8>, fixes: &[Fix]) -> Result<(), Fault>
+    ensures ok { OnOk result (AppendsFixes
         (map removed_of fixes.now) output.old.items output.new.items) }
     ensures err { IfErr result IsMemory }
 {
@@ -120,15 +119,15 @@ impl HasLine for Mapping<'_, '_> {
     ghost line = { λ m. map_line (mapped_of m) };
 
     fn write_line(&self, output: &mut Vec<u8>) -> Result<(), AllocError> {
-        write_places(output, self.spec_index, self.item_index)?;
+        write_indexes(output, self.spec_index, self.item_index)?;
         write_source(output, &self.lhs)?;
         write_destination(output, &self.rhs)?;
         output.extend_from_slice(b"\n")
     }
 }
 
-// Writes the start of a mapping's line: the indexes of its spec and its item, `-` without one.
-fn write_places(output: &mut Vec<u8>, spec: usize, item: Option<usize>) -> Result<(), AllocError>
+// Writes the start of a mapping's line: the indexes of its spec and of its item, or `-` without an item.
+fn write_indexes(output: &mut Vec<u8>, spec: usize, item: Option<usize>) -> Result<(), AllocError>
     ensures { OnOk result (output.new.items ≡ output.old.items
         ++ (codes "map\t" ++ (decimal spec ++ (tab ∷ (item_text item ++ (tab ∷ [])))))) }
 {
@@ -226,9 +225,9 @@ fn write_claims(
     Ok(())
 }
 
-// Writes the line of a fix.
+// Writes the line of a fix: the destination that was removed, and the canonical text of its spec.
 fn write_fix(output: &mut Vec<u8>, fix: &Fix) -> io::Result<()>
-    ensures { OnOk result (PutsFix (removed_of fix.now) output.old.items output.new.items) }
+    ensures { OnOk result (AppendsFix (removed_of fix.now) output.old.items output.new.items) }
 {
     let Fix::MappingWithPartialDestinationRemoved { name, spec } = fix;
     output.write_all(b"fix\t")?;

@@ -1,4 +1,4 @@
-//! What a fetch can write of the mappings of its specs, or the conflicts that keep it from writing.
+//! The mappings that a fetch can write, or the conflicts that prevent it.
 
 ghost use Rattle.std.specs.Prelude.{map, IfOk, IfErr};
 ghost use Rattle.gix_refspec.specs.Views.Group.{readings_of, ref_of};
@@ -6,14 +6,14 @@ ghost use Rattle.refspec_map.specs.Fault.{IsMemory};
 ghost use Rattle.refspec_map.specs.Plan.{IsPlan};
 
 use crate::fault::Fault;
-use crate::output::{lines_of, put_fixes};
+use crate::output::{append_fixes, lines_of};
 use gix_refspec::match_group::Item;
 use gix_refspec::match_group::validate::Refusal;
 use gix_refspec::{MatchGroup, laws};
 use std::alloc::Global;
 
-/// The lines of the conflicts among the mappings from left to right, and true; without conflicts those
-/// of the mappings that remain and of the fixes, and false.
+/// The lines of the conflicts among the mappings from left to right, and true; without conflicts the
+/// lines of the remaining mappings and of the fixes, and false.
 pub(crate) fn plan(
     alloc: Global,
     group: MatchGroup<'_>,
@@ -28,7 +28,7 @@ pub(crate) fn plan(
     match outcome.validated(alloc) {
         Ok((valid, fixes)) => {
             let mut lines = lines_of(alloc, valid.mappings.as_slice())?;
-            put_fixes(&mut lines, fixes.as_slice())?;
+            append_fixes(&mut lines, fixes.as_slice())?;
             Ok((lines, false))
         }
         Err(Refusal::Conflicts(error)) => { Ok((lines_of(alloc, error.issues.as_slice())?, true)) }

@@ -14,18 +14,18 @@ use gix_refspec::{Operation, laws};
 use std::alloc::Global;
 use std::io::{Read, Write};
 
-/// Reads the input to its end, and writes the output of the command for it, by one `write_all` and
-/// one `flush`. Returns the status: 1 if a canon command refuses some line or a plan has conflicts,
+/// Reads the input to its end, and writes the output of the command for it, with one `write_all` and
+/// one `flush`. Returns the exit status: 1 if a canon command refuses some line or a plan has conflicts,
 /// otherwise 0.
 ///
 /// - `Fault::TooLong` as soon as more than 1,048,576 bytes were read.
-/// - `Fault::Read` at the first read that fails. An interrupted read isn't repeated.
-/// - In a matching command, `Fault::Line` at the first line that is malformed and `Fault::Spec` at the
-///   first whose spec is refused, whichever is first. The whole input was read.
+/// - `Fault::Read` at the first read that fails. An interrupted read isn't retried.
+/// - In a matching command, `Fault::Line` for a malformed line and `Fault::Spec` for a refused spec,
+///   whichever is first. The whole input was read.
 /// - `Fault::Memory` if memory runs out.
 /// - `Fault::Write` if the writer fails. It may then have taken a part of the output.
 ///
-/// After any other fault than `Write` nothing was written; what was read is gone from the reader. Time
+/// After any fault but `Write` nothing was written; what was read is gone from the reader. Time
 /// and memory of a canon command are linear in the length of the input. Those of a matching command are
 /// in docs/SPEED.md, under "Orders of growth".
 pub fn run<R: Read, W: Write>(
@@ -51,8 +51,8 @@ pub fn run<R: Read, W: Write>(
     Ok(u8::from(refusal))
 }
 
-/// A plan that ends with status 0 writes no destination from two sources, and no line twice. The law gives
-/// a caller of [`run`] this fact about what was written.
+/// A law on what [`run`] wrote: a plan with exit status 0 writes no destination from two sources, and no
+/// duplicate line.
 pub fn plan_once()
     ensures { PlanOnce }
 {
@@ -60,7 +60,8 @@ pub fn plan_once()
     laws::no_control_character();
 }
 
-/// The error of `Fault::Spec` is the first reason against a text, and never `Error::Memory`.
+/// A law on the faults of [`run`]: the error in `Fault::Spec` is the first reason that applies to some text,
+/// and never `Error::Memory`.
 pub fn spec_is_refused()
     ensures { SpecIsRefused }
 {}

@@ -17,8 +17,8 @@ use std::io::{Read, Write};
 use std::process::Abort;
 use std::test::Fail;
 
-// Gives one byte a call and counts its calls. The call with the number of its fault fails so, and
-// those after it would give the rest.
+// Returns one byte per call, and counts the calls. The call with the number of `fault` fails with its
+// kind, and later calls would return the rest.
 #[derive(Drop)]
 struct ByteReader<'a> {
     rest: &'a [u8],
@@ -44,8 +44,8 @@ impl<'a> Read for ByteReader<'a> {
     }
 }
 
-// Takes at most some bytes a call, and fails at the call with one number. Keeps what it took, and a
-// letter for each call: `w` for a write, `f` for a flush.
+// Takes at most `most` bytes per call, and fails at the call with the number `fails_at`. Keeps what it
+// took, and a letter for each call: `w` for a write, `f` for a flush.
 #[derive(Drop)]
 struct FaultyWriter {
     most: usize,
@@ -55,7 +55,7 @@ struct FaultyWriter {
 }
 
 impl FaultyWriter {
-    // Notes a call, and fails if it is the one.
+    // Records a call, and fails if its number is `fails_at`.
     fn note(&mut self, call: u8) -> io::Result<()> {
         self.calls.push(call)?;
         if self.calls.len() == self.fails_at {
@@ -78,8 +78,8 @@ impl Write for FaultyWriter {
     }
 }
 
-// Takes all that is written, and keeps a letter for each call of its caller: `w` for a write, `a`
-// for one of all bytes, `f` for a flush.
+// Takes all that is written, and keeps a letter for each call: `w` for `write`, `a` for `write_all`,
+// `f` for `flush`.
 #[derive(Drop)]
 struct CallWriter {
     calls: Vec<u8>,
@@ -102,7 +102,7 @@ impl Write for CallWriter {
     }
 }
 
-// The output of a run over memory, and its status.
+// The output of a run over memory, and its exit status.
 fn answer(alloc: Global, command: Command, input: &[u8]) -> Result<(Vec<u8>, u8), Fault> {
     let mut reader = input;
     let mut output = Vec::new(alloc);
@@ -110,7 +110,7 @@ fn answer(alloc: Global, command: Command, input: &[u8]) -> Result<(Vec<u8>, u8)
     Ok((output, status))
 }
 
-// Runs a command over memory, compares its output and its status, and gives the output.
+// Runs a command over memory, compares its output and its exit status, and returns the output.
 fn check_answer<R: Abort + AllocGlobal>(
     rt: &R,
     command: Command,
@@ -128,7 +128,7 @@ fn check_answer<R: Abort + AllocGlobal>(
     Ok(output)
 }
 
-// How a run ended: its status, or the text of its fault.
+// How a run ended: its exit status, or the text of its fault.
 fn end_of(alloc: Global, ended: Result<u8, Fault>) -> Result<String, AllocError> {
     match ended {
         Ok(status) => format!(in alloc; "status {status}"),

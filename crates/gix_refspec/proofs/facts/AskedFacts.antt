@@ -1,5 +1,4 @@
--- The words on what a client asks a server for, at sides and groups like those of git-fetch(1), and what a caller
--- concludes from them.
+-- Examples of ref prefixes, for sides and groups like those of git-fetch(1), and what a caller concludes from them.
 use Rattle.std.proofs.Common.{◌≡◌, inl, inr, ℕ, zero, suc, List, [], ◌∷◌, ◌++◌, None, Some, codes, length, refl, sym, ap, subst, arith}
 use Rattle.std.specs.List.{Any}
 use Rattle.gix_refspec_text.specs.Texts.Bytes.{bracket, star}
@@ -36,7 +35,8 @@ head_kind = (
   (λ is. id_not_head (codes "HEAD") is.0 is.1 refl),
 )
 
--- a pattern is asked for by what is before its star, partial names and `HEAD` by their candidates, an id by nothing
+-- the list of a pattern is its prefix, that of a partial name and of `HEAD` their candidates, and that of an id is
+-- empty
 pub lists_of_sides : ListsSide (codes "refs/heads/*") (codes "refs/heads/" ∷ []) × ListsSide (codes "main") (candidates (codes "main")) × ListsSide (codes "HEAD") (candidates (codes "HEAD")) × ListsSide (codes "e69de29bb2d1d6434b8b29ae775ad8c2e48c5391") []
 lists_of_sides = (
   record { kind = pattern (codes "refs/heads/") []; of = split_at_end (codes "refs/heads/") refl; is = (below_heads, refl) },
@@ -45,7 +45,7 @@ lists_of_sides = (
   record { kind = object _; of = blob_kind; is = refl },
 )
 
--- no list serves a star directly after `refs/`, whatever follows it; `HEAD` alone doesn't serve `HEAD`
+-- a star directly after `refs/` has no list; that of `HEAD` isn't `HEAD` alone, and that of a partial name isn't empty
 pub no_lists_of_sides : (list : List (List ℕ)) → ¬ (ListsSide (codes "refs/*") list) × ¬ (ListsSide (codes "HEAD") (codes "HEAD" ∷ [])) × ¬ (ListsSide (codes "main") [])
 no_lists_of_sides list = (
   no_list (codes "refs/*") (codes "refs/") [] (split_at_end (codes "refs/") refl) ((tells.1 []).0) list,
@@ -53,7 +53,7 @@ no_lists_of_sides list = (
   (λ lists. let size : 0 ≡ 6 = ap length (list_as (codes "main") (partial (codes "main")) [] short_kind lists) in omega (arith, size)),
 )
 
--- a `]` after the star does no harm, but none serves a star after one
+-- a `]` after the star is allowed, but a star after a `]` has no list
 pub lists_at_brackets : ListsSide (codes "refs/a*/]") (codes "refs/a" ∷ []) × ((list : List (List ℕ)) → ¬ (ListsSide (codes "refs/a]*") list))
 lists_at_brackets = (
   record {
@@ -75,7 +75,7 @@ lists_at_brackets = (
 every_lists : Lists every (codes "refs/heads/" ∷ [])
 every_lists = inr (codes "refs/heads/*", record { positive = tt; side = refl }, lists_of_sides.0)
 
--- a negative spec is asked for by nothing, and a push without a destination has no list
+-- the list of a negative spec is empty, and a push without a destination has none
 pub lists_of_specs : Lists every (codes "refs/heads/" ∷ []) × Lists no_dev [] × ((list : List (List ℕ)) → ¬ (Lists (pushed Normal (Some (codes "main")) None) list))
 lists_of_specs = (every_lists, inl (refl, refl), none)
   where
@@ -95,7 +95,7 @@ lists_of_groups = (
   refl,
 )
 
--- one side without a list is enough
+-- a group has no list if one side has none
 pub none_for_all : HasNoList (every ∷ fetched Normal (codes "refs/*") (Some (codes "refs/x/*")) ∷ []) × ¬ (HasNoList (every ∷ []))
 none_for_all = (
   (
@@ -115,7 +115,7 @@ none_for_all = (
     only (zero, r, below, here, missing) = missing (codes "refs/heads/" ∷ []) (subst (λ (q : Reading). Lists q (codes "refs/heads/" ∷ [])) here every_lists)
     only (suc i, r, below, here, missing) = absurd (omega (arith, below))
 
--- where the list serves, no tag is a source, over whatever items
+-- if the list serves, no tag is a source, over any items
 pub no_tag_served : Serves (codes "refs/heads/" ∷ []) (every ∷ []) → (items : List Ref) (d : ℕ) (rest : List Mapped) → ¬ (AreKeptForward (every ∷ []) items (mapping 0 (codes "refs/tags/v1") None d ∷ rest))
 no_tag_served serves items d rest are = one ((serves (refl, tt) items (mapping 0 (codes "refs/tags/v1") None d ∷ rest) are).0 (codes "refs/tags/v1") refl)
   where

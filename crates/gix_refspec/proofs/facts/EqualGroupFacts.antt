@@ -1,4 +1,4 @@
--- Which fetches say the same, and what a caller concludes from the law on groups of them.
+-- Which fetches mean the same, and what a caller concludes from the law on groups of them.
 use Rattle.std.proofs.Common.{◌≡◌, ◌≢◌, ℕ, true, false, List, [], ◌∷◌, None, Some, codes, refl}
 use Rattle.std.proofs.lemmas.Bool.{false≢true}
 use Rattle.gix_refspec_text.specs.declared.parsing.Operation.TheVariants.{Push, Fetch}
@@ -15,7 +15,7 @@ use Rattle.gix_refspec_match.proofs.facts.MatchFacts.{tracks_nothing}
 abbrev forced : Reading
 forced = fetched Forced (codes "main") None
 
--- a push, and what it says with a destination
+-- a push, and one with the same meaning and a destination
 abbrev push_main : Reading
 push_main = pushed Normal (Some (codes "main")) None
 
@@ -31,11 +31,11 @@ push_is_none same = cc
 force_told : (s d : List ℕ) → Some (fetch_and_update s d false) ≡ Some (fetch_and_update s d true) → false ≡ true
 force_told s d same = cc
 
--- the force of a fetch without a destination doesn't count, and that of one with it does
+-- the force of a fetch counts only if it has a destination
 pub same_fetches : FetchTheSame forced short × ¬ (FetchTheSame every_unforced every)
 same_fetches = (record { fetch = refl; same = refl }, λ equal. false≢true (force_told (codes "refs/heads/*") (codes "refs/remotes/origin/*") equal.same))
 
--- pushes that say the same don't count
+-- pushes with the same meaning don't count
 pub no_pushes : (meaning_of push_main ≡ meaning_of push_to_main) × ¬ (FetchTheSame push_main push_to_main)
 no_pushes = (refl, λ equal. push_is_none equal.fetch)
 

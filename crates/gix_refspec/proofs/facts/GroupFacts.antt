@@ -1,5 +1,5 @@
--- What a clause reads of names, items, mappings, groups and issues, at values whose fields differ: so
--- none is lost or taken for another.
+-- The plain data of names, items, mappings, groups and issues, for values whose fields differ: so none is lost or taken
+-- for another.
 use Rattle.std.proofs.Common.{Option, ◌≡◌, ◌≢◌, ℕ, List, [], ◌∷◌, ◌++◌, None, Some, true, false, map, filter, option_map, length, replicate, Vec, Global, codes, refl, sym, ap, ap₂, ◌∙◌, arith}
 use Rattle.std.specs.Char.{encode_utf8}
 use Rattle.std.specs.Iterator.{YieldsFirst, Drains}
@@ -40,7 +40,7 @@ use Rattle.gix_refspec_text.proofs.facts.ViewFacts.{lent, Accepted, spec_of, own
 
 -- ---- names and sources
 
--- a name that is lent
+-- a borrowed name
 abbrev lent_name : List ℕ → NameRef
 lent_name x = Borrowed (lent x)
 
@@ -48,7 +48,7 @@ lent_name x = Borrowed (lent x)
 pub names_seen : (o : BString) → bstring_bytes o ≡ codes "main" → (name_bytes (lent_name (codes "main")) ≡ codes "main") × (name_bytes (Owned o) ≡ codes "main")
 names_seen o is = (refl, is)
 
--- a name begins a mapping as a name, and an id as an id: a name with the bytes of an id isn't one
+-- the source of a mapping is a name or an id: a name with the bytes of an id isn't an id
 pub starts : (start_of (FullName (lent_name (codes "refs/heads/main"))) ≡ name (codes "refs/heads/main")) × (start_of (IdSource blob_id) ≡ id empty_blob) × (start_of (FullName (lent_name empty_blob)) ≢ start_of (IdSource blob_id))
 starts = (refl, refl, λ same. cc)
 
@@ -56,7 +56,7 @@ starts = (refl, refl, λ same. cc)
 pub id_shown : text_of_source (IdSource blob_id) ≡ codes "e69de29bb2d1d6434b8b29ae775ad8c2e48c5391"
 id_shown = lower_of-empty_blob
 
--- a name is printed as it is where it is UTF-8, like `a` with two dots, and U+FFFD stands for a byte that isn't
+-- a name that is UTF-8, like `ä`, is printed unchanged, and U+FFFD replaces a byte that isn't UTF-8
 pub name_shown : (text_of_source (FullName (lent_name (0xC3 ∷ 0xA4 ∷ []))) ≡ 0xC3 ∷ 0xA4 ∷ []) × (text_of_source (FullName (lent_name (codes "a" ++ 0xFF ∷ codes "b"))) ≡ codes "a" ++ 239 ∷ 191 ∷ 189 ∷ codes "b")
 unfolding pieces_from encode_utf8
 name_shown = (refl, refl)
@@ -80,23 +80,23 @@ branch = record { item_index = Some 3; lhs = FullName (lent_name (codes "refs/he
 abbrev object : Mapping
 object = record { item_index = None; lhs = IdSource blob_id; rhs = None; spec_index = 1 }
 
--- the places of the item and of the spec aren't swapped, nor the source and the destination
+-- the indexes of the item and of the spec aren't swapped, nor are the source and the destination
 pub mappings_seen : (mapped_of branch ≡ mapping 3 (codes "refs/heads/a") (Some (codes "refs/x/a")) 5) × (mapped_of object ≡ record { item = None; source = id empty_blob; destination = None; spec = 1 })
 mappings_seen = (refl, refl)
 
--- those of an outcome are seen in order
+-- the mappings of an outcome are in order
 pub outcome_seen : (o : ForwardOutcome) → o.mappings.items ≡ branch ∷ object ∷ [] → mappings_of o ≡ mapping 3 (codes "refs/heads/a") (Some (codes "refs/x/a")) 5 ∷ record { item = None; source = id empty_blob; destination = None; spec = 1 } ∷ []
 outcome_seen o are = ap (map mapped_of) are
 
--- an operation is the same as itself alone
+-- each operation is the same only as itself
 pub operations_apart : is_same_operation Push Push ∷ is_same_operation Push Fetch ∷ is_same_operation Fetch Push ∷ is_same_operation Fetch Fetch ∷ [] ≡ true ∷ false ∷ false ∷ true ∷ []
 operations_apart = refl
 
--- a list gives its elements, and then no more
+-- a list yields its elements, and then ends
 abbrev Gathers : List RefSpecRef → MatchGroup → Type 0
 Gathers = IsGathered (λ source it. it ≡ source) (YieldsFirst (λ rest. rest)) Fetch
 
--- and no others
+-- and yields no others
 given : (it all : List RefSpecRef) → Drains (YieldsFirst (λ rest. rest)) it all → all ≡ it
 given it [] (_, (_, same, none)) = sym (same ∙ none.0)
 given it (x ∷ xs) (last, (before, (rest, first, later), none)) = ap (λ (ys : List RefSpecRef). x ∷ ys) (given rest xs (last, (before, later, none))) ∙ sym first
@@ -121,7 +121,7 @@ module _
     pub group_seen : (g : MatchGroup) → g.specs.items ≡ all_specs → readings_of g ≡ fetched Normal (codes "a") None ∷ pushed Normal (Some (codes "b")) None ∷ fetched Forced (codes "c") (Some (codes "d")) ∷ []
     group_seen g are = ap (map reading_of) are
 
-    -- of these a group of fetches takes the two fetches, in order
+    -- a group of fetches gathers the two fetches among these, in order
     pub gathers_fetches : (g : MatchGroup) → g.specs.items ≡ fetches → Gathers all_specs g
     gathers_fetches g are = record { iterator = all_specs; all = all_specs; made = refl; given = ([], ([], (_, refl, (_, refl, (_, refl, refl))), (refl, refl))); specs = are }
 
@@ -146,12 +146,12 @@ conflict_seen d t u sources texts come say = ap₂ (λ (xs : List SourceRef) (ys
 pub conflicts_seen : (e : Error) (i j : Issue) → e.issues.items ≡ i ∷ j ∷ [] → conflicts_of e ≡ conflict_of i ∷ conflict_of j ∷ []
 conflicts_seen e i j are = ap (map conflict_of) are
 
--- a claim about conflicts is one about the error's, and a claim about the outcome one about what is returned
+-- `IfConflicts` is about the conflicts of the error, and `IfMemory` about the returned outcome
 pub claims : (e : Error) (o : ForwardOutcome) (P : List Conflict → Type 0) (Q : ForwardOutcome → Type 0)
     → (IfConflicts (Conflicts e) P → P (conflicts_of e)) × (P (conflicts_of e) → IfConflicts (Conflicts e) P) × (IfMemory (Memory o) Q → Q o) × (Q o → IfMemory (Memory o) Q)
 claims e o P Q = ((λ is. is), (λ is. is), (λ is. is), λ is. is)
 
--- nothing is claimed where the other is the reason
+-- each holds for the other reason, whatever the predicate is
 pub no_claims : (e : Error) (o : ForwardOutcome) → IfConflicts (Memory o) (λ conflicts. ⊥) × IfMemory (Conflicts e) (λ outcome. ⊥)
 no_claims e o = (tt, tt)
 
@@ -173,15 +173,15 @@ module _
     abbrev push_fix : Fix
     push_fix = MappingWithPartialDestinationRemoved n (owned_of Push mode.Normal (Some o) None same_name)
 
-    -- the destination is seen, and the spec as it was read
+    -- the removed mapping of a fix has the destination, and the spec as it was read
     pub fix_seen : removed_of forced_fix ≡ record { destination = bstring_bytes n; spec = fetched Forced (bstring_bytes o) None }
     fix_seen = refl
 
-    -- fixes are the same where their specs only mean the same, and where the bytes of the destinations are equal
+    -- fixes are the same if their specs only mean the same, and if the bytes of the destinations are equal
     pub same_fixes : IsSameFix forced_fix (fix n) × (bstring_bytes n ≡ bstring_bytes m → IsSameFix (fix n) (fix m))
     same_fixes = (record { destination = refl; spec = refl }, λ same. record { destination = same; spec = refl })
 
-    -- and differ where these mean something else, or another destination was removed
+    -- and differ if the specs differ in meaning, or the destinations differ
     pub other_fixes : ¬ (IsSameFix (fix n) push_fix) × (bstring_bytes n ≢ bstring_bytes m → ¬ (IsSameFix (fix n) (fix m)))
     other_fixes = ((λ same. other same.spec), λ differ same. differ same.destination)
       where

@@ -1,4 +1,4 @@
--- What the spec and the item at a place make, and what a caller concludes of one mapping from the laws on these.
+-- What the spec and the item at an index make, and what a caller concludes about one mapping from the laws on these.
 use Rattle.std.proofs.Common.{◌≡◌, inl, inr, ℕ, List, [], ◌∷◌, ◌++◌, None, Some, codes, refl, sym, ap, ◌∙◌, subst, arith}
 use Rattle.std.specs.List.{Contains, slice_get}
 use Rattle.gix_refspec_text.specs.Specs.Reading.{Reading}
@@ -21,9 +21,9 @@ use Rattle.gix_refspec.proofs.facts.RefNameFacts.{good, kept, no_ref_names, side
 some_index : (i j : ℕ) → Some i ≡ Some j → i ≡ j
 some_index i j same = cc
 
--- ---- what is made at a place
+-- ---- what is made at an index
 
--- the spec takes the tag at its place
+-- the spec takes the tag at its index
 pub tag_there : MakesForwardOf branch_and_tag (Some 1) (name (codes "refs/tags/main")) (Some (codes "refs/x")) main_to_x
 tag_there = record {
   index = 1;
@@ -35,7 +35,7 @@ tag_there = record {
   paired = record { word = None; name = refl; takes = takes_the_tag.0; becomes = (full_name (codes "refs/x"), x_kind, refl) };
 }
 
--- not at the place of the branch, nor without one
+-- not at the index of the branch, nor without an index
 pub tag_not_there : ¬ (MakesForwardOf branch_and_tag (Some 0) (name (codes "refs/tags/main")) (Some (codes "refs/x")) main_to_x) × ¬ (MakesForwardOf branch_and_tag None (name (codes "refs/tags/main")) (Some (codes "refs/x")) main_to_x)
 tag_not_there = (at_branch, λ taken. let none = taken.is in absurd (cc))
   where
@@ -70,19 +70,19 @@ branch_back = (
   (λ none. none),
 )
 
--- ---- the places of what is kept
+-- ---- the indexes of kept mappings
 
 abbrev refs : List Ref
 refs = dev_ref ∷ tag_ref ∷ main_ref ∷ main_ref ∷ []
 
--- by the law a mapping of the branch doesn't have the place of the negative spec
+-- by the law a mapping of the branch doesn't have the index of the negative spec
 pub not_of_negative : MadeAtIndexes (every ∷ no_dev ∷ []) refs → (rest : List Mapped) → ¬ (AreKeptForward (every ∷ no_dev ∷ []) refs (mapping 2 (codes "refs/heads/main") (Some (codes "refs/remotes/origin/main")) 1 ∷ rest))
 not_of_negative law rest are =
     let (r, here, makes) = (law.forward (mapping 2 (codes "refs/heads/main") (Some (codes "refs/remotes/origin/main")) 1 ∷ rest) are).0 in
     let is : r ≡ no_dev = cc in
     subst (λ (x : Reading). IsPositive x.mode) is makes.has.positive
 
--- nor the place of the tag
+-- nor the index of the tag
 pub not_of_tag : MadeAtIndexes (every ∷ no_dev ∷ []) refs → (rest : List Mapped) → ¬ (AreKeptForward (every ∷ no_dev ∷ []) refs (tracked 1 (codes "main") ∷ rest))
 not_of_tag law rest are =
     let (r, here, makes) = (law.forward (tracked 1 (codes "main") ∷ rest) are).0 in
@@ -91,14 +91,14 @@ not_of_tag law rest are =
     let is : tag_ref ≡ makes.ref = cc in
     other_length (codes "refs/tags/v1") (codes "refs/heads/main") (λ size. omega (arith, size)) (ap (λ (x : Ref). x.name) is ∙ makes.paired.name)
 
--- nor from right to left that of the negative spec
+-- nor from right to left the index of the negative spec
 pub not_of_negative_back : (items : List Ref) → MadeAtIndexes (every ∷ no_dev ∷ []) items → (rest : List Mapped) → ¬ (AreKeptBackward (every ∷ no_dev ∷ []) items (mapping 0 (codes "refs/heads/main") (Some (codes "refs/remotes/origin/main")) 1 ∷ rest))
 not_of_negative_back items law rest are =
     let (r, here, makes) = (law.backward (mapping 0 (codes "refs/heads/main") (Some (codes "refs/remotes/origin/main")) 1 ∷ rest) are).0 in
     let is : r ≡ no_dev = cc in
     subst (λ (x : Reading). IsPositive x.mode) is makes.has.positive
 
--- ---- what is left
+-- ---- what remains
 
 abbrev to_partial : Mapped
 to_partial = mapping 1 good (Some (codes "main")) 0
@@ -107,21 +107,21 @@ partial_unwritable : ¬ (IsWritable (codes "main"))
 partial_unwritable (inl begins) = other_byte 0 (codes "main") (codes "refs/" ++ begins.after) (λ byte. omega (arith, byte)) begins.here
 partial_unwritable (inr is_head) = other_byte 0 (codes "main") (codes "HEAD") (λ byte. omega (arith, byte)) is_head
 
--- by the law a good mapping is left, and one to a partial name isn't
+-- by the law a mapping to a full name remains, and one to a partial name doesn't
 pub good_remains : (g : List Reading) → RemainsExactly g (kept ∷ to_partial ∷ []) → (rest : List Mapped) (fixes : List Removed) → IsValidated g (kept ∷ to_partial ∷ []) rest fixes → Contains rest kept × ¬ (Contains rest to_partial)
 good_remains g law rest fixes valid = (
   (law.validated rest fixes valid kept).1 ((0, omega arith, refl), inl (record { after = codes "heads/main"; here = refl })),
   λ has. partial_unwritable ((law.validated rest fixes valid to_partial).0 has).1,
 )
 
--- and so where names are checked
+-- and after a check of names, one to an invalid ref name doesn't
 pub named_remains : (g : List Reading) → RemainsExactly g (kept ∷ to_bad ∷ []) → (rest : List Mapped) (out : List LeftOut) → KeepsRefNames (kept ∷ to_bad ∷ []) rest out → Contains rest kept × ¬ (Contains rest to_bad)
 named_remains g law rest out keeps = (
   (law.named rest out keeps kept).1 ((0, omega arith, refl), sides.0),
   λ has. let named = ((law.named rest out keeps to_bad).0 has).1 in no_ref_names.2 named.destination,
 )
 
--- nothing is left that wasn't there
+-- nothing remains that wasn't there
 pub none_new : (g : List Reading) → RemainsExactly g [] → (rest : List Mapped) (out : List LeftOut) (fixes : List Removed) → (IsValidated g [] rest fixes → ¬ (Contains rest kept)) × (KeepsRefNames [] rest out → ¬ (Contains rest kept))
 none_new g law rest out fixes = (
   (λ valid has. let (k, below, is) = ((law.validated rest fixes valid kept).0 has).0 in omega (arith, below)),

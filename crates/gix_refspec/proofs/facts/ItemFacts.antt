@@ -32,7 +32,7 @@ use Rattle.std.proofs.lemmas.Option.{same_Some}
 abbrev group : List Reading
 group = every ∷ no_dev ∷ []
 
--- what the remote has, and the branches of that, each once and in another order
+-- the refs of a remote, and its branches, each once and in another order
 abbrev all_refs : List Ref
 all_refs = dev_ref ∷ tag_ref ∷ main_ref ∷ main_ref ∷ []
 
@@ -42,7 +42,7 @@ branches = main_ref ∷ dev_ref ∷ []
 no_dev_main : dev_ref ≢ main_ref
 no_dev_main same = other_length _ _ (λ size. omega (arith, size)) (ap (λ (r : Ref). r.name) same)
 
--- the branches are a part, and what isn't there is none
+-- the branches are a subset, and refs that aren't there aren't one
 pub branches_part : ArePart all_refs branches
 branches_part item (zero, below, is) = (2, omega arith, is)
 branches_part item (suc zero, below, is) = (0, omega arith, is)
@@ -93,7 +93,7 @@ branches_enough item (suc (suc zero), below, is) taken = (0, omega arith, is)
 branches_enough item (suc (suc (suc zero)), below, is) taken = (0, omega arith, is)
 branches_enough item (suc (suc (suc (suc k))), below, is) taken = absurd (omega (arith, below))
 
--- of a branch and a tag of one name, a partial source takes the tag: so it may not be left out
+-- of a branch and a tag with the same name, a partial source takes the tag: so it may not be left out
 pub tag_wanted : ¬ (HasTaken AreForwardEnds (Takes branch_and_tag) (main_to_x ∷ []) branch_and_tag (main_branch ∷ []))
 tag_wanted has = other (has main_tag (1, omega arith, refl) (0, main_to_x, omega arith, refl, record { ends = main_ends; has = record { positive = tt; near = refl; far = refl; no_object = λ bytes kind. short_no_id bytes kind.2 }; word = None; takes = takes_the_tag.0 }))
   where
@@ -103,7 +103,7 @@ tag_wanted has = other (has main_tag (1, omega arith, refl) (0, main_to_x, omega
 
 -- ---- pairs
 
--- the same pairs, whatever the places and the order are
+-- the same pairs, whatever the indexes and the order are
 pub same_pairs : HaveSamePairs (tracked 2 (codes "main") ∷ []) (tracked 5 (codes "main") ∷ tracked 3 (codes "main") ∷ []) × ¬ (HaveSamePairs (tracked 2 (codes "main") ∷ []) []) × ¬ (HaveSamePairs [] (tracked 2 (codes "main") ∷ []))
 same_pairs = (
   (λ pair. ((λ has. to_others pair has), λ has. from_others pair has)),
@@ -150,12 +150,12 @@ mapped_back law fewer are = (law.backward part enough (tracked 1 (codes "main") 
     enough item (suc zero, below, is) taken = (0, omega arith, is)
     enough item (suc (suc k), below, is) taken = absurd (omega (arith, below))
 
--- ---- what is listed
+-- ---- listed items
 
 abbrev fetch_head : Reading
 fetch_head = fetched Normal head None
 
--- `HEAD` is listed where it is there, and not where another candidate of it is alone
+-- `HEAD` is listed if it is among the refs, and not if only another of its candidates is
 pub head_listed : FetchesHead (named head ∷ []) fetch_head × ¬ (FetchesHead (named (codes "refs/heads/HEAD") ∷ []) fetch_head) × ¬ (FetchesHead (named head ∷ []) (pushed Normal (Some head) None)) × ¬ (FetchesHead (named head ∷ []) short)
 head_listed = (
   record { fetch = refl; source = refl; there = inl refl },
@@ -177,7 +177,7 @@ every_covering = record { fetch = refl; source = λ x asked. subst IsCovering (s
 no_dev_covering : HasCoveringSource no_dev
 no_dev_covering = record { fetch = refl; source = λ x asked. absurd asked.positive }
 
--- so it is with a covering source, whatever the refs are, and not with a star outside `refs/`
+-- a covering source is listed, whatever the refs are, and a star outside `refs/` isn't
 pub listed_sources : IsListed [] every × IsListed [] no_dev × IsListed (named head ∷ []) fetch_head × ¬ (IsListed [] fetch_head) × ¬ (IsListed (named head ∷ []) (fetched Normal (codes "*") None))
 listed_sources = (inl every_covering, inl no_dev_covering, inr (record { fetch = refl; source = refl; there = inl refl }), no_head, no_star)
   where
@@ -189,7 +189,7 @@ listed_sources = (inl every_covering, inl no_dev_covering, inr (record { fetch =
     no_star (inl covering) = not_covering.1 (covering.source (codes "*") (record { positive = tt; side = refl }))
     no_star (inr fetches) = other_length _ _ (λ size. omega (arith, size)) (same_Some (codes "*") head fetches.source)
 
--- what the group expands to
+-- the expansion of the group
 expanded : AreExpansions group (codes "refs/heads/" ∷ [])
 expanded = (codes "refs/heads/" ∷ [], [], inl (codes "refs/heads/*", record { positive = tt; side = refl }, to_prefix (codes "refs/heads/") below_heads refl), ([], [], inr ((λ x asked. asked.positive), refl), refl, refl), refl)
 
@@ -197,7 +197,7 @@ tag_not_begun : ¬ (BeginsWithOne (codes "refs/heads/" ∷ []) (codes "refs/tags
 tag_not_begun (zero, entry, below, is, begins) = begins_not (codes "refs/heads/") (codes "refs/tags/v1") refl (subst (λ (x : List ℕ). BeginsWith x (codes "refs/tags/v1")) (sym is) begins)
 tag_not_begun (suc k, entry, below, is, begins) = absurd (omega (arith, below))
 
--- the branches are what a client gets that asks for that
+-- the branches are what a server lists for that
 pub branches_listed : AreListedItems group all_refs branches
 branches_listed = record { entries = codes "refs/heads/" ∷ []; expansions = expanded; part = branches_part; listed = listed }
   where
@@ -208,7 +208,7 @@ branches_listed = record { entries = codes "refs/heads/" ∷ []; expansions = ex
     listed item (suc (suc (suc zero)), below, is) begins = (0, omega arith, is)
     listed item (suc (suc (suc (suc k))), below, is) begins = absurd (omega (arith, below))
 
--- it doesn't get fewer, nor what isn't there
+-- it doesn't list fewer, nor refs that aren't there
 pub not_listed : ¬ (AreListedItems group all_refs (main_ref ∷ [])) × ¬ (AreListedItems group [] (main_ref ∷ []))
 not_listed = ((λ are. no_dev_there (are.listed dev_ref (0, omega arith, refl) (begins_with are.entries are.expansions))), λ are. no_part.1 are.part)
   where
@@ -232,13 +232,13 @@ none_lost law fewer are = law.some branches_listed (tracked 2 (codes "main") ∷
 pub none_gained : ListedItems group all_refs branches → (fewer : List Mapped) → AreKeptForward group branches fewer → HaveSamePairs (tracked 2 (codes "main") ∷ []) fewer
 none_gained law fewer are = law.all branches_listed (inl every_covering, (inl no_dev_covering, tt)) (tracked 2 (codes "main") ∷ []) fewer fetches_all_but_dev are
 
--- ---- what a test lets through
+-- ---- filters
 
--- a name passes that begins with some entry, and not one that only holds it
+-- a name passes that begins with some entry, and not one that only contains it
 pub begun_names : (is_begun (codes "refs/tags/" ∷ codes "refs/heads/" ∷ []) (codes "refs/heads/main") ≡ true) × (is_begun (codes "heads/" ∷ []) (codes "refs/heads/main") ≡ false) × (is_begun [] (codes "refs/heads/main") ≡ false)
 begun_names = (refl, refl, refl)
 
--- where all items pass, those that are taken do; where none does, the branch is taken and doesn't
+-- if all items pass, those that some spec takes do; if none does, the branch is taken and doesn't pass
 pub all_pass : (items : List Item) → PassesTaken AreForwardEnds (Takes (map ref_of items)) group items (λ item. true)
 all_pass items item there taken = refl
 
@@ -249,7 +249,8 @@ none_passes item is passes =
     let taken : TakesItem AreForwardEnds (Takes refs) main_ref every = record { ends = forward_ends; has = are_forward_ends; word = hit.word; takes = hit.takes } in
     false≢true (passes item (0, omega arith, refl) (0, every, omega arith, refl, subst (λ (r : Ref). TakesItem AreForwardEnds (Takes refs) r every) (sym is) taken))
 
--- by the laws what passes such a test is a part that has what is taken, in both directions, or what is listed
+-- by the laws the items that pass such a filter are a subset with those that some spec takes, in both directions, or
+-- are those listed
 pub by_test : (items some : List Item) (p : Item → Bool) → FilteredItems group items some → some ≡ filter p items → PassesTaken AreForwardEnds (Takes (map ref_of items)) group items p
     → ArePart (map ref_of items) (map ref_of some) × HasTaken AreForwardEnds (Takes (map ref_of items)) group (map ref_of items) (map ref_of some)
 by_test items some p law is passes = (law.part p is, law.forward p is passes)
@@ -260,7 +261,7 @@ by_test_back items some p law is passes = law.backward p is passes
 pub by_entries : (items some : List Item) → FilteredByEntries group items some → some ≡ filter (λ item. is_begun (codes "refs/heads/" ∷ []) (bstr_bytes item.full_ref_name)) items → AreListedItems group (map ref_of items) (map ref_of some)
 by_entries items some law is = law (codes "refs/heads/" ∷ []) expanded is
 
--- ---- what is asked for
+-- ---- ref prefixes
 
 group_lists : ListsGroup group (codes "refs/heads/" ∷ [])
 group_lists = (codes "refs/heads/" ∷ [], [], lists_of_specs.0, ([], [], lists_of_specs.1, refl, refl), refl)
@@ -269,7 +270,7 @@ main_alone : ¬ (Contains (main_ref ∷ []) dev_ref)
 main_alone (zero, below, is) = no_dev_main (sym is)
 main_alone (suc k, below, is) = omega (arith, below)
 
--- the branches are what a server lists for a client that asks for them, and one of two isn't
+-- the branches are what a server lists for the ref prefix, and one of two isn't
 pub branches_asked : AreAskedFor (codes "refs/heads/" ∷ []) all_refs branches × ¬ (AreAskedFor (codes "refs/heads/" ∷ []) all_refs (main_ref ∷ [])) × ¬ (AreAskedFor [] [] (main_ref ∷ []))
 unfolding branches_listed
 branches_asked = (
@@ -278,14 +279,14 @@ branches_asked = (
   λ are. no_part.1 are.part,
 )
 
--- so by the law it has the same pairs
+-- so by the law the same pairs are kept
 pub same_pairs_asked : AskedItems group all_refs branches → (fewer : List Mapped) → AreKeptForward group branches fewer → HaveSamePairs (tracked 2 (codes "main") ∷ []) fewer
 same_pairs_asked law fewer are = law (codes "refs/heads/" ∷ []) group_lists (refl, (refl, tt)) branches_asked.0 (tracked 2 (codes "main") ∷ []) fewer fetches_all_but_dev are
 
--- and it can't be without them
+-- and they can't be lost
 pub none_lost_asked : AskedItems group all_refs branches → ¬ (AreKeptForward group branches [])
 none_lost_asked law are = (same_pairs_asked law [] are (tracked 2 (codes "main"))).0 (inl (record { source = refl; destination = refl }))
 
--- and a client that filters by the list has them
+-- and a client that filters by the list keeps them
 pub by_list : (items some : List Item) → FilteredByList items some → some ≡ filter (λ item. is_begun (codes "refs/heads/" ∷ []) (bstr_bytes item.full_ref_name)) items → AreAskedFor (codes "refs/heads/" ∷ []) (map ref_of items) (map ref_of some)
 by_list items some law is = law (codes "refs/heads/" ∷ []) is

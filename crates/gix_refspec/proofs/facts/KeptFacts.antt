@@ -1,4 +1,5 @@
--- What a caller concludes from the laws on what is kept: that a pair is there, that one isn't, and where it comes from.
+-- What a caller concludes from the laws on kept mappings: that a pair is kept, that one isn't, and by which spec and
+-- item.
 use Rattle.std.proofs.Common.{◌≡◌, inl, inr, ℕ, zero, suc, List, [], ◌∷◌, ◌++◌, Option, None, Some, codes, refl, sym, ap, ◌∙◌, subst, arith}
 use Rattle.std.specs.List.{AllByRecursion, Any, Contains, slice_get}
 use Rattle.gix_refspec_text.specs.Specs.Reading.{Reading}
@@ -15,7 +16,7 @@ use Rattle.gix_refspec_text.proofs.facts.FitFacts.{below_tags, blob, blob_kind, 
 use Rattle.gix_refspec_match.proofs.facts.MatchFacts.{blob_mapping, bytes_in, dev_excluded, main_stays, mapping, maps_all, only_dev, tracked, tracks_all}
 use Rattle.std.proofs.lemmas.Option.{same_Some}
 
--- whatever its places are
+-- with any indexes
 abbrev tag_pair : Mapped
 tag_pair = mapping 7 (codes "refs/tags/main") (Some (codes "refs/x")) 5
 
@@ -30,7 +31,7 @@ tag_made = record {
   one = (1, main_tag, omega arith, refl, record { word = None; name = refl; takes = takes_the_tag.0; becomes = (full_name (codes "refs/x"), x_kind, refl) });
 }
 
--- so by the law the pair is there
+-- so by the law the pair is kept
 pub pair_there : KeptExactly (main_to_x ∷ []) branch_and_tag → (kept : List Mapped) → AreKeptForward (main_to_x ∷ []) branch_and_tag kept → HasPair kept tag_pair
 pair_there law kept are = (law.forward kept are tag_pair).1 ((0, main_to_x, omega arith, refl, tag_made), not_excluded (codes "refs/tags/main"))
 
@@ -42,19 +43,19 @@ branch_unmade made =
     let first : IsFirstCandidate branch_and_tag (codes "main") item.name = paired.takes.first (codes "main") (subst (λ (x : List ℕ). HasKind x (partial (codes "main"))) (sym near) short_kind) in
     no_other_first.0 (subst (IsFirstCandidate branch_and_tag (codes "main")) paired.name first)
 
--- what some reading of a list of one makes, that one makes
+-- what holds of some reading of a list of one holds of that one
 of_one : (P : Reading → Type 0) (r : Reading) → Any P (r ∷ []) → P r
 of_one P r (zero, x, below, is, holds) = subst P (sym is) holds
 of_one P r (suc at, x, below, is, holds) = absurd (omega (arith, below))
 
--- so by the law it isn't there
+-- so by the law it isn't kept
 pub pair_not_there : KeptExactly (main_to_x ∷ []) branch_and_tag → (kept : List Mapped) → AreKeptForward (main_to_x ∷ []) branch_and_tag kept → ¬ (HasPair kept branch_pair)
 pair_not_there law kept are has = branch_unmade (of_one _ main_to_x ((law.forward kept are branch_pair).0 has).0)
 
 tag_excluded : IsExcluded (main_to_x ∷ no_tags ∷ []) (codes "refs/tags/main")
 tag_excluded = inr (inl (record { negative = refl; text = codes "refs/tags/*"; source = refl; excludes = tags_excluded }))
 
--- a pair whose source is excluded isn't there, though a spec makes it
+-- a pair whose source is excluded isn't kept, though a spec makes it
 pub pair_excluded : KeptExactly (main_to_x ∷ no_tags ∷ []) branch_and_tag → (kept : List Mapped) → AreKeptForward (main_to_x ∷ no_tags ∷ []) branch_and_tag kept → ¬ (HasPair kept tag_pair)
 pair_excluded law kept are has = ((law.forward kept are tag_pair).0 has).1 tag_excluded
 
@@ -79,27 +80,27 @@ blob_paired = record {
   becomes = (full_name (codes "refs/tags/blob"), below_tags, refl);
 }
 
--- so by the law it is there, whatever the items are
+-- so by the law it is kept, over any items
 pub id_there : (items : List Ref) → KeptExactly (blob ∷ []) items → (kept : List Mapped) → AreKeptForward (blob ∷ []) items kept → HasPair kept blob_mapping
 id_there items law kept are = (law.forward kept are blob_mapping).1 ((0, blob, omega arith, refl, blob_paired), λ none. none)
 
--- no list of what is kept begins with a mapping of what is excluded, in either direction
+-- in both directions: no list of kept mappings begins with one whose source is excluded
 pub none_of_a_tag : (items : List Ref) → NothingExcluded (main_to_x ∷ no_tags ∷ []) items → (rest : List Mapped) → ¬ (AreKeptForward (main_to_x ∷ no_tags ∷ []) items (tag_pair ∷ rest)) × ¬ (AreKeptBackward (main_to_x ∷ no_tags ∷ []) items (tag_pair ∷ rest))
 none_of_a_tag items law rest = (
   (λ are. (law.names (tag_pair ∷ rest) (inl are)).0 tag_excluded),
   λ are. (law.names (tag_pair ∷ rest) (inr are)).0 tag_excluded,
 )
 
--- ---- which of several is kept
+-- ---- which duplicate is kept
 
--- of an excluded branch, a tag, a branch and the same once more
+-- an excluded branch, a tag, a branch and its duplicate
 abbrev listed : List Ref
 listed = dev_ref ∷ tag_ref ∷ main_ref ∷ main_ref ∷ []
 
 abbrev mapped : List Mapped
 mapped = tracked 0 (codes "dev-a") ∷ tracked 2 (codes "main") ∷ tracked 3 (codes "main") ∷ []
 
--- by the law the first mapping of the branch is kept, with its place
+-- by the law the first mapping of the branch is kept, with its index
 pub first_there : FirstStays (every ∷ no_dev ∷ []) listed → (kept : List Mapped) → AreKeptForward (every ∷ no_dev ∷ []) listed kept → Contains kept (tracked 2 (codes "main"))
 first_there law kept are = (law.forward mapped kept maps_all are (tracked 2 (codes "main"))).1 (record { before = tracked 0 (codes "dev-a") ∷ []; after = tracked 3 (codes "main") ∷ []; here = refl; first = only_dev 2; included = main_stays })
 
@@ -107,13 +108,13 @@ abbrev index_in : Option ℕ → ℕ
 index_in None = 0
 index_in (Some index) = index
 
--- the other has its pair, and so isn't the first
+-- the duplicate has the same pair, and so isn't the first
 no_first : (before after : List Mapped) → mapped ≡ before ++ (tracked 3 (codes "main") ∷ after) → ¬ (HasPair before (tracked 3 (codes "main"))) → ⊥
 no_first [] after here new = let same : tracked 0 (codes "dev-a") ≡ tracked 3 (codes "main") = cc in let indexes : 0 ≡ 3 = ap (λ (m : Mapped). index_in m.item) same in absurd (omega (arith, indexes))
 no_first (x ∷ []) after here new = let same : tracked 2 (codes "main") ≡ tracked 3 (codes "main") = cc in let indexes : 2 ≡ 3 = ap (λ (m : Mapped). index_in m.item) same in absurd (omega (arith, indexes))
 no_first (x ∷ y ∷ before) after here new = let same : y ≡ tracked 2 (codes "main") = cc in new (inr (inl (record { source = ap (λ (m : Mapped). m.source) same; destination = ap (λ (m : Mapped). m.destination) same })))
 
--- so by the law the other isn't kept, nor does what is excluded
+-- so by the law the duplicate isn't kept, nor is the excluded branch
 pub later_not_there : FirstStays (every ∷ no_dev ∷ []) listed → (kept : List Mapped) → AreKeptForward (every ∷ no_dev ∷ []) listed kept → ¬ (Contains kept (tracked 3 (codes "main"))) × ¬ (Contains kept (tracked 0 (codes "dev-a")))
 later_not_there law kept are = (
   (λ has. let first = (law.forward mapped kept maps_all are (tracked 3 (codes "main"))).0 has in no_first first.before first.after first.here first.first),
@@ -131,22 +132,22 @@ first_back law kept are =
       λ has. ((law.backward all kept tracks_all are (tracked 0 (codes "dev-a"))).0 has).included dev_excluded,
     )
 
--- ---- the places of what is kept
+-- ---- the indexes of kept mappings
 
--- by the law a mapping of the branch doesn't have the place of the tag
+-- by the law a mapping of the branch doesn't have the index of the tag
 pub no_other_item : ItemIndexesFit (every ∷ no_dev ∷ []) listed → (rest : List Mapped) → ¬ (AreKeptForward (every ∷ no_dev ∷ []) listed (tracked 1 (codes "main") ∷ rest))
 no_other_item law rest are =
     let (r, stands, named) = (law.forward (tracked 1 (codes "main") ∷ rest) are).0.item 1 refl in
     let is : tag_ref ≡ r = cc in
     other_length (codes "refs/heads/main") (codes "refs/tags/v1") (λ size. omega (arith, size)) (ap bytes_in named ∙ ap (λ (x : Ref). x.name) (sym is))
 
--- nor the place of a third spec, where there are two
+-- nor the index of a third spec, if there are two
 pub no_other_spec : ItemIndexesFit (every ∷ no_dev ∷ []) listed → (rest : List Mapped) → ¬ (AreKeptForward (every ∷ no_dev ∷ []) listed (mapping 2 (codes "refs/heads/main") (Some (codes "refs/remotes/origin/main")) 2 ∷ rest))
 no_other_spec law rest are =
     let below = (law.forward (mapping 2 (codes "refs/heads/main") (Some (codes "refs/remotes/origin/main")) 2 ∷ rest) are).0.spec in
     absurd (omega (arith, below))
 
--- and one from right to left doesn't have the place of another tracking ref
+-- and one from right to left doesn't have the index of another tracking ref
 pub no_other_item_back : ItemIndexesFit (every ∷ no_dev ∷ []) tracking → (rest : List Mapped) → ¬ (AreKeptBackward (every ∷ no_dev ∷ []) tracking (tracked 0 (codes "main") ∷ rest))
 no_other_item_back law rest are =
     let fits = (law.backward (tracked 0 (codes "main") ∷ rest) are).0 in
@@ -156,6 +157,6 @@ no_other_item_back law rest are =
     let same : codes "refs/remotes/origin/main" ≡ fits.ref.name = same_Some (codes "refs/remotes/origin/main") fits.ref.name fits.named in
     other_length (codes "refs/remotes/origin/main") (codes "refs/remotes/origin/dev-a") (λ size. omega (arith, size)) (same ∙ ap (λ (x : Ref). x.name) (sym is))
 
--- what survives a validation has places that fit, where they fitted before
+-- mappings that survive a validation have valid indexes, if they had them before
 pub still_fits : (items : List Ref) → ItemIndexesFit (every ∷ []) items → (l rest : List Mapped) (fixes : List Removed) → IsValidated (every ∷ []) l rest fixes → AllByRecursion (ForwardIndexes (every ∷ []) items) l → AllByRecursion (ForwardIndexes (every ∷ []) items) rest
 still_fits items law l rest fixes valid fit = law.validated l rest fixes valid fit

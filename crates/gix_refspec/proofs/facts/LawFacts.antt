@@ -1,5 +1,5 @@
--- The words that only laws cite, on each side of what they ask: which specs go both ways, what
--- covering sources ask for, what a spec reads as again, and what a group expands to.
+-- Examples of the definitions that only laws use: which specs go both ways, what a covering source covers, what a
+-- canonical text reads as, and the expansion of a group.
 use Rattle.std.proofs.Common.{◌≡◌, ◌≢◌, ◌⊎◌, ◌<◌, ℕ, zero, suc, List, [], ◌∷◌, ◌++◌, Option, None, Some, length, codes, refl, sym, ap, ◌∙◌, subst, inl, inr, arith}
 use Rattle.std.specs.List.{AllByRecursion}
 use Rattle.gix_refspec_text.specs.declared.parsing.Operation.TheVariants.{Push, Fetch}
@@ -63,7 +63,7 @@ go_both_ways = (
   (λ positive. absurd positive),
 )
 
--- a partial name on one side keeps a spec from this
+-- a spec with a partial name on one side doesn't
 pub go_one_way : ¬ (GoesBothWays (fetched Normal (codes "main") (Some (codes "refs/x/main")))) × ¬ (GoesBothWays (fetched Normal (codes "refs/heads/a") (Some (codes "b"))))
 go_one_way = (from_partial, to_partial)
   where
@@ -79,7 +79,7 @@ go_one_way = (from_partial, to_partial)
       | inr below ↦ other_first 98 [] (λ same. omega (arith, same)) below.1
     ]
 
--- of two refs the second has a name, which an id is not, nor what is missing
+-- a name is that of the second of two refs; an id isn't a name, nor is a missing destination
 pub among : IsSourceAmong (named (codes "a") ∷ named (codes "b") ∷ []) (name (codes "b")) × ¬ (IsSourceAmong (named (codes "a") ∷ []) (id (codes "a"))) × IsDestinationAmong (named (codes "a") ∷ []) (Some (codes "a")) × ¬ (IsDestinationAmong (named (codes "a") ∷ []) None) × ¬ (HasName (named (codes "a") ∷ []) (codes "aa"))
 among = (inr (inl refl), (λ none. none), inl refl, (λ none. none), longer)
   where
@@ -89,7 +89,7 @@ among = (inr (inl refl), (λ none. none), inl refl, (λ none. none), longer)
 
 -- ---- groups that map alike
 
--- a forced fetch without a destination reads again as one that isn't forced
+-- the canonical text of a forced fetch without a destination reads as one that isn't forced
 pub reads_unforced : ReadsAgainAs (fetched Forced (codes "main") None) short
 reads_unforced =
     let s = codes "main" in
@@ -105,13 +105,13 @@ reads_no_force again =
     forced_no_normal : Forced ≢ Normal
     forced_no_normal same = cc
 
--- no push reads again as anything
+-- `ReadsAgainAs` holds of no push
 pub no_push_again : (s d : Option (List ℕ)) (q : Reading) → ¬ (ReadsAgainAs (pushed Normal s d) q)
 no_push_again s d q again = push_is_none again.fetch
 
 -- ---- what covers sources
 
--- a name begins with an entry, and not only holds it
+-- a name begins with an entry, and doesn't only contain it
 pub begins_with_one : BeginsWithOne (codes "refs/tags/" ∷ codes "refs/heads/" ∷ []) (codes "refs/heads/main") × ¬ (BeginsWithOne (codes "heads/" ∷ []) (codes "refs/heads/main"))
 begins_with_one = (
   (1, codes "refs/heads/", omega arith, refl, record { after = codes "main"; here = refl }),
@@ -124,7 +124,7 @@ begins_with_one = (
         other_byte 0 (codes "refs/heads/main") (codes "heads/" ++ begins.after) (λ same. omega (arith, same)) here
     none (suc k, entry, below, is, begins) = absurd (omega (arith, below))
 
--- what the specs of a group expand to, one after the other; a negative one to nothing
+-- the expansions of the specs of a group, one after the other; that of a negative spec is empty
 pub expanded : AreExpansions (every ∷ no_dev ∷ short ∷ []) (codes "refs/heads/" ∷ candidates (codes "main"))
 expanded = (
   codes "refs/heads/" ∷ [],
@@ -146,7 +146,7 @@ expanded = (
   refl,
 )
 
--- ---- what laws say of these
+-- ---- what the laws say of these
 
 -- the refs of the remote, and the tracking refs
 abbrev remote_refs : List Ref
@@ -155,7 +155,7 @@ remote_refs = named (codes "refs/heads/dev-a") ∷ named (codes "refs/tags/v1") 
 abbrev tracking_refs : List Ref
 tracking_refs = named (codes "refs/remotes/origin/dev-a") ∷ named (codes "refs/remotes/origin/main") ∷ []
 
--- the branch is mapped in each direction, if it is in the other
+-- the branch is mapped in each direction, if it is mapped in the other
 pub looked_up : Transpose (every ∷ no_dev ∷ []) remote_refs tracking_refs → (m : List Mapped) → AreKeptBackward (every ∷ no_dev ∷ []) tracking_refs m → HasPair m (tracked 0 (codes "main"))
 looked_up law m back = ((law (go_both_ways.0, (go_both_ways.3, tt)) (tracked 2 (codes "main") ∷ []) m fetches_all_but_dev back (tracked 0 (codes "main"))).0 (inl (record { source = refl; destination = refl }), inr (inl refl))).0
 
@@ -168,7 +168,7 @@ one_reading q r same = cc
 every_covering : HasCoveringSource every
 every_covering = record { fetch = refl; source = λ x asked. subst IsCovering (same_Some (codes "refs/heads/*") x asked.side) covering.0 }
 
--- `HEAD` asks for the name `HEAD`, and for no other
+-- a fetch of `HEAD` covers the name `HEAD`, and no other
 abbrev head_spec : Reading
 head_spec = fetched Normal (codes "HEAD") None
 
@@ -182,7 +182,7 @@ head_asks = (inr (refl, asked, refl), no_branch)
     no_branch (inl has) = not_covering.0 (has.source (codes "HEAD") asked)
     no_branch (inr (fetch, also, same)) = other_length (codes "refs/heads/HEAD") (codes "HEAD") (λ size. omega (arith, size)) same
 
--- a covering source asks for each name, and a push for none, not even that of `HEAD`
+-- a covering source covers each name, and a push none, not even `HEAD`
 pub every_asks : (n : List ℕ) → AsksFor every n × ¬ (AsksFor (pushed Normal (Some (codes "HEAD")) None) n)
 every_asks n = (inl every_covering, no_push)
   where
@@ -190,14 +190,14 @@ every_asks n = (inl every_covering, no_push)
     no_push (inl has) = push_is_none has.fetch
     no_push (inr (fetch, asked, same)) = push_is_none fetch
 
--- the spec of a mapping is the one at its place
+-- the spec of a mapping is the one at its index
 pub at_its_spec : (P : Reading → Type 0) → AtSpec (no_dev ∷ every ∷ []) (mapping 0 (codes "refs/heads/main") None 1) P → P every
 at_its_spec P (r, here, holds) = subst P (sym (one_reading every r here)) holds
 
 pub no_spec_there : (P : Reading → Type 0) → ¬ (AtSpec (every ∷ []) (mapping 0 (codes "refs/heads/main") None 1) P)
 no_spec_there P (r, here, holds) = absurd (cc)
 
--- the branch begins with an entry of its spec, and with one of those of all, whatever the other specs are
+-- the branch begins with an entry of the expansion of its spec, and of its group, whatever the other specs are
 pub covered : Cover (every ∷ no_dev ∷ []) remote_refs → IsCoveredBy (codes "refs/heads/main") every
 covered law =
     let (r, here, covers) = (law (tracked 2 (codes "main") ∷ []) fetches_all_but_dev).0 (codes "refs/heads/main") refl in
@@ -216,32 +216,29 @@ covered_together law entries are =
     let same : every ≡ r = one_reading every r here in
     covers (subst (λ (q : Reading). AsksFor q (codes "refs/heads/main")) same (inl every_covering))
 
--- a group maps in both directions as the one that was read from its texts
+-- a group and the one read from its canonical texts map alike, in both directions
 pub mapped_alike : FetchGroupReadsBack (fetched Forced (codes "main") None ∷ []) (short ∷ []) (named (codes "refs/heads/main") ∷ []) → (kept : List Mapped)
     → (AreKeptForward (fetched Forced (codes "main") None ∷ []) (named (codes "refs/heads/main") ∷ []) kept → AreKeptForward (short ∷ []) (named (codes "refs/heads/main") ∷ []) kept) × AreKeptBackward (fetched Forced (codes "main") None ∷ []) (named (codes "refs/heads/main") ∷ []) []
 mapped_alike law kept = let alike = law (reads_unforced, tt) in ((alike.forward kept).0, (alike.backward []).1 tracks_nothing)
 
--- a group and refs have one list of mappings in each direction
 pub one_answer : OneForward (every ∷ no_dev ∷ []) remote_refs → (l : List Mapped) → AreKeptForward (every ∷ no_dev ∷ []) remote_refs l → l ≡ tracked 2 (codes "main") ∷ []
 one_answer law l kept = law l (tracked 2 (codes "main") ∷ []) kept fetches_all_but_dev
 
 pub one_answer_back : OneBackward (every ∷ no_dev ∷ []) tracking_refs → (l : List Mapped) → AreKeptBackward (every ∷ no_dev ∷ []) tracking_refs l → l ≡ tracked 1 (codes "main") ∷ []
 one_answer_back law l kept = law l (tracked 1 (codes "main") ∷ []) kept tracks_all_but_dev
 
--- no two mappings of a list have the same pair, in either direction
+-- in both directions: no two kept mappings are the same pair
 pub answered_apart : (g : List Reading) (items : List Ref) → KeptOnce g items → (l m : List Mapped) → AreKeptForward g items l → AreKeptBackward g items m → AreApart l × AreApart m
 answered_apart g items law l m forward back = (law l (inl forward), law m (inr back))
 
--- after a validation each destination has one source, and no two mappings from items have one destination
+-- after a validation each destination has one source, and no two mappings from items have the same destination
 pub validated_apart : ValidatedOnce both_to_x remote_refs → DestinationsHaveOneSource (tag_to_x ∷ tag_alone ∷ []) × (AreKeptForward both_to_x remote_refs (tag_to_x ∷ tag_to_foo ∷ tag_alone ∷ []) → HaveDistinctDestinations (tag_to_x ∷ tag_alone ∷ []))
 validated_apart law = law (tag_to_x ∷ tag_to_foo ∷ tag_alone ∷ []) (tag_to_x ∷ tag_alone ∷ []) (foo_fix ∷ []) validated
 
--- one word stands for a star
 pub word_of_ab : OneWord (codes "a") [] (codes "ab") → (word : List ℕ) → Fits (codes "a") [] (codes "ab") word → word ≡ codes "b"
 word_of_ab law word fits = law word (codes "b") fits refl
 
--- a ref that a pattern matches begins with its prefix, and the pattern has no other, nor another
--- expansion
+-- a ref that a pattern matches begins with the prefix of the pattern, which is its only prefix and expansion
 pub begins_below : PrefixBegins (codes "refs/heads/*") → (r : Ref) (word : Option (List ℕ)) → Matches (codes "refs/heads/*") r word → BeginsWith (codes "refs/heads/") r.name
 begins_below law r word matches = law (codes "refs/heads/") r word below_heads (other_length _ _ (λ size. omega (arith, size))) matches
 
@@ -265,7 +262,7 @@ one_id (inr fault) = absurd (fault.unread empty_blob IsIdText-empty_blob)
 pub one_text : OneLowerText empty_blob → (t : List ℕ) → IsLowerText t empty_blob → t ≡ codes "e69de29bb2d1d6434b8b29ae775ad8c2e48c5391"
 one_text law t lower = law.only t lower ∙ lower_of-empty_blob
 
--- a text has one reason against it, but for which fault of a name
+-- a text is refused for one reason, except that any fault of a name may be reported
 pub one_reason : OneRefusal Fetch (codes "a*") → ¬ (IsRefused Fetch (codes "a*") NegativeEmpty)
 one_reason law empty = elim (law PatternUnbalanced NegativeEmpty unbalanced_fetches.5 empty) [
   | inl same ↦ apart same
@@ -278,21 +275,20 @@ one_reason law empty = elim (law PatternUnbalanced NegativeEmpty unbalanced_fetc
     no_name : (a : NameError) → PatternUnbalanced ≢ ReferenceName a
     no_name a same = cc
 
--- a text has no reading where a reason is against its parts
+-- a text has no reading if a reason applies to its parts
 pub star_unread : ReasonRefuses Fetch (codes "a*") → (r : Reading) → ¬ (Reads Fetch (codes "a*") r)
 star_unread law =
     let bad = unbalanced_fetches.5 in
     (law bad.mode bad.source bad.destination PatternUnbalanced bad.parts bad.first).unread
 
--- what reads for an operation is for it
 pub reads_for_fetch : KeepsOperation Fetch (codes "main") → (r : Reading) → Reads Fetch (codes "main") r → r.operation ≡ Fetch
 reads_for_fetch law r reads = law r reads
 
--- texts that print alike mean the same, and the other way round
+-- texts mean the same exactly if their canonical texts are equal
 pub texts_alike : EqualTexts Fetch (codes "+main") (codes "main") → (r q : Reading) → Reads Fetch (codes "+main") r → Reads Fetch (codes "main") q → (printed r ≡ printed q → meaning_of r ≡ meaning_of q) × (meaning_of r ≡ meaning_of q → printed r ≡ printed q)
 texts_alike law r q reads_r reads_q = ((law r q reads_r reads_q).1, (law r q reads_r reads_q).0)
 
--- nothing is against a pattern of one byte, not even memory
+-- a pattern of one byte is never refused, not even for memory
 pub nothing_wrong : NothingAgainst (codes "*") → (e : PatternError) → ¬ (IsPatternFault e (codes "*"))
 nothing_wrong law e fault = let long : 256 < 1 = (law (IsPattern-tested [] [] refl refl refl) e fault).1 in omega (arith, long)
 
@@ -325,11 +321,10 @@ same_reasons = (inr (LockSuffix, RepeatedDot, refl, refl), inl refl, empty_no_na
     name_no_balance (inl same) = cc
     name_no_balance (inr (a, b, first, second)) = cc
 
--- what a push says is for a push
 pub said_for : (r : Reading) → SaysForOperation r → (d : List ℕ) → meaning_of r ≡ Some (push_delete d) → r.operation ≡ Push
 said_for r law d means = sym (law (push_delete d) means)
 
--- the text of a forced fetch without a destination reads as what means the same, and as nothing else
+-- the canonical text of a forced fetch without a destination has one reading, with the same meaning
 pub read_back_once : ReadsBack Fetch (codes "+main") → Reads Fetch (codes "+main") (fetched Forced (codes "main") None) → (q : Reading) → Reads Fetch (codes "main") q → meaning_of q ≡ Some (fetch_only (codes "main"))
 read_back_once law reads q again =
     let back = law (fetched Forced (codes "main") None) reads in
@@ -339,7 +334,7 @@ read_back_once law reads q again =
 pub reads_its_text : IsPrintedBack Fetch (fetched Forced (codes "main") None) → (q : Reading) × Reads Fetch (codes "main") q
 reads_its_text back = (back.again.reading, subst (λ (x : List ℕ). Reads Fetch x back.again.reading) (sym (same_Some (codes "main") back.text back.is)) back.again.reads)
 
--- readings with one text mean the same, where they are for one operation; a fetch and a push never do
+-- readings for one operation with the same canonical text mean the same; a fetch and a push never do
 pub equal_by_texts : (r q : Reading) → EqualReadings r q → (r.operation ≡ q.operation → printed r ≡ printed q → meaning_of r ≡ meaning_of q) × (meaning_of r ≡ meaning_of q → (r.operation ≡ q.operation) × (printed r ≡ printed q))
 equal_by_texts r q law = ((λ operations texts. law.1 (operations, texts)), law.0)
 
@@ -348,12 +343,12 @@ no_equal_operations law same = push_is_none (sym (law.0 same).0)
 
 -- ---- ids and patterns
 
--- a text of another length has one fault and no id
+-- a text of another length has one fault, and isn't an id
 pub one_length : IdOrFault (codes "e69de2") → ((e : IdError) → HasIdFault (codes "e69de2") e → e ≡ Length 6) × ((i : List ℕ) → ¬ (IsIdText (codes "e69de2") i))
 one_length (inl one) = absurd (one.sound (Length 6) HasIdFault-length.0)
 one_length (inr fault) = ((λ e has. fault.only e has ∙ sym (fault.only (Length 6) HasIdFault-length.0)), fault.unread)
 
--- one of both is there
+-- there is such an id, or such a fault
 pub id_there : HasOneId (codes "e69de29bb2d1d6434b8b29ae775ad8c2e48c5391") → (i : List ℕ) × IsIdText (codes "e69de29bb2d1d6434b8b29ae775ad8c2e48c5391") i
 id_there one = (one.id, one.text)
 
@@ -367,14 +362,14 @@ lower_there law = subst (λ (t : List ℕ). IsLowerText t empty_blob) lower_of-e
 pub no_fault_of_long : (x : List ℕ) → NothingAgainst x → IsPattern x → (fault : NameError) → ¬ (IsPatternFault (Name fault) x)
 no_fault_of_long x law pattern fault has = let same : Name fault ≡ Memory = (law pattern (Name fault) has).0 in cc
 
--- each ref that a partial name matches, or takes over it alone, is a candidate
+-- the name of each ref that a partial name matches, or takes over a list of that ref, is a candidate
 pub matched_asked : HasCandidates (codes "main") → (r : Ref) (word : Option (List ℕ)) → Matches (codes "main") r word ⊎ Takes (r ∷ []) (codes "main") r word → IsCandidate (codes "main") r.name
 matched_asked law r word (inl matches) = (law.matches r).0 (word, matches)
 matched_asked law r word (inr takes) = (law.takes r).0 (word, takes)
 
 -- ---- groups
 
--- groups of different lengths, or in another order, aren't read again
+-- `AreReadAgain` doesn't hold of groups of different lengths, or in another order
 pub read_again : AreReadAgain (fetched Forced (codes "main") None ∷ short ∷ []) (short ∷ short ∷ []) × ¬ (AreReadAgain (short ∷ []) []) × ¬ (AreReadAgain [] (short ∷ [])) × ¬ (AreReadAgain (pushed Normal None None ∷ []) (short ∷ []))
 read_again = ((reads_unforced, (reads_itself, tt)), (λ none. none), (λ none. none), λ again. no_push_again None None short again.0)
   where
@@ -385,7 +380,7 @@ read_again = ((reads_unforced, (reads_itself, tt)), (λ none. none), (λ none. n
 pub all_alike : (g h : List Reading) (items : List Ref) → MapAlike g h items → (kept : List Mapped) → (AreKeptForward h items kept → AreKeptForward g items kept) × (AreKeptBackward g items kept → AreKeptBackward h items kept)
 all_alike g h items alike kept = ((alike.forward kept).1, (alike.backward kept).0)
 
--- what holds of each source and its spec holds of the branch, and there is no mapping beside it
+-- what holds of each source and its spec holds of the branch, whose mapping is the only one
 pub each_source : (P : Reading → List ℕ → Type 0) → EachSource (every ∷ no_dev ∷ []) remote_refs P → P every (codes "refs/heads/main")
 each_source P each =
     let (r, here, holds) = (each (tracked 2 (codes "main") ∷ []) fetches_all_but_dev).0 (codes "refs/heads/main") refl in
@@ -396,7 +391,7 @@ no_tag_source law kept are =
     subst (AllByRecursion (λ m. (n : List ℕ) → m.source ≡ name n → AtSpec (every ∷ no_dev ∷ []) m (λ r. (r ≡ every) × (n ≡ codes "refs/heads/main")))) (sym (law kept (tracked 2 (codes "main") ∷ []) are fetches_all_but_dev))
     ((λ n is. (every, refl, (refl, sym (ap bytes_in is)))), tt)
 
--- a name outside what a spec expands to isn't covered by it
+-- a name that begins with no entry of the expansion of a spec isn't covered by it
 pub not_covered : OnePrefix (codes "refs/heads/*") → ¬ (IsCoveredBy (codes "refs/tags/v1") every) × ¬ (IsCoveredBy (codes "refs/heads/dev-a") no_dev)
 not_covered law = (by_every, by_none)
   where
@@ -422,10 +417,10 @@ not_covered law = (by_every, by_none)
       | inr (none, same) ↦ no_entry (subst (λ (l : List (List ℕ)). BeginsWithOne l (codes "refs/heads/dev-a")) same covers.one)
     ]
 
--- the spec of the branch has a place in its group
+-- the spec index of the branch is in its group
 pub fits : ForwardFits (every ∷ no_dev ∷ []) remote_refs → IndexesFit (every ∷ no_dev ∷ []) (tracked 2 (codes "main") ∷ [])
 fits law = law (tracked 2 (codes "main") ∷ []) fetches_all_but_dev
 
--- and of a later mapping as of the first
+-- and so is that of a later mapping
 pub later_fits : (g : List Reading) (items : List Ref) (m n : Mapped) → ForwardFits g items → AreKeptForward g items (m ∷ n ∷ []) → n.spec < length g
 later_fits g items m n law kept = (law (m ∷ n ∷ []) kept).1.0

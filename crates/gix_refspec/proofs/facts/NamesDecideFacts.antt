@@ -1,4 +1,4 @@
--- That from left to right names alone decide, and from right to left ids too.
+-- From left to right names alone decide, from right to left ids too.
 use Rattle.std.proofs.Common.{◌≡◌, ◌≢◌, ◌⊎◌, inl, inr, ℕ, List, [], ◌∷◌, None, Some, codes, length, get_or, refl, ap, ◌∙◌, arith}
 use Rattle.gix_refspec_text.specs.declared.oid.Kind.{Kind}
 use Rattle.gix_refspec_text.specs.declared.oid.Kind.TheVariants.{Sha1, Sha256}
@@ -16,15 +16,15 @@ use Rattle.gix_refspec_text.proofs.facts.FitFacts.{blob_kind, dev_ref, every, ma
 use Rattle.gix_refspec_match.proofs.facts.MatchFacts.{fetches_all_but_dev, tracked}
 use Rattle.std.proofs.lemmas.Option.{same_Some}
 
--- a ref of a name, with other ids than the example has
+-- a ref with this name, and other ids than in the example
 abbrev moved : List ℕ → Ref
 moved n = record { name = n; target = 2 ∷ []; object = Some (3 ∷ []) }
 
--- other ids change nothing from left to right
+-- other ids change no mapping from left to right
 pub names_alone : NamesDecide (every ∷ no_dev ∷ []) (dev_ref ∷ tag_ref ∷ main_ref ∷ main_ref ∷ []) → AreKeptForward (every ∷ no_dev ∷ []) (moved dev_ref.name ∷ moved tag_ref.name ∷ moved main_ref.name ∷ moved main_ref.name ∷ []) (tracked 2 (codes "main") ∷ [])
 names_alone law = law (moved dev_ref.name ∷ moved tag_ref.name ∷ moved main_ref.name ∷ moved main_ref.name ∷ []) refl (tracked 2 (codes "main") ∷ []) fetches_all_but_dev
 
--- nor do they from right to left, where no destination is an id
+-- nor from right to left, if no destination is an id
 abbrev to_blob : Reading
 to_blob = fetched Normal (codes "main") (Some (codes "e69de29bb2d1d6434b8b29ae775ad8c2e48c5391"))
 
@@ -47,14 +47,14 @@ ids_asked_for = (
 pub names_alone_back : NamesDecideBack (no_dev ∷ to_x ∷ []) (main_ref ∷ []) → (l : List Mapped) → AreKeptBackward (no_dev ∷ to_x ∷ []) (main_ref ∷ []) l → AreKeptBackward (no_dev ∷ to_x ∷ []) (moved main_ref.name ∷ []) l
 names_alone_back law l kept = law ids_asked_for.0 (moved main_ref.name ∷ []) refl l kept
 
--- another name, or one that is listed again, isn't the same
+-- lists with another name, or with a duplicate, don't have the same names
 pub other_names : ¬ (HaveSameNames (main_ref ∷ []) (dev_ref ∷ [])) × ¬ (HaveSameNames (main_ref ∷ []) (main_ref ∷ main_ref ∷ []))
 other_names = (
   (λ same. other_length _ _ (λ size. omega (arith, size)) (ap (λ (l : List (List ℕ)). get_or l 0 []) same)),
   λ same. let size : 1 ≡ 2 = ap length same in omega (arith, size),
 )
 
--- a destination that is an id matches, of two refs with one name, the one with this id
+-- of two refs with the same name, a destination that is an id matches the one with this id
 pub ids_decide_too : Matches (codes "e69de29bb2d1d6434b8b29ae775ad8c2e48c5391") (record { name = codes "refs/tags/blob"; target = empty_blob; object = None }) None × ¬ (Matches (codes "e69de29bb2d1d6434b8b29ae775ad8c2e48c5391") (named (codes "refs/tags/blob")) None)
 ids_decide_too = (record { kind = object empty_blob; of = blob_kind; is = (refl, inl refl) }, λ matches. no_match matches.kind matches.of matches.is)
   where

@@ -1,5 +1,5 @@
--- What the clauses of the match calls say of a group and items at hand: at the examples of matching, exactly
--- which outcome there is, and that there is one.
+-- The contracts of the match calls for a given group and items: for the examples of matching, they determine the
+-- outcome, and there is one.
 use Rattle.std.proofs.Common.{◌≡◌, List, [], ◌∷◌, map, length, codes, refl, ap, arith}
 use Rattle.gix_refspec_match.specs.declared.types.Item.{Item}
 use Rattle.gix_refspec.specs.declared.match_group.types.MatchGroup.{MatchGroup}
@@ -18,14 +18,14 @@ use Rattle.gix_refspec_match.proofs.facts.MatchFacts.{tracked, fetches_all_but_d
 abbrev LeavesOutDev : MatchGroup → Type 0
 LeavesOutDev g = readings_of g ≡ every ∷ no_dev ∷ []
 
--- what the remote has, and what is tracked of it
+-- the refs of a remote, and the tracking refs
 abbrev on_remote : List Ref
 on_remote = named (codes "refs/heads/dev-a") ∷ named (codes "refs/tags/v1") ∷ named (codes "refs/heads/main") ∷ named (codes "refs/heads/main") ∷ []
 
 abbrev is_tracked : List Ref
 is_tracked = named (codes "refs/remotes/origin/dev-a") ∷ named (codes "refs/remotes/origin/main") ∷ []
 
--- an outcome has the group as it was, and the one branch that is left
+-- an outcome has the unchanged group, and the one branch that is kept
 pub main_fetched : (g : MatchGroup) (items : List Item) (o : Outcome 1) → LeavesOutDev g → map ref_of items ≡ on_remote → IsOutcome AreKeptForward g items o → (o.group ≡ g) × (map mapped_of o.mappings.items ≡ tracked 2 (codes "main") ∷ [])
 main_fetched g items o specs refs is = (is.0, one_forward (every ∷ no_dev ∷ []) on_remote (map mapped_of o.mappings.items) _ (rw (specs, refs) at is.1) fetches_all_but_dev)
 

@@ -1,4 +1,4 @@
--- The words of the laws on plans, on each side of what they ask, and what a caller concludes from these laws.
+-- Examples of the definitions of the laws on plans, and what a caller concludes from these laws.
 use Rattle.std.proofs.Common.{◌≢◌, ℕ, List, [], ◌∷◌, None, Some, codes, refl, sym, ap, subst, arith}
 use Rattle.std.specs.List.{AllByRecursion}
 use Rattle.gix_refspec_text.specs.declared.parsing.Operation.TheVariants.{Fetch}
@@ -17,24 +17,24 @@ use Rattle.gix_refspec_text.proofs.facts.ObjectIdFacts.{empty_blob, lower_of-emp
 use Rattle.gix_refspec_match.proofs.facts.MatchFacts.{branch_to_x, bytes_in, mapping, tag_alone, tag_to_x}
 use Rattle.gix_refspec.proofs.facts.ValidationFacts.{foo_fix}
 
--- ---- what is told apart
+-- ---- no duplicates
 
--- as the tag alone, at its places
+-- a branch with the indexes of the tag
 abbrev branch_alone : Mapped
 branch_alone = mapping 0 (codes "refs/heads/a") None 1
 
--- two sources have two items or two specs
+-- different sources have different items or different specs
 pub starts : HaveSourcesByIndex (tag_to_x ∷ branch_to_x ∷ []) × ¬ (HaveSourcesByIndex (tag_alone ∷ branch_alone ∷ []))
 starts = (
   (((λ spec item. absurd (omega (arith, spec))), tt), (tt, tt)),
   λ have. other_byte 5 (codes "refs/tags/a") (codes "refs/heads/a") (λ byte. omega (arith, byte)) (ap bytes_in (have.0.0 refl refl)),
 )
 
--- a fix is there once
+-- no two fixes have the same destination
 pub fixes : AreFixesApart (foo_fix ∷ []) × ¬ (AreFixesApart (foo_fix ∷ foo_fix ∷ []))
 fixes = ((tt, tt), λ apart. apart.0.0 refl)
 
--- by the law no mapping and no fix is there twice, and no place has two sources
+-- by the law there is no duplicate mapping or fix, and no two sources have the same indexes
 pub no_mapping_twice : PlansApart → (g : List Reading) (items : List Ref) (l : List Mapped) (out : List Removed) → AreKeptForward g items l → ¬ (IsValidated g l (tag_to_x ∷ tag_to_x ∷ []) out)
 no_mapping_twice law g items l out kept valid = (law g items l (tag_to_x ∷ tag_to_x ∷ []) out kept valid).pairs.0.0 (record { source = refl; destination = refl })
 
@@ -46,7 +46,7 @@ no_index_twice law g items l out kept valid = starts.1 (law g items l (tag_alone
 
 -- ---- control characters
 
--- a newline is in neither side, and may be in one
+-- a mapping whose source contains a newline
 abbrev two_lines : Mapped
 two_lines = mapping 0 (codes "a\nb") None 0
 
@@ -58,20 +58,20 @@ lacks = (
   λ lack. lack.1.1.0 refl,
 )
 
--- of an id the digits count, in lower case
+-- an id contains its digits in lower case
 pub digits_lack : SourceLacks 69 (id empty_blob) × ¬ (SourceLacks 101 (id empty_blob))
 digits_lack = (
   subst (Lacks 69) (sym lower_of-empty_blob) (Lacks-tested 69 (codes "e69de29bb2d1d6434b8b29ae775ad8c2e48c5391") refl),
   λ lack. (subst (Lacks 101) lower_of-empty_blob lack).0 refl,
 )
 
--- by the law no fetch has a newline in its source, nor a tab in its canonical text
+-- by the law no source of a fetch contains a newline, and no canonical text a tab
 pub no_newline_read : NoControlCharacter → (text : List ℕ) (r : Reading) → Reads Fetch text r → r.source ≢ Some (codes "a\nb")
 no_newline_read law text r reads same = (subst (LacksIn 10) same (law.sides 10 text r (omega arith) reads).0).1.0 refl
 
 pub no_tab_printed : NoControlCharacter → (text : List ℕ) (r : Reading) → Reads Fetch text r → printed r ≢ Some (codes "a\tb")
 no_tab_printed law text r reads same = (law.texts 9 text r (codes "a\tb") (omega arith) reads same).1.0 refl
 
--- and none is mapped where no name has it
+-- and no mapping contains a newline if no name does
 pub no_newline_mapped : NoControlCharacter → (g : List Reading) (items : List Ref) → AllByRecursion (SidesLack 10) g → AllByRecursion (λ r. Lacks 10 r.name) items → ¬ (AreKeptForward g items (two_lines ∷ []))
 no_newline_mapped law g items sides names kept = lacks.2 (law.mapped 10 g items (two_lines ∷ []) (omega arith) sides names kept).0

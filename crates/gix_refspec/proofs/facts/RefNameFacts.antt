@@ -1,4 +1,5 @@
--- The words on names of refs at mappings to good names and bad ones, and what a caller concludes from their law.
+-- Examples of the definitions on ref names, for mappings with valid and invalid ones, and what a caller concludes from
+-- their law.
 use Rattle.std.proofs.Common.{◌≡◌, inl, inr, ℕ, List, [], ◌∷◌, ◌++◌, None, Some, codes, refl, arith}
 use Rattle.std.specs.List.{AllByRecursion}
 use Rattle.gix_refspec_text.specs.declared.name.Error.TheVariants.{RepeatedDot}
@@ -19,11 +20,11 @@ use Rattle.gix_refspec_match.proofs.facts.MatchFacts.{mapping}
 use Rattle.gix_refspec.proofs.lemmas.validate.RefNameLemmas.{bad_unnamed, stays_among_refs}
 use Rattle.gix_refspec_text.proofs.lemmas.texts.TestedLemmas.{IsName-tested}
 
--- what begins `refs/` and is a name, and `HEAD`
+-- a name that begins `refs/`, and `HEAD`
 pub ref_names : IsRefName (codes "refs/heads/main") × IsRefName (codes "HEAD")
 ref_names = (inl (record { after = codes "heads/main"; here = refl }, IsName-tested (codes "refs/heads/main") refl), inr refl)
 
--- neither a name elsewhere, nor what has a fault
+-- not a name outside `refs/`, nor a text with a fault
 pub no_ref_names : ¬ (IsRefName (codes "main")) × ¬ (IsRefName (codes "HEADS")) × ¬ (IsRefName (codes "refs/../x"))
 no_ref_names = (elsewhere, longer, faulty)
   where
@@ -45,7 +46,7 @@ bad = codes "refs/../x"
 abbrev pub good : List ℕ
 good = codes "refs/heads/main"
 
--- ids and missing destinations are good
+-- ids and missing destinations are valid
 pub without_names : IsValidSource (id []) × IsValidDestination None × ¬ (IsValidDestination (Some bad))
 without_names = (tt, tt, no_ref_names.2)
 
@@ -79,7 +80,7 @@ no_other_sides = (
   (λ is. is.1 ref_names.0),
 )
 
--- a declared one as plain data
+-- the plain data of an `InvalidMapping`
 pub left_out_seen : (b : InvalidMapping) → ((left_out_of b).mapping ≡ mapped_of b.mapping) × ((left_out_of b).side ≡ b.side)
 left_out_seen b = (refl, refl)
 
@@ -123,14 +124,15 @@ parted = record {
   );
 }
 
--- a good mapping isn't lost, and a bad one is listed
+-- a valid mapping isn't lost, and an invalid one is listed
 pub none_lost : ¬ (HaveRefNames (kept ∷ []) []) × ¬ (AreLeftOut (to_bad ∷ []) [])
 none_lost = (
   (λ are. nothing_made (λ k m made. (made ≡ m) × HasRefNames m) 0 [] kept [] kept are (refl, sides.0)),
   (λ are. nothing_made (λ k m made. IsLeftOut m made) 0 [] to_bad [] (record { mapping = to_bad; side = Destination }) are (record { same = refl; bad = sides.2 })),
 )
 
--- a path that leads up, one elsewhere, and one with a control character don't stay among refs
+-- a path with `..`, one with an empty component, one outside `refs/`, and one with a control character don't stay among
+-- refs
 pub leads_away : ¬ (StaysAmongRefs (codes "refs/../x")) × ¬ (StaysAmongRefs (codes "refs//x")) × ¬ (StaysAmongRefs (codes "x")) × ¬ (StaysAmongRefs (codes "refs/" ++ 31 ∷ [])) × ¬ (StaysAmongRefs (codes "refs/" ++ 127 ∷ []))
 leads_away = (
   (λ stays. let each = stays.components (codes "refs" ∷ codes ".." ∷ codes "x" ∷ []) (record { joined = refl; whole = (Lacks-tested slash (codes "refs") refl, (Lacks-tested slash (codes "..") refl, (Lacks-tested slash (codes "x") refl, tt))) }) in each.1.0.1 (record { after = codes "."; here = refl })),
@@ -147,20 +149,20 @@ leads_away = (
 pub stays : StaysAmongRefs good × StaysAmongRefs (codes "HEAD")
 stays = (stays_among_refs good ref_names.0, stays_among_refs (codes "HEAD") ref_names.1)
 
--- by the law no mapping to a bad name is left, whichever of the two calls is first
+-- by the law no mapping to an invalid ref name remains, whichever of the two calls is first
 pub none_to_bad : (items : List Ref) (g : List Reading) → WritesRefs g items → (l named rest : List Mapped) (out : List LeftOut) (fixes : List Removed) → (KeepsRefNames l named out → ¬ (IsValidated g named (to_bad ∷ rest) fixes)) × (IsValidated g l named fixes → ¬ (KeepsRefNames named (to_bad ∷ rest) out))
 none_to_bad items g law l named rest out fixes = (
   (λ keeps valid. no_ref_names.2 ((law.before l named (to_bad ∷ rest) out fixes keeps valid).0.0 bad refl).0),
   (λ valid keeps. no_ref_names.2 ((law.after l named (to_bad ∷ rest) fixes out valid keeps).0.0 bad refl).0),
 )
 
--- nor two to one name, where they came from items
+-- nor do two with the same destination, if they came from items
 pub none_twice : (items : List Ref) (g : List Reading) → WritesRefs g items → (l named rest : List Mapped) (out : List LeftOut) (fixes : List Removed) → AreKeptForward g items l → (KeepsRefNames l named out → ¬ (IsValidated g named (kept ∷ kept ∷ rest) fixes)) × (IsValidated g l named fixes → ¬ (KeepsRefNames named (kept ∷ kept ∷ rest) out))
 none_twice items g law l named rest out fixes are = (
   (λ keeps valid. ((law.before l named (kept ∷ kept ∷ rest) out fixes keeps valid).1 are).0.0 (good, refl, refl)),
   (λ valid keeps. ((law.after l named (kept ∷ kept ∷ rest) fixes out valid keeps).1 are).0.0 (good, refl, refl)),
 )
 
--- what is kept may be validated, and its places fit
+-- the kept mappings may be validated, and their indexes are valid
 pub still_there : (items : List Ref) (g : List Reading) → WritesRefs g items → (l named : List Mapped) (out : List LeftOut) → KeepsRefNames l named out → IndexesFit g l → AllByRecursion (ForwardIndexes g items) l → IndexesFit g named × AllByRecursion (ForwardIndexes g items) named
 still_there items g law l named out keeps fit indexes = (law.fits l named out keeps fit, law.indexes l named out keeps indexes)

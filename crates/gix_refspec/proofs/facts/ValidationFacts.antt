@@ -1,5 +1,5 @@
--- The words on validation at mappings to one destination and to others: which conflicts, survivors
--- and fixes there are, and which are none.
+-- Examples of the definitions on validation, for mappings to one destination and to others: their conflicts, survivors
+-- and fixes.
 use Rattle.std.proofs.Common.{◌≡◌, ◌≢◌, ◌⊎◌, ℕ, suc, ◌<◌, List, [], ◌∷◌, ◌++◌, Option, None, Some, option_map, length, map, codes, refl, sym, ap, ◌∙◌, subst, inl, inr, arith}
 use Rattle.std.specs.List.{Contains}
 use Rattle.std.specs.List.Sorted.{IsStrictlySortedBy}
@@ -18,18 +18,18 @@ use Rattle.gix_refspec_text.proofs.facts.FitFacts.{other_byte, of_element}
 use Rattle.gix_refspec_match.proofs.facts.MatchFacts.{bytes_in, mapping, tag_to_x, branch_to_x, tag_again, tag_to_foo, tag_alone, pairs}
 use Rattle.std.proofs.lemmas.Option.{same_Some}
 
--- specs whose patterns meet below `refs/x/`, the second of which is forced
+-- specs with the same pattern as destination, the second of which is forced
 abbrev pub both_to_x : List Reading
 both_to_x = fetched Normal (codes "refs/tags/*") (Some (codes "refs/x/*")) ∷ fetched Forced (codes "refs/heads/*") (Some (codes "refs/x/*")) ∷ []
 
 abbrev branch_to_y : Mapped
 branch_to_y = mapping 3 (codes "refs/heads/b") (Some (codes "refs/x/b")) 1
 
--- two sources of one destination, the first of which is there twice, and another destination
+-- two sources of one destination, the first with a duplicate, and another destination
 abbrev pub meeting : List Mapped
 meeting = branch_to_y ∷ tag_to_x ∷ branch_to_x ∷ tag_again ∷ []
 
--- the sources are in the order of the mappings, each once, with the canonical texts of their specs
+-- the sources are in the order of the mappings, without duplicates, with the canonical texts of their specs
 abbrev pub conflict : Conflict
 conflict = record {
   destination = codes "refs/x/a";
@@ -131,7 +131,7 @@ conflicts_at_x = record {
   order = (tt, tt);
 }
 
--- a destination that one source is mapped to, even twice, is no conflict, whatever its texts are
+-- a destination with one source, even if mapped twice, isn't a conflict, whatever its texts are
 pub no_conflict : (c : Conflict) → c.destination ≡ codes "refs/x/b" → ¬ (IsConflict both_to_x meeting c)
 no_conflict c is conflicts = other_byte 7 (codes "refs/x/b") (codes "refs/x/a") (λ byte. omega (arith, byte)) (sym is ∙ only_x c.destination conflicts.contested)
 
@@ -141,7 +141,7 @@ one_source d contested =
     let tag = of_element (λ n. n.source ≡ name (codes "refs/tags/a")) l in
     contested.differ (tag contested.one (refl, (refl, (refl, (refl, tt)))) contested.has_one ∙ sym (tag contested.other (refl, (refl, (refl, (refl, tt)))) contested.has_other))
 
--- conflicts aren't in falling order, and none is listed twice
+-- conflicts are strictly increasing by destination
 pub rising : (c d : Conflict) → c.destination ≡ codes "refs/x/b" → d.destination ≡ codes "refs/x/aa" → ¬ (AreConflicts both_to_x meeting (c ∷ d ∷ [])) × ¬ (AreConflicts both_to_x meeting (c ∷ c ∷ []))
 unfolding IsStrictlySortedBy
 rising c d to_b to_aa = (
@@ -155,7 +155,7 @@ rising c d to_b to_aa = (
     equal_less : Equal ≢ Less
     equal_less same = cc
 
--- what begins `refs/`, and `HEAD`, can be written
+-- destinations that begin `refs/`, and `HEAD`, can be written
 pub writable : IsWritable (codes "refs/x") × IsWritable (codes "HEAD") × ¬ (IsWritable (codes "refs")) × ¬ (IsWritable (codes "HEADS")) × ¬ (IsWritable (codes "foo"))
 writable = (inl (record { after = codes "x"; here = refl }), inr refl, no_slash, longer, no_foo)
   where
@@ -206,11 +206,11 @@ validated = record {
         let tag = of_element (λ n. n.source ≡ name (codes "refs/tags/a")) (tag_to_x ∷ tag_to_foo ∷ tag_alone ∷ []) in
         contested.differ (tag contested.one (refl, (refl, (refl, tt))) contested.has_one ∙ sym (tag contested.other (refl, (refl, (refl, tt))) contested.has_other))
 
--- the first spec has a place in a group, and none is after the last one
+-- the index of the first spec is in a group, and one after the last isn't
 pub indexes : IndexesFit both_to_x (tag_to_x ∷ tag_again ∷ []) × ¬ (IndexesFit both_to_x (tag_to_x ∷ mapping 0 (codes "a") None 2 ∷ []))
 indexes = ((omega arith, (omega arith, tt)), λ fit. let below : 2 < 2 = fit.1.0 in omega (arith, below))
 
--- what the law on validations says of mappings to one destination
+-- the definitions of the law on validations, for mappings to one destination
 pub meet : DestinationsHaveOneSource (tag_to_x ∷ tag_again ∷ []) × ¬ (DestinationsHaveOneSource meeting) × HaveDistinctDestinations (tag_to_x ∷ tag_to_foo ∷ tag_alone ∷ tag_alone ∷ []) × ¬ (HaveDistinctDestinations (tag_to_x ∷ tag_alone ∷ tag_again ∷ []))
 unfolding at_x
 meet = (
@@ -231,9 +231,9 @@ meet = (
   λ never. never.0.1.0 (codes "refs/x/a", refl, refl),
 )
 
--- ---- what is left out of a list, or put in
+-- ---- single definitions
 
--- the text of a spec is that of its place, and there is none after the last one
+-- the text at an index is that of the spec there, and there is none after the last
 pub texts_at : IsTextAt both_to_x 0 (codes "refs/tags/*:refs/x/*") × IsTextAt (fetched Forced (codes "main") None ∷ []) 0 (codes "main") × ¬ (IsTextAt both_to_x 1 (codes "refs/tags/*:refs/x/*")) × ((text : List ℕ) → ¬ (IsTextAt both_to_x 2 text))
 texts_at = (
   (fetched Normal (codes "refs/tags/*") (Some (codes "refs/x/*")), refl, refl),
@@ -250,7 +250,7 @@ texts_at = (
         let r_is : fetched Forced (codes "refs/heads/*") (Some (codes "refs/x/*")) ≡ r = cc in
         other_length _ _ (λ size. omega (arith, size)) (same_Some (codes "+refs/heads/*:refs/x/*") (codes "refs/tags/*:refs/x/*") (ap printed r_is ∙ prints))
 
--- a destination in conflict is a conflict, so there is no validation, and no list without it
+-- a destination with several sources is listed as a conflict, and so there is no validation
 pub no_less : ¬ (AreConflicts both_to_x meeting []) × ((rest : List Mapped) (fixes : List Removed) → ¬ (IsValidated both_to_x meeting rest fixes))
 unfolding at_x
 no_less = ((λ are. none_in (are.every (codes "refs/x/a") at_x)), λ rest fixes is. none_in (is.free.every (codes "refs/x/a") at_x))
@@ -287,7 +287,7 @@ fixes = (
     forced_normal : Path (Option Reading) (Some (fetched Forced (codes "refs/heads/*") (Some (codes "refs/x/*")))) (Some (fetched Normal (codes "refs/tags/*") (Some (codes "refs/x/*")))) → ⊥
     forced_normal same = let modes : Some Forced ≡ Some Normal = ap (λ (o : Option Reading). option_map (λ (r : Reading). r.mode) o) same in cc
 
--- mappings meet at a destination that both have
+-- mappings share a destination that both have
 pub meetings : ShareDestination tag_to_x branch_to_x × ¬ (ShareDestination tag_to_x tag_to_foo) × ¬ (ShareDestination tag_alone tag_alone)
 meetings = (
   (codes "refs/x/a", refl, refl),

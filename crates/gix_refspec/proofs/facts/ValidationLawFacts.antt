@@ -1,5 +1,5 @@
--- What a caller concludes from the laws on the results of a validation: which conflicts, survivors and fixes there
--- are, of an outcome and of a copy of it.
+-- What a caller concludes from the laws on the results of a validation: the conflicts, survivors and fixes of an
+-- outcome and of a copy of it.
 use Rattle.std.proofs.Common.{◌≡◌, ◌≢◌, List, [], ◌∷◌, map, sym, subst}
 use Rattle.gix_refspec_match.specs.declared.types.Mapping.{Mapping}
 use Rattle.gix_refspec.specs.declared.match_group.types.Outcome.{Outcome}
@@ -23,7 +23,8 @@ of_one_tag = tag_to_x ∷ tag_to_foo ∷ tag_alone ∷ []
 pub two_survive : OneValidation both_to_x of_one_tag → (rest : List Mapped) (fixes : List Removed) → IsValidated both_to_x of_one_tag rest fixes → (rest ≡ tag_to_x ∷ tag_alone ∷ []) × (fixes ≡ foo_fix ∷ [])
 two_survive law rest fixes is = (law.survivors rest (tag_to_x ∷ tag_alone ∷ []) is.survive validated.survive, law.fixes fixes (foo_fix ∷ []) is.fixed validated.fixed)
 
--- what has the specs of an outcome and copies of its mappings is a copy, and what lacks a mapping or has one more isn't
+-- an outcome with the same specs and copies of the mappings is a copy, and one that lacks a mapping or has one more
+-- isn't
 pub outcome_copies : (o copy : Outcome 1) (m : Mapping) → copy.group.specs.items ≡ o.group.specs.items
     → (AreMappingCopies o.mappings.items copy.mappings.items → IsOutcomeCopy o copy)
     × (o.mappings.items ≡ m ∷ [] → copy.mappings.items ≡ [] → ¬ (IsOutcomeCopy o copy))
@@ -34,7 +35,7 @@ outcome_copies o copy m specs = (
   (λ none some is. subst (λ (l : List Mapping). AreMappingCopies l (m ∷ [])) none (subst (AreMappingCopies o.mappings.items) some is.mappings)),
 )
 
--- nor is what has other specs
+-- nor is one with other specs
 pub no_copy : (o copy : Outcome 1) → copy.group.specs.items ≢ o.group.specs.items → ¬ (IsOutcomeCopy o copy)
 no_copy o copy other is = other is.specs
 

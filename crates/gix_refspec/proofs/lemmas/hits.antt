@@ -1,4 +1,4 @@
--- Lemmas on both directions, and on what a group is gathered from.
+-- Lemmas on both directions, and on gathering a group.
 pub mod TransposeLemmas
 pub mod PremiseLemmas
 pub mod GatherLemmas

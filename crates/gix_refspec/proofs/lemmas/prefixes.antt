@@ -1,3 +1,3 @@
--- Lemmas on what a client asks a server for.
+-- Lemmas on ref prefixes, and on what covers names.
 pub mod AskedLemmas
 pub mod CoverLemmas

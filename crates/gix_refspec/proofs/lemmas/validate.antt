@@ -1,4 +1,4 @@
--- Lemmas on conflicts, on validation and on names of refs.
+-- Lemmas on conflicts, on validation and on ref names.
 pub mod UpdateLemmas
 pub mod FirstLemmas
 pub mod ConflictLemmas

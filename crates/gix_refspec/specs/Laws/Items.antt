@@ -1,5 +1,5 @@
--- Laws of matching some of the items in place of all, or items without their ids: what a caller may leave out.
--- They follow from the definitions in Hits and Laws/Matching, and add no rule.
+-- Laws of matching a subset of the items, or items without their ids: what a caller may leave out. They follow from the
+-- definitions in Hits and Laws/Matching, and add no rule.
 use Rattle.std.specs.Prelude.{◌≡◌, ◌⊎◌, ◌↔◌, ℕ, Bool, IsTrue, nat_eq, List, map, Option, Some}
 use Rattle.std.specs.List.{AllByRecursion, Any, Contains, filter, list_any, starts_with}
 use Rattle.bstr.specs.BStr.{bstr_bytes}
@@ -16,7 +16,7 @@ use Rattle.gix_refspec_text.specs.Laws.Covering.{HasCoveringSource}
 use Rattle.gix_refspec.specs.Laws.Matching.{AreFetches, MakesForward, BeginsWithOne, AreExpansions}
 use Rattle.gix_refspec.specs.Matching.Asked.{ListsGroup}
 
--- the refs B are some of the refs A
+-- the refs B are a subset of the refs A
 abbrev pub ArePart : List Ref → List Ref → Type 0
 ArePart A B = (item : Ref) → Contains B item → Contains A item
 
@@ -27,7 +27,7 @@ pub record TakesItem (HasEnds : Reading → Ends → Type 0) (Taken : List ℕ �
   pub word : Option (List ℕ)
   pub takes : Taken ends.near item word
 
--- among B is each item of A that some reading takes
+-- B contains each item of A that some reading takes
 abbrev pub HasTaken : (Reading → Ends → Type 0) → (List ℕ → Ref → Option (List ℕ) → Type 0) → List Reading → List Ref → List Ref → Type 0
 HasTaken HasEnds Taken g A B = (item : Ref) → Contains A item → Any (TakesItem HasEnds Taken item) g → Contains B item
 
@@ -35,8 +35,8 @@ HasTaken HasEnds Taken g A B = (item : Ref) → Contains A item → Any (TakesIt
 abbrev pub HaveSamePairs : List Mapped → List Mapped → Type 0
 HaveSamePairs l m = (pair : Mapped) → HasPair l pair ↔ HasPair m pair
 
--- where B is a part of A and has each item of A that some reading takes, the same pairs are kept over B as over A. What a
--- reading takes is what it takes among A: so the first candidate of a partial source isn't left out
+-- if B is a subset of A and contains each item of A that some reading takes, the same pairs are kept over B as over A.
+-- What a reading takes is what it takes among A: so the first candidate of a partial source isn't left out
 pub record FewerItems (g : List Reading) (A B : List Ref) : Type 0 where
   pub forward : ArePart A B → HasTaken AreForwardEnds (Takes A) g A B → (kept fewer : List Mapped) → AreKeptForward g A kept → AreKeptForward g B fewer → HaveSamePairs kept fewer
   pub backward : ArePart A B → HasTaken AreBackwardEnds Matches g A B → (kept fewer : List Mapped) → AreKeptBackward g A kept → AreKeptBackward g B fewer → HaveSamePairs kept fewer
@@ -45,7 +45,7 @@ pub record FewerItems (g : List Reading) (A B : List Ref) : Type 0 where
 abbrev pub HaveSameNames : List Ref → List Ref → Type 0
 HaveSameNames A B = map (λ (r : Ref). r.name) A ≡ map (λ (r : Ref). r.name) B
 
--- the names of refs alone decide what is kept from left to right: over refs with the same names the same mappings are
+-- from left to right only the names of refs decide what is kept: refs with the same names have the same mappings
 abbrev pub NamesDecide : List Reading → List Ref → Type 0
 NamesDecide g A = (B : List Ref) → HaveSameNames A B → (kept : List Mapped) → AreKeptForward g A kept → AreKeptForward g B kept
 
@@ -53,11 +53,11 @@ NamesDecide g A = (B : List Ref) → HaveSameNames A B → (kept : List Mapped) 
 abbrev pub HasIdDestination : Reading → Type 0
 HasIdDestination r = (text : List ℕ) × (r.destination ≡ Some text) × IsId text
 
--- no destination of the readings is one
+-- no destination of the readings is an id
 abbrev pub AsksForNoId : List Reading → Type 0
 AsksForNoId g = AllByRecursion (λ r. ¬ (HasIdDestination r)) g
 
--- so they decide from right to left where no destination is an id
+-- so they decide from right to left if no destination is an id
 abbrev pub NamesDecideBack : List Reading → List Ref → Type 0
 NamesDecideBack g A = AsksForNoId g → (B : List Ref) → HaveSameNames A B → (kept : List Mapped) → AreKeptBackward g A kept → AreKeptBackward g B kept
 
@@ -67,33 +67,32 @@ pub record FetchesHead (A : List Ref) (r : Reading) : Type 0 where
   pub source : r.source ≡ Some head
   pub there : HasName A head
 
--- each name that the source of the reading takes among the refs begins with an entry that the reading expands to: the
--- source is covering, or it is `HEAD` and the refs have that name. Where they lack it, `HEAD` takes `refs/heads/HEAD`
+-- each name that the source of the reading takes among the refs begins with an entry of its expansion: the source is
+-- covering, or it is `HEAD` and the refs have that name. If they lack it, `HEAD` takes `refs/heads/HEAD`
 abbrev pub IsListed : List Ref → Reading → Type 0
 IsListed A r = HasCoveringSource r ⊎ FetchesHead A r
 
--- B is a part of A, and has each item of A whose name begins with an entry of what the readings expand to
+-- B is a subset of A, and contains each item of A whose name begins with an entry of the expansion of the readings
 pub record AreListedItems (g : List Reading) (A B : List Ref) : Type 0 where
   pub entries : List (List ℕ)
   pub expansions : AreExpansions g entries
   pub part : ArePart A B
   pub listed : (item : Ref) → Contains A item → BeginsWithOne entries item.name → Contains B item
 
--- of such items, no pair is lost that a listed reading makes, whatever the other readings are; and where each reading
--- is listed, the same pairs are kept
+-- over such items, no pair is lost that a listed reading makes, whatever the other readings are; and if each reading is
+-- listed, the same pairs are kept
 pub record ListedItems (g : List Reading) (A B : List Ref) : Type 0 where
   pub some : AreListedItems g A B → (kept fewer : List Mapped) → AreKeptForward g A kept → AreKeptForward g B fewer → (pair : Mapped)
       → HasPair kept pair → Any (λ r. IsListed A r × MakesForward A pair.source pair.destination r) g → HasPair fewer pair
   pub all : AreListedItems g A B → AllByRecursion (IsListed A) g → (kept fewer : List Mapped) → AreKeptForward g A kept → AreKeptForward g B fewer → HaveSamePairs kept fewer
 
--- ---- what a test lets through
+-- ---- filters
 
--- the test lets each item through that some reading takes
+-- the filter passes each item that some reading takes
 abbrev pub PassesTaken : (Reading → Ends → Type 0) → (List ℕ → Ref → Option (List ℕ) → Type 0) → List Reading → List Item → (Item → Bool) → Type 0
 PassesTaken HasEnds Taken g items p = (item : Item) → Contains items item → Any (TakesItem HasEnds Taken (ref_of item)) g → IsTrue (p item)
 
--- the items that a test lets through are a part of all. Where it lets each item through that is taken, each of these
--- is among them
+-- the items that pass a filter are a subset of all. If each item that some reading takes passes, each is among them
 pub record FilteredItems (g : List Reading) (items some : List Item) : Type 0 where
   pub part : (p : Item → Bool) → some ≡ filter p items → ArePart (map ref_of items) (map ref_of some)
   pub forward : (p : Item → Bool) → some ≡ filter p items → PassesTaken AreForwardEnds (Takes (map ref_of items)) g items p → HasTaken AreForwardEnds (Takes (map ref_of items)) g (map ref_of items) (map ref_of some)
@@ -103,22 +102,22 @@ pub record FilteredItems (g : List Reading) (items some : List Item) : Type 0 wh
 abbrev pub is_begun : List (List ℕ) → List ℕ → Bool
 is_begun entries n = list_any (λ entry. starts_with nat_eq n entry) entries
 
--- so the items whose names begin with an entry of what the readings expand to are such a part
+-- so the items whose names begin with an entry of the expansion of the readings are listed items
 abbrev pub FilteredByEntries : List Reading → List Item → List Item → Type 0
 FilteredByEntries g items some =
     (entries : List (List ℕ)) → AreExpansions g entries → some ≡ filter (λ item. is_begun entries (bstr_bytes item.full_ref_name)) items → AreListedItems g (map ref_of items) (map ref_of some)
 
--- ---- what is asked for
+-- ---- ref prefixes
 
--- B is a part of A, and has each item of A whose name begins with an entry of the list
+-- B is a subset of A, and contains each item of A whose name begins with a ref prefix of the list
 pub record AreAskedFor (list : List (List ℕ)) (A B : List Ref) : Type 0 where
   pub part : ArePart A B
   pub asked : (item : Ref) → Contains A item → BeginsWithOne list item.name → Contains B item
 
--- where the list is that of a group of fetches, the same pairs are kept over such items, also those of `HEAD`
+-- if the list is that of a group of fetches, the same pairs are kept over such items, also those of `HEAD`
 abbrev pub AskedItems : List Reading → List Ref → List Ref → Type 0
 AskedItems g A B = (list : List (List ℕ)) → ListsGroup g list → AreFetches g → AreAskedFor list A B → (kept fewer : List Mapped) → AreKeptForward g A kept → AreKeptForward g B fewer → HaveSamePairs kept fewer
 
--- and those whose names begin with an entry of the list are what is asked for
+-- and the items whose names begin with a ref prefix of the list are such items
 abbrev pub FilteredByList : List Item → List Item → Type 0
 FilteredByList items some = (list : List (List ℕ)) → some ≡ filter (λ item. is_begun list (bstr_bytes item.full_ref_name)) items → AreAskedFor list (map ref_of items) (map ref_of some)

@@ -1,5 +1,5 @@
--- Laws of validation: it has one result, and the same one for a copy of an outcome.
--- They follow from the definitions in Validation and Group, and add no rule.
+-- Laws of validation: it has one result, and the same one for a copy of an outcome. They follow from the definitions in
+-- Validation and Group, and add no rule.
 use Rattle.std.specs.Prelude.{◌≡◌, ℕ, List, map}
 use Rattle.gix_refspec.specs.declared.match_group.types.Outcome.{Outcome}
 use Rattle.gix_refspec_text.specs.Specs.Reading.{Reading}
@@ -14,7 +14,7 @@ pub record ValidateAlike (g : List Reading) (l : List Mapped) (h : List Reading)
   pub survivors : (rest other : List Mapped) → AreSurvivors l rest → AreSurvivors m other → rest ≡ other
   pub fixes : (fixes other : List Removed) → AreFixes g l fixes → AreFixes h m other → fixes ≡ other
 
--- mappings have one list of conflicts at most, one of survivors and one of fixes
+-- mappings have at most one list of conflicts, one of survivors and one of fixes
 abbrev pub OneValidation : List Reading → List Mapped → Type 0
 OneValidation g l = ValidateAlike g l g l
 

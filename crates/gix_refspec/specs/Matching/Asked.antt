@@ -1,6 +1,6 @@
--- What a client asks a server for, by gitprotocol-v2(5) under `ls-refs`, so that it learns of each ref that a group of
--- fetches maps. Other than an expansion, `HEAD` is asked for by its six candidates, and a side that no list serves has
--- none: a pattern whose star is outside `refs/` or directly after it, or after a `]`.
+-- The ref prefixes that a client sends to a server, by gitprotocol-v2(5) under `ls-refs`, so that it lists each ref
+-- that a group of fetches maps. Unlike in an expansion, `HEAD` has its six candidates, and a pattern has no list if its
+-- star is outside `refs/`, directly after `refs/`, or after a `]`.
 use Rattle.std.specs.Prelude.{◌≡◌, ◌⊎◌, ℕ, List, [], ◌∷◌}
 use Rattle.std.specs.List.{AllByRecursion, Any}
 use Rattle.gix_refspec_text.specs.declared.parsing.Operation.TheVariants.{Fetch}
@@ -13,8 +13,8 @@ use Rattle.gix_refspec_match.specs.Matching.Lists.{IsJoinedFrom}
 use Rattle.gix_refspec_match.specs.Matching.Mappings.{name, Mapped}
 use Rattle.gix_refspec_match.specs.Matching.Hits.{AreKeptForward}
 
--- the list for a side of the kind: the text before the star of a pattern, if that is a prefix whatever follows; a full
--- name; no name for an id; the candidates of a partial name
+-- the list for a side of the kind: the prefix of a pattern, if that is a ref prefix whatever follows; a full name;
+-- nothing for an id; the candidates of a partial name
 abbrev pub ListsAs : SideKind → List (List ℕ) → Type 0
 ListsAs (pattern before after) list = IsRefPrefix before [] × (list ≡ before ∷ [])
 ListsAs (full_name n) list = list ≡ n ∷ []
@@ -35,11 +35,11 @@ Lists r list = ((r.mode ≡ Negative) × (list ≡ [])) ⊎ ((x : List ℕ) × I
 abbrev pub ListsGroup : List Reading → List (List ℕ) → Type 0
 ListsGroup g list = IsJoinedFrom (λ k r names. Lists r names) 0 g list
 
--- there is no list for some reading of the group
+-- some reading of the group has no list
 abbrev pub HasNoList : List Reading → Type 0
 HasNoList g = Any (λ r. (list : List (List ℕ)) → ¬ (Lists r list)) g
 
--- each name that a group of fetches maps from left to right, over whatever items, begins with one of the list
+-- each name that a group of fetches maps from left to right, over any items, begins with an entry of the list
 abbrev pub Serves : List (List ℕ) → List Reading → Type 0
 Serves list g =
     AllByRecursion (λ r. r.operation ≡ Fetch) g → (items : List Ref) (kept : List Mapped) → AreKeptForward g items kept

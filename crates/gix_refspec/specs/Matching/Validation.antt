@@ -1,7 +1,7 @@
--- Which mappings can't be written: those of several sources to one destination, and those to
--- a destination that is no full name. Git refuses the first as well, and git-fetch(1) under `<refspec>` has
--- no word on either. In which order conflicts and their sources are listed, that a destination outside
--- `refs/` is left out, and that `HEAD` is not, are this project's own rules.
+-- Which mappings can't be written: those of several sources to one destination, and those to a destination that isn't a
+-- full name. Git refuses the first as well; git-fetch(1) under `<refspec>` mentions neither. The order of conflicts and
+-- of their sources, that a destination outside `refs/` is left out, and that `HEAD` is not, are this project's own
+-- rules.
 use Rattle.std.specs.Prelude.{◌≡◌, ◌≢◌, ◌⊎◌, ◌<◌, ℕ, List, [], ◌∷◌, length, map, take, None, Some, MatchOption, codes}
 use Rattle.std.specs.Ordering.{nat_cmp}
 use Rattle.std.specs.Cmp.Lexicographic.{slice_cmp}
@@ -16,7 +16,7 @@ use Rattle.gix_refspec_text.specs.Matching.Match.{Ref}
 use Rattle.gix_refspec_match.specs.Matching.Mappings.{Source, name, id, Mapped, HasPair}
 use Rattle.gix_refspec_match.specs.Matching.Hits.{AreKeptForward, AreKeptBackward}
 
--- the spec of each mapping has a place in the group
+-- the spec index of each mapping is in the group
 abbrev pub IndexesFit : List Reading → List Mapped → Type 0
 IndexesFit g l = AllByRecursion (λ m. m.spec < length g) l
 
@@ -30,12 +30,12 @@ pub record HasConflictAt (l : List Mapped) (d : List ℕ) : Type 0 where
   pub other_to : other.destination ≡ Some d
   pub differ : one.source ≢ other.source
 
--- m, which is in the list at place k, has the destination d, and no earlier mapping to d has its source
+-- m, which is in the list at index k, has the destination d, and no earlier mapping to d has its source
 pub record IsFirstTo (d : List ℕ) (l : List Mapped) (k : ℕ) (m : Mapped) : Type 0 where
   pub goes : m.destination ≡ Some d
   pub first : ¬ (HasPair (take k l) m)
 
--- the spec at a place of the group has this canonical text
+-- the spec at this index of the group has this canonical text
 abbrev pub IsTextAt : List Reading → ℕ → List ℕ → Type 0
 IsTextAt g index text = (r : Reading) × (slice_get g index ≡ Some r) × (printed r ≡ Some text)
 
@@ -52,7 +52,7 @@ pub record IsConflict (g : List Reading) (l : List Mapped) (c : Conflict) : Type
   pub sources : IsMadeFrom (λ k m source. IsFirstTo c.destination l k m × (source ≡ m.source)) 0 l c.sources
   pub texts : IsMadeFrom (λ k m text. IsFirstTo c.destination l k m × IsTextAt g m.spec text) 0 l c.texts
 
--- all conflicts of the mappings, in the byte order of their destinations, each once
+-- all conflicts of the mappings, in the byte order of their destinations, without duplicates
 pub record AreConflicts (g : List Reading) (l : List Mapped) (cs : List Conflict) : Type 0 where
   pub each : AllByRecursion (IsConflict g l) cs
   pub every : (d : List ℕ) → HasConflictAt l d → Contains (map (λ c. c.destination) cs) d
@@ -70,7 +70,7 @@ Survives m = MatchOption m.destination (Unit {0}) IsWritable
 abbrev pub AreSurvivors : List Mapped → List Mapped → Type 0
 AreSurvivors l rest = IsMadeFrom (λ k m made. (made ≡ m) × Survives m) 0 l rest
 
--- that a mapping was removed: its destination, and the reading of its spec
+-- a removed mapping: its destination, and the reading of its spec
 pub record Removed : Type 0 where
   pub destination : List ℕ
   pub spec : Reading
@@ -85,13 +85,13 @@ pub record IsFix (g : List Reading) (m : Mapped) (fix : Removed) : Type 0 where
 abbrev pub AreFixes : List Reading → List Mapped → List Removed → Type 0
 AreFixes g l fixes = IsMadeFrom (λ k m fix. IsFix g m fix) 0 l fixes
 
--- no destination is in conflict, rest survives, and there is a fix for each other mapping
+-- no destination is in conflict, rest has the surviving mappings, and there is a fix for each other one
 pub record IsValidated (g : List Reading) (l rest : List Mapped) (fixes : List Removed) : Type 0 where
   pub free : AreConflicts g l []
   pub survive : AreSurvivors l rest
   pub fixed : AreFixes g l fixes
 
--- mappings of the list with one destination have one source
+-- mappings of the list with the same destination have the same source
 abbrev pub DestinationsHaveOneSource : List Mapped → Type 0
 DestinationsHaveOneSource l = (m n : Mapped) (d : List ℕ) → Contains l m → Contains l n → m.destination ≡ Some d → n.destination ≡ Some d → m.source ≡ n.source
 
@@ -104,17 +104,17 @@ abbrev pub HaveDistinctDestinations : List Mapped → Type 0
 HaveDistinctDestinations [] = Unit {0}
 HaveDistinctDestinations (m ∷ l) = AllByRecursion (λ n. ¬ (ShareDestination m n)) l × HaveDistinctDestinations l
 
--- after a validation, mappings with one destination have one source; where the mappings came from items, no
--- two have one destination
+-- after a validation, mappings with the same destination have the same source; if the mappings came from items, no two
+-- have the same destination
 abbrev pub ValidatedOnce : List Reading → List Ref → Type 0
 ValidatedOnce g items = (l rest : List Mapped) (fixes : List Removed) → IsValidated g l rest fixes → DestinationsHaveOneSource rest × (AreKeptForward g items l → HaveDistinctDestinations rest)
 
--- the specs of mappings that came from items have places in the group
+-- the spec indexes of mappings that came from items are in the group
 abbrev pub ForwardFits : List Reading → List Ref → Type 0
 ForwardFits g items = (l : List Mapped) → AreKeptForward g items l → IndexesFit g l
 
--- from left to right, the places of a mapping are those of a reading and of the item whose name is its source; without
--- an item it begins with an id
+-- from left to right, the indexes of a mapping are those of a reading and of the item whose name is its source; without
+-- an item its source is an id
 pub record ForwardIndexes (g : List Reading) (items : List Ref) (m : Mapped) : Type 0 where
   pub spec : m.spec < length g
   pub item : (j : ℕ) → m.item ≡ Some j → (r : Ref) × (slice_get items j ≡ Some r) × (m.source ≡ name r.name)
@@ -129,7 +129,7 @@ pub record BackwardIndexes (g : List Reading) (items : List Ref) (m : Mapped) : 
   pub stands : slice_get items index ≡ Some ref
   pub named : m.destination ≡ Some ref.name
 
--- so it is with each mapping that is kept, and with each that survives a validation
+-- that holds of each kept mapping, and of each that survives a validation if it held before
 pub record ItemIndexesFit (g : List Reading) (items : List Ref) : Type 0 where
   pub forward : (l : List Mapped) → AreKeptForward g items l → AllByRecursion (ForwardIndexes g items) l
   pub backward : (l : List Mapped) → AreKeptBackward g items l → AllByRecursion (BackwardIndexes g items) l

@@ -1,4 +1,4 @@
--- How conflicts are found. Only private functions cite these words.
+-- How conflicts are found. Only private functions use these definitions.
 use Rattle.std.specs.Prelude.{◌≡◌, ◌⊎◌, ◌↔◌, ◌<◌, ◌≤◌, ◌++◌, ℕ, Bool, List, [], ◌∷◌, length, map, Some, option_map, option_to_list}
 use Rattle.std.specs.declared.cmp.Ordering.{Ordering}
 use Rattle.std.specs.Ordering.{nat_cmp, ordering_then}
@@ -12,44 +12,44 @@ use Rattle.gix_refspec_match.specs.Matching.Mappings.{Mapped}
 use Rattle.gix_refspec.specs.Matching.Validation.{Conflict, IsConflict, IsFirstTo}
 use Rattle.gix_refspec_match.specs.Private.Kept.{IsFlagged, name_hash}
 
--- one of the updates is that of the destination d by the mapping at place k
+-- one of the updates is to the destination d by the mapping at index k
 abbrev pub HasUpdate : List Update → ℕ → List ℕ → Type 0
 HasUpdate [] k d = ⊥
 HasUpdate (c ∷ cs) k d = ((c.index ≡ k) × (c.destination.now ≡ d)) ⊎ HasUpdate cs k d
 
--- by the destination, and then by the place
+-- by destination, and then by index
 abbrev pub update_cmp : Update → Update → Ordering
 update_cmp x y = ordering_then (slice_cmp nat_cmp x.destination.now y.destination.now) (nat_cmp x.index y.index)
 
--- the places of updates
+-- the indexes of updates
 abbrev pub updated_indexes : List Update → List ℕ
 updated_indexes cs = map (λ c. c.index) cs
 
--- the mapping at place k of the list has the destination d
+-- the mapping at index k of the list has the destination d
 abbrev pub GoesTo : List Mapped → ℕ → List ℕ → Type 0
 GoesTo l k d = (m : Mapped) × (slice_get l k ≡ Some m) × (m.destination ≡ Some d)
 
--- the updates of the mappings that have a destination and aren't flagged, in order
+-- the updates of the mappings that have a destination and aren't flagged, sorted
 pub record AreUpdates (l : List Mapped) (flags : List Bool) (cs : List Update) : Type 0 where
   pub are : (k : ℕ) (d : List ℕ) → HasUpdate cs k d ↔ (GoesTo l k d × ¬ (IsFlagged flags k))
   pub order : IsStrictlySortedBy update_cmp cs
 
--- the mapping at place k of the list is the first from its source to the destination d
+-- the mapping at index k of the list is the first from its source to the destination d
 abbrev pub IsFirstAt : List Mapped → ℕ → List ℕ → Type 0
 IsFirstAt l k d = (m : Mapped) × (slice_get l k ≡ Some m) × IsFirstTo d l k m
 
--- the updates of the first mappings from each source to each destination, in order
+-- the updates of the first mappings from each source to each destination, sorted
 pub record AreFirstUpdates (l : List Mapped) (cs : List Update) : Type 0 where
   pub are : (k : ℕ) (d : List ℕ) → HasUpdate cs k d ↔ IsFirstAt l k d
   pub order : IsStrictlySortedBy update_cmp cs
 
--- updates of one destination, and others that are all of later ones
+-- updates of one destination, and others that all have greater ones
 pub record IsRun (run others : List Update) : Type 0 where
   pub destination : List ℕ
   pub same : AllByRecursion (λ c. c.destination.now ≡ destination) run
   pub beyond : AllByRecursion (λ c. slice_cmp nat_cmp destination c.destination.now ≡ Less) others
 
--- the updates of all sources of one destination, of which there are several
+-- the updates of all sources of one destination, which has several
 pub record AreConflicting (l : List Mapped) (run : List Update) : Type 0 where
   pub several : 1 < length run
   pub destination : List ℕ
@@ -62,10 +62,10 @@ pub record IsConflictOf (g : List Reading) (l : List Mapped) (run : List Update)
   pub is : IsConflict g l c
   pub same : AllByRecursion (λ update. update.destination.now ≡ c.destination) run
 
--- one update of a destination adds no conflict, and several add theirs after the others
+-- a single update of a destination adds no conflict, and several append theirs
 abbrev pub AddsConflict : List Reading → List Mapped → List Update → List Conflict → List Conflict → Type 0
 AddsConflict g l run old new = ((length run ≤ 1) × (new ≡ old)) ⊎ ((c : Conflict) × (1 < length run) × IsConflictOf g l run c × (new ≡ old ++ c ∷ []))
 
--- the hashes of the destinations that are there
+-- the hashes of the destinations, without missing ones
 abbrev pub destination_hashes : List Mapped → List ℕ
 destination_hashes l = flat_map (λ m. option_to_list (option_map name_hash m.destination)) l

@@ -1,4 +1,4 @@
--- What a clause reads of groups and outcomes.
+-- Groups and outcomes as plain data, for contracts.
 use Rattle.std.specs.Prelude.{◌≡◌, ℕ, Bool, true, false, List, map, Option}
 use Rattle.std.specs.List.{filter}
 use Rattle.std.specs.Iterator.{Drains}
@@ -15,15 +15,15 @@ use Rattle.gix_refspec_text.specs.Matching.Match.{Ref}
 use Rattle.gix_refspec_match.specs.Matching.Mappings.{Mapped}
 pub use Rattle.gix_refspec_match.specs.Views.Mapping.{mapped_of, ref_of, name_bytes, start_of, IsBorrowed, IsOwned, IsLent, IsOwnedSource, HasOwned, IsNameCopy, IsSourceCopy, IsDestinationCopy, IsMappingCopy, AreMappingCopies, text_of_source}
 
--- what the specs of a group were read as
+-- the readings of the specs of a group
 abbrev pub readings_of : MatchGroup → List Reading
 readings_of g = map reading_of g.specs.items
 
--- a relation of readings, refs and mappings says what a group makes of items
+-- a relation of readings, refs and mappings holds of a group, items and their mappings
 abbrev pub Maps : (List Reading → List Ref → List Mapped → Type 0) → MatchGroup → List Item → List Mapping → Type 0
 Maps relation group items mappings = relation (readings_of group) (map ref_of items) (map mapped_of mappings)
 
--- the outcome has the group as it was, and the mappings of the relation
+-- the outcome has the unchanged group, and mappings of the relation
 abbrev pub IsOutcome : {forward : ℕ} → (List Reading → List Ref → List Mapped → Type 0) → MatchGroup → List Item → Outcome forward → Type 0
 IsOutcome relation group items o = (o.group ≡ group) × Maps relation group items o.mappings.items
 
@@ -38,8 +38,8 @@ is_same_operation Fetch Fetch = true
 abbrev pub is_for : Operation → RefSpecRef → Bool
 is_for operation s = is_same_operation operation s.op
 
--- the group has the specs of the operation among those that a source of specs gives, in order: what it becomes, an
--- iterator with these steps, gives them all
+-- the specs of the group are those for the operation that the iterator of a source yields until it ends, in order.
+-- `becomes` relates a source to its iterator, and `steps` is what `next` of the iterator does
 pub record IsGathered {U T : Type 0} (becomes : U → T → Type 0) (steps : T → Option RefSpecRef → T → Type 0) (op : Operation) (source : U) (group : MatchGroup) : Type 0 where
   pub iterator : T
   pub all : List RefSpecRef

@@ -1,4 +1,4 @@
--- What a clause reads of the result of a validation.
+-- The result of a validation as plain data, for contracts.
 use Rattle.std.specs.Prelude.{◌≡◌, List, map}
 use Rattle.bstr.specs.Owned.{bstring_bytes}
 use Rattle.gix_refspec.specs.declared.match_group.types.Outcome.{Outcome}
@@ -35,17 +35,17 @@ conflicts_of e = map conflict_of e.issues.items
 abbrev pub removed_of : Fix → Removed
 removed_of (fix.MappingWithPartialDestinationRemoved n s) = record { destination = bstring_bytes n; spec = owned_reading_of s }
 
--- two fixes removed mappings with one destination, whose specs mean the same
+-- two fixes removed mappings with the same destination, whose specs mean the same
 pub record IsSameFix (a b : Fix) : Type 0 where
   pub destination : (removed_of a).destination ≡ (removed_of b).destination
   pub spec : meaning_of (removed_of a).spec ≡ meaning_of (removed_of b).spec
 
--- if a validation fails because of conflicts, they are as P says
+-- if a validation fails because of conflicts, P holds of them
 abbrev pub IfConflicts : Refusal → (List Conflict → Type 0) → Type 0
 IfConflicts (refusal.Conflicts e) P = P (conflicts_of e)
 IfConflicts (refusal.Memory o) P = Unit {0}
 
--- if a validation fails because memory ran out, the outcome that it returns is as P says
+-- if a validation fails because memory ran out, P holds of the returned outcome
 abbrev pub IfMemory : Refusal → (ForwardOutcome → Type 0) → Type 0
 IfMemory (refusal.Conflicts e) P = Unit {0}
 IfMemory (refusal.Memory o) P = P o

@@ -1,4 +1,4 @@
-//! What a client asks a server for, for a whole group.
+//! The ref prefixes that a client sends to a server, for a whole group.
 
 ghost use Rattle.std.specs.Prelude.{[], ℕ, List, map, MatchOption, IfOk, IfSome, OnErr};
 ghost use Rattle.bstr.specs.Owned.{bstring_bytes};
@@ -11,20 +11,20 @@ use crate::match_group::types::MatchGroup;
 use bstr::BString;
 use gix_refspec_text::RefSpecRef;
 use gix_refspec_text::side::{SideKind, candidates, kind_of};
-use gix_refspec_text::spec::prefix::{asked_side, one_entry, is_ref_prefix};
+use gix_refspec_text::spec::prefix::{asked_side, is_ref_prefix, one_entry};
 use std::alloc::{AllocError, Global};
 
-/// What to ask a server for.
+/// Ref prefixes.
 impl<'a> MatchGroup<'a> {
-    /// The prefixes to ask a server for, so that it lists each ref that a group of fetches maps from
-    /// left to right: each such ref begins with one of them, whatever other refs there are. They are in
-    /// the order of the specs: the text before the star of a pattern, a full name itself, and the six
-    /// candidates of a partial name, also of `HEAD`. Negative specs and ids ask for nothing. A server
+    /// The ref prefixes to send to a server by gitprotocol-v2(5), so that it lists each ref that a
+    /// group of fetches maps from left to right: each such ref begins with one of them, whatever other
+    /// refs there are. They are in the order of the specs: the prefix of a pattern, a full name itself,
+    /// and the six candidates of a partial name or `HEAD`. Negative specs and ids have none. A server
     /// takes an empty list as a request for all refs.
     ///
     /// `None` if only a request for all refs is safe: some positive spec has a pattern whose star is
     /// outside `refs/`, directly after `refs/`, or after a `]`; or it is a push without a destination.
-    /// For a push the destination is asked for.
+    /// For a push the prefixes are those of the destination.
     ///
     /// Fails if memory runs out; never if all specs are negative or ask for ids.
     pub fn ref_prefixes(&self, alloc: Global) -> Result<Option<Vec<BString>>, AllocError>
@@ -46,7 +46,7 @@ impl<'a> MatchGroup<'a> {
     }
 }
 
-// What to ask a server for, so that it lists each ref that a spec takes. None if no list serves.
+// The ref prefixes of a spec. `None` if no list covers each ref that it takes.
 fn names_to_ask(alloc: Global, spec: &RefSpecRef<'_>) -> Result<Option<Vec<BString>>, AllocError>
     ensures ok { IfOk result (λ asked. MatchOption asked
         ((list : List (List ℕ)) → ¬ (Lists (reading_of spec.now) list))
@@ -62,7 +62,7 @@ fn names_to_ask(alloc: Global, spec: &RefSpecRef<'_>) -> Result<Option<Vec<BStri
     list_of(alloc, side)
 }
 
-// What to ask a server for, so that it lists each ref that a side takes. None if no list serves.
+// The ref prefixes of a side. `None` if no list covers each ref that it takes.
 fn list_of(alloc: Global, side: &[u8]) -> Result<Option<Vec<BString>>, AllocError>
     requires { ¬ (HasSeveralStars side.now) }
     ensures ok { IfOk result (λ asked. MatchOption asked

@@ -29,8 +29,9 @@ impl<'a> MatchGroup<'a> {
         true
     }
 
-    /// Whether each spec has a covering source, as `RefSpecRef::has_covering_source` tells. Then each
-    /// name that the group maps from left to right begins with an entry of its spec, by the law `cover`.
+    /// Whether each spec has a covering source, as `RefSpecRef::has_covering_source` tests. Then each
+    /// name that the group maps from left to right begins with an entry of its spec's expansion, by the
+    /// law `cover`.
     pub fn has_covering_sources(&self) -> bool
         ensures { IsTrue result ↔ AllByRecursion HasCoveringSource (readings_of self.now) }
     {
@@ -68,8 +69,8 @@ pub fn has_id_destination(spec: &RefSpecRef<'_>) -> bool
     }
 }
 
-// Whether a spec is negative, or has one side, or two patterns, or two sides that begin `refs/`. A side
-// has a star where the other has one.
+// Whether a spec is negative, or lacks a side, or has two patterns, or two sides that begin `refs/`.
+// Either both sides have a star or neither does, so a test of the source is enough.
 fn goes_both_ways(spec: &RefSpecRef<'_>) -> bool
     ensures { IsTrue result ↔ GoesBothWays (reading_of spec.now) }
 {

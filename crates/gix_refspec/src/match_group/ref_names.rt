@@ -1,4 +1,4 @@
-//! Whether the sides of mappings are names of refs.
+//! Whether the sides of mappings are valid ref names.
 
 ghost use Rattle.std.specs.Prelude.{◌≡◌, ◌↔◌, [], map, IfOk, IfErr, OnErr, IsTrue, MatchOption, Some};
 ghost use Rattle.std.specs.List.{AllByRecursion};
@@ -14,7 +14,7 @@ use gix_refspec_text::spec::prefix::is_head;
 use std::alloc::{AllocError, Global};
 use std::{error, fmt};
 
-/// Which side of a mapping is no name of a ref.
+/// The side of a mapping that isn't a valid ref name.
 #[derive(Clone, Copy, Debug, PartialEq, Eq)]
 pub enum InvalidSide {
     /// The source alone.
@@ -25,16 +25,16 @@ pub enum InvalidSide {
     Both,
 }
 
-/// A mapping that was left out because a side of it is no name of a ref.
+/// A mapping that was left out because of an invalid ref name.
 #[derive(Debug, Drop)]
 pub struct InvalidMapping<'a, 'b> {
-    /// A copy of the mapping, which borrows what the mapping that was left out did.
+    /// A copy of the mapping, which borrows what the original borrowed.
     pub mapping: Mapping<'a, 'b>,
-    /// The side that is no name of a ref.
+    /// The side that isn't a valid ref name.
     pub side: InvalidSide,
 }
 
-/// Memory ran out while names were checked. The outcome is returned as it was.
+/// Memory ran out while names were checked. Holds the unchanged outcome.
 #[derive(Debug, Drop)]
 pub struct OutOfMemory<'spec, 'item> {
     /// The outcome whose names were to be checked.
@@ -55,15 +55,16 @@ impl<'spec, 'item> error::Error for OutOfMemory<'spec, 'item> {}
 
 /// The check of names.
 impl<'spec, 'item> match_lhs::Outcome<'spec, 'item> {
-    /// Removes the mappings whose source or destination is no name of a ref, and lists them, each with
-    /// the bad side; both lists are in order. A name of a ref is `HEAD`, or begins `refs/` and passes
-    /// `name_partial`. An id as source is no bad side, nor is a missing destination.
+    /// Removes the mappings whose source or destination isn't a valid ref name, and lists them, each
+    /// with the invalid side; both lists are in order. A valid ref name is `HEAD`, or begins `refs/`
+    /// and passes `name_partial`. An id as source is valid, and so is a missing destination.
     ///
-    /// A server may call a ref `refs/heads/../../x`. After this call each destination is a path below
-    /// `refs/`, or `HEAD`. May be called before `validated` or after it.
+    /// A server may advertise `refs/heads/../../x`. After this call each destination is a path below
+    /// `refs/`, or `HEAD`. May be called before `validated` or after it; before, so that invalid names
+    /// cause no conflicts.
     ///
-    /// Fails if memory runs out; never if no mapping has to be removed. The error holds the outcome as
-    /// before.
+    /// Fails if memory runs out; never if no mapping has to be removed. The error holds the unchanged
+    /// outcome.
     pub fn without_invalid_names(
         mut self,
         alloc: Global,
@@ -90,7 +91,7 @@ impl<'spec, 'item> match_lhs::Outcome<'spec, 'item> {
     }
 }
 
-// Copies of the mappings of which a side is no name of a ref, in order.
+// Copies of the mappings with an invalid ref name, in order.
 fn invalid_mappings<'a, 'b>(
     alloc: Global,
     mappings: &[Mapping<'a, 'b>],
@@ -113,14 +114,14 @@ fn invalid_mappings<'a, 'b>(
     Ok(bad)
 }
 
-// Whether each side of a mapping is a name of a ref, as far as it is a name.
+// Whether neither side of a mapping is an invalid ref name.
 fn has_ref_names(mapping: &Mapping<'_, '_>) -> bool
     ensures { IsTrue result ↔ HasRefNames (mapped_of mapping.now) }
 {
     invalid_side(mapping).is_none()
 }
 
-// The side of a mapping that is no name of a ref.
+// The side of a mapping that isn't a valid ref name. `None` if both sides are valid.
 fn invalid_side(mapping: &Mapping<'_, '_>) -> Option<InvalidSide>
     ensures { MatchOption result
         (HasRefNames (mapped_of mapping.now)) (λ side. IsInvalidAt side (mapped_of mapping.now)) }

@@ -1,4 +1,4 @@
-//! Groups of specs, and what matching them gives.
+//! Groups of specs, and the outcomes of matching them.
 
 ghost use Rattle.std.specs.Prelude.{◌≡◌, [], Some, IfOk};
 ghost use Rattle.gix_refspec_match.specs.Views.Mapping.{AreMappingCopies};
@@ -9,7 +9,6 @@ use gix_refspec_text::parsing::Operation;
 use std::alloc::{AllocError, Global};
 use std::{error, fmt};
 
-// Copies of mappings, in order.
 fn clone_all<'a, 'b>(
     alloc: Global,
     mappings: &[Mapping<'a, 'b>],
@@ -24,7 +23,7 @@ fn clone_all<'a, 'b>(
 }
 
 /// Specs that are matched together: their order is that of the mappings, and the negative ones exclude
-/// what any other maps.
+/// mappings of all others.
 #[derive(Debug, Drop)]
 pub struct MatchGroup<'a> {
     /// The specs, in order.
@@ -35,7 +34,7 @@ impl<'a> MatchGroup<'a> {
     ghost use Rattle.std.specs.Iterator.{IsFiniteIterable};
     ghost use Rattle.gix_refspec.specs.Views.Group.{IsGathered};
 
-    /// A group of no specs. Allocates nothing.
+    /// An empty group. Allocates nothing.
     pub fn new(alloc: Global) -> Self
         ensures { result.specs.items ≡ [] }
     {
@@ -44,9 +43,8 @@ impl<'a> MatchGroup<'a> {
         }
     }
 
-    /// The fetch specs among these, in order. Requires an iterator that ends, and that may be asked for
-    /// its next item until then, as those of `std` may. Fails if memory runs out, and then the iterator
-    /// is dropped.
+    /// The fetch specs among these, in order. Requires a finite iterator whose `next` may be called
+    /// until it ends, like those of `std`. Fails if memory runs out, and then the iterator is dropped.
     pub fn from_fetch_specs<I>(alloc: Global, specs: I) -> Result<Self, AllocError>
     where
         I: IntoIterator<Item = RefSpecRef<'a>>,
@@ -69,7 +67,7 @@ impl<'a> MatchGroup<'a> {
         Self::of(alloc, Operation::Push, specs)
     }
 
-    // The specs of an operation among these, in order.
+    // The specs for an operation among these, in order.
     fn of<I: IntoIterator<Item = RefSpecRef<'a>>>(
         alloc: Global,
         operation: Operation,
@@ -99,7 +97,7 @@ impl<'a> MatchGroup<'a> {
     }
 }
 
-/// Memory ran out while a group was matched. The group is returned as it was.
+/// Memory ran out while a group was matched. Holds the unchanged group.
 #[derive(Debug, Drop)]
 pub struct NoRoom<'a> {
     /// The group that was to be matched.
@@ -119,7 +117,7 @@ impl<'a> fmt::Display for NoRoom<'a> {
 impl<'a> error::Error for NoRoom<'a> {}
 
 /// A group, and its mappings: from left to right if `FORWARD` is true, otherwise from right to left. So
-/// the outcomes of the two directions are two types.
+/// the outcomes of the two directions have different types.
 #[derive(Debug, Drop)]
 pub struct Outcome<'spec, 'lhs, 'rhs, const FORWARD: bool> {
     /// The group that was matched.
@@ -143,7 +141,7 @@ impl<'spec, 'lhs, 'rhs, const FORWARD: bool> Outcome<'spec, 'lhs, 'rhs, FORWARD>
     }
 }
 
-/// What matching the left sides of specs gives.
+/// The results of matching by left sides.
 pub mod match_lhs {
     use super::NoRoom;
 
@@ -155,7 +153,7 @@ pub mod match_lhs {
     pub type Result<'spec, 'item> = std::result::Result<Outcome<'spec, 'item>, NoRoom<'spec>>;
 }
 
-/// What matching the right sides of specs gives.
+/// The results of matching by right sides.
 pub mod match_rhs {
     use super::NoRoom;
 

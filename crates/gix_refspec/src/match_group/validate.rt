@@ -19,7 +19,7 @@ use gix_refspec_text::{RefSpec, RefSpecRef};
 use std::alloc::{AllocError, Global};
 use std::{error, fmt};
 
-/// Why mappings can't be written. From `validated` it has at least one issue.
+/// Why mappings can't be written. An error of `validated` has at least one issue.
 #[derive(Debug, Drop)]
 pub struct Error {
     /// The issues, in the byte order of their destinations.
@@ -55,7 +55,7 @@ impl error::Error for Error {}
 pub enum Issue {
     /// Several sources are mapped to one destination, even if they have the same object.
     Conflict {
-        /// The destination. It need be no full name: a pattern's may be `foo/x`.
+        /// The destination. It need not be a full name: that of a pattern may be `foo/x`.
         destination_full_ref_name: BString,
         /// The sources, in the order of their first mappings to the destination.
         sources: Vec<Source>,
@@ -115,7 +115,7 @@ impl Fix {
 pub enum Refusal<'spec, 'item> {
     /// The mappings can't be written. The outcome is dropped.
     Conflicts(Error),
-    /// Memory ran out. The outcome is returned as it was.
+    /// Memory ran out. Holds the unchanged outcome.
     Memory(match_lhs::Outcome<'spec, 'item>),
 }
 
@@ -148,19 +148,21 @@ impl<'spec, 'item> match_lhs::Outcome<'spec, 'item> {
     }
 
     /// Removes the mappings whose destination neither begins `refs/` nor is `HEAD`, and lists them as
-    /// fixes; both lists are in order. Mappings without a destination are kept. That a destination
-    /// below `refs/` is the name of a ref isn't checked: `without_invalid_names` does that.
+    /// fixes; both lists are in order. Mappings without a destination are kept. Whether a destination
+    /// below `refs/` is a valid ref name isn't checked: `without_invalid_names` does that.
     ///
-    /// Requires that the spec of each mapping is one of the group. So it is in what `match_lhs` returns,
-    /// by the law [`forward_fits`](crate::laws::forward_fits), and in what `without_invalid_names` keeps of
-    /// that, by [`writes_refs`](crate::laws::writes_refs). Of any other outcome `indexes_fit` tells.
+    /// Requires that the spec of each mapping is one of the group. That holds for what `match_lhs`
+    /// returns, by the law [`forward_fits`](crate::laws::forward_fits), and for what
+    /// `without_invalid_names` keeps of that, by [`writes_refs`](crate::laws::writes_refs). For any
+    /// other outcome `indexes_fit` checks it.
     ///
     /// Fails with `Conflicts` if several sources are mapped to one destination, even if that would be
     /// removed. There is an issue for each such destination, in the byte order of the destinations. It
     /// lists each source once, in the order of their first mappings to this destination, with the
     /// canonical text of the spec of that mapping. The outcome is dropped.
     ///
-    /// Fails with `Memory` if memory runs out; never without mappings. It holds the outcome as before.
+    /// Fails with `Memory` if memory runs out; never without mappings. The error holds the unchanged
+    /// outcome.
     pub fn validated(
         mut self,
         alloc: Global,
@@ -220,7 +222,7 @@ fn fixes_of(
     Ok(fixes)
 }
 
-// Whether a mapping survives.
+// Whether a mapping has no destination, or one that can be written.
 fn survives(mapping: &Mapping<'_, '_>) -> bool
     ensures { IsTrue result ↔ Survives (mapped_of mapping.now) }
 {

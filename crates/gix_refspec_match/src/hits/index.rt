@@ -22,10 +22,10 @@ use crate::types::{Item, NameRef};
 use bstr::BStr;
 use filter::Filter;
 use fronts::FrontIndex;
-use key::Key;
-use partials::PartialIndex;
 use gix_refspec_text::RefSpecRef;
 use gix_refspec_text::side::SideKind;
+use key::Key;
+use partials::PartialIndex;
 use std::alloc::{AllocError, Global};
 use std::collections::HashMap;
 

@@ -2,7 +2,7 @@
 
 use super::mapping::{group_of, items_of};
 use gix_refspec::laws;
-use gix_refspec::match_group::{has_id_destination, Item, Mapping, SourceRef};
+use gix_refspec::match_group::{Item, Mapping, SourceRef, has_id_destination};
 use gix_refspec::oid::ObjectId;
 use gix_refspec::parsing::Operation;
 use std::alloc::{AllocError, Global};
@@ -109,10 +109,19 @@ const BY_NAME: [(&str, bool); 7] = [
     ("refs/heads/a:refs/x/a", true),
     ("refs/heads/a", true),
     ("^refs/heads/a refs/heads/*:refs/x/*", true),
-    ("aaaaaaaaaaaaaaaaaaaaaaaaaaaaaaaaaaaaaaaa:refs/heads/a", true),
+    (
+        "aaaaaaaaaaaaaaaaaaaaaaaaaaaaaaaaaaaaaaaa:refs/heads/a",
+        true,
+    ),
     ("refs/heads/a:aaaaaaaaaaaaaaaaaaaaaaaaaaaaaaaaaaaaaaa", true),
-    ("refs/heads/a:aaaaaaaaaaaaaaaaaaaaaaaaaaaaaaaaaaaaaaaa", false),
-    ("refs/heads/b:refs/x/b +refs/heads/a:AAAAAAAAAAAAAAAAAAAAAAAAAAAAAAAAAAAAAAAA", false),
+    (
+        "refs/heads/a:aaaaaaaaaaaaaaaaaaaaaaaaaaaaaaaaaaaaaaaa",
+        false,
+    ),
+    (
+        "refs/heads/b:refs/x/b +refs/heads/a:AAAAAAAAAAAAAAAAAAAAAAAAAAAAAAAAAAAAAAAA",
+        false,
+    ),
 ];
 
 #[test]

@@ -166,7 +166,9 @@ fn recognises_ref_names(rt: HostRuntime) {
 #[test]
 fn compares_bad_sides_and_prints_the_refusal(rt: HostRuntime) -> Result<(), Fail> {
     let alloc = rt.alloc();
-    assert!(&rt; InvalidSide::Both == InvalidSide::Both && InvalidSide::Source != InvalidSide::Destination);
+    assert!(&rt;
+        InvalidSide::Both == InvalidSide::Both && InvalidSide::Source != InvalidSide::Destination
+    );
     let mut mappings = Vec::new(alloc);
     mappings.push(Mapping {
         item_index: None,

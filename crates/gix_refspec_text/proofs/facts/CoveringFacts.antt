@@ -20,7 +20,7 @@ below_heads = of_pattern (codes "refs/heads/") [] (split_at_end (codes "refs/hea
   last = tt;
 }) refl
 
--- a pattern below `refs/heads/`, a full name and a partial one are covering
+-- a pattern that begins with `refs/heads/`, a full name and a partial one are covering
 pub covering : IsCovering (codes "refs/heads/*") × IsCovering (codes "refs/heads/main") × IsCovering (codes "main")
 covering = (
   by_prefix (codes "refs/heads/") (record { after = codes "heads/*"; here = refl }) below_heads,
@@ -28,7 +28,7 @@ covering = (
   by_candidates short_kind.1 (other_byte 0 (codes "main") (codes "HEAD") (λ same. omega (arith, same))) short_kind.2,
 )
 
--- `HEAD` isn't, nor are all names, nor all those below `refs/`
+-- `HEAD`, `*` and `refs/*` aren't
 pub not_covering : ¬ (IsCovering (codes "HEAD")) × ¬ (IsCovering (codes "*")) × ¬ (IsCovering (codes "refs/*"))
 not_covering = (no_head, no_star, no_refs)
   where
@@ -49,7 +49,7 @@ not_covering = (no_head, no_star, no_refs)
     no_refs (by_prefix p begins prefix) = no_prefix p prefix
     no_refs (by_candidates lacks other outside) = Lacks-here star (codes "refs/") [] lacks
 
--- a negative spec asks for nothing; a push isn't covering, whatever its source
+-- a negative spec and a partial name have a covering source; a push never has one, whatever its source
 pub covering_sources : HasCoveringSource no_dev × HasCoveringSource short × ¬ (HasCoveringSource (pushed Normal (Some (codes "main")) None))
 covering_sources = (
   record { fetch = refl; source = λ x asked. absurd asked.positive },

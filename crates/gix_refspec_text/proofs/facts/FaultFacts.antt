@@ -1,5 +1,5 @@
--- The faults of names, each at a text that has it and at a like one that has not: where a word is in a
--- text, and which of its components it is in.
+-- The faults of ref names, each with a text that has it and a similar one that hasn't: which words a text contains,
+-- and in which of its components.
 use Rattle.std.proofs.Common.{◌≡◌, ◌≢◌, ℕ, Bool, true, false, ◌==◌, ◌||◌, nat_eq, List, [], ◌∷◌, ◌++◌, codes, refl, sym, ap, ◌∙◌, subst}
 use Rattle.std.specs.List.{All, AllByRecursion, starts_with, ends_with, slice_split, join_with_byte, list_any}
 use Rattle.std.proofs.lemmas.List.Elements.{All-nil, All-cons}
@@ -14,14 +14,14 @@ use Rattle.gix_refspec_text.specs.Texts.Bytes.{slash}
 use Rattle.gix_refspec_text.proofs.lemmas.texts.ComponentLemmas.{AllByRecursion-parts}
 use Rattle.gix_refspec_text.proofs.facts.ManualFacts.{Lacks-tested, full}
 
--- a text doesn't begin or end with a word, nor hold it, by tests that compute
+-- a text doesn't begin with a word, end with it or contain it, by tests that compute
 pub begins_not : (w x : List ℕ) → starts_with nat_eq x w ≡ false → ¬ (BeginsWith w x)
 begins_not w x none begins = true≢false (sym ((starts_is Decides-eqb x w (starts_with nat_eq x w) refl).1 begins.after begins.here) ∙ none)
 
 pub ends_not : (w x : List ℕ) → ends_with nat_eq x w ≡ false → ¬ (EndsWith w x)
 ends_not w x none ends = true≢false (sym ((ends_is Decides-eqb x w (ends_with nat_eq x w) refl).1 ends.before ends.here) ∙ none)
 
--- whether a word is in a text
+-- whether a text contains a word
 abbrev pub holds : List ℕ → List ℕ → Bool
 holds w [] = starts_with nat_eq [] w
 holds w (b ∷ x) = starts_with nat_eq (b ∷ x) w || holds w x
@@ -58,7 +58,7 @@ split_joined : (p : List ℕ) (ps : List (List ℕ)) → AllByRecursion (Lacks s
 split_joined p [] lack = slice_split_none (λ c. c == slash) p (no_slash p lack.0)
 split_joined p (q ∷ ps) lack = slice_split_at (λ c. c == slash) p slash (join_with_byte slash (q ∷ ps)) (no_slash p lack.0) refl ∙ ap (λ l. p ∷ l) (split_joined q ps lack.1)
 
--- what holds of no word between slashes holds of no component
+-- if no word between slashes satisfies P, no component does
 pub no_component : (P : List ℕ → Type 0) (x : List ℕ) → AllByRecursion (λ w. ¬ (P w)) (slice_split (λ c. c == slash) x) → ¬ (SomeComponent P x)
 no_component P x none some =
     let parts = some.before ++ (some.component ∷ some.after) in
@@ -70,7 +70,7 @@ no_component P x none some =
     split_at_one [] w qs lack = split_joined w qs lack
     split_at_one (p ∷ ps) w qs lack = split_joined p (ps ++ (w ∷ qs)) lack
 
--- the word between `a/` and the end, or the one in front
+-- a component w after `a/`, or before `/a`
 pub after_a : (P : List ℕ → Type 0) (w : List ℕ) → list_any (λ c. c == slash) w ≡ false → P w → SomeComponent P (codes "a/" ++ w)
 after_a P w none fact = record { before = codes "a" ∷ []; component = w; after = []; components = record { joined = refl; whole = (Lacks-tested slash (codes "a") refl, (Lacks-tested slash w none, tt)) }; fact = fact }
 
@@ -83,7 +83,7 @@ before_a P w none fact = record { before = []; component = w; after = codes "a" 
 pub just_empty : HasFault [] Empty × ¬ (HasFault (codes "/") Empty)
 just_empty = (refl, full slash [])
 
--- a slash at the front, at the end, or after another one leaves an empty component, but the empty text has none such
+-- a slash that is first, last, or after another one leaves an empty component; the empty text doesn't count as one
 pub empty_components : HasFault (codes "/a") EmptyComponent × HasFault (codes "a/") EmptyComponent × HasFault (codes "a//a") EmptyComponent × ¬ (HasFault (codes "a/b") EmptyComponent) × ¬ (HasFault [] EmptyComponent)
 empty_components = (
   (full _ _, before_a (λ w. w ≡ []) [] refl refl),
@@ -93,7 +93,7 @@ empty_components = (
   λ fault. fault.0 refl,
 )
 
--- a dot begins the first component, or the last one, but not where it is within
+-- a dot at the start of the first component or of the last one, but not within or at the end of one
 pub dots_first : HasFault (codes ".b/a") StartsWithDot × HasFault (codes "a/.b") StartsWithDot × ¬ (HasFault (codes "a./b.c") StartsWithDot)
 dots_first = (
   before_a (BeginsWith (codes ".")) (codes ".b") refl (record { after = codes "b"; here = refl }),
@@ -101,7 +101,7 @@ dots_first = (
   no_component (BeginsWith (codes ".")) (codes "a./b.c") (begins_not (codes ".") (codes "a.") refl, (begins_not (codes ".") (codes "b.c") refl, tt)),
 )
 
--- `.lock` ends the first component, or the last one, but not where it is within, or without its dot
+-- `.lock` at the end of the first component or of the last one, but not within one, or without its dot
 pub locks : HasFault (codes "b.lock/a") LockSuffix × HasFault (codes "a/b.lock") LockSuffix × HasFault (codes "a/.lock") LockSuffix × ¬ (HasFault (codes "a.lock.b/block") LockSuffix)
 locks = (
   before_a (EndsWith (codes ".lock")) (codes "b.lock") refl (record { before = codes "b"; here = refl }),
@@ -114,19 +114,19 @@ locks = (
 pub dots_last : HasFault (codes "a/b.") EndsWithDot × ¬ (HasFault (codes "a./b") EndsWithDot)
 dots_last = (record { before = codes "a/b"; here = refl }, ends_not (codes ".") (codes "a./b") refl)
 
--- two dots in a row anywhere, and not apart
+-- two dots in a row anywhere, but not apart
 pub dots_side_by_side : HasFault (codes "..a") RepeatedDot × HasFault (codes "a/b..") RepeatedDot × ¬ (HasFault (codes "a.b.c./.d") RepeatedDot)
 dots_side_by_side = (record { before = []; after = codes "a"; here = refl }, record { before = codes "a/b"; after = []; here = refl }, holds_not (codes "..") (codes "a.b.c./.d") refl)
 
--- `@` right before a brace, and not apart, alone or after it
+-- `@` right before a brace, but not apart, alone or after it
 pub reflog_portions : HasFault (codes "@{1}") ReflogPortion × ¬ (HasFault (codes "@a{/{@/@") ReflogPortion)
 reflog_portions = (record { before = []; after = codes "1}"; here = refl }, holds_not (codes "@{") (codes "@a{/{@/@") refl)
 
--- a star anywhere, and several as one
+-- one star or several, anywhere
 pub star_faults : HasFault (codes "*a") Asterisk × HasFault (codes "a*/*") Asterisk × HasStar (codes "a*b") × ¬ (HasStar (codes "a+b")) × ¬ (HasFault [] Asterisk)
 star_faults = (record { before = []; after = codes "a"; here = refl }, record { before = codes "a"; after = codes "/*"; here = refl }, record { before = codes "a"; after = codes "b"; here = refl }, holds_not (codes "*") (codes "a+b") refl, holds_not (codes "*") [] refl)
 
--- a refused byte of the text, no other one, and no other byte of the text
+-- a refused byte that the text contains, but no other refused byte, and no other byte of the text
 pub byte_faults : HasFault (codes "a b") (InvalidByte 32) × HasFault (codes "a~:") (InvalidByte 58) × ¬ (HasFault (codes "a b") (InvalidByte 58)) × ¬ (HasFault (codes "a b") (InvalidByte 97))
 byte_faults = (
   (record { before = codes "a"; after = codes "b"; here = refl }, refl),

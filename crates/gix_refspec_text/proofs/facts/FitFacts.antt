@@ -1,4 +1,4 @@
--- The words on the sides of specs, and the readings and names that other examples use.
+-- The definitions on sides of specs, and the readings and names that other examples use.
 use Rattle.std.proofs.Common.{◌≡◌, ◌≢◌, ℕ, zero, suc, ◌==◌, false, List, [], ◌∷◌, ◌++◌, None, Some, length, get_or, codes, refl, ap, ◌∙◌, subst, arith}
 use Rattle.std.specs.List.{AllByRecursion, Contains, list_any}
 use Rattle.std.proofs.lemmas.List.{length-append}
@@ -18,35 +18,35 @@ use Rattle.gix_refspec_text.proofs.facts.ManualFacts.{Lacks-tested, other_length
 use Rattle.gix_refspec_text.proofs.facts.ObjectIdFacts.{empty_blob, IsIdText-empty_blob, lower_of-empty_blob}
 use Rattle.gix_refspec_text.proofs.lemmas.lists.LacksLemmas.{Lacks-here}
 
--- texts that differ at a place differ
+-- texts that differ at an index differ
 pub other_byte : (k : ℕ) (x y : List ℕ) → get_or x k 0 ≢ get_or y k 0 → x ≢ y
 other_byte k x y differ same = differ (ap (λ (z : List ℕ). get_or z k 0) same)
 
--- what doesn't begin so at its first byte
+-- a text with another first byte doesn't begin with `refs/`
 pub other_first : (b : ℕ) (x : List ℕ) → b ≢ 114 → ¬ (BeginsWith (codes "refs/") (b ∷ x))
 other_first b x differ begins = other_byte 0 (b ∷ x) (codes "refs/" ++ begins.after) differ begins.here
 
 pub push_is_none : Push ≢ Fetch
 push_is_none same = cc
 
--- what holds of each element holds of one that is there
+-- what holds for each element of a list holds for an element that it contains
 pub of_element : {X : Type 0} (P : X → Type 0) (xs : List X) (x : X) → AllByRecursion P xs → Contains xs x → P x
 of_element P [] x all (k, below, is) = absurd (omega (arith, below))
 of_element P (y ∷ ys) x all (zero, below, is) = subst P is all.0
 of_element P (y ∷ ys) x all (suc k, below, is) = of_element P ys x all.1 (k, omega (arith, below), is)
 
--- a word is between the ends of a pattern, which never overlap
+-- a word lies between the prefix and the suffix of a pattern, which never overlap
 pub fitting : Fits (codes "refs/heads/") [] (codes "refs/heads/main") (codes "main") × Fits (codes "refs/heads/a") (codes "a") (codes "refs/heads/aa") []
 fitting = (refl, refl)
 
 pub ends_apart : (word : List ℕ) → ¬ (Fits (codes "a") (codes "a") (codes "a") word)
 ends_apart word fits = let size : 1 ≡ suc (length (word ++ codes "a")) = ap length fits in omega (arith, size, length-append word (codes "a"))
 
--- what is before the star of a pattern, and after it
+-- a pattern that ends with its only star
 pub split_at_end : (before : List ℕ) → list_any (λ c. c == star) before ≡ false → IsSplit before [] (before ++ codes "*")
 split_at_end before none = record { starred = refl; first = Lacks-tested star before none; last = tt }
 
--- a negative spec excludes the name that it is, and none that this is short for
+-- a negative spec excludes exactly its name, and not a full name that it may be short for
 pub excludes_name : Excludes (codes "refs/heads/wip") (codes "refs/heads/wip") × ¬ (Excludes (codes "wip") (codes "refs/heads/wip"))
 excludes_name = (the_name (Lacks-tested star (codes "refs/heads/wip") refl) refl, no_candidate)
   where
@@ -54,7 +54,7 @@ excludes_name = (the_name (Lacks-tested star (codes "refs/heads/wip") refl) refl
     no_candidate (the_name lacks same) = other_length _ _ (λ length_same. omega (arith, length_same)) same
     no_candidate (by_pattern before after word split fits) = lacks_no_pattern (codes "wip") before after (Lacks-tested star (codes "wip") refl) split
 
--- a pattern excludes the names that it fits, and no other
+-- a pattern excludes the names that it matches, and no others
 pub excludes_dev : Excludes (codes "refs/heads/dev-*") (codes "refs/heads/dev-a")
 excludes_dev = by_pattern (codes "refs/heads/dev-") [] (codes "a") (split_at_end (codes "refs/heads/dev-") refl) refl
 
@@ -72,7 +72,7 @@ every = fetched Forced (codes "refs/heads/*") (Some (codes "refs/remotes/origin/
 abbrev pub no_dev : Reading
 no_dev = fetched Negative (codes "refs/heads/dev-*") None
 
--- the names of what the other side has
+-- the refs of the examples
 abbrev pub dev_ref : Ref
 dev_ref = named (codes "refs/heads/dev-a")
 
@@ -92,7 +92,7 @@ origin_split = split_at_end (codes "refs/remotes/origin/") refl
 abbrev pub short : Reading
 short = fetched Normal (codes "main") None
 
--- the blob of no bytes by its id, and a tag that it becomes
+-- the empty blob by its id, and a tag as its destination
 abbrev pub blob : Reading
 blob = fetched Normal (codes "e69de29bb2d1d6434b8b29ae775ad8c2e48c5391") (Some (codes "refs/tags/blob"))
 

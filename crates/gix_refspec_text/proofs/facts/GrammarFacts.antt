@@ -1,4 +1,4 @@
--- The words of the grammar, and each of its thirteen forms at texts like those of git-fetch(1) and
+-- The definitions of the grammar, and each of its thirteen forms at texts like those of git-fetch(1) and
 -- git-push(1), with `+` and without.
 use Rattle.std.proofs.Common.{◌≡◌, ◌≢◌, ◌<◌, ℕ, ◌==◌, ◌||◌, Bool, true, false, List, [], ◌∷◌, ◌++◌, Option, None, Some, unwrap_or, length, codes, refl, ap, inl, inr, arith}
 use Rattle.std.specs.Prelude.{replicate}
@@ -26,7 +26,7 @@ use Rattle.gix_refspec_text.proofs.lemmas.lists.LacksLemmas.{Lacks-here}
 
 -- ---- texts and their parts
 
--- the first byte is read as a sign where there is to be none
+-- whether the first byte is a sign, although the mode has none
 abbrev pub begins_signed : Mode → List ℕ → Bool
 begins_signed Normal (b ∷ rest) = b == plus || b == caret
 begins_signed mode rest = false
@@ -46,17 +46,17 @@ last_tested : (s : List ℕ) (d : Option (List ℕ)) → list_any (λ c. c == co
 last_tested s None none = Lacks-tested colon s none
 last_tested s (Some d) none = Lacks-tested colon d none
 
--- a text has these parts where tests find no sign and no colon too many
+-- a text has these parts if tests find no further sign and no further colon
 pub parts : (mode : Mode) (s : List ℕ) (d : Option (List ℕ)) → begins_signed mode (with_colon s d) ≡ false → list_any (λ c. c == colon) (unwrap_or d s) ≡ false → AreParts mode s d (with_sign mode (with_colon s d))
 parts mode s d unsigned last = record { signed = signed_tested mode (with_colon s d) unsigned; last = last_tested s d last }
 
 -- ---- the words of the forms
 
--- `+` and `^` are signs at the front alone
+-- `+` and `^` are signs only as the first byte
 pub unsigned : IsUnsigned [] × IsUnsigned (codes "a+^") × ¬ (IsUnsigned (codes "+a")) × ¬ (IsUnsigned (codes "^a"))
 unsigned = (tt, (no_sign 97 (codes "+^") refl refl).1, (λ none. none.0 refl), (λ none. none.1 refl))
 
--- each sign is taken off once, and none is left where there is to be none
+-- a sign is stripped once, and a text without a sign has no sign to strip
 pub signed : IsSigned Normal (codes "a") (codes "a") × IsSigned Forced (codes "++a") (codes "+a") × IsSigned Negative (codes "^+a") (codes "+a") × ¬ (IsSigned Normal (codes "+a") (codes "+a")) × ¬ (IsSigned Forced (codes "++a") (codes "a")) × ¬ (IsSigned Negative (codes "+a") (codes "a"))
 signed = (
   no_sign 97 [] refl refl,
@@ -67,23 +67,23 @@ signed = (
   (λ of. other_byte 0 (codes "+a") (codes "^a") (λ same. omega (arith, same)) of),
 )
 
--- no sign and `+` are positive, and `^` isn't
+-- a spec with `+` or without a sign is positive, and one with `^` isn't
 pub positive : IsPositive Normal × IsPositive Forced × ¬ (IsPositive Negative)
 positive = (tt, tt, λ none. none)
 
--- a colon is before a destination, be it empty, and not without one
+-- a colon comes before a destination, even an empty one, and is missing without one
 pub colons : (with_colon (codes "a") None ≡ codes "a") × (with_colon (codes "a") (Some []) ≡ codes "a:") × (with_colon (codes "a:b") (Some (codes "c")) ≡ codes "a:b:c")
 colons = (refl, refl, refl)
 
--- what is last has no colon; what is before it may
+-- the last word contains no colon; the one before it may
 pub last_lacks_colon : LastLacksColon (codes "a:b") (Some (codes "c")) × LastLacksColon (codes "a") None × ¬ (LastLacksColon (codes "a:b") None) × ¬ (LastLacksColon (codes "a") (Some (codes "b:c")))
 last_lacks_colon = (Lacks-tested colon (codes "c") refl, Lacks-tested colon (codes "a") refl, Lacks-here colon (codes "a") (codes "b"), Lacks-here colon (codes "b") (codes "c"))
 
--- so a text is cut at its last colon, and at no other
+-- so a text is split at its last colon, and at no other
 pub split_at_last_colon : AreParts Normal (codes "a:b") (Some (codes "c")) (codes "a:b:c") × ¬ (AreParts Normal (codes "a") (Some (codes "b:c")) (codes "a:b:c")) × ¬ (AreParts Normal (codes "a:b:c") None (codes "a:b:c"))
 split_at_last_colon = (parts Normal (codes "a:b") (Some (codes "c")) refl refl, (λ of. last_lacks_colon.3 of.last), (λ of. Lacks-here colon (codes "a:b") (codes "c") of.last))
 
--- `@` isn't short for `HEAD` in a longer word, nor is another byte alone, or nothing
+-- `@` isn't short for `HEAD` in a longer word; nor is any other single byte, or the empty text
 pub at_signs : (named_by (codes "@@") ≡ codes "@@") × (named_by (codes "a@") ≡ codes "a@") × (named_by (codes "a") ≡ codes "a") × (named_by [] ≡ [])
 at_signs = (refl, refl, refl, refl)
 
@@ -105,7 +105,7 @@ no_pattern x none pattern = Lacks-ContainsText star x (Lacks-tested star x none)
 no_name_with_star : (x : List ℕ) → IsPattern x → ¬ (IsName x)
 no_name_with_star x pattern name = name Asterisk (HasStar-pattern x pattern)
 
--- a name, a pattern, and what is neither
+-- a name, a pattern, and a text that is neither
 pub names_and_patterns : IsNameOrPattern (codes "b") × IsNameOrPattern (codes "a*") × ¬ (IsNameOrPattern (codes "a b"))
 names_and_patterns = (inl b_name, inr a_star, neither)
   where
@@ -128,7 +128,7 @@ alike = (inl (b_name, b_name), inr (a_star, a_star), pattern_first, name_first)
 no_digit : ¬ (LooksLikeObjectHash (codes "g" ++ replicate 39 letter))
 no_digit hash = false≢true (list_all-from_AllPass is_ascii_hexdigit (codes "g" ++ replicate 39 letter) hash.digits)
 
--- 40 hex digits and more look like an id, in either case; 40 letters of which one is no digit don't
+-- 40 hex digits and more look like an id, in either case; 40 bytes of which one isn't a hex digit don't
 pub hashes : LooksLikeObjectHash (replicate 40 letter) × LooksLikeObjectHash (replicate 41 65) × ¬ (LooksLikeObjectHash (codes "g" ++ replicate 39 letter))
 hashes = (
   record { long = omega (arith, length-replicate 40 letter); digits = AllPass-from_list_all is_ascii_hexdigit (replicate 40 letter) refl },
@@ -138,7 +138,7 @@ hashes = (
 
 -- ---- forms of a fetch
 
--- nothing named, with and without a sign and a colon, is `HEAD`
+-- an empty source, with and without a sign and a colon, is `HEAD`
 pub fetches_head : Reads Fetch [] (fetched Normal (codes "HEAD") None) × Reads Fetch (codes "+") (fetched Forced (codes "HEAD") None) × Reads Fetch (codes ":") (fetched Normal (codes "HEAD") None) × Reads Fetch (codes "+:") (fetched Forced (codes "HEAD") None)
 fetches_head = (
   fetches_nothing_named Normal refl tt (parts Normal [] None refl refl) refl,
@@ -172,21 +172,21 @@ updates_names = (updates_name Normal (codes "main") (codes "refs/x/b") tt refl r
 pub updates_patterns : Reads Fetch (codes "refs/heads/*:refs/x/*") (fetched Normal (codes "refs/heads/*") (Some (codes "refs/x/*")))
 updates_patterns = updates Normal (codes "refs/heads/*") (codes "refs/x/*") refl tt (parts Normal (codes "refs/heads/*") (Some (codes "refs/x/*")) refl refl) (inr (IsPattern-tested (codes "refs/heads/") [] refl refl refl, IsPattern-tested (codes "refs/x/") [] refl refl refl)) refl
 
--- a destination alone gets `HEAD`
+-- the source of a destination alone is `HEAD`
 pub updates_x : Reads Fetch (codes ":refs/heads/x") (fetched Normal (codes "HEAD") (Some (codes "refs/heads/x"))) × Reads Fetch (codes "+:refs/heads/x") (fetched Forced (codes "HEAD") (Some (codes "refs/heads/x")))
 updates_x = (
   updates_from_head Normal (codes "refs/heads/x") refl tt (parts Normal [] (Some (codes "refs/heads/x")) refl refl) (IsName-tested (codes "refs/heads/x") refl) refl,
   updates_from_head Forced (codes "refs/heads/x") refl tt (parts Forced [] (Some (codes "refs/heads/x")) refl refl) (IsName-tested (codes "refs/heads/x") refl) refl,
 )
 
--- a text of less than 40 bytes looks like no id
+-- a text of less than 40 bytes doesn't look like an id
 short_text : (x : List ℕ) → length x < 40 → ¬ (LooksLikeObjectHash x)
 short_text x short hash = omega (arith, short, hash.long)
 
 fetch_excludes_name : (s : List ℕ) → list_any (λ c. c == colon) s ≡ false → is_suspect slash s ≡ false → ¬ (LooksLikeObjectHash s) → Reads Fetch (caret ∷ s) (fetched Negative (named_by s) None)
 fetch_excludes_name s last sound hash = fetch_excludes s refl (parts Negative s None refl last) (inl (IsName-tested s sound)) hash refl
 
--- a pattern, a name, `@`, a sign that isn't one, and what is nearly an id
+-- a pattern, a name, `@`, a `+` that isn't a sign, and a text that is almost an id
 pub fetches_without : Reads Fetch (codes "^refs/heads/dev-*") (fetched Negative (codes "refs/heads/dev-*") None) × Reads Fetch (codes "^main") (fetched Negative (codes "main") None) × Reads Fetch (codes "^@") (fetched Negative (codes "HEAD") None) × Reads Fetch (codes "^+main") (fetched Negative (codes "+main") None) × Reads Fetch (caret ∷ replicate 39 letter) (fetched Negative (replicate 39 letter) None)
 fetches_without = (
   fetch_excludes (codes "refs/heads/dev-*") refl (parts Negative (codes "refs/heads/dev-*") None refl refl) (inr (IsPattern-tested (codes "refs/heads/dev-") [] refl refl refl)) (short_text (codes "refs/heads/dev-*") (omega arith)) refl,
@@ -201,7 +201,7 @@ fetches_without = (
 push_excludes_name : (s : List ℕ) → list_any (λ c. c == colon) s ≡ false → is_suspect slash s ≡ false → ¬ (LooksLikeObjectHash s) → Reads Push (caret ∷ s) (pushed Negative (Some (named_by s)) None)
 push_excludes_name s last sound hash = push_excludes s refl (parts Negative s None refl last) (inl (IsName-tested s sound)) hash refl
 
--- a name, `@`, and 40 letters of which one is no digit
+-- a name, `@`, and 40 bytes of which one isn't a hex digit
 pub pushes_without : Reads Push (codes "^main") (pushed Negative (Some (codes "main")) None) × Reads Push (codes "^@") (pushed Negative (Some (codes "HEAD")) None) × Reads Push (caret ∷ (codes "g" ++ replicate 39 letter)) (pushed Negative (Some (codes "g" ++ replicate 39 letter)) None)
 pushes_without = (
   push_excludes_name (codes "main") refl refl (short_text (codes "main") (omega arith)),
@@ -245,7 +245,7 @@ pushes_patterns = (pushes_below Normal tt refl, pushes_below Forced tt refl)
 pushes_object : (mode : Mode) (b : ℕ) (s d : List ℕ) → IsPositive mode → begins_signed mode (with_colon (b ∷ s) (Some d)) ≡ false → list_any (λ c. c == colon) d ≡ false → list_any (λ c. c == star) (b ∷ s) ≡ false → is_suspect slash d ≡ false → Reads Push (with_sign mode (with_colon (b ∷ s) (Some d))) (pushed mode (Some (named_by (b ∷ s))) (Some d))
 pushes_object mode b s d positive unsigned last plain sound = pushes_to mode (b ∷ s) d refl positive (parts mode (b ∷ s) (Some d) unsigned last) (full b s) (Lacks-tested star (b ∷ s) plain) (IsName-tested d sound) refl
 
--- what names an object may be a source, even if it is no name, up to the last colon
+-- any expression for an object may be a source, even if it isn't a ref name; it goes up to the last colon
 pub pushes_objects : Reads Push (codes "main~2:refs/heads/x") (pushed Normal (Some (codes "main~2")) (Some (codes "refs/heads/x"))) × Reads Push (codes ":/message:refs/heads/x") (pushed Normal (Some (codes ":/message")) (Some (codes "refs/heads/x"))) × Reads Push (codes "+^a..b:x") (pushed Forced (Some (codes "^a..b")) (Some (codes "x"))) × Reads Push (codes "@:@") (pushed Normal (Some (codes "HEAD")) (Some (codes "@"))) × Reads Push (codes "::x") (pushed Normal (Some (codes ":")) (Some (codes "x")))
 pushes_objects = (
   pushes_object Normal 109 (codes "ain~2") (codes "refs/heads/x") tt refl refl refl refl,
@@ -273,7 +273,7 @@ no_destination_read = (
   no_other Fetch (codes "main:") _ _ fetches_main_colon.0 (other_destination _ _ (none_some [])),
 )
 
--- `@` isn't read as it is; a sign is no part of a name; and a push isn't cut at its first colon
+-- `@` doesn't stay `@`; a sign isn't part of a name; and a push isn't split at its first colon
 pub no_other_source_read : ¬ (Reads Fetch (codes "@") (fetched Normal (codes "@") None)) × ¬ (Reads Fetch (codes "+main") (fetched Normal (codes "+main") None)) × ¬ (Reads Push (codes ":/message:refs/heads/x") (pushed Normal None (Some (codes "/message:refs/heads/x"))))
 no_other_source_read = (
   no_other Fetch (codes "@") _ _ fetches_main.3 (other_source _ _ (λ same. other_length (codes "HEAD") (codes "@") (λ size. omega (arith, size)) (same_Some _ _ same))),

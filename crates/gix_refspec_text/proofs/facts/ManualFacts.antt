@@ -1,6 +1,5 @@
--- The words on names and refspecs at the examples of git-check-ref-format(1), git-fetch(1) and
--- git-push(1), and at some like them, on both sides of a border, so that a wrong rule in the specs does
--- not check.
+-- The definitions of names and refspecs at the examples of git-check-ref-format(1), git-fetch(1) and git-push(1), and
+-- at similar ones on both sides of a boundary, so that a wrong definition fails here.
 use Rattle.std.proofs.Common.{◌≡◌, ◌≢◌, ◌≤◌, ℕ, ◌==◌, ◌||◌, true, false, List, [], ◌∷◌, ◌++◌, Option, None, Some, map, length, get_or, codes, refl, sym, ap, ◌∙◌, is_some, subst, inl, inr, arith}
 use Rattle.std.specs.Prelude.{replicate}
 use Rattle.std.specs.List.{list_any, filter, range_with_len}
@@ -39,7 +38,7 @@ Lacks-tested b (c ∷ x) none = elim (c == b) as (λ v. (c == b) ≡ v → (v ||
 pub full : (b : ℕ) (bs : List ℕ) → b ∷ bs ≢ []
 full b bs = λ e. cc
 
--- a missing word is no word
+-- a missing word isn't a word
 pub none_some : (x : List ℕ) → None ≢ Some x
 none_some x same = cc
 
@@ -53,7 +52,7 @@ other_length x y differ same = differ (ap length same)
 first_byte : (b c : ℕ) (x : List ℕ) → b ≢ c → b ∷ x ≢ c ∷ x
 first_byte b c x differ same = differ (ap (λ (y : List ℕ). get_or y 0 0) same)
 
--- for the operation, the text reads as what says m
+-- for the operation, the text has a reading with the meaning m
 abbrev Says : Operation → List ℕ → Meaning → Type 0
 Says op text m = (r : Reading) × Reads op text r × (meaning_of r ≡ Some m)
 
@@ -83,7 +82,7 @@ faults = (
   record { before = codes "foo"; after = codes "bar"; here = refl },
 )
 
--- texts that lack the star cut a text at its only one, which the letter may replace
+-- two texts without a star, and a star between them, are a text with exactly one star, which the letter may replace
 pub IsSplit-tested : (before after : List ℕ) → list_any (λ c. c == star) before ≡ false → list_any (λ c. c == star) after ≡ false → IsSplit before after (before ++ (star ∷ after))
 IsSplit-tested before after first last = record { starred = refl; first = Lacks-tested star before first; last = Lacks-tested star after last }
 
@@ -97,7 +96,7 @@ one_star = (ReplacesStar-tested (codes "foo/bar") (codes "/baz") refl refl, Repl
 pub two_stars : HasSeveralStars (codes "foo/bar*/baz*")
 two_stars = record { before = codes "foo/bar"; between = codes "/baz"; after = []; here = refl }
 
--- a text with one star is a pattern where it is a name with the letter for it
+-- a text with one star is a pattern if it is a name with the letter in its place
 pub IsPattern-tested : (before after : List ℕ) → list_any (λ c. c == star) before ≡ false → list_any (λ c. c == star) after ≡ false → is_suspect slash (before ++ (letter ∷ after)) ≡ false → IsPattern (before ++ (star ∷ after))
 IsPattern-tested before after first last sound = record {
   with_letter = before ++ (letter ∷ after);
@@ -112,7 +111,7 @@ every_branch = IsPattern-tested (codes "refs/heads/") [] refl refl refl
 pub at_sign : (named_by (codes "@") ≡ codes "HEAD") × (named_by (codes "HEAD") ≡ codes "HEAD")
 at_sign = (refl, refl)
 
--- a text with another byte first has no sign
+-- a text with another first byte has no sign
 pub no_sign : (b : ℕ) (bs : List ℕ) → (b == plus) ≡ false → (b == caret) ≡ false → IsSigned Normal (b ∷ bs) (b ∷ bs)
 no_sign b bs no_plus no_caret = (refl, (eqb-false b plus no_plus, eqb-false b caret no_caret))
 
@@ -201,7 +200,7 @@ texts = (refl, refl, refl, refl, refl, refl)
 abbrev pub named : List ℕ → Ref
 named n = record { name = n; target = 1 ∷ []; object = None }
 
--- a full name matches the ref of this name alone, and no word stands for a star
+-- a full name matches only the ref with this name, and without a word
 pub full_name_matches : Matches (codes "refs/heads/main") (named (codes "refs/heads/main")) None
 full_name_matches = record {
   kind = full_name (codes "refs/heads/main");
@@ -218,11 +217,11 @@ longer_name_differs matches = other_length _ _ (λ same. omega (arith, same)) ma
 pub shorter_name_differs : ¬ (MatchesAs (full_name (codes "refs/heads/main")) (named (codes "refs/heads/mai")) None)
 shorter_name_differs matches = other_length _ _ (λ same. omega (arith, same)) matches.1
 
--- a tag that points to the first id, of an object with the second
+-- a tag with the first id, of an object with the second
 abbrev tag : Ref
 tag = record { name = codes "refs/tags/v1"; target = 1 ∷ []; object = Some (2 ∷ []) }
 
--- an id matches a ref that points to it, and a tag of what has it, and no other
+-- an id matches a ref that points to it, a tag of the object with this id, and no other ref
 pub id_matches : MatchesAs (object (1 ∷ [])) tag None × MatchesAs (object (2 ∷ [])) tag None
 id_matches = ((refl, inl refl), (refl, inr refl))
 
@@ -230,7 +229,7 @@ pub other_id_differs : ¬ (MatchesAs (object (3 ∷ [])) tag None)
 other_id_differs (none, inl target) = first_byte 1 3 [] (λ same. omega (arith, same)) target
 other_id_differs (none, inr tagged) = first_byte 2 3 [] (λ same. omega (arith, same)) (same_Some _ _ tagged)
 
--- nor does a word stand for a star where an id or a partial name matches
+-- an id and a partial name match without a word, too
 pub others_have_no_word : (word : List ℕ) → ¬ (MatchesAs (object (1 ∷ [])) tag (Some word)) × ¬ (MatchesAs (partial (codes "main")) (named (codes "main")) (Some word))
 others_have_no_word word = (λ matches. some_none word matches.0, λ matches. some_none word matches.0)
 
@@ -239,11 +238,11 @@ pub candidates_of_main : candidates (codes "main")
     ≡ codes "main" ∷ codes "refs/main" ∷ codes "refs/tags/main" ∷ codes "refs/heads/main" ∷ codes "refs/remotes/main" ∷ codes "refs/remotes/main/HEAD" ∷ []
 candidates_of_main = refl
 
--- what is after the star of a pattern has no other star, nor what is before it
+-- neither the text after the star of a pattern nor the text before it has another star
 pub two_stars_no_pattern : ¬ (HasKind (codes "a*b*") (pattern (codes "a") (codes "b*"))) × ¬ (HasKind (codes "a*b*") (pattern (codes "a*b") []))
 two_stars_no_pattern = (λ split. Lacks-here star (codes "b") [] split.last, λ split. Lacks-here star (codes "a") (codes "b") split.first)
 
--- a pattern gets a word for its star, or keeps the star, between what is before and after it
+-- a pattern gets a word for its star, or keeps the star
 pub filled_patterns : (filled (pattern (codes "refs/x/") (codes "/y")) (Some (codes "main")) ≡ codes "refs/x/main/y") × (filled (pattern (codes "refs/x/") (codes "/y")) None ≡ codes "refs/x/*/y")
 filled_patterns = (refl, refl)
 
@@ -260,7 +259,7 @@ reports_the_source = (record { before = codes "a"; between = codes "b"; after = 
 pub reports_no_other : ¬ (IsBadPattern (codes "a*b*") (PatternUnsupported (codes "a*b")))
 reports_no_other bad = other_length _ _ (λ same. omega (arith, same)) bad.1
 
--- a star and then so many letters
+-- a star and n letters
 abbrev starred : ℕ → List ℕ
 starred n = star ∷ replicate n letter
 
@@ -268,13 +267,13 @@ starred n = star ∷ replicate n letter
 pub needs_memory : NeedsMemory (starred 256)
 needs_memory = inr (record { before = []; after = replicate 256 letter; here = refl }, omega (arith, length-replicate 256 letter))
 
--- one with 256 bytes never does
+-- a side with a star and 256 bytes never does
 needs_no_memory : ¬ (NeedsMemory (starred 255))
 needs_no_memory (inl several) =
     HasSeveralStars-replaced (starred 255) (letter ∷ replicate 255 letter) (ReplacesStar-tested [] (replicate 255 letter) refl refl) several
 needs_no_memory (inr (starry, long)) = omega (arith, length-replicate 255 letter, long)
 
--- nor does one of 257 bytes without a star
+-- nor does a side of 257 bytes without a star
 pub long_name_needs_none : ¬ (NeedsMemory (replicate 257 letter))
 long_name_needs_none (inl several) = Lacks-ContainsText star (replicate 257 letter) (Lacks-tested star (replicate 257 letter) refl) (HasStar-stars (replicate 257 letter) several)
 long_name_needs_none (inr (starry, long)) = Lacks-ContainsText star (replicate 257 letter) (Lacks-tested star (replicate 257 letter) refl) starry
@@ -305,7 +304,8 @@ text_needs_no_memory may =
 pub pattern_too_long : IsPatternFault Memory (starred 256) × ¬ (IsPatternFault Memory (starred 255))
 pattern_too_long = (omega (arith, length-replicate 256 letter), λ long. omega (arith, length-replicate 255 letter, long))
 
--- no reason is before the source where there is none like these three
+-- no reason before those of the source applies, if the source isn't empty, a negative spec has no colon, and the
+-- destination isn't empty
 pub before_source : (op : Operation) (mode : Mode) (s : List ℕ) (d : Option (List ℕ)) → s ≢ [] → (mode ≡ Negative → d ≡ None) → d ≢ Some [] → NoReasonBeforeSource op mode s d
 before_source op mode s d not_empty alone somewhere = (
   (λ e empty. not_empty empty.no_source),
@@ -326,7 +326,8 @@ destination_needs_memory = (
     normal_no_negative : Normal ≢ Negative
     normal_no_negative same = cc
 
--- but not after a bad source, nor does the source of a push to nowhere, or of a negative spec with a colon
+-- but not after a bad source; nor may the source of a push to an empty destination, or of a negative spec with a
+-- colon
 pub memory_after_reasons : ¬ (ReachesMemory Fetch Normal (codes "a..b") (Some (codes "c*d*"))) × ¬ (ReachesMemory Push Normal (codes "a*b*") (Some [])) × ¬ (ReachesMemory Fetch Negative (codes "a*b*") (Some (codes "c")))
 memory_after_reasons = (
   (λ reaches. elim reaches.1 [
@@ -342,7 +343,7 @@ memory_after_reasons = (
 
 -- ---- sides of readings
 
--- one side is enough, and it may be either
+-- either side alone is enough
 pub sides : HasSide (pushed Normal (Some (codes "a")) None) × HasSide (pushed Normal None (Some (codes "a"))) × ¬ (HasSide (pushed Normal None None))
 sides = (inl refl, inr refl, none)
   where

@@ -1,5 +1,5 @@
--- The words on meanings, canonical texts, order and reasons at the examples of this project's own
--- rules: what a sign says, which text has one more, and what is before what.
+-- Examples for this project's own rules on meanings, canonical texts, order and reasons: where a sign has a meaning,
+-- which text gets another one, and how instructions compare.
 use Rattle.std.proofs.Common.{◌≡◌, true, false, [], None, Some, codes, refl}
 use Rattle.std.specs.declared.cmp.Ordering.TheVariants.{Less, Equal, Greater}
 use Rattle.gix_refspec_text.specs.declared.parsing.Operation.TheVariants.{Push, Fetch}
@@ -11,7 +11,7 @@ use Rattle.gix_refspec_text.specs.Specs.Order.{order, is_same}
 use Rattle.gix_refspec_text.specs.Specs.Refusal.{Refusal, Empty, NegativeWithDestination, PushToEmpty, PatternUnbalanced, NegativeEmpty, NegativeObjectHash}
 use Rattle.gix_refspec_text.specs.Views.Instruction.{meant_for, IsShownAs}
 
--- a sign says nothing where no ref is moved: in a fetch without a destination, and in a deletion
+-- a sign has no meaning where no ref is updated: in a fetch without a destination, and in a deletion
 pub signs : (meaning_of (fetched Forced (codes "main") None) ≡ Some (fetch_only (codes "main")))
     × (meaning_of (pushed Forced None (Some (codes "x"))) ≡ Some (push_delete (codes "x")))
     × (meaning_of (fetched Forced (codes "a") (Some (codes "b"))) ≡ Some (fetch_and_update (codes "a") (codes "b") true))
@@ -19,7 +19,7 @@ pub signs : (meaning_of (fetched Forced (codes "main") None) ≡ Some (fetch_onl
     × (meaning_of (pushed Normal None None) ≡ Some (push_all_matching false))
 signs = (refl, refl, refl, refl, refl)
 
--- a source alone is pushed to itself, but fetched to nowhere
+-- a source alone is pushed to itself, but fetched without a destination
 pub sources_alone : (meaning_of (pushed Normal (Some (codes "main")) None) ≡ Some (push_matching (codes "main") (codes "main") false))
     × (meaning_of (fetched Normal (codes "main") None) ≡ Some (fetch_only (codes "main")))
 sources_alone = (refl, refl)
@@ -31,15 +31,15 @@ pub negatives : (meaning_of (fetched Negative (codes "a") None) ≡ Some (fetch_
     × (meaning_of (pushed Negative None (Some (codes "b"))) ≡ None)
 negatives = (refl, refl, refl, refl)
 
--- the sign of a push stays with it, and where none is, none is said
+-- an instruction is forced if the reading is, and otherwise not
 pub forces : (meaning_of (pushed Forced (Some (codes "a")) None) ≡ Some (push_matching (codes "a") (codes "a") true))
     × (meaning_of (pushed Forced (Some (codes "a")) (Some (codes "b"))) ≡ Some (push_matching (codes "a") (codes "b") true))
     × (meaning_of (pushed Normal (Some (codes "a")) (Some (codes "b"))) ≡ Some (push_matching (codes "a") (codes "b") false))
     × (meaning_of (fetched Normal (codes "a") (Some (codes "b"))) ≡ Some (fetch_and_update (codes "a") (codes "b") false))
 forces = (refl, refl, refl, refl)
 
--- a fetch of nothing says nothing, nor does a negative spec without a source or with both sides, and what
--- says nothing has no text
+-- a fetch without a source has no meaning, nor has a negative spec without a source or with both sides; and without a
+-- meaning there is no canonical text
 pub says_nothing : (meaning_of (record { operation = Fetch; mode = Normal; source = None; destination = Some (codes "b") }) ≡ None)
     × (meaning_of (record { operation = Fetch; mode = Forced; source = None; destination = None }) ≡ None)
     × (meaning_of (record { operation = Fetch; mode = Negative; source = None; destination = None }) ≡ None)
@@ -48,7 +48,7 @@ pub says_nothing : (meaning_of (record { operation = Fetch; mode = Normal; sourc
     × (printed (fetched Negative (codes "a") (Some (codes "b"))) ≡ None)
 says_nothing = (refl, refl, refl, refl, refl, refl)
 
--- a lone source that begins with a plus prints one more, and no other text does
+-- a lone source that begins with a plus is printed with another one, and no other text is
 pub pluses : (text_of (fetch_only (codes "+foo")) ≡ codes "++foo") × (text_of (fetch_only (codes "foo+")) ≡ codes "foo+")
     × (text_of (fetch_exclude (codes "+x")) ≡ codes "^+x") × (text_of (push_delete (codes "+x")) ≡ codes ":+x")
     × (text_of (fetch_and_update (codes "+a") (codes "b") false) ≡ codes "+a:b")
@@ -60,11 +60,11 @@ pub pluses : (text_of (fetch_only (codes "+foo")) ≡ codes "++foo") × (text_of
     × (printed (fetched Forced (codes "main") None) ≡ Some (codes "main"))
 pluses = (refl, refl, refl, refl, refl, refl, refl, refl, refl, refl, refl, refl)
 
--- what each meaning is for
+-- the operation of each meaning
 pub operations : (meant_for (push_exclude (codes "a")) ≡ Push) × (meant_for (fetch_exclude (codes "a")) ≡ Fetch) × (meant_for (push_delete (codes "a")) ≡ Push) × (meant_for (fetch_only (codes "a")) ≡ Fetch)
 operations = (refl, refl, refl, refl)
 
--- the kinds are in the order of their declarations, pushes before fetches
+-- the variants are in the order of their declarations, pushes before fetches
 pub kinds_rise : (order (push_all_matching true) (push_delete []) ≡ Less)
     × (order (push_delete (codes "z")) (push_matching (codes "a") (codes "a") false) ≡ Less)
     × (order (push_matching (codes "z") (codes "z") true) (push_exclude (codes "a")) ≡ Less)
@@ -73,7 +73,7 @@ pub kinds_rise : (order (push_all_matching true) (push_delete []) ≡ Less)
     × (order (fetch_exclude (codes "z")) (fetch_and_update (codes "a") (codes "a") false) ≡ Less)
 kinds_rise = (refl, refl, refl, refl, refl, refl)
 
--- then the source decides, the destination, and the sign last; bytes are before lengths
+-- then the source decides, then the destination, and last the sign; bytes are compared before lengths
 pub fields_rise : (order (push_matching (codes "a") (codes "z") true) (push_matching (codes "b") (codes "a") false) ≡ Less)
     × (order (push_matching (codes "a") (codes "a") true) (push_matching (codes "a") (codes "b") false) ≡ Less)
     × (order (push_matching (codes "a") (codes "b") false) (push_matching (codes "a") (codes "b") true) ≡ Less)
@@ -82,7 +82,7 @@ pub fields_rise : (order (push_matching (codes "a") (codes "z") true) (push_matc
     × (order (fetch_only (codes "a")) (fetch_only (codes "a")) ≡ Equal)
 fields_rise = (refl, refl, refl, refl, refl, refl)
 
--- instructions of two kinds differ, though their texts are equal
+-- instructions of two variants differ, even if their texts are equal
 pub kinds_differ : (is_same (fetch_only (codes "a")) (fetch_exclude (codes "a")) ≡ false) × (is_same (push_exclude (codes "a")) (fetch_exclude (codes "a")) ≡ false) × (is_same (fetch_only (codes "a")) (fetch_only (codes "a")) ≡ true)
 kinds_differ = (refl, refl, refl)
 
@@ -90,6 +90,6 @@ kinds_differ = (refl, refl, refl)
 pub reasons : IsShownAs error.Empty Empty × IsShownAs error.NegativeWithDestination NegativeWithDestination × IsShownAs error.PushToEmpty PushToEmpty × IsShownAs error.PatternUnbalanced PatternUnbalanced × IsShownAs error.NegativeEmpty NegativeEmpty × IsShownAs error.NegativeObjectHash NegativeObjectHash
 reasons = (refl, refl, refl, refl, refl, refl)
 
--- the three variants that are kept for callers are no reasons, nor is `Memory`
+-- the three variants that are kept for callers are not reasons, nor is `Memory`
 pub no_reasons : (f : Refusal) → ¬ (IsShownAs error.NegativePartialName f) × ¬ (IsShownAs error.NegativeGlobPattern f) × ¬ (IsShownAs error.InvalidFetchDestination f) × ¬ (IsShownAs error.Memory f)
 no_reasons f = ((λ none. none), (λ none. none), (λ none. none), (λ none. none))

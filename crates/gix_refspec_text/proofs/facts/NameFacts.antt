@@ -1,5 +1,5 @@
 -- Texts that are names and patterns, and texts that are not, by git-check-ref-format(1): for each of its
--- rules one text that breaks it, and one that is close.
+-- rules a text that breaks it, and one that just doesn't.
 use Rattle.std.proofs.Common.{◌≡◌, ℕ, ◌==◌, false, List, [], ◌∷◌, codes, refl, inl, inr, arith}
 use Rattle.std.specs.List.{AllByRecursion, list_any}
 use Rattle.std.proofs.lemmas.Bool.{or_parts}
@@ -33,15 +33,15 @@ plain_names = codes "refs/heads/main" ∷ codes "refs/heads/dev-a" ∷ codes "re
 pub names : AllByRecursion IsName plain_names
 names = each_name plain_names refl
 
--- a dot in a component, or at the end of one that isn't the last; `.lock` before more of a component; an at
--- sign and a brace apart; and the last bytes before those that are refused, with those after them
+-- a dot in a component, or at the end of one that isn't the last; `.lock` before the end of a component; `@` and a
+-- brace apart; and the bytes just below and above the refused ones
 abbrev close_names : List (List ℕ)
 close_names = codes "v1.0" ∷ codes "a.b.c" ∷ codes "a./b" ∷ codes "a.lockx" ∷ codes "a.lock.b/c" ∷ codes "a@b{c}" ∷ codes "{@a" ∷ codes "!}" ∷ (128 ∷ 228 ∷ 255 ∷ []) ∷ []
 
 pub names_close_to_faults : AllByRecursion IsName close_names
 names_close_to_faults = each_name close_names refl
 
--- what has a fault is no name: the empty text, an empty component, one that begins with a dot or ends with
+-- a text with a fault isn't a name: the empty text, an empty component, one that begins with a dot or ends with
 -- `.lock`, a dot at the end, two dots, `@{`, a star, and a refused byte
 pub no_names : ¬ (IsName []) × ¬ (IsName (codes "/a")) × ¬ (IsName (codes "a/")) × ¬ (IsName (codes "a//a")) × ¬ (IsName (codes ".b/a")) × ¬ (IsName (codes "a/.b")) × ¬ (IsName (codes "b.lock/a")) × ¬ (IsName (codes "a/b.lock")) × ¬ (IsName (codes "a/b.")) × ¬ (IsName (codes "..a")) × ¬ (IsName (codes "@{1}")) × ¬ (IsName (codes "*a")) × ¬ (IsName (codes "a b"))
 no_names = (
@@ -62,7 +62,7 @@ no_names = (
 
 -- ---- patterns
 
--- a star at the end, alone, as a component, in one, and first
+-- a star at the end, alone, as a component, within a component, and first
 pub patterns : IsPattern (codes "refs/heads/dev-*") × IsPattern (codes "*") × IsPattern (codes "refs/*/head") × IsPattern (codes "foo/bar*/baz") × IsPattern (codes "*/x")
 patterns = (
   IsPattern-tested (codes "refs/heads/dev-") [] refl refl refl,
@@ -72,8 +72,8 @@ patterns = (
   IsPattern-tested [] (codes "/x") refl refl refl,
 )
 
--- with the letter for the star these are no names: `.a` begins a component, `a/` ends with a slash, and
--- `a.lock` with `.lock`
+-- with the letter for the star these aren't names: a component begins with a dot, the text ends with a slash, and a
+-- component ends with `.lock`
 pub stars_in_bad_names : IsPatternFault (Name StartsWithDot) (codes "a/.*") × IsPatternFault (Name EmptyComponent) (codes "*/") × IsPatternFault (Name LockSuffix) (codes "a/*.lock")
 stars_in_bad_names = (
   (codes "a/.a", ReplacesStar-tested (codes "a/.") [] refl refl, after_a (BeginsWith (codes ".")) (codes ".a") refl (record { after = codes "a"; here = refl })),
@@ -84,7 +84,7 @@ stars_in_bad_names = (
 bad_pattern : (x : List ℕ) (e : Error) → IsPatternFault (Name e) x → ¬ (IsPattern x)
 bad_pattern x e bad pattern = pattern_fine x pattern (ReferenceName e) bad
 
--- so they are no patterns, nor is a text without a star, or with two
+-- so they aren't patterns, nor is a text without a star, or with two
 pub no_patterns : ¬ (IsPattern (codes "a/.*")) × ¬ (IsPattern (codes "*/")) × ¬ (IsPattern (codes "a/*.lock")) × ¬ (IsPattern (codes "refs/heads/main")) × ¬ (IsPattern []) × ¬ (IsPattern (codes "foo/bar*/baz*"))
 no_patterns = (
   bad_pattern (codes "a/.*") StartsWithDot stars_in_bad_names.0,
@@ -95,17 +95,17 @@ no_patterns = (
   (λ pattern. HasSeveralStars-replaced (codes "foo/bar*/baz*") pattern.with_letter pattern.replaces two_stars),
 )
 
--- nothing is wrong with a pattern
+-- a pattern has no fault
 pub no_fault_of_pattern : (e : Error) → ¬ (IsPatternFault (Name e) (codes "*"))
 no_fault_of_pattern e bad = bad_pattern (codes "*") e bad patterns.1
 
 -- ---- letters for stars
 
--- each star becomes a letter, and no other byte does
+-- each star becomes a letter, and other bytes stay
 pub letters_for_stars : (with_letters (codes "b*c*") ≡ codes "baca") × (with_letters (codes "b+c") ≡ codes "b+c")
 letters_for_stars = (refl, refl)
 
--- each star is counted, and no other byte is
+-- only stars are counted, and each of them
 pub star_counts : IsStarCount (codes "b*c*") 2 × IsStarCount (codes "b+c") 0 × ¬ (IsStarCount (codes "*b") 2) × ¬ (IsStarCount (codes "**") 1)
 star_counts = (refl, refl, (λ same. omega (arith, same)), (λ same. omega (arith, same)))
 
@@ -133,7 +133,7 @@ each_part : (parts : List (List ℕ)) → list_any (list_any (λ c. c == slash))
 each_part [] none = tt
 each_part (w ∷ parts) none = let both = or_parts (list_any (λ c. c == slash) w) (list_any (list_any (λ c. c == slash)) parts) none in (Lacks-tested slash w both.0, each_part parts both.1)
 
--- no part has a slash; the empty text has no part, or an empty one
+-- no part contains a slash; the empty text has no parts, or one empty part
 pub parts_at_slashes : ArePartsAt slash (codes "a" ∷ [] ∷ codes "b" ∷ []) (codes "a//b") × ¬ (ArePartsAt slash (codes "a/b" ∷ []) (codes "a/b")) × ArePartsAt slash [] [] × ArePartsAt slash ([] ∷ []) []
 parts_at_slashes = (
   record { joined = refl; whole = each_part (codes "a" ∷ [] ∷ codes "b" ∷ []) refl },
@@ -142,7 +142,7 @@ parts_at_slashes = (
   record { joined = refl; whole = (tt, tt) },
 )
 
--- the lowest of the bits that are set, and none
+-- the lowest set bit, and a mask without one
 pub lowest_bits : (lowest_of 16 8 ≡ 3) × (lowest_of 16 12 ≡ 2) × (lowest_of 16 1 ≡ 0) × (lowest_of 16 0 ≡ 16)
 unfolding count_trailing_zeros
 lowest_bits = (refl, refl, refl, refl)

@@ -1,4 +1,4 @@
--- The words on ids, at the ids that git hash-object prints for the empty blob, and at other lengths.
+-- The definitions of ids, at the ids that git hash-object prints for the empty blob, and at other lengths.
 use Rattle.std.proofs.Common.{◌≡◌, ◌≢◌, ℕ, ◌+◌, ◌*◌, List, [], ◌∷◌, Option, None, Some, unwrap_or, codes, refl, sym, ap, ◌∙◌, arith}
 use Rattle.std.specs.List.{filter, range_with_len}
 use Rattle.std.proofs.lemmas.Bool.{false≢true}
@@ -35,7 +35,7 @@ pub lower_of-empty_blob : lower_of empty_blob ≡ codes "e69de29bb2d1d6434b8b29a
 unfolding hex_on_literals
 lower_of-empty_blob = refl
 
--- of a buffer with 32 bytes, a SHA-1 has those in front, and a SHA-256 has all
+-- of a buffer with 32 bytes, a SHA-1 has the first 20, and a SHA-256 has all
 pub bytes_in_front : (id_bytes (record { kind = Sha1; buffer = range_with_len 100 32 }) ≡ range_with_len 100 20) × (id_bytes (record { kind = Sha256; buffer = range_with_len 100 32 }) ≡ range_with_len 100 32)
 bytes_in_front = (refl, refl)
 
@@ -56,7 +56,7 @@ spelled_value b c d high low high_read low_read by =
 unread : (n : ℕ) → None ≢ Some n
 unread n same = cc
 
--- `e6`, `E6` and `eE` spell a byte each, `6e` spells another, and `g6` and `6g` none
+-- `e6`, `E6` and `eE` spell a byte each, `6e` spells another, and `g6` and `6g` don't spell any
 pub two_digits : IsSpelledBy 230 101 54 × IsSpelledBy 230 69 54 × IsSpelledBy 238 101 69 × ¬ (IsSpelledBy 230 54 101) × ((b : ℕ) → ¬ (IsSpelledBy b 103 54) × ¬ (IsSpelledBy b 54 103))
 two_digits = (
   record { high_value = 14; low_value = 6; high_read = refl; low_read = refl; value = refl },
@@ -66,7 +66,7 @@ two_digits = (
   λ b. ((λ by. unread by.high_value by.high_read), (λ by. unread by.low_value by.low_read)),
 )
 
--- the digits of each byte are in its place, the last one too
+-- the digits of each byte are at its index, also those of the last one
 pub spelled : Spells (codes "e69d") (0xe6 ∷ 0x9d ∷ []) × ¬ (Spells (codes "e69d") (0xe6 ∷ 0x9e ∷ [])) × ¬ (Spells (codes "e69d") (0x9d ∷ 0xe6 ∷ []))
 unfolding hex_on_literals
 spelled = (
@@ -75,7 +75,7 @@ spelled = (
   (λ spells. omega (arith, spelled_value 0x9d 101 54 14 6 refl refl (spells 0 (omega arith)))),
 )
 
--- a text is that of no other id, and digits of no kind's length are that of none
+-- a text doesn't spell another id, and digits of another length don't spell any
 pub other_texts : ¬ (IsIdText (codes "e69de29bb2d1d6434b8b29ae775ad8c2e48c5390") empty_blob) × ((i : List ℕ) → ¬ (IsIdText (codes "e69de2") i)) × ¬ (IsIdText (codes "e69de29bb2d1d6434b8b29ae775ad8c2e48c5391") [])
 other_texts = (
   (λ text. omega (arith, spelled_value 0x91 57 48 9 0 refl refl (text.spelled 19 (omega arith)))),
@@ -91,7 +91,7 @@ other_texts = (
 pub lower_digits : filter is_lower_digit (range_with_len 0 256) ≡ codes "0123456789abcdef"
 lower_digits = refl
 
--- an id has a text in lower case, and one in upper case is none
+-- an id has a text in lower case, and its text in upper case isn't one
 pub IsLowerText-empty_blob : IsLowerText (codes "e69de29bb2d1d6434b8b29ae775ad8c2e48c5391") empty_blob × ¬ (IsLowerText (codes "E69DE29BB2D1D6434B8B29AE775AD8C2E48C5391") empty_blob)
 IsLowerText-empty_blob = (
   (IsIdText-empty_blob, AllPass-from_list_all is_lower_digit (codes "e69de29bb2d1d6434b8b29ae775ad8c2e48c5391") refl),
@@ -102,11 +102,11 @@ IsLowerText-empty_blob = (
 pub HasIdFault-length : HasIdFault (codes "e69de2") (Length 6) × ¬ (HasIdFault (codes "e69de2") (Length 5))
 HasIdFault-length = ((refl, no_length 6 (λ same. omega (arith, same)) (λ same. omega (arith, same))), λ fault. omega (arith, fault.0))
 
--- and is no fault of a text of 40 digits
+-- and a text of 40 digits doesn't have it
 pub HasIdFault-none : ¬ (HasIdFault (codes "e69de29bb2d1d6434b8b29ae775ad8c2e48c5391") (Length 40))
 HasIdFault-none fault = fault.1 (Sha1, refl)
 
--- the first byte or the last one may be no digit, and the length is before it
+-- the first byte or the last one may not be a digit; a wrong length is reported first
 pub HasIdFault-digit : HasIdFault (codes "g69de29bb2d1d6434b8b29ae775ad8c2e48c5391") Digit × HasIdFault (codes "e69de29bb2d1d6434b8b29ae775ad8c2e48c539/") Digit × ¬ (HasIdFault (codes "e69de29bb2d1d6434b8b29ae775ad8c2e48c5391") Digit) × ¬ (HasIdFault (codes "g69de2") Digit)
 HasIdFault-digit = (
   ((Sha1, refl), (0, omega arith, refl)),

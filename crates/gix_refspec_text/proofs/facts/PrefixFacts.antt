@@ -1,4 +1,4 @@
--- The words on prefixes at sides with and without one, and what these are expanded to.
+-- Sides with and without a ref prefix, and their expansions.
 use Rattle.std.proofs.Common.{◌≡◌, ◌≢◌, ℕ, List, [], ◌∷◌, ◌++◌, None, Some, length, codes, refl, sym, ap, subst, inl, inr, arith}
 use Rattle.gix_refspec_text.specs.declared.oid.Kind.{Kind}
 use Rattle.gix_refspec_text.specs.declared.oid.Kind.TheVariants.{Sha1, Sha256}
@@ -9,7 +9,7 @@ use Rattle.gix_refspec_text.specs.Texts.ObjectId.{IsIdText, digits_of}
 use Rattle.gix_refspec_text.specs.Specs.Reading.{Normal, Negative}
 use Rattle.gix_refspec_text.specs.Specs.Grammar.{fetched, pushed}
 use Rattle.gix_refspec_text.specs.Matching.Side.{candidates}
-use Rattle.gix_refspec_text.specs.Matching.Prefix.{IsRefPrefix, IsPrefix, of_head, of_name, of_pattern, HasNoPrefix, Expands, to_prefix, to_itself, strip_refs, of_object, to_candidates, IsAsked, HasPrefix, IsExpansion}
+use Rattle.gix_refspec_text.specs.Matching.Prefix.{IsRefPrefix, IsPrefix, of_head, of_name, of_pattern, HasNoPrefix, Expands, to_prefix, to_itself, below_refs, of_object, to_candidates, IsAsked, HasPrefix, IsExpansion}
 use Rattle.gix_refspec_text.proofs.lemmas.hits.MatchLemmas.{split_once, outside_none}
 use Rattle.gix_refspec_text.proofs.lemmas.prefixes.OnePrefixLemmas.{one_prefix}
 use Rattle.gix_refspec_text.proofs.facts.ManualFacts.{Lacks-tested, other_length, none_some}
@@ -20,11 +20,11 @@ use Rattle.gix_refspec_text.proofs.facts.CoveringFacts.{below_heads}
 use Rattle.std.proofs.lemmas.Option.{same_Some}
 use Rattle.gix_refspec_text.proofs.lemmas.lists.LacksLemmas.{Lacks-here}
 
--- `HEAD` and a full name have themselves
+-- `HEAD` and a full name are their own prefix
 pub whole_prefixes : IsPrefix (codes "HEAD") (codes "HEAD") × IsPrefix (codes "refs/a]b") (codes "refs/a]b")
 whole_prefixes = (of_head refl refl, of_name (record { after = codes "a]b"; here = refl }) (Lacks-tested star (codes "refs/a]b") refl) refl)
 
--- a pattern has what is before its star, also within a component and before a suffix
+-- the prefix of a pattern is the text before its star, also within a component and before a suffix
 pub pattern_prefix : IsPrefix (codes "refs/a*/b") (codes "refs/a")
 pattern_prefix = of_pattern (codes "refs/a") (codes "/b") (record { starred = refl; first = Lacks-tested star (codes "refs/a") refl; last = Lacks-tested star (codes "/b") refl }) (record {
   below = record { after = codes "a"; here = refl };
@@ -39,7 +39,7 @@ bracket_split = split_at_end (codes "refs/a]") refl
 pub suffix_split : IsSplit (codes "refs/a") (codes "/]") (codes "refs/a*/]")
 suffix_split = record { starred = refl; first = Lacks-tested star (codes "refs/a") refl; last = Lacks-tested star (codes "/]") refl }
 
--- a star after `refs/`, or a bracket before or after the star, leaves none
+-- a pattern with its star right after `refs/`, or with a bracket, has none
 pub no_prefixes : HasNoPrefix (codes "refs/*") × HasNoPrefix (codes "refs/a]*") × HasNoPrefix (codes "refs/a*/]") × HasNoPrefix (codes "heads/*")
 no_prefixes = (bare, before_star, after_star, outside_none (codes "heads/*") (other_length _ _ (λ size. omega (arith, size))) (λ begins. other_byte 0 (codes "heads/*") (codes "refs/" ++ begins.after) (λ byte. omega (arith, byte)) begins.here))
   where
@@ -58,13 +58,13 @@ no_prefixes = (bare, before_star, after_star, outside_none (codes "heads/*") (ot
     after_star p (of_name begins lacks same) = Lacks-here star (codes "refs/a") (codes "/]") lacks
     after_star p (of_pattern before after split tells same) = Lacks-here bracket (codes "/") [] (subst (Lacks bracket) ((split_once (codes "refs/a*/]") before after (codes "refs/a") (codes "/]") split suffix_split).1) tells.last)
 
--- without a prefix, what has one name after `refs/` is expanded to itself, and with a further slash
--- to nothing
+-- without a prefix, a side with one component after `refs/` is expanded to itself, and with a further slash to
+-- nothing
 pub expansions_below : Expands (codes "refs/*") (codes "refs/*" ∷ []) × Expands (codes "refs/a]*") (codes "refs/a]*" ∷ []) × Expands (codes "refs/a*/]") []
 expansions_below = (
   to_itself (codes "*") no_prefixes.0 refl (Lacks-tested slash (codes "*") refl) refl,
   to_itself (codes "a]*") no_prefixes.1 refl (Lacks-tested slash (codes "a]*") refl) refl,
-  strip_refs (codes "a*/]") no_prefixes.2 refl (record { before = codes "a*"; after = codes "]"; here = refl }) refl,
+  below_refs (codes "a*/]") no_prefixes.2 refl (record { before = codes "a*"; after = codes "]"; here = refl }) refl,
 )
 
 -- an id is expanded to nothing, and `HEAD` to itself
@@ -74,9 +74,9 @@ expansions_outside = (
   to_prefix (codes "HEAD") whole_prefixes.0 refl,
 )
 
--- ---- what has another prefix, or none
+-- ---- other prefixes, and sides without one
 
--- a name isn't cut where it has no star, and a pattern is cut at its star
+-- the prefix of a name is the whole name, and that of a pattern goes up to its star
 pub other_prefixes : ¬ (IsPrefix (codes "refs/heads/main") (codes "refs/heads/")) × ¬ (IsPrefix (codes "refs/a*/b") (codes "refs/")) × ¬ (IsPrefix (codes "refs/a*/b") (codes "refs/a*/b")) × HasNoPrefix (codes "main") × HasNoPrefix (codes "HEAD/x")
 other_prefixes = (
   (λ prefix. other_length _ _ (λ size. omega (arith, size)) ((one_prefix (codes "refs/heads/main")).prefix (codes "refs/heads/") (codes "refs/heads/main") prefix (of_name (record { after = codes "heads/main"; here = refl }) (Lacks-tested star (codes "refs/heads/main") refl) refl))),
@@ -86,7 +86,7 @@ other_prefixes = (
   outside_none (codes "HEAD/x") (other_length _ _ (λ size. omega (arith, size))) (begins_not (codes "refs/") (codes "HEAD/x") refl),
 )
 
--- the text before a star is a prefix below `refs/`, but not `refs/` itself, nor with a bracket on either side
+-- the text before a star is a prefix if it begins with `refs/` and is longer, and no bracket is on either side
 pub tells : IsRefPrefix (codes "refs/a") (codes "/b") × ((after : List ℕ) → ¬ (IsRefPrefix (codes "refs/") after) × ¬ (IsRefPrefix (codes "heads/") after) × ¬ (IsRefPrefix (codes "refs/a]") after)) × ¬ (IsRefPrefix (codes "refs/a") (codes "/]"))
 tells = (
   record { below = record { after = codes "a"; here = refl }; further = other_length _ _ (λ size. omega (arith, size)); first = Lacks-tested bracket (codes "refs/a") refl; last = Lacks-tested bracket (codes "/b") refl },
@@ -94,8 +94,8 @@ tells = (
   λ is. Lacks-here bracket (codes "/") [] is.last,
 )
 
--- a partial name is expanded to its candidates, also with a star, an id isn't, nor is `HEAD`, and a star below a
--- folder leaves nothing
+-- a partial name is expanded to its candidates, also with a star, but an id and `HEAD` are not; and a star before a
+-- further slash leaves nothing
 pub other_expansions : Expands (codes "heads/*") (candidates (codes "heads/*")) × ¬ (Expands (codes "main") (codes "main" ∷ [])) × ¬ (Expands (codes "e69de29bb2d1d6434b8b29ae775ad8c2e48c5391") (candidates (codes "e69de29bb2d1d6434b8b29ae775ad8c2e48c5391"))) × ¬ (Expands (codes "HEAD") (candidates (codes "HEAD"))) × ¬ (Expands (codes "refs/a*/]") (codes "refs/a*/]" ∷ [])) × ¬ (Expands (codes "refs/*") [])
 other_expansions = (
   to_candidates no_prefixes.3 (begins_not (codes "refs/") (codes "heads/*") refl) (λ is. starred_no_id is.1) refl,
@@ -119,9 +119,10 @@ other_expansions = (
     starred_no_id : {bytes : List ℕ} → IsIdText (codes "heads/*") bytes → ⊥
     starred_no_id text = no_digits text.kind text.digits
 
--- ---- what is asked for a reading
+-- ---- the prefixes of a reading
 
--- the source of a fetch and the destination of a push, but not the other side, and nothing for a negative spec
+-- the prefix of a spec is by the source of a fetch or the destination of a push, and not by the other side; a negative
+-- spec and a push of a source alone have no such side
 pub asked : IsAsked (fetched Normal (codes "a") (Some (codes "b"))) (codes "a") × IsAsked (pushed Normal (Some (codes "a")) (Some (codes "b"))) (codes "b") × ¬ (IsAsked (pushed Normal (Some (codes "a")) (Some (codes "b"))) (codes "a")) × ((x : List ℕ) → ¬ (IsAsked no_dev x) × ¬ (IsAsked (pushed Normal (Some (codes "a")) None) x))
 asked = (
   record { positive = tt; side = refl },
@@ -130,7 +131,7 @@ asked = (
   λ x. ((λ is. is.positive), λ is. none_some x is.side),
 )
 
--- a reading has the prefix of what is asked for it, and a negative one has none
+-- a reading has the prefix of its side on the remote, and a negative one has none
 pub prefixes : HasPrefix every (codes "refs/heads/") × HasPrefix (pushed Normal (Some (codes "refs/x/a")) (Some (codes "HEAD"))) (codes "HEAD") × ((p : List ℕ) → ¬ (HasPrefix (fetched Negative (codes "HEAD") None) p) × ¬ (HasPrefix (pushed Normal (Some (codes "HEAD")) (Some (codes "main"))) p))
 prefixes = (
   (codes "refs/heads/*", record { positive = tt; side = refl }, below_heads),
@@ -138,7 +139,7 @@ prefixes = (
   λ p. ((λ has. has.1.positive), λ has. other_prefixes.3 p (subst (λ (x : List ℕ). IsPrefix x p) (sym (same_Some (codes "main") has.0 has.1.side)) has.2)),
 )
 
--- a reading expands to nothing where nothing is asked for it, and only there
+-- a negative reading, or one without a side on the remote, is expanded to nothing; a fetch of `HEAD` isn't
 pub expansions : IsExpansion (pushed Normal (Some (codes "a")) None) [] × IsExpansion no_dev [] × ¬ (IsExpansion (fetched Normal (codes "HEAD") None) []) × ¬ (IsExpansion no_dev (codes "refs/heads/dev-" ∷ []))
 expansions = (
   inr ((λ x. (asked.3 x).1), refl),

@@ -1,4 +1,4 @@
--- The reasons against a text, each at parts that it applies to, and at like parts that it does not.
+-- The reasons to refuse a text, each with parts that it applies to, and similar parts that it doesn't apply to.
 use Rattle.std.proofs.Common.{◌≡◌, ◌≢◌, ◌≤◌, ℕ, List, [], ◌∷◌, ◌++◌, Option, None, Some, codes, refl, sym, subst, inl, inr, arith}
 use Rattle.std.specs.Prelude.{replicate}
 use Rattle.std.specs.Char.{is_ascii_hexdigit}
@@ -25,7 +25,7 @@ use Rattle.gix_refspec_text.proofs.lemmas.lists.LacksLemmas.{Lacks-here}
 
 -- ---- stars
 
--- a text has one star, not none, and not two
+-- a text with exactly one star, and texts without one and with two
 pub one_star_alone : HasOneStar (codes "a*b") × IsSplit (codes "a") (codes "b") (codes "a*b") × ¬ (HasOneStar (codes "ab")) × ¬ (HasOneStar (codes "a*b*"))
 one_star_alone = (
   (codes "a", codes "b", split),
@@ -39,7 +39,7 @@ one_star_alone = (
 
 -- ---- names and patterns
 
--- one star is no reason against a pattern, nor is the star itself a fault of one, nor the fault of a text without
+-- a pattern isn't refused for one star, nor for the star as a fault, nor is a text without a star a bad pattern
 pub bad_patterns : IsBadPattern (codes "b*.lock") (ReferenceName LockSuffix) × ¬ (IsBadPattern (codes "b*.lock") (ReferenceName Asterisk)) × ¬ (IsBadPattern (codes "b*.lock") (PatternUnsupported (codes "b*.lock"))) × ¬ (IsBadPattern (codes "b.lock") (ReferenceName LockSuffix)) × ¬ (IsBadPattern (codes "b*.lock") PatternUnbalanced)
 bad_patterns = (
   (codes "ba.lock", replaces_star, locked),
@@ -49,14 +49,14 @@ bad_patterns = (
   λ none. none,
 )
 
--- and a look at a pattern finds the same
+-- and the check of a pattern alone finds the same
 pub pattern_faults : IsPatternFault (Name LockSuffix) (codes "b*.lock") × ¬ (IsPatternFault (Name Asterisk) (codes "b*.lock")) × ¬ (IsPatternFault (Name LockSuffix) (codes "b.lock"))
 pattern_faults = (bad_patterns.0, bad_patterns.1, bad_patterns.3)
 
 dots_bad : IsBadName (codes "a..b") (ReferenceName RepeatedDot)
 dots_bad = (Lacks-tested star (codes "a..b") refl, record { before = codes "a"; after = codes "b"; here = refl })
 
--- a name is bad by a fault of its own, and a text with a star is no bad name
+-- a bad name has a fault of its own, and a text with a star isn't a bad name
 pub bad_names : IsBadName (codes "a..b") (ReferenceName RepeatedDot) × ¬ (IsBadName (codes "a..b") (ReferenceName NoName)) × ¬ (IsBadName (codes "a*..b") (ReferenceName RepeatedDot)) × ¬ (IsBadName (codes "a..b") PatternUnbalanced)
 bad_names = (dots_bad, (λ bad. full _ _ bad.1), (λ bad. Lacks-here star (codes "a") (codes "..b") bad.0), λ none. none)
 
@@ -84,7 +84,7 @@ negative_destinations = (
 fetch_no_push : Fetch ≢ Push
 fetch_no_push same = cc
 
--- a push of `a:` goes nowhere, but not one of `:`, `a` or `a:b`, nor a fetch of `a:`
+-- a push of `a:` has an empty destination; a push of `:`, `a` or `a:b` isn't refused so, nor is a fetch of `a:`
 pub nowhere : PushesNowhere Push (codes "a") (Some []) PushToEmpty × ((e : Refusal) → ¬ (PushesNowhere Push [] (Some []) e) × ¬ (PushesNowhere Push (codes "a") None e) × ¬ (PushesNowhere Push (codes "a") (Some (codes "b")) e) × ¬ (PushesNowhere Fetch (codes "a") (Some []) e)) × ¬ (PushesNowhere Push (codes "a") (Some []) Empty)
 nowhere = (
   record { push = refl; source = full _ _; nowhere = refl; refusal = refl },
@@ -100,7 +100,7 @@ nowhere = (
 two_stars_bad : IsBadPattern (codes "a*b*") (PatternUnsupported (codes "a*b*"))
 two_stars_bad = (record { before = codes "a"; between = codes "b"; after = []; here = refl }, refl)
 
--- `a..b` may be pushed to a destination, and not alone, nor fetched; `a*b*` may not be pushed either way
+-- `a..b` may be pushed to a destination, but not alone, and not fetched; `a*b*` may not be pushed even to a destination
 pub sources : ((e : Refusal) → ¬ (IsBadSourceFor Push (Some (codes "c")) (codes "a..b") e)) × IsBadSourceFor Push None (codes "a..b") (ReferenceName RepeatedDot) × IsBadSourceFor Fetch (Some (codes "c")) (codes "a..b") (ReferenceName RepeatedDot) × IsBadSourceFor Push (Some (codes "c")) (codes "a*b*") (PatternUnsupported (codes "a*b*")) × IsBadSourceFor Push None (codes "a*b*") (PatternUnsupported (codes "a*b*"))
 sources = (
   (λ e bad. Lacks-ContainsText star (codes "a..b") (Lacks-tested star (codes "a..b") refl) (HasStar-bad (codes "a..b") e bad)),
@@ -110,11 +110,11 @@ sources = (
   inr two_stars_bad,
 )
 
--- what is empty is no bad source, and no bad destination
+-- an empty side is neither a bad source nor a bad destination
 pub empty_sides : ((op : Operation) (d : Option (List ℕ)) (e : Refusal) → ¬ (HasBadSource op [] d e)) × ((e : Refusal) → ¬ (HasBadDestination (Some []) e) × ¬ (HasBadDestination None e))
 empty_sides = ((λ op d e bad. bad.source refl), λ e. ((λ bad. bad.destination (sym (same_Some [] bad.word bad.is))), λ bad. none_some bad.word bad.is))
 
--- `b..c` and `c*d*` are bad destinations, and `c` isn't
+-- `a..b` and `a*b*` are bad destinations, and `c` isn't
 pub destinations : HasBadDestination (Some (codes "a..b")) (ReferenceName RepeatedDot) × HasBadDestination (Some (codes "a*b*")) (PatternUnsupported (codes "a*b*")) × (IsName (codes "c") → (e : Refusal) → ¬ (HasBadDestination (Some (codes "c")) e))
 destinations = (
   record { word = codes "a..b"; is = refl; destination = full _ _; refusal = inl dots_bad },
@@ -127,7 +127,7 @@ destinations = (
 has_star : (before after : List ℕ) → HasStar (before ++ (star ∷ after))
 has_star before after = record { before = before; after = after; here = refl }
 
--- one of two texts has a star, whichever it is, and not both, nor none
+-- one of two texts has a star, whichever it is, but not both or neither
 pub one_starred : IsOneStarred (codes "a*") (codes "b") × IsOneStarred (codes "b") (codes "a*") × ¬ (IsOneStarred (codes "a*") (codes "b*")) × ¬ (IsOneStarred (codes "a") (codes "b"))
 one_starred = (
   inl (has_star (codes "a") [], Lacks-tested star (codes "b") refl),
@@ -144,7 +144,7 @@ one_starred = (
     none (inl first) = Lacks-ContainsText star (codes "a") (Lacks-tested star (codes "a") refl) first.0
     none (inr second) = Lacks-ContainsText star (codes "b") (Lacks-tested star (codes "b") refl) second.1
 
--- a push of `a*:b` is unbalanced, and so is one of `:b*`, but `a*:` goes nowhere; the same with a sign
+-- a push of `a*:b` is unbalanced, and so is one of `+:b*`, but not one of `a*:`
 pub unbalanced_pushes : IsUnbalanced Push Normal (codes "a*") (Some (codes "b")) PatternUnbalanced × IsUnbalanced Push Forced [] (Some (codes "b*")) PatternUnbalanced × ((e : Refusal) → ¬ (IsUnbalanced Push Normal (codes "a*") (Some []) e)) × ¬ (IsUnbalanced Push Normal (codes "a*") (Some (codes "b")) NegativeEmpty)
 unbalanced_pushes = (
   record { positive = tt; one = one_starred.0; has_destination = λ push. full _ _; refusal = refl },
@@ -161,7 +161,7 @@ unbalanced_pushes = (
 hash : LooksLikeObjectHash (replicate 40 letter)
 hash = record { long = let size = length-replicate 40 letter in omega (arith, size); digits = AllPass-from_list_all is_ascii_hexdigit (replicate 40 letter) refl }
 
--- `^` excludes nothing, and the empty text and `^a` don't
+-- `^` is refused for excluding nothing; the empty text and `^a` aren't
 pub excludes_nothing : ExcludesNothing Negative [] NegativeEmpty × ((e : Refusal) → ¬ (ExcludesNothing Normal [] e) × ¬ (ExcludesNothing Negative (codes "a") e)) × ¬ (ExcludesNothing Negative [] NegativeObjectHash)
 excludes_nothing = (record { negative = refl; no_source = refl; refusal = refl }, (λ e. ((λ is. normal_positive is.negative), λ is. full _ _ is.no_source)), λ is. other is.refusal)
   where
@@ -177,7 +177,7 @@ excludes_object = (record { negative = refl; hash = hash; refusal = refl }, (λ 
 
 -- ---- one of two reasons
 
--- the second reason is given only where the first never applies
+-- the second reason is returned only if the first never applies
 pub or_else : OrElse (ExcludesNothing Negative []) (ExcludesObject Negative []) NegativeEmpty × OrElse (ExcludesNothing Negative (replicate 40 letter)) (ExcludesObject Negative (replicate 40 letter)) NegativeObjectHash × ¬ (OrElse (λ e. e ≡ NegativeEmpty) (λ e. e ≡ PushToEmpty) PushToEmpty) × ¬ (Never (λ e. e ≡ PushToEmpty))
 or_else = (
   inl excludes_nothing.0,

@@ -1,4 +1,4 @@
--- The order of refusals: texts with two reasons, of which the first in the order is given, and the other
+-- The order of refusals: texts with two reasons, of which the first in the order is returned, and the other
 -- isn't.
 use Rattle.std.proofs.Common.{◌≢◌, ◌⊎◌, ℕ, List, [], Option, None, Some, codes, refl, inl, inr, arith}
 use Rattle.std.specs.Prelude.{replicate}
@@ -20,7 +20,7 @@ use Rattle.std.proofs.lemmas.Option.{same_Some}
 pub normal_positive : Normal ≢ Negative
 normal_positive same = cc
 
--- push `` is empty, and `+` is not
+-- a push of the empty text is empty; a push of `+` isn't, nor is a fetch of the empty text
 pub empty_push : IsFirstReason Push Normal [] None Empty × ((e : Refusal) → ¬ (IsEmptyPush Push Forced [] None e)) × ((e : Refusal) → ¬ (IsEmptyPush Fetch Normal [] None e))
 empty_push = (inl (record { push = refl; unsigned = refl; no_source = refl; no_colon = refl; refusal = refl }), (λ e is. forced is.unsigned), (λ e is. fetch is.push))
   where

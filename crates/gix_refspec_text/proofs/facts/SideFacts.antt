@@ -1,5 +1,5 @@
--- The words on sides, candidates and matches where a text is of another kind, a name is no candidate, and
--- a ref isn't matched.
+-- Sides, candidates and matches: also texts of another kind, names that aren't candidates, and refs that aren't
+-- matched.
 use Rattle.std.proofs.Common.{◌≡◌, ◌≢◌, ℕ, List, [], ◌∷◌, Option, None, Some, codes, refl, sym, subst, arith}
 use Rattle.std.specs.List.{AllByRecursion}
 use Rattle.gix_refspec_text.specs.Texts.Bytes.{star}
@@ -14,11 +14,11 @@ use Rattle.gix_refspec_text.proofs.facts.ObjectIdFacts.{empty_blob, IsIdText-emp
 use Rattle.gix_refspec_text.proofs.facts.FitFacts.{other_byte, short_kind, short_no_id}
 use Rattle.gix_refspec_text.proofs.lemmas.lists.LacksLemmas.{Lacks-here}
 
--- an id has a text in either case, and a short word is none
+-- the text of an id is in either case, and a short word isn't an id
 pub ids : IsId (codes "e69de29bb2d1d6434b8b29ae775ad8c2e48c5391") × IsId (codes "E69DE29BB2D1D6434B8B29AE775AD8C2E48C5391") × ¬ (IsId (codes "main"))
 ids = ((empty_blob, IsIdText-empty_blob), (empty_blob, IsIdText-empty_blob_in_upper_case), λ is. short_no_id is.0 is.1)
 
--- a full name is no partial one, and `refs` and a pattern are no full names
+-- a full name isn't a partial one, and `refs` and a pattern aren't full names
 pub full_names : ¬ (HasKind (codes "refs/heads/main") (partial (codes "refs/heads/main"))) × ¬ (HasKind (codes "refs") (full_name (codes "refs"))) × ¬ (HasKind (codes "refs/heads/*") (full_name (codes "refs/heads/*"))) × ¬ (HasKind (codes "refs/heads/main") (full_name (codes "refs/heads/mai")))
 full_names = (
   (λ kind. kind.2 (record { after = codes "heads/main"; here = refl })),
@@ -27,7 +27,7 @@ full_names = (
   λ kind. other_length _ _ (λ size. omega (arith, size)) kind.0,
 )
 
--- an id is no partial name, nor is a pattern, and a partial name is no other text, no full name and no id
+-- an id and a pattern aren't partial names, and a partial name isn't another text, a full name or an id
 pub partial_names : ¬ (HasKind (codes "e69de29bb2d1d6434b8b29ae775ad8c2e48c5391") (partial (codes "e69de29bb2d1d6434b8b29ae775ad8c2e48c5391"))) × ¬ (HasKind (codes "a*") (partial (codes "a*"))) × ¬ (HasKind (codes "main") (partial (codes "mai"))) × ¬ (HasKind (codes "main") (full_name (codes "main"))) × ((bytes : List ℕ) → ¬ (HasKind (codes "main") (object bytes)))
 partial_names = (
   (λ kind. kind.3 ids.0),
@@ -48,7 +48,7 @@ no_kind (partial n) kind = Lacks-here star (codes "a") (codes "b*") kind.1
 no_candidate : (n : List ℕ) → AllByRecursion (λ c. c ≢ n) (candidates (codes "main")) → ¬ (IsCandidate (codes "main") n)
 no_candidate n others is = AllByRecursion-parts (λ c. c ≢ n) is.earlier n is.later (subst (AllByRecursion (λ c. c ≢ n)) is.here others) refl
 
--- the first candidate and the last are candidates, and a name below another folder isn't
+-- the first and the last candidate are candidates, and a name in another directory isn't
 pub main_candidates : IsCandidate (codes "main") (codes "main") × IsCandidate (codes "main") (codes "refs/remotes/main/HEAD") × ¬ (IsCandidate (codes "main") (codes "refs/x/main"))
 main_candidates = (
   record { earlier = []; later = codes "refs/main" ∷ codes "refs/tags/main" ∷ codes "refs/heads/main" ∷ codes "refs/remotes/main" ∷ codes "refs/remotes/main/HEAD" ∷ []; here = refl },
@@ -56,7 +56,7 @@ main_candidates = (
   no_candidate (codes "refs/x/main") (other_length _ _ (λ size. omega (arith, size)), (other_length _ _ (λ size. omega (arith, size)), (other_length _ _ (λ size. omega (arith, size)), (other_length _ _ (λ size. omega (arith, size)), (other_length _ _ (λ size. omega (arith, size)), (other_length _ _ (λ size. omega (arith, size)), tt)))))),
 )
 
--- a partial name matches a candidate of its, and no other ref
+-- a partial name matches a ref with the name of a candidate, and no other ref
 pub partial_matches : MatchesAs (partial (codes "main")) (named (codes "refs/remotes/main/HEAD")) None × ¬ (MatchesAs (partial (codes "main")) (named (codes "refs/x/main")) None) × ((word : Option (List ℕ)) → ¬ (Matches (codes "main") (named (codes "refs/x/main")) word))
 partial_matches = (
   (refl, main_candidates.1),
@@ -64,7 +64,7 @@ partial_matches = (
   λ word matches. let all = has_candidates (codes "main") short_kind.1 (other_byte 0 (codes "main") (codes "HEAD") (λ byte. omega (arith, byte))) short_kind.2 short_kind.3 in main_candidates.2 ((all.matches (named (codes "refs/x/main"))).0 (word, matches)),
 )
 
--- a pattern matches with its word, not with another one, and not without
+-- a pattern matches with its word, but not with another word, and not without
 pub pattern_matches : MatchesAs (pattern (codes "refs/") (codes "/a")) (named (codes "refs/x/a")) (Some (codes "x")) × ¬ (MatchesAs (pattern (codes "refs/") (codes "/a")) (named (codes "refs/x/a")) (Some (codes "xy"))) × ¬ (MatchesAs (pattern (codes "refs/") (codes "/a")) (named (codes "refs/x/a")) None) × ¬ (MatchesAs (pattern (codes "refs/") (codes "/a")) (named (codes "refs/x/b")) (Some (codes "x")))
 pattern_matches = (
   refl,
@@ -73,7 +73,7 @@ pattern_matches = (
   λ matches. other_byte 7 (codes "refs/x/b") (codes "refs/x/a") (λ byte. omega (arith, byte)) matches,
 )
 
--- a text with two stars excludes nothing, and a pattern no name with another end
+-- a text with two stars excludes nothing; a pattern excludes by its prefix and suffix, and a name only itself
 pub excludes_little : ((n : List ℕ) → ¬ (Excludes (codes "a*b*") n)) × Excludes (codes "a/*/c") (codes "a/b/c") × ¬ (Excludes (codes "a/b") (codes "a/bc"))
 excludes_little = (two_stars, by_pattern (codes "a/") (codes "/c") (codes "b") (record { starred = refl; first = Lacks-tested star (codes "a/") refl; last = Lacks-tested star (codes "/c") refl }) refl, longer)
   where
@@ -85,7 +85,7 @@ excludes_little = (two_stars, by_pattern (codes "a/") (codes "/c") (codes "b") (
     longer (the_name lacks same) = other_length _ _ (λ size. omega (arith, size)) same
     longer (by_pattern before after word split fits) = lacks_no_pattern (codes "a/b") before after (Lacks-tested star (codes "a/b") refl) split
 
--- a word changes no side but a pattern, and a partial name gets `refs/` alone only before `tags/` and `remotes/`
+-- a word changes only a pattern, and a partial name gets just `refs/` only before `tags/` and `remotes/`
 pub filled_with_words : (filled (full_name (codes "refs/x/a")) (Some (codes "w")) ≡ codes "refs/x/a")
     × (filled (partial (codes "a")) (Some (codes "w")) ≡ codes "refs/heads/a")
     × (filled (partial (codes "heads/a")) None ≡ codes "refs/heads/heads/a")

@@ -1,4 +1,4 @@
--- Of which readings the sides agree, and what a caller concludes from the laws on sides.
+-- Readings whose sides agree, and what a caller concludes from the laws on sides.
 use Rattle.std.proofs.Common.{◌≡◌, ◌⊎◌, inl, inr, ℕ, List, [], None, Some, codes, refl, subst}
 use Rattle.gix_refspec_text.specs.Texts.Words.{Lacks}
 use Rattle.gix_refspec_text.specs.Texts.Bytes.{star}
@@ -39,7 +39,7 @@ agree = (
 no_star_in_b : ¬ (HasOneStar (codes "b"))
 no_star_in_b (before, after, split) = Lacks-here star before after (subst (Lacks star) split.starred (Lacks-tested star (codes "b") refl))
 
--- a star on one side alone, on either side, and several stars don't
+-- sides with a star on only one side, or with several stars, don't
 pub disagree : ¬ (SidesAgree (fetched Normal (codes "a*") (Some (codes "b")))) × ¬ (SidesAgree (pushed Normal (Some (codes "b")) (Some (codes "a*")))) × ¬ (SidesAgree (fetched Normal (codes "a*b*") None))
 disagree = (left, right, several)
   where
@@ -68,7 +68,7 @@ one_known law k is = law k (partial (codes "main")) is short_kind
 pub one_id_known : OneId (codes "e69de29bb2d1d6434b8b29ae775ad8c2e48c5391") → (i : List ℕ) → IsIdText (codes "e69de29bb2d1d6434b8b29ae775ad8c2e48c5391") i → i ≡ empty_blob
 one_id_known law i is = law i empty_blob is IsIdText-empty_blob
 
--- and so of bytes that aren't at hand
+-- the same from the law for any bytes
 pub each_known : OneOfEach → ((k : SideKind) → HasKind (codes "e69de29bb2d1d6434b8b29ae775ad8c2e48c5391") k → k ≡ object empty_blob) × ((word : List ℕ) → Fits (codes "a") [] (codes "ab") word → word ≡ codes "b") × ((i : List ℕ) → IsIdText (codes "e69de29bb2d1d6434b8b29ae775ad8c2e48c5391") i → i ≡ empty_blob)
 each_known law = (
   (λ k is. law.kind (codes "e69de29bb2d1d6434b8b29ae775ad8c2e48c5391") k (object empty_blob) is blob_kind),

@@ -1,5 +1,5 @@
--- For each condition of the forms a text that breaks it, with the reason for which it is refused, so that it
--- reads as nothing; and readings that no text has.
+-- For each condition of the forms a text that breaks it, with the reason to refuse it, so that it has no reading; and
+-- readings that no text has.
 use Rattle.std.proofs.Common.{◌≡◌, ◌≢◌, ◌⊎◌, ℕ, ◌==◌, false, List, [], ◌∷◌, Option, None, Some, unwrap_or, codes, refl, sym, ◌∙◌, inl, inr}
 use Rattle.std.specs.Prelude.{replicate}
 use Rattle.std.specs.List.{list_any}
@@ -23,9 +23,9 @@ use Rattle.gix_refspec_text.proofs.facts.NameFacts.{stars_in_bad_names}
 use Rattle.gix_refspec_text.proofs.facts.RefusalFacts.{empty_push}
 use Rattle.gix_refspec_text.proofs.facts.GrammarFacts.{begins_signed, with_sign, parts, a_star, b_name, refused_byte, hashes, fetches_main, pushes_matching, deletes_x}
 
--- ---- texts that are refused, which read as nothing
+-- ---- refused texts, which have no reading
 
--- a text whose parts have a first reason against them is refused for it
+-- a text is refused for the first reason to refuse its parts
 refused_for : (op : Operation) (mode : Mode) (s : List ℕ) (d : Option (List ℕ)) (e : Refusal) → begins_signed mode (with_colon s d) ≡ false → list_any (λ c. c == colon) (unwrap_or d s) ≡ false → IsFirstReason op mode s d e → IsRefused op (with_sign mode (with_colon s d)) e
 refused_for op mode s d e unsigned last first = refused op mode s d (with_sign mode (with_colon s d)) e (parts mode s d unsigned last) first
 
@@ -51,7 +51,7 @@ pushed_nowhere = (to_nothing Normal tt refl, to_nothing Forced tt refl)
     to_nothing : (mode : Mode) → IsPositive mode → begins_signed mode (codes "a:") ≡ false → IsRefused Push (with_sign mode (codes "a:")) PushToEmpty
     to_nothing mode positive unsigned = refused_for Push mode (codes "a") (Some []) PushToEmpty unsigned refl (inr ((λ e empty. full _ _ empty.no_source), inr (no_negative mode (Some []) positive, inl (record { push = refl; source = full _ _; nowhere = refl; refusal = refl }))))
 
--- a source that is no name, among them expressions that a push may have; and one that is no pattern
+-- a source that isn't a name, even if a push may have it; and one that isn't a pattern
 bad_fetch : (b : ℕ) (s : List ℕ) (d : Option (List ℕ)) (e : Refusal) → IsBadName (b ∷ s) e ⊎ IsBadPattern (b ∷ s) e → IsFirstReason Fetch Normal (b ∷ s) d e
 bad_fetch b s d e bad = reason_at_source Fetch Normal (b ∷ s) d e (fetch_reaches Normal (b ∷ s) d tt) (record { source = full b s; refusal = bad })
 
@@ -64,14 +64,14 @@ bad_sources = (
   refused_for Fetch Normal (codes "a/.*") (Some (codes "x")) _ refl refl (bad_fetch 97 (codes "/.*") (Some (codes "x")) _ (inr stars_in_bad_names.0)),
 )
 
--- a push of a source alone that is no name, and of one with two stars to a destination
+-- a push of a source alone that isn't a name, and of one with two stars to a destination
 pub bad_pushes : IsRefused Push (codes "a b") (ReferenceName (InvalidByte 32)) × IsRefused Push (codes "a*b*:c") (PatternUnsupported (codes "a*b*"))
 bad_pushes = (
   refused_for Push Normal (codes "a b") None _ refl refl (reason_at_source Push Normal (codes "a b") None _ (push_alone_reaches Normal (codes "a b") tt (λ empty. absurd (full _ _ empty))) (record { source = full _ _; refusal = inl (Lacks-tested star (codes "a b") refl, refused_byte (codes "a") (codes "b") 32 refl) })),
   refused_for Push Normal (codes "a*b*") (Some (codes "c")) _ refl refl (reason_at_source Push Normal (codes "a*b*") (Some (codes "c")) _ (push_reaches Normal (codes "a*b*") (codes "c") tt (λ some empty. full _ _ empty)) (record { source = full _ _; refusal = (record { before = codes "a"; between = codes "b"; after = []; here = refl }, refl) })),
 )
 
--- a destination that is no name, with a source and without, and one that is no pattern
+-- a destination that isn't a name, with a source and without, and one that isn't a pattern
 pub bad_destinations : IsRefused Fetch (codes "a:b c") (ReferenceName (InvalidByte 32)) × IsRefused Fetch (codes ":b c") (ReferenceName (InvalidByte 32)) × IsRefused Push (codes "a:b c") (ReferenceName (InvalidByte 32)) × IsRefused Push (codes ":b c") (ReferenceName (InvalidByte 32)) × IsRefused Fetch (codes "a*:b*c*") (PatternUnsupported (codes "b*c*"))
 bad_destinations = (
   refused_for Fetch Normal (codes "a") (Some (codes "b c")) _ refl refl (reason_at_destination Fetch Normal (codes "a") (Some (codes "b c")) _ (fetch_reaches Normal (codes "a") (Some (codes "b c")) tt) (fetch_source_fine (codes "a") (Some (codes "b c")) Plain (IsName-tested (codes "a") refl)) spaced),
@@ -90,7 +90,7 @@ plain_no_pattern same = absurd (cc)
 pattern_no_plain : Pattern ≢ Plain
 pattern_no_plain same = absurd (cc)
 
--- a star on one side alone, also where the other is missing
+-- a star on only one side, also if the other is missing
 pub unbalanced_fetches : IsRefused Fetch (codes "a*:b") PatternUnbalanced × IsRefused Fetch (codes "b:a*") PatternUnbalanced × IsRefused Fetch (codes ":a*") PatternUnbalanced × IsRefused Fetch (codes "a*:") PatternUnbalanced × IsRefused Fetch (codes "+a*") PatternUnbalanced × IsRefused Fetch (codes "a*") PatternUnbalanced
 unbalanced_fetches = (
   refused_for Fetch Normal (codes "a*") (Some (codes "b")) _ refl refl (unbalanced_fetch Normal (codes "a*") (Some (codes "b")) Pattern Plain tt a_star b_name pattern_no_plain),
@@ -101,7 +101,7 @@ unbalanced_fetches = (
   refused_for Fetch Normal (codes "a*") None _ refl refl (unbalanced_fetch Normal (codes "a*") None Pattern Plain tt a_star tt pattern_no_plain),
 )
 
--- the same in a push, of which a source alone is fine
+-- the same in a push, which may have a source alone, though
 pub pushes_of_one_star : IsRefused Push (codes "a*:b") PatternUnbalanced × IsRefused Push (codes "b:a*") PatternUnbalanced × IsRefused Push (codes ":a*") PatternUnbalanced
 pushes_of_one_star = (
   refused_for Push Normal (codes "a*") (Some (codes "b")) _ refl refl (unbalanced_push Normal (codes "a*") (codes "b") Pattern Plain tt (λ some empty. full _ _ empty) a_star b_name pattern_no_plain),
@@ -109,7 +109,7 @@ pushes_of_one_star = (
   refused_for Push Normal [] (Some (codes "a*")) _ refl refl (unbalanced_push Normal [] (codes "a*") Plain Pattern tt (λ some empty. full _ _ empty) tt a_star plain_no_pattern),
 )
 
--- in either operation `^` and nothing, 40 digits, or what is no name
+-- in either operation `^` and nothing, 40 digits, or a text that isn't a name
 pub bad_negatives : (op : Operation) → IsRefused op (codes "^") NegativeEmpty × IsRefused op (caret ∷ replicate 40 letter) NegativeObjectHash × IsRefused op (codes "^a b") (ReferenceName (InvalidByte 32)) × IsRefused op (codes "^^a") (ReferenceName (InvalidByte 94))
 bad_negatives op = (
   refused_for op Negative [] None _ refl refl (reason_against_nothing op [] Plain refl tt),
@@ -118,20 +118,20 @@ bad_negatives op = (
   refused_for op Negative (codes "^a") None _ refl refl (reason_at_source op Negative (codes "^a") None _ (negative_reaches op (codes "^a")) (bad_negative op (codes "^a") _ (full _ _, inl (Lacks-tested star (codes "^a") refl, refused_byte [] (codes "a") caret refl)))),
 )
 
--- so these texts read as nothing
+-- so these texts have no reading
 pub unread : (r : Reading) → ¬ (Reads Push [] r) × ¬ (Reads Push (codes "a:") r) × ¬ (Reads Fetch (codes "^") r) × ¬ (Reads Fetch (caret ∷ replicate 40 letter) r) × ¬ (Reads Fetch (codes ":a*") r) × ¬ (Reads Push (codes "b:a*") r) × ¬ (Reads Fetch (codes "main~2:x") r) × ¬ (Reads Push (codes "^a:") r)
 unread r = (nothing_pushed.unread r, pushed_nowhere.0.unread r, (bad_negatives Fetch).0.unread r, (bad_negatives Fetch).1.unread r, unbalanced_fetches.2.unread r, pushes_of_one_star.1.unread r, bad_sources.1.unread r, (negatives_to_somewhere Push).2.unread r)
 
--- ---- which readings some text has
+-- ---- readings that some text has, and others
 
 no_text : (r : Reading) → printed r ≡ None → ¬ (IsAccepted r)
 no_text r none (text, reads) = let back = read_back r.operation text r reads in none_some back.text (sym none ∙ back.is)
 
--- a push needs no source, nor any side
+-- a push may lack its source, or both sides
 pub accepted : IsAccepted (fetched Normal (codes "main") None) × IsAccepted (pushed Forced None None) × IsAccepted (pushed Normal None (Some (codes "+x")))
 accepted = ((codes "main", fetches_main.0), (codes "+", pushes_matching.0), (codes ":+x", deletes_x.1))
 
--- a fetch needs one; a negative spec has no destination, but a source; and no star is on one side alone
+-- a fetch needs a source; a negative spec needs a source and has no destination; and a star is never on only one side
 pub not_accepted : ¬ (IsAccepted (record { operation = Fetch; mode = Normal; source = None; destination = Some (codes "x") })) × ¬ (IsAccepted (fetched Negative (codes "a") (Some (codes "b")))) × ¬ (IsAccepted (pushed Negative None None)) × ¬ (IsAccepted (fetched Normal (codes "a*") (Some (codes "b"))))
 not_accepted = (
   no_text _ refl,

@@ -1,5 +1,5 @@
--- What a clause reads of refspecs, instructions, reasons and ids, at values whose fields differ: so none
--- is lost or taken for another. That some text reads as a spec is a premise.
+-- Refspecs, instructions, reasons and ids as contracts see them, at values whose fields differ, so that no field is
+-- lost or taken for another. That some text reads as a spec is a premise.
 use Rattle.std.proofs.Common.{Option, ◌≡◌, ◌≢◌, ℕ, suc, List, [], ◌∷◌, ◌++◌, None, Some, true, false, map, length, get_or, replicate, option_map, codes, refl, sym, ap, ◌∙◌, inl, inr, arith}
 use Rattle.bstr.specs.declared.bstr.BStr.{BStr}
 use Rattle.bstr.specs.declared.bstring.BString.{BString}
@@ -35,15 +35,15 @@ use Rattle.gix_refspec_text.proofs.facts.ObjectIdFacts.{empty_blob}
 use Rattle.gix_refspec_text.proofs.facts.PrefixFacts.{whole_prefixes}
 use Rattle.gix_refspec_text.proofs.facts.RefusalFacts.{empty_push}
 
--- a text that is borrowed
+-- a borrowed text
 abbrev pub lent : List ℕ → BStr
 lent x = record { bytes = record { ref_ptr = (0, 0); now = x } }
 
--- some text reads as this operation, mode, source and destination
+-- some text has the reading with this operation, mode, source and destination
 abbrev pub Accepted : Operation → Mode → Option (List ℕ) → Option (List ℕ) → Type 0
 Accepted op sign s d = accepted-type op sign (option_map lent s) (option_map lent d)
 
--- the spec that was read from such a text
+-- the spec that is parsed from such a text
 abbrev pub spec_of : (op : Operation) (sign : Mode) (s d : Option (List ℕ)) → Accepted op sign s d → RefSpecRef
 spec_of op sign s d accepted = record { op = op; mode = sign; src = option_map lent s; dst = option_map lent d; accepted = accepted }
 
@@ -79,11 +79,11 @@ module _
         ≡ fetched Normal (codes "a") None ∷ fetched Forced (codes "a") (Some (codes "b")) ∷ fetched Negative (codes "a") None ∷ pushed Normal None (Some (codes "b")) ∷ pushed Forced None None ∷ []
     readings = refl
 
-    -- specs that say the same have one key: `a` and `+a` in a fetch, `a` and `a:a` in a push
+    -- specs with the same meaning have one key: `a` and `+a` in a fetch, `a` and `a:a` in a push
     pub same_keys : (key_of_spec fetches_a ≡ key_of_spec (spec_of Fetch mode.Force (Some (codes "a")) None forced)) × (key_of_spec (spec_of Push mode.Normal (Some (codes "a")) None same_name) ≡ key_of_spec (spec_of Push mode.Normal (Some (codes "a")) (Some (codes "a")) to_itself))
     same_keys = (refl, refl)
 
-    -- others have two: `a` in a fetch and in a push, `a` and `^a`, `+a:b` and `a:b`
+    -- specs with different meanings have different keys: `a` in a fetch and in a push, `a` and `^a`, `+a:b` and `a:b`
     pub other_keys : (key_of_spec fetches_a ≢ key_of_spec (spec_of Push mode.Normal (Some (codes "a")) None same_name)) × (key_of_spec fetches_a ≢ key_of_spec (spec_of Fetch mode.Negative (Some (codes "a")) None exclusion)) × (key_of_spec updates_b ≢ key_of_spec (spec_of Fetch mode.Normal (Some (codes "a")) (Some (codes "b")) unforced))
     other_keys = (other_key 0 0 _ _ (λ same. omega (arith, same)), other_key 0 0 _ _ (λ same. omega (arith, same)), other_key 3 0 _ _ (λ same. omega (arith, same)))
 
@@ -96,7 +96,7 @@ module _
     (same_name : owned-type Push mode.Normal (Some n) None)
     (deletion : owned-type Push mode.Normal None (Some m))
   where
-    -- owned specs are read as those that borrow
+    -- owned specs have the readings of borrowed ones
     pub owned_readings : map owned_reading_of (owned_of Fetch mode.Force (Some n) (Some m) update ∷ owned_of Fetch mode.Negative (Some n) None exclusion ∷ owned_of Push mode.Normal None (Some m) deletion ∷ [])
         ≡ fetched Forced (bstring_bytes n) (Some (bstring_bytes m)) ∷ fetched Negative (bstring_bytes n) None ∷ pushed Normal None (Some (bstring_bytes m)) ∷ []
     owned_readings = refl
@@ -117,11 +117,11 @@ fetches = instruction.Fetch (fetch.Only (lent (codes "a"))) ∷ instruction.Fetc
 pub texts_shown : (map (λ i. text_of (meaning_of_instruction i)) pushes ≡ codes "+:" ∷ codes ":" ∷ codes ":x" ∷ codes "+a:b" ∷ codes "^a" ∷ []) × (map (λ i. text_of (meaning_of_instruction i)) fetches ≡ codes "a" ∷ codes "^a" ∷ codes "+a:b" ∷ codes "a:b" ∷ [])
 texts_shown = (refl, refl)
 
--- and what they are for, which their texts don't say
+-- and their operations, which their texts don't show
 pub operations_shown : (map (λ i. meant_for (meaning_of_instruction i)) pushes ≡ Push ∷ Push ∷ Push ∷ Push ∷ Push ∷ []) × (map (λ i. meant_for (meaning_of_instruction i)) fetches ≡ Fetch ∷ Fetch ∷ Fetch ∷ Fetch ∷ [])
 operations_shown = (refl, refl)
 
--- what was read says what its instruction says
+-- a reading and its instruction have the same meaning
 pub instructions_of : (meaning_of (fetched Forced (codes "a") (Some (codes "b"))) ≡ Some (meaning_of_instruction (instruction.Fetch (fetch.AndUpdate (lent (codes "a")) (lent (codes "b")) true)))) × (meaning_of (pushed Normal (Some (codes "a")) None) ≡ Some (meaning_of_instruction (instruction.Push (push.Matching (lent (codes "a")) (lent (codes "a")) false))))
 instructions_of = (refl, refl)
 
@@ -138,7 +138,7 @@ reasons_with_fields p is = (ap PatternUnsupported (sym is), shorter, refl, λ sa
     shorter : ¬ (IsShownAs (error.PatternUnsupported p) (PatternUnsupported (codes "a*b")))
     shorter same = other_length (codes "a*b") (codes "a*b*") (λ size. omega (arith, size)) (ap text_in same ∙ is)
 
--- an error is not the reason of another
+-- an error doesn't stand for the reason of another
 pub other_reasons : (p : BString) → ¬ (IsShownAs error.Empty NegativeEmpty) × ¬ (IsShownAs error.NegativeEmpty Empty) × ¬ (IsShownAs error.NegativeWithDestination NegativeObjectHash) × ¬ (IsShownAs error.NegativeObjectHash NegativeWithDestination) × ¬ (IsShownAs error.PushToEmpty Empty) × ¬ (IsShownAs error.PatternUnbalanced (PatternUnsupported (bstring_bytes p))) × ¬ (IsShownAs (error.PatternUnsupported p) PatternUnbalanced) × ¬ (IsShownAs (error.ReferenceName LockSuffix) (PatternUnsupported (bstring_bytes p)))
 other_reasons p = ((λ same. cc), (λ same. cc), (λ same. cc), (λ same. cc), (λ same. cc), (λ same. cc), (λ same. cc), λ same. cc)
 
@@ -156,11 +156,11 @@ refusal_shown = ((Empty, refl, empty_push.0), (PushToEmpty, refl, refl), λ show
     other : Empty ≢ PushToEmpty
     other same = cc
 
--- out of memory is no refusal of the grammar, whatever is asked of one, nor is a kept variant
+-- `Memory` is never a refusal of the grammar, nor is a variant that is kept for callers
 pub nothing_shown : ¬ (ShowsRefusal (λ f. Unit {0}) error.Memory) × ¬ (ShowsRefusal (λ f. Unit {0}) error.NegativePartialName)
 nothing_shown = ((λ shows. shows.1), λ shows. shows.1)
 
--- ---- texts and prefixes that are added
+-- ---- appended texts and prefixes
 
 -- a canonical text follows what was written
 pub text_after : WritesPrinted (fetched Forced (codes "a") (Some (codes "b"))) (Some (codes "old ")) (Some (codes "old +a:b"))
@@ -170,7 +170,7 @@ text_after = record { text = codes "+a:b"; is = refl; grown = refl }
 pub no_text : ¬ (WritesPrinted (fetched Forced (codes "a") (Some (codes "b"))) (Some (codes "old ")) (Some (codes "+a:b"))) × ((old new : Option (List ℕ)) → ¬ (WritesPrinted (fetched Negative (codes "a") (Some (codes "b"))) old new))
 no_text = ((λ writes. other_byte 0 (codes "+a:b") (codes "old " ++ writes.text) (λ same. omega (arith, same)) writes.grown), λ old new writes. none_some writes.text writes.is)
 
--- what a reading expands to follows the entries that were there, which are kept
+-- the expansion of a reading is appended to the earlier entries, which stay
 pub entries_after : AppendsExpansion (fetched Normal (codes "HEAD") None) (codes "old" ∷ []) (codes "old" ∷ codes "HEAD" ∷ []) × ¬ (AppendsExpansion (fetched Normal (codes "HEAD") None) (codes "old" ∷ []) (codes "HEAD" ∷ []))
 entries_after = (
   record { list = codes "HEAD" ∷ []; is = inl (codes "HEAD", record { positive = tt; side = refl }, to_prefix (codes "HEAD") whole_prefixes.0 refl); appended = refl },

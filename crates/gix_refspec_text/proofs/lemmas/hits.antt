@@ -1,4 +1,4 @@
--- Lemmas on what sides match and take of refs, and on what tests of premises tell.
+-- Lemmas on the refs that sides match and take, and on tests of the premises of laws.
 pub mod CandidateLemmas
 pub mod MatchLemmas
 pub mod PremiseLemmas

@@ -1,4 +1,4 @@
--- Lemmas on what a text is read as, and on why it is refused.
+-- Lemmas on the reading of a text, and on the reasons to refuse it.
 pub mod SideLemmas
 pub mod PartsLemmas
 pub mod ReasonLemmas

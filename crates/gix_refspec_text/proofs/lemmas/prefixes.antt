@@ -1,3 +1,3 @@
--- Lemmas on what a client asks a server for.
+-- Lemmas on ref prefixes.
 pub mod PrefixLemmas
 pub mod OnePrefixLemmas

@@ -8,7 +8,7 @@ use Rattle.gix_refspec_text.specs.Specs.Meaning.{Meaning, push_all_matching, pus
 use Rattle.gix_refspec_text.specs.Specs.Order.{key_of, keys, writes}
 use Rattle.std.specs.Cmp.Lexicographic.{pointwise, slice_cmp, slice_partial_cmp, lists_po, lists_agrees, lists_total, lists_equiv, texts_po, nat_list_cmp_total, nat_list_eq_equiv}
 
--- keys are equal or not as an equivalence says
+-- equality of keys is an equivalence
 pub keys_equiv : IsEquivalence (pointwise (pointwise nat_eq))
 keys_equiv = lists_equiv nat_list_eq_equiv
 
@@ -16,29 +16,29 @@ keys_equiv = lists_equiv nat_list_eq_equiv
 pub keys_total : IsTotalOrder (slice_cmp (slice_cmp nat_cmp))
 keys_total = lists_total nat_list_cmp_total
 
--- the partial order of keys is the total one
+-- the partial order of keys agrees with the total order
 pub keys_po : IsPartialOrder (pointwise (pointwise nat_eq)) (λ xs ys. Some (slice_cmp (slice_cmp nat_cmp) xs ys))
 keys_po =
     let o = lists_po texts_po in
     let a : Agrees (slice_partial_cmp (λ x y. Some (slice_cmp nat_cmp x y))) (slice_cmp (slice_cmp nat_cmp)) = lists_agrees (λ x y. refl) in
     subst (IsPartialOrder (pointwise (pointwise nat_eq))) (λ i xs ys. a xs ys i) o
 
--- the flag of a text
+-- reads a flag back from its bytes
 unflag : List ℕ → Bool
 unflag [] = false
 unflag (b ∷ bs) = b == 1
 
--- the instruction that has a flag alone
+-- the instruction with only a flag
 flagged : List (List ℕ) → Option Meaning
 flagged (f ∷ []) = Some (push_all_matching (unflag f))
 flagged _ = None
 
--- the instruction that has one text
+-- an instruction with one text
 one_text : (List ℕ → Meaning) → List (List ℕ) → Option Meaning
 one_text make (s ∷ []) = Some (make s)
 one_text make _ = None
 
--- the instruction that has two texts and a flag
+-- an instruction with two texts and a flag
 two_texts : (List ℕ → List ℕ → Bool → Meaning) → List (List ℕ) → Option Meaning
 two_texts make (s ∷ d ∷ f ∷ []) = Some (make s d (unflag f))
 two_texts make _ = None
@@ -60,7 +60,7 @@ of_key : List (List ℕ) → Option Meaning
 of_key ((k ∷ ks) ∷ fields) = of_kind k fields
 of_key _ = None
 
--- an instruction can be read from its key
+-- an instruction can be read back from its key
 of_key-key_of : (m : Meaning) → of_key (key_of m) ≡ Some m
 unfolding of_key of_kind flagged one_text two_texts unflag
 of_key-key_of (push_all_matching true) = refl
@@ -74,20 +74,20 @@ of_key-key_of (fetch_exclude s) = refl
 of_key-key_of (fetch_and_update s d true) = refl
 of_key-key_of (fetch_and_update s d false) = refl
 
--- so can what a reading means
+-- so can the meaning of a reading
 of_key-keys : (m : Option Meaning) → of_key (keys m) ≡ m
 unfolding of_key
 of_key-keys None = refl
 of_key-keys (Some m) = of_key-key_of m
 
--- equal keys are those of one instruction
+-- meanings with equal keys are equal
 pub same_meaning : (m n : Option Meaning) → pointwise (pointwise nat_eq) (keys m) (keys n) ≡ true → m ≡ n
 same_meaning m n same = sym (of_key-keys m) ∙ (ap of_key ((pointwise_decides bytes_decides (keys m) (keys n)).0 same) ∙ of_key-keys n)
 
--- and the keys of one instruction are equal
+-- and equal meanings have equal keys
 pub same_keys : (m n : Option Meaning) → m ≡ n → pointwise (pointwise nat_eq) (keys m) (keys n) ≡ true
 same_keys m n same = (pointwise_decides bytes_decides (keys m) (keys n)).1 (ap keys same)
 
--- equal instructions write the same
+-- meanings with equal keys write the same to a hasher
 pub meanings_alike : Alike (λ m n. pointwise (pointwise nat_eq) (keys m) (keys n)) writes
 meanings_alike = record { fed = λ m n same. ap writes (same_meaning m n same) }

@@ -1,6 +1,6 @@
--- What a side of a refspec is, which names it stands for, and what it becomes, by git-fetch(1) under
--- `<refspec>` for patterns and by gitrevisions(7) for partial names. What an id and a partial name become
--- as the other side is this project's own rule.
+-- The kind of a side, the names that it may stand for, and the name that it becomes when the other side matches: by
+-- git-fetch(1) under `<refspec>` for patterns, and by gitrevisions(7) for partial names. The names that an id and a
+-- partial name become are this project's own rule.
 use Rattle.std.specs.Prelude.{◌≡◌, ℕ, ◌||◌, if◌then◌else◌, List, [], ◌∷◌, ◌++◌, Option, None, Some, codes, nat_eq}
 use Rattle.std.specs.List.{starts_with}
 use Rattle.gix_refspec_text.specs.Texts.Words.{Lacks, BeginsWith}
@@ -8,8 +8,8 @@ use Rattle.gix_refspec_text.specs.Texts.Name.{IsSplit}
 use Rattle.gix_refspec_text.specs.Texts.Bytes.{star}
 use Rattle.gix_refspec_text.specs.Texts.ObjectId.{IsIdText, lower_of}
 
--- the kind of a side, with its text: a pattern by the texts before and after its star, the full name
--- of a ref, the id of an object by its bytes, or a partial name
+-- the kind of a side: a pattern with the texts before and after its star, a full name, an object id with its bytes,
+-- or a partial name
 pub data SideKind : Type 0 where
   pattern : List ℕ → List ℕ → SideKind
   full_name : List ℕ → SideKind
@@ -38,34 +38,35 @@ candidates x =
     ∷ (codes "refs/remotes/" ++ (x ++ codes "/HEAD"))
     ∷ []
 
--- n is a candidate of x, after these and before those
+-- n is a candidate of x, with the candidates before and after it
 pub record IsCandidate (x n : List ℕ) : Type 0 where
   pub earlier : List (List ℕ)
   pub later : List (List ℕ)
   pub here : candidates x ≡ earlier ++ (n ∷ later)
 
--- the pattern with these two ends fits the name n with this word for its star: the ends never overlap
+-- the pattern with these texts before and after its star matches the name n, with this word for the star. The two
+-- texts never overlap in n
 abbrev pub Fits : List ℕ → List ℕ → List ℕ → List ℕ → Type 0
 Fits before after n word = n ≡ before ++ (word ++ after)
 
--- the source of a negative spec excludes the name n
+-- the source x of a negative spec excludes the ref name n
 pub data Excludes (x n : List ℕ) : Type 0 where
-  -- without a star that name alone, whatever the source looks like
+  -- without a star, exactly the name x, even if x looks like a partial name or an id
   the_name : Lacks star x → n ≡ x → Excludes x n
-  -- a pattern each name that it fits
+  -- a pattern, each name that it matches
   by_pattern : (before after word : List ℕ) → IsSplit before after x → Fits before after n word → Excludes x n
 
--- the full name that a partial one becomes: with `refs/` before it where it begins `tags/` or `remotes/`,
--- otherwise with `refs/heads/`
+-- the full name that a partial one becomes: `refs/` is put before a name that begins with `tags/` or `remotes/`,
+-- otherwise `refs/heads/`
 abbrev pub full_name_of : List ℕ → List ℕ
 full_name_of x =
     if starts_with nat_eq x (codes "tags/") || starts_with nat_eq x (codes "remotes/")
     then codes "refs/" ++ x
     else codes "refs/heads/" ++ x
 
--- the name that a side becomes, where the other side matched with this word or with none: a pattern gets
--- the word for its star, and keeps the star without one; a full name stays; an id in lower case gets
--- `refs/heads/` before it, and a partial name becomes a full one
+-- the name that a side becomes when the other side matched, with a word or without: a pattern gets the word for its
+-- star, or keeps the star; a full name stays the same; an id becomes `refs/heads/` and its lower-case digits; a
+-- partial name becomes a full name
 abbrev pub filled : SideKind → Option (List ℕ) → List ℕ
 filled (pattern before after) None = before ++ (star ∷ after)
 filled (pattern before after) (Some word) = before ++ (word ++ after)

@@ -1,4 +1,4 @@
--- The pieces that a text is printed from. Only private functions cite this.
+-- The pieces of a canonical text. Only private functions cite this.
 use Rattle.std.specs.Prelude.{ℕ, List, [], ◌∷◌, ◌++◌, Option, None, Some}
 use Rattle.std.specs.Borrow.{Bor}
 use Rattle.gix_refspec_text.specs.declared.spec.write.Pieces.{Pieces}
@@ -9,7 +9,7 @@ abbrev pub optional_byte : Option ℕ → List ℕ
 optional_byte None = []
 optional_byte (Some b) = b ∷ []
 
--- a destination that may be missing, after a colon
+-- a colon and a destination, or nothing
 abbrev pub behind_colon : Option (Bor (List ℕ)) → List ℕ
 behind_colon None = []
 behind_colon (Some d) = colon ∷ d.now

@@ -1,5 +1,5 @@
--- How one pass over the bytes finds a fault of a name. Only private functions cite these words. A text
--- is looked at with a slash put before it, so that each of its components is after a slash.
+-- How one pass over the bytes finds a fault of a name. Only private functions cite this. A text is scanned with a
+-- slash before it, so that each of its components follows a slash.
 use Rattle.std.specs.Prelude.{◌≡◌, ◌≢◌, Bool, ◌⊎◌, ◌≤◌, ◌<◌, ◌-◌, ◌∷◌, ◌++◌, take, ℕ, ◌==◌, List, Option, MatchOption, codes, IsTrue, if◌then◌else◌, map, slice_index}
 use Rattle.std.specs.List.{count_by}
 use Rattle.std.specs.Int.{w64, trailing_zeros}
@@ -17,7 +17,7 @@ use Rattle.gix_refspec_text.specs.Texts.Words.{EndsWith}
 abbrev pub class_at : ℕ → Class
 class_at b = if b == slash then Slash else if b == dot then Dot else if b == brace then Brace else if b == star then Star else if is_refused_byte b then Refused else Plain
 
--- the byte b, put after y, makes the fault e
+-- the byte b, appended to y, adds the fault e
 abbrev pub AddsFault : List ℕ → ℕ → Error → Type 0
 AddsFault y b Empty = ⊥
 AddsFault y b EmptyComponent = (b ≡ slash) × EndsWith (codes "/") y
@@ -29,7 +29,7 @@ AddsFault y b ReflogPortion = (b ≡ brace) × EndsWith (codes "@") y
 AddsFault y b Asterisk = b ≡ star
 AddsFault y b (InvalidByte c) = (b ≡ c) × IsTrue (is_refused_byte c)
 
--- some byte in y adds the fault e to what is before it
+-- some byte of y adds the fault e to the bytes before it
 pub record Added (y : List ℕ) (e : Error) : Type 0 where
   pub before : List ℕ
   pub byte : ℕ
@@ -37,11 +37,11 @@ pub record Added (y : List ℕ) (e : Error) : Type 0 where
   pub here : y ≡ before ++ (byte ∷ after)
   pub fault : AddsFault before byte e
 
--- no byte in y adds a fault to what is before it
+-- no byte of y adds a fault to the bytes before it
 abbrev pub IsClean : List ℕ → Type 0
 IsClean y = (e : Error) → ¬ (Added y e)
 
--- y has the fault e where nothing follows it
+-- y has the fault e if nothing follows it
 abbrev pub LeavesFault : List ℕ → Error → Type 0
 LeavesFault y Empty = ⊥
 LeavesFault y EmptyComponent = EndsWith (codes "/") y
@@ -53,7 +53,7 @@ LeavesFault y ReflogPortion = ⊥
 LeavesFault y Asterisk = ⊥
 LeavesFault y (InvalidByte c) = ⊥
 
--- the answer is a fault as F says, or None where there is no such fault
+-- the answer is a fault that satisfies F, or `None` if no fault does
 abbrev pub Finds : Option Error → (Error → Type 0) → Type 0
 Finds answer F = MatchOption answer ((e : Error) → ¬ (F e)) F
 
@@ -65,32 +65,33 @@ letter_for b = if b == star then letter else b
 abbrev pub with_letters : List ℕ → List ℕ
 with_letters x = map letter_for x
 
--- n stars are in x
+-- x has n stars
 abbrev pub IsStarCount : List ℕ → ℕ → Type 0
 IsStarCount x n = count_by (λ b. b == star) x ≡ n
 
--- one, or none
+-- 1 for true, 0 for false
 abbrev pub one_if : Bool → ℕ
 one_if some = if some then 1 else 0
 
--- with letters for the stars no byte of x before the place i adds a fault, and one of these or none is a
--- star
+-- with letters for the stars, no byte of x before the index i adds a fault; starred says whether these bytes have one
+-- star or none
 abbrev pub IsScanned : List ℕ → ℕ → Bool → Type 0
 IsScanned x i starred = IsClean (with_letters (slash ∷ take i x)) × IsStarCount (take i x) (one_if starred)
 
--- x has a second star, or with letters for its stars this fault
+-- x has a second star, or has this fault with letters for its stars
 abbrev pub Stops : List ℕ → Stop → Type 0
 Stops x SecondStar = HasSeveralStars x
 Stops x (Fault e) = HasFault (with_letters x) e
 
--- after p the byte b is plain, or a slash that neither a slash nor the end of `.lock` is after
+-- after the byte p, the byte b is calm: it is plain, or it is a slash and p is neither a slash nor `k`, the last byte
+-- of `.lock`
 abbrev pub IsCalm : ℕ → ℕ → Type 0
 IsCalm p b = (class_at b ≡ Plain) ⊎ ((b ≡ slash) × (p ≢ slash) × (p ≢ 107))
 
--- each byte of x from the place a up to b is calm after the one before it
+-- each byte of x from the index a up to b is calm after the byte before it
 abbrev pub AreCalm : List ℕ → ℕ → ℕ → Type 0
 AreCalm x a b = (k : ℕ) → a ≤ k → k < b → IsCalm (slice_index x (k - 1)) (slice_index x k)
 
--- the place of the lowest bit of the mask, or n where none is set
+-- the index of the lowest set bit of the mask, or n if none is set
 abbrev pub lowest_of : ℕ → ℕ → ℕ
 lowest_of n mask = if mask == 0 then n else trailing_zeros w64 mask

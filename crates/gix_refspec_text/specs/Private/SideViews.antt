@@ -1,4 +1,4 @@
--- What a clause reads of the types of a side, for functions that callers of the library can't reach.
+-- The stars and the kind of a side as contracts see them, for functions that callers of `gix_refspec` can't reach.
 use Rattle.std.specs.Prelude.{ℕ, List}
 use Rattle.gix_refspec_text.specs.declared.side.Stars.{Stars}
 use Rattle.gix_refspec_text.specs.declared.side.SideKind.{SideKind as DeclaredKind}
@@ -10,13 +10,13 @@ use Rattle.gix_refspec_text.specs.Matching.Side.{SideKind, pattern, full_name, o
 use Rattle.gix_refspec_text.specs.declared.side.Stars.TheVariants as stars
 use Rattle.gix_refspec_text.specs.declared.side.SideKind.TheVariants as declared_kind
 
--- how many stars x has, and where the only one cuts it
+-- how many stars x has, and the texts before and after its only one
 abbrev pub AreStarsOf : List ℕ → Stars → Type 0
 AreStarsOf x stars.No = Lacks star x
 AreStarsOf x (stars.One before after) = IsSplit before.now after.now x
 AreStarsOf x stars.Several = HasSeveralStars x
 
--- the kind that the private type shows
+-- the kind of a side, from the declared type
 abbrev pub kind_of_side : DeclaredKind → SideKind
 kind_of_side (declared_kind.Pattern before after) = pattern before.now after.now
 kind_of_side (declared_kind.FullName name) = full_name name.now

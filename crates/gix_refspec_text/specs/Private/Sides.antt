@@ -1,4 +1,4 @@
--- How the parts of a text are looked at, and which sides they make. Only private functions cite this.
+-- How the parts of a text are checked, and the sides of the spec with these parts. Only private functions cite this.
 use Rattle.std.specs.Prelude.{◌≡◌, ◌≢◌, ◌⊎◌, ℕ, List, [], ◌∷◌, Option, None, Some, option_map}
 use Rattle.gix_refspec_text.specs.declared.parsing.reading.Look.{Look}
 use Rattle.gix_refspec_text.specs.declared.parsing.reading.Shape.{Shape}
@@ -18,12 +18,12 @@ use Rattle.gix_refspec_text.specs.declared.parsing.reading.Shape.TheVariants as 
 use Rattle.gix_refspec_text.specs.declared.parsing.Error.TheVariants as error
 use Rattle.bstr.specs.BStr.{bstr_bytes}
 
--- the error is `Memory` where that may be, or otherwise a refusal as P says
+-- the error is `Memory`, and the condition memory holds; or the error is a refusal that satisfies P
 abbrev pub MemoryOr : Type 0 → (Refusal → Type 0) → Error → Type 0
 MemoryOr memory P error.Memory = memory
 MemoryOr memory P e = ShowsRefusal P e
 
--- x is a name, a pattern, or otherwise without a star and with this fault
+-- x is a name, or a pattern, or has this fault and no star
 abbrev pub IsLook : List ℕ → Look → Type 0
 IsLook x look.Name = IsName x
 IsLook x look.Pattern = IsPattern x
@@ -34,13 +34,13 @@ abbrev pub HasShape : List ℕ → Shape → Type 0
 HasShape x shape.Plain = Lacks star x
 HasShape x shape.Pattern = IsPattern x
 
--- x is missing, a name or a pattern
+-- x is empty, a name or a pattern
 abbrev pub HasCheckedShape : List ℕ → Shape → Type 0
 HasCheckedShape [] shape.Plain = Unit {0}
 HasCheckedShape (b ∷ bs) shape.Plain = IsName (b ∷ bs)
 HasCheckedShape x shape.Pattern = IsPattern x
 
--- the text is neither a name nor a pattern, for this reason
+-- x isn't empty, and is neither a name nor a pattern, for this reason
 abbrev pub IsBadSide : List ℕ → Refusal → Type 0
 IsBadSide x e = (x ≢ []) × (IsBadName x e ⊎ IsBadPattern x e)
 
@@ -49,7 +49,7 @@ abbrev pub side_of : List ℕ → Option (List ℕ)
 side_of [] = None
 side_of (b ∷ bs) = Some (b ∷ bs)
 
--- a fetch that names nothing is one of `HEAD`
+-- the empty source of a fetch names `HEAD`
 abbrev pub named_or_head : List ℕ → List ℕ
 named_or_head [] = head
 named_or_head (b ∷ bs) = named_by (b ∷ bs)
@@ -67,22 +67,22 @@ pub record ArePositive (op : Operation) (p : Parts) : Type 0 where
   pub operation : p.operation ≡ op
   pub positive : IsPositive (mode_of p.mode)
 
--- what the sides make, for the operation and the mode of the parts
+-- the reading with these sides, and with the operation and the mode of the parts
 abbrev pub read_as : Parts → Sides → Reading
 read_as p sides = record { operation = p.operation; mode = mode_of p.mode; source = option_map bstr_bytes sides.source; destination = option_map bstr_bytes sides.destination }
 
--- each text with these parts reads as the sides make
+-- each text with these parts has the reading with these sides
 abbrev pub AreSidesOf : Parts → Sides → Type 0
 AreSidesOf p sides = (text : List ℕ) → HasParts text p → Reads p.operation text (read_as p sides)
 
--- the first reason against parts, or out of memory where a side of them may need it
+-- the error is the first reason to refuse the parts, or `Memory` if a side of them may need memory
 abbrev pub IsReason : Operation → Mode → List ℕ → Option (List ℕ) → Error → Type 0
 IsReason op mode s d = MemoryOr (ReachesMemory op mode s d) (IsFirstReason op mode s d)
 
--- the same, of these parts
+-- the same, for the parts p
 abbrev pub IsReasonAgainst : Parts → Error → Type 0
 IsReasonAgainst p = IsReason p.operation (mode_of p.mode) p.source.now (destination_of p)
 
--- out of memory where a side may need it, or otherwise the first reason against the text
+-- the error is the first reason to refuse the text, or `Memory` if a side of it may need memory
 abbrev pub IsErrorOf : Operation → List ℕ → Error → Type 0
 IsErrorOf op text = MemoryOr (MayNeedMemory op text) (IsRefused op text)

@@ -1,8 +1,7 @@
--- The grammar of refspecs, by git-fetch(1) and git-push(1) under `<refspec>`: the thirteen forms of
--- a text, and what each is read as. A push of two patterns is by git-push(1) under `--prune`. No form of
--- git-push(1) of Git 2.39 are a push of a lone pattern and negative specs in a push: Git takes them without
--- its manual saying so. Nor are the empty source of a fetch and a lone `+` in a push: the first is what Git
--- does, and the second this project's own rule.
+-- The grammar of refspecs, by git-fetch(1) and git-push(1) under `<refspec>`: the thirteen forms of a text, and the
+-- reading of each. A push of two patterns is by git-push(1) under `--prune`. Not in the manuals of Git 2.39, but
+-- accepted by Git, are a push of a lone pattern, a negative spec in a push, and the empty source of a fetch. A lone
+-- `+` in a push is this project's own rule.
 use Rattle.std.specs.Prelude.{◌≡◌, ◌≢◌, ◌⊎◌, ◌≤◌, ℕ, ◌==◌, if◌then◌else◌, List, [], ◌∷◌, ◌++◌, Option, None, Some, length}
 use Rattle.std.specs.List.{AllPass}
 use Rattle.std.specs.Char.{is_ascii_hexdigit}
@@ -13,7 +12,7 @@ use Rattle.gix_refspec_text.specs.Texts.Name.{IsName, IsPattern}
 use Rattle.gix_refspec_text.specs.Texts.Bytes.{star, plus, caret, colon, at, head}
 use Rattle.gix_refspec_text.specs.Specs.Reading.{Mode, Normal, Forced, Negative, Reading}
 
--- the first byte is no sign
+-- the text doesn't begin with a sign
 abbrev pub IsUnsigned : List ℕ → Type 0
 IsUnsigned [] = Unit {0}
 IsUnsigned (b ∷ bs) = (b ≢ plus) × (b ≢ caret)
@@ -29,13 +28,13 @@ abbrev pub with_colon : List ℕ → Option (List ℕ) → List ℕ
 with_colon s None = s
 with_colon s (Some d) = s ++ (colon ∷ d)
 
--- the last of the words holds no colon
+-- the last word doesn't contain a colon
 abbrev pub LastLacksColon : List ℕ → Option (List ℕ) → Type 0
 LastLacksColon s None = Lacks colon s
 LastLacksColon s (Some d) = Lacks colon d
 
 -- the text is a sign and a source alone, or a sign, a source, a colon and a destination; the last
--- word holds no colon. Words may be empty
+-- word doesn't contain a colon. Words may be empty
 pub record AreParts (mode : Mode) (s : List ℕ) (d : Option (List ℕ)) (text : List ℕ) : Type 0 where
   pub signed : IsSigned mode text (with_colon s d)
   pub last : LastLacksColon s d
@@ -52,7 +51,7 @@ named_by [] = []
 named_by (b ∷ []) = if b == at then head else b ∷ []
 named_by (b ∷ c ∷ bs) = b ∷ c ∷ bs
 
--- 40 hex digits or more, as the id of an object might have: this project's own rule
+-- 40 hex digits or more, as an object id might have: this project's own rule
 pub record LooksLikeObjectHash (x : List ℕ) : Type 0 where
   pub long : 40 ≤ length x
   pub digits : AllPass is_ascii_hexdigit x
@@ -73,8 +72,8 @@ fetched mode s d = record { operation = Fetch; mode = mode; source = Some s; des
 abbrev pub pushed : Mode → Option (List ℕ) → Option (List ℕ) → Reading
 pushed mode s d = record { operation = Push; mode = mode; source = s; destination = d }
 
--- for the operation, the text reads as r. The examples show a text without `+`, which may be first
--- where no `^` does; s and d are words
+-- for the operation, the text reads as r. In the examples s and d are words; a form that is shown without a sign may
+-- also begin with `+`
 pub data Reads (op : Operation) (text : List ℕ) (r : Reading) : Type 0 where
   -- the empty text and `+`: a fetch of `HEAD`
   fetches_nothing_named : (mode : Mode) → op ≡ Fetch → IsPositive mode → AreParts mode [] None text → r ≡ fetched mode head None → Reads op text r
@@ -94,11 +93,11 @@ pub data Reads (op : Operation) (text : List ℕ) (r : Reading) : Type 0 where
   pushes_colon : (mode : Mode) → op ≡ Push → IsPositive mode → AreParts mode [] (Some []) text → r ≡ pushed mode None None → Reads op text r
   -- `s`: to the same name
   pushes : (mode : Mode) (s : List ℕ) → op ≡ Push → IsPositive mode → AreParts mode s None text → IsNameOrPattern s → r ≡ pushed mode (Some (named_by s)) None → Reads op text r
-  -- `:d`: a ref to be deleted
+  -- `:d`: deletes the ref d
   deletes : (mode : Mode) (d : List ℕ) → op ≡ Push → IsPositive mode → AreParts mode [] (Some d) text → IsName d → r ≡ pushed mode None (Some d) → Reads op text r
   -- `s:d` with two patterns
   pushes_pattern : (mode : Mode) (s d : List ℕ) → op ≡ Push → IsPositive mode → AreParts mode s (Some d) text → IsPattern s → IsPattern d → r ≡ pushed mode (Some (named_by s)) (Some d) → Reads op text r
-  -- `s:d` where s is whatever names an object, such as `main~2` or `:/message`: any bytes but a star
+  -- `s:d` where s is any expression for an object, such as `main~2` or `:/message`: any bytes but a star
   pushes_to : (mode : Mode) (s d : List ℕ) → op ≡ Push → IsPositive mode → AreParts mode s (Some d) text → s ≢ [] → Lacks star s → IsName d → r ≡ pushed mode (Some (named_by s)) (Some d) → Reads op text r
   -- `^s` in a push
   push_excludes : (s : List ℕ) → op ≡ Push → AreParts Negative s None text → IsNameOrPattern s → ¬ (LooksLikeObjectHash s) → r ≡ pushed Negative (Some (named_by s)) None → Reads op text r

@@ -1,6 +1,5 @@
--- How instructions compare. This project's own order, which is that of the declarations: pushes are
--- before fetches; among each the kinds of instruction; then their fields, bytes lexicographically and
--- false before true.
+-- How instructions compare: this project's own order, which is that of the declarations. Pushes come before fetches;
+-- within each, variants in order; then the fields in order, bytes lexicographically and false before true.
 use Rattle.std.specs.Prelude.{ℕ, Bool, true, false, List, [], ◌∷◌, ◌++◌, Option, None, Some, nat_eq, pos}
 use Rattle.std.specs.declared.cmp.Ordering.{Ordering}
 use Rattle.std.specs.Ordering.{nat_cmp}
@@ -21,7 +20,7 @@ abbrev pub flag : Bool → List ℕ
 flag false = 0 ∷ []
 flag true = 1 ∷ []
 
--- the kind of an instruction, and then its fields
+-- the number of the variant, and then the fields
 abbrev pub key_of : Meaning → List (List ℕ)
 key_of (push_all_matching forced) = (0 ∷ []) ∷ flag forced ∷ []
 key_of (push_delete d) = (1 ∷ []) ∷ d ∷ []
@@ -39,12 +38,12 @@ is_same a b = pointwise (pointwise nat_eq) (key_of a) (key_of b)
 abbrev pub order : Meaning → Meaning → Ordering
 order a b = slice_cmp (slice_cmp nat_cmp) (key_of a) (key_of b)
 
--- the key of what a reading means
+-- the key of the meaning of a reading
 abbrev pub keys : Option Meaning → List (List ℕ)
 keys None = []
 keys (Some m) = key_of m
 
--- what hashing an instruction writes: the operation, the kind, and then the fields
+-- what hashing an instruction writes: the operation, the variant, and then the fields
 abbrev pub writes_of : Meaning → HashWrites
 writes_of (push_all_matching forced) = fed.isize (pos 0) ++ (fed.isize (pos 0) ++ fed.bool forced)
 writes_of (push_delete d) = fed.isize (pos 0) ++ (fed.isize (pos 1) ++ fed.slice fed.u8 d)
@@ -54,7 +53,7 @@ writes_of (fetch_only s) = fed.isize (pos 1) ++ (fed.isize (pos 0) ++ fed.slice 
 writes_of (fetch_exclude s) = fed.isize (pos 1) ++ (fed.isize (pos 1) ++ fed.slice fed.u8 s)
 writes_of (fetch_and_update s d forced) = fed.isize (pos 1) ++ (fed.isize (pos 2) ++ (fed.slice fed.u8 s ++ (fed.slice fed.u8 d ++ fed.bool forced)))
 
--- what hashing writes of what a reading means
+-- what hashing the meaning of a reading writes
 abbrev pub writes : Option Meaning → HashWrites
 writes None = []
 writes (Some m) = writes_of m

@@ -1,22 +1,22 @@
--- What a refspec is read as, apart from where the bytes lie.
+-- The reading of a refspec: what it is parsed to, apart from where its bytes lie.
 use Rattle.std.specs.Prelude.{◌⊎◌, ℕ, List, Option, IsSome}
 use Rattle.gix_refspec_text.specs.declared.parsing.Operation.{Operation}
 use Rattle.gix_refspec_text.specs.declared.parsing.Operation.TheVariants.{Push, Fetch}
 
--- what the sign says: none, `+` or `^`
+-- the mode, given by the sign: none, `+` or `^`
 pub data Mode : Type 0 where
   Normal : Mode
   Forced : Mode
   Negative : Mode
 
--- what a text is read as; each side is a text, or missing
+-- the reading of a text; each side is a text, or missing
 pub record Reading : Type 0 where
   pub operation : Operation
   pub mode : Mode
   pub source : Option (List ℕ)
   pub destination : Option (List ℕ)
 
--- one of the sides is there, or both
+-- at least one side is present
 abbrev pub HasSide : Reading → Type 0
 HasSide r = IsSome r.source ⊎ IsSome r.destination
 

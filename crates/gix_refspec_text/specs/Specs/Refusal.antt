@@ -20,18 +20,18 @@ pub data Refusal : Type 0 where
   NegativeEmpty : Refusal
   NegativeObjectHash : Refusal
 
--- x is no pattern though it has a star, for this reason
+-- x has a star but isn't a pattern, for this reason
 abbrev pub IsBadPattern : List ℕ → Refusal → Type 0
 IsBadPattern x (PatternUnsupported pattern) = HasSeveralStars x × (pattern ≡ x)
 IsBadPattern x (ReferenceName fault) = (y : List ℕ) × ReplacesStar x y × HasFault y fault
 IsBadPattern x _ = ⊥
 
--- x is no name though it has no star, for this reason
+-- x has no star but isn't a name, for this reason
 abbrev pub IsBadName : List ℕ → Refusal → Type 0
 IsBadName x (ReferenceName fault) = Lacks star x × HasFault x fault
 IsBadName x _ = ⊥
 
--- the reasons, each for a text that has a mode, a source and perhaps a destination as its parts
+-- the reasons, each by the parts of a text: its mode, its source and, if there is a colon, its destination
 
 -- a push of an empty text
 pub record IsEmptyPush (op : Operation) (mode : Mode) (s : List ℕ) (d : Option (List ℕ)) (e : Refusal) : Type 0 where
@@ -54,13 +54,13 @@ pub record PushesNowhere (op : Operation) (s : List ℕ) (d : Option (List ℕ))
   pub nowhere : d ≡ Some []
   pub refusal : e ≡ PushToEmpty
 
--- a source must be a name or a pattern, but one that is pushed to a destination need not be a name
+-- s is a bad source, for this reason. It must be a name or a pattern; in a push to a destination it need not be a name
 abbrev pub IsBadSourceFor : Operation → Option (List ℕ) → List ℕ → Refusal → Type 0
 IsBadSourceFor Push (Some d) s e = IsBadPattern s e
 IsBadSourceFor Push None s e = IsBadName s e ⊎ IsBadPattern s e
 IsBadSourceFor Fetch d s e = IsBadName s e ⊎ IsBadPattern s e
 
--- a source that is not what it must be, as `a..b` in a fetch
+-- a bad source that is present, as `a..b` in a fetch
 pub record HasBadSource (op : Operation) (s : List ℕ) (d : Option (List ℕ)) (e : Refusal) : Type 0 where
   pub source : s ≢ []
   pub refusal : IsBadSourceFor op d s e
@@ -76,8 +76,8 @@ pub record HasBadDestination (d : Option (List ℕ)) (e : Refusal) : Type 0 wher
 abbrev pub IsOneStarred : List ℕ → List ℕ → Type 0
 IsOneStarred x y = (HasStar x × Lacks star y) ⊎ (Lacks star x × HasStar y)
 
--- exactly one side has a star, and a missing side has none. A push without destination is none of these:
--- its source is its destination too
+-- exactly one side has a star, and a missing side has none. A push without a destination is never unbalanced: its
+-- source is its destination too
 pub record IsUnbalanced (op : Operation) (mode : Mode) (s : List ℕ) (d : Option (List ℕ)) (e : Refusal) : Type 0 where
   pub positive : IsPositive mode
   pub one : IsOneStarred s (unwrap_or d [])
@@ -96,11 +96,11 @@ pub record ExcludesObject (mode : Mode) (s : List ℕ) (e : Refusal) : Type 0 wh
   pub hash : LooksLikeObjectHash s
   pub refusal : e ≡ NegativeObjectHash
 
--- no refusal is as P says
+-- no refusal satisfies P
 abbrev pub Never : (Refusal → Type 0) → Type 0
 Never P = (e : Refusal) → ¬ (P e)
 
--- as P says, or, where no refusal is as P says, as Q says
+-- e satisfies P; or no refusal satisfies P, and e satisfies Q
 abbrev pub OrElse : (Refusal → Type 0) → (Refusal → Type 0) → Refusal → Type 0
 OrElse P Q e = P e ⊎ (Never P × Q e)
 
@@ -116,7 +116,7 @@ IsFirstReason op mode s d =
     (OrElse (ExcludesNothing mode s)
     (ExcludesObject mode s)))))))
 
--- for the operation, the text reads as nothing, and e is the first reason
+-- for the operation, the text has no reading, and e is the first reason
 pub record IsRefused (op : Operation) (text : List ℕ) (e : Refusal) : Type 0 where
   pub unread : (r : Reading) → ¬ (Reads op text r)
   pub mode : Mode
@@ -129,12 +129,12 @@ pub record IsRefused (op : Operation) (text : List ℕ) (e : Refusal) : Type 0 w
 abbrev pub NeedsMemory : List ℕ → Type 0
 NeedsMemory x = HasSeveralStars x ⊎ (HasStar x × (256 < length x))
 
--- none of the reasons that are before the source's applies
+-- no reason that comes before those of the source applies
 abbrev pub NoReasonBeforeSource : Operation → Mode → List ℕ → Option (List ℕ) → Type 0
 NoReasonBeforeSource op mode s d = Never (IsEmptyPush op mode s d) × Never (HasNegativeDestination mode d) × Never (PushesNowhere op s d)
 
--- the source may need memory and no reason before it applies, or the destination may and no reason
--- before it or of the source applies
+-- the source may need memory and no reason before those of the source applies; or the destination may, and also no
+-- reason of the source applies
 abbrev pub ReachesMemory : Operation → Mode → List ℕ → Option (List ℕ) → Type 0
 ReachesMemory op mode s None = NoReasonBeforeSource op mode s None × NeedsMemory s
 ReachesMemory op mode s (Some d) = NoReasonBeforeSource op mode s (Some d) × (NeedsMemory s ⊎ (Never (HasBadSource op s (Some d)) × NeedsMemory d))

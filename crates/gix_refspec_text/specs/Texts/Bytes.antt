@@ -1,4 +1,4 @@
--- The bytes that have a meaning in names and refspecs, and the one name that is known to all.
+-- The bytes with a meaning in ref names and refspecs, and the name `HEAD`.
 use Rattle.std.specs.Prelude.{ℕ, List, codes}
 
 -- `/`

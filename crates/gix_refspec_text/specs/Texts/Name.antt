@@ -1,6 +1,5 @@
--- The names of refs, by git-check-ref-format(1) where one level is allowed, and patterns, by
--- git-fetch(1): texts that are names once a letter stands for their one star. Other than in the
--- manual, `@` is a name.
+-- Ref names, by git-check-ref-format(1) with `--allow-onelevel`, and patterns, by git-fetch(1): texts with one star
+-- that are ref names with a letter in its place. Unlike in the manual, `@` is a ref name.
 use Rattle.std.specs.Prelude.{◌≡◌, ◌≢◌, ℕ, Bool, ◌||◌, ◌==◌, nat_lt, List, [], ◌∷◌, ◌++◌, codes, IsTrue}
 use Rattle.std.specs.List.{list_any}
 use Rattle.gix_refspec_text.specs.declared.name.Error.{Error}
@@ -8,11 +7,11 @@ use Rattle.gix_refspec_text.specs.declared.name.Error.TheVariants.{Empty, EmptyC
 use Rattle.gix_refspec_text.specs.Texts.Bytes.{slash, star, letter}
 use Rattle.gix_refspec_text.specs.Texts.Words.{Lacks, ContainsText, BeginsWith, EndsWith, ArePartsAt}
 
--- a control character, or one of these seven, the space among them
+-- a control character, a space, or one of the six others listed here
 abbrev pub is_refused_byte : ℕ → Bool
 is_refused_byte b = nat_lt b 32 || b == 127 || list_any (λ c. b == c) (codes " ~^:?[\\")
 
--- some component of x is as P says: one of the words between its slashes
+-- some component of x, a word between its slashes, satisfies P
 pub record SomeComponent (P : List ℕ → Type 0) (x : List ℕ) : Type 0 where
   pub before : List (List ℕ)
   pub component : List ℕ
@@ -20,7 +19,7 @@ pub record SomeComponent (P : List ℕ → Type 0) (x : List ℕ) : Type 0 where
   pub components : ArePartsAt slash (before ++ (component ∷ after)) x
   pub fact : P component
 
--- a star is in x
+-- x contains a star
 abbrev pub HasStar : List ℕ → Type 0
 HasStar x = ContainsText (codes "*") x
 
@@ -36,11 +35,11 @@ HasFault x ReflogPortion = ContainsText (codes "@{") x
 HasFault x Asterisk = HasStar x
 HasFault x (InvalidByte b) = ContainsText (b ∷ []) x × IsTrue (is_refused_byte b)
 
--- x is a name: no fault holds of it
+-- x is a valid ref name, called a name here: it has no fault
 abbrev pub IsName : List ℕ → Type 0
 IsName x = (e : Error) → ¬ (HasFault x e)
 
--- two stars or more are in x
+-- x has two stars or more
 pub record HasSeveralStars (x : List ℕ) : Type 0 where
   pub before : List ℕ
   pub between : List ℕ
@@ -64,7 +63,7 @@ pub record ReplacesStar (x y : List ℕ) : Type 0 where
   pub split : IsSplit before after x
   pub replaced : y ≡ before ++ (letter ∷ after)
 
--- x is a pattern: it has one star, and with the letter in its place it is a name. So no pattern ends
+-- x is a pattern: it has one star, and with the letter in its place it is a name. So a pattern never ends
 -- with a slash
 pub record IsPattern (x : List ℕ) : Type 0 where
   pub with_letter : List ℕ

@@ -1,6 +1,6 @@
--- Ids of Git objects, which gitglossary(7) calls object names, and the texts that spell them. That a text has
--- 40 digits (SHA-1) or 64 (SHA-256), of either case where it is read and in lower case where it is printed, is this
--- project's own rule, after what Git prints and takes.
+-- Object ids, which gitglossary(7) calls object names, and the texts that spell them. A text has 40 digits (SHA-1) or
+-- 64 (SHA-256), and is read in either case and printed in lower case: this project's own rule, after what Git accepts
+-- and prints.
 use Rattle.std.specs.Prelude.{◌≡◌, ℕ, ◌+◌, ◌*◌, nat_le, ◌&&◌, ◌||◌, Bool, false, List, length, take, slice_index, codes, Some}
 use Rattle.std.specs.List.{AllPass, EachIndex, SomeIndex}
 use Rattle.hex.specs.Hex.{encode_lower, hex_digit_value, is_hex_digit}
@@ -24,7 +24,7 @@ digits_of Sha256 = 64
 abbrev pub id_bytes : ObjectId → List ℕ
 id_bytes id = take (bytes_of id.kind) id.buffer
 
--- n is how many digits spell an id of some kind
+-- n digits spell an id of some kind
 abbrev pub IsIdLength : ℕ → Type 0
 IsIdLength n = (kind : Kind) × (n ≡ digits_of kind)
 
@@ -47,7 +47,7 @@ pub record IsIdText (t i : List ℕ) : Type 0 where
   pub bytes : length i ≡ bytes_of kind
   pub spelled : Spells t i
 
--- what keeps a text from being the text of an id
+-- why t is not the text of an id
 abbrev pub HasIdFault : List ℕ → Error → Type 0
 HasIdFault t (Length len) = (len ≡ length t) × ¬ (IsIdLength (length t))
 HasIdFault t Digit = IsIdLength (length t) × SomeIndex t (λ k. is_hex_digit (slice_index t k) ≡ false)

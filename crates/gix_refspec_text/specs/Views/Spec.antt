@@ -1,4 +1,4 @@
--- What a clause reads of a refspec.
+-- Refspecs as contracts see them.
 use Rattle.std.specs.Prelude.{ℕ, List, option_map}
 use Rattle.bstr.specs.BStr.{bstr_bytes}
 use Rattle.bstr.specs.Owned.{bstring_bytes}
@@ -9,7 +9,7 @@ use Rattle.gix_refspec_text.specs.Specs.Meaning.{meaning_of}
 use Rattle.gix_refspec_text.specs.Specs.Order.{keys}
 use Rattle.gix_refspec_text.specs.Views.Instruction.{mode_of}
 
--- what the spec was read as
+-- the reading of a spec: its fields, with the sides as bytes
 abbrev pub reading_of : RefSpecRef → Reading
 reading_of s = record { operation = s.op; mode = mode_of s.mode; source = option_map bstr_bytes s.src; destination = option_map bstr_bytes s.dst }
 
@@ -17,7 +17,7 @@ reading_of s = record { operation = s.op; mode = mode_of s.mode; source = option
 abbrev pub key_of_spec : RefSpecRef → List (List ℕ)
 key_of_spec s = keys (meaning_of (reading_of s))
 
--- what an owned spec was read as
+-- the reading of an owned spec
 abbrev pub owned_reading_of : RefSpec → Reading
 owned_reading_of s = record { operation = s.op; mode = mode_of s.mode; source = option_map bstring_bytes s.src; destination = option_map bstring_bytes s.dst }
 

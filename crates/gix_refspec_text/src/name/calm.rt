@@ -1,16 +1,16 @@
-// Looks at several bytes of a name at once.
+// Checks several bytes of a name at once.
 
 ghost use Rattle.std.specs.Prelude.{◌≡◌, ◌<◌, ◌≤◌, ◌+◌, length};
 ghost use Rattle.gix_refspec_text.specs.Private.Scan.{AreCalm, lowest_of};
 
 use std::simd::prelude::*;
 
-/// How many bytes are looked at at once.
+/// How many bytes are checked at once.
 pub(super) const LANES: usize = 16;
 
-/// How many of the bytes from a place on are calm, as most of a name are: letters, digits, `-`, `@`,
-/// `_` and the byte before `a`, and slashes after other bytes than a slash and a `k`, with which
-/// `.lock` ends. Other bytes may be calm too, and then they are looked at one by one.
+/// How many of the bytes from the index `at` on are calm, as most bytes of a name are: letters, digits,
+/// `-`, `@`, `_` and the byte before `a`, and each slash that doesn't follow a slash or a `k`, the last
+/// byte of `.lock`. Other harmless bytes end the run too; the caller checks them one by one.
 #[inline(always)]
 pub(super) fn calm_run(text: &[u8], at: usize) -> usize
     requires { (0 < at) × (at + LANES ≤ length text.now) }
@@ -27,7 +27,7 @@ pub(super) fn calm_run(text: &[u8], at: usize) -> usize
     first_set((stops | (bytes.simd_eq(u8x16::splat(b'/')) & ends)).to_bitmask())
 }
 
-// The place of the lowest of the bits of some lanes, or how many lanes there are.
+// The index of the lowest set bit, or `LANES` if none is set.
 #[inline(always)]
 fn first_set(mask: u64) -> usize
     ensures { result ≡ lowest_of LANES mask }

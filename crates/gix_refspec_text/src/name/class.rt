@@ -1,11 +1,11 @@
-// The classes of bytes that the check of a name distinguishes.
+// The byte classes for checking ref names.
 
 ghost use Rattle.std.specs.Prelude.{◌≡◌};
 ghost use Rattle.gix_refspec_text.specs.Private.Scan.{class_at};
 
 use self::Class::*;
 
-/// What a byte may be to a name.
+/// Where a ref name may contain a byte.
 #[derive(Clone, Copy)]
 pub(super) enum Class {
     /// It is allowed anywhere.
@@ -14,7 +14,7 @@ pub(super) enum Class {
     Slash,
     /// It is allowed neither first in a component, nor last in a text, nor beside another.
     Dot,
-    /// It isn't allowed after an at sign.
+    /// It isn't allowed after an `@`.
     Brace,
     /// It is allowed only in a pattern.
     Star,
@@ -22,7 +22,7 @@ pub(super) enum Class {
     Refused,
 }
 
-// The class of each byte, at the place of its number: a row has sixteen of them.
+// The class of each byte, by index, sixteen to a row.
 #[rattlefmt::skip]
 static CLASSES: [Class; 256] = [
     Refused, Refused, Refused, Refused, Refused, Refused, Refused, Refused, Refused, Refused, Refused, Refused, Refused, Refused, Refused, Refused,
@@ -43,7 +43,6 @@ static CLASSES: [Class; 256] = [
     Plain, Plain, Plain, Plain, Plain, Plain, Plain, Plain, Plain, Plain, Plain, Plain, Plain, Plain, Plain, Plain,
 ];
 
-// The class of a byte.
 pub(super) fn class_of(byte: u8) -> Class
     ensures { result ≡ class_at byte }
 {

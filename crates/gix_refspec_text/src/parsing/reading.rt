@@ -1,4 +1,4 @@
-//! The reading of a refspec.
+//! Parsing of a refspec.
 
 ghost use Rattle.std.specs.Prelude.{◌≡◌, ◌≢◌, ◌↔◌, [], option_map, IfOk, IfErr, MatchBool, IsTrue};
 ghost use Rattle.bstr.specs.BStr.{bstr_bytes};
@@ -10,23 +10,23 @@ ghost use Rattle.gix_refspec_text.specs.Private.Scan.{with_letters};
 ghost use Rattle.gix_refspec_text.specs.Private.Sides.{MemoryOr, IsLook, HasShape, HasCheckedShape, IsBadSide, HasParts, destination_of, ArePositive, AreSidesOf, IsReasonAgainst, named_or_head as named_or_head_of, side_of as side_bytes};
 ghost use Rattle.gix_refspec_text.specs.Views.Spec.{reading_of};
 
-use crate::split::split_at_last;
 use crate::name;
 use crate::name::{Stop, starred_name};
 use crate::oid::Kind;
 use crate::parsing::{Error, Operation};
 use crate::side::{Stars, stars_of};
 use crate::spec::RefSpecRef;
+use crate::split::split_at_last;
 use crate::types::Mode;
 use bstr::{BStr, BString};
 use std::alloc::Global;
 
-// What a side was found to be.
+// What the check of a side found.
 #[derive(Clone, Copy)]
 enum Look {
     Name,
     Pattern,
-    // No star, and a fault of it as a name.
+    // No star, and this fault of a ref name.
     Other(name::Error),
 }
 
@@ -37,7 +37,7 @@ enum Shape {
     Pattern,
 }
 
-// The parts of a text, and the operation that it is read for. Without a colon there is no
+// The parts of a text, and the operation that it is parsed for. Without a colon there is no
 // destination.
 #[derive(Clone, Copy)]
 struct Parts<'a> {
@@ -47,19 +47,19 @@ struct Parts<'a> {
     destination: Option<&'a [u8]>,
 }
 
-// The sides that a spec gets.
+// The sides of the parsed spec.
 #[derive(Clone, Copy)]
 struct Sides<'a> {
     source: Option<BStr<'a>>,
     destination: Option<BStr<'a>>,
 }
 
-/// Reads a refspec for an operation, by git-fetch(1) and git-push(1) under `<refspec>`. The sides
-/// borrow from the text for its life, or are the constant `HEAD`. The time is linear in the text.
+/// Parses a refspec for an operation, by git-fetch(1) and git-push(1) under `<refspec>`. The sides
+/// borrow from the text, or are the constant `HEAD`. Takes time linear in the length of the text.
 ///
 /// Any other text is refused with the first reason that applies, in the order listed at [`Error`].
-/// Nothing is allocated but the copy of a side with several stars, which is reported whole. If memory
-/// runs out there, the refusal is `Memory`.
+/// Allocates only to copy a side with several stars, which the error holds whole. If memory runs out
+/// there, the error is `Memory`.
 pub fn parse<'a>(
     alloc: Global,
     spec: BStr<'a>,
@@ -67,7 +67,7 @@ pub fn parse<'a>(
 ) -> Result<RefSpecRef<'a>, Error>
     ensures ok { IfOk result (λ s. Reads operation (bstr_bytes spec.entry) (reading_of s)) }
 
-    // The first reason that applies. Out of memory only if a side may need it.
+    // The first reason that applies. `Memory` only if a side may need memory.
     ensures refused { IfErr result (λ e. e ≢ Error.Memory →
         ShowsRefusal (IsRefused operation (bstr_bytes spec.entry)) e) }
     ensures memory { IfErr result (λ e. e ≡ Error.Memory →
@@ -84,7 +84,7 @@ pub fn parse<'a>(
 }
 
 impl<'a> Parts<'a> {
-    // The text is cut after its sign and at its last colon.
+    // Splits the text after its sign and at its last colon.
     fn new(operation: Operation, text: &'a [u8]) -> Parts<'a>
         ensures operation { result.operation ≡ operation }
         ensures parts { HasParts text.now result }
@@ -100,7 +100,7 @@ impl<'a> Parts<'a> {
     }
 }
 
-// The mode that the sign says, and what follows the sign.
+// The mode given by the sign, and the text after the sign.
 fn take_sign(text: &[u8]) -> (Mode, &[u8])
     ensures { IsSigned (mode_of result.0) text.now result.1.now }
 {
@@ -111,7 +111,7 @@ fn take_sign(text: &[u8]) -> (Mode, &[u8])
     }
 }
 
-// The source and, where there is a colon, the destination after the last one.
+// The source and, if there is a colon, the destination after the last one.
 fn split_at_last_colon(rest: &[u8]) -> (&[u8], Option<&[u8]>)
     ensures whole { rest.now ≡ with_colon result.0.now (option_map (λ d. d.now) result.1) }
     ensures last { LastLacksColon result.0.now (option_map (λ d. d.now) result.1) }
@@ -122,7 +122,7 @@ fn split_at_last_colon(rest: &[u8]) -> (&[u8], Option<&[u8]>)
     }
 }
 
-// What a side is. Its stars are looked for and its name is checked in one look.
+// Checks a side, its stars and its name in one pass unless it has a fault.
 #[inline(always)]
 fn look_at(alloc: Global, side: &[u8]) -> Result<Look, Error>
     ensures ok { IfOk result (IsLook side.now) }
@@ -136,7 +136,7 @@ fn look_at(alloc: Global, side: &[u8]) -> Result<Look, Error>
     }
 }
 
-// What a side is that has a fault with letters for its stars.
+// Classifies a side that isn't a name even with its stars read as letters.
 #[inline(never)]
 fn with_fault(alloc: Global, side: &[u8], fault: name::Error) -> Result<Look, Error>
     requires { HasFault (with_letters side.now) fault }
@@ -150,7 +150,7 @@ fn with_fault(alloc: Global, side: &[u8], fault: name::Error) -> Result<Look, Er
     }
 }
 
-// The refusal of a side with several stars.
+// The error for a side with several stars.
 #[inline(never)]
 fn several_stars(alloc: Global, side: &[u8]) -> Error
     requires { HasSeveralStars side.now }
@@ -162,7 +162,7 @@ fn several_stars(alloc: Global, side: &[u8]) -> Error
     }
 }
 
-// Whether a side has a star; if so it has to be a pattern.
+// The shape of a side. With a star it must be a pattern; without one it may be any text.
 fn starred(alloc: Global, side: &[u8]) -> Result<Shape, Error>
     ensures ok { IfOk result (HasShape side.now) }
     ensures err { IfErr result (MemoryOr (NeedsMemory side.now) (IsBadPattern side.now)) }
@@ -173,7 +173,7 @@ fn starred(alloc: Global, side: &[u8]) -> Result<Shape, Error>
     }
 }
 
-// Whether a side has a star; a side that isn't empty has to be a name or a pattern.
+// The shape of a side, which must be empty, a ref name or a pattern.
 #[inline(always)]
 fn checked(alloc: Global, side: &[u8]) -> Result<Shape, Error>
     ensures ok { IfOk result (HasCheckedShape side.now) }
@@ -189,7 +189,7 @@ fn checked(alloc: Global, side: &[u8]) -> Result<Shape, Error>
     }
 }
 
-// What the source of a fetch names.
+// The source of a fetch, with `HEAD` for the empty text and for `@`.
 fn named_or_head(source: &[u8]) -> &[u8]
     ensures { result.now ≡ named_or_head_of source.now }
 {
@@ -199,7 +199,7 @@ fn named_or_head(source: &[u8]) -> &[u8]
     }
 }
 
-// What a source names.
+// A source, with `HEAD` for `@`.
 fn named(source: &[u8]) -> &[u8]
     ensures { result.now ≡ named_by source.now }
 {
@@ -210,7 +210,6 @@ fn named(source: &[u8]) -> &[u8]
 }
 
 impl<'a> Sides<'a> {
-    // The sides that two words make.
     fn new(source: &'a [u8], target: &'a [u8]) -> Sides<'a>
         ensures source { option_map bstr_bytes result.source ≡ side_bytes source.now }
         ensures destination { option_map bstr_bytes result.destination ≡ side_bytes target.now }
@@ -232,7 +231,7 @@ fn side_of(word: &[u8]) -> Option<BStr<'_>>
     }
 }
 
-// The sides that the parts make, or the first reason against them.
+// The sides of a spec with these parts, or the first reason to refuse them.
 fn sides_of<'a>(alloc: Global, parts: Parts<'a>) -> Result<Sides<'a>, Error>
     ensures ok { IfOk result (AreSidesOf parts.entry) }
     ensures err { IfErr result (IsReasonAgainst parts.entry) }
@@ -264,7 +263,7 @@ fn negative_sides<'a>(alloc: Global, parts: Parts<'a>) -> Result<Sides<'a>, Erro
     Ok(Sides::new(named(parts.source), b""))
 }
 
-// The sides of a positive fetch. With no source it is one of `HEAD`.
+// The sides of a positive fetch. An empty source is read as `HEAD`.
 fn fetch_sides<'a>(alloc: Global, parts: Parts<'a>) -> Result<Sides<'a>, Error>
     requires { ArePositive Operation.Fetch parts }
     ensures ok { IfOk result (AreSidesOf parts.entry) }
@@ -291,8 +290,7 @@ fn push_alone_sides<'a>(alloc: Global, parts: Parts<'a>) -> Result<Sides<'a>, Er
     Ok(Sides::new(named(parts.source), b""))
 }
 
-// The sides of a positive push to a destination. The source may be any expression that names an
-// object.
+// The sides of a positive push to a destination. The source may be any expression for an object.
 fn push_sides<'a>(alloc: Global, parts: Parts<'a>, target: &'a [u8]) -> Result<Sides<'a>, Error>
     requires positive { ArePositive Operation.Push parts }
     requires target { destination_of parts ≡ Some target.now }
@@ -317,7 +315,7 @@ fn pushes_nowhere(source: &[u8], target: &[u8]) -> bool
     target.is_empty() && !source.is_empty()
 }
 
-// Whether a text is made of as many hex digits as the id of an object, or more.
+// Whether a text has only hex digits, and at least as many as the shortest object id.
 fn looks_like_object_hash(text: &[u8]) -> bool
     ensures { IsTrue result ↔ LooksLikeObjectHash text.now }
 {

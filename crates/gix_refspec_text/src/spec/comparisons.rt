@@ -1,5 +1,5 @@
-//! Specs compare and hash as what they say to do: a push of `main` equals one of `main:main`, and
-//! no push equals a fetch.
+//! Specs are compared, ordered and hashed by their instructions: a push of `main` equals one of
+//! `main:main`, and a push never equals a fetch.
 
 ghost use Rattle.std.specs.Prelude.{◌≡◌, ◌↔◌, nat_eq, refl, Some, IsTrue, fold};
 ghost use Rattle.std.specs.Ordering.{nat_cmp};
@@ -16,14 +16,12 @@ use crate::types::Instruction;
 use std::cmp::Ordering;
 use std::hash::{Hash, Hasher};
 
-// Whether two instructions are the same.
 fn is_same(a: Instruction<'_>, b: Instruction<'_>) -> bool
     ensures { result ≡ is_same_of (meaning_of_instruction a.entry) (meaning_of_instruction b.entry) }
 {
     a == b
 }
 
-// How two instructions compare.
 fn compare(a: Instruction<'_>, b: Instruction<'_>) -> Ordering
     ensures { result ≡ order (meaning_of_instruction a.entry) (meaning_of_instruction b.entry) }
 {

@@ -1,4 +1,4 @@
-//! What a client asks a server to advertise for a refspec.
+//! The ref prefixes that a client sends to a server for a refspec.
 
 ghost use Rattle.std.specs.Prelude.{◌≡◌, ◌↔◌, [], ◌∷◌, ℕ, List, map, MatchOption, IsTrue, IfOk, OnOk, OnErr};
 ghost use Rattle.bstr.specs.BStr.{bstr_bytes};
@@ -9,22 +9,22 @@ ghost use Rattle.gix_refspec_text.specs.Matching.Prefix.{IsRefPrefix, HasNoPrefi
 ghost use Rattle.gix_refspec_text.specs.Laws.Covering.{IsCovering, HasCoveringSource};
 ghost use Rattle.gix_refspec_text.specs.Views.Spec.{reading_of};
 
-use crate::split::contains;
 use crate::parsing::Operation;
-use crate::side::{SideKind, strip_refs, candidates, kind_of};
+use crate::side::{SideKind, candidates, kind_of, strip_refs};
 use crate::spec::RefSpecRef;
+use crate::split::contains;
 use crate::types::Mode;
 use bstr::{BStr, BString};
 use std::alloc::{AllocError, Global};
 
 impl<'a> RefSpecRef<'a> {
-    /// The prefix of the names that the spec has on the remote: by the source of a fetch, or the
+    /// The ref prefix of the spec: that of its side on the remote, the source of a fetch or the
     /// destination of a push.
     ///
-    /// For a full name it is that name, and for a pattern below `refs/` the text before its star. For
-    /// `HEAD` it is `HEAD`, although that may also be a partial name. `None` for a negative spec, a
-    /// missing side, any other side outside `refs/`, a star directly after `refs/`, and a pattern with a
-    /// `]`. Borrows the text of the spec, or is the constant `HEAD`.
+    /// A full name is its own prefix; for a pattern it is the text before the star. For `HEAD` it is
+    /// `HEAD`, although that may also be a partial name. `None` for a negative spec, a missing side, any
+    /// other side that doesn't begin with `refs/`, a star directly after `refs/`, and a pattern that
+    /// contains a `]`. Borrows from the text of the spec, or is the constant `HEAD`.
     pub fn prefix(&self) -> Option<BStr<'a>>
         ensures { MatchOption result
             ((p : List ℕ) → ¬ (HasPrefix (reading_of self.now) p))
@@ -35,16 +35,16 @@ impl<'a> RefSpecRef<'a> {
         Some(BStr::new(prefix))
     }
 
-    /// Appends what a client may ask a server to advertise for the spec: its prefix, or, for a partial
-    /// name, the six names that gitrevisions(7) tries, in that order.
+    /// Appends the ref prefixes that a client may send to a server for the spec: its prefix, or for a
+    /// partial name the six names that gitrevisions(7) tries, in that order.
     ///
-    /// A pattern without a prefix gives entries that no server can use: `refs/*` itself, none for
-    /// `refs/*/head` and `refs/a]/*`, and outside `refs/` six names with the star in them. So if a
-    /// positive spec gives no entry, or one with a star, a client has to ask for all refs.
-    /// `MatchGroup::ref_prefixes` of `gix_refspec` decides that for a group. Negative specs, missing
+    /// A pattern without a prefix gives nothing that a server can use: itself for `refs/*`, no entry for
+    /// `refs/*/head` and `refs/a]/*`, and six names with the star in them if it doesn't begin with
+    /// `refs/`. So if a positive spec gives no entry, or one with a star, a client has to ask for all
+    /// refs. `MatchGroup::ref_prefixes` of `gix_refspec` decides that for a group. Negative specs, missing
     /// sides and object ids give no entry.
     ///
-    /// Fails if memory runs out; never if the spec gives no entry. The vector is then as before.
+    /// Fails if memory runs out, and leaves the vector as it was; never fails if the spec gives no entry.
     pub fn expand_prefixes(&self, alloc: Global, out: &mut Vec<BString>) -> Result<(), AllocError>
         ensures ok { OnOk result (AppendsExpansion
             (reading_of self.now) (map bstring_bytes out.old.items)
@@ -59,9 +59,10 @@ impl<'a> RefSpecRef<'a> {
         out.append(&mut entries)
     }
 
-    /// Whether the spec is a negative fetch, or a fetch whose source begins `refs/` and has a prefix, or
-    /// is an id or a partial name other than `HEAD`. Then each name that it maps from left to right
-    /// begins with an entry of `expand_prefixes`, by the law `cover` of `gix_refspec`. False for each push.
+    /// Whether the spec is a negative fetch, or a fetch whose source begins with `refs/` and has a prefix,
+    /// or is an object id or a partial name other than `HEAD`. Then each ref name that it maps from left to
+    /// right begins with an entry of `expand_prefixes`, by the law `cover` of `gix_refspec`. False for
+    /// every push.
     pub fn has_covering_source(&self) -> bool
         ensures { IsTrue result ↔ HasCoveringSource (reading_of self.now) }
     {
@@ -75,8 +76,8 @@ impl<'a> RefSpecRef<'a> {
     }
 }
 
-/// The side that names refs of the remote, of a positive spec: the source of a fetch, the destination of
-/// a push. `None` for a negative spec, and for a push without a destination.
+/// The side on the remote of a positive spec: the source of a fetch, the destination of a push. `None` for
+/// a negative spec, and for a push without a destination.
 pub fn asked_side<'a>(spec: &RefSpecRef<'a>) -> Option<&'a [u8]>
     ensures { MatchOption result
         ((x : List ℕ) → ¬ (IsAsked (reading_of spec.now) x))
@@ -89,7 +90,6 @@ pub fn asked_side<'a>(spec: &RefSpecRef<'a>) -> Option<&'a [u8]>
     Some(side.as_bytes())
 }
 
-// The prefix of a side.
 fn prefix_of(side: &[u8]) -> Option<&[u8]>
     requires { ¬ (HasSeveralStars side.now) }
     ensures { MatchOption result (HasNoPrefix side.now) (λ p. IsPrefix side.now p.now) }
@@ -109,8 +109,8 @@ pub fn is_head(side: &[u8]) -> bool
     side == b"HEAD".as_slice()
 }
 
-/// Whether the text before the star of a pattern is a prefix to ask for: it begins `refs/`, more follows,
-/// and there is no `]` before the star or after it.
+/// Whether the text before the star of a pattern is a ref prefix: it begins with `refs/` and is longer, and
+/// the pattern contains no `]`.
 pub fn is_ref_prefix(before: &[u8], after: &[u8]) -> bool
     ensures { IsTrue result ↔ IsRefPrefix before.now after.now }
 {
@@ -120,7 +120,7 @@ pub fn is_ref_prefix(before: &[u8], after: &[u8]) -> bool
     }
 }
 
-// Whether each name that a source takes begins with an entry of what it is expanded to.
+// Whether each ref name that a source takes begins with one of its entries.
 fn is_covering(source: &[u8]) -> bool
     requires { ¬ (HasSeveralStars source.now) }
     ensures { IsTrue result ↔ IsCovering source.now }
@@ -132,7 +132,7 @@ fn is_covering(source: &[u8]) -> bool
     }
 }
 
-// What a side is expanded to.
+// The entries of a side: its prefix, itself, its candidates, or none.
 fn expansions_of(alloc: Global, side: &[u8]) -> Result<Vec<BString>, AllocError>
     requires { ¬ (HasSeveralStars side.now) }
     ensures ok { IfOk result (λ list. Expands side.now (map bstring_bytes list.items)) }
@@ -150,7 +150,7 @@ fn expansions_of(alloc: Global, side: &[u8]) -> Result<Vec<BString>, AllocError>
     }
 }
 
-// What a pattern without a prefix is expanded to.
+// The entries of a pattern without a prefix.
 fn pattern_expansions(alloc: Global, side: &[u8]) -> Result<Vec<BString>, AllocError>
     requires { HasNoPrefix side.now × HasOneStar side.now }
     ensures ok { IfOk result (λ list. Expands side.now (map bstring_bytes list.items)) }

@@ -16,7 +16,7 @@ use std::alloc::{AllocError, Global};
 use std::io;
 use std::io::Write;
 
-// What the text of an instruction is made of, in this order, with a colon before a destination.
+// The pieces of a canonical text, in this order, with a colon before a destination.
 #[derive(Clone, Copy)]
 pub(crate) struct Pieces<'a> {
     pub(crate) sign: Option<u8>,
@@ -24,7 +24,7 @@ pub(crate) struct Pieces<'a> {
     pub(crate) destination: Option<&'a [u8]>,
 }
 
-// `+` where forced.
+// `+` if forced.
 fn sign(forced: bool) -> Option<u8>
     ensures { optional_byte result ≡ sign_of forced }
 {
@@ -32,8 +32,8 @@ fn sign(forced: bool) -> Option<u8>
 }
 
 impl<'a> Instruction<'a> {
-    /// The canonical text of the instruction. Of an instruction that a caller made it need not be the
-    /// text of a refspec. Fails if memory runs out.
+    /// The canonical text of the instruction. For an instruction built by a caller it may not be a valid
+    /// refspec. Fails if memory runs out.
     pub fn to_bstring(&self, alloc: Global) -> Result<BString, AllocError>
         ensures { IfOk result (λ text. bstring_bytes text ≡ text_of (meaning_of_instruction self.now)) }
     {
@@ -68,7 +68,6 @@ impl<'a> Instruction<'a> {
         Ok(())
     }
 
-    // The pieces whose text is the instruction's.
     fn pieces(&self) -> Pieces<'a>
         ensures { text_of_pieces result ≡ text_of (meaning_of_instruction self.now) }
     {
@@ -80,7 +79,6 @@ impl<'a> Instruction<'a> {
 }
 
 impl<'a> Push<'a> {
-    // The pieces whose text is the push's.
     fn pieces(self) -> Pieces<'a>
         ensures { text_of_pieces result ≡ text_of (meaning_of_push self.entry) }
     {
@@ -104,12 +102,11 @@ impl<'a> Push<'a> {
 }
 
 impl<'a> Fetch<'a> {
-    // The pieces whose text is the fetch's.
     fn pieces(self) -> Pieces<'a>
         ensures { text_of_pieces result ≡ text_of (meaning_of_fetch self.entry) }
     {
         match self {
-            // A source that begins with `+` would lose it as a sign.
+            // A `+` that begins the source would be read as the sign, so another is written before it.
             Fetch::Only { src } => {
                 let source = src.as_bytes();
                 Pieces::of_one(sign(source.first() == Some(&b'+')), source)
@@ -136,7 +133,7 @@ impl<'a> Pieces<'a> {
         }
     }
 
-    // Two sides round a colon.
+    // Two sides around a colon, after a sign.
     fn of_two(forced: bool, source: &'a [u8], destination: &'a [u8]) -> Pieces<'a>
         ensures { text_of_pieces result ≡ sign_of forced ++ (source.now ++ (colon ∷ destination.now)) }
     {
@@ -147,7 +144,7 @@ impl<'a> Pieces<'a> {
         }
     }
 
-    // How many bytes the text has, if that can be counted.
+    // The length of the text in bytes, at most `usize::MAX`.
     fn len(self) -> usize
         ensures { length (text_of_pieces self.entry) ≤ 18446744073709551615 →
             result ≡ length (text_of_pieces self.entry) }
@@ -169,7 +166,7 @@ impl<'a> RefSpecRef<'a> {
     ghost use Rattle.gix_refspec_text.specs.Specs.Meaning.{printed, WritesPrinted};
     ghost use Rattle.gix_refspec_text.specs.Views.Spec.{reading_of};
 
-    /// The canonical text of the spec, which `parse` reads as an equal spec. Fails if memory runs out.
+    /// The canonical text of the spec, which `parse` reads back as an equal spec. Fails if memory runs out.
     pub fn to_bstring(&self, alloc: Global) -> Result<BString, AllocError>
         ensures { IfOk result (λ text. printed (reading_of self.now) ≡ Some (bstring_bytes text)) }
     {

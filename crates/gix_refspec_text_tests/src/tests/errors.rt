@@ -137,7 +137,10 @@ fn names_the_reason(rt: HostRuntime) -> Result<(), Fail> {
         (Error::PushToEmpty, "PushToEmpty"),
         (Error::PatternUnsupported { pattern }, "PatternUnsupported"),
         (Error::PatternUnbalanced, "PatternUnbalanced"),
-        (Error::ReferenceName(name::Error::LockSuffix), "ReferenceName"),
+        (
+            Error::ReferenceName(name::Error::LockSuffix),
+            "ReferenceName",
+        ),
         (Error::Memory, "Memory"),
     ];
     for (error, name) in cases {

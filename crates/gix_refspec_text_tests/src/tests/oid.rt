@@ -83,7 +83,10 @@ fn recognises_ids(rt: HostRuntime) {
         ("e69de29bb2d1d6434b8b29ae775ad8c2e48c539", false),
         ("e69de29bb2d1d6434b8b29ae775ad8c2e48c53911", false),
         ("e69de29bb2d1d6434b8b29ae775ad8c2e48c539g", false),
-        ("473a0f4c3be8a93681a267e3b1e9a7dcda1185436fe141f7749120a30372181:", false),
+        (
+            "473a0f4c3be8a93681a267e3b1e9a7dcda1185436fe141f7749120a30372181:",
+            false,
+        ),
     ];
     for (text, is) in cases {
         assert_eq!(rt; is_id(text.as_bytes()), is, "at {text}");

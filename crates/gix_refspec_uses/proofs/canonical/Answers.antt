@@ -1,4 +1,4 @@
--- The text of the spec reads back.
+-- The canonical text of the spec is read again.
 use Rattle.bstr.specs.BStr.{bstr_bytes}
 use Rattle.bstr.specs.Owned.{bstring_bytes}
 use Rattle.gix_refspec.specs.Views.Spec.{reading_of}

@@ -1,4 +1,4 @@
--- A text has one reading, or is refused; and one that is refused has none.
+-- A text has exactly one reading, or is refused; a refused one has none.
 use Rattle.bstr.specs.BStr.{bstr_bytes}
 use Rattle.gix_refspec.specs.Views.Spec.{reading_of}
 use Rattle.gix_refspec_uses.proofs.ClaimLemmas.{reads_only}

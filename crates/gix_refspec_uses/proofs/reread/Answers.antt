@@ -1,4 +1,4 @@
--- What the spec printed has one reading, which means the same.
+-- The printed text has one reading, with the same meaning.
 use Rattle.std.proofs.Common.{◌≡◌, ◌∙◌, Some, sym, ap, subst}
 use Rattle.std.proofs.lemmas.Result.{IfOk-weaker}
 use Rattle.bstr.specs.BStr.{bstr_bytes}

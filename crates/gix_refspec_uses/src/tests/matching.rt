@@ -1,4 +1,4 @@
-//! Plans, look-ups, and what is asked for.
+//! Plans, look-ups, and ref prefixes.
 
 use crate::asking::match_asked;
 use crate::planner::{NoPlan, plan_fetch};
@@ -14,7 +14,7 @@ use std::test::Fail;
 // What items point to.
 const TARGET: &str = "1111111111111111111111111111111111111111";
 
-// The fetch specs of these texts, one a word.
+// The fetch specs of these texts, which are separated by spaces.
 fn specs_of<'a>(alloc: Global, texts: &'a str) -> Result<Vec<RefSpecRef<'a>>, Fail> {
     let mut specs = Vec::new(alloc);
     for text in texts.split(' ') {
@@ -32,7 +32,7 @@ fn item<'a>(name: &'a str, target: &'a ObjectId) -> Item<'a> {
     }
 }
 
-// `source:destination` for each mapping, or `source` without a destination, one a line.
+// `source:destination` for each mapping, or `source` without a destination, one per line.
 fn lines(alloc: Global, mappings: &[Mapping<'_, '_>]) -> Result<String, AllocError> {
     let mut text = String::new(alloc);
     for mapping in mappings {
@@ -86,7 +86,7 @@ fn plans_what_may_be_written(rt: HostRuntime) -> Result<(), Fail> {
             "refs/heads/a refs/tags/a refs/tags/b",
             "1 conflicts",
         ),
-        // Of what is left out nothing is in conflict.
+        // Mappings that are left out cause no conflicts.
         (
             "refs/heads/*:x/* refs/tags/*:x/*",
             "refs/heads/a refs/tags/a",
@@ -100,7 +100,7 @@ fn plans_what_may_be_written(rt: HostRuntime) -> Result<(), Fail> {
     Ok(())
 }
 
-// What is found there, and back, or `-` where the specs don't go both ways.
+// What is found there, and back, or `-` if the specs don't go both ways.
 fn looked_up(
     alloc: Global,
     texts: &str,
@@ -161,7 +161,8 @@ fn looks_there_and_back(rt: HostRuntime) -> Result<(), Fail> {
     Ok(())
 }
 
-// What is matched of the items that are asked for, and how many these are; or that no list is safe.
+// The mappings of the items listed for the ref prefixes, and how many items these are; or that no list
+// is safe.
 fn asked(alloc: Global, texts: &str, names: &str) -> Result<String, Fail> {
     let target = ObjectId::from_hex(TARGET.as_bytes())?;
     let mut items = Vec::new(alloc);

@@ -1,4 +1,4 @@
--- Canonical texts, of texts that are read and of those that are refused.
+-- Canonical texts of specs, and none of refused texts.
 use Rattle.std.proofs.Common.{◌≡◌, ℕ, List, [], ◌∷◌, ◌++◌, None, Some, inl, inr, codes, get_or, length, refl, sym, ap, ◌∙◌, arith}
 use Rattle.std.specs.List.{flat_map}
 use Rattle.gix_refspec_text.specs.declared.name.Error.TheVariants.{InvalidByte}
@@ -17,7 +17,7 @@ use Rattle.refspec_commands.specs.Shown.{zero_ended}
 use Rattle.refspec_commands.proofs.facts.ReadFacts.{bad, good, head, main}
 use Rattle.std.proofs.lemmas.Option.{same_Some}
 
--- an empty text of a fetch is `HEAD`; a text that is refused is left out, and what is behind it isn't
+-- the canonical text of an empty text in a fetch is `HEAD`; a refused text is left out, and the text after it isn't
 pub canonical : AreCanonical ((Fetch, []) ∷ (Fetch, codes "a b") ∷ (Fetch, codes "main") ∷ [])
     (codes "HEAD" ∷ codes "main" ∷ [])
     × AreCanonical [] []
@@ -38,7 +38,7 @@ canonical = (
   refl,
 )
 
--- a refused text has none, a text that is read isn't left out, and its canonical text is no other
+-- a refused text has no canonical text, a spec isn't left out, and its canonical text isn't another one
 pub not_canonical : ¬ (AreCanonical ((Fetch, codes "a b") ∷ []) (codes "a b" ∷ []))
     × ¬ (AreCanonical ((Fetch, codes "main") ∷ []) []) × ¬ (AreCanonical ((Fetch, []) ∷ []) ([] ∷ []))
 not_canonical = (refused, left_out, as_given)
@@ -59,7 +59,7 @@ not_canonical = (refused, left_out, as_given)
         ∙ sym (ap (λ (l : List (List ℕ)). get_or l 0 []) same))
     as_given (inr (e, is, none)) = is.unread head fetches_head.0
 
--- likewise of texts that were checked, in lines and ended by zero bytes
+-- the same for checked texts, in lines and ended by zero bytes
 module _ (accepted : Accepted Fetch mode.Normal (Some (codes "main")) None) where
   pub canonical_of : AreCanonicalOf (bad ∷ good accepted ∷ []) (codes "main" ∷ [])
       × ¬ (AreCanonicalOf (bad ∷ []) ([] ∷ [])) × ¬ (AreCanonicalOf (good accepted ∷ []) [])

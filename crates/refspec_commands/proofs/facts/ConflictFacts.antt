@@ -1,4 +1,4 @@
--- How a conflict is told, as in the runs of `plan`: its destination, and each source with the text of its spec.
+-- The lines on a conflict, as in runs of `plan`: its destination, and each source with the text of its spec.
 use Rattle.std.proofs.Common.{◌≡◌, ◌⊎◌, ℕ, true, false, List, [], ◌∷◌, ◌++◌, inl, inr, codes, decimal, get_or, length, refl, sym, ap, ap₂, ◌∙◌, subst, arith}
 use Rattle.std.proofs.lemmas.List.{append-nil, append_cancel_left}
 use Rattle.gix_refspec.specs.Matching.Mappings.{name}
@@ -34,7 +34,7 @@ tags_claim = record {
   is = refl;
 }
 
--- a source and its spec, each quoted where it has to be
+-- a source and its spec, each quoted if needed
 pub claims : IsClaim (codes "refs/heads/a") heads_text (codes "    refs/heads/a by refs/heads/*:refs/x/*\n")
     × IsClaim (codes "a\tb") heads_text (codes "    \"a\\tb\" by refs/heads/*:refs/x/*\n")
     × WritesClaim (codes "refs/tags/a") tags_text (codes "x\n") (codes "x\n    refs/tags/a by refs/tags/*:refs/x/*\n")
@@ -44,7 +44,7 @@ claims = (
   (codes "    refs/tags/a by refs/tags/*:refs/x/*\n", tags_claim, refl),
 )
 
--- a line is one of four, since each part may be quoted
+-- a line is one of four, since each of two parts may be quoted
 abbrev claim_line : List ℕ → List ℕ → List ℕ
 claim_line first second = codes "    " ++ (first ++ (codes " by " ++ (second ++ (10 ∷ []))))
 
@@ -64,7 +64,7 @@ one_of_four source text line is = elim is.is_first [
   ])
 ]
 
--- the spec isn't before its source, nor is another one's text behind it
+-- the spec isn't before its source, nor another spec after it, nor is the indentation missing
 pub no_claims : ¬ (IsClaim (codes "refs/heads/a") heads_text (codes "    refs/heads/*:refs/x/* by refs/heads/a\n"))
     × ¬ (IsClaim (codes "refs/heads/a") tags_text (codes "    refs/heads/a by refs/heads/*:refs/x/*\n"))
     × ¬ (IsClaim (codes "refs/heads/a") heads_text (codes "refs/heads/a by refs/heads/*:refs/x/*\n"))
@@ -93,7 +93,7 @@ no_claims = (
       (codes "    " ++ (is.first ++ (codes " by " ++ (is.second ++ (10 ∷ []))))) (λ byte. omega (arith, byte)) is.is,
 )
 
--- each source has the text at its place, and the place of the first may be another one
+-- each source has the text at its index, and the first index may be other than 0
 pub each : AreClaims 0 (name (codes "refs/heads/a") ∷ name (codes "refs/tags/a") ∷ []) (heads_text ∷ tags_text ∷ [])
     (codes "    refs/heads/a by refs/heads/*:refs/x/*\n    refs/tags/a by refs/tags/*:refs/x/*\n")
     × AreClaims 1 (name (codes "refs/tags/a") ∷ []) (heads_text ∷ tags_text ∷ [])
@@ -110,7 +110,7 @@ each = (
   refl,
 )
 
--- the text at another place isn't that of a source, and no source is left out
+-- a source doesn't have the text at another index, and no source is left out
 pub not_each : ¬ (AreClaims 0 (name (codes "refs/heads/a") ∷ []) (tags_text ∷ heads_text ∷ [])
     (codes "    refs/heads/a by refs/heads/*:refs/x/*\n"))
     × ¬ (AreClaims 0 (name (codes "refs/heads/a") ∷ []) (heads_text ∷ []) [])
@@ -161,7 +161,7 @@ reported = record {
   is = refl;
 }
 
--- neither another destination is told, nor nothing
+-- the lines aren't those on another destination, nor empty
 pub not_reported : ¬ (IsReportedConflict conflict
     (codes "conflict: refs/x/b would be written from several refs, so nothing is fetched:\n" ++ advice))
     × ¬ (IsReportedConflict conflict [])
@@ -184,7 +184,7 @@ not_reported = (other, λ is. omega (arith, ap length is.is))
           )
         ]
 
--- nor is one told without its sources
+-- nor are the sources left out
 pub unclaimed : ¬ (IsReportedConflict conflict (head_line ++ advice))
 unclaimed is =
     let after = codes " would be written from several refs, so nothing is fetched:\n" ++ (is.claims ++ is.advice) in
@@ -224,7 +224,7 @@ unclaimed is =
           ]
         ]
 
--- each conflict is told, in lines as beside records, and where there is none nothing is
+-- each conflict is reported, in lines and with records; without conflicts nothing is
 pub all_reported : AreReportedConflicts (conflict ∷ conflict ∷ []) (reported_lines ++ reported_lines)
     × WritesConflict conflict (codes "x\n") (codes "x\n" ++ reported_lines)
     × AddsEachConflict form.Lines (conflict ∷ []) (codes "x\n") (codes "x\n" ++ reported_lines)
@@ -249,19 +249,19 @@ none_lost = (
   λ adds. omega (arith, ap length (adds.2 ∙ (adds.1.4 ∙ ap (λ (l : List ℕ). l ++ adds.1.1) adds.1.2.is))),
 )
 
--- ---- the first ones
+-- ---- the first conflicts
 
--- twenty are told, and all if that is asked for, or in JSON
+-- twenty are reported, or all with `--all` or in JSON
 pub counts : (few false 20 ≡ 20) × (few false 21 ≡ 20) × (few true 21 ≡ 21) × (reported_count form.Lines false 21 ≡ 20)
     × (reported_count form.Zeros false 21 ≡ 20) × (reported_count form.Json false 21 ≡ 21)
 counts = (refl, refl, refl, refl, refl, refl)
 
--- how many more there are, and nothing where there are none
+-- how many more there are, and nothing for 0
 pub more : (more_line (codes "conflict: ") 0 ≡ [])
     × (more_line (codes "conflict: ") 13 ≡ codes "conflict: " ++ (decimal 13 ++ codes " more; `--all` lists them\n"))
 more = (refl, refl)
 
--- a conflict alone is told, with no line behind it
+-- a single conflict is reported, without a line after it
 pub reported_alone : AddsConflicts false form.Lines (conflict ∷ []) (codes "x\n") (codes "x\n" ++ reported_lines)
     × ¬ (AddsConflicts false form.Lines (conflict ∷ []) (codes "x\n") (codes "x\n"))
     × ¬ (AddsConflicts true form.Zeros (conflict ∷ []) (codes "x\n") (codes "x\n"))

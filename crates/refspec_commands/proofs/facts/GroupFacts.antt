@@ -1,10 +1,10 @@
--- Mappings below their specs, as in the runs of `plan`.
+-- Mappings grouped below their specs, as in runs of `plan`.
 use Rattle.std.proofs.Common.{◌≡◌, ℕ, List, [], ◌∷◌, ◌++◌, None, Some, inl, inr, Option, codes, length, length-append, replicate, refl, ap, ◌∙◌, arith}
 use Rattle.gix_refspec.specs.Matching.Mappings.{Mapped}
 use Rattle.gix_refspec_match.proofs.facts.MatchFacts.{mapping}
 use Rattle.refspec_commands.specs.Groups.{AddsGroups, IsHead, IsShort}
 
--- a mapping of the first of two specs without a destination, and one of the second
+-- a mapping of the first of two specs, without a destination, and one of the second
 abbrev alone : Mapped
 alone = mapping 0 (codes "HEAD") None 0
 
@@ -43,7 +43,7 @@ not_short is =
       length-append is.last (10 ∷ []),
     )
 
--- the text of a spec stands before its first mapping, and not before the next one
+-- the text of a spec is before its first mapping, and not before the next one
 pub heads : IsHead two None to_o (codes "refs/heads/*:refs/o/*\n") × IsHead two (Some 0) to_o (codes "refs/heads/*:refs/o/*\n")
     × IsHead two (Some 1) to_o [] × ¬ (IsHead two None to_o []) × ¬ (IsHead two (Some 0) to_o [])
 heads = (
@@ -61,7 +61,7 @@ heads = (
     none before other (inl (same, empty)) = other same
     none before other (inr (more, (shown, is, line))) = omega (arith, ap length line, length-append shown (10 ∷ []))
 
--- the only spec isn't shown, and else each stands above its mappings
+-- a single spec isn't shown; of several, each is above its mappings
 pub groups : AddsGroups (codes "HEAD" ∷ []) (alone ∷ []) (codes "x\n") (codes "x\nHEAD  FETCH_HEAD\n")
     × AddsGroups two (alone ∷ to_o ∷ to_o ∷ []) []
     (codes "HEAD\n  HEAD  FETCH_HEAD\nrefs/heads/*:refs/o/*\n  refs/heads/a  refs/o/a\n  refs/heads/a  refs/o/a\n")

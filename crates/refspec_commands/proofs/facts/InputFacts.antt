@@ -1,4 +1,4 @@
--- Records of an input, on each side of the borders between them.
+-- Records of an input, and what isn't one.
 use Rattle.std.proofs.Common.{◌≡◌, ℕ, ◌+◌, List, [], ◌∷◌, ◌++◌, Some, inl, inr, codes, length, refl, sym, ap, ◌∙◌, subst, arith}
 use Rattle.gix_refspec.specs.Texts.Words.{Lacks}
 use Rattle.gix_refspec_text.proofs.facts.FitFacts.{other_byte}
@@ -7,13 +7,13 @@ use Rattle.refspec_commands.specs.declared.call.Terminator.TheVariants as ends
 use Rattle.refspec_commands.specs.Input.{AreRecords, IsFirstRecord, ReadsToEnd, end_byte}
 use Rattle.gix_refspec_text.proofs.lemmas.lists.LacksLemmas.{Lacks-here, first_once}
 
--- a newline or a zero byte, which ends the records of settings too
+-- a newline, or a zero byte, which also ends the records of settings
 pub end_bytes : (end_byte ends.Newline ≡ 10) × (end_byte ends.Zero ≡ 0) × (end_byte ends.Settings ≡ 0)
 end_bytes = (refl, refl, refl)
 
 -- ---- records
 
--- nothing has no records
+-- an empty input has no records
 no_records : (end : ℕ) (records : List (List ℕ)) → AreRecords end records [] → records ≡ []
 no_records end [] split = refl
 no_records end (first ∷ records) (lacks, inl (rest, here, more)) = absurd (nothing first here)
@@ -23,7 +23,7 @@ no_records end (first ∷ records) (lacks, inl (rest, here, more)) = absurd (not
     nothing (b ∷ front) same = full _ _ (sym same)
 no_records end (first ∷ records) (lacks, inr (some, last, here)) = absurd (some (sym here))
 
--- an input has one list of records
+-- an input has only one list of records
 pub records_once : (end : ℕ) (xs ys : List (List ℕ)) (input : List ℕ) → AreRecords end xs input
     → AreRecords end ys input → xs ≡ ys
 records_once end [] ys input split other = sym (no_records end ys (subst (AreRecords end ys) split other))
@@ -46,7 +46,7 @@ one_record = (
   (Lacks-tested 10 (codes "a") refl, inr (full _ _, refl, refl)),
 )
 
--- a newline and a carriage return are bytes of records that end with zero bytes, and a carriage return is one of a line
+-- records that end with zero bytes may contain newlines and carriage returns, and lines may contain carriage returns
 pub records : AreRecords 10 (codes "a\r" ∷ codes "b" ∷ []) (codes "a\r\nb")
     × AreRecords 0 (codes "a\r\nb" ∷ []) (codes "a\r\nb" ++ 0 ∷ [])
 records = (
@@ -57,7 +57,7 @@ records = (
   (Lacks-tested 0 (codes "a\r\nb") refl, inl ([], refl, refl)),
 )
 
--- an empty record has its end byte, and nothing has no record
+-- an empty record has its end byte, and an empty input has no record
 pub empty_records : AreRecords 10 ([] ∷ []) (codes "\n") × AreRecords 10 (codes "a" ∷ [] ∷ []) (codes "a\n\n")
     × AreRecords 10 [] []
 empty_records = (
@@ -66,7 +66,7 @@ empty_records = (
   refl,
 )
 
--- so none is behind the last end byte, and no record has that
+-- so there is no record after the last end byte, and no record contains that
 pub no_other_records : ¬ (AreRecords 10 (codes "a" ∷ [] ∷ []) (codes "a\n")) × ¬ (AreRecords 10 ([] ∷ []) [])
     × ¬ (AreRecords 10 (codes "a\n" ∷ []) (codes "a\n")) × ¬ (AreRecords 10 (codes "a\nb" ∷ []) (codes "a\nb"))
 no_other_records = (
@@ -79,7 +79,7 @@ no_other_records = (
   λ split. Lacks-here 10 (codes "a") (codes "b") split.0,
 )
 
--- the first record, and what is behind its end byte
+-- the first record, and what follows its end byte
 pub first_records : IsFirstRecord 10 (codes "a\nb\n") (codes "a") (codes "b\n")
     × IsFirstRecord 10 (codes "a") (codes "a") [] × IsFirstRecord 10 (codes "\na") [] (codes "a")
 first_records = (
@@ -88,7 +88,7 @@ first_records = (
   (tt, inl refl),
 )
 
--- nothing is lost of the rest, no end byte is left before it, and the second record isn't the first
+-- nothing of the rest is lost, the end byte isn't part of it, and the second record isn't the first
 pub no_first_records : ¬ (IsFirstRecord 10 (codes "a\nb") (codes "a") [])
     × ¬ (IsFirstRecord 10 (codes "a\nb") (codes "a") (codes "\nb"))
     × ¬ (IsFirstRecord 10 (codes "a\nb") (codes "b") []) × ¬ (IsFirstRecord 10 (codes "a\nb") (codes "a\nb") [])
@@ -108,7 +108,7 @@ no_first_records = (
     second (lacks, inl here) = other_byte 0 (codes "a\nb") (codes "b\n") (λ byte. omega (arith, byte)) here
     second (lacks, inr (here, none)) = other_byte 0 (codes "a\nb") (codes "b") (λ byte. omega (arith, byte)) here
 
--- nor is anything behind a record that lacks its end byte
+-- nothing follows a record without its end byte
 pub none_behind : ¬ (IsFirstRecord 10 (codes "a") (codes "a") (codes "b"))
 none_behind (lacks, inl here) = omega (arith, ap length here)
 none_behind (lacks, inr (here, none)) = omega (arith, ap length none)

@@ -1,18 +1,18 @@
--- Exit statuses, the input of a call, and what `canon` shows.
+-- Exit statuses, the input of a call, and the output of `canon`.
 use Rattle.std.proofs.Common.{◌≡◌, ℕ, true, false, List, [], ◌∷◌, ◌++◌, Some, inl, codes, length, refl, ap, subst, arith}
 use Rattle.gix_refspec_text.specs.declared.parsing.Operation.TheVariants.{Fetch}
 use Rattle.refspec_commands.specs.declared.call.Form.TheVariants as form
 use Rattle.refspec_commands.specs.Canon.{AreCanonical, ShowsCanonical}
 use Rattle.refspec_commands.specs.Output.{IsInput, status_of}
 use Rattle.refspec_commands.specs.Shown.{AddsNames}
-use Rattle.refspec_commands.specs.Texts.{Given, numbered, word_at}
+use Rattle.refspec_commands.specs.Texts.{Given, numbered, argument_at}
 use Rattle.refspec_commands.proofs.facts.CanonFacts.{canonical, not_canonical}
 
--- something refused ends with 1, and else 0 is the end
+-- 1 if something is refused, else 0
 pub statuses : (status_of true ≡ 1) × (status_of false ≡ 0)
 statuses = (refl, refl)
 
--- a call that reads has all of its reader as its input, and one that doesn't has none
+-- the input is all that the reader has, if the call reads it, else empty
 pub inputs : IsInput true (Some (codes "a\n")) (Some []) (codes "a\n")
     × IsInput false (Some (codes "a\n")) (Some (codes "a\n")) []
 inputs = (record { taken = refl; ended = refl }, refl)
@@ -26,9 +26,9 @@ other_inputs = (
   λ is. omega (arith, ap length is),
 )
 
--- canonical texts are shown as the form says: one a line, or ended by zero bytes
+-- canonical texts in each form: one per line, or ended by zero bytes
 abbrev texts : List Given
-texts = numbered (word_at Fetch) 1 ([] ∷ codes "a b" ∷ codes "main" ∷ [])
+texts = numbered (argument_at Fetch) 1 ([] ∷ codes "a b" ∷ codes "main" ∷ [])
 
 pub shown : ShowsCanonical form.Lines texts (codes "HEAD\nmain\n")
     × ShowsCanonical form.Zeros texts ((codes "HEAD" ++ 0 ∷ []) ++ (codes "main" ++ 0 ∷ []))
@@ -42,7 +42,7 @@ shown = (
 )
 
 -- a text isn't left out
-pub not_shown : ¬ (ShowsCanonical form.Zeros (word_at Fetch 1 (codes "main") ∷ []) [])
+pub not_shown : ¬ (ShowsCanonical form.Zeros (argument_at Fetch 1 (codes "main") ∷ []) [])
 not_shown (names, are, adds) = not_canonical.1 (subst (AreCanonical ((Fetch, codes "main") ∷ [])) (none names adds) are)
   where
     none : (names : List (List ℕ)) → AddsNames form.Zeros [] names [] [] → names ≡ []

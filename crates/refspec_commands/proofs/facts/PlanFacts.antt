@@ -1,4 +1,4 @@
--- What a fetch writes of refs, and what it leaves out, at the examples of matching and of validation.
+-- Which refs a fetch writes and which mappings it leaves out, on the examples of matching and of validation.
 use Rattle.std.proofs.Common.{◌≡◌, ℕ, true, false, List, [], ◌∷◌, ◌++◌, None, Some, inl, codes, length, refl, sym, ap, ◌∙◌, subst, arith}
 use Rattle.gix_refspec.specs.declared.match_group.validate.Error.{Error}
 use Rattle.gix_refspec.specs.declared.match_group.ref_names.InvalidSide.TheVariants.{Destination}
@@ -34,11 +34,11 @@ use Rattle.refspec_commands.proofs.facts.RefFacts.{blob_ref, line_of, none_lost 
 use Rattle.refspec_commands.proofs.facts.RowFacts.{alone, alone_line, not_reported, texts}
 use Rattle.std.proofs.lemmas.Option.{same_Some}
 
--- one that was left out for its destination
+-- a mapping that was left out for its destination
 abbrev left : LeftOut
 left = record { mapping = to_bad; side = Destination }
 
--- one mapping that is left out is enough, and so are conflicts
+-- one left out mapping is enough, and so are conflicts
 pub left_out : (o : ForwardOutcome) (e : Error) → LeavesOut (written.Mappings o) (left ∷ [])
     × LeavesOut (written.Nothing e) [] × ¬ (LeavesOut (written.Mappings o) [])
 left_out o e = ((λ same. omega (arith, ap length same)), tt, λ some. some refl)
@@ -47,7 +47,7 @@ pub whole : (o : ForwardOutcome) (e : Error) → IsWhole (written.Mappings o) []
     × ¬ (IsWhole (written.Mappings o) (left ∷ [])) × ¬ (IsWhole (written.Nothing e) [])
 whole o e = (refl, (λ same. omega (arith, ap length same)), λ none. none)
 
--- what survives a validation is written: a destination that is no full name is not
+-- the mappings that pass validation are written: those whose destination isn't a full name aren't
 pub writes : (o : ForwardOutcome) → mappings_of o ≡ tag_to_x ∷ tag_alone ∷ []
     → Writes both_to_x (tag_to_x ∷ tag_to_foo ∷ tag_alone ∷ []) (written.Mappings o)
 writes o are = (
@@ -56,7 +56,7 @@ writes o are = (
       (sym are) validated,
 )
 
--- of two sources for one destination nothing is, and their conflict is told
+-- with two sources for one destination nothing is written, and the plan has their conflict
 pub writes_nothing : (e : Error) → (conflicts_of e ≡ conflict ∷ [] → Writes both_to_x meeting (written.Nothing e))
     × (conflicts_of e ≡ [] → ¬ (Writes both_to_x meeting (written.Nothing e)))
     × ((o : ForwardOutcome) → ¬ (Writes both_to_x meeting (written.Mappings o)))
@@ -74,7 +74,7 @@ writes_nothing e = (
 abbrev group : List Reading
 group = every ∷ no_dev ∷ []
 
--- of a branch that is excluded, a tag, and a branch twice
+-- an excluded branch, a tag, and a branch twice
 abbrev refs : List Ref
 refs = dev_ref ∷ tag_ref ∷ main_ref ∷ main_ref ∷ []
 
@@ -120,7 +120,7 @@ main_valid = record {
         contested.differ (ap (λ (m : Mapped). m.source) (only contested.one (refl, tt) contested.has_one
         ∙ sym (only contested.other (refl, tt) contested.has_other)))
 
--- whatever ids the refs of these names have, the one mapping is the plan
+-- whatever ids the refs with these names have, the plan is one mapping
 pub plan : (o : ForwardOutcome) → mappings_of o ≡ main_mapping ∷ [] → IsPlanByNames group refs (written.Mappings o) []
 plan o are items same = record {
   kept = main_mapping ∷ [];
@@ -130,7 +130,7 @@ plan o are items same = record {
   writes = ([], subst (λ (l : List Mapped). IsValidated group (main_mapping ∷ []) l []) (sym are) main_valid);
 }
 
--- it isn't lost, nor left out
+-- this mapping isn't lost, nor left out
 pub other_plans : (o : ForwardOutcome) → (mappings_of o ≡ [] → ¬ (IsPlan group refs (written.Mappings o) []))
     × ((made : Written) → ¬ (IsPlan group refs made (left ∷ [])))
 other_plans o = (
@@ -159,9 +159,9 @@ other_plans o = (
     not_out (None, rest, unmade, none, same) = omega (arith, ap length (same ∙ none))
     not_out (Some out, rest, is, none, same) = bad_unnamed out.side main_mapping is.bad main_named
 
--- ---- what is told of a plan
+-- ---- the report of a plan
 
--- mappings go to the results, and conflicts to the messages, with no result
+-- mappings are results, and conflicts are messages without a result
 pub reported_of : (o : ForwardOutcome) (e : Error)
     → (mappings_of o ≡ alone ∷ []
     → AddsWritten true false form.Lines texts (written.Mappings o) [] [] (codes "x\n") (codes "x\nHEAD  FETCH_HEAD  HEAD\n"))
@@ -194,7 +194,7 @@ not_reported_of o e = (
   λ adds. omega (arith, ap length adds.0),
 )
 
--- the records of an input, which is a list of refs, tell a plan
+-- the plan of the refs in the records of an input
 pub planned : (o : ForwardOutcome) → mappings_of o ≡ main_mapping ∷ []
     → AddsPlan true false form.Lines 10
     (line_of dev_ref.name ++
@@ -288,7 +288,7 @@ planned o are = record {
       is = refl;
     }
 
--- a bad record is told: so it is not that nothing is refused
+-- with a bad record something is refused
 pub refused : (g : List Reading) (messages old new : List ℕ)
     → ¬ (AddsPlan false false form.Lines 10 (codes "ref: refs/heads/a\tHEAD\n") messages false g old new)
 refused g messages old new adds =

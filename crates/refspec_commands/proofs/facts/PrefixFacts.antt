@@ -1,4 +1,4 @@
--- What is asked for, in lines as `git ls-remote` sends them and as patterns, and what isn't.
+-- Which prefixes are requested, as lines of protocol v2 and as patterns, and which aren't.
 use Rattle.std.proofs.Common.{◌≡◌, ℕ, true, false, List, [], ◌∷◌, ◌++◌, Some, inl, inr, codes, length, refl, ap, ◌∙◌, subst, arith}
 use Rattle.gix_refspec.specs.Specs.Grammar.{fetched}
 use Rattle.gix_refspec.specs.Specs.Reading.{Negative, Normal, Reading}
@@ -11,19 +11,19 @@ use Rattle.refspec_commands.specs.declared.call.Form.TheVariants as form
 use Rattle.refspec_commands.specs.Prefixes.{AddsAll, AddsList, AddsNothing, AddsPrefixes, AreOthers, TakesWhole, argument, request}
 use Rattle.std.proofs.lemmas.Option.{same_Some}
 
--- a prefix has its argument's name before it, and a pattern has a star behind
+-- a prefix is after the name of its argument, and a pattern ends with a star
 pub requests : (argument false ≡ codes "ref-prefix ") × (argument true ≡ [])
     × (request false (codes "refs/heads/") ≡ codes "refs/heads/")
     × (request true (codes "refs/heads/") ≡ codes "refs/heads/*")
 requests = (refl, refl, refl, refl)
 
--- what stands for all refs, and for none
+-- what stands for all refs, and for no request
 pub words : AddsAll false form.Lines [] (codes "a\n") (codes "a\n(all)\n") × AddsAll false form.Zeros [] [] (0 ∷ [])
     × AddsAll true form.Lines [] [] (codes "*\n") × AddsAll true form.Zeros [] [] (codes "*" ++ 0 ∷ [])
     × AddsNothing form.Lines (codes "a\n") (codes "a\n(nothing)\n") × AddsNothing form.Zeros [] []
 words = (refl, refl, refl, refl, refl, refl)
 
--- neither is told as the other
+-- neither stands for the other
 pub other_words : ¬ (AddsAll false form.Lines [] [] (codes "(nothing)\n")) × ¬ (AddsAll false form.Zeros [] [] [])
     × ¬ (AddsNothing form.Lines [] (codes "(all)\n")) × ¬ (AddsNothing form.Zeros [] (0 ∷ []))
 other_words = (
@@ -33,7 +33,7 @@ other_words = (
   λ same. omega (arith, ap length same),
 )
 
--- a line for each prefix, with its argument's name or a star; records have no argument's name
+-- a line for each prefix, with the name of its argument or a star; records don't have the name
 pub listed : AddsList false form.Lines (codes "refs/heads/" ∷ codes "HEAD" ∷ []) []
     (codes "ref-prefix refs/heads/\nref-prefix HEAD\n")
     × AddsList true form.Lines (codes "refs/heads/" ∷ []) [] (codes "refs/heads/*\n")
@@ -48,7 +48,7 @@ listed = (
   refl,
 )
 
--- no list is told as nothing, nor is a prefix without its argument's name or a pattern with it
+-- a list isn't reported as no request, nor a prefix without the name of its argument, nor a pattern with it
 pub not_listed : ¬ (AddsList false form.Lines (codes "refs/heads/" ∷ []) [] (codes "(nothing)\n"))
     × ¬ (AddsList false form.Lines (codes "refs/heads/" ∷ []) [] (codes "refs/heads/\n"))
     × ¬ (AddsList true form.Lines (codes "refs/heads/" ∷ []) [] (codes "ref-prefix refs/heads/*\n"))
@@ -72,7 +72,7 @@ not_listed = (
         other_byte 0 (codes "ref-prefix refs/heads/*\n") (34 ∷ _) (λ byte. omega (arith, byte)) (same
         ∙ (all ∙ ap (λ (s : List ℕ). s ++ (10 ∷ rest)) is))
 
--- a spec whose star is behind a `]`, for which no list serves, and one whose star stands right behind `refs/`
+-- a spec whose star is after a `]`, for which no list is safe, and one whose star is right after `refs/`
 abbrev by_bracket : Reading
 by_bracket = fetched Normal (codes "refs/a]*") (Some (codes "refs/x/*"))
 
@@ -89,7 +89,7 @@ unlisted list (inr (x, asked, lists)) =
 no_list : HasNoList (every ∷ by_bracket ∷ [])
 no_list = (1, by_bracket, omega arith, refl, unlisted)
 
--- `refs/` is asked for where the star stands right behind it, and not for a negative spec
+-- `refs/` is requested if the star is right after it, but not for a negative spec
 pub wholes : TakesWhole all_refs × ¬ (TakesWhole every) × ¬ (TakesWhole no_dev) × ¬ (TakesWhole by_bracket)
     × ¬ (TakesWhole (record all_refs { mode = Negative }))
 wholes = (
@@ -102,7 +102,7 @@ wholes = (
   λ takes. takes.0,
 )
 
--- the others stay in order
+-- the other specs stay in order
 pub others : AreOthers (every ∷ all_refs ∷ no_dev ∷ []) (every ∷ no_dev ∷ []) × AreOthers (all_refs ∷ []) []
     × ¬ (AreOthers (every ∷ []) []) × ¬ (AreOthers (all_refs ∷ []) (all_refs ∷ []))
 others = (
@@ -120,7 +120,7 @@ others = (
     kept (inl (takes, none)) = omega (arith, ap length none)
     kept (inr (other, (rest, none, same))) = other wholes.0
 
--- what a group asks for, all refs where no list is safe, and nothing for negative specs
+-- the prefixes of a group, all refs if no list is safe, and no request for negative specs
 pub reported : AddsPrefixes false form.Lines (every ∷ all_refs ∷ no_dev ∷ []) []
     (codes "ref-prefix refs/\nref-prefix refs/heads/\n")
     × AddsPrefixes true form.Lines (every ∷ by_bracket ∷ []) [] (codes "*\n")
@@ -161,7 +161,7 @@ reported = (
   ),
 )
 
--- a list isn't told as all refs, nor are all as nothing
+-- a list isn't reported as all refs, nor all refs as no request
 pub not_reported : ¬ (AddsPrefixes false form.Lines (every ∷ []) [] (codes "(all)\n"))
     × ¬ (AddsPrefixes false form.Lines (by_bracket ∷ []) [] (codes "(nothing)\n"))
 not_reported = (listed_as_all, all_as_nothing)

@@ -1,4 +1,4 @@
--- What a text is, at texts that are read and at texts that are refused.
+-- Specs and refused texts.
 use Rattle.std.proofs.Common.{◌≡◌, ℕ, true, false, List, [], ◌∷◌, ◌++◌, None, Some, unwrap_or, inl, inr, codes, length, refl, sym, ap, arith}
 use Rattle.std.specs.List.{AllZip}
 use Rattle.std.proofs.lemmas.Bool.{false≢true}
@@ -17,11 +17,11 @@ use Rattle.refspec_commands.specs.declared.call.Form.TheVariants as form
 use Rattle.refspec_commands.specs.declared.checked.Checked.{Checked}
 use Rattle.refspec_commands.specs.declared.checked.Checked.TheVariants as checked
 use Rattle.refspec_commands.specs.declared.texts.Text.{Text}
-use Rattle.refspec_commands.specs.Read.{AddsIfGood, AddsIfRead, AreGood, AreRead, HasBad, HasRefused, IsChecked, IsSpec, ReportsRefused}
-use Rattle.refspec_commands.specs.Texts.{word_at}
+use Rattle.refspec_commands.specs.Read.{AddsIfGood, AddsIfRead, AreGood, AreRead, HasBad, HasRefused, IsChecked, IsSpec, DecidesRefused}
+use Rattle.refspec_commands.specs.Texts.{argument_at}
 use Rattle.refspec_commands.proofs.facts.TextFacts.{text_for}
 
--- what `main` and an empty text are read as in a fetch
+-- the readings of `main` and of an empty text in a fetch
 abbrev pub main : Reading
 main = fetched Normal (codes "main") None
 
@@ -30,7 +30,7 @@ head = fetched Normal (codes "HEAD") None
 
 -- ---- texts
 
--- of an empty text a fetch reads `HEAD`, and a push refuses it
+-- an empty text is `HEAD` in a fetch, and refused in a push
 pub read : AreRead ((Fetch, codes "main") ∷ (Fetch, []) ∷ []) (main ∷ head ∷ [])
     × HasRefused ((Fetch, codes "main") ∷ (Push, []) ∷ [])
     × HasRefused ((Fetch, codes "a b") ∷ (Fetch, codes "main") ∷ [])
@@ -40,7 +40,7 @@ read = (
   inl (ReferenceName (InvalidByte 32), bad_sources.0),
 )
 
--- texts that are read are none that is refused, and a text isn't read twice, or not at all
+-- specs aren't refused, refused texts aren't read, and each spec has exactly one reading
 pub not_read : ¬ (HasRefused ((Fetch, codes "main") ∷ (Fetch, []) ∷ []))
     × ((g : List Reading) → ¬ (AreRead ((Fetch, codes "main") ∷ (Push, []) ∷ []) g))
     × ¬ (AreRead ((Fetch, codes "main") ∷ []) []) × ¬ (AreRead ((Fetch, codes "main") ∷ []) (main ∷ main ∷ []))
@@ -56,51 +56,51 @@ not_read = (none, unread, (λ are. are), λ are. are.1)
     unread (r ∷ []) are = are.1
     unread (r ∷ q ∷ g) are = nothing_pushed.unread q are.1.0
 
--- so it is told whether one is refused
-pub reported : ReportsRefused false ((Fetch, codes "main") ∷ (Fetch, []) ∷ [])
-    × ReportsRefused true ((Fetch, codes "main") ∷ (Push, []) ∷ []) × ReportsRefused false []
+-- the flag says whether a text is refused
+pub reported : DecidesRefused false ((Fetch, codes "main") ∷ (Fetch, []) ∷ [])
+    × DecidesRefused true ((Fetch, codes "main") ∷ (Push, []) ∷ []) × DecidesRefused false []
 reported = ((main ∷ head ∷ [], read.0), read.1, ([], tt))
 
-pub not_reported : ¬ (ReportsRefused true ((Fetch, codes "main") ∷ (Fetch, []) ∷ []))
-    × ¬ (ReportsRefused false ((Fetch, codes "main") ∷ (Push, []) ∷ [])) × ¬ (ReportsRefused true [])
+pub not_reported : ¬ (DecidesRefused true ((Fetch, codes "main") ∷ (Fetch, []) ∷ []))
+    × ¬ (DecidesRefused false ((Fetch, codes "main") ∷ (Push, []) ∷ [])) × ¬ (DecidesRefused true [])
 not_reported = (not_read.0, (λ reads. not_read.1 reads.0 reads.1), λ refuses. refuses)
 
--- ---- what the results grow by
+-- ---- results
 
--- an x for specs
+-- the results for specs, here an x
 abbrev AddsX : List Reading → List ℕ → List ℕ → Type 0
 AddsX g old new = new ≡ old ++ codes "x"
 
--- what is told of refusals
-abbrev RefList : Type 0
-RefList = codes "no" ≡ codes "no"
+-- what holds of refusals, here anything true
+abbrev RefusalsHold : Type 0
+RefusalsHold = codes "no" ≡ codes "no"
 
--- where a text is refused the results stay, and else they grow
-pub grown : AddsIfRead AddsX RefList form.Lines false (word_at Fetch 1 (codes "main") ∷ []) (codes "a") (codes "ax")
-    × AddsIfRead AddsX RefList form.Lines true (word_at Fetch 1 (codes "main") ∷ word_at Push 2 [] ∷ []) (codes "a") (codes "a")
+-- if a text is refused, the results stay, else they grow
+pub grown : AddsIfRead AddsX RefusalsHold form.Lines false (argument_at Fetch 1 (codes "main") ∷ []) (codes "a") (codes "ax")
+    × AddsIfRead AddsX RefusalsHold form.Lines true (argument_at Fetch 1 (codes "main") ∷ argument_at Push 2 [] ∷ []) (codes "a") (codes "a")
 grown = (inl (main ∷ [], (fetches_main.0, tt), refl), inr (read.1, refl, refl, refl))
 
--- and not the other way, nor is it told otherwise that one is refused
-pub not_grown : ¬ (AddsIfRead AddsX RefList form.Lines false (word_at Fetch 1 (codes "main") ∷ word_at Fetch 2 [] ∷ []) (codes "a") (codes "a"))
-    × ¬ (AddsIfRead AddsX RefList form.Lines true (word_at Fetch 1 (codes "main") ∷ word_at Push 2 [] ∷ []) (codes "a") (codes "ax"))
-    × ¬ (AddsIfRead AddsX RefList form.Lines false (word_at Fetch 1 (codes "main") ∷ word_at Push 2 [] ∷ []) (codes "a") (codes "a"))
+-- and not the other way round, nor is the flag wrong
+pub not_grown : ¬ (AddsIfRead AddsX RefusalsHold form.Lines false (argument_at Fetch 1 (codes "main") ∷ argument_at Fetch 2 [] ∷ []) (codes "a") (codes "a"))
+    × ¬ (AddsIfRead AddsX RefusalsHold form.Lines true (argument_at Fetch 1 (codes "main") ∷ argument_at Push 2 [] ∷ []) (codes "a") (codes "ax"))
+    × ¬ (AddsIfRead AddsX RefusalsHold form.Lines false (argument_at Fetch 1 (codes "main") ∷ argument_at Push 2 [] ∷ []) (codes "a") (codes "a"))
 not_grown = (stayed, spoiled, unsaid)
   where
-    stayed : ¬ (AddsIfRead AddsX RefList form.Lines false (word_at Fetch 1 (codes "main") ∷ word_at Fetch 2 [] ∷ []) (codes "a") (codes "a"))
+    stayed : ¬ (AddsIfRead AddsX RefusalsHold form.Lines false (argument_at Fetch 1 (codes "main") ∷ argument_at Fetch 2 [] ∷ []) (codes "a") (codes "a"))
     stayed (inl (g, are, same)) = omega (arith, ap length same)
     stayed (inr (has, same, refused, reported)) = not_read.0 has
 
-    spoiled : ¬ (AddsIfRead AddsX RefList form.Lines true (word_at Fetch 1 (codes "main") ∷ word_at Push 2 [] ∷ []) (codes "a") (codes "ax"))
+    spoiled : ¬ (AddsIfRead AddsX RefusalsHold form.Lines true (argument_at Fetch 1 (codes "main") ∷ argument_at Push 2 [] ∷ []) (codes "a") (codes "ax"))
     spoiled (inl (g, are, same)) = not_read.1 g are
     spoiled (inr (has, same, refused, reported)) = omega (arith, ap length same)
 
-    unsaid : ¬ (AddsIfRead AddsX RefList form.Lines false (word_at Fetch 1 (codes "main") ∷ word_at Push 2 [] ∷ []) (codes "a") (codes "a"))
+    unsaid : ¬ (AddsIfRead AddsX RefusalsHold form.Lines false (argument_at Fetch 1 (codes "main") ∷ argument_at Push 2 [] ∷ []) (codes "a") (codes "a"))
     unsaid (inl (g, are, same)) = not_read.1 g are
     unsaid (inr (has, same, refused, reported)) = false≢true refused
 
--- ---- texts that were checked
+-- ---- checked texts
 
--- `main` in a fetch, and an empty text in a push; that some text reads as the spec is a premise
+-- `main` in a fetch, and an empty text in a push; that `main` is a spec is a premise
 abbrev pub good : Accepted Fetch mode.Normal (Some (codes "main")) None → Checked
 good accepted = checked.Good (text_for Fetch (codes "main"))
     (spec_of Fetch mode.Normal (Some (codes "main")) None accepted)
@@ -109,12 +109,11 @@ abbrev pub bad : Checked
 bad = checked.Bad (text_for Push []) error.Empty
 
 module _ (accepted : Accepted Fetch mode.Normal (Some (codes "main")) None) where
-  -- a text was read, or refused for its reason
+  -- a text is read, or refused for its reason
   pub was_checked : IsChecked (text_for Fetch (codes "main")) (good accepted) × IsChecked (text_for Push []) bad
   was_checked = ((refl, fetches_main.0), (refl, (Empty, refl, nothing_pushed)))
 
-  -- a text that is refused wasn't read, one that is read wasn't refused, and that memory ran out is no reason; nor was it
-  -- another text
+  -- a refused text isn't read, a spec isn't refused, running out of memory isn't a reason, and the text is the same
   pub not_checked : ¬ (IsChecked (text_for Push []) (good accepted)) × ¬ (IsChecked (text_for Fetch []) bad)
       × ¬ (IsChecked (text_for Push []) (checked.Bad (text_for Push []) error.Memory))
       × ¬ (IsChecked (text_for Push []) (checked.Bad (text_for Fetch []) error.Empty))
@@ -125,7 +124,7 @@ module _ (accepted : Accepted Fetch mode.Normal (Some (codes "main")) None) wher
     λ is. push_is_none (sym (ap (λ (t : Text). t.operation) is.0)),
   )
 
-  -- a spec is its reading alone, and what was refused is none
+  -- a spec has only its own reading, and a refused text has none
   pub specs : IsSpec (good accepted) main × ¬ (IsSpec (good accepted) head) × ¬ (IsSpec bad main)
   specs = (
     refl,
@@ -136,7 +135,7 @@ module _ (accepted : Accepted Fetch mode.Normal (Some (codes "main")) None) wher
     λ is. is,
   )
 
-  -- one that was refused is enough, wherever it is
+  -- one refused text is enough, wherever it is
   pub some_bad : HasBad (good accepted ∷ bad ∷ []) × HasBad (bad ∷ good accepted ∷ [])
       × ¬ (HasBad (good accepted ∷ good accepted ∷ [])) × ¬ (HasBad [])
   some_bad = (tt, tt, (λ is. is), λ is. is)
@@ -146,16 +145,16 @@ module _ (accepted : Accepted Fetch mode.Normal (Some (codes "main")) None) wher
   all_good = (tt, tt, (λ are. are), λ are. are)
 
   -- the results grow as above
-  pub grown_of : AddsIfGood AddsX RefList form.Lines false (good accepted ∷ []) (codes "a") (codes "ax")
-      × AddsIfGood AddsX RefList form.Lines true (good accepted ∷ bad ∷ []) (codes "a") (codes "a")
+  pub grown_of : AddsIfGood AddsX RefusalsHold form.Lines false (good accepted ∷ []) (codes "a") (codes "ax")
+      × AddsIfGood AddsX RefusalsHold form.Lines true (good accepted ∷ bad ∷ []) (codes "a") (codes "a")
   grown_of = (inl (main ∷ [], (refl, tt), refl), inr (tt, refl, refl, refl))
 
-  pub not_grown_of : ¬ (AddsIfGood AddsX RefList form.Lines false (good accepted ∷ []) (codes "a") (codes "a"))
-      × ¬ (AddsIfGood AddsX RefList form.Lines true (bad ∷ []) (codes "a") (codes "ax"))
-      × ¬ (AddsIfGood AddsX RefList form.Lines false (bad ∷ []) (codes "a") (codes "a"))
+  pub not_grown_of : ¬ (AddsIfGood AddsX RefusalsHold form.Lines false (good accepted ∷ []) (codes "a") (codes "a"))
+      × ¬ (AddsIfGood AddsX RefusalsHold form.Lines true (bad ∷ []) (codes "a") (codes "ax"))
+      × ¬ (AddsIfGood AddsX RefusalsHold form.Lines false (bad ∷ []) (codes "a") (codes "a"))
   not_grown_of = (stayed, spoiled, unsaid)
     where
-      stayed : ¬ (AddsIfGood AddsX RefList form.Lines false (good accepted ∷ []) (codes "a") (codes "a"))
+      stayed : ¬ (AddsIfGood AddsX RefusalsHold form.Lines false (good accepted ∷ []) (codes "a") (codes "a"))
       stayed (inl (g, are, same)) = omega (arith, ap length same)
       stayed (inr (has, same, refused, reported)) = has
 
@@ -163,10 +162,10 @@ module _ (accepted : Accepted Fetch mode.Normal (Some (codes "main")) None) wher
       no_specs [] are = are
       no_specs (r ∷ g) are = are.0
 
-      spoiled : ¬ (AddsIfGood AddsX RefList form.Lines true (bad ∷ []) (codes "a") (codes "ax"))
+      spoiled : ¬ (AddsIfGood AddsX RefusalsHold form.Lines true (bad ∷ []) (codes "a") (codes "ax"))
       spoiled (inl (g, are, same)) = no_specs g are
       spoiled (inr (has, same, refused, reported)) = omega (arith, ap length same)
 
-      unsaid : ¬ (AddsIfGood AddsX RefList form.Lines false (bad ∷ []) (codes "a") (codes "a"))
+      unsaid : ¬ (AddsIfGood AddsX RefusalsHold form.Lines false (bad ∷ []) (codes "a") (codes "a"))
       unsaid (inl (g, are, same)) = no_specs g are
       unsaid (inr (has, same, refused, reported)) = false≢true refused

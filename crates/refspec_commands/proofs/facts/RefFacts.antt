@@ -1,4 +1,4 @@
--- What lines of refs say, on each side of the borders between refs, peeled tags and other lines.
+-- Lines of refs, lines of peeled tags, and bad lines.
 use Rattle.std.proofs.Common.{◌≡◌, ◌≢◌, ℕ, ◌+◌, ◌<◌, ◌==◌, ◌++◌, false, true, List, [], ◌∷◌, Option, Some, None, unwrap_or, inl, inr, codes, drop, get_or, length, map, reverse, refl, sym, ap, ◌∙◌, subst, arith, length-append}
 use Rattle.std.specs.List.{list_any}
 use Rattle.std.proofs.Common.{append_assoc}
@@ -10,23 +10,23 @@ use Rattle.gix_refspec_text.specs.declared.oid.Kind.TheVariants.{Sha1, Sha256}
 use Rattle.gix_refspec_text.proofs.facts.ObjectIdFacts.{empty_blob, IsIdText-empty_blob}
 use Rattle.gix_refspec_text.proofs.facts.FitFacts.{other_byte}
 use Rattle.gix_refspec_text.proofs.facts.ManualFacts.{Lacks-tested, full, named}
-use Rattle.refspec_commands.specs.Refs.{AddsLine, AddsRefs, AddsReported, HasLast, IsIdThen, IsLast, IsNoRefLine, IsOneWord, IsPeeledLine, IsRefLine, IsTagLine, ReportNames, ReportRefs, ReportsName, bad_bytes, peeled}
-use Rattle.refspec_commands.proofs.RefLemmas.{AddsReported-elsewhere, AddsReported-peeled, space_at}
+use Rattle.refspec_commands.specs.Refs.{AddsLine, AddsRefs, AddsListed, HasLast, IsIdThen, IsLast, IsNoRefLine, IsOneWord, IsPeeledLine, IsRefLine, IsTagLine, ListsNames, ListsRefs, ListsName, bad_bytes, peeled}
+use Rattle.refspec_commands.proofs.RefLemmas.{AddsListed-elsewhere, AddsListed-peeled, space_at}
 use Rattle.refspec_commands.proofs.facts.InputFacts.{records_once}
 use Rattle.gix_refspec_text.proofs.lemmas.lists.LacksLemmas.{Lacks-here}
 
--- the line of a ref, and of what it points to, as Git prints them
+-- the line of a ref, and of a peeled tag, as Git prints them
 abbrev head_line : List ℕ
 head_line = codes "e69de29bb2d1d6434b8b29ae775ad8c2e48c5391 HEAD"
 
 abbrev tag_line : List ℕ
 tag_line = codes "e69de29bb2d1d6434b8b29ae775ad8c2e48c5391\trefs/tags/v1^{}"
 
--- a text with bytes, none of which is white space
+-- a text that isn't empty and contains no white space
 pub plain_word : (n : List ℕ) → 0 < length n → list_any (λ c. c == 9) n ≡ false → list_any (λ c. c == 10) n ≡ false → list_any (λ c. c == 13) n ≡ false → list_any (λ c. c == 32) n ≡ false → IsOneWord n
 plain_word n some tab newline return space = (λ none. omega (arith, some, ap length none), Lacks-tested 9 n tab, Lacks-tested 10 n newline, Lacks-tested 13 n return, Lacks-tested 32 n space)
 
--- the names in them
+-- the names in these lines
 word_head : IsOneWord (codes "HEAD")
 word_head = plain_word (codes "HEAD") (omega arith) refl refl refl refl
 
@@ -42,7 +42,7 @@ says_head = record { digits = codes "e69de29bb2d1d6434b8b29ae775ad8c2e48c5391"; 
 says_tag : IsIdThen tag_line empty_blob (codes "refs/tags/v1^{}")
 says_tag = record { digits = codes "e69de29bb2d1d6434b8b29ae775ad8c2e48c5391"; space = 9; spelled = IsIdText-empty_blob; is_space = inl refl; named = word_tag; here = refl }
 
--- a line that ends otherwise is that of no tag
+-- a line that doesn't end with `}` isn't that of a peeled tag
 abbrev last_byte : List ℕ → ℕ
 last_byte l = get_or (reverse l) 0 0
 
@@ -52,14 +52,14 @@ no_tag line old ends is =
     let brace : last_byte line ≡ 125 = ap last_byte split ∙ ap (λ (l : List ℕ). get_or l 0 0) (reverse-append (is.says.digits ++ (is.says.space ∷ is.tag)) peeled) in
     omega (arith, ends, brace)
 
--- a line of HEAD is never a bad one, whatever is before it
+-- the line of HEAD is never bad, whatever is before it
 pub head_kept : (old new : List Ref) (bad : List (List ℕ)) → AddsLine head_line old new bad → bad ≡ []
 head_kept old new bad (inl is) = is.3
 head_kept old new bad (inr (inl is)) = is.1
 head_kept old new bad (inr (inr (inl tag, same, all))) = absurd (no_tag head_line old refl tag)
 head_kept old new bad (inr (inr (inr none, same, all))) = absurd (none empty_blob (codes "HEAD") says_head)
 
--- lines that are too short for an id say nothing
+-- lines that are too short for an id are bad
 pub no_refs : IsNoRefLine (codes "ref: refs/heads/a\tHEAD") × IsNoRefLine (codes "e69de29b refs/heads/a") × IsNoRefLine []
 no_refs = (short (codes "ref: refs/heads/a\tHEAD") (omega arith), short (codes "e69de29b refs/heads/a") (omega arith), short [] (omega arith))
   where
@@ -73,7 +73,7 @@ no_refs = (short (codes "ref: refs/heads/a\tHEAD") (omega arith), short (codes "
         by_kind Sha1 is = omega (arith, few, long, is)
         by_kind Sha256 is = omega (arith, few, long, is)
 
--- nor does one whose id has 39 digits or 41, or no space behind it
+-- so are lines whose id has 39 or 41 digits, or is followed by neither a space nor a tab
 pub no_ids : IsNoRefLine (codes "e69de29bb2d1d6434b8b29ae775ad8c2e48c539\trefs/heads/a")
     × IsNoRefLine (codes "e69de29bb2d1d6434b8b29ae775ad8c2e48c53911\tHEAD")
     × IsNoRefLine (codes "e69de29bb2d1d6434b8b29ae775ad8c2e48c5391,HEAD")
@@ -101,8 +101,8 @@ no_ids = (
             elim says.is_space [ inl tab ↦ no_tab (at ∙ tab) | inr space ↦ no_space (at ∙ space) ]
         by_kind Sha256 is = omega (arith, few, ap length says.here, length-append says.digits (says.space ∷ name), is)
 
--- nor do lines of an id and something else than one word: the type of an object before the name, two spaces, no name, two
--- lines, a carriage return
+-- so are lines with an id and something other than one word: the type of an object before the name, two spaces, no
+-- name, two lines, a carriage return
 abbrev id_then : List ℕ → List ℕ
 id_then rest = codes "e69de29bb2d1d6434b8b29ae775ad8c2e48c5391" ++ rest
 
@@ -122,8 +122,8 @@ no_words = (
         by_kind Sha1 is = none (subst IsOneWord (sym (ap (drop 1) (space_at (id_then rest) says.digits name says.space 40 is says.here).3)) says.named)
         by_kind Sha256 is = omega (arith, few, (space_at (id_then rest) says.digits name says.space 64 is says.here).0)
 
--- the line of a peeled tag tells its name with the end, with a tab as with a space
-pub reported : ReportsName head_line (codes "HEAD") × ReportsName tag_line (codes "refs/tags/v1" ++ peeled)
+-- the name in the line of a peeled tag includes the suffix, after a tab as after a space
+pub reported : ListsName head_line (codes "HEAD") × ListsName tag_line (codes "refs/tags/v1" ++ peeled)
 reported = ((empty_blob, says_head), (empty_blob, says_tag))
 
 -- ---- refs
@@ -134,7 +134,7 @@ line_of n = codes "e69de29bb2d1d6434b8b29ae775ad8c2e48c5391 " ++ n
 abbrev pub blob_ref : List ℕ → Ref
 blob_ref n = record { name = n; target = empty_blob; object = None }
 
--- a name that doesn't end as the line of a peeled tag does is that of a ref
+-- a name that doesn't end with `}` is that of a ref
 pub ref_line : (n : List ℕ) → IsOneWord n → last_byte n ≢ 125 → IsRefLine (line_of n) (blob_ref n)
 ref_line n word other = record {
   says = record {
@@ -174,7 +174,7 @@ last = (refl, (tag, refl, refl), first, λ has. let none : None ≡ Some has.0 =
           byte,
         )) (ap (λ (o : Option Ref). (unwrap_or o tag).name) is ∙ named)
 
--- the line of the tag tells no other name
+-- the line of the peeled tag has no other name
 reports_tag : (id n : List ℕ) → IsIdThen tag_line id n → n ≡ codes "refs/tags/v1" ++ peeled
 reports_tag id n says = by_kind says.spelled.kind says.spelled.digits
   where
@@ -187,7 +187,7 @@ reports_tag id n says = by_kind says.spelled.kind says.spelled.digits
         (9 ∷ (codes "refs/tags/v1" ++ peeled)) (says.space ∷ n) here))
     by_kind Sha256 long = absurd (omega (arith, ap length says.here, length-append says.digits (says.space ∷ n), long))
 
--- it tells to what the last ref points, and else nothing
+-- if the tag is the last ref, this gets the object; else the line is bad
 pub peels : IsPeeledLine tag_line (blob_ref (codes "HEAD") ∷ tag ∷ []) (blob_ref (codes "HEAD") ∷ joined ∷ [])
     × IsTagLine tag_line [] × IsTagLine tag_line (tag ∷ blob_ref (codes "HEAD") ∷ [])
 peels = (
@@ -231,7 +231,7 @@ added = (
   inr (inr (inr no_refs.0, refl, refl)),
 )
 
--- a line that is bad is never lost, and that of the last ref is none
+-- a bad line is never lost, and the line of the last ref, peeled, isn't bad
 pub not_added : ((old new : List Ref) → ¬ (AddsLine bad_line old new []))
     × ((new : List Ref) → ¬ (AddsLine tag_line (tag ∷ []) new (tag_line ∷ [])))
 not_added = (bad_lost, good_reported)
@@ -247,7 +247,7 @@ not_added = (bad_lost, good_reported)
     good_reported new (inr (inr (inl is, same, bad))) = peels_no_other.0 is
     good_reported new (inr (inr (inr is, same, bad))) = is empty_blob (codes "refs/tags/v1^{}") says_tag
 
--- lines one after another, of which the bad ones are in order
+-- several lines, with the bad ones in order
 pub adds : AddsRefs (head_line ∷ bad_line ∷ line_of (codes "refs/tags/v1") ∷ tag_line ∷ [] ∷ []) []
     (blob_ref (codes "HEAD") ∷ joined ∷ []) (bad_line ∷ [] ∷ [])
 adds =
@@ -293,8 +293,8 @@ none_lost new (more, one, rest, line, none, same) =
     nothing (x ∷ one) rest all = absurd (omega (arith, ap length all))
 
 -- the records of an input
-pub report : ReportRefs 10 (head_line ++ (10 ∷ bad_line)) (blob_ref (codes "HEAD") ∷ []) (bad_line ∷ [])
-    × ReportRefs 10 [] [] [] × ((refs : List Ref) → ¬ (ReportRefs 10 (bad_line ++ (10 ∷ [])) refs []))
+pub report : ListsRefs 10 (head_line ++ (10 ∷ bad_line)) (blob_ref (codes "HEAD") ∷ []) (bad_line ∷ [])
+    × ListsRefs 10 [] [] [] × ((refs : List Ref) → ¬ (ListsRefs 10 (bad_line ++ (10 ∷ [])) refs []))
 report = (
   (
     head_line ∷ bad_line ∷ [],
@@ -319,18 +319,18 @@ report = (
 
 -- ---- the same by names
 
--- refs of the same names are told, whatever their ids are; the bad records grow behind those that were there
-pub by_names : AddsReported tag_line (named (codes "refs/tags/v1") ∷ []) (named (codes "refs/tags/v1") ∷ []) ([] ∷ [])
+-- the refs have the same names, whatever their ids are; bad records are appended
+pub by_names : AddsListed tag_line (named (codes "refs/tags/v1") ∷ []) (named (codes "refs/tags/v1") ∷ []) ([] ∷ [])
     ([] ∷ [])
-    × AddsReported tag_line [] [] ([] ∷ []) ([] ∷ tag_line ∷ []) × ReportNames 10 head_line (named (codes "HEAD") ∷ []) []
+    × AddsListed tag_line [] [] ([] ∷ []) ([] ∷ tag_line ∷ []) × ListsNames 10 head_line (named (codes "HEAD") ∷ []) []
 by_names = (
-  AddsReported-peeled tag_line (codes "refs/tags/v1") (named (codes "refs/tags/v1") ∷ [])
+  AddsListed-peeled tag_line (codes "refs/tags/v1") (named (codes "refs/tags/v1") ∷ [])
       (named (codes "refs/tags/v1") ∷ []) ([] ∷ []) ([] ∷ []) (empty_blob, says_tag) (
         named (codes "refs/tags/v1"),
         refl,
         refl,
       ) refl refl,
-  AddsReported-elsewhere tag_line (codes "refs/tags/v1") [] [] ([] ∷ []) ([] ∷ tag_line ∷ []) (
+  AddsListed-elsewhere tag_line (codes "refs/tags/v1") [] [] ([] ∷ []) ([] ∷ tag_line ∷ []) (
     empty_blob,
     says_tag,
   ) last.3 refl refl,
@@ -345,8 +345,8 @@ by_names = (
   ),
 )
 
--- and neither a ref is lost nor a bad record
-pub ref_kept : ¬ (ReportNames 10 head_line [] [])
+-- neither a ref nor a bad record is lost
+pub ref_kept : ¬ (ListsNames 10 head_line [] [])
 ref_kept (refs, (records, split, adds), same) =
     lost refs (nothing refs (sym same))
     (subst (λ (l : List (List ℕ)). AddsRefs l [] refs []) (records_once 10 records (head_line ∷ []) head_line split
@@ -364,15 +364,15 @@ ref_kept (refs, (records, split, adds), same) =
     lost refs empty (more, one, rest, inr (inr (is, stays, bad)), (last_one, no_more), all) =
         omega (arith, ap length (all ∙ ap (λ (l : List (List ℕ)). l ++ rest) bad))
 
-pub not_by_names : ((named : List Ref) → ¬ (ReportNames 10 (bad_line ++ (10 ∷ [])) named []))
-    × ¬ (AddsReported bad_line [] [] [] [])
+pub not_by_names : ((named : List Ref) → ¬ (ListsNames 10 (bad_line ++ (10 ∷ [])) named []))
+    × ¬ (AddsListed bad_line [] [] [] [])
 not_by_names = (
   (λ named reports. report.2 reports.0 reports.1),
   λ reported. not_added.0 [] (reported.1 [] refl).0
       (subst (AddsLine bad_line [] (reported.1 [] refl).0) (sym reported.2) (reported.1 [] refl).1),
 )
 
--- a bad record is told by its bytes
+-- the bytes of a bad record
 pub bytes_of_bad : bad_bytes (record {
   number = 2;
   bytes = record { ref_ptr = (0, 0); now = codes "x" };

@@ -1,4 +1,4 @@
--- Rows of mappings, in lines and ended by zero bytes, as in the runs of `plan` and `track`.
+-- Rows of mappings, in lines and ended by zero bytes, as in runs of `plan` and `track`.
 use Rattle.std.proofs.Common.{◌≡◌, ◌⊎◌, ◌≤◌, ◌+◌, ℕ, List, [], ◌∷◌, ◌++◌, None, Some, inl, inr, codes, get_or, length, length-append, replicate, refl, ap, ◌∙◌, arith}
 use Rattle.gix_refspec.specs.Matching.Mappings.{Mapped, id, name}
 use Rattle.gix_refspec_match.proofs.facts.MatchFacts.{mapping}
@@ -25,35 +25,35 @@ spec_texts = (
   λ are. are,
 )
 
--- a source is its name, or the digits of its id in lower case
+-- a source is its name, or its id in lower-case hex
 pub sources : (source_text (name (codes "refs/heads/A")) ≡ codes "refs/heads/A")
     × (source_text (id empty_blob) ≡ codes "e69de29bb2d1d6434b8b29ae775ad8c2e48c5391")
 sources = (refl, lower_of-empty_blob)
 
 -- ---- sides
 
--- a mapping of the second of two specs, and one without a destination
+-- a mapping of the second of two specs, and one of the first, without a destination
 abbrev to_o : Mapped
 to_o = mapping 0 (codes "refs/heads/main") (Some (codes "refs/remotes/o/main")) 1
 
 abbrev pub alone : Mapped
 alone = mapping 0 (codes "HEAD") None 0
 
--- `plan` shows the source first, and `track` the destination
+-- `plan` shows the source first, and `track` the destination first
 pub sides : (first_side [] columns.SourceFirst to_o ≡ codes "refs/heads/main")
     × (second_side [] columns.SourceFirst to_o ≡ codes "refs/remotes/o/main")
     × (first_side [] columns.DestinationFirst to_o ≡ codes "refs/remotes/o/main")
     × (second_side [] columns.DestinationFirst to_o ≡ codes "refs/heads/main")
 sides = (refl, refl, refl, refl)
 
--- what stands for a missing destination stands for no other
+-- only a missing destination is replaced
 pub missing : (second_side (codes "FETCH_HEAD") columns.SourceFirst alone ≡ codes "FETCH_HEAD")
     × (second_side [] columns.SourceFirst alone ≡ [])
     × (second_side (codes "FETCH_HEAD") columns.SourceFirst to_o ≡ codes "refs/remotes/o/main")
     × (first_side (codes "FETCH_HEAD") columns.DestinationFirst alone ≡ codes "FETCH_HEAD")
 missing = (refl, refl, refl, refl)
 
--- the text is that of the mapping's spec
+-- the text is that of the spec of the mapping
 pub rows : ((row_of [] columns.SourceFirst (codes "HEAD" ∷ codes "refs/heads/*:refs/remotes/o/*" ∷ []) to_o).spec ≡
     codes "refs/heads/*:refs/remotes/o/*")
     × ((row_of [] columns.SourceFirst (codes "HEAD" ∷ codes "refs/heads/*:refs/remotes/o/*" ∷ []) alone).spec ≡ codes
@@ -62,7 +62,7 @@ rows = (refl, refl)
 
 -- ---- lines
 
--- two spaces or more are behind a field, and quotes around one with a tab
+-- two or more spaces are after a field, and a field with a tab is quoted
 pub cells : IsCell (codes "HEAD") (codes "HEAD  ") × IsCell (codes "HEAD") (codes "HEAD     ")
     × IsCell (codes "a\tb") (codes "\"a\\tb\"  ") × WritesCell (codes "b") (codes "a  ") (codes "a  b  ")
 cells = (
@@ -72,7 +72,7 @@ cells = (
   (codes "b  ", (codes "b", 0, inl refl, refl), refl),
 )
 
--- one space is no end, nor is a tab
+-- one space isn't enough, nor is a tab
 pub no_cells : ¬ (IsCell (codes "HEAD") (codes "HEAD ")) × ¬ (IsCell (codes "HEAD") (codes "HEAD\t "))
     × ¬ (WritesCell (codes "b") (codes "a") (codes "b  "))
 no_cells = (
@@ -103,7 +103,7 @@ row = record {
   spec = codes "refs/heads/*:refs/remotes/o/*";
 }
 
--- a row as `plan` prints it beside a longer one
+-- a row as `plan` prints it in a table with longer ones
 pub line : IsLine row (codes "refs/heads/a       refs/remotes/o/a       refs/heads/*:refs/remotes/o/*\n")
 line = record {
   first = codes "refs/heads/a       ";
@@ -129,7 +129,7 @@ begins l tail cell (shown, more, inr is, all) here = inr (
       ∙ ap (λ (c : List ℕ). c ++ tail) (all ∙ ap (λ (s : List ℕ). s ++ (32 ∷ 32 ∷ replicate more 32)) is),
 )
 
--- with one space behind the first field, or the second field before it, it is none
+-- a line doesn't have one space after the first field, or the second field first
 pub no_line : ¬ (IsLine row (codes "refs/heads/a refs/remotes/o/a  refs/heads/*:refs/remotes/o/*\n"))
     × ¬ (IsLine row (codes "refs/remotes/o/a  refs/heads/a  refs/heads/*:refs/remotes/o/*\n"))
 no_line = (one_space, swapped)
@@ -150,7 +150,7 @@ no_line = (one_space, swapped)
           (34 ∷ quoted.0) (λ byte. omega (arith, byte)) quoted.1
     ]
 
--- nor is it without the second field or the last
+-- nor is the second or the last field left out
 pub too_short : ¬ (IsLine row (codes "refs/heads/a  refs/heads/*:refs/remotes/o/*\n"))
     × ¬ (IsLine row (codes "refs/heads/a  refs/remotes/o/a  \n"))
 too_short = (
@@ -205,7 +205,7 @@ too_short = (
       shown_last is.last is.is_last,
     )
 
--- cells and lines are behind what was there
+-- cells and lines are appended
 pub write : WritesCells (codes "HEAD") (codes "refs/x/y") (codes "a\n") (codes "a\nHEAD  refs/x/y  ")
     × WritesLine row (codes "a\n") (codes "a\nrefs/heads/a       refs/remotes/o/a       refs/heads/*:refs/remotes/o/*\n")
 write = (
@@ -243,7 +243,7 @@ lines = (
 
 -- ---- mappings
 
--- each field has its zero byte, and none has another
+-- each field ends with one zero byte
 pub zero_fields : (fields row ≡ (codes "refs/heads/a" ++ 0 ∷ []) ++
     ((codes "refs/remotes/o/a" ++ 0 ∷ []) ++ (codes "refs/heads/*:refs/remotes/o/*" ++ 0 ∷ [])))
 zero_fields = refl
@@ -279,7 +279,7 @@ tracked_line = record {
   is = refl;
 }
 
--- no destination is `FETCH_HEAD` in a line, and an empty field with zero bytes; `track` has the destination first
+-- a missing destination is `FETCH_HEAD` in a line, and an empty field in a record; `track` shows the destination first
 pub reported : AddsMappings form.Lines columns.SourceFirst texts (alone ∷ []) [] (codes "HEAD  FETCH_HEAD  HEAD\n")
     × AddsMappings form.Zeros columns.SourceFirst texts (alone ∷ []) []
     ((codes "HEAD" ++ 0 ∷ []) ++ (0 ∷ (codes "HEAD" ++ 0 ∷ [])))
@@ -297,7 +297,7 @@ reported = (
   ([], refl, refl),
 )
 
--- zero bytes have no `FETCH_HEAD` before them, nor the destination of `plan` the source's place, and no mapping is lost
+-- records don't contain `FETCH_HEAD`, `plan` doesn't show the destination first, and no mapping is lost
 pub not_reported : ¬ (AddsMappings form.Zeros columns.SourceFirst texts (alone ∷ []) []
     ((codes "HEAD" ++ 0 ∷ []) ++ ((codes "FETCH_HEAD" ++ 0 ∷ []) ++ (codes "HEAD" ++ 0 ∷ []))))
     × ¬ (AddsMappings form.Zeros columns.SourceFirst texts (to_o ∷ []) []

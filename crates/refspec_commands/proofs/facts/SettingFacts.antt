@@ -1,4 +1,4 @@
--- Which records are origins, which keys have refspecs, and what two records say, on each side of each border.
+-- Which records are origins, which keys are those of refspecs, and settings of two records each.
 use Rattle.std.proofs.Common.{◌≢◌, ℕ, List, [], ◌∷◌, Bor, None, Some, inl, inr, codes, get_or, length, refl, sym, ap, arith, length-append}
 use Rattle.gix_refspec_text.specs.declared.parsing.Operation.TheVariants as operation
 use Rattle.gix_refspec.specs.Texts.Words.{BeginsWith}
@@ -11,7 +11,7 @@ use Rattle.refspec_commands.specs.Texts.{AreValues, Given, at_setting}
 pub origins : IsOrigin (codes "file:.git/config") × IsOrigin (codes "standard input:") × IsOrigin (codes "blob:x") × IsOrigin (codes "command line:")
 origins = (inl (record { after = codes ".git/config"; here = refl }), inr (inl (record { after = []; here = refl })), inr (inr (inl (record { after = codes "x"; here = refl }))), inr (inr (inr (record { after = []; here = refl }))))
 
--- neither a scope nor a key is one
+-- neither a scope nor a key is an origin
 pub no_origins : ¬ (IsOrigin (codes "local")) × ¬ (IsOrigin (codes "remote.o.fetch\na"))
 no_origins = (scope, key)
   where
@@ -31,11 +31,11 @@ no_origins = (scope, key)
     key (inr (inr (inl is))) = other (codes "blob:") (codes "remote.o.fetch\na") (λ same. omega (arith, same)) (λ none. omega (arith, none)) is
     key (inr (inr (inr is))) = other (codes "command line:") (codes "remote.o.fetch\na") (λ same. omega (arith, same)) (λ none. omega (arith, none)) is
 
--- the keys of a remote's refspecs; of one without a name too
+-- the keys of the refspecs of a remote, also of one with an empty name
 pub keys : HoldsSpecs (codes "remote.o.fetch") operation.Fetch × HoldsSpecs (codes "remote.a.push.fetch") operation.Fetch × HoldsSpecs (codes "remote.o.push") operation.Push × HoldsSpecs (codes "remote..fetch") operation.Fetch
 keys = ((codes "o", refl), (codes "a.push", refl), (codes "o", refl), ([], refl))
 
--- nor are these: another section, and no name
+-- other keys: in another section, and without a name
 pub no_keys : ¬ (HoldsSpecs (codes "branch.main.fetch") operation.Fetch) × ¬ (HoldsSpecs (codes "remote.fetch") operation.Fetch)
 no_keys = (branch, short)
   where
@@ -48,7 +48,7 @@ no_keys = (branch, short)
 abbrev lent : List ℕ → Bor (List ℕ)
 lent bytes = record { ref_ptr = (0, 0); now = bytes }
 
--- a key alone lacks its value where it is one of refspecs, and then gives none; with a value it gives it
+-- a key of refspecs without a value lacks it, and adds no text; with a value it adds the text
 abbrev alone : Setting
 alone = record { origin = lent (codes "file:c"); key = lent (codes "remote.o.fetch"); value = None }
 
@@ -61,7 +61,7 @@ pushed = record { spot = at_setting (codes "file:c") (codes "remote.o.push"); op
 pub values : LacksValue alone × AreValues (alone ∷ (whole ∷ [])) (pushed ∷ [])
 values = ((operation.Fetch, (codes "o", refl), refl), inr ((λ text is. is.value), inl (pushed, [], record { holds = (codes "o", refl); at = refl; value = refl }, refl, refl)))
 
--- what the records of both say, and a record that is left over
+-- the records of both settings, and a record that is left over
 pub pairs : ArePairs (codes "file:c" ∷ (codes "remote.o.fetch" ∷ (codes "file:c" ∷ (codes "remote.o.push\n:" ∷ [])))) (alone ∷ (whole ∷ [])) × ((settings : List Setting) → ¬ (ArePairs (codes "file:c" ∷ []) settings))
 pairs = (
   (alone, whole ∷ [], record { from = inl (record { after = codes "c"; here = refl }); is_origin = refl; key = Lacks-tested 10 (codes "remote.o.fetch") refl; value = refl }, (whole, [], record { from = inl (record { after = codes "c"; here = refl }); is_origin = refl; key = Lacks-tested 10 (codes "remote.o.push") refl; value = refl }, refl, refl), refl),

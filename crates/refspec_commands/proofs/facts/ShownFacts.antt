@@ -1,4 +1,4 @@
--- What people see of names, on each side of each border of the rule on quotes, and how names are written.
+-- Names as shown, with and without quotes, and how they are written.
 use Rattle.std.proofs.Common.{◌≡◌, ℕ, List, [], ◌∷◌, ◌++◌, inl, inr, codes, get_or, length, refl, sym, ap, ◌∙◌, subst, arith}
 use Rattle.gix_refspec_text.proofs.facts.FitFacts.{other_byte}
 use Rattle.refspec_commands.specs.declared.call.Form.{Form}
@@ -6,23 +6,23 @@ use Rattle.refspec_commands.specs.declared.call.Form.TheVariants as form
 use Rattle.refspec_commands.specs.declared.report.Report.{Report}
 use Rattle.refspec_commands.specs.Shown.{AddsNames, AreLines, Grows, IsQuoted, KeepsReport, KeepsResults, WritesQuoted, escaped, zero_ended}
 
--- what ASCII prints stands for itself, and every other byte for its three octal digits
+-- printable ASCII stands for itself, and every other byte is a backslash and three octal digits
 pub bytes : (escaped 0 ≡ codes "\\000") × (escaped 31 ≡ codes "\\037") × (escaped 32 ≡ codes " ") × (escaped 126 ≡ codes "~") × (escaped 127 ≡ codes "\\177") × (escaped 233 ≡ codes "\\351") × (escaped 255 ≡ codes "\\377")
 bytes = (refl, refl, refl, refl, refl, refl, refl)
 
--- the bytes that have a letter, and those beside them
+-- the bytes that have a letter, and the bytes next to them
 pub letters : (escaped 6 ≡ codes "\\006") × (escaped 7 ≡ codes "\\a") × (escaped 8 ≡ codes "\\b") × (escaped 9 ≡ codes "\\t") × (escaped 10 ≡ codes "\\n") × (escaped 11 ≡ codes "\\v") × (escaped 12 ≡ codes "\\f") × (escaped 13 ≡ codes "\\r") × (escaped 14 ≡ codes "\\016")
 letters = (refl, refl, refl, refl, refl, refl, refl, refl, refl)
 
--- a quote, a backslash, and the bytes beside them
+-- a quote, a backslash, and the bytes next to them
 pub quotes : (escaped 33 ≡ codes "!") × (escaped 34 ≡ codes "\\\"") × (escaped 35 ≡ codes "#") × (escaped 91 ≡ codes "[") × (escaped 92 ≡ codes "\\\\") × (escaped 93 ≡ codes "]")
 quotes = (refl, refl, refl, refl, refl, refl)
 
--- a name as it is, and between quotes
+-- a name as it is, and in quotes
 pub seen : IsQuoted (codes "a") (codes "a") × IsQuoted (codes "a\tb") (codes "\"a\\tb\"") × IsQuoted (codes "") (codes "\"\"")
 seen = (inl refl, inr refl, inr refl)
 
--- no other name between quotes, and no name without its escape
+-- not another name in quotes, and not a byte without its escape
 pub unseen : ¬ (IsQuoted (codes "a") (codes "\"b\"")) × ¬ (IsQuoted (codes "a\t") (codes "\"a\t\""))
 unseen = (other, raw)
   where
@@ -46,7 +46,7 @@ lines = (
   refl,
 )
 
--- a line isn't without its newline or the bytes before it, no name is left out, and the second isn't the first
+-- no line lacks its newline or the bytes before it, no name is left out, and the order doesn't change
 pub no_lines : ¬ (AreLines [] (codes "a" ∷ []) (codes "a")) × ¬ (AreLines (codes "x ") (codes "a" ∷ []) (codes "a\n"))
     × ¬ (AreLines [] (codes "a" ∷ []) []) × ¬ (AreLines [] (codes "a" ∷ codes "b" ∷ []) (codes "b\na\n"))
 no_lines = (
@@ -70,7 +70,7 @@ no_lines = (
     second (shown, rest, inr is, more, same) =
         omega (arith, ap (λ (l : List ℕ). get_or l 0 0) (same ∙ ap (λ (s : List ℕ). s ++ (10 ∷ rest)) is))
 
--- zero bytes end names as they are, with nothing before them
+-- in records names are raw, ended by zero bytes, with nothing before them
 pub names : (zero_ended (codes "a\tb") ≡ 97 ∷ 9 ∷ 98 ∷ 0 ∷ [])
     × AddsNames form.Lines (codes "x ") (codes "a" ∷ []) (codes "y\n") (codes "y\nx a\n")
     × AddsNames form.Zeros (codes "x ") (codes "a\tb" ∷ codes "c" ∷ []) [] (97 ∷ 9 ∷ 98 ∷ 0 ∷ 99 ∷ 0 ∷ [])
@@ -93,7 +93,7 @@ other_names = (
     zero (l, (shown, rest, inr is, none, all), same) =
         omega (arith, ap (λ (l : List ℕ). get_or l 0 0) (same ∙ (all ∙ ap (λ (s : List ℕ). s ++ (10 ∷ rest)) is)))
 
--- ---- what grows and what stays
+-- ---- results that grow or stay
 
 pub kept : KeepsResults form.Lines (codes "a\n") (codes "a\n") × KeepsResults form.Zeros [] []
     × ¬ (KeepsResults form.Lines [] (codes "a\n")) × ¬ (KeepsResults form.Zeros [] (0 ∷ []))
@@ -106,7 +106,7 @@ kept = (
   λ same. omega (arith, ap length same),
 )
 
--- a page keeps its form and, in lines, its results
+-- a report keeps its form and, in lines, its results
 pub reports : (p q : Report) → p.form ≡ form.Lines → q.form ≡ form.Lines → p.results.items ≡ codes "a"
     → (q.results.items ≡ codes "a" → KeepsReport p q)
     × (q.results.items ≡ codes "ab" → ¬ (KeepsReport p q))
@@ -126,7 +126,7 @@ reports p q is also a = (
 pub other_form : (p q : Report) → p.form ≡ form.Lines → q.form ≡ form.Zeros → ¬ (KeepsReport p q)
 other_form p q is other keeps = let same : form.Zeros ≡ form.Lines = sym other ∙ (keeps.form ∙ is) in cc
 
--- what is put is behind what was there
+-- what is written is appended
 pub write : WritesQuoted (codes "a\t") (codes "x ") (codes "x \"a\\t\"") × WritesQuoted (codes "a") [] (codes "a")
     × ¬ (WritesQuoted (codes "a") (codes "x") (codes "a")) × Grows (codes "a") (codes "ab") × Grows [] []
     × ¬ (Grows (codes "a") (codes "b")) × ¬ (Grows (codes "a") [])

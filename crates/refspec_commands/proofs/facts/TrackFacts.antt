@@ -1,4 +1,4 @@
--- Which specs refs are looked up by: those whose destination is no object id.
+-- The specs by which refs are looked up: those whose destination isn't an object id.
 use Rattle.std.proofs.Common.{◌≡◌, ℕ, List, [], ◌∷◌, None, Some, inl, inr, codes, length, replicate, refl, sym, ap, arith}
 use Rattle.std.proofs.lemmas.Bool.{false≢true}
 use Rattle.gix_refspec_text.proofs.facts.FitFacts.{other_byte}
@@ -25,7 +25,7 @@ to_name = fetched Normal (codes "main") (Some (codes "e69de29bb2d1d6434b8b29ae77
 ends_at_id : HasIdDestination to_id
 ends_at_id = (codes "e69de29bb2d1d6434b8b29ae775ad8c2e48c5391", refl, (empty_blob, IsIdText-empty_blob))
 
--- a text of neither length is that of no id
+-- a text of 39 digits isn't an object id
 no_id : (text id : List ℕ) → length text ≡ 39 → ¬ (IsIdText text id)
 no_id text id long is = by_kind is.kind is.digits
   where
@@ -40,11 +40,11 @@ ends_at_name (text, is, (id, spelled)) =
 nowhere : ¬ (HasIdDestination short)
 nowhere (text, is, id) = none_some text is
 
--- an id is out, and what is nearly one is in, with a spec that has no destination
+-- a destination that is an id is out; one that is almost an id is in, and so is a spec without a destination
 pub by_names : AreByNames (to_id ∷ to_name ∷ short ∷ []) (to_name ∷ short ∷ [])
 by_names = inl (ends_at_id, inr (ends_at_name, (short ∷ [], inr (nowhere, ([], refl, refl)), refl)))
 
--- none is out otherwise, and none that ends at an id is in
+-- no other spec is out, and no spec with an id as its destination is in
 pub not_by_names : ¬ (AreByNames (to_name ∷ []) []) × ¬ (AreByNames (short ∷ []) [])
     × ¬ (AreByNames (to_id ∷ []) (to_id ∷ [])) × ¬ (AreByNames [] (short ∷ []))
 not_by_names = (left_out, also_left_out, looked_up, λ are. omega (arith, ap length are))
@@ -61,21 +61,21 @@ not_by_names = (left_out, also_left_out, looked_up, λ are. omega (arith, ap len
     looked_up (inl (is, none)) = omega (arith, ap length none)
     looked_up (inr (is, more)) = is ends_at_id
 
--- a ref of which the name alone is given points to the id of zeros and is no tag
+-- a ref of which only the name is known points to the null id, and has no peeled object
 pub given : ((named (codes "refs/x/a")).name ≡ codes "refs/x/a")
     × ((named (codes "refs/x/a")).target ≡ replicate 20 0) × ((named (codes "refs/x/a")).object ≡ None)
 given = (refl, refl, refl)
 
 -- ---- which refs are written
 
--- a branch that is written, and one without a destination
+-- a mapping that writes a ref, and one without a destination
 abbrev written : Mapped
 written = record { item = None; source = name (codes "refs/heads/a"); destination = Some (codes "refs/x/a"); spec = 0 }
 
 abbrev unwritten : Mapped
 unwritten = record { item = None; source = name (codes "refs/x/b"); destination = None; spec = 0 }
 
--- the destination is written, and neither the source nor another name
+-- the destination is written, but neither the source nor another name
 pub writes : IsWritten (codes "refs/x/a") (unwritten ∷ written ∷ []) × ¬ (IsWritten (codes "refs/x/b") (unwritten ∷ written ∷ []))
     × ¬ (IsWritten (codes "refs/heads/a") (written ∷ []))
 writes = (inr (inl refl), nothing, source)
@@ -89,7 +89,7 @@ writes = (inr (inl refl), nothing, source)
     source (inl same) = omega (arith, ap length (same_Some (codes "refs/x/a") (codes "refs/heads/a") same))
     source (inr is) = is
 
--- one name that isn't written is enough, wherever it is
+-- each name must be written
 pub each : IsEachWritten (codes "refs/x/a" ∷ codes "refs/x/a" ∷ []) (written ∷ []) × IsEachWritten [] []
     × ¬ (IsEachWritten (codes "refs/x/a" ∷ codes "refs/heads/a" ∷ []) (written ∷ []))
 each = ((inl refl, (inl refl, tt)), tt, λ are. writes.2 are.1.0)
@@ -102,7 +102,7 @@ some = (inr (inl writes.2), no, λ has. has)
     no (inl none) = none (inl refl)
     no (inr has) = has
 
--- a set of the destination, and not the empty one
+-- the set contains the destination, and isn't empty
 pub set_of : AreWritten (record { keys = record { ref_ptr = (0, 0); now = codes "refs/x/a" } ∷ [] }) (unwritten ∷ written ∷ []) → IsWritten (codes "refs/x/a") (unwritten ∷ written ∷ [])
 set_of are = (are (codes "refs/x/a")).0 refl
 

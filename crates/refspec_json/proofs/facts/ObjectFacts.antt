@@ -4,7 +4,7 @@ use Rattle.std.specs.Fmt.{digits}
 use Rattle.serde_json.proofs.OnLiterals.{serde_json_on_literals}
 use Rattle.refspec_json.specs.Objects.{line_of, refused_object, spec_object, mapping_object, left_out_object, conflict_object, malformed_object, untracked_object, prefix_object, noted_object, nothing_object}
 
--- a source that has a fault, and a text without sides
+-- a source with a fault, and an empty text
 pub refused : (line_of (refused_object (codes "-:1") (codes "fetch") (codes "a..b") (codes "r") (codes "m") (Some (codes "source")) (Some (codes "..")) (Some 2) (codes "d"))
     ≡ codes "{\"advice\":\"d\",\"at\":2,\"kind\":\"refused\",\"message\":\"m\",\"operation\":\"fetch\",\"part\":\"..\",\"place\":\"-:1\",\"reason\":\"r\",\"side\":\"source\",\"text\":\"a..b\"}" ++ 10 ∷ [])
     × (line_of (refused_object (codes "-:1") (codes "push") [] (codes "r") (codes "m") None None None [])
@@ -12,7 +12,7 @@ pub refused : (line_of (refused_object (codes "-:1") (codes "fetch") (codes "a..
 unfolding digits serde_json_on_literals
 refused = (refl, refl)
 
--- a spec alone, with its meaning, and with the place of an earlier one
+-- a spec alone, with its meaning, and with the location of an earlier duplicate
 pub spec : (line_of (spec_object (codes "canonical") (codes "-:1") (codes "fetch") (codes "@") (codes "HEAD") None None)
     ≡ codes "{\"canonical\":\"HEAD\",\"kind\":\"canonical\",\"operation\":\"fetch\",\"place\":\"-:1\",\"text\":\"@\"}" ++ 10 ∷ [])
     × (line_of (spec_object (codes "meaning") (codes "-:1") (codes "fetch") (codes "a") (codes "a") (Some (codes "m")) None)

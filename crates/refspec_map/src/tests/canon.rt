@@ -1,5 +1,5 @@
-//! What the canon commands write. A run that always ends with a fault keeps its contract: the
-//! statuses here and the stored run are what turns it down.
+//! What the canon commands write. A run that always ends with a fault would keep its contract: only the
+//! exit statuses here and the stored run rule it out.
 
 use super::{answer, check_answer};
 use crate::command::Command;
@@ -19,7 +19,7 @@ fn accepted_lines(alloc: Global, output: &[u8]) -> Result<Vec<u8>, AllocError> {
     Ok(lines)
 }
 
-// Runs a command on a row's input, and what it accepted once more.
+// Runs a command on a row's input, and once more on the canonical texts that it wrote.
 fn check_row<R: Abort + AllocGlobal>(
     rt: &R,
     command: Command,

@@ -1,4 +1,4 @@
-//! Readers that give little or fail, writers that take little or fail, and the limit of an input.
+//! Readers that return little or fail, writers that take little or fail, and the limit of an input.
 
 use super::{ByteReader, CallWriter, FaultyWriter, answer, end_of};
 use crate::command::Command;
@@ -19,7 +19,7 @@ const LINES: &[u8] = b"spec refs/heads/*:x/*\nspec x:y\n\
     ref 1111111111111111111111111111111111111111 refs/heads/a\n\
     ref 1111111111111111111111111111111111111111 x/b";
 
-// Runs a command on an input that comes one byte a call: each byte is read once, and then the end.
+// Runs a command on an input that comes one byte per call: each byte is read once, and then the end.
 fn check_by_bytes<R: Abort + AllocGlobal>(
     rt: &R,
     command: Command,
@@ -66,7 +66,7 @@ fn end_of_push<R: Read, W: Write>(
     end_of(alloc, run(alloc, Command::CanonPush, reader, writer))
 }
 
-// The reader of a row would give the rest of the input, or its end, at the next call.
+// The reader of a row would return the rest of the input, or its end, at the next call.
 #[test]
 fn tries_no_read_again(rt: HostRuntime) -> Result<(), Fail> {
     let rows = [
@@ -109,7 +109,7 @@ fn takes_an_input_at_the_limit(rt: HostRuntime) -> Result<(), Fail> {
     Ok(())
 }
 
-// Looks whether what a reader gives is too long, and nothing is written.
+// Checks that the input of a reader is too long, and that nothing is written.
 fn check_too_long<R: Abort + AllocGlobal>(rt: &R, reader: &mut impl Read) -> Result<(), Fail> {
     let command = Command::CanonFetch;
     let mut writer = CallWriter {
@@ -187,7 +187,7 @@ fn writes_all_by_one_call_and_flushes_once(rt: HostRuntime) -> Result<(), Fail> 
 
 #[test]
 fn stops_where_the_writer_fails(rt: HostRuntime) -> Result<(), Fail> {
-    // The most bytes that a write takes, the number of the call that fails, how the run ends, all
+    // The maximum length of a write, in bytes, the number of the call that fails, how the run ends, all
     // calls, and what was taken.
     let rows = [
         (100, 0, "status 1", "wf", OUTPUT),

@@ -1,11 +1,11 @@
-//! The printed line of each fault, and its status.
+//! The printed line of each fault, and its exit status.
 
 use crate::fault::Fault;
 use gix_refspec::parsing::Error;
 use std::process::Abort;
 use std::test::Fail;
 
-// Compares what a fault prints, and its status.
+// Compares the printed line of a fault, and its exit status.
 fn check_fault<R: Abort + AllocGlobal>(
     rt: &R,
     fault: &Fault,
@@ -30,8 +30,8 @@ fn prints_faults(rt: HostRuntime) -> Result<(), Fail> {
     for (fault, text, status) in faults {
         check_fault(&rt, &fault, text, status)?;
     }
-    // The three after the first two are kept for callers, and never given. Nor is the last, since
-    // a run then ends for memory.
+    // The three after the first two exist for callers, and are never returned. Nor is the last: a run
+    // then ends with `Fault::Memory`.
     let refused = [
         (1, Error::PatternUnbalanced, "line 1: PatternUnbalanced"),
         (42, Error::NegativeEmpty, "line 42: NegativeEmpty"),

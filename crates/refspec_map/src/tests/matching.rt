@@ -1,4 +1,4 @@
-//! What the matching commands write, and the line that they end at.
+//! What the matching commands write, and the line at which they fail.
 
 use super::{check_answer, end_of};
 use crate::command::Command;
@@ -9,7 +9,7 @@ use std::test::Fail;
 
 const ID: &[u8] = b"1111111111111111111111111111111111111111";
 
-// The input of a row, in which `$` stands for an id.
+// The input of a row, with an id for each `$`.
 fn filled(alloc: Global, row: &str) -> Result<Vec<u8>, AllocError> {
     let mut input = Vec::new(alloc);
     for byte in row.as_bytes() {
@@ -21,7 +21,7 @@ fn filled(alloc: Global, row: &str) -> Result<Vec<u8>, AllocError> {
     Ok(input)
 }
 
-// Runs a command on the inputs of rows, and compares what it wrote and the status.
+// Runs a command on the inputs of rows, and compares the outputs and the exit status.
 pub(super) fn check_output<R: Abort + AllocGlobal>(
     rt: &R,
     command: Command,

@@ -1,4 +1,4 @@
-//! What a plan writes, with its status.
+//! What a plan writes, with its exit status.
 
 use super::matching::check_output;
 use crate::command::Command;
@@ -9,7 +9,7 @@ fn writes_what_survives_and_the_fixes(rt: HostRuntime) -> Result<(), Fail> {
     let rows = [
         ("", ""),
         ("spec main\n", ""),
-        // The tag, as git fetches it.
+        // Git takes the tag too.
         (
             "spec main:refs/remotes/origin/main\nref $ refs/tags/main\nref $ refs/heads/main\n",
             "map\t0\t0\trefs/tags/main\trefs/remotes/origin/main\n",

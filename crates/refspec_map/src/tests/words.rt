@@ -1,11 +1,10 @@
-//! The commands that words name.
+//! The commands that arguments name.
 
 use crate::command::Command;
 use crate::command_of;
 use std::alloc::{AllocError, Global};
 use std::test::Fail;
 
-// The command that these words name.
 fn named(alloc: Global, words: &[&str]) -> Result<Option<Command>, AllocError> {
     let mut owned = Vec::new(alloc);
     for word in words {

@@ -1,4 +1,4 @@
--- A side that matches begins with what it expands to, and what is kept is a part of what is matched.
+-- A name that a side matches begins with an entry of its expansion, and kept mappings are a subset of all.
 use Rattle.std.proofs.Common.{map}
 use Rattle.gix_refspec_match.specs.Views.Mapping.{ref_of}
 use Rattle.gix_refspec.specs.Views.Group.{readings_of}

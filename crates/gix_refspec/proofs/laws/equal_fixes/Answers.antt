@@ -1,4 +1,4 @@
--- Names by their bytes, specs by what they say.
+-- Names are compared by their bytes, specs by their meaning.
 use Rattle.std.proofs.Common.{◌↔◌, IsTrue}
 use Rattle.bstr.specs.Owned.{bstring_bytes}
 use Rattle.std.proofs.lemmas.Slice.Eq.{bytes_eq-Decides}

@@ -1,4 +1,4 @@
--- Destinations and texts by their bytes, sources as names and ids.
+-- Destinations and texts are compared by their bytes, sources as names and ids.
 use Rattle.std.proofs.Common.{◌≡◌, ◌↔◌, true, ap, IsTrue}
 use Rattle.bstr.specs.Owned.{bstring_bytes}
 use Rattle.bstr.specs.contracts.bstring.BStringPartialEq.TheImpl.{ghosts as compared_texts}

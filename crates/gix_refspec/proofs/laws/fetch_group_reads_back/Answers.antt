@@ -1,4 +1,4 @@
--- Fetches of one meaning have the same sides, and both are negative or neither.
+-- Fetches with the same meaning have the same sides, and both are negative or neither is.
 use Rattle.std.proofs.Common.{map}
 use Rattle.gix_refspec_match.specs.Views.Mapping.{ref_of}
 use Rattle.gix_refspec.specs.Views.Group.{readings_of}

@@ -1,4 +1,4 @@
--- A partial source takes the first of its candidates that is there.
+-- A partial source takes the first of its candidates that some item has.
 use Rattle.std.proofs.Common.{map}
 use Rattle.gix_refspec_match.specs.Views.Mapping.{ref_of}
 use Rattle.gix_refspec_text.proofs.lemmas.hits.CandidateLemmas.{takes_first}

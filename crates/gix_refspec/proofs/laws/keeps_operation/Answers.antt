@@ -1,4 +1,4 @@
--- By the forms.
+-- By cases on the forms of a text.
 use Rattle.gix_refspec_text.proofs.lemmas.specs.SpecLemmas.{keeps_operation}
 use Rattle.gix_refspec.proofs.laws.keeps_operation.Goals as goal
 

@@ -1,4 +1,4 @@
--- What is kept in either direction is kept of some list.
+-- In both directions the kept mappings are those kept of some list.
 use Rattle.std.proofs.Common.{inl, inr}
 use Rattle.gix_refspec_match.proofs.lemmas.keep.KeptLemmas.{kept_once}
 use Rattle.gix_refspec.proofs.laws.kept_once.Goals as goal

@@ -1,4 +1,4 @@
--- Whatever the readings and the refs are.
+-- For all readings and refs.
 use Rattle.std.proofs.Common.{map}
 use Rattle.gix_refspec_match.specs.Views.Mapping.{ref_of}
 use Rattle.gix_refspec.specs.Views.Group.{readings_of}

@@ -1,4 +1,4 @@
--- A text with one star is no pattern for another reason than a fault.
+-- A text with one star that isn't a pattern has a fault.
 use Rattle.gix_refspec_text.proofs.lemmas.parsing.SideLemmas.{nothing_against}
 use Rattle.gix_refspec.proofs.laws.nothing_against.Goals as goal
 

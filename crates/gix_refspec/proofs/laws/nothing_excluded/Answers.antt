@@ -1,4 +1,4 @@
--- What is kept isn't excluded.
+-- Kept mappings aren't excluded.
 use Rattle.std.proofs.Common.{map}
 use Rattle.gix_refspec_match.specs.Views.Mapping.{ref_of}
 use Rattle.gix_refspec.specs.Views.Group.{readings_of}

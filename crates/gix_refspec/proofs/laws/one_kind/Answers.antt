@@ -1,4 +1,4 @@
--- A text is cut at its star in one way, and the other kinds exclude one another.
+-- A text splits at its star in one way, and the other kinds exclude one another.
 use Rattle.gix_refspec_match.proofs.lemmas.hits.HitLemmas.{one_kind}
 use Rattle.gix_refspec.proofs.laws.one_kind.Goals as goal
 

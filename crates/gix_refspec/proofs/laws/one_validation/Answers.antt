@@ -1,4 +1,4 @@
--- Whatever the readings and the mappings are.
+-- For all readings and mappings.
 use Rattle.gix_refspec.specs.Views.Group.{readings_of}
 use Rattle.gix_refspec.specs.Views.Issue.{mappings_of}
 use Rattle.gix_refspec.proofs.lemmas.validate.OneValidationLemmas.{one_validation}

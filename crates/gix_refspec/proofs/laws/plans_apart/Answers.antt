@@ -1,4 +1,4 @@
--- Places tell sources apart, and no destination is in conflict.
+-- Indexes determine sources, and no destination is in conflict.
 use Rattle.gix_refspec.proofs.lemmas.validate.PlanLemmas.{plans_apart}
 use Rattle.gix_refspec.proofs.laws.plans_apart.Goals as goal
 

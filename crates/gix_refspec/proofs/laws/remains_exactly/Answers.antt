@@ -1,4 +1,4 @@
--- Whatever the mappings are.
+-- For all mappings.
 use Rattle.gix_refspec.specs.Views.Group.{readings_of}
 use Rattle.gix_refspec.specs.Views.Issue.{mappings_of}
 use Rattle.gix_refspec.proofs.lemmas.validate.MadeAtLemmas.{remains_exactly}

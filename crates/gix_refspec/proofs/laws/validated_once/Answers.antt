@@ -1,4 +1,4 @@
--- What is left was there before, when nothing was in conflict.
+-- The remaining mappings were there before, when nothing was in conflict.
 use Rattle.std.proofs.Common.{map}
 use Rattle.gix_refspec_match.specs.Views.Mapping.{ref_of}
 use Rattle.gix_refspec.specs.Views.Group.{readings_of}

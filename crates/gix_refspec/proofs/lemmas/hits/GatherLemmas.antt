@@ -1,5 +1,5 @@
--- What a group was gathered from, for a caller that knows what its iterator gives. `YieldsList` says so of a chain of
--- adapters: `YieldsList-from_vec`, `YieldsList-from_slice` and `YieldsList-from_copied` of std begin and extend one.
+-- Gathering a group, for a caller that knows what its iterator yields. `YieldsList` says that of a chain of adapters:
+-- `YieldsList-from_vec`, `YieldsList-from_slice` and `YieldsList-from_copied` of std begin and extend one.
 use Rattle.std.proofs.Common.{◌≡◌, List, Option, sym, ap, ◌∙◌, map-id}
 use Rattle.std.specs.List.{filter}
 use Rattle.std.proofs.lemmas.Iterator.{YieldsList, items_from_drains}
@@ -8,7 +8,7 @@ use Rattle.gix_refspec_text.specs.declared.parsing.Operation.{Operation}
 use Rattle.gix_refspec_text.specs.declared.spec.RefSpecRef.{RefSpecRef}
 use Rattle.gix_refspec.specs.Views.Group.{is_for, IsGathered}
 
--- a group that was gathered from an iterator has the specs of the operation among all that this gives
+-- a group gathered from an iterator has the specs for the operation among all that it yields
 pub gathered : {U T : Type 0} {becomes : U → T → Type 0} {steps : T → Option RefSpecRef → T → Type 0} {op : Operation} {source : U} (all : List RefSpecRef) → ((it : T) → becomes source it → YieldsList steps (λ x. x) it all) → (g : MatchGroup) → IsGathered becomes steps op source g → g.specs.items ≡ filter (is_for op) all
 gathered {op = op} all gives g has =
     let same = items_from_drains has.all (has.given.1.0, has.given.1.1, λ _. (has.given.0, has.given.1.2)) (gives has.iterator has.made) in

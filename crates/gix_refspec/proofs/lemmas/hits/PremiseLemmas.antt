@@ -1,5 +1,5 @@
--- What a look at the sides tells of whether a reading goes both ways.
-use Rattle.std.proofs.Common.{◌≡◌, ◌⊎◌, inl, inr, ◌↔◌, IsTrue, ℕ, Bool, true, List, [], ◌∷◌, codes, Option, Some, refl, ap, subst}
+-- A test of the sides decides whether a reading goes both ways.
+use Rattle.std.proofs.Common.{◌≡◌, ◌⊎◌, inl, inr, ◌↔◌, IsTrue, ℕ, Bool, true, List, [], ◌∷◌, codes, Some, refl, ap, subst}
 use Rattle.std.proofs.lemmas.Bool.{cases_eq}
 use Rattle.gix_refspec_text.specs.Texts.Words.{BeginsWith, Lacks}
 use Rattle.gix_refspec_text.specs.Texts.Bytes.{star}
@@ -21,7 +21,7 @@ star_or_none (c ∷ x) = elim (cases_eq c star) [
   ]
 ]
 
--- where the source has a star, the destination has one
+-- if the source has a star, so has the destination
 pub goes_by_star : (r : Reading) (s : List ℕ) → ∥ IsAccepted r ∥₁ → r.source ≡ Some s → HasStar s → IsTrue true ↔ GoesBothWays r
 goes_by_star r s accepted source has = ((λ _ _ x y is_x is_y. inl (starred x is_x, other x y is_x is_y)), (λ _. refl))
   where
@@ -34,7 +34,7 @@ goes_by_star r s accepted source has = ((λ _ _ x y is_x is_y. inl (starred x is
       | inr lacks ↦ absurd (accepted_balanced r x y accepted is_x is_y (inl (starred x is_x, lacks)))
     ]
 
--- where it has none, both sides have to begin `refs/`
+-- if it has none, both sides have to begin `refs/`
 pub goes_below_refs : (r : Reading) (s d : List ℕ) (told : Bool) → IsPositive r.mode → r.source ≡ Some s → r.destination ≡ Some d → Lacks star s → IsTrue told ↔ (BeginsWith (codes "refs/") s × BeginsWith (codes "refs/") d) → IsTrue told ↔ GoesBothWays r
 goes_below_refs r s d told positive source destination lacks below = (
   (λ so _ x y is_x is_y. inr (

@@ -1,5 +1,4 @@
--- That the two directions agree: what a reading that goes both ways makes of a name, and of the other
--- one, is one pair.
+-- The two directions agree: a reading that goes both ways makes the same pair of the one name and of the other.
 use Rattle.std.proofs.Common.{◌≡◌, ◌⊎◌, inl, inr, ℕ, List, [], ◌∷◌, ◌++◌, codes, Option, None, Some, map, unwrap_or, refl, sym, ap, ◌∙◌, subst}
 use Rattle.std.specs.List.{AllByRecursion}
 use Rattle.std.specs.Prelude.{IsSome}
@@ -28,7 +27,7 @@ use Rattle.gix_refspec_match.proofs.lemmas.lists.SomeLemmas.{Any, Any-right, Any
 
 -- ---- two sides
 
--- two sides that map alike both ways: two patterns, or two full names
+-- two sides that map alike in both directions: two patterns, or two full names
 data AreTwins (x y : List ℕ) : Type 0 where
   patterns : HasOneStar x → HasOneStar y → AreTwins x y
   names : HasKind x (full_name x) → HasKind y (full_name y) → AreTwins x y
@@ -50,7 +49,7 @@ twins_back : (x y : List ℕ) → AreTwins x y → AreTwins y x
 twins_back x y (patterns of_x of_y) = patterns of_y of_x
 twins_back x y (names of_x of_y) = names of_y of_x
 
--- a text with a star, but not with several, has one
+-- a text with a star, but not several, has one star
 pub one_star : (x : List ℕ) → HasStar x → ¬ (HasSeveralStars x) → HasOneStar x
 one_star x has few = elim (lacks_or_first star x) [
   | inl lacks ↦ absurd (Lacks-ContainsText star x lacks has)
@@ -78,13 +77,13 @@ twins x y few_x few_y balanced (inr below) = by_stars (starred x) (starred y)
     by_stars (inr of_x) (inl no_y) = absurd (balanced (inl (of_x, no_y)))
     by_stars (inr of_x) (inr of_y) = patterns (one_star x of_x few_x) (one_star y of_y few_y)
 
--- a side that is filled became what its kind says
+-- the name that a side is filled in to, by its kind
 filled_as : (y m : List ℕ) (kind : SideKind) (word : Option (List ℕ)) → HasKind y kind → IsFilled (Some y) word (Some m) → m ≡ filled kind word
 filled_as y m kind word has (other, of, same) =
     let is : m ≡ filled other word = cc in
     is ∙ ap (λ (k : SideKind). filled k word) (one_kind y other kind of has)
 
--- what one of such sides takes, and the other becomes
+-- if one of such sides takes a name and the other becomes another, the two are mirrored
 taken_mirrored : (x y m : List ℕ) (r : Ref) (word : Option (List ℕ)) → AreTwins x y → Matches x r word → IsFilled (Some y) word (Some m) → AreMirrored x y r.name m
 taken_mirrored x y m r word (patterns (before, after, of_x) (front, back, of_y)) matches becomes =
     with_word word (matches_as x (pattern before after) r word of_x matches) (filled_as y m (pattern front back) word of_y becomes)
@@ -95,7 +94,7 @@ taken_mirrored x y m r word (patterns (before, after, of_x) (front, back, of_y))
 taken_mirrored x y m r word (names of_x of_y) matches becomes =
     by_name of_x of_y ((matches_as x (full_name x) r word of_x matches).1) (filled_as y m (full_name y) word of_y becomes)
 
--- and the other way round
+-- and conversely
 mirrored_taken : (x y n m : List ℕ) (r : Ref) → AreMirrored x y n m → r.name ≡ n → (word : Option (List ℕ)) × Matches x r word × IsFilled (Some y) word (Some m)
 mirrored_taken x y n m r (by_word before after front back word of_x of_y fits becomes) is =
     (Some word, record { kind = pattern before after; of = of_x; is = is ∙ fits }, (pattern front back, of_y, ap Some becomes))
@@ -138,7 +137,6 @@ fine_twins : (r : Reading) (x y : List ℕ) → IsFine r → IsPositive r.mode �
 fine_twins r x y fine positive source destination =
     twins x y (accepted_few r x fine.0 (inl source)) (accepted_few r y fine.0 (inr destination)) (accepted_balanced r x y fine.0 source destination) (fine.1 positive x y source destination)
 
--- one of the items, by its name
 some_item : (P : Ref → Type 0) (items : List Ref) → Any P items → (i : Ref) × P i × HasName items i.name
 some_item P [] any = absurd any
 some_item P (i ∷ items) (inl here) = (i, here, inl refl)
@@ -149,12 +147,12 @@ named_item [] n has = absurd has
 named_item (i ∷ items) n (inl same) = inl same
 named_item (i ∷ items) n (inr has) = inr (named_item items n has)
 
--- what is a destination among the items is some name
+-- a destination among the items is some name
 to_some : (items : List Ref) (d : Option (List ℕ)) → IsDestinationAmong items d → (n : List ℕ) × (d ≡ Some n)
 to_some items None to = absurd to
 to_some items (Some n) to = (n, refl)
 
--- a side that becomes a name is there
+-- a side that becomes a name is present
 far_there : (far : Option (List ℕ)) (word : Option (List ℕ)) (m : List ℕ) → IsFilled far word (Some m) → (y : List ℕ) × (far ≡ Some y)
 far_there None word m is = absurd (cc)
 far_there (Some y) word m is = (y, refl)
@@ -163,7 +161,7 @@ side_there : (far : Option (List ℕ)) → IsSome far → (x : List ℕ) × (far
 side_there None some = absurd (false≢true some)
 side_there (Some x) some = (x, refl)
 
--- a side that is there becomes some name
+-- a present side becomes some name
 becomes_some : (x : List ℕ) (word far : Option (List ℕ)) → IsFilled (Some x) word far → (m : List ℕ) × (far ≡ Some m)
 becomes_some x word far (kind, has, is) = (filled kind word, is)
 
@@ -268,7 +266,6 @@ fine_all : (specs : List RefSpecRef) → AllByRecursion GoesBothWays (map readin
 fine_all [] all = tt
 fine_all (s ∷ specs) all = ((s.accepted, all.0), fine_all specs all.1)
 
--- the same pairs both ways
 pub transpose : (specs : List RefSpecRef) (A B : List Ref) → Transpose (map reading_of specs) A B
 transpose specs A B both_ways l m forward backward pair = (
   (λ (has, to).

@@ -1,4 +1,4 @@
--- Fetches that are equal, or whose canonical texts read as one another, map alike.
+-- Fetches map alike if they are equal, or if the canonical text of one reads as the other.
 use Rattle.std.proofs.Common.{◌≡◌, inl, inr, ◌↔◌, ℕ, ◌+◌, Bool, true, false, List, [], ◌∷◌, map, Option, None, Some, refl, sym, ap, ◌∙◌, subst}
 use Rattle.std.specs.Prelude.{nat_eq}
 use Rattle.std.specs.Cmp.Lexicographic.{pointwise}
@@ -65,7 +65,7 @@ alike_negative r q alike negative = sign_negative q.mode (sym alike.negative ∙
 
 -- ---- fetches with one meaning
 
--- the sides and the sign that a fetch has which says this
+-- the sides and the sign of a fetch with this meaning
 said_source : Option Meaning → Option (List ℕ)
 said_source (Some (fetch_only s)) = Some s
 said_source (Some (fetch_exclude s)) = Some s
@@ -80,7 +80,7 @@ said_negative : Option Meaning → Bool
 said_negative (Some (fetch_exclude s)) = true
 said_negative _ = false
 
--- the reading has the sides and the sign of what it says
+-- the reading has the sides and the sign of its meaning
 record IsSaid (mode : Mode) (s d : Option (List ℕ)) (m : Option Meaning) : Type 0 where
   pub source : s ≡ said_source m
   pub destination : d ≡ said_destination m
@@ -103,7 +103,7 @@ fetch_said r m fetch means =
     let same : meaning_of r ≡ meaning Fetch r.mode r.source r.destination = ap (λ (op : Operation). meaning op r.mode r.source r.destination) fetch in
     subst (IsSaid r.mode r.source r.destination) (sym same) (is_said r.mode r.source r.destination m (sym same ∙ means))
 
--- two fetches that say the same are alike: only the force of one without a destination may differ
+-- two fetches with the same meaning are alike: only the force of one without a destination may differ
 said_alike : (r q : Reading) (m : Meaning) → r.operation ≡ Fetch → q.operation ≡ Fetch → meaning_of r ≡ Some m → meaning_of q ≡ meaning_of r → AreAlike r q
 said_alike r q m fetch_r fetch_q means same =
     let of_r = fetch_said r m fetch_r means in
@@ -114,7 +114,7 @@ said_alike r q m fetch_r fetch_q means same =
       negative = of_r.negative ∙ sym (of_q.negative ∙ ap said_negative same);
     }
 
--- what the canonical text of an accepted fetch reads as is alike
+-- an accepted fetch and the reading of its canonical text are alike
 again_alike : (r q : Reading) → ∥ IsAccepted r ∥₁ → ReadsAgainAs r q → AreAlike r q
 again_alike r q accepted again =
     let back = printed_back r accepted in
@@ -251,11 +251,11 @@ map_alike g h items alike = record {
   backward = λ list. (backward g h items list alike, backward h g items list (zip_back g h alike));
 }
 
--- a group of specs maps as what its canonical texts read as
+-- a group of specs and the group read from its canonical texts map alike
 pub reads_back : (specs : List RefSpecRef) (h : List Reading) (items : List Ref) → FetchGroupReadsBack (map reading_of specs) h items
 reads_back specs h items again = map_alike (map reading_of specs) h items (specs_alike specs h again)
 
--- specs of one meaning are alike
+-- specs with the same meaning are alike
 equal_alike : (s t : RefSpecRef) → FetchTheSame (reading_of s) (reading_of t) → AreAlike (reading_of s) (reading_of t)
 equal_alike s t equal =
     let said = says (reading_of s) s.accepted in
@@ -271,7 +271,7 @@ all_equal_alike (s ∷ specs) (t ∷ other) equal = (equal_alike s t equal.0, al
 pub equal_groups : (specs other : List RefSpecRef) (items : List Ref) → EqualGroups (map reading_of specs) (map reading_of other) items
 equal_groups specs other items equal = map_alike (map reading_of specs) (map reading_of other) items (all_equal_alike specs other equal)
 
--- lists of specs that `==` tells equal
+-- lists of specs that are equal by `==`
 equal_fetches : (specs other : List RefSpecRef) → AreFetches (map reading_of specs) → map (λ (s : RefSpecRef). meaning_of (reading_of s)) specs ≡ map (λ (s : RefSpecRef). meaning_of (reading_of s)) other → AllZip FetchTheSame (map reading_of specs) (map reading_of other)
 equal_fetches [] [] fetches same = tt
 equal_fetches [] (t ∷ other) fetches same = absurd (cc)

@@ -1,5 +1,5 @@
--- What a test lets through of items.
-use Rattle.std.proofs.Common.{◌≡◌, ℕ, zero, suc, Bool, true, false, ◌||◌, cond, List, [], ◌∷◌, Option, map, refl, sym, ap, ◌∙◌, subst, arith}
+-- Filters of items.
+use Rattle.std.proofs.Common.{◌≡◌, ℕ, zero, suc, Bool, true, false, cond, List, [], ◌∷◌, Option, map, refl, sym, ap, ◌∙◌, subst, arith}
 use Rattle.std.specs.Prelude.{nat_eq}
 use Rattle.std.specs.List.{Any, Contains, filter, starts_with}
 use Rattle.std.proofs.lemmas.Bool.{false≢true, or_left, or_right}
@@ -19,7 +19,7 @@ use Rattle.gix_refspec.specs.Laws.Items.{ArePart, TakesItem, HasTaken, PassesTak
 
 -- ---- elements
 
--- what is let through was there
+-- an element that passes was in the list
 was_there : {X : Type 0} (p : X → Bool) (xs : List X) (x : X) → Contains (filter p xs) x → Contains xs x
 was_there p xs x (k, below, is) = subst (Contains xs) is (All-filter p (Contains xs) xs (All-contains_itself xs) k x below)
 
@@ -31,7 +31,7 @@ later : {X : Type 0} (y x : X) (ys : List X) (b : Bool) → Contains ys x → Co
 later y x ys true (k, below, is) = (suc k, omega (arith, below), is)
 later y x ys false has = has
 
--- and what passes is let through
+-- and one of the list that passes is kept
 let_through : {X : Type 0} (p : X → Bool) (xs : List X) (x : X) → Contains xs x → p x ≡ true → Contains (filter p xs) x
 let_through p [] x (k, below, is) passes = absurd (omega (arith, below))
 let_through p (y ∷ xs) x (zero, below, is) passes = in_front y x (filter p xs) (p y) (ap p is ∙ passes) is
@@ -47,11 +47,11 @@ mapped_from f (x ∷ xs) y (suc k, below, is) = let (z, (j, inside, at), same) =
 
 -- ---- items
 
--- what a test lets through is a part
+-- the items that pass a filter are a subset
 filtered_part : (p : Item → Bool) (items : List Item) → ArePart (map ref_of items) (map ref_of (filter p items))
 filtered_part p items ref has = let (item, there, same) = mapped_from ref_of (filter p items) ref has in subst (Contains (map ref_of items)) same (mapped_there ref_of items item (was_there p items item there))
 
--- each ref that only items that pass stand for is among it
+-- a ref is among them if each item of that ref passes
 passed : (p : Item → Bool) (items : List Item) (P : Ref → Type 0) → ((item : Item) → Contains items item → P (ref_of item) → p item ≡ true) → (ref : Ref) → Contains (map ref_of items) ref → P ref → Contains (map ref_of (filter p items)) ref
 passed p items P passes ref has holds =
     let (item, there, same) = mapped_from ref_of items ref has in

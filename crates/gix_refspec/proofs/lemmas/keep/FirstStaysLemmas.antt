@@ -12,7 +12,7 @@ use Rattle.gix_refspec_match.proofs.lemmas.hits.HitLemmas.{forward_once, backwar
 use Rattle.gix_refspec_match.proofs.lemmas.keep.KeptPairLemmas.{Keeps}
 use Rattle.gix_refspec_match.proofs.lemmas.lists.SomeLemmas.{Any, Any-right}
 
--- an element is there by a place, or before or after
+-- an element of a list, by index and by recursion
 pub there : (ys : List Mapped) (m : Mapped) → Contains ys m → Any (λ y. y ≡ m) ys
 there [] m (i, below, is) = absurd (omega (arith, below))
 there (y ∷ ys) m (zero, below, is) = inl is
@@ -23,7 +23,7 @@ back [] m any = absurd any
 back (y ∷ ys) m (inl here) = (0, omega arith, here)
 back (y ∷ ys) m (inr later) = let at = back ys m later in (suc at.0, omega (arith, at.1), at.2)
 
--- what is kept is the first of its pair
+-- a kept mapping is the first of its pair
 kept_first : (g : List Reading) (l before xs ys : List Mapped) (k : ℕ) (m : Mapped) → before ++ xs ≡ l → length before ≡ k → IsMadeFrom (Keeps g l) k xs ys → Any (λ y. y ≡ m) ys → IsFirstOfPair g l m
 kept_first g l before [] ys k m whole index empty any = absurd (subst (Any (λ y. y ≡ m)) empty any)
 kept_first g l before (x ∷ xs) ys k m whole index (None, rest, none, more, is) any =
@@ -42,7 +42,7 @@ kept_first g l before (x ∷ xs) ys k m whole index (Some y, rest, keeps, more, 
   | inr later ↦ kept_first g l (before ++ x ∷ []) xs rest (k + 1) m (append_assoc before (x ∷ []) xs ∙ whole) (omega (arith, length-append before (x ∷ []), index)) more later
 ]
 
--- and what is kept at its place is kept
+-- and a mapping that is kept at its index is in the list of kept mappings
 kept_at : (g : List Reading) (l : List Mapped) (k : ℕ) (before : List Mapped) (x : Mapped) (after ys : List Mapped) → IsMadeFrom (Keeps g l) k (before ++ (x ∷ after)) ys → IsKeptAt g l (k + length before) x → Any (λ y. y ≡ x) ys
 kept_at g l k [] x after ys (None, rest, none, more, is) stays = absurd (none x (refl, subst (λ (n : ℕ). IsKeptAt g l n x) (omega arith) stays))
 kept_at g l k [] x after ys (Some z, rest, keeps, more, is) stays = subst (Any (λ y. y ≡ x)) (sym is) (inl keeps.0)

@@ -1,4 +1,4 @@
--- Over some of the items the same pairs are kept, where no item that is taken is left out.
+-- Over a subset of the items the same pairs are kept, if no item that some spec takes is left out.
 use Rattle.std.proofs.Common.{◌≡◌, inl, inr, ◌↔◌, ℕ, zero, suc, List, [], ◌∷◌, Option, None, Some, refl, sym, ap, ◌∙◌, subst, arith}
 use Rattle.std.specs.List.{AllByRecursion, Any, Contains}
 use Rattle.std.proofs.lemmas.List.{append-nil}
@@ -21,7 +21,7 @@ use Rattle.gix_refspec_text.proofs.lemmas.lists.AllLemmas.{all_weaker}
 
 -- ---- names and items
 
--- a name that is there is that of an item
+-- a name among the items is that of some item
 item_named : (items : List Ref) (n : List ℕ) → HasName items n → (item : Ref) × Contains items item × (item.name ≡ n)
 item_named [] n has = absurd has
 item_named (r ∷ items) n (inl same) = (r, (0, omega arith, refl), same)
@@ -32,13 +32,12 @@ name_there [] item (k, below, is) = absurd (omega (arith, below))
 name_there (r ∷ items) item (zero, below, is) = inl (ap (λ (x : Ref). x.name) is)
 name_there (r ∷ items) item (suc k, below, is) = inr (name_there items item (k, omega (arith, below), is))
 
--- what a part has, all have
 name_in_all : (A B : List Ref) → ArePart A B → (n : List ℕ) → HasName B n → HasName A n
 name_in_all A B part n has = let (item, there, same) = item_named B n has in subst (HasName A) same (name_there A item (part item there))
 
 -- ---- partial sources
 
--- the first candidate among all is the first among some that have it
+-- the first candidate among all items is the first in a subset that has it
 first_in_part : (A B : List Ref) → ArePart A B → (x n : List ℕ) → HasName B n → IsFirstCandidate A x n → IsFirstCandidate B x n
 first_in_part A B part x n has first = record {
   earlier = first.earlier;
@@ -48,14 +47,14 @@ first_in_part A B part x n has first = record {
   present = has;
 }
 
--- so what is taken among all is taken among some
+-- so an item that is taken among all is taken in the subset
 takes_in_part : (A B : List Ref) → ArePart A B → (x : List ℕ) (item : Ref) (word : Option (List ℕ)) → Contains B item → Takes A x item word → Takes B x item word
 takes_in_part A B part x item word there takes = record {
   matches = takes.matches;
   first = λ n kind. first_in_part A B part n item.name (name_there B item there) (takes.first n kind);
 }
 
--- and where none that is taken is left out, what is taken among some is taken among all
+-- and if no item that is taken is left out, an item that is taken in the subset is taken among all
 takes_in_all : (A B : List Ref) → ArePart A B → (x : List ℕ) → ((item : Ref) (word : Option (List ℕ)) → Contains A item → Takes A x item word → Contains B item) → (item : Ref) (word : Option (List ℕ)) → Contains B item → Takes B x item word → Takes A x item word
 takes_in_all A B part x has item word there takes = record { matches = takes.matches; first = first }
   where
@@ -72,7 +71,7 @@ takes_in_all A B part x has item word there takes = record { matches = takes.mat
 
 -- ---- pairs
 
--- a pair is made of other items, where those that make it are there and are taken
+-- a pair is made over other items, if those that make it are there and are taken
 pairs_moved : (HasEnds : Reading → Ends → Type 0) (T U : List ℕ → Ref → Option (List ℕ) → Type 0) (A B : List Ref) (n : List ℕ) (far : Option (List ℕ)) (r : Reading)
     → ((ends : Ends) (item : Ref) (word : Option (List ℕ)) → HasEnds r ends → Contains A item → T ends.near item word → Contains B item × U ends.near item word)
     → PairsItem HasEnds T A n far r → PairsItem HasEnds U B n far r
@@ -81,7 +80,7 @@ pairs_moved HasEnds T U A B n far r moves pairs =
     let ((j, inside, at), takes) = moves pairs.ends item pair.word pairs.has (k, below, is) pair.takes in
     record { ends = pairs.ends; has = pairs.has; one = (j, item, inside, at, record { word = pair.word; name = pair.name; takes = takes; becomes = pair.becomes }) }
 
--- among B is each item of A that the reading takes
+-- B contains each item of A that the reading takes
 abbrev HasTakenBy : (Reading → Ends → Type 0) → (List ℕ → Ref → Option (List ℕ) → Type 0) → List Ref → List Ref → Reading → Type 0
 HasTakenBy HasEnds Taken A B r = (item : Ref) → Contains A item → TakesItem HasEnds Taken item r → Contains B item
 
@@ -112,14 +111,14 @@ backward_in_all A B part (id bytes) far r makes = makes
 
 -- ---- groups
 
--- of readings at the same place
+-- if P implies Q for each reading of a group, and P holds of some, Q holds of some
 any_each : (P Q : Reading → Type 0) (g : List Reading) → ((r : Reading) → Contains g r → P r → Q r) → Any P g → Any Q g
 any_each P Q g each (k, r, below, is, holds) = (k, r, below, is, each r (k, below, is) holds)
 
 taken_by_one : (HasEnds : Reading → Ends → Type 0) (Taken : List ℕ → Ref → Option (List ℕ) → Type 0) (g : List Reading) (A B : List Ref) → HasTaken HasEnds Taken g A B → (r : Reading) → Contains g r → HasTakenBy HasEnds Taken A B r
 taken_by_one HasEnds Taken g A B has r (k, below, is) item there takes = has item there (k, r, below, is, takes)
 
--- what is made is kept, unless it is excluded
+-- a pair is kept if it is made and not excluded, so the same are kept if the same are made
 same_kept : (K F X MA MB : Type 0) → K ↔ (MA × X) → F ↔ (MB × X) → (MA → MB) → (MB → MA) → K ↔ F
 same_kept K F X MA MB of_all of_part to back = ((λ k. of_part.1 (to (of_all.0 k).0, (of_all.0 k).1)), (λ f. of_all.1 (back (of_part.0 f).0, (of_part.0 f).1)))
 
@@ -141,12 +140,12 @@ fewer_items g A B = record {
   backward = λ part has kept fewer of_all of_part. backward_fewer g A B part has kept fewer of_all of_part;
 }
 
--- ---- what is listed
+-- ---- listed items
 
 lacks_star : Lacks star head
 lacks_star = ((λ same. omega (arith, same)), ((λ same. omega (arith, same)), ((λ same. omega (arith, same)), ((λ same. omega (arith, same)), tt))))
 
--- `HEAD` takes itself, where it is there
+-- `HEAD` takes only itself, if it is among the refs
 head_taken : (A : List Ref) (x : List ℕ) (item : Ref) (word : Option (List ℕ)) (kind : SideKind) → x ≡ head → HasName A head → ((bytes : List ℕ) → ¬ (HasKind x (object bytes))) → HasKind x kind → Takes A x item word → item.name ≡ x
 head_taken A x item word (pattern before after) is there none kind takes = absurd (lacks_no_pattern x before after (subst (Lacks star) (sym is) lacks_star) kind)
 head_taken A x item word (full_name n) is there none kind takes = absurd (below_not_head x kind.2 is)
@@ -158,7 +157,7 @@ head_taken A x item word (partial n) is there none kind takes =
     itself : (m : List ℕ) → HasName A m → IsFirstCandidate A m m
     itself m has = record { earlier = []; later = _; here = refl; absent = tt; present = has }
 
--- what a listed reading takes begins with an entry that it expands to
+-- the name of an item that a listed reading takes begins with an entry of its expansion
 listed_covers : (A : List Ref) (r : Reading) (ends : Ends) (item : Ref) (word : Option (List ℕ)) → IsListed A r → AreForwardEnds r ends → Takes A ends.near item word → IsCoveredBy item.name r
 listed_covers A r ends item word (inl covering) are takes =
     let asked = source_asked r ends covering.fetch are in
@@ -173,7 +172,7 @@ listed_covers A r ends item word (inr fetches) are takes =
       one = (0, ends.near, omega arith, refl, record { after = []; here = same ∙ sym (append-nil ends.near) });
     }
 
--- so the part has each item that it takes
+-- so the subset has each item that it takes
 listed_taken : (g : List Reading) (A B : List Ref) → AreListedItems g A B → (r : Reading) → Contains g r → IsListed A r → HasTakenBy AreForwardEnds (Takes A) A B r
 listed_taken g A B listed r (k, below, is) of_r item there takes =
     listed.listed item there (joined_covers item.name g 0 listed.entries (k, r, below, is, listed_covers A r takes.ends item takes.word of_r takes.has takes.takes) listed.expansions)

@@ -1,5 +1,5 @@
--- Over refs with the same names the same mappings are kept from left to right, as no source that takes refs looks at their
--- ids; and from right to left where no destination is an id.
+-- Refs with the same names have the same mappings from left to right, as no source that takes refs depends on their
+-- ids; and from right to left if no destination is an id.
 use Rattle.std.proofs.Common.{◌≡◌, ℕ, ◌+◌, inl, inr, List, [], ◌∷◌, Option, None, Some, map, refl, sym, ap, ◌∙◌, subst, length, arith}
 use Rattle.gix_refspec_text.specs.Specs.Reading.{Reading}
 use Rattle.gix_refspec_text.specs.Matching.Side.{SideKind, pattern, full_name, object, partial, HasKind, Fits, IsCandidate}
@@ -9,7 +9,6 @@ use Rattle.gix_refspec_match.specs.Matching.Hits.{Ends, AreBackwardEnds, AreForw
 use Rattle.gix_refspec.specs.Laws.Items.{AsksForNoId, HasIdDestination, HaveSameNames, NamesDecide, NamesDecideBack}
 use Rattle.gix_refspec_text.proofs.lemmas.lists.AllLemmas.{all_weaker}
 
--- lists with the same names are both empty, or begin with the same name
 no_name : (r : Ref) (refs : List Ref) → HaveSameNames [] (r ∷ refs) → ⊥
 no_name r refs same = omega (arith, ap length same)
 
@@ -18,14 +17,14 @@ first_name r q refs others same =
     let both : r.name ∷ map (λ (x : Ref). x.name) refs ≡ q.name ∷ map (λ (x : Ref). x.name) others = same in
     (cc, cc)
 
--- a name of one list is one of the other
+-- a name in one list is in the other
 has_also : (A B : List Ref) (n : List ℕ) → HaveSameNames A B → HasName A n → HasName B n
 has_also [] B n same has = absurd has
 has_also (a ∷ A) [] n same has = absurd (no_name a A (sym same))
 has_also (a ∷ A) (b ∷ B) n same (inl here) = inl (sym (first_name a b A B same).0 ∙ here)
 has_also (a ∷ A) (b ∷ B) n same (inr later) = inr (has_also A B n (first_name a b A B same).1 later)
 
--- so the first candidate among one list is that among the other
+-- so the first candidate in one list is that in the other
 first_also : (A B : List Ref) (x n : List ℕ) → HaveSameNames A B → IsFirstCandidate A x n → IsFirstCandidate B x n
 first_also A B x n same first = record {
   earlier = first.earlier;
@@ -35,7 +34,7 @@ first_also A B x n same first = record {
   present = has_also A B n same first.present;
 }
 
--- a side that is no id matches by the name
+-- a side that isn't an id matches by the name
 matches_also : (kind : SideKind) (a b : Ref) (word : Option (List ℕ)) → a.name ≡ b.name → ((id : List ℕ) → ¬ (kind ≡ object id)) → MatchesAs kind a word → MatchesAs kind b word
 matches_also (pattern before after) a b None same none fits = absurd fits
 matches_also (pattern before after) a b (Some word) same none fits = subst (λ (n : List ℕ). Fits before after n word) same fits
@@ -50,7 +49,7 @@ matches_by_name ends a b word named none matches = record {
   is = matches_also matches.kind a b word named (λ id is. none id (subst (HasKind ends.near) is matches.of)) matches.is;
 }
 
--- what is taken among one list is taken among the other
+-- a ref taken in one list is taken in the other
 takes_also : (A B : List Ref) (ends : Ends) (a b : Ref) (word : Option (List ℕ)) → HaveSameNames A B → a.name ≡ b.name → ((id : List ℕ) → ¬ (HasKind ends.near (object id))) → Takes A ends.near a word → Takes B ends.near b word
 takes_also A B ends a b word same named none takes = record {
   matches = matches_by_name ends a b word named none takes.matches;
@@ -67,7 +66,7 @@ hit_also T U ends k j a b hit also named is = record {
   item = is.item;
 }
 
--- what one ref makes the other makes
+-- both refs make the same hit
 makes_also : (R S : ℕ → Ref → Hit → Type 0) (j : ℕ) (a b : Ref) (made : Option Hit) → ((hit : Hit) → R j a hit → S j b hit) → ((hit : Hit) → S j b hit → R j a hit) → MakesOf R j a made → MakesOf S j b made
 makes_also R S j a b None to back none = λ hit is. none hit (back hit is)
 makes_also R S j a b (Some hit) to back is = to hit is
@@ -95,7 +94,7 @@ joined_also : (A B : List Ref) (k : ℕ) (g : List Reading) (hits : List Hit) �
 joined_also A B k [] hits same joined = joined
 joined_also A B k (r ∷ g) hits same (made, rest, of, more, is) = (made, rest, spec_also A B k r made same of, joined_also A B (k + 1) g rest same more, is)
 
--- from right to left a spec matches the same refs, if its destination is no id
+-- from right to left a spec matches the same refs, if its destination isn't an id
 no_object : (r : Reading) (ends : Ends) → ¬ (HasIdDestination r) → AreBackwardEnds r ends → (id : List ℕ) → ¬ (HasKind ends.near (object id))
 no_object r ends none has id is = none (ends.near, has.near, (id, is.2))
 

@@ -1,4 +1,4 @@
--- Exactly where a pair is kept: where some reading makes it, and none excludes it.
+-- A pair is kept exactly if some reading makes it, and none excludes it.
 use Rattle.std.proofs.Common.{◌≡◌, ◌⊎◌, inl, inr, ◌↔◌, ℕ, ◌+◌, List, [], ◌∷◌, ◌++◌, Option, None, Some, map, unwrap_or, refl, sym, ap, ◌∙◌, subst}
 use Rattle.std.specs.List as lists
 use Rattle.std.specs.List.{AllByRecursion}

@@ -1,4 +1,4 @@
--- What a client asks for, and that a server then lists each ref that a group of fetches maps.
+-- Ref prefixes, for which a server lists each ref that a group of fetches maps.
 use Rattle.std.proofs.Common.{◌≡◌, inl, inr, ℕ, suc, ◌+◌, ◌<◌, List, [], ◌∷◌, ◌++◌, Option, None, Some, MatchOption, Vec, Global, length, map, take, drop, get_or, refl, sym, ap, ◌∙◌, subst, arith}
 use Rattle.bstr.specs.declared.bstring.BString.{BString}
 use Rattle.bstr.specs.Owned.{bstring_bytes}
@@ -29,13 +29,12 @@ use Rattle.gix_refspec.proofs.lemmas.keep.PairMadeLemmas.{kept_exactly}
 use Rattle.gix_refspec_text.proofs.lemmas.prefixes.PrefixLemmas.{one_asked}
 use Rattle.gix_refspec_match.proofs.lemmas.lists.SomeLemmas.{Any, Any-left, Any-right, some_at, some_of}
 
--- ---- where there is no list, and where it isn't empty
+-- ---- sides without a list, and lists that aren't empty
 
--- the list of a side by its kind
 pub list_as : (x : List ℕ) (k : SideKind) (list : List (List ℕ)) → HasKind x k → ListsSide x list → ListsAs k list
 list_as x k list kind lists = subst (λ (l : SideKind). ListsAs l list) (one_kind x lists.kind k lists.of kind) lists.is
 
--- none for a pattern without a prefix
+-- a pattern without a ref prefix has no list
 pub no_list : (x before after : List ℕ) → IsSplit before after x → ¬ (IsRefPrefix before []) → (list : List (List ℕ)) → ¬ (ListsSide x list)
 no_list x before after split vague list lists = vague (list_as x (pattern before after) list split lists).0
 
@@ -44,7 +43,7 @@ no_list x before after split vague list lists = vague (list_as x (pattern before
 abbrev BeginsWithSome : List ℕ → List (List ℕ) → Type 0
 BeginsWithSome n list = Any (λ p. BeginsWith p n) list
 
--- a ref that a side of the kind matches begins with one of its list, unless the side is an id
+-- a ref that a side of the kind matches begins with an entry of its list, unless the side is an id
 kind_serves : (x : List ℕ) (k : SideKind) (list : List (List ℕ)) (r : Ref) (word : Option (List ℕ)) → HasKind x k → ((bytes : List ℕ) → ¬ (HasKind x (object bytes))) → MatchesAs k r word → ListsAs k list → BeginsWithSome r.name list
 kind_serves x (pattern before after) list r None of no_object matches lists = absurd matches
 kind_serves x (pattern before after) list r (Some word) of no_object matches lists = subst (BeginsWithSome r.name) (sym lists.1) (inl (record { after = word ++ after; here = matches }))
@@ -79,7 +78,7 @@ serves g list joined fetches items kept are =
 
 -- ---- the lists that the code makes
 
--- the list of the side that a spec asks for is that of the spec
+-- the list of the side on the remote is that of the spec
 pub list_of_side : (r : Reading) (x : List ℕ) (asked : Option (Vec BString Global)) → IsAsked r x → MatchOption asked ((list : List (List ℕ)) → ¬ (ListsSide x list)) (λ v. ListsSide x (map bstring_bytes v.items)) → MatchOption asked ((list : List (List ℕ)) → ¬ (Lists r list)) (λ v. Lists r (map bstring_bytes v.items))
 list_of_side r x None is none = λ list lists. elim lists [
   | inl negative ↦ subst IsPositive negative.0 is.positive
@@ -87,7 +86,6 @@ list_of_side r x None is none = λ list lists. elim lists [
 ]
 list_of_side r x (Some v) is lists = inr (x, is, lists)
 
--- a reading has one list
 as_once : (k : SideKind) (a b : List (List ℕ)) → ListsAs k a → ListsAs k b → a ≡ b
 as_once (pattern before after) a b one other = one.1 ∙ sym other.1
 as_once (full_name n) a b one other = one ∙ sym other
@@ -100,7 +98,7 @@ lists_once r a b (inl (negative, empty)) (inr (x, asked, lists)) = absurd (subst
 lists_once r a b (inr (x, asked, lists)) (inl (negative, empty)) = absurd (subst IsPositive negative asked.positive)
 lists_once r a b (inr (x, asked, one)) (inr (y, also, other)) = as_once one.kind a b one.is (list_as x one.kind b one.of (subst (λ (z : List ℕ). ListsSide z b) (one_asked r y x also asked) other))
 
--- where a group asks for nothing, so does each of its specs
+-- if the list of a group is empty, so is that of each of its specs
 nothing_at : (specs : List RefSpecRef) (i : ℕ) (spec : RefSpecRef) → i < length specs → spec ≡ get_or specs i spec → ListsGroup (map reading_of specs) [] → Lists (reading_of spec) []
 nothing_at specs i spec below is asks =
     nothing_joined (λ k r names. Lists r names) 0 (map reading_of (take i specs)) (reading_of spec) (map reading_of (drop (suc i) specs))
@@ -112,18 +110,18 @@ asks_something specs i spec below is some asks = some (nothing_at specs i spec b
 pub asks_no_names : (specs : List RefSpecRef) (i : ℕ) (spec : RefSpecRef) (names : List BString) → i < length specs → spec ≡ get_or specs i spec → Lists (reading_of spec) (map bstring_bytes names) → ListsGroup (map reading_of specs) [] → length names ≡ 0
 asks_no_names specs i spec names below is lists asks = sym (length-map names bstring_bytes) ∙ ap length (lists_once (reading_of spec) (map bstring_bytes names) [] lists (nothing_at specs i spec below is asks))
 
--- the list of one more spec is after the others
+-- the list of one more spec is appended
 pub one_more_list : (specs : List RefSpecRef) (i : ℕ) (spec : RefSpecRef) (list names new : List BString) → i < length specs → spec ≡ get_or specs i spec → new ≡ list ++ names → Lists (reading_of spec) (map bstring_bytes names) → ListsGroup (map reading_of (take i specs)) (map bstring_bytes list) → ListsGroup (map reading_of (take (i + 1) specs)) (map bstring_bytes new)
 one_more_list specs i spec list names new below is appended lists so_far =
     subst (ListsGroup (map reading_of (take (i + 1) specs))) (sym (map-append bstring_bytes list names) ∙ ap (map bstring_bytes) (sym appended))
     (subst (λ (g : List Reading). ListsGroup g (map bstring_bytes list ++ map bstring_bytes names)) (ap (λ (s : RefSpecRef). map reading_of (take i specs) ++ reading_of s ∷ []) is ∙ sym (map_more reading_of specs i spec below))
     (joined_next (λ k r found. Lists r found) i (map reading_of (take i specs)) (reading_of spec) (map bstring_bytes list) (map bstring_bytes names) (map_long reading_of specs i below) so_far lists))
 
--- one spec without a list
+-- a group has no list if one spec has none
 pub none_at : (specs : List RefSpecRef) (i : ℕ) (spec : RefSpecRef) → i < length specs → spec ≡ get_or specs i spec → ((list : List (List ℕ)) → ¬ (Lists (reading_of spec) list)) → HasNoList (map reading_of specs)
 none_at specs i spec below is none = (i, reading_of spec, omega (arith, below, length-map specs reading_of), get_or-map reading_of specs i spec (reading_of spec) below ∙ ap reading_of (sym is), none)
 
--- a missing list, and one that is there
+-- a missing list, and a present one
 pub missing_list : (r : Reading) (asked : Option (Vec BString Global)) → asked ≡ None → MatchOption asked ((list : List (List ℕ)) → ¬ (Lists r list)) (λ v. Lists r (map bstring_bytes v.items)) → (list : List (List ℕ)) → ¬ (Lists r list)
 missing_list r None none told = told
 missing_list r (Some v) none told = absurd (cc)

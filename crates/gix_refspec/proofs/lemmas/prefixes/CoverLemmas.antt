@@ -1,4 +1,4 @@
--- What the specs of a group expand to covers the names that they match.
+-- The expansions of the specs of a group cover the names that they match.
 use Rattle.std.proofs.Common.{◌≡◌, ◌≢◌, inl, inr, ℕ, zero, suc, ◌+◌, List, [], ◌∷◌, ◌++◌, length, codes, map, Option, None, Some, get_or, refl, sym, ap, ◌∙◌, subst, length-append, arith}
 use Rattle.std.proofs.lemmas.List.{append-nil, append_assoc, get_or_append_left}
 use Rattle.std.specs.List.{AllByRecursion, Any, slice_get}
@@ -11,7 +11,7 @@ use Rattle.gix_refspec_text.specs.Matching.Side.{SideKind, pattern, full_name, o
 use Rattle.gix_refspec_text.specs.Matching.Match.{Ref, Matches, Takes}
 use Rattle.gix_refspec_text.specs.Matching.Prefix.{of_head, IsAsked, Expands, to_prefix, IsExpansion}
 use Rattle.gix_refspec_match.specs.Matching.Lists.{IsMadeFrom, IsJoinedFrom}
-use Rattle.gix_refspec_match.specs.Matching.Mappings.{name, id, Mapped, IsKeptAt}
+use Rattle.gix_refspec_match.specs.Matching.Mappings.{name, Mapped, IsKeptAt}
 use Rattle.gix_refspec_match.specs.Matching.Hits.{Ends, AreForwardEnds, Hit, IsHit, AreSpecHits, IsIdMapping, forward_of, AreForward}
 use Rattle.gix_refspec_text.specs.Laws.Covering.{IsCovering, by_prefix, by_candidates}
 use Rattle.gix_refspec.specs.Laws.Matching.{BeginsWithOne, IsCoveredBy, AsksFor, AtSpec, Cover, CoverTogether}
@@ -40,11 +40,10 @@ any_right P (x ∷ xs) ys some = any_there P x (xs ++ ys) (any_right P xs ys som
 
 -- ---- one side
 
--- what begins `refs/` isn't `HEAD`
 pub below_not_head : (x : List ℕ) → BeginsWith (codes "refs/") x → x ≢ head
 below_not_head x below is = let first : 114 ≡ 72 = ap (λ (y : List ℕ). get_or y 0 0) (sym below.here ∙ is) in omega (arith, first)
 
--- a side that matches and asks for no id looks like none
+-- a side without a star that doesn't begin `refs/`, and hasn't the kind of an id, isn't an id
 matched_no_id : (x : List ℕ) (k : SideKind) → Lacks star x → ¬ (BeginsWith (codes "refs/") x) → ((bytes : List ℕ) → ¬ (HasKind x (object bytes))) → HasKind x k → ¬ (IsId x)
 matched_no_id x (pattern before after) lacks outside none kind = absurd (lacks_no_pattern x before after lacks kind)
 matched_no_id x (full_name n) lacks outside none kind = absurd (outside kind.2)
@@ -56,7 +55,7 @@ candidate_begins : (x n : List ℕ) → IsCandidate x n → BeginsWithOne (candi
 candidate_begins x n one = subst (λ (names : List (List ℕ)). BeginsWithOne names n) (sym one.here)
     (any_right (λ entry. BeginsWith entry n) one.earlier (n ∷ one.later) (any_here (λ entry. BeginsWith entry n) n one.later (record { after = []; here = sym (append-nil n) })))
 
--- a covering side expands to an entry with which each name that it matches begins
+-- each name that a covering side matches begins with an entry of its expansion
 pub side_covers : (x : List ℕ) (r : Ref) (word : Option (List ℕ)) → IsCovering x → ((bytes : List ℕ) → ¬ (HasKind x (object bytes))) → Matches x r word → (entries : List (List ℕ)) × Expands x entries × BeginsWithOne entries r.name
 side_covers x r word (by_prefix p below is) no_object matches = (
   p ∷ [],
@@ -69,11 +68,11 @@ side_covers x r word (by_candidates lacks other outside) no_object matches =
 
 -- ---- one spec
 
--- the source of a positive fetch is what it asks for
+-- the side of a positive fetch on the remote is its source
 pub source_asked : (r : Reading) (ends : Ends) → r.operation ≡ Fetch → AreForwardEnds r ends → IsAsked r ends.near
 source_asked r ends fetch are = record { positive = are.positive; side = ap (λ (op : Operation). side_on_remote op r.source r.destination) fetch ∙ are.near }
 
--- a spec covers the name that it takes, where it asks for it
+-- the expansion of a spec covers a name that it takes, if `AsksFor` holds
 hit_covered : (r : Reading) (ends : Ends) (items : List Ref) (k j : ℕ) (item : Ref) (hit : Hit) → AreForwardEnds r ends → IsHit (Takes items) ends k j item hit → AsksFor r hit.near → IsCoveredBy hit.near r
 hit_covered r ends items k j item hit are is (inl covering) =
     let asked = source_asked r ends covering.fetch are in
@@ -89,7 +88,7 @@ hit_covered r ends items k j item hit are is (inr (fetch, asked, named)) = recor
   one = any_here (λ entry. BeginsWith entry hit.near) head [] (record { after = []; here = named ∙ sym (append-nil head) });
 }
 
--- what is so of whatever is made is so of each that was made
+-- what holds of whatever a relation makes holds of each element made
 made_each : {X Y : Type 0} (R : ℕ → X → Y → Type 0) (Q : Y → Type 0) → ((k : ℕ) (x : X) (y : Y) → R k x y → Q y) → (k : ℕ) (xs : List X) (ys : List Y) → IsMadeFrom R k xs ys → AllByRecursion Q ys
 made_each R Q each k [] ys none = subst (AllByRecursion Q) (sym none) tt
 made_each R Q each k (x ∷ xs) ys (None, rest, here, more, is) = subst (AllByRecursion Q) (sym is) (made_each R Q each (k + 1) xs rest more)
@@ -97,7 +96,7 @@ made_each R Q each k (x ∷ xs) ys (Some y, rest, here, more, is) = subst (AllBy
 
 -- ---- a group
 
--- the spec of the hit covers the hit's name, where it asks for it
+-- the expansion of the spec of the hit covers the name of the hit, if `AsksFor` holds
 abbrev IsHitCovered : List Reading → Hit → Type 0
 IsHitCovered g hit = (r : Reading) × (slice_get g hit.spec ≡ Some r) × (AsksFor r hit.near → IsCoveredBy hit.near r)
 
@@ -115,7 +114,7 @@ hits_covered g before (r ∷ rest) items k hits whole index (first, others, of_s
     (spec_covers g r items k first (subst (λ (i : ℕ). slice_get g i ≡ Some r) index (subst (λ (z : List Reading). slice_get z (length before) ≡ Some r) whole (stands_behind before r rest))) of_spec)
     (hits_covered g (before ++ r ∷ []) rest items (k + 1) others (append_assoc before (r ∷ []) rest ∙ whole) (omega (arith, length-append before (r ∷ []), index)) more))
 
--- the names that mappings have as sources are as P says
+-- P holds of each mapping whose source is a name, and that name
 abbrev SourcesAre : (Mapped → List ℕ → Type 0) → List Mapped → Type 0
 SourcesAre P list = AllByRecursion (λ m. (n : List ℕ) → m.source ≡ name n → P m n) list
 
@@ -123,13 +122,13 @@ hit_sources : (P : Mapped → List ℕ → Type 0) (hits : List Hit) → AllByRe
 hit_sources P [] all = tt
 hit_sources P (hit ∷ hits) all = ((λ n is. subst (P (forward_of hit)) (one_name hit.near n is) all.0), hit_sources P hits all.1)
 
--- what is so of all mappings is so of those that are kept
+-- what holds of all mappings holds of the kept ones
 kept_each : (Q : Mapped → Type 0) (g : List Reading) (all : List Mapped) (k : ℕ) (xs ys : List Mapped) → AllByRecursion Q xs → IsMadeFrom (λ j m made. (made ≡ m) × IsKeptAt g all j m) k xs ys → AllByRecursion Q ys
 kept_each Q g all k [] ys each none = subst (AllByRecursion Q) (sym none) tt
 kept_each Q g all k (x ∷ xs) ys each (None, rest, here, more, is) = subst (AllByRecursion Q) (sym is) (kept_each Q g all (k + 1) xs rest each.1 more)
 kept_each Q g all k (x ∷ xs) ys each (Some y, rest, here, more, is) = subst (AllByRecursion Q) (sym is) (subst Q (sym here.0) each.0, kept_each Q g all (k + 1) xs rest each.1 more)
 
--- each name that is a source is covered by its spec
+-- the source of a mapping is covered by its spec, if it is a name and `AsksFor` holds
 abbrev IsSourceCovered : List Reading → Mapped → List ℕ → Type 0
 IsSourceCovered g m n = AtSpec g m (λ r. AsksFor r n → IsCoveredBy n r)
 
@@ -143,14 +142,14 @@ forward_covered g items all are =
 pub cover : (g : List Reading) (items : List Ref) → Cover g items
 cover g items kept stays = kept_each (λ m. (n : List ℕ) → m.source ≡ name n → IsSourceCovered g m n) g stays.all 0 stays.all kept (forward_covered g items stays.all stays.forward) stays.is
 
--- a spec expands to one list
+-- a spec has one expansion
 expansion_once : (r : Reading) (list other : List (List ℕ)) → IsExpansion r list → IsExpansion r other → list ≡ other
 expansion_once r list other (inl (x, asked, a)) (inl (y, also, b)) = (one_prefix x).expanded list other a (subst (λ (z : List ℕ). Expands z other) (one_asked r y x also asked) b)
 expansion_once r list other (inl (x, asked, a)) (inr (unasked, b)) = absurd (unasked x asked)
 expansion_once r list other (inr (unasked, a)) (inl (y, asked, b)) = absurd (unasked y asked)
 expansion_once r list other (inr (unasked, a)) (inr (_, b)) = a ∙ sym b
 
--- so what some spec covers, the entries of all do
+-- so a name that some spec covers is covered by the expansion of the group
 pub joined_covers : (n : List ℕ) (g : List Reading) (k : ℕ) (entries : List (List ℕ)) → Any (IsCoveredBy n) g → IsJoinedFrom (λ i r list. IsExpansion r list) k g entries → BeginsWithOne entries n
 joined_covers n [] k entries (i, r, below, here, covered) joined = absurd (omega (arith, below))
 joined_covers n (s ∷ g) k entries (zero, r, below, here, covered) (first, rest, expands, more, is) =
@@ -159,7 +158,7 @@ joined_covers n (s ∷ g) k entries (zero, r, below, here, covered) (first, rest
 joined_covers n (s ∷ g) k entries (suc i, r, below, here, covered) (first, rest, expands, more, is) =
     subst (λ (names : List (List ℕ)). BeginsWithOne names n) (sym is) (any_right (λ entry. BeginsWith entry n) first rest (joined_covers n g (k + 1) rest (i, r, omega (arith, below), here, covered) more))
 
--- what holds of the one at a place holds of some
+-- what holds of the reading at an index holds of some reading
 some_at : (P : Reading → Type 0) (g : List Reading) (i : ℕ) (r : Reading) → slice_get g i ≡ Some r → P r → Any P g
 some_at P [] i r here holds = absurd (cc)
 some_at P (s ∷ g) zero r here holds = (0, r, omega arith, same_Some s r here, holds)

@@ -32,7 +32,7 @@ none_special (b ∷ w) plain = fine_bytes (b ∷ w) (unless_true (list_any is_sp
     unless_true true no_v = absurd (false≢true no_v)
     unless_true false no_v = refl
 
--- plain components are joined by slashes alone
+-- no byte of plain components joined by slashes is special, except for the slashes
 joined_fine : (parts : List (List ℕ)) → list_all is_plain_component parts ≡ true → AllByRecursion Fine (join_with_byte slash parts)
 joined_fine [] plain = tt
 joined_fine (w ∷ []) plain = none_special w (and_parts (is_plain_component w) true plain).0
@@ -40,7 +40,7 @@ joined_fine (w ∷ v ∷ parts) plain =
     let each = and_parts (is_plain_component w) (list_all is_plain_component (v ∷ parts)) plain in
     all_join Fine w (slash ∷ join_with_byte slash (v ∷ parts)) (none_special w each.0) (inl refl, joined_fine (v ∷ parts) each.1)
 
--- so no other special byte is there
+-- so no special byte but a slash is there
 not_there : (b : ℕ) (before after x : List ℕ) → b ≢ slash → is_special_byte b ≡ true → AllByRecursion Fine x → x ≡ before ++ (b ∷ after) → ⊥
 not_there b before after x other special fine here = elim (AllByRecursion-parts Fine before b after (subst (AllByRecursion Fine) here fine)) [
   | inl same ↦ other same
@@ -61,7 +61,7 @@ no_first_dot w plain begins = no_dot [] begins.after w (none_special w plain) be
 no_lock : (w : List ℕ) → is_plain_component w ≡ true → ¬ (EndsWith (codes ".lock") w)
 no_lock w plain ends = no_dot ends.before (codes "lock") w (none_special w plain) ends.here
 
--- what is so of no plain component is so of none
+-- what holds of no plain component holds of no component of a plain name
 no_such : (P : List ℕ → Type 0) (x : List ℕ) → ((w : List ℕ) → is_plain_component w ≡ true → ¬ (P w)) → is_plain_name x ≡ true → ¬ (SomeComponent P x)
 no_such P x unless plain = no_component P x (each (slice_split (λ b. b == slash) x) plain)
   where
@@ -77,7 +77,7 @@ no_brace before after x fine here = not_there brace before after x (λ e. omega 
 no_star : (before after x : List ℕ) → AllByRecursion Fine x → ¬ (x ≡ before ++ (star ∷ after))
 no_star before after x fine here = not_there star before after x (λ e. omega (arith, e)) refl fine here
 
--- a byte that is refused is special, and is no slash
+-- a refused byte is special, and isn't a slash
 refused_special : (b : ℕ) → is_refused_byte b ≡ true → is_special_byte b ≡ true
 refused_special b refused = or_left (is_refused_byte b) (list_any (λ c. b == c) (codes "*/.{")) refused
 

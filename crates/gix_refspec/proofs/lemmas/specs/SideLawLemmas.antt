@@ -1,4 +1,4 @@
--- Both sides of an accepted reading have a star or neither, and there is one kind, one word and one id.
+-- Both sides of an accepted reading have a star or neither has, and kind, word and id are unique.
 use Rattle.std.proofs.Common.{◌⊎◌, inl, inr, ℕ, List}
 use Rattle.gix_refspec_text.specs.Texts.Words.{Lacks}
 use Rattle.gix_refspec_text.specs.Texts.Bytes.{star}
@@ -13,12 +13,12 @@ use Rattle.gix_refspec_text.proofs.lemmas.hits.MatchLemmas.{one_word}
 use Rattle.gix_refspec_text.proofs.lemmas.texts.ObjectIdLemmas.{IsIdText-unique}
 use Rattle.gix_refspec.proofs.lemmas.hits.TransposeLemmas.{one_star, starred}
 
--- a text with few stars has one or none
+-- a text without several stars has one or none
 one_or_none : (x : List ℕ) → ¬ (HasSeveralStars x) → Lacks star x ⊎ HasStar x → HasOneStar x ⊎ Lacks star x
 one_or_none x few (inl lacks) = inr lacks
 one_or_none x few (inr has) = inl (one_star x has few)
 
--- and of two of which not exactly one has a star, both have one or neither
+-- and of two texts of which not exactly one has a star, both have one or neither has
 both_or_neither : (s d : List ℕ) → ¬ (HasSeveralStars s) → ¬ (HasSeveralStars d) → ¬ (IsOneStarred s d) → Lacks star s ⊎ HasStar s → Lacks star d ⊎ HasStar d → (HasOneStar s × HasOneStar d) ⊎ (Lacks star s × Lacks star d)
 both_or_neither s d few_s few_d balanced (inl no_s) (inl no_d) = inr (no_s, no_d)
 both_or_neither s d few_s few_d balanced (inl no_s) (inr of_d) = absurd (balanced (inr (no_s, of_d)))

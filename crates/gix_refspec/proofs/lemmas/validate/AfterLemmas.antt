@@ -12,7 +12,7 @@ use Rattle.gix_refspec.proofs.lemmas.validate.FirstLemmas.{start_cases}
 use Rattle.gix_refspec_match.proofs.lemmas.keep.KeptLemmas.{kept_once}
 use Rattle.gix_refspec_text.proofs.lemmas.lists.AllLemmas.{all_join}
 
--- what is made of each element, where what a relation makes has P
+-- if P holds of all that a relation makes, it holds of each element made
 pub made_each : {X Y : Type 0} (R : ℕ → X → Y → Type 0) (P : Y → Type 0) (n : ℕ) → ((k : ℕ) (x : X) (y : Y) → k < n → R k x y → P y) → (k : ℕ) (xs : List X) (ys : List Y) → k + length xs ≤ n → IsMadeFrom R k xs ys → AllByRecursion P ys
 made_each R P n makes k [] ys fits empty = subst (AllByRecursion P) (sym empty) tt
 made_each R P n makes k (x ∷ xs) ys fits (None, rest, none, more, is) = subst (AllByRecursion P) (sym is) (made_each R P n makes (k + 1) xs rest (omega arith) more)
@@ -22,13 +22,13 @@ pub joined_each : {X Y : Type 0} (R : ℕ → X → List Y → Type 0) (P : Y �
 joined_each R P n makes k [] ys fits empty = subst (AllByRecursion P) (sym empty) tt
 joined_each R P n makes k (x ∷ xs) ys fits (made, rest, one, more, is) = subst (AllByRecursion P) (sym is) (all_join P made rest (makes k x made (omega arith) one) (joined_each R P n makes (k + 1) xs rest (omega arith) more))
 
--- what is kept of a list has what the list has
+-- what holds of a list holds of the kept elements
 pub stays_each : {X : Type 0} (S : ℕ → X → Type 0) (P : X → Type 0) (k : ℕ) (xs ys : List X) → AllByRecursion P xs → IsMadeFrom (λ j x y. (y ≡ x) × S j x) k xs ys → AllByRecursion P ys
 stays_each S P k [] ys all empty = subst (AllByRecursion P) (sym empty) tt
 stays_each S P k (x ∷ xs) ys all (None, rest, none, more, is) = subst (AllByRecursion P) (sym is) (stays_each S P (k + 1) xs rest all.1 more)
 stays_each S P k (x ∷ xs) ys all (Some y, rest, one, more, is) = subst (AllByRecursion P) (sym is) (subst P (sym one.0) all.0, stays_each S P (k + 1) xs rest all.1 more)
 
--- the hits of a spec have its place
+-- the hits of a spec have its index
 spec_of_hits : (items : List Ref) (k n : ℕ) (r : Reading) (hits : List Hit) → k < n → AreSpecHits AreForwardEnds (Takes items) items k r hits → AllByRecursion (λ h. h.spec < n) hits
 spec_of_hits items k n r hits below (inl (ends, has, made)) = made_each (IsHit (Takes items) ends k) (λ h. h.spec < n) (0 + length items) (λ j item h inside hit. subst (λ (s : ℕ). s < n) (sym hit.spec) below) 0 items hits (omega arith) made
 spec_of_hits items k n r hits below (inr (none, empty)) = subst (AllByRecursion (λ h. h.spec < n)) (sym empty) tt
@@ -47,7 +47,7 @@ forward_fits g items l kept =
     let both = subst (AllByRecursion (λ m. m.spec < n)) (sym all.all) (all_join (λ m. m.spec < n) all.ids (map forward_of all.hits) ids (map_forward n all.hits hits)) in
     stays_each (λ k m. IsKeptAt g kept.all k m) (λ m. m.spec < n) 0 kept.all l both kept.is
 
--- no pair is there twice in what is kept
+-- kept mappings have no duplicate pairs, if the list has none
 pub apart_still : (S : ℕ → Mapped → Type 0) (k : ℕ) (xs ys : List Mapped) → AreApart xs → IsMadeFrom (λ j x y. (y ≡ x) × S j x) k xs ys → AreApart ys
 apart_still S k [] ys apart empty = subst AreApart (sym empty) tt
 apart_still S k (x ∷ xs) ys apart (None, rest, none, more, is) = subst AreApart (sym is) (apart_still S (k + 1) xs rest apart.1 more)
@@ -56,7 +56,7 @@ apart_still S k (x ∷ xs) ys apart (Some y, rest, one, more, is) = subst AreApa
   apart_still S (k + 1) xs rest apart.1 more,
 )
 
--- mappings with one source for each destination, and no pair twice, have no destination twice
+-- mappings with one source for each destination, and without duplicate pairs, have distinct destinations
 distinct_destinations : (l : List Mapped) → DestinationsHaveOneSource l → AreApart l → HaveDistinctDestinations l
 distinct_destinations [] one apart = tt
 distinct_destinations (m ∷ l) one apart = (
@@ -70,25 +70,25 @@ distinct_destinations (m ∷ l) one apart = (
     within : (n : Mapped) → Contains l n → Contains (m ∷ l) n
     within n (k, below, is) = (suc k, omega (arith, below), is)
 
--- mappings of which no destination is in conflict have one source for each
+-- mappings without conflicts have one source for each destination
 pub free_one_source : (g : List Reading) (l : List Mapped) → AreConflicts g l [] → DestinationsHaveOneSource l
 free_one_source g l free m n d has_m has_n m_to n_to = elim (start_cases m.source n.source) [
   | inl same ↦ same
   | inr apart ↦ let none = free.every d (record { one = m; other = n; has_one = has_m; has_other = has_n; one_to = m_to; other_to = n_to; differ = apart }) in let inside = none.1 in absurd (omega (arith, inside))
 ]
 
--- so where they came from items, no two have one destination
+-- so if they came from items, no two have the same destination
 pub kept_distinct_destinations : (g : List Reading) (items : List Ref) (l : List Mapped) → AreKeptForward g items l → AreConflicts g l [] → HaveDistinctDestinations l
 kept_distinct_destinations g items l kept free = distinct_destinations l (free_one_source g l free) (kept_once g kept.all l kept.is)
 
--- what is left has one source for each destination
+-- the remaining mappings have one source for each destination
 one_source : (g : List Reading) (l rest : List Mapped) (fixes : List Removed) → IsValidated g l rest fixes → DestinationsHaveOneSource rest
 one_source g l rest fixes valid m n d has_m has_n m_to n_to = free_one_source g l valid.free m n d (was m has_m) (was n has_n) m_to n_to
   where
     was : (m : Mapped) → Contains rest m → Contains l m
     was m (k, below, is) = subst (Contains l) is (All-from_recursion (Contains l) rest (stays_each (λ j x. Survives x) (Contains l) 0 l rest (recursion_from_All (Contains l) l (All-contains_itself l)) valid.survive) k m below)
 
--- and where no pair was there twice, no destination is
+-- and if there were no duplicate pairs, they have distinct destinations
 pub distinct_destinations_after : (g : List Reading) (l rest : List Mapped) (fixes : List Removed) → IsValidated g l rest fixes → AreApart l → HaveDistinctDestinations rest
 distinct_destinations_after g l rest fixes valid apart = distinct_destinations rest (one_source g l rest fixes valid) (apart_still (λ k m. Survives m) 0 l rest apart valid.survive)
 

@@ -1,4 +1,4 @@
--- Where the hashes of all destinations differ, nothing is in conflict.
+-- If the hashes of all destinations differ, nothing is in conflict.
 use Rattle.std.proofs.Common.{◌≡◌, ◌≢◌, inl, ℕ, zero, suc, ◌<◌, List, [], ◌∷◌, ◌++◌, Option, Some, option_map, option_to_list, length, get_or, refl, sym, ap, ◌∙◌, subst, arith}
 use Rattle.std.specs.List.{AllByRecursion, slice_get}
 use Rattle.std.specs.List.Sorted.{IsPermutation}
@@ -10,11 +10,11 @@ use Rattle.gix_refspec.specs.Private.Updates.{destination_hashes}
 use Rattle.gix_refspec.proofs.lemmas.validate.FirstLemmas.{at_contained}
 use Rattle.gix_refspec_match.proofs.lemmas.keep.RepeatLemmas.{Contains-from_Has, Has-left, Has-right, apart_places}
 
--- no number is in the list twice
+-- the list has no duplicates
 AreApart : List ℕ → Type 0
 AreApart ns = (i j d : ℕ) → i < j → j < length ns → get_or ns i d ≢ get_or ns j d
 
--- the hash of a destination, where there is one
+-- the hash of a destination, if there is one
 hash_of : Mapped → List ℕ
 hash_of m = option_to_list (option_map name_hash m.destination)
 
@@ -27,13 +27,13 @@ has_hash (x ∷ xs) zero m d is goes =
     Has-left (hash_of x) (destination_hashes xs) (name_hash d) (subst (λ (ns : List ℕ). Has ns (name_hash d)) (sym there) (inl refl))
 has_hash (x ∷ xs) (suc k) m d is goes = Has-right (hash_of x) (destination_hashes xs) (name_hash d) (has_hash xs k m d is goes)
 
--- numbers after others that are apart
+-- the second part of a list without duplicates has none
 apart_right : (xs ys : List ℕ) → AreApart (xs ++ ys) → AreApart ys
 unfolding AreApart
 apart_right [] ys apart = apart
 apart_right (x ∷ xs) ys apart = apart_right xs ys (λ i j d before below. apart (suc i) (suc j) d (omega arith) (omega arith))
 
--- the first of numbers that are apart isn't among the others
+-- the first number of a list without duplicates isn't among the others
 apart_first : (n : ℕ) (ns : List ℕ) → AreApart (n ∷ ns) → ¬ (Has ns n)
 unfolding AreApart
 apart_first n ns apart has = let at = Contains-from_Has ns n has in let fits = at.1 in apart 0 (suc at.0) n (omega arith) (omega (arith, fits)) (sym at.2)
@@ -45,7 +45,7 @@ first_alone x xs k m d apart goes is also =
     let there : hash_of x ≡ name_hash d ∷ [] = ap (λ (y : Option (List ℕ)). option_to_list (option_map name_hash y)) goes in
     apart_first (name_hash d) (destination_hashes xs) (subst (λ (ns : List ℕ). AreApart (ns ++ destination_hashes xs)) there apart) (has_hash xs k m d is also)
 
--- mappings to one destination are one
+-- if the hashes of destinations have no duplicates, mappings with the same destination have the same index
 one_index : (l : List Mapped) (j k : ℕ) (m n : Mapped) (d : List ℕ) → AreApart (destination_hashes l) → slice_get l j ≡ Some m → slice_get l k ≡ Some n → m.destination ≡ Some d → n.destination ≡ Some d → m ≡ n
 unfolding hash_of
 one_index [] j k m n d apart is_m is_n to_m to_n = absurd (cc)
@@ -54,7 +54,7 @@ one_index (x ∷ xs) zero (suc k) m n d apart is_m is_n to_m to_n = let same : S
 one_index (x ∷ xs) (suc j) zero m n d apart is_m is_n to_m to_n = let same : Some x ≡ Some n = is_n in let to_x : x.destination ≡ Some d = cc in absurd (first_alone x xs j m d apart to_x is_m to_m)
 one_index (x ∷ xs) (suc j) (suc k) m n d apart is_m is_n to_m to_n = one_index xs j k m n d (apart_right (hash_of x) (destination_hashes xs) apart) is_m is_n to_m to_n
 
--- numbers of which each is below the next rise
+-- numbers of which each is below the next are strictly increasing
 pub rises_from_next : (ns : List ℕ) → ((k : ℕ) → suc k < length ns → get_or ns k 0 < get_or ns (suc k) 0) → Rises ns
 rises_from_next [] next = tt
 rises_from_next (n ∷ []) next = (tt, tt)
@@ -67,7 +67,7 @@ rises_from_next (n ∷ m ∷ ns) next =
     all_above n m [] less all = tt
     all_above n m (k ∷ ns) less all = let first : m < k = all.0 in (omega (arith, first, less), all_above n m ns less all.1)
 
--- hashes that rise once they are sorted are apart, so that no two mappings have one destination
+-- if the sorted hashes are strictly increasing, there are no duplicates, and so no conflicts
 pub none_contested : (l : List Mapped) (sorted : List ℕ) → IsPermutation (destination_hashes l) sorted → Rises sorted → (d : List ℕ) → ¬ (HasConflictAt l d)
 unfolding AreApart
 none_contested l sorted moved rises d c =

@@ -1,4 +1,4 @@
--- What is mapped holds no control character, where no name of an item does.
+-- Mappings contain no control character, if no name of an item does.
 use Rattle.std.proofs.Common.{◌≡◌, ◌≢◌, inl, inr, ℕ, ◌+◌, ◌<◌, ◌==◌, ◌&&◌, ◌||◌, Bool, true, false, IsTrue, nat_le, if◌then◌else◌, List, [], ◌∷◌, ◌++◌, Option, None, Some, codes, get_or, map, sym, ap, ◌∙◌, subst, nat_eq, arith}
 use Rattle.std.specs.List.{AllByRecursion, list_any, starts_with}
 use Rattle.std.proofs.lemmas.Bool.{eqb-true, false≢true, lt-leb, lt-ltb}
@@ -19,7 +19,7 @@ use Rattle.gix_refspec.specs.Laws.Plans.{LacksIn, MappedLacks, NoControlCharacte
 use Rattle.gix_refspec.proofs.lemmas.validate.PlacedOnceLemmas.{printed_lacks, sides_lack}
 use Rattle.gix_refspec_text.proofs.lemmas.lists.AllLemmas.{all_left, all_right, all_join}
 
--- a hit holds no byte b
+-- a hit contains no byte b
 abbrev HitLacks : ℕ → Hit → Type 0
 HitLacks b h = Lacks b h.near × LacksIn b h.far
 
@@ -96,14 +96,14 @@ module _ (b : ℕ) (below : b < 32) (no_digit : is_lower_digit b ≡ false) wher
     ids_lack (k + 1) g rest sides.1 more,
   )
 
-  -- so it is with each mapping that is kept
+  -- nor does any kept mapping
   kept_lacks : (g : List Reading) (items : List Ref) (l : List Mapped) → AllByRecursion (SidesLack b) g → AllByRecursion (λ r. Lacks b r.name) items → AreKeptForward g items l → AllByRecursion (MappedLacks b) l
   kept_lacks g items l sides names kept =
       let are = kept.forward in
       stays_each (λ k m. IsKeptAt g kept.all k m) (MappedLacks b) 0 kept.all l
       (subst (AllByRecursion (MappedLacks b)) (sym are.all) (all_join (MappedLacks b) are.ids (map forward_of are.hits) (ids_lack 0 g are.ids sides are.are_ids) (forward_lacks are.hits (group_lacks items 0 g are.hits names sides are.are_hits)))) kept.is
 
--- a name may not hold a control character, and no digit is one
+-- a name contains no control character, and no digit is one
 control_refused : (b : ℕ) → b < 32 → IsTrue (is_refused_byte b)
 control_refused b below = ap (λ t. t || b == 127 || list_any (λ c. b == c) (codes " ~^:?[\\")) (lt-ltb b 32 below)
 

@@ -1,4 +1,4 @@
--- Conflicts, from updates in order.
+-- Conflicts, from sorted updates.
 use Rattle.std.proofs.Common.{◌≡◌, ◌⊎◌, inl, inr, ◌↔◌, ℕ, ◌+◌, ◌<◌, ◌≤◌, List, [], ◌∷◌, ◌++◌, Some, option_map, Bool, length, map, take, drop, get_or, refl, sym, ap, ◌∙◌, subst, arith}
 use Rattle.std.specs.List.{AllByRecursion, AllZip, Contains, slice_get}
 use Rattle.std.specs.List.Sorted.{IsStrictlySortedBy}
@@ -32,12 +32,12 @@ use Rattle.std.proofs.lemmas.Slice.Zip.{all_zipped_more}
 use Rattle.gix_refspec_text.proofs.lemmas.lists.AllLemmas.{all_right, all_join, all_weaker}
 use Rattle.gix_refspec_text.proofs.lemmas.lists.OrderLemmas.{not_below_itself}
 
--- the mappings at the places have these sources, and their specs these texts
+-- the mappings at the indexes have these sources, and their specs these texts
 pub record AreTold (g : List Reading) (l : List Mapped) (ns : List ℕ) (sources : List Source) (texts : List (List ℕ)) : Type 0 where
   pub sources_are : AllZip (IsOfIndex (λ m source. source ≡ m.source) l) ns sources
   pub texts_are : AllZip (IsOfIndex (λ m text. IsTextAt g m.spec text) l) ns texts
 
--- updates of one destination have the places of the updates of it
+-- the indexes of updates of one destination are those of its updates
 pub indexes_to_one : (x : List ℕ) (cs : List Update) (k : ℕ) → AllByRecursion (λ c. c.destination.now ≡ x) cs → Has (updated_indexes cs) k ↔ HasUpdate cs k x
 indexes_to_one x [] k same = ((λ none. none), (λ none. none))
 indexes_to_one x (c ∷ cs) k same = (
@@ -51,7 +51,7 @@ indexes_to_one x (c ∷ cs) k same = (
   ]),
 )
 
--- and in order these rise
+-- and if the updates are sorted, the indexes are strictly increasing
 pub indexes_rise : (x : List ℕ) (cs : List Update) → AllByRecursion (λ c. c.destination.now ≡ x) cs → IsStrictlySortedBy update_cmp cs → Rises (updated_indexes cs)
 unfolding IsStrictlySortedBy
 indexes_rise x [] same strict = tt
@@ -67,7 +67,7 @@ indexes_rise x (c ∷ cs) same strict = (each cs same.1 strict.0, indexes_rise x
           | inr tied ↦ tied.1
         ]
 
--- each conflicting has a place among the mappings
+-- the index of each conflicting update is among the mappings
 pub conflicting_fits : (ms : List Mapping) (run : List Update) (i : ℕ) (d : Update) → AreConflicting (map mapped_of ms) run → i < length run → (get_or run i d).index < length ms
 conflicting_fits ms run i d conflicting below = All-from_recursion (λ (c : Update). c.index < length ms) run (each run conflicting.same (λ k has. (conflicting.are k).0 has)) i d below
   where
@@ -78,7 +78,7 @@ conflicting_fits ms run i d conflicting below = All-from_recursion (λ (c : Upda
         let below = slice_get_within (map mapped_of ms) c.index first.0 first.1 in
         (omega (arith, below, length-map ms mapped_of), each cs same.1 (λ k has. told k (inr has)))
 
--- what the updates of all sources of a destination tell is its conflict
+-- the sources and texts of the updates of all sources of a destination are its conflict
 pub conflict_from_conflicting : (g : List Reading) (l : List Mapped) (run : List Update) (d : List ℕ) (sources : List Source) (texts : List (List ℕ)) → (conflicting : AreConflicting l run) → AreTold g l (updated_indexes run) sources texts → d ≡ conflicting.destination → IsConflictOf g l run (record { destination = d; sources = sources; texts = texts })
 conflict_from_conflicting g l run d sources texts conflicting told to = subst (λ (e : List ℕ). IsConflictOf g l run (record { destination = e; sources = sources; texts = texts })) (sym to) (record {
   is = record {
@@ -113,7 +113,6 @@ conflict_from_conflicting g l run d sources texts conflicting told to = subst (�
     two (c ∷ []) several up first = absurd (omega arith)
     two (c ∷ y ∷ cs) several up first = contested_from_firsts l x c.index y.index up.0.0 (first c.index (inl refl)) (first y.index (inr (inl refl)))
 
--- a copy of a name has the same bytes
 pub copied_name : (n m : NameRef) → IsNameCopy n m → name_bytes m ≡ name_bytes n
 copied_name (name_ref.Borrowed n) (name_ref.Borrowed m) same = same
 copied_name (name_ref.Borrowed n) (name_ref.Owned m) same = absurd same
@@ -131,7 +130,7 @@ copied_source (source_ref.ObjectId i) (source_ref.ObjectId j) copy = ap (λ k. i
 pub text_at : (specs : List RefSpecRef) (k : ℕ) (spec : RefSpecRef) (text : List ℕ) → k < length specs → spec ≡ get_or specs k spec → printed (reading_of spec) ≡ Some text → IsTextAt (map reading_of specs) k text
 text_at specs k spec text below is prints = (reading_of spec, slice_get-map reading_of specs k ∙ ap (option_map reading_of) (slice_get_read specs (length specs) k spec refl below is), prints)
 
--- one more update has given its source and its text
+-- the source and the text of one more update are appended
 pub told_more : (g : List Reading) (ms : List Mapping) (run : List Update) (i : ℕ) (d : Update) (m : Mapping) (source : Source) (text : List ℕ) (sources : List Source) (texts : List (List ℕ)) → i < length run → (get_or run i d).index < length ms → m ≡ get_or ms (get_or run i d).index m → source ≡ start_of m.lhs → IsTextAt g m.spec_index text → AreTold g (map mapped_of ms) (updated_indexes (take i run)) sources texts → AreTold g (map mapped_of ms) (updated_indexes (take (i + 1) run)) (sources ++ source ∷ []) (texts ++ text ∷ [])
 told_more g ms run i d m source text sources texts below fits is is_source is_text told =
     let l = map mapped_of ms in
@@ -142,7 +141,7 @@ told_more g ms run i d m source text sources texts below fits is is_source is_te
       texts_are = all_zipped_more (IsOfIndex (λ m t. IsTextAt g m.spec t) l) (updated_indexes (take i run)) texts (get_or run i d).index text told.texts_are (mapped_of m, here, is_text);
     })
 
--- the spec of a mapping has a place among the specs
+-- the spec index of a mapping is among the specs
 pub spec_fits : (specs : List RefSpecRef) (ms : List Mapping) (k : ℕ) (m : Mapping) → IndexesFit (map reading_of specs) (map mapped_of ms) → k < length ms → m ≡ get_or ms k m → m.spec_index < length specs
 spec_fits specs ms k m fits below is =
     let told : (get_or (map mapped_of ms) k (mapped_of m)).spec < length (map reading_of specs) = All-from_recursion (λ n. n.spec < length (map reading_of specs)) (map mapped_of ms) fits k (mapped_of m) (omega (arith, below, length-map ms mapped_of)) in
@@ -159,7 +158,7 @@ pub record AreReported (g : List Reading) (l : List Mapped) (rest : List Update)
   pub rise : IsStrictlySortedBy (slice_cmp nat_cmp) (map (λ c. c.destination) cs)
   pub every : (d : List ℕ) → HasConflictAt l d → Contains (map (λ c. c.destination) cs) d ⊎ ((k : ℕ) × HasUpdate rest k d)
 
--- at first all updates are left
+-- before the loop all updates are in the rest
 pub reported_none : (g : List Reading) (l : List Mapped) (firsts : List Update) → AreFirstUpdates l firsts → AreReported g l firsts []
 unfolding IsStrictlySortedBy
 reported_none g l firsts are = record {
@@ -172,7 +171,7 @@ reported_none g l firsts are = record {
   every = λ d contested. let two = two_firsts l d contested in inr (two.0, (are.are two.0 d).1 two.3);
 }
 
--- and at last none
+-- and after it none is
 pub all_reported : (g : List Reading) (l : List Mapped) (rest : List Update) (cs : List Conflict) → length rest ≡ 0 → AreReported g l rest cs → AreConflicts g l cs
 all_reported g l [] cs empty settled = record {
   each = settled.each;
@@ -194,7 +193,7 @@ to_same x [] k d same has = absurd has
 to_same x (c ∷ cs) k d same (inl is) = sym is.1 ∙ same.0
 to_same x (c ∷ cs) k d same (inr has) = to_same x cs k d same.1 has
 
--- what begins the rest has all first mappings to its destination
+-- the run at the start of the rest has all first mappings to its destination
 firsts_of_run : (g : List Reading) (l : List Mapped) (run others : List Update) (cs : List Conflict) → 0 < length run → (split : IsRun run others) → AreReported g l (run ++ others) cs → (k : ℕ) → HasUpdate run k split.destination ↔ IsFirstAt l k split.destination
 firsts_of_run g l [] others cs some split settled k = absurd (omega arith)
 firsts_of_run g l (c ∷ run) others cs some split settled k = (
@@ -219,7 +218,7 @@ conflicting_of_run g l rest n cs several split settled =
       order = strict_left update_cmp (take n rest) (drop n rest) (subst (λ (xs : List Update). IsStrictlySortedBy update_cmp xs) (sym whole) settled.order);
     }
 
--- after a run all else stays as it was
+-- after a run, an update is among the others, or its destination is less than all of theirs, if that was so before
 behind_run : (l : List Mapped) (run others : List Update) (k : ℕ) (d : List ℕ) → (split : IsRun run others) → HasUpdate (run ++ others) k d ⊎ AllByRecursion (λ c. slice_cmp nat_cmp d c.destination.now ≡ Less) (run ++ others) → HasUpdate others k d ⊎ AllByRecursion (λ c. slice_cmp nat_cmp d c.destination.now ≡ Less) others
 behind_run l run others k d split (inl has) = elim (HasUpdate-cases run others k d has) [
   | inl here ↦ inr (subst (λ (x : List ℕ). AllByRecursion (λ c. slice_cmp nat_cmp x c.destination.now ≡ Less) others) (sym (to_same split.destination run k d split.same here)) split.beyond)
@@ -237,7 +236,7 @@ one_update_only x (c ∷ []) j k few (inl is) (inr none) = absurd none
 one_update_only x (c ∷ []) j k few (inr none) also = absurd none
 one_update_only x (c ∷ y ∷ run) j k few has also = absurd (omega arith)
 
--- a run of one update has no conflict
+-- a run of one update adds no conflict
 skipped : (g : List Reading) (l : List Mapped) (run others : List Update) (cs : List Conflict) → 0 < length run → length run ≤ 1 → IsRun run others → AreReported g l (run ++ others) cs → AreReported g l others cs
 skipped g l run others cs some few split settled = record {
   left = λ k d has. settled.left k d (HasUpdate-right run others k d has);
@@ -265,7 +264,7 @@ unfolding IsStrictlySortedBy
 rise_more [] x strict below = (tt, tt)
 rise_more (d ∷ ds) x strict below = (all_join (λ y. slice_cmp nat_cmp d y ≡ Less) ds (x ∷ []) strict.0 (below.0, tt), rise_more ds x strict.1 below.1)
 
--- a run of several updates has one
+-- a run of several updates adds one
 reported : (g : List Reading) (l : List Mapped) (run others : List Update) (cs : List Conflict) (c : Conflict) → 1 < length run → IsRun run others → IsConflictOf g l run c → AreReported g l (run ++ others) cs → AreReported g l others (cs ++ c ∷ [])
 reported g l [] others cs c several split over settled = absurd (omega arith)
 reported g l (r ∷ run) others cs c several split over settled =
@@ -293,12 +292,12 @@ reported g l (r ∷ run) others cs c several split over settled =
     lower [] below = tt
     lower (y ∷ ys) below = (subst (λ (d : List ℕ). slice_cmp nat_cmp y.destination d ≡ Less) over.same.0 below.0.0, lower ys below.1)
 
--- where nothing is in conflict, there is no conflict
+-- if nothing is in conflict, the list of conflicts is empty
 pub no_conflicts : (g : List Reading) (l : List Mapped) → ((d : List ℕ) → ¬ (HasConflictAt l d)) → AreConflicts g l []
 unfolding IsStrictlySortedBy
 no_conflicts g l free = record { each = tt; every = λ d contested. absurd (free d contested); order = tt }
 
--- a loop's step: once a run has added what it adds, the others are left
+-- the step of the loop: after a run has added its conflict, if any, the others are the rest
 pub reported_more : (g : List Reading) (l : List Mapped) (rest : List Update) (n : ℕ) (cs new : List Conflict) → 0 < n → n ≤ length rest → IsRun (take n rest) (drop n rest) → AddsConflict g l (take n rest) cs new → AreReported g l rest cs → AreReported g l (drop n rest) new
 reported_more g l rest n cs new some fits split added settled =
     let whole : AreReported g l (take n rest ++ drop n rest) cs = subst (λ (xs : List Update). AreReported g l xs cs) (sym (take-append-drop n rest)) settled in
@@ -307,12 +306,12 @@ reported_more g l rest n cs new some fits split added settled =
       | inr more ↦ subst (λ (ds : List Conflict). AreReported g l (drop n rest) ds) (sym more.3) (reported g l (take n rest) (drop n rest) cs more.0 more.1 split more.2 whole)
     ]
 
--- where there are no mappings nothing is in conflict
+-- without mappings nothing is in conflict
 pub free_empty : (g : List Reading) (ms : List Mapping) → length ms ≡ 0 → AreConflicts g (map mapped_of ms) []
 free_empty g [] empty = no_conflicts g [] (λ d c. let inside = c.has_one.1 in omega (arith, inside))
 free_empty g (m ∷ ms) empty = absurd (omega arith)
 
--- the updates that aren't repeated are the first ones
+-- the updates that aren't flagged as duplicates are the first ones
 pub firsts_from_updates : (ms : List Mapping) (flags : List Bool) (cs : List Update) → FlagsRepeats ms flags → AreUpdates (map mapped_of ms) flags cs → AreFirstUpdates (map mapped_of ms) cs
 firsts_from_updates ms flags cs repeats made = record {
   are = λ k d. (

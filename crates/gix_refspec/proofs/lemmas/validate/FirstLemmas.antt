@@ -1,4 +1,4 @@
--- The first mappings from each source to each destination, by their places.
+-- The first mappings from each source to each destination, by their indexes.
 use Rattle.std.proofs.Common.{◌≡◌, ◌≢◌, ◌⊎◌, inl, inr, ◌↔◌, ℕ, zero, suc, ◌+◌, ◌-◌, ◌<◌, ◌≤◌, List, [], ◌∷◌, Option, None, Some, Bool, true, false, take, refl, sym, ap, ◌∙◌, subst, arith}
 use Rattle.std.specs.List.{AllByRecursion, AllZip, Contains, slice_get}
 use Rattle.std.specs.Str.{bytes_eq}
@@ -13,11 +13,11 @@ use Rattle.gix_refspec.specs.Private.Updates.{IsFirstAt}
 use Rattle.gix_refspec_match.proofs.lemmas.keep.RepeatLemmas.{not_below}
 use Rattle.gix_refspec_text.proofs.lemmas.lists.AllLemmas.{all_weaker}
 
--- the mapping at place n is one of which Q makes y
+-- Q makes y of the mapping at index n
 abbrev pub IsOfIndex : {Y : Type 0} → (Mapped → Y → Type 0) → List Mapped → ℕ → Y → Type 0
 IsOfIndex Q l n y = (m : Mapped) × (slice_get l n ≡ Some m) × Q m y
 
--- two readings of one place
+-- an index has one mapping
 pub one_mapping : (l : List Mapped) (k : ℕ) (m n : Mapped) → slice_get l k ≡ Some m → slice_get l k ≡ Some n → m ≡ n
 one_mapping l k m n is_m is_n = let same : Some m ≡ Some n = sym is_m ∙ is_n in cc
 
@@ -33,7 +33,7 @@ here_at l k x rest at = let same : k ≡ k + 0 = omega arith in ap (slice_get l)
 tail_at : (l : List Mapped) (k : ℕ) (x : Mapped) (rest : List Mapped) → ((j : ℕ) → slice_get (x ∷ rest) j ≡ slice_get l (k + j)) → (j : ℕ) → slice_get rest j ≡ slice_get l ((k + 1) + j)
 tail_at l k x rest at j = let same : k + suc j ≡ (k + 1) + j = omega arith in at (suc j) ∙ ap (slice_get l) same
 
--- what is made of the mappings at some places, which rise and are those where P holds
+-- elements made of the mappings at strictly increasing indexes, which are those where P holds
 pub made_at_indexes : {Y : Type 0} (P : ℕ → Mapped → Type 0) (Q : Mapped → Y → Type 0) (l : List Mapped) (k : ℕ) (rest : List Mapped) (ns : List ℕ) (ys : List Y) → ((j : ℕ) → slice_get rest j ≡ slice_get l (k + j)) → ((j : ℕ) (m : Mapped) → k ≤ j → slice_get l j ≡ Some m → Has ns j ↔ P j m) → Rises ns → AllByRecursion (λ n. k ≤ n) ns → AllZip (IsOfIndex Q l) ns ys → IsMadeFrom (λ j m y. P j m × Q m y) k rest ys
 made_at_indexes P Q l k [] [] [] at has rises above zip = refl
 made_at_indexes P Q l k [] [] (y ∷ ys) at has rises above zip = absurd zip
@@ -78,7 +78,7 @@ made_at_indexes {Y} P Q l k (x ∷ rest) (n ∷ ns) (y ∷ ys) at has rises abov
       ]),
     )
 
--- a pair that is at an earlier place
+-- a pair at an earlier index
 pub earlier_pair : (l : List Mapped) (j k : ℕ) (m n : Mapped) → slice_get l j ≡ Some m → j < k → IsSamePair m n → HasPair (take k l) n
 earlier_pair [] j k m n is before same = absurd (cc)
 earlier_pair (x ∷ l) j zero m n is before same = absurd (omega arith)
@@ -146,7 +146,7 @@ first_link source d (x ∷ l) i m is links = elim (links_cases source d x) [
           ],
         )
 
--- a destination in conflict has first mappings at two places
+-- a destination in conflict has first mappings at two indexes
 pub two_firsts : (l : List Mapped) (d : List ℕ) → HasConflictAt l d → (j : ℕ) × (k : ℕ) × (j ≢ k) × IsFirstAt l j d × IsFirstAt l k d
 two_firsts l d c =
     let one = at_contained l c.one c.has_one in
@@ -162,7 +162,7 @@ two_firsts l d c =
       (b.1, b.2, record { goes = b.3.1; first = b.4 }),
     )
 
--- two places of first mappings put a destination in conflict
+-- a destination with first mappings at two indexes is in conflict
 pub contested_from_firsts : (l : List Mapped) (d : List ℕ) (j k : ℕ) → j < k → IsFirstAt l j d → IsFirstAt l k d → HasConflictAt l d
 contested_from_firsts l d j k before (m, is_m, m_first) (n, is_n, n_first) = record {
   one = m;

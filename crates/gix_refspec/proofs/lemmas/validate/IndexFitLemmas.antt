@@ -1,4 +1,4 @@
--- The places of what is kept.
+-- The indexes of kept mappings.
 use Rattle.std.proofs.Common.{◌≡◌, inl, inr, ℕ, ◌+◌, ◌<◌, List, [], ◌∷◌, ◌++◌, Option, None, Some, length, length-append, map, refl, sym, ap, ◌∙◌, subst, arith}
 use Rattle.std.specs.List.{AllByRecursion, slice_get}
 use Rattle.std.proofs.lemmas.List.{append_assoc}
@@ -14,19 +14,19 @@ use Rattle.gix_refspec_match.specs.Private.HitViews.{HasEnds, TakesIn}
 use Rattle.gix_refspec.proofs.lemmas.validate.AfterLemmas.{joined_each, made_each, stays_each}
 use Rattle.gix_refspec_text.proofs.lemmas.lists.AllLemmas.{all_join}
 
--- the hit has the place of a reading, and that of an item with its name
+-- the hit has the index of a reading, and that of an item with its name
 record IsPlacedHit (n : ℕ) (items : List Ref) (h : Hit) : Type 0 where
   spec : h.spec < n
   ref : Ref
   stands : slice_get items h.item ≡ Some ref
   named : h.near ≡ ref.name
 
--- what is after the front of a list is at its place
+-- the element after a first part of a list is at the index of that part's length
 pub stands_behind : {X : Type 0} (before : List X) (r : X) (after : List X) → slice_get (before ++ (r ∷ after)) (length before) ≡ Some r
 stands_behind [] r after = refl
 stands_behind (b ∷ before) r after = stands_behind before r after
 
--- what is made of a list from a place on has places of the whole list
+-- hits made of a list from an index on have indexes of the whole list
 hits_of_items : (Taken : List ℕ → Ref → Option (List ℕ) → Type 0) (ends : Ends) (k n : ℕ) (items before xs : List Ref) (j : ℕ) (hits : List Hit) → k < n → before ++ xs ≡ items → length before ≡ j → IsMadeFrom (IsHit Taken ends k) j xs hits → AllByRecursion (IsPlacedHit n items) hits
 hits_of_items Taken ends k n items before [] j hits below whole index empty = subst (AllByRecursion (IsPlacedHit n items)) (sym empty) tt
 hits_of_items Taken ends k n items before (x ∷ xs) j hits below whole index (None, rest, none, more, is) =

@@ -1,4 +1,4 @@
--- What the spec and the item at the places of a mapping make, and which mappings are left after a check.
+-- What the spec and the item at the indexes of a mapping make, and which mappings remain after a check.
 use Rattle.std.proofs.Common.{◌≡◌, inl, inr, ◌↔◌, ℕ, ◌+◌, List, [], ◌∷◌, ◌++◌, Option, None, Some, option_to_list, length, length-append, map, unwrap_or, refl, sym, ap, ◌∙◌, subst, arith}
 use Rattle.std.specs.List.{AllByRecursion, Contains, slice_get}
 use Rattle.std.proofs.lemmas.List.{append_assoc}
@@ -18,7 +18,7 @@ use Rattle.gix_refspec.proofs.lemmas.validate.IndexFitLemmas.{stands_behind, map
 use Rattle.gix_refspec_match.proofs.lemmas.lists.SomeLemmas.{Any, Any-right}
 use Rattle.gix_refspec_text.proofs.lemmas.lists.AllLemmas.{all_join}
 
--- ---- what is made of the elements of a list, which are at their places
+-- ---- what is made of the elements of a list, by their indexes
 
 stands_at : {X : Type 0} (all before : List X) (x : X) (after : List X) (k : ℕ) → before ++ (x ∷ after) ≡ all → length before ≡ k → slice_get all k ≡ Some x
 stands_at {X} all before x after k whole index = subst (λ (i : ℕ). slice_get all i ≡ Some x) index (subst (λ (z : List X). slice_get z (length before) ≡ Some x) whole (stands_behind before x after))
@@ -101,7 +101,7 @@ made_at_indexes g items = record {
   backward = λ kept are. stays_each (λ k m. IsKeptAt g are.all k m) (BackwardAt g items) 0 are.all kept (backward_all g items are.all are.backward) are.is;
 }
 
--- ---- what is left
+-- ---- what remains
 
 remained : (S : Mapped → Type 0) (k : ℕ) (xs ys : List Mapped) (m : Mapped) → IsMadeFrom (λ j x y. (y ≡ x) × S x) k xs ys → Any (λ y. y ≡ m) ys → Any (λ x. x ≡ m) xs × S m
 remained S k [] ys m empty any = absurd (subst (Any (λ y. y ≡ m)) empty any)

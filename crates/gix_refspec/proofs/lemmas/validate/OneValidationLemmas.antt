@@ -1,25 +1,22 @@
--- What a validation answers is one, and a copy of an outcome has the same.
-use Rattle.std.proofs.Common.{◌≡◌, inl, inr, ℕ, zero, suc, List, [], ◌∷◌, Option, None, Some, option_map, map, refl, sym, ap, ◌∙◌, subst, arith}
+-- A validation has one result, and a copy of an outcome has the same.
+use Rattle.std.proofs.Common.{◌≡◌, inl, inr, ℕ, zero, suc, List, [], ◌∷◌, Some, map, refl, sym, ap, ◌∙◌, subst, arith}
 use Rattle.std.specs.List.{AllByRecursion, Contains}
 use Rattle.std.specs.List.Sorted.{IsStrictlySortedBy}
 use Rattle.std.specs.declared.cmp.Ordering.TheVariants.{Less}
 use Rattle.std.specs.Ordering.{nat_cmp}
 use Rattle.std.specs.Cmp.Lexicographic.{slice_cmp}
 use Rattle.gix_refspec_match.specs.declared.types.Mapping.{Mapping}
-use Rattle.gix_refspec_match.specs.declared.types.NameRef.{NameRef}
 use Rattle.gix_refspec.specs.declared.match_group.types.Outcome.{Outcome}
 use Rattle.gix_refspec_text.specs.Specs.Reading.{Reading}
 use Rattle.gix_refspec_text.specs.Views.Spec.{reading_of}
 use Rattle.gix_refspec_match.specs.Matching.Lists.{IsMadeFrom}
 use Rattle.gix_refspec_text.specs.Specs.Meaning.{printed}
 use Rattle.gix_refspec_match.specs.Matching.Mappings.{Source, Mapped}
-use Rattle.gix_refspec_match.specs.Views.Mapping.{mapped_of, name_bytes, IsDestinationCopy, IsMappingCopy, AreMappingCopies}
+use Rattle.gix_refspec_match.specs.Views.Mapping.{mapped_of, AreMappingCopies}
 use Rattle.gix_refspec.specs.Views.Group.{readings_of}
 use Rattle.gix_refspec.specs.Matching.Validation.{IsFirstTo, IsTextAt, Conflict, IsConflict, AreConflicts, Survives, Removed, IsFix}
 use Rattle.gix_refspec.specs.Laws.Validation.{ValidateAlike, OneValidation, CopiedOutcome}
 use Rattle.gix_refspec.proofs.lemmas.validate.UpdateLemmas.{below_trans}
-use Rattle.gix_refspec.proofs.lemmas.validate.ConflictLemmas.{copied_name, copied_source}
-use Rattle.gix_refspec_match.proofs.lemmas.hits.HitLemmas.{same_mapped}
 use Rattle.gix_refspec_match.proofs.lemmas.lists.ListsLemmas.{made_once}
 use Rattle.gix_refspec_match.proofs.lemmas.lists.SomeLemmas.{Any}
 use Rattle.std.proofs.lemmas.Option.{same_Some}
@@ -28,30 +25,30 @@ use Rattle.gix_refspec.proofs.lemmas.validate.RefNameLemmas.{copied_mapping}
 
 -- ---- conflicts
 
--- a text is among others by a place, or before or after
+-- an element of a list, by index and by recursion
 among : (xs : List (List ℕ)) (d : List ℕ) → Contains xs d → Any (λ x. x ≡ d) xs
 among [] d (k, below, is) = absurd (omega (arith, below))
 among (x ∷ xs) d (zero, below, is) = inl is
 among (x ∷ xs) d (suc k, below, is) = inr (among xs d (k, omega (arith, below), is))
 
--- what is after a text in order is above it
+-- a text after another in a sorted list is greater
 above : (x d : List ℕ) (xs : List (List ℕ)) → AllByRecursion (λ y. slice_cmp nat_cmp x y ≡ Less) xs → Any (λ y. y ≡ d) xs → slice_cmp nat_cmp x d ≡ Less
 above x d [] all any = absurd any
 above x d (y ∷ xs) all (inl here) = subst (λ (z : List ℕ). slice_cmp nat_cmp x z ≡ Less) here all.0
 above x d (y ∷ xs) all (inr later) = above x d xs all.1 later
 
--- two lists in order that begin with texts of each other begin alike
+-- two sorted lists whose first texts are in each other have the same first text
 same_first : (x y : List ℕ) (xs ys : List (List ℕ)) → AllByRecursion (λ z. slice_cmp nat_cmp x z ≡ Less) xs → AllByRecursion (λ z. slice_cmp nat_cmp y z ≡ Less) ys → Any (λ z. z ≡ x) (y ∷ ys) → Any (λ z. z ≡ y) (x ∷ xs) → x ≡ y
 same_first x y xs ys over_x over_y (inl here) back = sym here
 same_first x y xs ys over_x over_y (inr later) (inl here) = here
 same_first x y xs ys over_x over_y (inr later) (inr also) = absurd (not_below_itself x (below_trans x y x (above x y xs over_x also) (above y x ys over_y later)))
 
--- what is after the first of one list is after that of the other
+-- a text after the first of one list is after the first of the other
 behind : (x y d : List ℕ) (xs ys : List (List ℕ)) → x ≡ y → AllByRecursion (λ z. slice_cmp nat_cmp x z ≡ Less) xs → Any (λ z. z ≡ d) xs → Any (λ z. z ≡ d) (y ∷ ys) → Any (λ z. z ≡ d) ys
 behind x y d xs ys same over any (inl here) = absurd (not_below_itself x (subst (λ (z : List ℕ). slice_cmp nat_cmp x z ≡ Less) (sym (same ∙ here)) (above x d xs over any)))
 behind x y d xs ys same over any (inr later) = later
 
--- two lists in order that have the same texts are one
+-- two sorted lists with the same texts are equal
 one_order : (xs ys : List (List ℕ)) → IsStrictlySortedBy (slice_cmp nat_cmp) xs → IsStrictlySortedBy (slice_cmp nat_cmp) ys → ((d : List ℕ) → Any (λ x. x ≡ d) xs → Any (λ x. x ≡ d) ys) → ((d : List ℕ) → Any (λ x. x ≡ d) ys → Any (λ x. x ≡ d) xs) → xs ≡ ys
 unfolding IsStrictlySortedBy
 one_order [] [] rise also to back = refl
@@ -68,7 +65,7 @@ contested g l [] other d each are any = absurd any
 contested g l (c ∷ cs) other d each are (inl here) = subst (λ (z : List ℕ). Any (λ x. x ≡ z) (map (λ (e : Conflict). e.destination) other)) here (among (map (λ (e : Conflict). e.destination) other) c.destination (are.every c.destination each.0.contested))
 contested g l (c ∷ cs) other d each are (inr later) = contested g l cs other d each.1 are later
 
--- a place has one text
+-- an index has one text
 one_text : (g : List Reading) (index : ℕ) (text other : List ℕ) → IsTextAt g index text → IsTextAt g index other → text ≡ other
 one_text g index text other (r, stands, prints) (q, stood, also) =
     let reading : q ≡ r = same_Some q r (sym stood ∙ stands) in
@@ -89,7 +86,7 @@ one_conflict g l c e same a b =
     (made_once (λ k m source. IsFirstTo to l k m × (source ≡ m.source)) (λ k m x y is_x is_y. is_x.1 ∙ sym is_y.1) 0 l c.sources e.sources a.sources sources)
     (made_once (λ k m text. IsFirstTo to l k m × IsTextAt g m.spec text) (λ k m x y is_x is_y. one_text g m.spec x y is_x.1 is_y.1) 0 l c.texts e.texts a.texts texts)
 
--- so lists of conflicts with the same destinations are one
+-- so lists of conflicts with the same destinations are equal
 one_list : (g : List Reading) (l : List Mapped) (cs other : List Conflict) → AllByRecursion (IsConflict g l) cs → AllByRecursion (IsConflict g l) other → map (λ (c : Conflict). c.destination) cs ≡ map (λ (c : Conflict). c.destination) other → cs ≡ other
 one_list g l [] [] a b same = refl
 one_list g l [] (e ∷ other) a b same = absurd (cc)

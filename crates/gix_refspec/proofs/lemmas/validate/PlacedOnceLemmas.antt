@@ -1,5 +1,5 @@
--- What a caller that writes out a validation needs: destinations of fixes are apart, the mappings of ids are those of
--- their specs, and canonical texts of fetches hold no control character.
+-- For a caller that writes out a validation: destinations of fixes are distinct, the mappings of ids are those of their
+-- specs, and canonical texts of fetches contain no control character.
 use Rattle.std.proofs.Common.{◌≡◌, ◌≢◌, inl, inr, ℕ, ◌+◌, ◌<◌, ◌==◌, Bool, true, false, if◌then◌else◌, IsTrue, List, [], ◌∷◌, ◌++◌, Option, None, Some, length, length-append, map, refl, sym, ap, ◌∙◌, subst, arith}
 use Rattle.std.specs.List.{AllByRecursion, slice_get}
 use Rattle.std.proofs.lemmas.List.{append_assoc}
@@ -28,7 +28,7 @@ use Rattle.gix_refspec_text.proofs.lemmas.lists.AllLemmas.{all_left, all_right, 
 
 -- ---- fixes
 
--- what no mapping meets, no fix has as its destination
+-- a destination that no mapping shares isn't that of a fix
 others_apart : (g : List Reading) (x : Mapped) (d : List ℕ) → x.destination ≡ Some d → (k : ℕ) (xs : List Mapped) (fixes : List Removed) → AllByRecursion (λ n. ¬ (ShareDestination x n)) xs → IsMadeFrom (λ j m fix. IsFix g m fix) k xs fixes → AllByRecursion (λ h. h.destination ≢ d) fixes
 others_apart g x d goes k [] fixes none empty = subst (AllByRecursion (λ h. h.destination ≢ d)) (sym empty) tt
 others_apart g x d goes k (y ∷ xs) fixes none (None, rest, no_fix, more, is) = subst (AllByRecursion (λ h. h.destination ≢ d)) (sym is) (others_apart g x d goes (k + 1) xs rest none.1 more)
@@ -66,7 +66,7 @@ kept_of_specs g items l kept =
     stays_each (λ k m. IsKeptAt g kept.all k m) (IsOfItsSpec g) 0 kept.all l
     (subst (AllByRecursion (IsOfItsSpec g)) (sym are.all) (all_join (IsOfItsSpec g) are.ids (map forward_of are.hits) (ids_of_specs g [] g 0 are.ids refl refl are.are_ids) (hits_have_items g are.hits))) kept.is
 
--- so two of one spec have one source
+-- so two mappings of one spec without an item have the same source
 pub one_id : (g : List Reading) (m n : Mapped) → IsOfItsSpec g m → IsOfItsSpec g n → m.item ≡ None → n.item ≡ None → m.spec ≡ n.spec → m.source ≡ n.source
 one_id g m n of_m of_n no_m no_n spec =
     let (r, here, is) = of_m no_m in
@@ -78,7 +78,7 @@ one_id g m n of_m of_n no_m no_n spec =
 
 -- ---- canonical texts
 
--- a fetch, whose sides hold no byte b
+-- a fetch, whose sides contain no byte b
 record IsClearFetch (b : ℕ) (r : Reading) : Type 0 where
   mode : Mode
   source : List ℕ
@@ -88,7 +88,7 @@ record IsClearFetch (b : ℕ) (r : Reading) : Type 0 where
   is : r ≡ fetched mode source destination
 
 module _ (b : ℕ) (below : b < 32) (refused : IsTrue (is_refused_byte b)) where
-  -- names and patterns hold no such byte
+  -- names and patterns contain no such byte
   name_lacks : (x : List ℕ) → IsName x → Lacks b x
   name_lacks x name = Lacks-from_absent b x (λ holds. name (InvalidByte b) (holds, refused))
 

@@ -1,4 +1,4 @@
--- What tells apart the mappings and the fixes that a validation leaves.
+-- A validation leaves no duplicate mappings and no duplicate fixes.
 use Rattle.std.proofs.Common.{◌≡◌, ℕ, List, [], ◌∷◌, Option, None, Some, refl, sym, ap, ◌∙◌}
 use Rattle.std.specs.List.{AllByRecursion}
 use Rattle.gix_refspec_text.specs.Specs.Reading.{Reading}
@@ -14,7 +14,7 @@ use Rattle.gix_refspec.proofs.lemmas.validate.PlacedOnceLemmas.{IsOfItsSpec, fix
 one_ref : (r q : Ref) → Some r ≡ Some q → r ≡ q
 one_ref r q same = cc
 
--- two mappings of one spec and one item have one source
+-- two mappings of one spec and one item have the same source
 one_start : (g : List Reading) (items : List Ref) (m n : Mapped) → ForwardIndexes g items m → ForwardIndexes g items n → IsOfItsSpec g m → IsOfItsSpec g n → m.spec ≡ n.spec → m.item ≡ n.item → (i : Option ℕ) → m.item ≡ i → m.source ≡ n.source
 one_start g items m n at_m at_n of_m of_n spec item None is = one_id g m n of_m of_n is (sym item ∙ is) spec
 one_start g items m n at_m at_n of_m of_n spec item (Some j) is =

@@ -1,4 +1,4 @@
--- Mappings that are parted by their names, and what holds of those that are kept.
+-- Mappings that are split by their ref names, and what holds of the kept ones.
 use Rattle.std.proofs.Common.{◌≡◌, ◌≢◌, inl, inr, ℕ, ◌+◌, ◌<◌, ◌≤◌, List, [], ◌∷◌, ◌++◌, Option, None, Some, length, map, get_or, option_map, codes, refl, sym, ap, ◌∙◌, subst, append_assoc, arith}
 use Rattle.std.specs.List.{AllByRecursion}
 use Rattle.std.specs.List.{list_any}
@@ -26,13 +26,13 @@ use Rattle.gix_refspec.proofs.lemmas.validate.ConflictLemmas.{copied_name, copie
 use Rattle.gix_refspec_text.proofs.lemmas.texts.HeadLemmas.{IsName-head}
 use Rattle.gix_refspec_match.proofs.lemmas.keep.KeptLemmas.{kept_once}
 
--- a mapping of which a side is bad isn't named
+-- a mapping with an invalid side doesn't have ref names
 pub bad_unnamed : (side : InvalidSide) (m : Mapped) → IsInvalidAt side m → ¬ (HasRefNames m)
 bad_unnamed Source m bad named = bad.0 named.source
 bad_unnamed Destination m bad named = bad.1 named.destination
 bad_unnamed Both m bad named = bad.0 named.source
 
--- nor are all of a list that has it
+-- nor do all mappings of a list that has it
 pub some_unnamed : (ms : List Mapping) (i : ℕ) (m : Mapping) (side : InvalidSide) → i < length ms → m ≡ get_or ms i m → IsInvalidAt side (mapped_of m) → ¬ (AllByRecursion HasRefNames (map mapped_of ms))
 some_unnamed ms i m side below is bad all =
     let named = All-from_recursion HasRefNames (map mapped_of ms) all i (mapped_of m) (omega (arith, below, length-map ms mapped_of)) in
@@ -57,11 +57,11 @@ name_of_ref : (n : List ℕ) → IsRefName n → IsName n
 name_of_ref n (inl full) = full.1
 name_of_ref n (inr is) = subst IsName (sym is) IsName-head
 
-strip_refs : (n : List ℕ) → IsRefName n → BeginsWith (codes "refs/") n ⊎ (n ≡ head)
-strip_refs n (inl full) = inl full.0
-strip_refs n (inr is) = inr is
+below_refs : (n : List ℕ) → IsRefName n → BeginsWith (codes "refs/") n ⊎ (n ≡ head)
+below_refs n (inl full) = inl full.0
+below_refs n (inr is) = inr is
 
--- each component of a name is there, and begins with no dot
+-- no component of a name is empty or begins with a dot
 components_fine : (n : List ℕ) → IsName n → (before parts : List (List ℕ)) → ArePartsAt slash (before ++ parts) n → AllByRecursion (λ w. (w ≢ []) × ¬ (BeginsWith (codes ".") w)) parts
 components_fine n is before [] are = tt
 components_fine n is before (w ∷ after) are = (
@@ -92,7 +92,7 @@ bytes_fine n is before (b ∷ rest) here = (
 pub stays_among_refs : (n : List ℕ) → IsRefName n → StaysAmongRefs n
 stays_among_refs n ref =
     let is = name_of_ref n ref in
-    record { below = strip_refs n ref; components = λ parts are. components_fine n is [] parts are; bytes = bytes_fine n is [] n refl }
+    record { below = below_refs n ref; components = λ parts are. components_fine n is [] parts are; bytes = bytes_fine n is [] n refl }
 
 -- ---- what is kept
 
@@ -108,7 +108,7 @@ each_writes : (l : List Mapped) → AllByRecursion HasRefNames l → AllByRecurs
 each_writes [] all = tt
 each_writes (m ∷ l) all = (named_writes m all.0, each_writes l all.1)
 
--- what is kept of mappings that never meet doesn't either
+-- kept mappings have distinct destinations, if all have
 never_meets : (k : ℕ) (l named : List Mapped) → HaveDistinctDestinations l → IsMadeFrom (λ j m made. (made ≡ m) × HasRefNames m) k l named → HaveDistinctDestinations named
 never_meets k [] named apart empty = subst HaveDistinctDestinations (sym empty) tt
 never_meets k (m ∷ l) named apart (None, rest, none, more, is) = subst HaveDistinctDestinations (sym is) (never_meets (k + 1) l rest apart.1 more)

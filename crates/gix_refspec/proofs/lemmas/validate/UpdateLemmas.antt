@@ -1,4 +1,4 @@
--- Updates in order, and where they are cut.
+-- Sorted updates, and where they are split.
 use Rattle.std.proofs.Common.{◌≡◌, ◌≢◌, ◌⊎◌, inl, inr, ◌↔◌, ℕ, zero, suc, ◌+◌, ◌<◌, ◌≤◌, List, [], ◌∷◌, ◌++◌, None, Some, option_map, Bool, true, false, not, length, map, take, drop, get_or, refl, sym, ap, ◌∙◌, subst, arith}
 use Rattle.std.specs.List.{AllByRecursion, Contains, slice_get}
 use Rattle.std.specs.List.Sorted.{IsPermutation, IsSorted, IsStrictlySortedBy}
@@ -10,7 +10,7 @@ use Rattle.std.specs.Cmp.Lexicographic.{slice_cmp, nat_list_cmp_total}
 use Rattle.std.proofs.lemmas.Bool.{cases_lt, false≢true, not-false, not-true}
 use Rattle.std.proofs.lemmas.Slice.Eq.{bytes_eq-Decides}
 use Rattle.std.specs.Str.{bytes_eq}
-use Rattle.std.proofs.lemmas.Cmp.{by_ranked, nat_cmp_total, on_total, ranked, then_total, tied_itself}
+use Rattle.std.proofs.lemmas.Cmp.{by_ranked, nat_cmp_total, on_total, ranked, then_total}
 use Rattle.std.proofs.lemmas.List.{get_or-map, length-map, map-append, take-append-drop, drop_more, length-drop}
 use Rattle.std.proofs.lemmas.List.Sorted.{Contains-permutation, IsPermutation-map, IsPermutation-sym, ranks_by, sorted_far}
 use Rattle.std.proofs.lemmas.Option.{slice_get-map, slice_get_read, slice_get_within}
@@ -26,7 +26,7 @@ use Rattle.gix_refspec_match.proofs.lemmas.keep.RepeatLemmas.{Rises-push, apart_
 use Rattle.gix_refspec_text.proofs.lemmas.lists.AllLemmas.{all_left, all_right, all_join, all_weaker}
 use Rattle.gix_refspec_text.proofs.lemmas.lists.NumberLemmas.{upto}
 
--- there are the updates of the mappings before place p that have a destination and aren't flagged, by place
+-- the updates of the mappings before index p that have a destination and aren't flagged, by index
 pub record AreUpdatesUpto (l : List Mapped) (flags : List Bool) (p : ℕ) (cs : List Update) : Type 0 where
   pub are : (k : ℕ) (d : List ℕ) → HasUpdate cs k d ↔ ((k < p) × (GoesTo l k d × ¬ (IsFlagged flags k)))
   pub rises : Rises (updated_indexes cs)
@@ -57,7 +57,7 @@ less_of_two Less b is = inl refl
 less_of_two Equal b is = inr (refl, is)
 less_of_two Greater b is = absurd (cc)
 
--- what is later is to a later destination, or to the same one from a later place
+-- a greater update has a greater destination, or the same one and a greater index
 pub later : (x y : Update) → update_cmp x y ≡ Less → (slice_cmp nat_cmp x.destination.now y.destination.now ≡ Less) ⊎ ((x.destination.now ≡ y.destination.now) × (x.index < y.index))
 later x y is = elim (less_of_two (slice_cmp nat_cmp x.destination.now y.destination.now) (nat_cmp x.index y.index) is) [
   | inl less ↦ inl less
@@ -91,7 +91,7 @@ turned Less r is told apart = absurd (false≢true (sym told))
 turned Equal r is told apart = absurd (apart refl)
 turned Greater r is told apart = is
 
--- updates that are sorted are strictly so, since their places differ
+-- sorted updates are strictly increasing, since their indexes differ
 strict_from_sorted : (xs ys : List Update) → IsPermutation xs ys → Rises (updated_indexes xs) → IsSorted update_cmp ys → IsStrictlySortedBy update_cmp ys
 strict_from_sorted xs ys moved rises sorted =
     let weak : IsStrictWeakOrder (λ (x : Update) (y : Update). is_lt (update_cmp x y)) = ranks_by update_total (λ (c : Update). c) in
@@ -103,7 +103,7 @@ strict_from_sorted xs ys moved rises sorted =
     (λ tied. apart_places (updated_indexes xs) (updated_indexes ys) (IsPermutation-map (λ (c : Update). c.index) xs ys moved) rises i j 0 before (omega (arith, length-map ys (λ (c : Update). c.index)))
     (get_or-map (λ (c : Update). c.index) ys i d 0 (omega arith) ∙ sym (same_from_cmp y.index x.index (both_equal (slice_cmp nat_cmp y.destination.now x.destination.now) (nat_cmp y.index x.index) tied).1) ∙ sym (get_or-map (λ (c : Update). c.index) ys j d 0 below))))
 
--- an update of some, as one that they contain
+-- an update of a list, as an element of it
 update_within : (cs : List Update) (k : ℕ) (d : List ℕ) → HasUpdate cs k d → (c : Update) × Contains cs c × (c.index ≡ k) × (c.destination.now ≡ d)
 update_within [] k d has = absurd has
 update_within (c ∷ cs) k d (inl is) = (c, (0, omega arith, refl), is.0, is.1)
@@ -137,7 +137,7 @@ HasUpdate-cases (x ∷ xs) ys k d (inr has) = elim (HasUpdate-cases xs ys k d ha
   | inr right ↦ inr right
 ]
 
--- all updates that were made, in order, are those of all mappings
+-- the sorted updates are those of all mappings
 pub updates_sorted : (l : List Mapped) (flags : List Bool) (p : ℕ) (cs new : List Update) → length l ≤ p → AreUpdatesUpto l flags p cs → IsPermutation cs new → IsSorted (λ (x : Update) (y : Update). ordering_then (slice_cmp nat_cmp x.destination.now y.destination.now) (nat_cmp x.index y.index)) new → AreUpdates l flags new
 updates_sorted l flags p cs new past made moved sorted = record {
   are = λ k d. (
@@ -154,7 +154,7 @@ one_index l k d e (m, is_m, to_d) (n, is_n, to_e) =
     let both : Some d ≡ Some e = sym to_d ∙ ap (λ (x : Mapped). x.destination) one ∙ to_e in
     cc
 
--- one more update
+-- one more update is appended
 pub updates_more : (l : List Mapped) (flags : List Bool) (cs new : List Update) (c : Update) → new ≡ cs ++ c ∷ [] → GoesTo l c.index c.destination.now → ¬ (IsFlagged flags c.index) → AreUpdatesUpto l flags c.index cs → AreUpdatesUpto l flags (c.index + 1) new
 updates_more l flags cs new c is goes unflagged made =
     let indexes : updated_indexes new ≡ updated_indexes cs ++ c.index ∷ [] = ap updated_indexes is ∙ map-append (λ (x : Update). x.index) cs (c ∷ []) in record {
@@ -179,7 +179,7 @@ updates_more l flags cs new c is goes unflagged made =
     )
     only (inr none) = absurd none
 
--- a mapping that makes no update
+-- a mapping without a destination, or with a flag, adds no update
 pub updates_same : (l : List Mapped) (flags : List Bool) (p : ℕ) (cs : List Update) → ((d : List ℕ) → GoesTo l p d → ¬ (IsFlagged flags p) → ⊥) → AreUpdatesUpto l flags p cs → AreUpdatesUpto l flags (p + 1) cs
 updates_same l flags p cs none made = record {
   are = λ k d. (
@@ -199,7 +199,7 @@ differ_from_test xs ys b is told same = false≢true (sym (not-true (bytes_eq xs
 pub same_from_test : (xs ys : List ℕ) (b : Bool) → b ≡ not (bytes_eq xs ys) → b ≡ false → xs ≡ ys
 same_from_test xs ys b is told = (bytes_eq-Decides xs ys).0 (not-false (bytes_eq xs ys) (sym is ∙ told))
 
--- what is after an update of a destination after x is to one after x too
+-- if the destination of an update is greater than x, so is that of a greater update
 behind : (x : List ℕ) (o y : Update) → slice_cmp nat_cmp x o.destination.now ≡ Less → update_cmp o y ≡ Less → slice_cmp nat_cmp x y.destination.now ≡ Less
 behind x o y first is = elim (later o y is) [
   | inl less ↦ below_trans x o.destination.now y.destination.now first less
@@ -216,7 +216,8 @@ all_behind x (c ∷ cs) strict from other =
     ] in
     (first, all_weaker (λ y. update_cmp c y ≡ Less) (λ y. slice_cmp nat_cmp x y.destination.now ≡ Less) (λ y is. behind x c y first is) cs strict.0)
 
--- where the updates before a place are to the first one's destination, and that there is not, the place cuts them
+-- if the updates before an index have the first one's destination, and the one at the index hasn't, the index splits
+-- off a run
 pub split_at : (cs : List Update) (n : ℕ) (d : Update) → 0 < length cs → IsStrictlySortedBy update_cmp cs → AllByRecursion (λ c. c.destination.now ≡ (get_or cs 0 d).destination.now) (take n cs) → (n < length cs → (get_or cs n d).destination.now ≢ (get_or cs 0 d).destination.now) → IsRun (take n cs) (drop n cs)
 unfolding IsStrictlySortedBy
 split_at [] n d some strict same end = absurd (omega arith)
@@ -244,7 +245,7 @@ split_at (h ∷ cs) (suc n) d some strict same end =
       | inr tied ↦ inr tied.0
     ]
 
--- the mapping at a place, as plain data
+-- the mapping at an index, as plain data
 pub mapped_at : (ms : List Mapping) (k : ℕ) (m : Mapping) → k < length ms → m ≡ get_or ms k m → slice_get (map mapped_of ms) k ≡ Some (mapped_of m)
 mapped_at ms k m below is = slice_get-map mapped_of ms k ∙ ap (option_map mapped_of) (slice_get_read ms (length ms) k m refl below is)
 

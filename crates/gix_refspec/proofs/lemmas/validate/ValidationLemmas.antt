@@ -1,10 +1,10 @@
--- What a validation removes, and what holds of the rest.
+-- What a validation removes, and what holds of the remaining mappings.
 use Rattle.std.proofs.Common.{◌≡◌, ◌↔◌, ℕ, ◌+◌, ◌<◌, List, [], ◌∷◌, ◌++◌, Option, None, Some, option_map, option_to_list, Bool, true, false, length, map, take, get_or, refl, sym, ap, ◌∙◌, subst, arith}
 use Rattle.std.specs.List.Retain.{ReturnsInTurn, IsFiltered}
 use Rattle.std.specs.List.{AllByRecursion, items_where_true}
 use Rattle.std.specs.Prelude.{MatchOption}
 use Rattle.std.proofs.lemmas.Bool.{false≢true}
-use Rattle.std.proofs.lemmas.List.{append-nil, length-map, map_more}
+use Rattle.std.proofs.lemmas.List.{append-nil, map_more}
 use Rattle.std.proofs.lemmas.Option.{slice_get-map, slice_get_read}
 use Rattle.gix_refspec_match.specs.declared.types.Mapping.{Mapping}
 use Rattle.gix_refspec_match.specs.declared.types.NameRef.{NameRef}
@@ -17,36 +17,35 @@ use Rattle.gix_refspec_match.specs.Matching.Lists.{MakesOf, IsMadeFrom}
 use Rattle.gix_refspec_match.specs.Matching.Mappings.{Mapped}
 use Rattle.gix_refspec_match.specs.Views.Mapping.{mapped_of, name_bytes}
 use Rattle.gix_refspec.specs.Views.Issue.{conflict_of, removed_of}
-use Rattle.gix_refspec.specs.Matching.Validation.{AreConflicts, AreFixes, AreSurvivors, IndexesFit, IsFix, IsValidated, IsWritable, Removed, Survives}
+use Rattle.gix_refspec.specs.Matching.Validation.{AreConflicts, AreFixes, AreSurvivors, IsFix, IsValidated, IsWritable, Removed, Survives}
 use Rattle.gix_refspec_match.proofs.lemmas.lists.JoinLemmas.{made_next, map_long}
 use Rattle.gix_refspec_text.proofs.lemmas.lists.AllLemmas.{all_join}
 
--- what is made of one more mapping
+-- elements made of one more mapping are appended
 made_of_next : {Y : Type 0} (R : ℕ → Mapped → Y → Type 0) (ms : List Mapping) (i : ℕ) (m : Mapping) (ys : List Y) (made : Option Y) → i < length ms → m ≡ get_or ms i m → IsMadeFrom R 0 (map mapped_of (take i ms)) ys → MakesOf R i (mapped_of m) made → IsMadeFrom R 0 (map mapped_of (take (i + 1) ms)) (ys ++ option_to_list made)
 made_of_next R ms i m ys made below is so_far makes =
     subst (λ (l : List Mapped). IsMadeFrom R 0 l (ys ++ option_to_list made)) (ap (λ (x : Mapping). map mapped_of (take i ms) ++ mapped_of x ∷ []) is ∙ sym (map_more mapped_of ms i m below))
     (made_next R i (map mapped_of (take i ms)) (mapped_of m) ys made (map_long mapped_of ms i below) so_far makes)
 
--- a mapping of which nothing is made
+-- nothing is made of one more mapping
 pub nothing_more : {Y : Type 0} (R : ℕ → Mapped → Y → Type 0) (ms : List Mapping) (i : ℕ) (m : Mapping) (ys : List Y) → i < length ms → m ≡ get_or ms i m → ((y : Y) → ¬ (R i (mapped_of m) y)) → IsMadeFrom R 0 (map mapped_of (take i ms)) ys → IsMadeFrom R 0 (map mapped_of (take (i + 1) ms)) ys
 nothing_more {Y} R ms i m ys below is none so_far = subst (λ (xs : List Y). IsMadeFrom R 0 (map mapped_of (take (i + 1) ms)) xs) (append-nil ys) (made_of_next R ms i m ys None below is so_far none)
 
--- and one of which something is
+-- and one element is made
 pub one_more : {Y : Type 0} (R : ℕ → Mapped → Y → Type 0) (ms : List Mapping) (i : ℕ) (m : Mapping) (ys new : List Y) (y : Y) → i < length ms → m ≡ get_or ms i m → new ≡ ys ++ y ∷ [] → R i (mapped_of m) y → IsMadeFrom R 0 (map mapped_of (take i ms)) ys → IsMadeFrom R 0 (map mapped_of (take (i + 1) ms)) new
 one_more {Y} R ms i m ys new y below is pushed one so_far = subst (λ (xs : List Y). IsMadeFrom R 0 (map mapped_of (take (i + 1) ms)) xs) (sym pushed) (made_of_next R ms i m ys (Some y) below is so_far one)
 
--- one more mapping that is as P says
+-- one more mapping of which P holds
 pub all_next : (P : Mapped → Type 0) (ms : List Mapping) (i : ℕ) (m : Mapping) → i < length ms → m ≡ get_or ms i m → P (mapped_of m) → AllByRecursion P (map mapped_of (take i ms)) → AllByRecursion P (map mapped_of (take (i + 1) ms))
 all_next P ms i m below is one so_far =
     subst (λ (l : List Mapped). AllByRecursion P l) (ap (λ (x : Mapping). map mapped_of (take i ms) ++ mapped_of x ∷ []) is ∙ sym (map_more mapped_of ms i m below))
     (all_join P (map mapped_of (take i ms)) (mapped_of m ∷ []) so_far (one, tt))
 
--- something was added, so the list isn't empty
 pub not_empty : {X : Type 0} (xs new : List X) (x : X) → new ≡ xs ++ x ∷ [] → ¬ (new ≡ [])
 not_empty [] new x grown empty = absurd (cc)
 not_empty (y ∷ xs) new x grown empty = absurd (cc)
 
--- of a list that is as P says all is kept
+-- if P holds of a whole list, all of it is kept
 pub kept_whole : (P : Mapped → Type 0) (k : ℕ) (l : List Mapped) → AllByRecursion P l → IsMadeFrom (λ j m made. (made ≡ m) × P m) k l l
 kept_whole P k [] all = refl
 kept_whole P k (m ∷ l) all = (Some m, l, (refl, all.0), kept_whole P (k + 1) l all.1, refl)
@@ -74,7 +73,7 @@ fix_of specs m n spec fix to unwritable below is destination reads = record {
   spec = slice_get-map reading_of specs m.spec_index ∙ ap (option_map reading_of) (slice_get_read specs (length specs) m.spec_index spec refl below is) ∙ ap Some (sym reads);
 }
 
--- what a test keeps that tells which mappings are as P says
+-- a filter by a test that decides P keeps the mappings of which P holds
 module _ {F : Type 0} (P : Mapped → Type 0) (R : F → Mapping → Bool → F → Type 0) (tells : (p : F) (m : Mapping) (b : Bool) (q : F) → R p m b q → (b ≡ true) ↔ P (mapped_of m)) where
   kept_so : (k : ℕ) (p q : F) (bs : List Bool) (ms : List Mapping) → length bs ≡ length ms → ReturnsInTurn R p bs ms q → IsMadeFrom (λ j m made. (made ≡ m) × P m) k (map mapped_of ms) (map mapped_of (items_where_true bs ms))
   kept_so k p q [] [] size told = refl
@@ -86,7 +85,7 @@ module _ {F : Type 0} (P : Mapped → Type 0) (R : F → Mapping → Bool → F 
   pub filtered_so : (p : F) (ms rest : List Mapping) → IsFiltered R p ms rest → IsMadeFrom (λ j m made. (made ≡ m) × P m) 0 (map mapped_of ms) (map mapped_of rest)
   filtered_so p ms rest (bs, q, size, told, is) = subst (λ (xs : List Mapping). IsMadeFrom (λ j m made. (made ≡ m) × P m) 0 (map mapped_of ms) (map mapped_of xs)) (sym is) (kept_so 0 p q bs ms size told)
 
--- without an issue, the fixes and those that survive are what a validation gives
+-- without an issue, the fixes and the survivors are the result of a validation
 pub validated_so : (lent specs : List RefSpecRef) (front back ms : List Mapping) (issues : List Issue) (fixes : List Fix) (rest : List Mapped) → lent ≡ specs → front ≡ ms → back ≡ ms → issues ≡ [] → AreConflicts (map reading_of lent) (map mapped_of front) (map conflict_of issues) → AreFixes (map reading_of lent) (map mapped_of back) (map removed_of fixes) → AreSurvivors (map mapped_of ms) rest → IsValidated (map reading_of specs) (map mapped_of ms) rest (map removed_of fixes)
 validated_so lent specs front back ms issues fixes rest same same_front same_back none conflicts fixed survive =
     let g = map reading_of specs in

@@ -1,7 +1,8 @@
 //! Destinations that several sources are mapped to.
 //!
-//! They are found by sorting, so that no names make it slow. Mostly no two destinations have one
-//! hash, and nothing else is sorted.
+//! They are found by sorting, so that no choice of names makes it slow. The hashes of the destinations
+//! are sorted first: if they all differ, as they mostly do, there is no conflict, and nothing else is
+//! sorted.
 
 ghost use Rattle.std.specs.Prelude.{◌≡◌, ◌≢◌, ◌<◌, ◌≤◌, [], List, ℕ, length, map, take, drop, IfOk, OnOk, OnErr, IsTrue};
 ghost use Rattle.std.specs.List.Sorted.{IsStrictlySortedBy};
@@ -21,7 +22,7 @@ use gix_refspec_match::types::Mapping;
 use gix_refspec_text::RefSpecRef;
 use std::alloc::{AllocError, Global};
 
-// A destination, and the place of a mapping to it.
+// A destination, and the index of a mapping to it.
 #[derive(Clone, Copy, PartialEq, Eq, PartialOrd, Ord)]
 struct Update<'m> {
     destination: &'m [u8],
@@ -50,8 +51,8 @@ pub(crate) fn issues_of(
     issues_among(alloc, specs, mappings, firsts.as_slice())
 }
 
-// Whether the destinations all have different hashes, as different names mostly have. Numbers are
-// sorted faster than names.
+// Whether the hashes of all destinations differ: then there is no conflict. Numbers are sorted faster
+// than names.
 fn destinations_differ(alloc: Global, mappings: &[Mapping<'_, '_>]) -> Result<bool, AllocError>
     ensures { IfOk result (λ differ. IsTrue differ →
         (d : List ℕ) → ¬ (HasConflictAt (map mapped_of mappings.now) d)) }
@@ -61,7 +62,7 @@ fn destinations_differ(alloc: Global, mappings: &[Mapping<'_, '_>]) -> Result<bo
     Ok(rise(hashes.as_slice()))
 }
 
-// Whether each number is below the next one.
+// Whether the numbers are strictly increasing.
 fn rise(numbers: &[u64]) -> bool
     ensures { IsTrue result → Rises numbers.now }
 {
@@ -73,7 +74,7 @@ fn rise(numbers: &[u64]) -> bool
     true
 }
 
-// The hashes of the destinations that are there.
+// The hashes of the destinations, without missing ones.
 fn hashes_of(alloc: Global, mappings: &[Mapping<'_, '_>]) -> Result<Vec<u64>, AllocError>
     ensures { IfOk result (λ hashes. hashes.items ≡
         destination_hashes (map mapped_of mappings.now)) }
@@ -87,7 +88,8 @@ fn hashes_of(alloc: Global, mappings: &[Mapping<'_, '_>]) -> Result<Vec<u64>, Al
     Ok(hashes)
 }
 
-// The updates of the mappings that have a destination and aren't flagged, in order.
+// The updates of the mappings that have a destination and aren't flagged, by destination and then by
+// index.
 fn updates_in_order<'m>(
     alloc: Global,
     mappings: &'m [Mapping<'_, '_>],
@@ -111,7 +113,7 @@ fn updates_in_order<'m>(
     Ok(updates)
 }
 
-// The conflicts of updates that are each the first of its source.
+// The conflicts of sorted updates, each the first from its source to its destination.
 fn issues_among(
     alloc: Global,
     specs: &[RefSpecRef<'_>],
@@ -154,7 +156,7 @@ fn add_issue(
     Ok(())
 }
 
-// How many of some updates in order, from the first on, have its destination.
+// How many of the sorted updates, from the first on, have the first one's destination.
 fn len_of_run(updates: &[Update<'_>]) -> usize
     requires some { 0 < length updates.now }
     requires order { IsStrictlySortedBy update_cmp updates.now }

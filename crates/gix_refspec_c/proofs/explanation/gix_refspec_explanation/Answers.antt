@@ -1,4 +1,4 @@
--- The sentence is what is before the NUL, of good calls and of the failure with the number.
+-- The sentence is the text before the NUL, for 0 and for the number of each failure.
 use Rattle.std.proofs.Common.{refl}
 use Rattle.gix_refspec_c.specs.Explanation.{said, well}
 use Rattle.gix_refspec_c.specs.Outcome.{done}

@@ -1,4 +1,4 @@
--- What is put into the lists tells of the mappings, and what the call ended with is answered.
+-- The slices get the listing of the mappings, and the outcome is the number of the result.
 use Rattle.std.proofs.Common.{inr, map, refl}
 use Rattle.std.proofs.lemmas.Result.{on_ok_weaker}
 use Rattle.gix_refspec_c.specs.Group.{bytes_of}

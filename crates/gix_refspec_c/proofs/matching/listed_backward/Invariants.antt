@@ -1,4 +1,4 @@
--- the listing tells of the mappings so far
+-- the listing is that of the mappings so far
 use Rattle.std.proofs.Common.{map, take}
 use Rattle.gix_refspec.specs.Views.Group.{mapped_of, readings_of}
 use Rattle.gix_refspec_c.specs.Mapping.{Tells, backward_entry}

@@ -1,4 +1,4 @@
--- One mapping more is told of.
+-- One more mapping is listed.
 use Rattle.gix_refspec.specs.Views.Group.{mapped_of, readings_of}
 use Rattle.gix_refspec_c.specs.Mapping.{forward_entry}
 use Rattle.gix_refspec_c.proofs.MatchingLemmas.{tells_more, entries_more}

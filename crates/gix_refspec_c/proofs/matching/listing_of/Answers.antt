@@ -1,4 +1,4 @@
--- What is listed tells of what stays over names with the null id.
+-- The listing is that of the mappings kept over the names with the null id.
 use Rattle.std.proofs.Common.{List, map, sym, ap, ◌∙◌, subst}
 use Rattle.gix_refspec_match.specs.declared.types.Mapping.{Mapping}
 use Rattle.gix_refspec.specs.Views.Group.{mapped_of, readings_of, ref_of}

@@ -1,4 +1,4 @@
--- The texts weren't read, or what was put into the lists tells of a plan with a conflict.
+-- The texts weren't read, or the slices get a plan with a conflict.
 use Rattle.std.proofs.Common.{Bool, Err, inl, inr, map, refl, subst}
 use Rattle.gix_refspec_c.specs.declared.failure.Failure.TheVariants.{InConflict}
 use Rattle.gix_refspec_c.specs.Group.{bytes_of}

@@ -1,4 +1,4 @@
--- The search is by the destination of each conflict.
+-- The binary search compares the destinations of the conflicts.
 use Rattle.std.proofs.Common.{IsTrue, ◌↔◌, Bool, rules, sym, subst}
 use Rattle.std.specs.List.{Contains}
 use Rattle.std.specs.Ordering.{nat_cmp}

@@ -1,4 +1,4 @@
--- One mapping more is judged, and told of.
+-- One more mapping is listed with its verdict.
 use Rattle.std.proofs.Common.{ap, ◌++◌, ◌∷◌, [], refl}
 use Rattle.std.specs.List.{Contains}
 use Rattle.gix_refspec.specs.Views.Group.{mapped_of, readings_of}

@@ -1,4 +1,4 @@
--- the mappings so far are judged, and the listing tells of them
+-- the listing is that of the mappings so far, with their verdicts
 use Rattle.std.proofs.Common.{List, map, take}
 use Rattle.std.specs.List.{AllZip, Contains}
 use Rattle.gix_refspec.specs.Views.Group.{mapped_of, readings_of}

@@ -1,4 +1,4 @@
--- What is told of the mappings that stay over names with the null id is a plan.
+-- The listing of the mappings kept over the names with the null id is a plan.
 use Rattle.std.proofs.Common.{List, map, sym, ap, ◌∙◌, subst}
 use Rattle.std.specs.Prelude.{not}
 use Rattle.std.specs.List.{AllZip, Contains}

@@ -1,4 +1,4 @@
--- Both sides are good, and the destination is none of a conflict.
+-- The last verdict: both sides are valid, and the destination isn't that of a conflict.
 use Rattle.std.proofs.Common.{Some, sym, ap, ◌∙◌}
 use Rattle.std.specs.Prelude.{not}
 use Rattle.std.specs.List.{Contains}

@@ -1,4 +1,4 @@
--- What is put into the buffer is what the spec expands to.
+-- The expansion of the spec is written to the buffer.
 use Rattle.std.proofs.Common.{List, ℕ, inr, refl, subst, sym}
 use Rattle.std.proofs.lemmas.Result.{on_ok_weaker}
 use Rattle.gix_refspec.specs.Views.Spec.{reading_of}

@@ -1,4 +1,4 @@
--- The entries are appended to none, and each gets its newline.
+-- The entries are appended to an empty vector, and each gets its newline.
 use Rattle.std.proofs.Common.{◌∙◌, ◌++◌, List, ℕ, map, ap, subst, sym}
 use Rattle.std.proofs.lemmas.Result.{IfOk-weaker}
 use Rattle.bstr.specs.Owned.{bstring_bytes}

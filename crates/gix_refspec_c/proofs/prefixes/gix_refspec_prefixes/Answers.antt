@@ -1,4 +1,4 @@
--- What the call ended with is answered.
+-- The outcome is the number of the result.
 use Rattle.gix_refspec_c.specs.Reading.{code_of}
 use Rattle.gix_refspec_c.proofs.OutcomeLemmas.{answered}
 use Rattle.gix_refspec_c.proofs.prefixes.gix_refspec_prefixes.Goals as goal

@@ -1,4 +1,4 @@
--- The lines are those of the names to ask for.
+-- The lines are those of the ref prefixes.
 use Rattle.std.proofs.Common.{map, ap, ◌∙◌}
 use Rattle.bstr.specs.Owned.{bstring_bytes}
 use Rattle.gix_refspec.specs.Views.Group.{readings_of}

@@ -1,4 +1,4 @@
--- What the library answers is told by the failure.
+-- The failure reports the error of the library.
 use Rattle.gix_refspec_c.proofs.OutcomeLemmas.{unread}
 use Rattle.gix_refspec_c.proofs.reading.read.Goals as goal
 

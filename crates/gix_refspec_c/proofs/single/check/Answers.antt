@@ -1,4 +1,4 @@
--- What was read has a reading.
+-- A text that was read has a reading.
 use Rattle.gix_refspec.specs.Views.Spec.{reading_of}
 use Rattle.gix_refspec_c.proofs.single.check.Goals as goal
 

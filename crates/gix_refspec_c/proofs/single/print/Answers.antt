@@ -1,4 +1,4 @@
--- What is put into the buffer is the canonical text.
+-- The canonical text is written to the buffer.
 use Rattle.std.proofs.Common.{Some, inr, refl, ap, sym, ◌∙◌}
 use Rattle.std.proofs.lemmas.Result.{on_ok_weaker}
 use Rattle.gix_refspec.specs.Views.Spec.{reading_of}

@@ -1,4 +1,4 @@
--- The version is what is before the NUL.
+-- The version is the text before the NUL.
 use Rattle.std.proofs.Common.{refl}
 use Rattle.gix_refspec_c.specs.Explanation.{version}
 use Rattle.gix_refspec_c.proofs.version.gix_refspec_version.Goals as goal

@@ -1,4 +1,4 @@
--- Which name a partial source takes: the first of its candidates that is there.
+-- The name that a partial source takes: the first of its candidates that a ref has.
 use Rattle.std.proofs.Common.{◌≡◌, ◌⊎◌, inl, inr, ℕ, List, [], ◌∷◌, ◌++◌, None, Bool, true, false, refl, sym, ap, ◌∙◌, subst}
 use Rattle.std.specs.List.{AllByRecursion}
 use Rattle.std.specs.Str.{bytes_eq}
@@ -8,7 +8,6 @@ use Rattle.gix_refspec_text.specs.Matching.Side.{partial, HasKind, IsCandidate}
 use Rattle.gix_refspec_text.specs.Matching.Match.{Ref, HasName, IsFirstCandidate, Takes}
 use Rattle.gix_refspec_text.specs.Laws.Readings.{FirstCandidate}
 
--- whether one of the refs has the name
 has_name : (refs : List Ref) (n : List ℕ) → HasName refs n ⊎ (HasName refs n → ⊥)
 has_name [] n = inr (λ none. none)
 has_name (r ∷ refs) n = here (bytes_eq r.name n) refl (has_name refs n)
@@ -21,11 +20,11 @@ has_name (r ∷ refs) n = here (bytes_eq r.name n) refl (has_name refs n)
       | inr later ↦ none later
     ])
 
--- none of the names is there
+-- no ref has one of the names
 abbrev AreAbsent : List Ref → List (List ℕ) → Type 0
 AreAbsent refs names = AllByRecursion (λ m. ¬ (HasName refs m)) names
 
--- of names with one that is there, one is the first
+-- of names some of which refs have, one is the first that a ref has
 record HasFirst (refs : List Ref) (names : List (List ℕ)) : Type 0 where
   name : List ℕ
   earlier : List (List ℕ)
@@ -43,13 +42,13 @@ first_behind refs (c ∷ earlier) n later has = elim (has_name refs c) [
       record { name = rest.name; earlier = c ∷ rest.earlier; later = rest.later; here = ap (λ (l : List (List ℕ)). c ∷ l) rest.here; absent = (none, rest.absent); present = rest.present }
 ]
 
--- where a candidate is there, one is the first
+-- if a ref has the name of a candidate, some candidate is the first
 pub some_first : (refs : List Ref) (x n : List ℕ) → IsCandidate x n → HasName refs n → (m : List ℕ) × IsFirstCandidate refs x m
 some_first refs x n one has =
     let first = first_behind refs one.earlier n one.later has in
     (first.name, record { earlier = first.earlier; later = first.later; here = one.here ∙ first.here; absent = first.absent; present = first.present })
 
--- it is a candidate
+-- the first candidate is a candidate
 pub first_candidate : (refs : List Ref) (x n : List ℕ) → IsFirstCandidate refs x n → IsCandidate x n
 first_candidate refs x n first = record { earlier = first.earlier; later = first.later; here = first.here }
 
@@ -59,11 +58,11 @@ one_first refs [] (d ∷ f) n m l k same none_e none_f has_n has_m = let one : n
 one_first refs (c ∷ e) [] n m l k same none_e none_f has_n has_m = let one : m ≡ c = cc in absurd (none_e.0 (subst (HasName refs) one has_m))
 one_first refs (c ∷ e) (d ∷ f) n m l k same none_e none_f has_n has_m = one_first refs e f n m l k (cc) none_e.1 none_f.1 has_n has_m
 
--- there is no other
+-- there is only one first candidate
 pub first_once : (refs : List Ref) (x n m : List ℕ) → IsFirstCandidate refs x n → IsFirstCandidate refs x m → n ≡ m
 first_once refs x n m a b = one_first refs a.earlier b.earlier n m a.later b.later (sym a.here ∙ b.here) a.absent b.absent a.present b.present
 
--- of one ref, each candidate is the first
+-- if there is only one ref, a candidate with its name is the first
 pub first_of_one : (x : List ℕ) (r : Ref) → IsCandidate x r.name → IsFirstCandidate (r ∷ []) x r.name
 first_of_one x r one =
     let first = some_first (r ∷ []) x r.name one (inl refl) in
@@ -73,14 +72,14 @@ first_of_one x r one =
     only n (inl same) = same
     only n (inr none) = absurd none
 
--- a partial source takes the refs of that name
+-- a partial source takes the refs with the name of its first candidate
 pub taken_by_first : (refs : List Ref) (x : List ℕ) (r : Ref) → HasKind x (partial x) → IsFirstCandidate refs x r.name → Takes refs x r None
 taken_by_first refs x r kind first = record {
   matches = record { kind = partial x; of = kind; is = (refl, first_candidate refs x r.name first) };
   first = λ n also. subst (λ (y : List ℕ). IsFirstCandidate refs y r.name) (sym also.0) first;
 }
 
--- a partial source takes its first candidate
+-- a partial source takes exactly these refs
 pub takes_first : (x : List ℕ) (refs : List Ref) → FirstCandidate x refs
 takes_first x refs lacks outside no_id =
     let kind : HasKind x (partial x) = (refl, lacks, outside, no_id) in

@@ -1,4 +1,4 @@
--- What sides match, and their prefixes and candidates.
+-- The refs that sides match, and the prefixes and candidates of sides.
 use Rattle.std.proofs.Common.{◌≡◌, ◌≢◌, ℕ, List, [], ◌∷◌, ◌++◌, codes, Option, None, Some, refl, sym, ap, ◌∙◌, subst}
 use Rattle.std.proofs.lemmas.List.{append-nil, append_cancel_left, append_cancel_right}
 use Rattle.gix_refspec_text.specs.Texts.Words.{Lacks, BeginsWith}
@@ -6,35 +6,35 @@ use Rattle.gix_refspec_text.specs.Texts.Name.{IsSplit}
 use Rattle.gix_refspec_text.specs.Texts.Bytes.{star, head}
 use Rattle.gix_refspec_text.specs.Matching.Side.{SideKind, pattern, full_name, object, partial, HasKind, IsId, candidates, IsCandidate}
 use Rattle.gix_refspec_text.specs.Matching.Match.{Ref, MatchesAs}
-use Rattle.gix_refspec_text.specs.Matching.Prefix.{of_head, of_name, of_pattern, HasNoPrefix, Expands, to_prefix, to_itself, strip_refs, of_object, to_candidates}
+use Rattle.gix_refspec_text.specs.Matching.Prefix.{of_head, of_name, of_pattern, HasNoPrefix, Expands, to_prefix, to_itself, below_refs, of_object, to_candidates}
 use Rattle.gix_refspec_text.specs.Laws.Readings.{OneWord, PrefixBegins, Candidates}
 use Rattle.gix_refspec_text.proofs.lemmas.hits.CandidateLemmas.{first_candidate, first_of_one, takes_first}
 use Rattle.gix_refspec_text.proofs.lemmas.lists.LacksLemmas.{Lacks-here, first_once}
 
--- two words between the same texts are one
+-- two words between the same texts are equal
 pub one_word : (before after n : List ℕ) → OneWord before after n
 one_word before after n v w by_v by_w = append_cancel_right v w after (append_cancel_left before (v ++ after) (w ++ after) (sym by_v ∙ by_w))
 
--- what lacks the star is no pattern
+-- a text without a star isn't a pattern
 pub lacks_no_pattern : (x before after : List ℕ) → Lacks star x → IsSplit before after x → ⊥
 lacks_no_pattern x before after lacks split = Lacks-here star before after (subst (Lacks star) split.starred lacks)
 
--- a text has one star at one place
+-- a text is split at its only star in one way
 pub split_once : (x before after fixed rest : List ℕ) → IsSplit before after x → IsSplit fixed rest x → (before ≡ fixed) × (after ≡ rest)
 split_once x before after fixed rest a b = first_once star before fixed after rest a.first b.first (sym a.starred ∙ b.starred)
 
--- the whole text begins with itself
+-- a text begins with itself
 begins_itself : (x n : List ℕ) → n ≡ x → BeginsWith x n
 begins_itself x n same = record { after = []; here = same ∙ sym (append-nil x) }
 
--- a full name, of which the side is its own prefix
+-- the case of a full name: it is its own prefix
 name_begins : (x : List ℕ) (k : SideKind) (r : Ref) (word : Option (List ℕ)) → BeginsWith (codes "refs/") x → Lacks star x → HasKind x k → MatchesAs k r word → BeginsWith x r.name
 name_begins x (pattern before after) r word begins lacks kind fits = absurd (lacks_no_pattern x before after lacks kind)
 name_begins x (full_name n) r word begins lacks kind fits = begins_itself x r.name (fits.1 ∙ kind.0)
 name_begins x (object id) r word begins lacks kind fits = absurd (kind.1 begins)
 name_begins x (partial n) r word begins lacks kind fits = absurd (kind.2 begins)
 
--- a pattern, of which what is before its star is the prefix
+-- the case of a pattern: its prefix is the text before its star
 pattern_begins : (x fixed rest : List ℕ) (k : SideKind) (r : Ref) (word : Option (List ℕ)) → IsSplit fixed rest x → HasKind x k → MatchesAs k r word → BeginsWith fixed r.name
 pattern_begins x fixed rest (pattern before after) r None split kind fits = absurd fits
 pattern_begins x fixed rest (pattern before after) r (Some word) split kind fits =
@@ -44,39 +44,39 @@ pattern_begins x fixed rest (full_name n) r word split kind fits = absurd (lacks
 pattern_begins x fixed rest (object id) r word split kind fits = absurd (lacks_no_pattern x fixed rest kind.0 split)
 pattern_begins x fixed rest (partial n) r word split kind fits = absurd (lacks_no_pattern x fixed rest kind.1 split)
 
--- each ref that a side matches begins with its prefix
+-- the name of each ref that a side matches begins with the prefix of the side
 pub prefix_begins : (x : List ℕ) → PrefixBegins x
 prefix_begins x p r word (of_head is_head _) other matches = absurd (other is_head)
 prefix_begins x p r word (of_name begins lacks same) other matches = subst (λ (y : List ℕ). BeginsWith y r.name) (sym same) (name_begins x matches.kind r word begins lacks matches.of matches.is)
 prefix_begins x p r word (of_pattern before after split tells same) other matches =
     subst (λ (y : List ℕ). BeginsWith y r.name) (sym same) (pattern_begins x before after matches.kind r word split matches.of matches.is)
 
--- what begins `refs/` before its star begins so
+-- a text whose part before the star begins with `refs/` begins with `refs/`
 pub begins_split : (x before after : List ℕ) → IsSplit before after x → BeginsWith (codes "refs/") before → BeginsWith (codes "refs/") x
 begins_split x before after split below = record { after = below.after ++ (star ∷ after); here = split.starred ∙ ap (λ (y : List ℕ). y ++ (star ∷ after)) below.here }
 
--- a side outside `refs/` other than `HEAD` has no prefix
+-- a side that isn't `HEAD` and doesn't begin with `refs/` has no prefix
 pub outside_none : (x : List ℕ) → x ≢ head → ¬ (BeginsWith (codes "refs/") x) → HasNoPrefix x
 outside_none x other outside p (of_head is_head _) = other is_head
 outside_none x other outside p (of_name begins _ _) = outside begins
 outside_none x other outside p (of_pattern before after split tells _) = outside (begins_split x before after split tells.below)
 
--- nothing but the candidates
+-- such a side that isn't an id is expanded to its candidates only
 only_candidates : (x : List ℕ) → x ≢ head → ¬ (BeginsWith (codes "refs/") x) → ¬ (IsId x) → (list : List (List ℕ)) → Expands x list → list ≡ candidates x
 only_candidates x other outside no_id list (to_prefix p prefix _) = absurd (outside_none x other outside p prefix)
 only_candidates x other outside no_id list (to_itself rest _ below _ _) = absurd (outside (record { after = rest; here = below }))
-only_candidates x other outside no_id list (strip_refs rest _ below _ _) = absurd (outside (record { after = rest; here = below }))
+only_candidates x other outside no_id list (below_refs rest _ below _ _) = absurd (outside (record { after = rest; here = below }))
 only_candidates x other outside no_id list (of_object _ _ id _) = absurd (no_id id)
 only_candidates x other outside no_id list (to_candidates _ _ _ is) = is
 
--- a partial name matches as one
+-- a partial name matches only by its candidates
 short_matches : (x : List ℕ) (k : SideKind) (r : Ref) (word : Option (List ℕ)) → Lacks star x → ¬ (BeginsWith (codes "refs/") x) → ¬ (IsId x) → HasKind x k → MatchesAs k r word → IsCandidate x r.name
 short_matches x (pattern before after) r word lacks outside no_id kind fits = absurd (lacks_no_pattern x before after lacks kind)
 short_matches x (full_name n) r word lacks outside no_id kind fits = absurd (outside kind.2)
 short_matches x (object id) r word lacks outside no_id kind fits = absurd (no_id (id, kind.2))
 short_matches x (partial n) r word lacks outside no_id kind fits = subst (λ (y : List ℕ). IsCandidate y r.name) kind.0 fits.1
 
--- a partial name is expanded to its candidates, and matches them
+-- a partial name is expanded to its candidates, and matches exactly these
 pub has_candidates : (x : List ℕ) → Candidates x
 has_candidates x lacks other outside no_id = record {
   expands = to_candidates (outside_none x other outside) outside no_id refl;

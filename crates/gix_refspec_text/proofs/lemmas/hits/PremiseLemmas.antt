@@ -1,4 +1,4 @@
--- What tests of the premises of laws tell.
+-- Tests of the premises of laws.
 use Rattle.std.proofs.Common.{◌≡◌, ◌⊎◌, inl, inr, ◌↔◌, IsTrue, ℕ, Bool, Bor, true, false, not, List, ◌∷◌, ◌++◌, codes, refl, ap, ◌∙◌, subst}
 use Rattle.std.proofs.lemmas.Bool.{false≢true}
 use Rattle.std.proofs.lemmas.List.{append_assoc}
@@ -21,7 +21,7 @@ use Rattle.gix_refspec_text.specs.Laws.Covering.{IsCovering, by_prefix, by_candi
 use Rattle.gix_refspec_text.proofs.lemmas.hits.MatchLemmas.{lacks_no_pattern}
 use Rattle.gix_refspec_text.proofs.lemmas.prefixes.PrefixLemmas.{id_not_head, no_prefix, one_asked}
 
--- a pattern is covering exactly where it tells a prefix
+-- a pattern is covering exactly if it has a ref prefix
 pub told_pattern : (x before after : List ℕ) (r : Bool) → IsSplit before after x → IsTrue r ↔ IsRefPrefix before after → IsTrue r ↔ IsCovering x
 told_pattern x before after true split told =
     let tells = told.0 refl in
@@ -33,14 +33,14 @@ told_pattern x before after false split told = ((λ so. absurd (false≢true so)
     never (by_prefix p below is) = absurd (no_prefix x before after split (λ tells. false≢true (told.1 tells)) p is)
     never (by_candidates lacks other outside) = absurd (lacks_no_pattern x before after lacks split)
 
--- a fetch that asks for a side has a covering source exactly where that side is covering
+-- a positive fetch has a covering source exactly if its source is covering
 pub told_source : (r : Reading) (x : List ℕ) (b : Bool) → r.operation ≡ Fetch → IsAsked r x → IsTrue b ↔ IsCovering x → IsTrue b ↔ HasCoveringSource r
 told_source r x b fetch asked told = (
   (λ so. record { fetch = fetch; source = λ y also. subst IsCovering (one_asked r x y asked also) (told.0 so) }),
   (λ has. told.1 (has.source x asked)),
 )
 
--- what a test of the operation tells
+-- an operation that passes the test is a fetch
 pub fetch_from_test : (o : Operation) → false ≡ not (sameb the_operation o Fetch) → o ≡ Fetch
 fetch_from_test Fetch test = refl
 fetch_from_test Push test = absurd (false≢true test)

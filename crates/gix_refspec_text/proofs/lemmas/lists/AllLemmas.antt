@@ -1,4 +1,4 @@
--- What holds of each element of a list.
+-- Facts that hold for each element of a list.
 use Rattle.std.proofs.Common.{List, [], ◌∷◌, ◌++◌}
 use Rattle.std.specs.List.{AllByRecursion}
 

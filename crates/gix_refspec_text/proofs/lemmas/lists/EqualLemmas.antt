@@ -3,7 +3,7 @@ use Rattle.std.proofs.Common.{◌≡◌, ◌↔◌, Bool, true, List, [], ◌∷
 use Rattle.std.specs.Cmp.Lexicographic.{pointwise}
 use Rattle.std.proofs.lemmas.Bool.{and_parts, and_from}
 
--- where elements are equal exactly where their keys are, so are lists
+-- if elements are equal exactly if their keys are, the same holds for lists
 pub same_keys : {A K : Type 0} (E : A → A → Bool) (key : A → K) → ((a b : A) → (E a b ≡ true) ↔ (key a ≡ key b)) → (xs ys : List A) → (pointwise E xs ys ≡ true) ↔ (map key xs ≡ map key ys)
 same_keys E key same [] [] = ((λ told. refl), (λ told. refl))
 same_keys E key same [] (y ∷ ys) = ((λ told. absurd (cc)), (λ told. absurd (cc)))

@@ -2,12 +2,11 @@
 use Rattle.std.proofs.Common.{◌≡◌, ℕ, List, [], ◌∷◌, ◌++◌, refl, sym, subst}
 use Rattle.gix_refspec_text.specs.Texts.Words.{Lacks}
 
--- a text that lacks b has no occurrence of b
 pub Lacks-here : (b : ℕ) (front back : List ℕ) → Lacks b (front ++ (b ∷ back)) → ⊥
 Lacks-here b [] back lacks = lacks.0 refl
 Lacks-here b (c ∷ front) back lacks = Lacks-here b front back lacks.1
 
--- the first occurrence of b splits a text in one way
+-- a text is split at the first occurrence of b in only one way
 pub first_once : (b : ℕ) (p q s t : List ℕ) → Lacks b p → Lacks b q → p ++ (b ∷ s) ≡ q ++ (b ∷ t) → (p ≡ q) × (s ≡ t)
 first_once b [] [] s t lacks_p lacks_q same = (refl, cc)
 first_once b [] (c ∷ q) s t lacks_p lacks_q same = absurd (lacks_q.0 (let e : b ≡ c = cc in sym e))
@@ -19,7 +18,7 @@ first_once b (c ∷ p) (d ∷ q) s t lacks_p lacks_q same =
     let fronts : p ≡ q = rest.0 in
     (cc, rest.1)
 
--- and so does the last one
+-- and so it is at the last one
 pub last_once : (b : ℕ) (p q s t : List ℕ) → Lacks b s → Lacks b t → p ++ (b ∷ s) ≡ q ++ (b ∷ t) → (p ≡ q) × (s ≡ t)
 last_once b [] [] s t lacks_s lacks_t same = (refl, cc)
 last_once b [] (c ∷ q) s t lacks_s lacks_t same = let rest : s ≡ q ++ (b ∷ t) = cc in absurd (Lacks-here b q t (subst (Lacks b) rest lacks_s))

@@ -1,4 +1,4 @@
--- Each text is a name or has a fault, and each side is fine or bad for a reason.
+-- Each text is a name or has a fault, and each side is valid or bad for a reason.
 use Rattle.std.proofs.Common.{◌≡◌, ◌≢◌, ◌⊎◌, inl, inr, ℕ, ◌==◌, Bool, true, false, List, [], ◌∷◌, ◌++◌, codes, nat_eq, IsTrue, refl, sym, ap, ◌∙◌, subst, append_assoc, length, take, eq-eqb, ◌-◌}
 use Rattle.std.specs.List.{ends_with}
 use Rattle.std.proofs.lemmas.Slice.Eq.{ends_is}
@@ -27,11 +27,11 @@ both (inl p) (inl q) = inl (p, q)
 both (inl p) (inr q) = inr (λ h. q h.1)
 both (inr p) q = inr (λ h. p h.0)
 
--- whether two bytes are one
+-- two bytes are equal or not
 pub decided_byte : (b c : ℕ) → Decided (b ≡ c)
 decided_byte b c = elim (tested (b == c)) [ inl so ↦ inl (eqb-true b c so) | inr other ↦ inr (λ same. false≢true (sym other ∙ eq-eqb b c same)) ]
 
--- whether a text ends with a word
+-- a text ends with a word or not
 decided_end : (w y : List ℕ) → Decided (EndsWith w y)
 decided_end w y =
     let told = ends_is Decides-eqb y w (ends_with nat_eq y w) refl in
@@ -43,11 +43,11 @@ decided_end w y =
 decided_refused : (b : ℕ) → Decided (IsTrue (is_refused_byte b))
 decided_refused b = elim (tested (is_refused_byte b)) [ inl so ↦ inl so | inr other ↦ inr (λ so. false≢true (sym other ∙ so)) ]
 
--- some fault is as P says, or none
+-- some fault satisfies P, or none does
 abbrev pub Found : (Error → Type 0) → Type 0
 Found P = ((e : Error) × P e) ⊎ ((e : Error) → ¬ (P e))
 
--- no fault but these is added by a byte
+-- a byte adds only these faults
 pub no_added : (y : List ℕ) (b : ℕ) → ¬ ((b ≡ slash) × EndsWith (codes "/") y) → ¬ ((b ≡ dot) × EndsWith (codes "/") y) → ¬ ((b ≡ slash) × EndsWith (codes ".lock") y) → ¬ ((b ≡ dot) × EndsWith (codes ".") y) → ¬ ((b ≡ brace) × EndsWith (codes "@") y) → ¬ (b ≡ star) → ¬ (IsTrue (is_refused_byte b)) → (e : Error) → ¬ (AddsFault y b e)
 no_added y b component start lock dots reflog starless fine Empty h = h
 no_added y b component start lock dots reflog starless fine EmptyComponent h = component h
@@ -59,7 +59,7 @@ no_added y b component start lock dots reflog starless fine ReflogPortion h = re
 no_added y b component start lock dots reflog starless fine Asterisk h = starless h
 no_added y b component start lock dots reflog starless fine (InvalidByte c) h = fine (subst (λ (x : ℕ). IsTrue (is_refused_byte x)) (sym h.0) h.1)
 
--- whether a byte adds a fault
+-- a byte adds a fault or not
 added_fault : (y : List ℕ) (b : ℕ) → Found (AddsFault y b)
 added_fault y b = elim (both (decided_byte b slash) (decided_end (codes "/") y)) [
   | inl found ↦ inl (EmptyComponent, found)
@@ -84,7 +84,7 @@ added_fault y b = elim (both (decided_byte b slash) (decided_end (codes "/") y))
   ]
 ]
 
--- whether the end leaves a fault
+-- the end leaves a fault or not
 left_fault : (y : List ℕ) → Found (LeavesFault y)
 left_fault y = elim (decided_end (codes "/") y) [
   | inl found ↦ inl (EmptyComponent, found)
@@ -97,7 +97,7 @@ left_fault y = elim (decided_end (codes "/") y) [
   ]
 ]
 
--- whether some byte after clean ones adds a fault
+-- after clean bytes, some byte adds a fault or none does
 scanned : (y rest : List ℕ) → IsClean y → ((e : Error) × Added (y ++ rest) e) ⊎ IsClean (y ++ rest)
 scanned y [] clean = inr (subst IsClean (sym (append-nil y)) clean)
 scanned y (b ∷ rest) clean = elim (added_fault y b) [
@@ -118,7 +118,7 @@ name_or_fault (b ∷ x) =
       ]
     ]
 
--- the first place of a byte
+-- the first occurrence of a byte
 pub record FirstIndex (b : ℕ) (x : List ℕ) : Type 0 where
   pub before : List ℕ
   pub after : List ℕ

@@ -1,4 +1,4 @@
--- Errors that say that memory ran out, and the others.
+-- The error `Memory`, and the others.
 use Rattle.std.proofs.Common.{◌≡◌, ◌≢◌, refl, subst}
 use Rattle.gix_refspec_text.specs.declared.parsing.Error.{Error}
 use Rattle.gix_refspec_text.specs.Specs.Refusal.{Refusal}
@@ -6,11 +6,11 @@ use Rattle.gix_refspec_text.specs.Private.Sides.{MemoryOr}
 use Rattle.gix_refspec_text.specs.Views.Instruction.{ShowsRefusal}
 use Rattle.gix_refspec_text.specs.declared.parsing.Error.TheVariants as error
 
--- an error that doesn't say that memory ran out is a refusal
+-- an error other than `Memory` is a refusal
 pub shows_refusal : (M : Type 0) (P : Refusal → Type 0) (e : Error) → MemoryOr M P e → e ≢ error.Memory → ShowsRefusal P e
 shows_refusal M P error.Memory told other = absurd (other refl)
 shows_refusal M P e told other = told
 
--- for one that does, memory may run out
+-- if the error is `Memory`, memory may be needed
 pub needs_memory : (M : Type 0) (P : Refusal → Type 0) (e : Error) → MemoryOr M P e → e ≡ error.Memory → M
 needs_memory M P e told same = subst (MemoryOr M P) same told

@@ -1,4 +1,4 @@
--- A text has its sign, source and destination in one way.
+-- A text has only one sign, source and destination.
 use Rattle.std.proofs.Common.{◌≡◌, ◌≢◌, ℕ, List, ◌∷◌, Option, None, Some, refl, sym, ap, ◌∙◌, subst, arith}
 use Rattle.gix_refspec_text.specs.Texts.Words.{Lacks}
 use Rattle.gix_refspec_text.specs.Specs.Reading.{Mode, Normal, Forced, Negative}
@@ -6,7 +6,7 @@ use Rattle.gix_refspec_text.specs.Texts.Bytes.{plus, caret, colon}
 use Rattle.gix_refspec_text.specs.Specs.Grammar.{IsUnsigned, IsSigned, with_colon, LastLacksColon, AreParts}
 use Rattle.gix_refspec_text.proofs.lemmas.lists.LacksLemmas.{Lacks-here, last_once}
 
--- a text in its parts
+-- a text with its parts
 pub record Parted (text : List ℕ) : Type 0 where
   pub mode : Mode
   pub source : List ℕ
@@ -45,7 +45,7 @@ split_once s t None (Some e) a b same = absurd (Lacks-here colon t e (subst (Lac
 split_once s t (Some d) None a b same = absurd (Lacks-here colon s d (subst (Lacks colon) (sym same) b))
 split_once s t (Some d) (Some e) a b same = let once = last_once colon s t d e a b same in (once.0, ap (λ (x : List ℕ). Some x) once.1)
 
--- the parts of a text are the same whichever way it is written
+-- two splits of a text into parts are the same
 pub record SameParts (m n : Mode) (s t : List ℕ) (d e : Option (List ℕ)) : Type 0 where
   pub mode : m ≡ n
   pub source : s ≡ t

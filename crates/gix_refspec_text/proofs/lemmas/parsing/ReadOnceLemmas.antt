@@ -1,4 +1,4 @@
--- A text has one reading: what its parts make.
+-- A text has at most one reading, which is made from its parts.
 use Rattle.std.proofs.Common.{◌≡◌, ◌≢◌, ◌⊎◌, inl, inr, ℕ, List, [], ◌∷◌, Option, None, Some, unwrap_or, refl, sym, ap, ◌∙◌}
 use Rattle.gix_refspec_text.specs.declared.parsing.Operation.{Operation}
 use Rattle.gix_refspec_text.specs.declared.parsing.Operation.TheVariants.{Push, Fetch}
@@ -8,7 +8,7 @@ use Rattle.gix_refspec_text.specs.Private.Sides.{side_of, named_or_head}
 use Rattle.gix_refspec_text.proofs.lemmas.parsing.PartsLemmas.{Parted, parts_once}
 use Rattle.gix_refspec_text.proofs.lemmas.parsing.ReadsLemmas.{side_of-named, name_not_empty, pattern_not_empty, either_not_empty}
 
--- what parts make, where they read
+-- the reading made from parts, if they have one
 abbrev pub made : Operation → Mode → List ℕ → Option (List ℕ) → Reading
 made Fetch m s d = fetched m (named_or_head s) (side_of (unwrap_or d []))
 made Push m s d = pushed m (side_of (named_by s)) (side_of (unwrap_or d []))
@@ -18,7 +18,7 @@ record IsMade (op : Operation) (text : List ℕ) (r : Reading) : Type 0 where
   of : Parted text
   is : r ≡ made op of.mode of.source of.destination
 
--- words that aren't empty
+-- a source that isn't empty, in a fetch and as a side
 named_or_head-full : (s : List ℕ) → s ≢ [] → named_or_head s ≡ named_by s
 named_or_head-full [] full = absurd (full refl)
 named_or_head-full (b ∷ s) full = refl
@@ -35,7 +35,7 @@ pub alike_full : (s d : List ℕ) → AreAlike s d → (s ≢ []) × (d ≢ [])
 alike_full s d (inl names) = (name_not_empty s names.0, name_not_empty d names.1)
 alike_full s d (inr patterns) = (pattern_not_empty s patterns.0, pattern_not_empty d patterns.1)
 
--- what the parts of a text make for an operation is made for each operation that equals it
+-- a reading that parts make for an operation is also made for an equal operation
 made_for : (op : Operation) (text : List ℕ) (r : Reading) (o : Operation) (m : Mode) (s : List ℕ) (d : Option (List ℕ)) → op ≡ o → AreParts m s d text → r ≡ made o m s d → IsMade op text r
 made_for op text r o m s d same parts is = record { of = record { mode = m; source = s; destination = d; parts = parts }; is = is ∙ sym (ap (λ (x : Operation). made x m s d) same) }
 
@@ -50,7 +50,7 @@ made_alone : (op : Operation) (text : List ℕ) (r : Reading) (m : Mode) (s : Li
 made_alone op text r m s fetch (inl parts) full is = made_for op text r Fetch m s None fetch parts (is ∙ sym (ap (λ (x : List ℕ). fetched m x None) (named_or_head-full s full)))
 made_alone op text r m s fetch (inr parts) full is = made_for op text r Fetch m s (Some []) fetch parts (is ∙ sym (ap (λ (x : List ℕ). fetched m x None) (named_or_head-full s full)))
 
--- what reads is made from its parts
+-- each reading of a text is made from its parts
 is_made : (op : Operation) (text : List ℕ) (r : Reading) → Reads op text r → IsMade op text r
 is_made op text r (fetches_nothing_named m fetch pos parts is) = made_for op text r Fetch m [] None fetch parts is
 is_made op text r (fetches_colon m fetch pos parts is) = made_for op text r Fetch m [] (Some []) fetch parts is
@@ -68,12 +68,12 @@ is_made op text r (pushes_pattern m s d push pos parts source destination is) = 
 is_made op text r (pushes_to m s d push pos parts full plain name is) = made_for op text r Push m s (Some d) push parts (is ∙ pushed_alike m _ _ _ _ (sym (side_of-named_full s full)) (sym (side_of-full d (name_not_empty d name))))
 is_made op text r (push_excludes s push parts either hash is) = made_for op text r Push Negative s None push parts (is ∙ pushed_alike Negative _ _ _ _ (sym (side_of-named_full s (either_not_empty s either))) refl)
 
--- equal parts make one reading
+-- equal parts make equal readings
 made_same : (op : Operation) (m n : Mode) (s t : List ℕ) (d e : Option (List ℕ)) → m ≡ n → s ≡ t → d ≡ e → made op m s d ≡ made op n t e
 made_same op m n s t d e mode source destination =
     ap (λ (x : Mode). made op x s d) mode ∙ (ap (λ (x : List ℕ). made op n x d) source ∙ ap (λ (x : Option (List ℕ)). made op n t x) destination)
 
--- a text has one reading
+-- a text has at most one reading
 pub reads_once : (op : Operation) (text : List ℕ) (r q : Reading) → Reads op text r → Reads op text q → r ≡ q
 reads_once op text r q by_r by_q =
     let a = is_made op text r by_r in

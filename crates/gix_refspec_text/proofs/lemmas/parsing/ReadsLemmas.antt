@@ -1,4 +1,4 @@
--- Parts whose sides are fine read as what the sides make, and what reads has such parts.
+-- A text with valid parts has the reading with their sides, and each text with a reading has valid parts.
 use Rattle.std.proofs.Common.{◌≡◌, ◌≢◌, ◌⊎◌, inl, inr, ℕ, ◌==◌, true, false, if◌then◌else◌, List, [], ◌∷◌, Option, None, Some, option_map, unwrap_or, refl, sym, ap, subst}
 use Rattle.gix_refspec_text.specs.declared.name.Error.TheVariants.{Empty}
 use Rattle.gix_refspec_text.specs.declared.parsing.Error.{Error}
@@ -24,24 +24,24 @@ use Rattle.gix_refspec_text.proofs.lemmas.parsing.ReasonLemmas.{MemoryOr-map, po
 pub same_reading : (op : Operation) (m : Mode) (s t d e : Option (List ℕ)) → s ≡ t → d ≡ e → ◌≡◌ {A = Reading} (record { operation = op; mode = m; source = s; destination = d }) (record { operation = op; mode = m; source = t; destination = e })
 same_reading op m s t d e same_source same_destination = cc
 
--- what reads with the operation, the mode and the sides of a reading reads as it
+-- if the text has a reading, it has each reading of parts and sides with the same operation, mode and sides
 pub read_with : (p : Parts) (sides : Sides) (text : List ℕ) (op : Operation) (m : Mode) (s d : Option (List ℕ)) → p.operation ≡ op → mode_of p.mode ≡ m → option_map bstr_bytes sides.source ≡ s → option_map bstr_bytes sides.destination ≡ d → Reads op text (record { operation = op; mode = m; source = s; destination = d }) → Reads p.operation text (read_as p sides)
 read_with p sides text op m s d same_op same_mode same_source same_destination reads =
     let made : Reading = record { operation = op; mode = m; source = s; destination = d } in
     let same : read_as p sides ≡ made = cc in
     subst (λ o. Reads o text (read_as p sides)) (sym same_op) (subst (Reads op text) (sym same) reads)
 
--- a source that isn't empty names a text that isn't
+-- a source that isn't empty names a text that isn't empty
 pub side_of-named : (b : ℕ) (bs : List ℕ) → side_of (named_by (b ∷ bs)) ≡ Some (named_by (b ∷ bs))
 side_of-named b [] = elim (b == 64) as (λ v. side_of (if v then head else b ∷ []) ≡ Some (if v then head else b ∷ [])) [ true ↦ refl | false ↦ refl ]
 side_of-named b (c ∷ bs) = refl
 
--- nor does the source of a fetch
+-- the source of a fetch never names the empty text
 pub side_of-named_or_head : (s : List ℕ) → side_of (named_or_head s) ≡ Some (named_or_head s)
 side_of-named_or_head [] = refl
 side_of-named_or_head (b ∷ bs) = side_of-named b bs
 
--- the parts of a positive fetch whose sides are of one kind
+-- the reading of a positive fetch whose sides have one shape
 pub fetch_reads : (m : Mode) (s : List ℕ) (d : Option (List ℕ)) (k : Shape) (text : List ℕ) → IsPositive m → HasCheckedShape s k → HasCheckedShape (unwrap_or d []) k → AreParts m s d text → Reads Fetch text (fetched m (named_or_head s) (side_of (unwrap_or d [])))
 fetch_reads m [] None k text pos a b parts = fetches_nothing_named m refl pos parts refl
 fetch_reads m [] (Some []) k text pos a b parts = fetches_colon m refl pos parts refl
@@ -59,14 +59,14 @@ checked_name_or_pattern : (b : ℕ) (bs : List ℕ) (k : Shape) → HasCheckedSh
 checked_name_or_pattern b bs Plain fine = inl fine
 checked_name_or_pattern b bs Pattern fine = inr fine
 
--- the parts of a positive push of a source alone
+-- the reading of a positive push of a source alone
 pub push_alone_reads : (m : Mode) (s : List ℕ) (k : Shape) (text : List ℕ) → IsPositive m → (s ≡ [] → m ≡ Normal → ⊥) → HasCheckedShape s k → AreParts m s None text → Reads Push text (pushed m (side_of (named_by s)) None)
 push_alone_reads Normal [] k text pos full a parts = absurd (full refl refl)
 push_alone_reads Forced [] k text pos full a parts = pushes_plus refl parts refl
 push_alone_reads Negative [] k text pos full a parts = absurd pos
 push_alone_reads m (x ∷ xs) k text pos full a parts = pushes m (x ∷ xs) refl pos parts (checked_name_or_pattern x xs k a) (ap (λ (s : Option (List ℕ)). pushed m s None) (side_of-named x xs))
 
--- the parts of a positive push to a destination
+-- the reading of a positive push to a destination
 pub push_reads : (m : Mode) (s d : List ℕ) (k : Shape) (text : List ℕ) → IsPositive m → (s ≢ [] → d ≡ [] → ⊥) → HasShape s k → HasCheckedShape d k → AreParts m s (Some d) text → Reads Push text (pushed m (side_of (named_by s)) (side_of d))
 push_reads m [] [] k text pos somewhere a b parts = pushes_colon m refl pos parts refl
 push_reads m [] (c ∷ cs) Plain text pos somewhere a b parts = deletes m (c ∷ cs) refl pos parts b refl
@@ -75,14 +75,14 @@ push_reads m (x ∷ xs) [] k text pos somewhere a b parts = absurd (somewhere (�
 push_reads m (x ∷ xs) (c ∷ cs) Plain text pos somewhere a b parts = pushes_to m (x ∷ xs) (c ∷ cs) refl pos parts (λ e. cc) a b (ap (λ (s : Option (List ℕ)). pushed m s (Some (c ∷ cs))) (side_of-named x xs))
 push_reads m (x ∷ xs) (c ∷ cs) Pattern text pos somewhere a b parts = pushes_pattern m (x ∷ xs) (c ∷ cs) refl pos parts a b (ap (λ (s : Option (List ℕ)). pushed m s (Some (c ∷ cs))) (side_of-named x xs))
 
--- the parts of a negative spec
+-- the reading of a negative spec
 pub negative_reads : (op : Operation) (s : List ℕ) (k : Shape) (text : List ℕ) → s ≢ [] → HasCheckedShape s k → ¬ (LooksLikeObjectHash s) → AreParts Negative s None text → Reads op text (record { operation = op; mode = Negative; source = side_of (named_by s); destination = None })
 negative_reads op [] k text full a hash parts = absurd (full refl)
 negative_reads Push (x ∷ xs) k text full a hash parts = push_excludes (x ∷ xs) refl parts (checked_name_or_pattern x xs k a) hash (ap (λ (s : Option (List ℕ)). pushed Negative s None) (side_of-named x xs))
 negative_reads Fetch (x ∷ xs) k text full a hash parts = fetch_excludes (x ∷ xs) refl parts (checked_name_or_pattern x xs k a) hash (ap (λ (s : Option (List ℕ)). record { operation = Fetch; mode = Negative; source = s; destination = None }) (side_of-named x xs))
 
--- parts that read: a positive fetch with sides of one kind, a positive push of a source alone or with
--- sides of one kind, and a negative spec with a source that is no object hash
+-- parts that have a reading: of a positive fetch with sides of one shape, of a positive push of a source alone or with
+-- sides of one shape, and of a negative spec whose source doesn't look like an object hash
 pub data AreFine (op : Operation) (m : Mode) (s : List ℕ) (d : Option (List ℕ)) : Type 0 where
   fine_fetch : (k : Shape) → op ≡ Fetch → IsPositive m → HasCheckedShape s k → HasCheckedShape (unwrap_or d []) k → AreFine op m s d
   fine_alone : (k : Shape) → op ≡ Push → IsPositive m → d ≡ None → (s ≡ [] → m ≡ Normal → ⊥) → HasCheckedShape s k → AreFine op m s d
@@ -98,7 +98,7 @@ checked_from_pattern : (x : List ℕ) → IsPattern x → HasCheckedShape x Patt
 checked_from_pattern [] pattern = pattern
 checked_from_pattern (b ∷ bs) pattern = pattern
 
--- a name or a pattern as a checked side of some kind
+-- a name or a pattern as a checked side of some shape
 checked_either : (x : List ℕ) → IsNameOrPattern x → (k : Shape) × HasCheckedShape x k
 checked_either x (inl name) = (Plain, checked_name x name)
 checked_either x (inr pattern) = (Pattern, checked_from_pattern x pattern)
@@ -115,11 +115,11 @@ pub either_not_empty : (x : List ℕ) → IsNameOrPattern x → x ≢ []
 either_not_empty x (inl name) = name_not_empty x name
 either_not_empty x (inr pattern) = pattern_not_empty x pattern
 
--- a sign isn't none
+-- a forced mode isn't the normal one
 forced_not_normal : Forced ≡ Normal → ⊥
 forced_not_normal same = absurd (cc)
 
--- a text in its parts, which are fine
+-- a text with its parts, which are valid
 pub record FineParts (op : Operation) (text : List ℕ) : Type 0 where
   pub of : Parted text
   pub fine : AreFine op of.mode of.source of.destination
@@ -140,7 +140,7 @@ negative_fine op s text parts either hash =
     let side = checked_either s either in
     with_fine op Negative s None text parts (fine_negative side.0 refl refl (either_not_empty s either) side.1 hash)
 
--- what reads has fine parts
+-- a text with a reading has valid parts
 pub fine_parts : (op : Operation) (text : List ℕ) (r : Reading) → Reads op text r → FineParts op text
 fine_parts op text r (fetches_nothing_named m fetch pos parts _) = with_fine op m [] None text parts (fine_fetch Plain fetch pos tt tt)
 fine_parts op text r (fetches_colon m fetch pos parts _) = with_fine op m [] (Some []) text parts (fine_fetch Plain fetch pos tt tt)
@@ -158,7 +158,7 @@ fine_parts op text r (pushes_pattern m s d push pos parts source destination _) 
 fine_parts op text r (pushes_to m s d push pos parts full plain name _) = with_fine op m s (Some d) text parts (fine_push Plain d push pos refl (λ _ empty. name_not_empty d name empty) plain (checked_name d name))
 fine_parts op text r (push_excludes s push parts either hash _) = negative_fine op s text parts either hash
 
--- no reason is against a positive fetch, a push of a source alone, a push, and a negative spec that are fine
+-- no reason applies to a positive fetch, a push of a source alone, a push, or a negative spec with valid parts
 no_reason_fetch : (m : Mode) (s : List ℕ) (d : Option (List ℕ)) (k : Shape) → IsPositive m → HasCheckedShape s k → HasCheckedShape (unwrap_or d []) k → Never (IsFirstReason Fetch m s d)
 no_reason_fetch m s d k pos a b =
     Never-or (no_empty_fetch m s d) (Never-or (no_negative m d pos) (Never-or (no_fetch_nowhere s d)
@@ -188,7 +188,7 @@ no_reason_negative op s k full a hash =
     (Never-or (λ e h. h.positive)
     (Never-or (λ e h. full h.no_source) (λ e h. hash h.hash)))))))
 
--- no reason is against fine parts
+-- no reason applies to valid parts
 pub no_reason : (op : Operation) (m : Mode) (s : List ℕ) (d : Option (List ℕ)) → AreFine op m s d → Never (IsFirstReason op m s d)
 no_reason op m s d (fine_fetch k fetch pos a b) e =
     subst (λ (o : Operation). ¬ (IsFirstReason o m s d e)) (sym fetch) (no_reason_fetch m s d k pos a b e)
@@ -202,7 +202,7 @@ no_reason op m s d (fine_negative k negative none full a hash) e =
     subst (λ (n : Mode). ¬ (IsFirstReason op n s d e)) (sym negative)
     (subst (λ (x : Option (List ℕ)). ¬ (IsFirstReason op Negative s x e)) (sym none) (no_reason_negative op s k full a hash e))
 
--- a text with a reason against its parts reads as nothing
+-- a text has no reading if a reason applies to its parts
 pub unread : (op : Operation) (m : Mode) (s : List ℕ) (d : Option (List ℕ)) (text : List ℕ) (e : Refusal) (r : Reading) → AreParts m s d text → IsFirstReason op m s d e → ¬ (Reads op text r)
 unread op m s d text e r parts first reads =
     let fine = fine_parts op text r reads in
@@ -213,11 +213,11 @@ unread op m s d text e r parts first reads =
     let moved = subst (λ (u : Option (List ℕ)). IsFirstReason op p.mode p.source u e) same.destination moved_source in
     no_reason op p.mode p.source p.destination fine.fine e moved
 
--- a reason against a text's parts refuses it
+-- a text is refused for the first reason that applies to its parts
 pub refused : (op : Operation) (m : Mode) (s : List ℕ) (d : Option (List ℕ)) (text : List ℕ) (e : Refusal) → AreParts m s d text → IsFirstReason op m s d e → IsRefused op text e
 refused op m s d text e parts first = record { unread = λ r. unread op m s d text e r parts first; mode = m; source = s; destination = d; parts = parts; first = first }
 
--- an error of the parts that a text was cut into is an error of the text
+-- an error of the parts that a text was split into is an error of the text
 pub error_of_text : (p : Parts) (bytes text : List ℕ) (e : Error) → bytes ≡ text → HasParts bytes p → IsReasonAgainst p e → IsErrorOf p.operation text e
 error_of_text p bytes text e same split =
     let parts = subst (λ (x : List ℕ). HasParts x p) same split in

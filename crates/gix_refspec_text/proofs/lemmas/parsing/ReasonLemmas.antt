@@ -1,4 +1,4 @@
--- The first reason against parts, and that there is none against fine ones.
+-- The first reason that applies to parts, and that none applies to valid ones.
 use Rattle.std.proofs.Common.{◌≡◌, ◌≢◌, inl, inr, ℕ, List, [], Option, None, Some, unwrap_or, refl, ap, subst}
 use Rattle.gix_refspec_text.specs.declared.parsing.Operation.{Operation}
 use Rattle.gix_refspec_text.specs.declared.parsing.Operation.TheVariants.{Push, Fetch}
@@ -15,7 +15,7 @@ use Rattle.gix_refspec_text.specs.declared.parsing.Error.TheVariants as error
 use Rattle.gix_refspec_text.proofs.lemmas.texts.TextLemmas.{Lacks-ContainsText}
 use Rattle.gix_refspec_text.proofs.lemmas.parsing.SideLemmas.{checked_fine, starred_fine, checked_starred, HasStar-pattern, HasStar-bad}
 
--- an error for P, or for memory, is one for what follows from it
+-- an error that is `Memory` or satisfies P may be weakened to other conditions that follow
 pub MemoryOr-map : (M N : Type 0) (P Q : Refusal → Type 0) (e : Error) → (M → N) → ((f : Refusal) → P f → Q f) → MemoryOr M P e → MemoryOr N Q e
 MemoryOr-map M N P Q error.Memory m p h = m h
 MemoryOr-map M N P Q e m p h = (h.0, h.1, p h.0 h.2)
@@ -33,7 +33,7 @@ no_fetch_nowhere s d e h = let p = h.push in absurd (cc)
 pub no_negative : (m : Mode) (d : Option (List ℕ)) → IsPositive m → Never (HasNegativeDestination m d)
 no_negative m d pos e h = positive m pos h.negative
 
--- no reason before the source's applies to a positive fetch
+-- no reason before those of the source applies to a positive fetch
 pub fetch_reaches : (m : Mode) (s : List ℕ) (d : Option (List ℕ)) → IsPositive m → NoReasonBeforeSource Fetch m s d
 fetch_reaches m s d pos = (no_empty_fetch m s d, no_negative m d pos, no_fetch_nowhere s d)
 
@@ -62,7 +62,7 @@ pub memory_at_source : (op : Operation) (m : Mode) (s : List ℕ) (d : Option (L
 memory_at_source op m s None reached needs = (reached, needs)
 memory_at_source op m s (Some d) reached needs = (reached, inl needs)
 
--- the reasons at the source, at the destination, and of their balance
+-- the reasons at the source, at the destination, and of unbalanced sides
 pub reason_at_source : (op : Operation) (m : Mode) (s : List ℕ) (d : Option (List ℕ)) (e : Refusal) → NoReasonBeforeSource op m s d → HasBadSource op s d e → IsFirstReason op m s d e
 reason_at_source op m s d e before bad = inr (before.0, inr (before.1, inr (before.2, inl bad)))
 
@@ -72,7 +72,7 @@ reason_at_destination op m s d e before source bad = inr (before.0, inr (before.
 pub reason_of_balance : (op : Operation) (m : Mode) (s : List ℕ) (d : Option (List ℕ)) (e : Refusal) → NoReasonBeforeSource op m s d → Never (HasBadSource op s d) → Never (HasBadDestination d) → IsUnbalanced op m s d e → IsFirstReason op m s d e
 reason_of_balance op m s d e before source destination bad = inr (before.0, inr (before.1, inr (before.2, inr (source, inr (destination, inl bad)))))
 
--- nothing is against a checked source, or against the starred source of a push beside a destination
+-- a checked source isn't bad; for a push to a destination, it only has to lack a star or be a pattern
 pub fetch_source_fine : (s : List ℕ) (d : Option (List ℕ)) (k : Shape) → HasCheckedShape s k → Never (HasBadSource Fetch s d)
 fetch_source_fine s d k fine e bad = checked_fine s k fine e (bad.source, bad.refusal)
 
@@ -86,20 +86,20 @@ pub alone_fine : (op : Operation) (s : List ℕ) (k : Shape) → HasCheckedShape
 alone_fine Push s k fine = push_alone_fine s k fine
 alone_fine Fetch s k fine = fetch_source_fine s None k fine
 
--- nothing is against a checked destination
+-- a checked destination isn't bad
 pub destination_fine : (d : Option (List ℕ)) (k : Shape) → HasCheckedShape (unwrap_or d []) k → Never (HasBadDestination d)
 destination_fine d k fine e bad =
     let here : unwrap_or d [] ≡ bad.word = ap (λ (x : Option (List ℕ)). unwrap_or x []) bad.is in
     checked_fine bad.word k (subst (λ (x : List ℕ). HasCheckedShape x k) here fine) e (bad.destination, bad.refusal)
 
--- two sides of one kind are balanced
+-- two sides of one shape are balanced
 pub sides_balanced : (s t : List ℕ) (k : Shape) → HasShape s k → HasShape t k → IsOneStarred s t → ⊥
 sides_balanced s t Plain a b (inl h) = Lacks-ContainsText star s a h.0
 sides_balanced s t Plain a b (inr h) = Lacks-ContainsText star t b h.1
 sides_balanced s t Pattern a b (inl h) = Lacks-ContainsText star t h.1 (HasStar-pattern t b)
 sides_balanced s t Pattern a b (inr h) = Lacks-ContainsText star s h.0 (HasStar-pattern s a)
 
--- two sides of two kinds aren't
+-- two sides of different shapes are unbalanced
 pub sides_unbalanced : (s t : List ℕ) (j k : Shape) → HasShape s j → HasShape t k → j ≢ k → IsOneStarred s t
 sides_unbalanced s t Plain Plain a b differ = absurd (differ refl)
 sides_unbalanced s t Plain Pattern a b differ = inr (a, HasStar-pattern t b)
@@ -137,17 +137,17 @@ error_at_destination op m s d e before source =
     MemoryOr-map (NeedsMemory (unwrap_or d [])) (ReachesMemory op m s d) (IsBadSide (unwrap_or d [])) (IsFirstReason op m s d) e (memory_at_destination op m s d before source)
     (λ f h. reason_at_destination op m s d f before source (bad_destination d f h))
 
--- no reason before the source's applies to a negative spec without a colon
+-- no reason before those of the source applies to a negative spec without a colon
 pub negative_reaches : (op : Operation) (s : List ℕ) → NoReasonBeforeSource op Negative s None
 negative_reaches op s = (λ e h. let i = h.unsigned in absurd (cc), λ e h. let i = h.colon in absurd (cc), λ e h. let i = h.nowhere in absurd (cc))
 
--- the reason against a negative spec of an object
+-- the reason to refuse a negative spec of an object
 pub reason_against_object : (op : Operation) (s : List ℕ) (k : Shape) → s ≢ [] → HasCheckedShape s k → LooksLikeObjectHash s → IsFirstReason op Negative s None NegativeObjectHash
 reason_against_object op s k full a hash =
     let before = negative_reaches op s in
     inr (before.0, inr (before.1, inr (before.2, inr (alone_fine op s k a, inr (λ e h. let i = h.is in absurd (cc), inr (λ e h. h.positive, inr (λ e h. full h.no_source, record { negative = refl; hash = hash; refusal = refl })))))))
 
--- the reason against a negative spec of nothing
+-- the reason to refuse a negative spec of nothing
 pub reason_against_nothing : (op : Operation) (s : List ℕ) (k : Shape) → s ≡ [] → HasCheckedShape s k → IsFirstReason op Negative s None NegativeEmpty
 reason_against_nothing op s k empty a =
     let before = negative_reaches op s in
@@ -158,7 +158,7 @@ pub bad_negative : (op : Operation) (s : List ℕ) (e : Refusal) → IsBadSide s
 bad_negative Push s e bad = record { source = bad.0; refusal = bad.1 }
 bad_negative Fetch s e bad = record { source = bad.0; refusal = bad.1 }
 
--- the reason against a fetch of sides of two kinds
+-- the reason to refuse a fetch with sides of different shapes
 pub unbalanced_fetch : (m : Mode) (s : List ℕ) (d : Option (List ℕ)) (j k : Shape) → IsPositive m → HasCheckedShape s j → HasCheckedShape (unwrap_or d []) k → j ≢ k → IsFirstReason Fetch m s d PatternUnbalanced
 unbalanced_fetch m s d j k pos source target differ =
     let t = unwrap_or d [] in
@@ -166,7 +166,7 @@ unbalanced_fetch m s d j k pos source target differ =
     reason_of_balance Fetch m s d PatternUnbalanced (fetch_reaches m s d pos) (fetch_source_fine s d j source) (destination_fine d k target)
     (record { positive = pos; one = one; has_destination = λ push. absurd (cc); refusal = refl })
 
--- the reason against a push of sides of two kinds
+-- the reason to refuse a push with sides of different shapes
 pub unbalanced_push : (m : Mode) (s t : List ℕ) (j k : Shape) → IsPositive m → (s ≢ [] → t ≡ [] → ⊥) → HasShape s j → HasCheckedShape t k → j ≢ k → IsFirstReason Push m s (Some t) PatternUnbalanced
 unbalanced_push m s t j k pos somewhere source target differ =
     let one = sides_unbalanced s t j k source (checked_starred t k target) differ in

@@ -1,4 +1,4 @@
--- A text is refused for one reason, but for the fault of a name.
+-- A text is refused for only one reason, apart from which fault of a name it holds.
 use Rattle.std.proofs.Common.{◌≡◌, ◌⊎◌, inl, inr, ℕ, List, Option, None, Some, refl, sym, ap, ◌∙◌, subst}
 use Rattle.gix_refspec_text.specs.declared.name.Error.{Error}
 use Rattle.gix_refspec_text.specs.declared.parsing.Operation.{Operation}
@@ -14,7 +14,7 @@ use Rattle.gix_refspec_text.proofs.lemmas.parsing.SideLemmas.{HasStar-bad, HasSe
 use Rattle.gix_refspec_text.proofs.lemmas.parsing.PartsLemmas.{parts_once}
 use Rattle.std.proofs.lemmas.Option.{same_Some}
 
--- two refusals as P says are for one reason
+-- two refusals that satisfy P are for the same reason
 abbrev Agree : (Refusal → Type 0) → Type 0
 Agree P = (e f : Refusal) → P e → P f → IsSameReason e f
 
@@ -61,7 +61,7 @@ Agree-pattern x e f a b = elim (reason_of_pattern x e a) [
   ]
 ]
 
--- a text without a star is no bad pattern
+-- a bad name isn't a bad pattern
 name_no_pattern : (x : List ℕ) (e f : Refusal) → IsBadName x e → IsBadPattern x f → ⊥
 name_no_pattern x e f name pattern = Lacks-ContainsText star x (reason_of_name x e name).0 (HasStar-bad x f pattern)
 
@@ -81,7 +81,7 @@ Agree-destination d e f a b =
     let word : b.word ≡ a.word = same_Some b.word a.word (sym b.is ∙ a.is) in
     Agree-side a.word e f a.refusal (subst (λ (x : List ℕ). IsBadName x f ⊎ IsBadPattern x f) word b.refusal)
 
--- the first reason against parts is one
+-- only one reason is the first that applies to parts
 Agree-first : (op : Operation) (mode : Mode) (s : List ℕ) (d : Option (List ℕ)) → Agree (IsFirstReason op mode s d)
 Agree-first op mode s d =
     Agree-or (λ e f a b. both_are Empty e f a.refusal b.refusal)
@@ -93,7 +93,7 @@ Agree-first op mode s d =
     (Agree-or (λ e f a b. both_are NegativeEmpty e f a.refusal b.refusal)
     (λ e f a b. both_are NegativeObjectHash e f a.refusal b.refusal)))))))
 
--- a text is refused for one reason
+-- a text is refused for only one reason
 pub one_refusal : (op : Operation) (text : List ℕ) → OneRefusal op text
 one_refusal op text e f a b =
     let same = parts_once b.mode a.mode b.source a.source b.destination a.destination text b.parts a.parts in

@@ -1,4 +1,4 @@
--- Each text has parts, and parts read or have a first reason against them.
+-- Each text has parts, and parts have a reading or a first reason to refuse them.
 use Rattle.std.proofs.Common.{◌≡◌, ◌≢◌, ◌⊎◌, inl, inr, ℕ, true, List, [], ◌∷◌, ◌++◌, Option, None, Some, unwrap_or, length, nat_le, refl, sym, ap, ◌∙◌, subst}
 use Rattle.std.specs.List.{AllByRecursion}
 use Rattle.std.specs.Char.{is_ascii_hexdigit}
@@ -60,19 +60,19 @@ checked (b ∷ x) = elim (starred (b ∷ x)) [
   | inr bad ↦ inr (bad.0, ((λ same. cc), inr bad.1))
 ]
 
--- whether two sides are of one kind
+-- two sides have the same shape or not
 decided_side : (j k : Shape) → Decided (j ≡ k)
 decided_side Plain Plain = inl refl
 decided_side Plain Pattern = inr (λ same. absurd (cc))
 decided_side Pattern Plain = inr (λ same. absurd (cc))
 decided_side Pattern Pattern = inl refl
 
--- whether a text is empty
+-- a text is empty or not
 decided_empty : (x : List ℕ) → Decided (x ≡ [])
 decided_empty [] = inl refl
 decided_empty (b ∷ x) = inr (λ same. cc)
 
--- whether a text looks like an object hash
+-- a text has only hex digits or not, and looks like an object hash or not
 all_digits : (x : List ℕ) → Decided (AllByRecursion (λ b. is_ascii_hexdigit b ≡ true) x)
 all_digits [] = inl tt
 all_digits (b ∷ x) = elim (tested (is_ascii_hexdigit b)) [
@@ -89,11 +89,11 @@ decided_hash x = elim (tested (nat_le 40 (length x))) [
   ]
 ]
 
--- each text with these parts reads as r
+-- r is the reading of each text with these parts
 abbrev pub PartsRead : Operation → Mode → List ℕ → Option (List ℕ) → Reading → Type 0
 PartsRead op m s d r = (text : List ℕ) → AreParts m s d text → Reads op text r
 
--- parts read, or there is a first reason against them
+-- parts have a reading, or a first reason to refuse them
 abbrev pub Settled : Operation → Mode → List ℕ → Option (List ℕ) → Type 0
 Settled op m s d = ((r : Reading) × PartsRead op m s d r) ⊎ ((e : Refusal) × IsFirstReason op m s d e)
 
@@ -161,7 +161,7 @@ settled_negative op s None = elim (checked s) [
   ]
 ]
 
--- parts read or have a first reason against them
+-- any parts have a reading, or a first reason to refuse them
 pub settled : (op : Operation) (m : Mode) (s : List ℕ) (d : Option (List ℕ)) → Settled op m s d
 settled op Negative s d = settled_negative op s d
 settled Fetch Normal s d = settled_fetch Normal s d tt
@@ -171,7 +171,7 @@ settled Push Forced s None = settled_push_alone Forced s tt
 settled Push Normal s (Some t) = settled_push Normal s t tt
 settled Push Forced s (Some t) = settled_push Forced s t tt
 
--- each text has a sign, or none
+-- a text with its sign, or without one
 record Signs (text : List ℕ) : Type 0 where
   mode : Mode
   rest : List ℕ
@@ -187,7 +187,7 @@ signs (b ∷ x) = elim (decided_byte b plus) [
   ]
 ]
 
--- a text cut at its last colon, or uncut if it has none
+-- a text split at its last colon, or whole if it has none
 record Split (x : List ℕ) : Type 0 where
   source : List ℕ
   destination : Option (List ℕ)
@@ -212,7 +212,7 @@ parted text =
     let c = split s.rest in
     record { mode = s.mode; source = c.source; destination = c.destination; parts = record { signed = subst (IsSigned s.mode text) c.whole s.signed; last = c.last } }
 
--- each text reads, or is refused
+-- each text has a reading or is refused
 pub read_or_refused : (op : Operation) (text : List ℕ) → ((r : Reading) × Reads op text r) ⊎ ((e : Refusal) × IsRefused op text e)
 read_or_refused op text =
     let p = parted text in

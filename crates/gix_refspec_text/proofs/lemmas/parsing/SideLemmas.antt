@@ -1,4 +1,4 @@
--- Names and patterns as sides, and the reasons against a side.
+-- Names and patterns as sides, and the reasons to refuse a side.
 use Rattle.std.proofs.Common.{◌≡◌, ◌⊎◌, inl, inr, ℕ, List, [], ◌∷◌, ◌++◌, Option, None, Some, option_map, unwrap_or, is_some, Bor, false, refl, sym, ap, ◌∙◌, subst}
 use Rattle.std.proofs.lemmas.Bool.{false≢true}
 use denote.Enum.Bare.{sameb}
@@ -20,7 +20,7 @@ use Rattle.gix_refspec_text.specs.declared.name.PatternError.TheVariants as foun
 use Rattle.gix_refspec_text.proofs.lemmas.texts.TextLemmas.{Lacks-ContainsText, Lacks-from_absent, one_not_two}
 use Rattle.gix_refspec_text.proofs.lemmas.lists.LacksLemmas.{first_once}
 
--- neither P nor, after it, Q
+-- if neither P nor Q ever applies, nor does one after the other
 pub Never-or : {P Q : Refusal → Type 0} → Never P → Never Q → Never (OrElse P Q)
 Never-or p q e (inl h) = p e h
 Never-or p q e (inr h) = q e h.1
@@ -39,7 +39,7 @@ HasStar-pattern x pattern = HasStar-replaced x pattern.with_letter pattern.repla
 pub HasStar-stars : (x : List ℕ) → HasSeveralStars x → HasStar x
 HasStar-stars x stars = record { before = stars.before; after = stars.between ++ (star ∷ stars.after); here = stars.here }
 
--- one star is replaced in one way
+-- the only star of a text is replaced in only one way
 pub replaced_once : (x y z : List ℕ) → ReplacesStar x y → ReplacesStar x z → y ≡ z
 replaced_once x y z a b =
     let same = first_once star a.before b.before a.after b.after a.split.first b.split.first (sym a.split.starred ∙ b.split.starred) in
@@ -53,20 +53,20 @@ replaced_once x y z a b =
 pub HasSeveralStars-replaced : (x y : List ℕ) → ReplacesStar x y → HasSeveralStars x → ⊥
 HasSeveralStars-replaced x y replaces stars = one_not_two star replaces.before replaces.after stars.before stars.between stars.after replaces.split.first replaces.split.last (sym replaces.split.starred ∙ stars.here)
 
--- a text with a reason against it as a pattern has a star
+-- a bad pattern has a star
 pub HasStar-bad : (x : List ℕ) (e : Refusal) → IsBadPattern x e → HasStar x
 HasStar-bad x (PatternUnsupported p) bad = HasStar-stars x bad.0
 HasStar-bad x (ReferenceName fault) bad = HasStar-replaced x bad.0 bad.1
 HasStar-bad x _ bad = absurd bad
 
--- nothing is against a pattern
+-- a pattern isn't a bad one
 pub pattern_fine : (x : List ℕ) → IsPattern x → Never (IsBadPattern x)
 pattern_fine x pattern (PatternUnsupported p) bad = HasSeveralStars-replaced x pattern.with_letter pattern.replaces bad.0
 pattern_fine x pattern (ReferenceName fault) bad =
     pattern.name fault (subst (λ (y : List ℕ). HasFault y fault) (replaced_once x bad.0 pattern.with_letter bad.1 pattern.replaces) bad.2)
 pattern_fine x pattern _ bad = bad
 
--- nor is there a fault of a pattern, except that memory may run out
+-- a pattern has no fault, except that memory may run out
 pub nothing_against : (x : List ℕ) → NothingAgainst x
 nothing_against x pattern (found.Name fault) told = absurd (pattern_fine x pattern (ReferenceName fault) told)
 nothing_against x pattern found.Memory long = (refl, long)
@@ -75,7 +75,7 @@ nothing_against x pattern found.Memory long = (refl, long)
 pub plain_fine : (x : List ℕ) → Lacks star x → Never (IsBadPattern x)
 plain_fine x lacks e bad = Lacks-ContainsText star x lacks (HasStar-bad x e bad)
 
--- a text with a reason against it as a name has no star, and is no name
+-- a bad name has no star, and isn't a name
 pub bad_name : (x : List ℕ) (e : Refusal) → IsBadName x e → Lacks star x × ¬ (IsName x)
 bad_name x (ReferenceName fault) bad = (bad.0, λ name. name fault bad.1)
 bad_name x _ bad = absurd bad
@@ -88,7 +88,7 @@ pub pattern_not_bad : (x : List ℕ) → IsPattern x → (e : Refusal) → IsBad
 pattern_not_bad x pattern e (inl bad) = Lacks-ContainsText star x (bad_name x e bad).0 (HasStar-pattern x pattern)
 pattern_not_bad x pattern e (inr bad) = pattern_fine x pattern e bad
 
--- nothing is against a side that was found fine
+-- a checked side isn't bad
 pub checked_fine : (x : List ℕ) (k : Shape) → HasCheckedShape x k → Never (IsBadSide x)
 checked_fine [] k fine e bad = bad.0 refl
 checked_fine (b ∷ bs) Plain fine e bad = name_not_bad (b ∷ bs) fine e bad.1
@@ -98,7 +98,7 @@ pub starred_fine : (x : List ℕ) (k : Shape) → HasShape x k → Never (IsBadP
 starred_fine x Plain fine = plain_fine x fine
 starred_fine x Pattern fine = pattern_fine x fine
 
--- the empty text is no pattern
+-- the empty text isn't a pattern
 pub empty_no_pattern : IsPattern [] → ⊥
 empty_no_pattern pattern = Lacks-ContainsText star [] tt (HasStar-pattern [] pattern)
 
@@ -107,23 +107,23 @@ pub checked_plain : (x : List ℕ) → HasCheckedShape x Plain → Lacks star x
 checked_plain [] fine = tt
 checked_plain (b ∷ bs) fine = Lacks-name (b ∷ bs) fine
 
--- what was checked is also starred so
+-- a checked side also has the shape that it was checked for
 pub checked_starred : (x : List ℕ) (k : Shape) → HasCheckedShape x k → HasShape x k
 checked_starred x Plain fine = checked_plain x fine
 checked_starred [] Pattern fine = fine
 checked_starred (b ∷ bs) Pattern fine = fine
 
--- the bytes of what a missing reference was replaced by
+-- the bytes of an optional reference, or of an empty one in its place
 pub now-unwrap_or : (d : Option (Bor (List ℕ))) (e x : Bor (List ℕ)) → x ≡ unwrap_or d e → e.now ≡ [] → x.now ≡ unwrap_or (option_map (λ (y : Bor (List ℕ)). y.now) d) []
 now-unwrap_or None e x is empty = ap (λ (y : Bor (List ℕ)). y.now) is ∙ empty
 now-unwrap_or (Some y) e x is empty = ap (λ (y : Bor (List ℕ)). y.now) is
 
--- a side that was found missing
+-- a side is missing if the test says so
 pub none_from_test : (d : Option (Bor (List ℕ))) → false ≡ is_some d → option_map (λ (y : Bor (List ℕ)). y.now) d ≡ None
 none_from_test None test = refl
 none_from_test (Some y) test = absurd (false≢true test)
 
--- a mode that was found not to be `Normal`
+-- a mode isn't `Normal` if the test says so
 pub signed_from_test : (m : DeclaredMode) → false ≡ sameb the_mode m declared_mode.Normal → mode_of m ≡ Normal → ⊥
 signed_from_test declared_mode.Normal test normal = false≢true test
 signed_from_test declared_mode.Force test normal = absurd (cc)

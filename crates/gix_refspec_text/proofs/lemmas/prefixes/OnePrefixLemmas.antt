@@ -1,9 +1,9 @@
--- A side has one prefix, and is expanded to one list.
+-- A side has at most one prefix and at most one expansion.
 use Rattle.std.proofs.Common.{◌≡◌, ℕ, List, [], ◌∷◌, ◌++◌, codes, sym, ap, ◌∙◌, subst}
 use Rattle.std.proofs.lemmas.List.{append_cancel_left}
 use Rattle.gix_refspec_text.specs.Texts.Words.{Lacks, ContainsText, BeginsWith}
 use Rattle.gix_refspec_text.specs.Texts.Bytes.{slash}
-use Rattle.gix_refspec_text.specs.Matching.Prefix.{IsPrefix, of_head, of_name, of_pattern, Expands, to_prefix, to_itself, strip_refs, of_object, to_candidates}
+use Rattle.gix_refspec_text.specs.Matching.Prefix.{IsPrefix, of_head, of_name, of_pattern, Expands, to_prefix, to_itself, below_refs, of_object, to_candidates}
 use Rattle.gix_refspec_text.specs.Laws.Readings.{OnePrefix}
 use Rattle.gix_refspec_text.proofs.lemmas.texts.TextLemmas.{Lacks-ContainsText}
 use Rattle.gix_refspec_text.proofs.lemmas.hits.MatchLemmas.{lacks_no_pattern, split_once}
@@ -20,43 +20,43 @@ prefix_once x p q (of_pattern before after split _ _) (of_head is _) = absurd (h
 prefix_once x p q (of_pattern before after split _ _) (of_name _ lacks _) = absurd (lacks_no_pattern x before after lacks split)
 prefix_once x p q (of_pattern before after split _ a) (of_pattern before2 after2 cut2 _ b) = a ∙ ((split_once x before after before2 after2 split cut2).0 ∙ sym b)
 
--- a slash is after `refs/`, or none is
+-- the text after `refs/` contains a slash or doesn't, but not both
 not_both : (x rest other : List ℕ) → x ≡ codes "refs/" ++ rest → x ≡ codes "refs/" ++ other → Lacks slash rest → ContainsText (codes "/") other → ⊥
 not_both x rest other is is2 lacks holds =
     let same = append_cancel_left (codes "refs/") rest other (sym is ∙ is2) in
     Lacks-ContainsText slash other (subst (Lacks slash) same lacks) holds
 
--- what is `refs/` and more begins so
+-- `refs/` and more begins with `refs/`
 begins : (x rest : List ℕ) → x ≡ codes "refs/" ++ rest → BeginsWith (codes "refs/") x
 begins x rest is = record { after = rest; here = is }
 
 expanded_once : (x : List ℕ) (list other : List (List ℕ)) → Expands x list → Expands x other → list ≡ other
 expanded_once x list other (to_prefix p is a) (to_prefix q is2 b) = a ∙ (ap (λ (y : List ℕ). y ∷ []) (prefix_once x p q is is2) ∙ sym b)
 expanded_once x list other (to_prefix p is _) (to_itself _ none _ _ _) = absurd (none p is)
-expanded_once x list other (to_prefix p is _) (strip_refs _ none _ _ _) = absurd (none p is)
+expanded_once x list other (to_prefix p is _) (below_refs _ none _ _ _) = absurd (none p is)
 expanded_once x list other (to_prefix p is _) (of_object none _ _ _) = absurd (none p is)
 expanded_once x list other (to_prefix p is _) (to_candidates none _ _ _) = absurd (none p is)
 expanded_once x list other (to_itself _ none _ _ _) (to_prefix p is _) = absurd (none p is)
 expanded_once x list other (to_itself _ _ _ _ a) (to_itself _ _ _ _ b) = a ∙ sym b
-expanded_once x list other (to_itself rest _ is lacks _) (strip_refs rest2 _ is2 holds _) = absurd (not_both x rest rest2 is is2 lacks holds)
+expanded_once x list other (to_itself rest _ is lacks _) (below_refs rest2 _ is2 holds _) = absurd (not_both x rest rest2 is is2 lacks holds)
 expanded_once x list other (to_itself rest _ is _ _) (of_object _ outside _ _) = absurd (outside (begins x rest is))
 expanded_once x list other (to_itself rest _ is _ _) (to_candidates _ outside _ _) = absurd (outside (begins x rest is))
-expanded_once x list other (strip_refs _ none _ _ _) (to_prefix p is _) = absurd (none p is)
-expanded_once x list other (strip_refs rest2 _ is2 holds _) (to_itself rest _ is lacks _) = absurd (not_both x rest rest2 is is2 lacks holds)
-expanded_once x list other (strip_refs _ _ _ _ a) (strip_refs _ _ _ _ b) = a ∙ sym b
-expanded_once x list other (strip_refs rest _ is _ _) (of_object _ outside _ _) = absurd (outside (begins x rest is))
-expanded_once x list other (strip_refs rest _ is _ _) (to_candidates _ outside _ _) = absurd (outside (begins x rest is))
+expanded_once x list other (below_refs _ none _ _ _) (to_prefix p is _) = absurd (none p is)
+expanded_once x list other (below_refs rest2 _ is2 holds _) (to_itself rest _ is lacks _) = absurd (not_both x rest rest2 is is2 lacks holds)
+expanded_once x list other (below_refs _ _ _ _ a) (below_refs _ _ _ _ b) = a ∙ sym b
+expanded_once x list other (below_refs rest _ is _ _) (of_object _ outside _ _) = absurd (outside (begins x rest is))
+expanded_once x list other (below_refs rest _ is _ _) (to_candidates _ outside _ _) = absurd (outside (begins x rest is))
 expanded_once x list other (of_object none _ _ _) (to_prefix p is _) = absurd (none p is)
 expanded_once x list other (of_object _ outside _ _) (to_itself rest _ is _ _) = absurd (outside (begins x rest is))
-expanded_once x list other (of_object _ outside _ _) (strip_refs rest _ is _ _) = absurd (outside (begins x rest is))
+expanded_once x list other (of_object _ outside _ _) (below_refs rest _ is _ _) = absurd (outside (begins x rest is))
 expanded_once x list other (of_object _ _ _ a) (of_object _ _ _ b) = a ∙ sym b
 expanded_once x list other (of_object _ _ id _) (to_candidates _ _ unlike _) = absurd (unlike id)
 expanded_once x list other (to_candidates none _ _ _) (to_prefix p is _) = absurd (none p is)
 expanded_once x list other (to_candidates _ outside _ _) (to_itself rest _ is _ _) = absurd (outside (begins x rest is))
-expanded_once x list other (to_candidates _ outside _ _) (strip_refs rest _ is _ _) = absurd (outside (begins x rest is))
+expanded_once x list other (to_candidates _ outside _ _) (below_refs rest _ is _ _) = absurd (outside (begins x rest is))
 expanded_once x list other (to_candidates _ _ unlike _) (of_object _ _ id _) = absurd (unlike id)
 expanded_once x list other (to_candidates _ _ _ a) (to_candidates _ _ _ b) = a ∙ sym b
 
--- a side has one prefix at most, and is expanded to one list
+-- a side has at most one prefix and at most one expansion
 pub one_prefix : (x : List ℕ) → OnePrefix x
 one_prefix x = record { prefix = prefix_once x; expanded = expanded_once x }

@@ -1,4 +1,4 @@
--- Prefixes of sides, and what sides are expanded to.
+-- Prefixes and expansions of sides.
 use Rattle.std.proofs.Common.{◌≡◌, ◌≢◌, inl, inr, ◌≤◌, ◌<◌, ℕ, Bool, true, false, not, ◌↔◌, IsTrue, MatchBool, MatchOption, Bor, if◌then◌else◌, List, [], ◌∷◌, ◌++◌, codes, map, length, get_or, is_ok, Result, Ok, Err, OnOk, OnErr, refl, sym, ap, ◌∙◌, subst, length-append, arith}
 use Rattle.std.specs.Prelude.{⊤}
 use Rattle.std.specs.Bool.{then_some}
@@ -11,7 +11,7 @@ use Rattle.gix_refspec_text.specs.Texts.Name.{IsSplit, HasOneStar}
 use Rattle.gix_refspec_text.specs.Texts.Bytes.{star, slash, head, bracket}
 use Rattle.gix_refspec_text.specs.Specs.Reading.{Reading}
 use Rattle.gix_refspec_text.specs.Matching.Side.{IsId}
-use Rattle.gix_refspec_text.specs.Matching.Prefix.{IsRefPrefix, IsPrefix, of_head, of_name, of_pattern, HasNoPrefix, Expands, to_prefix, to_itself, strip_refs, of_object, to_candidates, IsAsked, IsExpansion}
+use Rattle.gix_refspec_text.specs.Matching.Prefix.{IsRefPrefix, IsPrefix, of_head, of_name, of_pattern, HasNoPrefix, Expands, to_prefix, to_itself, below_refs, of_object, to_candidates, IsAsked, IsExpansion}
 use Rattle.gix_refspec_text.specs.declared.oid.Kind.{Kind}
 use Rattle.gix_refspec_text.specs.declared.oid.Kind.TheVariants.{Sha1, Sha256}
 use Rattle.gix_refspec_text.proofs.lemmas.texts.TextLemmas.{Lacks-ContainsText}
@@ -34,7 +34,7 @@ id_not_head x id text is = short text.kind (sym (ap length is) ∙ text.digits)
 pub head_no_split : (x before after : List ℕ) → x ≡ head → IsSplit before after x → ⊥
 head_no_split x before after is split = lacks_no_pattern x before after (subst (Lacks star) (sym is) (Lacks-name head IsName-head)) split
 
--- a pattern has no prefix where its ends give none
+-- a pattern has no prefix if the texts around its star don't give one
 pub no_prefix : (x before after : List ℕ) → IsSplit before after x → ¬ (IsRefPrefix before after) → HasNoPrefix x
 no_prefix x before after split vague p (of_head is _) = head_no_split x before after is split
 no_prefix x before after split vague p (of_name begins lacks _) = lacks_no_pattern x before after lacks split
@@ -44,7 +44,7 @@ no_prefix x before after split vague p (of_pattern first last other tells _) =
     let same_last : last ≡ after = once.1 in
     vague (subst (λ (a : List ℕ). IsRefPrefix before a) same_last (subst (λ (b : List ℕ). IsRefPrefix b last) same_first tells))
 
--- the text before a star gives a prefix if it goes on below `refs/` and neither end has a bracket
+-- the text before a star is a prefix if it continues after `refs/` and the pattern contains no bracket
 pub tells : (before after rest : List ℕ) → before ≡ codes "refs/" ++ rest → 1 ≤ length rest → Lacks bracket before → Lacks bracket after → IsRefPrefix before after
 tells before after rest below full first last = record {
   below = record { after = rest; here = below };
@@ -53,7 +53,7 @@ tells before after rest below full first last = record {
   last = last;
 }
 
--- a test for brackets decides whether a pattern below `refs/` has a prefix
+-- a test for a bracket decides whether a pattern that begins with `refs/` has a prefix
 pub told_clear : (before after rest : List ℕ) → before ≡ codes "refs/" ++ rest → 1 ≤ length rest → Lacks bracket before → (r : Bool) → MatchBool r (ContainsText (bracket ∷ []) after) (Lacks bracket after) → IsTrue (not r) ↔ IsRefPrefix before after
 told_clear before after rest below full first true holds = ((λ so. absurd (false≢true so)), (λ told. absurd (Lacks-ContainsText bracket after told.last holds)))
 told_clear before after rest below full first false lacks = ((λ _. tells before after rest below full first lacks), (λ _. refl))
@@ -62,45 +62,45 @@ pub told_bracket : (before after : List ℕ) (r : Bool) → MatchBool r (Contain
 told_bracket before after true told holds = ((λ so. absurd (false≢true so)), (λ tells. absurd (Lacks-ContainsText bracket before tells.first holds)))
 told_bracket before after false lacks holds = absurd (Lacks-ContainsText bracket before lacks holds)
 
--- a side with a prefix expands to something
+-- the expansion of a side with a prefix isn't empty
 pub prefix_expands : (x p : List ℕ) → IsPrefix x p → ¬ (Expands x [])
 prefix_expands x p is (to_prefix q has one) = absurd (cc)
 prefix_expands x p is (to_itself rest none below lacks one) = absurd (cc)
-prefix_expands x p is (strip_refs rest none below holds empty) = none p is
+prefix_expands x p is (below_refs rest none below holds empty) = none p is
 prefix_expands x p is (of_object none outside id empty) = none p is
 prefix_expands x p is (to_candidates none outside unlike six) = absurd (cc)
 
--- so does a side with nothing but one name after `refs/`
+-- nor is that of a side with only one component after `refs/`
 pub itself_expands : (x rest : List ℕ) → x ≡ codes "refs/" ++ rest → Lacks slash rest → ¬ (Expands x [])
 itself_expands x rest below lacks (to_prefix q has one) = absurd (cc)
 itself_expands x rest below lacks (to_itself rest2 none below2 lacks2 one) = absurd (cc)
-itself_expands x rest below lacks (strip_refs rest2 none below2 holds empty) =
+itself_expands x rest below lacks (below_refs rest2 none below2 holds empty) =
     let same : rest ≡ rest2 = append_cancel_left (codes "refs/") rest rest2 (sym below ∙ below2) in
     Lacks-ContainsText slash rest2 (subst (Lacks slash) same lacks) holds
 itself_expands x rest below lacks (of_object none outside id empty) = outside (record { after = rest; here = below })
 itself_expands x rest below lacks (to_candidates none outside unlike six) = absurd (cc)
 
--- and a partial name
+-- nor that of a partial name
 pub partial_expands : (x : List ℕ) → ¬ (BeginsWith (codes "refs/") x) → ¬ (IsId x) → ¬ (Expands x [])
 partial_expands x outside unlike (to_prefix q has one) = absurd (cc)
 partial_expands x outside unlike (to_itself rest none below lacks one) = absurd (cc)
-partial_expands x outside unlike (strip_refs rest none below holds empty) = outside (record { after = rest; here = below })
+partial_expands x outside unlike (below_refs rest none below holds empty) = outside (record { after = rest; here = below })
 partial_expands x outside unlike (of_object none outside2 id empty) = unlike id
 partial_expands x outside unlike (to_candidates none outside2 unlike2 six) = absurd (cc)
 
--- a side that expands to nothing expands to no other list
+-- a side with an empty expansion has no other expansion
 pub nothing_else : (x : List ℕ) (list : List (List ℕ)) → Expands x list → Expands x [] → list ≡ []
 nothing_else x list (to_prefix p is one) nothing = absurd (prefix_expands x p is nothing)
 nothing_else x list (to_itself rest none below lacks one) nothing = absurd (itself_expands x rest below lacks nothing)
-nothing_else x list (strip_refs rest none below holds empty) nothing = empty
+nothing_else x list (below_refs rest none below holds empty) nothing = empty
 nothing_else x list (of_object none outside id empty) nothing = empty
 nothing_else x list (to_candidates none outside unlike six) nothing = absurd (partial_expands x outside unlike nothing)
 
--- the side that is asked for is one
+-- a reading has at most one side on the remote
 pub one_asked : (r : Reading) (x y : List ℕ) → IsAsked r x → IsAsked r y → x ≡ y
 one_asked r x y a b = let p = a.side in let q = b.side in cc
 
--- where a reading expands to nothing, so does the side that is asked for
+-- if the expansion of a reading is empty, so is that of its side on the remote
 pub asked_nothing : (r : Reading) (x : List ℕ) → IsAsked r x → IsExpansion r [] → Expands x []
 asked_nothing r x asked (inl (y, other, nothing)) = subst (λ (z : List ℕ). Expands z []) (one_asked r y x other asked) nothing
 asked_nothing r x asked (inr (unasked, empty)) = absurd (unasked x asked)
@@ -110,16 +110,16 @@ pub on_any_error : {T E P : Type 0} (r : Result T E) → P → OnErr r P
 on_any_error (Ok x) holds = tt
 on_any_error (Err e) holds = holds
 
--- where a reading expands to nothing, the entries of that side are none
+-- if the expansion of a reading is empty, that side has no entries
 pub no_entries : {X : Type 0} (f : X → List ℕ) (r : Reading) (x : List ℕ) (entries : List X) → IsAsked r x → Expands x (map f entries) → IsExpansion r [] → length entries ≡ 0
 no_entries f r x entries asked expands nothing = sym (length-map entries f) ∙ ap length (nothing_else x (map f entries) expands (asked_nothing r x asked nothing))
 
--- a list that took another one's items, seen item by item
+-- a list with the items of another one appended, mapped by f
 pub appended_ok : {X : Type 0} {E : Type 0} (f : X → List ℕ) (r : Result ⊤ E) (old more new : List X) → new ≡ (if is_ok r then old ++ more else old) → OnOk r (map f new ≡ map f old ++ map f more)
 appended_ok f (Ok u) old more new is = ap (map f) is ∙ map-append f old more
 appended_ok f (Err e) old more new is = tt
 
--- a text with one star is no id
+-- a text with one star isn't an id
 pub starred_no_id : (x : List ℕ) → HasOneStar x → ¬ (IsId x)
 starred_no_id x (before, after, split) id =
     let all = AllPass-IsIdText x id.0 id.1 in

@@ -1,4 +1,4 @@
--- What is so of the sides of each reading that some text has.
+-- The sides of each reading that some text has.
 use Rattle.std.proofs.Common.{◌≡◌, ◌⊎◌, inl, inr, ℕ, List, [], Option, None, Some, sym, subst}
 use Rattle.std.proofs.Math.Logic.{∥∥₁_elim}
 use Rattle.gix_refspec_text.specs.declared.parsing.Operation.{Operation}
@@ -14,7 +14,7 @@ use Rattle.gix_refspec_text.proofs.lemmas.parsing.SideLemmas.{Lacks-name, HasSta
 use Rattle.gix_refspec_text.proofs.lemmas.texts.HeadLemmas.{IsName-head}
 use Rattle.gix_refspec_text.proofs.lemmas.specs.ReadBackLemmas.{named_so, named_name, named_pattern}
 
--- a side that is there has one star at most
+-- a present side has at most one star
 abbrev pub HasFew : Option (List ℕ) → Type 0
 HasFew None = Unit {0}
 HasFew (Some x) = ¬ (HasSeveralStars x)
@@ -36,15 +36,15 @@ alike_few : (s d : List ℕ) → AreAlike s d → (¬ (HasSeveralStars s)) × (�
 alike_few s d (inl names) = (name_few s names.0, name_few d names.1)
 alike_few s d (inr patterns) = (pattern_few s patterns.0, pattern_few d patterns.1)
 
--- what a source names has as few stars as the source
+-- if a source has at most one star, so has what it names
 named_few : (s : List ℕ) → ¬ (HasSeveralStars s) → ¬ (HasSeveralStars (named_by s))
 named_few s few = named_so (λ (x : List ℕ). ¬ (HasSeveralStars x)) s (name_few head IsName-head) few
 
--- both sides of a reading
+-- both sides of a reading have at most one star
 abbrev pub SidesHaveFew : Reading → Type 0
 SidesHaveFew r = HasFew r.source × HasFew r.destination
 
--- a reading that is this one
+-- the same for an equal reading
 for_reading : (r q : Reading) → r ≡ q → SidesHaveFew q → SidesHaveFew r
 for_reading r q same few = subst SidesHaveFew (sym same) few
 
@@ -63,16 +63,16 @@ reads_few op text r (pushes_pattern mode s d _ _ _ of_s of_d is) = for_reading r
 reads_few op text r (pushes_to mode s d _ _ _ full lacks name is) = for_reading r _ is (named_few s (lacks_few s lacks), name_few d name)
 reads_few op text r (push_excludes s _ _ either _ is) = for_reading r _ is (named_few s (either_few s either), tt)
 
--- one of the sides
+-- so one of the sides doesn't have several stars
 one_few : (r : Reading) (x : List ℕ) → SidesHaveFew r → (r.source ≡ Some x) ⊎ (r.destination ≡ Some x) → ¬ (HasSeveralStars x)
 one_few r x few (inl is) = subst HasFew is few.0
 one_few r x few (inr is) = subst HasFew is few.1
 
--- each side of a reading that some text has
+-- a side of a reading that some text has doesn't have several stars
 pub accepted_few : (r : Reading) (x : List ℕ) → ∥ IsAccepted r ∥₁ → (r.source ≡ Some x) ⊎ (r.destination ≡ Some x) → ¬ (HasSeveralStars x)
 accepted_few r x accepted side = ∥∥₁_elim accepted (hlevel []) (λ by. one_few r x (reads_few r.operation by.0 r by.1) side)
 
--- the side on the remote is one of them
+-- the side on the remote is one of the sides
 remote_is : (op : Operation) (s d : Option (List ℕ)) (x : List ℕ) → side_on_remote op s d ≡ Some x → (s ≡ Some x) ⊎ (d ≡ Some x)
 remote_is Push s d x is = inr is
 remote_is Fetch s d x is = inl is
@@ -80,7 +80,7 @@ remote_is Fetch s d x is = inl is
 pub remote_few : (r : Reading) (x : List ℕ) → ∥ IsAccepted r ∥₁ → remote_of r ≡ Some x → ¬ (HasSeveralStars x)
 remote_few r x accepted is = accepted_few r x accepted (remote_is r.operation r.source r.destination x is)
 
--- two texts without a star, or two patterns, are alike in their stars
+-- two texts without a star are balanced, and so are two texts with one
 neither_starred : (s d : List ℕ) → Lacks star s → Lacks star d → ¬ (IsOneStarred s d)
 neither_starred s d lacks_s lacks_d (inl one) = Lacks-ContainsText star s lacks_s one.0
 neither_starred s d lacks_s lacks_d (inr one) = Lacks-ContainsText star d lacks_d one.1
@@ -93,13 +93,13 @@ alike_balanced : (s d : List ℕ) → AreAlike s d → ¬ (IsOneStarred (named_b
 alike_balanced s d (inl names) = neither_starred (named_by s) d (Lacks-name (named_by s) (named_name s names.0)) (Lacks-name d names.1)
 alike_balanced s d (inr patterns) = both_starred (named_by s) d (subst HasStar (sym (named_pattern s patterns.0)) (HasStar-pattern s patterns.0)) (HasStar-pattern d patterns.1)
 
--- two sides of which not exactly one has a star
+-- if both sides are present, not exactly one of them has a star
 abbrev pub AreBalanced : Option (List ℕ) → Option (List ℕ) → Type 0
 AreBalanced None d = Unit {0}
 AreBalanced (Some s) None = Unit {0}
 AreBalanced (Some s) (Some d) = ¬ (IsOneStarred s d)
 
--- the sides of a reading that is this one
+-- the same for an equal reading
 for_sides : (r q : Reading) → r ≡ q → AreBalanced q.source q.destination → AreBalanced r.source r.destination
 for_sides r q same balanced = subst (λ (x : Reading). AreBalanced x.source x.destination) (sym same) balanced
 
@@ -118,7 +118,7 @@ reads_balanced op text r (pushes_pattern mode s d _ _ _ of_s of_d is) = for_side
 reads_balanced op text r (pushes_to mode s d _ _ _ full lacks name is) = for_sides r _ is (neither_starred (named_by s) d (named_so (Lacks star) s (Lacks-name head IsName-head) lacks) (Lacks-name d name))
 reads_balanced op text r (push_excludes s _ _ either _ is) = for_sides r _ is tt
 
--- of the two sides of a reading that some text has, both have a star or neither
+-- if some text has the reading, not exactly one of its two sides has a star
 pub accepted_balanced : (r : Reading) (s d : List ℕ) → ∥ IsAccepted r ∥₁ → r.source ≡ Some s → r.destination ≡ Some d → ¬ (IsOneStarred s d)
 accepted_balanced r s d accepted source destination =
     ∥∥₁_elim accepted (hlevel []) (λ by. subst (λ y. AreBalanced (Some s) y) destination (subst (λ x. AreBalanced x r.destination) source (reads_balanced r.operation by.0 r by.1)))

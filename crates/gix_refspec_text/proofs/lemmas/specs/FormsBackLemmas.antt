@@ -1,4 +1,4 @@
--- Each form prints as a text that reads with the same meaning.
+-- Each form is printed as a text that reads back with the same meaning.
 use Rattle.std.proofs.Common.{◌≡◌, ◌≢◌, ◌⊎◌, inl, inr, ℕ, Bool, List, [], ◌∷◌, ◌++◌, Option, None, Some, option_map, refl, sym, ap, ◌∙◌, subst, arith}
 use Rattle.gix_refspec_text.specs.declared.parsing.Operation.{Operation}
 use Rattle.gix_refspec_text.specs.declared.parsing.Operation.TheVariants.{Push, Fetch}
@@ -18,13 +18,13 @@ use Rattle.gix_refspec_text.proofs.lemmas.parsing.SettleLemmas.{read_or_refused}
 use Rattle.gix_refspec_text.proofs.lemmas.specs.ReadBackLemmas.{printed_back, named_so, named_name, named_once, named_pattern, named_either, named_alike, named_full, named_parts, is_forced, Lacks-colon_either, head_unsigned, colon_unsigned}
 use Rattle.std.proofs.lemmas.Option.{same_Some}
 
--- what a positive spec means
+-- the meaning of a positive spec
 means : (op : Operation) (m : Mode) (s d : Option (List ℕ)) → IsPositive m → meaning op m s d ≡ included op (is_forced m) s d
 means op Normal s d pos = refl
 means op Forced s d pos = refl
 means op Negative s d pos = absurd pos
 
--- for an operation and a reading that are these
+-- the same for an equal operation and an equal reading
 for_form : (op o : Operation) (r q : Reading) → op ≡ o → r ≡ q → IsPrintedBack o q → IsPrintedBack op r
 for_form op o r q same is back = subst (λ (x : Operation). IsPrintedBack x r) (sym same) (subst (IsPrintedBack o) (sym is) back)
 
@@ -61,7 +61,7 @@ back_from_head m d pos name =
     (updates m head d refl pos (head_parts m d pos (Lacks-colon_name d name)) (inl (IsName-head, name)) refl)
     (means Fetch m (Some head) (Some d) pos)
 
--- what is named by no object hash looks like none
+-- if a source doesn't look like an object hash, nor does what it names
 named_hash : (s : List ℕ) → ¬ (LooksLikeObjectHash s) → ¬ (LooksLikeObjectHash (named_by s))
 named_hash s other = named_so (λ (x : List ℕ). ¬ (LooksLikeObjectHash x)) s (λ hash. omega (arith, hash.long)) other
 
@@ -98,7 +98,7 @@ reads_pair : (m : Mode) (s d text : List ℕ) → IsPositive m → AreParts m s 
 reads_pair m s d text pos parts (inl names) = pushes_to m s d refl pos parts (name_not_empty s names.0) (Lacks-name s names.0) names.1 refl
 reads_pair m s d text pos parts (inr patterns) = pushes_pattern m s d refl pos parts patterns.0 patterns.1 refl
 
--- a name or a pattern twice
+-- the same name or pattern on both sides
 twice : (s : List ℕ) → IsNameOrPattern s → AreAlike s s
 twice s (inl name) = inl (name, name)
 twice s (inr pattern) = inr (pattern, pattern)
@@ -127,7 +127,7 @@ back_push m s d text pos full parts reads =
     reads
     (means Push m (Some (named_by t)) (Some d) pos ∙ ap (λ (x : List ℕ). Some (push_matching x d (is_forced m))) (named_once s))
 
--- whatever reads prints as a text that reads back
+-- each reading of a text is printed as a text that reads back
 pub read_back : (op : Operation) (text : List ℕ) (r : Reading) → Reads op text r → IsPrintedBack op r
 read_back op text r (fetches_nothing_named m fetch pos parts is) = for_form op Fetch r (fetched m head None) fetch is (back_only m head pos IsName-head refl)
 read_back op text r (fetches_colon m fetch pos parts is) = for_form op Fetch r (fetched m head None) fetch is (back_only m head pos IsName-head refl)
@@ -157,14 +157,14 @@ once_or_refused op text = elim (read_or_refused op text) [
   | inr refusal ↦ inr refusal
 ]
 
--- readings with one canonical text mean the same, since that text has one reading
+-- readings with the same canonical text have the same meaning, since that text has only one reading
 same_meaning_by_text : (op : Operation) (r q : Reading) → IsPrintedBack op r → IsPrintedBack op q → printed r ≡ printed q → meaning_of r ≡ meaning_of q
 same_meaning_by_text op r q back_r back_q same =
     let texts = same_Some back_r.text back_q.text (sym back_r.is ∙ (same ∙ back_q.is)) in
     let again = back_q.again.only back_r.again.reading (subst (λ (x : List ℕ). Reads op x back_r.again.reading) texts back_r.again.reads) in
     sym back_r.same ∙ (ap meaning_of again ∙ back_q.same)
 
--- texts that read mean the same exactly where their canonical texts are equal
+-- readings of two texts have the same meaning exactly if their canonical texts are equal
 pub equal_texts : (op : Operation) (a b : List ℕ) → EqualTexts op a b
 equal_texts op a b r q by_r by_q = (
   λ same. ap (option_map text_of) same,

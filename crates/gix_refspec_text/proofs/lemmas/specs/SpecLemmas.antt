@@ -1,4 +1,4 @@
--- What holds of accepted readings, though none of the texts that read so is at hand.
+-- Facts on accepted readings, without a text that has the reading at hand.
 use Rattle.std.proofs.Common.{◌≡◌, ℕ, Bool, true, false, List, Option, None, Some, option_map, refl, sym, ap, ◌∙◌, subst, inl, inr}
 use Rattle.std.specs.Prelude.{nat_eq, ◌↔◌}
 use Rattle.std.specs.Cmp.Lexicographic.{pointwise}
@@ -21,7 +21,7 @@ use Rattle.std.proofs.lemmas.Option.{same_Some}
 of_operation : (op o : Operation) (r q : Reading) → op ≡ o → r ≡ q → q.operation ≡ o → r.operation ≡ op
 of_operation op o r q same is at = ap (λ (x : Reading). x.operation) is ∙ (at ∙ sym same)
 
--- what a text reads as is for the operation
+-- each reading of a text for an operation has that operation
 pub keeps_operation : (op : Operation) (text : List ℕ) → KeepsOperation op text
 keeps_operation op text r (fetches_nothing_named m fetch pos parts is) = of_operation op Fetch r _ fetch is refl
 keeps_operation op text r (fetches_colon m fetch pos parts is) = of_operation op Fetch r _ fetch is refl
@@ -37,7 +37,7 @@ keeps_operation op text r (pushes_pattern m s d push pos parts source destinatio
 keeps_operation op text r (pushes_to m s d push pos parts full plain name is) = of_operation op Push r _ push is refl
 keeps_operation op text r (push_excludes s push parts either hash is) = of_operation op Push r _ push is refl
 
--- what a meaning is for, or otherwise this
+-- the operation of a meaning, or a default
 abbrev operation_or : Operation → Option Meaning → Operation
 operation_or op None = op
 operation_or op (Some m) = meant_for m
@@ -62,7 +62,7 @@ meaning_for op Normal s d = included_for op false s d
 meaning_for op Forced s d = included_for op true s d
 meaning_for op Negative s d = excluded_for op s d
 
--- what a reading says is for its operation
+-- the meaning of a reading is for its operation
 pub says_for_operation : (r : Reading) → SaysForOperation r
 says_for_operation r m is = sym (ap (operation_or r.operation) is) ∙ meaning_for r.operation r.mode r.source r.destination
 
@@ -72,7 +72,7 @@ test_shown : {P : Type 0} (b : Bool) → ∥ P ∥₁ → (P → b ≡ true) →
 test_shown true there shows = refl
 test_shown false there shows = absurd (not_there there (λ fact. false≢true (shows fact)))
 
--- that two readings mean the same
+-- to show that two meanings are equal, such a fact may be assumed
 meaning_shown : {P : Type 0} (m n : Option Meaning) → ∥ P ∥₁ → (P → m ≡ n) → m ≡ n
 meaning_shown m n there shows =
     same_meaning m n (test_shown (pointwise (pointwise nat_eq) (keys m) (keys n)) there (λ fact. same_keys m n (shows fact)))
@@ -88,7 +88,7 @@ says_by r None is accepted = absurd (not_there accepted (λ a.
     none_not_some back.text (sym (ap (option_map text_of) is) ∙ back.is)))
 says_by r (Some m) is accepted = (m, is)
 
--- an accepted reading says something
+-- an accepted reading has a meaning
 pub says : (r : Reading) → ∥ IsAccepted r ∥₁ → (m : Meaning) × (meaning_of r ≡ Some m)
 says r accepted = says_by r (meaning_of r) refl accepted
 
@@ -103,18 +103,18 @@ same_operation r q accepted same =
     let said = says r accepted in
     sym (says_for_operation r said.0 said.1) ∙ says_for_operation q said.0 (sym same ∙ said.1)
 
--- accepted readings mean the same exactly where they are for one operation and print the same
+-- accepted readings have the same meaning exactly if they have the same operation and canonical text
 pub equal_readings : (r q : Reading) → ∥ IsAccepted r ∥₁ → ∥ IsAccepted q ∥₁ → EqualReadings r q
 equal_readings r q accepted_r accepted_q = (
   λ same. (same_operation r q accepted_r same, ap (option_map text_of) same),
   λ both. same_by_text r q accepted_r accepted_q both.0 both.1,
 )
 
--- specs are equal, as generic code tests it, exactly where they mean the same
+-- the keys of two meanings are equal, as `==` compares them, exactly if the meanings are
 pub equal_keys : (m n : Option Meaning) → (pointwise (pointwise nat_eq) (keys m) (keys n) ≡ true) ↔ (m ≡ n)
 equal_keys m n = (same_meaning m n, same_keys m n)
 
--- what an accepted reading prints has one reading, of the same meaning
+-- the canonical text of an accepted reading has exactly one reading, with the same meaning
 pub printed_back : (r : Reading) → ∥ IsAccepted r ∥₁ → IsPrintedBack r.operation r
 printed_back r accepted =
     let said = says r accepted in

@@ -1,4 +1,4 @@
--- From the mask of two loads, of bytes and of those before them, to bytes that are calm.
+-- Which bytes are calm, by the mask of two loads: of the bytes, and of the bytes before them.
 use Rattle.std.proofs.Common.{◌≡◌, ◌≢◌, ℕ, ◌+◌, ◌-◌, ◌%◌, ◌^◌, ◌<◌, ◌≤◌, ◌||◌, eqb, ltb, cond, Bool, true, false, not, List, [], ◌∷◌, map, length, get_or, replicate, bit_and, bit_or, Fits, w8, refl, sym, ap, ap₂, ◌∙◌, subst, inl, inr, arith}
 use Rattle.std.proofs.lemmas.Bool.{agree_below_at, not-true, cond-true, cond-false, eq-eqb, ne_eqb, cases_eq}
 use Rattle.std.proofs.lemmas.Simd.{mask_l-mod, length-zip2, get_or-zip2, length-chunk, get_or-chunk, leading_from_mask_l, trailing_mask_l}
@@ -23,7 +23,7 @@ splat_left : (h : ℕ → ℕ → ℕ) (y : ℕ) (xs : List ℕ) → zip2 h (rep
 splat_left h y [] = refl
 splat_left h y (x ∷ xs) = ap (λ r. h y x ∷ r) (splat_left h y xs)
 
--- `simd_gt` has its sides changed
+-- an operation with a splat on its left side, as `simd_gt` with its sides swapped
 pub from_splat : (h : ℕ → ℕ → ℕ) (v : List ℕ) (n y : ℕ) → length v ≡ n → zip2 h (replicate n y) v ≡ map (h y) v
 from_splat h v n y long = ap (λ k. zip2 h (replicate k y) v) (sym long) ∙ splat_left h y v
 
@@ -43,7 +43,7 @@ plain_class Brace same = cc
 plain_class Star same = cc
 plain_class Refused same = cc
 
--- the lowest bit of a mask is at the first lane that passes p
+-- the lowest set bit of a mask is at the first lane that passes p
 run_is : (p : ℕ → Bool) (z : List ℕ) (n : ℕ) → length z ≡ n → n ≤ 64 → lowest_of n (mask_l (map p z)) ≡ prefix_len (λ x. not (p x)) z
 run_is p z n long few =
     elim (cases_eq (mask_l (map p z)) 0) [
@@ -51,12 +51,12 @@ run_is p z n long few =
       | inr some ↦ cond-false _ _ _ (ne_eqb _ _ some) ∙ trailing_mask_l p 64 z (omega arith) (omega arith)
     ]
 
--- what the lane of a byte, that of a slash and that of the byte before it come to
+-- the lane of a byte, from the lanes f and g of the byte and h of the byte before it
 module _ (f g h : ℕ → ℕ) where
   lane : ℕ → ℕ → Bool
   lane x y = top 7 (bit_or (f x) (bit_and (g x) (h y)))
 
-  -- each lane below the lowest that is set is clear
+  -- each lane below the lowest set one is clear
   pub lane_clear : (d : List ℕ) (i r : ℕ) (s a b : List ℕ) → 0 < i → i + 16 ≤ length d → s ≡ map f (chunk i 16 d) → a ≡ map g (chunk i 16 d) → b ≡ map h (chunk (i - 1) 16 d)
       → r ≡ lowest_of 16 (mask_l (map (top 7) (zip2 bit_or s (zip2 bit_and a b))) % 2 ^ 64)
       → (r ≤ 16) × ((k : ℕ) → i ≤ k → k < i + r → top 7 (bit_or (f (get_or d k 0)) (bit_and (g (get_or d k 0)) (h (get_or d (k - 1) 0)))) ≡ false)
@@ -91,7 +91,7 @@ module _ (f g h : ℕ → ℕ) where
             sym (ap (top 7) lanes) ∙ clear,
       )
 
--- the lane that stops a byte, that of a slash, and that of a byte before
+-- the lanes of the code: a byte that ends the run, a slash, and a byte before that forbids a slash
 abbrev stop : ℕ → ℕ
 stop x = bit_or (bit_or (bit_or (bit_or (cond (ltb x 45) 255 0) (cond (eqb x 46) 255 0)) (bit_and (cond (ltb 57 x) 255 0) (cond (ltb x 64) 255 0))) (bit_and (cond (ltb 90 x) 255 0) (cond (ltb x 95) 255 0))) (cond (ltb 122 x) 255 0)
 
@@ -101,13 +101,13 @@ slashed x = cond (eqb x 47) 255 0
 abbrev ending : ℕ → ℕ
 ending y = bit_or (cond (eqb y 47) 255 0) (cond (eqb y 107) 255 0)
 
--- after a byte that may end a component a byte with a clear lane is plain
+-- after a slash or a `k` a byte with a clear lane is plain
 plain_after_end : (x : ℕ) → x < 256 → top 7 (bit_or (stop x) (bit_and (slashed x) 255)) ≡ false → class_at x ≡ Plain
 plain_after_end x below clear =
     plain_class (class_at x)
     (sym (ap (λ t. t || is_plain_class (class_at x)) clear) ∙ agree_below_at (λ b. top 7 (bit_or (stop b) (bit_and (slashed b) 255)) || is_plain_class (class_at b)) (λ _. true) 256 x refl below)
 
--- and after any other one it is plain or a slash
+-- and after any other byte it is plain or a slash
 plain_or_slash : (x : ℕ) → x < 256 → top 7 (bit_or (stop x) (bit_and (slashed x) 0)) ≡ false → (is_plain_class (class_at x) || eqb x slash) ≡ true
 plain_or_slash x below clear =
     sym (ap (λ t. t || (is_plain_class (class_at x) || eqb x slash)) clear) ∙ agree_below_at (λ b. top 7 (bit_or (stop b) (bit_and (slashed b) 0)) || (is_plain_class (class_at b) || eqb b slash)) (λ _. true) 256 x refl below
@@ -136,7 +136,7 @@ calm_from_clear x y below clear =
       ]
     ]
 
--- bytes below the lowest lane that is set are calm
+-- bytes below the lowest set lane are calm
 pub calm_from_lanes : (d : List ℕ) (i r : ℕ) (s a b : List ℕ) → ((k : ℕ) → Fits w8 (get_or d k 0)) → 0 < i → i + 16 ≤ length d → s ≡ map stop (chunk i 16 d) → a ≡ map slashed (chunk i 16 d) → b ≡ map ending (chunk (i - 1) 16 d)
     → r ≡ lowest_of 16 (mask_l (map (top 7) (zip2 bit_or s (zip2 bit_and a b))) % 2 ^ 64) → AreCalm d i (i + r) × (r ≤ 16)
 calm_from_lanes d i r s a b fits some room of_s of_a of_b found =

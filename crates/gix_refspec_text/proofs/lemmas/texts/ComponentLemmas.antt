@@ -1,5 +1,5 @@
--- The components of a text, found by the slashes round them. A slash is put before the text, so that
--- each component is after one.
+-- The components of a text, found by the slashes around them. A slash is written before the text, so that
+-- each component follows one.
 use Rattle.std.proofs.Common.{◌≡◌, ℕ, List, [], ◌∷◌, ◌++◌, refl, sym, ap, ◌∙◌, inl, inr, append_assoc}
 use Rattle.std.specs.Prelude.{◌⊎◌}
 use Rattle.std.specs.List.{AllByRecursion, join_with_byte}
@@ -10,7 +10,7 @@ use Rattle.gix_refspec_text.specs.Texts.Bytes.{slash}
 use Rattle.gix_refspec_text.specs.Texts.Name.{SomeComponent}
 use Rattle.gix_refspec_text.proofs.lemmas.lists.AllLemmas.{all_join}
 
--- nothing, or what begins with a slash: what may be after a component
+-- what may follow a component: nothing, or a text that begins with a slash
 abbrev pub IsEnd : List ℕ → Type 0
 IsEnd [] = Unit {0}
 IsEnd (b ∷ x) = b ≡ slash
@@ -40,7 +40,7 @@ pub fenced-IsEnd : (ps : List (List ℕ)) → IsEnd (fenced ps)
 fenced-IsEnd [] = tt
 fenced-IsEnd (p ∷ ps) = refl
 
--- a text cut at its slashes
+-- a text split at its slashes
 pub record Pieces (x : List ℕ) : Type 0 where
   pub first : List ℕ
   pub others : List (List ℕ)
@@ -57,14 +57,14 @@ pieces_of (b ∷ x) =
       | inr other ↦ record { first = b ∷ rest.first; others = rest.others; first_whole = (other, rest.first_whole); others_whole = rest.others_whole; here = ap (λ y. b ∷ y) rest.here }
     ]
 
--- what may be after a component is parts after slashes
+-- what may follow a component consists of parts, each after a slash
 fence_parts : (x : List ℕ) → IsEnd x → (ps : List (List ℕ)) × AllByRecursion (Lacks slash) ps × (fenced ps ≡ x)
 fence_parts [] ends = ([], tt, refl)
 fence_parts (b ∷ x) ends =
     let split : Pieces x = pieces_of x in
     (split.first ∷ split.others, (split.first_whole, split.others_whole), ap (λ y. slash ∷ y) split.here ∙ ap (λ c. c ∷ x) (sym ends))
 
--- where a text's last slash is
+-- the last slash of a text
 pub record LastSlash (x : List ℕ) : Type 0 where
   pub before : List ℕ
   pub after : List ℕ

@@ -1,4 +1,4 @@
--- `HEAD` is a name, and which bytes no name has.
+-- `HEAD` is a name, and which bytes a name never contains.
 use Rattle.std.proofs.Common.{◌≡◌, ◌≢◌, ℕ, false, List, [], ◌∷◌, ◌++◌, codes, refl, sym, ap, ◌∙◌, subst, append_assoc, arith, eq-eqb}
 use Rattle.std.proofs.lemmas.Bool.{false≢true}
 use Rattle.gix_refspec_text.specs.declared.name.Error.{Error}
@@ -13,12 +13,12 @@ use Rattle.gix_refspec_text.proofs.lemmas.texts.TextLemmas.{Lacks-from_absent}
 use Rattle.gix_refspec_text.proofs.lemmas.texts.NameLemmas.{IsClean-more, IsClean-start, IsName-from_clean, end_leaves, last_byte}
 use Rattle.gix_refspec_text.proofs.lemmas.parsing.DecideLemmas.{no_added}
 
--- a byte that is none of the special ones adds no fault
+-- a byte that isn't special adds no fault
 plain_adds_none : (y : List ℕ) (b : ℕ) → b ≢ slash → b ≢ dot → b ≢ brace → b ≢ star → is_refused_byte b ≡ false → (e : Error) → ¬ (AddsFault y b e)
 plain_adds_none y b no_slash no_dot no_brace no_star fine =
     no_added y b (λ h. no_slash h.0) (λ h. no_dot h.0) (λ h. no_slash h.0) (λ h. no_dot h.0) (λ h. no_brace h.0) no_star (λ so. false≢true (sym fine ∙ so))
 
--- byte by byte, no fault is added
+-- the bytes of `HEAD` add no fault, one after the other
 clean_h : IsClean (slash ∷ 72 ∷ [])
 clean_h = IsClean-more (slash ∷ []) 72 IsClean-start (plain_adds_none (slash ∷ []) 72 (λ h. omega arith) (λ h. omega arith) (λ h. omega arith) (λ h. omega arith) refl)
 
@@ -44,11 +44,11 @@ IsName-head = IsName-from_clean head (λ same. cc) clean_head (λ e left.
     end_leaves (slash ∷ head) e (head_ends_not 47 (λ h. omega arith)) (head_ends_not 46 (λ h. omega arith))
     (λ ends. head_ends_not 107 (λ h. omega arith) (record { before = ends.before ++ codes ".loc"; here = ends.here ∙ sym (append_assoc ends.before (codes ".loc") (107 ∷ [])) })) left)
 
--- a name holds no colon
+-- a name doesn't contain a colon
 pub Lacks-colon_name : (x : List ℕ) → IsName x → Lacks colon x
 Lacks-colon_name x name = Lacks-from_absent colon x (λ holds. name (InvalidByte colon) (holds, refl))
 
--- what holds no byte with the letter in place of the star holds none with the star
+-- a text that doesn't contain b with the letter for its star doesn't contain it with the star
 lacks_unreplaced : (b : ℕ) (front back : List ℕ) → star ≢ b → Lacks b (front ++ (letter ∷ back)) → Lacks b (front ++ (star ∷ back))
 lacks_unreplaced b [] back other lacks = (other, lacks.1)
 lacks_unreplaced b (c ∷ front) back other lacks = (lacks.0, lacks_unreplaced b front back other lacks.1)

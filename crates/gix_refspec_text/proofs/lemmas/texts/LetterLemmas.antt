@@ -22,7 +22,7 @@ letter_for-other b other = ap (λ t. if t then letter else b) (ne_eqb b star oth
 letters-append : (x y : List ℕ) → with_letters (x ++ y) ≡ with_letters x ++ with_letters y
 letters-append x y = map-append letter_for x y
 
--- a byte that is no letter was there before
+-- a byte of the text with letters that isn't the letter is a byte of the text
 same_byte : (b c : ℕ) → c ≢ letter → letter_for b ≡ c → b ≡ c
 same_byte b c other same =
     elim (cases_eq b star) [
@@ -47,7 +47,7 @@ end_before (b ∷ y) (c ∷ p) w lacks same =
     let end = end_before y p w lacks tails in
     record { before = b ∷ end.before; here = ap (λ z. b ∷ z) end.here }
 
--- a word without a letter or a star
+-- a word without the letter and without a star
 abbrev IsKept : List ℕ → Type 0
 IsKept w = Lacks letter w × (with_letters w ≡ w)
 
@@ -119,12 +119,12 @@ some_letters : (x : List ℕ) → x ≢ [] → with_letters x ≢ []
 some_letters [] some same = some refl
 some_letters (b ∷ x) some same = cc
 
--- a text with a place isn't empty
+-- a text with an index isn't empty
 pub some_index : (x : List ℕ) (i : ℕ) → i < length x → x ≢ []
 some_index [] i below same = absurd (omega (arith, below))
 some_index (b ∷ x) i below same = cc
 
--- a fault that a byte other than a star adds is one of the text with letters
+-- a fault that a byte other than a star adds is a fault of the text with letters
 pub fault_with_letters : (x : List ℕ) (i : ℕ) (e : Error) → x ≢ [] → i < length x → get_or x i 0 ≢ star → AddsFault (slash ∷ take i x) (get_or x i 0) e → HasFault (with_letters x) e
 fault_with_letters x i e some below other fault =
     let b = get_or x i 0 in
@@ -154,21 +154,21 @@ letters-split : (before after x : List ℕ) → IsSplit before after x → with_
 letters-split before after x split =
     ap with_letters split.starred ∙ letters-append before (star ∷ after) ∙ ap (λ y. y ++ (letter ∷ with_letters after)) (letters-Lacks before split.first) ∙ ap (λ y. before ++ (letter ∷ y)) (letters-Lacks after split.last)
 
--- one star is replaced where letters stand for all
+-- in a text with one star, letters for all stars replace this one
 pub replaces_one : (before after x : List ℕ) → IsSplit before after x → ReplacesStar x (with_letters x)
 replaces_one before after x split = record { before = before; after = after; split = split; replaced = letters-split before after x split }
 
 pub pattern_with_letter : (x : List ℕ) → HasOneStar x → IsName (with_letters x) → IsPattern x
 pattern_with_letter x (before, after, split) name = record { with_letter = with_letters x; replaces = replaces_one before after x split; name = name }
 
--- what is found with letters is found of a text without stars
+-- a fault found with letters is a fault of a text without stars
 pub fault_without_stars : (x : List ℕ) (e : Error) → Lacks star x → HasFault (with_letters x) e → HasFault x e
 fault_without_stars x e lacks fault = subst (λ y. HasFault y e) (letters-Lacks x lacks) fault
 
 pub name_without_stars : (x : List ℕ) → Lacks star x → IsName (with_letters x) → IsName x
 name_without_stars x lacks name = subst IsName (letters-Lacks x lacks) name
 
--- a plain byte is no other
+-- a byte equal to a plain one is plain
 plain_as : (b c : ℕ) → class_at b ≡ Plain → b ≡ c → class_at c ≡ Plain
 plain_as b c plain same = subst (λ d. class_at d ≡ Plain) same plain
 
@@ -205,7 +205,7 @@ calm_adds_nothing y p b last (inr quiet) = λ e fault.
     slash_adds y e (λ ends. quiet.1 (last_byte y p slash last ends)) (λ locked. quiet.2 (last_byte y p 107 last (locked_ends y locked)))
     (subst (λ c. AddsFault y c e) quiet.0 fault)
 
--- the last byte before a place
+-- the last byte before an index
 last_before : (x : List ℕ) (i : ℕ) → i < length x → EndsWith (get_or x i 0 ∷ []) (slash ∷ take (i + 1) x)
 last_before x i below = record { before = slash ∷ take i x; here = ap (λ z. slash ∷ z) (take_more x i 0 below) }
 
@@ -221,7 +221,7 @@ calm_more x i s some below calm scanned =
       count_by_more_no (λ d. d == star) x i 0 below (ne_eqb b star (none Asterisk)) ∙ scanned.1,
     )
 
--- calm bytes add no fault and are no stars
+-- calm bytes add no fault and aren't stars
 pub calm_scanned : (m : ℕ) (x : List ℕ) (i : ℕ) (s : Bool) → 0 < i → i + m ≤ length x → AreCalm x i (i + m) → IsScanned x i s → IsScanned x (i + m) s
 calm_scanned zero x i s some room calm scanned = let same : i ≡ i + 0 = omega (arith) in subst (λ j. IsScanned x j s) same scanned
 calm_scanned (suc m) x i s some room calm scanned =
@@ -230,7 +230,7 @@ calm_scanned (suc m) x i s some room calm scanned =
     let same : i + 1 + m ≡ i + suc m = omega (arith) in
     subst (λ j. IsScanned x j s) same rest
 
--- calm bytes after what was looked at add no fault, and are no stars
+-- the same, up to an index b
 pub calm_to : (x : List ℕ) (i b : ℕ) (s : Bool) → 0 < i → i ≤ b → b ≤ length x → AreCalm x i b → IsScanned x i s → IsScanned x b s
 calm_to x i b s some to room calm scanned =
     let there : i + (b - i) ≡ b = omega (arith, to) in

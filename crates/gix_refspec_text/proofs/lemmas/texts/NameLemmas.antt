@@ -1,4 +1,4 @@
--- What one pass over the bytes finds, a byte at a time, against the faults of a name.
+-- The faults that one pass over the bytes finds are the faults of a name.
 use Rattle.std.proofs.Common.{◌≡◌, ◌≢◌, ℕ, List, [], ◌∷◌, ◌++◌, codes, length, take, drop, get_or, ◌+◌, ◌<◌, ◌≤◌, suc, Option, Some, None, MatchOption, true, IsTrue, refl, sym, ap, ◌∙◌, subst, inl, inr, append_assoc, arith, add-one, drop-cons, take-append-drop, Bool, ◌-◌, nat_eq, Decides}
 use Rattle.std.specs.List.{ends_with}
 use Rattle.std.proofs.lemmas.Slice.Eq.{ends_is}
@@ -24,7 +24,7 @@ no_middle : (p r : List ℕ) (b : ℕ) → [] ≡ p ++ (b ∷ r) → ⊥
 no_middle [] r b same = cc
 no_middle (c ∷ p) r b same = cc
 
--- a place in a text with one more byte is its last, or a place in the text
+-- an index of a text with one more byte is its last index, or an index of the text
 record Before (y p : List ℕ) (b : ℕ) : Type 0 where
   after : List ℕ
   here : y ≡ p ++ (b ∷ after)
@@ -47,7 +47,7 @@ rest_of_last p y after c b here same =
     let tails : b ∷ (after ++ (c ∷ [])) ≡ b ∷ [] = append_cancel_left p _ _ whole in
     cc
 
--- the last byte of a text is one byte
+-- a text has only one last byte
 pub last_byte : (y : List ℕ) (c b : ℕ) → EndsWith (c ∷ []) y → EndsWith (b ∷ []) y → c ≡ b
 last_byte y c b by_c by_b =
     elim (index_with_one_more by_c.before by_b.before [] c b (sym by_c.here ∙ by_b.here)) [
@@ -79,7 +79,7 @@ slash_adds_nothing (InvalidByte c) fault = false≢true (subst (λ b. is_refused
 pub IsClean-start : IsClean (slash ∷ [])
 IsClean-start = IsClean-more [] slash IsClean-nil slash_adds_nothing
 
--- what is after a byte other than the slash in front of x is in x
+-- x ends with w: this holds if a slash and x end with w, and w doesn't begin with a slash
 record InText (x w : List ℕ) : Type 0 where
   before : List ℕ
   here : x ≡ before ++ w
@@ -219,16 +219,16 @@ found_fault x ReflogPortion some fault = inl (pair_added x 64 brace ReflogPortio
 found_fault x Asterisk some fault = inl (record { before = slash ∷ fault.before; byte = star; after = fault.after; here = ap (λ z. slash ∷ z) fault.here; fault = refl })
 found_fault x (InvalidByte c) some fault = inl (record { before = slash ∷ fault.0.before; byte = c; after = fault.0.after; here = ap (λ z. slash ∷ z) fault.0.here; fault = (refl, fault.1) })
 
--- a text of which no fault is found is a name
+-- a text in which no fault is found is a name
 pub IsName-from_clean : (x : List ℕ) → x ≢ [] → IsClean (slash ∷ x) → ((e : Error) → ¬ (LeavesFault (slash ∷ x) e)) → IsName x
 IsName-from_clean x some clean none e fault = elim (found_fault x e some fault) [ inl added ↦ clean e added | inr left ↦ none e left ]
 
--- the answer at the end of a text in which no fault is found before
+-- the answer at the end of a text in which no byte adds a fault
 pub answer_at_end : (x : List ℕ) (fault : Option Error) → x ≢ [] → IsClean (slash ∷ x) → Finds fault (LeavesFault (slash ∷ x)) → MatchOption fault (IsName x) (HasFault x)
 answer_at_end x None some clean none = IsName-from_clean x some clean none
 answer_at_end x (Some e) some clean left = HasFault-left x e some left
 
--- the fault that the byte at a place adds
+-- the fault that the byte at an index adds
 pub added_at : (x : List ℕ) (i : ℕ) (e : Error) → i < length x → AddsFault (slash ∷ take i x) (get_or x i 0) e → Added (slash ∷ x) e
 added_at x i e below fault = record {
   before = slash ∷ take i x;
@@ -262,7 +262,7 @@ end_leaves y ReflogPortion whole undotted unlocked left = left
 end_leaves y Asterisk whole undotted unlocked left = left
 end_leaves y (InvalidByte c) whole undotted unlocked left = left
 
--- what a test for `.lock` at the end of x says of x with a slash before it
+-- a test for `.lock` at the end of x decides the same for x with a slash before it
 pub locked_after_slash : (x : List ℕ) (tested : Bool) → tested ≡ ends_with nat_eq x (codes ".lock") → Decides tested (EndsWith (codes ".lock") (slash ∷ x))
 locked_after_slash x tested by_test =
     let ends = ends_is Decides-eqb x (codes ".lock") tested by_test in (

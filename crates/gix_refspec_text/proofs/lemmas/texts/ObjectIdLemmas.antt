@@ -1,4 +1,4 @@
--- Facts on the texts of ids: which texts they are, that each is the text of one id, and that decoding finds it.
+-- The texts of ids: which texts they are, that each is the text of only one id, and that decoding finds it.
 use Rattle.std.proofs.Common.{◌≡◌, ℕ, zero, suc, ◌+◌, ◌-◌, ◌*◌, ◌/◌, ◌%◌, ◌<◌, ◌≤◌, Bool, List, [], ◌∷◌, length, slice_index, take, nat_le, nat_lt, ◌&&◌, ◌⊎◌, inl, inr, Option, Some, None, unwrap_or, is_some, true, false, Result, Ok, Err, refl, sym, ap, ◌∙◌, subst, arith, ◌++◌, drop}
 use Rattle.std.specs.Prelude.{IsOk, MatchBool, MatchResult}
 use Rattle.std.specs.List.{AllPass, SomeIndex, list_all}
@@ -34,14 +34,14 @@ bytes_of-fits Sha256 = omega arith
 
 -- ---- bytes and the pairs of digits that spell them
 
--- a first byte, and its two digits, may go
+-- without the first byte and its two digits, the rest is spelled too
 Spells-tail : (a b x : ℕ) (t i : List ℕ) → Spells (a ∷ b ∷ t) (x ∷ i) → Spells t i
 Spells-tail a b x t i spelled k below =
     let low : 2 * suc k + 1 ≡ suc (suc (2 * k + 1)) = omega arith in
     let high : 2 * suc k ≡ suc (suc (2 * k)) = omega arith in
     rw (low, high) at (spelled (suc k) (omega arith))
 
--- a byte may be first, after its two digits
+-- a byte may be prepended, together with its two digits
 Spells-cons : (a b x : ℕ) (t i : List ℕ) → IsSpelledBy x a b → Spells t i → Spells (a ∷ b ∷ t) (x ∷ i)
 Spells-cons a b x t i first rest zero below = first
 Spells-cons a b x t i first rest (suc k) below =
@@ -114,7 +114,7 @@ decoded_long kind t i digits decoded =
     let len = (decode_pairs-ok 0 t i pairs).1 in
     omega arith
 
--- what decodes into room for the bytes of an id is the text of that id
+-- a text that decodes to as many bytes as an id has is the text of that id
 pub IsIdText-decoded : (kind : Kind) (t i : List ℕ) → length t ≡ digits_of kind → decode_sized t (bytes_of kind) ≡ Ok i → IsIdText t i
 IsIdText-decoded kind t i digits decoded =
     let two = digits_of-twice kind in
@@ -131,7 +131,7 @@ decode_of-IsIdText t i text =
     sym (decode_sized-twice t (length i) twice)
     ∙ decode_sized-pairs t (length i) (omega arith) (omega arith) ∙ decode_pairs-spelled 0 t i twice text.spelled
 
--- a text is the text of one id
+-- a text is the text of at most one id
 pub IsIdText-unique : (t i j : List ℕ) → IsIdText t i → IsIdText t j → i ≡ j
 IsIdText-unique t i j first second = decode_of-same t i j (decode_of-IsIdText t i first) (decode_of-IsIdText t j second)
 
@@ -139,7 +139,7 @@ IsIdText-unique t i j first second = decode_of-same t i j (decode_of-IsIdText t 
 pub AllPass-IsIdText : (t i : List ℕ) → IsIdText t i → AllPass is_hex_digit t
 AllPass-IsIdText t i text = (decode_of-ok t i (decode_of-IsIdText t i text)).1
 
--- as many digits as spell an id are the text of one
+-- hex digits, as many as an id has, are the text of an id
 pub IsIdText-digits : (t : List ℕ) → IsIdLength (length t) → AllPass is_hex_digit t → (i : List ℕ) × IsIdText t i
 IsIdText-digits t (kind, digits) all =
     let two = digits_of-twice kind in
@@ -151,7 +151,7 @@ pub IsIdText-sound : (t i : List ℕ) (e : Error) → IsIdText t i → HasIdFaul
 IsIdText-sound t i (Length len) text (same, other) = other (text.kind, text.digits)
 IsIdText-sound t i Digit text (len, index) = cc (sym index.2 ∙ AllPass-IsIdText t i text index.0 0 index.1)
 
--- a text has one fault
+-- a text has at most one fault
 one_fault : (t : List ℕ) (e f : Error) → HasIdFault t e → HasIdFault t f → e ≡ f
 one_fault t (Length n) (Length m) a b = ap Length (a.0 ∙ sym b.0)
 one_fault t (Length n) Digit a b = absurd (a.1 b.0)
@@ -164,7 +164,7 @@ has_one_id t i text = record { id = i; text = text; only = λ j other. IsIdText-
 has_one_fault : (t : List ℕ) (e : Error) → HasIdFault t e → HasOneFault t
 has_one_fault t e fault = record { fault = e; has = fault; only = λ f other. one_fault t f e other fault; unread = λ i text. IsIdText-sound t i e text fault }
 
--- a text is made of digits, or some byte is none
+-- a text is made of digits, or some byte isn't a digit
 digits_or_not : (t : List ℕ) → AllPass is_hex_digit t ⊎ SomeIndex t (λ k. is_hex_digit (slice_index t k) ≡ false)
 digits_or_not [] = inl (All-nil (λ c. is_hex_digit c ≡ true))
 digits_or_not (c ∷ t) = elim (cases_Bool (is_hex_digit c)) [
@@ -189,7 +189,7 @@ length_or_not n = elim (cases_eq n 40) [
   ]
 ]
 
--- a text is that of one id, or it has one fault
+-- a text spells exactly one id, or it has exactly one fault
 pub id_or_fault : (t : List ℕ) → IdOrFault t
 id_or_fault t = elim (length_or_not (length t)) [
   | inr other ↦ inr (has_one_fault t (Length (length t)) (refl, other))
@@ -224,7 +224,7 @@ length-room kind buffer room =
     let fits = bytes_of-fits kind in
     length-take-le (bytes_of kind) buffer (omega arith)
 
--- a call that decodes fails exactly where the text doesn't decode, and else writes the bytes
+-- the call that decodes fails exactly if the text doesn't decode, and otherwise writes the bytes
 decoded : (d : Result (List ℕ) FromHexError) (r : Result (Unit {0}) FromHexError) (new : List ℕ) → MatchResult d (λ bytes. (r ≡ Ok tt) × (new ≡ bytes)) (λ e. r ≡ Err e) → MatchBool (is_err r) (¬ (IsOk d)) (d ≡ Ok new)
 decoded (Ok bytes) r new (is, same) =
     let d : Result (List ℕ) FromHexError = Ok bytes in
@@ -235,7 +235,7 @@ decoded (Err e) r new is =
     let refused : ¬ (IsOk d) = λ (ok : IsOk d). cc ok in
     subst (λ x. MatchBool (is_err x) (¬ (IsOk d)) (d ≡ Ok new)) (sym is) refused
 
--- so it reads the id, or finds that some byte is no digit
+-- so it reads the id, or finds that some byte isn't a digit
 reads : (kind : Kind) (t room new : List ℕ) (n : ℕ) (failed : Bool) → n ≡ bytes_of kind → length t ≡ digits_of kind → MatchBool failed (¬ (IsOk (decode_sized t (bytes_of kind)))) (decode_sized t (bytes_of kind) ≡ Ok new) → MatchBool failed (HasIdFault t Digit) (IsIdText t (take (bytes_of kind) (new ++ drop n room)))
 reads kind t room new n true size digits refused = elim (digits_or_not t) [
   | inl all ↦ absurd (refused ((IsOk-decode_sized t (bytes_of kind)).1 ((let two = digits_of-twice kind in omega arith), all)))
@@ -267,7 +267,7 @@ IsUtf8-lower_of i = IsUtf8-from_ascii (lower_of i) (IsAscii-encode_with lower_di
 
 -- ---- the lower-case text is the only one
 
--- the fact of `AllPass is_lower_digit`
+-- a digit is in lower case, as `AllPass is_lower_digit` says it
 abbrev is_lower : ℕ → Type 0
 is_lower c = is_lower_digit c ≡ true
 
@@ -355,7 +355,7 @@ lower_pair-unique x a b c d lower_a lower_b lower_c lower_d first second =
       lower_digit-unique b d first.low_value lower_b lower_d first.low_read (second.low_read ∙ ap Some low),
     )
 
--- two texts in lower case that spell the same bytes are one
+-- two texts in lower case that spell the same bytes are equal
 lower_texts-same : (t u i : List ℕ) → length t ≡ 2 * length i → length u ≡ 2 * length i
     → AllPass is_lower_digit t → AllPass is_lower_digit u → Spells t i → Spells u i → t ≡ u
 lower_texts-same [] [] i len_t len_u lower_t lower_u by_t by_u = refl
@@ -382,21 +382,21 @@ lower_of-digits t i text =
     let bytes = (decode_of-ok t i (decode_of-IsIdText t i text)).3 in
     (IsLowerText-lower_of text.kind i text.bytes bytes).1
 
--- an id has one text in lower case
+-- an id has only one text in lower case
 pub IsLowerText-unique : (t u i : List ℕ) → IsLowerText t i → IsLowerText u i → t ≡ u
 IsLowerText-unique t u i (text_t, lower_t) (text_u, lower_u) =
     let two_t = digits_of-twice text_t.kind in
     let two_u = digits_of-twice text_u.kind in
     lower_texts-same t u i (omega arith) (omega arith) lower_t lower_u text_t.spelled text_u.spelled
 
--- bytes from the front of bytes are bytes
+-- the first of a list of bytes are bytes
 IsBytes-take : (n : ℕ) (x : List ℕ) → IsBytes x → IsBytes (take n x)
 IsBytes-take zero x fits k = omega arith
 IsBytes-take (suc n) [] fits k = omega arith
 IsBytes-take (suc n) (b ∷ x) fits zero = fits 0
 IsBytes-take (suc n) (b ∷ x) fits (suc k) = IsBytes-take n x (λ j. fits (suc j)) k
 
--- the text that the id at the front of a buffer prints as is its only one in lower case
+-- the id in the first bytes of a buffer has only one text in lower case, the one that it is printed as
 pub one_lower_text : (kind : Kind) (buffer : List ℕ) → length buffer ≡ 32 → IsBytes buffer → OneLowerText (take (bytes_of kind) buffer)
 one_lower_text kind buffer room fits =
     let i = take (bytes_of kind) buffer in

@@ -29,14 +29,14 @@ Lacks-no_stars (b ∷ x) none =
       | inr other ↦ (other, Lacks-no_stars x (sym (stars-other b x other) ∙ none))
     ]
 
--- a star in front of a text without one
+-- a star before a text without one
 star_in_front : (b : ℕ) (x : List ℕ) → b ≡ star → stars (b ∷ x) ≡ 1 → HasOneStar (b ∷ x)
 star_in_front b x same one =
     let more = stars-star b x same in
     let none : stars x ≡ 0 = omega (arith, more, one) in
     ([], x, record { starred = ap (λ c. c ∷ x) same; first = tt; last = Lacks-no_stars x none })
 
--- another byte in front of a text with one star
+-- another byte before a text with one star
 one_after : (b : ℕ) (x : List ℕ) → b ≢ star → HasOneStar x → HasOneStar (b ∷ x)
 one_after b x other one = (b ∷ one.0, one.1, record { starred = ap (λ y. b ∷ y) one.2.starred; first = (other, one.2.first); last = one.2.last })
 
@@ -68,7 +68,7 @@ counted x (before, after, split) =
     let whole : stars x ≡ stars before + stars (star ∷ after) = ap stars split.starred ∙ stars-append before (star ∷ after) in
     omega (arith, whole, no_stars before split.first, stars-star star after refl, no_stars after split.last)
 
--- and in a text with one star one is counted
+-- and one star is counted in a text with one star
 pub count_by-HasOneStar : (x : List ℕ) → HasOneStar x → count_by (λ b. b == star) x ≡ 1
 unfolding stars
 count_by-HasOneStar x one = counted x one
@@ -78,7 +78,7 @@ pub Lacks-count_by : (x : List ℕ) → count_by (λ b. b == star) x ≡ 0 → L
 unfolding stars
 Lacks-count_by x none = Lacks-no_stars x none
 
--- a star after a part of a text that has one is a second one
+-- a star at an index with one star before it is a second one
 pub second_star : (x : List ℕ) (i : ℕ) → i < length x → get_or x i 0 ≡ star → count_by (λ b. b == star) (take i x) ≡ 1 → HasSeveralStars x
 second_star x i below here one =
     let (before, after, split) = HasOneStar-count_by (take i x) one in

@@ -1,4 +1,4 @@
--- The table of classes is held against the classes of the bytes by computing, at each of the 256 bytes.
+-- The table of classes is compared with the classes of the bytes by computing, for each of the 256 bytes.
 use Rattle.std.proofs.Common.{◌≡◌, ℕ, ◌<◌, ◌==◌, true, eqb, if◌then◌else◌, slice_index_or, refl, sym, ap, ◌∙◌}
 use Rattle.std.proofs.lemmas.Bool.{eqb-true, agree_below_at}
 use Rattle.gix_refspec_text.specs.declared.name.class.TheConstants.{CLASSES}

@@ -1,4 +1,4 @@
--- A test of each byte and the one before it, which most names pass and only names do. So examples can
+-- A test of each byte and the one before it, which only names pass, and most names do. So examples can
 -- be computed.
 use Rattle.std.proofs.Common.{◌≡◌, ℕ, ◌==◌, ◌||◌, ◌&&◌, Bool, false, List, [], ◌∷◌, ◌++◌, codes, sym, ap, eq-eqb, ◌∙◌, append_assoc}
 use Rattle.std.proofs.lemmas.List.{append-nil}
@@ -11,21 +11,21 @@ use Rattle.gix_refspec_text.specs.Texts.Name.{is_refused_byte, IsName}
 use Rattle.gix_refspec_text.specs.Private.Scan.{LeavesFault, IsClean}
 use Rattle.gix_refspec_text.proofs.lemmas.texts.NameLemmas.{IsName-from_clean}
 
--- `k`, with which `.lock` ends
+-- `k`, the last byte of `.lock`
 abbrev pub lock_end : ℕ
 lock_end = 107
 
--- b may not be after a. So that `.lock` needs no look further back, no component may end with its `k`
+-- b may not follow a. To recognise `.lock` by one byte, no component may end with `k`
 abbrev pub are_apart : ℕ → ℕ → Bool
 are_apart a b = b == slash && (a == slash || a == lock_end) || b == dot && (a == slash || a == dot) || b == brace && a == at
 
--- some byte of x may not be in a name, or not after the one before it, which is a at first; or x may
--- not end so
+-- some byte of x isn't allowed in a name, or not after the byte before it (before the first byte, a); or the last byte
+-- isn't allowed there
 abbrev pub is_suspect : ℕ → List ℕ → Bool
 is_suspect a [] = a == slash || a == dot || a == lock_end
 is_suspect a (b ∷ x) = (b == star || (is_refused_byte b || are_apart a b)) || is_suspect b x
 
--- what holds of a byte, and of the text after it, in a text in which nothing is suspect
+-- facts on a byte and the text after it, in a text in which nothing is suspect
 record Sound (b : ℕ) (rest : List ℕ) : Type 0 where
   unstarred : (b == star) ≡ false
   allowed : is_refused_byte b ≡ false
@@ -41,13 +41,13 @@ sound_at a b (c ∷ before) rest none = sound_at c b before rest (or_parts _ (is
 sound_in : (y : List ℕ) → is_suspect 0 y ≡ false → (before : List ℕ) (b : ℕ) (rest : List ℕ) → y ≡ before ++ (b ∷ rest) → Sound b rest
 sound_in y none before b rest here = sound_at 0 b before rest (ap (is_suspect 0) (sym here) ∙ none)
 
--- nothing after a word is suspect, where that word ends what is before
+-- nothing is suspect in the rest of a text after a word that ends the part before it
 after_word : (y before rest : List ℕ) (b : ℕ) (word : List ℕ) → is_suspect 0 y ≡ false → y ≡ before ++ rest → EndsWith (b ∷ word) before → is_suspect b (word ++ rest) ≡ false
 after_word y before rest b word none here ends =
     let whole : y ≡ ends.before ++ (b ∷ (word ++ rest)) = here ∙ ap (λ z. z ++ rest) ends.here ∙ append_assoc ends.before (b ∷ word) rest in
     (sound_in y none ends.before b (word ++ rest) whole).later
 
--- the same, where the byte c follows
+-- the same, if the byte c follows the word
 after_byte : (y before after : List ℕ) (byte c b : ℕ) (word : List ℕ) → is_suspect 0 y ≡ false → y ≡ before ++ (byte ∷ after) → byte ≡ c → EndsWith (b ∷ word) before → is_suspect b (word ++ (c ∷ after)) ≡ false
 after_byte y before after byte c b word none here same ends = after_word y before (c ∷ after) b word none (here ∙ ap (λ d. before ++ (d ∷ after)) same) ends
 

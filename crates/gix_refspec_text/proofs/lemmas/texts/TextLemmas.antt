@@ -1,4 +1,4 @@
--- Bytes that a text lacks, and texts that are cut at a place.
+-- Bytes that a text lacks, and texts that are split at an index.
 use Rattle.std.proofs.Common.{◌≡◌, ◌||◌, MatchBool, inl, inr, nat_eq, ℕ, suc, ◌+◌, ◌-◌, ◌<◌, ◌≤◌, ◌==◌, Bool, true, false, List, [], ◌∷◌, ◌++◌, length, get_or, take, drop, refl, sym, ap, ◌∙◌, subst, arith, eq-eqb, take-append-drop, drop-cons, length-drop}
 use Rattle.std.proofs.lemmas.List.{drop-drop, get_or-drop, take_all}
 use Rattle.std.proofs.lemmas.Bool.{cases_eq, eqb-true, false≢true}
@@ -6,26 +6,26 @@ use Rattle.std.proofs.Math.Numerals.{add-one}
 use Rattle.gix_refspec_text.specs.Texts.Words.{Lacks, ContainsText}
 use Rattle.gix_refspec_text.proofs.lemmas.lists.LacksLemmas.{Lacks-here}
 
--- no place of x from n on has the byte b
+-- no index of x from n on has the byte b
 abbrev pub NoneFrom : ℕ → List ℕ → ℕ → Type 0
 NoneFrom b x n = (k : ℕ) → n ≤ k → k < length x → ¬ ((get_or x k 0 == b) ≡ true)
 
--- no place of x has b, so x lacks it
+-- x lacks b if no index of x has it
 pub Lacks-from_indexes : (b : ℕ) (x : List ℕ) → ((k : ℕ) → k < length x → ¬ ((get_or x k 0 == b) ≡ true)) → Lacks b x
 Lacks-from_indexes b [] none = tt
 Lacks-from_indexes b (c ∷ x) none = (λ e. none 0 (omega arith) (eq-eqb c b e), Lacks-from_indexes b x (λ k below. none (suc k) (omega arith)))
 
--- what follows the last place that may have b lacks it
+-- the text from n on lacks b, if no index from n on has it
 pub Lacks-drop : (b : ℕ) (x : List ℕ) (n : ℕ) → NoneFrom b x n → Lacks b (drop n x)
 Lacks-drop b x n none = Lacks-from_indexes b (drop n x) (λ k below.
     let inside : n + k < length x = omega (arith, length-drop n x) in
     rw get_or-drop (none (n + k) (omega arith) inside))
 
--- x is what is before a place, its byte, and what is after it
+-- x is the text before an index, its byte, and the text after it
 pub split_at : (x : List ℕ) (n b : ℕ) → n < length x → get_or x n 0 ≡ b → x ≡ take n x ++ (b ∷ drop (suc n) x)
 split_at x n b inside here = sym (take-append-drop n x) ∙ ap (λ y. take n x ++ y) (drop-cons x n 0 inside ∙ ap (λ c. c ∷ drop (suc n) x) here)
 
--- what is after a place, as the code takes it
+-- the text after an index, as the code computes it
 pub after_index : (x : List ℕ) (n : ℕ) → n < length x → take (length (drop n x) - 1) (drop 1 (drop n x)) ≡ drop (suc n) x
 after_index x n inside =
     let later : drop 1 (drop n x) ≡ drop (n + 1) x = drop-drop 1 n x in
@@ -33,7 +33,7 @@ after_index x n inside =
     let size_later = length-drop (n + 1) x in
     rw later (rw add-one (take_all (length (drop n x) - 1) (drop (suc n) x) (omega (arith, length-drop (suc n) x))))
 
--- the last place of b cuts a text
+-- a text is split at the last index of b
 pub split_at_last : (x front back : List ℕ) (n b : ℕ) → n < length x → (get_or x n 0 == b) ≡ true → NoneFrom b x (n + 1) → front ≡ take n x → back ≡ drop n x → (x ≡ front ++ (b ∷ take (length back - 1) (drop 1 back))) × Lacks b (take (length back - 1) (drop 1 back))
 split_at_last x front back n b inside here none front_is back_is =
     let rest : take (length back - 1) (drop 1 back) ≡ drop (suc n) x = ap (λ y. take (length y - 1) (drop 1 y)) back_is ∙ after_index x n inside in
@@ -42,7 +42,7 @@ split_at_last x front back n b inside here none front_is back_is =
       subst (Lacks b) (sym rest) lacks,
     )
 
--- b is in the text, or at none of its first n places
+-- b is in the text, or at none of its first n indexes
 abbrev pub FoundBefore : ℕ → List ℕ → ℕ → Bool → Type 0
 FoundBefore b x n found = MatchBool found (ContainsText (b ∷ []) x) ((k : ℕ) → k < n → ¬ ((get_or x k 0 == b) ≡ true))
 
@@ -53,12 +53,12 @@ found_by b x n false inside is none = λ k below. elim (cases_eq k n) [
   | inr other ↦ none k (omega arith)
 ]
 
--- one place more is looked at
+-- one more index is checked
 pub found_further : (b : ℕ) (x : List ℕ) (n : ℕ) (found : Bool) → n < length x → FoundBefore b x n found → FoundBefore b x (n + 1) (found || nat_eq (get_or x n 0) b)
 found_further b x n true inside known = known
 found_further b x n false inside known = found_by b x n (nat_eq (get_or x n 0) b) inside refl known
 
--- all places were looked at
+-- all indexes were checked
 pub found_whole : (b : ℕ) (x : List ℕ) (n : ℕ) (found : Bool) → length x ≤ n → FoundBefore b x n found → MatchBool found (ContainsText (b ∷ []) x) (Lacks b x)
 found_whole b x n true past known = known
 found_whole b x n false past known = Lacks-from_indexes b x (λ k below. known k (omega arith))
@@ -66,7 +66,7 @@ found_whole b x n false past known = Lacks-from_indexes b x (λ k below. known k
 pub Lacks-ContainsText : (b : ℕ) (x : List ℕ) → Lacks b x → ContainsText (b ∷ []) x → ⊥
 Lacks-ContainsText b x lacks holds = Lacks-here b holds.before holds.after (subst (Lacks b) holds.here lacks)
 
--- a text in which b isn't lacks it
+-- a text that doesn't contain b lacks it
 pub Lacks-from_absent : (b : ℕ) (x : List ℕ) → ¬ (ContainsText (b ∷ []) x) → Lacks b x
 Lacks-from_absent b [] absent = tt
 Lacks-from_absent b (c ∷ x) absent = (
@@ -74,7 +74,7 @@ Lacks-from_absent b (c ∷ x) absent = (
   Lacks-from_absent b x (λ holds. absent (record { before = c ∷ holds.before; after = holds.after; here = ap (λ y. c ∷ y) holds.here })),
 )
 
--- a text with one place of b doesn't have two
+-- a text that contains b once doesn't contain it twice
 pub one_not_two : (b : ℕ) (u v p q r : List ℕ) → Lacks b u → Lacks b v → u ++ (b ∷ v) ≡ p ++ (b ∷ (q ++ (b ∷ r))) → ⊥
 one_not_two b [] v [] q r lacks_u lacks_v same = let rest : v ≡ q ++ (b ∷ r) = cc in Lacks-here b q r (subst (Lacks b) rest lacks_v)
 one_not_two b [] v (c ∷ p) q r lacks_u lacks_v same = let rest : v ≡ p ++ (b ∷ (q ++ (b ∷ r))) = cc in Lacks-here b p (q ++ (b ∷ r)) (subst (Lacks b) rest lacks_v)

@@ -1,4 +1,4 @@
--- One star is counted exactly where there is one.
+-- One star is counted exactly if the text has one star.
 use Rattle.std.proofs.Common.{◌≡◌, ◌==◌, sym, ◌∙◌, rules, eq-eqb}
 use Rattle.std.proofs.lemmas.Bool.{eqb-true}
 use Rattle.std.specs.List.{count_by}

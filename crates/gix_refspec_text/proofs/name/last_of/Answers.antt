@@ -1,4 +1,4 @@
--- The text is what is before its last byte, and that byte.
+-- The text is its other bytes followed by its last byte.
 use Rattle.gix_refspec_text.proofs.lemmas.texts.NameLemmas.{ends_last}
 use Rattle.gix_refspec_text.proofs.name.last_of.Goals as goal
 

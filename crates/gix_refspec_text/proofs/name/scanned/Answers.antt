@@ -1,4 +1,4 @@
--- The bytes after the calm ones, of sixteen, are checked one by one.
+-- Of each sixteen bytes those after the calm run are checked one by one.
 use Rattle.std.proofs.Common.{◌≡◌, ◌+◌, ◌≤◌, length, refl, subst, arith}
 use Rattle.gix_refspec_text.specs.Private.Scan.{IsScanned}
 use Rattle.gix_refspec_text.proofs.lemmas.texts.NameLemmas.{IsClean-start}

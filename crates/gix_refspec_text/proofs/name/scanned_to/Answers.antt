@@ -11,7 +11,7 @@ use Rattle.gix_refspec_text.proofs.lemmas.texts.LetterLemmas.{clean_after_star, 
 use Rattle.gix_refspec_text.proofs.name.scanned_to.Goals as goal
 use Rattle.gix_refspec_text.proofs.name.scanned_to.Goals.{then-byte-eq42+else-starred, else-byte-eq42+in_default}
 
--- a plain byte is no star, and adds no fault
+-- a plain byte isn't a star, and adds no fault
 pub loop-index-preserved-then-is_plain : goal.loop-index-preserved-then-is_plain
 loop-index-preserved-then-is_plain c =
     let x = c.args.text.now in
@@ -24,14 +24,14 @@ loop-index-preserved-then-is_plain c =
       count_by_more_no (λ d. d == star) x i 0 (omega arith) (ne_eqb b star (plain y Asterisk)) ∙ c.loop-index.invariant.1,
     )
 
--- one star was there, and this is another
+-- there is a star already, and this is another
 pub returns-then-starred : goal.returns-then-starred
 returns-then-starred c =
     let x = c.args.text.now in
     let i = c.loop-index.index in
     second_star x i (omega arith) (grind (arith, common_steps)) (c.loop-index.invariant.1 ∙ ap one_if c.if-starred.true)
 
--- the byte at the index adds the fault, and is no star
+-- the byte at the index adds the fault, and isn't a star
 pub returns-in-Some : goal.returns-in-Some
 returns-in-Some c =
     let x = c.args.text.now in
@@ -39,7 +39,7 @@ returns-in-Some c =
     let other : get_or x i 0 ≢ star = grind (arith, common_steps) in
     fault_with_letters x i c.in-Some.fault (some_index x i (omega arith)) (omega arith) other c.in-Some.ensures
 
--- the first star is noted, and any other byte adds no fault
+-- the first star sets the flag, and any other byte adds no fault
 pub loop-index-preserved : goal.loop-index-preserved
 loop-index-preserved c =
     let x = c.args.text.now in
@@ -60,7 +60,7 @@ loop-index-preserved c =
           )
     ]
 
--- all bytes before the place were looked at
+-- all bytes before the index `to` were scanned
 pub returns : goal.returns
 returns c =
     let done : c.loop-index.index ≡ c.args.to = omega arith in

@@ -1,4 +1,4 @@
--- With letters for its stars the text has a fault where a byte adds one, or where one is left at its end.
+-- With letters for its stars the text has a fault if a byte adds one, or if one is left at its end.
 use Rattle.std.proofs.Common.{◌≡◌, ◌∷◌, Some, None, take, length, subst, arith}
 use Rattle.std.proofs.lemmas.List.{take_all}
 use Rattle.gix_refspec_text.specs.Texts.Bytes.{slash}

@@ -1,4 +1,4 @@
--- A star, which is the only one; or none: outside `refs/` and with a fault of an id, the side is a partial name.
+-- The only star makes a pattern. Without one, a side that doesn't begin with `refs/` and isn't an id is a partial name.
 use Rattle.std.proofs.Common.{refl, rules, ◌∷◌, ◌++◌, ◌∙◌, ap}
 use Rattle.gix_refspec_text.specs.Texts.Bytes.{star}
 use Rattle.gix_refspec_text.proofs.lemmas.texts.ObjectIdLemmas.{IsIdText-sound}

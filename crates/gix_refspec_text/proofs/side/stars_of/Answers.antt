@@ -1,4 +1,4 @@
--- One star: none is before it and none after it.
+-- One star, with none before it and none after it.
 use Rattle.gix_refspec_text.proofs.side.stars_of.Goals as goal
 
 pub returns-in-None : goal.returns-in-None

@@ -1,4 +1,4 @@
--- Each place is looked at.
+-- Each index is checked.
 use Rattle.std.proofs.Common.{arith}
 use Rattle.gix_refspec_text.proofs.lemmas.texts.TextLemmas.{found_further, found_whole}
 use Rattle.gix_refspec_text.proofs.split.contains.Goals as goal

@@ -1,4 +1,4 @@
--- the byte was found, or it isn't at one of the places so far
+-- the byte was found, or is at none of the indexes so far
 use Rattle.gix_refspec_text.proofs.lemmas.texts.TextLemmas.{FoundBefore}
 use Rattle.gix_refspec_text.proofs.split.contains.Given as goal
 

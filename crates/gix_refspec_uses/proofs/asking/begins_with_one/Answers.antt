@@ -1,4 +1,4 @@
--- One entry with which the name begins settles the answer.
+-- One entry with which the name begins is enough.
 use Rattle.std.proofs.Common.{◌≡◌, nat_eq, get_or, map, sym, ap, ◌∙◌, arith}
 use Rattle.std.specs.List.{starts_with}
 use Rattle.std.proofs.lemmas.List.{get_or-map, length-map}

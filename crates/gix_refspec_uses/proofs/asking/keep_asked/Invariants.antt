@@ -1,4 +1,4 @@
--- of the items so far, those whose names begin with an entry are there
+-- the items so far whose names begin with an entry are in the list
 use Rattle.std.proofs.Common.{◌≡◌, map, take}
 use Rattle.bstr.specs.Owned.{bstring_bytes}
 use Rattle.gix_refspec_uses.specs.Asking.{items_asked}

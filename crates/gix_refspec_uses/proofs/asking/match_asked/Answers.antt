@@ -1,4 +1,4 @@
--- What is asked for is enough, by the law.
+-- The ref prefixes are enough, by the law.
 use Rattle.std.proofs.Common.{◌≡◌, map, ap}
 use Rattle.bstr.specs.Owned.{bstring_bytes}
 use Rattle.gix_refspec.specs.Views.Spec.{reading_of}

@@ -1,4 +1,4 @@
--- A list gives its items in order.
+-- A vector yields its elements in order.
 use Rattle.std.proofs.Common.{◌∙◌}
 use Rattle.std.proofs.lemmas.Result.{IfOk-weaker}
 use Rattle.std.proofs.lemmas.Iterator.Adapters.{YieldsList-from_vec}

@@ -1,4 +1,4 @@
--- Of the answers the specs come in their order.
+-- The specs among the results are in order.
 use Rattle.std.proofs.Common.{refl, rules}
 use borrow.Author.Tests.{tests}
 use Rattle.std.specs.Result.{result_ok}

@@ -1,4 +1,4 @@
--- Copies of what a slice holds come in its order.
+-- The copies of the elements of a slice are in order.
 use Rattle.std.proofs.lemmas.Result.{IfOk-weaker}
 use Rattle.std.proofs.lemmas.Iterator.{YieldsList-from_slice}
 use Rattle.std.proofs.lemmas.Iterator.Consumers.{YieldsList-from_copied}

@@ -1,4 +1,4 @@
--- What stays after the names are checked and validated is as the laws say.
+-- The laws determine the mappings that remain after the check of names and the validation.
 use Rattle.std.proofs.Common.{◌≡◌, ◌∙◌, inl, inr, ℕ, List, Option, None, Some, map, ap, subst}
 use Rattle.std.specs.Prelude.{MatchOption}
 use Rattle.std.specs.List.{AllByRecursion, Contains}
@@ -15,13 +15,12 @@ use Rattle.gix_refspec.specs.Matching.Validation.{IsValidated, IsWritable}
 use Rattle.gix_refspec_uses.specs.Planned.{IsPlan}
 use Rattle.gix_refspec_uses.proofs.planner.plan_fetch.Goals as goal
 
--- the name of a ref may be written
+-- a valid ref name can be written
 writable : (d : Option (List ℕ)) → MatchOption d (Unit {0}) IsRefName → MatchOption d (Unit {0}) IsWritable
 writable None named = tt
 writable (Some d) (inl (below, name)) = inl below
 writable (Some d) (inr head) = inr head
 
--- what holds of each mapping holds of one that is there
 of_each : (P : Mapped → Type 0) (l : List Mapped) (m : Mapped) → AllByRecursion P l → Contains l m → P m
 of_each P l m all has = All-contains P l m (All-from_recursion P l all) has
 

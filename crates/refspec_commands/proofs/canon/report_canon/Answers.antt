@@ -1,4 +1,4 @@
--- Each text is told after the others.
+-- Each text is reported after the others.
 use Rattle.std.proofs.Common.{◌<◌, ◌∙◌, length, refl, arith}
 use Rattle.refspec_commands.proofs.CanonLemmas.{AddsCanonical-all, AddsCanonical-next, AddsCanonical-start}
 use Rattle.refspec_commands.proofs.MessageLemmas.{ReportsRefusals-all, ReportsRefusals-next}

@@ -1,4 +1,4 @@
--- the texts so far were told
+-- the texts so far were reported
 use Rattle.std.proofs.Common.{◌≡◌, take}
 use Rattle.refspec_commands.specs.Canon.{AddsCanonical}
 use Rattle.refspec_commands.specs.Messages.{ReportsRefusals}

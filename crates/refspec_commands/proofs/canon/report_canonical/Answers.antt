@@ -1,4 +1,4 @@
--- The name is shown, or is that of an object.
+-- The text is a name that is shown, or in JSON a member of an object.
 use Rattle.std.proofs.Common.{ℕ, List, [], ◌∷◌, subst, sym}
 use Rattle.bstr.specs.Owned.{bstring_bytes}
 use Rattle.refspec_commands.specs.declared.call.Form.{Form}
@@ -11,7 +11,7 @@ use Rattle.refspec_commands.proofs.canon.report_canonical.Goals as goal
 pub returns-in-Json-clause-reported : goal.returns-in-Json-clause-reported
 returns-in-Json-clause-reported c =
     let name = bstring_bytes c.in_ok-canonical.canonical in
-    on_ok c.write_reported.result _ _ c.write_reported.ensures (λ write. (name, c.in_ok-canonical.ensures, subst (λ (f : Form). AddsCanonicalName f c.args.text.now name c.args.report.now.results.items c.write_reported.new.out.items) (sym c.in-Json.is) write))
+    on_ok c.write_spec.result _ _ c.write_spec.ensures (λ write. (name, c.in_ok-canonical.ensures, subst (λ (f : Form). AddsCanonicalName f c.args.text.now name c.args.report.now.results.items c.write_spec.new.out.items) (sym c.in-Json.is) write))
 
 pub returns-clause-reported : goal.returns-clause-reported
 returns-clause-reported c =

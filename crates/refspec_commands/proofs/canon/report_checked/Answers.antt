@@ -1,4 +1,4 @@
--- A spec's canonical text is told; another text is refused.
+-- The canonical text of a spec is reported; any other text is refused.
 use Rattle.std.proofs.Common.{ap}
 use Rattle.refspec_commands.proofs.CanonLemmas.{AddsCanonical-bad, AddsCanonical-good}
 use Rattle.refspec_commands.proofs.MessageLemmas.{ReportsRefusals-bad, ReportsRefusals-good}
@@ -15,4 +15,4 @@ pub returns-in-Good-clause-reported : goal.returns-in-Good-clause-reported
 returns-in-Good-clause-reported c = on_ok c.report_canonical.result _ _ c.report_canonical.ensures.reported (λ reported. AddsCanonical-good c.args.report.now.form c.args.checked.now _ _ c.args.report.now.results.items c.report_canonical.new.report.results.items c.in-Good.is reported)
 
 pub returns-in-Good-clause-refused : goal.returns-in-Good-clause-refused
-returns-in-Good-clause-refused c = on_ok c.report_canonical.result _ _ c.report_canonical.ensures.untold (λ same. ReportsRefusals-good c.args.report.now.form c.args.checked.now _ _ c.args.report.now.messages.items c.report_canonical.new.report.messages.items c.in-Good.is (ap (λ m. m.items) same))
+returns-in-Good-clause-refused c = on_ok c.report_canonical.result _ _ c.report_canonical.ensures.no_message (λ same. ReportsRefusals-good c.args.report.now.form c.args.checked.now _ _ c.args.report.now.messages.items c.report_canonical.new.report.messages.items c.in-Good.is (ap (λ m. m.items) same))

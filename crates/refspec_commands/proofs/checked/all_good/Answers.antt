@@ -1,4 +1,4 @@
--- A spec is one reading more; a text that is none is found at its place.
+-- A spec adds one reading; a refused text is found at its index.
 use Rattle.refspec_commands.proofs.CheckedLemmas.{HasBad-at, specs_next}
 use Rattle.refspec_commands.proofs.checked.all_good.Goals as goal
 

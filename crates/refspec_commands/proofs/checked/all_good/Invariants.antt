@@ -1,4 +1,4 @@
--- the texts so far are specs
+-- the texts so far are these specs
 use Rattle.std.proofs.Common.{map, take}
 use Rattle.std.specs.List.{AllZip}
 use Rattle.gix_refspec.specs.Views.Spec.{reading_of}

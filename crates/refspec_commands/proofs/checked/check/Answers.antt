@@ -1,4 +1,4 @@
--- What the text reads as is what its bytes are read as; an error other than that memory ran out is a reason.
+-- The reading of the text is that of its bytes; an error other than `Memory` is a reason.
 use Rattle.std.proofs.Common.{◌≡◌, List, ℕ, refl, subst, sym, ◌∙◌}
 use Rattle.std.proofs.lemmas.Bool.{false≢true}
 use Rattle.gix_refspec.specs.Specs.Grammar.{Reads}

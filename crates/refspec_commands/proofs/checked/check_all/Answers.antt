@@ -1,4 +1,4 @@
--- Each text adds what it was checked to be.
+-- Each text adds its result.
 use Rattle.refspec_commands.specs.Read.{IsChecked}
 use Rattle.refspec_commands.proofs.CheckedLemmas.{zip_all, zip_next}
 use Rattle.refspec_commands.proofs.checked.check_all.Goals as goal

@@ -1,4 +1,4 @@
--- A text that is refused is found at its place.
+-- A refused text is found at its index.
 use Rattle.refspec_commands.proofs.CheckedLemmas.{AreGood-all, AreGood-next, HasBad-here}
 use Rattle.refspec_commands.proofs.checked.has_bad.Goals as goal
 

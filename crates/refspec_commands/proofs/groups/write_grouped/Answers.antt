@@ -1,4 +1,4 @@
--- Each mapping has its lines after the others.
+-- The lines of each mapping are after the others.
 use Rattle.std.proofs.Common.{ℕ, Vec, Global, map, refl, subst, sym}
 use Rattle.bstr.specs.Owned.{bstring_bytes}
 use Rattle.gix_refspec.specs.Views.Group.{mapped_of}

@@ -1,4 +1,4 @@
--- the mappings so far have their lines, and the last one's spec is known
+-- the lines of the mappings so far were written, and before is the spec of the last one
 use Rattle.std.proofs.Common.{map, take}
 use Rattle.bstr.specs.Owned.{bstring_bytes}
 use Rattle.gix_refspec.specs.Views.Group.{mapped_of}

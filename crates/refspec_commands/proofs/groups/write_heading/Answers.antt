@@ -1,4 +1,4 @@
--- The text and a newline.
+-- The line is the text and a newline.
 use Rattle.refspec_commands.proofs.GroupLemmas.{WritesHeading-of}
 use Rattle.refspec_commands.proofs.groups.write_heading.Goals as goal
 

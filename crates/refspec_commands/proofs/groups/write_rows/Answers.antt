@@ -1,4 +1,4 @@
--- Each mapping has its line after the others.
+-- The line of each mapping is after the others.
 use Rattle.refspec_commands.proofs.GroupLemmas.{AddsShort-next, AddsShort-start}
 use Rattle.refspec_commands.proofs.groups.write_rows.Goals as goal
 

@@ -1,4 +1,4 @@
--- the mappings so far have their lines
+-- the lines of the mappings so far were written
 use Rattle.std.proofs.Common.{map, take}
 use Rattle.gix_refspec.specs.Views.Group.{mapped_of}
 use Rattle.refspec_commands.specs.Groups.{AddsShort}

@@ -1,4 +1,4 @@
--- A cell, the other side and a newline.
+-- The line is a cell, the other side and a newline.
 use Rattle.gix_refspec.specs.Views.Group.{mapped_of}
 use Rattle.std.proofs.Common.{List, ℕ, subst}
 use Rattle.refspec_commands.specs.Shown.{WritesQuoted}

@@ -1,4 +1,4 @@
--- What was appended to an empty list is all that is in it.
+-- The bytes appended to an empty vector are its contents.
 use Rattle.std.proofs.Common.{ℕ, List, length, drop, subst}
 use Rattle.std.specs.Io.KnownBytes.{Consumes}
 use Rattle.refspec_commands.proofs.input.read_input.Goals as goal

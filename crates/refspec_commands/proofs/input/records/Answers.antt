@@ -1,4 +1,4 @@
--- Each turn cuts the first record of the rest; in the end nothing is left to cut.
+-- Each iteration splits off the first record of the rest; at the end the rest is empty.
 use Rattle.refspec_commands.proofs.RecordLemmas.{Completes-start, Completes-more, Completes-end}
 use Rattle.refspec_commands.proofs.input.records.Goals as goal
 use Rattle.gix_refspec_text.proofs.lemmas.lists.EmptyLemmas.{full_from_test, empty_from_test}

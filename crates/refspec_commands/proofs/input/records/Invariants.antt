@@ -2,7 +2,7 @@ use Rattle.std.proofs.Common.{length}
 use Rattle.refspec_commands.proofs.RecordLemmas.{Completes}
 use Rattle.refspec_commands.proofs.input.records.Given as goal
 
--- whatever cuts the rest completes the records so far
+-- any split of the rest into records completes the records so far
 abbrev pub invariant-loop-rest : goal.invariant-loop-rest
 invariant-loop-rest l = Completes l.end l.records.items l.rest l.input
 

@@ -1,4 +1,4 @@
--- What is between the quotes is ASCII.
+-- The bytes between the quotes are ASCII.
 use Rattle.std.proofs.Common.{◌++◌, ap, subst, sym, ◌∙◌}
 use Rattle.std.specs.Str.{IsUtf8}
 use Rattle.refspec_commands.specs.Shown.{in_quotes}

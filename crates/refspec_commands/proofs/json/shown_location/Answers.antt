@@ -1,4 +1,4 @@
--- A place is UTF-8.
+-- A location is written in UTF-8.
 use Rattle.std.proofs.Common.{◌++◌, ap, subst, sym, ◌∙◌}
 use Rattle.std.specs.Str.{IsUtf8}
 use Rattle.refspec_commands.specs.Messages.{IsLocation}

@@ -1,4 +1,4 @@
--- The text begins with a quote, or is UTF-8, or isn't.
+-- The text begins with a quote; or it is UTF-8; or neither.
 use Rattle.std.proofs.Common.{sym, ◌∙◌}
 use Rattle.refspec_commands.proofs.JsonLemmas.{json_text-begins, json_text-other, json_text-raw}
 use Rattle.refspec_commands.proofs.ShownLemmas.{if_ok}

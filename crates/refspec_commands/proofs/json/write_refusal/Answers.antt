@@ -1,4 +1,4 @@
--- Each field is that of the refusal.
+-- Each member is that of the refusal.
 use Rattle.std.proofs.Common.{option_map, subst, sym, ◌∙◌}
 use Rattle.refspec_commands.specs.Messages.{IsLocation}
 use Rattle.refspec_commands.specs.declared.call.Form.TheVariants as form

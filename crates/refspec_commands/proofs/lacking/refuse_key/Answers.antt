@@ -1,4 +1,4 @@
--- Nothing is told, or an object among the results of JSON.
+-- Only in JSON an object is appended to the results.
 use Rattle.std.proofs.Common.{refl, subst, sym}
 use Rattle.refspec_commands.specs.declared.call.Form.{Form}
 use Rattle.refspec_commands.specs.Shown.{KeepsResults}

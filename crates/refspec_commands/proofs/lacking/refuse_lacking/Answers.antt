@@ -1,4 +1,4 @@
--- Each leaves the results as they were.
+-- Each setting leaves the results as they were; in JSON it may append to them.
 use Rattle.refspec_commands.proofs.ShownLemmas.{KeepsReport-next, KeepsReport-same}
 use Rattle.refspec_commands.proofs.lacking.refuse_lacking.Goals as goal
 

@@ -1,4 +1,4 @@
--- the results are as they were
+-- the results are as they were; in JSON objects may have been appended
 use Rattle.refspec_commands.specs.Shown.{KeepsReport}
 use Rattle.refspec_commands.proofs.lacking.refuse_lacking.Given as goal
 

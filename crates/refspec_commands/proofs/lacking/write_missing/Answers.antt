@@ -1,4 +1,4 @@
--- Bytes were put after the old ones.
+-- A line was appended.
 use Rattle.refspec_commands.proofs.ShownLemmas.{on_ok}
 use Rattle.refspec_commands.proofs.lacking.write_missing.Goals as goal
 

@@ -1,4 +1,4 @@
--- Each spec has one text more.
+-- Each spec adds its text.
 use Rattle.refspec_commands.proofs.RowLemmas.{texts_next}
 use Rattle.refspec_commands.proofs.mappings.canonical_texts.Goals as goal
 

@@ -1,4 +1,4 @@
--- Each form has its own.
+-- There is a lemma for each form.
 use Rattle.std.proofs.Common.{map}
 use Rattle.bstr.specs.Owned.{bstring_bytes}
 use Rattle.refspec_commands.proofs.RowLemmas.{AddsMappings-json, AddsMappings-lines, AddsMappings-zeros}

@@ -1,4 +1,4 @@
--- Each field is that of the mapping.
+-- Each member is that of the mapping.
 use Rattle.std.proofs.Common.{option_map, ap, ◌∙◌}
 use Rattle.gix_refspec.specs.Views.Group.{mapped_of}
 use Rattle.refspec_commands.specs.Json.{json_text}

@@ -1,4 +1,4 @@
--- Each mapping has its fields after the others.
+-- The fields of each mapping are after the others.
 use Rattle.std.proofs.Common.{ℕ, List, [], map, ap, ◌∙◌}
 use Rattle.bstr.specs.Owned.{bstring_bytes}
 use Rattle.gix_refspec.specs.Views.Group.{mapped_of}

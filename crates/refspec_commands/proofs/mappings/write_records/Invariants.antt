@@ -1,4 +1,4 @@
--- the mappings so far have their fields
+-- the fields of the mappings so far were written
 use Rattle.std.proofs.Common.{◌≡◌, ◌++◌, [], map, flat_map, take}
 use Rattle.bstr.specs.Owned.{bstring_bytes}
 use Rattle.gix_refspec.specs.Views.Group.{mapped_of}

@@ -1,4 +1,4 @@
--- Two cells, the text of the spec and a newline.
+-- The line is two cells, the text of the spec and a newline.
 use Rattle.std.proofs.Common.{codes}
 use Rattle.gix_refspec.specs.Views.Group.{mapped_of}
 use Rattle.refspec_commands.specs.Rows.{mapped_row}

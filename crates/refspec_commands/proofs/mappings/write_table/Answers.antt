@@ -1,4 +1,4 @@
--- Each mapping has its line after the others.
+-- The line of each mapping is after the others.
 use Rattle.std.proofs.Common.{ℕ, List, [], map, codes, sym, ap, ◌∙◌, subst}
 use Rattle.bstr.specs.Owned.{bstring_bytes}
 use Rattle.gix_refspec.specs.Views.Group.{mapped_of}

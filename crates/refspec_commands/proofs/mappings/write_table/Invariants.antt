@@ -1,4 +1,4 @@
--- the rows so far have their lines
+-- the lines of the rows so far were written
 use Rattle.std.proofs.Common.{map, take, codes}
 use Rattle.bstr.specs.Owned.{bstring_bytes}
 use Rattle.gix_refspec.specs.Views.Group.{mapped_of}

@@ -1,4 +1,4 @@
--- Both are strings.
+-- The source and the text are JSON strings.
 use Rattle.std.proofs.Common.{string_bytes}
 use Rattle.refspec_commands.proofs.ConflictLemmas.{claim_of-both}
 use Rattle.refspec_commands.proofs.planning.claim_of.Goals as goal

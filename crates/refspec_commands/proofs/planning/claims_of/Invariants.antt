@@ -1,4 +1,4 @@
--- the sources so far are claims
+-- the claims of the sources so far
 use Rattle.std.proofs.Common.{◌≡◌, map, take}
 use Rattle.bstr.specs.Owned.{bstring_bytes}
 use Rattle.gix_refspec.specs.Views.Group.{start_of}
@@ -6,5 +6,5 @@ use Rattle.refspec_json.specs.Views.{claim_texts}
 use Rattle.refspec_commands.specs.Conflicts.{claims_from}
 use Rattle.refspec_commands.proofs.planning.claims_of.Given as goal
 
-abbrev pub invariant-loop-location : goal.invariant-loop-location
-invariant-loop-location l = map claim_texts l.claims.items ≡ claims_from 0 (map start_of (take l.location l.sources)) (map bstring_bytes l.texts)
+abbrev pub invariant-loop-index : goal.invariant-loop-index
+invariant-loop-index l = map claim_texts l.claims.items ≡ claims_from 0 (map start_of (take l.index l.sources)) (map bstring_bytes l.texts)

@@ -1,4 +1,4 @@
--- Bad records decide, or else the plan.
+-- With bad records something is refused; without, the plan decides.
 use Rattle.std.proofs.Common.{inl, map}
 use Rattle.gix_refspec.specs.Matching.RefNames.{left_out_of}
 use Rattle.refspec_commands.specs.Plan.{IsWhole, LeavesOut}

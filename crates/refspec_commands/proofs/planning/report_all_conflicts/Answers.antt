@@ -1,4 +1,4 @@
--- Each is told after the others.
+-- Each conflict is reported after the others.
 use Rattle.std.proofs.Common.{◌∙◌, List, ap, map, refl, subst, take_all}
 use Rattle.gix_refspec.specs.Views.Issue.{conflict_of}
 use Rattle.gix_refspec.specs.declared.match_group.validate.Issue.{Issue}

@@ -1,4 +1,4 @@
--- the conflicts so far are told
+-- the conflicts so far were reported
 use Rattle.std.proofs.Common.{◌≡◌, map, take}
 use Rattle.gix_refspec.specs.Views.Issue.{conflict_of}
 use Rattle.refspec_commands.specs.Conflicts.{AddsEachConflict, IsConflict}

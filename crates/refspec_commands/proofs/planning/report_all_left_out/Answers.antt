@@ -1,4 +1,4 @@
--- Each mapping is told after the others.
+-- Each mapping is reported after the others.
 use Rattle.std.proofs.Common.{◌∙◌, List, ap, map, refl, subst, take_all}
 use Rattle.bstr.specs.Owned.{bstring_bytes}
 use Rattle.gix_refspec.specs.Matching.RefNames.{left_out_of}

@@ -1,4 +1,4 @@
--- the mappings so far are told
+-- the mappings so far were reported
 use Rattle.std.proofs.Common.{◌≡◌, map, take}
 use Rattle.bstr.specs.Owned.{bstring_bytes}
 use Rattle.gix_refspec.specs.Matching.RefNames.{left_out_of}

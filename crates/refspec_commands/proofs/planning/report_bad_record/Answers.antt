@@ -1,4 +1,4 @@
--- In JSON an object.
+-- In JSON the report is an object; else the results stay as they were.
 use Rattle.std.proofs.Common.{refl}
 use Rattle.refspec_commands.specs.Plan.{IsBadLine}
 use Rattle.refspec_commands.proofs.JsonLemmas.{AddsObjects-one}

@@ -1,4 +1,4 @@
--- Each record is told after the others.
+-- Each record is reported after the others.
 use Rattle.std.proofs.Common.{◌∙◌, refl}
 use Rattle.refspec_commands.specs.Plan.{IsBadLine}
 use Rattle.refspec_commands.specs.Refs.{bad_bytes}

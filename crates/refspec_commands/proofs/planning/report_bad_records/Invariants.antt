@@ -1,4 +1,4 @@
--- the records so far are told
+-- the records so far were reported
 use Rattle.std.proofs.Common.{◌≡◌, take}
 use Rattle.refspec_commands.specs.Json.{AddsObjects}
 use Rattle.refspec_commands.specs.Plan.{IsBadLine}

@@ -1,4 +1,4 @@
--- The first ones are told, and how many more there are.
+-- The first conflicts are reported, and how many more there are.
 use Rattle.std.proofs.Common.{List, map, subst}
 use Rattle.gix_refspec.specs.Matching.Validation.{Conflict}
 use Rattle.gix_refspec.specs.Views.Issue.{conflict_of}

@@ -1,4 +1,4 @@
--- The first ones are told, and how many more there are.
+-- The first mappings are reported; in JSON these are all.
 use Rattle.std.proofs.Common.{List, map, subst}
 use Rattle.bstr.specs.Owned.{bstring_bytes}
 use Rattle.gix_refspec.specs.Matching.RefNames.{LeftOut, left_out_of}

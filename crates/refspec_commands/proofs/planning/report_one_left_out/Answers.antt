@@ -1,4 +1,4 @@
--- In JSON an object.
+-- In JSON the report is an object; else the results stay as they were.
 use Rattle.std.proofs.Common.{ℕ, List, map, subst}
 use Rattle.bstr.specs.Owned.{bstring_bytes}
 use Rattle.gix_refspec.specs.Matching.RefNames.{left_out_of}

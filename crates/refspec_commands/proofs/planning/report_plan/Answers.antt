@@ -1,4 +1,4 @@
--- The plan of the refs in the records of the input.
+-- The plan is that of the refs in the records of the input.
 use Rattle.std.proofs.Common.{◌≡◌, ◌≢◌, List, [], MatchBool, map, ap, sym, subst}
 use Rattle.bstr.specs.Owned.{bstring_bytes}
 use Rattle.gix_refspec.specs.Views.Group.{ref_of}
@@ -8,7 +8,7 @@ use Rattle.gix_refspec_match.specs.declared.types.Item.{Item}
 use Rattle.gix_refspec_text.specs.declared.spec.RefSpecRef.{RefSpecRef}
 use Rattle.refspec_commands.specs.Input.{end_byte}
 use Rattle.refspec_commands.specs.declared.refs.BadRecord.{BadRecord}
-use Rattle.refspec_commands.specs.Refs.{ReportNames, bad_bytes}
+use Rattle.refspec_commands.specs.Refs.{ListsNames, bad_bytes}
 use Rattle.refspec_commands.specs.Json.{AddsObjects}
 use Rattle.refspec_commands.specs.Plan.{IsBadLine, IsLeftOutOf, IsMalformed}
 use Rattle.refspec_commands.specs.Rows.{AreSpecTexts}
@@ -19,7 +19,7 @@ use Rattle.refspec_commands.proofs.planning.report_plan.Goals as goal
 
 pub returns : goal.returns
 returns g c =
-    let named = subst (λ (l : List Item). ReportNames c.end_of.result c.args.task.now.input.now (map ref_of l) (map bad_bytes c.in_ok-reported.reported.bad.items)) (sym c.as_slice-5.ensures.value) c.in_ok-reported.ensures in
+    let named = subst (λ (l : List Item). ListsNames c.end_of.result c.args.task.now.input.now (map ref_of l) (map bad_bytes c.in_ok-reported.reported.bad.items)) (sym c.as_slice-5.ensures.value) c.in_ok-reported.ensures in
     let of_specs = subst (λ (l : List RefSpecRef). AreSpecTexts (map reading_of l) (map bstring_bytes c.in_ok-texts.texts.items)) c.as_slice-2.ensures.value c.in_ok-texts.ensures in
     let some = subst (λ (l : List BadRecord). MatchBool c.in_ok-has_bad.has_bad (map bad_bytes l ≢ []) (map bad_bytes l ≡ [])) c.as_slice.ensures.value c.in_ok-has_bad.ensures.some in
     let records = subst (λ (l : List BadRecord). AddsObjects c.args.report.now.form (IsBadLine c.args.task.now.call.now.input.now) l c.args.report.now.results.items c.report_bad_records.new.report.results.items) c.as_slice.ensures.value c.in_ok-has_bad.ensures.reported in

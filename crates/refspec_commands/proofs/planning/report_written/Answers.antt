@@ -1,4 +1,4 @@
--- The mappings, or nothing.
+-- The mappings are written, or nothing is.
 use Rattle.std.proofs.Common.{map, ap}
 use Rattle.bstr.specs.Owned.{bstring_bytes}
 use Rattle.gix_refspec.specs.Views.Group.{mapped_of}

@@ -1,4 +1,4 @@
--- Two names, with bytes before, between and after them.
+-- The line is two names, with bytes before, between and after them.
 use Rattle.refspec_commands.proofs.ConflictLemmas.{WritesClaim-of}
 use Rattle.refspec_commands.proofs.planning.write_claim.Goals as goal
 

@@ -1,4 +1,4 @@
--- The destination and the claims.
+-- The members of the object are the destination and the claims.
 use Rattle.std.proofs.Common.{◌≡◌, List, ap, map, rules, ◌∙◌}
 use Rattle.bstr.specs.Owned.{bstring_bytes}
 use Rattle.gix_refspec.specs.Matching.Mappings.{Source}

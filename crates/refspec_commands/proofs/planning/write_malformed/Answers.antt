@@ -1,4 +1,4 @@
--- The object has the place and the bytes.
+-- The members of the object are the location and the bytes of the record.
 use Rattle.std.proofs.Common.{subst, sym, ◌∙◌}
 use Rattle.refspec_commands.specs.Messages.{IsLocation}
 use Rattle.refspec_commands.specs.Refs.{bad_bytes}

@@ -1,4 +1,4 @@
--- What there is, how many, and how to see them.
+-- The line says what there is, how many, and how to see them.
 use Rattle.std.proofs.Common.{◌++◌, ap, ◌∙◌}
 use Rattle.refspec_commands.proofs.ConflictLemmas.{more_line-some}
 use Rattle.refspec_commands.proofs.planning.write_more.Goals as goal

@@ -1,4 +1,4 @@
--- A spec is another unless its star stands right behind `refs/`.
+-- A spec is kept unless `takes_whole` is true of it.
 use Rattle.std.proofs.Common.{◌+◌, List, Vec, Global, ap, map, subst, sym, take, take_all}
 use Rattle.gix_refspec.specs.Views.Spec.{reading_of}
 use Rattle.gix_refspec_text.specs.declared.spec.RefSpecRef.{RefSpecRef}

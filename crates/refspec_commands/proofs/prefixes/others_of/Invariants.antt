@@ -1,4 +1,4 @@
--- the specs so far whose star doesn't stand right behind `refs/`
+-- others are the kept specs so far
 use Rattle.std.proofs.Common.{map, take}
 use Rattle.gix_refspec.specs.Views.Spec.{reading_of}
 use Rattle.refspec_commands.specs.Prefixes.{AreOthers}

@@ -1,4 +1,4 @@
--- The reasons are messages, or objects after one another.
+-- The reasons are messages, or in JSON objects, in order.
 use Rattle.std.proofs.Common.{◌<◌, ◌≤◌, List, ap, arith, get_or, length, map, subst, take_all, ◌∙◌}
 use Rattle.gix_refspec.specs.Views.Spec.{reading_of}
 use Rattle.gix_refspec_text.specs.declared.spec.RefSpecRef.{RefSpecRef}

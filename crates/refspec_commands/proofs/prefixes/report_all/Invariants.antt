@@ -1,4 +1,4 @@
--- what stands for all refs was put, and the reasons so far
+-- what stands for all refs was written, and the reasons so far
 use Rattle.std.proofs.Common.{◌≡◌, map, take}
 use Rattle.gix_refspec.specs.Views.Spec.{reading_of}
 use Rattle.refspec_commands.specs.Prefixes.{AddsAll}

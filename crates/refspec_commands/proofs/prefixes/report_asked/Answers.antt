@@ -1,4 +1,4 @@
--- The prefixes stand after `refs/`, or alone.
+-- The prefixes are after `refs/`, or alone.
 use Rattle.std.proofs.Common.{map, refl}
 use Rattle.bstr.specs.Owned.{bstring_bytes}
 use Rattle.refspec_commands.proofs.PrefixLemmas.{AddsList-own, AddsList-whole}

@@ -1,4 +1,4 @@
--- Each prefix is told after the others.
+-- Each prefix is reported after the others.
 use Rattle.std.proofs.Common.{List, ap, map, refl, subst, take_all, ◌∙◌}
 use Rattle.bstr.specs.Owned.{bstring_bytes}
 use Rattle.bstr.specs.declared.bstring.BString.{BString}

@@ -1,4 +1,4 @@
--- the prefixes so far were told
+-- the prefixes so far were reported
 use Rattle.std.proofs.Common.{◌≡◌, map, take}
 use Rattle.bstr.specs.Owned.{bstring_bytes}
 use Rattle.refspec_commands.specs.Prefixes.{AddsRequests}

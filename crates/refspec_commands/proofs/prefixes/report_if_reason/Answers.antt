@@ -1,4 +1,4 @@
--- Nothing is told of a spec for which a list is safe.
+-- A spec with a safe list of prefixes isn't reported.
 use Rattle.std.proofs.Common.{List, inr, map, refl, subst}
 use Rattle.bstr.specs.Owned.{bstring_bytes}
 use Rattle.gix_refspec.specs.Matching.Asked.{ListsGroup}

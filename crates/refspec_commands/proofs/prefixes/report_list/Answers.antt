@@ -1,4 +1,4 @@
--- There are prefixes, or none.
+-- The list is empty or not.
 use Rattle.std.proofs.Common.{map}
 use Rattle.bstr.specs.Owned.{bstring_bytes}
 use Rattle.refspec_commands.proofs.PrefixLemmas.{AddsList-none, AddsList-of, no_names, some_names}

@@ -1,4 +1,4 @@
--- In JSON an object.
+-- In JSON the report is an object; else it is a line, or nothing.
 use Rattle.std.proofs.Common.{subst, sym}
 use Rattle.refspec_commands.specs.declared.call.Form.{Form}
 use Rattle.refspec_commands.specs.Prefixes.{AddsNothing}

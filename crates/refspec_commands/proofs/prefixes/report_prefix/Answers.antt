@@ -1,4 +1,4 @@
--- A prefix that is shown.
+-- In lines and records the prefix is a name that is shown.
 use Rattle.std.proofs.Common.{Bool, [], ◌∷◌, subst, sym}
 use Rattle.refspec_commands.specs.Prefixes.{argument, request}
 use Rattle.refspec_commands.specs.Shown.{AddsNames}

@@ -1,4 +1,4 @@
--- The list is that of the others, after `refs/` where it is asked for; or all refs are asked for.
+-- The list is that of the other specs, after `refs/` if that is requested; or all refs are requested.
 use Rattle.std.proofs.Common.{List, inl, map, refl, subst}
 use Rattle.bstr.specs.Owned.{bstring_bytes}
 use Rattle.bstr.specs.declared.bstring.BString.{BString}

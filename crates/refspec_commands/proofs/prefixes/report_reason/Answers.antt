@@ -1,4 +1,4 @@
--- In JSON an object with the text of the spec.
+-- In JSON the report is an object with the text of the spec; else the results stay as they were.
 use Rattle.std.proofs.Common.{Some, ap, codes, inl, refl, sym, ◌∙◌}
 use Rattle.gix_refspec.specs.Views.Spec.{reading_of}
 use Rattle.refspec_json.specs.Objects.{line_of, noted_object}

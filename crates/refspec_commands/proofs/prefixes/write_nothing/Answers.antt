@@ -1,4 +1,4 @@
--- The object has the sentence.
+-- The message of the object is the sentence.
 use Rattle.refspec_commands.proofs.ShownLemmas.{on_ok}
 use Rattle.refspec_commands.proofs.prefixes.write_nothing.Goals as goal
 

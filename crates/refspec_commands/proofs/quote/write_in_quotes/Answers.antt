@@ -1,4 +1,4 @@
--- Each byte puts its escape behind those of the others.
+-- Each byte appends its escape to those of the others.
 use Rattle.std.proofs.Common.{[], ◌∷◌, flat_map, refl}
 use Rattle.refspec_commands.specs.Shown.{escaped}
 use Rattle.refspec_commands.proofs.ShownLemmas.{behind, escaped-all, escaped-next}

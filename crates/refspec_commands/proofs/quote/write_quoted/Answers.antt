@@ -1,4 +1,4 @@
--- The text as it is, or in quotes.
+-- The text is appended as it is, or in quotes.
 use Rattle.std.proofs.Common.{inr, refl}
 use Rattle.refspec_commands.specs.Shown.{in_quotes}
 use Rattle.refspec_commands.proofs.ShownLemmas.{on_ok}

@@ -1,4 +1,4 @@
--- The text as it is where it is UTF-8, or in quotes.
+-- The text is UTF-8 and appended as it is or in quotes, or it isn't and appended in quotes.
 use Rattle.std.proofs.Common.{inr, refl}
 use Rattle.refspec_commands.specs.Shown.{in_quotes}
 use Rattle.refspec_commands.proofs.JsonLemmas.{IsUtf8-in_quotes, IsUtf8-quoted}

@@ -1,4 +1,4 @@
--- Each byte of white space is looked for.
+-- Each of the four bytes of white space is searched for.
 use Rattle.refspec_commands.proofs.RefLemmas.{one_word_if}
 use Rattle.refspec_commands.proofs.refs.is_one_word.Goals as goal
 use Rattle.gix_refspec_text.proofs.lemmas.lists.EmptyLemmas.{full_from_test}

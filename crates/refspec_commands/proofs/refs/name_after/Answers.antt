@@ -1,4 +1,4 @@
--- The digits of an id would be where others are.
+-- If the line had an id of this kind, its digits would be the first bytes, but these aren't an id.
 use Rattle.std.proofs.Common.{◌≡◌, ℕ, List, take, sym, ap, ◌∙◌, subst}
 use Rattle.gix_refspec.specs.Texts.ObjectId.{IsIdText, digits_of}
 use Rattle.refspec_commands.proofs.RefLemmas.{no_id, space_at}

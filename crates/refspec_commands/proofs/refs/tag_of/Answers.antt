@@ -1,4 +1,4 @@
--- What is cut off is the end.
+-- The name is the tag and the suffix.
 use Rattle.std.proofs.Common.{◌≡◌, ◌≢◌, ◌++◌, ℕ, List, Bor, Option, None, Some, IfSome, MatchOption, codes}
 use Rattle.std.proofs.lemmas.Bool.Decides.{Decides-eqb}
 use Rattle.std.proofs.lemmas.Slice.Eq.{strip_suffix_is}

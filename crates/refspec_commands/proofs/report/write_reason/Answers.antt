@@ -1,4 +1,4 @@
--- The parts of the line.
+-- The line is its parts, in order.
 use Rattle.std.proofs.Common.{◌∙◌}
 use Rattle.refspec_commands.proofs.MessageLemmas.{WritesReason-of}
 use Rattle.refspec_commands.proofs.report.write_reason.Goals as goal

@@ -1,4 +1,4 @@
--- What each command tells is what it finds.
+-- There is a lemma for each command.
 use Rattle.refspec_commands.proofs.OutputLemmas.{AddsFound-plan, AddsFound-prefixes, AddsFound-track}
 use Rattle.refspec_commands.proofs.ShownLemmas.{if_ok}
 use Rattle.refspec_commands.proofs.run.report_found.Goals as goal

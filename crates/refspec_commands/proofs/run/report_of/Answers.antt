@@ -1,4 +1,4 @@
--- What was told of the checked texts is the output; or the keys that have no value.
+-- The output is the report on the checked texts, or on the keys without a value.
 use Rattle.std.proofs.Common.{ℕ, List, sym, subst}
 use Rattle.refspec_commands.specs.Settings.{AreSettingsOf, HasLacking}
 use Rattle.refspec_commands.specs.declared.settings.Setting.{Setting}
@@ -13,7 +13,7 @@ returns-clause-ok g c =
     let none : ¬ (HasLacking c.as_slice.result.now) = rw c.if-has_lacking.false at c.has_lacking.ensures in
     let has = subst (λ (l : List Setting). ¬ (HasLacking l)) c.as_slice.ensures.value none in
     let lent = subst (AreSettingsOf call.ends beside _) (sym c.as_slice-2.ensures.value) read in
-    IsOutput-of call beside c.args.input.now c.new-report.result.messages.items c.report_results.new.report.messages.items c.in_ok-refused.refused c.new-report.result.form c.as_slice-3.result.now c.in_ok-texts.texts.items c.as_slice-4.result.now c.in_ok-all.all.items c.new-report.result.results.items c.report_results.new.report.results.items (c.in_ok-settings.settings.items, read, has) (c.in_ok-texts.ensures lent) c.as_slice-3.ensures.value c.in_ok-all.ensures c.as_slice-4.ensures.value c.new-report.ensures.form c.new-report.ensures.empty c.new-report.ensures.untold c.in_ok-refused.ensures
+    IsOutput-of call beside c.args.input.now c.new-report.result.messages.items c.report_results.new.report.messages.items c.in_ok-refused.refused c.new-report.result.form c.as_slice-3.result.now c.in_ok-texts.texts.items c.as_slice-4.result.now c.in_ok-all.all.items c.new-report.result.results.items c.report_results.new.report.results.items (c.in_ok-settings.settings.items, read, has) (c.in_ok-texts.ensures lent) c.as_slice-3.ensures.value c.in_ok-all.ensures c.as_slice-4.ensures.value c.new-report.ensures.form c.new-report.ensures.empty c.new-report.ensures.no_message c.in_ok-refused.ensures
 
 pub returns-then-has_lacking-clause-ok : goal.returns-then-has_lacking-clause-ok
 returns-then-has_lacking-clause-ok g c =

@@ -1,4 +1,4 @@
--- A command that is neither `canon` nor one of specs alone tells what it finds, or that some text is refused.
+-- Except for `canon`, `check` and `explain`, a command reports its results, or that some text is refused.
 use Rattle.std.proofs.Common.{inl, map}
 use Rattle.gix_refspec.specs.Views.Spec.{reading_of}
 use Rattle.refspec_commands.proofs.OutputLemmas.{Reports-found}

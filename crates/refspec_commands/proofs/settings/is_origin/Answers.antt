@@ -1,4 +1,4 @@
--- Each of the four words is looked for.
+-- Each of the four prefixes is tested.
 use Rattle.std.proofs.Common.{codes}
 use Rattle.std.proofs.lemmas.Bool.Decides.{Decides-eqb}
 use Rattle.std.proofs.lemmas.Slice.Eq.{starts_is}

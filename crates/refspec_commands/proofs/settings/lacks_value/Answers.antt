@@ -1,4 +1,4 @@
--- The key is none of refspecs.
+-- The key isn't one of refspecs.
 use Rattle.refspec_commands.proofs.settings.lacks_value.Goals as goal
 
 pub returns-in-None : goal.returns-in-None

@@ -1,4 +1,4 @@
--- The key is the word of remotes, a name and the variable.
+-- The key is `remote.`, a name and the variable.
 use Rattle.std.proofs.Common.{◌++◌, ◌-◌, ℕ, List, Some, codes, length, take, ap, ◌∙◌}
 use Rattle.std.proofs.lemmas.Bool.Decides.{Decides-eqb}
 use Rattle.std.proofs.lemmas.Slice.Eq.{ends_is, strip_prefix_is}

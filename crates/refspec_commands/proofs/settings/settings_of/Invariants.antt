@@ -1,4 +1,4 @@
--- the records so far said these settings, and maybe the origin of the next
+-- the records so far are these settings, and maybe the origin of the next one
 use Rattle.refspec_commands.proofs.SettingLemmas.{PairsSoFar}
 use Rattle.refspec_commands.proofs.settings.settings_of.Given as goal
 

@@ -1,4 +1,4 @@
--- A text that is no spec is refused; a text that is a spec is passed over.
+-- A refused text is reported; a spec is skipped.
 use Rattle.std.proofs.Common.{refl}
 use Rattle.refspec_commands.specs.Read.{IsRefusalOf}
 use Rattle.refspec_commands.proofs.JsonLemmas.{AddsObjects-none, AddsObjects-refusal}

@@ -1,4 +1,4 @@
--- Each refusal is told after the others.
+-- Each refusal is reported after the others.
 use Rattle.std.proofs.Common.{◌<◌, ◌∙◌, arith, length, refl}
 use Rattle.refspec_commands.specs.Read.{IsRefusalOf}
 use Rattle.refspec_commands.proofs.JsonLemmas.{AddsObjects-all, AddsObjects-more, AddsObjects-start}

@@ -1,4 +1,4 @@
--- the refusals so far were told
+-- the refusals so far were reported
 use Rattle.std.proofs.Common.{◌≡◌, take}
 use Rattle.refspec_commands.specs.Json.{AddsObjects}
 use Rattle.refspec_commands.specs.Messages.{ReportsRefusals}

@@ -1,4 +1,4 @@
--- Each text is refused, or nothing is told of it.
+-- Each text is refused, or the messages stay as they were.
 use Rattle.std.proofs.Common.{◌<◌, ◌∙◌, ap, length, refl, subst, sym, arith}
 use Rattle.refspec_commands.specs.declared.report.Report.{Report}
 use Rattle.refspec_commands.specs.Messages.{ReportsRefusal}
@@ -23,7 +23,7 @@ loop-checked-preserved c =
         form = ap (λ (p : Report). p.form) w.report-is ∙ (w.in_ok-report_spec-in-Good.ensures.form ∙ c.loop-checked.invariant.form);
         reported = ReportsRefusals-next c.args.report.now.form c.loop-checked.report.form c.args.all.now c.loop-checked.checked-index c.checked-item.result c.args.report.now.messages.items c.loop-checked.report.messages.items c.match-checked.report.messages.items below c.loop-checked.invariant.form c.checked-item.is c.loop-checked.invariant.reported
             (ReportsRefusals-good c.loop-checked.report.form c.checked-item.result _ _ c.loop-checked.report.messages.items c.match-checked.report.messages.items w.in-Good.is
-            (ap (λ (p : Report). p.messages.items) w.report-is ∙ ap (λ m. m.items) w.in_ok-report_spec-in-Good.ensures.untold));
+            (ap (λ (p : Report). p.messages.items) w.report-is ∙ ap (λ m. m.items) w.in_ok-report_spec-in-Good.ensures.no_message));
       }
     ]
 

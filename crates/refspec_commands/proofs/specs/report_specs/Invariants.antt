@@ -1,4 +1,4 @@
--- the texts so far were refused, or nothing was told of them
+-- the refusals so far were reported
 use Rattle.std.proofs.Common.{◌≡◌, take}
 use Rattle.refspec_commands.specs.Messages.{ReportsRefusals}
 use Rattle.refspec_commands.proofs.specs.report_specs.Given as goal

@@ -1,4 +1,4 @@
--- The refspecs among the settings of both, or the records of both.
+-- The texts are the refspecs among the settings of both inputs, or the records of both.
 use Rattle.std.proofs.Common.{map}
 use Rattle.refspec_commands.specs.Texts.{given_of}
 use Rattle.refspec_commands.proofs.ShownLemmas.{on_ok}

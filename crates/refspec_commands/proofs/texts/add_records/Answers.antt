@@ -1,4 +1,4 @@
--- Each record is one text more.
+-- Each record adds one text.
 use Rattle.std.proofs.Common.{◌<◌, ◌++◌, ℕ, List, Bor, map, length, take_all, sym, ap, refl, ◌∙◌, arith}
 use Rattle.std.proofs.lemmas.List.{append-nil}
 use Rattle.refspec_commands.specs.Texts.{given_of, numbered, record_at}

@@ -1,4 +1,4 @@
--- the records so far are texts after the others
+-- the records so far were added as texts
 use Rattle.std.proofs.Common.{◌≡◌, ◌++◌, map, take}
 use Rattle.refspec_commands.specs.Texts.{given_of, numbered, record_at}
 use Rattle.refspec_commands.proofs.texts.add_records.Given as goal

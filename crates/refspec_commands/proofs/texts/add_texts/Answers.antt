@@ -1,4 +1,4 @@
--- The records are cut at the byte that ends them.
+-- The input is split at the byte that ends records.
 use Rattle.std.proofs.Common.{ℕ, List, ◌++◌, Bor, map, ap, ◌∙◌, subst}
 use Rattle.refspec_commands.specs.Input.{AreRecords}
 use Rattle.refspec_commands.specs.Texts.{given_of, numbered, record_at}

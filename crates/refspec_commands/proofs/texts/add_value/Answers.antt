@@ -1,4 +1,4 @@
--- The key is none of refspecs, stands alone, or has one.
+-- The key isn't one of refspecs; or it has no value; or its value is a refspec.
 use Rattle.std.proofs.Common.{map, refl, ◌∙◌, ap}
 use Rattle.std.proofs.lemmas.List.{map-append}
 use Rattle.refspec_commands.specs.Texts.{at_setting, given_of}

@@ -1,4 +1,4 @@
--- Each setting gives what it has.
+-- Each setting adds its refspec, if it has one.
 use Rattle.std.proofs.Common.{map}
 use Rattle.refspec_commands.specs.Texts.{given_of}
 use Rattle.refspec_commands.proofs.SettingLemmas.{AddsValues-all, AddsValues-next, AddsValues-none}

@@ -1,4 +1,4 @@
--- the settings so far gave their refspecs
+-- the refspecs among the settings so far were added
 use Rattle.std.proofs.Common.{map, take}
 use Rattle.refspec_commands.specs.Texts.{AddsValues, given_of}
 use Rattle.refspec_commands.proofs.texts.add_values.Given as goal

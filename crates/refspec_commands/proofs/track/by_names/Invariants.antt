@@ -1,4 +1,4 @@
--- the specs so far that names look up, and the results are as they were
+-- kept are the specs so far by which names are looked up; the results are as they were, except in JSON
 use Rattle.std.proofs.Common.{map, take}
 use Rattle.gix_refspec.specs.Views.Spec.{reading_of}
 use Rattle.refspec_commands.specs.Shown.{KeepsReport}

@@ -1,4 +1,4 @@
--- Each name is that of one ref more.
+-- Each name adds one ref.
 use Rattle.std.proofs.Common.{ℕ, List, [], Bor, ◌∙◌}
 use Rattle.gix_refspec.specs.Views.Group.{ref_of}
 use Rattle.refspec_commands.specs.Track.{named}

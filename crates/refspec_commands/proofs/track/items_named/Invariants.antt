@@ -1,4 +1,4 @@
--- the names so far are those of refs
+-- the items are the refs with the names so far
 use Rattle.std.proofs.Common.{◌≡◌, map, take}
 use Rattle.gix_refspec.specs.Views.Group.{ref_of}
 use Rattle.refspec_commands.specs.Track.{named}

@@ -1,4 +1,4 @@
--- Each ref leaves the results as they were, and one that no mapping writes is told.
+-- Each ref leaves the results as they were, except in JSON; a ref that no mapping writes sets the flag.
 use Rattle.std.proofs.Common.{Bool, Bor, List, ℕ, ◌++◌, ◌∷◌, [], map, take, sym, subst, ◌∙◌}
 use Rattle.std.proofs.lemmas.Bool.{false≢true}
 use Rattle.gix_refspec.specs.Views.Group.{mapped_of}

@@ -1,4 +1,4 @@
--- the results are as they were, and whether some name so far isn't written
+-- the results are as they were, except in JSON, and the flag says whether some name so far isn't written
 use Rattle.std.proofs.Common.{map, take}
 use Rattle.gix_refspec.specs.Views.Group.{mapped_of}
 use Rattle.refspec_commands.specs.Shown.{KeepsReport}

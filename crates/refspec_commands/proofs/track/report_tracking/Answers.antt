@@ -1,4 +1,4 @@
--- What was found is what the specs map back of refs with these names.
+-- The mappings are those of the specs from refs with these names back to sources.
 use Rattle.std.proofs.Common.{arith, ℕ, List, Bor, map, ap, sym, ◌∙◌, subst}
 use Rattle.bstr.specs.Owned.{bstring_bytes}
 use Rattle.bstr.specs.declared.bstring.BString.{BString}

@@ -1,4 +1,4 @@
--- The object has the name and the sentence.
+-- The members of the object are the name and the sentence.
 use Rattle.std.proofs.Common.{◌++◌, ap, ◌∙◌}
 use Rattle.refspec_json.specs.Objects.{line_of, untracked_object}
 use Rattle.refspec_commands.proofs.ShownLemmas.{on_ok}

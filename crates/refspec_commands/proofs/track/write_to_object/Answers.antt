@@ -1,4 +1,4 @@
--- The object has the spec and the sentence.
+-- The members of the object are the spec and the sentence.
 use Rattle.std.proofs.Common.{◌++◌, ap, codes, ◌∙◌}
 use Rattle.refspec_json.specs.Objects.{line_of, noted_object}
 use Rattle.refspec_commands.proofs.ShownLemmas.{on_ok}

@@ -1,4 +1,4 @@
--- A mapping that has a destination writes one name more.
+-- A mapping with a destination adds its name.
 use Rattle.std.proofs.Common.{◌++◌, ◌∷◌, [], map, take, take_all, sym, subst, ap, ◌∙◌, List, Bor, ℕ, BTreeSet, Some}
 use Rattle.std.specs.Option.{option_map}
 use Rattle.gix_refspec.specs.Views.Group.{mapped_of, name_bytes}

@@ -1,4 +1,4 @@
--- the names so far are those that mappings write
+-- the set contains the names that the mappings so far write
 use Rattle.std.proofs.Common.{map, take}
 use Rattle.gix_refspec.specs.Views.Group.{mapped_of}
 use Rattle.refspec_commands.specs.Track.{AreWritten}

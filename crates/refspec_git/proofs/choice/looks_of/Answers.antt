@@ -1,4 +1,4 @@
--- Here the word lacks a star.
+-- Here the argument contains no star.
 use Rattle.gix_refspec_text.proofs.lemmas.texts.TextLemmas.{Lacks-ContainsText}
 use Rattle.refspec_git.proofs.choice.looks_of.Goals as goal
 

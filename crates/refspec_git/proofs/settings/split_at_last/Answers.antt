@@ -1,4 +1,4 @@
--- What is after the place that was found is the text from the next place on.
+-- What follows the byte that was found is the text from the next index on.
 use Rattle.gix_refspec_text.proofs.lemmas.texts.TextLemmas.{split_at_last}
 use Rattle.refspec_git.proofs.settings.split_at_last.Goals as goal
 

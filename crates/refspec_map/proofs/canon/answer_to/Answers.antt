@@ -1,4 +1,4 @@
--- What the line reads as is what its text is read as; an error other than `Memory` is a reason.
+-- The reading of the line is that of its text; an error other than `Memory` is a reason of the grammar.
 use Rattle.std.proofs.Common.{◌≡◌, List, ℕ, subst, sym, ◌∙◌}
 use Rattle.std.proofs.lemmas.Bool.{false≢true}
 use Rattle.gix_refspec.specs.Specs.Grammar.{Reads}

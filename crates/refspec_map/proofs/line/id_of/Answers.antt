@@ -1,4 +1,4 @@
--- A word with a fault spells no id.
+-- A word with a fault doesn't spell an id.
 use Rattle.refspec_map.proofs.LineLemmas.{unspelled}
 use Rattle.refspec_map.proofs.line.id_of.Goals as goal
 

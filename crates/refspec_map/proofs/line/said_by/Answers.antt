@@ -1,4 +1,4 @@
--- The keyword tells which line it is, and the words after it tell of the ref.
+-- The keyword determines the form of the line, and what follows it the ref or the spec.
 use Rattle.std.proofs.Common.{None, Some, codes, inl, inr, refl}
 use Rattle.std.proofs.lemmas.Bool.Decides.{Decides-eqb}
 use Rattle.std.proofs.lemmas.Slice.Eq.{strip_prefix_is}

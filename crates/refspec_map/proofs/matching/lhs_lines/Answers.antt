@@ -1,4 +1,4 @@
--- What is written for the names of refs is written for the refs, by the law that names decide.
+-- The output for the names of the refs is the output for the refs, by the law `names_decide`.
 use Rattle.std.proofs.Common.{map, refl}
 use Rattle.gix_refspec.specs.Views.Spec.{reading_of}
 use Rattle.gix_refspec.specs.Matching.Hits.{AreKeptForward}

@@ -1,4 +1,4 @@
--- What is written for the names of refs is written for the refs, by the law that names decide.
+-- The output for the names of the refs is the output for the refs, by the law `names_decide`.
 use Rattle.std.proofs.lemmas.Result.{IfOk-weaker}
 use Rattle.refspec_map.specs.Plan.{IsPlan}
 use Rattle.refspec_map.proofs.MatchingLemmas.{IsMatching-named, plan_by_name}

@@ -1,4 +1,4 @@
--- What is written for the items of refs is written for the refs.
+-- The output for the items of the refs is the output for the refs.
 use Rattle.std.proofs.Common.{map}
 use Rattle.gix_refspec.specs.Views.Spec.{reading_of}
 use Rattle.gix_refspec.specs.Matching.Hits.{AreKeptBackward}

@@ -1,5 +1,5 @@
--- What is written for the names of refs is written for the refs, where no destination is an id, by the law that names
--- decide then.
+-- If no destination is an id, the output for the names of the refs is the output for the refs, by the law
+-- `names_decide_back`.
 use Rattle.std.proofs.Common.{List, map, refl, subst}
 use Rattle.gix_refspec_text.specs.declared.spec.RefSpecRef.{RefSpecRef}
 use Rattle.gix_refspec.specs.Views.Spec.{reading_of}

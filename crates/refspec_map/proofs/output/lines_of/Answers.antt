@@ -1,4 +1,4 @@
--- Each turn puts one line after the others.
+-- Each iteration appends the line of one value.
 use Rattle.std.proofs.Common.{◌<◌, length, arith}
 use Rattle.refspec_map.proofs.MatchingLemmas.{lines_more}
 use Rattle.refspec_map.proofs.output.lines_of.Goals as goal

@@ -1,4 +1,4 @@
--- The claims that were put are all.
+-- At the end all claims were appended.
 use Rattle.std.proofs.Common.{◌≡◌, ◌++◌, flat_map, map, refl, ap, ◌∙◌, None, Some}
 use Rattle.std.specs.List.{zip}
 use Rattle.std.specs.Iterator.Adapters.{zip_first, zip_second}

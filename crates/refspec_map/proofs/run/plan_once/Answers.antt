@@ -1,4 +1,4 @@
--- By the laws on plans, what is told apart is written apart.
+-- By the laws on plans, distinct mappings and fixes have distinct lines.
 use Rattle.refspec_map.proofs.PlanOnceLemmas.{plan_once}
 use Rattle.refspec_map.proofs.run.plan_once.Goals as goal
 

@@ -1,4 +1,4 @@
--- no list serves a pattern without a prefix
+-- a pattern without a ref prefix has no list
 use Rattle.std.proofs.Common.{sym, ◌∙◌}
 use Rattle.std.proofs.lemmas.Bool.{false≢true}
 use Rattle.gix_refspec.proofs.lemmas.prefixes.AskedLemmas.{no_list}

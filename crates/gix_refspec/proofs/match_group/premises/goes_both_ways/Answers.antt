@@ -1,4 +1,4 @@
--- A look at the source tells whether both sides have a star.
+-- Both sides have a star exactly if the source has one.
 use Rattle.std.proofs.Common.{◌↔◌, IsTrue, List, ℕ, Some, option_map, sym, ap, ◌∙◌, subst}
 use Rattle.bstr.specs.BStr.{bstr_bytes}
 use Rattle.gix_refspec_text.specs.Views.Spec.{reading_of}

@@ -1,4 +1,4 @@
--- a copy of a mapping of which a side is bad is put after the others
+-- a copy of a mapping with an invalid side is appended
 use Rattle.std.proofs.Common.{◌≡◌, [], ◌∷◌, ◌++◌, ◌+◌, Vec, Global, map, take, sym, ap, ◌∙◌, subst, rules}
 use Rattle.std.specs.List.{AllByRecursion}
 use Rattle.std.proofs.lemmas.List.{map-append}

@@ -1,4 +1,4 @@
--- of the mappings so far, those of which a side is bad are there; if none is, all are named
+-- the mappings so far with an invalid side are listed; if there are none, all have ref names
 use Rattle.std.proofs.Common.{◌≡◌, [], map, take}
 use Rattle.std.specs.List.{AllByRecursion}
 use Rattle.gix_refspec_match.specs.Views.Mapping.{mapped_of}

@@ -1,4 +1,4 @@
--- the mappings so far have their fixes; if there is none, all survive
+-- there are the fixes of the mappings so far; if there are none, all survive
 use Rattle.std.proofs.Common.{◌≡◌, [], map, take}
 use Rattle.std.specs.List.{AllByRecursion}
 use Rattle.gix_refspec_text.specs.Views.Spec.{reading_of}

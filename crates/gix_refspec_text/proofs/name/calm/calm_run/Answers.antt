@@ -1,4 +1,4 @@
--- Below the lowest bit of the mask each byte is calm after the one before it.
+-- Below the lowest set bit of the mask each byte is calm after the byte before it.
 use Rattle.std.proofs.Common.{ℕ, ◌-◌, ltb, cond, bit_or, bit_and, arith}
 use Rattle.std.proofs.lemmas.Simd.{zip2_splat, length-chunk}
 use lib.Lanes.{chunk}

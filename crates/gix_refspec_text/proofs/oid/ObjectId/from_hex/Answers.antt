@@ -1,4 +1,4 @@
--- The digits of a text as long as an id are decoded.
+-- If the text is as long as an id, its digits are decoded.
 use Rattle.std.proofs.Common.{replicate, refl, sym, ◌∙◌}
 use Rattle.std.proofs.lemmas.Bool.{MatchBool-at_true, MatchBool-at_false}
 use Rattle.gix_refspec_text.proofs.lemmas.texts.ObjectIdLemmas.{read_id}

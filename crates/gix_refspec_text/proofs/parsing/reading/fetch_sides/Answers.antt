@@ -1,4 +1,4 @@
--- No reason before the source applies to a positive fetch. The reasons at its sides are what the checks return.
+-- No reason before those of the source applies to a positive fetch. The checks return the reasons of its sides.
 use Rattle.std.proofs.Common.{[], Some, unwrap_or, refl, sym, ap, ◌∙◌, subst, rules}
 use Rattle.std.proofs.lemmas.Result.{err_from_is_err_and}
 use denote.Enum.Bare.{differs_true, differs_false}

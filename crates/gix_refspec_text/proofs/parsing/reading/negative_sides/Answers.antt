@@ -1,4 +1,4 @@
--- A negative spec with a source that was checked, is there and doesn't look like an object hash.
+-- A negative spec with a checked source that isn't empty and doesn't look like an object hash.
 use Rattle.std.proofs.Common.{None, refl, ap, ◌∙◌}
 use Rattle.std.proofs.lemmas.Bool.{false≢true}
 use Rattle.gix_refspec_text.specs.Specs.Grammar.{LooksLikeObjectHash, AreParts, named_by}

@@ -1,4 +1,4 @@
--- The text has the parts that it was cut into, so what holds of the parts holds of the text.
+-- The text has the parts that it was split into, so what holds for the parts holds for the text.
 use Rattle.std.proofs.Common.{sym, subst}
 use Rattle.std.proofs.lemmas.Result.{err_from_is_err_and}
 use Rattle.bstr.specs.BStr.{bstr_bytes}

@@ -1,4 +1,4 @@
--- A source alone was checked. If it is empty, a sign is before it.
+-- A source alone was checked. If it is empty, the text has a sign.
 use Rattle.std.proofs.Common.{◌≡◌, [], None, refl, ap, ◌∙◌}
 use Rattle.gix_refspec_text.specs.declared.parsing.Operation.TheVariants.{Push}
 use Rattle.gix_refspec_text.specs.Specs.Grammar.{AreParts, named_by}

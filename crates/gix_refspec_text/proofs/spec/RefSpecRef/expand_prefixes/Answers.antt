@@ -1,4 +1,4 @@
--- The entries of the side that is asked for were appended. Without entries no memory is needed.
+-- The entries of the side on the remote were appended. Without entries no memory is needed.
 use Rattle.std.proofs.Common.{inl, map, arith}
 use Rattle.std.proofs.lemmas.Result.{on_ok_weaker, on_err_weaker}
 use Rattle.bstr.specs.Owned.{bstring_bytes}

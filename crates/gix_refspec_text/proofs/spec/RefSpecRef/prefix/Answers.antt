@@ -1,4 +1,4 @@
--- The side that is asked for has no prefix.
+-- The side on the remote has no prefix.
 use Rattle.std.proofs.Common.{List, ℕ, subst, sym, MatchOption}
 use Rattle.bstr.specs.BStr.{bstr_bytes}
 use Rattle.gix_refspec_text.specs.Matching.Prefix.{HasPrefix, IsPrefix}

@@ -2,12 +2,12 @@
 use Rattle.std.proofs.Common.{ap, map}
 use Rattle.std.proofs.lemmas.Result.{IfOk-weaker}
 use Rattle.bstr.specs.Owned.{bstring_bytes}
-use Rattle.gix_refspec_text.specs.Matching.Prefix.{to_itself, strip_refs, to_candidates}
+use Rattle.gix_refspec_text.specs.Matching.Prefix.{to_itself, below_refs, to_candidates}
 use Rattle.gix_refspec_text.proofs.lemmas.prefixes.PrefixLemmas.{itself_expands, partial_expands, starred_no_id, on_any_error}
 use Rattle.gix_refspec_text.proofs.spec.prefix.pattern_expansions.Goals as goal
 
 pub returns-in-Some-clause-ok : goal.returns-in-Some-clause-ok
-returns-in-Some-clause-ok c = strip_refs c.in-Some.rest.now c.requires.0 c.in-Some.ensures c.if-contains.ensures (ap (map bstring_bytes) c.new.ensures.items)
+returns-in-Some-clause-ok c = below_refs c.in-Some.rest.now c.requires.0 c.in-Some.ensures c.if-contains.ensures (ap (map bstring_bytes) c.new.ensures.items)
 
 pub returns-in-Some-2-clause-ok : goal.returns-in-Some-2-clause-ok
 returns-in-Some-2-clause-ok c = IfOk-weaker c.one_entry.result _ _ (λ list is. to_itself c.in-Some.rest.now c.requires.0 c.in-Some.ensures c.if-contains.ensures is) c.one_entry.ensures

@@ -1,4 +1,4 @@
--- The field, and two spaces or more.
+-- The cell is the field, and two or more spaces.
 use Rattle.std.proofs.Common.{◌≤◌, rules}
 use Rattle.refspec_commands.proofs.RowLemmas.{WritesCell-of}
 use Rattle.refspec_commands.proofs.ShownLemmas.{on_ok}

@@ -1,4 +1,4 @@
--- Each turn adds what the first line of the rest gives, or finds that it is bad.
+-- Each iteration adds the entry of the first line of the rest, or finds that the line is bad.
 use Rattle.std.proofs.lemmas.Result.{err_from_is_err_and}
 use Rattle.refspec_map.proofs.EntryLemmas.{Reaches-start, Reaches-line, Reaches-end, Reaches-fault}
 use Rattle.refspec_map.proofs.line.Entries.read.Goals as goal

@@ -1,4 +1,4 @@
--- where none is listed all are named; else what the test keeps is, and the others are listed
+-- if none is listed, all have ref names; otherwise those that the filter keeps have, and the others are listed
 use Rattle.std.proofs.Common.{◌≡◌, [], List, map, refl, sym, ◌∙◌, subst, arith, rules}
 use Rattle.std.specs.List.{AllByRecursion}
 use Rattle.std.proofs.lemmas.Bool.{eqb-true}

@@ -1,4 +1,4 @@
--- a spec that isn't so is against the claim
+-- a spec for which the test fails refutes the claim
 use Rattle.std.proofs.Common.{◌+◌, List, map, take, sym, subst}
 use Rattle.std.specs.List.{AllByRecursion}
 use Rattle.gix_refspec_text.specs.declared.spec.RefSpecRef.{RefSpecRef}

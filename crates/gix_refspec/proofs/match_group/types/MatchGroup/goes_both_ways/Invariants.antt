@@ -1,4 +1,4 @@
--- the specs so far are as is asked
+-- the test holds of the specs so far
 use Rattle.std.proofs.Common.{map, take}
 use Rattle.std.specs.List.{AllByRecursion}
 use Rattle.gix_refspec.specs.Laws.Matching.{GoesBothWays}

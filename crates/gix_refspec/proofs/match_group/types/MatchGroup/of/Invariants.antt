@@ -1,4 +1,4 @@
--- the group has the specs of the operation among those that were taken
+-- the group has the specs for the operation among those taken so far
 use Rattle.std.proofs.Common.{◌≡◌}
 use Rattle.std.specs.List.{filter}
 use Rattle.gix_refspec.specs.Views.Group.{is_for}

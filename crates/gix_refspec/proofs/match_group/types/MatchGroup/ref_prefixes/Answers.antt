@@ -1,4 +1,4 @@
--- the list of each spec is put after those before it
+-- the list of each spec is appended
 use Rattle.std.proofs.Common.{◌≡◌, ◌<◌, List, [], length, map, get_or, sym, ap, subst, arith}
 use Rattle.std.proofs.lemmas.List.{take_all}
 use Rattle.bstr.specs.Owned.{bstring_bytes}

@@ -1,4 +1,4 @@
--- what there is to ask for for the specs so far
+-- the list has the ref prefixes of the specs so far
 use Rattle.std.proofs.Common.{map, take}
 use Rattle.bstr.specs.Owned.{bstring_bytes}
 use Rattle.gix_refspec_text.specs.Views.Spec.{reading_of}

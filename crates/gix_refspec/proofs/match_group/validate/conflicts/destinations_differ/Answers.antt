@@ -1,4 +1,4 @@
--- sorted hashes that rise are apart, and so are the destinations
+-- strictly increasing hashes differ, and so do the destinations
 use Rattle.std.proofs.Common.{List, ℕ, map, subst}
 use Rattle.std.specs.List.Sorted.{IsPermutation}
 use Rattle.gix_refspec_match.specs.Views.Mapping.{mapped_of}

@@ -11,7 +11,7 @@ use Rattle.gix_refspec.specs.Private.Updates.{updated_indexes}
 use Rattle.gix_refspec.proofs.lemmas.validate.ConflictLemmas.{AreTold, conflict_from_conflicting, copied_source, conflicting_fits, spec_fits, text_at, told_more}
 use Rattle.gix_refspec.proofs.match_group.validate.conflicts.issue_of.Goals as goal
 
--- what a read past the end gives
+-- the value of a read past the end
 none : Update
 none = record { destination = record { ref_ptr = (0, 0); now = [] }; index = 0 }
 

@@ -1,4 +1,4 @@
--- what begins the rest is settled
+-- one more run is settled
 use Rattle.std.proofs.Common.{◌≡◌, ◌-◌, ◌<◌, ◌≤◌, List, length, map, take, drop, sym, ap, subst, arith}
 use Rattle.std.proofs.lemmas.List.{drop-drop, length-drop, take_all}
 use Rattle.gix_refspec.specs.declared.match_group.validate.conflicts.Update.{Update}

@@ -1,4 +1,5 @@
--- where destinations differ nothing is in conflict, and otherwise those that aren't repeated are the first ones
+-- if the destinations differ nothing is in conflict, and otherwise the updates that aren't flagged as duplicates are
+-- the first ones
 use Rattle.std.proofs.Common.{List, Bool, map, sym, ap, ◌∙◌, subst}
 use Rattle.std.proofs.lemmas.Bool.{eqb-true}
 use Rattle.gix_refspec.specs.declared.match_group.validate.conflicts.Update.{Update}

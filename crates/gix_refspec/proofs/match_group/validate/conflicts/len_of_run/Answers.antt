@@ -1,4 +1,4 @@
--- the place of the first update of another destination cuts the updates
+-- the index of the first update of another destination splits off the run
 use Rattle.std.proofs.Common.{◌≡◌, ℕ, [], get_or, length, take, drop, ap, ◌∙◌, subst, arith}
 use Rattle.std.proofs.lemmas.List.{get_or_default}
 use Rattle.gix_refspec.specs.declared.match_group.validate.conflicts.Update.{Update}
@@ -7,7 +7,7 @@ use Rattle.gix_refspec_match.proofs.lemmas.keep.RepeatLemmas.{all_more}
 use Rattle.gix_refspec.proofs.lemmas.validate.UpdateLemmas.{split_at, differ_from_test, same_from_test}
 use Rattle.gix_refspec.proofs.match_group.validate.conflicts.len_of_run.Goals as goal
 
--- what a read past the end gives
+-- the value of a read past the end
 none : Update
 none = record { destination = record { ref_ptr = (0, 0); now = [] }; index = 0 }
 

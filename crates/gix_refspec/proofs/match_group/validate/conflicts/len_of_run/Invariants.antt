@@ -1,4 +1,4 @@
--- the updates so far are to the first one's destination
+-- the updates so far have the first one's destination
 use Rattle.std.proofs.Common.{◌≡◌, take, get_or}
 use Rattle.std.specs.List.{AllByRecursion}
 use Rattle.gix_refspec.specs.declared.match_group.validate.conflicts.Update.{Update}

@@ -1,4 +1,4 @@
--- one more number is above the one before it
+-- one more number is greater than the one before it
 use Rattle.std.proofs.Common.{◌≡◌, ℕ, suc, ◌-◌, ◌<◌, inl, inr, get_or, subst, arith}
 use Rattle.std.proofs.lemmas.Bool.{cases_lt}
 use Rattle.gix_refspec.proofs.lemmas.validate.ApartLemmas.{rises_from_next}

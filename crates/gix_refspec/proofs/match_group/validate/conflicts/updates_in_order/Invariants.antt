@@ -1,4 +1,4 @@
--- there are the updates of the mappings so far
+-- the updates are those of the mappings so far
 use Rattle.std.proofs.Common.{map}
 use Rattle.gix_refspec_match.specs.Views.Mapping.{mapped_of}
 use Rattle.gix_refspec.proofs.lemmas.validate.UpdateLemmas.{AreUpdatesUpto}

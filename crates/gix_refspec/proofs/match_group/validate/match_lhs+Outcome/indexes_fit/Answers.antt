@@ -1,4 +1,4 @@
--- a mapping whose spec has no place is against the claim
+-- a mapping whose spec index isn't in the group refutes the claim
 use Rattle.std.proofs.Common.{List, map, sym, subst, arith}
 use Rattle.gix_refspec_match.specs.declared.types.Mapping.{Mapping}
 use Rattle.gix_refspec_match.specs.Views.Mapping.{mapped_of}

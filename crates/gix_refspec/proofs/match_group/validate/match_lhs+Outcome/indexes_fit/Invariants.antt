@@ -1,4 +1,4 @@
--- the specs of the mappings so far have places in the group
+-- the spec indexes of the mappings so far are in the group
 use Rattle.std.proofs.Common.{map, take}
 use Rattle.gix_refspec_match.specs.Views.Mapping.{mapped_of}
 use Rattle.gix_refspec.specs.Views.Group.{readings_of}

@@ -1,4 +1,4 @@
--- without an issue nothing is in conflict; without a fix all survive, and else what the test keeps does
+-- without an issue nothing is in conflict; without a fix all survive, and otherwise those that the filter keeps do
 use Rattle.std.proofs.Common.{◌≡◌, [], List, map, refl, sym, ◌∙◌, subst, arith, rules}
 use Rattle.std.specs.List.{AllByRecursion}
 use Rattle.std.proofs.lemmas.Bool.{eqb-true}

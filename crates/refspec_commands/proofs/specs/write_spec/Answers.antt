@@ -1,4 +1,4 @@
--- Each field is that of the text.
+-- Each member is that of the text.
 use Rattle.std.proofs.Common.{option_map, ap, subst, sym, ◌∙◌}
 use Rattle.bstr.specs.Owned.{bstring_bytes}
 use Rattle.refspec_json.specs.Views.{kind_name}
@@ -7,7 +7,7 @@ use Rattle.refspec_commands.specs.Messages.{IsLocation}
 use Rattle.refspec_commands.specs.declared.call.Form.TheVariants as form
 use Rattle.refspec_commands.proofs.JsonLemmas.{WritesSpec-of}
 use Rattle.refspec_commands.proofs.ShownLemmas.{on_ok}
-use Rattle.refspec_commands.proofs.specs.write_reported.Goals as goal
+use Rattle.refspec_commands.proofs.specs.write_spec.Goals as goal
 
 pub returns : goal.returns
 returns c =

@@ -1,6 +1,6 @@
--- An id has digits of one of two lengths.
+-- The digits of an id have one of two lengths.
 use Rattle.refspec_commands.proofs.RefLemmas.{IsNoRefLine-of, on_none}
-use Rattle.refspec_commands.proofs.refs.name_reported.Goals as goal
+use Rattle.refspec_commands.proofs.refs.name_of_line.Goals as goal
 
 pub returns-in-None : goal.returns-in-None
 returns-in-None c = record {
