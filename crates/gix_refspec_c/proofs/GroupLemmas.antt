@@ -20,10 +20,10 @@ at texts k d e below = get_or-map bytes_of texts k d e below
 
 -- one text more was read
 pub text_more : (op : Operation) (texts : List Text) (k : ℕ) (d : Text) (old new : List RefSpecRef) (s : RefSpecRef) → k < length texts → Reads op (bytes_of (get_or texts k d)) (reading_of s) → new ≡ old ++ s ∷ [] → AllZip (Reads op) (take k (map bytes_of texts)) (map reading_of old) → AllZip (Reads op) (take (k + 1) (map bytes_of texts)) (map reading_of new)
-text_more op texts k d old new s below reads put so_far =
+text_more op texts k d old new s below reads write so_far =
     let within : k < length (map bytes_of texts) = omega (arith, length-map texts bytes_of, below) in
     let more : take (k + 1) (map bytes_of texts) ≡ take k (map bytes_of texts) ++ bytes_of (get_or texts k d) ∷ [] = take_more (map bytes_of texts) k [] within ∙ ap (λ t. take k (map bytes_of texts) ++ t ∷ []) (at texts k d [] below) in
-    let readings : map reading_of new ≡ map reading_of old ++ reading_of s ∷ [] = ap (map reading_of) put ∙ map-append reading_of old (s ∷ []) in
+    let readings : map reading_of new ≡ map reading_of old ++ reading_of s ∷ [] = ap (map reading_of) write ∙ map-append reading_of old (s ∷ []) in
     let all = all_zipped_more (Reads op) (take k (map bytes_of texts)) (map reading_of old) (bytes_of (get_or texts k d)) (reading_of s) so_far reads in
     subst (λ (ts : List (List ℕ)). AllZip (Reads op) ts (map reading_of new)) (sym more)
     (subst (λ (rs : List Reading). AllZip (Reads op) (take k (map bytes_of texts) ++ bytes_of (get_or texts k d) ∷ []) rs) (sym readings) all)

@@ -16,17 +16,17 @@ use Rattle.gix_refspec_match.specs.declared.types.Mapping.{Mapping}
 use Rattle.gix_refspec.specs.Matching.Mappings.{Mapped}
 use Rattle.gix_refspec.specs.Views.Group.{mapped_of}
 use Rattle.gix_refspec_c.specs.declared.listing.MappingOut.{MappingOut}
-use Rattle.gix_refspec_c.specs.Mapping.{Entry, IsNotPut, LacksAll, Room, Tells, backward_entry, forward_entry, text_of, texts_of, told_at, told_by, told_from}
+use Rattle.gix_refspec_c.specs.Mapping.{Entry, IsNotWritten, LacksAll, Room, Describes, backward_entry, forward_entry, text_of, texts_of, described_at, described_by, described_from}
 use Rattle.gix_refspec.specs.Laws.Items.{AsksForNoId}
 use Rattle.gix_refspec_c.specs.Matching.{AreMatched, nameless}
 
 -- what follows a listing of some mappings
-told_more : (at : ℕ) (es : List Entry) (e : Entry) → told_from at (es ++ e ∷ []) ≡ told_from at es ++ told_at (at + length (texts_of es)) e ∷ []
-told_more at [] e = ap (λ n. told_at n e ∷ []) omega arith
-told_more at (x ∷ es) e =
+described_more : (at : ℕ) (es : List Entry) (e : Entry) → described_from at (es ++ e ∷ []) ≡ described_from at es ++ described_at (at + length (texts_of es)) e ∷ []
+described_more at [] e = ap (λ n. described_at n e ∷ []) omega arith
+described_more at (x ∷ es) e =
     let here : length (texts_of (x ∷ es)) ≡ length (text_of x) + length (texts_of es) = length-append (text_of x) (texts_of es) in
     let ends : (at + length (text_of x)) + length (texts_of es) ≡ at + length (texts_of (x ∷ es)) = omega (arith, here) in
-    ap (λ rest. told_at at x ∷ rest) (told_more (at + length (text_of x)) es e ∙ ap (λ n. told_from (at + length (text_of x)) es ++ told_at n e ∷ []) ends)
+    ap (λ rest. described_at at x ∷ rest) (described_more (at + length (text_of x)) es e ∙ ap (λ n. described_from (at + length (text_of x)) es ++ described_at n e ∷ []) ends)
 
 -- the texts of one mapping more
 texts_more : (es : List Entry) (e : Entry) → texts_of (es ++ e ∷ []) ≡ texts_of es ++ text_of e
@@ -34,11 +34,11 @@ texts_more [] e = append-nil (text_of e)
 texts_more (x ∷ es) e = ap (λ t. text_of x ++ t) (texts_more es e) ∙ sym (append_assoc (text_of x) (texts_of es) (text_of e))
 
 -- one mapping more is told of
-pub tells_more : (es new : List Entry) (e : Entry) (structs structs2 : List MappingOut) (text text2 : List ℕ) → Tells es structs text → new ≡ es ++ e ∷ [] → text2 ≡ text ++ text_of e → map told_by structs2 ≡ map told_by structs ++ told_at (length text) e ∷ [] → Tells new structs2 text2
-tells_more es new e structs structs2 text text2 tells is texts told =
+pub describes_more : (es new : List Entry) (e : Entry) (structs structs2 : List MappingOut) (text text2 : List ℕ) → Describes es structs text → new ≡ es ++ e ∷ [] → text2 ≡ text ++ text_of e → map described_by structs2 ≡ map described_by structs ++ described_at (length text) e ∷ [] → Describes new structs2 text2
+describes_more es new e structs structs2 text text2 describes is texts described =
     let zero : length (texts_of es) ≡ 0 + length (texts_of es) = omega arith in record {
-      told = told ∙ ap (λ l. l ++ told_at (length text) e ∷ []) tells.told ∙ ap (λ t. told_from 0 es ++ told_at (length t) e ∷ []) tells.texts ∙ ap (λ n. told_from 0 es ++ told_at n e ∷ []) zero ∙ sym (told_more 0 es e) ∙ ap (told_from 0) (sym is);
-      texts = texts ∙ ap (λ t. t ++ text_of e) tells.texts ∙ sym (texts_more es e) ∙ ap texts_of (sym is);
+      described = described ∙ ap (λ l. l ++ described_at (length text) e ∷ []) describes.described ∙ ap (λ t. described_from 0 es ++ described_at (length t) e ∷ []) describes.texts ∙ ap (λ n. described_from 0 es ++ described_at n e ∷ []) zero ∙ sym (described_more 0 es e) ∙ ap (described_from 0) (sym is);
+      texts = texts ∙ ap (λ t. t ++ text_of e) describes.texts ∙ sym (texts_more es e) ∙ ap texts_of (sym is);
     }
 
 -- the entries of one mapping more
@@ -50,20 +50,20 @@ entries_more f ms k m below is =
     ∙ ap (λ x. map f (map mapped_of (take k ms)) ++ f (mapped_of x) ∷ []) (sym is)
 
 -- a listing that doesn't fit
-pub no_room : (Is : List Entry → Type 0) (Why : Failure → Type 0) (es : List Entry) (structs : List MappingOut) (text : List ℕ) (before after : Room) (r : Result (Unit {0}) Failure) → Is es → Tells es structs text → IfErr r (λ f. (f ≡ failure.TooSmall) × IsNotPut structs text before after) → IfErr r (LacksAll Is Why before after)
-no_room Is Why es structs text before after (Ok u) is tells small = tt
-no_room Is Why es structs text before after (Err f) is tells small = inl (small.0, es, is, record { structs = structs; text = text; tells = tells; not_put = small.1 })
+pub no_room : (Is : List Entry → Type 0) (Why : Failure → Type 0) (es : List Entry) (structs : List MappingOut) (text : List ℕ) (before after : Room) (r : Result (Unit {0}) Failure) → Is es → Describes es structs text → IfErr r (λ f. (f ≡ failure.TooSmall) × IsNotWritten structs text before after) → IfErr r (LacksAll Is Why before after)
+no_room Is Why es structs text before after (Ok u) is describes small = tt
+no_room Is Why es structs text before after (Err f) is describes small = inl (small.0, es, is, record { structs = structs; text = text; describes = describes; not_write = small.1 })
 
 -- what is listed from left to right tells of what is matched
-pub matched_forward : (d : Direction) (texts names : List (List ℕ)) (group g : List Reading) (refs : List Ref) (kept : List Mapped) (r : Result Listing Failure) → d ≡ Forward → g ≡ group → AllZip (Reads Fetch) texts group → refs ≡ map nameless names → AreKeptForward group refs kept → IfOk r (λ l. Tells (map (forward_entry g 0) kept) l.mappings.items l.text.items) → IfOk r (λ l. (es : List Entry) × AreMatched d texts names es × Tells es l.mappings.items l.text.items)
-matched_forward d texts names group g refs kept (Err f) is whole read same stay tells = tt
-matched_forward d texts names group g refs kept (Ok l) is whole read same stay tells =
+pub matched_forward : (d : Direction) (texts names : List (List ℕ)) (group g : List Reading) (refs : List Ref) (kept : List Mapped) (r : Result Listing Failure) → d ≡ Forward → g ≡ group → AllZip (Reads Fetch) texts group → refs ≡ map nameless names → AreKeptForward group refs kept → IfOk r (λ l. Describes (map (forward_entry g 0) kept) l.mappings.items l.text.items) → IfOk r (λ l. (es : List Entry) × AreMatched d texts names es × Describes es l.mappings.items l.text.items)
+matched_forward d texts names group g refs kept (Err f) is whole read same stay describes = tt
+matched_forward d texts names group g refs kept (Ok l) is whole read same stay describes =
     let matched : AreMatched Forward texts names (map (forward_entry group 0) kept) = record { group = group; read = read; kept = kept; stay = subst (λ (rs : List Ref). AreKeptForward group rs kept) same stay; are = refl } in
-    (map (forward_entry group 0) kept, subst (λ (e : Direction). AreMatched e texts names (map (forward_entry group 0) kept)) (sym is) matched, subst (λ (specs : List Reading). Tells (map (forward_entry specs 0) kept) l.mappings.items l.text.items) whole tells)
+    (map (forward_entry group 0) kept, subst (λ (e : Direction). AreMatched e texts names (map (forward_entry group 0) kept)) (sym is) matched, subst (λ (specs : List Reading). Describes (map (forward_entry specs 0) kept) l.mappings.items l.text.items) whole describes)
 
 -- and so it is from right to left, where no destination is an id
-pub matched_backward : (d : Direction) (texts names : List (List ℕ)) (group g : List Reading) (refs : List Ref) (kept : List Mapped) (r : Result Listing Failure) → d ≡ Backward → g ≡ group → AllZip (Reads Fetch) texts group → refs ≡ map nameless names → AreKeptBackward group refs kept → AsksForNoId group → IfOk r (λ l. Tells (map (backward_entry g) kept) l.mappings.items l.text.items) → IfOk r (λ l. (es : List Entry) × AreMatched d texts names es × Tells es l.mappings.items l.text.items)
-matched_backward d texts names group g refs kept (Err f) is whole read same stay by tells = tt
-matched_backward d texts names group g refs kept (Ok l) is whole read same stay by tells =
+pub matched_backward : (d : Direction) (texts names : List (List ℕ)) (group g : List Reading) (refs : List Ref) (kept : List Mapped) (r : Result Listing Failure) → d ≡ Backward → g ≡ group → AllZip (Reads Fetch) texts group → refs ≡ map nameless names → AreKeptBackward group refs kept → AsksForNoId group → IfOk r (λ l. Describes (map (backward_entry g) kept) l.mappings.items l.text.items) → IfOk r (λ l. (es : List Entry) × AreMatched d texts names es × Describes es l.mappings.items l.text.items)
+matched_backward d texts names group g refs kept (Err f) is whole read same stay by describes = tt
+matched_backward d texts names group g refs kept (Ok l) is whole read same stay by describes =
     let matched : AreMatched Backward texts names (map (backward_entry group) kept) = record { group = group; read = read; kept = kept; stay = (subst (λ (rs : List Ref). AreKeptBackward group rs kept) same stay, by); are = refl } in
-    (map (backward_entry group) kept, subst (λ (e : Direction). AreMatched e texts names (map (backward_entry group) kept)) (sym is) matched, subst (λ (specs : List Reading). Tells (map (backward_entry specs) kept) l.mappings.items l.text.items) whole tells)
+    (map (backward_entry group) kept, subst (λ (e : Direction). AreMatched e texts names (map (backward_entry group) kept)) (sym is) matched, subst (λ (specs : List Reading). Describes (map (backward_entry specs) kept) l.mappings.items l.text.items) whole describes)

@@ -6,14 +6,14 @@ use Rattle.gix_refspec_c.specs.declared.failure.Failure.TheVariants as failure
 -- the buffer begins with the answer, and is unchanged after it; the length is that of the answer
 pub record IsWrittenTo (answer old new : List ℕ) (len : ℕ) : Type 0 where
   pub fits : length answer ≤ length old
-  pub put : new ≡ answer ++ drop (length answer) old
-  pub tells : len ≡ length answer
+  pub write : new ≡ answer ++ drop (length answer) old
+  pub describes : len ≡ length answer
 
 -- the answer is longer than the buffer, which is unchanged; the length is that of the answer
 pub record IsTooSmall (answer old new : List ℕ) (len : ℕ) : Type 0 where
   pub long : length old < length answer
   pub same : new ≡ old
-  pub tells : len ≡ length answer
+  pub describes : len ≡ length answer
 
 -- why the buffer doesn't have an answer: it is too small for one of which Is holds; or Why holds of the failure, and
 -- buffer and length are unchanged

@@ -81,7 +81,7 @@ abbrev pub texts_of : List Entry → List ℕ
 texts_of es = flat_map text_of es
 
 -- the struct of a mapping as plain data: its texts are in the buffer, each with an offset and a length
-pub record Told : Type 0 where
+pub record Described : Type 0 where
   pub spec : ℕ
   pub item : ℕ
   pub has_destination : ℕ
@@ -93,21 +93,21 @@ pub record Told : Type 0 where
   pub made_len : ℕ
 
 -- a struct as plain data
-abbrev pub told_by : MappingOut → Told
-told_by m = record { spec = m.spec; item = m.item; has_destination = m.has_destination; forced = m.forced; verdict = m.verdict; id_at = m.id_at; id_len = m.id_len; made_at = m.made_at; made_len = m.made_len }
+abbrev pub described_by : MappingOut → Described
+described_by m = record { spec = m.spec; item = m.item; has_destination = m.has_destination; forced = m.forced; verdict = m.verdict; id_at = m.id_at; id_len = m.id_len; made_at = m.made_at; made_len = m.made_len }
 
 -- the struct of an entry whose texts begin at this offset of the buffer
-abbrev pub told_at : ℕ → Entry → Told
-told_at at e = record { spec = e.spec; item = e.item; has_destination = e.has_destination; forced = e.forced; verdict = e.verdict; id_at = at; id_len = length e.id; made_at = at + length e.id; made_len = length e.made }
+abbrev pub described_at : ℕ → Entry → Described
+described_at at e = record { spec = e.spec; item = e.item; has_destination = e.has_destination; forced = e.forced; verdict = e.verdict; id_at = at; id_len = length e.id; made_at = at + length e.id; made_len = length e.made }
 
 -- the structs of entries whose texts are one after the other from this offset of the buffer on
-abbrev pub told_from : ℕ → List Entry → List Told
-told_from at [] = []
-told_from at (e ∷ es) = told_at at e ∷ told_from (at + length (text_of e)) es
+abbrev pub described_from : ℕ → List Entry → List Described
+described_from at [] = []
+described_from at (e ∷ es) = described_at at e ∷ described_from (at + length (text_of e)) es
 
 -- the structs and the text are those of the entries
-pub record Tells (es : List Entry) (structs : List MappingOut) (text : List ℕ) : Type 0 where
-  pub told : map told_by structs ≡ told_from 0 es
+pub record Describes (es : List Entry) (structs : List MappingOut) (text : List ℕ) : Type 0 where
+  pub described : map described_by structs ≡ described_from 0 es
   pub texts : text ≡ texts_of es
 
 -- what a caller passes for an answer: two slices and two counts
@@ -118,7 +118,7 @@ pub record Room : Type 0 where
   pub len : ℕ
 
 -- the slices of the caller begin with the structs and the text, and are unchanged after them
-pub record IsPut (structs : List MappingOut) (text : List ℕ) (before after : Room) : Type 0 where
+pub record IsWritten (structs : List MappingOut) (text : List ℕ) (before after : Room) : Type 0 where
   pub fits : length structs ≤ length before.mappings
   pub text_fits : length text ≤ length before.buffer
   pub mappings : after.mappings ≡ structs ++ drop (length structs) before.mappings
@@ -128,7 +128,7 @@ pub record IsPut (structs : List MappingOut) (text : List ℕ) (before after : R
 
 -- one of the slices is too small for the structs or for the text. Both are unchanged, and the counts are the required
 -- sizes
-pub record IsNotPut (structs : List MappingOut) (text : List ℕ) (before after : Room) : Type 0 where
+pub record IsNotWritten (structs : List MappingOut) (text : List ℕ) (before after : Room) : Type 0 where
   pub small : (length before.mappings < length structs) ⊎ (length before.buffer < length text)
   pub mappings : after.mappings ≡ before.mappings
   pub buffer : after.buffer ≡ before.buffer
@@ -139,15 +139,15 @@ pub record IsNotPut (structs : List MappingOut) (text : List ℕ) (before after 
 pub record HasAll (es : List Entry) (before after : Room) : Type 0 where
   pub structs : List MappingOut
   pub text : List ℕ
-  pub tells : Tells es structs text
-  pub put : IsPut structs text before after
+  pub describes : Describes es structs text
+  pub write : IsWritten structs text before after
 
 -- a slice of the caller is too small for them
 pub record HasNoRoom (es : List Entry) (before after : Room) : Type 0 where
   pub structs : List MappingOut
   pub text : List ℕ
-  pub tells : Tells es structs text
-  pub not_put : IsNotPut structs text before after
+  pub describes : Describes es structs text
+  pub not_write : IsNotWritten structs text before after
 
 -- why a caller gets no mappings: a slice is too small for entries of which Is holds; or Why holds of the failure, and
 -- all is unchanged

@@ -12,7 +12,7 @@ pub mod matching;
 pub mod parts;
 pub mod planning;
 pub mod prefixes;
-mod put;
 pub mod reading;
 pub mod single;
 pub mod version;
+mod write;

@@ -3,7 +3,7 @@
 ghost use Rattle.std.specs.Prelude.{◌≡◌, ◌++◌, ◌∷◌, [], map, length, IfErr, IfOk, OnOk};
 ghost use Rattle.std.specs.String.{string_bytes};
 ghost use Rattle.gix_refspec.specs.Views.Group.{mapped_of, readings_of, start_of};
-ghost use Rattle.gix_refspec_c.specs.Mapping.{IsNotPut, IsPut, Room, Tells, backward_entry, forced_at, forward_entry, id_text, number_of_item, text_of, told_at, told_by};
+ghost use Rattle.gix_refspec_c.specs.Mapping.{IsNotWritten, IsWritten, Room, Describes, backward_entry, forced_at, forward_entry, id_text, number_of_item, text_of, described_at, described_by};
 
 use crate::failure::Failure;
 use crate::parts::parts_of;
@@ -45,7 +45,7 @@ pub(crate) struct Listing {
 impl Listing {
     /// An empty listing.
     pub(crate) fn new(alloc: Global) -> Listing
-        ensures { Tells [] result.mappings.items result.text.items }
+        ensures { Describes [] result.mappings.items result.text.items }
     {
         Listing {
             mappings: Vec::new(alloc),
@@ -63,9 +63,9 @@ impl Listing {
     ) -> Result<(), Failure>
         ensures text { OnOk result (self.new.text.items ≡ self.old.text.items ++
             text_of (forward_entry (readings_of group.now) verdict (mapped_of mapping.now))) }
-        ensures told { OnOk result (map told_by self.new.mappings.items ≡
-            map told_by self.old.mappings.items ++
-            told_at (length self.old.text.items) (forward_entry (readings_of group.now) verdict (mapped_of mapping.now)) ∷ []) }
+        ensures described { OnOk result (map described_by self.new.mappings.items ≡
+            map described_by self.old.mappings.items ++
+            described_at (length self.old.text.items) (forward_entry (readings_of group.now) verdict (mapped_of mapping.now)) ∷ []) }
         ensures err { IfErr result (λ f. f ≡ Failure.NoMemory) }
     {
         let id = match id_digits(alloc, &mapping.lhs) {
@@ -96,9 +96,9 @@ impl Listing {
     ) -> Result<(), Failure>
         ensures text { OnOk result (self.new.text.items ≡ self.old.text.items ++
             text_of (backward_entry (readings_of group.now) (mapped_of mapping.now))) }
-        ensures told { OnOk result (map told_by self.new.mappings.items ≡
-            map told_by self.old.mappings.items ++
-            told_at (length self.old.text.items) (backward_entry (readings_of group.now) (mapped_of mapping.now)) ∷ []) }
+        ensures described { OnOk result (map described_by self.new.mappings.items ≡
+            map described_by self.old.mappings.items ++
+            described_at (length self.old.text.items) (backward_entry (readings_of group.now) (mapped_of mapping.now)) ∷ []) }
         ensures err { IfErr result (λ f. f ≡ Failure.NoMemory) }
     {
         let id = match id_digits(alloc, &mapping.lhs) {
@@ -125,9 +125,9 @@ impl Listing {
         made: &[u8],
     ) -> Result<(), Failure>
         ensures text { OnOk result (self.new.text.items ≡ self.old.text.items ++ (id.now ++ made.now)) }
-        ensures told { OnOk result (map told_by self.new.mappings.items ≡
-            map told_by self.old.mappings.items ++
-            told_at (length self.old.text.items) (record { spec = mapping.now.spec_index; item = number_of_item mapping.now.item_index; has_destination = has_destination; forced = forced; verdict = verdict; id = id.now; made = made.now }) ∷ []) }
+        ensures described { OnOk result (map described_by self.new.mappings.items ≡
+            map described_by self.old.mappings.items ++
+            described_at (length self.old.text.items) (record { spec = mapping.now.spec_index; item = number_of_item mapping.now.item_index; has_destination = has_destination; forced = forced; verdict = verdict; id = id.now; made = made.now }) ∷ []) }
         ensures err { IfErr result (λ f. f ≡ Failure.NoMemory) }
     {
         let id_at = self.text.len();
@@ -138,7 +138,7 @@ impl Listing {
         if self.text.extend_from_slice(made).is_err() {
             return Err(Failure::NoMemory);
         }
-        let told = MappingOut {
+        let described = MappingOut {
             spec: mapping.spec_index,
             item: item_number(mapping.item_index),
             has_destination,
@@ -149,7 +149,7 @@ impl Listing {
             made_at,
             made_len: made.len(),
         };
-        match self.mappings.push(told) {
+        match self.mappings.push(described) {
             Ok(()) => Ok(()),
             Err(_) => Err(Failure::NoMemory),
         }
@@ -188,17 +188,17 @@ fn id_digits(alloc: Global, source: &SourceRef<'_>) -> Result<String, AllocError
 
 /// Copies a listing to the start of two slices, if both are long enough, and sets the counts to the
 /// required sizes in any case.
-pub(crate) fn put_all(
+pub(crate) fn write_all(
     listing: &Listing,
     mappings: &mut [MappingOut],
     buffer: &mut [u8],
     count: &mut usize,
     len: &mut usize,
 ) -> Result<(), Failure>
-    ensures ok { OnOk result (IsPut listing.now.mappings.items listing.now.text.items
+    ensures ok { OnOk result (IsWritten listing.now.mappings.items listing.now.text.items
         (record { mappings = mappings.old; buffer = buffer.old; count = count.old; len = len.old })
         (record { mappings = mappings.new; buffer = buffer.new; count = count.new; len = len.new })) }
-    ensures small { IfErr result (λ f. (f ≡ Failure.TooSmall) × IsNotPut
+    ensures small { IfErr result (λ f. (f ≡ Failure.TooSmall) × IsNotWritten
         listing.now.mappings.items listing.now.text.items
         (record { mappings = mappings.old; buffer = buffer.old; count = count.old; len = len.old })
         (record { mappings = mappings.new; buffer = buffer.new; count = count.new; len = len.new })) }

@@ -7,13 +7,13 @@ ghost use Rattle.gix_refspec.specs.Views.Group.{mapped_of, readings_of, ref_of};
 ghost use Rattle.gix_refspec.specs.Texts.ObjectId.{id_bytes};
 ghost use Rattle.gix_refspec.specs.Views.Spec.{reading_of};
 ghost use Rattle.gix_refspec_c.specs.Group.{bytes_of};
-ghost use Rattle.gix_refspec_c.specs.Mapping.{Entry, HasAll, LacksAll, Room, Tells, backward_entry, forward_entry};
+ghost use Rattle.gix_refspec_c.specs.Mapping.{Entry, HasAll, LacksAll, Room, Describes, backward_entry, forward_entry};
 ghost use Rattle.gix_refspec_c.specs.Matching.{AreMatched, AreUnmatched, direction_code, nameless};
 ghost use Rattle.gix_refspec_c.specs.Outcome.{Answers};
 
 use crate::explanation::Text;
 use crate::failure::{Failure, outcome_of};
-use crate::listing::{Listing, MappingOut, put_all};
+use crate::listing::{Listing, MappingOut, write_all};
 use crate::reading::read_all;
 use bstr::BStr;
 use gix_refspec::match_group::{Item, Mapping};
@@ -61,7 +61,7 @@ pub extern "C" fn gix_refspec_match(
         None => return Failure::NoOperation.number(),
     };
     match listing_of(alloc, texts, names, direction) {
-        Ok(listing) => outcome_of(put_all(&listing, mappings, buffer, count, len)),
+        Ok(listing) => outcome_of(write_all(&listing, mappings, buffer, count, len)),
         Err(failure) => failure.number(),
     }
 }
@@ -87,7 +87,7 @@ fn listing_of(
 ) -> Result<Listing, Failure>
     ensures ok { IfOk result (λ listing. (es : List Entry) ×
         AreMatched direction (map bytes_of texts.now) (map bytes_of names.now) es ×
-        Tells es listing.mappings.items listing.text.items) }
+        Describes es listing.mappings.items listing.text.items) }
     ensures err { IfErr result (AreUnmatched direction (map bytes_of texts.now)) }
 {
     let group = read_all(alloc, texts, Operation::Fetch)?;
@@ -139,7 +139,7 @@ fn listed_forward(
     group: &MatchGroup<'_>,
     mappings: &[Mapping<'_, '_>],
 ) -> Result<Listing, Failure>
-    ensures ok { IfOk result (λ listing. Tells
+    ensures ok { IfOk result (λ listing. Describes
         (map (forward_entry (readings_of group.now) 0) (map mapped_of mappings.now)) listing.mappings.items listing.text.items) }
     ensures err { IfErr result (λ f. f ≡ Failure.NoMemory) }
 {
@@ -156,7 +156,7 @@ fn listed_backward(
     group: &MatchGroup<'_>,
     mappings: &[Mapping<'_, '_>],
 ) -> Result<Listing, Failure>
-    ensures ok { IfOk result (λ listing. Tells
+    ensures ok { IfOk result (λ listing. Describes
         (map (backward_entry (readings_of group.now)) (map mapped_of mappings.now)) listing.mappings.items listing.text.items) }
     ensures err { IfErr result (λ f. f ≡ Failure.NoMemory) }
 {

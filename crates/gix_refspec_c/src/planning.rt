@@ -11,13 +11,13 @@ ghost use Rattle.gix_refspec.specs.Matching.Mappings.{Mapped};
 ghost use Rattle.gix_refspec.specs.Matching.RefNames.{HaveRefNames, IsValidSource};
 ghost use Rattle.gix_refspec.specs.Matching.Validation.{AreConflicts, IndexesFit};
 ghost use Rattle.gix_refspec_c.specs.Group.{AreUnread, bytes_of};
-ghost use Rattle.gix_refspec_c.specs.Mapping.{Entry, HasAll, Room, Tells};
+ghost use Rattle.gix_refspec_c.specs.Mapping.{Entry, HasAll, Room, Describes};
 ghost use Rattle.gix_refspec_c.specs.Outcome.{Concludes};
 ghost use Rattle.gix_refspec_c.specs.Planning.{HasVerdict, IsJudged, IsPlan, LacksPlan, destinations_of, verdict_code};
 
 use crate::explanation::Text;
 use crate::failure::Failure;
-use crate::listing::{Listing, MappingOut, put_all};
+use crate::listing::{Listing, MappingOut, write_all};
 use crate::matching::items_of;
 use crate::reading::read_all;
 use gix_refspec::match_group::ref_names::is_ref_name;
@@ -86,7 +86,7 @@ pub extern "C" fn gix_refspec_plan(
         Ok(plan) => plan,
         Err(failure) => return failure.number(),
     };
-    match put_all(&plan.listing, mappings, buffer, count, len) {
+    match write_all(&plan.listing, mappings, buffer, count, len) {
         Ok(()) => {
             if plan.has_conflict {
                 Failure::InConflict.number()
@@ -109,7 +109,7 @@ struct Plan {
 fn plan_of(alloc: Global, texts: &[Text<'_>], names: &[Text<'_>]) -> Result<Plan, Failure>
     ensures ok { IfOk result (λ plan. (es : List Entry) ×
         IsPlan plan.has_conflict (map bytes_of texts.now) (map bytes_of names.now) es ×
-        Tells es plan.listing.mappings.items plan.listing.text.items) }
+        Describes es plan.listing.mappings.items plan.listing.text.items) }
     ensures err { IfErr result (AreUnread Operation.Fetch (map bytes_of texts.now)) }
 {
     let group = read_all(alloc, texts, Operation::Fetch)?;
@@ -176,7 +176,7 @@ fn listed(
     requires { IsStrictlySortedBy (slice_cmp nat_cmp) (destinations_of issues.now) }
     ensures ok { IfOk result (λ listing. (es : List Entry) ×
         AllZip (IsJudged (readings_of group.now) (Contains (destinations_of issues.now))) (map mapped_of mappings.now) es ×
-        Tells es listing.mappings.items listing.text.items) }
+        Describes es listing.mappings.items listing.text.items) }
     ensures err { IfErr result (λ f. f ≡ Failure.NoMemory) }
 {
     let mut listing = Listing::new(alloc);

@@ -10,8 +10,8 @@ ghost use Rattle.gix_refspec_c.specs.Reading.{IsUnread, code_of};
 
 use crate::explanation::Text;
 use crate::failure::{Failure, outcome_of};
-use crate::put::put;
 use crate::reading::{operation_of, read, read_all};
+use crate::write::write;
 use bstr::BString;
 use gix_refspec::RefSpecRef;
 use gix_refspec::parsing::Operation;
@@ -133,7 +133,7 @@ fn expand(
     let Ok(lines) = expanded(alloc, &spec) else {
         return Err(Failure::NoMemory);
     };
-    put(lines.as_slice(), buffer, len)
+    write(lines.as_slice(), buffer, len)
 }
 
 // The expansion of a spec, one entry per line.
@@ -163,7 +163,7 @@ fn ask(
         Ok(lines) => lines,
         Err(failure) => return Err(failure),
     };
-    put(lines.as_slice(), buffer, len)
+    write(lines.as_slice(), buffer, len)
 }
 
 // The ref prefixes of refspecs, one per line.

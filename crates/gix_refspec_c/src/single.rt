@@ -11,8 +11,8 @@ ghost use Rattle.gix_refspec_c.specs.Single.{AreCompared, AreUncompared, IsCanon
 
 use crate::failure::{Failure, outcome_of};
 use crate::parts::{Parts, parts_of};
-use crate::put::put;
 use crate::reading::{operation_of, read};
+use crate::write::write;
 use gix_refspec::laws;
 use gix_refspec::parsing::Operation;
 use std::alloc::Global;
@@ -135,7 +135,7 @@ fn print(
     let Ok(canonical) = spec.to_bstring(alloc) else {
         return Err(Failure::NoMemory);
     };
-    put(canonical.as_bytes(), buffer, len)
+    write(canonical.as_bytes(), buffer, len)
 }
 
 // Sets the order to that of two refspecs for the operation.

@@ -112,14 +112,14 @@ fn check_line<'a>(alloc: Global) -> Result<clap::Command<'a>, AllocError> {
     line(
         alloc,
         "check",
-        "Tells each refspec that is refused, with the reason",
+        "Reports each refspec that is refused, with the reason",
     )?
     .arg(push_flag(alloc))?
     .arg(
         flag(
             alloc,
             "verbose",
-            "Tells good specs too, and which say the same as an earlier one",
+            "Reports good specs too, and which say the same as an earlier one",
         )
         .short('v')
         .long("verbose"),
@@ -149,7 +149,7 @@ fn plan_line<'a>(alloc: Global) -> Result<clap::Command<'a>, AllocError> {
     line_of(
         alloc,
         "plan",
-        "Tells what a fetch with these refspecs writes",
+        "Shows what a fetch with these refspecs writes",
         "A refspec. The refs are read from the input, one a line",
     )?
     .arg(
@@ -168,7 +168,7 @@ fn plan_line<'a>(alloc: Global) -> Result<clap::Command<'a>, AllocError> {
     .arg(flag(
         alloc,
         "all",
-        "Tells every conflict and all that is left out, and not only the first 20 of each",
+        "Shows every conflict and all that is left out, and not only the first 20 of each",
     )
     .long("all"))
 }
@@ -177,7 +177,7 @@ fn track_line<'a>(alloc: Global) -> Result<clap::Command<'a>, AllocError> {
     line(
         alloc,
         "track",
-        "Tells from which refs of the remote the tracking refs are fetched",
+        "Shows from which refs of the remote the tracking refs are fetched",
     )?
     .arg(
         Arg::new(alloc, "ref")

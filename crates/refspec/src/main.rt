@@ -102,7 +102,7 @@ fn show(rt: &HostRuntime, error: &clap::Error) -> u8 {
 fn run_call(rt: &HostRuntime, call: &Call<'_>) -> u8 {
     if call.command == Command::Plan && call.specs.is_empty() && call.beside.is_empty() {
         let _ = eprintln!(rt;
-            "refspec: plan needs specs; give them as words, or in a file by --specs"
+            "refspec: plan needs specs; give them as arguments, or in a file by --specs"
         );
         return USAGE_STATUS;
     }

@@ -1,5 +1,5 @@
 -- The lines and the objects on conflicts, part by part.
-use Rattle.std.proofs.Common.{◌≡◌, ◌⊎◌, inl, inr, ℕ, zero, suc, ◌+◌, ◌-◌, ◌<◌, ◌≤◌, Bool, true, false, List, [], ◌∷◌, ◌++◌, decimal, drop, length, map, take, take_all, get_or, unwrap_or, codes, refl, sym, ap, ◌∙◌, subst, append_assoc, arith}
+use Rattle.std.proofs.Common.{◌≡◌, ℕ, zero, suc, ◌+◌, ◌-◌, ◌<◌, Bool, List, [], ◌∷◌, ◌++◌, decimal, drop, length, map, take, take_all, get_or, unwrap_or, codes, refl, sym, ap, ◌∙◌, subst, append_assoc, arith}
 use Rattle.std.specs.List.{slice_get}
 use Rattle.std.proofs.lemmas.List.{append-nil, length-drop, length-map, length-take-le, map-append, take-map, take_more}
 use Rattle.gix_refspec_match.specs.declared.types.SourceRef.{SourceRef}
@@ -13,7 +13,7 @@ use Rattle.refspec_json.specs.Views.{claim_texts}
 use Rattle.refspec_json.specs.declared.mappings.Claim.{Claim}
 use Rattle.refspec_commands.specs.declared.call.Form.{Form}
 use Rattle.refspec_commands.specs.declared.call.Form.TheVariants as form
-use Rattle.refspec_commands.specs.Conflicts.{AddsConflicts, AddsEachConflict, AreClaims, AreReportedConflicts, IsClaim, IsReportedConflict, WritesClaim, WritesClaims, WritesConflict, claim_of, claims_from, conflict_line, few, more_line, reported_count}
+use Rattle.refspec_commands.specs.Conflicts.{AddsConflicts, AddsEachConflict, AreClaims, AreReportedConflicts, IsClaim, IsReportedConflict, WritesClaim, WritesClaims, WritesConflict, claim_of, claims_from, conflict_line, more_line, reported_count}
 use Rattle.refspec_commands.specs.Json.{AddsObjects, json_text}
 use Rattle.refspec_commands.specs.Rows.{source_text}
 use Rattle.refspec_commands.specs.Shown.{Grows, WritesQuoted}

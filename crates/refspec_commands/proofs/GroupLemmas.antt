@@ -1,11 +1,11 @@
 -- The lines of mappings, grouped below their specs, in order.
-use Rattle.std.proofs.Common.{◌≡◌, ◌≢◌, ℕ, ◌+◌, ◌<◌, List, [], ◌∷◌, ◌++◌, codes, map, length, take, get_or, unwrap_or, Option, Some, None, inl, inr, refl, sym, ap, ◌∙◌, subst, append_assoc, arith}
+use Rattle.std.proofs.Common.{◌≡◌, ◌≢◌, ℕ, ◌+◌, ◌<◌, List, [], ◌∷◌, ◌++◌, codes, map, length, take, get_or, unwrap_or, Option, Some, None, inl, inr, refl, sym, ap, ◌∙◌, subst, append_assoc}
 use Rattle.std.proofs.lemmas.List.{append-nil, map_more}
 use Rattle.std.specs.List.{slice_get}
 use Rattle.gix_refspec.specs.Matching.Mappings.{Mapped}
 use Rattle.gix_refspec.specs.Views.Group.{mapped_of}
 use Rattle.gix_refspec_match.specs.declared.types.Mapping.{Mapping}
-use Rattle.refspec_commands.specs.Groups.{AddsGrouped, AddsGroups, AddsShort, AreBelow, AreShort, IsBelow, IsHead, IsShort, WritesHeading, WritesShort}
+use Rattle.refspec_commands.specs.Groups.{AddsShort, AreBelow, AreShort, IsBelow, IsHead, IsShort, WritesHeading, WritesShort}
 use Rattle.refspec_commands.specs.Rows.{WritesCell, source_text}
 use Rattle.refspec_commands.specs.Shown.{WritesQuoted}
 use Rattle.refspec_commands.proofs.ShownLemmas.{behind}

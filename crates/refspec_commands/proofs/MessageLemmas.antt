@@ -13,7 +13,7 @@ use Rattle.refspec_commands.specs.declared.checked.Checked.TheVariants as checke
 use Rattle.refspec_commands.specs.declared.texts.Text.{Text}
 use Rattle.refspec_commands.specs.Messages.{AreRefusals, AreReportedOf, WritesLocation, WritesReason, WritesRefusal, ReportsRefusal, ReportsRefusals}
 use Rattle.refspec_commands.specs.Read.{IsChecked}
-use Rattle.refspec_commands.specs.Shown.{Grows, WritesQuoted}
+use Rattle.refspec_commands.specs.Shown.{WritesQuoted}
 use Rattle.refspec_commands.specs.Texts.{given_of}
 use Rattle.refspec_commands.proofs.ShownLemmas.{behind}
 

@@ -1,5 +1,5 @@
 -- The report on the texts of a call is its output.
-use Rattle.std.proofs.Common.{◌≡◌, ℕ, Bool, true, false, MatchBool, List, [], inl, inr, map, refl, sym, subst}
+use Rattle.std.proofs.Common.{◌≡◌, ℕ, Bool, true, false, List, [], inl, inr, map, refl, sym, subst}
 use Rattle.std.specs.List.{AllZip}
 use Rattle.gix_refspec.specs.Specs.Reading.{Reading}
 use Rattle.refspec_commands.specs.declared.call.Call.{Call}
@@ -14,9 +14,8 @@ use Rattle.refspec_commands.specs.Output.{AddsFound, HasValues, IsOutput, Shows,
 use Rattle.refspec_commands.specs.Input.{end_byte}
 use Rattle.refspec_commands.specs.Plan.{AddsPlan}
 use Rattle.refspec_commands.specs.Prefixes.{AddsPrefixes}
-use Rattle.refspec_commands.specs.Canon.{AddsCanonical}
 use Rattle.refspec_commands.specs.Messages.{AreRefusals, ReportsRefusals}
-use Rattle.refspec_commands.specs.Read.{AddsIfGood, AddsIfRead, AreGood, HasBad, IsChecked}
+use Rattle.refspec_commands.specs.Read.{AddsIfGood, AddsIfRead, IsChecked}
 use Rattle.refspec_commands.specs.Settings.{AreSettingsOf, HasLacking}
 use Rattle.refspec_commands.specs.Shown.{KeepsReport, KeepsResults}
 use Rattle.refspec_commands.specs.Texts.{AreTexts, given_of, spec_input}

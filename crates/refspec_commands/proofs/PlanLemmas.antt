@@ -8,11 +8,9 @@ use Rattle.gix_refspec.specs.Specs.Reading.{Reading}
 use Rattle.gix_refspec.specs.Matching.RefNames.{LeftOut}
 use Rattle.gix_refspec.specs.declared.match_group.validate.Error.{Error}
 use Rattle.refspec_commands.specs.declared.call.Form.{Form}
-use Rattle.refspec_commands.specs.declared.mappings.Columns.TheVariants as columns
 use Rattle.refspec_commands.specs.declared.plan.Written.{Written}
 use Rattle.refspec_commands.specs.declared.plan.Written.TheVariants as written
 use Rattle.refspec_commands.specs.Conflicts.{AddsConflicts, IsConflict}
-use Rattle.refspec_commands.specs.Groups.{AddsGroups}
 use Rattle.refspec_commands.specs.Input.{AreRecords}
 use Rattle.refspec_json.specs.Objects.{left_out_object, line_of, malformed_object}
 use Rattle.refspec_commands.specs.declared.call.Form.TheVariants as form
@@ -21,7 +19,7 @@ use Rattle.refspec_commands.specs.Json.{AddsObjects, json_text}
 use Rattle.refspec_commands.specs.Messages.{IsLocation}
 use Rattle.refspec_commands.specs.Plan.{AddsPlan, AddsPlanned, AddsWritten, IsLeftOutLine, IsLeftOutOf, IsMalformed, IsPlanByNames, IsWhole, KeepsConflicts, LeavesOut, WritesMalformed, side_name}
 use Rattle.refspec_commands.specs.Refs.{ListsNames}
-use Rattle.refspec_commands.specs.Rows.{AddsMappings, AreSpecTexts, source_text}
+use Rattle.refspec_commands.specs.Rows.{AreSpecTexts, source_text}
 use Rattle.refspec_commands.proofs.PrefixLemmas.{no_names, some_names}
 
 -- mappings are written

@@ -1,6 +1,5 @@
 -- The records of a text, in order.
-use Rattle.std.proofs.Common.{◌≡◌, ◌≢◌, ◌⊎◌, inl, inr, ℕ, ◌==◌, true, false, List, [], ◌∷◌, ◌++◌, map, length, refl, sym, ap, ◌∙◌, subst, append_assoc, length-append, Bor, arith}
-use Rattle.std.proofs.lemmas.Bool.{eqb-true, false≢true}
+use Rattle.std.proofs.Common.{◌≡◌, ◌≢◌, ◌⊎◌, inl, inr, ℕ, List, [], ◌∷◌, ◌++◌, map, length, refl, sym, ap, ◌∙◌, subst, append_assoc, length-append, Bor, arith}
 use Rattle.std.proofs.lemmas.List.{append-nil, map-append}
 use Rattle.gix_refspec.specs.Texts.Words.{Lacks}
 use Rattle.refspec_commands.specs.Input.{AreRecords, IsFirstRecord}

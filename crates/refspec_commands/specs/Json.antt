@@ -3,7 +3,6 @@ use Rattle.std.specs.Prelude.{◌≡◌, ℕ, Bool, false, not, cond, ◌||◌, 
 use Rattle.std.specs.Str.{is_utf8}
 use Rattle.refspec_json.specs.Objects.{line_of, refused_object, spec_object}
 use Rattle.gix_refspec_text.specs.declared.parsing.Error.{Error}
-use Rattle.gix_refspec_text.specs.declared.parsing.Error.TheVariants as error
 use Rattle.gix_refspec_text.specs.declared.parsing.Operation.{Operation}
 use Rattle.gix_refspec_text.specs.declared.parsing.Operation.TheVariants as operation
 use Rattle.gix_refspec_text.specs.Specs.Explained.{explained, reason_name}

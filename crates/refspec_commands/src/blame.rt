@@ -333,7 +333,7 @@ fn advice_for_name(text: &[u8], fault: name::Error) -> &'static str {
         }
         name::Error::StartsWithDot => "Leave out the dot, or write something before it.",
         name::Error::Asterisk => "Name one ref, without a `*`.",
-        name::Error::Empty => "Write the name of a ref.",
+        name::Error::Empty => "Write a ref name.",
     }
 }
 

@@ -50,7 +50,7 @@ impl Update {
     fn end(self, allow_non_fast_forward: bool) -> &'static str {
         match (self, allow_non_fast_forward) {
             (Update::Branch, false) => ", if that is a fast-forward.",
-            (Update::Branch | Update::Either, true) => ", even if that is no fast-forward.",
+            (Update::Branch | Update::Either, true) => ", even if that isn't a fast-forward.",
             (Update::Tag, false) => ", only if it isn't there yet.",
             (Update::Tag, true) => ", and replaces one that is there.",
             (Update::Either, false) => {

@@ -125,7 +125,7 @@ impl Refusal<'_> {
             Refusal::OtherRefused => (
                 "a value of another remote is refused, so Git uses none; `git refspec ",
                 b"check",
-                "` tells which",
+                "` shows which",
             ),
             _ => ("out of ", b"memory", ""),
         }

@@ -10,23 +10,23 @@ pub const USAGE: &str = "usage: git refspec check [-v] [--push] [<remote> | <spe
 /// What the commands and the options do, after the synopses.
 pub const OPTIONS: &str = "
     check                 report each fetch or push value of a remote, or each spec, that is refused
-    plan                  report what git fetch would write
-    track                 report from which refs of which remote tracking refs are fetched
+    plan                  show what git fetch would write
+    track                 show which refs of which remotes tracking refs come from
     prefixes              list what to ask the server for
 
     -z                    end each field with a zero byte
     --json                write one JSON object a line, refusals too
-    --remote <name>       the remote, and all other arguments are specs
-    -v, --verbose         check: report good values too
+    --remote <name>       the remote; all other arguments are specs
+    -v, --verbose         check: list good values too
     --push                check: the given specs are for a push
     --patterns            prefixes: write patterns for git ls-remote
     --long                plan: show each mapping with its spec, and not below it
-    --all                 plan: report every conflict and all that is left out, not the first 20
-    -h                    print this report
+    --all                 plan: list every conflict and all that is left out, not the first 20
+    -h                    print this help
     --help                show the manual
     --version             print the version
 
-A first argument is a remote if one is configured by that name, or a URL or a path; after -- it is a spec if in doubt.
+The first argument is a remote if one is configured by that name, or a URL or a path; after -- it is a spec if in doubt.
 Without a remote, the one is taken that git fetch takes.
 The exit status is 0 if all is well, 1 if something is refused, conflicts, is missing or isn't found, 2 for a usage
 error, 3 if a file, a device or memory fails, and that of Git where Git fails.

@@ -20,6 +20,7 @@ use Rattle.gix_refspec_text.specs.declared.parsing.Error.TheVariants as refspec_
 use Rattle.gix_refspec_text.specs.Specs.Explained.{reason_name}
 use Rattle.gix_refspec.specs.Specs.Refusal.{Refusal}
 use Rattle.gix_refspec.specs.Views.Instruction.{IsShownAs}
+use Rattle.refspec_map.specs.Fault.{name_of}
 
 same_lines : (x y : List ℕ) (xs ys : List (List ℕ)) (input : List ℕ) → Lacks newline x → Lacks newline y → ((rest : List ℕ) × (input ≡ x ++ (newline ∷ rest)) × AreLines xs rest) ⊎ ((x ≢ []) × (xs ≡ []) × (input ≡ x)) → ((rest : List ℕ) × (input ≡ y ++ (newline ∷ rest)) × AreLines ys rest) ⊎ ((y ≢ []) × (ys ≡ []) × (input ≡ y)) → ((rest : List ℕ) → AreLines xs rest → AreLines ys rest → xs ≡ ys) → x ∷ xs ≡ y ∷ ys
 same_lines x y xs ys input in_x in_y (inl a) (inl b) later =

@@ -1,16 +1,9 @@
 -- The forms of lines: the first space determines the id and the rest of a line.
-use Rattle.std.proofs.Common.{◌≡◌, ◌≢◌, ◌⊎◌, inl, inr, ℕ, suc, Option, None, Some, List, [], ◌∷◌, ◌++◌, Bool, true, false, ◌&&◌, MatchBool, get_or, slice_index, length, drop, codes, sym, ap, ◌∙◌, subst, refl, arith}
-use Rattle.std.specs.List.{SomeIndex, list_all}
-use Rattle.std.proofs.lemmas.Bool.{false≢true}
-use Rattle.std.proofs.lemmas.List.Sums.{AllPass-from_list_all}
+use Rattle.std.proofs.Common.{◌≡◌, ◌≢◌, inl, inr, ℕ, Option, None, Some, List, ◌∷◌, ◌++◌, get_or, codes, sym, ap, ◌∙◌, subst, refl, arith}
 use Rattle.std.proofs.lemmas.List.{append_cancel_left}
 use Rattle.gix_refspec_text.specs.declared.oid.Error.{Error as IdError}
-use Rattle.gix_refspec_text.specs.declared.oid.Error.TheVariants.{Digit, Length}
-use Rattle.hex.specs.Hex.{is_hex_digit}
-use Rattle.gix_refspec_text.specs.declared.oid.Kind.TheVariants.{Sha1, Sha256}
 use Rattle.gix_refspec.specs.Texts.Words.{Lacks}
-use Rattle.gix_refspec.specs.Texts.ObjectId.{IsIdText, IsIdLength, HasIdFault}
-use Rattle.gix_refspec.specs.Matching.Side.{IsId}
+use Rattle.gix_refspec.specs.Texts.ObjectId.{IsIdText, HasIdFault}
 use Rattle.gix_refspec.specs.Laws.Readings.{IdOrFault}
 use Rattle.gix_refspec.specs.Matching.Match.{Ref}
 use Rattle.refspec_map.specs.Line.{space, IsIdThen, IsRefLine, IsTagLine, spec, item, IsMalformed}

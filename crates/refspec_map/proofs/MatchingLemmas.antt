@@ -1,12 +1,11 @@
 -- Items and lines that are appended one after another.
-use Rattle.std.proofs.Common.{◌≡◌, ◌≢◌, ℕ, zero, suc, arith, ◌+◌, ◌<◌, Bool, true, false, List, [], ◌∷◌, ◌++◌, map, flat_map, length, take, None, Some, get_or, refl, sym, ap, ◌∙◌, subst, Result, Ok, Err, IsOk, OnOk}
+use Rattle.std.proofs.Common.{◌≡◌, ◌≢◌, ℕ, ◌+◌, ◌<◌, Bool, true, false, List, [], ◌∷◌, ◌++◌, map, flat_map, length, take, None, Some, get_or, refl, sym, ap, ◌∙◌, subst, Result, Ok, Err, IsOk, OnOk}
 use Rattle.std.proofs.lemmas.Bool.{false≢true}
-use Rattle.std.proofs.lemmas.List.{append-nil, map-append, take_more}
+use Rattle.std.proofs.lemmas.List.{append-nil, take_more}
 use Rattle.std.proofs.lemmas.Grind.{flat_map-append}
 use Rattle.std.proofs.lemmas.List.Folds.{flat_map-map}
 use Rattle.gix_refspec_match.specs.declared.types.Item.{Item}
 use Rattle.gix_refspec_match.specs.declared.types.Mapping.{Mapping}
-use Rattle.gix_refspec_text.specs.declared.spec.RefSpecRef.{RefSpecRef}
 use Rattle.gix_refspec.specs.declared.match_group.types.MatchGroup.{MatchGroup}
 use Rattle.gix_refspec.specs.declared.match_group.validate.Fix.{Fix}
 use Rattle.gix_refspec.specs.declared.match_group.validate.Issue.{Issue}
@@ -24,7 +23,7 @@ use Rattle.refspec_map.specs.Matching.{map_line, AreMapLines, IsMatching}
 use Rattle.refspec_map.specs.Parsed.{parsed_ref, bare, named, AreEntries}
 use Rattle.refspec_map.specs.Plan.{AreFixLines, IsPlan, AppendsFixes, conflict_line}
 use Rattle.gix_refspec.specs.Matching.Hits.{AreKeptForward, AreKeptBackward}
-use Rattle.gix_refspec.specs.Laws.Items.{AsksForNoId, HasIdDestination, NamesDecide, NamesDecideBack}
+use Rattle.gix_refspec.specs.Laws.Items.{AsksForNoId, NamesDecide, NamesDecideBack}
 use Rattle.refspec_map.proofs.NameLemmas.{kept_by_name, kept_back_by_name}
 
 -- the next line was appended

@@ -310,7 +310,7 @@ writes_once apart control lines entries input output l split given within kept s
     let few_specs : length g < 2 ^ 64 = omega (arith, few, within, fit_specs) in
     let few_items : length items < 2 ^ 64 = omega (arith, few, within, fit_items) in
     let told = apart g items l rest fixes kept valid in
-    let all = placed g items few_specs few_items rest told.places in
+    let all = placed g items few_specs few_items rest told.indexes in
     let (fixed, are, same) = fix_parts 0 fixes shows.fixed shows.are in
     let sides = sides_whole control lines entries given in
     let names = refs_whole lines entries given (lines_whole lines input split) in

@@ -10,6 +10,6 @@ returns-in-Err c = (Err c.in-Err.failure, c.number.ensures, tt, inr (inr (c.in-E
 
 pub returns-then-plan : goal.returns-then-plan
 returns-then-plan c =
-    let tells = c.in-Ok.ensures.ok in
-    let plan = subst (λ (some : Bool). IsPlan some (map bytes_of c.args.texts.now) (map bytes_of c.args.names.now) tells.0) c.if-plan.true tells.1 in
-    (Err InConflict, c.number-then-plan.ensures, tt, inl (refl, tells.0, plan, record { structs = c.in-Ok.plan.listing.mappings.items; text = c.in-Ok.plan.listing.text.items; tells = tells.2; put = c.in-Ok-put_all.ensures.ok }))
+    let describes = c.in-Ok.ensures.ok in
+    let plan = subst (λ (some : Bool). IsPlan some (map bytes_of c.args.texts.now) (map bytes_of c.args.names.now) describes.0) c.if-plan.true describes.1 in
+    (Err InConflict, c.number-then-plan.ensures, tt, inl (refl, describes.0, plan, record { structs = c.in-Ok.plan.listing.mappings.items; text = c.in-Ok.plan.listing.text.items; describes = describes.2; write = c.in-Ok-write_all.ensures.ok }))

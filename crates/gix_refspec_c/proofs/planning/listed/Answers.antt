@@ -4,7 +4,7 @@ use Rattle.std.specs.List.{Contains}
 use Rattle.gix_refspec.specs.Views.Group.{mapped_of, readings_of}
 use Rattle.gix_refspec_c.specs.Mapping.{Entry, forward_entry}
 use Rattle.gix_refspec_c.specs.Planning.{destinations_of}
-use Rattle.gix_refspec_c.proofs.MatchingLemmas.{tells_more}
+use Rattle.gix_refspec_c.proofs.MatchingLemmas.{describes_more}
 use Rattle.gix_refspec_c.proofs.PlanningLemmas.{judged_more}
 use Rattle.gix_refspec_c.proofs.planning.listed.Goals as goal
 
@@ -16,5 +16,5 @@ loop-mapping-preserved c =
     let before = c.loop-mapping.invariant in (
       before.0 ++ e ∷ [],
       judged_more g (Contains (destinations_of c.args.issues.now)) c.args.mappings.now c.loop-mapping.mapping-index c.mapping-item.result before.0 e c.loop-mapping-test.true c.mapping-item.is before.1 (c.verdict_of-verdict.result, c.verdict_of-verdict.ensures, ap (λ n. forward_entry g n m) c.number.ensures),
-      tells_more before.0 (before.0 ++ e ∷ []) e c.loop-mapping.listing.mappings.items c.add_forward.new.self.mappings.items c.loop-mapping.listing.text.items c.add_forward.new.self.text.items before.2 refl c.in_ok-add_forward.ensures.text c.in_ok-add_forward.ensures.told,
+      describes_more before.0 (before.0 ++ e ∷ []) e c.loop-mapping.listing.mappings.items c.add_forward.new.self.mappings.items c.loop-mapping.listing.text.items c.add_forward.new.self.text.items before.2 refl c.in_ok-add_forward.ensures.text c.in_ok-add_forward.ensures.described,
     )

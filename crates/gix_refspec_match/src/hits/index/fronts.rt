@@ -33,12 +33,12 @@ impl<'n> FrontIndex<'n> {
     ) -> Result<FrontIndex<'n>, AllocError>
         ensures { IfOk result (IsFrontIndexOf (map ref_of items.now)) }
     {
-        let mut places = without_places(alloc, fronts)?;
-        if places.len() < MANY {
+        if fronts.len() < MANY {
             return Ok(FrontIndex {
                 places: HashMap::new(alloc),
             });
         }
+        let mut places = without_places(alloc, fronts)?;
         let lengths = lengths_of(alloc, fronts)?;
         let mut listed: usize = 0;
         for (place, item) in items.iter().enumerate() {

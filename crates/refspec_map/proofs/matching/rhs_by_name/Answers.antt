@@ -1,11 +1,9 @@
 -- If no destination is an id, the output for the names of the refs is the output for the refs, by the law
 -- `names_decide_back`.
-use Rattle.std.proofs.Common.{List, map, refl, subst}
-use Rattle.gix_refspec_text.specs.declared.spec.RefSpecRef.{RefSpecRef}
+use Rattle.std.proofs.Common.{map, refl}
 use Rattle.gix_refspec.specs.Views.Spec.{reading_of}
 use Rattle.gix_refspec.specs.Matching.Hits.{AreKeptBackward}
 use Rattle.refspec_map.specs.Matching.{AreMapLines}
-use Rattle.gix_refspec.specs.Laws.Items.{AsksForNoId}
 use Rattle.refspec_map.proofs.MatchingLemmas.{AreMapLines-of, IsMatching-named, map_lines_back_by_name}
 use Rattle.refspec_map.proofs.matching.rhs_by_name.Goals as goal
 

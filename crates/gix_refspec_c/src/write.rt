@@ -7,7 +7,7 @@ use crate::failure::Failure;
 
 /// Copies an answer to the start of a buffer, if it is long enough, and sets the length to that of the
 /// answer.
-pub(crate) fn put(answer: &[u8], buffer: &mut [u8], len: &mut usize) -> Result<(), Failure>
+pub(crate) fn write(answer: &[u8], buffer: &mut [u8], len: &mut usize) -> Result<(), Failure>
     ensures ok { OnOk result (IsWrittenTo answer.now buffer.old buffer.new len.new) }
     ensures small { IfErr result (λ f. (f ≡ Failure.TooSmall) × IsTooSmall answer.now buffer.old buffer.new len.new) }
 {
