@@ -1,12 +1,8 @@
 //! Matching a group of refspecs against the refs of a repository.
 
-ghost use Rattle.std.specs.Prelude.{◌≡◌, ◌≢◌, [], map, IfOk, IfErr, OnOk, OnErr};
-ghost use Rattle.gix_refspec_text.specs.Views.Spec.{reading_of};
-ghost use Rattle.gix_refspec_match.specs.Matching.Mappings.{IsKept};
-ghost use Rattle.gix_refspec_match.specs.Views.Mapping.{ref_of, mapped_of};
-ghost use Rattle.gix_refspec.specs.Views.Group.{readings_of, IsOutcome, Maps};
-ghost use Rattle.gix_refspec_match.specs.Private.HitViews.{AreKept, AreMade, mapped_of_made};
-ghost use Rattle.gix_refspec_match.specs.Matching.Hits.{AreForward, AreBackward, AreKeptForward, AreKeptBackward};
+ghost use Rattle.std.specs.Prelude.{◌≡◌, IfOk, IfErr};
+ghost use Rattle.gix_refspec.specs.Views.Group.{IsOutcome};
+ghost use Rattle.gix_refspec_match.specs.Matching.Hits.{AreKeptForward, AreKeptBackward};
 
 mod prefixes;
 mod premises;
@@ -14,10 +10,8 @@ pub mod ref_names;
 pub(crate) mod types;
 pub mod validate;
 
-use gix_refspec_match::hits::ends::Direction;
-use gix_refspec_match::hits::{Made, Matching};
 pub use gix_refspec_match::types::{Item, Mapping, NameRef, Source, SourceRef};
-use gix_refspec_text::RefSpecRef;
+use gix_refspec_match::{match_backward, match_forward};
 pub use premises::has_id_destination;
 use std::alloc::{AllocError, Global};
 use types::MatchGroup;
@@ -44,18 +38,18 @@ impl<'spec> MatchGroup<'spec> {
     /// Names aren't checked: a server may advertise `refs/heads/../../x`. `without_invalid_names` of
     /// the outcome checks them.
     ///
-    /// Fails with `NoRoom` if memory runs out; never if the specs ask for no id and match no item. The
-    /// error holds the unchanged group.
+    /// Fails with `NoRoom` if memory runs out. The error holds the unchanged group.
     pub fn match_lhs<'i>(self, alloc: Global, items: &[Item<'i>]) -> match_lhs::Result<'spec, 'i>
         ensures ok { IfOk result (IsOutcome AreKeptForward self.entry items.now) }
         ensures err { IfErr result (λ e. e.group ≡ self.entry) }
-        ensures memory { OnErr result (¬ (Maps AreForward self.entry items.now [])) }
     {
-        let Kept { group, made } = self.kept(alloc, Direction::Forward, items)?;
-        Ok(Outcome {
-            group,
-            mappings: made.forward,
-        })
+        match match_forward(alloc, self.specs.as_slice(), items) {
+            Ok(mappings) => Ok(Outcome {
+                group: self,
+                mappings,
+            }),
+            Err(_) => Err(NoRoom { group: self }),
+        }
     }
 
     /// Matches items by the destinations of the specs, and maps them back to their sources: which refs
@@ -69,50 +63,17 @@ impl<'spec> MatchGroup<'spec> {
     /// `without_invalid_names` is for outcomes of `match_lhs` only, and `name_partial` checks a single
     /// name. All else is as in `match_lhs`.
     ///
-    /// Fails with `NoRoom` if memory runs out; never if no item matches. The error holds the unchanged
-    /// group.
+    /// Fails with `NoRoom` if memory runs out. The error holds the unchanged group.
     pub fn match_rhs<'i>(self, alloc: Global, items: &[Item<'i>]) -> match_rhs::Result<'spec, 'i>
         ensures ok { IfOk result (IsOutcome AreKeptBackward self.entry items.now) }
         ensures err { IfErr result (λ e. e.group ≡ self.entry) }
-        ensures memory { OnErr result (¬ (Maps AreBackward self.entry items.now [])) }
     {
-        let Kept { group, made } = self.kept(alloc, Direction::Backward, items)?;
-        Ok(Outcome {
-            group,
-            mappings: made.backward,
-        })
-    }
-
-    // Matches in one direction. Returns the group, and the mappings that are kept.
-    fn kept<'item>(
-        self,
-        alloc: Global,
-        direction: Direction,
-        items: &[Item<'item>],
-    ) -> Result<Kept<'spec, 'item>, NoRoom<'spec>>
-        ensures ok { IfOk result (λ kept. (kept.group ≡ self.entry) × AreKept
-            direction (readings_of self.entry) (map ref_of items.now)
-            (mapped_of_made direction kept.made)) }
-        ensures err { IfErr result (λ e. e.group ≡ self.entry) }
-        ensures memory { OnErr result (¬ (AreMade
-            direction (readings_of self.entry) (map ref_of items.now) [])) }
-    {
-        let matching = Matching {
-            alloc,
-            direction,
-            specs: self.specs.as_slice(),
-            items,
-        };
-        match matching.kept() {
-            Ok(made) => Ok(Kept { group: self, made }),
+        match match_backward(alloc, self.specs.as_slice(), items) {
+            Ok(mappings) => Ok(Outcome {
+                group: self,
+                mappings,
+            }),
             Err(_) => Err(NoRoom { group: self }),
         }
     }
-}
-
-// A group, and its kept mappings in one direction.
-#[derive(Drop)]
-struct Kept<'spec, 'item> {
-    group: MatchGroup<'spec>,
-    made: Made<'spec, 'item>,
 }

@@ -1,6 +1,8 @@
 -- The words of functions that callers of the library can't reach, for their steps.
-pub mod HitViews
-pub mod EqualSpecs
+pub mod Needles
+pub mod Matchers
+pub mod Hits
+pub mod Fills
 pub mod Part
 pub mod Index
 pub mod Kept

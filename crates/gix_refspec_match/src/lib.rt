@@ -1,9 +1,186 @@
-//! What specs match among refs, and the mappings that this makes. The library to use is `gix_refspec`,
-//! which is built on this crate: it has items and mappings under the same names, and groups of specs.
+//! What specs match among refs, and the mappings that this makes: specs become matchers, matchers hit items,
+//! hits become mappings, and duplicates are dropped. The library to use is `gix_refspec`, which is built on
+//! this crate: it has items and mappings under the same names, and groups of specs.
 #![tactic(auto)]
 
+ghost use Rattle.std.specs.Prelude.{◌≡◌, ◌++◌, [], map, IfOk, OnOk};
+ghost use Rattle.gix_refspec_text.specs.Views.Spec.{reading_of};
+ghost use Rattle.gix_refspec_match.specs.Matching.Hits.{AreKeptForward, AreKeptBackward};
+ghost use Rattle.gix_refspec_match.specs.Matching.Mappings.{IsKept};
+ghost use Rattle.gix_refspec_match.specs.Views.Mapping.{mapped_of, ref_of};
+ghost use Rattle.gix_refspec_match.specs.declared.matcher.Candidates.TheVariants.{First, All};
+ghost use Rattle.gix_refspec_match.specs.Private.Fills.{AddsMapped, object_mapping};
+ghost use Rattle.gix_refspec_match.specs.Private.Hits.{AreSound};
+ghost use Rattle.gix_refspec_match.specs.Private.Matchers.{HaveOthers};
+
 pub mod hashes;
-pub mod hits;
+mod hits;
 pub mod keep;
-mod mappings;
+pub mod matcher;
+mod needle;
 pub mod types;
+mod unique;
+
+use crate::hits::{Hit, hits_among};
+use crate::keep::drop_flagged;
+use crate::keep::exclusions::Exclusions;
+use crate::keep::repeats::repeats_of;
+use crate::matcher::{Matcher, Matchers, ObjectSpec};
+use crate::needle::{filled, word_in};
+use crate::types::{Item, Mapping, NameRef, SourceRef};
+use gix_refspec_text::RefSpecRef;
+use std::alloc::{AllocError, Global};
+
+/// The mappings from left to right that are kept: first those of ids, in the order of specs, and then those of
+/// items, in the order of specs and then of items. Fails if memory runs out.
+pub fn match_forward<'spec, 'item>(
+    alloc: Global,
+    specs: &[RefSpecRef<'spec>],
+    items: &[Item<'item>],
+) -> Result<Vec<Mapping<'item, 'spec>>, AllocError>
+    ensures { IfOk result (λ kept. AreKeptForward
+        (map reading_of specs.now) (map ref_of items.now) (map mapped_of kept.items)) }
+{
+    let exclusions = Exclusions::of(alloc, specs)?;
+    let (matchers, objects) = Matchers::forward(alloc, specs)?;
+    let hits = hits_among(alloc, &matchers, items)?;
+    let room = objects.len().saturating_add(hits.len());
+    let mut mappings = Vec::with_capacity(alloc, room)?;
+    map_objects(alloc, objects.as_slice(), &mut mappings)?;
+    let list = matchers.list.as_slice();
+    map_forward(
+        alloc,
+        list,
+        items,
+        &exclusions,
+        hits.as_slice(),
+        &mut mappings,
+    )?;
+    drop(hits);
+    without_duplicates(alloc, mappings)
+}
+
+/// The mappings from right to left that are kept, in the order of specs and then of items. Fails if memory runs
+/// out.
+pub fn match_backward<'spec, 'item>(
+    alloc: Global,
+    specs: &[RefSpecRef<'spec>],
+    items: &[Item<'item>],
+) -> Result<Vec<Mapping<'spec, 'item>>, AllocError>
+    ensures { IfOk result (λ kept. AreKeptBackward
+        (map reading_of specs.now) (map ref_of items.now) (map mapped_of kept.items)) }
+{
+    let exclusions = Exclusions::of(alloc, specs)?;
+    let matchers = Matchers::backward(alloc, specs)?;
+    let hits = hits_among(alloc, &matchers, items)?;
+    let mut mappings = Vec::with_capacity(alloc, hits.len())?;
+    let list = matchers.list.as_slice();
+    map_backward(
+        alloc,
+        list,
+        items,
+        &exclusions,
+        hits.as_slice(),
+        &mut mappings,
+    )?;
+    drop(hits);
+    without_duplicates(alloc, mappings)
+}
+
+// Adds the mappings of objects.
+fn map_objects<'spec, 'item>(
+    alloc: Global,
+    objects: &[ObjectSpec<'spec>],
+    mappings: &mut Vec<Mapping<'item, 'spec>>,
+) -> Result<(), AllocError>
+    ensures { OnOk result (map mapped_of mappings.new.items ≡
+        map mapped_of mappings.old.items ++ map object_mapping objects.now) }
+{
+    for object in objects {
+        mappings.push(Mapping {
+            item_index: None,
+            lhs: SourceRef::ObjectId(object.id),
+            rhs: filled(alloc, object.destination, None)?,
+            spec_index: object.spec_index,
+        })?;
+    }
+    Ok(())
+}
+
+// Adds the mappings of hits on sources. What is excluded isn't filled.
+fn map_forward<'spec, 'item>(
+    alloc: Global,
+    matchers: &[Matcher<'spec>],
+    items: &[Item<'item>],
+    exclusions: &Exclusions<'_>,
+    hits: &[Hit],
+    mappings: &mut Vec<Mapping<'item, 'spec>>,
+) -> Result<(), AllocError>
+    requires { AreSound matchers.now (map ref_of items.now) hits.now }
+    ensures { OnOk result (AddsMapped First exclusions.now matchers.now (map ref_of items.now) hits.now
+        (map mapped_of mappings.old.items) (map mapped_of mappings.new.items)) }
+{
+    for hit in hits {
+        let item = &items[hit.item];
+        if exclusions.has_name(item.full_ref_name.as_bytes()) {
+            continue;
+        }
+        let matcher = &matchers[hit.matcher];
+        mappings.push(Mapping {
+            item_index: Some(hit.item),
+            lhs: SourceRef::FullName(NameRef::Borrowed(item.full_ref_name)),
+            rhs: filled(alloc, matcher.other, word_in(matcher.needle, item))?,
+            spec_index: matcher.spec_index,
+        })?;
+    }
+    Ok(())
+}
+
+// Adds the mappings of hits on destinations. A source has to be filled before it is known whether it is excluded.
+fn map_backward<'spec, 'item>(
+    alloc: Global,
+    matchers: &[Matcher<'spec>],
+    items: &[Item<'item>],
+    exclusions: &Exclusions<'_>,
+    hits: &[Hit],
+    mappings: &mut Vec<Mapping<'spec, 'item>>,
+) -> Result<(), AllocError>
+    requires sound { AreSound matchers.now (map ref_of items.now) hits.now }
+    requires others { HaveOthers matchers.now }
+    ensures { OnOk result (AddsMapped All exclusions.now matchers.now (map ref_of items.now) hits.now
+        (map mapped_of mappings.old.items) (map mapped_of mappings.new.items)) }
+{
+    for hit in hits {
+        let item = &items[hit.item];
+        let matcher = &matchers[hit.matcher];
+        let Some(source) = filled(alloc, matcher.other, word_in(matcher.needle, item))? else {
+            continue;
+        };
+        if exclusions.has_name(source.as_bstr().as_bytes()) {
+            continue;
+        }
+        mappings.push(Mapping {
+            item_index: Some(hit.item),
+            lhs: SourceRef::FullName(source),
+            rhs: Some(NameRef::Borrowed(item.full_ref_name)),
+            spec_index: matcher.spec_index,
+        })?;
+    }
+    Ok(())
+}
+
+// Drops each mapping that has the source and destination of an earlier one.
+fn without_duplicates<'a, 'b>(
+    alloc: Global,
+    mut mappings: Vec<Mapping<'a, 'b>>,
+) -> Result<Vec<Mapping<'a, 'b>>, AllocError>
+    ensures { IfOk result (λ kept.
+        IsKept [] (map mapped_of mappings.entry.items) (map mapped_of kept.items)) }
+{
+    let duplicates = repeats_of(alloc, mappings.as_slice())?;
+    if duplicates.is_empty() {
+        return Ok(mappings);
+    }
+    drop_flagged(duplicates.as_slice(), &mut mappings);
+    Ok(mappings)
+}

@@ -154,7 +154,7 @@ spec_hits = (missing, inr ((λ ends are. are.positive), refl), added)
     added (inl (ends, are, made)) = are.positive
     added (inr (no_ends, same)) = cc
 
--- an item's name is the source in one direction, and the destination in the other
+-- an item's name is the source in one which, and the destination in the other
 pub mapped_hits : (forward_of (record { spec = 5; item = 3; near = codes "a"; far = Some (codes "b") }) ≡ mapping 3 (codes "a") (Some (codes "b")) 5)
     × (forward_of (record { spec = 5; item = 3; near = codes "a"; far = None }) ≡ mapping 3 (codes "a") None 5)
     × (backward_of (record { spec = 5; item = 3; near = codes "a"; far = Some (codes "b") }) ≡ mapping 3 (codes "b") (Some (codes "a")) 5)

@@ -1,7 +1,7 @@
 -- Lemmas on what specs take of items, and on the mappings that this makes.
 pub mod HitLemmas
-pub mod NoHitLemmas
-pub mod OnceLemmas
-pub mod EqualSpecLemmas
+pub mod FoundLemmas
+pub mod GroupLemmas
+pub mod MatcherLemmas
 pub mod EqualKeyLemmas
 pub mod ReachLemmas

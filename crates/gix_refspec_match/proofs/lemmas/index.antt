@@ -7,5 +7,3 @@ pub mod PartialLemmas
 pub mod ShortTailLemmas
 pub mod FrontLemmas
 pub mod PlacedLemmas
-pub mod FittedLemmas
-pub mod FrontHitLemmas

@@ -9,3 +9,5 @@ pub mod ThinLemmas
 pub mod PartLemmas
 pub mod PartMadeLemmas
 pub mod SharedLemmas
+pub mod FillLemmas
+pub mod EngineLemmas

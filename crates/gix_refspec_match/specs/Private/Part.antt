@@ -1,14 +1,8 @@
 -- A part of some items that has each name of them, and mappings of it at their places among all. Only private
 -- functions cite this.
 use Rattle.std.specs.Prelude.{◌≡◌, ◌⊎◌, ℕ, ◌<◌, Bool, List, [], ◌∷◌, ◌++◌, option_map, length, slice_index_or}
-use Rattle.std.specs.List.{AllByRecursion}
-use Rattle.gix_refspec_match.specs.declared.hits.ends.Direction.{Direction}
-use Rattle.gix_refspec_text.specs.Specs.Reading.{Reading}
-use Rattle.gix_refspec_text.specs.Matching.Side.{object, HasKind}
 use Rattle.gix_refspec_text.specs.Matching.Match.{Ref, HasName}
 use Rattle.gix_refspec_match.specs.Matching.Mappings.{Mapped}
-use Rattle.gix_refspec_match.specs.Matching.Hits.{Ends}
-use Rattle.gix_refspec_match.specs.Private.HitViews.{HasEnds}
 use Rattle.gix_refspec_match.specs.Private.Kept.{IsFlagged}
 
 -- the part has the refs that are at the places, in order. Those left out have the name of an earlier one. Others
@@ -44,10 +38,3 @@ moved f m = record { item = option_map f m.item; source = m.source; destination 
 -- the place among all for a place of the part
 abbrev pub place_among : List ℕ → ℕ → ℕ
 place_among places i = slice_index_or places i i
-
--- in the direction the near end of the reading, where it has one, is no id
-abbrev pub IsNoNearId : Direction → Reading → Type 0
-IsNoNearId direction r = (ends : Ends) → HasEnds direction r ends → (id : List ℕ) → ¬ (HasKind ends.near (object id))
-
-abbrev pub HasNoNearId : Direction → List Reading → Type 0
-HasNoNearId direction g = AllByRecursion (IsNoNearId direction) g

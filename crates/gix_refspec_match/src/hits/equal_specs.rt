@@ -3,7 +3,7 @@
 
 ghost use Rattle.std.specs.Prelude.{◌≡◌, ◌<◌, ◌≤◌, ◌^◌, length, map, IfOk, IsTrue};
 ghost use Rattle.gix_refspec_text.specs.Views.Spec.{reading_of};
-ghost use Rattle.gix_refspec_match.specs.Private.EqualSpecs.{ArePositiveKeys, FlagsEqual};
+ghost use Rattle.gix_refspec_match.specs.Private.Matchers.{ArePositiveKeys, FlagsEqual};
 ghost use Rattle.gix_refspec_match.specs.Private.Kept.{Rises};
 
 use crate::keep::repeats::{bits_for, bucket_of, key_of, place_in, raise};

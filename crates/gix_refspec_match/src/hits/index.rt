@@ -1,14 +1,14 @@
-//! The places among the items of the names that specs ask for. A full name asks for itself. Partial names
-//! and many patterns have an index each. Names that no spec asks for take no memory and are no keys,
+//! Which items have the names that matchers look for. Full names, partial names and, if there are many, the
+//! prefixes of patterns have an index each. Names that no matcher looks for take no memory and are no keys,
 //! since a server chooses them.
 
-ghost use Rattle.std.specs.Prelude.{◌≡◌, ◌++◌, if◌then◌else◌, true, [], List, ℕ, map, IfSome, IfOk, OnOk};
-ghost use Rattle.gix_refspec_text.specs.Views.Spec.{reading_of};
+ghost use Rattle.std.specs.Prelude.{◌≡◌, ◌++◌, [], List, ℕ, map, MatchOption, IfSome, IfOk, OnOk};
+ghost use Rattle.std.specs.List.{AllByRecursion};
 ghost use Rattle.gix_refspec_text.specs.Matching.Match.{Ref};
 ghost use Rattle.gix_refspec_match.specs.Views.Mapping.{name_bytes, ref_of};
 ghost use Rattle.gix_refspec_text.specs.Private.SideViews.{kind_of_side};
-ghost use Rattle.gix_refspec_match.specs.Private.Index.{AllNear, HavePlaces, HasNamesOf, asks_by_id, full_names_of, list_of, partial_names_of};
-ghost use Rattle.gix_refspec_match.specs.Private.Part.{FlagsRepeated};
+ghost use Rattle.gix_refspec_match.specs.Private.Index.{HaveNamesOf, HavePlaces, full_names_of, list_of, partial_names_of};
+ghost use Rattle.gix_refspec_match.specs.Private.Needles.{TakesEach};
 
 mod filter;
 pub(crate) mod fronts;
@@ -16,102 +16,72 @@ mod key;
 mod partials;
 mod short_tails;
 
-use super::ends::{Direction, near_of};
-use super::repeated::{repeated_names, seem_repeated};
+use crate::matcher::{Candidates, Matchers};
 use crate::types::{Item, NameRef};
 use bstr::BStr;
 use filter::Filter;
 use fronts::FrontIndex;
-use gix_refspec_text::RefSpecRef;
 use gix_refspec_text::side::SideKind;
 use key::Key;
 use partials::PartialIndex;
 use std::alloc::{AllocError, Global};
 use std::collections::HashMap;
 
-// For each of some names all its places among the items, rising, and the same for partial names and
-// for fronts of patterns.
+// For each of some names the indexes of all items that have it, strictly increasing; and likewise of partial
+// names, and of prefixes of patterns.
 #[derive(Drop)]
-pub(crate) struct NameIndex<'n> {
-    places: HashMap<Key<'n>, Vec<usize>>,
+pub(crate) struct Index<'n> {
+    full: HashMap<Key<'n>, Vec<usize>>,
     partials: PartialIndex<'n>,
     fronts: FrontIndex<'n>,
-    // Flags of the items that few patterns pass over.
-    repeated: Vec<bool>,
-    // Whether all that specs ask for is looked up by its name.
-    by_name: bool,
-    // Whether no two specs ask for one name.
-    asked_once: bool,
 }
 
-// From how many patterns on their fronts are looked up. For fewer it is cheaper to compare each with all names.
+// From how many patterns on their prefixes are looked up. For fewer it is cheaper to compare each with all names.
 const MANY: usize = 8;
 
-// Names that specs ask for, the fronts of their patterns, and whether one asks for items by an id.
+// The names that matchers look for, and the prefixes of their patterns.
 #[derive(Drop)]
 pub(crate) struct Names<'spec> {
     full: Vec<NameRef<'spec>>,
     partial: Vec<NameRef<'spec>>,
     fronts: Vec<NameRef<'spec>>,
-    pub(crate) by_id: bool,
-}
-
-// The names that specs ask for in a direction, the fronts of the patterns that are near, and whether a near
-// end is an id.
-pub(crate) fn names_asked<'spec>(
-    alloc: Global,
-    direction: Direction,
-    specs: &[RefSpecRef<'spec>],
-) -> Result<Names<'spec>, AllocError>
-    ensures { IfOk result (λ names. AllNear (HasNamesOf names) direction (map reading_of specs.now)) }
-{
-    let mut names = Names {
-        full: Vec::with_capacity(alloc, specs.len())?,
-        partial: Vec::new(alloc),
-        fronts: Vec::new(alloc),
-        by_id: false,
-    };
-    for spec in specs {
-        if let Some(near) = near_of(direction, spec) {
-            names.add(near)?;
-        }
-    }
-    Ok(names)
 }
 
 impl<'spec> Names<'spec> {
-    // Adds the name that a side asks for, or its front.
-    fn add(&mut self, near: SideKind<'spec>) -> Result<(), AllocError>
-        ensures full { OnOk result (map name_bytes self.new.full.items ≡
-            map name_bytes self.old.full.items ++ full_names_of (kind_of_side near.entry)) }
-        ensures partial { OnOk result (map name_bytes self.new.partial.items ≡
-            map name_bytes self.old.partial.items ++ partial_names_of (kind_of_side near.entry)) }
-        ensures by_id { OnOk result (self.new.by_id ≡
-            if asks_by_id (kind_of_side near.entry) then true else self.old.by_id) }
+    pub(crate) fn of(alloc: Global, matchers: &Matchers<'spec>) -> Result<Names<'spec>, AllocError>
+        ensures { IfOk result (HaveNamesOf matchers.now) }
     {
-        match near {
+        let mut names = Names {
+            full: Vec::new(alloc),
+            partial: Vec::new(alloc),
+            fronts: Vec::new(alloc),
+        };
+        for matcher in &matchers.list {
+            names.add(matcher.needle)?;
+        }
+        Ok(names)
+    }
+
+    // Adds the name that a needle looks for, or its prefix. An id has none.
+    fn add(&mut self, needle: SideKind<'spec>) -> Result<(), AllocError>
+        ensures full { OnOk result (map name_bytes self.new.full.items ≡
+            map name_bytes self.old.full.items ++ full_names_of (kind_of_side needle.entry)) }
+        ensures partial { OnOk result (map name_bytes self.new.partial.items ≡
+            map name_bytes self.old.partial.items ++ partial_names_of (kind_of_side needle.entry)) }
+    {
+        match needle {
             SideKind::FullName(name) => self.full.push(NameRef::Borrowed(BStr::new(name)))?,
             SideKind::Partial(name) => self.partial.push(NameRef::Borrowed(BStr::new(name)))?,
             SideKind::Pattern { before, .. } => {
                 self.fronts.push(NameRef::Borrowed(BStr::new(before)))?
             }
-            SideKind::Object(_) => self.by_id = true,
+            SideKind::Object(_) => {}
         }
         Ok(())
     }
-
-    // Whether there are patterns.
-    fn has_fronts(&self) -> bool {
-        !self.fronts.is_empty()
-    }
-
-    // Whether there are so many patterns that they are looked up.
-    pub(crate) fn has_many_fronts(&self) -> bool {
-        MANY <= self.fronts.len()
-    }
 }
 
-// A map whose keys are exactly these names, each without a place.
+// A map whose keys are exactly these names, each without an item.
 fn without_places<'n>(
     alloc: Global,
     names: &'n [NameRef<'_>],
@@ -129,7 +99,7 @@ fn without_places<'n>(
     Ok(places)
 }
 
-// The places of some names.
+// The items that have some names.
 fn places_of<'n>(
     alloc: Global,
     names: &'n [NameRef<'_>],
@@ -155,105 +125,49 @@ fn places_of<'n>(
     Ok(places)
 }
 
-// How many places are listed in all.
-fn listed_in(places: &HashMap<Key<'_>, Vec<usize>>) -> usize {
-    let mut listed: usize = 0;
-    for list in places.values() {
-        listed = listed.saturating_add(list.len());
-    }
-    listed
-}
+impl<'n> Index<'n> {
+    ghost use Rattle.gix_refspec_match.specs.Private.Index.{ArePlacesBehind, IsFrontIndexOf, IsIndexOf, places_listed, Serves};
 
-// Flags the items that few patterns pass over, since an earlier one has their name. To find them takes
-// sorting, so it is done only where names seem to repeat.
-fn passed_over(
-    alloc: Global,
-    names: &Names<'_>,
-    items: &[Item<'_>],
-) -> Result<Vec<bool>, AllocError>
-    ensures { IfOk result (λ flags. FlagsRepeated (map ref_of items.now) flags.items) }
-{
-    let few = names.has_fronts() && !names.has_many_fronts();
-    if few && seem_repeated(alloc, items)? {
-        return repeated_names(alloc, items);
-    }
-    Ok(Vec::new(alloc))
-}
-
-impl<'n> NameIndex<'n> {
-    ghost use Rattle.gix_refspec_match.specs.Private.Index.{ArePlacesBehind, IsFrontIndexOf, IsIndexOf, places_listed};
-
-    // The index of some names and fronts.
+    // The index of some names and prefixes.
     pub(crate) fn of(
         alloc: Global,
-        direction: Direction,
+        candidates: Candidates,
         names: &'n Names<'_>,
         items: &'n [Item<'_>],
-    ) -> Result<NameIndex<'n>, AllocError>
-        ensures { IfOk result (IsIndexOf direction names.now (map ref_of items.now)) }
+    ) -> Result<Index<'n>, AllocError>
+        ensures { IfOk result (IsIndexOf candidates names.now (map ref_of items.now)) }
     {
-        let places = places_of(alloc, names.full.as_slice(), items)?;
-        let partials = PartialIndex::of(alloc, direction, names.partial.as_slice(), items)?;
-        let keys = places.len().saturating_add(partials.len());
-        Ok(NameIndex {
-            places,
+        let full = places_of(alloc, names.full.as_slice(), items)?;
+        let partials = PartialIndex::of(alloc, candidates, names.partial.as_slice(), items)?;
+        let fronts = FrontIndex::of(alloc, names.fronts.as_slice(), items)?;
+        Ok(Index {
+            full,
             partials,
-            fronts: FrontIndex::of(alloc, names.fronts.as_slice(), items)?,
-            repeated: passed_over(alloc, names, items)?,
-            by_name: !names.by_id && !names.has_fronts(),
-            asked_once: keys == names.full.len().saturating_add(names.partial.len()),
+            fronts,
         })
     }
 
-    // The places of a name.
-    pub(crate) fn places(&self, name: &'n [u8]) -> &[usize]
-        ensures { result.now ≡ places_listed (list_of self.now.places) name.now }
+    // The indexes of the items that a needle may match, strictly increasing. `None` for all items. A partial
+    // name matches only those that it takes.
+    pub(crate) fn items_of(&self, needle: SideKind<'n>) -> Option<&[usize]>
+        ensures { MatchOption result (TakesEach (kind_of_side needle.entry))
+            (λ listed. Serves self.now (kind_of_side needle.entry) listed.now) }
     {
-        match self.places.get(&Key { name }) {
-            None => &[],
-            Some(places) => places.as_slice(),
+        match needle {
+            SideKind::FullName(name) => Some(self.places(name)),
+            SideKind::Partial(name) => Some(self.partials.places(name)),
+            SideKind::Pattern { before, .. } => self.fronts.places(before),
+            SideKind::Object(_) => None,
         }
     }
 
-    // The places of the items that a partial name takes.
-    pub(crate) fn partial_places(&self, partial: &'n [u8]) -> &[usize]
-        ensures { result.now ≡ places_listed (list_of self.now.partials.places) partial.now }
+    // The items that have a name.
+    fn places(&self, name: &'n [u8]) -> &[usize]
+        ensures { result.now ≡ places_listed (list_of self.now.full) name.now }
     {
-        self.partials.places(partial)
-    }
-
-    // The places of the items whose names begin with a front. None where they aren't listed.
-    pub(crate) fn places_behind(&self, front: &'n [u8]) -> Option<&[usize]>
-        ensures { IfSome result (λ places. (refs : List Ref)
-            → IsFrontIndexOf refs self.now.fronts → ArePlacesBehind front.now refs places.now) }
-    {
-        self.fronts.places(front)
-    }
-
-    // Flags of the items that few patterns pass over, since an earlier one has their name.
-    pub(crate) fn repeated(&self) -> &[bool]
-        ensures { result.now ≡ self.now.repeated.items }
-    {
-        self.repeated.as_slice()
-    }
-
-    // Whether all that specs ask for is looked up by its name.
-    pub(crate) fn is_by_name(&self) -> bool {
-        self.by_name
-    }
-
-    // Whether all that specs ask for is looked up by its name, and no name is asked for twice.
-    pub(crate) fn has_each_once(&self) -> bool {
-        self.by_name && self.asked_once
-    }
-
-    // How many places of full and partial names are listed.
-    pub(crate) fn listed(&self) -> usize {
-        listed_in(&self.places).saturating_add(self.partials.listed())
-    }
-
-    // Whether some name is at several places.
-    pub(crate) fn has_repeats(&self) -> bool {
-        self.places.values().any(|places| places.len() > 1) || self.partials.has_repeats()
+        match self.full.get(&Key { name }) {
+            None => &[],
+            Some(places) => places.as_slice(),
+        }
     }
 }

@@ -7,7 +7,7 @@ ghost use Rattle.gix_refspec_match.specs.Matching.Mappings.{IsExcludedBy};
 ghost use Rattle.gix_refspec_text.specs.Specs.Reading.{Negative};
 ghost use Rattle.gix_refspec_match.specs.Private.Kept.{AreExclusionsOf, HasNegative, IsFitted, ExcludeStart, ExcludeName};
 
-use crate::hits::matches::word_between;
+use crate::needle::word_between;
 use crate::types::{Mapping, NameRef, SourceRef};
 use bstr::BStr;
 use gix_refspec_text::RefSpecRef;
@@ -109,7 +109,7 @@ impl<'a> Exclusions<'a> {
     }
 
     // Whether a name is excluded. It isn't hashed where there are no names to look it up among.
-    fn has_name(&self, name: &[u8]) -> bool
+    pub(crate) fn has_name(&self, name: &[u8]) -> bool
         ensures { IsTrue result ↔ ExcludeName self.now name.now }
     {
         if !self.names.is_empty() && self.names.contains(&NameRef::Borrowed(BStr::new(name))) {

@@ -3,7 +3,7 @@ use Rattle.std.proofs.Common.{◌≡◌, ◌⊎◌, inl, inr, ℕ, List, [], ◌
 use Rattle.std.specs.List.{AllByRecursion}
 use Rattle.std.specs.Prelude.{IsSome}
 use Rattle.std.proofs.lemmas.Bool.{false≢true}
-use Rattle.gix_refspec_match.specs.declared.hits.ends.Direction.TheVariants.{Forward, Backward}
+use Rattle.gix_refspec_match.specs.declared.matcher.Candidates.TheVariants.{First, All}
 use Rattle.gix_refspec_text.specs.declared.spec.RefSpecRef.{RefSpecRef}
 use Rattle.gix_refspec_text.specs.Texts.Words.{Lacks, BeginsWith}
 use Rattle.gix_refspec_text.specs.Texts.Bytes.{star}
@@ -239,11 +239,11 @@ forward_pairs g A B l pair fine are has to =
     by_part (inl ids) = absurd (Any-fact ⊥ g (Any-all IsFine _ (λ (r : Reading). ⊥) (no_id_mapped B pair to) g fine (made_any IsIdMapping (IsOfPair pair) 0 g are.ids are.are_ids ids)))
     by_part (inr hits) =
         let pairs : Any (λ (h : Hit). IsForwardPair pair h.near h.far) are.hits = Any-weaker _ _ (λ (h : Hit) same. (same.source, same.destination)) are.hits (Any-from_map (IsOfPair pair) forward_of are.hits hits) in
-        Any-both (λ (r : Reading). Carries r pair) (IsSourceAmong A pair.source) g (Any-all IsFine _ _ (forward_carries A B pair to) g fine (hits_reach Forward g A are.hits (IsForwardPair pair) are.are_hits pairs))
+        Any-both (λ (r : Reading). Carries r pair) (IsSourceAmong A pair.source) g (Any-all IsFine _ _ (forward_carries A B pair to) g fine (hits_reach First g A are.hits (IsForwardPair pair) are.are_hits pairs))
 
 pairs_forward : (g : List Reading) (A : List Ref) (l : List Mapped) (pair : Mapped) → AreForward g A l → Any (λ (r : Reading). Carries r pair) g → IsSourceAmong A pair.source → HasPair l pair
 pairs_forward g A l pair are any from =
-    let hits : Any (λ (h : Hit). IsForwardPair pair h.near h.far) are.hits = reach_hits Forward g A are.hits (IsForwardPair pair) are.are_hits (Any-weaker _ _ (carries_forward A pair from) g any) in
+    let hits : Any (λ (h : Hit). IsForwardPair pair h.near h.far) are.hits = reach_hits First g A are.hits (IsForwardPair pair) are.are_hits (Any-weaker _ _ (carries_forward A pair from) g any) in
     let same : Any (λ (h : Hit). IsSamePair (forward_of h) pair) are.hits = Any-weaker _ _ (λ (h : Hit) both. record { source = both.0; destination = both.1 }) are.hits hits in
     subst (λ (z : List Mapped). HasPair z pair) (sym are.all)
     (HasPair-Any (are.ids ++ map forward_of are.hits) pair (Any-right _ are.ids (map forward_of are.hits) (Any-map (IsOfPair pair) forward_of are.hits same)))
@@ -252,11 +252,11 @@ backward_pairs : (g : List Reading) (B : List Ref) (l : List Mapped) (pair : Map
 backward_pairs g B l pair fine are has =
     let any = Any-HasPair (map backward_of are.hits) pair (subst (λ (z : List Mapped). HasPair z pair) are.all has) in
     let pairs : Any (λ (h : Hit). IsBackwardPair pair h.near h.far) are.hits = Any-weaker _ _ (λ (h : Hit) same. (same.source, same.destination)) are.hits (Any-from_map (IsOfPair pair) backward_of are.hits any) in
-    Any-both (λ (r : Reading). Carries r pair) (IsDestinationAmong B pair.destination) g (Any-all IsFine _ _ (backward_carries B pair) g fine (hits_reach Backward g B are.hits (IsBackwardPair pair) are.are_hits pairs))
+    Any-both (λ (r : Reading). Carries r pair) (IsDestinationAmong B pair.destination) g (Any-all IsFine _ _ (backward_carries B pair) g fine (hits_reach All g B are.hits (IsBackwardPair pair) are.are_hits pairs))
 
 pairs_backward : (g : List Reading) (B : List Ref) (l : List Mapped) (pair : Mapped) → AreBackward g B l → Any (λ (r : Reading). Carries r pair) g → IsDestinationAmong B pair.destination → HasPair l pair
 pairs_backward g B l pair are any to =
-    let hits : Any (λ (h : Hit). IsBackwardPair pair h.near h.far) are.hits = reach_hits Backward g B are.hits (IsBackwardPair pair) are.are_hits (Any-weaker _ _ (carries_backward B pair to) g any) in
+    let hits : Any (λ (h : Hit). IsBackwardPair pair h.near h.far) are.hits = reach_hits All g B are.hits (IsBackwardPair pair) are.are_hits (Any-weaker _ _ (carries_backward B pair to) g any) in
     let same : Any (λ (h : Hit). IsSamePair (backward_of h) pair) are.hits = Any-weaker _ _ (λ (h : Hit) both. record { source = both.0; destination = both.1 }) are.hits hits in
     subst (λ (z : List Mapped). HasPair z pair) (sym are.all)
     (HasPair-Any (map backward_of are.hits) pair (Any-map (IsOfPair pair) backward_of are.hits same))

@@ -4,7 +4,7 @@ use Rattle.std.specs.List as lists
 use Rattle.std.specs.List.{AllByRecursion}
 use Rattle.std.specs.Prelude.{IsSome}
 use Rattle.std.proofs.lemmas.Bool.{false≢true}
-use Rattle.gix_refspec_match.specs.declared.hits.ends.Direction.TheVariants.{Forward, Backward}
+use Rattle.gix_refspec_match.specs.declared.matcher.Candidates.TheVariants.{First, All}
 use Rattle.gix_refspec_text.specs.Specs.Reading.{Reading}
 use Rattle.gix_refspec_text.specs.Matching.Match.{Ref, Matches, Takes}
 use Rattle.gix_refspec_match.specs.Matching.Lists.{IsMadeFrom}
@@ -95,7 +95,7 @@ forward_pairs g items l pair are = (there, λ any. back pair.source refl any)
 
     by_part : Any (IsOfPair pair) are.ids ⊎ Any (IsOfPair pair) (map forward_of are.hits) → Any (MakesForward items pair.source pair.destination) g
     by_part (inl ids) = Any-weaker _ _ (id_made items pair) g (made_any IsIdMapping (IsOfPair pair) 0 g are.ids are.are_ids ids)
-    by_part (inr hits) = Any-weaker _ _ (reach_forward items pair.source pair.destination) g (hits_reach Forward g items are.hits (ForwardTo pair.source pair.destination) are.are_hits (Any-weaker _ _ of_hit are.hits (Any-from_map (IsOfPair pair) forward_of are.hits hits)))
+    by_part (inr hits) = Any-weaker _ _ (reach_forward items pair.source pair.destination) g (hits_reach First g items are.hits (ForwardTo pair.source pair.destination) are.are_hits (Any-weaker _ _ of_hit are.hits (Any-from_map (IsOfPair pair) forward_of are.hits hits)))
 
     there : HasPair l pair → Any (MakesForward items pair.source pair.destination) g
     there has = by_part (Any-cases (IsOfPair pair) are.ids (map forward_of are.hits) (Any-HasPair (are.ids ++ map forward_of are.hits) pair (subst (λ (z : List Mapped). HasPair z pair) are.all has)))
@@ -106,7 +106,7 @@ forward_pairs g items l pair are = (there, λ any. back pair.source refl any)
     back : (s : Source) → pair.source ≡ s → Any (MakesForward items pair.source pair.destination) g → HasPair l pair
     back (name n) is any =
         let made : Any (MakesForward items (name n) pair.destination) g = subst (λ (t : Source). Any (MakesForward items t pair.destination) g) is any in
-        let reached = reach_hits Forward g items are.hits (ForwardTo (name n) pair.destination) are.are_hits (Any-weaker _ _ (forward_reach items n pair.destination) g made) in
+        let reached = reach_hits First g items are.hits (ForwardTo (name n) pair.destination) are.are_hits (Any-weaker _ _ (forward_reach items n pair.destination) g made) in
         whole (Any-right _ are.ids (map forward_of are.hits) (Any-map (IsOfPair pair) forward_of are.hits (Any-weaker _ _ (λ h both. to_hit h (both.0 ∙ sym is, both.1)) are.hits reached)))
     back (id bytes) is any =
         let made : Any (PairsId bytes pair.destination) g = subst (λ (t : Source). Any (MakesForward items t pair.destination) g) is any in
@@ -119,11 +119,11 @@ backward_pairs g items l pair are = (there, λ any. back pair.source pair.destin
     there has =
         let any = Any-HasPair (map backward_of are.hits) pair (subst (λ (z : List Mapped). HasPair z pair) are.all has) in
         let hits : Any (λ (h : Hit). BackwardTo pair.source pair.destination h.near h.far) are.hits = Any-weaker _ _ (λ (h : Hit) same. (same.source, same.destination)) are.hits (Any-from_map (IsOfPair pair) backward_of are.hits any) in
-        Any-weaker _ _ (reach_backward items pair.source pair.destination) g (hits_reach Backward g items are.hits (BackwardTo pair.source pair.destination) are.are_hits hits)
+        Any-weaker _ _ (reach_backward items pair.source pair.destination) g (hits_reach All g items are.hits (BackwardTo pair.source pair.destination) are.are_hits hits)
 
     made_from : (n m : List ℕ) → pair.source ≡ name n → pair.destination ≡ Some m → Any (MakesBackward items (name n) (Some m)) g → HasPair l pair
     made_from n m from to any =
-        let reached = reach_hits Backward g items are.hits (BackwardTo (name n) (Some m)) are.are_hits (Any-weaker _ _ (backward_reach items n m) g any) in
+        let reached = reach_hits All g items are.hits (BackwardTo (name n) (Some m)) are.are_hits (Any-weaker _ _ (backward_reach items n m) g any) in
         subst (λ (z : List Mapped). HasPair z pair) (sym are.all)
         (HasPair-Any (map backward_of are.hits) pair (Any-map (IsOfPair pair) backward_of are.hits (Any-weaker _ _ (λ (h : Hit) both. record { source = both.0 ∙ sym from; destination = both.1 ∙ sym to }) are.hits reached)))
 

@@ -2,15 +2,15 @@
 use Rattle.std.proofs.Common.{◌≡◌, inl, inr, ℕ, ◌+◌, ◌<◌, List, [], ◌∷◌, ◌++◌, Option, None, Some, length, length-append, map, refl, sym, ap, ◌∙◌, subst, arith}
 use Rattle.std.specs.List.{AllByRecursion, slice_get}
 use Rattle.std.proofs.lemmas.List.{append_assoc}
-use Rattle.gix_refspec_match.specs.declared.hits.ends.Direction.{Direction}
-use Rattle.gix_refspec_match.specs.declared.hits.ends.Direction.TheVariants.{Forward, Backward}
+use Rattle.gix_refspec_match.specs.declared.matcher.Candidates.{Candidates}
+use Rattle.gix_refspec_match.specs.declared.matcher.Candidates.TheVariants.{First, All}
 use Rattle.gix_refspec_text.specs.Specs.Reading.{Reading}
 use Rattle.gix_refspec_text.specs.Matching.Match.{Ref}
 use Rattle.gix_refspec_match.specs.Matching.Lists.{IsMadeFrom}
 use Rattle.gix_refspec_match.specs.Matching.Mappings.{name, Mapped, IsKeptAt}
 use Rattle.gix_refspec_match.specs.Matching.Hits.{Ends, AreSpecHits, AreHits, Hit, IsHit, IsIdMapping, AreForward, AreBackward, forward_of, backward_of}
 use Rattle.gix_refspec.specs.Matching.Validation.{BackwardIndexes, ForwardIndexes, ItemIndexesFit, Survives}
-use Rattle.gix_refspec_match.specs.Private.HitViews.{HasEnds, TakesIn}
+use Rattle.gix_refspec_match.specs.Private.Matchers.{HasEnds, TakesIn}
 use Rattle.gix_refspec.proofs.lemmas.validate.AfterLemmas.{joined_each, made_each, stays_each}
 use Rattle.gix_refspec_text.proofs.lemmas.lists.AllLemmas.{all_join}
 
@@ -42,12 +42,12 @@ hits_of_items Taken ends k n items before (x ∷ xs) j hits below whole index (S
       hits_of_items Taken ends k n items (before ++ x ∷ []) xs (j + 1) rest below (append_assoc before (x ∷ []) xs ∙ whole) (omega (arith, length-append before (x ∷ []), index)) more,
     )
 
-hits_of_spec : (direction : Direction) (items : List Ref) (k n : ℕ) (r : Reading) (hits : List Hit) → k < n → AreSpecHits (HasEnds direction) (TakesIn direction items) items k r hits → AllByRecursion (IsPlacedHit n items) hits
-hits_of_spec direction items k n r hits below (inl (ends, has, made)) = hits_of_items (TakesIn direction items) ends k n items [] items 0 hits below refl refl made
-hits_of_spec direction items k n r hits below (inr (none, empty)) = subst (AllByRecursion (IsPlacedHit n items)) (sym empty) tt
+hits_of_spec : (which : Candidates) (items : List Ref) (k n : ℕ) (r : Reading) (hits : List Hit) → k < n → AreSpecHits (HasEnds which) (TakesIn which items) items k r hits → AllByRecursion (IsPlacedHit n items) hits
+hits_of_spec which items k n r hits below (inl (ends, has, made)) = hits_of_items (TakesIn which items) ends k n items [] items 0 hits below refl refl made
+hits_of_spec which items k n r hits below (inr (none, empty)) = subst (AllByRecursion (IsPlacedHit n items)) (sym empty) tt
 
-placed_hits : (direction : Direction) (g : List Reading) (items : List Ref) (hits : List Hit) → AreHits (HasEnds direction) (TakesIn direction items) g items hits → AllByRecursion (IsPlacedHit (length g) items) hits
-placed_hits direction g items hits are = joined_each (AreSpecHits (HasEnds direction) (TakesIn direction items) items) (IsPlacedHit (length g) items) (length g) (λ k r hs below of_spec. hits_of_spec direction items k (length g) r hs below of_spec) 0 g hits (omega arith) are
+placed_hits : (which : Candidates) (g : List Reading) (items : List Ref) (hits : List Hit) → AreHits (HasEnds which) (TakesIn which items) g items hits → AllByRecursion (IsPlacedHit (length g) items) hits
+placed_hits which g items hits are = joined_each (AreSpecHits (HasEnds which) (TakesIn which items) items) (IsPlacedHit (length g) items) (length g) (λ k r hs below of_spec. hits_of_spec which items k (length g) r hs below of_spec) 0 g hits (omega arith) are
 
 pub map_each : {A B : Type 0} (P : A → Type 0) (Q : B → Type 0) (f : A → B) → ((x : A) → P x → Q (f x)) → (xs : List A) → AllByRecursion P xs → AllByRecursion Q (map f xs)
 map_each P Q f of [] all = tt
@@ -81,10 +81,10 @@ forward_indexes g items l are =
     subst (AllByRecursion (ForwardIndexes g items)) (sym are.all)
     (all_join (ForwardIndexes g items) are.ids (map forward_of are.hits)
     (made_each IsIdMapping (ForwardIndexes g items) (length g) (id_indexes g items) 0 g are.ids (omega arith) are.are_ids)
-    (map_each _ _ forward_of (forward_hit g items) are.hits (placed_hits Forward g items are.hits are.are_hits)))
+    (map_each _ _ forward_of (forward_hit g items) are.hits (placed_hits First g items are.hits are.are_hits)))
 
 backward_indexes : (g : List Reading) (items : List Ref) (l : List Mapped) → AreBackward g items l → AllByRecursion (BackwardIndexes g items) l
-backward_indexes g items l are = subst (AllByRecursion (BackwardIndexes g items)) (sym are.all) (map_each _ _ backward_of (backward_hit g items) are.hits (placed_hits Backward g items are.hits are.are_hits))
+backward_indexes g items l are = subst (AllByRecursion (BackwardIndexes g items)) (sym are.all) (map_each _ _ backward_of (backward_hit g items) are.hits (placed_hits All g items are.hits are.are_hits))
 
 pub item_indexes_fit : (g : List Reading) (items : List Ref) → ItemIndexesFit g items
 item_indexes_fit g items = record {

@@ -8,7 +8,7 @@ use Rattle.gix_refspec_text.specs.Specs.Reading.{Reading}
 use Rattle.gix_refspec_text.specs.Specs.Grammar.{IsPositive}
 use Rattle.gix_refspec_text.specs.Views.Spec.{reading_of}
 use Rattle.gix_refspec_match.specs.Private.Kept.{IsFlagged, Rises, places_in}
-use Rattle.gix_refspec_match.specs.Private.EqualSpecs.{ArePositiveKeys, FlagsEqual, IsEqualAt, IsPositiveKey}
+use Rattle.gix_refspec_match.specs.Private.Matchers.{ArePositiveKeys, FlagsEqual, IsEqualAt, IsPositiveKey}
 use Rattle.gix_refspec_match.proofs.lemmas.keep.KeyLemmas.{lower_rest, places_more}
 use Rattle.gix_refspec_match.proofs.lemmas.keep.RepeatLemmas.{rises_at}
 use Rattle.gix_refspec_text.proofs.lemmas.lists.AllLemmas.{all_join}

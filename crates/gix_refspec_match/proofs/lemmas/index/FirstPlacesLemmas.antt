@@ -2,8 +2,8 @@
 use Rattle.std.proofs.Common.{◌≡◌, ◌⊎◌, inl, inr, ℕ, zero, suc, ◌+◌, ◌<◌, ◌≤◌, List, [], ◌∷◌, ◌++◌, Option, None, Some, length, option_map, unwrap_or, refl, sym, ap, ◌∙◌, subst, arith}
 use Rattle.std.specs.List.{AllByRecursion, Contains, slice_get}
 use Rattle.std.proofs.lemmas.List.{append-nil}
-use Rattle.gix_refspec_match.specs.declared.hits.ends.Direction.{Direction}
-use Rattle.gix_refspec_match.specs.declared.hits.ends.Direction.TheVariants.{Forward, Backward}
+use Rattle.gix_refspec_match.specs.declared.matcher.Candidates.{Candidates}
+use Rattle.gix_refspec_match.specs.declared.matcher.Candidates.TheVariants.{First, All}
 use Rattle.gix_refspec_text.specs.Matching.Side.{partial, IsCandidate, candidates}
 use Rattle.gix_refspec_text.specs.Matching.Match.{Ref, MatchesAs, HasName, IsFirstCandidate}
 use Rattle.gix_refspec_match.specs.Matching.Lists.{IsMadeFrom}
@@ -213,19 +213,19 @@ first_joins x i refs r rest (p ∷ ps) qs long one are joins =
     (subst (λ (n : List ℕ). (length n < length (name_at all i) × (qs ≡ p ∷ ps)) ⊎ (length (name_at all i) < length n × (qs ≡ i ∷ [])) ⊎ ((length (name_at all i) ≡ length n) × (qs ≡ (p ∷ ps) ++ i ∷ []))) name joins))
 
 -- one more candidate joins those that are taken
-pub taken_joins : (direction : Direction) (x : List ℕ) (i : ℕ) (refs : List Ref) (r : Ref) (rest : List Ref) (ps qs : List ℕ) → length refs ≡ i → IsCandidate x r.name → ArePlacesTaken (partial x) direction refs ps → Joins direction (refs ++ (r ∷ rest)) i ps qs → ArePlacesTaken (partial x) direction (refs ++ r ∷ []) qs
-taken_joins Forward x i refs r rest ps qs long one are joins = first_joins x i refs r rest ps qs long one are joins
-taken_joins Backward x i refs r rest ps qs long one are joins =
-    subst (ArePlacesTaken (partial x) Backward (refs ++ r ∷ [])) (sym joins)
+pub taken_joins : (which : Candidates) (x : List ℕ) (i : ℕ) (refs : List Ref) (r : Ref) (rest : List Ref) (ps qs : List ℕ) → length refs ≡ i → IsCandidate x r.name → ArePlacesTaken (partial x) which refs ps → Joins which (refs ++ (r ∷ rest)) i ps qs → ArePlacesTaken (partial x) which (refs ++ r ∷ []) qs
+taken_joins First x i refs r rest ps qs long one are joins = first_joins x i refs r rest ps qs long one are joins
+taken_joins All x i refs r rest ps qs long one are joins =
+    subst (ArePlacesTaken (partial x) All (refs ++ r ∷ [])) (sym joins)
     (made_next (λ k s place. MatchesAs (partial x) s None × (place ≡ k)) i refs r ps (Some i) long are ((refl, one), refl))
 
 -- another ref doesn't
-pub taken_stays : (direction : Direction) (x : List ℕ) (i : ℕ) (refs : List Ref) (r : Ref) (ps : List ℕ) → length refs ≡ i → ¬ (IsCandidate x r.name) → ArePlacesTaken (partial x) direction refs ps → ArePlacesTaken (partial x) direction (refs ++ r ∷ []) ps
-taken_stays Forward x i refs r ps long other are =
+pub taken_stays : (which : Candidates) (x : List ℕ) (i : ℕ) (refs : List Ref) (r : Ref) (ps : List ℕ) → length refs ≡ i → ¬ (IsCandidate x r.name) → ArePlacesTaken (partial x) which refs ps → ArePlacesTaken (partial x) which (refs ++ r ∷ []) ps
+taken_stays First x i refs r ps long other are =
     let more = refs ++ r ∷ [] in
     named_same (IsFirstCandidate more x) i refs r ps long
     (named_alike (IsFirstCandidate refs x) (IsFirstCandidate more x) (λ n first. stays_first refs r x n (λ one. absurd (other one)) first) (λ n first. was_first refs r x n other first) 0 refs ps are)
     (λ first. other (first_candidate more x r.name first))
-taken_stays Backward x i refs r ps long other are =
-    subst (ArePlacesTaken (partial x) Backward (refs ++ r ∷ [])) (append-nil ps)
+taken_stays All x i refs r ps long other are =
+    subst (ArePlacesTaken (partial x) All (refs ++ r ∷ [])) (append-nil ps)
     (made_next (λ k s place. MatchesAs (partial x) s None × (place ≡ k)) i refs r ps None long are (λ place both. other both.0.1))

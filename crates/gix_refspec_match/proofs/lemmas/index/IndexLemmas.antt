@@ -1,29 +1,21 @@
 -- Where names are among refs.
 use Rattle.std.proofs.Common.{◌≡◌, ◌≢◌, ◌⊎◌, inl, inr, ℕ, ◌+◌, ◌<◌, List, [], ◌∷◌, ◌++◌, Option, None, Some, Bool, true, false, cond, length, map, take, get_or, refl, sym, ap, ◌∙◌, subst, arith}
 use Rattle.std.specs.Global.{Vec}
-use Rattle.std.specs.List.{Contains}
+use Rattle.std.specs.List.{AllByRecursion, Contains}
 use Rattle.std.specs.Str.{bytes_eq}
 use Rattle.std.proofs.lemmas.Bool.{false≢true}
-use Rattle.std.proofs.lemmas.List.{append-nil, map_more}
+use Rattle.std.proofs.lemmas.List.{append-nil, map_more, take_more}
 use Rattle.std.proofs.lemmas.List.Elements.{Contains-append_left, Contains-push, Contains-push_cases}
 use Rattle.std.proofs.lemmas.Slice.Eq.{bytes_eq-Decides}
 use Rattle.bstr.specs.BStr.{bstr_bytes}
 use Rattle.gix_refspec_match.specs.declared.types.Item.{Item}
-use Rattle.gix_refspec_match.specs.declared.hits.ends.Direction.{Direction}
+use Rattle.gix_refspec_match.specs.declared.matcher.Matcher.{Matcher}
 use Rattle.gix_refspec_match.specs.declared.hits.index.Names.{Names}
-use Rattle.gix_refspec_text.specs.declared.side.SideKind.{SideKind as DeclaredKind}
-use Rattle.gix_refspec_text.specs.declared.spec.RefSpecRef.{RefSpecRef}
-use Rattle.gix_refspec_text.specs.Specs.Reading.{Reading}
-use Rattle.gix_refspec_text.specs.Views.Spec.{reading_of}
 use Rattle.gix_refspec_match.specs.Views.Mapping.{name_bytes, ref_of}
 use Rattle.gix_refspec_text.specs.Matching.Match.{Ref, MatchesAs}
-use Rattle.gix_refspec_text.specs.Matching.Side.{SideKind, pattern, full_name, object, partial, HasKind}
-use Rattle.gix_refspec_match.specs.Matching.Hits.{Ends}
+use Rattle.gix_refspec_text.specs.Matching.Side.{SideKind, pattern, full_name, object, partial}
 use Rattle.gix_refspec_text.specs.Private.SideViews.{kind_of_side}
-use Rattle.gix_refspec_match.specs.Private.HitViews.{HasEnds}
-use Rattle.gix_refspec_match.specs.Private.Index.{AllNear, ArePlacesOf, HavePlaces, HasNamesOf, asks_by_id, full_names_of, partial_names_of}
-use Rattle.gix_refspec_match.specs.Private.Part.{HasNoNearId, IsNoNearId}
-use Rattle.gix_refspec_match.proofs.lemmas.hits.HitLemmas.{one_kind, one_pair}
+use Rattle.gix_refspec_match.specs.Private.Index.{ArePlacesOf, HavePlaces, HasNamesOf, full_names_of, partial_names_of}
 use Rattle.gix_refspec_match.proofs.lemmas.lists.JoinLemmas.{made_next, map_long}
 use Rattle.gix_refspec_text.proofs.lemmas.lists.AllLemmas.{all_join, all_weaker}
 
@@ -117,54 +109,29 @@ nothing_asked ns refs listed none have = record {
   others = have.others;
 }
 
--- P holds of the kind of each near end of a reading in the direction
-abbrev IsNear : (SideKind → Type 0) → Direction → Reading → Type 0
-IsNear P direction r = (ends : Ends) (kind : SideKind) → HasEnds direction r ends → HasKind ends.near kind → P kind
-
-specs_more : (P : SideKind → Type 0) (direction : Direction) (specs : List RefSpecRef) (i : ℕ) (s : RefSpecRef) → i < length specs → s ≡ get_or specs i s → AllNear P direction (map reading_of (take i specs)) → IsNear P direction (reading_of s) → AllNear P direction (map reading_of (take (i + 1) specs))
-specs_more P direction specs i s below is all one =
-    subst (λ (l : List Reading). AllNear P direction l) (sym (map_more reading_of specs i s below ∙ ap (λ (t : RefSpecRef). map reading_of (take i specs) ++ reading_of t ∷ []) (sym is)))
-    (all_join (IsNear P direction) (map reading_of (take i specs)) (reading_of s ∷ []) all (one, tt))
-
--- after the old names are those that a side of the kind asks for
+-- after the old names are those that a needle of the kind looks for
 pub record AddsNames (kind : SideKind) (old new : Names) : Type 0 where
   pub full : map name_bytes new.full.items ≡ map name_bytes old.full.items ++ full_names_of kind
   pub partial : map name_bytes new.partial.items ≡ map name_bytes old.partial.items ++ partial_names_of kind
-  pub by_id : new.by_id ≡ cond (asks_by_id kind) true old.by_id
 
 -- what was named still is
 still_named : (added : SideKind) (old new : Names) → AddsNames added old new → (kind : SideKind) → HasNamesOf old kind → HasNamesOf new kind
 still_named added old new adds (pattern before after) named = tt
 still_named added old new adds (full_name x) named = subst (λ (l : List (List ℕ)). Contains l x) (sym adds.full) (Contains-append_left (map name_bytes old.full.items) (full_names_of added) x named)
-still_named added old new adds (object id) named = adds.by_id ∙ still (asks_by_id added)
-  where
-    still : (b : Bool) → cond b true old.by_id ≡ true
-    still true = refl
-    still false = named
+still_named added old new adds (object id) named = tt
 still_named added old new adds (partial x) named = subst (λ (l : List (List ℕ)). Contains l x) (sym adds.partial) (Contains-append_left (map name_bytes old.partial.items) (partial_names_of added) x named)
 
 now_named : (kind : SideKind) (old new : Names) → AddsNames kind old new → HasNamesOf new kind
 now_named (pattern before after) old new adds = tt
 now_named (full_name x) old new adds = subst (λ (l : List (List ℕ)). Contains l x) (sym adds.full) (Contains-push (map name_bytes old.full.items) x)
-now_named (object id) old new adds = adds.by_id
+now_named (object id) old new adds = tt
 now_named (partial x) old new adds = subst (λ (l : List (List ℕ)). Contains l x) (sym adds.partial) (Contains-push (map name_bytes old.partial.items) x)
 
--- one more spec, and the name that it asks for
-pub spec_asks : (direction : Direction) (specs : List RefSpecRef) (i : ℕ) (s : RefSpecRef) (near : DeclaredKind) (old new : Names) → i < length specs → s ≡ get_or specs i s → (ends : Ends) × HasEnds direction (reading_of s) ends × HasKind ends.near (kind_of_side near) → AddsNames (kind_of_side near) old new → AllNear (HasNamesOf old) direction (map reading_of (take i specs)) → AllNear (HasNamesOf new) direction (map reading_of (take (i + 1) specs))
-spec_asks direction specs i s near old new below is found adds all =
-    let k = kind_of_side near in
-    specs_more (HasNamesOf new) direction specs i s below is
-    (all_weaker (IsNear (HasNamesOf old) direction) (IsNear (HasNamesOf new) direction) (λ r each ends kind has of. still_named k old new adds kind (each ends kind has of)) (map reading_of (take i specs)) all)
-    (λ ends kind has of.
-    let same : ends ≡ found.0 = one_pair direction (reading_of s) ends found.0 has found.1 in
-    let one : kind ≡ k = one_kind found.0.near kind k (subst (λ (e : Ends). HasKind e.near kind) same of) found.2 in
-    subst (HasNamesOf new) (sym one) (now_named k old new adds))
-
--- one more spec, which asks for nothing
-pub spec_asks_nothing : (direction : Direction) (specs : List RefSpecRef) (i : ℕ) (s : RefSpecRef) (names : Names) → i < length specs → s ≡ get_or specs i s → ((ends : Ends) → ¬ (HasEnds direction (reading_of s) ends)) → AllNear (HasNamesOf names) direction (map reading_of (take i specs)) → AllNear (HasNamesOf names) direction (map reading_of (take (i + 1) specs))
-spec_asks_nothing direction specs i s names below is none all = specs_more (HasNamesOf names) direction specs i s below is all (λ ends kind has of. absurd (none ends has))
-
--- where no id is asked for, no near end is one
-pub no_ids : (direction : Direction) (g : List Reading) (names : Names) → names.by_id ≡ false → AllNear (HasNamesOf names) direction g → HasNoNearId direction g
-no_ids direction g names none all =
-    all_weaker (IsNear (HasNamesOf names) direction) (IsNoNearId direction) (λ r each ends has id of. false≢true (sym none ∙ each ends (object id) has of)) g all
+-- the names of the matchers up to an index, with those of the one there
+pub names_grow : (ms : List Matcher) (i : ℕ) (d : Matcher) (old new : Names) → i < length ms → AddsNames (kind_of_side (get_or ms i d).needle) old new → AllByRecursion (λ n. HasNamesOf old (kind_of_side n.needle)) (take i ms) → AllByRecursion (λ n. HasNamesOf new (kind_of_side n.needle)) (take (i + 1) ms)
+names_grow ms i d old new below adds all =
+    let m = get_or ms i d in
+    subst (AllByRecursion (λ (n : Matcher). HasNamesOf new (kind_of_side n.needle))) (sym (take_more ms i d below))
+    (all_join (λ (n : Matcher). HasNamesOf new (kind_of_side n.needle)) (take i ms) (m ∷ [])
+    (all_weaker (λ (n : Matcher). HasNamesOf old (kind_of_side n.needle)) (λ (n : Matcher). HasNamesOf new (kind_of_side n.needle)) (λ n named. still_named (kind_of_side m.needle) old new adds (kind_of_side n.needle) named) (take i ms) all)
+    (now_named (kind_of_side m.needle) old new adds, tt))

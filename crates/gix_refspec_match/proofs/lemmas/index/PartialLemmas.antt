@@ -6,13 +6,13 @@ use Rattle.std.specs.List.{Contains}
 use Rattle.std.proofs.lemmas.List.{append_cancel_left, length-append, map_more}
 use Rattle.bstr.specs.BStr.{bstr_bytes}
 use Rattle.gix_refspec_match.specs.declared.types.Item.{Item}
-use Rattle.gix_refspec_match.specs.declared.hits.ends.Direction.{Direction}
-use Rattle.gix_refspec_match.specs.declared.hits.ends.Direction.TheVariants.{Forward, Backward}
+use Rattle.gix_refspec_match.specs.declared.matcher.Candidates.{Candidates}
+use Rattle.gix_refspec_match.specs.declared.matcher.Candidates.TheVariants.{First, All}
 use Rattle.gix_refspec_text.specs.Texts.Words.{BeginsWith}
 use Rattle.gix_refspec_text.specs.Matching.Side.{partial, IsCandidate, Fits}
 use Rattle.gix_refspec_text.specs.Matching.Match.{Ref}
 use Rattle.gix_refspec_match.specs.Views.Mapping.{ref_of}
-use Rattle.gix_refspec_match.specs.Private.HitViews.{IsFolder}
+use Rattle.gix_refspec_match.specs.Private.Needles.{IsFolder}
 use Rattle.gix_refspec_match.specs.Private.Index.{AddsWhere, ArePlacesTaken, HavePlaces, IsBelowPlace, Joins, ListPartials}
 use Rattle.gix_refspec_match.proofs.lemmas.index.FirstPlacesLemmas.{taken_joins, taken_stays}
 use Rattle.gix_refspec_match.proofs.lemmas.hits.HitLemmas.{candidate_cases, placed_candidate, remote_candidate}
@@ -212,28 +212,28 @@ pub no_head : (n below x : List ℕ) → n ≡ codes "refs/" ++ below → ((y : 
 no_head n below x is none fits = none x (head_down n below x is fits)
 
 -- before any item
-pub partials_started : (direction : Direction) (names : List (List ℕ)) (listed : List ℕ → Option (Vec ℕ)) → HavePlaces names [] listed → ListPartials direction names [] listed
-partials_started direction names listed have x there = let at = have.each x there in (at.0, at.1, nothing direction x at.0.items at.2)
+pub partials_started : (which : Candidates) (names : List (List ℕ)) (listed : List ℕ → Option (Vec ℕ)) → HavePlaces names [] listed → ListPartials which names [] listed
+partials_started which names listed have x there = let at = have.each x there in (at.0, at.1, nothing which x at.0.items at.2)
   where
-    nothing : (direction : Direction) (x : List ℕ) (ps : List ℕ) → ps ≡ [] → ArePlacesTaken (partial x) direction [] ps
-    nothing Forward x ps none = none
-    nothing Backward x ps none = none
+    nothing : (which : Candidates) (x : List ℕ) (ps : List ℕ) → ps ≡ [] → ArePlacesTaken (partial x) which [] ps
+    nothing First x ps none = none
+    nothing All x ps none = none
 
 -- and where there is no name to list
-pub no_partials : (direction : Direction) (names : List (List ℕ)) (refs : List Ref) (listed : List ℕ → Option (Vec ℕ)) → names ≡ [] → ListPartials direction names refs listed
-no_partials direction names refs listed none x there = let (k, inside, is) = subst (λ (l : List (List ℕ)). Contains l x) none there in absurd (omega (arith, inside))
+pub no_partials : (which : Candidates) (names : List (List ℕ)) (refs : List Ref) (listed : List ℕ → Option (Vec ℕ)) → names ≡ [] → ListPartials which names refs listed
+no_partials which names refs listed none x there = let (k, inside, is) = subst (λ (l : List (List ℕ)). Contains l x) none there in absurd (omega (arith, inside))
 
 -- one more item
-pub partials_more : (direction : Direction) (names : List (List ℕ)) (items : List Item) (i : ℕ) (d : Item) (n : List ℕ) (Known : List ℕ → Type 0) (old new : List ℕ → Option (Vec ℕ)) → i < length items → n ≡ bstr_bytes (get_or items i d).full_ref_name → ((x : List ℕ) → Contains names x → Known x)
-    → AddsWhere Known (λ x. IsCandidate x n) (Joins direction (map ref_of items) i) old new → ListPartials direction names (map ref_of (take i items)) old → ListPartials direction names (map ref_of (take (i + 1) items)) new
-partials_more direction names items i d n Known old new below is known adds listed x there =
+pub partials_more : (which : Candidates) (names : List (List ℕ)) (items : List Item) (i : ℕ) (d : Item) (n : List ℕ) (Known : List ℕ → Type 0) (old new : List ℕ → Option (Vec ℕ)) → i < length items → n ≡ bstr_bytes (get_or items i d).full_ref_name → ((x : List ℕ) → Contains names x → Known x)
+    → AddsWhere Known (λ x. IsCandidate x n) (Joins which (map ref_of items) i) old new → ListPartials which names (map ref_of (take i items)) old → ListPartials which names (map ref_of (take (i + 1) items)) new
+partials_more which names items i d n Known old new below is known adds listed x there =
     let refs = map ref_of (take i items) in
     let r : Ref = ref_of (get_or items i d) in
     let rest = map ref_of (drop (suc i) items) in
     let (w, was, taken) = listed x there in
     let (v, now, told) = adds x w (known x there) was in
-    let all : ArePlacesTaken (partial x) direction (refs ++ r ∷ []) v.items = elim told [
-      | inl here ↦ taken_joins direction x i refs r rest w.items v.items (map_long ref_of items i below) (subst (IsCandidate x) is here.0) taken (subst (λ (l : List Ref). Joins direction l i w.items v.items) (map_split ref_of items i d below) here.1)
-      | inr other ↦ subst (ArePlacesTaken (partial x) direction (refs ++ r ∷ [])) (sym other.1) (taken_stays direction x i refs r w.items (map_long ref_of items i below) (λ one. other.0 (subst (IsCandidate x) (sym is) one)) taken)
+    let all : ArePlacesTaken (partial x) which (refs ++ r ∷ []) v.items = elim told [
+      | inl here ↦ taken_joins which x i refs r rest w.items v.items (map_long ref_of items i below) (subst (IsCandidate x) is here.0) taken (subst (λ (l : List Ref). Joins which l i w.items v.items) (map_split ref_of items i d below) here.1)
+      | inr other ↦ subst (ArePlacesTaken (partial x) which (refs ++ r ∷ [])) (sym other.1) (taken_stays which x i refs r w.items (map_long ref_of items i below) (λ one. other.0 (subst (IsCandidate x) (sym is) one)) taken)
     ] in
-    (v, now, subst (λ (l : List Ref). ArePlacesTaken (partial x) direction l v.items) (sym (map_more ref_of items i d below)) all)
+    (v, now, subst (λ (l : List Ref). ArePlacesTaken (partial x) which l v.items) (sym (map_more ref_of items i d below)) all)

@@ -1,113 +1,199 @@
--- Hits at places that were looked up.
-use Rattle.std.proofs.Common.{◌≡◌, ℕ, zero, suc, ◌+◌, ◌<◌, List, [], ◌∷◌, ◌++◌, map, get_or, length, Option, None, Some, option_map, option_to_list, unwrap_or, refl, sym, ap, ◌∙◌, subst, arith}
+-- Which items needles take of those that the index lists.
+use Rattle.std.proofs.Common.{◌≡◌, ℕ, zero, suc, ◌+◌, ◌<◌, List, [], ◌∷◌, ◌++◌, map, take, get_or, length, Option, None, Some, option_map, option_to_list, unwrap_or, Bool, true, MatchBool, refl, sym, ap, ◌∙◌, subst, append_assoc, arith}
+use Rattle.std.proofs.lemmas.List.{append-nil, get_or-map, length-take-le, map_more, take_more}
+use Rattle.gix_refspec_match.specs.declared.types.Item.{Item}
+use Rattle.gix_refspec_match.specs.Views.Mapping.{ref_of}
 use Rattle.std.specs.Global.{Vec}
 use Rattle.std.specs.List.{AllByRecursion}
-use Rattle.std.proofs.lemmas.List.{get_or-map, length-map}
-use Rattle.std.proofs.lemmas.List.Elements.{All-from_recursion}
-use Rattle.gix_refspec_match.specs.declared.types.Item.{Item}
-use Rattle.gix_refspec_match.specs.declared.hits.ends.Direction.{Direction}
-use Rattle.gix_refspec_match.specs.declared.hits.ends.Direction.TheVariants.{Forward, Backward}
-use Rattle.gix_refspec_match.specs.declared.hits.ends.Ends.{Ends as DeclaredEnds}
-use Rattle.gix_refspec_match.specs.declared.hits.Made.{Made}
-use Rattle.gix_refspec_match.specs.declared.hits.index.NameIndex.{NameIndex}
+use Rattle.gix_refspec_match.specs.declared.hits.Hit.{Hit as DeclaredHit}
+use Rattle.gix_refspec_match.specs.declared.hits.index.Index.{Index}
 use Rattle.gix_refspec_match.specs.declared.hits.index.Names.{Names}
-use Rattle.gix_refspec_text.specs.declared.spec.RefSpecRef.{RefSpecRef}
-use Rattle.gix_refspec_text.specs.Specs.Reading.{Reading}
-use Rattle.gix_refspec_text.specs.Views.Spec.{reading_of}
-use Rattle.gix_refspec_text.specs.Matching.Side.{HasKind, SideKind, pattern, full_name, object, partial}
+use Rattle.gix_refspec_match.specs.declared.matcher.Candidates.{Candidates}
+use Rattle.gix_refspec_match.specs.declared.matcher.Candidates.TheVariants.{First, All}
+use Rattle.gix_refspec_match.specs.declared.matcher.Matcher.{Matcher}
+use Rattle.gix_refspec_text.specs.Texts.Words.{BeginsWith}
+use Rattle.gix_refspec_text.specs.Matching.Side.{SideKind, pattern, full_name, object, partial}
 use Rattle.gix_refspec_text.specs.Matching.Match.{Ref, MatchesAs}
-use Rattle.gix_refspec_match.specs.Matching.Lists.{MakesOf, IsMadeFrom}
-use Rattle.gix_refspec_match.specs.Views.Mapping.{ref_of}
-use Rattle.gix_refspec_match.specs.Matching.Hits.{Ends, Hit, IsHit}
 use Rattle.gix_refspec_text.specs.Private.SideViews.{kind_of_side}
-use Rattle.gix_refspec_match.specs.Private.HitViews.{HasEnds, HaveKinds, TakesIn, IsFirstIn, filled_end, AreHitsOfKinds, mapping_of, mapped_of_made, AddsHits}
-use Rattle.gix_refspec_match.specs.Private.Index.{AllNear, ArePlacesTaken, IsIndexFor, IsIndexOf, IsIndexOfSide, IsListed, HasNamesOf, MatchesWhole, TakesWhole}
+use Rattle.gix_refspec_match.specs.Matching.Lists.{MakesOf, IsJoinedFrom, IsMadeFrom}
+use Rattle.gix_refspec_match.specs.Private.Hits.{AddsFound, AreFound, IsFound, hit_at}
+use Rattle.gix_refspec_match.specs.Private.Index.{ArePlacesTaken, IsIndexFor, IsIndexOf, IsListed, HasNamesOf, ListsFor, TakesWhole}
+use Rattle.gix_refspec_match.specs.Private.Needles.{IsMatched, IsTaken, TakesEach}
 use Rattle.gix_refspec_text.proofs.lemmas.hits.CandidateLemmas.{first_candidate}
-use Rattle.gix_refspec_match.proofs.lemmas.hits.HitLemmas.{is_hit, matches_as, taken_first, taken_matches}
-use Rattle.gix_refspec_text.proofs.lemmas.lists.AllLemmas.{all_weaker}
+use Rattle.gix_refspec_match.proofs.lemmas.hits.FoundLemmas.{blank}
+use Rattle.gix_refspec_match.proofs.lemmas.lists.JoinLemmas.{joined_next, made_next, map_long}
 
--- what a read past the end gives
-abbrev pub blank : Ref
-blank = record { name = []; target = []; object = None }
-
--- the hit of an item at a place
-abbrev hit_at : ℕ → Option (List ℕ) → List Ref → ℕ → Hit
-hit_at k far items place = record { spec = k; item = place; near = (get_or items place blank).name; far = far }
+-- ---- what is taken without a word
 
 -- what matches and is first, where one alone is taken, is taken
-taken_whole : (kind : SideKind) (direction : Direction) (items : List Ref) (r : Ref) (word : Option (List ℕ)) → MatchesWhole kind → MatchesAs kind r word → IsFirstIn kind direction items r.name → TakesWhole kind direction items r
-taken_whole (pattern before after) direction items r word whole is first = absurd whole
-taken_whole (full_name n) direction items r word whole is first = (refl, is.1)
-taken_whole (object id) direction items r word whole is first = (refl, is.1)
-taken_whole (partial n) Forward items r word whole is first = first
-taken_whole (partial n) Backward items r word whole is first = (refl, is.1)
+taken_whole : (x : List ℕ) (which : Candidates) (items : List Ref) (r : Ref) → IsTaken which items (partial x) r → TakesWhole (partial x) which items r
+taken_whole x First items r taken = taken.first
+taken_whole x All items r taken = (refl, taken.matched.1.1)
 
-whole_matches : (kind : SideKind) (direction : Direction) (items : List Ref) (r : Ref) → TakesWhole kind direction items r → MatchesAs kind r None
-whole_matches (pattern before after) direction items r taken = absurd taken
-whole_matches (full_name n) direction items r taken = taken
-whole_matches (object id) direction items r taken = taken
-whole_matches (partial n) Forward items r taken = (refl, first_candidate items n r.name taken)
-whole_matches (partial n) Backward items r taken = taken
+whole_taken : (x : List ℕ) (which : Candidates) (items : List Ref) (r : Ref) → TakesWhole (partial x) which items r → IsTaken which items (partial x) r
+whole_taken x First items r first = record { matched = (None, (refl, first_candidate items x r.name first)); first = first }
+whole_taken x All items r matches = record { matched = (None, matches); first = tt }
 
-whole_first : (kind : SideKind) (direction : Direction) (items : List Ref) (r : Ref) → TakesWhole kind direction items r → IsFirstIn kind direction items r.name
-whole_first (pattern before after) direction items r taken = tt
-whole_first (full_name n) direction items r taken = tt
-whole_first (object id) direction items r taken = tt
-whole_first (partial n) Forward items r taken = taken
-whole_first (partial n) Backward items r taken = tt
+-- a needle of another kind takes what it matches
+each_taken : (kind : SideKind) (which : Candidates) (items : List Ref) (r : Ref) → TakesEach kind → IsMatched kind r → IsTaken which items kind r
+each_taken (pattern before after) which items r each is = record { matched = is; first = tt }
+each_taken (full_name x) which items r each is = record { matched = is; first = tt }
+each_taken (object id) which items r each is = record { matched = is; first = tt }
+each_taken (partial x) which items r each is = absurd each
 
--- what is taken at a place
-abbrev TakenAt : SideKind → Direction → List Ref → ℕ → Ref → ℕ → Type 0
-TakenAt kind direction items k r place = TakesWhole kind direction items r × (place ≡ k)
+-- ---- what is taken of what is listed
 
--- the items from place j on are the rest
-abbrev pub StandAt : List Ref → ℕ → List Ref → Type 0
+-- which refs are listed for a needle of the kind
+abbrev pub IsListedFor : Candidates → List Ref → SideKind → Ref → Type 0
+IsListedFor which items (pattern before after) r = BeginsWith before r.name
+IsListedFor which items (full_name x) r = TakesWhole (full_name x) which items r
+IsListedFor which items (object id) r = ⊥
+IsListedFor which items (partial x) r = TakesWhole (partial x) which items r
+
+-- the indexes of those, from index j on
+abbrev pub AreListedFrom : Candidates → List Ref → SideKind → ℕ → List Ref → List ℕ → Type 0
+AreListedFrom which items kind j rest places = IsMadeFrom (λ k r place. IsListedFor which items kind r × (place ≡ k)) j rest places
+
+pub listed_from : (which : Candidates) (items : List Ref) (kind : SideKind) (places : List ℕ) → ListsFor which items kind places → AreListedFrom which items kind 0 items places
+listed_from which items (pattern before after) places lists = lists
+listed_from which items (full_name x) places lists = lists
+listed_from which items (object id) places lists = absurd lists
+listed_from which items (partial x) places lists = lists
+
+-- what is taken is listed
+taken_listed : (which : Candidates) (items : List Ref) (kind : SideKind) (places : List ℕ) (r : Ref) → ListsFor which items kind places → IsTaken which items kind r → IsListedFor which items kind r
+taken_listed which items (pattern before after) places r lists taken = begins (taken.matched.0) taken.matched.1
+  where
+    begins : (word : Option (List ℕ)) → MatchesAs (pattern before after) r word → BeginsWith before r.name
+    begins None is = absurd is
+    begins (Some w) is = record { after = w ++ after; here = is }
+taken_listed which items (full_name x) places r lists taken = (refl, taken.matched.1.1)
+taken_listed which items (object id) places r lists taken = absurd lists
+taken_listed which items (partial x) places r lists taken = taken_whole x which items r taken
+
+-- and what is listed and matches is taken
+listed_taken : (which : Candidates) (items : List Ref) (kind : SideKind) (r : Ref) → IsListedFor which items kind r → IsMatched kind r → IsTaken which items kind r
+listed_taken which items (pattern before after) r listed is = record { matched = is; first = tt }
+listed_taken which items (full_name x) r listed is = record { matched = is; first = tt }
+listed_taken which items (object id) r listed is = absurd listed
+listed_taken which items (partial x) r listed is = whole_taken x which items r listed
+
+-- the item at a place is matched
+abbrev pub IsMatchedAt : List Ref → SideKind → ℕ → ℕ → ℕ → DeclaredHit → Type 0
+IsMatchedAt items kind k i place hit = IsMatched kind (get_or items place blank) × (hit ≡ hit_at k place)
+
+-- the items from index j on are the rest
+abbrev StandAt : List Ref → ℕ → List Ref → Type 0
 StandAt items j rest = (i : ℕ) → i < length rest → get_or items (j + i) blank ≡ get_or rest i blank
 
-pub later : (items : List Ref) (j : ℕ) (r : Ref) (rest : List Ref) → StandAt items j (r ∷ rest) → StandAt items (j + 1) rest
+later : (items : List Ref) (j : ℕ) (r : Ref) (rest : List Ref) → StandAt items j (r ∷ rest) → StandAt items (j + 1) rest
 later items j r rest at i below = let next : j + 1 + i ≡ j + suc i = omega arith in ap (λ (n : ℕ). get_or items n blank) next ∙ at (suc i) (omega arith)
 
--- the hits of the items from place j on
-hits_from : (direction : Direction) (kinds : DeclaredEnds) (k : ℕ) (items : List Ref) (ends : Ends) (j : ℕ) (rest : List Ref) (places : List ℕ) → MatchesWhole (kind_of_side kinds.near) → HaveKinds ends kinds → StandAt items j rest → IsMadeFrom (TakenAt (kind_of_side kinds.near) direction items) j rest places → IsMadeFrom (IsHit (TakesIn direction items) ends k) j rest (map (hit_at k (filled_end kinds.far None) items) places)
-hits_from direction kinds k items ends j [] places whole have at none = ap (map (hit_at k (filled_end kinds.far None) items)) none
-hits_from direction kinds k items ends j (r ∷ rest) places whole have at (None, others, here, more, same) = (
+-- the hits on the places that are listed are all that are found
+through : (which : Candidates) (items : List Ref) (kind : SideKind) (k : ℕ) → ((r : Ref) → IsTaken which items kind r → IsListedFor which items kind r)
+    → (j : ℕ) (rest : List Ref) (places : List ℕ) (i : ℕ) (hits : List DeclaredHit) → StandAt items j rest → AreListedFrom which items kind j rest places → IsMadeFrom (IsMatchedAt items kind k) i places hits → IsMadeFrom (IsFound which items kind k) j rest hits
+through which items kind k lists j [] places i hits at none over = subst (λ (ps : List ℕ). IsMadeFrom (IsMatchedAt items kind k) i ps hits) none over
+through which items kind k lists j (r ∷ rest) places i hits at (None, others, here, more, same) over = (
   None,
-  map (hit_at k (filled_end kinds.far None) items) others,
-  (λ hit is. here j (whole_taken is.word is.takes, refl)),
-  hits_from direction kinds k items ends (j + 1) rest others whole have (later items j r rest at) more,
-  ap (map (hit_at k (filled_end kinds.far None) items)) same,
+  hits,
+  (λ hit is. here j (lists r is.0, refl)),
+  through which items kind k lists (j + 1) rest others i hits (later items j r rest at) more (subst (λ (ps : List ℕ). IsMadeFrom (IsMatchedAt items kind k) i ps hits) same over),
+  refl,
 )
+through which items kind k lists j (r ∷ rest) places i hits at (Some place, others, here, more, same) over =
+    let (made, further, makes, behind, all) = subst (λ (ps : List ℕ). IsMadeFrom (IsMatchedAt items kind k) i ps hits) same over in (
+      made,
+      further,
+      of made (subst (λ (p : ℕ). MakesOf (λ (n : ℕ) (q : ℕ) (hit : DeclaredHit). IsMatchedAt items kind k n q hit) i p made) here.1 makes),
+      through which items kind k lists (j + 1) rest others (i + 1) further (later items j r rest at) more behind,
+      all,
+    )
   where
-    whole_taken : (word : Option (List ℕ)) → TakesIn direction items ends.near r word → TakesWhole (kind_of_side kinds.near) direction items r
-    whole_taken word takes = taken_whole (kind_of_side kinds.near) direction items r word whole
-        (matches_as ends.near (kind_of_side kinds.near) r word have.near (taken_matches direction items ends.near r word takes))
-        (taken_first direction items ends.near (kind_of_side kinds.near) r word have.near takes)
-hits_from direction kinds k items ends j (r ∷ rest) places whole have at (Some place, others, here, more, same) = (
-  Some (hit_at k (filled_end kinds.far None) items place),
-  map (hit_at k (filled_end kinds.far None) items) others,
-  is_hit direction items ends kinds k j r None (hit_at k (filled_end kinds.far None) items place) have (whole_matches (kind_of_side kinds.near) direction items r here.0) (whole_first (kind_of_side kinds.near) direction items r here.0) refl (near items j r rest place at here.1) refl here.1,
-  hits_from direction kinds k items ends (j + 1) rest others whole have (later items j r rest at) more,
-  ap (map (hit_at k (filled_end kinds.far None) items)) same,
+    stands : get_or items j blank ≡ r
+    stands = let first : j ≡ j + 0 = omega arith in ap (λ (n : ℕ). get_or items n blank) first ∙ at 0 (omega arith)
+
+    of : (made : Option DeclaredHit) → MakesOf (λ (n : ℕ) (q : ℕ) (hit : DeclaredHit). IsMatchedAt items kind k n q hit) i j made → MakesOf (IsFound which items kind k) j r made
+    of None none = λ hit is. none hit (subst (IsMatched kind) (sym stands) is.0.matched, is.1)
+    of (Some hit) is = (listed_taken which items kind r here.0 (subst (IsMatched kind) stands is.0), is.1)
+
+pub all_found : (which : Candidates) (items : List Ref) (kind : SideKind) (k : ℕ) (places : List ℕ) (hits : List DeclaredHit) → ListsFor which items kind places → IsMadeFrom (IsMatchedAt items kind k) 0 places hits → IsMadeFrom (IsFound which items kind k) 0 items hits
+all_found which items kind k places hits lists over =
+    through which items kind k (λ r taken. taken_listed which items kind places r lists taken) 0 items places 0 hits
+    (λ i below. let same : 0 + i ≡ i = omega arith in ap (λ (n : ℕ). get_or items n blank) same) (listed_from which items kind places lists) over
+
+-- ---- place by place
+
+-- behind the old hits are those on the items at some places
+abbrev pub MatchedSoFar : List Ref → SideKind → ℕ → List ℕ → List DeclaredHit → List DeclaredHit → Type 0
+MatchedSoFar items kind k places old now = (made : List DeclaredHit) × IsMadeFrom (IsMatchedAt items kind k) 0 places made × (now ≡ old ++ made)
+
+pub place_hit : (xs : List Item) (kind : SideKind) (k : ℕ) (places : List ℕ) (i e : ℕ) (d : Item) (old mid new : List DeclaredHit) → i < length places → get_or places i e < length xs → IsMatched kind (ref_of (get_or xs (get_or places i e) d)) → new ≡ mid ++ hit_at k (get_or places i e) ∷ [] → MatchedSoFar (map ref_of xs) kind k (take i places) old mid → MatchedSoFar (map ref_of xs) kind k (take (i + 1) places) old new
+place_hit xs kind k places i e d old mid new below inside is more (made, are, all) =
+    let place = get_or places i e in
+    let items = map ref_of xs in
+    let long : length (take i places) ≡ i = length-take-le i places (omega (arith, below)) in
+    let here : IsMatchedAt items kind k i place (hit_at k place) = (subst (IsMatched kind) (sym (get_or-map ref_of xs place d blank inside)) is, refl) in (
+      made ++ hit_at k place ∷ [],
+      subst (λ (ps : List ℕ). IsMadeFrom (IsMatchedAt items kind k) 0 ps (made ++ hit_at k place ∷ [])) (sym (take_more places i e below)) (made_next (IsMatchedAt items kind k) i (take i places) place made (Some (hit_at k place)) long are here),
+      more ∙ ap (λ (l : List DeclaredHit). l ++ hit_at k place ∷ []) all ∙ append_assoc old made (hit_at k place ∷ []),
+    )
+
+pub place_missed : (xs : List Item) (kind : SideKind) (k : ℕ) (places : List ℕ) (i e : ℕ) (d : Item) (old mid : List DeclaredHit) → i < length places → get_or places i e < length xs → ¬ (IsMatched kind (ref_of (get_or xs (get_or places i e) d))) → MatchedSoFar (map ref_of xs) kind k (take i places) old mid → MatchedSoFar (map ref_of xs) kind k (take (i + 1) places) old mid
+place_missed xs kind k places i e d old mid below inside none (made, are, all) =
+    let place = get_or places i e in
+    let items = map ref_of xs in
+    let long : length (take i places) ≡ i = length-take-le i places (omega (arith, below)) in
+    let no_match : ¬ (IsMatched kind (get_or items place blank)) = subst (λ (r : Ref). ¬ (IsMatched kind r)) (sym (get_or-map ref_of xs place d blank inside)) none in (
+      made,
+      subst (λ (ps : List ℕ). IsMadeFrom (IsMatchedAt items kind k) 0 ps made) (sym (take_more places i e below))
+          (subst (IsMadeFrom (IsMatchedAt items kind k) 0 (take i places ++ place ∷ [])) (append-nil made) (made_next (IsMatchedAt items kind k) i (take i places) place made None long are (λ hit is. no_match is.0))),
+      all,
+    )
+
+-- ---- item by item
+
+-- behind the old hits are those on some items
+abbrev pub FoundSoFar : Candidates → List Ref → SideKind → ℕ → List Ref → List DeclaredHit → List DeclaredHit → Type 0
+FoundSoFar which items kind k refs old now = (made : List DeclaredHit) × IsMadeFrom (IsFound which items kind k) 0 refs made × (now ≡ old ++ made)
+
+pub item_hit : (which : Candidates) (items : List Ref) (xs : List Item) (kind : SideKind) (k i : ℕ) (d : Item) (old mid new : List DeclaredHit) → TakesEach kind → i < length xs → IsMatched kind (ref_of (get_or xs i d)) → new ≡ mid ++ hit_at k i ∷ [] → FoundSoFar which items kind k (map ref_of (take i xs)) old mid → FoundSoFar which items kind k (map ref_of (take (i + 1) xs)) old new
+item_hit which items xs kind k i d old mid new each below is more (made, are, all) = (
+  made ++ hit_at k i ∷ [],
+  subst (λ (rs : List Ref). IsMadeFrom (IsFound which items kind k) 0 rs (made ++ hit_at k i ∷ [])) (sym (map_more ref_of xs i d below))
+      (made_next (IsFound which items kind k) i (map ref_of (take i xs)) (ref_of (get_or xs i d)) made (Some (hit_at k i)) (map_long ref_of xs i below) are (each_taken kind which items (ref_of (get_or xs i d)) each is, refl)),
+  more ∙ ap (λ (l : List DeclaredHit). l ++ hit_at k i ∷ []) all ∙ append_assoc old made (hit_at k i ∷ []),
 )
-  where
-    near : (items : List Ref) (j : ℕ) (r : Ref) (rest : List Ref) (place : ℕ) → StandAt items j (r ∷ rest) → place ≡ j → (get_or items place blank).name ≡ r.name
-    near items j r rest place at is = let here : place ≡ j + 0 = omega (arith, is) in ap (λ (n : ℕ). (get_or items n blank).name) here ∙ ap (λ (x : Ref). x.name) (at 0 (omega arith))
 
--- the hits at the places that a side takes are its hits
-pub placed_hits : (direction : Direction) (kinds : DeclaredEnds) (k : ℕ) (items : List Ref) (places : List ℕ) → MatchesWhole (kind_of_side kinds.near) → ArePlacesTaken (kind_of_side kinds.near) direction items places → AreHitsOfKinds direction kinds k items items (map (hit_at k (filled_end kinds.far None) items) places)
-placed_hits direction kinds k items places whole taken ends have = hits_from direction kinds k items ends 0 items places whole have (λ i below. let same : 0 + i ≡ i = omega arith in ap (λ (n : ℕ). get_or items n blank) same) taken
+pub item_missed : (which : Candidates) (items : List Ref) (xs : List Item) (kind : SideKind) (k i : ℕ) (d : Item) (old mid : List DeclaredHit) → i < length xs → ¬ (IsMatched kind (ref_of (get_or xs i d))) → FoundSoFar which items kind k (map ref_of (take i xs)) old mid → FoundSoFar which items kind k (map ref_of (take (i + 1) xs)) old mid
+item_missed which items xs kind k i d old mid below none (made, are, all) = (
+  made,
+  subst (λ (rs : List Ref). IsMadeFrom (IsFound which items kind k) 0 rs made) (sym (map_more ref_of xs i d below))
+      (subst (IsMadeFrom (IsFound which items kind k) 0 (map ref_of (take i xs) ++ ref_of (get_or xs i d) ∷ [])) (append-nil made)
+      (made_next (IsFound which items kind k) i (map ref_of (take i xs)) (ref_of (get_or xs i d)) made None (map_long ref_of xs i below) are (λ hit is. none is.0.matched))),
+  all,
+)
 
--- each place is one of an item
-places_below : (kind : SideKind) (direction : Direction) (items : List Ref) (j : ℕ) (rest : List Ref) (places : List ℕ) → IsMadeFrom (TakenAt kind direction items) j rest places → AllByRecursion (λ place. place < j + length rest) places
-places_below kind direction items j [] places none = subst (λ (ns : List ℕ). AllByRecursion (λ place. place < j + length {A = Ref} []) ns) (sym none) tt
-places_below kind direction items j (r ∷ rest) places (made, others, here, more, same) =
-    subst (λ (ns : List ℕ). AllByRecursion (λ place. place < j + length (r ∷ rest)) ns) (sym same) (behind j r rest made others here (places_below kind direction items (j + 1) rest others more))
+-- the hits of one more matcher
+pub found_next : (which : Candidates) (items : List Ref) (ms : List Matcher) (i : ℕ) (d : Matcher) (P : Type 0) (within : Bool) (old new : List DeclaredHit) → i < length ms → within ≡ true → MatchBool within (AddsFound which items (kind_of_side (get_or ms i d).needle) i old new) P → IsJoinedFrom (AreFound which items) 0 (take i ms) old → IsJoinedFrom (AreFound which items) 0 (take (i + 1) ms) new
+found_next which items ms i d P within old new below is told so_far =
+    let adds = subst (λ (b : Bool). MatchBool b (AddsFound which items (kind_of_side (get_or ms i d).needle) i old new) P) is told in
+    let long : length (take i ms) ≡ i = length-take-le i ms (omega (arith, below)) in
+    subst (IsJoinedFrom (AreFound which items) 0 (take (i + 1) ms)) (sym adds.all)
+    (subst (λ (l : List Matcher). IsJoinedFrom (AreFound which items) 0 l (old ++ adds.made)) (sym (take_more ms i d below))
+    (joined_next (AreFound which items) i (take i ms) (get_or ms i d) old adds.made long so_far adds.are))
+
+-- ---- each place is one of an item
+
+places_below : (which : Candidates) (items : List Ref) (kind : SideKind) (j : ℕ) (rest : List Ref) (places : List ℕ) → AreListedFrom which items kind j rest places → AllByRecursion (λ place. place < j + length rest) places
+places_below which items kind j [] places none = subst (λ (ns : List ℕ). AllByRecursion (λ place. place < j + length {A = Ref} []) ns) (sym none) tt
+places_below which items kind j (r ∷ rest) places (made, others, here, more, same) =
+    subst (λ (ns : List ℕ). AllByRecursion (λ place. place < j + length (r ∷ rest)) ns) (sym same) (behind j r rest made others here (places_below which items kind (j + 1) rest others more))
   where
     wider : (j : ℕ) (r : Ref) (rest : List Ref) (ns : List ℕ) → AllByRecursion (λ place. place < j + 1 + length rest) ns → AllByRecursion (λ place. place < j + length (r ∷ rest)) ns
     wider j r rest [] all = tt
     wider j r rest (n ∷ ns) all = let first : n < j + 1 + length rest = all.0 in (omega (arith, first), wider j r rest ns all.1)
 
-    behind : (j : ℕ) (r : Ref) (rest : List Ref) (made : Option ℕ) (others : List ℕ) → MakesOf (TakenAt kind direction items) j r made → AllByRecursion (λ place. place < j + 1 + length rest) others → AllByRecursion (λ place. place < j + length (r ∷ rest)) (option_to_list made ++ others)
+    behind : (j : ℕ) (r : Ref) (rest : List Ref) (made : Option ℕ) (others : List ℕ) → MakesOf (λ (k : ℕ) (s : Ref) (place : ℕ). IsListedFor which items kind s × (place ≡ k)) j r made → AllByRecursion (λ place. place < j + 1 + length rest) others → AllByRecursion (λ place. place < j + length (r ∷ rest)) (option_to_list made ++ others)
     behind j r rest None others here all = wider j r rest others all
     behind j r rest (Some place) others here all = let is : place ≡ j = here.1 in (omega (arith, is), wider j r rest others all)
 
@@ -116,47 +202,22 @@ read_below bound [] i d all below = absurd (omega arith)
 read_below bound (n ∷ ns) zero d all below = all.0
 read_below bound (n ∷ ns) (suc i) d all below = read_below bound ns i d all.1 (omega arith)
 
-pub place_fits : (kind : SideKind) (direction : Direction) (xs : List Item) (places : List ℕ) (i d : ℕ) → ArePlacesTaken kind direction (map ref_of xs) places → i < length places → get_or places i d < length xs
-place_fits kind direction xs places i d taken below = let fits : get_or places i d < 0 + length (map ref_of xs) = read_below (0 + length (map ref_of xs)) places i d (places_below kind direction (map ref_of xs) 0 (map ref_of xs) places taken) below in omega (arith, fits, length-map xs ref_of)
+pub place_fits : (which : Candidates) (items : List Ref) (kind : SideKind) (places : List ℕ) (i d : ℕ) → ListsFor which items kind places → i < length places → get_or places i d < length items
+place_fits which items kind places i d lists below =
+    let fits : get_or places i d < 0 + length items = read_below (0 + length items) places i d (places_below which items kind 0 items places (listed_from which items kind places lists)) below in
+    omega (arith, fits)
 
--- the mappings of the hits at some places are after the old ones
-pub record AddsPlaces (direction : Direction) (k : ℕ) (kinds : DeclaredEnds) (items : List Ref) (places : List ℕ) (old new : Made) : Type 0 where
-  pub all : mapped_of_made direction new ≡ mapped_of_made direction old ++ map (mapping_of direction) (map (hit_at k (filled_end kinds.far None) items) places)
+-- ---- the index serves each needle
 
--- at all places
-pub places_added : (direction : Direction) (k : ℕ) (kinds : DeclaredEnds) (items : List Ref) (places : List ℕ) (old new : Made) → MatchesWhole (kind_of_side kinds.near) → ArePlacesTaken (kind_of_side kinds.near) direction items places → AddsPlaces direction k kinds items places old new → AddsHits direction (AreHitsOfKinds direction kinds k items items) old new
-places_added direction k kinds items places old new whole taken adds = record {
-  hits = map (hit_at k (filled_end kinds.far None) items) places;
-  are = placed_hits direction kinds k items places whole taken;
-  all = adds.all;
-}
-
--- the index serves each spec of the group
-pub side_served : (direction : Direction) (specs : List RefSpecRef) (refs : List Ref) (index : NameIndex) (i : ℕ) (s : RefSpecRef) (kinds : DeclaredEnds) → i < length specs → s ≡ get_or specs i s → IsIndexFor direction (map reading_of specs) refs index → (ends : Ends) × HasEnds direction (reading_of s) ends × HaveKinds ends kinds → IsIndexOfSide direction (kind_of_side kinds.near) refs index
-side_served direction specs refs index i s kinds below is serves found =
-    let each : Reading → Type 0 = λ r. (ends : Ends) (kind : SideKind) → HasEnds direction r ends → HasKind ends.near kind → IsListed direction refs index kind in
-    let here : each (reading_of s) =
-    subst each (get_or-map reading_of specs i s (reading_of s) below ∙ ap reading_of (sym is))
-    (All-from_recursion each (map reading_of specs) serves.names i (reading_of s) (omega (arith, length-map specs reading_of))) in
-    record { names = here found.0 (kind_of_side kinds.near) found.1 found.2.near; fronts = serves.fronts }
-
--- what is named is listed
-named_listed : (direction : Direction) (refs : List Ref) (names : Names) (index : NameIndex) → IsIndexOf direction names refs index → (kind : SideKind) → HasNamesOf names kind → IsListed direction refs index kind
-named_listed direction refs names index of_names (pattern before after) named = tt
-named_listed direction refs names index of_names (full_name x) named =
-    let at = of_names.full.each x named in
-    subst (ArePlacesTaken (full_name x) direction refs) (sym (ap (λ (o : Option (Vec ℕ)). unwrap_or (option_map (λ v. v.items) o) []) at.1)) at.2
-named_listed direction refs names index of_names (object id) named = tt
-named_listed direction refs names index of_names (partial x) named =
-    let at = of_names.partial x named in
-    subst (ArePlacesTaken (partial x) direction refs) (sym (ap (λ (o : Option (Vec ℕ)). unwrap_or (option_map (λ v. v.items) o) []) at.1)) at.2
-
--- what the specs ask for by name is in the index
-pub index_serves : (direction : Direction) (g : List Reading) (refs : List Ref) (names : Names) (index : NameIndex) → AllNear (HasNamesOf names) direction g → IsIndexOf direction names refs index → IsIndexFor direction g refs index
-index_serves direction g refs names index asked of_names = record {
-  names = all_weaker
-      (λ r. (ends : Ends) (kind : SideKind) → HasEnds direction r ends → HasKind ends.near kind → HasNamesOf names kind)
-      (λ r. (ends : Ends) (kind : SideKind) → HasEnds direction r ends → HasKind ends.near kind → IsListed direction refs index kind)
-      (λ r told ends kind has of. named_listed direction refs names index of_names kind (told ends kind has of)) g asked;
-  fronts = of_names.fronts;
-}
+pub named_listed : (which : Candidates) (refs : List Ref) (names : Names) (index : Index) → IsIndexOf which names refs index → (kind : SideKind) → HasNamesOf names kind → IsIndexFor which refs index kind
+named_listed which refs names index of_names kind named = record { names = listed kind named; fronts = of_names.fronts }
+  where
+    listed : (kind : SideKind) → HasNamesOf names kind → IsListed which refs index kind
+    listed (pattern before after) named = tt
+    listed (full_name x) named =
+        let at = of_names.full.each x named in
+        subst (ArePlacesTaken (full_name x) which refs) (sym (ap (λ (o : Option (Vec ℕ)). unwrap_or (option_map (λ v. v.items) o) []) at.1)) at.2
+    listed (object id) named = tt
+    listed (partial x) named =
+        let at = of_names.partial x named in
+        subst (ArePlacesTaken (partial x) which refs) (sym (ap (λ (o : Option (Vec ℕ)). unwrap_or (option_map (λ v. v.items) o) []) at.1)) at.2

@@ -1,7 +1,6 @@
 -- What is kept of a list of mappings.
 use Rattle.std.proofs.Common.{◌≡◌, inl, inr, ◌↔◌, ℕ, zero, suc, ◌+◌, ◌<◌, ◌≤◌, List, [], ◌∷◌, ◌++◌, Option, None, Some, Bool, true, false, option_map, length, take, drop, get_or, map, refl, sym, ap, ◌∙◌, subst, zero-add, arith}
-use Rattle.std.specs.List.Retain.{ReturnsInTurn, IsFiltered}
-use Rattle.std.specs.List.{AllByRecursion, items_where_true}
+use Rattle.std.specs.List.{AllByRecursion}
 use Rattle.std.proofs.lemmas.Bool.{false≢true}
 use Rattle.std.proofs.lemmas.List.{drop_more, get_or_default, get_or-map, get_or-take, length-map, length-take-le, take_more}
 use Rattle.gix_refspec_match.specs.declared.types.Mapping.{Mapping}
@@ -10,8 +9,7 @@ use Rattle.gix_refspec_text.specs.Specs.Reading.{Reading}
 use Rattle.gix_refspec_match.specs.Matching.Lists.{MakesOf, IsMadeFrom}
 use Rattle.gix_refspec_match.specs.Matching.Mappings.{Source, name, id, Mapped, IsSamePair, HasPair, AreApart, IsSourceExcluded, IsKeptAt, IsKept}
 use Rattle.gix_refspec_match.specs.Views.Mapping.{mapped_of}
-use Rattle.gix_refspec_match.specs.Private.EqualSpecs.{Thins}
-use Rattle.gix_refspec_match.specs.Private.Kept.{AreExclusionsOf, FlagsRepeats, IsRepeat, ExcludeStart, ExcludeName, IsKeptBy, IsUnflagged}
+use Rattle.gix_refspec_match.specs.Private.Kept.{AreExclusionsOf, FlagsRepeats, IsFlagged, IsRepeat, ExcludeStart, IsUnflagged}
 use Rattle.gix_refspec_match.proofs.lemmas.lists.ListsLemmas.{made_all, made_map}
 
 -- a pair that is in a list, by its place
@@ -66,39 +64,50 @@ repeats_at ms k d below =
     )
 
 -- the same starts are excluded
-starts_agree : (g : List Reading) (es : Exclusions) (s : Source) → AreExclusionsOf g es → ExcludeStart es s ↔ IsSourceExcluded g s
+pub starts_agree : (g : List Reading) (es : Exclusions) (s : Source) → AreExclusionsOf g es → ExcludeStart es s ↔ IsSourceExcluded g s
 starts_agree g es (name n) are = are n
 starts_agree g es (id i) are = ((λ none. none), (λ none. none))
 
--- a mapping is kept by the code exactly where it is kept
-remains_stays : (g : List Reading) (ms : List Mapping) (es : Exclusions) (flags : List Bool) (k : ℕ) (d : Mapping) → AreExclusionsOf g es → FlagsRepeats ms flags → k < length ms → IsKeptBy es flags k (get_or ms k d) (get_or ms k d) ↔ IsKeptAt g (map mapped_of ms) k (mapped_of (get_or ms k d))
-remains_stays g ms es flags k d are repeats below =
-    let at = repeats_at ms k d below in
-    let flag = repeats k below in
-    let start = starts_agree g es (mapped_of (get_or ms k d)).source are in (
-      (λ remains. record { first = λ has. remains.unflagged (flag.1 (at.1 has)); included = λ by. remains.included (start.1 by) }),
-      (λ stays. record { same = refl; unflagged = λ flagged. stays.first (at.0 (flag.0 flagged)); included = λ by. stays.included (start.0 by) }),
+none_excluded : (s : Source) → ¬ (IsSourceExcluded [] s)
+none_excluded (name n) taken = taken
+none_excluded (id i) taken = taken
+
+-- a mapping isn't flagged exactly where it is kept, and nothing is excluded
+unflagged_stays : (ms : List Mapping) (flags : List Bool) (k : ℕ) (d : Mapping) → FlagsRepeats ms flags → k < length ms → (¬ (IsFlagged flags k)) ↔ IsKeptAt [] (map mapped_of ms) k (mapped_of (get_or ms k d))
+unflagged_stays ms flags k d repeats below =
+    let by = repeats_at ms k d below in
+    let told = repeats k below in (
+      (λ free. record { first = λ has. free (told.1 (by.1 has)); included = none_excluded (mapped_of (get_or ms k d)).source }),
+      (λ stays flagged. stays.first (by.0 (told.0 flagged))),
     )
 
--- what the code keeps of mappings is what is kept of them
-pub kept_from_remains : (g : List Reading) (ms rest : List Mapping) (es : Exclusions) (flags : List Bool) → AreExclusionsOf g es → FlagsRepeats ms flags → IsMadeFrom (IsKeptBy es flags) 0 ms rest → IsKept g (map mapped_of ms) (map mapped_of rest)
-kept_from_remains g ms rest es flags are repeats made =
-    made_map mapped_of mapped_of (IsKeptBy es flags) (λ k m y. (y ≡ m) × IsKeptAt g (map mapped_of ms) k m) 0 ms rest (λ i d below x makes. one i d below x (subst (λ (n : ℕ). MakesOf (IsKeptBy es flags) n (get_or ms i d) x) (zero-add i) makes)) made
+-- what isn't flagged is kept, where nothing is excluded
+pub kept_unflagged : (ms rest : List Mapping) (flags : List Bool) → FlagsRepeats ms flags → IsMadeFrom (IsUnflagged flags) 0 ms rest → IsKept [] (map mapped_of ms) (map mapped_of rest)
+kept_unflagged ms rest flags repeats made =
+    made_map mapped_of mapped_of (IsUnflagged flags) (λ k m y. (y ≡ m) × IsKeptAt [] (map mapped_of ms) k m) 0 ms rest (λ i d below x makes. one i d below x (subst (λ (n : ℕ). MakesOf (IsUnflagged flags) n (get_or ms i d) x) (zero-add i) makes)) made
   where
-    one : (i : ℕ) (d : Mapping) → i < length ms → (x : Option Mapping) → MakesOf (IsKeptBy es flags) i (get_or ms i d) x → MakesOf (λ k m y. (y ≡ m) × IsKeptAt g (map mapped_of ms) k m) (0 + i) (mapped_of (get_or ms i d)) (option_map mapped_of x)
-    one i d below None none = subst (λ (n : ℕ). (y : Mapped) → ¬ ((y ≡ mapped_of (get_or ms i d)) × IsKeptAt g (map mapped_of ms) n (mapped_of (get_or ms i d)))) (sym (zero-add i)) (λ y stays. none (get_or ms i d) ((remains_stays g ms es flags i d are repeats below).1 stays.1))
-    one i d below (Some y) remains = subst (λ (n : ℕ). (mapped_of y ≡ mapped_of (get_or ms i d)) × IsKeptAt g (map mapped_of ms) n (mapped_of (get_or ms i d))) (sym (zero-add i)) (
-      ap mapped_of remains.same,
-      (remains_stays g ms es flags i d are repeats below).0 (record { same = refl; unflagged = remains.unflagged; included = remains.included }),
+    one : (i : ℕ) (d : Mapping) → i < length ms → (x : Option Mapping) → MakesOf (IsUnflagged flags) i (get_or ms i d) x → MakesOf (λ k m y. (y ≡ m) × IsKeptAt [] (map mapped_of ms) k m) (0 + i) (mapped_of (get_or ms i d)) (option_map mapped_of x)
+    one i d below None none = subst (λ (n : ℕ). (y : Mapped) → ¬ ((y ≡ mapped_of (get_or ms i d)) × IsKeptAt [] (map mapped_of ms) n (mapped_of (get_or ms i d)))) (sym (zero-add i)) (λ y stays. none (get_or ms i d) (refl, (unflagged_stays ms flags i d repeats below).1 stays.1))
+    one i d below (Some y) remains = subst (λ (n : ℕ). (mapped_of y ≡ mapped_of (get_or ms i d)) × IsKeptAt [] (map mapped_of ms) n (mapped_of (get_or ms i d))) (sym (zero-add i)) (
+      ap mapped_of remains.0,
+      (unflagged_stays ms flags i d repeats below).0 remains.1,
     )
 
-untaken : (es : Exclusions) → ((n : List ℕ) → ¬ (ExcludeName es n)) → (s : Source) → ¬ (ExcludeStart es s)
-untaken es free (name n) taken = free n taken
-untaken es free (id i) taken = taken
+-- without flags all are kept
+pub all_unflagged : (ms : List Mapping) (flags : List Bool) → flags ≡ [] → IsMadeFrom (IsUnflagged flags) 0 ms ms
+all_unflagged ms flags none = made_all (IsUnflagged flags) (λ k m. (refl, λ flagged. false≢true (subst (λ (l : List Bool). get_or l k false ≡ true) none flagged))) 0 ms
 
--- without flags and exclusions all are kept
-pub all_remain : (ms : List Mapping) (es : Exclusions) → ((n : List ℕ) → ¬ (ExcludeName es n)) → IsMadeFrom (IsKeptBy es []) 0 ms ms
-all_remain ms es free = made_all (IsKeptBy es []) (λ k m. record { same = refl; unflagged = λ flagged. false≢true flagged; included = untaken es free (mapped_of m).source }) 0 ms
+-- none of the mappings has a source that the group excludes
+abbrev pub AreIncluded : List Reading → List Mapped → Type 0
+AreIncluded g l = AllByRecursion (λ m. ¬ (IsSourceExcluded g m.source)) l
+
+-- so the same ones are kept where nothing is excluded
+pub kept_included : (g : List Reading) (l : List Mapped) (k : ℕ) (xs kept : List Mapped) → AreIncluded g xs → IsMadeFrom (λ j m made. (made ≡ m) × IsKeptAt [] l j m) k xs kept → IsMadeFrom (λ j m made. (made ≡ m) × IsKeptAt g l j m) k xs kept
+kept_included g l k [] kept free none = none
+kept_included g l k (x ∷ xs) kept free (None, rest, none, more, is) =
+    (None, rest, (λ y keeps. none y (keeps.0, record { first = keeps.1.first; included = none_excluded x.source })), kept_included g l (k + 1) xs rest free.1 more, is)
+kept_included g l k (x ∷ xs) kept free (Some y, rest, keeps, more, is) =
+    (Some y, rest, (keeps.0, record { first = keeps.1.first; included = free.0 }), kept_included g l (k + 1) xs rest free.1 more, is)
 
 -- what is kept from a place on has no pair from before it
 later_apart : (g : List Reading) (l : List Mapped) (n k : ℕ) (xs ys : List Mapped) → n ≤ k → IsMadeFrom (λ j m made. (made ≡ m) × IsKeptAt g l j m) k xs ys → AllByRecursion (λ y. ¬ (HasPair (take n l) y)) ys
@@ -134,59 +143,3 @@ apart_from g l k (x ∷ xs) ys rest size (Some y, ys2, stays, more, is) =
 
 pub kept_once : (g : List Reading) (l kept : List Mapped) → IsKept g l kept → AreApart kept
 kept_once g l kept = apart_from g l 0 l kept refl (zero-add (length l))
-
--- ---- first what is excluded goes, and then what repeats
-
--- what isn't excluded
-abbrev pub AreFree : Exclusions → List Mapping → Type 0
-AreFree es ms = AllByRecursion (λ m. ¬ (ExcludeStart es (mapped_of m).source)) ms
-
-pub remain_free : (es : Exclusions) (k : ℕ) (ms rest : List Mapping) → IsMadeFrom (IsKeptBy es []) k ms rest → AreFree es rest
-remain_free es k [] rest empty = subst (AreFree es) (sym empty) tt
-remain_free es k (m ∷ ms) rest (None, others, none, more, is) = subst (AreFree es) (sym is) (remain_free es (k + 1) ms others more)
-remain_free es k (m ∷ ms) rest (Some y, others, remains, more, is) =
-    let free : ¬ (ExcludeStart es (mapped_of y).source) = subst (λ (x : Mapping). ¬ (ExcludeStart es (mapped_of x).source)) (sym remains.same) remains.included in
-    subst (AreFree es) (sym is) (free, remain_free es (k + 1) ms others more)
-
-pub free_remain : (es : Exclusions) (k : ℕ) (ms : List Mapping) → AreFree es ms → IsMadeFrom (IsKeptBy es []) k ms ms
-free_remain es k [] free = refl
-free_remain es k (m ∷ ms) free = (Some m, ms, record { same = refl; unflagged = λ flagged. false≢true flagged; included = free.0 }, free_remain es (k + 1) ms free.1, refl)
-
--- what is unflagged remains of mappings of which none is excluded
-pub free_unflagged : (es : Exclusions) (flags : List Bool) (k : ℕ) (ms rest : List Mapping) → AreFree es ms → IsMadeFrom (IsUnflagged flags) k ms rest → IsMadeFrom (IsKeptBy es flags) k ms rest
-free_unflagged es flags k [] rest free made = made
-free_unflagged es flags k (m ∷ ms) rest free (None, others, gone, more, is) =
-    (None, others, (λ y remains. gone y (remains.same, remains.unflagged)), free_unflagged es flags (k + 1) ms others free.1 more, is)
-free_unflagged es flags k (m ∷ ms) rest free (Some y, others, remains, more, is) =
-    (Some y, others, record { same = remains.0; unflagged = remains.1; included = free.0 }, free_unflagged es flags (k + 1) ms others free.1 more, is)
-
--- what a test retains that tells whether a mapping is excluded, and stays the same
-module _ {F : Type 0} (R : F → Mapping → Bool → F → Type 0) (es : Exclusions) (start : F) (tells : (m : Mapping) (b : Bool) (q : F) → R start m b q → (q ≡ start) × ((b ≡ true) ↔ (¬ (ExcludeStart es (mapped_of m).source)))) where
-  retained : (k : ℕ) (p q : F) (bs : List Bool) (ms : List Mapping) → p ≡ start → length bs ≡ length ms → ReturnsInTurn R p bs ms q → IsMadeFrom (IsKeptBy es []) k ms (items_where_true bs ms)
-  retained k p q [] [] is size told = refl
-  retained k p q [] (m ∷ ms) is size told = absurd (omega arith)
-  retained k p q (b ∷ bs) [] is size told = absurd told
-  retained k p q (true ∷ bs) (m ∷ ms) is size (j, here, more) =
-      let says = tells m true j (subst (λ (f : F). R f m true j) is here) in
-      (Some m, items_where_true bs ms, record { same = refl; unflagged = λ flagged. false≢true flagged; included = says.1.0 refl }, retained (k + 1) j q bs ms says.0 (omega arith) more, refl)
-  retained k p q (false ∷ bs) (m ∷ ms) is size (j, here, more) =
-      let says = tells m false j (subst (λ (f : F). R f m false j) is here) in
-      (None, items_where_true bs ms, (λ made remains. false≢true (says.1.1 remains.included)), retained (k + 1) j q bs ms says.0 (omega arith) more, refl)
-
-  pub retained_free : (ms rest : List Mapping) → IsFiltered R start ms rest → IsMadeFrom (IsKeptBy es []) 0 ms rest
-  retained_free ms rest (bs, q, size, told, is) = subst (λ (xs : List Mapping). IsMadeFrom (IsKeptBy es []) 0 ms xs) (sym is) (retained 0 start q bs ms refl size told)
-
--- mappings without those that are excluded
-pub excluded_go : (g : List Reading) (es : Exclusions) (before : List Mapped) (k : ℕ) (ms rest : List Mapping) → AreExclusionsOf g es → IsMadeFrom (IsKeptBy es []) k ms rest → Thins g before (map mapped_of ms) (map mapped_of rest)
-excluded_go g es before k [] rest are empty = ap (map mapped_of) empty
-excluded_go g es before k (m ∷ ms) rest are (None, others, none, more, is) =
-    inr (
-      inr (λ free. none m (record { same = refl; unflagged = λ flagged. false≢true flagged; included = λ taken. free ((starts_agree g es (mapped_of m).source are).0 taken) })),
-      subst (λ (l : List Mapping). Thins g (before ++ mapped_of m ∷ []) (map mapped_of ms) (map mapped_of l)) (sym is) (excluded_go g es (before ++ mapped_of m ∷ []) (k + 1) ms others are more),
-    )
-excluded_go g es before k (m ∷ ms) rest are (Some y, others, remains, more, is) =
-    inl (
-      map mapped_of others,
-      ap (map mapped_of) is ∙ ap (λ (x : Mapping). mapped_of x ∷ map mapped_of others) remains.same,
-      excluded_go g es (before ++ mapped_of m ∷ []) (k + 1) ms others are more,
-    )

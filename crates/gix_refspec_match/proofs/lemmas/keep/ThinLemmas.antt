@@ -1,16 +1,11 @@
 -- Mappings without some of those that repeat an earlier pair or are excluded: the same ones of them stay.
-use Rattle.std.proofs.Common.{◌≡◌, ◌⊎◌, inl, inr, ◌↔◌, ℕ, ◌+◌, List, [], ◌∷◌, ◌++◌, Bool, Option, None, Some, length, map, take, refl, sym, ap, ◌∙◌, subst, append_assoc}
-use Rattle.std.proofs.lemmas.List.{append-nil, length-append, take-map}
-use Rattle.gix_refspec_match.specs.declared.types.Mapping.{Mapping}
-use Rattle.gix_refspec_match.specs.declared.keep.exclusions.Exclusions.{Exclusions}
+use Rattle.std.proofs.Common.{◌≡◌, ◌⊎◌, inl, inr, ◌↔◌, ℕ, ◌+◌, List, [], ◌∷◌, ◌++◌, Option, None, Some, length, take, refl, sym, ap, ◌∙◌, subst, append_assoc}
+use Rattle.std.proofs.lemmas.List.{append-nil, length-append}
 use Rattle.gix_refspec_text.specs.Specs.Reading.{Reading}
 use Rattle.gix_refspec_match.specs.Matching.Lists.{MakesOf, IsMadeFrom}
 use Rattle.gix_refspec_match.specs.Matching.Mappings.{Mapped, IsSamePair, HasPair, IsSourceExcluded, IsKeptAt, IsKept}
-use Rattle.gix_refspec_match.specs.Private.EqualSpecs.{MayGo, Thins}
-use Rattle.gix_refspec_match.specs.Private.Part.{moved}
-use Rattle.gix_refspec_match.specs.Views.Mapping.{mapped_of}
-use Rattle.gix_refspec_match.specs.Private.Kept.{AreExclusionsOf, FlagsRepeats, IsKeptBy}
-use Rattle.gix_refspec_match.proofs.lemmas.keep.KeptLemmas.{HasPair-left, HasPair-last, excluded_go, kept_from_remains}
+use Rattle.gix_refspec_match.specs.Private.Fills.{MayGo, Thins}
+use Rattle.gix_refspec_match.proofs.lemmas.keep.KeptLemmas.{HasPair-left, HasPair-last}
 
 pub thins_all : (g : List Reading) (before l : List Mapped) → Thins g before l l
 thins_all g before [] = refl
@@ -25,6 +20,19 @@ thins_both g before (x ∷ l) some m rest (inl (others, is, thins)) more =
 thins_both g before (x ∷ l) some m rest (inr (may, thins)) more =
     let behind = subst (λ (b : List Mapped). Thins g b m rest) (sym (append_assoc before (x ∷ []) l)) more in
     inr (may, thins_both g (before ++ x ∷ []) l some m rest thins behind)
+
+pub pair_right : (before l : List Mapped) (m : Mapped) → HasPair l m → HasPair (before ++ l) m
+pair_right [] l m has = has
+pair_right (x ∷ before) l m has = inr (pair_right before l m has)
+
+may_behind : (g : List Reading) (front before : List Mapped) (m : Mapped) → MayGo g before m → MayGo g (front ++ before) m
+may_behind g front before m (inl has) = inl (pair_right front before m has)
+may_behind g front before m (inr excluded) = inr excluded
+
+pub thins_behind : (g : List Reading) (front before l some : List Mapped) → Thins g before l some → Thins g (front ++ before) l some
+thins_behind g front before [] some none = none
+thins_behind g front before (m ∷ l) some (inl (rest, is, thins)) = inl (rest, is, subst (λ (b : List Mapped). Thins g b l rest) (sym (append_assoc front before (m ∷ []))) (thins_behind g front (before ++ m ∷ []) l rest thins))
+thins_behind g front before (m ∷ l) some (inr (may, thins)) = inr (may_behind g front before m may, subst (λ (b : List Mapped). Thins g b l some) (sym (append_assoc front before (m ∷ []))) (thins_behind g front (before ++ m ∷ []) l some thins))
 
 -- mappings with one pair
 pub pair_alike : (l : List Mapped) (m n : Mapped) → IsSamePair m n → HasPair l m → HasPair l n
@@ -105,40 +113,3 @@ kept_from g L T before some (m ∷ l) t kept is_l is_t same (inr (may, thins)) a
 -- what stays of some of them stays of all
 pub kept_thinned : (g : List Reading) (l some kept : List Mapped) → Thins g [] l some → IsKept g some kept → IsKept g l kept
 kept_thinned g l some kept thins is = kept_from g l some [] [] l some kept refl refl (λ m free. ((λ has. has), (λ has. has))) thins is
-
--- what is excluded goes first, and then what repeats
-pub kept_twice : (g : List Reading) (ms free rest : List Mapping) (es : Exclusions) (flags : List Bool) → AreExclusionsOf g es → IsMadeFrom (IsKeptBy es []) 0 ms free → FlagsRepeats free flags → IsMadeFrom (IsKeptBy es flags) 0 free rest → IsKept g (map mapped_of ms) (map mapped_of rest)
-kept_twice g ms free rest es flags are first repeats then =
-    kept_thinned g (map mapped_of ms) (map mapped_of free) (map mapped_of rest) (excluded_go g es [] 0 ms free are first) (kept_from_remains g free rest es flags are repeats then)
-
--- ---- at other places
-
-pair_moved : (f : ℕ → ℕ) (l : List Mapped) (m : Mapped) → HasPair (map (moved f) l) (moved f m) ↔ HasPair l m
-pair_moved f [] m = ((λ has. has), (λ has. has))
-pair_moved f (x ∷ l) m = (
-  (λ has. elim has [ inl same ↦ inl (record { source = same.source; destination = same.destination }) | inr there ↦ inr ((pair_moved f l m).0 there) ]),
-  (λ has. elim has [ inl same ↦ inl (record { source = same.source; destination = same.destination }) | inr there ↦ inr ((pair_moved f l m).1 there) ]),
-)
-
-stays_moved : (g : List Reading) (f : ℕ → ℕ) (l : List Mapped) (k : ℕ) (m : Mapped) → IsKeptAt g l k m → IsKeptAt g (map (moved f) l) k (moved f m)
-stays_moved g f l k m stays = record {
-  first = λ has. stays.first ((pair_moved f (take k l) m).0 (subst (λ (b : List Mapped). HasPair b (moved f m)) (take-map (moved f) k l) has));
-  included = stays.included;
-}
-
-moved_stays : (g : List Reading) (f : ℕ → ℕ) (l : List Mapped) (k : ℕ) (m : Mapped) → IsKeptAt g (map (moved f) l) k (moved f m) → IsKeptAt g l k m
-moved_stays g f l k m stays = record {
-  first = λ has. stays.first (subst (λ (b : List Mapped). HasPair b (moved f m)) (sym (take-map (moved f) k l)) ((pair_moved f (take k l) m).1 has));
-  included = stays.included;
-}
-
-kept_moved_from : (g : List Reading) (f : ℕ → ℕ) (l : List Mapped) (k : ℕ) (xs kept : List Mapped) → IsMadeFrom (Keeps g l) k xs kept → IsMadeFrom (Keeps g (map (moved f) l)) k (map (moved f) xs) (map (moved f) kept)
-kept_moved_from g f l k [] kept none = ap (map (moved f)) none
-kept_moved_from g f l k (x ∷ xs) kept (None, rest, none, more, is) =
-    (None, map (moved f) rest, (λ y keeps. none x (refl, moved_stays g f l k x keeps.1)), kept_moved_from g f l (k + 1) xs rest more, ap (map (moved f)) is)
-kept_moved_from g f l k (x ∷ xs) kept (Some y, rest, keeps, more, is) =
-    (Some (moved f y), map (moved f) rest, (ap (moved f) keeps.0, stays_moved g f l k x keeps.1), kept_moved_from g f l (k + 1) xs rest more, ap (map (moved f)) is)
-
--- what is kept doesn't depend on the places
-pub kept_moved : (g : List Reading) (f : ℕ → ℕ) (l kept : List Mapped) → IsKept g l kept → IsKept g (map (moved f) l) (map (moved f) kept)
-kept_moved g f l kept is = kept_moved_from g f l 0 l kept is

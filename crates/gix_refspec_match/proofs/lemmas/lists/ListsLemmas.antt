@@ -103,9 +103,3 @@ goes_more {X} R xs now k i x below front long same made here goes =
       subst (λ (zs : List X). IsMadeFrom R 0 zs (take k now)) (ap (λ (y : X). take i xs ++ y ∷ []) (sym is) ∙ sym (take_more xs i x (omega (arith, long))))
           (subst (λ (zs : List X). IsMadeFrom R 0 (take i xs ++ x ∷ []) zs) (append-nil (take k now)) one),
     )
-
--- no more is made than there is
-pub made_fewer : {X Y : Type 0} (R : ℕ → X → Y → Type 0) (k : ℕ) (xs : List X) (ys : List Y) → IsMadeFrom R k xs ys → length ys ≤ length xs
-made_fewer R k [] ys empty = let none = ap length empty in omega (arith, none)
-made_fewer R k (x ∷ xs) ys (None, rest, none, more, is) = let fewer = made_fewer R (k + 1) xs rest more in let size = ap length is in omega (arith, fewer, size)
-made_fewer R k (x ∷ xs) ys (Some y, rest, of, more, is) = let fewer = made_fewer R (k + 1) xs rest more in let size = ap length is in omega (arith, fewer, size)

@@ -11,20 +11,16 @@ ghost use Rattle.gix_refspec_match.specs.Private.Index.{AddsWhere, IsBelowPlace,
 use super::filter::Filter;
 use super::key::Key;
 use super::short_tails::ShortTails;
-use super::{listed_in, without_places};
-use crate::hits::ends::Direction;
+use super::without_places;
+use crate::matcher::Candidates;
 use crate::types::{Item, NameRef};
 use gix_refspec_text::side::strip_refs;
 use std::alloc::{AllocError, Global};
 use std::collections::HashMap;
 
-// How many candidates a partial name has.
-const CANDIDATES: usize = 6;
-
-// For each of some partial names the places of all items that it takes in a direction, rising.
+// For each of some partial names the places of all items that it takes in a candidates, rising.
 #[derive(Drop)]
 pub(crate) struct PartialIndex<'n> {
-    direction: Direction,
     places: HashMap<Key<'n>, Vec<usize>>,
 }
 
@@ -32,20 +28,20 @@ impl<'n> PartialIndex<'n> {
     // The index of some partial names.
     pub(crate) fn of(
         alloc: Global,
-        direction: Direction,
+        candidates: Candidates,
         names: &'n [NameRef<'_>],
         items: &'n [Item<'_>],
     ) -> Result<PartialIndex<'n>, AllocError>
         ensures { IfOk result (λ index. ListPartials
-            direction (map name_bytes names.now) (map ref_of items.now) (list_of index.places)) }
+            candidates (map name_bytes names.now) (map ref_of items.now) (list_of index.places)) }
     {
         let mut places = without_places(alloc, names)?;
         if names.is_empty() {
-            return Ok(PartialIndex { direction, places });
+            return Ok(PartialIndex { places });
         }
         let filter = Filter::of(alloc, names)?;
         let lookup = Lookup {
-            direction,
+            candidates,
             items,
             filter,
         };
@@ -57,7 +53,7 @@ impl<'n> PartialIndex<'n> {
             }
             lookup.add_item(name, place, &mut places)?;
         }
-        Ok(PartialIndex { direction, places })
+        Ok(PartialIndex { places })
     }
 
     // The places of the items that a partial name takes.
@@ -69,31 +65,12 @@ impl<'n> PartialIndex<'n> {
             Some(places) => places.as_slice(),
         }
     }
-
-    // How many partial names there are.
-    pub(crate) fn len(&self) -> usize {
-        self.places.len()
-    }
-
-    // How many places are listed.
-    pub(crate) fn listed(&self) -> usize {
-        listed_in(&self.places)
-    }
-
-    // Whether some partial name takes more items than it does where no name repeats.
-    pub(crate) fn has_repeats(&self) -> bool {
-        let most = match self.direction {
-            Direction::Forward => 1,
-            Direction::Backward => CANDIDATES,
-        };
-        self.places.values().any(|places| most < places.len())
-    }
 }
 
-// How the places of partial names are found: in a direction, of these items, and for the names that pass.
+// How the places of partial names are found: in a candidates, of these items, and for the names that pass.
 #[derive(Drop)]
 struct Lookup<'l, 'item> {
-    direction: Direction,
+    candidates: Candidates,
     items: &'l [Item<'item>],
     filter: Filter,
 }
@@ -109,7 +86,7 @@ impl<'l, 'item> Lookup<'l, 'item> {
     ) -> Result<(), AllocError>
         requires { IsWholeFilter self.now.filter }
         ensures { OnOk result (AddsWhere (Passes self.now.filter) (λ x. IsCandidate x name.now)
-            (Joins self.now.direction (map ref_of self.now.items.now) place)
+            (Joins self.now.candidates (map ref_of self.now.items.now) place)
             (list_of places.old) (list_of places.new)) }
     {
         self.add(name, place, places)?;
@@ -137,7 +114,7 @@ impl<'l, 'item> Lookup<'l, 'item> {
     ) -> Result<(), AllocError>
         requires { IsWholeFilter self.now.filter }
         ensures { OnOk result (AddsWhere (Passes self.now.filter) (λ x. partial.now ≡ x)
-            (Joins self.now.direction (map ref_of self.now.items.now) place)
+            (Joins self.now.candidates (map ref_of self.now.items.now) place)
             (list_of places.old) (list_of places.new)) }
     {
         if !self.filter.passes(partial) {
@@ -145,7 +122,7 @@ impl<'l, 'item> Lookup<'l, 'item> {
         }
         match places.get_mut(&Key { name: partial }) {
             None => Ok(()),
-            Some(list) => join(self.direction, place, self.items, list),
+            Some(list) => join(self.candidates, place, self.items, list),
         }
     }
 }
@@ -193,17 +170,17 @@ fn below_remotes(below: &[u8]) -> Option<&[u8]>
 
 // Adds a place to those that a partial name takes.
 fn join(
-    direction: Direction,
+    candidates: Candidates,
     place: usize,
     items: &[Item<'_>],
     places: &mut Vec<usize>,
 ) -> Result<(), AllocError>
     ensures { OnOk result (Joins
-        direction (map ref_of items.now) place places.old.items places.new.items) }
+        candidates (map ref_of items.now) place places.old.items places.new.items) }
 {
-    match direction {
-        Direction::Forward => join_first(place, items, places),
-        Direction::Backward => Ok(places.push(place)?),
+    match candidates {
+        Candidates::First => join_first(place, items, places),
+        Candidates::All => Ok(places.push(place)?),
     }
 }
 

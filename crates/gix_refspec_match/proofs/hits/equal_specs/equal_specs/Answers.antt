@@ -1,7 +1,7 @@
 -- A spec is flagged where it has the sides of the one in the key before its own, which is earlier.
 use Rattle.std.proofs.Common.{◌≡◌, ◌⊎◌, inr, List, Bool, Vec, Global, [], length, map, sym, ◌∙◌, subst, arith}
 use Rattle.gix_refspec_text.specs.Views.Spec.{reading_of}
-use Rattle.gix_refspec_match.specs.Private.EqualSpecs.{FlagsEqual}
+use Rattle.gix_refspec_match.specs.Private.Matchers.{FlagsEqual}
 use Rattle.gix_refspec_match.proofs.lemmas.hits.EqualKeyLemmas.{equal_at, flags_more}
 use Rattle.gix_refspec_match.proofs.hits.equal_specs.equal_specs.Goals as goal
 use Rattle.gix_refspec_match.proofs.hits.equal_specs.equal_specs.Goals.{then-has_same_sides+in_ok-raise, else-has_same_sides}

@@ -3,7 +3,7 @@ use Rattle.std.proofs.Common.{ℕ, ◌<◌, ◌+◌, List, Vec, Global, map, sym
 use Rattle.std.specs.List.{AllByRecursion}
 use Rattle.gix_refspec_text.specs.Views.Spec.{reading_of}
 use Rattle.gix_refspec_match.specs.Private.Kept.{Rises, places_in}
-use Rattle.gix_refspec_match.specs.Private.EqualSpecs.{ArePositiveKeys, IsPositiveKey}
+use Rattle.gix_refspec_match.specs.Private.Matchers.{ArePositiveKeys, IsPositiveKey}
 use Rattle.gix_refspec_match.proofs.lemmas.keep.KeyLemmas.{places_same, rises_from_sorted}
 use Rattle.gix_refspec_match.proofs.lemmas.keep.RepeatLemmas.{all_permuted}
 use Rattle.gix_refspec_match.proofs.lemmas.hits.EqualKeyLemmas.{positive_more}

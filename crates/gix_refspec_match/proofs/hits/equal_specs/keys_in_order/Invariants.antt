@@ -3,7 +3,7 @@ use Rattle.std.proofs.Common.{◌<◌, map}
 use Rattle.std.specs.List.{AllByRecursion}
 use Rattle.gix_refspec_text.specs.Views.Spec.{reading_of}
 use Rattle.gix_refspec_match.specs.Private.Kept.{Rises, places_in}
-use Rattle.gix_refspec_match.specs.Private.EqualSpecs.{ArePositiveKeys}
+use Rattle.gix_refspec_match.specs.Private.Matchers.{ArePositiveKeys}
 use Rattle.gix_refspec_match.proofs.hits.equal_specs.keys_in_order.Given as goal
 
 abbrev pub invariant-loop-place : goal.invariant-loop-place

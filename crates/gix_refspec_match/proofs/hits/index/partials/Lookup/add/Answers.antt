@@ -12,14 +12,14 @@ pub returns-then-not-passes : goal.returns-then-not-passes
 returns-then-not-passes c =
     let p = c.args.partial.now in
     let filter = c.args.self.now.filter in
-    adds_nothing (Passes filter) (λ (x : List ℕ). p ≡ x) (Joins c.args.self.now.direction (map ref_of c.args.self.now.items.now) c.args.place) (list_of c.args.places.now)
+    adds_nothing (Passes filter) (λ (x : List ℕ). p ≡ x) (Joins c.args.self.now.candidates (map ref_of c.args.self.now.items.now) c.args.place) (list_of c.args.places.now)
     (λ x w known was same. false≢true (sym c.if-not-passes.true ∙ c.passes.ensures.1 (subst (Passes filter) (sym same) known)))
 
 pub returns-in-None : goal.returns-in-None
 returns-in-None c =
     let p = c.args.partial.now in
     let known = Passes c.args.self.now.filter in
-    let joins = Joins c.args.self.now.direction (map ref_of c.args.self.now.items.now) c.args.place in
+    let joins = Joins c.args.self.now.candidates (map ref_of c.args.self.now.items.now) c.args.place in
     let old = list_of c.args.places.now in
     let none : old p ≡ None = sym c.in-None.ensures.value in
     subst (λ m. AddsWhere known (λ (x : List ℕ). p ≡ x) joins old (list_of m)) (sym c.get_mut.follows.holds-at-none)
@@ -31,7 +31,7 @@ pub returns-in-Some : goal.returns-in-Some
 returns-in-Some c =
     let p = c.args.partial.now in
     let known = Passes c.args.self.now.filter in
-    let joins = Joins c.args.self.now.direction (map ref_of c.args.self.now.items.now) c.args.place in
+    let joins = Joins c.args.self.now.candidates (map ref_of c.args.self.now.items.now) c.args.place in
     let old = c.args.places.now in
     let list = c.join.new.places in
     let new = c.get_mut.follows.lender list in

@@ -15,15 +15,15 @@ use Rattle.std.proofs.lemmas.List.{nil_from_length}
 pub returns-then-is_empty : goal.returns-then-is_empty
 returns-then-is_empty c =
     let none : c.args.names.now ≡ [] = nil_from_length c.args.names.now (eqb-true _ _ (sym c.is_empty.ensures ∙ c.if-is_empty.true)) in
-    no_partials c.args.direction (map name_bytes c.args.names.now) (map ref_of c.args.items.now) (list_of c.in_ok-places.places) (ap (λ (l : List NameRef). map name_bytes l) none)
+    no_partials c.args.candidates (map name_bytes c.args.names.now) (map ref_of c.args.items.now) (list_of c.in_ok-places.places) (ap (λ (l : List NameRef). map name_bytes l) none)
 
 pub loop-place-init : goal.loop-place-init
-loop-place-init c = partials_started c.args.direction (map name_bytes c.args.names.now) (list_of c.in_ok-places.places) c.in_ok-places.ensures
+loop-place-init c = partials_started c.args.candidates (map name_bytes c.args.names.now) (list_of c.in_ok-places.places) c.in_ok-places.ensures
 
 pub loop-place-preserved : goal.loop-place-preserved
 loop-place-preserved c =
     let ns = map name_bytes c.args.names.now in
-    partials_more c.args.direction ns c.args.items.now c.loop-place.place _ c.as_bytes-name.result.now (Passes c.in_ok-filter.filter) (list_of c.loop-place.places) (list_of c.add_item.new.places) c.loop-place-test.true c.as_bytes-name.ensures
+    partials_more c.args.candidates ns c.args.items.now c.loop-place.place _ c.as_bytes-name.result.now (Passes c.in_ok-filter.filter) (list_of c.loop-place.places) (list_of c.add_item.new.places) c.loop-place-test.true c.as_bytes-name.ensures
     (λ x there. all_at (Passes c.in_ok-filter.filter) ns x c.in_ok-filter.ensures.all there)
     c.in_ok-add_item.ensures c.loop-place.invariant
 
@@ -33,11 +33,11 @@ loop-place-preserved-then-not-may_have c =
     let n = c.as_bytes-name.result.now in
     let known = HasTail c.in_ok-tails.tails in
     let listed = list_of c.loop-place.places in
-    partials_more c.args.direction ns c.args.items.now c.loop-place.place _ n known listed listed c.loop-place-test.true c.as_bytes-name.ensures
+    partials_more c.args.candidates ns c.args.items.now c.loop-place.place _ n known listed listed c.loop-place-test.true c.as_bytes-name.ensures
     (λ x there. all_at known ns x c.in_ok-tails.ensures.all there)
-    (adds_nothing known (λ x. IsCandidate x n) (Joins c.args.direction (map ref_of c.args.items.now) c.loop-place.place) listed (λ x w has was. c.may_have.ensures c.if-not-may_have.true x has))
+    (adds_nothing known (λ x. IsCandidate x n) (Joins c.args.candidates (map ref_of c.args.items.now) c.loop-place.place) listed (λ x w has was. c.may_have.ensures c.if-not-may_have.true x has))
     c.loop-place.invariant
 
 pub returns : goal.returns
 returns c =
-    subst (λ (l : List Item). ListPartials c.args.direction (map name_bytes c.args.names.now) (map ref_of l) (list_of c.loop-place.places)) (take_all c.loop-place.place c.args.items.now c.loop-place-test.false) c.loop-place.invariant
+    subst (λ (l : List Item). ListPartials c.args.candidates (map name_bytes c.args.names.now) (map ref_of l) (list_of c.loop-place.places)) (take_all c.loop-place.place c.args.items.now c.loop-place-test.false) c.loop-place.invariant

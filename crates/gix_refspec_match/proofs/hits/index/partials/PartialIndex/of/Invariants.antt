@@ -5,4 +5,4 @@ use Rattle.gix_refspec_match.specs.Private.Index.{ListPartials, list_of}
 use Rattle.gix_refspec_match.proofs.hits.index.partials.PartialIndex.of.Given as goal
 
 abbrev pub invariant-loop-place : goal.invariant-loop-place
-invariant-loop-place l = ListPartials l.direction (map name_bytes l.names) (map ref_of (take l.place l.items)) (list_of l.places)
+invariant-loop-place l = ListPartials l.fn.candidates (map name_bytes l.names) (map ref_of (take l.place l.items)) (list_of l.places)
