@@ -1,12 +1,8 @@
-//! Which mappings are kept: each pair of a source and a destination once, and no source that a
-//! negative spec excludes.
+//! Flags of mappings that are dropped.
 
-ghost use Rattle.std.specs.Prelude.{[], ◌⊎◌, ◌↔◌, ◌<◌, length, map, OnOk, OnErr, IsTrue};
-ghost use Rattle.gix_refspec_text.specs.Views.Spec.{reading_of};
-ghost use Rattle.gix_refspec_match.specs.Views.Mapping.{mapped_of};
-ghost use Rattle.gix_refspec_match.specs.Matching.Mappings.{IsKept};
+ghost use Rattle.std.specs.Prelude.{◌↔◌, IsTrue};
 ghost use Rattle.gix_refspec_match.specs.Matching.Lists.{IsMadeFrom};
-ghost use Rattle.gix_refspec_match.specs.Private.Kept.{HasNegative, IsFlagged, IsKeptBy, IsUnflagged};
+ghost use Rattle.gix_refspec_match.specs.Private.Kept.{IsFlagged, IsUnflagged};
 
 pub(crate) mod exclusions;
 pub mod repeats;

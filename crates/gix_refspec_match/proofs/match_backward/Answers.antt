@@ -39,5 +39,5 @@ returns c =
     (subst (λ (l : List Hit). AddsMapped All es c.as_slice-list.result.now items l first list) c.as_slice.ensures.value c.in_ok-map_backward.ensures) in
     let whole : adds.made ≡ list = sym (adds.all ∙ ap (λ (l : List Mapping). map mapped_of l ++ adds.made) c.in_ok-mappings.ensures.items) in
     IfOk-weaker c.without_duplicates.result (λ kept. IsKept [] list (map mapped_of kept.items)) (λ kept. AreKeptBackward g items (map mapped_of kept.items))
-    (λ kept is. kept_backward g items ms hits es adds.made (map mapped_of kept.items) c.in_ok-matchers.ensures c.in_ok-hits.ensures c.in_ok-exclusions.ensures.ok adds.are (subst (λ l. IsKept [] l (map mapped_of kept.items)) (sym whole) is))
+    (λ kept is. kept_backward g items ms hits es adds.made (map mapped_of kept.items) c.in_ok-matchers.ensures c.in_ok-hits.ensures c.in_ok-exclusions.ensures adds.are (subst (λ l. IsKept [] l (map mapped_of kept.items)) (sym whole) is))
     c.without_duplicates.ensures

@@ -37,5 +37,5 @@ returns c =
     let ids : first ≡ map object_mapping os =
     c.in_ok-map_objects.ensures ∙ ap (λ (l : List Mapping). map mapped_of l ++ map object_mapping c.as_slice.result.now) c.in_ok-mappings.ensures.items ∙ ap (map object_mapping) c.as_slice.ensures.value in
     IfOk-weaker c.without_duplicates.result (λ kept. IsKept [] list (map mapped_of kept.items)) (λ kept. AreKeptForward g items (map mapped_of kept.items))
-    (λ kept is. kept_forward g items ms os hits es adds.made list (map mapped_of kept.items) c.in_ok-matchers.ensures.matchers c.in_ok-matchers.ensures.objects c.in_ok-hits.ensures c.in_ok-exclusions.ensures.ok adds.are (adds.all ∙ ap (λ l. l ++ adds.made) ids) is)
+    (λ kept is. kept_forward g items ms os hits es adds.made list (map mapped_of kept.items) c.in_ok-matchers.ensures.matchers c.in_ok-matchers.ensures.objects c.in_ok-hits.ensures c.in_ok-exclusions.ensures adds.are (adds.all ∙ ap (λ l. l ++ adds.made) ids) is)
     c.without_duplicates.ensures

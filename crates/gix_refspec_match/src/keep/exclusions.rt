@@ -1,14 +1,12 @@
 //! What the negative specs of a group exclude.
 
-ghost use Rattle.std.specs.Prelude.{◌≡◌, ◌⊎◌, ◌↔◌, ℕ, List, map, MatchOption, OnSome, IfOk, OnOk, OnErr, IsTrue};
+ghost use Rattle.std.specs.Prelude.{◌⊎◌, ◌↔◌, ℕ, List, map, MatchOption, IfOk, OnOk, IsTrue};
 ghost use Rattle.gix_refspec_text.specs.Views.Spec.{reading_of};
-ghost use Rattle.gix_refspec_match.specs.Views.Mapping.{mapped_of};
 ghost use Rattle.gix_refspec_match.specs.Matching.Mappings.{IsExcludedBy};
-ghost use Rattle.gix_refspec_text.specs.Specs.Reading.{Negative};
-ghost use Rattle.gix_refspec_match.specs.Private.Kept.{AreExclusionsOf, HasNegative, IsFitted, ExcludeStart, ExcludeName};
+ghost use Rattle.gix_refspec_match.specs.Private.Kept.{AreExclusionsOf, IsFitted, ExcludeName};
 
 use crate::needle::word_between;
-use crate::types::{Mapping, NameRef, SourceRef};
+use crate::types::NameRef;
 use bstr::BStr;
 use gix_refspec_text::RefSpecRef;
 use gix_refspec_text::split::split_at_first;
@@ -44,10 +42,9 @@ impl<'a> Exclusion<'a> {
 
     // What a spec excludes, where it is negative.
     fn of(spec: RefSpecRef<'a>) -> Option<Exclusion<'a>>
-        ensures excludes { MatchOption result
+        ensures { MatchOption result
             ((n : List ℕ) → ¬ (IsExcludedBy n (reading_of spec.entry)))
             (λ exclusion. (n : List ℕ) → ExcludesName exclusion n ↔ IsExcludedBy n (reading_of spec.entry)) }
-        ensures negative { OnSome result ((reading_of spec.entry).mode ≡ Negative) }
     {
         if !spec.is_negative() {
             return None;
@@ -63,22 +60,14 @@ impl<'a> Exclusion<'a> {
 impl<'a> Exclusions<'a> {
     ghost use Rattle.gix_refspec_match.specs.Private.Kept.{ExcludesName};
 
-    // Nothing is excluded.
-    fn none(alloc: Global) -> Exclusions<'a>
-        ensures { (n : List ℕ) → ¬ (ExcludeName result n) }
-    {
-        Exclusions {
-            names: HashSet::new(alloc),
-            patterns: Vec::new(alloc),
-        }
-    }
-
     // What the negative specs among these exclude.
     pub(crate) fn of(alloc: Global, specs: &[RefSpecRef<'a>]) -> Result<Exclusions<'a>, AllocError>
-        ensures ok { IfOk result (AreExclusionsOf (map reading_of specs.now)) }
-        ensures memory { OnErr result (HasNegative (map reading_of specs.now)) }
+        ensures { IfOk result (AreExclusionsOf (map reading_of specs.now)) }
     {
-        let mut exclusions = Exclusions::none(alloc);
+        let mut exclusions = Exclusions {
+            names: HashSet::new(alloc),
+            patterns: Vec::new(alloc),
+        };
         for spec in specs {
             if let Some(exclusion) = Exclusion::of(*spec) {
                 exclusions.add(exclusion)?;
@@ -101,13 +90,6 @@ impl<'a> Exclusions<'a> {
         Ok(())
     }
 
-    // Whether nothing is excluded.
-    pub(crate) fn is_empty(&self) -> bool
-        ensures { IsTrue result → (n : List ℕ) → ¬ (ExcludeName self.now n) }
-    {
-        self.names.is_empty() && self.patterns.is_empty()
-    }
-
     // Whether a name is excluded. It isn't hashed where there are no names to look it up among.
     pub(crate) fn has_name(&self, name: &[u8]) -> bool
         ensures { IsTrue result ↔ ExcludeName self.now name.now }
@@ -116,16 +98,6 @@ impl<'a> Exclusions<'a> {
             return true;
         }
         fits_some(self.patterns.as_slice(), name)
-    }
-
-    // Whether the source of a mapping is a name that is excluded.
-    pub(crate) fn excludes(&self, mapping: &Mapping<'_, '_>) -> bool
-        ensures { IsTrue result ↔ ExcludeStart self.now (mapped_of mapping.now).source }
-    {
-        match &mapping.lhs {
-            SourceRef::FullName(name) => self.has_name(name.as_bstr().as_bytes()),
-            SourceRef::ObjectId(_) => false,
-        }
     }
 }
 

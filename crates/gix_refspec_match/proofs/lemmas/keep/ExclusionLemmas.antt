@@ -22,7 +22,7 @@ use Rattle.gix_refspec_text.specs.Matching.Side.{Fits, Excludes, the_name, by_pa
 use Rattle.gix_refspec_match.specs.Matching.Mappings.{IsExcluded, IsExcludedBy}
 use Rattle.gix_refspec_text.specs.Views.Spec.{reading_of}
 use Rattle.gix_refspec_match.specs.Views.Mapping.{name_bytes}
-use Rattle.gix_refspec_match.specs.Private.Kept.{AreExclusionsOf, FitsName, HasNegative, IsFitted, ExcludeName, ExcludesName, has_name}
+use Rattle.gix_refspec_match.specs.Private.Kept.{AreExclusionsOf, FitsName, IsFitted, ExcludeName, ExcludesName, has_name}
 use Rattle.gix_refspec_text.proofs.lemmas.parsing.SideLemmas.{Lacks-name}
 use Rattle.gix_refspec_text.proofs.lemmas.specs.ReadBackLemmas.{named_either}
 use Rattle.gix_refspec_text.proofs.lemmas.lists.LacksLemmas.{Lacks-here, first_once}
@@ -242,9 +242,3 @@ unfitted_more ps i d n below free before fitted =
       | inl old ↦ before old
       | inr last ↦ free last
     ]
-
--- a spec that is negative
-pub HasNegative-at : (specs : List RefSpecRef) (i : ℕ) (d : RefSpecRef) → i < length specs → (reading_of (get_or specs i d)).mode ≡ Negative → HasNegative (map reading_of specs)
-HasNegative-at [] i d below negative = absurd (omega arith)
-HasNegative-at (s ∷ specs) zero d below negative = inl negative
-HasNegative-at (s ∷ specs) (suc i) d below negative = inr (HasNegative-at specs i d (omega arith) negative)

@@ -10,8 +10,8 @@ use Rattle.gix_refspec_match.proofs.lemmas.keep.ExclusionLemmas.{name_excludes, 
 use Rattle.gix_refspec_match.proofs.keep.exclusions.Exclusion.of.Goals as goal
 use Rattle.gix_refspec_match.proofs.keep.exclusions.Exclusion.of.Goals.{in-None, in-Some}
 
-pub returns-clause-excludes : goal.returns-clause-excludes
-returns-clause-excludes c n =
+pub returns : goal.returns
+returns c n =
     let r = reading_of c.args.spec in
     let x = c.as_bytes-source.result.now in
     let negative : r.mode ≡ Negative = search rules in

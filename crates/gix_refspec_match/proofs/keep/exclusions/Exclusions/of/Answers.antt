@@ -6,7 +6,7 @@ use Rattle.gix_refspec_text.specs.Specs.Reading.{Negative}
 use Rattle.gix_refspec_match.specs.Private.Kept.{AreExclusionsOf}
 use Rattle.gix_refspec_text.specs.declared.spec.RefSpecRef.{RefSpecRef}
 use Rattle.gix_refspec_text.proofs.lemmas.prefixes.PrefixLemmas.{on_any_error}
-use Rattle.gix_refspec_match.proofs.lemmas.keep.ExclusionLemmas.{HasNegative-at, exclusions_more, exclusions_same}
+use Rattle.gix_refspec_match.proofs.lemmas.keep.ExclusionLemmas.{exclusions_more, exclusions_same}
 use Rattle.gix_refspec_match.proofs.keep.exclusions.Exclusions.of.Goals as goal
 use Rattle.gix_refspec_match.proofs.keep.exclusions.Exclusions.of.Goals.{in-Some+in_ok-add, in_default}
 
@@ -17,11 +17,7 @@ loop-spec-preserved c =
     let stays : Exclusions → Type 0 = λ xs. AreExclusionsOf (map reading_of (take (c.loop-spec.spec-index + 1) specs)) xs in
     elim c.match-of.branch [
       | in-Some+in_ok-add w ↦ subst stays (sym w.exclusions-is)
-          (exclusions_more specs c.loop-spec.spec-index c.spec-item.result es w.add.new.self w.in-Some.exclusion (omega arith) c.spec-item.is c.loop-spec.invariant w.in-Some.ensures.excludes w.in_ok-add.ensures)
+          (exclusions_more specs c.loop-spec.spec-index c.spec-item.result es w.add.new.self w.in-Some.exclusion (omega arith) c.spec-item.is c.loop-spec.invariant w.in-Some.ensures w.in_ok-add.ensures)
       | in_default w ↦ subst stays (sym w.exclusions-is)
-          (exclusions_same specs c.loop-spec.spec-index c.spec-item.result es (omega arith) c.spec-item.is c.loop-spec.invariant w.in_default.ensures.excludes)
+          (exclusions_same specs c.loop-spec.spec-index c.spec-item.result es (omega arith) c.spec-item.is c.loop-spec.invariant w.in_default.ensures)
     ]
-
-pub returns-in_err-add-clause-memory : goal.returns-in_err-add-clause-memory
-returns-in_err-add-clause-memory c =
-    on_any_error c.from_residual.result (HasNegative-at c.args.specs.now c.loop-spec.spec-index c.spec-item.result (omega arith) (subst (λ (s : RefSpecRef). (reading_of s).mode ≡ Negative) c.spec-item.is c.in-Some.ensures.negative))
