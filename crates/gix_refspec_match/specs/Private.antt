@@ -5,4 +5,6 @@ pub mod Part
 pub mod Index
 pub mod Kept
 pub mod Filter
-pub mod Shared
+pub mod Bloom
+pub mod Duplicates
+pub mod Orders

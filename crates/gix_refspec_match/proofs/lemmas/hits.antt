@@ -3,5 +3,5 @@ pub mod HitLemmas
 pub mod NoHitLemmas
 pub mod OnceLemmas
 pub mod EqualSpecLemmas
-pub mod EqualKeyLemmas
+pub mod SidesLemmas
 pub mod ReachLemmas

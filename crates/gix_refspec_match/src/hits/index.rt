@@ -20,7 +20,7 @@ use super::ends::{Direction, near_of};
 use super::repeated::{repeated_names, seem_repeated};
 use crate::types::{Item, NameRef};
 use bstr::BStr;
-use filter::Filter;
+use filter::NameFilter;
 use fronts::FrontIndex;
 use gix_refspec_text::RefSpecRef;
 use gix_refspec_text::side::SideKind;
@@ -142,7 +142,7 @@ fn places_of<'n>(
     if names.is_empty() {
         return Ok(places);
     }
-    let filter = Filter::of(alloc, names)?;
+    let filter = NameFilter::of(alloc, names)?;
     for (place, item) in items.iter().enumerate() {
         let name = item.full_ref_name.as_bytes();
         if !filter.passes(name) {

@@ -8,7 +8,7 @@ ghost use Rattle.gix_refspec_text.specs.Matching.Side.{Fits, IsCandidate};
 ghost use Rattle.gix_refspec_match.specs.Private.Filter.{IsWholeFilter, Passes};
 ghost use Rattle.gix_refspec_match.specs.Private.Index.{AddsWhere, IsBelowPlace, Joins, JoinsFirst, ListPartials, list_of, name_at, places_listed};
 
-use super::filter::Filter;
+use super::filter::NameFilter;
 use super::key::Key;
 use super::short_tails::ShortTails;
 use super::{listed_in, without_places};
@@ -43,7 +43,7 @@ impl<'n> PartialIndex<'n> {
         if names.is_empty() {
             return Ok(PartialIndex { direction, places });
         }
-        let filter = Filter::of(alloc, names)?;
+        let filter = NameFilter::of(alloc, names)?;
         let lookup = Lookup {
             direction,
             items,
@@ -95,7 +95,7 @@ impl<'n> PartialIndex<'n> {
 struct Lookup<'l, 'item> {
     direction: Direction,
     items: &'l [Item<'item>],
-    filter: Filter,
+    filter: NameFilter,
 }
 
 impl<'l, 'item> Lookup<'l, 'item> {
