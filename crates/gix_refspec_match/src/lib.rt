@@ -13,6 +13,9 @@ ghost use Rattle.gix_refspec_match.specs.Private.Fills.{AddsMapped, object_mappi
 ghost use Rattle.gix_refspec_match.specs.Private.Hits.{AreSound};
 ghost use Rattle.gix_refspec_match.specs.Private.Matchers.{HaveOthers};
 
+mod bits;
+mod bloom;
+pub mod duplicates;
 pub mod hashes;
 mod hits;
 pub mod keep;

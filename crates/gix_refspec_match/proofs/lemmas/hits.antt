@@ -3,5 +3,5 @@ pub mod HitLemmas
 pub mod FoundLemmas
 pub mod GroupLemmas
 pub mod MatcherLemmas
-pub mod EqualKeyLemmas
+pub mod SidesLemmas
 pub mod ReachLemmas

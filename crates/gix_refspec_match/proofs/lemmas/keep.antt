@@ -1,13 +1,10 @@
 -- Lemmas on which mappings are kept.
 pub mod KeptLemmas
 pub mod RepeatLemmas
-pub mod KeyLemmas
-pub mod PairLemmas
 pub mod ExclusionLemmas
 pub mod KeptPairLemmas
 pub mod ThinLemmas
 pub mod PartLemmas
 pub mod PartMadeLemmas
-pub mod SharedLemmas
 pub mod FillLemmas
 pub mod EngineLemmas

@@ -11,7 +11,8 @@ use Rattle.gix_refspec_match.specs.Views.Mapping.{mapped_of, ref_of}
 use Rattle.gix_refspec_match.specs.Private.Fills.{AddsMapped}
 use Rattle.gix_refspec_match.specs.Private.Hits.{AreSound}
 use Rattle.gix_refspec_match.specs.Private.Matchers.{HaveOthers}
-use Rattle.gix_refspec_match.proofs.lemmas.keep.EngineLemmas.{IfOk-weaker, kept_backward, others_there, sound_among}
+use Rattle.gix_refspec_match.proofs.lemmas.duplicates.FlagLemmas.{ok_weaker}
+use Rattle.gix_refspec_match.proofs.lemmas.keep.EngineLemmas.{kept_backward, others_there, sound_among}
 use Rattle.gix_refspec_match.proofs.match_backward.Goals as goal
 
 pub map_backward-requires-clause-sound : goal.map_backward-requires-clause-sound
@@ -38,6 +39,6 @@ returns c =
     subst (λ (l : List Matcher). AddsMapped All es l items hits first list) c.as_slice-list.ensures.value
     (subst (λ (l : List Hit). AddsMapped All es c.as_slice-list.result.now items l first list) c.as_slice.ensures.value c.in_ok-map_backward.ensures) in
     let whole : adds.made ≡ list = sym (adds.all ∙ ap (λ (l : List Mapping). map mapped_of l ++ adds.made) c.in_ok-mappings.ensures.items) in
-    IfOk-weaker c.without_duplicates.result (λ kept. IsKept [] list (map mapped_of kept.items)) (λ kept. AreKeptBackward g items (map mapped_of kept.items))
+    ok_weaker c.without_duplicates.result (λ kept. IsKept [] list (map mapped_of kept.items)) (λ kept. AreKeptBackward g items (map mapped_of kept.items))
     (λ kept is. kept_backward g items ms hits es adds.made (map mapped_of kept.items) c.in_ok-matchers.ensures c.in_ok-hits.ensures c.in_ok-exclusions.ensures adds.are (subst (λ l. IsKept [] l (map mapped_of kept.items)) (sym whole) is))
     c.without_duplicates.ensures

@@ -10,7 +10,8 @@ use Rattle.gix_refspec_match.specs.Matching.Mappings.{IsKept}
 use Rattle.gix_refspec_match.specs.Views.Mapping.{mapped_of, ref_of}
 use Rattle.gix_refspec_match.specs.Private.Fills.{AddsMapped, object_mapping}
 use Rattle.gix_refspec_match.specs.Private.Hits.{AreSound}
-use Rattle.gix_refspec_match.proofs.lemmas.keep.EngineLemmas.{IfOk-weaker, kept_forward, sound_among}
+use Rattle.gix_refspec_match.proofs.lemmas.duplicates.FlagLemmas.{ok_weaker}
+use Rattle.gix_refspec_match.proofs.lemmas.keep.EngineLemmas.{kept_forward, sound_among}
 use Rattle.gix_refspec_match.proofs.match_forward.Goals as goal
 
 pub map_forward-requires : goal.map_forward-requires
@@ -36,6 +37,6 @@ returns c =
     (subst (λ (l : List Hit). AddsMapped First es c.as_slice-list.result.now items l first list) c.as_slice-2.ensures.value c.in_ok-map_forward.ensures) in
     let ids : first ≡ map object_mapping os =
     c.in_ok-map_objects.ensures ∙ ap (λ (l : List Mapping). map mapped_of l ++ map object_mapping c.as_slice.result.now) c.in_ok-mappings.ensures.items ∙ ap (map object_mapping) c.as_slice.ensures.value in
-    IfOk-weaker c.without_duplicates.result (λ kept. IsKept [] list (map mapped_of kept.items)) (λ kept. AreKeptForward g items (map mapped_of kept.items))
+    ok_weaker c.without_duplicates.result (λ kept. IsKept [] list (map mapped_of kept.items)) (λ kept. AreKeptForward g items (map mapped_of kept.items))
     (λ kept is. kept_forward g items ms os hits es adds.made list (map mapped_of kept.items) c.in_ok-matchers.ensures.matchers c.in_ok-matchers.ensures.objects c.in_ok-hits.ensures c.in_ok-exclusions.ensures adds.are (adds.all ∙ ap (λ l. l ++ adds.made) ids) is)
     c.without_duplicates.ensures

@@ -1,5 +1,5 @@
 -- The matchers of a group, and specs with the sides of an earlier one. Only private functions cite these words.
-use Rattle.std.specs.Prelude.{◌≡◌, ◌⊎◌, ℕ, ◌<◌, ◌%◌, ◌^◌, Bool, List, [], ◌∷◌, Option, Some, IsSome, length, slice_index_or}
+use Rattle.std.specs.Prelude.{◌≡◌, ◌⊎◌, ℕ, Bool, List, [], ◌∷◌, Option, Some, IsSome}
 use Rattle.std.specs.List.{AllByRecursion}
 use Rattle.gix_refspec_match.specs.declared.matcher.Candidates.{Candidates}
 use Rattle.gix_refspec_match.specs.declared.matcher.Candidates.TheVariants.{First, All}
@@ -15,25 +15,9 @@ use Rattle.gix_refspec_text.specs.Matching.Match.{Ref, Matches, Takes}
 use Rattle.gix_refspec_text.specs.Private.SideViews.{kind_of_side}
 use Rattle.gix_refspec_match.specs.Matching.Lists.{IsJoinedFrom}
 use Rattle.gix_refspec_match.specs.Matching.Hits.{Ends, AreForwardEnds, AreBackwardEnds}
+use Rattle.gix_refspec_match.specs.Private.EqualSpecs.{FlagsEqual}
 use Rattle.gix_refspec_match.specs.Private.Kept.{IsFlagged}
 use Rattle.gix_refspec_match.specs.Private.Needles.{HasSideKind}
-
--- both are positive, and have the same sides
-pub record HaveSameSides (r s : Reading) : Type 0 where
-  pub positive : IsPositive r.mode
-  pub positive_too : IsPositive s.mode
-  pub source : r.source ≡ s.source
-  pub destination : r.destination ≡ s.destination
-
--- there is a reading at the index, and it has the sides of one at an earlier index
-pub record IsEqualAt (g : List Reading) (before index : ℕ) : Type 0 where
-  pub earlier : before < index
-  pub inside : index < length g
-  pub same : (d : Reading) → HaveSameSides (slice_index_or g before d) (slice_index_or g index d)
-
--- each reading that is flagged has the sides of an earlier one
-abbrev pub FlagsEqual : List Reading → List Bool → Type 0
-FlagsEqual g flags = (index : ℕ) → IsFlagged flags index → (before : ℕ) × IsEqualAt g before index
 
 -- a positive reading with a source has sides of these kinds
 pub record HaveSides (r : Reading) (sides : Sides) : Type 0 where
@@ -112,12 +96,3 @@ HasNoIdNeedle ms = AllByRecursion (λ m. (id : List ℕ) → ¬ (kind_of_side m.
 -- each matcher has another side
 abbrev pub HaveOthers : List Matcher → Type 0
 HaveOthers ms = AllByRecursion (λ m. IsSome m.other) ms
-
--- the place in the key is that of a positive reading
-pub record IsPositiveKey (g : List Reading) (bits key : ℕ) : Type 0 where
-  pub inside : key % 2 ^ bits < length g
-  pub positive : (d : Reading) → IsPositive (slice_index_or g (key % 2 ^ bits) d).mode
-
--- so is the place in each of the keys
-abbrev pub ArePositiveKeys : List Reading → ℕ → List ℕ → Type 0
-ArePositiveKeys g bits keys = AllByRecursion (IsPositiveKey g bits) keys

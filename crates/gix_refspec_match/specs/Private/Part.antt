@@ -26,11 +26,6 @@ pub record IsRepeatedAt (refs : List Ref) (before place : ℕ) : Type 0 where
 abbrev pub FlagsRepeated : List Ref → List Bool → Type 0
 FlagsRepeated refs flags = (place : ℕ) → IsFlagged flags place → (before : ℕ) × IsRepeatedAt refs before place
 
--- so it is, and there is a flag for each ref, or none at all
-pub record AreFlags (refs : List Ref) (flags : List Bool) : Type 0 where
-  pub fit : (flags ≡ []) ⊎ (length flags ≡ length refs)
-  pub repeated : FlagsRepeated refs flags
-
 -- the mapping, whose item is at a place of the part, with its place among all
 abbrev pub moved : (ℕ → ℕ) → Mapped → Mapped
 moved f m = record { item = option_map f m.item; source = m.source; destination = m.destination; spec = m.spec }

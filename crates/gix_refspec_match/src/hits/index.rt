@@ -19,7 +19,7 @@ mod short_tails;
 use crate::matcher::{Candidates, Matchers};
 use crate::types::{Item, NameRef};
 use bstr::BStr;
-use filter::Filter;
+use filter::NameFilter;
 use fronts::FrontIndex;
 use gix_refspec_text::side::SideKind;
 use key::Key;
@@ -112,7 +112,7 @@ fn places_of<'n>(
     if names.is_empty() {
         return Ok(places);
     }
-    let filter = Filter::of(alloc, names)?;
+    let filter = NameFilter::of(alloc, names)?;
     for (place, item) in items.iter().enumerate() {
         let name = item.full_ref_name.as_bytes();
         if !filter.passes(name) {

@@ -54,19 +54,6 @@ one_index (x ∷ xs) zero (suc k) m n d apart is_m is_n to_m to_n = let same : S
 one_index (x ∷ xs) (suc j) zero m n d apart is_m is_n to_m to_n = let same : Some x ≡ Some n = is_n in let to_x : x.destination ≡ Some d = cc in absurd (first_alone x xs j m d apart to_x is_m to_m)
 one_index (x ∷ xs) (suc j) (suc k) m n d apart is_m is_n to_m to_n = one_index xs j k m n d (apart_right (hash_of x) (destination_hashes xs) apart) is_m is_n to_m to_n
 
--- numbers of which each is below the next are strictly increasing
-pub rises_from_next : (ns : List ℕ) → ((k : ℕ) → suc k < length ns → get_or ns k 0 < get_or ns (suc k) 0) → Rises ns
-rises_from_next [] next = tt
-rises_from_next (n ∷ []) next = (tt, tt)
-rises_from_next (n ∷ m ∷ ns) next =
-    let rest : Rises (m ∷ ns) = rises_from_next (m ∷ ns) (λ k below. next (suc k) (omega arith)) in
-    let first : n < m = next 0 (omega arith) in
-    ((first, all_above n m ns first rest.0), rest)
-  where
-    all_above : (n m : ℕ) (ns : List ℕ) → n < m → AllByRecursion (λ k. m < k) ns → AllByRecursion (λ k. n < k) ns
-    all_above n m [] less all = tt
-    all_above n m (k ∷ ns) less all = let first : m < k = all.0 in (omega (arith, first, less), all_above n m ns less all.1)
-
 -- if the sorted hashes are strictly increasing, there are no duplicates, and so no conflicts
 pub none_contested : (l : List Mapped) (sorted : List ℕ) → IsPermutation (destination_hashes l) sorted → Rises sorted → (d : List ℕ) → ¬ (HasConflictAt l d)
 unfolding AreApart

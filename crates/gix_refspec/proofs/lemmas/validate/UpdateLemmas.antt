@@ -21,7 +21,7 @@ use Rattle.gix_refspec_match.specs.Matching.Mappings.{Mapped}
 use Rattle.gix_refspec_match.specs.Views.Mapping.{mapped_of, name_bytes}
 use Rattle.gix_refspec_match.specs.Private.Kept.{IsFlagged, Rises}
 use Rattle.gix_refspec.specs.Private.Updates.{AreUpdates, GoesTo, HasUpdate, IsRun, update_cmp, updated_indexes}
-use Rattle.gix_refspec_match.proofs.lemmas.keep.PairLemmas.{same_texts, both_equal}
+use Rattle.gix_refspec_match.specs.Private.Orders.{same_texts, both_equal}
 use Rattle.gix_refspec_match.proofs.lemmas.keep.RepeatLemmas.{Rises-push, apart_places}
 use Rattle.gix_refspec_text.proofs.lemmas.lists.AllLemmas.{all_left, all_right, all_join, all_weaker}
 use Rattle.gix_refspec_text.proofs.lemmas.lists.NumberLemmas.{upto}

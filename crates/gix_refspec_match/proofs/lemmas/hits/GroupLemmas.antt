@@ -12,7 +12,8 @@ use Rattle.gix_refspec_text.specs.Matching.Match.{Ref}
 use Rattle.gix_refspec_match.specs.Matching.Lists.{IsMadeFrom, IsJoinedFrom}
 use Rattle.gix_refspec_match.specs.Matching.Mappings.{Mapped, IsSamePair, HasPair}
 use Rattle.gix_refspec_match.specs.Matching.Hits.{Ends, Hit, IsHit, AreHits, AreSpecHits}
-use Rattle.gix_refspec_match.specs.Private.Matchers.{AreMatcherOf, AreMatchersOf, HasEnds, HaveKinds, TakesIn, HaveSameSides, FlagsEqual}
+use Rattle.gix_refspec_match.specs.Private.Matchers.{AreMatcherOf, AreMatchersOf, HasEnds, HaveKinds, TakesIn}
+use Rattle.gix_refspec_match.specs.Private.EqualSpecs.{HaveSameSides, FlagsEqual}
 use Rattle.gix_refspec_match.specs.Private.Fills.{mapping_of, Thins}
 use Rattle.gix_refspec_match.specs.Private.Kept.{IsFlagged}
 use Rattle.gix_refspec_match.proofs.lemmas.hits.FoundLemmas.{of_hits}

@@ -7,7 +7,8 @@ use Rattle.std.specs.Int.{from_le_bytes, w32}
 use Rattle.gix_refspec_match.specs.declared.hits.index.filter.TheConstants.{MIXER}
 use Rattle.gix_refspec_match.specs.declared.hits.index.short_tails.ShortTails.{ShortTails}
 use Rattle.gix_refspec_text.specs.Matching.Side.{IsCandidate}
-use Rattle.gix_refspec_match.specs.Private.Filter.{AreWholeTails, HasMark, HasTail, short_tail_number}
+use Rattle.gix_refspec_match.specs.Private.Bloom.{HasNumber}
+use Rattle.gix_refspec_match.specs.Private.Filter.{AreWholeTails, HasTail, short_tail_number}
 use Rattle.gix_refspec_match.proofs.lemmas.hits.HitLemmas.{candidate_cases}
 
 -- the number of a text of four bytes or more
@@ -25,17 +26,17 @@ short_tail-append before x long =
     ∙ ap (λ (l : List ℕ). (from_le_bytes w32 l * MIXER % 2 ^ 64) / 2 ^ 32) same
     ∙ sym (long_number x long)
 
--- so a candidate of a partial name has a mark, where all of these are told by marks
-pub candidate_marked : (t : ShortTails) (n x : List ℕ) → AreWholeTails t → t.any ≡ false → HasTail t x → IsCandidate x n → HasMark t.marks (short_tail_number n)
+-- so a candidate of a partial name is there, where all of these are told by the Bloom filter
+pub candidate_marked : (t : ShortTails) (n x : List ℕ) → AreWholeTails t → t.any ≡ false → HasTail t x → IsCandidate x n → HasNumber t.tails (short_tail_number n)
 candidate_marked t n x whole none has one = elim (candidate_cases x n one) [
   | inl at ↦ placed at.0 at.2 has
   | inr head ↦ (let is : n ≡ (codes "refs/remotes/" ++ (x ++ codes "/")) ++ codes "HEAD" = head ∙ regrouped x in
-      subst (HasMark t.marks) (sym (ap short_tail_number is ∙ short_tail-append (codes "refs/remotes/" ++ (x ++ codes "/")) (codes "HEAD") (omega arith))) whole.head)
+      subst (HasNumber t.tails) (sym (ap short_tail_number is ∙ short_tail-append (codes "refs/remotes/" ++ (x ++ codes "/")) (codes "HEAD") (omega arith))) whole.head)
 ]
   where
     regrouped : (x : List ℕ) → codes "refs/remotes/" ++ (x ++ codes "/HEAD") ≡ (codes "refs/remotes/" ++ (x ++ codes "/")) ++ codes "HEAD"
     regrouped x = ap (λ (l : List ℕ). codes "refs/remotes/" ++ l) (sym (append_assoc x (codes "/") (codes "HEAD"))) ∙ sym (append_assoc (codes "refs/remotes/") (x ++ codes "/") (codes "HEAD"))
 
-    placed : (before : List ℕ) → n ≡ before ++ x → HasTail t x → HasMark t.marks (short_tail_number n)
+    placed : (before : List ℕ) → n ≡ before ++ x → HasTail t x → HasNumber t.tails (short_tail_number n)
     placed before is (inl any) = absurd (false≢true (sym none ∙ any))
-    placed before is (inr marked) = subst (HasMark t.marks) (sym (ap short_tail_number is ∙ short_tail-append before x marked.0)) marked.1
+    placed before is (inr marked) = subst (HasNumber t.tails) (sym (ap short_tail_number is ∙ short_tail-append before x marked.0)) marked.1

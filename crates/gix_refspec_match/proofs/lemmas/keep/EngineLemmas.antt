@@ -37,11 +37,6 @@ use Rattle.gix_refspec_match.proofs.lemmas.keep.PartLemmas.{all_enough, once_eno
 use Rattle.gix_refspec_text.proofs.lemmas.lists.AllLemmas.{all_join}
 use Rattle.gix_refspec_match.proofs.lemmas.keep.ThinLemmas.{kept_thinned, thins_all, thins_behind, thins_both}
 
--- what follows from what is so of a result
-pub IfOk-weaker : {X E : Type 0} (r : Result X E) (P Q : X → Type 0) → ((x : X) → P x → Q x) → IfOk r P → IfOk r Q
-IfOk-weaker (Ok x) P Q weaker holds = weaker x holds
-IfOk-weaker (Err e) P Q weaker holds = tt
-
 -- ---- matcher by matcher
 
 -- what hits make, one after the other

@@ -1,5 +1,5 @@
 -- The mappings that hits become, hit by hit.
-use Rattle.std.proofs.Common.{◌≡◌, ℕ, ◌+◌, ◌<◌, List, [], ◌∷◌, ◌++◌, Option, None, Some, IsSome, length, map, take, get_or, option_map, option_to_list, unwrap_or, sym, ap, ◌∙◌, subst, append_assoc, arith}
+use Rattle.std.proofs.Common.{◌≡◌, ℕ, ◌+◌, ◌<◌, List, [], ◌∷◌, ◌++◌, Option, None, Some, length, map, take, get_or, option_map, option_to_list, unwrap_or, sym, ap, ◌∙◌, subst, append_assoc, arith}
 use Rattle.std.specs.List.{slice_get}
 use Rattle.std.proofs.lemmas.List.{append-nil, get_or-map, length-map, length-take-le, map-append, take_more}
 use Rattle.std.proofs.lemmas.List.Elements.{All-from_recursion}
@@ -15,7 +15,6 @@ use Rattle.gix_refspec_match.specs.declared.types.Mapping.{Mapping}
 use Rattle.gix_refspec_match.specs.declared.types.NameRef.{NameRef}
 use Rattle.gix_refspec_match.specs.declared.types.NameRef.TheVariants as name_ref
 use Rattle.gix_refspec_match.specs.declared.types.SourceRef.TheVariants as source_ref
-use Rattle.gix_refspec_text.specs.declared.side.SideKind.{SideKind as DeclaredKind}
 use Rattle.gix_refspec_text.specs.Matching.Match.{Ref}
 use Rattle.gix_refspec_text.specs.Private.SideViews.{kind_of_side}
 use Rattle.gix_refspec_match.specs.Matching.Lists.{MakesOf, IsMadeFrom}
@@ -25,10 +24,8 @@ use Rattle.gix_refspec_match.specs.Views.Mapping.{mapped_of, name_bytes, ref_of}
 use Rattle.gix_refspec_match.specs.Private.Fills.{AddsMapped, IsMappedHit, hit_by, hit_of, hit_of_both, mapping_of}
 use Rattle.gix_refspec_match.specs.Private.Hits.{AreSound, IsSound}
 use Rattle.gix_refspec_match.specs.Private.Kept.{ExcludeName, ExcludeStart}
-use Rattle.gix_refspec_match.specs.Private.Matchers.{HaveOthers}
 use Rattle.gix_refspec_match.specs.Private.Needles.{IsMatched, filled_side, word_in}
 use Rattle.gix_refspec_match.proofs.lemmas.lists.JoinLemmas.{made_next}
-use Rattle.std.proofs.lemmas.Bool.{false≢true}
 
 -- ---- a hit that is sound
 

@@ -1,14 +1,14 @@
 -- A part of some items, item by item.
-use Rattle.std.proofs.Common.{◌≡◌, inl, inr, ℕ, zero, suc, ◌+◌, ◌<◌, List, [], ◌∷◌, ◌++◌, Bool, true, length, map, take, get_or, refl, sym, ap, ◌∙◌, subst, append_assoc, arith}
+use Rattle.std.proofs.Common.{◌≡◌, inl, inr, ℕ, zero, suc, ◌+◌, ◌<◌, List, [], ◌∷◌, ◌++◌, Bool, length, map, take, get_or, refl, sym, ap, ◌∙◌, subst, append_assoc, arith}
 use Rattle.std.proofs.lemmas.List.{append-nil, get_or-map, length-append, length-map, map-append, take-map, map_more}
-use Rattle.std.specs.Str.{bytes_eq}
-use Rattle.std.proofs.lemmas.Slice.Eq.{bytes_eq-Decides}
 use Rattle.bstr.specs.BStr.{bstr_bytes}
 use Rattle.gix_refspec_match.specs.declared.types.Item.{Item}
 use Rattle.gix_refspec_text.specs.Matching.Match.{Ref, HasName}
 use Rattle.gix_refspec_match.specs.Views.Mapping.{ref_of}
+use Rattle.gix_refspec_match.specs.Private.Duplicates.{FlagsDuplicates}
 use Rattle.gix_refspec_match.specs.Private.Kept.{IsFlagged}
-use Rattle.gix_refspec_match.specs.Private.Part.{FlagsRepeated, IsPart, IsPartBehind, IsRepeatedAt}
+use Rattle.gix_refspec_match.specs.Private.Orders.{bytes_order, same_texts}
+use Rattle.gix_refspec_match.specs.Private.Part.{FlagsRepeated, IsPart, IsPartBehind}
 use Rattle.gix_refspec_match.proofs.lemmas.lists.JoinLemmas.{map_long}
 
 pub has_before : (refs : List Ref) (i place : ℕ) (d : Ref) (n : List ℕ) → i < place → i < length refs → (get_or refs i d).name ≡ n → HasName (take place refs) n
@@ -67,15 +67,18 @@ item_left items i flags part places below all flagged are =
     subst (λ (l : List Ref). IsPart l (map ref_of part) places) (sym (map_more ref_of items i d below))
     (part_skip [] refs (map ref_of part) places r (subst (λ (l : List Ref). HasName l r.name) (take-map ref_of i items) has) are)
 
--- of two names at places it was told that they are the same
-pub repeated_told : (items : List Item) (before place : ℕ) (told : Bool) (a b : Item) → before < place → place < length items → told ≡ bytes_eq (bstr_bytes (get_or items before a).full_ref_name) (bstr_bytes (get_or items place b).full_ref_name) → told ≡ true → IsRepeatedAt (map ref_of items) before place
-repeated_told items before place told a b less inside is so = record {
-  earlier = less;
-  inside = (let size = length-map items ref_of in omega (arith, inside, size));
-  same = λ d.
-      let first : get_or (map ref_of items) before d ≡ ref_of (get_or items before a) = get_or-map ref_of items before a d (omega (arith, less, inside)) in
-      let second : get_or (map ref_of items) place d ≡ ref_of (get_or items place b) = get_or-map ref_of items place b d inside in
-      ap (λ (r : Ref). r.name) first
-      ∙ (bytes_eq-Decides (bstr_bytes (get_or items before a).full_ref_name) (bstr_bytes (get_or items place b).full_ref_name)).0 (sym is ∙ so)
-      ∙ sym (ap (λ (r : Ref). r.name) second);
-}
+-- duplicates among items have the name of an earlier one
+pub repeated_from_duplicates : (items : List Item) (flags : List Bool) → FlagsDuplicates (λ (x : Item) (y : Item). bytes_order (bstr_bytes x.full_ref_name) (bstr_bytes y.full_ref_name)) items flags → FlagsRepeated (map ref_of items) flags
+repeated_from_duplicates items flags all place flagged =
+    let (below, (j, before, equal)) = (all place).0 flagged in
+    let e = some_item items place below in (
+      j,
+      record {
+        earlier = before;
+        inside = (let size = length-map items ref_of in omega (arith, below, size));
+        same = λ d.
+            ap (λ (r : Ref). r.name) (get_or-map ref_of items j e d (omega (arith, before, below)))
+            ∙ same_texts (bstr_bytes (get_or items j e).full_ref_name) (bstr_bytes (get_or items place e).full_ref_name) (equal e)
+            ∙ sym (ap (λ (r : Ref). r.name) (get_or-map ref_of items place e d below));
+      },
+    )

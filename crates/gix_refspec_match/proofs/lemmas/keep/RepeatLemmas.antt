@@ -1,8 +1,7 @@
--- Mappings with the same pair, by their places.
-use Rattle.std.proofs.Common.{◌≡◌, ◌≢◌, inl, inr, ℕ, ◌+◌, ◌-◌, ◌<◌, List, [], ◌∷◌, ◌++◌, length, take, get_or, suc, zero, eqb, FoldHasher, sym, subst, ◌∙◌, arith}
+-- Numbers that rise, and mappings with the same pair.
+use Rattle.std.proofs.Common.{◌≡◌, ◌≢◌, inl, inr, ℕ, ◌+◌, ◌<◌, List, [], ◌∷◌, ◌++◌, Bool, length, take, get_or, suc, zero, eqb, sym, subst, ◌∙◌, arith}
 use Rattle.std.specs.List.{AllByRecursion, Contains, IsDistinct}
 use Rattle.std.specs.List.Sorted.{IsPermutation}
-use Rattle.std.specs.Hash as fed
 use Rattle.std.proofs.lemmas.List.{take_more}
 use Rattle.std.proofs.lemmas.List.Elements.{All-from_recursion, recursion_from_All}
 use Rattle.std.proofs.lemmas.List.Sorted.{Contains-permutation, All-permutation}
@@ -10,15 +9,11 @@ use Rattle.std.proofs.lemmas.Map.Keys.{IsDistinct-IsPermutation, IsDistinct-from
 use Rattle.std.proofs.lemmas.Cmp.{nat_eq_equiv}
 use Rattle.std.proofs.lemmas.Bool.{eq-eqb, false≢true, ne_eqb}
 use Rattle.gix_refspec_match.specs.declared.types.Mapping.{Mapping}
-use Rattle.gix_refspec_match.specs.declared.keep.repeats.Pair.{Pair}
-use Rattle.gix_refspec_match.specs.Matching.Mappings.{Mapped, IsSamePair}
-use Rattle.gix_refspec_match.specs.Views.Hashed.{source_writes}
-use Rattle.gix_refspec_match.specs.Private.Kept.{hash_after, pair_hash, Has, Rises, IsSameAt}
+use Rattle.gix_refspec_match.specs.Private.Duplicates.{FlagsDuplicates}
+use Rattle.gix_refspec_match.specs.Private.Kept.{FlagsRepeats, Has, Rises}
+use Rattle.gix_refspec_match.specs.Private.Orders.{equal_pair, pair_order, same_pair}
+use Rattle.gix_refspec_match.specs.Views.Mapping.{mapped_of}
 use Rattle.gix_refspec_text.proofs.lemmas.lists.AllLemmas.{all_join}
-
--- some pair up to a place is for the mapping at k, which has the pair of the one before it
-abbrev pub FollowsSame : List Mapping → List Pair → ℕ → ℕ → Type 0
-FollowsSame ms ps at k = (i : ℕ) × (0 < i) × (i < at) × ((d : Pair) → ((get_or ps i d).place ≡ k) × IsSameAt ms (get_or ps (i - 1) d).place k)
 
 pub Has-left : (xs ys : List ℕ) (k : ℕ) → Has xs k → Has (xs ++ ys) k
 Has-left [] ys k has = absurd has
@@ -74,11 +69,14 @@ apart_places xs ys moved rises i j d before below same =
     let still : IsDistinct eqb ys = IsDistinct-IsPermutation eqb (λ x y. nat_eq_equiv.symm x y) xs ys moved distinct in
     false≢true (sym (apart_from_distinct eqb ys i j d still before below) ∙ eq-eqb (get_or ys i d) (get_or ys j d) same)
 
--- the same pair has the same hash
-pub pair_hash-same : (seed : FoldHasher) (a b : Mapped) → IsSamePair a b → pair_hash seed a ≡ pair_hash seed b
-pair_hash-same seed a b same = λ i. hash_after seed (source_writes (same.source i) ++ fed.option (λ d. d ∷ []) (same.destination i))
-
 -- some mapping of a list
 pub some_mapping : (ms : List Mapping) (k : ℕ) → k < length ms → Mapping
 some_mapping [] k below = absurd (omega arith)
 some_mapping (m ∷ ms) k below = m
+
+-- duplicates among mappings repeat the pair of an earlier one
+pub repeats_from_duplicates : (ms : List Mapping) (flags : List Bool) → FlagsDuplicates (λ (m : Mapping) (n : Mapping). pair_order (mapped_of m) (mapped_of n)) ms flags → FlagsRepeats ms flags
+repeats_from_duplicates ms flags all k below = (
+  (λ now. let (inside, (j, before, equal)) = (all k).0 now in (j, before, λ d. same_pair (mapped_of (get_or ms j d)) (mapped_of (get_or ms k d)) (equal d))),
+  (λ (j, before, same). (all k).1 (below, (j, before, λ d. equal_pair (mapped_of (get_or ms j d)) (mapped_of (get_or ms k d)) (same d)))),
+)

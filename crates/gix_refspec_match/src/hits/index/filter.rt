@@ -1,82 +1,22 @@
-//! Which names may be asked for. Most others are told apart by their length, by their last bytes or by the
-//! mark of their hash, which is cheaper than to look for them.
+//! Which names may be asked for. Most others are told apart by their length, by their last bytes or by their
+//! hash, by Bloom filters, which is cheaper than to look for them.
 
-ghost use Rattle.std.specs.Prelude.{◌≡◌, ◌↔◌, ◌<◌, ◌%◌, ◌^◌, ℕ, List, length, map, IfOk, IsTrue};
+ghost use Rattle.std.specs.Prelude.{◌≡◌, ◌↔◌, ℕ, List, length, map, IfOk, IsTrue};
 ghost use Rattle.std.specs.List.{AllByRecursion};
 ghost use Rattle.gix_refspec_match.specs.Views.Mapping.{name_bytes};
-ghost use Rattle.gix_refspec_match.specs.Private.Filter.{HasMark, IsWhole, IsWholeFilter, Passes, tail_number};
+ghost use Rattle.gix_refspec_match.specs.Private.Filter.{IsWholeFilter, Passes, tail_number};
 
+use crate::bloom::Bloom;
 use crate::hashes::hash_of_name;
 use crate::types::NameRef;
 use std::alloc::{AllocError, Global};
 
-// How many lengths have marks of their own.
+// For how many lengths there are bits.
 const LENGTHS: usize = 128;
-
-// At most one place in four is marked, so that most names that aren't asked for fail one of two looks.
-const MARKS_A_NAME: usize = 4;
-
-// How many marks there are at least, since for few names more of them cost little.
-const LEAST_MARKS: usize = 64;
 
 // Mixes the bytes of a number. Any odd number serves that has ones and zeros everywhere: this one is made
 // from the golden ratio.
 pub(super) const MIXER: u64 = 0x9e37_79b9_7f4a_7c15;
-
-// Marks of numbers by their lower bits.
-#[derive(Drop)]
-pub(super) struct Marks {
-    flags: Vec<bool>,
-    bits: u32,
-}
-
-impl Marks {
-    // No marks yet, and places for at least `room`.
-    fn new(alloc: Global, room: usize) -> Result<Marks, AllocError>
-        ensures { IfOk result IsWhole }
-    {
-        let bits = (usize::BITS - room.saturating_sub(1).leading_zeros()).min(62);
-        let mut flags = Vec::new(alloc);
-        flags.resize(1 << bits, false)?;
-        Ok(Marks { flags, bits })
-    }
-
-    // No marks yet, and places for those of so many names.
-    pub(super) fn for_names(alloc: Global, count: usize) -> Result<Marks, AllocError>
-        ensures { IfOk result IsWhole }
-    {
-        Marks::new(alloc, count.saturating_mul(MARKS_A_NAME).max(LEAST_MARKS))
-    }
-
-    // The place of the mark of a number.
-    #[inline(always)]
-    fn place(&self, number: u64) -> usize
-        requires { IsWhole self.now }
-        ensures { result ≡ number % 2 ^ self.now.bits }
-    {
-        (number & ((1 << self.bits) - 1)) as usize
-    }
-
-    // Marks a number.
-    pub(super) fn add(&mut self, number: u64)
-        requires { IsWhole self.old }
-        ensures whole { IsWhole self.new }
-        ensures here { HasMark self.new number }
-        ensures others { (k : ℕ) → HasMark self.old k → HasMark self.new k }
-    {
-        let place = self.place(number);
-        self.flags[place] = true;
-    }
-
-    // Whether a number has a mark.
-    #[inline(always)]
-    pub(super) fn has(&self, number: u64) -> bool
-        requires { IsWhole self.now }
-        ensures { IsTrue result ↔ HasMark self.now number }
-    {
-        self.flags[self.place(number)]
-    }
-}
 
 // A number of a name's last eight bytes, which tells most names apart. Shorter names have 0.
 #[inline(always)]
@@ -89,25 +29,25 @@ fn tail_of(name: &[u8]) -> u64
     }
 }
 
-// Marks of the lengths, of the last bytes and of the hashes of some names.
+// The lengths, the last bytes and the hashes of some names.
 #[derive(Drop)]
-pub(crate) struct Filter {
-    lengths: Marks,
-    tails: Marks,
-    hashes: Marks,
+pub(crate) struct NameFilter {
+    lengths: Bloom,
+    tails: Bloom,
+    hashes: Bloom,
 }
 
-impl Filter {
+impl NameFilter {
     // The filter that some names pass.
-    pub(crate) fn of(alloc: Global, names: &[NameRef<'_>]) -> Result<Filter, AllocError>
+    pub(crate) fn of(alloc: Global, names: &[NameRef<'_>]) -> Result<NameFilter, AllocError>
         ensures whole { IfOk result IsWholeFilter }
         ensures all { IfOk result (λ filter. AllByRecursion
             (Passes filter) (map name_bytes names.now)) }
     {
-        let mut filter = Filter {
-            lengths: Marks::new(alloc, LENGTHS)?,
-            tails: Marks::for_names(alloc, names.len())?,
-            hashes: Marks::for_names(alloc, names.len())?,
+        let mut filter = NameFilter {
+            lengths: Bloom::new(alloc, LENGTHS)?,
+            tails: Bloom::new(alloc, names.len())?,
+            hashes: Bloom::new(alloc, names.len())?,
         };
         for name in names {
             filter.add(name.as_bstr().as_bytes());

@@ -8,7 +8,7 @@ ghost use Rattle.gix_refspec_text.specs.Matching.Side.{Fits, IsCandidate};
 ghost use Rattle.gix_refspec_match.specs.Private.Filter.{IsWholeFilter, Passes};
 ghost use Rattle.gix_refspec_match.specs.Private.Index.{AddsWhere, IsBelowPlace, Joins, JoinsFirst, ListPartials, list_of, name_at, places_listed};
 
-use super::filter::Filter;
+use super::filter::NameFilter;
 use super::key::Key;
 use super::short_tails::ShortTails;
 use super::without_places;
@@ -39,7 +39,7 @@ impl<'n> PartialIndex<'n> {
         if names.is_empty() {
             return Ok(PartialIndex { places });
         }
-        let filter = Filter::of(alloc, names)?;
+        let filter = NameFilter::of(alloc, names)?;
         let lookup = Lookup {
             candidates,
             items,
@@ -72,7 +72,7 @@ impl<'n> PartialIndex<'n> {
 struct Lookup<'l, 'item> {
     candidates: Candidates,
     items: &'l [Item<'item>],
-    filter: Filter,
+    filter: NameFilter,
 }
 
 impl<'l, 'item> Lookup<'l, 'item> {

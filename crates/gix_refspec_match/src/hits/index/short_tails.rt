@@ -7,17 +7,18 @@ ghost use Rattle.gix_refspec_text.specs.Matching.Side.{IsCandidate};
 ghost use Rattle.gix_refspec_match.specs.Views.Mapping.{name_bytes};
 ghost use Rattle.gix_refspec_match.specs.Private.Filter.{AreWholeTails, HasTail, short_tail_number};
 
-use super::filter::{MIXER, Marks};
+use super::filter::MIXER;
+use crate::bloom::Bloom;
 use crate::types::NameRef;
 use std::alloc::{AllocError, Global};
 
 // How many bytes are looked at. Few partial names are shorter.
 const TAIL: usize = 4;
 
-// Marks of the last four bytes of partial names, and of `HEAD`.
+// The last four bytes of partial names, and `HEAD`.
 #[derive(Drop)]
 pub(crate) struct ShortTails {
-    marks: Marks,
+    tails: Bloom,
     // Whether a partial name is shorter, so that any name may be its candidate.
     any: bool,
 }
@@ -34,22 +35,22 @@ fn short_tail_of(name: &[u8]) -> u64
 }
 
 impl ShortTails {
-    // The marks of some partial names.
+    // Those of some partial names.
     pub(super) fn of(alloc: Global, names: &[NameRef<'_>]) -> Result<ShortTails, AllocError>
         ensures whole { IfOk result AreWholeTails }
         ensures all { IfOk result (λ tails. AllByRecursion
             (HasTail tails) (map name_bytes names.now)) }
     {
-        let mut marks = Marks::for_names(alloc, names.len())?;
-        marks.add(short_tail_of(b"HEAD"));
-        let mut tails = ShortTails { marks, any: false };
+        let mut tails = Bloom::new(alloc, names.len())?;
+        tails.add(short_tail_of(b"HEAD"));
+        let mut short_tails = ShortTails { tails, any: false };
         for name in names {
-            tails.add(name.as_bstr().as_bytes());
+            short_tails.add(name.as_bstr().as_bytes());
         }
-        Ok(tails)
+        Ok(short_tails)
     }
 
-    // Marks the last bytes of a partial name.
+    // Adds a partial name.
     fn add(&mut self, name: &[u8])
         requires { AreWholeTails self.old }
         ensures whole { AreWholeTails self.new }
@@ -57,7 +58,7 @@ impl ShortTails {
         ensures others { (x : List ℕ) → HasTail self.old x → HasTail self.new x }
     {
         self.any = self.any || name.len() < TAIL;
-        self.marks.add(short_tail_of(name));
+        self.tails.add(short_tail_of(name));
     }
 
     // Whether a name may be a candidate.
@@ -67,6 +68,6 @@ impl ShortTails {
         ensures { result ≡ false → (x : List ℕ)
             → HasTail self.now x → ¬ (IsCandidate x name.now) }
     {
-        self.any || self.marks.has(short_tail_of(name))
+        self.any || self.tails.has(short_tail_of(name))
     }
 }

@@ -1,7 +1,6 @@
 -- Each spec has a matcher, an object or none.
-use Rattle.std.proofs.Common.{◌+◌, [], ◌∷◌, Vec, Global, map, take, sym, subst}
+use Rattle.std.proofs.Common.{◌+◌, [], ◌∷◌, Vec, Global, map, take, sym, subst, ◌∙◌}
 use Rattle.std.proofs.lemmas.Bool.{false≢true}
-use Rattle.std.proofs.Common.{◌∙◌}
 use Rattle.gix_refspec_match.specs.declared.matcher.Candidates.TheVariants.{First}
 use Rattle.gix_refspec_match.specs.declared.matcher.Matcher.{Matcher}
 use Rattle.gix_refspec_match.specs.declared.matcher.ObjectSpec.{ObjectSpec}

@@ -1,11 +1,8 @@
 -- one more spec
-use Rattle.std.proofs.Common.{◌≡◌, map, take, ◌+◌, sym, subst, arith}
+use Rattle.std.proofs.Common.{map, take, ◌+◌, sym, subst, arith}
 use Rattle.gix_refspec_match.specs.declared.keep.exclusions.Exclusions.{Exclusions}
 use Rattle.gix_refspec_text.specs.Views.Spec.{reading_of}
-use Rattle.gix_refspec_text.specs.Specs.Reading.{Negative}
 use Rattle.gix_refspec_match.specs.Private.Kept.{AreExclusionsOf}
-use Rattle.gix_refspec_text.specs.declared.spec.RefSpecRef.{RefSpecRef}
-use Rattle.gix_refspec_text.proofs.lemmas.prefixes.PrefixLemmas.{on_any_error}
 use Rattle.gix_refspec_match.proofs.lemmas.keep.ExclusionLemmas.{exclusions_more, exclusions_same}
 use Rattle.gix_refspec_match.proofs.keep.exclusions.Exclusions.of.Goals as goal
 use Rattle.gix_refspec_match.proofs.keep.exclusions.Exclusions.of.Goals.{in-Some+in_ok-add, in_default}

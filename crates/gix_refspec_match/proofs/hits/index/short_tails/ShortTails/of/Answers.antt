@@ -1,4 +1,4 @@
--- one more name has its mark, and the earlier ones still do
+-- one more name is there, and the earlier ones still do
 use Rattle.std.proofs.Common.{[], ◌∷◌, List, ℕ, map, take, sym, subst, ◌∙◌}
 use Rattle.std.specs.List.{AllByRecursion}
 use Rattle.gix_refspec_match.specs.Views.Mapping.{name_bytes}
@@ -17,6 +17,6 @@ loop-name-preserved c =
       c.add-in-loop-name.ensures.whole,
       subst (λ (l : List (List ℕ)). AllByRecursion (HasTail new) l) (sym (names_more name_bytes names i c.name-item.result n c.loop-name-test.true c.name-item.is (c.as_bytes.ensures ∙ c.as_bstr.ensures)))
           (all_join (HasTail new) ns (n ∷ [])
-          (all_weaker (HasTail c.loop-name.tails) (HasTail new) c.add-in-loop-name.ensures.others ns c.loop-name.invariant.1)
+          (all_weaker (HasTail c.loop-name.short_tails) (HasTail new) c.add-in-loop-name.ensures.others ns c.loop-name.invariant.1)
           (c.add-in-loop-name.ensures.here, tt)),
     )

@@ -1,8 +1,0 @@
--- what is flagged so far repeats
-use Rattle.std.proofs.Common.{map}
-use Rattle.gix_refspec_match.specs.Views.Mapping.{ref_of}
-use Rattle.gix_refspec_match.specs.Private.Part.{AreFlags}
-use Rattle.gix_refspec_match.proofs.hits.repeated.repeated_names.Given as goal
-
-abbrev pub invariant-loop-seed : goal.invariant-loop-seed
-invariant-loop-seed l = AreFlags (map ref_of l.items) l.flags.items

@@ -1,0 +1,5 @@
+-- Lemmas on elements that equal earlier ones.
+pub mod BloomLemmas
+pub mod HashKeyLemmas
+pub mod FlagLemmas
+pub mod OrderedLemmas
