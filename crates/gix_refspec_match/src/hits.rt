@@ -10,16 +10,18 @@ ghost use Rattle.gix_refspec_match.specs.Private.Part.{place_among};
 
 pub(crate) mod equal_specs;
 pub(crate) mod index;
-pub(crate) mod repeated;
 
+use crate::duplicates::duplicates;
 use crate::matcher::{Candidates, Matchers};
 use crate::needle::matches;
 use crate::types::Item;
 use crate::unique::Unique;
 use gix_refspec_text::side::SideKind;
 use index::{Index, Names};
-use repeated::seem_repeated;
 use std::alloc::{AllocError, Global};
+
+// Of how many items the names are compared to guess whether more repeat.
+const SAMPLE: usize = 256;
 
 // A matcher's hit on an item, by the indexes of both.
 #[derive(Clone, Copy)]
@@ -41,7 +43,8 @@ pub(crate) fn hits_among(
     if matchers.has_ids() {
         return all_hits(alloc, matchers, items);
     }
-    if !seem_repeated(alloc, items)? {
+    let sample = &items[..items.len().min(SAMPLE)];
+    if duplicates(alloc, sample)?.is_empty() {
         if let Some(hits) = hits_within(alloc, matchers, items, Some(items.len()))? {
             return Ok(hits);
         }
@@ -58,9 +61,7 @@ fn unique_hits(
     requires { HasNoIdNeedle matchers.now }
     ensures { IfOk result (λ hits. AreHitsAmong matchers.now (map ref_of items.now) hits.items) }
 {
-    let Some(unique) = Unique::of(alloc, items)? else {
-        return all_hits(alloc, matchers, items);
-    };
+    let unique = Unique::of(alloc, items)?;
     let mut hits = all_hits(alloc, matchers, unique.items.as_slice())?;
     turn_back(hits.as_mut_slice(), unique.indexes.as_slice());
     Ok(hits)

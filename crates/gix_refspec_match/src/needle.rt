@@ -3,10 +3,10 @@
 ghost use Rattle.std.specs.Prelude.{◌≡◌, ◌++◌, codes, ◌⊎◌, ◌↔◌, ℕ, List, MatchOption, option_map, IfOk, IsTrue, Some};
 ghost use Rattle.bstr.specs.Owned.{bstring_bytes};
 ghost use Rattle.gix_refspec_text.specs.Texts.ObjectId.{id_bytes, lower_of};
-ghost use Rattle.gix_refspec_text.specs.Matching.Side.{Fits, IsCandidate, full_name_of};
+ghost use Rattle.gix_refspec_text.specs.Matching.Side.{Fits, full_name_of};
 ghost use Rattle.gix_refspec_match.specs.Views.Mapping.{name_bytes, ref_of};
 ghost use Rattle.gix_refspec_text.specs.Private.SideViews.{kind_of_side};
-ghost use Rattle.gix_refspec_match.specs.Private.Needles.{IsFolder, IsMatched, filled_side, word_in as word_of};
+ghost use Rattle.gix_refspec_match.specs.Private.Needles.{IsMatched, MatchesListed, filled_side, word_in as word_of};
 
 use crate::types::{Item, NameRef};
 use bstr::{BStr, BString};
@@ -14,17 +14,18 @@ use gix_refspec_text::oid::ObjectId;
 use gix_refspec_text::side::{SideKind, joined};
 use std::alloc::{AllocError, Global};
 
-// Whether a needle matches an item. It is inlined, since it is called for each item of each matcher.
+// Whether a needle matches an item that is listed for it. What is listed for a partial name it takes. It is
+// inlined, since it is called for each item of each matcher.
 #[inline(always)]
 pub(crate) fn matches(needle: SideKind<'_>, item: &Item<'_>) -> bool
-    ensures { IsTrue result ↔ IsMatched (kind_of_side needle.entry) (ref_of item.now) }
+    ensures { IsTrue result ↔ MatchesListed (kind_of_side needle.entry) (ref_of item.now) }
 {
     let name = item.full_ref_name.as_bytes();
     match needle {
         SideKind::Pattern { before, after } => word_between(before, after, name).is_some(),
         SideKind::FullName(full) => name == full,
         SideKind::Object(id) => points_to(item, &id),
-        SideKind::Partial(partial) => is_candidate(partial, name),
+        SideKind::Partial(_) => true,
     }
 }
 
@@ -117,44 +118,4 @@ fn points_to(item: &Item<'_>, id: &ObjectId) -> bool
         None => false,
         Some(object) => object == id,
     }
-}
-
-// Whether a name is a candidate of a partial name.
-fn is_candidate(partial: &[u8], name: &[u8]) -> bool
-    ensures { IsTrue result ↔ IsCandidate partial.now name.now }
-{
-    is_in_folder(partial, name) || is_remote_head(partial, name)
-}
-
-// Whether a name is a partial name after one of the folders that are tried for it.
-fn is_in_folder(partial: &[u8], name: &[u8]) -> bool
-    ensures { IsTrue result ↔
-        ((before : List ℕ) × IsFolder before × (name.now ≡ before ++ partial.now)) }
-{
-    match name.strip_suffix(partial) {
-        None => false,
-        Some(before) => is_folder(before),
-    }
-}
-
-// Whether a name is the head of the remote that a partial name names.
-fn is_remote_head(partial: &[u8], name: &[u8]) -> bool
-    ensures { IsTrue result ↔
-        (name.now ≡ codes "refs/remotes/" ++ (partial.now ++ codes "/HEAD")) }
-{
-    match word_between(b"refs/remotes/", b"/HEAD", name) {
-        None => false,
-        Some(remote) => remote == partial,
-    }
-}
-
-// Whether these bytes are tried before a partial name, with nothing after it.
-fn is_folder(before: &[u8]) -> bool
-    ensures { IsTrue result ↔ IsFolder before.now }
-{
-    before == b"".as_slice()
-        || before == b"refs/".as_slice()
-        || before == b"refs/tags/".as_slice()
-        || before == b"refs/heads/".as_slice()
-        || before == b"refs/remotes/".as_slice()
 }

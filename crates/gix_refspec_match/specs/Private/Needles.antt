@@ -1,5 +1,5 @@
 -- What needles match, and what the other side becomes, for functions that callers of the library can't reach.
-use Rattle.std.specs.Prelude.{◌≡◌, ◌⊎◌, ◌-◌, ℕ, List, [], Option, None, Some, take, drop, length, codes}
+use Rattle.std.specs.Prelude.{◌-◌, ℕ, List, Option, None, Some, take, drop, length}
 use Rattle.gix_refspec_text.specs.declared.side.SideKind.{SideKind as DeclaredKind}
 use Rattle.gix_refspec_text.specs.Matching.Side.{SideKind, pattern, full_name, object, partial, HasKind, filled}
 use Rattle.gix_refspec_text.specs.Matching.Match.{Ref, MatchesAs, IsFirstCandidate}
@@ -7,13 +7,16 @@ use Rattle.gix_refspec_text.specs.Private.SideViews.{kind_of_side}
 use Rattle.gix_refspec_match.specs.declared.matcher.Candidates.{Candidates}
 use Rattle.gix_refspec_match.specs.declared.matcher.Candidates.TheVariants.{First, All}
 
--- the bytes are tried before a partial name, with nothing after it
-abbrev pub IsFolder : List ℕ → Type 0
-IsFolder x = (x ≡ []) ⊎ (x ≡ codes "refs/") ⊎ (x ≡ codes "refs/tags/") ⊎ (x ≡ codes "refs/heads/") ⊎ (x ≡ codes "refs/remotes/")
-
 -- a side of the kind matches the ref, a pattern with some word
 abbrev pub IsMatched : SideKind → Ref → Type 0
 IsMatched kind r = (word : Option (List ℕ)) × MatchesAs kind r word
+
+-- so it does a ref that is listed for it: what is listed for a partial name is what it takes
+abbrev pub MatchesListed : SideKind → Ref → Type 0
+MatchesListed (pattern before after) r = IsMatched (pattern before after) r
+MatchesListed (full_name x) r = IsMatched (full_name x) r
+MatchesListed (object id) r = IsMatched (object id) r
+MatchesListed (partial x) r = Unit {0}
 
 -- of a pattern, what is between its two texts in a name that it matches
 abbrev pub word_in : SideKind → List ℕ → Option (List ℕ)

@@ -24,7 +24,7 @@ use Rattle.gix_refspec_match.specs.Matching.Mappings.{Mapped, IsKept, IsKeptAt}
 use Rattle.gix_refspec_match.specs.Matching.Hits.{Ends, OneForward, OneBackward, IsIdMapping, AreForward, AreBackward, forward_of, backward_of, AreForwardEnds, AreBackwardEnds, AreSpecHits, AreHits, Hit, IsHit, IsFilled}
 use Rattle.gix_refspec_text.specs.Private.SideViews.{kind_of_side}
 use Rattle.gix_refspec_match.specs.Private.Matchers.{HaveKinds, HasEnds, TakesIn}
-use Rattle.gix_refspec_match.specs.Private.Needles.{IsFolder, HasSideKind, IsFirstIn, filled_side}
+use Rattle.gix_refspec_match.specs.Private.Needles.{HasSideKind, IsFirstIn, filled_side}
 use Rattle.gix_refspec_match.specs.Matching.Mappings as mappings
 use Rattle.gix_refspec_text.proofs.lemmas.texts.ObjectIdLemmas.{IsIdText-unique}
 use Rattle.gix_refspec_text.proofs.lemmas.specs.AcceptedLemmas.{accepted_few}
@@ -51,6 +51,10 @@ front_and_rest before n front rest split same = sym (take-append-drop (length be
 pub word_left : (before after n rest : List ℕ) (r : Option (Bor (List ℕ))) → n ≡ before ++ rest → MatchOption r ((front : List ℕ) → rest ≢ front ++ after) (λ x. rest ≡ x.now ++ after) → MatchOption r ((word : List ℕ) → ¬ (Fits before after n word)) (λ word. Fits before after n word.now)
 word_left before after n rest None front left = λ word fits. left word (append_cancel_left before rest (word ++ after) (sym front ∙ fits))
 word_left before after n rest (Some x) front left = front ∙ ap (λ y. before ++ y) left
+
+-- the bytes are tried before a partial name, with nothing after it
+abbrev pub IsFolder : List ℕ → Type 0
+IsFolder x = (x ≡ []) ⊎ (x ≡ codes "refs/") ⊎ (x ≡ codes "refs/tags/") ⊎ (x ≡ codes "refs/heads/") ⊎ (x ≡ codes "refs/remotes/")
 
 -- n is one of the texts
 abbrev IsOneOf : List ℕ → List (List ℕ) → Type 0

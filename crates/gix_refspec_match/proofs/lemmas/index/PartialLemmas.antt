@@ -12,10 +12,9 @@ use Rattle.gix_refspec_text.specs.Texts.Words.{BeginsWith}
 use Rattle.gix_refspec_text.specs.Matching.Side.{partial, IsCandidate, Fits}
 use Rattle.gix_refspec_text.specs.Matching.Match.{Ref}
 use Rattle.gix_refspec_match.specs.Views.Mapping.{ref_of}
-use Rattle.gix_refspec_match.specs.Private.Needles.{IsFolder}
 use Rattle.gix_refspec_match.specs.Private.Index.{AddsWhere, ArePlacesTaken, HavePlaces, IsBelowPlace, Joins, ListPartials}
 use Rattle.gix_refspec_match.proofs.lemmas.index.FirstPlacesLemmas.{taken_joins, taken_stays}
-use Rattle.gix_refspec_match.proofs.lemmas.hits.HitLemmas.{candidate_cases, placed_candidate, remote_candidate}
+use Rattle.gix_refspec_match.proofs.lemmas.hits.HitLemmas.{IsFolder, candidate_cases, placed_candidate, remote_candidate}
 use Rattle.gix_refspec_match.proofs.lemmas.index.IndexLemmas.{Puts, put_cases}
 use Rattle.gix_refspec_text.proofs.lemmas.hits.MatchLemmas.{one_word}
 use Rattle.gix_refspec_match.proofs.lemmas.lists.JoinLemmas.{map_split, map_long}

@@ -18,7 +18,7 @@ use Rattle.gix_refspec_text.specs.Private.SideViews.{kind_of_side}
 use Rattle.gix_refspec_match.specs.Matching.Lists.{MakesOf, IsJoinedFrom, IsMadeFrom}
 use Rattle.gix_refspec_match.specs.Private.Hits.{AddsFound, AreFound, IsFound, hit_at}
 use Rattle.gix_refspec_match.specs.Private.Index.{ArePlacesTaken, IsIndexFor, IsIndexOf, IsListed, HasNamesOf, ListsFor, TakesWhole}
-use Rattle.gix_refspec_match.specs.Private.Needles.{IsMatched, IsTaken, TakesEach}
+use Rattle.gix_refspec_match.specs.Private.Needles.{MatchesListed, IsTaken, TakesEach}
 use Rattle.gix_refspec_text.proofs.lemmas.hits.CandidateLemmas.{first_candidate}
 use Rattle.gix_refspec_match.proofs.lemmas.hits.FoundLemmas.{blank}
 use Rattle.gix_refspec_match.proofs.lemmas.lists.JoinLemmas.{joined_next, made_next, map_long}
@@ -35,11 +35,18 @@ whole_taken x First items r first = record { matched = (None, (refl, first_candi
 whole_taken x All items r matches = record { matched = (None, matches); first = tt }
 
 -- a needle of another kind takes what it matches
-each_taken : (kind : SideKind) (which : Candidates) (items : List Ref) (r : Ref) → TakesEach kind → IsMatched kind r → IsTaken which items kind r
+each_taken : (kind : SideKind) (which : Candidates) (items : List Ref) (r : Ref) → TakesEach kind → MatchesListed kind r → IsTaken which items kind r
 each_taken (pattern before after) which items r each is = record { matched = is; first = tt }
 each_taken (full_name x) which items r each is = record { matched = is; first = tt }
 each_taken (object id) which items r each is = record { matched = is; first = tt }
 each_taken (partial x) which items r each is = absurd each
+
+-- and it matches what it takes
+taken_matches : (kind : SideKind) (which : Candidates) (items : List Ref) (r : Ref) → IsTaken which items kind r → MatchesListed kind r
+taken_matches (pattern before after) which items r taken = taken.matched
+taken_matches (full_name x) which items r taken = taken.matched
+taken_matches (object id) which items r taken = taken.matched
+taken_matches (partial x) which items r taken = tt
 
 -- ---- what is taken of what is listed
 
@@ -72,7 +79,7 @@ taken_listed which items (object id) places r lists taken = absurd lists
 taken_listed which items (partial x) places r lists taken = taken_whole x which items r taken
 
 -- and what is listed and matches is taken
-listed_taken : (which : Candidates) (items : List Ref) (kind : SideKind) (r : Ref) → IsListedFor which items kind r → IsMatched kind r → IsTaken which items kind r
+listed_taken : (which : Candidates) (items : List Ref) (kind : SideKind) (r : Ref) → IsListedFor which items kind r → MatchesListed kind r → IsTaken which items kind r
 listed_taken which items (pattern before after) r listed is = record { matched = is; first = tt }
 listed_taken which items (full_name x) r listed is = record { matched = is; first = tt }
 listed_taken which items (object id) r listed is = absurd listed
@@ -80,7 +87,7 @@ listed_taken which items (partial x) r listed is = whole_taken x which items r l
 
 -- the item at a place is matched
 abbrev pub IsMatchedAt : List Ref → SideKind → ℕ → ℕ → ℕ → DeclaredHit → Type 0
-IsMatchedAt items kind k i place hit = IsMatched kind (get_or items place blank) × (hit ≡ hit_at k place)
+IsMatchedAt items kind k i place hit = MatchesListed kind (get_or items place blank) × (hit ≡ hit_at k place)
 
 -- the items from index j on are the rest
 abbrev StandAt : List Ref → ℕ → List Ref → Type 0
@@ -113,8 +120,8 @@ through which items kind k lists j (r ∷ rest) places i hits at (Some place, ot
     stands = let first : j ≡ j + 0 = omega arith in ap (λ (n : ℕ). get_or items n blank) first ∙ at 0 (omega arith)
 
     of : (made : Option DeclaredHit) → MakesOf (λ (n : ℕ) (q : ℕ) (hit : DeclaredHit). IsMatchedAt items kind k n q hit) i j made → MakesOf (IsFound which items kind k) j r made
-    of None none = λ hit is. none hit (subst (IsMatched kind) (sym stands) is.0.matched, is.1)
-    of (Some hit) is = (listed_taken which items kind r here.0 (subst (IsMatched kind) stands is.0), is.1)
+    of None none = λ hit is. none hit (subst (MatchesListed kind) (sym stands) (taken_matches kind which items r is.0), is.1)
+    of (Some hit) is = (listed_taken which items kind r here.0 (subst (MatchesListed kind) stands is.0), is.1)
 
 pub all_found : (which : Candidates) (items : List Ref) (kind : SideKind) (k : ℕ) (places : List ℕ) (hits : List DeclaredHit) → ListsFor which items kind places → IsMadeFrom (IsMatchedAt items kind k) 0 places hits → IsMadeFrom (IsFound which items kind k) 0 items hits
 all_found which items kind k places hits lists over =
@@ -127,23 +134,23 @@ all_found which items kind k places hits lists over =
 abbrev pub MatchedSoFar : List Ref → SideKind → ℕ → List ℕ → List DeclaredHit → List DeclaredHit → Type 0
 MatchedSoFar items kind k places old now = (made : List DeclaredHit) × IsMadeFrom (IsMatchedAt items kind k) 0 places made × (now ≡ old ++ made)
 
-pub place_hit : (xs : List Item) (kind : SideKind) (k : ℕ) (places : List ℕ) (i e : ℕ) (d : Item) (old mid new : List DeclaredHit) → i < length places → get_or places i e < length xs → IsMatched kind (ref_of (get_or xs (get_or places i e) d)) → new ≡ mid ++ hit_at k (get_or places i e) ∷ [] → MatchedSoFar (map ref_of xs) kind k (take i places) old mid → MatchedSoFar (map ref_of xs) kind k (take (i + 1) places) old new
+pub place_hit : (xs : List Item) (kind : SideKind) (k : ℕ) (places : List ℕ) (i e : ℕ) (d : Item) (old mid new : List DeclaredHit) → i < length places → get_or places i e < length xs → MatchesListed kind (ref_of (get_or xs (get_or places i e) d)) → new ≡ mid ++ hit_at k (get_or places i e) ∷ [] → MatchedSoFar (map ref_of xs) kind k (take i places) old mid → MatchedSoFar (map ref_of xs) kind k (take (i + 1) places) old new
 place_hit xs kind k places i e d old mid new below inside is more (made, are, all) =
     let place = get_or places i e in
     let items = map ref_of xs in
     let long : length (take i places) ≡ i = length-take-le i places (omega (arith, below)) in
-    let here : IsMatchedAt items kind k i place (hit_at k place) = (subst (IsMatched kind) (sym (get_or-map ref_of xs place d blank inside)) is, refl) in (
+    let here : IsMatchedAt items kind k i place (hit_at k place) = (subst (MatchesListed kind) (sym (get_or-map ref_of xs place d blank inside)) is, refl) in (
       made ++ hit_at k place ∷ [],
       subst (λ (ps : List ℕ). IsMadeFrom (IsMatchedAt items kind k) 0 ps (made ++ hit_at k place ∷ [])) (sym (take_more places i e below)) (made_next (IsMatchedAt items kind k) i (take i places) place made (Some (hit_at k place)) long are here),
       more ∙ ap (λ (l : List DeclaredHit). l ++ hit_at k place ∷ []) all ∙ append_assoc old made (hit_at k place ∷ []),
     )
 
-pub place_missed : (xs : List Item) (kind : SideKind) (k : ℕ) (places : List ℕ) (i e : ℕ) (d : Item) (old mid : List DeclaredHit) → i < length places → get_or places i e < length xs → ¬ (IsMatched kind (ref_of (get_or xs (get_or places i e) d))) → MatchedSoFar (map ref_of xs) kind k (take i places) old mid → MatchedSoFar (map ref_of xs) kind k (take (i + 1) places) old mid
+pub place_missed : (xs : List Item) (kind : SideKind) (k : ℕ) (places : List ℕ) (i e : ℕ) (d : Item) (old mid : List DeclaredHit) → i < length places → get_or places i e < length xs → ¬ (MatchesListed kind (ref_of (get_or xs (get_or places i e) d))) → MatchedSoFar (map ref_of xs) kind k (take i places) old mid → MatchedSoFar (map ref_of xs) kind k (take (i + 1) places) old mid
 place_missed xs kind k places i e d old mid below inside none (made, are, all) =
     let place = get_or places i e in
     let items = map ref_of xs in
     let long : length (take i places) ≡ i = length-take-le i places (omega (arith, below)) in
-    let no_match : ¬ (IsMatched kind (get_or items place blank)) = subst (λ (r : Ref). ¬ (IsMatched kind r)) (sym (get_or-map ref_of xs place d blank inside)) none in (
+    let no_match : ¬ (MatchesListed kind (get_or items place blank)) = subst (λ (r : Ref). ¬ (MatchesListed kind r)) (sym (get_or-map ref_of xs place d blank inside)) none in (
       made,
       subst (λ (ps : List ℕ). IsMadeFrom (IsMatchedAt items kind k) 0 ps made) (sym (take_more places i e below))
           (subst (IsMadeFrom (IsMatchedAt items kind k) 0 (take i places ++ place ∷ [])) (append-nil made) (made_next (IsMatchedAt items kind k) i (take i places) place made None long are (λ hit is. no_match is.0))),
@@ -156,7 +163,7 @@ place_missed xs kind k places i e d old mid below inside none (made, are, all) =
 abbrev pub FoundSoFar : Candidates → List Ref → SideKind → ℕ → List Ref → List DeclaredHit → List DeclaredHit → Type 0
 FoundSoFar which items kind k refs old now = (made : List DeclaredHit) × IsMadeFrom (IsFound which items kind k) 0 refs made × (now ≡ old ++ made)
 
-pub item_hit : (which : Candidates) (items : List Ref) (xs : List Item) (kind : SideKind) (k i : ℕ) (d : Item) (old mid new : List DeclaredHit) → TakesEach kind → i < length xs → IsMatched kind (ref_of (get_or xs i d)) → new ≡ mid ++ hit_at k i ∷ [] → FoundSoFar which items kind k (map ref_of (take i xs)) old mid → FoundSoFar which items kind k (map ref_of (take (i + 1) xs)) old new
+pub item_hit : (which : Candidates) (items : List Ref) (xs : List Item) (kind : SideKind) (k i : ℕ) (d : Item) (old mid new : List DeclaredHit) → TakesEach kind → i < length xs → MatchesListed kind (ref_of (get_or xs i d)) → new ≡ mid ++ hit_at k i ∷ [] → FoundSoFar which items kind k (map ref_of (take i xs)) old mid → FoundSoFar which items kind k (map ref_of (take (i + 1) xs)) old new
 item_hit which items xs kind k i d old mid new each below is more (made, are, all) = (
   made ++ hit_at k i ∷ [],
   subst (λ (rs : List Ref). IsMadeFrom (IsFound which items kind k) 0 rs (made ++ hit_at k i ∷ [])) (sym (map_more ref_of xs i d below))
@@ -164,12 +171,12 @@ item_hit which items xs kind k i d old mid new each below is more (made, are, al
   more ∙ ap (λ (l : List DeclaredHit). l ++ hit_at k i ∷ []) all ∙ append_assoc old made (hit_at k i ∷ []),
 )
 
-pub item_missed : (which : Candidates) (items : List Ref) (xs : List Item) (kind : SideKind) (k i : ℕ) (d : Item) (old mid : List DeclaredHit) → i < length xs → ¬ (IsMatched kind (ref_of (get_or xs i d))) → FoundSoFar which items kind k (map ref_of (take i xs)) old mid → FoundSoFar which items kind k (map ref_of (take (i + 1) xs)) old mid
+pub item_missed : (which : Candidates) (items : List Ref) (xs : List Item) (kind : SideKind) (k i : ℕ) (d : Item) (old mid : List DeclaredHit) → i < length xs → ¬ (MatchesListed kind (ref_of (get_or xs i d))) → FoundSoFar which items kind k (map ref_of (take i xs)) old mid → FoundSoFar which items kind k (map ref_of (take (i + 1) xs)) old mid
 item_missed which items xs kind k i d old mid below none (made, are, all) = (
   made,
   subst (λ (rs : List Ref). IsMadeFrom (IsFound which items kind k) 0 rs made) (sym (map_more ref_of xs i d below))
       (subst (IsMadeFrom (IsFound which items kind k) 0 (map ref_of (take i xs) ++ ref_of (get_or xs i d) ∷ [])) (append-nil made)
-      (made_next (IsFound which items kind k) i (map ref_of (take i xs)) (ref_of (get_or xs i d)) made None (map_long ref_of xs i below) are (λ hit is. none is.0.matched))),
+      (made_next (IsFound which items kind k) i (map ref_of (take i xs)) (ref_of (get_or xs i d)) made None (map_long ref_of xs i below) are (λ hit is. none (taken_matches kind which items (ref_of (get_or xs i d)) is.0)))),
   all,
 )
 

@@ -2,7 +2,7 @@
 use Rattle.std.proofs.Common.{map, take}
 use Rattle.gix_refspec_match.specs.Views.Mapping.{ref_of}
 use Rattle.gix_refspec_match.specs.Private.Part.{IsPart}
-use Rattle.gix_refspec_match.proofs.unique.Unique.without.Given as goal
+use Rattle.gix_refspec_match.proofs.unique.Unique.of.Given as goal
 
 abbrev pub invariant-loop-index : goal.invariant-loop-index
 invariant-loop-index l = IsPart (map ref_of (take l.index l.items)) (map ref_of l.unique.items.items) l.unique.indexes.items
