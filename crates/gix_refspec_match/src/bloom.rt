@@ -1,9 +1,14 @@
-//! A Bloom filter: a set of numbers in a few bits for each, which may have others too.
+//! Bloom filters. Most names that no spec asks for are told by one, which is cheaper than to look for them.
 
-ghost use Rattle.std.specs.Prelude.{◌≡◌, ◌↔◌, ◌/◌, ◌%◌, ◌^◌, ℕ, IfOk, IsTrue};
+ghost use Rattle.std.specs.Prelude.{◌≡◌, ◌↔◌, ◌/◌, ◌%◌, ◌^◌, ℕ, IfOk, IsTrue, List, length, map, false};
 ghost use Rattle.gix_refspec_match.specs.Private.Bloom.{HasNumber, IsWhole};
+ghost use Rattle.std.specs.List.{AllByRecursion};
+ghost use Rattle.gix_refspec_match.specs.Views.Mapping.{name_bytes};
+ghost use Rattle.gix_refspec_match.specs.Private.Filter.{IsWholeFilter, Passes, tail_number, AreWholeTails, HasTail, short_tail_number};
+ghost use Rattle.gix_refspec_text.specs.Matching.Side.{IsCandidate};
 
-use crate::bits::{bits_for, lower_bits, upper_bits};
+use crate::hashes::{bits_for, hash_of_name, lower_bits, upper_bits};
+use crate::types::NameRef;
 use std::alloc::{AllocError, Global};
 
 // For how many numbers there is a word of bits. So there are more than four bits for each, and from eight
@@ -57,5 +62,133 @@ impl Bloom {
     {
         let word = self.words[lower_bits(number, self.bits)];
         (word >> self.bit(number)) & 1 == 1
+    }
+}
+
+// For how many lengths there are bits.
+const LENGTHS: usize = 128;
+
+// Mixes the bytes of a number. Any odd number serves that has ones and zeros everywhere: this one is made
+// from the golden ratio.
+const MIXER: u64 = 0x9e37_79b9_7f4a_7c15;
+
+// A number of a name's last eight bytes, which tells most names apart. Shorter names have 0.
+#[inline(always)]
+fn tail_of(name: &[u8]) -> u64
+    ensures { result ≡ tail_number name.now }
+{
+    match name.last_chunk::<8>() {
+        None => 0,
+        Some(tail) => u64::from_le_bytes(*tail).wrapping_mul(MIXER) >> 32,
+    }
+}
+
+// The lengths, the last bytes and the hashes of some names.
+#[derive(Drop)]
+pub(crate) struct NameFilter {
+    lengths: Bloom,
+    tails: Bloom,
+    hashes: Bloom,
+}
+
+impl NameFilter {
+    // The filter that some names pass.
+    pub(crate) fn of(alloc: Global, names: &[NameRef<'_>]) -> Result<NameFilter, AllocError>
+        ensures whole { IfOk result IsWholeFilter }
+        ensures all { IfOk result (λ filter. AllByRecursion
+            (Passes filter) (map name_bytes names.now)) }
+    {
+        let mut filter = NameFilter {
+            lengths: Bloom::new(alloc, LENGTHS)?,
+            tails: Bloom::new(alloc, names.len())?,
+            hashes: Bloom::new(alloc, names.len())?,
+        };
+        for name in names {
+            filter.add(name.as_bstr().as_bytes());
+        }
+        Ok(filter)
+    }
+
+    // Lets a name pass.
+    fn add(&mut self, name: &[u8])
+        requires { IsWholeFilter self.old }
+        ensures whole { IsWholeFilter self.new }
+        ensures here { Passes self.new name.now }
+        ensures others { (n : List ℕ) → Passes self.old n → Passes self.new n }
+    {
+        self.lengths.add(name.len() as u64);
+        self.tails.add(tail_of(name));
+        self.hashes.add(hash_of_name(name));
+    }
+
+    // Whether a name passes. Most names aren't hashed.
+    #[inline(always)]
+    pub(crate) fn passes(&self, name: &[u8]) -> bool
+        requires { IsWholeFilter self.now }
+        ensures { IsTrue result ↔ Passes self.now name.now }
+    {
+        self.lengths.has(name.len() as u64)
+            && self.tails.has(tail_of(name))
+            && self.hashes.has(hash_of_name(name))
+    }
+}
+
+// How many bytes are looked at. Few partial names are shorter.
+const TAIL: usize = 4;
+
+// The last four bytes of partial names, and `HEAD`.
+#[derive(Drop)]
+pub(crate) struct ShortTails {
+    tails: Bloom,
+    // Whether a partial name is shorter, so that any name may be its candidate.
+    any: bool,
+}
+
+// A number of a name's last four bytes. Shorter names have 0.
+#[inline(always)]
+fn short_tail_of(name: &[u8]) -> u64
+    ensures { result ≡ short_tail_number name.now }
+{
+    match name.last_chunk::<TAIL>() {
+        None => 0,
+        Some(tail) => u64::from(u32::from_le_bytes(*tail)).wrapping_mul(MIXER) >> 32,
+    }
+}
+
+impl ShortTails {
+    // Those of some partial names.
+    pub(crate) fn of(alloc: Global, names: &[NameRef<'_>]) -> Result<ShortTails, AllocError>
+        ensures whole { IfOk result AreWholeTails }
+        ensures all { IfOk result (λ tails. AllByRecursion
+            (HasTail tails) (map name_bytes names.now)) }
+    {
+        let mut tails = Bloom::new(alloc, names.len())?;
+        tails.add(short_tail_of(b"HEAD"));
+        let mut short_tails = ShortTails { tails, any: false };
+        for name in names {
+            short_tails.add(name.as_bstr().as_bytes());
+        }
+        Ok(short_tails)
+    }
+
+    // Adds a partial name.
+    fn add(&mut self, name: &[u8])
+        requires { AreWholeTails self.old }
+        ensures whole { AreWholeTails self.new }
+        ensures here { HasTail self.new name.now }
+        ensures others { (x : List ℕ) → HasTail self.old x → HasTail self.new x }
+    {
+        self.any = self.any || name.len() < TAIL;
+        self.tails.add(short_tail_of(name));
+    }
+
+    // Whether a name may be a candidate.
+    #[inline(always)]
+    pub(crate) fn may_have(&self, name: &[u8]) -> bool
+        requires { AreWholeTails self.now }
+        ensures { result ≡ false → (x : List ℕ)
+            → HasTail self.now x → ¬ (IsCandidate x name.now) }
+    {
+        self.any || self.tails.has(short_tail_of(name))
     }
 }

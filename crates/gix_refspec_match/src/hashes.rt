@@ -1,7 +1,8 @@
-//! The hash of a name. It only tells names apart. Its seeds are fixed, and a server could choose names of
-//! one hash: so no table is keyed by it but the marks of the names that specs ask for.
+//! Hashes, by two seeds, and the lower and the upper bits of one. A hash only tells names apart: its seeds are
+//! fixed, and a server could choose names of one hash. So no table is keyed by it but filters of the names that
+//! specs ask for.
 
-ghost use Rattle.std.specs.Prelude.{◌≡◌, [], ◌∷◌};
+ghost use Rattle.std.specs.Prelude.{◌≡◌, [], ◌∷◌, ◌<◌, ◌≤◌, ◌/◌, ◌%◌, ◌^◌};
 ghost use Rattle.gix_refspec_match.specs.Private.Kept.{hash_after, name_hash};
 
 use std::hash::{FoldHasher, Hasher};
@@ -32,4 +33,31 @@ pub(crate) fn hash_by(seed: FoldHasher, name: &[u8]) -> u64
     let mut state = seed;
     state.write(name);
     state.finish()
+}
+
+// How many bits an index below `len` takes.
+pub(crate) fn bits_for(len: usize) -> u32
+    requires { len < 2 ^ 63 }
+    ensures few { result < 64 }
+    ensures fit { len ≤ 2 ^ result }
+{
+    usize::BITS - len.leading_zeros()
+}
+
+// All but the lower bits of a number.
+#[inline(always)]
+pub(crate) fn upper_bits(number: u64, bits: u32) -> u64
+    requires { bits < 64 }
+    ensures { result ≡ number / 2 ^ bits }
+{
+    number >> bits
+}
+
+// The lower bits of a number.
+#[inline(always)]
+pub(crate) fn lower_bits(number: u64, bits: u32) -> usize
+    requires { bits < 64 }
+    ensures { result ≡ number % 2 ^ bits }
+{
+    (number & ((1 << bits) - 1)) as usize
 }

@@ -8,16 +8,13 @@ ghost use Rattle.gix_refspec_match.specs.Private.Index.{IsIndexFor};
 ghost use Rattle.gix_refspec_match.specs.Private.Matchers.{HasNoIdNeedle};
 ghost use Rattle.gix_refspec_match.specs.Private.Part.{place_among};
 
-pub(crate) mod equal_specs;
-pub(crate) mod index;
-
 use crate::duplicates::duplicates;
+use crate::index::{Index, Names};
 use crate::matcher::{Candidates, Matchers};
 use crate::needle::matches;
 use crate::types::Item;
 use crate::unique::Unique;
 use gix_refspec_text::side::SideKind;
-use index::{Index, Names};
 use std::alloc::{AllocError, Global};
 
 // Of how many items the names are compared to guess whether more repeat.

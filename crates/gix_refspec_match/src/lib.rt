@@ -13,21 +13,20 @@ ghost use Rattle.gix_refspec_match.specs.Private.Fills.{AddsMapped, object_mappi
 ghost use Rattle.gix_refspec_match.specs.Private.Hits.{AreSound};
 ghost use Rattle.gix_refspec_match.specs.Private.Matchers.{HaveOthers};
 
-mod bits;
 mod bloom;
 pub mod duplicates;
+mod exclusions;
 pub mod hashes;
 mod hits;
-pub mod keep;
+mod index;
 pub mod matcher;
 mod needle;
 pub mod types;
 mod unique;
 
+use crate::duplicates::{drop_flagged, duplicates};
+use crate::exclusions::Exclusions;
 use crate::hits::{Hit, hits_among};
-use crate::keep::drop_flagged;
-use crate::keep::exclusions::Exclusions;
-use crate::keep::repeats::repeats_of;
 use crate::matcher::{Matcher, Matchers, ObjectSpec};
 use crate::needle::{filled, word_in};
 use crate::types::{Item, Mapping, NameRef, SourceRef};
@@ -180,10 +179,10 @@ fn without_duplicates<'a, 'b>(
     ensures { IfOk result (λ kept.
         IsKept [] (map mapped_of mappings.entry.items) (map mapped_of kept.items)) }
 {
-    let duplicates = repeats_of(alloc, mappings.as_slice())?;
-    if duplicates.is_empty() {
+    let flags = duplicates(alloc, mappings.as_slice())?;
+    if flags.is_empty() {
         return Ok(mappings);
     }
-    drop_flagged(duplicates.as_slice(), &mut mappings);
+    drop_flagged(flags.as_slice(), &mut mappings);
     Ok(mappings)
 }

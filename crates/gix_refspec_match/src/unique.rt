@@ -4,8 +4,7 @@ ghost use Rattle.std.specs.Prelude.{map, IfOk};
 ghost use Rattle.gix_refspec_match.specs.Views.Mapping.{ref_of};
 ghost use Rattle.gix_refspec_match.specs.Private.Part.{IsPart};
 
-use crate::duplicates::duplicates;
-use crate::keep::is_flagged;
+use crate::duplicates::{duplicates, is_flagged};
 use crate::types::Item;
 use std::alloc::{AllocError, Global};
 

@@ -1,4 +1,4 @@
--- The words on fronts at small lists of refs.
+-- The words on prefixes at small lists of refs.
 use Rattle.std.proofs.Common.{List, [], ◌∷◌, None, Some, codes, refl}
 use Rattle.gix_refspec_text.specs.Matching.Match.{Ref}
 use Rattle.gix_refspec_match.specs.Private.Index.{ArePlacesBehind}
@@ -8,7 +8,7 @@ use Rattle.gix_refspec_text.proofs.facts.ManualFacts.{named}
 abbrev refs : List Ref
 refs = named (codes "ab") ∷ named (codes "b") ∷ named (codes "a") ∷ []
 
--- the front itself begins with it, and so does a longer name, but no other
+-- the prefix itself begins with it, and so does a longer name, but no other
 pub places_after_a : ArePlacesBehind (codes "a") refs (0 ∷ 2 ∷ [])
 places_after_a = (
   Some 0,

@@ -5,5 +5,5 @@ pub mod PlacesLemmas
 pub mod FirstPlacesLemmas
 pub mod PartialLemmas
 pub mod ShortTailLemmas
-pub mod FrontLemmas
+pub mod PrefixLemmas
 pub mod PlacedLemmas

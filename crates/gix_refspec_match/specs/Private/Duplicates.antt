@@ -5,7 +5,7 @@ use Rattle.std.specs.Ordering.{nat_cmp, ordering_then}
 use Rattle.std.specs.declared.cmp.Ordering.{Ordering}
 use Rattle.std.specs.declared.cmp.Ordering.TheVariants.{Equal}
 use Rattle.gix_refspec_match.specs.declared.bloom.Bloom.{Bloom}
-use Rattle.gix_refspec_match.specs.declared.duplicates.ordered.Placed.{Placed}
+use Rattle.gix_refspec_match.specs.declared.duplicates.Placed.{Placed}
 use Rattle.gix_refspec_match.specs.Private.Bloom.{HasNumber, IsWhole}
 use Rattle.gix_refspec_match.specs.Private.Kept.{Has, IsFlagged}
 

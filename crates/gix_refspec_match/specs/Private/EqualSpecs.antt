@@ -13,7 +13,7 @@ use Rattle.std.proofs.Common.{ap}
 use Rattle.std.proofs.lemmas.Cmp.{by_ranked, nat_cmp_total, on_total, ranked, then_total}
 use Rattle.bstr.specs.BStr.{bstr_bytes}
 use Rattle.bstr.specs.declared.bstr.BStr.{BStr}
-use Rattle.gix_refspec_match.specs.declared.hits.equal_specs.Sides.{Sides}
+use Rattle.gix_refspec_match.specs.declared.matcher.SideTexts.{SideTexts}
 use Rattle.gix_refspec_match.specs.Private.Orders.{both_equal, bytes_order, same_texts}
 use Rattle.gix_refspec_text.specs.Specs.Reading.{Reading, Mode, Normal, Forced, Negative}
 use Rattle.gix_refspec_text.specs.Specs.Grammar.{IsPositive}
@@ -43,21 +43,21 @@ negative_at Normal k = None
 negative_at Forced k = None
 
 -- the sides are those of the reading, whose index is k
-pub record IsSidesOf (r : Reading) (k : ℕ) (s : Sides) : Type 0 where
+pub record IsSidesOf (r : Reading) (k : ℕ) (s : SideTexts) : Type 0 where
   pub negative : s.negative ≡ negative_at r.mode k
   pub source : option_map bstr_bytes s.source ≡ r.source
   pub destination : option_map bstr_bytes s.destination ≡ r.destination
 
 -- the sides of all the readings, in order
-pub record AreSidesOf (g : List Reading) (sides : List Sides) : Type 0 where
+pub record AreSidesOf (g : List Reading) (sides : List SideTexts) : Type 0 where
   pub all : length sides ≡ length g
-  pub each : (k : ℕ) (r : Reading) (s : Sides) → k < length g → IsSidesOf (slice_index_or g k r) k (slice_index_or sides k s)
+  pub each : (k : ℕ) (r : Reading) (s : SideTexts) → k < length g → IsSidesOf (slice_index_or g k r) k (slice_index_or sides k s)
 
 -- the order of sides
 abbrev pub side_order : Option BStr → Option BStr → Ordering
 side_order = option_cmp (λ x y. bytes_order (bstr_bytes x) (bstr_bytes y))
 
-abbrev pub sides_order : Sides → Sides → Ordering
+abbrev pub sides_order : SideTexts → SideTexts → Ordering
 sides_order s t = ordering_then (option_cmp nat_cmp s.negative t.negative) (ordering_then (side_order s.source t.source) (side_order s.destination t.destination))
 
 -- the bytes of a side, and none where it is missing
@@ -66,17 +66,17 @@ side_bytes None = []
 side_bytes (Some s) = bstr_bytes s
 
 -- what hashing the sides writes, and their hash by a seed
-abbrev pub sides_writes : Sides → HashWrites
+abbrev pub sides_writes : SideTexts → HashWrites
 sides_writes s = fed.option fed.usize s.negative ++ (side_bytes s.source ∷ side_bytes s.destination ∷ [])
 
-abbrev pub sides_hash : FoldHasher → Sides → ℕ
+abbrev pub sides_hash : FoldHasher → SideTexts → ℕ
 sides_hash seed s = hash_after seed (sides_writes s)
 
 side_total : IsTotalOrder side_order
 side_total = options_total (on_total bstr_bytes nat_list_cmp_total)
 
 pub sides_total : IsTotalOrder sides_order
-sides_total = then_total (on_total (λ (s : Sides). s.negative) (options_total nat_cmp_total)) (then_total (on_total (λ (s : Sides). s.source) side_total) (on_total (λ (s : Sides). s.destination) side_total))
+sides_total = then_total (on_total (λ (s : SideTexts). s.negative) (options_total nat_cmp_total)) (then_total (on_total (λ (s : SideTexts). s.source) side_total) (on_total (λ (s : SideTexts). s.destination) side_total))
 
 same_number : (m n : ℕ) → nat_cmp m n ≡ Equal → m ≡ n
 same_number m n is = by_ranked (m < n) (m ≡ n) (n < m) (nat_cmp m n) (ranked m n (nat_cmp m n) refl) (λ less order. absurd (cc)) (λ tie same. same) (λ more order. absurd (cc))
@@ -100,7 +100,7 @@ alike_side (Some x) None is = absurd (cc)
 alike_side (Some x) (Some y) is = same_texts (bstr_bytes x) (bstr_bytes y) is
 
 -- equal sides have the same hash
-pub sides_alike : (seed : FoldHasher) (s t : Sides) → sides_order s t ≡ Equal → sides_hash seed s ≡ sides_hash seed t
+pub sides_alike : (seed : FoldHasher) (s t : SideTexts) → sides_order s t ≡ Equal → sides_hash seed s ≡ sides_hash seed t
 sides_alike seed s t is =
     let first = both_equal (option_cmp nat_cmp s.negative t.negative) _ is in
     let second = both_equal (side_order s.source t.source) _ first.1 in

@@ -2,7 +2,7 @@
 use Rattle.std.specs.Prelude.{◌≡◌, ◌⊎◌, ℕ, List, [], ◌∷◌, ◌++◌, Option, None, Some}
 use Rattle.std.specs.List.{slice_get}
 use Rattle.gix_refspec_match.specs.declared.hits.Hit.{Hit as DeclaredHit}
-use Rattle.gix_refspec_match.specs.declared.keep.exclusions.Exclusions.{Exclusions}
+use Rattle.gix_refspec_match.specs.declared.exclusions.Exclusions.{Exclusions}
 use Rattle.gix_refspec_match.specs.declared.matcher.Candidates.{Candidates}
 use Rattle.gix_refspec_match.specs.declared.matcher.Candidates.TheVariants.{First, All}
 use Rattle.gix_refspec_match.specs.declared.matcher.Matcher.{Matcher}

@@ -1,9 +1,9 @@
 -- The filter before the look-ups of names. Only private functions cite these words.
 use Rattle.std.specs.Prelude.{◌≡◌, ◌⊎◌, ◌≤◌, ◌-◌, ◌*◌, ◌/◌, ◌%◌, ◌^◌, ℕ, nat_lt, if◌then◌else◌, true, List, codes, drop, length}
 use Rattle.std.specs.Int.{from_le_bytes, w32, w64}
-use Rattle.gix_refspec_match.specs.declared.hits.index.filter.TheConstants.{MIXER}
-use Rattle.gix_refspec_match.specs.declared.hits.index.filter.NameFilter.{NameFilter}
-use Rattle.gix_refspec_match.specs.declared.hits.index.short_tails.ShortTails.{ShortTails}
+use Rattle.gix_refspec_match.specs.declared.bloom.TheConstants.{MIXER}
+use Rattle.gix_refspec_match.specs.declared.bloom.NameFilter.{NameFilter}
+use Rattle.gix_refspec_match.specs.declared.bloom.ShortTails.{ShortTails}
 use Rattle.gix_refspec_match.specs.Private.Bloom.{HasNumber, IsWhole}
 use Rattle.gix_refspec_match.specs.Private.Kept.{name_hash}
 

@@ -7,10 +7,10 @@ use Rattle.std.specs.Global.{Vec}
 use Rattle.gix_refspec_match.specs.declared.matcher.Candidates.{Candidates}
 use Rattle.gix_refspec_match.specs.declared.matcher.Candidates.TheVariants.{First, All}
 use Rattle.gix_refspec_match.specs.declared.matcher.Matchers.{Matchers}
-use Rattle.gix_refspec_match.specs.declared.hits.index.Index.{Index}
-use Rattle.gix_refspec_match.specs.declared.hits.index.Names.{Names}
-use Rattle.gix_refspec_match.specs.declared.hits.index.fronts.FrontIndex.{FrontIndex}
-use Rattle.gix_refspec_match.specs.declared.hits.index.key.Key.{Key}
+use Rattle.gix_refspec_match.specs.declared.index.Index.{Index}
+use Rattle.gix_refspec_match.specs.declared.index.Names.{Names}
+use Rattle.gix_refspec_match.specs.declared.index.prefixes.PrefixIndex.{PrefixIndex}
+use Rattle.gix_refspec_match.specs.declared.index.Key.{Key}
 use Rattle.gix_refspec_text.specs.Texts.Words.{BeginsWith}
 use Rattle.gix_refspec_text.specs.Matching.Side.{SideKind, pattern, full_name, object, partial}
 use Rattle.gix_refspec_text.specs.Matching.Match.{Ref, MatchesAs, IsFirstCandidate}
@@ -58,26 +58,26 @@ pub record HavePlaces (names : List (List ℕ)) (refs : List Ref) (listed : List
   pub each : (n : List ℕ) → Contains names n → (v : Vec ℕ) × (listed n ≡ Some v) × ArePlacesOf n refs v.items
   pub others : (n : List ℕ) → ¬ (Contains names n) → listed n ≡ None
 
--- the places of the refs whose names begin with the front, in order
+-- the places of the refs whose names begin with the prefix, in order
 abbrev pub ArePlacesBehind : List ℕ → List Ref → List ℕ → Type 0
-ArePlacesBehind front refs places = IsMadeFrom (λ k r place. BeginsWith front r.name × (place ≡ k)) 0 refs places
+ArePlacesBehind prefix refs places = IsMadeFrom (λ k r place. BeginsWith prefix r.name × (place ≡ k)) 0 refs places
 
--- what is listed for a front are the places of the refs whose names begin with it
-abbrev pub ListFronts : List Ref → (List ℕ → Option (Vec ℕ)) → Type 0
-ListFronts refs listed = (front : List ℕ) (v : Vec ℕ) → listed front ≡ Some v → ArePlacesBehind front refs v.items
+-- what is listed for a prefix are the places of the refs whose names begin with it
+abbrev pub ListPrefixes : List Ref → (List ℕ → Option (Vec ℕ)) → Type 0
+ListPrefixes refs listed = (prefix : List ℕ) (v : Vec ℕ) → listed prefix ≡ Some v → ArePlacesBehind prefix refs v.items
 
--- the index has for each of its fronts the places of the refs whose names begin with it
-abbrev pub IsFrontIndexOf : List Ref → FrontIndex → Type 0
-IsFrontIndexOf refs index = ListFronts refs (list_of index.places)
+-- the index has for each of its prefixes the places of the refs whose names begin with it
+abbrev pub IsPrefixIndexOf : List Ref → PrefixIndex → Type 0
+IsPrefixIndexOf refs index = ListPrefixes refs (list_of index.places)
 
--- the lengths of all fronts that are listed are flagged
+-- the lengths of all prefixes that are listed are flagged
 abbrev pub HaveLengths : List Bool → (List ℕ → Option (Vec ℕ)) → Type 0
-HaveLengths lengths listed = (front : List ℕ) (v : Vec ℕ) → listed front ≡ Some v → IsFlagged lengths (length front)
+HaveLengths lengths listed = (prefix : List ℕ) (v : Vec ℕ) → listed prefix ≡ Some v → IsFlagged lengths (length prefix)
 
--- the place is added to what is listed for each front that the name begins with, and nothing else changes
+-- the place is added to what is listed for each prefix that the name begins with, and nothing else changes
 abbrev pub AddsPlace : List ℕ → ℕ → (List ℕ → Option (Vec ℕ)) → (List ℕ → Option (Vec ℕ)) → Type 0
-AddsPlace n place old new = (front : List ℕ) (v : Vec ℕ) → new front ≡ Some v → (w : Vec ℕ) × (old front ≡ Some w)
-    × ((BeginsWith front n × (v.items ≡ w.items ++ place ∷ [])) ⊎ (¬ (BeginsWith front n) × (v.items ≡ w.items)))
+AddsPlace n place old new = (prefix : List ℕ) (v : Vec ℕ) → new prefix ≡ Some v → (w : Vec ℕ) × (old prefix ≡ Some w)
+    × ((BeginsWith prefix n × (v.items ≡ w.items ++ place ∷ [])) ⊎ (¬ (BeginsWith prefix n) × (v.items ≡ w.items)))
 
 -- what is listed for a name, and nothing where it isn't listed
 abbrev pub places_listed : (List ℕ → Option (Vec ℕ)) → List ℕ → List ℕ
@@ -116,11 +116,11 @@ IsBelowPlace below x = (below ≡ codes "tags/" ++ x) ⊎ (below ≡ codes "head
 abbrev pub ListPartials : Candidates → List (List ℕ) → List Ref → (List ℕ → Option (Vec ℕ)) → Type 0
 ListPartials which names refs listed = (x : List ℕ) → Contains names x → (v : Vec ℕ) × (listed x ≡ Some v) × ArePlacesTaken (partial x) which refs v.items
 
--- the index has the places of these names, and those of fronts
+-- the index has the places of these names, and those of prefixes
 pub record IsIndexOf (which : Candidates) (names : Names) (refs : List Ref) (index : Index) : Type 0 where
   pub full : HavePlaces (map name_bytes names.full.items) refs (list_of index.full)
   pub partial : ListPartials which (map name_bytes names.partial.items) refs (list_of index.partials.places)
-  pub fronts : IsFrontIndexOf refs index.fronts
+  pub prefixes : IsPrefixIndexOf refs index.prefixes
 
 -- what a needle of the kind looks for is among the names
 abbrev pub HasNamesOf : Names → SideKind → Type 0
@@ -150,7 +150,7 @@ IsListed which refs index (partial x) = ArePlacesTaken (partial x) which refs (p
 -- the index has the names that a needle of the kind looks for
 pub record IsIndexFor (which : Candidates) (refs : List Ref) (index : Index) (kind : SideKind) : Type 0 where
   pub names : IsListed which refs index kind
-  pub fronts : IsFrontIndexOf refs index.fronts
+  pub prefixes : IsPrefixIndexOf refs index.prefixes
 
 -- what is listed are the places for a needle of the kind, where the index has its names
 abbrev pub Serves : Index → SideKind → List ℕ → Type 0

@@ -15,9 +15,8 @@ ghost use Rattle.gix_refspec.specs.Private.Updates.{AddsConflict, AreUpdates, Ar
 
 use crate::match_group::validate::Issue;
 use bstr::{BStr, BString};
+use gix_refspec_match::duplicates::{duplicates, is_flagged};
 use gix_refspec_match::hashes::hash_of_name;
-use gix_refspec_match::keep::is_flagged;
-use gix_refspec_match::keep::repeats::repeats_of;
 use gix_refspec_match::types::Mapping;
 use gix_refspec_text::RefSpecRef;
 use std::alloc::{AllocError, Global};
@@ -46,7 +45,7 @@ pub(crate) fn issues_of(
     if destinations_differ(alloc, mappings)? {
         return Ok(Vec::new(alloc));
     }
-    let repeats = repeats_of(alloc, mappings)?;
+    let repeats = duplicates(alloc, mappings)?;
     let firsts = updates_in_order(alloc, mappings, repeats.as_slice())?;
     issues_among(alloc, specs, mappings, firsts.as_slice())
 }

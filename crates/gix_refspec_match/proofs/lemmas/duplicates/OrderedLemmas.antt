@@ -13,7 +13,7 @@ use Rattle.std.proofs.lemmas.Cmp.{by_ranked, nat_cmp_total, on_total, ranked, th
 use Rattle.std.proofs.lemmas.List.{get_or-map, get_or_read, length-map, map-append}
 use Rattle.std.proofs.lemmas.List.Elements.{All-from_recursion}
 use Rattle.std.proofs.lemmas.List.Sorted.{IsPermutation-map, ranks_by, sorted_far}
-use Rattle.gix_refspec_match.specs.declared.duplicates.ordered.Placed.{Placed}
+use Rattle.gix_refspec_match.specs.declared.duplicates.Placed.{Placed}
 use Rattle.gix_refspec_match.specs.Private.Duplicates.{AreEqualAt, ArePlaced, FlagsDuplicates, IsDuplicate, IsPlaced, placed_indexes, placed_order}
 use Rattle.gix_refspec_match.specs.Private.Kept.{Has, IsFlagged, Rises}
 use Rattle.gix_refspec_match.proofs.lemmas.keep.RepeatLemmas.{Contains-from_Has, Has-left, Has-permuted, Has-right, Rises-push, all_permuted, apart_places}

@@ -6,7 +6,7 @@ use Rattle.gix_refspec_text.specs.declared.spec.RefSpecRef.{RefSpecRef}
 use Rattle.gix_refspec_text.specs.Specs.Reading.{Reading, Mode, Normal, Forced, Negative}
 use Rattle.gix_refspec_text.specs.Specs.Grammar.{IsPositive}
 use Rattle.gix_refspec_text.specs.Views.Spec.{reading_of}
-use Rattle.gix_refspec_match.specs.declared.hits.equal_specs.Sides.{Sides}
+use Rattle.gix_refspec_match.specs.declared.matcher.SideTexts.{SideTexts}
 use Rattle.gix_refspec_match.specs.Private.Duplicates.{FlagsDuplicates}
 use Rattle.gix_refspec_match.specs.Private.EqualSpecs.{AreSidesOf, FlagsEqual, IsSidesOf, negative_at, same_index, same_side, side_order, sides_order}
 use Rattle.gix_refspec_match.specs.Private.Orders.{both_equal}
@@ -14,7 +14,7 @@ use Rattle.gix_refspec_text.proofs.lemmas.lists.NumberLemmas.{upto}
 use Rattle.std.specs.Option.{option_cmp}
 use Rattle.std.specs.Ordering.{nat_cmp}
 
-some_sides : (sides : List Sides) (k : ℕ) → k < length sides → Sides
+some_sides : (sides : List SideTexts) (k : ℕ) → k < length sides → SideTexts
 some_sides [] k below = absurd (omega arith)
 some_sides (s ∷ sides) k below = s
 
@@ -31,7 +31,7 @@ both_positive Forced Normal j k before same = (tt, tt)
 both_positive Forced Forced j k before same = (tt, tt)
 
 -- duplicates among the sides are those of specs that have the sides of an earlier one
-pub equal_from_duplicates : (g : List Reading) (sides : List Sides) (flags : List Bool) → AreSidesOf g sides → FlagsDuplicates sides_order sides flags → FlagsEqual g flags
+pub equal_from_duplicates : (g : List Reading) (sides : List SideTexts) (flags : List Bool) → AreSidesOf g sides → FlagsDuplicates sides_order sides flags → FlagsEqual g flags
 equal_from_duplicates g sides flags are all place flagged =
     let (below, (j, before, equal)) = (all place).0 flagged in
     let s = some_sides sides place below in
@@ -60,13 +60,13 @@ equal_from_duplicates g sides flags are all place flagged =
     )
 
 -- the sides of one more spec
-pub sides_more : (specs : List RefSpecRef) (sides new : List Sides) (s : Sides) (index : ℕ) (x : RefSpecRef) → new ≡ sides ++ s ∷ [] → index < length specs → x ≡ get_or specs index x → IsSidesOf (reading_of x) index s → length sides ≡ index → ((k : ℕ) (r : Reading) (d : Sides) → k < index → IsSidesOf (get_or (map reading_of specs) k r) k (get_or sides k d)) → (length new ≡ index + 1) × ((k : ℕ) (r : Reading) (d : Sides) → k < index + 1 → IsSidesOf (get_or (map reading_of specs) k r) k (get_or new k d))
+pub sides_more : (specs : List RefSpecRef) (sides new : List SideTexts) (s : SideTexts) (index : ℕ) (x : RefSpecRef) → new ≡ sides ++ s ∷ [] → index < length specs → x ≡ get_or specs index x → IsSidesOf (reading_of x) index s → length sides ≡ index → ((k : ℕ) (r : Reading) (d : SideTexts) → k < index → IsSidesOf (get_or (map reading_of specs) k r) k (get_or sides k d)) → (length new ≡ index + 1) × ((k : ℕ) (r : Reading) (d : SideTexts) → k < index + 1 → IsSidesOf (get_or (map reading_of specs) k r) k (get_or new k d))
 sides_more specs sides new s index x is below is_x here size each = (
   ap length is ∙ length-append sides (s ∷ []) ∙ ap (λ (n : ℕ). n + 1) size,
   λ k r d under. elim (upto k index under) [
-    | inl less ↦ subst (IsSidesOf (get_or (map reading_of specs) k r) k) (sym (ap (λ (l : List Sides). get_or l k d) is ∙ get_or_append_left sides (s ∷ []) d k (omega (arith, less, size)))) (each k r d less)
+    | inl less ↦ subst (IsSidesOf (get_or (map reading_of specs) k r) k) (sym (ap (λ (l : List SideTexts). get_or l k d) is ∙ get_or_append_left sides (s ∷ []) d k (omega (arith, less, size)))) (each k r d less)
     | inr last ↦ subst (λ (n : ℕ). IsSidesOf (get_or (map reading_of specs) n r) n (get_or new n d)) (sym last)
-        (subst (IsSidesOf (get_or (map reading_of specs) index r) index) (sym (ap (λ (l : List Sides). get_or l index d) is ∙ ap (λ (n : ℕ). get_or (sides ++ s ∷ []) n d) (sym size) ∙ get_or-append_seam sides s [] d))
+        (subst (IsSidesOf (get_or (map reading_of specs) index r) index) (sym (ap (λ (l : List SideTexts). get_or l index d) is ∙ ap (λ (n : ℕ). get_or (sides ++ s ∷ []) n d) (sym size) ∙ get_or-append_seam sides s [] d))
         (subst (λ (q : Reading). IsSidesOf q index s) (sym (get_or-map reading_of specs index x r below ∙ ap reading_of (sym is_x))) here))
   ],
 )

@@ -10,7 +10,7 @@ use Rattle.std.proofs.lemmas.Slice.Eq.{bytes_eq-Decides}
 use Rattle.bstr.specs.BStr.{bstr_bytes}
 use Rattle.gix_refspec_match.specs.declared.types.Item.{Item}
 use Rattle.gix_refspec_match.specs.declared.matcher.Matcher.{Matcher}
-use Rattle.gix_refspec_match.specs.declared.hits.index.Names.{Names}
+use Rattle.gix_refspec_match.specs.declared.index.Names.{Names}
 use Rattle.gix_refspec_match.specs.Views.Mapping.{name_bytes, ref_of}
 use Rattle.gix_refspec_text.specs.Matching.Match.{Ref, MatchesAs}
 use Rattle.gix_refspec_text.specs.Matching.Side.{SideKind, pattern, full_name, object, partial}

@@ -1,6 +1,6 @@
 -- Any name can be looked up.
 use Rattle.std.proofs.Common.{List, ℕ, Bor}
-use Rattle.gix_refspec_match.specs.declared.hits.index.key.Key.{Key}
+use Rattle.gix_refspec_match.specs.declared.index.Key.{Key}
 
 -- the key of a name, which lies where another one does
 abbrev pub key_of : Bor (List ℕ) → List ℕ → Key

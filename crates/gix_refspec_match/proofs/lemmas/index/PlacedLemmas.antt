@@ -6,8 +6,8 @@ use Rattle.gix_refspec_match.specs.Views.Mapping.{ref_of}
 use Rattle.std.specs.Global.{Vec}
 use Rattle.std.specs.List.{AllByRecursion}
 use Rattle.gix_refspec_match.specs.declared.hits.Hit.{Hit as DeclaredHit}
-use Rattle.gix_refspec_match.specs.declared.hits.index.Index.{Index}
-use Rattle.gix_refspec_match.specs.declared.hits.index.Names.{Names}
+use Rattle.gix_refspec_match.specs.declared.index.Index.{Index}
+use Rattle.gix_refspec_match.specs.declared.index.Names.{Names}
 use Rattle.gix_refspec_match.specs.declared.matcher.Candidates.{Candidates}
 use Rattle.gix_refspec_match.specs.declared.matcher.Candidates.TheVariants.{First, All}
 use Rattle.gix_refspec_match.specs.declared.matcher.Matcher.{Matcher}
@@ -217,7 +217,7 @@ place_fits which items kind places i d lists below =
 -- ---- the index serves each needle
 
 pub named_listed : (which : Candidates) (refs : List Ref) (names : Names) (index : Index) → IsIndexOf which names refs index → (kind : SideKind) → HasNamesOf names kind → IsIndexFor which refs index kind
-named_listed which refs names index of_names kind named = record { names = listed kind named; fronts = of_names.fronts }
+named_listed which refs names index of_names kind named = record { names = listed kind named; prefixes = of_names.prefixes }
   where
     listed : (kind : SideKind) → HasNamesOf names kind → IsListed which refs index kind
     listed (pattern before after) named = tt

@@ -4,8 +4,8 @@ use Rattle.std.proofs.lemmas.Bool.{false≢true, le-ltb}
 use Rattle.std.proofs.lemmas.List.{append_assoc, length-append}
 use Rattle.std.proofs.Math.Seq.{drop-append-add}
 use Rattle.std.specs.Int.{from_le_bytes, w32}
-use Rattle.gix_refspec_match.specs.declared.hits.index.filter.TheConstants.{MIXER}
-use Rattle.gix_refspec_match.specs.declared.hits.index.short_tails.ShortTails.{ShortTails}
+use Rattle.gix_refspec_match.specs.declared.bloom.TheConstants.{MIXER}
+use Rattle.gix_refspec_match.specs.declared.bloom.ShortTails.{ShortTails}
 use Rattle.gix_refspec_text.specs.Matching.Side.{IsCandidate}
 use Rattle.gix_refspec_match.specs.Private.Bloom.{HasNumber}
 use Rattle.gix_refspec_match.specs.Private.Filter.{AreWholeTails, HasTail, short_tail_number}

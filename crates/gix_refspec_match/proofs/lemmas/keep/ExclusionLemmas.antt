@@ -7,10 +7,10 @@ use Rattle.std.specs.Set.{KeepsOthers}
 use Rattle.std.proofs.Math.Logic.{∥∥₁_elim}
 use Rattle.std.proofs.lemmas.Bool.{cases_Bool, false≢true}
 use Rattle.std.proofs.lemmas.List.{take_more}
-use Rattle.gix_refspec_match.specs.declared.keep.exclusions.Exclusion.{Exclusion}
-use Rattle.gix_refspec_match.specs.declared.keep.exclusions.Exclusion.TheVariants as exclusion
-use Rattle.gix_refspec_match.specs.declared.keep.exclusions.Exclusions.{Exclusions}
-use Rattle.gix_refspec_match.specs.declared.keep.exclusions.Pattern.{Pattern}
+use Rattle.gix_refspec_match.specs.declared.exclusions.Exclusion.{Exclusion}
+use Rattle.gix_refspec_match.specs.declared.exclusions.Exclusion.TheVariants as exclusion
+use Rattle.gix_refspec_match.specs.declared.exclusions.Exclusions.{Exclusions}
+use Rattle.gix_refspec_match.specs.declared.exclusions.Pattern.{Pattern}
 use Rattle.gix_refspec_match.specs.declared.types.NameRef.{NameRef}
 use Rattle.gix_refspec_text.specs.declared.spec.RefSpecRef.{RefSpecRef}
 use Rattle.gix_refspec_text.specs.declared.parsing.Operation.{Operation}

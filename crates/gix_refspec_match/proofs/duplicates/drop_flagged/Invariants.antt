@@ -1,0 +1,12 @@
+-- the mappings so far that are kept are in front, and those to come are where they were
+use Rattle.std.proofs.Common.{◌≡◌, ◌≤◌, length, take, drop}
+use Rattle.gix_refspec_match.specs.Matching.Lists.{IsMadeFrom}
+use Rattle.gix_refspec_match.specs.Private.Kept.{IsUnflagged}
+use Rattle.gix_refspec_match.proofs.duplicates.drop_flagged.Given as goal
+
+abbrev pub invariant-loop-place : goal.invariant-loop-place
+invariant-loop-place l =
+    (l.kept ≤ l.place)
+    × (length l.mappings.items ≡ length l.initial.mappings.items)
+    × (drop l.place l.mappings.items ≡ drop l.place l.initial.mappings.items)
+    × IsMadeFrom (IsUnflagged l.flags) 0 (take l.place l.initial.mappings.items) (take l.kept l.mappings.items)

@@ -1,7 +1,0 @@
--- the place is added for the fronts of the lengths so far
-use Rattle.gix_refspec_match.specs.Private.Index.{list_of}
-use Rattle.gix_refspec_match.proofs.lemmas.index.FrontLemmas.{AddsBelow}
-use Rattle.gix_refspec_match.proofs.hits.index.fronts.add_place.Given as goal
-
-abbrev pub invariant-loop-len : goal.invariant-loop-len
-invariant-loop-len l = AddsBelow l.len l.name l.place (list_of l.initial.places) (list_of l.places)
