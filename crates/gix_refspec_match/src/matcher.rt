@@ -1,13 +1,12 @@
 //! The positive specs of a group, as they are matched: which side matches items, and what the other side is.
 //! The kinds of sides are found here, once.
 
-ghost use Rattle.std.specs.Prelude.{◌≡◌, false, map, option_map, MatchOption, IfOk, ◌<◌, ℕ, length};
+ghost use Rattle.std.specs.Prelude.{◌≡◌, [], false, map, option_map, unwrap_or, MatchOption, IfOk};
 ghost use Rattle.bstr.specs.BStr.{bstr_bytes};
 ghost use Rattle.gix_refspec_text.specs.Texts.Name.{HasSeveralStars};
 ghost use Rattle.gix_refspec_text.specs.Views.Spec.{reading_of};
 ghost use Rattle.gix_refspec_match.specs.Private.Matchers.{AreMatchersOf, AreObjectsOf, HaveSides, HasNoIdNeedle, HasNoSides};
 ghost use Rattle.gix_refspec_match.specs.Private.Needles.{HasSideKind};
-ghost use Rattle.gix_refspec_match.specs.Private.EqualSpecs.{AreSidesOf, FlagsEqual, IsSidesOf, side_bytes};
 
 use crate::duplicates::{Element, duplicates, is_flagged};
 use bstr::BStr;
@@ -16,7 +15,7 @@ use gix_refspec_text::oid::ObjectId;
 use gix_refspec_text::side::{SideKind, kind_of};
 use std::alloc::{AllocError, Global};
 use std::cmp::Ordering;
-use std::hash::{FoldHasher, Hash, Hasher};
+use std::hash::{FoldHasher, Hasher};
 
 /// Which of its candidates a partial name takes.
 #[derive(Clone, Copy)]
@@ -70,7 +69,7 @@ impl<'spec> Matchers<'spec> {
         ensures matchers { IfOk result (λ found. AreMatchersOf First (map reading_of specs.now) found.0) }
         ensures objects { IfOk result (λ found. AreObjectsOf (map reading_of specs.now) found.1.items) }
     {
-        let equal = equal_specs(alloc, specs)?;
+        let equal = duplicates(alloc, specs)?;
         let mut list = Vec::new(alloc);
         let mut objects = Vec::new(alloc);
         for (spec_index, spec) in specs.iter().enumerate() {
@@ -105,7 +104,7 @@ impl<'spec> Matchers<'spec> {
     ) -> Result<Matchers<'spec>, AllocError>
         ensures { IfOk result (AreMatchersOf All (map reading_of specs.now)) }
     {
-        let equal = equal_specs(alloc, specs)?;
+        let equal = duplicates(alloc, specs)?;
         let mut list = Vec::new(alloc);
         for (spec_index, spec) in specs.iter().enumerate() {
             let Some(sides) = sides_of(spec) else {
@@ -171,85 +170,39 @@ fn side_kind(side: Option<BStr<'_>>) -> Option<SideKind<'_>>
     }
 }
 
-// The sides of a spec. Those of a negative one equal no others.
-#[derive(Clone, Copy, PartialEq, Eq, PartialOrd, Ord)]
-struct SideTexts<'s> {
-    // The index of a negative spec.
-    negative: Option<usize>,
-    source: Option<BStr<'s>>,
-    destination: Option<BStr<'s>>,
-}
-
-impl<'s> SideTexts<'s> {
-    // Those of a spec at an index.
-    fn of(spec: &RefSpecRef<'s>, index: usize) -> SideTexts<'s>
-        ensures { IsSidesOf (reading_of spec.now) index result }
-    {
-        SideTexts {
-            negative: if spec.is_negative() {
-                Some(index)
-            } else {
-                None
-            },
-            source: spec.source(),
-            destination: spec.destination(),
-        }
-    }
-}
-
-impl<'s> Element for SideTexts<'s> {
+// Specs are compared by their sides, whatever their force, and negative ones only with one another.
+impl<'spec> Element for RefSpecRef<'spec> {
+    ghost use Rattle.std.specs.Cmp.{on_total};
     ghost use Rattle.gix_refspec_match.specs.Private.EqualSpecs.{sides_alike, sides_hash, sides_order, sides_total};
 
-    ghost order = { sides_order };
+    ghost order = { λ x y. sides_order (reading_of x) (reading_of y) };
 
-    ghost hash = { sides_hash };
+    ghost hash = { λ seed x. sides_hash seed (reading_of x) };
 
-    ghost total = { sides_total };
+    ghost total = { on_total reading_of sides_total };
 
-    ghost alike = { sides_alike };
+    ghost alike = { λ seed x y same. sides_alike seed (reading_of x) (reading_of y) same };
 
     fn hash_by(&self, seed: FoldHasher) -> u64 {
         let mut state = seed;
-        self.negative.hash(&mut state);
-        state.write(bytes_of(self.source));
-        state.write(bytes_of(self.destination));
+        state.write(bytes_of(self.source()));
+        state.write(bytes_of(self.destination()));
         state.finish()
     }
 
     fn compare(&self, other: &Self) -> Ordering {
-        self.cmp(other)
+        let source = self.source().cmp(&other.source());
+        let sides = source.then(self.destination().cmp(&other.destination()));
+        sides.then(self.is_negative().cmp(&other.is_negative()))
     }
 }
 
 // The bytes of a side, and none for one that is missing.
 fn bytes_of(side: Option<BStr<'_>>) -> &[u8]
-    ensures { result.now ≡ side_bytes side.entry }
+    ensures { result.now ≡ unwrap_or (option_map bstr_bytes side.entry) [] }
 {
     match side {
         None => b"",
         Some(side) => side.as_bytes(),
     }
-}
-
-// Flags positive specs that have both sides of an earlier one. There may be no flags at all where none
-// has.
-fn equal_specs(alloc: Global, specs: &[RefSpecRef<'_>]) -> Result<Vec<bool>, AllocError>
-    ensures { IfOk result (λ flags. FlagsEqual (map reading_of specs.now) flags.items) }
-{
-    if specs.len() < 2 {
-        return Ok(Vec::new(alloc));
-    }
-    let sides = texts_of(alloc, specs)?;
-    duplicates(alloc, sides.as_slice())
-}
-
-// The sides of all specs.
-fn texts_of<'s>(alloc: Global, specs: &[RefSpecRef<'s>]) -> Result<Vec<SideTexts<'s>>, AllocError>
-    ensures { IfOk result (λ sides. AreSidesOf (map reading_of specs.now) sides.items) }
-{
-    let mut sides = Vec::with_capacity(alloc, specs.len())?;
-    for (index, spec) in specs.iter().enumerate() {
-        sides.push(SideTexts::of(spec, index))?;
-    }
-    Ok(sides)
 }

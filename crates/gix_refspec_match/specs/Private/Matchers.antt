@@ -53,11 +53,11 @@ pub record IsMatcherOf (which : Candidates) (flags : List Bool) (k : ℕ) (r : R
   pub kinds : HaveKinds ends m
   pub spec : m.spec_index ≡ k
 
--- the matcher of the reading at index k, and none where that is flagged or has no ends
+-- the matcher of the reading at index k, and none where that is positive and flagged, or has no ends
 abbrev pub AreMatcherOf : Candidates → List Bool → ℕ → Reading → List Matcher → Type 0
 AreMatcherOf which flags k r made =
     ((m : Matcher) × IsMatcherOf which flags k r m × (made ≡ m ∷ []))
-    ⊎ ((IsFlagged flags k ⊎ ((ends : Ends) → ¬ (HasEnds which r ends))) × (made ≡ []))
+    ⊎ (((IsFlagged flags k × IsPositive r.mode) ⊎ ((ends : Ends) → ¬ (HasEnds which r ends))) × (made ≡ []))
 
 -- the matchers are those of the readings, but for some with the sides of an earlier one
 pub record AreMatchersOf (which : Candidates) (g : List Reading) (ms : Matchers) : Type 0 where

@@ -8,6 +8,7 @@ use Rattle.gix_refspec_match.specs.declared.matcher.Candidates.TheVariants.{Firs
 use Rattle.gix_refspec_match.specs.declared.matcher.Matcher.{Matcher}
 use Rattle.gix_refspec_match.specs.declared.matcher.Matchers.{Matchers}
 use Rattle.gix_refspec_text.specs.Specs.Reading.{Reading}
+use Rattle.gix_refspec_text.specs.Specs.Grammar.{IsPositive}
 use Rattle.gix_refspec_text.specs.Matching.Match.{Ref}
 use Rattle.gix_refspec_match.specs.Matching.Lists.{IsMadeFrom, IsJoinedFrom}
 use Rattle.gix_refspec_match.specs.Matching.Mappings.{Mapped, IsSamePair, HasPair}
@@ -115,12 +116,13 @@ abbrev pub FindEnough : List Reading → Candidates → List Ref → ℕ → Lis
 FindEnough g which items n ms some = IsJoinedFrom (λ (k : ℕ) (m : Matcher) (made : List Mapped). FindsEnough g which items m made) n ms some
 
 -- a spec that is flagged makes nothing new
-flagged_next : (g : List Reading) (which : Candidates) (items : List Ref) (flags : List Bool) (front rest : List Reading) (r : Reading) (some : List Mapped) → g ≡ front ++ (r ∷ rest) → FlagsEqual g flags → IsFlagged flags (length front)
+flagged_next : (g : List Reading) (which : Candidates) (items : List Ref) (flags : List Bool) (front rest : List Reading) (r : Reading) (some : List Mapped) → g ≡ front ++ (r ∷ rest) → FlagsEqual g flags → IsFlagged flags (length front) → IsPositive r.mode
     → AreMostOf g which items front some → AreMostOf g which items (front ++ r ∷ []) some
-flagged_next g which items flags front rest r some whole equal flagged so_far =
-    let (b, at) = equal (length front) flagged in
+flagged_next g which items flags front rest r some whole equal flagged positive so_far =
+    let there : (d : Reading) → get_or g (length front) d ≡ r = λ d. ap (λ (l : List Reading). get_or l (length front) d) whole ∙ get_or-append_seam front r rest d in
+    let (b, at) = equal (length front) flagged (λ d. subst (λ (s : Reading). IsPositive s.mode) (sym (there d)) positive) in
     let less : b < length front = at.earlier in
-    let here : get_or g (length front) r ≡ r = ap (λ (l : List Reading). get_or l (length front) r) whole ∙ get_or-append_seam front r rest r in
+    let here : get_or g (length front) r ≡ r = there r in
     let first_at : get_or g b r ≡ get_or front b r = ap (λ (l : List Reading). get_or l b r) whole ∙ get_or_append_left front (r ∷ rest) r b less in
     let same : HaveSameSides (get_or front b r) r = subst (λ (s : Reading). HaveSameSides s r) first_at (subst (HaveSameSides (get_or g b r)) here (at.same r)) in
     let (first, are, holds) = hits_of_spec which items front 0 b r so_far.0 less so_far.1 in
@@ -143,9 +145,9 @@ most_from g which items flags front (r ∷ rest) n ms some more whole equal (mad
       subst (AreMostOf g which items g) (append_assoc some here later ∙ ap (λ (l : List Mapped). some ++ l) (sym all))
       (most_from g which items flags (front ++ r ∷ []) rest (n + 1) others (some ++ here) later next_whole equal (next_made others behind) find
       (most_next g which items front r some here hits spec so_far (thins (of_hits which so_far.0))))
-  | inr (inl flagged, none) ↦
+  | inr (inl (flagged, positive), none) ↦
       most_from g which items flags (front ++ r ∷ []) rest n others some more next_whole equal (next_made others behind) (skipped none)
-      (flagged_next g which items flags front rest r some whole equal flagged so_far)
+      (flagged_next g which items flags front rest r some whole equal flagged positive so_far)
   | inr (inr no_ends, none) ↦
       most_from g which items flags (front ++ r ∷ []) rest n others some more next_whole equal (next_made others behind) (skipped none)
       (subst (AreMostOf g which items (front ++ r ∷ [])) (append-nil some) (most_next g which items front r some [] [] (inr (no_ends, refl)) so_far refl))

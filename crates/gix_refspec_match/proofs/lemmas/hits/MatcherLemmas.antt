@@ -61,8 +61,8 @@ forward_matcher flags k r sides have other unflagged =
     let m : Matcher = record { spec_index = k; needle = sides.source; other = sides.destination } in
     inl (m, record { unflagged = unflagged; ends = ends; has = are; kinds = record { near = kind; far = subst (λ (x : Option (List ℕ)). HasSideKind x sides.destination) are.far have.destination }; spec = refl }, refl)
 
-pub flagged_matcher : (which : Candidates) (flags : List Bool) (k : ℕ) (r : Reading) → IsFlagged flags k → AreMatcherOf which flags k r []
-flagged_matcher which flags k r flagged = inr (inl flagged, refl)
+pub flagged_matcher : (which : Candidates) (flags : List Bool) (k : ℕ) (r : Reading) (sides : Sides) → HaveSides r sides → IsFlagged flags k → AreMatcherOf which flags k r []
+flagged_matcher which flags k r sides have flagged = inr (inl (flagged, have.positive), refl)
 
 -- whose destination is matched
 some_source : (r : Reading) (sides : Sides) → HaveSides r sides → IsSome r.source

@@ -1,72 +1,73 @@
--- The sides of specs, and what equal ones say of the specs.
-use Rattle.std.proofs.Common.{◌≡◌, inl, inr, ℕ, ◌+◌, ◌<◌, List, [], ◌∷◌, ◌++◌, Bool, length, get_or, map, sym, ap, ◌∙◌, subst, arith}
-use Rattle.std.proofs.Math.Seq.{get_or-append_seam}
-use Rattle.std.proofs.lemmas.List.{get_or_append_left, get_or-map, length-append}
+-- What duplicates among specs say of them.
+use Rattle.std.proofs.Common.{◌≡◌, ℕ, ◌<◌, List, [], ◌∷◌, Bool, true, false, Option, None, Some, IsTrue, ◌↔◌, length, get_or, map, option_map, refl, sym, subst, arith}
+use Rattle.std.proofs.lemmas.List.{get_or-map, length-map}
+use Rattle.std.specs.Option.{option_cmp}
+use Rattle.std.specs.Ordering.{bool_cmp, ordering_then}
+use Rattle.std.specs.declared.cmp.Ordering.TheVariants.{Equal}
+use Rattle.bstr.specs.BStr.{bstr_bytes}
+use Rattle.bstr.specs.declared.bstr.BStr.{BStr}
 use Rattle.gix_refspec_text.specs.declared.spec.RefSpecRef.{RefSpecRef}
 use Rattle.gix_refspec_text.specs.Specs.Reading.{Reading, Mode, Normal, Forced, Negative}
 use Rattle.gix_refspec_text.specs.Specs.Grammar.{IsPositive}
 use Rattle.gix_refspec_text.specs.Views.Spec.{reading_of}
-use Rattle.gix_refspec_match.specs.declared.matcher.SideTexts.{SideTexts}
 use Rattle.gix_refspec_match.specs.Private.Duplicates.{FlagsDuplicates}
-use Rattle.gix_refspec_match.specs.Private.EqualSpecs.{AreSidesOf, FlagsEqual, IsSidesOf, negative_at, same_index, same_side, side_order, sides_order}
-use Rattle.gix_refspec_match.specs.Private.Orders.{both_equal}
-use Rattle.gix_refspec_text.proofs.lemmas.lists.NumberLemmas.{upto}
-use Rattle.std.specs.Option.{option_cmp}
-use Rattle.std.specs.Ordering.{nat_cmp}
+use Rattle.gix_refspec_match.specs.Private.EqualSpecs.{FlagsEqual, HaveSameSides, excludes, side_order, sides_order}
+use Rattle.gix_refspec_match.specs.Private.Orders.{both_equal, bytes_order, same_options}
 
-some_sides : (sides : List SideTexts) (k : ℕ) → k < length sides → SideTexts
-some_sides [] k below = absurd (omega arith)
-some_sides (s ∷ sides) k below = s
+-- of two modes that are equally negative both are positive, or none is
+positive_alike : (m n : Mode) → bool_cmp (excludes m) (excludes n) ≡ Equal → IsPositive n → IsPositive m
+positive_alike Normal n same is = tt
+positive_alike Forced n same is = tt
+positive_alike Negative Normal same is = absurd (cc)
+positive_alike Negative Forced same is = absurd (cc)
+positive_alike Negative Negative same is = is
 
--- of two specs whose sides are equal none is negative
-both_positive : (m n : Mode) (j k : ℕ) → j < k → negative_at m j ≡ negative_at n k → IsPositive m × IsPositive n
-both_positive Negative Negative j k before same = absurd (let is : j ≡ k = cc in omega (arith, before, is))
-both_positive Negative Normal j k before same = absurd (cc)
-both_positive Negative Forced j k before same = absurd (cc)
-both_positive Normal Negative j k before same = absurd (cc)
-both_positive Forced Negative j k before same = absurd (cc)
-both_positive Normal Normal j k before same = (tt, tt)
-both_positive Normal Forced j k before same = (tt, tt)
-both_positive Forced Normal j k before same = (tt, tt)
-both_positive Forced Forced j k before same = (tt, tt)
+same_sides : (r s : Reading) → sides_order r s ≡ Equal → IsPositive s.mode → HaveSameSides r s
+same_sides r s is positive =
+    let both = both_equal (ordering_then (side_order r.source s.source) (side_order r.destination s.destination)) _ is in
+    let sides = both_equal (side_order r.source s.source) _ both.0 in
+    record {
+      positive = positive_alike r.mode s.mode both.1 positive;
+      positive_too = positive;
+      source = same_options r.source s.source sides.0;
+      destination = same_options r.destination s.destination sides.1;
+    }
 
--- duplicates among the sides are those of specs that have the sides of an earlier one
-pub equal_from_duplicates : (g : List Reading) (sides : List SideTexts) (flags : List Bool) → AreSidesOf g sides → FlagsDuplicates sides_order sides flags → FlagsEqual g flags
-equal_from_duplicates g sides flags are all place flagged =
-    let (below, (j, before, equal)) = (all place).0 flagged in
-    let s = some_sides sides place below in
-    let size = are.all in
-    let is = equal s in
-    let one = get_or sides j s in
-    let two = get_or sides place s in
-    let first = both_equal (option_cmp nat_cmp one.negative two.negative) _ is in
-    let second = both_equal (side_order one.source two.source) _ first.1 in
-    let inside : place < length g = omega (arith, below, size) in (
+some_spec : (specs : List RefSpecRef) (k : ℕ) → k < length specs → RefSpecRef
+some_spec [] k below = absurd (omega arith)
+some_spec (s ∷ specs) k below = s
+
+-- duplicates are specs with the sides of an earlier one
+pub equal_from_duplicates : (specs : List RefSpecRef) (flags : List Bool) → FlagsDuplicates (λ (x : RefSpecRef) (y : RefSpecRef). sides_order (reading_of x) (reading_of y)) specs flags → FlagsEqual (map reading_of specs) flags
+equal_from_duplicates specs flags all index flagged positive =
+    let (below, (j, before, equal)) = (all index).0 flagged in
+    let s = some_spec specs index below in
+    let at : (k : ℕ) (d : Reading) → k < length specs → get_or (map reading_of specs) k d ≡ reading_of (get_or specs k s) = λ k d inside. get_or-map reading_of specs k s d inside in (
       j,
       record {
         earlier = before;
-        inside = inside;
+        inside = (let size = length-map specs reading_of in omega (arith, below, size));
         same = λ d.
-            let a = are.each j d s (omega (arith, before, inside)) in
-            let b = are.each place d s inside in
-            let positive = both_positive (get_or g j d).mode (get_or g place d).mode j place before (sym a.negative ∙ same_index one.negative two.negative first.0 ∙ b.negative) in
-            record {
-              positive = positive.0;
-              positive_too = positive.1;
-              source = sym a.source ∙ same_side one.source two.source second.0 ∙ b.source;
-              destination = sym a.destination ∙ same_side one.destination two.destination second.1 ∙ b.destination;
-            };
+            let one = at j d (omega (arith, before, below)) in
+            let two = at index d below in
+            subst (λ (r : Reading). HaveSameSides r (get_or (map reading_of specs) index d)) (sym one)
+            (subst (HaveSameSides (reading_of (get_or specs j s))) (sym two)
+            (same_sides (reading_of (get_or specs j s)) (reading_of (get_or specs index s)) (equal s) (subst (λ (r : Reading). IsPositive r.mode) two (positive d))));
       },
     )
 
--- the sides of one more spec
-pub sides_more : (specs : List RefSpecRef) (sides new : List SideTexts) (s : SideTexts) (index : ℕ) (x : RefSpecRef) → new ≡ sides ++ s ∷ [] → index < length specs → x ≡ get_or specs index x → IsSidesOf (reading_of x) index s → length sides ≡ index → ((k : ℕ) (r : Reading) (d : SideTexts) → k < index → IsSidesOf (get_or (map reading_of specs) k r) k (get_or sides k d)) → (length new ≡ index + 1) × ((k : ℕ) (r : Reading) (d : SideTexts) → k < index + 1 → IsSidesOf (get_or (map reading_of specs) k r) k (get_or new k d))
-sides_more specs sides new s index x is below is_x here size each = (
-  ap length is ∙ length-append sides (s ∷ []) ∙ ap (λ (n : ℕ). n + 1) size,
-  λ k r d under. elim (upto k index under) [
-    | inl less ↦ subst (IsSidesOf (get_or (map reading_of specs) k r) k) (sym (ap (λ (l : List SideTexts). get_or l k d) is ∙ get_or_append_left sides (s ∷ []) d k (omega (arith, less, size)))) (each k r d less)
-    | inr last ↦ subst (λ (n : ℕ). IsSidesOf (get_or (map reading_of specs) n r) n (get_or new n d)) (sym last)
-        (subst (IsSidesOf (get_or (map reading_of specs) index r) index) (sym (ap (λ (l : List SideTexts). get_or l index d) is ∙ ap (λ (n : ℕ). get_or (sides ++ s ∷ []) n d) (sym size) ∙ get_or-append_seam sides s [] d))
-        (subst (λ (q : Reading). IsSidesOf q index s) (sym (get_or-map reading_of specs index x r below ∙ ap reading_of (sym is_x))) here))
-  ],
-)
+-- sides that are compared as names are compared by their bytes
+pub side_compared : (x y : Option BStr) → option_cmp (λ (a : BStr) (b : BStr). bytes_order (bstr_bytes a) (bstr_bytes b)) x y ≡ side_order (option_map bstr_bytes x) (option_map bstr_bytes y)
+side_compared None None = refl
+side_compared None (Some y) = refl
+side_compared (Some x) None = refl
+side_compared (Some x) (Some y) = refl
+
+-- whether a spec was called negative
+pub told_negative : (told : Bool) (m : Mode) → IsTrue told ↔ (m ≡ Negative) → told ≡ excludes m
+told_negative true Normal is = absurd (let same = is.0 refl in cc)
+told_negative true Forced is = absurd (let same = is.0 refl in cc)
+told_negative true Negative is = refl
+told_negative false Normal is = refl
+told_negative false Forced is = refl
+told_negative false Negative is = is.1 refl

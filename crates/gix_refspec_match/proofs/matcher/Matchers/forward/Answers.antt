@@ -1,5 +1,5 @@
 -- Each spec has a matcher, an object or none.
-use Rattle.std.proofs.Common.{◌+◌, [], ◌∷◌, Vec, Global, map, take, sym, subst, ◌∙◌}
+use Rattle.std.proofs.Common.{◌+◌, [], ◌∷◌, Vec, Global, map, take, sym, subst, ◌∙◌, List, take_all, refl, arith}
 use Rattle.std.proofs.lemmas.Bool.{false≢true}
 use Rattle.gix_refspec_match.specs.declared.matcher.Candidates.TheVariants.{First}
 use Rattle.gix_refspec_match.specs.declared.matcher.Matcher.{Matcher}
@@ -8,6 +8,8 @@ use Rattle.gix_refspec_text.specs.Views.Spec.{reading_of}
 use Rattle.gix_refspec_match.specs.Matching.Lists.{IsJoinedFrom}
 use Rattle.gix_refspec_match.specs.Private.Kept.{IsFlagged}
 use Rattle.gix_refspec_match.specs.Private.Matchers.{AreMatcherOf, AreObjectOf}
+use Rattle.gix_refspec_text.specs.declared.spec.RefSpecRef.{RefSpecRef}
+use Rattle.gix_refspec_match.proofs.lemmas.hits.SidesLemmas.{equal_from_duplicates}
 use Rattle.gix_refspec_match.proofs.lemmas.hits.MatcherLemmas.{flagged_matcher, forward_matcher, no_id_object, no_matcher, no_object, nothing_joined_to, object_here, object_unmatched, spec_joined}
 use Rattle.gix_refspec_match.proofs.matcher.Matchers.forward.Goals as goal
 use Rattle.gix_refspec_match.proofs.matcher.Matchers.forward.Goals.{in-Object+in_ok-push-in-Object, in_default-source+then-not-is_flagged+in_ok-push-in_default-source, in_default-source+else-not-is_flagged}
@@ -47,7 +49,18 @@ loop-spec_index-preserved c =
         subst Os (sym w.objects-is) (nothing_joined_to AreObjectOf specs i spec.result c.loop-spec_index.objects.items below spec.is (no_id_object i r sides have w.in_default-source.not-Object) kept.1),
       )
       | in_default-source+else-not-is_flagged w ↦ (
-        subst Ms (sym w.list-is) (nothing_joined_to (AreMatcherOf First flags) specs i spec.result c.loop-spec_index.list.items below spec.is (flagged_matcher First flags i r (subst (λ l. IsFlagged l i) w.as_slice.ensures.value (w.is_flagged.ensures.0 w.if-not-is_flagged.false))) kept.0),
+        subst Ms (sym w.list-is) (nothing_joined_to (AreMatcherOf First flags) specs i spec.result c.loop-spec_index.list.items below spec.is (flagged_matcher First flags i r sides have (subst (λ l. IsFlagged l i) w.as_slice.ensures.value (w.is_flagged.ensures.0 w.if-not-is_flagged.false))) kept.0),
         subst Os (sym w.objects-is) (nothing_joined_to AreObjectOf specs i spec.result c.loop-spec_index.objects.items below spec.is (no_id_object i r sides have w.in_default-source.not-Object) kept.1),
       )
     ]
+
+pub returns-clause-matchers : goal.returns-clause-matchers
+returns-clause-matchers c =
+    let specs = c.args.specs.now in
+    let flags = c.in_ok-equal.equal.items in
+    record {
+      candidates = refl;
+      flags = flags;
+      equal = equal_from_duplicates specs flags c.in_ok-equal.ensures.ok;
+      made = subst (λ (l : List RefSpecRef). IsJoinedFrom (AreMatcherOf First flags) 0 (map reading_of l) c.loop-spec_index.list.items) (take_all c.loop-spec_index.spec_index specs (omega arith)) c.loop-spec_index.invariant.0;
+    }
