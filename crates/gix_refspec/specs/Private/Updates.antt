@@ -1,5 +1,5 @@
 -- How conflicts are found. Only private functions use these definitions.
-use Rattle.std.specs.Prelude.{◌≡◌, ◌⊎◌, ◌↔◌, ◌<◌, ◌≤◌, ◌++◌, ℕ, Bool, List, [], ◌∷◌, length, map, Some, option_map, option_to_list}
+use Rattle.std.specs.Prelude.{◌≡◌, ◌⊎◌, ◌↔◌, ◌<◌, ◌≤◌, ◌++◌, ℕ, Bool, List, [], ◌∷◌, length, map, Some, option_to_list}
 use Rattle.std.specs.declared.cmp.Ordering.{Ordering}
 use Rattle.std.specs.Ordering.{nat_cmp, ordering_then}
 use Rattle.std.specs.Cmp.Lexicographic.{slice_cmp}
@@ -10,7 +10,7 @@ use Rattle.gix_refspec.specs.declared.match_group.validate.conflicts.Update.{Upd
 use Rattle.gix_refspec_text.specs.Specs.Reading.{Reading}
 use Rattle.gix_refspec_match.specs.Matching.Mappings.{Mapped}
 use Rattle.gix_refspec.specs.Matching.Validation.{Conflict, IsConflict, IsFirstTo}
-use Rattle.gix_refspec_match.specs.Private.Kept.{IsFlagged, name_hash}
+use Rattle.gix_refspec_match.specs.Private.Kept.{IsFlagged}
 
 -- one of the updates is to the destination d by the mapping at index k
 abbrev pub HasUpdate : List Update → ℕ → List ℕ → Type 0
@@ -66,6 +66,6 @@ pub record IsConflictOf (g : List Reading) (l : List Mapped) (run : List Update)
 abbrev pub AddsConflict : List Reading → List Mapped → List Update → List Conflict → List Conflict → Type 0
 AddsConflict g l run old new = ((length run ≤ 1) × (new ≡ old)) ⊎ ((c : Conflict) × (1 < length run) × IsConflictOf g l run c × (new ≡ old ++ c ∷ []))
 
--- the hashes of the destinations, without missing ones
-abbrev pub destination_hashes : List Mapped → List ℕ
-destination_hashes l = flat_map (λ m. option_to_list (option_map name_hash m.destination)) l
+-- the destinations, without missing ones
+abbrev pub all_destinations : List Mapped → List (List ℕ)
+all_destinations l = flat_map (λ m. option_to_list m.destination) l

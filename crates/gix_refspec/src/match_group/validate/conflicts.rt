@@ -1,22 +1,20 @@
 //! Destinations that several sources are mapped to.
 //!
-//! They are found by sorting, so that no choice of names makes it slow. The hashes of the destinations
-//! are sorted first: if they all differ, as they mostly do, there is no conflict, and nothing else is
-//! sorted.
+//! They are found by sorting, so that no choice of names makes it slow. If all destinations differ, as they
+//! mostly do, there is no conflict, and nothing is sorted.
 
 ghost use Rattle.std.specs.Prelude.{◌≡◌, ◌≢◌, ◌<◌, ◌≤◌, [], List, ℕ, length, map, take, drop, IfOk, OnOk, OnErr, IsTrue};
 ghost use Rattle.std.specs.List.Sorted.{IsStrictlySortedBy};
+ghost use Rattle.bstr.specs.BStr.{bstr_bytes};
 ghost use Rattle.gix_refspec_text.specs.Views.Spec.{reading_of};
 ghost use Rattle.gix_refspec_match.specs.Views.Mapping.{mapped_of};
 ghost use Rattle.gix_refspec.specs.Matching.Validation.{IndexesFit, HasConflictAt, AreConflicts};
 ghost use Rattle.gix_refspec.specs.Views.Issue.{conflict_of};
-ghost use Rattle.gix_refspec_match.specs.Private.Kept.{Rises};
-ghost use Rattle.gix_refspec.specs.Private.Updates.{AddsConflict, AreUpdates, AreFirstUpdates, AreConflicting, IsRun, IsConflictOf, update_cmp, destination_hashes};
+ghost use Rattle.gix_refspec.specs.Private.Updates.{AddsConflict, AreUpdates, AreFirstUpdates, AreConflicting, IsRun, IsConflictOf, update_cmp, all_destinations};
 
 use crate::match_group::validate::Issue;
 use bstr::{BStr, BString};
 use gix_refspec_match::duplicates::{duplicates, is_flagged};
-use gix_refspec_match::hashes::hash_of_name;
 use gix_refspec_match::types::Mapping;
 use gix_refspec_text::RefSpecRef;
 use std::alloc::{AllocError, Global};
@@ -50,41 +48,31 @@ pub(crate) fn issues_of(
     issues_among(alloc, specs, mappings, firsts.as_slice())
 }
 
-// Whether the hashes of all destinations differ: then there is no conflict. Numbers are sorted faster
-// than names.
+// Whether no two mappings have the same destination: then there is no conflict.
 fn destinations_differ(alloc: Global, mappings: &[Mapping<'_, '_>]) -> Result<bool, AllocError>
     ensures { IfOk result (λ differ. IsTrue differ →
         (d : List ℕ) → ¬ (HasConflictAt (map mapped_of mappings.now) d)) }
 {
-    let mut hashes = hashes_of(alloc, mappings)?;
-    hashes.sort_unstable();
-    Ok(rise(hashes.as_slice()))
+    let destinations = destinations_of(alloc, mappings)?;
+    let flags = duplicates(alloc, destinations.as_slice())?;
+    Ok(flags.is_empty())
 }
 
-// Whether the numbers are strictly increasing.
-fn rise(numbers: &[u64]) -> bool
-    ensures { IsTrue result → Rises numbers.now }
+// The destinations, without missing ones.
+fn destinations_of<'m>(
+    alloc: Global,
+    mappings: &'m [Mapping<'_, '_>],
+) -> Result<Vec<BStr<'m>>, AllocError>
+    ensures { IfOk result (λ destinations. map bstr_bytes destinations.items ≡
+        all_destinations (map mapped_of mappings.now)) }
 {
-    for at in 1..numbers.len() {
-        if numbers[at - 1] >= numbers[at] {
-            return false;
-        }
-    }
-    true
-}
-
-// The hashes of the destinations, without missing ones.
-fn hashes_of(alloc: Global, mappings: &[Mapping<'_, '_>]) -> Result<Vec<u64>, AllocError>
-    ensures { IfOk result (λ hashes. hashes.items ≡
-        destination_hashes (map mapped_of mappings.now)) }
-{
-    let mut hashes = Vec::with_capacity(alloc, mappings.len())?;
+    let mut destinations = Vec::with_capacity(alloc, mappings.len())?;
     for mapping in mappings {
         if let Some(name) = &mapping.rhs {
-            hashes.push(hash_of_name(name.as_bstr().as_bytes()))?;
+            destinations.push(name.as_bstr())?;
         }
     }
-    Ok(hashes)
+    Ok(destinations)
 }
 
 // The updates of the mappings that have a destination and aren't flagged, by destination and then by

@@ -1,18 +1,15 @@
 -- What duplicates among specs say of them.
-use Rattle.std.proofs.Common.{◌≡◌, ℕ, ◌<◌, List, [], ◌∷◌, Bool, true, false, Option, None, Some, IsTrue, ◌↔◌, length, get_or, map, option_map, refl, sym, subst, arith}
+use Rattle.std.proofs.Common.{◌≡◌, ℕ, ◌<◌, List, [], ◌∷◌, Bool, length, get_or, map, sym, subst, arith}
 use Rattle.std.proofs.lemmas.List.{get_or-map, length-map}
-use Rattle.std.specs.Option.{option_cmp}
 use Rattle.std.specs.Ordering.{bool_cmp, ordering_then}
 use Rattle.std.specs.declared.cmp.Ordering.TheVariants.{Equal}
-use Rattle.bstr.specs.BStr.{bstr_bytes}
-use Rattle.bstr.specs.declared.bstr.BStr.{BStr}
 use Rattle.gix_refspec_text.specs.declared.spec.RefSpecRef.{RefSpecRef}
 use Rattle.gix_refspec_text.specs.Specs.Reading.{Reading, Mode, Normal, Forced, Negative}
 use Rattle.gix_refspec_text.specs.Specs.Grammar.{IsPositive}
 use Rattle.gix_refspec_text.specs.Views.Spec.{reading_of}
 use Rattle.gix_refspec_match.specs.Private.Duplicates.{FlagsDuplicates}
 use Rattle.gix_refspec_match.specs.Private.EqualSpecs.{FlagsEqual, HaveSameSides, excludes, side_order, sides_order}
-use Rattle.gix_refspec_match.specs.Private.Orders.{both_equal, bytes_order, same_options}
+use Rattle.gix_refspec_match.specs.Private.Orders.{both_equal, same_options}
 
 -- of two modes that are equally negative both are positive, or none is
 positive_alike : (m n : Mode) → bool_cmp (excludes m) (excludes n) ≡ Equal → IsPositive n → IsPositive m
@@ -55,19 +52,3 @@ equal_from_duplicates specs flags all index flagged positive =
             (same_sides (reading_of (get_or specs j s)) (reading_of (get_or specs index s)) (equal s) (subst (λ (r : Reading). IsPositive r.mode) two (positive d))));
       },
     )
-
--- sides that are compared as names are compared by their bytes
-pub side_compared : (x y : Option BStr) → option_cmp (λ (a : BStr) (b : BStr). bytes_order (bstr_bytes a) (bstr_bytes b)) x y ≡ side_order (option_map bstr_bytes x) (option_map bstr_bytes y)
-side_compared None None = refl
-side_compared None (Some y) = refl
-side_compared (Some x) None = refl
-side_compared (Some x) (Some y) = refl
-
--- whether a spec was called negative
-pub told_negative : (told : Bool) (m : Mode) → IsTrue told ↔ (m ≡ Negative) → told ≡ excludes m
-told_negative true Normal is = absurd (let same = is.0 refl in cc)
-told_negative true Forced is = absurd (let same = is.0 refl in cc)
-told_negative true Negative is = refl
-told_negative false Normal is = refl
-told_negative false Forced is = refl
-told_negative false Negative is = is.1 refl

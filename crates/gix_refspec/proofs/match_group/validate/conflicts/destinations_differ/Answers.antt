@@ -1,12 +1,18 @@
--- strictly increasing hashes differ, and so do the destinations
-use Rattle.std.proofs.Common.{List, ℕ, map, subst}
-use Rattle.std.specs.List.Sorted.{IsPermutation}
+-- no flags are set, and so the destinations differ
+use Rattle.std.proofs.Common.{List, ◌≡◌, length, map, subst, sym, ◌∙◌, arith}
+use Rattle.std.proofs.lemmas.Bool.{eqb-true}
+use Rattle.bstr.specs.BStr.{bstr_bytes}
+use Rattle.bstr.specs.declared.bstr.BStr.{BStr}
 use Rattle.gix_refspec_match.specs.Views.Mapping.{mapped_of}
-use Rattle.gix_refspec_match.specs.Private.Kept.{Rises}
+use Rattle.gix_refspec.specs.Private.Updates.{all_destinations}
 use Rattle.gix_refspec.proofs.lemmas.validate.ApartLemmas.{none_contested}
 use Rattle.gix_refspec.proofs.match_group.validate.conflicts.destinations_differ.Goals as goal
 
 pub returns : goal.returns
-returns c is_so = none_contested (map mapped_of c.args.mappings.now) c.sort_unstable.new.self.items
-    (subst (λ (ns : List ℕ). IsPermutation ns c.sort_unstable.new.self.items) c.in_ok-hashes.ensures c.sort_unstable.ensures.permutation)
-    (subst (λ (ns : List ℕ). Rises ns) c.as_slice.ensures.value (c.rise.ensures is_so))
+returns c is_so =
+    let l = map mapped_of c.args.mappings.now in
+    let flags = c.in_ok-flags.flags in
+    let none : length flags.items ≡ 0 = (let empty = eqb-true _ _ (sym c.is_empty.ensures ∙ is_so) in omega (arith, empty, flags.ok.0, flags.ok.1)) in
+    none_contested l c.as_slice.result.now flags.items
+    (subst (λ (ds : List BStr). map bstr_bytes ds ≡ all_destinations l) (sym c.as_slice.ensures.value) c.in_ok-destinations.ensures)
+    c.in_ok-flags.ensures.ok none
