@@ -2,9 +2,7 @@
 //! prefixes of patterns have an index each. Names that no matcher looks for take no memory and are no keys,
 //! since a server chooses them.
 
-ghost use Rattle.std.specs.Prelude.{◌≡◌, ◌++◌, [], List, ℕ, map, MatchOption, IfSome, IfOk, OnOk, ◌∷◌, nat_eq};
-ghost use Rattle.std.specs.List.{AllByRecursion};
-ghost use Rattle.gix_refspec_text.specs.Matching.Match.{Ref};
+ghost use Rattle.std.specs.Prelude.{◌≡◌, ◌++◌, [], map, option_map, MatchOption, IfOk, OnOk, ◌∷◌, nat_eq};
 ghost use Rattle.gix_refspec_match.specs.Views.Mapping.{name_bytes, ref_of};
 ghost use Rattle.gix_refspec_text.specs.Private.SideViews.{kind_of_side};
 ghost use Rattle.gix_refspec_match.specs.Private.Index.{HaveNamesOf, HavePlaces, full_names_of, list_of, partial_names_of};
@@ -22,8 +20,8 @@ use crate::matcher::{Candidates, Matchers};
 use crate::types::{Item, NameRef};
 use bstr::BStr;
 use gix_refspec_text::side::SideKind;
-use partials::PartialIndex;
-use prefixes::PrefixIndex;
+use partials::places_of_partials;
+use prefixes::places_of_prefixes;
 use std::alloc::{AllocError, Global};
 use std::collections::HashMap;
 use std::hash::{Hash, Hasher};
@@ -33,12 +31,9 @@ use std::hash::{Hash, Hasher};
 #[derive(Drop)]
 pub(crate) struct Index<'n> {
     full: HashMap<Key<'n>, Vec<usize>>,
-    partials: PartialIndex<'n>,
-    prefixes: PrefixIndex<'n>,
+    partials: HashMap<Key<'n>, Vec<usize>>,
+    prefixes: HashMap<Key<'n>, Vec<usize>>,
 }
-
-// From how many patterns on their prefixes are looked up. For fewer it is cheaper to compare each with all names.
-const MANY: usize = 8;
 
 // The names that matchers look for, and the prefixes of their patterns.
 #[derive(Drop)]
@@ -127,7 +122,7 @@ fn places_of<'n>(
 }
 
 impl<'n> Index<'n> {
-    ghost use Rattle.gix_refspec_match.specs.Private.Index.{ArePlacesBehind, IsPrefixIndexOf, IsIndexOf, places_listed, Serves};
+    ghost use Rattle.gix_refspec_match.specs.Private.Index.{IsIndexOf, Serves};
 
     // The index of some names and prefixes.
     pub(crate) fn of(
@@ -139,8 +134,8 @@ impl<'n> Index<'n> {
         ensures { IfOk result (IsIndexOf candidates names.now (map ref_of items.now)) }
     {
         let full = places_of(alloc, names.full.as_slice(), items)?;
-        let partials = PartialIndex::of(alloc, candidates, names.partial.as_slice(), items)?;
-        let prefixes = PrefixIndex::of(alloc, names.prefixes.as_slice(), items)?;
+        let partials = places_of_partials(alloc, candidates, names.partial.as_slice(), items)?;
+        let prefixes = places_of_prefixes(alloc, names.prefixes.as_slice(), items)?;
         Ok(Index {
             full,
             partials,
@@ -155,21 +150,21 @@ impl<'n> Index<'n> {
             (λ listed. Serves self.now (kind_of_side needle.entry) listed.now) }
     {
         match needle {
-            SideKind::FullName(name) => Some(self.places(name)),
-            SideKind::Partial(name) => Some(self.partials.places(name)),
-            SideKind::Pattern { before, .. } => self.prefixes.places(before),
+            SideKind::FullName(name) => Some(listed(&self.full, name).unwrap_or(&[])),
+            SideKind::Partial(name) => Some(listed(&self.partials, name).unwrap_or(&[])),
+            SideKind::Pattern { before, .. } => listed(&self.prefixes, before),
             SideKind::Object(_) => None,
         }
     }
+}
 
-    // The items that have a name.
-    fn places(&self, name: &'n [u8]) -> &[usize]
-        ensures { result.now ≡ places_listed (list_of self.now.full) name.now }
-    {
-        match self.full.get(&Key { name }) {
-            None => &[],
-            Some(places) => places.as_slice(),
-        }
+// The places that are listed for a name.
+fn listed<'p>(places: &'p HashMap<Key<'_>, Vec<usize>>, name: &'p [u8]) -> Option<&'p [usize]>
+    ensures { option_map (λ l. l.now) result ≡ option_map (λ l. l.items) (list_of places.now name.now) }
+{
+    match places.get(&Key { name }) {
+        None => None,
+        Some(list) => Some(list.as_slice()),
     }
 }
 

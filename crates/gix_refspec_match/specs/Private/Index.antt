@@ -9,7 +9,6 @@ use Rattle.gix_refspec_match.specs.declared.matcher.Candidates.TheVariants.{Firs
 use Rattle.gix_refspec_match.specs.declared.matcher.Matchers.{Matchers}
 use Rattle.gix_refspec_match.specs.declared.index.Index.{Index}
 use Rattle.gix_refspec_match.specs.declared.index.Names.{Names}
-use Rattle.gix_refspec_match.specs.declared.index.prefixes.PrefixIndex.{PrefixIndex}
 use Rattle.gix_refspec_match.specs.declared.index.Key.{Key}
 use Rattle.gix_refspec_text.specs.Texts.Words.{BeginsWith}
 use Rattle.gix_refspec_text.specs.Matching.Side.{SideKind, pattern, full_name, object, partial}
@@ -66,10 +65,6 @@ ArePlacesBehind prefix refs places = IsMadeFrom (λ k r place. BeginsWith prefix
 abbrev pub ListPrefixes : List Ref → (List ℕ → Option (Vec ℕ)) → Type 0
 ListPrefixes refs listed = (prefix : List ℕ) (v : Vec ℕ) → listed prefix ≡ Some v → ArePlacesBehind prefix refs v.items
 
--- the index has for each of its prefixes the places of the refs whose names begin with it
-abbrev pub IsPrefixIndexOf : List Ref → PrefixIndex → Type 0
-IsPrefixIndexOf refs index = ListPrefixes refs (list_of index.places)
-
 -- the lengths of all prefixes that are listed are flagged
 abbrev pub HaveLengths : List Bool → (List ℕ → Option (Vec ℕ)) → Type 0
 HaveLengths lengths listed = (prefix : List ℕ) (v : Vec ℕ) → listed prefix ≡ Some v → IsFlagged lengths (length prefix)
@@ -119,8 +114,8 @@ ListPartials which names refs listed = (x : List ℕ) → Contains names x → (
 -- the index has the places of these names, and those of prefixes
 pub record IsIndexOf (which : Candidates) (names : Names) (refs : List Ref) (index : Index) : Type 0 where
   pub full : HavePlaces (map name_bytes names.full.items) refs (list_of index.full)
-  pub partial : ListPartials which (map name_bytes names.partial.items) refs (list_of index.partials.places)
-  pub prefixes : IsPrefixIndexOf refs index.prefixes
+  pub partial : ListPartials which (map name_bytes names.partial.items) refs (list_of index.partials)
+  pub prefixes : ListPrefixes refs (list_of index.prefixes)
 
 -- what a needle of the kind looks for is among the names
 abbrev pub HasNamesOf : Names → SideKind → Type 0
@@ -145,12 +140,12 @@ abbrev pub IsListed : Candidates → List Ref → Index → SideKind → Type 0
 IsListed which refs index (pattern before after) = Unit {0}
 IsListed which refs index (full_name x) = ArePlacesTaken (full_name x) which refs (places_listed (list_of index.full) x)
 IsListed which refs index (object id) = Unit {0}
-IsListed which refs index (partial x) = ArePlacesTaken (partial x) which refs (places_listed (list_of index.partials.places) x)
+IsListed which refs index (partial x) = ArePlacesTaken (partial x) which refs (places_listed (list_of index.partials) x)
 
 -- the index has the names that a needle of the kind looks for
 pub record IsIndexFor (which : Candidates) (refs : List Ref) (index : Index) (kind : SideKind) : Type 0 where
   pub names : IsListed which refs index kind
-  pub prefixes : IsPrefixIndexOf refs index.prefixes
+  pub prefixes : ListPrefixes refs (list_of index.prefixes)
 
 -- what is listed are the places for a needle of the kind, where the index has its names
 abbrev pub Serves : Index → SideKind → List ℕ → Type 0

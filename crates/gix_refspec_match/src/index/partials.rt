@@ -1,12 +1,11 @@
 //! The places of the items that partial names take. The partial names are the only keys: an item's name is
 //! looked up without each of the folders that are tried before a partial name.
 
-ghost use Rattle.std.specs.Prelude.{◌≡◌, ◌++◌, codes, ℕ, List, length, map, MatchOption, IfOk, OnOk};
-ghost use Rattle.gix_refspec_text.specs.Texts.Words.{BeginsWith};
+ghost use Rattle.std.specs.Prelude.{◌≡◌, codes, ℕ, List, length, map, MatchOption, IfOk, OnOk};
 ghost use Rattle.gix_refspec_match.specs.Views.Mapping.{name_bytes, ref_of};
 ghost use Rattle.gix_refspec_text.specs.Matching.Side.{Fits, IsCandidate};
 ghost use Rattle.gix_refspec_match.specs.Private.Filter.{IsWholeFilter, Passes};
-ghost use Rattle.gix_refspec_match.specs.Private.Index.{AddsWhere, IsBelowPlace, Joins, JoinsFirst, ListPartials, list_of, name_at, places_listed};
+ghost use Rattle.gix_refspec_match.specs.Private.Index.{AddsWhere, IsBelowPlace, Joins, JoinsFirst, ListPartials, list_of, name_at};
 
 use super::{Key, without_places};
 use crate::bloom::{NameFilter, ShortTails};
@@ -17,52 +16,34 @@ use std::alloc::{AllocError, Global};
 use std::collections::HashMap;
 
 // For each of some partial names the places of all items that it takes, strictly increasing.
-#[derive(Drop)]
-pub(crate) struct PartialIndex<'n> {
-    places: HashMap<Key<'n>, Vec<usize>>,
-}
-
-impl<'n> PartialIndex<'n> {
-    // The index of some partial names.
-    pub(crate) fn of(
-        alloc: Global,
-        candidates: Candidates,
-        names: &'n [NameRef<'_>],
-        items: &'n [Item<'_>],
-    ) -> Result<PartialIndex<'n>, AllocError>
-        ensures { IfOk result (λ index. ListPartials
-            candidates (map name_bytes names.now) (map ref_of items.now) (list_of index.places)) }
-    {
-        let mut places = without_places(alloc, names)?;
-        if names.is_empty() {
-            return Ok(PartialIndex { places });
-        }
-        let filter = NameFilter::of(alloc, names)?;
-        let lookup = Lookup {
-            candidates,
-            items,
-            filter,
-        };
-        let tails = ShortTails::of(alloc, names)?;
-        for (place, item) in items.iter().enumerate() {
-            let name = item.full_ref_name.as_bytes();
-            if !tails.may_have(name) {
-                continue;
-            }
-            lookup.add_item(name, place, &mut places)?;
-        }
-        Ok(PartialIndex { places })
+pub(super) fn places_of_partials<'n>(
+    alloc: Global,
+    candidates: Candidates,
+    names: &'n [NameRef<'_>],
+    items: &'n [Item<'_>],
+) -> Result<HashMap<Key<'n>, Vec<usize>>, AllocError>
+    ensures { IfOk result (λ places. ListPartials
+        candidates (map name_bytes names.now) (map ref_of items.now) (list_of places)) }
+{
+    let mut places = without_places(alloc, names)?;
+    if names.is_empty() {
+        return Ok(places);
     }
-
-    // The places of the items that a partial name takes.
-    pub(crate) fn places(&self, partial: &'n [u8]) -> &[usize]
-        ensures { result.now ≡ places_listed (list_of self.now.places) partial.now }
-    {
-        match self.places.get(&Key { name: partial }) {
-            None => &[],
-            Some(places) => places.as_slice(),
+    let filter = NameFilter::of(alloc, names)?;
+    let lookup = Lookup {
+        candidates,
+        items,
+        filter,
+    };
+    let tails = ShortTails::of(alloc, names)?;
+    for (place, item) in items.iter().enumerate() {
+        let name = item.full_ref_name.as_bytes();
+        if !tails.may_have(name) {
+            continue;
         }
+        lookup.add_item(name, place, &mut places)?;
     }
+    Ok(places)
 }
 
 // How the places of partial names are found: in a candidates, of these items, and for the names that pass.
@@ -147,23 +128,7 @@ fn remote_of_head(below: &[u8]) -> Option<&[u8]>
         ((x : List ℕ) → ¬ (Fits (codes "remotes/") (codes "/HEAD") below.now x))
         (λ remote. Fits (codes "remotes/") (codes "/HEAD") below.now remote.now) }
 {
-    match below_remotes(below) {
-        None => None,
-        Some(head) => head.strip_suffix(b"/HEAD"),
-    }
-}
-
-// What follows `remotes/`.
-#[inline(always)]
-fn below_remotes(below: &[u8]) -> Option<&[u8]>
-    ensures { MatchOption result
-        (¬ (BeginsWith (codes "remotes/") below.now))
-        (λ head. below.now ≡ codes "remotes/" ++ head.now) }
-{
-    match below {
-        [b'r', b'e', b'm', b'o', b't', b'e', b's', b'/', head @ ..] => Some(head),
-        _ => None,
-    }
+    below.strip_prefix(b"remotes/")?.strip_suffix(b"/HEAD")
 }
 
 // Adds a place to those that a partial name takes.

@@ -1,68 +1,48 @@
 //! The places of the items whose names begin as patterns do. The text before the star of a pattern
 //! is its prefix. Prefixes are the only keys, and no name is looked at past the longest of them.
 
-ghost use Rattle.std.specs.Prelude.{ℕ, List, length, map, IfSome, IfOk, OnOk};
+ghost use Rattle.std.specs.Prelude.{ℕ, length, map, IfOk, OnOk};
 ghost use Rattle.std.specs.List.{AllByRecursion};
 ghost use Rattle.gix_refspec_match.specs.Views.Mapping.{name_bytes, ref_of};
-ghost use Rattle.gix_refspec_text.specs.Matching.Match.{Ref};
-ghost use Rattle.gix_refspec_match.specs.Private.Index.{AddsPlace, ArePlacesBehind, HaveLengths, IsPrefixIndexOf, list_of};
+ghost use Rattle.gix_refspec_match.specs.Private.Index.{AddsPlace, HaveLengths, ListPrefixes, list_of};
 ghost use Rattle.gix_refspec_match.specs.Private.Kept.{IsFlagged};
 
-use super::{Key, MANY, without_places};
+use super::{Key, without_places};
 use crate::types::{Item, NameRef};
 use std::alloc::{AllocError, Global};
 use std::collections::HashMap;
+
+// From how many patterns on their prefixes are looked up. For fewer it is cheaper to compare each with all names.
+const MANY: usize = 8;
 
 // How many places are listed for each item at most, on average. Where prefixes begin with one another, a server can list
 // names that begin with all of them, and then the index would take memory for each.
 const MOST: usize = 2;
 
-// For each of some prefixes the places of all items whose names begin with it, rising.
-#[derive(Drop)]
-pub(crate) struct PrefixIndex<'n> {
-    places: HashMap<Key<'n>, Vec<usize>>,
-}
-
-impl<'n> PrefixIndex<'n> {
-    // The index of some prefixes, or of none where they are few, or would list too much.
-    pub(crate) fn of(
-        alloc: Global,
-        prefixes: &'n [NameRef<'_>],
-        items: &'n [Item<'_>],
-    ) -> Result<PrefixIndex<'n>, AllocError>
-        ensures { IfOk result (IsPrefixIndexOf (map ref_of items.now)) }
-    {
-        if prefixes.len() < MANY {
-            return Ok(PrefixIndex {
-                places: HashMap::new(alloc),
-            });
-        }
-        let mut places = without_places(alloc, prefixes)?;
-        let lengths = lengths_of(alloc, prefixes)?;
-        let mut listed: usize = 0;
-        for (place, item) in items.iter().enumerate() {
-            let name = item.full_ref_name.as_bytes();
-            let prefixes = add_place(name, place, lengths.as_slice(), &mut places)?;
-            listed = listed.saturating_add(prefixes);
-            if MOST.saturating_mul(items.len()) < listed {
-                return Ok(PrefixIndex {
-                    places: HashMap::new(alloc),
-                });
-            }
-        }
-        Ok(PrefixIndex { places })
+// For each of some prefixes the places of all items whose names begin with it, rising. For none where they
+// are few, or would list too much.
+pub(super) fn places_of_prefixes<'n>(
+    alloc: Global,
+    prefixes: &'n [NameRef<'_>],
+    items: &'n [Item<'_>],
+) -> Result<HashMap<Key<'n>, Vec<usize>>, AllocError>
+    ensures { IfOk result (λ places. ListPrefixes (map ref_of items.now) (list_of places)) }
+{
+    if prefixes.len() < MANY {
+        return Ok(HashMap::new(alloc));
     }
-
-    // The places of the items whose names begin with a prefix. None where it isn't among those of the index.
-    pub(crate) fn places(&self, prefix: &'n [u8]) -> Option<&[usize]>
-        ensures { IfSome result (λ places. (refs : List Ref)
-            → IsPrefixIndexOf refs self.now → ArePlacesBehind prefix.now refs places.now) }
-    {
-        match self.places.get(&Key { name: prefix }) {
-            None => None,
-            Some(places) => Some(places.as_slice()),
+    let mut places = without_places(alloc, prefixes)?;
+    let lengths = lengths_of(alloc, prefixes)?;
+    let mut listed: usize = 0;
+    for (place, item) in items.iter().enumerate() {
+        let name = item.full_ref_name.as_bytes();
+        let prefixes = add_place(name, place, lengths.as_slice(), &mut places)?;
+        listed = listed.saturating_add(prefixes);
+        if MOST.saturating_mul(items.len()) < listed {
+            return Ok(HashMap::new(alloc));
         }
     }
+    Ok(places)
 }
 
 // Flags the lengths that some texts have.

@@ -10,6 +10,6 @@ returns c =
     let refs = map ref_of c.args.items.now in
     record {
       full = subst (λ (l : List NameRef). HavePlaces (map name_bytes l) refs (list_of c.in_ok-full.full)) c.as_slice.ensures.value c.in_ok-full.ensures;
-      partial = subst (λ (l : List NameRef). ListPartials c.args.candidates (map name_bytes l) refs (list_of c.in_ok-partials.partials.places)) c.as_slice-2.ensures.value c.in_ok-partials.ensures;
+      partial = subst (λ (l : List NameRef). ListPartials c.args.candidates (map name_bytes l) refs (list_of c.in_ok-partials.partials)) c.as_slice-2.ensures.value c.in_ok-partials.ensures;
       prefixes = c.in_ok-prefixes.ensures;
     }

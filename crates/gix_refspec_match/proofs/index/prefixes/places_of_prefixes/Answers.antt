@@ -4,7 +4,7 @@ use Rattle.gix_refspec_match.specs.declared.types.Item.{Item}
 use Rattle.gix_refspec_match.specs.Views.Mapping.{name_bytes, ref_of}
 use Rattle.gix_refspec_match.specs.Private.Index.{ListPrefixes, list_of}
 use Rattle.gix_refspec_match.proofs.lemmas.index.PrefixLemmas.{fronts_started, item_added, lengths_started, lengths_stay}
-use Rattle.gix_refspec_match.proofs.index.prefixes.PrefixIndex.of.Goals as goal
+use Rattle.gix_refspec_match.proofs.index.prefixes.places_of_prefixes.Goals as goal
 
 pub loop-place-init : goal.loop-place-init
 loop-place-init c =

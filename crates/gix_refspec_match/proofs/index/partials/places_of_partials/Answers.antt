@@ -9,7 +9,7 @@ use Rattle.gix_refspec_match.specs.Private.Filter.{HasTail, Passes}
 use Rattle.gix_refspec_match.specs.Private.Index.{Joins, ListPartials, list_of}
 use Rattle.gix_refspec_match.proofs.lemmas.index.PartialLemmas.{adds_nothing, no_partials, partials_more, partials_started}
 use Rattle.gix_refspec_match.proofs.lemmas.index.PlacesLemmas.{all_at}
-use Rattle.gix_refspec_match.proofs.index.partials.PartialIndex.of.Goals as goal
+use Rattle.gix_refspec_match.proofs.index.partials.places_of_partials.Goals as goal
 use Rattle.std.proofs.lemmas.List.{nil_from_length}
 
 pub returns-then-is_empty : goal.returns-then-is_empty
