@@ -104,21 +104,12 @@ impl NameFilter {
             hashes: Bloom::new(alloc, names.len())?,
         };
         for name in names {
-            filter.add(name.as_bstr().as_bytes());
+            let name = name.as_bstr().as_bytes();
+            filter.lengths.add(name.len() as u64);
+            filter.tails.add(tail_of(name));
+            filter.hashes.add(hash_of_name(name));
         }
         Ok(filter)
-    }
-
-    // Lets a name pass.
-    fn add(&mut self, name: &[u8])
-        requires { IsWholeFilter self.old }
-        ensures whole { IsWholeFilter self.new }
-        ensures here { Passes self.new name.now }
-        ensures others { (n : List ℕ) → Passes self.old n → Passes self.new n }
-    {
-        self.lengths.add(name.len() as u64);
-        self.tails.add(tail_of(name));
-        self.hashes.add(hash_of_name(name));
     }
 
     // Whether a name passes. Most names aren't hashed.
@@ -166,20 +157,11 @@ impl ShortTails {
         tails.add(short_tail_of(b"HEAD"));
         let mut short_tails = ShortTails { tails, any: false };
         for name in names {
-            short_tails.add(name.as_bstr().as_bytes());
+            let name = name.as_bstr().as_bytes();
+            short_tails.any = short_tails.any || name.len() < TAIL;
+            short_tails.tails.add(short_tail_of(name));
         }
         Ok(short_tails)
-    }
-
-    // Adds a partial name.
-    fn add(&mut self, name: &[u8])
-        requires { AreWholeTails self.old }
-        ensures whole { AreWholeTails self.new }
-        ensures here { HasTail self.new name.now }
-        ensures others { (x : List ℕ) → HasTail self.old x → HasTail self.new x }
-    {
-        self.any = self.any || name.len() < TAIL;
-        self.tails.add(short_tail_of(name));
     }
 
     // Whether a name may be a candidate.

@@ -55,24 +55,13 @@ pub fn duplicates<T: Element>(alloc: Global, elements: &[T]) -> Result<Vec<bool>
         return Ok(Vec::new(alloc));
     }
     for seed in seeds() {
-        let earlier = earlier_of(alloc, elements, seed)?;
+        let hashes = hashes_of(alloc, elements, seed)?;
+        let earlier = earlier_by_hash(alloc, hashes.as_slice())?;
         if let Some(flags) = flags_by_earlier(alloc, elements, earlier.as_slice())? {
             return Ok(flags);
         }
     }
     flags_by_order(alloc, elements)
-}
-
-// For each duplicate the index of an earlier element, which may equal it. Another element may have one too.
-fn earlier_of<T: Element>(
-    alloc: Global,
-    elements: &[T],
-    seed: FoldHasher,
-) -> Result<Vec<usize>, AllocError>
-    ensures { IfOk result (λ earlier. FindsDuplicates T.order elements.now earlier.items) }
-{
-    let hashes = hashes_of(alloc, elements, seed)?;
-    earlier_by_hash(alloc, hashes.as_slice())
 }
 
 // The hashes by a seed.

@@ -1,6 +1,6 @@
 //! What the negative specs of a group exclude.
 
-ghost use Rattle.std.specs.Prelude.{◌⊎◌, ◌↔◌, ℕ, List, map, MatchOption, IfOk, OnOk, IsTrue};
+ghost use Rattle.std.specs.Prelude.{◌⊎◌, ◌↔◌, ℕ, List, map, IfOk, OnOk, IsTrue};
 ghost use Rattle.gix_refspec_text.specs.Views.Spec.{reading_of};
 ghost use Rattle.gix_refspec_match.specs.Matching.Mappings.{IsExcludedBy};
 ghost use Rattle.gix_refspec_match.specs.Private.Kept.{AreExclusionsOf, IsFitted, ExcludeName};
@@ -12,15 +12,6 @@ use gix_refspec_text::RefSpecRef;
 use gix_refspec_text::split::split_at_first;
 use std::alloc::{AllocError, Global};
 use std::collections::HashSet;
-
-// What a negative spec excludes.
-#[derive(Clone, Copy)]
-enum Exclusion<'a> {
-    // The one name that its source is.
-    Name(&'a [u8]),
-    // Each name of a pattern.
-    Pattern(Pattern<'a>),
-}
 
 // A pattern, by the texts before and after its star.
 #[derive(Clone, Copy)]
@@ -37,29 +28,7 @@ pub(crate) struct Exclusions<'a> {
     patterns: Vec<Pattern<'a>>,
 }
 
-impl<'a> Exclusion<'a> {
-    ghost use Rattle.gix_refspec_match.specs.Private.Kept.{ExcludesName};
-
-    // What a spec excludes, where it is negative.
-    fn of(spec: RefSpecRef<'a>) -> Option<Exclusion<'a>>
-        ensures { MatchOption result
-            ((n : List ℕ) → ¬ (IsExcludedBy n (reading_of spec.entry)))
-            (λ exclusion. (n : List ℕ) → ExcludesName exclusion n ↔ IsExcludedBy n (reading_of spec.entry)) }
-    {
-        if !spec.is_negative() {
-            return None;
-        }
-        let source = spec.source()?.as_bytes();
-        Some(match split_at_first(source, b'*') {
-            None => Exclusion::Name(source),
-            Some((before, after)) => Exclusion::Pattern(Pattern { before, after }),
-        })
-    }
-}
-
 impl<'a> Exclusions<'a> {
-    ghost use Rattle.gix_refspec_match.specs.Private.Kept.{ExcludesName};
-
     // What the negative specs among these exclude.
     pub(crate) fn of(alloc: Global, specs: &[RefSpecRef<'a>]) -> Result<Exclusions<'a>, AllocError>
         ensures { IfOk result (AreExclusionsOf (map reading_of specs.now)) }
@@ -69,23 +38,27 @@ impl<'a> Exclusions<'a> {
             patterns: Vec::new(alloc),
         };
         for spec in specs {
-            if let Some(exclusion) = Exclusion::of(*spec) {
-                exclusions.add(exclusion)?;
-            }
+            exclusions.add(*spec)?;
         }
         Ok(exclusions)
     }
 
-    // Adds an exclusion.
-    fn add(&mut self, exclusion: Exclusion<'a>) -> Result<(), AllocError>
+    // Adds what a spec excludes, where it is negative.
+    fn add(&mut self, spec: RefSpecRef<'a>) -> Result<(), AllocError>
         ensures { OnOk result ((n : List ℕ) →
-            ExcludeName self.new n ↔ (ExcludeName self.old n ⊎ ExcludesName exclusion.entry n)) }
+            ExcludeName self.new n ↔ (ExcludeName self.old n ⊎ IsExcludedBy n (reading_of spec.entry))) }
     {
-        match exclusion {
-            Exclusion::Name(name) => {
-                self.names.insert(NameRef::Borrowed(BStr::new(name)))?;
+        if !spec.is_negative() {
+            return Ok(());
+        }
+        let Some(source) = spec.source() else {
+            return Ok(());
+        };
+        match split_at_first(source.as_bytes(), b'*') {
+            None => {
+                self.names.insert(NameRef::Borrowed(source))?;
             }
-            Exclusion::Pattern(pattern) => self.patterns.push(pattern)?,
+            Some((before, after)) => self.patterns.push(Pattern { before, after })?,
         }
         Ok(())
     }

@@ -6,7 +6,6 @@ ghost use Rattle.gix_refspec_match.specs.Views.Mapping.{ref_of};
 ghost use Rattle.gix_refspec_match.specs.Private.Hits.{AddsFound, AreHitsOf, AreHitsAmong, hit_at, turned};
 ghost use Rattle.gix_refspec_match.specs.Private.Index.{IsIndexFor};
 ghost use Rattle.gix_refspec_match.specs.Private.Matchers.{HasNoIdNeedle};
-ghost use Rattle.gix_refspec_match.specs.Private.Part.{place_among};
 
 use crate::duplicates::duplicates;
 use crate::index::{Index, Names};
@@ -69,16 +68,9 @@ fn turn_back(hits: &mut [Hit], indexes: &[usize])
     ensures { hits.new ≡ map (turned indexes.now) hits.old }
 {
     for hit in hits.iter_mut() {
-        hit.item = index_among_all(indexes, hit.item);
-    }
-}
-
-fn index_among_all(indexes: &[usize], item: usize) -> usize
-    ensures { result ≡ place_among indexes.now item }
-{
-    match indexes.get(item) {
-        None => item,
-        Some(index) => *index,
+        if let Some(index) = indexes.get(hit.item) {
+            hit.item = *index;
+        }
     }
 }
 

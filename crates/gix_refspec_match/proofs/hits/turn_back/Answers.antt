@@ -1,9 +1,11 @@
 -- Each step writes the hit at its index, turned.
-use Rattle.std.proofs.Common.{◌≡◌, ℕ, ◌+◌, ◌<◌, List, [], ◌∷◌, ◌++◌, length, map, take, drop, get_or, slice_set, sym, ap, ◌∙◌, arith}
-use Rattle.std.proofs.lemmas.List.{drop-set-lt, drop_more, length-set, map-append, take_more, take_more_set}
+use Rattle.std.proofs.Common.{◌≡◌, ℕ, ◌+◌, ◌<◌, List, [], ◌∷◌, ◌++◌, length, map, take, drop, get_or, slice_set, sym, subst, ap, ◌∙◌, arith}
+use Rattle.std.proofs.lemmas.List.{drop-set-lt, drop_more, get_or_past, length-set, map-append, take_more, take_more_set}
+use Rattle.std.proofs.lemmas.Bool.{ltb-false}
 use Rattle.gix_refspec_match.specs.declared.hits.Hit.{Hit}
 use Rattle.gix_refspec_match.specs.Private.Hits.{hit_at, turned}
 use Rattle.gix_refspec_match.proofs.hits.turn_back.Goals as goal
+use Rattle.gix_refspec_match.proofs.hits.turn_back.Goals.{in-Some, in_default}
 
 abbrev first_of : {A : Type 0} → A → List A → A
 first_of d [] = d
@@ -42,8 +44,17 @@ loop-hit-preserved c =
     let (long, same, before) = c.loop-hit.invariant in
     let below = c.loop-hit-test.true in
     let inside : i < length now = omega (arith, below, long) in
-    let h : Hit = record { matcher = (get_or now i d).matcher; item = c.index_among_all-hit.result } in (
+    let was = get_or now i d in
+    let stays : List Hit → Type 0 = λ hits.
+    (length hits ≡ length old)
+    × (drop (i + 1) hits ≡ drop (i + 1) old)
+    × (take (i + 1) hits ≡ map (turned c.args.indexes.now) (take (i + 1) old)) in
+    let written : (h : Hit) → h ≡ turned c.args.indexes.now was → stays (slice_set now i h) = (λ h is. (
       length-set now i h ∙ long,
       drop-set-lt (i + 1) now i h (omega arith) ∙ rest_alike now old i d inside long same,
-      one_turned c.args.indexes.now now old i d h below long same before (ap (hit_at (get_or now i d).matcher) c.index_among_all-hit.ensures),
-    )
+      one_turned c.args.indexes.now now old i d h below long same before is,
+    )) in
+    elim c.match-get.branch [
+      | in-Some w ↦ subst stays (sym w.hits-is) (written (hit_at was.matcher w.in-Some.index.now) (ap (hit_at was.matcher) (w.in-Some.ensures.lookup.3.1 was.item)))
+      | in_default w ↦ subst stays (sym w.hits-is) (written was (ap (hit_at was.matcher) (sym (get_or_past c.args.indexes.now was.item was.item (ltb-false was.item (length c.args.indexes.now) (sym w.in_default.ensures.lookup.0))))))
+    ]

@@ -7,8 +7,6 @@ use Rattle.std.specs.Set.{KeepsOthers}
 use Rattle.std.proofs.Math.Logic.{∥∥₁_elim}
 use Rattle.std.proofs.lemmas.Bool.{cases_Bool, false≢true}
 use Rattle.std.proofs.lemmas.List.{take_more}
-use Rattle.gix_refspec_match.specs.declared.exclusions.Exclusion.{Exclusion}
-use Rattle.gix_refspec_match.specs.declared.exclusions.Exclusion.TheVariants as exclusion
 use Rattle.gix_refspec_match.specs.declared.exclusions.Exclusions.{Exclusions}
 use Rattle.gix_refspec_match.specs.declared.exclusions.Pattern.{Pattern}
 use Rattle.gix_refspec_match.specs.declared.types.NameRef.{NameRef}
@@ -22,7 +20,7 @@ use Rattle.gix_refspec_text.specs.Matching.Side.{Fits, Excludes, the_name, by_pa
 use Rattle.gix_refspec_match.specs.Matching.Mappings.{IsExcluded, IsExcludedBy}
 use Rattle.gix_refspec_text.specs.Views.Spec.{reading_of}
 use Rattle.gix_refspec_match.specs.Views.Mapping.{name_bytes}
-use Rattle.gix_refspec_match.specs.Private.Kept.{AreExclusionsOf, FitsName, IsFitted, ExcludeName, ExcludesName, has_name}
+use Rattle.gix_refspec_match.specs.Private.Kept.{AreExclusionsOf, FitsName, IsFitted, ExcludeName, has_name}
 use Rattle.gix_refspec_text.proofs.lemmas.parsing.SideLemmas.{Lacks-name}
 use Rattle.gix_refspec_text.proofs.lemmas.specs.ReadBackLemmas.{named_either}
 use Rattle.gix_refspec_text.proofs.lemmas.lists.LacksLemmas.{Lacks-here, first_once}
@@ -130,33 +128,20 @@ pub IsFitted-push : (ps : List Pattern) (p : Pattern) (n : List ℕ) → IsFitte
 IsFitted-push [] p n = some_alone (FitsName p n)
 IsFitted-push (q ∷ ps) p n = some_more _ _ _ _ (IsFitted-push ps p n)
 
--- one more spec, which excludes something
-pub exclusions_more : (specs : List RefSpecRef) (i : ℕ) (s : RefSpecRef) (es new : Exclusions) (e : Exclusion) → i < length specs → s ≡ get_or specs i s → AreExclusionsOf (map reading_of (take i specs)) es → ((n : List ℕ) → ExcludesName e n ↔ IsExcludedBy n (reading_of s)) → ((n : List ℕ) → ExcludeName new n ↔ (ExcludeName es n ⊎ ExcludesName e n)) → AreExclusionsOf (map reading_of (take (i + 1) specs)) new
-exclusions_more specs i s es new e below is before told added n =
+-- one more spec
+pub exclusions_more : (specs : List RefSpecRef) (i : ℕ) (s : RefSpecRef) (es new : Exclusions) → i < length specs → s ≡ get_or specs i s → AreExclusionsOf (map reading_of (take i specs)) es → ((n : List ℕ) → ExcludeName new n ↔ (ExcludeName es n ⊎ IsExcludedBy n (reading_of s))) → AreExclusionsOf (map reading_of (take (i + 1) specs)) new
+exclusions_more specs i s es new below is before added n =
     let g = map reading_of (take i specs) in
     let taken = added n in
     let excluded = IsExcluded-push g (reading_of s) n in
     subst (λ (rs : List Reading). ExcludeName new n ↔ IsExcluded rs n) (sym (map_next reading_of specs i s below is)) (
       (λ by. elim (taken.0 by) [
         | inl old ↦ excluded.1 (inl ((before n).0 old))
-        | inr last ↦ excluded.1 (inr ((told n).0 last))
+        | inr last ↦ excluded.1 (inr last)
       ]),
       (λ by. elim (excluded.0 by) [
         | inl old ↦ taken.1 (inl ((before n).1 old))
-        | inr last ↦ taken.1 (inr ((told n).1 last))
-      ]),
-    )
-
--- one more spec, which excludes nothing
-pub exclusions_same : (specs : List RefSpecRef) (i : ℕ) (s : RefSpecRef) (es : Exclusions) → i < length specs → s ≡ get_or specs i s → AreExclusionsOf (map reading_of (take i specs)) es → ((n : List ℕ) → ¬ (IsExcludedBy n (reading_of s))) → AreExclusionsOf (map reading_of (take (i + 1) specs)) es
-exclusions_same specs i s es below is before none n =
-    let g = map reading_of (take i specs) in
-    let excluded = IsExcluded-push g (reading_of s) n in
-    subst (λ (rs : List Reading). ExcludeName es n ↔ IsExcluded rs n) (sym (map_next reading_of specs i s below is)) (
-      (λ by. excluded.1 (inl ((before n).0 by))),
-      (λ by. elim (excluded.0 by) [
-        | inl old ↦ (before n).1 old
-        | inr last ↦ absurd (none n last)
+        | inr last ↦ taken.1 (inr last)
       ]),
     )
 
@@ -195,39 +180,39 @@ unfound_fits None p n fits so found = fits found.0 found.1
 unfound_fits (Some w) p n fits so found = absurd (false≢true (sym so))
 
 -- one more name is excluded
-pub taken_by_name : (es new : Exclusions) (e : Exclusion) (x : Bor (List ℕ)) (n : List ℕ) → e ≡ exclusion.Name x → new.patterns.items ≡ es.patterns.items → IsTrue (has_name new.names n) ↔ (IsTrue (has_name es.names n) ⊎ (n ≡ x.now)) → ExcludeName new n ↔ (ExcludeName es n ⊎ ExcludesName e n)
-taken_by_name es new e x n is same has = subst (λ (f : Exclusion). ExcludeName new n ↔ (ExcludeName es n ⊎ ExcludesName f n)) (sym is) (there, back)
+pub taken_by_name : (es new : Exclusions) (x n : List ℕ) (E : Type 0) → ((n ≡ x) ↔ E) → new.patterns.items ≡ es.patterns.items → IsTrue (has_name new.names n) ↔ (IsTrue (has_name es.names n) ⊎ (n ≡ x)) → ExcludeName new n ↔ (ExcludeName es n ⊎ E)
+taken_by_name es new x n E is same has = (there, back)
   where
-    there : ExcludeName new n → ExcludeName es n ⊎ (n ≡ x.now)
+    there : ExcludeName new n → ExcludeName es n ⊎ E
     there (inl named) = elim (has.0 named) [
       | inl old ↦ inl (inl old)
-      | inr last ↦ inr last
+      | inr last ↦ inr (is.0 last)
     ]
     there (inr fitted) = inl (inr (subst (λ (ps : List Pattern). IsFitted ps n) same fitted))
 
-    back : ExcludeName es n ⊎ (n ≡ x.now) → ExcludeName new n
+    back : ExcludeName es n ⊎ E → ExcludeName new n
     back (inl (inl named)) = inl (has.1 (inl named))
     back (inl (inr fitted)) = inr (subst (λ (ps : List Pattern). IsFitted ps n) (sym same) fitted)
-    back (inr last) = inl (has.1 (inr last))
+    back (inr last) = inl (has.1 (inr (is.1 last)))
 
 -- one more pattern is
-pub taken_by_pattern : (es new : Exclusions) (e : Exclusion) (p : Pattern) (n : List ℕ) → e ≡ exclusion.Pattern p → has_name new.names n ≡ has_name es.names n → new.patterns.items ≡ es.patterns.items ++ p ∷ [] → ExcludeName new n ↔ (ExcludeName es n ⊎ ExcludesName e n)
-taken_by_pattern es new e p n is same more = subst (λ (f : Exclusion). ExcludeName new n ↔ (ExcludeName es n ⊎ ExcludesName f n)) (sym is) (there, back)
+pub taken_by_pattern : (es new : Exclusions) (p : Pattern) (n : List ℕ) (E : Type 0) → FitsName p n ↔ E → has_name new.names n ≡ has_name es.names n → new.patterns.items ≡ es.patterns.items ++ p ∷ [] → ExcludeName new n ↔ (ExcludeName es n ⊎ E)
+taken_by_pattern es new p n E is same more = (there, back)
   where
     fits : IsFitted new.patterns.items n ↔ (IsFitted es.patterns.items n ⊎ FitsName p n)
     fits = subst (λ (ps : List Pattern). IsFitted ps n ↔ (IsFitted es.patterns.items n ⊎ FitsName p n)) (sym more) (IsFitted-push es.patterns.items p n)
 
-    there : ExcludeName new n → ExcludeName es n ⊎ FitsName p n
+    there : ExcludeName new n → ExcludeName es n ⊎ E
     there (inl named) = inl (inl (sym same ∙ named))
     there (inr fitted) = elim (fits.0 fitted) [
       | inl old ↦ inl (inr old)
-      | inr last ↦ inr last
+      | inr last ↦ inr (is.0 last)
     ]
 
-    back : ExcludeName es n ⊎ FitsName p n → ExcludeName new n
+    back : ExcludeName es n ⊎ E → ExcludeName new n
     back (inl (inl named)) = inl (same ∙ named)
     back (inl (inr fitted)) = inr (fits.1 (inl fitted))
-    back (inr last) = inr (fits.1 (inr last))
+    back (inr last) = inr (fits.1 (inr (is.1 last)))
 
 -- one of these that fits the name
 pub IsFitted-at : (ps : List Pattern) (i : ℕ) (d : Pattern) (n : List ℕ) → i < length ps → FitsName (get_or ps i d) n → IsFitted ps n

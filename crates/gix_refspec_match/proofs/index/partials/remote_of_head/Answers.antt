@@ -4,6 +4,7 @@ use Rattle.std.proofs.lemmas.Slice.Eq.{strip_prefix_is, strip_suffix_is}
 use Rattle.std.proofs.lemmas.Bool.Decides.{Decides-eqb}
 use Rattle.gix_refspec_match.proofs.lemmas.hits.HitLemmas.{word_left}
 use Rattle.gix_refspec_match.proofs.index.partials.remote_of_head.Goals as goal
+
 pub returns : goal.returns
 returns c =
     let head = c.in_ok-strip_prefix.field-0.now in
