@@ -2,10 +2,10 @@
 //! prefixes of patterns have an index each. Names that no matcher looks for take no memory and are no keys,
 //! since a server chooses them.
 
-ghost use Rattle.std.specs.Prelude.{◌≡◌, ◌++◌, [], map, option_map, MatchOption, IfOk, OnOk, ◌∷◌, nat_eq};
+ghost use Rattle.std.specs.Prelude.{◌≡◌, [], map, option_map, MatchOption, IfOk, ◌∷◌, nat_eq};
 ghost use Rattle.gix_refspec_match.specs.Views.Mapping.{name_bytes, ref_of};
 ghost use Rattle.gix_refspec_text.specs.Private.SideViews.{kind_of_side};
-ghost use Rattle.gix_refspec_match.specs.Private.Index.{HaveNamesOf, HavePlaces, full_names_of, list_of, partial_names_of};
+ghost use Rattle.gix_refspec_match.specs.Private.Index.{HaveNamesOf, HavePlaces, list_of};
 ghost use Rattle.gix_refspec_match.specs.Private.Needles.{TakesEach};
 ghost use Rattle.std.specs.Cmp.Lexicographic.{pointwise, nat_list_eq_equiv};
 ghost use Rattle.std.specs.Cmp.{partial_equiv_from_equiv, on_per, on_equiv};
@@ -53,27 +53,19 @@ impl<'spec> Names<'spec> {
             prefixes: Vec::new(alloc),
         };
         for matcher in &matchers.list {
-            names.add(matcher.needle)?;
+            match matcher.needle {
+                SideKind::FullName(name) => { names.full.push(NameRef::Borrowed(BStr::new(name)))? }
+                SideKind::Partial(name) => {
+                    names.partial.push(NameRef::Borrowed(BStr::new(name)))?
+                }
+                SideKind::Pattern { before, .. } => {
+                    names.prefixes.push(NameRef::Borrowed(BStr::new(before)))?
+                }
+                // An id is no name.
+                SideKind::Object(_) => {}
+            }
         }
         Ok(names)
-    }
-
-    // Adds the name that a needle looks for, or its prefix. An id has none.
-    fn add(&mut self, needle: SideKind<'spec>) -> Result<(), AllocError>
-        ensures full { OnOk result (map name_bytes self.new.full.items ≡
-            map name_bytes self.old.full.items ++ full_names_of (kind_of_side needle.entry)) }
-        ensures partial { OnOk result (map name_bytes self.new.partial.items ≡
-            map name_bytes self.old.partial.items ++ partial_names_of (kind_of_side needle.entry)) }
-    {
-        match needle {
-            SideKind::FullName(name) => self.full.push(NameRef::Borrowed(BStr::new(name)))?,
-            SideKind::Partial(name) => self.partial.push(NameRef::Borrowed(BStr::new(name)))?,
-            SideKind::Pattern { before, .. } => {
-                self.prefixes.push(NameRef::Borrowed(BStr::new(before)))?
-            }
-            SideKind::Object(_) => {}
-        }
-        Ok(())
     }
 }
 
@@ -105,9 +97,6 @@ fn places_of<'n>(
         (map name_bytes names.now) (map ref_of items.now) (list_of places)) }
 {
     let mut places = without_places(alloc, names)?;
-    if names.is_empty() {
-        return Ok(places);
-    }
     let filter = NameFilter::of(alloc, names)?;
     for (place, item) in items.iter().enumerate() {
         let name = item.full_ref_name.as_bytes();
@@ -121,10 +110,13 @@ fn places_of<'n>(
     Ok(places)
 }
 
+// From how many patterns on their prefixes are looked up. For fewer it is cheaper to compare each with all names.
+const MANY: usize = 8;
+
 impl<'n> Index<'n> {
     ghost use Rattle.gix_refspec_match.specs.Private.Index.{IsIndexOf, Serves};
 
-    // The index of some names and prefixes.
+    // The index of some names and prefixes. Without any the items aren't looked at.
     pub(crate) fn of(
         alloc: Global,
         candidates: Candidates,
@@ -133,9 +125,21 @@ impl<'n> Index<'n> {
     ) -> Result<Index<'n>, AllocError>
         ensures { IfOk result (IsIndexOf candidates names.now (map ref_of items.now)) }
     {
-        let full = places_of(alloc, names.full.as_slice(), items)?;
-        let partials = places_of_partials(alloc, candidates, names.partial.as_slice(), items)?;
-        let prefixes = places_of_prefixes(alloc, names.prefixes.as_slice(), items)?;
+        let full = if names.full.is_empty() {
+            HashMap::new(alloc)
+        } else {
+            places_of(alloc, names.full.as_slice(), items)?
+        };
+        let partials = if names.partial.is_empty() {
+            HashMap::new(alloc)
+        } else {
+            places_of_partials(alloc, candidates, names.partial.as_slice(), items)?
+        };
+        let prefixes = if names.prefixes.len() < MANY {
+            HashMap::new(alloc)
+        } else {
+            places_of_prefixes(alloc, names.prefixes.as_slice(), items)?
+        };
         Ok(Index {
             full,
             partials,

@@ -18,20 +18,6 @@ use Rattle.gix_refspec_match.specs.Matching.Lists.{IsMadeFrom}
 use Rattle.gix_refspec_match.specs.Views.Mapping.{name_bytes}
 use Rattle.gix_refspec_match.specs.Private.Kept.{IsFlagged}
 
--- the full names that a side of the kind asks for
-abbrev pub full_names_of : SideKind → List (List ℕ)
-full_names_of (pattern before after) = []
-full_names_of (full_name x) = x ∷ []
-full_names_of (object id) = []
-full_names_of (partial x) = []
-
--- the partial names that it asks for
-abbrev pub partial_names_of : SideKind → List (List ℕ)
-partial_names_of (pattern before after) = []
-partial_names_of (full_name x) = []
-partial_names_of (object id) = []
-partial_names_of (partial x) = x ∷ []
-
 -- in the which, a side of the kind takes the ref without a word, among the items
 abbrev pub TakesWhole : SideKind → Candidates → List Ref → Ref → Type 0
 TakesWhole (pattern before after) which items r = ⊥

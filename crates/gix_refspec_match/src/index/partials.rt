@@ -26,9 +26,6 @@ pub(super) fn places_of_partials<'n>(
         candidates (map name_bytes names.now) (map ref_of items.now) (list_of places)) }
 {
     let mut places = without_places(alloc, names)?;
-    if names.is_empty() {
-        return Ok(places);
-    }
     let filter = NameFilter::of(alloc, names)?;
     let lookup = Lookup {
         candidates,

@@ -12,15 +12,12 @@ use crate::types::{Item, NameRef};
 use std::alloc::{AllocError, Global};
 use std::collections::HashMap;
 
-// From how many patterns on their prefixes are looked up. For fewer it is cheaper to compare each with all names.
-const MANY: usize = 8;
-
 // How many places are listed for each item at most, on average. Where prefixes begin with one another, a server can list
 // names that begin with all of them, and then the index would take memory for each.
 const MOST: usize = 2;
 
-// For each of some prefixes the places of all items whose names begin with it, rising. For none where they
-// are few, or would list too much.
+// For each of some prefixes the places of all items whose names begin with it, rising. For none where that
+// would list too much.
 pub(super) fn places_of_prefixes<'n>(
     alloc: Global,
     prefixes: &'n [NameRef<'_>],
@@ -28,9 +25,6 @@ pub(super) fn places_of_prefixes<'n>(
 ) -> Result<HashMap<Key<'n>, Vec<usize>>, AllocError>
     ensures { IfOk result (λ places. ListPrefixes (map ref_of items.now) (list_of places)) }
 {
-    if prefixes.len() < MANY {
-        return Ok(HashMap::new(alloc));
-    }
     let mut places = without_places(alloc, prefixes)?;
     let lengths = lengths_of(alloc, prefixes)?;
     let mut listed: usize = 0;

@@ -1,17 +1,15 @@
 -- A name that doesn't pass is no key, and to the list of a key the place is added.
-use Rattle.std.proofs.Common.{◌≡◌, [], ap, ◌∙◌, ◌+◌, take_all, refl, List, ℕ, Option, Vec, Global, IsSome, map, take, sym, subst}
-use Rattle.std.proofs.lemmas.Bool.{eqb-true, false≢true}
+use Rattle.std.proofs.Common.{◌∙◌, ◌+◌, take_all, refl, List, ℕ, Option, Vec, Global, IsSome, map, take, sym, subst}
+use Rattle.std.proofs.lemmas.Bool.{false≢true}
 use Rattle.gix_refspec_match.specs.declared.types.Item.{Item}
-use Rattle.gix_refspec_match.specs.declared.types.NameRef.{NameRef}
 use Rattle.gix_refspec_match.specs.Views.Mapping.{name_bytes, ref_of}
 use Rattle.gix_refspec_match.specs.Private.Index.{HavePlaces, list_of}
 use Rattle.gix_refspec_match.specs.Private.Filter.{Passes}
 use Rattle.gix_refspec_match.proofs.lemmas.index.KeyLemmas.{key_of}
-use Rattle.gix_refspec_match.proofs.lemmas.index.IndexLemmas.{item_listed, item_unlisted, not_listed, nothing_asked}
+use Rattle.gix_refspec_match.proofs.lemmas.index.IndexLemmas.{item_listed, item_unlisted, not_listed}
 use Rattle.gix_refspec_match.proofs.lemmas.index.PlacesLemmas.{all_at}
 use Rattle.gix_refspec_match.proofs.index.places_of.Goals as goal
 use Rattle.gix_refspec_match.proofs.index.places_of.Goals.{in-Some+in_ok-push, in_default}
-use Rattle.std.proofs.lemmas.List.{nil_from_length}
 
 pub loop-place-preserved-then-not-passes : goal.loop-place-preserved-then-not-passes
 loop-place-preserved-then-not-passes c =
@@ -41,11 +39,6 @@ loop-place-preserved c =
           subst (λ m. HavePlaces ns (map ref_of (take (i + 1) items)) (list_of m)) (sym (w.places-is ∙ c.get_mut.follows.holds-at-none))
           (item_unlisted ns items i _ n (list_of old) below is (not_listed ns (map ref_of (take i items)) n (list_of old) (sym w.in_default.ensures.value) c.loop-place.invariant) c.loop-place.invariant)
     ]
-
-pub returns-then-is_empty : goal.returns-then-is_empty
-returns-then-is_empty c =
-    let none : c.args.names.now ≡ [] = nil_from_length c.args.names.now (eqb-true _ _ (sym c.is_empty.ensures ∙ c.if-is_empty.true)) in
-    nothing_asked (map name_bytes c.args.names.now) (map ref_of c.args.items.now) (list_of c.in_ok-places.places) (ap (λ (l : List NameRef). map name_bytes l) none) c.in_ok-places.ensures
 
 pub returns : goal.returns
 returns c = subst (λ (l : List Item). HavePlaces (map name_bytes c.args.names.now) (map ref_of l) (list_of c.loop-place.places)) (take_all c.loop-place.place c.args.items.now c.loop-place-test.false) c.loop-place.invariant

@@ -15,7 +15,7 @@ use Rattle.gix_refspec_match.specs.Views.Mapping.{name_bytes, ref_of}
 use Rattle.gix_refspec_text.specs.Matching.Match.{Ref, MatchesAs}
 use Rattle.gix_refspec_text.specs.Matching.Side.{SideKind, pattern, full_name, object, partial}
 use Rattle.gix_refspec_text.specs.Private.SideViews.{kind_of_side}
-use Rattle.gix_refspec_match.specs.Private.Index.{ArePlacesOf, HavePlaces, HasNamesOf, full_names_of, partial_names_of}
+use Rattle.gix_refspec_match.specs.Private.Index.{ArePlacesOf, HavePlaces, HasNamesOf}
 use Rattle.gix_refspec_match.proofs.lemmas.lists.JoinLemmas.{made_next, map_long}
 use Rattle.gix_refspec_text.proofs.lemmas.lists.AllLemmas.{all_join, all_weaker}
 
@@ -102,12 +102,26 @@ item_listed ns items i d n v w old new below is was more puts have =
     subst (λ (l : List Ref). HavePlaces ns l new) (sym (map_more ref_of items i d below))
     (one_listed ns i (map ref_of (take i items)) (ref_of (get_or items i d)) v w old new (map_long ref_of items i below) (ap old (sym is) ∙ was) more (subst (λ (m : List ℕ). Puts m w old new) is puts) have)
 
--- where no name is asked for, there is nothing to find
-pub nothing_asked : (ns : List (List ℕ)) (refs : List Ref) (listed : List ℕ → Option (Vec ℕ)) → ns ≡ [] → HavePlaces ns [] listed → HavePlaces ns refs listed
-nothing_asked ns refs listed none have = record {
+-- where no name is asked for, nothing need be listed
+pub nothing_asked : (ns : List (List ℕ)) (refs : List Ref) (listed : List ℕ → Option (Vec ℕ)) → ns ≡ [] → ((n : List ℕ) → listed n ≡ None) → HavePlaces ns refs listed
+nothing_asked ns refs listed none empty = record {
   each = λ n there. let (k, inside, is) = subst (λ (l : List (List ℕ)). Contains l n) none there in absurd (omega (arith, inside));
-  others = have.others;
+  others = λ n _. empty n;
 }
+
+-- the full names that a side of the kind asks for
+abbrev full_names_of : SideKind → List (List ℕ)
+full_names_of (pattern before after) = []
+full_names_of (full_name x) = x ∷ []
+full_names_of (object id) = []
+full_names_of (partial x) = []
+
+-- the partial names that it asks for
+abbrev partial_names_of : SideKind → List (List ℕ)
+partial_names_of (pattern before after) = []
+partial_names_of (full_name x) = []
+partial_names_of (object id) = []
+partial_names_of (partial x) = x ∷ []
 
 -- after the old names are those that a needle of the kind looks for
 pub record AddsNames (kind : SideKind) (old new : Names) : Type 0 where

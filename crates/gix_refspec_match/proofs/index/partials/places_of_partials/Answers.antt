@@ -1,21 +1,13 @@
 -- Each item adds its place, and those that are no candidates add nothing.
-use Rattle.std.proofs.Common.{◌≡◌, [], ap, ◌∙◌, List, map, sym, subst, take_all}
-use Rattle.std.proofs.lemmas.Bool.{eqb-true}
+use Rattle.std.proofs.Common.{List, map, subst, take_all}
 use Rattle.gix_refspec_match.specs.declared.types.Item.{Item}
-use Rattle.gix_refspec_match.specs.declared.types.NameRef.{NameRef}
 use Rattle.gix_refspec_text.specs.Matching.Side.{IsCandidate}
 use Rattle.gix_refspec_match.specs.Views.Mapping.{name_bytes, ref_of}
 use Rattle.gix_refspec_match.specs.Private.Filter.{HasTail, Passes}
 use Rattle.gix_refspec_match.specs.Private.Index.{Joins, ListPartials, list_of}
-use Rattle.gix_refspec_match.proofs.lemmas.index.PartialLemmas.{adds_nothing, no_partials, partials_more, partials_started}
+use Rattle.gix_refspec_match.proofs.lemmas.index.PartialLemmas.{adds_nothing, partials_more, partials_started}
 use Rattle.gix_refspec_match.proofs.lemmas.index.PlacesLemmas.{all_at}
 use Rattle.gix_refspec_match.proofs.index.partials.places_of_partials.Goals as goal
-use Rattle.std.proofs.lemmas.List.{nil_from_length}
-
-pub returns-then-is_empty : goal.returns-then-is_empty
-returns-then-is_empty c =
-    let none : c.args.names.now ≡ [] = nil_from_length c.args.names.now (eqb-true _ _ (sym c.is_empty.ensures ∙ c.if-is_empty.true)) in
-    no_partials c.args.candidates (map name_bytes c.args.names.now) (map ref_of c.args.items.now) (list_of c.in_ok-places.places) (ap (λ (l : List NameRef). map name_bytes l) none)
 
 pub loop-place-init : goal.loop-place-init
 loop-place-init c = partials_started c.args.candidates (map name_bytes c.args.names.now) (list_of c.in_ok-places.places) c.in_ok-places.ensures
