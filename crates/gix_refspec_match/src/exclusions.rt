@@ -3,7 +3,7 @@
 ghost use Rattle.std.specs.Prelude.{◌⊎◌, ◌↔◌, ℕ, List, map, IfOk, OnOk, IsTrue};
 ghost use Rattle.gix_refspec_text.specs.Views.Spec.{reading_of};
 ghost use Rattle.gix_refspec_match.specs.Matching.Mappings.{IsExcludedBy};
-ghost use Rattle.gix_refspec_match.specs.Private.Kept.{AreExclusionsOf, IsFitted, ExcludeName};
+ghost use Rattle.gix_refspec_match.specs.Private.Kept.{AreExclusionsOf, ExcludeName};
 
 use crate::needle::word_between;
 use crate::types::NameRef;
@@ -70,18 +70,11 @@ impl<'a> Exclusions<'a> {
         if !self.names.is_empty() && self.names.contains(&NameRef::Borrowed(BStr::new(name))) {
             return true;
         }
-        fits_some(self.patterns.as_slice(), name)
-    }
-}
-
-// Whether one of these patterns fits a name.
-fn fits_some(patterns: &[Pattern<'_>], name: &[u8]) -> bool
-    ensures { IsTrue result ↔ IsFitted patterns.now name.now }
-{
-    for pattern in patterns {
-        if word_between(pattern.before, pattern.after, name).is_some() {
-            return true;
+        for pattern in &self.patterns {
+            if word_between(pattern.before, pattern.after, name).is_some() {
+                return true;
+            }
         }
+        false
     }
-    false
 }
