@@ -8,7 +8,6 @@ ghost use Rattle.gix_refspec_text.specs.Views.Instruction.{mode_of};
 
 mod comparisons;
 pub mod prefix;
-mod sign;
 mod write;
 
 use crate::instruction::{Fetch, Push};
@@ -43,11 +42,12 @@ pub struct RefSpec {
 }
 
 impl<'a> RefSpecRef<'a> {
-    ghost use Rattle.std.specs.Prelude.{◌↔◌, IsTrue, Some};
+    ghost use Rattle.std.specs.Prelude.{◌↔◌, IsTrue, MatchBool, Some};
+    ghost use Rattle.gix_refspec_text.specs.Specs.Grammar.{IsPositive};
     ghost use Rattle.gix_refspec_text.specs.Specs.Meaning.{meaning_of};
     ghost use Rattle.gix_refspec_text.specs.Views.Instruction.{meaning_of_instruction};
     ghost use Rattle.gix_refspec_text.specs.Views.Spec.{reading_of, owned_reading_of};
-    ghost use Rattle.gix_refspec_text.specs.Specs.Reading.{local_of, remote_of, Forced, HasSide};
+    ghost use Rattle.gix_refspec_text.specs.Specs.Reading.{local_of, remote_of, Forced, HasSide, Negative};
 
     /// Whether the spec was read for a push or for a fetch.
     pub fn operation(&self) -> Operation
@@ -62,6 +62,15 @@ impl<'a> RefSpecRef<'a> {
         ensures { IsTrue result ↔ ((reading_of self.now).mode ≡ Forced) }
     {
         self.mode == Mode::Force
+    }
+
+    /// Whether the spec is negative: its text begins with `^`, and it excludes refs.
+    pub fn is_negative(&self) -> bool
+        ensures { MatchBool result
+            ((reading_of self.now).mode ≡ Negative)
+            (IsPositive (reading_of self.now).mode) }
+    {
+        self.mode == Mode::Negative
     }
 
     /// The left side, with `HEAD` for a lone `@` and for the missing source of a fetch. `None` for a push
