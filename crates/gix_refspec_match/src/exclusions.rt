@@ -9,7 +9,7 @@ use crate::needle::word_between;
 use crate::types::NameRef;
 use bstr::BStr;
 use gix_refspec_text::RefSpecRef;
-use gix_refspec_text::split::split_at_first;
+use gix_refspec_text::side::split_at_first_star;
 use std::alloc::{AllocError, Global};
 use std::collections::HashSet;
 
@@ -54,7 +54,7 @@ impl<'a> Exclusions<'a> {
         let Some(source) = spec.source() else {
             return Ok(());
         };
-        match split_at_first(source.as_bytes(), b'*') {
+        match split_at_first_star(source.as_bytes()) {
             None => {
                 self.names.insert(NameRef::Borrowed(source))?;
             }

@@ -9,8 +9,7 @@ ghost use Rattle.gix_refspec_text.specs.Matching.Side.{HasKind, candidates as ca
 ghost use Rattle.gix_refspec_text.specs.Private.SideViews.{AreStarsOf, kind_of_side};
 
 use crate::oid::ObjectId;
-use crate::split::{contains, split_at_first};
-use bstr::BString;
+use bstr::{BString, ByteSlice};
 use std::alloc::{AllocError, Global};
 
 // How many stars a side has, and the text before and after its only one.
@@ -41,23 +40,21 @@ pub(crate) fn stars_of(side: &[u8]) -> Stars<'_>
     let Some((before, after)) = split_at_first_star(side) else {
         return Stars::No;
     };
-    match split_at_first(after, b'*') {
+    match split_at_first_star(after) {
         None => Stars::One { before, after },
         Some(_) => Stars::Several,
     }
 }
 
-// Splits a side at its first star.
-fn split_at_first_star(side: &[u8]) -> Option<(&[u8], &[u8])>
+/// The text before and after the first star of a side. `None` if the side has no star.
+pub fn split_at_first_star(side: &[u8]) -> Option<(&[u8], &[u8])>
     ensures { MatchOption result
         (Lacks star side.now)
         (λ parts. (side.now ≡ parts.0.now ++ (star ∷ parts.1.now)) × Lacks star parts.0.now) }
 {
-    // Most sides have no star, and `contains` finds that out faster than a search.
-    if !contains(side, b'*') {
-        return None;
-    }
-    split_at_first(side, b'*')
+    let at = side.find_byte(b'*')?;
+    let (before, rest) = side.split_at(at);
+    Some((before, &rest[1..]))
 }
 
 /// The kind of a side, which must have at most one star.

@@ -16,17 +16,6 @@ pub(crate) fn split_at_last(text: &[u8], byte: u8) -> Option<(&[u8], &[u8])>
     Some((front, &back[1..]))
 }
 
-/// The text before and after the first occurrence of a byte. `None` if the byte isn't in the text.
-pub fn split_at_first(text: &[u8], byte: u8) -> Option<(&[u8], &[u8])>
-    ensures { MatchOption result
-        (Lacks byte text.now)
-        (λ parts. (text.now ≡ parts.0.now ++ (byte ∷ parts.1.now)) × Lacks byte parts.0.now) }
-{
-    let at = text.find_byte(byte)?;
-    let (front, back) = text.split_at(at);
-    Some((front, &back[1..]))
-}
-
 /// Whether a text contains a byte. The loop has no early exit, so that it can be vectorized.
 pub fn contains(text: &[u8], byte: u8) -> bool
     ensures { MatchBool result (ContainsText (byte ∷ []) text.now) (Lacks byte text.now) }

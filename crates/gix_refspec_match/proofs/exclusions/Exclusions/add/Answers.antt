@@ -21,14 +21,14 @@ returns-in_ok-insert-in-None c n =
     (name_excludes r x negative source (subst (Lacks star) c.as_bytes.ensures c.in-None.ensures) n) refl
     (has_more es.names c.insert.new.self (name_ref.Borrowed c.in-Some.source) n c.in_ok-insert-in-None.ensures.updates)
 
-pub returns-in_ok-push-in-Some-split_at_first : goal.returns-in_ok-push-in-Some-split_at_first
-returns-in_ok-push-in-Some-split_at_first c n =
+pub returns-in_ok-push-in-Some-split_at_first_star : goal.returns-in_ok-push-in-Some-split_at_first_star
+returns-in_ok-push-in-Some-split_at_first_star c n =
     let es = c.args.self.now in
     let r = reading_of c.args.spec in
     let x = bstr_bytes c.in-Some.source in
     let negative : r.mode ≡ Negative = search rules in
     let source : r.source ≡ Some x = sym c.source.ensures ∙ ap (option_map bstr_bytes) c.in-Some.is in
-    let cut = c.in-Some-split_at_first in
+    let cut = c.in-Some-split_at_first_star in
     taken_by_pattern es (record { names = es.names; patterns = c.push.new.self }) (record { before = cut.before; after = cut.after }) n (IsExcludedBy n r)
     (pattern_excludes r x cut.before.now cut.after.now c.args.spec.accepted negative source (sym c.as_bytes.ensures ∙ cut.ensures.0) cut.ensures.1 n) refl
-    c.in_ok-push-in-Some-split_at_first.ensures.items
+    c.in_ok-push-in-Some-split_at_first_star.ensures.items
