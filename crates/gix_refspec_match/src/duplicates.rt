@@ -1,20 +1,21 @@
 //! Which elements of a list equal an earlier one.
 //!
-//! They are found by sorting, so that no choice of elements makes it slow. Each element whose hash others may
-//! share gets a key, of the upper bits of the hash and, after them, the element's index. In a sorted list of
-//! keys equal elements follow one another, and each is compared with the one before it. Where different
-//! elements have the same upper bits, keys of another hash are tried. Only where that fails too are the
-//! elements themselves sorted.
+//! They are found by sorting, so that no choice of elements makes it slow. Each element gets a key, of the upper
+//! bits of its hash and, after them, its index. Keys whose upper bits no other one has are left out. In the
+//! sorted list of the others equal elements follow one another, and each is compared with the one before it.
+//! Where different elements have the same upper bits, keys of another hash are tried. Only where that fails too
+//! are the elements themselves sorted.
 
 ghost use Rattle.std.specs.Prelude.{◌≡◌, ◌⊎◌, ◌<◌, ◌≤◌, [], ℕ, length, map, MatchOption, IfOk, OnErr, ◌↔◌, OnOk, ◌≢◌, ◌/◌, ◌%◌, ◌^◌, slice_index_or, IsTrue};
 ghost use Rattle.std.specs.Cmp.{IsTotalOrder};
 ghost use Rattle.std.specs.declared.cmp.Ordering.{Ordering};
 ghost use Rattle.std.specs.declared.cmp.Ordering.TheVariants.{Equal};
 ghost use Rattle.std.specs.declared.hash.FoldHasher.{FoldHasher};
-ghost use Rattle.gix_refspec_match.specs.Private.Duplicates.{FindsDuplicates, FlagsDuplicates, ArePlaced, placed_order, AreKeysOf, FindsHashes, IsSecond, PointsBack, HasShared};
+ghost use Rattle.gix_refspec_match.specs.Private.Duplicates.{FindDuplicates, FlagsDuplicates, ArePlaced, placed_order, AreKeysOf, HasShared, is_shared};
+ghost use Rattle.gix_refspec_match.specs.Private.Bloom.{IsWhole};
 ghost use Rattle.std.specs.List.Sorted.{IsSorted};
 ghost use Rattle.gix_refspec_match.specs.Private.Kept.{IsFlagged, Rises, IsUnflagged};
-ghost use Rattle.std.specs.List.{AllByRecursion};
+ghost use Rattle.std.specs.List.{filter};
 ghost use Rattle.gix_refspec_match.specs.Matching.Lists.{IsMadeFrom};
 
 mod elements;
@@ -54,48 +55,41 @@ pub fn duplicates<T: Element>(alloc: Global, elements: &[T]) -> Result<Vec<bool>
     if elements.len() < 2 {
         return Ok(Vec::new(alloc));
     }
+    let bits = bits_for(elements.len());
     for seed in seeds() {
-        let hashes = hashes_of(alloc, elements, seed)?;
-        let earlier = earlier_by_hash(alloc, hashes.as_slice())?;
-        if let Some(flags) = flags_by_earlier(alloc, elements, earlier.as_slice())? {
+        let keys = keys_in_order(alloc, elements, bits, seed)?;
+        if let Some(flags) = flags_by_key(alloc, elements, keys.as_slice(), bits)? {
             return Ok(flags);
         }
     }
     flags_by_order(alloc, elements)
 }
 
-// The hashes by a seed.
-fn hashes_of<T: Element>(
+// Flags the elements whose key has the upper bits of the one before it. `None` where two such elements differ.
+fn flags_by_key<T: Element>(
     alloc: Global,
     elements: &[T],
-    seed: FoldHasher,
-) -> Result<Vec<u64>, AllocError>
-    ensures { IfOk result (λ hashes. hashes.items ≡ map (T.hash seed) elements.now) }
-{
-    let mut hashes = Vec::with_capacity(alloc, elements.len())?;
-    for element in elements {
-        hashes.push(element.hash_by(seed))?;
-    }
-    Ok(hashes)
-}
-
-// Flags the elements that equal the earlier one that is recorded for them. None where one doesn't.
-fn flags_by_earlier<T: Element>(
-    alloc: Global,
-    elements: &[T],
-    earlier: &[usize],
+    keys: &[u64],
+    bits: u32,
 ) -> Result<Option<Vec<bool>>, AllocError>
-    requires { FindsDuplicates T.order elements.now earlier.now }
-    ensures { IfOk result (λ told. MatchOption told
+    requires few { bits < 64 }
+    requires rises { Rises keys.now }
+    requires finds { FindDuplicates T.order elements.now bits keys.now }
+    ensures { IfOk result (λ found. MatchOption found
         (Unit {0}) (λ flags. FlagsDuplicates T.order elements.now flags.items)) }
 {
-    let mut flags = Vec::with_capacity(alloc, earlier.len())?;
-    for (index, before) in earlier.iter().enumerate() {
-        let found = *before < index;
-        if found && elements[*before].compare(&elements[index]).is_ne() {
+    let mut flags = Vec::new(alloc);
+    for at in 1..keys.len() {
+        let (before, key) = (keys[at - 1], keys[at]);
+        if upper_bits(before, bits) != upper_bits(key, bits) {
+            continue;
+        }
+        let index = lower_bits(key, bits);
+        let earlier = &elements[lower_bits(before, bits)];
+        if earlier.compare(&elements[index]).is_ne() {
             return Ok(None);
         }
-        flags.push(found)?;
+        raise(&mut flags, elements.len(), index)?;
     }
     Ok(Some(flags))
 }
@@ -153,30 +147,24 @@ fn raise(flags: &mut Vec<bool>, len: usize, index: usize) -> Result<(), AllocErr
     Ok(())
 }
 
-// For each index whose hash an earlier one has, such an earlier index or another one. Others may have one too.
-// There are none at all where no two keys have the same upper bits.
-fn earlier_by_hash(alloc: Global, hashes: &[u64]) -> Result<Vec<usize>, AllocError>
-    ensures { IfOk result (λ earlier. FindsHashes hashes.now earlier.items) }
-{
-    let bits = bits_for(hashes.len());
-    let keys = keys_in_order(alloc, hashes, bits)?;
-    earlier_by_key(alloc, keys.as_slice(), bits, hashes.len())
-}
-
-// The keys of the hashes that may be shared, in order.
-fn keys_in_order(alloc: Global, hashes: &[u64], bits: u32) -> Result<Vec<u64>, AllocError>
+// The keys of the elements whose upper bits others may have too, in order.
+fn keys_in_order<T: Element>(
+    alloc: Global,
+    elements: &[T],
+    bits: u32,
+    seed: FoldHasher,
+) -> Result<Vec<u64>, AllocError>
     requires few { bits < 64 }
-    requires fit { length hashes.now ≤ 2 ^ bits }
-    ensures all { IfOk result (λ keys. AreKeysOf hashes.now bits keys.items) }
+    requires fit { length elements.now < 2 ^ 63 → length elements.now ≤ 2 ^ bits }
+    ensures all { IfOk result (λ keys. AreKeysOf (map (T.hash seed) elements.now) bits keys.items) }
     ensures rises { IfOk result (λ keys. Rises keys.items) }
 {
-    let shared = shared_among(alloc, hashes)?;
-    let mut keys = Vec::new(alloc);
-    for (index, hash) in hashes.iter().enumerate() {
-        if shared.has(*hash) {
-            keys.push(key_of(*hash, index, bits))?;
-        }
+    let mut keys = Vec::with_capacity(alloc, elements.len())?;
+    for (index, element) in elements.iter().enumerate() {
+        keys.push(key_of(element.hash_by(seed), index, bits))?;
     }
+    let shared = shared_among(alloc, keys.as_slice(), bits)?;
+    keep_shared(&mut keys, &shared, bits);
     keys.sort_unstable();
     Ok(keys)
 }
@@ -191,66 +179,39 @@ fn key_of(hash: u64, index: usize, bits: u32) -> u64
     (hash >> bits << bits) | index as u64
 }
 
-// For each of `len` indexes the one in the key before its own, where that has the same upper bits.
-fn earlier_by_key(
-    alloc: Global,
-    keys: &[u64],
-    bits: u32,
-    len: usize,
-) -> Result<Vec<usize>, AllocError>
-    requires few { bits < 64 }
-    requires below { AllByRecursion (λ key. key % 2 ^ bits < len) keys.now }
-    requires rises { Rises keys.now }
-    ensures fits { IfOk result (λ earlier. length earlier.items ≤ len) }
-    ensures finds { IfOk result (λ earlier.
-        (at : ℕ) → IsSecond bits keys.now at → PointsBack earlier.items (slice_index_or keys.now at 0 % 2 ^ bits)) }
+// The upper bits that two keys have, and some others.
+fn shared_among(alloc: Global, keys: &[u64], bits: u32) -> Result<Bloom, AllocError>
+    requires { bits < 64 }
+    ensures { IfOk result (HasShared bits keys.now) }
 {
-    let mut earlier = Vec::new(alloc);
-    for at in 1..keys.len() {
-        let (before, key) = (keys[at - 1], keys[at]);
-        if upper_bits(before, bits) == upper_bits(key, bits) {
-            let index = lower_bits(key, bits);
-            point_back(&mut earlier, len, index, lower_bits(before, bits))?;
-        }
-    }
-    Ok(earlier)
-}
-
-// Records an earlier index for one of `len` indexes. Those without one have `len` there.
-fn point_back(
-    earlier: &mut Vec<usize>,
-    len: usize,
-    index: usize,
-    before: usize,
-) -> Result<(), AllocError>
-    requires below { index < len }
-    requires fits { (earlier.old.items ≡ []) ⊎ (length earlier.old.items ≡ len) }
-    ensures fits { OnOk result (length earlier.new.items ≡ len) }
-    ensures here { OnOk result (slice_index_or earlier.new.items index index ≡ before) }
-    ensures others { OnOk result ((k : ℕ) →
-        k ≢ index → PointsBack earlier.old.items k → PointsBack earlier.new.items k) }
-{
-    if earlier.is_empty() {
-        earlier.resize(len, len)?;
-    }
-    earlier[index] = before;
-    Ok(())
-}
-
-// The hashes that are there twice, and some others.
-fn shared_among(alloc: Global, hashes: &[u64]) -> Result<Bloom, AllocError>
-    ensures { IfOk result (HasShared hashes.now) }
-{
-    let mut once = Bloom::new(alloc, hashes.len())?;
-    let mut shared = Bloom::new(alloc, hashes.len())?;
-    for hash in hashes {
-        if once.has(*hash) {
-            shared.add(*hash);
+    let mut once = Bloom::new(alloc, keys.len())?;
+    let mut shared = Bloom::new(alloc, keys.len())?;
+    for key in keys {
+        let upper = upper_bits(*key, bits);
+        if once.has(upper) {
+            shared.add(upper);
         } else {
-            once.add(*hash);
+            once.add(upper);
         }
     }
     Ok(shared)
+}
+
+// Leaves out the keys whose upper bits no other one has, or most of them.
+fn keep_shared(keys: &mut Vec<u64>, shared: &Bloom, bits: u32)
+    requires few { bits < 64 }
+    requires whole { IsWhole shared.now }
+    ensures { keys.new.items ≡ filter (is_shared shared.now bits) keys.old.items }
+{
+    let mut kept = 0;
+    for at in 0..keys.len() {
+        let key = keys[at];
+        if shared.has(upper_bits(key, bits)) {
+            keys[kept] = key;
+            kept += 1;
+        }
+    }
+    keys.truncate(kept);
 }
 
 // Drops the mappings that are flagged. The others stay in order.

@@ -35,13 +35,12 @@ pub(crate) fn hash_by(seed: FoldHasher, name: &[u8]) -> u64
     state.finish()
 }
 
-// How many bits an index below `len` takes.
+// How many bits an index below `len` takes, and 63 at most: no list of numbers is longer.
 pub(crate) fn bits_for(len: usize) -> u32
-    requires { len < 2 ^ 63 }
     ensures few { result < 64 }
-    ensures fit { len ≤ 2 ^ result }
+    ensures fit { len < 2 ^ 63 → len ≤ 2 ^ result }
 {
-    usize::BITS - len.leading_zeros()
+    (usize::BITS - len.leading_zeros()).min(63)
 }
 
 // All but the lower bits of a number.

@@ -3,3 +3,4 @@ pub mod BloomLemmas
 pub mod HashKeyLemmas
 pub mod FlagLemmas
 pub mod OrderedLemmas
+pub mod SecondKeyLemmas

@@ -1,5 +1,6 @@
 -- Elements of a list that equal an earlier one, and how they are found. Only private functions cite this.
-use Rattle.std.specs.Prelude.{◌≡◌, ◌≢◌, ◌↔◌, ◌<◌, ◌≤◌, ◌-◌, ◌/◌, ◌%◌, ◌^◌, ℕ, Bool, List, length, map, slice_index_or}
+use Rattle.std.specs.Prelude.{◌≡◌, ◌≢◌, ◌↔◌, ◌<◌, ◌≤◌, ◌-◌, ◌/◌, ◌%◌, ◌^◌, ℕ, Bool, List, length, map, nat_eq, slice_index_or}
+use Rattle.std.specs.Int.{bit_at}
 use Rattle.std.specs.List.{AllByRecursion}
 use Rattle.std.specs.Ordering.{nat_cmp, ordering_then}
 use Rattle.std.specs.declared.cmp.Ordering.{Ordering}
@@ -25,10 +26,14 @@ FlagsDuplicates order xs flags = (k : ℕ) → IsFlagged flags k ↔ IsDuplicate
 abbrev pub AreSameAt : List ℕ → ℕ → ℕ → Type 0
 AreSameAt hashes j k = slice_index_or hashes j 0 ≡ slice_index_or hashes k 0
 
--- a hash that is there twice is in the filter
-pub record HasShared (hashes : List ℕ) (b : Bloom) : Type 0 where
+-- upper bits that two keys have are in the filter
+pub record HasShared (bits : ℕ) (keys : List ℕ) (b : Bloom) : Type 0 where
   pub whole : IsWhole b
-  pub all : (j k : ℕ) → j < k → k < length hashes → AreSameAt hashes j k → HasNumber b (slice_index_or hashes k 0)
+  pub all : (j k : ℕ) → j < k → k < length keys → slice_index_or keys j 0 / 2 ^ bits ≡ slice_index_or keys k 0 / 2 ^ bits → HasNumber b (slice_index_or keys k 0 / 2 ^ bits)
+
+-- whether the upper bits of a key are in a filter
+abbrev pub is_shared : Bloom → ℕ → ℕ → Bool
+is_shared b bits key = nat_eq (bit_at (slice_index_or b.words.items (key / 2 ^ bits % 2 ^ b.bits) 0) (key / 2 ^ bits / 2 ^ b.bits % 64)) 1
 
 -- the indexes in some keys: what their lower bits say
 abbrev pub indexes_in : ℕ → List ℕ → List ℕ
@@ -51,19 +56,10 @@ pub record IsSecond (bits : ℕ) (keys : List ℕ) (at : ℕ) : Type 0 where
   pub inside : at < length keys
   pub same : slice_index_or keys (at - 1) 0 / 2 ^ bits ≡ slice_index_or keys at 0 / 2 ^ bits
 
--- an earlier index is recorded for the index k
-abbrev pub PointsBack : List ℕ → ℕ → Type 0
-PointsBack earlier k = slice_index_or earlier k k < k
-
--- an earlier index is recorded for each hash that an earlier one has
-pub record FindsHashes (hashes earlier : List ℕ) : Type 0 where
-  pub fits : length earlier ≤ length hashes
-  pub finds : (j k : ℕ) → j < k → k < length hashes → AreSameAt hashes j k → PointsBack earlier k
-
--- an earlier index is recorded for each duplicate
-pub record FindsDuplicates {T : Type 0} (order : T → T → Ordering) (xs : List T) (earlier : List ℕ) : Type 0 where
-  pub fits : length earlier ≤ length xs
-  pub finds : (k : ℕ) → IsDuplicate order xs k → PointsBack earlier k
+-- keys of some elements, of which that of a duplicate has the upper bits of the one before it
+pub record FindDuplicates {T : Type 0} (order : T → T → Ordering) (xs : List T) (bits : ℕ) (keys : List ℕ) : Type 0 where
+  pub inside : AllByRecursion (λ key. key % 2 ^ bits < length xs) keys
+  pub finds : (k : ℕ) → IsDuplicate order xs k → (at : ℕ) × IsSecond bits keys at × (slice_index_or keys at 0 % 2 ^ bits ≡ k)
 
 -- the order of elements, and of their indexes where they are equal
 abbrev pub placed_order : {T : Type 0} → (T → T → Ordering) → Placed T → Placed T → Ordering

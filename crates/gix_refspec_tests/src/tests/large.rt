@@ -92,3 +92,86 @@ fn maps_many_refs(rt: HostRuntime) -> Result<(), Fail> {
     }
     Ok(())
 }
+
+// Patterns from one folder to so many others.
+fn patterns(alloc: Global, count: usize) -> Result<Vec<String>, AllocError> {
+    let mut specs = Vec::with_capacity(alloc, count)?;
+    for number in 0..count {
+        specs.push(format!(in alloc; "refs/heads/*:refs/x{number}/*")?)?;
+    }
+    Ok(specs)
+}
+
+// Patterns from so many folders to one.
+fn turned_patterns(alloc: Global, count: usize) -> Result<Vec<String>, AllocError> {
+    let mut specs = Vec::with_capacity(alloc, count)?;
+    for number in 0..count {
+        specs.push(format!(in alloc; "refs/x{number}/*:refs/heads/*")?)?;
+    }
+    Ok(specs)
+}
+
+// Items of which each has a name of its own, and then so many of one more name.
+fn repeated<'a>(
+    alloc: Global,
+    names: &'a [String],
+    name: &'a [u8],
+    count: usize,
+    target: &'a ObjectId,
+) -> Result<Vec<Item<'a>>, AllocError> {
+    let mut items = items_of(alloc, names, target)?;
+    for _ in 0..count {
+        items.push(item_of(name, target))?;
+    }
+    Ok(items)
+}
+
+#[test]
+fn maps_one_name_listed_often(rt: HostRuntime) -> Result<(), Fail> {
+    let alloc = rt.alloc();
+    let target = ObjectId::from_hex(TARGET.as_bytes())?;
+    let names = numbered(alloc, "refs/heads/", 299)?;
+    let items = repeated(alloc, names.as_slice(), b"refs/heads/main", 100_000, &target)?;
+    let specs = patterns(alloc, 20)?;
+    let there = group_of(alloc, specs.as_slice())?.match_lhs(alloc, items.as_slice())?;
+    assert_eq!(rt; there.mappings.len(), 6_000);
+    let turned = turned_patterns(alloc, 20)?;
+    let back = group_of(alloc, turned.as_slice())?.match_rhs(alloc, items.as_slice())?;
+    assert_eq!(rt; back.mappings.len(), 6_000);
+    Ok(())
+}
+
+#[test]
+fn maps_one_long_name_by_many_patterns(rt: HostRuntime) -> Result<(), Fail> {
+    let alloc = rt.alloc();
+    let target = ObjectId::from_hex(TARGET.as_bytes())?;
+    let mut name = Vec::new(alloc);
+    name.extend_from_slice(b"refs/heads/")?;
+    name.resize(20_000, b'a')?;
+    let items = repeated(alloc, &[], name.as_slice(), 2_000, &target)?;
+    let specs = patterns(alloc, 100)?;
+    let there = group_of(alloc, specs.as_slice())?.match_lhs(alloc, items.as_slice())?;
+    assert_eq!(rt; there.mappings.len(), 100);
+    let turned = turned_patterns(alloc, 100)?;
+    let back = group_of(alloc, turned.as_slice())?.match_rhs(alloc, items.as_slice())?;
+    assert_eq!(rt; back.mappings.len(), 100);
+    Ok(())
+}
+
+#[test]
+fn maps_nested_prefixes(rt: HostRuntime) -> Result<(), Fail> {
+    let alloc = rt.alloc();
+    let target = ObjectId::from_hex(TARGET.as_bytes())?;
+    let count = 1_000;
+    let mut specs = Vec::with_capacity(alloc, count)?;
+    let mut prefix = format!(in alloc; "refs/")?;
+    for number in 0..count {
+        prefix = format!(in alloc; "{prefix}a/")?;
+        specs.push(format!(in alloc; "{prefix}*:refs/{number:05}/*")?)?;
+    }
+    let name = format!(in alloc; "{prefix}b")?;
+    let items = repeated(alloc, &[], name.as_bytes(), 100, &target)?;
+    let there = group_of(alloc, specs.as_slice())?.match_lhs(alloc, items.as_slice())?;
+    assert_eq!(rt; there.mappings.len(), count);
+    Ok(())
+}

@@ -1,40 +1,44 @@
--- a key where the hash may be shared, and a sort that moves the keys
-use Rattle.std.proofs.Common.{ℕ, ◌<◌, ◌+◌, List, Vec, Global, get_or, sym, refl, subst, ◌∙◌, arith}
-use Rattle.std.specs.List.{AllByRecursion}
-use Rattle.std.proofs.lemmas.Bool.{false≢true}
-use Rattle.gix_refspec_match.specs.Private.Bloom.{HasNumber}
-use Rattle.gix_refspec_match.specs.Private.Duplicates.{IsKey, indexes_in}
-use Rattle.gix_refspec_match.specs.Private.Kept.{Has, Rises}
-use Rattle.gix_refspec_match.proofs.lemmas.duplicates.HashKeyLemmas.{key_fits, keys_made, keys_more, keys_permuted, keys_same, rises_from_sorted}
+-- one more key, those that are kept, and a sort that moves them
+use Rattle.std.proofs.Common.{ℕ, List, length, map, sym, ap, ◌∙◌, subst, arith}
+use Rattle.std.proofs.lemmas.List.{get_or-map, length-map}
+use Rattle.gix_refspec_match.specs.Private.Duplicates.{AreKeysOf, HasShared, indexes_in}
+use Rattle.gix_refspec_match.specs.Private.Kept.{Rises}
+use Rattle.gix_refspec_match.proofs.lemmas.duplicates.HashKeyLemmas.{AreFirstKeys, first_keys_more, kept_keys, kept_rise, keys_permuted, rises_from_sorted}
 use Rattle.gix_refspec_match.proofs.duplicates.keys_in_order.Goals as goal
-use Rattle.gix_refspec_match.proofs.duplicates.keys_in_order.Goals.{then-has+in_ok-push, else-has}
+
+pub loop-index-init : goal.loop-index-init
+loop-index-init g c = record {
+  size = ap length c.in_ok-keys.ensures.items;
+  index = λ k under. absurd (omega arith);
+  upper = λ k under. absurd (omega arith);
+}
 
 pub loop-index-preserved : goal.loop-index-preserved
-loop-index-preserved c =
-    let hashes = c.args.hashes.now in
-    let bits = c.args.bits in
-    let index = c.loop-index.index in
-    let keys = c.loop-index.keys.items in
-    let shared = c.in_ok-shared.shared in
-    let Wanted : ℕ → Type 0 = λ k. HasNumber shared (get_or hashes k 0) in
-    let kept = c.loop-index.invariant in
-    let Holds : List ℕ → Type 0 = λ ks. AllByRecursion (IsKey hashes bits) ks × ((k : ℕ) → k < index + 1 → Wanted k → Has (indexes_in bits ks) k) × Rises (indexes_in bits ks) × AllByRecursion (λ n. n < index + 1) (indexes_in bits ks) in
-    elim c.if-has.branch [
-      | then-has+in_ok-push w ↦ subst (λ (v : Vec ℕ Global). Holds v.items) (sym w.keys-is)
-          (keys_more hashes bits keys w.push.new.self.items w.key_of.result index Wanted w.in_ok-push.ensures.items w.key_of.ensures.index
-          (key_fits hashes bits w.key_of.result (get_or hashes index 0) index (omega arith) w.key_of.ensures.bucket w.key_of.ensures.index refl)
-          kept.0 kept.1 kept.2 kept.3)
-      | else-has w ↦ subst (λ (v : Vec ℕ Global). Holds v.items) (sym w.keys-is)
-          (let same = keys_same bits keys index Wanted (λ wanted. false≢true (sym w.if-has.false ∙ c.has.ensures.1 wanted)) kept.1 kept.3 in
-          (kept.0, same.0, kept.2, same.1))
-    ]
+loop-index-preserved g c =
+    let below = c.loop-index-test.true in
+    first_keys_more (map (g.T.Element.hash c.args.seed) c.args.elements.now) c.args.bits c.loop-index.keys.items c.push.new.self.items c.loop-index.index c.key_of.result c.hash_by.result c.in_ok-push.ensures.items c.key_of.ensures.index c.key_of.ensures.bucket
+    (c.hash_by.ensures ∙ ap (g.T.Element.hash c.args.seed) c.index-elements-index.is ∙ sym (get_or-map (g.T.Element.hash c.args.seed) c.args.elements.now c.loop-index.index c.index-elements-index.result 0 below))
+    c.loop-index.invariant
 
 pub returns-clause-all : goal.returns-clause-all
-returns-clause-all c =
+returns-clause-all g c =
+    let hashes = map (g.T.Element.hash c.args.seed) c.args.elements.now in
+    let bits = c.args.bits in
     let keys = c.loop-index.keys.items in
-    keys_permuted c.args.hashes.now c.args.bits keys c.sort_unstable.new.self.items c.sort_unstable.ensures.permutation
-    (keys_made c.args.hashes.now c.args.bits keys c.in_ok-shared.shared c.in_ok-shared.ensures c.loop-index.invariant.0
-    (λ k below. c.loop-index.invariant.1 k (omega (arith, below))))
+    keys_permuted hashes bits c.keep_shared.new.keys.items c.sort_unstable.new.self.items c.sort_unstable.ensures.permutation
+    (subst (λ (ks : List ℕ). AreKeysOf hashes bits ks) (sym c.keep_shared.ensures)
+    (kept_keys hashes bits keys c.in_ok-shared.shared
+    (subst (λ (n : ℕ). AreFirstKeys hashes bits keys n) (omega (arith, length-map c.args.elements.now (g.T.Element.hash c.args.seed))) c.loop-index.invariant)
+    (subst (λ (ks : List ℕ). HasShared bits ks c.in_ok-shared.shared) c.as_slice.ensures.value c.in_ok-shared.ensures)))
 
 pub returns-clause-rises : goal.returns-clause-rises
-returns-clause-rises c = rises_from_sorted c.args.bits c.loop-index.keys.items c.sort_unstable.new.self.items c.sort_unstable.ensures.permutation c.loop-index.invariant.2 c.sort_unstable.ensures.sorted
+returns-clause-rises g c =
+    let hashes = map (g.T.Element.hash c.args.seed) c.args.elements.now in
+    let bits = c.args.bits in
+    let keys = c.loop-index.keys.items in
+    rises_from_sorted bits c.keep_shared.new.keys.items c.sort_unstable.new.self.items c.sort_unstable.ensures.permutation
+    (subst (λ (ks : List ℕ). Rises (indexes_in bits ks)) (sym c.keep_shared.ensures)
+    (kept_rise hashes bits keys c.in_ok-shared.shared
+    (subst (λ (n : ℕ). AreFirstKeys hashes bits keys n) (omega (arith, length-map c.args.elements.now (g.T.Element.hash c.args.seed))) c.loop-index.invariant)
+    (subst (λ (ks : List ℕ). HasShared bits ks c.in_ok-shared.shared) c.as_slice.ensures.value c.in_ok-shared.ensures)))
+    c.sort_unstable.ensures.sorted

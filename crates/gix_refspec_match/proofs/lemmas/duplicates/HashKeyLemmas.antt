@@ -1,24 +1,31 @@
 -- Keys of the upper bits of a hash and an index, and what their order says of hashes that are there twice.
-use Rattle.std.proofs.Common.{◌≡◌, ◌≢◌, ◌⊎◌, inl, inr, ℕ, ◌+◌, ◌-◌, ◌*◌, ◌/◌, ◌%◌, ◌^◌, ◌<◌, ◌≤◌, List, [], ◌∷◌, ◌++◌, length, get_or, suc, sym, ap, ◌∙◌, subst, refl, bit_or, Result, Ok, Err, false, arith}
-use Rattle.std.specs.List.{AllByRecursion, AllPairs}
+use Rattle.std.proofs.Common.{◌≡◌, ◌≢◌, ◌⊎◌, inl, inr, ◌↔◌, ℕ, ◌+◌, ◌-◌, ◌*◌, ◌/◌, ◌%◌, ◌^◌, ◌<◌, ◌≤◌, List, [], ◌∷◌, ◌++◌, length, get_or, map, suc, zero, sym, ap, ◌∙◌, subst, refl, bit_or, Bool, cond, true, false, arith}
+use Rattle.std.specs.List.{AllByRecursion, AllPairs, filter}
 use Rattle.std.specs.List.Sorted.{IsPermutation, IsSorted}
+use Rattle.std.specs.declared.cmp.Ordering.{Ordering}
+use Rattle.std.specs.declared.cmp.Ordering.TheVariants.{Equal}
 use Rattle.std.specs.Cmp.{IsStrictWeakOrder}
-use Rattle.std.specs.Prelude.{IfOk}
 use Rattle.std.specs.Ordering.{is_lt, nat_cmp}
 use Rattle.std.proofs.Math.Nat.{mod-eq_of_lt, div-mul-le_self}
 use Rattle.std.proofs.Math.Pow.{shr_mono}
+use Rattle.std.proofs.Math.Seq.{get_or-append_seam}
 use Rattle.std.proofs.lemmas.Nat.{div-mul-add, mod-mul-add, or_shifted, shr_split}
-use Rattle.std.proofs.lemmas.Bool.{cases_lt, false≢true}
+use Rattle.std.proofs.Math.Dec.{eqb}
+use Rattle.std.proofs.lemmas.Bool.{cases_Bool, cases_lt, eq-eqb, false≢true}
+use Rattle.std.proofs.lemmas.Bool.Decides.{eqb_tells}
+use Rattle.std.specs.Int.{bit_at}
 use Rattle.std.proofs.lemmas.Cmp.{by_ranked, nat_cmp_total, ranked}
-use Rattle.std.proofs.lemmas.List.{get_or-map, length-map, map-append}
-use Rattle.std.proofs.lemmas.List.Elements.{All-from_recursion, recursion_from_All}
+use Rattle.std.proofs.lemmas.List.{get_or-map, get_or_append_left, get_or_default, length-append, length-map}
+use Rattle.std.proofs.lemmas.List.Elements.{All-filter, All-from_recursion, recursion_from_All}
+use Rattle.std.proofs.lemmas.List.Kept.{AllPairs-filter}
 use Rattle.std.proofs.lemmas.List.Sorted.{IsPermutation-map, ranks_by, sorted_far}
 use Rattle.gix_refspec_match.specs.declared.bloom.Bloom.{Bloom}
 use Rattle.gix_refspec_match.specs.Private.Bloom.{HasNumber}
-use Rattle.gix_refspec_match.specs.Private.Duplicates.{AreKeysOf, AreSameAt, FindsHashes, HasShared, IsKey, IsSecond, PointsBack, indexes_in}
+use Rattle.gix_refspec_match.specs.Private.Duplicates.{AreKeysOf, AreSameAt, FindDuplicates, HasShared, IsKey, IsSecond, indexes_in, is_shared}
 use Rattle.gix_refspec_match.specs.Private.Kept.{Has, Rises}
-use Rattle.gix_refspec_match.proofs.lemmas.keep.RepeatLemmas.{Contains-from_Has, Has-left, Has-permuted, Has-right, Rises-push, all_permuted, apart_places, rises_at}
-use Rattle.gix_refspec_text.proofs.lemmas.lists.AllLemmas.{all_join, all_weaker}
+use Rattle.gix_refspec_match.proofs.lemmas.duplicates.FlagLemmas.{some_element}
+use Rattle.gix_refspec_match.proofs.lemmas.keep.RepeatLemmas.{Contains-from_Has, Has-permuted, all_permuted, apart_places, rises_at}
+use Rattle.gix_refspec_text.proofs.lemmas.lists.AllLemmas.{all_weaker}
 use Rattle.gix_refspec_text.proofs.lemmas.lists.NumberLemmas.{upto}
 
 packed : (hash index bits : ℕ) → hash < 18446744073709551616 → index < 2 ^ bits → bit_or (hash / 2 ^ bits * 2 ^ bits % 18446744073709551616) index ≡ hash / 2 ^ bits * 2 ^ bits + index
@@ -53,41 +60,102 @@ key_fits hashes bits key hash index below bucket here read = record {
   upper = bucket ∙ ap (λ (n : ℕ). n / 2 ^ bits) read ∙ ap (λ (n : ℕ). get_or hashes n 0 / 2 ^ bits) (sym here);
 }
 
--- indexes before one are before the next one
-pub indexes_same : (bits : ℕ) (keys : List ℕ) (index : ℕ) → AllByRecursion (λ n. n < index) (indexes_in bits keys) → AllByRecursion (λ n. n < index + 1) (indexes_in bits keys)
-indexes_same bits keys index below = all_weaker (λ n. n < index) (λ n. n < index + 1) (λ n less. omega arith) (indexes_in bits keys) below
-
--- one more key, at a index after the others
-pub indexes_more : (bits : ℕ) (keys new : List ℕ) (key index : ℕ) → new ≡ keys ++ key ∷ [] → key % 2 ^ bits ≡ index → Rises (indexes_in bits keys) → AllByRecursion (λ n. n < index) (indexes_in bits keys) → (indexes_in bits new ≡ indexes_in bits keys ++ index ∷ []) × Rises (indexes_in bits new) × AllByRecursion (λ n. n < index + 1) (indexes_in bits new)
-indexes_more bits keys new key index is here rises below =
-    let indexes : indexes_in bits new ≡ indexes_in bits keys ++ index ∷ [] = ap (indexes_in bits) is ∙ map-append (λ (x : ℕ). x % 2 ^ bits) keys (key ∷ []) ∙ ap (λ (n : ℕ). indexes_in bits keys ++ n ∷ []) here in (
-      indexes,
-      subst (λ (ns : List ℕ). Rises ns) (sym indexes) (Rises-push (indexes_in bits keys) index rises below),
-      subst (λ (ns : List ℕ). AllByRecursion (λ n. n < index + 1) ns) (sym indexes) (all_join (λ n. n < index + 1) (indexes_in bits keys) (index ∷ []) (indexes_same bits keys index below) (omega arith, tt)),
-    )
-
--- one more key, at its index
-pub keys_more : (hashes : List ℕ) (bits : ℕ) (keys new : List ℕ) (key index : ℕ) (Wanted : ℕ → Type 0) → new ≡ keys ++ key ∷ [] → key % 2 ^ bits ≡ index → IsKey hashes bits key → AllByRecursion (IsKey hashes bits) keys → ((k : ℕ) → k < index → Wanted k → Has (indexes_in bits keys) k) → Rises (indexes_in bits keys) → AllByRecursion (λ n. n < index) (indexes_in bits keys) → AllByRecursion (IsKey hashes bits) new × ((k : ℕ) → k < index + 1 → Wanted k → Has (indexes_in bits new) k) × Rises (indexes_in bits new) × AllByRecursion (λ n. n < index + 1) (indexes_in bits new)
-keys_more hashes bits keys new key index Wanted is here one each every rises below =
-    let more = indexes_more bits keys new key index is here rises below in (
-      subst (λ (xs : List ℕ). AllByRecursion (IsKey hashes bits) xs) (sym is) (all_join (IsKey hashes bits) keys (key ∷ []) each (one, tt)),
-      λ k under wanted. subst (λ (ns : List ℕ). Has ns k) (sym more.0) (elim (upto k index under) [
-        | inl less ↦ Has-left (indexes_in bits keys) (index ∷ []) k (every k less wanted)
-        | inr last ↦ Has-right (indexes_in bits keys) (index ∷ []) k (inl (sym last))
-      ]),
-      more.1,
-      more.2,
-    )
-
--- no key for a index that needs none
-pub keys_same : (bits : ℕ) (keys : List ℕ) (index : ℕ) (Wanted : ℕ → Type 0) → ¬ (Wanted index) → ((k : ℕ) → k < index → Wanted k → Has (indexes_in bits keys) k) → AllByRecursion (λ n. n < index) (indexes_in bits keys) → ((k : ℕ) → k < index + 1 → Wanted k → Has (indexes_in bits keys) k) × AllByRecursion (λ n. n < index + 1) (indexes_in bits keys)
-keys_same bits keys index Wanted unwanted every below = (
-  λ k under wanted. elim (upto k index under) [
-    | inl less ↦ every k less wanted
-    | inr last ↦ absurd (unwanted (subst Wanted last wanted))
-  ],
-  indexes_same bits keys index below,
+rises_from_pairs : (ns : List ℕ) → AllPairs (λ (n : ℕ) (m : ℕ). n < m) ns → Rises ns
+rises_from_pairs [] pairs = tt
+rises_from_pairs (n ∷ ns) pairs = (
+  recursion_from_All (λ m. n < m) ns (λ k d below. pairs 0 (suc k) d (omega arith) (omega arith)),
+  rises_from_pairs ns (λ i j d before below. pairs (suc i) (suc j) d (omega arith) (omega arith)),
 )
+
+-- the keys of the first elements of a list, by its hashes
+pub record AreFirstKeys (hashes : List ℕ) (bits : ℕ) (keys : List ℕ) (n : ℕ) : Type 0 where
+  pub size : length keys ≡ n
+  pub index : (k : ℕ) → k < n → get_or keys k 0 % 2 ^ bits ≡ k
+  pub upper : (k : ℕ) → k < n → get_or keys k 0 / 2 ^ bits ≡ get_or hashes k 0 / 2 ^ bits
+
+-- the key of one more element
+pub first_keys_more : (hashes : List ℕ) (bits : ℕ) (keys new : List ℕ) (n key hash : ℕ) → new ≡ keys ++ key ∷ [] → key % 2 ^ bits ≡ n → key / 2 ^ bits ≡ hash / 2 ^ bits → hash ≡ get_or hashes n 0 → AreFirstKeys hashes bits keys n → AreFirstKeys hashes bits new (n + 1)
+first_keys_more hashes bits keys new n key hash is index upper read are = record {
+  size = ap length is ∙ length-append keys (key ∷ []) ∙ ap (λ (k : ℕ). k + 1) are.size;
+  index = λ k under. elim (upto k n under) [
+    | inl less ↦ ap (λ (x : ℕ). x % 2 ^ bits) (old k less) ∙ are.index k less
+    | inr last ↦ ap (λ (m : ℕ). get_or new m 0 % 2 ^ bits) last ∙ ap (λ (x : ℕ). x % 2 ^ bits) newest ∙ index ∙ sym last
+  ];
+  upper = λ k under. elim (upto k n under) [
+    | inl less ↦ ap (λ (x : ℕ). x / 2 ^ bits) (old k less) ∙ are.upper k less
+    | inr last ↦ ap (λ (m : ℕ). get_or new m 0 / 2 ^ bits) last ∙ ap (λ (x : ℕ). x / 2 ^ bits) newest ∙ upper ∙ ap (λ (x : ℕ). x / 2 ^ bits) read ∙ ap (λ (m : ℕ). get_or hashes m 0 / 2 ^ bits) (sym last)
+  ];
+}
+  where
+    old : (k : ℕ) → k < n → get_or new k 0 ≡ get_or keys k 0
+    old k less = ap (λ (xs : List ℕ). get_or xs k 0) is ∙ get_or_append_left keys (key ∷ []) 0 k (omega (arith, less, are.size))
+
+    newest : get_or new n 0 ≡ key
+    newest = ap (λ (xs : List ℕ). get_or xs n 0) is ∙ ap (λ (m : ℕ). get_or (keys ++ key ∷ []) m 0) (sym are.size) ∙ get_or-append_seam keys key [] 0
+
+-- a number that passes a test is left by it
+has_kept : (f : ℕ → ℕ) (test : ℕ → Bool) (xs : List ℕ) (k : ℕ) → k < length xs → test (get_or xs k 0) ≡ true → Has (map f (filter test xs)) (f (get_or xs k 0))
+has_kept f test [] k below passes = absurd (omega arith)
+has_kept f test (x ∷ xs) zero below passes = subst (λ (b : Bool). Has (map f (cond b (x ∷ filter test xs) (filter test xs))) (f x)) (sym passes) (inl refl)
+has_kept f test (x ∷ xs) (suc k) below passes = elim (cases_Bool (test x)) [
+  | inl is ↦ subst (λ (b : Bool). Has (map f (cond b (x ∷ filter test xs) (filter test xs))) (f (get_or xs k 0))) (sym is) (inr (has_kept f test xs k (omega arith) passes))
+  | inr not ↦ subst (λ (b : Bool). Has (map f (cond b (x ∷ filter test xs) (filter test xs))) (f (get_or xs k 0))) (sym not) (has_kept f test xs k (omega arith) passes)
+]
+
+-- a test that tells whether a number is 1
+tells_one : (b : Bool) (n : ℕ) → (b ≡ true) ↔ (n ≡ 1) → b ≡ eqb n 1
+tells_one true n told = sym (eq-eqb n 1 (told.0 refl))
+tells_one false n told = elim (eqb_tells n 1) [
+  | inl is ↦ absurd (false≢true (told.1 is.1))
+  | inr not ↦ sym not.0
+]
+
+-- what a filter answers
+pub told_shared : (shared : Bloom) (bits key : ℕ) (b : Bool) → (b ≡ true) ↔ HasNumber shared (key / 2 ^ bits) → b ≡ is_shared shared bits key
+told_shared shared bits key b told = tells_one b _ told
+
+passes : (shared : Bloom) (bits key : ℕ) → HasNumber shared (key / 2 ^ bits) → is_shared shared bits key ≡ true
+passes shared bits key number = eq-eqb _ 1 number
+
+-- of the keys of all elements, those with upper bits that others may have
+module _ (hashes : List ℕ) (bits : ℕ) (keys : List ℕ) (shared : Bloom) (are : AreFirstKeys hashes bits keys (length hashes)) (has : HasShared bits keys shared) where
+  same_upper : (j k : ℕ) → j < k → k < length hashes → AreSameAt hashes j k → get_or keys j 0 / 2 ^ bits ≡ get_or keys k 0 / 2 ^ bits
+  same_upper j k before below same = are.upper j (omega (arith, before, below)) ∙ ap (λ (h : ℕ). h / 2 ^ bits) same ∙ sym (are.upper k below)
+
+  stays : (k : ℕ) → k < length hashes → HasNumber shared (get_or keys k 0 / 2 ^ bits) → Has (indexes_in bits (filter (is_shared shared bits) keys)) k
+  stays k below number = subst (λ (n : ℕ). Has (indexes_in bits (filter (is_shared shared bits) keys)) n) (are.index k below) (has_kept (λ (x : ℕ). x % 2 ^ bits) (is_shared shared bits) keys k (omega (arith, below, are.size)) (passes shared bits (get_or keys k 0) number))
+
+  met : (j k : ℕ) → j < k → k < length hashes → AreSameAt hashes j k → HasNumber shared (get_or keys k 0 / 2 ^ bits)
+  met j k before below same = has.all j k before (omega (arith, below, are.size)) (same_upper j k before below same)
+
+  is_key : (k d : ℕ) → k < length keys → IsKey hashes bits (get_or keys k d)
+  is_key k d below =
+      let inside : k < length hashes = omega (arith, below, are.size) in
+      let read : get_or keys k d ≡ get_or keys k 0 = get_or_default keys k d 0 below in
+      key_fits hashes bits (get_or keys k d) (get_or hashes k 0) k inside (ap (λ (x : ℕ). x / 2 ^ bits) read ∙ are.upper k inside) (ap (λ (x : ℕ). x % 2 ^ bits) read ∙ are.index k inside) refl
+
+  pub kept_keys : AreKeysOf hashes bits (filter (is_shared shared bits) keys)
+  kept_keys = record {
+    each = recursion_from_All (IsKey hashes bits) (filter (is_shared shared bits) keys) (All-filter (is_shared shared bits) (IsKey hashes bits) keys is_key);
+    earlier = λ j k before below same. stays j (omega (arith, before, below)) (subst (HasNumber shared) (sym (same_upper j k before below same)) (met j k before below same));
+    later = λ j k before below same. stays k below (met j k before below same);
+  }
+
+  pub kept_rise : Rises (indexes_in bits (filter (is_shared shared bits) keys))
+  kept_rise = rises_from_pairs (indexes_in bits (filter (is_shared shared bits) keys)) (λ i j d before below.
+      let fits : j < length (filter (is_shared shared bits) keys) = omega (arith, below, length-map (filter (is_shared shared bits) keys) (λ (x : ℕ). x % 2 ^ bits)) in
+      let less = AllPairs-filter (λ (n : ℕ) (m : ℕ). n % 2 ^ bits < m % 2 ^ bits) (is_shared shared bits) keys apart i j d before fits in
+      let is_i = get_or-map (λ (x : ℕ). x % 2 ^ bits) (filter (is_shared shared bits) keys) i d d (omega (arith, before, fits)) in
+      let is_j = get_or-map (λ (x : ℕ). x % 2 ^ bits) (filter (is_shared shared bits) keys) j d d fits in
+      omega (arith, less, is_i, is_j))
+    where
+      apart : AllPairs (λ (n : ℕ) (m : ℕ). n % 2 ^ bits < m % 2 ^ bits) keys
+      apart i j d before below =
+          let first : i < length hashes = omega (arith, before, below, are.size) in
+          let last : j < length hashes = omega (arith, below, are.size) in
+          let is_i : get_or keys i d % 2 ^ bits ≡ i = ap (λ (x : ℕ). x % 2 ^ bits) (get_or_default keys i d 0 (omega (arith, before, below))) ∙ are.index i first in
+          let is_j : get_or keys j d % 2 ^ bits ≡ j = ap (λ (x : ℕ). x % 2 ^ bits) (get_or_default keys j d 0 below) ∙ are.index j last in
+          omega (arith, is_i, is_j, before)
 
 -- keys in another order
 pub keys_permuted : (hashes : List ℕ) (bits : ℕ) (xs ys : List ℕ) → IsPermutation xs ys → AreKeysOf hashes bits xs → AreKeysOf hashes bits ys
@@ -99,21 +167,6 @@ keys_permuted hashes bits xs ys moved all = record {
   where
     still : (k : ℕ) → Has (indexes_in bits xs) k → Has (indexes_in bits ys) k
     still k = Has-permuted (indexes_in bits xs) (indexes_in bits ys) k (IsPermutation-map (λ (x : ℕ). x % 2 ^ bits) xs ys moved)
-
--- the keys of all indexes whose hash may be shared
-pub keys_made : (hashes : List ℕ) (bits : ℕ) (keys : List ℕ) (shared : Bloom) → HasShared hashes shared → AllByRecursion (IsKey hashes bits) keys → ((k : ℕ) → k < length hashes → HasNumber shared (get_or hashes k 0) → Has (indexes_in bits keys) k) → AreKeysOf hashes bits keys
-keys_made hashes bits keys shared has each every = record {
-  each = each;
-  earlier = λ j k before below same. every j (omega (arith, before, below)) (subst (HasNumber shared) (sym same) (has.all j k before below same));
-  later = λ j k before below same. every k below (has.all j k before below same);
-}
-
-rises_from_pairs : (ns : List ℕ) → AllPairs (λ (n : ℕ) (m : ℕ). n < m) ns → Rises ns
-rises_from_pairs [] pairs = tt
-rises_from_pairs (n ∷ ns) pairs = (
-  recursion_from_All (λ m. n < m) ns (λ k d below. pairs 0 (suc k) d (omega arith) (omega arith)),
-  rises_from_pairs ns (λ i j d before below. pairs (suc i) (suc j) d (omega arith) (omega arith)),
-)
 
 -- keys that are sorted and have indexes apart rise
 pub rises_from_sorted : (bits : ℕ) (xs ys : List ℕ) → IsPermutation xs ys → Rises (indexes_in bits xs) → IsSorted nat_cmp ys → Rises ys
@@ -178,55 +231,17 @@ second_from_same hashes bits keys j k all rises before below hash =
       | inr past ↦ let tie : p ≡ q = omega (arith, past, order) in let is : get_or keys p 0 ≡ get_or keys q 0 = ap (λ (n : ℕ). get_or keys n 0) tie in omega (arith, is)
     ]
 
--- one more key, which has the upper bits of the one before it, whose index was given for its own
-pub given_next : (bits : ℕ) (keys old new : List ℕ) (at a b index : ℕ) → Rises keys → 0 < at → at < length keys → a ≡ get_or keys (at - 1) 0 → b ≡ get_or keys at 0 → a / 2 ^ bits ≡ b / 2 ^ bits → index ≡ b % 2 ^ bits → get_or new index index ≡ a % 2 ^ bits → ((k : ℕ) → k ≢ index → PointsBack old k → PointsBack new k) → ((t : ℕ) → t < at → IsSecond bits keys t → PointsBack old (get_or keys t 0 % 2 ^ bits)) → (t : ℕ) → t < at + 1 → IsSecond bits keys t → PointsBack new (get_or keys t 0 % 2 ^ bits)
-given_next bits keys old new at a b index rises some inside is_a is_b same is_index here others before t under second =
-    elim (cases_lt t at) [
-      | inl less ↦ elim (cases_eq (get_or keys t 0 % 2 ^ bits) index) [
-        | inl tie ↦ subst (λ (n : ℕ). PointsBack new n) (sym tie) points
-        | inr apart ↦ others (get_or keys t 0 % 2 ^ bits) apart (before t less second)
-      ]
-      | inr past ↦
-          let last : t ≡ at = omega (arith, past, under) in
-          subst (λ (n : ℕ). PointsBack new n) (is_index ∙ ap (λ (n : ℕ). n % 2 ^ bits) (is_b ∙ ap (λ (n : ℕ). get_or keys n 0) (sym last))) points
-    ]
-  where
-    next : get_or keys (at - 1) 0 < get_or keys at 0
-    next = rises_at keys rises (at - 1) at 0 (omega (arith, some)) inside
-
-    points : PointsBack new index
-    points = let rest = lower_rest a b bits same (omega (arith, next, is_a, is_b)) in omega (arith, rest, here, is_index)
-
-    cases_eq : (n m : ℕ) → (n ≡ m) ⊎ (n ≢ m)
-    cases_eq n m = elim (cases_lt n m) [
-      | inl less ↦ inr (λ tie. omega (arith, less, tie))
-      | inr past ↦ elim (cases_lt m n) [
-        | inl less ↦ inr (λ tie. omega (arith, less, tie))
-        | inr back ↦ inl (omega (arith, past, back))
-      ]
-    ]
-
--- one more key, which hasn't the upper bits of the one before it
-pub given_same : (bits : ℕ) (keys earlier : List ℕ) (at a b : ℕ) → a ≡ get_or keys (at - 1) 0 → b ≡ get_or keys at 0 → a / 2 ^ bits ≢ b / 2 ^ bits → ((t : ℕ) → t < at → IsSecond bits keys t → PointsBack earlier (get_or keys t 0 % 2 ^ bits)) → (t : ℕ) → t < at + 1 → IsSecond bits keys t → PointsBack earlier (get_or keys t 0 % 2 ^ bits)
-given_same bits keys earlier at a b is_a is_b other before t under second = elim (cases_lt t at) [
-  | inl less ↦ before t less second
-  | inr past ↦
-      let last : t ≡ at = omega (arith, past, under) in
-      absurd (other (ap (λ (n : ℕ). n / 2 ^ bits) is_a ∙ sym (ap (λ (n : ℕ). get_or keys (n - 1) 0 / 2 ^ bits) last) ∙ second.same ∙ ap (λ (n : ℕ). get_or keys n 0 / 2 ^ bits) last ∙ sym (ap (λ (n : ℕ). n / 2 ^ bits) is_b)))
-]
-
--- the hashes that earlier ones have, of which each key has the upper bits of the one before it, have an earlier index
-pub finds_from_keys : (hashes : List ℕ) (bits : ℕ) (keys earlier : List ℕ) → AreKeysOf hashes bits keys → Rises keys → length earlier ≤ length hashes → ((at : ℕ) → IsSecond bits keys at → PointsBack earlier (get_or keys at 0 % 2 ^ bits)) → FindsHashes hashes earlier
-finds_from_keys hashes bits keys earlier all rises fits points = record {
-  fits = fits;
-  finds = λ j k before below same. let second = second_from_same hashes bits keys j k all rises before below same in subst (λ (n : ℕ). PointsBack earlier n) second.2 (points second.0 second.1);
+-- where equal elements have the same hash, the key of a duplicate has the upper bits of the one before it
+pub duplicates_from_keys : {T : Type 0} (order : T → T → Ordering) (hash : T → ℕ) (xs : List T) (bits : ℕ) (keys : List ℕ) → ((x y : T) → order x y ≡ Equal → hash x ≡ hash y) → AreKeysOf (map hash xs) bits keys → Rises keys → FindDuplicates order xs bits keys
+duplicates_from_keys {T} order hash xs bits keys alike are rises = record {
+  inside = all_weaker (IsKey (map hash xs) bits) (λ key. key % 2 ^ bits < length xs) (λ key is. let below = is.inside in omega (arith, below, size)) keys are.each;
+  finds = λ k (below, (j, before, equal)).
+      let d = some_element xs k below in
+      second_from_same (map hash xs) bits keys j k are rises before (omega (arith, size, below)) (at j d (omega (arith, before, below)) ∙ alike (get_or xs j d) (get_or xs k d) (equal d) ∙ sym (at k d below));
 }
+  where
+    size : length (map hash xs) ≡ length xs
+    size = length-map xs hash
 
--- each index in a key is that of a hash
-pub indexes_below : (hashes : List ℕ) (bits : ℕ) (keys : List ℕ) → AreKeysOf hashes bits keys → AllByRecursion (λ key. key % 2 ^ bits < length hashes) keys
-indexes_below hashes bits keys all = all_weaker (IsKey hashes bits) (λ key. key % 2 ^ bits < length hashes) (λ key is. is.inside) keys all.each
-
--- what holds of a value for two reasons
-pub both_ok : {T E : Type 0} (r : Result T E) (P Q S : T → Type 0) → ((x : T) → P x → Q x → S x) → IfOk r P → IfOk r Q → IfOk r S
-both_ok (Ok x) P Q S make p q = make x p q
-both_ok (Err e) P Q S make p q = p
+    at : (k : ℕ) (d : T) → k < length xs → get_or (map hash xs) k 0 ≡ hash (get_or xs k d)
+    at k d below = get_or-map hash xs k d 0 below
