@@ -92,6 +92,7 @@ run: kit
 test: kit
 	@tools/claims.py
 	@tools/lemmas.py
+	@tools/walk.py
 	@tools/gate.sh $(LOGS)
 	@$(MAKE) --no-print-directory build
 	@tests/run.sh $(PROGRAM) $(TESTS) $(PEOPLE_PROGRAM)

@@ -147,8 +147,8 @@ fn maps_one_long_name_by_many_patterns(rt: HostRuntime) -> Result<(), Fail> {
     let target = ObjectId::from_hex(TARGET.as_bytes())?;
     let mut name = Vec::new(alloc);
     name.extend_from_slice(b"refs/heads/")?;
-    name.resize(20_000, b'a')?;
-    let items = repeated(alloc, &[], name.as_slice(), 2_000, &target)?;
+    name.resize(4_000, b'a')?;
+    let items = repeated(alloc, &[], name.as_slice(), 500, &target)?;
     let specs = patterns(alloc, 100)?;
     let there = group_of(alloc, specs.as_slice())?.match_lhs(alloc, items.as_slice())?;
     assert_eq!(rt; there.mappings.len(), 100);

@@ -1,0 +1,97 @@
+#!/usr/bin/env python3
+"""Checks the walk of a spec and a ref in docs/CONTRIBUTING.md: tools/walk.py
+
+The walk names each function of the library that is entered, by its file, and those that aren't. Each one has to exist, and
+what the entered ones call, as far as it is the library's, has to be named. So the walk stays whole, and as short as it says.
+"""
+import os
+import re
+import sys
+
+ROOT = os.path.join(os.path.dirname(os.path.abspath(__file__)), os.pardir)
+PAGE = "docs/CONTRIBUTING.md"
+LIBRARY = ("gix_refspec_text", "gix_refspec_match", "gix_refspec")
+FUNCTIONS, FILES = 32, 10
+STEP = re.compile(r"\d+\. `([^`]+\.rt)` of `(\w+)`: (.*)")
+ASIDE = "Not entered: "
+NAME = re.compile(r"`(\w+)`")
+DEFINED = re.compile(r"\s*(?:pub(?:\([a-z]+\))? )?fn (\w+)")
+CALLED = re.compile(r"\b(\w+)\(")
+
+
+def lines_of(path):
+    with open(os.path.join(ROOT, path), encoding="utf-8") as file:
+        return file.read().split("\n")
+
+
+def walk(lines):
+    """The functions of each file that are entered, and the names of those that aren't."""
+    entered, aside = [], set()
+    for line in lines:
+        step = STEP.fullmatch(line)
+        if step:
+            entered.append((f"crates/{step[2]}/src/{step[1]}", NAME.findall(step[3])))
+        elif line.startswith(ASIDE):
+            aside.update(NAME.findall(line))
+    return entered, aside
+
+
+def bodies(lines):
+    """The text of each function's body by the function's name; the bodies of those with one name are joined."""
+    found = {}
+    name, indent, inside = None, "", False
+    for line in lines:
+        defined = DEFINED.match(line)
+        if defined and not inside:
+            name, indent = defined[1], line[:len(line) - len(line.lstrip())]
+            found.setdefault(name, "")
+        if name is None:
+            continue
+        if inside and line == indent + "}":
+            name, inside = None, False
+        elif inside:
+            found[name] += line.split("//")[0] + "\n"
+        elif line == indent + "{" or defined and line.endswith(" {"):
+            inside = True
+        elif defined and line.endswith("}"):
+            found[name] += line[line.index("{"):] + "\n"
+            name = None
+    return found
+
+
+def sources():
+    for crate in LIBRARY:
+        for folder, folders, names in os.walk(os.path.join(ROOT, "crates", crate, "src")):
+            folders[:] = [name for name in folders if name != "tests"]
+            for name in names:
+                if name.endswith(".rt"):
+                    yield os.path.relpath(os.path.join(folder, name), ROOT)
+
+
+def main():
+    if len(sys.argv) != 1:
+        sys.exit(__doc__)
+    entered, aside = walk(lines_of(PAGE))
+    defined = {path: bodies(lines_of(path)) for path in sources()}
+    ours = {name for found in defined.values() for name in found}
+    named = {name for _, names in entered for name in names}
+    wrong = [f"there is no {name} in the library" for name in sorted(aside - ours)]
+    wrong += [f"{name} is named as entered and as not entered" for name in sorted(aside & named)]
+    for path, names in entered:
+        for name in names:
+            if name not in defined.get(path, {}):
+                wrong.append(f"there is no {name} in {path}")
+                continue
+            missing = set(CALLED.findall(defined[path][name])) & ours - named - aside
+            wrong += [f"{name} of {path} calls {other}, which isn't named" for other in sorted(missing)]
+    functions, files = sum(len(names) for _, names in entered), len({path for path, _ in entered})
+    if not 0 < functions <= FUNCTIONS or files > FILES:
+        wrong.append(f"it has {functions} functions in {files} files, and may have {FUNCTIONS} in {FILES}")
+    for line in wrong:
+        print(f"{PAGE}: the walk of a ref: {line}", file=sys.stderr)
+    if wrong:
+        sys.exit(1)
+    print(f"walk: {functions} functions in {files} files")
+
+
+main()
