@@ -17,6 +17,8 @@ ASIDE = "Not entered: "
 NAME = re.compile(r"`(\w+)`")
 DEFINED = re.compile(r"\s*(?:pub(?:\([a-z]+\))? )?fn (\w+)")
 CALLED = re.compile(r"\b(\w+)\(")
+# Methods of std; other types of the library have some of these names too.
+STD = {"as_slice", "contains", "len", "new", "push"}
 
 
 def lines_of(path):
@@ -26,12 +28,13 @@ def lines_of(path):
 
 def walk(lines):
     """The functions of each file that are entered, and the names of those that aren't."""
-    entered, aside = [], set()
+    entered, aside, inside = [], set(), False
     for line in lines:
         step = STEP.fullmatch(line)
+        inside = line.startswith(ASIDE) or inside and line != ""
         if step:
             entered.append((f"crates/{step[2]}/src/{step[1]}", NAME.findall(step[3])))
-        elif line.startswith(ASIDE):
+        elif inside:
             aside.update(NAME.findall(line))
     return entered, aside
 
@@ -78,11 +81,11 @@ def main():
     wrong = [f"there is no {name} in the library" for name in sorted(aside - ours)]
     wrong += [f"{name} is named as entered and as not entered" for name in sorted(aside & named)]
     for path, names in entered:
-        for name in names:
+        for name in dict.fromkeys(names):
             if name not in defined.get(path, {}):
                 wrong.append(f"there is no {name} in {path}")
                 continue
-            missing = set(CALLED.findall(defined[path][name])) & ours - named - aside
+            missing = set(CALLED.findall(defined[path][name])) & ours - STD - named - aside
             wrong += [f"{name} of {path} calls {other}, which isn't named" for other in sorted(missing)]
     functions, files = sum(len(names) for _, names in entered), len({path for path, _ in entered})
     if not 0 < functions <= FUNCTIONS or files > FILES:

@@ -151,23 +151,15 @@ fn sides_of<'spec>(spec: &RefSpecRef<'spec>) -> Option<Sides<'spec>>
     if spec.is_negative() {
         return None;
     }
-    let source = side_kind(spec.source())?;
-    let destination = side_kind(spec.destination());
+    let source = kind_of(spec.source()?.as_bytes());
+    let destination = match spec.destination() {
+        None => None,
+        Some(side) => Some(kind_of(side.as_bytes())),
+    };
     Some(Sides {
         source,
         destination,
     })
-}
-
-// The kind of a side that isn't missing.
-fn side_kind(side: Option<BStr<'_>>) -> Option<SideKind<'_>>
-    requires { MatchOption side (Unit {0}) (λ s. ¬ (HasSeveralStars (bstr_bytes s))) }
-    ensures { HasSideKind (option_map bstr_bytes side.entry) result }
-{
-    match side {
-        None => None,
-        Some(side) => Some(kind_of(side.as_bytes())),
-    }
 }
 
 // Specs are compared by their sides, whatever their force, and negative ones only with one another.

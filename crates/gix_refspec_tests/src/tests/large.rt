@@ -131,7 +131,13 @@ fn maps_one_name_listed_often(rt: HostRuntime) -> Result<(), Fail> {
     let alloc = rt.alloc();
     let target = ObjectId::from_hex(TARGET.as_bytes())?;
     let names = numbered(alloc, "refs/heads/", 299)?;
-    let items = repeated(alloc, names.as_slice(), b"refs/heads/main", 100_000, &target)?;
+    let items = repeated(
+        alloc,
+        names.as_slice(),
+        b"refs/heads/main",
+        100_000,
+        &target,
+    )?;
     let specs = patterns(alloc, 20)?;
     let there = group_of(alloc, specs.as_slice())?.match_lhs(alloc, items.as_slice())?;
     assert_eq!(rt; there.mappings.len(), 6_000);
@@ -147,8 +153,8 @@ fn maps_one_long_name_by_many_patterns(rt: HostRuntime) -> Result<(), Fail> {
     let target = ObjectId::from_hex(TARGET.as_bytes())?;
     let mut name = Vec::new(alloc);
     name.extend_from_slice(b"refs/heads/")?;
-    name.resize(4_000, b'a')?;
-    let items = repeated(alloc, &[], name.as_slice(), 500, &target)?;
+    name.resize(16_000, b'a')?;
+    let items = repeated(alloc, &[], name.as_slice(), 100, &target)?;
     let specs = patterns(alloc, 100)?;
     let there = group_of(alloc, specs.as_slice())?.match_lhs(alloc, items.as_slice())?;
     assert_eq!(rt; there.mappings.len(), 100);
