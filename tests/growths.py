@@ -45,8 +45,6 @@ CALLS = [
 ]
 # Calls that ask for none.
 NO_GROWTH = ["texts::reads_long_patterns"]
-# Calls that answer the same whatever is refused.
-ALWAYS_ANSWERED = [("matching::maps_nothing", 42)]
 
 
 def growths(tests, library, name, later):
@@ -80,7 +78,6 @@ def main():
     tests = os.path.abspath(sys.argv[1])
     with runs.library("refuse") as library:
         told = [(name, check(tests, library, name, least, True)) for name, least in CALLS]
-        told += [(name, check(tests, library, name, least, False)) for name, least in ALWAYS_ANSWERED]
         for name in NO_GROWTH:
             told.append((name, check(tests, library, name, 0, False)))
             if told[-1][1] != 0:

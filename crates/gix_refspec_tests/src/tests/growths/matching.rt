@@ -67,21 +67,6 @@ fn maps_from_right_to_left(rt: HostRuntime) -> Result<(), Fail> {
 }
 
 #[test]
-fn maps_nothing(rt: HostRuntime) -> Result<(), Fail> {
-    let alloc = rt.alloc();
-    let target = ObjectId::from_hex(TARGET.as_bytes())?;
-    let items = items_of(alloc, "refs/notes/a refs/notes/b", &target)?;
-    let specs = "refs/heads/a:refs/x/a refs/heads/*:refs/y/* v:refs/z/v ^refs/heads/n";
-    let forward = group_of(alloc, Operation::Fetch, specs)?;
-    let backward = forward.clone(alloc)?;
-    let there = marked!(alloc, forward.match_lhs(alloc, items.as_slice()))?;
-    assert!(&rt; there.mappings.is_empty());
-    let back = marked!(alloc, backward.match_rhs(alloc, items.as_slice()))?;
-    assert!(&rt; back.mappings.is_empty());
-    say_answered(&rt)
-}
-
-#[test]
 fn clones_outcomes(rt: HostRuntime) -> Result<(), Fail> {
     let alloc = rt.alloc();
     let target = ObjectId::from_hex(TARGET.as_bytes())?;
