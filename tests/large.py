@@ -13,11 +13,11 @@ import sys
 SECONDS = 2
 # The tests, and their peaks in megabytes.
 TESTS = [
-    ("maps_many_full_names", 40),
-    ("maps_many_refs", 32),
-    ("maps_one_name_listed_often", 16),
-    ("maps_one_long_name_by_many_patterns", 10),
-    ("maps_nested_prefixes", 12),
+    ("maps_many_full_names", 34),
+    ("maps_many_refs", 20),
+    ("maps_one_name_listed_often", 13),
+    ("maps_one_long_name_by_many_patterns", 8),
+    ("maps_nested_prefixes", 8),
 ]
 PR_SET_CHILD_SUBREAPER = 36
 
