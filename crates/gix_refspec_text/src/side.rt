@@ -9,6 +9,7 @@ ghost use Rattle.gix_refspec_text.specs.Matching.Side.{HasKind, candidates as ca
 ghost use Rattle.gix_refspec_text.specs.Private.SideViews.{AreStarsOf, kind_of_side};
 
 use crate::oid::ObjectId;
+use crate::split::contains;
 use bstr::{BString, ByteSlice};
 use std::alloc::{AllocError, Global};
 
@@ -37,6 +38,10 @@ pub enum SideKind<'a> {
 pub(crate) fn stars_of(side: &[u8]) -> Stars<'_>
     ensures { AreStarsOf side.now result }
 {
+    // Most sides that are asked about have no star, and this is the fastest way to see that.
+    if !contains(side, b'*') {
+        return Stars::No;
+    }
     let Some((before, after)) = split_at_first_star(side) else {
         return Stars::No;
     };
