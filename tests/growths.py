@@ -36,6 +36,7 @@ CALLS = [
     ("copies::clones_groups", 1),
     ("matching::maps_from_left_to_right", 50),
     ("matching::maps_from_right_to_left", 46),
+    ("matching::maps_nothing", 1),
     ("matching::clones_outcomes", 7),
     ("matching::validates_and_fixes", 8),
     ("matching::leaves_bad_names_out", 3),

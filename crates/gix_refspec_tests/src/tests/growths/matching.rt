@@ -66,6 +66,12 @@ fn maps_from_right_to_left(rt: HostRuntime) -> Result<(), Fail> {
     check_matching!(&rt, match_rhs, RIGHT, TRACKED)
 }
 
+// No name is that of a destination, or a candidate of one.
+#[test]
+fn maps_nothing(rt: HostRuntime) -> Result<(), Fail> {
+    check_matching!(&rt, match_rhs, "refs/notes/a refs/notes/b", "")
+}
+
 #[test]
 fn clones_outcomes(rt: HostRuntime) -> Result<(), Fail> {
     let alloc = rt.alloc();
