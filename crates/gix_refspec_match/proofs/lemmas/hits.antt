@@ -3,5 +3,4 @@ pub mod HitLemmas
 pub mod FoundLemmas
 pub mod GroupLemmas
 pub mod MatcherLemmas
-pub mod SidesLemmas
 pub mod ReachLemmas

@@ -5,6 +5,5 @@ pub mod ExclusionLemmas
 pub mod KeptPairLemmas
 pub mod ThinLemmas
 pub mod PartLemmas
-pub mod PartMadeLemmas
 pub mod FillLemmas
 pub mod EngineLemmas

@@ -34,14 +34,14 @@ abbrev pub IsFilled : Option (List ℕ) → Option (List ℕ) → Option (List �
 IsFilled None word n = n ≡ None
 IsFilled (Some x) word n = (kind : SideKind) × HasKind x kind × (n ≡ Some (filled kind word))
 
--- that a spec takes an item: their places, the item's name, and what the far side becomes
+-- that a spec takes an item: their indexes, the item's name, and what the far side becomes
 pub record Hit : Type 0 where
   pub spec : ℕ
   pub item : ℕ
   pub near : List ℕ
   pub far : Option (List ℕ)
 
--- the spec at place k, which has these ends, takes the ref at place j of the items. Taken says which refs a
+-- the spec at index k, which has these ends, takes the ref at index j of the items. Taken says which refs a
 -- near side takes, a pattern with which word for its star
 pub record IsHit (Taken : List ℕ → Ref → Option (List ℕ) → Type 0) (ends : Ends) (k j : ℕ) (r : Ref) (hit : Hit) : Type 0 where
   pub word : Option (List ℕ)
@@ -51,7 +51,7 @@ pub record IsHit (Taken : List ℕ → Ref → Option (List ℕ) → Type 0) (en
   pub spec : hit.spec ≡ k
   pub item : hit.item ≡ j
 
--- the items that the spec at place k takes, in order, and none where it has no such ends
+-- the items that the spec at index k takes, in order, and none where it has no such ends
 abbrev pub AreSpecHits : (Reading → Ends → Type 0) → (List ℕ → Ref → Option (List ℕ) → Type 0) → List Ref → ℕ → Reading → List Hit → Type 0
 AreSpecHits HasEnds Taken items k r hits =
     ((ends : Ends) × HasEnds r ends × IsMadeFrom (IsHit Taken ends k) 0 items hits)
@@ -69,7 +69,7 @@ forward_of hit = record { item = Some hit.item; source = name hit.near; destinat
 abbrev pub backward_of : Hit → Mapped
 backward_of hit = record { item = Some hit.item; source = name (unwrap_or hit.far []); destination = Some hit.near; spec = hit.spec }
 
--- the mapping of the positive spec at place k whose source is the id of an object: it takes no item
+-- the mapping of the positive spec at index k whose source is the id of an object: it takes no item
 pub record IsIdMapping (k : ℕ) (r : Reading) (m : Mapped) : Type 0 where
   pub positive : IsPositive r.mode
   pub text : List ℕ

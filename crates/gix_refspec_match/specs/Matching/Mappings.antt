@@ -12,8 +12,8 @@ pub data Source : Type 0 where
   name : List ℕ → Source
   id : List ℕ → Source
 
--- a mapping: the place of its item, if it has one, its source, its destination, if it has one, and the
--- place of its spec
+-- a mapping: the index of its item, if it has one, its source, its destination, if it has one, and the
+-- index of its spec
 pub record Mapped : Type 0 where
   pub item : Option ℕ
   pub source : Source
@@ -52,7 +52,7 @@ abbrev pub AreApart : List Mapped → Type 0
 AreApart [] = Unit {0}
 AreApart (m ∷ l) = AllByRecursion (λ x. ¬ (IsSamePair m x)) l × AreApart l
 
--- m, which is in the list at place k, is kept: no earlier mapping has its pair, and its source isn't
+-- m, which is in the list at index k, is kept: no earlier mapping has its pair, and its source isn't
 -- excluded
 pub record IsKeptAt (g : List Reading) (l : List Mapped) (k : ℕ) (m : Mapped) : Type 0 where
   pub first : ¬ (HasPair (take k l) m)

@@ -1,14 +1,14 @@
 -- Elements of a list that equal an earlier one, and how they are found. Only private functions cite this.
-use Rattle.std.specs.Prelude.{◌≡◌, ◌≢◌, ◌↔◌, ◌<◌, ◌-◌, ◌/◌, ◌%◌, ◌^◌, ℕ, Bool, List, length, map, nat_eq, slice_index_or}
+use Rattle.std.specs.Prelude.{◌≡◌, ◌≢◌, ◌↔◌, ◌<◌, ◌-◌, ◌/◌, ◌%◌, ◌^◌, ℕ, Bool, List, length, nat_eq, slice_index_or}
 use Rattle.std.specs.Int.{bit_at}
-use Rattle.std.specs.List.{AllByRecursion}
+use Rattle.std.specs.List.{All, AllPairs, Contains}
 use Rattle.std.specs.Ordering.{nat_cmp, ordering_then}
 use Rattle.std.specs.declared.cmp.Ordering.{Ordering}
 use Rattle.std.specs.declared.cmp.Ordering.TheVariants.{Equal}
 use Rattle.gix_refspec_match.specs.declared.bloom.Bloom.{Bloom}
 use Rattle.gix_refspec_match.specs.declared.duplicates.Placed.{Placed}
 use Rattle.gix_refspec_match.specs.Private.Bloom.{HasNumber, IsWhole}
-use Rattle.gix_refspec_match.specs.Private.Kept.{Has, IsFlagged}
+use Rattle.gix_refspec_match.specs.Private.Kept.{IsFlagged}
 
 -- the elements at two indexes are equal
 abbrev pub AreEqualAt : {T : Type 0} → (T → T → Ordering) → List T → ℕ → ℕ → Type 0
@@ -26,18 +26,37 @@ FlagsDuplicates order xs flags = (k : ℕ) → IsFlagged flags k ↔ IsDuplicate
 abbrev pub AreSameAt : List ℕ → ℕ → ℕ → Type 0
 AreSameAt hashes j k = slice_index_or hashes j 0 ≡ slice_index_or hashes k 0
 
+-- two keys have the same upper bits
+abbrev pub HaveSameUpper : ℕ → ℕ → ℕ → Type 0
+HaveSameUpper bits a b = a / 2 ^ bits ≡ b / 2 ^ bits
+
 -- upper bits that two keys have are in the filter
 pub record HasShared (bits : ℕ) (keys : List ℕ) (b : Bloom) : Type 0 where
   pub whole : IsWhole b
-  pub all : (j k : ℕ) → j < k → k < length keys → slice_index_or keys j 0 / 2 ^ bits ≡ slice_index_or keys k 0 / 2 ^ bits → HasNumber b (slice_index_or keys k 0 / 2 ^ bits)
+  pub all : AllPairs (λ j k. HaveSameUpper bits j k → HasNumber b (k / 2 ^ bits)) keys
 
 -- whether the upper bits of a key are in a filter
 abbrev pub is_shared : Bloom → ℕ → ℕ → Bool
 is_shared b bits key = nat_eq (bit_at (slice_index_or b.words.items (key / 2 ^ bits % 2 ^ b.bits) 0) (key / 2 ^ bits / 2 ^ b.bits % 64)) 1
 
--- the indexes in some keys: what their lower bits say
-abbrev pub indexes_in : ℕ → List ℕ → List ℕ
-indexes_in bits keys = map (λ key. key % 2 ^ bits) keys
+-- one of some keys or elements has the index
+abbrev pub HasIndex : {X : Type 0} → (X → ℕ) → List X → ℕ → Type 0
+HasIndex {X} index xs k = (x : X) × Contains xs x × (index x ≡ k)
+
+-- no two have the same index
+abbrev pub AreApart : {X : Type 0} → (X → ℕ) → List X → Type 0
+AreApart index xs = AllPairs (λ x y. index x ≢ index y) xs
+
+-- the one at position `at` has the index k, and E holds of the one before it and it
+pub record IsSecond {X : Type 0} (E : X → X → Type 0) (index : X → ℕ) (xs : List X) (at k : ℕ) : Type 0 where
+  pub later : 0 < at
+  pub inside : at < length xs
+  pub same : (d : X) → E (slice_index_or xs (at - 1) d) (slice_index_or xs at d)
+  pub here : (d : X) → index (slice_index_or xs at d) ≡ k
+
+-- the index in a key: what its lower bits say
+abbrev pub index_in : ℕ → ℕ → ℕ
+index_in bits key = key % 2 ^ bits
 
 -- the key has the index of a hash, and the upper bits of that hash
 pub record IsKey (hashes : List ℕ) (bits key : ℕ) : Type 0 where
@@ -46,20 +65,17 @@ pub record IsKey (hashes : List ℕ) (bits key : ℕ) : Type 0 where
 
 -- keys of hashes, of all those at least that are there twice
 pub record AreKeysOf (hashes : List ℕ) (bits : ℕ) (keys : List ℕ) : Type 0 where
-  pub each : AllByRecursion (IsKey hashes bits) keys
-  pub earlier : (j k : ℕ) → j < k → k < length hashes → AreSameAt hashes j k → Has (indexes_in bits keys) j
-  pub later : (j k : ℕ) → j < k → k < length hashes → AreSameAt hashes j k → Has (indexes_in bits keys) k
-
--- the key at a place of the list has the upper bits of the one before it
-pub record IsSecond (bits : ℕ) (keys : List ℕ) (at : ℕ) : Type 0 where
-  pub later : 0 < at
-  pub inside : at < length keys
-  pub same : slice_index_or keys (at - 1) 0 / 2 ^ bits ≡ slice_index_or keys at 0 / 2 ^ bits
+  pub each : All (IsKey hashes bits) keys
+  pub twice : (j k : ℕ) → j < k → k < length hashes → AreSameAt hashes j k → HasIndex (index_in bits) keys j × HasIndex (index_in bits) keys k
 
 -- keys of some elements, of which that of a duplicate has the upper bits of the one before it
 pub record FindDuplicates {T : Type 0} (order : T → T → Ordering) (xs : List T) (bits : ℕ) (keys : List ℕ) : Type 0 where
-  pub inside : AllByRecursion (λ key. key % 2 ^ bits < length xs) keys
-  pub finds : (k : ℕ) → IsDuplicate order xs k → (at : ℕ) × IsSecond bits keys at × (slice_index_or keys at 0 % 2 ^ bits ≡ k)
+  pub inside : All (λ key. key % 2 ^ bits < length xs) keys
+  pub finds : (k : ℕ) → IsDuplicate order xs k → (at : ℕ) × IsSecond (HaveSameUpper bits) (index_in bits) keys at k
+
+-- two elements are equal
+abbrev pub HaveEqualElements : {T : Type 0} → (T → T → Ordering) → Placed T → Placed T → Type 0
+HaveEqualElements order p q = order p.element.now q.element.now ≡ Equal
 
 -- the order of elements, and of their indexes where they are equal
 abbrev pub placed_order : {T : Type 0} → (T → T → Ordering) → Placed T → Placed T → Ordering
@@ -70,12 +86,8 @@ pub record IsPlaced {T : Type 0} (xs : List T) (p : Placed T) : Type 0 where
   pub inside : p.index < length xs
   pub is : (d : T) → p.element.now ≡ slice_index_or xs p.index d
 
--- the indexes of these
-abbrev pub placed_indexes : {T : Type 0} → List (Placed T) → List ℕ
-placed_indexes ps = map (λ p. p.index) ps
-
 -- all the elements, each with its index
 pub record ArePlaced {T : Type 0} (xs : List T) (ps : List (Placed T)) : Type 0 where
-  pub each : AllByRecursion (IsPlaced xs) ps
-  pub every : (k : ℕ) → k < length xs → Has (placed_indexes ps) k
-  pub apart : (i j d : ℕ) → i < j → j < length ps → slice_index_or (placed_indexes ps) i d ≢ slice_index_or (placed_indexes ps) j d
+  pub each : All (IsPlaced xs) ps
+  pub every : (k : ℕ) → k < length xs → HasIndex (λ p. p.index) ps k
+  pub apart : AreApart (λ p. p.index) ps

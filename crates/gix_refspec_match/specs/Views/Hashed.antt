@@ -10,6 +10,6 @@ abbrev pub source_writes : Source → HashWrites
 source_writes (name n) = fed.isize (pos 0) ++ (n ∷ [])
 source_writes (id i) = fed.isize (pos 1) ++ fed.slice fed.u8 i
 
--- what hashing a mapping writes: its source and its destination, whatever its places are
+-- what hashing a mapping writes: its source and its destination, whatever its indexes are
 abbrev pub pair_writes : Mapped → HashWrites
 pair_writes m = source_writes m.source ++ fed.option (λ d. d ∷ []) m.destination

@@ -1,8 +1,8 @@
 -- Filters of items.
-use Rattle.std.proofs.Common.{◌≡◌, ℕ, zero, suc, Bool, true, false, cond, List, [], ◌∷◌, Option, map, refl, sym, ap, ◌∙◌, subst, arith}
+use Rattle.std.proofs.Common.{◌≡◌, ℕ, zero, suc, Bool, true, List, [], ◌∷◌, Option, map, refl, sym, ap, ◌∙◌, subst, arith}
 use Rattle.std.specs.Prelude.{nat_eq}
 use Rattle.std.specs.List.{Any, Contains, filter, starts_with}
-use Rattle.std.proofs.lemmas.Bool.{false≢true, or_left, or_right}
+use Rattle.std.proofs.lemmas.Bool.{or_left, or_right}
 use Rattle.std.proofs.lemmas.Bool.Decides.{Decides-eqb}
 use Rattle.std.proofs.lemmas.List.{get_or-map, length-map}
 use Rattle.std.proofs.lemmas.List.Elements.{All-contains_itself, All-filter}
@@ -14,6 +14,7 @@ use Rattle.gix_refspec_text.specs.Specs.Reading.{Reading}
 use Rattle.gix_refspec_text.specs.Matching.Match.{Ref, Matches, Takes}
 use Rattle.gix_refspec_match.specs.Matching.Hits.{Ends, AreForwardEnds, AreBackwardEnds}
 use Rattle.gix_refspec_match.specs.Views.Mapping.{ref_of}
+use Rattle.gix_refspec_match.proofs.lemmas.duplicates.HashKeyLemmas.{contains_filter}
 use Rattle.gix_refspec.specs.Laws.Matching.{BeginsWithOne}
 use Rattle.gix_refspec.specs.Laws.Items.{ArePart, TakesItem, HasTaken, PassesTaken, FilteredItems, FilteredByEntries, FilteredByList, is_begun}
 
@@ -22,20 +23,6 @@ use Rattle.gix_refspec.specs.Laws.Items.{ArePart, TakesItem, HasTaken, PassesTak
 -- an element that passes was in the list
 was_there : {X : Type 0} (p : X → Bool) (xs : List X) (x : X) → Contains (filter p xs) x → Contains xs x
 was_there p xs x (k, below, is) = subst (Contains xs) is (All-filter p (Contains xs) xs (All-contains_itself xs) k x below)
-
-in_front : {X : Type 0} (y x : X) (ys : List X) (b : Bool) → b ≡ true → y ≡ x → Contains (cond b (y ∷ ys) ys) x
-in_front y x ys true passes is = (0, omega arith, is)
-in_front y x ys false passes is = absurd (false≢true passes)
-
-later : {X : Type 0} (y x : X) (ys : List X) (b : Bool) → Contains ys x → Contains (cond b (y ∷ ys) ys) x
-later y x ys true (k, below, is) = (suc k, omega (arith, below), is)
-later y x ys false has = has
-
--- and one of the list that passes is kept
-let_through : {X : Type 0} (p : X → Bool) (xs : List X) (x : X) → Contains xs x → p x ≡ true → Contains (filter p xs) x
-let_through p [] x (k, below, is) passes = absurd (omega (arith, below))
-let_through p (y ∷ xs) x (zero, below, is) passes = in_front y x (filter p xs) (p y) (ap p is ∙ passes) is
-let_through p (y ∷ xs) x (suc k, below, is) passes = later y x (filter p xs) (p y) (let_through p xs x (k, omega (arith, below), is) passes)
 
 mapped_there : {X Y : Type 0} (f : X → Y) (xs : List X) (x : X) → Contains xs x → Contains (map f xs) (f x)
 mapped_there f xs x (k, below, is) = (k, omega (arith, below, length-map xs f), get_or-map f xs k x (f x) below ∙ ap f is)
@@ -55,7 +42,7 @@ filtered_part p items ref has = let (item, there, same) = mapped_from ref_of (fi
 passed : (p : Item → Bool) (items : List Item) (P : Ref → Type 0) → ((item : Item) → Contains items item → P (ref_of item) → p item ≡ true) → (ref : Ref) → Contains (map ref_of items) ref → P ref → Contains (map ref_of (filter p items)) ref
 passed p items P passes ref has holds =
     let (item, there, same) = mapped_from ref_of items ref has in
-    subst (Contains (map ref_of (filter p items))) same (mapped_there ref_of (filter p items) item (let_through p items item there (passes item there (subst P (sym same) holds))))
+    subst (Contains (map ref_of (filter p items))) same (mapped_there ref_of (filter p items) item (contains_filter p items item there (passes item there (subst P (sym same) holds))))
 
 filtered_taken : (HasEnds : Reading → Ends → Type 0) (Taken : List ℕ → Ref → Option (List ℕ) → Type 0) (g : List Reading) (items some : List Item) (p : Item → Bool) → some ≡ filter p items → PassesTaken HasEnds Taken g items p → HasTaken HasEnds Taken g (map ref_of items) (map ref_of some)
 filtered_taken HasEnds Taken g items some p is passes = subst (λ (l : List Item). HasTaken HasEnds Taken g (map ref_of items) (map ref_of l)) (sym is) (passed p items (λ (r : Ref). Any (TakesItem HasEnds Taken r) g) passes)

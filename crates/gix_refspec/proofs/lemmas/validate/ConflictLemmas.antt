@@ -22,12 +22,13 @@ use Rattle.gix_refspec_match.specs.Matching.Mappings.{Source, name, id, Mapped, 
 use Rattle.gix_refspec_match.specs.Views.Mapping.{mapped_of, name_bytes, start_of, IsNameCopy, IsSourceCopy}
 use Rattle.gix_refspec_text.specs.Texts.ObjectId.{id_bytes}
 use Rattle.gix_refspec.specs.Matching.Validation.{AreConflicts, Conflict, IndexesFit, IsConflict, HasConflictAt, IsFirstTo, IsTextAt}
-use Rattle.gix_refspec_match.specs.Private.Kept.{FlagsRepeats, Has, IsFlagged, IsRepeat, Rises}
+use Rattle.gix_refspec_match.specs.Private.Duplicates.{FlagsDuplicates}
+use Rattle.gix_refspec_match.specs.Private.Kept.{IsFlagged}
 use Rattle.gix_refspec.specs.Private.Updates.{AddsConflict, AreUpdates, AreFirstUpdates, AreConflicting, HasUpdate, IsRun, IsFirstAt, IsConflictOf, update_cmp, updated_indexes}
 use Rattle.gix_refspec_match.proofs.lemmas.keep.RepeatLemmas.{some_mapping}
-use Rattle.gix_refspec_match.proofs.lemmas.keep.KeptLemmas.{repeats_at}
+use Rattle.gix_refspec_match.proofs.lemmas.keep.KeptLemmas.{by_pair, duplicate_at}
 use Rattle.gix_refspec.proofs.lemmas.validate.UpdateLemmas.{HasUpdate-cases, HasUpdate-left, HasUpdate-right, later, mapped_at, strict_left, strict_right}
-use Rattle.gix_refspec.proofs.lemmas.validate.FirstLemmas.{IsOfIndex, contested_from_firsts, made_at_indexes, one_mapping, two_firsts}
+use Rattle.gix_refspec.proofs.lemmas.validate.FirstLemmas.{Has, Increase, IsOfIndex, contested_from_firsts, made_at_indexes, one_mapping, two_firsts}
 use Rattle.std.proofs.lemmas.Slice.Zip.{all_zipped_more}
 use Rattle.gix_refspec_text.proofs.lemmas.lists.AllLemmas.{all_right, all_join, all_weaker}
 use Rattle.gix_refspec_text.proofs.lemmas.lists.OrderLemmas.{not_below_itself}
@@ -52,7 +53,7 @@ indexes_to_one x (c ∷ cs) k same = (
 )
 
 -- and if the updates are sorted, the indexes are strictly increasing
-pub indexes_rise : (x : List ℕ) (cs : List Update) → AllByRecursion (λ c. c.destination.now ≡ x) cs → IsStrictlySortedBy update_cmp cs → Rises (updated_indexes cs)
+pub indexes_rise : (x : List ℕ) (cs : List Update) → AllByRecursion (λ c. c.destination.now ≡ x) cs → IsStrictlySortedBy update_cmp cs → Increase (updated_indexes cs)
 unfolding IsStrictlySortedBy
 indexes_rise x [] same strict = tt
 indexes_rise x (c ∷ cs) same strict = (each cs same.1 strict.0, indexes_rise x cs same.1 strict.1)
@@ -92,7 +93,7 @@ conflict_from_conflicting g l run d sources texts conflicting told to = subst (�
     x : List ℕ
     x = conflicting.destination
 
-    rises : Rises (updated_indexes run)
+    rises : Increase (updated_indexes run)
     rises = indexes_rise x run conflicting.same conflicting.order
 
     at : (j : ℕ) → slice_get l j ≡ slice_get l (0 + j)
@@ -108,7 +109,7 @@ conflict_from_conflicting g l run d sources texts conflicting told to = subst (�
       (λ first. (indexes_to_one x run j conflicting.same).1 ((conflicting.are j).1 (m, is, first))),
     )
 
-    two : (cs : List Update) → 1 < length cs → Rises (updated_indexes cs) → ((k : ℕ) → Has (updated_indexes cs) k → IsFirstAt l k x) → HasConflictAt l x
+    two : (cs : List Update) → 1 < length cs → Increase (updated_indexes cs) → ((k : ℕ) → Has (updated_indexes cs) k → IsFirstAt l k x) → HasConflictAt l x
     two [] several up first = absurd (omega arith)
     two (c ∷ []) several up first = absurd (omega arith)
     two (c ∷ y ∷ cs) several up first = contested_from_firsts l x c.index y.index up.0.0 (first c.index (inl refl)) (first y.index (inr (inl refl)))
@@ -312,7 +313,7 @@ free_empty g [] empty = no_conflicts g [] (λ d c. let inside = c.has_one.1 in o
 free_empty g (m ∷ ms) empty = absurd (omega arith)
 
 -- the updates that aren't flagged as duplicates are the first ones
-pub firsts_from_updates : (ms : List Mapping) (flags : List Bool) (cs : List Update) → FlagsRepeats ms flags → AreUpdates (map mapped_of ms) flags cs → AreFirstUpdates (map mapped_of ms) cs
+pub firsts_from_updates : (ms : List Mapping) (flags : List Bool) (cs : List Update) → FlagsDuplicates by_pair ms flags → AreUpdates (map mapped_of ms) flags cs → AreFirstUpdates (map mapped_of ms) cs
 firsts_from_updates ms flags cs repeats made = record {
   are = λ k d. (
     (λ has. let told = (made.are k d).0 has in (told.0.0, told.0.1, record { goes = told.0.2; first = λ pair. told.1 ((flagged k told.0.0 told.0.1).1 pair) })),
@@ -328,5 +329,7 @@ firsts_from_updates ms flags cs repeats made = record {
         let e = some_mapping ms k below in
         let here : slice_get (map mapped_of ms) k ≡ Some (mapped_of (get_or ms k e)) = slice_get-map mapped_of ms k ∙ ap (option_map mapped_of) (slice_get-get_or ms k e below) in
         let same : mapped_of (get_or ms k e) ≡ m = one_mapping (map mapped_of ms) k (mapped_of (get_or ms k e)) m here is in
-        let repeat : IsRepeat ms k ↔ HasPair (take k (map mapped_of ms)) m = subst (λ (n : Mapped). IsRepeat ms k ↔ HasPair (take k (map mapped_of ms)) n) same (repeats_at ms k e below) in
-        ((λ is_so. repeat.0 ((repeats k below).0 is_so)), (λ has. (repeats k below).1 (repeat.1 has)))
+        let duplicate = duplicate_at ms k e below in (
+          (λ is_so. subst (HasPair (take k (map mapped_of ms))) same (duplicate.0 ((repeats k).0 is_so))),
+          (λ has. (repeats k).1 (duplicate.1 (subst (HasPair (take k (map mapped_of ms))) (sym same) has))),
+        )

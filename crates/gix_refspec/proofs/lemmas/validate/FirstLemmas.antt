@@ -8,10 +8,24 @@ use Rattle.std.proofs.lemmas.Slice.Eq.{bytes_eq-Decides}
 use Rattle.gix_refspec_match.specs.Matching.Lists.{IsMadeFrom}
 use Rattle.gix_refspec_match.specs.Matching.Mappings.{Source, name, id, Mapped, IsSamePair, HasPair}
 use Rattle.gix_refspec.specs.Matching.Validation.{HasConflictAt}
-use Rattle.gix_refspec_match.specs.Private.Kept.{Has, Rises}
 use Rattle.gix_refspec.specs.Private.Updates.{IsFirstAt}
-use Rattle.gix_refspec_match.proofs.lemmas.keep.RepeatLemmas.{not_below}
 use Rattle.gix_refspec_text.proofs.lemmas.lists.AllLemmas.{all_weaker}
+
+-- k is one of the numbers
+abbrev pub Has : List ℕ → ℕ → Type 0
+Has [] k = ⊥
+Has (n ∷ ns) k = (n ≡ k) ⊎ Has ns k
+
+-- each number is below all later ones
+abbrev pub Increase : List ℕ → Type 0
+Increase [] = Unit {0}
+Increase (n ∷ ns) = AllByRecursion (λ m. n < m) ns × Increase ns
+
+-- a number that is below all is not there
+not_below : (ns : List ℕ) (n k : ℕ) → AllByRecursion (λ m. n < m) ns → Has ns k → n < k
+not_below [] n k all has = absurd has
+not_below (m ∷ ns) n k all (inl same) = subst (λ (x : ℕ). n < x) same all.0
+not_below (m ∷ ns) n k all (inr has) = not_below ns n k all.1 has
 
 -- Q makes y of the mapping at index n
 abbrev pub IsOfIndex : {Y : Type 0} → (Mapped → Y → Type 0) → List Mapped → ℕ → Y → Type 0
@@ -34,7 +48,7 @@ tail_at : (l : List Mapped) (k : ℕ) (x : Mapped) (rest : List Mapped) → ((j 
 tail_at l k x rest at j = let same : k + suc j ≡ (k + 1) + j = omega arith in at (suc j) ∙ ap (slice_get l) same
 
 -- elements made of the mappings at strictly increasing indexes, which are those where P holds
-pub made_at_indexes : {Y : Type 0} (P : ℕ → Mapped → Type 0) (Q : Mapped → Y → Type 0) (l : List Mapped) (k : ℕ) (rest : List Mapped) (ns : List ℕ) (ys : List Y) → ((j : ℕ) → slice_get rest j ≡ slice_get l (k + j)) → ((j : ℕ) (m : Mapped) → k ≤ j → slice_get l j ≡ Some m → Has ns j ↔ P j m) → Rises ns → AllByRecursion (λ n. k ≤ n) ns → AllZip (IsOfIndex Q l) ns ys → IsMadeFrom (λ j m y. P j m × Q m y) k rest ys
+pub made_at_indexes : {Y : Type 0} (P : ℕ → Mapped → Type 0) (Q : Mapped → Y → Type 0) (l : List Mapped) (k : ℕ) (rest : List Mapped) (ns : List ℕ) (ys : List Y) → ((j : ℕ) → slice_get rest j ≡ slice_get l (k + j)) → ((j : ℕ) (m : Mapped) → k ≤ j → slice_get l j ≡ Some m → Has ns j ↔ P j m) → Increase ns → AllByRecursion (λ n. k ≤ n) ns → AllZip (IsOfIndex Q l) ns ys → IsMadeFrom (λ j m y. P j m × Q m y) k rest ys
 made_at_indexes P Q l k [] [] [] at has rises above zip = refl
 made_at_indexes P Q l k [] [] (y ∷ ys) at has rises above zip = absurd zip
 made_at_indexes P Q l k [] (n ∷ ns) [] at has rises above zip = absurd zip

@@ -11,7 +11,9 @@ use Rattle.std.proofs.lemmas.Bool.{cases_lt, false≢true, not-false, not-true}
 use Rattle.std.proofs.lemmas.Slice.Eq.{bytes_eq-Decides}
 use Rattle.std.specs.Str.{bytes_eq}
 use Rattle.std.proofs.lemmas.Cmp.{by_ranked, nat_cmp_total, on_total, ranked, then_total}
-use Rattle.std.proofs.lemmas.List.{get_or-map, length-map, map-append, take-append-drop, drop_more, length-drop}
+use Rattle.std.proofs.lemmas.List.{get_or-map, length-map, map-append, take-append-drop, take_more, drop_more, length-drop}
+use Rattle.std.proofs.lemmas.List.Elements.{All-from_recursion}
+use Rattle.std.proofs.lemmas.List.Quantifiers.{all_pairs_push}
 use Rattle.std.proofs.lemmas.List.Sorted.{Contains-permutation, IsPermutation-map, IsPermutation-sym, ranks_by, sorted_far}
 use Rattle.std.proofs.lemmas.Option.{slice_get-map, slice_get_read, slice_get_within}
 use Rattle.gix_refspec.specs.declared.match_group.validate.conflicts.Update.{Update}
@@ -22,7 +24,7 @@ use Rattle.gix_refspec_match.specs.Views.Mapping.{mapped_of, name_bytes}
 use Rattle.gix_refspec_match.specs.Private.Kept.{IsFlagged, Rises}
 use Rattle.gix_refspec.specs.Private.Updates.{AreUpdates, GoesTo, HasUpdate, IsRun, update_cmp, updated_indexes}
 use Rattle.gix_refspec_match.specs.Private.Orders.{same_texts, both_equal}
-use Rattle.gix_refspec_match.proofs.lemmas.keep.RepeatLemmas.{Rises-push, apart_places}
+use Rattle.gix_refspec_match.proofs.lemmas.keep.RepeatLemmas.{apart_places}
 use Rattle.gix_refspec_text.proofs.lemmas.lists.AllLemmas.{all_left, all_right, all_join, all_weaker}
 use Rattle.gix_refspec_text.proofs.lemmas.lists.NumberLemmas.{upto}
 
@@ -168,7 +170,7 @@ updates_more l flags cs new c is goes unflagged made =
           | inr here ↦ HasUpdate-right cs (c ∷ []) k d (inl (sym here, one_index l k c.destination.now d (subst (λ (n : ℕ). GoesTo l n c.destination.now) (sym here) goes) told.1.0))
         ]),
       );
-      rises = subst Rises (sym indexes) (Rises-push (updated_indexes cs) c.index made.rises made.below);
+      rises = subst Rises (sym indexes) (all_pairs_push (λ n m. n < m) (updated_indexes cs) c.index made.rises (All-from_recursion (λ n. n < c.index) (updated_indexes cs) made.below));
       below = subst (λ (ns : List ℕ). AllByRecursion (λ n. n < c.index + 1) ns) (sym indexes) (all_join (λ n. n < c.index + 1) (updated_indexes cs) (c.index ∷ []) (all_weaker (λ n. n < c.index) (λ n. n < c.index + 1) (λ n less. omega arith) (updated_indexes cs) made.below) (omega arith, tt));
     }
   where
@@ -192,6 +194,9 @@ updates_same l flags p cs none made = record {
   rises = made.rises;
   below = all_weaker (λ n. n < p) (λ n. n < p + 1) (λ n less. omega arith) (updated_indexes cs) made.below;
 }
+
+pub all_more : {X : Type 0} (P : X → Type 0) (xs : List X) (i : ℕ) (d : X) → i < length xs → AllByRecursion P (take i xs) → P (get_or xs i d) → AllByRecursion P (take (i + 1) xs)
+all_more {X} P xs i d below all one = subst (λ (ys : List X). AllByRecursion P ys) (sym (take_more xs i d below)) (all_join P (take i xs) (get_or xs i d ∷ []) all (one, tt))
 
 pub differ_from_test : (xs ys : List ℕ) (b : Bool) → b ≡ not (bytes_eq xs ys) → b ≡ true → xs ≢ ys
 differ_from_test xs ys b is told same = false≢true (sym (not-true (bytes_eq xs ys) (sym is ∙ told)) ∙ (bytes_eq-Decides xs ys).1 same)

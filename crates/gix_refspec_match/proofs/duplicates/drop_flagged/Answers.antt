@@ -1,11 +1,9 @@
 -- a mapping that isn't flagged goes to the front
-use Rattle.std.proofs.Common.{ℕ, ◌≡◌, ◌≤◌, ◌<◌, ◌+◌, Vec, Global, length, take, drop, get_or, refl, sym, ◌∙◌, subst, arith}
+use Rattle.std.proofs.Common.{◌≡◌, ◌<◌, length, get_or, refl, sym, ◌∙◌, arith}
 use Rattle.std.proofs.lemmas.Bool.{false≢true}
 use Rattle.std.proofs.lemmas.List.{get_or_default}
-use Rattle.gix_refspec_match.specs.declared.types.Mapping.{Mapping}
-use Rattle.gix_refspec_match.specs.Matching.Lists.{IsMadeFrom}
 use Rattle.gix_refspec_match.specs.Private.Kept.{IsUnflagged}
-use Rattle.gix_refspec_match.proofs.lemmas.keep.RepeatLemmas.{some_mapping}
+use Rattle.gix_refspec_match.proofs.lemmas.duplicates.FlagLemmas.{some_element}
 use Rattle.gix_refspec_match.proofs.lemmas.lists.ListsLemmas.{remains_more, goes_more}
 use Rattle.gix_refspec_match.proofs.duplicates.drop_flagged.Goals as goal
 use Rattle.gix_refspec_match.proofs.duplicates.drop_flagged.Goals.{then-not-is_flagged, else-not-is_flagged}
@@ -18,14 +16,14 @@ loop-place-preserved c =
     let all = c.args.mappings.now.items in
     let place = c.loop-place.place in
     let inside : place < length now = omega arith in
-    let some = some_mapping now place inside in
+    let some = some_element now place inside in
     let m = get_or now place some in
     let here : m ≡ get_or now place m = get_or_default now place some m inside in
-    let stays : Vec Mapping Global → ℕ → Type 0 = λ v n. (n ≤ place + 1) × (length v.items ≡ length all) × (drop (place + 1) v.items ≡ drop (place + 1) all) × IsMadeFrom R 0 (take (place + 1) all) (take n v.items) in
     elim c.if-not-is_flagged.branch [
-      | then-not-is_flagged w ↦ subst (λ (v : Vec Mapping Global). stays v c.if-not-is_flagged.kept) (sym w.mappings-is) (subst (λ (n : ℕ). stays w.swap.new.self n) (sym w.kept-is)
-          (remains_more R all now w.swap.new.self.items c.loop-place.kept place m inside kept.0 kept.1 kept.2 kept.3 here w.swap.ensures.by_index (refl, λ flagged. false≢true (sym w.if-not-is_flagged.true ∙ c.is_flagged.ensures.1 flagged))))
-      | else-not-is_flagged w ↦ subst (λ (v : Vec Mapping Global). stays v c.if-not-is_flagged.kept) (sym w.mappings-is) (subst (λ (n : ℕ). stays c.loop-place.mappings n) (sym w.kept-is)
+      | then-not-is_flagged w ↦ rw (w.mappings-is, w.kept-is)
+          (remains_more R all now w.swap.new.self.items c.loop-place.kept place m inside kept.0 kept.1 kept.2 kept.3
+          here w.swap.ensures.by_index (refl, λ flagged. false≢true (sym w.if-not-is_flagged.true ∙ c.is_flagged.ensures.1 flagged)))
+      | else-not-is_flagged w ↦ rw (w.mappings-is, w.kept-is)
           (goes_more R all now c.loop-place.kept place m inside kept.0 kept.1 kept.2 kept.3 here
-          (λ y is. is.1 (c.is_flagged.ensures.0 w.if-not-is_flagged.false))))
+          (λ y is. is.1 (c.is_flagged.ensures.0 w.if-not-is_flagged.false)))
     ]

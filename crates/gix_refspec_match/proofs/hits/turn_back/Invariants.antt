@@ -1,10 +1,7 @@
 -- the hits so far have their indexes among all, and those to come are as they were
-use Rattle.std.proofs.Common.{◌≡◌, length, map, take, drop}
+use Rattle.std.proofs.Common.{◌≡◌, ◌++◌, map, take, drop}
 use Rattle.gix_refspec_match.specs.Private.Hits.{turned}
 use Rattle.gix_refspec_match.proofs.hits.turn_back.Given as goal
 
 abbrev pub invariant-loop-hit : goal.invariant-loop-hit
-invariant-loop-hit l =
-    (length l.hits ≡ length l.initial.hits)
-    × (drop l.hit-index l.hits ≡ drop l.hit-index l.initial.hits)
-    × (take l.hit-index l.hits ≡ map (turned l.indexes) (take l.hit-index l.initial.hits))
+invariant-loop-hit l = l.hits ≡ map (turned l.indexes) (take l.hit-index l.initial.hits) ++ drop l.hit-index l.initial.hits

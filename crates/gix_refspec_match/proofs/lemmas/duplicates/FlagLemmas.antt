@@ -1,12 +1,11 @@
--- Elements that were read.
-use Rattle.std.proofs.Common.{◌≡◌, ℕ, ◌<◌, List, [], ◌∷◌, length, get_or, refl, sym, ◌∙◌, false, Result, Ok, Err, arith}
+-- The flags of duplicates, as far as a list in order was gone through.
+use Rattle.std.proofs.Common.{◌≡◌, ◌⊎◌, inr, ◌↔◌, ℕ, ◌+◌, ◌<◌, ◌≤◌, List, [], ◌∷◌, length, refl, Bool, true, false, Result, Ok, Err, arith}
 use Rattle.std.specs.Prelude.{IfOk}
 use Rattle.std.specs.declared.cmp.Ordering.{Ordering}
 use Rattle.std.specs.declared.cmp.Ordering.TheVariants.{Less, Equal, Greater}
-use Rattle.std.specs.Ordering.{is_ne}
-use Rattle.std.proofs.lemmas.List.Elements.{pair_read}
-use Rattle.std.proofs.lemmas.Bool.{false≢true}
-use Rattle.gix_refspec_match.specs.Private.Duplicates.{AreEqualAt}
+use Rattle.std.specs.Ordering.{is_eq, is_ne}
+use Rattle.gix_refspec_match.specs.Private.Duplicates.{FlagsDuplicates, IsDuplicate, IsSecond}
+use Rattle.gix_refspec_match.specs.Private.Kept.{IsFlagged}
 
 -- an element, where there is one
 pub some_element : {T : Type 0} (xs : List T) (k : ℕ) → k < length xs → T
@@ -18,11 +17,40 @@ pub ok_weaker : {T E : Type 0} (r : Result T E) (P Q : T → Type 0) → ((x : T
 ok_weaker (Ok x) P Q make p = make x p
 ok_weaker (Err e) P Q make p = p
 
--- two elements that were read, and didn't compare as different
-pub equal_told : {T : Type 0} (order : T → T → Ordering) (xs : List T) (j k : ℕ) (x y : T) (r : Ordering) → j < length xs → k < length xs → x ≡ get_or xs j x → y ≡ get_or xs k y → r ≡ order x y → is_ne r ≡ false → AreEqualAt order xs j k
-equal_told {T} order xs j k x y r first second is_x is_y is told = pair_read xs (λ (a : T) (b : T). order a b ≡ Equal) j k x y first second is_x is_y (sym is ∙ equal r told)
-  where
-    equal : (o : Ordering) → is_ne o ≡ false → o ≡ Equal
-    equal Less told = absurd (false≢true (sym told))
-    equal Equal told = refl
-    equal Greater told = absurd (false≢true (sym told))
+-- what the tests of an ordering say
+pub equal_told : (o : Ordering) → (is_eq o ≡ true) ⊎ (is_ne o ≡ false) → o ≡ Equal
+equal_told Less told = grind arith
+equal_told Equal told = refl
+equal_told Greater told = grind arith
+
+-- duplicates are flagged, and of these all that are second at a place below at
+pub record AreFlagged {T X : Type 0} (order : T → T → Ordering) (xs : List T) (E : X → X → Type 0) (index : X → ℕ)
+    (ys : List X) (flags : List Bool) (at : ℕ) : Type 0 where
+  pub fits : (flags ≡ []) ⊎ (length flags ≡ length xs)
+  pub only : (k : ℕ) → IsFlagged flags k → IsDuplicate order xs k
+  pub found : (i : ℕ) → i < at → (k : ℕ) → IsSecond E index ys i k → IsFlagged flags k
+
+module _ {T X : Type 0} {order : T → T → Ordering} {xs : List T} {E : X → X → Type 0} {index : X → ℕ} {ys : List X}
+    {flags : List Bool} {at : ℕ} (are : AreFlagged order xs E index ys flags at) where
+  pub flags_same : ((k : ℕ) → ¬ (IsSecond E index ys at k)) → AreFlagged order xs E index ys flags (at + 1)
+  flags_same none = record {
+    fits = are.fits;
+    only = are.only;
+    found = λ i below k second. grind (arith, are.found i, none k);
+  }
+
+  pub flags_raised : (new : List Bool) (i : ℕ) → length new ≡ length xs
+      → ((k : ℕ) → IsFlagged new k ↔ (IsFlagged flags k ⊎ (i ≡ k))) → IsDuplicate order xs i
+      → ((k : ℕ) → IsSecond E index ys at k → i ≡ k) → AreFlagged order xs E index ys new (at + 1)
+  flags_raised new i fits raised duplicate here = record {
+    fits = inr fits;
+    only = λ k now. grind (arith, raised k, are.only k, duplicate);
+    found = λ i below k second. grind (arith, raised k, are.found i, here k);
+  }
+
+  pub flags_all : length ys ≤ at → ((k : ℕ) → IsDuplicate order xs k → (i : ℕ) × IsSecond E index ys i k)
+      → FlagsDuplicates order xs flags
+  flags_all past finds k = (
+    are.only k,
+    λ duplicate. let (i, second) = finds k duplicate in are.found i (omega (arith, second.inside)) k second,
+  )

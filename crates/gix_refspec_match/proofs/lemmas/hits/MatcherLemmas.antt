@@ -1,89 +1,124 @@
--- The matchers and the objects of specs, spec by spec.
-use Rattle.std.proofs.Common.{◌≡◌, ◌≢◌, inl, inr, ℕ, ◌+◌, ◌<◌, List, [], ◌∷◌, ◌++◌, Option, None, Some, IsSome, Bool, map, take, get_or, length, refl, sym, subst}
-use Rattle.std.proofs.lemmas.List.{append-nil}
+-- The matchers and the objects of specs, spec by spec, and what duplicates among specs say of them.
+use Rattle.std.proofs.Common.{◌↔◌, ◌∙◌, IsTrue, false, true, ◌≡◌, ◌≢◌, inl, inr, sym, append-nil, Bool, ◌∷◌, [], ℕ, ◌+◌, ◌<◌, List, ◌++◌, Option, None, Some, map, take, get_or, length, refl, ◌≤◌, rules, arith}
+use Rattle.std.proofs.lemmas.Bool.{false≢true}
+use Rattle.std.proofs.lemmas.List.{get_or-map, length-map}
+use Rattle.std.specs.Ordering.{bool_cmp, ordering_then}
+use Rattle.std.specs.declared.cmp.Ordering.TheVariants.{Equal}
 use Rattle.gix_refspec_match.specs.declared.matcher.Candidates.{Candidates}
 use Rattle.gix_refspec_match.specs.declared.matcher.Candidates.TheVariants.{First, All}
-use Rattle.gix_refspec_match.specs.declared.matcher.Matcher.{Matcher}
-use Rattle.gix_refspec_match.specs.declared.matcher.ObjectSpec.{ObjectSpec}
 use Rattle.gix_refspec_match.specs.declared.matcher.Sides.{Sides}
 use Rattle.gix_refspec_text.specs.declared.oid.ObjectId.{ObjectId}
 use Rattle.gix_refspec_text.specs.declared.side.SideKind.{SideKind as DeclaredKind}
 use Rattle.gix_refspec_text.specs.declared.side.SideKind.TheVariants.{Object}
 use Rattle.gix_refspec_text.specs.declared.spec.RefSpecRef.{RefSpecRef}
-use Rattle.gix_refspec_text.specs.Specs.Reading.{Reading}
+use Rattle.gix_refspec_text.specs.Texts.ObjectId.{id_bytes}
+use Rattle.gix_refspec_text.specs.Specs.Reading.{Reading, Mode, Negative}
 use Rattle.gix_refspec_text.specs.Matching.Side.{object, HasKind}
 use Rattle.gix_refspec_text.specs.Views.Spec.{reading_of}
 use Rattle.gix_refspec_text.specs.Private.SideViews.{kind_of_side}
 use Rattle.gix_refspec_match.specs.Matching.Lists.{IsJoinedFrom}
-use Rattle.gix_refspec_match.specs.Matching.Hits.{Ends}
+use Rattle.gix_refspec_match.specs.Matching.Hits.{Ends, AreForwardEnds, AreBackwardEnds}
 use Rattle.gix_refspec_match.specs.Private.Kept.{IsFlagged}
-use Rattle.gix_refspec_match.specs.Private.Matchers.{AreMatcherOf, AreObjectOf, HasEnds, HaveSides, HasNoSides}
+use Rattle.gix_refspec_match.specs.Private.Matchers.{AreMatcherOf, AreObjectOf, HaveSides, HasNoSides}
 use Rattle.gix_refspec_match.specs.Private.Needles.{HasSideKind}
-use Rattle.gix_refspec_match.proofs.lemmas.hits.HitLemmas.{backward_near, forward_near, no_forward_ends, one_kind, only_object, same_side, side_shown}
+use Rattle.gix_refspec_match.proofs.lemmas.hits.HitLemmas.{one_kind}
 use Rattle.gix_refspec_match.proofs.lemmas.lists.JoinLemmas.{joined_next, map_long}
 use Rattle.gix_refspec_text.proofs.lemmas.lists.MapLemmas.{map_next}
+use Rattle.gix_refspec_text.specs.Specs.Grammar.{IsPositive}
+use Rattle.gix_refspec_match.specs.Private.Duplicates.{FlagsDuplicates}
+use Rattle.gix_refspec_match.specs.Private.EqualSpecs.{FlagsEqual, HaveSameSides, excludes, side_order, sides_order}
+use Rattle.gix_refspec_match.specs.Private.Orders.{both_equal, same_options}
 
-some_there : (side : Option (List ℕ)) (x : List ℕ) → side ≡ Some x → IsSome side
-some_there side x is = subst IsSome (sym is) refl
+-- ---- a spec without sides
 
-no_ends : (which : Candidates) (r : Reading) → HasNoSides r → (ends : Ends) → ¬ (HasEnds which r ends)
-no_ends First r none ends has = none has.positive (some_there r.source ends.near has.near)
-no_ends All r none ends has = none has.positive (subst IsSome (sym has.far) has.both)
-
--- ---- one spec
-
--- without sides
 pub no_matcher : (which : Candidates) (flags : List Bool) (k : ℕ) (r : Reading) → HasNoSides r → AreMatcherOf which flags k r []
-no_matcher which flags k r none = inr (inr (no_ends which r none), refl)
+no_matcher First flags k r none = inr (inr (λ ends has. none has.positive (rw has.near)), refl)
+no_matcher All flags k r none = inr (inr (λ ends has. none has.positive (rw has.far has.both)), refl)
 
 pub no_object : (k : ℕ) (r : Reading) → HasNoSides r → AreObjectOf k r []
-no_object k r none = inr ((λ bytes asks. none asks.positive (some_there r.source asks.text asks.side)), refl)
+no_object k r none = inr ((λ bytes asks. none asks.positive (rw asks.side)), refl)
 
--- whose source is an id
-pub object_unmatched : (flags : List Bool) (k : ℕ) (r : Reading) (sides : Sides) (id : ObjectId) → HaveSides r sides → sides.source ≡ Object id → AreMatcherOf First flags k r []
-object_unmatched flags k r sides id have is = inr (inr (λ ends has. no_forward_ends r ends id (subst (λ (s : DeclaredKind). HasSideKind r.source (Some s)) is have.source) has), refl)
+-- ---- a spec with sides
 
-pub object_here : (k : ℕ) (r : Reading) (sides : Sides) (id : ObjectId) → HaveSides r sides → sides.source ≡ Object id → AreObjectOf k r ((record { spec_index = k; id = id; destination = sides.destination }) ∷ [])
-object_here k r sides id have is =
-    let side = side_shown r.source (Object id) (subst (λ (s : DeclaredKind). HasSideKind r.source (Some s)) is have.source) in
-    let o : ObjectSpec = record { spec_index = k; id = id; destination = sides.destination } in
-    inl (o, record { asks = record { positive = have.positive; text = side.0; side = side.1; kind = side.2 }; destination = have.destination; spec = refl }, refl)
+-- a side that has a kind is there
+side_shown : (side : Option (List ℕ)) (k : DeclaredKind) → HasSideKind side (Some k) → (text : List ℕ) × (side ≡ Some text) × HasKind text (kind_of_side k)
+side_shown None k kind = absurd kind
+side_shown (Some text) k kind = (text, refl, kind)
 
--- whose source is none
-pub no_id_object : (k : ℕ) (r : Reading) (sides : Sides) → HaveSides r sides → ((id : ObjectId) → sides.source ≢ Object id) → AreObjectOf k r []
-no_id_object k r sides have other =
-    let side = side_shown r.source sides.source have.source in
-    inr ((λ bytes asks. only_object sides.source bytes other (one_kind side.0 (kind_of_side sides.source) (object bytes) side.2 (subst (λ (x : List ℕ). HasKind x (object bytes)) (same_side r.source asks.text side.0 asks.side side.1) asks.kind))), refl)
+-- a side of another kind isn't an id
+not_id : (x : List ℕ) (k : DeclaredKind) → ((id : ObjectId) → k ≢ Object id) → HasKind x (kind_of_side k) → (bytes : List ℕ) → ¬ (HasKind x (object bytes))
+not_id x (Object id) other kind bytes is = other id refl
+not_id x k other kind bytes is = cc (one_kind x (kind_of_side k) (object bytes) kind is)
 
-pub forward_matcher : (flags : List Bool) (k : ℕ) (r : Reading) (sides : Sides) → HaveSides r sides → ((id : ObjectId) → sides.source ≢ Object id) → ¬ (IsFlagged flags k) → AreMatcherOf First flags k r ((record { spec_index = k; needle = sides.source; other = sides.destination }) ∷ [])
-forward_matcher flags k r sides have other unflagged =
-    let (ends, are, kind) = forward_near r sides.source have.positive have.source other in
-    let m : Matcher = record { spec_index = k; needle = sides.source; other = sides.destination } in
-    inl (m, record { unflagged = unflagged; ends = ends; has = are; kinds = record { near = kind; far = subst (λ (x : Option (List ℕ)). HasSideKind x sides.destination) are.far have.destination }; spec = refl }, refl)
+module _ (r : Reading) (sides : Sides) (have : HaveSides r sides) where
+  -- a source that is an id asks for that object, and matches nothing from left to right
+  pub object_here : (k : ℕ) (id : ObjectId) → sides.source ≡ Object id → AreObjectOf k r ((record { spec_index = k; id = id; destination = sides.destination }) ∷ [])
+  object_here k id is =
+      let (text, side, kind) = side_shown r.source (Object id) (rw is at have.source) in
+      inl (_, record { asks = record { positive = have.positive; text = text; side = side; kind = kind }; destination = have.destination; spec = refl }, refl)
 
-pub flagged_matcher : (which : Candidates) (flags : List Bool) (k : ℕ) (r : Reading) (sides : Sides) → HaveSides r sides → IsFlagged flags k → AreMatcherOf which flags k r []
-flagged_matcher which flags k r sides have flagged = inr (inl (flagged, have.positive), refl)
+  pub object_unmatched : (flags : List Bool) (k : ℕ) (id : ObjectId) → sides.source ≡ Object id → AreMatcherOf First flags k r []
+  object_unmatched flags k id is = inr (inr (λ ends are. are.no_object (id_bytes id) (rw (are.near, is) at have.source)), refl)
 
--- whose destination is matched
-some_source : (r : Reading) (sides : Sides) → HaveSides r sides → IsSome r.source
-some_source r sides have = let side = side_shown r.source sides.source have.source in some_there r.source side.0 side.1
+  -- another one asks for none, and matches
+  pub no_id_object : (k : ℕ) → ((id : ObjectId) → sides.source ≢ Object id) → AreObjectOf k r []
+  no_id_object k other = inr ((λ bytes asks. not_id asks.text sides.source other (rw asks.side at have.source) bytes asks.kind), refl)
 
-pub backward_unmatched : (flags : List Bool) (k : ℕ) (r : Reading) (sides : Sides) → HaveSides r sides → sides.destination ≡ None → AreMatcherOf All flags k r []
-backward_unmatched flags k r sides have is = inr (inr (backward_near r None have.positive (some_source r sides have) (subst (HasSideKind r.destination) is have.destination)), refl)
+  pub forward_matcher : (flags : List Bool) (k : ℕ) (b : Bool) → ((id : ObjectId) → sides.source ≢ Object id) → IsTrue b ↔ IsFlagged flags k → b ≡ false
+      → AreMatcherOf First flags k r ((record { spec_index = k; needle = sides.source; other = sides.destination }) ∷ [])
+  forward_matcher flags k b other told is =
+      let (text, side, kind) = side_shown r.source sides.source have.source in
+      let ends : Ends = record { near = text; far = r.destination } in
+      let has : AreForwardEnds r ends = record { positive = have.positive; near = side; far = refl; no_object = not_id text sides.source other kind } in
+      inl (_, record { unflagged = λ flagged. false≢true (sym is ∙ told.1 flagged); ends = ends; has = has; kinds = record { near = kind; far = have.destination }; spec = refl }, refl)
 
-pub backward_matcher : (flags : List Bool) (k : ℕ) (r : Reading) (sides : Sides) (needle : DeclaredKind) → HaveSides r sides → sides.destination ≡ Some needle → ¬ (IsFlagged flags k) → AreMatcherOf All flags k r ((record { spec_index = k; needle = needle; other = Some sides.source }) ∷ [])
-backward_matcher flags k r sides needle have is unflagged =
-    let (ends, are, kind) = backward_near r (Some needle) have.positive (some_source r sides have) (subst (HasSideKind r.destination) is have.destination) in
-    let m : Matcher = record { spec_index = k; needle = needle; other = Some sides.source } in
-    inl (m, record { unflagged = unflagged; ends = ends; has = are; kinds = record { near = kind; far = subst (λ (x : Option (List ℕ)). HasSideKind x (Some sides.source)) are.far have.source }; spec = refl }, refl)
+  -- from right to left a destination matches
+  pub backward_unmatched : (flags : List Bool) (k : ℕ) → sides.destination ≡ None → AreMatcherOf All flags k r []
+  backward_unmatched flags k is = inr (inr (λ ends are. rw (are.near, is) at have.destination), refl)
+
+  pub backward_matcher : (flags : List Bool) (k : ℕ) (b : Bool) (needle : DeclaredKind) → sides.destination ≡ Some needle → IsTrue b ↔ IsFlagged flags k → b ≡ false
+      → AreMatcherOf All flags k r ((record { spec_index = k; needle = needle; other = Some sides.source }) ∷ [])
+  backward_matcher flags k b needle there told is =
+      let (text, side, kind) = side_shown r.destination needle (rw there at have.destination) in
+      let (_, source, _) = side_shown r.source sides.source have.source in
+      let ends : Ends = record { near = text; far = r.source } in
+      let has : AreBackwardEnds r ends = record { positive = have.positive; near = side; far = refl; both = rw source } in
+      inl (_, record { unflagged = λ flagged. false≢true (sym is ∙ told.1 flagged); ends = ends; has = has; kinds = record { near = kind; far = have.source }; spec = refl }, refl)
+
+  pub flagged_matcher : (which : Candidates) (flags : List Bool) (k : ℕ) (b : Bool) → IsTrue b ↔ IsFlagged flags k → b ≡ true → AreMatcherOf which flags k r []
+  flagged_matcher which flags k b told is = inr (inl (told.0 is, have.positive), refl)
 
 -- ---- one more spec
 
-pub spec_joined : {Y : Type 0} (R : ℕ → Reading → List Y → Type 0) (specs : List RefSpecRef) (i : ℕ) (s : RefSpecRef) (old new made : List Y) → i < length specs → s ≡ get_or specs i s → new ≡ old ++ made → R i (reading_of s) made → IsJoinedFrom R 0 (map reading_of (take i specs)) old → IsJoinedFrom R 0 (map reading_of (take (i + 1) specs)) new
-spec_joined {Y} R specs i s old new made below is more here so_far =
-    subst (IsJoinedFrom R 0 (map reading_of (take (i + 1) specs))) (sym more)
-    (subst (λ (rs : List Reading). IsJoinedFrom R 0 rs (old ++ made)) (sym (map_next reading_of specs i s below is))
-    (joined_next R i (map reading_of (take i specs)) (reading_of s) old made (map_long reading_of specs i below) so_far here))
+module _ {Y : Type 0} (R : ℕ → Reading → List Y → Type 0) (specs : List RefSpecRef) (i : ℕ) (s : RefSpecRef) (old : List Y) (below : i < length specs)
+    (is : s ≡ get_or specs i s) (so_far : IsJoinedFrom R 0 (map reading_of (take i specs)) old) where
+  pub spec_joined : (new made : List Y) → new ≡ old ++ made → R i (reading_of s) made → IsJoinedFrom R 0 (map reading_of (take (i + 1) specs)) new
+  spec_joined new made more here = rw (more, map_next reading_of specs i s below is) (joined_next R i _ (reading_of s) old made (map_long reading_of specs i below) so_far here)
 
-pub nothing_joined_to : {Y : Type 0} (R : ℕ → Reading → List Y → Type 0) (specs : List RefSpecRef) (i : ℕ) (s : RefSpecRef) (old : List Y) → i < length specs → s ≡ get_or specs i s → R i (reading_of s) [] → IsJoinedFrom R 0 (map reading_of (take i specs)) old → IsJoinedFrom R 0 (map reading_of (take (i + 1) specs)) old
-nothing_joined_to R specs i s old below is here so_far = spec_joined R specs i s old old [] below is (sym (append-nil old)) here so_far
+  pub spec_skipped : R i (reading_of s) [] → IsJoinedFrom R 0 (map reading_of (take (i + 1) specs)) old
+  spec_skipped here = spec_joined old [] (sym (append-nil old)) here
+
+-- ---- duplicates among specs
+
+-- of two modes that are equally negative both are positive, or none is
+positive_alike : (m n : Mode) → bool_cmp (excludes m) (excludes n) ≡ Equal → IsPositive n → IsPositive m
+positive_alike Negative Negative same is = is
+positive_alike m n same is = search rules
+
+same_sides : (r s : Reading) → sides_order r s ≡ Equal → IsPositive s.mode → HaveSameSides r s
+same_sides r s is positive =
+    let both = both_equal (ordering_then (side_order r.source s.source) (side_order r.destination s.destination)) _ is in
+    let sides = both_equal (side_order r.source s.source) _ both.0 in
+    search (rules, positive_alike, same_options, both.1, sides.0, sides.1)
+
+-- duplicates are specs with the sides of an earlier one
+pub equal_from_duplicates : (specs : List RefSpecRef) (flags : List Bool) → FlagsDuplicates (λ (x : RefSpecRef) (y : RefSpecRef). sides_order (reading_of x) (reading_of y)) specs flags → FlagsEqual (map reading_of specs) flags
+equal_from_duplicates [] flags all index flagged positive = let (below, _) = (all index).0 flagged in absurd (omega (arith, below))
+equal_from_duplicates (s ∷ rest) flags all index flagged positive =
+    let specs = s ∷ rest in
+    let (below, (j, before, equal)) = (all index).0 flagged in
+    let at : (k : ℕ) (d : Reading) → k ≤ index → get_or (map reading_of specs) k d ≡ reading_of (get_or specs k s) = λ k d early. get_or-map reading_of specs k s d (omega (arith, below, early)) in
+    let same : (d : Reading) → HaveSameSides (get_or (map reading_of specs) j d) (get_or (map reading_of specs) index d) = λ d.
+    let here = at index d (omega arith) in
+    rw (at j d (omega (arith, before)), here) (same_sides (reading_of (get_or specs j s)) (reading_of (get_or specs index s)) (equal s) (rw here at (positive d))) in
+    (j, record { earlier = before; inside = rw length-map below; same = same })

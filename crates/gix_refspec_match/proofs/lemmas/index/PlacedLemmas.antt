@@ -1,10 +1,9 @@
 -- Which items needles take of those that the index lists.
-use Rattle.std.proofs.Common.{◌≡◌, ℕ, zero, suc, ◌+◌, ◌<◌, List, [], ◌∷◌, ◌++◌, map, take, get_or, length, Option, None, Some, option_map, option_to_list, unwrap_or, Bool, true, MatchBool, refl, sym, ap, ◌∙◌, subst, append_assoc, arith}
-use Rattle.std.proofs.lemmas.List.{append-nil, get_or-map, length-take-le, map_more, take_more}
+use Rattle.std.proofs.Common.{◌≡◌, ◌↔◌, ℕ, zero, suc, ◌+◌, ◌<◌, List, [], ◌∷◌, ◌++◌, map, take, drop, get_or, length, Option, None, Some, option_to_list, Bool, true, MatchBool, refl, rules, sym, ap, ◌∙◌, append_assoc, arith}
+use Rattle.std.proofs.lemmas.List.{append-nil, drop_more, get_or-map, length-drop, length-take-le, map_more, take_more}
+use Rattle.std.proofs.lemmas.Bool.{MatchBool-at_true}
 use Rattle.gix_refspec_match.specs.declared.types.Item.{Item}
 use Rattle.gix_refspec_match.specs.Views.Mapping.{ref_of}
-use Rattle.std.specs.Global.{Vec}
-use Rattle.std.specs.List.{AllByRecursion}
 use Rattle.gix_refspec_match.specs.declared.hits.Hit.{Hit as DeclaredHit}
 use Rattle.gix_refspec_match.specs.declared.index.Index.{Index}
 use Rattle.gix_refspec_match.specs.declared.index.Names.{Names}
@@ -17,7 +16,7 @@ use Rattle.gix_refspec_text.specs.Matching.Match.{Ref, MatchesAs}
 use Rattle.gix_refspec_text.specs.Private.SideViews.{kind_of_side}
 use Rattle.gix_refspec_match.specs.Matching.Lists.{MakesOf, IsJoinedFrom, IsMadeFrom}
 use Rattle.gix_refspec_match.specs.Private.Hits.{AddsFound, AreFound, IsFound, hit_at}
-use Rattle.gix_refspec_match.specs.Private.Index.{ArePlacesTaken, IsIndexFor, IsIndexOf, IsListed, HasNamesOf, ListsFor, TakesWhole}
+use Rattle.gix_refspec_match.specs.Private.Index.{IsIndexFor, IsIndexOf, IsListed, HasNamesOf, ListsFor, TakesWhole}
 use Rattle.gix_refspec_match.specs.Private.Needles.{MatchesListed, IsTaken, TakesEach}
 use Rattle.gix_refspec_text.proofs.lemmas.hits.CandidateLemmas.{first_candidate}
 use Rattle.gix_refspec_match.proofs.lemmas.hits.FoundLemmas.{blank}
@@ -25,194 +24,128 @@ use Rattle.gix_refspec_match.proofs.lemmas.lists.JoinLemmas.{joined_next, made_n
 
 -- ---- what is taken without a word
 
--- what matches and is first, where one alone is taken, is taken
-taken_whole : (x : List ℕ) (which : Candidates) (items : List Ref) (r : Ref) → IsTaken which items (partial x) r → TakesWhole (partial x) which items r
-taken_whole x First items r taken = taken.first
-taken_whole x All items r taken = (refl, taken.matched.1.1)
-
-whole_taken : (x : List ℕ) (which : Candidates) (items : List Ref) (r : Ref) → TakesWhole (partial x) which items r → IsTaken which items (partial x) r
-whole_taken x First items r first = record { matched = (None, (refl, first_candidate items x r.name first)); first = first }
-whole_taken x All items r matches = record { matched = (None, matches); first = tt }
-
--- a needle of another kind takes what it matches
-each_taken : (kind : SideKind) (which : Candidates) (items : List Ref) (r : Ref) → TakesEach kind → MatchesListed kind r → IsTaken which items kind r
-each_taken (pattern before after) which items r each is = record { matched = is; first = tt }
-each_taken (full_name x) which items r each is = record { matched = is; first = tt }
-each_taken (object id) which items r each is = record { matched = is; first = tt }
-each_taken (partial x) which items r each is = absurd each
-
--- and it matches what it takes
-taken_matches : (kind : SideKind) (which : Candidates) (items : List Ref) (r : Ref) → IsTaken which items kind r → MatchesListed kind r
-taken_matches (pattern before after) which items r taken = taken.matched
-taken_matches (full_name x) which items r taken = taken.matched
-taken_matches (object id) which items r taken = taken.matched
-taken_matches (partial x) which items r taken = tt
+-- what is taken matches, and a needle that isn't a partial name takes what it matches
+matches_taken : (kind : SideKind) (which : Candidates) (items : List Ref) (r : Ref)
+    → (IsTaken which items kind r → MatchesListed kind r) × (TakesEach kind → MatchesListed kind r → IsTaken which items kind r)
+matches_taken (pattern before after) which items r = search rules
+matches_taken (full_name x) which items r = search rules
+matches_taken (object id) which items r = search rules
+matches_taken (partial x) which items r = search rules
 
 -- ---- what is taken of what is listed
 
--- which refs are listed for a needle of the kind
-abbrev pub IsListedFor : Candidates → List Ref → SideKind → Ref → Type 0
-IsListedFor which items (pattern before after) r = BeginsWith before r.name
-IsListedFor which items (full_name x) r = TakesWhole (full_name x) which items r
-IsListedFor which items (object id) r = ⊥
-IsListedFor which items (partial x) r = TakesWhole (partial x) which items r
-
--- the indexes of those, from index j on
-abbrev pub AreListedFrom : Candidates → List Ref → SideKind → ℕ → List Ref → List ℕ → Type 0
-AreListedFrom which items kind j rest places = IsMadeFrom (λ k r place. IsListedFor which items kind r × (place ≡ k)) j rest places
-
-pub listed_from : (which : Candidates) (items : List Ref) (kind : SideKind) (places : List ℕ) → ListsFor which items kind places → AreListedFrom which items kind 0 items places
-listed_from which items (pattern before after) places lists = lists
-listed_from which items (full_name x) places lists = lists
-listed_from which items (object id) places lists = absurd lists
-listed_from which items (partial x) places lists = lists
-
--- what is taken is listed
-taken_listed : (which : Candidates) (items : List Ref) (kind : SideKind) (places : List ℕ) (r : Ref) → ListsFor which items kind places → IsTaken which items kind r → IsListedFor which items kind r
-taken_listed which items (pattern before after) places r lists taken = begins (taken.matched.0) taken.matched.1
-  where
-    begins : (word : Option (List ℕ)) → MatchesAs (pattern before after) r word → BeginsWith before r.name
-    begins None is = absurd is
-    begins (Some w) is = record { after = w ++ after; here = is }
-taken_listed which items (full_name x) places r lists taken = (refl, taken.matched.1.1)
-taken_listed which items (object id) places r lists taken = absurd lists
-taken_listed which items (partial x) places r lists taken = taken_whole x which items r taken
-
--- and what is listed and matches is taken
-listed_taken : (which : Candidates) (items : List Ref) (kind : SideKind) (r : Ref) → IsListedFor which items kind r → MatchesListed kind r → IsTaken which items kind r
-listed_taken which items (pattern before after) r listed is = record { matched = is; first = tt }
-listed_taken which items (full_name x) r listed is = record { matched = is; first = tt }
-listed_taken which items (object id) r listed is = absurd listed
-listed_taken which items (partial x) r listed is = whole_taken x which items r listed
+begins_as : (before after : List ℕ) (r : Ref) (word : Option (List ℕ)) → MatchesAs (pattern before after) r word → BeginsWith before r.name
+begins_as before after r None is = absurd is
+begins_as before after r (Some w) is = record { after = w ++ after; here = is }
 
 -- the item at a place is matched
 abbrev pub IsMatchedAt : List Ref → SideKind → ℕ → ℕ → ℕ → DeclaredHit → Type 0
 IsMatchedAt items kind k i place hit = MatchesListed kind (get_or items place blank) × (hit ≡ hit_at k place)
 
--- the items from index j on are the rest
-abbrev StandAt : List Ref → ℕ → List Ref → Type 0
-StandAt items j rest = (i : ℕ) → i < length rest → get_or items (j + i) blank ≡ get_or rest i blank
+read_cut : (items : List Ref) (j : ℕ) (r : Ref) (rest : List Ref) → r ∷ rest ≡ drop j items → (get_or items j blank ≡ r) × (rest ≡ drop (j + 1) items)
+read_cut items j r rest at =
+    let below : j < length items = omega (arith, length-drop j items, ap length at) in
+    let both : r ∷ rest ≡ get_or items j blank ∷ drop (j + 1) items = at ∙ drop_more items j blank below in
+    (cc, cc)
 
-later : (items : List Ref) (j : ℕ) (r : Ref) (rest : List Ref) → StandAt items j (r ∷ rest) → StandAt items (j + 1) rest
-later items j r rest at i below = let next : j + 1 + i ≡ j + suc i = omega arith in ap (λ (n : ℕ). get_or items n blank) next ∙ at (suc i) (omega arith)
-
--- the hits on the places that are listed are all that are found
-through : (which : Candidates) (items : List Ref) (kind : SideKind) (k : ℕ) → ((r : Ref) → IsTaken which items kind r → IsListedFor which items kind r)
-    → (j : ℕ) (rest : List Ref) (places : List ℕ) (i : ℕ) (hits : List DeclaredHit) → StandAt items j rest → AreListedFrom which items kind j rest places → IsMadeFrom (IsMatchedAt items kind k) i places hits → IsMadeFrom (IsFound which items kind k) j rest hits
-through which items kind k lists j [] places i hits at none over = subst (λ (ps : List ℕ). IsMadeFrom (IsMatchedAt items kind k) i ps hits) none over
-through which items kind k lists j (r ∷ rest) places i hits at (None, others, here, more, same) over = (
+-- where those are taken of which P holds and that match, the hits on the places of which P holds are all that are found
+through : (which : Candidates) (items : List Ref) (kind : SideKind) (k : ℕ) (P : Ref → Type 0)
+    → ((r : Ref) → IsTaken which items kind r ↔ (P r × MatchesListed kind r)) → (j : ℕ) (rest : List Ref) (places : List ℕ) (i : ℕ)
+    (hits : List DeclaredHit) → rest ≡ drop j items → IsMadeFrom (λ n r place. P r × (place ≡ n)) j rest places
+    → IsMadeFrom (IsMatchedAt items kind k) i places hits → IsMadeFrom (IsFound which items kind k) j rest hits
+through which items kind k P each j [] places i hits at none over = rw none at over
+through which items kind k P each j (r ∷ rest) places i hits at (None, others, none, more, same) over = (
   None,
   hits,
-  (λ hit is. here j (lists r is.0, refl)),
-  through which items kind k lists (j + 1) rest others i hits (later items j r rest at) more (subst (λ (ps : List ℕ). IsMadeFrom (IsMatchedAt items kind k) i ps hits) same over),
+  (λ hit is. none j (((each r).0 is.0).0, refl)),
+  through which items kind k P each (j + 1) rest others i hits (read_cut items j r rest at).1 more (rw same at over),
   refl,
 )
-through which items kind k lists j (r ∷ rest) places i hits at (Some place, others, here, more, same) over =
-    let (made, further, makes, behind, all) = subst (λ (ps : List ℕ). IsMadeFrom (IsMatchedAt items kind k) i ps hits) same over in (
-      made,
-      further,
-      of made (subst (λ (p : ℕ). MakesOf (λ (n : ℕ) (q : ℕ) (hit : DeclaredHit). IsMatchedAt items kind k n q hit) i p made) here.1 makes),
-      through which items kind k lists (j + 1) rest others (i + 1) further (later items j r rest at) more behind,
-      all,
-    )
+through which items kind k P each j (r ∷ rest) places i hits at (Some place, others, here, more, same) over =
+    let (made, further, makes, behind, all) : IsMadeFrom (IsMatchedAt items kind k) i (place ∷ others) hits = rw same at over in
+    (made, further, of made makes, through which items kind k P each (j + 1) rest others (i + 1) further (read_cut items j r rest at).1 more behind, all)
   where
-    stands : get_or items j blank ≡ r
-    stands = let first : j ≡ j + 0 = omega arith in ap (λ (n : ℕ). get_or items n blank) first ∙ at 0 (omega arith)
+    stands : get_or items place blank ≡ r
+    stands = ap (λ n. get_or items n blank) here.1 ∙ (read_cut items j r rest at).0
 
-    of : (made : Option DeclaredHit) → MakesOf (λ (n : ℕ) (q : ℕ) (hit : DeclaredHit). IsMatchedAt items kind k n q hit) i j made → MakesOf (IsFound which items kind k) j r made
-    of None none = λ hit is. none hit (subst (MatchesListed kind) (sym stands) (taken_matches kind which items r is.0), is.1)
-    of (Some hit) is = (listed_taken which items kind r here.0 (subst (MatchesListed kind) stands is.0), is.1)
+    of : (made : Option DeclaredHit) → MakesOf (IsMatchedAt items kind k) i place made → MakesOf (IsFound which items kind k) j r made
+    of None none = λ hit is. none hit (rw stands ((each r).0 is.0).1, rw here.1 is.1)
+    of (Some hit) is = ((each r).1 (here.0, rw stands at is.0), rw here.1 at is.1)
 
 pub all_found : (which : Candidates) (items : List Ref) (kind : SideKind) (k : ℕ) (places : List ℕ) (hits : List DeclaredHit) → ListsFor which items kind places → IsMadeFrom (IsMatchedAt items kind k) 0 places hits → IsMadeFrom (IsFound which items kind k) 0 items hits
-all_found which items kind k places hits lists over =
-    through which items kind k (λ r taken. taken_listed which items kind places r lists taken) 0 items places 0 hits
-    (λ i below. let same : 0 + i ≡ i = omega arith in ap (λ (n : ℕ). get_or items n blank) same) (listed_from which items kind places lists) over
+all_found which items (pattern before after) k places hits lists over = through which items _ k (λ r. BeginsWith before r.name)
+    (λ r. search (rules, begins_as before after r)) 0 items places 0 hits refl lists over
+all_found which items (full_name x) k places hits lists over = through which items _ k (TakesWhole (full_name x) which items)
+    (λ r. search rules) 0 items places 0 hits refl lists over
+all_found which items (object id) k places hits lists over = absurd lists
+all_found First items (partial x) k places hits lists over = through First items _ k (TakesWhole (partial x) First items)
+    (λ r. search (rules, first_candidate items x r.name)) 0 items places 0 hits refl lists over
+all_found All items (partial x) k places hits lists over = through All items _ k (TakesWhole (partial x) All items)
+    (λ r. search rules) 0 items places 0 hits refl lists over
 
--- ---- place by place
+-- ---- place by place, and item by item
+
+-- behind the old elements are those that are made of some others
+abbrev Appends : {X Y : Type 0} → (ℕ → X → Y → Type 0) → List X → List Y → List Y → Type 0
+Appends {X} {Y} R xs old now = (made : List Y) × IsMadeFrom R 0 xs made × (now ≡ old ++ made)
+
+append_made : {X Y : Type 0} (R : ℕ → X → Y → Type 0) (i : ℕ) (xs ys : List X) (x : X) (made : Option Y) (old mid new : List Y) → length xs ≡ i
+    → ys ≡ xs ++ x ∷ [] → MakesOf R i x made → new ≡ mid ++ option_to_list made → Appends R xs old mid → Appends R ys old new
+append_made R i xs ys x made old mid new long whole makes more (so_far, are, all) = (
+  so_far ++ option_to_list made,
+  rw whole (made_next R i xs x so_far made long are makes),
+  more ∙ ap (λ l. l ++ option_to_list made) all ∙ append_assoc old so_far (option_to_list made),
+)
 
 -- behind the old hits are those on the items at some places
 abbrev pub MatchedSoFar : List Ref → SideKind → ℕ → List ℕ → List DeclaredHit → List DeclaredHit → Type 0
-MatchedSoFar items kind k places old now = (made : List DeclaredHit) × IsMadeFrom (IsMatchedAt items kind k) 0 places made × (now ≡ old ++ made)
+MatchedSoFar items kind k places old now = Appends (IsMatchedAt items kind k) places old now
 
 pub place_hit : (xs : List Item) (kind : SideKind) (k : ℕ) (places : List ℕ) (i e : ℕ) (d : Item) (old mid new : List DeclaredHit) → i < length places → get_or places i e < length xs → MatchesListed kind (ref_of (get_or xs (get_or places i e) d)) → new ≡ mid ++ hit_at k (get_or places i e) ∷ [] → MatchedSoFar (map ref_of xs) kind k (take i places) old mid → MatchedSoFar (map ref_of xs) kind k (take (i + 1) places) old new
-place_hit xs kind k places i e d old mid new below inside is more (made, are, all) =
-    let place = get_or places i e in
-    let items = map ref_of xs in
-    let long : length (take i places) ≡ i = length-take-le i places (omega (arith, below)) in
-    let here : IsMatchedAt items kind k i place (hit_at k place) = (subst (MatchesListed kind) (sym (get_or-map ref_of xs place d blank inside)) is, refl) in (
-      made ++ hit_at k place ∷ [],
-      subst (λ (ps : List ℕ). IsMadeFrom (IsMatchedAt items kind k) 0 ps (made ++ hit_at k place ∷ [])) (sym (take_more places i e below)) (made_next (IsMatchedAt items kind k) i (take i places) place made (Some (hit_at k place)) long are here),
-      more ∙ ap (λ (l : List DeclaredHit). l ++ hit_at k place ∷ []) all ∙ append_assoc old made (hit_at k place ∷ []),
-    )
+place_hit xs kind k places i e d old mid new below inside is more so_far =
+    append_made _ i (take i places) _ (get_or places i e) (Some (hit_at k (get_or places i e))) old mid new (length-take-le i places (omega arith))
+    (take_more places i e below) (rw (get_or-map ref_of xs (get_or places i e) d blank inside) is, refl) more so_far
 
 pub place_missed : (xs : List Item) (kind : SideKind) (k : ℕ) (places : List ℕ) (i e : ℕ) (d : Item) (old mid : List DeclaredHit) → i < length places → get_or places i e < length xs → ¬ (MatchesListed kind (ref_of (get_or xs (get_or places i e) d))) → MatchedSoFar (map ref_of xs) kind k (take i places) old mid → MatchedSoFar (map ref_of xs) kind k (take (i + 1) places) old mid
-place_missed xs kind k places i e d old mid below inside none (made, are, all) =
-    let place = get_or places i e in
-    let items = map ref_of xs in
-    let long : length (take i places) ≡ i = length-take-le i places (omega (arith, below)) in
-    let no_match : ¬ (MatchesListed kind (get_or items place blank)) = subst (λ (r : Ref). ¬ (MatchesListed kind r)) (sym (get_or-map ref_of xs place d blank inside)) none in (
-      made,
-      subst (λ (ps : List ℕ). IsMadeFrom (IsMatchedAt items kind k) 0 ps made) (sym (take_more places i e below))
-          (subst (IsMadeFrom (IsMatchedAt items kind k) 0 (take i places ++ place ∷ [])) (append-nil made) (made_next (IsMatchedAt items kind k) i (take i places) place made None long are (λ hit is. no_match is.0))),
-      all,
-    )
-
--- ---- item by item
+place_missed xs kind k places i e d old mid below inside none so_far =
+    append_made _ i (take i places) _ (get_or places i e) None old mid mid (length-take-le i places (omega arith)) (take_more places i e below)
+    (λ hit is. none (rw (get_or-map ref_of xs (get_or places i e) d blank inside) at is.0)) (sym (append-nil mid)) so_far
 
 -- behind the old hits are those on some items
 abbrev pub FoundSoFar : Candidates → List Ref → SideKind → ℕ → List Ref → List DeclaredHit → List DeclaredHit → Type 0
-FoundSoFar which items kind k refs old now = (made : List DeclaredHit) × IsMadeFrom (IsFound which items kind k) 0 refs made × (now ≡ old ++ made)
+FoundSoFar which items kind k refs old now = Appends (IsFound which items kind k) refs old now
 
 pub item_hit : (which : Candidates) (items : List Ref) (xs : List Item) (kind : SideKind) (k i : ℕ) (d : Item) (old mid new : List DeclaredHit) → TakesEach kind → i < length xs → MatchesListed kind (ref_of (get_or xs i d)) → new ≡ mid ++ hit_at k i ∷ [] → FoundSoFar which items kind k (map ref_of (take i xs)) old mid → FoundSoFar which items kind k (map ref_of (take (i + 1) xs)) old new
-item_hit which items xs kind k i d old mid new each below is more (made, are, all) = (
-  made ++ hit_at k i ∷ [],
-  subst (λ (rs : List Ref). IsMadeFrom (IsFound which items kind k) 0 rs (made ++ hit_at k i ∷ [])) (sym (map_more ref_of xs i d below))
-      (made_next (IsFound which items kind k) i (map ref_of (take i xs)) (ref_of (get_or xs i d)) made (Some (hit_at k i)) (map_long ref_of xs i below) are (each_taken kind which items (ref_of (get_or xs i d)) each is, refl)),
-  more ∙ ap (λ (l : List DeclaredHit). l ++ hit_at k i ∷ []) all ∙ append_assoc old made (hit_at k i ∷ []),
-)
+item_hit which items xs kind k i d old mid new each below is more so_far =
+    append_made _ i _ _ _ (Some (hit_at k i)) old mid new (map_long ref_of xs i below) (map_more ref_of xs i d below)
+    ((matches_taken kind which items (ref_of (get_or xs i d))).1 each is, refl) more so_far
 
 pub item_missed : (which : Candidates) (items : List Ref) (xs : List Item) (kind : SideKind) (k i : ℕ) (d : Item) (old mid : List DeclaredHit) → i < length xs → ¬ (MatchesListed kind (ref_of (get_or xs i d))) → FoundSoFar which items kind k (map ref_of (take i xs)) old mid → FoundSoFar which items kind k (map ref_of (take (i + 1) xs)) old mid
-item_missed which items xs kind k i d old mid below none (made, are, all) = (
-  made,
-  subst (λ (rs : List Ref). IsMadeFrom (IsFound which items kind k) 0 rs made) (sym (map_more ref_of xs i d below))
-      (subst (IsMadeFrom (IsFound which items kind k) 0 (map ref_of (take i xs) ++ ref_of (get_or xs i d) ∷ [])) (append-nil made)
-      (made_next (IsFound which items kind k) i (map ref_of (take i xs)) (ref_of (get_or xs i d)) made None (map_long ref_of xs i below) are (λ hit is. none (taken_matches kind which items (ref_of (get_or xs i d)) is.0)))),
-  all,
-)
+item_missed which items xs kind k i d old mid below none so_far =
+    append_made _ i _ _ _ None old mid mid (map_long ref_of xs i below) (map_more ref_of xs i d below)
+    (λ hit is. none ((matches_taken kind which items (ref_of (get_or xs i d))).0 is.0)) (sym (append-nil mid)) so_far
 
 -- the hits of one more matcher
 pub found_next : (which : Candidates) (items : List Ref) (ms : List Matcher) (i : ℕ) (d : Matcher) (P : Type 0) (within : Bool) (old new : List DeclaredHit) → i < length ms → within ≡ true → MatchBool within (AddsFound which items (kind_of_side (get_or ms i d).needle) i old new) P → IsJoinedFrom (AreFound which items) 0 (take i ms) old → IsJoinedFrom (AreFound which items) 0 (take (i + 1) ms) new
 found_next which items ms i d P within old new below is told so_far =
-    let adds = subst (λ (b : Bool). MatchBool b (AddsFound which items (kind_of_side (get_or ms i d).needle) i old new) P) is told in
-    let long : length (take i ms) ≡ i = length-take-le i ms (omega (arith, below)) in
-    subst (IsJoinedFrom (AreFound which items) 0 (take (i + 1) ms)) (sym adds.all)
-    (subst (λ (l : List Matcher). IsJoinedFrom (AreFound which items) 0 l (old ++ adds.made)) (sym (take_more ms i d below))
-    (joined_next (AreFound which items) i (take i ms) (get_or ms i d) old adds.made long so_far adds.are))
+    let adds = MatchBool-at_true _ _ is told in
+    rw (adds.all, take_more ms i d below)
+    (joined_next (AreFound which items) i (take i ms) (get_or ms i d) old adds.made (length-take-le i ms (omega arith)) so_far adds.are)
 
 -- ---- each place is one of an item
 
-places_below : (which : Candidates) (items : List Ref) (kind : SideKind) (j : ℕ) (rest : List Ref) (places : List ℕ) → AreListedFrom which items kind j rest places → AllByRecursion (λ place. place < j + length rest) places
-places_below which items kind j [] places none = subst (λ (ns : List ℕ). AllByRecursion (λ place. place < j + length {A = Ref} []) ns) (sym none) tt
-places_below which items kind j (r ∷ rest) places (made, others, here, more, same) =
-    subst (λ (ns : List ℕ). AllByRecursion (λ place. place < j + length (r ∷ rest)) ns) (sym same) (behind j r rest made others here (places_below which items kind (j + 1) rest others more))
-  where
-    wider : (j : ℕ) (r : Ref) (rest : List Ref) (ns : List ℕ) → AllByRecursion (λ place. place < j + 1 + length rest) ns → AllByRecursion (λ place. place < j + length (r ∷ rest)) ns
-    wider j r rest [] all = tt
-    wider j r rest (n ∷ ns) all = let first : n < j + 1 + length rest = all.0 in (omega (arith, first), wider j r rest ns all.1)
-
-    behind : (j : ℕ) (r : Ref) (rest : List Ref) (made : Option ℕ) (others : List ℕ) → MakesOf (λ (k : ℕ) (s : Ref) (place : ℕ). IsListedFor which items kind s × (place ≡ k)) j r made → AllByRecursion (λ place. place < j + 1 + length rest) others → AllByRecursion (λ place. place < j + length (r ∷ rest)) (option_to_list made ++ others)
-    behind j r rest None others here all = wider j r rest others all
-    behind j r rest (Some place) others here all = let is : place ≡ j = here.1 in (omega (arith, is), wider j r rest others all)
-
-read_below : (bound : ℕ) (places : List ℕ) (i d : ℕ) → AllByRecursion (λ place. place < bound) places → i < length places → get_or places i d < bound
-read_below bound [] i d all below = absurd (omega arith)
-read_below bound (n ∷ ns) zero d all below = all.0
-read_below bound (n ∷ ns) (suc i) d all below = read_below bound ns i d all.1 (omega arith)
+place_below : (P : Ref → Type 0) (j : ℕ) (rest : List Ref) (places : List ℕ) (b i d : ℕ) → j + length rest ≡ b → IsMadeFrom (λ k r place. P r × (place ≡ k)) j rest places → i < length places → get_or places i d < b
+place_below P j [] places b i d end none below = absurd (omega (arith, below, ap length none))
+place_below P j (r ∷ rest) places b i d end (None, others, here, more, same) below = place_below P (j + 1) rest places b i d (omega arith) (rw same more) below
+place_below P j (r ∷ rest) places b zero d end (Some place, others, here, more, same) below = rw (same, here.1) (omega arith)
+place_below P j (r ∷ rest) places b (suc i) d end (Some place, others, here, more, same) below =
+    rw same (place_below P (j + 1) rest others b i d (omega arith) more (omega (arith, below, ap length same)))
 
 pub place_fits : (which : Candidates) (items : List Ref) (kind : SideKind) (places : List ℕ) (i d : ℕ) → ListsFor which items kind places → i < length places → get_or places i d < length items
-place_fits which items kind places i d lists below =
-    let fits : get_or places i d < 0 + length items = read_below (0 + length items) places i d (places_below which items kind 0 items places (listed_from which items kind places lists)) below in
-    omega (arith, fits)
+place_fits which items (pattern before after) places i d lists below = place_below _ 0 items places _ i d (omega arith) lists below
+place_fits which items (full_name x) places i d lists below = place_below _ 0 items places _ i d (omega arith) lists below
+place_fits which items (object id) places i d lists below = absurd lists
+place_fits which items (partial x) places i d lists below = place_below _ 0 items places _ i d (omega arith) lists below
 
 -- ---- the index serves each needle
 
@@ -221,10 +154,6 @@ named_listed which refs names index of_names kind named = record { names = liste
   where
     listed : (kind : SideKind) → HasNamesOf names kind → IsListed which refs index kind
     listed (pattern before after) named = tt
-    listed (full_name x) named =
-        let at = of_names.full.each x named in
-        subst (ArePlacesTaken (full_name x) which refs) (sym (ap (λ (o : Option (Vec ℕ)). unwrap_or (option_map (λ v. v.items) o) []) at.1)) at.2
+    listed (full_name x) named = let at = of_names.full.each x named in rw at.1 at.2
     listed (object id) named = tt
-    listed (partial x) named =
-        let at = of_names.partial x named in
-        subst (ArePlacesTaken (partial x) which refs) (sym (ap (λ (o : Option (Vec ℕ)). unwrap_or (option_map (λ v. v.items) o) []) at.1)) at.2
+    listed (partial x) named = let at = of_names.partial x named in rw at.1 at.2

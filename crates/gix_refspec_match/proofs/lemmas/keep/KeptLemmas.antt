@@ -1,67 +1,53 @@
 -- What is kept of a list of mappings.
-use Rattle.std.proofs.Common.{◌≡◌, inl, inr, ◌↔◌, ℕ, zero, suc, ◌+◌, ◌<◌, ◌≤◌, List, [], ◌∷◌, ◌++◌, Option, None, Some, Bool, true, false, option_map, length, take, drop, get_or, map, refl, sym, ap, ◌∙◌, subst, zero-add, arith}
+use Rattle.std.proofs.Common.{Ordering, ◌≡◌, inl, ◌↔◌, ℕ, ◌+◌, ◌<◌, List, [], ◌∷◌, ◌++◌, Option, None, Some, Bool, option_map, option_to_list, append_assoc, length-append, length, take, get_or, map, refl, ap, ◌∙◌, zero-add, arith}
 use Rattle.std.specs.List.{AllByRecursion}
+use Rattle.std.proofs.Math.Seq.{take-append_seam}
 use Rattle.std.proofs.lemmas.Bool.{false≢true}
-use Rattle.std.proofs.lemmas.List.{drop_more, get_or_default, get_or-map, get_or-take, length-map, length-take-le, take_more}
+use Rattle.std.proofs.lemmas.List.{get_or_default, get_or-map, get_or-take, length-map, length-take-le}
 use Rattle.gix_refspec_match.specs.declared.types.Mapping.{Mapping}
 use Rattle.gix_refspec_match.specs.declared.exclusions.Exclusions.{Exclusions}
 use Rattle.gix_refspec_text.specs.Specs.Reading.{Reading}
 use Rattle.gix_refspec_match.specs.Matching.Lists.{MakesOf, IsMadeFrom}
-use Rattle.gix_refspec_match.specs.Matching.Mappings.{Source, name, id, Mapped, IsSamePair, HasPair, AreApart, IsSourceExcluded, IsKeptAt, IsKept}
+use Rattle.gix_refspec_match.specs.Matching.Mappings.{Source, name, id, Mapped, IsSamePair, HasPair, AreApart, IsSourceExcluded, IsKept}
 use Rattle.gix_refspec_match.specs.Views.Mapping.{mapped_of}
-use Rattle.gix_refspec_match.specs.Private.Kept.{AreExclusionsOf, FlagsRepeats, IsFlagged, IsRepeat, ExcludeStart, IsUnflagged}
+use Rattle.gix_refspec_match.specs.Private.Duplicates.{FlagsDuplicates, IsDuplicate}
+use Rattle.gix_refspec_match.specs.Private.Kept.{AreExclusionsOf, ExcludeStart, IsUnflagged}
+use Rattle.gix_refspec_match.specs.Private.Orders.{equal_pair, pair_order, same_pair}
+use Rattle.gix_refspec_match.proofs.lemmas.lists.SomeLemmas.{Any-left, Any-right, some_at, some_of}
+use Rattle.gix_refspec_match.proofs.lemmas.keep.KeptPairLemmas.{Any-HasPair, HasPair-Any, Keeps}
 use Rattle.gix_refspec_match.proofs.lemmas.lists.ListsLemmas.{made_all, made_map}
+use Rattle.gix_refspec_text.proofs.lemmas.lists.AllLemmas.{all_weaker}
 
 -- a pair that is in a list, by its place
 pub HasPair-from_place : (l : List Mapped) (j : ℕ) (d m : Mapped) → j < length l → IsSamePair (get_or l j d) m → HasPair l m
-HasPair-from_place [] j d m below same = absurd (omega arith)
-HasPair-from_place (x ∷ l) zero d m below same = inl same
-HasPair-from_place (x ∷ l) (suc j) d m below same = inr (HasPair-from_place l j d m (omega arith) same)
-
-pub HasPair-place : (l : List Mapped) (m : Mapped) → HasPair l m → (j : ℕ) × (j < length l) × ((d : Mapped) → IsSamePair (get_or l j d) m)
-HasPair-place [] m has = absurd has
-HasPair-place (x ∷ l) m (inl same) = (0, omega arith, λ d. same)
-HasPair-place (x ∷ l) m (inr has) = let at = HasPair-place l m has in (suc at.0, omega arith, at.2)
+HasPair-from_place l j d m below same = HasPair-Any l m (some_of _ l (j, get_or l j d, below, get_or_default l j _ _ below, same))
 
 pub HasPair-left : (xs ys : List Mapped) (m : Mapped) → HasPair xs m → HasPair (xs ++ ys) m
-HasPair-left [] ys m has = absurd has
-HasPair-left (x ∷ xs) ys m (inl same) = inl same
-HasPair-left (x ∷ xs) ys m (inr has) = inr (HasPair-left xs ys m has)
+HasPair-left xs ys m has = HasPair-Any _ m (Any-left _ xs ys (Any-HasPair xs m has))
 
 pub HasPair-last : (xs : List Mapped) (x m : Mapped) → IsSamePair x m → HasPair (xs ++ x ∷ []) m
-HasPair-last [] x m same = inl same
-HasPair-last (y ∷ xs) x m same = inr (HasPair-last xs x m same)
+HasPair-last xs x m same = HasPair-Any _ m (Any-right _ xs (x ∷ []) (inl same))
 
--- an earlier pair is earlier in a longer front too
-HasPair-take : (l : List Mapped) (n k : ℕ) (m : Mapped) → n ≤ k → HasPair (take n l) m → HasPair (take k l) m
-HasPair-take l zero k m fits has = absurd has
-HasPair-take [] (suc n) k m fits has = absurd has
-HasPair-take (x ∷ l) (suc n) zero m fits has = absurd (omega arith)
-HasPair-take (x ∷ l) (suc n) (suc k) m fits (inl same) = inl same
-HasPair-take (x ∷ l) (suc n) (suc k) m fits (inr has) = inr (HasPair-take l n k m (omega arith) has)
+-- the order of mappings by their pairs
+abbrev pub by_pair : Mapping → Mapping → Ordering
+by_pair m n = pair_order (mapped_of m) (mapped_of n)
 
--- the mapping at a place repeats an earlier one exactly where an earlier one has its pair
-pub repeats_at : (ms : List Mapping) (k : ℕ) (d : Mapping) → k < length ms → IsRepeat ms k ↔ HasPair (take k (map mapped_of ms)) (mapped_of (get_or ms k d))
-repeats_at ms k d below =
-    let size : length (take k (map mapped_of ms)) ≡ k = length-take-le k (map mapped_of ms) (omega (arith, length-map ms mapped_of)) in (
-      (λ repeat.
-          let j = repeat.0 in
-          let before = repeat.1 in
-          let here : get_or (take k (map mapped_of ms)) j (mapped_of d) ≡ mapped_of (get_or ms j d) = get_or-take k (map mapped_of ms) j (mapped_of d) before ∙ get_or-map mapped_of ms j d (mapped_of d) (omega (arith, before)) in
-          HasPair-from_place (take k (map mapped_of ms)) j (mapped_of d) (mapped_of (get_or ms k d)) (omega (arith, size, before)) (subst (λ (x : Mapped). IsSamePair x (mapped_of (get_or ms k d))) (sym here) (repeat.2 d))),
-      (λ has.
-          let at = HasPair-place (take k (map mapped_of ms)) (mapped_of (get_or ms k d)) has in
-          let j = at.0 in
-          let inside = at.1 in
-          let before : j < k = omega (arith, size, inside) in (
-            j,
-            before,
-            λ e.
-                let here : get_or (take k (map mapped_of ms)) j (mapped_of e) ≡ mapped_of (get_or ms j e) = get_or-take k (map mapped_of ms) j (mapped_of e) before ∙ get_or-map mapped_of ms j e (mapped_of e) (omega (arith, before)) in
-                let there : get_or ms k d ≡ get_or ms k e = get_or_default ms k d e below in
-                subst (λ (x : Mapping). IsSamePair (mapped_of (get_or ms j e)) (mapped_of x)) there (subst (λ (x : Mapped). IsSamePair x (mapped_of (get_or ms k d))) here (at.2 (mapped_of e))),
-          )),
-    )
+-- a mapping is a duplicate exactly where an earlier one has its pair
+pub duplicate_at : (ms : List Mapping) (k : ℕ) (d : Mapping) → k < length ms
+    → IsDuplicate by_pair ms k ↔ HasPair (take k (map mapped_of ms)) (mapped_of (get_or ms k d))
+duplicate_at ms k d below = (
+  (λ (_, (j, before, equal)). HasPair-from_place _ j (mapped_of d) _ (omega (arith, size, before)) (rw (at j d _ before) (same_pair _ _ (equal d)))),
+  (λ has.
+      let (j, x, inside, read, same) = some_at _ _ (Any-HasPair _ _ has) in
+      let before : j < k = omega (arith, size, inside) in
+      (below, (j, before, λ e. equal_pair _ _ (simp (← read, at j e x before, get_or_default ms k d e below) at same)))),
+)
+  where
+    size : length (take k (map mapped_of ms)) ≡ k
+    size = length-take-le k (map mapped_of ms) (omega (arith, length-map ms mapped_of))
+
+    at : (j : ℕ) (e : Mapping) (x : Mapped) → j < k → get_or (take k (map mapped_of ms)) j x ≡ mapped_of (get_or ms j e)
+    at j e x before = get_or-take k (map mapped_of ms) j x before ∙ get_or-map mapped_of ms j e x (omega (arith, before))
 
 -- the same starts are excluded
 pub starts_agree : (g : List Reading) (es : Exclusions) (s : Source) → AreExclusionsOf g es → ExcludeStart es s ↔ IsSourceExcluded g s
@@ -72,74 +58,49 @@ none_excluded : (s : Source) → ¬ (IsSourceExcluded [] s)
 none_excluded (name n) taken = taken
 none_excluded (id i) taken = taken
 
--- a mapping isn't flagged exactly where it is kept, and nothing is excluded
-unflagged_stays : (ms : List Mapping) (flags : List Bool) (k : ℕ) (d : Mapping) → FlagsRepeats ms flags → k < length ms → (¬ (IsFlagged flags k)) ↔ IsKeptAt [] (map mapped_of ms) k (mapped_of (get_or ms k d))
-unflagged_stays ms flags k d repeats below =
-    let by = repeats_at ms k d below in
-    let told = repeats k below in (
-      (λ free. record { first = λ has. free (told.1 (by.1 has)); included = none_excluded (mapped_of (get_or ms k d)).source }),
-      (λ stays flagged. stays.first (by.0 (told.0 flagged))),
-    )
-
 -- what isn't flagged is kept, where nothing is excluded
-pub kept_unflagged : (ms rest : List Mapping) (flags : List Bool) → FlagsRepeats ms flags → IsMadeFrom (IsUnflagged flags) 0 ms rest → IsKept [] (map mapped_of ms) (map mapped_of rest)
-kept_unflagged ms rest flags repeats made =
-    made_map mapped_of mapped_of (IsUnflagged flags) (λ k m y. (y ≡ m) × IsKeptAt [] (map mapped_of ms) k m) 0 ms rest (λ i d below x makes. one i d below x (subst (λ (n : ℕ). MakesOf (IsUnflagged flags) n (get_or ms i d) x) (zero-add i) makes)) made
+pub kept_unflagged : (ms rest : List Mapping) (flags : List Bool) → FlagsDuplicates by_pair ms flags → IsMadeFrom (IsUnflagged flags) 0 ms rest → IsKept [] (map mapped_of ms) (map mapped_of rest)
+kept_unflagged ms rest flags flagged made =
+    made_map mapped_of mapped_of (IsUnflagged flags) (Keeps [] (map mapped_of ms)) 0 ms rest
+    (λ i d below x makes. rw (zero-add i) (one i d (duplicate_at ms i d below) x (rw (zero-add i) at makes))) made
   where
-    one : (i : ℕ) (d : Mapping) → i < length ms → (x : Option Mapping) → MakesOf (IsUnflagged flags) i (get_or ms i d) x → MakesOf (λ k m y. (y ≡ m) × IsKeptAt [] (map mapped_of ms) k m) (0 + i) (mapped_of (get_or ms i d)) (option_map mapped_of x)
-    one i d below None none = subst (λ (n : ℕ). (y : Mapped) → ¬ ((y ≡ mapped_of (get_or ms i d)) × IsKeptAt [] (map mapped_of ms) n (mapped_of (get_or ms i d)))) (sym (zero-add i)) (λ y stays. none (get_or ms i d) (refl, (unflagged_stays ms flags i d repeats below).1 stays.1))
-    one i d below (Some y) remains = subst (λ (n : ℕ). (mapped_of y ≡ mapped_of (get_or ms i d)) × IsKeptAt [] (map mapped_of ms) n (mapped_of (get_or ms i d))) (sym (zero-add i)) (
-      ap mapped_of remains.0,
-      (unflagged_stays ms flags i d repeats below).0 remains.1,
-    )
+    one : (i : ℕ) (d : Mapping) → IsDuplicate by_pair ms i ↔ HasPair (take i (map mapped_of ms)) (mapped_of (get_or ms i d)) → (x : Option Mapping)
+        → MakesOf (IsUnflagged flags) i (get_or ms i d) x → MakesOf (Keeps [] (map mapped_of ms)) i (mapped_of (get_or ms i d)) (option_map mapped_of x)
+    one i d by None none = λ y stays. none _ (refl, λ now. stays.1.first (by.0 ((flagged i).0 now)))
+    one i d by (Some y) (same, free) = (ap mapped_of same, record { first = λ has. free ((flagged i).1 (by.1 has)); included = none_excluded _ })
 
 -- without flags all are kept
 pub all_unflagged : (ms : List Mapping) (flags : List Bool) → flags ≡ [] → IsMadeFrom (IsUnflagged flags) 0 ms ms
-all_unflagged ms flags none = made_all (IsUnflagged flags) (λ k m. (refl, λ flagged. false≢true (subst (λ (l : List Bool). get_or l k false ≡ true) none flagged))) 0 ms
+all_unflagged ms flags none = made_all (IsUnflagged flags) (λ k m. (refl, λ flagged. false≢true (rw none at flagged))) 0 ms
 
 -- none of the mappings has a source that the group excludes
 abbrev pub AreIncluded : List Reading → List Mapped → Type 0
 AreIncluded g l = AllByRecursion (λ m. ¬ (IsSourceExcluded g m.source)) l
 
 -- so the same ones are kept where nothing is excluded
-pub kept_included : (g : List Reading) (l : List Mapped) (k : ℕ) (xs kept : List Mapped) → AreIncluded g xs → IsMadeFrom (λ j m made. (made ≡ m) × IsKeptAt [] l j m) k xs kept → IsMadeFrom (λ j m made. (made ≡ m) × IsKeptAt g l j m) k xs kept
+pub kept_included : (g : List Reading) (l : List Mapped) (k : ℕ) (xs kept : List Mapped) → AreIncluded g xs
+    → IsMadeFrom (Keeps [] l) k xs kept → IsMadeFrom (Keeps g l) k xs kept
 kept_included g l k [] kept free none = none
 kept_included g l k (x ∷ xs) kept free (None, rest, none, more, is) =
     (None, rest, (λ y keeps. none y (keeps.0, record { first = keeps.1.first; included = none_excluded x.source })), kept_included g l (k + 1) xs rest free.1 more, is)
 kept_included g l k (x ∷ xs) kept free (Some y, rest, keeps, more, is) =
     (Some y, rest, (keeps.0, record { first = keeps.1.first; included = free.0 }), kept_included g l (k + 1) xs rest free.1 more, is)
 
--- what is kept from a place on has no pair from before it
-later_apart : (g : List Reading) (l : List Mapped) (n k : ℕ) (xs ys : List Mapped) → n ≤ k → IsMadeFrom (λ j m made. (made ≡ m) × IsKeptAt g l j m) k xs ys → AllByRecursion (λ y. ¬ (HasPair (take n l) y)) ys
-later_apart g l n k [] ys fits empty = subst (λ (zs : List Mapped). AllByRecursion (λ y. ¬ (HasPair (take n l) y)) zs) (sym empty) tt
-later_apart g l n k (x ∷ xs) ys fits (None, rest, none, more, is) = subst (λ (zs : List Mapped). AllByRecursion (λ y. ¬ (HasPair (take n l) y)) zs) (sym is) (later_apart g l n (k + 1) xs rest (omega arith) more)
-later_apart g l n k (x ∷ xs) ys fits (Some y, rest, stays, more, is) = subst (λ (zs : List Mapped). AllByRecursion (λ z. ¬ (HasPair (take n l) z)) zs) (sym is) (
-  λ has. stays.1.first (subst (λ (z : Mapped). HasPair (take k l) z) stays.0 (HasPair-take l n k y fits has)),
-  later_apart g l n (k + 1) xs rest (omega arith) more,
-)
-
--- no two mappings that are kept have the same pair
-apart_from : (g : List Reading) (l : List Mapped) (k : ℕ) (xs ys : List Mapped) → drop k l ≡ xs → k + length xs ≡ length l → IsMadeFrom (λ j m made. (made ≡ m) × IsKeptAt g l j m) k xs ys → AreApart ys
-apart_from g l k [] ys rest size empty = subst AreApart (sym empty) tt
-apart_from g l k (x ∷ xs) ys rest size (None, ys2, none, more, is) =
-    let split : drop k l ≡ get_or l k x ∷ drop (k + 1) l = drop_more l k x (omega arith) in
-    let both : get_or l k x ∷ drop (k + 1) l ≡ x ∷ xs = sym split ∙ rest in
-    let tail : drop (k + 1) l ≡ xs = cc in
-    subst AreApart (sym is) (apart_from g l (k + 1) xs ys2 tail (omega arith) more)
-apart_from g l k (x ∷ xs) ys rest size (Some y, ys2, stays, more, is) =
-    let split : drop k l ≡ get_or l k x ∷ drop (k + 1) l = drop_more l k x (omega arith) in
-    let both : get_or l k x ∷ drop (k + 1) l ≡ x ∷ xs = sym split ∙ rest in
-    let tail : drop (k + 1) l ≡ xs = cc in
-    let head : get_or l k x ≡ x = cc in
-    let front : take (k + 1) l ≡ take k l ++ y ∷ [] = take_more l k x (omega arith) ∙ ap (λ (z : Mapped). take k l ++ z ∷ []) (head ∙ sym stays.0) in
-    subst AreApart (sym is) (
-      others (take k l) y ys2 (subst (λ (zs : List Mapped). AllByRecursion (λ z. ¬ (HasPair zs z)) ys2) front (later_apart g l (k + 1) (k + 1) xs ys2 (omega arith) more)),
-      apart_from g l (k + 1) xs ys2 tail (omega arith) more,
-    )
+-- what is kept has no pair from before it, and no pair twice
+apart_from : (g : List Reading) (l before xs ys : List Mapped) (k : ℕ) → before ++ xs ≡ l → length before ≡ k
+    → IsMadeFrom (Keeps g l) k xs ys → AllByRecursion (λ y. ¬ (HasPair before y)) ys × AreApart ys
+apart_from g l before [] ys k whole place none = rw none (tt, tt)
+apart_from g l before (x ∷ xs) ys k whole place (made, rest, makes, more, is) =
+    let next : length (before ++ x ∷ []) ≡ k + 1 = omega (arith, length-append before (x ∷ []), place) in
+    rw is (both made makes (apart_from g l (before ++ x ∷ []) xs rest (k + 1) (append_assoc before (x ∷ []) xs ∙ whole) next more))
   where
-    others : (xs : List Mapped) (y : Mapped) (zs : List Mapped) → AllByRecursion (λ z. ¬ (HasPair (xs ++ y ∷ []) z)) zs → AllByRecursion (λ z. ¬ (IsSamePair y z)) zs
-    others xs y [] all = tt
-    others xs y (z ∷ zs) all = ((λ same. all.0 (HasPair-last xs y z same)), others xs y zs all.1)
+    both : (o : Option Mapped) → MakesOf (Keeps g l) k x o → AllByRecursion (λ y. ¬ (HasPair (before ++ x ∷ []) y)) rest × AreApart rest
+        → AllByRecursion (λ y. ¬ (HasPair before y)) (option_to_list o ++ rest) × AreApart (option_to_list o ++ rest)
+    both None none (new, apart) = (all_weaker _ _ (λ y none has. none (HasPair-left before (x ∷ []) y has)) rest new, apart)
+    both (Some y) keeps (new, apart) = (
+      (λ has. keeps.1.first (rw (← whole, ← place, take-append_seam before (x ∷ xs), ← keeps.0) has), all_weaker _ _ (λ z none has. none (HasPair-left before (x ∷ []) z has)) rest new),
+      (all_weaker _ _ (λ z none same. none (HasPair-last before x z (rw keeps.0 at same))) rest new, apart),
+    )
 
 pub kept_once : (g : List Reading) (l kept : List Mapped) → IsKept g l kept → AreApart kept
-kept_once g l kept = apart_from g l 0 l kept refl (zero-add (length l))
+kept_once g l kept is = (apart_from g l [] l kept 0 refl refl is).1

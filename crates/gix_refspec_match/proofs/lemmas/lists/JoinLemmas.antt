@@ -1,64 +1,59 @@
 -- Lists that are joined from lists, and lists of which nothing is made.
-use Rattle.std.proofs.Common.{◌≡◌, ℕ, suc, ◌+◌, ◌<◌, ◌≤◌, map, take, drop, get_or, take-append-drop, drop-cons, List, [], ◌∷◌, ◌++◌, Option, None, Some, option_to_list, length, refl, sym, ap, ◌∙◌, subst, append_assoc, arith}
-use Rattle.std.proofs.lemmas.List.{append-nil, map-append, length-map, length-take-le}
+use Rattle.std.proofs.Common.{◌≡◌, ℕ, suc, ◌+◌, ◌<◌, map, take, drop, get_or, take-append-drop, drop-cons, List, [], ◌∷◌, ◌++◌, Option, None, Some, option_to_list, length, refl, sym, ap, ◌∙◌, append_assoc, add-zero, arith}
+use Rattle.std.proofs.lemmas.List.{append-nil, map-append, length-map, length-take-le, map_more}
 use Rattle.gix_refspec_match.specs.Matching.Lists.{MakesOf, IsMadeFrom, IsJoinedFrom}
-use Rattle.gix_refspec_match.proofs.lemmas.lists.ListsLemmas.{made_push}
 
 pub map_long : {A B : Type 0} (f : A → B) (xs : List A) (i : ℕ) → i < length xs → length (map f (take i xs)) ≡ i
-map_long f xs i below = let fits : i ≤ length xs = omega arith in length-map (take i xs) f ∙ length-take-le i xs fits
+map_long f xs i below = length-map (take i xs) f ∙ length-take-le i xs (omega arith)
 
 -- a place cuts the elements
 pub map_split : {A B : Type 0} (f : A → B) (xs : List A) (i : ℕ) (d : A) → i < length xs → map f xs ≡ map f (take i xs) ++ (f (get_or xs i d) ∷ map f (drop (suc i) xs))
 map_split f xs i d below =
-    let split : xs ≡ take i xs ++ (get_or xs i d ∷ drop (suc i) xs) = sym (take-append-drop i xs) ∙ ap (λ y. take i xs ++ y) (drop-cons xs i d below) in
-    ap (map f) split ∙ map-append f (take i xs) (get_or xs i d ∷ drop (suc i) xs)
+    ap (map f) (sym (take-append-drop i xs)) ∙ rw (drop-cons xs i d below, map-append) refl
 
 -- one more element after the others, which makes one more, or nothing
+made_after : {X Y : Type 0} (R : ℕ → X → Y → Type 0) (k i : ℕ) (xs : List X) (x : X) (ys : List Y) (made : Option Y) → k + length xs ≡ i
+    → IsMadeFrom R k xs ys → MakesOf R i x made → IsMadeFrom R k (xs ++ x ∷ []) (ys ++ option_to_list made)
+made_after R k i [] x ys made at none makes =
+    let here : i ≡ k = omega (arith, at) in (made, [], rw here at makes, refl, rw none (sym (append-nil (option_to_list made))))
+made_after R k i (z ∷ zs) x ys made at (first, rest, here, more, same) makes =
+    (first, rest ++ option_to_list made, here, made_after R (k + 1) i zs x rest made (omega (arith, at)) more makes, rw (same, append_assoc))
+
 pub made_next : {X Y : Type 0} (R : ℕ → X → Y → Type 0) (i : ℕ) (xs : List X) (x : X) (ys : List Y) (made : Option Y) → length xs ≡ i → IsMadeFrom R 0 xs ys → MakesOf R i x made → IsMadeFrom R 0 (xs ++ x ∷ []) (ys ++ option_to_list made)
-made_next R i xs x ys made long so_far makes =
-    let at : i ≡ 0 + length xs = omega arith in
-    made_push R 0 xs ys x made so_far (subst (λ n. MakesOf R n x made) at makes)
+made_next R i xs x ys made long so_far makes = made_after R 0 i xs x ys made (omega arith) so_far makes
+
+-- so it is with one more of some elements that are mapped
+pub made_more : {A X Y : Type 0} (R : ℕ → X → Y → Type 0) (f : A → X) (xs : List A) (i : ℕ) (d : A) (ys zs : List Y)
+    (made : Option Y) → i < length xs → IsMadeFrom R 0 (map f (take i xs)) ys → MakesOf R i (f (get_or xs i d)) made
+    → zs ≡ ys ++ option_to_list made → IsMadeFrom R 0 (map f (take (i + 1) xs)) zs
+made_more R f xs i d ys zs made below so_far makes more =
+    rw (map_more f xs i d below, more) (made_next R i (map f (take i xs)) (f (get_or xs i d)) ys made (map_long f xs i below) so_far makes)
 
 -- one more element after the others, whose list is joined to theirs
-joined_after : {X Y : Type 0} (R : ℕ → X → List Y → Type 0) (k : ℕ) (xs : List X) (x : X) (ys made : List Y) → IsJoinedFrom R k xs ys → R (k + length xs) x made → IsJoinedFrom R k (xs ++ x ∷ []) (ys ++ made)
-joined_after {X} {Y} R k [] x ys made none makes =
-    let at : k + length {A = X} [] ≡ k = omega arith in
-    (made, [], subst (λ n. R n x made) at makes, refl, ap (λ l. l ++ made) none ∙ sym (append-nil made))
-joined_after {X} {Y} R k (z ∷ zs) x ys made (first, rest, here, more, same) makes =
-    let at : k + length (z ∷ zs) ≡ k + 1 + length zs = omega arith in
-    (first, rest ++ made, here, joined_after R (k + 1) zs x rest made more (subst (λ n. R n x made) at makes), ap (λ l. l ++ made) same ∙ append_assoc first rest made)
+joined_after : {X Y : Type 0} (R : ℕ → X → List Y → Type 0) (k i : ℕ) (xs : List X) (x : X) (ys made : List Y) → k + length xs ≡ i
+    → IsJoinedFrom R k xs ys → R i x made → IsJoinedFrom R k (xs ++ x ∷ []) (ys ++ made)
+joined_after R k i [] x ys made at none makes =
+    let here : i ≡ k = omega (arith, at) in (made, [], rw here at makes, refl, rw none (sym (append-nil made)))
+joined_after R k i (z ∷ zs) x ys made at (first, rest, here, more, same) makes =
+    (first, rest ++ made, here, joined_after R (k + 1) i zs x rest made (omega (arith, at)) more makes, rw (same, append_assoc))
 
 pub joined_next : {X Y : Type 0} (R : ℕ → X → List Y → Type 0) (i : ℕ) (xs : List X) (x : X) (ys made : List Y) → length xs ≡ i → IsJoinedFrom R 0 xs ys → R i x made → IsJoinedFrom R 0 (xs ++ x ∷ []) (ys ++ made)
-joined_next R i xs x ys made long so_far makes =
-    let at : i ≡ 0 + length xs = omega arith in
-    joined_after R 0 xs x ys made so_far (subst (λ n. R n x made) at makes)
+joined_next R i xs x ys made long so_far makes = joined_after R 0 i xs x ys made (omega arith) so_far makes
 
 -- where nothing was made, each element made nothing
-empty_first : {Y : Type 0} (made : Option Y) (rest : List Y) → [] ≡ option_to_list made ++ rest → (made ≡ None) × (rest ≡ [])
-empty_first None rest same = (refl, sym same)
-empty_first (Some y) rest same = absurd (cc)
-
 pub nothing_made : {X Y : Type 0} (R : ℕ → X → Y → Type 0) (k : ℕ) (before : List X) (x : X) (after : List X) (y : Y) → IsMadeFrom R k (before ++ (x ∷ after)) [] → R (k + length before) x y → ⊥
-nothing_made {X} {Y} R k [] x after y (made, rest, here, more, same) makes =
-    let at : k + length {A = X} [] ≡ k = omega arith in
-    let none = empty_first made rest same in
-    subst (λ m. MakesOf R k x m) none.0 here y (subst (λ n. R n x y) at makes)
-nothing_made {X} {Y} R k (b ∷ bs) x after y (made, rest, here, more, same) makes =
-    let at : k + length (b ∷ bs) ≡ k + 1 + length bs = omega arith in
-    let none = empty_first made rest same in
-    nothing_made R (k + 1) bs x after y (subst (λ l. IsMadeFrom R (k + 1) (bs ++ (x ∷ after)) l) none.1 more) (subst (λ n. R n x y) at makes)
-
-pub empty_both : {Y : Type 0} (made rest : List Y) → [] ≡ made ++ rest → (made ≡ []) × (rest ≡ [])
-empty_both [] rest same = (refl, sym same)
-empty_both (y ∷ ys) rest same = absurd (cc)
+nothing_made R k [] x after y (None, rest, none, more, same) makes = none y (rw add-zero at makes)
+nothing_made R k [] x after y (Some z, rest, here, more, same) makes = absurd (cc)
+nothing_made R k (b ∷ bs) x after y (None, rest, none, more, same) makes =
+    let at : k + length (b ∷ bs) ≡ k + 1 + length bs = omega arith in nothing_made R (k + 1) bs x after y (rw same more) (rw at at makes)
+nothing_made R k (b ∷ bs) x after y (Some z, rest, here, more, same) makes = absurd (cc)
 
 pub nothing_joined : {X Y : Type 0} (R : ℕ → X → List Y → Type 0) (k : ℕ) (before : List X) (x : X) (after : List X) → IsJoinedFrom R k (before ++ (x ∷ after)) [] → R (k + length before) x []
-nothing_joined {X} {Y} R k [] x after (made, rest, here, more, same) =
-    let at : k ≡ k + length {A = X} [] = omega arith in
-    subst (λ n. R n x []) at (subst (λ m. R k x m) (empty_both made rest same).0 here)
-nothing_joined {X} {Y} R k (b ∷ bs) x after (made, rest, here, more, same) =
-    let at : k + 1 + length bs ≡ k + length (b ∷ bs) = omega arith in
-    subst (λ n. R n x []) at (nothing_joined R (k + 1) bs x after (subst (λ l. IsJoinedFrom R (k + 1) (bs ++ (x ∷ after)) l) (empty_both made rest same).1 more))
+nothing_joined R k [] x after ([], rest, here, more, same) = rw add-zero here
+nothing_joined R k [] x after (y ∷ made, rest, here, more, same) = absurd (cc)
+nothing_joined R k (b ∷ bs) x after ([], rest, here, more, same) =
+    let at : k + length (b ∷ bs) ≡ k + 1 + length bs = omega arith in rw at (nothing_joined R (k + 1) bs x after (rw same more))
+nothing_joined R k (b ∷ bs) x after (y ∷ made, rest, here, more, same) = absurd (cc)
 
 -- each element makes one thing at most
 abbrev pub MakesOnce : {X Y : Type 0} → (ℕ → X → Y → Type 0) → Type 0

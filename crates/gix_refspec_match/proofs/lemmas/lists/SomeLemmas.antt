@@ -1,7 +1,8 @@
 -- That some element is as P says, in lists that are made or joined from others.
-use Rattle.std.proofs.Common.{◌⊎◌, inl, inr, ℕ, zero, suc, ◌+◌, List, [], ◌∷◌, ◌++◌, None, Some, map, refl, sym, subst, arith}
+use Rattle.std.proofs.Common.{◌⊎◌, inl, inr, ℕ, zero, suc, ◌+◌, List, [], ◌∷◌, ◌++◌, None, Some, map, refl, sym, subst, rules, arith}
 use Rattle.std.specs.List as lists
 use Rattle.std.specs.List.{AllByRecursion}
+use Rattle.std.proofs.lemmas.List.Elements.{All-from_recursion}
 use Rattle.gix_refspec_match.specs.Matching.Lists.{IsMadeFrom, IsJoinedFrom}
 
 -- some element is as P says
@@ -13,7 +14,7 @@ Any P (x ∷ xs) = P x ⊎ Any P xs
 pub some_at : {X : Type 0} (P : X → Type 0) (xs : List X) → Any P xs → lists.Any P xs
 some_at P [] any = absurd any
 some_at P (x ∷ xs) (inl here) = (0, x, omega arith, refl, here)
-some_at P (x ∷ xs) (inr later) = let at = some_at P xs later in (suc at.0, at.1, omega (arith, at.2), at.3, at.4)
+some_at P (x ∷ xs) (inr later) = let (i, y, below, at, is) = some_at P xs later in (suc i, y, omega (arith, below), at, is)
 
 pub some_of : {X : Type 0} (P : X → Type 0) (xs : List X) → lists.Any P xs → Any P xs
 some_of P [] (i, x, below, at, is) = absurd (omega (arith, below))
@@ -22,8 +23,7 @@ some_of P (y ∷ xs) (suc i, x, below, at, is) = inr (some_of P xs (i, x, omega 
 
 pub Any-left : {X : Type 0} (P : X → Type 0) (xs ys : List X) → Any P xs → Any P (xs ++ ys)
 Any-left P [] ys any = absurd any
-Any-left P (x ∷ xs) ys (inl here) = inl here
-Any-left P (x ∷ xs) ys (inr later) = inr (Any-left P xs ys later)
+Any-left P (x ∷ xs) ys any = search (rules, Any-left P xs ys)
 
 pub Any-right : {X : Type 0} (P : X → Type 0) (xs ys : List X) → Any P ys → Any P (xs ++ ys)
 Any-right P [] ys any = any
@@ -31,50 +31,36 @@ Any-right P (x ∷ xs) ys any = inr (Any-right P xs ys any)
 
 pub Any-cases : {X : Type 0} (P : X → Type 0) (xs ys : List X) → Any P (xs ++ ys) → Any P xs ⊎ Any P ys
 Any-cases P [] ys any = inr any
-Any-cases P (x ∷ xs) ys (inl here) = inl (inl here)
-Any-cases P (x ∷ xs) ys (inr later) = elim (Any-cases P xs ys later) [
-  | inl left ↦ inl (inr left)
-  | inr right ↦ inr right
-]
+Any-cases P (x ∷ xs) ys any = search (rules, Any-cases P xs ys)
 
 pub Any-from_map : {X Y : Type 0} (P : Y → Type 0) (f : X → Y) (xs : List X) → Any P (map f xs) → Any (λ x. P (f x)) xs
 Any-from_map P f [] any = any
-Any-from_map P f (x ∷ xs) (inl here) = inl here
-Any-from_map P f (x ∷ xs) (inr later) = inr (Any-from_map P f xs later)
+Any-from_map P f (x ∷ xs) any = search (rules, Any-from_map P f xs)
 
 pub Any-map : {X Y : Type 0} (P : Y → Type 0) (f : X → Y) (xs : List X) → Any (λ x. P (f x)) xs → Any P (map f xs)
 Any-map P f [] any = any
-Any-map P f (x ∷ xs) (inl here) = inl here
-Any-map P f (x ∷ xs) (inr later) = inr (Any-map P f xs later)
+Any-map P f (x ∷ xs) any = search (rules, Any-map P f xs)
 
 -- what is so of each element, and of some one, is so of that one
 pub Any-all : {X : Type 0} (P Q R : X → Type 0) → ((x : X) → P x → Q x → R x) → (xs : List X) → AllByRecursion P xs → Any Q xs → Any R xs
-Any-all P Q R both [] all any = any
-Any-all P Q R both (x ∷ xs) all (inl here) = inl (both x all.0 here)
-Any-all P Q R both (x ∷ xs) all (inr later) = inr (Any-all P Q R both xs all.1 later)
+Any-all P Q R both xs all any =
+    let (i, x, below, at, is) = some_at Q xs any in some_of R xs (i, x, below, at, both x (subst P at (All-from_recursion P xs all i x below)) is)
 
 pub Any-weaker : {X : Type 0} (P Q : X → Type 0) → ((x : X) → P x → Q x) → (xs : List X) → Any P xs → Any Q xs
-Any-weaker P Q weaker [] any = any
-Any-weaker P Q weaker (x ∷ xs) (inl here) = inl (weaker x here)
-Any-weaker P Q weaker (x ∷ xs) (inr later) = inr (Any-weaker P Q weaker xs later)
+Any-weaker P Q weaker xs any = let (i, x, below, at, is) = some_at P xs any in some_of Q xs (i, x, below, at, weaker x is)
 
 -- a fact that doesn't depend on the element
 pub Any-fact : {X : Type 0} (C : Type 0) (xs : List X) → Any (λ x. C) xs → C
-Any-fact C [] any = absurd any
-Any-fact C (x ∷ xs) (inl here) = here
-Any-fact C (x ∷ xs) (inr later) = Any-fact C xs later
+Any-fact C xs any = (some_at (λ x. C) xs any).4
 
 pub Any-both : {X : Type 0} (P : X → Type 0) (C : Type 0) (xs : List X) → Any (λ x. P x × C) xs → Any P xs × C
-Any-both P C xs any = (Any-weaker (λ x. P x × C) P (λ x both. both.0) xs any, Any-fact C xs (Any-weaker (λ x. P x × C) (λ x. C) (λ x both. both.1) xs any))
+Any-both P C xs any = (Any-weaker _ P (λ x both. both.0) xs any, (some_at _ xs any).4.1)
 
 -- what was made is made of some element
 pub made_any : {X Y : Type 0} (R : ℕ → X → Y → Type 0) (P : Y → Type 0) (k : ℕ) (xs : List X) (ys : List Y) → IsMadeFrom R k xs ys → Any P ys → Any (λ x. (j : ℕ) × (y : Y) × R j x y × P y) xs
 made_any R P k [] ys empty any = absurd (subst (Any P) empty any)
 made_any R P k (x ∷ xs) ys (None, rest, none, more, is) any = inr (made_any R P (k + 1) xs rest more (subst (Any P) is any))
-made_any R P k (x ∷ xs) ys (Some y, rest, makes, more, is) any = elim (subst (Any P) is any) [
-  | inl here ↦ inl (k, y, makes, here)
-  | inr later ↦ inr (made_any R P (k + 1) xs rest more later)
-]
+made_any R P k (x ∷ xs) ys (Some y, rest, makes, more, is) any = let some = subst (Any P) is any in search (rules, made_any R P (k + 1) xs rest more)
 
 -- an element of which something is made, and only what is as P says
 abbrev pub MakesOnly : {X Y : Type 0} → (ℕ → X → Y → Type 0) → (Y → Type 0) → X → Type 0
@@ -83,19 +69,17 @@ MakesOnly {X} {Y} R P x = (j : ℕ) → (y : Y) × R j x y × ((z : Y) → R j x
 pub any_made : {X Y : Type 0} (R : ℕ → X → Y → Type 0) (P : Y → Type 0) (k : ℕ) (xs : List X) (ys : List Y) → IsMadeFrom R k xs ys → Any (MakesOnly R P) xs → Any P ys
 any_made R P k [] ys empty any = absurd any
 any_made R P k (x ∷ xs) ys (None, rest, none, more, is) (inl here) = let made = here k in absurd (none made.0 made.1)
-any_made R P k (x ∷ xs) ys (None, rest, none, more, is) (inr later) = subst (Any P) (sym is) (any_made R P (k + 1) xs rest more later)
-any_made R P k (x ∷ xs) ys (Some y, rest, makes, more, is) (inl here) = subst (Any P) (sym is) (inl ((here k).2 y makes))
-any_made R P k (x ∷ xs) ys (Some y, rest, makes, more, is) (inr later) = subst (Any P) (sym is) (inr (any_made R P (k + 1) xs rest more later))
+any_made R P k (x ∷ xs) ys (None, rest, none, more, is) (inr later) = rw is (any_made R P (k + 1) xs rest more later)
+any_made R P k (x ∷ xs) ys (Some y, rest, makes, more, is) (inl here) = rw is (inl ((here k).2 y makes))
+any_made R P k (x ∷ xs) ys (Some y, rest, makes, more, is) (inr later) = rw is (inr (any_made R P (k + 1) xs rest more later))
 
 -- what was joined was made of some element
 pub joined_any : {X Y : Type 0} (R : ℕ → X → List Y → Type 0) (P : Y → Type 0) (k : ℕ) (xs : List X) (ys : List Y) → IsJoinedFrom R k xs ys → Any P ys → Any (λ x. (j : ℕ) × (made : List Y) × R j x made × Any P made) xs
 joined_any R P k [] ys empty any = absurd (subst (Any P) empty any)
-joined_any R P k (x ∷ xs) ys (made, rest, makes, more, is) any = elim (Any-cases P made rest (subst (Any P) is any)) [
-  | inl here ↦ inl (k, made, makes, here)
-  | inr later ↦ inr (joined_any R P (k + 1) xs rest more later)
-]
+joined_any R P k (x ∷ xs) ys (made, rest, makes, more, is) any =
+    let some = Any-cases P made rest (subst (Any P) is any) in search (rules, joined_any R P (k + 1) xs rest more)
 
 pub any_joined : {X Y : Type 0} (R : ℕ → X → List Y → Type 0) (P : Y → Type 0) (k : ℕ) (xs : List X) (ys : List Y) → IsJoinedFrom R k xs ys → Any (λ x. (j : ℕ) (made : List Y) → R j x made → Any P made) xs → Any P ys
 any_joined R P k [] ys empty any = absurd any
-any_joined R P k (x ∷ xs) ys (made, rest, makes, more, is) (inl here) = subst (Any P) (sym is) (Any-left P made rest (here k made makes))
-any_joined R P k (x ∷ xs) ys (made, rest, makes, more, is) (inr later) = subst (Any P) (sym is) (Any-right P made rest (any_joined R P (k + 1) xs rest more later))
+any_joined R P k (x ∷ xs) ys (made, rest, makes, more, is) any =
+    rw is (search (rules, Any-left P made rest, Any-right P made rest, any_joined R P (k + 1) xs rest more))

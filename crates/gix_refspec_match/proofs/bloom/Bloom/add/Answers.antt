@@ -1,16 +1,19 @@
 -- a bit of one word is set, and the others stay
-use Rattle.std.proofs.Common.{◌*◌, ◌/◌, ◌%◌, ◌^◌, ◌∙◌, length, arith}
-use Rattle.std.proofs.lemmas.List.{get_or_default}
-use Rattle.gix_refspec_match.proofs.lemmas.duplicates.BloomLemmas.{set_before, set_here, word_inside}
+use Rattle.std.proofs.Common.{◌≡◌, ◌*◌, ◌%◌, ◌^◌, ◌<◌, length, arith}
+use Rattle.std.proofs.lemmas.Grind.{common_steps}
+use Rattle.std.proofs.lemmas.Nat.{pow_below, pow_pos}
+use Rattle.std.proofs.lemmas.List.{get_or-set_same}
+use Rattle.std.proofs.lemmas.Nat.Bits.{bit_at_or, bit_at-pow_same}
 use Rattle.gix_refspec_match.proofs.bloom.Bloom.add.Goals as goal
 
 pub returns-clause-here : goal.returns-clause-here
 returns-clause-here c =
-    let b = c.args.self.now in
-    set_here b.words.items c.lower_bits.result c.index_mut.result.now c.bit-bit.result (c.args.number % 2 ^ b.bits) (c.args.number / 2 ^ b.bits % 64) (word_inside (length b.words.items) c.lower_bits.result c.args.number b.bits c.requires.all c.lower_bits.ensures) c.lower_bits.ensures c.bit-bit.ensures (omega arith)
+    let bit = c.bit-bit.result in
+    let words = c.args.self.now.words.items in
+    let inside : c.lower_bits.result < length words = omega (arith, c.requires.all, pow_pos c.args.self.now.bits) in
+    let one : 1 * 2 ^ bit % 18446744073709551616 ≡ 2 ^ bit = omega (arith, pow_below bit 64 (omega arith)) in
+    rw (← c.lower_bits.ensures, ← c.bit-bit.ensures, get_or-set_same words c.lower_bits.result _ 0 inside, one)
+    (omega (arith, bit_at_or c.index_mut.result.now (2 ^ bit) bit, bit_at-pow_same bit))
 
 pub returns-clause-others : goal.returns-clause-others
-returns-clause-others c h was =
-    let b = c.args.self.now in
-    let inside = word_inside (length b.words.items) c.lower_bits.result c.args.number b.bits c.requires.all c.lower_bits.ensures in
-    set_before b.words.items c.lower_bits.result c.index_mut.result.now (1 * 2 ^ c.bit-bit.result % 18446744073709551616) (h % 2 ^ b.bits) (h / 2 ^ b.bits % 64) inside (c.index_mut.ensures.value ∙ get_or_default b.words.items c.lower_bits.result c.index_mut.result.now 0 inside) was
+returns-clause-others c h was = grind (arith, common_steps, bit_at_or, pow_pos c.args.self.now.bits)

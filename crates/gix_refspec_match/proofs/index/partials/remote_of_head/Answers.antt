@@ -7,5 +7,6 @@ use Rattle.gix_refspec_match.proofs.index.partials.remote_of_head.Goals as goal
 
 pub returns : goal.returns
 returns c =
-    let head = c.in_ok-strip_prefix.field-0.now in
-    word_left (codes "remotes/") (codes "/HEAD") c.args.below.now head c.strip_suffix.result (strip_prefix_is Decides-eqb c.args.below.now (codes "remotes/") (Some c.in_ok-strip_prefix.field-0) c.in_ok-strip_prefix.ensures.cases) (strip_suffix_is Decides-eqb head (codes "/HEAD") c.strip_suffix.result c.strip_suffix.ensures.cases)
+    word_left (codes "remotes/") (codes "/HEAD") c.args.below.now c.in_ok-strip_prefix.field-0.now c.strip_suffix.result
+    (strip_prefix_is Decides-eqb _ (codes "remotes/") (Some c.in_ok-strip_prefix.field-0) c.in_ok-strip_prefix.ensures.cases)
+    (strip_suffix_is Decides-eqb _ (codes "/HEAD") _ c.strip_suffix.ensures.cases)

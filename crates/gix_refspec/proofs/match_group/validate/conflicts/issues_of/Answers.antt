@@ -8,7 +8,6 @@ use Rattle.gix_refspec_match.specs.Views.Mapping.{mapped_of}
 use Rattle.gix_refspec.specs.Matching.Validation.{AreConflicts, Conflict}
 use Rattle.gix_refspec.specs.Views.Issue.{conflict_of}
 use Rattle.gix_refspec.specs.Private.Updates.{AreUpdates, AreFirstUpdates}
-use Rattle.gix_refspec_match.proofs.lemmas.keep.RepeatLemmas.{repeats_from_duplicates}
 use Rattle.gix_refspec.proofs.lemmas.validate.ConflictLemmas.{firsts_from_updates, free_empty, no_conflicts}
 use Rattle.gix_refspec.proofs.match_group.validate.conflicts.issues_of.Goals as goal
 
@@ -27,5 +26,5 @@ issues_among-requires-clause-firsts c =
     let ms = c.args.mappings.now in
     let flags = c.in_ok-repeats.repeats.items in
     subst (λ (cs : List Update). AreFirstUpdates (map mapped_of ms) cs) (sym c.as_slice-2.ensures.value)
-    (firsts_from_updates ms flags c.in_ok-firsts.firsts.items (repeats_from_duplicates ms flags c.in_ok-repeats.ensures.ok)
+    (firsts_from_updates ms flags c.in_ok-firsts.firsts.items c.in_ok-repeats.ensures.ok
     (subst (λ (fs : List Bool). AreUpdates (map mapped_of ms) fs c.in_ok-firsts.firsts.items) c.as_slice.ensures.value c.in_ok-firsts.ensures))

@@ -3,8 +3,7 @@ use Rattle.std.proofs.Common.{◌≡◌, ℕ, [], get_or, length, take, drop, ap
 use Rattle.std.proofs.lemmas.List.{get_or_default}
 use Rattle.gix_refspec.specs.declared.match_group.validate.conflicts.Update.{Update}
 use Rattle.gix_refspec.specs.Private.Updates.{IsRun}
-use Rattle.gix_refspec_match.proofs.lemmas.keep.RepeatLemmas.{all_more}
-use Rattle.gix_refspec.proofs.lemmas.validate.UpdateLemmas.{split_at, differ_from_test, same_from_test}
+use Rattle.gix_refspec.proofs.lemmas.validate.UpdateLemmas.{all_more, split_at, differ_from_test, same_from_test}
 use Rattle.gix_refspec.proofs.match_group.validate.conflicts.len_of_run.Goals as goal
 
 -- the value of a read past the end
