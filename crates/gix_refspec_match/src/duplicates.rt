@@ -228,7 +228,7 @@ pub(crate) fn drop_flagged<'a, 'b>(flags: &[bool], mappings: &mut Vec<Mapping<'a
     mappings.truncate(kept);
 }
 
-/// Whether a place is flagged. No flags at all flag no place.
+/// Whether an index is flagged. No flags at all flag no index.
 pub fn is_flagged(flags: &[bool], place: usize) -> bool
     ensures { IsTrue result ↔ IsFlagged flags.now place }
 {

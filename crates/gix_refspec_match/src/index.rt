@@ -162,7 +162,7 @@ impl<'n> Index<'n> {
     }
 }
 
-// The places that are listed for a name.
+// The indexes that are listed for a name.
 fn listed<'p>(places: &'p HashMap<Key<'_>, Vec<usize>>, name: &'p [u8]) -> Option<&'p [usize]>
     ensures { option_map (λ l. l.now) result ≡ option_map (λ l. l.items) (list_of places.now name.now) }
 {

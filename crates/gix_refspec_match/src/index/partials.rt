@@ -1,4 +1,4 @@
-//! The places of the items that partial names take. The partial names are the only keys: an item's name is
+//! The indexes of the items that partial names take. The partial names are the only keys: an item's name is
 //! looked up without each of the folders that are tried before a partial name.
 
 ghost use Rattle.std.specs.Prelude.{◌≡◌, codes, ℕ, List, length, map, MatchOption, IfOk, OnOk};
@@ -15,7 +15,7 @@ use gix_refspec_text::side::strip_refs;
 use std::alloc::{AllocError, Global};
 use std::collections::HashMap;
 
-// For each of some partial names the places of all items that it takes, strictly increasing.
+// For each of some partial names the indexes of all items that it takes, strictly increasing.
 pub(super) fn places_of_partials<'n>(
     alloc: Global,
     candidates: Candidates,
@@ -43,7 +43,7 @@ pub(super) fn places_of_partials<'n>(
     Ok(places)
 }
 
-// How the places of partial names are found: in a candidates, of these items, and for the names that pass.
+// How the items of partial names are found: by which candidates, among these items, and for the names that pass.
 #[derive(Drop)]
 struct Lookup<'l, 'item> {
     candidates: Candidates,
@@ -52,8 +52,8 @@ struct Lookup<'l, 'item> {
 }
 
 impl<'l, 'item> Lookup<'l, 'item> {
-    // Adds the place of an item to those of each partial name that may stand for its name. That is the name
-    // itself, or what is left of it with a place taken off.
+    // Adds the index of an item to those of each partial name that may stand for its name. That is the name
+    // itself, or what is left of it without `refs/`, or without a folder below that.
     fn add_item<'n>(
         &self,
         name: &'n [u8],
@@ -80,7 +80,7 @@ impl<'l, 'item> Lookup<'l, 'item> {
         self.add(remote, place, places)
     }
 
-    // Adds a place to those of a partial name, if that is asked for.
+    // Adds an index to those of a partial name, if that is asked for.
     #[inline(always)]
     fn add<'n>(
         &self,
@@ -103,7 +103,7 @@ impl<'l, 'item> Lookup<'l, 'item> {
     }
 }
 
-// What follows the place in a name below `refs/`.
+// What follows `tags/`, `heads/` or `remotes/` in a name below `refs/`.
 #[inline(always)]
 fn below_place(below: &[u8]) -> Option<&[u8]>
     ensures { MatchOption result
@@ -128,7 +128,7 @@ fn remote_of_head(below: &[u8]) -> Option<&[u8]>
     below.strip_prefix(b"remotes/")?.strip_suffix(b"/HEAD")
 }
 
-// Adds a place to those that a partial name takes.
+// Adds an index to those that a partial name takes.
 fn join(
     candidates: Candidates,
     place: usize,
@@ -144,7 +144,7 @@ fn join(
     }
 }
 
-// Adds a place to those of the first candidate that is there. The earlier of two is the shorter one.
+// Adds an index to those of the first candidate that is there. The earlier of two is the shorter one.
 fn join_first(place: usize, items: &[Item<'_>], places: &mut Vec<usize>) -> Result<(), AllocError>
     ensures { OnOk result (JoinsFirst (map ref_of items.now) place places.old.items places.new.items) }
 {
@@ -161,7 +161,7 @@ fn join_first(place: usize, items: &[Item<'_>], places: &mut Vec<usize>) -> Resu
     Ok(places.push(place)?)
 }
 
-// How long the name of the item at a place is.
+// How long the name of the item at an index is.
 fn size_at(items: &[Item<'_>], place: usize) -> usize
     ensures { result ≡ length (name_at (map ref_of items.now) place) }
 {

@@ -1,4 +1,4 @@
-//! The places of the items whose names begin as patterns do. The text before the star of a pattern
+//! The indexes of the items whose names begin as patterns do. The text before the star of a pattern
 //! is its prefix. Prefixes are the only keys, and no name is looked at past the longest of them.
 
 ghost use Rattle.std.specs.Prelude.{ℕ, length, map, IfOk, OnOk};
@@ -12,12 +12,12 @@ use crate::types::{Item, NameRef};
 use std::alloc::{AllocError, Global};
 use std::collections::HashMap;
 
-// How many places are listed for each item at most, on average. Where prefixes begin with one another, a server can list
+// How many prefixes list an item at most, on average. Where prefixes begin with one another, a server can list
 // names that begin with all of them, and then the index would take memory for each.
 const MOST: usize = 2;
 
-// For each of some prefixes the places of all items whose names begin with it, rising. For none where that
-// would list too much.
+// For each of some prefixes the indexes of all items whose names begin with it, strictly increasing. For none
+// where that would list too much.
 pub(super) fn places_of_prefixes<'n>(
     alloc: Global,
     prefixes: &'n [NameRef<'_>],
@@ -63,7 +63,7 @@ fn flag_length(text: &[u8], flags: &mut Vec<bool>) -> Result<(), AllocError>
     Ok(())
 }
 
-// Adds the place of an item to those of each prefix that its name begins with, and says to how many. The
+// Adds the index of an item to those of each prefix that its name begins with, and says to how many. The
 // lengths of the prefixes are flagged.
 fn add_place<'n>(
     name: &'n [u8],

@@ -42,7 +42,7 @@ fn group_of(alloc: Global, specs: &[String]) -> Result<MatchGroup<'_>, Fail> {
     Ok(group)
 }
 
-// Looks whether the mappings are those of all items in order, each by the spec at the place of its item.
+// Looks whether the mappings are those of all items in order, each by the spec at the index of its item.
 fn check_names(rt: &impl Abort, mappings: &[Mapping<'_, '_>], count: usize) {
     assert_eq!(rt; mappings.len(), count);
     for (place, mapping) in mappings.iter().enumerate() {

@@ -58,7 +58,7 @@ pub(super) fn items_of<'a>(
     Ok(items)
 }
 
-// A mapping as rows write it: the places of item and spec, source and destination, with `-` for
+// A mapping as rows write it: the indexes of item and spec, source and destination, with `-` for
 // what is missing and a `=` before a name that is owned.
 fn line(alloc: Global, mapping: &Mapping<'_, '_>) -> Result<String, AllocError> {
     let source = match &mapping.lhs {
@@ -232,7 +232,7 @@ fn keeps_each_pair_once(rt: HostRuntime) -> Result<(), Fail> {
 
 // Specs, names of which some repeat, and what is mapped from left to right.
 const REPEATED: [(&str, &str, &str); 5] = [
-    // Each spec takes the first item of a name, and places are those among all items.
+    // Each spec takes the first item of a name, and indexes are those among all items.
     (
         "refs/heads/*:refs/x/* refs/heads/a:refs/y b:refs/z",
         "refs/tags/b refs/heads/b refs/tags/b refs/heads/a refs/heads/b refs/heads/a refs/heads/c",
@@ -366,7 +366,7 @@ fn looks_full_and_partial_names_up(rt: HostRuntime) -> Result<(), Fail> {
             "2 0 refs/q refs/remotes/main/HEAD\n3 0 refs/q refs/remotes/main\n4 0 refs/q refs/heads/main\n\
              5 0 refs/q refs/tags/main\n6 0 refs/q refs/main\n7 0 refs/q main\n",
         ),
-        // One partial name is another with a place before it, and each name is taken by both or by one.
+        // One partial name is another with a folder before it, and each name is taken by both or by one.
         (
             "refs/a:heads/x refs/b:x",
             "refs/refs/heads/x refs/heads/x refs/remotes/x/HEAD refs/heads/heads/x heads/x",
@@ -440,7 +440,7 @@ const FIRST: [(&str, &str, &str); 15] = [
         "refs/tags/main refs/heads/main",
         "",
     ),
-    // One partial name is another with a place before it.
+    // One partial name is another with a folder before it.
     (
         "heads/x:refs/y/a x:refs/y/b",
         "refs/refs/heads/x refs/remotes/x/HEAD refs/heads/heads/x refs/heads/x",
@@ -454,7 +454,7 @@ const FIRST: [(&str, &str, &str); 15] = [
     ),
 ];
 
-// So many patterns that they are looked up by what is before their stars. The places of items and
+// So many patterns that they are looked up by what is before their stars. The indexes of items and
 // specs follow from the names, by hand.
 #[test]
 fn looks_patterns_up(rt: HostRuntime) -> Result<(), Fail> {

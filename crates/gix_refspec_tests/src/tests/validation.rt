@@ -176,7 +176,7 @@ fn source_of<'a>(alloc: Global, text: &'a str) -> Result<SourceRef<'a>, Fail> {
 #[test]
 fn validates_outcomes_made_by_hand(rt: HostRuntime) -> Result<(), Fail> {
     let alloc = rt.alloc();
-    // Sources that are mapped to `refs/x`, or with a `-` to nothing, and the places of their specs,
+    // Sources that are mapped to `refs/x`, or with a `-` to nothing, and the indexes of their specs,
     // of which there are two.
     let rows = [
         ("", "", ""),
