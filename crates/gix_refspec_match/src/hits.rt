@@ -7,7 +7,7 @@ ghost use Rattle.gix_refspec_match.specs.Private.Hits.{AddsFound, AreHitsOf, Are
 ghost use Rattle.gix_refspec_match.specs.Private.Index.{IsIndexFor};
 ghost use Rattle.gix_refspec_match.specs.Private.Matchers.{HasNoIdNeedle};
 
-use crate::duplicates::duplicates;
+use crate::hashes::hash_of_name;
 use crate::index::{Index, Names};
 use crate::matcher::{Candidates, Matchers};
 use crate::needle::matches;
@@ -16,7 +16,7 @@ use crate::unique::Unique;
 use gix_refspec_text::side::SideKind;
 use std::alloc::{AllocError, Global};
 
-// Of how many items the names are compared to guess whether more repeat.
+// Of how many items the names are hashed to guess whether more repeat.
 const SAMPLE: usize = 256;
 
 // A matcher's hit on an item, by the indexes of both.
@@ -39,13 +39,23 @@ pub(crate) fn hits_among(
     if matchers.has_ids() {
         return all_hits(alloc, matchers, items);
     }
-    let sample = &items[..items.len().min(SAMPLE)];
-    if duplicates(alloc, sample)?.is_empty() {
+    if items.len() < 2 || !seem_to_repeat(items) {
         if let Some(hits) = hits_within(alloc, matchers, items, Some(items.len()))? {
             return Ok(hits);
         }
     }
     unique_hits(alloc, matchers, items)
+}
+
+// Whether names seem to repeat, as two of the first ones have the same hash. It is a guess: the hits serve either way.
+fn seem_to_repeat(items: &[Item<'_>]) -> bool {
+    let mut hashes = [0; SAMPLE];
+    for (hash, item) in hashes.iter_mut().zip(items) {
+        *hash = hash_of_name(item.full_ref_name.as_bytes());
+    }
+    let sample = &mut hashes[..items.len().min(SAMPLE)];
+    sample.sort_unstable();
+    sample.windows(2).any(|pair| pair[0] == pair[1])
 }
 
 // The hits on the first item of each name.

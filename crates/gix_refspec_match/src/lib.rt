@@ -45,10 +45,12 @@ pub fn match_forward<'spec, 'item>(
 {
     let exclusions = Exclusions::of(alloc, specs)?;
     let (matchers, objects) = Matchers::forward(alloc, specs)?;
-    let hits = hits_among(alloc, &matchers, items)?;
+    let mut hits = hits_among(alloc, &matchers, items)?;
     let room = objects.len().saturating_add(hits.len());
+    let later = hits.split_off(hits.len() / 2)?;
     let mut mappings = Vec::with_capacity(alloc, room)?;
     map_objects(alloc, objects.as_slice(), &mut mappings)?;
+    // Half of the hits are dropped before the names of the others are filled.
     let list = matchers.list.as_slice();
     map_forward(
         alloc,
@@ -59,6 +61,15 @@ pub fn match_forward<'spec, 'item>(
         &mut mappings,
     )?;
     drop(hits);
+    map_forward(
+        alloc,
+        list,
+        items,
+        &exclusions,
+        later.as_slice(),
+        &mut mappings,
+    )?;
+    drop(later);
     without_duplicates(alloc, mappings)
 }
 
@@ -74,8 +85,11 @@ pub fn match_backward<'spec, 'item>(
 {
     let exclusions = Exclusions::of(alloc, specs)?;
     let matchers = Matchers::backward(alloc, specs)?;
-    let hits = hits_among(alloc, &matchers, items)?;
-    let mut mappings = Vec::with_capacity(alloc, hits.len())?;
+    let mut hits = hits_among(alloc, &matchers, items)?;
+    let room = hits.len();
+    let later = hits.split_off(room / 2)?;
+    let mut mappings = Vec::with_capacity(alloc, room)?;
+    // Half of the hits are dropped before the names of the others are filled.
     let list = matchers.list.as_slice();
     map_backward(
         alloc,
@@ -86,6 +100,15 @@ pub fn match_backward<'spec, 'item>(
         &mut mappings,
     )?;
     drop(hits);
+    map_backward(
+        alloc,
+        list,
+        items,
+        &exclusions,
+        later.as_slice(),
+        &mut mappings,
+    )?;
+    drop(later);
     without_duplicates(alloc, mappings)
 }
 

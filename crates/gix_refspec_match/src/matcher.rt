@@ -93,6 +93,7 @@ impl<'spec> Matchers<'spec> {
                 }
             }
         }
+        list.shrink_to_fit();
         let candidates = Candidates::First;
         Ok((Matchers { candidates, list }, objects))
     }
@@ -121,6 +122,7 @@ impl<'spec> Matchers<'spec> {
                 })?;
             }
         }
+        list.shrink_to_fit();
         let candidates = Candidates::All;
         Ok(Matchers { candidates, list })
     }

@@ -1,5 +1,5 @@
 -- The mappings that hits become, hit by hit.
-use Rattle.std.proofs.Common.{◌≡◌, ℕ, ◌+◌, ◌<◌, List, [], ◌∷◌, ◌++◌, Option, None, Some, length, map, take, get_or, option_to_list, sym, ap, ◌∙◌, subst, append_assoc, arith}
+use Rattle.std.proofs.Common.{◌≡◌, ℕ, ◌+◌, ◌<◌, List, [], ◌∷◌, ◌++◌, Option, None, Some, length, map, take, drop, take-append-drop, refl, get_or, option_to_list, sym, ap, ◌∙◌, subst, append_assoc, arith}
 use Rattle.std.proofs.lemmas.List.{append-nil, get_or-map, length-map, length-take-le, map-append, take_more}
 use Rattle.std.proofs.lemmas.List.Elements.{All-from_recursion}
 use Rattle.std.proofs.lemmas.Option.{get_or_from_slice_get, slice_get_within}
@@ -9,13 +9,15 @@ use Rattle.gix_refspec_match.specs.declared.matcher.Candidates.{Candidates}
 use Rattle.gix_refspec_match.specs.declared.matcher.Matcher.{Matcher}
 use Rattle.gix_refspec_match.specs.declared.types.Item.{Item}
 use Rattle.gix_refspec_match.specs.declared.types.Mapping.{Mapping}
-use Rattle.gix_refspec_match.specs.Matching.Lists.{MakesOf}
+use Rattle.gix_refspec_match.specs.Matching.Lists.{MakesOf, IsMadeFrom}
 use Rattle.gix_refspec_match.specs.Matching.Mappings.{Mapped}
 use Rattle.gix_refspec_match.specs.Matching.Hits.{Hit}
 use Rattle.gix_refspec_match.specs.Views.Mapping.{mapped_of, ref_of}
+use Rattle.gix_refspec_text.specs.Matching.Match.{Ref}
 use Rattle.gix_refspec_match.specs.Private.Fills.{AddsMapped, IsMappedHit, hit_by, hit_of, hit_of_both, mapping_of}
 use Rattle.gix_refspec_match.specs.Private.Hits.{AreSound, IsSound}
 use Rattle.gix_refspec_match.specs.Private.Kept.{ExcludeStart}
+use Rattle.gix_refspec_text.proofs.lemmas.lists.AllLemmas.{all_left, all_right}
 use Rattle.gix_refspec_match.proofs.lemmas.lists.JoinLemmas.{made_next}
 
 -- a sound hit is that of its matcher on its item
@@ -61,3 +63,28 @@ module _ (which : Candidates) (es : Exclusions) (ms : List Matcher) (xs : List I
       → ¬ (ExcludeStart es (mapped_of m).source) → AddsMapped which es ms (map ref_of xs) (take (i + 1) hits) old (map mapped_of new)
   included_next new m more is free =
       mapped_next (map mapped_of new) (Some (mapped_of m)) (is, free) (ap (map mapped_of) more ∙ map-append mapped_of mid (m ∷ []))
+
+-- what is made of the elements of a list and then of those of another, whatever their indexes
+made_both : {X Y : Type 0} (P : X → Y → Type 0) (j k : ℕ) (xs zs : List X) (ys ws : List Y) → IsMadeFrom (λ n x y. P x y) j xs ys
+    → IsMadeFrom (λ n x y. P x y) k zs ws → IsMadeFrom (λ n x y. P x y) j (xs ++ zs) (ys ++ ws)
+made_both P j k [] [] ys ws none end = rw (none, end) refl
+made_both P j k [] (z ∷ zs) ys ws none (made, rest, of, more, is) =
+    (made, rest, of, made_both P (j + 1) (k + 1) [] zs [] rest refl more, rw (none, is) refl)
+made_both P j k (x ∷ xs) zs ys ws (made, rest, of, more, is) behind =
+    (made, rest ++ ws, of, made_both P (j + 1) k xs zs rest ws more behind, rw (is, append_assoc) refl)
+
+-- the mappings of hits that were cut in two
+module _ (which : Candidates) (es : Exclusions) (ms : List Matcher) (items : List Ref) (hits : List DeclaredHit) (k : ℕ) where
+  pub adds_both : (old mid new : List Mapped) → AddsMapped which es ms items (take k hits) old mid → AddsMapped which es ms items (drop k hits) mid new
+      → AddsMapped which es ms items hits old new
+  adds_both old mid new first later = record {
+    made = first.made ++ later.made;
+    are = rw take-append-drop at (made_both (IsMappedHit which es ms items 0) 0 0 (take k hits) (drop k hits) first.made later.made first.are later.are);
+    all = rw (later.all, first.all, append_assoc) refl;
+  }
+
+pub both_sound : (ms : List Matcher) (items : List Ref) (hits first later : List DeclaredHit) (k : ℕ) → first ≡ take k hits → later ≡ drop k hits
+    → AreSound ms items hits → AreSound ms items first × AreSound ms items later
+both_sound ms items hits first later k is_first is_later sound =
+    let both : AreSound ms items (take k hits ++ drop k hits) = rw take-append-drop sound in
+    (rw is_first (all_left _ (take k hits) (drop k hits) both), rw is_later (all_right _ (take k hits) (drop k hits) both))

@@ -21,5 +21,5 @@ loop-spec_index-preserved c =
 
 pub returns : goal.returns
 returns c =
-    let made = rw (take_all c.loop-spec_index.spec_index c.args.specs.now (omega arith)) at c.loop-spec_index.invariant in
+    let made = rw (take_all c.loop-spec_index.spec_index c.args.specs.now (omega arith), ← c.shrink_to_fit.ensures.items) at c.loop-spec_index.invariant in
     search (rules, equal_from_duplicates, c.in_ok-equal.ensures.ok)

@@ -25,5 +25,5 @@ loop-spec_index-preserved c = elim c.match-sides.branch [
 
 pub returns-clause-matchers : goal.returns-clause-matchers
 returns-clause-matchers c =
-    let made = rw (take_all c.loop-spec_index.spec_index c.args.specs.now (omega arith)) at c.loop-spec_index.invariant.0 in
+    let made = rw (take_all c.loop-spec_index.spec_index c.args.specs.now (omega arith), ← c.shrink_to_fit.ensures.items) at c.loop-spec_index.invariant.0 in
     search (rules, equal_from_duplicates, c.in_ok-equal.ensures.ok)
